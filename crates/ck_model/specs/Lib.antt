@@ -1,0 +1,10 @@
+pub mod Arithmetic
+pub mod Numbered
+pub mod Map
+pub mod History
+pub mod Slots
+pub mod Contents
+pub mod Sections
+pub mod Sketches
+pub mod Paths
+pub mod Ranges

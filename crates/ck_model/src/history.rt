@@ -1,0 +1,60 @@
+//! What stands in a history. No value of these types is made.
+use std::collections::LinkedList;
+
+/// What a key is to every definition: a number key's own number, or a text key's bytes.
+pub type Name = LinkedList<u64>;
+
+/// What a call asks for on one name.
+pub enum Act<V> {
+    Find,
+    Insert(V),
+    Assign(V),
+    Update(V),
+    Change,
+    Upsert(V),
+    Erase,
+}
+
+/// A call of the plain map.
+pub enum Call<V> {
+    On(Name, Act<V>),
+    /// A change of the values of two different names at once.
+    ChangeTwo(Name, Name),
+    Len,
+    /// From these pairs, in rising order of their names, to those.
+    Session(LinkedList<(Name, V)>, LinkedList<(Name, V)>),
+}
+
+/// What the plain map replies.
+pub enum Reply<V> {
+    /// The value that was bound.
+    Was(Option<V>),
+    New,
+    Old,
+    /// The value that was bound, and the one that is.
+    Done(V, V),
+    /// The two values that were bound, and the two that are.
+    DoneTwo(V, V, V, V),
+    Absent,
+    Count(u64),
+    Closed,
+}
+
+/// One answered call: the number of its caller, the call and the reply.
+pub struct Entry<V> {
+    pub by: u64,
+    pub call: Call<V>,
+    pub reply: Reply<V>,
+}
+
+/// Why no room was found for a name.
+pub enum Why {
+    /// It is unbound and its buckets are full.
+    NoRoom,
+    /// No room can be made, and the table may not grow.
+    Full,
+    /// No room can be made, and the load is too low for the table to grow.
+    LoadTooLow,
+    /// No room can be made but by growing.
+    Memory,
+}

@@ -1,0 +1,9 @@
+//! One move of a displacement path.
+
+/// The entry of this partial in this slot of this bucket goes to its other bucket.
+#[derive(Clone, Copy, Debug, PartialEq, Eq)]
+pub struct Hop {
+    pub bucket: u64,
+    pub slot: usize,
+    pub partial: u8,
+}
