@@ -8,3 +8,4 @@ pub mod Sections
 pub mod Sketches
 pub mod Paths
 pub mod Ranges
+pub mod Laws

@@ -1,9 +1,11 @@
 -- The plain map, and what each call answers and leaves.
-use Rattle.std.specs.Prelude.{◌≡◌, ◌≢◌, ℕ, List, Option, Some, None}
+use Rattle.std.specs.Prelude.{◌≡◌, ◌≢◌, ℕ, List, Option, Some, None, length, map}
+use Rattle.std.specs.List.{AllAdjacentBelow}
 use Rattle.std.specs.declared.cmp.Ordering.{Ordering}
+use Rattle.std.specs.declared.cmp.Ordering.TheVariants.{Less}
 use Rattle.std.specs.Ordering.{nat_cmp}
 use Rattle.std.specs.Cmp.Lexicographic.{slice_cmp}
-use Rattle.std.specs.FinMap.{FinMap, get, len, entries}
+use Rattle.std.specs.FinMap.{FinMap, get, len, entries, from_entries}
 use Rattle.ck_model.specs.declared.history.Act.{Act}
 use Rattle.ck_model.specs.declared.history.Act.TheVariants.{Find, Insert, Assign, Update, Change, Upsert, Erase}
 use Rattle.ck_model.specs.declared.history.Call.{Call}
@@ -53,3 +55,12 @@ module _ {V : Type 0} where
   Step m (ChangeTwo j k) r m2 = (j ≢ k) × AnswersTwo (get m j) (get m k) r (get m2 j) (get m2 k) × ((q : Name) → q ≢ j → q ≢ k → get m2 q ≡ get m q)
   Step m Len r m2 = (r ≡ Count (len m)) × (m2 ≡ m)
   Step m (Session a b) r m2 = (r ≡ Closed) × (entries m ≡ a) × (entries m2 ≡ b)
+
+-- an entry by its name
+abbrev pub named : {K V : Type 0} → (K → Name) → K × V → Name × V
+named name e = (name e.0, e.1)
+
+-- the pairs of the map, in strictly rising order of their keys
+pub record ListsInOrder {K V : Type 0} (name : K → Name) (cmp : K → K → Ordering) (pairs : List (K × V)) (m : Map V) : Type 0 where
+  pub rising : AllAdjacentBelow (λ (a b : K × V). cmp a.0 b.0 ≡ Less) pairs (length pairs)
+  pub same : from_entries (map (named name) pairs) ≡ m

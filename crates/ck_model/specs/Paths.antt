@@ -10,6 +10,11 @@ use Rattle.ck_model.specs.Contents.{Layout, Stripes, IsBucketOf, Lawful, binding
 use Rattle.ck_model.specs.Sections.{HasAll}
 
 module _ {V : Type 0} where
+  -- the name is unbound and its buckets are full
+  pub record HasNoRoom (k : Layout) (hs : Stripes V) (q : Name) : Type 0 where
+    pub unbound : get (bindings hs) q ≡ None
+    pub full : (b : ℕ) → IsBucketOf k.hash (power_of hs) q b → IsFull (bucket_in k hs b)
+
   -- bucket b has an entry whose other bucket is c
   abbrev pub LeadsTo : Layout → Stripes V → ℕ → ℕ → Type 0
   LeadsTo k hs b c = (i : ℕ) × (q : Name) × (v : V) × (slot_at (bucket_in k hs b) i ≡ Some (q, v)) × (c ≡ alternate_of (power_of hs) (partial_of (k.hash q)) b)

@@ -1,10 +1,11 @@
-//! What stands in a history. No value of these types is made.
+//! What stands in a history. The table makes no value of these types: contracts speak of them, and tests make some.
 use std::collections::LinkedList;
 
 /// What a key is to every definition: a number key's own number, or a text key's bytes.
 pub type Name = LinkedList<u64>;
 
 /// What a call asks for on one name.
+#[derive(Drop)]
 pub enum Act<V> {
     Find,
     Insert(V),
@@ -16,6 +17,7 @@ pub enum Act<V> {
 }
 
 /// A call of the plain map.
+#[derive(Drop)]
 pub enum Call<V> {
     On(Name, Act<V>),
     /// A change of the values of two different names at once.
@@ -26,6 +28,7 @@ pub enum Call<V> {
 }
 
 /// What the plain map replies.
+#[derive(Drop)]
 pub enum Reply<V> {
     /// The value that was bound.
     Was(Option<V>),
@@ -41,6 +44,7 @@ pub enum Reply<V> {
 }
 
 /// One answered call: the number of its caller, the call and the reply.
+#[derive(Drop)]
 pub struct Entry<V> {
     pub by: u64,
     pub call: Call<V>,
@@ -48,6 +52,7 @@ pub struct Entry<V> {
 }
 
 /// Why no room was found for a name.
+#[derive(Drop)]
 pub enum Why {
     /// It is unbound and its buckets are full.
     NoRoom,
