@@ -1,0 +1,3 @@
+pub mod Text
+pub mod Output
+pub mod Answered
