@@ -58,6 +58,10 @@ module _ {A : Type 0} where
   pub listed_as : (n : ℕ) (w : ℕ → A) (t : ℕ) (c : A) → t < n → w t ≡ c → Holds (listed n w) t c
   listed_as n w t c l e = subst (λ (x : A). Holds (listed n w) t x) e (listed_at n w t l)
 
+  pub distinct_listed : (n : ℕ) (w : ℕ → A) → AreDistinct (numbers (listed n w))
+  distinct_listed zero w = tt
+  distinct_listed (suc n) w = ((λ i. let z = held_of_in (listed n w) n i in let l = (in_listed n w n z.0 z.1).0 in omega arith), distinct_listed n w)
+
   pub in_without : (t : ℕ) (hs : List (ℕ × A)) (q : ℕ) (c : A) → Holds (without t hs) q c → (q ≢ t) × Holds hs q c
   in_without t [] q c h = absurd h
   in_without t (x ∷ xs) q c h = dite (ℕ_discrete x.0 t)
