@@ -1,5 +1,5 @@
 -- The plain map: call and reply determine what a step leaves.
-use Rattle.std.proofs.Common.{◌≡◌, List, [], ◌∷◌, sym, ◌∙◌, subst, Option, Some, None}
+use Rattle.std.proofs.Common.{◌≡◌, inl, inr, List, [], ◌∷◌, sym, ap, ◌∙◌, subst, Option, Some, None}
 use mathlib.Core.Logic.{dite}
 use Rattle.std.specs.FinMap.{get, same_entries_map}
 use Rattle.ck_model.specs.declared.history.Act.{Act}
@@ -11,6 +11,7 @@ use Rattle.ck_model.specs.declared.history.Reply.TheVariants.{Done, DoneTwo}
 use Rattle.ck_model.specs.declared.history.Entry.{Entry}
 use Rattle.ck_model.specs.Map.{Name, Map, Answers, AnswersTwo, Step}
 use Rattle.ck_model.specs.History.{Leads}
+use Rattle.ck_model.specs.Laws.{SpeaksOf}
 use Rattle.ck_model.proofs.Names.{dec_name, maps_alike}
 
 module _ {V : Type 0} where
@@ -52,6 +53,13 @@ module _ {V : Type 0} where
       (λ ne. dite (dec_name q k) (λ e. subst (λ (z : Name). get a z ≡ get b z) (sym e) t.1) (λ ne2. x.2 q ne ne2 ∙ sym (y.2 q ne ne2))))
   step_one m Len r a b x y = x.1 ∙ sym y.1
   step_one m (Session s t) r a b x y = same_entries_map a b (x.2 ∙ sym y.2)
+
+  -- a step leaves the names of which the call doesn't speak
+  pub step_others : (m m2 : Map V) (c : Call V) (r : Reply V) → Step m c r m2 → (q : Name) → ¬ (SpeaksOf c q) → get m2 q ≡ get m q
+  step_others m m2 (On k a) r st q h = st.1 q h
+  step_others m m2 (ChangeTwo j k) r st q h = st.2 q (λ e. h (inl e)) (λ e. h (inr e))
+  step_others m m2 Len r st q h = ap (λ (x : Map V). get x q) st.1
+  step_others m m2 (Session a b) r st q h = absurd (h tt)
 
   -- a list of entries leads to one map
   pub leads_one : (m : Map V) (log : List (Entry V)) (a b : Map V) → Leads m log a → Leads m log b → a ≡ b
