@@ -1,0 +1,5 @@
+pub mod Numbers
+pub mod Cuts
+pub mod AnswerFrom
+pub mod Spelling
+pub mod Faults

@@ -1,0 +1,14 @@
+//! Scripts: their grammar, the devices that give and take their bytes, and the reader.
+#![tactic(auto)]
+
+mod line;
+mod reader;
+mod script;
+mod source;
+#[cfg(test)]
+mod tests;
+mod words;
+
+pub use reader::read_script;
+pub use script::{Command, Script, ScriptFault, What};
+pub use source::{Failed, FromRead, Source};
