@@ -1,6 +1,7 @@
 //! What the program is asked to do.
 use crate::failure::Failure;
-use clap::{Arg, Command, Error, ErrorKind};
+use clap::error::ErrorKind;
+use clap::{Arg, Command, Error};
 use std::alloc::Global;
 
 /// What the program is asked to do.

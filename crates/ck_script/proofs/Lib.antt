@@ -1,1 +1,6 @@
+pub mod Numbers
+pub mod Cuts
+pub mod AnswerFrom
+pub mod Spelling
+pub mod Faults
 pub mod Answered

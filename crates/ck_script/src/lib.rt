@@ -1,10 +1,18 @@
-//! Scripts of calls: their text, and running them.
+//! Scripts: their grammar, the devices that give and take their bytes, the reader, and running them.
 #![tactic(auto)]
 
 mod answer;
+mod line;
+mod reader;
 mod script;
+mod source;
+#[cfg(test)]
+mod tests;
 mod text;
+mod words;
 
 pub use answer::Answer;
-pub use script::{Command, Script};
+pub use reader::read_script;
+pub use script::{Command, Script, ScriptFault, What};
+pub use source::{Failed, FromRead, Source};
 pub use text::text_of;

@@ -1,0 +1,228 @@
+//! Reading a script, block by block.
+ghost use Rattle.std.specs.Prelude.{◌≡◌, ◌≤◌, ◌+◌, ◌++◌, ◌∷◌, [], List, ℕ, length, true, false, Ok, Err, Some, OnOk, IfOk, IfErr, IfSome, IfNone, All};
+ghost use Rattle.ck_script.specs.declared.line.Place.{Place};
+ghost use Rattle.ck_script.specs.Spells.{Spells};
+ghost use Rattle.ck_script.specs.FirstFault.{first_fault};
+ghost use Rattle.ck_script.specs.Script.{OnTextFault};
+ghost use Rattle.ck_script.specs.Lines.{is_feed};
+ghost use Rattle.ck_script.specs.Reading.{is_complete, commands_of, within_count, lines_before, answer, IsAnswer, IsLine};
+
+use crate::line::{Place, step};
+use crate::script::{Command, Script, ScriptFault, What};
+use crate::source::Source;
+use ck_key::NumKey;
+use memchr::memchr;
+use std::alloc::Global;
+
+const MOST_BYTES: usize = 200;
+
+const MOST_COMMANDS: usize = 1_000_000;
+
+/// What was read so far.
+#[derive(Drop)]
+pub struct ScriptReader {
+    place: Place,
+    line: Vec<u8>,
+    commands: Vec<Command<NumKey>>,
+}
+
+// The bytes before the first line feed, and those after it.
+fn cut_line(bytes: &[u8]) -> Option<(&[u8], &[u8])>
+    ensures found { IfSome result (λ r. (bytes.now ≡ r.0.now ++ 10 ∷ r.1.now) × All (λ b. is_feed b ≡ false) r.0.now) }
+    ensures none { IfNone result (All (λ b. is_feed b ≡ false) bytes.now) }
+{
+    match memchr(b'\n', bytes) {
+        None => None,
+        Some(at) => Some((&bytes[..at], &bytes[at + 1..])),
+    }
+}
+
+// Keeps a command, where there is one and room for it.
+fn keep(commands: &mut Vec<Command<NumKey>>, command: Option<Command<NumKey>>) -> Result<(), What>
+    ensures ok { OnOk result (commands.new.items ≡ commands.old.items ++ commands_of command) }
+    ensures fits { OnOk result ((p : Place) → within_count (length commands.old.items) p command ≡ Ok (p, command)) }
+    ensures err { IfErr result (λ e. (p : Place) → OnTextFault e (within_count (length commands.old.items) p command ≡ Err e)) }
+{
+    let Some(command) = command else {
+        return Ok(());
+    };
+    if commands.len() >= MOST_COMMANDS {
+        return Err(What::TooLong);
+    }
+    match commands.push(command) {
+        Ok(()) => Ok(()),
+        Err(_) => Err(What::Memory),
+    }
+}
+
+impl ScriptReader {
+    ghost use Rattle.ck_script.specs.State.{answer_of};
+
+    fn line_number(&self) -> u64
+        ensures { result ≡ lines_before self.now.place (length self.now.commands.items) + 1 }
+    {
+        let commands = self.commands.len() as u64;
+        match self.place {
+            Place::Header => 1,
+            Place::Settings => 2,
+            Place::Block => commands + 3,
+            Place::After => commands + 4,
+        }
+    }
+
+    // Takes more of a line.
+    fn extend(&mut self, piece: &[u8]) -> Result<(), ScriptFault>
+        requires line { IsLine self.old.line.items }
+        requires piece { All (λ b. is_feed b ≡ false) piece.now }
+        ensures line { OnOk result (IsLine self.new.line.items) }
+        ensures ok { OnOk result ((rest : List ℕ) → answer_of self.new rest ≡ answer_of self.old (piece.now ++ rest)) }
+        ensures err { IfErr result (λ e. (rest : List ℕ) → OnTextFault e.what (answer_of self.old (piece.now ++ rest) ≡ Err e)) }
+    {
+        if piece.len() > MOST_BYTES - self.line.len() {
+            let line = self.line_number();
+            return Err(ScriptFault {
+                line,
+                what: What::TooLong,
+            });
+        }
+        match self.line.extend_from_slice(piece) {
+            Ok(()) => Ok(()),
+            Err(_) => {
+                let line = self.line_number();
+                Err(ScriptFault {
+                    line,
+                    what: What::Memory,
+                })
+            }
+        }
+    }
+
+    // Takes a line feed.
+    fn end_line(&mut self) -> Result<(), ScriptFault>
+        requires { IsLine self.old.line.items }
+        ensures line { OnOk result (self.new.line.items ≡ []) }
+        ensures ok { OnOk result ((rest : List ℕ) → answer_of self.new rest ≡ answer_of self.old (10 ∷ rest)) }
+        ensures err { IfErr result (λ e. (rest : List ℕ) → OnTextFault e.what (answer_of self.old (10 ∷ rest) ≡ Err e)) }
+    {
+        let line = self.line_number();
+        match step(self.place, &self.line) {
+            Err(what) => Err(ScriptFault { line, what }),
+            Ok((place, command)) => match keep(&mut self.commands, command) {
+                Err(what) => Err(ScriptFault { line, what }),
+                Ok(()) => {
+                    self.place = place;
+                    self.line.clear();
+                    Ok(())
+                }
+            },
+        }
+    }
+}
+
+impl ScriptReader {
+    ghost use Rattle.ck_script.specs.State.{answer_of};
+
+    // Takes a block of bytes.
+    fn feed(&mut self, block: &[u8]) -> Result<(), ScriptFault>
+        requires { IsLine self.old.line.items }
+        ensures line { OnOk result (IsLine self.new.line.items) }
+        ensures ok { OnOk result ((more : List ℕ) → answer_of self.new more ≡ answer_of self.old (block.now ++ more)) }
+        ensures err { IfErr result (λ e. (more : List ℕ) → OnTextFault e.what (answer_of self.old (block.now ++ more) ≡ Err e)) }
+    {
+        let mut rest = block;
+        while let Some((line, after)) = cut_line(rest) {
+            match self.extend(line) {
+                Ok(()) => {}
+                Err(fault) => return Err(fault),
+            }
+            match self.end_line() {
+                Ok(()) => {}
+                Err(fault) => return Err(fault),
+            }
+            rest = after;
+        }
+        self.extend(rest)
+    }
+
+    fn is_complete(&self) -> bool
+        ensures { result ≡ is_complete self.now.place self.now.line.items }
+    {
+        match self.place {
+            Place::After => self.line.is_empty(),
+            Place::Header | Place::Settings | Place::Block => false,
+        }
+    }
+
+    // The commands, where the input ends here.
+    fn finish(self) -> Result<Script, ScriptFault>
+        requires { IsLine self.line.items }
+        ensures { IsAnswer (λ s. s.commands.items) result (answer_of self []) }
+    {
+        if self.is_complete() {
+            return Ok(Script {
+                commands: self.commands,
+            });
+        }
+        let line = self.line_number();
+        Err(ScriptFault {
+            line,
+            what: What::Truncated,
+        })
+    }
+
+    fn new(alloc: Global) -> Self
+        ensures line { IsLine result.line.items }
+        ensures whole { (bytes : List ℕ) → answer_of result bytes ≡ answer bytes }
+    {
+        ScriptReader {
+            place: Place::Header,
+            line: Vec::new(alloc),
+            commands: Vec::new(alloc),
+        }
+    }
+}
+
+const BLOCK: usize = 4096;
+
+// Reads to the end of the source.
+fn read_all<R: Source>(alloc: Global, source: &mut R) -> Result<Script, ScriptFault>
+    requires { R.has_failed source.old ≡ false }
+    ensures { IfSome (R.left source.old) (λ bytes. IsAnswer (λ s. s.commands.items) result (answer bytes)) }
+{
+    let mut reader = ScriptReader::new(alloc);
+    let mut block = [0; BLOCK];
+    for _ in 0..u64::MAX {
+        match source.read(&mut block) {
+            Err(_) => {
+                let line = reader.line_number();
+                return Err(ScriptFault {
+                    line,
+                    what: What::Read,
+                });
+            }
+            Ok(0) => return reader.finish(),
+            Ok(n) => match reader.feed(&block[..n]) {
+                Ok(()) => {}
+                Err(fault) => return Err(fault),
+            },
+        }
+    }
+    let line = reader.line_number();
+    Err(ScriptFault {
+        line,
+        what: What::Memory,
+    })
+}
+
+/// Reads a script to its end. An `Err` is the first fault of the input, want of memory or a failed read.
+pub fn read_script<R: Source>(alloc: Global, source: &mut R) -> Result<Script, ScriptFault>
+    requires { R.has_failed source.old ≡ false }
+    // What is read is in the grammar.
+    ensures spelled { IfSome (R.left source.old) (λ bytes. IfOk result (λ s. Spells bytes s.commands.items)) }
+    // A fault is the first one.
+    ensures fault { IfSome (R.left source.old) (λ bytes. IfErr result (λ e. OnTextFault e.what (first_fault bytes ≡ Some e))) }
+    // Which script or fault it is.
+    ensures exact { IfSome (R.left source.old) (λ bytes. IsAnswer (λ s. s.commands.items) result (answer bytes)) }
+{
+    read_all(alloc, source)
+}
