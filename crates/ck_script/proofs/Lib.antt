@@ -3,3 +3,4 @@ pub mod Cuts
 pub mod AnswerFrom
 pub mod Spelling
 pub mod Faults
+pub mod Writing

@@ -4,6 +4,7 @@
 mod line;
 mod reader;
 mod script;
+mod sink;
 mod source;
 #[cfg(test)]
 mod tests;
@@ -11,4 +12,5 @@ mod words;
 
 pub use reader::read_script;
 pub use script::{Command, Script, ScriptFault, What};
+pub use sink::{IntoWrite, Sink, write_all};
 pub use source::{Failed, FromRead, Source};
