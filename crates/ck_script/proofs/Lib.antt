@@ -4,3 +4,4 @@ pub mod AnswerFrom
 pub mod Spelling
 pub mod Faults
 pub mod Answered
+pub mod Writing

@@ -4,7 +4,9 @@
 mod answer;
 mod line;
 mod reader;
+mod run;
 mod script;
+mod sink;
 mod source;
 #[cfg(test)]
 mod tests;
@@ -13,6 +15,7 @@ mod words;
 
 pub use answer::Answer;
 pub use reader::read_script;
+pub use run::{RunFault, run};
 pub use script::{Command, Script, ScriptFault, What};
+pub use sink::{IntoWrite, Sink};
 pub use source::{Failed, FromRead, Source};
-pub use text::text_of;
