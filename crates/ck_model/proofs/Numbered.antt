@@ -2,7 +2,7 @@
 use Rattle.std.proofs.Common.{◌≡◌, ℕ, zero, suc, ◌<◌, ◌≢◌, ◌⊎◌, inl, inr, cond, eqb, eq-eqb, ne_eqb, List, [], ◌∷◌, ◌++◌, sym, refl, ap, ◌∙◌, subst, ⊎_elim, arith, Option, Some, None}
 use mathlib.Core.Logic.{dite}
 use native.Mathlib.Decide.{ℕ_discrete}
-use Rattle.ck_model.specs.Numbered.{IsIn, AreDistinct, numbers, Holds, without, over, listed}
+use Rattle.ck_model.specs.Numbered.{IsIn, AreDistinct, numbers, Holds, without, with_content, over, listed}
 
 pub if_same : {A : Type 0} (a b : ℕ) (x y : A) → a ≡ b → cond (eqb a b) x y ≡ x
 if_same a b x y e = ap (λ z. cond z x y) (eq-eqb a b e)
@@ -57,6 +57,10 @@ module _ {A : Type 0} where
 
   pub listed_as : (n : ℕ) (w : ℕ → A) (t : ℕ) (c : A) → t < n → w t ≡ c → Holds (listed n w) t c
   listed_as n w t c l e = subst (λ (x : A). Holds (listed n w) t x) e (listed_at n w t l)
+
+  pub distinct_listed : (n : ℕ) (w : ℕ → A) → AreDistinct (numbers (listed n w))
+  distinct_listed zero w = tt
+  distinct_listed (suc n) w = ((λ i. let z = held_of_in (listed n w) n i in let l = (in_listed n w n z.0 z.1).0 in omega arith), distinct_listed n w)
 
   pub in_without : (t : ℕ) (hs : List (ℕ × A)) (q : ℕ) (c : A) → Holds (without t hs) q c → (q ≢ t) × Holds hs q c
   in_without t [] q c h = absurd h
@@ -123,3 +127,23 @@ module _ {A : Type 0} where
         ((λ i. a.0 (⊎_elim (λ h. in_first xs (y ∷ zs) x.0 h) (λ h. in_second xs (y ∷ zs) x.0 (inr h)) (in_either xs zs x.0 i))), z.0),
         (λ i. ⊎_elim (λ e. a.0 (subst (λ (q : ℕ). IsIn q (numbers (xs ++ (y ∷ zs)))) (sym e) (in_second xs (y ∷ zs) y.0 (inl refl)))) z.1 i),
       )
+
+  pub numbers-with : (t : ℕ) (c : A) (hs : List (ℕ × A)) → numbers (with_content t c hs) ≡ numbers hs
+  numbers-with t c [] = refl
+  numbers-with t c (h ∷ hs) = ap {B = List ℕ} (λ l. h.0 ∷ l) (numbers-with t c hs)
+
+  pub holds_with : (t : ℕ) (c : A) (hs : List (ℕ × A)) (u : ℕ) (d : A) → Holds (with_content t c hs) u d → ((u ≡ t) × (c ≡ d)) ⊎ ((u ≢ t) × Holds hs u d)
+  holds_with t c [] u d h = absurd h
+  holds_with t c (x ∷ xs) u d h = ⊎_elim
+      (λ (e : (x.0 ≡ u) × (cond (eqb x.0 t) c x.1 ≡ d)). dite (ℕ_discrete x.0 t)
+      (λ f. inl (sym e.0 ∙ f, sym (if_same x.0 t c x.1 f) ∙ e.1))
+      (λ ne. inr ((λ f. ne (e.0 ∙ f)), inl (e.0, sym (if_else x.0 t c x.1 ne) ∙ e.1))))
+      (λ r. ⊎_elim (λ e. inl e) (λ (e : (u ≢ t) × Holds xs u d). inr (e.0, inr e.1)) (holds_with t c xs u d r)) h
+
+  pub with_here : (t : ℕ) (c : A) (hs : List (ℕ × A)) → IsIn t (numbers hs) → Holds (with_content t c hs) t c
+  with_here t c [] i = absurd i
+  with_here t c (x ∷ xs) i = ⊎_elim (λ e. inl (e, if_same x.0 t c x.1 e)) (λ r. inr (with_here t c xs r)) i
+
+  pub with_else : (t : ℕ) (c : A) (hs : List (ℕ × A)) (u : ℕ) (d : A) → u ≢ t → Holds hs u d → Holds (with_content t c hs) u d
+  with_else t c [] u d ne h = h
+  with_else t c (x ∷ xs) u d ne h = ⊎_elim (λ (e : (x.0 ≡ u) × (x.1 ≡ d)). inl (e.0, if_else x.0 t c x.1 (λ f. ne (sym e.0 ∙ f)) ∙ e.1)) (λ r. inr (with_else t c xs u d ne r)) h
