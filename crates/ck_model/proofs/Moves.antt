@@ -1,13 +1,13 @@
 -- One slot of one row is written: the pairs around it stay, and another entry stands between them.
-use Rattle.std.proofs.Common.{◌≡◌, ◌≢◌, ◌⊎◌, inl, inr, true, false, slice_index_or, ℕ, ◌+◌, ◌<◌, zero, suc, length, List, [], ◌∷◌, ◌++◌, Option, Some, None, refl, sym, ◌∙◌, ap, subst, cond, arith, append_assoc}
-use Rattle.std.specs.Prelude.{flat_map, option_map, slice_set}
+use Rattle.std.proofs.Common.{◌≡◌, ◌≢◌, ◌⊎◌, inl, inr, true, false, slice_index_or, ℕ, ◌+◌, ◌<◌, zero, suc, length, List, [], ◌∷◌, ◌++◌, Option, Some, None, refl, sym, ◌∙◌, ap, cond, arith, append_assoc}
+use Rattle.std.specs.Prelude.{flat_map, slice_set}
 use Rattle.std.specs.Option.{option_to_list}
 use Rattle.std.specs.Ordering.{eq_by_cmp}
 use Rattle.std.specs.FinMap.{find}
 use Rattle.std.proofs.lemmas.Option.{none-some}
 use Rattle.ck_model.specs.Map.{Name, name_cmp}
-use Rattle.ck_model.specs.Slots.{Slot, slot_at, taken_in}
-use Rattle.ck_model.specs.Contents.{row_at, NamesApart}
+use Rattle.ck_model.specs.Slots.{Slot, taken_in}
+use Rattle.ck_model.specs.Contents.{NamesApart}
 use Rattle.ck_model.proofs.Names.{is_name, no_name, cases_name}
 
 -- lists that differ in what stands between two parts: what is in the one slot, and what is in the other

@@ -1,5 +1,5 @@
 -- Pairs of different names: how often a name stands in them, and their map in any order.
-use Rattle.std.proofs.Common.{◌≡◌, ◌⊎◌, inl, inr, ℕ, ◌+◌, ◌<◌, ◌≤◌, zero, suc, length, List, [], ◌∷◌, Option, Some, None, refl, sym, ◌∙◌, ap, subst, Bool, true, false, cond, arith, slice_index_or}
+use Rattle.std.proofs.Common.{◌≡◌, ◌⊎◌, inl, inr, ℕ, ◌+◌, ◌<◌, ◌≤◌, zero, suc, length, List, [], ◌∷◌, Some, None, refl, sym, ◌∙◌, ap, subst, Bool, true, false, cond, arith, slice_index_or}
 use Rattle.std.specs.Prelude.{count_by}
 use Rattle.std.specs.Ordering.{eq_by_cmp}
 use Rattle.std.specs.List.{Contains}
