@@ -1,4 +1,4 @@
-use Rattle.std.proofs.Common.{◌+◌, ◌≤◌, arith}
+use Rattle.std.proofs.Common.{◌+◌, arith}
 use Rattle.ck_model.proofs.Buckets.{alternate_twice, alternate_lower, alternate_same}
 use Rattle.ck_model.proofs.laws.law_of_alternates.Goals as goal
 
