@@ -1,11 +1,10 @@
 -- A sound stripe has no name that belongs elsewhere.
-use Rattle.std.proofs.Common.{◌≡◌, ◌⊎◌, inl, inr, ℕ, suc, ◌<◌, ◌≤◌, ◌*◌, ◌+◌, ◌^◌, ◌%◌, Bool, true, false, cond, List, [], ◌∷◌, sym, refl, ap, ◌∙◌, subst, ⊎_elim, Option, Some, None}
+use Rattle.std.proofs.Common.{◌≡◌, inl, inr, ℕ, suc, ◌<◌, ◌≤◌, ◌*◌, ◌+◌, ◌^◌, ◌%◌, Bool, true, false, cond, List, [], ◌∷◌, sym, refl, ap, ◌∙◌, subst, ⊎_elim, Some, None}
 use Rattle.std.proofs.lemmas.Option.{none-some, same_Some}
 use Rattle.std.proofs.lemmas.Nat.{mod-mul-add}
 use Rattle.std.specs.Prelude.{flat_map}
 use Rattle.std.specs.Ordering.{eq_by_cmp}
 use Rattle.std.specs.FinMap.{find}
-use Rattle.ck_model.specs.Arithmetic.{index_of, second_of}
 use Rattle.ck_model.specs.Map.{Name, name_cmp}
 use Rattle.ck_model.specs.Slots.{Slot, slot_at, taken_in}
 use Rattle.ck_model.specs.Contents.{Layout, Content, Binds, IsBucketOf, IsStripeOf, IsSound, row_at}

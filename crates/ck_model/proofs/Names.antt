@@ -1,5 +1,5 @@
 -- Names, their order, and maps by them.
-use Rattle.std.proofs.Common.{◌≡◌, ◌≢◌, ◌⊎◌, inl, inr, ℕ, Bool, true, false, refl, sym, ap, ◌∙◌, Less, Equal, Greater, Ordering, is_eq}
+use Rattle.std.proofs.Common.{◌≡◌, ◌≢◌, ◌⊎◌, inl, inr, true, false, refl, sym, ap, ◌∙◌, Less, Equal, Greater, Ordering, is_eq}
 use mathlib.Core.Logic.{dite}
 use mathlib.Core.List.{List-discrete}
 use native.Mathlib.Decide.{ℕ_discrete}
