@@ -1,5 +1,5 @@
 -- The buckets of a table as its one stripe: where a name is looked for, and what is left by one slot written.
-use Rattle.std.proofs.Common.{◌≡◌, ◌≢◌, ◌⊎◌, inl, inr, ⊎_elim, ℕ, ◌+◌, ◌-◌, ◌*◌, ◌^◌, ◌%◌, ◌/◌, ◌<◌, ◌≤◌, ◌==◌, if◌then◌else◌, List, [], ◌∷◌, Option, Some, None, IsSome, refl, sym, ◌∙◌, ap, subst, length, set as set_at, get_or, arith, true, false, is_some, IfSome, IfNone, append-nil}
+use Rattle.std.proofs.Common.{◌≡◌, ◌≢◌, ◌⊎◌, inl, inr, ⊎_elim, ℕ, ◌+◌, ◌-◌, ◌*◌, ◌^◌, ◌%◌, ◌/◌, ◌<◌, ◌≤◌, ◌==◌, if◌then◌else◌, List, [], ◌∷◌, Option, Some, None, IsSome, refl, sym, ◌∙◌, ap, subst, length, replicate, set as set_at, get_or, arith, true, false, is_some, IfSome, IfNone, append-nil}
 use Rattle.std.specs.Prelude.{slice_set, flat_map}
 use Rattle.std.specs.FinMap.{find, get}
 use Rattle.std.proofs.Math.Nat.{mod-one, div-one}
@@ -12,6 +12,7 @@ use Rattle.ck_model.specs.Slots.{Slot, slot_at, taken_in, IsFull}
 use Rattle.ck_model.specs.Contents.{Layout, Content, row_at, pairs_in, bindings, bucket_in, IsBucketOf, IsSound, Lawful}
 use Rattle.ck_model.specs.Paths.{HasNoRoom}
 use Rattle.ck_model.proofs.Found.{get-bindings}
+use Rattle.ck_model.proofs.Fresh.{fresh, free_bucket, sound-fresh}
 use Rattle.ck_model.proofs.Writes.{Writes, written, stands, unbound_in_buckets, places}
 use Rattle.ck_bucket.specs.Bucket.{HasName, LacksName}
 use Rattle.ck_table.specs.Whole.{layout_of, content_of, one_stripe, IsOpenable}
@@ -60,6 +61,24 @@ module _ {V : Type 0} where
     once = λ t u c d q v w h g e f. ⊎_elim (λ (a : (0 ≡ t) × (content_of p rows ≡ c)). ⊎_elim (λ (b : (0 ≡ u) × (content_of p rows ≡ d)). sym a.0 ∙ b.0) (λ (h : ⊥). absurd h) g) (λ (h : ⊥). absurd h) h;
     one_power = λ t u c d h g. ⊎_elim (λ (a : (0 ≡ t) × (content_of p rows ≡ c)). ⊎_elim (λ (b : (0 ≡ u) × (content_of p rows ≡ d)). ap (λ (x : Content V). x.power) (sym a.1 ∙ b.1)) (λ (h : ⊥). absurd h) g) (λ (h : ⊥). absurd h) h;
   }
+
+  -- free buckets are lawful
+  pub lawful_fresh : (hash : Name → ℕ) (set : Settings) → set.power ≤ set.max → Lawful (layout_of hash set) (one_stripe set.power (replicate (2 ^ set.power) (free_bucket {V = V})))
+  lawful_fresh hash set most =
+      let z : set.power - 0 ≡ set.power = omega arith in
+      let rows : List (List (Slot V)) = replicate (2 ^ set.power) free_bucket in
+      let all : IsSound (layout_of hash set) 0 (fresh set.power (2 ^ (set.power - 0))) = sound-fresh (layout_of hash set) 0 set.power (omega arith) (omega arith) most in
+      let sound : IsSound (layout_of hash set) 0 (fresh set.power (2 ^ set.power)) = subst (λ n. IsSound (layout_of hash set) 0 (fresh {V = V} set.power (2 ^ n))) z all in
+      lawful_alone (layout_of hash set) set.power rows (record {
+        number = sound.number;
+        least = sound.least;
+        most = sound.most;
+        rows = sound.rows;
+        four = sound.four;
+        placed = sound.placed;
+        apart = sound.apart;
+        ledger = refl;
+      })
 
   -- of one stripe the row is the bucket
   bucket-one : (hash : Name → ℕ) (set : Settings) (p : ℕ) (rows : List (List (Slot V))) (b : ℕ) → bucket_in (layout_of hash set) (one_stripe p rows) b ≡ row_at rows b
