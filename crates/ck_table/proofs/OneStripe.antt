@@ -1,5 +1,5 @@
 -- The buckets of a table as its one stripe: where a name is looked for, and what is left by one slot written.
-use Rattle.std.proofs.Common.{◌≡◌, ◌≢◌, ◌⊎◌, inl, inr, ⊎_elim, ℕ, ◌+◌, ◌-◌, ◌*◌, ◌^◌, ◌%◌, ◌/◌, ◌<◌, ◌≤◌, ◌==◌, if◌then◌else◌, List, [], ◌∷◌, Option, Some, None, IsSome, refl, sym, ◌∙◌, ap, subst, length, replicate, set as set_at, get_or, arith, true, false, is_some, IfSome, IfNone, append-nil}
+use Rattle.std.proofs.Common.{◌≡◌, ◌≢◌, ◌⊎◌, inl, inr, ⊎_elim, ℕ, ◌+◌, ◌-◌, ◌*◌, ◌^◌, ◌%◌, ◌/◌, ◌<◌, ◌≤◌, ◌==◌, if◌then◌else◌, List, [], Option, Some, None, IsSome, refl, sym, ◌∙◌, ap, subst, length, replicate, set as set_at, get_or, arith, true, false, is_some, IfSome, IfNone, append-nil}
 use Rattle.std.specs.Prelude.{slice_set, flat_map}
 use Rattle.std.specs.FinMap.{find, get}
 use Rattle.std.proofs.Math.Nat.{mod-one, div-one}
@@ -9,13 +9,13 @@ use Rattle.ck_model.specs.declared.settings.Settings.{Settings}
 use Rattle.ck_model.specs.Arithmetic.{index_of, second_of}
 use Rattle.ck_model.specs.Map.{Name, name_cmp}
 use Rattle.ck_model.specs.Slots.{Slot, slot_at, taken_in, IsFull}
-use Rattle.ck_model.specs.Contents.{Layout, Content, row_at, pairs_in, bindings, bucket_in, IsBucketOf, IsSound, Lawful}
+use Rattle.ck_model.specs.Contents.{Layout, Content, row_at, bindings, bucket_in, IsBucketOf, IsSound, Lawful}
 use Rattle.ck_model.specs.Paths.{HasNoRoom}
 use Rattle.ck_model.proofs.Found.{get-bindings}
 use Rattle.ck_model.proofs.Fresh.{fresh, free_bucket, sound-fresh}
 use Rattle.ck_model.proofs.Writes.{Writes, written, stands, unbound_in_buckets, places}
 use Rattle.ck_bucket.specs.Bucket.{HasName, LacksName}
-use Rattle.ck_table.specs.Whole.{layout_of, content_of, one_stripe, IsOpenable}
+use Rattle.ck_table.specs.Whole.{layout_of, content_of, one_stripe}
 
 -- a bucket that was read, changed in one slot and put back
 pub written_back : {V : Type 0} (rows : List (List (Slot V))) (b i : ℕ) (s : Slot V) (x y : List (Slot V)) → b < length rows → x ≡ get_or rows b x → y ≡ set_at x i s

@@ -1,4 +1,4 @@
-use Rattle.std.proofs.Common.{◌≡◌, ◌≤◌, None, replicate, vec_len}
+use Rattle.std.proofs.Common.{◌≡◌, None, replicate, vec_len}
 use Rattle.std.specs.Prelude.{vec_capacity}
 use Rattle.ck_table.proofs.table.fresh_buckets.Given as goal
 

@@ -1,4 +1,4 @@
-use Rattle.std.proofs.Common.{◌≡◌, ◌<◌, ◌++◌, [], sym, ◌∙◌, ap, flat_map, List, length, arith}
+use Rattle.std.proofs.Common.{◌<◌, ◌++◌, [], sym, ◌∙◌, ap, flat_map, length, arith}
 use Rattle.std.proofs.lemmas.List.{flat_map_more, map-id, length_push}
 use Rattle.std.proofs.lemmas.Iterator.Adapters.{YieldsList-from_vec}
 use Rattle.std.proofs.lemmas.Iterator.Consumers.{YieldsList-end, YieldsList-turn}

@@ -1,8 +1,8 @@
-use Rattle.std.proofs.Common.{rules, sym, ◌∙◌, ap, subst, append-nil, List, flat_map}
+use Rattle.std.proofs.Common.{rules, sym, ◌∙◌, ap, subst, append-nil, flat_map}
 use Rattle.std.specs.FinMap.{from_entries}
 use Rattle.std.specs.Ordering.{is_lt, is_eq}
 use Rattle.std.proofs.lemmas.List.Sorted.{ranks_by, answers_always}
-use Rattle.ck_model.specs.Map.{named, ListsInOrder, name_cmp}
+use Rattle.ck_model.specs.Map.{ListsInOrder}
 use Rattle.ck_model.specs.Slots.{taken_in}
 use Rattle.ck_model.specs.Contents.{bindings, NamesApart}
 use Rattle.ck_model.proofs.Rising.{lists_in_order}

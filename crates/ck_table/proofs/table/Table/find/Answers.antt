@@ -1,9 +1,9 @@
-use Rattle.std.proofs.Common.{◌≡◌, ◌<◌, ℕ, List, Option, Some, None, sym, ◌∙◌, subst, ap, length}
+use Rattle.std.proofs.Common.{◌<◌, List, Some, sym, ◌∙◌, subst, length}
 use Rattle.ck_model.specs.declared.history.Act.TheVariants.{Find}
 use Rattle.ck_model.specs.declared.history.Call.TheVariants.{On}
 use Rattle.ck_model.specs.declared.history.Reply.TheVariants.{Was}
 use Rattle.ck_model.specs.Map.{Name, Step}
-use Rattle.ck_model.specs.Slots.{Slot, slot_at}
+use Rattle.ck_model.specs.Slots.{Slot}
 use Rattle.ck_model.specs.Contents.{bindings, row_at}
 use Rattle.ck_bucket.specs.Bucket.{HasName, LacksName}
 use Rattle.ck_table.specs.Whole.{Whole, one_stripe}

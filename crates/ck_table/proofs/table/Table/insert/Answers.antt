@@ -1,4 +1,4 @@
-use Rattle.std.proofs.Common.{◌≡◌, ◌<◌, ◌↔◌, true, false, ℕ, List, Option, Some, None, refl, sym, subst, ap, length}
+use Rattle.std.proofs.Common.{◌≡◌, ◌<◌, ◌↔◌, true, false, List, None, refl, sym, subst, length}
 use Rattle.std.specs.Prelude.{slice_set}
 use Rattle.ck_model.specs.declared.history.Act.TheVariants.{Insert}
 use Rattle.ck_model.specs.declared.history.Call.TheVariants.{On}
@@ -77,9 +77,11 @@ returns-in-Some-clause-full g c =
     let name : Name = g.K.TableKey.name c.args.key in
     let rows : List (List (Slot g.row.V.Denot)) = c.self.inside.buckets.items in
     let of_name = of_either g.K.TableKey.hash c.self.inside.settings rows c.self.invariant.1 name c.in-Some.bucket c.of-pair.result.first c.of-pair.result.second c.of-pair.ensures.first c.of-pair.ensures.second c.in-Some.ensures.of_pair in
-    subst (λ (w : Whole g.row.V.Denot). (false ≡ true) ↔ HasNoRoom (layout_of g.K.TableKey.hash w.settings) w.stripes name) c.self.view_is
-    ((λ e. cc), λ none. absurd (has_room g.K.TableKey.hash c.self.inside.settings rows c.self.invariant.1 name c.in-Some.bucket c.in-Some.slot of_name c.in-Some.ensures.below.1
-    (subst (λ (xs : List (List (Slot g.row.V.Denot))). slot_at (row_at xs c.in-Some.bucket) c.in-Some.slot ≡ None) c.deref-2.ensures.value c.in-Some.ensures.free) none))
+    subst (λ (w : Whole g.row.V.Denot). (false ≡ true) ↔ HasNoRoom (layout_of g.K.TableKey.hash w.settings) w.stripes name) c.self.view_is (
+      (λ e. cc),
+      λ none. absurd (has_room g.K.TableKey.hash c.self.inside.settings rows c.self.invariant.1 name c.in-Some.bucket c.in-Some.slot of_name c.in-Some.ensures.below.1
+          (subst (λ (xs : List (List (Slot g.row.V.Denot))). slot_at (row_at xs c.in-Some.bucket) c.in-Some.slot ≡ None) c.deref-2.ensures.value c.in-Some.ensures.free) none),
+    )
 
 pub returns-in-None-clause-full : goal.returns-in-None-clause-full
 returns-in-None-clause-full g c =
@@ -87,7 +89,9 @@ returns-in-None-clause-full g c =
     let rows : List (List (Slot g.row.V.Denot)) = c.self.inside.buckets.items in
     let unbound = unbound_found g.K.TableKey.hash c.self.inside.settings rows c.self.invariant.1 c.deref.result.now c.deref.ensures.value name c.find_entry.result c.of-pair.result.first c.of-pair.result.second
     c.of-pair.ensures.first c.of-pair.ensures.second c.if-is_some.ensures c.find_entry.ensures.absent_first c.find_entry.ensures.absent_second in
-    subst (λ (w : Whole g.row.V.Denot). (true ≡ true) ↔ HasNoRoom (layout_of g.K.TableKey.hash w.settings) w.stripes name) c.self.view_is
-    ((λ e. no_room g.K.TableKey.hash c.self.inside.settings rows c.self.invariant.1 name c.of-pair.result.first c.of-pair.result.second c.of-pair.ensures.first c.of-pair.ensures.second unbound
-    (subst (λ (xs : List (List (Slot g.row.V.Denot))). IsFull (row_at xs c.of-pair.result.first)) c.deref-2.ensures.value c.in-None.ensures.full_first)
-    (subst (λ (xs : List (List (Slot g.row.V.Denot))). IsFull (row_at xs c.of-pair.result.second)) c.deref-2.ensures.value c.in-None.ensures.full_second)), λ none. refl)
+    subst (λ (w : Whole g.row.V.Denot). (true ≡ true) ↔ HasNoRoom (layout_of g.K.TableKey.hash w.settings) w.stripes name) c.self.view_is (
+      (λ e. no_room g.K.TableKey.hash c.self.inside.settings rows c.self.invariant.1 name c.of-pair.result.first c.of-pair.result.second c.of-pair.ensures.first c.of-pair.ensures.second unbound
+          (subst (λ (xs : List (List (Slot g.row.V.Denot))). IsFull (row_at xs c.of-pair.result.first)) c.deref-2.ensures.value c.in-None.ensures.full_first)
+          (subst (λ (xs : List (List (Slot g.row.V.Denot))). IsFull (row_at xs c.of-pair.result.second)) c.deref-2.ensures.value c.in-None.ensures.full_second)),
+      λ none. refl,
+    )

@@ -1,8 +1,8 @@
-use Rattle.std.proofs.Common.{◌≡◌, ◌*◌, ◌-◌, ◌^◌, ◌%◌, ◌≤◌, ◌<◌, ◌++◌, [], refl, replicate, sym, ◌∙◌, ap, subst, arith, List, flat_map}
+use Rattle.std.proofs.Common.{◌≡◌, ◌*◌, ◌^◌, ◌%◌, ◌++◌, [], refl, replicate, sym, ◌∙◌, ap, subst, arith, List}
 use Rattle.std.specs.FinMap.{from_entries}
 use Rattle.std.proofs.lemmas.Nat.{one_shl}
 use Rattle.ck_model.specs.Map.{name_cmp}
-use Rattle.ck_model.specs.Slots.{Slot, taken_in}
+use Rattle.ck_model.specs.Slots.{Slot}
 use Rattle.ck_model.specs.Contents.{bindings, Lawful}
 use Rattle.ck_model.specs.Ranges.{AreInRange}
 use Rattle.ck_model.proofs.Fresh.{free_bucket, no_pairs}
@@ -25,5 +25,5 @@ unfolding bindings
 returns-in-Ok-clause-ok g c = (
   refl,
   ap (λ (rows : List (List (Slot g.row.V.Denot))). bindings (one_stripe c.args.settings.power rows)) c.in-Ok.ensures
-  ∙ ap (λ xs. from_entries {R = name_cmp} (xs ++ [])) (no_pairs {V = g.row.V.Denot} (1 * 2 ^ c.args.settings.power % 2 ^ 64)),
+      ∙ ap (λ xs. from_entries {R = name_cmp} (xs ++ [])) (no_pairs {V = g.row.V.Denot} (1 * 2 ^ c.args.settings.power % 2 ^ 64)),
 )
