@@ -7,6 +7,8 @@
 mod bucket_pair;
 mod refusal;
 mod table;
+#[cfg(test)]
+mod tests;
 
 pub use ck_model::settings::Settings;
 pub use refusal::{OpenFault, Refused, Why};
