@@ -4,3 +4,4 @@ pub mod AnswerFrom
 pub mod Spelling
 pub mod Faults
 pub mod Writing
+pub mod Progress

@@ -153,7 +153,7 @@ pub after_step : (line : List ℕ) (s : Place × Option NumCommand) → step_at 
 unfolding step_at
 after_step line s e = absurd cc
 
-block_step : (line : List ℕ) (s : Place × Option NumCommand) → step_at at.Block line ≡ Ok s
+pub block_step : (line : List ℕ) (s : Place × Option NumCommand) → step_at at.Block line ≡ Ok s
     → ((line ≡ codes "end") × (s ≡ (at.After, None))) ⊎ ((c : NumCommand) × IsCommand (words line) c × (s ≡ (at.Block, Some c)))
 unfolding step_at command_at
 block_step line s e =
