@@ -5,3 +5,4 @@ pub mod Spelling
 pub mod Faults
 pub mod Writing
 pub mod Progress
+pub mod Spelled

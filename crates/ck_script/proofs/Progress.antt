@@ -1,9 +1,10 @@
 -- The reader gets fuller by each line, and a full one refuses the next.
-use Rattle.std.proofs.Common.{◌≡◌, ℕ, ◌+◌, ◌*◌, ◌<◌, ◌≤◌, List, [], ◌++◌, length, Option, Some, None, Ok, refl, sym, ap, subst, ◌∙◌, inl, inr, arith, length-append}
+use Rattle.std.proofs.Common.{◌≡◌, ℕ, ◌+◌, ◌*◌, ◌<◌, ◌≤◌, List, [], ◌++◌, length, Option, Ok, sym, ap, subst, ◌∙◌, inl, inr, arith, length-append}
 use Rattle.ck_script.specs.Script.{NumCommand}
 use Rattle.ck_script.specs.declared.line.Place.{Place}
 use Rattle.ck_script.specs.declared.line.Place.TheVariants as at
-use Rattle.ck_script.specs.Reading.{commands_of, lines_before, step_at, IsLine}
+use Rattle.ck_script.specs.Reading.{commands_of, lines_before, step_at}
+use Rattle.ck_script.specs.Lines.{IsLine}
 use Rattle.ck_script.proofs.Spelling.{header_step, settings_step, block_step, after_step}
 
 pub IsLine-nil : (line : List ℕ) → line ≡ [] → IsLine line

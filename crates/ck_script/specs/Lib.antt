@@ -6,3 +6,4 @@ pub mod Reading
 pub mod State
 pub mod Spells
 pub mod FirstFault
+pub mod Laws

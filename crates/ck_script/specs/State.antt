@@ -3,7 +3,8 @@ use Rattle.std.specs.Prelude.{◌≡◌, ℕ, ◌+◌, ◌*◌, ◌≤◌, List,
 use Rattle.ck_script.specs.Script.{NumCommand}
 use Rattle.ck_script.specs.declared.script.ScriptFault.{ScriptFault}
 use Rattle.ck_script.specs.declared.reader.ScriptReader.{ScriptReader}
-use Rattle.ck_script.specs.Reading.{answer_from, answer, lines_before, IsLine}
+use Rattle.ck_script.specs.Reading.{answer_from, answer, lines_before}
+use Rattle.ck_script.specs.Lines.{IsLine}
 
 abbrev pub answer_of : ScriptReader → List ℕ → Result (List NumCommand) ScriptFault
 answer_of r rest = answer_from r.place r.commands.items r.line.items rest

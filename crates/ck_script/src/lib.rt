@@ -1,6 +1,7 @@
 //! Scripts: their grammar, the devices that give and take their bytes, and the reader.
 #![tactic(auto)]
 
+mod laws;
 mod line;
 mod reader;
 mod script;
@@ -10,6 +11,7 @@ mod source;
 mod tests;
 mod words;
 
+pub use laws::law_of_scripts;
 pub use reader::read_script;
 pub use script::{Command, Script, ScriptFault, What};
 pub use sink::{IntoWrite, Sink, write_all};
