@@ -11,8 +11,8 @@ use Rattle.ck_script.specs.declared.line.Place.{Place}
 use Rattle.ck_script.specs.declared.script.What.{What}
 use Rattle.ck_script.specs.declared.script.What.TheVariants as is
 use Rattle.ck_script.specs.declared.script.ScriptFault.{ScriptFault}
-use Rattle.ck_script.specs.Lines.{◌>>=◌, parts, is_feed}
-use Rattle.ck_script.specs.Reading.{lines_before, commands_of, within_count, line_at, ending, is_complete, on_line, with_front, reading, answer_from, IsLine, step_at}
+use Rattle.ck_script.specs.Lines.{◌>>=◌, parts, is_feed, IsLine}
+use Rattle.ck_script.specs.Reading.{lines_before, commands_of, within_count, line_at, ending, is_complete, on_line, with_front, reading, answer_from, step_at}
 use Rattle.ck_script.proofs.Cuts.{some_part}
 
 abbrev NoFeed : List ℕ → Type 0
@@ -21,7 +21,7 @@ NoFeed xs = All (λ b. is_feed b ≡ false) xs
 parts_line : (line rest : List ℕ) → NoFeed line → parts (line ++ 10 ∷ rest) ≡ line ∷ parts rest
 parts_line line rest h = slice_split_at is_feed line 10 rest h refl
 
-reading_line : (place : Place) (n : ℕ) (line : List ℕ) (ps : List (List ℕ)) → 0 < length ps
+pub reading_line : (place : Place) (n : ℕ) (line : List ℕ) (ps : List (List ℕ)) → 0 < length ps
     → reading place n (line ∷ ps) ≡ (on_line (lines_before place n + 1) (line_at place n line) >>= λ s. with_front (commands_of s.1) (reading s.0 (n + length (commands_of s.1)) ps))
 unfolding reading
 reading_line place n line [] some = absurd (omega arith)
@@ -37,7 +37,7 @@ answer_from-line place cs line rest h =
     ap (λ (ps : List (List ℕ)). with_front cs (reading place (length cs) ps)) (parts_line line rest h)
     ∙ ap (with_front cs) (reading_line place (length cs) line (parts rest) (some_part is_feed rest))
 
-line_is : (place : Place) (n : ℕ) (line : List ℕ) → length line ≤ 200 → line_at place n line ≡ (step_at place line >>= λ s. within_count n s.0 s.1)
+pub line_is : (place : Place) (n : ℕ) (line : List ℕ) → length line ≤ 200 → line_at place n line ≡ (step_at place line >>= λ s. within_count n s.0 s.1)
 unfolding line_at
 line_is place n line le = rw (le-ltb 200 (length line) le) refl
 

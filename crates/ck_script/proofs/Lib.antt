@@ -5,3 +5,5 @@ pub mod Spelling
 pub mod Faults
 pub mod Answered
 pub mod Writing
+pub mod Progress
+pub mod Spelled

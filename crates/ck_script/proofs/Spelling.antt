@@ -1,15 +1,16 @@
 -- What is read is in the grammar.
-use Rattle.std.proofs.Common.{◌≡◌, ℕ, ◌+◌, ◌^◌, Bool, true, false, cond, ltb, eqb, List, [], ◌∷◌, ◌++◌, length, Option, Some, None, Result, Ok, Err, refl, sym, ap, subst, ◌∙◌, append_assoc, inl, inr}
+use Rattle.std.proofs.Common.{◌≡◌, ℕ, ◌+◌, ◌^◌, Bool, true, false, cond, ltb, eqb, List, [], ◌∷◌, ◌++◌, length, Option, Some, None, Result, Ok, Err, refl, sym, ap, subst, ◌∙◌, append_assoc, inl, inr, ◌<◌, ◌≤◌, arith, length-append}
 use Rattle.ck_script.specs.declared.script.Script.{Script}
-use Rattle.std.specs.Prelude.{IfOk, IfSome, ◌⊎◌, ◌&&◌, ◌||◌, not, codes}
-use Rattle.std.specs.List.{flat_map, join_with_byte}
+use Rattle.std.specs.Prelude.{IfOk, IfSome, ◌⊎◌, ◌&&◌, ◌||◌, not, codes, All}
+use Rattle.std.specs.List.{flat_map, join_with_byte, onto_first}
 use Rattle.std.specs.Option.{ok_or}
 use Rattle.std.specs.Str.{bytes_eq, all_ascii_digits}
 use Rattle.std.specs.Str.Parse.{digits_value}
-use Rattle.std.proofs.lemmas.Bool.{ltb-true, false≢true, eqb-true}
+use Rattle.std.proofs.lemmas.Bool.{ltb-true, false≢true, eqb-true, ltb-false, cases_Bool}
 use Rattle.std.proofs.lemmas.List.{append-nil, nil_from_length}
 use Rattle.std.proofs.lemmas.List.Concat.{flat_map-cons}
-use Rattle.std.proofs.lemmas.List.Splits.{join_with_byte-slice_split}
+use Rattle.std.proofs.lemmas.List.Splits.{join_with_byte-slice_split, slice_split-cons_yes, slice_split-cons_no}
+use Rattle.std.proofs.lemmas.List.Elements.{All-cons, All-nil, All-head, All-tail}
 use Rattle.std.proofs.lemmas.Slice.Eq.{bytes_eq-Decides}
 use Rattle.ck_script.specs.Script.{NumCommand, key_of}
 use Rattle.ck_script.specs.declared.script.Command.TheVariants.{Find, Insert}
@@ -19,8 +20,8 @@ use Rattle.ck_script.specs.declared.script.What.{What}
 use Rattle.ck_script.specs.declared.script.What.TheVariants as is
 use Rattle.ck_script.specs.declared.script.ScriptFault.{ScriptFault}
 use Rattle.ck_script.specs.Words.{words, number_at, begins_as_number, IsNumber}
-use Rattle.ck_script.specs.Lines.{◌>>=◌, number_or_fault, command_in, command_at, parts}
-use Rattle.ck_script.specs.Reading.{lines_before, commands_of, within_count, IsAnswer, line_at, ending, on_line, with_front, reading, answer, step_at}
+use Rattle.ck_script.specs.Lines.{IsLine, ◌>>=◌, number_or_fault, command_in, command_at, parts, is_feed}
+use Rattle.ck_script.specs.Reading.{lines_before, commands_of, within_count, IsAnswer, line_at, ending, on_line, with_front, reading, answer, step_at, is_complete}
 use Rattle.ck_script.specs.Spells.{IsCommand, AreCommands, IsScript, with_feed, Spells}
 
 pub bind_ok : {A B E : Type 0} (r : Result A E) (f : A → Result B E) (y : B) → (r >>= f) ≡ Ok y → (x : A) × (r ≡ Ok x) × (f x ≡ Ok y)
@@ -63,8 +64,14 @@ not_no : (b : Bool) → not b ≡ false → b ≡ true
 not_no true e = refl
 not_no false e = absurd (false≢true (sym e))
 
-same_bytes : (a b : List ℕ) → bytes_eq a b ≡ true → a ≡ b
+pub same_bytes : (a b : List ℕ) → bytes_eq a b ≡ true → a ≡ b
 same_bytes a b e = (bytes_eq-Decides a b).0 e
+
+abbrev some_number : ℕ → Option ℕ
+some_number n = Some n
+
+some_is : (a b : ℕ) → some_number a ≡ some_number b → a ≡ b
+some_is a b e = cc
 
 number_some : (word : List ℕ) (n : ℕ) → number_at word ≡ Some n → IsNumber word n
 number_some word n e =
@@ -72,7 +79,7 @@ number_some word n e =
       | inl h ↦
           let a = and_left _ _ h.0 in
           let b = and_left _ _ a.0 in
-          let same : digits_value 10 word ≡ n = cc (h.1) in
+          let same : digits_value 10 word ≡ n = some_is (digits_value 10 word) n h.1 in
           record { begins = b.0; digits = b.1; value = sym same; fits = rw (← same) (ltb-true _ _ a.1) }
       | inr h ↦ absurd cc
     ]
@@ -120,13 +127,17 @@ front_ok : (front : List NumCommand) (r : Result (List NumCommand) ScriptFault) 
 front_ok front r cs e = let b = bind_ok r (λ more. Ok (front ++ more)) cs e in (b.0, b.1, sym (ok_script-injective (front ++ b.0) cs b.2))
 
 -- one line, and what is read of the others
-turn : (place : Place) (n : ℕ) (line next : List ℕ) (more : List (List ℕ)) (cs : List NumCommand) → reading place n (line ∷ next ∷ more) ≡ Ok cs
-    → (s : Place × Option NumCommand) × (step_at place line ≡ Ok s) × (after : List NumCommand) × (reading s.0 (n + length (commands_of s.1)) (next ∷ more) ≡ Ok after) × (cs ≡ commands_of s.1 ++ after)
+turn_at : (place : Place) (n : ℕ) (line next : List ℕ) (more : List (List ℕ)) (cs : List NumCommand) → reading place n (line ∷ next ∷ more) ≡ Ok cs
+    → (s : Place × Option NumCommand) × (line_at place n line ≡ Ok s) × (after : List NumCommand) × (reading s.0 (n + length (commands_of s.1)) (next ∷ more) ≡ Ok after) × (cs ≡ commands_of s.1 ++ after)
 unfolding reading
-turn place n line next more cs e =
+turn_at place n line next more cs e =
     let b = bind_ok (on_line (lines_before place n + 1) (line_at place n line)) (λ s. with_front (commands_of s.1) (reading s.0 (n + length (commands_of s.1)) (next ∷ more))) cs e in
     let f = front_ok (commands_of b.0.1) (reading b.0.0 (n + length (commands_of b.0.1)) (next ∷ more)) cs b.2 in
-    (b.0, line_law place n line b.0 (on_line-ok _ (line_at place n line) b.0 b.1), f.0, f.1, f.2)
+    (b.0, on_line-ok _ (line_at place n line) b.0 b.1, f.0, f.1, f.2)
+
+turn : (place : Place) (n : ℕ) (line next : List ℕ) (more : List (List ℕ)) (cs : List NumCommand) → reading place n (line ∷ next ∷ more) ≡ Ok cs
+    → (s : Place × Option NumCommand) × (step_at place line ≡ Ok s) × (after : List NumCommand) × (reading s.0 (n + length (commands_of s.1)) (next ∷ more) ≡ Ok after) × (cs ≡ commands_of s.1 ++ after)
+turn place n line next more cs e = let t = turn_at place n line next more cs e in (t.0, line_law place n line t.0 t.1, t.2, t.3, t.4)
 
 last_ok : (place : Place) (n : ℕ) (rest : List ℕ) (cs : List NumCommand) → reading place n (rest ∷ []) ≡ Ok cs → ending place rest ≡ Ok cs
 unfolding reading
@@ -153,7 +164,7 @@ pub after_step : (line : List ℕ) (s : Place × Option NumCommand) → step_at 
 unfolding step_at
 after_step line s e = absurd cc
 
-block_step : (line : List ℕ) (s : Place × Option NumCommand) → step_at at.Block line ≡ Ok s
+pub block_step : (line : List ℕ) (s : Place × Option NumCommand) → step_at at.Block line ≡ Ok s
     → ((line ≡ codes "end") × (s ≡ (at.After, None))) ⊎ ((c : NumCommand) × IsCommand (words line) c × (s ≡ (at.Block, Some c)))
 unfolding step_at command_at
 block_step line s e =
@@ -247,11 +258,94 @@ header_law n (line ∷ next ∷ more) cs e =
     let b = settings_law (n + 0) (next ∷ more) t.2 e2 in
     subst (Whole (line ∷ next ∷ more)) (sym all) (line ∷ b.0 ∷ b.1, ap (λ (x : List (List ℕ)). line ∷ x) b.2, (h.0, b.3, b.4))
 
+-- a line that is read is short
+line_short : (place : Place) (n : ℕ) (line : List ℕ) (s : Place × Option NumCommand) → line_at place n line ≡ Ok s → length line ≤ 200
+unfolding line_at
+line_short place n line s e = ltb-false 200 (length line) (guard_ok (ltb 200 (length line)) is.TooLong (step_at place line >>= λ s. within_count n s.0 s.1) s e).0
+
+ending_short : (place : Place) (rest : List ℕ) (cs : List NumCommand) → ending place rest ≡ Ok cs → length rest ≤ 200
+unfolding ending
+ending_short place rest cs e = ltb-false 200 (length rest) (guard_ok (ltb 200 (length rest)) is.TooLong (cond (is_complete place rest) (Ok []) (Err is.Truncated)) cs e).0
+
+abbrev IsShort : List ℕ → Type 0
+IsShort line = length line ≤ 200
+
+parts_short : (place : Place) (n : ℕ) (ps : List (List ℕ)) (cs : List NumCommand) → reading place n ps ≡ Ok cs → All IsShort ps
+parts_short place n [] cs e = absurd (nothing place n cs e)
+parts_short place n (rest ∷ []) cs e = All-cons IsShort rest [] (ending_short place rest cs (last_ok place n rest cs e)) (All-nil IsShort)
+parts_short place n (line ∷ next ∷ more) cs e =
+    let t = turn_at place n line next more cs e in
+    All-cons IsShort line (next ∷ more) (line_short place n line t.0 t.1) (parts_short t.0.0 (n + length (commands_of t.0.1)) (next ∷ more) t.2 t.3)
+
+abbrev Within : ℕ → Place × Option NumCommand → Type 0
+Within n s = n + length (commands_of s.1) ≤ 1000000
+
+within_few : (n : ℕ) (t s : Place × Option NumCommand) → within_count n t.0 t.1 ≡ Ok s → n ≤ 1000000 → Within n s
+within_few n (p, None) s e few = subst (Within n) (ok_line-injective (p, None) s e) (omega arith)
+within_few n (p, Some c) s e few =
+    elim (chosen (ltb n 1000000) (Ok (p, Some c)) (Err is.TooLong) (Ok s) e) [
+      | inl h ↦ let below : n < 1000000 = ltb-true n 1000000 h.0 in subst (Within n) (ok_line-injective (p, Some c) s h.1) (omega arith)
+      | inr h ↦ absurd cc
+    ]
+
+line_few : (place : Place) (n : ℕ) (line : List ℕ) (s : Place × Option NumCommand) → line_at place n line ≡ Ok s → n ≤ 1000000 → Within n s
+unfolding line_at
+line_few place n line s e few =
+    let g = guard_ok (ltb 200 (length line)) is.TooLong (step_at place line >>= λ s. within_count n s.0 s.1) s e in
+    let t = bind_ok (step_at place line) (λ s. within_count n s.0 s.1) s g.1 in
+    within_few n t.0 s t.2 few
+
+ending_none : (place : Place) (rest : List ℕ) (cs : List NumCommand) → ending place rest ≡ Ok cs → cs ≡ []
+ending_none at.Header rest cs e = absurd ((head_ending rest cs).0 e)
+ending_none at.Settings rest cs e = absurd ((head_ending rest cs).1 e)
+ending_none at.Block rest cs e = absurd (block_ending rest cs e)
+ending_none at.After rest cs e = (after_ending rest cs e).1
+
+-- what is read has at most 1,000,000 commands
+reading_few : (place : Place) (n : ℕ) (ps : List (List ℕ)) (cs : List NumCommand) → reading place n ps ≡ Ok cs → n ≤ 1000000 → n + length cs ≤ 1000000
+reading_few place n [] cs e few = absurd (nothing place n cs e)
+reading_few place n (rest ∷ []) cs e few = rw (ending_none place rest cs (last_ok place n rest cs e)) (omega arith)
+reading_few place n (line ∷ next ∷ more) cs e few =
+    let t = turn_at place n line next more cs e in
+    let fits = line_few place n line t.0 t.1 few in
+    let later = reading_few t.0.0 (n + length (commands_of t.0.1)) (next ∷ more) t.2 t.3 fits in
+    rw (t.4, length-append (commands_of t.0.1) t.2) (omega arith)
+
+abbrev NoFeed : List ℕ → Type 0
+NoFeed xs = All (λ b. is_feed b ≡ false) xs
+
+onto_no_feed : (b : ℕ) (ps : List (List ℕ)) → is_feed b ≡ false → All NoFeed ps → All NoFeed (onto_first b ps)
+onto_no_feed b [] other all = All-cons NoFeed (b ∷ []) [] (All-cons (λ x. is_feed x ≡ false) b [] other (All-nil (λ x. is_feed x ≡ false))) (All-nil NoFeed)
+onto_no_feed b (p ∷ ps) other all = All-cons NoFeed (b ∷ p) ps (All-cons (λ x. is_feed x ≡ false) b p other (All-head NoFeed p ps all)) (All-tail NoFeed p ps all)
+
+-- no line feed is left in a part
+parts_no_feed : (bytes : List ℕ) → All NoFeed (parts bytes)
+parts_no_feed [] = All-cons NoFeed [] [] (All-nil (λ x. is_feed x ≡ false)) (All-nil NoFeed)
+parts_no_feed (b ∷ bytes) =
+    elim (cases_Bool (is_feed b)) [
+      | inl feed ↦ subst (All NoFeed) (sym (slice_split-cons_yes is_feed b bytes feed)) (All-cons NoFeed [] (parts bytes) (All-nil (λ x. is_feed x ≡ false)) (parts_no_feed bytes))
+      | inr other ↦ subst (All NoFeed) (sym (slice_split-cons_no is_feed b bytes other)) (onto_no_feed b (parts bytes) other (parts_no_feed bytes))
+    ]
+
+-- the lines in front of the last part
+are_lines : (lines : List (List ℕ)) (rest : List (List ℕ)) → All NoFeed (lines ++ rest) → All IsShort (lines ++ rest) → All IsLine lines
+are_lines [] rest feeds shorts = All-nil IsLine
+are_lines (line ∷ lines) rest feeds shorts =
+    All-cons IsLine line lines (record { no_feed = All-head NoFeed line (lines ++ rest) feeds; short = All-head IsShort line (lines ++ rest) shorts })
+    (are_lines lines rest (All-tail NoFeed line (lines ++ rest) feeds) (All-tail IsShort line (lines ++ rest) shorts))
+
 -- what is read is in the grammar
 pub spelled : (bytes : List ℕ) (cs : List NumCommand) → answer bytes ≡ Ok cs → Spells bytes cs
 spelled bytes cs e =
     let w = header_law 0 (parts bytes) cs e in
-    (w.0, sym (join_with_byte-slice_split 10 bytes) ∙ ap (join_with_byte 10) w.1 ∙ join_ended w.0, w.2)
+    let few = reading_few at.Header 0 (parts bytes) cs e (omega arith) in
+    record {
+      lines = w.0;
+      whole = sym (join_with_byte-slice_split 10 bytes) ∙ ap (join_with_byte 10) w.1 ∙ join_ended w.0;
+      each = are_lines w.0 ([] ∷ []) (subst (All NoFeed) w.1 (parts_no_feed bytes)) (subst (All IsShort) w.1 (parts_short at.Header 0 (parts bytes) cs e));
+      script = w.2;
+      few = omega arith;
+    }
 
 -- the same of what a function returned
 pub is_spelled : (left : Option (List ℕ)) (r : Result Script ScriptFault) → IfSome left (λ bytes. IsAnswer (λ s. s.commands.items) r (answer bytes)) → IfSome left (λ bytes. IfOk r (λ s. Spells bytes s.commands.items))

@@ -10,3 +10,4 @@ pub mod Text
 pub mod Output
 pub mod Answered
 pub mod Run
+pub mod Laws

@@ -1,5 +1,5 @@
 -- The lines of an input, and what a command line says or what is wrong with it.
-use Rattle.std.specs.Prelude.{ℕ, List, [], ◌∷◌, length, Result, Ok, Err, Bool, ◌||◌, not, ◌==◌, if◌then◌else◌, codes}
+use Rattle.std.specs.Prelude.{All, ◌≡◌, false, ℕ, ◌≤◌, List, [], ◌∷◌, length, Result, Ok, Err, Bool, ◌||◌, not, ◌==◌, if◌then◌else◌, codes}
 use Rattle.std.specs.List.{slice_split}
 use Rattle.std.specs.Option.{ok_or}
 use Rattle.std.specs.Str.{bytes_eq}
@@ -15,6 +15,11 @@ is_feed b = b == 10
 
 abbrev pub parts : List ℕ → List (List ℕ)
 parts bytes = slice_split is_feed bytes
+
+-- a line without its line feed: it has no other, and at most 200 bytes
+pub record IsLine (line : List ℕ) : Type 0 where
+  pub no_feed : All (λ b. is_feed b ≡ false) line
+  pub short : length line ≤ 200
 
 infixl 10 ◌>>=◌
 abbrev pub ◌>>=◌ : {A B E : Type 0} → Result A E → (A → Result B E) → Result B E

@@ -1,5 +1,5 @@
 -- Reading a script from its lines, with the first fault.
-use Rattle.std.specs.Prelude.{◌≡◌, ℕ, ◌+◌, ◌≤◌, List, [], ◌∷◌, ◌++◌, length, All, Option, Some, None, Result, Ok, Err, Bool, false, ◌==◌, nat_lt, if◌then◌else◌, codes}
+use Rattle.std.specs.Prelude.{◌≡◌, ℕ, ◌+◌, List, [], ◌∷◌, ◌++◌, length, Option, Some, None, Result, Ok, Err, Bool, false, ◌==◌, nat_lt, if◌then◌else◌, codes}
 use Rattle.std.specs.Str.{bytes_eq}
 use Rattle.ck_script.specs.Script.{NumCommand, fault_at, OnTextFault}
 use Rattle.ck_script.specs.declared.line.Place.{Place}
@@ -7,7 +7,7 @@ use Rattle.ck_script.specs.declared.line.Place.TheVariants as at
 use Rattle.ck_script.specs.declared.script.What.{What}
 use Rattle.ck_script.specs.declared.script.What.TheVariants as is
 use Rattle.ck_script.specs.declared.script.ScriptFault.{ScriptFault}
-use Rattle.ck_script.specs.Lines.{◌>>=◌, parts, is_feed, command_at}
+use Rattle.ck_script.specs.Lines.{◌>>=◌, parts, command_at}
 
 -- the place of the next line, and the command that this one says
 unfoldable pub step_at : Place → List ℕ → Result (Place × Option NumCommand) What
@@ -72,8 +72,3 @@ answer_from place cs line rest = with_front cs (reading place (length cs) (parts
 abbrev pub IsAnswer : {X : Type 0} → (X → List NumCommand) → Result X ScriptFault → Result (List NumCommand) ScriptFault → Type 0
 IsAnswer view (Ok x) read = read ≡ Ok (view x)
 IsAnswer view (Err e) read = OnTextFault e.what (read ≡ Err e)
-
--- a line so far: no line feed, and at most 200 bytes
-pub record IsLine (line : List ℕ) : Type 0 where
-  pub no_feed : All (λ b. is_feed b ≡ false) line
-  pub short : length line ≤ 200

@@ -1,9 +1,10 @@
 -- The grammar of scripts.
-use Rattle.std.specs.Prelude.{◌≡◌, ℕ, List, [], ◌∷◌, ◌++◌, codes}
+use Rattle.std.specs.Prelude.{All, length, ◌≤◌, ◌≡◌, ℕ, List, [], ◌∷◌, ◌++◌, codes}
 use Rattle.std.specs.List.{flat_map}
 use Rattle.ck_script.specs.Script.{NumCommand}
 use Rattle.ck_script.specs.declared.script.Command.TheVariants.{Find, Insert}
 use Rattle.ck_script.specs.Words.{words, IsNumber}
+use Rattle.ck_script.specs.Lines.{IsLine}
 
 -- the words of a command line
 abbrev pub IsCommand : List (List ℕ) → NumCommand → Type 0
@@ -25,5 +26,10 @@ IsScript lines cs = ⊥
 abbrev pub with_feed : List ℕ → List ℕ
 with_feed line = line ++ 10 ∷ []
 
-abbrev pub Spells : List ℕ → List NumCommand → Type 0
-Spells bytes cs = (lines : List (List ℕ)) × (bytes ≡ flat_map with_feed lines) × IsScript lines cs
+-- the bytes are a script with these commands
+pub record Spells (bytes : List ℕ) (commands : List NumCommand) : Type 0 where
+  pub lines : List (List ℕ)
+  pub whole : bytes ≡ flat_map with_feed lines
+  pub each : All IsLine lines
+  pub script : IsScript lines commands
+  pub few : length commands ≤ 1000000

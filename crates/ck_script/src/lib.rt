@@ -2,6 +2,7 @@
 #![tactic(auto)]
 
 mod answer;
+mod laws;
 mod line;
 mod reader;
 mod run;
@@ -14,6 +15,7 @@ mod text;
 mod words;
 
 pub use answer::Answer;
+pub use laws::law_of_scripts;
 pub use reader::read_script;
 pub use run::{RunFault, run};
 pub use script::{Command, Script, ScriptFault, What};

@@ -1,5 +1,5 @@
 //! What a line says where it stands.
-ghost use Rattle.std.specs.Prelude.{◌≡◌};
+ghost use Rattle.std.specs.Prelude.{◌≡◌, ◌≢◌, IfErr};
 ghost use Rattle.ck_script.specs.Lines.{number_or_fault, command_at};
 ghost use Rattle.ck_script.specs.Reading.{step_at};
 
@@ -21,7 +21,8 @@ pub enum Place {
 }
 
 fn number(word: &[u8]) -> Result<u64, What>
-    ensures { result ≡ number_or_fault word.now }
+    ensures value { result ≡ number_or_fault word.now }
+    ensures text { IfErr result (λ what. what ≢ What.Read) }
 {
     match number_of(word) {
         Some(n) => Ok(n),
@@ -31,7 +32,8 @@ fn number(word: &[u8]) -> Result<u64, What>
 
 #[tactic(auto, unfolding(crate::specs::Lines::command_at))]
 fn command_of(line: &[u8]) -> Result<Command<NumKey>, What>
-    ensures { result ≡ command_at line.now }
+    ensures value { result ≡ command_at line.now }
+    ensures text { IfErr result (λ what. what ≢ What.Read) }
 {
     match words_of(line) {
         Words::Two(name, key) => {
@@ -55,7 +57,8 @@ fn command_of(line: &[u8]) -> Result<Command<NumKey>, What>
 /// Where the next line stands, and the command that this one says.
 #[tactic(auto, unfolding(crate::specs::Reading::step_at))]
 pub fn step(place: Place, line: &[u8]) -> Result<(Place, Option<Command<NumKey>>), What>
-    ensures { result ≡ step_at place line.now }
+    ensures value { result ≡ step_at place line.now }
+    ensures text { IfErr result (λ what. what ≢ What.Read) }
 {
     match place {
         Place::Header => {

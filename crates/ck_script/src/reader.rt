@@ -1,11 +1,11 @@
 //! Reading a script, block by block.
-ghost use Rattle.std.specs.Prelude.{◌≡◌, ◌≤◌, ◌+◌, ◌++◌, ◌∷◌, [], List, ℕ, length, true, false, Ok, Err, Some, OnOk, IfOk, IfErr, IfSome, IfNone, All};
+ghost use Rattle.std.specs.Prelude.{◌≡◌, ◌≢◌, ◌↔◌, ◌≤◌, ◌<◌, ◌+◌, ◌++◌, ◌∷◌, [], List, ℕ, length, true, false, Ok, Err, Some, OnOk, IfOk, IfErr, IfSome, IfNone, All};
 ghost use Rattle.ck_script.specs.declared.line.Place.{Place};
 ghost use Rattle.ck_script.specs.Spells.{Spells};
 ghost use Rattle.ck_script.specs.FirstFault.{first_fault};
 ghost use Rattle.ck_script.specs.Script.{OnTextFault};
 ghost use Rattle.ck_script.specs.Lines.{is_feed};
-ghost use Rattle.ck_script.specs.Reading.{is_complete, commands_of, within_count, lines_before, answer, IsAnswer, IsLine};
+ghost use Rattle.ck_script.specs.Reading.{is_complete, commands_of, within_count, lines_before, answer, IsAnswer};
 
 use crate::line::{Place, step};
 use crate::script::{Command, Script, ScriptFault, What};
@@ -40,8 +40,10 @@ fn cut_line(bytes: &[u8]) -> Option<(&[u8], &[u8])>
 // Keeps a command, where there is one and room for it.
 fn keep(commands: &mut Vec<Command<NumKey>>, command: Option<Command<NumKey>>) -> Result<(), What>
     ensures ok { OnOk result (commands.new.items ≡ commands.old.items ++ commands_of command) }
+    ensures few { OnOk result (length commands.old.items ≤ 1000000 → length commands.new.items ≤ 1000000) }
     ensures fits { OnOk result ((p : Place) → within_count (length commands.old.items) p command ≡ Ok (p, command)) }
-    ensures err { IfErr result (λ e. (p : Place) → OnTextFault e (within_count (length commands.old.items) p command ≡ Err e)) }
+    ensures err { IfErr result (λ what. (p : Place) → OnTextFault what (within_count (length commands.old.items) p command ≡ Err what)) }
+    ensures text { IfErr result (λ what. what ≢ What.Read) }
 {
     let Some(command) = command else {
         return Ok(());
@@ -56,7 +58,7 @@ fn keep(commands: &mut Vec<Command<NumKey>>, command: Option<Command<NumKey>>) -
 }
 
 impl ScriptReader {
-    ghost use Rattle.ck_script.specs.State.{answer_of};
+    ghost use Rattle.ck_script.specs.State.{answer_of, size_of, IsWithinLimits};
 
     fn line_number(&self) -> u64
         ensures { result ≡ lines_before self.now.place (length self.now.commands.items) + 1 }
@@ -72,11 +74,13 @@ impl ScriptReader {
 
     // Takes more of a line.
     fn extend(&mut self, piece: &[u8]) -> Result<(), ScriptFault>
-        requires line { IsLine self.old.line.items }
+        requires limits { IsWithinLimits self.old }
         requires piece { All (λ b. is_feed b ≡ false) piece.now }
-        ensures line { OnOk result (IsLine self.new.line.items) }
+        ensures limits { OnOk result (IsWithinLimits self.new) }
+        ensures size { OnOk result (size_of self.new ≡ size_of self.old + length piece.now) }
         ensures ok { OnOk result ((rest : List ℕ) → answer_of self.new rest ≡ answer_of self.old (piece.now ++ rest)) }
         ensures err { IfErr result (λ e. (rest : List ℕ) → OnTextFault e.what (answer_of self.old (piece.now ++ rest) ≡ Err e)) }
+        ensures text { IfErr result (λ e. e.what ≢ What.Read) }
     {
         if piece.len() > MOST_BYTES - self.line.len() {
             let line = self.line_number();
@@ -99,10 +103,12 @@ impl ScriptReader {
 
     // Takes a line feed.
     fn end_line(&mut self) -> Result<(), ScriptFault>
-        requires { IsLine self.old.line.items }
-        ensures line { OnOk result (self.new.line.items ≡ []) }
+        requires { IsWithinLimits self.old }
+        ensures limits { OnOk result (IsWithinLimits self.new) }
+        ensures size { OnOk result (size_of self.old < size_of self.new) }
         ensures ok { OnOk result ((rest : List ℕ) → answer_of self.new rest ≡ answer_of self.old (10 ∷ rest)) }
         ensures err { IfErr result (λ e. (rest : List ℕ) → OnTextFault e.what (answer_of self.old (10 ∷ rest) ≡ Err e)) }
+        ensures text { IfErr result (λ e. e.what ≢ What.Read) }
     {
         let line = self.line_number();
         match step(self.place, &self.line) {
@@ -120,14 +126,16 @@ impl ScriptReader {
 }
 
 impl ScriptReader {
-    ghost use Rattle.ck_script.specs.State.{answer_of};
+    ghost use Rattle.ck_script.specs.State.{answer_of, size_of, IsWithinLimits};
 
     // Takes a block of bytes.
     fn feed(&mut self, block: &[u8]) -> Result<(), ScriptFault>
-        requires { IsLine self.old.line.items }
-        ensures line { OnOk result (IsLine self.new.line.items) }
+        requires { IsWithinLimits self.old }
+        ensures limits { OnOk result (IsWithinLimits self.new) }
+        ensures size { OnOk result (size_of self.old + length block.now ≤ size_of self.new) }
         ensures ok { OnOk result ((more : List ℕ) → answer_of self.new more ≡ answer_of self.old (block.now ++ more)) }
         ensures err { IfErr result (λ e. (more : List ℕ) → OnTextFault e.what (answer_of self.old (block.now ++ more) ≡ Err e)) }
+        ensures text { IfErr result (λ e. e.what ≢ What.Read) }
     {
         let mut rest = block;
         while let Some((line, after)) = cut_line(rest) {
@@ -155,8 +163,9 @@ impl ScriptReader {
 
     // The commands, where the input ends here.
     fn finish(self) -> Result<Script, ScriptFault>
-        requires { IsLine self.line.items }
-        ensures { IsAnswer (λ s. s.commands.items) result (answer_of self []) }
+        requires { IsWithinLimits self }
+        ensures answer { IsAnswer (λ s. s.commands.items) result (answer_of self []) }
+        ensures text { IfErr result (λ e. e.what ≢ What.Read) }
     {
         if self.is_complete() {
             return Ok(Script {
@@ -171,7 +180,7 @@ impl ScriptReader {
     }
 
     fn new(alloc: Global) -> Self
-        ensures line { IsLine result.line.items }
+        ensures limits { IsWithinLimits result }
         ensures whole { (bytes : List ℕ) → answer_of result bytes ≡ answer bytes }
     {
         ScriptReader {
@@ -187,11 +196,13 @@ const BLOCK: usize = 4096;
 // Reads to the end of the source.
 fn read_all<R: Source>(alloc: Global, source: &mut R) -> Result<Script, ScriptFault>
     requires { R.has_failed source.old ≡ false }
-    ensures { IfSome (R.left source.old) (λ bytes. IsAnswer (λ s. s.commands.items) result (answer bytes)) }
+    ensures answer { IfSome (R.left source.old) (λ bytes. IsAnswer (λ s. s.commands.items) result (answer bytes)) }
+    ensures works { OnOk result (R.has_failed source.new ≡ false) }
+    ensures failed { IfErr result (λ e. (e.what ≡ What.Read) ↔ (R.has_failed source.new ≡ true)) }
 {
     let mut reader = ScriptReader::new(alloc);
     let mut block = [0; BLOCK];
-    for _ in 0..u64::MAX {
+    loop {
         match source.read(&mut block) {
             Err(_) => {
                 let line = reader.line_number();
@@ -207,11 +218,6 @@ fn read_all<R: Source>(alloc: Global, source: &mut R) -> Result<Script, ScriptFa
             },
         }
     }
-    let line = reader.line_number();
-    Err(ScriptFault {
-        line,
-        what: What::Memory,
-    })
 }
 
 /// Reads a script to its end. An `Err` is the first fault of the input, want of memory or a failed read.
@@ -221,6 +227,9 @@ pub fn read_script<R: Source>(alloc: Global, source: &mut R) -> Result<Script, S
     ensures spelled { IfSome (R.left source.old) (λ bytes. IfOk result (λ s. Spells bytes s.commands.items)) }
     // A fault is the first one.
     ensures fault { IfSome (R.left source.old) (λ bytes. IfErr result (λ e. OnTextFault e.what (first_fault bytes ≡ Some e))) }
+    // The source has failed exactly where the fault says so.
+    ensures works { OnOk result (R.has_failed source.new ≡ false) }
+    ensures failed { IfErr result (λ e. (e.what ≡ What.Read) ↔ (R.has_failed source.new ≡ true)) }
     // Which script or fault it is.
     ensures exact { IfSome (R.left source.old) (λ bytes. IsAnswer (λ s. s.commands.items) result (answer bytes)) }
 {

@@ -1,4 +1,4 @@
-use Rattle.std.proofs.Common.{◌+◌, ◌≤◌, length, arith}
+use Rattle.std.proofs.Common.{arith}
 use Rattle.std.proofs.lemmas.List.{length-drop}
 use Rattle.ck_script.proofs.Cuts.{to_end}
 use Rattle.ck_script.proofs.Writing.{Appends-more, works_on}
