@@ -1,21 +1,16 @@
 -- What holds of a search still holds once a full bucket was taken.
 use Rattle.std.proofs.Common.{◌≡◌, ℕ, ◌+◌, ◌*◌, ◌^◌, ◌<◌, ◌≤◌, ◌⊎◌, false, List, [], ◌++◌, length, Some, refl, sym, ◌∙◌, ap, subst, inl, inr, arith, length-append, add-one}
 use Rattle.std.specs.Prelude.{slice_get}
-use Rattle.std.proofs.Math.Nat.{mod-lt}
 use Rattle.std.proofs.lemmas.Bool.{cases_lt}
-use Rattle.std.proofs.lemmas.Nat.{pow_pos}
 use Rattle.std.proofs.lemmas.Option.{none-some, slice_get_within}
 use Rattle.ck_model.specs.Arithmetic.{alternate_of}
 use Rattle.ck_path.specs.declared.node.Node.{Node}
 use Rattle.ck_model.specs.Sketches.{Sketch, has_free}
 use Rattle.ck_path.specs.Queue.{Queue, children, room_of, IsBelow, IsSoundNode, IsSound}
 use Rattle.ck_path.specs.Progress.{Covers, IsSearchSeeing, IsSearchOver}
+use Rattle.ck_model.proofs.Buckets.{alternate_below}
 use Rattle.ck_path.proofs.Lists.{get_cases, get_left, get_right, same_get}
 use Rattle.ck_path.proofs.Below.{IsChild, HasOther, children_short, children_sound, children_complete}
-
-pub alternate_below : (p t b : ℕ) → alternate_of p t b < 2 ^ p
-unfolding alternate_of
-alternate_below p t b = mod-lt _ (pow_pos p)
 
 lt_cases : (k m : ℕ) → k < m + 1 → (k < m) ⊎ (k ≡ m)
 lt_cases k m h = elim (cases_lt k m) [ inl lt ↦ inl lt | inr ge ↦ inr (omega arith) ]

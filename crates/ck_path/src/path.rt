@@ -11,12 +11,16 @@ use std::marker::Model;
 /// The most hops of a path.
 pub const MAX_HOPS: usize = 4;
 
-/// Hops from bucket to bucket, and a bucket with a free slot at their end.
+/// A way to make room in a bucket of a key: hops from there, each from a full bucket to the other bucket of an entry, and
+/// at their end a bucket with a free slot. With no hop that is the key's bucket itself.
+///
+/// It says what was seen. Where others may have changed the buckets since, each hop has to be looked at again when it is
+/// carried out.
 #[derive(Drop)]
 pub struct Path {
     power: u32,
     end: u64,
-    // From the end backwards, which is the order in which they are carried out.
+    // From the end backwards: so they are found, on the way up from the last node, and so they are carried out.
     hops: ArrayVec<Hop, MAX_HOPS>,
 }
 
@@ -34,7 +38,7 @@ impl Model for Path {
 impl Path {
     ghost use Rattle.ck_path.specs.Route.{IsLinked};
 
-    /// The path from the root above `last` to `last`.
+    /// The path from the root above `last` to the bucket of `last`.
     pub(crate) fn to(nodes: &[Node], power: u32, last: Node) -> Path
         requires power { power ≤ 26 }
         requires each { AreSound power nodes.now }
@@ -61,7 +65,7 @@ impl Path {
         }
     }
 
-    /// The power of the table that was searched.
+    /// The power at which the search was started: the table had 2^power buckets.
     pub fn power(&self) -> u32
         ensures value { result ≡ self.now.power }
         ensures linked { IsLinked self.now }
@@ -69,14 +73,16 @@ impl Path {
         self.power
     }
 
-    /// The bucket with a free slot.
+    /// The bucket at the end, in which a free slot was seen: the first hop to be carried out goes there.
     pub fn end(&self) -> u64
         ensures { result ≡ self.now.end }
     {
         self.end
     }
 
-    /// The hops in the order in which they are carried out: the last of the path first.
+    /// The hops, at most four, in the order in which they are carried out: the last one of the path first, and each goes
+    /// to the bucket that the hop before it has left. So each finds a free slot, and no entry is without a bucket at any
+    /// moment.
     pub fn hops_from_end(&self) -> &[Hop]
         ensures { result.now ≡ reverse self.now.hops }
     {
