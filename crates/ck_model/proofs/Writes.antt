@@ -9,7 +9,8 @@ use Rattle.std.proofs.lemmas.Bool.{cases_eq}
 use Rattle.std.proofs.lemmas.Option.{none-some, some_pair_parts}
 use Rattle.ck_model.specs.Map.{Name, name_cmp}
 use Rattle.ck_model.specs.Slots.{Slot, slot_at}
-use Rattle.ck_model.specs.Contents.{Layout, Content, row_at, pairs_in, IsBucketOf, NamesApart, IsSound}
+use Rattle.ck_model.specs.declared.contents.Content.{Content}
+use Rattle.ck_model.specs.Contents.{Layout, row_at, pairs_in, IsBucketOf, NamesApart, IsSound}
 use Rattle.ck_model.proofs.Belongs.{found_entry}
 use Rattle.ck_model.proofs.Moves.{Between, slot_between, row_between, length-between, IsOf, value_in, find-between, find-between_other, apart-between, apart_without}
 

@@ -1,10 +1,13 @@
 -- One more command is answered, and all of them are an output.
-use Rattle.std.proofs.Common.{◌≡◌, ◌≢◌, ℕ, Bool, true, false, cond, eqb, ne_eqb, List, [], ◌∷◌, ◌++◌, sym, refl, ap, ◌∙◌, subst, append_assoc, append-nil, inl, inr, ⊎_elim}
+use Rattle.std.proofs.Common.{Result, Ok, Err, map, ◌≡◌, ◌≢◌, ℕ, Bool, true, false, cond, eqb, ne_eqb, List, [], ◌∷◌, ◌++◌, sym, refl, ap, ◌∙◌, subst, append_assoc, append-nil, inl, inr, ⊎_elim}
+use Rattle.std.specs.Prelude.{IfOk}
+use Rattle.std.specs.Ordering.{nat_cmp}
 use Rattle.std.specs.FinMap.{empty, entries}
 use Rattle.ck_model.specs.declared.history.Entry.{Entry}
-use Rattle.ck_model.specs.Map.{Map, Step}
+use Rattle.ck_model.specs.Map.{Map, Step, named, ListsInOrder}
 use Rattle.ck_model.specs.History.{Leads, After, calls_by, IsShuffle}
 use Rattle.ck_model.specs.Numbered.{Holds}
+use Rattle.ck_model.proofs.Entries.{alone, entries_listed}
 use Rattle.ck_key.specs.declared.num_key.NumKey.{NumKey}
 use Rattle.ck_script.specs.declared.script.Command.{Command}
 use Rattle.ck_script.specs.declared.script.Command.TheVariants as command
@@ -94,3 +97,16 @@ output_of_answered script answers m out all text = record {
   legal = all.legal;
   text = text;
 }
+
+-- a command is answered by one entry
+pub by_one : (c d : Command NumKey) (a : Answer) (m m2 : Map ℕ) (e : Entry ℕ) → c ≡ d → StandsFor 0 d a (e ∷ []) → Step m e.call e.reply m2 → IsAnswered c a m m2
+by_one c d a m m2 e same stands step = subst (λ (x : Command NumKey). IsAnswered x a m m2) (sym same) (e ∷ [], stands, (m2, step, refl))
+
+-- the text of the answers and of the pairs in rising order is an output
+pub output_of_pairs : {T E : Type 0} (items : T → List ℕ) (r : Result T E) (script : Script) (commands : List (Command NumKey)) (answers : List Answer) (pairs : List (NumKey × ℕ)) (m : Map ℕ)
+    → commands ≡ script.commands.items → AreAnswered commands answers m → ListsInOrder (λ (k : NumKey). k.0 ∷ []) (λ (a b : NumKey). nat_cmp a.0 b.0) pairs m
+    → IfOk r (λ t. items t ≡ output_text (answers ∷ []) (map (named (λ (k : NumKey). k.0 ∷ [])) pairs)) → IfOk r (λ t. IsOutputOf script (items t))
+output_of_pairs items (Ok t) script commands answers pairs m same all listed text =
+    output_of_answered script answers m (items t) (subst (λ (cs : List (Command NumKey)). AreAnswered cs answers m) same all)
+    (text ∙ ap (output_text (answers ∷ [])) (entries_listed (λ (k : NumKey). k.0 ∷ []) (λ (a b : NumKey). nat_cmp a.0 b.0) (λ a b. alone a.0 b.0) pairs m listed))
+output_of_pairs items (Err e) script commands answers pairs m same all listed text = tt

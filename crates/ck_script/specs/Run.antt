@@ -2,8 +2,8 @@
 use Rattle.std.specs.Prelude.{◌≡◌, ℕ, ◌<◌, List, Option, Bool, true, false, length, take}
 use Rattle.std.specs.Io.KnownBytes.{Appends}
 use Rattle.ck_script.specs.declared.script.Script.{Script}
-use Rattle.ck_script.specs.declared.run.RunFault.{RunFault}
-use Rattle.ck_script.specs.declared.run.RunFault.TheVariants.{Memory, Write}
+use Rattle.ck_script.specs.declared.runner.RunFault.{RunFault}
+use Rattle.ck_script.specs.declared.runner.RunFault.TheVariants.{Memory, Write}
 use Rattle.ck_script.specs.Output.{IsOutputOf}
 
 -- the sink took a text that belongs to the script
