@@ -7,11 +7,9 @@ mod request;
 #[cfg(test)]
 mod tests;
 
-use std::env;
-use std::io;
-use std::process::ExitCode;
-
 use program::program;
+use std::process::ExitCode;
+use std::{env, io};
 
 // The words after the program's name.
 fn words_of(rt: &HostRuntime) -> io::Result<Vec<String>> {

@@ -8,7 +8,11 @@ use std::io::{Read, Write};
 use std::rt::Files;
 
 // Reads a script whole, and runs it.
-fn run_from<I: Read + Drop, O: Write + Drop>(alloc: Global, input: I, output: O) -> Result<(), Failure> {
+fn run_from<I: Read + Drop, O: Write + Drop>(
+    alloc: Global,
+    input: I,
+    output: O,
+) -> Result<(), Failure> {
     let mut source = FromRead::new(input);
     let script = match read_script(alloc, &mut source) {
         Ok(script) => script,

@@ -1,13 +1,11 @@
 //! The program on words and scripts, with what it must write.
 use crate::program::program;
 use std::alloc::Global;
-use std::env;
-use std::fs;
-use std::io;
 use std::io::Write;
 use std::process::Abort;
 use std::rt::{Env, Files};
 use std::test::Fail;
+use std::{env, fs, io};
 
 fn words_of(alloc: Global, words: &[&str]) -> Result<Vec<String>, Fail> {
     let mut all = Vec::new(alloc);
@@ -28,8 +26,16 @@ fn check<R: Abort + Files>(
     let words = words_of(alloc, words)?;
     let (mut out, mut err) = (Vec::new(alloc), Vec::new(alloc));
     let got = program(rt, alloc, &words, input.as_bytes(), &mut out, &mut err);
-    assert_eq!(rt; out.as_slice(), output.as_bytes(), "the output of {input:?}");
-    assert_eq!(rt; err.as_slice(), errors.as_bytes(), "the errors of {input:?}");
+    assert_eq!(rt;
+        out.as_slice(),
+        output.as_bytes(),
+        "the output of {input:?}"
+    );
+    assert_eq!(rt;
+        err.as_slice(),
+        errors.as_bytes(),
+        "the errors of {input:?}"
+    );
     assert_eq!(rt; got, status, "the status of {input:?}");
     Ok(())
 }
@@ -94,7 +100,13 @@ fn words(rt: HostRuntime) -> Result<(), Fail> {
         &["make", "--seed", "1", "--workers", "1", "--lines", "1"],
     ];
     for words in refused {
-        check(&rt, rt.alloc(), words, "", (2, "", "cuckoo: bad arguments\n"))?;
+        check(
+            &rt,
+            rt.alloc(),
+            words,
+            "",
+            (2, "", "cuckoo: bad arguments\n"),
+        )?;
     }
     check(
         &rt,
