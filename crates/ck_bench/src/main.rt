@@ -1,5 +1,6 @@
-//! Times of the search for a displacement path, on one core. With the word `run` it measures; with no word it only says so,
-//! so that what it prints doesn't depend on the machine.
+//! Times of the search for a displacement path, on one core: of a whole search, which finds no path, and of one that finds
+//! a path of one hop in the third bucket that it looks at. With the word `run` it measures; with no word it only says so, so
+//! that what it prints doesn't depend on the machine.
 #![tactic(auto)]
 
 ghost use Rattle.std.specs.Prelude.{◌<◌, ◌^◌};
@@ -14,6 +15,9 @@ use std::{env, io};
 type Sketch = [Option<u8>; 4];
 
 const POWER: u32 = 16;
+
+/// More buckets than a search looks at.
+const ALL: u32 = 1000;
 
 /// How many searches are timed together.
 const SEARCHES: u64 = 20_000;
@@ -35,7 +39,7 @@ fn search(sketches: &[Sketch], first: u64, full: u32) -> (u32, u64)
     requires { first < 2 ^ 16 }
 {
     let mut search = Search::start(POWER, first, alternate(POWER, 0, first));
-    for looked in 0..1000 {
+    for looked in 0..ALL {
         let Some(bucket) = search.next_bucket() else {
             return (looked, 0);
         };
@@ -50,7 +54,7 @@ fn search(sketches: &[Sketch], first: u64, full: u32) -> (u32, u64)
             return (looked + 1, path.end().wrapping_add(moved));
         }
     }
-    (1000, 0)
+    (ALL, 0)
 }
 
 /// The time of one search in nanoseconds, and the last one's buckets and a sum of all ends.
@@ -69,7 +73,7 @@ fn measure(rt: &impl Clock, sketches: &[Sketch], full: u32) -> io::Result<(u128,
 
 fn run(rt: &HostRuntime) -> io::Result<()> {
     let sketches = full_sketches(rt.alloc())?;
-    for (what, full) in [("no path", 1000u32), ("one hop", 2)] {
+    for (what, full) in [("no path", ALL), ("one hop", 2)] {
         let (time, buckets, sum) = measure(rt, &sketches, full)?;
         println!(rt; "{what}: {time} ns for {buckets} buckets (sum {sum})")?;
     }
