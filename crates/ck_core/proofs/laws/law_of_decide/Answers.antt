@@ -1,0 +1,6 @@
+use Rattle.ck_core.specs.Steps.Move.{Decide}
+use Rattle.ck_core.proofs.Statements.{law_of_step}
+use Rattle.ck_core.proofs.laws.law_of_decide.Goals as goal
+
+pub returns : goal.returns
+returns g c = λ t ks e. law_of_step (Decide t ks e)

@@ -1,0 +1,58 @@
+//! The laws of the core. The functions do nothing: their contracts are the laws.
+ghost use Rattle.std.specs.Prelude.{ℕ, Option};
+ghost use Rattle.ck_model.specs.declared.history.Entry.{Entry};
+ghost use Rattle.ck_model.specs.declared.history.Why.{Why};
+ghost use Rattle.ck_model.specs.Map.{Name};
+ghost use Rattle.ck_model.specs.Contents.{Stripes};
+ghost use Rattle.ck_core.specs.Steps.Move.{Take, FindHeld, Give, Decide, GiveRest, Renew, Look, Open, Tell, Join};
+ghost use Rattle.ck_core.specs.Laws.{LawOfRuns, Keeps};
+
+/// A step by which a caller takes a stripe that is at home keeps the law.
+pub fn law_of_take<V>()
+    ensures { (t : ℕ) → Keeps {V = V} (Take t) }
+{}
+
+/// A step by which a caller finds a stripe held keeps the law.
+pub fn law_of_find_held<V>()
+    ensures { (t : ℕ) → Keeps {V = V} (FindHeld t) }
+{}
+
+/// A step by which a caller gives back a stripe unchanged keeps the law, whatever it says of room.
+pub fn law_of_give<V>()
+    ensures { (t : ℕ) (g : Option (Name × Why)) → Keeps {V = V} (Give t g) }
+{}
+
+/// A step by which a caller gives back the first stripe after a section, and so decides a call, keeps the law: the
+/// entry joins the history.
+pub fn law_of_decide<V>()
+    ensures { (t : ℕ) (ks : Stripes V) (e : Entry V) → Keeps (Decide t ks e) }
+{}
+
+/// A step by which a caller gives back a further stripe keeps the law.
+pub fn law_of_give_rest<V>()
+    ensures { (t : ℕ) → Keeps {V = V} (GiveRest t) }
+{}
+
+/// A step by which a caller gives back the first stripe after an identity section, as a displacement or a doubling is,
+/// keeps the law.
+pub fn law_of_renew<V>()
+    ensures { (t : ℕ) (ks : Stripes V) (g : Option (Name × Why)) → Keeps (Renew t ks g) }
+{}
+
+/// A step by which a caller sees the history and may be told a greater power keeps the law.
+pub fn law_of_look<V>()
+    ensures { (t p : ℕ) → Keeps {V = V} (Look t p) }
+{}
+
+/// The steps by which a new caller begins, by which a caller tells what it has seen, and by which a caller joins
+/// another view to its own keep the law.
+pub fn law_of_splits<V>()
+    ensures opening { Keeps {V = V} Open }
+    ensures telling { Keeps {V = V} Tell }
+    ensures joining { (other : ℕ) → Keeps {V = V} (Join other) }
+{}
+
+/// Whatever callers do from an opening state on, the law holds after each step, with the history of what was decided.
+pub fn law_of_runs<V>()
+    ensures { LawOfRuns V }
+{}

@@ -1,0 +1,5 @@
+//! The core of the table: its state, its steps, and the law that every run of them keeps.
+#![tactic(auto)]
+
+pub mod laws;
+pub mod view;
