@@ -4,3 +4,6 @@ pub mod Callers
 pub mod Keeps
 pub mod Openings
 pub mod Statements
+pub mod Shown
+pub mod Sums
+pub mod ExampleRun

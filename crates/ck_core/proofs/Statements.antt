@@ -1,8 +1,9 @@
 -- The laws, as the contracts state them.
 use Rattle.ck_core.specs.Steps.{Move}
-use Rattle.ck_core.specs.Laws.{LawOfRuns, Keeps}
+use Rattle.ck_core.specs.Laws.{LawOfRuns, Keeps, LawOfViews}
 use Rattle.ck_core.proofs.Keeps.{step_keeps}
 use Rattle.ck_core.proofs.Openings.{runs_keep}
+use Rattle.ck_core.proofs.Shown.{shows}
 
 module _ {V : Type 0} where
   pub law_of_runs : LawOfRuns V
@@ -10,3 +11,6 @@ module _ {V : Type 0} where
 
   pub law_of_step : (m : Move V) → Keeps m
   law_of_step m k min_load callers id log s s2 law d = step_keeps k min_load callers log id m s s2 law d
+
+  pub law_of_views : LawOfViews V
+  law_of_views k callers log s law j v at = shows k callers log s law j v at

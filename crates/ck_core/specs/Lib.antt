@@ -1,3 +1,5 @@
 pub mod State
 pub mod Steps
 pub mod Laws
+pub mod Sums
+pub mod Example

@@ -5,7 +5,8 @@ ghost use Rattle.ck_model.specs.declared.history.Why.{Why};
 ghost use Rattle.ck_model.specs.Map.{Name};
 ghost use Rattle.ck_model.specs.Contents.{Stripes};
 ghost use Rattle.ck_core.specs.Steps.Move.{Take, FindHeld, Give, Decide, GiveRest, Renew, Look, Open, Tell, Join};
-ghost use Rattle.ck_core.specs.Laws.{LawOfRuns, Keeps};
+ghost use Rattle.ck_core.specs.Laws.{LawOfRuns, Keeps, LawOfViews};
+ghost use Rattle.ck_core.specs.Sums.{LawOfSums};
 
 /// A step by which a caller takes a stripe that is at home keeps the law.
 pub fn law_of_take<V>()
@@ -55,4 +56,18 @@ pub fn law_of_splits<V>()
 /// Whatever callers do from an opening state on, the law holds after each step, with the history of what was decided.
 pub fn law_of_runs<V>()
     ensures { LawOfRuns V }
+{}
+
+/// What each view shows while the law holds: what was seen and heard are beginnings of one legal history, which has of
+/// its caller just the entries that are its own, all of them seen. The held stripes are lawful, and where they are all
+/// stripes, the history leads to what they contain. Where a view keeps the numbers of all callers, the history is a
+/// shuffle of their entries.
+pub fn law_of_views<V>()
+    ensures { LawOfViews V }
+{}
+
+/// Where from some point of a legal history on each entry is a find, a len, a session that changes nothing, or a
+/// change of two that keeps the sum of their values, every later session shows the sum of that point.
+pub fn law_of_sums()
+    ensures { LawOfSums }
 {}
