@@ -7,3 +7,4 @@ pub mod Statements
 pub mod Shown
 pub mod Sums
 pub mod ExampleRun
+pub mod Answers

@@ -6,11 +6,12 @@ use Rattle.ck_model.specs.declared.history.Entry.{Entry}
 use Rattle.ck_model.specs.declared.settings.Settings.{Settings}
 use Rattle.ck_model.specs.Numbered.{IsIn, numbers}
 use Rattle.ck_model.specs.History.{After, IsLegal, StartsWith, calls_by, IsShuffle}
-use Rattle.ck_model.specs.Contents.{Layout, bindings, Lawful}
+use Rattle.ck_model.specs.Contents.{Layout, Stripes, bindings, Lawful}
 use Rattle.ck_model.specs.Sections.{HasAll}
 use Rattle.ck_core.specs.declared.view.View.{View}
 use Rattle.ck_core.specs.State.{World, Law, owned}
 use Rattle.ck_core.specs.Steps.{Move, Does, grown, Runs, Opening}
+use Rattle.ck_core.specs.Steps.Move.{Take, FindHeld, Give, Decide, GiveRest, Renew, Look, Open, Tell, Join}
 
 module _ (V : Type 0) where
   -- Whatever callers do from an opening state on, the law holds after it with the history of what was decided.
@@ -22,6 +23,19 @@ module _ {V : Type 0} where
   -- a step of this kind keeps the law
   abbrev pub Keeps : Move V → Type 0
   Keeps m = (k : Layout) (min_load callers id : ℕ) (log : List (Entry V)) (s s2 : World V) → Law k callers log s → Does k min_load log id m s s2 → Law k callers (grown log m) s2
+
+  -- the step decides a call
+  abbrev pub IsDeciding : Move V → Type 0
+  IsDeciding (Decide t ks e) = Unit {0}
+  IsDeciding (Take t) = ⊥
+  IsDeciding (FindHeld t) = ⊥
+  IsDeciding (Give t g) = ⊥
+  IsDeciding (GiveRest t) = ⊥
+  IsDeciding (Renew t ks g) = ⊥
+  IsDeciding (Look t p) = ⊥
+  IsDeciding Open = ⊥
+  IsDeciding Tell = ⊥
+  IsDeciding (Join other) = ⊥
 
   -- what a caller's own stripes and numbers show
   pub record Shows (k : Layout) (callers : ℕ) (log : List (Entry V)) (v : View V) : Type 0 where
@@ -55,3 +69,13 @@ module _ (V : Type 0) where
   -- under the law each view shows what it says
   abbrev pub LawOfViews : Type 0
   LawOfViews = (k : Layout) (callers : ℕ) (log : List (Entry V)) (s : World V) → Law k callers log s → (j : ℕ) (v : View V) → get_elem? s.views j ≡ some v → Shows k callers log v
+
+  -- under the law a step that decides leaves its caller with an answered call
+  abbrev pub LawOfAnswers : Type 0
+  LawOfAnswers = (k : Layout) (min_load callers id t : ℕ) (ks : Stripes V) (e : Entry V) (log : List (Entry V)) (s s2 : World V) (v w : View V) → Law k callers log s → Does k min_load log id (Decide t ks e) s s2
+      → get_elem? s.views id ≡ some v → get_elem? s2.views id ≡ some w → Answered v e w
+
+  -- and each other step leaves its caller with no entry more
+  abbrev pub LawOfOtherSteps : Type 0
+  LawOfOtherSteps = (k : Layout) (min_load callers id : ℕ) (m : Move V) (log : List (Entry V)) (s s2 : World V) (v w : View V) → ¬ (IsDeciding m) → Law k callers log s → Does k min_load log id m s s2
+      → get_elem? s.views id ≡ some v → get_elem? s2.views id ≡ some w → Unanswered v w

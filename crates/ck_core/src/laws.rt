@@ -5,7 +5,7 @@ ghost use Rattle.ck_model.specs.declared.history.Why.{Why};
 ghost use Rattle.ck_model.specs.Map.{Name};
 ghost use Rattle.ck_model.specs.Contents.{Stripes};
 ghost use Rattle.ck_core.specs.Steps.Move.{Take, FindHeld, Give, Decide, GiveRest, Renew, Look, Open, Tell, Join};
-ghost use Rattle.ck_core.specs.Laws.{LawOfRuns, Keeps, LawOfViews};
+ghost use Rattle.ck_core.specs.Laws.{LawOfRuns, Keeps, LawOfViews, LawOfAnswers, LawOfOtherSteps};
 ghost use Rattle.ck_core.specs.Sums.{LawOfSums};
 
 /// A step by which a caller takes a stripe that is at home keeps the law.
@@ -64,6 +64,14 @@ pub fn law_of_runs<V>()
 /// shuffle of their entries.
 pub fn law_of_views<V>()
     ensures { LawOfViews V }
+{}
+
+/// A step that decides a call leaves its caller with it answered: to what the caller had seen come some entries of
+/// others and then the call's own, all of that is legal, and the caller has this entry more. Every other step leaves
+/// its caller with the entries that it had, and with no less of the history seen.
+pub fn law_of_answers<V>()
+    ensures decided { LawOfAnswers V }
+    ensures other { LawOfOtherSteps V }
 {}
 
 /// Where from some point of a legal history on each entry is a find, a len, a session that changes nothing, or a
