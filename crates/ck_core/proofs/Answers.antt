@@ -1,16 +1,15 @@
 -- What a step leaves its caller with.
-use Rattle.std.proofs.Common.{◌≡◌, ◌≢◌, ℕ, List, ◌++◌, [], ◌∷◌, set, sym, refl, ap, ◌∙◌, subst, Some, None}
+use Rattle.std.proofs.Common.{◌≡◌, ℕ, List, ◌++◌, [], ◌∷◌, set, sym, refl, ap, ◌∙◌, subst}
 use mathlib.Core.Option.{some, some-injective}
 use lib.ListN.{get_elem?}
 use Rattle.ck_model.specs.declared.history.Entry.{Entry}
 use Rattle.ck_model.specs.History.{StartsWith}
-use Rattle.ck_model.specs.Contents.{Layout, Stripes}
 use Rattle.ck_model.proofs.Histories.{starts_itself}
 use Rattle.ck_core.specs.declared.view.View.{View}
-use Rattle.ck_core.specs.State.{World, Law}
-use Rattle.ck_core.specs.Steps.{Move, deciding, giving, joining, messenger, newcomer, spent, Does}
+use Rattle.ck_core.specs.State.{World}
+use Rattle.ck_core.specs.Steps.{deciding, joining, spent}
 use Rattle.ck_core.specs.Steps.Move.{Take, FindHeld, Give, Decide, GiveRest, Renew, Look, Open, Tell, Join}
-use Rattle.ck_core.specs.Laws.{Answered, Unanswered, LawOfAnswers, LawOfOtherSteps}
+use Rattle.ck_core.specs.Laws.{Unanswered, LawOfAnswers, LawOfOtherSteps}
 use Rattle.ck_core.proofs.Lists.{set_there, set_else, at_longer}
 use Rattle.ck_core.proofs.Keeps.{step_keeps}
 use Rattle.ck_core.proofs.Shown.{shows, answered}

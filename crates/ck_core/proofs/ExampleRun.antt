@@ -1,24 +1,26 @@
 -- The example run is one that the steps allow.
-use Rattle.std.proofs.Common.{◌≡◌, ℕ, zero, suc, ◌+◌, ◌*◌, ◌<◌, inl, inr, List, [], ◌∷◌, length, get_or, cond, sym, refl, ap, ◌∙◌, subst, ⊎_elim, arith, Option, Some, None}
+use Rattle.std.proofs.Common.{◌≡◌, ℕ, zero, suc, ◌+◌, ◌*◌, ◌<◌, inl, inr, List, [], ◌∷◌, ◌++◌, take, drop, length, get_or, cond, sym, refl, ap, ◌∙◌, subst, ⊎_elim, arith, Option, Some, None}
 use Rattle.std.proofs.lemmas.Option.{none-some, same_Some}
 use mathlib.Core.Option.{some, some-injective, some-ne-none}
 use lib.ListN.{get_elem?}
 use Rattle.std.specs.FinMap.{find, get, empty, get-empty}
 use Rattle.ck_model.specs.declared.history.Act.TheVariants.{Find, Insert}
 use Rattle.ck_model.specs.declared.history.Reply.TheVariants.{Was, New}
+use Rattle.ck_model.specs.declared.history.Entry.{Entry}
 use Rattle.ck_model.specs.declared.contents.Content.{Content}
 use Rattle.ck_model.specs.Map.{Name, name_cmp, Answers}
 use Rattle.ck_model.specs.Numbered.{IsIn, AreDistinct, numbers, Holds}
 use Rattle.ck_model.specs.Slots.{Slot, slot_at}
-use Rattle.ck_model.specs.Contents.{Binds, bindings, row_at, IsSound, Lawful}
+use Rattle.ck_model.specs.Contents.{Layout, Binds, bindings, row_at, IsSound, Lawful}
 use Rattle.ck_model.specs.Sections.{Section}
 use Rattle.ck_model.specs.Arithmetic.{index_of}
 use Rattle.ck_model.proofs.Names.{maps_alike, no_name}
 use Rattle.ck_model.proofs.Found.{get-bindings}
 use Rattle.ck_model.proofs.Belongs.{stripe_below}
 use Rattle.ck_core.specs.declared.view.View.{View}
-use Rattle.ck_core.specs.Steps.{opener}
-use Rattle.ck_core.specs.Example.{first_number, two_stripes, settings, zero_name, insertion, look_up, stripe, empty_stripe, full_stripe, both, first, second, start, ExampleOpens, ExampleRuns}
+use Rattle.ck_core.specs.State.{World}
+use Rattle.ck_core.specs.Steps.{Move, opener, grown, Runs}
+use Rattle.ck_core.specs.Example.{first_number, two_stripes, settings, zero_name, insertion, look_up, stripe, empty_stripe, full_stripe, both, first, second, start, one_held, decided, both_held, finish, steps, ExampleOpens, ExampleRuns}
 
 zero_bucket : 0 ≡ index_of 1 0
 unfolding index_of
@@ -158,5 +160,53 @@ above_zero u h = ⊎_elim (λ e. omega arith) (λ z. absurd z) h
 one_not_in : ¬ (IsIn 1 (0 ∷ []))
 one_not_in h = ⊎_elim (λ e. omega arith) (λ z. z) h
 
+-- one run after another
+runs_append : {V : Type 0} (k : Layout) (min_load : ℕ) (ms ns : List (ℕ × Move V)) (log log1 log2 : List (Entry V)) (s s1 s2 : World V)
+    → Runs k min_load log s ms log1 s1 → Runs k min_load log1 s1 ns log2 s2 → Runs k min_load log s (ms ++ ns) log2 s2
+runs_append {V} k min_load [] ns log log1 log2 s s1 s2 a b = subst (λ (x : List (Entry V) × World V). Runs k min_load x.0 x.1 ns log2 s2) (λ i. (sym a.0 i, sym a.1 i)) b
+runs_append k min_load (m ∷ ms) ns log log1 log2 s s1 s2 a b = (a.0, a.1, runs_append k min_load ms ns (grown log m.1) log1 log2 a.0 s1 s2 a.2 b)
+
+pub to_one_held : Runs two_stripes 0 [] start (take 1 steps) [] one_held
+to_one_held = (_, (first, empty_stripe, refl, omega arith, refl, nothing_above 0, refl, refl), (refl, refl))
+
+from_one_held : Runs two_stripes 0 [] one_held (take 3 (drop 1 steps)) (insertion ∷ []) decided
+from_one_held = (
+  _,
+  (second, refl, omega arith, refl, (λ h. h), refl),
+  (
+    _,
+    (_, empty_stripe, refl, omega arith, refl, above_zero, refl, refl),
+    (_, (_, full_stripe, refl, refl, inr (inl (refl, refl)), inserted, refl), (refl, refl)),
+  ),
+)
+
+pub to_decided : Runs two_stripes 0 [] start (take 4 steps) (insertion ∷ []) decided
+to_decided = runs_append two_stripes 0 (take 1 steps) (take 3 (drop 1 steps)) [] [] (insertion ∷ []) start one_held decided to_one_held from_one_held
+
+from_decided : Runs two_stripes 0 (insertion ∷ []) decided (take 4 (drop 4 steps)) (insertion ∷ []) both_held
+from_decided = (
+  _,
+  (_, full_stripe, refl, omega arith, refl, nothing_above 0, refl, refl),
+  (
+    _,
+    (_, refl, omega arith, refl, one_not_in, refl),
+    (
+      _,
+      (_, empty_stripe, refl, inl (refl, refl), refl),
+      (_, (_, empty_stripe, refl, omega arith, refl, above_zero, refl, refl), (refl, refl)),
+    ),
+  ),
+)
+
+pub to_both_held : Runs two_stripes 0 [] start (take 8 steps) (insertion ∷ []) both_held
+to_both_held = runs_append two_stripes 0 (take 4 steps) (take 4 (drop 4 steps)) [] (insertion ∷ []) (insertion ∷ []) start decided both_held to_decided from_decided
+
+from_both_held : Runs two_stripes 0 (insertion ∷ []) both_held (drop 8 steps) (insertion ∷ look_up ∷ []) finish
+from_both_held = (
+  _,
+  (_, full_stripe, refl, refl, inr (inl (refl, refl)), found, refl),
+  (_, (_, empty_stripe, refl, inl (refl, refl), refl), (refl, refl)),
+)
+
 pub runs : ExampleRuns
-runs = (_, (first, empty_stripe, refl, omega arith, refl, nothing_above 0, refl, refl), (_, (second, refl, omega arith, refl, (λ h. h), refl), (_, (_, empty_stripe, refl, omega arith, refl, above_zero, refl, refl), (_, (_, full_stripe, refl, refl, inr (inl (refl, refl)), inserted, refl), (_, (_, full_stripe, refl, omega arith, refl, nothing_above 0, refl, refl), (_, (_, refl, omega arith, refl, one_not_in, refl), (_, (_, empty_stripe, refl, inl (refl, refl), refl), (_, (_, empty_stripe, refl, omega arith, refl, above_zero, refl, refl), (_, (_, full_stripe, refl, refl, inr (inl (refl, refl)), found, refl), (_, (_, empty_stripe, refl, inl (refl, refl), refl), (refl, refl)))))))))))
+runs = runs_append two_stripes 0 (take 8 steps) (drop 8 steps) [] (insertion ∷ []) (insertion ∷ look_up ∷ []) start both_held finish to_both_held from_both_held

@@ -8,3 +8,4 @@ pub mod Shown
 pub mod Sums
 pub mod ExampleRun
 pub mod Answers
+pub mod WrongSteps

@@ -3,3 +3,4 @@ pub mod Steps
 pub mod Laws
 pub mod Sums
 pub mod Example
+pub mod Refusals

@@ -3,4 +3,5 @@
 
 pub mod example;
 pub mod laws;
+pub mod refusals;
 pub mod view;
