@@ -2,14 +2,16 @@
 use Rattle.std.proofs.Common.{◌≡◌, ℕ, List, ◌++◌, [], ◌∷◌, set, sym, refl, ap, ◌∙◌, subst}
 use mathlib.Core.Option.{some, some-injective}
 use lib.ListN.{get_elem?}
+use Rattle.std.specs.FinMap.{empty}
 use Rattle.ck_model.specs.declared.history.Entry.{Entry}
 use Rattle.ck_model.specs.History.{StartsWith}
-use Rattle.ck_model.proofs.Histories.{starts_itself}
+use Rattle.ck_model.specs.Contents.{bindings, whole}
+use Rattle.ck_model.proofs.Histories.{starts_itself, leads_to, leads_snoc}
 use Rattle.ck_core.specs.declared.view.View.{View}
 use Rattle.ck_core.specs.State.{World}
 use Rattle.ck_core.specs.Steps.{deciding, joining, spent}
 use Rattle.ck_core.specs.Steps.Move.{Take, FindHeld, Give, Decide, GiveRest, Renew, Look, Open, Tell, Join}
-use Rattle.ck_core.specs.Laws.{Unanswered, LawOfAnswers, LawOfOtherSteps}
+use Rattle.ck_core.specs.Laws.{Unanswered, LawOfReplies, LawOfAnswers, LawOfOtherSteps}
 use Rattle.ck_core.proofs.Lists.{set_there, set_else, at_longer}
 use Rattle.ck_core.proofs.Keeps.{step_keeps}
 use Rattle.ck_core.proofs.Shown.{shows, answered}
@@ -32,6 +34,12 @@ module _ {V : Type 0} where
       answered k callers log v w e (ap (λ (u : View V). u.by) (sym same) ∙ d.3) (shows k callers log s law id v at)
       (shows k callers (log ++ e ∷ []) s2 (step_keeps k min_load callers log id (Decide t ks e) s s2 law d) id w there)
       (ap (λ (u : View V). u.seen) (sym is)) (ap (λ (u : View V). u.mine) (sym is))
+
+  pub law_of_replies : LawOfReplies V
+  law_of_replies k min_load callers id t ks e log s s2 law d =
+      let after = step_keeps k min_load callers log id (Decide t ks e) s s2 law d in
+      let z = leads_to empty (bindings (whole k after.contents)) log (e ∷ []) after.legal in
+      (z.0, z.2.0, z.1, z.2.1, leads_snoc empty z.0 z.2.0 log e z.1 z.2.1)
 
   -- a step by which nothing more was seen
   same_seen : (v u x w : View V) → u ≡ v → x ≡ w → x.seen ≡ u.seen → x.mine ≡ u.mine → Unanswered v w

@@ -4,6 +4,7 @@ use mathlib.Core.Option.{some}
 use lib.ListN.{get_elem?}
 use Rattle.ck_model.specs.declared.history.Entry.{Entry}
 use Rattle.ck_model.specs.declared.settings.Settings.{Settings}
+use Rattle.ck_model.specs.Map.{Map, Step}
 use Rattle.ck_model.specs.Numbered.{IsIn, numbers}
 use Rattle.ck_model.specs.History.{After, IsLegal, StartsWith, calls_by, IsShuffle}
 use Rattle.ck_model.specs.Contents.{Layout, Stripes, bindings, Lawful}
@@ -69,6 +70,11 @@ module _ (V : Type 0) where
   -- under the law each view shows what it says
   abbrev pub LawOfViews : Type 0
   LawOfViews = (k : Layout) (callers : ℕ) (log : List (Entry V)) (s : World V) → Law k callers log s → (j : ℕ) (v : View V) → get_elem? s.views j ≡ some v → Shows k callers log v
+
+  -- under the law a call gets the plain map's reply at that point of the history
+  abbrev pub LawOfReplies : Type 0
+  LawOfReplies = (k : Layout) (min_load callers id t : ℕ) (ks : Stripes V) (e : Entry V) (log : List (Entry V)) (s s2 : World V) → Law k callers log s → Does k min_load log id (Decide t ks e) s s2
+      → (m : Map V) × (m2 : Map V) × After log m × Step m e.call e.reply m2 × After (log ++ e ∷ []) m2
 
   -- under the law a step that decides leaves its caller with an answered call
   abbrev pub LawOfAnswers : Type 0

@@ -5,7 +5,7 @@ ghost use Rattle.ck_model.specs.declared.history.Why.{Why};
 ghost use Rattle.ck_model.specs.Map.{Name};
 ghost use Rattle.ck_model.specs.Contents.{Stripes};
 ghost use Rattle.ck_core.specs.Steps.Move.{Take, FindHeld, Give, Decide, GiveRest, Renew, Look, Open, Tell, Join};
-ghost use Rattle.ck_core.specs.Laws.{LawOfRuns, Keeps, LawOfViews, LawOfAnswers, LawOfOtherSteps};
+ghost use Rattle.ck_core.specs.Laws.{LawOfRuns, Keeps, LawOfViews, LawOfReplies, LawOfAnswers, LawOfOtherSteps};
 ghost use Rattle.ck_core.specs.Sums.{LawOfSums};
 
 /// A step by which a caller takes a stripe that is at home keeps the law.
@@ -24,9 +24,10 @@ pub fn law_of_give<V>()
 {}
 
 /// A step by which a caller gives back the first stripe after a section, and so decides a call, keeps the law: the
-/// entry joins the history.
+/// entry joins the history, and its reply is the plain map's at that point.
 pub fn law_of_decide<V>()
-    ensures { (t : ℕ) (ks : Stripes V) (e : Entry V) → Keeps (Decide t ks e) }
+    ensures kept { (t : ℕ) (ks : Stripes V) (e : Entry V) → Keeps (Decide t ks e) }
+    ensures reply { LawOfReplies V }
 {}
 
 /// A step by which a caller gives back a further stripe keeps the law.
