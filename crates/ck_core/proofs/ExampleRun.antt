@@ -39,7 +39,7 @@ four : (o : Slot ℕ) (k : ℕ) (d : List (Slot ℕ)) → k < 1 → length (get_
 four o zero d l = refl
 four o (suc k) d l = absurd (omega arith)
 
-empty_sound : (t : ℕ) → t < 2 → IsSound two_stripes t empty_stripe
+pub empty_sound : (t : ℕ) → t < 2 → IsSound two_stripes t empty_stripe
 empty_sound t l = record {
   number = l;
   least = omega arith;

@@ -7,5 +7,6 @@ pub mod Statements
 pub mod Shown
 pub mod Sums
 pub mod ExampleRun
-pub mod Answers
+pub mod Answered
 pub mod WrongSteps
+pub mod Meeting

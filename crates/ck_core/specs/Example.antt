@@ -1,4 +1,4 @@
--- A run of two callers over two stripes: one inserts, the other finds.
+-- Two runs of two callers over two stripes: one inserts and the other finds; and one begins and meets the other.
 use Rattle.std.specs.Prelude.{ℕ, List, [], ◌∷◌, Some, None}
 use Rattle.ck_model.specs.declared.history.Act.TheVariants.{Find, Insert}
 use Rattle.ck_model.specs.declared.history.Call.TheVariants.{On}
@@ -11,8 +11,8 @@ use Rattle.ck_model.specs.Slots.{Slot}
 use Rattle.ck_model.specs.Contents.{Layout, Stripes}
 use Rattle.ck_core.specs.declared.view.View.{View}
 use Rattle.ck_core.specs.State.{World}
-use Rattle.ck_core.specs.Steps.{Move, Opening, Runs, newcomer}
-use Rattle.ck_core.specs.Steps.Move.{Take, FindHeld, Decide, GiveRest}
+use Rattle.ck_core.specs.Steps.{Move, Opening, Runs, newcomer, opener, spent}
+use Rattle.ck_core.specs.Steps.Move.{Take, FindHeld, Give, Decide, GiveRest, Renew, Look, Open, Tell, Join}
 
 -- the hash of a name is its first number, or 0
 abbrev pub first_number : Name → ℕ
@@ -100,3 +100,20 @@ ExampleOpens = Opening two_stripes settings 2 1 start
 -- the steps lead from the opening to the end, with a history of the two entries
 abbrev pub ExampleRuns : Type 0
 ExampleRuns = Runs two_stripes 0 [] start steps (insertion ∷ look_up ∷ []) finish
+
+-- one caller, which keeps the number of the other
+abbrev pub alone : World ℕ
+alone = record { words = 0 ∷ 0 ∷ []; homes = Some empty_stripe ∷ Some empty_stripe ∷ []; views = opener settings 0 1 (1 ∷ []) ∷ [] }
+
+-- the other caller has begun and met the first
+abbrev pub met : World ℕ
+met = record { words = 0 ∷ 0 ∷ []; homes = Some empty_stripe ∷ Some empty_stripe ∷ []; views = first ∷ record second { heard_told = 1 } ∷ spent ∷ [] }
+
+abbrev pub meeting : List (ℕ × Move ℕ)
+meeting = (0, Open) ∷ (0, Take 0) ∷ (0, Renew 0 ((0, empty_stripe) ∷ []) None) ∷ (0, Take 1) ∷ (0, Give 1 None) ∷ (0, Tell) ∷ (1, Join 2) ∷ (1, Look 0 1) ∷ []
+
+abbrev pub MeetingOpens : Type 0
+MeetingOpens = Opening two_stripes settings 2 1 alone
+
+abbrev pub MeetingRuns : Type 0
+MeetingRuns = Runs two_stripes 0 [] alone meeting [] met

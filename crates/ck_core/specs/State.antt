@@ -16,6 +16,7 @@ pub record World (V : Type 0) : Type 0 where
   pub views : List (View V)
 
 module _ {V : Type 0} where
+  -- a number with its entries, where there is one
   abbrev pub own : Option ℕ → List (Entry V) → List (ℕ × List (Entry V))
   own None l = []
   own (Some m) l = (m, l) ∷ []
@@ -55,7 +56,7 @@ module _ {V : Type 0} where
     pub knows : (j : ℕ) (v : View V) → get_elem? views j ≡ some v → Knows callers log v
     pub no_others : (m : ℕ) → callers ≤ m → calls_by m log ≡ []
 
-  -- The history law: each stripe is in its place or with one holder, the whole is lawful, no view was told a power above its own, each view knows a beginning of the history, and the history is legal and leads to the bindings of the whole.
+  -- The history law: each stripe is in its place or with one holder, the whole is lawful, no view was told a power above the table's, each view knows a beginning of the history, and the history is legal and leads to the bindings of the whole.
   pub record Law (k : Layout) (callers : ℕ) (log : List (Entry V)) (s : World V) : Type 0 where
     pub contents : ℕ → Content V
     pub places : Places (2 ^ k.s) s contents

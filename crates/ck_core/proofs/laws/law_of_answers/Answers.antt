@@ -1,4 +1,4 @@
-use Rattle.ck_core.proofs.Answers.{law_of_answers, law_of_other_steps}
+use Rattle.ck_core.proofs.Answered.{law_of_answers, law_of_other_steps}
 use Rattle.ck_core.proofs.laws.law_of_answers.Goals as goal
 
 pub returns : goal.returns

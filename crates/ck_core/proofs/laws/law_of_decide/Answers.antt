@@ -1,6 +1,6 @@
 use Rattle.ck_core.specs.Steps.Move.{Decide}
 use Rattle.ck_core.proofs.Statements.{law_of_step}
-use Rattle.ck_core.proofs.Answers.{law_of_replies}
+use Rattle.ck_core.proofs.Answered.{law_of_replies}
 use Rattle.ck_core.proofs.laws.law_of_decide.Goals as goal
 
 pub returns : goal.returns
