@@ -6,3 +6,4 @@ pub mod Faults
 pub mod Writing
 pub mod Progress
 pub mod Spelled
+pub mod Ends
