@@ -7,3 +7,4 @@ pub mod Answered
 pub mod Writing
 pub mod Progress
 pub mod Spelled
+pub mod Ends

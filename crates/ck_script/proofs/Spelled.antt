@@ -104,7 +104,7 @@ reading-script (header ∷ worker ∷ lines) cs h each few =
     ∙ ap (with_front []) (reading-step at.Settings at.Block 0 worker None lines (All-head IsLine worker lines later) (step_at-worker worker h.1) refl
     ∙ ap (with_front []) (reading-commands 0 lines cs h.2 (All-tail IsLine worker lines later) (omega arith)))
 
-parts-lines : (lines : List (List ℕ)) → All IsLine lines → parts (flat_map with_feed lines) ≡ lines ++ [] ∷ []
+pub parts-lines : (lines : List (List ℕ)) → All IsLine lines → parts (flat_map with_feed lines) ≡ lines ++ [] ∷ []
 parts-lines [] each = refl
 parts-lines (line ∷ lines) each =
     let ok : IsLine line = All-head IsLine line lines each in

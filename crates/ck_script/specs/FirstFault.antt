@@ -1,5 +1,5 @@
 -- The first fault of an input, from what stands before each line.
-use Rattle.std.specs.Prelude.{ℕ, ◌+◌, ◌-◌, List, [], ◌∷◌, ◌++◌, length, Option, Some, None, Bool, ◌&&◌, ◌==◌, nat_lt, if◌then◌else◌, codes}
+use Rattle.std.specs.Prelude.{◌⊎◌, ◌≡◌, ℕ, ◌+◌, ◌-◌, List, [], ◌∷◌, ◌++◌, length, Option, Some, None, Bool, ◌&&◌, ◌==◌, nat_lt, if◌then◌else◌, codes}
 use Rattle.std.specs.List.{list_any}
 use Rattle.std.specs.Result.{result_err}
 use Rattle.std.specs.Str.{bytes_eq}
@@ -55,3 +55,7 @@ first_fault_behind earlier (line ∷ next ∷ more) =
 
 abbrev pub first_fault : List ℕ → Option ScriptFault
 first_fault bytes = first_fault_behind [] (parts bytes)
+
+-- the line in which an input ends that has no fault before its end: the line in which it is truncated, or the one behind a whole script
+abbrev pub EndsIn : List ℕ → ℕ → Type 0
+EndsIn bytes line = (first_fault bytes ≡ Some (fault_at line is.Truncated)) ⊎ ((first_fault bytes ≡ None) × (line ≡ length (parts bytes)))

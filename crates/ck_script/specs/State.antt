@@ -1,5 +1,6 @@
 -- The words of `Reading` for what the reader keeps.
-use Rattle.std.specs.Prelude.{◌≡◌, ℕ, ◌+◌, ◌*◌, ◌≤◌, List, length, Option, Some, None, Result}
+use Rattle.std.specs.Prelude.{◌≡◌, ℕ, ◌+◌, ◌*◌, ◌≤◌, List, length, Option, Some, None, Result, ◌++◌}
+use Rattle.std.specs.Io.KnownBytes.{Consumes}
 use Rattle.ck_script.specs.Script.{NumCommand}
 use Rattle.ck_script.specs.declared.script.ScriptFault.{ScriptFault}
 use Rattle.ck_script.specs.declared.reader.ScriptReader.{ScriptReader}
@@ -23,3 +24,9 @@ abbrev pub KeepsAnswer : Option (List ℕ) → ScriptReader → Option (List ℕ
 KeepsAnswer None r now = Unit {0}
 KeepsAnswer (Some bytes) r None = ⊥
 KeepsAnswer (Some bytes) r (Some rest) = answer_of r rest ≡ answer bytes
+
+-- what was read, and what it says before any more
+pub record HasRead (before : Option (List ℕ)) (r : ScriptReader) (now : Option (List ℕ)) : Type 0 where
+  pub bytes : List ℕ
+  pub taken : Consumes before now bytes
+  pub same : (more : List ℕ) → answer_of r more ≡ answer (bytes ++ more)

@@ -1,8 +1,9 @@
 //! Reading a script, block by block.
 ghost use Rattle.std.specs.Prelude.{◌≡◌, ◌≢◌, ◌↔◌, ◌≤◌, ◌<◌, ◌+◌, ◌++◌, ◌∷◌, [], List, ℕ, length, true, false, Ok, Err, Some, OnOk, IfOk, IfErr, IfSome, IfNone, All};
+ghost use Rattle.std.specs.Io.KnownBytes.{Consumes};
 ghost use Rattle.ck_script.specs.declared.line.Place.{Place};
 ghost use Rattle.ck_script.specs.Spells.{Spells};
-ghost use Rattle.ck_script.specs.FirstFault.{first_fault};
+ghost use Rattle.ck_script.specs.FirstFault.{first_fault, EndsIn};
 ghost use Rattle.ck_script.specs.Script.{OnTextFault};
 ghost use Rattle.ck_script.specs.Lines.{is_feed};
 ghost use Rattle.ck_script.specs.Reading.{is_complete, commands_of, within_count, lines_before, answer, IsAnswer};
@@ -199,6 +200,7 @@ fn read_all<R: Source>(alloc: Global, source: &mut R) -> Result<Script, ScriptFa
     ensures answer { IfSome (R.left source.old) (λ bytes. IsAnswer (λ s. s.commands.items) result (answer bytes)) }
     ensures works { OnOk result (R.has_failed source.new ≡ false) }
     ensures failed { IfErr result (λ e. (e.what ≡ What.Read) ↔ (R.has_failed source.new ≡ true)) }
+    ensures cut { IfErr result (λ e. e.what ≡ What.Read → ((bytes : List ℕ) × Consumes (R.left source.old) (R.left source.new) bytes × EndsIn bytes e.line)) }
 {
     let mut reader = ScriptReader::new(alloc);
     let mut block = [0; BLOCK];
@@ -230,6 +232,8 @@ pub fn read_script<R: Source>(alloc: Global, source: &mut R) -> Result<Script, S
     // The source has failed exactly where the fault says so.
     ensures works { OnOk result (R.has_failed source.new ≡ false) }
     ensures failed { IfErr result (λ e. (e.what ≡ What.Read) ↔ (R.has_failed source.new ≡ true)) }
+    // It is then at the line in which the bytes end that were read, and these have no fault before their end.
+    ensures cut { IfErr result (λ e. e.what ≡ What.Read → ((bytes : List ℕ) × Consumes (R.left source.old) (R.left source.new) bytes × EndsIn bytes e.line)) }
     // Which script or fault it is.
     ensures exact { IfSome (R.left source.old) (λ bytes. IsAnswer (λ s. s.commands.items) result (answer bytes)) }
 {

@@ -1,11 +1,12 @@
 use Rattle.std.proofs.Common.{◌≡◌, ◌-◌, false}
-use Rattle.ck_script.specs.State.{KeepsAnswer, IsWithinLimits, size_of}
+use Rattle.ck_script.specs.State.{HasRead, KeepsAnswer, IsWithinLimits, size_of}
 use Rattle.ck_script.proofs.reader.read_all.Given as goal
 
 abbrev pub invariant-loop-reader : goal.invariant-loop-reader
 invariant-loop-reader g l = record {
   limits : IsWithinLimits l.reader;
   works : g.R.Source.has_failed l.source ≡ false;
+  read : HasRead (g.R.Source.left l.fn.source) l.reader (g.R.Source.left l.source);
   same : KeepsAnswer (g.R.Source.left l.fn.source) l.reader (g.R.Source.left l.source);
 }
 
