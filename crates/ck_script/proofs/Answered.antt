@@ -1,12 +1,11 @@
 -- One more command is answered, and all of them are an output.
-use Rattle.std.proofs.Common.{Result, Ok, Err, map, ◌≡◌, ◌≢◌, ℕ, Bool, true, false, cond, eqb, ne_eqb, List, [], ◌∷◌, ◌++◌, sym, refl, ap, ◌∙◌, subst, append_assoc, append-nil, inl, inr, ⊎_elim}
+use Rattle.std.proofs.Common.{Result, Ok, Err, map, ◌≡◌, ◌≢◌, ℕ, true, false, cond, eqb, ne_eqb, List, [], ◌∷◌, ◌++◌, sym, refl, ap, ◌∙◌, subst, append_assoc, append-nil, inl, ⊎_elim}
 use Rattle.std.specs.Prelude.{IfOk}
 use Rattle.std.specs.Ordering.{nat_cmp}
 use Rattle.std.specs.FinMap.{empty, entries}
 use Rattle.ck_model.specs.declared.history.Entry.{Entry}
 use Rattle.ck_model.specs.Map.{Map, Step, named, ListsInOrder}
-use Rattle.ck_model.specs.History.{Leads, After, calls_by, IsShuffle}
-use Rattle.ck_model.specs.Numbered.{Holds}
+use Rattle.ck_model.specs.History.{Leads, calls_by}
 use Rattle.ck_model.proofs.Entries.{alone, entries_listed}
 use Rattle.ck_key.specs.declared.num_key.NumKey.{NumKey}
 use Rattle.ck_script.specs.declared.script.Command.{Command}
@@ -91,9 +90,9 @@ output_of_answered script answers m out all text = record {
   map = m;
   stand = (refl, all.stand, refl);
   shuffle = record {
-      each = λ by l h. ⊎_elim (λ (e : (0 ≡ by) × (all.log ≡ l)). ap (λ (n : ℕ). calls_by n all.log) (sym e.0) ∙ all.own ∙ e.1) (λ h. absurd h) h;
-      no_others = λ by out. all.no_others by (λ e. out (inl (sym e)));
-    };
+    each = λ by l h. ⊎_elim (λ (e : (0 ≡ by) × (all.log ≡ l)). ap (λ (n : ℕ). calls_by n all.log) (sym e.0) ∙ all.own ∙ e.1) (λ h. absurd h) h;
+    no_others = λ by out. all.no_others by (λ e. out (inl (sym e)));
+  };
   legal = all.legal;
   text = text;
 }

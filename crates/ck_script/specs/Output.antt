@@ -7,7 +7,7 @@ use Rattle.ck_model.specs.declared.history.Call.TheVariants.{On}
 use Rattle.ck_model.specs.declared.history.Reply.{Reply}
 use Rattle.ck_model.specs.declared.history.Reply.TheVariants as reply
 use Rattle.ck_model.specs.declared.history.Entry.{Entry}
-use Rattle.ck_model.specs.Map.{Name, Map}
+use Rattle.ck_model.specs.Map.{Map}
 use Rattle.ck_model.specs.History.{After, IsShuffle}
 use Rattle.ck_key.specs.declared.num_key.NumKey.{NumKey}
 use Rattle.ck_script.specs.declared.script.Command.{Command}

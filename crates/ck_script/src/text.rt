@@ -58,7 +58,11 @@ fn add_pair(out: &mut Vec<u8>, pair: &(NumKey, u64)) -> Result<(), AllocError>
 }
 
 /// The text of one worker's answers and of the pairs of the map that they left.
-pub fn text_of(alloc: Global, answers: &[Answer], pairs: &[(NumKey, u64)]) -> Result<Vec<u8>, AllocError>
+pub fn text_of(
+    alloc: Global,
+    answers: &[Answer],
+    pairs: &[(NumKey, u64)],
+) -> Result<Vec<u8>, AllocError>
     ensures { IfOk result (λ text. text.items ≡ output_text (answers.now ∷ []) (map (named (λ (k : NumKey). k.0 ∷ [])) pairs.now)) }
 {
     let mut out = Vec::new(alloc);
