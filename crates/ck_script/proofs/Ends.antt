@@ -11,12 +11,12 @@ use Rattle.ck_script.specs.declared.line.Place.TheVariants as at
 use Rattle.ck_script.specs.declared.script.What.TheVariants as is
 use Rattle.ck_script.specs.declared.reader.ScriptReader.{ScriptReader}
 use Rattle.ck_script.specs.Lines.{IsLine, parts}
-use Rattle.ck_script.specs.Reading.{lines_before, is_complete, answer, answer_from}
+use Rattle.ck_script.specs.Parse.{lines_before, is_complete, parse, parse_from}
 use Rattle.ck_script.specs.Spells.{AreCommands, IsScript, Spells}
 use Rattle.ck_script.specs.FirstFault.{EndsIn}
-use Rattle.ck_script.specs.State.{answer_of, HasRead, KeepsAnswer}
-use Rattle.ck_script.proofs.AnswerFrom.{ends_well, ends_early}
-use Rattle.ck_script.proofs.Faults.{answer_fault}
+use Rattle.ck_script.specs.State.{parse_rest, HasRead, KeepsParse}
+use Rattle.ck_script.proofs.ParseFrom.{ends_well, ends_early}
+use Rattle.ck_script.proofs.Faults.{result_err-parse}
 use Rattle.ck_script.proofs.Spelling.{spelled}
 use Rattle.ck_script.proofs.Spelled.{parts-lines}
 
@@ -43,31 +43,31 @@ line_behind at.Block n line e = absurd (false≢true e)
 line_behind at.After n line e = omega arith
 
 -- the reader's line is the one in which the bytes end
-pub ends_in : (place : Place) (cs : List NumCommand) (line : List ℕ) (n : ℕ) (bytes : List ℕ) → IsLine line → n ≡ lines_before place (length cs) + 1 → answer_from place cs line [] ≡ answer (bytes ++ []) → EndsIn bytes n
+pub ends_in : (place : Place) (cs : List NumCommand) (line : List ℕ) (n : ℕ) (bytes : List ℕ) → IsLine line → n ≡ lines_before place (length cs) + 1 → parse_from place cs line [] ≡ parse (bytes ++ []) → EndsIn bytes n
 ends_in place cs line n bytes is_line at same =
-    let whole : answer_from place cs line [] ≡ answer bytes = same ∙ ap answer (append-nil bytes) in
+    let whole : parse_from place cs line [] ≡ parse bytes = same ∙ ap parse (append-nil bytes) in
     elim (cases_Bool (is_complete place line)) [
       | inl all ↦
-          let read : answer bytes ≡ Ok cs = sym whole ∙ ends_well place cs line is_line all in
-          inr (sym (answer_fault bytes) ∙ ap result_err read, at ∙ line_behind place (length cs) line all ∙ sym (length-parts bytes cs (spelled bytes cs read)))
+          let read : parse bytes ≡ Ok cs = sym whole ∙ ends_well place cs line is_line all in
+          inr (sym (result_err-parse bytes) ∙ ap result_err read, at ∙ line_behind place (length cs) line all ∙ sym (length-parts bytes cs (spelled bytes cs read)))
       | inr open_end ↦
-          let read : answer bytes ≡ Err (fault_at n is.Truncated) = sym whole ∙ ends_early place cs line n is_line at open_end in
-          inl (sym (answer_fault bytes) ∙ ap result_err read)
+          let read : parse bytes ≡ Err (fault_at n is.Truncated) = sym whole ∙ ends_early place cs line n is_line at open_end in
+          inl (sym (result_err-parse bytes) ∙ ap result_err read)
     ]
 
 -- what was read and what is left say what all of the bytes say
-pub KeepsAnswer-read : (before now : Option (List ℕ)) (r : ScriptReader) → HasRead before r now → KeepsAnswer before r now
-KeepsAnswer-read None now r read = tt
-KeepsAnswer-read (Some bytes) None r read = read.taken
-KeepsAnswer-read (Some bytes) (Some rest) r read = read.same rest ∙ ap answer (sym read.taken)
+pub KeepsParse-read : (before now : Option (List ℕ)) (r : ScriptReader) → HasRead before r now → KeepsParse before r now
+KeepsParse-read None now r read = tt
+KeepsParse-read (Some bytes) None r read = read.taken
+KeepsParse-read (Some bytes) (Some rest) r read = read.same rest ∙ ap parse (sym read.taken)
 
 -- a block more was read
 pub HasRead-more : (before between now : Option (List ℕ)) (r s : ScriptReader) (block : List ℕ) → HasRead before r between → Consumes between now block
-    → ((more : List ℕ) → answer_of s more ≡ answer_of r (block ++ more)) → HasRead before s now
+    → ((more : List ℕ) → parse_rest s more ≡ parse_rest r (block ++ more)) → HasRead before s now
 HasRead-more before between now r s block read taken same = record {
   bytes = read.bytes ++ block;
   taken = Consumes-trans before between now read.bytes block read.taken taken;
-  same = λ more. same more ∙ read.same (block ++ more) ∙ ap answer (sym (append_assoc read.bytes block more));
+  same = λ more. same more ∙ read.same (block ++ more) ∙ ap parse (sym (append_assoc read.bytes block more));
 }
 
 -- the read that failed took nothing

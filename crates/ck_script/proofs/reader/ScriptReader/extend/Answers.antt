@@ -1,5 +1,5 @@
 use Rattle.std.proofs.Common.{arith}
-use Rattle.ck_script.proofs.AnswerFrom.{too_long}
+use Rattle.ck_script.proofs.ParseFrom.{too_long}
 use Rattle.ck_script.proofs.reader.ScriptReader.extend.Goals as goal
 
 pub returns-then-piece-len-clause-err : goal.returns-then-piece-len-clause-err
