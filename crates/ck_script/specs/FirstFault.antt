@@ -3,6 +3,7 @@ use Rattle.std.specs.Prelude.{◌⊎◌, ◌≡◌, ℕ, ◌+◌, ◌-◌, List,
 use Rattle.std.specs.List.{list_any}
 use Rattle.std.specs.Result.{result_err}
 use Rattle.std.specs.Str.{bytes_eq}
+use Rattle.std.specs.Io.KnownBytes.{Consumes}
 use Rattle.ck_script.specs.declared.script.What.{What}
 use Rattle.ck_script.specs.declared.script.What.TheVariants as is
 use Rattle.ck_script.specs.declared.script.ScriptFault.{ScriptFault}
@@ -62,3 +63,10 @@ first_fault bytes = first_fault_behind [] (parts bytes)
 -- the line in which an input ends that has no fault before its end: the line in which it is truncated, or the one behind a whole script
 abbrev pub EndsIn : List ℕ → ℕ → Type 0
 EndsIn bytes line = (first_fault bytes ≡ Some (fault_at line is.Truncated)) ⊎ ((first_fault bytes ≡ None) × (line ≡ length (parts bytes)))
+
+-- of the bytes that a source gave, some that have no fault before their end come first, and they end in this line
+pub record StopsIn (before now : Option (List ℕ)) (line : ℕ) : Type 0 where
+  pub front : List ℕ
+  pub rest : List ℕ
+  pub given : Consumes before now (front ++ rest)
+  pub ends : EndsIn front line

@@ -31,3 +31,19 @@ pub record HasRead (before : Option (List ℕ)) (r : ScriptReader) (now : Option
   pub bytes : List ℕ
   pub taken : Consumes before now bytes
   pub same : (more : List ℕ) → parse_rest r more ≡ parse (bytes ++ more)
+
+-- a block was taken up to here
+pub record HasFed (start : ScriptReader) (block : List ℕ) (r : ScriptReader) (rest : List ℕ) : Type 0 where
+  pub fed : List ℕ
+  pub whole : block ≡ fed ++ rest
+  pub same : (more : List ℕ) → parse_rest r more ≡ parse_rest start (fed ++ more)
+
+-- the reader stopped in this line while it took the bytes
+pub record HasStopped (start : ScriptReader) (bytes : List ℕ) (line : ℕ) : Type 0 where
+  pub front : List ℕ
+  pub rest : List ℕ
+  pub whole : bytes ≡ front ++ rest
+  pub state : ScriptReader
+  pub is_line : IsLine state.line.items
+  pub line_is : line ≡ lines_before state.place (length state.commands.items) + 1
+  pub same : (more : List ℕ) → parse_rest state more ≡ parse_rest start (front ++ more)

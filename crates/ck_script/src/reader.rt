@@ -3,7 +3,7 @@ ghost use Rattle.std.specs.Prelude.{◌≡◌, ◌≢◌, ◌↔◌, ◌≤◌, 
 ghost use Rattle.std.specs.Io.KnownBytes.{Consumes};
 ghost use Rattle.ck_script.specs.declared.line.Place.{Place};
 ghost use Rattle.ck_script.specs.Spells.{Spells};
-ghost use Rattle.ck_script.specs.FirstFault.{first_fault, EndsIn};
+ghost use Rattle.ck_script.specs.FirstFault.{first_fault, EndsIn, StopsIn};
 ghost use Rattle.ck_script.specs.Script.{OnTextFault};
 ghost use Rattle.ck_script.specs.Lines.{is_feed};
 ghost use Rattle.ck_script.specs.Parse.{is_complete, commands_of, within_count, lines_before, parse, IsParsed};
@@ -59,7 +59,7 @@ fn keep(commands: &mut Vec<Command<NumKey>>, command: Option<Command<NumKey>>) -
 }
 
 impl ScriptReader {
-    ghost use Rattle.ck_script.specs.State.{parse_rest, size_of, IsWithinLimits};
+    ghost use Rattle.ck_script.specs.State.{parse_rest, size_of, HasStopped, IsWithinLimits};
 
     // The line that is read, counted from 1.
     fn line_number(&self) -> u64
@@ -83,6 +83,7 @@ impl ScriptReader {
         ensures ok { OnOk result ((rest : List ℕ) → parse_rest self.new rest ≡ parse_rest self.old (piece.now ++ rest)) }
         ensures err { IfErr result (λ e. (rest : List ℕ) → OnTextFault e.what (parse_rest self.old (piece.now ++ rest) ≡ Err e)) }
         ensures text { IfErr result (λ e. e.what ≢ What.Read) }
+        ensures memory { IfErr result (λ e. e.what ≡ What.Memory → HasStopped self.old piece.now e.line) }
     {
         if piece.len() > MOST_BYTES - self.line.len() {
             let line = self.line_number();
@@ -111,6 +112,7 @@ impl ScriptReader {
         ensures ok { OnOk result ((rest : List ℕ) → parse_rest self.new rest ≡ parse_rest self.old (10 ∷ rest)) }
         ensures err { IfErr result (λ e. (rest : List ℕ) → OnTextFault e.what (parse_rest self.old (10 ∷ rest) ≡ Err e)) }
         ensures text { IfErr result (λ e. e.what ≢ What.Read) }
+        ensures memory { IfErr result (λ e. e.what ≡ What.Memory → HasStopped self.old (10 ∷ []) e.line) }
     {
         let line = self.line_number();
         match step(self.place, &self.line) {
@@ -128,7 +130,7 @@ impl ScriptReader {
 }
 
 impl ScriptReader {
-    ghost use Rattle.ck_script.specs.State.{parse_rest, size_of, IsWithinLimits};
+    ghost use Rattle.ck_script.specs.State.{parse_rest, size_of, HasStopped, IsWithinLimits};
 
     // Takes a block of bytes.
     fn feed(&mut self, block: &[u8]) -> Result<(), ScriptFault>
@@ -138,6 +140,7 @@ impl ScriptReader {
         ensures ok { OnOk result ((more : List ℕ) → parse_rest self.new more ≡ parse_rest self.old (block.now ++ more)) }
         ensures err { IfErr result (λ e. (more : List ℕ) → OnTextFault e.what (parse_rest self.old (block.now ++ more) ≡ Err e)) }
         ensures text { IfErr result (λ e. e.what ≢ What.Read) }
+        ensures memory { IfErr result (λ e. e.what ≡ What.Memory → HasStopped self.old block.now e.line) }
     {
         let mut rest = block;
         while let Some((line, after)) = cut_line(rest) {
@@ -169,6 +172,7 @@ impl ScriptReader {
         requires { IsWithinLimits self }
         ensures parse { IsParsed (λ s. s.commands.items) result (parse_rest self []) }
         ensures text { IfErr result (λ e. e.what ≢ What.Read) }
+        ensures memory { IfErr result (λ e. e.what ≢ What.Memory) }
     {
         if self.is_complete() {
             return Ok(Script {
@@ -204,6 +208,7 @@ fn read_all<R: Source>(alloc: Global, source: &mut R) -> Result<Script, ScriptFa
     ensures works { OnOk result (R.has_failed source.new ≡ false) }
     ensures failed { IfErr result (λ e. (e.what ≡ What.Read) ↔ (R.has_failed source.new ≡ true)) }
     ensures cut { IfErr result (λ e. e.what ≡ What.Read → ((bytes : List ℕ) × Consumes (R.left source.old) (R.left source.new) bytes × EndsIn bytes e.line)) }
+    ensures memory { IfErr result (λ e. e.what ≡ What.Memory → StopsIn (R.left source.old) (R.left source.new) e.line) }
 {
     let mut reader = ScriptReader::new(alloc);
     let mut block = [0; BLOCK];
@@ -241,6 +246,8 @@ pub fn read_script<R: Source>(alloc: Global, source: &mut R) -> Result<Script, S
     ensures failed { IfErr result (λ e. (e.what ≡ What.Read) ↔ (R.has_failed source.new ≡ true)) }
     // It is then at the line in which the bytes end that were read, and these have no fault before their end.
     ensures cut { IfErr result (λ e. e.what ≡ What.Read → ((bytes : List ℕ) × Consumes (R.left source.old) (R.left source.new) bytes × EndsIn bytes e.line)) }
+    // Memory was refused in the line in which some of the bytes that were read end, and these have no fault before their end.
+    ensures memory { IfErr result (λ e. e.what ≡ What.Memory → StopsIn (R.left source.old) (R.left source.new) e.line) }
     // Which script or fault it is.
     ensures exact { IfSome (R.left source.old) (λ bytes. IsParsed (λ s. s.commands.items) result (parse bytes)) }
 {
