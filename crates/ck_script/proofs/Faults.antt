@@ -1,7 +1,7 @@
 -- The fault that reading gives is the first fault.
 use Rattle.std.proofs.Common.{◌≡◌, ℕ, ◌+◌, ◌-◌, ◌<◌, Bool, true, false, cond, ltb, eqb, List, [], ◌∷◌, ◌++◌, length, Option, Some, None, Result, Ok, Err, refl, sym, ap, subst, ◌∙◌, arith, inl, inr}
 use Rattle.ck_script.specs.declared.script.Script.{Script}
-use Rattle.ck_script.proofs.AnswerFrom.{on_text_fault-map}
+use Rattle.ck_script.proofs.ParseFrom.{on_text_fault-map}
 use Rattle.std.specs.Prelude.{IfSome, IfErr, ◌⊎◌, ◌||◌}
 use Rattle.std.specs.List.{list_any}
 use Rattle.std.specs.Result.{result_err}
@@ -15,7 +15,7 @@ use Rattle.ck_script.specs.declared.script.What.{What}
 use Rattle.ck_script.specs.declared.script.What.TheVariants as is
 use Rattle.ck_script.specs.declared.script.ScriptFault.{ScriptFault}
 use Rattle.ck_script.specs.Lines.{◌>>=◌, command_at, parts, is_feed}
-use Rattle.ck_script.specs.Reading.{lines_before, commands_of, within_count, IsAnswer, line_at, ending, on_line, with_front, reading, answer, step_at}
+use Rattle.ck_script.specs.Parse.{lines_before, commands_of, within_count, IsParsed, line_at, ending, on_line, with_front, parse_lines, parse, step_at}
 use Rattle.ck_script.proofs.Cuts.{some_part}
 use Rattle.ck_script.proofs.Spelling.{line_law, header_step, settings_step, after_step, chosen, bind_ok, ok_line-injective}
 use Rattle.ck_script.specs.FirstFault.{is_header, is_worker, is_end, option_or, placed, line_fault, end_fault, first_fault_behind, first_fault}
@@ -163,24 +163,24 @@ front_err : (front : List NumCommand) (r : Result (List NumCommand) ScriptFault)
 front_err front (Ok x) = refl
 front_err front (Err e) = refl
 
-pub reading_fault : (place : Place) (n : ℕ) (earlier ps : List (List ℕ)) → Stands place n earlier → 0 < length ps → result_err (reading place n ps) ≡ first_fault_behind earlier ps
-unfolding reading first_fault_behind
-reading_fault place n earlier [] stands some = absurd (omega arith)
-reading_fault place n earlier (rest ∷ []) stands some =
+pub parse_lines-fault : (place : Place) (n : ℕ) (earlier ps : List (List ℕ)) → Stands place n earlier → 0 < length ps → result_err (parse_lines place n ps) ≡ first_fault_behind earlier ps
+unfolding parse_lines first_fault_behind
+parse_lines-fault place n earlier [] stands some = absurd (omega arith)
+parse_lines-fault place n earlier (rest ∷ []) stands some =
     on_line-err (lines_before place n + 1) (ending place rest)
     ∙ ap (λ (k : ℕ). placed (k + 1) (result_err (ending place rest))) (sym stands.lines) ∙ ap (placed (length earlier + 1)) (same_end place n earlier rest stands)
-reading_fault place n earlier (line ∷ next ∷ more) stands some =
-    turn_err (lines_before place n + 1) (line_at place n line) (λ s. with_front (commands_of s.1) (reading s.0 (n + length (commands_of s.1)) (next ∷ more))) (first_fault_behind (earlier ++ line ∷ []) (next ∷ more))
-    (λ s e. front_err (commands_of s.1) (reading s.0 (n + length (commands_of s.1)) (next ∷ more)) ∙ reading_fault s.0 (n + length (commands_of s.1)) (earlier ++ line ∷ []) (next ∷ more) (next_stands place n earlier line s stands e) (omega arith))
+parse_lines-fault place n earlier (line ∷ next ∷ more) stands some =
+    turn_err (lines_before place n + 1) (line_at place n line) (λ s. with_front (commands_of s.1) (parse_lines s.0 (n + length (commands_of s.1)) (next ∷ more))) (first_fault_behind (earlier ++ line ∷ []) (next ∷ more))
+    (λ s e. front_err (commands_of s.1) (parse_lines s.0 (n + length (commands_of s.1)) (next ∷ more)) ∙ parse_lines-fault s.0 (n + length (commands_of s.1)) (earlier ++ line ∷ []) (next ∷ more) (next_stands place n earlier line s stands e) (omega arith))
     ∙ ap (λ (k : ℕ). option_or (placed (k + 1) (result_err (line_at place n line))) (first_fault_behind (earlier ++ line ∷ []) (next ∷ more))) (sym stands.lines)
     ∙ ap (λ (w : Option What). option_or (placed (length earlier + 1) w) (first_fault_behind (earlier ++ line ∷ []) (next ∷ more))) (same_fault place n earlier line stands)
 
 -- the fault of all of the bytes
-pub answer_fault : (bytes : List ℕ) → result_err (answer bytes) ≡ first_fault bytes
-answer_fault bytes = reading_fault at.Header 0 [] (parts bytes) (record { lines = refl; ended = refl; begun = refl; early = refl }) (some_part is_feed bytes)
+pub result_err-parse : (bytes : List ℕ) → result_err (parse bytes) ≡ first_fault bytes
+result_err-parse bytes = parse_lines-fault at.Header 0 [] (parts bytes) (record { lines = refl; ended = refl; begun = refl; early = refl }) (some_part is_feed bytes)
 
 -- the same of what a function returned
-pub is_first : (left : Option (List ℕ)) (r : Result Script ScriptFault) → IfSome left (λ bytes. IsAnswer (λ s. s.commands.items) r (answer bytes)) → IfSome left (λ bytes. IfErr r (λ e. OnTextFault e.what (first_fault bytes ≡ Some e)))
+pub is_first : (left : Option (List ℕ)) (r : Result Script ScriptFault) → IfSome left (λ bytes. IsParsed (λ s. s.commands.items) r (parse bytes)) → IfSome left (λ bytes. IfErr r (λ e. OnTextFault e.what (first_fault bytes ≡ Some e)))
 is_first None r h = tt
 is_first (Some bytes) (Ok v) h = tt
-is_first (Some bytes) (Err e) h = on_text_fault-map e.what (λ f. sym (answer_fault bytes) ∙ ap result_err f) h
+is_first (Some bytes) (Err e) h = on_text_fault-map e.what (λ f. sym (result_err-parse bytes) ∙ ap result_err f) h

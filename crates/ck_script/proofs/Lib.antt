@@ -1,6 +1,6 @@
 pub mod Numbers
 pub mod Cuts
-pub mod AnswerFrom
+pub mod ParseFrom
 pub mod Spelling
 pub mod Faults
 pub mod Answered

@@ -3,7 +3,7 @@ use Rattle.std.proofs.Common.{◌≡◌, ℕ, ◌+◌, ◌*◌, ◌<◌, ◌≤�
 use Rattle.ck_script.specs.Script.{NumCommand}
 use Rattle.ck_script.specs.declared.line.Place.{Place}
 use Rattle.ck_script.specs.declared.line.Place.TheVariants as at
-use Rattle.ck_script.specs.Reading.{commands_of, lines_before, step_at}
+use Rattle.ck_script.specs.Parse.{commands_of, lines_before, step_at}
 use Rattle.ck_script.specs.Lines.{IsLine}
 use Rattle.ck_script.proofs.Spelling.{header_step, settings_step, block_step, after_step}
 

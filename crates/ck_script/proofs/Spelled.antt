@@ -20,12 +20,12 @@ use Rattle.ck_script.specs.declared.script.What.TheVariants as is
 use Rattle.ck_script.specs.declared.script.ScriptFault.{ScriptFault}
 use Rattle.ck_script.specs.Words.{words, number_at, begins_as_number, IsNumber}
 use Rattle.ck_script.specs.Lines.{IsLine, ◌>>=◌, number_or_fault, command_in, command_at, parts, is_feed}
-use Rattle.ck_script.specs.Reading.{commands_of, within_count, line_at, ending, with_front, reading, answer, step_at}
+use Rattle.ck_script.specs.Parse.{commands_of, within_count, line_at, ending, with_front, parse_lines, parse, step_at}
 use Rattle.ck_script.specs.Spells.{IsCommand, AreCommands, IsScript, with_feed, Spells}
 use Rattle.ck_script.specs.FirstFault.{first_fault}
-use Rattle.ck_script.proofs.AnswerFrom.{line_is, reading_line}
+use Rattle.ck_script.proofs.ParseFrom.{line_is, parse_lines-line}
 use Rattle.ck_script.proofs.Spelling.{same_bytes, spelled}
-use Rattle.ck_script.proofs.Faults.{answer_fault}
+use Rattle.ck_script.proofs.Faults.{result_err-parse}
 
 number_at-of : (word : List ℕ) (n : ℕ) → IsNumber word n → number_at word ≡ Some n
 number_at-of word n h =
@@ -72,37 +72,37 @@ unfolding step_at
 step_at-worker line e = rw e refl
 
 -- an allowed line, and then the others
-reading-step : (place to : Place) (n : ℕ) (line : List ℕ) (c : Option NumCommand) (lines : List (List ℕ)) → IsLine line → step_at place line ≡ Ok (to, c) → within_count n to c ≡ Ok (to, c)
-    → reading place n (line ∷ (lines ++ [] ∷ [])) ≡ with_front (commands_of c) (reading to (n + length (commands_of c)) (lines ++ [] ∷ []))
-reading-step place to n line c lines ok steps fits =
+parse_lines-step : (place to : Place) (n : ℕ) (line : List ℕ) (c : Option NumCommand) (lines : List (List ℕ)) → IsLine line → step_at place line ≡ Ok (to, c) → within_count n to c ≡ Ok (to, c)
+    → parse_lines place n (line ∷ (lines ++ [] ∷ [])) ≡ with_front (commands_of c) (parse_lines to (n + length (commands_of c)) (lines ++ [] ∷ []))
+parse_lines-step place to n line c lines ok steps fits =
     let allowed : line_at place n line ≡ Ok (to, c) = line_is place n line ok.short ∙ ap (λ (r : Result (Place × Option NumCommand) What). r >>= λ s. within_count n s.0 s.1) steps ∙ fits in
     let some : 0 < length (lines ++ [] ∷ []) = omega (arith, length-append lines ([] ∷ [])) in
-    reading_line place n line (lines ++ [] ∷ []) some ∙ rw allowed refl
+    parse_lines-line place n line (lines ++ [] ∷ []) some ∙ rw allowed refl
 
-reading-after : (n : ℕ) → reading at.After n ([] ∷ []) ≡ Ok []
-unfolding reading ending
-reading-after n = refl
+parse_lines-after : (n : ℕ) → parse_lines at.After n ([] ∷ []) ≡ Ok []
+unfolding parse_lines ending
+parse_lines-after n = refl
 
-reading-commands : (n : ℕ) (lines : List (List ℕ)) (cs : List NumCommand) → AreCommands lines cs → All IsLine lines → n + length cs ≤ 1000000 → reading at.Block n (lines ++ [] ∷ []) ≡ Ok cs
-reading-commands n [] cs h each few = absurd h
-reading-commands n (line ∷ lines) (c ∷ cs) h each few =
+parse_lines-commands : (n : ℕ) (lines : List (List ℕ)) (cs : List NumCommand) → AreCommands lines cs → All IsLine lines → n + length cs ≤ 1000000 → parse_lines at.Block n (lines ++ [] ∷ []) ≡ Ok cs
+parse_lines-commands n [] cs h each few = absurd h
+parse_lines-commands n (line ∷ lines) (c ∷ cs) h each few =
     let below : n < 1000000 = omega arith in
     let fits : within_count n at.Block (Some c) ≡ Ok (at.Block, Some c) = rw (lt-ltb n 1000000 below) refl in
-    reading-step at.Block at.Block n line (Some c) lines (All-head IsLine line lines each) (step_at-command line c h.0) fits
-    ∙ ap (with_front (c ∷ [])) (reading-commands (n + 1) lines cs h.1 (All-tail IsLine line lines each) (omega arith))
-reading-commands n (line ∷ []) [] h each few =
-    reading-step at.Block at.After n line None [] (All-head IsLine line [] each) (step_at-end line h) refl
-    ∙ ap (with_front []) (reading-after (n + 0))
-reading-commands n (line ∷ next ∷ more) [] h each few = absurd h
+    parse_lines-step at.Block at.Block n line (Some c) lines (All-head IsLine line lines each) (step_at-command line c h.0) fits
+    ∙ ap (with_front (c ∷ [])) (parse_lines-commands (n + 1) lines cs h.1 (All-tail IsLine line lines each) (omega arith))
+parse_lines-commands n (line ∷ []) [] h each few =
+    parse_lines-step at.Block at.After n line None [] (All-head IsLine line [] each) (step_at-end line h) refl
+    ∙ ap (with_front []) (parse_lines-after (n + 0))
+parse_lines-commands n (line ∷ next ∷ more) [] h each few = absurd h
 
-reading-script : (lines : List (List ℕ)) (cs : List NumCommand) → IsScript lines cs → All IsLine lines → length cs ≤ 1000000 → reading at.Header 0 (lines ++ [] ∷ []) ≡ Ok cs
-reading-script [] cs h each few = absurd h
-reading-script (header ∷ []) cs h each few = absurd h
-reading-script (header ∷ worker ∷ lines) cs h each few =
+parse_lines-script : (lines : List (List ℕ)) (cs : List NumCommand) → IsScript lines cs → All IsLine lines → length cs ≤ 1000000 → parse_lines at.Header 0 (lines ++ [] ∷ []) ≡ Ok cs
+parse_lines-script [] cs h each few = absurd h
+parse_lines-script (header ∷ []) cs h each few = absurd h
+parse_lines-script (header ∷ worker ∷ lines) cs h each few =
     let later = All-tail IsLine header (worker ∷ lines) each in
-    reading-step at.Header at.Settings 0 header None (worker ∷ lines) (All-head IsLine header (worker ∷ lines) each) (step_at-header header h.0) refl
-    ∙ ap (with_front []) (reading-step at.Settings at.Block 0 worker None lines (All-head IsLine worker lines later) (step_at-worker worker h.1) refl
-    ∙ ap (with_front []) (reading-commands 0 lines cs h.2 (All-tail IsLine worker lines later) (omega arith)))
+    parse_lines-step at.Header at.Settings 0 header None (worker ∷ lines) (All-head IsLine header (worker ∷ lines) each) (step_at-header header h.0) refl
+    ∙ ap (with_front []) (parse_lines-step at.Settings at.Block 0 worker None lines (All-head IsLine worker lines later) (step_at-worker worker h.1) refl
+    ∙ ap (with_front []) (parse_lines-commands 0 lines cs h.2 (All-tail IsLine worker lines later) (omega arith)))
 
 pub parts-lines : (lines : List (List ℕ)) → All IsLine lines → parts (flat_map with_feed lines) ≡ lines ++ [] ∷ []
 parts-lines [] each = refl
@@ -113,16 +113,16 @@ parts-lines (line ∷ lines) each =
     ∙ ap (λ (ps : List (List ℕ)). line ∷ ps) (parts-lines lines (All-tail IsLine line lines each))
 
 -- what is in the grammar is read
-pub answer-spelled : (bytes : List ℕ) (cs : List NumCommand) → Spells bytes cs → answer bytes ≡ Ok cs
-answer-spelled bytes cs h =
-    ap (reading at.Header 0) (ap parts h.whole ∙ parts-lines h.lines h.each) ∙ reading-script h.lines cs h.script h.each h.few
+pub parse-spelled : (bytes : List ℕ) (cs : List NumCommand) → Spells bytes cs → parse bytes ≡ Ok cs
+parse-spelled bytes cs h =
+    ap (parse_lines at.Header 0) (ap parts h.whole ∙ parts-lines h.lines h.each) ∙ parse_lines-script h.lines cs h.script h.each h.few
 
 same_script : (r : Result (List NumCommand) ScriptFault) (a b : List NumCommand) → r ≡ Ok a → r ≡ Ok b → a ≡ b
 same_script r a b p q = cc
 
 -- one script is in the bytes
 pub one_script : (bytes : List ℕ) (a b : List NumCommand) → Spells bytes a → Spells bytes b → a ≡ b
-one_script bytes a b p q = same_script (answer bytes) a b (answer-spelled bytes a p) (answer-spelled bytes b q)
+one_script bytes a b p q = same_script (parse bytes) a b (parse-spelled bytes a p) (parse-spelled bytes b q)
 
 no_err : (r : Result (List NumCommand) ScriptFault) → result_err r ≡ None → (cs : List NumCommand) × (r ≡ Ok cs)
 no_err (Ok cs) e = (cs, refl)
@@ -131,6 +131,6 @@ no_err (Err fault) e = absurd cc
 -- there is no fault where a script is in the bytes, and nowhere else
 pub faultless : (bytes : List ℕ) → (first_fault bytes ≡ None) ↔ ((cs : List NumCommand) × Spells bytes cs)
 faultless bytes = (
-  λ e. let read = no_err (answer bytes) (answer_fault bytes ∙ e) in (read.0, spelled bytes read.0 read.1),
-  λ h. sym (answer_fault bytes) ∙ ap result_err (answer-spelled bytes h.0 h.1),
+  λ e. let read = no_err (parse bytes) (result_err-parse bytes ∙ e) in (read.0, spelled bytes read.0 read.1),
+  λ h. sym (result_err-parse bytes) ∙ ap result_err (parse-spelled bytes h.0 h.1),
 )

@@ -21,7 +21,7 @@ use Rattle.ck_script.specs.declared.script.What.TheVariants as is
 use Rattle.ck_script.specs.declared.script.ScriptFault.{ScriptFault}
 use Rattle.ck_script.specs.Words.{words, number_at, begins_as_number, IsNumber}
 use Rattle.ck_script.specs.Lines.{IsLine, ◌>>=◌, number_or_fault, command_in, command_at, parts, is_feed}
-use Rattle.ck_script.specs.Reading.{lines_before, commands_of, within_count, IsAnswer, line_at, ending, on_line, with_front, reading, answer, step_at, is_complete}
+use Rattle.ck_script.specs.Parse.{lines_before, commands_of, within_count, IsParsed, line_at, ending, on_line, with_front, parse_lines, parse, step_at, is_complete}
 use Rattle.ck_script.specs.Spells.{IsCommand, AreCommands, IsScript, with_feed, Spells}
 
 pub bind_ok : {A B E : Type 0} (r : Result A E) (f : A → Result B E) (y : B) → (r >>= f) ≡ Ok y → (x : A) × (r ≡ Ok x) × (f x ≡ Ok y)
@@ -127,24 +127,24 @@ front_ok : (front : List NumCommand) (r : Result (List NumCommand) ScriptFault) 
 front_ok front r cs e = let b = bind_ok r (λ more. Ok (front ++ more)) cs e in (b.0, b.1, sym (ok_script-injective (front ++ b.0) cs b.2))
 
 -- one line, and what is read of the others
-turn_at : (place : Place) (n : ℕ) (line next : List ℕ) (more : List (List ℕ)) (cs : List NumCommand) → reading place n (line ∷ next ∷ more) ≡ Ok cs
-    → (s : Place × Option NumCommand) × (line_at place n line ≡ Ok s) × (after : List NumCommand) × (reading s.0 (n + length (commands_of s.1)) (next ∷ more) ≡ Ok after) × (cs ≡ commands_of s.1 ++ after)
-unfolding reading
+turn_at : (place : Place) (n : ℕ) (line next : List ℕ) (more : List (List ℕ)) (cs : List NumCommand) → parse_lines place n (line ∷ next ∷ more) ≡ Ok cs
+    → (s : Place × Option NumCommand) × (line_at place n line ≡ Ok s) × (after : List NumCommand) × (parse_lines s.0 (n + length (commands_of s.1)) (next ∷ more) ≡ Ok after) × (cs ≡ commands_of s.1 ++ after)
+unfolding parse_lines
 turn_at place n line next more cs e =
-    let b = bind_ok (on_line (lines_before place n + 1) (line_at place n line)) (λ s. with_front (commands_of s.1) (reading s.0 (n + length (commands_of s.1)) (next ∷ more))) cs e in
-    let f = front_ok (commands_of b.0.1) (reading b.0.0 (n + length (commands_of b.0.1)) (next ∷ more)) cs b.2 in
+    let b = bind_ok (on_line (lines_before place n + 1) (line_at place n line)) (λ s. with_front (commands_of s.1) (parse_lines s.0 (n + length (commands_of s.1)) (next ∷ more))) cs e in
+    let f = front_ok (commands_of b.0.1) (parse_lines b.0.0 (n + length (commands_of b.0.1)) (next ∷ more)) cs b.2 in
     (b.0, on_line-ok _ (line_at place n line) b.0 b.1, f.0, f.1, f.2)
 
-turn : (place : Place) (n : ℕ) (line next : List ℕ) (more : List (List ℕ)) (cs : List NumCommand) → reading place n (line ∷ next ∷ more) ≡ Ok cs
-    → (s : Place × Option NumCommand) × (step_at place line ≡ Ok s) × (after : List NumCommand) × (reading s.0 (n + length (commands_of s.1)) (next ∷ more) ≡ Ok after) × (cs ≡ commands_of s.1 ++ after)
+turn : (place : Place) (n : ℕ) (line next : List ℕ) (more : List (List ℕ)) (cs : List NumCommand) → parse_lines place n (line ∷ next ∷ more) ≡ Ok cs
+    → (s : Place × Option NumCommand) × (step_at place line ≡ Ok s) × (after : List NumCommand) × (parse_lines s.0 (n + length (commands_of s.1)) (next ∷ more) ≡ Ok after) × (cs ≡ commands_of s.1 ++ after)
 turn place n line next more cs e = let t = turn_at place n line next more cs e in (t.0, line_law place n line t.0 t.1, t.2, t.3, t.4)
 
-last_ok : (place : Place) (n : ℕ) (rest : List ℕ) (cs : List NumCommand) → reading place n (rest ∷ []) ≡ Ok cs → ending place rest ≡ Ok cs
-unfolding reading
+last_ok : (place : Place) (n : ℕ) (rest : List ℕ) (cs : List NumCommand) → parse_lines place n (rest ∷ []) ≡ Ok cs → ending place rest ≡ Ok cs
+unfolding parse_lines
 last_ok place n rest cs e = on_line-ok _ (ending place rest) cs e
 
-nothing : (place : Place) (n : ℕ) (cs : List NumCommand) → reading place n [] ≡ Ok cs → ⊥
-unfolding reading
+nothing : (place : Place) (n : ℕ) (cs : List NumCommand) → parse_lines place n [] ≡ Ok cs → ⊥
+unfolding parse_lines
 nothing place n cs e = absurd cc
 
 block_ending : (rest : List ℕ) (cs : List NumCommand) → ending at.Block rest ≡ Ok cs → ⊥
@@ -176,7 +176,7 @@ block_step line s e =
     ]
 
 -- nothing stands after the end
-after_law : (n : ℕ) (ps : List (List ℕ)) (cs : List NumCommand) → reading at.After n ps ≡ Ok cs → (ps ≡ [] ∷ []) × (cs ≡ [])
+after_law : (n : ℕ) (ps : List (List ℕ)) (cs : List NumCommand) → parse_lines at.After n ps ≡ Ok cs → (ps ≡ [] ∷ []) × (cs ≡ [])
 after_law n [] cs e = absurd (nothing at.After n cs e)
 after_law n (rest ∷ []) cs e = let h = after_ending rest cs (last_ok at.After n rest cs e) in (ap (λ (r : List ℕ). r ∷ []) h.0, h.1)
 after_law n (line ∷ next ∷ more) cs e = let t = turn at.After n line next more cs e in absurd (after_step line t.0 t.1)
@@ -188,19 +188,19 @@ more_commands : (line : List ℕ) (ps : List (List ℕ)) (c : NumCommand) (cs : 
 more_commands line ps c cs one (lines, cut, more) = (line ∷ lines, ap (λ (x : List (List ℕ)). line ∷ x) cut, (one, more))
 
 -- the lines of a block
-block_law : (n : ℕ) (ps : List (List ℕ)) (cs : List NumCommand) → reading at.Block n ps ≡ Ok cs → Behind ps cs
+block_law : (n : ℕ) (ps : List (List ℕ)) (cs : List NumCommand) → parse_lines at.Block n ps ≡ Ok cs → Behind ps cs
 block_law n [] cs e = absurd (nothing at.Block n cs e)
 block_law n (rest ∷ []) cs e = absurd (block_ending rest cs (last_ok at.Block n rest cs e))
 block_law n (line ∷ next ∷ more) cs e =
     let t = turn at.Block n line next more cs e in
     elim (block_step line t.0 t.1) [
       | inl h ↦
-          let e2 : reading at.After (n + 0) (next ∷ more) ≡ Ok t.2 = subst (λ (s : Place × Option NumCommand). reading s.0 (n + length (commands_of s.1)) (next ∷ more) ≡ Ok t.2) h.1 t.3 in
+          let e2 : parse_lines at.After (n + 0) (next ∷ more) ≡ Ok t.2 = subst (λ (s : Place × Option NumCommand). parse_lines s.0 (n + length (commands_of s.1)) (next ∷ more) ≡ Ok t.2) h.1 t.3 in
           let a = after_law (n + 0) (next ∷ more) t.2 e2 in
           let none : cs ≡ [] = t.4 ∙ ap (λ (s : Place × Option NumCommand). commands_of s.1 ++ t.2) h.1 ∙ a.1 in
           subst (Behind (line ∷ next ∷ more)) (sym none) (line ∷ [], ap (λ (x : List (List ℕ)). line ∷ x) a.0, h.0)
       | inr h ↦
-          let e2 : reading at.Block (n + 1) (next ∷ more) ≡ Ok t.2 = subst (λ (s : Place × Option NumCommand). reading s.0 (n + length (commands_of s.1)) (next ∷ more) ≡ Ok t.2) h.2 t.3 in
+          let e2 : parse_lines at.Block (n + 1) (next ∷ more) ≡ Ok t.2 = subst (λ (s : Place × Option NumCommand). parse_lines s.0 (n + length (commands_of s.1)) (next ∷ more) ≡ Ok t.2) h.2 t.3 in
           let all : cs ≡ h.0 ∷ t.2 = t.4 ∙ ap (λ (s : Place × Option NumCommand). commands_of s.1 ++ t.2) h.2 in
           subst (Behind (line ∷ next ∷ more)) (sym all) (more_commands line (next ∷ more) h.0 t.2 h.1 (block_law (n + 1) (next ∷ more) t.2 e2))
     ]
@@ -228,13 +228,13 @@ settings_step line s e =
 abbrev Started : List (List ℕ) → List NumCommand → Type 0
 Started ps cs = (line : List ℕ) × (lines : List (List ℕ)) × (ps ≡ line ∷ (lines ++ [] ∷ [])) × (line ≡ codes "worker") × AreCommands lines cs
 
-settings_law : (n : ℕ) (ps : List (List ℕ)) (cs : List NumCommand) → reading at.Settings n ps ≡ Ok cs → Started ps cs
+settings_law : (n : ℕ) (ps : List (List ℕ)) (cs : List NumCommand) → parse_lines at.Settings n ps ≡ Ok cs → Started ps cs
 settings_law n [] cs e = absurd (nothing at.Settings n cs e)
 settings_law n (rest ∷ []) cs e = absurd ((head_ending rest cs).1 (last_ok at.Settings n rest cs e))
 settings_law n (line ∷ next ∷ more) cs e =
     let t = turn at.Settings n line next more cs e in
     let h = settings_step line t.0 t.1 in
-    let e2 : reading at.Block (n + 0) (next ∷ more) ≡ Ok t.2 = subst (λ (s : Place × Option NumCommand). reading s.0 (n + length (commands_of s.1)) (next ∷ more) ≡ Ok t.2) h.1 t.3 in
+    let e2 : parse_lines at.Block (n + 0) (next ∷ more) ≡ Ok t.2 = subst (λ (s : Place × Option NumCommand). parse_lines s.0 (n + length (commands_of s.1)) (next ∷ more) ≡ Ok t.2) h.1 t.3 in
     let all : cs ≡ t.2 = t.4 ∙ ap (λ (s : Place × Option NumCommand). commands_of s.1 ++ t.2) h.1 in
     let b = block_law (n + 0) (next ∷ more) t.2 e2 in
     subst (Started (line ∷ next ∷ more)) (sym all) (line, b.0, ap (λ (x : List (List ℕ)). line ∷ x) b.1, h.0, b.2)
@@ -247,13 +247,13 @@ join_ended (x ∷ y ∷ lines) = ap (λ (t : List ℕ). x ++ 10 ∷ t) (join_end
 abbrev Whole : List (List ℕ) → List NumCommand → Type 0
 Whole ps cs = (lines : List (List ℕ)) × (ps ≡ lines ++ [] ∷ []) × IsScript lines cs
 
-header_law : (n : ℕ) (ps : List (List ℕ)) (cs : List NumCommand) → reading at.Header n ps ≡ Ok cs → Whole ps cs
+header_law : (n : ℕ) (ps : List (List ℕ)) (cs : List NumCommand) → parse_lines at.Header n ps ≡ Ok cs → Whole ps cs
 header_law n [] cs e = absurd (nothing at.Header n cs e)
 header_law n (rest ∷ []) cs e = absurd ((head_ending rest cs).0 (last_ok at.Header n rest cs e))
 header_law n (line ∷ next ∷ more) cs e =
     let t = turn at.Header n line next more cs e in
     let h = header_step line t.0 t.1 in
-    let e2 : reading at.Settings (n + 0) (next ∷ more) ≡ Ok t.2 = subst (λ (s : Place × Option NumCommand). reading s.0 (n + length (commands_of s.1)) (next ∷ more) ≡ Ok t.2) h.1 t.3 in
+    let e2 : parse_lines at.Settings (n + 0) (next ∷ more) ≡ Ok t.2 = subst (λ (s : Place × Option NumCommand). parse_lines s.0 (n + length (commands_of s.1)) (next ∷ more) ≡ Ok t.2) h.1 t.3 in
     let all : cs ≡ t.2 = t.4 ∙ ap (λ (s : Place × Option NumCommand). commands_of s.1 ++ t.2) h.1 in
     let b = settings_law (n + 0) (next ∷ more) t.2 e2 in
     subst (Whole (line ∷ next ∷ more)) (sym all) (line ∷ b.0 ∷ b.1, ap (λ (x : List (List ℕ)). line ∷ x) b.2, (h.0, b.3, b.4))
@@ -270,7 +270,7 @@ ending_short place rest cs e = ltb-false 200 (length rest) (guard_ok (ltb 200 (l
 abbrev IsShort : List ℕ → Type 0
 IsShort line = length line ≤ 200
 
-parts_short : (place : Place) (n : ℕ) (ps : List (List ℕ)) (cs : List NumCommand) → reading place n ps ≡ Ok cs → All IsShort ps
+parts_short : (place : Place) (n : ℕ) (ps : List (List ℕ)) (cs : List NumCommand) → parse_lines place n ps ≡ Ok cs → All IsShort ps
 parts_short place n [] cs e = absurd (nothing place n cs e)
 parts_short place n (rest ∷ []) cs e = All-cons IsShort rest [] (ending_short place rest cs (last_ok place n rest cs e)) (All-nil IsShort)
 parts_short place n (line ∷ next ∷ more) cs e =
@@ -302,13 +302,13 @@ ending_none at.Block rest cs e = absurd (block_ending rest cs e)
 ending_none at.After rest cs e = (after_ending rest cs e).1
 
 -- what is read has at most 1,000,000 commands
-reading_few : (place : Place) (n : ℕ) (ps : List (List ℕ)) (cs : List NumCommand) → reading place n ps ≡ Ok cs → n ≤ 1000000 → n + length cs ≤ 1000000
-reading_few place n [] cs e few = absurd (nothing place n cs e)
-reading_few place n (rest ∷ []) cs e few = rw (ending_none place rest cs (last_ok place n rest cs e)) (omega arith)
-reading_few place n (line ∷ next ∷ more) cs e few =
+parse_lines-few : (place : Place) (n : ℕ) (ps : List (List ℕ)) (cs : List NumCommand) → parse_lines place n ps ≡ Ok cs → n ≤ 1000000 → n + length cs ≤ 1000000
+parse_lines-few place n [] cs e few = absurd (nothing place n cs e)
+parse_lines-few place n (rest ∷ []) cs e few = rw (ending_none place rest cs (last_ok place n rest cs e)) (omega arith)
+parse_lines-few place n (line ∷ next ∷ more) cs e few =
     let t = turn_at place n line next more cs e in
     let fits = line_few place n line t.0 t.1 few in
-    let later = reading_few t.0.0 (n + length (commands_of t.0.1)) (next ∷ more) t.2 t.3 fits in
+    let later = parse_lines-few t.0.0 (n + length (commands_of t.0.1)) (next ∷ more) t.2 t.3 fits in
     rw (t.4, length-append (commands_of t.0.1) t.2) (omega arith)
 
 abbrev NoFeed : List ℕ → Type 0
@@ -335,10 +335,10 @@ are_lines (line ∷ lines) rest feeds shorts =
     (are_lines lines rest (All-tail NoFeed line (lines ++ rest) feeds) (All-tail IsShort line (lines ++ rest) shorts))
 
 -- what is read is in the grammar
-pub spelled : (bytes : List ℕ) (cs : List NumCommand) → answer bytes ≡ Ok cs → Spells bytes cs
+pub spelled : (bytes : List ℕ) (cs : List NumCommand) → parse bytes ≡ Ok cs → Spells bytes cs
 spelled bytes cs e =
     let w = header_law 0 (parts bytes) cs e in
-    let few = reading_few at.Header 0 (parts bytes) cs e (omega arith) in
+    let few = parse_lines-few at.Header 0 (parts bytes) cs e (omega arith) in
     record {
       lines = w.0;
       whole = sym (join_with_byte-slice_split 10 bytes) ∙ ap (join_with_byte 10) w.1 ∙ join_ended w.0;
@@ -348,7 +348,7 @@ spelled bytes cs e =
     }
 
 -- the same of what a function returned
-pub is_spelled : (left : Option (List ℕ)) (r : Result Script ScriptFault) → IfSome left (λ bytes. IsAnswer (λ s. s.commands.items) r (answer bytes)) → IfSome left (λ bytes. IfOk r (λ s. Spells bytes s.commands.items))
+pub is_spelled : (left : Option (List ℕ)) (r : Result Script ScriptFault) → IfSome left (λ bytes. IsParsed (λ s. s.commands.items) r (parse bytes)) → IfSome left (λ bytes. IfOk r (λ s. Spells bytes s.commands.items))
 is_spelled None r h = tt
 is_spelled (Some bytes) (Ok v) h = spelled bytes v.commands.items h
 is_spelled (Some bytes) (Err e) h = tt

@@ -3,7 +3,7 @@ use Rattle.std.specs.Prelude.{◌≡◌, ◌↔◌, ℕ, List, None, Ok}
 use Rattle.ck_script.specs.Script.{NumCommand}
 use Rattle.ck_script.specs.Spells.{Spells}
 use Rattle.ck_script.specs.FirstFault.{first_fault}
-use Rattle.ck_script.specs.Reading.{answer}
+use Rattle.ck_script.specs.Parse.{parse}
 
 -- bytes have no fault exactly where they are a script
 abbrev pub FaultlessIsScript : Type 0
@@ -15,4 +15,4 @@ IsOneScript = (bytes : List ℕ) (these those : List NumCommand) → Spells byte
 
 -- what is read of a script is the script
 abbrev pub ScriptIsRead : Type 0
-ScriptIsRead = (bytes : List ℕ) (commands : List NumCommand) → Spells bytes commands → answer bytes ≡ Ok commands
+ScriptIsRead = (bytes : List ℕ) (commands : List NumCommand) → Spells bytes commands → parse bytes ≡ Ok commands

@@ -1,4 +1,4 @@
--- The lines of an input, and what a command line says or what is wrong with it.
+-- The lines of an input, and the command that a line is, or what is wrong with it.
 use Rattle.std.specs.Prelude.{All, ◌≡◌, false, ℕ, ◌≤◌, List, [], ◌∷◌, length, Result, Ok, Err, Bool, ◌||◌, not, ◌==◌, if◌then◌else◌, codes}
 use Rattle.std.specs.List.{slice_split}
 use Rattle.std.specs.Option.{ok_or}
@@ -9,10 +9,10 @@ use Rattle.ck_script.specs.declared.script.What.{What}
 use Rattle.ck_script.specs.declared.script.What.TheVariants as is
 use Rattle.ck_script.specs.Words.{words, number_at}
 
--- the parts of an input between its line feeds; the last one is ended by none
 abbrev pub is_feed : ℕ → Bool
 is_feed b = b == 10
 
+-- the parts of an input between its line feeds; the last one is ended by none
 abbrev pub parts : List ℕ → List (List ℕ)
 parts bytes = slice_split is_feed bytes
 
@@ -21,15 +21,17 @@ pub record IsLine (line : List ℕ) : Type 0 where
   pub no_feed : All (λ b. is_feed b ≡ false) line
   pub short : length line ≤ 200
 
+-- the first refusal, or what the second step gives
 infixl 10 ◌>>=◌
 abbrev pub ◌>>=◌ : {A B E : Type 0} → Result A E → (A → Result B E) → Result B E
 (Ok x) >>= f = f x
 (Err e) >>= f = Err e
 
+-- a word in the place of a number
 abbrev pub number_or_fault : List ℕ → Result ℕ What
 number_or_fault word = ok_or (number_at word) is.Number
 
--- the words of a command line
+-- the words of a command line: first their count, that none is empty and the name, then the numbers from left to right
 abbrev pub command_in : List (List ℕ) → Result NumCommand What
 command_in (name ∷ key ∷ []) =
     if length key == 0 || not (bytes_eq name (codes "find")) then Err is.Command else do
@@ -42,5 +44,6 @@ command_in (name ∷ key ∷ value ∷ []) =
       Ok (Insert (key_of k) v)
 command_in ws = Err is.Command
 
+-- a command line
 unfoldable pub command_at : List ℕ → Result NumCommand What
 command_at line = command_in (words line)

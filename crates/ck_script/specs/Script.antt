@@ -10,13 +10,15 @@ use Rattle.ck_script.specs.declared.script.ScriptFault.{ScriptFault}
 abbrev pub NumCommand : Type 0
 NumCommand = Command NumKey
 
+-- the key that a number is
 abbrev pub key_of : ℕ → NumKey
 key_of n = record { 0 = n }
 
+-- what is wrong, with its line
 abbrev pub fault_at : ℕ → What → ScriptFault
 fault_at line what = record { line = line; what = what }
 
--- want of memory and a failed read may come at any time; any other fault is the first one
+-- the fact holds of a fault of the text. Want of memory and a failed read are none: they come from outside, at any time
 abbrev pub OnTextFault : What → Type 0 → Type 0
 OnTextFault is.Memory P = Unit {0}
 OnTextFault is.Read P = Unit {0}

@@ -1,7 +1,7 @@
 //! What a line says where it stands.
 ghost use Rattle.std.specs.Prelude.{◌≡◌, ◌≢◌, IfErr};
 ghost use Rattle.ck_script.specs.Lines.{number_or_fault, command_at};
-ghost use Rattle.ck_script.specs.Reading.{step_at};
+ghost use Rattle.ck_script.specs.Parse.{step_at};
 
 use crate::script::{Command, What};
 use crate::words::{Words, number_of, words_of};
@@ -20,6 +20,7 @@ pub enum Place {
     After,
 }
 
+// The number that a word is.
 fn number(word: &[u8]) -> Result<u64, What>
     ensures value { result ≡ number_or_fault word.now }
     ensures text { IfErr result (λ what. what ≢ What.Read) }
@@ -30,6 +31,7 @@ fn number(word: &[u8]) -> Result<u64, What>
     }
 }
 
+// The command that a line is.
 #[tactic(auto, unfolding(crate::specs::Lines::command_at))]
 fn command_of(line: &[u8]) -> Result<Command<NumKey>, What>
     ensures value { result ≡ command_at line.now }
@@ -54,8 +56,8 @@ fn command_of(line: &[u8]) -> Result<Command<NumKey>, What>
     }
 }
 
-/// Where the next line stands, and the command that this one says.
-#[tactic(auto, unfolding(crate::specs::Reading::step_at))]
+/// Where the next line stands, and the command that this one is, if it is one; or what is wrong with it there.
+#[tactic(auto, unfolding(crate::specs::Parse::step_at))]
 pub fn step(place: Place, line: &[u8]) -> Result<(Place, Option<Command<NumKey>>), What>
     ensures value { result ≡ step_at place line.now }
     ensures text { IfErr result (λ what. what ≢ What.Read) }

@@ -14,7 +14,7 @@ pub trait Sink {
     /// Whether a write has failed.
     ghost has_failed: { Self → Bool };
 
-    /// Takes the first bytes of a piece, and answers how many. A count of 0 for a piece that is not empty is a failure too.
+    /// Takes the first bytes of a piece, and returns how many. A count of 0 for a piece that is not empty is a failure too.
     /// An `Err` has taken nothing. A device that has failed is not written to again.
     fn write(&mut self, bytes: &[u8]) -> Result<usize, Failed>
         requires { has_failed self.old ≡ false }

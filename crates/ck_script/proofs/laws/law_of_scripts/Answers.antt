@@ -1,4 +1,4 @@
-use Rattle.ck_script.proofs.Spelled.{answer-spelled, one_script, faultless}
+use Rattle.ck_script.proofs.Spelled.{parse-spelled, one_script, faultless}
 use Rattle.ck_script.proofs.laws.law_of_scripts.Goals as goal
 
 pub returns-clause-faultless : goal.returns-clause-faultless
@@ -8,4 +8,4 @@ pub returns-clause-one : goal.returns-clause-one
 returns-clause-one c = one_script
 
 pub returns-clause-read : goal.returns-clause-read
-returns-clause-read c = answer-spelled
+returns-clause-read c = parse-spelled
