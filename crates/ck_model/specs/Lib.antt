@@ -1,6 +1,7 @@
 pub mod Arithmetic
 pub mod Numbered
 pub mod Map
+pub mod PlainMap
 pub mod History
 pub mod Slots
 pub mod Contents

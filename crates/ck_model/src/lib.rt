@@ -6,4 +6,5 @@
 pub mod history;
 pub mod hop;
 pub mod laws;
+pub mod plain;
 pub mod settings;

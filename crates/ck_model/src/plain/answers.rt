@@ -1,0 +1,1 @@
+//! What a call leaves of the names that it speaks of.
