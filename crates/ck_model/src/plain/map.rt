@@ -1,14 +1,16 @@
 //! A plain map that follows a history, and so decides which histories are legal.
-ghost use Rattle.std.specs.Prelude.{◌≡◌, ◌↔◌, ℕ, true, false, ◌<◌, ◌≤◌, length, slice_get, IsTrue, IfOk, IfSome, IfNone, IfErr, OnOk, OnErr, OnSome, List, ◌∷◌, [], ◌++◌, is_ok};
+ghost use Rattle.std.specs.Prelude.{◌≡◌, ◌↔◌, ℕ, true, false, ◌<◌, ◌≤◌, length, slice_get, IsTrue, IfOk, IfSome, IfNone, IfErr, IsSome, IsOk, MatchResult, OnOk, OnErr, OnSome, List, ◌∷◌, [], ◌++◌, is_ok};
 ghost use Rattle.std.specs.FinMap as map;
 ghost use Rattle.ck_model.specs.Map.{Name, name_cmp, Map, Step};
 ghost use Rattle.ck_model.specs.History.{After, IsLegal};
-ghost use Rattle.ck_model.specs.PlainMap.{place_of, with_binding};
+ghost use Rattle.ck_model.specs.PlainMap.{place_of, with_binding, Stands, Rises};
 
 
 use crate::history::Name;
 use std::alloc::{AllocError, Global};
 
+use std::cmp::Ordering;
+use std::collections::LinkedList;
 use std::marker::Model;
 
 /// A map from names to numbers: the list of its pairs, in rising order of the names.
@@ -32,18 +34,21 @@ impl Model for PlainMap {
     ghost invariant = { λ a. T (map.is_sorted name_cmp a.pairs.items) };
 }
 
-// How many of the names at the front are below this one.
-fn place(pairs: &[(Name, u64)], name: &Name) -> usize
-    ensures { result ≡ place_of name.now pairs.now }
+// Where the name stands, or else where it would go in.
+fn place(pairs: &[(Name, u64)], name: &Name) -> Result<usize, usize>
+    ensures at { MatchResult result (λ i. i ≡ place_of name.now pairs.now) (λ i.
+        i ≡ place_of name.now pairs.now) }
+    ensures found { IfOk result (λ i. Stands name.now pairs.now i) }
+    ensures free { IfErr result (λ i. ¬ (Stands name.now pairs.now i)) }
 {
-    let mut at = 0;
-    for (other, _) in pairs {
-        if !name.cmp(other).is_gt() {
-            return at;
+    for (at, (other, _)) in pairs.iter().enumerate() {
+        match name.cmp(other) {
+            Ordering::Greater => {}
+            Ordering::Equal => return Ok(at),
+            Ordering::Less => return Err(at),
         }
-        at += 1;
     }
-    at
+    Err(pairs.len())
 }
 
 impl PlainMap {
@@ -73,5 +78,79 @@ impl PlainMap {
             }
         }
         None
+    }
+
+    /// Binds the name to the value. It takes memory for a name that isn't bound, and leaves the map as it was where there is none.
+    pub fn insert(&mut self, name: &Name, value: u64) -> Result<(), AllocError>
+        ensures ok { OnOk result (self.new ≡ map.insert self.old name.now value) }
+        ensures err { OnErr result (self.new ≡ self.old) }
+        ensures bound { IsSome (map.get self.old name.now) → IsOk result }
+    {
+        match place(&self.pairs, name) {
+            Ok(at) => self.pairs[at].1 = value,
+            Err(at) => self.pairs.insert(at, (name.clone()?, value))?,
+        }
+        Ok(())
+    }
+
+    /// Unbinds the name.
+    pub fn remove(&mut self, name: &Name)
+        ensures { self.new ≡ map.remove self.old name.now }
+    {
+        self.pairs.retain(|pair| !name.cmp(&pair.0).is_eq());
+    }
+
+    // Binds the name, or unbinds it.
+    fn set(&mut self, name: &Name, value: Option<u64>) -> Result<(), AllocError>
+        ensures ok { OnOk result (self.new ≡ with_binding self.old name.now value) }
+        ensures err { OnErr result (self.new ≡ self.old) }
+    {
+        match value {
+            Some(value) => self.insert(name, value),
+            None => {
+                self.remove(name);
+                Ok(())
+            }
+        }
+    }
+
+    // Whether the two maps are one.
+    fn is_same(&self, other: &PlainMap) -> bool
+        ensures { IsTrue result ↔ (self.now ≡ other.now) }
+    {
+        self.pairs == other.pairs
+    }
+
+    // Adds a pair behind all others, where its name is above all others.
+    fn push(&mut self, name: &Name, value: u64) -> Result<bool, AllocError>
+        ensures pushed { IfOk result (λ b.
+            b ≡ true → map.entries self.new ≡ map.entries self.old ++ (name.now, value) ∷ []) }
+        ensures refused { IfOk result (λ b.
+            b ≡ false → ¬ (Rises (map.entries self.old ++ (name.now, value) ∷ []))) }
+    {
+        match place(&self.pairs, name) {
+            Err(at) if at == self.pairs.len() => {
+                self.pairs.push((name.clone()?, value))?;
+                Ok(true)
+            }
+            _ => Ok(false),
+        }
+    }
+
+    // The map whose pairs are these, in this order, if they rise.
+    fn from_pairs(
+        alloc: Global,
+        pairs: &LinkedList<(Name, u64)>,
+    ) -> Result<Option<PlainMap>, AllocError>
+        ensures some { IfOk result (λ r. IfSome r (λ m. map.entries m ≡ pairs.now)) }
+        ensures none { IfOk result (λ r. IfNone r (¬ (Rises pairs.now))) }
+    {
+        let mut map = PlainMap::new(alloc);
+        for (name, value) in pairs {
+            if !map.push(name, *value)? {
+                return Ok(None);
+            }
+        }
+        Ok(Some(map))
     }
 }
