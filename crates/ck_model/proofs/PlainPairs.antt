@@ -17,9 +17,7 @@ use Rattle.std.specs.FinMap.{find, get, len, entries, entries_sorted, empty, fro
 use Rattle.std.specs.FinMap.Entries.{put, by_order, below_all, is_sorted, is_sorted-put, is_sorted-where_key, find-where_key}
 use Rattle.ck_model.specs.Map.{Name, name_cmp, Map}
 use Rattle.ck_model.specs.PlainMap.{place_of, Stands, Rises}
-
-pub maps_alike : {V : Type 0} (m n : Map V) → ((q : Name) → get m q ≡ get n q) → m ≡ n
-maps_alike m n e = same_map nat_list_cmp_total (slice_cmp-IsAntisymmetric nat_cmp-IsAntisymmetric) m n e
+use Rattle.ck_model.proofs.Names.{maps_alike}
 
 none_of : (o : Option ℕ) (n : ℕ) → n + 1 ≡ cond (is_some o) n (n + 1) → o ≡ None
 none_of None n e = refl
