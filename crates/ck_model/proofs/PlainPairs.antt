@@ -1,5 +1,5 @@
 -- Pairs in rising order of their names.
-use Rattle.std.proofs.Common.{◌≡◌, ◌≢◌, ℕ, zero, suc, ◌+◌, ◌<◌, ◌≤◌, Bool, true, false, cond, not, T, List, [], ◌∷◌, ◌++◌, length, get_or, take, drop, set, sym, refl, ap, ◌∙◌, subst, arith, Option, Some, None, Ordering, IfSome, append_assoc, length-append, length-take, length-drop, IsSome, IsSomeAnd, IsTrue, eqb, ◌&&◌, Decides, is_some}
+use Rattle.std.proofs.Common.{◌≡◌, ◌≢◌, ℕ, zero, suc, ◌+◌, ◌<◌, ◌≤◌, Bool, true, false, cond, not, T, List, [], ◌∷◌, ◌++◌, length, get_or, take, drop, set, sym, refl, ap, ◌∙◌, subst, arith, Option, Some, None, Ordering, append_assoc, length-append, length-take, length-drop, IsSome, IsSomeAnd, IsTrue, eqb, ◌&&◌, Decides, is_some}
 use lib.Pointwise.{pointwise}
 use Rattle.std.proofs.lemmas.Option.{slice_get_read}
 use Rattle.std.proofs.lemmas.Bool.{false≢true}
@@ -7,14 +7,14 @@ use Rattle.std.proofs.Math.Seq.{take-length, drop-length}
 use Rattle.std.proofs.lemmas.Slice.Eq.{slice_eq-Decides}
 use Rattle.std.proofs.lemmas.Bool.Decides.{Decides-eqb, Decides-and}
 use Rattle.std.specs.declared.cmp.Ordering.TheVariants.{Less, Equal, Greater}
-use Rattle.std.proofs.lemmas.List.{at_drop_more, at_drop_all}
+use Rattle.std.proofs.lemmas.List.{at_drop_more}
 use Rattle.std.specs.List.{slice_get, insert, filter}
 use Rattle.std.specs.Ordering.{eq_by_cmp, is_gt, is_eq, is_lt, ordering_reverse}
 use Rattle.std.specs.Cmp.{alike_right, eq_by_cmp_equiv}
 use Rattle.std.specs.Cmp.Lexicographic.{nat_list_cmp_total}
 use Rattle.std.specs.FinMap as map
-use Rattle.std.specs.FinMap.{find, get, len, entries, entries_sorted, empty, from_sorted, same_map, same_entries_map, entries-from_sorted, get-from_sorted, len-entries, empty_of_len, slice_cmp-IsAntisymmetric, nat_cmp-IsAntisymmetric}
-use Rattle.std.specs.FinMap.Entries.{put, by_order, below_all, is_sorted, is_sorted-put, is_sorted-where_key, find-where_key}
+use Rattle.std.specs.FinMap.{find, get, len, entries, entries_sorted, empty, from_sorted, same_entries_map, entries-from_sorted, get-from_sorted, len-entries, empty_of_len}
+use Rattle.std.specs.FinMap.Entries.{put, by_order, below_all, is_sorted-put, is_sorted-where_key, find-where_key}
 use Rattle.ck_model.specs.Map.{Name, name_cmp, Map}
 use Rattle.ck_model.specs.PlainMap.{place_of, Stands, Rises}
 use Rattle.ck_model.proofs.Names.{maps_alike}
@@ -98,11 +98,11 @@ remove-others k es rises =
     let after : Rises (others k es) = is_sorted-where_key name_cmp p es rises in (
       after,
       maps_alike _ _ (λ q.
-      get-from_sorted name_cmp (others k es) q after
-      ∙ (find-where_key name_cmp p q (λ x t. ap (λ r. not (is_eq r)) (sym (alike_right nat_list_cmp_total q x k t))) es
-      ∙ (turned (eq_by_cmp name_cmp k q) _ _
-      ∙ (ap (λ b. cond b None (find name_cmp q es)) ((eq_by_cmp_equiv nat_list_cmp_total).symm k q)
-      ∙ sym (map.get-remove nat_list_cmp_total (map_of es) k q ∙ ap (cond (eq_by_cmp name_cmp q k) None) (get-from_sorted name_cmp es q rises)))))),
+          get-from_sorted name_cmp (others k es) q after
+          ∙ (find-where_key name_cmp p q (λ x t. ap (λ r. not (is_eq r)) (sym (alike_right nat_list_cmp_total q x k t))) es
+          ∙ (turned (eq_by_cmp name_cmp k q) _ _
+          ∙ (ap (λ b. cond b None (find name_cmp q es)) ((eq_by_cmp_equiv nat_list_cmp_total).symm k q)
+          ∙ sym (map.get-remove nat_list_cmp_total (map_of es) k q ∙ ap (cond (eq_by_cmp name_cmp q k) None) (get-from_sorted name_cmp es q rises)))))),
     )
 
 pub Stands-at : (k : Name) (es : Pairs) (i : ℕ) (e : Name × ℕ) → i < length es → e ≡ get_or es i e → name_cmp k e.0 ≡ Equal → Stands k es i
@@ -156,7 +156,7 @@ free_absent k es rises free =
     let new = insert-new k 0 es rises free in
     let long : length (insert es (place_of k es) (k, 0)) ≡ length es + 1 = length-insert es (place_of k es) (k, 0) (place_of-le k es) in
     let counted : length es + 1 ≡ cond (is_some (get (map_of es) k)) (length es) (length es + 1) =
-        sym long ∙ (sym (len-map_of _ new.0) ∙ (ap (λ (m : Map ℕ). len m) new.1 ∙ (map.len-insert nat_list_cmp_total (map_of es) k 0 ∙ ap (λ n. cond (is_some (get (map_of es) k)) n (n + 1)) (len-map_of es rises)))) in
+    sym long ∙ (sym (len-map_of _ new.0) ∙ (ap (λ (m : Map ℕ). len m) new.1 ∙ (map.len-insert nat_list_cmp_total (map_of es) k 0 ∙ ap (λ n. cond (is_some (get (map_of es) k)) n (n + 1)) (len-map_of es rises)))) in
     none_of (get (map_of es) k) (length es) counted
 
 Stands-below : (k : Name) (es : Pairs) (i : ℕ) → Stands k es i → i < length es

@@ -1,5 +1,5 @@
 -- Places and bindings in the plain map that tests run.
-use Rattle.std.specs.Prelude.{◌≡◌, ℕ, T, IsSomeAnd, slice_get, suc, zero, Bool, if◌then◌else◌, List, [], ◌∷◌, Option, Some, None}
+use Rattle.std.specs.Prelude.{◌≡◌, ℕ, T, IsSomeAnd, slice_get, suc, zero, if◌then◌else◌, List, [], ◌∷◌, Option, Some, None}
 use Rattle.std.specs.declared.cmp.Ordering.TheVariants.{Equal}
 use Rattle.std.specs.Ordering.{is_gt}
 use Rattle.std.specs.FinMap.{insert, remove, is_sorted}

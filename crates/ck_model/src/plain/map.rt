@@ -5,10 +5,9 @@ ghost use Rattle.ck_model.specs.Map.{Name, name_cmp, Map, Step};
 ghost use Rattle.ck_model.specs.History.{After, IsLegal};
 ghost use Rattle.ck_model.specs.PlainMap.{place_of, with_binding, Stands, Rises};
 
-
-use crate::history::Name;
+use super::answers::{after_act, after_two};
+use crate::history::{Act, Call, Entry, Name, Reply};
 use std::alloc::{AllocError, Global};
-
 use std::cmp::Ordering;
 use std::collections::LinkedList;
 use std::marker::Model;
@@ -153,4 +152,133 @@ impl PlainMap {
         }
         Ok(Some(map))
     }
+
+    // A step of a call on one name.
+    fn follow_on(
+        &mut self,
+        name: &Name,
+        act: &Act<u64>,
+        reply: &Reply<u64>,
+    ) -> Result<bool, AllocError>
+        ensures legal { IfOk result (λ b.
+            b ≡ true → Step self.old (Call.On name.now act.now) reply.now self.new) }
+        ensures refused { IfOk result (λ b.
+            b ≡ false
+            → (self.new ≡ self.old)
+            × ((m2 : Map ℕ) → ¬ (Step self.old (Call.On name.now act.now) reply.now m2))) }
+        ensures err { OnErr result (self.new ≡ self.old) }
+    {
+        match after_act(act, self.get(name), reply) {
+            Some(after) => {
+                self.set(name, after)?;
+                Ok(true)
+            }
+            None => Ok(false),
+        }
+    }
+
+    // A step of a change of two names.
+    fn follow_two(
+        &mut self,
+        first: &Name,
+        second: &Name,
+        reply: &Reply<u64>,
+    ) -> Result<bool, AllocError>
+        ensures legal { IfOk result (λ b.
+            b ≡ true → Step self.old (Call.ChangeTwo first.now second.now) reply.now self.new) }
+        ensures refused { IfOk result (λ b.
+            b ≡ false
+            → (self.new ≡ self.old)
+            × ((m2 : Map ℕ) → ¬ (Step self.old (Call.ChangeTwo first.now second.now) reply.now m2))) }
+        ensures err { OnErr result (self.new ≡ self.old) }
+    {
+        if first == second {
+            return Ok(false);
+        }
+        match after_two(self.get(first), self.get(second), reply) {
+            Some(Some((value, other))) => {
+                self.insert(first, value)?;
+                self.insert(second, other)?;
+                Ok(true)
+            }
+            Some(None) => Ok(true),
+            None => Ok(false),
+        }
+    }
+
+    // Whether the reply is the number of names.
+    fn is_count(&self, reply: &Reply<u64>) -> bool
+        ensures { IsTrue result ↔ (reply.now ≡ Reply.Count (map.len self.now)) }
+    {
+        match reply {
+            Reply::Count(count) => *count == self.len() as u64,
+            _ => false,
+        }
+    }
+
+    // A step of a session.
+    fn follow_session(
+        &mut self,
+        before: &LinkedList<(Name, u64)>,
+        after: &LinkedList<(Name, u64)>,
+        reply: &Reply<u64>,
+    ) -> Result<bool, AllocError>
+        ensures legal { IfOk result (λ b.
+            b ≡ true → Step self.old (Call.Session before.now after.now) reply.now self.new) }
+        ensures refused { IfOk result (λ b.
+            b ≡ false
+            → (self.new ≡ self.old)
+            × ((m2 : Map ℕ) → ¬ (Step self.old (Call.Session before.now after.now) reply.now m2))) }
+        ensures err { OnErr result (self.new ≡ self.old) }
+    {
+        if !matches!(reply, Reply::Closed) {
+            return Ok(false);
+        }
+        let alloc = *self.pairs.allocator();
+        let Some(old) = PlainMap::from_pairs(alloc, before)? else {
+            return Ok(false);
+        };
+        if !self.is_same(&old) {
+            return Ok(false);
+        }
+        let Some(new) = PlainMap::from_pairs(alloc, after)? else {
+            return Ok(false);
+        };
+        *self = new;
+        Ok(true)
+    }
+
+    /// Takes the step of this entry, and is true, where the plain map has such a step. Else it is false, and the map
+    /// stays as it was; so it does where no memory is left.
+    pub fn follow(&mut self, entry: &Entry<u64>) -> Result<bool, AllocError>
+        ensures legal { IfOk result (λ b.
+            b ≡ true → Step self.old entry.now.call entry.now.reply self.new) }
+        ensures refused { IfOk result (λ b.
+            b ≡ false
+            → (self.new ≡ self.old)
+            × ((m2 : Map ℕ) → ¬ (Step self.old entry.now.call entry.now.reply m2))) }
+        ensures err { OnErr result (self.new ≡ self.old) }
+    {
+        let reply = &entry.reply;
+        match &entry.call {
+            Call::On(name, act) => self.follow_on(name, act, reply),
+            Call::ChangeTwo(first, second) => self.follow_two(first, second, reply),
+            Call::Len => Ok(self.is_count(reply)),
+            Call::Session(before, after) => self.follow_session(before, after, reply),
+        }
+    }
+}
+
+/// The map after this history, or None where the history isn't legal.
+pub fn run(alloc: Global, entries: &[Entry<u64>]) -> Result<Option<PlainMap>, AllocError>
+    ensures legal { IfOk result (λ r. IfSome r (After entries.now)) }
+    ensures illegal { IfOk result (λ r. IfNone r (¬ (IsLegal entries.now))) }
+{
+    let mut map = PlainMap::new(alloc);
+    for entry in entries {
+        if !map.follow(entry)? {
+            return Ok(None);
+        }
+    }
+    Ok(Some(map))
 }

@@ -1,6 +1,5 @@
 use Rattle.ck_model.proofs.PlainPairs.{place_of-drop, Stands-at}
-use Rattle.std.proofs.Common.{◌≡◌, ◌∙◌, sym, arith}
-use Rattle.std.proofs.lemmas.Grind.{common_steps}
+use Rattle.std.proofs.Common.{◌∙◌, sym, arith}
 use Rattle.ck_model.proofs.plain.map.place.Goals as goal
 
 pub returns-in-Equal-clause-at : goal.returns-in-Equal-clause-at

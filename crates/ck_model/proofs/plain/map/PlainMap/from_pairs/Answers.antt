@@ -1,6 +1,6 @@
-use Rattle.std.proofs.Common.{◌≡◌, ◌∙◌, ap, ◌++◌, ℕ}
+use Rattle.std.proofs.Common.{◌∙◌, ap, ◌++◌, ℕ}
 use Rattle.std.specs.FinMap.{entries}
-use Rattle.ck_model.specs.Map.{Name, Map}
+use Rattle.ck_model.specs.Map.{Map}
 use Rattle.ck_model.proofs.PlainPairs.{Pairs, falls_on, entries-none}
 use Rattle.ck_model.proofs.plain.map.PlainMap.from_pairs.Goals as goal
 

@@ -1,4 +1,4 @@
-use Rattle.std.proofs.Common.{◌≡◌, ◌∙◌, sym, subst, ◌≤◌}
+use Rattle.std.proofs.Common.{sym, subst, ◌≤◌}
 use Rattle.std.specs.List.{each_same}
 use Rattle.ck_model.proofs.PlainPairs.{set-old, insert-free, not_bound, place_within}
 use Rattle.ck_model.proofs.plain.map.PlainMap.insert.Goals as goal

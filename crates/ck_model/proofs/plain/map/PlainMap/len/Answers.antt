@@ -1,4 +1,4 @@
-use Rattle.std.proofs.Common.{sym, ap, ◌∙◌, ◌≡◌, length, arith}
+use Rattle.std.proofs.Common.{sym, ap, ◌∙◌}
 use Rattle.std.specs.FinMap.{len}
 use Rattle.ck_model.proofs.PlainPairs.{len-map_of}
 use Rattle.ck_model.proofs.plain.map.PlainMap.len.Goals as goal

@@ -1,4 +1,4 @@
-use Rattle.std.proofs.Common.{◌≡◌, ◌∙◌, sym, subst, ◌≤◌}
+use Rattle.std.proofs.Common.{◌∙◌, sym}
 use Rattle.std.specs.List.{each_same}
 use Rattle.ck_model.proofs.PlainPairs.{pushed, refused_inside, refused_twice}
 use Rattle.ck_model.proofs.plain.map.PlainMap.push.Goals as goal
@@ -14,7 +14,7 @@ returns-in_ok-push-in-Err-clause-pushed c _ =
 pub returns-in_default-clause-refused : goal.returns-in_default-clause-refused
 returns-in_default-clause-refused c _ =
     refused_inside c.args.name.now c.in-Err.at _ c.self.inside.pairs.items _ c.self.invariant c.self.view_is c.deref.ensures.value c.in-Err.ensures.at c.args.value
-        (λ e. c.if-at-len.false (e ∙ sym (c.len.ensures ∙ c.self.inside.pairs.ok.0)))
+    (λ e. c.if-at-len.false (e ∙ sym (c.len.ensures ∙ c.self.inside.pairs.ok.0)))
 
 pub returns-in_default-2-clause-refused : goal.returns-in_default-2-clause-refused
 returns-in_default-2-clause-refused c _ =

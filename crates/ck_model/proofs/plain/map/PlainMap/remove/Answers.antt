@@ -4,7 +4,7 @@ use Rattle.std.specs.FinMap.{remove}
 use Rattle.std.proofs.lemmas.Fn.{filter_same}
 use Rattle.ck_model.specs.Map.{Name, name_cmp, Map}
 use Rattle.ck_model.specs.PlainMap.{Rises}
-use Rattle.ck_model.proofs.PlainPairs.{Pairs, map_of, others, remove-others}
+use Rattle.ck_model.proofs.PlainPairs.{map_of, others, remove-others}
 use Rattle.ck_model.proofs.plain.map.PlainMap.remove.Goals as goal
 
 kept : (c : goal.After-retain) → c.retain.new.self.items ≡ others c.args.name.now c.self.inside.pairs.items
