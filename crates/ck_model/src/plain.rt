@@ -3,3 +3,4 @@
 
 mod answers;
 pub mod map;
+pub mod stripes;
