@@ -1,4 +1,4 @@
-use Rattle.std.proofs.Common.{◌≡◌, ◌+◌, drop, length, map}
+use Rattle.std.proofs.Common.{◌≡◌, ◌+◌, drop}
 use Rattle.ck_model.specs.Plain.{entry_count}
 use Rattle.ck_model.proofs.plain.stripes.is_entry_count.Given as goal
 
