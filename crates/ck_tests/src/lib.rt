@@ -2,4 +2,6 @@
 #![tactic(auto)]
 
 #[cfg(test)]
+mod definitions;
+#[cfg(test)]
 mod memory;
