@@ -5,12 +5,13 @@ use Rattle.std.specs.Option.{option_to_list}
 use Rattle.std.proofs.Math.Pow.{pow_mono}
 use Rattle.std.proofs.lemmas.Nat.{pow_pos, div_below}
 use Rattle.std.proofs.lemmas.Bool.{true≢false}
+use Rattle.std.proofs.lemmas.Option.{none-some}
 use Rattle.std.proofs.lemmas.List.{length-append, length-set, length-replicate}
 use Rattle.std.proofs.lemmas.List.Elements.{All-set, All-replicate}
 use Rattle.ck_model.specs.declared.contents.Content.{Content}
 use Rattle.ck_model.specs.Map.{Name}
 use Rattle.ck_model.specs.Slots.{Slot, slot_at, taken_in}
-use Rattle.ck_model.specs.Contents.{row_at}
+use Rattle.ck_model.specs.Contents.{Layout, row_at, NamesApart, IsSound}
 use Rattle.ck_stripe.specs.Stripe.{StripeState, HasBucket, bucket_of, state_from, empty_content, IsShaped, IsConsistent}
 use Rattle.ck_stripe.proofs.Doubled.{all_buckets}
 use Rattle.ck_stripe.proofs.Fields.{shown_settled, shaped_settled}
@@ -54,9 +55,19 @@ few_pairs (row ∷ rows) four =
     let again = few_pairs rows (λ i d lt. four (suc i) d (omega arith)) in
     omega arith
 
-pub no_pairs : (X : Type 0) (n : ℕ) → length (flat_map (taken_in {X = X}) (replicate n (replicate 4 None))) ≡ 0
+no_pairs : (X : Type 0) (n : ℕ) → flat_map (taken_in {X = X}) (replicate n (replicate 4 None)) ≡ []
 no_pairs W zero = refl
 no_pairs W (suc n) = no_pairs W n
+
+no_entry : (V : Type 0) (n r i : ℕ) → slot_at {V = V} (row_at {V = V} (replicate n (replicate 4 None)) r) i ≡ None
+no_entry W zero r i = refl
+no_entry W (suc n) zero i = free 4 i
+  where
+    free : (m j : ℕ) → slot_at {V = W} (replicate m None) j ≡ None
+    free zero j = refl
+    free (suc m) zero = refl
+    free (suc m) (suc j) = free m j
+no_entry W (suc n) (suc r) i = no_entry W n r i
 
 pub one_full : {X : Type 0} (o : Option X) → IsSome o → length (option_to_list o) ≡ 1
 one_full None h = absurd (true≢false (sym h))
@@ -125,7 +136,20 @@ module _ {V : Type 0} where
       most = most;
       rows = length-replicate (2 ^ (power - s)) (replicate 4 None);
       four = All-replicate (λ (row : List (Slot V)). length row ≡ 4) (2 ^ (power - s)) (replicate 4 None) refl;
-      ledger = sym (no_pairs (Name × V) (2 ^ (power - s)));
+      ledger = sym (ap length (no_pairs (Name × V) (2 ^ (power - s))));
     };
     late = λ f. absurd (true≢false f);
+  }
+
+  -- an empty content is sound
+  pub sound_empty : (k : Layout) (t s power : ℕ) → k.s ≡ s → t < 2 ^ s → s ≤ power → power ≤ k.max → IsSound {V = V} k t (empty_content s power)
+  sound_empty k t s power same below least most = record {
+    number = subst (λ n. t < 2 ^ n) (sym same) below;
+    least = omega arith;
+    most = most;
+    rows = length-replicate (2 ^ (power - s)) (replicate 4 None) ∙ ap (λ n. 2 ^ (power - n)) (sym same);
+    four = All-replicate (λ (row : List (Slot V)). length row ≡ 4) (2 ^ (power - s)) (replicate 4 None) refl;
+    placed = λ r i q v e. absurd (none-some _ (sym (no_entry V (2 ^ (power - s)) r i) ∙ e));
+    apart = subst NamesApart (sym (no_pairs (Name × V) (2 ^ (power - s)))) tt;
+    ledger = sym (ap length (no_pairs (Name × V) (2 ^ (power - s))));
   }
