@@ -67,6 +67,22 @@ module _ {V : Type 0} (hash : Name → ℕ) where
       go j m w e (inl same) (inr past) = kept.partial j m w (ap (λ s. slot_at s j) (sym (set_past slots i None past)) ∙ e)
       go j m w e (inr other) c = kept.partial j m w (sym (get_or-set_other slots i j None None other) ∙ e)
 
+  -- an entry goes to another bucket, its partial beside it
+  pub partials-moved : (from into : List ℕ) (slots others : List (Slot V)) (i : ℕ) → i < 4 → length into ≡ 4 → KeepsPartials hash from slots → KeepsPartials hash into others
+      → KeepsPartials hash (set into i (slice_index from i)) (set others i (slot_at slots i))
+  partials-moved from into slots others i below four source kept = record {
+    four = length-set others i _ ∙ kept.four;
+    partial = λ j m w e. go j m w e (cases_eq j i);
+  }
+    where
+      go : (j : ℕ) (m : Name) (w : V) → slot_at (set others i (slot_at slots i)) j ≡ Some (m, w) → (j ≡ i) ⊎ (j ≢ i) → slice_index (set into i (slice_index from i)) j ≡ partial_of (hash m)
+      go j m w e (inl same) =
+          let at : slot_at (set others i (slot_at slots i)) i ≡ Some (m, w) = subst (λ k. slot_at (set others i (slot_at slots i)) k ≡ Some (m, w)) same e in
+          ap (slice_index (set into i (slice_index from i))) same ∙ get_or-set_same into i (slice_index from i) 0 (omega arith)
+          ∙ source.partial i m w (sym (get_or-set_same others i (slot_at slots i) None (omega (arith, kept.four))) ∙ at)
+      go j m w e (inr other) =
+          get_or-set_other into i j (slice_index from i) 0 other ∙ kept.partial j m w (sym (get_or-set_other others i j (slot_at slots i) None other) ∙ e)
+
 -- what is seen in the slots is what is in them, by names
 pub taken-seen : {K V : Type 0} (name : K → Name) (slots : List (Option (K × V))) → taken_in (seen_slots name slots) ≡ map (named name) (taken_in slots)
 taken-seen name [] = refl

@@ -1,8 +1,9 @@
 -- What a bucket's calls find and change in its slots.
-use Rattle.std.specs.Prelude.{◌≡◌, ◌≢◌, ℕ, List, Option, Some, length, map, slice_index, option_map, slice_set}
+use Rattle.std.specs.Prelude.{◌≡◌, ◌≢◌, ℕ, Bool, not, if◌then◌else◌, List, Option, Some, None, length, map, slice_index, option_map, slice_set}
 use Rattle.ck_model.specs.Arithmetic.{partial_of}
 use Rattle.ck_model.specs.Map.{Name, named}
 use Rattle.ck_model.specs.Slots.{Slot, slot_at}
+use Rattle.ck_key.specs.Doubling.{rises_of}
 
 -- what is seen of the slots: names in place of keys
 abbrev pub seen_slots : {K V : Type 0} → (K → Name) → List (Option (K × V)) → List (Slot V)
@@ -30,3 +31,24 @@ pub record ReplacesValue {V : Type 0} (before after : List (Slot V)) (i : ℕ) (
 -- the partial that a sketch shows of a slot
 abbrev pub partial_in : {V : Type 0} → (Name → ℕ) → Slot V → Option ℕ
 partial_in {V} hash slot = option_map (λ (e : Name × V). partial_of (hash e.0)) slot
+
+-- the entry of a slot, where its name passes the test
+abbrev pub kept_if : {V : Type 0} → (Name → Bool) → Slot V → Slot V
+kept_if t None = None
+kept_if t (Some e) = if t e.0 then Some e else None
+
+-- what stays in a slot of bucket b where a table of 2^p buckets doubles
+abbrev pub staying : {V : Type 0} → (Name → ℕ) → ℕ → ℕ → Slot V → Slot V
+staying hash p b slot = kept_if (λ (q : Name). not (rises_of p b (hash q))) slot
+
+-- what leaves the slot
+abbrev pub rising : {V : Type 0} → (Name → ℕ) → ℕ → ℕ → Slot V → Slot V
+rising hash p b slot = kept_if (λ (q : Name). rises_of p b (hash q)) slot
+
+-- bucket b after the doubling: each entry that stays has kept its slot
+abbrev pub low_row : {V : Type 0} → (Name → ℕ) → ℕ → ℕ → List (Slot V) → List (Slot V)
+low_row hash p b slots = map (staying hash p b) slots
+
+-- the bucket 2^p above b after the doubling: each entry that comes from b has kept its slot
+abbrev pub high_row : {V : Type 0} → (Name → ℕ) → ℕ → ℕ → List (Slot V) → List (Slot V)
+high_row hash p b slots = map (rising hash p b) slots

@@ -3,7 +3,7 @@ ghost use Rattle.std.specs.Prelude.{◌≡◌, ◌≤◌, ◌+◌, ◌<◌, ◌+
 ghost use Rattle.ck_model.specs.Arithmetic.{partial_of};
 ghost use Rattle.ck_model.specs.Map.{named};
 ghost use Rattle.ck_model.specs.Slots.{slot_at, taken_in, IsFull};
-ghost use Rattle.ck_bucket.specs.Bucket.{HasName, LacksName, ReplacesValue, partial_in};
+ghost use Rattle.ck_bucket.specs.Bucket.{HasName, LacksName, ReplacesValue, partial_in, staying, rising, low_row, high_row};
 
 use crate::slots::Slots;
 use ck_key::TableKey;
@@ -117,6 +117,41 @@ impl<K: TableKey + Drop, V: Drop> Bucket<K, V> {
         ensures { ReplacesValue self.old self.new slot value result }
     {
         self.slots.replace_value(slot, value)
+    }
+
+    /// Splits bucket `b` where a table of 2^p buckets doubles: what stays in it is kept, what goes to the bucket 2^p
+    /// above it is given, and each entry keeps its slot.
+    pub fn split(&mut self, p: u32, b: u64) -> Self
+        requires { p < 26 }
+        ensures low { self.new ≡ low_row K.hash p b self.old }
+        ensures high { result ≡ high_row K.hash p b self.old }
+    {
+        let mut high = Bucket::new();
+        self.split_slot(&mut high, 0, p, b);
+        self.split_slot(&mut high, 1, p, b);
+        self.split_slot(&mut high, 2, p, b);
+        self.split_slot(&mut high, 3, p, b);
+        high
+    }
+
+    // Moves the entry of the slot to the bucket above where it rises. The partial goes along, so the key is hashed once.
+    fn split_slot(&mut self, high: &mut Self, slot: usize, p: u32, b: u64)
+        requires below { slot < 4 }
+        requires power { p < 26 }
+        requires free { slot_at high.old slot ≡ None }
+        ensures low { self.new ≡ slice_set self.old slot (staying K.hash p b (slot_at self.old slot)) }
+        ensures high { high.new ≡ slice_set high.old slot (rising K.hash p b (slot_at self.old slot)) }
+        ensures four { length self.old ≡ 4 }
+    {
+        let rises = match self.slots.get(slot) {
+            Some((key, _)) => ck_key::rises(p, b, key.hash64()),
+            None => false,
+        };
+        if rises {
+            high.partials[slot] = self.partials[slot];
+            let entry = self.slots.replace(slot, None);
+            let _free = high.slots.replace(slot, entry);
+        }
     }
 
     /// The partial of each slot that is not free.

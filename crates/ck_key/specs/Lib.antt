@@ -1,2 +1,3 @@
 pub mod Hashes
 pub mod KeyLaws
+pub mod Doubling

@@ -8,7 +8,7 @@ mod num_key;
 mod tests;
 mod text_key;
 
-pub use arithmetic::{alternate, index, partial, stripes_of};
+pub use arithmetic::{alternate, index, partial, rises, stripes_of};
 pub use key::TableKey;
 pub use num_key::NumKey;
 pub use text_key::{KeyFault, TextKey};

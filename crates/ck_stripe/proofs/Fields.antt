@@ -1,0 +1,76 @@
+-- What is stored of a stripe, and what is shown of it.
+use Rattle.std.proofs.Common.{◌≡◌, ℕ, Bool, true, false, cond, refl, sym, ◌∙◌, ap, subst, ◌+◌, ◌-◌, ◌*◌, ◌^◌, ◌<◌, ◌≤◌, List, length, arith}
+use Rattle.std.specs.Prelude.{flat_map, All}
+use Rattle.std.proofs.Math.Nat.{mul-le-mul_right}
+use Rattle.std.proofs.Math.Pow.{pow_mono}
+use Rattle.std.proofs.lemmas.Bool.{true≢false}
+use Rattle.ck_model.specs.Map.{Name}
+use Rattle.ck_model.specs.Slots.{Slot, taken_in}
+use Rattle.ck_stripe.specs.Doubling.{split_rows, doubled_content}
+use Rattle.ck_stripe.specs.Stripe.{StripeState, state_from, shown, IsShaped, IsReserved, IsConsistent}
+use Rattle.ck_stripe.proofs.Splits.{length-split}
+use Rattle.ck_stripe.proofs.Doubled.{all_buckets, shaped_doubled}
+
+module _ {V : Type 0} (hash : Name → ℕ) where
+  -- a settled stripe shows what it stores
+  pub shown_settled : (t : StripeState V) → t.settled ≡ true → shown hash t ≡ t
+  shown_settled t e =
+      ap (λ (b : Bool). state_from t.number t.s t.content.power (cond b t.content.rows (split_rows hash t.s t.number (t.content.power - 1) t.content.rows)) t.content.ledger t.settled t.room) e
+
+  -- the fields after the power rose
+  abbrev pub raised : StripeState V → StripeState V
+  raised t = state_from t.number t.s (t.content.power + 1) t.content.rows t.content.ledger false t.room
+
+  abbrev pub doubled : StripeState V → StripeState V
+  doubled t = record { number = t.number; s = t.s; content = doubled_content hash t.s t.number t.content; settled = false; room = t.room }
+
+  pub shown_raised : (t : StripeState V) → shown hash (raised t) ≡ doubled t
+  shown_raised t =
+      let back : t.content.power + 1 - 1 ≡ t.content.power = omega arith in
+      ap (λ (q : ℕ). state_from t.number t.s (t.content.power + 1) (split_rows hash t.s t.number q t.content.rows) t.content.ledger false t.room) back
+
+  pub shaped_settled : (t : StripeState V) → IsConsistent hash t → t.settled ≡ true → IsShaped t.s t.number t.content
+  shaped_settled t kept e = subst (λ (w : StripeState V). IsShaped t.s t.number w.content) (shown_settled t e) kept.shaped
+
+  pub consistent_raised : (t : StripeState V) → IsConsistent hash t → t.settled ≡ true → t.content.power < 26 → IsReserved t → IsConsistent hash (raised t)
+  consistent_raised t kept e below reserved =
+      let shaped : IsShaped t.s t.number t.content = shaped_settled t kept e in
+      record {
+        shaped = subst (λ (w : StripeState V). IsShaped t.s t.number w.content) (sym (shown_raised t)) (shaped_doubled hash t.s t.number t.content shaped below);
+        late = λ _. (omega (arith, shaped.least), reserved);
+      }
+
+  pub consistent_room : (t : StripeState V) → IsConsistent hash t → (n : ℕ) → t.room ≤ n → IsConsistent hash (state_from t.number t.s t.content.power t.content.rows t.content.ledger t.settled n)
+  consistent_room t kept n le = record {
+    shaped = kept.shaped;
+    late = λ e. ((kept.late e).0, omega (arith, (kept.late e).1));
+  }
+
+  module _ (t : StripeState V) (kept : IsConsistent hash t) (late : t.settled ≡ false) where
+    -- what is shown before the split
+    shaped_late : IsShaped t.s t.number (record { power = t.content.power; rows = split_rows hash t.s t.number (t.content.power - 1) t.content.rows; ledger = t.content.ledger })
+    shaped_late = subst (λ (b : Bool). IsShaped t.s t.number (record { power = t.content.power; rows = cond b t.content.rows (split_rows hash t.s t.number (t.content.power - 1) t.content.rows); ledger = t.content.ledger })) late kept.shaped
+
+    pub few_late : length t.content.rows * 2 ^ t.s ≤ 2 ^ 26
+    few_late =
+        let long = length-split hash t.s t.number (t.content.power - 1) t.content.rows in
+        let rows = shaped_late.rows in
+        let less : length t.content.rows ≤ 2 ^ (t.content.power - t.s) = omega arith in
+        let most = mul-le-mul_right (2 ^ t.s) less in
+        let all : 2 ^ t.content.power ≡ 2 ^ (t.content.power - t.s) * 2 ^ t.s = all_buckets t.s t.content.power (2 ^ (t.content.power - t.s)) shaped_late.least refl in
+        let end : 2 ^ t.content.power ≤ 2 ^ 26 = pow_mono shaped_late.most in
+        omega arith
+
+    pub consistent_settled : (rows : List (List (Slot V))) → rows ≡ split_rows hash t.s t.number (t.content.power - 1) t.content.rows → (n : ℕ) → IsConsistent hash (state_from t.number t.s t.content.power rows t.content.ledger true n)
+    consistent_settled rows is n = record {
+      shaped = record {
+        many = shaped_late.many;
+        number = shaped_late.number;
+        least = shaped_late.least;
+        most = shaped_late.most;
+        rows = ap length is ∙ shaped_late.rows;
+        four = subst (All (λ (row : List (Slot V)). length row ≡ 4)) (sym is) shaped_late.four;
+        ledger = shaped_late.ledger ∙ ap (λ (ys : List (List (Slot V))). length (flat_map taken_in ys)) (sym is);
+      };
+      late = λ e. absurd (true≢false e);
+    }

@@ -1,0 +1,5 @@
+pub mod Splits
+pub mod Permuted
+pub mod Doubled
+pub mod Fields
+pub mod Writes

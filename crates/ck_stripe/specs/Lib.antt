@@ -1,0 +1,3 @@
+pub mod Doubling
+pub mod Stripe
+pub mod Laws

@@ -1,0 +1,211 @@
+//! One stripe of the table. A doubling raises the power, and the entries are moved when the stripe is next looked into:
+//! so a table that grows waits for no stripe that nobody asks for.
+ghost use Rattle.std.specs.Prelude.{◌≡◌, ◌≤◌, ◌<◌, ◌+◌, ◌-◌, ◌*◌, ◌/◌, ◌^◌, ℕ, true, false, Some, None, IsSome, IfOk, OnOk, OnErr, length, vec_capacity};
+ghost use Rattle.std.specs.List.Sorted.{IsPermutation};
+ghost use Rattle.ck_model.specs.Slots.{slot_at};
+ghost use Rattle.ck_model.specs.Contents.{Layout, pairs_in, IsSound};
+ghost use Rattle.ck_bucket.specs.Bucket.{ReplacesValue};
+ghost use Rattle.ck_stripe.specs.Doubling.{split_rows, doubled_content, SendsEach};
+ghost use Rattle.ck_stripe.specs.Stripe.{HasBucket, bucket_of, with_bucket, with_slot, empty_content, IsShaped, IsReserved};
+
+use ck_bucket::Bucket;
+use ck_key::TableKey;
+use std::alloc::{AllocError, Global};
+use std::marker::Model;
+
+/// Stripe `number` of 2^s: the buckets `b` with `b mod 2^s` its number, in a table of 2^power buckets. Bucket `b` is row
+/// `b / 2^s`.
+#[derive(Drop)]
+pub struct Stripe<K: TableKey, V> {
+    // Until a doubled stripe is settled, these are the buckets of the power below.
+    buckets: Vec<Bucket<K, V>>,
+    power: u32,
+    s: u32,
+    // The number of entries.
+    ledger: u64,
+    number: u32,
+    settled: bool,
+}
+
+impl<K: TableKey, V> Model for Stripe<K, V> {
+    ghost use Rattle.std.specs.Prelude.{vec_capacity};
+    ghost use Rattle.ck_stripe.specs.Stripe.{StripeState, state_from, shown, IsConsistent};
+
+    ghost Value = { StripeState V };
+
+    ghost view = { λ t. shown K.hash (state_from t.number t.s t.power t.buckets.items t.ledger t.settled (vec_capacity t.buckets)) };
+
+    ghost invariant = { λ t. IsConsistent K.hash (state_from t.number t.s t.power t.buckets.items t.ledger t.settled (vec_capacity t.buckets)) };
+}
+
+impl<K: TableKey + Drop, V: Drop> Stripe<K, V> {
+    /// An empty stripe in a table of 2^power buckets. It is refused only for want of memory.
+    pub fn open(alloc: Global, s: u32, number: u32, power: u32) -> Result<Self, AllocError>
+        requires s { s ≤ 10 }
+        requires number { number < 2 ^ s }
+        requires least { s ≤ power }
+        requires most { power ≤ 26 }
+        ensures value { IfOk result (λ stripe. stripe ≡ record { number = number; s = s; content = empty_content s power; settled = true; room = stripe.room }) }
+        ensures sound { IfOk result (λ stripe. (k : Layout) → k.s ≡ s → power ≤ k.max → IsSound k number stripe.content) }
+    {
+        let rows = 1usize << (power - s);
+        let mut buckets = Vec::with_capacity(alloc, rows)?;
+        for _ in 0..rows {
+            buckets.push_reserved(Bucket::new());
+        }
+        Ok(Stripe {
+            buckets,
+            power,
+            s,
+            ledger: 0,
+            number,
+            settled: true,
+        })
+    }
+
+    /// Bucket `b` of the table.
+    pub fn bucket(&self, b: u64) -> &Bucket<K, V>
+        requires settled { self.now.settled ≡ true }
+        requires own { HasBucket self.now b }
+        ensures value { result.now ≡ bucket_of self.now b }
+        ensures shaped { IsShaped self.now.s self.now.number self.now.content }
+    {
+        let row = self.row(b);
+        &self.buckets[row]
+    }
+
+    /// Puts a key and its value into a free slot of bucket `b`.
+    pub fn place(&mut self, b: u64, slot: usize, key: K, value: V)
+        requires settled { self.old.settled ≡ true }
+        requires own { HasBucket self.old b }
+        requires below { slot < 4 }
+        requires free { slot_at (bucket_of self.old b) slot ≡ None }
+        ensures content { self.new.content ≡ with_slot self.old b slot (Some (K.name key, value)) (self.old.content.ledger + 1) }
+        ensures rest { self.new ≡ record self.old { content = self.new.content } }
+    {
+        let row = self.row(b);
+        self.buckets[row].put(slot, key, value);
+        self.ledger += 1;
+    }
+
+    /// Frees a slot of bucket `b`, and gives what was in it.
+    pub fn remove(&mut self, b: u64, slot: usize) -> (K, V)
+        requires settled { self.old.settled ≡ true }
+        requires own { HasBucket self.old b }
+        requires below { slot < 4 }
+        requires full { IsSome (slot_at (bucket_of self.old b) slot) }
+        ensures entry { slot_at (bucket_of self.old b) slot ≡ Some (K.name result.0, result.1) }
+        ensures content { self.new.content ≡ with_slot self.old b slot None (self.old.content.ledger - 1) }
+        ensures rest { self.new ≡ record self.old { content = self.new.content } }
+    {
+        let row = self.row(b);
+        let entry = self.buckets[row].take(slot);
+        self.ledger -= 1;
+        entry
+    }
+
+    /// Puts another value beside the key in a slot of bucket `b`, and gives the old one.
+    pub fn replace(&mut self, b: u64, slot: usize, value: V) -> V
+        requires settled { self.old.settled ≡ true }
+        requires own { HasBucket self.old b }
+        requires below { slot < 4 }
+        requires full { IsSome (slot_at (bucket_of self.old b) slot) }
+        ensures entry { ReplacesValue (bucket_of self.old b) (bucket_of self.new b) slot value result }
+        ensures content { self.new.content ≡ with_bucket self.old b (bucket_of self.new b) self.old.content.ledger }
+        ensures rest { self.new ≡ record self.old { content = self.new.content } }
+    {
+        let row = self.row(b);
+        self.buckets[row].replace(slot, value)
+    }
+
+    // The row of bucket `b`.
+    fn row(&self, b: u64) -> usize
+        requires settled { self.now.settled ≡ true }
+        requires own { HasBucket self.now b }
+        ensures value { result ≡ b / 2 ^ self.now.s }
+        ensures below { result < length self.now.content.rows }
+        ensures shaped { IsShaped self.now.s self.now.number self.now.content }
+    {
+        (b >> self.s) as usize
+    }
+
+    /// The number of entries.
+    pub fn len(&self) -> u64
+        ensures value { result ≡ self.now.content.ledger }
+        ensures pairs { result ≡ length (pairs_in self.now.content) }
+    {
+        self.ledger
+    }
+
+    /// Takes the memory for a doubling, by one request at most, and by none where it has the memory. A refused request
+    /// leaves the stripe as it was.
+    pub fn reserve_double(&mut self) -> Result<(), AllocError>
+        requires settled { self.old.settled ≡ true }
+        ensures same { self.new ≡ record self.old { room = self.new.room } }
+        ensures room { self.old.room ≤ self.new.room }
+        ensures ok { OnOk result (IsReserved self.new) }
+        ensures due { OnErr result (self.old.room < 2 * length self.old.content.rows) }
+        ensures kept { OnErr result (self.new ≡ self.old) }
+    {
+        let more = self.buckets.len();
+        self.buckets.reserve_exact(more)
+    }
+
+    /// Raises the power by one. The stripe then shows its entries where the doubling sends them: each keeps its slot, and
+    /// goes from its name's first bucket to the first, from the alternate one to the alternate one. `settle` moves them.
+    pub fn double(&mut self)
+        requires settled { self.old.settled ≡ true }
+        requires reserved { IsReserved self.old }
+        requires power { self.old.content.power < 26 }
+        ensures content { self.new.content ≡ doubled_content K.hash self.old.s self.old.number self.old.content }
+        ensures rest { self.new ≡ record self.old { content = self.new.content; settled = false } }
+        ensures pairs { IsPermutation (pairs_in self.old.content) (pairs_in self.new.content) }
+        ensures sends { SendsEach K.hash self.old.s self.old.number self.old.content self.new.content }
+    {
+        self.power += 1;
+        self.settled = false;
+    }
+
+    /// Whether no doubling is left to be carried out by `settle`.
+    pub fn settled(&self) -> bool
+        ensures value { result ≡ self.now.settled }
+        ensures shaped { IsShaped self.now.s self.now.number self.now.content }
+    {
+        self.settled
+    }
+
+    /// Carries out a doubling, in the memory that was reserved for it; a settled stripe stays as it is.
+    pub fn settle(&mut self)
+        ensures { self.new ≡ record self.old { settled = true } }
+    {
+        if !self.settled {
+            split_all(&mut self.buckets, self.s, self.number, self.power - 1);
+            self.settled = true;
+        }
+    }
+}
+
+// Splits each bucket in place, and appends what leaves it: the rows of stripe `number` where a table of 2^p buckets
+// doubles.
+fn split_all<K: TableKey + Drop, V: Drop>(
+    buckets: &mut Vec<Bucket<K, V>>,
+    s: u32,
+    number: u32,
+    p: u32,
+)
+    requires s { s ≤ 10 }
+    requires number { number < 2 ^ s }
+    requires power { p < 26 }
+    requires few { length buckets.old.items * 2 ^ s ≤ 2 ^ 26 }
+    requires room { 2 * length buckets.old.items ≤ vec_capacity buckets.old }
+    ensures rows { buckets.new.items ≡ split_rows K.hash s number p buckets.old.items }
+    ensures room { vec_capacity buckets.new ≡ vec_capacity buckets.old }
+{
+    let rows = buckets.len();
+    let mut b = number as u64;
+    for r in 0..rows {
+        let high = buckets[r].split(p, b);
+        buckets.push_reserved(high);
+        b += 1 << s;
+    }
+}
