@@ -13,7 +13,7 @@ use Rattle.ck_model.specs.declared.history.Entry.{Entry}
 use Rattle.ck_model.specs.Map.{Name, name_cmp, Map, Answers, AnswersTwo, Step}
 use Rattle.ck_model.specs.History.{Leads}
 use Rattle.ck_core.specs.Sums.{total, KeepsTotal, EachKeepsTotal, SessionShows, EachSessionShows, LawOfSums}
-use Rattle.ck_model.proofs.Plain.{leads_one}
+use Rattle.ck_model.proofs.Determined.{leads_one}
 use Rattle.ck_model.proofs.Histories.{leads_to}
 use Rattle.ck_model.proofs.Names.{dec_name, maps_alike, is_name, no_name}
 

@@ -7,7 +7,8 @@ use Rattle.ck_model.specs.declared.history.Call.TheVariants.{On}
 use Rattle.ck_model.specs.declared.history.Reply.{Reply}
 use Rattle.ck_model.specs.Map.{Name, Answers}
 use Rattle.ck_model.specs.Numbered.{Holds, with_content}
-use Rattle.ck_model.specs.Contents.{Layout, Content, Stripes, bindings, Lawful}
+use Rattle.ck_model.specs.declared.contents.Content.{Content}
+use Rattle.ck_model.specs.Contents.{Layout, Stripes, bindings, Lawful}
 use Rattle.ck_model.specs.Sections.{Owns, Section}
 use Rattle.ck_model.proofs.Found.{bound_from}
 use Rattle.ck_model.proofs.Local.{Change, section_in_one}

@@ -7,7 +7,8 @@ use Rattle.std.proofs.lemmas.List.{length-set, get_or-set_same, get_or-set_other
 use Rattle.std.proofs.lemmas.Bool.{cases_eq}
 use Rattle.ck_model.specs.Map.{Name, name_cmp}
 use Rattle.ck_model.specs.Slots.{Slot, slot_at}
-use Rattle.ck_model.specs.Contents.{Layout, Content, row_at, pairs_in, IsBucketOf, IsSound}
+use Rattle.ck_model.specs.declared.contents.Content.{Content}
+use Rattle.ck_model.specs.Contents.{Layout, row_at, pairs_in, IsBucketOf, IsSound}
 use Rattle.ck_model.proofs.Names.{dec_name}
 use Rattle.ck_model.proofs.Writes.{Writes, written, places, removes, ledger_of_taken, slot_inside, row_inside}
 
