@@ -20,7 +20,8 @@ returns-clause-value g c =
     let shl : 1 * 2 ^ (c.args.power - c.args.s) % 2 ^ 64 ≡ 2 ^ (c.args.power - c.args.s) = one_shl (c.args.power - c.args.s) 64 (omega arith) in
     let number : c.loop.counter ≡ 2 ^ (c.args.power - c.args.s) = omega (arith, shl) in
     let rows : c.loop.buckets.items ≡ replicate (2 ^ (c.args.power - c.args.s)) (replicate 4 None) = c.loop.invariant.rows ∙ ap (λ n. replicate n (replicate 4 None)) number in
-    ap (λ (rows : List (List (Slot g.row.V.Denot))). state_from c.args.number c.args.s c.args.power rows 0 true (vec_capacity c.loop.buckets)) rows
+    let room : vec_capacity c.loop.buckets ≡ 2 ^ (c.args.power - c.args.s) = c.loop.invariant.room ∙ c.in_ok-buckets.ensures.exact ∙ shl in
+    ap (λ (rows : List (List (Slot g.row.V.Denot))). state_from c.args.number c.args.s c.args.power rows 0 true (vec_capacity c.loop.buckets)) rows ∙ ap (λ n. state_from c.args.number c.args.s c.args.power (replicate (2 ^ (c.args.power - c.args.s)) (replicate 4 None)) 0 true n) room
 
 pub returns-clause-sound : goal.returns-clause-sound
 returns-clause-sound g c =
