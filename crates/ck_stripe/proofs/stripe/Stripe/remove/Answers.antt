@@ -1,6 +1,6 @@
-use Rattle.std.proofs.Common.{◌-◌, ◌<◌, None, ap, arith}
+use Rattle.std.proofs.Common.{◌-◌, None, ap, arith}
 use Rattle.std.specs.Prelude.{vec_capacity}
-use Rattle.ck_model.specs.Slots.{Slot, slot_at}
+use Rattle.ck_model.specs.Slots.{slot_at}
 use Rattle.ck_stripe.specs.Stripe.{StripeState, bucket_of, state_from}
 use Rattle.ck_stripe.proofs.Writes.{one_full, some_entry, slot_written}
 use Rattle.ck_stripe.proofs.stripe.Stripe.remove.Goals as goal
