@@ -64,7 +64,11 @@ first_fault bytes = first_fault_behind [] (parts bytes)
 abbrev pub EndsIn : List ℕ → ℕ → Type 0
 EndsIn bytes line = (first_fault bytes ≡ Some (fault_at line is.Truncated)) ⊎ ((first_fault bytes ≡ None) × (line ≡ length (parts bytes)))
 
--- of the bytes that a source gave, some that have no fault before their end come first, and they end in this line
+-- the bytes that a source gave have no fault before their end, and end in this line
+abbrev pub IsCutIn : Option (List ℕ) → Option (List ℕ) → ℕ → Type 0
+IsCutIn before now line = (bytes : List ℕ) × Consumes before now bytes × EndsIn bytes line
+
+-- the same of some of the bytes, in front of the others
 pub record StopsIn (before now : Option (List ℕ)) (line : ℕ) : Type 0 where
   pub front : List ℕ
   pub rest : List ℕ

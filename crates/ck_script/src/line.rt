@@ -56,7 +56,8 @@ fn command_of(line: &[u8]) -> Result<Command<NumKey>, What>
     }
 }
 
-/// Where the next line stands, and the command that this one is, if it is one; or what is wrong with it there.
+/// Where the next line stands, and the command that this one is, if it is one; or what is wrong
+/// with it there.
 #[tactic(auto, unfolding(crate::specs::Parse::step_at))]
 pub fn step(place: Place, line: &[u8]) -> Result<(Place, Option<Command<NumKey>>), What>
     ensures value { result ≡ step_at place line.now }

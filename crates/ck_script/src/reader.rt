@@ -1,9 +1,8 @@
 //! Reading a script, a block of bytes at a time.
 ghost use Rattle.std.specs.Prelude.{◌≡◌, ◌≢◌, ◌↔◌, ◌≤◌, ◌<◌, ◌+◌, ◌++◌, ◌∷◌, [], List, ℕ, length, true, false, Ok, Err, Some, OnOk, IfOk, IfErr, IfSome, IfNone, All};
-ghost use Rattle.std.specs.Io.KnownBytes.{Consumes};
 ghost use Rattle.ck_script.specs.declared.line.Place.{Place};
 ghost use Rattle.ck_script.specs.Spells.{Spells};
-ghost use Rattle.ck_script.specs.FirstFault.{first_fault, EndsIn, StopsIn};
+ghost use Rattle.ck_script.specs.FirstFault.{first_fault, IsCutIn, StopsIn};
 ghost use Rattle.ck_script.specs.Script.{OnTextFault};
 ghost use Rattle.ck_script.specs.Lines.{is_feed};
 ghost use Rattle.ck_script.specs.Parse.{is_complete, commands_of, within_count, lines_before, parse, IsParsed};
@@ -29,7 +28,8 @@ pub struct ScriptReader {
 
 // The bytes before the first line feed, and those after it.
 fn cut_line(bytes: &[u8]) -> Option<(&[u8], &[u8])>
-    ensures found { IfSome result (λ r. (bytes.now ≡ r.0.now ++ 10 ∷ r.1.now) × All (λ b. is_feed b ≡ false) r.0.now) }
+    ensures found { IfSome result (λ r.
+        (bytes.now ≡ r.0.now ++ 10 ∷ r.1.now) × All (λ b. is_feed b ≡ false) r.0.now) }
     ensures none { IfNone result (All (λ b. is_feed b ≡ false) bytes.now) }
 {
     match memchr(b'\n', bytes) {
@@ -41,9 +41,12 @@ fn cut_line(bytes: &[u8]) -> Option<(&[u8], &[u8])>
 // Keeps a command, where there is one and room for it.
 fn keep(commands: &mut Vec<Command<NumKey>>, command: Option<Command<NumKey>>) -> Result<(), What>
     ensures ok { OnOk result (commands.new.items ≡ commands.old.items ++ commands_of command) }
-    ensures few { OnOk result (length commands.old.items ≤ 1000000 → length commands.new.items ≤ 1000000) }
-    ensures fits { OnOk result ((p : Place) → within_count (length commands.old.items) p command ≡ Ok (p, command)) }
-    ensures err { IfErr result (λ what. (p : Place) → OnTextFault what (within_count (length commands.old.items) p command ≡ Err what)) }
+    ensures few { OnOk result (length commands.old.items ≤ 1000000 →
+        length commands.new.items ≤ 1000000) }
+    ensures fits { OnOk result ((p : Place) →
+        within_count (length commands.old.items) p command ≡ Ok (p, command)) }
+    ensures err { IfErr result (λ what. (p : Place) →
+        OnTextFault what (within_count (length commands.old.items) p command ≡ Err what)) }
     ensures text { IfErr result (λ what. what ≢ What.Read) }
 {
     let Some(command) = command else {
@@ -80,10 +83,13 @@ impl ScriptReader {
         requires piece { All (λ b. is_feed b ≡ false) piece.now }
         ensures limits { OnOk result (IsWithinLimits self.new) }
         ensures size { OnOk result (size_of self.new ≡ size_of self.old + length piece.now) }
-        ensures ok { OnOk result ((rest : List ℕ) → parse_rest self.new rest ≡ parse_rest self.old (piece.now ++ rest)) }
-        ensures err { IfErr result (λ e. (rest : List ℕ) → OnTextFault e.what (parse_rest self.old (piece.now ++ rest) ≡ Err e)) }
+        ensures ok { OnOk result ((rest : List ℕ) →
+            parse_rest self.new rest ≡ parse_rest self.old (piece.now ++ rest)) }
+        ensures err { IfErr result (λ e. (rest : List ℕ) →
+            OnTextFault e.what (parse_rest self.old (piece.now ++ rest) ≡ Err e)) }
         ensures text { IfErr result (λ e. e.what ≢ What.Read) }
-        ensures memory { IfErr result (λ e. e.what ≡ What.Memory → HasStopped self.old piece.now e.line) }
+        ensures memory { IfErr result (λ e. e.what ≡ What.Memory →
+            HasStopped self.old piece.now e.line) }
     {
         if piece.len() > MOST_BYTES - self.line.len() {
             let line = self.line_number();
@@ -109,10 +115,13 @@ impl ScriptReader {
         requires { IsWithinLimits self.old }
         ensures limits { OnOk result (IsWithinLimits self.new) }
         ensures size { OnOk result (size_of self.old < size_of self.new) }
-        ensures ok { OnOk result ((rest : List ℕ) → parse_rest self.new rest ≡ parse_rest self.old (10 ∷ rest)) }
-        ensures err { IfErr result (λ e. (rest : List ℕ) → OnTextFault e.what (parse_rest self.old (10 ∷ rest) ≡ Err e)) }
+        ensures ok { OnOk result ((rest : List ℕ) →
+            parse_rest self.new rest ≡ parse_rest self.old (10 ∷ rest)) }
+        ensures err { IfErr result (λ e. (rest : List ℕ) →
+            OnTextFault e.what (parse_rest self.old (10 ∷ rest) ≡ Err e)) }
         ensures text { IfErr result (λ e. e.what ≢ What.Read) }
-        ensures memory { IfErr result (λ e. e.what ≡ What.Memory → HasStopped self.old (10 ∷ []) e.line) }
+        ensures memory { IfErr result (λ e. e.what ≡ What.Memory →
+            HasStopped self.old (10 ∷ []) e.line) }
     {
         let line = self.line_number();
         match step(self.place, &self.line) {
@@ -137,10 +146,13 @@ impl ScriptReader {
         requires { IsWithinLimits self.old }
         ensures limits { OnOk result (IsWithinLimits self.new) }
         ensures size { OnOk result (size_of self.old + length block.now ≤ size_of self.new) }
-        ensures ok { OnOk result ((more : List ℕ) → parse_rest self.new more ≡ parse_rest self.old (block.now ++ more)) }
-        ensures err { IfErr result (λ e. (more : List ℕ) → OnTextFault e.what (parse_rest self.old (block.now ++ more) ≡ Err e)) }
+        ensures ok { OnOk result ((more : List ℕ) →
+            parse_rest self.new more ≡ parse_rest self.old (block.now ++ more)) }
+        ensures err { IfErr result (λ e. (more : List ℕ) →
+            OnTextFault e.what (parse_rest self.old (block.now ++ more) ≡ Err e)) }
         ensures text { IfErr result (λ e. e.what ≢ What.Read) }
-        ensures memory { IfErr result (λ e. e.what ≡ What.Memory → HasStopped self.old block.now e.line) }
+        ensures memory { IfErr result (λ e. e.what ≡ What.Memory →
+            HasStopped self.old block.now e.line) }
     {
         let mut rest = block;
         while let Some((line, after)) = cut_line(rest) {
@@ -204,11 +216,14 @@ const BLOCK: usize = 4096;
 // Reads to the end of the source.
 fn read_all<R: Source>(alloc: Global, source: &mut R) -> Result<Script, ScriptFault>
     requires { R.has_failed source.old ≡ false }
-    ensures parse { IfSome (R.left source.old) (λ bytes. IsParsed (λ s. s.commands.items) result (parse bytes)) }
+    ensures parse { IfSome (R.left source.old) (λ bytes.
+        IsParsed (λ s. s.commands.items) result (parse bytes)) }
     ensures works { OnOk result (R.has_failed source.new ≡ false) }
     ensures failed { IfErr result (λ e. (e.what ≡ What.Read) ↔ (R.has_failed source.new ≡ true)) }
-    ensures cut { IfErr result (λ e. e.what ≡ What.Read → ((bytes : List ℕ) × Consumes (R.left source.old) (R.left source.new) bytes × EndsIn bytes e.line)) }
-    ensures memory { IfErr result (λ e. e.what ≡ What.Memory → StopsIn (R.left source.old) (R.left source.new) e.line) }
+    ensures cut { IfErr result (λ e. e.what ≡ What.Read →
+        IsCutIn (R.left source.old) (R.left source.new) e.line) }
+    ensures memory { IfErr result (λ e. e.what ≡ What.Memory →
+        StopsIn (R.left source.old) (R.left source.new) e.line) }
 {
     let mut reader = ScriptReader::new(alloc);
     let mut block = [0; BLOCK];
@@ -238,18 +253,23 @@ fn read_all<R: Source>(alloc: Global, source: &mut R) -> Result<Script, ScriptFa
 pub fn read_script<R: Source>(alloc: Global, source: &mut R) -> Result<Script, ScriptFault>
     requires { R.has_failed source.old ≡ false }
     // What is read is in the grammar.
-    ensures spelled { IfSome (R.left source.old) (λ bytes. IfOk result (λ s. Spells bytes s.commands.items)) }
+    ensures spelled { IfSome (R.left source.old) (λ bytes.
+        IfOk result (λ s. Spells bytes s.commands.items)) }
     // A fault of the text is the first one.
-    ensures fault { IfSome (R.left source.old) (λ bytes. IfErr result (λ e. OnTextFault e.what (first_fault bytes ≡ Some e))) }
+    ensures fault { IfSome (R.left source.old) (λ bytes.
+        IfErr result (λ e. OnTextFault e.what (first_fault bytes ≡ Some e))) }
     // The source has failed exactly where the fault says so.
     ensures works { OnOk result (R.has_failed source.new ≡ false) }
     ensures failed { IfErr result (λ e. (e.what ≡ What.Read) ↔ (R.has_failed source.new ≡ true)) }
-    // It is then at the line in which the bytes end that were read, and these have no fault before their end.
-    ensures cut { IfErr result (λ e. e.what ≡ What.Read → ((bytes : List ℕ) × Consumes (R.left source.old) (R.left source.new) bytes × EndsIn bytes e.line)) }
-    // Memory was refused in the line in which some of the bytes that were read end, and these have no fault before their end.
-    ensures memory { IfErr result (λ e. e.what ≡ What.Memory → StopsIn (R.left source.old) (R.left source.new) e.line) }
+    // What was read until then has no fault before its end, and ends in the fault's line.
+    ensures cut { IfErr result (λ e. e.what ≡ What.Read →
+        IsCutIn (R.left source.old) (R.left source.new) e.line) }
+    // So does some of what was read until memory was refused.
+    ensures memory { IfErr result (λ e. e.what ≡ What.Memory →
+        StopsIn (R.left source.old) (R.left source.new) e.line) }
     // Which script or fault it is.
-    ensures exact { IfSome (R.left source.old) (λ bytes. IsParsed (λ s. s.commands.items) result (parse bytes)) }
+    ensures exact { IfSome (R.left source.old) (λ bytes.
+        IsParsed (λ s. s.commands.items) result (parse bytes)) }
 {
     read_all(alloc, source)
 }

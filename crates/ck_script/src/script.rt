@@ -30,7 +30,8 @@ pub enum What {
     /// The words of the line are not those of a line that is allowed there.
     #[error("bad command")]
     Command,
-    /// A word in the place of a number is none: it has a byte that is no digit, a leading zero, or stands for 2^64 or more.
+    /// A word in the place of a number is none: it has a byte that is no digit or a leading
+    /// zero, or stands for 2^64 or more.
     #[error("bad number")]
     Number,
     /// More than 200 bytes in the line, or one command line more than 1,000,000.

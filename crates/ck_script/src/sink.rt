@@ -14,13 +14,15 @@ pub trait Sink {
     /// Whether a write has failed.
     ghost has_failed: { Self → Bool };
 
-    /// Takes the first bytes of a piece, and returns how many. A count of 0 for a piece that is not empty is a failure too.
+    /// Takes the first bytes of a piece, and returns how many.
+    /// A count of 0 for a piece that is not empty is a failure too.
     /// An `Err` has taken nothing. A device that has failed is not written to again.
     fn write(&mut self, bytes: &[u8]) -> Result<usize, Failed>
         requires { has_failed self.old ≡ false }
         ensures bound { WritesAtMost result bytes.now }
         ensures taken { WriteAppends (taken self.old) (taken self.new) result bytes.now }
-        ensures failed { IsTrue (has_failed self.new) ↔ MatchResult result (λ n. (n ≡ 0) × (0 < length bytes.now)) (λ _. ⊤) };
+        ensures failed { IsTrue (has_failed self.new) ↔
+            MatchResult result (λ n. (n ≡ 0) × (0 < length bytes.now)) (λ _. ⊤) };
 }
 
 /// One of std's writers as a sink. An error of any kind is a failure, and is not tried again.
@@ -63,13 +65,14 @@ impl<W: Write + Drop> Sink for IntoWrite<W> {
     }
 }
 
-/// Gives all of the bytes to the sink. An `Err` is the count of those that it took before it failed.
+/// Gives all of the bytes to the sink. An `Err` is how many of them it took before it failed.
 pub fn write_all<W: Sink>(sink: &mut W, bytes: &[u8]) -> Result<(), u64>
     requires { W.has_failed sink.old ≡ false }
     ensures works { OnOk result (W.has_failed sink.new ≡ false) }
     ensures whole { OnOk result (Appends (W.taken sink.old) (W.taken sink.new) bytes.now) }
     ensures failed { OnErr result (W.has_failed sink.new ≡ true) }
-    ensures front { IfErr result (λ n. Appends (W.taken sink.old) (W.taken sink.new) (take n bytes.now)) }
+    ensures front { IfErr result (λ n.
+        Appends (W.taken sink.old) (W.taken sink.new) (take n bytes.now)) }
     ensures short { IfErr result (λ n. n < length bytes.now) }
 {
     let mut written = 0;
