@@ -1,29 +1,28 @@
 //! The program, over any readers and writers.
 use crate::failure::Failure;
 use crate::request::{Request, request_of};
-use ck_script::{FromRead, IntoWrite, RunFault, What, read_script, run};
+use ck_script::{FromRead, IntoWrite, RunFault, read_script, run};
 use std::alloc::Global;
 use std::fs::File;
 use std::io::{Read, Write};
 use std::rt::Files;
 
-// Reads a script whole, and runs it.
+// Reads a script whole, and runs it. A writer that holds bytes back is flushed.
 fn run_from<I: Read + Drop, O: Write + Drop>(
     alloc: Global,
     input: I,
-    output: O,
+    mut output: O,
 ) -> Result<(), Failure> {
-    let mut source = FromRead::new(input);
-    let script = match read_script(alloc, &mut source) {
+    let script = match read_script(alloc, &mut FromRead::new(input)) {
         Ok(script) => script,
         Err(fault) => return Err(Failure::Script(fault)),
     };
-    let mut sink = IntoWrite::new(output);
-    match run(alloc, script, &mut sink) {
-        Ok(()) => Ok(()),
-        Err(RunFault::Memory) => Err(Failure::Memory),
-        Err(RunFault::Write { .. }) => Err(Failure::Write),
+    match run(alloc, script, &mut IntoWrite::new(&mut output)) {
+        Ok(()) => {}
+        Err(RunFault::Memory) => return Err(Failure::Memory),
+        Err(RunFault::Write { .. }) => return Err(Failure::Write),
     }
+    output.flush().map_err(|_| Failure::Write)
 }
 
 // Does what the words ask for.
