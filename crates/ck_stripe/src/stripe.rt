@@ -1,5 +1,5 @@
-//! One stripe of the table. A doubling raises the power, and the entries are moved when the stripe is next looked into:
-//! so a table that grows waits for no stripe that nobody asks for.
+//! One stripe of the table. A doubling only raises the power, and the entries are moved by whoever looks into the stripe
+//! next, so that a table doubles without going through its entries.
 ghost use Rattle.std.specs.Prelude.{◌≡◌, ◌≤◌, ◌<◌, ◌+◌, ◌-◌, ◌*◌, ◌/◌, ◌^◌, ℕ, true, false, Some, None, IsSome, IfOk, OnOk, OnErr, length, max, vec_capacity};
 ghost use Rattle.std.specs.List.Sorted.{IsPermutation};
 ghost use Rattle.ck_model.specs.Slots.{slot_at};

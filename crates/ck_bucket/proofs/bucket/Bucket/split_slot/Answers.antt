@@ -2,7 +2,7 @@ use Rattle.ck_bucket.specs.Bucket.{seen_slots, KeepsPartials}
 use Rattle.ck_bucket.proofs.SeenSlots.{seen-at, seen-set, partials-clear, partials-moved}
 use Rattle.ck_bucket.proofs.bucket.Bucket.split_slot.Goals as goal
 use Rattle.ck_bucket.proofs.bucket.Bucket.split_slot.Goals.{in-Some, in-None}
-use Rattle.std.proofs.Common.{◌≡◌, rules}
+use Rattle.std.proofs.Common.{◌≡◌}
 
 pub invariant_of-self-then-rises-2 : goal.invariant_of-self-then-rises-2
 invariant_of-self-then-rises-2 g c =
