@@ -13,7 +13,8 @@ use Rattle.ck_model.specs.declared.plain.stripes.PlainStripe.{PlainStripe}
 use Rattle.ck_model.specs.Map.{Name, name_cmp}
 use Rattle.ck_model.specs.Numbered.{IsIn, AreDistinct, numbers, Holds}
 use Rattle.ck_model.specs.Slots.{Slot, slot_at, taken_in}
-use Rattle.ck_model.specs.Contents.{Layout, Content, row_at, IsBucketOf, Binds, NamesApart, IsSound, Lawful}
+use Rattle.ck_model.specs.declared.contents.Content.{Content}
+use Rattle.ck_model.specs.Contents.{Layout, row_at, IsBucketOf, Binds, NamesApart, IsSound, Lawful}
 use Rattle.ck_model.specs.Plain.{PlainSlots, PlainRow, PlainRows, slot_of, row_of, content_of, stripes_of, EachEntry, EachEntryIn, AreHashed, IsBucketOfHash, Lacks, RowsLack, IsRowApart, AreRowsApart, AreDisjoint, IsOneOrDisjoint, ArePlaced, AreNumbersDistinct, IsPlainSound, IsPlainLawful}
 use Rattle.ck_model.proofs.Numbered.{Some-injective}
 use Rattle.ck_model.proofs.Names.{no_name, cases_name}

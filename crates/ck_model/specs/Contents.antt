@@ -1,6 +1,7 @@
 -- What stripes contain, which plain map that is, and which contents are lawful.
 use Rattle.std.specs.Prelude.{◌≡◌, ◌⊎◌, ℕ, ◌+◌, ◌*◌, ◌-◌, ◌/◌, ◌%◌, ◌^◌, ◌<◌, ◌≤◌, ◌==◌, if◌then◌else◌, List, [], ◌∷◌, Some, None, length, slice_index_or, flat_map, All}
 use Rattle.std.specs.FinMap.{find, from_entries}
+use Rattle.ck_model.specs.declared.contents.Content.{Content}
 use Rattle.ck_model.specs.Arithmetic.{index_of, second_of}
 use Rattle.ck_model.specs.Map.{Name, name_cmp, Map}
 use Rattle.ck_model.specs.Numbered.{AreDistinct, numbers, Holds, listed}
@@ -11,12 +12,6 @@ pub record Layout : Type 0 where
   pub hash : Name → ℕ
   pub s : ℕ
   pub max : ℕ
-
--- what a stripe contains: its power, its rows, and a ledger; row r of stripe t is the bucket r * 2^s + t
-pub record Content (V : Type 0) : Type 0 where
-  pub power : ℕ
-  pub rows : List (List (Slot V))
-  pub ledger : ℕ
 
 -- stripes by their numbers
 abbrev pub Stripes : Type 0 → Type 0

@@ -1,11 +1,12 @@
 -- Displacement paths over contents, and grounds for a refusal.
-use Rattle.std.specs.Prelude.{◌≡◌, ◌≢◌, ℕ, ◌*◌, ◌^◌, ◌<◌, ◌≤◌, List, [], ◌∷◌, length, Some, None}
+use Rattle.std.specs.Prelude.{◌≡◌, ◌≢◌, ℕ, ◌*◌, ◌^◌, ◌<◌, ◌≤◌, List, [], ◌∷◌, length, map, option_map, Some, None}
 use Rattle.std.specs.FinMap.{get}
 use Rattle.ck_model.specs.declared.history.Why.{Why}
 use Rattle.ck_model.specs.declared.history.Why.TheVariants.{NoRoom, Full, LoadTooLow, Memory}
 use Rattle.ck_model.specs.Arithmetic.{alternate_of, partial_of}
 use Rattle.ck_model.specs.Map.{Name}
-use Rattle.ck_model.specs.Slots.{slot_at, IsFull, HasFree}
+use Rattle.ck_model.specs.Slots.{Slot, slot_at, IsFull, HasFree}
+use Rattle.ck_model.specs.Sketches.{Sketch}
 use Rattle.ck_model.specs.Contents.{Layout, Stripes, IsBucketOf, Lawful, bindings, pairs_of, power_of, bucket_in}
 use Rattle.ck_model.specs.Sections.{HasAll}
 
@@ -23,6 +24,10 @@ module _ {V : Type 0} where
   abbrev pub IsPathFrom : Layout → Stripes V → ℕ → List ℕ → Type 0
   IsPathFrom k hs b [] = HasFree (bucket_in k hs b)
   IsPathFrom k hs b (c ∷ cs) = IsFull (bucket_in k hs b) × LeadsTo k hs b c × IsPathFrom k hs c cs
+
+  -- what a search sees of bucket b
+  abbrev pub sketch_in : Layout → Stripes V → ℕ → Sketch
+  sketch_in k hs b = map (λ (s : Slot V). option_map (λ (e : Name × V). partial_of (k.hash e.0)) s) (bucket_in k hs b)
 
   -- no path of at most four hops begins at a bucket of the name
   abbrev pub HasNoPath : Layout → Stripes V → Name → Type 0

@@ -6,7 +6,8 @@ use Rattle.ck_model.specs.declared.plain.stripes.PlainStripe.{PlainStripe}
 use Rattle.ck_model.specs.Arithmetic.{index_of, second_of}
 use Rattle.ck_model.specs.Map.{Name}
 use Rattle.ck_model.specs.Slots.{Slot, taken_in}
-use Rattle.ck_model.specs.Contents.{Content, Stripes}
+use Rattle.ck_model.specs.declared.contents.Content.{Content}
+use Rattle.ck_model.specs.Contents.{Stripes}
 
 -- the slots of a row
 abbrev pub PlainSlots : Type 0

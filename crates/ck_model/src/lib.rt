@@ -3,6 +3,7 @@
 //! the functions of `laws`, which do nothing.
 #![tactic(auto)]
 
+pub mod contents;
 pub mod history;
 pub mod hop;
 pub mod laws;

@@ -3,3 +3,5 @@
 
 #[cfg(test)]
 mod definitions;
+#[cfg(test)]
+mod memory;

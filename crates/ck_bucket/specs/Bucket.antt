@@ -1,0 +1,32 @@
+-- What a bucket's calls find and change in its slots.
+use Rattle.std.specs.Prelude.{◌≡◌, ◌≢◌, ℕ, List, Option, Some, length, map, slice_index, option_map, slice_set}
+use Rattle.ck_model.specs.Arithmetic.{partial_of}
+use Rattle.ck_model.specs.Map.{Name, named}
+use Rattle.ck_model.specs.Slots.{Slot, slot_at}
+
+-- what is seen of the slots: names in place of keys
+abbrev pub seen_slots : {K V : Type 0} → (K → Name) → List (Option (K × V)) → List (Slot V)
+seen_slots name slots = map (option_map (named name)) slots
+
+-- four slots, and beside each name its partial
+pub record KeepsPartials {V : Type 0} (hash : Name → ℕ) (partials : List ℕ) (slots : List (Slot V)) : Type 0 where
+  pub four : length slots ≡ 4
+  pub partial : (i : ℕ) (name : Name) (v : V) → slot_at slots i ≡ Some (name, v) → slice_index partials i ≡ partial_of (hash name)
+
+-- slot i has the name
+abbrev pub HasName : {V : Type 0} → List (Slot V) → Name → ℕ → Type 0
+HasName {V} slots name i = (v : V) × (slot_at slots i ≡ Some (name, v))
+
+-- no slot has the name
+abbrev pub LacksName : {V : Type 0} → List (Slot V) → Name → Type 0
+LacksName {V} slots name = (i : ℕ) (v : V) → slot_at slots i ≢ Some (name, v)
+
+-- slot i keeps its name and has the value in place of the old one
+pub record ReplacesValue {V : Type 0} (before after : List (Slot V)) (i : ℕ) (value old : V) : Type 0 where
+  pub name : Name
+  pub was : slot_at before i ≡ Some (name, old)
+  pub is : after ≡ slice_set before i (Some (name, value))
+
+-- the partial that a sketch shows of a slot
+abbrev pub partial_in : {V : Type 0} → (Name → ℕ) → Slot V → Option ℕ
+partial_in {V} hash slot = option_map (λ (e : Name × V). partial_of (hash e.0)) slot

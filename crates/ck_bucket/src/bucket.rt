@@ -1,0 +1,215 @@
+//! Four slots, with the partial of each key beside it.
+ghost use Rattle.std.specs.Prelude.{◌≡◌, ◌≤◌, ◌+◌, ◌<◌, ◌++◌, ℕ, vec_len, vec_capacity, OnOk, IsSome, IfSome, IfNone, Some, None, slice_set, replicate, length, map, option_map, option_copied};
+ghost use Rattle.ck_model.specs.Arithmetic.{partial_of};
+ghost use Rattle.ck_model.specs.Map.{named};
+ghost use Rattle.ck_model.specs.Slots.{slot_at, taken_in, IsFull};
+ghost use Rattle.ck_bucket.specs.Bucket.{HasName, LacksName, ReplacesValue, partial_in};
+
+use crate::slots::Slots;
+use ck_key::TableKey;
+use std::alloc::AllocError;
+use std::marker::Model;
+
+/// A bucket: four slots, each free or with a key and its value. Callers see names in place of keys.
+#[derive(Drop)]
+pub struct Bucket<K: TableKey, V> {
+    // Beside a free slot stands any partial: whether a slot is free, the slot alone says.
+    partials: [u8; 4],
+    slots: Slots<(K, V)>,
+}
+
+impl<K: TableKey, V> Model for Bucket<K, V> {
+    ghost use Rattle.std.specs.Prelude.{List};
+    ghost use Rattle.ck_model.specs.Slots.{Slot};
+    ghost use Rattle.ck_bucket.specs.Bucket.{seen_slots, KeepsPartials};
+
+    ghost Value = { List (Slot V) };
+
+    ghost view = { λ b. seen_slots K.name b.slots };
+
+    ghost invariant = { λ b. KeepsPartials K.hash b.partials (seen_slots K.name b.slots) };
+}
+
+impl<K: TableKey + Drop, V: Drop> Bucket<K, V> {
+    /// A bucket of four free slots.
+    pub fn new() -> Self
+        ensures { result ≡ replicate 4 None }
+    {
+        Bucket {
+            partials: [0; 4],
+            slots: Slots::new(),
+        }
+    }
+
+    /// The slot with this key, whose partial the caller has at hand; `None` where no slot has the key.
+    pub fn look(&self, key: &K, partial: u8) -> Option<usize>
+        requires { partial ≡ partial_of (K.hash (K.name key.now)) }
+        ensures below { IfSome result (λ i. i < 4) }
+        ensures found { IfSome result (HasName self.now (K.name key.now)) }
+        ensures absent { IfNone result (LacksName self.now (K.name key.now)) }
+        ensures four { length self.now ≡ 4 }
+    {
+        for i in 0..4 {
+            // Most slots without the key have another partial, and then neither slot nor key is read.
+            if self.partials[i] == partial {
+                if let Some((other, _)) = self.slots.get(i) {
+                    if other == key {
+                        return Some(i);
+                    }
+                }
+            }
+        }
+        None
+    }
+
+    /// The lowest free slot; `None` where the bucket is full.
+    pub fn free(&self) -> Option<usize>
+        ensures below { IfSome result (λ i. i < 4) }
+        ensures found { IfSome result (λ i. slot_at self.now i ≡ None) }
+        ensures lowest { IfSome result (λ i. (j : ℕ) → j < i → IsSome (slot_at self.now j)) }
+        ensures full { IfNone result (IsFull self.now) }
+        ensures four { length self.now ≡ 4 }
+    {
+        for i in 0..4 {
+            if self.slots.get(i).is_none() {
+                return Some(i);
+            }
+        }
+        None
+    }
+
+    /// The key and value in the slot; `None` where it is free.
+    pub fn get(&self, slot: usize) -> Option<&(K, V)>
+        requires { slot < 4 }
+        ensures value { option_map (named K.name) (option_copied result) ≡ slot_at self.now slot }
+        ensures four { length self.now ≡ 4 }
+    {
+        self.slots.get(slot)
+    }
+
+    /// Puts a key and its value into a free slot.
+    pub fn put(&mut self, slot: usize, key: K, value: V)
+        requires below { slot < 4 }
+        requires free { slot_at self.old slot ≡ None }
+        ensures { self.new ≡ slice_set self.old slot (Some (K.name key, value)) }
+    {
+        self.partials[slot] = ck_key::partial(key.hash64());
+        let _free = self.slots.replace(slot, Some((key, value)));
+    }
+
+    /// Frees the slot, and gives what was in it.
+    pub fn take(&mut self, slot: usize) -> (K, V)
+        requires below { slot < 4 }
+        requires full { IsSome (slot_at self.old slot) }
+        ensures entry { slot_at self.old slot ≡ Some (K.name result.0, result.1) }
+        ensures rest { self.new ≡ slice_set self.old slot None }
+    {
+        match self.slots.replace(slot, None) {
+            Some(pair) => pair,
+            None => unreachable!(),
+        }
+    }
+
+    /// Puts another value beside the key of the slot, and gives the old one.
+    pub fn replace(&mut self, slot: usize, value: V) -> V
+        requires below { slot < 4 }
+        requires full { IsSome (slot_at self.old slot) }
+        ensures { ReplacesValue self.old self.new slot value result }
+    {
+        self.slots.replace_value(slot, value)
+    }
+
+    /// The partial of each slot that is not free.
+    pub fn sketch(&self) -> [Option<u8>; 4]
+        ensures { result ≡ map (partial_in K.hash) self.now }
+    {
+        [
+            self.partial_at(0),
+            self.partial_at(1),
+            self.partial_at(2),
+            self.partial_at(3),
+        ]
+    }
+
+    fn partial_at(&self, i: usize) -> Option<u8>
+        requires { i < 4 }
+        ensures value { result ≡ partial_in K.hash (slot_at self.now i) }
+        ensures four { length self.now ≡ 4 }
+    {
+        match self.slots.get(i) {
+            Some(_) => Some(self.partials[i]),
+            None => None,
+        }
+    }
+
+    /// Pushes its pairs, in the order of their slots, into room that was reserved.
+    pub fn pour_reserved(self, into: &mut Vec<(K, V)>)
+        requires { vec_len into.old + 4 ≤ vec_capacity into.old }
+        ensures pairs { map (named K.name) into.new.items ≡ map (named K.name) into.old.items ++ taken_in self }
+        ensures len { vec_len into.new ≤ vec_len into.old + 4 }
+        ensures capacity { vec_capacity into.new ≡ vec_capacity into.old }
+    {
+        let Bucket { partials: _, slots } = self;
+        slots.pour_reserved(into);
+    }
+
+    /// Pushes clones of its pairs, in the order of their slots. Where there is no memory, some of them may have been
+    /// pushed.
+    pub fn copy_into(&self, into: &mut Vec<(K, V)>) -> Result<(), AllocError>
+    where
+        K: Clone,
+        V: Clone,
+        requires keys { (k copy : K) → K.is_clone k copy → K.name copy ≡ K.name k }
+        requires values { (v copy : V) → V.is_clone v copy → copy ≡ v }
+        ensures { OnOk result (map (named K.name) into.new.items ≡ map (named K.name) into.old.items ++ taken_in self.now) }
+    {
+        for i in 0..4 {
+            if let Some((key, value)) = self.slots.get(i) {
+                let copy = (key.clone()?, value.clone()?);
+                into.push(copy)?;
+            }
+        }
+        Ok(())
+    }
+}
+
+#[cfg(test)]
+mod tests {
+    use super::*;
+    use ck_key::{NumKey, TextKey};
+    use std::test::Fail;
+
+    #[test]
+    fn number_keys(rt: HostRuntime) -> Result<(), Fail> {
+        let mut bucket = Bucket::new();
+        bucket.put(0, NumKey(1), 10u64);
+        bucket.put(2, NumKey(5), 50);
+        let partial = ck_key::partial(NumKey(5).hash64());
+        assert_eq!(rt; bucket.look(&NumKey(5), partial), Some(2));
+        assert_eq!(rt; bucket.free(), Some(1));
+        assert_eq!(rt; bucket.sketch(), [Some(1), None, Some(5), None]);
+        assert_eq!(rt; bucket.get(2), Some(&(NumKey(5), 50)));
+        assert_eq!(rt; bucket.take(0), (NumKey(1), 10));
+        assert_eq!(rt; bucket.free(), Some(0));
+        assert_eq!(rt; bucket.replace(2, 51), 50);
+        let mut pairs = Vec::with_capacity(rt.alloc(), 4)?;
+        bucket.pour_reserved(&mut pairs);
+        assert_eq!(rt; pairs.as_slice(), [(NumKey(5), 51)].as_slice());
+        Ok(())
+    }
+
+    #[test]
+    fn text_keys(rt: HostRuntime) -> Result<(), Fail> {
+        let mut bucket = Bucket::new();
+        bucket.put(3, TextKey::new(rt.alloc(), b"b")?, 20u64);
+        bucket.put(1, TextKey::new(rt.alloc(), b"a")?, 10);
+        let mut pairs = Vec::new(rt.alloc());
+        bucket.copy_into(&mut pairs)?;
+        for ((key, value), (text, number)) in pairs.iter().zip([(b"a", 10u64), (b"b", 20)]) {
+            assert_eq!(rt; key.as_bytes(), text.as_slice());
+            assert_eq!(rt; *value, number);
+        }
+        assert_eq!(rt; pairs.len(), 2);
+        Ok(())
+    }
+}

@@ -1,0 +1,24 @@
+-- What each type of keys proves: that equality is that of names, and that hashes fit 64 bits.
+use Rattle.std.specs.Prelude.{◌≡◌, ℕ, ◌<◌, ◌^◌, ◌↔◌, IsTrue, [], ◌∷◌, List, nat_eq, fold}
+use Rattle.std.specs.Cmp.Lexicographic.{pointwise, bytes_decides}
+use Rattle.std.proofs.Common.{arith, lit<}
+use Rattle.std.proofs.lemmas.Grind.{common_steps}
+use Rattle.ck_model.specs.Map.{Name}
+use Rattle.ck_key.specs.Hashes.{number_hash, fnv_step, text_hash}
+
+pub number_names : (a b : ℕ) → IsTrue (nat_eq a b) ↔ (a ∷ [] ≡ b ∷ [])
+number_names a b = grind (arith, common_steps)
+
+pub number_hash_below : (n : Name) → number_hash n < 2 ^ 64
+number_hash_below [] = omega arith
+number_hash_below (x ∷ xs) = omega arith
+
+pub text_names : (a b : Name) → IsTrue (pointwise nat_eq a b) ↔ (a ≡ b)
+text_names a b = bytes_decides a b
+
+fnv_below : (h : ℕ) (bytes : List ℕ) → h < 2 ^ 64 → fold fnv_step h bytes < 2 ^ 64
+fnv_below h [] below = below
+fnv_below h (b ∷ bytes) below = fnv_below (fnv_step h b) bytes (omega arith)
+
+pub text_hash_below : (n : Name) → text_hash n < 2 ^ 64
+text_hash_below n = fnv_below _ n (lit< tt)

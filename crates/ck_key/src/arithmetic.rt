@@ -1,0 +1,57 @@
+//! The buckets and stripes of a hash, by partial-key cuckoo hashing: an entry's other bucket is found from the bucket
+//! where it is and a byte of its hash, with no look at the key (Fan, Andersen, Kaminsky, Mitzenmacher 2014, "Cuckoo
+//! Filter"; Li, Andersen, Kaminsky, Freedman 2014, "Algorithmic Improvements for Fast Concurrent Cuckoo Hashing").
+#![tactic(auto, unfolding(ck_model::specs::Arithmetic::partial_of, ck_model::specs::Arithmetic::index_of, ck_model::specs::Arithmetic::spread_of, ck_model::specs::Arithmetic::alternate_of, ck_model::specs::Arithmetic::second_of))]
+
+ghost use Rattle.std.specs.Prelude.{◌≡◌, ℕ, ◌+◌, ◌^◌, ◌%◌, ◌<◌, ◌≤◌, ◌↔◌, min, max};
+ghost use Rattle.ck_model.specs.Arithmetic.{partial_of, index_of, alternate_of, second_of};
+
+/// Spreads a partial over all bits of a bucket's number: the odd factor of MurmurHash2 (Appleby 2008).
+const SPREAD: u64 = 0xc6a4_a793_5bd1_e995;
+
+/// The partial of a hash: the exclusive or of its eight bytes.
+pub fn partial(h: u64) -> u8
+    ensures { result ≡ partial_of h }
+{
+    h.to_le_bytes().iter().fold(0, |x, byte| x ^ *byte)
+}
+
+/// The first bucket of a hash in a table of 2^p buckets.
+pub fn index(p: u32, h: u64) -> u64
+    requires { p ≤ 26 }
+    ensures value { result ≡ index_of p h }
+    ensures below { result < 2 ^ p }
+{
+    h % (1 << p)
+}
+
+/// The other bucket of an entry with partial `t` in bucket `b`, in a table of 2^p buckets.
+pub fn alternate(p: u32, t: u8, b: u64) -> u64
+    requires { p ≤ 26 }
+    ensures value { result ≡ alternate_of p t b }
+    ensures below { result < 2 ^ p }
+    ensures back { b < 2 ^ p → alternate_of p t result ≡ b }
+    ensures same { b < 2 ^ p → (result ≡ b) ↔ ((t + 1) % 2 ^ p ≡ 0) }
+
+    // The stripe of the other bucket is the same at every power.
+    ensures stripe { (s : ℕ) → s ≤ p → result % 2 ^ s ≡ alternate_of s t (b % 2 ^ s) }
+{
+    (b ^ (t as u64 + 1).wrapping_mul(SPREAD)) % (1 << p)
+}
+
+/// The two stripes of a hash among 2^s, in rising order, twice the same where they are one.
+pub fn stripes_of(s: u32, h: u64) -> (u32, u32)
+    requires { s ≤ 10 }
+    ensures low { result.0 ≡ min (index_of s h) (second_of s h) }
+    ensures high { result.1 ≡ max (index_of s h) (second_of s h) }
+    ensures order { result.0 ≤ result.1 }
+    ensures below { result.1 < 2 ^ s }
+
+    // They are the stripes of the hash's buckets at every power from `s` on.
+    ensures first { (p : ℕ) → s ≤ p → index_of p h % 2 ^ s ≡ index_of s h }
+    ensures second { (p : ℕ) → s ≤ p → second_of p h % 2 ^ s ≡ second_of s h }
+{
+    let first = index(s, h);
+    let second = alternate(s, partial(h), first);
+    (first.min(second) as u32, first.max(second) as u32)
+}

@@ -1,0 +1,19 @@
+//! What a key of the table is.
+ghost use Rattle.std.specs.Prelude.{◌≡◌, ℕ, ◌<◌, ◌^◌, ◌↔◌, IsTrue};
+ghost use Rattle.ck_model.specs.Map.{Name};
+
+/// A key of the table. Two keys are equal exactly where they have one name, and the hash depends on the name alone.
+pub trait TableKey: Ord {
+    // What is seen of a key everywhere else.
+    ghost name: { Self → Name };
+
+    ghost hash: { Name → ℕ };
+
+    /// The 64-bit hash of the key's name.
+    fn hash64(&self) -> u64
+        ensures { result ≡ hash (name self.now) };
+
+    ghost equal_names: { (a b : Self) → IsTrue (Self.eq a b) ↔ (name a ≡ name b) };
+
+    ghost hash_below: { (n : Name) → hash n < 2 ^ 64 };
+}

@@ -1,0 +1,8 @@
+use Rattle.std.proofs.Common.{arith}
+use Rattle.ck_script.proofs.AnswerFrom.{too_long}
+use Rattle.ck_script.proofs.reader.ScriptReader.extend.Goals as goal
+
+pub returns-then-piece-len-clause-err : goal.returns-then-piece-len-clause-err
+returns-then-piece-len-clause-err c =
+    let self = c.args.self.now in
+    too_long self.place self.commands.items self.line.items c.args.piece.now c.line_number-line.result c.requires.limits.line.no_feed c.requires.piece c.line_number-line.ensures (omega arith)

@@ -1,0 +1,13 @@
+use Rattle.std.proofs.Common.{◌≡◌, ◌≤◌, ◌+◌, ℕ, List, ◌++◌, length}
+use Rattle.ck_script.specs.State.{answer_of, size_of, IsWithinLimits}
+use Rattle.ck_script.proofs.reader.ScriptReader.feed.Given as goal
+
+abbrev pub invariant-loop-line : goal.invariant-loop-line
+invariant-loop-line l = record {
+  limits : IsWithinLimits l.self;
+  size : size_of l.fn.self + length l.block ≤ size_of l.self + length l.rest;
+  same : (more : List ℕ) → answer_of l.self (l.rest ++ more) ≡ answer_of l.fn.self (l.block ++ more);
+}
+
+abbrev pub decreases-loop-line : goal.decreases-loop-line
+decreases-loop-line l = length l.rest

@@ -1,0 +1,30 @@
+-- Words and numbers.
+use Rattle.std.specs.Prelude.{◌≡◌, ℕ, ◌<◌, ◌^◌, List, [], ◌∷◌, Option, Some, None, Bool, true, false, ◌&&◌, ◌==◌, not, nat_lt, if◌then◌else◌}
+use Rattle.std.specs.List.{slice_split}
+use Rattle.std.specs.Str.{all_ascii_digits}
+use Rattle.std.specs.Char.{is_ascii_digit}
+use Rattle.std.specs.Str.Parse.{digits_value}
+
+-- a line is cut at each space
+abbrev pub is_space : ℕ → Bool
+is_space b = b == 32
+
+abbrev pub words : List ℕ → List (List ℕ)
+words line = slice_split is_space line
+
+-- a digit, and no 0 in front of another byte
+abbrev pub begins_as_number : List ℕ → Bool
+begins_as_number [] = false
+begins_as_number (c ∷ []) = is_ascii_digit c
+begins_as_number (c ∷ d ∷ ds) = is_ascii_digit c && not (c == 48)
+
+-- the number that a word is
+abbrev pub number_at : List ℕ → Option ℕ
+number_at word = if begins_as_number word && all_ascii_digits word && nat_lt (digits_value 10 word) (2 ^ 64) then Some (digits_value 10 word) else None
+
+-- a word is the one form of a number
+pub record IsNumber (word : List ℕ) (n : ℕ) : Type 0 where
+  pub begins : begins_as_number word ≡ true
+  pub digits : all_ascii_digits word ≡ true
+  pub value : n ≡ digits_value 10 word
+  pub fits : n < 2 ^ 64
