@@ -269,7 +269,7 @@ impl PlainMap {
     }
 }
 
-/// The map after this history, or None where the history isn't legal.
+/// The map after this history, or None where the history isn't legal. Refused where no memory is left.
 pub fn run(alloc: Global, entries: &[Entry<u64>]) -> Result<Option<PlainMap>, AllocError>
     ensures legal { IfOk result (λ r. IfSome r (After entries.now)) }
     ensures illegal { IfOk result (λ r. IfNone r (¬ (IsLegal entries.now))) }

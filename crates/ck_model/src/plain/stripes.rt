@@ -16,12 +16,15 @@ pub struct PlainEntry {
     pub value: u64,
 }
 
-/// A stripe: its number, its power, its rows of slots and its ledger.
+/// A stripe. Row r of stripe t is the bucket r * 2^s + t, where there are 2^s stripes.
 #[derive(Drop)]
 pub struct PlainStripe {
     pub number: u64,
+    /// The table has 2^power buckets.
     pub power: u32,
+    /// The slots of each row.
     pub rows: Vec<Vec<Option<PlainEntry>>>,
+    /// How many entries the stripe is said to have.
     pub ledger: u64,
 }
 
@@ -288,7 +291,7 @@ fn is_plain_lawful(s: u32, max: u32, stripes: &[PlainStripe]) -> bool
 }
 
 /// Whether these are lawful contents of some of 2^s stripes with powers up to `max`, where the hash beside each name is
-/// that of the name.
+/// that of the name. The time grows with the square of the number of entries.
 pub fn is_lawful(s: u32, max: u32, stripes: &[PlainStripe]) -> bool
     requires stripes { s ≤ 10 }
     requires power { max ≤ 26 }
