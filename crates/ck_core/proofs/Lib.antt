@@ -9,4 +9,5 @@ pub mod Sums
 pub mod ExampleRun
 pub mod Answered
 pub mod WrongSteps
+pub mod WrongResults
 pub mod Meeting

@@ -1,7 +1,7 @@
 -- Each of the wrong steps breaks a condition of its row.
-use Rattle.std.proofs.Common.{◌≡◌, ℕ, ◌<◌, ◌≤◌, inl, inr, List, [], ◌∷◌, sym, refl, ap, ◌∙◌, subst, ⊎_elim, arith, Option, Some, None}
+use Rattle.std.proofs.Common.{◌≡◌, ℕ, zero, suc, ◌<◌, ◌≤◌, inl, inr, List, [], ◌∷◌, sym, refl, ap, ◌∙◌, subst, ⊎_elim, arith, Option, Some, None}
 use Rattle.std.proofs.lemmas.Option.{none-some, same_Some}
-use mathlib.Core.Option.{some, some-injective}
+use mathlib.Core.Option.{some, some-injective, some-ne-none}
 use lib.ListN.{get_elem?}
 use Rattle.std.specs.FinMap.{get}
 use Rattle.ck_model.specs.declared.history.Act.TheVariants.{Find, Insert}
@@ -10,20 +10,21 @@ use Rattle.ck_model.specs.declared.history.Reply.{Reply}
 use Rattle.ck_model.specs.declared.history.Reply.TheVariants.{Was, New, Old}
 use Rattle.ck_model.specs.declared.history.Why.{Why}
 use Rattle.ck_model.specs.declared.history.Why.TheVariants.{NoRoom, Full, LoadTooLow, Memory}
+use Rattle.ck_model.specs.declared.history.Entry.{Entry}
 use Rattle.ck_model.specs.Map.{Name, Answers}
 use Rattle.ck_model.specs.Numbered.{IsIn, numbers, Holds}
 use Rattle.ck_model.specs.Arithmetic.{index_of, second_of, alternate_of, partial_of, spread_of}
 use Rattle.ck_model.specs.Contents.{Stripes, bindings, IsStripeOf}
 use Rattle.ck_model.specs.Sections.{Owns, Section, IdentitySection}
 use Rattle.ck_core.specs.declared.view.View.{View}
-use Rattle.ck_core.specs.Steps.{IsAbove, IsExcused}
+use Rattle.ck_core.specs.Steps.{IsAbove, IsExcused, HasGrounds}
 use Rattle.ck_core.specs.Steps.Move.{Take, FindHeld, Give, Decide, GiveRest, Renew, Look, Open, Join}
-use Rattle.ck_core.specs.Example.{two_stripes, zero_name, insertion, look_up, empty_stripe, full_stripe, both, start, one_held, decided, both_held}
+use Rattle.ck_core.specs.Example.{two_stripes, settings, zero_name, insertion, look_up, empty_stripe, full_stripe, both, start, one_held, decided, both_held}
 use Rattle.ck_core.specs.Refusals.{IsRefused}
 use Rattle.ck_core.proofs.ExampleRun.{empty_at, full_at}
 
 -- the view that a step speaks of is the caller's
-the_view : (vs : List (View ℕ)) (id : ℕ) (v w : View ℕ) → get_elem? vs id ≡ some v → get_elem? vs id ≡ some w → w ≡ v
+pub the_view : (vs : List (View ℕ)) (id : ℕ) (v w : View ℕ) → get_elem? vs id ≡ some v → get_elem? vs id ≡ some w → w ≡ v
 the_view vs id v w a b = some-injective w v (sym b ∙ a)
 
 pub take_below : IsRefused (insertion ∷ []) decided 0 (Take 0)
@@ -92,6 +93,17 @@ for_another t ks min_load s2 d =
     let numbers_same : ◌≡◌ {A = ℕ} 0 1 = same_Some 0 1 (subst (λ (v : View ℕ). v.by ≡ Some 1) same d.3) in
     omega arith
 
+pub undealt_number : (id t : ℕ) (ks : Stripes ℕ) (e : Entry ℕ) → settings.callers ≤ e.by → IsRefused (insertion ∷ []) both_held id (Decide t ks e)
+undealt_number zero t ks e above min_load s2 d =
+    let same = the_view both_held.views 0 _ d.0 refl d.2 in
+    let number : 0 ≡ e.by = same_Some 0 e.by (subst (λ (v : View ℕ). v.by ≡ Some e.by) same d.3) in
+    omega arith
+undealt_number (suc zero) t ks e above min_load s2 d =
+    let same = the_view both_held.views 1 _ d.0 refl d.2 in
+    let number : 1 ≡ e.by = same_Some 1 e.by (subst (λ (v : View ℕ). v.by ≡ Some e.by) same d.3) in
+    omega arith
+undealt_number (suc (suc id)) t ks e above min_load s2 d = some-ne-none d.0 (sym d.2)
+
 pub lost_entry : (t : ℕ) (g : Option (Name × Why)) → IsRefused (insertion ∷ []) both_held 1 (Renew t (both empty_stripe) g)
 lost_entry t g min_load s2 d =
     let same = the_view both_held.views 1 _ d.0 refl d.2 in
@@ -104,10 +116,22 @@ bound_name min_load Full h = none-some 5 (sym h.0.unbound ∙ bound)
 bound_name min_load LoadTooLow h = none-some 5 (sym h.0.unbound ∙ bound)
 bound_name min_load Memory h = none-some 5 (sym h.0.unbound ∙ bound)
 
+no_grounds_of_bound : (min_load : ℕ) (ks : Stripes ℕ) (why : Why) → get (bindings ks) zero_name ≡ Some 5 → ¬ (HasGrounds two_stripes min_load ks (Some (zero_name, why)))
+no_grounds_of_bound min_load ks NoRoom e h = h
+no_grounds_of_bound min_load ks Full e h = none-some 5 (sym h.0.unbound ∙ e)
+no_grounds_of_bound min_load ks LoadTooLow e h = none-some 5 (sym h.0.unbound ∙ e)
+no_grounds_of_bound min_load ks Memory e h = none-some 5 (sym h.0.unbound ∙ e)
+
 pub no_grounds : (t : ℕ) (why : Why) → IsRefused (insertion ∷ []) both_held 1 (Give t (Some (zero_name, why)))
 no_grounds t why min_load s2 d =
     let same = the_view both_held.views 1 _ d.0 refl d.2 in
     bound_name min_load why (subst (λ (v : View ℕ). IsExcused two_stripes min_load v.held (Some (zero_name, why))) same d.4)
+
+pub renew_no_grounds : (t : ℕ) (ks : Stripes ℕ) (why : Why) → IsRefused (insertion ∷ []) both_held 1 (Renew t ks (Some (zero_name, why)))
+renew_no_grounds t ks why min_load s2 d =
+    let same = the_view both_held.views 1 _ d.0 refl d.2 in
+    let sec = subst (λ (v : View ℕ). IdentitySection two_stripes v.held ks) same d.4 in
+    no_grounds_of_bound min_load ks why (ap (λ m. get m zero_name) sec.same_bindings ∙ bound) d.5
 
 pub told_above : (t p : ℕ) → 1 < p → IsRefused [] start 0 (Look t p)
 told_above t p above min_load s2 d = let most : p ≤ 1 = d.4 0 empty_stripe (inl refl) in omega arith

@@ -1,9 +1,13 @@
--- Steps that aren't allowed in the states of the example.
-use Rattle.std.specs.Prelude.{ℕ, List, []}
+-- Steps that aren't allowed in the states of the example, and what the allowed ones leave.
+use Rattle.std.specs.Prelude.{◌≡◌, ℕ, List, [], ◌∷◌, Some}
+use mathlib.Core.Option.{some}
+use lib.ListN.{get_elem?}
 use Rattle.ck_model.specs.declared.history.Entry.{Entry}
+use Rattle.ck_model.specs.declared.contents.Content.{Content}
+use Rattle.ck_core.specs.declared.view.View.{View}
 use Rattle.ck_core.specs.State.{World}
-use Rattle.ck_core.specs.Steps.{Move, Does, Runs}
-use Rattle.ck_core.specs.Example.{two_stripes, start}
+use Rattle.ck_core.specs.Steps.{Move, Does, Runs, opener}
+use Rattle.ck_core.specs.Example.{two_stripes, settings, first, second, start}
 
 -- the steps lead from the opening to s, with this history
 abbrev pub Reaches : List (ℕ × Move ℕ) → List (Entry ℕ) → World ℕ → Type 0
@@ -12,3 +16,19 @@ Reaches ms log s = Runs two_stripes 0 [] start ms log s
 -- in the state s, with this history, the caller may not go by this step to any state
 abbrev pub IsRefused : List (Entry ℕ) → World ℕ → ℕ → Move ℕ → Type 0
 IsRefused log s id m = (min_load : ℕ) (s2 : World ℕ) → ¬ (Does two_stripes min_load log id m s s2)
+
+-- wherever the caller goes from s by this step, the stripe t is at home there with the content c
+abbrev pub LeavesHome : List (Entry ℕ) → World ℕ → ℕ → Move ℕ → ℕ → Content ℕ → Type 0
+LeavesHome log s id m t c = (min_load : ℕ) (s2 : World ℕ) → Does two_stripes min_load log id m s s2 → get_elem? s2.homes t ≡ some (Some c)
+
+-- wherever the caller goes from s by this step, P holds there of the view j
+abbrev pub LeavesView : List (Entry ℕ) → World ℕ → ℕ → Move ℕ → ℕ → (View ℕ → Type 0) → Type 0
+LeavesView log s id m j P = (min_load : ℕ) (s2 : World ℕ) (w : View ℕ) → Does two_stripes min_load log id m s s2 → get_elem? s2.views j ≡ some w → P w
+
+-- the opening, but that both callers have the number 0
+abbrev pub one_number : World ℕ
+one_number = record start { views = first ∷ first ∷ [] }
+
+-- the opening, but that the first caller keeps the number that the second has
+abbrev pub one_kept : World ℕ
+one_kept = record start { views = opener settings 0 1 (1 ∷ []) ∷ second ∷ [] }

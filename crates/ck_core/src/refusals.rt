@@ -1,20 +1,30 @@
 //! Steps that aren't allowed, as a test of the definitions.
-ghost use Rattle.std.specs.Prelude.{ℕ, ◌<◌, List, Option, [], ◌∷◌, take};
+ghost use Rattle.std.specs.Prelude.{◌≡◌, ℕ, ◌<◌, ◌≤◌, List, Option, [], ◌∷◌, take};
 ghost use Rattle.ck_model.specs.declared.history.Act.TheVariants.{Find, Insert};
 ghost use Rattle.ck_model.specs.declared.history.Call.TheVariants.{On};
 ghost use Rattle.ck_model.specs.declared.history.Reply.TheVariants.{Was, New};
 ghost use Rattle.ck_model.specs.declared.history.Why.{Why};
+ghost use Rattle.ck_model.specs.declared.history.Entry.{Entry};
+ghost use Rattle.ck_model.specs.declared.settings.Settings.{Settings};
 ghost use Rattle.ck_model.specs.Map.{Name};
 ghost use Rattle.ck_model.specs.Contents.{Stripes};
+ghost use Rattle.ck_core.specs.Steps.{Opening};
 ghost use Rattle.ck_core.specs.Steps.Move.{Take, FindHeld, Give, Decide, GiveRest, Renew, Look, Open, Join};
-ghost use Rattle.ck_core.specs.Example.{zero_name, insertion, look_up, empty_stripe, both, start, one_held, decided, both_held, steps};
-ghost use Rattle.ck_core.specs.Refusals.{Reaches, IsRefused};
+ghost use Rattle.ck_core.specs.Example.{two_stripes, settings, zero_name, insertion, look_up, empty_stripe, full_stripe, both, first, start, one_held, decided, both_held, alone, steps};
+ghost use Rattle.ck_core.specs.Refusals.{Reaches, IsRefused, LeavesHome, LeavesView, one_number, one_kept};
 
 /// From the states of the example run after its first, fourth and eighth step, and from the opening, these steps aren't
 /// allowed: to take a stripe below a held one, or one that another caller holds; to find one's own stripe held; to give
-/// back a stripe that isn't held; to decide with a wrong reply, without all stripes of the name, or for another caller;
-/// to renew to contents that lack an entry; to say of a bound name that it found no room; to be told of a power above
-/// the table's; to begin a caller where no number is left; and to join a view that holds a stripe, or one's own.
+/// back a stripe that isn't held; to decide with a wrong reply, without all stripes of the name, for another caller, or
+/// for a number that no caller can have; to renew to contents that lack an entry; to say of a bound name that it found
+/// no room, by giving back or by renewing; to be told of a power above the table's; to begin a caller where no number is
+/// left; and to join a view that holds a stripe, or one's own.
+///
+/// And no allowed step from these states leaves what it must not: a stripe that is given back goes home with the content
+/// that was held; a decision leaves its caller, which had no entry, with no two of its own, and with no two new ones in
+/// what it has seen; and a look tells no lower power. From the opening of one caller that keeps the number 1, a caller
+/// that begins has that number, and the first keeps none. There is no opening where two callers have one number, nor
+/// where one keeps the number that another has.
 pub fn wrong_steps()
     ensures one_held_is_reached { Reaches (take 1 steps) [] one_held }
     ensures decided_is_reached { Reaches (take 4 steps) (insertion ∷ []) decided }
@@ -28,10 +38,23 @@ pub fn wrong_steps()
     ensures wrong_value { (t : ℕ) (ks : Stripes ℕ) → IsRefused (insertion ∷ []) both_held 1 (Decide t ks (record { by = 1; call = On zero_name Find; reply = Was None })) }
     ensures without_all { (t : ℕ) (ks : Stripes ℕ) → IsRefused [] one_held 0 (Decide t ks insertion) }
     ensures for_another { (t : ℕ) (ks : Stripes ℕ) → IsRefused (insertion ∷ []) both_held 0 (Decide t ks look_up) }
+    ensures undealt_number { (id t : ℕ) (ks : Stripes ℕ) (e : Entry ℕ) → settings.callers ≤ e.by → IsRefused (insertion ∷ []) both_held id (Decide t ks e) }
     ensures lost_entry { (t : ℕ) (g : Option (Name × Why)) → IsRefused (insertion ∷ []) both_held 1 (Renew t (both empty_stripe) g) }
     ensures no_grounds { (t : ℕ) (why : Why) → IsRefused (insertion ∷ []) both_held 1 (Give t (Some (zero_name, why))) }
+    ensures renew_no_grounds { (t : ℕ) (ks : Stripes ℕ) (why : Why) → IsRefused (insertion ∷ []) both_held 1 (Renew t ks (Some (zero_name, why))) }
     ensures told_above { (t p : ℕ) → 1 < p → IsRefused [] start 0 (Look t p) }
     ensures no_number_left { IsRefused [] start 0 Open }
     ensures join_a_holder { IsRefused [] one_held 1 (Join 0) }
     ensures join_itself { IsRefused [] start 0 (Join 0) }
+    ensures give_other_content { (g : Option (Name × Why)) → LeavesHome [] one_held 0 (Give 0 g) 0 empty_stripe }
+    ensures give_rest_other_content { LeavesHome [] one_held 0 (GiveRest 0) 0 empty_stripe }
+    ensures give_other_stripe { (g : Option (Name × Why)) → LeavesHome (insertion ∷ []) both_held 1 (Give 0 g) 0 full_stripe }
+    ensures give_rest_other_stripe { LeavesHome (insertion ∷ []) both_held 1 (GiveRest 0) 0 full_stripe }
+    ensures decide_two_entries { (t : ℕ) (ks : Stripes ℕ) (e a b : Entry ℕ) (more : List (Entry ℕ)) → LeavesView (insertion ∷ []) both_held 1 (Decide t ks e) 1 (λ w. ¬ (w.mine ≡ a ∷ b ∷ more)) }
+    ensures decide_two_seen { (t : ℕ) (ks : Stripes ℕ) (e a b : Entry ℕ) (more : List (Entry ℕ)) → LeavesView (insertion ∷ []) both_held 1 (Decide t ks e) 1 (λ w. ¬ (w.seen ≡ insertion ∷ a ∷ b ∷ more)) }
+    ensures look_told_falls { (t p : ℕ) → LeavesView [] start 0 (Look t p) 0 (λ w. first.told ≤ w.told) }
+    ensures open_other_number { LeavesView [] alone 0 Open 1 (λ w. w.by ≡ Some 1) }
+    ensures open_number_again { LeavesView [] alone 0 Open 0 (λ w. w.others ≡ []) }
+    ensures one_number_twice { (set : Settings) (callers p : ℕ) → ¬ (Opening two_stripes set callers p one_number) }
+    ensures kept_number_twice { (set : Settings) (callers p : ℕ) → ¬ (Opening two_stripes set callers p one_kept) }
 {}

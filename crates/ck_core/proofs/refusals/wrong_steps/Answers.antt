@@ -1,4 +1,5 @@
 use Rattle.ck_core.proofs.ExampleRun as example
+use Rattle.ck_core.proofs.WrongResults as result
 use Rattle.ck_core.proofs.WrongSteps as wrong
 use Rattle.ck_core.proofs.refusals.wrong_steps.Goals as goal
 
@@ -16,10 +17,23 @@ returns c = record {
   wrong_value = wrong.wrong_value;
   without_all = wrong.without_all;
   for_another = wrong.for_another;
+  undealt_number = wrong.undealt_number;
   lost_entry = wrong.lost_entry;
   no_grounds = wrong.no_grounds;
+  renew_no_grounds = wrong.renew_no_grounds;
   told_above = wrong.told_above;
   no_number_left = wrong.no_number_left;
   join_a_holder = wrong.join_a_holder;
   join_itself = wrong.join_itself;
+  give_other_content = result.give_other_content;
+  give_rest_other_content = result.give_rest_other_content;
+  give_other_stripe = result.give_other_stripe;
+  give_rest_other_stripe = result.give_rest_other_stripe;
+  decide_two_entries = result.decide_two_entries;
+  decide_two_seen = result.decide_two_seen;
+  look_told_falls = result.look_told_falls;
+  open_other_number = result.open_other_number;
+  open_number_again = result.open_number_again;
+  one_number_twice = result.one_number_twice;
+  kept_number_twice = result.kept_number_twice;
 }
