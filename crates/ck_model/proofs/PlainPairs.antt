@@ -148,7 +148,7 @@ below_last x k v [] h = is_less _ (ands _ _ h).0
 below_last x k v (e ∷ es) h = below_last x k v es (ands _ _ h).1
 
 length-insert : {X : Type 0} (xs : List X) (i : ℕ) (x : X) → i ≤ length xs → length (insert xs i x) ≡ length xs + 1
-length-insert xs i x l = simp (append_assoc, length-append, length-take, length-drop) (omega arith)
+length-insert xs i x l = simp (length-append, length-take, length-drop) (omega arith)
 
 -- a name that doesn't stand at its place stands nowhere
 pub free_absent : (k : Name) (es : Pairs) → Rises es → ¬ (Stands k es (place_of k es)) → get (map_of es) k ≡ None
