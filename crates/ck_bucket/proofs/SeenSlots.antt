@@ -1,10 +1,9 @@
 -- Lemmas on what is seen of slots.
 use Rattle.std.proofs.Common.{IsSome, IfSome, is_some, ◌≡◌, ◌≢◌, ℕ, zero, suc, ◌<◌, ◌+◌, ◌++◌, take, ◌≤◌, List, [], ◌∷◌, Option, Some, None, refl, sym, ◌∙◌, ap, subst, map, slice_index_or, slice_index, option_map, set, length, arith, ◌⊎◌, inl, inr}
 use Rattle.std.proofs.lemmas.Bool.{cases_eq, cases_lt, false≢true}
-use Rattle.std.proofs.lemmas.List.{get_or-set_same, get_or-set_other, length-set, set_past}
+use Rattle.std.proofs.lemmas.List.{get_or-set_same, get_or-set_other, length-set, set_past, take_more, append_assoc, map-append}
 use Rattle.std.proofs.lemmas.Option.{some_pair_parts, none-some}
 use Rattle.std.specs.Option.{option_to_list}
-use Rattle.std.proofs.lemmas.List.{take_more}
 use Rattle.std.proofs.lemmas.List.Elements.{filter_map-append}
 use Rattle.ck_model.specs.Arithmetic.{partial_of}
 use Rattle.ck_model.specs.Map.{Name, named}
@@ -17,6 +16,10 @@ module _ {K V : Type 0} (name : K → Name) where
   seen-at [] i = refl
   seen-at (s ∷ slots) zero = refl
   seen-at (s ∷ slots) (suc i) = seen-at slots i
+
+  -- the same from a read of the slot
+  pub seen-read : (slots : List (Option (K × V))) (seen : List (Slot V)) (i : ℕ) (o : Option (K × V)) → seen_slots name slots ≡ seen → o ≡ slice_index_or slots i None → slot_at seen i ≡ option_map (named name) o
+  seen-read slots seen i o same read = ap (λ s. slot_at s i) (sym same) ∙ seen-at slots i ∙ ap (option_map (named name)) (sym read)
 
   -- what is seen of a slot comes from an entry
   entry_of : (o : Option (K × V)) (n : Name) (v : V) → option_map (named name) o ≡ Some (n, v) → (k : K) × (o ≡ Some (k, v)) × (name k ≡ n)
@@ -94,6 +97,21 @@ module _ {V : Type 0} where
       single : (s : Slot V) → taken_in (s ∷ []) ≡ option_to_list s
       single None = refl
       single (Some e) = refl
+
+-- one slot more is copied
+pub copied-more : {K V : Type 0} (name : K → Name) (slots : List (Slot V)) (i : ℕ) (before : List (Name × V)) (pairs after : List (K × V)) (copy : Option (K × V)) → i < length slots
+    → slot_at slots i ≡ option_map (named name) copy → after ≡ pairs ++ option_to_list copy → map (named name) pairs ≡ before ++ taken_in (take i slots)
+    → map (named name) after ≡ before ++ taken_in (take (i + 1) slots)
+copied-more {K} {V = W} name slots i before pairs after copy below same pushed sofar =
+    ap (map (named name)) pushed ∙ map-append (named name) pairs (option_to_list copy)
+    ∙ ap (λ xs. xs ++ map (named name) (option_to_list copy)) sofar
+    ∙ append_assoc before (taken_in (take i slots)) (map (named name) (option_to_list copy))
+    ∙ ap (λ xs. before ++ (taken_in (take i slots) ++ xs)) (seen copy ∙ ap option_to_list (sym same))
+    ∙ ap (λ xs. before ++ xs) (sym (taken-more slots i below))
+  where
+    seen : (o : Option (K × W)) → map (named name) (option_to_list o) ≡ option_to_list (option_map (named name) o)
+    seen None = refl
+    seen (Some e) = refl
 
 -- a value that was replaced, as it is seen
 pub replaced : {K V : Type 0} (name : K → Name) (slots after : List (Option (K × V))) (i : ℕ) (value old : V) → IsSome (slot_at (seen_slots name slots) i)

@@ -4,6 +4,7 @@ ghost use Rattle.ck_model.specs.Map.{Name};
 
 /// A key of the table. Two keys are equal exactly where they have one name, and the hash depends on the name alone.
 pub trait TableKey: Ord {
+    // What is seen of a key everywhere else.
     ghost name: { Self → Name };
 
     ghost hash: { Name → ℕ };

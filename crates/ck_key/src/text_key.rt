@@ -70,7 +70,7 @@ impl TextKey {
         ensures same { result.now ≡ self.now }
         ensures short { length self.now ≤ 64 }
     {
-        self.bytes.as_slice()
+        &self.bytes
     }
 }
 

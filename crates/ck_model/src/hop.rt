@@ -1,7 +1,7 @@
 //! One move of a displacement path.
 
 /// The entry of this partial in this slot of this bucket goes to its other bucket.
-#[derive(Clone, Copy, Debug, PartialEq, Eq)]
+#[derive(Clone, Copy, Debug, Default, PartialEq, Eq)]
 pub struct Hop {
     pub bucket: u64,
     pub slot: usize,

@@ -25,17 +25,17 @@ pub fn law_of_identity_sections<V>()
     ensures { IdentitySectionsKeepBindings V }
 {}
 
-/// The alternate of a bucket's alternate is the bucket. At the next power an alternate is the old one, or stands by
-/// the old number of buckets above it. A bucket is its own alternate exactly where the number of buckets divides the
-/// partial plus one.
+/// The alternate of a bucket's alternate is the bucket. At the next power an alternate is, modulo the old number of
+/// buckets, the old alternate. A bucket is its own alternate exactly where the number of buckets divides the partial
+/// plus one.
 pub fn law_of_alternates()
     ensures twice { AlternateTwice }
     ensures next_power { AlternateAtNextPower }
     ensures itself { AlternateItself }
 {}
 
-/// The stripes of a hash are those of its two buckets at every power that is not below theirs: growing takes no entry
-/// to another stripe.
+/// At every power that is not below that of the stripes, the two buckets of a hash are in the same two stripes, so
+/// growing takes no entry to another stripe.
 pub fn law_of_stripes()
     ensures { StripesStay }
 {}

@@ -1,0 +1,12 @@
+pub mod Lists
+pub mod Below
+pub mod Steps
+pub mod Once
+pub mod Ends
+pub mod Traces
+pub mod Starts
+pub mod Feeds
+pub mod Carry
+pub mod Shown
+pub mod Whole
+pub mod Bridge

@@ -1,0 +1,5 @@
+pub mod Route
+pub mod Queue
+pub mod Trace
+pub mod Progress
+pub mod Bridge
