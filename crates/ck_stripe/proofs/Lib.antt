@@ -2,3 +2,4 @@ pub mod Splits
 pub mod Permuted
 pub mod Doubled
 pub mod Fields
+pub mod Writes
