@@ -1,0 +1,39 @@
+//! Why a table refuses.
+
+use thiserror::Error;
+
+/// Why no table was opened.
+#[derive(Debug, Clone, Copy, PartialEq, Eq, Error)]
+pub enum OpenFault {
+    /// A setting is not in its range, or the table can't have so many callers.
+    #[error("a setting is not in its range")]
+    Settings,
+    /// There is no memory for the buckets.
+    #[error("no memory for the buckets")]
+    Memory,
+}
+
+/// Why an entry was refused.
+#[derive(Debug, Clone, Copy, PartialEq, Eq, Error)]
+pub enum Why {
+    /// This stripe could not be taken in as many turns as the settings allow.
+    #[error("stripe {0} is busy")]
+    Busy(u32),
+    /// The table has to grow, and there is no memory.
+    #[error("no memory to grow")]
+    Memory,
+    /// There is no room for the key, and the table may not grow.
+    #[error("no room for the key")]
+    Full,
+    /// There is no room for the key, and too few slots are taken for the table to grow.
+    #[error("too few slots are taken to grow")]
+    LoadTooLow,
+}
+
+/// A key and a value that were refused, given back.
+#[derive(Debug, Drop)]
+pub struct Refused<K, V> {
+    pub key: K,
+    pub value: V,
+    pub why: Why,
+}
