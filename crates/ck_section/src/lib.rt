@@ -2,8 +2,11 @@
 //! written once, over `Held`, which a slice of stripes implements and any other way to hold them.
 #![tactic(auto)]
 
+mod find;
 mod held;
+mod place;
 mod slice;
 
 pub use held::Held;
+pub use place::{Answer, HeldBucket, HeldSlot, KeyPlace, Place};
 pub use slice::Slice;
