@@ -17,21 +17,12 @@ use Rattle.ck_model.proofs.Writes.{Writes, written, stands, places, removes, rep
 use Rattle.ck_stripe.specs.Stripe.{StripeState, HasBucket, bucket_of, with_slot}
 use Rattle.ck_section.specs.declared.place.KeyPlace.{KeyPlace}
 use Rattle.ck_section.specs.declared.place.HeldSlot.{HeldSlot}
-use Rattle.ck_section.specs.declared.place.Place.{Place}
 use Rattle.ck_section.specs.Stripes.{no_stripe, stripe_at, bucket_at, set_content, contents_of, IsInReach}
-use Rattle.ck_section.specs.Places.{IsPlaceOf, IsSlotOf, slot_in, IsNowhere}
+use Rattle.ck_section.specs.Places.{place_of, IsPlaceOf, IsSlotOf, slot_in, set_slot, IsNowhere}
 use Rattle.ck_section.specs.Calls.{layout, IsCall, IsAt}
 use Rattle.ck_section.proofs.Found.{holds_at, contents_set, set_here, slot_held, row_bucket, row_within, sound_at, nowhere, unbound, owns, bound_in}
 
--- the place of a slot
-abbrev pub place_of : ℕ → HeldSlot → Place
-place_of s at = record { stripe = at.bucket % 2 ^ s; row = at.bucket / 2 ^ s; slot = at.slot }
-
 module _ {V : Type 0} where
-  -- the stripes with this in the slot, and with this ledger in its stripe
-  abbrev pub set_slot : List (StripeState V) → HeldSlot → Slot V → ℕ → List (StripeState V)
-  set_slot stripes at slot ledger = set_content stripes at.index (with_slot (stripe_at stripes at.index) at.bucket at.slot slot ledger)
-
   free_slot : (slots : List (Slot V)) (i : ℕ) → slot_at (slice_set slots i None) i ≡ None
   free_slot [] i = refl
   free_slot (x ∷ xs) zero = refl

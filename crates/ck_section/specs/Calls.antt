@@ -8,9 +8,11 @@ use Rattle.ck_model.specs.Contents.{Layout, Lawful}
 use Rattle.ck_model.specs.Sections.{Section}
 use Rattle.ck_model.specs.Paths.{HasNoRoom}
 use Rattle.ck_stripe.specs.Stripe.{StripeState}
+use Rattle.ck_section.specs.declared.place.KeyPlace.{KeyPlace}
+use Rattle.ck_section.specs.declared.place.HeldSlot.{HeldSlot}
 use Rattle.ck_section.specs.declared.place.Place.{Place}
 use Rattle.ck_section.specs.Stripes.{stripe_at, contents_of}
-use Rattle.ck_section.specs.Places.{HasEntry}
+use Rattle.ck_section.specs.Places.{place_of, IsNext, HasEntry}
 
 abbrev pub layout : (Name → ℕ) → ℕ → ℕ → Layout
 layout hash s max = record { hash = hash; s = s; max = max }
@@ -27,6 +29,21 @@ module _ {V : Type 0} where
   -- In lawful stripes the name is unbound and its buckets are full.
   abbrev pub IsWithoutRoom : (Name → ℕ) → ℕ → List (StripeState V) → Name → Type 0
   IsWithoutRoom hash s stripes q = (max : ℕ) → Lawful (layout hash s max) (contents_of stripes) → HasNoRoom (layout hash s max) (contents_of stripes) q
+
+  -- In lawful stripes the name is bound or one of its buckets has a free slot.
+  abbrev pub IsWithRoom : (Name → ℕ) → ℕ → List (StripeState V) → Name → Type 0
+  IsWithRoom hash s stripes q = (max : ℕ) → Lawful (layout hash s max) (contents_of stripes) → ¬ (HasNoRoom (layout hash s max) (contents_of stripes) q)
+
+  -- a call after which this place has the name with the value v
+  pub record IsCallAt (hash : Name → ℕ) (s : ℕ) (old : List (StripeState V)) (q : Name) (act : Act V) (reply : Reply V) (new : List (StripeState V)) (at : Place) (v : V) : Type 0 where
+    pub call : IsCall hash s old q act reply new
+    pub entry : IsAt hash s new at q v
+
+  -- a call that placed the name with the value v in the lowest free slot of its first bucket, else of its alternate one
+  pub record IsPlacing (hash : Name → ℕ) (place : KeyPlace) (old : List (StripeState V)) (q : Name) (act : Act V) (reply : Reply V) (new : List (StripeState V)) (at : Place) (v : V) : Type 0 where
+    pub call : IsCall hash place.s old q act reply new
+    pub entry : IsAt hash place.s new at q v
+    pub next : (slot : HeldSlot) × IsNext old place slot × (at ≡ place_of place.s slot)
 
   -- nothing but contents differs
   pub record ChangesContents (old new : List (StripeState V)) : Type 0 where

@@ -1,15 +1,19 @@
 -- Where a name is looked for among held stripes, and where its entry is.
-use Rattle.std.specs.Prelude.{◌≡◌, ◌⊎◌, ℕ, ◌<◌, ◌≤◌, List, Some, None, IsSome, length}
+use Rattle.std.specs.Prelude.{◌≡◌, ◌⊎◌, ℕ, ◌/◌, ◌%◌, ◌^◌, ◌<◌, ◌≤◌, List, Some, None, IsSome, length}
 use Rattle.ck_model.specs.Arithmetic.{partial_of, index_of, second_of}
 use Rattle.ck_model.specs.Map.{Name}
 use Rattle.ck_model.specs.Slots.{Slot, slot_at, IsFull}
 use Rattle.ck_model.specs.Contents.{Stripes, IsBucketOf, row_at, rows_of}
 use Rattle.ck_bucket.specs.Bucket.{LacksName}
-use Rattle.ck_stripe.specs.Stripe.{StripeState}
+use Rattle.ck_stripe.specs.Stripe.{StripeState, with_slot}
 use Rattle.ck_section.specs.declared.place.KeyPlace.{KeyPlace}
 use Rattle.ck_section.specs.declared.place.HeldSlot.{HeldSlot}
 use Rattle.ck_section.specs.declared.place.Place.{Place}
-use Rattle.ck_section.specs.Stripes.{stripe_at, bucket_at, IsInReach}
+use Rattle.ck_section.specs.Stripes.{stripe_at, bucket_at, set_content, IsInReach}
+
+-- the place of a slot in a table of 2^s stripes
+abbrev pub place_of : ℕ → HeldSlot → Place
+place_of s at = record { stripe = at.bucket % 2 ^ s; row = at.bucket / 2 ^ s; slot = at.slot }
 
 module _ {V : Type 0} where
   -- The held stripes are stripes of a table of 2^s, and these are the two buckets of the name, in reach.
@@ -32,6 +36,10 @@ module _ {V : Type 0} where
   -- what is in the slot
   abbrev pub slot_in : List (StripeState V) → HeldSlot → Slot V
   slot_in stripes at = slot_at (bucket_at stripes at.index at.bucket) at.slot
+
+  -- the stripes with this in the slot, and with this ledger in its stripe
+  abbrev pub set_slot : List (StripeState V) → HeldSlot → Slot V → ℕ → List (StripeState V)
+  set_slot stripes at slot ledger = set_content stripes at.index (with_slot (stripe_at stripes at.index) at.bucket at.slot slot ledger)
 
   -- neither bucket has the name
   pub record IsNowhere (stripes : List (StripeState V)) (q : Name) (place : KeyPlace) : Type 0 where

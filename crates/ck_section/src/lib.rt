@@ -2,11 +2,13 @@
 //! written once, over `Held`, which a slice of stripes implements and any other way to hold them.
 #![tactic(auto)]
 
-mod find;
+mod look;
 mod held;
+mod one_key;
 mod place;
 mod slice;
 
 pub use held::Held;
+pub use one_key::{NoRoom, assign, change, erase, find, insert, update, upsert};
 pub use place::{Answer, HeldBucket, HeldSlot, KeyPlace, Place};
 pub use slice::Slice;

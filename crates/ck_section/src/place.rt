@@ -1,5 +1,6 @@
 //! Where a key may be among held stripes, and where its entry is.
-ghost use Rattle.std.specs.Prelude.{◌≡◌, ◌/◌, ◌%◌, ◌^◌, ◌≤◌};
+ghost use Rattle.std.specs.Prelude.{◌≡◌, ◌≤◌};
+ghost use Rattle.ck_section.specs.Places.{place_of};
 
 /// A bucket of a held stripe.
 #[derive(Clone, Copy, Debug, PartialEq, Eq)]
@@ -48,7 +49,7 @@ impl HeldSlot {
     /// The place of the slot in a table of 2^s stripes.
     pub fn place(self, s: u32) -> Place
         requires { s ≤ 10 }
-        ensures { result ≡ record { stripe = self.bucket % 2 ^ s; row = self.bucket / 2 ^ s; slot = self.slot } }
+        ensures { result ≡ place_of s self }
     {
         Place {
             stripe: (self.bucket % (1 << s)) as u32,
