@@ -99,7 +99,7 @@ module _ {V : Type 0} where
             ∙ get_or-set_same (row_at t.content.rows r) at.slot (Some (q, v)) None (subst (λ m. at.slot < m) (sym four) below)) max lawful
 
   module _ (hash : Name → ℕ) (stripes : List (StripeState V)) (q : Name) (place : KeyPlace) (of : IsPlaceOf hash stripes q place) where
-    s_at : (at : HeldSlot) → IsSlotOf hash stripes q at → (stripe_at stripes at.index).s ≡ place.s
+    pub s_at : (at : HeldSlot) → IsSlotOf hash stripes q at → (stripe_at stripes at.index).s ≡ place.s
     s_at at slot = of.one_s at.index slot.reach.inside
 
     -- a call that changes nothing

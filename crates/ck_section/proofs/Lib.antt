@@ -1,2 +1,3 @@
 pub mod Found
 pub mod Decided
+pub mod Steps
