@@ -70,11 +70,13 @@ pub fn insert<K: TableKey + Drop, V: Drop, H: Held<K, V>>(
             place: at.place(place.s),
         });
     }
-    let at = place_new(held, place, key, value)?;
-    Ok(Answer {
-        reply: true,
-        place: at,
-    })
+    match place_new(held, place, key, value) {
+        Ok(at) => Ok(Answer {
+            reply: true,
+            place: at,
+        }),
+        Err(back) => Err(back),
+    }
 }
 
 /// Binds the key, and gives the value that it had.
@@ -100,11 +102,13 @@ pub fn assign<K: TableKey + Drop, V: Drop, H: Held<K, V>>(
             place: at.place(place.s),
         });
     }
-    let at = place_new(held, place, key, value)?;
-    Ok(Answer {
-        reply: None,
-        place: at,
-    })
+    match place_new(held, place, key, value) {
+        Ok(at) => Ok(Answer {
+            reply: None,
+            place: at,
+        }),
+        Err(back) => Err(back),
+    }
 }
 
 /// Binds a bound key to another value, and gives the one that it had; `None` where the key is unbound, and then it stays
