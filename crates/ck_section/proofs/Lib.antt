@@ -1,3 +1,4 @@
 pub mod Found
 pub mod Decided
 pub mod Steps
+pub mod Rebinding
