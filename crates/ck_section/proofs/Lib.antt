@@ -2,3 +2,4 @@ pub mod Found
 pub mod Decided
 pub mod Steps
 pub mod Rebinding
+pub mod Hopped

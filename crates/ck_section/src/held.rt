@@ -67,6 +67,7 @@ pub trait Held<K: TableKey, V> {
     fn sketch(&mut self, i: usize, b: u64) -> [Option<u8>; 4]
         requires reach { IsInReach (stripes self.old) i b }
         ensures value { result ≡ map (partial_in K.hash) (bucket_at (stripes self.old) i b) }
+        ensures four { length (bucket_at (stripes self.old) i b) ≡ 4 }
         ensures same { stripes self.new ≡ stripes self.old }
         ensures stays { stays self.old self.new };
 
