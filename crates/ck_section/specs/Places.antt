@@ -1,5 +1,5 @@
 -- Where a name is looked for among held stripes, and where its entry is.
-use Rattle.std.specs.Prelude.{◌≡◌, ◌⊎◌, ℕ, ◌/◌, ◌%◌, ◌^◌, ◌<◌, ◌≤◌, List, Some, None, IsSome, length}
+use Rattle.std.specs.Prelude.{◌≡◌, ◌⊎◌, ℕ, ◌/◌, ◌%◌, ◌^◌, ◌<◌, ◌≤◌, true, List, Some, None, IsSome, length}
 use Rattle.ck_model.specs.Arithmetic.{partial_of, index_of, second_of}
 use Rattle.ck_model.specs.Map.{Name}
 use Rattle.ck_model.specs.Slots.{Slot, slot_at, IsFull}
@@ -16,6 +16,26 @@ abbrev pub place_of : ℕ → HeldSlot → Place
 place_of s at = record { stripe = at.bucket % 2 ^ s; row = at.bucket / 2 ^ s; slot = at.slot }
 
 module _ {V : Type 0} where
+  -- Settled stripes of one table of 2^s stripes, of one power, in rising order of their numbers.
+  pub record AreHeld (s : ℕ) (stripes : List (StripeState V)) : Type 0 where
+    pub some : 0 < length stripes
+    pub many : s ≤ 10
+    pub one_s : (i : ℕ) → i < length stripes → (stripe_at stripes i).s ≡ s
+    pub settled : (i : ℕ) → i < length stripes → (stripe_at stripes i).settled ≡ true
+    pub one_power : (i : ℕ) → i < length stripes → (stripe_at stripes i).content.power ≡ (stripe_at stripes 0).content.power
+    pub least : s ≤ (stripe_at stripes 0).content.power
+    pub most : (stripe_at stripes 0).content.power ≤ 26
+    pub rising : (i j : ℕ) → i < j → j < length stripes → (stripe_at stripes i).number < (stripe_at stripes j).number
+
+  -- the stripe of this number is held
+  abbrev pub HasStripe : List (StripeState V) → ℕ → Type 0
+  HasStripe stripes t = (i : ℕ) × (i < length stripes) × ((stripe_at stripes i).number ≡ t)
+
+  -- the two stripes of the name are held
+  pub record HasBoth (hash : Name → ℕ) (s : ℕ) (stripes : List (StripeState V)) (q : Name) : Type 0 where
+    pub first : HasStripe stripes (index_of s (hash q))
+    pub alternate : HasStripe stripes (second_of s (hash q))
+
   -- The held stripes are stripes of a table of 2^s, and these are the two buckets of the name, in reach.
   pub record IsPlaceOf (hash : Name → ℕ) (stripes : List (StripeState V)) (q : Name) (place : KeyPlace) : Type 0 where
     pub many : place.s ≤ 10

@@ -12,6 +12,7 @@ mod two_keys;
 
 pub use held::Held;
 pub use hop::{Hop, move_entry};
+pub use look::key_place;
 pub use one_key::{NoRoom, assign, change, erase, find, insert, update, upsert};
 pub use place::{Answer, HeldBucket, HeldSlot, KeyPlace, Place};
 pub use slice::Slice;
