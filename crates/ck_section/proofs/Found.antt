@@ -57,23 +57,28 @@ module _ {V : Type 0} where
   pub set_here : (stripes : List (StripeState V)) (i : ℕ) (c : Content V) → i < length stripes → stripe_at (set_content stripes i c) i ≡ record (stripe_at stripes i) { content = c }
   set_here stripes i c lt = get_or-set_same stripes i (record (stripe_at stripes i) { content = c }) no_stripe lt
 
-  pub set_changes : (stripes : List (StripeState V)) (i : ℕ) (c : Content V) → i < length stripes → ChangesContents stripes (set_content stripes i c)
-  set_changes stripes i c lt = record {
+  pub set_changes : (stripes : List (StripeState V)) (i : ℕ) (c : Content V) → i < length stripes → c.power ≡ (stripe_at stripes i).content.power → ChangesContents stripes (set_content stripes i c)
+  set_changes stripes i c lt keeps = record {
     count = length-set stripes i (record (stripe_at stripes i) { content = c });
     each = λ j l. dite (ℕ_discrete j i)
         (λ e. let S : ℕ → Type 0 = λ n. stripe_at (set_content stripes i c) n ≡ record (stripe_at stripes n) { content = (stripe_at (set_content stripes i c) n).content } in
         subst S (sym e) (set_here stripes i c lt ∙ ap (λ (t : StripeState V). record (stripe_at stripes i) { content = t.content }) (sym (set_here stripes i c lt))))
         (λ ne. let same : stripe_at (set_content stripes i c) j ≡ stripe_at stripes j = get_or-set_other stripes i j (record (stripe_at stripes i) { content = c }) no_stripe ne in
         same ∙ ap (λ (t : StripeState V). record (stripe_at stripes j) { content = t.content }) (sym same));
+    power = λ j l. dite (ℕ_discrete j i)
+        (λ e. let S : ℕ → Type 0 = λ n. (stripe_at (set_content stripes i c) n).content.power ≡ (stripe_at stripes n).content.power in
+        subst S (sym e) (ap (λ (t : StripeState V). t.content.power) (set_here stripes i c lt) ∙ keeps))
+        (λ ne. ap (λ (t : StripeState V). t.content.power) (get_or-set_other stripes i j (record (stripe_at stripes i) { content = c }) no_stripe ne));
   }
 
   pub changes_none : (stripes : List (StripeState V)) → ChangesContents stripes stripes
-  changes_none stripes = record { count = refl; each = λ j l. refl }
+  changes_none stripes = record { count = refl; each = λ j l. refl; power = λ j l. refl }
 
   pub changes_on : (a b c : List (StripeState V)) → ChangesContents a b → ChangesContents b c → ChangesContents a c
   changes_on a b c one two = record {
     count = two.count ∙ one.count;
     each = λ j l. two.each j (subst (λ n. j < n) (sym one.count) l) ∙ ap (λ (t : StripeState V). record t { content = (stripe_at c j).content }) (one.each j l);
+    power = λ j l. two.power j (subst (λ n. j < n) (sym one.count) l) ∙ one.power j l;
   }
 
   -- the rows of a held stripe

@@ -24,7 +24,7 @@ module _ {V : Type 0} where
   pub slot_changes : (stripes cur new : List (StripeState V)) (at : HeldSlot) (x : Slot V) (n : ℕ) → cur ≡ stripes → IsInReach stripes at.index at.bucket → new ≡ set_slot cur at x n → ChangesContents stripes new
   slot_changes stripes cur new at x n same reach e =
       subst (λ (l : List (StripeState V)). ChangesContents stripes l) (sym (e ∙ ap (λ (l : List (StripeState V)). set_slot l at x n) same))
-      (set_changes stripes at.index (with_slot (stripe_at stripes at.index) at.bucket at.slot x n) reach.inside)
+      (set_changes stripes at.index (with_slot (stripe_at stripes at.index) at.bucket at.slot x n) reach.inside refl)
 
   pub two_changes : (stripes cur new : List (StripeState V)) (at : HeldSlot) (x y : Slot V) (n m : ℕ) → cur ≡ stripes → IsInReach stripes at.index at.bucket → new ≡ set_slot (set_slot cur at x n) at y m → ChangesContents stripes new
   two_changes stripes cur new at x y n m same reach e =

@@ -45,7 +45,8 @@ module _ {V : Type 0} where
     pub entry : IsAt hash place.s new at q v
     pub next : (slot : HeldSlot) × IsNext old place slot × (at ≡ place_of place.s slot)
 
-  -- nothing but contents differs
+  -- nothing but contents differs, and the powers stay
   pub record ChangesContents (old new : List (StripeState V)) : Type 0 where
     pub count : length new ≡ length old
     pub each : (i : ℕ) → i < length old → stripe_at new i ≡ record (stripe_at old i) { content = (stripe_at new i).content }
+    pub power : (i : ℕ) → i < length old → (stripe_at new i).content.power ≡ (stripe_at old i).content.power

@@ -64,10 +64,10 @@ pub fn insert<K: TableKey + Drop, V: Drop, H: Held<K, V>>(
     ensures rest { ChangesContents (H.stripes held.old) (H.stripes held.new) }
     ensures stays { H.stays held.old held.new }
 {
-    if let Some(at) = find_entry(held, place, &key) {
+    if let Some(old) = find_entry(held, place, &key) {
         return Ok(Answer {
             reply: false,
-            place: at.place(place.s),
+            place: old.place(place.s),
         });
     }
     match place_new(held, place, key, value) {
@@ -96,9 +96,9 @@ pub fn assign<K: TableKey + Drop, V: Drop, H: Held<K, V>>(
     ensures stays { H.stays held.old held.new }
 {
     if let Some(at) = find_entry(held, place, &key) {
-        let old = held.replace(at.index, at.bucket, at.slot, value);
+        let was = held.replace(at.index, at.bucket, at.slot, value);
         return Ok(Answer {
-            reply: Some(old),
+            reply: Some(was),
             place: at.place(place.s),
         });
     }
@@ -196,11 +196,11 @@ where
     ensures rest { ChangesContents (H.stripes held.old) (H.stripes held.new) }
     ensures stays { H.stays held.old held.new }
 {
-    if let Some(at) = find_entry(held, place, &key) {
-        change_at(held, at, f);
+    if let Some(entry) = find_entry(held, place, &key) {
+        change_at(held, entry, f);
         return Ok(Answer {
             reply: false,
-            place: at.place(place.s),
+            place: entry.place(place.s),
         });
     }
     match place_new(held, place, key, value) {

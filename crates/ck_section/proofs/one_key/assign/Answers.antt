@@ -14,9 +14,9 @@ returns-in-Some-clause-call g c =
     let name = g.K.TableKey.name c.args.key in
     let at = c.in-Some.at in
     let found = c.in-Some.ensures.found in
-    let z = c.replace-old.ensures.content name found.0 (found_in hash stripes name c.args.place c.requires cur c.find_entry.ensures.same at c.in-Some.ensures.slot c.place.result c.place.ensures found) in
+    let z = c.replace-was.ensures.content name found.0 (found_in hash stripes name c.args.place c.requires cur c.find_entry.ensures.same at c.in-Some.ensures.slot c.place.result c.place.ensures found) in
     wrote hash stripes name c.args.place c.requires cur c.find_entry.ensures.same at c.in-Some.ensures.slot c.place.result c.place.ensures found
-    (Assign c.args.value) (Was (Some c.replace-old.result)) c.args.value (g.H.Held.stripes c.replace-old.new.self) (ap (λ (v : g.row.V.Denot). Was (Some v)) z.0, refl) z.1
+    (Assign c.args.value) (Was (Some c.replace-was.result)) c.args.value (g.H.Held.stripes c.replace-was.new.self) (ap (λ (v : g.row.V.Denot). Was (Some v)) z.0, refl) z.1
 
 pub returns-in-Some-clause-rest : goal.returns-in-Some-clause-rest
 returns-in-Some-clause-rest g c =
@@ -26,8 +26,8 @@ returns-in-Some-clause-rest g c =
     let name = g.K.TableKey.name c.args.key in
     let at = c.in-Some.at in
     let found = c.in-Some.ensures.found in
-    let z = c.replace-old.ensures.content name found.0 (found_in hash stripes name c.args.place c.requires cur c.find_entry.ensures.same at c.in-Some.ensures.slot c.place.result c.place.ensures found) in
-    slot_changes stripes cur (g.H.Held.stripes c.replace-old.new.self) at _ _ c.find_entry.ensures.same c.in-Some.ensures.slot.reach z.1
+    let z = c.replace-was.ensures.content name found.0 (found_in hash stripes name c.args.place c.requires cur c.find_entry.ensures.same at c.in-Some.ensures.slot c.place.result c.place.ensures found) in
+    slot_changes stripes cur (g.H.Held.stripes c.replace-was.new.self) at _ _ c.find_entry.ensures.same c.in-Some.ensures.slot.reach z.1
 
 pub returns-in-Some-clause-room : goal.returns-in-Some-clause-room
 returns-in-Some-clause-room g c =

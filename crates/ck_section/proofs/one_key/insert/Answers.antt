@@ -12,7 +12,7 @@ returns-in-Some-clause-new g c =
     let stripes = g.H.Held.stripes c.args.held.now in
     let cur = g.H.Held.stripes c.find_entry.new.held in
     let name = g.K.TableKey.name c.args.key in
-    let at = c.in-Some.at in
+    let at = c.in-Some.old in
     let found = c.in-Some.ensures.found in
     (c.find_entry.ensures.same, (found.0, kept hash stripes name c.args.place c.requires cur c.find_entry.ensures.same at c.in-Some.ensures.slot c.place.result c.place.ensures found (Insert c.args.value) Old (refl, refl)))
 
@@ -22,7 +22,7 @@ returns-in-Some-clause-room g c =
     let stripes = g.H.Held.stripes c.args.held.now in
     let cur = g.H.Held.stripes c.find_entry.new.held in
     let name = g.K.TableKey.name c.args.key in
-    let at = c.in-Some.at in
+    let at = c.in-Some.old in
     let found = c.in-Some.ensures.found in
     bound_with_room hash stripes name c.args.place c.requires cur c.find_entry.ensures.same at c.in-Some.ensures.slot c.place.result c.place.ensures found
 

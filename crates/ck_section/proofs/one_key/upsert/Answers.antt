@@ -12,7 +12,7 @@ returns-in-Some-clause-call g c =
     let stripes = g.H.Held.stripes c.args.held.now in
     let cur = g.H.Held.stripes c.find_entry.new.held in
     let name = g.K.TableKey.name c.args.key in
-    let at = c.in-Some.at in
+    let at = c.in-Some.entry in
     let found = c.in-Some.ensures.found in
     let z = c.change_at.ensures.changed name found.0 (found_in hash stripes name c.args.place c.requires.place cur c.find_entry.ensures.same at c.in-Some.ensures.slot c.place.result c.place.ensures found) in
     (found.0, z.0, z.1, rewrote hash stripes name c.args.place c.requires.place cur c.find_entry.ensures.same at c.in-Some.ensures.slot c.place.result c.place.ensures found (Upsert c.args.value) (Done found.0 z.0) z.0 (g.H.Held.stripes c.change_at.new.held) (z.0, refl, refl) z.2)
@@ -23,7 +23,7 @@ returns-in-Some-clause-rest g c =
     let stripes = g.H.Held.stripes c.args.held.now in
     let cur = g.H.Held.stripes c.find_entry.new.held in
     let name = g.K.TableKey.name c.args.key in
-    let at = c.in-Some.at in
+    let at = c.in-Some.entry in
     let found = c.in-Some.ensures.found in
     let z = c.change_at.ensures.changed name found.0 (found_in hash stripes name c.args.place c.requires.place cur c.find_entry.ensures.same at c.in-Some.ensures.slot c.place.result c.place.ensures found) in
     two_changes stripes cur (g.H.Held.stripes c.change_at.new.held) at _ _ _ _ c.find_entry.ensures.same c.in-Some.ensures.slot.reach z.2
@@ -34,7 +34,7 @@ returns-in-Some-clause-room g c =
     let stripes = g.H.Held.stripes c.args.held.now in
     let cur = g.H.Held.stripes c.find_entry.new.held in
     let name = g.K.TableKey.name c.args.key in
-    let at = c.in-Some.at in
+    let at = c.in-Some.entry in
     let found = c.in-Some.ensures.found in
     bound_with_room hash stripes name c.args.place c.requires.place cur c.find_entry.ensures.same at c.in-Some.ensures.slot c.place.result c.place.ensures found
 
