@@ -4,3 +4,4 @@ pub mod Steps
 pub mod Rebinding
 pub mod Hopped
 pub mod Rebound
+pub mod Kept

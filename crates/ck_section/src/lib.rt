@@ -8,6 +8,8 @@ mod look;
 mod one_key;
 mod place;
 mod slice;
+#[cfg(test)]
+mod tests;
 mod two_keys;
 
 pub use held::Held;
