@@ -2,10 +2,13 @@
 ghost use Rattle.std.specs.Prelude.{◌≢◌, ◌≤◌, ◌∷◌, [], IfOk};
 ghost use Rattle.ck_section.specs.Places.{AreAll};
 
-use crate::{Slice, assign, change, erase, find, insert, key_place, update, update_two, upsert};
+use crate::{
+    Hop, Slice, assign, change, erase, find, insert, key_place, move_entry, update, update_two, upsert,
+};
 use ck_key::NumKey;
 use ck_stripe::Stripe;
 use std::alloc::{AllocError, Global};
+use std::process::Abort;
 use std::test::Fail;
 
 // The stripes of an empty table.
@@ -125,6 +128,87 @@ fn one_key(rt: HostRuntime) -> Result<(), Fail> {
         .enumerate()
         {
             assert_eq!(rt; apply(&mut held, s, key, act), want, "row {row}");
+        }
+    }
+    Ok(())
+}
+
+/// On one, two and four stripes, where keys 0 and 2^64 - 1 have four different ones.
+#[test]
+fn two_keys(rt: HostRuntime) -> Result<(), Fail> {
+    for s in 0..3u32 {
+        let mut stripes = open_all(rt.alloc(), s, 2)?;
+        let mut held = Slice {
+            stripes: &mut stripes,
+        };
+        for (key, value) in [(0, 10), (u64::MAX, 20), (3, 30)] {
+            let _new = apply(&mut held, s, key, Act::Insert(value));
+        }
+        for (row, (a, b, want, of_a, of_b)) in [
+            (0u64, u64::MAX, true, Some(11), Some(19)),
+            (u64::MAX, 0, true, Some(20), Some(10)),
+            (3, 0, true, Some(31), Some(9)),
+            (3, 7, false, Some(31), None),
+            (7, 3, false, None, Some(31)),
+        ]
+        .into_iter()
+        .enumerate()
+        {
+            assert!(rt; a != b);
+            assert_eq!(rt; shift(&mut held, s, a, b), want, "row {row}");
+            assert_eq!(rt; apply(&mut held, s, a, Act::Find(0)), of_a, "row {row}");
+            assert_eq!(rt; apply(&mut held, s, b, Act::Find(0)), of_b, "row {row}");
+        }
+    }
+    Ok(())
+}
+
+// Tries the hop of an entry of bucket 1 of a table of two stripes.
+fn try_hop(rt: &impl Abort, held: &mut Slice<NumKey, u64>, power: u32, partial: u8) -> bool
+    requires all { AreAll 1 held.old.stripes.now }
+    requires least { 1 ≤ power }
+    requires most { power ≤ 26 }
+    ensures { AreAll 1 held.new.stripes.now }
+{
+    let target = ck_key::alternate(power, partial, 1);
+    assert!(rt; target % 2 == 1);
+    move_entry(
+        held,
+        1,
+        1,
+        Hop {
+            power,
+            bucket: 1,
+            slot: 0,
+            partial,
+            target,
+        },
+    )
+}
+
+/// Key 1 is in slot 0 of bucket 1, and its other bucket is 3, which is free in the first rows, and full of keys without
+/// another bucket in the last one.
+#[test]
+fn hops(rt: HostRuntime) -> Result<(), Fail> {
+    for (full, power, partial, want) in [
+        (false, 3, 1, &[false, false]),
+        (false, 2, 5, &[false, false]),
+        (false, 2, 1, &[true, false]),
+        (true, 2, 1, &[false, false]),
+    ] {
+        let mut stripes = open_all(rt.alloc(), 1, 2)?;
+        let mut held = Slice {
+            stripes: &mut stripes,
+        };
+        if full {
+            for key in [3, 7, 11, 15] {
+                let _new = apply(&mut held, 1, key, Act::Insert(0));
+            }
+        }
+        let _new = apply(&mut held, 1, 1, Act::Insert(10));
+        for want in want {
+            assert_eq!(rt; try_hop(&rt, &mut held, power, partial), *want);
+            assert_eq!(rt; apply(&mut held, 1, 1, Act::Find(0)), Some(10));
         }
     }
     Ok(())
