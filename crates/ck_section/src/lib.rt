@@ -6,6 +6,7 @@ mod held;
 mod hop;
 mod look;
 mod one_key;
+mod pair;
 mod place;
 mod slice;
 #[cfg(test)]
@@ -16,6 +17,7 @@ pub use held::Held;
 pub use hop::{Hop, move_entry};
 pub use look::key_place;
 pub use one_key::{NoRoom, assign, change, erase, find, insert, update, upsert};
+pub use pair::Pair;
 pub use place::{Answer, HeldBucket, HeldSlot, KeyPlace, Place};
 pub use slice::Slice;
 pub use two_keys::update_two;
