@@ -8,6 +8,7 @@ mod look;
 mod one_key;
 mod pair;
 mod place;
+mod several;
 mod slice;
 #[cfg(test)]
 mod tests;
@@ -19,5 +20,6 @@ pub use look::key_place;
 pub use one_key::{NoRoom, assign, change, erase, find, insert, update, upsert};
 pub use pair::Pair;
 pub use place::{Answer, HeldBucket, HeldSlot, KeyPlace, Place};
+pub use several::Several;
 pub use slice::Slice;
 pub use two_keys::update_two;

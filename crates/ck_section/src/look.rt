@@ -1,5 +1,5 @@
 //! Looking for a key, and for room for it.
-ghost use Rattle.std.specs.Prelude.{◌≡◌, ◌<◌, Some, IfSome, IfNone, length};
+ghost use Rattle.std.specs.Prelude.{◌≡◌, ◌≤◌, ◌<◌, ◌%◌, ◌^◌, Some, IfSome, IfNone, length};
 ghost use Rattle.ck_section.specs.Stripes.{stripe_at};
 ghost use Rattle.ck_section.specs.Places.{AreHeld, HasStripe, HasBoth, IsPlaceOf, IsSlotOf, IsNowhere, AreFull, IsNext, slot_in};
 
@@ -34,6 +34,18 @@ pub fn key_place<K: TableKey, V, H: Held<K, V>>(held: &mut H, s: u32, key: &K) -
             bucket: alternate,
         },
     }
+}
+
+// The position of the stripe of bucket `b`, in a table of 2^s stripes.
+pub(crate) fn bucket_index<K: TableKey, V, H: Held<K, V>>(held: &mut H, s: u32, b: u64) -> usize
+    requires s { s ≤ 10 }
+    requires owned { HasStripe (H.stripes held.old) (b % 2 ^ s) }
+    ensures inside { result < length (H.stripes held.old) }
+    ensures number { (stripe_at (H.stripes held.old) result).number ≡ b % 2 ^ s }
+    ensures same { H.stripes held.new ≡ H.stripes held.old }
+    ensures stays { H.stays held.old held.new }
+{
+    stripe_index(held, (b % (1 << s)) as u32)
 }
 
 // The position of the stripe of this number. One or two are held for one key, four at most for two.

@@ -1,13 +1,18 @@
 //! Calls on a slice of the stripes of one key.
-ghost use Rattle.std.specs.Prelude.{◌≡◌, ◌<◌, Some, None, IfSome, IfNone, IfOk, IfErr, OnOk, MatchBool, MatchOption, length};
+ghost use Rattle.std.specs.Prelude.{◌≡◌, ◌%◌, ◌^◌, ◌<◌, map, Some, None, IfSome, IfNone, IfOk, IfErr, OnOk, MatchBool, MatchOption, length};
 ghost use Rattle.std.specs.Fn.{FnOnceReturnsAt};
 ghost use Rattle.ck_model.specs.declared.history.Act.TheVariants.{Find, Insert, Assign, Update, Change, Upsert, Erase};
 ghost use Rattle.ck_model.specs.declared.history.Reply.TheVariants.{Was, New, Old, Done, Absent};
-ghost use Rattle.ck_section.specs.Stripes.{stripe_at};
-ghost use Rattle.ck_section.specs.Places.{AreHeld, HasBoth, IsPlaceOf};
+ghost use Rattle.ck_model.specs.Arithmetic.{alternate_of};
+ghost use Rattle.ck_bucket.specs.Bucket.{partial_in};
+ghost use Rattle.ck_section.specs.Stripes.{stripe_at, bucket_at, IsInReach};
+ghost use Rattle.ck_section.specs.Places.{AreHeld, HasStripe, HasBoth, IsPlaceOf};
+ghost use Rattle.ck_section.specs.Hops.{IsHopIn, CanHop, Hops, IsNoCall};
 ghost use Rattle.ck_section.specs.Calls.{IsCall, IsAt, IsCallAt, IsPlacing, IsWithRoom, IsWithoutRoom, ChangesContents};
 
-use crate::look::key_place;
+use crate::held::Held;
+use crate::hop::{Hop, move_entry};
+use crate::look::{bucket_index, key_place};
 use crate::one_key::{self, NoRoom};
 use crate::place::{Answer, KeyPlace, Place};
 use crate::slice::Slice;
@@ -150,5 +155,49 @@ impl<'a, K: TableKey + Drop, V: Drop> Pair<'a, K, V> {
     {
         let place = key_place(&mut self.held, self.s, &key);
         one_key::upsert(&mut self.held, place, key, f, value)
+    }
+
+    /// The power of the stripes.
+    pub fn power(&mut self) -> u32
+        requires held { AreHeld self.old.s self.old.held.stripes.now }
+        ensures value { result ≡ (stripe_at self.old.held.stripes.now 0).content.power }
+        ensures same { self.new.held.stripes.now ≡ self.old.held.stripes.now }
+        ensures s { self.new.s ≡ self.old.s }
+        ensures stays { self.new.held.stripes.ghost_name ≡ self.old.held.stripes.ghost_name }
+    {
+        self.held.power(0)
+    }
+
+    /// The partials in a bucket of the stripes.
+    pub fn sketch(&mut self, b: u64) -> [Option<u8>; 4]
+        requires held { AreHeld self.old.s self.old.held.stripes.now }
+        requires below { b < 2 ^ (stripe_at self.old.held.stripes.now 0).content.power }
+        requires owned { HasStripe self.old.held.stripes.now (b % 2 ^ self.old.s) }
+        ensures value { (i : _) × IsInReach self.old.held.stripes.now i b × (result ≡ map (partial_in K.hash) (bucket_at self.old.held.stripes.now i b)) }
+        ensures same { self.new.held.stripes.now ≡ self.old.held.stripes.now }
+        ensures s { self.new.s ≡ self.old.s }
+        ensures stays { self.new.held.stripes.ghost_name ≡ self.old.held.stripes.ghost_name }
+    {
+        let i = bucket_index(&mut self.held, self.s, b);
+        self.held.sketch(i, b)
+    }
+
+    /// Carries out a hop, as the free function `move_entry` does.
+    pub fn hop(&mut self, hop: Hop) -> bool
+        requires held { AreHeld self.old.s self.old.held.stripes.now }
+        requires below { hop.bucket < 2 ^ hop.power }
+        requires target { hop.target ≡ alternate_of hop.power hop.partial hop.bucket }
+        requires source_owned { HasStripe self.old.held.stripes.now (hop.bucket % 2 ^ self.old.s) }
+        requires target_owned { HasStripe self.old.held.stripes.now (hop.target % 2 ^ self.old.s) }
+        ensures hopped { (i j : _) × IsHopIn self.old.held.stripes.now i j hop × MatchBool result (CanHop K.hash self.old.held.stripes.now i j hop) (¬ (CanHop K.hash self.old.held.stripes.now i j hop)) × MatchBool result (Hops self.old.held.stripes.now i j hop self.new.held.stripes.now) (self.new.held.stripes.now ≡ self.old.held.stripes.now) }
+        ensures no_call { IsNoCall K.hash self.old.s self.old.held.stripes.now self.new.held.stripes.now }
+        ensures rest { ChangesContents self.old.held.stripes.now self.new.held.stripes.now }
+        ensures s { self.new.s ≡ self.old.s }
+        ensures held { AreHeld self.new.s self.new.held.stripes.now }
+        ensures stays { self.new.held.stripes.ghost_name ≡ self.old.held.stripes.ghost_name }
+    {
+        let from = bucket_index(&mut self.held, self.s, hop.bucket);
+        let to = bucket_index(&mut self.held, self.s, hop.target);
+        move_entry(&mut self.held, from, to, hop)
     }
 }
