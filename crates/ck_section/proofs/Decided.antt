@@ -1,5 +1,5 @@
 -- Calls on one name of held stripes, by what was found and written.
-use Rattle.std.proofs.Common.{◌≡◌, ◌≢◌, ◌⊎◌, inl, inr, ℕ, zero, suc, ◌+◌, ◌-◌, ◌*◌, ◌/◌, ◌%◌, ◌^◌, ◌<◌, ◌≤◌, List, [], ◌∷◌, Option, Some, None, length, refl, sym, ◌∙◌, ap, subst, arith}
+use Rattle.std.proofs.Common.{◌≡◌, ◌≢◌, inl, ℕ, zero, suc, ◌+◌, ◌-◌, ◌/◌, ◌^◌, ◌<◌, List, [], ◌∷◌, Option, Some, None, length, refl, sym, ◌∙◌, ap, subst, arith}
 use Rattle.std.specs.Prelude.{slice_set}
 use Rattle.std.specs.FinMap.{get, find}
 use Rattle.std.proofs.lemmas.List.{length-set, get_or-set_same, set-set}
@@ -9,15 +9,15 @@ use Rattle.ck_model.specs.declared.history.Reply.{Reply}
 use Rattle.ck_model.specs.declared.contents.Content.{Content}
 use Rattle.ck_model.specs.Map.{Name, name_cmp, Answers}
 use Rattle.ck_model.specs.Slots.{Slot, slot_at}
-use Rattle.ck_model.specs.Numbered.{AreDistinct, numbers, Holds, with_content}
+use Rattle.ck_model.specs.Numbered.{Holds}
 use Rattle.ck_model.specs.Contents.{IsBucketOf, Layout, Stripes, Binds, pairs_in, row_at, bindings, IsSound, Lawful}
 use Rattle.ck_model.specs.Sections.{Section}
-use Rattle.ck_model.proofs.Local.{At, Change, section_in_one}
+use Rattle.ck_model.proofs.Local.{Change, section_in_one}
 use Rattle.ck_model.proofs.Writes.{Writes, written, stands, places, removes, replaces, ledger_of_taken}
 use Rattle.ck_stripe.specs.Stripe.{StripeState, HasBucket, bucket_of, with_slot}
 use Rattle.ck_section.specs.declared.place.KeyPlace.{KeyPlace}
 use Rattle.ck_section.specs.declared.place.HeldSlot.{HeldSlot}
-use Rattle.ck_section.specs.Stripes.{no_stripe, stripe_at, bucket_at, set_content, contents_of, IsInReach}
+use Rattle.ck_section.specs.Stripes.{stripe_at, set_content, contents_of, IsInReach}
 use Rattle.ck_section.specs.Places.{place_of, IsPlaceOf, IsSlotOf, slot_in, set_slot, IsNowhere}
 use Rattle.ck_section.specs.Calls.{layout, IsCall, IsAt}
 use Rattle.ck_section.proofs.Found.{holds_at, contents_set, set_here, slot_held, row_bucket, row_within, sound_at, nowhere, unbound, owns, bound_in}
@@ -69,7 +69,7 @@ module _ {V : Type 0} where
         ap (λ (t : StripeState V). slice_set (set_content stripes at.index c) at.index (record t { content = with_slot t at.bucket at.slot y m })) is
         ∙ set-set stripes at.index (record here { content = c }) (record here { content = with_slot (record here { content = c }) at.bucket at.slot y m })
         ∙ ap (λ (rows : List (List (Slot V))). slice_set stripes at.index (record here { content = record { power = here.content.power; rows = rows; ledger = m } }))
-            (set_row here.content.rows (at.bucket / 2 ^ here.s) at.slot x y)
+        (set_row here.content.rows (at.bucket / 2 ^ here.s) at.slot x y)
 
     pub ledger_set : (x : Slot V) (n : ℕ) → (stripe_at (set_slot stripes at x n) at.index).content.ledger ≡ n
     ledger_set x n = ap (λ (t : StripeState V). t.content.ledger) (set_here stripes at.index (with_slot here at.bucket at.slot x n) reach.inside)
@@ -94,9 +94,9 @@ module _ {V : Type 0} where
         let row : row_at c.rows r ≡ slice_set (row_at t.content.rows r) at.slot (Some (q, v)) = get_or-set_same t.content.rows r (slice_set (row_at t.content.rows r) at.slot (Some (q, v))) [] within in
         let four : length (row_at t.content.rows r) ≡ 4 = sym (length-set (row_at t.content.rows r) at.slot (Some (q, v))) ∙ ap length (sym row) ∙ sound.four r [] within2 in
         at_old new at v after e2 (
-            ap (λ (u : StripeState V). slot_at (bucket_of u at.bucket) at.slot) is
-            ∙ ap (λ (l : List (Slot V)). slot_at l at.slot) row
-            ∙ get_or-set_same (row_at t.content.rows r) at.slot (Some (q, v)) None (subst (λ m. at.slot < m) (sym four) below)) max lawful
+        ap (λ (u : StripeState V). slot_at (bucket_of u at.bucket) at.slot) is
+        ∙ ap (λ (l : List (Slot V)). slot_at l at.slot) row
+        ∙ get_or-set_same (row_at t.content.rows r) at.slot (Some (q, v)) None (subst (λ m. at.slot < m) (sym four) below)) max lawful
 
   module _ (hash : Name → ℕ) (stripes : List (StripeState V)) (q : Name) (place : KeyPlace) (of : IsPlaceOf hash stripes q place) where
     pub s_at : (at : HeldSlot) → IsSlotOf hash stripes q at → (stripe_at stripes at.index).s ≡ place.s

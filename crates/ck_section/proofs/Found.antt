@@ -1,8 +1,7 @@
 -- Held stripes and their contents.
-use Rattle.std.proofs.Common.{◌≡◌, ◌≢◌, ◌⊎◌, inl, inr, ⊎_elim, ℕ, zero, suc, ◌+◌, ◌-◌, ◌*◌, ◌/◌, ◌%◌, ◌^◌, ◌<◌, ◌≤◌, List, [], ◌∷◌, Option, Some, None, IsSome, length, refl, sym, ◌∙◌, ap, subst, arith}
+use Rattle.std.proofs.Common.{◌≡◌, ◌≢◌, inl, inr, ⊎_elim, ℕ, zero, suc, ◌+◌, ◌-◌, ◌*◌, ◌/◌, ◌%◌, ◌^◌, ◌<◌, ◌≤◌, List, [], ◌∷◌, Option, Some, None, IsSome, length, refl, sym, ◌∙◌, ap, subst, arith}
 use mathlib.Core.Logic.{dite}
 use native.Mathlib.Decide.{ℕ_discrete}
-use Rattle.std.specs.Prelude.{slice_set, slice_index_or}
 use Rattle.std.specs.FinMap.{get}
 use Rattle.std.proofs.lemmas.List.{length-set, get_or-set_same, get_or-set_other}
 use Rattle.std.proofs.lemmas.Nat.{pow-add, pow_pos, div-add-mod', div_below, div-mul-add, mod-mul-add}
@@ -20,8 +19,7 @@ use Rattle.ck_model.proofs.Numbered.{in_held, one_content, if_same, if_else}
 use Rattle.ck_model.proofs.Belongs.{found_entry}
 use Rattle.ck_model.proofs.Found.{bound_where, bound_from}
 use Rattle.ck_model.proofs.Writes.{stands}
-use Rattle.ck_bucket.specs.Bucket.{LacksName}
-use Rattle.ck_stripe.specs.Stripe.{StripeState, HasBucket, bucket_of}
+use Rattle.ck_stripe.specs.Stripe.{StripeState, HasBucket}
 use Rattle.ck_section.specs.declared.place.KeyPlace.{KeyPlace}
 use Rattle.ck_section.specs.declared.place.HeldSlot.{HeldSlot}
 use Rattle.ck_section.specs.Stripes.{no_stripe, stripe_at, bucket_at, set_content, contents_of, IsInReach}
@@ -151,9 +149,9 @@ module _ {V : Type 0} where
           let placed : IsBucketOf hash d.power q (z.0 * 2 ^ s + u) = (lawful.sound u d h).placed z.0 z.1 q v z.2 in
           ⊎_elim
           (λ f. lacks.first z.1 v (in_bucket place.first.index place.first.bucket of.first_reach (of.one_s place.first.index of.first_reach.inside ∙ e) u d z.0 z.1 q v h
-              (f ∙ ap (λ p. index_of p (hash q)) (lawful.one_power u one.number d one.content h (holds_at stripes place.first.index of.first_reach.inside)) ∙ sym of.first) z.2))
+          (f ∙ ap (λ p. index_of p (hash q)) (lawful.one_power u one.number d one.content h (holds_at stripes place.first.index of.first_reach.inside)) ∙ sym of.first) z.2))
           (λ f. lacks.alternate z.1 v (in_bucket place.alternate.index place.alternate.bucket of.alternate_reach (of.one_s place.alternate.index of.alternate_reach.inside ∙ e) u d z.0 z.1 q v h
-              (f ∙ ap (λ p. second_of p (hash q)) (lawful.one_power u two.number d two.content h (holds_at stripes place.alternate.index of.alternate_reach.inside)) ∙ sym of.alternate) z.2))
+          (f ∙ ap (λ p. second_of p (hash q)) (lawful.one_power u two.number d two.content h (holds_at stripes place.alternate.index of.alternate_reach.inside)) ∙ sym of.alternate) z.2))
           placed
 
       pub unbound : place.s ≡ s → IsNowhere stripes q place → get (bindings hs) q ≡ None

@@ -1,20 +1,20 @@
 -- What a hop finds and does.
-use Rattle.std.proofs.Common.{◌≡◌, ◌≢◌, ◌⊎◌, inl, inr, ⊎_elim, ℕ, zero, suc, ◌+◌, ◌-◌, ◌*◌, ◌/◌, ◌%◌, ◌^◌, ◌<◌, ◌≤◌, Bool, true, false, List, [], ◌∷◌, Option, Some, None, Bor, MatchBool, length, get_or, map, refl, sym, ◌∙◌, ap, subst, arith, eqb, option_map}
+use Rattle.std.proofs.Common.{◌≡◌, ◌⊎◌, inl, inr, ⊎_elim, ℕ, zero, suc, ◌+◌, ◌/◌, ◌^◌, ◌<◌, Bool, true, false, List, [], ◌∷◌, Option, Some, None, Bor, MatchBool, length, get_or, map, refl, sym, ◌∙◌, ap, subst, arith, eqb, option_map}
 use Rattle.std.specs.Prelude.{unwrap_or, option_copied}
 use Rattle.std.specs.Option.{option_flatten, option_eq}
 use Rattle.std.specs.Bool.{OnTrue}
-use Rattle.std.proofs.lemmas.Option.{none-some, some_pair_parts, same_Some}
+use Rattle.std.proofs.lemmas.Option.{none-some, some_pair_parts}
 use Rattle.ck_model.specs.Arithmetic.{partial_of, index_of, second_of, alternate_of}
 use Rattle.ck_model.specs.Map.{Name}
 use Rattle.ck_model.specs.Slots.{Slot, slot_at}
-use Rattle.ck_model.specs.Contents.{Stripes, IsBucketOf, bindings, IsSound, Lawful}
+use Rattle.ck_model.specs.Contents.{IsBucketOf, IsSound}
 use Rattle.ck_model.specs.Sections.{IdentitySection}
 use Rattle.ck_model.proofs.Buckets.{index_below, alternate_twice, alternate_below}
 use Rattle.ck_bucket.specs.Bucket.{partial_in}
 use Rattle.ck_stripe.specs.Stripe.{StripeState}
 use Rattle.ck_section.specs.declared.hop.Hop.{Hop}
 use Rattle.ck_section.specs.declared.place.HeldSlot.{HeldSlot}
-use Rattle.ck_section.specs.Stripes.{stripe_at, bucket_at, contents_of, IsInReach}
+use Rattle.ck_section.specs.Stripes.{stripe_at, contents_of, IsInReach}
 use Rattle.ck_section.specs.Places.{IsSlotOf, slot_in, set_slot}
 use Rattle.ck_section.specs.Calls.{layout}
 use Rattle.ck_section.specs.Hops.{source_in, IsHopIn, HasPartial, lifted, IsNoCall}
@@ -99,10 +99,10 @@ module _ {V : Type 0} (hash : Name → ℕ) where
           let s : ℕ = t.s in
           let sound : IsSound (layout hash s max) t.number t.content = sound_at hash s max stripes lawful i of.first in
           let of_source : IsBucketOf hash t.content.power name hop.bucket = subst (λ b. IsBucketOf hash t.content.power name b) (row_bucket t hop.bucket s source_reach.own refl)
-              (sound.placed (hop.bucket / 2 ^ s) hop.slot name value entry) in
+          (sound.placed (hop.bucket / 2 ^ s) hop.slot name value entry) in
           let of_target : IsBucketOf hash (stripe_at stripes at.index).content.power name at.bucket = subst (λ (x : ℕ × ℕ). IsBucketOf hash x.0 name x.1)
-              (λ z. ((sym of.one_power ∙ ap (λ n. (stripe_at stripes n).content.power) (sym index)) z, (ap (λ p. alternate_of p hop.partial hop.bucket) same_power ∙ sym of.target ∙ sym bucket) z))
-              (other_bucket t.content.power (hash name) hop.bucket hop.partial of_source partial) in
+          (λ z. ((sym of.one_power ∙ ap (λ n. (stripe_at stripes n).content.power) (sym index)) z, (ap (λ p. alternate_of p hop.partial hop.bucket) same_power ∙ sym of.target ∙ sym bucket) z))
+          (other_bucket t.content.power (hash name) hop.bucket hop.partial of_source partial) in
           let mid : List (StripeState V) = lifted stripes i hop in
           let one : Rebinding (layout hash s max) (contents_of stripes) (contents_of mid) name (Some value) None =
           removing hash s max stripes lawful name from (record { reach = source_reach; below = source_below; of_name = of_source }) refl value entry in

@@ -1,5 +1,5 @@
 -- One slot of held stripes is written: what becomes of their bindings, and of the other slots.
-use Rattle.std.proofs.Common.{◌≡◌, ◌≢◌, ◌⊎◌, inl, inr, ⊎_elim, ℕ, zero, suc, ◌+◌, ◌-◌, ◌*◌, ◌/◌, ◌%◌, ◌^◌, ◌<◌, ◌≤◌, List, [], ◌∷◌, Option, Some, None, length, refl, sym, ◌∙◌, ap, subst}
+use Rattle.std.proofs.Common.{◌≡◌, ◌≢◌, inl, ⊎_elim, ℕ, zero, suc, ◌+◌, ◌-◌, ◌/◌, ◌%◌, ◌^◌, ◌<◌, List, [], ◌∷◌, Option, Some, None, length, refl, sym, ◌∙◌, ap, subst}
 use mathlib.Core.Logic.{dite}
 use native.Mathlib.Decide.{ℕ_discrete}
 use Rattle.std.specs.Prelude.{slice_set}
@@ -9,15 +9,15 @@ use Rattle.std.proofs.lemmas.Option.{none-some}
 use Rattle.ck_model.specs.declared.contents.Content.{Content}
 use Rattle.ck_model.specs.Map.{Name, name_cmp}
 use Rattle.ck_model.specs.Slots.{Slot, slot_at}
-use Rattle.ck_model.specs.Numbered.{IsIn, AreDistinct, numbers, Holds, with_content}
+use Rattle.ck_model.specs.Numbered.{IsIn, numbers, Holds}
 use Rattle.ck_model.specs.Contents.{Layout, Stripes, Binds, IsBucketOf, pairs_in, row_at, bindings, IsSound, Lawful}
-use Rattle.ck_model.specs.Sections.{Renewed, IdentitySection}
+use Rattle.ck_model.specs.Sections.{IdentitySection}
 use Rattle.ck_model.proofs.Numbered.{in_held, held_of_in, numbers-with, holds_with}
 use Rattle.ck_model.proofs.Names.{dec_name, maps_alike}
 use Rattle.ck_model.proofs.Found.{bound_from}
 use Rattle.ck_model.proofs.Local.{Change, after_lawful, before_at, after_at, else_at}
 use Rattle.ck_model.proofs.Writes.{Writes, written, stands, places, removes}
-use Rattle.ck_stripe.specs.Stripe.{StripeState, HasBucket, bucket_of, with_slot}
+use Rattle.ck_stripe.specs.Stripe.{StripeState, bucket_of, with_slot}
 use Rattle.ck_section.specs.declared.place.HeldSlot.{HeldSlot}
 use Rattle.ck_section.specs.Stripes.{no_stripe, stripe_at, bucket_at, set_content, contents_of, IsInReach}
 use Rattle.ck_section.specs.Places.{IsSlotOf, slot_in, set_slot}

@@ -1,22 +1,20 @@
 -- Two entries are taken and put back with other values.
-use Rattle.std.proofs.Common.{◌≡◌, ◌≢◌, ◌⊎◌, inl, ℕ, ◌+◌, ◌-◌, ◌/◌, ◌^◌, ◌<◌, List, Option, Some, None, length, refl, sym, ◌∙◌, ap, subst}
+use Rattle.std.proofs.Common.{◌≡◌, ◌≢◌, inl, ℕ, ◌+◌, ◌-◌, ◌/◌, ◌^◌, ◌<◌, List, Option, Some, None, length, refl, sym, ◌∙◌, ap, subst}
 use Rattle.std.specs.FinMap.{get}
-use Rattle.std.proofs.lemmas.Option.{none-some, some_pair_parts}
+use Rattle.std.proofs.lemmas.Option.{some_pair_parts}
 use Rattle.ck_model.specs.declared.history.Call.TheVariants.{ChangeTwo}
-use Rattle.ck_model.specs.declared.history.Reply.{Reply}
 use Rattle.ck_model.specs.declared.history.Reply.TheVariants.{DoneTwo, Absent}
 use Rattle.ck_model.specs.Map.{Name, AnswersTwo, Step}
 use Rattle.ck_model.specs.Slots.{Slot, slot_at}
-use Rattle.ck_model.specs.Contents.{Layout, Stripes, bindings, Lawful}
+use Rattle.ck_model.specs.Contents.{Layout, bindings, Lawful}
 use Rattle.ck_model.specs.Sections.{Section}
 use Rattle.ck_stripe.specs.Stripe.{StripeState, with_slot}
 use Rattle.ck_section.specs.declared.place.KeyPlace.{KeyPlace}
 use Rattle.ck_section.specs.declared.place.HeldSlot.{HeldSlot}
-use Rattle.ck_section.specs.declared.place.Place.{Place}
 use Rattle.ck_section.specs.Stripes.{stripe_at, contents_of, IsInReach}
 use Rattle.ck_section.specs.Places.{place_of, IsPlaceOf, IsSlotOf, IsNowhere, slot_in, set_slot, HasEntry}
 use Rattle.ck_section.specs.Calls.{layout, ChangesContents}
-use Rattle.ck_section.specs.TwoNames.{IsChangeOfTwo, IsAtAfter}
+use Rattle.ck_section.specs.TwoNames.{IsChangeOfTwo}
 use Rattle.ck_section.proofs.Found.{slot_held, unbound, owns, bound_in, set_changes, changes_on}
 use Rattle.ck_section.proofs.Decided.{freed, at_new}
 use Rattle.ck_section.proofs.Rebinding.{Rebinding, power_on, keeps_s, keeps_reach, keeps_slot, slot_other, apart_from, removing, placing}

@@ -1,5 +1,5 @@
 -- What a call on held stripes does to them.
-use Rattle.std.specs.Prelude.{◌≡◌, ◌↔◌, ℕ, ◌<◌, List, length}
+use Rattle.std.specs.Prelude.{◌≡◌, ℕ, ◌<◌, List, length}
 use Rattle.ck_model.specs.declared.history.Act.{Act}
 use Rattle.ck_model.specs.declared.history.Call.TheVariants.{On}
 use Rattle.ck_model.specs.declared.history.Reply.{Reply}

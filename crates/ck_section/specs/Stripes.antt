@@ -1,5 +1,5 @@
 -- Stripes that a call holds, as a list.
-use Rattle.std.specs.Prelude.{◌≡◌, ℕ, true, ◌<◌, List, [], ◌∷◌, length, map, slice_index_or, slice_set}
+use Rattle.std.specs.Prelude.{◌≡◌, ℕ, true, ◌<◌, List, [], length, map, slice_index_or, slice_set}
 use Rattle.ck_model.specs.Contents.{Stripes}
 use Rattle.ck_model.specs.Slots.{Slot}
 use Rattle.ck_model.specs.declared.contents.Content.{Content}

@@ -10,8 +10,8 @@ ghost use Rattle.ck_section.specs.Stripes.{stripe_at, IsInReach};
 ghost use Rattle.ck_section.specs.Places.{IsPlaceOf, IsNowhere, slot_in, set_slot};
 ghost use Rattle.ck_section.specs.Calls.{IsCall, IsAt, IsCallAt, IsPlacing, IsWithRoom, IsWithoutRoom, ChangesContents};
 
-use crate::look::{find_entry, find_free};
 use crate::held::Held;
+use crate::look::{find_entry, find_free};
 use crate::place::{Answer, HeldSlot, KeyPlace, Place};
 use ck_key::TableKey;
 

@@ -139,7 +139,12 @@ impl<'a, K: TableKey + Drop, V: Drop> Pair<'a, K, V> {
     }
 
     /// Binds an unbound key to the value, and a bound one to what the closure makes of its value, as the free function `upsert` does.
-    pub fn upsert<F: FnOnce(V) -> V>(&mut self, key: K, f: F, value: V) -> Result<Answer<bool>, (F, NoRoom<K, V>)>
+    pub fn upsert<F: FnOnce(V) -> V>(
+        &mut self,
+        key: K,
+        f: F,
+        value: V,
+    ) -> Result<Answer<bool>, (F, NoRoom<K, V>)>
     where
         F: Drop,
         requires held { AreHeld self.old.s self.old.held.stripes.now }

@@ -35,7 +35,12 @@ impl<'a, K: TableKey + Drop, V: Drop> Several<'a, K, V> {
     }
 
     /// Binds two different keys to what the closure makes of their two values, as the free function `update_two` does.
-    pub fn update_two<F: FnOnce(V, V) -> (V, V)>(&mut self, a: &K, b: &K, f: F) -> Option<(Place, Place)>
+    pub fn update_two<F: FnOnce(V, V) -> (V, V)>(
+        &mut self,
+        a: &K,
+        b: &K,
+        f: F,
+    ) -> Option<(Place, Place)>
     where
         F: Drop,
         requires held { AreHeld self.old.s self.old.held.stripes.now }

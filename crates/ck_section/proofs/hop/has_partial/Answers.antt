@@ -1,4 +1,4 @@
-use Rattle.std.proofs.Common.{◌≡◌, ℕ, ◌<◌, Bool, MatchBool, None, Some, Option, List, refl, sym, ◌∙◌, ap, subst, get_or, eqb, length, map}
+use Rattle.std.proofs.Common.{◌≡◌, ℕ, ◌<◌, Bool, MatchBool, None, Some, Option, List, sym, ◌∙◌, ap, subst, get_or, eqb, map}
 use Rattle.std.specs.Option.{option_eq, option_flatten}
 use Rattle.std.specs.Bool.{OnTrue}
 use Rattle.std.proofs.Common.{arith, ◌≤◌}

@@ -4,7 +4,7 @@ use Rattle.ck_model.specs.Arithmetic.{partial_of}
 use Rattle.ck_model.specs.Map.{Name}
 use Rattle.ck_stripe.specs.Stripe.{StripeState}
 use Rattle.ck_section.specs.declared.place.HeldSlot.{HeldSlot}
-use Rattle.ck_section.specs.Stripes.{stripe_at, bucket_at, IsInReach}
+use Rattle.ck_section.specs.Stripes.{stripe_at, IsInReach}
 use Rattle.ck_section.specs.Places.{slot_in, set_slot, IsLowest}
 use Rattle.ck_section.specs.Hops.{source_in, HasPartial, lifted}
 use Rattle.ck_section.proofs.Hopped.{target_reach, still_reach, still_free, no_call}
@@ -13,10 +13,10 @@ use Rattle.ck_section.proofs.hop.move_entry.Goals as goal
 pub free-requires : goal.free-requires
 free-requires g c = record {
   reach =
-    let V : Type 0 = g.row.V.Denot in
-    let stripes : List (StripeState V) = g.H.Held.stripes c.args.held.now in
-    let power = sym c.power.ensures.value ∙ c.if-power-hop.false in
-    let seen : g.H.Held.stripes c.has_partial.new.held ≡ stripes = c.has_partial.ensures.same ∙ c.power.ensures.same in
+      let V : Type 0 = g.row.V.Denot in
+      let stripes : List (StripeState V) = g.H.Held.stripes c.args.held.now in
+      let power = sym c.power.ensures.value ∙ c.if-power-hop.false in
+      let seen : g.H.Held.stripes c.has_partial.new.held ≡ stripes = c.has_partial.ensures.same ∙ c.power.ensures.same in
       subst (λ (l : List (StripeState V)). IsInReach l c.args.to c.args.hop.target) (sym seen) (target_reach g.K.TableKey.hash stripes c.args.from c.args.to c.args.hop c.requires power);
 }
 

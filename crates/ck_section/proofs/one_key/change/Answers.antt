@@ -1,4 +1,4 @@
-use Rattle.std.proofs.Common.{refl, None, Some}
+use Rattle.std.proofs.Common.{refl}
 use Rattle.ck_model.specs.declared.history.Act.TheVariants.{Change}
 use Rattle.ck_model.specs.declared.history.Reply.TheVariants.{Done, Absent}
 use Rattle.ck_section.proofs.Steps.{none_anyway, two_changes, lacked, found_in, rewrote}

@@ -1,4 +1,4 @@
-use Rattle.std.proofs.Common.{refl, None, Some, List, subst, ◌∙◌}
+use Rattle.std.proofs.Common.{refl, List, subst, ◌∙◌}
 use Rattle.ck_model.specs.declared.history.Act.TheVariants.{Insert}
 use Rattle.ck_model.specs.declared.history.Reply.TheVariants.{New, Old}
 use Rattle.ck_stripe.specs.Stripe.{StripeState}

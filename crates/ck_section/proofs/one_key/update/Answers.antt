@@ -1,4 +1,4 @@
-use Rattle.std.proofs.Common.{refl, None, Some, ap, ◌∙◌}
+use Rattle.std.proofs.Common.{refl, None, Some, ap}
 use Rattle.ck_model.specs.declared.history.Act.TheVariants.{Update}
 use Rattle.ck_model.specs.declared.history.Reply.TheVariants.{Was}
 use Rattle.ck_section.proofs.Steps.{none_anyway, slot_changes, lacked, found_in, wrote}

@@ -1,4 +1,4 @@
-use Rattle.std.proofs.Common.{refl, None, Some, List, subst, ap, ◌∙◌}
+use Rattle.std.proofs.Common.{refl, List, subst, ◌∙◌}
 use Rattle.ck_model.specs.declared.history.Act.TheVariants.{Upsert}
 use Rattle.ck_model.specs.declared.history.Reply.TheVariants.{New, Done}
 use Rattle.ck_stripe.specs.Stripe.{StripeState}

@@ -1,4 +1,3 @@
-use Rattle.std.proofs.Common.{ℕ, ◌≤◌}
 use Rattle.ck_section.specs.Places.{AreAll}
 use Rattle.ck_section.proofs.tests.hops.Given as goal
 

@@ -1,6 +1,3 @@
-use Rattle.std.proofs.Common.{sym, subst, List, ℕ}
-use Rattle.ck_stripe.specs.Stripe.{StripeState}
-use Rattle.ck_section.specs.Places.{AreAll}
 use Rattle.ck_section.proofs.Kept.{has_both, all_same}
 use Rattle.ck_section.proofs.tests.shift.Goals as goal
 

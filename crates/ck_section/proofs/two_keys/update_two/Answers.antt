@@ -1,4 +1,4 @@
-use Rattle.std.proofs.Common.{◌≡◌, ◌+◌, Some, None, IsSome, List, refl, sym, ◌∙◌, ap, subst}
+use Rattle.std.proofs.Common.{◌≡◌, Some, IsSome, List, refl, sym, ◌∙◌, ap, subst}
 use Rattle.std.proofs.lemmas.Option.{some_pair_parts}
 use Rattle.ck_model.specs.declared.history.Reply.TheVariants.{DoneTwo}
 use Rattle.ck_model.specs.Map.{Name}
@@ -6,8 +6,8 @@ use Rattle.ck_model.specs.Slots.{Slot}
 use Rattle.ck_stripe.specs.Stripe.{StripeState}
 use Rattle.ck_section.specs.declared.place.HeldSlot.{HeldSlot}
 use Rattle.ck_section.specs.declared.place.Place.{Place}
-use Rattle.ck_section.specs.Stripes.{stripe_at, IsInReach}
-use Rattle.ck_section.specs.Places.{place_of, IsPlaceOf, IsSlotOf, IsNowhere, slot_in, set_slot, HasEntry}
+use Rattle.ck_section.specs.Stripes.{IsInReach}
+use Rattle.ck_section.specs.Places.{place_of, IsSlotOf, IsNowhere, slot_in}
 use Rattle.ck_section.specs.Calls.{ChangesContents}
 use Rattle.ck_section.specs.TwoNames.{IsChangeOfTwo, IsAtAfter}
 use Rattle.ck_section.proofs.Steps.{none_anyway}
@@ -238,8 +238,12 @@ returns-clause-bound g c =
     let v2 : V = c.f-value_a.result.0 in
     let w2 : V = c.f-value_a.result.1 in
     let three : g.H.Held.stripes c.place.new.self ≡ given (taken (taken stripes x) y) x a v2 = c.place.ensures.content ∙ (λ i. given (two i) x (name_a i) v2) in
-    let four : g.H.Held.stripes c.place-2.new.self ≡ given (given (taken (taken stripes x) y) x a v2) y b w2 = c.place-2.ensures.content ∙ (λ i. given (three i) y (same_b.0 i) w2) in
-    (v, w, v2, w2, c.f-value_a.ensures,
+    let four : g.H.Held.stripes c.place-2.new.self ≡ given (given (taken (taken stripes x) y) x a v2) y b w2 = c.place-2.ensures.content ∙ (λ i. given (three i) y (same_b.0 i) w2) in (
+      v,
+      w,
+      v2,
+      w2,
+      c.f-value_a.ensures,
       subst (λ (l : List (StripeState V)). IsChangeOfTwo hash c.args.place_a.s stripes a b (DoneTwo v w v2 w2) l) (sym four) (section hash a b c.args.place_a c.args.place_b stripes c.requires.first c.requires.second c.requires.different x sx v ex y sy w ey v2 w2),
       subst (λ (z : List (StripeState V) × Place). IsAtAfter hash c.args.place_a.s stripes z.0 z.1 a v2) (λ i. (sym four i, sym c.place-3.ensures i)) (at_first hash a b c.args.place_a c.args.place_b stripes c.requires.first c.requires.second c.requires.different x sx v ex y sy w ey v2 w2),
       subst (λ (z : List (StripeState V) × Place). IsAtAfter hash c.args.place_a.s stripes z.0 z.1 b w2)
