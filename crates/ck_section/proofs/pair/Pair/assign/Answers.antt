@@ -1,0 +1,10 @@
+use Rattle.ck_section.proofs.pair.Pair.assign.Goals as goal
+
+pub returns-clause-call : goal.returns-clause-call
+returns-clause-call g c = (c.key_place-place.result, c.key_place-place.ensures.place, rw c.key_place-place.ensures.same at c.assign.ensures.call)
+
+pub returns-clause-room : goal.returns-clause-room
+returns-clause-room g c = (c.key_place-place.result, c.key_place-place.ensures.place, rw c.key_place-place.ensures.same at c.assign.ensures.room)
+
+pub returns-clause-no_room : goal.returns-clause-no_room
+returns-clause-no_room g c = (c.key_place-place.result, c.key_place-place.ensures.place, rw c.key_place-place.ensures.same at c.assign.ensures.no_room)

@@ -1,0 +1,288 @@
+use Rattle.std.proofs.Common.{◌≡◌, Some, IsSome, List, refl, sym, ◌∙◌, ap, subst}
+use Rattle.std.proofs.lemmas.Option.{some_pair_parts}
+use Rattle.ck_model.specs.declared.history.Reply.TheVariants.{DoneTwo}
+use Rattle.ck_model.specs.Map.{Name}
+use Rattle.ck_model.specs.Slots.{Slot}
+use Rattle.ck_stripe.specs.Stripe.{StripeState}
+use Rattle.ck_section.specs.declared.place.HeldSlot.{HeldSlot}
+use Rattle.ck_section.specs.declared.place.Place.{Place}
+use Rattle.ck_section.specs.Stripes.{IsInReach}
+use Rattle.ck_section.specs.Places.{place_of, IsSlotOf, IsNowhere, slot_in}
+use Rattle.ck_section.specs.Calls.{ChangesContents}
+use Rattle.ck_section.specs.TwoNames.{IsChangeOfTwo, IsAtAfter}
+use Rattle.ck_section.proofs.Steps.{none_anyway}
+use Rattle.ck_section.proofs.Rebound.{taken, given, one_s, first_lacks, second_lacks, reach1, full1, reach2, free2, reach3, free3, changed, section, at_first, at_second}
+use Rattle.ck_section.proofs.two_keys.update_two.Goals as goal
+
+pub returns-in_err-at_a-clause-unbound : goal.returns-in_err-at_a-clause-unbound
+returns-in_err-at_a-clause-unbound g c =
+    let V : Type 0 = g.row.V.Denot in
+    let hash = g.K.TableKey.hash in
+    let stripes : List (StripeState V) = g.H.Held.stripes c.args.held.now in
+    let a : Name = g.K.TableKey.name c.args.a.now in
+    let b : Name = g.K.TableKey.name c.args.b.now in
+    none_anyway c.from_residual.result _ (first_lacks hash a b c.args.place_a c.args.place_b stripes c.requires.first c.requires.second c.requires.different (g.H.Held.stripes c.find_entry.new.held) c.find_entry.ensures.same c.in_err-at_a.ensures.nowhere, c.find_entry.ensures.same)
+
+pub returns-in_err-at_b-clause-unbound : goal.returns-in_err-at_b-clause-unbound
+returns-in_err-at_b-clause-unbound g c =
+    let V : Type 0 = g.row.V.Denot in
+    let hash = g.K.TableKey.hash in
+    let stripes : List (StripeState V) = g.H.Held.stripes c.args.held.now in
+    let a : Name = g.K.TableKey.name c.args.a.now in
+    let b : Name = g.K.TableKey.name c.args.b.now in
+    let x : HeldSlot = c.in_ok-at_a.at_a in
+    let sx : IsSlotOf hash stripes a x = c.in_ok-at_a.ensures.slot in
+    let found_a = c.in_ok-at_a.ensures.found in
+    let cur : g.H.Held.stripes c.find_entry-2.new.held ≡ stripes = c.find_entry-2.ensures.same ∙ c.find_entry.ensures.same in
+    none_anyway c.from_residual-in_err-at_b.result _ (
+      second_lacks hash a b c.args.place_a c.args.place_b stripes c.requires.first c.requires.second c.requires.different x sx found_a.0 found_a.1 (g.H.Held.stripes c.find_entry-2.new.held) cur
+          (subst (λ (l : List (StripeState V)). IsNowhere l b c.args.place_b) c.find_entry.ensures.same c.in_err-at_b.ensures.nowhere),
+      cur,
+    )
+
+pub remove-key_b-requires-clause-reach : goal.remove-key_b-requires-clause-reach
+remove-key_b-requires-clause-reach g c =
+    let V : Type 0 = g.row.V.Denot in
+    let hash = g.K.TableKey.hash in
+    let stripes : List (StripeState V) = g.H.Held.stripes c.args.held.now in
+    let a : Name = g.K.TableKey.name c.args.a.now in
+    let b : Name = g.K.TableKey.name c.args.b.now in
+    let x : HeldSlot = c.in_ok-at_a.at_a in
+    let sx : IsSlotOf hash stripes a x = c.in_ok-at_a.ensures.slot in
+    let found_a = c.in_ok-at_a.ensures.found in
+    let y : HeldSlot = c.in_ok-at_b.at_b in
+    let first : g.H.Held.stripes c.find_entry.new.held ≡ stripes = c.find_entry.ensures.same in
+    let cur : g.H.Held.stripes c.find_entry-2.new.held ≡ stripes = c.find_entry-2.ensures.same ∙ first in
+    let sy : IsSlotOf hash stripes b y = subst (λ (l : List (StripeState V)). IsSlotOf hash l b y) first c.in_ok-at_b.ensures.slot in
+    let w0 : V = c.in_ok-at_b.ensures.found.0 in
+    let found_b : slot_in stripes y ≡ Some (b, w0) = ap (λ (l : List (StripeState V)). slot_in l y) (sym first) ∙ c.in_ok-at_b.ensures.found.1 in
+    let v : V = c.remove-key_a.result.1 in
+    let entry_a : slot_in stripes x ≡ Some (g.K.TableKey.name c.remove-key_a.result.0, v) = ap (λ (l : List (StripeState V)). slot_in l x) (sym cur) ∙ c.remove-key_a.ensures.entry in
+    let name_a : g.K.TableKey.name c.remove-key_a.result.0 ≡ a = (some_pair_parts _ _ _ _ (sym entry_a ∙ found_a.1)).0 in
+    let ex : slot_in stripes x ≡ Some (a, v) = entry_a ∙ ap (λ (n : Name). Some (n, v)) name_a in
+    let one : g.H.Held.stripes c.remove-key_a.new.self ≡ taken stripes x = c.remove-key_a.ensures.content ∙ ap (λ (l : List (StripeState V)). taken l x) cur in
+    subst (λ (l : List (StripeState V)). IsInReach l y.index y.bucket) (sym one) (reach1 hash a b c.args.place_a c.args.place_b stripes c.requires.first c.requires.second c.requires.different x sx v ex y sy w0 found_b v v)
+
+pub remove-key_b-requires-clause-full : goal.remove-key_b-requires-clause-full
+remove-key_b-requires-clause-full g c =
+    let V : Type 0 = g.row.V.Denot in
+    let hash = g.K.TableKey.hash in
+    let stripes : List (StripeState V) = g.H.Held.stripes c.args.held.now in
+    let a : Name = g.K.TableKey.name c.args.a.now in
+    let b : Name = g.K.TableKey.name c.args.b.now in
+    let x : HeldSlot = c.in_ok-at_a.at_a in
+    let sx : IsSlotOf hash stripes a x = c.in_ok-at_a.ensures.slot in
+    let found_a = c.in_ok-at_a.ensures.found in
+    let y : HeldSlot = c.in_ok-at_b.at_b in
+    let first : g.H.Held.stripes c.find_entry.new.held ≡ stripes = c.find_entry.ensures.same in
+    let cur : g.H.Held.stripes c.find_entry-2.new.held ≡ stripes = c.find_entry-2.ensures.same ∙ first in
+    let sy : IsSlotOf hash stripes b y = subst (λ (l : List (StripeState V)). IsSlotOf hash l b y) first c.in_ok-at_b.ensures.slot in
+    let w0 : V = c.in_ok-at_b.ensures.found.0 in
+    let found_b : slot_in stripes y ≡ Some (b, w0) = ap (λ (l : List (StripeState V)). slot_in l y) (sym first) ∙ c.in_ok-at_b.ensures.found.1 in
+    let v : V = c.remove-key_a.result.1 in
+    let entry_a : slot_in stripes x ≡ Some (g.K.TableKey.name c.remove-key_a.result.0, v) = ap (λ (l : List (StripeState V)). slot_in l x) (sym cur) ∙ c.remove-key_a.ensures.entry in
+    let name_a : g.K.TableKey.name c.remove-key_a.result.0 ≡ a = (some_pair_parts _ _ _ _ (sym entry_a ∙ found_a.1)).0 in
+    let ex : slot_in stripes x ≡ Some (a, v) = entry_a ∙ ap (λ (n : Name). Some (n, v)) name_a in
+    let one : g.H.Held.stripes c.remove-key_a.new.self ≡ taken stripes x = c.remove-key_a.ensures.content ∙ ap (λ (l : List (StripeState V)). taken l x) cur in
+    let P : Slot V → Type 0 = λ o. IsSome o in
+    subst P (sym (ap (λ (l : List (StripeState V)). slot_in l y) one ∙ full1 hash a b c.args.place_a c.args.place_b stripes c.requires.first c.requires.second c.requires.different x sx v ex y sy w0 found_b v v)) refl
+
+pub place-requires-clause-reach : goal.place-requires-clause-reach
+place-requires-clause-reach g c =
+    let V : Type 0 = g.row.V.Denot in
+    let hash = g.K.TableKey.hash in
+    let stripes : List (StripeState V) = g.H.Held.stripes c.args.held.now in
+    let a : Name = g.K.TableKey.name c.args.a.now in
+    let b : Name = g.K.TableKey.name c.args.b.now in
+    let x : HeldSlot = c.in_ok-at_a.at_a in
+    let sx : IsSlotOf hash stripes a x = c.in_ok-at_a.ensures.slot in
+    let found_a = c.in_ok-at_a.ensures.found in
+    let y : HeldSlot = c.in_ok-at_b.at_b in
+    let first : g.H.Held.stripes c.find_entry.new.held ≡ stripes = c.find_entry.ensures.same in
+    let cur : g.H.Held.stripes c.find_entry-2.new.held ≡ stripes = c.find_entry-2.ensures.same ∙ first in
+    let sy : IsSlotOf hash stripes b y = subst (λ (l : List (StripeState V)). IsSlotOf hash l b y) first c.in_ok-at_b.ensures.slot in
+    let w0 : V = c.in_ok-at_b.ensures.found.0 in
+    let found_b : slot_in stripes y ≡ Some (b, w0) = ap (λ (l : List (StripeState V)). slot_in l y) (sym first) ∙ c.in_ok-at_b.ensures.found.1 in
+    let v : V = c.remove-key_a.result.1 in
+    let entry_a : slot_in stripes x ≡ Some (g.K.TableKey.name c.remove-key_a.result.0, v) = ap (λ (l : List (StripeState V)). slot_in l x) (sym cur) ∙ c.remove-key_a.ensures.entry in
+    let name_a : g.K.TableKey.name c.remove-key_a.result.0 ≡ a = (some_pair_parts _ _ _ _ (sym entry_a ∙ found_a.1)).0 in
+    let ex : slot_in stripes x ≡ Some (a, v) = entry_a ∙ ap (λ (n : Name). Some (n, v)) name_a in
+    let one : g.H.Held.stripes c.remove-key_a.new.self ≡ taken stripes x = c.remove-key_a.ensures.content ∙ ap (λ (l : List (StripeState V)). taken l x) cur in
+    let w : V = c.remove-key_b.result.1 in
+    let entry_b : slot_in (taken stripes x) y ≡ Some (g.K.TableKey.name c.remove-key_b.result.0, w) = ap (λ (l : List (StripeState V)). slot_in l y) (sym one) ∙ c.remove-key_b.ensures.entry in
+    let same_b = some_pair_parts _ _ _ _ (sym entry_b ∙ full1 hash a b c.args.place_a c.args.place_b stripes c.requires.first c.requires.second c.requires.different x sx v ex y sy w0 found_b v v) in
+    let ey : slot_in stripes y ≡ Some (b, w) = found_b ∙ ap (λ (u : V). Some (b, u)) (sym same_b.1) in
+    let two : g.H.Held.stripes c.remove-key_b.new.self ≡ taken (taken stripes x) y = c.remove-key_b.ensures.content ∙ ap (λ (l : List (StripeState V)). taken l y) one in
+    let v2 : V = c.f-value_a.result.0 in
+    let w2 : V = c.f-value_a.result.1 in
+    subst (λ (l : List (StripeState V)). IsInReach l x.index x.bucket) (sym two) (reach2 hash a b c.args.place_a c.args.place_b stripes c.requires.first c.requires.second c.requires.different x sx v ex y sy w ey v2 w2)
+
+pub place-requires-clause-free : goal.place-requires-clause-free
+place-requires-clause-free g c =
+    let V : Type 0 = g.row.V.Denot in
+    let hash = g.K.TableKey.hash in
+    let stripes : List (StripeState V) = g.H.Held.stripes c.args.held.now in
+    let a : Name = g.K.TableKey.name c.args.a.now in
+    let b : Name = g.K.TableKey.name c.args.b.now in
+    let x : HeldSlot = c.in_ok-at_a.at_a in
+    let sx : IsSlotOf hash stripes a x = c.in_ok-at_a.ensures.slot in
+    let found_a = c.in_ok-at_a.ensures.found in
+    let y : HeldSlot = c.in_ok-at_b.at_b in
+    let first : g.H.Held.stripes c.find_entry.new.held ≡ stripes = c.find_entry.ensures.same in
+    let cur : g.H.Held.stripes c.find_entry-2.new.held ≡ stripes = c.find_entry-2.ensures.same ∙ first in
+    let sy : IsSlotOf hash stripes b y = subst (λ (l : List (StripeState V)). IsSlotOf hash l b y) first c.in_ok-at_b.ensures.slot in
+    let w0 : V = c.in_ok-at_b.ensures.found.0 in
+    let found_b : slot_in stripes y ≡ Some (b, w0) = ap (λ (l : List (StripeState V)). slot_in l y) (sym first) ∙ c.in_ok-at_b.ensures.found.1 in
+    let v : V = c.remove-key_a.result.1 in
+    let entry_a : slot_in stripes x ≡ Some (g.K.TableKey.name c.remove-key_a.result.0, v) = ap (λ (l : List (StripeState V)). slot_in l x) (sym cur) ∙ c.remove-key_a.ensures.entry in
+    let name_a : g.K.TableKey.name c.remove-key_a.result.0 ≡ a = (some_pair_parts _ _ _ _ (sym entry_a ∙ found_a.1)).0 in
+    let ex : slot_in stripes x ≡ Some (a, v) = entry_a ∙ ap (λ (n : Name). Some (n, v)) name_a in
+    let one : g.H.Held.stripes c.remove-key_a.new.self ≡ taken stripes x = c.remove-key_a.ensures.content ∙ ap (λ (l : List (StripeState V)). taken l x) cur in
+    let w : V = c.remove-key_b.result.1 in
+    let entry_b : slot_in (taken stripes x) y ≡ Some (g.K.TableKey.name c.remove-key_b.result.0, w) = ap (λ (l : List (StripeState V)). slot_in l y) (sym one) ∙ c.remove-key_b.ensures.entry in
+    let same_b = some_pair_parts _ _ _ _ (sym entry_b ∙ full1 hash a b c.args.place_a c.args.place_b stripes c.requires.first c.requires.second c.requires.different x sx v ex y sy w0 found_b v v) in
+    let ey : slot_in stripes y ≡ Some (b, w) = found_b ∙ ap (λ (u : V). Some (b, u)) (sym same_b.1) in
+    let two : g.H.Held.stripes c.remove-key_b.new.self ≡ taken (taken stripes x) y = c.remove-key_b.ensures.content ∙ ap (λ (l : List (StripeState V)). taken l y) one in
+    let v2 : V = c.f-value_a.result.0 in
+    let w2 : V = c.f-value_a.result.1 in
+    ap (λ (l : List (StripeState V)). slot_in l x) two ∙ free2 hash a b c.args.place_a c.args.place_b stripes c.requires.first c.requires.second c.requires.different x sx v ex y sy w ey v2 w2
+
+pub place-requires-2-clause-reach : goal.place-requires-2-clause-reach
+place-requires-2-clause-reach g c =
+    let V : Type 0 = g.row.V.Denot in
+    let hash = g.K.TableKey.hash in
+    let stripes : List (StripeState V) = g.H.Held.stripes c.args.held.now in
+    let a : Name = g.K.TableKey.name c.args.a.now in
+    let b : Name = g.K.TableKey.name c.args.b.now in
+    let x : HeldSlot = c.in_ok-at_a.at_a in
+    let sx : IsSlotOf hash stripes a x = c.in_ok-at_a.ensures.slot in
+    let found_a = c.in_ok-at_a.ensures.found in
+    let y : HeldSlot = c.in_ok-at_b.at_b in
+    let first : g.H.Held.stripes c.find_entry.new.held ≡ stripes = c.find_entry.ensures.same in
+    let cur : g.H.Held.stripes c.find_entry-2.new.held ≡ stripes = c.find_entry-2.ensures.same ∙ first in
+    let sy : IsSlotOf hash stripes b y = subst (λ (l : List (StripeState V)). IsSlotOf hash l b y) first c.in_ok-at_b.ensures.slot in
+    let w0 : V = c.in_ok-at_b.ensures.found.0 in
+    let found_b : slot_in stripes y ≡ Some (b, w0) = ap (λ (l : List (StripeState V)). slot_in l y) (sym first) ∙ c.in_ok-at_b.ensures.found.1 in
+    let v : V = c.remove-key_a.result.1 in
+    let entry_a : slot_in stripes x ≡ Some (g.K.TableKey.name c.remove-key_a.result.0, v) = ap (λ (l : List (StripeState V)). slot_in l x) (sym cur) ∙ c.remove-key_a.ensures.entry in
+    let name_a : g.K.TableKey.name c.remove-key_a.result.0 ≡ a = (some_pair_parts _ _ _ _ (sym entry_a ∙ found_a.1)).0 in
+    let ex : slot_in stripes x ≡ Some (a, v) = entry_a ∙ ap (λ (n : Name). Some (n, v)) name_a in
+    let one : g.H.Held.stripes c.remove-key_a.new.self ≡ taken stripes x = c.remove-key_a.ensures.content ∙ ap (λ (l : List (StripeState V)). taken l x) cur in
+    let w : V = c.remove-key_b.result.1 in
+    let entry_b : slot_in (taken stripes x) y ≡ Some (g.K.TableKey.name c.remove-key_b.result.0, w) = ap (λ (l : List (StripeState V)). slot_in l y) (sym one) ∙ c.remove-key_b.ensures.entry in
+    let same_b = some_pair_parts _ _ _ _ (sym entry_b ∙ full1 hash a b c.args.place_a c.args.place_b stripes c.requires.first c.requires.second c.requires.different x sx v ex y sy w0 found_b v v) in
+    let ey : slot_in stripes y ≡ Some (b, w) = found_b ∙ ap (λ (u : V). Some (b, u)) (sym same_b.1) in
+    let two : g.H.Held.stripes c.remove-key_b.new.self ≡ taken (taken stripes x) y = c.remove-key_b.ensures.content ∙ ap (λ (l : List (StripeState V)). taken l y) one in
+    let v2 : V = c.f-value_a.result.0 in
+    let w2 : V = c.f-value_a.result.1 in
+    let three : g.H.Held.stripes c.place.new.self ≡ given (taken (taken stripes x) y) x a v2 = c.place.ensures.content ∙ (λ i. given (two i) x (name_a i) v2) in
+    subst (λ (l : List (StripeState V)). IsInReach l y.index y.bucket) (sym three) (reach3 hash a b c.args.place_a c.args.place_b stripes c.requires.first c.requires.second c.requires.different x sx v ex y sy w ey v2 w2)
+
+pub place-requires-2-clause-free : goal.place-requires-2-clause-free
+place-requires-2-clause-free g c =
+    let V : Type 0 = g.row.V.Denot in
+    let hash = g.K.TableKey.hash in
+    let stripes : List (StripeState V) = g.H.Held.stripes c.args.held.now in
+    let a : Name = g.K.TableKey.name c.args.a.now in
+    let b : Name = g.K.TableKey.name c.args.b.now in
+    let x : HeldSlot = c.in_ok-at_a.at_a in
+    let sx : IsSlotOf hash stripes a x = c.in_ok-at_a.ensures.slot in
+    let found_a = c.in_ok-at_a.ensures.found in
+    let y : HeldSlot = c.in_ok-at_b.at_b in
+    let first : g.H.Held.stripes c.find_entry.new.held ≡ stripes = c.find_entry.ensures.same in
+    let cur : g.H.Held.stripes c.find_entry-2.new.held ≡ stripes = c.find_entry-2.ensures.same ∙ first in
+    let sy : IsSlotOf hash stripes b y = subst (λ (l : List (StripeState V)). IsSlotOf hash l b y) first c.in_ok-at_b.ensures.slot in
+    let w0 : V = c.in_ok-at_b.ensures.found.0 in
+    let found_b : slot_in stripes y ≡ Some (b, w0) = ap (λ (l : List (StripeState V)). slot_in l y) (sym first) ∙ c.in_ok-at_b.ensures.found.1 in
+    let v : V = c.remove-key_a.result.1 in
+    let entry_a : slot_in stripes x ≡ Some (g.K.TableKey.name c.remove-key_a.result.0, v) = ap (λ (l : List (StripeState V)). slot_in l x) (sym cur) ∙ c.remove-key_a.ensures.entry in
+    let name_a : g.K.TableKey.name c.remove-key_a.result.0 ≡ a = (some_pair_parts _ _ _ _ (sym entry_a ∙ found_a.1)).0 in
+    let ex : slot_in stripes x ≡ Some (a, v) = entry_a ∙ ap (λ (n : Name). Some (n, v)) name_a in
+    let one : g.H.Held.stripes c.remove-key_a.new.self ≡ taken stripes x = c.remove-key_a.ensures.content ∙ ap (λ (l : List (StripeState V)). taken l x) cur in
+    let w : V = c.remove-key_b.result.1 in
+    let entry_b : slot_in (taken stripes x) y ≡ Some (g.K.TableKey.name c.remove-key_b.result.0, w) = ap (λ (l : List (StripeState V)). slot_in l y) (sym one) ∙ c.remove-key_b.ensures.entry in
+    let same_b = some_pair_parts _ _ _ _ (sym entry_b ∙ full1 hash a b c.args.place_a c.args.place_b stripes c.requires.first c.requires.second c.requires.different x sx v ex y sy w0 found_b v v) in
+    let ey : slot_in stripes y ≡ Some (b, w) = found_b ∙ ap (λ (u : V). Some (b, u)) (sym same_b.1) in
+    let two : g.H.Held.stripes c.remove-key_b.new.self ≡ taken (taken stripes x) y = c.remove-key_b.ensures.content ∙ ap (λ (l : List (StripeState V)). taken l y) one in
+    let v2 : V = c.f-value_a.result.0 in
+    let w2 : V = c.f-value_a.result.1 in
+    let three : g.H.Held.stripes c.place.new.self ≡ given (taken (taken stripes x) y) x a v2 = c.place.ensures.content ∙ (λ i. given (two i) x (name_a i) v2) in
+    ap (λ (l : List (StripeState V)). slot_in l y) three ∙ free3 hash a b c.args.place_a c.args.place_b stripes c.requires.first c.requires.second c.requires.different x sx v ex y sy w ey v2 w2
+
+pub returns-clause-bound : goal.returns-clause-bound
+returns-clause-bound g c =
+    let V : Type 0 = g.row.V.Denot in
+    let hash = g.K.TableKey.hash in
+    let stripes : List (StripeState V) = g.H.Held.stripes c.args.held.now in
+    let a : Name = g.K.TableKey.name c.args.a.now in
+    let b : Name = g.K.TableKey.name c.args.b.now in
+    let x : HeldSlot = c.in_ok-at_a.at_a in
+    let sx : IsSlotOf hash stripes a x = c.in_ok-at_a.ensures.slot in
+    let found_a = c.in_ok-at_a.ensures.found in
+    let y : HeldSlot = c.in_ok-at_b.at_b in
+    let first : g.H.Held.stripes c.find_entry.new.held ≡ stripes = c.find_entry.ensures.same in
+    let cur : g.H.Held.stripes c.find_entry-2.new.held ≡ stripes = c.find_entry-2.ensures.same ∙ first in
+    let sy : IsSlotOf hash stripes b y = subst (λ (l : List (StripeState V)). IsSlotOf hash l b y) first c.in_ok-at_b.ensures.slot in
+    let w0 : V = c.in_ok-at_b.ensures.found.0 in
+    let found_b : slot_in stripes y ≡ Some (b, w0) = ap (λ (l : List (StripeState V)). slot_in l y) (sym first) ∙ c.in_ok-at_b.ensures.found.1 in
+    let v : V = c.remove-key_a.result.1 in
+    let entry_a : slot_in stripes x ≡ Some (g.K.TableKey.name c.remove-key_a.result.0, v) = ap (λ (l : List (StripeState V)). slot_in l x) (sym cur) ∙ c.remove-key_a.ensures.entry in
+    let name_a : g.K.TableKey.name c.remove-key_a.result.0 ≡ a = (some_pair_parts _ _ _ _ (sym entry_a ∙ found_a.1)).0 in
+    let ex : slot_in stripes x ≡ Some (a, v) = entry_a ∙ ap (λ (n : Name). Some (n, v)) name_a in
+    let one : g.H.Held.stripes c.remove-key_a.new.self ≡ taken stripes x = c.remove-key_a.ensures.content ∙ ap (λ (l : List (StripeState V)). taken l x) cur in
+    let w : V = c.remove-key_b.result.1 in
+    let entry_b : slot_in (taken stripes x) y ≡ Some (g.K.TableKey.name c.remove-key_b.result.0, w) = ap (λ (l : List (StripeState V)). slot_in l y) (sym one) ∙ c.remove-key_b.ensures.entry in
+    let same_b = some_pair_parts _ _ _ _ (sym entry_b ∙ full1 hash a b c.args.place_a c.args.place_b stripes c.requires.first c.requires.second c.requires.different x sx v ex y sy w0 found_b v v) in
+    let ey : slot_in stripes y ≡ Some (b, w) = found_b ∙ ap (λ (u : V). Some (b, u)) (sym same_b.1) in
+    let two : g.H.Held.stripes c.remove-key_b.new.self ≡ taken (taken stripes x) y = c.remove-key_b.ensures.content ∙ ap (λ (l : List (StripeState V)). taken l y) one in
+    let v2 : V = c.f-value_a.result.0 in
+    let w2 : V = c.f-value_a.result.1 in
+    let three : g.H.Held.stripes c.place.new.self ≡ given (taken (taken stripes x) y) x a v2 = c.place.ensures.content ∙ (λ i. given (two i) x (name_a i) v2) in
+    let four : g.H.Held.stripes c.place-2.new.self ≡ given (given (taken (taken stripes x) y) x a v2) y b w2 = c.place-2.ensures.content ∙ (λ i. given (three i) y (same_b.0 i) w2) in (
+      v,
+      w,
+      v2,
+      w2,
+      c.f-value_a.ensures,
+      subst (λ (l : List (StripeState V)). IsChangeOfTwo hash c.args.place_a.s stripes a b (DoneTwo v w v2 w2) l) (sym four) (section hash a b c.args.place_a c.args.place_b stripes c.requires.first c.requires.second c.requires.different x sx v ex y sy w ey v2 w2),
+      subst (λ (z : List (StripeState V) × Place). IsAtAfter hash c.args.place_a.s stripes z.0 z.1 a v2) (λ i. (sym four i, sym c.place-3.ensures i)) (at_first hash a b c.args.place_a c.args.place_b stripes c.requires.first c.requires.second c.requires.different x sx v ex y sy w ey v2 w2),
+      subst (λ (z : List (StripeState V) × Place). IsAtAfter hash c.args.place_a.s stripes z.0 z.1 b w2)
+          (λ i. (sym four i, sym (c.place-4.ensures ∙ ap (λ n. place_of n y) (one_s hash a b c.args.place_a c.args.place_b stripes c.requires.first c.requires.second c.requires.different)) i)) (at_second hash a b c.args.place_a c.args.place_b stripes c.requires.first c.requires.second c.requires.different x sx v ex y sy w ey v2 w2),
+    )
+
+pub returns-clause-rest : goal.returns-clause-rest
+returns-clause-rest g c =
+    let V : Type 0 = g.row.V.Denot in
+    let hash = g.K.TableKey.hash in
+    let stripes : List (StripeState V) = g.H.Held.stripes c.args.held.now in
+    let a : Name = g.K.TableKey.name c.args.a.now in
+    let b : Name = g.K.TableKey.name c.args.b.now in
+    let x : HeldSlot = c.in_ok-at_a.at_a in
+    let sx : IsSlotOf hash stripes a x = c.in_ok-at_a.ensures.slot in
+    let found_a = c.in_ok-at_a.ensures.found in
+    let y : HeldSlot = c.in_ok-at_b.at_b in
+    let first : g.H.Held.stripes c.find_entry.new.held ≡ stripes = c.find_entry.ensures.same in
+    let cur : g.H.Held.stripes c.find_entry-2.new.held ≡ stripes = c.find_entry-2.ensures.same ∙ first in
+    let sy : IsSlotOf hash stripes b y = subst (λ (l : List (StripeState V)). IsSlotOf hash l b y) first c.in_ok-at_b.ensures.slot in
+    let w0 : V = c.in_ok-at_b.ensures.found.0 in
+    let found_b : slot_in stripes y ≡ Some (b, w0) = ap (λ (l : List (StripeState V)). slot_in l y) (sym first) ∙ c.in_ok-at_b.ensures.found.1 in
+    let v : V = c.remove-key_a.result.1 in
+    let entry_a : slot_in stripes x ≡ Some (g.K.TableKey.name c.remove-key_a.result.0, v) = ap (λ (l : List (StripeState V)). slot_in l x) (sym cur) ∙ c.remove-key_a.ensures.entry in
+    let name_a : g.K.TableKey.name c.remove-key_a.result.0 ≡ a = (some_pair_parts _ _ _ _ (sym entry_a ∙ found_a.1)).0 in
+    let ex : slot_in stripes x ≡ Some (a, v) = entry_a ∙ ap (λ (n : Name). Some (n, v)) name_a in
+    let one : g.H.Held.stripes c.remove-key_a.new.self ≡ taken stripes x = c.remove-key_a.ensures.content ∙ ap (λ (l : List (StripeState V)). taken l x) cur in
+    let w : V = c.remove-key_b.result.1 in
+    let entry_b : slot_in (taken stripes x) y ≡ Some (g.K.TableKey.name c.remove-key_b.result.0, w) = ap (λ (l : List (StripeState V)). slot_in l y) (sym one) ∙ c.remove-key_b.ensures.entry in
+    let same_b = some_pair_parts _ _ _ _ (sym entry_b ∙ full1 hash a b c.args.place_a c.args.place_b stripes c.requires.first c.requires.second c.requires.different x sx v ex y sy w0 found_b v v) in
+    let ey : slot_in stripes y ≡ Some (b, w) = found_b ∙ ap (λ (u : V). Some (b, u)) (sym same_b.1) in
+    let two : g.H.Held.stripes c.remove-key_b.new.self ≡ taken (taken stripes x) y = c.remove-key_b.ensures.content ∙ ap (λ (l : List (StripeState V)). taken l y) one in
+    let v2 : V = c.f-value_a.result.0 in
+    let w2 : V = c.f-value_a.result.1 in
+    let three : g.H.Held.stripes c.place.new.self ≡ given (taken (taken stripes x) y) x a v2 = c.place.ensures.content ∙ (λ i. given (two i) x (name_a i) v2) in
+    let four : g.H.Held.stripes c.place-2.new.self ≡ given (given (taken (taken stripes x) y) x a v2) y b w2 = c.place-2.ensures.content ∙ (λ i. given (three i) y (same_b.0 i) w2) in
+    subst (λ (l : List (StripeState V)). ChangesContents stripes l) (sym four) (changed hash a b c.args.place_a c.args.place_b stripes c.requires.first c.requires.second c.requires.different x sx v ex y sy w ey v2 w2)
+
+pub returns-clause-stays : goal.returns-clause-stays
+returns-clause-stays g c =
+    let on = g.met.H.Held.stays_on in
+    on _ _ _ c.find_entry.ensures.stays (on _ _ _ c.find_entry-2.ensures.stays (on _ _ _ c.remove-key_a.ensures.stays (on _ _ _ c.remove-key_b.ensures.stays (on _ _ _ c.place.ensures.stays c.place-2.ensures.stays))))

@@ -1,0 +1,139 @@
+//! Looking for a key, and for room for it.
+ghost use Rattle.std.specs.Prelude.{◌≡◌, ◌≤◌, ◌<◌, ◌%◌, ◌^◌, Some, IfSome, IfNone, length};
+ghost use Rattle.ck_section.specs.Stripes.{stripe_at};
+ghost use Rattle.ck_section.specs.Places.{AreHeld, HasStripe, HasBoth, IsPlaceOf, IsSlotOf, IsNowhere, AreFull, IsNext, slot_in};
+
+use crate::held::Held;
+use crate::place::{HeldBucket, HeldSlot, KeyPlace};
+use ck_key::TableKey;
+
+/// Where a key may be among the held stripes of a table of 2^s.
+#[tactic(auto, unfolding(ck_model::specs::Arithmetic::second_of))]
+pub fn key_place<K: TableKey, V, H: Held<K, V>>(held: &mut H, s: u32, key: &K) -> KeyPlace
+    requires held { AreHeld s (H.stripes held.old) }
+    requires owned { HasBoth K.hash s (H.stripes held.old) (K.name key.now) }
+    ensures place { IsPlaceOf K.hash (H.stripes held.old) (K.name key.now) result }
+    ensures s { result.s ≡ s }
+    ensures same { H.stripes held.new ≡ H.stripes held.old }
+    ensures stays { H.stays held.old held.new }
+{
+    let hash = key.hash64();
+    let power = held.power(0);
+    let partial = ck_key::partial(hash);
+    let first = ck_key::index(power, hash);
+    let alternate = ck_key::alternate(power, partial, first);
+    KeyPlace {
+        s,
+        partial,
+        first: HeldBucket {
+            index: stripe_index(held, (first % (1 << s)) as u32),
+            bucket: first,
+        },
+        alternate: HeldBucket {
+            index: stripe_index(held, (alternate % (1 << s)) as u32),
+            bucket: alternate,
+        },
+    }
+}
+
+// The position of the stripe of bucket `b`, in a table of 2^s stripes.
+pub(crate) fn bucket_index<K: TableKey, V, H: Held<K, V>>(held: &mut H, s: u32, b: u64) -> usize
+    requires s { s ≤ 10 }
+    requires owned { HasStripe (H.stripes held.old) (b % 2 ^ s) }
+    ensures inside { result < length (H.stripes held.old) }
+    ensures number { (stripe_at (H.stripes held.old) result).number ≡ b % 2 ^ s }
+    ensures same { H.stripes held.new ≡ H.stripes held.old }
+    ensures stays { H.stays held.old held.new }
+{
+    stripe_index(held, (b % (1 << s)) as u32)
+}
+
+// The position of the stripe of this number. One or two are held for one key, four at most for two.
+fn stripe_index<K: TableKey, V, H: Held<K, V>>(held: &mut H, number: u32) -> usize
+    requires { HasStripe (H.stripes held.old) number }
+    ensures inside { result < length (H.stripes held.old) }
+    ensures number { (stripe_at (H.stripes held.old) result).number ≡ number }
+    ensures same { H.stripes held.new ≡ H.stripes held.old }
+    ensures stays { H.stays held.old held.new }
+{
+    for i in 0..held.count() {
+        if held.number(i) == number {
+            return i;
+        }
+    }
+    unreachable!()
+}
+
+/// The slot of the key.
+pub(crate) fn find_entry<K: TableKey, V, H: Held<K, V>>(
+    held: &mut H,
+    place: KeyPlace,
+    key: &K,
+) -> Option<HeldSlot>
+    requires { IsPlaceOf K.hash (H.stripes held.old) (K.name key.now) place }
+    ensures slot { IfSome result (IsSlotOf K.hash (H.stripes held.old) (K.name key.now)) }
+    ensures found { IfSome result (λ at. (v : V) × (slot_in (H.stripes held.old) at ≡ Some (K.name key.now, v))) }
+    ensures nowhere { IfNone result (IsNowhere (H.stripes held.old) (K.name key.now) place) }
+    ensures same { H.stripes held.new ≡ H.stripes held.old }
+    ensures stays { H.stays held.old held.new }
+{
+    let KeyPlace {
+        s: _,
+        partial,
+        first,
+        alternate,
+    } = place;
+    if let Some(slot) = held.look(first.index, first.bucket, key, partial) {
+        return Some(HeldSlot {
+            index: first.index,
+            bucket: first.bucket,
+            slot,
+        });
+    }
+    if alternate.bucket == first.bucket {
+        return None;
+    }
+    let slot = held.look(alternate.index, alternate.bucket, key, partial)?;
+    Some(HeldSlot {
+        index: alternate.index,
+        bucket: alternate.bucket,
+        slot,
+    })
+}
+
+/// The lowest free slot of the key's first bucket, else of its alternate one.
+pub(crate) fn find_free<K: TableKey, V, H: Held<K, V>>(
+    held: &mut H,
+    place: KeyPlace,
+    key: &K,
+) -> Option<HeldSlot>
+    requires { IsPlaceOf K.hash (H.stripes held.old) (K.name key.now) place }
+    ensures slot { IfSome result (IsSlotOf K.hash (H.stripes held.old) (K.name key.now)) }
+    ensures next { IfSome result (IsNext (H.stripes held.old) place) }
+    ensures full { IfNone result (AreFull (H.stripes held.old) place) }
+    ensures same { H.stripes held.new ≡ H.stripes held.old }
+    ensures stays { H.stays held.old held.new }
+{
+    let KeyPlace {
+        s: _,
+        partial: _,
+        first,
+        alternate,
+    } = place;
+    if let Some(slot) = held.free(first.index, first.bucket) {
+        return Some(HeldSlot {
+            index: first.index,
+            bucket: first.bucket,
+            slot,
+        });
+    }
+    if alternate.bucket == first.bucket {
+        return None;
+    }
+    let slot = held.free(alternate.index, alternate.bucket)?;
+    Some(HeldSlot {
+        index: alternate.index,
+        bucket: alternate.bucket,
+        slot,
+    })
+}
