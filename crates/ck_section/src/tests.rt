@@ -3,8 +3,8 @@ ghost use Rattle.std.specs.Prelude.{◌≢◌, ◌≤◌, ◌∷◌, [], IfOk};
 ghost use Rattle.ck_section.specs.Places.{AreAll};
 
 use crate::{
-    Hop, Pair, Several, Slice, assign, change, erase, find, insert, key_place, move_entry, update, update_two,
-    upsert,
+    Hop, Pair, Several, Slice, assign, change, erase, find, insert, key_place, move_entry, update,
+    update_two, upsert,
 };
 use ck_key::NumKey;
 use ck_stripe::Stripe;
