@@ -3,8 +3,8 @@ ghost use Rattle.std.specs.Prelude.{◌≢◌, ◌≤◌, ◌∷◌, [], IfOk};
 ghost use Rattle.ck_section.specs.Places.{AreAll};
 
 use crate::{
-    Hop, Slice, assign, change, erase, find, insert, key_place, move_entry, update, update_two,
-    upsert,
+    Hop, Pair, Several, Slice, assign, change, erase, find, insert, key_place, move_entry, update,
+    update_two, upsert,
 };
 use ck_key::NumKey;
 use ck_stripe::Stripe;
@@ -211,6 +211,38 @@ fn hops(rt: HostRuntime) -> Result<(), Fail> {
             assert_eq!(rt; try_hop(&rt, &mut held, power, partial), *want);
             assert_eq!(rt; apply(&mut held, 1, 1, Act::Find(0)), Some(10));
         }
+    }
+    Ok(())
+}
+
+// Binds the key in a pair, and gives what is found there.
+fn insert_and_find(stripes: &mut [Stripe<NumKey, u64>], s: u32, key: u64) -> Option<u64>
+    requires { AreAll s stripes.old }
+{
+    let mut pair = Pair::over(stripes);
+    let _new = pair.insert(NumKey(key), key).is_ok();
+    pair.find(&NumKey(key), |v| v.saturating_add(1))
+        .map(|a| a.reply)
+}
+
+// Exchanges the values of two keys.
+fn exchange(stripes: &mut [Stripe<NumKey, u64>], s: u32, a: u64, b: u64) -> bool
+    requires all { AreAll s stripes.old }
+    requires different { a ≢ b }
+{
+    let mut several = Several::over(stripes);
+    several
+        .update_two(&NumKey(a), &NumKey(b), |v, w| (w, v))
+        .is_some()
+}
+
+#[test]
+fn slices(rt: HostRuntime) -> Result<(), Fail> {
+    for s in 0..3u32 {
+        let mut stripes = open_all(rt.alloc(), s, 2)?;
+        assert_eq!(rt; insert_and_find(&mut stripes, s, 5), Some(6));
+        let mut stripes = open_all(rt.alloc(), s, 2)?;
+        assert!(rt; !exchange(&mut stripes, s, 5, 6));
     }
     Ok(())
 }
