@@ -47,8 +47,8 @@ impl<'a, K: TableKey + Drop, V: Drop> Pair<'a, K, V> {
         requires held { AreHeld self.old.s self.old.held.stripes.now }
         requires owned { HasBoth K.hash self.old.s self.old.held.stripes.now (K.name key.now) }
         requires call { F.IsAlwaysCallable f }
-        ensures bound { (place : KeyPlace) × IsPlaceOf K.hash self.old.held.stripes.now (K.name key.now) place × (IfSome result (λ a. (v : V) × FnOnceReturnsAt F.FnOnce f v a.reply × IsCallAt K.hash place.s self.old.held.stripes.now (K.name key.now) Find (Was (Some v)) self.new.held.stripes.now a.place v)) }
-        ensures unbound { (place : KeyPlace) × IsPlaceOf K.hash self.old.held.stripes.now (K.name key.now) place × (IfNone result (IsCall K.hash place.s self.old.held.stripes.now (K.name key.now) Find (Was None) self.new.held.stripes.now)) }
+        ensures bound { IfSome result (λ a. (v : V) × FnOnceReturnsAt F.FnOnce f v a.reply × IsCallAt K.hash self.old.s self.old.held.stripes.now (K.name key.now) Find (Was (Some v)) self.new.held.stripes.now a.place v) }
+        ensures unbound { IfNone result (IsCall K.hash self.old.s self.old.held.stripes.now (K.name key.now) Find (Was None) self.new.held.stripes.now) }
         ensures same { self.new.held.stripes.now ≡ self.old.held.stripes.now }
         ensures s { self.new.s ≡ self.old.s }
         ensures held { AreHeld self.new.s self.new.held.stripes.now }
@@ -63,8 +63,8 @@ impl<'a, K: TableKey + Drop, V: Drop> Pair<'a, K, V> {
         requires held { AreHeld self.old.s self.old.held.stripes.now }
         requires owned { HasBoth K.hash self.old.s self.old.held.stripes.now (K.name key) }
         ensures new { (place : KeyPlace) × IsPlaceOf K.hash self.old.held.stripes.now (K.name key) place × (IfOk result (λ a. MatchBool a.reply (IsPlacing K.hash place self.old.held.stripes.now (K.name key) (Insert value) New self.new.held.stripes.now a.place value) ((self.new.held.stripes.now ≡ self.old.held.stripes.now) × ((v : V) × IsCallAt K.hash place.s self.old.held.stripes.now (K.name key) (Insert value) Old self.new.held.stripes.now a.place v)))) }
-        ensures room { (place : KeyPlace) × IsPlaceOf K.hash self.old.held.stripes.now (K.name key) place × (OnOk result (IsWithRoom K.hash place.s self.old.held.stripes.now (K.name key))) }
-        ensures no_room { (place : KeyPlace) × IsPlaceOf K.hash self.old.held.stripes.now (K.name key) place × (IfErr result (λ e. IsWithoutRoom K.hash place.s self.old.held.stripes.now (K.name key) × (e ≡ record { key = key; value = value }) × (self.new.held.stripes.now ≡ self.old.held.stripes.now))) }
+        ensures room { OnOk result (IsWithRoom K.hash self.old.s self.old.held.stripes.now (K.name key)) }
+        ensures no_room { IfErr result (λ e. IsWithoutRoom K.hash self.old.s self.old.held.stripes.now (K.name key) × (e ≡ record { key = key; value = value }) × (self.new.held.stripes.now ≡ self.old.held.stripes.now)) }
         ensures rest { ChangesContents self.old.held.stripes.now self.new.held.stripes.now }
         ensures s { self.new.s ≡ self.old.s }
         ensures held { AreHeld self.new.s self.new.held.stripes.now }
@@ -79,8 +79,8 @@ impl<'a, K: TableKey + Drop, V: Drop> Pair<'a, K, V> {
         requires held { AreHeld self.old.s self.old.held.stripes.now }
         requires owned { HasBoth K.hash self.old.s self.old.held.stripes.now (K.name key) }
         ensures call { (place : KeyPlace) × IsPlaceOf K.hash self.old.held.stripes.now (K.name key) place × (IfOk result (λ a. MatchOption a.reply (IsPlacing K.hash place self.old.held.stripes.now (K.name key) (Assign value) (Was None) self.new.held.stripes.now a.place value) (λ v. IsCallAt K.hash place.s self.old.held.stripes.now (K.name key) (Assign value) (Was (Some v)) self.new.held.stripes.now a.place value))) }
-        ensures room { (place : KeyPlace) × IsPlaceOf K.hash self.old.held.stripes.now (K.name key) place × (OnOk result (IsWithRoom K.hash place.s self.old.held.stripes.now (K.name key))) }
-        ensures no_room { (place : KeyPlace) × IsPlaceOf K.hash self.old.held.stripes.now (K.name key) place × (IfErr result (λ e. IsWithoutRoom K.hash place.s self.old.held.stripes.now (K.name key) × (e ≡ record { key = key; value = value }) × (self.new.held.stripes.now ≡ self.old.held.stripes.now))) }
+        ensures room { OnOk result (IsWithRoom K.hash self.old.s self.old.held.stripes.now (K.name key)) }
+        ensures no_room { IfErr result (λ e. IsWithoutRoom K.hash self.old.s self.old.held.stripes.now (K.name key) × (e ≡ record { key = key; value = value }) × (self.new.held.stripes.now ≡ self.old.held.stripes.now)) }
         ensures rest { ChangesContents self.old.held.stripes.now self.new.held.stripes.now }
         ensures s { self.new.s ≡ self.old.s }
         ensures held { AreHeld self.new.s self.new.held.stripes.now }
@@ -94,8 +94,8 @@ impl<'a, K: TableKey + Drop, V: Drop> Pair<'a, K, V> {
     pub fn update(&mut self, key: &K, value: V) -> Option<Answer<V>>
         requires held { AreHeld self.old.s self.old.held.stripes.now }
         requires owned { HasBoth K.hash self.old.s self.old.held.stripes.now (K.name key.now) }
-        ensures bound { (place : KeyPlace) × IsPlaceOf K.hash self.old.held.stripes.now (K.name key.now) place × (IfSome result (λ a. IsCallAt K.hash place.s self.old.held.stripes.now (K.name key.now) (Update value) (Was (Some a.reply)) self.new.held.stripes.now a.place value)) }
-        ensures unbound { (place : KeyPlace) × IsPlaceOf K.hash self.old.held.stripes.now (K.name key.now) place × (IfNone result (IsCall K.hash place.s self.old.held.stripes.now (K.name key.now) (Update value) (Was None) self.new.held.stripes.now × (self.new.held.stripes.now ≡ self.old.held.stripes.now))) }
+        ensures bound { IfSome result (λ a. IsCallAt K.hash self.old.s self.old.held.stripes.now (K.name key.now) (Update value) (Was (Some a.reply)) self.new.held.stripes.now a.place value) }
+        ensures unbound { IfNone result (IsCall K.hash self.old.s self.old.held.stripes.now (K.name key.now) (Update value) (Was None) self.new.held.stripes.now × (self.new.held.stripes.now ≡ self.old.held.stripes.now)) }
         ensures rest { ChangesContents self.old.held.stripes.now self.new.held.stripes.now }
         ensures s { self.new.s ≡ self.old.s }
         ensures held { AreHeld self.new.s self.new.held.stripes.now }
@@ -109,8 +109,8 @@ impl<'a, K: TableKey + Drop, V: Drop> Pair<'a, K, V> {
     pub fn erase(&mut self, key: &K) -> Option<Answer<V>>
         requires held { AreHeld self.old.s self.old.held.stripes.now }
         requires owned { HasBoth K.hash self.old.s self.old.held.stripes.now (K.name key.now) }
-        ensures bound { (place : KeyPlace) × IsPlaceOf K.hash self.old.held.stripes.now (K.name key.now) place × (IfSome result (λ a. IsCall K.hash place.s self.old.held.stripes.now (K.name key.now) Erase (Was (Some a.reply)) self.new.held.stripes.now × IsAt K.hash place.s self.old.held.stripes.now a.place (K.name key.now) a.reply)) }
-        ensures unbound { (place : KeyPlace) × IsPlaceOf K.hash self.old.held.stripes.now (K.name key.now) place × (IfNone result (IsCall K.hash place.s self.old.held.stripes.now (K.name key.now) Erase (Was None) self.new.held.stripes.now × (self.new.held.stripes.now ≡ self.old.held.stripes.now))) }
+        ensures bound { IfSome result (λ a. IsCall K.hash self.old.s self.old.held.stripes.now (K.name key.now) Erase (Was (Some a.reply)) self.new.held.stripes.now × IsAt K.hash self.old.s self.old.held.stripes.now a.place (K.name key.now) a.reply) }
+        ensures unbound { IfNone result (IsCall K.hash self.old.s self.old.held.stripes.now (K.name key.now) Erase (Was None) self.new.held.stripes.now × (self.new.held.stripes.now ≡ self.old.held.stripes.now)) }
         ensures rest { ChangesContents self.old.held.stripes.now self.new.held.stripes.now }
         ensures s { self.new.s ≡ self.old.s }
         ensures held { AreHeld self.new.s self.new.held.stripes.now }
@@ -127,8 +127,8 @@ impl<'a, K: TableKey + Drop, V: Drop> Pair<'a, K, V> {
         requires held { AreHeld self.old.s self.old.held.stripes.now }
         requires owned { HasBoth K.hash self.old.s self.old.held.stripes.now (K.name key.now) }
         requires call { F.IsAlwaysCallable f }
-        ensures bound { (place : KeyPlace) × IsPlaceOf K.hash self.old.held.stripes.now (K.name key.now) place × (IfSome result (λ at. (v w : V) × F.post f v w × IsCallAt K.hash place.s self.old.held.stripes.now (K.name key.now) Change (Done v w) self.new.held.stripes.now at w)) }
-        ensures unbound { (place : KeyPlace) × IsPlaceOf K.hash self.old.held.stripes.now (K.name key.now) place × (IfNone result (IsCall K.hash place.s self.old.held.stripes.now (K.name key.now) Change Absent self.new.held.stripes.now × (self.new.held.stripes.now ≡ self.old.held.stripes.now))) }
+        ensures bound { IfSome result (λ at. (v w : V) × F.post f v w × IsCallAt K.hash self.old.s self.old.held.stripes.now (K.name key.now) Change (Done v w) self.new.held.stripes.now at w) }
+        ensures unbound { IfNone result (IsCall K.hash self.old.s self.old.held.stripes.now (K.name key.now) Change Absent self.new.held.stripes.now × (self.new.held.stripes.now ≡ self.old.held.stripes.now)) }
         ensures rest { ChangesContents self.old.held.stripes.now self.new.held.stripes.now }
         ensures s { self.new.s ≡ self.old.s }
         ensures held { AreHeld self.new.s self.new.held.stripes.now }
@@ -151,8 +151,8 @@ impl<'a, K: TableKey + Drop, V: Drop> Pair<'a, K, V> {
         requires owned { HasBoth K.hash self.old.s self.old.held.stripes.now (K.name key) }
         requires call { F.IsAlwaysCallable f }
         ensures call { (place : KeyPlace) × IsPlaceOf K.hash self.old.held.stripes.now (K.name key) place × (IfOk result (λ a. MatchBool a.reply (IsPlacing K.hash place self.old.held.stripes.now (K.name key) (Upsert value) New self.new.held.stripes.now a.place value) ((v w : V) × F.post f v w × IsCallAt K.hash place.s self.old.held.stripes.now (K.name key) (Upsert value) (Done v w) self.new.held.stripes.now a.place w))) }
-        ensures room { (place : KeyPlace) × IsPlaceOf K.hash self.old.held.stripes.now (K.name key) place × (OnOk result (IsWithRoom K.hash place.s self.old.held.stripes.now (K.name key))) }
-        ensures no_room { (place : KeyPlace) × IsPlaceOf K.hash self.old.held.stripes.now (K.name key) place × (IfErr result (λ e. IsWithoutRoom K.hash place.s self.old.held.stripes.now (K.name key) × (e ≡ (f, record { key = key; value = value })) × (self.new.held.stripes.now ≡ self.old.held.stripes.now))) }
+        ensures room { OnOk result (IsWithRoom K.hash self.old.s self.old.held.stripes.now (K.name key)) }
+        ensures no_room { IfErr result (λ e. IsWithoutRoom K.hash self.old.s self.old.held.stripes.now (K.name key) × (e ≡ (f, record { key = key; value = value })) × (self.new.held.stripes.now ≡ self.old.held.stripes.now)) }
         ensures rest { ChangesContents self.old.held.stripes.now self.new.held.stripes.now }
         ensures s { self.new.s ≡ self.old.s }
         ensures held { AreHeld self.new.s self.new.held.stripes.now }
