@@ -156,7 +156,8 @@ impl<K: TableKey + Drop, V: Drop> Bucket<K, V> {
 
     /// The partial of each slot that is not free.
     pub fn sketch(&self) -> [Option<u8>; 4]
-        ensures { result ≡ map (partial_in K.hash) self.now }
+        ensures value { result ≡ map (partial_in K.hash) self.now }
+        ensures four { length self.now ≡ 4 }
     {
         [
             self.partial_at(0),

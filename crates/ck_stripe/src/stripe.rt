@@ -129,6 +129,30 @@ impl<K: TableKey + Drop, V: Drop> Stripe<K, V> {
         (b >> self.s) as usize
     }
 
+    /// Which stripe of the table it is.
+    pub fn number(&self) -> u32
+        ensures value { result ≡ self.now.number }
+        ensures shaped { IsShaped self.now.s self.now.number self.now.content }
+    {
+        self.number
+    }
+
+    /// The table has 2^s stripes.
+    pub fn s(&self) -> u32
+        ensures value { result ≡ self.now.s }
+        ensures shaped { IsShaped self.now.s self.now.number self.now.content }
+    {
+        self.s
+    }
+
+    /// The table has 2^power buckets.
+    pub fn power(&self) -> u32
+        ensures value { result ≡ self.now.content.power }
+        ensures shaped { IsShaped self.now.s self.now.number self.now.content }
+    {
+        self.power
+    }
+
     /// The number of entries.
     pub fn len(&self) -> u64
         ensures value { result ≡ self.now.content.ledger }

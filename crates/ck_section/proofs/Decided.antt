@@ -1,0 +1,200 @@
+-- Calls on one name of held stripes, by what was found and written.
+use Rattle.std.proofs.Common.{◌≡◌, ◌≢◌, ◌⊎◌, inl, inr, ℕ, zero, suc, ◌+◌, ◌-◌, ◌*◌, ◌/◌, ◌%◌, ◌^◌, ◌<◌, ◌≤◌, List, [], ◌∷◌, Option, Some, None, length, refl, sym, ◌∙◌, ap, subst, arith}
+use Rattle.std.specs.Prelude.{slice_set}
+use Rattle.std.specs.FinMap.{get, find}
+use Rattle.std.proofs.lemmas.List.{length-set, get_or-set_same, set-set}
+use Rattle.ck_model.specs.declared.history.Act.{Act}
+use Rattle.ck_model.specs.declared.history.Call.TheVariants.{On}
+use Rattle.ck_model.specs.declared.history.Reply.{Reply}
+use Rattle.ck_model.specs.declared.contents.Content.{Content}
+use Rattle.ck_model.specs.Map.{Name, name_cmp, Answers}
+use Rattle.ck_model.specs.Slots.{Slot, slot_at}
+use Rattle.ck_model.specs.Numbered.{AreDistinct, numbers, Holds, with_content}
+use Rattle.ck_model.specs.Contents.{IsBucketOf, Layout, Stripes, Binds, pairs_in, row_at, bindings, IsSound, Lawful}
+use Rattle.ck_model.specs.Sections.{Section}
+use Rattle.ck_model.proofs.Local.{At, Change, section_in_one}
+use Rattle.ck_model.proofs.Writes.{Writes, written, stands, places, removes, replaces, ledger_of_taken}
+use Rattle.ck_stripe.specs.Stripe.{StripeState, HasBucket, bucket_of, with_slot}
+use Rattle.ck_section.specs.declared.place.KeyPlace.{KeyPlace}
+use Rattle.ck_section.specs.declared.place.HeldSlot.{HeldSlot}
+use Rattle.ck_section.specs.Stripes.{no_stripe, stripe_at, bucket_at, set_content, contents_of, IsInReach}
+use Rattle.ck_section.specs.Places.{place_of, IsPlaceOf, IsSlotOf, slot_in, set_slot, IsNowhere}
+use Rattle.ck_section.specs.Calls.{layout, IsCall, IsAt}
+use Rattle.ck_section.proofs.Found.{holds_at, contents_set, set_here, slot_held, row_bucket, row_within, sound_at, nowhere, unbound, owns, bound_in}
+
+module _ {V : Type 0} where
+  free_slot : (slots : List (Slot V)) (i : ℕ) → slot_at (slice_set slots i None) i ≡ None
+  free_slot [] i = refl
+  free_slot (x ∷ xs) zero = refl
+  free_slot (x ∷ xs) (suc i) = free_slot xs i
+
+  free_row : (rows : List (List (Slot V))) (r i : ℕ) → slot_at (row_at (slice_set rows r (slice_set (row_at rows r) i None)) r) i ≡ None
+  free_row [] r i = refl
+  free_row (x ∷ xs) zero i = free_slot x i
+  free_row (x ∷ xs) (suc r) i = free_row xs r i
+
+  -- what is written in a row twice
+  set_row : (rows : List (List (Slot V))) (r i : ℕ) (x y : Slot V)
+      → slice_set (slice_set rows r (slice_set (row_at rows r) i x)) r (slice_set (row_at (slice_set rows r (slice_set (row_at rows r) i x)) r) i y) ≡ slice_set rows r (slice_set (row_at rows r) i y)
+  set_row [] r i x y = refl
+  set_row (l ∷ ls) zero i x y = ap (λ (z : List (Slot V)). z ∷ ls) (set-set l i x y)
+  set_row (l ∷ ls) (suc r) i x y = ap (λ (z : List (List (Slot V))). l ∷ z) (set_row ls r i x y)
+
+  module _ (stripes : List (StripeState V)) (at : HeldSlot) (reach : IsInReach stripes at.index at.bucket) where
+    abbrev here : StripeState V
+    here = stripe_at stripes at.index
+
+    -- a written stripe stays in reach
+    pub reach_set : (x : Slot V) (n : ℕ) → IsInReach (set_slot stripes at x n) at.index at.bucket
+    reach_set x n =
+        let c : Content V = with_slot here at.bucket at.slot x n in
+        let is : stripe_at (set_content stripes at.index c) at.index ≡ record here { content = c } = set_here stripes at.index c reach.inside in
+        record {
+          inside = subst (λ m. at.index < m) (sym (length-set stripes at.index (record here { content = c }))) reach.inside;
+          settled = ap (λ (t : StripeState V). t.settled) is ∙ reach.settled;
+          own = subst (λ (t : StripeState V). HasBucket t at.bucket) (sym is) reach.own;
+        }
+
+    -- a slot that was freed is free
+    pub freed : (n : ℕ) → slot_in (set_slot stripes at None n) at ≡ None
+    freed n =
+        let c : Content V = with_slot here at.bucket at.slot None n in
+        ap (λ (t : StripeState V). slot_at (bucket_of t at.bucket) at.slot) (set_here stripes at.index c reach.inside) ∙ free_row here.content.rows (at.bucket / 2 ^ here.s) at.slot
+
+    -- a slot that is written twice
+    pub set_twice : (x y : Slot V) (n m : ℕ) → set_slot (set_slot stripes at x n) at y m ≡ set_slot stripes at y m
+    set_twice x y n m =
+        let c : Content V = with_slot here at.bucket at.slot x n in
+        let is : stripe_at (set_content stripes at.index c) at.index ≡ record here { content = c } = set_here stripes at.index c reach.inside in
+        ap (λ (t : StripeState V). slice_set (set_content stripes at.index c) at.index (record t { content = with_slot t at.bucket at.slot y m })) is
+        ∙ set-set stripes at.index (record here { content = c }) (record here { content = with_slot (record here { content = c }) at.bucket at.slot y m })
+        ∙ ap (λ (rows : List (List (Slot V))). slice_set stripes at.index (record here { content = record { power = here.content.power; rows = rows; ledger = m } }))
+            (set_row here.content.rows (at.bucket / 2 ^ here.s) at.slot x y)
+
+    pub ledger_set : (x : Slot V) (n : ℕ) → (stripe_at (set_slot stripes at x n) at.index).content.ledger ≡ n
+    ledger_set x n = ap (λ (t : StripeState V). t.content.ledger) (set_here stripes at.index (with_slot here at.bucket at.slot x n) reach.inside)
+
+  -- The place of an entry that is in a slot, and of one that was put there.
+  module _ (hash : Name → ℕ) (s : ℕ) (q : Name) where
+    pub at_old : (stripes : List (StripeState V)) (at : HeldSlot) (v : V) → IsInReach stripes at.index at.bucket → (stripe_at stripes at.index).s ≡ s → slot_in stripes at ≡ Some (q, v) → IsAt hash s stripes (place_of s at) q v
+    at_old stripes at v reach e is max lawful = ap (λ (row : List (Slot V)). slot_at row at.slot) (slot_held stripes at.index at.bucket 0 lawful.distinct reach.inside reach.own s e) ∙ is
+
+    pub at_new : (stripes : List (StripeState V)) (at : HeldSlot) (v : V) (n : ℕ) → IsInReach stripes at.index at.bucket → at.slot < 4 → (stripe_at stripes at.index).s ≡ s → IsAt hash s (set_slot stripes at (Some (q, v)) n) (place_of s at) q v
+    at_new stripes at v n reach below e max lawful =
+        let t : StripeState V = stripe_at stripes at.index in
+        let r : ℕ = at.bucket / 2 ^ t.s in
+        let c : Content V = with_slot t at.bucket at.slot (Some (q, v)) n in
+        let new : List (StripeState V) = set_slot stripes at (Some (q, v)) n in
+        let after : IsInReach new at.index at.bucket = reach_set stripes at reach (Some (q, v)) n in
+        let is : stripe_at new at.index ≡ record t { content = c } = set_here stripes at.index c reach.inside in
+        let e2 : (stripe_at new at.index).s ≡ s = ap (λ (u : StripeState V). u.s) is ∙ e in
+        let sound : IsSound (layout hash s max) t.number c = subst (λ (u : StripeState V). IsSound (layout hash s max) u.number u.content) is (sound_at hash s max new lawful at.index after.inside) in
+        let within2 : r < length c.rows = row_within (layout hash s max) (record t { content = c }) at.bucket sound reach.own e in
+        let within : r < length t.content.rows = subst (λ m. r < m) (length-set t.content.rows r (slice_set (row_at t.content.rows r) at.slot (Some (q, v)))) within2 in
+        let row : row_at c.rows r ≡ slice_set (row_at t.content.rows r) at.slot (Some (q, v)) = get_or-set_same t.content.rows r (slice_set (row_at t.content.rows r) at.slot (Some (q, v))) [] within in
+        let four : length (row_at t.content.rows r) ≡ 4 = sym (length-set (row_at t.content.rows r) at.slot (Some (q, v))) ∙ ap length (sym row) ∙ sound.four r [] within2 in
+        at_old new at v after e2 (
+            ap (λ (u : StripeState V). slot_at (bucket_of u at.bucket) at.slot) is
+            ∙ ap (λ (l : List (Slot V)). slot_at l at.slot) row
+            ∙ get_or-set_same (row_at t.content.rows r) at.slot (Some (q, v)) None (subst (λ m. at.slot < m) (sym four) below)) max lawful
+
+  module _ (hash : Name → ℕ) (stripes : List (StripeState V)) (q : Name) (place : KeyPlace) (of : IsPlaceOf hash stripes q place) where
+    pub s_at : (at : HeldSlot) → IsSlotOf hash stripes q at → (stripe_at stripes at.index).s ≡ place.s
+    s_at at slot = of.one_s at.index slot.reach.inside
+
+    -- a call that changes nothing
+    keeps : (act : Act V) (reply : Reply V) (o : Option V) → ((max : ℕ) → Lawful (layout hash place.s max) (contents_of stripes) → get (bindings (contents_of stripes)) q ≡ o) → Answers act o reply o → IsCall hash place.s stripes q act reply stripes
+    keeps act reply o is answers max lawful = record {
+      renewed = record { same = refl; lawful = lawful; power = inl (λ t u c d h g. sym (lawful.one_power t u c d h g)) };
+      owns = owns hash place.s max stripes lawful q place of refl;
+      step = (subst (λ (x : Option V). Answers act x reply x) (sym (is max lawful)) answers, λ p ne. refl);
+    }
+
+    pub keeps_unbound : (act : Act V) (reply : Reply V) → IsNowhere stripes q place → Answers act None reply None → IsCall hash place.s stripes q act reply stripes
+    keeps_unbound act reply lacks answers = keeps act reply None (λ max lawful. unbound hash place.s max stripes lawful q place of refl lacks) answers
+
+    pub keeps_bound : (act : Act V) (reply : Reply V) (at : HeldSlot) (v : V) → IsSlotOf hash stripes q at → slot_in stripes at ≡ Some (q, v) → Answers act (Some v) reply (Some v) → IsCall hash place.s stripes q act reply stripes
+    keeps_bound act reply at v slot is answers = keeps act reply (Some v) (λ max lawful. bound_in hash place.s max stripes lawful q v at slot.reach is) answers
+
+    -- one slot is written
+    module _ (act : Act V) (reply : Reply V) (at : HeldSlot) (slot : IsSlotOf hash stripes q at) where
+      abbrev in_it : StripeState V
+      in_it = stripe_at stripes at.index
+
+      abbrev r : ℕ
+      r = at.bucket / 2 ^ in_it.s
+
+      module _ (max : ℕ) (lawful : Lawful (layout hash place.s max) (contents_of stripes)) where
+        abbrev k : Layout
+        k = layout hash place.s max
+
+        sound : IsSound k in_it.number in_it.content
+        sound = sound_at hash place.s max stripes lawful at.index slot.reach.inside
+
+        within : r < length in_it.content.rows
+        within = row_within k in_it at.bucket sound slot.reach.own (s_at at slot)
+
+        writes : (x : Slot V) (n : ℕ) (o o2 : Option V) → Writes k in_it.number in_it.content (written in_it.content r at.slot x n) q o o2
+            → ((u : ℕ) (d : Content V) (v : V) → u ≢ in_it.number → Holds (contents_of stripes) u d → ¬ (Binds d q v))
+            → Answers act o reply o2 → Section k (contents_of stripes) (On q act) reply (contents_of (set_slot stripes at x n))
+        writes x n o o2 w apart answers =
+            let c2 : Content V = written in_it.content r at.slot x n in
+            let change : Change k (contents_of stripes) in_it.number in_it.content c2 q = record {
+              lawful = lawful;
+              here = holds_at stripes at.index slot.reach.inside;
+              sound = w.sound;
+              power = refl;
+              others = w.others;
+              nowhere_else = apart;
+            } in
+            subst (λ (ks : Stripes V). Section k (contents_of stripes) (On q act) reply ks) (sym (contents_set stripes at.index c2 slot.reach.inside lawful.distinct))
+            (section_in_one k (contents_of stripes) in_it.number in_it.content c2 q change act reply (owns hash place.s max stripes lawful q place of refl)
+            (subst (λ (y : Option V × Option V). Answers act y.0 reply y.1) (λ i. (sym w.was i, sym w.is i)) answers))
+
+        -- a name that is in this slot is in no other stripe
+        alone : (v : V) → slot_in stripes at ≡ Some (q, v) → (u : ℕ) (d : Content V) (w : V) → u ≢ in_it.number → Holds (contents_of stripes) u d → ¬ (Binds d q w)
+        alone v is u d w ne h bound =
+            ne (lawful.once u in_it.number d in_it.content q w v h (holds_at stripes at.index slot.reach.inside) bound (stands k in_it.number in_it.content sound r at.slot q v is))
+
+      -- an unbound name is placed in a free slot
+      pub placed : (v : V) → IsNowhere stripes q place → slot_in stripes at ≡ None → Answers act None reply (Some v) → IsCall hash place.s stripes q act reply (set_slot stripes at (Some (q, v)) (in_it.content.ledger + 1))
+      placed v lacks free answers max lawful =
+          let e : (stripe_at stripes at.index).s ≡ place.s = s_at at slot in
+          let none : find name_cmp q (pairs_in in_it.content) ≡ None = absent (find name_cmp q (pairs_in in_it.content)) refl in
+          writes max lawful (Some (q, v)) (in_it.content.ledger + 1) None (Some v)
+          (places (layout hash place.s max) in_it.number in_it.content (sound max lawful) r at.slot (within max lawful) slot.below q v free none
+          (subst (λ b. of_it b) (sym (row_bucket in_it at.bucket place.s slot.reach.own e)) slot.of_name))
+          (λ u d w ne h. nowhere hash place.s max stripes lawful q place of refl lacks u d w h) answers
+        where
+          of_it : ℕ → Type 0
+          of_it b = IsBucketOf hash in_it.content.power q b
+
+          absent : (o : Option V) → find name_cmp q (pairs_in in_it.content) ≡ o → find name_cmp q (pairs_in in_it.content) ≡ None
+          absent None f = f
+          absent (Some w) f = absurd (nowhere hash place.s max stripes lawful q place of refl lacks in_it.number in_it.content w (holds_at stripes at.index slot.reach.inside) f)
+
+      -- an entry is removed
+      pub removed : (v : V) → slot_in stripes at ≡ Some (q, v) → Answers act (Some v) reply None → IsCall hash place.s stripes q act reply (set_slot stripes at None (in_it.content.ledger - 1))
+      removed v is answers max lawful =
+          writes max lawful None (in_it.content.ledger - 1) (Some v) None
+          (removes (layout hash place.s max) in_it.number in_it.content (sound max lawful) r at.slot (within max lawful) slot.below q v is)
+          (alone max lawful v is) answers
+
+      -- an entry gets another value
+      pub replaced : (v w : V) → slot_in stripes at ≡ Some (q, v) → Answers act (Some v) reply (Some w) → IsCall hash place.s stripes q act reply (set_slot stripes at (Some (q, w)) in_it.content.ledger)
+      replaced v w is answers max lawful =
+          writes max lawful (Some (q, w)) in_it.content.ledger (Some v) (Some w)
+          (replaces (layout hash place.s max) in_it.number in_it.content (sound max lawful) r at.slot (within max lawful) slot.below q v w is)
+          (alone max lawful v is) answers
+
+      -- an entry is removed and put back with another value
+      pub put_back : (v w : V) → slot_in stripes at ≡ Some (q, v) → Answers act (Some v) reply (Some w)
+          → (new : List (StripeState V)) → new ≡ set_slot (set_slot stripes at None (in_it.content.ledger - 1)) at (Some (q, w)) ((stripe_at (set_slot stripes at None (in_it.content.ledger - 1)) at.index).content.ledger + 1)
+          → IsCall hash place.s stripes q act reply new
+      put_back v w is answers new e max lawful =
+          let more : 0 < in_it.content.ledger = ledger_of_taken (layout hash place.s max) in_it.number in_it.content (sound max lawful) r at.slot q v is in
+          let n : (stripe_at (set_slot stripes at None (in_it.content.ledger - 1)) at.index).content.ledger + 1 ≡ in_it.content.ledger =
+          ap (λ m. m + 1) (ledger_set stripes at slot.reach None (in_it.content.ledger - 1)) ∙ (let z : in_it.content.ledger - 1 + 1 ≡ in_it.content.ledger = omega arith in z) in
+          let same : new ≡ set_slot stripes at (Some (q, w)) in_it.content.ledger =
+          e ∙ set_twice stripes at slot.reach None (Some (q, w)) (in_it.content.ledger - 1) _ ∙ ap (λ m. set_slot stripes at (Some (q, w)) m) n in
+          subst (λ (ks : List (StripeState V)). Section (layout hash place.s max) (contents_of stripes) (On q act) reply (contents_of ks)) (sym same) (replaced v w is answers max lawful)

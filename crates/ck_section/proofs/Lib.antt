@@ -1,0 +1,5 @@
+pub mod Found
+pub mod Decided
+pub mod Steps
+pub mod Rebinding
+pub mod Hopped

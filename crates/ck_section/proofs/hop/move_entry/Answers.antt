@@ -1,0 +1,109 @@
+use Rattle.std.proofs.Common.{◌≡◌, ◌+◌, Some, None, List, refl, sym, ◌∙◌, ap, subst}
+use Rattle.std.proofs.lemmas.Option.{some_pair_parts}
+use Rattle.ck_model.specs.Arithmetic.{partial_of}
+use Rattle.ck_model.specs.Map.{Name}
+use Rattle.ck_stripe.specs.Stripe.{StripeState}
+use Rattle.ck_section.specs.declared.place.HeldSlot.{HeldSlot}
+use Rattle.ck_section.specs.Stripes.{stripe_at, bucket_at, IsInReach}
+use Rattle.ck_section.specs.Places.{slot_in, set_slot, IsLowest}
+use Rattle.ck_section.specs.Hops.{source_in, HasPartial, lifted}
+use Rattle.ck_section.proofs.Hopped.{target_reach, still_reach, still_free, no_call}
+use Rattle.ck_section.proofs.hop.move_entry.Goals as goal
+
+pub free-requires : goal.free-requires
+free-requires g c = record {
+  reach =
+    let V : Type 0 = g.row.V.Denot in
+    let stripes : List (StripeState V) = g.H.Held.stripes c.args.held.now in
+    let power = sym c.power.ensures.value ∙ c.if-power-hop.false in
+    let seen : g.H.Held.stripes c.has_partial.new.held ≡ stripes = c.has_partial.ensures.same ∙ c.power.ensures.same in
+      subst (λ (l : List (StripeState V)). IsInReach l c.args.to c.args.hop.target) (sym seen) (target_reach g.K.TableKey.hash stripes c.args.from c.args.to c.args.hop c.requires power);
+}
+
+pub place-requires-clause-reach : goal.place-requires-clause-reach
+place-requires-clause-reach g c =
+    let V : Type 0 = g.row.V.Denot in
+    let stripes : List (StripeState V) = g.H.Held.stripes c.args.held.now in
+    let power = sym c.power.ensures.value ∙ c.if-power-hop.false in
+    let seen : g.H.Held.stripes c.has_partial.new.held ≡ stripes = c.has_partial.ensures.same ∙ c.power.ensures.same in
+    let same : g.H.Held.stripes c.free.new.self ≡ stripes = c.free.ensures.same ∙ seen in
+    let name : Name = g.K.TableKey.name c.remove-key.result.0 in
+    let value : V = c.remove-key.result.1 in
+    let from : HeldSlot = source_in c.args.from c.args.hop in
+    let to : HeldSlot = record { index = c.args.to; bucket = c.args.hop.target; slot = c.in-Some.slot } in
+    let entry : slot_in stripes from ≡ Some (name, value) = ap (λ (l : List (StripeState V)). slot_in l from) (sym same) ∙ c.remove-key.ensures.entry in
+    let has : HasPartial g.K.TableKey.hash (slot_in stripes from) c.args.hop.partial = subst (λ (l : List (StripeState V)). HasPartial g.K.TableKey.hash (slot_in l from) c.args.hop.partial) c.power.ensures.same c.if-not-has_partial.ensures.value in
+    let partial : partial_of (g.K.TableKey.hash name) ≡ c.args.hop.partial = ap (λ n. partial_of (g.K.TableKey.hash n)) (some_pair_parts _ _ _ _ (sym entry ∙ has.entry)).0 ∙ has.partial_is in
+    let free : slot_in stripes to ≡ None = ap (λ (l : List (StripeState V)). slot_in l to) (sym seen) ∙ c.in-Some.ensures.found in
+    let mid : g.H.Held.stripes c.remove-key.new.self ≡ lifted stripes c.args.from c.args.hop = c.remove-key.ensures.content ∙ ap (λ (l : List (StripeState V)). lifted l c.args.from c.args.hop) same in
+    subst (λ (l : List (StripeState V)). IsInReach l c.args.to c.args.hop.target) (sym mid) (still_reach g.K.TableKey.hash stripes c.args.from c.args.to c.args.hop c.requires power to refl refl c.in-Some.ensures.below c.if-not-has_partial.ensures.below name value entry partial free)
+
+pub place-requires-clause-free : goal.place-requires-clause-free
+place-requires-clause-free g c =
+    let V : Type 0 = g.row.V.Denot in
+    let stripes : List (StripeState V) = g.H.Held.stripes c.args.held.now in
+    let power = sym c.power.ensures.value ∙ c.if-power-hop.false in
+    let seen : g.H.Held.stripes c.has_partial.new.held ≡ stripes = c.has_partial.ensures.same ∙ c.power.ensures.same in
+    let same : g.H.Held.stripes c.free.new.self ≡ stripes = c.free.ensures.same ∙ seen in
+    let name : Name = g.K.TableKey.name c.remove-key.result.0 in
+    let value : V = c.remove-key.result.1 in
+    let from : HeldSlot = source_in c.args.from c.args.hop in
+    let to : HeldSlot = record { index = c.args.to; bucket = c.args.hop.target; slot = c.in-Some.slot } in
+    let entry : slot_in stripes from ≡ Some (name, value) = ap (λ (l : List (StripeState V)). slot_in l from) (sym same) ∙ c.remove-key.ensures.entry in
+    let has : HasPartial g.K.TableKey.hash (slot_in stripes from) c.args.hop.partial = subst (λ (l : List (StripeState V)). HasPartial g.K.TableKey.hash (slot_in l from) c.args.hop.partial) c.power.ensures.same c.if-not-has_partial.ensures.value in
+    let partial : partial_of (g.K.TableKey.hash name) ≡ c.args.hop.partial = ap (λ n. partial_of (g.K.TableKey.hash n)) (some_pair_parts _ _ _ _ (sym entry ∙ has.entry)).0 ∙ has.partial_is in
+    let free : slot_in stripes to ≡ None = ap (λ (l : List (StripeState V)). slot_in l to) (sym seen) ∙ c.in-Some.ensures.found in
+    let mid : g.H.Held.stripes c.remove-key.new.self ≡ lifted stripes c.args.from c.args.hop = c.remove-key.ensures.content ∙ ap (λ (l : List (StripeState V)). lifted l c.args.from c.args.hop) same in
+    ap (λ (l : List (StripeState V)). slot_in l to) mid ∙ still_free g.K.TableKey.hash stripes c.args.from c.args.to c.args.hop c.requires power to refl refl c.in-Some.ensures.below c.if-not-has_partial.ensures.below name value entry partial free
+
+pub returns-clause-moved : goal.returns-clause-moved
+returns-clause-moved g c =
+    let V : Type 0 = g.row.V.Denot in
+    let stripes : List (StripeState V) = g.H.Held.stripes c.args.held.now in
+    let power = sym c.power.ensures.value ∙ c.if-power-hop.false in
+    let seen : g.H.Held.stripes c.has_partial.new.held ≡ stripes = c.has_partial.ensures.same ∙ c.power.ensures.same in
+    let same : g.H.Held.stripes c.free.new.self ≡ stripes = c.free.ensures.same ∙ seen in
+    let name : Name = g.K.TableKey.name c.remove-key.result.0 in
+    let value : V = c.remove-key.result.1 in
+    let from : HeldSlot = source_in c.args.from c.args.hop in
+    let to : HeldSlot = record { index = c.args.to; bucket = c.args.hop.target; slot = c.in-Some.slot } in
+    let entry : slot_in stripes from ≡ Some (name, value) = ap (λ (l : List (StripeState V)). slot_in l from) (sym same) ∙ c.remove-key.ensures.entry in
+    let has : HasPartial g.K.TableKey.hash (slot_in stripes from) c.args.hop.partial = subst (λ (l : List (StripeState V)). HasPartial g.K.TableKey.hash (slot_in l from) c.args.hop.partial) c.power.ensures.same c.if-not-has_partial.ensures.value in
+    let partial : partial_of (g.K.TableKey.hash name) ≡ c.args.hop.partial = ap (λ n. partial_of (g.K.TableKey.hash n)) (some_pair_parts _ _ _ _ (sym entry ∙ has.entry)).0 ∙ has.partial_is in
+    let free : slot_in stripes to ≡ None = ap (λ (l : List (StripeState V)). slot_in l to) (sym seen) ∙ c.in-Some.ensures.found in
+    let mid : g.H.Held.stripes c.remove-key.new.self ≡ lifted stripes c.args.from c.args.hop = c.remove-key.ensures.content ∙ ap (λ (l : List (StripeState V)). lifted l c.args.from c.args.hop) same in
+    record {
+      name = name;
+      value = value;
+      to = to;
+      index = refl;
+      bucket = refl;
+      entry = entry;
+      free = free;
+      lowest = subst (λ (l : List (StripeState V)). IsLowest l to) seen c.in-Some.ensures.lowest;
+      moved = c.place.ensures.content ∙ ap (λ (l : List (StripeState V)). set_slot l to (Some (name, value)) ((stripe_at l c.args.to).content.ledger + 1)) mid;
+    }
+
+pub returns-clause-no_call : goal.returns-clause-no_call
+returns-clause-no_call g c =
+    let V : Type 0 = g.row.V.Denot in
+    let stripes : List (StripeState V) = g.H.Held.stripes c.args.held.now in
+    let power = sym c.power.ensures.value ∙ c.if-power-hop.false in
+    let seen : g.H.Held.stripes c.has_partial.new.held ≡ stripes = c.has_partial.ensures.same ∙ c.power.ensures.same in
+    let same : g.H.Held.stripes c.free.new.self ≡ stripes = c.free.ensures.same ∙ seen in
+    let name : Name = g.K.TableKey.name c.remove-key.result.0 in
+    let value : V = c.remove-key.result.1 in
+    let from : HeldSlot = source_in c.args.from c.args.hop in
+    let to : HeldSlot = record { index = c.args.to; bucket = c.args.hop.target; slot = c.in-Some.slot } in
+    let entry : slot_in stripes from ≡ Some (name, value) = ap (λ (l : List (StripeState V)). slot_in l from) (sym same) ∙ c.remove-key.ensures.entry in
+    let has : HasPartial g.K.TableKey.hash (slot_in stripes from) c.args.hop.partial = subst (λ (l : List (StripeState V)). HasPartial g.K.TableKey.hash (slot_in l from) c.args.hop.partial) c.power.ensures.same c.if-not-has_partial.ensures.value in
+    let partial : partial_of (g.K.TableKey.hash name) ≡ c.args.hop.partial = ap (λ n. partial_of (g.K.TableKey.hash n)) (some_pair_parts _ _ _ _ (sym entry ∙ has.entry)).0 ∙ has.partial_is in
+    let free : slot_in stripes to ≡ None = ap (λ (l : List (StripeState V)). slot_in l to) (sym seen) ∙ c.in-Some.ensures.found in
+    let mid : g.H.Held.stripes c.remove-key.new.self ≡ lifted stripes c.args.from c.args.hop = c.remove-key.ensures.content ∙ ap (λ (l : List (StripeState V)). lifted l c.args.from c.args.hop) same in
+    no_call g.K.TableKey.hash stripes c.args.from c.args.to c.args.hop c.requires power to refl refl c.in-Some.ensures.below c.if-not-has_partial.ensures.below name value entry partial free (g.H.Held.stripes c.place.new.self)
+    (c.place.ensures.content ∙ ap (λ (l : List (StripeState V)). set_slot l to (Some (name, value)) ((stripe_at l c.args.to).content.ledger + 1)) mid)
+
+pub returns-clause-stays : goal.returns-clause-stays
+returns-clause-stays g c =
+    let on = g.met.H.Held.stays_on in
+    on _ _ _ c.power.ensures.stays (on _ _ _ c.has_partial.ensures.stays (on _ _ _ c.free.ensures.stays (on _ _ _ c.remove-key.ensures.stays c.place.ensures.stays)))

@@ -1,0 +1,32 @@
+-- Stripes that a call holds, as a list.
+use Rattle.std.specs.Prelude.{◌≡◌, ℕ, true, ◌<◌, List, [], ◌∷◌, length, map, slice_index_or, slice_set}
+use Rattle.ck_model.specs.Contents.{Stripes}
+use Rattle.ck_model.specs.Slots.{Slot}
+use Rattle.ck_model.specs.declared.contents.Content.{Content}
+use Rattle.ck_stripe.specs.Stripe.{StripeState, HasBucket, bucket_of}
+
+module _ {V : Type 0} where
+  -- what stands for a stripe past the end
+  abbrev pub no_stripe : StripeState V
+  no_stripe = record { number = 0; s = 0; content = record { power = 0; rows = []; ledger = 0 }; settled = true; room = 0 }
+
+  abbrev pub stripe_at : List (StripeState V) → ℕ → StripeState V
+  stripe_at stripes i = slice_index_or stripes i no_stripe
+
+  -- the slots of bucket b of stripe i
+  abbrev pub bucket_at : List (StripeState V) → ℕ → ℕ → List (Slot V)
+  bucket_at stripes i b = bucket_of (stripe_at stripes i) b
+
+  -- stripe i with this content
+  abbrev pub set_content : List (StripeState V) → ℕ → Content V → List (StripeState V)
+  set_content stripes i c = slice_set stripes i (record (stripe_at stripes i) { content = c })
+
+  -- the contents by the numbers of their stripes
+  abbrev pub contents_of : List (StripeState V) → Stripes V
+  contents_of stripes = map (λ (t : StripeState V). (t.number, t.content)) stripes
+
+  -- bucket b is one of stripe i, and may be looked into
+  pub record IsInReach (stripes : List (StripeState V)) (i b : ℕ) : Type 0 where
+    pub inside : i < length stripes
+    pub settled : (stripe_at stripes i).settled ≡ true
+    pub own : HasBucket (stripe_at stripes i) b

@@ -1,0 +1,64 @@
+//! One hop of a displacement: an entry goes to its other bucket, and no binding changes.
+ghost use Rattle.std.specs.Prelude.{◌≡◌, ◌<◌, MatchBool};
+ghost use Rattle.std.specs.Bool.{OnTrue};
+ghost use Rattle.ck_section.specs.Stripes.{stripe_at, IsInReach};
+ghost use Rattle.ck_section.specs.Places.{slot_in};
+ghost use Rattle.ck_section.specs.Hops.{IsHopIn, HasPartial, CanHop, source_in, Hops, IsNoCall};
+ghost use Rattle.ck_section.specs.Calls.{ChangesContents};
+
+use crate::held::Held;
+use ck_key::TableKey;
+
+/// A hop, as a search of a table of 2^power buckets saw it: the entry of this partial in this slot of bucket `bucket`
+/// goes to its other bucket, `target`.
+#[derive(Clone, Copy, Debug, PartialEq, Eq)]
+pub struct Hop {
+    pub power: u32,
+    pub bucket: u64,
+    pub slot: usize,
+    pub partial: u8,
+    pub target: u64,
+}
+
+/// Carries out a hop from stripe `from` to stripe `to` of those that are held, and says whether it did.
+///
+/// It doesn't where the table has another power by now, where the slot has no entry of the partial, or where the target
+/// has no free slot; then nothing has changed.
+pub fn move_entry<K: TableKey + Drop, V: Drop, H: Held<K, V>>(
+    held: &mut H,
+    from: usize,
+    to: usize,
+    hop: Hop,
+) -> bool
+    requires { IsHopIn (H.stripes held.old) from to hop }
+    ensures exactly { MatchBool result (CanHop K.hash (H.stripes held.old) from to hop) (¬ (CanHop K.hash (H.stripes held.old) from to hop)) }
+    ensures moved { MatchBool result (Hops (H.stripes held.old) from to hop (H.stripes held.new)) (H.stripes held.new ≡ H.stripes held.old) }
+    ensures no_call { IsNoCall K.hash (stripe_at (H.stripes held.old) from).s (H.stripes held.old) (H.stripes held.new) }
+    ensures rest { ChangesContents (H.stripes held.old) (H.stripes held.new) }
+    ensures stays { H.stays held.old held.new }
+{
+    if held.power(from) != hop.power {
+        return false;
+    }
+    if !has_partial(held, from, hop) {
+        return false;
+    }
+    let Some(slot) = held.free(to, hop.target) else {
+        return false;
+    };
+    let (key, value) = held.remove(from, hop.bucket, hop.slot);
+    held.place(to, hop.target, slot, key, value);
+    true
+}
+
+// Whether the slot has an entry of the hop's partial.
+fn has_partial<K: TableKey, V, H: Held<K, V>>(held: &mut H, from: usize, hop: Hop) -> bool
+    requires { IsInReach (H.stripes held.old) from hop.bucket }
+    ensures value { MatchBool result (HasPartial K.hash (slot_in (H.stripes held.old) (source_in from hop)) hop.partial) (¬ (HasPartial K.hash (slot_in (H.stripes held.old) (source_in from hop)) hop.partial)) }
+    ensures below { OnTrue result (hop.slot < 4) }
+    ensures same { H.stripes held.new ≡ H.stripes held.old }
+    ensures stays { H.stays held.old held.new }
+{
+    let sketch = held.sketch(from, hop.bucket);
+    sketch.get(hop.slot).copied().flatten() == Some(hop.partial)
+}
