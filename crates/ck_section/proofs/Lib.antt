@@ -3,3 +3,4 @@ pub mod Decided
 pub mod Steps
 pub mod Rebinding
 pub mod Hopped
+pub mod AllStripes
