@@ -5,6 +5,7 @@ use ck_stripe::Stripe;
 use std::alloc::AllocError;
 
 /// The stripes of a slice, as held ones.
+#[derive(Drop)]
 pub struct Slice<'a, K: TableKey, V> {
     pub stripes: &'a mut [Stripe<K, V>],
 }
