@@ -4,7 +4,6 @@ use Rattle.std.specs.Prelude.{slice_index_or}
 use Rattle.std.proofs.lemmas.List.{get_or_default}
 use Rattle.ck_stripe.specs.Stripe.{StripeState}
 use Rattle.ck_section.specs.Stripes.{no_stripe, stripe_at, IsInReach}
-use Rattle.ck_section.specs.Calls.{ChangesContents}
 use Rattle.ck_section.specs.Whole.{AreAll}
 
 module _ {V : Type 0} where
@@ -29,15 +28,3 @@ module _ {V : Type 0} where
     settled = all.settled i lt;
     own = (below, ap (λ n. b % 2 ^ n) (all.one_s i lt) ∙ low ∙ sym (all.number i lt));
   }
-
-  -- they stay all where a call changes nothing but contents
-  pub all_after : (s : ℕ) (old new : List (StripeState V)) → AreAll s old → ChangesContents old new → AreAll s new
-  all_after s old new all changed =
-      let from : (i : ℕ) → i < length new → i < length old = λ i lt. subst (λ n. i < n) changed.count lt in
-      record {
-        many = all.many;
-        count = changed.count ∙ all.count;
-        number = λ i lt. ap (λ (t : StripeState V). t.number) (changed.each i (from i lt)) ∙ all.number i (from i lt);
-        one_s = λ i lt. ap (λ (t : StripeState V). t.s) (changed.each i (from i lt)) ∙ all.one_s i (from i lt);
-        settled = λ i lt. ap (λ (t : StripeState V). t.settled) (changed.each i (from i lt)) ∙ all.settled i (from i lt);
-      }
