@@ -5,3 +5,4 @@ pub mod Rebinding
 pub mod Hopped
 pub mod Rebound
 pub mod Kept
+pub mod AllStripes

@@ -13,6 +13,7 @@ mod slice;
 #[cfg(test)]
 mod tests;
 mod two_keys;
+mod whole;
 
 pub use held::Held;
 pub use hop::{Hop, move_entry};
@@ -23,3 +24,4 @@ pub use place::{Answer, HeldBucket, HeldSlot, KeyPlace, Place};
 pub use several::Several;
 pub use slice::Slice;
 pub use two_keys::update_two;
+pub use whole::{are_all, place_in_all};

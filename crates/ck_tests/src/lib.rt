@@ -5,3 +5,5 @@
 mod definitions;
 #[cfg(test)]
 mod memory;
+#[cfg(test)]
+mod owner;

@@ -1,0 +1,88 @@
+//! A table of stripes in one slice.
+ghost use Rattle.std.specs.Prelude.{◌≡◌};
+ghost use Rattle.ck_section.specs.Calls.{ChangesContents};
+ghost use Rattle.ck_section.specs.Whole.{AreAll};
+
+use crate::calls::{Calls, POWER};
+use ck_key::NumKey;
+use ck_section::{Slice, are_all, erase, find, insert, place_in_all, update};
+use ck_stripe::Stripe;
+use std::alloc::Global;
+use std::io;
+
+/// The table has 2^S stripes.
+const S: u32 = 10;
+
+#[derive(Drop)]
+pub struct Stripes {
+    stripes: Vec<Stripe<NumKey, u64>>,
+    ghost all: { AreAll 10 stripes.items },
+}
+
+impl Stripes {
+    /// A table of 2^POWER buckets.
+    pub fn open(alloc: Global) -> io::Result<Stripes> {
+        let mut stripes = Vec::with_capacity(alloc, 1 << S)?;
+        for number in 0..1 << S {
+            stripes.push(Stripe::open(alloc, S, number, POWER)?)?;
+        }
+        if !are_all(&stripes, S) {
+            return Err(io::ErrorKind::InvalidData.into());
+        }
+        Ok(Stripes { stripes })
+    }
+}
+
+impl Calls for Stripes {
+    fn find(&mut self, key: u64) -> Option<u64> {
+        find_in(&mut self.stripes, NumKey(key))
+    }
+
+    fn update(&mut self, key: u64, value: u64) -> Option<u64> {
+        update_in(&mut self.stripes, NumKey(key), value)
+    }
+
+    fn erase(&mut self, key: u64) -> Option<u64> {
+        erase_in(&mut self.stripes, NumKey(key))
+    }
+
+    fn insert(&mut self, key: u64, value: u64) -> Option<bool> {
+        insert_in(&mut self.stripes, NumKey(key), value)
+    }
+}
+
+fn find_in(stripes: &mut [Stripe<NumKey, u64>], key: NumKey) -> Option<u64>
+    requires { AreAll 10 stripes.old }
+    ensures { stripes.new ≡ stripes.old }
+{
+    let place = place_in_all(stripes, S, &key);
+    let mut held = Slice { stripes };
+    Some(find(&mut held, place, &key, |value| *value)?.reply)
+}
+
+fn update_in(stripes: &mut [Stripe<NumKey, u64>], key: NumKey, value: u64) -> Option<u64>
+    requires { AreAll 10 stripes.old }
+    ensures { ChangesContents stripes.old stripes.new }
+{
+    let place = place_in_all(stripes, S, &key);
+    let mut held = Slice { stripes };
+    Some(update(&mut held, place, &key, value)?.reply)
+}
+
+fn erase_in(stripes: &mut [Stripe<NumKey, u64>], key: NumKey) -> Option<u64>
+    requires { AreAll 10 stripes.old }
+    ensures { ChangesContents stripes.old stripes.new }
+{
+    let place = place_in_all(stripes, S, &key);
+    let mut held = Slice { stripes };
+    Some(erase(&mut held, place, &key)?.reply)
+}
+
+fn insert_in(stripes: &mut [Stripe<NumKey, u64>], key: NumKey, value: u64) -> Option<bool>
+    requires { AreAll 10 stripes.old }
+    ensures { ChangesContents stripes.old stripes.new }
+{
+    let place = place_in_all(stripes, S, &key);
+    let mut held = Slice { stripes };
+    Some(insert(&mut held, place, key, value).ok()?.reply)
+}

@@ -1,0 +1,13 @@
+-- All stripes of a table.
+use Rattle.std.specs.Prelude.{◌≡◌, ℕ, true, ◌^◌, ◌<◌, ◌≤◌, List, length}
+use Rattle.ck_stripe.specs.Stripe.{StripeState}
+use Rattle.ck_section.specs.Stripes.{stripe_at}
+
+module _ {V : Type 0} where
+  -- The 2^s stripes of a table in the order of their numbers, each settled.
+  pub record AreAll (s : ℕ) (stripes : List (StripeState V)) : Type 0 where
+    pub many : s ≤ 10
+    pub count : length stripes ≡ 2 ^ s
+    pub number : (i : ℕ) → i < length stripes → (stripe_at stripes i).number ≡ i
+    pub one_s : (i : ℕ) → i < length stripes → (stripe_at stripes i).s ≡ s
+    pub settled : (i : ℕ) → i < length stripes → (stripe_at stripes i).settled ≡ true
