@@ -5,14 +5,14 @@ use Rattle.ck_model.specs.Map.{Name}
 use Rattle.ck_model.proofs.Buckets.{index_below, second_below}
 use Rattle.ck_stripe.specs.Stripe.{StripeState}
 use Rattle.ck_section.specs.Stripes.{stripe_at}
-use Rattle.ck_section.specs.Places.{AreHeld, AreAll, HasStripe, HasBoth}
+use Rattle.ck_section.specs.Places.{AreHeld, AreAllHeld, HasStripe, HasBoth}
 use Rattle.ck_section.specs.Calls.{ChangesContents}
 
 module _ {V : Type 0} (s : ℕ) (old : List (StripeState V)) where
-  has_number : AreAll s old → (t : ℕ) → t < 2 ^ s → HasStripe old t
+  has_number : AreAllHeld s old → (t : ℕ) → t < 2 ^ s → HasStripe old t
   has_number all t lt = let inside : t < length old = subst (λ n. t < n) (sym all.count) lt in (t, inside, all.number t inside)
 
-  pub has_both : AreAll s old → (hash : Name → ℕ) (q : Name) → HasBoth hash s old q
+  pub has_both : AreAllHeld s old → (hash : Name → ℕ) (q : Name) → HasBoth hash s old q
   has_both all hash q = record { first = has_number all (index_of s (hash q)) (index_below s (hash q)); alternate = has_number all (second_of s (hash q)) (second_below s (hash q)) }
 
   pub held_after : (new : List (StripeState V)) → AreHeld s old → ChangesContents old new → AreHeld s new
@@ -34,12 +34,12 @@ module _ {V : Type 0} (s : ℕ) (old : List (StripeState V)) where
       inside_first : (i j : ℕ) → i < j → j < length new → i < length new
       inside_first i j lt l = omega arith
 
-  pub all_after : (new : List (StripeState V)) → AreAll s old → ChangesContents old new → AreAll s new
+  pub all_after : (new : List (StripeState V)) → AreAllHeld s old → ChangesContents old new → AreAllHeld s new
   all_after new all changes = record {
     held = held_after new all.held changes;
     count = changes.count ∙ all.count;
     number = λ i l. ap (λ (t : StripeState V). t.number) (changes.each i (subst (λ n. i < n) changes.count l)) ∙ all.number i (subst (λ n. i < n) changes.count l);
   }
 
-  pub all_same : (new : List (StripeState V)) → AreAll s old → new ≡ old → AreAll s new
-  all_same new all same = subst (λ (l : List (StripeState V)). AreAll s l) (sym same) all
+  pub all_same : (new : List (StripeState V)) → AreAllHeld s old → new ≡ old → AreAllHeld s new
+  all_same new all same = subst (λ (l : List (StripeState V)). AreAllHeld s l) (sym same) all

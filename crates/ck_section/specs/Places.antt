@@ -27,8 +27,8 @@ module _ {V : Type 0} where
     pub most : (stripe_at stripes 0).content.power ≤ 26
     pub rising : (i j : ℕ) → i < j → j < length stripes → (stripe_at stripes i).number < (stripe_at stripes j).number
 
-  -- All stripes of the table: stripe i is the one of number i.
-  pub record AreAll (s : ℕ) (stripes : List (StripeState V)) : Type 0 where
+  -- All stripes of the table, held, each at the index of its number.
+  pub record AreAllHeld (s : ℕ) (stripes : List (StripeState V)) : Type 0 where
     pub held : AreHeld s stripes
     pub count : length stripes ≡ 2 ^ s
     pub number : (i : ℕ) → i < length stripes → (stripe_at stripes i).number ≡ i

@@ -1,6 +1,6 @@
 //! Calls on all stripes of small tables, as rows of data.
 ghost use Rattle.std.specs.Prelude.{◌≢◌, ◌≤◌, ◌∷◌, [], IfOk};
-ghost use Rattle.ck_section.specs.Places.{AreAll};
+ghost use Rattle.ck_section.specs.Places.{AreAllHeld};
 
 use crate::{
     Hop, Pair, Several, Slice, assign, change, erase, find, insert, key_place, move_entry, update,
@@ -17,7 +17,7 @@ fn open_all(alloc: Global, s: u32, power: u32) -> Result<Vec<Stripe<NumKey, u64>
     requires s { s ≤ 10 }
     requires least { s ≤ power }
     requires most { power ≤ 26 }
-    ensures { IfOk result (λ stripes. AreAll s stripes.items) }
+    ensures { IfOk result (λ stripes. AreAllHeld s stripes.items) }
 {
     let mut stripes = Vec::new(alloc);
     for number in 0..1u32 << s {
@@ -44,8 +44,8 @@ const NO_ROOM: u64 = 999;
 
 // What a call answers: the value that was found or stood before, or how many names it bound anew.
 fn apply(held: &mut Slice<NumKey, u64>, s: u32, number: u64, act: Act) -> Option<u64>
-    requires { AreAll s held.old.stripes.now }
-    ensures { AreAll s held.new.stripes.now }
+    requires { AreAllHeld s held.old.stripes.now }
+    ensures { AreAllHeld s held.new.stripes.now }
 {
     let key = NumKey(number);
     let place = key_place(held, s, &key);
@@ -73,9 +73,9 @@ fn apply(held: &mut Slice<NumKey, u64>, s: u32, number: u64, act: Act) -> Option
 
 // Adds to the value of the first key what is taken from that of the second, and says whether both were bound.
 fn shift(held: &mut Slice<NumKey, u64>, s: u32, a: u64, b: u64) -> bool
-    requires all { AreAll s held.old.stripes.now }
+    requires all { AreAllHeld s held.old.stripes.now }
     requires different { a ≢ b }
-    ensures { AreAll s held.new.stripes.now }
+    ensures { AreAllHeld s held.new.stripes.now }
 {
     let (a, b) = (NumKey(a), NumKey(b));
     let place_a = key_place(held, s, &a);
@@ -166,10 +166,10 @@ fn two_keys(rt: HostRuntime) -> Result<(), Fail> {
 
 // Tries the hop of an entry of bucket 1 of a table of two stripes.
 fn try_hop(rt: &impl Abort, held: &mut Slice<NumKey, u64>, power: u32, partial: u8) -> bool
-    requires all { AreAll 1 held.old.stripes.now }
+    requires all { AreAllHeld 1 held.old.stripes.now }
     requires least { 1 ≤ power }
     requires most { power ≤ 26 }
-    ensures { AreAll 1 held.new.stripes.now }
+    ensures { AreAllHeld 1 held.new.stripes.now }
 {
     let target = ck_key::alternate(power, partial, 1);
     assert!(rt; target % 2 == 1);
@@ -217,7 +217,7 @@ fn hops(rt: HostRuntime) -> Result<(), Fail> {
 
 // Binds the key in a pair, and gives what is found there.
 fn insert_and_find(stripes: &mut [Stripe<NumKey, u64>], s: u32, key: u64) -> Option<u64>
-    requires { AreAll s stripes.old }
+    requires { AreAllHeld s stripes.old }
 {
     let mut pair = Pair::over(stripes);
     let _new = pair.insert(NumKey(key), key).is_ok();
@@ -227,7 +227,7 @@ fn insert_and_find(stripes: &mut [Stripe<NumKey, u64>], s: u32, key: u64) -> Opt
 
 // Exchanges the values of two keys.
 fn exchange(stripes: &mut [Stripe<NumKey, u64>], s: u32, a: u64, b: u64) -> bool
-    requires all { AreAll s stripes.old }
+    requires all { AreAllHeld s stripes.old }
     requires different { a ≢ b }
 {
     let mut several = Several::over(stripes);

@@ -1,8 +1,8 @@
-use Rattle.ck_section.specs.Places.{AreAll}
+use Rattle.ck_section.specs.Places.{AreAllHeld}
 use Rattle.ck_section.proofs.tests.hops.Given as goal
 
 abbrev pub invariant-loop-key : goal.invariant-loop-key
-invariant-loop-key g l = AreAll 1 l.held.stripes.now
+invariant-loop-key g l = AreAllHeld 1 l.held.stripes.now
 
 abbrev pub invariant-loop-want : goal.invariant-loop-want
-invariant-loop-want g l = AreAll 1 l.held.stripes.now
+invariant-loop-want g l = AreAllHeld 1 l.held.stripes.now

@@ -1,5 +1,5 @@
-use Rattle.ck_section.specs.Places.{AreAll}
+use Rattle.ck_section.specs.Places.{AreAllHeld}
 use Rattle.ck_section.proofs.tests.one_key.Given as goal
 
 abbrev pub invariant-loop-row : goal.invariant-loop-row
-invariant-loop-row g l = AreAll l.s l.held.stripes.now
+invariant-loop-row g l = AreAllHeld l.s l.held.stripes.now

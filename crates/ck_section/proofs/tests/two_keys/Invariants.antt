@@ -1,8 +1,8 @@
-use Rattle.ck_section.specs.Places.{AreAll}
+use Rattle.ck_section.specs.Places.{AreAllHeld}
 use Rattle.ck_section.proofs.tests.two_keys.Given as goal
 
 abbrev pub invariant-loop-key : goal.invariant-loop-key
-invariant-loop-key g l = AreAll l.s l.held.stripes.now
+invariant-loop-key g l = AreAllHeld l.s l.held.stripes.now
 
 abbrev pub invariant-loop-row : goal.invariant-loop-row
-invariant-loop-row g l = AreAll l.s l.held.stripes.now
+invariant-loop-row g l = AreAllHeld l.s l.held.stripes.now
