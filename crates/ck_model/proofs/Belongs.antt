@@ -7,7 +7,8 @@ use Rattle.std.specs.Ordering.{eq_by_cmp}
 use Rattle.std.specs.FinMap.{find}
 use Rattle.ck_model.specs.Map.{Name, name_cmp}
 use Rattle.ck_model.specs.Slots.{Slot, slot_at, taken_in}
-use Rattle.ck_model.specs.Contents.{Layout, Content, Binds, IsBucketOf, IsStripeOf, IsSound, row_at}
+use Rattle.ck_model.specs.declared.contents.Content.{Content}
+use Rattle.ck_model.specs.Contents.{Layout, Binds, IsBucketOf, IsStripeOf, IsSound, row_at}
 use Rattle.ck_model.proofs.Buckets.{index_below, second_below, index_lower, second_lower}
 use Rattle.ck_model.proofs.Names.{same_name}
 use Rattle.ck_model.proofs.Found.{found_either}

@@ -7,7 +7,8 @@ use Rattle.std.specs.FinMap.{find, get, len, entries, contains_key, from_entries
 use Rattle.std.specs.FinMap.Entries.{is_sorted}
 use Rattle.ck_model.specs.Map.{Name, name_cmp, Map}
 use Rattle.ck_model.specs.Numbered.{IsIn, AreDistinct, numbers, Holds}
-use Rattle.ck_model.specs.Contents.{Layout, Content, Stripes, pairs_in, pairs_of, bindings, NamesApart, Lawful}
+use Rattle.ck_model.specs.declared.contents.Content.{Content}
+use Rattle.ck_model.specs.Contents.{Layout, Stripes, pairs_in, pairs_of, bindings, NamesApart, Lawful}
 use Rattle.ck_model.proofs.Numbered.{in_held}
 use Rattle.ck_model.proofs.Names.{maps_alike, is_name}
 use Rattle.ck_model.proofs.Found.{Once, get-bindings, bound_where}

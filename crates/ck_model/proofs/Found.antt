@@ -6,7 +6,8 @@ use Rattle.std.specs.Cmp.Lexicographic.{nat_list_cmp_total}
 use Rattle.std.specs.FinMap.{find, get, get-from_entries}
 use Rattle.ck_model.specs.Map.{Name, name_cmp}
 use Rattle.ck_model.specs.Numbered.{AreDistinct, numbers, Holds, listed}
-use Rattle.ck_model.specs.Contents.{Content, Stripes, Binds, pairs_in, pairs_of, bindings}
+use Rattle.ck_model.specs.declared.contents.Content.{Content}
+use Rattle.ck_model.specs.Contents.{Stripes, Binds, pairs_in, pairs_of, bindings}
 use Rattle.ck_model.proofs.Numbered.{one_content, in_listed, listed_as}
 
 module _ {V : Type 0} where

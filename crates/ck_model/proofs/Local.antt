@@ -8,7 +8,8 @@ use Rattle.ck_model.specs.declared.history.Call.TheVariants.{On}
 use Rattle.ck_model.specs.declared.history.Reply.{Reply}
 use Rattle.ck_model.specs.Map.{Name, name_cmp, Answers}
 use Rattle.ck_model.specs.Numbered.{IsIn, AreDistinct, numbers, Holds, with_content}
-use Rattle.ck_model.specs.Contents.{Layout, Content, Stripes, Binds, pairs_in, bindings, IsSound, Lawful}
+use Rattle.ck_model.specs.declared.contents.Content.{Content}
+use Rattle.ck_model.specs.Contents.{Layout, Stripes, Binds, pairs_in, bindings, IsSound, Lawful}
 use Rattle.ck_model.specs.Sections.{Owns, HasAll, Renewed, Section, IdentitySection}
 use Rattle.ck_model.proofs.Numbered.{in_held, held_of_in, one_content, same_option, numbers-with, holds_with, with_here, with_else}
 use Rattle.ck_model.proofs.Names.{dec_name, maps_alike}

@@ -7,7 +7,8 @@ use Rattle.ck_model.specs.declared.history.Call.TheVariants.{On, ChangeTwo, Len,
 use Rattle.ck_model.specs.declared.history.Reply.{Reply}
 use Rattle.ck_model.specs.Map.{Name, Map, Answers, AnswersTwo, Step}
 use Rattle.ck_model.specs.Numbered.{IsIn, AreDistinct, numbers, Holds, over}
-use Rattle.ck_model.specs.Contents.{Layout, Content, Stripes, Binds, bindings, Lawful, whole}
+use Rattle.ck_model.specs.declared.contents.Content.{Content}
+use Rattle.ck_model.specs.Contents.{Layout, Stripes, Binds, bindings, Lawful, whole}
 use Rattle.ck_model.specs.Sections.{Owns, HasAll, OwnsCall, Renewed, Section, IdentitySection}
 use Rattle.ck_model.specs.Laws.{ArePartOf}
 use Rattle.ck_model.proofs.Numbered.{same_option, dec_in, in_held, held_of_in, over_miss, over_hit, in_listed, listed_as, distinct_listed}

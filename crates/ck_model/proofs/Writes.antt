@@ -9,18 +9,19 @@ use Rattle.std.proofs.lemmas.Bool.{cases_eq}
 use Rattle.std.proofs.lemmas.Option.{none-some, some_pair_parts}
 use Rattle.ck_model.specs.Map.{Name, name_cmp}
 use Rattle.ck_model.specs.Slots.{Slot, slot_at}
-use Rattle.ck_model.specs.Contents.{Layout, Content, row_at, pairs_in, IsBucketOf, NamesApart, IsSound}
+use Rattle.ck_model.specs.declared.contents.Content.{Content}
+use Rattle.ck_model.specs.Contents.{Layout, row_at, pairs_in, IsBucketOf, NamesApart, IsSound}
 use Rattle.ck_model.proofs.Belongs.{found_entry}
 use Rattle.ck_model.proofs.Moves.{Between, slot_between, row_between, length-between, IsOf, value_in, find-between, find-between_other, apart-between, apart_without}
 
 -- a slot that is not free is one of the slots
-slot_inside : {X : Type 0} (slots : List (Option X)) (i : ℕ) (e : X) → slice_index_or slots i None ≡ Some e → i < length slots
+pub slot_inside : {X : Type 0} (slots : List (Option X)) (i : ℕ) (e : X) → slice_index_or slots i None ≡ Some e → i < length slots
 slot_inside [] i e is = absurd (none-some e is)
 slot_inside (o ∷ slots) zero e is = omega arith
 slot_inside (o ∷ slots) (suc i) e is = let z = slot_inside slots i e is in omega arith
 
 -- a row with a slot that is not free is one of the rows
-row_inside : {X : Type 0} (rows : List (List (Option X))) (r i : ℕ) (e : X) → slice_index_or (slice_index_or rows r []) i None ≡ Some e → r < length rows
+pub row_inside : {X : Type 0} (rows : List (List (Option X))) (r i : ℕ) (e : X) → slice_index_or (slice_index_or rows r []) i None ≡ Some e → r < length rows
 row_inside [] r i e is = absurd (none-some e is)
 row_inside (row ∷ rows) zero i e is = omega arith
 row_inside (row ∷ rows) (suc r) i e is = let z = row_inside rows r i e is in omega arith
@@ -49,6 +50,7 @@ module _ {V : Type 0} where
   -- The content of the stripe t becomes another sound one, in which the name q is bound otherwise and each other name as before.
   pub record Writes (k : Layout) (t : ℕ) (c c2 : Content V) (q : Name) (o o2 : Option V) : Type 0 where
     pub sound : IsSound k t c2
+    pub power : c2.power ≡ c.power
     pub was : find name_cmp q (pairs_in c) ≡ o
     pub is : find name_cmp q (pairs_in c2) ≡ o2
     pub others : (x : Name) → x ≢ q → find name_cmp x (pairs_in c2) ≡ find name_cmp x (pairs_in c)
@@ -124,6 +126,7 @@ module _ {V : Type 0} where
           let more : length (pairs_in (written c r i (Some (q, v)) 0)) ≡ length (pairs_in c) + 1 = ap length b.is ∙ length-between b.before (q, v) b.after ∙ ap (λ es. length es + 1) (sym b.was) in
           record {
             sound = sound_after (Some (q, v)) (c.ledger + 1) (λ p w e. subst (λ (n : Name). IsBucketOf k.hash c.power n (r * 2 ^ k.s + t)) (some_pair_parts _ _ _ _ e).0 of) z.apart (ap (λ n. n + 1) sound.ledger ∙ sym more);
+            power = refl;
             was = z.was;
             is = z.is;
             others = z.others;
@@ -143,6 +146,7 @@ module _ {V : Type 0} where
           let count : c.ledger ≡ length (pairs_in c) = sound.ledger in
           record {
             sound = sound_after None (c.ledger - 1) (λ p w e. absurd (none-some _ e)) z.apart (omega (arith, less, count));
+            power = refl;
             was = z.was;
             is = z.is;
             others = z.others;
@@ -158,6 +162,7 @@ module _ {V : Type 0} where
           ap length b.was ∙ length-between b.before (q, v) b.after ∙ sym (ap length b.is ∙ length-between b.before (q, w) b.after) in
           record {
             sound = sound_after (Some (q, w)) c.ledger (λ p u e. subst (λ (n : Name). IsBucketOf k.hash c.power n (r * 2 ^ k.s + t)) (some_pair_parts _ _ _ _ e).0 (sound.placed r i q v is)) z.apart (sound.ledger ∙ same);
+            power = refl;
             was = z.was;
             is = z.is;
             others = z.others;

@@ -1,7 +1,7 @@
 -- What stripes contain, which plain map that is, and which contents are lawful.
 use Rattle.std.specs.Prelude.{◌≡◌, ◌⊎◌, ℕ, ◌+◌, ◌*◌, ◌-◌, ◌/◌, ◌%◌, ◌^◌, ◌<◌, ◌≤◌, ◌==◌, if◌then◌else◌, List, [], ◌∷◌, Some, None, length, slice_index_or, flat_map, All}
 use Rattle.std.specs.FinMap.{find, from_entries}
-pub use Rattle.ck_model.specs.declared.contents.Content.{Content}
+use Rattle.ck_model.specs.declared.contents.Content.{Content}
 use Rattle.ck_model.specs.Arithmetic.{index_of, second_of}
 use Rattle.ck_model.specs.Map.{Name, name_cmp, Map}
 use Rattle.ck_model.specs.Numbered.{AreDistinct, numbers, Holds, listed}

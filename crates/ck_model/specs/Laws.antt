@@ -9,7 +9,8 @@ use Rattle.ck_model.specs.Arithmetic.{index_of, second_of, alternate_of}
 use Rattle.ck_model.specs.Map.{Name, Map, Step}
 use Rattle.ck_model.specs.History.{After, IsLegal, StartsWith}
 use Rattle.ck_model.specs.Numbered.{Holds, over}
-use Rattle.ck_model.specs.Contents.{Layout, Content, Stripes, bindings, Lawful, whole}
+use Rattle.ck_model.specs.declared.contents.Content.{Content}
+use Rattle.ck_model.specs.Contents.{Layout, Stripes, bindings, Lawful, whole}
 use Rattle.ck_model.specs.Sections.{Section, IdentitySection}
 
 -- the call speaks of the name

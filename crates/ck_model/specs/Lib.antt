@@ -1,6 +1,8 @@
 pub mod Arithmetic
 pub mod Numbered
 pub mod Map
+pub mod PlainMap
+pub mod Plain
 pub mod History
 pub mod Slots
 pub mod Contents

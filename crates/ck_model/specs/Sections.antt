@@ -5,7 +5,8 @@ use Rattle.ck_model.specs.declared.history.Call.TheVariants.{On, ChangeTwo, Len,
 use Rattle.ck_model.specs.declared.history.Reply.{Reply}
 use Rattle.ck_model.specs.Map.{Name, Step}
 use Rattle.ck_model.specs.Numbered.{IsIn, numbers, Holds}
-use Rattle.ck_model.specs.Contents.{Layout, Content, Stripes, IsStripeOf, Lawful, bindings}
+use Rattle.ck_model.specs.declared.contents.Content.{Content}
+use Rattle.ck_model.specs.Contents.{Layout, Stripes, IsStripeOf, Lawful, bindings}
 
 module _ {V : Type 0} where
   -- the stripes of the name are held

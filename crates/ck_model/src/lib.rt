@@ -7,4 +7,5 @@ pub mod contents;
 pub mod history;
 pub mod hop;
 pub mod laws;
+pub mod plain;
 pub mod settings;

@@ -9,4 +9,4 @@ pub mod Feeds
 pub mod Carry
 pub mod Shown
 pub mod Whole
-pub mod Bridge
+pub mod ShownPaths

@@ -2,4 +2,4 @@ pub mod Route
 pub mod Queue
 pub mod Trace
 pub mod Progress
-pub mod Bridge
+pub mod Laws

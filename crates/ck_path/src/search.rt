@@ -1,8 +1,9 @@
 //! The search.
 //!
-//! A depth-first walk, as cuckoo hashing first had, moves up to hundreds of entries; a breadth-first one finds a shortest
-//! path, of at most four hops with four slots to a bucket, and so the fewest entries move and the fewest locks are taken
-//! (Li, Andersen, Kaminsky, Freedman 2014, "Algorithmic Improvements for Fast Concurrent Cuckoo Hashing", section 4.3).
+//! A random walk through the table, as cuckoo hashing first had, may move hundreds of entries. A breadth-first search finds
+//! a shortest path, which has at most four hops where it looks at 682 buckets of four slots, so that few entries move and
+//! few locks are taken (Li, Andersen, Kaminsky, Freedman 2014, "Algorithmic Improvements for Fast Concurrent Cuckoo
+//! Hashing").
 ghost use Rattle.std.specs.Prelude.{◌≡◌, ℕ, ◌+◌, ◌^◌, ◌<◌, ◌≤◌, ◌↔◌, ◌++◌, List, Option, Bool, true, Some, None, IsTrue, IsSome, IfSome, IfNone, MatchOption, option_map, length};
 ghost use Rattle.arrayvec.specs.ArrayVec.{array_vec_len};
 ghost use Rattle.ck_model.specs.Sketches.{Sketch, has_free};

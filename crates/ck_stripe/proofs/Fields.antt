@@ -29,16 +29,27 @@ module _ {V : Type 0} (hash : Name → ℕ) where
       let back : t.content.power + 1 - 1 ≡ t.content.power = omega arith in
       ap (λ (q : ℕ). state_from t.number t.s (t.content.power + 1) (split_rows hash t.s t.number q t.content.rows) t.content.ledger false t.room) back
 
-  pub shaped_settled : (t : StripeState V) → IsConsistent hash t → t.settled ≡ true → IsShaped t.s t.number t.content
-  shaped_settled t kept e = subst (λ (w : StripeState V). IsShaped t.s t.number w.content) (shown_settled t e) kept.shaped
+  module _ (t now : StripeState V) (kept : IsConsistent hash t) (is : shown hash t ≡ now) where
+    pub shaped_now : IsShaped now.s now.number now.content
+    shaped_now = subst (λ (w : StripeState V). IsShaped w.s w.number w.content) is kept.shaped
 
-  pub consistent_raised : (t : StripeState V) → IsConsistent hash t → t.settled ≡ true → t.content.power < 26 → IsReserved t → IsConsistent hash (raised t)
-  consistent_raised t kept e below reserved =
-      let shaped : IsShaped t.s t.number t.content = shaped_settled t kept e in
-      record {
-        shaped = subst (λ (w : StripeState V). IsShaped t.s t.number w.content) (sym (shown_raised t)) (shaped_doubled hash t.s t.number t.content shaped below);
-        late = λ _. (omega (arith, shaped.least), reserved);
-      }
+    module _ (settled : now.settled ≡ true) where
+      pub stored_settled : t.settled ≡ true
+      stored_settled = ap (λ (w : StripeState V). w.settled) is ∙ settled
+
+      pub now_stored : now ≡ t
+      now_stored = sym is ∙ shown_settled t stored_settled
+
+      pub now_raised : shown hash (raised t) ≡ doubled now
+      now_raised = shown_raised t ∙ ap doubled (sym now_stored)
+
+      pub consistent_raised : now.content.power < 26 → IsReserved now → IsConsistent hash (raised t)
+      consistent_raised below reserved =
+          let shaped : IsShaped t.s t.number t.content = subst (λ (w : StripeState V). IsShaped w.s w.number w.content) now_stored shaped_now in
+          record {
+            shaped = subst (λ (w : StripeState V). IsShaped t.s t.number w.content) (sym (shown_raised t)) (shaped_doubled hash t.s t.number t.content shaped (subst (λ (w : StripeState V). w.content.power < 26) now_stored below));
+            late = λ _. (omega (arith, shaped.least), subst IsReserved now_stored reserved);
+          }
 
   pub consistent_room : (t : StripeState V) → IsConsistent hash t → (n : ℕ) → t.room ≤ n → IsConsistent hash (state_from t.number t.s t.content.power t.content.rows t.content.ledger t.settled n)
   consistent_room t kept n le = record {

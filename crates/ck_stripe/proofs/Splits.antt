@@ -158,17 +158,20 @@ module _ {V : Type 0} (hash : Name → ℕ) (s t p : ℕ) (rows : List (List (Sl
   pub length-split_to : (r : ℕ) → r ≤ length rows → length (split_to r) ≡ length rows + r
   length-split_to r le = length-half (low_rows hash s t p 0 rows) rows (high_rows hash s t p 0 rows) r (length-lows hash s t p rows) (length-highs hash s t p rows) le
 
+  pub length-under_way : (items : List (List (Slot V))) (r : ℕ) → items ≡ split_to r → r ≤ length rows → length items ≡ length rows + r
+  length-under_way items r is le = ap length is ∙ length-split_to r le
+
   -- one row more is split, and what leaves it is appended
-  pub split_step : (items : List (List (Slot V))) (r b : ℕ) (x low high : List (Slot V)) → items ≡ split_to r → r < length rows → b ≡ r * 2 ^ s + t → x ≡ get_or items r x
-      → low ≡ low_row hash p b x → high ≡ high_row hash p b x → set items r low ++ high ∷ [] ≡ split_to (r + 1)
-  split_step items r b x low high is lt at read el eh =
+  pub split_step : (items after : List (List (Slot V))) (r b : ℕ) (x low high : List (Slot V)) → items ≡ split_to r → r < length rows → b ≡ r * 2 ^ s + t → x ≡ get_or items r x
+      → low ≡ low_row hash p b x → high ≡ high_row hash p b x → after ≡ set items r low ++ high ∷ [] → after ≡ split_to (r + 1)
+  split_step items after r b x low high is lt at read el eh wrote =
       let within : r < length items = subst (λ n. r < n) (sym (ap length is ∙ length-split_to r (omega arith))) (omega arith) in
       let old : x ≡ get_or rows r [] = get_or_read items r x within read [] ∙ ap (λ ys. get_or ys r []) is ∙ half_at (low_rows hash s t p 0 rows) rows (high_rows hash s t p 0 rows) r [] (length-lows hash s t p rows) lt in
       let l : low ≡ get_or (low_rows hash s t p 0 rows) r [] = el ∙ ap (λ n. low_row hash p n x) at ∙ ap (low_row hash p (r * 2 ^ s + t)) old ∙ sym (low_at hash s t p rows r lt) in
       let h : high ≡ get_or (high_rows hash s t p 0 rows) r [] = eh ∙ ap (λ n. high_row hash p n x) at ∙ ap (high_row hash p (r * 2 ^ s + t)) old ∙ sym (high_at hash s t p rows r lt) in
-      ap (λ ys. set ys r low ++ high ∷ []) is ∙ ap (λ y. set (split_to r) r y ++ high ∷ []) l ∙ ap (λ y. set (split_to r) r (get_or (low_rows hash s t p 0 rows) r []) ++ y ∷ []) h
+      wrote ∙ ap (λ ys. set ys r low ++ high ∷ []) is ∙ ap (λ y. set (split_to r) r y ++ high ∷ []) l ∙ ap (λ y. set (split_to r) r (get_or (low_rows hash s t p 0 rows) r []) ++ y ∷ []) h
       ∙ half_step (low_rows hash s t p 0 rows) rows (high_rows hash s t p 0 rows) r [] (length-lows hash s t p rows) (length-highs hash s t p rows) lt
 
-  pub split_done : (r : ℕ) → r ≡ length rows → split_to r ≡ split_rows hash s t p rows
+  pub split_done : (items : List (List (Slot V))) (r : ℕ) → items ≡ split_to r → r ≡ length rows → items ≡ split_rows hash s t p rows
   unfolding split_rows
-  split_done r e = half_done (low_rows hash s t p 0 rows) rows (high_rows hash s t p 0 rows) r (length-lows hash s t p rows) (length-highs hash s t p rows) e
+  split_done items r is e = is ∙ half_done (low_rows hash s t p 0 rows) rows (high_rows hash s t p 0 rows) r (length-lows hash s t p rows) (length-highs hash s t p rows) e

@@ -5,15 +5,16 @@ use Rattle.std.specs.Option.{option_to_list}
 use Rattle.std.proofs.Math.Pow.{pow_mono}
 use Rattle.std.proofs.lemmas.Nat.{pow_pos, div_below}
 use Rattle.std.proofs.lemmas.Bool.{true≢false}
-use Rattle.std.proofs.lemmas.List.{length-append, length-set, length-replicate}
+use Rattle.std.proofs.lemmas.Option.{none-some}
+use Rattle.std.proofs.lemmas.List.{length-append, length-set, length-replicate, get_or_read, get_or-set_same}
 use Rattle.std.proofs.lemmas.List.Elements.{All-set, All-replicate}
 use Rattle.ck_model.specs.declared.contents.Content.{Content}
 use Rattle.ck_model.specs.Map.{Name}
 use Rattle.ck_model.specs.Slots.{Slot, slot_at, taken_in}
-use Rattle.ck_model.specs.Contents.{row_at}
-use Rattle.ck_stripe.specs.Stripe.{StripeState, HasBucket, bucket_of, state_from, empty_content, IsShaped, IsConsistent}
+use Rattle.ck_model.specs.Contents.{Layout, row_at, NamesApart, IsSound}
+use Rattle.ck_stripe.specs.Stripe.{StripeState, HasBucket, bucket_of, state_from, shown, empty_content, IsShaped, IsConsistent}
 use Rattle.ck_stripe.proofs.Doubled.{all_buckets}
-use Rattle.ck_stripe.proofs.Fields.{shown_settled, shaped_settled}
+use Rattle.ck_stripe.proofs.Fields.{shown_settled, shaped_now, stored_settled, now_stored}
 
 -- the number of pairs, where one row is written
 count_rows : {X : Type 0} (rows : List (List (Option X))) (r : ℕ) (row : List (Option X)) → r < length rows
@@ -54,9 +55,19 @@ few_pairs (row ∷ rows) four =
     let again = few_pairs rows (λ i d lt. four (suc i) d (omega arith)) in
     omega arith
 
-pub no_pairs : (X : Type 0) (n : ℕ) → length (flat_map (taken_in {X = X}) (replicate n (replicate 4 None))) ≡ 0
+no_pairs : (X : Type 0) (n : ℕ) → flat_map (taken_in {X = X}) (replicate n (replicate 4 None)) ≡ []
 no_pairs W zero = refl
 no_pairs W (suc n) = no_pairs W n
+
+no_entry : (V : Type 0) (n r i : ℕ) → slot_at {V = V} (row_at {V = V} (replicate n (replicate 4 None)) r) i ≡ None
+no_entry W zero r i = refl
+no_entry W (suc n) zero i = free 4 i
+  where
+    free : (m j : ℕ) → slot_at {V = W} (replicate m None) j ≡ None
+    free zero j = refl
+    free (suc m) zero = refl
+    free (suc m) (suc j) = free m j
+no_entry W (suc n) (suc r) i = no_entry W n r i
 
 pub one_full : {X : Type 0} (o : Option X) → IsSome o → length (option_to_list o) ≡ 1
 one_full None h = absurd (true≢false (sym h))
@@ -78,25 +89,21 @@ module _ {V : Type 0} where
       omega arith
 
   -- at least one entry where a slot is full
-  pub some_entry : (s t : ℕ) (c : Content V) (r i : ℕ) → IsShaped s t c → r < length c.rows → i < 4 → IsSome (slot_at (row_at c.rows r) i) → 0 < c.ledger
-  some_entry s t c r i shaped lt below full =
-      let gone = count_rows c.rows r (set (row_at c.rows r) i None) lt in
-      let four : length (row_at c.rows r) ≡ 4 = shaped.four r [] lt in
-      let slot = count_slots (row_at c.rows r) i None (omega arith) in
-      let one = one_full (slot_at (row_at c.rows r) i) full in
+  pub some_entry : (now : StripeState V) (b r i : ℕ) → IsShaped now.s now.number now.content → r ≡ b / 2 ^ now.s → r < length now.content.rows → i < 4 → IsSome (slot_at (bucket_of now b) i) → 0 < now.content.ledger
+  some_entry now b r i shaped at lt below full =
+      let rows : List (List (Slot V)) = now.content.rows in
+      let gone = count_rows rows r (set (row_at rows r) i None) lt in
+      let four : length (row_at rows r) ≡ 4 = shaped.four r [] lt in
+      let slot = count_slots (row_at rows r) i None (omega arith) in
+      let one = one_full (slot_at (row_at rows r) i) (subst (λ n. IsSome (slot_at (row_at rows n) i)) (sym at) full) in
       let is = shaped.ledger in
       omega arith
 
-  -- the bucket of a number is a row of the fields
-  pub at_row : (now stored : StripeState V) → now ≡ stored → (b r : ℕ) → r ≡ b / 2 ^ now.s → bucket_of now b ≡ row_at stored.content.rows r
-  at_row now stored same b r is = ap (row_at now.content.rows) (sym is) ∙ ap (λ (w : StripeState V). row_at w.content.rows r) same
-
   -- a slot of a settled stripe is written
-  pub consistent_written : (hash : Name → ℕ) (t : StripeState V) → IsConsistent hash t → t.settled ≡ true → (r i : ℕ) (o : Slot V) (slots : List (Slot V)) (ledger : ℕ) → r < length t.content.rows → i < 4
+  consistent_written : (hash : Name → ℕ) (t : StripeState V) → IsShaped t.s t.number t.content → t.settled ≡ true → (r i : ℕ) (o : Slot V) (slots : List (Slot V)) (ledger : ℕ) → r < length t.content.rows → i < 4
       → slots ≡ set (row_at t.content.rows r) i o → ledger + length (option_to_list (slot_at (row_at t.content.rows r) i)) ≡ t.content.ledger + length (option_to_list o)
       → IsConsistent hash (state_from t.number t.s t.content.power (set t.content.rows r slots) ledger t.settled t.room)
-  consistent_written hash t kept settled r i o slots ledger lt below is counts =
-      let shaped : IsShaped t.s t.number t.content = shaped_settled hash t kept settled in
+  consistent_written hash t shaped settled r i o slots ledger lt below is counts =
       let four : length (row_at t.content.rows r) ≡ 4 = shaped.four r [] lt in
       let slot = count_slots (row_at t.content.rows r) i o (omega arith) in
       let same : length (taken_in slots) ≡ length (taken_in (set (row_at t.content.rows r) i o)) = ap (λ (xs : List (Slot V)). length (taken_in xs)) is in
@@ -115,6 +122,37 @@ module _ {V : Type 0} where
         late = λ f. absurd (true≢false (sym settled ∙ f));
       }
 
+  -- What a function stores that reads row r of a settled stripe, which is bucket b.
+  module _ (hash : Name → ℕ) (t now : StripeState V) (kept : IsConsistent hash t) (is : shown hash t ≡ now) (settled : now.settled ≡ true) (b r : ℕ) (at : r ≡ b / 2 ^ now.s) (lt : r < length now.content.rows) where
+    below_stored : r < length t.content.rows
+    below_stored = subst (λ (w : StripeState V). r < length w.content.rows) (now_stored hash t now kept is settled) lt
+
+    here : bucket_of now b ≡ row_at t.content.rows r
+    here = ap (row_at now.content.rows) (sym at) ∙ ap (λ (w : StripeState V). row_at w.content.rows r) (now_stored hash t now kept is settled)
+
+    -- it reads the bucket
+    pub row_read : (row : List (Slot V)) → row ≡ get_or t.content.rows r row → row ≡ bucket_of now b
+    row_read row read = get_or_read t.content.rows r row below_stored read [] ∙ sym here
+
+    -- it writes the bucket
+    pub row_wrote : (row : List (Slot V)) → bucket_of (shown hash (state_from t.number t.s t.content.power (set t.content.rows r row) t.content.ledger t.settled t.room)) b ≡ row
+    row_wrote row =
+        let after : StripeState V = state_from t.number t.s t.content.power (set t.content.rows r row) t.content.ledger t.settled t.room in
+        let number : r ≡ b / 2 ^ t.s = at ∙ ap (λ (w : StripeState V). b / 2 ^ w.s) (now_stored hash t now kept is settled) in
+        ap (λ (w : StripeState V). bucket_of w b) (shown_settled hash after (stored_settled hash t now kept is settled))
+        ∙ ap (row_at after.content.rows) (sym number) ∙ get_or-set_same t.content.rows r row [] below_stored
+
+    -- where it writes one slot, and follows it in the ledger, the fields stay consistent
+    pub slot_written : (i : ℕ) → i < 4 → (row after : List (Slot V)) → row ≡ get_or t.content.rows r row → (o : Slot V) → after ≡ set row i o
+        → (ledger : ℕ) → ledger + length (option_to_list (slot_at (bucket_of now b) i)) ≡ now.content.ledger + length (option_to_list o)
+        → IsConsistent hash (state_from t.number t.s t.content.power (set t.content.rows r after) ledger t.settled t.room)
+    slot_written i below row after read o wrote ledger counts =
+        let same : now ≡ t = now_stored hash t now kept is settled in
+        let old = ap (λ (x : List (Slot V)). length (option_to_list (slot_at x i))) here in
+        let entries = ap (λ (w : StripeState V). w.content.ledger) same in
+        consistent_written hash t (subst (λ (w : StripeState V). IsShaped w.s w.number w.content) same (shaped_now hash t now kept is)) (stored_settled hash t now kept is settled) r i o after ledger below_stored below
+        (wrote ∙ ap (λ (x : List (Slot V)). set x i o) (row_read row read ∙ here)) (omega arith)
+
   pub consistent_empty : (hash : Name → ℕ) (s number power room : ℕ) → s ≤ 10 → number < 2 ^ s → s ≤ power → power ≤ 26
       → IsConsistent {V = V} hash (record { number = number; s = s; content = empty_content s power; settled = true; room = room })
   consistent_empty hash s number power room many below least most = record {
@@ -125,7 +163,26 @@ module _ {V : Type 0} where
       most = most;
       rows = length-replicate (2 ^ (power - s)) (replicate 4 None);
       four = All-replicate (λ (row : List (Slot V)). length row ≡ 4) (2 ^ (power - s)) (replicate 4 None) refl;
-      ledger = sym (no_pairs (Name × V) (2 ^ (power - s)));
+      ledger = sym (ap length (no_pairs (Name × V) (2 ^ (power - s))));
     };
     late = λ f. absurd (true≢false f);
+  }
+
+  -- fields that are as many free rows as there is memory for
+  pub opened : (number s power room : ℕ) (rows : List (List (Slot V))) → rows ≡ replicate (2 ^ (power - s)) (replicate 4 None) → room ≡ 2 ^ (power - s)
+      → state_from number s power rows 0 true room ≡ record { number = number; s = s; content = empty_content s power; settled = true; room = 2 ^ (power - s) }
+  opened number s power room rows free enough =
+      ap (λ (xs : List (List (Slot V))). state_from number s power xs 0 true room) free ∙ ap (λ n. state_from number s power (replicate (2 ^ (power - s)) (replicate 4 None)) 0 true n) enough
+
+  -- an empty content is sound
+  pub sound_empty : (k : Layout) (t s power : ℕ) → k.s ≡ s → t < 2 ^ s → s ≤ power → power ≤ k.max → IsSound {V = V} k t (empty_content s power)
+  sound_empty k t s power same below least most = record {
+    number = subst (λ n. t < 2 ^ n) (sym same) below;
+    least = omega arith;
+    most = most;
+    rows = length-replicate (2 ^ (power - s)) (replicate 4 None) ∙ ap (λ n. 2 ^ (power - n)) (sym same);
+    four = All-replicate (λ (row : List (Slot V)). length row ≡ 4) (2 ^ (power - s)) (replicate 4 None) refl;
+    placed = λ r i q v e. absurd (none-some _ (sym (no_entry V (2 ^ (power - s)) r i) ∙ e));
+    apart = subst NamesApart (sym (no_pairs (Name × V) (2 ^ (power - s)))) tt;
+    ledger = sym (ap length (no_pairs (Name × V) (2 ^ (power - s))));
   }

@@ -1,12 +1,12 @@
 //! One stripe of the table. A doubling raises the power, and the entries are moved when the stripe is next looked into:
 //! so a table that grows waits for no stripe that nobody asks for.
-ghost use Rattle.std.specs.Prelude.{◌≡◌, ◌≤◌, ◌<◌, ◌+◌, ◌-◌, ◌*◌, ◌/◌, ◌^◌, ℕ, true, false, Some, None, IsSome, IfOk, OnOk, OnErr, length, vec_capacity};
+ghost use Rattle.std.specs.Prelude.{◌≡◌, ◌≤◌, ◌<◌, ◌+◌, ◌-◌, ◌*◌, ◌/◌, ◌^◌, ℕ, true, false, Some, None, IsSome, IfOk, OnOk, OnErr, length, max, vec_capacity};
 ghost use Rattle.std.specs.List.Sorted.{IsPermutation};
 ghost use Rattle.ck_model.specs.Slots.{slot_at};
-ghost use Rattle.ck_model.specs.Contents.{pairs_in};
+ghost use Rattle.ck_model.specs.Contents.{Layout, pairs_in, IsSound};
 ghost use Rattle.ck_bucket.specs.Bucket.{ReplacesValue};
 ghost use Rattle.ck_stripe.specs.Doubling.{split_rows, doubled_content, SendsEach};
-ghost use Rattle.ck_stripe.specs.Stripe.{HasBucket, bucket_of, with_bucket, with_slot, empty_content, state_from, IsShaped, IsReserved};
+ghost use Rattle.ck_stripe.specs.Stripe.{HasBucket, bucket_of, with_bucket, with_slot, empty_content, IsShaped, IsReserved};
 
 use ck_bucket::Bucket;
 use ck_key::TableKey;
@@ -45,7 +45,8 @@ impl<K: TableKey + Drop, V: Drop> Stripe<K, V> {
         requires number { number < 2 ^ s }
         requires least { s ≤ power }
         requires most { power ≤ 26 }
-        ensures { IfOk result (λ stripe. stripe ≡ record { number = number; s = s; content = empty_content s power; settled = true; room = stripe.room }) }
+        ensures value { IfOk result (λ stripe. stripe ≡ record { number = number; s = s; content = empty_content s power; settled = true; room = 2 ^ (power - s) }) }
+        ensures sound { IfOk result (λ stripe. (k : Layout) → k.s ≡ s → power ≤ k.max → IsSound k number stripe.content) }
     {
         let rows = 1usize << (power - s);
         let mut buckets = Vec::with_capacity(alloc, rows)?;
@@ -167,6 +168,7 @@ impl<K: TableKey + Drop, V: Drop> Stripe<K, V> {
         ensures same { self.new ≡ record self.old { room = self.new.room } }
         ensures room { self.old.room ≤ self.new.room }
         ensures ok { OnOk result (IsReserved self.new) }
+        ensures exact { OnOk result (self.new.room ≡ max self.old.room (2 * length self.old.content.rows)) }
         ensures due { OnErr result (self.old.room < 2 * length self.old.content.rows) }
         ensures kept { OnErr result (self.new ≡ self.old) }
     {

@@ -9,7 +9,8 @@ use Rattle.ck_model.specs.declared.settings.Settings.{Settings}
 use Rattle.ck_model.specs.Arithmetic.{index_of, second_of}
 use Rattle.ck_model.specs.Map.{Name, name_cmp}
 use Rattle.ck_model.specs.Slots.{Slot, slot_at, taken_in, IsFull}
-use Rattle.ck_model.specs.Contents.{Layout, Content, row_at, bindings, bucket_in, IsBucketOf, IsSound, Lawful}
+use Rattle.ck_model.specs.declared.contents.Content.{Content}
+use Rattle.ck_model.specs.Contents.{Layout, row_at, bindings, bucket_in, IsBucketOf, IsSound, Lawful}
 use Rattle.ck_model.specs.Paths.{HasNoRoom}
 use Rattle.ck_model.proofs.Found.{get-bindings}
 use Rattle.ck_model.proofs.Fresh.{fresh, free_bucket, sound-fresh}

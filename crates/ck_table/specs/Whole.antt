@@ -3,7 +3,8 @@ use Rattle.std.specs.Prelude.{◌≡◌, ℕ, List, [], ◌∷◌, length, flat_
 use Rattle.ck_model.specs.declared.settings.Settings.{Settings}
 use Rattle.ck_model.specs.Map.{Name}
 use Rattle.ck_model.specs.Slots.{Slot, taken_in}
-use Rattle.ck_model.specs.Contents.{Layout, Content, Stripes}
+use Rattle.ck_model.specs.declared.contents.Content.{Content}
+use Rattle.ck_model.specs.Contents.{Layout, Stripes}
 use Rattle.ck_model.specs.Ranges.{AreInRange}
 
 -- the settings of a table, and what its stripes contain

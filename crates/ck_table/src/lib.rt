@@ -1,7 +1,8 @@
 //! A cuckoo hash map of one owner.
 //!
-//! An entry is in one of the two buckets of its key, and a bucket has four slots. The number of buckets is fixed:
-//! growth, the displacement of entries and several callers come with the running table.
+//! An entry is in one of the two buckets of its key (Pagh and Rodler 2004, "Cuckoo Hashing"), and a bucket has four
+//! slots (Dietzfelbinger and Weidling 2007). The number of buckets is fixed: growth, the displacement of entries and
+//! several callers come with the running table.
 #![tactic(auto)]
 
 mod bucket_pair;

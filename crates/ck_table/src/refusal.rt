@@ -33,7 +33,10 @@ pub enum Why {
 /// A key and a value that were refused, given back.
 #[derive(Debug, Drop)]
 pub struct Refused<K, V> {
+    /// The key that was to be bound.
     pub key: K,
+    /// The value that it was to be bound to.
     pub value: V,
+    /// Why it was not.
     pub why: Why,
 }

@@ -56,7 +56,7 @@ impl<K: TableKey + Drop, V: Drop> Table<K, V> {
         }
     }
 
-    /// The value that is bound to the key.
+    /// The value that is bound to the key, or None where the key is unbound.
     pub fn find(&self, key: &K) -> Option<V>
     where
         V: Copy,

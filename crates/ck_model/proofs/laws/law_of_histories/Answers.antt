@@ -1,5 +1,5 @@
 use Rattle.std.specs.FinMap.{empty}
-use Rattle.ck_model.proofs.Plain.{leads_one}
+use Rattle.ck_model.proofs.Determined.{leads_one}
 use Rattle.ck_model.proofs.Histories.{legal_beginning}
 use Rattle.ck_model.proofs.laws.law_of_histories.Goals as goal
 

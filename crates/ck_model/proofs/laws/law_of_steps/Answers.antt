@@ -1,4 +1,4 @@
-use Rattle.ck_model.proofs.Plain.{step_one, step_others}
+use Rattle.ck_model.proofs.Determined.{step_one, step_others}
 use Rattle.ck_model.proofs.laws.law_of_steps.Goals as goal
 
 pub returns : goal.returns

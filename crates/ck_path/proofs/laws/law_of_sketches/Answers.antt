@@ -1,4 +1,4 @@
-use Rattle.ck_path.proofs.Bridge.{sketches_show_paths}
+use Rattle.ck_path.proofs.ShownPaths.{sketches_show_paths}
 use Rattle.ck_path.proofs.laws.law_of_sketches.Goals as goal
 
 pub returns : goal.returns

@@ -1,33 +1,21 @@
-use Rattle.std.proofs.Common.{◌≡◌, ◌<◌, ◌-◌, ◌∙◌, List, [], None, IsSome, true, sym, ap, subst, length, arith, set}
+use Rattle.std.proofs.Common.{◌-◌, None, ap, arith}
 use Rattle.std.specs.Prelude.{vec_capacity}
-use Rattle.std.proofs.lemmas.List.{get_or_read}
-use Rattle.ck_model.specs.Slots.{Slot, slot_at}
-use Rattle.ck_model.specs.Contents.{row_at}
+use Rattle.ck_model.specs.Slots.{slot_at}
 use Rattle.ck_stripe.specs.Stripe.{StripeState, bucket_of, state_from}
-use Rattle.ck_stripe.proofs.Fields.{shown_settled, shaped_settled}
-use Rattle.ck_stripe.proofs.Writes.{at_row, consistent_written, some_entry, one_full}
+use Rattle.ck_stripe.proofs.Writes.{one_full, some_entry, slot_written}
 use Rattle.ck_stripe.proofs.stripe.Stripe.remove.Goals as goal
 
 pub overflow_sub-self : goal.overflow_sub-self
 overflow_sub-self g c =
-    let settled : c.self.inside.settled ≡ true = ap (λ w. w.settled) c.self.view_is ∙ c.requires.settled in
-    let stored : StripeState g.row.V.Denot = state_from c.self.inside.number c.self.inside.s c.self.inside.power c.self.inside.buckets.items c.self.inside.ledger c.self.inside.settled (vec_capacity c.self.inside.buckets) in
-    let now : c.args.self.now ≡ stored = sym c.self.view_is ∙ shown_settled g.K.TableKey.hash stored settled in
-    let lt : c.row-row.result < length stored.content.rows = subst (λ (w : StripeState g.row.V.Denot). c.row-row.result < length w.content.rows) now c.row-row.ensures.below in
-    let here : bucket_of c.args.self.now c.args.b ≡ row_at stored.content.rows c.row-row.result = at_row c.args.self.now stored now c.args.b c.row-row.result c.row-row.ensures.value in
-    let full : IsSome (slot_at (row_at stored.content.rows c.row-row.result) c.args.slot) = subst (λ (row : List (Slot g.row.V.Denot)). IsSome (slot_at row c.args.slot)) here c.requires.full in
-    some_entry stored.s stored.number stored.content c.row-row.result c.args.slot (shaped_settled g.K.TableKey.hash stored c.self.invariant settled) lt c.requires.below full
+    let some = some_entry c.args.self.now c.args.b c.row-row.result c.args.slot c.row-row.ensures.shaped c.row-row.ensures.value c.row-row.ensures.below c.requires.below c.requires.full in
+    let entries = ap (λ (w : StripeState g.row.V.Denot). w.content.ledger) c.self.view_is in
+    omega arith
 
 pub invariant_of-self : goal.invariant_of-self
 invariant_of-self g c =
-    let settled : c.self.inside.settled ≡ true = ap (λ w. w.settled) c.self.view_is ∙ c.requires.settled in
     let stored : StripeState g.row.V.Denot = state_from c.self.inside.number c.self.inside.s c.self.inside.power c.self.inside.buckets.items c.self.inside.ledger c.self.inside.settled (vec_capacity c.self.inside.buckets) in
-    let now : c.args.self.now ≡ stored = sym c.self.view_is ∙ shown_settled g.K.TableKey.hash stored settled in
-    let lt : c.row-row.result < length stored.content.rows = subst (λ (w : StripeState g.row.V.Denot). c.row-row.result < length w.content.rows) now c.row-row.ensures.below in
-    let here : bucket_of c.args.self.now c.args.b ≡ row_at stored.content.rows c.row-row.result = at_row c.args.self.now stored now c.args.b c.row-row.result c.row-row.ensures.value in
-    let read : c.index_mut.result.now ≡ row_at stored.content.rows c.row-row.result = get_or_read stored.content.rows c.row-row.result c.index_mut.result.now lt c.index_mut.ensures.value [] in
-    let full : IsSome (slot_at (row_at stored.content.rows c.row-row.result) c.args.slot) = subst (λ (row : List (Slot g.row.V.Denot)). IsSome (slot_at row c.args.slot)) here c.requires.full in
-    let one = one_full (slot_at (row_at stored.content.rows c.row-row.result) c.args.slot) full in
-    let some = some_entry stored.s stored.number stored.content c.row-row.result c.args.slot (shaped_settled g.K.TableKey.hash stored c.self.invariant settled) lt c.requires.below full in
-    consistent_written g.K.TableKey.hash stored c.self.invariant settled c.row-row.result c.args.slot None c.take-entry.new.self (c.self.inside.ledger - 1) lt c.requires.below
-    (c.take-entry.ensures.rest ∙ ap (λ (row : List (Slot g.row.V.Denot)). set row c.args.slot None) read) (omega arith)
+    let entries = ap (λ (w : StripeState g.row.V.Denot). w.content.ledger) c.self.view_is in
+    let one = one_full (slot_at (bucket_of c.args.self.now c.args.b) c.args.slot) c.requires.full in
+    let some = some_entry c.args.self.now c.args.b c.row-row.result c.args.slot c.row-row.ensures.shaped c.row-row.ensures.value c.row-row.ensures.below c.requires.below c.requires.full in
+    slot_written g.K.TableKey.hash stored c.args.self.now c.self.invariant c.self.view_is c.requires.settled c.args.b c.row-row.result c.row-row.ensures.value c.row-row.ensures.below c.args.slot c.requires.below c.index_mut.result.now
+    c.take-entry.new.self c.index_mut.ensures.value None c.take-entry.ensures.rest (c.self.inside.ledger - 1) (omega arith)

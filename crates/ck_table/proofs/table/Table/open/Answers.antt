@@ -15,7 +15,7 @@ invariant_of-result g c =
     let ranges : AreInRange c.args.settings = c.if-not-are_in_range.ensures.0 refl in
     let shl : 1 * 2 ^ c.args.settings.power % 2 ^ 64 ≡ 2 ^ c.args.settings.power = one_shl c.args.settings.power 64 (omega (arith, ranges.growth, ranges.max)) in
     let free : c.in-Ok.buckets.items ≡ replicate (2 ^ c.args.settings.power) (free_bucket {V = g.row.V.Denot}) = c.in-Ok.ensures ∙ ap (λ n. replicate n (free_bucket {V = g.row.V.Denot})) shl in (
-      (ranges, c.if-settings-ne1.false),
+      (ranges, omega arith),
       subst (λ (rows : List (List (Slot g.row.V.Denot))). Lawful (layout_of g.K.TableKey.hash c.args.settings) (one_stripe c.args.settings.power rows)) (sym free)
           (lawful_fresh g.K.TableKey.hash c.args.settings ranges.growth),
     )

@@ -1,15 +1,15 @@
 -- A path over the contents of a lawful whole is one over the sketches of its buckets, and the other way round.
-use Rattle.std.proofs.Common.{◌≡◌, ℕ, suc, ◌^◌, ◌<◌, ◌⊎◌, List, [], ◌∷◌, length, refl, sym, ap, subst, inl, inr, ⊎_elim, arith}
+use Rattle.std.proofs.Common.{◌≡◌, ℕ, suc, ◌^◌, ◌<◌, List, [], ◌∷◌, length, refl, ap, subst, inl, inr, ⊎_elim, arith}
 use Rattle.ck_model.specs.declared.hop.Hop.{Hop}
 use Rattle.ck_model.specs.Arithmetic.{partial_of, index_of, alternate_of, second_of}
 use Rattle.ck_model.specs.Map.{Name}
-use Rattle.ck_model.specs.Slots.{slot_at, HasFree, IsFull}
+use Rattle.ck_model.specs.Slots.{slot_at}
 use Rattle.ck_model.specs.Contents.{Layout, Stripes, Lawful, IsBucketOf, power_of, bucket_in}
 use Rattle.ck_model.specs.Sections.{HasAll}
 use Rattle.ck_model.specs.Paths.{IsPathFrom, sketch_in}
 use Rattle.ck_model.specs.Sketches.{IsPathFrom as IsSketchPathFrom, IsPath}
 use Rattle.ck_model.proofs.Buckets.{index_below, alternate_below, second_below}
-use Rattle.ck_path.specs.Bridge.{SketchesShowPaths}
+use Rattle.ck_path.specs.Laws.{SketchesShowPaths}
 use Rattle.ck_path.proofs.Shown.{free_shown, free_there, full_shown, full_there, entry_shown, entry_there}
 use Rattle.ck_path.proofs.Whole.{four_slots}
 

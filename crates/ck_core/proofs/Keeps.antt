@@ -1,0 +1,251 @@
+-- Each step of the core keeps the law.
+use Rattle.std.proofs.Common.{◌≡◌, ◌⊎◌, ℕ, ◌^◌, zero, suc, ◌<◌, ◌≤◌, max, inl, inr, List, [], ◌∷◌, ◌++◌, set, get_or, sym, refl, ap, ◌∙◌, subst, ⊎_elim, arith, le_of_eq, le_trans, zero-le, Option, Some, None}
+use mathlib.Core.Option.{some, some-injective}
+use lib.ListN.{get_elem?}
+use Rattle.std.proofs.lemmas.Option.{none-some}
+use Rattle.ck_model.specs.declared.history.Entry.{Entry}
+use Rattle.ck_model.specs.declared.history.Why.{Why}
+use Rattle.ck_core.specs.declared.view.View.{View}
+use Rattle.ck_model.specs.Map.{Name}
+use Rattle.ck_model.specs.History.{After, StartsWith}
+use Rattle.ck_model.specs.Numbered.{IsIn, AreDistinct, numbers, Holds, without, over}
+use Rattle.ck_model.specs.declared.contents.Content.{Content}
+use Rattle.ck_model.specs.Contents.{Layout, Stripes, bindings, Lawful, whole}
+use Rattle.ck_model.specs.Sections.{Renewed, Section, IdentitySection}
+use Rattle.ck_model.specs.Laws.{ArePartOf}
+use Rattle.ck_model.proofs.Numbered.{Some-injective, in_held, held_of_in, held_either, held_first, held_second, in_either, in_first, in_second, distinct_between, distinct_cut, listed_at, over_miss, over_hit}
+use Rattle.ck_model.proofs.Sections.{section_of_whole, identity_of_whole, power_after}
+use Rattle.ck_model.proofs.Histories.{leads_snoc}
+use Rattle.ck_core.specs.State.{World, IsPart, own, owned, Places, Knows, Law}
+use Rattle.ck_core.specs.Steps.{Move, taken, seen_as, sent_home, giving, deciding, newcomer, messenger, spent, joining, split_as, joined, Does, grown, Runs}
+use Rattle.ck_core.specs.Steps.Move.{Take, FindHeld, Give, Decide, GiveRest, Renew, Look, Open, Tell, Join}
+use Rattle.ck_core.proofs.Lists.{each_set, each_snoc, set_else}
+use Rattle.ck_core.proofs.Places.{places_keep, places_take, places_back, places_split}
+use Rattle.ck_core.proofs.Callers.{knows_all, knows_same, callers_set, callers_add, callers_split, callers_join}
+
+module _ {V : Type 0} (k : Layout) (callers : ℕ) (log : List (Entry V)) (s : World V) (law : Law k callers log s) (id : ℕ) (v : View V) (at : get_elem? s.views id ≡ some v) where
+  abbrev Told : (ℕ → Content V) → ℕ → View V → Type 0
+  Told w j u = (t : ℕ) → t < 2 ^ k.s → (u.told ≤ (w t).power) × (u.heard_told ≤ (w t).power)
+
+  pub agrees : ArePartOf k law.contents v.held
+  agrees t c h = let f = law.places.holds id v at t c h in (f.0, f.3)
+
+  pub take_keeps : (t : ℕ) (c : Content V) → t < 2 ^ k.s → get_or s.words t 0 ≡ 0 → get_elem? s.homes t ≡ some (Some c) → Law k callers log (taken s id v t c log)
+  take_keeps t c l free there =
+      let e : law.contents t ≡ c = Some-injective (law.contents t) c (some-injective (Some (law.contents t)) (Some c) (sym (law.places.at_home t l free) ∙ there)) in
+      let w : View V = record v { held = (t, c) ∷ v.held; seen = log } in
+      record {
+        contents = law.contents;
+        places = places_take (2 ^ k.s) s law.contents law.places id v at t w l free (ap (λ (x : Content V). (t, x) ∷ v.held) (sym e));
+        lawful = law.lawful;
+        told = each_set (Told law.contents) s.views id w (law.told id v at) (λ j u _ a. law.told j u a);
+        callers_known = callers_set callers log s.views id v w law.callers_known at refl (knows_all callers log v w (law.callers_known.knows id v at) refl refl refl refl refl);
+        legal = law.legal;
+      }
+
+  -- a step that changes what the view knows, and no word
+  pub seen_keeps : (w : View V) → w.held ≡ v.held → owned w ≡ owned v → Knows callers log w → Told law.contents id w → Law k callers log (seen_as s id w)
+  seen_keeps w held same kn told = record {
+    contents = law.contents;
+    places = places_keep (2 ^ k.s) s law.contents law.places id v at w held;
+    lawful = law.lawful;
+    told = each_set (Told law.contents) s.views id w told (λ j u _ a. law.told j u a);
+    callers_known = callers_set callers log s.views id v w law.callers_known at same kn;
+    legal = law.legal;
+  }
+
+  pub find_keeps : (t : ℕ) → Law k callers log (seen_as s id (record v { found = t ∷ v.found }))
+  find_keeps t = let w : View V = record v { found = t ∷ v.found } in seen_keeps w refl refl (knows_same callers log v w (law.callers_known.knows id v at) refl refl refl refl refl) (law.told id v at)
+
+  max_le : (a b c : ℕ) → a ≤ c → b ≤ c → max a b ≤ c
+  max_le a b c h g = omega arith
+
+  -- a look that is told the greatest power that the caller was told or has heard
+  pub look_to : Law k callers log (seen_as s id (record v { seen = log; told = max v.told v.heard_told }))
+  look_to = let w : View V = record v { seen = log; told = max v.told v.heard_told } in
+      seen_keeps w refl refl (knows_all callers log v w (law.callers_known.knows id v at) refl refl refl refl refl)
+      (λ t l. (max_le v.told v.heard_told ((law.contents t).power) (law.told id v at t l).0 (law.told id v at t l).1, (law.told id v at t l).1))
+
+  whole_is_part : (t : ℕ) → t < 2 ^ k.s → IsPart s t (law.contents t)
+  whole_is_part t l = by (get_or s.words t 0) refl (law.places.is_bit t l)
+    where
+      by : (b : ℕ) → get_or s.words t 0 ≡ b → b < 2 → IsPart s t (law.contents t)
+      by zero e h = inl (law.places.at_home t l e)
+      by (suc zero) e h = let z = law.places.is_held t l e in inr (law.places.owner t, z.0, z.1, z.2)
+      by (suc (suc b)) e h = absurd (omega arith)
+
+  pub look_keeps : (p : ℕ) → ((u : ℕ) (c : Content V) → IsPart s u c → p ≤ c.power) → Law k callers log (seen_as s id (record v { seen = log; told = p }))
+  look_keeps p h = let w : View V = record v { seen = log; told = p } in
+      seen_keeps w refl refl (knows_all callers log v w (law.callers_known.knows id v at) refl refl refl refl refl) (λ t l. (h t (law.contents t) (whole_is_part t l), (law.told id v at t l).1))
+
+  same_power : (w : ℕ → Content V) → Lawful k (whole k w) → (t u : ℕ) (c : Content V) → t < 2 ^ k.s → u < 2 ^ k.s → w t ≡ c → c.power ≤ (w u).power
+  same_power w lawful t u c l m e = le_of_eq (ap (λ (x : Content V). x.power) (sym e) ∙ lawful.one_power t u (w t) (w u) (listed_at (2 ^ k.s) w t l) (listed_at (2 ^ k.s) w u m))
+
+  pub give_keeps : (t : ℕ) (c : Content V) (g : Option (Name × Why)) → Holds v.held t c → Law k callers log (sent_home s id t c (giving v t c v.held g))
+  give_keeps t c g h =
+      let w : View V = giving v t c v.held g in
+      let f = law.places.holds id v at t c h in
+      record {
+        contents = law.contents;
+        places = places_back (2 ^ k.s) s law.contents law.places id v at v.held t c w law.contents refl h refl (λ q _. refl) (λ q d x. (law.places.holds id v at q d x).3);
+        lawful = law.lawful;
+        told = each_set (Told law.contents) s.views id w (λ u m. (max_le v.told (c.power) ((law.contents u).power) (law.told id v at u m).0 (same_power law.contents law.lawful t u c f.0 m f.3), (law.told id v at u m).1)) (λ j u _ a. law.told j u a);
+        callers_known = callers_set callers log s.views id v w law.callers_known at refl (knows_same callers log v w (law.callers_known.knows id v at) refl refl refl refl refl);
+        legal = law.legal;
+      }
+
+  module _ (ks : Stripes V) (t : ℕ) (c : Content V) (here : Holds ks t c) where
+    abbrev contents2 : ℕ → Content V
+    contents2 = over ks law.contents
+
+    module _ (r : Renewed k v.held ks) where
+      apart : AreDistinct (numbers ks)
+      apart = subst AreDistinct (sym r.same) (law.places.distinct id v at)
+
+      placed : (w : View V) → w.held ≡ without t ks → Places (2 ^ k.s) (sent_home s id t c w) contents2
+      placed w is = places_back (2 ^ k.s) s law.contents law.places id v at ks t c w contents2 r.same here is (λ q out. over_miss ks law.contents q out) (λ q d x. over_hit ks law.contents apart q d x)
+
+      others_told : (j : ℕ) (u : View V) → get_elem? s.views j ≡ some u → Told contents2 j u
+      others_told j u a q l =
+          let p = power_after k law.contents v.held ks agrees r q l in
+          (le_trans (law.told j u a q l).0 p, le_trans (law.told j u a q l).1 p)
+
+    pub decide_keeps : (e : Entry V) → v.by ≡ Some e.by → Section k v.held e.call e.reply ks → Law k callers (log ++ e ∷ []) (sent_home s id t c (deciding v t ks log e))
+    decide_keeps e by sec =
+        let w : View V = deciding v t ks log e in
+        let z = section_of_whole k law.contents v.held ks law.lawful agrees e.call e.reply sec in
+        record {
+          contents = contents2;
+          places = placed sec.renewed w refl;
+          lawful = z.0;
+          told = each_set (Told contents2) s.views id w (others_told sec.renewed id v at) (λ j u _ a. others_told sec.renewed j u a);
+          callers_known = callers_add callers log s.views id v w e law.callers_known at by refl refl refl refl refl;
+          legal = leads_snoc _ (bindings (whole k law.contents)) (bindings (whole k contents2)) log e law.legal z.1;
+        }
+
+    pub renew_keeps : (g : Option (Name × Why)) → IdentitySection k v.held ks → Law k callers log (sent_home s id t c (giving v t c ks g))
+    renew_keeps g sec =
+        let w : View V = giving v t c ks g in
+        let z = identity_of_whole k law.contents v.held ks law.lawful agrees sec in
+        let p = placed sec.renewed w refl in
+        let at_t : contents2 t ≡ c = over_hit ks law.contents (apart sec.renewed) t c here in
+        let d = held_of_in v.held t (subst (IsIn t) sec.renewed.same (in_held ks t c here)) in
+        let l : t < 2 ^ k.s = (agrees t d.0 d.1).0 in
+        record {
+          contents = contents2;
+          places = p;
+          lawful = z.0;
+          told = each_set (Told contents2) s.views id w (λ u m. (max_le v.told (c.power) ((contents2 u).power) (others_told sec.renewed id v at u m).0 (same_power contents2 z.0 t u c l m at_t), (others_told sec.renewed id v at u m).1)) (λ j u _ a. others_told sec.renewed j u a);
+          callers_known = callers_set callers log s.views id v w law.callers_known at refl (knows_same callers log v w (law.callers_known.knows id v at) refl refl refl refl refl);
+          legal = subst (After log) (sym z.1) law.legal;
+        }
+
+  -- splits and joins
+  split_keeps : (left right : View V) → left.held ≡ v.held → right.held ≡ [] → Told law.contents id left → Told law.contents id right
+      → ((m : ℕ) → IsIn m (numbers (owned left)) → IsIn m (numbers (owned v)) × ¬ (IsIn m (numbers (owned right)))) → ((m : ℕ) → IsIn m (numbers (owned right)) → IsIn m (numbers (owned v)))
+      → Knows callers log left → Knows callers log right → Law k callers log (split_as s id left right)
+  split_keeps left right same none tl tr of_left of_right kl kr = record {
+    contents = law.contents;
+    places = places_split (2 ^ k.s) s law.contents law.places id v at left right same none;
+    lawful = law.lawful;
+    told = each_snoc (Told law.contents) (set s.views id left) right (each_set (Told law.contents) s.views id left tl (λ j u _ a. law.told j u a)) tr;
+    callers_known = callers_split callers log s.views id v left right law.callers_known at of_left of_right kl kr;
+    legal = law.legal;
+  }
+
+  pub open_keeps : (m : ℕ) (rest : List (ℕ × List (Entry V))) → v.others ≡ (m, []) ∷ rest → Law k callers log (split_as s id (record v { others = rest }) (newcomer v.settings m v.told))
+  open_keeps m rest is =
+      let left : View V = record v { others = rest } in
+      let right : View V = newcomer v.settings m v.told in
+      let kn = law.callers_known.knows id v at in
+      let ow : owned v ≡ own v.by v.mine ++ ((m, []) ∷ rest) = ap (λ (o : List (ℕ × List (Entry V))). own v.by v.mine ++ o) is in
+      let there : (x : ℕ) → IsIn x (numbers (owned left)) → IsIn x (numbers (owned v)) = λ x i. subst (λ (o : List (ℕ × List (Entry V))). IsIn x (numbers o)) (sym ow)
+      (⊎_elim (λ h. in_first (own v.by v.mine) ((m, []) ∷ rest) x h) (λ h. in_second (own v.by v.mine) ((m, []) ∷ rest) x (inr h)) (in_either (own v.by v.mine) rest x i)) in
+      let m_there : Holds (owned v) m [] = subst (λ (o : List (ℕ × List (Entry V))). Holds o m []) (sym ow) (held_second (own v.by v.mine) ((m, []) ∷ rest) m [] (inl (refl, refl))) in
+      let apart : AreDistinct (numbers (own v.by v.mine ++ ((m, []) ∷ rest))) = subst (λ (o : List (ℕ × List (Entry V))). AreDistinct (numbers o)) ow kn.distinct in
+      let cut = distinct_cut (own v.by v.mine) (m, []) rest apart in
+      split_keeps left right refl refl (law.told id v at) (λ t l. ((law.told id v at t l).0, zero-le)) (λ x i. (there x i, λ h. ⊎_elim (λ e. cut.1 (subst (λ y. IsIn y (numbers (owned left))) (sym e) i)) (λ z. absurd z) h))
+      (λ x h. ⊎_elim (λ e. subst (λ y. IsIn y (numbers (owned v))) e (in_held (owned v) m [] m_there)) (λ z. absurd z) h)
+      (record {
+        seen = kn.seen;
+        heard = kn.heard;
+        calls = λ x l h. kn.calls x l (subst (λ (o : List (ℕ × List (Entry V))). Holds o x l) (sym ow)
+            (⊎_elim (λ y. held_first (own v.by v.mine) ((m, []) ∷ rest) x l y) (λ y. held_second (own v.by v.mine) ((m, []) ∷ rest) x l (inr y)) (held_either (own v.by v.mine) rest x l h)));
+        own_seen = kn.own_seen;
+        distinct = cut.0;
+        within = λ x i. kn.within x (there x i);
+      })
+      (record {
+        seen = (log, refl);
+        heard = (log, refl);
+        calls = λ x l h. ⊎_elim (λ (e : (m ≡ x) × ([] ≡ l)). kn.calls x l (subst (λ (y : ℕ × List (Entry V)). Holds (owned v) y.0 y.1) (λ i. (e.0 i, e.1 i)) m_there)) (λ z. absurd z) h;
+        own_seen = λ x e. refl;
+        distinct = ((λ z. z), tt);
+        within = λ x i. ⊎_elim (λ e. subst (λ y. y < callers) e (kn.within m (in_held (owned v) m [] m_there))) (λ z. absurd z) i;
+      })
+
+  knows_nothing : (w : View V) → owned w ≡ [] → w.by ≡ None → StartsWith log w.seen → w.heard ≡ [] → Knows callers log w
+  knows_nothing w none nobody seen heard = record {
+    seen = seen;
+    heard = subst (StartsWith log) (sym heard) (log, refl);
+    calls = λ m l h. absurd (subst (λ (o : List (ℕ × List (Entry V))). Holds o m l) none h);
+    own_seen = λ m e. absurd (none-some m (sym nobody ∙ e));
+    distinct = subst (λ (o : List (ℕ × List (Entry V))). AreDistinct (numbers o)) (sym none) tt;
+    within = λ m i. absurd (subst (λ (o : List (ℕ × List (Entry V))). IsIn m (numbers o)) none i);
+  }
+
+  pub tell_keeps : Law k callers log (split_as s id v (messenger v))
+  tell_keeps =
+      let kn = law.callers_known.knows id v at in
+      split_keeps v (messenger v) refl refl (law.told id v at) (λ t l. ((law.told id v at t l).0, zero-le)) (λ m i. (i, λ h. h)) (λ m h. absurd h) kn (knows_nothing (messenger v) refl refl kn.seen refl)
+
+  pub join_keeps : (other : ℕ) (w : View V) → get_elem? s.views other ≡ some w → ¬ (other ≡ id) → w.held ≡ [] → Law k callers log (joined s id (joining v w) other)
+  join_keeps other w there apart empty_handed =
+      let both : View V = joining v w in
+      let kv = law.callers_known.knows id v at in
+      let kw = law.callers_known.knows other w there in
+      let cs = law.callers_known in
+      let s1 : World V = seen_as s id both in
+      let there1 : get_elem? s1.views other ≡ some w = set_else s.views id other both apart ∙ there in
+      let of_both : (m : ℕ) → IsIn m (numbers (owned both)) → IsIn m (numbers (owned v)) ⊎ IsIn m (numbers (owned w)) = λ m i.
+      ⊎_elim (λ h. inl (in_first (own v.by v.mine) v.others m h))
+      (λ r. ⊎_elim (λ h. inr h) (λ h. inl (in_second (own v.by v.mine) v.others m h)) (in_either (owned w) v.others m r))
+      (in_either (own v.by v.mine) (owned w ++ v.others) m i) in
+      record {
+        contents = law.contents;
+        places = places_keep (2 ^ k.s) s1 law.contents (places_keep (2 ^ k.s) s law.contents law.places id v at both refl) other w there1 spent (sym empty_handed);
+        lawful = law.lawful;
+        told = each_set (Told law.contents) (set s.views id both) other spent (λ t l. (zero-le, zero-le))
+            (λ j u _ a. each_set (Told law.contents) s.views id both (λ t l. ((law.told id v at t l).0, (law.told other w there t l).0)) (λ j u _ a. law.told j u a) j u a);
+        callers_known = callers_join callers log s.views id other v w both spent cs at there of_both
+            (record {
+              seen = kv.seen;
+              heard = kw.seen;
+              calls = λ m l h. ⊎_elim (λ y. kv.calls m l (held_first (own v.by v.mine) v.others m l y))
+                  (λ r. ⊎_elim (λ y. kw.calls m l y) (λ y. kv.calls m l (held_second (own v.by v.mine) v.others m l y)) (held_either (owned w) v.others m l r))
+                  (held_either (own v.by v.mine) (owned w ++ v.others) m l h);
+              own_seen = kv.own_seen;
+              distinct = distinct_between (own v.by v.mine) (owned w) v.others kv.distinct kw.distinct (λ m i h. apart (sym (cs.keeps other w there m i) ∙ cs.keeps id v at m h));
+              within = λ m i. ⊎_elim (kv.within m) (kw.within m) (of_both m i);
+            })
+            refl (knows_nothing spent refl refl (log, refl) refl);
+        legal = law.legal;
+      }
+
+module _ {V : Type 0} (k : Layout) (min_load callers : ℕ) where
+  -- a step of any kind
+  pub step_keeps : (log : List (Entry V)) (id : ℕ) (m : Move V) (s s2 : World V) → Law k callers log s → Does k min_load log id m s s2 → Law k callers (grown log m) s2
+  step_keeps log id (Take t) s s2 law d = subst (Law k callers log) (sym d.7) (take_keeps k callers log s law id d.0 d.2 t d.1 d.3 d.4 d.6)
+  step_keeps log id (FindHeld t) s s2 law d = subst (Law k callers log) (sym d.5) (find_keeps k callers log s law id d.0 d.1 t)
+  step_keeps log id (Give t g) s s2 law d = subst (Law k callers log) (sym d.5) (give_keeps k callers log s law id d.0 d.2 t d.1 g d.3)
+  step_keeps log id (Decide t ks e) s s2 law d = subst (Law k callers (log ++ e ∷ [])) (sym d.6) (decide_keeps k callers log s law id d.0 d.2 ks t d.1 d.4 e d.3 d.5)
+  step_keeps log id (GiveRest t) s s2 law d = subst (Law k callers log) (sym d.4) (give_keeps k callers log s law id d.0 d.2 t d.1 None d.3)
+  step_keeps log id (Renew t ks g) s s2 law d = subst (Law k callers log) (sym d.6) (renew_keeps k callers log s law id d.0 d.2 ks t d.1 d.3 g d.4)
+  step_keeps log id (Look t p) s s2 law d = subst (Law k callers log) (sym d.5) (look_keeps k callers log s law id d.0 d.1 p d.4)
+  step_keeps log id Open s s2 law d = subst (Law k callers log) (sym d.5) (open_keeps k callers log s law id d.0 d.3 d.1 d.2 d.4)
+  step_keeps log id Tell s s2 law d = subst (Law k callers log) (sym d.2) (tell_keeps k callers log s law id d.0 d.1)
+  step_keeps log id (Join other) s s2 law d = subst (Law k callers log) (sym d.6) (join_keeps k callers log s law id d.0 d.2 other d.1 d.3 d.4 d.5)
+
+  pub run_keeps : (ms : List (ℕ × Move V)) (log : List (Entry V)) (s : World V) (log2 : List (Entry V)) (s2 : World V) → Law k callers log s → Runs k min_load log s ms log2 s2 → Law k callers log2 s2
+  run_keeps [] log s log2 s2 law r = subst (λ (x : List (Entry V) × World V). Law k callers x.0 x.1) (λ i. (r.0 i, r.1 i)) law
+  run_keeps (m ∷ ms) log s log2 s2 law r = run_keeps ms (grown log m.1) r.0 log2 s2 (step_keeps log m.0 m.1 s r.0 law r.1) r.2

@@ -1,0 +1,12 @@
+pub mod Lists
+pub mod Places
+pub mod Callers
+pub mod Keeps
+pub mod Openings
+pub mod Statements
+pub mod Shown
+pub mod Sums
+pub mod ExampleRun
+pub mod Answered
+pub mod WrongSteps
+pub mod Meeting

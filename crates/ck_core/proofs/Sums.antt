@@ -1,0 +1,141 @@
+-- A change of two that keeps the sum of their values keeps the sum of all.
+use Rattle.std.proofs.Common.{◌≡◌, ◌≢◌, ℕ, ◌+◌, Bool, true, false, cond, T, ◌&&◌, List, [], ◌∷◌, sym, refl, ap, ◌∙◌, subst, ⊎_elim, arith, Less, Equal, Greater, Ordering, is_lt, is_eq, Option, Some, None}
+use mathlib.Core.Logic.{dite}
+use Rattle.std.specs.Cmp.Lexicographic.{nat_list_cmp_total}
+use Rattle.std.specs.FinMap.{find, get, empty, insert, entries, entries_sorted, entries-insert, get-insert, get-entries}
+use Rattle.std.specs.FinMap.Entries.{put, below_all, is_sorted, by_order}
+use Rattle.ck_model.specs.declared.history.Act.TheVariants.{Find, Insert, Assign, Update, Change, Upsert, Erase}
+use Rattle.ck_model.specs.declared.history.Call.{Call}
+use Rattle.ck_model.specs.declared.history.Call.TheVariants.{On, ChangeTwo, Len, Session}
+use Rattle.ck_model.specs.declared.history.Reply.{Reply}
+use Rattle.ck_model.specs.declared.history.Reply.TheVariants.{DoneTwo, Absent}
+use Rattle.ck_model.specs.declared.history.Entry.{Entry}
+use Rattle.ck_model.specs.Map.{Name, name_cmp, Map, Answers, AnswersTwo, Step}
+use Rattle.ck_model.specs.History.{Leads}
+use Rattle.ck_core.specs.Sums.{total, KeepsTotal, EachKeepsTotal, SessionShows, EachSessionShows, LawOfSums}
+use Rattle.ck_model.proofs.Determined.{leads_one}
+use Rattle.ck_model.proofs.Histories.{leads_to}
+use Rattle.ck_model.proofs.Names.{dec_name, maps_alike, is_name, no_name}
+
+first : (a b : Bool) → T (a && b) → T a
+first true b p = tt
+first false b p = p
+
+second : (a b : Bool) → T (a && b) → T b
+second true b p = p
+second false b p = absurd p
+
+less : (o : Ordering) → T (is_lt o) → o ≡ Less
+less Less p = refl
+less Equal p = absurd p
+less Greater p = absurd p
+
+-- a name below all others isn't found
+less_none : (k y : Name) (es : List (Name × ℕ)) → name_cmp k y ≡ Less → T (below_all name_cmp y es) → find name_cmp k es ≡ None
+less_none k y [] e h = refl
+less_none k y (x ∷ xs) e h =
+    let l : name_cmp k x.0 ≡ Less = nat_list_cmp_total.trans k y x.0 e (less (name_cmp y x.0) (first (is_lt (name_cmp y x.0)) (below_all name_cmp y xs) h)) in
+    ap (λ r. cond (is_eq r) (Some x.1) (find name_cmp k xs)) l ∙ less_none k y xs e (second (is_lt (name_cmp y x.0)) (below_all name_cmp y xs) h)
+
+not_found : (o : ℕ) (b : Option ℕ) → b ≡ None → b ≡ Some o → ⊥
+not_found o b e f = cc
+
+moved_head : (a v old s : ℕ) → Some a ≡ Some old → v + s + old ≡ a + s + v
+moved_head a v old s e = let f : a ≡ old = cc in omega arith
+
+moved_tail : (a v old s t : ℕ) → s + old ≡ t + v → (a + s) + old ≡ (a + t) + v
+moved_tail a v old s t e = omega arith
+
+total-put : (k : Name) (v old : ℕ) (es : List (Name × ℕ)) → T (is_sorted name_cmp es) → find name_cmp k es ≡ Some old → total (put name_cmp k v es) + old ≡ total es + v
+total-put k v old [] h e = absurd (not_found old None refl e)
+total-put k v old (x ∷ xs) h e =
+    elim (name_cmp k x.0) as (λ r. name_cmp k x.0 ≡ r → cond (is_eq r) (Some x.1) (find name_cmp k xs) ≡ Some old
+    → total (by_order r ((k, v) ∷ x ∷ xs) ((x.0, v) ∷ xs) (x ∷ put name_cmp k v xs)) + old ≡ (x.1 + total xs) + v) [
+      | Less ↦ λ p f. absurd (not_found old (find name_cmp k xs) (less_none k x.0 xs p (first (below_all name_cmp x.0 xs) (is_sorted name_cmp xs) h)) f)
+      | Equal ↦ λ p f. moved_head x.1 v old (total xs) f
+      | Greater ↦ λ p f. moved_tail x.1 v old (total (put name_cmp k v xs)) (total xs) (total-put k v old xs (second (below_all name_cmp x.0 xs) (is_sorted name_cmp xs) h) f)
+    ] refl e
+
+total-insert : (m : Map ℕ) (k : Name) (v old : ℕ) → get m k ≡ Some old → total (entries (insert m k v)) + old ≡ total (entries m) + v
+total-insert m k v old e = ap (λ es. total es + old) (entries-insert nat_list_cmp_total m k v) ∙ total-put k v old (entries m) (entries_sorted m) (sym (get-entries m k) ∙ e)
+
+get_new : (m : Map ℕ) (k : Name) (v : ℕ) → get (insert m k v) k ≡ Some v
+get_new m k v = get-insert nat_list_cmp_total m k v k ∙ ap (λ b. cond b (Some v) (get m k)) (is_name k k refl)
+
+get_kept : (m : Map ℕ) (k q : Name) (v : ℕ) → q ≢ k → get (insert m k v) q ≡ get m q
+get_kept m k q v ne = get-insert nat_list_cmp_total m k v q ∙ ap (λ b. cond b (Some v) (get m q)) (no_name q k ne)
+
+two_inserts : (m m2 : Map ℕ) (j k : Name) (v2 w2 : ℕ) → j ≢ k → get m2 j ≡ Some v2 → get m2 k ≡ Some w2 → ((q : Name) → q ≢ j → q ≢ k → get m2 q ≡ get m q) → m2 ≡ insert (insert m j v2) k w2
+two_inserts m m2 j k v2 w2 ne a b others = maps_alike m2 (insert (insert m j v2) k w2) (λ q. dite (dec_name q k)
+    (λ e. ap (get m2) e ∙ (b ∙ (sym (get_new (insert m j v2) k w2) ∙ ap (get (insert (insert m j v2) k w2)) (sym e))))
+    (λ no_k. sym (get_kept (insert m j v2) k q w2 no_k ∙ dite (dec_name q j)
+    (λ e. ap (get (insert m j v2)) e ∙ (get_new m j v2 ∙ (sym a ∙ ap (get m2) (sym e))))
+    (λ no_j. get_kept m j q v2 no_j ∙ sym (others q no_j no_k)))))
+
+sums : (s s1 s2 v w v2 w2 : ℕ) → s1 + v ≡ s + v2 → s2 + w ≡ s1 + w2 → v + w ≡ v2 + w2 → s2 ≡ s
+sums s s1 s2 v w v2 w2 a b c = omega arith
+
+find_same : (b : Option ℕ) (r : Reply ℕ) (o : Option ℕ) → Answers Find b r o → o ≡ b
+find_same (Some v) r o x = x.1
+find_same None r o x = x.1
+
+absent_same : (a b : Option ℕ) (r : Reply ℕ) (o p : Option ℕ) → AnswersTwo a b r o p → r ≡ Absent → (o ≡ a) × (p ≡ b)
+absent_same (Some v) (Some w) r o p x e = absurd (apart v w x.0 x.1 r x.2 e)
+  where
+    apart : (v w v2 w2 : ℕ) (r : Reply ℕ) → r ≡ DoneTwo v w v2 w2 → r ≡ Absent → ⊥
+    apart v w v2 w2 r d e = cc
+absent_same (Some v) None r o p x e = (x.1, x.2)
+absent_same None b r o p x e = (x.1, x.2)
+
+done_same : (a b : Option ℕ) (r : Reply ℕ) (o p : Option ℕ) (v w v2 w2 : ℕ) → AnswersTwo a b r o p → r ≡ DoneTwo v w v2 w2 → (a ≡ Some v) × (b ≡ Some w) × (o ≡ Some v2) × (p ≡ Some w2)
+done_same (Some x) (Some y) r o p v w v2 w2 h e = apart x y h.0 h.1 h.2 h.3 h.4
+  where
+    apart : (x y x2 y2 : ℕ) → r ≡ DoneTwo x y x2 y2 → o ≡ Some x2 → p ≡ Some y2 → (Some x ≡ Some v) × (Some y ≡ Some w) × (o ≡ Some v2) × (p ≡ Some w2)
+    apart x y x2 y2 d f g = (cc, cc, cc, cc)
+done_same (Some x) None r o p v w v2 w2 h e = absurd (apart h.0)
+  where
+    apart : r ≡ Absent → ⊥
+    apart d = cc
+done_same None b r o p v w v2 w2 h e = absurd (apart h.0)
+  where
+    apart : r ≡ Absent → ⊥
+    apart d = cc
+
+step_total : (m m2 : Map ℕ) (c : Call ℕ) (r : Reply ℕ) → Step m c r m2 → KeepsTotal c r → total (entries m2) ≡ total (entries m)
+step_total m m2 (On k Find) r st h = ap (λ (x : Map ℕ). total (entries x)) (maps_alike m2 m (λ q. dite (dec_name q k)
+    (λ e. ap (get m2) e ∙ (find_same (get m k) r (get m2 k) st.0 ∙ ap (get m) (sym e))) (λ ne. st.1 q ne)))
+step_total m m2 (On k (Insert u)) r st h = absurd h
+step_total m m2 (On k (Assign u)) r st h = absurd h
+step_total m m2 (On k (Update u)) r st h = absurd h
+step_total m m2 (On k Change) r st h = absurd h
+step_total m m2 (On k (Upsert u)) r st h = absurd h
+step_total m m2 (On k Erase) r st h = absurd h
+step_total m m2 Len r st h = ap (λ (x : Map ℕ). total (entries x)) st.1
+step_total m m2 (Session a b) r st h = ap total (st.2 ∙ (sym h ∙ sym st.1))
+step_total m m2 (ChangeTwo j k) r st h = ⊎_elim
+    (λ e. let x = absent_same (get m j) (get m k) r (get m2 j) (get m2 k) st.1 e in
+    ap (λ (x : Map ℕ). total (entries x)) (maps_alike m2 m (λ q. dite (dec_name q j) (λ f. ap (get m2) f ∙ (x.0 ∙ ap (get m) (sym f)))
+    (λ no_j. dite (dec_name q k) (λ f. ap (get m2) f ∙ (x.1 ∙ ap (get m) (sym f))) (λ no_k. st.2 q no_j no_k)))))
+    (λ (d : (v : ℕ) × (w : ℕ) × (v2 : ℕ) × (w2 : ℕ) × (r ≡ DoneTwo v w v2 w2) × (v + w ≡ v2 + w2)).
+    let x = done_same (get m j) (get m k) r (get m2 j) (get m2 k) d.0 d.1 d.2 d.3 st.1 d.4 in
+    let one = total-insert m j d.2 d.0 x.0 in
+    let two = total-insert (insert m j d.2) k d.3 d.1 (get_kept m j k d.2 (λ e. st.0 (sym e)) ∙ x.1) in
+    ap (λ (x : Map ℕ). total (entries x)) (two_inserts m m2 j k d.2 d.3 st.0 x.2 x.3 st.2)
+    ∙ sums (total (entries m)) (total (entries (insert m j d.2))) (total (entries (insert (insert m j d.2) k d.3))) d.0 d.1 d.2 d.3 one two d.5)
+    h
+
+session_shows : (m m2 : Map ℕ) (c : Call ℕ) (r : Reply ℕ) (n : ℕ) → total (entries m) ≡ n → Step m c r m2 → SessionShows n c
+session_shows m m2 (On k a) r n e st = tt
+session_shows m m2 (ChangeTwo j k) r n e st = tt
+session_shows m m2 Len r n e st = tt
+session_shows m m2 (Session a b) r n e st = ap total (sym st.1) ∙ e
+
+sums_keep : (more : List (Entry ℕ)) (m m2 : Map ℕ) (n : ℕ) → total (entries m) ≡ n → Leads m more m2 → EachKeepsTotal more → EachSessionShows n more
+sums_keep [] m m2 n e l h = tt
+sums_keep (x ∷ xs) m m2 n e l h = (session_shows m l.0 x.call x.reply n e l.1, sums_keep xs l.0 m2 n (step_total m l.0 x.call x.reply l.1 h.0 ∙ e) l.2 h.1)
+
+pub legal_sums : LawOfSums
+legal_sums log more m legal after keeps =
+    let z = leads_to empty legal.0 log more legal.1 in
+    let same : z.0 ≡ m = leads_one empty log z.0 m z.1 after in
+    sums_keep more m legal.0 (total (entries m)) refl (subst (λ (x : Map ℕ). Leads x more legal.0) same z.2) keeps

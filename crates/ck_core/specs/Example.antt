@@ -1,0 +1,119 @@
+-- Two runs of two callers over two stripes: one inserts and the other finds; and one begins and meets the other.
+use Rattle.std.specs.Prelude.{ℕ, List, [], ◌∷◌, Some, None}
+use Rattle.ck_model.specs.declared.history.Act.TheVariants.{Find, Insert}
+use Rattle.ck_model.specs.declared.history.Call.TheVariants.{On}
+use Rattle.ck_model.specs.declared.history.Reply.TheVariants.{Was, New}
+use Rattle.ck_model.specs.declared.history.Entry.{Entry}
+use Rattle.ck_model.specs.declared.settings.Settings.{Settings}
+use Rattle.ck_model.specs.declared.contents.Content.{Content}
+use Rattle.ck_model.specs.Map.{Name}
+use Rattle.ck_model.specs.Slots.{Slot}
+use Rattle.ck_model.specs.Contents.{Layout, Stripes}
+use Rattle.ck_core.specs.declared.view.View.{View}
+use Rattle.ck_core.specs.State.{World}
+use Rattle.ck_core.specs.Steps.{Move, Opening, Runs, newcomer, opener, spent}
+use Rattle.ck_core.specs.Steps.Move.{Take, FindHeld, Give, Decide, GiveRest, Renew, Look, Open, Tell, Join}
+
+-- the hash of a name is its first number, or 0
+abbrev pub first_number : Name → ℕ
+first_number [] = 0
+first_number (n ∷ ns) = n
+
+-- two stripes of one bucket each
+abbrev pub two_stripes : Layout
+two_stripes = record { hash = first_number; s = 1; max = 1 }
+
+abbrev pub settings : Settings
+settings = record { s = 1; power = 1; max = 1; callers = 2; turns = 1; rounds = 0; min_load = 0 }
+
+-- the name whose hash is 0; its buckets are both there are
+abbrev pub zero_name : Name
+zero_name = 0 ∷ []
+
+abbrev pub insertion : Entry ℕ
+insertion = record { by = 0; call = On zero_name (Insert 5); reply = New }
+
+abbrev pub look_up : Entry ℕ
+look_up = record { by = 1; call = On zero_name Find; reply = Was (Some 5) }
+
+-- a stripe whose bucket has this in its first slot
+abbrev pub stripe : Slot ℕ → ℕ → Content ℕ
+stripe o n = record { power = 1; rows = (o ∷ None ∷ None ∷ None ∷ []) ∷ []; ledger = n }
+
+abbrev pub empty_stripe : Content ℕ
+empty_stripe = stripe None 0
+
+abbrev pub full_stripe : Content ℕ
+full_stripe = stripe (Some (zero_name, 5)) 1
+
+-- both stripes, of which number 0 contains c
+abbrev pub both : Content ℕ → Stripes ℕ
+both c = (1, empty_stripe) ∷ (0, c) ∷ []
+
+-- the two callers as they begin
+abbrev pub first : View ℕ
+first = newcomer settings 0 1
+
+abbrev pub second : View ℕ
+second = newcomer settings 1 1
+
+-- the opening
+abbrev pub start : World ℕ
+start = record { words = 0 ∷ 0 ∷ []; homes = Some empty_stripe ∷ Some empty_stripe ∷ []; views = first ∷ second ∷ [] }
+
+-- the first caller has taken stripe 0
+abbrev pub one_held : World ℕ
+one_held = record { words = 1 ∷ 0 ∷ []; homes = None ∷ Some empty_stripe ∷ []; views = record first { held = (0, empty_stripe) ∷ [] } ∷ second ∷ [] }
+
+-- the first caller has decided its call, and still holds stripe 1
+abbrev pub decided : World ℕ
+decided = record {
+  words = 0 ∷ 1 ∷ [];
+  homes = Some full_stripe ∷ None ∷ [];
+  views = record first { held = (1, empty_stripe) ∷ []; seen = insertion ∷ []; mine = insertion ∷ [] } ∷ record second { found = 0 ∷ [] } ∷ [];
+}
+
+-- the second caller holds both stripes
+abbrev pub both_held : World ℕ
+both_held = record {
+  words = 1 ∷ 1 ∷ [];
+  homes = None ∷ None ∷ [];
+  views = record first { seen = insertion ∷ []; mine = insertion ∷ [] } ∷ record second { held = both full_stripe; seen = insertion ∷ []; found = 1 ∷ 0 ∷ [] } ∷ [];
+}
+
+-- all stripes are at home
+abbrev pub finish : World ℕ
+finish = record {
+  words = 0 ∷ 0 ∷ [];
+  homes = Some full_stripe ∷ Some empty_stripe ∷ [];
+  views = record first { seen = insertion ∷ []; mine = insertion ∷ [] } ∷ record second { seen = insertion ∷ look_up ∷ []; mine = look_up ∷ []; found = 1 ∷ 0 ∷ [] } ∷ [];
+}
+
+abbrev pub steps : List (ℕ × Move ℕ)
+steps = (0, Take 0) ∷ (1, FindHeld 0) ∷ (0, Take 1) ∷ (0, Decide 0 (both full_stripe) insertion) ∷ (1, Take 0)
+    ∷ (1, FindHeld 1) ∷ (0, GiveRest 1) ∷ (1, Take 1) ∷ (1, Decide 0 (both full_stripe) look_up) ∷ (1, GiveRest 1) ∷ []
+
+-- the callers can begin so
+abbrev pub ExampleOpens : Type 0
+ExampleOpens = Opening two_stripes settings 2 1 start
+
+-- the steps lead from the opening to the end, with a history of the two entries
+abbrev pub ExampleRuns : Type 0
+ExampleRuns = Runs two_stripes 0 [] start steps (insertion ∷ look_up ∷ []) finish
+
+-- one caller, which keeps the number of the other
+abbrev pub alone : World ℕ
+alone = record { words = 0 ∷ 0 ∷ []; homes = Some empty_stripe ∷ Some empty_stripe ∷ []; views = opener settings 0 1 (1 ∷ []) ∷ [] }
+
+-- the other caller has begun and met the first
+abbrev pub met : World ℕ
+met = record { words = 0 ∷ 0 ∷ []; homes = Some empty_stripe ∷ Some empty_stripe ∷ []; views = first ∷ record second { heard_told = 1 } ∷ spent ∷ [] }
+
+abbrev pub meeting : List (ℕ × Move ℕ)
+meeting = (0, Open) ∷ (0, Take 0) ∷ (0, Renew 0 ((0, empty_stripe) ∷ []) None) ∷ (0, Take 1) ∷ (0, Give 1 None) ∷ (0, Tell) ∷ (1, Join 2) ∷ (1, Look 0 1) ∷ []
+
+abbrev pub MeetingOpens : Type 0
+MeetingOpens = Opening two_stripes settings 2 1 alone
+
+abbrev pub MeetingRuns : Type 0
+MeetingRuns = Runs two_stripes 0 [] alone meeting [] met

@@ -1,0 +1,6 @@
+pub mod State
+pub mod Steps
+pub mod Laws
+pub mod Sums
+pub mod Example
+pub mod Refusals

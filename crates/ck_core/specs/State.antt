@@ -1,0 +1,66 @@
+-- The state of the core, and the law that it keeps.
+use Rattle.std.specs.Prelude.{◌≡◌, ◌⊎◌, ℕ, ◌^◌, ◌<◌, ◌≤◌, List, [], ◌∷◌, ◌++◌, length, slice_index, Option, Some, None}
+use mathlib.Core.Option.{some}
+use lib.ListN.{get_elem?}
+use Rattle.ck_model.specs.declared.history.Entry.{Entry}
+use Rattle.ck_model.specs.Numbered.{IsIn, AreDistinct, numbers, Holds}
+use Rattle.ck_model.specs.History.{After, StartsWith, calls_by}
+use Rattle.ck_model.specs.declared.contents.Content.{Content}
+use Rattle.ck_model.specs.Contents.{Layout, bindings, Lawful, whole}
+use Rattle.ck_core.specs.declared.view.View.{View}
+
+-- The words of the stripes, what lies in their places, and the views. A place is empty while its stripe is held.
+pub record World (V : Type 0) : Type 0 where
+  pub words : List ℕ
+  pub homes : List (Option (Content V))
+  pub views : List (View V)
+
+module _ {V : Type 0} where
+  -- a number with its entries, where there is one
+  abbrev pub own : Option ℕ → List (Entry V) → List (ℕ × List (Entry V))
+  own None l = []
+  own (Some m) l = (m, l) ∷ []
+
+  -- the view's own number and those that it keeps for others, each with its entries
+  abbrev pub owned : View V → List (ℕ × List (Entry V))
+  owned v = own v.by v.mine ++ v.others
+
+  -- what the stripe t contains: at home, or in its holder's view
+  abbrev pub IsPart : World V → ℕ → Content V → Type 0
+  IsPart s t c = (get_elem? s.homes t ≡ some (Some c)) ⊎ ((j : ℕ) × (v : View V) × (get_elem? s.views j ≡ some v) × Holds v.held t c)
+
+  -- Of n stripes, the word is 0 where the stripe is at home, and 1 where its owner holds it. Stripe t contains w t.
+  pub record Places (n : ℕ) (s : World V) (w : ℕ → Content V) : Type 0 where
+    pub owner : ℕ → ℕ
+    pub words_sized : length s.words ≡ n
+    pub homes_sized : length s.homes ≡ n
+    pub is_bit : (t : ℕ) → t < n → slice_index s.words t < 2
+    pub at_home : (t : ℕ) → t < n → slice_index s.words t ≡ 0 → get_elem? s.homes t ≡ some (Some (w t))
+    pub is_held : (t : ℕ) → t < n → slice_index s.words t ≡ 1 → (v : View V) × (get_elem? s.views (owner t) ≡ some v) × Holds v.held t (w t)
+    pub holds : (j : ℕ) (v : View V) → get_elem? s.views j ≡ some v → (t : ℕ) (c : Content V) → Holds v.held t c → (t < n) × (slice_index s.words t ≡ 1) × (owner t ≡ j) × (w t ≡ c)
+    pub distinct : (j : ℕ) (v : View V) → get_elem? s.views j ≡ some v → AreDistinct (numbers v.held)
+
+  -- What was seen and heard begins the history, the entries of the view's numbers are all that the history has of them, and its own were seen.
+  pub record Knows (callers : ℕ) (log : List (Entry V)) (v : View V) : Type 0 where
+    pub seen : StartsWith log v.seen
+    pub heard : StartsWith log v.heard
+    pub calls : (m : ℕ) (l : List (Entry V)) → Holds (owned v) m l → calls_by m log ≡ l
+    pub own_seen : (m : ℕ) → v.by ≡ Some m → calls_by m v.seen ≡ v.mine
+    pub distinct : AreDistinct (numbers (owned v))
+    pub within : (m : ℕ) → IsIn m (numbers (owned v)) → m < callers
+
+  -- No two views have one number, and the history has no entry of a number that isn't below `callers`.
+  pub record Callers (callers : ℕ) (log : List (Entry V)) (views : List (View V)) : Type 0 where
+    pub keeper : ℕ → ℕ
+    pub keeps : (j : ℕ) (v : View V) → get_elem? views j ≡ some v → (m : ℕ) → IsIn m (numbers (owned v)) → keeper m ≡ j
+    pub knows : (j : ℕ) (v : View V) → get_elem? views j ≡ some v → Knows callers log v
+    pub no_others : (m : ℕ) → callers ≤ m → calls_by m log ≡ []
+
+  -- The history law: each stripe is in its place or with one holder, the whole is lawful, no view was told a power above the table's, each view knows a beginning of the history, and the history is legal and leads to the bindings of the whole.
+  pub record Law (k : Layout) (callers : ℕ) (log : List (Entry V)) (s : World V) : Type 0 where
+    pub contents : ℕ → Content V
+    pub places : Places (2 ^ k.s) s contents
+    pub lawful : Lawful k (whole k contents)
+    pub told : (j : ℕ) (v : View V) → get_elem? s.views j ≡ some v → (t : ℕ) → t < 2 ^ k.s → (v.told ≤ (contents t).power) × (v.heard_told ≤ (contents t).power)
+    pub callers_known : Callers callers log s.views
+    pub legal : After log (bindings (whole k contents))

@@ -1,0 +1,82 @@
+//! The laws of the core. The functions do nothing: their contracts are the laws.
+ghost use Rattle.std.specs.Prelude.{ℕ, Option};
+ghost use Rattle.ck_model.specs.declared.history.Entry.{Entry};
+ghost use Rattle.ck_model.specs.declared.history.Why.{Why};
+ghost use Rattle.ck_model.specs.Map.{Name};
+ghost use Rattle.ck_model.specs.Contents.{Stripes};
+ghost use Rattle.ck_core.specs.Steps.Move.{Take, FindHeld, Give, Decide, GiveRest, Renew, Look, Open, Tell, Join};
+ghost use Rattle.ck_core.specs.Laws.{LawOfRuns, Keeps, LawOfViews, LawOfReplies, LawOfAnswers, LawOfOtherSteps};
+ghost use Rattle.ck_core.specs.Sums.{LawOfSums};
+
+/// A step by which a caller takes a stripe that is at home keeps the law.
+pub fn law_of_take<V>()
+    ensures { (t : ℕ) → Keeps {V = V} (Take t) }
+{}
+
+/// A step by which a caller finds a stripe held keeps the law.
+pub fn law_of_find_held<V>()
+    ensures { (t : ℕ) → Keeps {V = V} (FindHeld t) }
+{}
+
+/// A step by which a caller gives back a stripe unchanged keeps the law, whatever it says of room.
+pub fn law_of_give<V>()
+    ensures { (t : ℕ) (g : Option (Name × Why)) → Keeps {V = V} (Give t g) }
+{}
+
+/// A step by which a caller gives back the first stripe after a section, and so decides a call, keeps the law: the
+/// entry joins the history, and its reply is the plain map's at that point.
+pub fn law_of_decide<V>()
+    ensures kept { (t : ℕ) (ks : Stripes V) (e : Entry V) → Keeps (Decide t ks e) }
+    ensures reply { LawOfReplies V }
+{}
+
+/// A step by which a caller gives back a further stripe keeps the law.
+pub fn law_of_give_rest<V>()
+    ensures { (t : ℕ) → Keeps {V = V} (GiveRest t) }
+{}
+
+/// A step by which a caller gives back the first stripe after an identity section, as a displacement or a doubling is,
+/// keeps the law.
+pub fn law_of_renew<V>()
+    ensures { (t : ℕ) (ks : Stripes V) (g : Option (Name × Why)) → Keeps (Renew t ks g) }
+{}
+
+/// A step by which a caller sees the history and may be told a greater power keeps the law.
+pub fn law_of_look<V>()
+    ensures { (t p : ℕ) → Keeps {V = V} (Look t p) }
+{}
+
+/// The steps by which a new caller begins, by which a caller tells what it has seen, and by which a caller joins
+/// another view to its own keep the law.
+pub fn law_of_splits<V>()
+    ensures opening { Keeps {V = V} Open }
+    ensures telling { Keeps {V = V} Tell }
+    ensures joining { (other : ℕ) → Keeps {V = V} (Join other) }
+{}
+
+/// Whatever callers do from an opening state on, the law holds after each step, with the history of what was decided.
+pub fn law_of_runs<V>()
+    ensures { LawOfRuns V }
+{}
+
+/// What each view shows while the law holds: what was seen and heard are beginnings of one legal history, which has of
+/// its caller just the entries that are its own, all of them seen. The held stripes are lawful, and where they are all
+/// stripes, the history leads to what they contain. Where a view keeps the numbers of all callers, the history is a
+/// shuffle of their entries.
+pub fn law_of_views<V>()
+    ensures { LawOfViews V }
+{}
+
+/// A step that decides a call leaves its caller with it answered: to what the caller had seen come some entries of
+/// others and then the call's own, all of that is legal, and the caller has this entry more. Every other step leaves
+/// its caller with the entries that it had, and with no less of the history seen.
+pub fn law_of_answers<V>()
+    ensures decided { LawOfAnswers V }
+    ensures other { LawOfOtherSteps V }
+{}
+
+/// Where from some point of a legal history on each entry is a find, a len, a session that changes nothing, or a
+/// change of two that keeps the sum of their values, every later session shows the sum of that point.
+pub fn law_of_sums()
+    ensures { LawOfSums }
+{}

@@ -1,0 +1,31 @@
+//! What a caller knows.
+use ck_model::contents::Content;
+use ck_model::history::{Entry, Name, Why};
+use ck_model::settings::Settings;
+use std::collections::LinkedList;
+
+/// What a caller knows. The table makes no value of this type: contracts speak of it.
+pub struct View<V> {
+    /// What a step may tell can read no more of the table than its caller's view.
+    pub settings: Settings,
+    /// The caller's number. A view that was split off for a meeting has none.
+    pub by: Option<u64>,
+    /// The stripes that are held, the last taken first.
+    pub held: LinkedList<(u64, Content<V>)>,
+    /// The history up to the last step by which the caller saw it.
+    pub seen: LinkedList<Entry<V>>,
+    /// The caller's own entries.
+    pub mine: LinkedList<Entry<V>>,
+    /// A power that the table had, or a lower one.
+    pub told: u64,
+    /// The stripes that were found held, once for each time.
+    pub found: LinkedList<u64>,
+    /// The names that found no room and why, once for each time.
+    pub noroom: LinkedList<(Name, Why)>,
+    /// What another caller had seen when it was last met.
+    pub heard: LinkedList<Entry<V>>,
+    /// The power that the other caller had been told.
+    pub heard_told: u64,
+    /// The numbers of callers that have not begun or have ended, with their entries.
+    pub others: LinkedList<(u64, LinkedList<Entry<V>>)>,
+}

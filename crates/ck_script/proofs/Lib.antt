@@ -1,0 +1,10 @@
+pub mod Numbers
+pub mod Cuts
+pub mod ParseFrom
+pub mod Spelling
+pub mod Faults
+pub mod Answered
+pub mod Writing
+pub mod Progress
+pub mod Spelled
+pub mod Ends

@@ -1,0 +1,13 @@
+pub mod Script
+pub mod Words
+pub mod AreWords
+pub mod Lines
+pub mod Parse
+pub mod State
+pub mod Spells
+pub mod FirstFault
+pub mod Text
+pub mod Output
+pub mod Answered
+pub mod Run
+pub mod Laws

@@ -1,0 +1,80 @@
+-- Parsing line by line, as the reader does it. Only the proofs need this file: the laws of scripts tie it to the grammar and to the first fault.
+use Rattle.std.specs.Prelude.{◌≡◌, ℕ, ◌+◌, List, [], ◌∷◌, ◌++◌, length, Option, Some, None, Result, Ok, Err, Bool, false, ◌==◌, nat_lt, if◌then◌else◌, codes}
+use Rattle.std.specs.Str.{bytes_eq}
+use Rattle.ck_script.specs.Script.{NumCommand, fault_at, OnTextFault}
+use Rattle.ck_script.specs.declared.line.Place.{Place}
+use Rattle.ck_script.specs.declared.line.Place.TheVariants as at
+use Rattle.ck_script.specs.declared.script.What.{What}
+use Rattle.ck_script.specs.declared.script.What.TheVariants as is
+use Rattle.ck_script.specs.declared.script.ScriptFault.{ScriptFault}
+use Rattle.ck_script.specs.Lines.{◌>>=◌, parts, command_at}
+
+-- the place of the next line, and the command that this one says; or what is wrong with it
+unfoldable pub step_at : Place → List ℕ → Result (Place × Option NumCommand) What
+step_at at.Header line = if bytes_eq line (codes "cuckoo 1") then Ok (at.Settings, None) else Err is.Header
+step_at at.Settings line = if bytes_eq line (codes "worker") then Ok (at.Block, None) else Err is.Command
+step_at at.Block line =
+    if bytes_eq line (codes "end") then Ok (at.After, None) else do
+      c ← command_at line
+      Ok (at.Block, Some c)
+step_at at.After line = Err is.Command
+
+-- how many lines stand before a place, behind n commands
+abbrev pub lines_before : Place → ℕ → ℕ
+lines_before at.Header n = 0
+lines_before at.Settings n = 1
+lines_before at.Block n = n + 2
+lines_before at.After n = n + 3
+
+-- none or one
+abbrev pub commands_of : Option NumCommand → List NumCommand
+commands_of None = []
+commands_of (Some c) = c ∷ []
+
+-- the command has room behind n others: at most 1,000,000 are allowed
+abbrev pub within_count : ℕ → Place → Option NumCommand → Result (Place × Option NumCommand) What
+within_count n place None = Ok (place, None)
+within_count n place (Some c) = if nat_lt n 1000000 then Ok (place, Some c) else Err is.TooLong
+
+-- a line that a line feed ends, at a place behind n commands
+unfoldable pub line_at : Place → ℕ → List ℕ → Result (Place × Option NumCommand) What
+line_at place n line = if nat_lt 200 (length line) then Err is.TooLong else (step_at place line >>= λ s. within_count n s.0 s.1)
+
+-- the input may end here, with these bytes behind its last line feed
+abbrev pub is_complete : Place → List ℕ → Bool
+is_complete at.After rest = length rest == 0
+is_complete place rest = false
+
+-- the end of the input: no more commands, or what is wrong with it
+unfoldable pub ending : Place → List ℕ → Result (List NumCommand) What
+ending place rest = if nat_lt 200 (length rest) then Err is.TooLong else if is_complete place rest then Ok [] else Err is.Truncated
+
+-- the fault with its line
+abbrev pub on_line : {A : Type 0} → ℕ → Result A What → Result A ScriptFault
+on_line line (Ok x) = Ok x
+on_line line (Err what) = Err (fault_at line what)
+
+-- the commands behind those in front
+abbrev pub with_front : List NumCommand → Result (List NumCommand) ScriptFault → Result (List NumCommand) ScriptFault
+with_front front read = read >>= λ cs. Ok (front ++ cs)
+
+-- the commands of these parts, behind n commands, or the first fault
+unfoldable pub parse_lines : Place → ℕ → List (List ℕ) → Result (List NumCommand) ScriptFault
+parse_lines place n [] = Err (fault_at (lines_before place n + 1) is.Truncated)
+parse_lines place n (rest ∷ []) = on_line (lines_before place n + 1) (ending place rest)
+parse_lines place n (line ∷ next ∷ more) = do
+  s ← on_line (lines_before place n + 1) (line_at place n line)
+  with_front (commands_of s.1) (parse_lines s.0 (n + length (commands_of s.1)) (next ∷ more))
+
+-- the commands of all of the bytes, or the first fault
+abbrev pub parse : List ℕ → Result (List NumCommand) ScriptFault
+parse bytes = parse_lines at.Header 0 (parts bytes)
+
+-- the same of the rest of the bytes, behind these commands and the front of a line
+abbrev pub parse_from : Place → List NumCommand → List ℕ → List ℕ → Result (List NumCommand) ScriptFault
+parse_from place cs line rest = with_front cs (parse_lines place (length cs) (parts (line ++ rest)))
+
+-- a result is what parsing gives, or want of memory or a failed read
+abbrev pub IsParsed : {X : Type 0} → (X → List NumCommand) → Result X ScriptFault → Result (List NumCommand) ScriptFault → Type 0
+IsParsed view (Ok x) read = read ≡ Ok (view x)
+IsParsed view (Err e) read = OnTextFault e.what (read ≡ Err e)

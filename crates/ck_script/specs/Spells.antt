@@ -1,0 +1,36 @@
+-- The grammar of scripts: a script is a list of lines, each ended by a line feed.
+use Rattle.std.specs.Prelude.{All, length, ◌≤◌, ◌≡◌, ℕ, List, [], ◌∷◌, ◌++◌, codes}
+use Rattle.std.specs.List.{flat_map}
+use Rattle.ck_script.specs.Script.{NumCommand}
+use Rattle.ck_script.specs.declared.script.Command.TheVariants.{Find, Insert}
+use Rattle.ck_script.specs.Words.{words, IsNumber}
+use Rattle.ck_script.specs.Lines.{IsLine}
+
+-- the words of a line are this command
+abbrev pub IsCommand : List (List ℕ) → NumCommand → Type 0
+IsCommand (name ∷ key ∷ []) (Find k) = (name ≡ codes "find") × IsNumber key k.0
+IsCommand (name ∷ key ∷ value ∷ []) (Insert k v) = (name ≡ codes "insert") × IsNumber key k.0 × IsNumber value v
+IsCommand ws c = ⊥
+
+-- the lines behind a line `worker` are these commands, one a line, and then the line `end`
+abbrev pub AreCommands : List (List ℕ) → List NumCommand → Type 0
+AreCommands (line ∷ lines) (c ∷ cs) = IsCommand (words line) c × AreCommands lines cs
+AreCommands (line ∷ []) [] = line ≡ codes "end"
+AreCommands lines cs = ⊥
+
+-- the lines of a script with these commands
+abbrev pub IsScript : List (List ℕ) → List NumCommand → Type 0
+IsScript (header ∷ worker ∷ lines) cs = (header ≡ codes "cuckoo 1") × (worker ≡ codes "worker") × AreCommands lines cs
+IsScript lines cs = ⊥
+
+-- a line and its line feed
+abbrev pub with_feed : List ℕ → List ℕ
+with_feed line = line ++ 10 ∷ []
+
+-- the bytes are a script with these commands, at most 1,000,000
+pub record Spells (bytes : List ℕ) (commands : List NumCommand) : Type 0 where
+  pub lines : List (List ℕ)
+  pub whole : bytes ≡ flat_map with_feed lines
+  pub each : All IsLine lines
+  pub script : IsScript lines commands
+  pub few : length commands ≤ 1000000
