@@ -11,7 +11,7 @@ use Rattle.ck_model.specs.declared.history.Why.{Why}
 use Rattle.ck_model.specs.declared.contents.Content.{Content}
 use Rattle.ck_model.specs.Map.{Name}
 use Rattle.ck_model.specs.Numbered.{Holds}
-use Rattle.ck_model.specs.Contents.{Layout, Stripes}
+use Rattle.ck_model.specs.Contents.{Layout, Lawful}
 use Rattle.ck_model.specs.Sections.{Section, IdentitySection}
 use Rattle.ck_model.proofs.Numbered.{Some-injective}
 use Rattle.ck_stripe.specs.Stripe.{StripeState}
@@ -23,7 +23,7 @@ use Rattle.ck_core.proofs.Lists.{at_set, set_else, set_there}
 use Rattle.ck_core.proofs.Shown.{shows}
 use Rattle.ck_core.proofs.Keeps.{take_keeps, find_keeps, give_keeps, decide_keeps, renew_keeps, look_to, open_keeps, tell_keeps, join_keeps}
 use Rattle.ck_words.specs.Rule.{Slot, Hand, lying, spaced, world, IsNumbered, IsKept, Rule}
-use Rattle.ck_words.specs.Plays.{contents_in, contents_now, TakesOrFinds, Gives, Decides, Looks, first_number, opened, begun}
+use Rattle.ck_words.specs.Plays.{contents_in, contents_now, first_in, TakesOrFinds, Gives, Decides, Looks, first_number, opened, begun}
 use Rattle.ck_words.proofs.Spacing.{spaced-at, spaced-set}
 
 module _ {V : Type 0} where
@@ -133,27 +133,27 @@ module _ {V : Type 0} (k : Layout) (callers : ℕ) where
           gives,
           tt,
           (r.0, kept),
-          (stripe, out, r.0, is, (shows_now r.0 s id m.0 r.1 at, shows_then r.0 s (t * 8) 0 id m.1 m.0 w gives kept at), λ i. (w, rest (is i))),
+          (r.0, (shows_now r.0 s id m.0 r.1 at, shows_then r.0 s (t * 8) 0 id m.1 m.0 w gives kept at), λ i. (giving m.0 t (first_in (sym is i)).content m.0.held g, rest m.1)),
         )
 
     pub renew_allowed : (t : ℕ) (stripe : StripeState V) (g : Option (Name × Why)) (out : List (ℕ × Slot V)) → m.1 ≡ (t, Some stripe) ∷ out → t < 2 ^ k.s → IsNumbered k.s t stripe → Holds (contents_now m.1) t stripe.content
-        → IdentitySection k m.0.held (contents_now m.1) → Allows (Rule k callers) slots id m (t * 8) (λ _. 0) (λ _. Gives k callers t (contents_now m.1) g m)
+        → (Lawful k m.0.held → IdentitySection k m.0.held (contents_now m.1)) → Allows (Rule k callers) slots id m (t * 8) (λ _. 0) (λ _. Gives k callers t (contents_now m.1) g m)
     renew_allowed t stripe g out is l own h sec s r _ at _ =
         let w : View V = giving m.0 t stripe.content (contents_now m.1) g in
-        let kept = gave r.0 r.0 s id t stripe w m.1 out is l own r.1 (renew_keeps k callers r.0 (world (2 ^ k.s) s) r.1.law id m.0 at (contents_now m.1) t stripe.content h g sec) in (
+        let kept = gave r.0 r.0 s id t stripe w m.1 out is l own r.1 (renew_keeps k callers r.0 (world (2 ^ k.s) s) r.1.law id m.0 at (contents_now m.1) t stripe.content h g (sec (shows_now r.0 s id m.0 r.1 at).lawful)) in (
           w,
           gives,
           tt,
           (r.0, kept),
-          (stripe, out, r.0, is, (shows_now r.0 s id m.0 r.1 at, shows_then r.0 s (t * 8) 0 id m.1 m.0 w gives kept at), λ i. (w, rest (is i))),
+          (r.0, (shows_now r.0 s id m.0 r.1 at, shows_then r.0 s (t * 8) 0 id m.1 m.0 w gives kept at), λ i. (giving m.0 t (first_in (sym is i)).content (contents_now m.1) g, rest m.1)),
         )
 
     pub decide_allowed : (t : ℕ) (stripe : StripeState V) (e : Entry V) (out : List (ℕ × Slot V)) → m.1 ≡ (t, Some stripe) ∷ out → t < 2 ^ k.s → IsNumbered k.s t stripe → Holds (contents_now m.1) t stripe.content
-        → m.0.by ≡ Some e.by → Section k m.0.held e.call e.reply (contents_now m.1) → Allows (Rule k callers) slots id m (t * 8) (λ _. 0) (λ _. Decides k callers t e m)
+        → m.0.by ≡ Some e.by → (Lawful k m.0.held → Section k m.0.held e.call e.reply (contents_now m.1)) → Allows (Rule k callers) slots id m (t * 8) (λ _. 0) (λ _. Decides k callers t e m)
     decide_allowed t stripe e out is l own h by sec s r _ at _ =
         let log2 : List (Entry V) = r.0 ++ e ∷ [] in
         let w : View V = deciding m.0 t (contents_now m.1) r.0 e in
-        let kept = gave r.0 log2 s id t stripe w m.1 out is l own r.1 (decide_keeps k callers r.0 (world (2 ^ k.s) s) r.1.law id m.0 at (contents_now m.1) t stripe.content h e by sec) in
+        let kept = gave r.0 log2 s id t stripe w m.1 out is l own r.1 (decide_keeps k callers r.0 (world (2 ^ k.s) s) r.1.law id m.0 at (contents_now m.1) t stripe.content h e by (sec (shows_now r.0 s id m.0 r.1 at).lawful)) in
         (w, gives, tt, (log2, kept), (r.0, (shows_now r.0 s id m.0 r.1 at, shows_then log2 s (t * 8) 0 id m.1 m.0 w gives kept at), refl))
 
     pub look_allowed : (word : ℕ) → Allows (Rule k callers) slots id m word (λ x. x) (λ _. Looks k callers m)

@@ -1,2 +1,4 @@
 pub mod Spacing
+pub mod Reversed
 pub mod Allowed
+pub mod Seating

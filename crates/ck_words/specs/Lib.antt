@@ -1,2 +1,4 @@
 pub mod Rule
 pub mod Plays
+pub mod Passes
+pub mod Words

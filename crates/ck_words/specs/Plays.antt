@@ -1,5 +1,6 @@
 -- What each step on a word tells.
 use Rattle.std.specs.Prelude.{◌≡◌, ◌≢◌, ℕ, ◌≤◌, List, [], ◌∷◌, ◌++◌, drop, Option, Some, None, reverse}
+use Rattle.std.specs.Option.{unwrap_or}
 use Rattle.atomic_table.specs.Table.{rest}
 use Rattle.ck_model.specs.declared.history.Entry.{Entry}
 use Rattle.ck_model.specs.declared.history.Call.TheVariants.{Len}
@@ -8,6 +9,7 @@ use Rattle.ck_model.specs.declared.history.Why.{Why}
 use Rattle.ck_model.specs.Map.{Name}
 use Rattle.ck_model.specs.Contents.{Layout, Stripes}
 use Rattle.ck_stripe.specs.Stripe.{StripeState}
+use Rattle.ck_section.specs.Stripes.{no_stripe}
 use Rattle.ck_core.specs.declared.view.View.{View}
 use Rattle.ck_core.specs.Steps.{giving, deciding, newcomer}
 use Rattle.ck_core.specs.Laws.{Shows}
@@ -18,11 +20,20 @@ abbrev pub no_entry : {V : Type 0} → Entry V
 no_entry = record { by = 0; call = Len; reply = Closed }
 
 module _ {V : Type 0} where
+  -- the stripe of a slot that is full
+  abbrev pub stripe_in : ℕ × Slot V → StripeState V
+  stripe_in x = unwrap_or x.1 no_stripe
+
   -- the contents of the stripes in these slots
   abbrev pub contents_in : List (ℕ × Slot V) → Stripes V
   contents_in [] = []
   contents_in ((t, Some stripe) ∷ xs) = (t, stripe.content) ∷ contents_in xs
   contents_in ((t, None) ∷ xs) = contents_in xs
+
+  -- the stripe of the first slot
+  abbrev pub first_in : List (ℕ × Slot V) → StripeState V
+  first_in [] = no_stripe
+  first_in (x ∷ xs) = stripe_in x
 
   -- The contents in a seat's slots, the last taken first. The seat has the last taken first, and then the others in the order in which they were taken.
   abbrev pub contents_now : List (ℕ × Slot V) → Stripes V
@@ -40,11 +51,9 @@ module _ {V : Type 0} where
       × (m2 ≡ (record m.0 { held = (t, stripe.content) ∷ m.0.held; seen = log }, (t, Some stripe) ∷ m.1)))
       × (r ≢ 0 → m2 ≡ (record m.0 { found = t ∷ m.0.found }, m.1))
 
-  -- the stripe t of the contents hs went home, which noroom may tell of
+  -- The first stripe, number t of the contents hs, went home, and noroom may tell of it.
   abbrev pub Gives : Layout → ℕ → ℕ → Stripes V → Option (Name × Why) → Hand V → Hand V → Type 0
-  Gives k callers t hs g m m2 =
-      (stripe : StripeState V) × (out : List (ℕ × Slot V)) × (log : List (Entry V)) × (m.1 ≡ (t, Some stripe) ∷ out) × ShowsBoth k callers log log m.0 m2.0
-      × (m2 ≡ (giving m.0 t stripe.content hs g, out))
+  Gives k callers t hs g m m2 = (log : List (Entry V)) × ShowsBoth k callers log log m.0 m2.0 × (m2 ≡ (giving m.0 t (first_in m.1).content hs g, rest m.1))
 
   -- the stripe t went home with its new content, and the entry was decided
   abbrev pub Decides : Layout → ℕ → ℕ → Entry V → Hand V → Hand V → Type 0

@@ -2,3 +2,9 @@
 #![tactic(auto)]
 
 mod law;
+mod pass;
+mod words;
+
+pub use law::{Refuses, Says};
+pub use pass::Pass;
+pub use words::Words;
