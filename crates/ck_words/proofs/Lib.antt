@@ -2,3 +2,5 @@ pub mod Spacing
 pub mod Reversed
 pub mod Allowed
 pub mod Seating
+pub mod Taking
+pub mod Giving

@@ -58,6 +58,10 @@ module _ {V : Type 0} where
     pub one_s : EachOf me.0.settings.s (stripes_in me.1)
     pub room_for_all : table.slots ≤ room
 
+  -- what contracts see of a seat
+  abbrev pub state_of : TableId → Hand V → PassState V
+  state_of table me = record { table = table; view = me.0; stripes = stripes_in me.1 }
+
   -- a pass of this table
   abbrev pub IsPassOf : WordsState → PassState V → Type 0
   IsPassOf w p = (p.table ≡ w.table) × (p.view.settings ≡ w.settings)

@@ -3,6 +3,7 @@
 
 mod law;
 mod pass;
+mod steps;
 mod words;
 
 pub use law::{Refuses, Says};

@@ -15,11 +15,11 @@ pub struct Pass<K: TableKey, V> {
 
 impl<K: TableKey, V> Model for Pass<K, V> {
     ghost use Rattle.std.specs.Prelude.{vec_capacity};
-    ghost use Rattle.ck_words.specs.Passes.{PassState, stripes_in, IsSeated};
+    ghost use Rattle.ck_words.specs.Passes.{PassState, state_of, IsSeated};
 
     ghost Value = { PassState V };
 
-    ghost view = { λ p. record { table = p.seat.table_id; view = p.seat.me.0; stripes = stripes_in p.seat.me.1 } };
+    ghost view = { λ p. state_of p.seat.table_id p.seat.me };
 
     ghost invariant = { λ p. IsSeated p.seat.table_id p.seat.me p.taken.items (vec_capacity p.taken) };
 }
