@@ -1,5 +1,8 @@
 -- What the steps ask and leave by which the highest stripe goes home, at the fields of words and pass.
-use Rattle.std.proofs.Common.{◌≡◌, ℕ, ◌*◌, ◌/◌, ◌^◌, ◌<◌, List, [], ◌∷◌, ◌++◌, length, reverse, sym, refl, ap, ◌∙◌, subst, inl, arith, Option, Some}
+use Rattle.std.proofs.Common.{◌≡◌, ℕ, ◌*◌, ◌/◌, ◌^◌, ◌<◌, ◌≤◌, List, [], ◌∷◌, ◌++◌, length, reverse, sym, refl, ap, ◌∙◌, subst, inl, arith, Option, Some}
+use Rattle.std.proofs.Common.{Fits as Fits64, w64}
+use Rattle.std.proofs.Math.Nat.{pow-le-pow_right}
+use Rattle.std.proofs.Math.Facts.{Fits-bits}
 use Rattle.std.proofs.lemmas.List.{reverse-reverse}
 use Rattle.atomic_table.specs.Table.{Allows, rest}
 use Rattle.atomic_table.specs.Seated.{TableId}
@@ -23,6 +26,9 @@ use Rattle.ck_words.proofs.Reversed.{section_turned, identity_turned}
 use Rattle.ck_words.proofs.Seating.{Last, last}
 use Rattle.ck_words.proofs.Taking.{Fits, word_of, same_settings, same_key, slots_are}
 
+pub turned_by : {V : Type 0} (me me2 : Hand V) (n m : ℕ) → me2 ≡ (me.0, rotated n me.1) → n ≡ m → me2 ≡ (me.0, rotated m me.1)
+turned_by me me2 n m e same = e ∙ λ i. (me.0, rotated (same i) me.1)
+
 module _ {V : Type 0} (hash : Name → ℕ) (w : WordsState) (p : PassState V) (tz : TableId) (key set : Settings) (z : TableId) (me : Hand V) (f : Fits w p tz key set z me) (ms : List ℕ) (t room : ℕ) (l : Last z me.0 me.1 ms t room) where
   -- the hand at the store
   abbrev pub at_front : Hand V
@@ -36,6 +42,13 @@ module _ {V : Type 0} (hash : Name → ℕ) (w : WordsState) (p : PassState V) (
 
   pub held_now : IsUnchanged p → unchanged_held
   held_now u = let e : contents_of (stripes_in me.1) ≡ reverse me.0.held = subst IsUnchanged (sym f.pass_is) u in sym (ap reverse e ∙ reverse-reverse me.0.held)
+
+  pub word_fits : Fits64 w64 (t * 8)
+  word_fits =
+      let small : 2 ^ w.settings.s ≤ 2 ^ 10 = pow-le-pow_right {n = 2} (omega arith) (subst (λ (x : WordsState). x.settings.s ≤ 10) f.words_are f.laid.range.stripes) in
+      let i = inside in
+      let low : t * 8 < 2 ^ 13 = omega arith in
+      Fits-bits 13 tt low
 
   -- the settings and the word are those that the step tells of
   settled : (X : Settings → ℕ → Type 0) → X key t → X me.0.settings (t * 8 / 8)
@@ -56,6 +69,16 @@ module _ {V : Type 0} (hash : Name → ℕ) (w : WordsState) (p : PassState V) (
   module _ (slots id : ℕ) (me2 : Hand V) (turned : me2 ≡ (me.0, rotated (length ms) me.1)) where
     pub is_front : me2 ≡ at_front
     is_front = turned ∙ λ i. (me.0, l.front i)
+
+    pub give_front : (g : Option (Name × Why)) (me3 : Hand V) → Gives (layout_of hash me2.0.settings) me2.0.settings.callers (t * 8 / 8) me2.0.held g me2 me3 → Gives (layout_of hash me.0.settings) me.0.settings.callers (t * 8 / 8) me.0.held g at_front me3
+    give_front g me3 h = subst (λ (m : Hand V). Gives (layout_of hash m.0.settings) m.0.settings.callers (t * 8 / 8) m.0.held g m me3) is_front h
+
+    pub renew_front : (g : Option (Name × Why)) (me3 : Hand V) → Gives (layout_of hash me2.0.settings) me2.0.settings.callers (t * 8 / 8) (contents_now me2.1) g me2 me3 → Gives (layout_of hash me.0.settings) me.0.settings.callers (t * 8 / 8) (reverse (contents_of (stripes_in me.1))) g at_front me3
+    renew_front g me3 h = subst (λ hs. Gives (layout_of hash me.0.settings) me.0.settings.callers (t * 8 / 8) hs g at_front me3) l.now
+        (subst (λ (m : Hand V). Gives (layout_of hash m.0.settings) m.0.settings.callers (t * 8 / 8) (contents_now m.1) g m me3) is_front h)
+
+    pub decide_front : (e : Entry V) (me3 : Hand V) → Decides (layout_of hash me2.0.settings) me2.0.settings.callers (t * 8 / 8) e me2 me3 → Decides (layout_of hash me.0.settings) me.0.settings.callers (t * 8 / 8) e at_front me3
+    decide_front e me3 h = subst (λ (m : Hand V). Decides (layout_of hash m.0.settings) m.0.settings.callers (t * 8 / 8) e m me3) is_front h
 
     moved : (X : Hand V → Type 0) → X at_front → X me2
     moved X x = subst X (sym is_front) x
@@ -110,9 +133,10 @@ module _ {V : Type 0} (hash : Name → ℕ) (w : WordsState) (p : PassState V) (
         → Gone hs (giving me.0 t l.stripe.content hs g) me3
     gave_gone hs g me3 h same = record { is = h.2 ∙ λ i. (giving me.0 (word_of t i) l.stripe.content hs g, l.out); settings = refl; held = refl; same = same }
 
-    pub gives_back : (hs : Stripes V) (g : Option (Name × Why)) (z3 : TableId) (me3 : Hand V) → z3 ≡ z → Gives (layout_of hash me.0.settings) me.0.settings.callers (t * 8 / 8) hs g at_front me3 → GivesBack hash w.settings hs g p (state_of z3 me3)
-    gives_back hs g z3 me3 same h =
-        let k = told (λ x n. Gives (layout_of hash x) x.callers n hs g at_front me3) h in
+    -- hs is what the contract speaks of
+    pub gives_back : (hs hs2 : Stripes V) (g : Option (Name × Why)) (z3 : TableId) (me3 : Hand V) → z3 ≡ z → hs ≡ hs2 → Gives (layout_of hash me.0.settings) me.0.settings.callers (t * 8 / 8) hs2 g at_front me3 → GivesBack hash w.settings hs g p (state_of z3 me3)
+    gives_back hs hs2 g z3 me3 same named h =
+        let k = told (λ x n. Gives (layout_of hash x) x.callers n hs g at_front me3) (subst (λ ks. Gives (layout_of hash me.0.settings) me.0.settings.callers (t * 8 / 8) ks g at_front me3) (sym named) h) in
         subst (λ (q : PassState V). GivesBack hash w.settings hs g q (state_of z3 me3)) f.pass_is (
           l.stripe,
           k.0,
