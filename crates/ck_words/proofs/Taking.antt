@@ -1,5 +1,6 @@
 -- What a take asks and leaves, at the fields of words and pass.
-use Rattle.std.proofs.Common.{◌≡◌, ◌≢◌, ℕ, ◌*◌, ◌/◌, ◌^◌, ◌<◌, List, [], ◌∷◌, ◌++◌, length, reverse, sym, refl, ap, ◌∙◌, subst, arith, Option, Some}
+use Rattle.std.proofs.Common.{◌≡◌, ◌≢◌, ℕ, ◌*◌, ◌/◌, ◌^◌, ◌<◌, ◌≤◌, List, [], ◌∷◌, ◌++◌, length, reverse, sym, refl, ap, ◌∙◌, subst, arith, Option, Some}
+use Rattle.std.proofs.Math.Nat.{one-le-pow}
 use Rattle.atomic_table.specs.Table.{turned, Allows}
 use Rattle.atomic_table.specs.Seated.{TableId}
 use Rattle.ck_model.specs.declared.history.Entry.{Entry}
@@ -12,10 +13,10 @@ use Rattle.ck_section.specs.Stripes.{contents_of}
 use Rattle.ck_core.specs.declared.view.View.{View}
 use Rattle.ck_core.specs.Steps.{IsAbove}
 use Rattle.ck_words.specs.Rule.{Slot, Hand, RuleOf, IsNumbered, layout_of}
-use Rattle.ck_words.specs.Plays.{stripe_in, ShowsBoth, TakesOrFinds}
+use Rattle.ck_words.specs.Plays.{stripe_in, ShowsBoth, TakesOrFinds, Looks}
 use Rattle.ck_words.specs.Words.{WordsState, IsLaidOut}
-use Rattle.ck_words.specs.Passes.{PassState, IsSeated, IsPassOf, IsUnchanged, Takes, Finds, state_of, stripes_in}
-use Rattle.ck_words.proofs.Allowed.{take_allowed}
+use Rattle.ck_words.specs.Passes.{PassState, IsSeated, IsPassOf, IsUnchanged, Takes, Finds, Looked, state_of, stripes_in}
+use Rattle.ck_words.proofs.Allowed.{take_allowed, look_allowed}
 use Rattle.ck_words.proofs.Reversed.{map-append, reverse-cons}
 use Rattle.ck_words.proofs.Seating.{seated_take, has_room}
 
@@ -130,3 +131,19 @@ module _ {V : Type 0} (hash : Name → ℕ) (w : WordsState) (p : PassState V) (
     found_seated ns room z2 me2 s same is =
         let new : IsSeated z (record me.0 { found = t ∷ me.0.found }, me.1) ns room = record { full = s.full; numbered = s.numbered; held = s.held; falls = s.falls; below = s.below; one_s = s.one_s; room_for_all = s.room_for_all } in
         subst (λ (x : TableId × Hand V). IsSeated x.0 x.1 ns room) (λ i. (sym same i, sym is i)) new
+
+  pub look_ready : (slots id : ℕ) → Allows (RuleOf hash key) slots id me 0 (λ n. n) (λ _. Looks (layout_of hash me.0.settings) me.0.settings.callers me)
+  look_ready slots id = subst (λ (x : Settings). Allows (RuleOf hash key) slots id me 0 (λ n. n) (λ _. Looks (layout_of hash x) x.callers me)) (sym (same_settings ∙ same_key)) (look_allowed (layout_of hash key) key.callers slots id me 0)
+
+  pub some_word : 0 < tz.words
+  some_word = let c = words_count in let one : 1 ≤ 2 ^ w.settings.s = one-le-pow w.settings.s 2 (omega arith) in omega arith
+
+  pub looked : (z2 : TableId) (me2 : Hand V) → z2 ≡ z → Looks (layout_of hash me.0.settings) me.0.settings.callers me me2 → Looked hash w.settings p (state_of z2 me2)
+  looked z2 me2 same h =
+      let k = subst (λ (x : Settings). Looks (layout_of hash x) x.callers me me2) same_settings h in
+      subst (λ (q : PassState V). Looked hash w.settings q (state_of z2 me2)) f.pass_is (k.0, k.1, k.2, k.3, k.4, λ i. state_of (same i) (k.5 i))
+
+  pub looked_seated : (ns : List ℕ) (room : ℕ) (z2 : TableId) (me2 : Hand V) → IsSeated z me ns room → z2 ≡ z → Looks (layout_of hash me.0.settings) me.0.settings.callers me me2 → IsSeated z2 me2 ns room
+  looked_seated ns room z2 me2 s same k =
+      let new : IsSeated z (record me.0 { seen = k.0; told = k.1 }, me.1) ns room = record { full = s.full; numbered = s.numbered; held = s.held; falls = s.falls; below = s.below; one_s = s.one_s; room_for_all = s.room_for_all } in
+      subst (λ (x : TableId × Hand V). IsSeated x.0 x.1 ns room) (λ i. (sym same i, sym k.5 i)) new
