@@ -2,5 +2,6 @@ pub mod Spacing
 pub mod Reversed
 pub mod Allowed
 pub mod Seating
-pub mod Taking
-pub mod Giving
+pub mod Takes
+pub mod Gives
+pub mod Staying

@@ -2,3 +2,4 @@ pub mod Rule
 pub mod Plays
 pub mod Passes
 pub mod Words
+pub mod Retries

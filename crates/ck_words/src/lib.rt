@@ -4,6 +4,7 @@
 mod law;
 mod pass;
 mod steps;
+mod tries;
 mod words;
 
 pub use law::{Refuses, Says};

@@ -1,7 +1,7 @@
 use Rattle.std.proofs.Common.{◌≡◌, ◌∙◌, length, rules}
-use Rattle.ck_words.proofs.Taking.{fits, same_table, word_inside}
+use Rattle.ck_words.proofs.Takes.{fits, same_table, word_inside}
 use Rattle.ck_words.proofs.Seating.{last}
-use Rattle.ck_words.proofs.Giving.{turned_by, inside, word_fits, decide_ready, decide_front, decided_gone, gone_seated, gone_unchanged, decided}
+use Rattle.ck_words.proofs.Gives.{turned_by, inside, word_fits, decide_ready, decide_front, decided_gone, gone_seated, gone_unchanged, decided}
 use Rattle.ck_words.proofs.words.Words.decide.Goals as goal
 
 pub overflow_mul-t : goal.overflow_mul-t

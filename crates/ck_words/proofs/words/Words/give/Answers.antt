@@ -1,8 +1,8 @@
 use Rattle.std.proofs.Common.{◌≡◌, ◌∙◌, sym, ap, length, rules}
 use Rattle.ck_words.specs.Passes.{PassState}
-use Rattle.ck_words.proofs.Taking.{fits, same_table, word_inside}
+use Rattle.ck_words.proofs.Takes.{fits, same_table, word_inside}
 use Rattle.ck_words.proofs.Seating.{last}
-use Rattle.ck_words.proofs.Giving.{turned_by, inside, word_fits, held_now, give_ready, give_front, gave_gone, gone_seated, gone_unchanged, gives_back}
+use Rattle.ck_words.proofs.Gives.{turned_by, inside, word_fits, held_now, give_ready, give_front, gave_gone, gone_seated, gone_unchanged, gives_back}
 use Rattle.ck_words.proofs.words.Words.give.Goals as goal
 
 pub overflow_mul-t : goal.overflow_mul-t

@@ -1,4 +1,4 @@
-use Rattle.ck_words.proofs.Taking.{fits, same_table, some_word, look_ready, looked, looked_seated}
+use Rattle.ck_words.proofs.Takes.{fits, same_table, some_word, look_ready, looked, looked_seated}
 use Rattle.ck_words.proofs.words.Words.look.Goals as goal
 
 pub load-requires : goal.load-requires

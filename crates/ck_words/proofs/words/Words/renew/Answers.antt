@@ -1,9 +1,9 @@
 use Rattle.std.proofs.Common.{◌≡◌, ◌∙◌, refl, sym, ap, length, reverse, rules}
 use Rattle.ck_section.specs.Stripes.{contents_of}
 use Rattle.ck_words.specs.Passes.{PassState}
-use Rattle.ck_words.proofs.Taking.{fits, same_table, word_inside}
+use Rattle.ck_words.proofs.Takes.{fits, same_table, word_inside}
 use Rattle.ck_words.proofs.Seating.{last}
-use Rattle.ck_words.proofs.Giving.{turned_by, inside, word_fits, renew_ready, renew_front, gave_gone, gone_seated, gone_unchanged, gives_back}
+use Rattle.ck_words.proofs.Gives.{turned_by, inside, word_fits, renew_ready, renew_front, gave_gone, gone_seated, gone_unchanged, gives_back}
 use Rattle.ck_words.proofs.words.Words.renew.Goals as goal
 
 pub overflow_mul-t : goal.overflow_mul-t

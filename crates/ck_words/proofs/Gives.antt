@@ -24,7 +24,7 @@ use Rattle.ck_words.specs.Passes.{PassState, IsSeated, IsUnchanged, GivesBack, D
 use Rattle.ck_words.proofs.Allowed.{give_allowed, renew_allowed, decide_allowed}
 use Rattle.ck_words.proofs.Reversed.{section_turned, identity_turned}
 use Rattle.ck_words.proofs.Seating.{Last, last}
-use Rattle.ck_words.proofs.Taking.{Fits, word_of, same_settings, same_key, slots_are}
+use Rattle.ck_words.proofs.Takes.{Fits, word_of, same_settings, same_key, slots_are}
 
 pub turned_by : {V : Type 0} (me me2 : Hand V) (n m : ℕ) → me2 ≡ (me.0, rotated n me.1) → n ≡ m → me2 ≡ (me.0, rotated m me.1)
 turned_by me me2 n m e same = e ∙ λ i. (me.0, rotated (same i) me.1)

@@ -1,0 +1,59 @@
+-- What stays as it is over steps that decide nothing.
+use Rattle.std.proofs.Common.{◌≡◌, ℕ, suc, ◌+◌, ◌<◌, ◌≤◌, List, [], ◌∷◌, ◌++◌, length, reverse, replicate, append-nil, append_assoc, length-append, sym, refl, ap, ◌∙◌, subst, arith, Option, None}
+use Rattle.ck_model.specs.declared.history.Entry.{Entry}
+use Rattle.ck_model.specs.declared.settings.Settings.{Settings}
+use Rattle.ck_model.specs.Map.{Name}
+use Rattle.ck_model.specs.History.{StartsWith}
+use Rattle.ck_model.specs.Numbered.{numbers}
+use Rattle.ck_model.specs.Contents.{Stripes}
+use Rattle.ck_model.proofs.Histories.{starts_itself}
+use Rattle.ck_stripe.specs.Stripe.{StripeState}
+use Rattle.ck_core.specs.declared.view.View.{View}
+use Rattle.ck_core.specs.Steps.{giving}
+use Rattle.ck_words.specs.Passes.{PassState, Takes, GivesBack}
+use Rattle.ck_words.specs.Retries.{Stays, found_again, TakesWithin}
+
+module _ {V : Type 0} where
+  starts_on : (a b c : List (Entry V)) → StartsWith b a → StartsWith c b → StartsWith c a
+  starts_on a b c f g = (f.0 ++ g.0, g.1 ∙ (ap (λ l. l ++ g.0) f.1 ∙ append_assoc a f.0 g.0))
+
+  pub stays_same : (v : View V) → Stays v v
+  stays_same v = record { settings = refl; by = refl; mine = refl; others = refl; heard = (refl, refl); noroom = refl; seen = starts_itself v.seen; told = omega arith }
+
+  pub stays_on : (u v w : View V) → Stays u v → Stays v w → Stays u w
+  stays_on u v w f g = record {
+    settings = g.settings ∙ f.settings;
+    by = g.by ∙ f.by;
+    mine = g.mine ∙ f.mine;
+    others = g.others ∙ f.others;
+    heard = (g.heard.0 ∙ f.heard.0, g.heard.1 ∙ f.heard.1);
+    noroom = g.noroom ∙ f.noroom;
+    seen = starts_on u.seen v.seen w.seen f.seen g.seen;
+    told = (let a = f.told in let b = g.told in omega arith);
+  }
+
+  -- a stripe went home unchanged
+  pub stays_giving : (hash : Name → ℕ) (set : Settings) (hs : Stripes V) (u : View V) (p q : PassState V) → GivesBack hash set hs None p q → Stays u p.view → Stays u q.view
+  stays_giving hash set hs u p q g s = stays_on u p.view q.view s
+      (subst (Stays p.view) (sym g.4) (record { settings = refl; by = refl; mine = refl; others = refl; heard = (refl, refl); noroom = refl; seen = starts_itself p.view.seen; told = omega arith }))
+
+  pub found_giving : (hash : Name → ℕ) (set : Settings) (hs : Stripes V) (p q : PassState V) → GivesBack hash set hs None p q → q.view.found ≡ p.view.found
+  found_giving hash set hs p q g = ap (λ (v : View V). v.found) g.4
+
+  pub fewer_giving : (hash : Name → ℕ) (set : Settings) (hs : Stripes V) (p q : PassState V) → GivesBack hash set hs None p q → length q.stripes < length p.stripes
+  fewer_giving hash set hs p q g = let e = ap length g.2 in let l = length-append q.stripes (g.0 ∷ []) in omega arith
+
+  -- a stripe was taken
+  pub stays_taking : (hash : Name → ℕ) (set : Settings) (t : ℕ) (p q : PassState V) → Takes hash set t p q → Stays p.view q.view
+  stays_taking hash set t p q k = subst (λ (x : PassState V). Stays p.view x.view) (sym k.4)
+      (record { settings = refl; by = refl; mine = refl; others = refl; heard = (refl, refl); noroom = refl; seen = k.3.0.seen; told = omega arith })
+
+  pub stays_finding : (n t : ℕ) (p : PassState V) → Stays p.view (found_again n t p).view
+  stays_finding n t p = record { settings = refl; by = refl; mine = refl; others = refl; heard = (refl, refl); noroom = refl; seen = starts_itself p.view.seen; told = omega arith }
+
+  pub stays_within : (hash : Name → ℕ) (set : Settings) (t : ℕ) (p q : PassState V) → TakesWithin hash set t p q → Stays p.view q.view
+  stays_within hash set t p q k = stays_on p.view (found_again k.0 t p).view q.view (stays_finding k.0 t p) (stays_taking hash set t (found_again k.0 t p) q k.2)
+
+  pub no_stripes : (xs : List (StripeState V)) → ¬ (0 < length xs) → xs ≡ []
+  no_stripes [] h = refl
+  no_stripes (x ∷ xs) h = absurd (h (omega arith))

@@ -1,0 +1,52 @@
+//! Taking stripes with a bound on the tries, and giving them back.
+ghost use Rattle.std.specs.Prelude.{◌≡◌, ◌<◌, ◌^◌, [], MatchBool};
+ghost use Rattle.ck_model.specs.Numbered.{numbers};
+ghost use Rattle.ck_core.specs.Steps.{IsAbove};
+ghost use Rattle.ck_words.specs.Passes.{IsPassOf, IsUnchanged};
+ghost use Rattle.ck_words.specs.Retries.{TakesWithin, found_again, Stays};
+
+use crate::pass::Pass;
+use crate::words::Words;
+use ck_key::TableKey;
+use std::hint;
+use std::thread;
+
+impl<K: TableKey + Drop, V: Drop> Words<K, V> {
+    /// Takes stripe `t`, which is above all that the pass holds, by at most `turns` swaps. False where each of them found
+    /// it held.
+    pub fn try_take(&self, pass: &mut Pass<K, V>, t: usize) -> bool
+        requires own { IsPassOf self.now pass.old }
+        requires inside { t < 2 ^ self.now.settings.s }
+        requires above { IsAbove t (numbers pass.old.view.held) }
+        requires unchanged { IsUnchanged pass.old }
+        ensures own { IsPassOf self.now pass.new }
+        ensures tries { MatchBool result (TakesWithin K.hash self.now.settings t pass.old pass.new) (pass.new ≡ found_again self.now.settings.turns t pass.old) }
+        ensures unchanged { IsUnchanged pass.new }
+    {
+        for tries in 0..self.settings().turns {
+            if self.take(pass, t) {
+                return true;
+            }
+            if tries % 64 == 63 {
+                thread::yield_now();
+            } else {
+                hint::spin_loop();
+            }
+        }
+        false
+    }
+
+    /// Gives all stripes back as they are.
+    pub fn release(&self, pass: &mut Pass<K, V>)
+        requires own { IsPassOf self.now pass.old }
+        requires unchanged { IsUnchanged pass.old }
+        ensures own { IsPassOf self.now pass.new }
+        ensures idle { pass.new.stripes ≡ [] }
+        ensures stays { Stays pass.old.view pass.new.view }
+        ensures found { pass.new.view.found ≡ pass.old.view.found }
+    {
+        while pass.count() > 0 {
+            self.give_rest(pass);
+        }
+    }
+}
