@@ -12,6 +12,7 @@ use Rattle.ck_stripe.specs.Stripe.{StripeState}
 use Rattle.ck_section.specs.Stripes.{contents_of}
 use Rattle.ck_core.specs.declared.view.View.{View}
 use Rattle.ck_core.specs.Steps.{IsAbove, giving, deciding}
+use Rattle.ck_core.specs.Laws.{Shows}
 use Rattle.ck_words.specs.Rule.{Slot, Hand, IsNumbered, layout_of}
 use Rattle.ck_words.specs.Plays.{stripe_in, ShowsBoth}
 use Rattle.ck_words.specs.Words.{WordsState}
@@ -69,6 +70,14 @@ module _ {V : Type 0} where
   -- the stripes contain what the view tells of them
   abbrev pub IsUnchanged : PassState V → Type 0
   IsUnchanged p = contents_of p.stripes ≡ reverse p.view.held
+
+  -- it holds no stripe
+  abbrev pub IsIdle : PassState V → Type 0
+  IsIdle p = (p.stripes ≡ []) × (p.view.held ≡ [])
+
+  -- what the view shows, with the history that it has seen
+  abbrev pub ShowsSeen : (Name → ℕ) → Settings → PassState V → Type 0
+  ShowsSeen hash set p = Shows (layout_of hash set) set.callers p.view.seen p.view
 
   -- both views show what they show, with these histories
   abbrev pub ShowsOf : (Name → ℕ) → Settings → List (Entry V) → List (Entry V) → PassState V → PassState V → Type 0

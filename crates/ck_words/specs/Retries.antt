@@ -4,7 +4,7 @@ use Rattle.ck_model.specs.declared.settings.Settings.{Settings}
 use Rattle.ck_model.specs.Map.{Name}
 use Rattle.ck_model.specs.History.{StartsWith}
 use Rattle.ck_core.specs.declared.view.View.{View}
-use Rattle.ck_words.specs.Passes.{PassState, Takes}
+use Rattle.ck_words.specs.Passes.{PassState, Takes, IsIdle}
 
 module _ {V : Type 0} where
   -- the pass after it found the stripe t held n times more
@@ -25,3 +25,7 @@ module _ {V : Type 0} where
     pub noroom : w.noroom ≡ v.noroom
     pub seen : StartsWith w.seen v.seen
     pub told : v.told ≤ w.told
+
+  -- The pass holds no stripe. Its last tries all found the stripe t held.
+  abbrev pub IsBusy : ℕ → ℕ → PassState V → PassState V → Type 0
+  IsBusy turns t p q = IsIdle q × ((before : List ℕ) × (q.view.found ≡ replicate turns t ++ before ++ p.view.found))

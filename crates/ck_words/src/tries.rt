@@ -1,9 +1,9 @@
 //! Taking stripes with a bound on the tries, and giving them back.
-ghost use Rattle.std.specs.Prelude.{◌≡◌, ◌<◌, ◌^◌, [], MatchBool};
+ghost use Rattle.std.specs.Prelude.{◌≡◌, ◌⊎◌, ◌<◌, ◌≤◌, ◌^◌, ◌==◌, if◌then◌else◌, [], ◌∷◌, MatchBool, OnOk, IfErr};
 ghost use Rattle.ck_model.specs.Numbered.{numbers};
 ghost use Rattle.ck_core.specs.Steps.{IsAbove};
-ghost use Rattle.ck_words.specs.Passes.{IsPassOf, IsUnchanged};
-ghost use Rattle.ck_words.specs.Retries.{TakesWithin, found_again, Stays};
+ghost use Rattle.ck_words.specs.Passes.{IsPassOf, IsIdle, IsUnchanged, ShowsSeen, numbers_of};
+ghost use Rattle.ck_words.specs.Retries.{TakesWithin, found_again, Stays, IsBusy};
 
 use crate::pass::Pass;
 use crate::words::Words;
@@ -41,12 +41,38 @@ impl<K: TableKey + Drop, V: Drop> Words<K, V> {
         requires own { IsPassOf self.now pass.old }
         requires unchanged { IsUnchanged pass.old }
         ensures own { IsPassOf self.now pass.new }
-        ensures idle { pass.new.stripes ≡ [] }
+        ensures idle { IsIdle pass.new }
         ensures stays { Stays pass.old.view pass.new.view }
         ensures found { pass.new.view.found ≡ pass.old.view.found }
     {
         while pass.count() > 0 {
             self.give_rest(pass);
         }
+    }
+
+    /// Takes two stripes, or one where they are the same, in rising order of their numbers. Where another pass holds one,
+    /// it gives back what it holds, unchanged, and answers the number of that stripe, which was found held `turns` times
+    /// in a row.
+    pub fn hold_pair(&self, pass: &mut Pass<K, V>, low: usize, high: usize) -> Result<(), usize>
+        requires own { IsPassOf self.now pass.old }
+        requires idle { IsIdle pass.old }
+        requires rising { low ≤ high }
+        requires inside { high < 2 ^ self.now.settings.s }
+        ensures own { IsPassOf self.now pass.new }
+        ensures stays { Stays pass.old.view pass.new.view }
+        ensures held { OnOk result (numbers_of pass.new.stripes ≡ (if low == high then low ∷ [] else low ∷ high ∷ [])) }
+        ensures unchanged { OnOk result (IsUnchanged pass.new) }
+        ensures shows { OnOk result (ShowsSeen K.hash self.now.settings pass.new) }
+        ensures busy { IfErr result (λ t. IsBusy self.now.settings.turns t pass.old pass.new) }
+        ensures asked { IfErr result (λ t. (t ≡ low) ⊎ (t ≡ high)) }
+    {
+        if !self.try_take(pass, low) {
+            return Err(low);
+        }
+        if low != high && !self.try_take(pass, high) {
+            self.release(pass);
+            return Err(high);
+        }
+        Ok(())
     }
 }
