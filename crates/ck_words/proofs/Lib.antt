@@ -5,3 +5,4 @@ pub mod Seating
 pub mod Takes
 pub mod Gives
 pub mod Staying
+pub mod Turning

@@ -32,7 +32,7 @@ module _ {A : Type 0} where
   rotated-append (x ∷ xs) ys = sym (rotated-turned (length xs) (x ∷ (xs ++ ys))) ∙ (ap (rotated (length xs)) (append_assoc xs ys (x ∷ [])) ∙ (rotated-append xs (ys ++ x ∷ []) ∙ append_assoc ys (x ∷ []) xs))
 
 module _ {V : Type 0} where
-  stripes-slots : (ss : List (StripeState V)) → stripes_in (map slot_of ss) ≡ ss
+  pub stripes-slots : (ss : List (StripeState V)) → stripes_in (map slot_of ss) ≡ ss
   stripes-slots [] = refl
   stripes-slots (s ∷ ss) = ap {B = List (StripeState V)} (λ l. s ∷ l) (stripes-slots ss)
 
@@ -87,7 +87,7 @@ module _ {V : Type 0} where
       first [] = m
       first (x ∷ xs) = x
 
-  length-slots : (ss : List (StripeState V)) → length (map slot_of ss) ≡ length (numbers_of ss)
+  pub length-slots : (ss : List (StripeState V)) → length (map slot_of ss) ≡ length (numbers_of ss)
   length-slots [] = refl
   length-slots (s ∷ ss) = ap suc (length-slots ss)
 

@@ -3,3 +3,4 @@ pub mod Plays
 pub mod Passes
 pub mod Words
 pub mod Retries
+pub mod InPlace

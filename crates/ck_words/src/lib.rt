@@ -3,6 +3,7 @@
 
 mod law;
 mod pass;
+mod slots;
 mod steps;
 mod tries;
 mod words;
