@@ -6,3 +6,4 @@ pub mod Takes
 pub mod Gives
 pub mod Staying
 pub mod Turning
+pub mod Starting

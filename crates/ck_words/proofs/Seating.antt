@@ -158,3 +158,23 @@ module _ {V : Type 0} where
       numbers-contents : (ss : List (StripeState V)) → numbers (contents_of ss) ≡ numbers_of ss
       numbers-contents [] = refl
       numbers-contents (x ∷ xs) = ap {B = List ℕ} (λ l. x.number ∷ l) (numbers-contents xs)
+
+  -- the view changed in what doesn't concern the slots
+  pub seated_view : (z z2 : TableId) (me me2 : Hand V) (w : View V) (ns : List ℕ) (room : ℕ) → IsSeated z me ns room → w.held ≡ me.0.held → w.settings ≡ me.0.settings → z2 ≡ z → me2 ≡ (w, me.1) → IsSeated z2 me2 ns room
+  seated_view z z2 me me2 w ns room s held settings same is =
+      let new : IsSeated z (w, me.1) ns room = record {
+        full = s.full;
+        numbered = s.numbered;
+        held = ap numbers held ∙ s.held;
+        falls = s.falls;
+        below = s.below;
+        one_s = subst (λ n. EachOf n (stripes_in me.1)) (sym (ap (λ (x : Settings). x.s) settings)) s.one_s;
+        room_for_all = s.room_for_all;
+      } in
+      subst (λ (x : TableId × Hand V). IsSeated x.0 x.1 ns room) (λ i. (sym same i, sym is i)) new
+
+  -- a pass that holds nothing
+  pub seated_none : (z : TableId) (me : Hand V) (ns : List ℕ) (room : ℕ) → me.1 ≡ [] → me.0.held ≡ [] → ns ≡ [] → z.slots ≤ room → IsSeated z me ns room
+  seated_none z me ns room none held empty enough =
+      let new : IsSeated z (me.0, []) [] room = record { full = refl; numbered = refl; held = ap numbers held; falls = tt; below = λ u i. absurd i; one_s = tt; room_for_all = enough } in
+      subst (λ (x : Hand V × List ℕ). IsSeated z x.0 x.1 room) (λ i. ((me.0, sym none i), sym empty i)) new

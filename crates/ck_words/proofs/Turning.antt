@@ -107,3 +107,10 @@ module _ {V : Type 0} where
   -- nothing changed
   pub puts-same : (ms ns : List (ℕ × Slot V)) (i : ℕ) → Puts ms i (stripe_at (stripes_in ms) i) ns → stripes_in ns ≡ stripes_in ms
   puts-same ms ns i p = p.0 ∙ set-get_or (stripes_in ms) i no_stripe
+
+  -- the stripe that was brought to the front went back, with what was made of it
+  pub put : (ms l ns : List (ℕ × Slot V)) (i k n t : ℕ) (old here new stripe : StripeState V) → ((c : Content V) (settled : Bool) (room : ℕ) → Puts ms i (altered old c settled room) (rotated k ((t, Some (altered old c settled room)) ∷ rest l)))
+      → n ≡ k → old ≡ here → stripe ≡ altered old stripe.content stripe.settled stripe.room → new ≡ stripe → ns ≡ rotated n ((t, Some new) ∷ rest l) → Puts ms i stripe ns
+  put ms l ns i k n t old here new stripe back count same made is turned =
+      let whole : rotated k ((t, Some (altered old stripe.content stripe.settled stripe.room)) ∷ rest l) ≡ ns = sym (turned ∙ λ j. rotated (count j) ((t, Some ((is ∙ made) j)) ∷ rest l)) in
+      subst (λ (x : StripeState V × List (ℕ × Slot V)). Puts ms i x.0 x.1) (λ j. (sym made j, whole j)) (back stripe.content stripe.settled stripe.room)

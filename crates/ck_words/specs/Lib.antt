@@ -4,3 +4,4 @@ pub mod Passes
 pub mod Words
 pub mod Retries
 pub mod InPlace
+pub mod Opening

@@ -2,8 +2,8 @@
 #![tactic(auto)]
 
 mod law;
+mod open;
 mod pass;
-mod slots;
 mod steps;
 mod tries;
 mod words;
