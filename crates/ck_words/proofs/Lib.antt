@@ -7,3 +7,4 @@ pub mod Gives
 pub mod Staying
 pub mod Turning
 pub mod Starting
+pub mod Meets

@@ -5,3 +5,4 @@ pub mod Words
 pub mod Retries
 pub mod InPlace
 pub mod Opening
+pub mod Meeting

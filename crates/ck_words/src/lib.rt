@@ -2,6 +2,7 @@
 #![tactic(auto)]
 
 mod law;
+mod meet;
 mod open;
 mod pass;
 mod steps;
