@@ -1,0 +1,189 @@
+-- What `atomic_table` asks of each step, split and join follows from the laws of the core.
+use Rattle.std.proofs.Common.{◌≡◌, ℕ, zero, suc, ◌*◌, ◌/◌, ◌^◌, ◌<◌, ◌≢◌, max, List, [], ◌∷◌, ◌++◌, map, length, length-set, set, get_or, reverse, drop, sym, refl, ap, ◌∙◌, subst, ⊎_elim, arith, Option, Some, None}
+use mathlib.Core.Option.{none, some, some-injective, some-ne-none}
+use mathlib.Core.Option as maybe
+use lib.ListN.{get_elem?}
+use Rattle.std.proofs.lemmas.Option.{none-some}
+use Rattle.std.proofs.lemmas.List.{set-get_or}
+use Rattle.atomic_table.specs.Table.{State, Act, keeps, takes, gives, stepped, carried_after, Valid, Allows, Splits, Joins, rest}
+use Rattle.ck_model.specs.declared.history.Entry.{Entry}
+use Rattle.ck_model.specs.declared.history.Why.{Why}
+use Rattle.ck_model.specs.declared.contents.Content.{Content}
+use Rattle.ck_model.specs.Map.{Name}
+use Rattle.ck_model.specs.Numbered.{Holds}
+use Rattle.ck_model.specs.Contents.{Layout, Lawful}
+use Rattle.ck_model.specs.Sections.{Section, IdentitySection}
+use Rattle.ck_model.proofs.Numbered.{Some-injective}
+use Rattle.ck_stripe.specs.Stripe.{StripeState}
+use Rattle.ck_core.specs.declared.view.View.{View}
+use Rattle.ck_core.specs.State.{World, Law}
+use Rattle.ck_core.specs.Laws.{Shows}
+use Rattle.ck_core.specs.Steps.{taken, seen_as, sent_home, giving, deciding, newcomer, messenger, joining, spent}
+use Rattle.ck_core.proofs.Lists.{at_set, set_else, set_there}
+use Rattle.ck_core.proofs.Shown.{shows}
+use Rattle.ck_core.proofs.Keeps.{take_keeps, find_keeps, give_keeps, decide_keeps, renew_keeps, look_to, open_keeps, tell_keeps, join_keeps}
+use Rattle.ck_words.specs.Rule.{Slot, Hand, lying, spaced, world, IsNumbered, IsKept, Rule}
+use Rattle.ck_words.specs.Plays.{contents_in, contents_now, first_in, TakesOrFinds, Gives, Decides, Looks, first_number, opened, begun}
+use Rattle.ck_words.proofs.Spacing.{spaced-at, spaced-set}
+
+module _ {V : Type 0} where
+  map_set : (hs : List (maybe.Option (Slot V))) (i : ℕ) (x : maybe.Option (Slot V)) → set (map lying hs) i (lying x) ≡ map lying (set hs i x)
+  map_set [] i x = refl
+  map_set (h ∷ hs) zero x = refl
+  map_set (h ∷ hs) (suc i) x = ap {B = List (Option (Content V))} (λ l. lying h ∷ l) (map_set hs i x)
+
+  full : (x : maybe.Option (Slot V)) (c : Content V) → lying x ≡ Some c → (stripe : StripeState V) × (x ≡ some (Some stripe)) × (stripe.content ≡ c)
+  full none c e = absurd (none-some c e)
+  full (some None) c e = absurd (none-some c e)
+  full (some (Some stripe)) c e = (stripe, refl, Some-injective stripe.content c e)
+
+  lies_there : (hs : List (maybe.Option (Slot V))) (i : ℕ) (c : Content V) → get_elem? (map lying hs) i ≡ some (Some c) → (stripe : StripeState V) × (get_elem? hs i ≡ some (some (Some stripe))) × (stripe.content ≡ c)
+  lies_there [] i c e = absurd (some-ne-none (Some c) (sym e))
+  lies_there (h ∷ hs) zero c e = let f = full h c (some-injective (lying h) (Some c) e) in (f.0, ap some f.1, f.2)
+  lies_there (h ∷ hs) (suc i) c e = lies_there hs i c e
+
+  -- slots with the stripes of their numbers
+  abbrev pub AreNumbered : ℕ → List (maybe.Option (Slot V)) → Type 0
+  AreNumbered s hs = (t : ℕ) (stripe : StripeState V) → get_elem? hs t ≡ some (some (Some stripe)) → IsNumbered s t stripe
+
+  numbered_out : (s : ℕ) (hs : List (maybe.Option (Slot V))) (t : ℕ) → AreNumbered s hs → AreNumbered s (set hs t none)
+  numbered_out s hs t old u stripe e = ⊎_elim (λ (h : (u ≡ t) × (none ≡ some (Some stripe))). absurd (some-ne-none (Some stripe) (sym h.1))) (λ (h : (u ≢ t) × (get_elem? hs u ≡ some (some (Some stripe)))). old u stripe h.1)
+      (at_set hs t u none (some (Some stripe)) e)
+
+  numbered_back : (s : ℕ) (hs : List (maybe.Option (Slot V))) (t : ℕ) (new : StripeState V) → IsNumbered s t new → AreNumbered s hs → AreNumbered s (set hs t (some (Some new)))
+  numbered_back s hs t new own old u stripe e = ⊎_elim
+      (λ (h : (u ≡ t) × (some (Some new) ≡ some (Some stripe))). subst (λ (x : ℕ × StripeState V). IsNumbered s x.0 x.1) (λ i. (sym h.0 i, Some-injective new stripe (some-injective (Some new) (Some stripe) h.1) i)) own)
+      (λ (h : (u ≢ t) × (get_elem? hs u ≡ some (some (Some stripe)))). old u stripe h.1)
+      (at_set hs t u (some (Some new)) (some (Some stripe)) e)
+
+module _ {V : Type 0} (k : Layout) (callers : ℕ) where
+  -- the word of stripe t became x, and its slot h
+  kept_at : (log : List (Entry V)) (s : State (Slot V) (View V)) (t x : ℕ) (h : maybe.Option (Slot V)) (views : List (View V)) → t < 2 ^ k.s → length s.words ≡ 2 ^ k.s * 8
+      → Law k callers log (record { words = set (spaced (2 ^ k.s) s.words) t x; homes = set (map lying s.homes) t (lying h); views = views }) → AreNumbered k.s (set s.homes t h)
+      → IsKept k callers log (record { words = set s.words (t * 8) x; homes = set s.homes t h; views = views })
+  kept_at log s t x h views l sized law own = record {
+    law = subst (λ (w : World V). Law k callers log w) (λ i. record { words = sym (spaced-set (2 ^ k.s) t x s.words l sized) i; homes = map_set s.homes t h i; views = views }) law;
+    words_sized = length-set s.words (t * 8) x ∙ sized;
+    numbered = own;
+  }
+
+  -- a step that leaves words and slots as they were
+  unmoved : (log : List (Entry V)) (s : State (Slot V) (View V)) (id t x : ℕ) (w : View V) (has : List (ℕ × Slot V)) → x ≡ get_or s.words t 0 → IsKept k callers log s → Law k callers log (seen_as (world (2 ^ k.s) s) id w)
+      → IsKept k callers log (stepped s t x id has w keeps)
+  unmoved log s id t x w has e old law =
+      let same : s.words ≡ set s.words t x = sym (set-get_or s.words t 0) ∙ ap (set s.words t) (sym e) in
+      record {
+        law = subst (λ ws. Law k callers log (record { words = spaced (2 ^ k.s) ws; homes = map lying s.homes; views = set s.views id w })) same law;
+        words_sized = length-set s.words t x ∙ old.words_sized;
+        numbered = old.numbered;
+      }
+
+  shows_now : (log : List (Entry V)) (s : State (Slot V) (View V)) (id : ℕ) (v : View V) → IsKept k callers log s → get_elem? s.views id ≡ some v → Shows k callers log v
+  shows_now log s id v r at = shows k callers log (world (2 ^ k.s) s) r.law id v at
+
+  -- of a state whose view `id` was set
+  shows_then : (log : List (Entry V)) (s : State (Slot V) (View V)) (t x id : ℕ) (has : List (ℕ × Slot V)) (v w : View V) (act : Act (Slot V)) → IsKept k callers log (stepped s t x id has w act) → get_elem? s.views id ≡ some v
+      → Shows k callers log w
+  shows_then log s t x id has v w act r at = shows k callers log (world (2 ^ k.s) (stepped s t x id has w act)) r.law id w (set_there s.views id v w at)
+
+  -- a seat gives back the slot that it has first
+  gave : (log log2 : List (Entry V)) (s : State (Slot V) (View V)) (id t : ℕ) (stripe : StripeState V) (w : View V) (has out : List (ℕ × Slot V)) → has ≡ (t, Some stripe) ∷ out → t < 2 ^ k.s → IsNumbered k.s t stripe → IsKept k callers log s
+      → Law k callers log2 (sent_home (world (2 ^ k.s) s) id t stripe.content w)
+      → IsKept k callers log2 (stepped s (t * 8) 0 id has w gives)
+  gave log log2 s id t stripe w has out is l own old law = subst (λ (xs : List (ℕ × Slot V)). IsKept k callers log2 (stepped s (t * 8) 0 id xs w gives)) (sym is)
+      (kept_at log2 s t 0 (some (Some stripe)) (set s.views id w) l old.words_sized law (numbered_back k.s s.homes t stripe own old.numbered))
+
+  module _ (slots id : ℕ) (m : Hand V) where
+    take_by : (t : ℕ) → t < 2 ^ k.s → (s : State (Slot V) (View V)) (log : List (Entry V)) (r : IsKept k callers log s) → get_elem? s.views id ≡ some m.0 → (b : ℕ) → get_or s.words (t * 8) 0 ≡ b → b < 2
+        → (w : View V) × (a : Act (Slot V)) × Valid s.homes m.1 a × Rule k callers (stepped s (t * 8) 1 id m.1 w a) × TakesOrFinds k callers t m (get_or s.words (t * 8) 0) (w, carried_after m.1 a)
+    take_by t l s log r at zero e h =
+        let free : get_or (spaced (2 ^ k.s) s.words) t 0 ≡ 0 = spaced-at (2 ^ k.s) t s.words l ∙ e in
+        let c : Content V = r.law.contents t in
+        let there = r.law.places.at_home t l free in
+        let slot = lies_there s.homes t c there in
+        let stripe : StripeState V = slot.0 in
+        let there2 : get_elem? (map lying s.homes) t ≡ some (Some stripe.content) = there ∙ ap (λ (x : Content V). some (Some x)) (sym slot.2) in
+        let w : View V = record m.0 { held = (t, stripe.content) ∷ m.0.held; seen = log } in
+        let kept : IsKept k callers log (stepped s (t * 8) 1 id m.1 w (takes t (Some stripe))) =
+        kept_at log s t 1 none (set s.views id w) l r.words_sized (take_keeps k callers log (world (2 ^ k.s) s) r.law id m.0 at t stripe.content l free there2) (numbered_out k.s s.homes t r.numbered) in (
+          w,
+          takes t (Some stripe),
+          slot.1,
+          (log, kept),
+          ((λ _. (stripe, log, r.numbered t stripe slot.1, (shows_now log s id m.0 r at, shows_then log s (t * 8) 1 id m.1 m.0 w (takes t (Some stripe)) kept at), refl)), (λ ne. absurd (ne e))),
+        )
+    take_by t l s log r at (suc zero) e h = (
+      record m.0 { found = t ∷ m.0.found },
+      keeps,
+      tt,
+      (log, unmoved log s id (t * 8) 1 (record m.0 { found = t ∷ m.0.found }) m.1 (sym e) r (find_keeps k callers log (world (2 ^ k.s) s) r.law id m.0 at t)),
+      ((λ z. absurd (omega arith)), (λ _. refl)),
+    )
+    take_by t l s log r at (suc (suc b)) e h = absurd (omega arith)
+
+    pub take_allowed : (t : ℕ) → t < 2 ^ k.s → Allows (Rule k callers) slots id m (t * 8) (λ _. 1) (TakesOrFinds k callers t m)
+    take_allowed t l s r _ at _ = take_by t l s r.0 r.1 at (get_or s.words (t * 8) 0) refl (subst (λ b. b < 2) (spaced-at (2 ^ k.s) t s.words l) (r.1.law.places.is_bit t l))
+
+    pub give_allowed : (t : ℕ) (stripe : StripeState V) (g : Option (Name × Why)) (out : List (ℕ × Slot V)) → m.1 ≡ (t, Some stripe) ∷ out → t < 2 ^ k.s → IsNumbered k.s t stripe → Holds m.0.held t stripe.content
+        → Allows (Rule k callers) slots id m (t * 8) (λ _. 0) (λ _. Gives k callers t m.0.held g m)
+    give_allowed t stripe g out is l own h s r _ at _ =
+        let w : View V = giving m.0 t stripe.content m.0.held g in
+        let kept = gave r.0 r.0 s id t stripe w m.1 out is l own r.1 (give_keeps k callers r.0 (world (2 ^ k.s) s) r.1.law id m.0 at t stripe.content g h) in (
+          w,
+          gives,
+          tt,
+          (r.0, kept),
+          (r.0, (shows_now r.0 s id m.0 r.1 at, shows_then r.0 s (t * 8) 0 id m.1 m.0 w gives kept at), λ i. (giving m.0 t (first_in (sym is i)).content m.0.held g, rest m.1)),
+        )
+
+    pub renew_allowed : (t : ℕ) (stripe : StripeState V) (g : Option (Name × Why)) (out : List (ℕ × Slot V)) → m.1 ≡ (t, Some stripe) ∷ out → t < 2 ^ k.s → IsNumbered k.s t stripe → Holds (contents_now m.1) t stripe.content
+        → (Lawful k m.0.held → IdentitySection k m.0.held (contents_now m.1)) → Allows (Rule k callers) slots id m (t * 8) (λ _. 0) (λ _. Gives k callers t (contents_now m.1) g m)
+    renew_allowed t stripe g out is l own h sec s r _ at _ =
+        let w : View V = giving m.0 t stripe.content (contents_now m.1) g in
+        let kept = gave r.0 r.0 s id t stripe w m.1 out is l own r.1 (renew_keeps k callers r.0 (world (2 ^ k.s) s) r.1.law id m.0 at (contents_now m.1) t stripe.content h g (sec (shows_now r.0 s id m.0 r.1 at).lawful)) in (
+          w,
+          gives,
+          tt,
+          (r.0, kept),
+          (r.0, (shows_now r.0 s id m.0 r.1 at, shows_then r.0 s (t * 8) 0 id m.1 m.0 w gives kept at), λ i. (giving m.0 t (first_in (sym is i)).content (contents_now m.1) g, rest m.1)),
+        )
+
+    pub decide_allowed : (t : ℕ) (stripe : StripeState V) (e : Entry V) (out : List (ℕ × Slot V)) → m.1 ≡ (t, Some stripe) ∷ out → t < 2 ^ k.s → IsNumbered k.s t stripe → Holds (contents_now m.1) t stripe.content
+        → m.0.by ≡ Some e.by → (Lawful k m.0.held → Section k m.0.held e.call e.reply (contents_now m.1)) → Allows (Rule k callers) slots id m (t * 8) (λ _. 0) (λ _. Decides k callers t e m)
+    decide_allowed t stripe e out is l own h by sec s r _ at _ =
+        let log2 : List (Entry V) = r.0 ++ e ∷ [] in
+        let w : View V = deciding m.0 t (contents_now m.1) r.0 e in
+        let kept = gave r.0 log2 s id t stripe w m.1 out is l own r.1 (decide_keeps k callers r.0 (world (2 ^ k.s) s) r.1.law id m.0 at (contents_now m.1) t stripe.content h e by (sec (shows_now r.0 s id m.0 r.1 at).lawful)) in
+        (w, gives, tt, (log2, kept), (r.0, (shows_now r.0 s id m.0 r.1 at, shows_then log2 s (t * 8) 0 id m.1 m.0 w gives kept at), refl))
+
+    pub look_allowed : (word : ℕ) → Allows (Rule k callers) slots id m word (λ x. x) (λ _. Looks k callers m)
+    look_allowed word s r _ at _ =
+        let p : ℕ = max m.0.told m.0.heard_told in
+        let w : View V = record m.0 { seen = r.0; told = p } in
+        let kept = unmoved r.0 s id word (get_or s.words word 0) w m.1 refl r.1 (look_to k callers r.0 (world (2 ^ k.s) s) r.1.law id m.0 at) in
+        (w, keeps, tt, (r.0, kept), (r.0, p, (shows_now r.0 s id m.0 r.1 at, shows_then r.0 s word (get_or s.words word 0) id m.1 m.0 w keeps kept at), omega arith, omega arith, refl))
+
+  module _ (id : ℕ) (v : View V) where
+    pub open_allowed : (j : ℕ) (others : List (ℕ × List (Entry V))) → v.others ≡ (j, []) ∷ others → Splits (Rule k callers) id v (opened v) (begun v)
+    open_allowed j others is s r at =
+        let law = open_keeps k callers r.0 (world (2 ^ k.s) s) r.1.law id v at j others is in (
+          r.0,
+          record {
+            law = subst (λ (o : List (ℕ × List (Entry V))). Law k callers r.0 (record { words = spaced (2 ^ k.s) s.words; homes = map lying s.homes; views = set s.views id (record v { others = drop 1 o }) ++ newcomer v.settings (first_number o) v.told ∷ [] })) (sym is) law;
+            words_sized = r.1.words_sized;
+            numbered = r.1.numbered;
+          },
+        )
+
+    pub tell_allowed : Splits (Rule k callers) id v v (messenger v)
+    tell_allowed s r at = (r.0, record { law = tell_keeps k callers r.0 (world (2 ^ k.s) s) r.1.law id v at; words_sized = r.1.words_sized; numbered = r.1.numbered })
+
+    pub join_allowed : (other : ℕ) (w : View V) → w.held ≡ [] → Joins (Rule k callers) id v other w (joining v w) spent
+    join_allowed other w empty s r at apart there = (
+      r.0,
+      record {
+        law = join_keeps k callers r.0 (world (2 ^ k.s) s) r.1.law id v at other w (sym (set_else s.views id other (joining v w) apart) ∙ there) apart empty;
+        words_sized = r.1.words_sized;
+        numbered = r.1.numbered;
+      },
+    )

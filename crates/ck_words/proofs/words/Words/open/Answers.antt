@@ -1,0 +1,31 @@
+use Rattle.std.proofs.Common.{◌≡◌, ◌≤◌, ◌*◌, ◌^◌, ◌∙◌, ℕ, ap, sym, subst, replicate, length, rules}
+use Rattle.std.specs.Prelude.{vec_capacity}
+use lib.ListN.{length-replicate}
+use Rattle.atomic_table.specs.Seated.{TableId}
+use Rattle.ck_words.specs.Rule.{Hand}
+use Rattle.ck_words.proofs.Starting.{starts, length-fresh}
+use Rattle.ck_words.proofs.Seating.{seated_none}
+use Rattle.ck_words.proofs.words.Words.open.Goals as goal
+
+pub new-requires : goal.new-requires
+new-requires g c =
+    let zeros : c.in_ok-words.words.items ≡ replicate {A = ℕ} (2 ^ c.args.settings.s * 8) 0 = search rules in
+    starts g.row.V.Denot g.K.TableKey.hash c.args.settings c.requires _ _ (c.as_slice.ensures.value ∙ zeros) c.in_ok-slots.ensures
+
+pub invariant_of-result : goal.invariant_of-result
+invariant_of-result g c =
+    let z = c.in-Ok.ensures.ok in
+    let zeros : c.in_ok-words.words.items ≡ replicate {A = ℕ} (2 ^ c.args.settings.s * 8) 0 = search rules in record {
+      key_is = z.5;
+      words = z.0 ∙ (ap length (c.as_slice.ensures.value ∙ zeros) ∙ length-replicate (2 ^ c.args.settings.s * 8) 0);
+      slots = z.1 ∙ length-fresh c.args.settings (2 ^ c.args.settings.s) _ c.in_ok-slots.ensures;
+      range = c.requires;
+    }
+
+pub invariant_of-result-2 : goal.invariant_of-result-2
+invariant_of-result-2 g c =
+    let z = c.in-Ok.ensures.ok in
+    let slots : c.in-Ok.table.shared.table_id.slots ≡ 2 ^ c.args.settings.s = z.1 ∙ length-fresh c.args.settings (2 ^ c.args.settings.s) _ c.in_ok-slots.ensures in
+    let same : c.in-Ok.seat.table_id.slots ≡ 2 ^ c.args.settings.s = ap (λ (t : TableId). t.slots) z.2 ∙ slots in
+    let enough : 2 ^ c.args.settings.s ≤ vec_capacity c.in_ok-taken.taken = search rules in
+    seated_none _ _ _ _ (ap (λ (m : Hand g.row.V.Denot). m.1) z.4) (ap (λ (m : Hand g.row.V.Denot). m.0.held) z.4) c.in_ok-taken.ensures.items (subst (λ n. n ≤ vec_capacity c.in_ok-taken.taken) (sym same) enough)

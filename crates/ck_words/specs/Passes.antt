@@ -1,0 +1,110 @@
+-- What contracts see of a pass.
+use Rattle.std.specs.Prelude.{◌≡◌, ℕ, zero, suc, ◌≤◌, List, [], ◌∷◌, ◌++◌, map, reverse, Option, Some}
+use Rattle.atomic_table.specs.Seated.{TableId}
+use Rattle.atomic_table.specs.Table.{turned}
+use Rattle.ck_model.specs.declared.history.Entry.{Entry}
+use Rattle.ck_model.specs.declared.history.Why.{Why}
+use Rattle.ck_model.specs.declared.settings.Settings.{Settings}
+use Rattle.ck_model.specs.Map.{Name}
+use Rattle.ck_model.specs.Numbered.{numbers}
+use Rattle.ck_model.specs.Contents.{Stripes}
+use Rattle.ck_stripe.specs.Stripe.{StripeState}
+use Rattle.ck_section.specs.Stripes.{contents_of}
+use Rattle.ck_core.specs.declared.view.View.{View}
+use Rattle.ck_core.specs.Steps.{IsAbove, giving, deciding}
+use Rattle.ck_core.specs.Laws.{Shows}
+use Rattle.ck_words.specs.Rule.{Slot, Hand, IsNumbered, layout_of}
+use Rattle.ck_words.specs.Plays.{stripe_in, ShowsBoth}
+use Rattle.ck_words.specs.Words.{WordsState}
+
+-- each number is above those that follow
+abbrev pub Falls : List ℕ → Type 0
+Falls [] = Unit {0}
+Falls (n ∷ ns) = IsAbove n ns × Falls ns
+
+-- the first n go behind the others
+abbrev pub rotated : {A : Type 0} → ℕ → List (ℕ × A) → List (ℕ × A)
+rotated zero l = l
+rotated (suc n) l = turned (rotated n l)
+
+-- Which table it is a pass of, what its caller knows, and the stripes that it holds, in rising order of their numbers.
+pub record PassState (V : Type 0) : Type 0 where
+  pub table : TableId
+  pub view : View V
+  pub stripes : List (StripeState V)
+
+module _ {V : Type 0} where
+  abbrev pub stripes_in : List (ℕ × Slot V) → List (StripeState V)
+  stripes_in = map stripe_in
+
+  -- the slot with this stripe
+  abbrev pub slot_of : StripeState V → ℕ × Slot V
+  slot_of stripe = (stripe.number, Some stripe)
+
+  abbrev pub numbers_of : List (StripeState V) → List ℕ
+  numbers_of stripes = map (λ (stripe : StripeState V). stripe.number) stripes
+
+  -- each is a stripe of a table of 2^s
+  abbrev pub EachOf : ℕ → List (StripeState V) → Type 0
+  EachOf s [] = Unit {0}
+  EachOf s (stripe ∷ stripes) = (stripe.s ≡ s) × EachOf s stripes
+
+  -- The slots have the stripes of their numbers, these, in rising order, and the view tells of them. There is room for all.
+  pub record IsSeated (table : TableId) (me : Hand V) (taken : List ℕ) (room : ℕ) : Type 0 where
+    pub full : me.1 ≡ map slot_of (stripes_in me.1)
+    pub numbered : numbers_of (stripes_in me.1) ≡ taken
+    pub held : numbers me.0.held ≡ reverse taken
+    pub falls : Falls (reverse taken)
+    pub below : IsAbove table.slots (reverse taken)
+    pub one_s : EachOf me.0.settings.s (stripes_in me.1)
+    pub room_for_all : table.slots ≤ room
+
+  -- what contracts see of a seat
+  abbrev pub state_of : TableId → Hand V → PassState V
+  state_of table me = record { table = table; view = me.0; stripes = stripes_in me.1 }
+
+  -- a pass of this table
+  abbrev pub IsPassOf : WordsState → PassState V → Type 0
+  IsPassOf w p = (p.table ≡ w.table) × (p.view.settings ≡ w.settings)
+
+  -- the stripes contain what the view tells of them
+  abbrev pub IsUnchanged : PassState V → Type 0
+  IsUnchanged p = contents_of p.stripes ≡ reverse p.view.held
+
+  -- it holds no stripe
+  abbrev pub IsIdle : PassState V → Type 0
+  IsIdle p = (p.stripes ≡ []) × (p.view.held ≡ [])
+
+  -- what the view shows, with the history that it has seen
+  abbrev pub ShowsSeen : (Name → ℕ) → Settings → PassState V → Type 0
+  ShowsSeen hash set p = Shows (layout_of hash set) set.callers p.view.seen p.view
+
+  -- both views show what they show, with these histories
+  abbrev pub ShowsOf : (Name → ℕ) → Settings → List (Entry V) → List (Entry V) → PassState V → PassState V → Type 0
+  ShowsOf hash set log log2 p q = ShowsBoth (layout_of hash set) set.callers log log2 p.view q.view
+
+  -- the stripe t was taken, and the history so far was seen
+  abbrev pub Takes : (Name → ℕ) → Settings → ℕ → PassState V → PassState V → Type 0
+  Takes hash set t p q =
+      (stripe : StripeState V) × (log : List (Entry V)) × IsNumbered set.s t stripe × ShowsOf hash set log log p q
+      × (q ≡ record { table = p.table; view = record p.view { held = (t, stripe.content) ∷ p.view.held; seen = log }; stripes = p.stripes ++ stripe ∷ [] })
+
+  -- the stripe t was found held
+  abbrev pub Finds : ℕ → PassState V → PassState V → Type 0
+  Finds t p q = q ≡ record p { view = record p.view { found = t ∷ p.view.found } }
+
+  -- The highest stripe, of the contents hs, went home, and noroom may tell of it.
+  abbrev pub GivesBack : (Name → ℕ) → Settings → Stripes V → Option (Name × Why) → PassState V → PassState V → Type 0
+  GivesBack hash set hs g p q =
+      (stripe : StripeState V) × (log : List (Entry V)) × (p.stripes ≡ q.stripes ++ stripe ∷ []) × ShowsOf hash set log log p q
+      × (q.view ≡ giving p.view stripe.number stripe.content hs g)
+
+  -- The entry was decided with the contents hs, of which the highest stripe went home.
+  abbrev pub Decided : (Name → ℕ) → Settings → Stripes V → Entry V → PassState V → PassState V → Type 0
+  Decided hash set hs e p q =
+      (stripe : StripeState V) × (log : List (Entry V)) × (p.stripes ≡ q.stripes ++ stripe ∷ []) × ShowsOf hash set log (log ++ e ∷ []) p q
+      × (q.view ≡ deciding p.view stripe.number hs log e)
+
+  -- the history so far was seen, with a power that isn't below those that were told and heard
+  abbrev pub Looked : (Name → ℕ) → Settings → PassState V → PassState V → Type 0
+  Looked hash set p q = (log : List (Entry V)) × (power : ℕ) × ShowsOf hash set log log p q × (p.view.told ≤ power) × (p.view.heard_told ≤ power) × (q ≡ record p { view = record p.view { seen = log; told = power } })

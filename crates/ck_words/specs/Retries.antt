@@ -1,0 +1,31 @@
+-- What several tries to take stripes leave.
+use Rattle.std.specs.Prelude.{◌≡◌, ℕ, ◌<◌, ◌≤◌, List, [], ◌∷◌, ◌++◌, replicate}
+use Rattle.ck_model.specs.declared.settings.Settings.{Settings}
+use Rattle.ck_model.specs.Map.{Name}
+use Rattle.ck_model.specs.History.{StartsWith}
+use Rattle.ck_core.specs.declared.view.View.{View}
+use Rattle.ck_words.specs.Passes.{PassState, Takes, IsIdle}
+
+module _ {V : Type 0} where
+  -- the pass after it found the stripe t held n times more
+  abbrev pub found_again : ℕ → ℕ → PassState V → PassState V
+  found_again n t p = record p { view = record p.view { found = replicate n t ++ p.view.found } }
+
+  -- the stripe t was taken, after it was found held fewer times than the settings allow
+  abbrev pub TakesWithin : (Name → ℕ) → Settings → ℕ → PassState V → PassState V → Type 0
+  TakesWithin hash set t p q = (n : ℕ) × (n < set.turns) × Takes hash set t (found_again n t p) q
+
+  -- What no step changes but one that decides or meets: the caller's entries and what it heard, and it has seen and was told no less.
+  pub record Stays (v w : View V) : Type 0 where
+    pub settings : w.settings ≡ v.settings
+    pub by : w.by ≡ v.by
+    pub mine : w.mine ≡ v.mine
+    pub others : w.others ≡ v.others
+    pub heard : (w.heard ≡ v.heard) × (w.heard_told ≡ v.heard_told)
+    pub noroom : w.noroom ≡ v.noroom
+    pub seen : StartsWith w.seen v.seen
+    pub told : v.told ≤ w.told
+
+  -- The pass holds no stripe. Its last tries all found the stripe t held.
+  abbrev pub IsBusy : ℕ → ℕ → PassState V → PassState V → Type 0
+  IsBusy turns t p q = IsIdle q × ((before : List ℕ) × (q.view.found ≡ replicate turns t ++ before ++ p.view.found))

@@ -1,0 +1,68 @@
+-- The core's law as the rule of a table of words and slots.
+use Rattle.std.specs.Prelude.{◌≡◌, ℕ, zero, suc, pred, ◌*◌, ◌^◌, List, [], ◌∷◌, map, drop, length, slice_index, Option, Some, None}
+use mathlib.Core.Option.{none, some}
+use mathlib.Core.Option as maybe
+use lib.ListN.{get_elem?}
+use Rattle.atomic_table.specs.Table.{State, Me}
+use Rattle.ck_model.specs.declared.history.Entry.{Entry}
+use Rattle.ck_model.specs.declared.settings.Settings.{Settings}
+use Rattle.ck_model.specs.declared.contents.Content.{Content}
+use Rattle.ck_model.specs.Map.{Name}
+use Rattle.ck_model.specs.Contents.{Layout}
+use Rattle.ck_stripe.specs.Stripe.{StripeState}
+use Rattle.ck_core.specs.declared.view.View.{View}
+use Rattle.ck_core.specs.State.{World, Law}
+use Rattle.ck_core.specs.Steps.{opener}
+use Rattle.ck_section.specs.Calls.{layout}
+
+-- what a slot contains
+abbrev pub Slot : Type 0 → Type 0
+Slot V = Option (StripeState V)
+
+-- a seat's view, and the slots that it holds
+abbrev pub Hand : Type 0 → Type 0
+Hand V = Me (Slot V) (View V)
+
+abbrev pub layout_of : (Name → ℕ) → Settings → Layout
+layout_of hash set = layout hash set.s set.max
+
+-- The words of n stripes. They stand 64 bytes apart, so that no two are in one line of a cache, and the seven words between two of them are never written.
+abbrev pub spaced : ℕ → List ℕ → List ℕ
+spaced zero words = []
+spaced (suc n) words = slice_index words 0 ∷ spaced n (drop 8 words)
+
+-- n numbers from a on
+abbrev pub counting : ℕ → ℕ → List ℕ
+counting a zero = []
+counting a (suc n) = a ∷ counting (suc a) n
+
+-- the first caller keeps the numbers of the others
+abbrev pub first_view : {V : Type 0} → Settings → View V
+first_view set = opener set 0 set.power (counting 1 (pred set.callers))
+
+module _ {V : Type 0} where
+  -- the content of the stripe that lies in a slot, where one does
+  abbrev pub lying : maybe.Option (Slot V) → Option (Content V)
+  lying none = None
+  lying (some None) = None
+  lying (some (Some stripe)) = Some stripe.content
+
+  abbrev pub world : ℕ → State (Slot V) (View V) → World V
+  world n s = record { words = spaced n s.words; homes = map lying s.homes; views = s.views }
+
+  -- stripe t of 2^s
+  abbrev pub IsNumbered : ℕ → ℕ → StripeState V → Type 0
+  IsNumbered s t stripe = (stripe.number ≡ t) × (stripe.s ≡ s)
+
+  -- The law of the core with this history; eight words for each stripe; and each slot has the stripe of its number.
+  pub record IsKept (k : Layout) (callers : ℕ) (log : List (Entry V)) (s : State (Slot V) (View V)) : Type 0 where
+    pub law : Law k callers log (world (2 ^ k.s) s)
+    pub words_sized : length s.words ≡ 2 ^ k.s * 8
+    pub numbered : (t : ℕ) (stripe : StripeState V) → get_elem? s.homes t ≡ some (some (Some stripe)) → IsNumbered k.s t stripe
+
+  -- there is a history with which the law holds
+  abbrev pub Rule : Layout → ℕ → State (Slot V) (View V) → Type 0
+  Rule k callers s = (log : List (Entry V)) × IsKept k callers log s
+
+  abbrev pub RuleOf : (Name → ℕ) → Settings → State (Slot V) (View V) → Type 0
+  RuleOf hash set = Rule (layout_of hash set) set.callers

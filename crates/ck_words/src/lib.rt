@@ -1,0 +1,14 @@
+//! Lock words, the stripes in their slots, and the passes of callers, under the law of the core.
+#![tactic(auto)]
+
+mod law;
+mod meet;
+mod open;
+mod pass;
+mod steps;
+mod tries;
+mod words;
+
+pub use law::{Refuses, Says};
+pub use pass::Pass;
+pub use words::Words;

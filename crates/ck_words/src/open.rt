@@ -1,0 +1,72 @@
+//! How a table and its first pass begin, and how further passes are dealt.
+ghost use Rattle.std.specs.Prelude.{◌≡◌, ◌≤◌, ◌^◌, [], ◌∷◌, ℕ, IfOk, OnErr, List};
+ghost use Rattle.ck_model.specs.Ranges.{AreInRange};
+ghost use Rattle.ck_model.specs.declared.history.Entry.{Entry};
+ghost use Rattle.ck_words.specs.Rule.{first_view};
+ghost use Rattle.ck_words.specs.Plays.{opened, begun};
+ghost use Rattle.ck_words.specs.Opening.{fresh_slots};
+ghost use Rattle.ck_words.specs.Passes.{IsPassOf, IsIdle};
+
+use crate::law::Open;
+use crate::pass::Pass;
+use crate::words::Words;
+use atomic_table::Table;
+use ck_key::TableKey;
+use ck_model::settings::Settings;
+use ck_stripe::Stripe;
+use std::alloc::{AllocError, Global};
+
+// A slot with an empty stripe for each stripe.
+fn open_slots<K: TableKey + Drop, V: Drop>(
+    alloc: Global,
+    settings: Settings,
+) -> Result<Vec<Option<Stripe<K, V>>>, AllocError>
+    requires { AreInRange settings }
+    ensures { IfOk result (λ slots. slots.items ≡ fresh_slots settings (2 ^ settings.s)) }
+{
+    let count = 1u32 << settings.s;
+    let mut slots = Vec::with_capacity(alloc, count as usize)?;
+    for number in 0..count {
+        let stripe = Stripe::open(alloc, settings.s, number, settings.power)?;
+        slots.push(Some(stripe))?;
+    }
+    Ok(slots)
+}
+
+impl<K: TableKey + Drop, V: Drop> Words<K, V> {
+    /// A table of empty stripes, and its first pass. It has the number 0, and keeps the numbers of the other callers. It
+    /// is refused only for want of memory.
+    pub fn open(alloc: Global, settings: Settings) -> Result<(Words<K, V>, Pass<K, V>), AllocError>
+        requires { AreInRange settings }
+        ensures settings { IfOk result (λ r. r.0.settings ≡ settings) }
+        ensures pass { IfOk result (λ r. IsPassOf r.0 r.1) }
+        ensures idle { IfOk result (λ r. IsIdle r.1) }
+        ensures view { IfOk result (λ r. r.1.view ≡ first_view settings) }
+    {
+        let count = 1usize << settings.s;
+        let taken = Vec::with_capacity(alloc, count)?;
+        let words = Vec::from_elem(alloc, 0u64, count * 8)?;
+        let slots = open_slots(alloc, settings)?;
+        let Ok((table, seat)) = Table::new(alloc, words.as_slice(), slots, &settings) else {
+            return Err(AllocError);
+        };
+        Ok((Words { table, settings }, Pass { seat, taken }))
+    }
+
+    /// One more pass, with the first of the numbers that the pass `first` keeps. It has seen nothing, and was told the
+    /// power that `first` was told. It is refused only for want of memory, and then `first` is as it was.
+    pub fn deal(&self, alloc: Global, first: &mut Pass<K, V>) -> Result<Pass<K, V>, AllocError>
+        requires own { IsPassOf self.now first.old }
+        requires kept { (m : ℕ) × (others : List (ℕ × List (Entry V))) × (first.old.view.others ≡ (m, []) ∷ others) }
+        ensures own { IsPassOf self.now first.new }
+        ensures pass { IfOk result (λ p. IsPassOf self.now p) }
+        ensures idle { IfOk result (λ p. IsIdle p) }
+        ensures view { IfOk result (λ p. p.view ≡ begun first.old.view) }
+        ensures first { IfOk result (λ _. first.new ≡ record first.old { view = opened first.old.view }) }
+        ensures err { OnErr result (first.new ≡ first.old) }
+    {
+        let taken = Vec::with_capacity(alloc, self.table.slot_count())?;
+        let seat = self.table.shared.split_seat::<Open>(&mut first.seat);
+        Ok(Pass { seat, taken })
+    }
+}

@@ -1,0 +1,141 @@
+//! The steps on the lock words. Each is one atomic operation on one word, and nothing else changes what a pass knows or
+//! which stripes it holds.
+ghost use Rattle.std.specs.Prelude.{◌≡◌, ◌<◌, ◌^◌, Some, None, MatchBool, length, reverse};
+ghost use Rattle.ck_model.specs.Numbered.{numbers};
+ghost use Rattle.ck_model.specs.Contents.{Lawful};
+ghost use Rattle.ck_model.specs.Sections.{Section, IdentitySection};
+ghost use Rattle.ck_core.specs.Steps.{IsAbove, IsExcused, HasGrounds};
+ghost use Rattle.ck_section.specs.Stripes.{contents_of};
+ghost use Rattle.ck_words.specs.Rule.{layout_of};
+ghost use Rattle.ck_words.specs.Passes.{rotated, IsPassOf, IsUnchanged, Takes, Finds, GivesBack, Decided, Looked};
+
+use crate::law::{Decide, Give, Look, Place, Refuses, Renew, Says, Take};
+use crate::pass::Pass;
+use crate::words::Words;
+use ck_key::TableKey;
+use std::marker::Brand;
+
+// The first `n` slots go behind the others.
+pub(crate) fn turn_by<K: TableKey, V>(seat: &mut Place<K, V>, n: usize)
+    ensures kept { (seat.new.table_id ≡ seat.old.table_id) × (seat.new.id ≡ seat.old.id) }
+    ensures turned { seat.new.me ≡ (seat.old.me.0, rotated n seat.old.me.1) }
+{
+    for _i in 0..n {
+        seat.turn();
+    }
+}
+
+impl<K: TableKey + Drop, V: Drop> Words<K, V> {
+    /// Takes stripe `t`, which is above all that the pass holds. False where another pass holds it.
+    ///
+    /// It is a swap for 1. Where it brings back 0 the pass has the stripe, and has seen the history so far.
+    pub fn take(&self, pass: &mut Pass<K, V>, t: usize) -> bool
+        requires own { IsPassOf self.now pass.old }
+        requires inside { t < 2 ^ self.now.settings.s }
+        requires above { IsAbove t (numbers pass.old.view.held) }
+        requires unchanged { IsUnchanged pass.old }
+        ensures own { IsPassOf self.now pass.new }
+        ensures step { MatchBool result (Takes K.hash self.now.settings t pass.old pass.new) (Finds t pass.old pass.new) }
+        ensures unchanged { IsUnchanged pass.new }
+    {
+        if self.table.shared.swap::<Take>(&mut pass.seat, t * 8, 1) != 0 {
+            return false;
+        }
+        pass.seat.turn();
+        pass.taken.push_reserved(t);
+        true
+    }
+
+    /// Gives the highest stripe back as it was taken. `said` is for the pick of `J` alone.
+    ///
+    /// It is a store of 0. Where the stripes show it, it may tell that a name found no room.
+    pub fn give<J: Refuses, X>(&self, pass: &mut Pass<K, V>, said: &X)
+        requires own { IsPassOf self.now pass.old }
+        requires held { 0 < length pass.old.stripes }
+        requires unchanged { IsUnchanged pass.old }
+        requires excused { IsExcused (layout_of K.hash self.now.settings) self.now.settings.min_load (contents_of pass.old.stripes) J.refused }
+        ensures own { IsPassOf self.now pass.new }
+        ensures step { GivesBack K.hash self.now.settings pass.old.view.held J.refused pass.old pass.new }
+        ensures unchanged { IsUnchanged pass.new }
+    {
+        let _ = said;
+        let Some(t) = pass.taken.pop() else {
+            unreachable!()
+        };
+        turn_by(&mut pass.seat, pass.taken.len());
+        self.table
+            .shared
+            .store::<Give<J>>(&mut pass.seat, t * 8, 0);
+    }
+
+    /// Gives the highest stripe back after a `decide` or a `renew`, which told what it contains.
+    ///
+    /// It is a store of 0.
+    pub fn give_rest(&self, pass: &mut Pass<K, V>)
+        requires own { IsPassOf self.now pass.old }
+        requires held { 0 < length pass.old.stripes }
+        requires unchanged { IsUnchanged pass.old }
+        ensures own { IsPassOf self.now pass.new }
+        ensures step { GivesBack K.hash self.now.settings pass.old.view.held None pass.old pass.new }
+        ensures unchanged { IsUnchanged pass.new }
+    {
+        self.give::<Brand, ()>(pass, &());
+    }
+
+    /// Decides the call of `J` with what the stripes contain now, and gives the highest one back. `said` is for the pick
+    /// of `J` alone.
+    ///
+    /// It is a store of 0, by which the entry joins the history. The pass has then seen the history up to it.
+    pub fn decide<J: Says<V>, X>(&self, pass: &mut Pass<K, V>, said: &X)
+        requires own { IsPassOf self.now pass.old }
+        requires held { 0 < length pass.old.stripes }
+        requires caller { pass.old.view.by ≡ Some J.entry.by }
+        requires section { Lawful (layout_of K.hash self.now.settings) (reverse pass.old.view.held) → Section (layout_of K.hash self.now.settings) (reverse pass.old.view.held) J.entry.call J.entry.reply (contents_of pass.old.stripes) }
+        ensures own { IsPassOf self.now pass.new }
+        ensures step { Decided K.hash self.now.settings (reverse (contents_of pass.old.stripes)) J.entry pass.old pass.new }
+        ensures unchanged { IsUnchanged pass.new }
+    {
+        let _ = said;
+        let Some(t) = pass.taken.pop() else {
+            unreachable!()
+        };
+        turn_by(&mut pass.seat, pass.taken.len());
+        self.table
+            .shared
+            .store::<Decide<J>>(&mut pass.seat, t * 8, 0);
+    }
+
+    /// Gives the highest stripe back after an identity section, as a displacement or a doubling is, with what the stripes
+    /// contain now. `said` is for the pick of `J` alone.
+    ///
+    /// It is a store of 0. Where the stripes show it, it may tell that a name found no room.
+    pub fn renew<J: Refuses, X>(&self, pass: &mut Pass<K, V>, said: &X)
+        requires own { IsPassOf self.now pass.old }
+        requires held { 0 < length pass.old.stripes }
+        requires section { Lawful (layout_of K.hash self.now.settings) (reverse pass.old.view.held) → IdentitySection (layout_of K.hash self.now.settings) (reverse pass.old.view.held) (contents_of pass.old.stripes) }
+        requires grounds { HasGrounds (layout_of K.hash self.now.settings) self.now.settings.min_load (contents_of pass.old.stripes) J.refused }
+        ensures own { IsPassOf self.now pass.new }
+        ensures step { GivesBack K.hash self.now.settings (reverse (contents_of pass.old.stripes)) J.refused pass.old pass.new }
+        ensures unchanged { IsUnchanged pass.new }
+    {
+        let _ = said;
+        let Some(t) = pass.taken.pop() else {
+            unreachable!()
+        };
+        turn_by(&mut pass.seat, pass.taken.len());
+        self.table
+            .shared
+            .store::<Renew<J>>(&mut pass.seat, t * 8, 0);
+    }
+
+    /// Sees the history so far.
+    ///
+    /// It is a load.
+    pub fn look(&self, pass: &mut Pass<K, V>)
+        requires own { IsPassOf self.now pass.old }
+        ensures own { IsPassOf self.now pass.new }
+        ensures step { Looked K.hash self.now.settings pass.old pass.new }
+    {
+        self.table.shared.load::<Look>(&mut pass.seat, 0);
+    }
+}

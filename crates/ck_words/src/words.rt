@@ -1,0 +1,39 @@
+//! The lock words, and the steps on them.
+use crate::law::Law;
+use atomic_table::Table;
+use ck_core::view::View;
+use ck_key::TableKey;
+use ck_model::settings::Settings;
+use ck_stripe::Stripe;
+use std::alloc::Global;
+use std::marker::Model;
+
+/// A lock word and a slot for each stripe. Contracts see which table it is, and its settings.
+#[derive(Drop)]
+pub struct Words<K: TableKey, V> {
+    pub(crate) table: Table<Option<Stripe<K, V>>, View<V>, Settings, Law, Global>,
+    pub(crate) settings: Settings,
+}
+
+impl<K: TableKey, V> Model for Words<K, V> {
+    ghost use Rattle.ck_words.specs.Words.{WordsState, IsLaidOut};
+
+    ghost Value = { WordsState };
+
+    ghost view = { λ w. record { table = w.table.shared.table_id; settings = w.settings } };
+
+    ghost invariant = { λ w. IsLaidOut w.table.shared.table_id w.table.shared.key w.settings };
+}
+
+impl<K: TableKey + Drop, V: Drop> Words<K, V> {
+    ghost use Rattle.std.specs.Prelude.{◌≡◌};
+    ghost use Rattle.ck_model.specs.Ranges.{AreInRange};
+
+    /// What the table was opened with.
+    pub fn settings(&self) -> Settings
+        ensures value { result ≡ self.now.settings }
+        ensures range { AreInRange self.now.settings }
+    {
+        self.settings
+    }
+}
