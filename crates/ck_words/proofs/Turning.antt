@@ -1,9 +1,11 @@
 -- One of the slots is brought to the front, and back.
-use Rattle.std.proofs.Common.{◌≡◌, ℕ, suc, zero, ◌-◌, ◌<◌, Bool, List, [], ◌∷◌, ◌++◌, map, length, get_or, set, refl, sym, ap, ◌∙◌, subst, length-append, arith, Some}
+use Rattle.std.proofs.Common.{◌≡◌, ℕ, suc, zero, ◌-◌, ◌<◌, Bool, true, false, List, [], ◌∷◌, ◌++◌, map, length, get_or, set, refl, sym, ap, ◌∙◌, subst, length-append, arith, Some}
 use Rattle.atomic_table.specs.Table.{rest}
 use Rattle.atomic_table.specs.Seated.{TableId}
 use Rattle.std.proofs.lemmas.List.{set-get_or}
 use Rattle.ck_model.specs.declared.contents.Content.{Content}
+use Rattle.ck_model.specs.Map.{Name}
+use Rattle.ck_stripe.specs.Doubling.{doubled_content}
 use Rattle.ck_stripe.specs.Stripe.{StripeState}
 use Rattle.ck_section.specs.Stripes.{stripe_at, no_stripe}
 use Rattle.ck_words.specs.Rule.{Slot, Hand}
@@ -114,3 +116,14 @@ module _ {V : Type 0} where
   put ms l ns i k n t old here new stripe back count same made is turned =
       let whole : rotated k ((t, Some (altered old stripe.content stripe.settled stripe.room)) ∷ rest l) ≡ ns = sym (turned ∙ λ j. rotated (count j) ((t, Some ((is ∙ made) j)) ∷ rest l)) in
       subst (λ (x : StripeState V × List (ℕ × Slot V)). Puts ms i x.0 x.1) (λ j. (sym made j, whole j)) (back stripe.content stripe.settled stripe.room)
+
+  -- what an act on a stripe made, where it is told of its content and of the rest
+  pub made_of : (old here new : StripeState V) (f : StripeState V → Content V) → old ≡ here → new ≡ record here { content = new.content } → new.content ≡ f here → new ≡ record old { content = f old }
+  made_of old here new f same rest_is content = rest_is ∙ ((λ j. record here { content = content j }) ∙ λ j. record (sym same j) { content = f (sym same j) })
+
+  pub settled_of : (old here new : StripeState V) → old ≡ here → new ≡ record here { settled = true } → new ≡ record old { settled = true }
+  settled_of old here new same is = is ∙ λ j. record (sym same j) { settled = true }
+
+  pub doubled_of : (hash : Name → ℕ) (old here new : StripeState V) → old ≡ here → new ≡ record here { content = new.content; settled = false } → new.content ≡ doubled_content hash here.s here.number here.content
+      → new ≡ record old { content = doubled_content hash old.s old.number old.content; settled = false }
+  doubled_of hash old here new same rest_is content = rest_is ∙ ((λ j. record here { content = content j; settled = false }) ∙ λ j. record (sym same j) { content = doubled_content hash (sym same j).s (sym same j).number (sym same j).content; settled = false })
