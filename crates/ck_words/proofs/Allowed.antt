@@ -1,5 +1,5 @@
 -- What `atomic_table` asks of each step, split and join follows from the laws of the core.
-use Rattle.std.proofs.Common.{◌≡◌, ℕ, zero, suc, ◌*◌, ◌/◌, ◌^◌, ◌<◌, ◌≢◌, max, List, [], ◌∷◌, ◌++◌, map, length, length-set, set, get_or, reverse, drop, sym, refl, ap, ◌∙◌, subst, ⊎_elim, arith, Option, Some, None}
+use Rattle.std.proofs.Common.{◌≡◌, ℕ, zero, suc, ◌*◌, ◌^◌, ◌<◌, ◌≢◌, max, List, [], ◌∷◌, ◌++◌, map, length, length-set, set, get_or, drop, sym, refl, ap, ◌∙◌, subst, ⊎_elim, arith, Option, Some, None}
 use mathlib.Core.Option.{none, some, some-injective, some-ne-none}
 use mathlib.Core.Option as maybe
 use lib.ListN.{get_elem?}
@@ -18,12 +18,12 @@ use Rattle.ck_stripe.specs.Stripe.{StripeState}
 use Rattle.ck_core.specs.declared.view.View.{View}
 use Rattle.ck_core.specs.State.{World, Law}
 use Rattle.ck_core.specs.Laws.{Shows}
-use Rattle.ck_core.specs.Steps.{taken, seen_as, sent_home, giving, deciding, newcomer, messenger, joining, spent}
+use Rattle.ck_core.specs.Steps.{seen_as, sent_home, giving, deciding, newcomer, messenger, joining, spent}
 use Rattle.ck_core.proofs.Lists.{at_set, set_else, set_there}
 use Rattle.ck_core.proofs.Shown.{shows}
 use Rattle.ck_core.proofs.Keeps.{take_keeps, find_keeps, give_keeps, decide_keeps, renew_keeps, look_to, open_keeps, tell_keeps, join_keeps}
 use Rattle.ck_words.specs.Rule.{Slot, Hand, lying, spaced, world, IsNumbered, IsKept, Rule}
-use Rattle.ck_words.specs.Plays.{contents_in, contents_now, first_in, TakesOrFinds, Gives, Decides, Looks, first_number, opened, begun}
+use Rattle.ck_words.specs.Plays.{contents_now, first_in, TakesOrFinds, Gives, Decides, Looks, first_number, opened, begun}
 use Rattle.ck_words.proofs.Spacing.{spaced-at, spaced-set}
 
 module _ {V : Type 0} where

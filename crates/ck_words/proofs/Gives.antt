@@ -4,7 +4,7 @@ use Rattle.std.proofs.Common.{Fits as Fits64, w64}
 use Rattle.std.proofs.Math.Nat.{pow-le-pow_right}
 use Rattle.std.proofs.Math.Facts.{Fits-bits}
 use Rattle.std.proofs.lemmas.List.{reverse-reverse}
-use Rattle.atomic_table.specs.Table.{Allows, rest}
+use Rattle.atomic_table.specs.Table.{Allows}
 use Rattle.atomic_table.specs.Seated.{TableId}
 use Rattle.ck_model.specs.declared.history.Entry.{Entry}
 use Rattle.ck_model.specs.declared.history.Why.{Why}
@@ -13,17 +13,16 @@ use Rattle.ck_model.specs.Map.{Name}
 use Rattle.ck_model.specs.Numbered.{Holds, without}
 use Rattle.ck_model.specs.Contents.{Stripes, Lawful}
 use Rattle.ck_model.specs.Sections.{Section, IdentitySection}
-use Rattle.ck_stripe.specs.Stripe.{StripeState}
 use Rattle.ck_section.specs.Stripes.{contents_of}
 use Rattle.ck_core.specs.declared.view.View.{View}
 use Rattle.ck_core.specs.Steps.{giving, deciding}
-use Rattle.ck_words.specs.Rule.{Slot, Hand, RuleOf, layout_of}
-use Rattle.ck_words.specs.Plays.{ShowsBoth, Gives, Decides, contents_now}
+use Rattle.ck_words.specs.Rule.{Hand, RuleOf, layout_of}
+use Rattle.ck_words.specs.Plays.{Gives, Decides, contents_now}
 use Rattle.ck_words.specs.Words.{WordsState}
 use Rattle.ck_words.specs.Passes.{PassState, IsSeated, IsUnchanged, GivesBack, Decided, rotated, state_of, stripes_in}
 use Rattle.ck_words.proofs.Allowed.{give_allowed, renew_allowed, decide_allowed}
 use Rattle.ck_words.proofs.Reversed.{section_turned, identity_turned}
-use Rattle.ck_words.proofs.Seating.{Last, last}
+use Rattle.ck_words.proofs.Seating.{Last}
 use Rattle.ck_words.proofs.Takes.{Fits, word_of, same_settings, same_key, slots_are}
 
 pub turned_by : {V : Type 0} (me me2 : Hand V) (n m : ℕ) → me2 ≡ (me.0, rotated n me.1) → n ≡ m → me2 ≡ (me.0, rotated m me.1)

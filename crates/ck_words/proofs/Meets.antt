@@ -1,13 +1,9 @@
 -- What a meeting leaves, from what its steps tell.
-use Rattle.std.proofs.Common.{◌≡◌, ℕ, ◌≤◌, ◌∙◌, ap, sym, subst, refl}
-use Rattle.atomic_table.specs.Seated.{TableId}
+use Rattle.std.proofs.Common.{◌≡◌, ℕ, sym, subst, refl}
 use Rattle.ck_model.specs.declared.settings.Settings.{Settings}
-use Rattle.ck_model.specs.History.{StartsWith}
 use Rattle.ck_model.specs.Map.{Name}
-use Rattle.ck_core.specs.declared.view.View.{View}
 use Rattle.ck_core.specs.Steps.{joining, messenger}
-use Rattle.ck_words.specs.Rule.{Hand}
-use Rattle.ck_words.specs.Passes.{PassState, Looked, state_of}
+use Rattle.ck_words.specs.Passes.{PassState, Looked}
 use Rattle.ck_words.specs.Meeting.{Meets}
 
 module _ {V : Type 0} (hash : Name → ℕ) (set : Settings) (a b : PassState V) where

@@ -1,19 +1,18 @@
 -- Held stripes in the other order are lawful, and contain the same.
-use Rattle.std.proofs.Common.{◌≡◌, ◌⊎◌, ℕ, List, [], ◌∷◌, ◌++◌, map, reverse, append-nil, sym, refl, ap, ◌∙◌, subst, ⊎_elim, inl, inr, Some}
+use Rattle.std.proofs.Common.{◌≡◌, ℕ, List, [], ◌∷◌, ◌++◌, map, reverse, append-nil, sym, refl, ap, ◌∙◌, subst, ⊎_elim, inl, inr}
 use Rattle.std.proofs.lemmas.Grind.{reverse_onto}
 use Rattle.std.proofs.lemmas.List.{reverse-reverse}
 use Rattle.std.specs.FinMap.{get}
 use Rattle.ck_model.specs.declared.history.Call.{Call}
 use Rattle.ck_model.specs.declared.history.Call.TheVariants.{On, ChangeTwo, Len, Session}
 use Rattle.ck_model.specs.declared.history.Reply.{Reply}
-use Rattle.ck_model.specs.declared.contents.Content.{Content}
 use Rattle.ck_model.specs.Map.{Step}
 use Rattle.ck_model.specs.Numbered.{IsIn, AreDistinct, numbers, Holds}
-use Rattle.ck_model.specs.Contents.{Layout, Stripes, Binds, bindings, Lawful}
+use Rattle.ck_model.specs.Contents.{Layout, Stripes, bindings, Lawful}
 use Rattle.ck_model.specs.Sections.{OwnsCall, Renewed, Section, IdentitySection}
-use Rattle.ck_model.proofs.Numbered.{same_option, in_held, held_of_in, held_either, held_first, held_second, distinct_between}
+use Rattle.ck_model.proofs.Numbered.{same_option, in_held, held_of_in, held_first, held_second, distinct_between}
 use Rattle.ck_model.proofs.Names.{maps_alike}
-use Rattle.ck_model.proofs.Found.{Once, bound_where, bound_from}
+use Rattle.ck_model.proofs.Found.{bound_where, bound_from}
 
 module _ {A : Type 0} where
   pub reverse-cons : (x : A) (xs : List A) → reverse (x ∷ xs) ≡ reverse xs ++ x ∷ []

@@ -1,9 +1,9 @@
 -- The slots of a pass as a stripe comes and goes.
-use Rattle.std.proofs.Common.{◌≡◌, ◌⊎◌, ℕ, zero, suc, ◌+◌, ◌*◌, ◌^◌, ◌<◌, ◌≤◌, List, [], ◌∷◌, ◌++◌, map, length, drop, reverse, append-nil, append_assoc, length-append, sym, refl, ap, ◌∙◌, subst, ⊎_elim, inl, inr, arith, Option, Some, None}
+use Rattle.std.proofs.Common.{◌≡◌, ℕ, zero, suc, ◌<◌, ◌≤◌, List, [], ◌∷◌, ◌++◌, map, length, drop, reverse, append-nil, append_assoc, sym, refl, ap, ◌∙◌, subst, ⊎_elim, inl, inr, arith, Some}
 use Rattle.std.proofs.lemmas.List.{reverse-append, length-reverse}
-use Rattle.atomic_table.specs.Table.{turned, rest}
+use Rattle.atomic_table.specs.Table.{turned}
 use Rattle.atomic_table.specs.Seated.{TableId}
-use Rattle.ck_model.specs.Numbered.{IsIn, AreDistinct, numbers, Holds, without}
+use Rattle.ck_model.specs.Numbered.{IsIn, numbers, without}
 use Rattle.ck_model.specs.declared.contents.Content.{Content}
 use Rattle.ck_model.specs.declared.settings.Settings.{Settings}
 use Rattle.ck_model.specs.Contents.{Stripes}

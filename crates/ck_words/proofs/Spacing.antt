@@ -1,5 +1,5 @@
 -- The words that stand eight apart.
-use Rattle.std.proofs.Common.{◌≡◌, ℕ, zero, suc, ◌+◌, ◌*◌, ◌<◌, List, [], ◌∷◌, get_or, set, drop, length, replicate, refl, sym, ap, ◌∙◌, arith, length-drop, get_or-set_same, get_or-set_other}
+use Rattle.std.proofs.Common.{◌≡◌, ℕ, zero, suc, ◌+◌, ◌*◌, ◌<◌, List, ◌∷◌, get_or, set, drop, length, replicate, refl, sym, ap, ◌∙◌, arith, length-drop, get_or-set_same, get_or-set_other}
 use Rattle.std.proofs.lemmas.List.{get_or-drop, drop-set-lt, drop-set-add}
 use Rattle.ck_words.specs.Rule.{spaced}
 

@@ -1,5 +1,5 @@
 -- The rule holds of a table as it is opened.
-use Rattle.std.proofs.Common.{◌≡◌, ℕ, zero, suc, pred, ◌+◌, ◌-◌, ◌*◌, ◌^◌, ◌<◌, ◌≤◌, List, [], ◌∷◌, ◌++◌, map, length, replicate, append-nil, sym, refl, ap, ◌∙◌, subst, ⊎_elim, arith, add-one, Option, Some, None, length-append}
+use Rattle.std.proofs.Common.{◌≡◌, ℕ, zero, suc, pred, ◌+◌, ◌-◌, ◌*◌, ◌^◌, ◌<◌, ◌≤◌, List, [], ◌∷◌, ◌++◌, map, length, replicate, sym, refl, ap, ◌∙◌, subst, ⊎_elim, arith, add-one, Some, length-append}
 use mathlib.Core.Option.{none, some, some-injective, some-ne-none}
 use mathlib.Core.Option as maybe
 use lib.ListN.{get_elem?, length-replicate}
@@ -27,7 +27,7 @@ use Rattle.ck_core.specs.State.{World, Law}
 use Rattle.ck_core.specs.Steps.{Opening, opener}
 use Rattle.ck_core.proofs.Lists.{at_snoc, at_longer}
 use Rattle.ck_core.proofs.Openings.{opens}
-use Rattle.ck_words.specs.Rule.{Slot, IsNumbered, IsKept, Rule, RuleOf, layout_of, lying, world, spaced, counting, first_view}
+use Rattle.ck_words.specs.Rule.{Slot, IsNumbered, IsKept, RuleOf, layout_of, lying, counting, first_view}
 use Rattle.ck_words.specs.Opening.{fresh, fresh_slots}
 use Rattle.ck_words.proofs.Spacing.{spaced-zeros}
 use Rattle.ck_words.proofs.Reversed.{map-append}

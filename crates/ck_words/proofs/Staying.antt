@@ -1,5 +1,5 @@
 -- What stays as it is over steps that decide nothing.
-use Rattle.std.proofs.Common.{◌≡◌, ℕ, suc, ◌+◌, ◌<◌, ◌≤◌, List, [], ◌∷◌, ◌++◌, length, reverse, replicate, append-nil, append_assoc, length-append, sym, refl, ap, ◌∙◌, subst, ⊎_elim, arith, Option, None}
+use Rattle.std.proofs.Common.{◌≡◌, ℕ, ◌<◌, List, [], ◌∷◌, ◌++◌, length, reverse, replicate, append-nil, append_assoc, length-append, sym, refl, ap, ◌∙◌, subst, ⊎_elim, arith, None}
 use Rattle.ck_model.specs.declared.history.Entry.{Entry}
 use Rattle.ck_model.specs.declared.settings.Settings.{Settings}
 use Rattle.ck_model.specs.Map.{Name}
@@ -9,7 +9,7 @@ use Rattle.ck_model.specs.Contents.{Stripes}
 use Rattle.ck_model.proofs.Histories.{starts_itself}
 use Rattle.ck_stripe.specs.Stripe.{StripeState}
 use Rattle.ck_core.specs.declared.view.View.{View}
-use Rattle.ck_core.specs.Steps.{IsAbove, giving}
+use Rattle.ck_core.specs.Steps.{IsAbove}
 use Rattle.ck_core.specs.Laws.{Shows}
 use Rattle.ck_section.specs.Stripes.{contents_of}
 use Rattle.std.proofs.lemmas.List.{reverse-reverse}

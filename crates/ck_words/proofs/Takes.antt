@@ -1,5 +1,5 @@
 -- What a take asks and leaves, at the fields of words and pass.
-use Rattle.std.proofs.Common.{◌≡◌, ◌≢◌, ℕ, ◌*◌, ◌/◌, ◌^◌, ◌<◌, ◌≤◌, List, [], ◌∷◌, ◌++◌, length, reverse, sym, refl, ap, ◌∙◌, subst, arith, Option, Some}
+use Rattle.std.proofs.Common.{◌≡◌, ◌≢◌, ℕ, ◌*◌, ◌/◌, ◌^◌, ◌<◌, ◌≤◌, List, [], ◌∷◌, ◌++◌, length, reverse, sym, refl, ap, ◌∙◌, subst, arith, Some}
 use Rattle.std.proofs.Math.Nat.{one-le-pow}
 use Rattle.atomic_table.specs.Table.{turned, Allows}
 use Rattle.atomic_table.specs.Seated.{TableId}
@@ -7,12 +7,11 @@ use Rattle.ck_model.specs.declared.history.Entry.{Entry}
 use Rattle.ck_model.specs.declared.settings.Settings.{Settings}
 use Rattle.ck_model.specs.Map.{Name}
 use Rattle.ck_model.specs.Numbered.{numbers}
-use Rattle.ck_model.specs.Contents.{Stripes}
 use Rattle.ck_stripe.specs.Stripe.{StripeState}
 use Rattle.ck_section.specs.Stripes.{contents_of}
 use Rattle.ck_core.specs.declared.view.View.{View}
 use Rattle.ck_core.specs.Steps.{IsAbove}
-use Rattle.ck_words.specs.Rule.{Slot, Hand, RuleOf, IsNumbered, layout_of}
+use Rattle.ck_words.specs.Rule.{Hand, RuleOf, IsNumbered, layout_of}
 use Rattle.ck_words.specs.Plays.{stripe_in, ShowsBoth, TakesOrFinds, Looks}
 use Rattle.ck_words.specs.Words.{WordsState, IsLaidOut}
 use Rattle.ck_words.specs.Passes.{PassState, IsSeated, IsPassOf, IsUnchanged, Takes, Finds, Looked, state_of, stripes_in}

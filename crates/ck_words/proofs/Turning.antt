@@ -9,7 +9,6 @@ use Rattle.ck_stripe.specs.Doubling.{doubled_content}
 use Rattle.ck_stripe.specs.Stripe.{StripeState}
 use Rattle.ck_section.specs.Stripes.{stripe_at, no_stripe}
 use Rattle.ck_words.specs.Rule.{Slot, Hand}
-use Rattle.ck_words.specs.Plays.{stripe_in}
 use Rattle.ck_words.specs.Passes.{EachOf, IsSeated, rotated, slot_of, stripes_in, numbers_of}
 use Rattle.ck_words.specs.InPlace.{Puts, altered}
 use Rattle.ck_words.proofs.Reversed.{map-append}

@@ -2,7 +2,6 @@
 use Rattle.std.specs.Prelude.{◌≡◌, ℕ, Bool, List, map, slice_set}
 use Rattle.ck_model.specs.declared.contents.Content.{Content}
 use Rattle.ck_stripe.specs.Stripe.{StripeState}
-use Rattle.ck_section.specs.Stripes.{stripe_at}
 use Rattle.ck_words.specs.Rule.{Slot}
 use Rattle.ck_words.specs.Passes.{EachOf, slot_of, stripes_in, numbers_of}
 

@@ -1,5 +1,5 @@
 -- A table as it is opened.
-use Rattle.std.specs.Prelude.{◌≡◌, ℕ, zero, suc, ◌-◌, ◌^◌, true, List, [], ◌∷◌, ◌++◌, Some}
+use Rattle.std.specs.Prelude.{ℕ, zero, suc, ◌-◌, ◌^◌, true, List, [], ◌∷◌, ◌++◌, Some}
 use Rattle.ck_model.specs.declared.settings.Settings.{Settings}
 use Rattle.ck_stripe.specs.Stripe.{StripeState, empty_content}
 use Rattle.ck_words.specs.Rule.{Slot}

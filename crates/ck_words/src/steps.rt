@@ -63,9 +63,7 @@ impl<K: TableKey + Drop, V: Drop> Words<K, V> {
             unreachable!()
         };
         turn_by(&mut pass.seat, pass.taken.len());
-        self.table
-            .shared
-            .store::<Give<J>>(&mut pass.seat, t * 8, 0);
+        self.table.shared.store::<Give<J>>(&mut pass.seat, t * 8, 0);
     }
 
     /// Gives the highest stripe back after a `decide` or a `renew`, which told what it contains.

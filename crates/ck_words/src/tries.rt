@@ -8,8 +8,7 @@ ghost use Rattle.ck_words.specs.Retries.{TakesWithin, found_again, Stays, IsBusy
 use crate::pass::Pass;
 use crate::words::Words;
 use ck_key::TableKey;
-use std::hint;
-use std::thread;
+use std::{hint, thread};
 
 impl<K: TableKey + Drop, V: Drop> Words<K, V> {
     /// Takes stripe `t`, which is above all that the pass holds, by at most `turns` swaps. False where each of them found

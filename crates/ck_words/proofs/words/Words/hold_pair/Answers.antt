@@ -15,6 +15,6 @@ returns-clause-stays g c =
     let set = c.args.self.now.settings in
     let one = stays_within h set c.args.low c.args.pass.now c.try_take.new.pass c.if-not-try_take.ensures.tries in
     elim c.else-low-high.branch [
-      else-low-high-via-then-low-high+else-not-try_take-2 w ↦ subst (λ (q : PassState g.row.V.Denot). Stays c.args.pass.now.view q.view) (sym w.pass-is) (stays_on c.args.pass.now.view c.try_take.new.pass.view w.try_take-then-low-high.new.pass.view one (stays_within h set c.args.high c.try_take.new.pass w.try_take-then-low-high.new.pass w.if-not-try_take-2.ensures.tries))
+      | else-low-high-via-then-low-high+else-not-try_take-2 w ↦ subst (λ (q : PassState g.row.V.Denot). Stays c.args.pass.now.view q.view) (sym w.pass-is) (stays_on c.args.pass.now.view c.try_take.new.pass.view w.try_take-then-low-high.new.pass.view one (stays_within h set c.args.high c.try_take.new.pass w.try_take-then-low-high.new.pass w.if-not-try_take-2.ensures.tries))
       | else-low-high-via-else-low-high w ↦ subst (λ (q : PassState g.row.V.Denot). Stays c.args.pass.now.view q.view) (sym w.pass-is) one
     ]

@@ -1,6 +1,6 @@
 use Rattle.std.proofs.Common.{◌≡◌, ◌<◌, ◌∙◌, subst, length, vec_len, rules}
 use Rattle.std.specs.Prelude.{vec_capacity}
-use Rattle.ck_words.proofs.Takes.{fits, same_table, word_inside, take_ready, took, takes, still_unchanged, seated_after, room_there, found, finds, found_unchanged, found_seated}
+use Rattle.ck_words.proofs.Takes.{fits, same_table, word_inside, take_ready, took, takes, still_unchanged, seated_after, room_there, found, found_seated}
 use Rattle.ck_words.proofs.words.Words.take.Goals as goal
 
 pub swap-requires : goal.swap-requires
