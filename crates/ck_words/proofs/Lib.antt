@@ -5,6 +5,5 @@ pub mod Seating
 pub mod Takes
 pub mod Gives
 pub mod Staying
-pub mod Turning
 pub mod Starting
 pub mod Meets

@@ -5,7 +5,6 @@ mod law;
 mod meet;
 mod open;
 mod pass;
-mod slots;
 mod steps;
 mod tries;
 mod words;
