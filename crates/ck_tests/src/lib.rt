@@ -7,3 +7,5 @@ mod definitions;
 mod memory;
 #[cfg(test)]
 mod owner;
+#[cfg(test)]
+mod words;
