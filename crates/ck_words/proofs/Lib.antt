@@ -5,5 +5,6 @@ pub mod Seating
 pub mod Takes
 pub mod Gives
 pub mod Staying
+pub mod Turning
 pub mod Starting
 pub mod Meets

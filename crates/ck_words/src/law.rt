@@ -1,5 +1,5 @@
 //! The law of the core as the rule of a table of words, and what each step tells.
-use atomic_table::{Join, Play, Seat, Split, TableRule};
+use atomic_table::{Join, Play, Seat, Shared, Split, TableRule};
 use ck_core::view::View;
 use ck_key::TableKey;
 use ck_model::settings::Settings;
@@ -134,5 +134,7 @@ impl<V> Join<View<V>> for Tell {
 
     ghost spent = { spent };
 }
+
+pub(crate) type Board<K, V> = Shared<Option<Stripe<K, V>>, View<V>, Settings, Law>;
 
 pub(crate) type Place<K, V> = Seat<Option<Stripe<K, V>>, View<V>>;

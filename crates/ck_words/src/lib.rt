@@ -5,6 +5,7 @@ mod law;
 mod meet;
 mod open;
 mod pass;
+mod slots;
 mod steps;
 mod tries;
 mod words;

@@ -1,0 +1,345 @@
+//! Work on one of the stripes that a seat holds, in its slot. The seat's slots are turned until that stripe is the first,
+//! and then on until they are in their old order; a seat has no bytes, so a turn costs nothing.
+ghost use Rattle.std.specs.Prelude.{◌≡◌, ℕ, Bool, true, false, ◌+◌, ◌-◌, ◌<◌, ◌∷◌, Some, None, IsSome, IfSome, IfNone, length, map};
+ghost use Rattle.atomic_table.specs.Table.{rest};
+ghost use Rattle.ck_model.specs.declared.contents.Content.{Content};
+ghost use Rattle.ck_model.specs.Arithmetic.{partial_of};
+ghost use Rattle.ck_model.specs.Slots.{slot_at, IsFull};
+ghost use Rattle.ck_bucket.specs.Bucket.{HasName, LacksName, partial_in};
+ghost use Rattle.ck_stripe.specs.Doubling.{doubled_content};
+ghost use Rattle.ck_stripe.specs.Stripe.{HasBucket, bucket_of, with_slot, IsReserved};
+ghost use Rattle.ck_section.specs.Stripes.{stripe_at, bucket_at, IsInReach};
+ghost use Rattle.ck_words.specs.Passes.{rotated, slot_of, stripes_in, numbers_of};
+ghost use Rattle.ck_words.specs.InPlace.{Puts, altered};
+
+use crate::law::{Board, Place};
+use crate::steps::turn_by;
+use ck_key::TableKey;
+use ck_stripe::Stripe;
+
+// Brings stripe `i` to the front, and gives its number.
+fn bring<K: TableKey, V>(seat: &mut Place<K, V>, taken: &[usize], i: usize) -> usize
+    requires full { seat.old.me.1 ≡ map slot_of (stripes_in seat.old.me.1) }
+    requires numbered { numbers_of (stripes_in seat.old.me.1) ≡ taken.now }
+    requires inside { i < length taken.now }
+    ensures kept { (seat.new.table_id ≡ seat.old.table_id) × (seat.new.id ≡ seat.old.id) × (seat.new.me.0 ≡ seat.old.me.0) }
+    ensures front { seat.new.me.1 ≡ (result, Some (stripe_at (stripes_in seat.old.me.1) i)) ∷ rest seat.new.me.1 }
+    ensures back { (c : Content V) (settled : Bool) (room : ℕ) → Puts seat.old.me.1 i (altered (stripe_at (stripes_in seat.old.me.1) i) c settled room) (rotated (length taken.now - i) ((result, Some (altered (stripe_at (stripes_in seat.old.me.1) i) c settled room)) ∷ rest seat.new.me.1)) }
+{
+    turn_by(seat, i);
+    taken[i]
+}
+
+// A look into a bucket, which borrows nothing of the stripe afterwards.
+fn look_in<K: TableKey + Drop, V: Drop>(
+    stripe: &Stripe<K, V>,
+    b: u64,
+    key: &K,
+    partial: u8,
+) -> Option<usize>
+    requires settled { stripe.now.settled ≡ true }
+    requires own { HasBucket stripe.now b }
+    requires partial { partial ≡ partial_of (K.hash (K.name key.now)) }
+    ensures below { IfSome result (λ slot. slot < 4) }
+    ensures found { IfSome result (HasName (bucket_of stripe.now b) (K.name key.now)) }
+    ensures absent { IfNone result (LacksName (bucket_of stripe.now b) (K.name key.now)) }
+{
+    stripe.bucket(b).look(key, partial)
+}
+
+// The lowest free slot of a bucket.
+fn free_in<K: TableKey + Drop, V: Drop>(stripe: &Stripe<K, V>, b: u64) -> Option<usize>
+    requires settled { stripe.now.settled ≡ true }
+    requires own { HasBucket stripe.now b }
+    ensures below { IfSome result (λ slot. slot < 4) }
+    ensures found { IfSome result (λ slot. slot_at (bucket_of stripe.now b) slot ≡ None) }
+    ensures lowest { IfSome result (λ slot. (j : _) → j < slot → IsSome (slot_at (bucket_of stripe.now b) j)) }
+    ensures no_room { IfNone result (IsFull (bucket_of stripe.now b)) }
+{
+    stripe.bucket(b).free()
+}
+
+// The partials in a bucket.
+fn sketch_in<K: TableKey + Drop, V: Drop>(stripe: &Stripe<K, V>, b: u64) -> [Option<u8>; 4]
+    requires settled { stripe.now.settled ≡ true }
+    requires own { HasBucket stripe.now b }
+    ensures value { result ≡ map (partial_in K.hash) (bucket_of stripe.now b) }
+{
+    stripe.bucket(b).sketch()
+}
+
+pub(crate) fn number_at<K: TableKey + Drop, V: Drop>(
+    shared: &Board<K, V>,
+    seat: &mut Place<K, V>,
+    taken: &[usize],
+    i: usize,
+) -> u32
+    requires own { seat.old.table_id ≡ shared.now.table_id }
+    requires full { seat.old.me.1 ≡ map slot_of (stripes_in seat.old.me.1) }
+    requires numbered { numbers_of (stripes_in seat.old.me.1) ≡ taken.now }
+    requires inside { i < length taken.now }
+    ensures value { result ≡ (stripe_at (stripes_in seat.old.me.1) i).number }
+    ensures puts { Puts seat.old.me.1 i ((stripe_at (stripes_in seat.old.me.1) i)) seat.new.me.1 }
+    ensures kept { (seat.new.table_id ≡ seat.old.table_id) × (seat.new.id ≡ seat.old.id) × (seat.new.me.0 ≡ seat.old.me.0) }
+{
+    let t = bring(seat, taken, i);
+    let Some(stripe) = seat.slot_mut(shared, t) else {
+        unreachable!()
+    };
+    let answer = stripe.number();
+    turn_by(seat, taken.len() - i);
+    answer
+}
+
+pub(crate) fn power_at<K: TableKey + Drop, V: Drop>(
+    shared: &Board<K, V>,
+    seat: &mut Place<K, V>,
+    taken: &[usize],
+    i: usize,
+) -> u32
+    requires own { seat.old.table_id ≡ shared.now.table_id }
+    requires full { seat.old.me.1 ≡ map slot_of (stripes_in seat.old.me.1) }
+    requires numbered { numbers_of (stripes_in seat.old.me.1) ≡ taken.now }
+    requires inside { i < length taken.now }
+    ensures value { result ≡ (stripe_at (stripes_in seat.old.me.1) i).content.power }
+    ensures puts { Puts seat.old.me.1 i ((stripe_at (stripes_in seat.old.me.1) i)) seat.new.me.1 }
+    ensures kept { (seat.new.table_id ≡ seat.old.table_id) × (seat.new.id ≡ seat.old.id) × (seat.new.me.0 ≡ seat.old.me.0) }
+{
+    let t = bring(seat, taken, i);
+    let Some(stripe) = seat.slot_mut(shared, t) else {
+        unreachable!()
+    };
+    let answer = stripe.power();
+    turn_by(seat, taken.len() - i);
+    answer
+}
+
+pub(crate) fn len_at<K: TableKey + Drop, V: Drop>(
+    shared: &Board<K, V>,
+    seat: &mut Place<K, V>,
+    taken: &[usize],
+    i: usize,
+) -> u64
+    requires own { seat.old.table_id ≡ shared.now.table_id }
+    requires full { seat.old.me.1 ≡ map slot_of (stripes_in seat.old.me.1) }
+    requires numbered { numbers_of (stripes_in seat.old.me.1) ≡ taken.now }
+    requires inside { i < length taken.now }
+    ensures value { result ≡ (stripe_at (stripes_in seat.old.me.1) i).content.ledger }
+    ensures puts { Puts seat.old.me.1 i ((stripe_at (stripes_in seat.old.me.1) i)) seat.new.me.1 }
+    ensures kept { (seat.new.table_id ≡ seat.old.table_id) × (seat.new.id ≡ seat.old.id) × (seat.new.me.0 ≡ seat.old.me.0) }
+{
+    let t = bring(seat, taken, i);
+    let Some(stripe) = seat.slot_mut(shared, t) else {
+        unreachable!()
+    };
+    let answer = stripe.len();
+    turn_by(seat, taken.len() - i);
+    answer
+}
+
+pub(crate) fn look_at<K: TableKey + Drop, V: Drop>(
+    shared: &Board<K, V>,
+    seat: &mut Place<K, V>,
+    taken: &[usize],
+    i: usize,
+    b: u64,
+    key: &K,
+    partial: u8,
+) -> Option<usize>
+    requires own { seat.old.table_id ≡ shared.now.table_id }
+    requires full { seat.old.me.1 ≡ map slot_of (stripes_in seat.old.me.1) }
+    requires numbered { numbers_of (stripes_in seat.old.me.1) ≡ taken.now }
+    requires inside { i < length taken.now }
+    requires reach { IsInReach (stripes_in seat.old.me.1) i b }
+    requires partial { partial ≡ partial_of (K.hash (K.name key.now)) }
+    ensures below { IfSome result (λ slot. slot < 4) }
+    ensures found { IfSome result (HasName (bucket_at (stripes_in seat.old.me.1) i b) (K.name key.now)) }
+    ensures absent { IfNone result (LacksName (bucket_at (stripes_in seat.old.me.1) i b) (K.name key.now)) }
+    ensures puts { Puts seat.old.me.1 i ((stripe_at (stripes_in seat.old.me.1) i)) seat.new.me.1 }
+    ensures kept { (seat.new.table_id ≡ seat.old.table_id) × (seat.new.id ≡ seat.old.id) × (seat.new.me.0 ≡ seat.old.me.0) }
+{
+    let t = bring(seat, taken, i);
+    let Some(stripe) = seat.slot_mut(shared, t) else {
+        unreachable!()
+    };
+    let answer = look_in(stripe, b, key, partial);
+    turn_by(seat, taken.len() - i);
+    answer
+}
+
+pub(crate) fn free_at<K: TableKey + Drop, V: Drop>(
+    shared: &Board<K, V>,
+    seat: &mut Place<K, V>,
+    taken: &[usize],
+    i: usize,
+    b: u64,
+) -> Option<usize>
+    requires own { seat.old.table_id ≡ shared.now.table_id }
+    requires full { seat.old.me.1 ≡ map slot_of (stripes_in seat.old.me.1) }
+    requires numbered { numbers_of (stripes_in seat.old.me.1) ≡ taken.now }
+    requires inside { i < length taken.now }
+    requires reach { IsInReach (stripes_in seat.old.me.1) i b }
+    ensures below { IfSome result (λ slot. slot < 4) }
+    ensures found { IfSome result (λ slot. slot_at (bucket_at (stripes_in seat.old.me.1) i b) slot ≡ None) }
+    ensures lowest { IfSome result (λ slot. (j : _) → j < slot → IsSome (slot_at (bucket_at (stripes_in seat.old.me.1) i b) j)) }
+    ensures no_room { IfNone result (IsFull (bucket_at (stripes_in seat.old.me.1) i b)) }
+    ensures puts { Puts seat.old.me.1 i ((stripe_at (stripes_in seat.old.me.1) i)) seat.new.me.1 }
+    ensures kept { (seat.new.table_id ≡ seat.old.table_id) × (seat.new.id ≡ seat.old.id) × (seat.new.me.0 ≡ seat.old.me.0) }
+{
+    let t = bring(seat, taken, i);
+    let Some(stripe) = seat.slot_mut(shared, t) else {
+        unreachable!()
+    };
+    let answer = free_in(stripe, b);
+    turn_by(seat, taken.len() - i);
+    answer
+}
+
+pub(crate) fn sketch_at<K: TableKey + Drop, V: Drop>(
+    shared: &Board<K, V>,
+    seat: &mut Place<K, V>,
+    taken: &[usize],
+    i: usize,
+    b: u64,
+) -> [Option<u8>; 4]
+    requires own { seat.old.table_id ≡ shared.now.table_id }
+    requires full { seat.old.me.1 ≡ map slot_of (stripes_in seat.old.me.1) }
+    requires numbered { numbers_of (stripes_in seat.old.me.1) ≡ taken.now }
+    requires inside { i < length taken.now }
+    requires reach { IsInReach (stripes_in seat.old.me.1) i b }
+    ensures value { result ≡ map (partial_in K.hash) (bucket_at (stripes_in seat.old.me.1) i b) }
+    ensures puts { Puts seat.old.me.1 i ((stripe_at (stripes_in seat.old.me.1) i)) seat.new.me.1 }
+    ensures kept { (seat.new.table_id ≡ seat.old.table_id) × (seat.new.id ≡ seat.old.id) × (seat.new.me.0 ≡ seat.old.me.0) }
+{
+    let t = bring(seat, taken, i);
+    let Some(stripe) = seat.slot_mut(shared, t) else {
+        unreachable!()
+    };
+    let answer = sketch_in(stripe, b);
+    turn_by(seat, taken.len() - i);
+    answer
+}
+
+pub(crate) fn settled_at<K: TableKey + Drop, V: Drop>(
+    shared: &Board<K, V>,
+    seat: &mut Place<K, V>,
+    taken: &[usize],
+    i: usize,
+) -> bool
+    requires own { seat.old.table_id ≡ shared.now.table_id }
+    requires full { seat.old.me.1 ≡ map slot_of (stripes_in seat.old.me.1) }
+    requires numbered { numbers_of (stripes_in seat.old.me.1) ≡ taken.now }
+    requires inside { i < length taken.now }
+    ensures value { result ≡ (stripe_at (stripes_in seat.old.me.1) i).settled }
+    ensures puts { Puts seat.old.me.1 i ((stripe_at (stripes_in seat.old.me.1) i)) seat.new.me.1 }
+    ensures kept { (seat.new.table_id ≡ seat.old.table_id) × (seat.new.id ≡ seat.old.id) × (seat.new.me.0 ≡ seat.old.me.0) }
+{
+    let t = bring(seat, taken, i);
+    let Some(stripe) = seat.slot_mut(shared, t) else {
+        unreachable!()
+    };
+    let answer = stripe.settled();
+    turn_by(seat, taken.len() - i);
+    answer
+}
+
+pub(crate) fn place_at<K: TableKey + Drop, V: Drop>(
+    shared: &Board<K, V>,
+    seat: &mut Place<K, V>,
+    taken: &[usize],
+    i: usize,
+    b: u64,
+    slot: usize,
+    key: K,
+    value: V,
+)
+    requires own { seat.old.table_id ≡ shared.now.table_id }
+    requires full { seat.old.me.1 ≡ map slot_of (stripes_in seat.old.me.1) }
+    requires numbered { numbers_of (stripes_in seat.old.me.1) ≡ taken.now }
+    requires inside { i < length taken.now }
+    requires reach { IsInReach (stripes_in seat.old.me.1) i b }
+    requires below { slot < 4 }
+    requires free { slot_at (bucket_at (stripes_in seat.old.me.1) i b) slot ≡ None }
+    ensures puts { Puts seat.old.me.1 i (record (stripe_at (stripes_in seat.old.me.1) i) { content = with_slot (stripe_at (stripes_in seat.old.me.1) i) b slot (Some (K.name key, value)) ((stripe_at (stripes_in seat.old.me.1) i).content.ledger + 1) }) seat.new.me.1 }
+    ensures kept { (seat.new.table_id ≡ seat.old.table_id) × (seat.new.id ≡ seat.old.id) × (seat.new.me.0 ≡ seat.old.me.0) }
+{
+    let t = bring(seat, taken, i);
+    let Some(stripe) = seat.slot_mut(shared, t) else {
+        unreachable!()
+    };
+    stripe.place(b, slot, key, value);
+    turn_by(seat, taken.len() - i);
+}
+
+pub(crate) fn remove_at<K: TableKey + Drop, V: Drop>(
+    shared: &Board<K, V>,
+    seat: &mut Place<K, V>,
+    taken: &[usize],
+    i: usize,
+    b: u64,
+    slot: usize,
+) -> (K, V)
+    requires own { seat.old.table_id ≡ shared.now.table_id }
+    requires full { seat.old.me.1 ≡ map slot_of (stripes_in seat.old.me.1) }
+    requires numbered { numbers_of (stripes_in seat.old.me.1) ≡ taken.now }
+    requires inside { i < length taken.now }
+    requires reach { IsInReach (stripes_in seat.old.me.1) i b }
+    requires below { slot < 4 }
+    requires slot_full { IsSome (slot_at (bucket_at (stripes_in seat.old.me.1) i b) slot) }
+    ensures entry { slot_at (bucket_at (stripes_in seat.old.me.1) i b) slot ≡ Some (K.name result.0, result.1) }
+    ensures puts { Puts seat.old.me.1 i (record (stripe_at (stripes_in seat.old.me.1) i) { content = with_slot (stripe_at (stripes_in seat.old.me.1) i) b slot None ((stripe_at (stripes_in seat.old.me.1) i).content.ledger - 1) }) seat.new.me.1 }
+    ensures kept { (seat.new.table_id ≡ seat.old.table_id) × (seat.new.id ≡ seat.old.id) × (seat.new.me.0 ≡ seat.old.me.0) }
+{
+    let t = bring(seat, taken, i);
+    let Some(stripe) = seat.slot_mut(shared, t) else {
+        unreachable!()
+    };
+    let answer = stripe.remove(b, slot);
+    turn_by(seat, taken.len() - i);
+    answer
+}
+
+pub(crate) fn settle_at<K: TableKey + Drop, V: Drop>(
+    shared: &Board<K, V>,
+    seat: &mut Place<K, V>,
+    taken: &[usize],
+    i: usize,
+)
+    requires own { seat.old.table_id ≡ shared.now.table_id }
+    requires full { seat.old.me.1 ≡ map slot_of (stripes_in seat.old.me.1) }
+    requires numbered { numbers_of (stripes_in seat.old.me.1) ≡ taken.now }
+    requires inside { i < length taken.now }
+    ensures puts { Puts seat.old.me.1 i (record (stripe_at (stripes_in seat.old.me.1) i) { settled = true }) seat.new.me.1 }
+    ensures kept { (seat.new.table_id ≡ seat.old.table_id) × (seat.new.id ≡ seat.old.id) × (seat.new.me.0 ≡ seat.old.me.0) }
+{
+    let t = bring(seat, taken, i);
+    let Some(stripe) = seat.slot_mut(shared, t) else {
+        unreachable!()
+    };
+    stripe.settle();
+    turn_by(seat, taken.len() - i);
+}
+
+pub(crate) fn double_at<K: TableKey + Drop, V: Drop>(
+    shared: &Board<K, V>,
+    seat: &mut Place<K, V>,
+    taken: &[usize],
+    i: usize,
+)
+    requires own { seat.old.table_id ≡ shared.now.table_id }
+    requires full { seat.old.me.1 ≡ map slot_of (stripes_in seat.old.me.1) }
+    requires numbered { numbers_of (stripes_in seat.old.me.1) ≡ taken.now }
+    requires inside { i < length taken.now }
+    requires settled { (stripe_at (stripes_in seat.old.me.1) i).settled ≡ true }
+    requires reserved { IsReserved (stripe_at (stripes_in seat.old.me.1) i) }
+    requires power { (stripe_at (stripes_in seat.old.me.1) i).content.power < 26 }
+    ensures puts { Puts seat.old.me.1 i (record (stripe_at (stripes_in seat.old.me.1) i) { content = doubled_content K.hash (stripe_at (stripes_in seat.old.me.1) i).s (stripe_at (stripes_in seat.old.me.1) i).number (stripe_at (stripes_in seat.old.me.1) i).content; settled = false }) seat.new.me.1 }
+    ensures kept { (seat.new.table_id ≡ seat.old.table_id) × (seat.new.id ≡ seat.old.id) × (seat.new.me.0 ≡ seat.old.me.0) }
+{
+    let t = bring(seat, taken, i);
+    let Some(stripe) = seat.slot_mut(shared, t) else {
+        unreachable!()
+    };
+    stripe.double();
+    turn_by(seat, taken.len() - i);
+}
