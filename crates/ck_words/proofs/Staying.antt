@@ -19,7 +19,7 @@ use Rattle.ck_words.proofs.Reversed.{map-append}
 use Rattle.ck_words.specs.Retries.{Stays, IsBusy, found_again, TakesWithin}
 
 module _ {V : Type 0} where
-  starts_on : (a b c : List (Entry V)) → StartsWith b a → StartsWith c b → StartsWith c a
+  pub starts_on : (a b c : List (Entry V)) → StartsWith b a → StartsWith c b → StartsWith c a
   starts_on a b c f g = (f.0 ++ g.0, g.1 ∙ (ap (λ l. l ++ g.0) f.1 ∙ append_assoc a f.0 g.0))
 
   pub stays_same : (v : View V) → Stays v v

@@ -8,6 +8,7 @@ mod pass;
 mod slots;
 mod steps;
 mod tries;
+mod whole;
 mod words;
 
 pub use law::{Refuses, Says};
