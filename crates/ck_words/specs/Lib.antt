@@ -6,3 +6,4 @@ pub mod Retries
 pub mod InPlace
 pub mod Opening
 pub mod Meeting
+pub mod Closing
