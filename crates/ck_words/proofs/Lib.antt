@@ -16,3 +16,5 @@ pub mod Totals
 pub mod Draining
 pub mod Dealt
 pub mod Ending
+pub mod Replying
+pub mod AreHeld

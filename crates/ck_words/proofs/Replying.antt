@@ -1,5 +1,5 @@
 -- The reply of a call is what the bindings before and after it tell.
-use Rattle.std.proofs.Common.{◌≡◌, ℕ, List, [], ◌∷◌, ◌++◌, append-nil, reverse, sym, refl, ap, ◌∙◌, subst, arith, Option, Some, None, IsSome, rules}
+use Rattle.std.proofs.Common.{◌≡◌, ℕ, [], append-nil, reverse, sym, refl, ap, ◌∙◌, subst, arith, Option, Some, None, IsSome, rules}
 use Rattle.std.specs.Option.{unwrap_or}
 use Rattle.std.specs.FinMap.{get, len}
 use Rattle.ck_model.specs.declared.history.Act.{Act}

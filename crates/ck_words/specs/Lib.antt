@@ -7,3 +7,4 @@ pub mod InPlace
 pub mod Opening
 pub mod Meeting
 pub mod Closing
+pub mod Answering

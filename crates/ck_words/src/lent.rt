@@ -53,15 +53,7 @@ impl<K: TableKey + Drop, V: Drop> Held<K, V> for Lent<'_, K, V> {
         let words = self.words;
         let pass = &mut *self.pass;
         let shared = &words.table.shared;
-        slots::look_at(
-            shared,
-            &mut pass.seat,
-            &pass.taken,
-            i,
-            b,
-            key,
-            partial,
-        )
+        slots::look_at(shared, &mut pass.seat, &pass.taken, i, b, key, partial)
     }
 
     fn free(&mut self, i: usize, b: u64) -> Option<usize> {
@@ -89,16 +81,7 @@ impl<K: TableKey + Drop, V: Drop> Held<K, V> for Lent<'_, K, V> {
         let words = self.words;
         let pass = &mut *self.pass;
         let shared = &words.table.shared;
-        slots::place_at(
-            shared,
-            &mut pass.seat,
-            &pass.taken,
-            i,
-            b,
-            slot,
-            key,
-            value,
-        );
+        slots::place_at(shared, &mut pass.seat, &pass.taken, i, b, slot, key, value);
     }
 
     fn remove(&mut self, i: usize, b: u64, slot: usize) -> (K, V) {
@@ -112,15 +95,7 @@ impl<K: TableKey + Drop, V: Drop> Held<K, V> for Lent<'_, K, V> {
         let words = self.words;
         let pass = &mut *self.pass;
         let shared = &words.table.shared;
-        slots::replace_at(
-            shared,
-            &mut pass.seat,
-            &pass.taken,
-            i,
-            b,
-            slot,
-            value,
-        )
+        slots::replace_at(shared, &mut pass.seat, &pass.taken, i, b, slot, value)
     }
 
     fn settled(&mut self, i: usize) -> bool {

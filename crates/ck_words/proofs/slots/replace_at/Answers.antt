@@ -1,4 +1,4 @@
-use Rattle.std.proofs.Common.{rules, ◌≡◌, ◌∙◌, ◌-◌, length, ap, refl, sym, Some}
+use Rattle.std.proofs.Common.{rules, ◌≡◌, ◌∙◌, ◌-◌, length, ap, refl, Some}
 use Rattle.ck_model.specs.Slots.{slot_at}
 use Rattle.ck_stripe.specs.Stripe.{StripeState, bucket_of, with_bucket, with_slot}
 use Rattle.ck_section.specs.Stripes.{stripe_at}
