@@ -1,0 +1,519 @@
+//! What a step leaves, compared with a world without making a copy of one.
+use crate::plain::refusal::{Part, Refusal};
+use crate::plain::same::{Stands, are_same, is_same_content};
+use crate::plain::world::{PlainOther, PlainView, PlainWorld};
+use ck_model::history::{Entry, Name, Why};
+use ck_model::plain::stripes::PlainStripe;
+use ck_model::settings::Settings;
+
+/// A view that a step leaves: a view, and what is another in it.
+#[derive(Clone, Copy)]
+pub struct Left<'a> {
+    base: &'a PlainView,
+    // The stripe that comes first, with its number.
+    taken: Option<(u64, &'a PlainStripe)>,
+    // The stripes in place of those that were held, but for those of a number.
+    given: Option<(u64, &'a [PlainStripe])>,
+    seen: Option<&'a [Entry<u64>]>,
+    // The entry that comes last in what was seen and among the own ones.
+    decided: Option<&'a Entry<u64>>,
+    told: u64,
+    found: Option<u64>,
+    noroom: Option<&'a (Name, Why)>,
+    // The view that is heard, and whose numbers come first.
+    joined: Option<&'a PlainView>,
+    others: Option<&'a [PlainOther]>,
+}
+
+/// A view that knows nothing but this.
+#[derive(Clone, Copy)]
+pub struct New<'a> {
+    pub settings: Settings,
+    pub by: Option<u64>,
+    pub seen: &'a [Entry<u64>],
+    pub told: u64,
+    pub others: &'a [PlainOther],
+}
+
+/// An error where the condition doesn't hold.
+pub fn check(holds: bool, refusal: Refusal) -> Result<(), Refusal> {
+    if holds { Ok(()) } else { Err(refusal) }
+}
+
+fn check_part(holds: bool, part: Part) -> Result<(), Refusal> {
+    check(holds, Refusal::Leaves(part))
+}
+
+// Whether the stripes are all of these but those of the number.
+fn are_without(number: u64, all: &[PlainStripe], stripes: &[PlainStripe]) -> bool {
+    let mut rest = stripes;
+    for stripe in all {
+        if stripe.number != number {
+            match rest.split_first() {
+                Some((first, more)) if stripe.is_same(first) => rest = more,
+                _ => return false,
+            }
+        }
+    }
+    rest.is_empty()
+}
+
+// Whether the list is this one and then the last item, if there is one.
+fn is_grown<T: Stands>(before: &[T], last: Option<&T>, after: &[T]) -> bool {
+    match last {
+        Some(item) => match after.split_last() {
+            Some((new, rest)) => item.is_same(new) && are_same(before, rest),
+            None => false,
+        },
+        None => are_same(before, after),
+    }
+}
+
+// Whether the list is the first item, if there is one, and then this one.
+fn is_topped<T: Stands>(first: Option<&T>, before: &[T], after: &[T]) -> bool {
+    match first {
+        Some(item) => match after.split_first() {
+            Some((new, rest)) => item.is_same(new) && are_same(before, rest),
+            None => false,
+        },
+        None => are_same(before, after),
+    }
+}
+
+fn is_found(first: Option<u64>, before: &[u64], after: &[u64]) -> bool {
+    match first {
+        Some(stripe) => match after.split_first() {
+            Some((new, rest)) => stripe == *new && before == rest,
+            None => false,
+        },
+        None => before == after,
+    }
+}
+
+// What follows the view's own number with its entries, where the list begins by that.
+fn behind_own<'a>(view: &PlainView, list: &'a [PlainOther]) -> Option<&'a [PlainOther]> {
+    match view.by {
+        Some(number) => match list.split_first() {
+            Some((first, rest))
+                if first.number == number && are_same(&view.mine, &first.entries) => { Some(rest) }
+            _ => None,
+        },
+        None => Some(list),
+    }
+}
+
+// What follows all numbers of the view with their entries, where the list begins by them.
+fn behind_owned<'a>(view: &PlainView, list: &'a [PlainOther]) -> Option<&'a [PlainOther]> {
+    let rest = behind_own(view, list)?;
+    let count = view.others.len();
+    if count <= rest.len() && are_same(&view.others, &rest[..count]) {
+        Some(&rest[count..])
+    } else {
+        None
+    }
+}
+
+impl<'a> New<'a> {
+    /// A caller that begins.
+    pub fn newcomer(settings: Settings, number: u64, told: u64) -> New<'a> {
+        New {
+            settings,
+            by: Some(number),
+            seen: &[],
+            told,
+            others: &[],
+        }
+    }
+
+    /// What the view has seen and was told.
+    pub fn messenger(view: &'a PlainView) -> New<'a> {
+        New {
+            settings: view.settings,
+            by: None,
+            seen: &view.seen,
+            told: view.told,
+            others: &[],
+        }
+    }
+
+    /// What a join leaves of the other view.
+    pub fn spent() -> New<'a> {
+        let settings = Settings {
+            s: 0,
+            power: 0,
+            max: 0,
+            callers: 0,
+            turns: 0,
+            rounds: 0,
+            min_load: 0,
+        };
+        New {
+            settings,
+            by: None,
+            seen: &[],
+            told: 0,
+            others: &[],
+        }
+    }
+
+    /// An error that names the first part in which the view is another.
+    pub fn check(&self, view: &PlainView) -> Result<(), Refusal> {
+        check_part(self.settings == view.settings, Part::Settings)?;
+        check_part(self.by == view.by, Part::Number)?;
+        check_part(view.held.is_empty(), Part::Held)?;
+        check_part(are_same(self.seen, &view.seen), Part::Seen)?;
+        check_part(view.mine.is_empty(), Part::Mine)?;
+        check_part(self.told == view.told, Part::Told)?;
+        check_part(view.found.is_empty(), Part::Found)?;
+        check_part(view.noroom.is_empty(), Part::NoRoom)?;
+        check_part(view.heard.is_empty(), Part::Heard)?;
+        check_part(view.heard_told == 0, Part::Heard)?;
+        check_part(are_same(self.others, &view.others), Part::Others)
+    }
+}
+
+impl<'a> Left<'a> {
+    /// The view as it is.
+    pub fn same(view: &'a PlainView) -> Left<'a> {
+        Left {
+            base: view,
+            taken: None,
+            given: None,
+            seen: None,
+            decided: None,
+            told: view.told,
+            found: None,
+            noroom: None,
+            joined: None,
+            others: None,
+        }
+    }
+
+    /// The view that has taken a stripe of this number and content, and has seen this history.
+    pub fn taking(
+        view: &'a PlainView,
+        number: u64,
+        content: &'a PlainStripe,
+        log: &'a [Entry<u64>],
+    ) -> Left<'a> {
+        Left {
+            taken: Some((number, content)),
+            seen: Some(log),
+            ..Left::same(view)
+        }
+    }
+
+    /// The view that found this stripe held once more.
+    pub fn finding(view: &'a PlainView, number: u64) -> Left<'a> {
+        Left {
+            found: Some(number),
+            ..Left::same(view)
+        }
+    }
+
+    /// The view that holds these stripes but those of the number, was told no less than this power, and has one more
+    /// name without room, if there is one.
+    pub fn giving(
+        view: &'a PlainView,
+        number: u64,
+        power: u32,
+        stripes: &'a [PlainStripe],
+        noroom: &'a Option<(Name, Why)>,
+    ) -> Left<'a> {
+        Left {
+            given: Some((number, stripes)),
+            told: view.told.max(power as u64),
+            noroom: noroom.as_ref(),
+            ..Left::same(view)
+        }
+    }
+
+    /// The view that holds these stripes but those of the number, and has seen this history and then this entry, its own.
+    pub fn deciding(
+        view: &'a PlainView,
+        number: u64,
+        stripes: &'a [PlainStripe],
+        log: &'a [Entry<u64>],
+        entry: &'a Entry<u64>,
+    ) -> Left<'a> {
+        Left {
+            given: Some((number, stripes)),
+            seen: Some(log),
+            decided: Some(entry),
+            ..Left::same(view)
+        }
+    }
+
+    /// The view that has seen this history and was told this power.
+    pub fn looking(view: &'a PlainView, log: &'a [Entry<u64>], power: u64) -> Left<'a> {
+        Left {
+            seen: Some(log),
+            told: power,
+            ..Left::same(view)
+        }
+    }
+
+    /// The view that keeps these numbers.
+    pub fn keeping(view: &'a PlainView, others: &'a [PlainOther]) -> Left<'a> {
+        Left {
+            others: Some(others),
+            ..Left::same(view)
+        }
+    }
+
+    /// The view that has heard what another had seen, and keeps its numbers.
+    pub fn joining(view: &'a PlainView, other: &'a PlainView) -> Left<'a> {
+        Left {
+            joined: Some(other),
+            ..Left::same(view)
+        }
+    }
+
+    // Whether these are the stripes behind the one that was taken.
+    fn is_kept(&self, held: &[PlainStripe]) -> bool {
+        match self.given {
+            Some((number, stripes)) => are_without(number, stripes, held),
+            None => are_same(&self.base.held, held),
+        }
+    }
+
+    fn is_held(&self, held: &[PlainStripe]) -> bool {
+        match self.taken {
+            Some((number, content)) => match held.split_first() {
+                Some((first, rest)) => {
+                    first.number == number && is_same_content(content, first) && self.is_kept(rest)
+                }
+                None => false,
+            },
+            None => self.is_kept(held),
+        }
+    }
+
+    fn is_seen(&self, seen: &[Entry<u64>]) -> bool {
+        match self.seen {
+            Some(log) => is_grown(log, self.decided, seen),
+            None => is_grown(&self.base.seen, self.decided, seen),
+        }
+    }
+
+    fn is_heard(&self, heard: &[Entry<u64>]) -> bool {
+        match self.joined {
+            Some(view) => are_same(&view.seen, heard),
+            None => are_same(&self.base.heard, heard),
+        }
+    }
+
+    fn heard_told(&self) -> u64 {
+        match self.joined {
+            Some(view) => view.told,
+            None => self.base.heard_told,
+        }
+    }
+
+    fn is_behind(&self, others: &[PlainOther]) -> bool {
+        match self.others {
+            Some(kept) => are_same(kept, others),
+            None => are_same(&self.base.others, others),
+        }
+    }
+
+    fn is_others(&self, others: &[PlainOther]) -> bool {
+        match self.joined {
+            Some(view) => match behind_owned(view, others) {
+                Some(rest) => self.is_behind(rest),
+                None => false,
+            },
+            None => self.is_behind(others),
+        }
+    }
+
+    /// An error that names the first part in which the view is another.
+    pub fn check(&self, view: &PlainView) -> Result<(), Refusal> {
+        let base = self.base;
+        check_part(base.settings == view.settings, Part::Settings)?;
+        check_part(base.by == view.by, Part::Number)?;
+        check_part(self.is_held(&view.held), Part::Held)?;
+        check_part(self.is_seen(&view.seen), Part::Seen)?;
+        let is_mine = is_grown(&base.mine, self.decided, &view.mine);
+        check_part(is_mine, Part::Mine)?;
+        check_part(self.told == view.told, Part::Told)?;
+        let is_found = is_found(self.found, &base.found, &view.found);
+        check_part(is_found, Part::Found)?;
+        let is_noroom = is_topped(self.noroom, &base.noroom, &view.noroom);
+        check_part(is_noroom, Part::NoRoom)?;
+        check_part(self.is_heard(&view.heard), Part::Heard)?;
+        check_part(self.heard_told() == view.heard_told, Part::Heard)?;
+        check_part(self.is_others(&view.others), Part::Others)
+    }
+}
+
+// Whether the words are these, but for the one in this place.
+fn is_word_set(before: &[u64], at: u64, word: u64, after: &[u64]) -> bool {
+    if before.len() != after.len() {
+        return false;
+    }
+    for (place, old) in before.iter().enumerate() {
+        let wanted = if place as u64 == at { word } else { *old };
+        if after[place] != wanted {
+            return false;
+        }
+    }
+    true
+}
+
+// Whether the place of stripes has this content, or none.
+fn is_home(home: &Option<PlainStripe>, content: Option<&PlainStripe>) -> bool {
+    match home {
+        Some(stripe) => match content {
+            Some(wanted) => is_same_content(wanted, stripe),
+            None => false,
+        },
+        None => content.is_none(),
+    }
+}
+
+// Whether the places are these, but for this one.
+fn is_home_set(
+    before: &[Option<PlainStripe>],
+    at: u64,
+    content: Option<&PlainStripe>,
+    after: &[Option<PlainStripe>],
+) -> bool {
+    if before.len() != after.len() {
+        return false;
+    }
+    for (place, old) in before.iter().enumerate() {
+        let is_same = if place as u64 == at {
+            is_home(&after[place], content)
+        } else {
+            old.is_same(&after[place])
+        };
+        if !is_same {
+            return false;
+        }
+    }
+    true
+}
+
+// Whether the views are these, but for two places.
+fn are_others_same(before: &[PlainView], id: usize, other: usize, after: &[PlainView]) -> bool {
+    if before.len() != after.len() {
+        return false;
+    }
+    for (at, view) in before.iter().enumerate() {
+        if at != id && at != other && !view.is_same(&after[at]) {
+            return false;
+        }
+    }
+    true
+}
+
+// The views are these, but for one place, in which it is the one that a step leaves.
+fn check_views(
+    before: &[PlainView],
+    id: usize,
+    left: &Left,
+    after: &[PlainView],
+) -> Result<(), Refusal> {
+    check_part(are_others_same(before, id, id, after), Part::Views)?;
+    match after.get(id) {
+        Some(view) => left.check(view),
+        None => Err(Refusal::Leaves(Part::Views)),
+    }
+}
+
+// The views are these, but for two places, in which one is that which a step leaves, and the other is spent.
+fn check_both_views(
+    before: &[PlainView],
+    id: usize,
+    left: &Left,
+    other: usize,
+    after: &[PlainView],
+) -> Result<(), Refusal> {
+    check_part(are_others_same(before, id, other, after), Part::Views)?;
+    match after.get(id) {
+        Some(view) => left.check(view)?,
+        None => return Err(Refusal::Leaves(Part::Views)),
+    }
+    match after.get(other) {
+        Some(view) => New::spent().check(view),
+        None => Err(Refusal::Leaves(Part::Views)),
+    }
+}
+
+// No word and no place is another.
+fn check_at_rest(before: &PlainWorld, after: &PlainWorld) -> Result<(), Refusal> {
+    check_part(before.words == after.words, Part::Words)?;
+    check_part(are_same(&before.homes, &after.homes), Part::Homes)
+}
+
+/// The caller has this view afterwards, and nothing else is another.
+pub fn check_seen(
+    before: &PlainWorld,
+    id: usize,
+    left: &Left,
+    after: &PlainWorld,
+) -> Result<(), Refusal> {
+    check_at_rest(before, after)?;
+    check_views(&before.views, id, left, &after.views)
+}
+
+/// The stripe's word is 1, its place empty, and the caller has this view afterwards.
+pub fn check_taken(
+    before: &PlainWorld,
+    stripe: u64,
+    id: usize,
+    left: &Left,
+    after: &PlainWorld,
+) -> Result<(), Refusal> {
+    let words = is_word_set(&before.words, stripe, 1, &after.words);
+    check_part(words, Part::Words)?;
+    let homes = is_home_set(&before.homes, stripe, None, &after.homes);
+    check_part(homes, Part::Homes)?;
+    check_views(&before.views, id, left, &after.views)
+}
+
+/// The stripe's word is 0, the content in its place, and the caller has this view afterwards.
+pub fn check_sent_home(
+    before: &PlainWorld,
+    (stripe, content): (u64, &PlainStripe),
+    id: usize,
+    left: &Left,
+    after: &PlainWorld,
+) -> Result<(), Refusal> {
+    let words = is_word_set(&before.words, stripe, 0, &after.words);
+    check_part(words, Part::Words)?;
+    let homes = is_home_set(&before.homes, stripe, Some(content), &after.homes);
+    check_part(homes, Part::Homes)?;
+    check_views(&before.views, id, left, &after.views)
+}
+
+/// The caller has this view afterwards, and there is a further view.
+pub fn check_split(
+    before: &PlainWorld,
+    id: usize,
+    left: &Left,
+    right: &New,
+    after: &PlainWorld,
+) -> Result<(), Refusal> {
+    check_at_rest(before, after)?;
+    match after.views.split_last() {
+        Some((last, rest)) => {
+            check_views(&before.views, id, left, rest)?;
+            right.check(last)
+        }
+        None => Err(Refusal::Leaves(Part::Views)),
+    }
+}
+
+/// The caller has this view afterwards, and the other is spent.
+pub fn check_joined(
+    before: &PlainWorld,
+    id: usize,
+    left: &Left,
+    other: usize,
+    after: &PlainWorld,
+) -> Result<(), Refusal> {
+    check_at_rest(before, after)?;
+    check_both_views(&before.views, id, left, other, &after.views)
+}
