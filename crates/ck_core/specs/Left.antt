@@ -38,3 +38,23 @@ new_view n = record {
   heard_told = 0;
   others = map other_of n.others.now;
 }
+
+abbrev number_and_content : ℕ × Bor PlainStripe → ℕ × Content ℕ
+number_and_content x = (x.0, content_of x.1.now)
+
+-- the stripes in place of those that were held
+abbrev kept : Stripes ℕ → Option (ℕ × Bor (List PlainStripe)) → Stripes ℕ
+kept held None = held
+kept held (Some x) = without x.0 (stripes_of x.1.now)
+
+-- the list behind the reference, where there is one
+abbrev given_or : {A : Type 0} → List A → Option (Bor (List A)) → List A
+given_or l None = l
+given_or l (Some x) = x.now
+
+abbrev behind : {A : Type 0} → Option (Bor A) → Option A
+behind None = None
+behind (Some x) = Some x.now
+
+-- the view that is heard
+abbrev heard_from : View ℕ → Option (Bor PlainView) → View ℕ

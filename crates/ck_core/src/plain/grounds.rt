@@ -1,4 +1,6 @@
 //! Whether stripes give a reason to find no room for a name.
+ghost use Rattle.std.specs.Prelude.{◌≡◌, ◌↔◌, ℕ, ◌<◌, ◌≤◌, IsTrue};
+
 use crate::plain::sections::{alternate, buckets, has_all, has_stripes_of, hash_of};
 use crate::plain::world::PlainTable;
 use ck_model::history::{Name, Why};
@@ -18,7 +20,9 @@ fn power_of(stripes: &[PlainStripe]) -> u32 {
 }
 
 // The slots of a bucket, none where there is no such bucket.
-fn bucket_in(s: u32, stripes: &[PlainStripe], bucket: u64) -> &[Option<PlainEntry>] {
+fn bucket_in(s: u32, stripes: &[PlainStripe], bucket: u64) -> &[Option<PlainEntry>]
+    requires { s ≤ 10 }
+{
     let number = bucket % (1 << s);
     let row = (bucket / (1 << s)) as usize;
     match stripes.iter().find(|stripe| stripe.number == number) {
@@ -47,11 +51,15 @@ fn rows_have_name(rows: &[Vec<Option<PlainEntry>>], name: &Name) -> bool {
 }
 
 fn is_bound(stripes: &[PlainStripe], name: &Name) -> bool {
-    stripes.iter().any(|stripe| rows_have_name(&stripe.rows, name))
+    stripes
+        .iter()
+        .any(|stripe| rows_have_name(&stripe.rows, name))
 }
 
 // Whether a path of at most so many hops begins at the bucket.
-fn has_path(s: u32, stripes: &[PlainStripe], power: u32, bucket: u64, hops: u32) -> bool {
+fn has_path(s: u32, stripes: &[PlainStripe], power: u32, bucket: u64, hops: u32) -> bool
+    requires { s ≤ 10 }
+{
     let slots = bucket_in(s, stripes, bucket);
     if !is_full(slots) {
         return true;
@@ -71,7 +79,10 @@ fn has_path(s: u32, stripes: &[PlainStripe], power: u32, bucket: u64, hops: u32)
 }
 
 // Whether the stripes are a lawful whole, in which the name is unbound and no displacement makes room for it.
-fn is_stuck(table: &PlainTable, stripes: &[PlainStripe], name: &Name) -> bool {
+fn is_stuck(table: &PlainTable, stripes: &[PlainStripe], name: &Name) -> bool
+    requires stripes { table.now.s ≤ 10 }
+    requires power { table.now.max ≤ 26 }
+{
     let power = power_of(stripes);
     if !is_lawful(table.s, table.max, stripes) || !has_all(table.s, stripes) {
         return false;
@@ -84,26 +95,45 @@ fn is_stuck(table: &PlainTable, stripes: &[PlainStripe], name: &Name) -> bool {
         && !has_path(table.s, stripes, power, second, HOPS)
 }
 
+// How many entries the stripes are said to have.
+fn entry_count(stripes: &[PlainStripe]) -> u64 {
+    let mut count = 0u64;
+    for stripe in stripes {
+        count = count.saturating_add(stripe.ledger);
+    }
+    count
+}
+
 // Whether fewer per cent of the slots are taken than the table must have to grow, where the ledgers are right.
-fn is_too_empty(table: &PlainTable, stripes: &[PlainStripe]) -> bool {
-    let entries: u64 = stripes.iter().map(|stripe| stripe.ledger).sum();
-    100 * entries < table.min_load as u64 * (4 * (1 << power_of(stripes)))
+fn is_too_empty(min_load: u32, power: u32, stripes: &[PlainStripe]) -> bool
+    requires { power ≤ 26 }
+{
+    entry_count(stripes).saturating_mul(100) < min_load as u64 * (4 << power)
 }
 
 // Whether the stripes give this reason to refuse the name.
-fn are_grounds(table: &PlainTable, stripes: &[PlainStripe], name: &Name, why: &Why) -> bool {
-    let may_grow = power_of(stripes) != table.max;
-    is_stuck(table, stripes, name)
-        && match why {
-            Why::NoRoom => false,
-            Why::Full => !may_grow,
-            Why::LoadTooLow => may_grow && is_too_empty(table, stripes),
-            Why::Memory => may_grow && !is_too_empty(table, stripes),
-        }
+fn are_grounds(table: &PlainTable, stripes: &[PlainStripe], name: &Name, why: &Why) -> bool
+    requires stripes { table.now.s ≤ 10 }
+    requires power { table.now.max ≤ 26 }
+{
+    let power = power_of(stripes);
+    if power > table.max || !is_stuck(table, stripes, name) {
+        return false;
+    }
+    let may_grow = power != table.max;
+    match why {
+        Why::NoRoom => false,
+        Why::Full => !may_grow,
+        Why::LoadTooLow => may_grow && is_too_empty(table.min_load, power, stripes),
+        Why::Memory => may_grow && !is_too_empty(table.min_load, power, stripes),
+    }
 }
 
 // Whether the name's stripes are held, it is unbound in them, and its buckets are full.
-fn has_no_room(table: &PlainTable, held: &[PlainStripe], name: &Name) -> bool {
+fn has_no_room(table: &PlainTable, held: &[PlainStripe], name: &Name) -> bool
+    requires stripes { table.now.s ≤ 10 }
+    requires power { table.now.max ≤ 26 }
+{
     let (first, second) = buckets(power_of(held), hash_of(name));
     has_stripes_of(table.s, held, name)
         && !is_bound(held, name)
@@ -112,7 +142,14 @@ fn has_no_room(table: &PlainTable, held: &[PlainStripe], name: &Name) -> bool {
 }
 
 /// Whether the stripes give grounds for this, where something is said at all.
-pub fn has_grounds(table: &PlainTable, stripes: &[PlainStripe], noroom: &Option<(Name, Why)>) -> bool {
+pub fn has_grounds(
+    table: &PlainTable,
+    stripes: &[PlainStripe],
+    noroom: &Option<(Name, Why)>,
+) -> bool
+    requires stripes { table.now.s ≤ 10 }
+    requires power { table.now.max ≤ 26 }
+{
     match noroom {
         Some((name, why)) => are_grounds(table, stripes, name, why),
         None => true,
@@ -120,7 +157,10 @@ pub fn has_grounds(table: &PlainTable, stripes: &[PlainStripe], noroom: &Option<
 }
 
 /// The same, or the name has no room in its stripes.
-pub fn is_excused(table: &PlainTable, held: &[PlainStripe], noroom: &Option<(Name, Why)>) -> bool {
+pub fn is_excused(table: &PlainTable, held: &[PlainStripe], noroom: &Option<(Name, Why)>) -> bool
+    requires stripes { table.now.s ≤ 10 }
+    requires power { table.now.max ≤ 26 }
+{
     match noroom {
         Some((name, Why::NoRoom)) => has_no_room(table, held, name),
         Some((name, why)) => are_grounds(table, held, name, why),

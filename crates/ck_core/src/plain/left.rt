@@ -1,7 +1,7 @@
 //! What a step leaves, compared with a world without making a copy of one.
 use crate::plain::refusal::{Part, Refusal};
 use crate::plain::same::{Stands, are_same, is_same_content};
-use crate::plain::world::{PlainOther, PlainView, PlainWorld};
+use crate::plain::world::{Claim, PlainOther, PlainView};
 use ck_model::history::{Entry, Name, Why};
 use ck_model::plain::stripes::PlainStripe;
 use ck_model::settings::Settings;
@@ -94,8 +94,8 @@ fn is_found(first: Option<u64>, before: &[u64], after: &[u64]) -> bool {
 fn behind_own<'a>(view: &PlainView, list: &'a [PlainOther]) -> Option<&'a [PlainOther]> {
     match view.by {
         Some(number) => match list.split_first() {
-            Some((first, rest))
-                if first.number == number && are_same(&view.mine, &first.entries) => { Some(rest) }
+            Some((first, rest)) if first.number == number && are_same(&view.mine, &first.entries) =>
+                { Some(rest) }
             _ => None,
         },
         None => Some(list),
@@ -442,64 +442,57 @@ fn check_both_views(
 }
 
 // No word and no place is another.
-fn check_at_rest(before: &PlainWorld, after: &PlainWorld) -> Result<(), Refusal> {
-    check_part(before.words == after.words, Part::Words)?;
-    check_part(are_same(&before.homes, &after.homes), Part::Homes)
+fn check_at_rest(claim: &Claim) -> Result<(), Refusal> {
+    check_part(claim.before.words == claim.after.words, Part::Words)?;
+    check_part(
+        are_same(&claim.before.homes, &claim.after.homes),
+        Part::Homes,
+    )
+}
+
+// The word of the stripe is this one afterwards, and its place has this content, or none.
+fn check_stripe(
+    claim: &Claim,
+    stripe: u64,
+    word: u64,
+    content: Option<&PlainStripe>,
+) -> Result<(), Refusal> {
+    let (before, after) = (claim.before, claim.after);
+    let words = is_word_set(&before.words, stripe, word, &after.words);
+    check_part(words, Part::Words)?;
+    let homes = is_home_set(&before.homes, stripe, content, &after.homes);
+    check_part(homes, Part::Homes)
 }
 
 /// The caller has this view afterwards, and nothing else is another.
-pub fn check_seen(
-    before: &PlainWorld,
-    id: usize,
-    left: &Left,
-    after: &PlainWorld,
-) -> Result<(), Refusal> {
-    check_at_rest(before, after)?;
-    check_views(&before.views, id, left, &after.views)
+pub fn check_seen(claim: &Claim, left: &Left) -> Result<(), Refusal> {
+    check_at_rest(claim)?;
+    check_views(&claim.before.views, claim.id, left, &claim.after.views)
 }
 
 /// The stripe's word is 1, its place empty, and the caller has this view afterwards.
-pub fn check_taken(
-    before: &PlainWorld,
-    stripe: u64,
-    id: usize,
-    left: &Left,
-    after: &PlainWorld,
-) -> Result<(), Refusal> {
-    let words = is_word_set(&before.words, stripe, 1, &after.words);
-    check_part(words, Part::Words)?;
-    let homes = is_home_set(&before.homes, stripe, None, &after.homes);
-    check_part(homes, Part::Homes)?;
-    check_views(&before.views, id, left, &after.views)
+pub fn check_taken(claim: &Claim, stripe: u64, left: &Left) -> Result<(), Refusal> {
+    check_stripe(claim, stripe, 1, None)?;
+    check_views(&claim.before.views, claim.id, left, &claim.after.views)
 }
 
 /// The stripe's word is 0, the content in its place, and the caller has this view afterwards.
 pub fn check_sent_home(
-    before: &PlainWorld,
-    (stripe, content): (u64, &PlainStripe),
-    id: usize,
+    claim: &Claim,
+    stripe: u64,
+    content: &PlainStripe,
     left: &Left,
-    after: &PlainWorld,
 ) -> Result<(), Refusal> {
-    let words = is_word_set(&before.words, stripe, 0, &after.words);
-    check_part(words, Part::Words)?;
-    let homes = is_home_set(&before.homes, stripe, Some(content), &after.homes);
-    check_part(homes, Part::Homes)?;
-    check_views(&before.views, id, left, &after.views)
+    check_stripe(claim, stripe, 0, Some(content))?;
+    check_views(&claim.before.views, claim.id, left, &claim.after.views)
 }
 
 /// The caller has this view afterwards, and there is a further view.
-pub fn check_split(
-    before: &PlainWorld,
-    id: usize,
-    left: &Left,
-    right: &New,
-    after: &PlainWorld,
-) -> Result<(), Refusal> {
-    check_at_rest(before, after)?;
-    match after.views.split_last() {
+pub fn check_split(claim: &Claim, left: &Left, right: &New) -> Result<(), Refusal> {
+    check_at_rest(claim)?;
+    match claim.after.views.split_last() {
         Some((last, rest)) => {
-            check_views(&before.views, id, left, rest)?;
+            check_views(&claim.before.views, claim.id, left, rest)?;
             right.check(last)
         }
         None => Err(Refusal::Leaves(Part::Views)),
@@ -507,13 +500,13 @@ pub fn check_split(
 }
 
 /// The caller has this view afterwards, and the other is spent.
-pub fn check_joined(
-    before: &PlainWorld,
-    id: usize,
-    left: &Left,
-    other: usize,
-    after: &PlainWorld,
-) -> Result<(), Refusal> {
-    check_at_rest(before, after)?;
-    check_both_views(&before.views, id, left, other, &after.views)
+pub fn check_joined(claim: &Claim, left: &Left, other: usize) -> Result<(), Refusal> {
+    check_at_rest(claim)?;
+    check_both_views(
+        &claim.before.views,
+        claim.id,
+        left,
+        other,
+        &claim.after.views,
+    )
 }

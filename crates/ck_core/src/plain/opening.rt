@@ -1,7 +1,9 @@
 //! Whether a world is an opening.
-use crate::plain::refusal::Flaw;
+ghost use Rattle.std.specs.Prelude.{◌≡◌, ◌↔◌, ℕ, ◌<◌, ◌≤◌, IsTrue};
+
 use crate::plain::left::New;
-use crate::plain::world::{PlainOther, PlainTable, PlainView, PlainWorld};
+use crate::plain::refusal::Flaw;
+use crate::plain::world::{PlainOpening, PlainOther, PlainTable, PlainView};
 use ck_model::plain::stripes::{PlainEntry, PlainStripe};
 use ck_model::settings::Settings;
 
@@ -10,7 +12,10 @@ fn is_empty_row(slots: &[Option<PlainEntry>]) -> bool {
 }
 
 // Whether the content is that of an empty stripe of this power.
-fn is_empty_stripe(s: u32, power: u32, stripe: &PlainStripe) -> bool {
+fn is_empty_stripe(s: u32, power: u32, stripe: &PlainStripe) -> bool
+    requires least { s ≤ power }
+    requires most { power ≤ 26 }
+{
     stripe.power == power
         && stripe.rows.len() == 1 << (power - s)
         && stripe.rows.iter().all(|row| is_empty_row(row))
@@ -18,7 +23,10 @@ fn is_empty_stripe(s: u32, power: u32, stripe: &PlainStripe) -> bool {
 }
 
 // Whether each place has an empty stripe.
-fn are_homes_empty(s: u32, power: u32, homes: &[Option<PlainStripe>]) -> bool {
+fn are_homes_empty(s: u32, power: u32, homes: &[Option<PlainStripe>]) -> bool
+    requires least { s ≤ power }
+    requires most { power ≤ 26 }
+{
     homes.len() == 1 << s
         && homes.iter().all(|home| match home {
             Some(stripe) => is_empty_stripe(s, power, stripe),
@@ -79,6 +87,10 @@ fn is_dealt(callers: u64, view: &PlainView) -> bool {
     is_own_dealt && view.others.iter().all(|other| other.number < callers)
 }
 
+fn are_dealt(callers: u64, views: &[PlainView]) -> bool {
+    views.iter().all(|view| is_dealt(callers, view))
+}
+
 // Whether the view is that of a caller that begins, whatever numbers it keeps.
 fn is_newcomer(set: Settings, number: u64, power: u32, view: &PlainView) -> bool {
     let newcomer = New {
@@ -98,27 +110,25 @@ fn are_newcomers(set: Settings, power: u32, views: &[PlainView]) -> bool {
     true
 }
 
-/// Whether the world is an opening at this power of a table with these settings and so many callers, or what it lacks.
-pub fn check_opening(
-    table: &PlainTable,
-    set: Settings,
-    callers: u64,
-    power: u32,
-    world: &PlainWorld,
-) -> Result<(), Flaw> {
+/// Whether callers may begin so, or what isn't as at an opening.
+pub fn check_opening(table: &PlainTable, opening: &PlainOpening) -> Result<(), Flaw>
+    requires stripes { table.now.s ≤ 10 }
+    requires power { table.now.max ≤ 26 }
+{
+    let (power, world) = (opening.power, &opening.world);
     if world.words.len() != 1 << table.s || !world.words.iter().all(|word| *word == 0) {
         return Err(Flaw::Words);
     }
     if power < table.s || table.max < power || !are_homes_empty(table.s, power, &world.homes) {
         return Err(Flaw::Homes);
     }
-    if !world.views.iter().all(|view| is_dealt(callers, view)) {
+    if !are_dealt(opening.callers, &world.views) {
         return Err(Flaw::NumberNotDealt);
     }
     if !are_views_apart(&world.views) {
         return Err(Flaw::NumberTwice);
     }
-    if !are_newcomers(set, power, &world.views) {
+    if !are_newcomers(opening.settings, power, &world.views) {
         return Err(Flaw::NotANewcomer);
     }
     Ok(())

@@ -1,11 +1,12 @@
 //! Whether steps of several callers are a run.
+ghost use Rattle.std.specs.Prelude.{◌≡◌, ◌↔◌, ℕ, ◌<◌, ◌≤◌, length};
+
 use crate::plain::opening::check_opening;
 use crate::plain::refusal::Stop;
 use crate::plain::same::Stands;
 use crate::plain::steps::check_step;
-use crate::plain::world::{PlainMove, PlainStep, PlainTable, PlainWorld};
+use crate::plain::world::{Claim, PlainMove, PlainOpening, PlainStep, PlainTable, PlainWorld};
 use ck_model::history::Entry;
-use ck_model::settings::Settings;
 use std::alloc::{AllocError, Global};
 
 // How many entries of the history are decided after the move, or None where it decides another one than the next.
@@ -27,20 +28,27 @@ pub fn check_steps(
     log: &[Entry<u64>],
     start: &PlainWorld,
     steps: &[PlainStep],
-) -> Result<Result<(), Stop>, AllocError> {
+) -> Result<Result<(), Stop>, AllocError>
+    requires stripes { table.now.s ≤ 10 }
+    requires power { table.now.max ≤ 26 }
+{
     let mut before = start;
     let mut decided = 0;
     for (at, step) in steps.iter().enumerate() {
-        let (id, after) = (step.caller, &step.left);
-        let seen = &log[..decided];
-        if let Err(refusal) = check_step(alloc, table, seen, id, &step.made, before, after)? {
+        let claim = Claim {
+            log: &log[..decided],
+            id: step.caller,
+            before,
+            after: &step.left,
+        };
+        if let Err(refusal) = check_step(alloc, table, &claim, &step.made)? {
             return Ok(Err(Stop::Step(at, refusal)));
         }
         match decided_after(log, decided, &step.made) {
             Some(more) => decided = more,
             None => return Ok(Err(Stop::History(at))),
         }
-        before = after;
+        before = &step.left;
     }
     if decided != log.len() {
         return Ok(Err(Stop::History(steps.len())));
@@ -48,17 +56,19 @@ pub fn check_steps(
     Ok(Ok(()))
 }
 
-/// The same from an opening at this power of a table with these settings and so many callers.
+/// The same from an opening on.
 pub fn check_run(
     alloc: Global,
     table: &PlainTable,
-    (set, callers, power): (Settings, u64, u32),
+    opening: &PlainOpening,
     log: &[Entry<u64>],
-    start: &PlainWorld,
     steps: &[PlainStep],
-) -> Result<Result<(), Stop>, AllocError> {
-    if let Err(flaw) = check_opening(table, set, callers, power, start) {
+) -> Result<Result<(), Stop>, AllocError>
+    requires stripes { table.now.s ≤ 10 }
+    requires power { table.now.max ≤ 26 }
+{
+    if let Err(flaw) = check_opening(table, opening) {
         return Ok(Err(Stop::Opening(flaw)));
     }
-    check_steps(alloc, table, log, start, steps)
+    check_steps(alloc, table, log, &opening.world, steps)
 }

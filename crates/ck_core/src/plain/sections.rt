@@ -1,41 +1,68 @@
 //! Whether new contents of held stripes are a section.
+ghost use Rattle.std.specs.Prelude.{◌≡◌, ◌↔◌, ℕ, ◌%◌, ◌^◌, ◌<◌, ◌≤◌, IsTrue};
+ghost use Rattle.ck_model.specs.Arithmetic.{partial_of, index_of, second_of, alternate_of};
+ghost use Rattle.ck_core.specs.Example.{first_number};
+
+use crate::plain::left::check;
 use crate::plain::refusal::Refusal;
+use crate::plain::world::PlainTable;
 use ck_model::history::{Call, Entry, Name};
 use ck_model::plain::map::PlainMap;
 use ck_model::plain::stripes::{PlainEntry, PlainStripe, is_lawful};
-use crate::plain::left::check;
-use crate::plain::world::PlainTable;
 use std::alloc::{AllocError, Global};
 
 // What the alternate of a bucket differs by, as a factor.
 const SPREAD: u64 = 0xc6a4_a793_5bd1_e995;
 
 /// The hash of a name: its first number, or 0.
-pub fn hash_of(name: &Name) -> u64 {
+pub fn hash_of(name: &Name) -> u64
+    ensures { result ≡ first_number name.now }
+{
     match name.front() {
         Some(first) => *first,
         None => 0,
     }
 }
 
-/// The partial of a hash.
-pub fn partial(hash: u64) -> u8 {
+#[tactic(auto, unfolding(ck_model::specs::Arithmetic::partial_of))]
+fn partial(hash: u64) -> u8
+    ensures { result ≡ partial_of hash }
+{
     hash.to_le_bytes().iter().fold(0, |x, byte| x ^ *byte)
 }
 
+// The number without what is above 2^power.
+fn within(power: u32, number: u64) -> u64
+    ensures { result ≡ number % 2 ^ power }
+{
+    if power < 64 {
+        number % (1 << power)
+    } else {
+        number
+    }
+}
+
 /// The other bucket of an entry of this hash, of 2^power.
-pub fn alternate(power: u32, hash: u64, bucket: u64) -> u64 {
+#[tactic(auto, unfolding(ck_model::specs::Arithmetic::alternate_of, ck_model::specs::Arithmetic::spread_of))]
+pub fn alternate(power: u32, hash: u64, bucket: u64) -> u64
+    ensures { result ≡ alternate_of power (partial_of hash) bucket }
+{
     let spread = (partial(hash) as u64 + 1).wrapping_mul(SPREAD);
-    (bucket ^ spread) % (1 << power)
+    within(power, bucket ^ spread)
 }
 
 /// The two buckets of a hash, of 2^power.
-pub fn buckets(power: u32, hash: u64) -> (u64, u64) {
-    let first = hash % (1 << power);
+#[tactic(auto, unfolding(ck_model::specs::Arithmetic::index_of, ck_model::specs::Arithmetic::second_of))]
+pub fn buckets(power: u32, hash: u64) -> (u64, u64)
+    ensures first { result.0 ≡ index_of power hash }
+    ensures second { result.1 ≡ second_of power hash }
+{
+    let first = within(power, hash);
     (first, alternate(power, hash, first))
 }
 
-fn has_number(stripes: &[PlainStripe], number: u64) -> bool {
+/// Whether one of the stripes has the number.
+pub fn has_number(stripes: &[PlainStripe], number: u64) -> bool {
     stripes.iter().any(|stripe| stripe.number == number)
 }
 
@@ -46,7 +73,9 @@ pub fn has_stripes_of(s: u32, held: &[PlainStripe], name: &Name) -> bool {
 }
 
 /// Whether all stripes are held.
-pub fn has_all(s: u32, held: &[PlainStripe]) -> bool {
+pub fn has_all(s: u32, held: &[PlainStripe]) -> bool
+    requires { s ≤ 10 }
+{
     for number in 0..1u64 << s {
         if !has_number(held, number) {
             return false;
@@ -55,7 +84,9 @@ pub fn has_all(s: u32, held: &[PlainStripe]) -> bool {
     true
 }
 
-fn has_stripes_for(s: u32, held: &[PlainStripe], call: &Call<u64>) -> bool {
+fn has_stripes_for(s: u32, held: &[PlainStripe], call: &Call<u64>) -> bool
+    requires { s ≤ 10 }
+{
     match call {
         Call::On(name, _) => has_stripes_of(s, held, name),
         Call::ChangeTwo(first, second) => {
@@ -89,11 +120,10 @@ fn keeps_or_raises_power(held: &[PlainStripe], new: &[PlainStripe]) -> bool {
 }
 
 // Whether these are new contents of the held stripes.
-fn check_new(
-    table: &PlainTable,
-    held: &[PlainStripe],
-    new: &[PlainStripe],
-) -> Result<(), Refusal> {
+fn check_new(table: &PlainTable, held: &[PlainStripe], new: &[PlainStripe]) -> Result<(), Refusal>
+    requires stripes { table.now.s ≤ 10 }
+    requires power { table.now.max ≤ 26 }
+{
     check(are_of_same_stripes(held, new), Refusal::OtherStripes)?;
     check(is_lawful(table.s, table.max, new), Refusal::NotLawful)?;
     let fits = keeps_power(held, new) || has_all(table.s, held) && keeps_or_raises_power(held, new);
@@ -169,7 +199,10 @@ pub fn check_call(
     held: &[PlainStripe],
     entry: &Entry<u64>,
     new: &[PlainStripe],
-) -> Result<Result<(), Refusal>, AllocError> {
+) -> Result<Result<(), Refusal>, AllocError>
+    requires stripes { table.now.s ≤ 10 }
+    requires power { table.now.max ≤ 26 }
+{
     if !has_stripes_for(table.s, held, &entry.call) {
         return Ok(Err(Refusal::StripesMissing));
     }
@@ -189,7 +222,10 @@ pub fn check_renewed(
     table: &PlainTable,
     held: &[PlainStripe],
     new: &[PlainStripe],
-) -> Result<Result<(), Refusal>, AllocError> {
+) -> Result<Result<(), Refusal>, AllocError>
+    requires stripes { table.now.s ≤ 10 }
+    requires power { table.now.max ≤ 26 }
+{
     if let Err(refusal) = check_new(table, held, new) {
         return Ok(Err(refusal));
     }

@@ -1,11 +1,13 @@
 //! Whether a caller may go by a step from one world to another.
+ghost use Rattle.std.specs.Prelude.{◌≡◌, ◌↔◌, ℕ, ◌<◌, ◌≤◌, IsOk, IfOk};
+
 use crate::plain::grounds::{has_grounds, is_excused};
 use crate::plain::left::{
     Left, New, check, check_joined, check_seen, check_sent_home, check_split, check_taken,
 };
 use crate::plain::refusal::Refusal;
-use crate::plain::sections::{check_call, check_renewed};
-use crate::plain::world::{PlainMove, PlainTable, PlainView, PlainWorld};
+use crate::plain::sections::{check_call, check_renewed, has_number};
+use crate::plain::world::{Claim, PlainMove, PlainTable, PlainView, PlainWorld};
 use ck_model::history::{Entry, Name, Why};
 use ck_model::plain::stripes::PlainStripe;
 use std::alloc::{AllocError, Global};
@@ -25,63 +27,54 @@ fn word_of(world: &PlainWorld, stripe: u64) -> u64 {
     }
 }
 
-fn has_number(stripes: &[PlainStripe], number: u64) -> bool {
-    stripes.iter().any(|stripe| stripe.number == number)
-}
-
 fn are_below(stripes: &[PlainStripe], number: u64) -> bool {
     stripes.iter().all(|stripe| stripe.number < number)
 }
 
 /// The swap by which the caller takes a stripe that is free and above those that it holds.
-pub fn check_take(
-    s: u32,
-    log: &[Entry<u64>],
-    id: usize,
-    stripe: u64,
-    before: &PlainWorld,
-    after: &PlainWorld,
-) -> Result<(), Refusal> {
-    let view = view_at(before, id)?;
-    check(stripe < 1 << s, Refusal::NoSuchStripe)?;
-    check(word_of(before, stripe) == 0, Refusal::NotFree)?;
+pub fn check_take(table: &PlainTable, claim: &Claim, stripe: u64) -> Result<(), Refusal>
+    requires { table.now.s ≤ 10 }
+{
+    let view = view_at(claim.before, claim.id)?;
+    check(stripe < 1 << table.s, Refusal::NoSuchStripe)?;
+    check(word_of(claim.before, stripe) == 0, Refusal::NotFree)?;
     check(are_below(&view.held, stripe), Refusal::NotAbove)?;
-    let Some(Some(content)) = before.homes.get(stripe as usize) else {
-        return Err(Refusal::NotHome);
-    };
-    let left = Left::taking(view, stripe, content, log);
-    check_taken(before, stripe, id, &left, after)
+    match claim.before.homes.get(stripe as usize) {
+        Some(Some(content)) => {
+            check_taken(
+                claim,
+                stripe,
+                &Left::taking(view, stripe, content, claim.log),
+            )
+        }
+        _ => Err(Refusal::NotHome),
+    }
 }
 
 /// The swap by which the caller finds a stripe held by another.
-pub fn check_find_held(
-    s: u32,
-    id: usize,
-    stripe: u64,
-    before: &PlainWorld,
-    after: &PlainWorld,
-) -> Result<(), Refusal> {
-    let view = view_at(before, id)?;
-    check(stripe < 1 << s, Refusal::NoSuchStripe)?;
-    check(word_of(before, stripe) == 1, Refusal::NotTaken)?;
+pub fn check_find_held(table: &PlainTable, claim: &Claim, stripe: u64) -> Result<(), Refusal>
+    requires { table.now.s ≤ 10 }
+{
+    let view = view_at(claim.before, claim.id)?;
+    check(stripe < 1 << table.s, Refusal::NoSuchStripe)?;
+    check(word_of(claim.before, stripe) == 1, Refusal::NotTaken)?;
     check(!has_number(&view.held, stripe), Refusal::HeldByItself)?;
-    check_seen(before, id, &Left::finding(view, stripe), after)
+    check_seen(claim, &Left::finding(view, stripe))
 }
 
-// One of the stripes of this number goes home, and the caller is told its power.
+// One of the stripes of this number goes home, and the caller of the view holds the others and is told its power.
 fn check_given(
-    before: &PlainWorld,
+    claim: &Claim,
+    view: &PlainView,
     stripe: u64,
-    (view, stripes): (&PlainView, &[PlainStripe]),
+    stripes: &[PlainStripe],
     noroom: &Option<(Name, Why)>,
-    id: usize,
-    after: &PlainWorld,
 ) -> Result<(), Refusal> {
     let mut checked = Err(Refusal::NotHeld);
     for content in stripes {
         if content.number == stripe {
             let left = Left::giving(view, stripe, content.power, stripes, noroom);
-            checked = check_sent_home(before, (stripe, content), id, &left, after);
+            checked = check_sent_home(claim, stripe, content, &left);
             if checked.is_ok() {
                 return Ok(());
             }
@@ -90,19 +83,17 @@ fn check_given(
     checked
 }
 
-// One of the stripes of this number goes home.
+// One of the stripes of this number goes home, and the caller has this view afterwards.
 fn check_decided(
-    before: &PlainWorld,
+    claim: &Claim,
     stripe: u64,
     stripes: &[PlainStripe],
-    id: usize,
     left: &Left,
-    after: &PlainWorld,
 ) -> Result<(), Refusal> {
     let mut checked = Err(Refusal::NotHeld);
     for content in stripes {
         if content.number == stripe {
-            checked = check_sent_home(before, (stripe, content), id, left, after);
+            checked = check_sent_home(claim, stripe, content, left);
             if checked.is_ok() {
                 return Ok(());
             }
@@ -114,41 +105,39 @@ fn check_decided(
 /// The store by which the caller gives back a stripe that it holds, and may say of a name that it found no room.
 pub fn check_give(
     table: &PlainTable,
-    id: usize,
+    claim: &Claim,
     stripe: u64,
     noroom: &Option<(Name, Why)>,
-    before: &PlainWorld,
-    after: &PlainWorld,
-) -> Result<(), Refusal> {
-    let view = view_at(before, id)?;
+) -> Result<(), Refusal>
+    requires stripes { table.now.s ≤ 10 }
+    requires power { table.now.max ≤ 26 }
+{
+    let view = view_at(claim.before, claim.id)?;
     check(has_number(&view.held, stripe), Refusal::NotHeld)?;
     let excused = is_excused(table, &view.held, noroom);
     check(excused, Refusal::NoGrounds)?;
-    check_given(before, stripe, (view, &view.held), noroom, id, after)
+    check_given(claim, view, stripe, &view.held, noroom)
 }
 
 /// The store by which the caller gives back a further stripe.
-pub fn check_give_rest(
-    id: usize,
-    stripe: u64,
-    before: &PlainWorld,
-    after: &PlainWorld,
-) -> Result<(), Refusal> {
-    let view = view_at(before, id)?;
-    check_given(before, stripe, (view, &view.held), &None, id, after)
+pub fn check_give_rest(claim: &Claim, stripe: u64) -> Result<(), Refusal> {
+    let view = view_at(claim.before, claim.id)?;
+    check_given(claim, view, stripe, &view.held, &None)
 }
 
 /// The store by which the caller gives back the first stripe of a section, and so decides a call.
 pub fn check_decide(
     alloc: Global,
     table: &PlainTable,
-    log: &[Entry<u64>],
-    id: usize,
-    (stripe, stripes, entry): (u64, &[PlainStripe], &Entry<u64>),
-    before: &PlainWorld,
-    after: &PlainWorld,
-) -> Result<Result<(), Refusal>, AllocError> {
-    let view = match view_at(before, id) {
+    claim: &Claim,
+    stripe: u64,
+    stripes: &[PlainStripe],
+    entry: &Entry<u64>,
+) -> Result<Result<(), Refusal>, AllocError>
+    requires stripes { table.now.s ≤ 10 }
+    requires power { table.now.max ≤ 26 }
+{
+    let view = match view_at(claim.before, claim.id) {
         Ok(view) => view,
         Err(refusal) => return Ok(Err(refusal)),
     };
@@ -161,8 +150,8 @@ pub fn check_decide(
     if let Err(refusal) = check_call(alloc, table, &view.held, entry, stripes)? {
         return Ok(Err(refusal));
     }
-    let left = Left::deciding(view, stripe, stripes, log, entry);
-    Ok(check_decided(before, stripe, stripes, id, &left, after))
+    let left = Left::deciding(view, stripe, stripes, claim.log, entry);
+    Ok(check_decided(claim, stripe, stripes, &left))
 }
 
 /// The store by which the caller gives back the first stripe of a section that is no call, and may say of a name that
@@ -170,12 +159,15 @@ pub fn check_decide(
 pub fn check_renew(
     alloc: Global,
     table: &PlainTable,
-    id: usize,
-    (stripe, stripes, noroom): (u64, &[PlainStripe], &Option<(Name, Why)>),
-    before: &PlainWorld,
-    after: &PlainWorld,
-) -> Result<Result<(), Refusal>, AllocError> {
-    let view = match view_at(before, id) {
+    claim: &Claim,
+    stripe: u64,
+    stripes: &[PlainStripe],
+    noroom: &Option<(Name, Why)>,
+) -> Result<Result<(), Refusal>, AllocError>
+    requires stripes { table.now.s ≤ 10 }
+    requires power { table.now.max ≤ 26 }
+{
+    let view = match view_at(claim.before, claim.id) {
         Ok(view) => view,
         Err(refusal) => return Ok(Err(refusal)),
     };
@@ -188,8 +180,7 @@ pub fn check_renew(
     if !has_grounds(table, stripes, noroom) {
         return Ok(Err(Refusal::NoGrounds));
     }
-    let checked = check_given(before, stripe, (view, stripes), noroom, id, after);
-    Ok(checked)
+    Ok(check_given(claim, view, stripe, stripes, noroom))
 }
 
 // Whether no stripe has a power below this one.
@@ -209,91 +200,73 @@ fn have_power_in_views(views: &[PlainView], power: u64) -> bool {
 }
 
 /// The load by which the caller sees the history and is told a power.
-pub fn check_look(
-    s: u32,
-    log: &[Entry<u64>],
-    id: usize,
-    (stripe, power): (u64, u64),
-    before: &PlainWorld,
-    after: &PlainWorld,
-) -> Result<(), Refusal> {
-    let view = view_at(before, id)?;
-    check(stripe < 1 << s, Refusal::NoSuchStripe)?;
+pub fn check_look(table: &PlainTable, claim: &Claim, stripe: u64, power: u64) -> Result<(), Refusal>
+    requires { table.now.s ≤ 10 }
+{
+    let before = claim.before;
+    let view = view_at(before, claim.id)?;
+    check(stripe < 1 << table.s, Refusal::NoSuchStripe)?;
     check(view.told <= power, Refusal::ToldFalls)?;
     let at_home = have_power_at_home(&before.homes, power);
     check(at_home, Refusal::ToldAbovePower)?;
     let held = have_power_in_views(&before.views, power);
     check(held, Refusal::ToldAbovePower)?;
-    check_seen(before, id, &Left::looking(view, log, power), after)
+    check_seen(claim, &Left::looking(view, claim.log, power))
 }
 
 /// The load by which a new caller begins, with a number that nobody has used.
-pub fn check_open(id: usize, before: &PlainWorld, after: &PlainWorld) -> Result<(), Refusal> {
-    let view = view_at(before, id)?;
-    let Some((first, rest)) = view.others.split_first() else {
-        return Err(Refusal::NoNumberLeft);
-    };
-    check(first.entries.is_empty(), Refusal::NoNumberLeft)?;
-    let right = New::newcomer(view.settings, first.number, view.told);
-    check_split(before, id, &Left::keeping(view, rest), &right, after)
+pub fn check_open(claim: &Claim) -> Result<(), Refusal> {
+    let view = view_at(claim.before, claim.id)?;
+    match view.others.split_first() {
+        Some((first, rest)) => {
+            check(first.entries.is_empty(), Refusal::NoNumberLeft)?;
+            let right = New::newcomer(view.settings, first.number, view.told);
+            check_split(claim, &Left::keeping(view, rest), &right)
+        }
+        None => Err(Refusal::NoNumberLeft),
+    }
 }
 
 /// The load that splits off what the caller has seen and was told.
-pub fn check_tell(id: usize, before: &PlainWorld, after: &PlainWorld) -> Result<(), Refusal> {
-    let view = view_at(before, id)?;
-    let right = New::messenger(view);
-    check_split(before, id, &Left::same(view), &right, after)
+pub fn check_tell(claim: &Claim) -> Result<(), Refusal> {
+    let view = view_at(claim.before, claim.id)?;
+    check_split(claim, &Left::same(view), &New::messenger(view))
 }
 
 /// The load that joins another view, which holds no stripe, to the caller's.
-pub fn check_join(
-    id: usize,
-    other: usize,
-    before: &PlainWorld,
-    after: &PlainWorld,
-) -> Result<(), Refusal> {
-    let view = view_at(before, id)?;
-    let joined = view_at(before, other)?;
-    check(other != id, Refusal::JoinsItself)?;
+pub fn check_join(claim: &Claim, other: usize) -> Result<(), Refusal> {
+    let view = view_at(claim.before, claim.id)?;
+    let joined = view_at(claim.before, other)?;
+    check(other != claim.id, Refusal::JoinsItself)?;
     check(joined.held.is_empty(), Refusal::HoldsAStripe)?;
-    check_joined(before, id, &Left::joining(view, joined), other, after)
+    check_joined(claim, &Left::joining(view, joined), other)
 }
 
-/// Whether with this history the caller may go by this step from one world to the other, or the condition that the step
-/// doesn't meet. Refused where no memory is left.
+/// Whether the caller may go by this move as claimed, or the condition that the step doesn't meet. Refused where no
+/// memory is left.
 pub fn check_step(
     alloc: Global,
     table: &PlainTable,
-    log: &[Entry<u64>],
-    id: usize,
+    claim: &Claim,
     made: &PlainMove,
-    before: &PlainWorld,
-    after: &PlainWorld,
-) -> Result<Result<(), Refusal>, AllocError> {
+) -> Result<Result<(), Refusal>, AllocError>
+    requires stripes { table.now.s ≤ 10 }
+    requires power { table.now.max ≤ 26 }
+{
     match made {
-        PlainMove::Take(stripe) => Ok(check_take(table.s, log, id, *stripe, before, after)),
-        PlainMove::FindHeld(stripe) => Ok(check_find_held(table.s, id, *stripe, before, after)),
-        PlainMove::Give(stripe, noroom) => {
-            Ok(check_give(table, id, *stripe, noroom, before, after))
+        PlainMove::Take(stripe) => Ok(check_take(table, claim, *stripe)),
+        PlainMove::FindHeld(stripe) => Ok(check_find_held(table, claim, *stripe)),
+        PlainMove::Give(stripe, noroom) => Ok(check_give(table, claim, *stripe, noroom)),
+        PlainMove::Decide(stripe, stripes, entry) => {
+            check_decide(alloc, table, claim, *stripe, stripes, entry)
         }
-        PlainMove::Decide(stripe, stripes, entry) => check_decide(
-            alloc,
-            table,
-            log,
-            id,
-            (*stripe, stripes, entry),
-            before,
-            after,
-        ),
-        PlainMove::GiveRest(stripe) => Ok(check_give_rest(id, *stripe, before, after)),
+        PlainMove::GiveRest(stripe) => Ok(check_give_rest(claim, *stripe)),
         PlainMove::Renew(stripe, stripes, noroom) => {
-            check_renew(alloc, table, id, (*stripe, stripes, noroom), before, after)
+            check_renew(alloc, table, claim, *stripe, stripes, noroom)
         }
-        PlainMove::Look(stripe, power) => {
-            Ok(check_look(table.s, log, id, (*stripe, *power), before, after))
-        }
-        PlainMove::Open => Ok(check_open(id, before, after)),
-        PlainMove::Tell => Ok(check_tell(id, before, after)),
-        PlainMove::Join(other) => Ok(check_join(id, *other, before, after)),
+        PlainMove::Look(stripe, power) => Ok(check_look(table, claim, *stripe, *power)),
+        PlainMove::Open => Ok(check_open(claim)),
+        PlainMove::Tell => Ok(check_tell(claim)),
+        PlainMove::Join(other) => Ok(check_join(claim, *other)),
     }
 }

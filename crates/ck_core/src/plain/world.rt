@@ -59,6 +59,24 @@ pub enum PlainMove {
     Join(usize),
 }
 
+/// That with this history, the caller of the view `id` goes from one world to another.
+#[derive(Clone, Copy)]
+pub struct Claim<'a> {
+    pub log: &'a [Entry<u64>],
+    pub id: usize,
+    pub before: &'a PlainWorld,
+    pub after: &'a PlainWorld,
+}
+
+/// A world from which callers may begin, at a power of a table with these settings and so many callers.
+#[derive(Drop)]
+pub struct PlainOpening {
+    pub settings: Settings,
+    pub callers: u64,
+    pub power: u32,
+    pub world: PlainWorld,
+}
+
 /// A move of a caller, and the world that it is said to leave.
 #[derive(Drop)]
 pub struct PlainStep {

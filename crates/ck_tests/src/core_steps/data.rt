@@ -150,7 +150,7 @@ fn view(settings: Settings, by: Option<u64>, told: u64, others: &'static [u64]) 
 }
 
 /// Two empty stripes of power 1, and callers that begin.
-pub fn opening(dealt: &[Dealt]) -> WorldData {
+pub fn begin(dealt: &[Dealt]) -> WorldData {
     let mut views = [None; 3];
     for (at, (number, others)) in dealt.iter().enumerate() {
         if let Some(place) = views.get_mut(at) {
@@ -204,7 +204,7 @@ fn put_view(world: &mut WorldData, at: usize, view: ViewData) {
 }
 
 /// Makes the change.
-pub fn change(world: &mut WorldData, change: Change) {
+pub fn make_change(world: &mut WorldData, change: Change) {
     match change {
         Change::Word(at, word) => {
             if let Some(place) = world.words.get_mut(at) {

@@ -1,11 +1,11 @@
 //! Runs that the definitions allow, and wrong ones, each with the condition that refuses it.
 use crate::core_steps::data::{
-    Answer, Ask, Change, Claim, Dealt, EMPTY, FULL, Held, Made, Reason, SETTINGS, Said, opening,
+    Answer, Ask, Change, Claim, Dealt, EMPTY, FULL, Held, Made, Reason, SETTINGS, Said, begin,
 };
 use crate::core_steps::worlds::{add_steps, entries, world};
 use ck_core::plain::refusal::{Flaw, Part, Refusal, Stop};
 use ck_core::plain::runs::check_run;
-use ck_core::plain::world::PlainTable;
+use ck_core::plain::world::{PlainOpening, PlainTable};
 use std::test::Fail;
 
 const INSERTION: Said = (0, Ask::Insert(0, 5), Answer::New);
@@ -125,7 +125,11 @@ const ROWS: [Row; 40] = [
         dealt: &[(0, &[1])],
         first: 0,
         then: &[
-            (0, Made::Open, &[Change::Others(0, &[]), Change::Begun(1, 1, 1)]),
+            (
+                0,
+                Made::Open,
+                &[Change::Others(0, &[]), Change::Begun(1, 1, 1)],
+            ),
             (
                 0,
                 Made::Take(0),
@@ -163,7 +167,11 @@ const ROWS: [Row; 40] = [
                 ],
             ),
             (0, Made::Tell, &[Change::Split(2, 1)]),
-            (1, Made::Join(2), &[Change::Spent(2), Change::Heard(1, &[], 1)]),
+            (
+                1,
+                Made::Join(2),
+                &[Change::Spent(2), Change::Heard(1, &[], 1)],
+            ),
             (1, Made::Look(0, 1), &[]),
         ],
         log: &[],
@@ -523,7 +531,11 @@ const ROWS: [Row; 40] = [
     Row {
         dealt: &[(0, &[1])],
         first: 0,
-        then: &[(0, Made::Open, &[Change::Others(0, &[]), Change::Begun(1, 0, 1)])],
+        then: &[(
+            0,
+            Made::Open,
+            &[Change::Others(0, &[]), Change::Begun(1, 0, 1)],
+        )],
         log: &[],
         stop: Some(Stop::Step(0, Refusal::Leaves(Part::Number))),
     },
@@ -571,15 +583,20 @@ fn runs(rt: HostRuntime) -> Result<(), Fail> {
         min_load: 0,
     };
     for (at, row) in ROWS.iter().enumerate() {
-        let mut data = opening(row.dealt);
-        let start = world(alloc, &data)?;
+        let mut data = begin(row.dealt);
+        let opening = PlainOpening {
+            settings: SETTINGS,
+            callers: 2,
+            power: 1,
+            world: world(alloc, &data)?,
+        };
         let mut steps = Vec::new(alloc);
         for claim in EXAMPLE.iter().take(row.first) {
             add_steps(alloc, &mut data, &[*claim], &mut steps)?;
         }
         add_steps(alloc, &mut data, row.then, &mut steps)?;
         let log = entries(alloc, row.log)?;
-        let stop = check_run(alloc, &table, (SETTINGS, 2, 1), &log, &start, &steps)?.err();
+        let stop = check_run(alloc, &table, &opening, &log, &steps)?.err();
         assert_eq!(rt; stop, row.stop, "run {at}");
     }
     Ok(())

@@ -1,7 +1,7 @@
 //! Makes plain worlds and steps of data.
 use crate::core_steps::data::{
     Answer, Ask, Bucket, Change, Claim, Grounds, Held, Made, Reason, Said, ViewData, WorldData,
-    change,
+    make_change,
 };
 use ck_core::plain::world::{PlainMove, PlainOther, PlainStep, PlainView, PlainWorld};
 use ck_model::history::{Act, Call, Entry, Name, Reply, Why};
@@ -153,10 +153,7 @@ pub fn world(alloc: Global, data: &WorldData) -> Result<PlainWorld, AllocError> 
     })
 }
 
-fn grounds(
-    alloc: Global,
-    said: Option<Grounds>,
-) -> Result<Option<(Name, Why)>, AllocError> {
+fn grounds(alloc: Global, said: Option<Grounds>) -> Result<Option<(Name, Why)>, AllocError> {
     match said {
         Some(one) => Ok(Some(reason(alloc, one)?)),
         None => Ok(None),
@@ -189,7 +186,7 @@ fn step(
     (caller, asked, changes): Claim,
 ) -> Result<PlainStep, AllocError> {
     for one in changes {
-        change(data, *one);
+        make_change(data, *one);
     }
     Ok(PlainStep {
         caller,
