@@ -11,3 +11,4 @@ pub mod Answered
 pub mod WrongSteps
 pub mod WrongResults
 pub mod Meeting
+pub mod Same

@@ -4,3 +4,5 @@ pub mod Laws
 pub mod Sums
 pub mod Example
 pub mod Refusals
+pub mod Plain
+pub mod Left

@@ -1,6 +1,15 @@
 //! What a step leaves, compared with a world without making a copy of one.
+ghost use Rattle.std.specs.Prelude.{◌≡◌, ◌↔◌, ℕ, ◌<◌, ◌++◌, List, [], ◌∷◌, map, set, max, length, IsTrue, IsOk, Option, Some, None, IfSome, IfNone};
+ghost use Rattle.ck_model.specs.declared.history.Entry.{Entry};
+ghost use Rattle.ck_model.specs.Numbered.{without};
+ghost use Rattle.ck_model.specs.Plain.{content_of, stripes_of};
+ghost use Rattle.ck_core.specs.State.{own, owned};
+ghost use Rattle.ck_core.specs.Steps.{newcomer, messenger, spent, joining, gaining};
+ghost use Rattle.ck_core.specs.Plain.{other_of, home_of, view_of};
+ghost use Rattle.ck_core.specs.Left.{topped, grown_by, behind, taken_of, kept_of, heard_of, heard_told_of, joined_of, list_or, left_of, new_of, IsOf};
+
 use crate::plain::refusal::{Part, Refusal};
-use crate::plain::same::{Stands, are_same, is_same_content};
+use crate::plain::same::{Stands, are_same, are_same_entries, are_same_reasons, is_same_content};
 use crate::plain::world::{Claim, PlainOther, PlainView};
 use ck_model::history::{Entry, Name, Why};
 use ck_model::plain::stripes::PlainStripe;
@@ -36,16 +45,22 @@ pub struct New<'a> {
 }
 
 /// An error where the condition doesn't hold.
-pub fn check(holds: bool, refusal: Refusal) -> Result<(), Refusal> {
+pub fn check(holds: bool, refusal: Refusal) -> Result<(), Refusal>
+    ensures { IsOk result ↔ IsTrue holds }
+{
     if holds { Ok(()) } else { Err(refusal) }
 }
 
-fn check_part(holds: bool, part: Part) -> Result<(), Refusal> {
+fn check_part(holds: bool, part: Part) -> Result<(), Refusal>
+    ensures { IsOk result ↔ IsTrue holds }
+{
     check(holds, Refusal::Leaves(part))
 }
 
 // Whether the stripes are all of these but those of the number.
-fn are_without(number: u64, all: &[PlainStripe], stripes: &[PlainStripe]) -> bool {
+fn are_without(number: u64, all: &[PlainStripe], stripes: &[PlainStripe]) -> bool
+    ensures { IsTrue result ↔ (stripes_of stripes.now ≡ without number (stripes_of all.now)) }
+{
     let mut rest = stripes;
     for stripe in all {
         if stripe.number != number {
@@ -58,29 +73,35 @@ fn are_without(number: u64, all: &[PlainStripe], stripes: &[PlainStripe]) -> boo
     rest.is_empty()
 }
 
-// Whether the list is this one and then the last item, if there is one.
-fn is_grown<T: Stands>(before: &[T], last: Option<&T>, after: &[T]) -> bool {
+// Whether the list is this one and then the last entry, if there is one.
+fn is_grown(before: &[Entry<u64>], last: Option<&Entry<u64>>, after: &[Entry<u64>]) -> bool
+    ensures { IsTrue result ↔ (after.now ≡ grown_by before.now (behind last.entry)) }
+{
     match last {
-        Some(item) => match after.split_last() {
-            Some((new, rest)) => item.is_same(new) && are_same(before, rest),
+        Some(entry) => match after.split_last() {
+            Some((new, rest)) => entry.is_same(new) && are_same_entries(before, rest),
             None => false,
         },
-        None => are_same(before, after),
+        None => are_same_entries(before, after),
     }
 }
 
-// Whether the list is the first item, if there is one, and then this one.
-fn is_topped<T: Stands>(first: Option<&T>, before: &[T], after: &[T]) -> bool {
+// Whether the list is the first reason, if there is one, and then this one.
+fn is_topped(first: Option<&(Name, Why)>, before: &[(Name, Why)], after: &[(Name, Why)]) -> bool
+    ensures { IsTrue result ↔ (after.now ≡ topped (behind first.entry) before.now) }
+{
     match first {
-        Some(item) => match after.split_first() {
-            Some((new, rest)) => item.is_same(new) && are_same(before, rest),
+        Some(reason) => match after.split_first() {
+            Some((new, rest)) => reason.is_same(new) && are_same_reasons(before, rest),
             None => false,
         },
-        None => are_same(before, after),
+        None => are_same_reasons(before, after),
     }
 }
 
-fn is_found(first: Option<u64>, before: &[u64], after: &[u64]) -> bool {
+fn is_found(first: Option<u64>, before: &[u64], after: &[u64]) -> bool
+    ensures { IsTrue result ↔ (after.now ≡ topped first before.now) }
+{
     match first {
         Some(stripe) => match after.split_first() {
             Some((new, rest)) => stripe == *new && before == rest,
@@ -91,11 +112,16 @@ fn is_found(first: Option<u64>, before: &[u64], after: &[u64]) -> bool {
 }
 
 // What follows the view's own number with its entries, where the list begins by that.
-fn behind_own<'a>(view: &PlainView, list: &'a [PlainOther]) -> Option<&'a [PlainOther]> {
+fn behind_own<'a>(view: &PlainView, list: &'a [PlainOther]) -> Option<&'a [PlainOther]>
+    ensures some { IfSome result (λ rest. map other_of list.now ≡ own view.now.by view.now.mine.items ++ map other_of rest.now) }
+    ensures none { IfNone result ((l : List (ℕ × List (Entry ℕ))) → ¬ (map other_of list.now ≡ own view.now.by view.now.mine.items ++ l)) }
+{
     match view.by {
         Some(number) => match list.split_first() {
-            Some((first, rest)) if first.number == number && are_same(&view.mine, &first.entries) =>
-                { Some(rest) }
+            Some((first, rest))
+                if first.number == number && are_same_entries(&view.mine, &first.entries) => {
+                Some(rest)
+            }
             _ => None,
         },
         None => Some(list),
@@ -103,7 +129,10 @@ fn behind_own<'a>(view: &PlainView, list: &'a [PlainOther]) -> Option<&'a [Plain
 }
 
 // What follows all numbers of the view with their entries, where the list begins by them.
-fn behind_owned<'a>(view: &PlainView, list: &'a [PlainOther]) -> Option<&'a [PlainOther]> {
+fn behind_owned<'a>(view: &PlainView, list: &'a [PlainOther]) -> Option<&'a [PlainOther]>
+    ensures some { IfSome result (λ rest. map other_of list.now ≡ owned (view_of view.now) ++ map other_of rest.now) }
+    ensures none { IfNone result ((l : List (ℕ × List (Entry ℕ))) → ¬ (map other_of list.now ≡ owned (view_of view.now) ++ l)) }
+{
     let rest = behind_own(view, list)?;
     let count = view.others.len();
     if count <= rest.len() && are_same(&view.others, &rest[..count]) {
@@ -115,7 +144,10 @@ fn behind_owned<'a>(view: &PlainView, list: &'a [PlainOther]) -> Option<&'a [Pla
 
 impl<'a> New<'a> {
     /// A caller that begins.
-    pub fn newcomer(settings: Settings, number: u64, told: u64) -> New<'a> {
+    #[tactic(auto, unfolding(crate::specs::Plain::view_of, crate::specs::Left::left_of, crate::specs::Left::new_of))]
+    pub fn newcomer(settings: Settings, number: u64, told: u64) -> New<'a>
+        ensures { new_of result ≡ newcomer settings number told }
+    {
         New {
             settings,
             by: Some(number),
@@ -126,7 +158,10 @@ impl<'a> New<'a> {
     }
 
     /// What the view has seen and was told.
-    pub fn messenger(view: &'a PlainView) -> New<'a> {
+    #[tactic(auto, unfolding(crate::specs::Plain::view_of, crate::specs::Left::left_of, crate::specs::Left::new_of))]
+    pub fn messenger(view: &'a PlainView) -> New<'a>
+        ensures { new_of result ≡ messenger (view_of view.now) }
+    {
         New {
             settings: view.settings,
             by: None,
@@ -137,7 +172,10 @@ impl<'a> New<'a> {
     }
 
     /// What a join leaves of the other view.
-    pub fn spent() -> New<'a> {
+    #[tactic(auto, unfolding(crate::specs::Plain::view_of, crate::specs::Left::left_of, crate::specs::Left::new_of))]
+    pub fn spent() -> New<'a>
+        ensures { new_of result ≡ spent }
+    {
         let settings = Settings {
             s: 0,
             power: 0,
@@ -157,11 +195,13 @@ impl<'a> New<'a> {
     }
 
     /// An error that names the first part in which the view is another.
-    pub fn check(&self, view: &PlainView) -> Result<(), Refusal> {
+    pub fn check(&self, view: &PlainView) -> Result<(), Refusal>
+        ensures { IsOk result ↔ (view_of view.now ≡ new_of self.now) }
+    {
         check_part(self.settings == view.settings, Part::Settings)?;
         check_part(self.by == view.by, Part::Number)?;
         check_part(view.held.is_empty(), Part::Held)?;
-        check_part(are_same(self.seen, &view.seen), Part::Seen)?;
+        check_part(are_same_entries(self.seen, &view.seen), Part::Seen)?;
         check_part(view.mine.is_empty(), Part::Mine)?;
         check_part(self.told == view.told, Part::Told)?;
         check_part(view.found.is_empty(), Part::Found)?;
@@ -174,7 +214,11 @@ impl<'a> New<'a> {
 
 impl<'a> Left<'a> {
     /// The view as it is.
-    pub fn same(view: &'a PlainView) -> Left<'a> {
+    #[tactic(auto, unfolding(crate::specs::Plain::view_of, crate::specs::Left::left_of, crate::specs::Left::new_of))]
+    pub fn same(view: &'a PlainView) -> Left<'a>
+        ensures view { left_of result ≡ view_of view.now }
+        ensures parts { IsOf result view.now }
+    {
         Left {
             base: view,
             taken: None,
@@ -190,12 +234,15 @@ impl<'a> Left<'a> {
     }
 
     /// The view that has taken a stripe of this number and content, and has seen this history.
+    #[tactic(auto, unfolding(crate::specs::Plain::view_of, crate::specs::Left::left_of, crate::specs::Left::new_of))]
     pub fn taking(
         view: &'a PlainView,
         number: u64,
         content: &'a PlainStripe,
         log: &'a [Entry<u64>],
-    ) -> Left<'a> {
+    ) -> Left<'a>
+        ensures { left_of result ≡ record (view_of view.now) { held = (number, content_of content.now) ∷ stripes_of view.now.held.items; seen = log.now } }
+    {
         Left {
             taken: Some((number, content)),
             seen: Some(log),
@@ -204,7 +251,10 @@ impl<'a> Left<'a> {
     }
 
     /// The view that found this stripe held once more.
-    pub fn finding(view: &'a PlainView, number: u64) -> Left<'a> {
+    #[tactic(auto, unfolding(crate::specs::Plain::view_of, crate::specs::Left::left_of, crate::specs::Left::new_of))]
+    pub fn finding(view: &'a PlainView, number: u64) -> Left<'a>
+        ensures { left_of result ≡ record (view_of view.now) { found = number ∷ view.now.found.items } }
+    {
         Left {
             found: Some(number),
             ..Left::same(view)
@@ -213,13 +263,16 @@ impl<'a> Left<'a> {
 
     /// The view that holds these stripes but those of the number, was told no less than this power, and has one more
     /// name without room, if there is one.
+    #[tactic(auto, unfolding(crate::specs::Plain::view_of, crate::specs::Left::left_of, crate::specs::Left::new_of))]
     pub fn giving(
         view: &'a PlainView,
         number: u64,
         power: u32,
         stripes: &'a [PlainStripe],
         noroom: &'a Option<(Name, Why)>,
-    ) -> Left<'a> {
+    ) -> Left<'a>
+        ensures { left_of result ≡ record (view_of view.now) { held = without number (stripes_of stripes.now); told = max view.now.told power; noroom = gaining view.now.noroom.items noroom.now } }
+    {
         Left {
             given: Some((number, stripes)),
             told: view.told.max(power as u64),
@@ -229,13 +282,16 @@ impl<'a> Left<'a> {
     }
 
     /// The view that holds these stripes but those of the number, and has seen this history and then this entry, its own.
+    #[tactic(auto, unfolding(crate::specs::Plain::view_of, crate::specs::Left::left_of, crate::specs::Left::new_of))]
     pub fn deciding(
         view: &'a PlainView,
         number: u64,
         stripes: &'a [PlainStripe],
         log: &'a [Entry<u64>],
         entry: &'a Entry<u64>,
-    ) -> Left<'a> {
+    ) -> Left<'a>
+        ensures { left_of result ≡ record (view_of view.now) { held = without number (stripes_of stripes.now); seen = log.now ++ entry.now ∷ []; mine = view.now.mine.items ++ entry.now ∷ [] } }
+    {
         Left {
             given: Some((number, stripes)),
             seen: Some(log),
@@ -245,7 +301,10 @@ impl<'a> Left<'a> {
     }
 
     /// The view that has seen this history and was told this power.
-    pub fn looking(view: &'a PlainView, log: &'a [Entry<u64>], power: u64) -> Left<'a> {
+    #[tactic(auto, unfolding(crate::specs::Plain::view_of, crate::specs::Left::left_of, crate::specs::Left::new_of))]
+    pub fn looking(view: &'a PlainView, log: &'a [Entry<u64>], power: u64) -> Left<'a>
+        ensures { left_of result ≡ record (view_of view.now) { seen = log.now; told = power } }
+    {
         Left {
             seen: Some(log),
             told: power,
@@ -254,7 +313,10 @@ impl<'a> Left<'a> {
     }
 
     /// The view that keeps these numbers.
-    pub fn keeping(view: &'a PlainView, others: &'a [PlainOther]) -> Left<'a> {
+    #[tactic(auto, unfolding(crate::specs::Plain::view_of, crate::specs::Left::left_of, crate::specs::Left::new_of))]
+    pub fn keeping(view: &'a PlainView, others: &'a [PlainOther]) -> Left<'a>
+        ensures { left_of result ≡ record (view_of view.now) { others = map other_of others.now } }
+    {
         Left {
             others: Some(others),
             ..Left::same(view)
@@ -262,7 +324,10 @@ impl<'a> Left<'a> {
     }
 
     /// The view that has heard what another had seen, and keeps its numbers.
-    pub fn joining(view: &'a PlainView, other: &'a PlainView) -> Left<'a> {
+    #[tactic(auto, unfolding(crate::specs::Plain::view_of, crate::specs::Left::left_of, crate::specs::Left::new_of))]
+    pub fn joining(view: &'a PlainView, other: &'a PlainView) -> Left<'a>
+        ensures { left_of result ≡ joining (view_of view.now) (view_of other.now) }
+    {
         Left {
             joined: Some(other),
             ..Left::same(view)
@@ -270,14 +335,18 @@ impl<'a> Left<'a> {
     }
 
     // Whether these are the stripes behind the one that was taken.
-    fn is_kept(&self, held: &[PlainStripe]) -> bool {
+    fn is_kept(&self, held: &[PlainStripe]) -> bool
+        ensures { IsTrue result ↔ (stripes_of held.now ≡ kept_of self.now.given (stripes_of self.now.base.now.held.items)) }
+    {
         match self.given {
             Some((number, stripes)) => are_without(number, stripes, held),
             None => are_same(&self.base.held, held),
         }
     }
 
-    fn is_held(&self, held: &[PlainStripe]) -> bool {
+    fn is_held(&self, held: &[PlainStripe]) -> bool
+        ensures { IsTrue result ↔ (stripes_of held.now ≡ topped (taken_of self.now.taken) (kept_of self.now.given (stripes_of self.now.base.now.held.items))) }
+    {
         match self.taken {
             Some((number, content)) => match held.split_first() {
                 Some((first, rest)) => {
@@ -289,35 +358,45 @@ impl<'a> Left<'a> {
         }
     }
 
-    fn is_seen(&self, seen: &[Entry<u64>]) -> bool {
+    fn is_seen(&self, seen: &[Entry<u64>]) -> bool
+        ensures { IsTrue result ↔ (seen.now ≡ grown_by (list_or self.now.seen self.now.base.now.seen.items) (behind self.now.decided)) }
+    {
         match self.seen {
             Some(log) => is_grown(log, self.decided, seen),
             None => is_grown(&self.base.seen, self.decided, seen),
         }
     }
 
-    fn is_heard(&self, heard: &[Entry<u64>]) -> bool {
+    fn is_heard(&self, heard: &[Entry<u64>]) -> bool
+        ensures { IsTrue result ↔ (heard.now ≡ heard_of self.now.joined self.now.base.now.heard.items) }
+    {
         match self.joined {
-            Some(view) => are_same(&view.seen, heard),
-            None => are_same(&self.base.heard, heard),
+            Some(view) => are_same_entries(&view.seen, heard),
+            None => are_same_entries(&self.base.heard, heard),
         }
     }
 
-    fn heard_told(&self) -> u64 {
+    fn heard_told(&self) -> u64
+        ensures { result ≡ heard_told_of self.now.joined self.now.base.now.heard_told }
+    {
         match self.joined {
             Some(view) => view.told,
             None => self.base.heard_told,
         }
     }
 
-    fn is_behind(&self, others: &[PlainOther]) -> bool {
+    fn is_behind(&self, others: &[PlainOther]) -> bool
+        ensures { IsTrue result ↔ (map other_of others.now ≡ map other_of (list_or self.now.others self.now.base.now.others.items)) }
+    {
         match self.others {
             Some(kept) => are_same(kept, others),
             None => are_same(&self.base.others, others),
         }
     }
 
-    fn is_others(&self, others: &[PlainOther]) -> bool {
+    fn is_others(&self, others: &[PlainOther]) -> bool
+        ensures { IsTrue result ↔ (map other_of others.now ≡ joined_of self.now.joined (map other_of (list_or self.now.others self.now.base.now.others.items))) }
+    {
         match self.joined {
             Some(view) => match behind_owned(view, others) {
                 Some(rest) => self.is_behind(rest),
@@ -328,7 +407,9 @@ impl<'a> Left<'a> {
     }
 
     /// An error that names the first part in which the view is another.
-    pub fn check(&self, view: &PlainView) -> Result<(), Refusal> {
+    pub fn check(&self, view: &PlainView) -> Result<(), Refusal>
+        ensures { IsOk result ↔ (view_of view.now ≡ left_of self.now) }
+    {
         let base = self.base;
         check_part(base.settings == view.settings, Part::Settings)?;
         check_part(base.by == view.by, Part::Number)?;
@@ -348,7 +429,9 @@ impl<'a> Left<'a> {
 }
 
 // Whether the words are these, but for the one in this place.
-fn is_word_set(before: &[u64], at: u64, word: u64, after: &[u64]) -> bool {
+fn is_word_set(before: &[u64], at: u64, word: u64, after: &[u64]) -> bool
+    ensures { IsTrue result ↔ (after.now ≡ set before.now at word) }
+{
     if before.len() != after.len() {
         return false;
     }
@@ -401,7 +484,7 @@ fn are_others_same(before: &[PlainView], id: usize, other: usize, after: &[Plain
         return false;
     }
     for (at, view) in before.iter().enumerate() {
-        if at != id && at != other && !view.is_same(&after[at]) {
+        if at != id && at != other && Left::same(view).check(&after[at]).is_err() {
             return false;
         }
     }

@@ -6,12 +6,12 @@ ghost use Rattle.ck_model.specs.Map.{Name};
 ghost use Rattle.ck_model.specs.Slots.{Slot};
 ghost use Rattle.ck_model.specs.declared.contents.Content.{Content};
 ghost use Rattle.ck_model.specs.Plain.{slot_of, row_of, content_of};
-ghost use Rattle.ck_core.specs.declared.view.View.{View};
-ghost use Rattle.ck_core.specs.Plain.{other_of, home_of, view_of};
+ghost use Rattle.ck_core.specs.Plain.{other_of, home_of};
 
-use crate::plain::world::{PlainOther, PlainView};
+use crate::plain::world::PlainOther;
 use ck_model::history::{Act, Call, Entry, Name, Reply, Why};
 use ck_model::plain::stripes::{PlainEntry, PlainStripe};
+use std::collections::LinkedList;
 
 /// Plain data that stands for a value of the definitions.
 pub trait Stands {
@@ -55,6 +55,13 @@ fn is_same_act(act: &Act<u64>, other: &Act<u64>) -> bool
     }
 }
 
+// Whether the pairs are the same.
+fn are_same_pairs(pairs: &LinkedList<(Name, u64)>, others: &LinkedList<(Name, u64)>) -> bool
+    ensures { IsTrue result ↔ (pairs.now ≡ others.now) }
+{
+    pairs == others
+}
+
 fn is_same_call(call: &Call<u64>, other: &Call<u64>) -> bool
     ensures { IsTrue result ↔ (call.now ≡ other.now) }
 {
@@ -69,7 +76,9 @@ fn is_same_call(call: &Call<u64>, other: &Call<u64>) -> bool
         },
         Call::Len => matches!(other, Call::Len),
         Call::Session(before, after) => match other {
-            Call::Session(new, new_after) => before == new && after == new_after,
+            Call::Session(new, new_after) => {
+                are_same_pairs(before, new) && are_same_pairs(after, new_after)
+            }
             _ => false,
         },
     }
@@ -124,6 +133,20 @@ impl Stands for (Name, Why) {
     fn is_same(&self, other: &(Name, Why)) -> bool {
         self.0 == other.0 && is_same_why(&self.1, &other.1)
     }
+}
+
+/// Whether both lists are the same.
+pub fn are_same_entries(entries: &[Entry<u64>], others: &[Entry<u64>]) -> bool
+    ensures { IsTrue result ↔ (entries.now ≡ others.now) }
+{
+    are_same(entries, others)
+}
+
+/// Whether both lists are the same.
+pub fn are_same_reasons(reasons: &[(Name, Why)], others: &[(Name, Why)]) -> bool
+    ensures { IsTrue result ↔ (reasons.now ≡ others.now) }
+{
+    are_same(reasons, others)
 }
 
 impl Stands for Option<PlainEntry> {
@@ -194,25 +217,5 @@ impl Stands for PlainOther {
 
     fn is_same(&self, other: &PlainOther) -> bool {
         self.number == other.number && are_same(&self.entries, &other.entries)
-    }
-}
-
-impl Stands for PlainView {
-    ghost Value = { View ℕ };
-
-    ghost value = { view_of };
-
-    fn is_same(&self, other: &PlainView) -> bool {
-        self.settings == other.settings
-            && self.by == other.by
-            && are_same(&self.held, &other.held)
-            && are_same(&self.seen, &other.seen)
-            && are_same(&self.mine, &other.mine)
-            && self.told == other.told
-            && self.found == other.found
-            && are_same(&self.noroom, &other.noroom)
-            && are_same(&self.heard, &other.heard)
-            && self.heard_told == other.heard_told
-            && are_same(&self.others, &other.others)
     }
 }
