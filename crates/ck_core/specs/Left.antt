@@ -1,6 +1,7 @@
 -- What a step leaves, as the programs compare it.
-use Rattle.std.specs.Prelude.{◌≡◌, ℕ, List, [], ◌∷◌, ◌++◌, map, Option, Some, None}
+use Rattle.std.specs.Prelude.{◌≡◌, ◌≢◌, ℕ, length, List, [], ◌∷◌, ◌++◌, map, Option, Some, None}
 use denote.Ref.{Bor}
+use lib.ListN.{get_elem?}
 use Rattle.ck_model.specs.declared.history.Entry.{Entry}
 use Rattle.ck_model.specs.declared.plain.stripes.PlainStripe.{PlainStripe}
 use Rattle.ck_model.specs.declared.contents.Content.{Content}
@@ -103,3 +104,8 @@ pub record IsOf (l : Left) (v : PlainView) : Type 0 where
   pub noroom : l.noroom ≡ None
   pub joined : l.joined ≡ None
   pub others : l.others ≡ None
+
+-- the lists have one length and the same at each place but two
+pub record SameBut {A : Type 0} (i j : ℕ) (xs ys : List A) : Type 0 where
+  pub sized : length ys ≡ length xs
+  pub at : (k : ℕ) → k ≢ i → k ≢ j → get_elem? ys k ≡ get_elem? xs k

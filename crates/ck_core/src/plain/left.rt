@@ -1,12 +1,12 @@
 //! What a step leaves, compared with a world without making a copy of one.
-ghost use Rattle.std.specs.Prelude.{◌≡◌, ◌↔◌, ℕ, ◌<◌, ◌++◌, List, [], ◌∷◌, map, set, max, length, IsTrue, IsOk, Option, Some, None, IfSome, IfNone};
+ghost use Rattle.std.specs.Prelude.{◌≡◌, ◌≢◌, ◌↔◌, ℕ, ◌<◌, ◌++◌, List, [], ◌∷◌, map, set, max, length, IsTrue, IsOk, Option, Some, None, IfSome, IfNone};
 ghost use Rattle.ck_model.specs.declared.history.Entry.{Entry};
 ghost use Rattle.ck_model.specs.Numbered.{without};
 ghost use Rattle.ck_model.specs.Plain.{content_of, stripes_of};
 ghost use Rattle.ck_core.specs.State.{own, owned};
 ghost use Rattle.ck_core.specs.Steps.{newcomer, messenger, spent, joining, gaining};
 ghost use Rattle.ck_core.specs.Plain.{other_of, home_of, view_of};
-ghost use Rattle.ck_core.specs.Left.{topped, grown_by, behind, taken_of, kept_of, heard_of, heard_told_of, joined_of, list_or, left_of, new_of, IsOf};
+ghost use Rattle.ck_core.specs.Left.{topped, grown_by, behind, taken_of, kept_of, heard_of, heard_told_of, joined_of, list_or, left_of, new_of, IsOf, SameBut};
 
 use crate::plain::refusal::{Part, Refusal};
 use crate::plain::same::{Stands, are_same, are_same_entries, are_same_reasons, is_same_content};
@@ -129,6 +129,7 @@ fn behind_own<'a>(view: &PlainView, list: &'a [PlainOther]) -> Option<&'a [Plain
 }
 
 // What follows all numbers of the view with their entries, where the list begins by them.
+#[tactic(auto, unfolding(crate::specs::Plain::view_of))]
 fn behind_owned<'a>(view: &PlainView, list: &'a [PlainOther]) -> Option<&'a [PlainOther]>
     ensures some { IfSome result (λ rest. map other_of list.now ≡ owned (view_of view.now) ++ map other_of rest.now) }
     ensures none { IfNone result ((l : List (ℕ × List (Entry ℕ))) → ¬ (map other_of list.now ≡ owned (view_of view.now) ++ l)) }
@@ -195,6 +196,7 @@ impl<'a> New<'a> {
     }
 
     /// An error that names the first part in which the view is another.
+    #[tactic(auto, unfolding(crate::specs::Plain::view_of, crate::specs::Left::left_of, crate::specs::Left::new_of))]
     pub fn check(&self, view: &PlainView) -> Result<(), Refusal>
         ensures { IsOk result ↔ (view_of view.now ≡ new_of self.now) }
     {
@@ -407,6 +409,7 @@ impl<'a> Left<'a> {
     }
 
     /// An error that names the first part in which the view is another.
+    #[tactic(auto, unfolding(crate::specs::Plain::view_of, crate::specs::Left::left_of, crate::specs::Left::new_of))]
     pub fn check(&self, view: &PlainView) -> Result<(), Refusal>
         ensures { IsOk result ↔ (view_of view.now ≡ left_of self.now) }
     {
@@ -428,6 +431,13 @@ impl<'a> Left<'a> {
     }
 }
 
+// Whether this is the word of a place after another is set.
+fn is_word(place: u64, at: u64, word: u64, old: u64, new: u64) -> bool
+    ensures { IsTrue result ↔ ((place ≡ at → new ≡ word) × (place ≢ at → new ≡ old)) }
+{
+    if place == at { new == word } else { new == old }
+}
+
 // Whether the words are these, but for the one in this place.
 fn is_word_set(before: &[u64], at: u64, word: u64, after: &[u64]) -> bool
     ensures { IsTrue result ↔ (after.now ≡ set before.now at word) }
@@ -436,22 +446,40 @@ fn is_word_set(before: &[u64], at: u64, word: u64, after: &[u64]) -> bool
         return false;
     }
     for (place, old) in before.iter().enumerate() {
-        let wanted = if place as u64 == at { word } else { *old };
-        if after[place] != wanted {
+        if !is_word(place as u64, at, word, *old, after[place]) {
             return false;
         }
     }
     true
 }
 
-// Whether the place of stripes has this content, or none.
-fn is_home(home: &Option<PlainStripe>, content: Option<&PlainStripe>) -> bool {
+// Whether the place of a stripe has this content, or none.
+fn has_content(home: &Option<PlainStripe>, content: Option<&PlainStripe>) -> bool
+    ensures { IsTrue result ↔ (home_of home.now ≡ home_of (behind content.entry)) }
+{
     match home {
         Some(stripe) => match content {
-            Some(wanted) => is_same_content(wanted, stripe),
+            Some(wanted) => is_same_content(stripe, wanted),
             None => false,
         },
         None => content.is_none(),
+    }
+}
+
+// Whether this is what lies in a place after another is set.
+fn is_home(
+    place: u64,
+    at: u64,
+    content: Option<&PlainStripe>,
+    old: &Option<PlainStripe>,
+    new: &Option<PlainStripe>,
+) -> bool
+    ensures { IsTrue result ↔ ((place ≡ at → home_of new.now ≡ home_of (behind content.entry)) × (place ≢ at → home_of new.now ≡ home_of old.now)) }
+{
+    if place == at {
+        has_content(new, content)
+    } else {
+        new.is_same(old)
     }
 }
 
@@ -461,30 +489,36 @@ fn is_home_set(
     at: u64,
     content: Option<&PlainStripe>,
     after: &[Option<PlainStripe>],
-) -> bool {
+) -> bool
+    ensures { IsTrue result ↔ (map home_of after.now ≡ set (map home_of before.now) at (home_of (behind content.entry))) }
+{
     if before.len() != after.len() {
         return false;
     }
     for (place, old) in before.iter().enumerate() {
-        let is_same = if place as u64 == at {
-            is_home(&after[place], content)
-        } else {
-            old.is_same(&after[place])
-        };
-        if !is_same {
+        if !is_home(place as u64, at, content, old, &after[place]) {
             return false;
         }
     }
     true
 }
 
+// Whether this is the view of a place that isn't one of two.
+fn is_other_same(at: usize, id: usize, other: usize, old: &PlainView, new: &PlainView) -> bool
+    ensures { IsTrue result ↔ (at ≢ id → at ≢ other → view_of new.now ≡ view_of old.now) }
+{
+    at == id || at == other || Left::same(old).check(new).is_ok()
+}
+
 // Whether the views are these, but for two places.
-fn are_others_same(before: &[PlainView], id: usize, other: usize, after: &[PlainView]) -> bool {
+fn are_others_same(before: &[PlainView], id: usize, other: usize, after: &[PlainView]) -> bool
+    ensures { IsTrue result ↔ SameBut id other (map view_of before.now) (map view_of after.now) }
+{
     if before.len() != after.len() {
         return false;
     }
     for (at, view) in before.iter().enumerate() {
-        if at != id && at != other && Left::same(view).check(&after[at]).is_err() {
+        if !is_other_same(at, id, other, view, &after[at]) {
             return false;
         }
     }
@@ -497,7 +531,10 @@ fn check_views(
     id: usize,
     left: &Left,
     after: &[PlainView],
-) -> Result<(), Refusal> {
+) -> Result<(), Refusal>
+    requires { id < length before.now }
+    ensures { IsOk result ↔ (map view_of after.now ≡ set (map view_of before.now) id (left_of left.now)) }
+{
     check_part(are_others_same(before, id, id, after), Part::Views)?;
     match after.get(id) {
         Some(view) => left.check(view),
@@ -512,7 +549,12 @@ fn check_both_views(
     left: &Left,
     other: usize,
     after: &[PlainView],
-) -> Result<(), Refusal> {
+) -> Result<(), Refusal>
+    requires id { id < length before.now }
+    requires other { other < length before.now }
+    requires different { other ≢ id }
+    ensures { IsOk result ↔ (map view_of after.now ≡ set (set (map view_of before.now) id (left_of left.now)) other spent) }
+{
     check_part(are_others_same(before, id, other, after), Part::Views)?;
     match after.get(id) {
         Some(view) => left.check(view)?,
