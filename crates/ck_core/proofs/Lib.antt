@@ -12,3 +12,4 @@ pub mod WrongSteps
 pub mod WrongResults
 pub mod Meeting
 pub mod Same
+pub mod PlainViews

@@ -4,8 +4,8 @@ ghost use Rattle.ck_model.specs.declared.history.Entry.{Entry};
 ghost use Rattle.ck_model.specs.Numbered.{without};
 ghost use Rattle.ck_model.specs.Plain.{content_of, stripes_of};
 ghost use Rattle.ck_core.specs.State.{own, owned};
-ghost use Rattle.ck_core.specs.Steps.{newcomer, messenger, spent, joining, gaining};
-ghost use Rattle.ck_core.specs.Plain.{other_of, home_of, view_of};
+ghost use Rattle.ck_core.specs.Steps.{newcomer, messenger, spent, joining, gaining, seen_as, sent_home, split_as, joined};
+ghost use Rattle.ck_core.specs.Plain.{other_of, home_of, view_of, world_of};
 ghost use Rattle.ck_core.specs.Left.{topped, grown_by, behind, taken_of, kept_of, heard_of, heard_told_of, joined_of, list_or, left_of, new_of, IsOf, SameBut};
 
 use crate::plain::refusal::{Part, Refusal};
@@ -128,19 +128,19 @@ fn behind_own<'a>(view: &PlainView, list: &'a [PlainOther]) -> Option<&'a [Plain
     }
 }
 
-// What follows all numbers of the view with their entries, where the list begins by them.
-#[tactic(auto, unfolding(crate::specs::Plain::view_of))]
-fn behind_owned<'a>(view: &PlainView, list: &'a [PlainOther]) -> Option<&'a [PlainOther]>
-    ensures some { IfSome result (λ rest. map other_of list.now ≡ owned (view_of view.now) ++ map other_of rest.now) }
-    ensures none { IfNone result ((l : List (ℕ × List (Entry ℕ))) → ¬ (map other_of list.now ≡ owned (view_of view.now) ++ l)) }
+// What follows these numbers with their entries, where the list begins by them.
+fn behind_others<'a>(kept: &[PlainOther], list: &'a [PlainOther]) -> Option<&'a [PlainOther]>
+    ensures some { IfSome result (λ rest. map other_of list.now ≡ map other_of kept.now ++ map other_of rest.now) }
+    ensures none { IfNone result ((l : List (ℕ × List (Entry ℕ))) → ¬ (map other_of list.now ≡ map other_of kept.now ++ l)) }
 {
-    let rest = behind_own(view, list)?;
-    let count = view.others.len();
-    if count <= rest.len() && are_same(&view.others, &rest[..count]) {
-        Some(&rest[count..])
-    } else {
-        None
+    let count = kept.len();
+    if list.len() < count {
+        return None;
     }
+    if !are_same(kept, &list[..count]) {
+        return None;
+    }
+    Some(&list[count..])
 }
 
 impl<'a> New<'a> {
@@ -342,7 +342,7 @@ impl<'a> Left<'a> {
     {
         match self.given {
             Some((number, stripes)) => are_without(number, stripes, held),
-            None => are_same(&self.base.held, held),
+            None => are_same(held, &self.base.held),
         }
     }
 
@@ -396,12 +396,16 @@ impl<'a> Left<'a> {
         }
     }
 
+    #[tactic(auto, unfolding(crate::specs::Plain::view_of))]
     fn is_others(&self, others: &[PlainOther]) -> bool
         ensures { IsTrue result ↔ (map other_of others.now ≡ joined_of self.now.joined (map other_of (list_or self.now.others self.now.base.now.others.items))) }
     {
         match self.joined {
-            Some(view) => match behind_owned(view, others) {
-                Some(rest) => self.is_behind(rest),
+            Some(view) => match behind_own(view, others) {
+                Some(rest) => match behind_others(&view.others, rest) {
+                    Some(more) => self.is_behind(more),
+                    None => false,
+                },
                 None => false,
             },
             None => self.is_behind(others),
@@ -567,10 +571,12 @@ fn check_both_views(
 }
 
 // No word and no place is another.
-fn check_at_rest(claim: &Claim) -> Result<(), Refusal> {
-    check_part(claim.before.words == claim.after.words, Part::Words)?;
+fn check_at_rest(claim: &Claim) -> Result<(), Refusal>
+    ensures { IsOk result ↔ ((claim.now.after.now.words.items ≡ claim.now.before.now.words.items) × (map home_of claim.now.after.now.homes.items ≡ map home_of claim.now.before.now.homes.items)) }
+{
+    check_part(claim.after.words == claim.before.words, Part::Words)?;
     check_part(
-        are_same(&claim.before.homes, &claim.after.homes),
+        are_same(&claim.after.homes, &claim.before.homes),
         Part::Homes,
     )
 }
@@ -581,7 +587,9 @@ fn check_stripe(
     stripe: u64,
     word: u64,
     content: Option<&PlainStripe>,
-) -> Result<(), Refusal> {
+) -> Result<(), Refusal>
+    ensures { IsOk result ↔ ((claim.now.after.now.words.items ≡ set claim.now.before.now.words.items stripe word) × (map home_of claim.now.after.now.homes.items ≡ set (map home_of claim.now.before.now.homes.items) stripe (home_of (behind content.entry)))) }
+{
     let (before, after) = (claim.before, claim.after);
     let words = is_word_set(&before.words, stripe, word, &after.words);
     check_part(words, Part::Words)?;
@@ -590,13 +598,19 @@ fn check_stripe(
 }
 
 /// The caller has this view afterwards, and nothing else is another.
-pub fn check_seen(claim: &Claim, left: &Left) -> Result<(), Refusal> {
+pub fn check_seen(claim: &Claim, left: &Left) -> Result<(), Refusal>
+    requires { claim.now.id < length claim.now.before.now.views.items }
+    ensures { IsOk result ↔ (world_of claim.now.after.now ≡ seen_as (world_of claim.now.before.now) claim.now.id (left_of left.now)) }
+{
     check_at_rest(claim)?;
     check_views(&claim.before.views, claim.id, left, &claim.after.views)
 }
 
 /// The stripe's word is 1, its place empty, and the caller has this view afterwards.
-pub fn check_taken(claim: &Claim, stripe: u64, left: &Left) -> Result<(), Refusal> {
+pub fn check_taken(claim: &Claim, stripe: u64, left: &Left) -> Result<(), Refusal>
+    requires { claim.now.id < length claim.now.before.now.views.items }
+    ensures { IsOk result ↔ (world_of claim.now.after.now ≡ record { words = set claim.now.before.now.words.items stripe 1; homes = set (map home_of claim.now.before.now.homes.items) stripe None; views = set (map view_of claim.now.before.now.views.items) claim.now.id (left_of left.now) }) }
+{
     check_stripe(claim, stripe, 1, None)?;
     check_views(&claim.before.views, claim.id, left, &claim.after.views)
 }
@@ -607,13 +621,19 @@ pub fn check_sent_home(
     stripe: u64,
     content: &PlainStripe,
     left: &Left,
-) -> Result<(), Refusal> {
+) -> Result<(), Refusal>
+    requires { claim.now.id < length claim.now.before.now.views.items }
+    ensures { IsOk result ↔ (world_of claim.now.after.now ≡ sent_home (world_of claim.now.before.now) claim.now.id stripe (content_of content.now) (left_of left.now)) }
+{
     check_stripe(claim, stripe, 0, Some(content))?;
     check_views(&claim.before.views, claim.id, left, &claim.after.views)
 }
 
 /// The caller has this view afterwards, and there is a further view.
-pub fn check_split(claim: &Claim, left: &Left, right: &New) -> Result<(), Refusal> {
+pub fn check_split(claim: &Claim, left: &Left, right: &New) -> Result<(), Refusal>
+    requires { claim.now.id < length claim.now.before.now.views.items }
+    ensures { IsOk result ↔ (world_of claim.now.after.now ≡ split_as (world_of claim.now.before.now) claim.now.id (left_of left.now) (new_of right.now)) }
+{
     check_at_rest(claim)?;
     match claim.after.views.split_last() {
         Some((last, rest)) => {
@@ -625,7 +645,12 @@ pub fn check_split(claim: &Claim, left: &Left, right: &New) -> Result<(), Refusa
 }
 
 /// The caller has this view afterwards, and the other is spent.
-pub fn check_joined(claim: &Claim, left: &Left, other: usize) -> Result<(), Refusal> {
+pub fn check_joined(claim: &Claim, left: &Left, other: usize) -> Result<(), Refusal>
+    requires id { claim.now.id < length claim.now.before.now.views.items }
+    requires other { other < length claim.now.before.now.views.items }
+    requires different { other ≢ claim.now.id }
+    ensures { IsOk result ↔ (world_of claim.now.after.now ≡ joined (world_of claim.now.before.now) claim.now.id (left_of left.now) other) }
+{
     check_at_rest(claim)?;
     check_both_views(
         &claim.before.views,
