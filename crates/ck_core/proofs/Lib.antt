@@ -13,3 +13,4 @@ pub mod WrongResults
 pub mod Meeting
 pub mod Same
 pub mod PlainViews
+pub mod PlainNumbers

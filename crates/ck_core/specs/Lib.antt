@@ -6,3 +6,4 @@ pub mod Example
 pub mod Refusals
 pub mod Plain
 pub mod Left
+pub mod Claims

@@ -1,6 +1,8 @@
 //! Whether new contents of held stripes are a section.
 ghost use Rattle.std.specs.Prelude.{◌≡◌, ◌↔◌, ℕ, ◌%◌, ◌^◌, ◌<◌, ◌≤◌, IsTrue};
 ghost use Rattle.ck_model.specs.Arithmetic.{partial_of, index_of, second_of, alternate_of};
+ghost use Rattle.ck_model.specs.Numbered.{IsIn, numbers};
+ghost use Rattle.ck_model.specs.Plain.{stripes_of};
 ghost use Rattle.ck_core.specs.Example.{first_number};
 
 use crate::plain::left::check;
@@ -62,8 +64,15 @@ pub fn buckets(power: u32, hash: u64) -> (u64, u64)
 }
 
 /// Whether one of the stripes has the number.
-pub fn has_number(stripes: &[PlainStripe], number: u64) -> bool {
-    stripes.iter().any(|stripe| stripe.number == number)
+pub fn has_number(stripes: &[PlainStripe], number: u64) -> bool
+    ensures { IsTrue result ↔ IsIn number (numbers (stripes_of stripes.now)) }
+{
+    for stripe in stripes {
+        if stripe.number == number {
+            return true;
+        }
+    }
+    false
 }
 
 /// Whether the two stripes of the name are held.

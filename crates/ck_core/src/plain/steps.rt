@@ -1,5 +1,16 @@
 //! Whether a caller may go by a step from one world to another.
-ghost use Rattle.std.specs.Prelude.{◌≡◌, ◌↔◌, ℕ, ◌<◌, ◌≤◌, IsOk, IfOk};
+ghost use Rattle.std.specs.Prelude.{◌≡◌, ◌↔◌, ℕ, ◌<◌, ◌≤◌, ◌^◌, map, length, slice_index, IsTrue, IsOk, IfOk, IfErr, IfSome, IfNone, Option, Some, None, All};
+ghost use mathlib.Core.Option.{some};
+ghost use lib.ListN.{get_elem?};
+ghost use Rattle.ck_model.specs.declared.contents.Content.{Content};
+ghost use Rattle.ck_model.specs.Numbered.{IsIn, numbers};
+ghost use Rattle.ck_model.specs.Plain.{content_of, stripes_of};
+ghost use Rattle.ck_core.specs.declared.view.View.{View};
+ghost use Rattle.ck_core.specs.State.{IsPart};
+ghost use Rattle.ck_core.specs.Steps.{IsAbove};
+ghost use Rattle.ck_core.specs.Steps.Move.{Take, FindHeld, Give, Decide, GiveRest, Renew, Look, Open, Tell, Join};
+ghost use Rattle.ck_core.specs.Plain.{home_of, view_of, world_of, move_of};
+ghost use Rattle.ck_core.specs.Claims.{Allows};
 
 use crate::plain::grounds::{has_grounds, is_excused};
 use crate::plain::left::{
@@ -12,52 +23,83 @@ use ck_model::history::{Entry, Name, Why};
 use ck_model::plain::stripes::PlainStripe;
 use std::alloc::{AllocError, Global};
 
-fn view_at(world: &PlainWorld, id: usize) -> Result<&PlainView, Refusal> {
+fn view_at(world: &PlainWorld, id: usize) -> Result<&PlainView, Refusal>
+    ensures ok { IfOk result (λ v. (id < length world.now.views.items) × (get_elem? (map view_of world.now.views.items) id ≡ some (view_of v.now))) }
+    ensures err { IfErr result (λ e. (v : View ℕ) → ¬ (get_elem? (map view_of world.now.views.items) id ≡ some v)) }
+{
     match world.views.get(id) {
         Some(view) => Ok(view),
         None => Err(Refusal::NoSuchView),
     }
 }
 
-// The word of the stripe, or 0 past the last.
-fn word_of(world: &PlainWorld, stripe: u64) -> u64 {
-    match world.words.get(stripe as usize) {
-        Some(word) => *word,
-        None => 0,
+fn home_at(world: &PlainWorld, stripe: u64) -> Result<&PlainStripe, Refusal>
+    ensures ok { IfOk result (λ c. get_elem? (map home_of world.now.homes.items) stripe ≡ some (Some (content_of c.now))) }
+    ensures err { IfErr result (λ e. (c : Content ℕ) → ¬ (get_elem? (map home_of world.now.homes.items) stripe ≡ some (Some c))) }
+{
+    match world.homes.get(stripe as usize) {
+        Some(home) => match home {
+            Some(content) => Ok(content),
+            None => Err(Refusal::NotHome),
+        },
+        None => Err(Refusal::NotHome),
     }
 }
 
-fn are_below(stripes: &[PlainStripe], number: u64) -> bool {
+// Whether the word of the stripe is this one, and that past the last is 0.
+fn is_word(world: &PlainWorld, stripe: u64, word: u64) -> bool
+    ensures { IsTrue result ↔ (slice_index world.now.words.items stripe ≡ word) }
+{
+    match world.words.get(stripe as usize) {
+        Some(found) => *found == word,
+        None => word == 0,
+    }
+}
+
+fn is_stripe(table: &PlainTable, stripe: u64) -> bool
+    requires { table.now.s ≤ 10 }
+    ensures { IsTrue result ↔ (stripe < 2 ^ table.now.s) }
+{
+    stripe < 1 << table.s
+}
+
+fn are_numbers_below(stripes: &[PlainStripe], number: u64) -> bool
+    ensures { IsTrue result ↔ All (λ s. s.number < number) stripes.now }
+{
     stripes.iter().all(|stripe| stripe.number < number)
+}
+
+fn are_below(stripes: &[PlainStripe], number: u64) -> bool
+    ensures { IsTrue result ↔ IsAbove number (numbers (stripes_of stripes.now)) }
+{
+    are_numbers_below(stripes, number)
 }
 
 /// The swap by which the caller takes a stripe that is free and above those that it holds.
 pub fn check_take(table: &PlainTable, claim: &Claim, stripe: u64) -> Result<(), Refusal>
     requires { table.now.s ≤ 10 }
+    ensures { IsOk result ↔ Allows table.now claim.now (Take stripe) }
 {
     let view = view_at(claim.before, claim.id)?;
-    check(stripe < 1 << table.s, Refusal::NoSuchStripe)?;
-    check(word_of(claim.before, stripe) == 0, Refusal::NotFree)?;
+    check(is_stripe(table, stripe), Refusal::NoSuchStripe)?;
+    check(is_word(claim.before, stripe, 0), Refusal::NotFree)?;
     check(are_below(&view.held, stripe), Refusal::NotAbove)?;
-    match claim.before.homes.get(stripe as usize) {
-        Some(Some(content)) => {
-            check_taken(
-                claim,
-                stripe,
-                &Left::taking(view, stripe, content, claim.log),
-            )
-        }
-        _ => Err(Refusal::NotHome),
-    }
+    let content = home_at(claim.before, stripe)?;
+    check_taken(
+        claim,
+        stripe,
+        &Left::taking(view, stripe, content, claim.log),
+    )
 }
 
 /// The swap by which the caller finds a stripe held by another.
 pub fn check_find_held(table: &PlainTable, claim: &Claim, stripe: u64) -> Result<(), Refusal>
     requires { table.now.s ≤ 10 }
+    ensures { IsOk result ↔ Allows table.now claim.now (FindHeld stripe) }
 {
     let view = view_at(claim.before, claim.id)?;
-    check(stripe < 1 << table.s, Refusal::NoSuchStripe)?;
-    check(word_of(claim.before, stripe) == 1, Refusal::NotTaken)?;
+    check(is_stripe(table, stripe), Refusal::NoSuchStripe)?;
+    check(is_word(claim.before, stripe, 1), Refusal::NotTaken)?;
     check(!has_number(&view.held, stripe), Refusal::HeldByItself)?;
     check_seen(claim, &Left::finding(view, stripe))
 }
@@ -205,7 +247,7 @@ pub fn check_look(table: &PlainTable, claim: &Claim, stripe: u64, power: u64) ->
 {
     let before = claim.before;
     let view = view_at(before, claim.id)?;
-    check(stripe < 1 << table.s, Refusal::NoSuchStripe)?;
+    check(is_stripe(table, stripe), Refusal::NoSuchStripe)?;
     check(view.told <= power, Refusal::ToldFalls)?;
     let at_home = have_power_at_home(&before.homes, power);
     check(at_home, Refusal::ToldAbovePower)?;
