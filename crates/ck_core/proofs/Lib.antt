@@ -14,3 +14,4 @@ pub mod Meeting
 pub mod Same
 pub mod PlainViews
 pub mod PlainNumbers
+pub mod PlainRows

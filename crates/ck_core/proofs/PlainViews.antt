@@ -1,9 +1,11 @@
 -- Lists of views and of numbers with their entries.
-use Rattle.std.proofs.Common.{◌≡◌, ◌≢◌, ◌↔◌, ◌⊎◌, inl, inr, ⊎_elim, ℕ, zero, suc, ◌<◌, ◌≤◌, List, [], ◌∷◌, ◌++◌, length, get_or, take, drop, set, map, refl, sym, ap, ◌∙◌, subst, append_assoc, length-set, length-drop, ◌-◌, arith, Option, Some, None, Result, Ok, Err}
+use Rattle.std.proofs.Common.{Bool, true, false, not, IsTrue, ◌≡◌, ◌≢◌, ◌↔◌, ◌⊎◌, inl, inr, ⊎_elim, ℕ, zero, suc, ◌<◌, ◌≤◌, List, [], ◌∷◌, ◌++◌, length, get_or, take, drop, set, map, refl, sym, ap, ◌∙◌, subst, append_assoc, length-set, length-drop, ◌-◌, arith, Option, Some, None, Result, Ok, Err}
 use mathlib.Core.Option.{some, none, some-injective, some-ne-none}
 use mathlib.Core.Logic.{dite}
 use native.Mathlib.Decide.{ℕ_discrete}
 use lib.ListN.{get_elem?}
+use lib.Dec.{ltb}
+use borrow.Author.Tests.{ltb-false}
 use Rattle.std.specs.List.{slice_get}
 use Rattle.std.specs.Result.{IsOk, IsErr}
 use Rattle.std.proofs.lemmas.Bool.{false≢true}
@@ -113,3 +115,17 @@ same_below f xs ys i j l h = record {
   sized = length-map ys f ∙ sym l ∙ sym (length-map xs f);
   at = λ k n m. ⊎_elim (λ above. none_above f ys k (omega arith) ∙ sym (none_above f xs k above)) (λ below. h k below n m) (below_or k (length xs));
 }
+
+pub not_below : (i n : ℕ) → false ≡ ltb i n → n ≤ i
+not_below i n e = ltb-false i n (sym e)
+
+pub not_some : {A : Type 0} (x : A) → ¬ (None ≡ Some x)
+not_some x e = cc
+
+pub not_of : (b : Bool) → ¬ (IsTrue b) → IsTrue (not b)
+not_of true h = absurd (h refl)
+not_of false h = refl
+
+pub of_not : (b : Bool) → IsTrue (not b) → ¬ (IsTrue b)
+of_not true h t = false≢true h
+of_not false h t = false≢true t

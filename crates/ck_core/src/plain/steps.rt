@@ -1,5 +1,5 @@
 //! Whether a caller may go by a step from one world to another.
-ghost use Rattle.std.specs.Prelude.{◌≡◌, ◌↔◌, ℕ, ◌<◌, ◌≤◌, ◌^◌, map, length, slice_index, IsTrue, IsOk, IfOk, IfErr, IfSome, IfNone, Option, Some, None, All};
+ghost use Rattle.std.specs.Prelude.{◌≡◌, ◌≢◌, [], ◌↔◌, ℕ, ◌<◌, ◌≤◌, ◌^◌, map, length, slice_index, IsTrue, IsOk, IfOk, IfErr, IfSome, IfNone, Option, Some, None, All};
 ghost use mathlib.Core.Option.{some};
 ghost use lib.ListN.{get_elem?};
 ghost use Rattle.ck_model.specs.declared.contents.Content.{Content};
@@ -9,8 +9,10 @@ ghost use Rattle.ck_core.specs.declared.view.View.{View};
 ghost use Rattle.ck_core.specs.State.{IsPart};
 ghost use Rattle.ck_core.specs.Steps.{IsAbove};
 ghost use Rattle.ck_core.specs.Steps.Move.{Take, FindHeld, Give, Decide, GiveRest, Renew, Look, Open, Tell, Join};
-ghost use Rattle.ck_core.specs.Plain.{home_of, view_of, world_of, move_of};
-ghost use Rattle.ck_core.specs.Claims.{Allows};
+ghost use Rattle.ck_core.specs.Plain.{other_of, home_of, view_of, world_of, move_of};
+ghost use Rattle.ck_core.specs.Left.{left_of};
+ghost use Rattle.ck_core.specs.declared.plain.world.PlainTable.{PlainTable};
+ghost use Rattle.ck_core.specs.Claims.{Allows, GoesHome, GoesHomeLeaving};
 
 use crate::plain::grounds::{has_grounds, is_excused};
 use crate::plain::left::{
@@ -18,7 +20,7 @@ use crate::plain::left::{
 };
 use crate::plain::refusal::Refusal;
 use crate::plain::sections::{check_call, check_renewed, has_number};
-use crate::plain::world::{Claim, PlainMove, PlainTable, PlainView, PlainWorld};
+use crate::plain::world::{Claim, PlainMove, PlainOther, PlainTable, PlainView, PlainWorld};
 use ck_model::history::{Entry, Name, Why};
 use ck_model::plain::stripes::PlainStripe;
 use std::alloc::{AllocError, Global};
@@ -111,18 +113,21 @@ fn check_given(
     stripe: u64,
     stripes: &[PlainStripe],
     noroom: &Option<(Name, Why)>,
-) -> Result<(), Refusal> {
-    let mut checked = Err(Refusal::NotHeld);
+) -> Result<(), Refusal>
+    requires { claim.now.id < length claim.now.before.now.views.items }
+    ensures { IsOk result ↔ GoesHome claim.now.id (world_of claim.now.before.now) (world_of claim.now.after.now) (view_of view.now) stripe (stripes_of stripes.now) noroom.now }
+{
+    let mut refusal = Refusal::NotHeld;
     for content in stripes {
         if content.number == stripe {
             let left = Left::giving(view, stripe, content.power, stripes, noroom);
-            checked = check_sent_home(claim, stripe, content, &left);
-            if checked.is_ok() {
-                return Ok(());
+            match check_sent_home(claim, stripe, content, &left) {
+                Ok(()) => return Ok(()),
+                Err(found) => refusal = found,
             }
         }
     }
-    checked
+    Err(refusal)
 }
 
 // One of the stripes of this number goes home, and the caller has this view afterwards.
@@ -131,17 +136,20 @@ fn check_decided(
     stripe: u64,
     stripes: &[PlainStripe],
     left: &Left,
-) -> Result<(), Refusal> {
-    let mut checked = Err(Refusal::NotHeld);
+) -> Result<(), Refusal>
+    requires { claim.now.id < length claim.now.before.now.views.items }
+    ensures { IsOk result ↔ GoesHomeLeaving claim.now.id (world_of claim.now.before.now) (world_of claim.now.after.now) (left_of left.now) stripe (stripes_of stripes.now) }
+{
+    let mut refusal = Refusal::NotHeld;
     for content in stripes {
         if content.number == stripe {
-            checked = check_sent_home(claim, stripe, content, left);
-            if checked.is_ok() {
-                return Ok(());
+            match check_sent_home(claim, stripe, content, left) {
+                Ok(()) => return Ok(()),
+                Err(found) => refusal = found,
             }
         }
     }
-    checked
+    Err(refusal)
 }
 
 /// The store by which the caller gives back a stripe that it holds, and may say of a name that it found no room.
@@ -162,7 +170,9 @@ pub fn check_give(
 }
 
 /// The store by which the caller gives back a further stripe.
-pub fn check_give_rest(claim: &Claim, stripe: u64) -> Result<(), Refusal> {
+pub fn check_give_rest(claim: &Claim, stripe: u64) -> Result<(), Refusal>
+    ensures { (table : PlainTable) → (IsOk result ↔ Allows table claim.now (GiveRest stripe)) }
+{
     let view = view_at(claim.before, claim.id)?;
     check_given(claim, view, stripe, &view.held, &None)
 }
@@ -256,12 +266,32 @@ pub fn check_look(table: &PlainTable, claim: &Claim, stripe: u64, power: u64) ->
     check_seen(claim, &Left::looking(view, claim.log, power))
 }
 
+fn is_unused(other: &PlainOther) -> bool
+    ensures { IsTrue result ↔ (other_of other.now ≡ (other.now.number, [])) }
+{
+    other.entries.is_empty()
+}
+
+fn is_another(other: usize, id: usize) -> bool
+    ensures { IsTrue result ↔ (other ≢ id) }
+{
+    other != id
+}
+
+fn holds_nothing(view: &PlainView) -> bool
+    ensures { IsTrue result ↔ (stripes_of view.now.held.items ≡ []) }
+{
+    view.held.is_empty()
+}
+
 /// The load by which a new caller begins, with a number that nobody has used.
-pub fn check_open(claim: &Claim) -> Result<(), Refusal> {
+pub fn check_open(claim: &Claim) -> Result<(), Refusal>
+    ensures { (table : PlainTable) → (IsOk result ↔ Allows table claim.now Open) }
+{
     let view = view_at(claim.before, claim.id)?;
     match view.others.split_first() {
         Some((first, rest)) => {
-            check(first.entries.is_empty(), Refusal::NoNumberLeft)?;
+            check(is_unused(first), Refusal::NoNumberLeft)?;
             let right = New::newcomer(view.settings, first.number, view.told);
             check_split(claim, &Left::keeping(view, rest), &right)
         }
@@ -270,17 +300,21 @@ pub fn check_open(claim: &Claim) -> Result<(), Refusal> {
 }
 
 /// The load that splits off what the caller has seen and was told.
-pub fn check_tell(claim: &Claim) -> Result<(), Refusal> {
+pub fn check_tell(claim: &Claim) -> Result<(), Refusal>
+    ensures { (table : PlainTable) → (IsOk result ↔ Allows table claim.now Tell) }
+{
     let view = view_at(claim.before, claim.id)?;
     check_split(claim, &Left::same(view), &New::messenger(view))
 }
 
 /// The load that joins another view, which holds no stripe, to the caller's.
-pub fn check_join(claim: &Claim, other: usize) -> Result<(), Refusal> {
+pub fn check_join(claim: &Claim, other: usize) -> Result<(), Refusal>
+    ensures { (table : PlainTable) → (IsOk result ↔ Allows table claim.now (Join other)) }
+{
     let view = view_at(claim.before, claim.id)?;
     let joined = view_at(claim.before, other)?;
-    check(other != claim.id, Refusal::JoinsItself)?;
-    check(joined.held.is_empty(), Refusal::HoldsAStripe)?;
+    check(is_another(other, claim.id), Refusal::JoinsItself)?;
+    check(holds_nothing(joined), Refusal::HoldsAStripe)?;
     check_joined(claim, &Left::joining(view, joined), other)
 }
 
