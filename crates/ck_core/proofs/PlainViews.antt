@@ -10,6 +10,9 @@ use Rattle.std.specs.List.{slice_get}
 use Rattle.std.specs.Result.{IsOk, IsErr}
 use Rattle.std.proofs.lemmas.Bool.{false≢true}
 use Rattle.std.proofs.lemmas.List.{take_all, length-map}
+use Rattle.ck_model.specs.declared.history.Entry.{Entry}
+use Rattle.ck_core.specs.declared.plain.world.PlainOther.{PlainOther}
+use Rattle.ck_core.specs.Plain.{other_of}
 use Rattle.ck_core.specs.Left.{SameBut}
 use Rattle.ck_core.proofs.Lists.{set_here, set_else}
 
@@ -129,3 +132,15 @@ not_of false h = refl
 pub of_not : (b : Bool) → IsTrue (not b) → ¬ (IsTrue b)
 of_not true h t = false≢true h
 of_not false h t = false≢true t
+
+-- the first of the numbers has no entries
+pub first_unused : (o : PlainOther) (m : ℕ) (rest l : List (ℕ × List (Entry ℕ))) → other_of o ∷ rest ≡ (m, []) ∷ l → (other_of o ≡ (o.number, [])) × (o.number ≡ m) × (rest ≡ l)
+first_unused o m rest l e =
+    let heads : other_of o ≡ (m, []) = cc in
+    let number = ap (λ (x : ℕ × List (Entry ℕ)). x.0) heads in
+    let none_yet = ap (λ (x : ℕ × List (Entry ℕ)). x.1) heads in
+    (λ j. (o.number, none_yet j), number, cc)
+
+pub no_first : (l : List PlainOther) (x : ℕ × List (Entry ℕ)) (r : List (ℕ × List (Entry ℕ))) → length l ≡ 0 → ¬ (map other_of l ≡ x ∷ r)
+no_first [] x r e h = cc
+no_first (o ∷ l) x r e h = omega arith

@@ -34,7 +34,7 @@ returns c =
         c.in_ok-view.ensures.ok.1,
         c.is_stripe.ensures.0 (c.in_ok-check.ensures.0 refl),
         c.is_word.ensures.0 (c.in_ok-check-2.ensures.0 refl),
-        ?,
+        (λ i. of_not c.has_number.result (c.in_ok-check-3.ensures.0 refl) (c.has_number.ensures.1 (subst (IsIn c.args.stripe) (sym held) i))),
         c.check_seen.ensures.0 t ∙ left,
       ),
       λ d. c.check_seen.ensures.1 (find_leaves (layout_of c.args.table.now) c.args.table.now.min_load claim.log.now claim.id s (world_of claim.after.now) v c.in_ok-view.ensures.ok.1 c.args.stripe d ∙ sym left),

@@ -1,0 +1,44 @@
+use Rattle.std.proofs.Common.{◌≡◌, ℕ, List, [], ◌∷◌, refl, sym, ap, ◌∙◌, set, subst, map, true, None, arith}
+use Rattle.std.proofs.lemmas.Bool.{false≢true}
+use Rattle.ck_model.specs.declared.plain.stripes.PlainStripe.{PlainStripe}
+use Rattle.ck_model.specs.declared.contents.Content.{Content}
+use Rattle.ck_model.specs.Contents.{Stripes}
+use Rattle.ck_model.specs.Plain.{stripes_of, content_of}
+use Rattle.ck_core.specs.declared.view.View.{View}
+use Rattle.ck_core.specs.declared.plain.world.PlainOther.{PlainOther}
+use Rattle.ck_core.specs.State.{World}
+use Rattle.ck_core.specs.Steps.{sent_home, giving, joined, split_as}
+use Rattle.ck_core.specs.Plain.{view_of, other_of, world_of, layout_of}
+use Rattle.ck_core.specs.Left.{left_of, new_of}
+use Rattle.ck_core.specs.Claims.{GoesHome}
+use Rattle.ck_core.proofs.PlainViews.{not_both, first_unused, no_first}
+use Rattle.ck_core.proofs.PlainNumbers.{holds_at, none_more}
+use Rattle.ck_core.proofs.PlainRows.{rest_of_home, home_of_rest, open_others, join_leaves}
+use Rattle.ck_core.proofs.plain.steps.check_open.Goals as goal
+
+pub returns-in_err-check-in-Some : goal.returns-in_err-check-in-Some
+unfolding view_of
+returns-in_err-check-in-Some c table =
+    let claim = c.args.claim.now in
+    let others = ap (map other_of) (sym c.deref.ensures.value ∙ c.in-Some.ensures.cases.0) in (
+      λ t. absurd (not_both c.from_residual-in_err-check-in-Some.result t c.from_residual-in_err-check-in-Some.ensures.0),
+      λ d. let o = open_others (layout_of table) table.min_load claim.log.now claim.id (world_of claim.before.now) (world_of claim.after.now) (view_of c.in_ok-view.view.now) c.in_ok-view.ensures.ok.1 d in
+          absurd (false≢true (c.in_err-check-in-Some.ensures.1 (c.is_unused.ensures.1 (first_unused c.in-Some.first.now o.0 (map other_of c.in-Some.rest.now) o.1 (sym others ∙ o.2)).0))),
+    )
+
+pub returns-in_ok-check-in-Some : goal.returns-in_ok-check-in-Some
+unfolding view_of
+returns-in_ok-check-in-Some c table =
+    let claim = c.args.claim.now in
+    let s = world_of claim.before.now in
+    let v = view_of c.in_ok-view.view.now in
+    ?
+
+pub returns-in-None : goal.returns-in-None
+unfolding view_of
+returns-in-None c table = (
+  λ t. absurd (false≢true t),
+  λ d. let claim = c.args.claim.now in
+      let o = open_others (layout_of table) table.min_load claim.log.now claim.id (world_of claim.before.now) (world_of claim.after.now) (view_of c.in_ok-view.view.now) c.in_ok-view.ensures.ok.1 d in
+      absurd (no_first c.deref.result.now (o.0, []) o.1 c.in-None.ensures.cases (ap (map other_of) c.deref.ensures.value ∙ o.2)),
+)
