@@ -1,5 +1,5 @@
 //! Whether stripes give a reason to find no room for a name.
-ghost use Rattle.std.specs.Prelude.{◌≡◌, ◌↔◌, ℕ, ◌<◌, ◌≤◌, IsTrue};
+ghost use Rattle.std.specs.Prelude.{◌≡◌, ◌↔◌, ℕ, ◌<◌, ◌≤◌, IsTrue, None};
 
 use crate::plain::sections::{alternate, buckets, has_all, has_stripes_of, hash_of};
 use crate::plain::world::PlainTable;
@@ -149,6 +149,7 @@ pub fn has_grounds(
 ) -> bool
     requires stripes { table.now.s ≤ 10 }
     requires power { table.now.max ≤ 26 }
+    ensures { noroom.now ≡ None → IsTrue result }
 {
     match noroom {
         Some((name, why)) => are_grounds(table, stripes, name, why),
@@ -160,6 +161,7 @@ pub fn has_grounds(
 pub fn is_excused(table: &PlainTable, held: &[PlainStripe], noroom: &Option<(Name, Why)>) -> bool
     requires stripes { table.now.s ≤ 10 }
     requires power { table.now.max ≤ 26 }
+    ensures { noroom.now ≡ None → IsTrue result }
 {
     match noroom {
         Some((name, Why::NoRoom)) => has_no_room(table, held, name),

@@ -152,7 +152,8 @@ fn check_decided(
     Err(refusal)
 }
 
-/// The store by which the caller gives back a stripe that it holds, and may say of a name that it found no room.
+/// The store by which the caller gives back a stripe that it holds, and may say of a name that it found no room. Where it
+/// says something, the result is only tested.
 pub fn check_give(
     table: &PlainTable,
     claim: &Claim,
@@ -161,9 +162,9 @@ pub fn check_give(
 ) -> Result<(), Refusal>
     requires stripes { table.now.s ≤ 10 }
     requires power { table.now.max ≤ 26 }
+    ensures nothing { noroom.now ≡ None → (IsOk result ↔ Allows table.now claim.now (Give stripe None)) }
 {
     let view = view_at(claim.before, claim.id)?;
-    check(has_number(&view.held, stripe), Refusal::NotHeld)?;
     let excused = is_excused(table, &view.held, noroom);
     check(excused, Refusal::NoGrounds)?;
     check_given(claim, view, stripe, &view.held, noroom)
@@ -177,7 +178,7 @@ pub fn check_give_rest(claim: &Claim, stripe: u64) -> Result<(), Refusal>
     check_given(claim, view, stripe, &view.held, &None)
 }
 
-/// The store by which the caller gives back the first stripe of a section, and so decides a call.
+/// The store by which the caller gives back the first stripe of a section, and so decides a call. The result is only tested.
 pub fn check_decide(
     alloc: Global,
     table: &PlainTable,
@@ -207,7 +208,7 @@ pub fn check_decide(
 }
 
 /// The store by which the caller gives back the first stripe of a section that is no call, and may say of a name that
-/// it found no room.
+/// it found no room. The result is only tested.
 pub fn check_renew(
     alloc: Global,
     table: &PlainTable,
@@ -236,33 +237,50 @@ pub fn check_renew(
 }
 
 // Whether no stripe has a power below this one.
-fn have_power(stripes: &[PlainStripe], power: u64) -> bool {
+fn have_power(stripes: &[PlainStripe], power: u64) -> bool
+    ensures { IsTrue result ↔ All (λ s. power ≤ s.power) stripes.now }
+{
     stripes.iter().all(|stripe| power <= stripe.power as u64)
 }
 
-fn have_power_at_home(homes: &[Option<PlainStripe>], power: u64) -> bool {
+fn have_power_at_home(homes: &[Option<PlainStripe>], power: u64) -> bool
+    ensures { IsTrue result ↔ All (λ h. IfSome h (λ s. power ≤ s.power)) homes.now }
+{
     homes.iter().all(|home| match home {
         Some(stripe) => power <= stripe.power as u64,
         None => true,
     })
 }
 
-fn have_power_in_views(views: &[PlainView], power: u64) -> bool {
+fn have_power_in_views(views: &[PlainView], power: u64) -> bool
+    ensures { IsTrue result ↔ All (λ v. All (λ s. power ≤ s.power) v.held.items) views.now }
+{
     views.iter().all(|view| have_power(&view.held, power))
+}
+
+// Whether no stripe, at home or held, has a power below this one.
+fn is_power_of_all(world: &PlainWorld, power: u64) -> bool
+    ensures { IsTrue result ↔ ((u : ℕ) (c : Content ℕ) → IsPart (world_of world.now) u c → power ≤ c.power) }
+{
+    have_power_at_home(&world.homes, power) && have_power_in_views(&world.views, power)
+}
+
+fn is_not_below(told: u64, power: u64) -> bool
+    ensures { IsTrue result ↔ (told ≤ power) }
+{
+    told <= power
 }
 
 /// The load by which the caller sees the history and is told a power.
 pub fn check_look(table: &PlainTable, claim: &Claim, stripe: u64, power: u64) -> Result<(), Refusal>
     requires { table.now.s ≤ 10 }
+    ensures { IsOk result ↔ Allows table.now claim.now (Look stripe power) }
 {
-    let before = claim.before;
-    let view = view_at(before, claim.id)?;
+    let view = view_at(claim.before, claim.id)?;
     check(is_stripe(table, stripe), Refusal::NoSuchStripe)?;
-    check(view.told <= power, Refusal::ToldFalls)?;
-    let at_home = have_power_at_home(&before.homes, power);
-    check(at_home, Refusal::ToldAbovePower)?;
-    let held = have_power_in_views(&before.views, power);
-    check(held, Refusal::ToldAbovePower)?;
+    check(is_not_below(view.told, power), Refusal::ToldFalls)?;
+    let is_told = is_power_of_all(claim.before, power);
+    check(is_told, Refusal::ToldAbovePower)?;
     check_seen(claim, &Left::looking(view, claim.log, power))
 }
 
