@@ -15,3 +15,4 @@ pub mod Same
 pub mod PlainViews
 pub mod PlainNumbers
 pub mod PlainRows
+pub mod PlainPowers

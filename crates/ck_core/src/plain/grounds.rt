@@ -108,7 +108,7 @@ fn entry_count(stripes: &[PlainStripe]) -> u64 {
 fn is_too_empty(min_load: u32, power: u32, stripes: &[PlainStripe]) -> bool
     requires { power ≤ 26 }
 {
-    entry_count(stripes).saturating_mul(100) < min_load as u64 * (4 << power)
+    entry_count(stripes).saturating_mul(100) < (min_load as u64).saturating_mul(4 << power)
 }
 
 // Whether the stripes give this reason to refuse the name.

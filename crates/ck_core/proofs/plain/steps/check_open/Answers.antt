@@ -37,8 +37,8 @@ returns-in_ok-check-in-Some c table =
     let others = ap (map other_of) (sym c.deref.ensures.value ∙ c.in-Some.ensures.cases.0) in
     let unused = c.is_unused.ensures.0 (c.in_ok-check-in-Some.ensures.0 refl) in
     let left = c.keeping.ensures in
-    let right = c.newcomer.ensures in
-    let leaves : split_as s claim.id (left_of c.keeping.result) (new_of c.newcomer.result) ≡ split_as s claim.id (record v { others = rest }) (newcomer v.settings first.number v.told) = λ j. split_as s claim.id (left j) (right j) in (
+    let right = c.newcomer-right.ensures in
+    let leaves : split_as s claim.id (left_of c.keeping.result) (new_of c.newcomer-right.result) ≡ split_as s claim.id (record v { others = rest }) (newcomer v.settings first.number v.told) = λ j. split_as s claim.id (left j) (right j) in (
       λ t. (v, first.number, rest, c.in_ok-view.ensures.ok.1, others ∙ ap (λ z. z ∷ rest) unused, c.check_split.ensures.0 t ∙ leaves),
       λ d. let o = open_others (layout_of table) table.min_load claim.log.now claim.id s (world_of claim.after.now) v c.in_ok-view.ensures.ok.1 d in
           let f = first_unused first o.0 rest o.1 (sym others ∙ o.2) in
