@@ -110,7 +110,7 @@ fn are_newcomers(set: Settings, power: u32, views: &[PlainView]) -> bool {
     true
 }
 
-/// Whether callers may begin so, or what isn't as at an opening.
+/// Whether callers may begin so, or what isn't as at an opening. The result is only tested.
 pub fn check_opening(table: &PlainTable, opening: &PlainOpening) -> Result<(), Flaw>
     requires stripes { table.now.s ≤ 10 }
     requires power { table.now.max ≤ 26 }

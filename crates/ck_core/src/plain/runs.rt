@@ -21,7 +21,7 @@ fn decided_after(log: &[Entry<u64>], decided: usize, made: &PlainMove) -> Option
 }
 
 /// Whether the steps, one after another, lead from the world on and decide this history, or where they don't. Refused
-/// where no memory is left.
+/// where no memory is left. The result is only tested, but for that of each step.
 pub fn check_steps(
     alloc: Global,
     table: &PlainTable,
@@ -56,7 +56,7 @@ pub fn check_steps(
     Ok(Ok(()))
 }
 
-/// The same from an opening on.
+/// The same from an opening on. The result is only tested.
 pub fn check_run(
     alloc: Global,
     table: &PlainTable,

@@ -12,7 +12,7 @@ ghost use Rattle.ck_core.specs.Steps.Move.{Take, FindHeld, Give, Decide, GiveRes
 ghost use Rattle.ck_core.specs.Plain.{other_of, home_of, view_of, world_of, move_of};
 ghost use Rattle.ck_core.specs.Left.{left_of};
 ghost use Rattle.ck_core.specs.declared.plain.world.PlainTable.{PlainTable};
-ghost use Rattle.ck_core.specs.Claims.{Allows, GoesHome, GoesHomeLeaving};
+ghost use Rattle.ck_core.specs.Claims.{Allows, IsPlain, GoesHome, GoesHomeLeaving};
 
 use crate::plain::grounds::{has_grounds, is_excused};
 use crate::plain::left::{
@@ -336,8 +336,8 @@ pub fn check_join(claim: &Claim, other: usize) -> Result<(), Refusal>
     check_joined(claim, &Left::joining(view, joined), other)
 }
 
-/// Whether the caller may go by this move as claimed, or the condition that the step doesn't meet. Refused where no
-/// memory is left.
+/// Whether the caller may go by this move as claimed, or the condition that the step doesn't meet. For a move with new
+/// contents, or that says of a name that it found no room, the result is only tested. Refused where no memory is left.
 pub fn check_step(
     alloc: Global,
     table: &PlainTable,
@@ -346,6 +346,7 @@ pub fn check_step(
 ) -> Result<Result<(), Refusal>, AllocError>
     requires stripes { table.now.s ≤ 10 }
     requires power { table.now.max ≤ 26 }
+    ensures { IfOk result (λ r. IsPlain made.now → (IsOk r ↔ Allows table.now claim.now (move_of made.now))) }
 {
     match made {
         PlainMove::Take(stripe) => Ok(check_take(table, claim, *stripe)),
