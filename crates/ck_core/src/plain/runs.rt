@@ -1,5 +1,5 @@
 //! Whether steps of several callers are a run.
-ghost use Rattle.std.specs.Prelude.{◌≡◌, ◌↔◌, ℕ, ◌<◌, ◌≤◌, length};
+ghost use Rattle.std.specs.Prelude.{◌≡◌, ◌↔◌, ℕ, ◌<◌, ◌≤◌, length, IfSome};
 
 use crate::plain::opening::check_opening;
 use crate::plain::refusal::Stop;
@@ -10,7 +10,10 @@ use ck_model::history::Entry;
 use std::alloc::{AllocError, Global};
 
 // How many entries of the history are decided after the move, or None where it decides another one than the next.
-fn decided_after(log: &[Entry<u64>], decided: usize, made: &PlainMove) -> Option<usize> {
+fn decided_after(log: &[Entry<u64>], decided: usize, made: &PlainMove) -> Option<usize>
+    requires { decided ≤ length log.now }
+    ensures { IfSome result (λ n. n ≤ length log.now) }
+{
     match made {
         PlainMove::Decide(_, _, entry) => match log.get(decided) {
             Some(next) if entry.is_same(next) => Some(decided + 1),
