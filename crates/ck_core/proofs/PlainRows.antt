@@ -1,19 +1,17 @@
 -- What a step says of the view that its caller has.
-use Rattle.std.proofs.Common.{◌≡◌, ℕ, List, [], ◌∷◌, ◌++◌, ◌<◌, ◌≤◌, ◌^◌, refl, sym, ap, ◌∙◌, subst, Option, Some, None, Bool}
+use Rattle.std.proofs.Common.{◌≡◌, ℕ, List, [], ◌∷◌, ◌≤◌, sym, ap, ◌∙◌, subst, Some, None}
 use mathlib.Core.Option.{some, some-injective}
 use lib.ListN.{get_elem?}
 use Rattle.ck_model.specs.declared.history.Entry.{Entry}
-use Rattle.ck_model.specs.declared.history.Why.{Why}
 use Rattle.ck_model.specs.declared.contents.Content.{Content}
-use Rattle.ck_model.specs.Map.{Name}
 use Rattle.ck_model.specs.Numbered.{IsIn, numbers, Holds}
-use Rattle.ck_model.specs.Contents.{Layout, Stripes}
+use Rattle.ck_model.specs.Contents.{Layout}
 use Rattle.ck_model.proofs.Numbered.{Some-injective}
 use Rattle.ck_core.specs.declared.view.View.{View}
-use Rattle.ck_core.specs.State.{World, IsPart}
+use Rattle.ck_core.specs.State.{World}
 use Rattle.ck_core.specs.Steps.{Does, IsAbove, taken, seen_as, sent_home, giving, split_as, joined, joining, newcomer, messenger}
 use Rattle.ck_core.specs.Claims.{GoesHome}
-use Rattle.ck_core.specs.Steps.Move.{Take, FindHeld, Give, Decide, GiveRest, Renew, Look, Open, Tell, Join}
+use Rattle.ck_core.specs.Steps.Move.{Take, FindHeld, Give, GiveRest, Look, Open, Tell, Join}
 
 module _ (k : Layout) (min_load : ℕ) (log : List (Entry ℕ)) (id : ℕ) (s s2 : World ℕ) (v : View ℕ) (at : get_elem? s.views id ≡ some v) where
   one_view : (w : View ℕ) → get_elem? s.views id ≡ some w → w ≡ v

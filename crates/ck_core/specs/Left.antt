@@ -9,7 +9,6 @@ use Rattle.ck_model.specs.Numbered.{without}
 use Rattle.ck_model.specs.Contents.{Stripes}
 use Rattle.ck_model.specs.Plain.{content_of, stripes_of}
 use Rattle.ck_core.specs.declared.view.View.{View}
-use Rattle.ck_core.specs.declared.plain.world.PlainOther.{PlainOther}
 use Rattle.ck_core.specs.declared.plain.world.PlainView.{PlainView}
 use Rattle.ck_core.specs.declared.plain.left.Left.{Left}
 use Rattle.ck_core.specs.declared.plain.left.New.{New}

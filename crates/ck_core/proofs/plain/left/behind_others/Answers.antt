@@ -1,4 +1,4 @@
-use Rattle.std.proofs.Common.{◌≡◌, refl, sym, ap, ◌∙◌, take, drop, length, map, ◌++◌, arith}
+use Rattle.std.proofs.Common.{sym, ap, ◌∙◌, drop, length, map, ◌++◌}
 use Rattle.std.proofs.lemmas.Bool.{false≢true}
 use Rattle.ck_core.specs.Plain.{other_of}
 use Rattle.ck_core.proofs.PlainViews.{map_split, begins, rest_all}

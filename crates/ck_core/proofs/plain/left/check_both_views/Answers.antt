@@ -1,4 +1,4 @@
-use Rattle.std.proofs.Common.{◌≡◌, ◌<◌, length, refl, sym, ap, ◌∙◌, map, arith}
+use Rattle.std.proofs.Common.{refl, sym, ap, ◌∙◌, map, arith}
 use mathlib.Core.Option.{some, some-injective}
 use Rattle.std.proofs.lemmas.Bool.{false≢true}
 use Rattle.std.proofs.lemmas.List.{length-map}

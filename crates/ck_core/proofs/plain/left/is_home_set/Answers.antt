@@ -1,4 +1,4 @@
-use Rattle.std.proofs.Common.{◌≡◌, refl, sym, ◌∙◌, arith}
+use Rattle.std.proofs.Common.{refl, sym, ◌∙◌, arith}
 use Rattle.ck_core.specs.Plain.{home_of}
 use Rattle.ck_core.specs.Left.{behind}
 use Rattle.ck_core.proofs.Same.{set_at, set_all}

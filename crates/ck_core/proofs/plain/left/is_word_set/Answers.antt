@@ -1,4 +1,4 @@
-use Rattle.std.proofs.Common.{◌≡◌, ℕ, List, set, refl, sym, ap, ◌∙◌, arith}
+use Rattle.std.proofs.Common.{ℕ, List, set, refl, sym, ap, ◌∙◌, arith}
 use Rattle.ck_core.proofs.Same.{map_id, set_all}
 use Rattle.ck_core.proofs.plain.left.is_word_set.Goals as goal
 

@@ -1,4 +1,4 @@
-use Rattle.std.proofs.Common.{◌≡◌, sym, ◌∙◌, arith}
+use Rattle.std.proofs.Common.{sym, ◌∙◌, arith}
 use Rattle.ck_core.proofs.Same.{same_at}
 use Rattle.ck_core.proofs.plain.same.are_same.Goals as goal
 

@@ -1,4 +1,4 @@
-use Rattle.std.proofs.Common.{◌≡◌, refl, arith}
+use Rattle.std.proofs.Common.{refl}
 use Rattle.ck_core.proofs.PlainNumbers.{in_at, not_in_more}
 use Rattle.ck_core.proofs.plain.sections.has_number.Goals as goal
 

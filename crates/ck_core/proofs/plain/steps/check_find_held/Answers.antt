@@ -1,10 +1,8 @@
-use Rattle.std.proofs.Common.{◌≡◌, ℕ, List, refl, sym, ap, ◌∙◌, set, subst, true}
+use Rattle.std.proofs.Common.{List, refl, sym, ap, ◌∙◌, subst}
 use Rattle.std.proofs.lemmas.Bool.{false≢true}
 use Rattle.ck_model.specs.declared.plain.stripes.PlainStripe.{PlainStripe}
 use Rattle.ck_model.specs.Numbered.{IsIn, numbers}
 use Rattle.ck_model.specs.Plain.{stripes_of}
-use Rattle.ck_core.specs.declared.view.View.{View}
-use Rattle.ck_core.specs.State.{World}
 use Rattle.ck_core.specs.Steps.{seen_as}
 use Rattle.ck_core.specs.Plain.{view_of, world_of, layout_of}
 use Rattle.ck_core.proofs.PlainViews.{not_both, not_of, of_not}

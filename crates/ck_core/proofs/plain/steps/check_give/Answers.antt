@@ -1,4 +1,4 @@
-use Rattle.std.proofs.Common.{◌≡◌, ℕ, refl, sym, ap, ◌∙◌, subst, Option, None}
+use Rattle.std.proofs.Common.{ℕ, sym, ap, subst, Option}
 use Rattle.ck_model.specs.declared.history.Why.{Why}
 use Rattle.ck_model.specs.Map.{Name}
 use Rattle.ck_model.specs.Contents.{Stripes}

@@ -1,19 +1,10 @@
-use Rattle.std.proofs.Common.{◌≡◌, ℕ, List, [], ◌∷◌, refl, sym, ap, ◌∙◌, set, subst, map, true, None, arith}
+use Rattle.std.proofs.Common.{◌≡◌, ℕ, refl, sym, ap, ◌∙◌}
 use Rattle.std.proofs.lemmas.Bool.{false≢true}
-use Rattle.ck_model.specs.declared.plain.stripes.PlainStripe.{PlainStripe}
 use Rattle.ck_model.specs.declared.contents.Content.{Content}
-use Rattle.ck_model.specs.Contents.{Stripes}
 use Rattle.ck_model.specs.Plain.{stripes_of, content_of}
-use Rattle.ck_core.specs.declared.view.View.{View}
-use Rattle.ck_core.specs.declared.plain.world.PlainOther.{PlainOther}
-use Rattle.ck_core.specs.State.{World}
-use Rattle.ck_core.specs.Steps.{sent_home, giving, joined, split_as}
-use Rattle.ck_core.specs.Plain.{view_of, other_of, world_of, layout_of}
-use Rattle.ck_core.specs.Left.{left_of, new_of}
-use Rattle.ck_core.specs.Claims.{GoesHome}
-use Rattle.ck_core.proofs.PlainViews.{not_both, first_unused, no_first}
+use Rattle.ck_core.specs.Steps.{sent_home, giving}
+use Rattle.ck_core.specs.Plain.{view_of, world_of}
 use Rattle.ck_core.proofs.PlainNumbers.{holds_at, none_more}
-use Rattle.ck_core.proofs.PlainRows.{rest_of_home, home_of_rest, open_others, join_leaves}
 use Rattle.ck_core.proofs.plain.steps.check_given.Goals as goal
 use Rattle.ck_core.proofs.plain.steps.check_given.Goals.{then-content-stripe+in-Err, else-content-stripe}
 

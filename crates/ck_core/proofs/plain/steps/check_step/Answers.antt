@@ -1,4 +1,4 @@
-use Rattle.std.proofs.Common.{◌≡◌, ◌↔◌, sym, subst}
+use Rattle.std.proofs.Common.{◌↔◌, sym, subst}
 use Rattle.std.specs.Result.{IsOk}
 use Rattle.ck_core.specs.declared.plain.world.PlainMove.{PlainMove}
 use Rattle.ck_core.specs.Plain.{move_of}

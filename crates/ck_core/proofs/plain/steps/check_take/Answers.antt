@@ -1,4 +1,4 @@
-use Rattle.std.proofs.Common.{◌≡◌, ℕ, List, refl, sym, ap, ◌∙◌, set, subst, Some, None}
+use Rattle.std.proofs.Common.{ℕ, List, refl, sym, ap, ◌∙◌, set, subst, None}
 use Rattle.std.proofs.lemmas.Bool.{false≢true}
 use Rattle.ck_model.specs.declared.plain.stripes.PlainStripe.{PlainStripe}
 use Rattle.ck_model.specs.Numbered.{numbers}

@@ -1,4 +1,4 @@
-use Rattle.std.proofs.Common.{◌≡◌, ◌≤◌, List, Option, IfSome, sym, ◌∙◌, subst, refl}
+use Rattle.std.proofs.Common.{◌≤◌, List, Option, IfSome, sym, ◌∙◌, subst}
 use Rattle.std.specs.List.{All}
 use Rattle.std.proofs.lemmas.Bool.{false≢true}
 use Rattle.ck_model.specs.declared.plain.stripes.PlainStripe.{PlainStripe}

@@ -1,5 +1,5 @@
-use Rattle.std.proofs.Common.{◌≡◌, ◌<◌, ◌≤◌, List, length, map, refl, sym, ◌∙◌, subst, arith}
-use mathlib.Core.Option.{some, none, some-ne-none}
+use Rattle.std.proofs.Common.{◌≡◌, ◌<◌, ◌≤◌, List, length, map, sym, ◌∙◌, subst}
+use mathlib.Core.Option.{some, some-ne-none}
 use lib.ListN.{get_elem?}
 use Rattle.ck_core.specs.declared.plain.world.PlainView.{PlainView}
 use Rattle.ck_core.specs.Plain.{view_of}

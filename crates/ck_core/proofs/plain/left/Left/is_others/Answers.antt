@@ -1,4 +1,4 @@
-use Rattle.std.proofs.Common.{◌≡◌, ℕ, List, Option, Bor, refl, sym, ap, ◌∙◌, map, ◌++◌}
+use Rattle.std.proofs.Common.{List, Option, Bor, sym, ap, ◌∙◌, map, ◌++◌}
 use Rattle.ck_core.specs.declared.plain.world.PlainView.{PlainView}
 use Rattle.ck_core.specs.declared.plain.world.PlainOther.{PlainOther}
 use Rattle.ck_core.specs.Plain.{other_of, view_of}
