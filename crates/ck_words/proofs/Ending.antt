@@ -1,5 +1,5 @@
 -- What a table leaves at its end.
-use Rattle.std.proofs.Common.{◌≡◌, ℕ, ◌^◌, ◌<◌, List, [], ◌∷◌, ◌++◌, reverse, map, refl, sym, ap, ◌∙◌, subst, Some}
+use Rattle.std.proofs.Common.{◌≡◌, ℕ, ◌^◌, ◌<◌, ◌≤◌, List, [], ◌∷◌, ◌++◌, length, reverse, map, refl, sym, ap, ◌∙◌, subst, arith, Some}
 use Rattle.std.specs.Prelude.{All}
 use Rattle.std.specs.List.{AllZip}
 use Rattle.std.specs.Option.{unwrap_or}
@@ -21,6 +21,11 @@ use Rattle.ck_words.proofs.Reversed.{map-append, in_of_reverse, lawful_reverse, 
 use Rattle.ck_words.proofs.Staying.{starts_on, stays_same}
 use Rattle.ck_words.proofs.AllHeld.{in_counting, numbers-contents}
 use Rattle.ck_words.proofs.Joining.{owned_numbers, shuffled}
+
+-- a table has a pass
+pub some_pass : {V : Type 0} (w : WordsState) (ps : List (PassState V)) → 1 ≤ w.settings.callers → AreAllPasses w ps → ¬ (length ps ≡ 0)
+some_pass w [] some all none = all.all 0 some
+some_pass w (p ∷ ps) some all none = omega arith
 
 module _ {V : Type 0} (w : WordsState) (os : List (PassState V)) (p p1 : PassState V) (all : AreAllPasses w (os ++ p ∷ [])) (stays : Stays p.view p1.view) where
   last_caller : IsCaller w p

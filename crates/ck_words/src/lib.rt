@@ -1,6 +1,7 @@
 //! Lock words, the stripes in their slots, and the passes of callers, under the law of the core.
 #![tactic(auto)]
 
+mod close;
 mod law;
 mod meet;
 mod open;
