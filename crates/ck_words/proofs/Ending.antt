@@ -1,7 +1,5 @@
 -- What a table leaves at its end.
-use Rattle.std.proofs.Common.{◌≡◌, ℕ, ◌^◌, ◌<◌, ◌≤◌, List, [], ◌∷◌, ◌++◌, length, reverse, map, refl, sym, ap, ◌∙◌, subst, arith, Some}
-use Rattle.std.specs.Prelude.{All}
-use Rattle.std.specs.List.{AllZip}
+use Rattle.std.proofs.Common.{◌≡◌, ℕ, ◌^◌, ◌<◌, ◌≤◌, List, [], ◌∷◌, ◌++◌, length, reverse, refl, sym, ap, ◌∙◌, subst, arith, Some}
 use Rattle.std.specs.Option.{unwrap_or}
 use Rattle.std.specs.FinMap.{from_entries}
 use Rattle.std.proofs.lemmas.List.Elements.{All-push, All-pop, AllZip-push}
@@ -12,11 +10,11 @@ use Rattle.ck_model.specs.History.{After, StartsWith}
 use Rattle.ck_model.specs.Contents.{Layout, Stripes, pairs_of, bindings, Lawful, NamesApart}
 use Rattle.ck_model.proofs.Counted.{names_apart}
 use Rattle.ck_section.specs.Stripes.{contents_of}
-use Rattle.ck_words.specs.Rule.{counting, layout_of}
+use Rattle.ck_words.specs.Rule.{layout_of}
 use Rattle.ck_words.specs.Words.{WordsState}
 use Rattle.ck_words.specs.Passes.{PassState, IsPassOf, IsIdle}
 use Rattle.ck_words.specs.Retries.{Stays}
-use Rattle.ck_words.specs.Closing.{IsWhole, number_of, parts_of, IsCaller, AreAllPasses, EachStays, EachSaw, gathered, Gathered, Closes}
+use Rattle.ck_words.specs.Closing.{IsWhole, number_of, parts_of, IsCaller, AreAllPasses, EachStays, gathered, Gathered, Closes}
 use Rattle.ck_words.proofs.Reversed.{map-append, in_of_reverse, lawful_reverse, bindings-reverse}
 use Rattle.ck_words.proofs.Staying.{starts_on, stays_same}
 use Rattle.ck_words.proofs.AllHeld.{in_counting, numbers-contents}

@@ -1,5 +1,5 @@
 -- Passes are joined to one, which then has the numbers of all.
-use Rattle.std.proofs.Common.{◌≡◌, ◌⊎◌, ℕ, List, [], ◌∷◌, ◌++◌, map, append-nil, append_assoc, refl, sym, ap, ◌∙◌, subst, ⊎_elim, inl, inr, Option, Some}
+use Rattle.std.proofs.Common.{◌≡◌, ◌⊎◌, ℕ, List, [], ◌∷◌, ◌++◌, refl, sym, ap, ◌∙◌, subst, ⊎_elim, inl, inr, Some}
 use Rattle.std.specs.Prelude.{All}
 use Rattle.std.specs.Option.{unwrap_or}
 use Rattle.std.proofs.lemmas.List.Elements.{All-nil, All-head, All-tail, All-push, All-pop, All-weaker}
@@ -9,7 +9,6 @@ use Rattle.ck_model.specs.Numbered.{IsIn, numbers, Holds}
 use Rattle.ck_model.specs.History.{StartsWith, IsShuffle}
 use Rattle.ck_model.proofs.Numbered.{held_either, held_first, held_second, in_either, in_first, in_second, in_held, held_of_in}
 use Rattle.ck_model.proofs.Histories.{starts_itself}
-use Rattle.ck_stripe.specs.Stripe.{StripeState}
 use Rattle.ck_core.specs.declared.view.View.{View}
 use Rattle.ck_core.specs.State.{own, owned}
 use Rattle.ck_words.specs.Words.{WordsState}

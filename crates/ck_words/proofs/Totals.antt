@@ -1,5 +1,5 @@
 -- How many entries a pass holds that has all stripes.
-use Rattle.std.proofs.Common.{◌≡◌, ℕ, zero, suc, ◌+◌, ◌*◌, ◌^◌, ◌<◌, ◌≤◌, true, List, [], ◌∷◌, length, length-append, add-one, refl, sym, ap, ◌∙◌, subst, inl, inr, arith}
+use Rattle.std.proofs.Common.{◌≡◌, ℕ, zero, suc, ◌+◌, ◌*◌, ◌^◌, ◌≤◌, true, List, [], ◌∷◌, length, length-append, add-one, refl, sym, ap, ◌∙◌, subst, inl, inr, arith}
 use Rattle.std.proofs.Math.Nat.{pow-le-pow_right}
 use Rattle.ck_model.specs.declared.settings.Settings.{Settings}
 use Rattle.ck_model.specs.declared.contents.Content.{Content}
@@ -57,7 +57,7 @@ module _ {V : Type 0} where
   small_each (s ∷ ss) small zero = small s.number s.content (inl (refl, refl))
   small_each (s ∷ ss) small (suc i) = small_each ss (λ t c h. small t c (inr h)) i
 
-  length-numbers : (ss : List (StripeState V)) → length (numbers_of ss) ≡ length ss
+  pub length-numbers : (ss : List (StripeState V)) → length (numbers_of ss) ≡ length ss
   length-numbers [] = refl
   length-numbers (s ∷ ss) = ap suc (length-numbers ss)
 

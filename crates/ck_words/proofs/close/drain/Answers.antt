@@ -1,4 +1,4 @@
-use Rattle.std.proofs.Common.{◌≡◌, ◌<◌, ◌∙◌, ◌++◌, List, ap, sym, subst, map, length, take, arith, Some}
+use Rattle.std.proofs.Common.{◌≡◌, ◌<◌, ◌∙◌, ◌++◌, List, ap, sym, map, length, arith, Some}
 use Rattle.std.specs.Prelude.{vec_capacity}
 use Rattle.std.proofs.lemmas.List.{take_all}
 use Rattle.ck_model.specs.Map.{named}
@@ -7,7 +7,7 @@ use Rattle.ck_stripe.specs.Stripe.{StripeState}
 use Rattle.ck_section.specs.Stripes.{stripe_at}
 use Rattle.ck_words.specs.Rule.{Hand}
 use Rattle.ck_words.specs.Passes.{stripes_in}
-use Rattle.ck_words.proofs.OneStripe.{length-numbers}
+use Rattle.ck_words.proofs.Totals.{length-numbers}
 use Rattle.ck_words.proofs.Draining.{pairs_all, pairs-all, front_slot, came_out, still_left, poured_more, room_for_stripe}
 use Rattle.ck_words.proofs.close.drain.Goals as goal
 

@@ -1,4 +1,4 @@
-use Rattle.std.proofs.Common.{◌≤◌, sym, subst, List, map, length, arith, ap, ◌≡◌}
+use Rattle.std.proofs.Common.{sym, subst, List, map, arith}
 use Rattle.std.proofs.lemmas.List.Elements.{All-pop}
 use Rattle.ck_model.specs.Map.{named}
 use Rattle.ck_model.specs.Ranges.{AreInRange}

@@ -1,10 +1,10 @@
-use Rattle.std.proofs.Common.{◌≡◌, ℕ, ◌+◌, ◌^◌, ◌≤◌, ◌<◌, ◌∙◌, ap, sym, subst, length, arith}
+use Rattle.std.proofs.Common.{◌+◌, ◌^◌, ◌<◌, ◌∙◌, ap, sym, subst, length, arith}
 use Rattle.std.proofs.Math.Facts.{Fits-bits}
 use Rattle.ck_model.specs.Ranges.{AreInRange}
 use Rattle.ck_section.specs.Stripes.{stripe_at}
 use Rattle.ck_words.specs.Words.{WordsState}
 use Rattle.ck_words.specs.Passes.{PassState}
-use Rattle.ck_words.proofs.Totals.{counted_to, counted-more, count_all, counted_whole, counted_below}
+use Rattle.ck_words.proofs.Totals.{counted-more, count_all, counted_whole, counted_below}
 use Rattle.ck_words.proofs.words.Words.entries.Goals as goal
 
 pub entries_of-requires-clause-inside : goal.entries_of-requires-clause-inside

@@ -1,5 +1,4 @@
-use Rattle.std.proofs.Common.{◌≡◌, ◌<◌, ◌∙◌, ap, sym, subst, length, arith}
-use Rattle.ck_words.proofs.Joining.{gathered_none, gathered_more}
+use Rattle.ck_words.proofs.Joining.{gathered_more}
 use Rattle.ck_words.proofs.words.Words.gather_all.Goals as goal
 
 pub loop-other-preserved : goal.loop-other-preserved

@@ -1,5 +1,4 @@
 use Rattle.std.proofs.Common.{◌∙◌, ap, refl, map}
-use Rattle.ck_core.specs.declared.view.View.{View}
 use Rattle.ck_words.specs.Rule.{layout_of}
 use Rattle.ck_words.specs.Passes.{PassState, slot_of}
 use Rattle.ck_words.proofs.Allowed.{join_allowed}

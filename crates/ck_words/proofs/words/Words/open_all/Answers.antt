@@ -1,9 +1,9 @@
-use Rattle.std.proofs.Common.{◌≡◌, ◌≤◌, ◌<◌, ◌∙◌, ◌++◌, ◌∷◌, [], List, ap, sym, subst, refl, set, arith}
+use Rattle.std.proofs.Common.{◌≡◌, ◌∙◌, ◌++◌, ◌∷◌, [], ap, sym, subst, refl, set, arith}
 use Rattle.ck_model.specs.declared.settings.Settings.{Settings}
 use Rattle.ck_words.specs.Words.{WordsState}
-use Rattle.ck_words.specs.Passes.{PassState, IsPassOf}
+use Rattle.ck_words.specs.Passes.{IsPassOf}
 use Rattle.ck_words.specs.Closing.{AreAllPasses}
-use Rattle.ck_words.proofs.Dealt.{first_after, first_read, keeps_next, dealt_more, dealt_whole, dealt_all}
+use Rattle.ck_words.proofs.Dealt.{first_read, keeps_next, dealt_more, dealt_whole, dealt_all}
 use Rattle.ck_words.proofs.words.Words.open_all.Goals as goal
 
 pub deal-requires-clause-kept : goal.deal-requires-clause-kept
