@@ -1,5 +1,5 @@
 -- All passes are dealt.
-use Rattle.std.proofs.Common.{◌≡◌, ℕ, zero, suc, pred, ◌+◌, ◌-◌, ◌<◌, ◌≤◌, List, [], ◌∷◌, ◌++◌, map, refl, sym, ap, ◌∙◌, subst, ⊎_elim, inl, inr, arith, Some}
+use Rattle.std.proofs.Common.{◌≡◌, ℕ, zero, suc, pred, ◌+◌, ◌-◌, ◌<◌, ◌≤◌, List, [], ◌∷◌, ◌++◌, map, get_or, refl, sym, ap, ◌∙◌, subst, arith}
 use Rattle.std.specs.Prelude.{All}
 use Rattle.std.proofs.lemmas.List.Elements.{All-nil, All-cons}
 use Rattle.atomic_table.specs.Seated.{TableId}
@@ -34,6 +34,10 @@ module _ {V : Type 0} where
 
   abbrev pub dealt_to : TableId → Settings → ℕ → List (PassState V)
   dealt_to table set n = first_after table set n ∷ dealt table set (counting 1 (n - 1))
+
+  -- the first of a list, as it was read
+  pub first_read : (ps : List (PassState V)) (x : PassState V) (qs : List (PassState V)) (p : PassState V) → ps ≡ x ∷ qs → p ≡ get_or ps 0 p → p ≡ x
+  first_read ps x qs p e is = is ∙ ap (λ l. get_or l 0 p) e
 
   as_idle : (w : WordsState) (p : PassState V) (v : View V) → IsPassOf w p → IsIdle p → p.view ≡ v → p ≡ record { table = w.table; view = v; stripes = [] }
   as_idle w p v own idle e = λ i. record { table = own.0 i; view = e i; stripes = idle.0 i }

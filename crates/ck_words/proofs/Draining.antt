@@ -1,5 +1,5 @@
 -- Stripes are taken out of the slots of a seat, and poured.
-use Rattle.std.proofs.Common.{◌≡◌, ℕ, suc, ◌+◌, ◌<◌, ◌≤◌, List, [], ◌∷◌, ◌++◌, map, length, get_or, take, drop, drop-cons, add-one, append-nil, append_assoc, length-append, refl, sym, ap, ◌∙◌, arith, Some, None}
+use Rattle.std.proofs.Common.{◌≡◌, ℕ, suc, ◌+◌, ◌<◌, ◌≤◌, List, [], ◌∷◌, ◌++◌, map, length, get_or, take, drop, drop-cons, add-one, append-nil, append_assoc, length-append, sym, ap, ◌∙◌, arith, Some, None}
 use Rattle.std.specs.Prelude.{flat_map}
 use Rattle.std.proofs.lemmas.List.{length-map, get_or-map, take_more}
 use Rattle.std.proofs.lemmas.Grind.{flat_map-append}
@@ -31,14 +31,22 @@ module _ {V : Type 0} where
   left_front : (i : ℕ) (ss : List (StripeState V)) (ms : List (ℕ × Slot V)) (h : HasLeft i ss ms) → i < length ss → ms ≡ slot_of (stripe_at ss i) ∷ (map slot_of (drop (suc i) ss) ++ h.0)
   left_front i ss ms h l = h.1 ∙ ap (λ (l : List (StripeState V)). map slot_of l ++ h.0) (drop-cons ss i no_stripe l)
 
-  -- the number of the stripe that was read
-  number_read : (i : ℕ) (ss : List (StripeState V)) (ns : List ℕ) (t : ℕ) → numbers_of ss ≡ ns → i < length ss → t ≡ get_or ns i t → (stripe_at ss i).number ≡ t
-  number_read i ss ns t e l is = sym (get_or-map (λ (s : StripeState V). s.number) ss i no_stripe t l) ∙ (ap (λ l. get_or l i t) e ∙ sym is)
+  -- the number of the stripe
+  number_there : (i : ℕ) (ss : List (StripeState V)) (ns : List ℕ) → numbers_of ss ≡ ns → i < length ss → (stripe_at ss i).number ≡ get_or ns i 0
+  number_there i ss ns e l = sym (get_or-map (λ (s : StripeState V). s.number) ss i no_stripe 0 l) ∙ ap (λ l. get_or l i 0) e
 
-  pub front_slot : (i : ℕ) (ss : List (StripeState V)) (ms : List (ℕ × Slot V)) (ns : List ℕ) (t : ℕ) → HasLeft i ss ms → numbers_of ss ≡ ns → i < length ss → t ≡ get_or ns i t → ms ≡ (t, Some (stripe_at ss i)) ∷ rest ms
-  front_slot i ss ms ns t h e l is =
+  pub front_slot : (i : ℕ) (ss : List (StripeState V)) (ms : List (ℕ × Slot V)) (ns : List ℕ) → HasLeft i ss ms → numbers_of ss ≡ ns → i < length ss → ms ≡ (get_or ns i 0, Some (stripe_at ss i)) ∷ rest ms
+  front_slot i ss ms ns h e l =
       let f = left_front i ss ms h l in
-      f ∙ (λ j. (number_read i ss ns t e l is j, Some (stripe_at ss i)) ∷ rest (sym f j))
+      f ∙ (λ j. (number_there i ss ns e l j, Some (stripe_at ss i)) ∷ rest (sym f j))
+
+  -- what was in the first slot
+  pub came_out : (ms : List (ℕ × Slot V)) (t : ℕ) (s : StripeState V) (o : Slot V) → ms ≡ (t, Some s) ∷ rest ms → ms ≡ (t, o) ∷ rest ms → o ≡ Some s
+  came_out ms t s o is found = ap first (sym found ∙ is)
+    where
+      first : List (ℕ × Slot V) → Slot V
+      first [] = None
+      first (x ∷ xs) = x.1
 
   pub still_left : (i : ℕ) (ss : List (StripeState V)) (ms ms2 ms3 : List (ℕ × Slot V)) (t : ℕ) → HasLeft i ss ms → i < length ss → ms2 ≡ (t, None) ∷ rest ms → ms3 ≡ turned ms2 → HasLeft (i + 1) ss ms3
   still_left i ss ms ms2 ms3 t h l emptied after =

@@ -1,7 +1,5 @@
 -- What a table leaves at its end.
-use Rattle.std.proofs.Common.{◌≡◌, ℕ, ◌^◌, ◌<◌, List, [], ◌∷◌, ◌++◌, reverse, map, refl, sym, ap, ◌∙◌, subst, Some}
-use Rattle.std.specs.Prelude.{All}
-use Rattle.std.specs.List.{AllZip}
+use Rattle.std.proofs.Common.{◌≡◌, ℕ, ◌^◌, ◌<◌, ◌≤◌, List, [], ◌∷◌, ◌++◌, length, reverse, refl, sym, ap, ◌∙◌, subst, arith, Some}
 use Rattle.std.specs.Option.{unwrap_or}
 use Rattle.std.specs.FinMap.{from_entries}
 use Rattle.std.proofs.lemmas.List.Elements.{All-push, All-pop, AllZip-push}
@@ -12,15 +10,20 @@ use Rattle.ck_model.specs.History.{After, StartsWith}
 use Rattle.ck_model.specs.Contents.{Layout, Stripes, pairs_of, bindings, Lawful, NamesApart}
 use Rattle.ck_model.proofs.Counted.{names_apart}
 use Rattle.ck_section.specs.Stripes.{contents_of}
-use Rattle.ck_words.specs.Rule.{counting, layout_of}
+use Rattle.ck_words.specs.Rule.{layout_of}
 use Rattle.ck_words.specs.Words.{WordsState}
 use Rattle.ck_words.specs.Passes.{PassState, IsPassOf, IsIdle}
 use Rattle.ck_words.specs.Retries.{Stays}
-use Rattle.ck_words.specs.Closing.{IsWhole, number_of, parts_of, IsCaller, AreAllPasses, EachStays, EachSaw, gathered, Gathered, Closes}
+use Rattle.ck_words.specs.Closing.{IsWhole, number_of, parts_of, IsCaller, AreAllPasses, EachStays, gathered, Gathered, Closes}
 use Rattle.ck_words.proofs.Reversed.{map-append, in_of_reverse, lawful_reverse, bindings-reverse}
 use Rattle.ck_words.proofs.Staying.{starts_on, stays_same}
 use Rattle.ck_words.proofs.AllHeld.{in_counting, numbers-contents}
 use Rattle.ck_words.proofs.Joining.{owned_numbers, shuffled}
+
+-- a table has a pass
+pub some_pass : {V : Type 0} (w : WordsState) (ps : List (PassState V)) → 1 ≤ w.settings.callers → AreAllPasses w ps → ¬ (length ps ≡ 0)
+some_pass w [] some all none = all.all 0 some
+some_pass w (p ∷ ps) some all none = omega arith
 
 module _ {V : Type 0} (w : WordsState) (os : List (PassState V)) (p p1 : PassState V) (all : AreAllPasses w (os ++ p ∷ [])) (stays : Stays p.view p1.view) where
   last_caller : IsCaller w p

@@ -1,50 +1,23 @@
 -- Passes are joined to one, which then has the numbers of all.
-use Rattle.std.proofs.Common.{◌≡◌, ◌⊎◌, ℕ, List, [], ◌∷◌, ◌++◌, map, append-nil, append_assoc, refl, sym, ap, ◌∙◌, subst, ⊎_elim, inl, inr, Option, Some}
+use Rattle.std.proofs.Common.{◌≡◌, ◌⊎◌, ℕ, List, [], ◌∷◌, ◌++◌, refl, sym, ap, ◌∙◌, subst, ⊎_elim, inl, inr, Some}
 use Rattle.std.specs.Prelude.{All}
 use Rattle.std.specs.Option.{unwrap_or}
 use Rattle.std.proofs.lemmas.List.Elements.{All-nil, All-head, All-tail, All-push, All-pop, All-weaker}
 use Rattle.ck_model.specs.declared.history.Entry.{Entry}
-use Rattle.ck_model.specs.declared.settings.Settings.{Settings}
 use Rattle.ck_model.specs.Map.{Name}
 use Rattle.ck_model.specs.Numbered.{IsIn, numbers, Holds}
 use Rattle.ck_model.specs.History.{StartsWith, IsShuffle}
 use Rattle.ck_model.proofs.Numbered.{held_either, held_first, held_second, in_either, in_first, in_second, in_held, held_of_in}
 use Rattle.ck_model.proofs.Histories.{starts_itself}
-use Rattle.ck_stripe.specs.Stripe.{StripeState}
 use Rattle.ck_core.specs.declared.view.View.{View}
 use Rattle.ck_core.specs.State.{own, owned}
-use Rattle.ck_core.specs.Steps.{joining}
-use Rattle.ck_core.specs.Laws.{Shows}
-use Rattle.ck_words.specs.Rule.{layout_of}
 use Rattle.ck_words.specs.Words.{WordsState}
-use Rattle.ck_words.specs.Passes.{PassState, IsPassOf, ShowsSeen, Looked}
+use Rattle.ck_words.specs.Passes.{PassState, IsPassOf, ShowsSeen}
 use Rattle.ck_words.specs.Closing.{number_of, parts_of, IsCaller, gathered, Gathers, Gathered}
 use Rattle.ck_words.proofs.Staying.{starts_on}
 use Rattle.ck_words.proofs.Reversed.{map-append}
 
 module _ {V : Type 0} where
-  -- a look after a join
-  module _ (hash : Name → ℕ) (set : Settings) (p o : PassState V) where
-    abbrev pub joined : PassState V
-    joined = record p { view = joining p.view o.view }
-
-    looked_joined : (q : PassState V) → Looked hash set joined q → Gathers hash set p o q
-    looked_joined q k =
-        let seen : q.view.seen ≡ k.0 = ap (λ (x : PassState V). x.view.seen) k.5 in
-        record {
-          by = ap (λ (x : PassState V). x.view.by) k.5;
-          mine = ap (λ (x : PassState V). x.view.mine) k.5;
-          others = ap (λ (x : PassState V). x.view.others) k.5;
-          held = ap (λ (x : PassState V). x.view.held) k.5;
-          stripes = ap (λ (x : PassState V). x.stripes) k.5;
-          seen = subst (λ log. StartsWith log p.view.seen) (sym seen) k.2.0.seen;
-          heard = subst (λ log. StartsWith log o.view.seen) (sym seen) k.2.0.heard;
-          shows = subst (λ log. Shows (layout_of hash set) set.callers log q.view) (sym seen) k.2.1;
-        }
-
-    pub gathers : (r q : PassState V) → r ≡ joined → Looked hash set r q → Gathers hash set p o q
-    gathers r q is k = looked_joined q (subst (λ x. Looked hash set x q) is k)
-
   gathered-more : (os : List (PassState V)) (o : PassState V) (l : List (ℕ × List (Entry V))) → gathered (os ++ o ∷ []) l ≡ owned o.view ++ gathered os l
   gathered-more [] o l = refl
   gathered-more (x ∷ os) o l = gathered-more os o (owned x.view ++ l)

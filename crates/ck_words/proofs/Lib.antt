@@ -8,7 +8,6 @@ pub mod Staying
 pub mod Turning
 pub mod Starting
 pub mod Meets
-pub mod OneStripe
 pub mod Settling
 pub mod AllHeld
 pub mod Joining

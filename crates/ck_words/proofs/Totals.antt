@@ -1,5 +1,5 @@
 -- How many entries a pass holds that has all stripes.
-use Rattle.std.proofs.Common.{◌≡◌, ℕ, zero, suc, ◌+◌, ◌*◌, ◌^◌, ◌<◌, ◌≤◌, true, List, [], ◌∷◌, length, length-append, add-one, refl, sym, ap, ◌∙◌, subst, inl, inr, arith}
+use Rattle.std.proofs.Common.{◌≡◌, ℕ, zero, suc, ◌+◌, ◌*◌, ◌^◌, ◌≤◌, true, List, [], ◌∷◌, length, length-append, add-one, refl, sym, ap, ◌∙◌, subst, inl, inr, arith}
 use Rattle.std.proofs.Math.Nat.{pow-le-pow_right}
 use Rattle.ck_model.specs.declared.settings.Settings.{Settings}
 use Rattle.ck_model.specs.declared.contents.Content.{Content}
@@ -11,7 +11,7 @@ use Rattle.ck_stripe.specs.Stripe.{StripeState, IsShaped}
 use Rattle.ck_stripe.proofs.Writes.{few_entries}
 use Rattle.ck_section.specs.Stripes.{stripe_at, contents_of}
 use Rattle.ck_words.specs.Rule.{counting, layout_of}
-use Rattle.ck_words.specs.Passes.{PassState, numbers_of}
+use Rattle.ck_words.specs.Passes.{PassState, IsUnchanged, ShowsSeen, numbers_of}
 use Rattle.ck_words.specs.Closing.{IsWhole, settled_stripes}
 use Rattle.ck_words.proofs.Reversed.{lawful_reverse}
 
@@ -57,23 +57,31 @@ module _ {V : Type 0} where
   small_each (s ∷ ss) small zero = small s.number s.content (inl (refl, refl))
   small_each (s ∷ ss) small (suc i) = small_each ss (λ t c h. small t c (inr h)) i
 
-  length-numbers : (ss : List (StripeState V)) → length (numbers_of ss) ≡ length ss
+  pub length-numbers : (ss : List (StripeState V)) → length (numbers_of ss) ≡ length ss
   length-numbers [] = refl
   length-numbers (s ∷ ss) = ap suc (length-numbers ss)
 
   -- settled stripes contain the same
-  pub contents-settled : (ss : List (StripeState V)) → contents_of (settled_stripes ss) ≡ contents_of ss
+  contents-settled : (ss : List (StripeState V)) → contents_of (settled_stripes ss) ≡ contents_of ss
   contents-settled [] = refl
   contents-settled (s ∷ ss) = ap {B = Stripes V} (λ l. (s.number, s.content) ∷ l) (contents-settled ss)
 
-  pub numbers-settled : (ss : List (StripeState V)) → numbers_of (settled_stripes ss) ≡ numbers_of ss
+  numbers-settled : (ss : List (StripeState V)) → numbers_of (settled_stripes ss) ≡ numbers_of ss
   numbers-settled [] = refl
   numbers-settled (s ∷ ss) = ap {B = List ℕ} (λ l. s.number ∷ l) (numbers-settled ss)
 
-  pub each_settled : (ss : List (StripeState V)) (i : ℕ) → (stripe_at (settled_stripes ss) i).settled ≡ true
+  each_settled : (ss : List (StripeState V)) (i : ℕ) → (stripe_at (settled_stripes ss) i).settled ≡ true
   each_settled [] i = refl
   each_settled (s ∷ ss) zero = refl
   each_settled (s ∷ ss) (suc i) = each_settled ss i
+
+  pub whole_settled : (hash : Name → ℕ) (set : Settings) (p q : PassState V) → numbers_of p.stripes ≡ counting 0 (2 ^ set.s) → IsUnchanged p → ShowsSeen hash set p → q ≡ record p { stripes = settled_stripes p.stripes } → IsWhole hash set q
+  whole_settled hash set p q all unchanged shows is = subst (IsWhole hash set) (sym is) (record {
+    all = numbers-settled p.stripes ∙ all;
+    unchanged = contents-settled p.stripes ∙ unchanged;
+    settled = each_settled p.stripes;
+    shows = shows;
+  })
 
   module _ (hash : Name → ℕ) (set : Settings) (p : PassState V) (whole : IsWhole hash set p) where
     abbrev k : Layout

@@ -2,6 +2,7 @@
 #![tactic(auto)]
 
 mod answers;
+mod close;
 mod holding;
 mod law;
 mod lent;

@@ -1,11 +1,12 @@
-//! How a table and its first pass begin, and how further passes are dealt.
+//! How a table and its passes begin.
 ghost use Rattle.std.specs.Prelude.{◌≡◌, ◌≤◌, ◌^◌, [], ◌∷◌, ℕ, IfOk, OnErr, List};
 ghost use Rattle.ck_model.specs.Ranges.{AreInRange};
 ghost use Rattle.ck_model.specs.declared.history.Entry.{Entry};
-ghost use Rattle.ck_words.specs.Rule.{first_view};
+ghost use Rattle.ck_words.specs.Rule.{first_view, counting};
 ghost use Rattle.ck_words.specs.Plays.{opened, begun};
 ghost use Rattle.ck_words.specs.Opening.{fresh_slots};
 ghost use Rattle.ck_words.specs.Passes.{IsPassOf, IsIdle};
+ghost use Rattle.ck_words.specs.Closing.{dealt, AreAllPasses};
 
 use crate::law::Open;
 use crate::pass::Pass;
@@ -51,6 +52,27 @@ impl<K: TableKey + Drop, V: Drop> Words<K, V> {
             return Err(AllocError);
         };
         Ok((Words { table, settings }, Pass { seat, taken }))
+    }
+
+    /// A table of empty stripes, and the passes of all callers in the order of their numbers. They have seen nothing. It
+    /// is refused only for want of memory.
+    pub fn open_all(
+        alloc: Global,
+        settings: Settings,
+    ) -> Result<(Words<K, V>, Vec<Pass<K, V>>), AllocError>
+        requires { AreInRange settings }
+        ensures settings { IfOk result (λ r. r.0.settings ≡ settings) }
+        ensures passes { IfOk result (λ r. r.1.items ≡ dealt r.0.table settings (counting 0 settings.callers)) }
+        ensures all { IfOk result (λ r. AreAllPasses r.0 r.1.items) }
+    {
+        let mut passes = Vec::with_capacity(alloc, settings.callers as usize)?;
+        let (words, first) = Words::open(alloc, settings)?;
+        passes.push(first)?;
+        for _i in 1..settings.callers {
+            let pass = words.deal(alloc, &mut passes[0])?;
+            passes.push(pass)?;
+        }
+        Ok((words, passes))
     }
 
     /// One more pass, with the first of the numbers that the pass `first` keeps. It has seen nothing, and was told the

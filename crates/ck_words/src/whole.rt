@@ -1,10 +1,11 @@
 //! All stripes that a pass holds, and all that there are.
-ghost use Rattle.std.specs.Prelude.{◌≡◌, ◌<◌, ◌^◌, true, length, slice_set, OnOk, IfErr};
-ghost use Rattle.ck_section.specs.Stripes.{stripe_at};
+ghost use Rattle.std.specs.Prelude.{◌≡◌, ◌<◌, ◌≤◌, ◌^◌, true, length, slice_set, OnOk, IfErr};
+ghost use Rattle.ck_model.specs.Contents.{pairs_of};
+ghost use Rattle.ck_section.specs.Stripes.{stripe_at, contents_of};
 ghost use Rattle.ck_words.specs.Rule.{counting};
 ghost use Rattle.ck_words.specs.Passes.{IsPassOf, IsIdle, IsUnchanged, ShowsSeen, numbers_of};
 ghost use Rattle.ck_words.specs.Retries.{Stays, IsBusy};
-ghost use Rattle.ck_words.specs.Closing.{settled_stripes};
+ghost use Rattle.ck_words.specs.Closing.{settled_stripes, IsWhole};
 
 use crate::pass::Pass;
 use crate::slots;
@@ -53,5 +54,30 @@ impl<K: TableKey + Drop, V: Drop> Words<K, V> {
         ensures settled { pass.new ≡ record pass.old { stripes = slice_set pass.old.stripes i (record (stripe_at pass.old.stripes i) { settled = true }) } }
     {
         slots::settle_at(&self.table.shared, &mut pass.seat, pass.taken.as_slice(), i);
+    }
+
+    // The number of entries of all stripes.
+    pub(crate) fn entries(&self, pass: &mut Pass<K, V>) -> usize
+        requires own { IsPassOf self.now pass.old }
+        requires whole { IsWhole K.hash self.now.settings pass.old }
+        ensures same { pass.new ≡ pass.old }
+        ensures value { result ≡ length (pairs_of (contents_of pass.old.stripes)) }
+        ensures few { result ≤ 2 ^ 38 }
+    {
+        let mut entries = 0;
+        for i in 0..self.table.slot_count() {
+            entries += self.entries_of(pass, i) as usize;
+        }
+        entries
+    }
+
+    // The number of entries of stripe `i` of those that the pass holds.
+    fn entries_of(&self, pass: &mut Pass<K, V>, i: usize) -> u64
+        requires own { IsPassOf self.now pass.old }
+        requires inside { i < length pass.old.stripes }
+        ensures value { result ≡ (stripe_at pass.old.stripes i).content.ledger }
+        ensures same { pass.new ≡ pass.old }
+    {
+        slots::len_at(&self.table.shared, &mut pass.seat, pass.taken.as_slice(), i)
     }
 }

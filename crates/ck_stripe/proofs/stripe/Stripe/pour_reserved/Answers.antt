@@ -1,10 +1,10 @@
-use Rattle.std.proofs.Common.{◌≡◌, ◌+◌, ◌<◌, ◌≤◌, ◌++◌, List, sym, ◌∙◌, ap, flat_map, length, map, take, arith, rules}
-use Rattle.std.specs.Prelude.{vec_len, vec_capacity}
+use Rattle.std.proofs.Common.{◌+◌, ◌<◌, ◌≤◌, ◌++◌, sym, ◌∙◌, ap, flat_map, length, map, arith}
+use Rattle.std.specs.Prelude.{vec_capacity}
 use Rattle.std.proofs.lemmas.List.{flat_map_more, map-id}
 use Rattle.std.proofs.lemmas.Iterator.Adapters.{YieldsList-from_vec}
 use Rattle.std.proofs.lemmas.Iterator.Consumers.{YieldsList-so_far, YieldsList-end, YieldsList-turn}
 use Rattle.ck_model.specs.Map.{named}
-use Rattle.ck_model.specs.Slots.{Slot, taken_in}
+use Rattle.ck_model.specs.Slots.{taken_in}
 use Rattle.ck_stripe.specs.Stripe.{StripeState, state_from}
 use Rattle.ck_stripe.proofs.Fields.{now_stored}
 use Rattle.ck_stripe.proofs.Pouring.{room_left}

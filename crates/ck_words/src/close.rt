@@ -1,0 +1,142 @@
+//! The end of a table.
+ghost use Rattle.std.specs.Prelude.{◌≡◌, ℕ, ◌+◌, ◌≤◌, ◌++◌, [], true, All, IfNone, IfSome, IfOk, IfErr, length, map, vec_len, vec_capacity};
+ghost use Rattle.ck_model.specs.Map.{named};
+ghost use Rattle.ck_model.specs.Contents.{pairs_of};
+ghost use Rattle.ck_core.specs.Steps.{joining};
+ghost use Rattle.ck_section.specs.Stripes.{stripe_at, contents_of};
+ghost use Rattle.ck_words.specs.Passes.{IsPassOf, IsIdle, ShowsSeen, slot_of, stripes_in, numbers_of};
+ghost use Rattle.ck_words.specs.Retries.{Stays};
+ghost use Rattle.ck_words.specs.Closing.{IsWhole, IsCaller, AreAllPasses, EachStays, Gathers, Gathered, Closes};
+
+use crate::law::{Board, Place, Tell};
+use crate::pass::Pass;
+use crate::words::Words;
+use ck_key::TableKey;
+use std::alloc::Global;
+
+impl<K: TableKey + Drop, V: Drop> Words<K, V> {
+    /// Ends the table, given the passes of all callers, and gives its pairs in the order of their stripes. There is one
+    /// history of all that the callers have done, and these pairs are what it leaves.
+    ///
+    /// It is refused where a stripe was found held, and for want of memory. Then it gives words and passes back, and no
+    /// entry has changed.
+    pub fn close(
+        self,
+        passes: Vec<Pass<K, V>>,
+    ) -> Result<Vec<(K, V)>, (Words<K, V>, Vec<Pass<K, V>>)>
+        requires { AreAllPasses self passes.items }
+        ensures closed { IfOk result (λ pairs. Closes passes.items (map (named K.name) pairs.items)) }
+        ensures words { IfErr result (λ r. r.0 ≡ self) }
+        ensures passes { IfErr result (λ r. AreAllPasses self r.1.items) }
+        ensures stays { IfErr result (λ r. EachStays passes.items r.1.items) }
+    {
+        // Its fields show that the table has a caller, and so a pass.
+        let _ = &self.table;
+        let alloc = *passes.allocator();
+        let mut others = passes;
+        let Some(mut pass) = others.pop() else {
+            unreachable!()
+        };
+        let Some(pairs) = self.hold_with_room(alloc, &mut pass) else {
+            others.push_reserved(pass);
+            return Err((self, others));
+        };
+        self.gather_all(&mut pass, others);
+        Ok(self.pour(pass, pairs))
+    }
+
+    // Takes all stripes, with no doubling left to carry out, and memory for their pairs. Where it is refused one of
+    // them, the pass holds none.
+    fn hold_with_room(&self, alloc: Global, pass: &mut Pass<K, V>) -> Option<Vec<(K, V)>>
+        requires own { IsPassOf self.now pass.old }
+        requires idle { IsIdle pass.old }
+        ensures own { IsPassOf self.now pass.new }
+        ensures stays { Stays pass.old.view pass.new.view }
+        ensures idle { IfNone result (IsIdle pass.new) }
+        ensures whole { IfSome result (λ _. IsWhole K.hash self.now.settings pass.new) }
+        ensures empty { IfSome result (λ pairs. pairs.items ≡ []) }
+        ensures room { IfSome result (λ pairs. length (pairs_of (contents_of pass.new.stripes)) + 4 ≤ vec_capacity pairs) }
+    {
+        let Ok(()) = self.hold_all(pass) else {
+            return None;
+        };
+        self.settle_all(pass);
+        // A bucket is poured where there is room for four more.
+        let room = self.entries(pass) + 4;
+        let Ok(pairs) = Vec::with_capacity(alloc, room) else {
+            self.release(pass);
+            return None;
+        };
+        Some(pairs)
+    }
+
+    /// Joins an idle pass to another, which has then heard what it has seen, and keeps its numbers.
+    pub(crate) fn join(&self, first: &mut Pass<K, V>, other: Pass<K, V>)
+        requires own { IsPassOf self.now first.old × IsPassOf self.now other }
+        requires idle { IsIdle other }
+        ensures own { IsPassOf self.now first.new }
+        ensures joined { first.new ≡ record first.old { view = joining first.old.view other.view } }
+    {
+        let Pass { seat, taken: _ } = other;
+        self.table.shared.join_seat::<Tell>(&mut first.seat, seat);
+    }
+
+    // Joins an idle pass to another, which then sees the history.
+    fn gather(&self, first: &mut Pass<K, V>, other: Pass<K, V>)
+        requires own { IsPassOf self.now first.old × IsPassOf self.now other }
+        requires idle { IsIdle other }
+        ensures own { IsPassOf self.now first.new }
+        ensures step { Gathers K.hash self.now.settings first.old other first.new }
+    {
+        self.join(first, other);
+        self.look(first);
+    }
+
+    // Joins idle passes to another, one after another.
+    fn gather_all(&self, first: &mut Pass<K, V>, others: Vec<Pass<K, V>>)
+        requires own { IsPassOf self.now first.old }
+        requires shows { ShowsSeen K.hash self.now.settings first.old }
+        requires callers { All (IsCaller self.now) others.items }
+        ensures { Gathered K.hash self.now first.old others.items first.new }
+    {
+        for other in others {
+            self.gather(first, other);
+        }
+    }
+
+    // Pours the pairs of all stripes that the pass holds.
+    fn pour(&self, pass: Pass<K, V>, mut pairs: Vec<(K, V)>) -> Vec<(K, V)>
+        requires own { IsPassOf self.now pass }
+        requires settled { (i : ℕ) → (stripe_at pass.stripes i).settled ≡ true }
+        requires empty { pairs.items ≡ [] }
+        requires room { length (pairs_of (contents_of pass.stripes)) + 4 ≤ vec_capacity pairs }
+        ensures { map (named K.name) result.items ≡ pairs_of (contents_of pass.stripes) }
+    {
+        let Pass { mut seat, taken } = pass;
+        drain(&self.table.shared, &mut seat, taken.as_slice(), &mut pairs);
+        pairs
+    }
+}
+
+// Takes the stripes out of the slots of a seat, which keeps the slots with nothing in them, and pours their pairs.
+fn drain<K: TableKey + Drop, V: Drop>(
+    shared: &Board<K, V>,
+    seat: &mut Place<K, V>,
+    taken: &[usize],
+    pairs: &mut Vec<(K, V)>,
+)
+    requires own { seat.old.table_id ≡ shared.now.table_id }
+    requires full { seat.old.me.1 ≡ map slot_of (stripes_in seat.old.me.1) }
+    requires numbered { numbers_of (stripes_in seat.old.me.1) ≡ taken.now }
+    requires settled { (i : ℕ) → (stripe_at (stripes_in seat.old.me.1) i).settled ≡ true }
+    requires room { vec_len pairs.old + length (pairs_of (contents_of (stripes_in seat.old.me.1))) + 4 ≤ vec_capacity pairs.old }
+    ensures { map (named K.name) pairs.new.items ≡ map (named K.name) pairs.old.items ++ pairs_of (contents_of (stripes_in seat.old.me.1)) }
+{
+    for &t in taken {
+        let Some(stripe) = shared.exchange(seat, t, None) else {
+            unreachable!()
+        };
+        seat.turn();
+        stripe.pour_reserved(pairs);
+    }
+}
