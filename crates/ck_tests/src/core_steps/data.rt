@@ -47,7 +47,8 @@ pub struct ViewData {
     pub mine: &'static [Said],
     pub told: u64,
     pub found: &'static [u64],
-    pub noroom: &'static [Grounds],
+    // The one name that found no room, if there is one.
+    pub noroom: Option<Grounds>,
     pub heard: &'static [Said],
     pub heard_told: u64,
     // Numbers that have no entries.
@@ -90,7 +91,7 @@ pub enum Change {
     Mine(usize, &'static [Said]),
     Told(usize, u64),
     Found(usize, &'static [u64]),
-    NoRoom(usize, &'static [Grounds]),
+    NoRoom(usize, Grounds),
     Heard(usize, &'static [Said], u64),
     Others(usize, &'static [u64]),
 }
@@ -142,7 +143,7 @@ fn view(settings: Settings, by: Option<u64>, told: u64, others: &'static [u64]) 
         mine: &[],
         told,
         found: &[],
-        noroom: &[],
+        noroom: None,
         heard: &[],
         heard_told: 0,
         others,
@@ -171,7 +172,10 @@ fn change_view(view: ViewData, change: Change) -> ViewData {
         Change::Mine(_, mine) => ViewData { mine, ..view },
         Change::Told(_, told) => ViewData { told, ..view },
         Change::Found(_, found) => ViewData { found, ..view },
-        Change::NoRoom(_, noroom) => ViewData { noroom, ..view },
+        Change::NoRoom(_, said) => ViewData {
+            noroom: Some(said),
+            ..view
+        },
         Change::Heard(_, heard, heard_told) => ViewData {
             heard,
             heard_told,

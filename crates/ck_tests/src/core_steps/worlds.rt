@@ -89,10 +89,10 @@ fn reason(alloc: Global, (key, reason): Grounds) -> Result<(Name, Why), AllocErr
     Ok((name(alloc, key)?, why))
 }
 
-fn reasons(alloc: Global, grounds: &[Grounds]) -> Result<Vec<(Name, Why)>, AllocError> {
+fn reasons(alloc: Global, said: Option<Grounds>) -> Result<Vec<(Name, Why)>, AllocError> {
     let mut reasons = Vec::new(alloc);
-    for one in grounds {
-        reasons.push(reason(alloc, *one)?)?;
+    if let Some(one) = said {
+        reasons.push(reason(alloc, one)?)?;
     }
     Ok(reasons)
 }
