@@ -35,5 +35,5 @@ returns-clause-bound g c =
       c.remove.result.1,
       c.if-not-read.ensures.read (g.K.TableKey.name c.remove.result.0) c.remove.result.1 (ap (λ (l : List (StripeState g.row.V.Denot)). slot_at (bucket_at l at.index at.bucket) at.slot) (sym c.read.ensures.same) ∙ c.remove.ensures.entry),
       (took hash stripes name c.args.place c.requires.place (g.H.Held.stripes c.read.new.self) (c.read.ensures.same ∙ c.find_entry.ensures.same) at c.in_ok-at.ensures.slot p refl c.in_ok-at.ensures.found
-      Erase (λ (v : g.row.V.Denot). Was (Some v)) _ c.remove.result.1 _ (λ w. (refl, refl)) c.remove.ensures.entry c.remove.ensures.content).0,
+          Erase (λ (v : g.row.V.Denot). Was (Some v)) _ c.remove.result.1 _ (λ w. (refl, refl)) c.remove.ensures.entry c.remove.ensures.content).0,
     )
