@@ -2,6 +2,8 @@
 #![tactic(auto)]
 
 #[cfg(test)]
+mod closing;
+#[cfg(test)]
 mod core_steps;
 #[cfg(test)]
 mod definitions;

@@ -24,7 +24,7 @@ const SETTINGS: Settings = Settings {
 };
 
 /// All memory that is left, in blocks from large to small.
-fn hoard(alloc: Global) -> Result<Vec<Vec<u8>>, AllocError> {
+pub(crate) fn hoard(alloc: Global) -> Result<Vec<Vec<u8>>, AllocError> {
     let mut blocks = Vec::with_capacity(alloc, BLOCKS)?;
     let mut size = 1usize << 46;
     for _ in 0..43 {
@@ -43,7 +43,7 @@ fn hoard(alloc: Global) -> Result<Vec<Vec<u8>>, AllocError> {
 }
 
 /// A block that leaves this many bytes of `MOST`.
-fn all_but(alloc: Global, free: usize) -> Result<Vec<u8>, AllocError> {
+pub(crate) fn all_but(alloc: Global, free: usize) -> Result<Vec<u8>, AllocError> {
     Vec::with_capacity(alloc, MOST.saturating_sub(free))
 }
 
