@@ -18,7 +18,7 @@ mod whole;
 pub use held::Held;
 pub use hop::{Hop, move_entry};
 pub use look::key_place;
-pub use one_key::{NoRoom, assign, change, erase, find, insert, update, upsert};
+pub use one_key::{NoRoom, assign, change, erase, erase_if, find, insert, update, upsert};
 pub use pair::Pair;
 pub use place::{Answer, HeldBucket, HeldSlot, KeyPlace, Place};
 pub use several::Several;

@@ -153,6 +153,31 @@ pub fn erase<K: TableKey + Drop, V: Drop, H: Held<K, V>>(
     })
 }
 
+/// Unbinds a bound key where the closure answers true for its value, and gives what the closure answers; `None` where the
+/// key is unbound, and then the closure is not called.
+pub fn erase_if<K: TableKey + Drop, V: Drop, H: Held<K, V>, F: FnOnce(&V) -> bool>(
+    held: &mut H,
+    place: KeyPlace,
+    key: &K,
+    f: F,
+) -> Option<bool>
+where
+    F: Drop,
+    requires place { IsPlaceOf K.hash (H.stripes held.old) (K.name key.now) place }
+    requires call { F.IsAlwaysCallable f }
+    ensures bound { IfSome result (λ gone. (v : V) × FnOnceReturnsAt F.FnOnce f v gone × MatchBool gone (IsCall K.hash place.s (H.stripes held.old) (K.name key.now) Erase (Was (Some v)) (H.stripes held.new)) (IsCall K.hash place.s (H.stripes held.old) (K.name key.now) Find (Was (Some v)) (H.stripes held.new) × (H.stripes held.new ≡ H.stripes held.old))) }
+    ensures unbound { IfNone result (IsCall K.hash place.s (H.stripes held.old) (K.name key.now) Find (Was None) (H.stripes held.new) × (H.stripes held.new ≡ H.stripes held.old)) }
+    ensures rest { ChangesContents (H.stripes held.old) (H.stripes held.new) }
+    ensures stays { H.stays held.old held.new }
+{
+    let at = find_entry(held, place, key)?;
+    if !held.read(at.index, at.bucket, at.slot, f) {
+        return Some(false);
+    }
+    held.remove(at.index, at.bucket, at.slot);
+    Some(true)
+}
+
 /// Binds a bound key to what the closure makes of its value, and gives the place of the entry; `None` where the key is
 /// unbound, and then the closure is not called.
 pub fn change<K: TableKey + Drop, V: Drop, H: Held<K, V>, F: FnOnce(V) -> V>(
