@@ -3,3 +3,4 @@ pub mod Permuted
 pub mod Doubled
 pub mod Fields
 pub mod Writes
+mod Pouring

@@ -1,7 +1,8 @@
 //! One stripe of the table. A doubling only raises the power, and the entries are moved by whoever looks into the stripe
 //! next, so that a table doubles without going through its entries.
-ghost use Rattle.std.specs.Prelude.{◌≡◌, ◌≤◌, ◌<◌, ◌+◌, ◌-◌, ◌*◌, ◌/◌, ◌^◌, ℕ, true, false, Some, None, IsSome, IfOk, OnOk, OnErr, length, max, vec_capacity};
+ghost use Rattle.std.specs.Prelude.{◌≡◌, ◌≤◌, ◌<◌, ◌+◌, ◌-◌, ◌*◌, ◌/◌, ◌^◌, ℕ, true, false, Some, None, IsSome, IfOk, OnOk, OnErr, ◌++◌, length, map, max, vec_len, vec_capacity};
 ghost use Rattle.std.specs.List.Sorted.{IsPermutation};
+ghost use Rattle.ck_model.specs.Map.{named};
 ghost use Rattle.ck_model.specs.Slots.{slot_at};
 ghost use Rattle.ck_model.specs.Contents.{Layout, pairs_in, IsSound};
 ghost use Rattle.ck_bucket.specs.Bucket.{ReplacesValue};
@@ -206,6 +207,26 @@ impl<K: TableKey + Drop, V: Drop> Stripe<K, V> {
         if !self.settled {
             split_all(&mut self.buckets, self.s, self.number, self.power - 1);
             self.settled = true;
+        }
+    }
+
+    /// Pushes its pairs, in the order of rows and slots, into reserved room for them and for four more.
+    pub fn pour_reserved(self, pairs: &mut Vec<(K, V)>)
+        requires settled { self.settled ≡ true }
+        requires room { vec_len pairs.old + length (pairs_in self.content) + 4 ≤ vec_capacity pairs.old }
+        ensures pairs { map (named K.name) pairs.new.items ≡ map (named K.name) pairs.old.items ++ pairs_in self.content }
+        ensures capacity { vec_capacity pairs.new ≡ vec_capacity pairs.old }
+    {
+        let Stripe {
+            buckets,
+            power: _,
+            s: _,
+            ledger: _,
+            number: _,
+            settled: _,
+        } = self;
+        for bucket in buckets {
+            bucket.pour_reserved(pairs);
         }
     }
 }

@@ -8,3 +8,13 @@ pub mod Staying
 pub mod Turning
 pub mod Starting
 pub mod Meets
+pub mod OneStripe
+pub mod Settling
+pub mod AllHeld
+pub mod Joining
+pub mod Totals
+pub mod Draining
+pub mod Dealt
+pub mod Ending
+pub mod Replying
+pub mod AreHeld

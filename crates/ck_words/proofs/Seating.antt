@@ -36,7 +36,7 @@ module _ {V : Type 0} where
   stripes-slots [] = refl
   stripes-slots (s ∷ ss) = ap {B = List (StripeState V)} (λ l. s ∷ l) (stripes-slots ss)
 
-  each_append : (n : ℕ) (xs : List (StripeState V)) (y : StripeState V) → EachOf n xs → y.s ≡ n → EachOf n (xs ++ y ∷ [])
+  pub each_append : (n : ℕ) (xs : List (StripeState V)) (y : StripeState V) → EachOf n xs → y.s ≡ n → EachOf n (xs ++ y ∷ [])
   each_append n [] y a p = (p, tt)
   each_append n (x ∷ xs) y a p = (a.0, each_append n xs y a.1 p)
 

@@ -126,3 +126,18 @@ module _ {V : Type 0} where
   pub doubled_of : (hash : Name → ℕ) (old here new : StripeState V) → old ≡ here → new ≡ record here { content = new.content; settled = false } → new.content ≡ doubled_content hash here.s here.number here.content
       → new ≡ record old { content = doubled_content hash old.s old.number old.content; settled = false }
   doubled_of hash old here new same rest_is content = rest_is ∙ ((λ j. record here { content = content j; settled = false }) ∙ λ j. record (sym same j) { content = doubled_content hash (sym same j).s (sym same j).number (sym same j).content; settled = false })
+
+  pub room_of : (old here new : StripeState V) → old ≡ here → new ≡ record here { room = new.room } → new ≡ record old { room = new.room }
+  room_of old here new same is = is ∙ λ j. record (sym same j) { room = new.room }
+
+  set-at : (ss : List (StripeState V)) (i : ℕ) (x : StripeState V) → i < length ss → stripe_at (set ss i x) i ≡ x
+  set-at [] i x h = absurd (omega arith)
+  set-at (s ∷ ss) zero x h = refl
+  set-at (s ∷ ss) (suc i) x h = set-at ss i x (omega arith)
+
+  -- the stripe that was put
+  pub put_here : (ms ns : List (ℕ × Slot V)) (i : ℕ) (stripe : StripeState V) → i < length (stripes_in ms) → Puts ms i stripe ns → stripe_at (stripes_in ns) i ≡ stripe
+  put_here ms ns i stripe h p = ap (λ (l : List (StripeState V)). stripe_at l i) p.0 ∙ set-at (stripes_in ms) i stripe h
+
+  pub length-named : (ms : List (ℕ × Slot V)) (ns : List ℕ) → numbers_of (stripes_in ms) ≡ ns → length (stripes_in ms) ≡ length ns
+  length-named ms ns named = sym (length-numbers (stripes_in ms)) ∙ ap length named

@@ -6,3 +6,5 @@ pub mod Retries
 pub mod InPlace
 pub mod Opening
 pub mod Meeting
+pub mod Closing
+pub mod Answering

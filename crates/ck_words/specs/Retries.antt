@@ -1,8 +1,9 @@
 -- What several tries to take stripes leave.
-use Rattle.std.specs.Prelude.{◌≡◌, ℕ, ◌<◌, ◌≤◌, List, ◌++◌, replicate}
+use Rattle.std.specs.Prelude.{◌≡◌, ℕ, ◌<◌, ◌≤◌, List, [], ◌++◌, Some, replicate}
 use Rattle.ck_model.specs.declared.settings.Settings.{Settings}
 use Rattle.ck_model.specs.Map.{Name}
-use Rattle.ck_model.specs.History.{StartsWith}
+use Rattle.ck_model.specs.Numbered.{IsIn}
+use Rattle.ck_model.specs.History.{StartsWith, calls_by}
 use Rattle.ck_core.specs.declared.view.View.{View}
 use Rattle.ck_words.specs.Passes.{PassState, Takes, IsIdle}
 
@@ -15,7 +16,7 @@ module _ {V : Type 0} where
   abbrev pub TakesWithin : (Name → ℕ) → Settings → ℕ → PassState V → PassState V → Type 0
   TakesWithin hash set t p q = (n : ℕ) × (n < set.turns) × Takes hash set t (found_again n t p) q
 
-  -- What no step changes but one that decides or meets: the caller's entries and what it heard, and it has seen and was told no less.
+  -- What no step changes but one that decides or meets: the caller's entries and what it heard, and it has seen and was told no less. What it sees more is by others.
   pub record Stays (v w : View V) : Type 0 where
     pub settings : w.settings ≡ v.settings
     pub by : w.by ≡ v.by
@@ -24,7 +25,12 @@ module _ {V : Type 0} where
     pub heard : (w.heard ≡ v.heard) × (w.heard_told ≡ v.heard_told)
     pub noroom : w.noroom ≡ v.noroom
     pub seen : StartsWith w.seen v.seen
+    pub by_others : (m : ℕ) → v.by ≡ Some m → calls_by m seen.0 ≡ []
     pub told : v.told ≤ w.told
+
+  -- Of all stripes, the pass found such ones held.
+  abbrev pub FindsAmong : (ℕ → Type 0) → PassState V → PassState V → Type 0
+  FindsAmong P p q = (more : List ℕ) × (q.view.found ≡ more ++ p.view.found) × ((t : ℕ) → IsIn t more → P t)
 
   -- The pass holds no stripe. Its last tries all found the stripe t held.
   abbrev pub IsBusy : ℕ → ℕ → PassState V → PassState V → Type 0

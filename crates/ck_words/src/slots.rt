@@ -1,9 +1,11 @@
 //! Work on one of the stripes that a seat holds, in its slot. The seat's slots are turned until that stripe is the first,
 //! and then on until they are in their old order; a seat has no bytes, so a turn costs nothing.
-ghost use Rattle.std.specs.Prelude.{◌≡◌, ℕ, Bool, true, false, ◌+◌, ◌-◌, ◌<◌, ◌∷◌, Some, None, IsSome, IfSome, IfNone, length, map};
+ghost use Rattle.std.specs.Prelude.{◌≡◌, ℕ, Bool, true, false, ◌+◌, ◌-◌, ◌<◌, ◌∷◌, Some, None, IsSome, IfSome, IfNone, OnOk, OnErr, length, map};
+ghost use Rattle.std.specs.Fn.{FnOnceReturnsAt};
 ghost use Rattle.atomic_table.specs.Table.{rest};
 ghost use Rattle.ck_model.specs.declared.contents.Content.{Content};
 ghost use Rattle.ck_model.specs.Arithmetic.{partial_of};
+ghost use Rattle.ck_model.specs.Map.{Name};
 ghost use Rattle.ck_model.specs.Slots.{slot_at, IsFull};
 ghost use Rattle.ck_bucket.specs.Bucket.{HasName, LacksName, partial_in};
 ghost use Rattle.ck_stripe.specs.Doubling.{doubled_content};
@@ -16,6 +18,7 @@ use crate::law::{Board, Place};
 use crate::steps::turn_by;
 use ck_key::TableKey;
 use ck_stripe::Stripe;
+use std::alloc::AllocError;
 
 // Brings stripe `i` to the front, and gives its number.
 fn bring<K: TableKey, V>(seat: &mut Place<K, V>, taken: &[usize], i: usize) -> usize
@@ -66,6 +69,26 @@ fn sketch_in<K: TableKey + Drop, V: Drop>(stripe: &Stripe<K, V>, b: u64) -> [Opt
     ensures value { result ≡ map (partial_in K.hash) (bucket_of stripe.now b) }
 {
     stripe.bucket(b).sketch()
+}
+
+// What the closure makes of the value in a slot.
+fn read_in<K: TableKey + Drop, V: Drop, R, F: FnOnce(&V) -> R>(
+    stripe: &Stripe<K, V>,
+    b: u64,
+    slot: usize,
+    f: F,
+) -> R
+    requires settled { stripe.now.settled ≡ true }
+    requires own { HasBucket stripe.now b }
+    requires below { slot < 4 }
+    requires slot_full { IsSome (slot_at (bucket_of stripe.now b) slot) }
+    requires call { F.IsAlwaysCallable f }
+    ensures read { (n : _) (v : V) → slot_at (bucket_of stripe.now b) slot ≡ Some (n, v) → FnOnceReturnsAt F.FnOnce f v result }
+{
+    match stripe.bucket(b).get(slot) {
+        Some((_, value)) => f(value),
+        None => unreachable!(),
+    }
 }
 
 pub(crate) fn number_at<K: TableKey + Drop, V: Drop>(
@@ -243,6 +266,36 @@ pub(crate) fn settled_at<K: TableKey + Drop, V: Drop>(
     answer
 }
 
+pub(crate) fn read_at<K: TableKey + Drop, V: Drop, R, F: FnOnce(&V) -> R>(
+    shared: &Board<K, V>,
+    seat: &mut Place<K, V>,
+    taken: &[usize],
+    i: usize,
+    b: u64,
+    slot: usize,
+    f: F,
+) -> R
+    requires own { seat.old.table_id ≡ shared.now.table_id }
+    requires full { seat.old.me.1 ≡ map slot_of (stripes_in seat.old.me.1) }
+    requires numbered { numbers_of (stripes_in seat.old.me.1) ≡ taken.now }
+    requires inside { i < length taken.now }
+    requires reach { IsInReach (stripes_in seat.old.me.1) i b }
+    requires below { slot < 4 }
+    requires slot_full { IsSome (slot_at (bucket_at (stripes_in seat.old.me.1) i b) slot) }
+    requires call { F.IsAlwaysCallable f }
+    ensures read { (n : _) (v : V) → slot_at (bucket_at (stripes_in seat.old.me.1) i b) slot ≡ Some (n, v) → FnOnceReturnsAt F.FnOnce f v result }
+    ensures puts { Puts seat.old.me.1 i (stripe_at (stripes_in seat.old.me.1) i) seat.new.me.1 }
+    ensures kept { (seat.new.table_id ≡ seat.old.table_id) × (seat.new.id ≡ seat.old.id) × (seat.new.me.0 ≡ seat.old.me.0) }
+{
+    let t = bring(seat, taken, i);
+    let Some(stripe) = seat.slot_mut(shared, t) else {
+        unreachable!()
+    };
+    let answer = read_in(stripe, b, slot, f);
+    turn_by(seat, taken.len() - i);
+    answer
+}
+
 pub(crate) fn place_at<K: TableKey + Drop, V: Drop>(
     shared: &Board<K, V>,
     seat: &mut Place<K, V>,
@@ -299,6 +352,34 @@ pub(crate) fn remove_at<K: TableKey + Drop, V: Drop>(
     answer
 }
 
+pub(crate) fn replace_at<K: TableKey + Drop, V: Drop>(
+    shared: &Board<K, V>,
+    seat: &mut Place<K, V>,
+    taken: &[usize],
+    i: usize,
+    b: u64,
+    slot: usize,
+    value: V,
+) -> V
+    requires own { seat.old.table_id ≡ shared.now.table_id }
+    requires full { seat.old.me.1 ≡ map slot_of (stripes_in seat.old.me.1) }
+    requires numbered { numbers_of (stripes_in seat.old.me.1) ≡ taken.now }
+    requires inside { i < length taken.now }
+    requires reach { IsInReach (stripes_in seat.old.me.1) i b }
+    requires below { slot < 4 }
+    requires slot_full { IsSome (slot_at (bucket_at (stripes_in seat.old.me.1) i b) slot) }
+    ensures content { (n : Name) × (slot_at (bucket_at (stripes_in seat.old.me.1) i b) slot ≡ Some (n, result)) × Puts seat.old.me.1 i (record (stripe_at (stripes_in seat.old.me.1) i) { content = with_slot (stripe_at (stripes_in seat.old.me.1) i) b slot (Some (n, value)) (stripe_at (stripes_in seat.old.me.1) i).content.ledger }) seat.new.me.1 }
+    ensures kept { (seat.new.table_id ≡ seat.old.table_id) × (seat.new.id ≡ seat.old.id) × (seat.new.me.0 ≡ seat.old.me.0) }
+{
+    let t = bring(seat, taken, i);
+    let Some(stripe) = seat.slot_mut(shared, t) else {
+        unreachable!()
+    };
+    let answer = stripe.replace(b, slot, value);
+    turn_by(seat, taken.len() - i);
+    answer
+}
+
 pub(crate) fn settle_at<K: TableKey + Drop, V: Drop>(
     shared: &Board<K, V>,
     seat: &mut Place<K, V>,
@@ -318,6 +399,31 @@ pub(crate) fn settle_at<K: TableKey + Drop, V: Drop>(
     };
     stripe.settle();
     turn_by(seat, taken.len() - i);
+}
+
+pub(crate) fn reserve_double_at<K: TableKey + Drop, V: Drop>(
+    shared: &Board<K, V>,
+    seat: &mut Place<K, V>,
+    taken: &[usize],
+    i: usize,
+) -> Result<(), AllocError>
+    requires own { seat.old.table_id ≡ shared.now.table_id }
+    requires full { seat.old.me.1 ≡ map slot_of (stripes_in seat.old.me.1) }
+    requires numbered { numbers_of (stripes_in seat.old.me.1) ≡ taken.now }
+    requires inside { i < length taken.now }
+    requires settled { (stripe_at (stripes_in seat.old.me.1) i).settled ≡ true }
+    ensures puts { Puts seat.old.me.1 i (record (stripe_at (stripes_in seat.old.me.1) i) { room = (stripe_at (stripes_in seat.new.me.1) i).room }) seat.new.me.1 }
+    ensures ok { OnOk result (IsReserved (stripe_at (stripes_in seat.new.me.1) i)) }
+    ensures err { OnErr result (stripes_in seat.new.me.1 ≡ stripes_in seat.old.me.1) }
+    ensures kept { (seat.new.table_id ≡ seat.old.table_id) × (seat.new.id ≡ seat.old.id) × (seat.new.me.0 ≡ seat.old.me.0) }
+{
+    let t = bring(seat, taken, i);
+    let Some(stripe) = seat.slot_mut(shared, t) else {
+        unreachable!()
+    };
+    let answer = stripe.reserve_double();
+    turn_by(seat, taken.len() - i);
+    answer
 }
 
 pub(crate) fn double_at<K: TableKey + Drop, V: Drop>(

@@ -2,8 +2,8 @@
 ghost use Rattle.std.specs.Prelude.{◌≡◌, ◌⊎◌, ◌<◌, ◌≤◌, ◌^◌, ◌==◌, if◌then◌else◌, [], ◌∷◌, MatchBool, OnOk, IfErr};
 ghost use Rattle.ck_model.specs.Numbered.{numbers};
 ghost use Rattle.ck_core.specs.Steps.{IsAbove};
-ghost use Rattle.ck_words.specs.Passes.{IsPassOf, IsIdle, IsUnchanged, ShowsSeen, numbers_of};
-ghost use Rattle.ck_words.specs.Retries.{TakesWithin, found_again, Stays, IsBusy};
+ghost use Rattle.ck_words.specs.Passes.{EachOf, IsPassOf, IsIdle, IsUnchanged, ShowsSeen, numbers_of};
+ghost use Rattle.ck_words.specs.Retries.{TakesWithin, found_again, Stays, FindsAmong, IsBusy};
 
 use crate::pass::Pass;
 use crate::words::Words;
@@ -43,6 +43,7 @@ impl<K: TableKey + Drop, V: Drop> Words<K, V> {
         ensures idle { IsIdle pass.new }
         ensures stays { Stays pass.old.view pass.new.view }
         ensures found { pass.new.view.found ≡ pass.old.view.found }
+        ensures seen { pass.new.view.seen ≡ pass.old.view.seen }
     {
         while pass.count() > 0 {
             self.give_rest(pass);
@@ -60,8 +61,10 @@ impl<K: TableKey + Drop, V: Drop> Words<K, V> {
         ensures own { IsPassOf self.now pass.new }
         ensures stays { Stays pass.old.view pass.new.view }
         ensures held { OnOk result (numbers_of pass.new.stripes ≡ (if low == high then low ∷ [] else low ∷ high ∷ [])) }
+        ensures of_table { OnOk result (EachOf self.now.settings.s pass.new.stripes) }
         ensures unchanged { OnOk result (IsUnchanged pass.new) }
         ensures shows { OnOk result (ShowsSeen K.hash self.now.settings pass.new) }
+        ensures found { FindsAmong (λ t. (t ≡ low) ⊎ (t ≡ high)) pass.old pass.new }
         ensures busy { IfErr result (λ t. IsBusy self.now.settings.turns t pass.old pass.new) }
         ensures asked { IfErr result (λ t. (t ≡ low) ⊎ (t ≡ high)) }
     {

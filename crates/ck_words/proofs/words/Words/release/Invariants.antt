@@ -9,6 +9,7 @@ invariant-loop-pass g l = record {
   unchanged : IsUnchanged l.pass;
   stays : Stays l.initial.pass.view l.pass.view;
   found : l.pass.view.found ≡ l.initial.pass.view.found;
+  seen : l.pass.view.seen ≡ l.initial.pass.view.seen;
 }
 
 abbrev pub decreases-loop-pass : goal.decreases-loop-pass

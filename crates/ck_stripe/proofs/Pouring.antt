@@ -1,0 +1,18 @@
+-- Rows of slots are poured one after another into reserved room.
+use Rattle.std.proofs.Common.{◌≡◌, ℕ, ◌+◌, ◌<◌, ◌≤◌, List, [], ◌++◌, length, map, take, sym, ◌∙◌, ap, length-append, arith}
+use Rattle.std.specs.Prelude.{flat_map}
+use Rattle.std.proofs.lemmas.List.{length-map}
+use Rattle.std.proofs.lemmas.List.Folds.{length-flat_map-take}
+use Rattle.ck_model.specs.Map.{Name, named}
+use Rattle.ck_model.specs.Slots.{Slot, taken_in}
+
+module _ {K V : Type 0} where
+  -- there is room for four more
+  pub room_left : (name : K → Name) (pairs start : List (K × V)) (poured rows : List (List (Slot V))) (room : ℕ) → map (named name) pairs ≡ map (named name) start ++ flat_map taken_in poured → poured ≡ take (length poured) rows
+      → length poured < length rows → length start + length (flat_map taken_in rows) + 4 ≤ room → length pairs + 4 ≤ room
+  room_left name pairs start poured rows room seen first more enough =
+      let many : length pairs ≡ length start + length (flat_map taken_in poured) =
+      sym (length-map pairs (named name)) ∙ (ap length seen ∙ (length-append (map (named name) start) (flat_map taken_in poured) ∙ ap (λ n. n + length (flat_map taken_in poured)) (length-map start (named name)))) in
+      let fewer = length-flat_map-take taken_in rows (length poured) [] more in
+      let same = ap (λ (l : List (List (Slot V))). length (flat_map taken_in l)) first in
+      omega arith

@@ -1,0 +1,89 @@
+-- What a table leaves at its end.
+use Rattle.std.proofs.Common.{◌≡◌, ℕ, ◌^◌, ◌<◌, List, [], ◌∷◌, ◌++◌, reverse, map, refl, sym, ap, ◌∙◌, subst, Some}
+use Rattle.std.specs.Prelude.{All}
+use Rattle.std.specs.List.{AllZip}
+use Rattle.std.specs.Option.{unwrap_or}
+use Rattle.std.specs.FinMap.{from_entries}
+use Rattle.std.proofs.lemmas.List.Elements.{All-push, All-pop, AllZip-push}
+use Rattle.ck_model.specs.declared.history.Entry.{Entry}
+use Rattle.ck_model.specs.Map.{Name}
+use Rattle.ck_model.specs.Numbered.{IsIn, numbers}
+use Rattle.ck_model.specs.History.{After, StartsWith}
+use Rattle.ck_model.specs.Contents.{Layout, Stripes, pairs_of, bindings, Lawful, NamesApart}
+use Rattle.ck_model.proofs.Counted.{names_apart}
+use Rattle.ck_section.specs.Stripes.{contents_of}
+use Rattle.ck_words.specs.Rule.{counting, layout_of}
+use Rattle.ck_words.specs.Words.{WordsState}
+use Rattle.ck_words.specs.Passes.{PassState, IsPassOf, IsIdle}
+use Rattle.ck_words.specs.Retries.{Stays}
+use Rattle.ck_words.specs.Closing.{IsWhole, number_of, parts_of, IsCaller, AreAllPasses, EachStays, EachSaw, gathered, Gathered, Closes}
+use Rattle.ck_words.proofs.Reversed.{map-append, in_of_reverse, lawful_reverse, bindings-reverse}
+use Rattle.ck_words.proofs.Staying.{starts_on, stays_same}
+use Rattle.ck_words.proofs.AllHeld.{in_counting, numbers-contents}
+use Rattle.ck_words.proofs.Joining.{owned_numbers, shuffled}
+
+module _ {V : Type 0} (w : WordsState) (os : List (PassState V)) (p p1 : PassState V) (all : AreAllPasses w (os ++ p ∷ [])) (stays : Stays p.view p1.view) where
+  last_caller : IsCaller w p
+  last_caller = (All-pop (IsCaller w) (os ++ p ∷ []) os (Some p) refl all.callers).1
+
+  same_parts : parts_of (os ++ p1 ∷ []) ≡ parts_of (os ++ p ∷ [])
+  same_parts =
+      map-append (λ (x : PassState V). (number_of x, x.view.mine)) os (p1 ∷ [])
+      ∙ ((λ i. parts_of os ++ (unwrap_or (stays.by i) 0, stays.mine i) ∷ []) ∙ sym (map-append (λ (x : PassState V). (number_of x, x.view.mine)) os (p ∷ [])))
+
+  -- refused
+  pub all_back : IsPassOf w p1 → IsIdle p1 → AreAllPasses w (os ++ p1 ∷ [])
+  all_back own idle =
+      let c = last_caller in
+      let fronts = (All-pop (IsCaller w) (os ++ p ∷ []) os (Some p) refl all.callers).0 in
+      record {
+        callers = All-push (IsCaller w) os p1 fronts (record { own = own; idle = idle; alone = stays.others ∙ c.alone; number = (c.number.0, stays.by ∙ c.number.1, c.number.2) });
+        all = λ m l. subst (λ (x : List (ℕ × List (Entry V))). IsIn m (numbers x)) (sym same_parts) (all.all m l);
+      }
+
+  each_same : (ps : List (PassState V)) → EachStays ps ps
+  each_same [] = tt
+  each_same (x ∷ ps) = (stays_same x.view, each_same ps)
+
+  pub each_stays : EachStays (os ++ p ∷ []) (os ++ p1 ∷ [])
+  each_stays = AllZip-push (λ (x y : PassState V). Stays x.view y.view) os os p p1 (each_same os) stays
+
+  module _ (hash : Name → ℕ) (q : PassState V) (whole : IsWhole hash w.settings p1) (g : Gathered hash w p1 os q) where
+    abbrev k : Layout
+    k = layout_of hash w.settings
+
+    contents : contents_of q.stripes ≡ reverse q.view.held
+    contents = ap contents_of g.stripes ∙ (whole.unchanged ∙ ap reverse (sym g.held))
+
+    has_all : (t : ℕ) → t < 2 ^ k.s → IsIn t (numbers q.view.held)
+    has_all t l =
+        let there : IsIn t (numbers (contents_of p1.stripes)) = subst (IsIn t) (sym (numbers-contents p1.stripes ∙ whole.all)) (in_counting (2 ^ k.s) t l) in
+        subst (λ (hs : Stripes V). IsIn t (numbers hs)) (sym g.held) (in_of_reverse p1.view.held t (subst (λ (hs : Stripes V). IsIn t (numbers hs)) whole.unchanged there))
+
+    turned_lawful : Lawful k (reverse q.view.held)
+    turned_lawful = lawful_reverse k q.view.held g.shows.lawful
+
+    leaves : After q.view.seen (from_entries (pairs_of (contents_of q.stripes)))
+    unfolding bindings
+    leaves =
+        let turned : After q.view.seen (bindings (reverse q.view.held)) = subst (After q.view.seen) (sym (bindings-reverse k q.view.held g.shows.lawful)) (g.shows.all_held has_all) in
+        subst (λ (hs : Stripes V). After q.view.seen (from_entries (pairs_of hs))) (sym contents) turned
+
+    no_name_twice : NamesApart (pairs_of (contents_of q.stripes))
+    no_name_twice =
+        let m = turned_lawful in
+        subst (λ (hs : Stripes V). NamesApart (pairs_of hs)) (sym contents) (names_apart (reverse q.view.held) m.distinct m.once (λ t c h. (m.sound t c h).apart))
+
+    -- all passes were joined, and the pairs of all stripes were poured
+    pub closes : (pairs : List (Name × V)) → pairs ≡ pairs_of (contents_of q.stripes) → Closes (os ++ p ∷ []) pairs
+    closes pairs poured =
+        let by = g.by ∙ stays.by in
+        let mine = g.mine ∙ stays.mine in
+        let others : q.view.others ≡ gathered os [] = g.others ∙ ap (gathered os) (stays.others ∙ last_caller.alone) in
+        record {
+          log = q.view.seen;
+          shuffle = shuffled w os p all.callers q.view by mine others q.view.seen (g.shows.all_kept (λ m l. owned_numbers w os p all.callers q.view by mine others m (all.all m l)));
+          saw = All-push (λ (x : PassState V). StartsWith q.view.seen x.view.seen) os p g.saw (starts_on p.view.seen p1.view.seen q.view.seen stays.seen g.seen);
+          after = subst (λ (l : List (Name × V)). After q.view.seen (from_entries l)) (sym poured) leaves;
+          apart = subst NamesApart (sym poured) no_name_twice;
+        }

@@ -1,0 +1,134 @@
+-- The reply of a call is what the bindings before and after it tell.
+use Rattle.std.proofs.Common.{◌≡◌, ℕ, [], append-nil, reverse, sym, refl, ap, ◌∙◌, subst, arith, Option, Some, None, IsSome, rules}
+use Rattle.std.specs.Option.{unwrap_or}
+use Rattle.std.specs.FinMap.{get, len}
+use Rattle.ck_model.specs.declared.history.Act.{Act}
+use Rattle.ck_model.specs.declared.history.Act.TheVariants.{Find, Insert, Assign, Update, Change, Upsert, Erase}
+use Rattle.ck_model.specs.declared.history.Call.{Call}
+use Rattle.ck_model.specs.declared.history.Call.TheVariants.{On, ChangeTwo, Len, Session}
+use Rattle.ck_model.specs.declared.history.Reply.{Reply}
+use Rattle.ck_model.specs.declared.history.Reply.TheVariants.{Was, New, Old, Done, DoneTwo, Absent, Count, Closed}
+use Rattle.ck_model.specs.declared.history.Entry.{Entry}
+use Rattle.ck_model.specs.declared.settings.Settings.{Settings}
+use Rattle.ck_model.specs.Map.{Name, Map, Answers, AnswersTwo, Step}
+use Rattle.ck_model.specs.History.{IsLegal}
+use Rattle.ck_model.specs.Contents.{Lawful, bindings}
+use Rattle.ck_model.specs.Sections.{Section}
+use Rattle.ck_section.specs.Stripes.{contents_of}
+use Rattle.ck_core.specs.declared.view.View.{View}
+use Rattle.ck_core.specs.Laws.{Answered}
+use Rattle.ck_core.proofs.Shown.{answered}
+use Rattle.ck_words.specs.Rule.{layout_of}
+use Rattle.ck_words.specs.Passes.{PassState, Decided}
+use Rattle.ck_words.specs.Retries.{Stays}
+use Rattle.ck_words.specs.Answering.{HasDone, IsAnswered}
+use Rattle.ck_words.proofs.Reversed.{lawful_reverse}
+
+pub number_in : (o : Option ℕ) → IsSome o → (m : ℕ) × (o ≡ Some m)
+number_in None h = absurd (search rules)
+number_in (Some m) h = (m, refl)
+
+module _ {V : Type 0} where
+  -- from what the name was bound to before, and after
+  abbrev pub reply_of : Act V → Option V → Option V → Reply V
+  reply_of Find o p = Was o
+  reply_of (Insert u) (Some v) p = Old
+  reply_of (Insert u) None p = New
+  reply_of (Assign u) o p = Was o
+  reply_of (Update u) o p = Was o
+  reply_of Change (Some v) (Some w) = Done v w
+  reply_of Change (Some v) None = Absent
+  reply_of Change None p = Absent
+  reply_of (Upsert u) (Some v) (Some w) = Done v w
+  reply_of (Upsert u) (Some v) None = New
+  reply_of (Upsert u) None p = New
+  reply_of Erase o p = Was o
+
+  reply_is : (a : Act V) (o : Option V) (r : Reply V) (p : Option V) → Answers a o r p → r ≡ reply_of a o p
+  reply_is Find (Some v) r p x = x.0
+  reply_is Find None r p x = x.0
+  reply_is (Insert u) (Some v) r p x = x.0
+  reply_is (Insert u) None r p x = x.0
+  reply_is (Assign u) (Some v) r p x = x.0
+  reply_is (Assign u) None r p x = x.0
+  reply_is (Update u) (Some v) r p x = x.0
+  reply_is (Update u) None r p x = x.0
+  reply_is Change (Some v) r p x = x.1 ∙ ap (reply_of Change (Some v)) (sym x.2)
+  reply_is Change None r p x = x.0
+  reply_is (Upsert u) (Some v) r p x = x.1 ∙ ap (reply_of (Upsert u) (Some v)) (sym x.2)
+  reply_is (Upsert u) None r p x = x.0
+  reply_is Erase (Some v) r p x = x.0
+  reply_is Erase None r p x = x.0
+
+  abbrev pub reply_of_two : Option V → Option V → Option V → Option V → Reply V
+  reply_of_two (Some v) (Some w) (Some v2) (Some w2) = DoneTwo v w v2 w2
+  reply_of_two (Some v) (Some w) (Some v2) None = Absent
+  reply_of_two (Some v) (Some w) None p = Absent
+  reply_of_two (Some v) None o p = Absent
+  reply_of_two None b o p = Absent
+
+  two_is : (a b : Option V) (r : Reply V) (o p : Option V) → AnswersTwo a b r o p → r ≡ reply_of_two a b o p
+  two_is (Some v) (Some w) r o p x = x.2 ∙ λ j. reply_of_two (Some v) (Some w) (sym x.3 j) (sym x.4 j)
+  two_is (Some v) None r o p x = x.0
+  two_is None b r o p x = x.0
+
+  -- from the map before, and after
+  abbrev pub reply_to : Call V → Map V → Map V → Reply V
+  reply_to (On q a) m m2 = reply_of a (get m q) (get m2 q)
+  reply_to (ChangeTwo j k) m m2 = reply_of_two (get m j) (get m k) (get m2 j) (get m2 k)
+  reply_to Len m m2 = Count (len m)
+  reply_to (Session a b) m m2 = Closed
+
+  reply_told : (m : Map V) (c : Call V) (r : Reply V) (m2 : Map V) → Step m c r m2 → r ≡ reply_to c m m2
+  reply_told m (On q a) r m2 s = reply_is a (get m q) r (get m2 q) s.0
+  reply_told m (ChangeTwo j k) r m2 s = two_is (get m j) (get m k) r (get m2 j) (get m2 k) s.1
+  reply_told m Len r m2 s = s.0
+  reply_told m (Session a b) r m2 s = s.0
+
+  -- the entry of a call that the stripes of a pass did
+  abbrev pub entry_for : Call V → PassState V → Entry V
+  entry_for call p = record { by = unwrap_or p.view.by 0; call = call; reply = reply_to call (bindings (reverse p.view.held)) (bindings (contents_of p.stripes)) }
+
+  module _ (hash : Name → ℕ) (set : Settings) (call : Call V) (p : PassState V) where
+    reply_done : (r : Reply V) → HasDone hash set call r p → Lawful (layout_of hash set) (reverse p.view.held) → r ≡ (entry_for call p).reply
+    reply_done r done l = reply_told (bindings (reverse p.view.held)) call r (bindings (contents_of p.stripes)) (done l).step
+
+    -- it may be decided
+    pub may_decide : (r : Reply V) × HasDone hash set call r p → HasDone hash set call (entry_for call p).reply p
+    may_decide d l = subst (λ r. Section (layout_of hash set) (reverse p.view.held) call r (contents_of p.stripes)) (reply_done d.0 d.1 l) (d.1 l)
+
+    pub its_caller : (m : ℕ) → p.view.by ≡ Some m → p.view.by ≡ Some (entry_for call p).by
+    its_caller m e = e ∙ ap Some (sym (ap (λ (o : Option ℕ). unwrap_or o 0) e))
+
+    -- it was decided, and nothing else happened since
+    pub is_answered : (m : ℕ) → p.view.by ≡ Some m → (q1 q : PassState V) → Decided hash set (reverse (contents_of p.stripes)) (entry_for call p) p q1 → Stays q1.view q.view → q.view.seen ≡ q1.view.seen
+        → (r : Reply V) → HasDone hash set call r p → IsAnswered call r p q
+    is_answered m by q1 q d s seen r done =
+        let l = lawful_reverse (layout_of hash set) p.view.held d.3.0.lawful in
+        let e : Entry V = entry_for call p in
+        let number : e.by ≡ m = ap (λ (o : Option ℕ). unwrap_or o 0) by in
+        let own : Entry V = record { by = m; call = call; reply = r } in
+        let same : e ≡ own = (λ j. record { by = number j; call = call; reply = sym (reply_done r done l) j }) in
+        let told : Answered p.view e q1.view = answered (layout_of hash set) set.callers d.1 p.view q1.view e (its_caller m by) d.3.0 d.3.1 (ap (λ (v : View V). v.seen) d.4) (ap (λ (v : View V). v.mine) d.4) in
+        record {
+          by = m;
+          caller = by;
+          answered = subst (λ x. Answered p.view x q.view) same (record {
+            others = told.others;
+            seen = seen ∙ told.seen;
+            by_others = told.by_others;
+            legal = subst (λ log. IsLegal log) (sym seen) told.legal;
+            mine = s.mine ∙ told.mine;
+          });
+          stays = record {
+            settings = s.settings ∙ ap (λ (v : View V). v.settings) d.4;
+            by = s.by ∙ ap (λ (v : View V). v.by) d.4;
+            mine = refl;
+            others = s.others ∙ ap (λ (v : View V). v.others) d.4;
+            heard = (s.heard.0 ∙ ap (λ (v : View V). v.heard) d.4, s.heard.1 ∙ ap (λ (v : View V). v.heard_told) d.4);
+            noroom = s.noroom ∙ ap (λ (v : View V). v.noroom) d.4;
+            seen = ([], sym (append-nil q.view.seen));
+            by_others = λ n e. refl;
+            told = (let a : q1.view.told ≡ p.view.told = ap (λ (v : View V). v.told) d.4 in let b = s.told in omega arith);
+          };
+        }

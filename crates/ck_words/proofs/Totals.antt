@@ -1,0 +1,110 @@
+-- How many entries a pass holds that has all stripes.
+use Rattle.std.proofs.Common.{◌≡◌, ℕ, zero, suc, ◌+◌, ◌*◌, ◌^◌, ◌<◌, ◌≤◌, true, List, [], ◌∷◌, length, length-append, add-one, refl, sym, ap, ◌∙◌, subst, inl, inr, arith}
+use Rattle.std.proofs.Math.Nat.{pow-le-pow_right}
+use Rattle.ck_model.specs.declared.settings.Settings.{Settings}
+use Rattle.ck_model.specs.declared.contents.Content.{Content}
+use Rattle.ck_model.specs.Map.{Name}
+use Rattle.ck_model.specs.Ranges.{AreInRange}
+use Rattle.ck_model.specs.Numbered.{Holds}
+use Rattle.ck_model.specs.Contents.{Layout, Stripes, Lawful, IsSound, pairs_in, pairs_of}
+use Rattle.ck_stripe.specs.Stripe.{StripeState, IsShaped}
+use Rattle.ck_stripe.proofs.Writes.{few_entries}
+use Rattle.ck_section.specs.Stripes.{stripe_at, contents_of}
+use Rattle.ck_words.specs.Rule.{counting, layout_of}
+use Rattle.ck_words.specs.Passes.{PassState, numbers_of}
+use Rattle.ck_words.specs.Closing.{IsWhole, settled_stripes}
+use Rattle.ck_words.proofs.Reversed.{lawful_reverse}
+
+-- the most entries of a stripe
+abbrev pub most : ℕ
+most = 4 * 2 ^ 26
+
+length-counting : (n a : ℕ) → length (counting a n) ≡ n
+length-counting zero a = refl
+length-counting (suc n) a = ap suc (length-counting n (suc a))
+
+module _ {V : Type 0} where
+  -- the entries of the first n stripes
+  abbrev pub counted_to : ℕ → List (StripeState V) → ℕ
+  counted_to zero ss = 0
+  counted_to (suc n) [] = 0
+  counted_to (suc n) (s ∷ ss) = s.content.ledger + counted_to n ss
+
+  counted-next : (n : ℕ) (ss : List (StripeState V)) → counted_to (suc n) ss ≡ counted_to n ss + (stripe_at ss n).content.ledger
+  counted-next zero [] = refl
+  counted-next zero (s ∷ ss) = omega arith
+  counted-next (suc n) [] = refl
+  counted-next (suc n) (s ∷ ss) = let e = counted-next n ss in omega arith
+
+  pub counted-more : (n : ℕ) (ss : List (StripeState V)) → counted_to (n + 1) ss ≡ counted_to n ss + (stripe_at ss n).content.ledger
+  counted-more n ss = ap (λ m. counted_to m ss) (add-one n) ∙ counted-next n ss
+
+  counted_few : (n : ℕ) (ss : List (StripeState V)) → ((i : ℕ) → (stripe_at ss i).content.ledger ≤ most) → counted_to n ss ≤ n * most
+  counted_few zero ss small = omega arith
+  counted_few (suc n) [] small = omega arith
+  counted_few (suc n) (s ∷ ss) small = let here = small 0 in let again = counted_few n ss (λ i. small (suc i)) in omega arith
+
+  counted-all : (ss : List (StripeState V)) → ((t : ℕ) (c : Content V) → Holds (contents_of ss) t c → c.ledger ≡ length (pairs_in c)) → counted_to (length ss) ss ≡ length (pairs_of (contents_of ss))
+  counted-all [] exact = refl
+  counted-all (s ∷ ss) exact =
+      let here = exact s.number s.content (inl (refl, refl)) in
+      let again = counted-all ss (λ t c h. exact t c (inr h)) in
+      let both = length-append (pairs_in s.content) (pairs_of (contents_of ss)) in
+      omega arith
+
+  small_each : (ss : List (StripeState V)) → ((t : ℕ) (c : Content V) → Holds (contents_of ss) t c → c.ledger ≤ most) → (i : ℕ) → (stripe_at ss i).content.ledger ≤ most
+  small_each [] small i = omega arith
+  small_each (s ∷ ss) small zero = small s.number s.content (inl (refl, refl))
+  small_each (s ∷ ss) small (suc i) = small_each ss (λ t c h. small t c (inr h)) i
+
+  length-numbers : (ss : List (StripeState V)) → length (numbers_of ss) ≡ length ss
+  length-numbers [] = refl
+  length-numbers (s ∷ ss) = ap suc (length-numbers ss)
+
+  -- settled stripes contain the same
+  pub contents-settled : (ss : List (StripeState V)) → contents_of (settled_stripes ss) ≡ contents_of ss
+  contents-settled [] = refl
+  contents-settled (s ∷ ss) = ap {B = Stripes V} (λ l. (s.number, s.content) ∷ l) (contents-settled ss)
+
+  pub numbers-settled : (ss : List (StripeState V)) → numbers_of (settled_stripes ss) ≡ numbers_of ss
+  numbers-settled [] = refl
+  numbers-settled (s ∷ ss) = ap {B = List ℕ} (λ l. s.number ∷ l) (numbers-settled ss)
+
+  pub each_settled : (ss : List (StripeState V)) (i : ℕ) → (stripe_at (settled_stripes ss) i).settled ≡ true
+  each_settled [] i = refl
+  each_settled (s ∷ ss) zero = refl
+  each_settled (s ∷ ss) (suc i) = each_settled ss i
+
+  module _ (hash : Name → ℕ) (set : Settings) (p : PassState V) (whole : IsWhole hash set p) where
+    abbrev k : Layout
+    k = layout_of hash set
+
+    pub lawful_held : Lawful k (contents_of p.stripes)
+    lawful_held = subst (Lawful k) (sym whole.unchanged) (lawful_reverse k p.view.held whole.shows.lawful)
+
+    pub count_all : length p.stripes ≡ 2 ^ set.s
+    count_all = sym (length-numbers p.stripes) ∙ (ap length whole.all ∙ length-counting (2 ^ set.s) 0)
+
+    pub counted_whole : (n : ℕ) → n ≡ 2 ^ set.s → counted_to n p.stripes ≡ length (pairs_of (contents_of p.stripes))
+    counted_whole n e = ap (λ m. counted_to m p.stripes) (e ∙ sym count_all) ∙ counted-all p.stripes (λ t c h. (lawful_held.sound t c h).ledger)
+
+    module _ (range : AreInRange set) where
+      shaped : (t : ℕ) (c : Content V) → IsSound k t c → IsShaped set.s t c
+      shaped t c s = record {
+        many = range.stripes;
+        number = s.number;
+        least = s.least;
+        most = (let a = s.most in let b = range.max in omega arith);
+        rows = s.rows;
+        four = s.four;
+        ledger = s.ledger;
+      }
+
+      small : (i : ℕ) → (stripe_at p.stripes i).content.ledger ≤ most
+      small = small_each p.stripes (λ t c h. few_entries set.s t c (shaped t c (lawful_held.sound t c h)))
+
+      pub counted_below : (n : ℕ) → n ≤ 2 ^ set.s → counted_to n p.stripes ≤ 2 ^ 38
+      counted_below n l =
+          let few = counted_few n p.stripes small in
+          let all : 2 ^ set.s ≤ 2 ^ 10 = pow-le-pow_right {n = 2} (omega arith) range.stripes in
+          omega arith

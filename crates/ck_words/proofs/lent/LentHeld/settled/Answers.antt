@@ -1,0 +1,5 @@
+use Rattle.ck_words.proofs.Turning.{seated_puts}
+use Rattle.ck_words.proofs.lent.LentHeld.settled.Goals as goal
+
+pub invariant_of-pass : goal.invariant_of-pass
+invariant_of-pass g c = seated_puts _ _ _ _ _ _ _ _ c.settled_at.ensures.puts c.settled_at.ensures.kept.2 c.settled_at.ensures.kept.0 c.pass.invariant

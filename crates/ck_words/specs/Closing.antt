@@ -1,0 +1,100 @@
+-- All stripes at once, and the end of a table.
+use Rattle.std.specs.Prelude.{◌≡◌, ℕ, ◌<◌, ◌^◌, true, List, [], ◌∷◌, ◌++◌, map, Some, All}
+use Rattle.std.specs.List.{AllZip}
+use Rattle.std.specs.Option.{unwrap_or}
+use Rattle.std.specs.FinMap.{from_entries}
+use Rattle.atomic_table.specs.Seated.{TableId}
+use Rattle.ck_model.specs.declared.history.Entry.{Entry}
+use Rattle.ck_model.specs.declared.settings.Settings.{Settings}
+use Rattle.ck_model.specs.Map.{Name}
+use Rattle.ck_model.specs.Numbered.{IsIn, numbers}
+use Rattle.ck_model.specs.History.{After, StartsWith, IsShuffle}
+use Rattle.ck_model.specs.Contents.{NamesApart}
+use Rattle.ck_stripe.specs.Stripe.{StripeState}
+use Rattle.ck_section.specs.Stripes.{stripe_at}
+use Rattle.ck_core.specs.State.{owned}
+use Rattle.ck_core.specs.Steps.{newcomer}
+use Rattle.ck_words.specs.Rule.{counting}
+use Rattle.ck_words.specs.Words.{WordsState}
+use Rattle.ck_words.specs.Passes.{PassState, IsPassOf, IsIdle, IsUnchanged, ShowsSeen, numbers_of}
+use Rattle.ck_words.specs.Retries.{Stays}
+
+module _ {V : Type 0} where
+  -- the stripes with no doubling left to carry out
+  abbrev pub settled_stripes : List (StripeState V) → List (StripeState V)
+  settled_stripes stripes = map (λ (stripe : StripeState V). record stripe { settled = true }) stripes
+
+  -- The pass holds all stripes as it took them, and no doubling of them is left to carry out.
+  pub record IsWhole (hash : Name → ℕ) (set : Settings) (p : PassState V) : Type 0 where
+    pub all : numbers_of p.stripes ≡ counting 0 (2 ^ set.s)
+    pub unchanged : IsUnchanged p
+    pub settled : (i : ℕ) → (stripe_at p.stripes i).settled ≡ true
+    pub shows : ShowsSeen hash set p
+
+  -- the number of the caller, where it has one
+  abbrev pub number_of : PassState V → ℕ
+  number_of p = unwrap_or p.view.by 0
+
+  -- the callers' numbers, each with its entries
+  abbrev pub parts_of : List (PassState V) → List (ℕ × List (Entry V))
+  parts_of ps = map (λ (p : PassState V). (number_of p, p.view.mine)) ps
+
+  -- an idle pass of a caller, which keeps no other's number
+  pub record IsCaller (w : WordsState) (p : PassState V) : Type 0 where
+    pub own : IsPassOf w p
+    pub idle : IsIdle p
+    pub alone : p.view.others ≡ []
+    pub number : (m : ℕ) × (p.view.by ≡ Some m) × (m < w.settings.callers)
+
+  -- idle passes of callers, of which each number has one
+  pub record AreAllPasses (w : WordsState) (ps : List (PassState V)) : Type 0 where
+    pub callers : All (IsCaller w) ps
+    pub all : (m : ℕ) → m < w.settings.callers → IsIn m (numbers (parts_of ps))
+
+  -- the passes of these callers as they are dealt
+  abbrev pub dealt : TableId → Settings → List ℕ → List (PassState V)
+  dealt table set ms = map (λ (m : ℕ). record { table = table; view = newcomer set m set.power; stripes = [] }) ms
+
+  -- As many passes. Each has the same entries, and has seen no less.
+  abbrev pub EachStays : List (PassState V) → List (PassState V) → Type 0
+  EachStays ps qs = AllZip (λ (p q : PassState V). Stays p.view q.view) ps qs
+
+  -- the history begins with what each has seen
+  abbrev pub EachSaw : List (Entry V) → List (PassState V) → Type 0
+  EachSaw log ps = All (λ (p : PassState V). StartsWith log p.view.seen) ps
+
+  -- q is p with the numbers of o and their entries, after it saw the history.
+  pub record Gathers (hash : Name → ℕ) (set : Settings) (p o q : PassState V) : Type 0 where
+    pub by : q.view.by ≡ p.view.by
+    pub mine : q.view.mine ≡ p.view.mine
+    pub others : q.view.others ≡ owned o.view ++ p.view.others
+    pub held : q.view.held ≡ p.view.held
+    pub stripes : q.stripes ≡ p.stripes
+    pub seen : StartsWith q.view.seen p.view.seen
+    pub heard : StartsWith q.view.seen o.view.seen
+    pub shows : ShowsSeen hash set q
+
+  -- the numbers of the passes os before these, those of the last first
+  abbrev pub gathered : List (PassState V) → List (ℕ × List (Entry V)) → List (ℕ × List (Entry V))
+  gathered [] l = l
+  gathered (o ∷ os) l = gathered os (owned o.view ++ l)
+
+  -- q is p with the numbers of all of os and their entries, after it saw the history.
+  pub record Gathered (hash : Name → ℕ) (w : WordsState) (p : PassState V) (os : List (PassState V)) (q : PassState V) : Type 0 where
+    pub own : IsPassOf w q
+    pub by : q.view.by ≡ p.view.by
+    pub mine : q.view.mine ≡ p.view.mine
+    pub others : q.view.others ≡ gathered os p.view.others
+    pub held : q.view.held ≡ p.view.held
+    pub stripes : q.stripes ≡ p.stripes
+    pub seen : StartsWith q.view.seen p.view.seen
+    pub saw : EachSaw q.view.seen os
+    pub shows : ShowsSeen hash w.settings q
+
+  -- A history of the passes' entries, of each in its order. It begins with what each has seen, and leaves these pairs.
+  pub record Closes (ps : List (PassState V)) (pairs : List (Name × V)) : Type 0 where
+    pub log : List (Entry V)
+    pub shuffle : IsShuffle log (parts_of ps)
+    pub saw : EachSaw log ps
+    pub after : After log (from_entries pairs)
+    pub apart : NamesApart pairs

@@ -1,0 +1,134 @@
+//! The stripes that a pass holds, as held ones.
+ghost use Rattle.std.specs.Prelude.{◌≡◌};
+ghost use Rattle.ck_words.specs.Passes.{IsPassOf};
+
+use crate::pass::Pass;
+use crate::slots;
+use crate::words::Words;
+use ck_key::TableKey;
+use ck_section::Held;
+use std::alloc::AllocError;
+
+/// The stripes that a pass holds, lent to calls that work on them in their slots.
+#[derive(Drop)]
+pub struct Lent<'a, K: TableKey, V> {
+    pub words: &'a Words<K, V>,
+    pub pass: &'a mut Pass<K, V>,
+    ghost own: { IsPassOf words.now pass.now },
+}
+
+impl<K: TableKey + Drop, V: Drop> Held<K, V> for Lent<'_, K, V> {
+    ghost use Rattle.std.specs.Prelude.{◌≡◌};
+
+    ghost stripes = { λ l. l.pass.now.stripes };
+
+    ghost stays = { λ l m. (m.pass.ghost_name ≡ l.pass.ghost_name) × (m.pass.now.view ≡ l.pass.now.view) × (m.pass.now.table ≡ l.pass.now.table) };
+
+    fn count(&self) -> usize {
+        self.pass.count()
+    }
+
+    fn number(&mut self, i: usize) -> u32 {
+        let words = self.words;
+        let pass = &mut *self.pass;
+        let shared = &words.table.shared;
+        slots::number_at(shared, &mut pass.seat, &pass.taken, i)
+    }
+
+    fn power(&mut self, i: usize) -> u32 {
+        let words = self.words;
+        let pass = &mut *self.pass;
+        let shared = &words.table.shared;
+        slots::power_at(shared, &mut pass.seat, &pass.taken, i)
+    }
+
+    fn len(&mut self, i: usize) -> u64 {
+        let words = self.words;
+        let pass = &mut *self.pass;
+        let shared = &words.table.shared;
+        slots::len_at(shared, &mut pass.seat, &pass.taken, i)
+    }
+
+    fn look(&mut self, i: usize, b: u64, key: &K, partial: u8) -> Option<usize> {
+        let words = self.words;
+        let pass = &mut *self.pass;
+        let shared = &words.table.shared;
+        slots::look_at(shared, &mut pass.seat, &pass.taken, i, b, key, partial)
+    }
+
+    fn free(&mut self, i: usize, b: u64) -> Option<usize> {
+        let words = self.words;
+        let pass = &mut *self.pass;
+        let shared = &words.table.shared;
+        slots::free_at(shared, &mut pass.seat, &pass.taken, i, b)
+    }
+
+    fn sketch(&mut self, i: usize, b: u64) -> [Option<u8>; 4] {
+        let words = self.words;
+        let pass = &mut *self.pass;
+        let shared = &words.table.shared;
+        slots::sketch_at(shared, &mut pass.seat, &pass.taken, i, b)
+    }
+
+    fn read<R, F: FnOnce(&V) -> R>(&mut self, i: usize, b: u64, slot: usize, f: F) -> R {
+        let words = self.words;
+        let pass = &mut *self.pass;
+        let shared = &words.table.shared;
+        slots::read_at(shared, &mut pass.seat, &pass.taken, i, b, slot, f)
+    }
+
+    fn place(&mut self, i: usize, b: u64, slot: usize, key: K, value: V) {
+        let words = self.words;
+        let pass = &mut *self.pass;
+        let shared = &words.table.shared;
+        slots::place_at(shared, &mut pass.seat, &pass.taken, i, b, slot, key, value);
+    }
+
+    fn remove(&mut self, i: usize, b: u64, slot: usize) -> (K, V) {
+        let words = self.words;
+        let pass = &mut *self.pass;
+        let shared = &words.table.shared;
+        slots::remove_at(shared, &mut pass.seat, &pass.taken, i, b, slot)
+    }
+
+    fn replace(&mut self, i: usize, b: u64, slot: usize, value: V) -> V {
+        let words = self.words;
+        let pass = &mut *self.pass;
+        let shared = &words.table.shared;
+        slots::replace_at(shared, &mut pass.seat, &pass.taken, i, b, slot, value)
+    }
+
+    fn settled(&mut self, i: usize) -> bool {
+        let words = self.words;
+        let pass = &mut *self.pass;
+        let shared = &words.table.shared;
+        slots::settled_at(shared, &mut pass.seat, &pass.taken, i)
+    }
+
+    fn settle(&mut self, i: usize) {
+        let words = self.words;
+        let pass = &mut *self.pass;
+        let shared = &words.table.shared;
+        slots::settle_at(shared, &mut pass.seat, &pass.taken, i);
+    }
+
+    fn reserve_double(&mut self, i: usize) -> Result<(), AllocError> {
+        let words = self.words;
+        let pass = &mut *self.pass;
+        let shared = &words.table.shared;
+        slots::reserve_double_at(shared, &mut pass.seat, &pass.taken, i)
+    }
+
+    fn double(&mut self, i: usize) {
+        let words = self.words;
+        let pass = &mut *self.pass;
+        let shared = &words.table.shared;
+        slots::double_at(shared, &mut pass.seat, &pass.taken, i);
+    }
+
+    ghost use Rattle.std.proofs.Common.{refl, ◌∙◌};
+
+    ghost stays_same = { λ l. (refl, refl, refl) };
+
+    ghost stays_on = { λ l m n e f. (f.0 ∙ e.0, f.1 ∙ e.1, f.2 ∙ e.2) };
+}
