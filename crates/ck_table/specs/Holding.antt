@@ -1,4 +1,5 @@
 -- A pass while a call holds the stripes of its key.
+use Rattle.std.specs.Prelude.{ℕ}
 use Rattle.ck_model.specs.declared.settings.Settings.{Settings}
 use Rattle.ck_model.specs.Map.{Name}
 use Rattle.ck_section.specs.Places.{AreHeld, HasBoth}

@@ -3,8 +3,8 @@ ghost use Rattle.std.specs.Prelude.{◌≡◌, ◌<◌, Some, None, true, false,
 ghost use Rattle.ck_model.specs.declared.history.Act.TheVariants.{Insert, Assign, Upsert};
 ghost use Rattle.ck_model.specs.declared.history.Call.TheVariants.{On};
 ghost use Rattle.ck_model.specs.declared.history.Reply.TheVariants.{Was, New, Old, Done};
-ghost use Rattle.ck_section.specs.Calls.{IsWithoutRoom};
-ghost use Rattle.ck_section.specs.Places.{HasBoth};
+ghost use Rattle.ck_section.specs.Calls.{IsCall, IsWithoutRoom};
+ghost use Rattle.ck_section.specs.Places.{AreHeld, HasBoth};
 ghost use Rattle.ck_words.specs.Passes.{IsPassOf, IsIdle, IsUnchanged};
 ghost use Rattle.ck_words.specs.Answering.{IsAnswered};
 ghost use Rattle.ck_words.specs.Closing.{IsCaller};
@@ -15,7 +15,8 @@ use crate::table::Table;
 use ck_key::TableKey;
 use ck_section::{NoRoom, assign, insert, key_place, upsert};
 use ck_words::{Lent, Pass};
-use std::marker::{Brand, Snapshot};
+use std::marker::Brand;
+use std::snapshot::Snapshot;
 
 impl<K: TableKey + Drop, V: Drop> Table<K, V> {
     /// Binds the key to the value where it is unbound, and says whether it was. A bound key keeps its value, and the one
@@ -23,12 +24,7 @@ impl<K: TableKey + Drop, V: Drop> Table<K, V> {
     ///
     /// Refused, it changes no binding and hands key and value back: as `Busy`, or as `Full` where the key is unbound and
     /// both its buckets are full.
-    pub fn insert(
-        &self,
-        pass: &mut Pass<K, V>,
-        key: K,
-        value: V,
-    ) -> Result<bool, Refused<K, V>>
+    pub fn insert(&self, pass: &mut Pass<K, V>, key: K, value: V) -> Result<bool, Refused<K, V>>
         requires caller { IsCaller self.now pass.old }
         ensures caller { IsCaller self.now pass.new }
         ensures answered { IfOk result (λ fresh. IsAnswered (On (K.name key) (Insert value)) (if fresh then New else Old) pass.old pass.new) }
@@ -43,18 +39,12 @@ impl<K: TableKey + Drop, V: Drop> Table<K, V> {
             });
         }
         let said = (Snapshot::of(&key), Snapshot::of(&value));
-        let done = {
-            let mut lent = Lent {
-                words: &self.words,
-                pass: &mut *pass,
-            };
-            let place = key_place(&mut lent, self.words.settings().s, &key);
-            insert(&mut lent, place, key, value)
-        };
+        let done = self.insert_held(pass, key, value);
         match done {
-            Ok(answer) => {
-                self.words.answer::<Brand, (Snapshot<K>, Snapshot<V>)>(pass, &said);
-                Ok(answer.reply)
+            Ok(reply) => {
+                self.words
+                    .answer::<Brand, (Snapshot<K>, Snapshot<V>)>(pass, &said);
+                Ok(reply)
             }
             Err(back) => Err(self.refuse(pass, back)),
         }
@@ -84,18 +74,12 @@ impl<K: TableKey + Drop, V: Drop> Table<K, V> {
             });
         }
         let said = (Snapshot::of(&key), Snapshot::of(&value));
-        let done = {
-            let mut lent = Lent {
-                words: &self.words,
-                pass: &mut *pass,
-            };
-            let place = key_place(&mut lent, self.words.settings().s, &key);
-            assign(&mut lent, place, key, value)
-        };
+        let done = self.assign_held(pass, key, value);
         match done {
-            Ok(answer) => {
-                self.words.answer::<Brand, (Snapshot<K>, Snapshot<V>)>(pass, &said);
-                Ok(answer.reply)
+            Ok(reply) => {
+                self.words
+                    .answer::<Brand, (Snapshot<K>, Snapshot<V>)>(pass, &said);
+                Ok(reply)
             }
             Err(back) => Err(self.refuse(pass, back)),
         }
@@ -130,20 +114,97 @@ impl<K: TableKey + Drop, V: Drop> Table<K, V> {
             });
         }
         let said = (Snapshot::of(&key), Snapshot::of(&value));
-        let done = {
-            let mut lent = Lent {
-                words: &self.words,
-                pass: &mut *pass,
-            };
-            let place = key_place(&mut lent, self.words.settings().s, &key);
-            upsert(&mut lent, place, key, f, value)
-        };
+        let done = self.upsert_held(pass, key, f, value);
         match done {
-            Ok(answer) => {
-                self.words.answer::<Brand, (Snapshot<K>, Snapshot<V>)>(pass, &said);
-                Ok(answer.reply)
+            Ok(reply) => {
+                self.words
+                    .answer::<Brand, (Snapshot<K>, Snapshot<V>)>(pass, &said);
+                Ok(reply)
             }
-            Err((_, back)) => Err(self.refuse(pass, back)),
+            Err(back) => Err(self.refuse(pass, back)),
+        }
+    }
+
+    // The call `insert` on the stripes that the pass holds.
+    fn insert_held(&self, pass: &mut Pass<K, V>, key: K, value: V) -> Result<bool, NoRoom<K, V>>
+        requires own { IsPassOf self.now pass.old }
+        requires held { AreHeld self.now.settings.s pass.old.stripes }
+        requires both { HasBoth K.hash self.now.settings.s pass.old.stripes (K.name key) }
+        ensures own { IsPassOf self.now pass.new }
+        ensures view { pass.new.view ≡ pass.old.view }
+        ensures some { 0 < length pass.new.stripes }
+        ensures call { IfOk result (λ fresh. IsCall K.hash self.now.settings.s pass.old.stripes (K.name key) (Insert value) (if fresh then New else Old) pass.new.stripes) }
+        ensures no_room { IfErr result (λ e. IsWithoutRoom K.hash self.now.settings.s pass.old.stripes (K.name key) × (e ≡ record { key = key; value = value }) × (pass.new.stripes ≡ pass.old.stripes)) }
+    {
+        let s = self.words.settings().s;
+        let mut lent = Lent {
+            words: &self.words,
+            pass,
+        };
+        let place = key_place(&mut lent, s, &key);
+        match insert(&mut lent, place, key, value) {
+            Ok(answer) => Ok(answer.reply),
+            Err(back) => Err(back),
+        }
+    }
+
+    // The call `assign` on the stripes that the pass holds.
+    fn assign_held(
+        &self,
+        pass: &mut Pass<K, V>,
+        key: K,
+        value: V,
+    ) -> Result<Option<V>, NoRoom<K, V>>
+        requires own { IsPassOf self.now pass.old }
+        requires held { AreHeld self.now.settings.s pass.old.stripes }
+        requires both { HasBoth K.hash self.now.settings.s pass.old.stripes (K.name key) }
+        ensures own { IsPassOf self.now pass.new }
+        ensures view { pass.new.view ≡ pass.old.view }
+        ensures some { 0 < length pass.new.stripes }
+        ensures call { IfOk result (λ old. IsCall K.hash self.now.settings.s pass.old.stripes (K.name key) (Assign value) (Was old) pass.new.stripes) }
+        ensures no_room { IfErr result (λ e. IsWithoutRoom K.hash self.now.settings.s pass.old.stripes (K.name key) × (e ≡ record { key = key; value = value }) × (pass.new.stripes ≡ pass.old.stripes)) }
+    {
+        let s = self.words.settings().s;
+        let mut lent = Lent {
+            words: &self.words,
+            pass,
+        };
+        let place = key_place(&mut lent, s, &key);
+        match assign(&mut lent, place, key, value) {
+            Ok(answer) => Ok(answer.reply),
+            Err(back) => Err(back),
+        }
+    }
+
+    // The call `upsert` on the stripes that the pass holds.
+    fn upsert_held<F: FnOnce(V) -> V>(
+        &self,
+        pass: &mut Pass<K, V>,
+        key: K,
+        f: F,
+        value: V,
+    ) -> Result<bool, NoRoom<K, V>>
+    where
+        F: Drop,
+        requires own { IsPassOf self.now pass.old }
+        requires held { AreHeld self.now.settings.s pass.old.stripes }
+        requires both { HasBoth K.hash self.now.settings.s pass.old.stripes (K.name key) }
+        requires call { F.IsAlwaysCallable f }
+        ensures own { IsPassOf self.now pass.new }
+        ensures view { pass.new.view ≡ pass.old.view }
+        ensures some { 0 < length pass.new.stripes }
+        ensures call { IfOk result (λ fresh. MatchBool fresh (IsCall K.hash self.now.settings.s pass.old.stripes (K.name key) (Upsert value) New pass.new.stripes) ((v w : V) × F.post f v w × IsCall K.hash self.now.settings.s pass.old.stripes (K.name key) (Upsert value) (Done v w) pass.new.stripes)) }
+        ensures no_room { IfErr result (λ e. IsWithoutRoom K.hash self.now.settings.s pass.old.stripes (K.name key) × (e ≡ record { key = key; value = value }) × (pass.new.stripes ≡ pass.old.stripes)) }
+    {
+        let s = self.words.settings().s;
+        let mut lent = Lent {
+            words: &self.words,
+            pass,
+        };
+        let place = key_place(&mut lent, s, &key);
+        match upsert(&mut lent, place, key, f, value) {
+            Ok(answer) => Ok(answer.reply),
+            Err((_, back)) => Err(back),
         }
     }
 

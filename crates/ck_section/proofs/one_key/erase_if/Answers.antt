@@ -1,0 +1,39 @@
+use Rattle.std.proofs.Common.{refl, sym, ap, List, None, Some, ◌∙◌}
+use Rattle.ck_model.specs.declared.history.Act.TheVariants.{Find, Erase}
+use Rattle.ck_model.specs.declared.history.Reply.TheVariants.{Was}
+use Rattle.ck_model.specs.Slots.{slot_at}
+use Rattle.ck_stripe.specs.Stripe.{StripeState}
+use Rattle.ck_section.specs.Stripes.{bucket_at}
+use Rattle.ck_section.specs.Places.{place_of}
+use Rattle.ck_section.proofs.Steps.{none_anyway, lacked, found_in, kept, took}
+use Rattle.ck_section.proofs.one_key.erase_if.Goals as goal
+
+pub returns-in_err-at-clause-unbound : goal.returns-in_err-at-clause-unbound
+returns-in_err-at-clause-unbound g c =
+    none_anyway c.from_residual.result _ (lacked g.K.TableKey.hash (g.H.Held.stripes c.args.held.now) (g.K.TableKey.name c.args.key.now) c.args.place c.requires.place (g.H.Held.stripes c.find_entry.new.held) c.find_entry.ensures.same Find (Was None) c.in_err-at.ensures.nowhere (refl, refl), c.find_entry.ensures.same)
+
+pub returns-then-not-read-clause-bound : goal.returns-then-not-read-clause-bound
+returns-then-not-read-clause-bound g c =
+    let hash = g.K.TableKey.hash in
+    let stripes = g.H.Held.stripes c.args.held.now in
+    let name = g.K.TableKey.name c.args.key.now in
+    let at = c.in_ok-at.at in
+    let found = c.in_ok-at.ensures.found in
+    let p = place_of c.args.place.s at in (
+      found.0,
+      c.if-not-read.ensures.read name found.0 (found_in hash stripes name c.args.place c.requires.place (g.H.Held.stripes c.find_entry.new.held) c.find_entry.ensures.same at c.in_ok-at.ensures.slot p refl found),
+      ((kept hash stripes name c.args.place c.requires.place (g.H.Held.stripes c.read.new.self) (c.read.ensures.same ∙ c.find_entry.ensures.same) at c.in_ok-at.ensures.slot p refl found Find (Was (Some found.0)) (refl, refl)).call, c.read.ensures.same ∙ c.find_entry.ensures.same),
+    )
+
+pub returns-clause-bound : goal.returns-clause-bound
+returns-clause-bound g c =
+    let hash = g.K.TableKey.hash in
+    let stripes = g.H.Held.stripes c.args.held.now in
+    let name = g.K.TableKey.name c.args.key.now in
+    let at = c.in_ok-at.at in
+    let p = place_of c.args.place.s at in (
+      c.remove.result.1,
+      c.if-not-read.ensures.read (g.K.TableKey.name c.remove.result.0) c.remove.result.1 (ap (λ (l : List (StripeState g.row.V.Denot)). slot_at (bucket_at l at.index at.bucket) at.slot) (sym c.read.ensures.same) ∙ c.remove.ensures.entry),
+      (took hash stripes name c.args.place c.requires.place (g.H.Held.stripes c.read.new.self) (c.read.ensures.same ∙ c.find_entry.ensures.same) at c.in_ok-at.ensures.slot p refl c.in_ok-at.ensures.found
+      Erase (λ (v : g.row.V.Denot). Was (Some v)) _ c.remove.result.1 _ (λ w. (refl, refl)) c.remove.ensures.entry c.remove.ensures.content).0,
+    )
