@@ -4,3 +4,6 @@ pub mod Laws
 pub mod Sums
 pub mod Example
 pub mod Refusals
+pub mod Plain
+pub mod Left
+pub mod Claims

@@ -85,8 +85,8 @@ module _ {V : Type 0} where
   abbrev pub IsNext : List (StripeState V) → KeyPlace → HeldSlot → Type 0
   IsNext stripes place at =
       (slot_in stripes at ≡ None) × IsLowest stripes at
-      × ((at.bucket ≡ place.first.bucket)
-      ⊎ (IsFull (bucket_at stripes place.first.index place.first.bucket) × (at.bucket ≡ place.alternate.bucket)))
+      × (((at.index ≡ place.first.index) × (at.bucket ≡ place.first.bucket))
+      ⊎ (IsFull (bucket_at stripes place.first.index place.first.bucket) × (at.index ≡ place.alternate.index) × (at.bucket ≡ place.alternate.bucket)))
 
   -- the slot at this place of the contents
   abbrev pub slot_of : Stripes V → Place → Slot V

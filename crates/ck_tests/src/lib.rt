@@ -2,6 +2,8 @@
 #![tactic(auto)]
 
 #[cfg(test)]
+mod core_steps;
+#[cfg(test)]
 mod definitions;
 #[cfg(test)]
 mod memory;

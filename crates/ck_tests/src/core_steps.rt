@@ -1,0 +1,5 @@
+//! Runs of the core, right and wrong, by the program that decides its steps.
+
+mod data;
+mod runs;
+mod worlds;
