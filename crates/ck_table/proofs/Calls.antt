@@ -1,5 +1,5 @@
 -- What a call leaves of its pass, from what its parts leave.
-use Rattle.std.proofs.Common.{◌≡◌, ◌⊎◌, length, inl, inr, ⊎_elim, ℕ, zero, suc, ◌≤◌, ◌<◌, min, max, Option, None, IfSome, IfNone, List, [], ◌∷◌, ◌++◌, reverse, append_assoc, append-nil, sym, refl, ap, ◌∙◌, subst, arith, Some}
+use Rattle.std.proofs.Common.{◌≡◌, ◌⊎◌, Bool, true, false, MatchBool, MatchOption, if◌then◌else◌, length, inl, inr, ⊎_elim, ℕ, zero, suc, ◌≤◌, ◌<◌, min, max, Option, None, IfSome, IfNone, List, [], ◌∷◌, ◌++◌, reverse, append_assoc, append-nil, sym, refl, ap, ◌∙◌, subst, arith, Some}
 use mathlib.Core.Logic.{dite}
 use native.Mathlib.Decide.{ℕ_discrete, dec_le}
 use Rattle.ck_model.specs.Arithmetic.{index_of, second_of}
@@ -17,7 +17,11 @@ use Rattle.ck_model.specs.Sections.{Section}
 use Rattle.ck_model.proofs.Histories.{calls_by-append}
 use Rattle.ck_stripe.specs.Stripe.{StripeState}
 use Rattle.ck_section.specs.Stripes.{contents_of}
-use Rattle.ck_section.specs.Calls.{layout, IsCall}
+use Rattle.ck_model.specs.declared.history.Act.TheVariants.{Insert, Assign, Upsert}
+use Rattle.ck_model.specs.declared.history.Reply.TheVariants.{Was, New, Old, Done}
+use Rattle.ck_section.specs.declared.place.KeyPlace.{KeyPlace}
+use Rattle.ck_section.specs.declared.place.Place.{Place}
+use Rattle.ck_section.specs.Calls.{layout, IsCall, IsCallAt, IsPlacing}
 use Rattle.ck_core.specs.declared.view.View.{View}
 use Rattle.ck_core.specs.Laws.{Answered}
 use Rattle.ck_words.specs.Words.{WordsState}
@@ -149,3 +153,25 @@ module _ {V : Type 0} (w v : WordsState) (is : v ≡ w) (p z : PassState V) wher
 -- there are stripes still
 pub some_still : {V : Type 0} (old mid new new2 : List (StripeState V)) → mid ≡ old → length new ≡ length mid → new ≡ new2 → 0 < length old → 0 < length new2
 some_still old mid new new2 a b c h = let x = ap length a in let y = ap length c in omega arith
+
+pub is_true : (b : Bool) (P Q : Type 0) → b ≡ true → MatchBool b P Q → P
+is_true true P Q e m = m
+is_true false P Q e m = cc
+
+pub is_false : (b : Bool) (P Q : Type 0) → b ≡ false → MatchBool b P Q → Q
+is_false true P Q e m = cc
+is_false false P Q e m = m
+
+module _ {V : Type 0} (hash : Name → ℕ) (place : KeyPlace) (mid new : List (StripeState V)) (q : Name) (at : Place) (v : V) where
+  pub inserted : (b : Bool) → MatchBool b (IsPlacing hash place mid q (Insert v) New new at v) ((new ≡ mid) × ((w : V) × IsCallAt hash place.s mid q (Insert v) Old new at w)) → IsCall hash place.s mid q (Insert v) (if b then New else Old) new
+  inserted true m = m.call
+  inserted false m = m.1.1.call
+
+  pub assigned : (o : Option V) → MatchOption o (IsPlacing hash place mid q (Assign v) (Was None) new at v) (λ w. IsCallAt hash place.s mid q (Assign v) (Was (Some w)) new at v) → IsCall hash place.s mid q (Assign v) (Was o) new
+  assigned None m = m.call
+  assigned (Some w) m = m.call
+
+  pub upserted : (P : V → V → Type 0) (b : Bool) → MatchBool b (IsPlacing hash place mid q (Upsert v) New new at v) ((u w : V) × P u w × IsCallAt hash place.s mid q (Upsert v) (Done u w) new at w)
+      → MatchBool b (IsCall hash place.s mid q (Upsert v) New new) ((u w : V) × P u w × IsCall hash place.s mid q (Upsert v) (Done u w) new)
+  upserted P true m = m.call
+  upserted P false m = (m.0, m.1, m.2, m.3.call)
