@@ -32,6 +32,49 @@ impl<K: TableKey, V> Model for Table<K, V> {
 }
 
 impl<K: TableKey + Drop, V: Drop> Table<K, V> {
+    /// An empty table of 2^power buckets, and its passes, as many as the settings have callers, numbered from 0.
+    ///
+    /// It is refused as `Settings` where a setting is not in its range, and otherwise only for want of memory.
+    pub fn open(
+        alloc: Global,
+        settings: Settings,
+    ) -> Result<(Table<K, V>, Vec<Pass<K, V>>), OpenFault>
+        ensures ok { IfOk result (λ r. (r.0.settings ≡ settings) × (r.1.items ≡ dealt r.0.table settings (counting 0 settings.callers)) × AreAllPasses r.0 r.1.items) }
+        ensures settings { (result ≡ Err OpenFault.Settings) ↔ ¬ (AreInRange settings) }
+    {
+        if !settings.are_in_range() {
+            return Err(OpenFault::Settings);
+        }
+        match Words::open_all(alloc, settings) {
+            Ok((words, passes)) => Ok((Table { words }, passes)),
+            Err(_) => Err(OpenFault::Memory),
+        }
+    }
+
+    /// Ends the table: all keys with their values, in rising order of the keys. They are the map after one legal history,
+    /// which has the entries of all passes, of each in its order.
+    ///
+    /// Where a stripe is found held in as many tries as the settings allow, or there is no memory for the list, the table
+    /// and the passes come back, with the same entries.
+    pub fn close(
+        self,
+        passes: Vec<Pass<K, V>>,
+    ) -> Result<Vec<(K, V)>, (Self, Vec<Pass<K, V>>)>
+        requires { AreAllPasses self passes.items }
+        ensures pairs { IfOk result (λ pairs. (log : List (Entry V)) × (m : Map V) × IsShuffle log (parts_of passes.items) × EachSaw log passes.items × After log m × ListsInOrder K.name K.cmp pairs.items m) }
+        ensures back { IfErr result (λ back. (back.0 ≡ self) × AreAllPasses back.0 back.1.items × EachStays passes.items back.1.items) }
+    {
+        let Table { words } = self;
+        match words.close(passes) {
+            Ok(pairs) => {
+                let mut pairs = pairs;
+                pairs.sort_unstable_by(|a, b| a.0.cmp(&b.0));
+                Ok(pairs)
+            }
+            Err((words, passes)) => Err((Table { words }, passes)),
+        }
+    }
+
     /// Tells `b` what `a` has seen: that is then a beginning of what `b` has seen, and `b` was told no lower power. What
     /// `b` had seen is a beginning too.
     pub fn meet(&self, a: &mut Pass<K, V>, b: &mut Pass<K, V>)
