@@ -1,16 +1,13 @@
-//! A cuckoo hash map of one owner.
-//!
-//! An entry is in one of the two buckets of its key (Pagh and Rodler 2004, "Cuckoo Hashing"), and a bucket has four
-//! slots (Dietzfelbinger and Weidling 2007). The number of buckets is fixed: growth, the displacement of entries and
-//! several callers come with the running table.
+//! STUB of the table of many callers, for one branch alone: the signatures and the contracts that callers rely on, and no
+//! table. `open` refuses for want of memory, so no table is ever made, and each call is proved from one that can't be.
 #![tactic(auto)]
 
-mod bucket_pair;
+mod never;
+mod pass;
 mod refusal;
 mod table;
-#[cfg(test)]
-mod tests;
 
 pub use ck_model::settings::Settings;
-pub use refusal::{OpenFault, Refused, Why};
+pub use pass::Pass;
+pub use refusal::{Busy, OpenFault, Refused, Why};
 pub use table::Table;

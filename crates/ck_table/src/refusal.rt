@@ -5,13 +5,18 @@ use thiserror::Error;
 /// Why no table was opened.
 #[derive(Debug, Clone, Copy, PartialEq, Eq, Error)]
 pub enum OpenFault {
-    /// A setting is not in its range, or the table can't have so many callers.
+    /// A setting is not in its range.
     #[error("a setting is not in its range")]
     Settings,
-    /// There is no memory for the buckets.
-    #[error("no memory for the buckets")]
+    /// There is no memory for the table.
+    #[error("no memory for the table")]
     Memory,
 }
+
+/// This stripe could not be taken in as many turns as the settings allow.
+#[derive(Debug, Clone, Copy, PartialEq, Eq, Error)]
+#[error("stripe {0} is busy")]
+pub struct Busy(pub u32);
 
 /// Why an entry was refused.
 #[derive(Debug, Clone, Copy, PartialEq, Eq, Error)]
