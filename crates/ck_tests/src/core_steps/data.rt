@@ -4,7 +4,7 @@ use ck_model::settings::Settings;
 /// The keys and values of a stripe's one bucket.
 #[derive(Clone, Copy)]
 pub struct Bucket {
-    pub slots: [Option<(u64, u64)>; 4],
+    pub slots: &'static [Option<(u64, u64)>],
     pub ledger: u64,
 }
 
@@ -103,12 +103,12 @@ pub type Claim = (usize, Made, &'static [Change]);
 pub type Dealt = (u64, &'static [u64]);
 
 pub const EMPTY: Bucket = Bucket {
-    slots: [None, None, None, None],
+    slots: &[None, None, None, None],
     ledger: 0,
 };
 
 pub const FULL: Bucket = Bucket {
-    slots: [Some((0, 5)), None, None, None],
+    slots: &[Some((0, 5)), None, None, None],
     ledger: 1,
 };
 

@@ -10,22 +10,22 @@ use ck_core::plain::world::PlainTable;
 use std::test::Fail;
 
 const LOW: Bucket = Bucket {
-    slots: [Some((0, 1)), Some((2, 1)), Some((4, 1)), Some((6, 1))],
+    slots: &[Some((0, 1)), Some((2, 1)), Some((4, 1)), Some((6, 1))],
     ledger: 4,
 };
 
 const HIGH: Bucket = Bucket {
-    slots: [Some((8, 1)), Some((10, 1)), Some((12, 1)), Some((14, 1))],
+    slots: &[Some((8, 1)), Some((10, 1)), Some((12, 1)), Some((14, 1))],
     ledger: 4,
 };
 
 const THREE: Bucket = Bucket {
-    slots: [Some((8, 1)), None, Some((12, 1)), Some((14, 1))],
+    slots: &[Some((8, 1)), None, Some((12, 1)), Some((14, 1))],
     ledger: 3,
 };
 
 const ODD: Bucket = Bucket {
-    slots: [Some((1, 1)), Some((3, 1)), Some((5, 1)), Some((7, 1))],
+    slots: &[Some((1, 1)), Some((3, 1)), Some((5, 1)), Some((7, 1))],
     ledger: 4,
 };
 

@@ -47,7 +47,7 @@ pub fn entries(alloc: Global, said: &[Said]) -> Result<Vec<Entry<u64>>, AllocErr
 
 fn row(alloc: Global, bucket: &Bucket) -> Result<Vec<Option<PlainEntry>>, AllocError> {
     let mut slots = Vec::new(alloc);
-    for slot in &bucket.slots {
+    for slot in bucket.slots {
         slots.push(match slot {
             Some((key, value)) => Some(PlainEntry {
                 name: name(alloc, *key)?,
