@@ -5,18 +5,23 @@ use thiserror::Error;
 /// Why no table was opened.
 #[derive(Debug, Clone, Copy, PartialEq, Eq, Error)]
 pub enum OpenFault {
-    /// A setting is not in its range, or the table can't have so many callers.
+    /// A setting is not in its range.
     #[error("a setting is not in its range")]
     Settings,
-    /// There is no memory for the buckets.
-    #[error("no memory for the buckets")]
+    /// There is no memory for the table and its passes.
+    #[error("no memory for the table")]
     Memory,
 }
+
+/// This stripe of the key was found held in as many tries as the settings allow. The call changed nothing.
+#[derive(Debug, Clone, Copy, PartialEq, Eq, Error)]
+#[error("stripe {0} is busy")]
+pub struct Busy(pub u32);
 
 /// Why an entry was refused.
 #[derive(Debug, Clone, Copy, PartialEq, Eq, Error)]
 pub enum Why {
-    /// This stripe could not be taken in as many turns as the settings allow.
+    /// This stripe of the key was found held in as many tries as the settings allow.
     #[error("stripe {0} is busy")]
     Busy(u32),
     /// The table has to grow, and there is no memory.

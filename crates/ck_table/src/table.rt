@@ -1,148 +1,88 @@
-//! A table of one owner.
-ghost use Rattle.std.specs.Prelude.{◌≡◌, ◌*◌, ◌^◌, ◌≤◌, ◌↔◌, [], IsErr, IfOk, IfErr, None, length, replicate, flat_map, vec_capacity, if◌then◌else◌};
-ghost use Rattle.std.specs.Prelude.{map as list_map};
-ghost use Rattle.std.specs.FinMap.{empty};
-ghost use Rattle.ck_model.specs.declared.history.Act.TheVariants.{Find, Insert};
-ghost use Rattle.ck_model.specs.declared.history.Call.TheVariants.{On};
-ghost use Rattle.ck_model.specs.declared.history.Reply.TheVariants.{Was, New, Old};
-ghost use Rattle.ck_model.specs.Map.{named, Step, ListsInOrder};
-ghost use Rattle.ck_model.specs.Slots.{taken_in};
-ghost use Rattle.ck_model.specs.Contents.{bindings};
-ghost use Rattle.ck_model.specs.Paths.{HasNoRoom};
-ghost use Rattle.ck_table.specs.Whole.{layout_of, IsOpenable};
+//! The table, and how it begins and ends.
+ghost use Rattle.std.specs.Prelude.{◌≡◌, ◌↔◌, IfOk, IfErr, Err, List};
+ghost use Rattle.ck_model.specs.declared.history.Entry.{Entry};
+ghost use Rattle.ck_model.specs.Map.{Map, ListsInOrder};
+ghost use Rattle.ck_model.specs.History.{After, IsShuffle};
+ghost use Rattle.ck_model.specs.Ranges.{AreInRange};
+ghost use Rattle.ck_words.specs.Meeting.{Meets};
+ghost use Rattle.ck_words.specs.Rule.{counting};
+ghost use Rattle.ck_words.specs.Closing.{IsCaller, AreAllPasses, EachSaw, EachStays, dealt, parts_of};
 
-use crate::bucket_pair::BucketPair;
-use crate::refusal::{OpenFault, Refused, Why};
-use ck_bucket::Bucket;
+use crate::refusal::OpenFault;
 use ck_key::TableKey;
 use ck_model::settings::Settings;
-use std::alloc::{AllocError, Global};
+use ck_words::{Pass, Words};
+use std::alloc::Global;
 use std::marker::Model;
 
-/// A map from keys to values in 2^power buckets, with one owner.
+/// A map from keys to values in 2^power buckets, for many callers.
 ///
-/// This form neither grows nor displaces an entry to make room, and has no callers beside its owner: these come with the
-/// running table. Of the settings it uses the power alone, and checks the others.
+/// A caller makes each call with its own pass. Contracts see which table it is, and its settings.
 #[derive(Drop)]
 pub struct Table<K: TableKey, V> {
-    settings: Settings,
-    buckets: Vec<Bucket<K, V>>,
+    pub(crate) words: Words<K, V>,
 }
 
 impl<K: TableKey, V> Model for Table<K, V> {
-    ghost use Rattle.ck_model.specs.Contents.{Lawful};
-    ghost use Rattle.ck_table.specs.Whole.{Whole, layout_of, one_stripe, IsOpenable};
+    ghost use Rattle.ck_words.specs.Words.{WordsState};
 
-    ghost Value = { Whole V };
+    ghost Value = { WordsState };
 
-    ghost view = { λ t. record { settings = t.settings; stripes = one_stripe t.settings.power t.buckets.items } };
-
-    ghost invariant = { λ t. IsOpenable t.settings × Lawful (layout_of K.hash t.settings) (one_stripe t.settings.power t.buckets.items) };
+    ghost view = { λ t. t.words };
 }
 
 impl<K: TableKey + Drop, V: Drop> Table<K, V> {
-    /// An empty table of 2^power buckets. It is refused as `Settings` where a setting is not in its range or the callers
-    /// are not one, and otherwise only for want of memory.
-    pub fn open(alloc: Global, settings: Settings) -> Result<Table<K, V>, OpenFault>
-        ensures ok { IfOk result (λ t. (t.settings ≡ settings) × (bindings t.stripes ≡ empty)) }
-        ensures settings { (result ≡ Err OpenFault.Settings) ↔ ¬ (IsOpenable settings) }
+    /// An empty table of 2^power buckets, and its passes, as many as the settings have callers, numbered from 0.
+    ///
+    /// It is refused as `Settings` where a setting is not in its range, and otherwise only for want of memory.
+    pub fn open(
+        alloc: Global,
+        settings: Settings,
+    ) -> Result<(Table<K, V>, Vec<Pass<K, V>>), OpenFault>
+        ensures ok { IfOk result (λ r. (r.0.settings ≡ settings) × (r.1.items ≡ dealt r.0.table settings (counting 0 settings.callers)) × AreAllPasses r.0 r.1.items) }
+        ensures settings { (result ≡ Err OpenFault.Settings) ↔ ¬ (AreInRange settings) }
     {
-        if !settings.are_in_range() || settings.callers != 1 {
+        if !settings.are_in_range() {
             return Err(OpenFault::Settings);
         }
-        match fresh_buckets(alloc, 1 << settings.power) {
-            Ok(buckets) => Ok(Table { settings, buckets }),
+        match Words::open_all(alloc, settings) {
+            Ok((words, passes)) => Ok((Table { words }, passes)),
             Err(_) => Err(OpenFault::Memory),
         }
     }
 
-    /// The value that is bound to the key, or None where the key is unbound.
-    pub fn find(&self, key: &K) -> Option<V>
-    where
-        V: Copy,
-        ensures { Step (bindings self.now.stripes) (On (K.name key.now) Find) (Was result) (bindings self.now.stripes) }
-    {
-        let pair = BucketPair::of(self.settings.power, key);
-        let (bucket, slot) = pair.find_entry(&self.buckets, key)?;
-        match self.buckets[bucket].get(slot) {
-            Some((_, value)) => Some(*value),
-            None => None,
-        }
-    }
-
-    /// Binds the key to the value where it is unbound, and says whether it was. A bound key keeps its value.
+    /// Ends the table: all keys with their values, in rising order of the keys. They are the map after one legal history,
+    /// which has the entries of all passes, of each in its order.
     ///
-    /// Where the key is unbound and both its buckets are full it is refused as `Full`: key and value come back, and the
-    /// table stays as it was.
-    pub fn insert(&mut self, key: K, value: V) -> Result<bool, Refused<K, V>>
-        ensures ok { IfOk result (λ fresh. Step (bindings self.old.stripes) (On (K.name key) (Insert value)) (if fresh then New else Old) (bindings self.new.stripes)) }
-        ensures full { IsErr result ↔ HasNoRoom (layout_of K.hash self.old.settings) self.old.stripes (K.name key) }
-        ensures handed_back { IfErr result (λ e. (e.key ≡ key) × (e.value ≡ value) × (e.why ≡ Why.Full) × (self.new ≡ self.old)) }
-        ensures settings { self.new.settings ≡ self.old.settings }
+    /// Where a stripe is found held in as many tries as the settings allow, or there is no memory for the list, the table
+    /// and the passes come back, with the same entries.
+    pub fn close(
+        self,
+        passes: Vec<Pass<K, V>>,
+    ) -> Result<Vec<(K, V)>, (Self, Vec<Pass<K, V>>)>
+        requires { AreAllPasses self passes.items }
+        ensures pairs { IfOk result (λ pairs. (log : List (Entry V)) × (m : Map V) × IsShuffle log (parts_of passes.items) × EachSaw log passes.items × After log m × ListsInOrder K.name K.cmp pairs.items m) }
+        ensures back { IfErr result (λ back. (back.0 ≡ self) × AreAllPasses back.0 back.1.items × EachStays passes.items back.1.items) }
     {
-        let pair = BucketPair::of(self.settings.power, &key);
-        if pair.find_entry(&self.buckets, &key).is_some() {
-            return Ok(false);
-        }
-        match pair.find_free(&self.buckets) {
-            Some((bucket, slot)) => {
-                self.buckets[bucket].put(slot, key, value);
-                Ok(true)
-            }
-            None => Err(Refused {
-                key,
-                value,
-                why: Why::Full,
-            }),
-        }
-    }
-
-    /// All keys with their values, in rising order of the keys. Where there is no memory for the list, the table comes
-    /// back as it was.
-    pub fn close(self, alloc: Global) -> Result<Vec<(K, V)>, Self>
-        ensures pairs { IfOk result (λ pairs. ListsInOrder K.name K.cmp pairs.items (bindings self.stripes)) }
-        ensures kept { IfErr result (λ table. table ≡ self) }
-    {
-        match Vec::with_capacity(alloc, self.buckets.len() * 4) {
+        let Table { words } = self;
+        match words.close(passes) {
             Ok(pairs) => {
-                let Table {
-                    settings: _,
-                    buckets,
-                } = self;
-                let mut pairs = pour(buckets, pairs);
+                let mut pairs = pairs;
                 pairs.sort_unstable_by(|a, b| a.0.cmp(&b.0));
                 Ok(pairs)
             }
-            Err(_) => Err(self),
+            Err((words, passes)) => Err((Table { words }, passes)),
         }
     }
-}
 
-// As many buckets, with free slots alone.
-fn fresh_buckets<K: TableKey + Drop, V: Drop>(
-    alloc: Global,
-    number: usize,
-) -> Result<Vec<Bucket<K, V>>, AllocError>
-    ensures { IfOk result (λ buckets. buckets.items ≡ replicate number (replicate 4 None)) }
-{
-    let mut buckets = Vec::with_capacity(alloc, number)?;
-    for _ in 0..number {
-        buckets.push_reserved(Bucket::new());
+    /// Tells `b` what `a` has seen: that is then a beginning of what `b` has seen, and `b` was told no lower power. What
+    /// `b` had seen is a beginning too.
+    pub fn meet(&self, a: &mut Pass<K, V>, b: &mut Pass<K, V>)
+        requires own { IsCaller self.now a.old × IsCaller self.now b.old }
+        ensures own { IsCaller self.now a.new × IsCaller self.now b.new }
+        ensures left { a.new ≡ a.old }
+        ensures met { Meets a.old b.old b.new }
+    {
+        self.words.meet(a, b);
     }
-    Ok(buckets)
-}
-
-// The pairs of the buckets in the order of their slots, in an empty list with room for them.
-fn pour<K: TableKey + Drop, V: Drop>(
-    buckets: Vec<Bucket<K, V>>,
-    mut pairs: Vec<(K, V)>,
-) -> Vec<(K, V)>
-    requires empty { pairs.items ≡ [] }
-    requires room { 4 * length buckets.items ≤ vec_capacity pairs }
-    ensures { list_map (named K.name) result.items ≡ flat_map taken_in buckets.items }
-{
-    for bucket in buckets {
-        bucket.pour_reserved(&mut pairs);
-    }
-    pairs
 }

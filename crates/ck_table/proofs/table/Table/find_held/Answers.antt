@@ -1,0 +1,27 @@
+use Rattle.std.proofs.Common.{rules, ◌≡◌, ◌∙◌, ℕ, List, None, Some, IfSome, IfNone, length, ap, subst}
+use Rattle.std.specs.Fn.{FnOnceReturnsAt}
+use Rattle.ck_model.specs.declared.history.Act.TheVariants.{Find}
+use Rattle.ck_model.specs.declared.history.Reply.TheVariants.{Was}
+use Rattle.ck_model.specs.declared.settings.Settings.{Settings}
+use Rattle.ck_stripe.specs.Stripe.{StripeState}
+use Rattle.ck_section.specs.Calls.{IsCall, IsCallAt}
+use Rattle.ck_words.specs.Words.{WordsState}
+use Rattle.ck_table.proofs.Calls.{s_of, At, some_still}
+use Rattle.ck_table.proofs.table.Table.find_held.Goals as goal
+
+pub returns-clause-bound : goal.returns-clause-bound
+returns-clause-bound g c =
+    let there : c.find.new.held.pass.now.stripes ≡ c.pass-1.given.0.stripes = search rules in
+    subst (λ (x : At g.row.V.Denot). IfSome c.find.result (λ a. (v : g.row.V.Denot) × FnOnceReturnsAt g.F.FnOnce c.args.f v a.reply × IsCallAt g.K.TableKey.hash x.0 x.1 (g.K.TableKey.name c.args.key.now) Find (Was (Some v)) x.2 a.place v))
+    (λ j. (s_of c.args.self.now c.self.inside.words c.self.view_is c.settings-s.result c.settings-s.ensures.value c.key_place-place.result.s c.key_place-place.ensures.s j, c.key_place-place.ensures.same j, there j)) c.find.ensures.bound
+
+pub returns-clause-unbound : goal.returns-clause-unbound
+returns-clause-unbound g c =
+    let there : c.find.new.held.pass.now.stripes ≡ c.pass-1.given.0.stripes = search rules in
+    subst (λ (x : At g.row.V.Denot). IfNone c.find.result (IsCall g.K.TableKey.hash x.0 x.1 (g.K.TableKey.name c.args.key.now) Find (Was None) x.2))
+    (λ j. (s_of c.args.self.now c.self.inside.words c.self.view_is c.settings-s.result c.settings-s.ensures.value c.key_place-place.result.s c.key_place-place.ensures.s j, c.key_place-place.ensures.same j, there j)) c.find.ensures.unbound
+
+pub returns-clause-some : goal.returns-clause-some
+returns-clause-some g c =
+    let there : c.find.new.held.pass.now.stripes ≡ c.pass-1.given.0.stripes = search rules in
+    some_still c.args.pass.now.stripes _ _ c.pass-1.given.0.stripes c.key_place-place.ensures.same (ap length c.find.ensures.same) there c.requires.held.some

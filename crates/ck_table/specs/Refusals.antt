@@ -1,0 +1,34 @@
+-- What a refused call leaves of its pass.
+use Rattle.std.specs.Prelude.{◌≡◌, ◌⊎◌, ℕ, List, ◌∷◌, ◌++◌, replicate}
+use Rattle.ck_model.specs.declared.history.Why.TheVariants.{NoRoom}
+use Rattle.ck_model.specs.declared.settings.Settings.{Settings}
+use Rattle.ck_model.specs.Map.{Name}
+use Rattle.ck_model.specs.Contents.{IsStripeOf}
+use Rattle.ck_table.specs.declared.refusal.Why.{Why}
+use Rattle.ck_table.specs.declared.refusal.Why.TheVariants.{Busy, Memory, Full, LoadTooLow}
+use Rattle.ck_words.specs.Rule.{layout_of}
+use Rattle.ck_words.specs.Passes.{PassState}
+use Rattle.ck_words.specs.Retries.{Stays, FindsAmong}
+
+module _ {V : Type 0} where
+  -- the pass found no stripe held but those of the name
+  abbrev pub FindsOwn : (Name → ℕ) → Settings → Name → PassState V → PassState V → Type 0
+  FindsOwn hash set q p p2 = FindsAmong (IsStripeOf (layout_of hash set) q) p p2
+
+  -- The call has no entry, and its last tries all found this stripe of the name held.
+  pub record IsBusyAt (hash : Name → ℕ) (set : Settings) (q : Name) (t : ℕ) (p p2 : PassState V) : Type 0 where
+    pub stays : Stays p.view p2.view
+    pub stripe : IsStripeOf (layout_of hash set) q t
+    pub before : List ℕ
+    pub tried : p2.view.found ≡ replicate set.turns t ++ before ++ p.view.found
+
+  -- The call has no entry; the pass has shown that the name was unbound and its buckets were full.
+  pub record HasFoundNoRoom (q : Name) (p p2 : PassState V) : Type 0 where
+    pub stays : Stays (record p.view { noroom = (q, NoRoom) ∷ p.view.noroom }) p2.view
+
+  -- The insertion was refused for this reason.
+  abbrev pub IsRefused : (Name → ℕ) → Settings → Name → Why → PassState V → PassState V → Type 0
+  IsRefused hash set q (Busy t) p p2 = IsBusyAt hash set q t p p2
+  IsRefused hash set q Full p p2 = HasFoundNoRoom q p p2
+  IsRefused hash set q Memory p p2 = ⊥
+  IsRefused hash set q LoadTooLow p p2 = ⊥
