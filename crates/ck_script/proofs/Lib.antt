@@ -3,6 +3,7 @@ pub mod Cuts
 pub mod ParseFrom
 pub mod Spelling
 pub mod Faults
+pub mod Entries
 pub mod Answered
 pub mod Writing
 pub mod Progress

@@ -11,17 +11,18 @@ use Rattle.std.proofs.lemmas.Bool.Decides.{nat_tests}
 use Rattle.std.proofs.lemmas.List.Concat.{flat_map-cons}
 use Rattle.std.proofs.lemmas.List.Elements.{All-head, All-tail}
 use Rattle.std.proofs.lemmas.List.Splits.{slice_split_at}
+use Rattle.ck_key.specs.declared.num_key.NumKey.{NumKey}
 use Rattle.ck_script.specs.Script.{NumCommand}
-use Rattle.ck_script.specs.declared.script.Command.TheVariants.{Find, Insert}
+use Rattle.ck_script.specs.declared.script.Command.TheVariants.{Find, Has, Insert, Assign, Update, Add, Erase}
 use Rattle.ck_script.specs.declared.line.Place.{Place}
 use Rattle.ck_script.specs.declared.line.Place.TheVariants as at
 use Rattle.ck_script.specs.declared.script.What.{What}
 use Rattle.ck_script.specs.declared.script.What.TheVariants as is
 use Rattle.ck_script.specs.declared.script.ScriptFault.{ScriptFault}
 use Rattle.ck_script.specs.Words.{words, number_at, begins_as_number, IsNumber}
-use Rattle.ck_script.specs.Lines.{IsLine, ◌>>=◌, number_or_fault, command_in, command_at, parts, is_feed}
+use Rattle.ck_script.specs.Lines.{IsLine, ◌>>=◌, number_or_fault, pair_or_fault, key_command, pair_command, command_in, command_at, parts, is_feed}
 use Rattle.ck_script.specs.Parse.{commands_of, within_count, line_at, ending, with_front, parse_lines, parse, step_at}
-use Rattle.ck_script.specs.Spells.{IsCommand, AreCommands, IsScript, with_feed, Spells}
+use Rattle.ck_script.specs.Spells.{AreNameAndKey, AreNameAndPair, IsCommand, AreCommands, IsScript, with_feed, Spells}
 use Rattle.ck_script.specs.FirstFault.{first_fault}
 use Rattle.ck_script.proofs.ParseFrom.{line_is, parse_lines-line}
 use Rattle.ck_script.proofs.Spelling.{same_bytes, spelled}
@@ -39,21 +40,43 @@ some_bytes : (word : List ℕ) → begins_as_number word ≡ true → eqb (lengt
 some_bytes [] h = absurd (false≢true h)
 some_bytes (b ∷ bytes) h = grind (arith, nat_tests)
 
+pair_or_fault-of : (key value : List ℕ) (k v : ℕ) → IsNumber key k → IsNumber value v → pair_or_fault key value ≡ Ok (k, v)
+pair_or_fault-of key value k v h g = rw (number_or_fault-of key k h, number_or_fault-of value v g) refl
+
+command_in-key : (name : List ℕ) (command : NumKey → NumCommand) → key_command name ≡ Some command → (ws : List (List ℕ)) (k : NumKey) → AreNameAndKey name ws k → command_in ws ≡ Ok (command k)
+command_in-key name command e [] k h = absurd h
+command_in-key name command e (word ∷ []) k h = absurd h
+command_in-key name command e (word ∷ key ∷ []) k h =
+    let told : key_command word ≡ Some command = ap key_command h.0 ∙ e in
+    rw (some_bytes key h.1.begins, told, number_or_fault-of key k.0 h.1) refl
+command_in-key name command e (word ∷ key ∷ value ∷ ws) k h = absurd h
+
+command_in-pair : (name : List ℕ) (command : NumKey → ℕ → NumCommand) → pair_command name ≡ Some command → (ws : List (List ℕ)) (k : NumKey) (v : ℕ) → AreNameAndPair name ws k v
+    → command_in ws ≡ Ok (command k v)
+command_in-pair name command e [] k v h = absurd h
+command_in-pair name command e (word ∷ []) k v h = absurd h
+command_in-pair name command e (word ∷ key ∷ []) k v h = absurd h
+command_in-pair name command e (word ∷ key ∷ value ∷ []) k v h =
+    let told : pair_command word ≡ Some command = ap pair_command h.0 ∙ e in
+    rw (some_bytes key h.1.begins, some_bytes value h.2.begins, told, pair_or_fault-of key value k.0 v h.1 h.2) refl
+command_in-pair name command e (word ∷ key ∷ value ∷ other ∷ ws) k v h = absurd h
+
 command_in-of : (ws : List (List ℕ)) (c : NumCommand) → IsCommand ws c → command_in ws ≡ Ok c
-command_in-of [] c h = absurd h
-command_in-of (name ∷ []) c h = absurd h
-command_in-of (name ∷ key ∷ []) (Find k) h =
-    rw (h.0, some_bytes key h.1.begins, number_or_fault-of key k.0 h.1) refl
-command_in-of (name ∷ key ∷ []) (Insert k v) h = absurd h
-command_in-of (name ∷ key ∷ value ∷ []) (Find k) h = absurd h
-command_in-of (name ∷ key ∷ value ∷ []) (Insert k v) h =
-    rw (h.0, some_bytes key h.1.begins, some_bytes value h.2.begins, number_or_fault-of key k.0 h.1, number_or_fault-of value v h.2) refl
-command_in-of (a ∷ b ∷ c ∷ d ∷ ws) x h = absurd h
+command_in-of ws (Find k) h = command_in-key (codes "find") Find refl ws k h
+command_in-of ws (Has k) h = command_in-key (codes "has") Has refl ws k h
+command_in-of ws (Insert k v) h = command_in-pair (codes "insert") Insert refl ws k v h
+command_in-of ws (Assign k v) h = command_in-pair (codes "assign") Assign refl ws k v h
+command_in-of ws (Update k v) h = command_in-pair (codes "update") Update refl ws k v h
+command_in-of ws (Add k v) h = command_in-pair (codes "add") Add refl ws k v h
+command_in-of ws (Erase k) h = command_in-key (codes "erase") Erase refl ws k h
 
 -- a command line is no line end
 no_end : (line : List ℕ) (c : NumCommand) → IsCommand (words line) c → bytes_eq line (codes "end") ≡ false
 no_end line c h =
-    false_from_ne_true _ (λ e. let one : IsCommand (words (codes "end")) c = subst (λ (l : List ℕ). IsCommand (words l) c) (same_bytes line (codes "end") e) h in one)
+    false_from_ne_true _ (λ e.
+    let one : IsCommand (codes "end" ∷ []) c = subst (λ (l : List ℕ). IsCommand (words l) c) (same_bytes line (codes "end") e) h in
+    let read : command_in (codes "end" ∷ []) ≡ Ok c = command_in-of (codes "end" ∷ []) c one in
+    cc)
 
 step_at-command : (line : List ℕ) (c : NumCommand) → IsCommand (words line) c → step_at at.Block line ≡ Ok (at.Block, Some c)
 unfolding step_at command_at

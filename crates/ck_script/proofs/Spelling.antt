@@ -12,15 +12,16 @@ use Rattle.std.proofs.lemmas.List.Concat.{flat_map-cons}
 use Rattle.std.proofs.lemmas.List.Splits.{join_with_byte-slice_split, slice_split-cons_yes, slice_split-cons_no}
 use Rattle.std.proofs.lemmas.List.Elements.{All-cons, All-nil, All-head, All-tail}
 use Rattle.std.proofs.lemmas.Slice.Eq.{bytes_eq-Decides}
+use Rattle.ck_key.specs.declared.num_key.NumKey.{NumKey}
 use Rattle.ck_script.specs.Script.{NumCommand, key_of}
-use Rattle.ck_script.specs.declared.script.Command.TheVariants.{Find, Insert}
+use Rattle.ck_script.specs.declared.script.Command.TheVariants.{Find, Has, Insert, Assign, Update, Add, Erase}
 use Rattle.ck_script.specs.declared.line.Place.{Place}
 use Rattle.ck_script.specs.declared.line.Place.TheVariants as at
 use Rattle.ck_script.specs.declared.script.What.{What}
 use Rattle.ck_script.specs.declared.script.What.TheVariants as is
 use Rattle.ck_script.specs.declared.script.ScriptFault.{ScriptFault}
 use Rattle.ck_script.specs.Words.{words, number_at, begins_as_number, IsNumber}
-use Rattle.ck_script.specs.Lines.{IsLine, ◌>>=◌, number_or_fault, command_in, command_at, parts, is_feed}
+use Rattle.ck_script.specs.Lines.{IsLine, ◌>>=◌, number_or_fault, pair_or_fault, key_command, pair_command, with_key, with_pair, command_in, command_at, parts, is_feed}
 use Rattle.ck_script.specs.Parse.{lines_before, commands_of, within_count, IsParsed, line_at, ending, on_line, with_front, parse_lines, parse, step_at, is_complete}
 use Rattle.ck_script.specs.Spells.{IsCommand, AreCommands, IsScript, with_feed, Spells}
 
@@ -91,20 +92,64 @@ or_ok None d x e = absurd cc
 number_law : (word : List ℕ) (n : ℕ) → number_or_fault word ≡ Ok n → IsNumber word n
 number_law word n e = number_some word n (or_ok (number_at word) is.Number n e)
 
+pair_law : (key value : List ℕ) (p : ℕ × ℕ) → pair_or_fault key value ≡ Ok p → IsNumber key p.0 × IsNumber value p.1
+pair_law key value p e =
+    let k = bind_ok (number_or_fault key) (λ k. number_or_fault value >>= λ v. Ok (k, v)) p e in
+    let v = bind_ok (number_or_fault value) (λ v. Ok (k.0, v)) p k.2 in
+    subst (λ (q : ℕ × ℕ). IsNumber key q.0 × IsNumber value q.1) (ok_line-injective (k.0, v.0) p v.2) (number_law key k.0 k.1, number_law value v.0 v.1)
+
+-- what a table gives is its first line's, or another's
+first_or_later : {A : Type 0} (b : Bool) (x y : A) (later : Option A) → cond b (Some x) later ≡ Some y → ((b ≡ true) × (x ≡ y)) ⊎ (later ≡ Some y)
+first_or_later true x y later e = inl (refl, cc)
+first_or_later false x y later e = inr e
+
+key_command_law : (name key : List ℕ) (k : NumKey) → IsNumber key k.0 → (command : NumKey → NumCommand) → key_command name ≡ Some command → IsCommand (name ∷ key ∷ []) (command k)
+key_command_law name key k number command e =
+    let is_command = λ (f : NumKey → NumCommand). IsCommand (name ∷ key ∷ []) (f k) in
+    elim (first_or_later (bytes_eq name (codes "find")) Find command _ e) [
+      | inl h ↦ subst is_command h.1 (same_bytes name (codes "find") h.0, number)
+      | inr e ↦ elim (first_or_later (bytes_eq name (codes "has")) Has command _ e) [
+        | inl h ↦ subst is_command h.1 (same_bytes name (codes "has") h.0, number)
+        | inr e ↦ elim (first_or_later (bytes_eq name (codes "erase")) Erase command None e) [
+          | inl h ↦ subst is_command h.1 (same_bytes name (codes "erase") h.0, number)
+          | inr e ↦ absurd cc
+        ]
+      ]
+    ]
+
+pair_command_law : (name key value : List ℕ) (k : NumKey) (v : ℕ) → IsNumber key k.0 × IsNumber value v → (command : NumKey → ℕ → NumCommand) → pair_command name ≡ Some command
+    → IsCommand (name ∷ key ∷ value ∷ []) (command k v)
+pair_command_law name key value k v numbers command e =
+    let is_command = λ (f : NumKey → ℕ → NumCommand). IsCommand (name ∷ key ∷ value ∷ []) (f k v) in
+    elim (first_or_later (bytes_eq name (codes "insert")) Insert command _ e) [
+      | inl h ↦ subst is_command h.1 (same_bytes name (codes "insert") h.0, numbers.0, numbers.1)
+      | inr e ↦ elim (first_or_later (bytes_eq name (codes "assign")) Assign command _ e) [
+        | inl h ↦ subst is_command h.1 (same_bytes name (codes "assign") h.0, numbers.0, numbers.1)
+        | inr e ↦ elim (first_or_later (bytes_eq name (codes "update")) Update command _ e) [
+          | inl h ↦ subst is_command h.1 (same_bytes name (codes "update") h.0, numbers.0, numbers.1)
+          | inr e ↦ elim (first_or_later (bytes_eq name (codes "add")) Add command None e) [
+            | inl h ↦ subst is_command h.1 (same_bytes name (codes "add") h.0, numbers.0, numbers.1)
+            | inr e ↦ absurd cc
+          ]
+        ]
+      ]
+    ]
+
 command_law : (ws : List (List ℕ)) (c : NumCommand) → command_in ws ≡ Ok c → IsCommand ws c
 command_law [] c e = absurd cc
 command_law (name ∷ []) c e = absurd cc
 command_law (name ∷ key ∷ []) c e =
-    let g = guard_ok _ is.Command (number_or_fault key >>= λ k. Ok (Find (key_of k))) c e in
-    let o = or_no (eqb (length key) 0) (not (bytes_eq name (codes "find"))) g.0 in
-    let k = bind_ok (number_or_fault key) (λ k. Ok (Find (key_of k))) c g.1 in
-    subst (IsCommand (name ∷ key ∷ [])) (ok_line-injective (Find (key_of k.0)) c k.2) (same_bytes name (codes "find") (not_no _ o.1), number_law key k.0 k.1)
+    let g = guard_ok _ is.Command (with_key (key_command name) (number_or_fault key)) c e in
+    let f = bind_ok (ok_or (key_command name) is.Command) (λ f. number_or_fault key >>= λ k. Ok (f (key_of k))) c g.1 in
+    let k = bind_ok (number_or_fault key) (λ k. Ok (f.0 (key_of k))) c f.2 in
+    subst (IsCommand (name ∷ key ∷ [])) (ok_line-injective (f.0 (key_of k.0)) c k.2)
+    (key_command_law name key (key_of k.0) (number_law key k.0 k.1) f.0 (or_ok (key_command name) is.Command f.0 f.1))
 command_law (name ∷ key ∷ value ∷ []) c e =
-    let g = guard_ok _ is.Command (number_or_fault key >>= λ k. number_or_fault value >>= λ v. Ok (Insert (key_of k) v)) c e in
-    let o = or_no (eqb (length key) 0 || eqb (length value) 0) (not (bytes_eq name (codes "insert"))) g.0 in
-    let k = bind_ok (number_or_fault key) (λ k. number_or_fault value >>= λ v. Ok (Insert (key_of k) v)) c g.1 in
-    let v = bind_ok (number_or_fault value) (λ v. Ok (Insert (key_of k.0) v)) c k.2 in
-    subst (IsCommand (name ∷ key ∷ value ∷ [])) (ok_line-injective (Insert (key_of k.0) v.0) c v.2) (same_bytes name (codes "insert") (not_no _ o.1), number_law key k.0 k.1, number_law value v.0 v.1)
+    let g = guard_ok _ is.Command (with_pair (pair_command name) (pair_or_fault key value)) c e in
+    let f = bind_ok (ok_or (pair_command name) is.Command) (λ f. pair_or_fault key value >>= λ p. Ok (f (key_of p.0) p.1)) c g.1 in
+    let p = bind_ok (pair_or_fault key value) (λ p. Ok (f.0 (key_of p.0) p.1)) c f.2 in
+    subst (IsCommand (name ∷ key ∷ value ∷ [])) (ok_line-injective (f.0 (key_of p.0.0) p.0.1) c p.2)
+    (pair_command_law name key value (key_of p.0.0) p.0.1 (pair_law key value p.0 p.1) f.0 (or_ok (pair_command name) is.Command f.0 f.1))
 command_law (a ∷ b ∷ c ∷ d ∷ ws) x e = absurd cc
 
 count_is : (n : ℕ) (t s : Place × Option NumCommand) → within_count n t.0 t.1 ≡ Ok s → t ≡ s

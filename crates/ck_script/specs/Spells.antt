@@ -1,16 +1,31 @@
 -- The grammar of scripts: a script is a list of lines, each ended by a line feed.
 use Rattle.std.specs.Prelude.{All, length, ◌≤◌, ◌≡◌, ℕ, List, [], ◌∷◌, ◌++◌, codes}
 use Rattle.std.specs.List.{flat_map}
+use Rattle.ck_key.specs.declared.num_key.NumKey.{NumKey}
 use Rattle.ck_script.specs.Script.{NumCommand}
-use Rattle.ck_script.specs.declared.script.Command.TheVariants.{Find, Insert}
+use Rattle.ck_script.specs.declared.script.Command.TheVariants.{Find, Has, Insert, Assign, Update, Add, Erase}
 use Rattle.ck_script.specs.Words.{words, IsNumber}
 use Rattle.ck_script.specs.Lines.{IsLine}
 
+-- the words are this name and a key
+abbrev pub AreNameAndKey : List ℕ → List (List ℕ) → NumKey → Type 0
+AreNameAndKey name (word ∷ key ∷ []) k = (word ≡ name) × IsNumber key k.0
+AreNameAndKey name ws k = ⊥
+
+-- the words are this name, a key and a number
+abbrev pub AreNameAndPair : List ℕ → List (List ℕ) → NumKey → ℕ → Type 0
+AreNameAndPair name (word ∷ key ∷ value ∷ []) k v = (word ≡ name) × IsNumber key k.0 × IsNumber value v
+AreNameAndPair name ws k v = ⊥
+
 -- the words of a line are this command
 abbrev pub IsCommand : List (List ℕ) → NumCommand → Type 0
-IsCommand (name ∷ key ∷ []) (Find k) = (name ≡ codes "find") × IsNumber key k.0
-IsCommand (name ∷ key ∷ value ∷ []) (Insert k v) = (name ≡ codes "insert") × IsNumber key k.0 × IsNumber value v
-IsCommand ws c = ⊥
+IsCommand ws (Find k) = AreNameAndKey (codes "find") ws k
+IsCommand ws (Has k) = AreNameAndKey (codes "has") ws k
+IsCommand ws (Insert k v) = AreNameAndPair (codes "insert") ws k v
+IsCommand ws (Assign k v) = AreNameAndPair (codes "assign") ws k v
+IsCommand ws (Update k v) = AreNameAndPair (codes "update") ws k v
+IsCommand ws (Add k v) = AreNameAndPair (codes "add") ws k v
+IsCommand ws (Erase k) = AreNameAndKey (codes "erase") ws k
 
 -- the lines behind a line `worker` are these commands, one a line, and then the line `end`
 abbrev pub AreCommands : List (List ℕ) → List NumCommand → Type 0

@@ -3,7 +3,7 @@ use Rattle.std.specs.Prelude.{ℕ, ◌+◌, List, [], ◌∷◌, ◌++◌, codes
 use Rattle.std.specs.Fmt.{decimal}
 use Rattle.ck_model.specs.Map.{Name}
 use Rattle.ck_script.specs.declared.answer.Answer.{Answer}
-use Rattle.ck_script.specs.declared.answer.Answer.TheVariants.{Value, Absent, New, Old, Full}
+use Rattle.ck_script.specs.declared.answer.Answer.TheVariants.{Value, Absent, Yes, No, New, Old, Set, Gone, Busy, Memory, Full, Load}
 
 -- a line and its line feed
 abbrev pub line : List ℕ → List ℕ
@@ -17,9 +17,16 @@ name_text (n ∷ ns) = decimal n
 abbrev pub answer_text : Answer → List ℕ
 answer_text (Value v) = codes "v " ++ decimal v
 answer_text Absent = codes "none"
+answer_text Yes = codes "yes"
+answer_text No = codes "no"
 answer_text New = codes "new"
 answer_text Old = codes "old"
+answer_text Set = codes "set"
+answer_text Gone = codes "gone"
+answer_text Busy = codes "busy"
+answer_text Memory = codes "memory"
 answer_text Full = codes "full"
+answer_text Load = codes "load"
 
 -- the answers of one worker, under its number
 abbrev pub worker_text : ℕ → List Answer → List ℕ

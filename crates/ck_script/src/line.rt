@@ -1,6 +1,6 @@
 //! What a line says where it stands.
 ghost use Rattle.std.specs.Prelude.{◌≡◌, ◌≢◌, IfErr};
-ghost use Rattle.ck_script.specs.Lines.{number_or_fault, command_at};
+ghost use Rattle.ck_script.specs.Lines.{number_or_fault, pair_or_fault, key_command, with_key, pair_command, with_pair, command_at};
 ghost use Rattle.ck_script.specs.Parse.{step_at};
 
 use crate::script::{Command, What};
@@ -31,6 +31,56 @@ fn number(word: &[u8]) -> Result<u64, What>
     }
 }
 
+// The command of this name on a key. A wrong name is told before a wrong number.
+fn key_command(name: &[u8], key: Result<u64, What>) -> Result<Command<NumKey>, What>
+    requires { IfErr key (λ what. what ≢ What.Read) }
+    ensures value { result ≡ with_key (key_command name.now) key }
+    ensures text { IfErr result (λ what. what ≢ What.Read) }
+{
+    if name == b"find".as_slice() {
+        Ok(Command::Find(NumKey(key?)))
+    } else if name == b"has".as_slice() {
+        Ok(Command::Has(NumKey(key?)))
+    } else if name == b"erase".as_slice() {
+        Ok(Command::Erase(NumKey(key?)))
+    } else {
+        Err(What::Command)
+    }
+}
+
+// The key and the number that two words are.
+fn pair(key: &[u8], value: &[u8]) -> Result<(u64, u64), What>
+    ensures value { result ≡ pair_or_fault key.now value.now }
+    ensures text { IfErr result (λ what. what ≢ What.Read) }
+{
+    let key = number(key)?;
+    let value = number(value)?;
+    Ok((key, value))
+}
+
+// The command of this name on a key and a number. A wrong name is told before a wrong number.
+fn pair_command(name: &[u8], pair: Result<(u64, u64), What>) -> Result<Command<NumKey>, What>
+    requires { IfErr pair (λ what. what ≢ What.Read) }
+    ensures value { result ≡ with_pair (pair_command name.now) pair }
+    ensures text { IfErr result (λ what. what ≢ What.Read) }
+{
+    if name == b"insert".as_slice() {
+        let (key, value) = pair?;
+        Ok(Command::Insert(NumKey(key), value))
+    } else if name == b"assign".as_slice() {
+        let (key, value) = pair?;
+        Ok(Command::Assign(NumKey(key), value))
+    } else if name == b"update".as_slice() {
+        let (key, value) = pair?;
+        Ok(Command::Update(NumKey(key), value))
+    } else if name == b"add".as_slice() {
+        let (key, value) = pair?;
+        Ok(Command::Add(NumKey(key), value))
+    } else {
+        Err(What::Command)
+    }
+}
+
 // The command that a line is.
 #[tactic(auto, unfolding(crate::specs::Lines::command_at))]
 fn command_of(line: &[u8]) -> Result<Command<NumKey>, What>
@@ -39,18 +89,16 @@ fn command_of(line: &[u8]) -> Result<Command<NumKey>, What>
 {
     match words_of(line) {
         Words::Two(name, key) => {
-            if key.is_empty() || name != b"find".as_slice() {
+            if key.is_empty() {
                 return Err(What::Command);
             }
-            Ok(Command::Find(NumKey(number(key)?)))
+            key_command(name, number(key))
         }
         Words::Three(name, key, value) => {
-            if key.is_empty() || value.is_empty() || name != b"insert".as_slice() {
+            if key.is_empty() || value.is_empty() {
                 return Err(What::Command);
             }
-            let key = number(key)?;
-            let value = number(value)?;
-            Ok(Command::Insert(NumKey(key), value))
+            pair_command(name, pair(key, value))
         }
         Words::One(_) | Words::More => Err(What::Command),
     }

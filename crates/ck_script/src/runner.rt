@@ -3,7 +3,7 @@ ghost use Rattle.std.specs.Prelude.{◌≡◌, false, OnOk, IfOk, IfErr};
 ghost use Rattle.std.specs.FinMap.{empty};
 ghost use Rattle.ck_model.specs.Contents.{bindings};
 ghost use Rattle.ck_script.specs.Answered.{IsAnswered, AreAnswered};
-ghost use Rattle.ck_script.specs.Output.{IsOutputOf};
+ghost use Rattle.ck_script.specs.Output.{IsOutputOf, workers_of};
 ghost use Rattle.ck_script.specs.Run.{TakesOutput, StopsBy};
 
 use crate::answer::Answer;
@@ -62,6 +62,13 @@ fn answer_of(table: &mut Table<NumKey, u64>, command: Command<NumKey>) -> Answer
             Ok(false) => Answer::Old,
             Err(_) => Answer::Full,
         },
+        // PLACEHOLDER, not for the main line: the table of one owner has no calls for these commands, and a refusal is the
+        // only answer that stands for none.
+        Command::Has(_)
+        | Command::Assign(..)
+        | Command::Update(..)
+        | Command::Add(..)
+        | Command::Erase(_) => Answer::Busy,
     }
 }
 
@@ -83,7 +90,7 @@ fn answers_of(
 
 // What a run of the script writes.
 fn output_of(alloc: Global, script: &Script) -> Result<Vec<u8>, AllocError>
-    ensures { IfOk result (λ text. IsOutputOf script.now text.items) }
+    ensures { IfOk result (λ text. IsOutputOf (workers_of script.now) text.items) }
 {
     let mut table = open(alloc)?;
     let answers = answers_of(alloc, &mut table, &script.commands)?;

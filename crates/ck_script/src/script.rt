@@ -7,8 +7,19 @@ use thiserror::Error;
 pub enum Command<K> {
     /// `find K`: the value that is bound to the key.
     Find(K),
+    /// `has K`: whether the key is bound.
+    Has(K),
     /// `insert K N`: binds the key to the number, where the key is not bound.
     Insert(K, u64),
+    /// `assign K N`: binds the key to the number, whether or not it is bound.
+    Assign(K, u64),
+    /// `update K N`: binds the key to the number, where the key is bound.
+    Update(K, u64),
+    /// `add K N`: adds the number to the one that is bound, up to 2^64 - 1, and binds the key to the
+    /// number where it is not bound.
+    Add(K, u64),
+    /// `erase K`: unbinds the key.
+    Erase(K),
 }
 
 /// A script with one worker.

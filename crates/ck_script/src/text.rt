@@ -27,9 +27,16 @@ fn add_answer(out: &mut Vec<u8>, answer: Answer) -> Result<(), AllocError>
             out.extend_from_slice(b"\n")
         }
         Answer::Absent => out.extend_from_slice(b"none\n"),
+        Answer::Yes => out.extend_from_slice(b"yes\n"),
+        Answer::No => out.extend_from_slice(b"no\n"),
         Answer::New => out.extend_from_slice(b"new\n"),
         Answer::Old => out.extend_from_slice(b"old\n"),
+        Answer::Set => out.extend_from_slice(b"set\n"),
+        Answer::Gone => out.extend_from_slice(b"gone\n"),
+        Answer::Busy => out.extend_from_slice(b"busy\n"),
+        Answer::Memory => out.extend_from_slice(b"memory\n"),
         Answer::Full => out.extend_from_slice(b"full\n"),
+        Answer::Load => out.extend_from_slice(b"load\n"),
     }
 }
 
