@@ -4,7 +4,8 @@ pub mod ParseFrom
 pub mod Spelling
 pub mod Faults
 pub mod Entries
-pub mod Answered
+pub mod Answering
+pub mod OneWorker
 pub mod Writing
 pub mod Progress
 pub mod Spelled

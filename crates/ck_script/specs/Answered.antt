@@ -1,19 +1,18 @@
--- One caller's commands as they are answered, one after another. What a run promises stands in `Output`.
-use Rattle.std.specs.Prelude.{◌≡◌, ◌⊎◌, ℕ, List}
+-- What one command leaves of what its caller knows. What a run promises stands in `Output`.
+use Rattle.std.specs.Prelude.{◌≡◌, ◌⊎◌, ℕ, List, [], ◌∷◌, ◌++◌, Some}
 use Rattle.ck_model.specs.declared.history.Entry.{Entry}
-use Rattle.ck_model.specs.declared.history.Reply.{Reply}
-use Rattle.ck_model.specs.Map.{Map, Step}
-use Rattle.ck_model.specs.History.{After}
+use Rattle.ck_core.specs.declared.view.View.{View}
 use Rattle.ck_script.specs.Script.{NumCommand}
 use Rattle.ck_script.specs.declared.answer.Answer.{Answer}
-use Rattle.ck_script.specs.Output.{call_of, Tells, IsRefusal, AreEntriesOf}
+use Rattle.ck_script.specs.Output.{IsEntryOf, IsRefusal}
 
--- the command is refused and leaves the map as it was, or it is answered at the map m and leaves m2
-abbrev pub IsAnswered : NumCommand → Answer → Map ℕ → Map ℕ → Type 0
-IsAnswered c a m m2 = (IsRefusal c a × (m2 ≡ m)) ⊎ ((r : Reply ℕ) × Tells c a r × Step m (call_of c) r m2)
+-- the command is refused and its caller's entries stay, or they grow by the command's entry
+abbrev pub Grows : ℕ → NumCommand → Answer → List (Entry ℕ) → List (Entry ℕ) → Type 0
+Grows by c a old new =
+    (IsRefusal c a × (new ≡ old))
+    ⊎ ((e : Entry ℕ) × (e.by ≡ by) × IsEntryOf c a e.call e.reply × (new ≡ old ++ e ∷ []))
 
--- the commands were answered from the empty map on, and lead to the map m
-pub record AreAnswered (commands : List NumCommand) (answers : List Answer) (m : Map ℕ) : Type 0 where
-  pub log : List (Entry ℕ)
-  pub entries_of : AreEntriesOf 0 commands answers log
-  pub legal : After log m
+-- the caller's command was answered by this answer
+pub record IsAnsweredBy (c : NumCommand) (a : Answer) (v w : View ℕ) : Type 0 where
+  pub by : w.by ≡ v.by
+  pub entries : (by : ℕ) → v.by ≡ Some by → Grows by c a v.mine w.mine

@@ -2,6 +2,7 @@
 #![tactic(auto)]
 
 mod answer;
+mod calls;
 mod laws;
 mod line;
 mod reader;

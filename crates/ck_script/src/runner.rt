@@ -1,17 +1,16 @@
 //! Runs scripts.
-ghost use Rattle.std.specs.Prelude.{◌≡◌, false, OnOk, IfOk, IfErr};
-ghost use Rattle.std.specs.FinMap.{empty};
-ghost use Rattle.ck_model.specs.Contents.{bindings};
-ghost use Rattle.ck_script.specs.Answered.{IsAnswered, AreAnswered};
-ghost use Rattle.ck_script.specs.Output.{IsOutputOf, workers_of};
+ghost use Rattle.std.specs.Prelude.{◌≡◌, ℕ, [], Some, false, OnOk, IfOk, IfErr};
+ghost use Rattle.ck_table.specs.Passes.{IsPassHere, AreNewPasses};
+ghost use Rattle.ck_script.specs.Output.{AreEntriesOf, IsOutputOf, workers_of};
 ghost use Rattle.ck_script.specs.Run.{TakesOutput, StopsBy};
 
 use crate::answer::Answer;
+use crate::calls::answer_of;
 use crate::script::{Command, Script};
 use crate::sink::{Sink, write_all};
 use crate::text::text_of;
 use ck_key::NumKey;
-use ck_table::{OpenFault, Settings, Table};
+use ck_table::{OpenFault, Pass, Settings, Table};
 use std::alloc::{AllocError, Global};
 use thiserror::Error;
 
@@ -37,53 +36,34 @@ pub enum RunFault {
     Write { written: u64 },
 }
 
-// An empty table.
-fn open(alloc: Global) -> Result<Table<NumKey, u64>, AllocError>
-    ensures { IfOk result (λ table. bindings table.stripes ≡ empty) }
+// An empty table, and the pass of its one caller.
+fn open(alloc: Global) -> Result<(Table<NumKey, u64>, Vec<Pass<NumKey, u64>>), AllocError>
+    ensures { IfOk result (λ r. (r.0.settings.callers ≡ 1) × AreNewPasses r.0 r.1.items) }
 {
     match Table::open(alloc, SETTINGS) {
-        Ok(table) => Ok(table),
+        Ok(opened) => Ok(opened),
         Err(OpenFault::Memory) => Err(AllocError),
         Err(OpenFault::Settings) => unreachable!(),
     }
 }
 
-// Does what the command says.
-fn answer_of(table: &mut Table<NumKey, u64>, command: Command<NumKey>) -> Answer
-    ensures { IsAnswered command result (bindings table.old.stripes) (bindings table.new.stripes) }
-{
-    match command {
-        Command::Find(key) => match table.find(&key) {
-            Some(value) => Answer::Value(value),
-            None => Answer::Absent,
-        },
-        Command::Insert(key, value) => match table.insert(key, value) {
-            Ok(true) => Answer::New,
-            Ok(false) => Answer::Old,
-            Err(_) => Answer::Full,
-        },
-        // PLACEHOLDER, not for the main line: the table of one owner has no calls for these commands, and a refusal is the
-        // only answer that stands for none.
-        Command::Has(_)
-        | Command::Assign(..)
-        | Command::Update(..)
-        | Command::Add(..)
-        | Command::Erase(_) => Answer::Busy,
-    }
-}
-
-// The answers to a worker's commands.
+// The answers to a caller's commands.
 fn answers_of(
     alloc: Global,
-    table: &mut Table<NumKey, u64>,
+    table: &Table<NumKey, u64>,
+    pass: &mut Pass<NumKey, u64>,
     commands: &[Command<NumKey>],
 ) -> Result<Vec<Answer>, AllocError>
-    requires { bindings table.old.stripes ≡ empty }
-    ensures { IfOk result (λ answers. AreAnswered commands.now answers.items (bindings table.new.stripes)) }
+    requires here { IsPassHere table.now pass.old }
+    requires new { pass.old.view.mine ≡ [] }
+    ensures here { IsPassHere table.now pass.new }
+    ensures by { pass.new.view.by ≡ pass.old.view.by }
+    ensures entries { IfOk result (λ answers. (by : ℕ) → pass.old.view.by ≡ Some by →
+        AreEntriesOf by commands.now answers.items pass.new.view.mine) }
 {
     let mut answers = Vec::with_capacity(alloc, commands.len())?;
     for command in commands {
-        answers.push(answer_of(table, *command))?;
+        answers.push(answer_of(table, pass, *command))?;
     }
     Ok(answers)
 }
@@ -92,14 +72,14 @@ fn answers_of(
 fn output_of(alloc: Global, script: &Script) -> Result<Vec<u8>, AllocError>
     ensures { IfOk result (λ text. IsOutputOf (workers_of script.now) text.items) }
 {
-    let mut table = open(alloc)?;
-    let answers = answers_of(alloc, &mut table, &script.commands)?;
-    match table.close(alloc) {
+    let (table, mut passes) = open(alloc)?;
+    let pass = &mut passes[0];
+    let answers = answers_of(alloc, &table, pass, &script.commands)?;
+    match table.close(passes) {
         Ok(pairs) => text_of(alloc, &answers, &pairs),
         Err(_) => Err(AllocError),
     }
 }
-
 /// Runs the script on a table of its own, and writes its text: the answers, and the pairs that the table holds at the
 /// end. All memory is taken before the first write, so a run that finds none has written nothing. A write that fails
 /// isn't tried again.

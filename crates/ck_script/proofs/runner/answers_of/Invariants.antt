@@ -1,7 +1,11 @@
-use Rattle.std.proofs.Common.{take}
-use Rattle.ck_model.specs.Contents.{bindings}
-use Rattle.ck_script.specs.Answered.{AreAnswered}
+use Rattle.std.proofs.Common.{◌≡◌, ℕ, Some, take}
+use Rattle.ck_table.specs.Passes.{IsPassHere}
+use Rattle.ck_script.specs.Output.{AreEntriesOf}
 use Rattle.ck_script.proofs.runner.answers_of.Given as goal
 
 abbrev pub invariant-loop-command : goal.invariant-loop-command
-invariant-loop-command l = AreAnswered (take l.command-index l.commands) l.answers.items (bindings l.table.stripes)
+invariant-loop-command l = record {
+  here : IsPassHere l.table l.pass;
+  by : l.pass.view.by ≡ l.fn.pass.view.by;
+  entries : (by : ℕ) → l.fn.pass.view.by ≡ Some by → AreEntriesOf by (take l.command-index l.commands) l.answers.items l.pass.view.mine;
+}

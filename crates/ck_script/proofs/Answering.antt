@@ -1,0 +1,38 @@
+-- What a call of the table leaves is what its command leaves.
+use Rattle.std.proofs.Common.{◌≡◌, ℕ, List, [], ◌∷◌, ◌++◌, Some, sym, refl, ap, ◌∙◌, subst, append-nil, inl, inr}
+use Rattle.ck_model.specs.declared.history.Entry.{Entry}
+use Rattle.ck_model.specs.declared.history.Reply.{Reply}
+use Rattle.ck_core.specs.declared.view.View.{View}
+use Rattle.ck_table.specs.Passes.{PassState}
+use Rattle.ck_table.specs.Calls.{IsAnswered, Stays}
+use Rattle.ck_script.specs.Script.{NumCommand}
+use Rattle.ck_script.specs.declared.answer.Answer.{Answer}
+use Rattle.ck_script.specs.Output.{call_of, Tells, IsRefusal, AreEntriesOf}
+use Rattle.ck_script.specs.Answered.{Grows, IsAnsweredBy}
+use Rattle.ck_script.proofs.Entries.{entries_more, refused, answered}
+
+one_number : (a b : ℕ) → Some a ≡ Some b → a ≡ b
+one_number a b e = cc
+
+-- an answered call
+pub called : (c : NumCommand) (a : Answer) (r : Reply ℕ) (p q : PassState ℕ) → Tells c a r → IsAnswered (call_of c) r p q → IsAnsweredBy c a p.view q.view
+called c a r p q told h = record {
+  by = h.stays.by;
+  entries = λ by is. inr (record { by = h.by; call = call_of c; reply = r }, one_number h.by by (sym h.caller ∙ is), (refl, told), h.answered.mine);
+}
+
+-- a refused one
+pub uncalled : (c : NumCommand) (a : Answer) (v w : View ℕ) → IsRefusal c a → Stays v w → IsAnsweredBy c a v w
+uncalled c a v w refusal h = record { by = h.by; entries = λ by is. inl (refusal, h.mine) }
+
+-- one command more
+pub entries_grown : (by : ℕ) (cs : List NumCommand) (answers : List Answer) (old new : List (Entry ℕ)) (c : NumCommand) (a : Answer)
+    → AreEntriesOf by cs answers old → Grows by c a old new → AreEntriesOf by (cs ++ c ∷ []) (answers ++ a ∷ []) new
+entries_grown by cs answers old new c a so_far now =
+    let all = AreEntriesOf by (cs ++ c ∷ []) (answers ++ a ∷ []) in
+    elim now [
+      | inl h ↦ subst all (append-nil old ∙ sym h.1) (entries_more by cs answers old [] c a so_far (refused by c a h.0))
+      | inr h ↦
+          let one : AreEntriesOf by (c ∷ []) (a ∷ []) (h.0 ∷ []) = subst (λ (n : ℕ). AreEntriesOf n (c ∷ []) (a ∷ []) (h.0 ∷ [])) h.1 (answered c a h.0 h.2) in
+          subst all (sym h.3) (entries_more by cs answers old (h.0 ∷ []) c a so_far one)
+    ]
