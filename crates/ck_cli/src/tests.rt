@@ -64,9 +64,34 @@ fn scripts(rt: HostRuntime) -> Result<(), Fail> {
             "cuckoo 1\nworker\ninsert 3 1\ninsert 7 2\ninsert 11 3\ninsert 15 4\ninsert 19 5\nfind 19\nend\n",
             (
                 0,
-                "worker 1\nnew\nnew\nnew\nnew\nfull\nnone\nmap\n3 1\n7 2\n11 3\n15 4\n",
+                "worker 1\nnew\nnew\nnew\nnew\nnew\nv 5\nmap\n3 1\n7 2\n11 3\n15 4\n19 5\n",
                 "",
             ),
+        ),
+        (
+            "cuckoo 1\nworker\nhas 5\ninsert 5 50\nhas 5\nassign 5 51\nassign 6 1\nfind 5\nend\n",
+            (
+                0,
+                "worker 1\nno\nnew\nyes\nset\nnew\nv 51\nmap\n5 51\n6 1\n",
+                "",
+            ),
+        ),
+        (
+            "cuckoo 1\nworker\nupdate 5 1\nadd 5 2\nupdate 5 3\nadd 5 4\nfind 5\nend\n",
+            (0, "worker 1\nnone\nnew\nset\nset\nv 7\nmap\n5 7\n", ""),
+        ),
+        (
+            "cuckoo 1\nworker\ninsert 5 2\nadd 5 18446744073709551614\nfind 5\nadd 5 1\nfind 5\nend\n",
+            (
+                0,
+                "worker 1\nnew\nset\nv 18446744073709551615\nset\nv 18446744073709551615\n\
+                 map\n5 18446744073709551615\n",
+                "",
+            ),
+        ),
+        (
+            "cuckoo 1\nworker\nerase 5\ninsert 5 50\nerase 5\nfind 5\nerase 5\nend\n",
+            (0, "worker 1\nnone\nnew\ngone\nnone\nnone\nmap\n", ""),
         ),
         (
             "cuckoo 1\nworker\ninsert 5",
@@ -81,6 +106,10 @@ fn scripts(rt: HostRuntime) -> Result<(), Fail> {
         (
             "cuckoo 1\nworker\nlen\nend\n",
             (1, "", "cuckoo: line 3: bad command\n"),
+        ),
+        (
+            "cuckoo 1\nworker\nerase 5\nadd 5\nend\n",
+            (1, "", "cuckoo: line 4: bad command\n"),
         ),
     ] {
         check(&rt, rt.alloc(), &["run"], input, want)?;
