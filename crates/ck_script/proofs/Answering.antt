@@ -1,27 +1,15 @@
 -- What a call of the table leaves is what its command leaves.
-use Rattle.std.proofs.Common.{◌≡◌, ℕ, List, [], ◌∷◌, ◌++◌, Some, sym, refl, ap, ◌∙◌, subst, append-nil, inl, inr}
+use Rattle.std.proofs.Common.{ℕ, List, [], ◌∷◌, ◌++◌, sym, ◌∙◌, subst, append-nil, inl, inr}
 use Rattle.ck_model.specs.declared.history.Entry.{Entry}
-use Rattle.ck_model.specs.declared.history.Reply.{Reply}
 use Rattle.ck_core.specs.declared.view.View.{View}
-use Rattle.ck_table.specs.Passes.{PassState}
-use Rattle.ck_table.specs.Calls.{IsAnswered, Stays}
+use Rattle.ck_table.specs.Calls.{Stays}
 use Rattle.ck_script.specs.Script.{NumCommand}
 use Rattle.ck_script.specs.declared.answer.Answer.{Answer}
-use Rattle.ck_script.specs.Output.{call_of, Tells, IsRefusal, AreEntriesOf}
+use Rattle.ck_script.specs.Output.{IsRefusal, AreEntriesOf}
 use Rattle.ck_script.specs.Answered.{Grows, IsAnsweredBy}
 use Rattle.ck_script.proofs.Entries.{entries_more, refused, answered}
 
-one_number : (a b : ℕ) → Some a ≡ Some b → a ≡ b
-one_number a b e = cc
-
--- an answered call
-pub called : (c : NumCommand) (a : Answer) (r : Reply ℕ) (p q : PassState ℕ) → Tells c a r → IsAnswered (call_of c) r p q → IsAnsweredBy c a p.view q.view
-called c a r p q told h = record {
-  by = h.stays.by;
-  entries = λ by is. inr (record { by = h.by; call = call_of c; reply = r }, one_number h.by by (sym h.caller ∙ is), (refl, told), h.answered.mine);
-}
-
--- a refused one
+-- a refused call
 pub uncalled : (c : NumCommand) (a : Answer) (v w : View ℕ) → IsRefusal c a → Stays v w → IsAnsweredBy c a v w
 uncalled c a v w refusal h = record { by = h.by; entries = λ by is. inl (refusal, h.mine) }
 

@@ -1,8 +1,7 @@
 -- A table of one caller, and what its worker's entries make of the output.
-use Rattle.std.proofs.Common.{Result, Ok, Err, map, ◌≡◌, ◌<◌, ℕ, List, [], ◌∷◌, length, set, Some, sym, refl, ap, ◌∙◌, subst, arith}
+use Rattle.std.proofs.Common.{Result, Ok, Err, map, ◌≡◌, ℕ, List, [], ◌∷◌, set, Some, sym, refl, ap, ◌∙◌, subst, arith}
 use Rattle.std.specs.Prelude.{IfOk, unwrap_or, slice_index_or, Option}
 use Rattle.std.specs.Ordering.{nat_cmp}
-use Rattle.std.specs.FinMap.{entries}
 use Rattle.ck_model.specs.declared.history.Entry.{Entry}
 use Rattle.ck_model.specs.Map.{Map, named, ListsInOrder}
 use Rattle.ck_model.specs.History.{After, IsShuffle}

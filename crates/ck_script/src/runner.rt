@@ -77,6 +77,7 @@ fn output_of(alloc: Global, script: &Script) -> Result<Vec<u8>, AllocError>
     let answers = answers_of(alloc, &table, pass, &script.commands)?;
     match table.close(passes) {
         Ok(pairs) => text_of(alloc, &answers, &pairs),
+        // The only caller holds no stripe, so it is memory that was refused.
         Err(_) => Err(AllocError),
     }
 }
