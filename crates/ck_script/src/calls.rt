@@ -1,6 +1,6 @@
 //! One command on the table.
 ghost use Rattle.std.specs.Prelude.{◌≡◌};
-ghost use Rattle.ck_table.specs.Passes.{IsPassHere};
+ghost use Rattle.ck_words.specs.Closing.{IsCaller};
 ghost use Rattle.ck_script.specs.Script.{NumCommand};
 ghost use Rattle.ck_script.specs.Output.{NeedsRoom, IsRefusal};
 ghost use Rattle.ck_script.specs.Answered.{IsAnsweredBy};
@@ -25,8 +25,8 @@ fn refusal_of(why: Why) -> Answer
 // A function for each command: it asks the table, and picks the word for the reply.
 
 fn find(table: &Table<NumKey, u64>, pass: &mut Pass<NumKey, u64>, key: NumKey) -> Answer
-    requires { IsPassHere table.now pass.old }
-    ensures here { IsPassHere table.now pass.new }
+    requires { IsCaller table.now pass.old }
+    ensures caller { IsCaller table.now pass.new }
     ensures answered { IsAnsweredBy (Command.Find key) result pass.old.view pass.new.view }
 {
     match table.find(pass, &key) {
@@ -37,8 +37,8 @@ fn find(table: &Table<NumKey, u64>, pass: &mut Pass<NumKey, u64>, key: NumKey) -
 }
 
 fn has(table: &Table<NumKey, u64>, pass: &mut Pass<NumKey, u64>, key: NumKey) -> Answer
-    requires { IsPassHere table.now pass.old }
-    ensures here { IsPassHere table.now pass.new }
+    requires { IsCaller table.now pass.old }
+    ensures caller { IsCaller table.now pass.new }
     ensures answered { IsAnsweredBy (Command.Has key) result pass.old.view pass.new.view }
 {
     match table.contains(pass, &key) {
@@ -54,8 +54,8 @@ fn insert(
     key: NumKey,
     value: u64,
 ) -> Answer
-    requires { IsPassHere table.now pass.old }
-    ensures here { IsPassHere table.now pass.new }
+    requires { IsCaller table.now pass.old }
+    ensures caller { IsCaller table.now pass.new }
     ensures answered { IsAnsweredBy (Command.Insert key value) result pass.old.view pass.new.view }
 {
     match table.insert(pass, key, value) {
@@ -71,8 +71,8 @@ fn assign(
     key: NumKey,
     value: u64,
 ) -> Answer
-    requires { IsPassHere table.now pass.old }
-    ensures here { IsPassHere table.now pass.new }
+    requires { IsCaller table.now pass.old }
+    ensures caller { IsCaller table.now pass.new }
     ensures answered { IsAnsweredBy (Command.Assign key value) result pass.old.view pass.new.view }
 {
     match table.insert_or_assign(pass, key, value) {
@@ -88,8 +88,8 @@ fn update(
     key: NumKey,
     value: u64,
 ) -> Answer
-    requires { IsPassHere table.now pass.old }
-    ensures here { IsPassHere table.now pass.new }
+    requires { IsCaller table.now pass.old }
+    ensures caller { IsCaller table.now pass.new }
     ensures answered { IsAnsweredBy (Command.Update key value) result pass.old.view pass.new.view }
 {
     match table.update(pass, &key, value) {
@@ -100,8 +100,8 @@ fn update(
 }
 
 fn add(table: &Table<NumKey, u64>, pass: &mut Pass<NumKey, u64>, key: NumKey, value: u64) -> Answer
-    requires { IsPassHere table.now pass.old }
-    ensures here { IsPassHere table.now pass.new }
+    requires { IsCaller table.now pass.old }
+    ensures caller { IsCaller table.now pass.new }
     ensures answered { IsAnsweredBy (Command.Add key value) result pass.old.view pass.new.view }
 {
     match table.upsert(pass, key, |bound| bound.saturating_add(value), value) {
@@ -112,8 +112,8 @@ fn add(table: &Table<NumKey, u64>, pass: &mut Pass<NumKey, u64>, key: NumKey, va
 }
 
 fn erase(table: &Table<NumKey, u64>, pass: &mut Pass<NumKey, u64>, key: NumKey) -> Answer
-    requires { IsPassHere table.now pass.old }
-    ensures here { IsPassHere table.now pass.new }
+    requires { IsCaller table.now pass.old }
+    ensures caller { IsCaller table.now pass.new }
     ensures answered { IsAnsweredBy (Command.Erase key) result pass.old.view pass.new.view }
 {
     match table.erase(pass, &key) {
@@ -129,8 +129,8 @@ pub fn answer_of(
     pass: &mut Pass<NumKey, u64>,
     command: Command<NumKey>,
 ) -> Answer
-    requires { IsPassHere table.now pass.old }
-    ensures here { IsPassHere table.now pass.new }
+    requires { IsCaller table.now pass.old }
+    ensures caller { IsCaller table.now pass.new }
     ensures answered { IsAnsweredBy command result pass.old.view pass.new.view }
 {
     match command {

@@ -1,6 +1,7 @@
 //! Runs scripts.
 ghost use Rattle.std.specs.Prelude.{◌≡◌, ℕ, [], Some, false, OnOk, IfOk, IfErr};
-ghost use Rattle.ck_table.specs.Passes.{IsPassHere, AreNewPasses};
+ghost use Rattle.ck_words.specs.Rule.{counting};
+ghost use Rattle.ck_words.specs.Closing.{IsCaller, AreAllPasses, dealt};
 ghost use Rattle.ck_script.specs.Output.{AreEntriesOf, IsOutputOf, workers_of};
 ghost use Rattle.ck_script.specs.Run.{TakesOutput, StopsBy};
 
@@ -38,7 +39,9 @@ pub enum RunFault {
 
 // An empty table, and the pass of its one caller.
 fn open(alloc: Global) -> Result<(Table<NumKey, u64>, Vec<Pass<NumKey, u64>>), AllocError>
-    ensures { IfOk result (λ r. (r.0.settings.callers ≡ 1) × AreNewPasses r.0 r.1.items) }
+    ensures one { IfOk result (λ r. r.0.settings.callers ≡ 1) }
+    ensures all { IfOk result (λ r. AreAllPasses r.0 r.1.items) }
+    ensures dealt { IfOk result (λ r. r.1.items ≡ dealt r.0.table r.0.settings (counting 0 1)) }
 {
     match Table::open(alloc, SETTINGS) {
         Ok(opened) => Ok(opened),
@@ -54,9 +57,9 @@ fn answers_of(
     pass: &mut Pass<NumKey, u64>,
     commands: &[Command<NumKey>],
 ) -> Result<Vec<Answer>, AllocError>
-    requires here { IsPassHere table.now pass.old }
+    requires caller { IsCaller table.now pass.old }
     requires new { pass.old.view.mine ≡ [] }
-    ensures here { IsPassHere table.now pass.new }
+    ensures caller { IsCaller table.now pass.new }
     ensures by { pass.new.view.by ≡ pass.old.view.by }
     ensures entries { IfOk result (λ answers. (by : ℕ) → pass.old.view.by ≡ Some by →
         AreEntriesOf by commands.now answers.items pass.new.view.mine) }
@@ -81,6 +84,7 @@ fn output_of(alloc: Global, script: &Script) -> Result<Vec<u8>, AllocError>
         Err(_) => Err(AllocError),
     }
 }
+
 /// Runs the script on a table of its own, and writes its text: the answers, and the pairs that the table holds at the
 /// end. All memory is taken before the first write, so a run that finds none has written nothing. A write that fails
 /// isn't tried again.

@@ -1,8 +1,8 @@
 use Rattle.ck_script.specs.declared.script.Command.TheVariants.{Add}
-use Rattle.ck_script.proofs.Answering.{uncalled}
+use Rattle.ck_script.proofs.Answering.{uncalled, no_entry}
 use Rattle.ck_script.proofs.calls.add.Goals as goal
 
 pub returns-in-Err-clause-answered : goal.returns-in-Err-clause-answered
 returns-in-Err-clause-answered c =
     let command = Add c.args.key c.args.value in
-    uncalled command c.refusal_of.result _ _ (c.refusal_of.ensures command tt) c.in-Err.ensures.refused.2
+    uncalled command c.refusal_of.result _ _ (c.refusal_of.ensures command tt) (no_entry _ _ _ c.in-Err.refused.why _ _ c.in-Err.ensures.refused.2)

@@ -9,7 +9,7 @@ pub loop-command-preserved : goal.loop-command-preserved
 loop-command-preserved c =
     let none : NumCommand = Find (key_of 0) in
     record {
-      here = c.answer_of.ensures.here;
+      caller = c.answer_of.ensures.caller;
       by = c.answer_of.ensures.answered.by ∙ c.loop-command.invariant.by;
       entries = λ by is.
           rw (take_more c.args.commands.now c.loop-command.command-index none (omega arith), c.in_ok-push.ensures.items)
