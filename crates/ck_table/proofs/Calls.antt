@@ -1,5 +1,5 @@
 -- What a call leaves of its pass, from what its parts leave.
-use Rattle.std.proofs.Common.{◌≡◌, ◌⊎◌, Bool, true, false, MatchBool, MatchOption, if◌then◌else◌, length, inl, inr, ⊎_elim, ℕ, zero, suc, ◌≤◌, ◌<◌, min, max, Option, None, IfSome, IfNone, List, [], ◌∷◌, ◌++◌, reverse, append_assoc, append-nil, sym, refl, ap, ◌∙◌, subst, arith, Some}
+use Rattle.std.proofs.Common.{◌≡◌, ◌⊎◌, Bool, true, false, MatchBool, MatchOption, if◌then◌else◌, length, inl, inr, ⊎_elim, ℕ, zero, suc, ◌≤◌, ◌<◌, min, max, Option, None, IfSome, IfNone, List, [], ◌∷◌, ◌++◌, reverse, unwrap_or, append_assoc, append-nil, sym, refl, ap, ◌∙◌, subst, arith, Some}
 use mathlib.Core.Logic.{dite}
 use native.Mathlib.Decide.{ℕ_discrete, dec_le}
 use Rattle.ck_model.specs.Arithmetic.{index_of, second_of}
@@ -17,7 +17,7 @@ use Rattle.ck_model.specs.Sections.{Section}
 use Rattle.ck_model.proofs.Histories.{calls_by-append}
 use Rattle.ck_stripe.specs.Stripe.{StripeState}
 use Rattle.ck_section.specs.Stripes.{contents_of}
-use Rattle.ck_model.specs.declared.history.Act.TheVariants.{Insert, Assign, Upsert}
+use Rattle.ck_model.specs.declared.history.Act.TheVariants.{Find, Erase, Insert, Assign, Upsert}
 use Rattle.ck_model.specs.declared.history.Reply.TheVariants.{Was, New, Old, Done}
 use Rattle.ck_section.specs.declared.place.KeyPlace.{KeyPlace}
 use Rattle.ck_section.specs.declared.place.Place.{Place}
@@ -154,13 +154,36 @@ module _ {V : Type 0} (w v : WordsState) (is : v ≡ w) (p z : PassState V) wher
 pub some_still : {V : Type 0} (old mid new new2 : List (StripeState V)) → mid ≡ old → length new ≡ length mid → new ≡ new2 → 0 < length old → 0 < length new2
 some_still old mid new new2 a b c h = let x = ap length a in let y = ap length c in omega arith
 
-pub is_true : (b : Bool) (P Q : Type 0) → b ≡ true → MatchBool b P Q → P
-is_true true P Q e m = m
-is_true false P Q e m = cc
+module _ {V : Type 0} where
+  -- the call that `erase_fn` makes where the closure answered so
+  abbrev pub erases : Bool → Act V
+  erases b = if b then Erase else Find
 
-pub is_false : (b : Bool) (P Q : Type 0) → b ≡ false → MatchBool b P Q → Q
-is_false true P Q e m = cc
-is_false false P Q e m = m
+  -- D is what a call with a reply has done, and R what the closure answers for a value
+  module _ (D : Act V → Reply V → Type 0) (R : V → Bool → Type 0) (X : Type 0) where
+    abbrev pub HasErased : Option Bool → Type 0
+    HasErased o = IfSome o (λ b. (v : V) × R v b × MatchBool b (D Erase (Was (Some v))) (D Find (Was (Some v)) × X)) × IfNone o (D Find (Was None) × X)
+
+    pub erased : (o : Option Bool) (b : Bool) → b ≡ unwrap_or o false → HasErased o → (r : Reply V) × D (erases b) r
+    erased None b e h = subst (λ x. (r : Reply V) × D (erases x) r) (sym e) (Was None, h.1.0)
+    erased (Some true) b e h = subst (λ x. (r : Reply V) × D (erases x) r) (sym e) (Was (Some h.0.0), h.0.2)
+    erased (Some false) b e h = subst (λ x. (r : Reply V) × D (erases x) r) (sym e) (Was (Some h.0.0), h.0.2.0)
+
+    pub erasing : (A : Act V → Reply V → Type 0) (o : Option Bool) (b : Bool) → b ≡ unwrap_or o false → ((r : Reply V) → D (erases b) r → A (erases b) r) → HasErased o
+        → MatchOption o (A Find (Was None)) (λ b2. (v : V) × R v b2 × MatchBool b2 (A Erase (Was (Some v))) (A Find (Was (Some v))))
+    erasing A None b e f h = subst (λ x. (r : Reply V) → D (erases x) r → A (erases x) r) e f (Was None) h.1.0
+    erasing A (Some true) b e f h = (h.0.0, h.0.1, subst (λ x. (r : Reply V) → D (erases x) r → A (erases x) r) e f (Was (Some h.0.0)) h.0.2)
+    erasing A (Some false) b e f h = (h.0.0, h.0.1, subst (λ x. (r : Reply V) → D (erases x) r → A (erases x) r) e f (Was (Some h.0.0)) h.0.2.0)
+
+  -- D is what `upsert` with a reply has done, and R what the closure makes of a value
+  module _ (D : Reply V → Type 0) (R : V → V → Type 0) where
+    pub upsert_did : (b : Bool) → MatchBool b (D New) ((v w : V) × R v w × D (Done v w)) → (r : Reply V) × D r
+    upsert_did true h = (New, h)
+    upsert_did false h = (Done h.0 h.1, h.3)
+
+    pub upserting : (A : Reply V → Type 0) (b : Bool) → ((r : Reply V) → D r → A r) → MatchBool b (D New) ((v w : V) × R v w × D (Done v w)) → MatchBool b (A New) ((v w : V) × R v w × A (Done v w))
+    upserting A true f h = f New h
+    upserting A false f h = (h.0, h.1, h.2, f (Done h.0 h.1) h.3)
 
 module _ {V : Type 0} (hash : Name → ℕ) (place : KeyPlace) (mid new : List (StripeState V)) (q : Name) (at : Place) (v : V) where
   pub inserted : (b : Bool) → MatchBool b (IsPlacing hash place mid q (Insert v) New new at v) ((new ≡ mid) × ((w : V) × IsCallAt hash place.s mid q (Insert v) Old new at w)) → IsCall hash place.s mid q (Insert v) (if b then New else Old) new

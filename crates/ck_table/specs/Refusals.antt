@@ -10,17 +10,25 @@ use Rattle.ck_words.specs.Rule.{layout_of}
 use Rattle.ck_words.specs.Passes.{PassState}
 use Rattle.ck_words.specs.Retries.{Stays, FindsAmong}
 
+-- a stripe of one of the two names
+abbrev pub IsStripeOfEither : (Name → ℕ) → Settings → Name → Name → ℕ → Type 0
+IsStripeOfEither hash set q r t = IsStripeOf (layout_of hash set) q t ⊎ IsStripeOf (layout_of hash set) r t
+
 module _ {V : Type 0} where
   -- the pass found no stripe held but those of the name
   abbrev pub FindsOwn : (Name → ℕ) → Settings → Name → PassState V → PassState V → Type 0
   FindsOwn hash set q p p2 = FindsAmong (IsStripeOf (layout_of hash set) q) p p2
 
-  -- The call has no entry, and its last tries all found this stripe of the name held.
-  pub record IsBusyAt (hash : Name → ℕ) (set : Settings) (q : Name) (t : ℕ) (p p2 : PassState V) : Type 0 where
+  -- The call has no entry, and its last tries all found this stripe held, which is such a one.
+  pub record IsBusyAmong (P : ℕ → Type 0) (turns t : ℕ) (p p2 : PassState V) : Type 0 where
     pub stays : Stays p.view p2.view
-    pub stripe : IsStripeOf (layout_of hash set) q t
+    pub stripe : P t
     pub before : List ℕ
-    pub tried : p2.view.found ≡ replicate set.turns t ++ before ++ p.view.found
+    pub tried : p2.view.found ≡ replicate turns t ++ before ++ p.view.found
+
+  -- it was a stripe of the name
+  abbrev pub IsBusyAt : (Name → ℕ) → Settings → Name → ℕ → PassState V → PassState V → Type 0
+  IsBusyAt hash set q t p p2 = IsBusyAmong (IsStripeOf (layout_of hash set) q) set.turns t p p2
 
   -- The call has no entry; the pass has shown that the name was unbound and its buckets were full.
   pub record HasFoundNoRoom (q : Name) (p p2 : PassState V) : Type 0 where

@@ -109,20 +109,10 @@ impl<K: TableKey + Drop, V: Drop> Table<K, V> {
         ensures found { FindsOwn K.hash self.now.settings (K.name key.now) pass.old pass.new }
     {
         self.hold_key(pass, key)?;
-        match self.erase_if_held(pass, key, f) {
-            Some(true) => {
-                self.words.answer::<Brand, (&K, bool)>(pass, &(key, true));
-                Ok(Some(true))
-            }
-            Some(false) => {
-                self.words.answer::<Brand, (&K, bool)>(pass, &(key, false));
-                Ok(Some(false))
-            }
-            None => {
-                self.words.answer::<Brand, (&K, bool)>(pass, &(key, false));
-                Ok(None)
-            }
-        }
+        let gone = self.erase_if_held(pass, key, f);
+        let said = (key, gone.unwrap_or(false));
+        self.words.answer::<Brand, (&K, bool)>(pass, &said);
+        Ok(gone)
     }
 
     // The call `update` on the stripes that the pass holds.

@@ -53,7 +53,7 @@ impl<K: TableKey + Drop, V: Drop> Words<K, V> {
         requires own { IsPassOf self.now pass.old }
         requires held { 0 < length pass.old.stripes }
         requires unchanged { IsUnchanged pass.old }
-        requires excused { IsExcused (layout_of K.hash self.now.settings) self.now.settings.min_load (contents_of pass.old.stripes) J.refused }
+        requires excused { Lawful (layout_of K.hash self.now.settings) (contents_of pass.old.stripes) → IsExcused (layout_of K.hash self.now.settings) self.now.settings.min_load (contents_of pass.old.stripes) J.refused }
         ensures own { IsPassOf self.now pass.new }
         ensures step { GivesBack K.hash self.now.settings pass.old.view.held J.refused pass.old pass.new }
         ensures unchanged { IsUnchanged pass.new }

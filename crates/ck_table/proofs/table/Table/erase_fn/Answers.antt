@@ -1,9 +1,11 @@
-use Rattle.std.proofs.Common.{rules, ◌≡◌, true, false, subst, None, Some}
+use Rattle.std.proofs.Common.{◌≡◌}
 use Rattle.std.specs.Fn.{FnOnceReturnsAt}
-use Rattle.ck_model.specs.declared.history.Act.TheVariants.{Find, Erase}
+use Rattle.ck_model.specs.declared.history.Act.{Act}
 use Rattle.ck_model.specs.declared.history.Call.TheVariants.{On}
-use Rattle.ck_model.specs.declared.history.Reply.TheVariants.{Was}
-use Rattle.ck_table.proofs.Calls.{is_true, is_false, does, says, caller_then}
+use Rattle.ck_model.specs.declared.history.Reply.{Reply}
+use Rattle.ck_section.specs.Calls.{IsCall}
+use Rattle.ck_words.specs.Answering.{IsAnswered}
+use Rattle.ck_table.proofs.Calls.{erases, erased, erasing, does, says, caller_then}
 use Rattle.ck_table.proofs.table.Table.erase_fn.Goals as goal
 
 pub answer-requires-clause-done : goal.answer-requires-clause-done
@@ -11,135 +13,36 @@ answer-requires-clause-done g c =
     let hash = g.K.TableKey.hash in
     let q = g.K.TableKey.name c.args.key.now in
     let w = c.args.self.now in
-    let v = c.self.inside.words in
-    let p = c.args.pass.now in
     let p1 = c.hold_key.new.pass in
-    let p2 = c.erase_if_held.new.pass in
-    let held = c.in_ok-hold_key.ensures.held in
-    let same = c.erase_if_held.ensures.view in
-    let z = c.in-Some-true.ensures.bound in
-    let test : c.in-Some-true.field-0 ≡ true = search rules in
-    let b2 = is_true c.in-Some-true.field-0 _ _ test z.2 in
-    (Was (Some z.0), does hash w v c.self.view_is q p p1 p2 held same Erase (Was (Some z.0)) b2)
+    let p2 = c.erase_if_held-gone.new.pass in
+    let b = c.unwrap_or.result in
+    let did = erased (λ act r. IsCall hash w.settings.s p1.stripes q act r p2.stripes) (λ v b. FnOnceReturnsAt g.F.FnOnce c.args.f v b) (p2.stripes ≡ p1.stripes) c.erase_if_held-gone.result b c.unwrap_or.ensures (c.erase_if_held-gone.ensures.bound, c.erase_if_held-gone.ensures.unbound) in
+    (did.0, does hash w c.self.inside.words c.self.view_is q c.args.pass.now p1 p2 c.in_ok-hold_key.ensures.held c.erase_if_held-gone.ensures.view (erases b) did.0 did.1)
 
-pub returns-in-Some-true-clause-caller : goal.returns-in-Some-true-clause-caller
-returns-in-Some-true-clause-caller g c =
+pub returns-clause-caller : goal.returns-clause-caller
+returns-clause-caller g c =
     let hash = g.K.TableKey.hash in
     let q = g.K.TableKey.name c.args.key.now in
     let w = c.args.self.now in
-    let v = c.self.inside.words in
     let p = c.args.pass.now in
     let p1 = c.hold_key.new.pass in
-    let p2 = c.erase_if_held.new.pass in
-    let held = c.in_ok-hold_key.ensures.held in
-    let same = c.erase_if_held.ensures.view in
-    let z = c.in-Some-true.ensures.bound in
-    let test : c.in-Some-true.field-0 ≡ true = search rules in
-    let b2 = is_true c.in-Some-true.field-0 _ _ test z.2 in
-    caller_then w v c.self.view_is p c.answer.new.pass (On q Erase) (Was (Some z.0)) c.requires.caller c.answer.ensures.own c.answer.ensures.idle (says hash w v c.self.view_is q p p1 p2 held same c.answer.new.pass Erase (Was (Some z.0)) c.answer.ensures.answered b2)
+    let p2 = c.erase_if_held-gone.new.pass in
+    let z = c.answer.new.pass in
+    let b = c.unwrap_or.result in
+    let did = erased (λ act r. IsCall hash w.settings.s p1.stripes q act r p2.stripes) (λ v b. FnOnceReturnsAt g.F.FnOnce c.args.f v b) (p2.stripes ≡ p1.stripes) c.erase_if_held-gone.result b c.unwrap_or.ensures (c.erase_if_held-gone.ensures.bound, c.erase_if_held-gone.ensures.unbound) in
+    caller_then w c.self.inside.words c.self.view_is p z (On q (erases b)) did.0 c.requires.caller c.answer.ensures.own c.answer.ensures.idle
+    (says hash w c.self.inside.words c.self.view_is q p p1 p2 c.in_ok-hold_key.ensures.held c.erase_if_held-gone.ensures.view z (erases b) did.0 c.answer.ensures.answered did.1)
 
-pub returns-in-Some-true-clause-answered : goal.returns-in-Some-true-clause-answered
-returns-in-Some-true-clause-answered g c =
+pub returns-clause-answered : goal.returns-clause-answered
+returns-clause-answered g c =
     let hash = g.K.TableKey.hash in
     let q = g.K.TableKey.name c.args.key.now in
     let w = c.args.self.now in
-    let v = c.self.inside.words in
     let p = c.args.pass.now in
     let p1 = c.hold_key.new.pass in
-    let p2 = c.erase_if_held.new.pass in
-    let held = c.in_ok-hold_key.ensures.held in
-    let same = c.erase_if_held.ensures.view in
-    let z = c.in-Some-true.ensures.bound in
-    let test : c.in-Some-true.field-0 ≡ true = search rules in
-    let b2 = is_true c.in-Some-true.field-0 _ _ test z.2 in
-    (z.0, subst (λ x. FnOnceReturnsAt g.F.FnOnce c.args.f z.0 x) test z.1, (says hash w v c.self.view_is q p p1 p2 held same c.answer.new.pass Erase (Was (Some z.0)) c.answer.ensures.answered b2))
-
-pub answer-requires-in-Some-false-clause-done : goal.answer-requires-in-Some-false-clause-done
-answer-requires-in-Some-false-clause-done g c =
-    let hash = g.K.TableKey.hash in
-    let q = g.K.TableKey.name c.args.key.now in
-    let w = c.args.self.now in
-    let v = c.self.inside.words in
-    let p = c.args.pass.now in
-    let p1 = c.hold_key.new.pass in
-    let p2 = c.erase_if_held.new.pass in
-    let held = c.in_ok-hold_key.ensures.held in
-    let same = c.erase_if_held.ensures.view in
-    let z = c.in-Some-false.ensures.bound in
-    let test : c.in-Some-false.field-0 ≡ false = search rules in
-    let b2 = is_false c.in-Some-false.field-0 _ _ test z.2 in
-    (Was (Some z.0), does hash w v c.self.view_is q p p1 p2 held same Find (Was (Some z.0)) b2.0)
-
-pub returns-in-Some-false-clause-caller : goal.returns-in-Some-false-clause-caller
-returns-in-Some-false-clause-caller g c =
-    let hash = g.K.TableKey.hash in
-    let q = g.K.TableKey.name c.args.key.now in
-    let w = c.args.self.now in
-    let v = c.self.inside.words in
-    let p = c.args.pass.now in
-    let p1 = c.hold_key.new.pass in
-    let p2 = c.erase_if_held.new.pass in
-    let held = c.in_ok-hold_key.ensures.held in
-    let same = c.erase_if_held.ensures.view in
-    let z = c.in-Some-false.ensures.bound in
-    let test : c.in-Some-false.field-0 ≡ false = search rules in
-    let b2 = is_false c.in-Some-false.field-0 _ _ test z.2 in
-    caller_then w v c.self.view_is p c.answer-in-Some-false.new.pass (On q Find) (Was (Some z.0)) c.requires.caller c.answer-in-Some-false.ensures.own c.answer-in-Some-false.ensures.idle (says hash w v c.self.view_is q p p1 p2 held same c.answer-in-Some-false.new.pass Find (Was (Some z.0)) c.answer-in-Some-false.ensures.answered b2.0)
-
-pub returns-in-Some-false-clause-answered : goal.returns-in-Some-false-clause-answered
-returns-in-Some-false-clause-answered g c =
-    let hash = g.K.TableKey.hash in
-    let q = g.K.TableKey.name c.args.key.now in
-    let w = c.args.self.now in
-    let v = c.self.inside.words in
-    let p = c.args.pass.now in
-    let p1 = c.hold_key.new.pass in
-    let p2 = c.erase_if_held.new.pass in
-    let held = c.in_ok-hold_key.ensures.held in
-    let same = c.erase_if_held.ensures.view in
-    let z = c.in-Some-false.ensures.bound in
-    let test : c.in-Some-false.field-0 ≡ false = search rules in
-    let b2 = is_false c.in-Some-false.field-0 _ _ test z.2 in
-    (z.0, subst (λ x. FnOnceReturnsAt g.F.FnOnce c.args.f z.0 x) test z.1, (says hash w v c.self.view_is q p p1 p2 held same c.answer-in-Some-false.new.pass Find (Was (Some z.0)) c.answer-in-Some-false.ensures.answered b2.0))
-
-pub answer-requires-in-None-clause-done : goal.answer-requires-in-None-clause-done
-answer-requires-in-None-clause-done g c =
-    let hash = g.K.TableKey.hash in
-    let q = g.K.TableKey.name c.args.key.now in
-    let w = c.args.self.now in
-    let v = c.self.inside.words in
-    let p = c.args.pass.now in
-    let p1 = c.hold_key.new.pass in
-    let p2 = c.erase_if_held.new.pass in
-    let held = c.in_ok-hold_key.ensures.held in
-    let same = c.erase_if_held.ensures.view in
-    let b = c.in-None.ensures.unbound in
-    (Was None, does hash w v c.self.view_is q p p1 p2 held same Find (Was None) b.0)
-
-pub returns-in-None-clause-caller : goal.returns-in-None-clause-caller
-returns-in-None-clause-caller g c =
-    let hash = g.K.TableKey.hash in
-    let q = g.K.TableKey.name c.args.key.now in
-    let w = c.args.self.now in
-    let v = c.self.inside.words in
-    let p = c.args.pass.now in
-    let p1 = c.hold_key.new.pass in
-    let p2 = c.erase_if_held.new.pass in
-    let held = c.in_ok-hold_key.ensures.held in
-    let same = c.erase_if_held.ensures.view in
-    let b = c.in-None.ensures.unbound in
-    caller_then w v c.self.view_is p c.answer-in-None.new.pass (On q Find) (Was None) c.requires.caller c.answer-in-None.ensures.own c.answer-in-None.ensures.idle (says hash w v c.self.view_is q p p1 p2 held same c.answer-in-None.new.pass Find (Was None) c.answer-in-None.ensures.answered b.0)
-
-pub returns-in-None-clause-answered : goal.returns-in-None-clause-answered
-returns-in-None-clause-answered g c =
-    let hash = g.K.TableKey.hash in
-    let q = g.K.TableKey.name c.args.key.now in
-    let w = c.args.self.now in
-    let v = c.self.inside.words in
-    let p = c.args.pass.now in
-    let p1 = c.hold_key.new.pass in
-    let p2 = c.erase_if_held.new.pass in
-    let held = c.in_ok-hold_key.ensures.held in
-    let same = c.erase_if_held.ensures.view in
-    let b = c.in-None.ensures.unbound in
-    says hash w v c.self.view_is q p p1 p2 held same c.answer-in-None.new.pass Find (Was None) c.answer-in-None.ensures.answered b.0
+    let p2 = c.erase_if_held-gone.new.pass in
+    let z = c.answer.new.pass in
+    let b = c.unwrap_or.result in
+    erasing (λ act r. IsCall hash w.settings.s p1.stripes q act r p2.stripes) (λ v b. FnOnceReturnsAt g.F.FnOnce c.args.f v b) (p2.stripes ≡ p1.stripes) (λ act r. IsAnswered (On q act) r p z) c.erase_if_held-gone.result b c.unwrap_or.ensures
+    (λ r d. says hash w c.self.inside.words c.self.view_is q p p1 p2 c.in_ok-hold_key.ensures.held c.erase_if_held-gone.ensures.view z (erases b) r c.answer.ensures.answered d)
+    (c.erase_if_held-gone.ensures.bound, c.erase_if_held-gone.ensures.unbound)

@@ -1,0 +1,45 @@
+-- What a refused insertion leaves of its pass.
+use Rattle.std.proofs.Common.{◌≡◌, ℕ, zero, suc, ◌<◌, length, List, [], ◌∷◌, ⊎_elim, inl, inr, sym, refl, ap, ◌∙◌, subst, append-nil, arith, Some}
+use Rattle.ck_model.specs.declared.history.Why.TheVariants.{NoRoom}
+use Rattle.ck_model.specs.declared.settings.Settings.{Settings}
+use Rattle.ck_model.specs.Map.{Name}
+use Rattle.ck_model.specs.Numbered.{IsIn, numbers}
+use Rattle.ck_model.specs.Contents.{Stripes}
+use Rattle.ck_model.specs.Sections.{Owns}
+use Rattle.ck_stripe.specs.Stripe.{StripeState}
+use Rattle.ck_section.specs.Stripes.{stripe_at, contents_of}
+use Rattle.ck_section.specs.Places.{HasStripe, HasBoth}
+use Rattle.ck_core.specs.declared.view.View.{View}
+use Rattle.ck_words.specs.Rule.{layout_of}
+use Rattle.ck_words.specs.Passes.{PassState, GivesBack}
+use Rattle.ck_words.specs.Retries.{Stays}
+use Rattle.ck_words.proofs.Staying.{stays_on}
+use Rattle.ck_table.specs.Refusals.{HasFoundNoRoom}
+
+module _ {V : Type 0} where
+  held_number : (ss : List (StripeState V)) (t i : ℕ) → i < length ss → (stripe_at ss i).number ≡ t → IsIn t (numbers (contents_of ss))
+  held_number [] t i lt e = absurd (omega arith)
+  held_number (s ∷ ss) t zero lt e = inl e
+  held_number (s ∷ ss) t (suc i) lt e = inr (held_number ss t i (omega arith) e)
+
+  -- the stripes of the name are held
+  pub owns_both : (hash : Name → ℕ) (set : Settings) (q : Name) (ss : List (StripeState V)) → HasBoth hash set.s ss q → Owns (layout_of hash set) (contents_of ss) q
+  owns_both hash set q ss both t of = ⊎_elim
+      (λ e. held_number ss t both.first.0 both.first.1 (both.first.2 ∙ sym e))
+      (λ e. held_number ss t both.alternate.0 both.alternate.1 (both.alternate.2 ∙ sym e)) of
+
+  abbrev told_of : Name → View V → View V
+  told_of q v = record v { noroom = (q, NoRoom) ∷ v.noroom }
+
+  -- the highest stripe went home and told of the name, and the others went home
+  pub told_full : (hash : Name → ℕ) (set : Settings) (hs : Stripes V) (q : Name) (p p1 p2 : PassState V) → GivesBack hash set hs (Some (q, NoRoom)) p p1 → Stays p1.view p2.view → HasFoundNoRoom q p p2
+  told_full hash set hs q p p1 p2 g s = record {
+    stays = stays_on (told_of q p.view) p1.view p2.view
+        (subst (Stays (told_of q p.view)) (sym g.4) (record { settings = refl; by = refl; mine = refl; others = refl; heard = (refl, refl); noroom = refl; seen = ([], sym (append-nil p.view.seen)); by_others = λ m e. refl; told = omega arith })) s;
+  }
+
+  -- it was told after the stripes were taken
+  pub told_since : (q : Name) (p p1 p2 z : PassState V) → Stays p.view p1.view → p2.view ≡ p1.view → HasFoundNoRoom q p2 z → HasFoundNoRoom q p z
+  told_since q p p1 p2 z s same h =
+      let from : Stays (told_of q p.view) (told_of q p1.view) = record { settings = s.settings; by = s.by; mine = s.mine; others = s.others; heard = s.heard; noroom = ap (λ l. (q, NoRoom) ∷ l) s.noroom; seen = s.seen; by_others = s.by_others; told = s.told } in
+      record { stays = stays_on (told_of q p.view) (told_of q p1.view) z.view from (subst (λ (v : View V). Stays (told_of q v) z.view) same h.stays) }
