@@ -30,12 +30,12 @@ module _ (w : WordsState) (passes : List (PassState ℕ)) (dealt_one : passes �
   is_first p same = same ∙ ap (λ (ps : List (PassState ℕ)). slice_index_or ps 0 p) dealt_one
 
   pub first_calls : AreAllPasses w passes → IsCaller w (first_pass w)
-  first_calls all = (subst (All (IsCaller w)) dealt_one all.callers).0
+  first_calls all = subst (All (IsCaller w)) dealt_one all.callers 0 (first_pass w) (omega arith)
 
 -- the pass of the only caller is all of them
 pub all_passes : (w : WordsState) (q : PassState ℕ) → w.settings.callers ≡ 1 → IsCaller w q → q.view.by ≡ Some 0 → AreAllPasses w (q ∷ [])
 all_passes w q one caller by = record {
-  callers = (caller, tt);
+  callers = λ k d lt. let first : 0 ≡ k = omega arith in subst (λ (j : ℕ). IsCaller w (slice_index_or (q ∷ []) j d)) first caller;
   all = λ m lt. let first : 0 ≡ m = omega arith in inl (ap (λ (o : Option ℕ). unwrap_or o 0) by ∙ first);
 }
 
