@@ -1,9 +1,12 @@
 //! Want of memory: a call gets a little more memory from step to step, so that each of its requests is refused in turn.
 //!
 //! A test first takes all memory that the allocator still gives, and gives back a small block of it for the call.
+ghost use Rattle.std.specs.Prelude.{◌≡◌, IfSome};
+ghost use Rattle.ck_words.specs.Closing.{IsCaller, AreAllPasses};
+
 use ck_key::{KeyFault, NumKey, TextKey};
 use ck_script::{FromRead, IntoWrite, RunFault, ScriptFault, What, read_script, run};
-use ck_table::{OpenFault, Settings, Table};
+use ck_table::{OpenFault, Pass, Settings, Table};
 use std::alloc::{AllocError, Global};
 use std::test::Fail;
 
@@ -79,7 +82,7 @@ fn opening(rt: HostRuntime) -> Result<(), Fail> {
     let mut block = all_but(alloc, 0)?;
     let hoard = hoard(alloc)?;
     let (mut refused, mut opened) = (false, false);
-    for step in 0..60usize {
+    for step in 0..120usize {
         drop(block);
         block = all_but(alloc, 16 * step)?;
         match Table::<NumKey, u64>::open(alloc, SETTINGS) {
@@ -94,13 +97,32 @@ fn opening(rt: HostRuntime) -> Result<(), Fail> {
     Ok(())
 }
 
-/// A table with four keys in the bucket that they share.
-fn table_of(alloc: Global) -> Option<Table<NumKey, u64>> {
-    let mut table = Table::open(alloc, SETTINGS).ok()?;
+// Binds four keys in the bucket that they share, and says whether each was.
+fn fill(table: &Table<NumKey, u64>, pass: &mut Pass<NumKey, u64>) -> bool
+    requires { IsCaller table.now pass.old }
+    ensures caller { IsCaller table.now pass.new }
+    ensures by { pass.new.view.by ≡ pass.old.view.by }
+{
+    let mut bound = true;
     for key in [3u64, 7, 11, 15] {
-        table.insert(NumKey(key), 10 * key).ok()?;
+        bound &= table.insert(pass, NumKey(key), 10 * key).is_ok();
     }
-    Some(table)
+    bound
+}
+
+/// A table with four keys, and the pass of its one caller.
+fn table_of(alloc: Global) -> Option<(Table<NumKey, u64>, Vec<Pass<NumKey, u64>>)>
+    ensures { IfSome result (λ r. AreAllPasses r.0 r.1.items) }
+{
+    let Ok((table, mut passes)) = Table::open(alloc, SETTINGS) else {
+        return None;
+    };
+    let pass = &mut passes[0];
+    if fill(&table, pass) {
+        Some((table, passes))
+    } else {
+        None
+    }
 }
 
 #[test]
@@ -110,21 +132,20 @@ fn closing(rt: HostRuntime) -> Result<(), Fail> {
     let hoard = hoard(alloc)?;
     let (mut refused, mut closed) = (false, false);
     let mut kept = None;
-    for step in 0..80usize {
+    for step in 0..120usize {
         drop(kept.take());
         drop(block);
         block = all_but(alloc, 16 * step)?;
-        let Some(table) = table_of(alloc) else {
+        let Some((table, passes)) = table_of(alloc) else {
             continue;
         };
-        match table.close(alloc) {
+        match table.close(passes) {
             Ok(pairs) => {
                 assert_eq!(rt; pairs.len(), 4);
                 closed = true;
             }
-            Err(table) => {
-                assert_eq!(rt; table.find(&NumKey(7)), Some(70));
-                kept = Some(table);
+            Err(back) => {
+                kept = Some(back);
                 refused = true;
             }
         }
@@ -140,15 +161,15 @@ fn closing(rt: HostRuntime) -> Result<(), Fail> {
 #[test]
 fn closing_again(rt: HostRuntime) -> Result<(), Fail> {
     let alloc = rt.alloc();
-    let Some(table) = table_of(alloc) else {
+    let Some((table, passes)) = table_of(alloc) else {
         return Err(Fail::from("no memory at the start"));
     };
     let hoard = hoard(alloc)?;
-    let Err(table) = table.close(alloc) else {
+    let Err((table, passes)) = table.close(passes) else {
         return Err(Fail::from("closed without memory"));
     };
     drop(hoard);
-    let Ok(pairs) = table.close(alloc) else {
+    let Ok(pairs) = table.close(passes) else {
         return Err(Fail::from("refused with ample memory"));
     };
     let want = [
