@@ -175,6 +175,16 @@ module _ {V : Type 0} where
     erasing A (Some true) b e f h = (h.0.0, h.0.1, subst (λ x. (r : Reply V) → D (erases x) r → A (erases x) r) e f (Was (Some h.0.0)) h.0.2)
     erasing A (Some false) b e f h = (h.0.0, h.0.1, subst (λ x. (r : Reply V) → D (erases x) r → A (erases x) r) e f (Was (Some h.0.0)) h.0.2.0)
 
+  -- D is what `upsert` with a reply has done, and R what the closure makes of a value
+  module _ (D : Reply V → Type 0) (R : V → V → Type 0) where
+    pub upsert_did : (b : Bool) → MatchBool b (D New) ((v w : V) × R v w × D (Done v w)) → (r : Reply V) × D r
+    upsert_did true h = (New, h)
+    upsert_did false h = (Done h.0 h.1, h.3)
+
+    pub upserting : (A : Reply V → Type 0) (b : Bool) → ((r : Reply V) → D r → A r) → MatchBool b (D New) ((v w : V) × R v w × D (Done v w)) → MatchBool b (A New) ((v w : V) × R v w × A (Done v w))
+    upserting A true f h = f New h
+    upserting A false f h = (h.0, h.1, h.2, f (Done h.0 h.1) h.3)
+
 module _ {V : Type 0} (hash : Name → ℕ) (place : KeyPlace) (mid new : List (StripeState V)) (q : Name) (at : Place) (v : V) where
   pub inserted : (b : Bool) → MatchBool b (IsPlacing hash place mid q (Insert v) New new at v) ((new ≡ mid) × ((w : V) × IsCallAt hash place.s mid q (Insert v) Old new at w)) → IsCall hash place.s mid q (Insert v) (if b then New else Old) new
   inserted true m = m.call

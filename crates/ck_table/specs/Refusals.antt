@@ -10,6 +10,10 @@ use Rattle.ck_words.specs.Rule.{layout_of}
 use Rattle.ck_words.specs.Passes.{PassState}
 use Rattle.ck_words.specs.Retries.{Stays, FindsAmong}
 
+-- a stripe of one of the two names
+abbrev pub IsStripeOfEither : (Name → ℕ) → Settings → Name → Name → ℕ → Type 0
+IsStripeOfEither hash set q r t = IsStripeOf (layout_of hash set) q t ⊎ IsStripeOf (layout_of hash set) r t
+
 module _ {V : Type 0} where
   -- the pass found no stripe held but those of the name
   abbrev pub FindsOwn : (Name → ℕ) → Settings → Name → PassState V → PassState V → Type 0
@@ -25,10 +29,6 @@ module _ {V : Type 0} where
   -- it was a stripe of the name
   abbrev pub IsBusyAt : (Name → ℕ) → Settings → Name → ℕ → PassState V → PassState V → Type 0
   IsBusyAt hash set q t p p2 = IsBusyAmong (IsStripeOf (layout_of hash set) q) set.turns t p p2
-
-  -- a stripe of one of the two names
-  abbrev pub IsStripeOfEither : (Name → ℕ) → Settings → Name → Name → ℕ → Type 0
-  IsStripeOfEither hash set q r t = IsStripeOf (layout_of hash set) q t ⊎ IsStripeOf (layout_of hash set) r t
 
   -- The call has no entry; the pass has shown that the name was unbound and its buckets were full.
   pub record HasFoundNoRoom (q : Name) (p p2 : PassState V) : Type 0 where

@@ -56,10 +56,7 @@ impl<K: TableKey + Drop, V: Drop> Table<K, V> {
     ///
     /// Where a stripe is found held in as many tries as the settings allow, or there is no memory for the list, the table
     /// and the passes come back, with the same entries.
-    pub fn close(
-        self,
-        passes: Vec<Pass<K, V>>,
-    ) -> Result<Vec<(K, V)>, (Self, Vec<Pass<K, V>>)>
+    pub fn close(self, passes: Vec<Pass<K, V>>) -> Result<Vec<(K, V)>, (Self, Vec<Pass<K, V>>)>
         requires { AreAllPasses self passes.items }
         ensures pairs { IfOk result (λ pairs. (log : List (Entry V)) × (m : Map V) × IsShuffle log (parts_of passes.items) × EachSaw log passes.items × After log m × ListsInOrder K.name K.cmp pairs.items m) }
         ensures back { IfErr result (λ back. (back.0 ≡ self) × AreAllPasses back.0 back.1.items × EachStays passes.items back.1.items) }

@@ -1,4 +1,4 @@
-use Rattle.std.proofs.Common.{None, Some, if◌then◌else◌}
+use Rattle.std.proofs.Common.{◌≡◌}
 use Rattle.std.specs.Fn.{FnOnceReturnsAt}
 use Rattle.ck_model.specs.declared.history.Act.{Act}
 use Rattle.ck_model.specs.declared.history.Call.TheVariants.{On}

@@ -1,8 +1,10 @@
-use Rattle.std.proofs.Common.{None, Some, if◌then◌else◌}
-use Rattle.ck_model.specs.declared.history.Act.TheVariants.{Update, Insert, Assign, Upsert}
+use Rattle.std.proofs.Common.{◌≡◌, None, Some, sym, subst}
+use Rattle.ck_model.specs.declared.history.Act.TheVariants.{Update}
 use Rattle.ck_model.specs.declared.history.Call.TheVariants.{On}
-use Rattle.ck_model.specs.declared.history.Reply.TheVariants.{Was, New, Old, Done}
-use Rattle.ck_table.proofs.Calls.{by_option, by_bool, does, says, caller_then}
+use Rattle.ck_model.specs.declared.history.Reply.{Reply}
+use Rattle.ck_model.specs.declared.history.Reply.TheVariants.{Was}
+use Rattle.ck_words.specs.Answering.{HasDone, IsAnswered}
+use Rattle.ck_table.proofs.Calls.{by_option, does, says, caller_then}
 use Rattle.ck_table.proofs.table.Table.update.Goals as goal
 
 pub answer-requires-clause-done : goal.answer-requires-clause-done
@@ -16,9 +18,11 @@ answer-requires-clause-done g c =
     let p2 = c.update_held-found.new.pass in
     let held = c.in_default.ensures.held in
     let same = c.update_held-found.ensures.view in
+    let as_said : (r : Reply g.row.V.Denot) → HasDone hash v.settings (On q (Update c.args.value)) r p2 → HasDone hash v.settings (On q (Update c.of-said.result.value)) r p2 =
+    λ r did. subst (λ (x : g.row.V.Denot). HasDone hash v.settings (On q (Update x)) r p2) (sym c.of-said.ensures) did in
     by_option c.update_held-found.result _ _ _ c.update_held-found.ensures.bound c.update_held-found.ensures.unbound
-    (λ a x. (Was (Some a.reply), does hash w v c.self.view_is q p p1 p2 held same (Update c.args.value) (Was (Some a.reply)) x.call))
-    (λ x. (Was None, does hash w v c.self.view_is q p p1 p2 held same (Update c.args.value) (Was None) x.0))
+    (λ a x. (Was (Some a.reply), as_said (Was (Some a.reply)) (does hash w v c.self.view_is q p p1 p2 held same (Update c.args.value) (Was (Some a.reply)) x.call)))
+    (λ x. (Was None, as_said (Was None) (does hash w v c.self.view_is q p p1 p2 held same (Update c.args.value) (Was None) x.0)))
 
 pub returns-in-Some-clause-caller : goal.returns-in-Some-clause-caller
 returns-in-Some-clause-caller g c =
@@ -31,7 +35,9 @@ returns-in-Some-clause-caller g c =
     let p2 = c.update_held-found.new.pass in
     let held = c.in_default.ensures.held in
     let same = c.update_held-found.ensures.view in
-    caller_then w v c.self.view_is p c.answer.new.pass (On q (Update c.args.value)) (Was (Some c.in-Some.found.reply)) c.requires.caller c.answer.ensures.own c.answer.ensures.idle (says hash w v c.self.view_is q p p1 p2 held same c.answer.new.pass (Update c.args.value) (Was (Some c.in-Some.found.reply)) c.answer.ensures.answered (c.in-Some.ensures.bound.call))
+    let z = c.answer.new.pass in
+    let told = subst (λ (x : g.row.V.Denot). (r : Reply g.row.V.Denot) → HasDone hash v.settings (On q (Update x)) r p2 → IsAnswered (On q (Update x)) r p2 z) c.of-said.ensures c.answer.ensures.answered in
+    caller_then w v c.self.view_is p z (On q (Update c.args.value)) (Was (Some c.in-Some.found.reply)) c.requires.caller c.answer.ensures.own c.answer.ensures.idle (says hash w v c.self.view_is q p p1 p2 held same z (Update c.args.value) (Was (Some c.in-Some.found.reply)) told c.in-Some.ensures.bound.call)
 
 pub returns-in-Some-clause-answered : goal.returns-in-Some-clause-answered
 returns-in-Some-clause-answered g c =
@@ -44,7 +50,9 @@ returns-in-Some-clause-answered g c =
     let p2 = c.update_held-found.new.pass in
     let held = c.in_default.ensures.held in
     let same = c.update_held-found.ensures.view in
-    says hash w v c.self.view_is q p p1 p2 held same c.answer.new.pass (Update c.args.value) (Was (Some c.in-Some.found.reply)) c.answer.ensures.answered (c.in-Some.ensures.bound.call)
+    let z = c.answer.new.pass in
+    let told = subst (λ (x : g.row.V.Denot). (r : Reply g.row.V.Denot) → HasDone hash v.settings (On q (Update x)) r p2 → IsAnswered (On q (Update x)) r p2 z) c.of-said.ensures c.answer.ensures.answered in
+    says hash w v c.self.view_is q p p1 p2 held same z (Update c.args.value) (Was (Some c.in-Some.found.reply)) told c.in-Some.ensures.bound.call
 
 pub returns-in-None-clause-caller : goal.returns-in-None-clause-caller
 returns-in-None-clause-caller g c =
@@ -57,7 +65,9 @@ returns-in-None-clause-caller g c =
     let p2 = c.update_held-found.new.pass in
     let held = c.in_default.ensures.held in
     let same = c.update_held-found.ensures.view in
-    caller_then w v c.self.view_is p c.answer.new.pass (On q (Update c.args.value)) (Was None) c.requires.caller c.answer.ensures.own c.answer.ensures.idle (says hash w v c.self.view_is q p p1 p2 held same c.answer.new.pass (Update c.args.value) (Was None) c.answer.ensures.answered (c.in-None.ensures.unbound.0))
+    let z = c.answer.new.pass in
+    let told = subst (λ (x : g.row.V.Denot). (r : Reply g.row.V.Denot) → HasDone hash v.settings (On q (Update x)) r p2 → IsAnswered (On q (Update x)) r p2 z) c.of-said.ensures c.answer.ensures.answered in
+    caller_then w v c.self.view_is p z (On q (Update c.args.value)) (Was None) c.requires.caller c.answer.ensures.own c.answer.ensures.idle (says hash w v c.self.view_is q p p1 p2 held same z (Update c.args.value) (Was None) told c.in-None.ensures.unbound.0)
 
 pub returns-in-None-clause-answered : goal.returns-in-None-clause-answered
 returns-in-None-clause-answered g c =
@@ -70,4 +80,6 @@ returns-in-None-clause-answered g c =
     let p2 = c.update_held-found.new.pass in
     let held = c.in_default.ensures.held in
     let same = c.update_held-found.ensures.view in
-    says hash w v c.self.view_is q p p1 p2 held same c.answer.new.pass (Update c.args.value) (Was None) c.answer.ensures.answered (c.in-None.ensures.unbound.0)
+    let z = c.answer.new.pass in
+    let told = subst (λ (x : g.row.V.Denot). (r : Reply g.row.V.Denot) → HasDone hash v.settings (On q (Update x)) r p2 → IsAnswered (On q (Update x)) r p2 z) c.of-said.ensures c.answer.ensures.answered in
+    says hash w v c.self.view_is q p p1 p2 held same z (Update c.args.value) (Was None) told c.in-None.ensures.unbound.0
