@@ -1,2 +1,3 @@
 pub mod Holding
 pub mod Refusals
+pub mod HoldingTwo

@@ -13,6 +13,7 @@ mod insertions;
 mod look_ups;
 mod refusal;
 mod table;
+mod two_keys;
 
 pub use ck_model::settings::Settings;
 pub use ck_words::Pass;

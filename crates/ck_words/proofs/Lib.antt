@@ -17,3 +17,4 @@ pub mod Dealt
 pub mod Ending
 pub mod Replying
 pub mod AreHeld
+pub mod SomeHeld
