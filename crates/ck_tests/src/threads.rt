@@ -13,7 +13,7 @@ use std::thread;
 use std::thread::Threads;
 
 /// How many calls a thread makes.
-const CALLS: u64 = 3000;
+const CALLS: u64 = 1500;
 
 /// How many keys the threads contend for.
 const KEYS: usize = 3;
