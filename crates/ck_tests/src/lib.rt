@@ -2,6 +2,10 @@
 #![tactic(auto)]
 
 #[cfg(test)]
+mod callers;
+#[cfg(test)]
+mod calls;
+#[cfg(test)]
 mod closing;
 #[cfg(test)]
 mod core_steps;
@@ -10,6 +14,10 @@ mod definitions;
 #[cfg(test)]
 mod memory;
 #[cfg(test)]
+mod nested;
+#[cfg(test)]
 mod owner;
+#[cfg(test)]
+mod threads;
 #[cfg(test)]
 mod words;

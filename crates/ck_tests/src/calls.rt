@@ -1,0 +1,204 @@
+//! Calls on one key by two passes of a table, from one thread, and what the table has at its end. A third pass makes none.
+ghost use Rattle.std.specs.Prelude.{◌≡◌};
+ghost use Rattle.ck_words.specs.Closing.{IsCaller};
+
+use crate::callers::{Call, NumPass, NumTable, Reply, answer, close, open};
+use ck_key::NumKey;
+use ck_table::Why;
+use std::alloc::Global;
+use std::process::Abort;
+use std::test::Fail;
+
+#[derive(Clone, Copy)]
+enum Step {
+    /// The first pass makes the call, and gets the reply.
+    First(Call, Reply),
+    /// The second pass makes the call, and gets the reply.
+    Second(Call, Reply),
+    /// The second pass meets the first.
+    Meet,
+}
+
+/// A table of 2^power buckets, steps on it, and the pairs that it has at its end.
+#[derive(Clone, Copy)]
+struct Run {
+    power: u32,
+    steps: &'static [Step],
+    end: &'static [(NumKey, u64)],
+}
+
+const RUNS: [Run; 7] = [
+    // After they met, one pass finds what the other has bound.
+    Run {
+        power: 4,
+        steps: &[
+            Step::First(Call::Insert(1, 10), Reply::Fresh(true)),
+            Step::Meet,
+            Step::Second(Call::Insert(1, 20), Reply::Fresh(false)),
+            Step::Second(Call::Find(1), Reply::Was(Some(10))),
+        ],
+        end: &[(NumKey(1), 10)],
+    },
+    // An update binds no unbound key.
+    Run {
+        power: 4,
+        steps: &[
+            Step::First(Call::Update(9, 1), Reply::Was(None)),
+            Step::First(Call::Find(9), Reply::Was(None)),
+            Step::First(Call::Insert(9, 1), Reply::Fresh(true)),
+            Step::First(Call::Update(9, 2), Reply::Was(Some(1))),
+            Step::First(Call::Find(9), Reply::Was(Some(2))),
+        ],
+        end: &[(NumKey(9), 2)],
+    },
+    // Closures on bound keys.
+    Run {
+        power: 4,
+        steps: &[
+            Step::First(Call::Insert(5, 50), Reply::Fresh(true)),
+            Step::First(Call::FindTenth(5), Reply::Was(Some(5))),
+            Step::First(Call::UpdateFn(5), Reply::Updated(true, true)),
+            Step::First(Call::Upsert(5, 9), Reply::Fresh(false)),
+            Step::First(Call::Upsert(6, 9), Reply::Fresh(true)),
+            Step::First(Call::EraseAbove(5, 60), Reply::Gone(Some(false))),
+            Step::First(Call::EraseEqual(5, 52), Reply::Gone(Some(true))),
+            Step::First(Call::EraseEqual(5, 52), Reply::Gone(None)),
+            Step::First(Call::Find(6), Reply::Was(Some(9))),
+        ],
+        end: &[(NumKey(6), 9)],
+    },
+    // No closure is called for an unbound key.
+    Run {
+        power: 4,
+        steps: &[
+            Step::First(Call::UpdateFn(5), Reply::Updated(false, false)),
+            Step::First(Call::FindTenth(5), Reply::Was(None)),
+            Step::First(Call::EraseAbove(5, 0), Reply::Gone(None)),
+            Step::First(Call::Contains(5), Reply::Bound(false)),
+        ],
+        end: &[],
+    },
+    // What a key was bound to before.
+    Run {
+        power: 4,
+        steps: &[
+            Step::First(Call::InsertOrAssign(2, 7), Reply::Was(None)),
+            Step::First(Call::Contains(2), Reply::Bound(true)),
+            Step::First(Call::InsertOrAssign(2, 8), Reply::Was(Some(7))),
+            Step::First(Call::Contains(3), Reply::Bound(false)),
+            Step::First(Call::Erase(2), Reply::Was(Some(8))),
+            Step::First(Call::Erase(2), Reply::Was(None)),
+            Step::First(Call::Contains(2), Reply::Bound(false)),
+        ],
+        end: &[],
+    },
+    // These keys have one bucket alone, which is full with four of them.
+    Run {
+        power: 2,
+        steps: &[
+            Step::First(Call::Insert(3, 30), Reply::Fresh(true)),
+            Step::First(Call::InsertOrAssign(7, 70), Reply::Was(None)),
+            Step::First(Call::Upsert(11, 110), Reply::Fresh(true)),
+            Step::First(Call::Insert(15, 150), Reply::Fresh(true)),
+            Step::First(Call::Insert(19, 190), Reply::BothBack(19, 190, Why::Full)),
+            Step::First(
+                Call::InsertOrAssign(19, 191),
+                Reply::BothBack(19, 191, Why::Full),
+            ),
+            Step::First(Call::Upsert(19, 192), Reply::BothBack(19, 192, Why::Full)),
+            Step::First(Call::Find(3), Reply::Was(Some(30))),
+            Step::First(Call::Find(7), Reply::Was(Some(70))),
+            Step::First(Call::Find(11), Reply::Was(Some(110))),
+            Step::First(Call::Find(15), Reply::Was(Some(150))),
+            Step::First(Call::Find(19), Reply::Was(None)),
+            // A bound key needs no room, and an erased one leaves some.
+            Step::First(Call::InsertOrAssign(7, 71), Reply::Was(Some(70))),
+            Step::First(Call::Erase(3), Reply::Was(Some(30))),
+            Step::First(Call::Insert(19, 193), Reply::Fresh(true)),
+        ],
+        end: &[
+            (NumKey(7), 71),
+            (NumKey(11), 110),
+            (NumKey(15), 150),
+            (NumKey(19), 193),
+        ],
+    },
+    // The pairs come in rising order of the keys, whichever pass has bound them.
+    Run {
+        power: 4,
+        steps: &[
+            Step::First(Call::Insert(u64::MAX, 1), Reply::Fresh(true)),
+            Step::Second(Call::Insert(30, 2), Reply::Fresh(true)),
+            Step::First(Call::Insert(4, 3), Reply::Fresh(true)),
+            Step::Second(Call::Insert(0, 4), Reply::Fresh(true)),
+            Step::First(Call::Insert(17, 5), Reply::Fresh(true)),
+            Step::Second(Call::Erase(4), Reply::Was(Some(3))),
+        ],
+        end: &[
+            (NumKey(0), 4),
+            (NumKey(17), 5),
+            (NumKey(30), 2),
+            (NumKey(u64::MAX), 1),
+        ],
+    },
+];
+
+fn take_step(
+    rt: &impl Abort,
+    table: &NumTable,
+    first: &mut NumPass,
+    second: &mut NumPass,
+    step: Step,
+)
+    requires first { IsCaller table.now first.old }
+    requires second { IsCaller table.now second.old }
+    ensures first { IsCaller table.now first.new }
+    ensures second { IsCaller table.now second.new }
+    ensures by { (first.new.view.by ≡ first.old.view.by) × (second.new.view.by ≡ second.old.view.by) }
+{
+    match step {
+        Step::First(call, want) => {
+            let reply = answer(table, first, call);
+            assert_eq!(rt; reply, want, "{call:?}");
+        }
+        Step::Second(call, want) => {
+            let reply = answer(table, second, call);
+            assert_eq!(rt; reply, want, "{call:?}");
+        }
+        Step::Meet => table.meet(first, second),
+    }
+}
+
+fn take_steps(
+    rt: &impl Abort,
+    table: &NumTable,
+    first: &mut NumPass,
+    second: &mut NumPass,
+    steps: &[Step],
+)
+    requires first { IsCaller table.now first.old }
+    requires second { IsCaller table.now second.old }
+    ensures first { IsCaller table.now first.new }
+    ensures second { IsCaller table.now second.new }
+    ensures by { (first.new.view.by ≡ first.old.view.by) × (second.new.view.by ≡ second.old.view.by) }
+{
+    for step in steps {
+        take_step(rt, table, first, second, *step);
+    }
+}
+
+fn check(rt: &impl Abort, alloc: Global, run: Run) -> Result<(), Fail> {
+    let (table, mut first, mut second, third) = open(alloc, run.power)?;
+    take_steps(rt, &table, &mut first, &mut second, run.steps);
+    let pairs = close(alloc, table, first, second, third)?;
+    assert_eq!(rt; pairs.as_slice(), run.end);
+    Ok(())
+}
+
+#[test]
+fn runs(rt: HostRuntime) -> Result<(), Fail> {
+    for run in RUNS {
+        check(&rt, rt.alloc(), run)?;
+    }
+    Ok(())
+}

@@ -1,0 +1,308 @@
+//! Threads that call one table, each with a pass of its own, and what their replies allow of one another and of the end.
+ghost use Rattle.std.specs.Prelude.{◌≡◌};
+ghost use Rattle.ck_words.specs.Closing.{IsCaller};
+
+use crate::callers::{Call, NumPass, NumTable, Reply, answer, close, open};
+use ck_key::NumKey;
+use ck_table::Settings;
+use std::alloc::{AllocError, Global};
+use std::process::Abort;
+use std::sync::atomic::{AtomicU64, Ordering};
+use std::test::Fail;
+use std::thread;
+use std::thread::Threads;
+
+/// How many calls a thread makes.
+const CALLS: u64 = 1500;
+
+/// How many keys the threads contend for.
+const KEYS: usize = 3;
+
+/// What a thread does.
+#[derive(Clone, Copy, PartialEq, Eq)]
+enum Task {
+    /// Binds key 1, once.
+    Bind,
+    /// Adds one to the keys in turn.
+    Add,
+    /// Binds and erases the keys.
+    BindAndErase,
+    /// Binds key 0 again and again, each time to another value.
+    Replace,
+}
+
+impl Task {
+    fn calls(self) -> u64 {
+        match self {
+            Task::Bind => 1,
+            Task::Add | Task::BindAndErase | Task::Replace => CALLS,
+        }
+    }
+
+    /// The call that a thread makes. No two calls have the same value, which is above 0.
+    fn call(self, thread: u64, step: u64) -> Call {
+        let value = value_of(thread, step);
+        let key = thread.wrapping_add(step) % KEYS as u64;
+        match self {
+            Task::Bind => Call::Insert(1, value),
+            Task::Add if step % 2 == 0 => Call::Upsert(key, 1),
+            Task::Add => Call::UpdateFn(key),
+            Task::BindAndErase if step % 2 == 0 => Call::Insert(key, value),
+            Task::BindAndErase => Call::Erase(key),
+            Task::Replace => Call::InsertOrAssign(0, value),
+        }
+    }
+}
+
+fn value_of(thread: u64, step: u64) -> u64 {
+    thread
+        .wrapping_mul(CALLS)
+        .wrapping_add(step)
+        .wrapping_add(1)
+}
+
+fn count(counter: &AtomicU64) -> u64 {
+    counter.fetch_add(1, Ordering::SeqCst)
+}
+
+fn read(counter: &AtomicU64) -> u64 {
+    counter.load(Ordering::SeqCst)
+}
+
+fn counters(alloc: Global, many: usize) -> Result<Vec<AtomicU64>, AllocError> {
+    let mut all = Vec::new(alloc);
+    for _ in 0..many {
+        all.push(AtomicU64::new(0))?;
+    }
+    Ok(all)
+}
+
+/// What the threads write down of their replies.
+#[derive(Drop)]
+struct Notes {
+    /// How many threads have begun.
+    begun: AtomicU64,
+    /// How many replies can't be, where no stripe stays held and there is room.
+    wrong: AtomicU64,
+    /// How often one was added.
+    added: AtomicU64,
+    /// How often each key was bound anew.
+    bound: Vec<AtomicU64>,
+    /// How often each key was unbound.
+    erased: Vec<AtomicU64>,
+    /// The value that a key was bound to last when it was unbound.
+    fresh: AtomicU64,
+    /// Which value each value was replaced by.
+    next: Vec<AtomicU64>,
+}
+
+impl Notes {
+    fn new(alloc: Global, threads: usize) -> Result<Notes, AllocError> {
+        Ok(Notes {
+            begun: AtomicU64::new(0),
+            wrong: AtomicU64::new(0),
+            added: AtomicU64::new(0),
+            bound: counters(alloc, KEYS)?,
+            erased: counters(alloc, KEYS)?,
+            fresh: AtomicU64::new(0),
+            next: counters(
+                alloc,
+                threads.saturating_mul(CALLS as usize).saturating_add(1),
+            )?,
+        })
+    }
+
+    fn count_at(&self, counters: &[AtomicU64], key: u64) {
+        match counters.get(key as usize) {
+            Some(counter) => count(counter),
+            None => count(&self.wrong),
+        };
+    }
+
+    /// Each value is replaced once at the most.
+    fn replaced(&self, old: u64, new: u64) {
+        let before = match self.next.get(old as usize) {
+            Some(next) => next.swap(new, Ordering::SeqCst),
+            None => old,
+        };
+        if before != 0 {
+            count(&self.wrong);
+        }
+    }
+
+    fn note(&self, call: Call, reply: Reply) {
+        match (call, reply) {
+            (Call::Upsert(..), Reply::Fresh(_)) | (Call::UpdateFn(_), Reply::Updated(true, true)) =>
+                {
+                    count(&self.added);
+                }
+            (Call::Insert(key, value), Reply::Fresh(true)) => {
+                self.count_at(&self.bound, key);
+                self.fresh.store(value, Ordering::SeqCst);
+            }
+            (Call::Erase(key), Reply::Was(Some(_))) => self.count_at(&self.erased, key),
+            (Call::InsertOrAssign(_, new), Reply::Was(old)) => self.replaced(old.unwrap_or(0), new),
+            (Call::Insert(..), Reply::Fresh(false))
+            | (Call::Erase(_), Reply::Was(None))
+            | (Call::UpdateFn(_), Reply::Updated(false, false)) => {}
+            _ => {
+                count(&self.wrong);
+            }
+        }
+    }
+}
+
+/// Makes the calls of a task.
+fn work(table: &NumTable, mut pass: NumPass, task: Task, notes: &Notes) -> NumPass
+    requires { IsCaller table.now pass }
+    ensures caller { IsCaller table.now result }
+    ensures by { result.view.by ≡ pass.view.by }
+{
+    let thread = count(&notes.begun);
+    for step in 0..task.calls() {
+        let call = task.call(thread, step);
+        let reply = answer(table, &mut pass, call);
+        notes.note(call, reply);
+    }
+    pass
+}
+
+/// The pairs that a table has after so many threads have done the task.
+fn run<R: Threads + Sync>(
+    rt: &R,
+    alloc: Global,
+    threads: u32,
+    task: Task,
+    notes: &Notes,
+) -> Result<Vec<(NumKey, u64)>, Fail> {
+    let settings = Settings {
+        s: 2,
+        power: 4,
+        max: 20,
+        callers: threads,
+        turns: u32::MAX,
+        rounds: 4,
+        min_load: 5,
+    };
+    let (table, passes) = NumTable::open(alloc, settings)?;
+    let shared = &table;
+    let there = |pass: NumPass| -> NumPass
+        requires { IsCaller shared.now pass }
+        ensures caller { IsCaller shared.entry.now result }
+        ensures by { result.view.by ≡ pass.view.by }
+    { work(shared, pass, task, notes) };
+    let passes = thread::map_vec(rt, passes, &there)?;
+    match table.close(passes) {
+        Ok(pairs) => Ok(pairs),
+        Err(_) => Err(Fail::from("a table that was not closed")),
+    }
+}
+
+/// Of two threads that bind one key, one does, and the key keeps its value.
+#[test]
+fn one_of_two(rt: HostRuntime) -> Result<(), Fail> {
+    let alloc = rt.alloc();
+    for _ in 0..200 {
+        let notes = Notes::new(alloc, 2)?;
+        let pairs = run(&rt, alloc, 2, Task::Bind, &notes)?;
+        let end = [(NumKey(1), read(&notes.fresh))];
+        assert_eq!(rt; read(&notes.wrong), 0);
+        assert_eq!(rt; notes.bound.get(1).map_or(0, read), 1);
+        assert_eq!(rt; pairs.as_slice(), end.as_slice());
+    }
+    Ok(())
+}
+
+/// Every one that was added is in the sum.
+#[test]
+fn sums(rt: HostRuntime) -> Result<(), Fail> {
+    let alloc = rt.alloc();
+    for threads in [2u32, 4, 8] {
+        let notes = Notes::new(alloc, 0)?;
+        let pairs = run(&rt, alloc, threads, Task::Add, &notes)?;
+        let mut sum = 0u64;
+        for (_, value) in &pairs {
+            sum = sum.wrapping_add(*value);
+        }
+        assert_eq!(rt; read(&notes.wrong), 0, "{threads} threads");
+        assert_eq!(rt; pairs.len(), KEYS, "{threads} threads");
+        assert_eq!(rt; sum, read(&notes.added), "{threads} threads");
+        assert!(rt; sum >= threads as u64 * CALLS / 2, "{threads} threads");
+    }
+    Ok(())
+}
+
+/// A key is bound at the end exactly where it was bound once more than it was erased.
+#[test]
+fn bound_and_erased(rt: HostRuntime) -> Result<(), Fail> {
+    let alloc = rt.alloc();
+    for threads in [2u32, 4, 8] {
+        let notes = Notes::new(alloc, 0)?;
+        let pairs = run(&rt, alloc, threads, Task::BindAndErase, &notes)?;
+        assert_eq!(rt; read(&notes.wrong), 0, "{threads} threads");
+        for key in 0..KEYS {
+            let bound = notes.bound.get(key).map_or(0, read);
+            let erased = notes.erased.get(key).map_or(0, read);
+            let left = pairs.iter().any(|pair| pair.0 == NumKey(key as u64));
+            assert_eq!(rt; bound, erased.wrapping_add(left as u64), "key {key}");
+            assert!(rt; bound > 0, "key {key}");
+        }
+    }
+    Ok(())
+}
+
+/// Follows the values from the one that was bound first, and gives the last one. Each value of each thread stands in the
+/// chain, and those of one thread in the order of its calls.
+fn follow(rt: &impl Abort, alloc: Global, notes: &Notes, threads: u64) -> Result<u64, Fail> {
+    let mut steps = Vec::from_elem(alloc, 0u64, threads as usize)?;
+    let mut value = 0u64;
+    for _ in 0..threads.saturating_mul(CALLS) {
+        value = notes.next.get(value as usize).map_or(0, read);
+        assert!(rt; value > 0, "a chain that ends too soon");
+        let thread = (value - 1) / CALLS;
+        assert!(rt; thread < threads, "a value of no thread");
+        let at = thread as usize;
+        assert_eq!(rt; steps.get(at).copied(), Some((value - 1) % CALLS));
+        if let Some(step) = steps.get_mut(at) {
+            *step = step.wrapping_add(1);
+        }
+    }
+    Ok(value)
+}
+
+/// The values that a key had form one chain, in which no call's value is missing.
+#[test]
+fn chains(rt: HostRuntime) -> Result<(), Fail> {
+    let alloc = rt.alloc();
+    for threads in [2u32, 4, 8] {
+        let notes = Notes::new(alloc, threads as usize)?;
+        let pairs = run(&rt, alloc, threads, Task::Replace, &notes)?;
+        assert_eq!(rt; read(&notes.wrong), 0, "{threads} threads");
+        let last = follow(&rt, alloc, &notes, threads as u64)?;
+        assert_eq!(rt; pairs.as_slice(), [(NumKey(0), last)].as_slice());
+    }
+    Ok(())
+}
+
+/// A pass goes to another thread, is used there, and comes back.
+#[test]
+fn there_and_back(rt: HostRuntime) -> Result<(), Fail> {
+    let alloc = rt.alloc();
+    let notes = Notes::new(alloc, 1)?;
+    let (table, mut first, second, third) = open(alloc, 4)?;
+    let (shared, seen) = (&table, &notes);
+    let before = answer(shared, &mut first, Call::Insert(0, 0));
+    assert_eq!(rt; before, Reply::Fresh(true));
+    let there = move || -> NumPass
+        requires { IsCaller shared.now first }
+        ensures caller { IsCaller shared.entry.now result }
+        ensures by { result.view.by ≡ first.view.by }
+    { work(shared, first, Task::Replace, seen) };
+    let (mut first, ()) = thread::join(&rt, there, || ());
+    assert_eq!(rt; read(&notes.wrong), 0);
+    let after = answer(shared, &mut first, Call::Find(0));
+    assert_eq!(rt; after, Reply::Was(Some(CALLS)));
+    let pairs = close(alloc, table, first, second, third)?;
+    assert_eq!(rt; pairs.as_slice(), [(NumKey(0), CALLS)].as_slice());
+    Ok(())
+}
