@@ -30,6 +30,8 @@ pub enum Call {
     EraseAbove(u64, u64),
     /// Erases this value.
     EraseEqual(u64, u64),
+    /// Moves one from the value of a key to that of another, where both are bound and there is one.
+    Transfer(u64, u64),
 }
 
 /// What a call is answered.
@@ -188,6 +190,25 @@ fn erase_equal(table: &NumTable, pass: &mut NumPass, key: u64, wanted: u64) -> R
     }
 }
 
+fn transfer(table: &NumTable, pass: &mut NumPass, from: u64, to: u64) -> Reply
+    requires { IsCaller table.now pass.old }
+    ensures caller { IsCaller table.now pass.new }
+    ensures by { pass.new.view.by ≡ pass.old.view.by }
+{
+    if from == to {
+        return Reply::Bound(false);
+    }
+    let move_one = |less: u64, more: u64| {
+        let moved = less.min(1);
+        (less - moved, more.saturating_add(moved))
+    };
+    match table.update_two(pass, &NumKey(from), &NumKey(to), move_one) {
+        Ok(true) => Reply::Bound(true),
+        Ok(false) => Reply::Bound(false),
+        Err(busy) => Reply::Busy(busy.0),
+    }
+}
+
 /// Makes the call.
 pub fn answer(table: &NumTable, pass: &mut NumPass, call: Call) -> Reply
     requires { IsCaller table.now pass.old }
@@ -206,6 +227,7 @@ pub fn answer(table: &NumTable, pass: &mut NumPass, call: Call) -> Reply
         Call::Erase(key) => erase(table, pass, key),
         Call::EraseAbove(key, limit) => erase_above(table, pass, key, limit),
         Call::EraseEqual(key, wanted) => erase_equal(table, pass, key, wanted),
+        Call::Transfer(from, to) => transfer(table, pass, from, to),
     }
 }
 

@@ -97,20 +97,21 @@ fn opening(rt: HostRuntime) -> Result<(), Fail> {
     Ok(())
 }
 
-// Binds four keys in the bucket that they share, and says whether each was.
+// Binds eight keys, each four in the bucket that they share, and says whether each was.
 fn fill(table: &Table<NumKey, u64>, pass: &mut Pass<NumKey, u64>) -> bool
     requires { IsCaller table.now pass.old }
     ensures caller { IsCaller table.now pass.new }
     ensures by { pass.new.view.by ≡ pass.old.view.by }
 {
     let mut bound = true;
-    for key in [3u64, 7, 11, 15] {
+    for key in [3u64, 7, 11, 15, 12, 8, 4, 0] {
         bound &= table.insert(pass, NumKey(key), 10 * key).is_ok();
     }
     bound
 }
 
-/// A table with four keys, and the pass of its one caller.
+/// A table with eight keys, and the pass of its one caller. The list of the pairs takes more memory than is free again once
+/// the table is open.
 fn table_of(alloc: Global) -> Option<(Table<NumKey, u64>, Vec<Pass<NumKey, u64>>)>
     ensures { IfSome result (λ r. AreAllPasses r.0 r.1.items) }
 {
@@ -141,7 +142,7 @@ fn closing(rt: HostRuntime) -> Result<(), Fail> {
         };
         match table.close(passes) {
             Ok(pairs) => {
-                assert_eq!(rt; pairs.len(), 4);
+                assert_eq!(rt; pairs.len(), 8);
                 closed = true;
             }
             Err(back) => {
@@ -173,9 +174,13 @@ fn closing_again(rt: HostRuntime) -> Result<(), Fail> {
         return Err(Fail::from("refused with ample memory"));
     };
     let want = [
-        (NumKey(3), 30u64),
+        (NumKey(0), 0u64),
+        (NumKey(3), 30),
+        (NumKey(4), 40),
         (NumKey(7), 70),
+        (NumKey(8), 80),
         (NumKey(11), 110),
+        (NumKey(12), 120),
         (NumKey(15), 150),
     ];
     assert_eq!(rt; pairs.as_slice(), want.as_slice());

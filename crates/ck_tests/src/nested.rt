@@ -1,7 +1,7 @@
 //! Calls by two passes while a call of another holds the stripes of its key: that call's closure makes them.
 //!
-//! Of the four stripes, key 3 has stripe 3 alone, key 513 has stripe 1 alone, key 0 has stripes 0 and 1, and key 1 has
-//! stripes 1 and 3.
+//! Of the four stripes, key 3 has stripe 3 alone, key 513 has stripe 1 alone, key 0 has stripes 0 and 1, key 1 has
+//! stripes 1 and 3, key 2 has stripes 1 and 2, and key 258 has stripe 2 alone.
 ghost use Rattle.ck_words.specs.Closing.{IsCaller};
 
 use crate::callers::{Call, NumPass, NumTable, Reply, answer, open};
@@ -45,6 +45,18 @@ impl<'a> Caller<'a> {
             31
         };
         let bound = self.table.update_fn(&mut self.pass, &NumKey(3), around);
+        assert!(rt; bound == Ok(true));
+    }
+
+    /// Moves one from key 0 to key 258, which are bound, by a closure in which the other makes its calls.
+    fn transfer_around(&mut self, rt: &impl Abort, other: &mut Caller, rows: &[(Call, Reply)]) {
+        let around = |from: u64, to: u64| {
+            other.check(rt, rows);
+            (from.saturating_sub(1), to.saturating_add(1))
+        };
+        let bound = self
+            .table
+            .update_two(&mut self.pass, &NumKey(0), &NumKey(258), around);
         assert!(rt; bound == Ok(true));
     }
 }
@@ -115,5 +127,46 @@ fn the_first_stripe_back(rt: HostRuntime) -> Result<(), Fail> {
     ];
     first.update_around(&rt, &mut second, &refused, &mut third, &answered);
     second.check(&rt, &[(Call::Find(513), Reply::Was(Some(9)))]);
+    Ok(())
+}
+
+/// A call on two keys holds their three stripes, and the fourth is free.
+#[test]
+fn three_held_stripes(rt: HostRuntime) -> Result<(), Fail> {
+    let (table, first, second, _third) = open(rt.alloc(), 4)?;
+    let table = &table;
+    let mut first = Caller { table, pass: first };
+    let mut second = Caller {
+        table,
+        pass: second,
+    };
+    let bound = [
+        (Call::Insert(0, 5), Reply::Fresh(true)),
+        (Call::Insert(258, 7), Reply::Fresh(true)),
+        (Call::Insert(3, 30), Reply::Fresh(true)),
+    ];
+    first.check(&rt, &bound);
+    let within = [
+        (Call::Find(3), Reply::Was(Some(30))),
+        (Call::Find(0), Reply::Busy(0)),
+        (Call::Find(1), Reply::Busy(1)),
+        (Call::Find(2), Reply::Busy(1)),
+        (Call::Find(258), Reply::Busy(2)),
+        (Call::Transfer(3, 0), Reply::Busy(0)),
+    ];
+    first.transfer_around(&rt, &mut second, &within);
+    let after = [
+        (Call::Find(0), Reply::Was(Some(4))),
+        (Call::Find(258), Reply::Was(Some(8))),
+        // Key 9 is unbound, so nothing moves.
+        (Call::Transfer(0, 9), Reply::Bound(false)),
+        (Call::Transfer(9, 0), Reply::Bound(false)),
+        (Call::Find(0), Reply::Was(Some(4))),
+        (Call::Find(9), Reply::Was(None)),
+        (Call::Transfer(0, 3), Reply::Bound(true)),
+        (Call::Find(0), Reply::Was(Some(3))),
+        (Call::Find(3), Reply::Was(Some(31))),
+    ];
+    second.check(&rt, &after);
     Ok(())
 }

@@ -18,6 +18,9 @@ const CALLS: u64 = 1500;
 /// How many keys the threads contend for.
 const KEYS: usize = 3;
 
+/// What each key has before anything is transferred.
+const FUND: u64 = 1000;
+
 /// What a thread does.
 #[derive(Clone, Copy, PartialEq, Eq)]
 enum Task {
@@ -29,13 +32,15 @@ enum Task {
     BindAndErase,
     /// Binds key 0 again and again, each time to another value.
     Replace,
+    /// Binds the keys, and transfers from one to another.
+    Transfer,
 }
 
 impl Task {
     fn calls(self) -> u64 {
         match self {
             Task::Bind => 1,
-            Task::Add | Task::BindAndErase | Task::Replace => CALLS,
+            Task::Add | Task::BindAndErase | Task::Replace | Task::Transfer => CALLS,
         }
     }
 
@@ -43,6 +48,7 @@ impl Task {
     fn call(self, thread: u64, step: u64) -> Call {
         let value = value_of(thread, step);
         let key = thread.wrapping_add(step) % KEYS as u64;
+        let next = key.wrapping_add(1) % KEYS as u64;
         match self {
             Task::Bind => Call::Insert(1, value),
             Task::Add if step % 2 == 0 => Call::Upsert(key, 1),
@@ -50,6 +56,9 @@ impl Task {
             Task::BindAndErase if step % 2 == 0 => Call::Insert(key, value),
             Task::BindAndErase => Call::Erase(key),
             Task::Replace => Call::InsertOrAssign(0, value),
+            Task::Transfer if step < KEYS as u64 => Call::Insert(step, FUND),
+            Task::Transfer if step % 2 == 0 => Call::Transfer(key, next),
+            Task::Transfer => Call::Transfer(next, key),
         }
     }
 }
@@ -84,7 +93,7 @@ struct Notes {
     begun: AtomicU64,
     /// How many replies can't be, where no stripe stays held and there is room.
     wrong: AtomicU64,
-    /// How often one was added.
+    /// How often one was added, or transferred.
     added: AtomicU64,
     /// How often each key was bound anew.
     bound: Vec<AtomicU64>,
@@ -132,10 +141,11 @@ impl Notes {
 
     fn note(&self, call: Call, reply: Reply) {
         match (call, reply) {
-            (Call::Upsert(..), Reply::Fresh(_)) | (Call::UpdateFn(_), Reply::Updated(true, true)) =>
-                {
-                    count(&self.added);
-                }
+            (Call::Upsert(..), Reply::Fresh(_))
+            | (Call::UpdateFn(_), Reply::Updated(true, true))
+            | (Call::Transfer(..), Reply::Bound(true)) => {
+                count(&self.added);
+            }
             (Call::Insert(key, value), Reply::Fresh(true)) => {
                 self.count_at(&self.bound, key);
                 self.fresh.store(value, Ordering::SeqCst);
@@ -144,6 +154,7 @@ impl Notes {
             (Call::InsertOrAssign(_, new), Reply::Was(old)) => self.replaced(old.unwrap_or(0), new),
             (Call::Insert(..), Reply::Fresh(false))
             | (Call::Erase(_), Reply::Was(None))
+            | (Call::Transfer(..), Reply::Bound(false))
             | (Call::UpdateFn(_), Reply::Updated(false, false)) => {}
             _ => {
                 count(&self.wrong);
@@ -228,6 +239,25 @@ fn sums(rt: HostRuntime) -> Result<(), Fail> {
         assert_eq!(rt; pairs.len(), KEYS, "{threads} threads");
         assert_eq!(rt; sum, read(&notes.added), "{threads} threads");
         assert!(rt; sum >= threads as u64 * CALLS / 2, "{threads} threads");
+    }
+    Ok(())
+}
+
+/// What is transferred from one key to another is lost nowhere.
+#[test]
+fn transfers(rt: HostRuntime) -> Result<(), Fail> {
+    let alloc = rt.alloc();
+    for threads in [2u32, 4, 8] {
+        let notes = Notes::new(alloc, 0)?;
+        let pairs = run(&rt, alloc, threads, Task::Transfer, &notes)?;
+        let mut sum = 0u64;
+        for (_, value) in &pairs {
+            sum = sum.wrapping_add(*value);
+        }
+        assert_eq!(rt; read(&notes.wrong), 0, "{threads} threads");
+        assert_eq!(rt; pairs.len(), KEYS, "{threads} threads");
+        assert_eq!(rt; sum, KEYS as u64 * FUND, "{threads} threads");
+        assert!(rt; read(&notes.added) >= CALLS / 2, "{threads} threads");
     }
     Ok(())
 }
