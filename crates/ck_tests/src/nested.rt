@@ -48,6 +48,22 @@ impl<'a> Caller<'a> {
         assert!(rt; bound == Ok(true));
     }
 
+    /// Leaves the value of a bound key as it is by a closure in which the other makes its calls.
+    fn keep_around(
+        &mut self,
+        rt: &impl Abort,
+        key: u64,
+        other: &mut Caller,
+        rows: &[(Call, Reply)],
+    ) {
+        let around = |value: u64| {
+            other.check(rt, rows);
+            value
+        };
+        let bound = self.table.update_fn(&mut self.pass, &NumKey(key), around);
+        assert!(rt; bound == Ok(true));
+    }
+
     /// Moves one from key 0 to key 258, which are bound, by a closure in which the other makes its calls.
     fn transfer_around(&mut self, rt: &impl Abort, other: &mut Caller, rows: &[(Call, Reply)]) {
         let around = |from: u64, to: u64| {
@@ -168,5 +184,84 @@ fn three_held_stripes(rt: HostRuntime) -> Result<(), Fail> {
         (Call::Find(3), Reply::Was(Some(31))),
     ];
     second.check(&rt, &after);
+    Ok(())
+}
+
+/// A key that has one stripe alone, and calls while that stripe is held.
+#[derive(Clone, Copy)]
+struct Turn {
+    key: u64,
+    rows: &'static [(Call, Reply)],
+}
+
+/// Keys 772, 513, 258 and 3 have stripes 0, 1, 2 and 3, each one alone.
+const TURNS: [Turn; 4] = [
+    Turn {
+        key: 772,
+        rows: &[
+            (Call::Find(772), Reply::Busy(0)),
+            (Call::Find(513), Reply::Was(Some(513))),
+            (Call::Find(258), Reply::Was(Some(258))),
+            (Call::Find(3), Reply::Was(Some(3))),
+            (Call::Find(0), Reply::Busy(0)),
+            (Call::Insert(1, 1), Reply::Fresh(true)),
+        ],
+    },
+    Turn {
+        key: 513,
+        rows: &[
+            (Call::Find(772), Reply::Was(Some(772))),
+            (Call::Find(513), Reply::Busy(1)),
+            (Call::Find(258), Reply::Was(Some(258))),
+            (Call::Find(3), Reply::Was(Some(3))),
+            (Call::Find(0), Reply::Busy(1)),
+            (Call::Insert(1, 1), Reply::BothBack(1, 1, Why::Busy(1))),
+        ],
+    },
+    Turn {
+        key: 258,
+        rows: &[
+            (Call::Find(772), Reply::Was(Some(772))),
+            (Call::Find(513), Reply::Was(Some(513))),
+            (Call::Find(258), Reply::Busy(2)),
+            (Call::Find(3), Reply::Was(Some(3))),
+            (Call::Find(0), Reply::Was(None)),
+            (Call::Insert(1, 1), Reply::Fresh(false)),
+        ],
+    },
+    Turn {
+        key: 3,
+        rows: &[
+            (Call::Find(772), Reply::Was(Some(772))),
+            (Call::Find(513), Reply::Was(Some(513))),
+            (Call::Find(258), Reply::Was(Some(258))),
+            (Call::Find(3), Reply::Busy(3)),
+            (Call::Find(0), Reply::Was(None)),
+            (Call::Insert(1, 1), Reply::BothBack(1, 1, Why::Busy(3))),
+        ],
+    },
+];
+
+/// A call is refused for a stripe of its own key, and for no other.
+#[test]
+fn each_stripe_in_turn(rt: HostRuntime) -> Result<(), Fail> {
+    let (table, first, second, _third) = open(rt.alloc(), 4)?;
+    let table = &table;
+    let mut first = Caller { table, pass: first };
+    let mut second = Caller {
+        table,
+        pass: second,
+    };
+    for turn in &TURNS {
+        let fresh = first.call(Call::Insert(turn.key, turn.key));
+        assert_eq!(rt; fresh, Reply::Fresh(true));
+    }
+    for turn in &TURNS {
+        first.keep_around(&rt, turn.key, &mut second, turn.rows);
+    }
+    for turn in &TURNS {
+        let kept = second.call(Call::Find(turn.key));
+        assert_eq!(rt; kept, Reply::Was(Some(turn.key)));
+    }
     Ok(())
 }
