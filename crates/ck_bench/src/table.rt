@@ -322,7 +322,8 @@ impl<'a> Team<'a> {
         for caller in &self.callers {
             sum = sum.wrapping_add(caller.sum);
         }
-        println!(rt; "table, {} threads (sum {sum})", self.threads)?;
+        let ending = if self.threads == 1 { "" } else { "s" };
+        println!(rt; "table, {} thread{ending} (sum {sum})", self.threads)?;
         self.times.print(rt, self.threads)
     }
 }
@@ -345,6 +346,13 @@ fn lost<M: Calls>(map: &mut M, keys: &[u64]) -> usize {
         }
     }
     lost
+}
+
+fn lost_of(team: &mut Team, keys: &[u64]) -> usize {
+    match team.callers.first_mut() {
+        Some(caller) => lost(caller, keys),
+        None => 0,
+    }
 }
 
 fn open(alloc: Global) -> io::Result<(NumTable, Vec<NumPass>)>
@@ -376,8 +384,9 @@ pub fn run<R: Threads + Clock + Print + Sync>(rt: &R, alloc: Global) -> io::Resu
         two = two.measure(rt, &keys, &others)?;
         four = four.measure(rt, &keys, &others)?;
     }
+    let lost = lost_of(&mut one, &keys);
     println!(rt;
-        "table of 2^{POWER} buckets: {} keys, {refused} refused",
+        "table: {} keys, {refused} refused, {lost} lost",
         keys.len()
     )?;
     list.print(rt)?;
