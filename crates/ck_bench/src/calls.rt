@@ -18,7 +18,7 @@ const KEYS: usize = 700_000;
 const TIMES: usize = 2;
 
 /// How often each call is measured; the least time counts.
-const ROUNDS: usize = 5;
+pub const ROUNDS: usize = 5;
 
 /// What is measured.
 pub trait Calls {
@@ -33,7 +33,7 @@ pub trait Calls {
 }
 
 /// Random keys, each with its number as its value, as far as there is room, and how many there was no room for.
-fn fill<M: Calls>(map: &mut M, alloc: Global) -> Result<(Vec<u64>, usize), AllocError> {
+pub fn fill<M: Calls>(map: &mut M, alloc: Global) -> Result<(Vec<u64>, usize), AllocError> {
     let mut random = Lcg64Xsh32::new(2026, 1);
     let mut keys = Vec::with_capacity(alloc, KEYS)?;
     for _ in 0..KEYS {
@@ -47,7 +47,7 @@ fn fill<M: Calls>(map: &mut M, alloc: Global) -> Result<(Vec<u64>, usize), Alloc
 }
 
 /// Keys that are unbound but for a chance in 2^44.
-fn other_keys(alloc: Global) -> Result<Vec<u64>, AllocError> {
+pub fn other_keys(alloc: Global) -> Result<Vec<u64>, AllocError> {
     let mut random = Lcg64Xsh32::new(2027, 2);
     let mut keys = Vec::with_capacity(alloc, KEYS)?;
     for _ in 0..KEYS {

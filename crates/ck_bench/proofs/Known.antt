@@ -1,0 +1,47 @@
+-- What a type keeps of a pass, known again.
+use Rattle.std.proofs.Common.{◌≡◌, ℕ, ◌<◌, List, [], ◌∷◌, length, refl, sym, ap, ◌∙◌, subst, arith, Some, None}
+use Rattle.std.specs.Prelude.{Option, unwrap_or}
+use Rattle.std.specs.Coded.{le_prop, Coded-set, coded_ℕ}
+use Rattle.std.proofs.Math.Logic.{∥∥₁_elim}
+use Rattle.atomic_table.specs.Seated.{TableId, table_id_coded}
+use Rattle.ck_model.specs.declared.settings.Settings.{Settings}
+use Rattle.ck_words.specs.Words.{WordsState}
+use Rattle.ck_words.specs.Passes.{PassState}
+use Rattle.ck_words.specs.Closing.{IsCaller}
+
+module _ {A : Type 0} where
+  known_empty : (xs : List A) → ∥ xs ≡ [] ∥₁ → xs ≡ []
+  known_empty [] t = refl
+  known_empty (x ∷ xs) t = absurd (∥∥₁_elim t (λ a b. absurd a) (λ e. let l : length (x ∷ xs) ≡ 0 = ap length e in omega arith))
+
+known_equal : (m n : ℕ) → ∥ m ≡ n ∥₁ → m ≡ n
+known_equal m n t = ∥∥₁_elim t (Coded-set coded_ℕ m n) (λ e. e)
+
+known_settings : (a b : Settings) → ∥ a ≡ b ∥₁ → a ≡ b
+known_settings a b t =
+    let at : (f : Settings → ℕ) → f a ≡ f b = λ f. ∥∥₁_elim t (Coded-set coded_ℕ (f a) (f b)) (λ e. ap f e) in
+    λ i. record {
+      s = at (λ x. x.s) i;
+      power = at (λ x. x.power) i;
+      max = at (λ x. x.max) i;
+      callers = at (λ x. x.callers) i;
+      turns = at (λ x. x.turns) i;
+      rounds = at (λ x. x.rounds) i;
+      min_load = at (λ x. x.min_load) i;
+    }
+
+abbrev Numbers : ℕ → Option ℕ → Type 0
+Numbers n o = (m : ℕ) × (o ≡ Some m) × (m < n)
+
+known_number : (n : ℕ) (o : Option ℕ) → ∥ Numbers n o ∥₁ → Numbers n o
+known_number n None t = absurd (∥∥₁_elim t (λ a b. absurd a) (λ k. let e = k.1 in cc))
+known_number n (Some m) t = (m, refl, ∥∥₁_elim t le_prop (λ k. subst (λ (x : ℕ). x < n) (sym (ap (λ (o : Option ℕ). unwrap_or o 0) k.1)) k.2))
+
+-- a caller's pass is known to be one
+pub known_caller : (w : WordsState) (p : PassState ℕ) → ∥ IsCaller w p ∥₁ → IsCaller w p
+known_caller w p t = record {
+  own = (∥∥₁_elim t (Coded-set table_id_coded p.table w.table) (λ c. c.own.0), known_settings p.view.settings w.settings (∥∥₁_elim t squash₁ (λ c. ∣ c.own.1 ∣₁)));
+  idle = (known_empty p.stripes (∥∥₁_elim t squash₁ (λ c. ∣ c.idle.0 ∣₁)), known_empty p.view.held (∥∥₁_elim t squash₁ (λ c. ∣ c.idle.1 ∣₁)));
+  alone = known_empty p.view.others (∥∥₁_elim t squash₁ (λ c. ∣ c.alone ∣₁));
+  number = known_number w.settings.callers p.view.by (∥∥₁_elim t squash₁ (λ c. ∣ c.number ∣₁));
+}
