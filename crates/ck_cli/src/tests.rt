@@ -64,7 +64,7 @@ fn scripts(rt: HostRuntime) -> Result<(), Fail> {
             "cuckoo 1\nworker\ninsert 3 1\ninsert 7 2\ninsert 11 3\ninsert 15 4\ninsert 19 5\nfind 19\nend\n",
             (
                 0,
-                "worker 1\nnew\nnew\nnew\nnew\nnew\nv 5\nmap\n3 1\n7 2\n11 3\n15 4\n19 5\n",
+                "worker 1\nnew\nnew\nnew\nnew\nfull\nnone\nmap\n3 1\n7 2\n11 3\n15 4\n",
                 "",
             ),
         ),
