@@ -95,6 +95,7 @@ impl<'a> Calls for Caller<'a> {
 #[derive(Clone, Copy)]
 enum Call {
     Find,
+    FindInTurn,
     Update,
     EraseAndInsert,
 }
@@ -110,6 +111,21 @@ fn sum_of<M, F: Fn(&mut M, u64) -> u64>(map: &mut M, keys: &[u64], call: &F) -> 
     sum
 }
 
+/// The sum of the values of the keys, where which key is next depends on the last value. So no find can begin before the
+/// one before it has ended, as finds with no locks otherwise do.
+fn find_in_turn<M: Calls>(map: &mut M, keys: &[u64]) -> u64 {
+    let mut sum = 0u64;
+    let mut difference = 0;
+    for key in keys {
+        // Each key has its own number as its value, so they don't differ.
+        let key = *key ^ difference;
+        let value = map.find(key).unwrap_or(key);
+        difference = value ^ key;
+        sum = sum.wrapping_add(value);
+    }
+    sum
+}
+
 /// Makes the call for each key, and gives a sum of all answers.
 fn make<M: Calls>(map: &mut M, call: Call, keys: &[u64]) -> u64 {
     let find = |map: &mut M, key: u64| map.find(key).unwrap_or(1);
@@ -120,6 +136,7 @@ fn make<M: Calls>(map: &mut M, call: Call, keys: &[u64]) -> u64 {
     };
     match call {
         Call::Find => sum_of(map, keys, &find),
+        Call::FindInTurn => find_in_turn(map, keys),
         Call::Update => sum_of(map, keys, &update),
         Call::EraseAndInsert => sum_of(map, keys, &again),
     }
@@ -185,6 +202,7 @@ fn time_threads<'a, R: Threads + Clock + Sync>(
 #[derive(Clone, Copy)]
 struct Times {
     hit: u128,
+    hit_in_turn: u128,
     miss: u128,
     update: u128,
     erase_insert: u128,
@@ -192,6 +210,7 @@ struct Times {
 
 const NO_TIMES: Times = Times {
     hit: u128::MAX,
+    hit_in_turn: u128::MAX,
     miss: u128::MAX,
     update: u128::MAX,
     erase_insert: u128::MAX,
@@ -201,6 +220,7 @@ impl Times {
     fn least(self, other: Times) -> Times {
         Times {
             hit: self.hit.min(other.hit),
+            hit_in_turn: self.hit_in_turn.min(other.hit_in_turn),
             miss: self.miss.min(other.miss),
             update: self.update.min(other.update),
             erase_insert: self.erase_insert.min(other.erase_insert),
@@ -210,6 +230,7 @@ impl Times {
     fn print(self, rt: &impl Print, threads: usize) -> io::Result<()> {
         for (call, tenths) in [
             ("find hit", self.hit),
+            ("find hit, each after the last", self.hit_in_turn),
             ("find miss", self.miss),
             ("update", self.update),
             ("erase and insert", self.erase_insert),
@@ -239,16 +260,19 @@ impl ListBench {
     fn measure(&mut self, rt: &impl Clock, keys: &[u64], others: &[u64]) -> io::Result<()> {
         let list = &mut self.list;
         let (hit, hits) = time_list(rt, list, Call::Find, keys)?;
+        let (hit_in_turn, again) = time_list(rt, list, Call::FindInTurn, keys)?;
         let (miss, misses) = time_list(rt, list, Call::Find, others)?;
         let (update, updates) = time_list(rt, list, Call::Update, keys)?;
         let (erase_insert, erased) = time_list(rt, list, Call::EraseAndInsert, keys)?;
         self.times = self.times.least(Times {
             hit,
+            hit_in_turn,
             miss,
             update,
             erase_insert,
         });
         self.sum = hits
+            .wrapping_add(again)
             .wrapping_add(misses)
             .wrapping_add(updates)
             .wrapping_add(erased);
@@ -301,11 +325,13 @@ impl<'a> Team<'a> {
         others: &[u64],
     ) -> io::Result<Team<'a>> {
         let (hit, callers) = time_threads(rt, self.callers, Call::Find, keys)?;
+        let (hit_in_turn, callers) = time_threads(rt, callers, Call::FindInTurn, keys)?;
         let (miss, callers) = time_threads(rt, callers, Call::Find, others)?;
         let (update, callers) = time_threads(rt, callers, Call::Update, keys)?;
         let (erase_insert, callers) = time_threads(rt, callers, Call::EraseAndInsert, keys)?;
         let times = Times {
             hit,
+            hit_in_turn,
             miss,
             update,
             erase_insert,

@@ -14,7 +14,11 @@ const SPREAD: u64 = 0xc6a4_a793_5bd1_e995;
 pub fn partial(h: u64) -> u8
     ensures { result ≡ partial_of h }
 {
-    h.to_le_bytes().iter().fold(0, |x, byte| x ^ *byte)
+    // Each step folds the upper half over the lower one.
+    let four = h ^ (h >> 32);
+    let two = four ^ (four >> 16);
+    let one = two ^ (two >> 8);
+    (one % 256) as u8
 }
 
 /// The first bucket of a hash in a table of 2^p buckets.

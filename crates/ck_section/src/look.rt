@@ -8,6 +8,7 @@ use crate::place::{HeldBucket, HeldSlot, KeyPlace};
 use ck_key::TableKey;
 
 /// Where a key may be among the held stripes of a table of 2^s.
+#[inline(always)]
 #[tactic(auto, unfolding(ck_model::specs::Arithmetic::second_of))]
 pub fn key_place<K: TableKey, V, H: Held<K, V>>(held: &mut H, s: u32, key: &K) -> KeyPlace
     requires held { AreHeld s (H.stripes held.old) }
@@ -56,6 +57,10 @@ fn stripe_index<K: TableKey, V, H: Held<K, V>>(held: &mut H, number: u32) -> usi
     ensures same { H.stripes held.new ≡ H.stripes held.old }
     ensures stays { H.stays held.old held.new }
 {
+    // Which of two it is is a matter of chance, so no branch asks for it.
+    if held.count() <= 2 {
+        return (held.number(0) != number) as usize;
+    }
     for i in 0..held.count() {
         if held.number(i) == number {
             return i;
@@ -65,6 +70,7 @@ fn stripe_index<K: TableKey, V, H: Held<K, V>>(held: &mut H, number: u32) -> usi
 }
 
 /// The slot of the key.
+#[inline(always)]
 pub(crate) fn find_entry<K: TableKey, V, H: Held<K, V>>(
     held: &mut H,
     place: KeyPlace,

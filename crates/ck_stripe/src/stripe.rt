@@ -16,16 +16,19 @@ use std::marker::Model;
 
 /// Stripe `number` of 2^s: the buckets `b` with `b mod 2^s` its number, in a table of 2^power buckets. Bucket `b` is row
 /// `b / 2^s`.
+///
+/// It has 56 bytes, so that an optional one is as long as a line of a cache, and what a look reads comes first.
 #[derive(Drop)]
 pub struct Stripe<K: TableKey, V> {
-    // Until a doubled stripe is settled, these are the buckets of the power below.
-    buckets: Vec<Bucket<K, V>>,
     power: u32,
     s: u32,
-    // The number of entries.
-    ledger: u64,
     number: u32,
     settled: bool,
+    // Until a doubled stripe is settled, these are the buckets of the power below.
+    buckets: Vec<Bucket<K, V>>,
+    // The number of entries.
+    ledger: u64,
+    padding: u64,
 }
 
 impl<K: TableKey, V> Model for Stripe<K, V> {
@@ -55,12 +58,13 @@ impl<K: TableKey + Drop, V: Drop> Stripe<K, V> {
             buckets.push_reserved(Bucket::new());
         }
         Ok(Stripe {
-            buckets,
             power,
             s,
-            ledger: 0,
             number,
             settled: true,
+            buckets,
+            ledger: 0,
+            padding: 0,
         })
     }
 
@@ -218,12 +222,13 @@ impl<K: TableKey + Drop, V: Drop> Stripe<K, V> {
         ensures capacity { vec_capacity pairs.new ≡ vec_capacity pairs.old }
     {
         let Stripe {
-            buckets,
             power: _,
             s: _,
-            ledger: _,
             number: _,
             settled: _,
+            buckets,
+            ledger: _,
+            padding: _,
         } = self;
         for bucket in buckets {
             bucket.pour_reserved(pairs);
@@ -232,7 +237,9 @@ impl<K: TableKey + Drop, V: Drop> Stripe<K, V> {
 }
 
 // Splits each bucket in place, and appends what leaves it: the rows of stripe `number` where a table of 2^p buckets
-// doubles.
+// doubles. Few calls find a doubling, so the others don't make room for it.
+#[cold]
+#[inline(never)]
 fn split_all<K: TableKey + Drop, V: Drop>(
     buckets: &mut Vec<Bucket<K, V>>,
     s: u32,

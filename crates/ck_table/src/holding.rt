@@ -12,6 +12,7 @@ use ck_words::Pass;
 
 impl<K: TableKey + Drop, V: Drop> Table<K, V> {
     // Takes the stripes of the key, and carries out a doubling that is left to be.
+    #[inline(always)]
     pub(crate) fn hold_key(&self, pass: &mut Pass<K, V>, key: &K) -> Result<(), Busy>
         requires caller { IsCaller self.now pass.old }
         ensures own { IsPassOf self.now pass.new }

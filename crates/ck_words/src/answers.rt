@@ -27,6 +27,7 @@ impl<K: TableKey + Drop, V: Drop> Words<K, V> {
     /// the pick of `J` alone.
     ///
     /// The first store decides, and the entry has the reply that what the stripes contained gives to the call.
+    #[inline(always)]
     pub fn answer<J: Asks<V>, X>(&self, pass: &mut Pass<K, V>, said: &X)
         requires own { IsPassOf self.now pass.old }
         requires held { 0 < length pass.old.stripes }

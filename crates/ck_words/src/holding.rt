@@ -13,6 +13,7 @@ use ck_key::TableKey;
 impl<K: TableKey + Drop, V: Drop> Words<K, V> {
     /// Takes two stripes, or one where they are the same, as `hold_pair` does, and carries out the doublings that are left
     /// of them.
+    #[inline(always)]
     pub fn hold(&self, pass: &mut Pass<K, V>, low: usize, high: usize) -> Result<(), usize>
         requires own { IsPassOf self.now pass.old }
         requires idle { IsIdle pass.old }

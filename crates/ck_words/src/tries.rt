@@ -10,9 +10,21 @@ use crate::words::Words;
 use ck_key::TableKey;
 use std::{hint, thread};
 
+// Waits before the next try, and after each 64 lets other threads run.
+#[cold]
+#[inline(never)]
+fn wait(tries: u32) {
+    if tries % 64 == 63 {
+        thread::yield_now();
+    } else {
+        hint::spin_loop();
+    }
+}
+
 impl<K: TableKey + Drop, V: Drop> Words<K, V> {
     /// Takes stripe `t`, which is above all that the pass holds, by at most `turns` swaps. False where each of them found
     /// it held.
+    #[inline(always)]
     pub fn try_take(&self, pass: &mut Pass<K, V>, t: usize) -> bool
         requires own { IsPassOf self.now pass.old }
         requires inside { t < 2 ^ self.now.settings.s }
@@ -26,11 +38,7 @@ impl<K: TableKey + Drop, V: Drop> Words<K, V> {
             if self.take(pass, t) {
                 return true;
             }
-            if tries % 64 == 63 {
-                thread::yield_now();
-            } else {
-                hint::spin_loop();
-            }
+            wait(tries);
         }
         false
     }
@@ -53,6 +61,7 @@ impl<K: TableKey + Drop, V: Drop> Words<K, V> {
     /// Takes two stripes, or one where they are the same, in rising order of their numbers. Where another pass holds one,
     /// it gives back what it holds, unchanged, and answers the number of that stripe, which was found held `turns` times
     /// in a row.
+    #[inline(always)]
     pub fn hold_pair(&self, pass: &mut Pass<K, V>, low: usize, high: usize) -> Result<(), usize>
         requires own { IsPassOf self.now pass.old }
         requires idle { IsIdle pass.old }

@@ -36,6 +36,7 @@ impl<K: TableKey + Drop, V: Drop> Words<K, V> {
     }
 
     /// Carries out the doublings that are left of the stripes that the pass holds.
+    #[inline(always)]
     pub fn settle_all(&self, pass: &mut Pass<K, V>)
         requires own { IsPassOf self.now pass.old }
         ensures own { IsPassOf self.now pass.new }
