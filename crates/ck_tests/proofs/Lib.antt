@@ -1,3 +1,2 @@
-mod Known
 mod Passes
 mod Refused

@@ -18,3 +18,4 @@ pub mod Ending
 pub mod Replying
 pub mod AreHeld
 pub mod SomeHeld
+pub mod KnownCaller

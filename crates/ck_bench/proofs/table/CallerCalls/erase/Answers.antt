@@ -1,4 +1,4 @@
-use Rattle.ck_bench.proofs.Known.{known_caller}
+use Rattle.ck_words.proofs.KnownCaller.{known_caller}
 use Rattle.ck_bench.proofs.table.CallerCalls.erase.Goals as goal
 
 pub erase-requires : goal.erase-requires

@@ -1,4 +1,4 @@
-use Rattle.ck_tests.proofs.Known.{known_caller}
+use Rattle.ck_words.proofs.KnownCaller.{known_caller}
 use Rattle.ck_tests.proofs.nested.Caller.call.Goals as goal
 
 pub answer-requires : goal.answer-requires

@@ -1,4 +1,4 @@
-use Rattle.ck_tests.proofs.Known.{known_caller}
+use Rattle.ck_words.proofs.KnownCaller.{known_caller}
 use Rattle.ck_tests.proofs.nested.Caller.update_around.Goals as goal
 
 pub update_fn-bound-requires-clause-caller : goal.update_fn-bound-requires-clause-caller

@@ -1,9 +1,9 @@
 -- What a type keeps of a pass, known again.
-use Rattle.std.proofs.Common.{◌≡◌, ℕ, ◌<◌, List, [], ◌∷◌, length, refl, sym, ap, subst, arith, Some, None}
+use Rattle.std.proofs.Common.{◌≡◌, ℕ, ◌<◌, List, [], ◌∷◌, length, refl, sym, ap, ◌∙◌, subst, arith, Some, None}
 use Rattle.std.specs.Prelude.{Option, unwrap_or}
 use Rattle.std.specs.Coded.{le_prop, Coded-set, coded_ℕ}
 use Rattle.std.proofs.Math.Logic.{∥∥₁_elim}
-use Rattle.atomic_table.specs.Seated.{table_id_coded}
+use Rattle.atomic_table.specs.Seated.{TableId, table_id_coded}
 use Rattle.ck_model.specs.declared.settings.Settings.{Settings}
 use Rattle.ck_words.specs.Words.{WordsState}
 use Rattle.ck_words.specs.Passes.{PassState}
@@ -38,7 +38,7 @@ known_number n None t = absurd (∥∥₁_elim t (λ a b. absurd a) (λ k. let e
 known_number n (Some m) t = (m, refl, ∥∥₁_elim t le_prop (λ k. subst (λ (x : ℕ). x < n) (sym (ap (λ (o : Option ℕ). unwrap_or o 0) k.1)) k.2))
 
 -- a caller's pass is known to be one
-pub known_caller : (w : WordsState) (p : PassState ℕ) → ∥ IsCaller w p ∥₁ → IsCaller w p
+pub known_caller : {V : Type 0} → (w : WordsState) (p : PassState V) → ∥ IsCaller w p ∥₁ → IsCaller w p
 known_caller w p t = record {
   own = (∥∥₁_elim t (Coded-set table_id_coded p.table w.table) (λ c. c.own.0), known_settings p.view.settings w.settings (∥∥₁_elim t squash₁ (λ c. ∣ c.own.1 ∣₁)));
   idle = (known_empty p.stripes (∥∥₁_elim t squash₁ (λ c. ∣ c.idle.0 ∣₁)), known_empty p.view.held (∥∥₁_elim t squash₁ (λ c. ∣ c.idle.1 ∣₁)));
