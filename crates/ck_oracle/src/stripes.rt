@@ -3,9 +3,10 @@ ghost use Rattle.std.specs.Prelude.{◌≡◌, ◌≢◌, ◌↔◌, ◌⊎◌, 
 ghost use Rattle.ck_model.specs.Map.{Name};
 ghost use Rattle.ck_model.specs.Contents.{Lawful};
 ghost use Rattle.ck_model.specs.Slots.{taken_in};
-ghost use Rattle.ck_model.specs.Arithmetic.{partial_of, index_of, second_of};
+ghost use Rattle.ck_model.specs.Arithmetic.{index_of, second_of};
 ghost use Rattle.ck_oracle.specs.Plain.{slot_of, EachEntry, IsBucketOfHash, ArePlaced, Lacks, RowsLack, IsRowApart, AreRowsApart, AreDisjoint, IsOneOrDisjoint, entry_count, AreNumbersDistinct, IsSized, IsPlainSound, IsPlainLawful, AreHashed, stripes_of};
 
+use ck_key::{alternate, index, partial};
 use ck_model::history::Name;
 
 /// A name with its hash and its value.
@@ -28,25 +29,15 @@ pub struct PlainStripe {
     pub ledger: u64,
 }
 
-// What the alternate of a bucket differs by, as a factor.
-const SPREAD: u64 = 0xc6a4_a793_5bd1_e995;
-
-#[tactic(auto, unfolding(ck_model::specs::Arithmetic::partial_of))]
-fn partial(hash: u64) -> u8
-    ensures { result ≡ partial_of hash }
-{
-    hash.to_le_bytes().iter().fold(0, |x, byte| x ^ *byte)
-}
-
-#[tactic(auto, unfolding(ck_model::specs::Arithmetic::index_of, ck_model::specs::Arithmetic::second_of, ck_model::specs::Arithmetic::alternate_of, ck_model::specs::Arithmetic::spread_of))]
-fn buckets(power: u32, hash: u64) -> (u64, u64)
+/// The two buckets of a hash, of 2^power.
+#[tactic(auto, unfolding(ck_model::specs::Arithmetic::second_of))]
+pub fn buckets(power: u32, hash: u64) -> (u64, u64)
     requires { power ≤ 26 }
     ensures first { result.0 ≡ index_of power hash }
     ensures second { result.1 ≡ second_of power hash }
 {
-    let index = hash % (1 << power);
-    let spread = (partial(hash) as u64 + 1).wrapping_mul(SPREAD);
-    (index, (index ^ spread) % (1 << power))
+    let first = index(power, hash);
+    (first, alternate(power, partial(hash), first))
 }
 
 // Whether the bucket is one of the hash's two.
@@ -147,7 +138,7 @@ fn count(slots: &[Option<PlainEntry>]) -> usize
     ensures { result ≡ length (taken_in (map slot_of slots.now)) }
 {
     let mut count = 0;
-    for (at, slot) in slots.iter().enumerate() {
+    for slot in slots {
         if slot.is_some() {
             count += 1;
         }

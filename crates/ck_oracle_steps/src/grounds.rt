@@ -1,16 +1,20 @@
 //! Whether stripes give a reason to find no room for a name.
 ghost use Rattle.std.specs.Prelude.{◌≡◌, ◌↔◌, ℕ, ◌<◌, ◌≤◌, IsTrue, None};
 
-use crate::sections::{alternate, buckets, has_all, has_stripes_of, hash_of};
+use crate::sections::{has_all, has_stripes_of, hash_of};
 use crate::world::PlainTable;
+use ck_key::{alternate, partial};
 use ck_model::history::{Name, Why};
-use ck_oracle::stripes::{PlainEntry, PlainStripe, is_lawful};
+use ck_oracle::stripes::{PlainEntry, PlainStripe, buckets, is_lawful};
 
-// The first four slots of a bucket.
+// How many slots a bucket has.
 const SLOTS: usize = 4;
 
 // The most hops of a path.
 const HOPS: u32 = 4;
+
+// The greatest power that a table may have.
+const MOST_POWER: u32 = 26;
 
 fn power_of(stripes: &[PlainStripe]) -> u32 {
     match stripes.first() {
@@ -58,7 +62,8 @@ fn is_bound(stripes: &[PlainStripe], name: &Name) -> bool {
 
 // Whether a path of at most so many hops begins at the bucket.
 fn has_path(s: u32, stripes: &[PlainStripe], power: u32, bucket: u64, hops: u32) -> bool
-    requires { s ≤ 10 }
+    requires stripes { s ≤ 10 }
+    requires power { power ≤ 26 }
 {
     let slots = bucket_in(s, stripes, bucket);
     if !is_full(slots) {
@@ -69,7 +74,7 @@ fn has_path(s: u32, stripes: &[PlainStripe], power: u32, bucket: u64, hops: u32)
     }
     for slot in slots {
         if let Some(entry) = slot {
-            let next = alternate(power, entry.hash, bucket);
+            let next = alternate(power, partial(entry.hash), bucket);
             if has_path(s, stripes, power, next, hops - 1) {
                 return true;
             }
@@ -78,12 +83,12 @@ fn has_path(s: u32, stripes: &[PlainStripe], power: u32, bucket: u64, hops: u32)
     false
 }
 
-// Whether the stripes are a lawful whole, in which the name is unbound and no displacement makes room for it.
-fn is_stuck(table: &PlainTable, stripes: &[PlainStripe], name: &Name) -> bool
+// Whether the stripes are a lawful whole of this power, in which the name is unbound and no displacement makes room for it.
+fn is_stuck(table: &PlainTable, stripes: &[PlainStripe], power: u32, name: &Name) -> bool
     requires stripes { table.now.s ≤ 10 }
-    requires power { table.now.max ≤ 26 }
+    requires most { table.now.max ≤ 26 }
+    requires power { power ≤ 26 }
 {
-    let power = power_of(stripes);
     if !is_lawful(table.s, table.max, stripes) || !has_all(table.s, stripes) {
         return false;
     }
@@ -117,7 +122,7 @@ fn are_grounds(table: &PlainTable, stripes: &[PlainStripe], name: &Name, why: &W
     requires power { table.now.max ≤ 26 }
 {
     let power = power_of(stripes);
-    if power > table.max || !is_stuck(table, stripes, name) {
+    if power > table.max || !is_stuck(table, stripes, power, name) {
         return false;
     }
     let may_grow = power != table.max;
@@ -134,7 +139,11 @@ fn has_no_room(table: &PlainTable, held: &[PlainStripe], name: &Name) -> bool
     requires stripes { table.now.s ≤ 10 }
     requires power { table.now.max ≤ 26 }
 {
-    let (first, second) = buckets(power_of(held), hash_of(name));
+    let power = power_of(held);
+    if power > MOST_POWER {
+        return false;
+    }
+    let (first, second) = buckets(power, hash_of(name));
     has_stripes_of(table.s, held, name)
         && !is_bound(held, name)
         && is_full(bucket_in(table.s, held, first))

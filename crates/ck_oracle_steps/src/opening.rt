@@ -34,7 +34,7 @@ fn are_homes_empty(s: u32, power: u32, homes: &[Option<PlainStripe>]) -> bool
         })
 }
 
-// How often the view has or keeps the number.
+// Whether the number is kept.
 fn is_kept(others: &[PlainOther], number: u64) -> bool {
     others.iter().any(|other| other.number == number)
 }

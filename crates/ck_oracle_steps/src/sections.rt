@@ -1,6 +1,5 @@
 //! Whether new contents of held stripes are a section.
-ghost use Rattle.std.specs.Prelude.{◌≡◌, ◌↔◌, ℕ, ◌%◌, ◌^◌, ◌<◌, ◌≤◌, IsTrue};
-ghost use Rattle.ck_model.specs.Arithmetic.{partial_of, index_of, second_of, alternate_of};
+ghost use Rattle.std.specs.Prelude.{◌≡◌, ◌↔◌, ℕ, ◌<◌, ◌≤◌, IsTrue};
 ghost use Rattle.ck_model.specs.Numbered.{IsIn, numbers};
 ghost use Rattle.ck_oracle.specs.Plain.{stripes_of};
 ghost use Rattle.ck_core.specs.Example.{first_number};
@@ -10,11 +9,8 @@ use crate::refusal::Refusal;
 use crate::world::PlainTable;
 use ck_model::history::{Call, Entry, Name};
 use ck_oracle::map::PlainMap;
-use ck_oracle::stripes::{PlainEntry, PlainStripe, is_lawful};
+use ck_oracle::stripes::{PlainEntry, PlainStripe, buckets, is_lawful};
 use std::alloc::{AllocError, Global};
-
-// What the alternate of a bucket differs by, as a factor.
-const SPREAD: u64 = 0xc6a4_a793_5bd1_e995;
 
 /// The hash of a name: its first number, or 0.
 pub fn hash_of(name: &Name) -> u64
@@ -24,43 +20,6 @@ pub fn hash_of(name: &Name) -> u64
         Some(first) => *first,
         None => 0,
     }
-}
-
-#[tactic(auto, unfolding(ck_model::specs::Arithmetic::partial_of))]
-fn partial(hash: u64) -> u8
-    ensures { result ≡ partial_of hash }
-{
-    hash.to_le_bytes().iter().fold(0, |x, byte| x ^ *byte)
-}
-
-// The number without what is above 2^power.
-fn within(power: u32, number: u64) -> u64
-    ensures { result ≡ number % 2 ^ power }
-{
-    if power < 64 {
-        number % (1 << power)
-    } else {
-        number
-    }
-}
-
-/// The other bucket of an entry of this hash, of 2^power.
-#[tactic(auto, unfolding(ck_model::specs::Arithmetic::alternate_of, ck_model::specs::Arithmetic::spread_of))]
-pub fn alternate(power: u32, hash: u64, bucket: u64) -> u64
-    ensures { result ≡ alternate_of power (partial_of hash) bucket }
-{
-    let spread = (partial(hash) as u64 + 1).wrapping_mul(SPREAD);
-    within(power, bucket ^ spread)
-}
-
-/// The two buckets of a hash, of 2^power.
-#[tactic(auto, unfolding(ck_model::specs::Arithmetic::index_of, ck_model::specs::Arithmetic::second_of))]
-pub fn buckets(power: u32, hash: u64) -> (u64, u64)
-    ensures first { result.0 ≡ index_of power hash }
-    ensures second { result.1 ≡ second_of power hash }
-{
-    let first = within(power, hash);
-    (first, alternate(power, hash, first))
 }
 
 /// Whether one of the stripes has the number.
@@ -76,7 +35,9 @@ pub fn has_number(stripes: &[PlainStripe], number: u64) -> bool
 }
 
 /// Whether the two stripes of the name are held.
-pub fn has_stripes_of(s: u32, held: &[PlainStripe], name: &Name) -> bool {
+pub fn has_stripes_of(s: u32, held: &[PlainStripe], name: &Name) -> bool
+    requires { s ≤ 10 }
+{
     let (first, second) = buckets(s, hash_of(name));
     has_number(held, first) && has_number(held, second)
 }

@@ -3,8 +3,8 @@ use Rattle.ck_model.specs.Slots.{taken_in}
 use Rattle.ck_oracle.specs.Plain.{slot_of}
 use Rattle.ck_oracle.proofs.stripes.count.Given as goal
 
-abbrev pub invariant-loop-at : goal.invariant-loop-at
-invariant-loop-at l = record {
-  within : l.count ≤ l.at;
-  counted : l.count + length (taken_in (map slot_of (drop l.at l.slots))) ≡ length (taken_in (map slot_of l.slots));
+abbrev pub invariant-loop-slot : goal.invariant-loop-slot
+invariant-loop-slot l = record {
+  within : l.count ≤ l.slot-index;
+  counted : l.count + length (taken_in (map slot_of (drop l.slot-index l.slots))) ≡ length (taken_in (map slot_of l.slots));
 }
