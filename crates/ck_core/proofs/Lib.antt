@@ -11,8 +11,3 @@ pub mod Answered
 pub mod WrongSteps
 pub mod WrongResults
 pub mod Meeting
-pub mod Same
-pub mod PlainViews
-pub mod PlainNumbers
-pub mod PlainRows
-pub mod PlainPowers

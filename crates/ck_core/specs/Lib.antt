@@ -4,6 +4,3 @@ pub mod Laws
 pub mod Sums
 pub mod Example
 pub mod Refusals
-pub mod Plain
-pub mod Left
-pub mod Claims

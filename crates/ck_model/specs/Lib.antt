@@ -1,8 +1,6 @@
 pub mod Arithmetic
 pub mod Numbered
 pub mod Map
-pub mod PlainMap
-pub mod Plain
 pub mod History
 pub mod Slots
 pub mod Contents

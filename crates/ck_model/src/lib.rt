@@ -1,11 +1,10 @@
 //! What everything in the table means: the plain map and its histories, the contents of stripes, sections of them,
 //! displacement paths and grounds for a refusal. The definitions stand in `specs`, and their laws are the contracts of
-//! the functions of `laws`, which do nothing. The programs of `plain` decide the definitions on small inputs, for tests.
+//! the functions of `laws`, which do nothing.
 #![tactic(auto)]
 
 pub mod contents;
 pub mod history;
 pub mod hop;
 pub mod laws;
-pub mod plain;
 pub mod settings;

@@ -8,10 +8,6 @@ mod calls;
 #[cfg(test)]
 mod closing;
 #[cfg(test)]
-mod core_steps;
-#[cfg(test)]
-mod definitions;
-#[cfg(test)]
 mod memory;
 #[cfg(test)]
 mod nested;

@@ -6,7 +6,7 @@ ghost use Rattle.ck_section.specs.Whole.{AreAll};
 
 use ck_key::NumKey;
 use ck_model::history::Name;
-use ck_model::plain::map::PlainMap;
+use ck_oracle::map::PlainMap;
 use ck_section::{Slice, are_all, assign, erase, find, insert, place_in_all, update, upsert};
 use ck_stripe::Stripe;
 use rand_core::Rng;

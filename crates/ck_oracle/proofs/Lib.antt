@@ -1,0 +1,3 @@
+pub mod PlainPairs
+pub mod PlainSteps
+pub mod PlainStripes

@@ -1,0 +1,2 @@
+pub mod PlainMap
+pub mod Plain

@@ -1,0 +1,5 @@
+pub mod PlainLists
+pub mod PlainViews
+pub mod PlainNumbers
+pub mod PlainRows
+pub mod PlainPowers

@@ -1,0 +1,3 @@
+pub mod Plain
+pub mod Left
+pub mod Claims
