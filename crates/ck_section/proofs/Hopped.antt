@@ -1,12 +1,13 @@
 -- What a hop finds and does.
-use Rattle.std.proofs.Common.{◌≡◌, ◌⊎◌, inl, inr, ⊎_elim, ℕ, zero, suc, ◌+◌, ◌/◌, ◌^◌, ◌<◌, Bool, true, false, List, [], ◌∷◌, Option, Some, None, Bor, MatchBool, length, get_or, map, refl, sym, ◌∙◌, ap, subst, arith, eqb, option_map}
+use Rattle.std.proofs.Common.{◌≡◌, ◌⊎◌, inl, inr, ⊎_elim, ℕ, zero, suc, ◌+◌, ◌/◌, ◌^◌, ◌<◌, Bool, true, false, is_some, List, [], ◌∷◌, Option, Some, None, Bor, MatchBool, length, get_or, map, refl, sym, ◌∙◌, ap, subst, arith, eqb, option_map}
 use Rattle.std.specs.Prelude.{unwrap_or, option_copied}
 use Rattle.std.specs.Option.{option_flatten, option_eq}
 use Rattle.std.specs.Bool.{OnTrue}
+use Rattle.std.proofs.lemmas.Bool.{false≢true}
 use Rattle.std.proofs.lemmas.Option.{none-some, some_pair_parts}
 use Rattle.ck_model.specs.Arithmetic.{partial_of, index_of, second_of, alternate_of}
 use Rattle.ck_model.specs.Map.{Name}
-use Rattle.ck_model.specs.Slots.{Slot, slot_at}
+use Rattle.ck_model.specs.Slots.{Slot, slot_at, IsFull, HasFree}
 use Rattle.ck_model.specs.Contents.{IsBucketOf, IsSound}
 use Rattle.ck_model.specs.Sections.{IdentitySection}
 use Rattle.ck_model.proofs.Buckets.{index_below, alternate_twice, alternate_below}
@@ -61,6 +62,15 @@ module _ {V : Type 0} (hash : Name → ℕ) where
       more : (b : Bool) → OnTrue b (i < length xs) → OnTrue b (suc i < length (x ∷ xs))
       more true h = omega arith
       more false h = tt
+
+  -- stripes that are as they were
+  pub no_step : (stripes new : List (StripeState V)) (s : ℕ) → new ≡ stripes → IsNoCall hash s stripes new
+  no_step stripes new s same =
+      subst (λ (l : List (StripeState V)). IsNoCall hash s stripes l) (sym same)
+      (λ max lawful. record { renewed = record { same = refl; lawful = lawful; power = inl (λ t u c d h g. sym (lawful.one_power t u c d h g)) }; same_bindings = refl })
+
+  pub not_free : (slots : List (Slot V)) → IsFull slots → ¬ (HasFree slots)
+  not_free slots full free = false≢true (ap is_some (sym free.2) ∙ full free.0 free.1)
 
   module _ (stripes : List (StripeState V)) (i j : ℕ) (hop : Hop) (of : IsHopIn stripes i j hop) (same_power : (stripe_at stripes i).content.power ≡ hop.power) where
     pub source_reach : IsInReach stripes i hop.bucket

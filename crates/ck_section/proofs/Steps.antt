@@ -1,5 +1,5 @@
 -- What the acts of a call make of held stripes, where a name was found in a slot, and where it was not.
-use Rattle.std.proofs.Common.{◌≡◌, ℕ, ◌+◌, ◌-◌, List, Option, Some, None, IfNone, refl, sym, ◌∙◌, ap, subst}
+use Rattle.std.proofs.Common.{◌≡◌, ℕ, ◌+◌, ◌-◌, ◌<◌, List, Option, Some, None, IsSome, IfNone, is_some, length, refl, sym, ◌∙◌, ap, subst}
 use Rattle.std.proofs.lemmas.Option.{some_pair_parts}
 use Rattle.ck_model.specs.declared.history.Act.{Act}
 use Rattle.ck_model.specs.declared.history.Reply.{Reply}
@@ -12,7 +12,7 @@ use Rattle.ck_section.specs.declared.place.Place.{Place}
 use Rattle.ck_section.specs.Stripes.{stripe_at, IsInReach}
 use Rattle.ck_section.specs.Places.{place_of, IsPlaceOf, IsSlotOf, slot_in, set_slot, IsNowhere, AreFull, IsNext}
 use Rattle.ck_section.specs.Calls.{IsCall, IsAt, IsCallAt, IsPlacing, IsWithRoom, IsWithoutRoom, ChangesContents}
-use Rattle.ck_section.proofs.Found.{no_room, has_room, bound_room, set_here, set_changes, changes_on}
+use Rattle.ck_section.proofs.Found.{no_room, has_room, bound_room, set_here, set_changes, changes_none, changes_on}
 use Rattle.ck_section.proofs.Decided.{s_at, keeps_unbound, keeps_bound, placed, removed, replaced, put_back, at_old, at_new, reach_set}
 
 -- a fact that holds anyway
@@ -21,10 +21,31 @@ none_anyway None P p = p
 none_anyway (Some a) P p = tt
 
 module _ {V : Type 0} where
+  pub unchanged : (old new : List (StripeState V)) → new ≡ old → ChangesContents old new
+  unchanged old new same = subst (λ (l : List (StripeState V)). ChangesContents old l) (sym same) (changes_none old)
+
+  -- Stripes that are as they were: what was in reach is, and a slot that had a name has it.
+  module _ (stripes cur : List (StripeState V)) (same : cur ≡ stripes) where
+    pub reach_still : (i b : ℕ) → IsInReach stripes i b → IsInReach cur i b
+    reach_still i b reach = subst (λ (l : List (StripeState V)). IsInReach l i b) (sym same) reach
+
+    pub full_still : (at : HeldSlot) (q : Name) → (v : V) × (slot_in stripes at ≡ Some (q, v)) → IsSome (slot_in cur at)
+    full_still at q found = ap is_some (ap (λ (l : List (StripeState V)). slot_in l at) same ∙ found.1)
+
+  -- a slot of a stripe that is held is written
+  written_changes : (old new : List (StripeState V)) (at : HeldSlot) (x : Slot V) (n : ℕ) → at.index < length old → new ≡ set_slot old at x n → ChangesContents old new
+  written_changes old new at x n inside e =
+      subst (λ (l : List (StripeState V)). ChangesContents old l) (sym e) (set_changes old at.index (with_slot (stripe_at old at.index) at.bucket at.slot x n) inside refl)
+
   pub slot_changes : (stripes cur new : List (StripeState V)) (at : HeldSlot) (x : Slot V) (n : ℕ) → cur ≡ stripes → IsInReach stripes at.index at.bucket → new ≡ set_slot cur at x n → ChangesContents stripes new
-  slot_changes stripes cur new at x n same reach e =
-      subst (λ (l : List (StripeState V)). ChangesContents stripes l) (sym (e ∙ ap (λ (l : List (StripeState V)). set_slot l at x n) same))
-      (set_changes stripes at.index (with_slot (stripe_at stripes at.index) at.bucket at.slot x n) reach.inside refl)
+  slot_changes stripes cur new at x n same reach e = written_changes stripes new at x n reach.inside (e ∙ ap (λ (l : List (StripeState V)). set_slot l at x n) same)
+
+  -- one slot is written, and then another
+  pub hop_changes : (stripes cur mid new : List (StripeState V)) (from to : HeldSlot) (x y : Slot V) (n m : ℕ) → cur ≡ stripes → from.index < length stripes → to.index < length stripes
+      → mid ≡ set_slot cur from x n → new ≡ set_slot mid to y m → ChangesContents stripes new
+  hop_changes stripes cur mid new from to x y n m same first second e f =
+      let one : ChangesContents stripes mid = written_changes stripes mid from x n first (e ∙ ap (λ (l : List (StripeState V)). set_slot l from x n) same) in
+      changes_on stripes mid new one (written_changes mid new to y m (subst (λ k. to.index < k) (sym one.count) second) f)
 
   pub two_changes : (stripes cur new : List (StripeState V)) (at : HeldSlot) (x y : Slot V) (n m : ℕ) → cur ≡ stripes → IsInReach stripes at.index at.bucket → new ≡ set_slot (set_slot cur at x n) at y m → ChangesContents stripes new
   two_changes stripes cur new at x y n m same reach e =

@@ -5,7 +5,7 @@ use Rattle.ck_model.specs.Slots.{slot_at}
 use Rattle.ck_stripe.specs.Stripe.{StripeState}
 use Rattle.ck_section.specs.Stripes.{bucket_at}
 use Rattle.ck_section.specs.Places.{place_of}
-use Rattle.ck_section.proofs.Steps.{none_anyway, lacked, found_in, kept, took}
+use Rattle.ck_section.proofs.Steps.{none_anyway, lacked, found_in, kept, took, unchanged, reach_still, full_still, slot_changes}
 use Rattle.ck_section.proofs.one_key.erase_if.Goals as goal
 
 pub returns-in_err-at-clause-unbound : goal.returns-in_err-at-clause-unbound
@@ -37,3 +37,42 @@ returns-clause-bound g c =
       (took hash stripes name c.args.place c.requires.place (g.H.Held.stripes c.read.new.self) (c.read.ensures.same ∙ c.find_entry.ensures.same) at c.in_ok-at.ensures.slot p refl c.in_ok-at.ensures.found
           Erase (λ (v : g.row.V.Denot). Was (Some v)) _ c.remove.result.1 _ (λ w. (refl, refl)) c.remove.ensures.entry c.remove.ensures.content).0,
     )
+
+pub find_entry-requires : goal.find_entry-requires
+find_entry-requires g c = c.requires.place
+
+pub returns-in_err-at-clause-rest : goal.returns-in_err-at-clause-rest
+returns-in_err-at-clause-rest g c = unchanged _ _ c.find_entry.ensures.same
+
+pub returns-in_err-at-clause-stays : goal.returns-in_err-at-clause-stays
+returns-in_err-at-clause-stays g c = c.find_entry.ensures.stays
+
+pub read-requires-clause-reach : goal.read-requires-clause-reach
+read-requires-clause-reach g c = reach_still (g.H.Held.stripes c.args.held.now) (g.H.Held.stripes c.find_entry.new.held) c.find_entry.ensures.same c.in_ok-at.at.index c.in_ok-at.at.bucket c.in_ok-at.ensures.slot.reach
+
+pub read-requires-clause-below : goal.read-requires-clause-below
+read-requires-clause-below g c = c.in_ok-at.ensures.slot.below
+
+pub read-requires-clause-full : goal.read-requires-clause-full
+read-requires-clause-full g c = full_still (g.H.Held.stripes c.args.held.now) (g.H.Held.stripes c.find_entry.new.held) c.find_entry.ensures.same c.in_ok-at.at (g.K.TableKey.name c.args.key.now) c.in_ok-at.ensures.found
+
+pub returns-then-not-read-clause-rest : goal.returns-then-not-read-clause-rest
+returns-then-not-read-clause-rest g c = unchanged _ _ (c.read.ensures.same ∙ c.find_entry.ensures.same)
+
+pub returns-then-not-read-clause-stays : goal.returns-then-not-read-clause-stays
+returns-then-not-read-clause-stays g c = g.met.H.Held.stays_on _ _ _ c.find_entry.ensures.stays c.read.ensures.stays
+
+pub remove-requires-clause-reach : goal.remove-requires-clause-reach
+remove-requires-clause-reach g c = reach_still (g.H.Held.stripes c.args.held.now) (g.H.Held.stripes c.read.new.self) (c.read.ensures.same ∙ c.find_entry.ensures.same) c.in_ok-at.at.index c.in_ok-at.at.bucket c.in_ok-at.ensures.slot.reach
+
+pub remove-requires-clause-below : goal.remove-requires-clause-below
+remove-requires-clause-below g c = c.in_ok-at.ensures.slot.below
+
+pub remove-requires-clause-full : goal.remove-requires-clause-full
+remove-requires-clause-full g c = full_still (g.H.Held.stripes c.args.held.now) (g.H.Held.stripes c.read.new.self) (c.read.ensures.same ∙ c.find_entry.ensures.same) c.in_ok-at.at (g.K.TableKey.name c.args.key.now) c.in_ok-at.ensures.found
+
+pub returns-clause-rest : goal.returns-clause-rest
+returns-clause-rest g c = slot_changes (g.H.Held.stripes c.args.held.now) (g.H.Held.stripes c.read.new.self) _ c.in_ok-at.at _ _ (c.read.ensures.same ∙ c.find_entry.ensures.same) c.in_ok-at.ensures.slot.reach c.remove.ensures.content
+
+pub returns-clause-stays : goal.returns-clause-stays
+returns-clause-stays g c = g.met.H.Held.stays_on _ _ _ c.find_entry.ensures.stays (g.met.H.Held.stays_on _ _ _ c.read.ensures.stays c.remove.ensures.stays)

@@ -1,9 +1,10 @@
-use Rattle.std.proofs.Common.{refl, List, subst, ◌∙◌}
+use Rattle.std.proofs.Common.{refl, List, subst, ◌∙◌, sym}
 use Rattle.ck_model.specs.declared.history.Act.TheVariants.{Insert}
 use Rattle.ck_model.specs.declared.history.Reply.TheVariants.{New, Old}
 use Rattle.ck_stripe.specs.Stripe.{StripeState}
-use Rattle.ck_section.specs.Calls.{IsPlacing, IsWithRoom, IsWithoutRoom}
-use Rattle.ck_section.proofs.Steps.{bound_with_room, kept}
+use Rattle.ck_section.specs.Calls.{IsPlacing, IsWithRoom, IsWithoutRoom, ChangesContents}
+use Rattle.ck_section.proofs.Steps.{bound_with_room, kept, unchanged}
+use Rattle.ck_section.specs.Places.{IsPlaceOf, IsNowhere}
 use Rattle.ck_section.proofs.one_key.insert.Goals as goal
 
 pub returns-in-Some-clause-new : goal.returns-in-Some-clause-new
@@ -41,3 +42,30 @@ returns-in-Err-clause-no_room g c = (
   c.in-Err.ensures.no_room.1,
   c.in-Err.ensures.no_room.2 ∙ c.find_entry.ensures.same,
 )
+
+pub find_entry-requires : goal.find_entry-requires
+find_entry-requires g c = c.requires
+
+pub place_new-requires-clause-place : goal.place_new-requires-clause-place
+place_new-requires-clause-place g c = subst (λ (l : List (StripeState g.row.V.Denot)). IsPlaceOf g.K.TableKey.hash l (g.K.TableKey.name c.args.key) c.args.place) (sym c.find_entry.ensures.same) c.requires
+
+pub place_new-requires-clause-nowhere : goal.place_new-requires-clause-nowhere
+place_new-requires-clause-nowhere g c = subst (λ (l : List (StripeState g.row.V.Denot)). IsNowhere l (g.K.TableKey.name c.args.key) c.args.place) (sym c.find_entry.ensures.same) c.in_default.ensures.nowhere
+
+pub returns-in-Ok-clause-rest : goal.returns-in-Ok-clause-rest
+returns-in-Ok-clause-rest g c = subst (λ (l : List (StripeState g.row.V.Denot)). ChangesContents l (g.H.Held.stripes c.place_new.new.held)) c.find_entry.ensures.same c.place_new.ensures.rest
+
+pub returns-in-Ok-clause-stays : goal.returns-in-Ok-clause-stays
+returns-in-Ok-clause-stays g c = g.met.H.Held.stays_on _ _ _ c.find_entry.ensures.stays c.place_new.ensures.stays
+
+pub returns-in-Err-clause-rest : goal.returns-in-Err-clause-rest
+returns-in-Err-clause-rest g c = subst (λ (l : List (StripeState g.row.V.Denot)). ChangesContents l (g.H.Held.stripes c.place_new.new.held)) c.find_entry.ensures.same c.place_new.ensures.rest
+
+pub returns-in-Err-clause-stays : goal.returns-in-Err-clause-stays
+returns-in-Err-clause-stays g c = g.met.H.Held.stays_on _ _ _ c.find_entry.ensures.stays c.place_new.ensures.stays
+
+pub returns-in-Some-clause-rest : goal.returns-in-Some-clause-rest
+returns-in-Some-clause-rest g c = unchanged _ _ c.find_entry.ensures.same
+
+pub returns-in-Some-clause-stays : goal.returns-in-Some-clause-stays
+returns-in-Some-clause-stays g c = c.find_entry.ensures.stays

@@ -1,9 +1,10 @@
-use Rattle.std.proofs.Common.{refl, List, subst, ◌∙◌}
+use Rattle.std.proofs.Common.{refl, List, subst, ◌∙◌, sym}
 use Rattle.ck_model.specs.declared.history.Act.TheVariants.{Upsert}
 use Rattle.ck_model.specs.declared.history.Reply.TheVariants.{New, Done}
 use Rattle.ck_stripe.specs.Stripe.{StripeState}
-use Rattle.ck_section.specs.Calls.{IsPlacing, IsWithRoom, IsWithoutRoom}
-use Rattle.ck_section.proofs.Steps.{bound_with_room, two_changes, found_in, rewrote}
+use Rattle.ck_section.specs.Calls.{IsPlacing, IsWithRoom, IsWithoutRoom, ChangesContents}
+use Rattle.ck_section.proofs.Steps.{bound_with_room, two_changes, found_in, rewrote, reach_still, full_still}
+use Rattle.ck_section.specs.Places.{IsPlaceOf, IsNowhere}
 use Rattle.ck_section.proofs.one_key.upsert.Goals as goal
 
 pub returns-in-Some-clause-call : goal.returns-in-Some-clause-call
@@ -53,3 +54,36 @@ returns-in-Err-clause-no_room g c = (
   (λ i. (c.args.f, c.in-Err.ensures.no_room.1 i)),
   c.in-Err.ensures.no_room.2 ∙ c.find_entry.ensures.same,
 )
+
+pub find_entry-requires : goal.find_entry-requires
+find_entry-requires g c = c.requires.place
+
+pub place_new-requires-clause-place : goal.place_new-requires-clause-place
+place_new-requires-clause-place g c = subst (λ (l : List (StripeState g.row.V.Denot)). IsPlaceOf g.K.TableKey.hash l (g.K.TableKey.name c.args.key) c.args.place) (sym c.find_entry.ensures.same) c.requires.place
+
+pub place_new-requires-clause-nowhere : goal.place_new-requires-clause-nowhere
+place_new-requires-clause-nowhere g c = subst (λ (l : List (StripeState g.row.V.Denot)). IsNowhere l (g.K.TableKey.name c.args.key) c.args.place) (sym c.find_entry.ensures.same) c.in_default.ensures.nowhere
+
+pub returns-in-Ok-clause-rest : goal.returns-in-Ok-clause-rest
+returns-in-Ok-clause-rest g c = subst (λ (l : List (StripeState g.row.V.Denot)). ChangesContents l (g.H.Held.stripes c.place_new.new.held)) c.find_entry.ensures.same c.place_new.ensures.rest
+
+pub returns-in-Ok-clause-stays : goal.returns-in-Ok-clause-stays
+returns-in-Ok-clause-stays g c = g.met.H.Held.stays_on _ _ _ c.find_entry.ensures.stays c.place_new.ensures.stays
+
+pub returns-in-Err-clause-rest : goal.returns-in-Err-clause-rest
+returns-in-Err-clause-rest g c = subst (λ (l : List (StripeState g.row.V.Denot)). ChangesContents l (g.H.Held.stripes c.place_new.new.held)) c.find_entry.ensures.same c.place_new.ensures.rest
+
+pub returns-in-Err-clause-stays : goal.returns-in-Err-clause-stays
+returns-in-Err-clause-stays g c = g.met.H.Held.stays_on _ _ _ c.find_entry.ensures.stays c.place_new.ensures.stays
+
+pub change_at-requires-clause-reach : goal.change_at-requires-clause-reach
+change_at-requires-clause-reach g c = reach_still (g.H.Held.stripes c.args.held.now) (g.H.Held.stripes c.find_entry.new.held) c.find_entry.ensures.same c.in-Some.entry.index c.in-Some.entry.bucket c.in-Some.ensures.slot.reach
+
+pub change_at-requires-clause-below : goal.change_at-requires-clause-below
+change_at-requires-clause-below g c = c.in-Some.ensures.slot.below
+
+pub change_at-requires-clause-full : goal.change_at-requires-clause-full
+change_at-requires-clause-full g c = full_still (g.H.Held.stripes c.args.held.now) (g.H.Held.stripes c.find_entry.new.held) c.find_entry.ensures.same c.in-Some.entry (g.K.TableKey.name c.args.key) c.in-Some.ensures.found
+
+pub returns-in-Some-clause-stays : goal.returns-in-Some-clause-stays
+returns-in-Some-clause-stays g c = g.met.H.Held.stays_on _ _ _ c.find_entry.ensures.stays c.change_at.ensures.stays

@@ -7,10 +7,10 @@ use Rattle.ck_stripe.specs.Stripe.{StripeState}
 use Rattle.ck_section.specs.declared.place.HeldSlot.{HeldSlot}
 use Rattle.ck_section.specs.declared.place.Place.{Place}
 use Rattle.ck_section.specs.Stripes.{IsInReach}
-use Rattle.ck_section.specs.Places.{place_of, IsSlotOf, IsNowhere, slot_in}
+use Rattle.ck_section.specs.Places.{place_of, IsSlotOf, IsNowhere, slot_in, IsPlaceOf}
 use Rattle.ck_section.specs.Calls.{ChangesContents}
 use Rattle.ck_section.specs.TwoNames.{IsChangeOfTwo, IsAtAfter}
-use Rattle.ck_section.proofs.Steps.{none_anyway}
+use Rattle.ck_section.proofs.Steps.{none_anyway, unchanged, reach_still, full_still}
 use Rattle.ck_section.proofs.Rebound.{taken, given, one_s, first_lacks, second_lacks, reach1, full1, reach2, free2, reach3, free3, changed, section, at_first, at_second}
 use Rattle.ck_section.proofs.two_keys.update_two.Goals as goal
 
@@ -286,3 +286,39 @@ pub returns-clause-stays : goal.returns-clause-stays
 returns-clause-stays g c =
     let on = g.met.H.Held.stays_on in
     on _ _ _ c.find_entry.ensures.stays (on _ _ _ c.find_entry-2.ensures.stays (on _ _ _ c.remove-key_a.ensures.stays (on _ _ _ c.remove-key_b.ensures.stays (on _ _ _ c.place.ensures.stays c.place-2.ensures.stays))))
+
+pub find_entry-requires : goal.find_entry-requires
+find_entry-requires g c = c.requires.first
+
+pub returns-in_err-at_a-clause-rest : goal.returns-in_err-at_a-clause-rest
+returns-in_err-at_a-clause-rest g c = unchanged _ _ c.find_entry.ensures.same
+
+pub returns-in_err-at_a-clause-stays : goal.returns-in_err-at_a-clause-stays
+returns-in_err-at_a-clause-stays g c = c.find_entry.ensures.stays
+
+pub find_entry-requires-2 : goal.find_entry-requires-2
+find_entry-requires-2 g c = subst (λ (l : List (StripeState g.row.V.Denot)). IsPlaceOf g.K.TableKey.hash l (g.K.TableKey.name c.args.b.now) c.args.place_b) (sym c.find_entry.ensures.same) c.requires.second
+
+pub returns-in_err-at_b-clause-rest : goal.returns-in_err-at_b-clause-rest
+returns-in_err-at_b-clause-rest g c = unchanged _ _ (c.find_entry-2.ensures.same ∙ c.find_entry.ensures.same)
+
+pub returns-in_err-at_b-clause-stays : goal.returns-in_err-at_b-clause-stays
+returns-in_err-at_b-clause-stays g c = g.met.H.Held.stays_on _ _ _ c.find_entry.ensures.stays c.find_entry-2.ensures.stays
+
+pub remove-key_a-requires-clause-reach : goal.remove-key_a-requires-clause-reach
+remove-key_a-requires-clause-reach g c = reach_still (g.H.Held.stripes c.args.held.now) (g.H.Held.stripes c.find_entry-2.new.held) (c.find_entry-2.ensures.same ∙ c.find_entry.ensures.same) c.in_ok-at_a.at_a.index c.in_ok-at_a.at_a.bucket c.in_ok-at_a.ensures.slot.reach
+
+pub remove-key_a-requires-clause-below : goal.remove-key_a-requires-clause-below
+remove-key_a-requires-clause-below g c = c.in_ok-at_a.ensures.slot.below
+
+pub remove-key_a-requires-clause-full : goal.remove-key_a-requires-clause-full
+remove-key_a-requires-clause-full g c = full_still (g.H.Held.stripes c.args.held.now) (g.H.Held.stripes c.find_entry-2.new.held) (c.find_entry-2.ensures.same ∙ c.find_entry.ensures.same) c.in_ok-at_a.at_a (g.K.TableKey.name c.args.a.now) c.in_ok-at_a.ensures.found
+
+pub remove-key_b-requires-clause-below : goal.remove-key_b-requires-clause-below
+remove-key_b-requires-clause-below g c = c.in_ok-at_b.ensures.slot.below
+
+pub place-requires-clause-below : goal.place-requires-clause-below
+place-requires-clause-below g c = c.in_ok-at_a.ensures.slot.below
+
+pub place-requires-2-clause-below : goal.place-requires-2-clause-below
+place-requires-2-clause-below g c = c.in_ok-at_b.ensures.slot.below

@@ -1,6 +1,7 @@
 use Rattle.std.proofs.Common.{◌≡◌, ℕ, ◌<◌, ◌%◌, ◌^◌, List, length, sym, ◌∙◌, ap, subst}
 use Rattle.ck_stripe.specs.Stripe.{StripeState}
 use Rattle.ck_section.specs.Stripes.{stripe_at}
+use Rattle.ck_section.specs.Places.{HasStripe}
 use Rattle.ck_section.specs.Hops.{IsHopIn, IsNoCall}
 use Rattle.ck_section.specs.Calls.{ChangesContents}
 use Rattle.ck_section.proofs.Kept.{held_after}
@@ -48,3 +49,15 @@ returns-clause-held g c =
     let same : c.bucket_index-to.new.held.stripes.now ≡ stripes = c.bucket_index-to.ensures.same ∙ c.bucket_index-from.ensures.same in
     held_after c.args.self.now.s stripes c.move_entry.new.held.stripes.now c.requires.held
     (subst (λ (l : List (StripeState V)). ChangesContents l c.move_entry.new.held.stripes.now) same c.move_entry.ensures.rest)
+
+pub returns-clause-rest : goal.returns-clause-rest
+returns-clause-rest g c = subst (λ (l : List (StripeState g.row.V.Denot)). ChangesContents l c.move_entry.new.held.stripes.now) (c.bucket_index-to.ensures.same ∙ c.bucket_index-from.ensures.same) c.move_entry.ensures.rest
+
+pub returns-clause-stays : goal.returns-clause-stays
+returns-clause-stays g c = c.move_entry.ensures.stays ∙ c.bucket_index-to.ensures.stays ∙ c.bucket_index-from.ensures.stays
+
+pub bucket_index-from-requires-clause-owned : goal.bucket_index-from-requires-clause-owned
+bucket_index-from-requires-clause-owned g c = c.requires.source_owned
+
+pub bucket_index-to-requires-clause-owned : goal.bucket_index-to-requires-clause-owned
+bucket_index-to-requires-clause-owned g c = subst (λ (l : List (StripeState g.row.V.Denot)). HasStripe l (c.args.hop.target % 2 ^ c.args.self.now.s)) (sym c.bucket_index-from.ensures.same) c.requires.target_owned
