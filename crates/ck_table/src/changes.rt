@@ -84,7 +84,7 @@ impl<K: TableKey + Drop, V: Drop> Table<K, V> {
         let found = self.erase_held(pass, key);
         self.words.answer::<Brand, &K>(pass, &key);
         match found {
-            Some(found) => Ok(Some(found.reply)),
+            Some(erased) => Ok(Some(erased.reply)),
             None => Ok(None),
         }
     }

@@ -41,10 +41,10 @@ impl<K: TableKey + Drop, V: Drop> Table<K, V> {
         let said = (Snapshot::of(&key), Snapshot::of(&value));
         let done = self.insert_held(pass, key, value);
         match done {
-            Ok(reply) => {
+            Ok(fresh) => {
                 self.words
                     .answer::<Brand, (Snapshot<K>, Snapshot<V>)>(pass, &said);
-                Ok(reply)
+                Ok(fresh)
             }
             Err(back) => Err(self.refuse(pass, back)),
         }
@@ -76,10 +76,10 @@ impl<K: TableKey + Drop, V: Drop> Table<K, V> {
         let said = (Snapshot::of(&key), Snapshot::of(&value));
         let done = self.assign_held(pass, key, value);
         match done {
-            Ok(reply) => {
+            Ok(old) => {
                 self.words
                     .answer::<Brand, (Snapshot<K>, Snapshot<V>)>(pass, &said);
-                Ok(reply)
+                Ok(old)
             }
             Err(back) => Err(self.refuse(pass, back)),
         }

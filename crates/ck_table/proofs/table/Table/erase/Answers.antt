@@ -32,7 +32,7 @@ returns-in-Some-clause-caller g c =
     let held = c.in_ok-hold_key.ensures.held in
     let same = c.erase_held-found.ensures.view in
     let b = c.in-Some.ensures.bound in
-    caller_then w v c.self.view_is p c.answer.new.pass (On q Erase) (Was (Some c.in-Some.found.reply)) c.requires.caller c.answer.ensures.own c.answer.ensures.idle (says hash w v c.self.view_is q p p1 p2 held same c.answer.new.pass Erase (Was (Some c.in-Some.found.reply)) c.answer.ensures.answered b.0)
+    caller_then w v c.self.view_is p c.answer.new.pass (On q Erase) (Was (Some c.in-Some.erased.reply)) c.requires.caller c.answer.ensures.own c.answer.ensures.idle (says hash w v c.self.view_is q p p1 p2 held same c.answer.new.pass Erase (Was (Some c.in-Some.erased.reply)) c.answer.ensures.answered b.0)
 
 pub returns-in-Some-clause-answered : goal.returns-in-Some-clause-answered
 returns-in-Some-clause-answered g c =
@@ -46,7 +46,7 @@ returns-in-Some-clause-answered g c =
     let held = c.in_ok-hold_key.ensures.held in
     let same = c.erase_held-found.ensures.view in
     let b = c.in-Some.ensures.bound in
-    (says hash w v c.self.view_is q p p1 p2 held same c.answer.new.pass Erase (Was (Some c.in-Some.found.reply)) c.answer.ensures.answered b.0)
+    (says hash w v c.self.view_is q p p1 p2 held same c.answer.new.pass Erase (Was (Some c.in-Some.erased.reply)) c.answer.ensures.answered b.0)
 
 pub returns-in-None-clause-caller : goal.returns-in-None-clause-caller
 returns-in-None-clause-caller g c =

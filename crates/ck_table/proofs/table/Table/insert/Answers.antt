@@ -24,9 +24,9 @@ answer-requires-clause-done g c =
     let p2 = c.insert_held-done.new.pass in
     let held = c.in_default.ensures.held in
     let same = c.insert_held-done.ensures.view in (
-      (if c.in-Ok.reply then New else Old),
-      subst (λ (x : g.row.K.Denot × g.row.V.Denot). HasDone hash v.settings (On (name x.0) (Insert x.1)) (if c.in-Ok.reply then New else Old) p2) (λ i. (sym c.of.ensures i, sym c.of-2.ensures i))
-          (does hash w v c.self.view_is q p p1 p2 held same (Insert c.args.value) (if c.in-Ok.reply then New else Old) c.in-Ok.ensures.call),
+      (if c.in-Ok.fresh then New else Old),
+      subst (λ (x : g.row.K.Denot × g.row.V.Denot). HasDone hash v.settings (On (name x.0) (Insert x.1)) (if c.in-Ok.fresh then New else Old) p2) (λ i. (sym c.of.ensures i, sym c.of-2.ensures i))
+          (does hash w v c.self.view_is q p p1 p2 held same (Insert c.args.value) (if c.in-Ok.fresh then New else Old) c.in-Ok.ensures.call),
     )
 
 pub returns-in-Ok-clause-caller : goal.returns-in-Ok-clause-caller
@@ -44,8 +44,8 @@ returns-in-Ok-clause-caller g c =
     let z = c.answer.new.pass in
     let told = subst (λ (x : g.row.K.Denot × g.row.V.Denot). (r : Reply g.row.V.Denot) → HasDone hash v.settings (On (name x.0) (Insert x.1)) r p2 → IsAnswered (On (name x.0) (Insert x.1)) r p2 z)
     (λ i. (c.of.ensures i, c.of-2.ensures i)) c.answer.ensures.answered in
-    caller_then w v c.self.view_is p z (On q (Insert c.args.value)) (if c.in-Ok.reply then New else Old) c.requires.caller c.answer.ensures.own c.answer.ensures.idle
-    (says hash w v c.self.view_is q p p1 p2 held same z (Insert c.args.value) (if c.in-Ok.reply then New else Old) told c.in-Ok.ensures.call)
+    caller_then w v c.self.view_is p z (On q (Insert c.args.value)) (if c.in-Ok.fresh then New else Old) c.requires.caller c.answer.ensures.own c.answer.ensures.idle
+    (says hash w v c.self.view_is q p p1 p2 held same z (Insert c.args.value) (if c.in-Ok.fresh then New else Old) told c.in-Ok.ensures.call)
 
 pub returns-in-Ok-clause-answered : goal.returns-in-Ok-clause-answered
 returns-in-Ok-clause-answered g c =
@@ -62,7 +62,7 @@ returns-in-Ok-clause-answered g c =
     let z = c.answer.new.pass in
     let told = subst (λ (x : g.row.K.Denot × g.row.V.Denot). (r : Reply g.row.V.Denot) → HasDone hash v.settings (On (name x.0) (Insert x.1)) r p2 → IsAnswered (On (name x.0) (Insert x.1)) r p2 z)
     (λ i. (c.of.ensures i, c.of-2.ensures i)) c.answer.ensures.answered in
-    says hash w v c.self.view_is q p p1 p2 held same z (Insert c.args.value) (if c.in-Ok.reply then New else Old) told c.in-Ok.ensures.call
+    says hash w v c.self.view_is q p p1 p2 held same z (Insert c.args.value) (if c.in-Ok.fresh then New else Old) told c.in-Ok.ensures.call
 
 pub refuse-requires-clause-room : goal.refuse-requires-clause-room
 refuse-requires-clause-room g c =

@@ -24,9 +24,9 @@ answer-requires-clause-done g c =
     let p2 = c.assign_held-done.new.pass in
     let held = c.in_default.ensures.held in
     let same = c.assign_held-done.ensures.view in (
-      (Was c.in-Ok.reply),
-      subst (λ (x : g.row.K.Denot × g.row.V.Denot). HasDone hash v.settings (On (name x.0) (Assign x.1)) (Was c.in-Ok.reply) p2) (λ i. (sym c.of.ensures i, sym c.of-2.ensures i))
-          (does hash w v c.self.view_is q p p1 p2 held same (Assign c.args.value) (Was c.in-Ok.reply) c.in-Ok.ensures.call),
+      (Was c.in-Ok.old),
+      subst (λ (x : g.row.K.Denot × g.row.V.Denot). HasDone hash v.settings (On (name x.0) (Assign x.1)) (Was c.in-Ok.old) p2) (λ i. (sym c.of.ensures i, sym c.of-2.ensures i))
+          (does hash w v c.self.view_is q p p1 p2 held same (Assign c.args.value) (Was c.in-Ok.old) c.in-Ok.ensures.call),
     )
 
 pub returns-in-Ok-clause-caller : goal.returns-in-Ok-clause-caller
@@ -44,8 +44,8 @@ returns-in-Ok-clause-caller g c =
     let z = c.answer.new.pass in
     let told = subst (λ (x : g.row.K.Denot × g.row.V.Denot). (r : Reply g.row.V.Denot) → HasDone hash v.settings (On (name x.0) (Assign x.1)) r p2 → IsAnswered (On (name x.0) (Assign x.1)) r p2 z)
     (λ i. (c.of.ensures i, c.of-2.ensures i)) c.answer.ensures.answered in
-    caller_then w v c.self.view_is p z (On q (Assign c.args.value)) (Was c.in-Ok.reply) c.requires.caller c.answer.ensures.own c.answer.ensures.idle
-    (says hash w v c.self.view_is q p p1 p2 held same z (Assign c.args.value) (Was c.in-Ok.reply) told c.in-Ok.ensures.call)
+    caller_then w v c.self.view_is p z (On q (Assign c.args.value)) (Was c.in-Ok.old) c.requires.caller c.answer.ensures.own c.answer.ensures.idle
+    (says hash w v c.self.view_is q p p1 p2 held same z (Assign c.args.value) (Was c.in-Ok.old) told c.in-Ok.ensures.call)
 
 pub returns-in-Ok-clause-answered : goal.returns-in-Ok-clause-answered
 returns-in-Ok-clause-answered g c =
@@ -62,7 +62,7 @@ returns-in-Ok-clause-answered g c =
     let z = c.answer.new.pass in
     let told = subst (λ (x : g.row.K.Denot × g.row.V.Denot). (r : Reply g.row.V.Denot) → HasDone hash v.settings (On (name x.0) (Assign x.1)) r p2 → IsAnswered (On (name x.0) (Assign x.1)) r p2 z)
     (λ i. (c.of.ensures i, c.of-2.ensures i)) c.answer.ensures.answered in
-    says hash w v c.self.view_is q p p1 p2 held same z (Assign c.args.value) (Was c.in-Ok.reply) told c.in-Ok.ensures.call
+    says hash w v c.self.view_is q p p1 p2 held same z (Assign c.args.value) (Was c.in-Ok.old) told c.in-Ok.ensures.call
 
 pub refuse-requires-clause-room : goal.refuse-requires-clause-room
 refuse-requires-clause-room g c =
