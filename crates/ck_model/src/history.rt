@@ -5,7 +5,7 @@ use std::collections::LinkedList;
 pub type Name = LinkedList<u64>;
 
 /// What a call asks for on one name.
-#[derive(Drop)]
+#[derive(PartialEq, Drop)]
 pub enum Act<V> {
     Find,
     Insert(V),
@@ -28,7 +28,7 @@ pub enum Call<V> {
 }
 
 /// What the plain map replies.
-#[derive(Drop)]
+#[derive(PartialEq, Drop)]
 pub enum Reply<V> {
     /// The value that was bound.
     Was(Option<V>),
@@ -52,7 +52,7 @@ pub struct Entry<V> {
 }
 
 /// Why no room was found for a name.
-#[derive(Drop)]
+#[derive(Clone, Copy, PartialEq, Eq)]
 pub enum Why {
     /// It is unbound and its buckets are full.
     NoRoom,

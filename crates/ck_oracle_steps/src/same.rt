@@ -9,7 +9,7 @@ ghost use Rattle.ck_oracle.specs.Plain.{slot_of, row_of, content_of};
 ghost use Rattle.ck_oracle_steps.specs.Plain.{other_of, home_of};
 
 use crate::world::PlainOther;
-use ck_model::history::{Act, Call, Entry, Name, Reply, Why};
+use ck_model::history::{Call, Entry, Name, Why};
 use ck_oracle::stripes::{PlainEntry, PlainStripe};
 use std::collections::LinkedList;
 
@@ -41,20 +41,6 @@ pub fn are_same<T: Stands>(some: &[T], others: &[T]) -> bool
     true
 }
 
-fn is_same_act(act: &Act<u64>, other: &Act<u64>) -> bool
-    ensures { IsTrue result ↔ (act.now ≡ other.now) }
-{
-    match act {
-        Act::Find => matches!(other, Act::Find),
-        Act::Insert(value) => matches!(other, Act::Insert(new) if new == value),
-        Act::Assign(value) => matches!(other, Act::Assign(new) if new == value),
-        Act::Update(value) => matches!(other, Act::Update(new) if new == value),
-        Act::Change => matches!(other, Act::Change),
-        Act::Upsert(value) => matches!(other, Act::Upsert(new) if new == value),
-        Act::Erase => matches!(other, Act::Erase),
-    }
-}
-
 // Whether the pairs are the same.
 fn are_same_pairs(pairs: &LinkedList<(Name, u64)>, others: &LinkedList<(Name, u64)>) -> bool
     ensures { IsTrue result ↔ (pairs.now ≡ others.now) }
@@ -67,7 +53,7 @@ fn is_same_call(call: &Call<u64>, other: &Call<u64>) -> bool
 {
     match call {
         Call::On(name, act) => match other {
-            Call::On(new, new_act) => name == new && is_same_act(act, new_act),
+            Call::On(new, new_act) => name == new && act == new_act,
             _ => false,
         },
         Call::ChangeTwo(first, second) => match other {
@@ -84,44 +70,13 @@ fn is_same_call(call: &Call<u64>, other: &Call<u64>) -> bool
     }
 }
 
-fn is_same_reply(reply: &Reply<u64>, other: &Reply<u64>) -> bool
-    ensures { IsTrue result ↔ (reply.now ≡ other.now) }
-{
-    match reply {
-        Reply::Was(value) => matches!(other, Reply::Was(new) if new == value),
-        Reply::New => matches!(other, Reply::New),
-        Reply::Old => matches!(other, Reply::Old),
-        Reply::Done(a, b) => matches!(other, Reply::Done(c, d) if a == c && b == d),
-        Reply::DoneTwo(a, b, c, d) => match other {
-            Reply::DoneTwo(e, f, g, h) => a == e && b == f && c == g && d == h,
-            _ => false,
-        },
-        Reply::Absent => matches!(other, Reply::Absent),
-        Reply::Count(count) => matches!(other, Reply::Count(new) if new == count),
-        Reply::Closed => matches!(other, Reply::Closed),
-    }
-}
-
-fn is_same_why(why: &Why, other: &Why) -> bool
-    ensures { IsTrue result ↔ (why.now ≡ other.now) }
-{
-    match why {
-        Why::NoRoom => matches!(other, Why::NoRoom),
-        Why::Full => matches!(other, Why::Full),
-        Why::LoadTooLow => matches!(other, Why::LoadTooLow),
-        Why::Memory => matches!(other, Why::Memory),
-    }
-}
-
 impl Stands for Entry<u64> {
     ghost Value = { Entry ℕ };
 
     ghost value = { λ e. e };
 
     fn is_same(&self, other: &Entry<u64>) -> bool {
-        self.by == other.by
-            && is_same_call(&self.call, &other.call)
-            && is_same_reply(&self.reply, &other.reply)
+        self.by == other.by && is_same_call(&self.call, &other.call) && self.reply == other.reply
     }
 }
 
@@ -131,7 +86,7 @@ impl Stands for (Name, Why) {
     ghost value = { λ e. e };
 
     fn is_same(&self, other: &(Name, Why)) -> bool {
-        self.0 == other.0 && is_same_why(&self.1, &other.1)
+        self.0 == other.0 && self.1 == other.1
     }
 }
 
