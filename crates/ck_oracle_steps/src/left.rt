@@ -10,7 +10,7 @@ ghost use Rattle.ck_oracle_steps.specs.Left.{topped, grown_by, behind, taken_of,
 
 use crate::refusal::{Part, Refusal};
 use crate::same::{Stands, are_same, are_same_entries, are_same_reasons, is_same_content};
-use crate::world::{Claim, PlainOther, PlainView};
+use crate::world::{Claim, NO_SETTINGS, PlainOther, PlainView};
 use ck_model::history::{Entry, Name, Why};
 use ck_model::settings::Settings;
 use ck_oracle::stripes::PlainStripe;
@@ -177,17 +177,8 @@ impl<'a> New<'a> {
     pub fn spent() -> New<'a>
         ensures { new_of result ≡ spent }
     {
-        let settings = Settings {
-            s: 0,
-            power: 0,
-            max: 0,
-            callers: 0,
-            turns: 0,
-            rounds: 0,
-            min_load: 0,
-        };
         New {
-            settings,
+            settings: NO_SETTINGS,
             by: None,
             seen: &[],
             told: 0,
