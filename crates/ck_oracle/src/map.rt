@@ -113,7 +113,6 @@ impl PlainMap {
         }
     }
 
-    // Whether the two maps are one.
     fn is_same(&self, other: &PlainMap) -> bool
         ensures { IsTrue result ↔ (self.now ≡ other.now) }
     {

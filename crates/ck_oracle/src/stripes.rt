@@ -76,7 +76,6 @@ fn are_placed(rows: &[Vec<Option<PlainEntry>>], power: u32, s: u32, number: u64)
     true
 }
 
-// Whether each row has four slots.
 fn have_four(rows: &[Vec<Option<PlainEntry>>]) -> bool
     ensures { IsTrue result ↔ All (λ row. length row.items ≡ 4) rows.now }
 {
@@ -189,7 +188,6 @@ fn is_sound(s: u32, max: u32, stripe: &PlainStripe) -> bool
         && is_entry_count(rows, stripe.ledger)
 }
 
-// Whether each stripe has another number.
 fn have_other_numbers(stripes: &[PlainStripe], number: u64) -> bool
     ensures { IsTrue result ↔ All (λ u. u.number ≢ number) stripes.now }
 {
@@ -251,7 +249,6 @@ fn stand_once(stripes: &[PlainStripe]) -> bool
     true
 }
 
-// Whether all powers are one.
 fn have_one_power(stripes: &[PlainStripe]) -> bool
     ensures { IsTrue result ↔ All (λ a. All (λ b. a.power ≡ b.power) stripes.now) stripes.now }
 {
@@ -260,7 +257,6 @@ fn have_one_power(stripes: &[PlainStripe]) -> bool
         .all(|a| stripes.iter().all(|b| a.power == b.power))
 }
 
-// Whether each stripe by itself is sound.
 fn are_sound(s: u32, max: u32, stripes: &[PlainStripe]) -> bool
     requires stripes { s ≤ 10 }
     requires power { max ≤ 26 }

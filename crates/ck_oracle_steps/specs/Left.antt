@@ -10,8 +10,8 @@ use Rattle.ck_model.specs.Contents.{Stripes}
 use Rattle.ck_oracle.specs.Plain.{content_of, stripes_of}
 use Rattle.ck_core.specs.declared.view.View.{View}
 use Rattle.ck_oracle_steps.specs.declared.world.PlainView.{PlainView}
-use Rattle.ck_oracle_steps.specs.declared.left.Left.{Left}
-use Rattle.ck_oracle_steps.specs.declared.left.New.{New}
+use Rattle.ck_oracle_steps.specs.declared.left.ExpectedView.{ExpectedView}
+use Rattle.ck_oracle_steps.specs.declared.left.FreshView.{FreshView}
 use Rattle.ck_core.specs.State.{owned}
 use Rattle.ck_oracle_steps.specs.Plain.{other_of, view_of}
 
@@ -60,7 +60,7 @@ joined_of None l = l
 joined_of (Some w) l = owned (view_of w.now) ++ l
 
 -- the view that a step leaves
-unfoldable pub left_of : Left → View ℕ
+unfoldable pub left_of : ExpectedView → View ℕ
 left_of l = record {
   settings = l.base.now.settings;
   by = l.base.now.by;
@@ -76,7 +76,7 @@ left_of l = record {
 }
 
 -- a view that knows nothing but this
-unfoldable pub new_of : New → View ℕ
+unfoldable pub new_of : FreshView → View ℕ
 new_of n = record {
   settings = n.settings;
   by = n.by;
@@ -92,7 +92,7 @@ new_of n = record {
 }
 
 -- the view as it is
-pub record IsOf (l : Left) (v : PlainView) : Type 0 where
+pub record IsOf (l : ExpectedView) (v : PlainView) : Type 0 where
   pub base : l.base.now ≡ v
   pub taken : l.taken ≡ None
   pub given : l.given ≡ None

@@ -10,14 +10,14 @@ ghost use Rattle.ck_oracle_steps.specs.Left.{topped, grown_by, behind, taken_of,
 
 use crate::refusal::{Part, Refusal};
 use crate::same::{Stands, are_same, are_same_entries, are_same_reasons, is_same_content};
-use crate::world::{Claim, PlainOther, PlainView};
+use crate::world::{Claim, NO_SETTINGS, PlainOther, PlainView};
 use ck_model::history::{Entry, Name, Why};
 use ck_model::settings::Settings;
 use ck_oracle::stripes::PlainStripe;
 
 /// A view that a step leaves: a view, and what is another in it.
 #[derive(Clone, Copy)]
-pub struct Left<'a> {
+pub struct ExpectedView<'a> {
     base: &'a PlainView,
     // The stripe that comes first, with its number.
     taken: Option<(u64, &'a PlainStripe)>,
@@ -36,7 +36,7 @@ pub struct Left<'a> {
 
 /// A view that knows nothing but this.
 #[derive(Clone, Copy)]
-pub struct New<'a> {
+pub struct FreshView<'a> {
     pub settings: Settings,
     pub by: Option<u64>,
     pub seen: &'a [Entry<u64>],
@@ -143,13 +143,13 @@ fn behind_others<'a>(kept: &[PlainOther], list: &'a [PlainOther]) -> Option<&'a 
     Some(&list[count..])
 }
 
-impl<'a> New<'a> {
+impl<'a> FreshView<'a> {
     /// A caller that begins.
     #[tactic(auto, unfolding(crate::specs::Plain::view_of, crate::specs::Left::left_of, crate::specs::Left::new_of))]
-    pub fn newcomer(settings: Settings, number: u64, told: u64) -> New<'a>
+    pub fn newcomer(settings: Settings, number: u64, told: u64) -> FreshView<'a>
         ensures { new_of result ≡ newcomer settings number told }
     {
-        New {
+        FreshView {
             settings,
             by: Some(number),
             seen: &[],
@@ -160,10 +160,10 @@ impl<'a> New<'a> {
 
     /// What the view has seen and was told.
     #[tactic(auto, unfolding(crate::specs::Plain::view_of, crate::specs::Left::left_of, crate::specs::Left::new_of))]
-    pub fn messenger(view: &'a PlainView) -> New<'a>
+    pub fn messenger(view: &'a PlainView) -> FreshView<'a>
         ensures { new_of result ≡ messenger (view_of view.now) }
     {
-        New {
+        FreshView {
             settings: view.settings,
             by: None,
             seen: &view.seen,
@@ -174,20 +174,11 @@ impl<'a> New<'a> {
 
     /// What a join leaves of the other view.
     #[tactic(auto, unfolding(crate::specs::Plain::view_of, crate::specs::Left::left_of, crate::specs::Left::new_of))]
-    pub fn spent() -> New<'a>
+    pub fn spent() -> FreshView<'a>
         ensures { new_of result ≡ spent }
     {
-        let settings = Settings {
-            s: 0,
-            power: 0,
-            max: 0,
-            callers: 0,
-            turns: 0,
-            rounds: 0,
-            min_load: 0,
-        };
-        New {
-            settings,
+        FreshView {
+            settings: NO_SETTINGS,
             by: None,
             seen: &[],
             told: 0,
@@ -214,14 +205,14 @@ impl<'a> New<'a> {
     }
 }
 
-impl<'a> Left<'a> {
+impl<'a> ExpectedView<'a> {
     /// The view as it is.
     #[tactic(auto, unfolding(crate::specs::Plain::view_of, crate::specs::Left::left_of, crate::specs::Left::new_of))]
-    pub fn same(view: &'a PlainView) -> Left<'a>
+    pub fn same(view: &'a PlainView) -> ExpectedView<'a>
         ensures view { left_of result ≡ view_of view.now }
         ensures parts { IsOf result view.now }
     {
-        Left {
+        ExpectedView {
             base: view,
             taken: None,
             given: None,
@@ -242,24 +233,24 @@ impl<'a> Left<'a> {
         number: u64,
         content: &'a PlainStripe,
         log: &'a [Entry<u64>],
-    ) -> Left<'a>
+    ) -> ExpectedView<'a>
         ensures { left_of result ≡ record (view_of view.now) { held = (number, content_of content.now) ∷ stripes_of view.now.held.items; seen = log.now } }
     {
-        Left {
+        ExpectedView {
             taken: Some((number, content)),
             seen: Some(log),
-            ..Left::same(view)
+            ..ExpectedView::same(view)
         }
     }
 
     /// The view that found this stripe held once more.
     #[tactic(auto, unfolding(crate::specs::Plain::view_of, crate::specs::Left::left_of, crate::specs::Left::new_of))]
-    pub fn finding(view: &'a PlainView, number: u64) -> Left<'a>
+    pub fn finding(view: &'a PlainView, number: u64) -> ExpectedView<'a>
         ensures { left_of result ≡ record (view_of view.now) { found = number ∷ view.now.found.items } }
     {
-        Left {
+        ExpectedView {
             found: Some(number),
-            ..Left::same(view)
+            ..ExpectedView::same(view)
         }
     }
 
@@ -272,14 +263,14 @@ impl<'a> Left<'a> {
         power: u32,
         stripes: &'a [PlainStripe],
         noroom: &'a Option<(Name, Why)>,
-    ) -> Left<'a>
+    ) -> ExpectedView<'a>
         ensures { left_of result ≡ record (view_of view.now) { held = without number (stripes_of stripes.now); told = max view.now.told power; noroom = gaining view.now.noroom.items noroom.now } }
     {
-        Left {
+        ExpectedView {
             given: Some((number, stripes)),
             told: view.told.max(power as u64),
             noroom: noroom.as_ref(),
-            ..Left::same(view)
+            ..ExpectedView::same(view)
         }
     }
 
@@ -291,48 +282,48 @@ impl<'a> Left<'a> {
         stripes: &'a [PlainStripe],
         log: &'a [Entry<u64>],
         entry: &'a Entry<u64>,
-    ) -> Left<'a>
+    ) -> ExpectedView<'a>
         ensures { left_of result ≡ record (view_of view.now) { held = without number (stripes_of stripes.now); seen = log.now ++ entry.now ∷ []; mine = view.now.mine.items ++ entry.now ∷ [] } }
     {
-        Left {
+        ExpectedView {
             given: Some((number, stripes)),
             seen: Some(log),
             decided: Some(entry),
-            ..Left::same(view)
+            ..ExpectedView::same(view)
         }
     }
 
     /// The view that has seen this history and was told this power.
     #[tactic(auto, unfolding(crate::specs::Plain::view_of, crate::specs::Left::left_of, crate::specs::Left::new_of))]
-    pub fn looking(view: &'a PlainView, log: &'a [Entry<u64>], power: u64) -> Left<'a>
+    pub fn looking(view: &'a PlainView, log: &'a [Entry<u64>], power: u64) -> ExpectedView<'a>
         ensures { left_of result ≡ record (view_of view.now) { seen = log.now; told = power } }
     {
-        Left {
+        ExpectedView {
             seen: Some(log),
             told: power,
-            ..Left::same(view)
+            ..ExpectedView::same(view)
         }
     }
 
     /// The view that keeps these numbers.
     #[tactic(auto, unfolding(crate::specs::Plain::view_of, crate::specs::Left::left_of, crate::specs::Left::new_of))]
-    pub fn keeping(view: &'a PlainView, others: &'a [PlainOther]) -> Left<'a>
+    pub fn keeping(view: &'a PlainView, others: &'a [PlainOther]) -> ExpectedView<'a>
         ensures { left_of result ≡ record (view_of view.now) { others = map other_of others.now } }
     {
-        Left {
+        ExpectedView {
             others: Some(others),
-            ..Left::same(view)
+            ..ExpectedView::same(view)
         }
     }
 
     /// The view that has heard what another had seen, and keeps its numbers.
     #[tactic(auto, unfolding(crate::specs::Plain::view_of, crate::specs::Left::left_of, crate::specs::Left::new_of))]
-    pub fn joining(view: &'a PlainView, other: &'a PlainView) -> Left<'a>
+    pub fn joining(view: &'a PlainView, other: &'a PlainView) -> ExpectedView<'a>
         ensures { left_of result ≡ joining (view_of view.now) (view_of other.now) }
     {
-        Left {
+        ExpectedView {
             joined: Some(other),
-            ..Left::same(view)
+            ..ExpectedView::same(view)
         }
     }
 
@@ -511,7 +502,7 @@ fn is_home_set(
 fn is_other_same(at: usize, id: usize, other: usize, old: &PlainView, new: &PlainView) -> bool
     ensures { IsTrue result ↔ (at ≢ id → at ≢ other → view_of new.now ≡ view_of old.now) }
 {
-    at == id || at == other || Left::same(old).check(new).is_ok()
+    at == id || at == other || ExpectedView::same(old).check(new).is_ok()
 }
 
 // Whether the views are these, but for two places.
@@ -533,7 +524,7 @@ fn are_others_same(before: &[PlainView], id: usize, other: usize, after: &[Plain
 fn check_views(
     before: &[PlainView],
     id: usize,
-    left: &Left,
+    left: &ExpectedView,
     after: &[PlainView],
 ) -> Result<(), Refusal>
     requires { id < length before.now }
@@ -550,7 +541,7 @@ fn check_views(
 fn check_both_views(
     before: &[PlainView],
     id: usize,
-    left: &Left,
+    left: &ExpectedView,
     other: usize,
     after: &[PlainView],
 ) -> Result<(), Refusal>
@@ -565,7 +556,7 @@ fn check_both_views(
         None => return Err(Refusal::Leaves(Part::Views)),
     }
     match after.get(other) {
-        Some(view) => New::spent().check(view),
+        Some(view) => FreshView::spent().check(view),
         None => Err(Refusal::Leaves(Part::Views)),
     }
 }
@@ -598,7 +589,7 @@ fn check_stripe(
 }
 
 /// The caller has this view afterwards, and nothing else is another.
-pub fn check_seen(claim: &Claim, left: &Left) -> Result<(), Refusal>
+pub fn check_seen(claim: &Claim, left: &ExpectedView) -> Result<(), Refusal>
     requires { claim.now.id < length claim.now.before.now.views.items }
     ensures { IsOk result ↔ (world_of claim.now.after.now ≡ seen_as (world_of claim.now.before.now) claim.now.id (left_of left.now)) }
 {
@@ -607,7 +598,7 @@ pub fn check_seen(claim: &Claim, left: &Left) -> Result<(), Refusal>
 }
 
 /// The stripe's word is 1, its place empty, and the caller has this view afterwards.
-pub fn check_taken(claim: &Claim, stripe: u64, left: &Left) -> Result<(), Refusal>
+pub fn check_taken(claim: &Claim, stripe: u64, left: &ExpectedView) -> Result<(), Refusal>
     requires { claim.now.id < length claim.now.before.now.views.items }
     ensures { IsOk result ↔ (world_of claim.now.after.now ≡ record { words = set claim.now.before.now.words.items stripe 1; homes = set (map home_of claim.now.before.now.homes.items) stripe None; views = set (map view_of claim.now.before.now.views.items) claim.now.id (left_of left.now) }) }
 {
@@ -620,7 +611,7 @@ pub fn check_sent_home(
     claim: &Claim,
     stripe: u64,
     content: &PlainStripe,
-    left: &Left,
+    left: &ExpectedView,
 ) -> Result<(), Refusal>
     requires { claim.now.id < length claim.now.before.now.views.items }
     ensures { IsOk result ↔ (world_of claim.now.after.now ≡ sent_home (world_of claim.now.before.now) claim.now.id stripe (content_of content.now) (left_of left.now)) }
@@ -630,7 +621,7 @@ pub fn check_sent_home(
 }
 
 /// The caller has this view afterwards, and there is a further view.
-pub fn check_split(claim: &Claim, left: &Left, right: &New) -> Result<(), Refusal>
+pub fn check_split(claim: &Claim, left: &ExpectedView, right: &FreshView) -> Result<(), Refusal>
     requires { claim.now.id < length claim.now.before.now.views.items }
     ensures { IsOk result ↔ (world_of claim.now.after.now ≡ split_as (world_of claim.now.before.now) claim.now.id (left_of left.now) (new_of right.now)) }
 {
@@ -645,7 +636,7 @@ pub fn check_split(claim: &Claim, left: &Left, right: &New) -> Result<(), Refusa
 }
 
 /// The caller has this view afterwards, and the other is spent.
-pub fn check_joined(claim: &Claim, left: &Left, other: usize) -> Result<(), Refusal>
+pub fn check_joined(claim: &Claim, left: &ExpectedView, other: usize) -> Result<(), Refusal>
     requires id { claim.now.id < length claim.now.before.now.views.items }
     requires other { other < length claim.now.before.now.views.items }
     requires different { other ≢ claim.now.id }

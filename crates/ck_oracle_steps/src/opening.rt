@@ -1,7 +1,7 @@
 //! Whether a world is an opening.
 ghost use Rattle.std.specs.Prelude.{◌≡◌, ◌↔◌, ℕ, ◌<◌, ◌≤◌, IsTrue};
 
-use crate::left::New;
+use crate::left::FreshView;
 use crate::refusal::Flaw;
 use crate::world::{PlainOpening, PlainOther, PlainTable, PlainView};
 use ck_model::settings::Settings;
@@ -22,7 +22,6 @@ fn is_empty_stripe(s: u32, power: u32, stripe: &PlainStripe) -> bool
         && stripe.ledger == 0
 }
 
-// Whether each place has an empty stripe.
 fn are_homes_empty(s: u32, power: u32, homes: &[Option<PlainStripe>]) -> bool
     requires least { s ≤ power }
     requires most { power ≤ 26 }
@@ -93,9 +92,9 @@ fn are_dealt(callers: u64, views: &[PlainView]) -> bool {
 
 // Whether the view is that of a caller that begins, whatever numbers it keeps.
 fn is_newcomer(set: Settings, number: u64, power: u32, view: &PlainView) -> bool {
-    let newcomer = New {
+    let newcomer = FreshView {
         others: &view.others,
-        ..New::newcomer(set, number, power as u64)
+        ..FreshView::newcomer(set, number, power as u64)
     };
     newcomer.check(view).is_ok() && view.others.iter().all(|other| other.entries.is_empty())
 }

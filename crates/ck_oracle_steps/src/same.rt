@@ -41,7 +41,6 @@ pub fn are_same<T: Stands>(some: &[T], others: &[T]) -> bool
     true
 }
 
-// Whether the pairs are the same.
 fn are_same_pairs(pairs: &LinkedList<(Name, u64)>, others: &LinkedList<(Name, u64)>) -> bool
     ensures { IsTrue result ↔ (pairs.now ≡ others.now) }
 {

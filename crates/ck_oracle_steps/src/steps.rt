@@ -16,7 +16,8 @@ ghost use Rattle.ck_oracle_steps.specs.Claims.{Allows, IsPlain, GoesHome, GoesHo
 
 use crate::grounds::{has_grounds, is_excused};
 use crate::left::{
-    Left, New, check, check_joined, check_seen, check_sent_home, check_split, check_taken,
+    ExpectedView, FreshView, check, check_joined, check_seen, check_sent_home, check_split,
+    check_taken,
 };
 use crate::refusal::Refusal;
 use crate::sections::{check_call, check_renewed, has_number};
@@ -90,7 +91,7 @@ pub fn check_take(table: &PlainTable, claim: &Claim, stripe: u64) -> Result<(), 
     check_taken(
         claim,
         stripe,
-        &Left::taking(view, stripe, content, claim.log),
+        &ExpectedView::taking(view, stripe, content, claim.log),
     )
 }
 
@@ -103,7 +104,7 @@ pub fn check_find_held(table: &PlainTable, claim: &Claim, stripe: u64) -> Result
     check(is_stripe(table, stripe), Refusal::NoSuchStripe)?;
     check(is_word(claim.before, stripe, 1), Refusal::NotTaken)?;
     check(!has_number(&view.held, stripe), Refusal::HeldByItself)?;
-    check_seen(claim, &Left::finding(view, stripe))
+    check_seen(claim, &ExpectedView::finding(view, stripe))
 }
 
 // One of the stripes of this number goes home, and the caller of the view holds the others and is told its power.
@@ -120,7 +121,7 @@ fn check_given(
     let mut refusal = Refusal::NotHeld;
     for content in stripes {
         if content.number == stripe {
-            let left = Left::giving(view, stripe, content.power, stripes, noroom);
+            let left = ExpectedView::giving(view, stripe, content.power, stripes, noroom);
             match check_sent_home(claim, stripe, content, &left) {
                 Ok(()) => return Ok(()),
                 Err(found) => refusal = found,
@@ -135,7 +136,7 @@ fn check_decided(
     claim: &Claim,
     stripe: u64,
     stripes: &[PlainStripe],
-    left: &Left,
+    left: &ExpectedView,
 ) -> Result<(), Refusal>
     requires { claim.now.id < length claim.now.before.now.views.items }
     ensures { IsOk result ↔ GoesHomeLeaving claim.now.id (world_of claim.now.before.now) (world_of claim.now.after.now) (left_of left.now) stripe (stripes_of stripes.now) }
@@ -203,7 +204,7 @@ pub fn check_decide(
     if let Err(refusal) = check_call(alloc, table, &view.held, entry, stripes)? {
         return Ok(Err(refusal));
     }
-    let left = Left::deciding(view, stripe, stripes, claim.log, entry);
+    let left = ExpectedView::deciding(view, stripe, stripes, claim.log, entry);
     Ok(check_decided(claim, stripe, stripes, &left))
 }
 
@@ -281,7 +282,7 @@ pub fn check_look(table: &PlainTable, claim: &Claim, stripe: u64, power: u64) ->
     check(is_not_below(view.told, power), Refusal::ToldFalls)?;
     let is_told = is_power_of_all(claim.before, power);
     check(is_told, Refusal::ToldAbovePower)?;
-    check_seen(claim, &Left::looking(view, claim.log, power))
+    check_seen(claim, &ExpectedView::looking(view, claim.log, power))
 }
 
 fn is_unused(other: &PlainOther) -> bool
@@ -310,8 +311,8 @@ pub fn check_open(claim: &Claim) -> Result<(), Refusal>
     match view.others.split_first() {
         Some((first, rest)) => {
             check(is_unused(first), Refusal::NoNumberLeft)?;
-            let right = New::newcomer(view.settings, first.number, view.told);
-            check_split(claim, &Left::keeping(view, rest), &right)
+            let right = FreshView::newcomer(view.settings, first.number, view.told);
+            check_split(claim, &ExpectedView::keeping(view, rest), &right)
         }
         None => Err(Refusal::NoNumberLeft),
     }
@@ -322,7 +323,11 @@ pub fn check_tell(claim: &Claim) -> Result<(), Refusal>
     ensures { (table : PlainTable) → (IsOk result ↔ Allows table claim.now Tell) }
 {
     let view = view_at(claim.before, claim.id)?;
-    check_split(claim, &Left::same(view), &New::messenger(view))
+    check_split(
+        claim,
+        &ExpectedView::same(view),
+        &FreshView::messenger(view),
+    )
 }
 
 /// The load that joins another view, which holds no stripe, to the caller's.
@@ -333,7 +338,7 @@ pub fn check_join(claim: &Claim, other: usize) -> Result<(), Refusal>
     let joined = view_at(claim.before, other)?;
     check(is_another(other, claim.id), Refusal::JoinsItself)?;
     check(holds_nothing(joined), Refusal::HoldsAStripe)?;
-    check_joined(claim, &Left::joining(view, joined), other)
+    check_joined(claim, &ExpectedView::joining(view, joined), other)
 }
 
 /// Whether the caller may go by this move as claimed, or the condition that the step doesn't meet. For a move with new

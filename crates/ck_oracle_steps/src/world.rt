@@ -1,7 +1,12 @@
 //! Plain data of a world and of a step.
+ghost use Rattle.std.specs.Prelude.{◌≡◌};
+ghost use Rattle.ck_core.specs.Steps.{newcomer, spent};
+ghost use Rattle.ck_oracle_steps.specs.Plain.{view_of};
+
 use ck_model::history::{Entry, Name, Why};
 use ck_model::settings::Settings;
 use ck_oracle::stripes::PlainStripe;
+use std::alloc::Global;
 
 /// What the steps depend on: 2^s stripes, the greatest power, and how many per cent of the slots must be taken for the
 /// table to grow.
@@ -34,6 +39,50 @@ pub struct PlainView {
     pub heard: Vec<Entry<u64>>,
     pub heard_told: u64,
     pub others: Vec<PlainOther>,
+}
+
+/// The settings of a view that is no caller's any more.
+pub const NO_SETTINGS: Settings = Settings {
+    s: 0,
+    power: 0,
+    max: 0,
+    callers: 0,
+    turns: 0,
+    rounds: 0,
+    min_load: 0,
+};
+
+impl PlainView {
+    /// A caller that begins.
+    #[tactic(auto, unfolding(crate::specs::Plain::view_of))]
+    pub fn newcomer(alloc: Global, settings: Settings, number: u64, told: u64) -> PlainView
+        ensures { view_of result ≡ newcomer settings number told }
+    {
+        PlainView {
+            settings,
+            by: Some(number),
+            held: Vec::new(alloc),
+            seen: Vec::new(alloc),
+            mine: Vec::new(alloc),
+            told,
+            found: Vec::new(alloc),
+            noroom: Vec::new(alloc),
+            heard: Vec::new(alloc),
+            heard_told: 0,
+            others: Vec::new(alloc),
+        }
+    }
+
+    /// What a join leaves of the other view.
+    #[tactic(auto, unfolding(crate::specs::Plain::view_of))]
+    pub fn spent(alloc: Global) -> PlainView
+        ensures { view_of result ≡ spent }
+    {
+        PlainView {
+            by: None,
+            ..PlainView::newcomer(alloc, NO_SETTINGS, 0, 0)
+        }
+    }
 }
 
 /// The words, what lies in the places of the stripes, and the views. A stripe's number in its place says nothing.

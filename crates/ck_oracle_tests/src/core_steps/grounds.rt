@@ -1,12 +1,12 @@
 //! What may be said of names that find no room. An even key below 256 may lie in either of two buckets, an odd one only
 //! in the second.
-use crate::core_steps::data::{
-    Bucket, Change, Claim, EMPTY, Grounds, Held, Made, Reason, WorldData, begin, make_change,
-};
-use crate::core_steps::worlds::{add_steps, world};
+use crate::core_steps::data::{Bucket, Change, EMPTY, Grounds, Held, Made};
+use crate::core_steps::worlds::{begin, make_change, step};
+use ck_model::history::Why;
 use ck_oracle_steps::refusal::{Refusal, Stop};
 use ck_oracle_steps::runs::check_steps;
-use ck_oracle_steps::world::PlainTable;
+use ck_oracle_steps::world::{PlainTable, PlainWorld};
+use std::alloc::{AllocError, Global};
 use std::test::Fail;
 
 const LOW: Bucket = Bucket {
@@ -40,51 +40,59 @@ const ONLY_SECOND: &[Held] = &[(1, ODD)];
 // A caller that holds these stripes of a table with this greatest power and least load gives stripe 1 back and says
 // this; and whether it may.
 const SAID: [(&[Held], u32, u32, Grounds, bool); 22] = [
-    (ALL_FULL, 1, 0, (16, Reason::NoRoom), true),
-    (ALL_FULL, 1, 0, (16, Reason::Full), true),
-    (ALL_FULL, 1, 100, (16, Reason::LoadTooLow), false),
-    (ALL_FULL, 1, 0, (16, Reason::Memory), false),
-    (ALL_FULL, 2, 100, (16, Reason::Full), false),
-    (ALL_FULL, 2, 100, (16, Reason::LoadTooLow), false),
-    (ALL_FULL, 2, 100, (16, Reason::Memory), true),
+    (ALL_FULL, 1, 0, (16, Why::NoRoom), true),
+    (ALL_FULL, 1, 0, (16, Why::Full), true),
+    (ALL_FULL, 1, 100, (16, Why::LoadTooLow), false),
+    (ALL_FULL, 1, 0, (16, Why::Memory), false),
+    (ALL_FULL, 2, 100, (16, Why::Full), false),
+    (ALL_FULL, 2, 100, (16, Why::LoadTooLow), false),
+    (ALL_FULL, 2, 100, (16, Why::Memory), true),
     // The name is bound.
-    (ALL_FULL, 1, 0, (4, Reason::NoRoom), false),
-    (ALL_FULL, 1, 0, (4, Reason::Full), false),
+    (ALL_FULL, 1, 0, (4, Why::NoRoom), false),
+    (ALL_FULL, 1, 0, (4, Why::Full), false),
     // A slot of its buckets is free.
-    (ONE_FREE, 1, 0, (16, Reason::NoRoom), false),
-    (ONE_FREE, 1, 0, (16, Reason::Full), false),
-    (ONE_FREE, 2, 0, (16, Reason::Memory), false),
+    (ONE_FREE, 1, 0, (16, Why::NoRoom), false),
+    (ONE_FREE, 1, 0, (16, Why::Full), false),
+    (ONE_FREE, 2, 0, (16, Why::Memory), false),
     // Its only bucket is full of entries that have no other.
-    (HALF_FULL, 1, 0, (9, Reason::NoRoom), true),
-    (HALF_FULL, 1, 0, (9, Reason::Full), true),
-    (HALF_FULL, 2, 51, (9, Reason::LoadTooLow), true),
-    (HALF_FULL, 2, 50, (9, Reason::LoadTooLow), false),
-    (HALF_FULL, 2, 50, (9, Reason::Memory), true),
-    (HALF_FULL, 2, 51, (9, Reason::Memory), false),
+    (HALF_FULL, 1, 0, (9, Why::NoRoom), true),
+    (HALF_FULL, 1, 0, (9, Why::Full), true),
+    (HALF_FULL, 2, 51, (9, Why::LoadTooLow), true),
+    (HALF_FULL, 2, 50, (9, Why::LoadTooLow), false),
+    (HALF_FULL, 2, 50, (9, Why::Memory), true),
+    (HALF_FULL, 2, 51, (9, Why::Memory), false),
     // Not all stripes are held.
-    (ONLY_SECOND, 1, 0, (9, Reason::NoRoom), true),
-    (ONLY_SECOND, 1, 0, (9, Reason::Full), false),
-    (ONLY_SECOND, 1, 0, (16, Reason::NoRoom), false),
-    (ONLY_SECOND, 1, 0, (16, Reason::Full), false),
+    (ONLY_SECOND, 1, 0, (9, Why::NoRoom), true),
+    (ONLY_SECOND, 1, 0, (9, Why::Full), false),
+    (ONLY_SECOND, 1, 0, (16, Why::NoRoom), false),
+    (ONLY_SECOND, 1, 0, (16, Why::Full), false),
 ];
 
-// The caller takes the stripes.
-fn hold(data: &mut WorldData, held: &'static [Held]) {
+// The world in which the caller holds these stripes.
+fn holding(alloc: Global, held: &'static [Held]) -> Result<PlainWorld, AllocError> {
+    let mut world = begin(alloc, &[(0, &[])])?;
     for (number, _) in held {
-        make_change(data, Change::Word(*number as usize, 1));
-        make_change(data, Change::Home(*number as usize, None));
+        make_change(alloc, &mut world, Change::Word(*number as usize, 1))?;
+        make_change(alloc, &mut world, Change::Home(*number as usize, None))?;
     }
-    make_change(data, Change::Held(0, held));
+    make_change(alloc, &mut world, Change::Held(0, held))?;
+    Ok(world)
 }
 
-// The first of them goes home, and the caller says this.
-fn give(data: &mut WorldData, held: &'static [Held], said: Grounds) {
+// The world in which the first of them went home, and the caller said this.
+fn given(alloc: Global, held: &'static [Held], said: Grounds) -> Result<PlainWorld, AllocError> {
+    let mut world = holding(alloc, held)?;
     if let Some((first, rest)) = held.split_first() {
-        make_change(data, Change::Word(first.0 as usize, 0));
-        make_change(data, Change::Home(first.0 as usize, Some(first.1)));
-        make_change(data, Change::Held(0, rest));
+        make_change(alloc, &mut world, Change::Word(first.0 as usize, 0))?;
+        make_change(
+            alloc,
+            &mut world,
+            Change::Home(first.0 as usize, Some(first.1)),
+        )?;
+        make_change(alloc, &mut world, Change::Held(0, rest))?;
     }
-    make_change(data, Change::NoRoom(0, said));
+    make_change(alloc, &mut world, Change::NoRoom(0, said))?;
+    Ok(world)
 }
 
 #[test]
@@ -97,13 +105,10 @@ fn grounds(rt: HostRuntime) -> Result<(), Fail> {
             max: *max,
             min_load: *min_load,
         };
-        let mut data = begin(&[(0, &[])]);
-        hold(&mut data, *held);
-        let start = world(alloc, &data)?;
-        give(&mut data, *held, *said);
-        let claim: Claim = (0, Made::Give(1, Some(*said)), &[]);
+        let start = holding(alloc, *held)?;
+        let left = given(alloc, *held, *said)?;
         let mut steps = Vec::new(alloc);
-        add_steps(alloc, &mut data, &[claim], &mut steps)?;
+        steps.push(step(alloc, 0, Made::Give(1, Some(*said)), left)?)?;
         let stop = check_steps(alloc, &table, &[], &start, &steps)?.err();
         let refusal = Stop::Step(0, Refusal::NoGrounds);
         let wanted = if *expected { None } else { Some(refusal) };

@@ -1,11 +1,13 @@
 //! Runs that the definitions allow, and wrong ones, each with the condition that refuses it.
 use crate::core_steps::data::{
-    Answer, Ask, Change, Claim, Dealt, EMPTY, FULL, Held, Made, Reason, SETTINGS, Said, begin,
+    Answer, Ask, Change, Claim, Dealt, EMPTY, FULL, Held, Made, SETTINGS, Said,
 };
-use crate::core_steps::worlds::{add_steps, entries, world};
+use crate::core_steps::worlds::{begin, entries, steps};
+use ck_model::history::Why;
 use ck_oracle_steps::refusal::{Flaw, Part, Refusal, Stop};
 use ck_oracle_steps::runs::check_run;
 use ck_oracle_steps::world::{PlainOpening, PlainTable};
+use std::alloc::{AllocError, Global};
 use std::test::Fail;
 
 const INSERTION: Said = (0, Ask::Insert(0, 5), Answer::New);
@@ -509,14 +511,14 @@ const ROWS: [Row; 40] = [
     Row {
         dealt: TWO_CALLERS,
         first: 8,
-        then: &[(1, Made::Give(0, Some((0, Reason::NoRoom))), &[])],
+        then: &[(1, Made::Give(0, Some((0, Why::NoRoom))), &[])],
         log: &[INSERTION],
         stop: Some(Stop::Step(8, Refusal::NoGrounds)),
     },
     Row {
         dealt: TWO_CALLERS,
         first: 8,
-        then: &[(1, Made::Renew(0, BOTH_FULL, Some((0, Reason::Full))), &[])],
+        then: &[(1, Made::Renew(0, BOTH_FULL, Some((0, Why::Full))), &[])],
         log: &[INSERTION],
         stop: Some(Stop::Step(8, Refusal::NoGrounds)),
     },
@@ -574,30 +576,39 @@ const ROWS: [Row; 40] = [
     },
 ];
 
-#[test]
-fn runs(rt: HostRuntime) -> Result<(), Fail> {
-    let alloc = rt.alloc();
+// The claims of the row.
+fn claims(alloc: Global, row: &Row) -> Result<Vec<Claim>, AllocError> {
+    let mut claims = Vec::new(alloc);
+    for claim in EXAMPLE.iter().take(row.first) {
+        claims.push(*claim)?;
+    }
+    claims.extend_from_slice(row.then)?;
+    Ok(claims)
+}
+
+// Where the run of the row stops.
+fn stop(alloc: Global, row: &Row) -> Result<Option<Stop>, AllocError> {
     let table = PlainTable {
         s: 1,
         max: 1,
         min_load: 0,
     };
+    let opening = PlainOpening {
+        settings: SETTINGS,
+        callers: 2,
+        power: 1,
+        world: begin(alloc, row.dealt)?,
+    };
+    let steps = steps(alloc, row.dealt, &claims(alloc, row)?)?;
+    let log = entries(alloc, row.log)?;
+    Ok(check_run(alloc, &table, &opening, &log, &steps)?.err())
+}
+
+#[test]
+fn runs(rt: HostRuntime) -> Result<(), Fail> {
+    let alloc = rt.alloc();
     for (at, row) in ROWS.iter().enumerate() {
-        let mut data = begin(row.dealt);
-        let opening = PlainOpening {
-            settings: SETTINGS,
-            callers: 2,
-            power: 1,
-            world: world(alloc, &data)?,
-        };
-        let mut steps = Vec::new(alloc);
-        for claim in EXAMPLE.iter().take(row.first) {
-            add_steps(alloc, &mut data, &[*claim], &mut steps)?;
-        }
-        add_steps(alloc, &mut data, row.then, &mut steps)?;
-        let log = entries(alloc, row.log)?;
-        let stop = check_run(alloc, &table, &opening, &log, &steps)?.err();
-        assert_eq!(rt; stop, row.stop, "run {at}");
+        assert_eq!(rt; stop(alloc, row)?, row.stop, "run {at}");
     }
     Ok(())
 }

@@ -1,7 +1,6 @@
-//! Makes plain worlds and steps of data.
+//! Makes worlds and steps of data.
 use crate::core_steps::data::{
-    Answer, Ask, Bucket, Change, Claim, Grounds, Held, Made, Reason, Said, ViewData, WorldData,
-    make_change,
+    Answer, Ask, Bucket, Change, Claim, Dealt, EMPTY, Grounds, Held, Made, SETTINGS, Said, place_in,
 };
 use ck_model::history::{Act, Call, Entry, Name, Reply, Why};
 use ck_oracle::stripes::{PlainEntry, PlainStripe};
@@ -79,22 +78,15 @@ fn stripes(alloc: Global, held: &[Held]) -> Result<Vec<PlainStripe>, AllocError>
     Ok(stripes)
 }
 
-fn reason(alloc: Global, (key, reason): Grounds) -> Result<(Name, Why), AllocError> {
-    let why = match reason {
-        Reason::NoRoom => Why::NoRoom,
-        Reason::Full => Why::Full,
-        Reason::LoadTooLow => Why::LoadTooLow,
-        Reason::Memory => Why::Memory,
-    };
+fn reason(alloc: Global, (key, why): Grounds) -> Result<(Name, Why), AllocError> {
     Ok((name(alloc, key)?, why))
 }
 
-fn reasons(alloc: Global, said: Option<Grounds>) -> Result<Vec<(Name, Why)>, AllocError> {
-    let mut reasons = Vec::new(alloc);
-    if let Some(one) = said {
-        reasons.push(reason(alloc, one)?)?;
+fn grounds(alloc: Global, said: Option<Grounds>) -> Result<Option<(Name, Why)>, AllocError> {
+    match said {
+        Some(one) => Ok(Some(reason(alloc, one)?)),
+        None => Ok(None),
     }
-    Ok(reasons)
 }
 
 fn others(alloc: Global, numbers: &[u64]) -> Result<Vec<PlainOther>, AllocError> {
@@ -108,56 +100,124 @@ fn others(alloc: Global, numbers: &[u64]) -> Result<Vec<PlainOther>, AllocError>
     Ok(others)
 }
 
-fn view(alloc: Global, data: &ViewData) -> Result<PlainView, AllocError> {
-    Ok(PlainView {
-        settings: data.settings,
-        by: data.by,
-        held: stripes(alloc, data.held)?,
-        seen: entries(alloc, data.seen)?,
-        mine: entries(alloc, data.mine)?,
-        told: data.told,
-        found: Vec::from_slice(alloc, data.found)?,
-        noroom: reasons(alloc, data.noroom)?,
-        heard: entries(alloc, data.heard)?,
-        heard_told: data.heard_told,
-        others: others(alloc, data.others)?,
-    })
-}
-
-fn homes(
-    alloc: Global,
-    buckets: &[Option<Bucket>],
-) -> Result<Vec<Option<PlainStripe>>, AllocError> {
-    let mut homes = Vec::new(alloc);
-    for (at, home) in buckets.iter().enumerate() {
-        homes.push(match home {
-            Some(bucket) => Some(stripe(alloc, at as u64, bucket)?),
-            None => None,
+fn views(alloc: Global, dealt: &[Dealt]) -> Result<Vec<PlainView>, AllocError> {
+    let mut views = Vec::new(alloc);
+    for (number, kept) in dealt {
+        views.push(PlainView {
+            others: others(alloc, kept)?,
+            ..PlainView::newcomer(alloc, SETTINGS, *number, 1)
         })?;
     }
-    Ok(homes)
+    Ok(views)
 }
 
-/// The world of the data.
-pub fn world(alloc: Global, data: &WorldData) -> Result<PlainWorld, AllocError> {
-    let mut views = Vec::new(alloc);
-    for place in &data.views {
-        if let Some(one) = place {
-            views.push(view(alloc, one)?)?;
-        }
-    }
+/// Two empty stripes of power 1, and callers that begin.
+pub fn begin(alloc: Global, dealt: &[Dealt]) -> Result<PlainWorld, AllocError> {
+    let mut homes = Vec::new(alloc);
+    homes.push(Some(stripe(alloc, 0, &EMPTY)?))?;
+    homes.push(Some(stripe(alloc, 1, &EMPTY)?))?;
     Ok(PlainWorld {
-        words: Vec::from_slice(alloc, &data.words)?,
-        homes: homes(alloc, &data.homes)?,
-        views,
+        words: Vec::from_slice(alloc, &[0, 0])?,
+        homes,
+        views: views(alloc, dealt)?,
     })
 }
 
-fn grounds(alloc: Global, said: Option<Grounds>) -> Result<Option<(Name, Why)>, AllocError> {
-    match said {
-        Some(one) => Ok(Some(reason(alloc, one)?)),
-        None => Ok(None),
+fn put_home(
+    alloc: Global,
+    world: &mut PlainWorld,
+    at: usize,
+    home: Option<Bucket>,
+) -> Result<(), AllocError> {
+    if let Some(place) = world.homes.get_mut(at) {
+        *place = match home {
+            Some(bucket) => Some(stripe(alloc, at as u64, &bucket)?),
+            None => None,
+        };
     }
+    Ok(())
+}
+
+// The view in this place, or behind the others.
+fn put_view(world: &mut PlainWorld, at: usize, view: PlainView) -> Result<(), AllocError> {
+    if let Some(place) = world.views.get_mut(at) {
+        *place = view;
+        return Ok(());
+    }
+    world.views.push(view)?;
+    Ok(())
+}
+
+fn change_view(alloc: Global, view: &mut PlainView, change: Change) -> Result<(), AllocError> {
+    match change {
+        Change::Held(_, held) => view.held = stripes(alloc, held)?,
+        Change::Seen(_, seen) => view.seen = entries(alloc, seen)?,
+        Change::Mine(_, mine) => view.mine = entries(alloc, mine)?,
+        Change::Told(_, told) => view.told = told,
+        Change::Found(_, found) => view.found = Vec::from_slice(alloc, found)?,
+        Change::NoRoom(_, said) => view.noroom.push(reason(alloc, said)?)?,
+        Change::Heard(_, heard, told) => {
+            view.heard = entries(alloc, heard)?;
+            view.heard_told = told;
+        }
+        Change::Others(_, numbers) => view.others = others(alloc, numbers)?,
+        _ => {}
+    }
+    Ok(())
+}
+
+/// Makes the change.
+pub fn make_change(
+    alloc: Global,
+    world: &mut PlainWorld,
+    change: Change,
+) -> Result<(), AllocError> {
+    match change {
+        Change::Word(at, word) => {
+            if let Some(place) = world.words.get_mut(at) {
+                *place = word;
+            }
+        }
+        Change::Home(at, home) => put_home(alloc, world, at, home)?,
+        Change::Begun(at, number, told) => {
+            put_view(
+                world,
+                at,
+                PlainView::newcomer(alloc, SETTINGS, number, told),
+            )?;
+        }
+        Change::Split(at, told) => {
+            let mut view = PlainView::newcomer(alloc, SETTINGS, 0, told);
+            view.by = None;
+            put_view(world, at, view)?;
+        }
+        Change::Spent(at) => put_view(world, at, PlainView::spent(alloc))?,
+        _ => {
+            if let Some(view) = place_in(change).and_then(|at| world.views.get_mut(at)) {
+                change_view(alloc, view, change)?;
+            }
+        }
+    }
+    Ok(())
+}
+
+fn make_changes(
+    alloc: Global,
+    world: &mut PlainWorld,
+    changes: &[Change],
+) -> Result<(), AllocError> {
+    for change in changes {
+        make_change(alloc, world, *change)?;
+    }
+    Ok(())
+}
+
+fn world(alloc: Global, dealt: &[Dealt], claims: &[Claim]) -> Result<PlainWorld, AllocError> {
+    let mut world = begin(alloc, dealt)?;
+    for (_, _, changes) in claims {
+        make_changes(alloc, &mut world, *changes)?;
+    }
+    Ok(world)
 }
 
 fn made(alloc: Global, made: Made) -> Result<PlainMove, AllocError> {
@@ -179,31 +239,30 @@ fn made(alloc: Global, made: Made) -> Result<PlainMove, AllocError> {
     })
 }
 
-// The step of a claim, after which the world has its changes.
-fn step(
+/// The step by which the caller leaves this world.
+pub fn step(
     alloc: Global,
-    data: &mut WorldData,
-    (caller, asked, changes): Claim,
+    caller: usize,
+    asked: Made,
+    left: PlainWorld,
 ) -> Result<PlainStep, AllocError> {
-    for one in changes {
-        make_change(data, *one);
-    }
     Ok(PlainStep {
         caller,
         made: made(alloc, asked)?,
-        left: world(alloc, data)?,
+        left,
     })
 }
 
-/// The steps of the claims, from this world on.
-pub fn add_steps(
+/// The steps of the claims, from where callers begin.
+pub fn steps(
     alloc: Global,
-    data: &mut WorldData,
+    dealt: &[Dealt],
     claims: &[Claim],
-    steps: &mut Vec<PlainStep>,
-) -> Result<(), AllocError> {
-    for claim in claims {
-        steps.push(step(alloc, data, *claim)?)?;
+) -> Result<Vec<PlainStep>, AllocError> {
+    let mut steps = Vec::new(alloc);
+    for (at, (caller, asked, _)) in claims.iter().enumerate() {
+        let left = world(alloc, dealt, &claims[..=at])?;
+        steps.push(step(alloc, *caller, *asked, left)?)?;
     }
-    Ok(())
+    Ok(steps)
 }

@@ -2,7 +2,7 @@ use Rattle.std.proofs.Common.{ℕ, List, Option, Bor, sym, ap, ◌∙◌}
 use Rattle.ck_oracle.specs.declared.stripes.PlainStripe.{PlainStripe}
 use Rattle.ck_oracle.specs.Plain.{stripes_of}
 use Rattle.ck_oracle_steps.specs.Left.{kept_of}
-use Rattle.ck_oracle_steps.proofs.left.Left.is_kept.Goals as goal
+use Rattle.ck_oracle_steps.proofs.left.ExpectedView.is_kept.Goals as goal
 
 pub returns-in-None : goal.returns-in-None
 returns-in-None c =

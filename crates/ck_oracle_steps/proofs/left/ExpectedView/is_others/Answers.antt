@@ -5,7 +5,7 @@ use Rattle.ck_oracle_steps.specs.Plain.{other_of, view_of}
 use Rattle.ck_core.specs.State.{own}
 use Rattle.ck_oracle_steps.specs.Left.{joined_of, list_or}
 use Rattle.ck_oracle_steps.proofs.PlainViews.{behind_both}
-use Rattle.ck_oracle_steps.proofs.left.Left.is_others.Goals as goal
+use Rattle.ck_oracle_steps.proofs.left.ExpectedView.is_others.Goals as goal
 
 pub returns-in-Some-behind_others : goal.returns-in-Some-behind_others
 unfolding view_of
