@@ -1,4 +1,4 @@
-use Rattle.std.proofs.Common.{sym, subst, List, map, arith}
+use Rattle.std.proofs.Common.{sym, subst, List, map, arith, All, Some, refl, length, ◌++◌, ◌∷◌, [], true, ◌≡◌, ◌+◌, ◌≤◌, vec_capacity}
 use Rattle.std.proofs.lemmas.List.Elements.{All-pop}
 use Rattle.ck_model.specs.Map.{named}
 use Rattle.ck_model.specs.Ranges.{AreInRange}
@@ -6,6 +6,9 @@ use Rattle.ck_words.specs.Words.{WordsState}
 use Rattle.ck_words.specs.Passes.{PassState}
 use Rattle.ck_words.specs.Closing.{IsCaller, AreAllPasses, EachStays, Closes}
 use Rattle.ck_words.proofs.Ending.{some_pass, all_back, each_stays, closes}
+use Rattle.ck_section.specs.Stripes.{stripe_at, contents_of}
+use Rattle.ck_model.specs.Contents.{pairs_of}
+use Rattle.ck_stripe.specs.Stripe.{StripeState}
 use Rattle.ck_words.proofs.words.Words.close.Goals as goal
 
 pub unreachable-requires : goal.unreachable-requires
@@ -36,3 +39,36 @@ returns-clause-closed g c =
     subst (λ ps. Closes ps (map (named g.K.TableKey.name) c.pour.result.items)) (sym c.in-Some.ensures.items)
     (closes c.args.self c.pop.new.self.items c.in-Some.pass c.hold_with_room.new.pass all c.hold_with_room.ensures.stays g.K.TableKey.hash c.gather_all.new.first c.in-Some-hold_with_room.ensures.whole c.gather_all.ensures
     (map (named g.K.TableKey.name) c.pour.result.items) c.pour.ensures)
+
+pub hold_with_room-requires-clause-own : goal.hold_with_room-requires-clause-own
+hold_with_room-requires-clause-own g c =
+    let callers : All (IsCaller c.args.self) (c.pop.new.self.items ++ c.in-Some.pass ∷ []) = subst (All (IsCaller c.args.self)) c.in-Some.ensures.items c.requires.callers in
+    let caller : IsCaller c.args.self c.in-Some.pass = (All-pop (IsCaller c.args.self) _ c.pop.new.self.items (Some c.in-Some.pass) refl callers).1 in
+    caller.own
+
+pub hold_with_room-requires-clause-idle : goal.hold_with_room-requires-clause-idle
+hold_with_room-requires-clause-idle g c =
+    let callers : All (IsCaller c.args.self) (c.pop.new.self.items ++ c.in-Some.pass ∷ []) = subst (All (IsCaller c.args.self)) c.in-Some.ensures.items c.requires.callers in
+    let caller : IsCaller c.args.self c.in-Some.pass = (All-pop (IsCaller c.args.self) _ c.pop.new.self.items (Some c.in-Some.pass) refl callers).1 in
+    caller.idle
+
+pub gather_all-requires-clause-own : goal.gather_all-requires-clause-own
+gather_all-requires-clause-own g c = c.hold_with_room.ensures.own
+
+pub gather_all-requires-clause-shows : goal.gather_all-requires-clause-shows
+gather_all-requires-clause-shows g c = c.in-Some-hold_with_room.ensures.whole.shows
+
+pub pour-requires-clause-own : goal.pour-requires-clause-own
+pour-requires-clause-own g c = c.gather_all.ensures.own
+
+pub pour-requires-clause-empty : goal.pour-requires-clause-empty
+pour-requires-clause-empty g c = c.in-Some-hold_with_room.ensures.empty
+
+pub pour-requires-clause-settled : goal.pour-requires-clause-settled
+pour-requires-clause-settled g c = subst (λ (l : List (StripeState g.row.V.Denot)). (i : _) → (stripe_at l i).settled ≡ true) (sym c.gather_all.ensures.stripes) c.in-Some-hold_with_room.ensures.whole.settled
+
+pub pour-requires-clause-room : goal.pour-requires-clause-room
+pour-requires-clause-room g c = subst (λ (l : List (StripeState g.row.V.Denot)). length (pairs_of (contents_of l)) + 4 ≤ vec_capacity c.in-Some-hold_with_room.pairs) (sym c.gather_all.ensures.stripes) c.in-Some-hold_with_room.ensures.room
+
+pub returns-in_default-hold_with_room-clause-words : goal.returns-in_default-hold_with_room-clause-words
+returns-in_default-hold_with_room-clause-words g c = refl
