@@ -3,6 +3,7 @@ use ck_model::history::{Act, Call, Entry, Name, Reply};
 use ck_oracle::map::{PlainMap, run};
 use std::alloc::{AllocError, Global};
 use std::collections::LinkedList;
+use std::process::Abort;
 use std::test::Fail;
 
 // A call on names of one number each, or a session between such maps.
@@ -93,8 +94,10 @@ fn entry(alloc: Global, (ask, answer): (Ask, Answer)) -> Result<Entry<u64>, Allo
 
 // A call of the map in which 0 is bound to 5 and 3 to 7, its reply, and what 0, 3 and 258 are bound to after the step,
 // where there is one.
-const STEPS: [(Ask, Answer, Option<[Option<u64>; 3]>); 52] = [
-    // The name is bound.
+type Step = (Ask, Answer, Option<[Option<u64>; 3]>);
+
+// The name is bound.
+const ON_BOUND: [Step; 19] = [
     (Ask::Find(3), Answer::Was(7), Some([Some(5), Some(7), None])),
     (Ask::Find(3), Answer::WasUnbound, None),
     (Ask::Find(3), Answer::Was(5), None),
@@ -138,7 +141,10 @@ const STEPS: [(Ask, Answer, Option<[Option<u64>; 3]>); 52] = [
     (Ask::Upsert(3, 4), Answer::Done(4, 9), None),
     (Ask::Erase(3), Answer::Was(7), Some([Some(5), None, None])),
     (Ask::Erase(3), Answer::WasUnbound, None),
-    // The name is unbound.
+];
+
+// The name is unbound.
+const ON_UNBOUND: [Step; 15] = [
     (
         Ask::Find(258),
         Answer::WasUnbound,
@@ -182,7 +188,10 @@ const STEPS: [(Ask, Answer, Option<[Option<u64>; 3]>); 52] = [
         Some([Some(5), Some(7), None]),
     ),
     (Ask::Erase(258), Answer::Was(7), None),
-    // Two names.
+];
+
+// Two names.
+const ON_TWO: [Step; 9] = [
     (
         Ask::ChangeTwo(3, 0),
         Answer::DoneTwo(7, 5, 1, 2),
@@ -208,7 +217,10 @@ const STEPS: [(Ask, Answer, Option<[Option<u64>; 3]>); 52] = [
     (Ask::ChangeTwo(3, 258), Answer::DoneTwo(7, 7, 1, 2), None),
     (Ask::ChangeTwo(3, 3), Answer::DoneTwo(7, 7, 1, 1), None),
     (Ask::ChangeTwo(258, 258), Answer::Absent, None),
-    // All names.
+];
+
+// All names.
+const ON_ALL: [Step; 9] = [
     (Ask::Len, Answer::Count(2), Some([Some(5), Some(7), None])),
     (Ask::Len, Answer::Count(3), None),
     (
@@ -241,15 +253,33 @@ fn step(alloc: Global, said: (Ask, Answer)) -> Result<(bool, [Option<u64>; 3]), 
     Ok((is_taken, bound(alloc, &map)?))
 }
 
-#[test]
-fn steps(rt: HostRuntime) -> Result<(), Fail> {
-    let alloc = rt.alloc();
-    for (at, (ask, answer, after)) in STEPS.iter().enumerate() {
+fn take_steps(rt: &impl Abort, alloc: Global, steps: &[Step]) -> Result<(), Fail> {
+    for (at, (ask, answer, after)) in steps.iter().enumerate() {
         let left = after.unwrap_or([Some(5), Some(7), None]);
         let wanted = (after.is_some(), left);
         assert_eq!(rt; step(alloc, (*ask, *answer))?, wanted, "step {at}");
     }
     Ok(())
+}
+
+#[test]
+fn steps_on_a_bound_name(rt: HostRuntime) -> Result<(), Fail> {
+    take_steps(&rt, rt.alloc(), &ON_BOUND)
+}
+
+#[test]
+fn steps_on_an_unbound_name(rt: HostRuntime) -> Result<(), Fail> {
+    take_steps(&rt, rt.alloc(), &ON_UNBOUND)
+}
+
+#[test]
+fn steps_on_two_names(rt: HostRuntime) -> Result<(), Fail> {
+    take_steps(&rt, rt.alloc(), &ON_TWO)
+}
+
+#[test]
+fn steps_on_all_names(rt: HostRuntime) -> Result<(), Fail> {
+    take_steps(&rt, rt.alloc(), &ON_ALL)
 }
 
 // What 0, 3 and 258 are bound to.
