@@ -29,7 +29,7 @@ returns-clause-changed g c q v e =
       c.f.result,
       subst (λ (x : V). g.F.FnOnce.post c.args.f (x, tt) c.f.result) (sym parts.1) c.f.ensures,
       c.place.ensures.content
-      ∙ ap (λ (x : List (StripeState V) × Name). set_slot x.0 at (Some (x.1, c.f.result)) ((stripe_at x.0 at.index).content.ledger + 1)) (λ i. (c.remove-key.ensures.content i, sym parts.0 i)),
+          ∙ ap (λ (x : List (StripeState V) × Name). set_slot x.0 at (Some (x.1, c.f.result)) ((stripe_at x.0 at.index).content.ledger + 1)) (λ i. (c.remove-key.ensures.content i, sym parts.0 i)),
     )
 
 pub returns-clause-stays : goal.returns-clause-stays
