@@ -1,4 +1,4 @@
-use Rattle.std.proofs.Common.{refl, List, sym, ◌∙◌, ap}
+use Rattle.std.proofs.Common.{refl, List, ◌∙◌, ap}
 use Rattle.ck_section.proofs.Steps.{put, with_room, without_room, unchanged, reach_still, slot_changes}
 use Rattle.ck_stripe.specs.Stripe.{StripeState}
 use Rattle.ck_section.specs.Places.{slot_in}

@@ -1,4 +1,4 @@
-use Rattle.ck_words.proofs.Turning.{seated_puts, length-named, puts-same}
+use Rattle.ck_words.proofs.Turning.{seated_puts, length-named}
 use Rattle.std.proofs.Common.{◌<◌, length, sym, subst, ap, ◌∙◌}
 use Rattle.ck_words.specs.Passes.{PassState}
 use Rattle.ck_words.specs.Words.{WordsState}
