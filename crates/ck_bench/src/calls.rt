@@ -54,9 +54,9 @@ pub const CALLS: [(&str, Call); KINDS] = [
 /// Random keys. Two seeds have none in common but for a chance in 2^24.
 pub fn random_keys(alloc: Global, seed: u64) -> Result<Vec<u64>, AllocError> {
     let mut random = Lcg64Xsh32::new(seed, 1);
-    let mut keys = Vec::with_capacity(alloc, KEYS)?;
-    for _ in 0..KEYS {
-        keys.push(random.next_u64())?;
+    let mut keys = Vec::from_elem(alloc, 0, KEYS)?;
+    for key in &mut keys {
+        *key = random.next_u64();
     }
     Ok(keys)
 }
@@ -140,11 +140,10 @@ fn make<M: Calls>(map: &mut M, call: Call, keys: &[u64]) -> u64 {
 
 /// The keys of a share.
 fn share_of(keys: &[u64], share: usize) -> &[u64] {
-    let size = (keys.len() / MOST).max(1);
-    match keys.chunks(size).nth(share) {
-        Some(part) => part,
-        None => &[],
-    }
+    let size = keys.len() / MOST;
+    let start = share.saturating_mul(size).min(keys.len());
+    let rest = &keys[start..];
+    &rest[..size.min(rest.len())]
 }
 
 /// Makes all the calls of a thread in one measurement.

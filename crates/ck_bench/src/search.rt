@@ -24,8 +24,13 @@ const SEARCHES: u64 = 20_000;
 fn full_sketches(alloc: Global) -> Result<Vec<Sketch>, AllocError> {
     let mut sketches = Vec::new(alloc);
     for byte in 0..=u8::MAX {
-        let partial = |slot: u8| Some(byte.wrapping_mul(4).wrapping_add(slot));
-        sketches.push([partial(0), partial(1), partial(2), partial(3)])?;
+        let first = byte.wrapping_mul(4);
+        sketches.push([
+            Some(first),
+            Some(first.wrapping_add(1)),
+            Some(first.wrapping_add(2)),
+            Some(first.wrapping_add(3)),
+        ])?;
     }
     Ok(sketches)
 }
