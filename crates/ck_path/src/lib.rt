@@ -7,8 +7,6 @@ mod laws;
 mod node;
 mod path;
 mod search;
-#[cfg(test)]
-mod tests;
 
 pub use ck_model::hop::Hop;
 pub use laws::law_of_sketches;

@@ -10,8 +10,6 @@ mod runner;
 mod script;
 mod sink;
 mod source;
-#[cfg(test)]
-mod tests;
 mod text;
 mod words;
 

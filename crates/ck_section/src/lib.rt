@@ -10,8 +10,6 @@ mod pair;
 mod place;
 mod several;
 mod slice;
-#[cfg(test)]
-mod tests;
 mod two_keys;
 mod whole;
 

@@ -3,8 +3,6 @@
 
 mod laws;
 mod stripe;
-#[cfg(test)]
-mod tests;
 
 pub use laws::law_of_doubling;
 pub use stripe::Stripe;

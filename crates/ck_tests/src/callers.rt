@@ -1,18 +1,13 @@
-//! What tests of the table share: calls and their replies as data, and how a table of three callers begins and ends.
-ghost use Rattle.std.specs.Prelude.{◌≡◌, Some, IfOk};
+//! Calls on a table and their replies, as data.
+ghost use Rattle.std.specs.Prelude.{◌≡◌};
 ghost use Rattle.ck_words.specs.Closing.{IsCaller};
 
+use crate::fixtures::{NumPass, NumTable};
 use ck_key::NumKey;
-use ck_table::{Pass, Refused, Settings, Table, Why};
-use std::alloc::Global;
-use std::test::Fail;
-
-pub type NumTable = Table<NumKey, u64>;
-
-pub type NumPass = Pass<NumKey, u64>;
+use ck_table::{Refused, Why};
 
 /// A call on a key.
-#[derive(Clone, Copy, Debug, PartialEq, Eq)]
+#[derive(Clone, Copy)]
 pub enum Call {
     Find(u64),
     /// Finds a tenth of the value.
@@ -26,16 +21,14 @@ pub enum Call {
     /// Adds one to the value.
     UpdateFn(u64),
     Erase(u64),
-    /// Erases a value above this one.
-    EraseAbove(u64, u64),
-    /// Erases this value.
-    EraseEqual(u64, u64),
+    /// Erases a value from the first to the second.
+    EraseWithin(u64, u64, u64),
     /// Moves one from the value of a key to that of another, where both are bound and there is one.
     Transfer(u64, u64),
 }
 
 /// What a call is answered.
-#[derive(Clone, Copy, Debug, PartialEq, Eq)]
+#[derive(Clone, Copy, PartialEq, Eq)]
 pub enum Reply {
     Was(Option<u64>),
     Bound(bool),
@@ -164,28 +157,14 @@ fn erase(table: &NumTable, pass: &mut NumPass, key: u64) -> Reply
     }
 }
 
-fn erase_above(table: &NumTable, pass: &mut NumPass, key: u64, limit: u64) -> Reply
+fn erase_within(table: &NumTable, pass: &mut NumPass, key: u64, low: u64, high: u64) -> Reply
     requires { IsCaller table.now pass.old }
     ensures caller { IsCaller table.now pass.new }
     ensures by { pass.new.view.by ≡ pass.old.view.by }
 {
-    match table.erase_fn(pass, &NumKey(key), |value: &u64| *value > limit) {
-        Ok(Some(true)) => Reply::Gone(Some(true)),
-        Ok(Some(false)) => Reply::Gone(Some(false)),
-        Ok(None) => Reply::Gone(None),
-        Err(busy) => Reply::Busy(busy.0),
-    }
-}
-
-fn erase_equal(table: &NumTable, pass: &mut NumPass, key: u64, wanted: u64) -> Reply
-    requires { IsCaller table.now pass.old }
-    ensures caller { IsCaller table.now pass.new }
-    ensures by { pass.new.view.by ≡ pass.old.view.by }
-{
-    match table.erase_fn(pass, &NumKey(key), |value: &u64| *value == wanted) {
-        Ok(Some(true)) => Reply::Gone(Some(true)),
-        Ok(Some(false)) => Reply::Gone(Some(false)),
-        Ok(None) => Reply::Gone(None),
+    let within = |value: &u64| low <= *value && *value <= high;
+    match table.erase_fn(pass, &NumKey(key), within) {
+        Ok(gone) => Reply::Gone(gone),
         Err(busy) => Reply::Busy(busy.0),
     }
 }
@@ -225,60 +204,7 @@ pub fn answer(table: &NumTable, pass: &mut NumPass, call: Call) -> Reply
         Call::Update(key, value) => update(table, pass, key, value),
         Call::UpdateFn(key) => update_fn(table, pass, key),
         Call::Erase(key) => erase(table, pass, key),
-        Call::EraseAbove(key, limit) => erase_above(table, pass, key, limit),
-        Call::EraseEqual(key, wanted) => erase_equal(table, pass, key, wanted),
+        Call::EraseWithin(key, low, high) => erase_within(table, pass, key, low, high),
         Call::Transfer(from, to) => transfer(table, pass, from, to),
-    }
-}
-
-/// An empty table of four stripes, and the passes of its three callers.
-pub fn open(alloc: Global, power: u32) -> Result<(NumTable, NumPass, NumPass, NumPass), Fail>
-    ensures callers { IfOk result (λ r. r.0.settings.callers ≡ 3) }
-    ensures first { IfOk result (λ r. IsCaller r.0 r.1 × (r.1.view.by ≡ Some 0)) }
-    ensures second { IfOk result (λ r. IsCaller r.0 r.2 × (r.2.view.by ≡ Some 1)) }
-    ensures third { IfOk result (λ r. IsCaller r.0 r.3 × (r.3.view.by ≡ Some 2)) }
-{
-    let settings = Settings {
-        s: 2,
-        power,
-        max: 20,
-        callers: 3,
-        turns: 8,
-        rounds: 4,
-        min_load: 5,
-    };
-    let (table, mut passes) = NumTable::open(alloc, settings)?;
-    let Some(third) = passes.pop() else {
-        return Err(Fail::from("no third pass"));
-    };
-    let Some(second) = passes.pop() else {
-        return Err(Fail::from("no second pass"));
-    };
-    let Some(first) = passes.pop() else {
-        return Err(Fail::from("no first pass"));
-    };
-    Ok((table, first, second, third))
-}
-
-/// Ends a table of three callers, none of which is in a call, so that it is refused only for want of memory.
-pub fn close(
-    alloc: Global,
-    table: NumTable,
-    first: NumPass,
-    second: NumPass,
-    third: NumPass,
-) -> Result<Vec<(NumKey, u64)>, Fail>
-    requires callers { table.settings.callers ≡ 3 }
-    requires first { IsCaller table first × (first.view.by ≡ Some 0) }
-    requires second { IsCaller table second × (second.view.by ≡ Some 1) }
-    requires third { IsCaller table third × (third.view.by ≡ Some 2) }
-{
-    let mut passes = Vec::with_capacity(alloc, 3)?;
-    passes.push(first)?;
-    passes.push(second)?;
-    passes.push(third)?;
-    match table.close(passes) {
-        Ok(pairs) => Ok(pairs),
-        Err(_) => Err(Fail::from("a table that was not closed")),
     }
 }

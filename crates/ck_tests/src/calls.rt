@@ -2,7 +2,8 @@
 ghost use Rattle.std.specs.Prelude.{◌≡◌};
 ghost use Rattle.ck_words.specs.Closing.{IsCaller};
 
-use crate::callers::{Call, NumPass, NumTable, Reply, answer, close, open};
+use crate::callers::{Call, Reply, answer};
+use crate::fixtures::{NumPass, NumTable, close, open};
 use ck_key::NumKey;
 use ck_table::Why;
 use std::alloc::Global;
@@ -22,14 +23,15 @@ enum Step {
 /// A table of 2^power buckets, steps on it, and the pairs that it has at its end.
 #[derive(Clone, Copy)]
 struct Run {
+    what: &'static str,
     power: u32,
     steps: &'static [Step],
     end: &'static [(NumKey, u64)],
 }
 
 const RUNS: [Run; 7] = [
-    // After they met, one pass finds what the other has bound.
     Run {
+        what: "after they met, one pass finds what the other has bound",
         power: 4,
         steps: &[
             Step::First(Call::Insert(1, 10), Reply::Fresh(true)),
@@ -39,8 +41,8 @@ const RUNS: [Run; 7] = [
         ],
         end: &[(NumKey(1), 10)],
     },
-    // An update binds no unbound key.
     Run {
+        what: "an update binds no unbound key",
         power: 4,
         steps: &[
             Step::First(Call::Update(9, 1), Reply::Was(None)),
@@ -51,8 +53,8 @@ const RUNS: [Run; 7] = [
         ],
         end: &[(NumKey(9), 2)],
     },
-    // Closures on bound keys.
     Run {
+        what: "closures on bound keys",
         power: 4,
         steps: &[
             Step::First(Call::Insert(5, 50), Reply::Fresh(true)),
@@ -60,26 +62,26 @@ const RUNS: [Run; 7] = [
             Step::First(Call::UpdateFn(5), Reply::Updated(true, true)),
             Step::First(Call::Upsert(5, 9), Reply::Fresh(false)),
             Step::First(Call::Upsert(6, 9), Reply::Fresh(true)),
-            Step::First(Call::EraseAbove(5, 60), Reply::Gone(Some(false))),
-            Step::First(Call::EraseEqual(5, 52), Reply::Gone(Some(true))),
-            Step::First(Call::EraseEqual(5, 52), Reply::Gone(None)),
+            Step::First(Call::EraseWithin(5, 61, u64::MAX), Reply::Gone(Some(false))),
+            Step::First(Call::EraseWithin(5, 52, 52), Reply::Gone(Some(true))),
+            Step::First(Call::EraseWithin(5, 52, 52), Reply::Gone(None)),
             Step::First(Call::Find(6), Reply::Was(Some(9))),
         ],
         end: &[(NumKey(6), 9)],
     },
-    // No closure is called for an unbound key.
     Run {
+        what: "no closure is called for an unbound key",
         power: 4,
         steps: &[
             Step::First(Call::UpdateFn(5), Reply::Updated(false, false)),
             Step::First(Call::FindTenth(5), Reply::Was(None)),
-            Step::First(Call::EraseAbove(5, 0), Reply::Gone(None)),
+            Step::First(Call::EraseWithin(5, 1, u64::MAX), Reply::Gone(None)),
             Step::First(Call::Contains(5), Reply::Bound(false)),
         ],
         end: &[],
     },
-    // What a key was bound to before.
     Run {
+        what: "what a key was bound to before",
         power: 4,
         steps: &[
             Step::First(Call::InsertOrAssign(2, 7), Reply::Was(None)),
@@ -92,8 +94,8 @@ const RUNS: [Run; 7] = [
         ],
         end: &[],
     },
-    // These keys have one bucket alone, which is full with four of them.
     Run {
+        what: "these keys have one bucket alone, which is full with four of them",
         power: 2,
         steps: &[
             Step::First(Call::Insert(3, 30), Reply::Fresh(true)),
@@ -123,8 +125,8 @@ const RUNS: [Run; 7] = [
             (NumKey(19), 193),
         ],
     },
-    // The pairs come in rising order of the keys, whichever pass has bound them.
     Run {
+        what: "the pairs come in rising order of the keys, whichever pass has bound them",
         power: 4,
         steps: &[
             Step::First(Call::Insert(u64::MAX, 1), Reply::Fresh(true)),
@@ -143,13 +145,8 @@ const RUNS: [Run; 7] = [
     },
 ];
 
-fn take_step(
-    rt: &impl Abort,
-    table: &NumTable,
-    first: &mut NumPass,
-    second: &mut NumPass,
-    step: Step,
-)
+/// Takes the step, and says whether the reply was the wanted one.
+fn take_step(table: &NumTable, first: &mut NumPass, second: &mut NumPass, step: Step) -> bool
     requires first { IsCaller table.now first.old }
     requires second { IsCaller table.now second.old }
     ensures first { IsCaller table.now first.new }
@@ -157,15 +154,12 @@ fn take_step(
     ensures by { (first.new.view.by ≡ first.old.view.by) × (second.new.view.by ≡ second.old.view.by) }
 {
     match step {
-        Step::First(call, want) => {
-            let reply = answer(table, first, call);
-            assert_eq!(rt; reply, want, "{call:?}");
+        Step::First(call, want) => answer(table, first, call) == want,
+        Step::Second(call, want) => answer(table, second, call) == want,
+        Step::Meet => {
+            table.meet(first, second);
+            true
         }
-        Step::Second(call, want) => {
-            let reply = answer(table, second, call);
-            assert_eq!(rt; reply, want, "{call:?}");
-        }
-        Step::Meet => table.meet(first, second),
     }
 }
 
@@ -174,7 +168,7 @@ fn take_steps(
     table: &NumTable,
     first: &mut NumPass,
     second: &mut NumPass,
-    steps: &[Step],
+    run: &Run,
 )
     requires first { IsCaller table.now first.old }
     requires second { IsCaller table.now second.old }
@@ -182,23 +176,25 @@ fn take_steps(
     ensures second { IsCaller table.now second.new }
     ensures by { (first.new.view.by ≡ first.old.view.by) × (second.new.view.by ≡ second.old.view.by) }
 {
-    for step in steps {
-        take_step(rt, table, first, second, *step);
+    let what = run.what;
+    for (number, step) in run.steps.iter().enumerate() {
+        let as_wanted = take_step(table, first, second, *step);
+        assert!(rt; as_wanted, "{what}: step {number}");
     }
 }
 
-fn check(rt: &impl Abort, alloc: Global, run: Run) -> Result<(), Fail> {
+/// The pairs at the end of the run.
+fn end_of(rt: &impl Abort, alloc: Global, run: &Run) -> Result<Vec<(NumKey, u64)>, Fail> {
     let (table, mut first, mut second, third) = open(alloc, run.power)?;
-    take_steps(rt, &table, &mut first, &mut second, run.steps);
-    let pairs = close(alloc, table, first, second, third)?;
-    assert_eq!(rt; pairs.as_slice(), run.end);
-    Ok(())
+    take_steps(rt, &table, &mut first, &mut second, run);
+    close(alloc, table, first, second, third)
 }
 
 #[test]
 fn runs(rt: HostRuntime) -> Result<(), Fail> {
-    for run in RUNS {
-        check(&rt, rt.alloc(), run)?;
+    for run in &RUNS {
+        let end = end_of(&rt, rt.alloc(), run)?;
+        assert!(rt; end.as_slice() == run.end, "{}", run.what);
     }
     Ok(())
 }

@@ -1,7 +1,7 @@
 //! Hashes, buckets and stripes that were worked out by hand, and what a text key may be.
 ghost use Rattle.std.specs.Prelude.{◌≤◌};
 
-use crate::{KeyFault, NumKey, TableKey, TextKey, alternate, index, partial, stripes_of};
+use ck_key::{KeyFault, NumKey, TableKey, TextKey, alternate, index, partial, stripes_of};
 use std::process::Abort;
 use std::test::Fail;
 

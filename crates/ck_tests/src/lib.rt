@@ -1,18 +1,30 @@
-//! Tests that cross crates.
+//! Tests that cross crates, and those of crates that are then proved without tests.
 #![tactic(auto)]
 
+#[cfg(test)]
+mod buckets;
 #[cfg(test)]
 mod callers;
 #[cfg(test)]
 mod calls;
 #[cfg(test)]
-mod closing;
+mod fixtures;
+#[cfg(test)]
+mod keys;
 #[cfg(test)]
 mod memory;
 #[cfg(test)]
 mod nested;
 #[cfg(test)]
 mod owner;
+#[cfg(test)]
+mod scripts;
+#[cfg(test)]
+mod search;
+#[cfg(test)]
+mod sections;
+#[cfg(test)]
+mod stripes;
 #[cfg(test)]
 mod threads;
 #[cfg(test)]

@@ -1,13 +1,16 @@
 //! Want of memory: a call gets a little more memory from step to step, so that each of its requests is refused in turn.
 //!
 //! A test first takes all memory that the allocator still gives, and gives back a small block of it for the call.
-ghost use Rattle.std.specs.Prelude.{◌≡◌, IfSome};
+ghost use Rattle.std.specs.Prelude.{◌≡◌, IfSome, IfOk};
 ghost use Rattle.ck_words.specs.Closing.{IsCaller, AreAllPasses};
 
+use crate::fixtures::{NumPass, NumTable, TWO_STRIPES};
 use ck_key::{KeyFault, NumKey, TextKey};
-use ck_script::{FromRead, IntoWrite, RunFault, ScriptFault, What, read_script, run};
-use ck_table::{OpenFault, Pass, Settings, Table};
+use ck_script::{FromRead, IntoWrite, RunFault, Script, ScriptFault, What, read_script, run};
+use ck_table::{OpenFault, Settings};
+use ck_words::Words;
 use std::alloc::{AllocError, Global};
+use std::process::Abort;
 use std::test::Fail;
 
 /// How many blocks are taken at the most.
@@ -16,6 +19,7 @@ const BLOCKS: usize = 200_000;
 /// More bytes than any of the calls takes.
 const MOST: usize = 65_000;
 
+/// For one caller.
 const SETTINGS: Settings = Settings {
     s: 1,
     power: 2,
@@ -27,78 +31,94 @@ const SETTINGS: Settings = Settings {
 };
 
 /// All memory that is left, in blocks from large to small.
-pub(crate) fn hoard(alloc: Global) -> Result<Vec<Vec<u8>>, AllocError> {
+fn hoard(alloc: Global) -> Result<Vec<Vec<u8>>, AllocError> {
     let mut blocks = Vec::with_capacity(alloc, BLOCKS)?;
     let mut size = 1usize << 46;
     for _ in 0..43 {
-        for _ in 0..BLOCKS {
-            if blocks.len() >= BLOCKS {
-                break;
-            }
-            let Ok(block) = Vec::with_capacity(alloc, size) else {
-                break;
-            };
-            blocks.push(block)?;
-        }
+        take_all(alloc, size, &mut blocks)?;
         size /= 2;
     }
     Ok(blocks)
 }
 
+/// Takes blocks of this size until there is none left.
+fn take_all(alloc: Global, size: usize, blocks: &mut Vec<Vec<u8>>) -> Result<(), AllocError> {
+    for _ in blocks.len()..BLOCKS {
+        let Ok(block) = Vec::with_capacity(alloc, size) else {
+            return Ok(());
+        };
+        blocks.push(block)?;
+    }
+    Ok(())
+}
+
 /// A block that leaves this many bytes of `MOST`.
-pub(crate) fn all_but(alloc: Global, free: usize) -> Result<Vec<u8>, AllocError> {
+fn all_but(alloc: Global, free: usize) -> Result<Vec<u8>, AllocError> {
     Vec::with_capacity(alloc, MOST.saturating_sub(free))
 }
 
-#[test]
-fn keys(rt: HostRuntime) -> Result<(), Fail> {
-    let alloc = rt.alloc();
-    let mut block = all_but(alloc, 0)?;
-    let hoard = hoard(alloc)?;
-    let (mut refused, mut made) = (false, false);
-    for step in 0..20usize {
-        drop(block);
-        block = all_but(alloc, 16 * step)?;
-        match TextKey::new(
-            alloc,
-            b"0123456789012345678901234567890123456789012345678901234567891234",
-        ) {
-            Ok(_) => made = true,
-            Err(fault) => {
-                assert_eq!(rt; fault, KeyFault::Memory);
-                refused = true;
-            }
-        }
-    }
-    drop(block);
-    drop(hoard);
-    assert!(rt; refused && made);
-    Ok(())
+/// How far a call comes with the memory that is left.
+#[derive(Clone, Copy)]
+enum End {
+    /// There was none for what has to come before it.
+    Unbegun,
+    Refused,
+    Done,
 }
 
-#[test]
-fn opening(rt: HostRuntime) -> Result<(), Fail> {
-    let alloc = rt.alloc();
-    let mut block = all_but(alloc, 0)?;
-    let hoard = hoard(alloc)?;
-    let (mut refused, mut opened) = (false, false);
-    for step in 0..120usize {
-        drop(block);
-        block = all_but(alloc, 16 * step)?;
-        match Table::<NumKey, u64>::open(alloc, SETTINGS) {
-            Ok(_) => opened = true,
-            Err(OpenFault::Memory) => refused = true,
-            Err(OpenFault::Settings) => return Err(Fail::from("settings that are in range")),
-        }
-    }
-    drop(block);
-    drop(hoard);
-    assert!(rt; refused && opened);
-    Ok(())
+/// Which ends came.
+#[derive(Clone, Copy, Debug, PartialEq, Eq)]
+struct Ends {
+    unbegun: bool,
+    refused: bool,
+    done: bool,
 }
 
-// Binds eight keys, each four in the bucket that they share, and says whether each was.
-fn fill(table: &Table<NumKey, u64>, pass: &mut Pass<NumKey, u64>) -> bool
+impl Ends {
+    fn add(&mut self, end: End) {
+        match end {
+            End::Unbegun => self.unbegun = true,
+            End::Refused => self.refused = true,
+            End::Done => self.done = true,
+        }
+    }
+}
+
+/// What is called.
+#[derive(Clone, Copy)]
+enum Subject {
+    Key,
+    Opening,
+    Closing,
+    WordsClosing,
+    Script,
+}
+
+fn make_key(rt: &impl Abort, alloc: Global) -> End {
+    match TextKey::new(
+        alloc,
+        b"0123456789012345678901234567890123456789012345678901234567891234",
+    ) {
+        Ok(_) => End::Done,
+        Err(fault) => {
+            assert!(rt; fault == KeyFault::Memory);
+            End::Refused
+        }
+    }
+}
+
+fn open(rt: &impl Abort, alloc: Global) -> End {
+    match NumTable::open(alloc, SETTINGS) {
+        Ok(_) => End::Done,
+        Err(fault) => {
+            assert!(rt; fault == OpenFault::Memory);
+            End::Refused
+        }
+    }
+}
+
+/// Binds eight keys, each four in the bucket that they share, and says whether each was.
+fn fill(table: &NumTable, pass: &mut NumPass) -> bool
     requires { IsCaller table.now pass.old }
     ensures caller { IsCaller table.now pass.new }
     ensures by { pass.new.view.by ≡ pass.old.view.by }
@@ -112,10 +132,10 @@ fn fill(table: &Table<NumKey, u64>, pass: &mut Pass<NumKey, u64>) -> bool
 
 /// A table with eight keys, and the pass of its one caller. The list of the pairs takes more memory than is free again once
 /// the table is open.
-fn table_of(alloc: Global) -> Option<(Table<NumKey, u64>, Vec<Pass<NumKey, u64>>)>
+fn table_of(alloc: Global) -> Option<(NumTable, Vec<NumPass>)>
     ensures { IfSome result (λ r. AreAllPasses r.0 r.1.items) }
 {
-    let Ok((table, mut passes)) = Table::open(alloc, SETTINGS) else {
+    let Ok((table, mut passes)) = NumTable::open(alloc, SETTINGS) else {
         return None;
     };
     let pass = &mut passes[0];
@@ -126,50 +146,146 @@ fn table_of(alloc: Global) -> Option<(Table<NumKey, u64>, Vec<Pass<NumKey, u64>>
     }
 }
 
-#[test]
-fn closing(rt: HostRuntime) -> Result<(), Fail> {
-    let alloc = rt.alloc();
-    let mut block = all_but(alloc, 0)?;
-    let hoard = hoard(alloc)?;
-    let (mut refused, mut closed) = (false, false);
-    let mut kept = None;
-    for step in 0..120usize {
-        drop(kept.take());
-        drop(block);
-        block = all_but(alloc, 16 * step)?;
-        let Some((table, passes)) = table_of(alloc) else {
-            continue;
-        };
-        match table.close(passes) {
-            Ok(pairs) => {
-                assert_eq!(rt; pairs.len(), 8);
-                closed = true;
-            }
-            Err(back) => {
-                kept = Some(back);
-                refused = true;
-            }
+fn close(rt: &impl Abort, alloc: Global) -> End {
+    let Some((table, passes)) = table_of(alloc) else {
+        return End::Unbegun;
+    };
+    match table.close(passes) {
+        Ok(pairs) => {
+            assert_eq!(rt; pairs.len(), 8);
+            End::Done
+        }
+        Err(_) => End::Refused,
+    }
+}
+
+/// Where closing is refused, it gives back all passes.
+fn close_words(rt: &impl Abort, alloc: Global) -> End {
+    let Ok((words, passes)) = Words::<NumKey, u64>::open_all(alloc, TWO_STRIPES) else {
+        return End::Unbegun;
+    };
+    match words.close(passes) {
+        Ok(pairs) => {
+            assert_eq!(rt; pairs.len(), 0);
+            End::Done
+        }
+        Err((_, passes)) => {
+            assert_eq!(rt; passes.len(), 3);
+            End::Refused
         }
     }
-    drop(kept.take());
+}
+
+const SCRIPT: &[u8] =
+    b"cuckoo 1\nworker\ninsert 3 1\ninsert 7 2\nfind 3\nfind 4\ninsert 3 5\nend\n";
+
+const OUTPUT: &[u8; 42] = b"worker 1\nnew\nnew\nv 1\nnone\nold\nmap\n3 1\n7 2\n";
+
+fn read_and_run(rt: &impl Abort, alloc: Global) -> End {
+    match read_script(alloc, &mut FromRead::new(SCRIPT)) {
+        Err(ScriptFault { line, what }) => {
+            assert!(rt; what == What::Memory);
+            assert!(rt; 1 <= line && line <= 8);
+            End::Unbegun
+        }
+        Ok(script) => run_script(rt, alloc, script),
+    }
+}
+
+fn run_script(rt: &impl Abort, alloc: Global, script: Script) -> End {
+    let mut out = [0u8; 42];
+    let result = run(alloc, script, &mut IntoWrite::new(out.as_mut_slice()));
+    match result {
+        Ok(()) => {
+            assert!(rt; out == *OUTPUT);
+            End::Done
+        }
+        Err(fault) => {
+            assert!(rt; fault == RunFault::Memory);
+            assert!(rt; out == [0; 42]);
+            End::Refused
+        }
+    }
+}
+
+fn call(rt: &impl Abort, alloc: Global, subject: Subject) -> End {
+    match subject {
+        Subject::Key => make_key(rt, alloc),
+        Subject::Opening => open(rt, alloc),
+        Subject::Closing => close(rt, alloc),
+        Subject::WordsClosing => close_words(rt, alloc),
+        Subject::Script => read_and_run(rt, alloc),
+    }
+}
+
+/// Makes the call with 16 bytes more from step to step.
+fn ends_of(
+    rt: &impl Abort,
+    alloc: Global,
+    subject: Subject,
+    steps: usize,
+) -> Result<Ends, AllocError> {
+    let mut ends = Ends {
+        unbegun: false,
+        refused: false,
+        done: false,
+    };
+    let mut block = all_but(alloc, 0)?;
+    let hoard = hoard(alloc)?;
+    for step in 0..steps {
+        drop(block);
+        block = all_but(alloc, step.saturating_mul(16))?;
+        ends.add(call(rt, alloc, subject));
+    }
     drop(block);
     drop(hoard);
-    assert!(rt; refused && closed);
+    Ok(ends)
+}
+
+/// Both are refused for want of memory, and then neither is; what has to come before needs memory too, or none.
+const ROWS: [(&str, Subject, usize, bool); 5] = [
+    ("a text key", Subject::Key, 20, false),
+    ("opening a table", Subject::Opening, 120, false),
+    ("closing a table", Subject::Closing, 120, true),
+    ("closing lock words", Subject::WordsClosing, 200, true),
+    ("a script", Subject::Script, 600, true),
+];
+
+#[test]
+fn each_request_refused(rt: HostRuntime) -> Result<(), Fail> {
+    for (what, subject, steps, unbegun) in ROWS {
+        let ends = ends_of(&rt, rt.alloc(), subject, steps)?;
+        let want = Ends {
+            unbegun,
+            refused: true,
+            done: true,
+        };
+        assert!(rt; ends == want, "{what}");
+    }
     Ok(())
+}
+
+/// A table that was not closed for want of memory, and its pass.
+fn refused_table(alloc: Global) -> Result<(NumTable, Vec<NumPass>), Fail>
+    ensures { IfOk result (λ r. AreAllPasses r.0 r.1.items) }
+{
+    let Some((table, passes)) = table_of(alloc) else {
+        return Err(Fail::from("no memory at the start"));
+    };
+    let hoard = hoard(alloc)?;
+    match table.close(passes) {
+        Ok(_) => Err(Fail::from("closed without memory")),
+        Err(back) => {
+            drop(hoard);
+            Ok(back)
+        }
+    }
 }
 
 /// A table whose closing was refused is closed again with ample memory.
 #[test]
 fn closing_again(rt: HostRuntime) -> Result<(), Fail> {
-    let alloc = rt.alloc();
-    let Some((table, passes)) = table_of(alloc) else {
-        return Err(Fail::from("no memory at the start"));
-    };
-    let hoard = hoard(alloc)?;
-    let Err((table, passes)) = table.close(passes) else {
-        return Err(Fail::from("closed without memory"));
-    };
-    drop(hoard);
+    let (table, passes) = refused_table(rt.alloc())?;
     let Ok(pairs) = table.close(passes) else {
         return Err(Fail::from("refused with ample memory"));
     };
@@ -184,46 +300,5 @@ fn closing_again(rt: HostRuntime) -> Result<(), Fail> {
         (NumKey(15), 150),
     ];
     assert_eq!(rt; pairs.as_slice(), want.as_slice());
-    Ok(())
-}
-
-const SCRIPT: &[u8] =
-    b"cuckoo 1\nworker\ninsert 3 1\ninsert 7 2\nfind 3\nfind 4\ninsert 3 5\nend\n";
-
-const OUTPUT: &[u8] = b"worker 1\nnew\nnew\nv 1\nnone\nold\nmap\n3 1\n7 2\n";
-
-#[test]
-fn scripts(rt: HostRuntime) -> Result<(), Fail> {
-    let alloc = rt.alloc();
-    let mut out = Vec::with_capacity(alloc, OUTPUT.len())?;
-    let mut block = all_but(alloc, 0)?;
-    let hoard = hoard(alloc)?;
-    let (mut unread, mut refused, mut done) = (false, false, false);
-    for step in 0..600usize {
-        drop(block);
-        block = all_but(alloc, 16 * step)?;
-        out.clear();
-        match read_script(alloc, &mut FromRead::new(SCRIPT)) {
-            Err(ScriptFault { line, what }) => {
-                assert_eq!(rt; what, What::Memory);
-                assert!(rt; 1 <= line && line <= 8);
-                unread = true;
-            }
-            Ok(script) => match run(alloc, script, &mut IntoWrite::new(&mut out)) {
-                Ok(()) => {
-                    assert_eq!(rt; out.as_slice(), OUTPUT);
-                    done = true;
-                }
-                Err(fault) => {
-                    assert_eq!(rt; fault, RunFault::Memory);
-                    assert!(rt; out.is_empty());
-                    refused = true;
-                }
-            },
-        }
-    }
-    drop(block);
-    drop(hoard);
-    assert!(rt; unread && refused && done);
     Ok(())
 }

@@ -2,11 +2,14 @@
 //!
 //! Of the four stripes, key 3 has stripe 3 alone, key 513 has stripe 1 alone, key 0 has stripes 0 and 1, key 1 has
 //! stripes 1 and 3, key 2 has stripes 1 and 2, and key 258 has stripe 2 alone.
+ghost use Rattle.std.specs.Prelude.{◌≢◌};
 ghost use Rattle.ck_words.specs.Closing.{IsCaller};
 
-use crate::callers::{Call, NumPass, NumTable, Reply, answer, open};
+use crate::callers::{Call, Reply, answer};
+use crate::fixtures::{NumPass, NumTable, open};
 use ck_key::NumKey;
 use ck_table::Why;
+use std::alloc::Global;
 use std::process::Abort;
 use std::test::Fail;
 
@@ -23,245 +26,294 @@ impl<'a> Caller<'a> {
         answer(self.table, &mut self.pass, call)
     }
 
-    fn check(&mut self, rt: &impl Abort, rows: &[(Call, Reply)]) {
-        for (call, want) in rows {
-            let reply = self.call(*call);
-            assert_eq!(rt; reply, *want, "{call:?}");
+    fn check(&mut self, rt: &impl Abort, what: &str, rows: &[Row]) {
+        for (number, (call, want)) in rows.iter().enumerate() {
+            let as_wanted = self.call(*call) == *want;
+            assert!(rt; as_wanted, "{what}: call {number}");
         }
     }
 
-    /// Binds key 3, which is bound, to 31 by a closure in which the other two make their calls.
+    /// Binds a bound key, where a value is given, by a closure in which the other two make their calls.
     fn update_around(
         &mut self,
         rt: &impl Abort,
-        second: &mut Caller,
-        seconds: &[(Call, Reply)],
-        third: &mut Caller,
-        thirds: &[(Call, Reply)],
-    ) {
-        let around = |_old: u64| {
-            second.check(rt, seconds);
-            third.check(rt, thirds);
-            31
-        };
-        let bound = self.table.update_fn(&mut self.pass, &NumKey(3), around);
-        assert!(rt; bound == Ok(true));
-    }
-
-    /// Leaves the value of a bound key as it is by a closure in which the other makes its calls.
-    fn keep_around(
-        &mut self,
-        rt: &impl Abort,
         key: u64,
-        other: &mut Caller,
-        rows: &[(Call, Reply)],
+        new: Option<u64>,
+        others: &mut Others,
+        turn: &Turn,
     ) {
-        let around = |value: u64| {
-            other.check(rt, rows);
-            value
+        let around = |old: u64| {
+            others.check(rt, turn);
+            new.unwrap_or(old)
         };
         let bound = self.table.update_fn(&mut self.pass, &NumKey(key), around);
         assert!(rt; bound == Ok(true));
     }
 
-    /// Moves one from key 0 to key 258, which are bound, by a closure in which the other makes its calls.
-    fn transfer_around(&mut self, rt: &impl Abort, other: &mut Caller, rows: &[(Call, Reply)]) {
-        let around = |from: u64, to: u64| {
-            other.check(rt, rows);
-            (from.saturating_sub(1), to.saturating_add(1))
+    /// Moves one from a bound key to another by a closure in which the other two make their calls.
+    fn transfer_around(
+        &mut self,
+        rt: &impl Abort,
+        from: u64,
+        to: u64,
+        others: &mut Others,
+        turn: &Turn,
+    )
+        requires { from ≢ to }
+    {
+        let around = |less: u64, more: u64| {
+            others.check(rt, turn);
+            (less.saturating_sub(1), more.saturating_add(1))
         };
         let bound = self
             .table
-            .update_two(&mut self.pass, &NumKey(0), &NumKey(258), around);
+            .update_two(&mut self.pass, &NumKey(from), &NumKey(to), around);
         assert!(rt; bound == Ok(true));
+    }
+
+    fn take_turn(&mut self, rt: &impl Abort, others: &mut Others, turn: &Turn) {
+        match turn.around {
+            Around::Update(key, new) => self.update_around(rt, key, new, others, turn),
+            Around::Transfer(from, to) => {
+                assert!(rt; from != to);
+                self.transfer_around(rt, from, to, others, turn);
+            }
+        }
     }
 }
 
-const BOUND: [(Call, Reply); 3] = [
+/// Two callers that make their calls while another is in one.
+#[derive(Drop)]
+struct Others<'a> {
+    second: Caller<'a>,
+    third: Caller<'a>,
+}
+
+impl<'a> Others<'a> {
+    fn check(&mut self, rt: &impl Abort, turn: &Turn) {
+        self.second.check(rt, "within, second", turn.seconds);
+        self.third.check(rt, "within, third", turn.thirds);
+    }
+}
+
+/// A call and its reply.
+type Row = (Call, Reply);
+
+/// The call that the others' calls are made in.
+#[derive(Clone, Copy)]
+enum Around {
+    /// Binds a bound key to this, or leaves its value.
+    Update(u64, Option<u64>),
+    /// Moves one from a bound key to another.
+    Transfer(u64, u64),
+}
+
+#[derive(Clone, Copy)]
+struct Turn {
+    around: Around,
+    seconds: &'static [Row],
+    thirds: &'static [Row],
+}
+
+/// The first caller makes its calls, then those in which the others make theirs, and then the others make their last ones.
+#[derive(Clone, Copy)]
+struct Scene {
+    what: &'static str,
+    firsts: &'static [Row],
+    turns: &'static [Turn],
+    seconds: &'static [Row],
+    thirds: &'static [Row],
+}
+
+const BOUND: &[Row] = &[
     (Call::Insert(3, 30), Reply::Fresh(true)),
     (Call::Insert(0, 5), Reply::Fresh(true)),
     (Call::Insert(1, 7), Reply::Fresh(true)),
 ];
 
-/// Stripe 3 is found held, whichever call wants it, and the others are free.
-#[test]
-fn a_held_stripe(rt: HostRuntime) -> Result<(), Fail> {
-    let (table, first, second, third) = open(rt.alloc(), 4)?;
-    let table = &table;
-    let mut first = Caller { table, pass: first };
-    let mut second = Caller {
-        table,
-        pass: second,
-    };
-    let mut third = Caller { table, pass: third };
-    first.check(&rt, &BOUND);
-    let within = [
-        (Call::Find(0), Reply::Was(Some(5))),
-        (Call::Find(1), Reply::Busy(3)),
-        (Call::FindTenth(1), Reply::Busy(3)),
-        (Call::Contains(3), Reply::Busy(3)),
-        (Call::Insert(1, 8), Reply::BothBack(1, 8, Why::Busy(3))),
-        (
-            Call::InsertOrAssign(1, 8),
-            Reply::BothBack(1, 8, Why::Busy(3)),
-        ),
-        (Call::Upsert(1, 8), Reply::BothBack(1, 8, Why::Busy(3))),
-        (Call::Update(3, 9), Reply::ValueBack(9, 3)),
-        (Call::UpdateFn(3), Reply::Busy(3)),
-        (Call::Erase(1), Reply::Busy(3)),
-        (Call::EraseAbove(1, 0), Reply::Busy(3)),
-        (Call::Update(0, 6), Reply::Was(Some(5))),
-    ];
-    first.update_around(&rt, &mut second, &within, &mut third, &[]);
-    let after = [
-        (Call::Find(1), Reply::Was(Some(7))),
-        (Call::Find(3), Reply::Was(Some(31))),
-        (Call::Find(0), Reply::Was(Some(6))),
-    ];
-    second.check(&rt, &after);
-    third.check(&rt, &after);
-    Ok(())
-}
+const AFTER: &[Row] = &[
+    (Call::Find(1), Reply::Was(Some(7))),
+    (Call::Find(3), Reply::Was(Some(31))),
+    (Call::Find(0), Reply::Was(Some(6))),
+];
 
-/// A call that found its second stripe held has given its first one back.
-#[test]
-fn the_first_stripe_back(rt: HostRuntime) -> Result<(), Fail> {
-    let (table, first, second, third) = open(rt.alloc(), 4)?;
-    let table = &table;
-    let mut first = Caller { table, pass: first };
-    let mut second = Caller {
-        table,
-        pass: second,
-    };
-    let mut third = Caller { table, pass: third };
-    first.check(&rt, &BOUND);
-    let refused = [(Call::Find(1), Reply::Busy(3))];
-    let answered = [
-        (Call::Insert(513, 9), Reply::Fresh(true)),
-        (Call::Find(0), Reply::Was(Some(5))),
-        (Call::Find(1), Reply::Busy(3)),
-    ];
-    first.update_around(&rt, &mut second, &refused, &mut third, &answered);
-    second.check(&rt, &[(Call::Find(513), Reply::Was(Some(9)))]);
-    Ok(())
-}
-
-/// A call on two keys holds their three stripes, and the fourth is free.
-#[test]
-fn three_held_stripes(rt: HostRuntime) -> Result<(), Fail> {
-    let (table, first, second, _third) = open(rt.alloc(), 4)?;
-    let table = &table;
-    let mut first = Caller { table, pass: first };
-    let mut second = Caller {
-        table,
-        pass: second,
-    };
-    let bound = [
-        (Call::Insert(0, 5), Reply::Fresh(true)),
-        (Call::Insert(258, 7), Reply::Fresh(true)),
-        (Call::Insert(3, 30), Reply::Fresh(true)),
-    ];
-    first.check(&rt, &bound);
-    let within = [
-        (Call::Find(3), Reply::Was(Some(30))),
-        (Call::Find(0), Reply::Busy(0)),
-        (Call::Find(1), Reply::Busy(1)),
-        (Call::Find(2), Reply::Busy(1)),
-        (Call::Find(258), Reply::Busy(2)),
-        (Call::Transfer(3, 0), Reply::Busy(0)),
-    ];
-    first.transfer_around(&rt, &mut second, &within);
-    let after = [
-        (Call::Find(0), Reply::Was(Some(4))),
-        (Call::Find(258), Reply::Was(Some(8))),
-        // Key 9 is unbound, so nothing moves.
-        (Call::Transfer(0, 9), Reply::Bound(false)),
-        (Call::Transfer(9, 0), Reply::Bound(false)),
-        (Call::Find(0), Reply::Was(Some(4))),
-        (Call::Find(9), Reply::Was(None)),
-        (Call::Transfer(0, 3), Reply::Bound(true)),
-        (Call::Find(0), Reply::Was(Some(3))),
-        (Call::Find(3), Reply::Was(Some(31))),
-    ];
-    second.check(&rt, &after);
-    Ok(())
-}
-
-/// A key that has one stripe alone, and calls while that stripe is held.
-#[derive(Clone, Copy)]
-struct Turn {
-    key: u64,
-    rows: &'static [(Call, Reply)],
-}
-
-/// Keys 772, 513, 258 and 3 have stripes 0, 1, 2 and 3, each one alone.
-const TURNS: [Turn; 4] = [
-    Turn {
-        key: 772,
-        rows: &[
-            (Call::Find(772), Reply::Busy(0)),
-            (Call::Find(513), Reply::Was(Some(513))),
-            (Call::Find(258), Reply::Was(Some(258))),
-            (Call::Find(3), Reply::Was(Some(3))),
-            (Call::Find(0), Reply::Busy(0)),
-            (Call::Insert(1, 1), Reply::Fresh(true)),
-        ],
+const SCENES: [Scene; 4] = [
+    // Stripe 3 is found held, whichever call wants it, and the others are free.
+    Scene {
+        what: "a held stripe",
+        firsts: BOUND,
+        turns: &[Turn {
+            around: Around::Update(3, Some(31)),
+            seconds: &[
+                (Call::Find(0), Reply::Was(Some(5))),
+                (Call::Find(1), Reply::Busy(3)),
+                (Call::FindTenth(1), Reply::Busy(3)),
+                (Call::Contains(3), Reply::Busy(3)),
+                (Call::Insert(1, 8), Reply::BothBack(1, 8, Why::Busy(3))),
+                (
+                    Call::InsertOrAssign(1, 8),
+                    Reply::BothBack(1, 8, Why::Busy(3)),
+                ),
+                (Call::Upsert(1, 8), Reply::BothBack(1, 8, Why::Busy(3))),
+                (Call::Update(3, 9), Reply::ValueBack(9, 3)),
+                (Call::UpdateFn(3), Reply::Busy(3)),
+                (Call::Erase(1), Reply::Busy(3)),
+                (Call::EraseWithin(1, 1, u64::MAX), Reply::Busy(3)),
+                (Call::Update(0, 6), Reply::Was(Some(5))),
+            ],
+            thirds: &[],
+        }],
+        seconds: AFTER,
+        thirds: AFTER,
     },
-    Turn {
-        key: 513,
-        rows: &[
-            (Call::Find(772), Reply::Was(Some(772))),
-            (Call::Find(513), Reply::Busy(1)),
-            (Call::Find(258), Reply::Was(Some(258))),
-            (Call::Find(3), Reply::Was(Some(3))),
-            (Call::Find(0), Reply::Busy(1)),
-            (Call::Insert(1, 1), Reply::BothBack(1, 1, Why::Busy(1))),
-        ],
+    // A call that found its second stripe held has given its first one back.
+    Scene {
+        what: "the first stripe back",
+        firsts: BOUND,
+        turns: &[Turn {
+            around: Around::Update(3, Some(31)),
+            seconds: &[(Call::Find(1), Reply::Busy(3))],
+            thirds: &[
+                (Call::Insert(513, 9), Reply::Fresh(true)),
+                (Call::Find(0), Reply::Was(Some(5))),
+                (Call::Find(1), Reply::Busy(3)),
+            ],
+        }],
+        seconds: &[(Call::Find(513), Reply::Was(Some(9)))],
+        thirds: &[],
     },
-    Turn {
-        key: 258,
-        rows: &[
-            (Call::Find(772), Reply::Was(Some(772))),
-            (Call::Find(513), Reply::Was(Some(513))),
-            (Call::Find(258), Reply::Busy(2)),
-            (Call::Find(3), Reply::Was(Some(3))),
-            (Call::Find(0), Reply::Was(None)),
-            (Call::Insert(1, 1), Reply::Fresh(false)),
+    // A call on two keys holds their three stripes, and the fourth is free.
+    Scene {
+        what: "three held stripes",
+        firsts: &[
+            (Call::Insert(0, 5), Reply::Fresh(true)),
+            (Call::Insert(258, 7), Reply::Fresh(true)),
+            (Call::Insert(3, 30), Reply::Fresh(true)),
         ],
+        turns: &[Turn {
+            around: Around::Transfer(0, 258),
+            seconds: &[
+                (Call::Find(3), Reply::Was(Some(30))),
+                (Call::Find(0), Reply::Busy(0)),
+                (Call::Find(1), Reply::Busy(1)),
+                (Call::Find(2), Reply::Busy(1)),
+                (Call::Find(258), Reply::Busy(2)),
+                (Call::Transfer(3, 0), Reply::Busy(0)),
+            ],
+            thirds: &[],
+        }],
+        seconds: &[
+            (Call::Find(0), Reply::Was(Some(4))),
+            (Call::Find(258), Reply::Was(Some(8))),
+            // Key 9 is unbound, so nothing moves.
+            (Call::Transfer(0, 9), Reply::Bound(false)),
+            (Call::Transfer(9, 0), Reply::Bound(false)),
+            (Call::Find(0), Reply::Was(Some(4))),
+            (Call::Find(9), Reply::Was(None)),
+            (Call::Transfer(0, 3), Reply::Bound(true)),
+            (Call::Find(0), Reply::Was(Some(3))),
+            (Call::Find(3), Reply::Was(Some(31))),
+        ],
+        thirds: &[],
     },
-    Turn {
-        key: 3,
-        rows: &[
+    // A call is refused for a stripe of its own key, and for no other. Keys 772, 513, 258 and 3 have stripes 0, 1, 2 and 3,
+    // each one alone.
+    Scene {
+        what: "each stripe in turn",
+        firsts: &[
+            (Call::Insert(772, 772), Reply::Fresh(true)),
+            (Call::Insert(513, 513), Reply::Fresh(true)),
+            (Call::Insert(258, 258), Reply::Fresh(true)),
+            (Call::Insert(3, 3), Reply::Fresh(true)),
+        ],
+        turns: &[
+            Turn {
+                around: Around::Update(772, None),
+                seconds: &[
+                    (Call::Find(772), Reply::Busy(0)),
+                    (Call::Find(513), Reply::Was(Some(513))),
+                    (Call::Find(258), Reply::Was(Some(258))),
+                    (Call::Find(3), Reply::Was(Some(3))),
+                    (Call::Find(0), Reply::Busy(0)),
+                    (Call::Insert(1, 1), Reply::Fresh(true)),
+                ],
+                thirds: &[],
+            },
+            Turn {
+                around: Around::Update(513, None),
+                seconds: &[
+                    (Call::Find(772), Reply::Was(Some(772))),
+                    (Call::Find(513), Reply::Busy(1)),
+                    (Call::Find(258), Reply::Was(Some(258))),
+                    (Call::Find(3), Reply::Was(Some(3))),
+                    (Call::Find(0), Reply::Busy(1)),
+                    (Call::Insert(1, 1), Reply::BothBack(1, 1, Why::Busy(1))),
+                ],
+                thirds: &[],
+            },
+            Turn {
+                around: Around::Update(258, None),
+                seconds: &[
+                    (Call::Find(772), Reply::Was(Some(772))),
+                    (Call::Find(513), Reply::Was(Some(513))),
+                    (Call::Find(258), Reply::Busy(2)),
+                    (Call::Find(3), Reply::Was(Some(3))),
+                    (Call::Find(0), Reply::Was(None)),
+                    (Call::Insert(1, 1), Reply::Fresh(false)),
+                ],
+                thirds: &[],
+            },
+            Turn {
+                around: Around::Update(3, None),
+                seconds: &[
+                    (Call::Find(772), Reply::Was(Some(772))),
+                    (Call::Find(513), Reply::Was(Some(513))),
+                    (Call::Find(258), Reply::Was(Some(258))),
+                    (Call::Find(3), Reply::Busy(3)),
+                    (Call::Find(0), Reply::Was(None)),
+                    (Call::Insert(1, 1), Reply::BothBack(1, 1, Why::Busy(3))),
+                ],
+                thirds: &[],
+            },
+        ],
+        seconds: &[
             (Call::Find(772), Reply::Was(Some(772))),
             (Call::Find(513), Reply::Was(Some(513))),
             (Call::Find(258), Reply::Was(Some(258))),
-            (Call::Find(3), Reply::Busy(3)),
-            (Call::Find(0), Reply::Was(None)),
-            (Call::Insert(1, 1), Reply::BothBack(1, 1, Why::Busy(3))),
+            (Call::Find(3), Reply::Was(Some(3))),
         ],
+        thirds: &[],
     },
 ];
 
-/// A call is refused for a stripe of its own key, and for no other.
-#[test]
-fn each_stripe_in_turn(rt: HostRuntime) -> Result<(), Fail> {
-    let (table, first, second, _third) = open(rt.alloc(), 4)?;
+fn play(rt: &impl Abort, first: &mut Caller, others: &mut Others, scene: &Scene) {
+    first.check(rt, scene.what, scene.firsts);
+    for turn in scene.turns {
+        first.take_turn(rt, others, turn);
+    }
+    others.second.check(rt, scene.what, scene.seconds);
+    others.third.check(rt, scene.what, scene.thirds);
+}
+
+fn check(rt: &impl Abort, alloc: Global, scene: &Scene) -> Result<(), Fail> {
+    let (table, first, second, third) = open(alloc, 4)?;
     let table = &table;
     let mut first = Caller { table, pass: first };
-    let mut second = Caller {
-        table,
-        pass: second,
+    let mut others = Others {
+        second: Caller {
+            table,
+            pass: second,
+        },
+        third: Caller { table, pass: third },
     };
-    for turn in &TURNS {
-        let fresh = first.call(Call::Insert(turn.key, turn.key));
-        assert_eq!(rt; fresh, Reply::Fresh(true));
-    }
-    for turn in &TURNS {
-        first.keep_around(&rt, turn.key, &mut second, turn.rows);
-    }
-    for turn in &TURNS {
-        let kept = second.call(Call::Find(turn.key));
-        assert_eq!(rt; kept, Reply::Was(Some(turn.key)));
+    play(rt, &mut first, &mut others, scene);
+    Ok(())
+}
+
+#[test]
+fn scenes(rt: HostRuntime) -> Result<(), Fail> {
+    for scene in &SCENES {
+        check(&rt, rt.alloc(), scene)?;
     }
     Ok(())
 }

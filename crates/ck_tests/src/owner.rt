@@ -1,9 +1,10 @@
 //! A table of one owner, driven by random calls beside the plain map: each reply is that of the plain map, while the table
 //! doubles as it fills.
-ghost use Rattle.std.specs.Prelude.{◌≡◌, true, OnOk};
+ghost use Rattle.std.specs.Prelude.{◌≡◌, ◌<◌, true, OnOk};
 ghost use Rattle.ck_stripe.specs.Stripe.{IsReserved};
 ghost use Rattle.ck_section.specs.Whole.{AreAll};
 
+use crate::fixtures::name_of;
 use ck_key::NumKey;
 use ck_model::history::Name;
 use ck_oracle::map::PlainMap;
@@ -12,7 +13,6 @@ use ck_stripe::Stripe;
 use rand_core::Rng;
 use rand_pcg::Lcg64Xsh32;
 use std::alloc::{AllocError, Global};
-use std::collections::LinkedList;
 use std::process::Abort;
 use std::test::Fail;
 
@@ -24,9 +24,10 @@ const MOST_DOUBLINGS: u32 = 20;
 
 const KEYS: u64 = 400;
 
-const STEPS: u32 = 10_000;
+/// How many calls are made between two comparisons.
+const STEPS: u32 = 500;
 
-#[derive(Clone, Copy, Debug, PartialEq, Eq)]
+#[derive(Clone, Copy)]
 enum Operation {
     Find,
     Insert,
@@ -46,7 +47,7 @@ const OPERATIONS: [Operation; 6] = [
     Operation::Erase,
 ];
 
-#[derive(Clone, Copy, Debug, PartialEq, Eq)]
+#[derive(Clone, Copy, PartialEq, Eq)]
 enum Reply {
     Was(Option<u64>),
     New,
@@ -133,6 +134,55 @@ fn double(stripe: &mut Stripe<NumKey, u64>) -> Result<(), Fail> {
     Ok(())
 }
 
+fn find_in(stripes: &mut [Stripe<NumKey, u64>], key: NumKey) -> Option<u64>
+    requires { AreAll 2 stripes.old }
+{
+    let place = place_in_all(stripes, S, &key);
+    let mut held = Slice { stripes };
+    Some(find(&mut held, place, &key, |value| *value)?.reply)
+}
+
+fn insert_in(stripes: &mut [Stripe<NumKey, u64>], key: NumKey, value: u64) -> Option<bool>
+    requires { AreAll 2 stripes.old }
+{
+    let place = place_in_all(stripes, S, &key);
+    let mut held = Slice { stripes };
+    Some(insert(&mut held, place, key, value).ok()?.reply)
+}
+
+fn assign_in(stripes: &mut [Stripe<NumKey, u64>], key: NumKey, value: u64) -> Option<Option<u64>>
+    requires { AreAll 2 stripes.old }
+{
+    let place = place_in_all(stripes, S, &key);
+    let mut held = Slice { stripes };
+    Some(assign(&mut held, place, key, value).ok()?.reply)
+}
+
+fn update_in(stripes: &mut [Stripe<NumKey, u64>], key: NumKey, value: u64) -> Option<u64>
+    requires { AreAll 2 stripes.old }
+{
+    let place = place_in_all(stripes, S, &key);
+    let mut held = Slice { stripes };
+    Some(update(&mut held, place, &key, value)?.reply)
+}
+
+fn upsert_in(stripes: &mut [Stripe<NumKey, u64>], key: NumKey, value: u64) -> Option<bool>
+    requires { AreAll 2 stripes.old }
+{
+    let place = place_in_all(stripes, S, &key);
+    let mut held = Slice { stripes };
+    let add = |old: u64| old.wrapping_add(value);
+    Some(upsert(&mut held, place, key, add, value).ok()?.reply)
+}
+
+fn erase_in(stripes: &mut [Stripe<NumKey, u64>], key: NumKey) -> Option<u64>
+    requires { AreAll 2 stripes.old }
+{
+    let place = place_in_all(stripes, S, &key);
+    let mut held = Slice { stripes };
+    Some(erase(&mut held, place, &key)?.reply)
+}
+
 /// What the operation replies, or `None` where there is no room for the key.
 fn call_once(
     stripes: &mut [Stripe<NumKey, u64>],
@@ -142,31 +192,13 @@ fn call_once(
 ) -> Option<Reply>
     requires { AreAll 2 stripes.old }
 {
-    let place = place_in_all(stripes, S, &key);
-    let mut held = Slice { stripes };
     match operation {
-        Operation::Find => {
-            let found = find(&mut held, place, &key, |value| *value);
-            Some(Reply::Was(found.map(|answer| answer.reply)))
-        }
-        Operation::Insert => {
-            let fresh = insert(&mut held, place, key, value).ok()?.reply;
-            Some(Reply::of_insertion(fresh))
-        }
-        Operation::Assign => Some(Reply::Was(assign(&mut held, place, key, value).ok()?.reply)),
-        Operation::Update => {
-            let updated = update(&mut held, place, &key, value);
-            Some(Reply::Was(updated.map(|answer| answer.reply)))
-        }
-        Operation::Upsert => {
-            let add = |old: u64| old.wrapping_add(value);
-            let fresh = upsert(&mut held, place, key, add, value).ok()?.reply;
-            Some(Reply::of_insertion(fresh))
-        }
-        Operation::Erase => {
-            let erased = erase(&mut held, place, &key);
-            Some(Reply::Was(erased.map(|answer| answer.reply)))
-        }
+        Operation::Find => Some(Reply::Was(find_in(stripes, key))),
+        Operation::Insert => Some(Reply::of_insertion(insert_in(stripes, key, value)?)),
+        Operation::Assign => Some(Reply::Was(assign_in(stripes, key, value)?)),
+        Operation::Update => Some(Reply::Was(update_in(stripes, key, value))),
+        Operation::Upsert => Some(Reply::of_insertion(upsert_in(stripes, key, value)?)),
+        Operation::Erase => Some(Reply::Was(erase_in(stripes, key))),
     }
 }
 
@@ -200,22 +232,78 @@ fn call_plain(
     }
 }
 
-fn name_of(alloc: Global, key: u64) -> Result<Name, AllocError> {
-    let mut name = LinkedList::new(alloc);
-    name.push_back(key)?;
-    Ok(name)
+/// What each operation met.
+#[derive(Clone, Copy)]
+struct Seen {
+    unbound: bool,
+    bound: bool,
 }
 
-/// Compares all keys.
-fn compare(
+/// The table, the plain map beside it, and what the operations met so far.
+#[derive(Drop)]
+struct Pair {
+    owner: Owner,
+    plain: PlainMap,
+    seen: [Seen; 6],
+}
+
+impl Pair {
+    fn open(alloc: Global) -> Result<Pair, AllocError> {
+        let none = Seen {
+            unbound: false,
+            bound: false,
+        };
+        Ok(Pair {
+            owner: Owner::open(alloc)?,
+            plain: PlainMap::new(alloc),
+            seen: [none; 6],
+        })
+    }
+
+    /// Makes one call on both, and says whether the replies are the same.
+    fn call(&mut self, alloc: Global, which: usize, key: u64, value: u64) -> Result<bool, Fail>
+        requires { which < 6 }
+    {
+        let operation = OPERATIONS[which];
+        let name = name_of(alloc, key)?;
+        let want = call_plain(&mut self.plain, operation, &name, value)?;
+        let reply = self.owner.call(operation, key, value)?;
+        if reply.was_bound() {
+            self.seen[which].bound = true;
+        } else {
+            self.seen[which].unbound = true;
+        }
+        Ok(reply == want)
+    }
+
+    /// Whether the key is bound to the same.
+    fn is_same(&mut self, alloc: Global, key: u64) -> Result<bool, Fail> {
+        let want = Reply::Was(self.plain.get(&name_of(alloc, key)?));
+        Ok(self.owner.call(Operation::Find, key, 0)? == want)
+    }
+
+    /// Compares all keys.
+    fn compare(&mut self, rt: &impl Abort, alloc: Global) -> Result<(), Fail> {
+        for key in 0..KEYS {
+            let same = self.is_same(alloc, key)?;
+            assert!(rt; same, "key {key}");
+        }
+        Ok(())
+    }
+}
+
+/// Makes so many random calls.
+fn make_calls(
     rt: &impl Abort,
     alloc: Global,
-    owner: &mut Owner,
-    plain: &PlainMap,
+    random: &mut Lcg64Xsh32,
+    pair: &mut Pair,
 ) -> Result<(), Fail> {
-    for key in 0..KEYS {
-        let want = Reply::Was(plain.get(&name_of(alloc, key)?));
-        assert_eq!(rt; owner.call(Operation::Find, key, 0)?, want, "key {key}");
+    for step in 0..STEPS {
+        let which = random.next_u32() as usize % OPERATIONS.len();
+        let key = random.next_u64() % KEYS;
+        let same = pair.call(alloc, which, key, random.next_u64())?;
+        assert!(rt; same, "step {step}: operation {which} on {key}");
     }
     Ok(())
 }
@@ -224,30 +312,14 @@ fn compare(
 fn random_calls(rt: HostRuntime) -> Result<(), Fail> {
     let alloc = rt.alloc();
     let mut random = Lcg64Xsh32::new(2026, 1);
-    let mut owner = Owner::open(alloc)?;
-    let mut plain = PlainMap::new(alloc);
-
-    // Whether each operation has met an unbound key, and a bound one.
-    let mut seen = [[false; 2]; 6];
-    for step in 0..STEPS {
-        let which = random.next_u32() as usize % OPERATIONS.len();
-        let operation = OPERATIONS[which];
-        let key = random.next_u64() % KEYS;
-        let value = random.next_u64();
-        let name = name_of(alloc, key)?;
-        let want = call_plain(&mut plain, operation, &name, value)?;
-        let reply = owner.call(operation, key, value)?;
-        assert_eq!(rt; reply, want, "step {step}: {operation:?} {key}");
-        seen[which][reply.was_bound() as usize] = true;
-        if step % 500 == 0 {
-            compare(&rt, alloc, &mut owner, &plain)?;
-        }
+    let mut pair = Pair::open(alloc)?;
+    for _ in 0..20 {
+        make_calls(&rt, alloc, &mut random, &mut pair)?;
+        pair.compare(&rt, alloc)?;
     }
-    compare(&rt, alloc, &mut owner, &plain)?;
-    assert!(rt; owner.doublings > 3);
-    assert!(rt;
-        seen.iter().all(|[unbound, bound]| *unbound && *bound),
-        "seen {seen:?}"
-    );
+    assert!(rt; pair.owner.doublings > 3);
+    for seen in pair.seen {
+        assert!(rt; seen.unbound && seen.bound);
+    }
     Ok(())
 }

@@ -1,5 +1,5 @@
 //! Searches at power 8 that were worked out by hand.
-use crate::{Hop, Path, Search};
+use ck_path::{Hop, Path, Search};
 use std::process::Abort;
 use std::test::Fail;
 

@@ -2,11 +2,11 @@
 ghost use Rattle.std.specs.Prelude.{◌≢◌, ◌≤◌, ◌∷◌, [], IfOk};
 ghost use Rattle.ck_section.specs.Places.{AreAllHeld};
 
-use crate::{
+use ck_key::NumKey;
+use ck_section::{
     Hop, Pair, Several, Slice, assign, change, erase, find, insert, key_place, move_entry, update,
     update_two, upsert,
 };
-use ck_key::NumKey;
 use ck_stripe::Stripe;
 use std::alloc::{AllocError, Global};
 use std::process::Abort;

@@ -1,9 +1,9 @@
 //! Doublings that were worked out by hand.
 ghost use Rattle.std.specs.Prelude.{◌≡◌, true};
 
-use crate::Stripe;
 use ck_bucket::Bucket;
 use ck_key::NumKey;
+use ck_stripe::Stripe;
 use std::alloc::Global;
 use std::process::Abort;
 use std::test::Fail;

@@ -2,7 +2,8 @@
 ghost use Rattle.std.specs.Prelude.{◌≡◌};
 ghost use Rattle.ck_words.specs.Closing.{IsCaller};
 
-use crate::callers::{Call, NumPass, NumTable, Reply, answer, close, open};
+use crate::callers::{Call, Reply, answer};
+use crate::fixtures::{NumPass, NumTable, close, open};
 use ck_key::NumKey;
 use ck_table::Settings;
 use std::alloc::{AllocError, Global};
@@ -22,7 +23,7 @@ const KEYS: usize = 3;
 const FUND: u64 = 1000;
 
 /// What a thread does.
-#[derive(Clone, Copy, PartialEq, Eq)]
+#[derive(Clone, Copy)]
 enum Task {
     /// Binds key 1, once.
     Bind,
@@ -209,107 +210,121 @@ fn run<R: Threads + Sync>(
     }
 }
 
-/// Of two threads that bind one key, one does, and the key keeps its value.
-#[test]
-fn one_of_two(rt: HostRuntime) -> Result<(), Fail> {
-    let alloc = rt.alloc();
-    for _ in 0..200 {
-        let notes = Notes::new(alloc, 2)?;
-        let pairs = run(&rt, alloc, 2, Task::Bind, &notes)?;
-        let end = [(NumKey(1), read(&notes.fresh))];
-        assert_eq!(rt; read(&notes.wrong), 0);
-        assert_eq!(rt; notes.bound.get(1).map_or(0, read), 1);
-        assert_eq!(rt; pairs.as_slice(), end.as_slice());
+/// Whether the pairs at the end, and what the threads wrote down, are what the task allows.
+fn check_end(
+    rt: &impl Abort,
+    alloc: Global,
+    threads: u32,
+    task: Task,
+    notes: &Notes,
+    pairs: &[(NumKey, u64)],
+) -> Result<(), Fail> {
+    match task {
+        Task::Bind => check_one_bound(rt, notes, pairs),
+        Task::Add => check_sum(rt, threads, notes, pairs),
+        Task::BindAndErase => check_bound(rt, notes, pairs),
+        Task::Replace => {
+            let last = follow(rt, alloc, notes, u64::from(threads))?;
+            assert!(rt; pairs == [(NumKey(0), last)].as_slice());
+        }
+        Task::Transfer => check_transfers(rt, notes, pairs),
     }
     Ok(())
+}
+
+/// Of two threads that bind one key, one does, and the key keeps its value.
+fn check_one_bound(rt: &impl Abort, notes: &Notes, pairs: &[(NumKey, u64)]) {
+    let bound = notes.bound.get(1).map_or(0, read);
+    assert_eq!(rt; bound, 1);
+    assert!(rt; pairs == [(NumKey(1), read(&notes.fresh))].as_slice());
+}
+
+fn sum_of(pairs: &[(NumKey, u64)]) -> u64 {
+    let mut sum = 0u64;
+    for (_, value) in pairs {
+        sum = sum.wrapping_add(*value);
+    }
+    sum
 }
 
 /// Every one that was added is in the sum.
-#[test]
-fn sums(rt: HostRuntime) -> Result<(), Fail> {
-    let alloc = rt.alloc();
-    for threads in [2u32, 4, 8] {
-        let notes = Notes::new(alloc, 0)?;
-        let pairs = run(&rt, alloc, threads, Task::Add, &notes)?;
-        let mut sum = 0u64;
-        for (_, value) in &pairs {
-            sum = sum.wrapping_add(*value);
-        }
-        assert_eq!(rt; read(&notes.wrong), 0, "{threads} threads");
-        assert_eq!(rt; pairs.len(), KEYS, "{threads} threads");
-        assert_eq!(rt; sum, read(&notes.added), "{threads} threads");
-        assert!(rt; sum >= threads as u64 * CALLS / 2, "{threads} threads");
-    }
-    Ok(())
+fn check_sum(rt: &impl Abort, threads: u32, notes: &Notes, pairs: &[(NumKey, u64)]) {
+    let sum = sum_of(pairs);
+    assert_eq!(rt; pairs.len(), KEYS);
+    assert_eq!(rt; sum, read(&notes.added));
+    assert!(rt; sum >= u64::from(threads) * CALLS / 2);
 }
 
 /// What is transferred from one key to another is lost nowhere.
-#[test]
-fn transfers(rt: HostRuntime) -> Result<(), Fail> {
-    let alloc = rt.alloc();
-    for threads in [2u32, 4, 8] {
-        let notes = Notes::new(alloc, 0)?;
-        let pairs = run(&rt, alloc, threads, Task::Transfer, &notes)?;
-        let mut sum = 0u64;
-        for (_, value) in &pairs {
-            sum = sum.wrapping_add(*value);
-        }
-        assert_eq!(rt; read(&notes.wrong), 0, "{threads} threads");
-        assert_eq!(rt; pairs.len(), KEYS, "{threads} threads");
-        assert_eq!(rt; sum, KEYS as u64 * FUND, "{threads} threads");
-        assert!(rt; read(&notes.added) >= CALLS / 2, "{threads} threads");
-    }
-    Ok(())
+fn check_transfers(rt: &impl Abort, notes: &Notes, pairs: &[(NumKey, u64)]) {
+    assert_eq!(rt; pairs.len(), KEYS);
+    assert_eq!(rt; sum_of(pairs), KEYS as u64 * FUND);
+    assert!(rt; read(&notes.added) >= CALLS / 2);
+}
+
+fn is_bound(pairs: &[(NumKey, u64)], key: usize) -> bool {
+    pairs.iter().any(|pair| pair.0 == NumKey(key as u64))
 }
 
 /// A key is bound at the end exactly where it was bound once more than it was erased.
-#[test]
-fn bound_and_erased(rt: HostRuntime) -> Result<(), Fail> {
-    let alloc = rt.alloc();
-    for threads in [2u32, 4, 8] {
-        let notes = Notes::new(alloc, 0)?;
-        let pairs = run(&rt, alloc, threads, Task::BindAndErase, &notes)?;
-        assert_eq!(rt; read(&notes.wrong), 0, "{threads} threads");
-        for key in 0..KEYS {
-            let bound = notes.bound.get(key).map_or(0, read);
-            let erased = notes.erased.get(key).map_or(0, read);
-            let left = pairs.iter().any(|pair| pair.0 == NumKey(key as u64));
-            assert_eq!(rt; bound, erased.wrapping_add(left as u64), "key {key}");
-            assert!(rt; bound > 0, "key {key}");
-        }
+fn check_bound(rt: &impl Abort, notes: &Notes, pairs: &[(NumKey, u64)]) {
+    for key in 0..KEYS {
+        let bound = notes.bound.get(key).map_or(0, read);
+        let erased = notes.erased.get(key).map_or(0, read);
+        let left = is_bound(pairs, key) as u64;
+        assert_eq!(rt; bound, erased.wrapping_add(left), "key {key}");
+        assert!(rt; bound > 0, "key {key}");
     }
-    Ok(())
 }
 
-/// Follows the values from the one that was bound first, and gives the last one. Each value of each thread stands in the
-/// chain, and those of one thread in the order of its calls.
+/// Notes that the value is the thread's next one.
+fn pass_by(rt: &impl Abort, steps: &mut [u64], value: u64) {
+    assert!(rt; value > 0, "a chain that ends too soon");
+    let thread = ((value - 1) / CALLS) as usize;
+    assert!(rt; thread < steps.len(), "a value of no thread");
+    assert_eq!(rt; steps[thread], (value - 1) % CALLS);
+    steps[thread] = steps[thread].wrapping_add(1);
+}
+
+/// Follows the values from the one that was bound first, and gives the last one. The values that a key had form one chain,
+/// in which each value of each thread stands, and those of one thread in the order of its calls.
 fn follow(rt: &impl Abort, alloc: Global, notes: &Notes, threads: u64) -> Result<u64, Fail> {
     let mut steps = Vec::from_elem(alloc, 0u64, threads as usize)?;
     let mut value = 0u64;
     for _ in 0..threads.saturating_mul(CALLS) {
         value = notes.next.get(value as usize).map_or(0, read);
-        assert!(rt; value > 0, "a chain that ends too soon");
-        let thread = (value - 1) / CALLS;
-        assert!(rt; thread < threads, "a value of no thread");
-        let at = thread as usize;
-        assert_eq!(rt; steps.get(at).copied(), Some((value - 1) % CALLS));
-        if let Some(step) = steps.get_mut(at) {
-            *step = step.wrapping_add(1);
-        }
+        pass_by(rt, &mut steps, value);
     }
     Ok(value)
 }
 
-/// The values that a key had form one chain, in which no call's value is missing.
+/// So many threads do the task on a table of their own.
+fn check<R: Threads + Abort + Sync>(
+    rt: &R,
+    alloc: Global,
+    threads: u32,
+    task: Task,
+) -> Result<(), Fail> {
+    let notes = Notes::new(alloc, threads as usize)?;
+    let pairs = run(rt, alloc, threads, task, &notes)?;
+    assert_eq!(rt; read(&notes.wrong), 0, "{threads} threads");
+    check_end(rt, alloc, threads, task, &notes, &pairs)
+}
+
 #[test]
-fn chains(rt: HostRuntime) -> Result<(), Fail> {
-    let alloc = rt.alloc();
-    for threads in [2u32, 4, 8] {
-        let notes = Notes::new(alloc, threads as usize)?;
-        let pairs = run(&rt, alloc, threads, Task::Replace, &notes)?;
-        assert_eq!(rt; read(&notes.wrong), 0, "{threads} threads");
-        let last = follow(&rt, alloc, &notes, threads as u64)?;
-        assert_eq!(rt; pairs.as_slice(), [(NumKey(0), last)].as_slice());
+fn tasks(rt: HostRuntime) -> Result<(), Fail> {
+    for task in [Task::Add, Task::Transfer, Task::BindAndErase, Task::Replace] {
+        for threads in [2u32, 4, 8] {
+            check(&rt, rt.alloc(), threads, task)?;
+        }
+    }
+    Ok(())
+}
+
+#[test]
+fn one_of_two(rt: HostRuntime) -> Result<(), Fail> {
+    for _ in 0..200 {
+        check(&rt, rt.alloc(), 2, Task::Bind)?;
     }
     Ok(())
 }
@@ -322,7 +337,7 @@ fn there_and_back(rt: HostRuntime) -> Result<(), Fail> {
     let (table, mut first, second, third) = open(alloc, 4)?;
     let (shared, seen) = (&table, &notes);
     let before = answer(shared, &mut first, Call::Insert(0, 0));
-    assert_eq!(rt; before, Reply::Fresh(true));
+    assert!(rt; before == Reply::Fresh(true));
     let there = move || -> NumPass
         requires { IsCaller shared.now first }
         ensures caller { IsCaller shared.entry.now result }
@@ -331,7 +346,7 @@ fn there_and_back(rt: HostRuntime) -> Result<(), Fail> {
     let (mut first, ()) = thread::join(&rt, there, || ());
     assert_eq!(rt; read(&notes.wrong), 0);
     let after = answer(shared, &mut first, Call::Find(0));
-    assert_eq!(rt; after, Reply::Was(Some(CALLS)));
+    assert!(rt; after == Reply::Was(Some(CALLS)));
     let pairs = close(alloc, table, first, second, third)?;
     assert_eq!(rt; pairs.as_slice(), [(NumKey(0), CALLS)].as_slice());
     Ok(())

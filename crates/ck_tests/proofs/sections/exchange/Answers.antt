@@ -1,5 +1,5 @@
 use Rattle.ck_section.proofs.Kept.{has_both}
-use Rattle.ck_section.proofs.tests.exchange.Goals as goal
+use Rattle.ck_tests.proofs.sections.exchange.Goals as goal
 
 pub update_two-requires-clause-first : goal.update_two-requires-clause-first
 update_two-requires-clause-first c = rw (c.over-several.ensures, c.requires.all.held.one_s 0 c.requires.all.held.some) (has_both c.args.s c.args.stripes.now c.requires.all _ _)

@@ -1,5 +1,5 @@
 use Rattle.ck_section.proofs.Kept.{has_both, all_after}
-use Rattle.ck_section.proofs.tests.insert_and_find.Goals as goal
+use Rattle.ck_tests.proofs.sections.insert_and_find.Goals as goal
 
 pub insert-requires-clause-owned : goal.insert-requires-clause-owned
 insert-requires-clause-owned c = rw (c.over-pair.ensures, c.requires.held.one_s 0 c.requires.held.some) (has_both c.args.s c.args.stripes.now c.requires _ _)

@@ -1,6 +1,6 @@
 use Rattle.std.proofs.Common.{◌≡◌, ℕ, ◌<◌, true, length}
 use Rattle.ck_section.specs.Stripes.{stripe_at}
-use Rattle.ck_section.proofs.tests.open_all.Given as goal
+use Rattle.ck_tests.proofs.sections.open_all.Given as goal
 
 abbrev pub invariant-loop-number : goal.invariant-loop-number
 invariant-loop-number l = record {

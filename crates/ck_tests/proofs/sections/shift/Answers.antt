@@ -1,5 +1,5 @@
 use Rattle.ck_section.proofs.Kept.{has_both, all_same}
-use Rattle.ck_section.proofs.tests.shift.Goals as goal
+use Rattle.ck_tests.proofs.sections.shift.Goals as goal
 
 pub key_place-place_a-requires-clause-owned : goal.key_place-place_a-requires-clause-owned
 key_place-place_a-requires-clause-owned c = has_both c.args.s c.args.held.now.stripes.now c.requires.all _ _

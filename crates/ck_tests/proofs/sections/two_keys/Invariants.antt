@@ -1,5 +1,5 @@
 use Rattle.ck_section.specs.Places.{AreAllHeld}
-use Rattle.ck_section.proofs.tests.two_keys.Given as goal
+use Rattle.ck_tests.proofs.sections.two_keys.Given as goal
 
 abbrev pub invariant-loop-key : goal.invariant-loop-key
 invariant-loop-key g l = AreAllHeld l.s l.held.stripes.now

@@ -1,0 +1,87 @@
+//! What tests share: small tables, their passes, and names.
+ghost use Rattle.std.specs.Prelude.{◌≡◌, Some, IfOk};
+ghost use Rattle.ck_words.specs.Closing.{IsCaller};
+
+use ck_key::NumKey;
+use ck_model::history::Name;
+use ck_table::{Pass, Settings, Table};
+use std::alloc::{AllocError, Global};
+use std::collections::LinkedList;
+use std::test::Fail;
+
+pub type NumTable = Table<NumKey, u64>;
+
+pub type NumPass = Pass<NumKey, u64>;
+
+/// Two stripes of two buckets each, for three callers.
+pub const TWO_STRIPES: Settings = Settings {
+    s: 1,
+    power: 2,
+    max: 20,
+    callers: 3,
+    turns: 3,
+    rounds: 4,
+    min_load: 5,
+};
+
+/// Four stripes in 2^power buckets, for so many callers.
+pub fn four_stripes(power: u32, callers: u32) -> Settings
+    ensures { result.callers ≡ callers }
+{
+    Settings {
+        s: 2,
+        power,
+        max: 20,
+        callers,
+        turns: 8,
+        rounds: 4,
+        min_load: 5,
+    }
+}
+
+/// The name of a number key.
+pub fn name_of(alloc: Global, key: u64) -> Result<Name, AllocError> {
+    let mut name = LinkedList::new(alloc);
+    name.push_back(key)?;
+    Ok(name)
+}
+
+/// An empty table of four stripes, and the passes of its three callers.
+pub fn open(alloc: Global, power: u32) -> Result<(NumTable, NumPass, NumPass, NumPass), Fail>
+    ensures callers { IfOk result (λ r. r.0.settings.callers ≡ 3) }
+    ensures first { IfOk result (λ r. IsCaller r.0 r.1 × (r.1.view.by ≡ Some 0)) }
+    ensures second { IfOk result (λ r. IsCaller r.0 r.2 × (r.2.view.by ≡ Some 1)) }
+    ensures third { IfOk result (λ r. IsCaller r.0 r.3 × (r.3.view.by ≡ Some 2)) }
+{
+    let (table, mut passes) = NumTable::open(alloc, four_stripes(power, 3))?;
+    let Some(third) = passes.pop() else {
+        return Err(Fail::from("no third pass"));
+    };
+    let Some(second) = passes.pop() else {
+        return Err(Fail::from("no second pass"));
+    };
+    let Some(first) = passes.pop() else {
+        return Err(Fail::from("no first pass"));
+    };
+    Ok((table, first, second, third))
+}
+
+/// Ends a table of three callers, none of which is in a call, so that it is refused only for want of memory.
+pub fn close(
+    alloc: Global,
+    table: NumTable,
+    first: NumPass,
+    second: NumPass,
+    third: NumPass,
+) -> Result<Vec<(NumKey, u64)>, Fail>
+    requires callers { table.settings.callers ≡ 3 }
+    requires first { IsCaller table first × (first.view.by ≡ Some 0) }
+    requires second { IsCaller table second × (second.view.by ≡ Some 1) }
+    requires third { IsCaller table third × (third.view.by ≡ Some 2) }
+{
+    let passes = Vec::from_array(alloc, [first, second, third])?;
+    match table.close(passes) {
+        Ok(pairs) => Ok(pairs),
+        Err(_) => Err(Fail::from("a table that was not closed")),
+    }
+}
