@@ -7,8 +7,8 @@ use Rattle.std.proofs.KnownBytes.{Consumes-trans, Consumes-kept}
 use Rattle.std.proofs.lemmas.Bool.{cases_Bool, false≢true}
 use Rattle.std.proofs.lemmas.List.{append-nil}
 use Rattle.ck_script.specs.Script.{NumCommand, fault_at}
-use Rattle.ck_script.specs.declared.line.Place.{Place}
-use Rattle.ck_script.specs.declared.line.Place.TheVariants as at
+use Rattle.ck_script.specs.declared.line.Stage.{Stage}
+use Rattle.ck_script.specs.declared.line.Stage.TheVariants as at
 use Rattle.ck_script.specs.declared.script.What.TheVariants as is
 use Rattle.ck_script.specs.declared.script.ScriptFault.{ScriptFault}
 use Rattle.ck_script.specs.declared.reader.ScriptReader.{ScriptReader}
@@ -16,7 +16,8 @@ use Rattle.ck_script.specs.Lines.{IsLine, parts}
 use Rattle.ck_script.specs.Parse.{lines_before, is_complete, parse, parse_from}
 use Rattle.ck_script.specs.Spells.{AreCommands, IsScript, Spells}
 use Rattle.ck_script.specs.FirstFault.{EndsIn, StopsIn}
-use Rattle.ck_script.specs.State.{parse_rest, HasRead, HasFed, HasStopped, KeepsParse}
+use Rattle.ck_script.specs.State.{parse_rest, HasStopped}
+use Rattle.ck_script.proofs.Reading.{HasRead, HasFed, KeepsParse}
 use Rattle.ck_script.proofs.ParseFrom.{ends_well, ends_early}
 use Rattle.ck_script.proofs.Faults.{result_err-parse}
 use Rattle.ck_script.proofs.Spelling.{spelled}
@@ -38,22 +39,22 @@ length-parts bytes cs h =
     let lines = length-script h.lines cs h.script in
     ap length (ap parts h.whole ∙ parts-lines h.lines h.each) ∙ length-append h.lines ([] ∷ []) ∙ omega arith
 
-line_behind : (place : Place) (n : ℕ) (line : List ℕ) → is_complete place line ≡ true → lines_before place n + 1 ≡ n + 4
+line_behind : (stage : Stage) (n : ℕ) (line : List ℕ) → is_complete stage line ≡ true → lines_before stage n + 1 ≡ n + 4
 line_behind at.Header n line e = absurd (false≢true e)
 line_behind at.Settings n line e = absurd (false≢true e)
 line_behind at.Block n line e = absurd (false≢true e)
 line_behind at.After n line e = omega arith
 
 -- the reader's line is the one in which the bytes end
-pub ends_in : (place : Place) (cs : List NumCommand) (line : List ℕ) (n : ℕ) (bytes : List ℕ) → IsLine line → n ≡ lines_before place (length cs) + 1 → parse_from place cs line [] ≡ parse (bytes ++ []) → EndsIn bytes n
-ends_in place cs line n bytes is_line at same =
-    let whole : parse_from place cs line [] ≡ parse bytes = same ∙ ap parse (append-nil bytes) in
-    elim (cases_Bool (is_complete place line)) [
+pub ends_in : (stage : Stage) (cs : List NumCommand) (line : List ℕ) (n : ℕ) (bytes : List ℕ) → IsLine line → n ≡ lines_before stage (length cs) + 1 → parse_from stage cs line [] ≡ parse (bytes ++ []) → EndsIn bytes n
+ends_in stage cs line n bytes is_line at same =
+    let whole : parse_from stage cs line [] ≡ parse bytes = same ∙ ap parse (append-nil bytes) in
+    elim (cases_Bool (is_complete stage line)) [
       | inl all ↦
-          let read : parse bytes ≡ Ok cs = sym whole ∙ ends_well place cs line is_line all in
-          inr (sym (result_err-parse bytes) ∙ ap result_err read, at ∙ line_behind place (length cs) line all ∙ sym (length-parts bytes cs (spelled bytes cs read)))
+          let read : parse bytes ≡ Ok cs = sym whole ∙ ends_well stage cs line is_line all in
+          inr (sym (result_err-parse bytes) ∙ ap result_err read, at ∙ line_behind stage (length cs) line all ∙ sym (length-parts bytes cs (spelled bytes cs read)))
       | inr open_end ↦
-          let read : parse bytes ≡ Err (fault_at n is.Truncated) = sym whole ∙ ends_early place cs line n is_line at open_end in
+          let read : parse bytes ≡ Err (fault_at n is.Truncated) = sym whole ∙ ends_early stage cs line n is_line at open_end in
           inl (sym (result_err-parse bytes) ∙ ap result_err read)
     ]
 
@@ -73,13 +74,13 @@ HasRead-more before between now r s block read taken same = record {
 }
 
 -- the read that failed took nothing
-pub cut_in : (before between now : Option (List ℕ)) (r : ScriptReader) (n : ℕ) → IsLine r.line.items → n ≡ lines_before r.place (length r.commands.items) + 1 → HasRead before r between → Keeps between now
+pub cut_in : (before between now : Option (List ℕ)) (r : ScriptReader) (n : ℕ) → IsLine r.line.items → n ≡ lines_before r.stage (length r.commands.items) + 1 → HasRead before r between → Keeps between now
     → (bytes : List ℕ) × Consumes before now bytes × EndsIn bytes n
 cut_in before between now r n is_line at read keeps =
-    (read.bytes, Consumes-kept before between now read.bytes read.taken keeps, ends_in r.place r.commands.items r.line.items n read.bytes is_line at (read.same []))
+    (read.bytes, Consumes-kept before between now read.bytes read.taken keeps, ends_in r.stage r.commands.items r.line.items n read.bytes is_line at (read.same []))
 
 -- the reader stops where it stands
-pub HasStopped-here : (r : ScriptReader) (bytes : List ℕ) (line : ℕ) → IsLine r.line.items → line ≡ lines_before r.place (length r.commands.items) + 1 → HasStopped r bytes line
+pub HasStopped-here : (r : ScriptReader) (bytes : List ℕ) (line : ℕ) → IsLine r.line.items → line ≡ lines_before r.stage (length r.commands.items) + 1 → HasStopped r bytes line
 HasStopped-here r bytes line is_line at = record { front = []; rest = bytes; whole = refl; state = r; is_line = is_line; line_is = at; same = λ more. refl }
 
 pub HasFed-none : (r : ScriptReader) (block : List ℕ) → HasFed r block r block
@@ -127,6 +128,6 @@ StopsIn-block before between now r block line read taken at =
       front = bytes;
       rest = at.rest;
       given = subst (Consumes before now) regrouped (Consumes-trans before between now read.bytes block read.taken taken);
-      ends = ends_in at.state.place at.state.commands.items at.state.line.items line bytes at.is_line at.line_is
+      ends = ends_in at.state.stage at.state.commands.items at.state.line.items line bytes at.is_line at.line_is
           (at.same [] ∙ read.same (at.front ++ []) ∙ ap parse (sym (append_assoc read.bytes at.front [])));
     }

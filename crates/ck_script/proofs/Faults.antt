@@ -9,8 +9,8 @@ use Rattle.std.proofs.lemmas.Bool.Decides.{nat_tests}
 use Rattle.std.proofs.lemmas.List.{length-append}
 use Rattle.std.proofs.lemmas.List.Folds.{list_any-append}
 use Rattle.ck_script.specs.Script.{NumCommand, OnTextFault}
-use Rattle.ck_script.specs.declared.line.Place.{Place}
-use Rattle.ck_script.specs.declared.line.Place.TheVariants as at
+use Rattle.ck_script.specs.declared.line.Stage.{Stage}
+use Rattle.ck_script.specs.declared.line.Stage.TheVariants as at
 use Rattle.ck_script.specs.declared.script.What.{What}
 use Rattle.ck_script.specs.declared.script.What.TheVariants as is
 use Rattle.ck_script.specs.declared.script.ScriptFault.{ScriptFault}
@@ -20,32 +20,32 @@ use Rattle.ck_script.proofs.Cuts.{some_part}
 use Rattle.ck_script.proofs.Spelling.{line_law, header_step, settings_step, after_step, chosen, bind_ok, ok_line-injective}
 use Rattle.ck_script.specs.FirstFault.{is_header, is_worker, is_end, option_or, placed, line_fault, end_fault, first_fault_behind, first_fault}
 
-abbrev pub has_ended : Place → Bool
+abbrev pub has_ended : Stage → Bool
 has_ended at.After = true
-has_ended place = false
+has_ended stage = false
 
-abbrev pub has_begun : Place → Bool
+abbrev pub has_begun : Stage → Bool
 has_begun at.Header = false
 has_begun at.Settings = false
-has_begun place = true
+has_begun stage = true
 
 -- before the first block there are no commands
-abbrev pub IsEarly : Place → ℕ → Type 0
+abbrev pub IsEarly : Stage → ℕ → Type 0
 IsEarly at.Header n = n ≡ 0
 IsEarly at.Settings n = n ≡ 0
-IsEarly place n = Unit {0}
+IsEarly stage n = Unit {0}
 
--- a place, from the lines before it
-pub record Stands (place : Place) (n : ℕ) (earlier : List (List ℕ)) : Type 0 where
-  pub lines : length earlier ≡ lines_before place n
-  pub ended : list_any is_end earlier ≡ has_ended place
-  pub begun : list_any is_worker earlier ≡ has_begun place
-  pub early : IsEarly place n
+-- a stage, from the lines before it
+pub record Stands (stage : Stage) (n : ℕ) (earlier : List (List ℕ)) : Type 0 where
+  pub lines : length earlier ≡ lines_before stage n
+  pub ended : list_any is_end earlier ≡ has_ended stage
+  pub begun : list_any is_worker earlier ≡ has_begun stage
+  pub early : IsEarly stage n
 
-abbrev allowed : Place × Option NumCommand → Result (Place × Option NumCommand) What
+abbrev allowed : Stage × Option NumCommand → Result (Stage × Option NumCommand) What
 allowed s = Ok s
 
-abbrev refused : What → Result (Place × Option NumCommand) What
+abbrev refused : What → Result (Stage × Option NumCommand) What
 refused w = Err w
 
 header_table : (n : ℕ) (b c : Bool) → result_err (cond b (Err is.TooLong) (cond c (allowed (at.Settings, None)) (Err is.Header) >>= λ s. within_count n s.0 s.1)) ≡ cond b (Some is.TooLong) (cond c None (Some is.Header))
@@ -71,7 +71,7 @@ late true c = refl
 late false true = refl
 late false false = refl
 
-count_table : (b : Bool) (s : Place × Option NumCommand) → result_err (cond b (allowed s) (Err is.TooLong)) ≡ cond b None (Some is.TooLong)
+count_table : (b : Bool) (s : Stage × Option NumCommand) → result_err (cond b (allowed s) (Err is.TooLong)) ≡ cond b None (Some is.TooLong)
 count_table true s = refl
 count_table false s = refl
 
@@ -86,8 +86,8 @@ block_table n true c r = refl
 block_table n false true r = refl
 block_table n false false r = command_table n r
 
--- a line is faulty alike, seen from its place and from the lines before it
-pub same_fault : (place : Place) (n : ℕ) (earlier : List (List ℕ)) (line : List ℕ) → Stands place n earlier → result_err (line_at place n line) ≡ line_fault earlier line
+-- a line is faulty alike, seen from its stage and from the lines before it
+pub same_fault : (stage : Stage) (n : ℕ) (earlier : List (List ℕ)) (line : List ℕ) → Stands stage n earlier → result_err (line_at stage n line) ≡ line_fault earlier line
 unfolding line_at step_at line_fault
 same_fault at.Header n earlier line stands = rw (stands.lines) (header_table n (ltb 200 (length line)) (is_header line))
 same_fault at.Settings n earlier line stands = rw (stands.lines, stands.ended, stands.begun) (settings_table n (ltb 200 (length line)) (is_worker line))
@@ -103,17 +103,17 @@ or_false : (b : Bool) → (b || false) ≡ b
 or_false true = refl
 or_false false = refl
 
-stands_more : (place to : Place) (n m : ℕ) (earlier : List (List ℕ)) (line : List ℕ) → Stands place n earlier → lines_before place n + 1 ≡ lines_before to m
-    → (has_ended place || is_end line) ≡ has_ended to → (has_begun place || is_worker line) ≡ has_begun to → IsEarly to m → Stands to m (earlier ++ line ∷ [])
-stands_more place to n m earlier line stands lines ended begun early = record {
+stands_more : (stage to : Stage) (n m : ℕ) (earlier : List (List ℕ)) (line : List ℕ) → Stands stage n earlier → lines_before stage n + 1 ≡ lines_before to m
+    → (has_ended stage || is_end line) ≡ has_ended to → (has_begun stage || is_worker line) ≡ has_begun to → IsEarly to m → Stands to m (earlier ++ line ∷ [])
+stands_more stage to n m earlier line stands lines ended begun early = record {
   early = early;
   lines = length-append earlier (line ∷ []) ∙ ap (λ (k : ℕ). k + 1) stands.lines ∙ lines;
-  ended = list_any-append is_end earlier (line ∷ []) ∙ ap (λ (b : Bool). b || (is_end line || false)) stands.ended ∙ ap (λ (b : Bool). has_ended place || b) (or_false (is_end line)) ∙ ended;
-  begun = list_any-append is_worker earlier (line ∷ []) ∙ ap (λ (b : Bool). b || (is_worker line || false)) stands.begun ∙ ap (λ (b : Bool). has_begun place || b) (or_false (is_worker line)) ∙ begun;
+  ended = list_any-append is_end earlier (line ∷ []) ∙ ap (λ (b : Bool). b || (is_end line || false)) stands.ended ∙ ap (λ (b : Bool). has_ended stage || b) (or_false (is_end line)) ∙ ended;
+  begun = list_any-append is_worker earlier (line ∷ []) ∙ ap (λ (b : Bool). b || (is_worker line || false)) stands.begun ∙ ap (λ (b : Bool). has_begun stage || b) (or_false (is_worker line)) ∙ begun;
 }
 
 -- a step within a block
-block_next : (line : List ℕ) (s : Place × Option NumCommand) → step_at at.Block line ≡ Ok s
+block_next : (line : List ℕ) (s : Stage × Option NumCommand) → step_at at.Block line ≡ Ok s
     → ((is_end line ≡ true) × (s ≡ (at.After, None))) ⊎ ((c : NumCommand) × (is_end line ≡ false) × (s ≡ (at.Block, Some c)))
 unfolding step_at
 block_next line s e =
@@ -124,11 +124,11 @@ block_next line s e =
           inr (c.0, h.0, sym (ok_line-injective (at.Block, Some c.0) s c.2))
     ]
 
-abbrev Next : ℕ → List (List ℕ) → Place × Option NumCommand → Type 0
+abbrev Next : ℕ → List (List ℕ) → Stage × Option NumCommand → Type 0
 Next n earlier s = Stands s.0 (n + length (commands_of s.1)) earlier
 
--- where it is allowed, the next line stands at the place that is told
-pub next_stands : (place : Place) (n : ℕ) (earlier : List (List ℕ)) (line : List ℕ) (s : Place × Option NumCommand) → Stands place n earlier → line_at place n line ≡ Ok s
+-- where it is allowed, the next line stands at the stage that is told
+pub next_stands : (stage : Stage) (n : ℕ) (earlier : List (List ℕ)) (line : List ℕ) (s : Stage × Option NumCommand) → Stands stage n earlier → line_at stage n line ≡ Ok s
     → Stands s.0 (n + length (commands_of s.1)) (earlier ++ line ∷ [])
 next_stands at.Header n earlier line s stands e =
     let h = header_step line s (line_law at.Header n line s e) in
@@ -143,7 +143,7 @@ next_stands at.Block n earlier line s stands e =
     ]
 next_stands at.After n earlier line s stands e = absurd (after_step line s (line_law at.After n line s e))
 
-pub same_end : (place : Place) (n : ℕ) (earlier : List (List ℕ)) (rest : List ℕ) → Stands place n earlier → result_err (ending place rest) ≡ end_fault earlier rest
+pub same_end : (stage : Stage) (n : ℕ) (earlier : List (List ℕ)) (rest : List ℕ) → Stands stage n earlier → result_err (ending stage rest) ≡ end_fault earlier rest
 unfolding ending end_fault
 same_end at.Header n earlier rest stands = rw stands.ended (early (ltb 200 (length rest)))
 same_end at.Settings n earlier rest stands = rw stands.ended (early (ltb 200 (length rest)))
@@ -154,8 +154,8 @@ on_line-err : {A : Type 0} (n : ℕ) (r : Result A What) → result_err (on_line
 on_line-err n (Ok x) = refl
 on_line-err n (Err w) = refl
 
-turn_err : (n : ℕ) (r : Result (Place × Option NumCommand) What) (f : Place × Option NumCommand → Result (List NumCommand) ScriptFault) (later : Option ScriptFault)
-    → ((s : Place × Option NumCommand) → r ≡ Ok s → result_err (f s) ≡ later) → result_err (on_line n r >>= f) ≡ option_or (placed n (result_err r)) later
+turn_err : (n : ℕ) (r : Result (Stage × Option NumCommand) What) (f : Stage × Option NumCommand → Result (List NumCommand) ScriptFault) (later : Option ScriptFault)
+    → ((s : Stage × Option NumCommand) → r ≡ Ok s → result_err (f s) ≡ later) → result_err (on_line n r >>= f) ≡ option_or (placed n (result_err r)) later
 turn_err n (Ok s) f later h = h s refl
 turn_err n (Err w) f later h = refl
 
@@ -163,17 +163,17 @@ front_err : (front : List NumCommand) (r : Result (List NumCommand) ScriptFault)
 front_err front (Ok x) = refl
 front_err front (Err e) = refl
 
-pub parse_lines-fault : (place : Place) (n : ℕ) (earlier ps : List (List ℕ)) → Stands place n earlier → 0 < length ps → result_err (parse_lines place n ps) ≡ first_fault_behind earlier ps
+pub parse_lines-fault : (stage : Stage) (n : ℕ) (earlier ps : List (List ℕ)) → Stands stage n earlier → 0 < length ps → result_err (parse_lines stage n ps) ≡ first_fault_behind earlier ps
 unfolding parse_lines first_fault_behind
-parse_lines-fault place n earlier [] stands some = absurd (omega arith)
-parse_lines-fault place n earlier (rest ∷ []) stands some =
-    on_line-err (lines_before place n + 1) (ending place rest)
-    ∙ ap (λ (k : ℕ). placed (k + 1) (result_err (ending place rest))) (sym stands.lines) ∙ ap (placed (length earlier + 1)) (same_end place n earlier rest stands)
-parse_lines-fault place n earlier (line ∷ next ∷ more) stands some =
-    turn_err (lines_before place n + 1) (line_at place n line) (λ s. with_front (commands_of s.1) (parse_lines s.0 (n + length (commands_of s.1)) (next ∷ more))) (first_fault_behind (earlier ++ line ∷ []) (next ∷ more))
-    (λ s e. front_err (commands_of s.1) (parse_lines s.0 (n + length (commands_of s.1)) (next ∷ more)) ∙ parse_lines-fault s.0 (n + length (commands_of s.1)) (earlier ++ line ∷ []) (next ∷ more) (next_stands place n earlier line s stands e) (omega arith))
-    ∙ ap (λ (k : ℕ). option_or (placed (k + 1) (result_err (line_at place n line))) (first_fault_behind (earlier ++ line ∷ []) (next ∷ more))) (sym stands.lines)
-    ∙ ap (λ (w : Option What). option_or (placed (length earlier + 1) w) (first_fault_behind (earlier ++ line ∷ []) (next ∷ more))) (same_fault place n earlier line stands)
+parse_lines-fault stage n earlier [] stands some = absurd (omega arith)
+parse_lines-fault stage n earlier (rest ∷ []) stands some =
+    on_line-err (lines_before stage n + 1) (ending stage rest)
+    ∙ ap (λ (k : ℕ). placed (k + 1) (result_err (ending stage rest))) (sym stands.lines) ∙ ap (placed (length earlier + 1)) (same_end stage n earlier rest stands)
+parse_lines-fault stage n earlier (line ∷ next ∷ more) stands some =
+    turn_err (lines_before stage n + 1) (line_at stage n line) (λ s. with_front (commands_of s.1) (parse_lines s.0 (n + length (commands_of s.1)) (next ∷ more))) (first_fault_behind (earlier ++ line ∷ []) (next ∷ more))
+    (λ s e. front_err (commands_of s.1) (parse_lines s.0 (n + length (commands_of s.1)) (next ∷ more)) ∙ parse_lines-fault s.0 (n + length (commands_of s.1)) (earlier ++ line ∷ []) (next ∷ more) (next_stands stage n earlier line s stands e) (omega arith))
+    ∙ ap (λ (k : ℕ). option_or (placed (k + 1) (result_err (line_at stage n line))) (first_fault_behind (earlier ++ line ∷ []) (next ∷ more))) (sym stands.lines)
+    ∙ ap (λ (w : Option What). option_or (placed (length earlier + 1) w) (first_fault_behind (earlier ++ line ∷ []) (next ∷ more))) (same_fault stage n earlier line stands)
 
 -- the fault of all of the bytes
 pub result_err-parse : (bytes : List ℕ) → result_err (parse bytes) ≡ first_fault bytes

@@ -9,4 +9,5 @@ pub mod OneWorker
 pub mod Writing
 pub mod Progress
 pub mod Spelled
+pub mod Reading
 pub mod Ends

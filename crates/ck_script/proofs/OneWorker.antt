@@ -1,5 +1,5 @@
 -- A table of one caller, and what its worker's entries make of the output.
-use Rattle.std.proofs.Common.{Result, Ok, Err, map, ◌≡◌, ℕ, List, [], ◌∷◌, set, Some, All, inl, sym, refl, ap, ◌∙◌, subst, arith}
+use Rattle.std.proofs.Common.{Result, Ok, Err, map, ◌≡◌, ℕ, List, [], ◌∷◌, set, Some, All, inl, refl, ap, ◌∙◌, subst, arith}
 use Rattle.std.specs.Prelude.{IfOk, unwrap_or, slice_index_or, Option}
 use Rattle.std.specs.Ordering.{nat_cmp}
 use Rattle.ck_model.specs.declared.history.Entry.{Entry}

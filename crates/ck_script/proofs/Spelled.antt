@@ -14,15 +14,15 @@ use Rattle.std.proofs.lemmas.List.Splits.{slice_split_at}
 use Rattle.ck_key.specs.declared.num_key.NumKey.{NumKey}
 use Rattle.ck_script.specs.Script.{NumCommand}
 use Rattle.ck_script.specs.declared.script.Command.TheVariants.{Find, Has, Insert, Assign, Update, Add, Erase}
-use Rattle.ck_script.specs.declared.line.Place.{Place}
-use Rattle.ck_script.specs.declared.line.Place.TheVariants as at
+use Rattle.ck_script.specs.declared.line.Stage.{Stage}
+use Rattle.ck_script.specs.declared.line.Stage.TheVariants as at
 use Rattle.ck_script.specs.declared.script.What.{What}
 use Rattle.ck_script.specs.declared.script.What.TheVariants as is
 use Rattle.ck_script.specs.declared.script.ScriptFault.{ScriptFault}
 use Rattle.ck_script.specs.Words.{words, number_at, begins_as_number, IsNumber}
-use Rattle.ck_script.specs.Lines.{IsLine, ◌>>=◌, number_or_fault, pair_or_fault, key_command, pair_command, command_in, command_at, parts, is_feed}
+use Rattle.ck_script.specs.Lines.{with_feed, IsLine, ◌>>=◌, number_or_fault, pair_or_fault, key_command, pair_command, command_in, command_at, parts, is_feed}
 use Rattle.ck_script.specs.Parse.{commands_of, within_count, line_at, ending, with_front, parse_lines, parse, step_at}
-use Rattle.ck_script.specs.Spells.{AreNameAndKey, AreNameAndPair, IsCommand, AreCommands, IsScript, with_feed, Spells}
+use Rattle.ck_script.specs.Spells.{AreNameAndKey, AreNameAndPair, IsCommand, AreCommands, IsScript, Spells}
 use Rattle.ck_script.specs.FirstFault.{first_fault}
 use Rattle.ck_script.proofs.ParseFrom.{line_is, parse_lines-line}
 use Rattle.ck_script.proofs.Spelling.{same_bytes, spelled}
@@ -95,12 +95,12 @@ unfolding step_at
 step_at-worker line e = rw e refl
 
 -- an allowed line, and then the others
-parse_lines-step : (place to : Place) (n : ℕ) (line : List ℕ) (c : Option NumCommand) (lines : List (List ℕ)) → IsLine line → step_at place line ≡ Ok (to, c) → within_count n to c ≡ Ok (to, c)
-    → parse_lines place n (line ∷ (lines ++ [] ∷ [])) ≡ with_front (commands_of c) (parse_lines to (n + length (commands_of c)) (lines ++ [] ∷ []))
-parse_lines-step place to n line c lines ok steps fits =
-    let allowed : line_at place n line ≡ Ok (to, c) = line_is place n line ok.short ∙ ap (λ (r : Result (Place × Option NumCommand) What). r >>= λ s. within_count n s.0 s.1) steps ∙ fits in
+parse_lines-step : (stage to : Stage) (n : ℕ) (line : List ℕ) (c : Option NumCommand) (lines : List (List ℕ)) → IsLine line → step_at stage line ≡ Ok (to, c) → within_count n to c ≡ Ok (to, c)
+    → parse_lines stage n (line ∷ (lines ++ [] ∷ [])) ≡ with_front (commands_of c) (parse_lines to (n + length (commands_of c)) (lines ++ [] ∷ []))
+parse_lines-step stage to n line c lines ok steps fits =
+    let allowed : line_at stage n line ≡ Ok (to, c) = line_is stage n line ok.short ∙ ap (λ (r : Result (Stage × Option NumCommand) What). r >>= λ s. within_count n s.0 s.1) steps ∙ fits in
     let some : 0 < length (lines ++ [] ∷ []) = omega (arith, length-append lines ([] ∷ [])) in
-    parse_lines-line place n line (lines ++ [] ∷ []) some ∙ rw allowed refl
+    parse_lines-line stage n line (lines ++ [] ∷ []) some ∙ rw allowed refl
 
 parse_lines-after : (n : ℕ) → parse_lines at.After n ([] ∷ []) ≡ Ok []
 unfolding parse_lines ending

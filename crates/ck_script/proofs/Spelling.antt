@@ -15,15 +15,15 @@ use Rattle.std.proofs.lemmas.Slice.Eq.{bytes_eq-Decides}
 use Rattle.ck_key.specs.declared.num_key.NumKey.{NumKey}
 use Rattle.ck_script.specs.Script.{NumCommand, key_of}
 use Rattle.ck_script.specs.declared.script.Command.TheVariants.{Find, Has, Insert, Assign, Update, Add, Erase}
-use Rattle.ck_script.specs.declared.line.Place.{Place}
-use Rattle.ck_script.specs.declared.line.Place.TheVariants as at
+use Rattle.ck_script.specs.declared.line.Stage.{Stage}
+use Rattle.ck_script.specs.declared.line.Stage.TheVariants as at
 use Rattle.ck_script.specs.declared.script.What.{What}
 use Rattle.ck_script.specs.declared.script.What.TheVariants as is
 use Rattle.ck_script.specs.declared.script.ScriptFault.{ScriptFault}
 use Rattle.ck_script.specs.Words.{words, number_at, begins_as_number, IsNumber}
-use Rattle.ck_script.specs.Lines.{IsLine, ◌>>=◌, number_or_fault, pair_or_fault, key_command, pair_command, with_key, with_pair, command_in, command_at, parts, is_feed}
+use Rattle.ck_script.specs.Lines.{with_feed, IsLine, ◌>>=◌, number_or_fault, pair_or_fault, key_command, pair_command, with_key, with_pair, command_in, command_at, parts, is_feed}
 use Rattle.ck_script.specs.Parse.{lines_before, commands_of, within_count, IsParsed, line_at, ending, on_line, with_front, parse_lines, parse, step_at, is_complete}
-use Rattle.ck_script.specs.Spells.{IsCommand, AreCommands, IsScript, with_feed, Spells}
+use Rattle.ck_script.specs.Spells.{IsCommand, AreCommands, IsScript, Spells}
 
 pub bind_ok : {A B E : Type 0} (r : Result A E) (f : A → Result B E) (y : B) → (r >>= f) ≡ Ok y → (x : A) × (r ≡ Ok x) × (f x ≡ Ok y)
 bind_ok (Ok x) f y e = (x, refl, e)
@@ -152,7 +152,7 @@ command_law (name ∷ key ∷ value ∷ []) c e =
     (pair_command_law name key value (key_of p.0.0) p.0.1 (pair_law key value p.0 p.1) f.0 (or_ok (pair_command name) is.Command f.0 f.1))
 command_law (a ∷ b ∷ c ∷ d ∷ ws) x e = absurd cc
 
-count_is : (n : ℕ) (t s : Place × Option NumCommand) → within_count n t.0 t.1 ≡ Ok s → t ≡ s
+count_is : (n : ℕ) (t s : Stage × Option NumCommand) → within_count n t.0 t.1 ≡ Ok s → t ≡ s
 count_is n (p, None) s e = ok_line-injective (p, None) s e
 count_is n (p, Some c) s e =
     elim (chosen (ltb n 1000000) (Ok (p, Some c)) (Err is.TooLong) (Ok s) e) [
@@ -161,36 +161,36 @@ count_is n (p, Some c) s e =
     ]
 
 -- a line that is read is allowed
-pub line_law : (place : Place) (n : ℕ) (line : List ℕ) (s : Place × Option NumCommand) → line_at place n line ≡ Ok s → step_at place line ≡ Ok s
+pub line_law : (stage : Stage) (n : ℕ) (line : List ℕ) (s : Stage × Option NumCommand) → line_at stage n line ≡ Ok s → step_at stage line ≡ Ok s
 unfolding line_at
-line_law place n line s e =
-    let g = guard_ok (ltb 200 (length line)) is.TooLong (step_at place line >>= λ s. within_count n s.0 s.1) s e in
-    let t = bind_ok (step_at place line) (λ s. within_count n s.0 s.1) s g.1 in
+line_law stage n line s e =
+    let g = guard_ok (ltb 200 (length line)) is.TooLong (step_at stage line >>= λ s. within_count n s.0 s.1) s e in
+    let t = bind_ok (step_at stage line) (λ s. within_count n s.0 s.1) s g.1 in
     t.1 ∙ ap Ok (count_is n t.0 s t.2)
 
 front_ok : (front : List NumCommand) (r : Result (List NumCommand) ScriptFault) (cs : List NumCommand) → with_front front r ≡ Ok cs → (more : List NumCommand) × (r ≡ Ok more) × (cs ≡ front ++ more)
 front_ok front r cs e = let b = bind_ok r (λ more. Ok (front ++ more)) cs e in (b.0, b.1, sym (ok_script-injective (front ++ b.0) cs b.2))
 
 -- one line, and what is read of the others
-turn_at : (place : Place) (n : ℕ) (line next : List ℕ) (more : List (List ℕ)) (cs : List NumCommand) → parse_lines place n (line ∷ next ∷ more) ≡ Ok cs
-    → (s : Place × Option NumCommand) × (line_at place n line ≡ Ok s) × (after : List NumCommand) × (parse_lines s.0 (n + length (commands_of s.1)) (next ∷ more) ≡ Ok after) × (cs ≡ commands_of s.1 ++ after)
+turn_at : (stage : Stage) (n : ℕ) (line next : List ℕ) (more : List (List ℕ)) (cs : List NumCommand) → parse_lines stage n (line ∷ next ∷ more) ≡ Ok cs
+    → (s : Stage × Option NumCommand) × (line_at stage n line ≡ Ok s) × (after : List NumCommand) × (parse_lines s.0 (n + length (commands_of s.1)) (next ∷ more) ≡ Ok after) × (cs ≡ commands_of s.1 ++ after)
 unfolding parse_lines
-turn_at place n line next more cs e =
-    let b = bind_ok (on_line (lines_before place n + 1) (line_at place n line)) (λ s. with_front (commands_of s.1) (parse_lines s.0 (n + length (commands_of s.1)) (next ∷ more))) cs e in
+turn_at stage n line next more cs e =
+    let b = bind_ok (on_line (lines_before stage n + 1) (line_at stage n line)) (λ s. with_front (commands_of s.1) (parse_lines s.0 (n + length (commands_of s.1)) (next ∷ more))) cs e in
     let f = front_ok (commands_of b.0.1) (parse_lines b.0.0 (n + length (commands_of b.0.1)) (next ∷ more)) cs b.2 in
-    (b.0, on_line-ok _ (line_at place n line) b.0 b.1, f.0, f.1, f.2)
+    (b.0, on_line-ok _ (line_at stage n line) b.0 b.1, f.0, f.1, f.2)
 
-turn : (place : Place) (n : ℕ) (line next : List ℕ) (more : List (List ℕ)) (cs : List NumCommand) → parse_lines place n (line ∷ next ∷ more) ≡ Ok cs
-    → (s : Place × Option NumCommand) × (step_at place line ≡ Ok s) × (after : List NumCommand) × (parse_lines s.0 (n + length (commands_of s.1)) (next ∷ more) ≡ Ok after) × (cs ≡ commands_of s.1 ++ after)
-turn place n line next more cs e = let t = turn_at place n line next more cs e in (t.0, line_law place n line t.0 t.1, t.2, t.3, t.4)
+turn : (stage : Stage) (n : ℕ) (line next : List ℕ) (more : List (List ℕ)) (cs : List NumCommand) → parse_lines stage n (line ∷ next ∷ more) ≡ Ok cs
+    → (s : Stage × Option NumCommand) × (step_at stage line ≡ Ok s) × (after : List NumCommand) × (parse_lines s.0 (n + length (commands_of s.1)) (next ∷ more) ≡ Ok after) × (cs ≡ commands_of s.1 ++ after)
+turn stage n line next more cs e = let t = turn_at stage n line next more cs e in (t.0, line_law stage n line t.0 t.1, t.2, t.3, t.4)
 
-last_ok : (place : Place) (n : ℕ) (rest : List ℕ) (cs : List NumCommand) → parse_lines place n (rest ∷ []) ≡ Ok cs → ending place rest ≡ Ok cs
+last_ok : (stage : Stage) (n : ℕ) (rest : List ℕ) (cs : List NumCommand) → parse_lines stage n (rest ∷ []) ≡ Ok cs → ending stage rest ≡ Ok cs
 unfolding parse_lines
-last_ok place n rest cs e = on_line-ok _ (ending place rest) cs e
+last_ok stage n rest cs e = on_line-ok _ (ending stage rest) cs e
 
-nothing : (place : Place) (n : ℕ) (cs : List NumCommand) → parse_lines place n [] ≡ Ok cs → ⊥
+nothing : (stage : Stage) (n : ℕ) (cs : List NumCommand) → parse_lines stage n [] ≡ Ok cs → ⊥
 unfolding parse_lines
-nothing place n cs e = absurd cc
+nothing stage n cs e = absurd cc
 
 block_ending : (rest : List ℕ) (cs : List NumCommand) → ending at.Block rest ≡ Ok cs → ⊥
 unfolding ending
@@ -205,11 +205,11 @@ after_ending rest cs e =
       | inr h ↦ absurd cc
     ]
 
-pub after_step : (line : List ℕ) (s : Place × Option NumCommand) → step_at at.After line ≡ Ok s → ⊥
+pub after_step : (line : List ℕ) (s : Stage × Option NumCommand) → step_at at.After line ≡ Ok s → ⊥
 unfolding step_at
 after_step line s e = absurd cc
 
-pub block_step : (line : List ℕ) (s : Place × Option NumCommand) → step_at at.Block line ≡ Ok s
+pub block_step : (line : List ℕ) (s : Stage × Option NumCommand) → step_at at.Block line ≡ Ok s
     → ((line ≡ codes "end") × (s ≡ (at.After, None))) ⊎ ((c : NumCommand) × IsCommand (words line) c × (s ≡ (at.Block, Some c)))
 unfolding step_at command_at
 block_step line s e =
@@ -240,13 +240,13 @@ block_law n (line ∷ next ∷ more) cs e =
     let t = turn at.Block n line next more cs e in
     elim (block_step line t.0 t.1) [
       | inl h ↦
-          let e2 : parse_lines at.After (n + 0) (next ∷ more) ≡ Ok t.2 = subst (λ (s : Place × Option NumCommand). parse_lines s.0 (n + length (commands_of s.1)) (next ∷ more) ≡ Ok t.2) h.1 t.3 in
+          let e2 : parse_lines at.After (n + 0) (next ∷ more) ≡ Ok t.2 = subst (λ (s : Stage × Option NumCommand). parse_lines s.0 (n + length (commands_of s.1)) (next ∷ more) ≡ Ok t.2) h.1 t.3 in
           let a = after_law (n + 0) (next ∷ more) t.2 e2 in
-          let none : cs ≡ [] = t.4 ∙ ap (λ (s : Place × Option NumCommand). commands_of s.1 ++ t.2) h.1 ∙ a.1 in
+          let none : cs ≡ [] = t.4 ∙ ap (λ (s : Stage × Option NumCommand). commands_of s.1 ++ t.2) h.1 ∙ a.1 in
           subst (Behind (line ∷ next ∷ more)) (sym none) (line ∷ [], ap (λ (x : List (List ℕ)). line ∷ x) a.0, h.0)
       | inr h ↦
-          let e2 : parse_lines at.Block (n + 1) (next ∷ more) ≡ Ok t.2 = subst (λ (s : Place × Option NumCommand). parse_lines s.0 (n + length (commands_of s.1)) (next ∷ more) ≡ Ok t.2) h.2 t.3 in
-          let all : cs ≡ h.0 ∷ t.2 = t.4 ∙ ap (λ (s : Place × Option NumCommand). commands_of s.1 ++ t.2) h.2 in
+          let e2 : parse_lines at.Block (n + 1) (next ∷ more) ≡ Ok t.2 = subst (λ (s : Stage × Option NumCommand). parse_lines s.0 (n + length (commands_of s.1)) (next ∷ more) ≡ Ok t.2) h.2 t.3 in
+          let all : cs ≡ h.0 ∷ t.2 = t.4 ∙ ap (λ (s : Stage × Option NumCommand). commands_of s.1 ++ t.2) h.2 in
           subst (Behind (line ∷ next ∷ more)) (sym all) (more_commands line (next ∷ more) h.0 t.2 h.1 (block_law (n + 1) (next ∷ more) t.2 e2))
     ]
 
@@ -254,7 +254,7 @@ head_ending : (rest : List ℕ) (cs : List NumCommand) → (ending at.Header res
 unfolding ending
 head_ending rest cs = (block_ending rest cs, block_ending rest cs)
 
-pub header_step : (line : List ℕ) (s : Place × Option NumCommand) → step_at at.Header line ≡ Ok s → (line ≡ codes "cuckoo 1") × (s ≡ (at.Settings, None))
+pub header_step : (line : List ℕ) (s : Stage × Option NumCommand) → step_at at.Header line ≡ Ok s → (line ≡ codes "cuckoo 1") × (s ≡ (at.Settings, None))
 unfolding step_at
 header_step line s e =
     elim (chosen (bytes_eq line (codes "cuckoo 1")) (Ok (at.Settings, None)) (Err is.Header) (Ok s) e) [
@@ -262,7 +262,7 @@ header_step line s e =
       | inr h ↦ absurd cc
     ]
 
-pub settings_step : (line : List ℕ) (s : Place × Option NumCommand) → step_at at.Settings line ≡ Ok s → (line ≡ codes "worker") × (s ≡ (at.Block, None))
+pub settings_step : (line : List ℕ) (s : Stage × Option NumCommand) → step_at at.Settings line ≡ Ok s → (line ≡ codes "worker") × (s ≡ (at.Block, None))
 unfolding step_at
 settings_step line s e =
     elim (chosen (bytes_eq line (codes "worker")) (Ok (at.Block, None)) (Err is.Command) (Ok s) e) [
@@ -279,8 +279,8 @@ settings_law n (rest ∷ []) cs e = absurd ((head_ending rest cs).1 (last_ok at.
 settings_law n (line ∷ next ∷ more) cs e =
     let t = turn at.Settings n line next more cs e in
     let h = settings_step line t.0 t.1 in
-    let e2 : parse_lines at.Block (n + 0) (next ∷ more) ≡ Ok t.2 = subst (λ (s : Place × Option NumCommand). parse_lines s.0 (n + length (commands_of s.1)) (next ∷ more) ≡ Ok t.2) h.1 t.3 in
-    let all : cs ≡ t.2 = t.4 ∙ ap (λ (s : Place × Option NumCommand). commands_of s.1 ++ t.2) h.1 in
+    let e2 : parse_lines at.Block (n + 0) (next ∷ more) ≡ Ok t.2 = subst (λ (s : Stage × Option NumCommand). parse_lines s.0 (n + length (commands_of s.1)) (next ∷ more) ≡ Ok t.2) h.1 t.3 in
+    let all : cs ≡ t.2 = t.4 ∙ ap (λ (s : Stage × Option NumCommand). commands_of s.1 ++ t.2) h.1 in
     let b = block_law (n + 0) (next ∷ more) t.2 e2 in
     subst (Started (line ∷ next ∷ more)) (sym all) (line, b.0, ap (λ (x : List (List ℕ)). line ∷ x) b.1, h.0, b.2)
 
@@ -298,34 +298,34 @@ header_law n (rest ∷ []) cs e = absurd ((head_ending rest cs).0 (last_ok at.He
 header_law n (line ∷ next ∷ more) cs e =
     let t = turn at.Header n line next more cs e in
     let h = header_step line t.0 t.1 in
-    let e2 : parse_lines at.Settings (n + 0) (next ∷ more) ≡ Ok t.2 = subst (λ (s : Place × Option NumCommand). parse_lines s.0 (n + length (commands_of s.1)) (next ∷ more) ≡ Ok t.2) h.1 t.3 in
-    let all : cs ≡ t.2 = t.4 ∙ ap (λ (s : Place × Option NumCommand). commands_of s.1 ++ t.2) h.1 in
+    let e2 : parse_lines at.Settings (n + 0) (next ∷ more) ≡ Ok t.2 = subst (λ (s : Stage × Option NumCommand). parse_lines s.0 (n + length (commands_of s.1)) (next ∷ more) ≡ Ok t.2) h.1 t.3 in
+    let all : cs ≡ t.2 = t.4 ∙ ap (λ (s : Stage × Option NumCommand). commands_of s.1 ++ t.2) h.1 in
     let b = settings_law (n + 0) (next ∷ more) t.2 e2 in
     subst (Whole (line ∷ next ∷ more)) (sym all) (line ∷ b.0 ∷ b.1, ap (λ (x : List (List ℕ)). line ∷ x) b.2, (h.0, b.3, b.4))
 
 -- a line that is read is short
-line_short : (place : Place) (n : ℕ) (line : List ℕ) (s : Place × Option NumCommand) → line_at place n line ≡ Ok s → length line ≤ 200
+line_short : (stage : Stage) (n : ℕ) (line : List ℕ) (s : Stage × Option NumCommand) → line_at stage n line ≡ Ok s → length line ≤ 200
 unfolding line_at
-line_short place n line s e = ltb-false 200 (length line) (guard_ok (ltb 200 (length line)) is.TooLong (step_at place line >>= λ s. within_count n s.0 s.1) s e).0
+line_short stage n line s e = ltb-false 200 (length line) (guard_ok (ltb 200 (length line)) is.TooLong (step_at stage line >>= λ s. within_count n s.0 s.1) s e).0
 
-ending_short : (place : Place) (rest : List ℕ) (cs : List NumCommand) → ending place rest ≡ Ok cs → length rest ≤ 200
+ending_short : (stage : Stage) (rest : List ℕ) (cs : List NumCommand) → ending stage rest ≡ Ok cs → length rest ≤ 200
 unfolding ending
-ending_short place rest cs e = ltb-false 200 (length rest) (guard_ok (ltb 200 (length rest)) is.TooLong (cond (is_complete place rest) (Ok []) (Err is.Truncated)) cs e).0
+ending_short stage rest cs e = ltb-false 200 (length rest) (guard_ok (ltb 200 (length rest)) is.TooLong (cond (is_complete stage rest) (Ok []) (Err is.Truncated)) cs e).0
 
 abbrev IsShort : List ℕ → Type 0
 IsShort line = length line ≤ 200
 
-parts_short : (place : Place) (n : ℕ) (ps : List (List ℕ)) (cs : List NumCommand) → parse_lines place n ps ≡ Ok cs → All IsShort ps
-parts_short place n [] cs e = absurd (nothing place n cs e)
-parts_short place n (rest ∷ []) cs e = All-cons IsShort rest [] (ending_short place rest cs (last_ok place n rest cs e)) (All-nil IsShort)
-parts_short place n (line ∷ next ∷ more) cs e =
-    let t = turn_at place n line next more cs e in
-    All-cons IsShort line (next ∷ more) (line_short place n line t.0 t.1) (parts_short t.0.0 (n + length (commands_of t.0.1)) (next ∷ more) t.2 t.3)
+parts_short : (stage : Stage) (n : ℕ) (ps : List (List ℕ)) (cs : List NumCommand) → parse_lines stage n ps ≡ Ok cs → All IsShort ps
+parts_short stage n [] cs e = absurd (nothing stage n cs e)
+parts_short stage n (rest ∷ []) cs e = All-cons IsShort rest [] (ending_short stage rest cs (last_ok stage n rest cs e)) (All-nil IsShort)
+parts_short stage n (line ∷ next ∷ more) cs e =
+    let t = turn_at stage n line next more cs e in
+    All-cons IsShort line (next ∷ more) (line_short stage n line t.0 t.1) (parts_short t.0.0 (n + length (commands_of t.0.1)) (next ∷ more) t.2 t.3)
 
-abbrev Within : ℕ → Place × Option NumCommand → Type 0
+abbrev Within : ℕ → Stage × Option NumCommand → Type 0
 Within n s = n + length (commands_of s.1) ≤ 1000000
 
-within_few : (n : ℕ) (t s : Place × Option NumCommand) → within_count n t.0 t.1 ≡ Ok s → n ≤ 1000000 → Within n s
+within_few : (n : ℕ) (t s : Stage × Option NumCommand) → within_count n t.0 t.1 ≡ Ok s → n ≤ 1000000 → Within n s
 within_few n (p, None) s e few = subst (Within n) (ok_line-injective (p, None) s e) (omega arith)
 within_few n (p, Some c) s e few =
     elim (chosen (ltb n 1000000) (Ok (p, Some c)) (Err is.TooLong) (Ok s) e) [
@@ -333,26 +333,26 @@ within_few n (p, Some c) s e few =
       | inr h ↦ absurd cc
     ]
 
-line_few : (place : Place) (n : ℕ) (line : List ℕ) (s : Place × Option NumCommand) → line_at place n line ≡ Ok s → n ≤ 1000000 → Within n s
+line_few : (stage : Stage) (n : ℕ) (line : List ℕ) (s : Stage × Option NumCommand) → line_at stage n line ≡ Ok s → n ≤ 1000000 → Within n s
 unfolding line_at
-line_few place n line s e few =
-    let g = guard_ok (ltb 200 (length line)) is.TooLong (step_at place line >>= λ s. within_count n s.0 s.1) s e in
-    let t = bind_ok (step_at place line) (λ s. within_count n s.0 s.1) s g.1 in
+line_few stage n line s e few =
+    let g = guard_ok (ltb 200 (length line)) is.TooLong (step_at stage line >>= λ s. within_count n s.0 s.1) s e in
+    let t = bind_ok (step_at stage line) (λ s. within_count n s.0 s.1) s g.1 in
     within_few n t.0 s t.2 few
 
-ending_none : (place : Place) (rest : List ℕ) (cs : List NumCommand) → ending place rest ≡ Ok cs → cs ≡ []
+ending_none : (stage : Stage) (rest : List ℕ) (cs : List NumCommand) → ending stage rest ≡ Ok cs → cs ≡ []
 ending_none at.Header rest cs e = absurd ((head_ending rest cs).0 e)
 ending_none at.Settings rest cs e = absurd ((head_ending rest cs).1 e)
 ending_none at.Block rest cs e = absurd (block_ending rest cs e)
 ending_none at.After rest cs e = (after_ending rest cs e).1
 
 -- what is read has at most 1,000,000 commands
-parse_lines-few : (place : Place) (n : ℕ) (ps : List (List ℕ)) (cs : List NumCommand) → parse_lines place n ps ≡ Ok cs → n ≤ 1000000 → n + length cs ≤ 1000000
-parse_lines-few place n [] cs e few = absurd (nothing place n cs e)
-parse_lines-few place n (rest ∷ []) cs e few = rw (ending_none place rest cs (last_ok place n rest cs e)) (omega arith)
-parse_lines-few place n (line ∷ next ∷ more) cs e few =
-    let t = turn_at place n line next more cs e in
-    let fits = line_few place n line t.0 t.1 few in
+parse_lines-few : (stage : Stage) (n : ℕ) (ps : List (List ℕ)) (cs : List NumCommand) → parse_lines stage n ps ≡ Ok cs → n ≤ 1000000 → n + length cs ≤ 1000000
+parse_lines-few stage n [] cs e few = absurd (nothing stage n cs e)
+parse_lines-few stage n (rest ∷ []) cs e few = rw (ending_none stage rest cs (last_ok stage n rest cs e)) (omega arith)
+parse_lines-few stage n (line ∷ next ∷ more) cs e few =
+    let t = turn_at stage n line next more cs e in
+    let fits = line_few stage n line t.0 t.1 few in
     let later = parse_lines-few t.0.0 (n + length (commands_of t.0.1)) (next ∷ more) t.2 t.3 fits in
     rw (t.4, length-append (commands_of t.0.1) t.2) (omega arith)
 

@@ -1,5 +1,5 @@
 -- The lines of an input, and the command that a line is, or what is wrong with it.
-use Rattle.std.specs.Prelude.{All, ◌≡◌, false, ℕ, ◌≤◌, List, [], ◌∷◌, length, Option, Some, None, Result, Ok, Err, Bool, ◌||◌, ◌==◌, if◌then◌else◌, codes}
+use Rattle.std.specs.Prelude.{All, ◌≡◌, false, ℕ, ◌≤◌, List, [], ◌∷◌, ◌++◌, length, Option, Some, None, Result, Ok, Err, Bool, ◌||◌, ◌==◌, if◌then◌else◌, codes}
 use Rattle.std.specs.List.{slice_split}
 use Rattle.std.specs.Option.{ok_or}
 use Rattle.std.specs.Str.{bytes_eq}
@@ -16,6 +16,10 @@ is_feed b = b == 10
 -- the parts of an input between its line feeds; the last one is ended by none
 abbrev pub parts : List ℕ → List (List ℕ)
 parts bytes = slice_split is_feed bytes
+
+-- a line and its line feed
+abbrev pub with_feed : List ℕ → List ℕ
+with_feed line = line ++ 10 ∷ []
 
 -- a line without its line feed: it has no other, and at most 200 bytes
 pub record IsLine (line : List ℕ) : Type 0 where

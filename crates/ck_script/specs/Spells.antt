@@ -1,11 +1,11 @@
 -- The grammar of scripts: a script is a list of lines, each ended by a line feed.
-use Rattle.std.specs.Prelude.{All, length, ◌≤◌, ◌≡◌, ℕ, List, [], ◌∷◌, ◌++◌, codes}
+use Rattle.std.specs.Prelude.{All, length, ◌≤◌, ◌≡◌, ℕ, List, [], ◌∷◌, codes}
 use Rattle.std.specs.List.{flat_map}
 use Rattle.ck_key.specs.declared.num_key.NumKey.{NumKey}
 use Rattle.ck_script.specs.Script.{NumCommand}
 use Rattle.ck_script.specs.declared.script.Command.TheVariants.{Find, Has, Insert, Assign, Update, Add, Erase}
 use Rattle.ck_script.specs.Words.{words, IsNumber}
-use Rattle.ck_script.specs.Lines.{IsLine}
+use Rattle.ck_script.specs.Lines.{IsLine, with_feed}
 
 -- the words are this name and a key
 abbrev pub AreNameAndKey : List ℕ → List (List ℕ) → NumKey → Type 0
@@ -37,10 +37,6 @@ AreCommands lines cs = ⊥
 abbrev pub IsScript : List (List ℕ) → List NumCommand → Type 0
 IsScript (header ∷ worker ∷ lines) cs = (header ≡ codes "cuckoo 1") × (worker ≡ codes "worker") × AreCommands lines cs
 IsScript lines cs = ⊥
-
--- a line and its line feed
-abbrev pub with_feed : List ℕ → List ℕ
-with_feed line = line ++ 10 ∷ []
 
 -- the bytes are a script with these commands, at most 1,000,000
 pub record Spells (bytes : List ℕ) (commands : List NumCommand) : Type 0 where

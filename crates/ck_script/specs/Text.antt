@@ -2,12 +2,9 @@
 use Rattle.std.specs.Prelude.{ℕ, ◌+◌, List, [], ◌∷◌, ◌++◌, codes, flat_map}
 use Rattle.std.specs.Fmt.{decimal}
 use Rattle.ck_model.specs.Map.{Name}
+use Rattle.ck_script.specs.Lines.{with_feed}
 use Rattle.ck_script.specs.declared.answer.Answer.{Answer}
 use Rattle.ck_script.specs.declared.answer.Answer.TheVariants.{Value, Absent, Yes, No, New, Old, Set, Gone, Busy, Memory, Full, Load}
-
--- a line and its line feed
-abbrev pub line : List ℕ → List ℕ
-line text = text ++ 10 ∷ []
 
 -- a number's name is the list of the number alone
 abbrev pub name_text : Name → List ℕ
@@ -30,7 +27,7 @@ answer_text Load = codes "load"
 
 -- the answers of one worker, under its number
 abbrev pub worker_text : ℕ → List Answer → List ℕ
-worker_text w answers = line (codes "worker " ++ decimal w) ++ flat_map (λ (a : Answer). line (answer_text a)) answers
+worker_text w answers = with_feed (codes "worker " ++ decimal w) ++ flat_map (λ (a : Answer). with_feed (answer_text a)) answers
 
 -- those of all workers, of which the first has the number w
 abbrev pub workers_text : ℕ → List (List Answer) → List ℕ
@@ -41,7 +38,7 @@ abbrev pub pair_text : Name × ℕ → List ℕ
 pair_text e = name_text e.0 ++ 32 ∷ decimal e.1
 
 abbrev pub map_text : List (Name × ℕ) → List ℕ
-map_text pairs = line (codes "map") ++ flat_map (λ (e : Name × ℕ). line (pair_text e)) pairs
+map_text pairs = with_feed (codes "map") ++ flat_map (λ (e : Name × ℕ). with_feed (pair_text e)) pairs
 
 -- the answers of each worker, and the pairs of the map
 abbrev pub output_text : List (List Answer) → List (Name × ℕ) → List ℕ

@@ -9,7 +9,7 @@ use ck_key::NumKey;
 
 /// Where in a script a line stands.
 #[derive(Clone, Copy, Debug, PartialEq, Eq)]
-pub enum Place {
+pub enum Stage {
     /// Line 1.
     Header,
     /// Before the first line `worker`.
@@ -107,32 +107,32 @@ fn command_of(line: &[u8]) -> Result<Command<NumKey>, What>
 /// Where the next line stands, and the command that this one is, if it is one; or what is wrong
 /// with it there.
 #[tactic(auto, unfolding(crate::specs::Parse::step_at))]
-pub fn step(place: Place, line: &[u8]) -> Result<(Place, Option<Command<NumKey>>), What>
-    ensures value { result ≡ step_at place line.now }
+pub fn step(stage: Stage, line: &[u8]) -> Result<(Stage, Option<Command<NumKey>>), What>
+    ensures value { result ≡ step_at stage line.now }
     ensures text { IfErr result (λ what. what ≢ What.Read) }
 {
-    match place {
-        Place::Header => {
+    match stage {
+        Stage::Header => {
             if line == b"cuckoo 1".as_slice() {
-                Ok((Place::Settings, None))
+                Ok((Stage::Settings, None))
             } else {
                 Err(What::Header)
             }
         }
-        Place::Settings => {
+        Stage::Settings => {
             if line == b"worker".as_slice() {
-                Ok((Place::Block, None))
+                Ok((Stage::Block, None))
             } else {
                 Err(What::Command)
             }
         }
-        Place::Block => {
+        Stage::Block => {
             if line == b"end".as_slice() {
-                return Ok((Place::After, None));
+                return Ok((Stage::After, None));
             }
             let command = command_of(line)?;
-            Ok((Place::Block, Some(command)))
+            Ok((Stage::Block, Some(command)))
         }
-        Place::After => Err(What::Command),
+        Stage::After => Err(What::Command),
     }
 }

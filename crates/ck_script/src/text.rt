@@ -1,7 +1,8 @@
 //! The text of a run, as one list of bytes.
 ghost use Rattle.std.specs.Prelude.{◌≡◌, ◌∷◌, [], ◌++◌, codes, decimal, flat_map, map, OnOk, IfOk};
 ghost use Rattle.ck_model.specs.Map.{named};
-ghost use Rattle.ck_script.specs.Text.{line, answer_text, worker_text, pair_text, map_text, output_text};
+ghost use Rattle.ck_script.specs.Lines.{with_feed};
+ghost use Rattle.ck_script.specs.Text.{answer_text, worker_text, pair_text, map_text, output_text};
 
 use crate::answer::Answer;
 use ck_key::NumKey;
@@ -18,7 +19,7 @@ fn add_number(out: &mut Vec<u8>, n: u64) -> Result<(), AllocError>
 
 // Adds the line of an answer.
 fn add_answer(out: &mut Vec<u8>, answer: Answer) -> Result<(), AllocError>
-    ensures { OnOk result (out.new.items ≡ out.old.items ++ line (answer_text answer)) }
+    ensures { OnOk result (out.new.items ≡ out.old.items ++ with_feed (answer_text answer)) }
 {
     match answer {
         Answer::Value(n) => {
@@ -55,7 +56,7 @@ fn add_worker(out: &mut Vec<u8>, worker: u64, answers: &[Answer]) -> Result<(), 
 
 // Adds the line of a pair.
 fn add_pair(out: &mut Vec<u8>, pair: &(NumKey, u64)) -> Result<(), AllocError>
-    ensures { OnOk result (out.new.items ≡ out.old.items ++ line (pair_text (pair.now.0.0 ∷ [], pair.now.1))) }
+    ensures { OnOk result (out.new.items ≡ out.old.items ++ with_feed (pair_text (pair.now.0.0 ∷ [], pair.now.1))) }
 {
     let (NumKey(key), value) = pair;
     add_number(out, *key)?;

@@ -1,4 +1,4 @@
-use Rattle.ck_script.proofs.Spelled.{parse-spelled, one_script, faultless}
+use Rattle.ck_script.proofs.Spelled.{one_script, faultless}
 use Rattle.ck_script.proofs.laws.law_of_scripts.Goals as goal
 
 pub returns-clause-faultless : goal.returns-clause-faultless
@@ -6,6 +6,3 @@ returns-clause-faultless c = faultless
 
 pub returns-clause-one : goal.returns-clause-one
 returns-clause-one c = one_script
-
-pub returns-clause-read : goal.returns-clause-read
-returns-clause-read c = parse-spelled

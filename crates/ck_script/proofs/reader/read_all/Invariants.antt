@@ -1,5 +1,6 @@
 use Rattle.std.proofs.Common.{◌≡◌, ◌-◌, false}
-use Rattle.ck_script.specs.State.{HasRead, KeepsParse, IsWithinLimits, size_of}
+use Rattle.ck_script.specs.State.{IsWithinLimits, size_of}
+use Rattle.ck_script.proofs.Reading.{HasRead, KeepsParse}
 use Rattle.ck_script.proofs.reader.read_all.Given as goal
 
 abbrev pub invariant-loop-reader : goal.invariant-loop-reader

@@ -1,5 +1,6 @@
 use Rattle.std.proofs.Common.{◌≡◌, ◌≤◌, ◌+◌, ℕ, List, ◌++◌, length}
-use Rattle.ck_script.specs.State.{HasFed, parse_rest, size_of, IsWithinLimits}
+use Rattle.ck_script.specs.State.{parse_rest, size_of, IsWithinLimits}
+use Rattle.ck_script.proofs.Reading.{HasFed}
 use Rattle.ck_script.proofs.reader.ScriptReader.feed.Given as goal
 
 abbrev pub invariant-loop-line : goal.invariant-loop-line
