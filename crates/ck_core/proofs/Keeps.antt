@@ -19,7 +19,7 @@ use Rattle.ck_model.proofs.Histories.{leads_snoc}
 use Rattle.ck_core.specs.State.{World, IsPart, own, owned, Places, Knows, Law}
 use Rattle.ck_core.specs.Steps.{Move, taken, seen_as, sent_home, giving, deciding, newcomer, messenger, spent, joining, split_as, joined, Does, grown, Runs}
 use Rattle.ck_core.specs.Steps.Move.{Take, FindHeld, Give, Decide, GiveRest, Renew, Look, Open, Tell, Join}
-use Rattle.ck_core.proofs.Lists.{each_set, each_snoc, set_else}
+use Rattle.ck_core.proofs.Lists.{at_within, each_set, each_snoc, set_else}
 use Rattle.ck_core.proofs.Places.{places_keep, places_take, places_back, places_split}
 use Rattle.ck_core.proofs.Callers.{knows_all, knows_same, callers_set, callers_add, callers_split, callers_join}
 
@@ -60,11 +60,22 @@ module _ {V : Type 0} (k : Layout) (callers : ℕ) (log : List (Entry V)) (s : W
   max_le : (a b c : ℕ) → a ≤ c → b ≤ c → max a b ≤ c
   max_le a b c h g = omega arith
 
-  -- a look that is told the greatest power that the caller was told or has heard
-  pub look_to : Law k callers log (seen_as s id (record v { seen = log; told = max v.told v.heard_told }))
-  look_to = let w : View V = record v { seen = log; told = max v.told v.heard_told } in
-      seen_keeps w refl refl (knows_all callers log v w (law.callers_known.knows id v at) refl refl refl refl refl)
-      (λ t l. (max_le v.told v.heard_told ((law.contents t).power) (law.told id v at t l).0 (law.told id v at t l).1, (law.told id v at t l).1))
+  at_home : (u : ℕ) (c : Content V) → get_elem? s.homes u ≡ some (Some c) → u < 2 ^ k.s → (b : ℕ) → get_or s.words u 0 ≡ b → b < 2 → law.contents u ≡ c
+  at_home u c there l zero e h = Some-injective (law.contents u) c (some-injective (Some (law.contents u)) (Some c) (sym (law.places.at_home u l e) ∙ there))
+  at_home u c there l (suc zero) e h = absurd (none-some c (some-injective None (Some c) (sym (law.places.is_out u l e) ∙ there)))
+  at_home u c there l (suc (suc b)) e h = absurd (omega arith)
+
+  part_of_whole : (u : ℕ) (c : Content V) → IsPart s u c → (u < 2 ^ k.s) × (law.contents u ≡ c)
+  part_of_whole u c h = ⊎_elim
+      (λ there. let l : u < 2 ^ k.s = subst (λ n. u < n) law.places.homes_sized (at_within s.homes u (Some c) there) in (l, at_home u c there l (get_or s.words u 0) refl (law.places.is_bit u l)))
+      (λ held. let f = law.places.holds held.0 held.1 held.2 u c held.3 in (f.0, f.3)) h
+
+  -- no stripe has a power below what the caller was told or has heard
+  pub told_below : (u : ℕ) (c : Content V) → IsPart s u c → max v.told v.heard_told ≤ c.power
+  told_below u c h =
+      let part = part_of_whole u c h in
+      let told = law.told id v at u part.0 in
+      subst (λ (x : Content V). max v.told v.heard_told ≤ x.power) part.1 (max_le v.told v.heard_told ((law.contents u).power) told.0 told.1)
 
   whole_is_part : (t : ℕ) → t < 2 ^ k.s → IsPart s t (law.contents t)
   whole_is_part t l = by (get_or s.words t 0) refl (law.places.is_bit t l)

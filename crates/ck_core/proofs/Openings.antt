@@ -38,6 +38,7 @@ module _ {V : Type 0} (k : Layout) (set : Settings) (callers p : ℕ) (s : World
       is_bit = λ t l. let e = word_at t l in omega arith;
       at_home = λ t l _. o.homes t l;
       is_held = λ t l one. let e = word_at t l in absurd (omega arith);
+      is_out = λ t l one. let e = word_at t l in absurd (omega arith);
       holds = each_new (λ j v. (t : ℕ) (c : Content V) → Holds v.held t c → (t < 2 ^ k.s) × (get_or s.words t 0 ≡ 1) × (0 ≡ j) × (o.contents t ≡ c)) (λ j ms _ _ t c h. absurd h);
       distinct = each_new (λ _ v. AreDistinct (numbers v.held)) (λ j ms _ _. tt);
     };

@@ -31,6 +31,7 @@ module _ {V : Type 0} where
       is_bit = r.is_bit;
       at_home = r.at_home;
       is_held = λ t l one. let P : Stripes V → Type 0 = λ hs. Holds hs t (whole t) in still_owned P P s.views id v w at (r.owner t) (subst P (sym same)) (λ _ u _ h. h) (r.is_held t l one);
+      is_out = r.is_out;
       holds = each_set (λ j u. (t : ℕ) (c : Content V) → Holds u.held t c → (t < n) × (get_or s.words t 0 ≡ 1) × (r.owner t ≡ j) × (whole t ≡ c)) s.views id w
           (λ t c h. r.holds id v at t c (subst (λ (hs : Stripes V). Holds hs t c) same h)) (λ j u _ e. r.holds j u e);
       distinct = each_set (λ j u. AreDistinct (numbers u.held)) s.views id w (subst (λ (hs : Stripes V). AreDistinct (numbers hs)) (sym same) (r.distinct id v at)) (λ j u _ e. r.distinct j u e);
@@ -56,6 +57,8 @@ module _ {V : Type 0} where
               (λ e. (w, ap (get_elem? (set s.views id w)) (if_same q t id (r.owner q) e) ∙ set_there s.views id v w at, subst (λ (hs : Stripes V). Holds hs q (whole q)) (sym is) (inl (sym e, ap whole (sym e)))))
               (λ ne. let P : Stripes V → Type 0 = λ hs. Holds hs q (whole q) in let old = r.is_held q k (sym (get_or-set_other words t q 1 0 ne) ∙ one) in
               subst (λ o. (u : View V) × (get_elem? (set s.views id w) o ≡ some u) × P u.held) (sym (owns q ne)) (still_owned P P s.views id v w at (r.owner q) (λ h. subst P (sym is) (inr h)) (λ _ u _ h. h) old));
+          is_out = λ q k one. dite (ℕ_discrete q t) (λ e. ap (get_elem? (set s.homes t None)) e ∙ set_here s.homes t None (let z = r.homes_sized in omega arith))
+              (λ ne. set_else s.homes t q None ne ∙ r.is_out q k (sym (get_or-set_other words t q 1 0 ne) ∙ one));
           holds = each_set (λ j u. (q : ℕ) (c : Content V) → Holds u.held q c → (q < n) × (get_or (set words t 1) q 0 ≡ 1) × (cond (eqb q t) id (r.owner q) ≡ j) × (whole q ≡ c)) s.views id w
               (λ q c h. ⊎_elim
               (λ (e : (t ≡ q) × (whole t ≡ c)). (subst (λ x. x < n) e.0 l, ap (λ x. get_or (set words t 1) x 0) (sym e.0) ∙ now, if_same q t id (r.owner q) (sym e.0), ap whole (sym e.0) ∙ e.1))
@@ -98,6 +101,8 @@ module _ {V : Type 0} where
               (λ h. let d = held_of_in ks q (subst (IsIn q) (sym same) (in_held v.held q (whole q) h)) in
               subst (λ (hs : Stripes V). Holds hs q (whole2 q)) (sym is) (subst (λ (x : Content V). Holds (without t ks) q x) (sym (hit q d.0 d.1)) (kept_without t ks q d.0 ne d.1)))
               (λ other u _ h. subst (λ (x : Content V). Holds u.held q x) (sym (not_mine q other)) h) before);
+          is_out = λ q k one. dite (ℕ_discrete q t) (λ e. let z : get_or (set words t 0) q 0 ≡ 0 = ap (λ x. get_or (set words t 0) x 0) e ∙ zero_now in absurd (omega arith))
+              (λ ne. set_else s.homes t q (Some c) ne ∙ r.is_out q k (sym (get_or-set_other words t q 0 0 ne) ∙ one));
           holds = each_set (λ j u. (q : ℕ) (d : Content V) → Holds u.held q d → (q < n) × (get_or (set words t 0) q 0 ≡ 1) × (r.owner q ≡ j) × (whole2 q ≡ d)) s.views id w
               (λ q d h. let f = in_without t ks q d (subst (λ (hs : Stripes V). Holds hs q d) is h) in let g = mine q (in_held ks q d f.1) in (g.0, get_or-set_other words t q 0 0 f.0 ∙ g.1, g.2, hit q d f.1))
               (λ j u other e q d h. let f = r.holds j u e q d h in
@@ -119,6 +124,7 @@ module _ {V : Type 0} where
           is_bit = p.is_bit;
           at_home = p.at_home;
           is_held = λ t l one. let z = p.is_held t l one in (z.0, at_longer (set s.views id left) (right ∷ []) (p.owner t) z.0 z.1, z.2);
+          is_out = p.is_out;
           holds = each_snoc (λ j u. (t : ℕ) (c : Content V) → Holds u.held t c → (t < n) × (get_or s.words t 0 ≡ 1) × (p.owner t ≡ j) × (whole t ≡ c)) (set s.views id left) right p.holds
               (λ t c h. absurd (subst (λ (hs : Stripes V). Holds hs t c) none h));
           distinct = each_snoc (λ j u. AreDistinct (numbers u.held)) (set s.views id left) right p.distinct (subst (λ (hs : Stripes V). AreDistinct (numbers hs)) (sym none) tt);

@@ -65,6 +65,7 @@ module _ {V : Type 0} (k : Layout) (callers : ℕ) (log : List (Entry V)) (s : W
       one_power = λ t u c d h g. law.lawful.one_power t u c d (there t c h) (there u d g);
     };
     inside = λ t i. let c = held_of_in v.held t i in (agrees k callers log s law j v at t c.0 c.1).0;
+    told = λ t c h. let a = agrees k callers log s law j v at t c h in subst (λ (x : Content V). (v.told ≤ x.power) × (v.heard_told ≤ x.power)) a.1 (law.told j v at t a.0);
     all_held = λ all. subst (After log) (whole_held all) law.legal;
     all_kept = λ all. record {
       each = kn.calls;

@@ -1,11 +1,12 @@
 -- What is proved of the core.
-use Rattle.std.specs.Prelude.{◌≡◌, ℕ, ◌^◌, ◌<◌, List, [], ◌∷◌, ◌++◌, Some}
+use Rattle.std.specs.Prelude.{◌≡◌, ℕ, ◌^◌, ◌<◌, ◌≤◌, List, [], ◌∷◌, ◌++◌, Some}
 use mathlib.Core.Option.{some}
 use lib.ListN.{get_elem?}
 use Rattle.ck_model.specs.declared.history.Entry.{Entry}
 use Rattle.ck_model.specs.declared.settings.Settings.{Settings}
 use Rattle.ck_model.specs.Map.{Map, Step}
-use Rattle.ck_model.specs.Numbered.{IsIn, numbers}
+use Rattle.ck_model.specs.Numbered.{IsIn, numbers, Holds}
+use Rattle.ck_model.specs.declared.contents.Content.{Content}
 use Rattle.ck_model.specs.History.{After, IsLegal, StartsWith, calls_by, IsShuffle}
 use Rattle.ck_model.specs.Contents.{Layout, Stripes, bindings, Lawful}
 use Rattle.ck_model.specs.Sections.{HasAll}
@@ -48,6 +49,8 @@ module _ {V : Type 0} where
     pub unseen : (m : ℕ) → v.by ≡ Some m → (more : List (Entry V)) → log ≡ v.seen ++ more → calls_by m more ≡ []
     pub lawful : Lawful k v.held
     pub inside : (t : ℕ) → IsIn t (numbers v.held) → t < 2 ^ k.s
+    -- it was told no power above that of a stripe that it holds
+    pub told : (t : ℕ) (c : Content V) → Holds v.held t c → (v.told ≤ c.power) × (v.heard_told ≤ c.power)
     -- all stripes are held: they contain what the history leaves
     pub all_held : HasAll k v.held → After log (bindings v.held)
     -- all numbers are kept: the history is a shuffle of their entries

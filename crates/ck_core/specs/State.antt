@@ -29,7 +29,7 @@ module _ {V : Type 0} where
   abbrev pub IsPart : World V → ℕ → Content V → Type 0
   IsPart s t c = (get_elem? s.homes t ≡ some (Some c)) ⊎ ((j : ℕ) × (v : View V) × (get_elem? s.views j ≡ some v) × Holds v.held t c)
 
-  -- Of n stripes, the word is 0 where the stripe is at home, and 1 where its owner holds it. Stripe t contains w t.
+  -- Of n stripes, the word is 0 where the stripe is at home, and 1 where its owner holds it and its place is empty. Stripe t contains w t.
   pub record Places (n : ℕ) (s : World V) (w : ℕ → Content V) : Type 0 where
     pub owner : ℕ → ℕ
     pub words_sized : length s.words ≡ n
@@ -37,6 +37,7 @@ module _ {V : Type 0} where
     pub is_bit : (t : ℕ) → t < n → slice_index s.words t < 2
     pub at_home : (t : ℕ) → t < n → slice_index s.words t ≡ 0 → get_elem? s.homes t ≡ some (Some (w t))
     pub is_held : (t : ℕ) → t < n → slice_index s.words t ≡ 1 → (v : View V) × (get_elem? s.views (owner t) ≡ some v) × Holds v.held t (w t)
+    pub is_out : (t : ℕ) → t < n → slice_index s.words t ≡ 1 → get_elem? s.homes t ≡ some None
     pub holds : (j : ℕ) (v : View V) → get_elem? s.views j ≡ some v → (t : ℕ) (c : Content V) → Holds v.held t c → (t < n) × (slice_index s.words t ≡ 1) × (owner t ≡ j) × (w t ≡ c)
     pub distinct : (j : ℕ) (v : View V) → get_elem? s.views j ≡ some v → AreDistinct (numbers v.held)
 

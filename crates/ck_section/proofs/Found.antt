@@ -80,7 +80,7 @@ module _ {V : Type 0} where
   }
 
   -- the rows of a held stripe
-  rows_held : (hs : Stripes V) (t : ℕ) (c : Content V) → AreDistinct (numbers hs) → Holds hs t c → rows_of hs t ≡ c.rows
+  pub rows_held : (hs : Stripes V) (t : ℕ) (c : Content V) → AreDistinct (numbers hs) → Holds hs t c → rows_of hs t ≡ c.rows
   rows_held [] t c apart h = absurd h
   rows_held (x ∷ xs) t c apart h = ⊎_elim
       (λ (e : (x.0 ≡ t) × (x.1 ≡ c)). if_same x.0 t x.1.rows (rows_of xs t) e.0 ∙ ap (λ (d : Content V). d.rows) e.1)
@@ -96,7 +96,7 @@ module _ {V : Type 0} where
       ∙ ap (λ (rows : List (List (Slot V))). row_at rows (b / 2 ^ s)) (rows_held (contents_of stripes) t.number t.content apart (holds_at stripes i lt))
       ∙ ap (λ n. row_at t.content.rows (b / 2 ^ n)) (sym e)
 
-  power_held : (k : Layout) (hs : Stripes V) (t : ℕ) (c : Content V) → Lawful k hs → Holds hs t c → power_of hs ≡ c.power
+  pub power_held : (k : Layout) (hs : Stripes V) (t : ℕ) (c : Content V) → Lawful k hs → Holds hs t c → power_of hs ≡ c.power
   power_held k [] t c lawful h = absurd h
   power_held k (x ∷ xs) t c lawful h = lawful.one_power x.0 t x.1 c (inl (refl, refl)) h
 

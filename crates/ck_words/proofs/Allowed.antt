@@ -1,5 +1,6 @@
 -- What `atomic_table` asks of each step, split and join follows from the laws of the core.
-use Rattle.std.proofs.Common.{◌≡◌, ℕ, zero, suc, ◌*◌, ◌^◌, ◌<◌, ◌≢◌, max, List, [], ◌∷◌, ◌++◌, map, length, length-set, set, get_or, drop, sym, refl, ap, ◌∙◌, subst, ⊎_elim, arith, Option, Some, None}
+use Rattle.std.proofs.Common.{◌≡◌, ℕ, zero, suc, ◌*◌, ◌^◌, ◌<◌, ◌≢◌, max, List, [], ◌∷◌, ◌++◌, map, length, length-set, set, get_or, drop, sym, refl, ap, ◌∙◌, subst, ⊎_elim, arith, inl, Option, Some, None}
+use Rattle.std.specs.Prelude.{slice_set}
 use mathlib.Core.Option.{none, some, some-injective, some-ne-none}
 use mathlib.Core.Option as maybe
 use lib.ListN.{get_elem?}
@@ -8,22 +9,24 @@ use Rattle.std.proofs.lemmas.List.{set-get_or}
 use Rattle.atomic_table.specs.Table.{State, Act, keeps, takes, gives, stepped, carried_after, Valid, Allows, Splits, Joins, rest}
 use Rattle.ck_model.specs.declared.history.Entry.{Entry}
 use Rattle.ck_model.specs.declared.history.Why.{Why}
+use Rattle.ck_model.specs.declared.settings.Settings.{Settings}
 use Rattle.ck_model.specs.declared.contents.Content.{Content}
 use Rattle.ck_model.specs.Map.{Name}
-use Rattle.ck_model.specs.Numbered.{Holds}
+use Rattle.ck_model.specs.Numbered.{IsIn, numbers, Holds}
 use Rattle.ck_model.specs.Contents.{Layout, Lawful}
 use Rattle.ck_model.specs.Sections.{Section, IdentitySection}
 use Rattle.ck_model.proofs.Numbered.{Some-injective}
 use Rattle.ck_stripe.specs.Stripe.{StripeState}
 use Rattle.ck_core.specs.declared.view.View.{View}
 use Rattle.ck_core.specs.State.{World, Law}
-use Rattle.ck_core.specs.Laws.{Shows}
-use Rattle.ck_core.specs.Steps.{seen_as, sent_home, giving, deciding, newcomer, messenger, joining, spent}
+use Rattle.ck_core.specs.Steps.{Move, Does, IsAbove, IsExcused, HasGrounds, taken, seen_as, sent_home, giving, deciding, newcomer, messenger, joining, spent}
+use Rattle.ck_core.specs.Steps.Move.{Take, FindHeld, Give, Decide, Renew, Look}
 use Rattle.ck_core.proofs.Lists.{at_set, set_else, set_there}
 use Rattle.ck_core.proofs.Shown.{shows}
-use Rattle.ck_core.proofs.Keeps.{take_keeps, find_keeps, give_keeps, decide_keeps, renew_keeps, look_to, open_keeps, tell_keeps, join_keeps}
-use Rattle.ck_words.specs.Rule.{Slot, Hand, lying, spaced, world, IsNumbered, IsKept, Rule}
-use Rattle.ck_words.specs.Plays.{contents_now, first_in, TakesOrFinds, Gives, Decides, Looks, first_number, opened, begun}
+use Rattle.ck_core.proofs.Keeps.{take_keeps, find_keeps, give_keeps, decide_keeps, renew_keeps, look_keeps, told_below, open_keeps, tell_keeps, join_keeps}
+use Rattle.ck_words.specs.Rule.{Slot, Hand, lying, spaced, world, IsNumbered, IsKept, Rule, RuleOf, layout_of}
+use Rattle.ck_words.specs.Steps.{Steps}
+use Rattle.ck_words.specs.Plays.{contents_now, SeatTries, SeatGives, SeatLooks, first_number, opened, begun}
 use Rattle.ck_words.proofs.Spacing.{spaced-at, spaced-set}
 
 module _ {V : Type 0} where
@@ -78,90 +81,12 @@ module _ {V : Type 0} (k : Layout) (callers : ℕ) where
         numbered = old.numbered;
       }
 
-  shows_now : (log : List (Entry V)) (s : State (Slot V) (View V)) (id : ℕ) (v : View V) → IsKept k callers log s → get_elem? s.views id ≡ some v → Shows k callers log v
-  shows_now log s id v r at = shows k callers log (world (2 ^ k.s) s) r.law id v at
-
-  -- of a state whose view `id` was set
-  shows_then : (log : List (Entry V)) (s : State (Slot V) (View V)) (t x id : ℕ) (has : List (ℕ × Slot V)) (v w : View V) (act : Act (Slot V)) → IsKept k callers log (stepped s t x id has w act) → get_elem? s.views id ≡ some v
-      → Shows k callers log w
-  shows_then log s t x id has v w act r at = shows k callers log (world (2 ^ k.s) (stepped s t x id has w act)) r.law id w (set_there s.views id v w at)
-
   -- a seat gives back the slot that it has first
   gave : (log log2 : List (Entry V)) (s : State (Slot V) (View V)) (id t : ℕ) (stripe : StripeState V) (w : View V) (has out : List (ℕ × Slot V)) → has ≡ (t, Some stripe) ∷ out → t < 2 ^ k.s → IsNumbered k.s t stripe → IsKept k callers log s
       → Law k callers log2 (sent_home (world (2 ^ k.s) s) id t stripe.content w)
       → IsKept k callers log2 (stepped s (t * 8) 0 id has w gives)
   gave log log2 s id t stripe w has out is l own old law = subst (λ (xs : List (ℕ × Slot V)). IsKept k callers log2 (stepped s (t * 8) 0 id xs w gives)) (sym is)
       (kept_at log2 s t 0 (some (Some stripe)) (set s.views id w) l old.words_sized law (numbered_back k.s s.homes t stripe own old.numbered))
-
-  module _ (slots id : ℕ) (m : Hand V) where
-    take_by : (t : ℕ) → t < 2 ^ k.s → (s : State (Slot V) (View V)) (log : List (Entry V)) (r : IsKept k callers log s) → get_elem? s.views id ≡ some m.0 → (b : ℕ) → get_or s.words (t * 8) 0 ≡ b → b < 2
-        → (w : View V) × (a : Act (Slot V)) × Valid s.homes m.1 a × Rule k callers (stepped s (t * 8) 1 id m.1 w a) × TakesOrFinds k callers t m (get_or s.words (t * 8) 0) (w, carried_after m.1 a)
-    take_by t l s log r at zero e h =
-        let free : get_or (spaced (2 ^ k.s) s.words) t 0 ≡ 0 = spaced-at (2 ^ k.s) t s.words l ∙ e in
-        let c : Content V = r.law.contents t in
-        let there = r.law.places.at_home t l free in
-        let slot = lies_there s.homes t c there in
-        let stripe : StripeState V = slot.0 in
-        let there2 : get_elem? (map lying s.homes) t ≡ some (Some stripe.content) = there ∙ ap (λ (x : Content V). some (Some x)) (sym slot.2) in
-        let w : View V = record m.0 { held = (t, stripe.content) ∷ m.0.held; seen = log } in
-        let kept : IsKept k callers log (stepped s (t * 8) 1 id m.1 w (takes t (Some stripe))) =
-        kept_at log s t 1 none (set s.views id w) l r.words_sized (take_keeps k callers log (world (2 ^ k.s) s) r.law id m.0 at t stripe.content l free there2) (numbered_out k.s s.homes t r.numbered) in (
-          w,
-          takes t (Some stripe),
-          slot.1,
-          (log, kept),
-          ((λ _. (stripe, log, r.numbered t stripe slot.1, (shows_now log s id m.0 r at, shows_then log s (t * 8) 1 id m.1 m.0 w (takes t (Some stripe)) kept at), refl)), (λ ne. absurd (ne e))),
-        )
-    take_by t l s log r at (suc zero) e h = (
-      record m.0 { found = t ∷ m.0.found },
-      keeps,
-      tt,
-      (log, unmoved log s id (t * 8) 1 (record m.0 { found = t ∷ m.0.found }) m.1 (sym e) r (find_keeps k callers log (world (2 ^ k.s) s) r.law id m.0 at t)),
-      ((λ z. absurd (omega arith)), (λ _. refl)),
-    )
-    take_by t l s log r at (suc (suc b)) e h = absurd (omega arith)
-
-    pub take_allowed : (t : ℕ) → t < 2 ^ k.s → Allows (Rule k callers) slots id m (t * 8) (λ _. 1) (TakesOrFinds k callers t m)
-    take_allowed t l s r _ at _ = take_by t l s r.0 r.1 at (get_or s.words (t * 8) 0) refl (subst (λ b. b < 2) (spaced-at (2 ^ k.s) t s.words l) (r.1.law.places.is_bit t l))
-
-    pub give_allowed : (t : ℕ) (stripe : StripeState V) (g : Option (Name × Why)) (out : List (ℕ × Slot V)) → m.1 ≡ (t, Some stripe) ∷ out → t < 2 ^ k.s → IsNumbered k.s t stripe → Holds m.0.held t stripe.content
-        → Allows (Rule k callers) slots id m (t * 8) (λ _. 0) (λ _. Gives k callers t m.0.held g m)
-    give_allowed t stripe g out is l own h s r _ at _ =
-        let w : View V = giving m.0 t stripe.content m.0.held g in
-        let kept = gave r.0 r.0 s id t stripe w m.1 out is l own r.1 (give_keeps k callers r.0 (world (2 ^ k.s) s) r.1.law id m.0 at t stripe.content g h) in (
-          w,
-          gives,
-          tt,
-          (r.0, kept),
-          (r.0, (shows_now r.0 s id m.0 r.1 at, shows_then r.0 s (t * 8) 0 id m.1 m.0 w gives kept at), λ i. (giving m.0 t (first_in (sym is i)).content m.0.held g, rest m.1)),
-        )
-
-    pub renew_allowed : (t : ℕ) (stripe : StripeState V) (g : Option (Name × Why)) (out : List (ℕ × Slot V)) → m.1 ≡ (t, Some stripe) ∷ out → t < 2 ^ k.s → IsNumbered k.s t stripe → Holds (contents_now m.1) t stripe.content
-        → (Lawful k m.0.held → IdentitySection k m.0.held (contents_now m.1)) → Allows (Rule k callers) slots id m (t * 8) (λ _. 0) (λ _. Gives k callers t (contents_now m.1) g m)
-    renew_allowed t stripe g out is l own h sec s r _ at _ =
-        let w : View V = giving m.0 t stripe.content (contents_now m.1) g in
-        let kept = gave r.0 r.0 s id t stripe w m.1 out is l own r.1 (renew_keeps k callers r.0 (world (2 ^ k.s) s) r.1.law id m.0 at (contents_now m.1) t stripe.content h g (sec (shows_now r.0 s id m.0 r.1 at).lawful)) in (
-          w,
-          gives,
-          tt,
-          (r.0, kept),
-          (r.0, (shows_now r.0 s id m.0 r.1 at, shows_then r.0 s (t * 8) 0 id m.1 m.0 w gives kept at), λ i. (giving m.0 t (first_in (sym is i)).content (contents_now m.1) g, rest m.1)),
-        )
-
-    pub decide_allowed : (t : ℕ) (stripe : StripeState V) (e : Entry V) (out : List (ℕ × Slot V)) → m.1 ≡ (t, Some stripe) ∷ out → t < 2 ^ k.s → IsNumbered k.s t stripe → Holds (contents_now m.1) t stripe.content
-        → m.0.by ≡ Some e.by → (Lawful k m.0.held → Section k m.0.held e.call e.reply (contents_now m.1)) → Allows (Rule k callers) slots id m (t * 8) (λ _. 0) (λ _. Decides k callers t e m)
-    decide_allowed t stripe e out is l own h by sec s r _ at _ =
-        let log2 : List (Entry V) = r.0 ++ e ∷ [] in
-        let w : View V = deciding m.0 t (contents_now m.1) r.0 e in
-        let kept = gave r.0 log2 s id t stripe w m.1 out is l own r.1 (decide_keeps k callers r.0 (world (2 ^ k.s) s) r.1.law id m.0 at (contents_now m.1) t stripe.content h e by (sec (shows_now r.0 s id m.0 r.1 at).lawful)) in
-        (w, gives, tt, (log2, kept), (r.0, (shows_now r.0 s id m.0 r.1 at, shows_then log2 s (t * 8) 0 id m.1 m.0 w gives kept at), refl))
-
-    pub look_allowed : (word : ℕ) → Allows (Rule k callers) slots id m word (λ x. x) (λ _. Looks k callers m)
-    look_allowed word s r _ at _ =
-        let p : ℕ = max m.0.told m.0.heard_told in
-        let w : View V = record m.0 { seen = r.0; told = p } in
-        let kept = unmoved r.0 s id word (get_or s.words word 0) w m.1 refl r.1 (look_to k callers r.0 (world (2 ^ k.s) s) r.1.law id m.0 at) in
-        (w, keeps, tt, (r.0, kept), (r.0, p, (shows_now r.0 s id m.0 r.1 at, shows_then r.0 s word (get_or s.words word 0) id m.1 m.0 w keeps kept at), omega arith, omega arith, refl))
 
   module _ (id : ℕ) (v : View V) where
     pub open_allowed : (j : ℕ) (others : List (ℕ × List (Entry V))) → v.others ≡ (j, []) ∷ others → Splits (Rule k callers) id v (opened v) (begun v)
@@ -187,3 +112,85 @@ module _ {V : Type 0} (k : Layout) (callers : ℕ) where
         numbered = r.1.numbered;
       },
     )
+
+module _ (hash : Name → ℕ) (set : Settings) where
+  abbrev k : Layout
+  k = layout_of hash set
+
+  module _ {V : Type 0} where
+    -- a step of the core from a state of the table, by which the view v becomes w
+    steps_from : (move : Move V) (log : List (Entry V)) (s : State (Slot V) (View V)) (id : ℕ) (v w : View V) (after : World V) → IsKept k set.callers log s → get_elem? s.views id ≡ some v
+        → Does k set.min_load log id move (world (2 ^ k.s) s) after → after.views ≡ slice_set s.views id w → Steps hash set move v w
+    steps_from move log s id v w after r at does views = record {
+      log = log;
+      id = id;
+      before = world (2 ^ k.s) s;
+      after = after;
+      law = r.law;
+      does = does;
+      was = at;
+      is = ap (λ vs. get_elem? vs id) views ∙ set_there s.views id v w at;
+    }
+
+    lawful_now : (log : List (Entry V)) (s : State (Slot V) (View V)) (id : ℕ) (v : View V) → IsKept k set.callers log s → get_elem? s.views id ≡ some v → Lawful k v.held
+    lawful_now log s id v r at = (shows k set.callers log (world (2 ^ k.s) s) r.law id v at).lawful
+
+    module _ (slots id : ℕ) (m : Hand V) where
+      take_by : (t : ℕ) → t < 2 ^ k.s → IsAbove t (numbers m.0.held) → (s : State (Slot V) (View V)) (log : List (Entry V)) (r : IsKept k set.callers log s) → get_elem? s.views id ≡ some m.0 → (b : ℕ) → get_or s.words (t * 8) 0 ≡ b → b < 2
+          → (w : View V) × (a : Act (Slot V)) × Valid s.homes m.1 a × RuleOf hash set (stepped s (t * 8) 1 id m.1 w a) × SeatTries hash set t m (get_or s.words (t * 8) 0) (w, carried_after m.1 a)
+      take_by t l above s log r at zero e h =
+          let free : get_or (spaced (2 ^ k.s) s.words) t 0 ≡ 0 = spaced-at (2 ^ k.s) t s.words l ∙ e in
+          let c : Content V = r.law.contents t in
+          let there = r.law.places.at_home t l free in
+          let slot = lies_there s.homes t c there in
+          let stripe : StripeState V = slot.0 in
+          let there2 : get_elem? (map lying s.homes) t ≡ some (Some stripe.content) = there ∙ ap (λ (x : Content V). some (Some x)) (sym slot.2) in
+          let w : View V = record m.0 { held = (t, stripe.content) ∷ m.0.held; seen = log } in
+          let after : World V = taken (world (2 ^ k.s) s) id m.0 t stripe.content log in
+          let kept : IsKept k set.callers log (stepped s (t * 8) 1 id m.1 w (takes t (Some stripe))) =
+          kept_at k set.callers log s t 1 none (slice_set s.views id w) l r.words_sized (take_keeps k set.callers log (world (2 ^ k.s) s) r.law id m.0 at t stripe.content l free there2) (numbered_out k.s s.homes t r.numbered) in
+          let steps : Steps hash set (Take t) m.0 w = steps_from (Take t) log s id m.0 w after r at (m.0, stripe.content, at, l, free, above, there2, refl) refl in
+          (w, takes t (Some stripe), slot.1, (log, kept), ((λ _. (stripe, r.numbered t stripe slot.1, refl, inl (refl, refl), steps)), (λ ne. absurd (ne e))))
+      take_by t l above s log r at (suc zero) e h =
+          let w : View V = record m.0 { found = t ∷ m.0.found } in
+          let held : get_or (spaced (2 ^ k.s) s.words) t 0 ≡ 1 = spaced-at (2 ^ k.s) t s.words l ∙ e in
+          let own : ¬ (IsIn t (numbers m.0.held)) = λ i. let z = above t i in omega arith in
+          let kept = unmoved k set.callers log s id (t * 8) 1 w m.1 (sym e) r (find_keeps k set.callers log (world (2 ^ k.s) s) r.law id m.0 at t) in
+          let steps : Steps hash set (FindHeld t) m.0 w = steps_from (FindHeld t) log s id m.0 w (seen_as (world (2 ^ k.s) s) id w) r at (m.0, at, l, held, own, refl) refl in
+          (w, keeps, tt, (log, kept), ((λ z. absurd (omega arith)), (λ _. (refl, steps))))
+      take_by t l above s log r at (suc (suc b)) e h = absurd (omega arith)
+
+      pub take_allowed : (t : ℕ) → t < 2 ^ k.s → IsAbove t (numbers m.0.held) → Allows (RuleOf hash set) slots id m (t * 8) (λ _. 1) (SeatTries hash set t m)
+      take_allowed t l above s r _ at _ = take_by t l above s r.0 r.1 at (get_or s.words (t * 8) 0) refl (subst (λ b. b < 2) (spaced-at (2 ^ k.s) t s.words l) (r.1.law.places.is_bit t l))
+
+      module _ (t : ℕ) (stripe : StripeState V) (out : List (ℕ × Slot V)) (is : m.1 ≡ (t, Some stripe) ∷ out) (l : t < 2 ^ k.s) (own : IsNumbered k.s t stripe) where
+        pub give_allowed : (g : Option (Name × Why)) → Holds m.0.held t stripe.content → (Lawful k m.0.held → IsExcused k set.min_load m.0.held g) → Allows (RuleOf hash set) slots id m (t * 8) (λ _. 0) (λ _. SeatGives hash set (Give t g) m)
+        give_allowed g h excused s r _ at _ =
+            let w : View V = giving m.0 t stripe.content m.0.held g in
+            let kept = gave k set.callers r.0 r.0 s id t stripe w m.1 out is l own r.1 (give_keeps k set.callers r.0 (world (2 ^ k.s) s) r.1.law id m.0 at t stripe.content g h) in
+            (w, gives, tt, (r.0, kept), (refl, steps_from (Give t g) r.0 s id m.0 w (sent_home (world (2 ^ k.s) s) id t stripe.content w) r.1 at (m.0, stripe.content, at, h, excused (lawful_now r.0 s id m.0 r.1 at), refl) refl))
+
+        module _ (h : Holds (contents_now m.1) t stripe.content) where
+          pub renew_allowed : (g : Option (Name × Why)) → (Lawful k m.0.held → IdentitySection k m.0.held (contents_now m.1)) → (Lawful k (contents_now m.1) → HasGrounds k set.min_load (contents_now m.1) g)
+              → Allows (RuleOf hash set) slots id m (t * 8) (λ _. 0) (λ _. SeatGives hash set (Renew t (contents_now m.1) g) m)
+          renew_allowed g section grounds s r _ at _ =
+              let w : View V = giving m.0 t stripe.content (contents_now m.1) g in
+              let sec = section (lawful_now r.0 s id m.0 r.1 at) in
+              let kept = gave k set.callers r.0 r.0 s id t stripe w m.1 out is l own r.1 (renew_keeps k set.callers r.0 (world (2 ^ k.s) s) r.1.law id m.0 at (contents_now m.1) t stripe.content h g sec) in
+              (w, gives, tt, (r.0, kept), (refl, steps_from (Renew t (contents_now m.1) g) r.0 s id m.0 w (sent_home (world (2 ^ k.s) s) id t stripe.content w) r.1 at (m.0, stripe.content, at, h, sec, grounds sec.renewed.lawful, refl) refl))
+
+          pub decide_allowed : (e : Entry V) → m.0.by ≡ Some e.by → (Lawful k m.0.held → Section k m.0.held e.call e.reply (contents_now m.1))
+              → Allows (RuleOf hash set) slots id m (t * 8) (λ _. 0) (λ _. SeatGives hash set (Decide t (contents_now m.1) e) m)
+          decide_allowed e by section s r _ at _ =
+              let w : View V = deciding m.0 t (contents_now m.1) r.0 e in
+              let sec = section (lawful_now r.0 s id m.0 r.1 at) in
+              let kept = gave k set.callers r.0 (r.0 ++ e ∷ []) s id t stripe w m.1 out is l own r.1 (decide_keeps k set.callers r.0 (world (2 ^ k.s) s) r.1.law id m.0 at (contents_now m.1) t stripe.content h e by sec) in
+              (w, gives, tt, (r.0 ++ e ∷ [], kept), (refl, steps_from (Decide t (contents_now m.1) e) r.0 s id m.0 w (sent_home (world (2 ^ k.s) s) id t stripe.content w) r.1 at (m.0, stripe.content, at, by, h, sec, refl) refl))
+
+      pub look_allowed : (t : ℕ) → t < 2 ^ k.s → Allows (RuleOf hash set) slots id m (t * 8) (λ x. x) (λ _. SeatLooks hash set t m)
+      look_allowed t l s r _ at _ =
+          let p : ℕ = max m.0.told m.0.heard_told in
+          let w : View V = record m.0 { seen = r.0; told = p } in
+          let below = told_below k set.callers r.0 (world (2 ^ k.s) s) r.1.law id m.0 at in
+          let kept = unmoved k set.callers r.0 s id (t * 8) (get_or s.words (t * 8) 0) w m.1 refl r.1 (look_keeps k set.callers r.0 (world (2 ^ k.s) s) r.1.law id m.0 at p below) in
+          (w, keeps, tt, (r.0, kept), (refl, (p, omega arith, steps_from (Look t p) r.0 s id m.0 w (seen_as (world (2 ^ k.s) s) id w) r.1 at (m.0, at, l, omega arith, below, refl) refl)))

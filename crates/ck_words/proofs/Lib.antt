@@ -1,6 +1,8 @@
 pub mod Spacing
 pub mod Reversed
 pub mod Allowed
+pub mod Rows
+pub mod Excuses
 pub mod Seating
 pub mod Takes
 pub mod Gives

@@ -1,4 +1,5 @@
 pub mod Rule
+pub mod Steps
 pub mod Plays
 pub mod Passes
 pub mod Words

@@ -12,5 +12,7 @@ pub record Meets {V : Type 0} (a b new : PassState V) : Type 0 where
   pub by : new.view.by ≡ b.view.by
   pub mine : new.view.mine ≡ b.view.mine
   pub others : new.view.others ≡ b.view.others
+  pub found : new.view.found ≡ b.view.found
+  pub noroom : new.view.noroom ≡ b.view.noroom
   pub held : new.view.held ≡ b.view.held
   pub stripes : new.stripes ≡ b.stripes

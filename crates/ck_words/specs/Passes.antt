@@ -1,9 +1,7 @@
 -- What contracts see of a pass.
-use Rattle.std.specs.Prelude.{◌≡◌, ℕ, zero, suc, ◌≤◌, List, [], ◌∷◌, ◌++◌, map, reverse, Option, Some}
+use Rattle.std.specs.Prelude.{◌≡◌, ℕ, zero, suc, ◌≤◌, List, [], ◌∷◌, ◌++◌, map, reverse, Some}
 use Rattle.atomic_table.specs.Seated.{TableId}
 use Rattle.atomic_table.specs.Table.{turned}
-use Rattle.ck_model.specs.declared.history.Entry.{Entry}
-use Rattle.ck_model.specs.declared.history.Why.{Why}
 use Rattle.ck_model.specs.declared.settings.Settings.{Settings}
 use Rattle.ck_model.specs.Map.{Name}
 use Rattle.ck_model.specs.Numbered.{numbers}
@@ -11,10 +9,12 @@ use Rattle.ck_model.specs.Contents.{Stripes}
 use Rattle.ck_stripe.specs.Stripe.{StripeState}
 use Rattle.ck_section.specs.Stripes.{contents_of}
 use Rattle.ck_core.specs.declared.view.View.{View}
-use Rattle.ck_core.specs.Steps.{IsAbove, giving, deciding}
+use Rattle.ck_core.specs.Steps.{Move, IsAbove}
+use Rattle.ck_core.specs.Steps.Move.{Take, FindHeld, Look}
 use Rattle.ck_core.specs.Laws.{Shows}
 use Rattle.ck_words.specs.Rule.{Slot, Hand, IsNumbered, layout_of}
-use Rattle.ck_words.specs.Plays.{stripe_in, ShowsBoth}
+use Rattle.ck_words.specs.Steps.{Steps}
+use Rattle.ck_words.specs.Plays.{stripe_in}
 use Rattle.ck_words.specs.Words.{WordsState}
 
 -- each number is above those that follow
@@ -79,32 +79,18 @@ module _ {V : Type 0} where
   abbrev pub ShowsSeen : (Name → ℕ) → Settings → PassState V → Type 0
   ShowsSeen hash set p = Shows (layout_of hash set) set.callers p.view.seen p.view
 
-  -- both views show what they show, with these histories
-  abbrev pub ShowsOf : (Name → ℕ) → Settings → List (Entry V) → List (Entry V) → PassState V → PassState V → Type 0
-  ShowsOf hash set log log2 p q = ShowsBoth (layout_of hash set) set.callers log log2 p.view q.view
+  -- It took the stripe t, which stands behind the others.
+  abbrev pub TakesStripe : (Name → ℕ) → Settings → ℕ → PassState V → PassState V → Type 0
+  TakesStripe hash set t p q = (stripe : StripeState V) × IsNumbered set.s t stripe × (q.stripes ≡ p.stripes ++ stripe ∷ []) × Steps hash set (Take t) p.view q.view
 
-  -- the stripe t was taken, and the history so far was seen
-  abbrev pub Takes : (Name → ℕ) → Settings → ℕ → PassState V → PassState V → Type 0
-  Takes hash set t p q =
-      (stripe : StripeState V) × (log : List (Entry V)) × IsNumbered set.s t stripe × ShowsOf hash set log log p q
-      × (q ≡ record { table = p.table; view = record p.view { held = (t, stripe.content) ∷ p.view.held; seen = log }; stripes = p.stripes ++ stripe ∷ [] })
+  -- It found the stripe t held.
+  abbrev pub FindsStripe : (Name → ℕ) → Settings → ℕ → PassState V → PassState V → Type 0
+  FindsStripe hash set t p q = (q.stripes ≡ p.stripes) × Steps hash set (FindHeld t) p.view q.view
 
-  -- the stripe t was found held
-  abbrev pub Finds : ℕ → PassState V → PassState V → Type 0
-  Finds t p q = q ≡ record p { view = record p.view { found = t ∷ p.view.found } }
+  -- Its highest stripe went home by the step for its number and for what the stripes contained then.
+  abbrev pub Sends : (Name → ℕ) → Settings → (ℕ → Stripes V → Move V) → PassState V → PassState V → Type 0
+  Sends hash set move p q = (stripe : StripeState V) × (p.stripes ≡ q.stripes ++ stripe ∷ []) × Steps hash set (move stripe.number (reverse (contents_of p.stripes))) p.view q.view
 
-  -- The highest stripe, of the contents hs, went home, and noroom may tell of it.
-  abbrev pub GivesBack : (Name → ℕ) → Settings → Stripes V → Option (Name × Why) → PassState V → PassState V → Type 0
-  GivesBack hash set hs g p q =
-      (stripe : StripeState V) × (log : List (Entry V)) × (p.stripes ≡ q.stripes ++ stripe ∷ []) × ShowsOf hash set log log p q
-      × (q.view ≡ giving p.view stripe.number stripe.content hs g)
-
-  -- The entry was decided with the contents hs, of which the highest stripe went home.
-  abbrev pub Decided : (Name → ℕ) → Settings → Stripes V → Entry V → PassState V → PassState V → Type 0
-  Decided hash set hs e p q =
-      (stripe : StripeState V) × (log : List (Entry V)) × (p.stripes ≡ q.stripes ++ stripe ∷ []) × ShowsOf hash set log (log ++ e ∷ []) p q
-      × (q.view ≡ deciding p.view stripe.number hs log e)
-
-  -- the history so far was seen, with a power that isn't below those that were told and heard
-  abbrev pub Looked : (Name → ℕ) → Settings → PassState V → PassState V → Type 0
-  Looked hash set p q = (log : List (Entry V)) × (power : ℕ) × ShowsOf hash set log log p q × (p.view.told ≤ power) × (p.view.heard_told ≤ power) × (q ≡ record p { view = record p.view { seen = log; told = power } })
+  -- It looked, and was told no power below the one that it had heard.
+  abbrev pub LooksUp : (Name → ℕ) → Settings → PassState V → PassState V → Type 0
+  LooksUp hash set p q = (q.stripes ≡ p.stripes) × ((power : ℕ) × (p.view.heard_told ≤ power) × Steps hash set (Look 0 power) p.view q.view)

@@ -5,7 +5,7 @@ use Rattle.ck_model.specs.Map.{Name}
 use Rattle.ck_model.specs.Numbered.{IsIn}
 use Rattle.ck_model.specs.History.{StartsWith, calls_by}
 use Rattle.ck_core.specs.declared.view.View.{View}
-use Rattle.ck_words.specs.Passes.{PassState, Takes, IsIdle}
+use Rattle.ck_words.specs.Passes.{PassState, TakesStripe, IsIdle}
 
 module _ {V : Type 0} where
   -- the pass after it found the stripe t held n times more
@@ -14,7 +14,7 @@ module _ {V : Type 0} where
 
   -- the stripe t was taken, after it was found held fewer times than the settings allow
   abbrev pub TakesWithin : (Name → ℕ) → Settings → ℕ → PassState V → PassState V → Type 0
-  TakesWithin hash set t p q = (n : ℕ) × (n < set.turns) × Takes hash set t (found_again n t p) q
+  TakesWithin hash set t p q = (n : ℕ) × (n < set.turns) × TakesStripe hash set t (found_again n t p) q
 
   -- What no step changes but one that decides or meets: the caller's entries and what it heard, and it has seen and was told no less. What it sees more is by others.
   pub record Stays (v w : View V) : Type 0 where

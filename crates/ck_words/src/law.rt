@@ -22,10 +22,9 @@ pub struct Take;
 
 impl<K: TableKey, V> Play<Option<Stripe<K, V>>, View<V>> for Take {
     ghost use Rattle.std.specs.Prelude.{◌/◌};
-    ghost use Rattle.ck_words.specs.Rule.{layout_of};
-    ghost use Rattle.ck_words.specs.Plays.{TakesOrFinds};
+    ghost use Rattle.ck_words.specs.Plays.{SeatTries};
 
-    ghost then = { λ st m r m2. TakesOrFinds (layout_of K.hash m.0.settings) m.0.settings.callers (st.word / 8) m r m2 };
+    ghost then = { λ st m r m2. SeatTries K.hash m.0.settings (st.word / 8) m r m2 };
 }
 
 /// What a stripe that goes home says of room. A call at `Brand` picks it.
@@ -50,10 +49,10 @@ pub struct Give<J> {
 
 impl<K: TableKey, V, J: Refuses> Play<Option<Stripe<K, V>>, View<V>> for Give<J> {
     ghost use Rattle.std.specs.Prelude.{◌/◌};
-    ghost use Rattle.ck_words.specs.Rule.{layout_of};
-    ghost use Rattle.ck_words.specs.Plays.{Gives};
+    ghost use Rattle.ck_core.specs.Steps.Move.{Give};
+    ghost use Rattle.ck_words.specs.Plays.{SeatGives};
 
-    ghost then = { λ st m _ m2. Gives (layout_of K.hash m.0.settings) m.0.settings.callers (st.word / 8) m.0.held J.refused m m2 };
+    ghost then = { λ st m _ m2. SeatGives K.hash m.0.settings (Give (st.word / 8) J.refused) m m2 };
 }
 
 /// A store of 0 after an identity section: the stripe goes home with its new content.
@@ -63,10 +62,10 @@ pub struct Renew<J> {
 
 impl<K: TableKey, V, J: Refuses> Play<Option<Stripe<K, V>>, View<V>> for Renew<J> {
     ghost use Rattle.std.specs.Prelude.{◌/◌};
-    ghost use Rattle.ck_words.specs.Rule.{layout_of};
-    ghost use Rattle.ck_words.specs.Plays.{Gives, contents_now};
+    ghost use Rattle.ck_core.specs.Steps.Move.{Renew};
+    ghost use Rattle.ck_words.specs.Plays.{SeatGives, contents_now};
 
-    ghost then = { λ st m _ m2. Gives (layout_of K.hash m.0.settings) m.0.settings.callers (st.word / 8) (contents_now m.1) J.refused m m2 };
+    ghost then = { λ st m _ m2. SeatGives K.hash m.0.settings (Renew (st.word / 8) (contents_now m.1) J.refused) m m2 };
 }
 
 /// The entry that a step decides. A call at `Brand` picks it.
@@ -89,20 +88,20 @@ pub struct Decide<J> {
 
 impl<K: TableKey, V, J: Says<V>> Play<Option<Stripe<K, V>>, View<V>> for Decide<J> {
     ghost use Rattle.std.specs.Prelude.{◌/◌};
-    ghost use Rattle.ck_words.specs.Rule.{layout_of};
-    ghost use Rattle.ck_words.specs.Plays.{Decides};
+    ghost use Rattle.ck_core.specs.Steps.Move.{Decide};
+    ghost use Rattle.ck_words.specs.Plays.{SeatGives, contents_now};
 
-    ghost then = { λ st m _ m2. Decides (layout_of K.hash m.0.settings) m.0.settings.callers (st.word / 8) J.entry m m2 };
+    ghost then = { λ st m _ m2. SeatGives K.hash m.0.settings (Decide (st.word / 8) (contents_now m.1) J.entry) m m2 };
 }
 
 /// A load: the history so far is seen.
 pub struct Look;
 
 impl<K: TableKey, V> Play<Option<Stripe<K, V>>, View<V>> for Look {
-    ghost use Rattle.ck_words.specs.Rule.{layout_of};
-    ghost use Rattle.ck_words.specs.Plays.{Looks};
+    ghost use Rattle.std.specs.Prelude.{◌/◌};
+    ghost use Rattle.ck_words.specs.Plays.{SeatLooks};
 
-    ghost then = { λ st m r m2. Looks (layout_of K.hash m.0.settings) m.0.settings.callers m m2 };
+    ghost then = { λ st m _ m2. SeatLooks K.hash m.0.settings (st.word / 8) m m2 };
 }
 
 /// A caller begins, with a number that nobody has used.

@@ -3,8 +3,8 @@ ghost use Rattle.std.specs.Prelude.{◌≡◌, ◌<◌, ◌≤◌, ◌^◌, true
 ghost use Rattle.ck_model.specs.Contents.{pairs_of};
 ghost use Rattle.ck_section.specs.Stripes.{stripe_at, contents_of};
 ghost use Rattle.ck_words.specs.Rule.{counting};
-ghost use Rattle.ck_words.specs.Passes.{IsPassOf, IsIdle, IsUnchanged, ShowsSeen, numbers_of};
-ghost use Rattle.ck_words.specs.Retries.{Stays, IsBusy};
+ghost use Rattle.ck_words.specs.Passes.{EachOf, IsPassOf, IsIdle, IsUnchanged, ShowsSeen, numbers_of};
+ghost use Rattle.ck_words.specs.Retries.{Stays, FindsAmong, IsBusy};
 ghost use Rattle.ck_words.specs.Closing.{settled_stripes, IsWhole};
 
 use crate::pass::Pass;
@@ -21,8 +21,10 @@ impl<K: TableKey + Drop, V: Drop> Words<K, V> {
         ensures own { IsPassOf self.now pass.new }
         ensures stays { Stays pass.old.view pass.new.view }
         ensures held { OnOk result (numbers_of pass.new.stripes ≡ counting 0 (2 ^ self.now.settings.s)) }
+        ensures of_table { OnOk result (EachOf self.now.settings.s pass.new.stripes) }
         ensures unchanged { OnOk result (IsUnchanged pass.new) }
         ensures shows { OnOk result (ShowsSeen K.hash self.now.settings pass.new) }
+        ensures found { FindsAmong (λ t. t < 2 ^ self.now.settings.s) pass.old pass.new }
         ensures busy { IfErr result (λ t. IsBusy self.now.settings.turns t pass.old pass.new) }
         ensures asked { IfErr result (λ t. t < 2 ^ self.now.settings.s) }
     {

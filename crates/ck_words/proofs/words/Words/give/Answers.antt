@@ -1,8 +1,7 @@
-use Rattle.std.proofs.Common.{◌≡◌, ◌∙◌, sym, ap, length, rules}
-use Rattle.ck_words.specs.Passes.{PassState}
-use Rattle.ck_words.proofs.Takes.{fits, same_table, word_inside}
+use Rattle.std.proofs.Common.{◌≡◌, ◌∙◌, length, rules}
+use Rattle.ck_words.proofs.Takes.{fits, same_table, word_inside, own_after}
 use Rattle.ck_words.proofs.Seating.{last}
-use Rattle.ck_words.proofs.Gives.{turned_by, inside, word_fits, held_now, give_ready, give_front, gave_gone, gone_seated, gone_unchanged, gives_back}
+use Rattle.ck_words.proofs.Gives.{turned_by, inside, word_fits, give_move, give_ready, give_tells, gone, sends, gone_seated, gone_unchanged}
 use Rattle.ck_words.proofs.words.Words.give.Goals as goal
 
 pub overflow_mul-t : goal.overflow_mul-t
@@ -16,26 +15,32 @@ store-requires g c = let f = fits _ _ _ _ _ _ _ c.self.view_is c.self.invariant 
     let l = last _ _ _ _ _ _ _ c.pass.invariant c.in-Some.ensures.items in (
       c.turn_by.ensures.kept.0 ∙ same_table h _ _ _ _ _ _ _ f,
       word_inside h _ _ _ _ _ _ _ f _ (inside h _ _ _ _ _ _ _ f _ _ _ l),
-      give_ready h _ _ _ _ _ _ _ f _ _ _ l _ _ _ turned _ c.requires.unchanged,
+      give_ready h _ _ _ _ _ _ _ f _ _ _ l _ _ _ turned g.J.Refuses.refused c.requires.unchanged c.requires.excused,
     )
 
 pub invariant_of-pass : goal.invariant_of-pass
 invariant_of-pass g c = let f = fits _ _ _ _ _ _ _ c.self.view_is c.self.invariant c.pass.view_is c.requires.own in let h = g.K.TableKey.hash in
     let n : c.len.result ≡ length c.pop.new.self.items = search rules in let turned = turned_by _ _ _ _ c.turn_by.ensures.turned n in
     let l = last _ _ _ _ _ _ _ c.pass.invariant c.in-Some.ensures.items in
-    let k = gave_gone h _ _ _ _ _ _ _ f _ _ _ l 0 0 _ turned _ _ _ (give_front h _ _ _ _ _ _ _ f _ _ _ l 0 0 _ turned _ _ c.store.ensures.2) (held_now h _ _ _ _ _ _ _ f _ _ _ l c.requires.unchanged) in
-    gone_seated h _ _ _ _ _ _ _ f _ _ _ l 0 0 _ turned _ _ _ _ _ k (c.store.ensures.0 ∙ c.turn_by.ensures.kept.0) c.in-Some.ensures.capacity
+    let k = gone h _ _ _ _ _ _ _ f _ _ _ l 0 0 _ turned (give_move h _ _ _ _ _ _ _ f _ _ _ l 0 0 _ turned g.J.Refuses.refused c.requires.unchanged) _ c.store.ensures.2 in
+    gone_seated h _ _ _ _ _ _ _ f _ _ _ l 0 0 _ turned (give_move h _ _ _ _ _ _ _ f _ _ _ l 0 0 _ turned g.J.Refuses.refused c.requires.unchanged) _ _ _ k (give_tells h _ _ _ _ _ _ _ f _ _ _ l 0 0 _ turned g.J.Refuses.refused c.requires.unchanged c.store.new.seat.me k) (c.store.ensures.0 ∙ c.turn_by.ensures.kept.0) c.in-Some.ensures.capacity
+
+pub returns-clause-own : goal.returns-clause-own
+returns-clause-own g c = let f = fits _ _ _ _ _ _ _ c.self.view_is c.self.invariant c.pass.view_is c.requires.own in let h = g.K.TableKey.hash in
+    let n : c.len.result ≡ length c.pop.new.self.items = search rules in let turned = turned_by _ _ _ _ c.turn_by.ensures.turned n in
+    let l = last _ _ _ _ _ _ _ c.pass.invariant c.in-Some.ensures.items in
+    let k = gone h _ _ _ _ _ _ _ f _ _ _ l 0 0 _ turned (give_move h _ _ _ _ _ _ _ f _ _ _ l 0 0 _ turned g.J.Refuses.refused c.requires.unchanged) _ c.store.ensures.2 in
+    own_after h _ _ _ _ _ _ _ f c.store.new.seat.table_id c.store.new.seat.me (c.store.ensures.0 ∙ c.turn_by.ensures.kept.0) (give_tells h _ _ _ _ _ _ _ f _ _ _ l 0 0 _ turned g.J.Refuses.refused c.requires.unchanged c.store.new.seat.me k).settings
 
 pub returns-clause-step : goal.returns-clause-step
 returns-clause-step g c = let f = fits _ _ _ _ _ _ _ c.self.view_is c.self.invariant c.pass.view_is c.requires.own in let h = g.K.TableKey.hash in
     let n : c.len.result ≡ length c.pop.new.self.items = search rules in let turned = turned_by _ _ _ _ c.turn_by.ensures.turned n in
     let l = last _ _ _ _ _ _ _ c.pass.invariant c.in-Some.ensures.items in
-    gives_back h _ _ _ _ _ _ _ f _ _ _ l 0 0 _ turned _ _ _ _ _ (c.store.ensures.0 ∙ c.turn_by.ensures.kept.0) (sym (ap (λ (q : PassState g.row.V.Denot). q.view.held) c.pass.view_is))
-    (give_front h _ _ _ _ _ _ _ f _ _ _ l 0 0 _ turned _ _ c.store.ensures.2)
+    sends h _ _ _ _ _ _ _ f _ _ _ l 0 0 _ turned (give_move h _ _ _ _ _ _ _ f _ _ _ l 0 0 _ turned g.J.Refuses.refused c.requires.unchanged) c.store.new.seat.table_id c.store.new.seat.me (gone h _ _ _ _ _ _ _ f _ _ _ l 0 0 _ turned (give_move h _ _ _ _ _ _ _ f _ _ _ l 0 0 _ turned g.J.Refuses.refused c.requires.unchanged) _ c.store.ensures.2)
 
 pub returns-clause-unchanged : goal.returns-clause-unchanged
 returns-clause-unchanged g c = let f = fits _ _ _ _ _ _ _ c.self.view_is c.self.invariant c.pass.view_is c.requires.own in let h = g.K.TableKey.hash in
     let n : c.len.result ≡ length c.pop.new.self.items = search rules in let turned = turned_by _ _ _ _ c.turn_by.ensures.turned n in
     let l = last _ _ _ _ _ _ _ c.pass.invariant c.in-Some.ensures.items in
-    let k = gave_gone h _ _ _ _ _ _ _ f _ _ _ l 0 0 _ turned _ _ _ (give_front h _ _ _ _ _ _ _ f _ _ _ l 0 0 _ turned _ _ c.store.ensures.2) (held_now h _ _ _ _ _ _ _ f _ _ _ l c.requires.unchanged) in
-    gone_unchanged h _ _ _ _ _ _ _ f _ _ _ l 0 0 _ turned _ _ c.store.new.seat.table_id c.store.new.seat.me k
+    let k = gone h _ _ _ _ _ _ _ f _ _ _ l 0 0 _ turned (give_move h _ _ _ _ _ _ _ f _ _ _ l 0 0 _ turned g.J.Refuses.refused c.requires.unchanged) _ c.store.ensures.2 in
+    gone_unchanged h _ _ _ _ _ _ _ f _ _ _ l 0 0 _ turned (give_move h _ _ _ _ _ _ _ f _ _ _ l 0 0 _ turned g.J.Refuses.refused c.requires.unchanged) c.store.new.seat.table_id c.store.new.seat.me k (give_tells h _ _ _ _ _ _ _ f _ _ _ l 0 0 _ turned g.J.Refuses.refused c.requires.unchanged c.store.new.seat.me k)

@@ -1,4 +1,4 @@
-use Rattle.ck_words.proofs.Takes.{fits, same_table, some_word, look_ready, looked, looked_seated}
+use Rattle.ck_words.proofs.Takes.{fits, same_table, some_word, own_after, look_ready, look_settings, looked, looked_seated}
 use Rattle.ck_words.proofs.words.Words.look.Goals as goal
 
 pub load-requires : goal.load-requires
@@ -7,8 +7,12 @@ load-requires g c = let f = fits _ _ _ _ _ _ _ c.self.view_is c.self.invariant c
 
 pub invariant_of-pass : goal.invariant_of-pass
 invariant_of-pass g c = let f = fits _ _ _ _ _ _ _ c.self.view_is c.self.invariant c.pass.view_is c.requires.own in let h = g.K.TableKey.hash in
-    looked_seated h _ _ _ _ _ _ _ f _ _ _ _ c.pass.invariant c.load.ensures.0 c.load.ensures.2
+    looked_seated h _ _ _ _ _ _ _ f _ c.load.ensures.2 _ _ _ c.pass.invariant c.load.ensures.0
+
+pub returns-clause-own : goal.returns-clause-own
+returns-clause-own g c = let f = fits _ _ _ _ _ _ _ c.self.view_is c.self.invariant c.pass.view_is c.requires.own in let h = g.K.TableKey.hash in
+    own_after h _ _ _ _ _ _ _ f c.load.new.seat.table_id c.load.new.seat.me c.load.ensures.0 (look_settings h _ _ _ _ _ _ _ f _ c.load.ensures.2)
 
 pub returns-clause-step : goal.returns-clause-step
 returns-clause-step g c = let f = fits _ _ _ _ _ _ _ c.self.view_is c.self.invariant c.pass.view_is c.requires.own in let h = g.K.TableKey.hash in
-    looked h _ _ _ _ _ _ _ f _ _ c.load.ensures.0 c.load.ensures.2
+    looked h _ _ _ _ _ _ _ f _ c.load.ensures.2 c.load.new.seat.table_id

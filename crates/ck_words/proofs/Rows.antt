@@ -1,0 +1,78 @@
+-- What the rows of the core leave of a caller's view.
+use Rattle.std.proofs.Common.{◌≡◌, ℕ, ◌<◌, ◌≤◌, List, [], ◌∷◌, ◌++◌, sym, ap, ◌∙◌, subst, ⊎_elim, arith, Option, None}
+use Rattle.std.specs.Prelude.{slice_set}
+use mathlib.Core.Option.{some, some-injective}
+use lib.ListN.{get_elem?}
+use Rattle.ck_model.specs.declared.history.Entry.{Entry}
+use Rattle.ck_model.specs.declared.history.Why.{Why}
+use Rattle.ck_model.specs.declared.contents.Content.{Content}
+use Rattle.ck_model.specs.declared.settings.Settings.{Settings}
+use Rattle.ck_model.specs.Map.{Name}
+use Rattle.ck_model.specs.Numbered.{IsIn, numbers, Holds}
+use Rattle.ck_model.specs.Contents.{Stripes}
+use Rattle.ck_model.proofs.Numbered.{in_held}
+use Rattle.ck_core.specs.declared.view.View.{View}
+use Rattle.ck_core.specs.State.{World}
+use Rattle.ck_core.specs.Steps.{Move, IsAbove, giving, deciding, grown}
+use Rattle.ck_core.specs.Steps.Move.{Take, FindHeld, Give, Decide, GiveRest, Renew, Look}
+use Rattle.ck_core.specs.Laws.{Shows}
+use Rattle.ck_core.proofs.Lists.{set_there}
+use Rattle.ck_core.proofs.Keeps.{step_keeps}
+use Rattle.ck_core.proofs.Shown.{shows}
+use Rattle.ck_words.specs.Rule.{layout_of}
+use Rattle.ck_words.specs.Steps.{Steps}
+
+module _ {V : Type 0} (hash : Name → ℕ) (set : Settings) where
+  module _ (m : Move V) (v w : View V) (r : Steps hash set m v w) where
+    pub shows_before : Shows (layout_of hash set) set.callers r.log v
+    shows_before = shows (layout_of hash set) set.callers r.log r.before r.law r.id v r.was
+
+    pub shows_after : Shows (layout_of hash set) set.callers (grown r.log m) w
+    shows_after = shows (layout_of hash set) set.callers (grown r.log m) r.after (step_keeps (layout_of hash set) set.min_load set.callers r.log r.id m r.before r.after r.law r.does) r.id w r.is
+
+    -- there is one view of the caller before the step
+    same_view : (u : View V) → get_elem? r.before.views r.id ≡ some u → u ≡ v
+    same_view u at = some-injective u v (sym at ∙ r.was)
+
+    -- and one after it
+    new_view : (new : View V → View V) (u : View V) → get_elem? r.before.views r.id ≡ some u → r.after.views ≡ slice_set r.before.views r.id (new u) → w ≡ new v
+    new_view new u at after = some-injective w (new v) (sym r.is ∙ (ap (λ vs. get_elem? vs r.id) after ∙ (set_there r.before.views r.id u (new u) at ∙ ap (λ x. some (new x)) (same_view u at))))
+
+  module _ (v w : View V) where
+    pub take_row : (t : ℕ) (r : Steps hash set (Take t) v w) → w ≡ record v { held = (t, r.does.1) ∷ v.held; seen = r.log }
+    take_row t r = new_view (Take t) v w r (λ u. record u { held = (t, r.does.1) ∷ u.held; seen = r.log }) r.does.0 r.does.2 (ap (λ (x : World V). x.views) r.does.7)
+
+    take_above : (t : ℕ) (r : Steps hash set (Take t) v w) → IsAbove t (numbers v.held)
+    take_above t r = subst (λ (u : View V). IsAbove t (numbers u.held)) (same_view (Take t) v w r r.does.0 r.does.2) r.does.5
+
+    -- the view tells the content of the stripe that was taken
+    pub take_held : (t : ℕ) (c : Content V) → Steps hash set (Take t) v w → Holds w.held t c → w.held ≡ (t, c) ∷ v.held
+    take_held t c r h =
+        let held = ap (λ (u : View V). u.held) (take_row t r) in
+        let same : r.does.1 ≡ c = ⊎_elim (λ (e : (t ≡ t) × (r.does.1 ≡ c)). e.1) (λ i. let l = take_above t r t (in_held v.held t c i) in absurd (omega arith)) (subst (λ (hs : Stripes V). Holds hs t c) held h) in
+        held ∙ λ i. (t, same i) ∷ v.held
+
+    pub find_row : (t : ℕ) → Steps hash set (FindHeld t) v w → w ≡ record v { found = t ∷ v.found }
+    find_row t r = new_view (FindHeld t) v w r (λ u. record u { found = t ∷ u.found }) r.does.0 r.does.1 (ap (λ (x : World V). x.views) r.does.5)
+
+    pub give_row : (t : ℕ) (g : Option (Name × Why)) (r : Steps hash set (Give t g) v w) → w ≡ giving v t r.does.1 v.held g
+    give_row t g r = new_view (Give t g) v w r (λ u. giving u t r.does.1 u.held g) r.does.0 r.does.2 (ap (λ (x : World V). x.views) r.does.5)
+
+    -- a give that tells nothing is a give of the rest
+    pub give_rest : (t : ℕ) → Steps hash set (Give t None) v w → Steps hash set (GiveRest t) v w
+    give_rest t r = record { log = r.log; id = r.id; before = r.before; after = r.after; law = r.law; does = (r.does.0, r.does.1, r.does.2, r.does.3, r.does.5); was = r.was; is = r.is }
+
+    pub rest_row : (t : ℕ) (r : Steps hash set (GiveRest t) v w) → w ≡ giving v t r.does.1 v.held None
+    rest_row t r = new_view (GiveRest t) v w r (λ u. giving u t r.does.1 u.held None) r.does.0 r.does.2 (ap (λ (x : World V). x.views) r.does.4)
+
+    pub decide_row : (t : ℕ) (ks : Stripes V) (e : Entry V) (r : Steps hash set (Decide t ks e) v w) → w ≡ deciding v t ks r.log e
+    decide_row t ks e r = new_view (Decide t ks e) v w r (λ u. deciding u t ks r.log e) r.does.0 r.does.2 (ap (λ (x : World V). x.views) r.does.6)
+
+    pub renew_row : (t : ℕ) (ks : Stripes V) (g : Option (Name × Why)) (r : Steps hash set (Renew t ks g) v w) → w ≡ giving v t r.does.1 ks g
+    renew_row t ks g r = new_view (Renew t ks g) v w r (λ u. giving u t r.does.1 ks g) r.does.0 r.does.2 (ap (λ (x : World V). x.views) r.does.6)
+
+    pub look_row : (t p : ℕ) (r : Steps hash set (Look t p) v w) → w ≡ record v { seen = r.log; told = p }
+    look_row t p r = new_view (Look t p) v w r (λ u. record u { seen = r.log; told = p }) r.does.0 r.does.1 (ap (λ (x : World V). x.views) r.does.5)
+
+    pub look_told : (t p : ℕ) → Steps hash set (Look t p) v w → v.told ≤ p
+    look_told t p r = subst (λ (u : View V). u.told ≤ p) (same_view (Look t p) v w r r.does.0 r.does.1) r.does.3
