@@ -15,10 +15,6 @@ module _ {K V : Type 0} (name : K → Name) where
   seen-at (s ∷ slots) zero = refl
   seen-at (s ∷ slots) (suc i) = seen-at slots i
 
-  -- the same from a read of the slot
-  pub seen-read : (slots : List (Option (K × V))) (seen : List (Slot V)) (i : ℕ) (o : Option (K × V)) → seen_slots name slots ≡ seen → o ≡ slice_index_or slots i None → slot_at seen i ≡ option_map (named name) o
-  seen-read slots seen i o same read = ap (λ s. slot_at s i) (sym same) ∙ seen-at slots i ∙ ap (option_map (named name)) (sym read)
-
   -- what is seen of a slot comes from an entry
   entry_of : (o : Option (K × V)) (n : Name) (v : V) → option_map (named name) o ≡ Some (n, v) → (k : K) × (o ≡ Some (k, v)) × (name k ≡ n)
   entry_of None n v e = cc
