@@ -81,7 +81,17 @@ impl<K: TableKey + Drop, V: Drop> Held<K, V> for Lent<'_, K, V> {
         let words = self.words;
         let pass = &mut *self.pass;
         let shared = &words.table.shared;
-        slots::place_at(shared, &mut pass.seat, &pass.taken, i, b, slot, partial, key, value);
+        slots::place_at(
+            shared,
+            &mut pass.seat,
+            &pass.taken,
+            i,
+            b,
+            slot,
+            partial,
+            key,
+            value,
+        );
     }
 
     fn remove(&mut self, i: usize, b: u64, slot: usize) -> (K, V) {
