@@ -12,8 +12,8 @@ use Rattle.ck_section.specs.declared.place.Place.{Place}
 use Rattle.ck_section.specs.Stripes.{stripe_at, IsInReach}
 use Rattle.ck_section.specs.Places.{place_of, IsPlaceOf, IsSlotOf, slot_in, set_slot, IsNowhere, AreFull, IsNext}
 use Rattle.ck_section.specs.Calls.{IsCall, IsAt, IsCallAt, IsPlacing, IsWithRoom, IsWithoutRoom, ChangesContents}
-use Rattle.ck_section.proofs.Found.{no_room, has_room, bound_room, set_here, set_changes, changes_none, changes_on}
-use Rattle.ck_section.proofs.Decided.{s_at, keeps_unbound, keeps_bound, placed, removed, replaced, put_back, at_old, at_new, reach_set}
+use Rattle.ck_section.proofs.Found.{no_room, has_room, bound_room, set_changes, changes_none, changes_on}
+use Rattle.ck_section.proofs.Decided.{s_at, keeps_unbound, keeps_bound, placed, removed, replaced, at_old, at_new}
 
 -- a fact that holds anyway
 pub none_anyway : {A : Type 0} (o : Option A) (P : Type 0) → P → IfNone o P
@@ -46,12 +46,6 @@ module _ {V : Type 0} where
   hop_changes stripes cur mid new from to x y n m same first second e f =
       let one : ChangesContents stripes mid = written_changes stripes mid from x n first (e ∙ ap (λ (l : List (StripeState V)). set_slot l from x n) same) in
       changes_on stripes mid new one (written_changes mid new to y m (subst (λ k. to.index < k) (sym one.count) second) f)
-
-  pub two_changes : (stripes cur new : List (StripeState V)) (at : HeldSlot) (x y : Slot V) (n m : ℕ) → cur ≡ stripes → IsInReach stripes at.index at.bucket → new ≡ set_slot (set_slot cur at x n) at y m → ChangesContents stripes new
-  two_changes stripes cur new at x y n m same reach e =
-      let mid : List (StripeState V) = set_slot stripes at x n in
-      subst (λ (l : List (StripeState V)). ChangesContents stripes l) (sym (e ∙ ap (λ (l : List (StripeState V)). set_slot (set_slot l at x n) at y m) same))
-      (changes_on stripes mid (set_slot mid at y m) (slot_changes stripes stripes mid at x n refl reach refl) (slot_changes mid mid (set_slot mid at y m) at y m refl (reach_set stripes at reach x n) refl))
 
   module _ (hash : Name → ℕ) (stripes : List (StripeState V)) (q : Name) (place : KeyPlace) (of : IsPlaceOf hash stripes q place) (cur : List (StripeState V)) (same : cur ≡ stripes) where
     -- the name was not found
@@ -101,22 +95,6 @@ module _ {V : Type 0} where
               call = replaced hash stripes q place of act reply at slot found.0 w found.1 answers;
               entry = at_new hash place.s q stripes at w _ slot.reach slot.below (s_at hash stripes q place of at slot);
             })
-
-        pub rewrote : (act : Act V) (reply : Reply V) (w : V) (new : List (StripeState V)) → Answers act (Some found.0) reply (Some w)
-            → new ≡ set_slot (set_slot cur at None ((stripe_at cur at.index).content.ledger - 1)) at (Some (q, w)) ((stripe_at (set_slot cur at None ((stripe_at cur at.index).content.ledger - 1)) at.index).content.ledger + 1)
-            → IsCallAt hash place.s stripes q act reply new p w
-        rewrote act reply w new answers e =
-            let freed : List (StripeState V) → List (StripeState V) = λ (l : List (StripeState V)). set_slot l at None ((stripe_at l at.index).content.ledger - 1) in
-            let whole : new ≡ set_slot (freed stripes) at (Some (q, w)) ((stripe_at (freed stripes) at.index).content.ledger + 1) =
-            e ∙ ap (λ (l : List (StripeState V)). set_slot (set_slot l at None ((stripe_at l at.index).content.ledger - 1)) at (Some (q, w)) ((stripe_at (set_slot l at None ((stripe_at l at.index).content.ledger - 1)) at.index).content.ledger + 1)) same in
-            record {
-              call = put_back hash stripes q place of act reply at slot found.0 w found.1 answers new whole;
-              entry = subst (λ (x : List (StripeState V) × Place). IsAt hash place.s x.0 x.1 q w) (λ i. (sym whole i, sym there i))
-                  (at_new hash place.s q (freed stripes) at w _ (reach_set stripes at slot.reach None _) slot.below (s_freed (s_at hash stripes q place of at slot)));
-            }
-          where
-            s_freed : (stripe_at stripes at.index).s ≡ place.s → (stripe_at (set_slot stripes at None ((stripe_at stripes at.index).content.ledger - 1)) at.index).s ≡ place.s
-            s_freed f = ap (λ (t : StripeState V). t.s) (set_here stripes at.index _ slot.reach.inside) ∙ f
 
         pub took : (act : Act V) (reply : V → Reply V) (n : Name) (v : V) (new : List (StripeState V)) → ((w : V) → Answers act (Some w) (reply w) None)
             → slot_in cur at ≡ Some (n, v) → new ≡ set_slot cur at None ((stripe_at cur at.index).content.ledger - 1)

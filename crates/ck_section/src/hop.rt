@@ -47,7 +47,7 @@ pub fn move_entry<K: TableKey + Drop, V: Drop, H: Held<K, V>>(
         return false;
     };
     let (key, value) = held.remove(from, hop.bucket, hop.slot);
-    held.place(to, hop.target, slot, key, value);
+    held.place(to, hop.target, slot, hop.partial, key, value);
     true
 }
 

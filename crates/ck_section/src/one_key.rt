@@ -1,18 +1,17 @@
 //! Calls on one key, whose two buckets are held. Each looks into a bucket once, and compares keys of one partial alone.
-ghost use Rattle.std.specs.Prelude.{◌≡◌, ◌<◌, ◌+◌, ◌-◌, Some, None, IfSome, IfNone, IsSome, IfOk, IfErr, OnOk, MatchBool, MatchOption};
+ghost use Rattle.std.specs.Prelude.{◌≡◌, Some, None, IfSome, IfNone, IfOk, IfErr, OnOk, MatchBool, MatchOption};
 ghost use Rattle.std.specs.Fn.{FnOnceReturnsAt};
 ghost use Rattle.ck_model.specs.declared.history.Act.{Act};
 ghost use Rattle.ck_model.specs.declared.history.Reply.{Reply};
 ghost use Rattle.ck_model.specs.declared.history.Act.TheVariants.{Find, Insert, Assign, Update, Change, Upsert, Erase};
 ghost use Rattle.ck_model.specs.declared.history.Reply.TheVariants.{Was, New, Old, Done, Absent};
 ghost use Rattle.ck_model.specs.Map.{Answers};
-ghost use Rattle.ck_section.specs.Stripes.{stripe_at, IsInReach};
-ghost use Rattle.ck_section.specs.Places.{IsPlaceOf, IsNowhere, slot_in, set_slot};
+ghost use Rattle.ck_section.specs.Places.{IsPlaceOf, IsNowhere};
 ghost use Rattle.ck_section.specs.Calls.{IsCall, IsAt, IsCallAt, IsPlacing, IsWithRoom, IsWithoutRoom, ChangesContents};
 
 use crate::held::Held;
 use crate::look::{find_entry, find_free};
-use crate::place::{Answer, HeldSlot, KeyPlace, Place};
+use crate::place::{Answer, KeyPlace, Place};
 use ck_key::TableKey;
 
 /// A key and its value, given back: the key is unbound, and both its buckets are full.
@@ -196,7 +195,7 @@ where
     ensures stays { H.stays held.old held.new }
 {
     let at = find_entry(held, place, key)?;
-    change_at(held, at, f);
+    held.change(at.index, at.bucket, at.slot, f);
     Some(at.place(place.s))
 }
 
@@ -222,7 +221,7 @@ where
     ensures stays { H.stays held.old held.new }
 {
     if let Some(entry) = find_entry(held, place, &key) {
-        change_at(held, entry, f);
+        held.change(entry.index, entry.bucket, entry.slot, f);
         return Ok(Answer {
             reply: false,
             place: entry.place(place.s),
@@ -254,28 +253,9 @@ fn place_new<K: TableKey + Drop, V: Drop, H: Held<K, V>>(
 {
     match find_free(held, place, &key) {
         Some(at) => {
-            held.place(at.index, at.bucket, at.slot, key, value);
+            held.place(at.index, at.bucket, at.slot, place.partial, key, value);
             Ok(at.place(place.s))
         }
         None => Err(NoRoom { key, value }),
     }
-}
-
-// Binds the key of the slot to what the closure makes of its value.
-fn change_at<K: TableKey + Drop, V: Drop, H: Held<K, V>, F: FnOnce(V) -> V>(
-    held: &mut H,
-    at: HeldSlot,
-    f: F,
-)
-where
-    F: Drop,
-    requires reach { IsInReach (H.stripes held.old) at.index at.bucket }
-    requires below { at.slot < 4 }
-    requires full { IsSome (slot_in (H.stripes held.old) at) }
-    requires call { F.IsAlwaysCallable f }
-    ensures changed { (q : _) (v : V) → slot_in (H.stripes held.old) at ≡ Some (q, v) → (w : V) × F.post f v w × (H.stripes held.new ≡ set_slot (set_slot (H.stripes held.old) at None ((stripe_at (H.stripes held.old) at.index).content.ledger - 1)) at (Some (q, w)) ((stripe_at (set_slot (H.stripes held.old) at None ((stripe_at (H.stripes held.old) at.index).content.ledger - 1)) at.index).content.ledger + 1)) }
-    ensures stays { H.stays held.old held.new }
-{
-    let (key, value) = held.remove(at.index, at.bucket, at.slot);
-    held.place(at.index, at.bucket, at.slot, key, f(value));
 }

@@ -16,7 +16,7 @@ use crate::look::{bucket_index, key_place};
 use crate::one_key::{self, NoRoom};
 use crate::place::{Answer, KeyPlace, Place};
 use crate::slice::Slice;
-use ck_key::TableKey;
+use ck_key::{KeyHash, TableKey};
 use ck_stripe::Stripe;
 
 /// The stripes of a key, in rising order of their numbers.
@@ -54,7 +54,7 @@ impl<'a, K: TableKey + Drop, V: Drop> Pair<'a, K, V> {
         ensures held { AreHeld self.new.s self.new.held.stripes.now }
         ensures stays { self.new.held.stripes.ghost_name ≡ self.old.held.stripes.ghost_name }
     {
-        let place = key_place(&mut self.held, self.s, key);
+        let place = key_place(&mut self.held, self.s, key, KeyHash::of(key));
         one_key::find(&mut self.held, place, key, f)
     }
 
@@ -70,7 +70,7 @@ impl<'a, K: TableKey + Drop, V: Drop> Pair<'a, K, V> {
         ensures held { AreHeld self.new.s self.new.held.stripes.now }
         ensures stays { self.new.held.stripes.ghost_name ≡ self.old.held.stripes.ghost_name }
     {
-        let place = key_place(&mut self.held, self.s, &key);
+        let place = key_place(&mut self.held, self.s, &key, KeyHash::of(&key));
         one_key::insert(&mut self.held, place, key, value)
     }
 
@@ -86,7 +86,7 @@ impl<'a, K: TableKey + Drop, V: Drop> Pair<'a, K, V> {
         ensures held { AreHeld self.new.s self.new.held.stripes.now }
         ensures stays { self.new.held.stripes.ghost_name ≡ self.old.held.stripes.ghost_name }
     {
-        let place = key_place(&mut self.held, self.s, &key);
+        let place = key_place(&mut self.held, self.s, &key, KeyHash::of(&key));
         one_key::assign(&mut self.held, place, key, value)
     }
 
@@ -101,7 +101,7 @@ impl<'a, K: TableKey + Drop, V: Drop> Pair<'a, K, V> {
         ensures held { AreHeld self.new.s self.new.held.stripes.now }
         ensures stays { self.new.held.stripes.ghost_name ≡ self.old.held.stripes.ghost_name }
     {
-        let place = key_place(&mut self.held, self.s, key);
+        let place = key_place(&mut self.held, self.s, key, KeyHash::of(key));
         one_key::update(&mut self.held, place, key, value)
     }
 
@@ -116,7 +116,7 @@ impl<'a, K: TableKey + Drop, V: Drop> Pair<'a, K, V> {
         ensures held { AreHeld self.new.s self.new.held.stripes.now }
         ensures stays { self.new.held.stripes.ghost_name ≡ self.old.held.stripes.ghost_name }
     {
-        let place = key_place(&mut self.held, self.s, key);
+        let place = key_place(&mut self.held, self.s, key, KeyHash::of(key));
         one_key::erase(&mut self.held, place, key)
     }
 
@@ -134,7 +134,7 @@ impl<'a, K: TableKey + Drop, V: Drop> Pair<'a, K, V> {
         ensures held { AreHeld self.new.s self.new.held.stripes.now }
         ensures stays { self.new.held.stripes.ghost_name ≡ self.old.held.stripes.ghost_name }
     {
-        let place = key_place(&mut self.held, self.s, key);
+        let place = key_place(&mut self.held, self.s, key, KeyHash::of(key));
         one_key::change(&mut self.held, place, key, f)
     }
 
@@ -158,7 +158,7 @@ impl<'a, K: TableKey + Drop, V: Drop> Pair<'a, K, V> {
         ensures held { AreHeld self.new.s self.new.held.stripes.now }
         ensures stays { self.new.held.stripes.ghost_name ≡ self.old.held.stripes.ghost_name }
     {
-        let place = key_place(&mut self.held, self.s, &key);
+        let place = key_place(&mut self.held, self.s, &key, KeyHash::of(&key));
         one_key::upsert(&mut self.held, place, key, f, value)
     }
 

@@ -10,7 +10,7 @@ use crate::look::key_place;
 use crate::place::Place;
 use crate::slice::Slice;
 use crate::two_keys;
-use ck_key::TableKey;
+use ck_key::{KeyHash, TableKey};
 use ck_stripe::Stripe;
 
 /// The stripes of two keys, one to four, in rising order of their numbers.
@@ -55,8 +55,8 @@ impl<'a, K: TableKey + Drop, V: Drop> Several<'a, K, V> {
         ensures held { AreHeld self.new.s self.new.held.stripes.now }
         ensures stays { self.new.held.stripes.ghost_name ≡ self.old.held.stripes.ghost_name }
     {
-        let place_a = key_place(&mut self.held, self.s, a);
-        let place_b = key_place(&mut self.held, self.s, b);
+        let place_a = key_place(&mut self.held, self.s, a, KeyHash::of(a));
+        let place_b = key_place(&mut self.held, self.s, b, KeyHash::of(b));
         two_keys::update_two(&mut self.held, a, place_a, b, place_b, f)
     }
 }

@@ -3,7 +3,7 @@ use Rattle.ck_model.specs.declared.history.Act.TheVariants.{Upsert}
 use Rattle.ck_model.specs.declared.history.Reply.TheVariants.{New, Done}
 use Rattle.ck_stripe.specs.Stripe.{StripeState}
 use Rattle.ck_section.specs.Calls.{IsPlacing, IsWithRoom, IsWithoutRoom, ChangesContents}
-use Rattle.ck_section.proofs.Steps.{bound_with_room, two_changes, found_in, rewrote, reach_still, full_still}
+use Rattle.ck_section.proofs.Steps.{bound_with_room, slot_changes, found_in, wrote, reach_still, full_still}
 use Rattle.ck_section.specs.Places.{IsPlaceOf, IsNowhere}
 use Rattle.ck_section.proofs.one_key.upsert.Goals as goal
 
@@ -15,8 +15,8 @@ returns-in-Some-clause-call g c =
     let name = g.K.TableKey.name c.args.key in
     let at = c.in-Some.entry in
     let found = c.in-Some.ensures.found in
-    let z = c.change_at.ensures.changed name found.0 (found_in hash stripes name c.args.place c.requires.place cur c.find_entry.ensures.same at c.in-Some.ensures.slot c.place.result c.place.ensures found) in
-    (found.0, z.0, z.1, rewrote hash stripes name c.args.place c.requires.place cur c.find_entry.ensures.same at c.in-Some.ensures.slot c.place.result c.place.ensures found (Upsert c.args.value) (Done found.0 z.0) z.0 (g.H.Held.stripes c.change_at.new.held) (z.0, refl, refl) z.2)
+    let z = c.change.ensures.content name found.0 (found_in hash stripes name c.args.place c.requires.place cur c.find_entry.ensures.same at c.in-Some.ensures.slot c.place.result c.place.ensures found) in
+    (found.0, z.0, z.1, wrote hash stripes name c.args.place c.requires.place cur c.find_entry.ensures.same at c.in-Some.ensures.slot c.place.result c.place.ensures found (Upsert c.args.value) (Done found.0 z.0) z.0 (g.H.Held.stripes c.change.new.self) (z.0, refl, refl) z.2)
 
 pub returns-in-Some-clause-rest : goal.returns-in-Some-clause-rest
 returns-in-Some-clause-rest g c =
@@ -26,8 +26,8 @@ returns-in-Some-clause-rest g c =
     let name = g.K.TableKey.name c.args.key in
     let at = c.in-Some.entry in
     let found = c.in-Some.ensures.found in
-    let z = c.change_at.ensures.changed name found.0 (found_in hash stripes name c.args.place c.requires.place cur c.find_entry.ensures.same at c.in-Some.ensures.slot c.place.result c.place.ensures found) in
-    two_changes stripes cur (g.H.Held.stripes c.change_at.new.held) at _ _ _ _ c.find_entry.ensures.same c.in-Some.ensures.slot.reach z.2
+    let z = c.change.ensures.content name found.0 (found_in hash stripes name c.args.place c.requires.place cur c.find_entry.ensures.same at c.in-Some.ensures.slot c.place.result c.place.ensures found) in
+    slot_changes stripes cur (g.H.Held.stripes c.change.new.self) at _ _ c.find_entry.ensures.same c.in-Some.ensures.slot.reach z.2
 
 pub returns-in-Some-clause-room : goal.returns-in-Some-clause-room
 returns-in-Some-clause-room g c =
@@ -76,14 +76,14 @@ returns-in-Err-clause-rest g c = subst (λ (l : List (StripeState g.row.V.Denot)
 pub returns-in-Err-clause-stays : goal.returns-in-Err-clause-stays
 returns-in-Err-clause-stays g c = g.met.H.Held.stays_on _ _ _ c.find_entry.ensures.stays c.place_new.ensures.stays
 
-pub change_at-requires-clause-reach : goal.change_at-requires-clause-reach
-change_at-requires-clause-reach g c = reach_still (g.H.Held.stripes c.args.held.now) (g.H.Held.stripes c.find_entry.new.held) c.find_entry.ensures.same c.in-Some.entry.index c.in-Some.entry.bucket c.in-Some.ensures.slot.reach
+pub change-requires-clause-reach : goal.change-requires-clause-reach
+change-requires-clause-reach g c = reach_still (g.H.Held.stripes c.args.held.now) (g.H.Held.stripes c.find_entry.new.held) c.find_entry.ensures.same c.in-Some.entry.index c.in-Some.entry.bucket c.in-Some.ensures.slot.reach
 
-pub change_at-requires-clause-below : goal.change_at-requires-clause-below
-change_at-requires-clause-below g c = c.in-Some.ensures.slot.below
+pub change-requires-clause-below : goal.change-requires-clause-below
+change-requires-clause-below g c = c.in-Some.ensures.slot.below
 
-pub change_at-requires-clause-full : goal.change_at-requires-clause-full
-change_at-requires-clause-full g c = full_still (g.H.Held.stripes c.args.held.now) (g.H.Held.stripes c.find_entry.new.held) c.find_entry.ensures.same c.in-Some.entry (g.K.TableKey.name c.args.key) c.in-Some.ensures.found
+pub change-requires-clause-full : goal.change-requires-clause-full
+change-requires-clause-full g c = full_still (g.H.Held.stripes c.args.held.now) (g.H.Held.stripes c.find_entry.new.held) c.find_entry.ensures.same c.in-Some.entry (g.K.TableKey.name c.args.key) c.in-Some.ensures.found
 
 pub returns-in-Some-clause-stays : goal.returns-in-Some-clause-stays
-returns-in-Some-clause-stays g c = g.met.H.Held.stays_on _ _ _ c.find_entry.ensures.stays c.change_at.ensures.stays
+returns-in-Some-clause-stays g c = g.met.H.Held.stays_on _ _ _ c.find_entry.ensures.stays c.change.ensures.stays

@@ -1,5 +1,6 @@
 use Rattle.std.proofs.Common.{◌≡◌, Some, IsSome, List, refl, sym, ◌∙◌, ap, subst}
 use Rattle.std.proofs.lemmas.Option.{some_pair_parts}
+use Rattle.ck_model.specs.Arithmetic.{partial_of}
 use Rattle.ck_model.specs.declared.history.Reply.TheVariants.{DoneTwo}
 use Rattle.ck_model.specs.Map.{Name}
 use Rattle.ck_model.specs.Slots.{Slot}
@@ -86,6 +87,32 @@ remove-key_b-requires-clause-full g c =
     let one : g.H.Held.stripes c.remove-key_a.new.self ≡ taken stripes x = c.remove-key_a.ensures.content ∙ ap (λ (l : List (StripeState V)). taken l x) cur in
     let P : Slot V → Type 0 = λ o. IsSome o in
     subst P (sym (ap (λ (l : List (StripeState V)). slot_in l y) one ∙ full1 hash a b c.args.place_a c.args.place_b stripes c.requires.first c.requires.second c.requires.different x sx v ex y sy w0 found_b v v)) refl
+
+pub place-requires-2-clause-partial : goal.place-requires-2-clause-partial
+place-requires-2-clause-partial g c =
+    let V : Type 0 = g.row.V.Denot in
+    let hash = g.K.TableKey.hash in
+    let stripes : List (StripeState V) = g.H.Held.stripes c.args.held.now in
+    let a : Name = g.K.TableKey.name c.args.a.now in
+    let b : Name = g.K.TableKey.name c.args.b.now in
+    let x : HeldSlot = c.in_ok-at_a.at_a in
+    let sx : IsSlotOf hash stripes a x = c.in_ok-at_a.ensures.slot in
+    let found_a = c.in_ok-at_a.ensures.found in
+    let y : HeldSlot = c.in_ok-at_b.at_b in
+    let first : g.H.Held.stripes c.find_entry.new.held ≡ stripes = c.find_entry.ensures.same in
+    let cur : g.H.Held.stripes c.find_entry-2.new.held ≡ stripes = c.find_entry-2.ensures.same ∙ first in
+    let sy : IsSlotOf hash stripes b y = subst (λ (l : List (StripeState V)). IsSlotOf hash l b y) first c.in_ok-at_b.ensures.slot in
+    let w0 : V = c.in_ok-at_b.ensures.found.0 in
+    let found_b : slot_in stripes y ≡ Some (b, w0) = ap (λ (l : List (StripeState V)). slot_in l y) (sym first) ∙ c.in_ok-at_b.ensures.found.1 in
+    let v : V = c.remove-key_a.result.1 in
+    let entry_a : slot_in stripes x ≡ Some (g.K.TableKey.name c.remove-key_a.result.0, v) = ap (λ (l : List (StripeState V)). slot_in l x) (sym cur) ∙ c.remove-key_a.ensures.entry in
+    let name_a : g.K.TableKey.name c.remove-key_a.result.0 ≡ a = (some_pair_parts _ _ _ _ (sym entry_a ∙ found_a.1)).0 in
+    let ex : slot_in stripes x ≡ Some (a, v) = entry_a ∙ ap (λ (n : Name). Some (n, v)) name_a in
+    let one : g.H.Held.stripes c.remove-key_a.new.self ≡ taken stripes x = c.remove-key_a.ensures.content ∙ ap (λ (l : List (StripeState V)). taken l x) cur in
+    let w : V = c.remove-key_b.result.1 in
+    let entry_b : slot_in (taken stripes x) y ≡ Some (g.K.TableKey.name c.remove-key_b.result.0, w) = ap (λ (l : List (StripeState V)). slot_in l y) (sym one) ∙ c.remove-key_b.ensures.entry in
+    let same_b = some_pair_parts _ _ _ _ (sym entry_b ∙ full1 hash a b c.args.place_a c.args.place_b stripes c.requires.first c.requires.second c.requires.different x sx v ex y sy w0 found_b v v) in
+    c.requires.second.partial ∙ ap (λ (n : Name). partial_of (hash n)) (sym same_b.0)
 
 pub place-requires-clause-reach : goal.place-requires-clause-reach
 place-requires-clause-reach g c =
