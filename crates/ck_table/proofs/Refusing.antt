@@ -8,7 +8,7 @@ use Rattle.ck_model.specs.Contents.{Stripes}
 use Rattle.ck_model.specs.Sections.{Owns}
 use Rattle.ck_stripe.specs.Stripe.{StripeState}
 use Rattle.ck_section.specs.Stripes.{stripe_at, contents_of}
-use Rattle.ck_section.specs.Places.{HasStripe, HasBoth}
+use Rattle.ck_section.specs.Places.{HasBoth}
 use Rattle.ck_core.specs.declared.view.View.{View}
 use Rattle.ck_words.specs.Rule.{layout_of}
 use Rattle.ck_words.specs.Passes.{PassState, GivesBack}

@@ -14,7 +14,7 @@ use crate::refusal::{Busy, Refused, Why};
 use crate::table::Table;
 use ck_key::TableKey;
 use ck_section::{NoRoom, assign, insert, key_place, upsert};
-use ck_words::{Lent, Pass};
+use ck_words::{Commit, Lent, Pass};
 use std::marker::Brand;
 use std::snapshot::Snapshot;
 
@@ -38,12 +38,13 @@ impl<K: TableKey + Drop, V: Drop> Table<K, V> {
                 why: Why::Busy(stripe),
             });
         }
-        let said = (Snapshot::of(&key), Snapshot::of(&value));
+        let key_said = Snapshot::of(&key);
+        let value_said = Snapshot::of(&value);
         let done = self.insert_held(pass, key, value);
         match done {
             Ok(fresh) => {
                 self.words
-                    .answer::<Brand, (Snapshot<K>, Snapshot<V>)>(pass, &said);
+                    .commit(pass, Commit::Insert(key_said, value_said));
                 Ok(fresh)
             }
             Err(back) => Err(self.refuse(pass, back)),
@@ -73,12 +74,13 @@ impl<K: TableKey + Drop, V: Drop> Table<K, V> {
                 why: Why::Busy(stripe),
             });
         }
-        let said = (Snapshot::of(&key), Snapshot::of(&value));
+        let key_said = Snapshot::of(&key);
+        let value_said = Snapshot::of(&value);
         let done = self.assign_held(pass, key, value);
         match done {
             Ok(old) => {
                 self.words
-                    .answer::<Brand, (Snapshot<K>, Snapshot<V>)>(pass, &said);
+                    .commit(pass, Commit::Assign(key_said, value_said));
                 Ok(old)
             }
             Err(back) => Err(self.refuse(pass, back)),
@@ -113,12 +115,13 @@ impl<K: TableKey + Drop, V: Drop> Table<K, V> {
                 why: Why::Busy(stripe),
             });
         }
-        let said = (Snapshot::of(&key), Snapshot::of(&value));
+        let key_said = Snapshot::of(&key);
+        let value_said = Snapshot::of(&value);
         let done = self.upsert_held(pass, key, f, value);
         match done {
             Ok(reply) => {
                 self.words
-                    .answer::<Brand, (Snapshot<K>, Snapshot<V>)>(pass, &said);
+                    .commit(pass, Commit::Upsert(key_said, value_said));
                 Ok(reply)
             }
             Err(back) => Err(self.refuse(pass, back)),
