@@ -15,8 +15,7 @@ use crate::refusal::Busy;
 use crate::table::Table;
 use ck_key::TableKey;
 use ck_section::{Answer, Place, change, erase, erase_if, key_place, update};
-use ck_words::{Lent, Pass};
-use std::marker::Brand;
+use ck_words::{Commit, Lent, Pass};
 use std::snapshot::Snapshot;
 
 impl<K: TableKey + Drop, V: Drop> Table<K, V> {
@@ -34,10 +33,10 @@ impl<K: TableKey + Drop, V: Drop> Table<K, V> {
         if let Err(busy) = self.hold_key(pass, key) {
             return Err((value, busy));
         }
-        let said = Snapshot::of(&value);
+        let value_said = Snapshot::of(&value);
         let found = self.update_held(pass, key, value);
         self.words
-            .answer::<Brand, (&K, Snapshot<V>)>(pass, &(key, said));
+            .commit(pass, Commit::Update(Snapshot::of(key), value_said));
         match found {
             Some(found) => Ok(Some(found.reply)),
             None => Ok(None),
@@ -65,7 +64,7 @@ impl<K: TableKey + Drop, V: Drop> Table<K, V> {
     {
         self.hold_key(pass, key)?;
         let found = self.change_held(pass, key, f);
-        self.words.answer::<Brand, &K>(pass, &key);
+        self.words.commit(pass, Commit::Change(Snapshot::of(key)));
         match found {
             Some(_) => Ok(true),
             None => Ok(false),
@@ -82,7 +81,7 @@ impl<K: TableKey + Drop, V: Drop> Table<K, V> {
     {
         self.hold_key(pass, key)?;
         let found = self.erase_held(pass, key);
-        self.words.answer::<Brand, &K>(pass, &key);
+        self.words.commit(pass, Commit::Erase(Snapshot::of(key)));
         match found {
             Some(erased) => Ok(Some(erased.reply)),
             None => Ok(None),
@@ -110,8 +109,12 @@ impl<K: TableKey + Drop, V: Drop> Table<K, V> {
     {
         self.hold_key(pass, key)?;
         let gone = self.erase_if_held(pass, key, f);
-        let said = (key, gone.unwrap_or(false));
-        self.words.answer::<Brand, (&K, bool)>(pass, &said);
+        let said = Snapshot::of(key);
+        if gone.unwrap_or(false) {
+            self.words.commit(pass, Commit::Erase(said));
+        } else {
+            self.words.commit(pass, Commit::Find(said));
+        }
         Ok(gone)
     }
 

@@ -15,8 +15,8 @@ use crate::refusal::Busy;
 use crate::table::Table;
 use ck_key::TableKey;
 use ck_section::{Answer, find, key_place};
-use ck_words::{Lent, Pass};
-use std::marker::Brand;
+use ck_words::{Commit, Lent, Pass};
+use std::snapshot::Snapshot;
 
 impl<K: TableKey + Drop, V: Drop> Table<K, V> {
     /// What the closure answers for the value of the key; `None` where the key is unbound, and then the closure is not
@@ -40,7 +40,7 @@ impl<K: TableKey + Drop, V: Drop> Table<K, V> {
     {
         self.hold_key(pass, key)?;
         let found = self.find_held(pass, key, f);
-        self.words.answer::<Brand, &K>(pass, &key);
+        self.words.commit(pass, Commit::Find(Snapshot::of(key)));
         match found {
             Some(found) => Ok(Some(found.reply)),
             None => Ok(None),
