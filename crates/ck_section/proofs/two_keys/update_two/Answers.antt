@@ -21,7 +21,7 @@ returns-in_err-at_a-clause-unbound g c =
     let stripes : List (StripeState V) = g.H.Held.stripes c.args.held.now in
     let a : Name = g.K.TableKey.name c.args.a.now in
     let b : Name = g.K.TableKey.name c.args.b.now in
-    none_anyway c.from_residual.result _ (first_lacks hash a b c.args.place_a c.args.place_b stripes c.requires.first c.requires.second c.requires.different (g.H.Held.stripes c.find_entry.new.held) c.find_entry.ensures.same c.in_err-at_a.ensures.nowhere, c.find_entry.ensures.same)
+    none_anyway c.from_residual.result _ (first_lacks hash a b c.args.place_a c.args.place_b stripes c.requires.first c.requires.second c.requires.different (g.H.Held.stripes c.find_slot.new.held) c.find_slot.ensures.same c.in_err-at_a.ensures.nowhere, c.find_slot.ensures.same)
 
 pub returns-in_err-at_b-clause-unbound : goal.returns-in_err-at_b-clause-unbound
 returns-in_err-at_b-clause-unbound g c =
@@ -30,13 +30,13 @@ returns-in_err-at_b-clause-unbound g c =
     let stripes : List (StripeState V) = g.H.Held.stripes c.args.held.now in
     let a : Name = g.K.TableKey.name c.args.a.now in
     let b : Name = g.K.TableKey.name c.args.b.now in
-    let x : HeldSlot = c.in_ok-at_a.at_a in
-    let sx : IsSlotOf hash stripes a x = c.in_ok-at_a.ensures.slot in
-    let found_a = c.in_ok-at_a.ensures.found in
-    let cur : g.H.Held.stripes c.find_entry-2.new.held ≡ stripes = c.find_entry-2.ensures.same ∙ c.find_entry.ensures.same in
+    let x : HeldSlot = c.in-Some.at_a in
+    let sx : IsSlotOf hash stripes a x = c.in-Some.ensures.occupied.slot in
+    let found_a = c.in-Some.ensures.occupied.found in
+    let cur : g.H.Held.stripes c.find_slot-2.new.held ≡ stripes = c.find_slot-2.ensures.same ∙ c.find_slot.ensures.same in
     none_anyway c.from_residual-in_err-at_b.result _ (
-      second_lacks hash a b c.args.place_a c.args.place_b stripes c.requires.first c.requires.second c.requires.different x sx found_a.0 found_a.1 (g.H.Held.stripes c.find_entry-2.new.held) cur
-          (subst (λ (l : List (StripeState V)). IsNowhere l b c.args.place_b) c.find_entry.ensures.same c.in_err-at_b.ensures.nowhere),
+      second_lacks hash a b c.args.place_a c.args.place_b stripes c.requires.first c.requires.second c.requires.different x sx found_a.0 found_a.1 (g.H.Held.stripes c.find_slot-2.new.held) cur
+          (subst (λ (l : List (StripeState V)). IsNowhere l b c.args.place_b) c.find_slot.ensures.same c.in_err-at_b.ensures.nowhere),
       cur,
     )
 
@@ -47,15 +47,15 @@ remove-key_b-requires-clause-reach g c =
     let stripes : List (StripeState V) = g.H.Held.stripes c.args.held.now in
     let a : Name = g.K.TableKey.name c.args.a.now in
     let b : Name = g.K.TableKey.name c.args.b.now in
-    let x : HeldSlot = c.in_ok-at_a.at_a in
-    let sx : IsSlotOf hash stripes a x = c.in_ok-at_a.ensures.slot in
-    let found_a = c.in_ok-at_a.ensures.found in
-    let y : HeldSlot = c.in_ok-at_b.at_b in
-    let first : g.H.Held.stripes c.find_entry.new.held ≡ stripes = c.find_entry.ensures.same in
-    let cur : g.H.Held.stripes c.find_entry-2.new.held ≡ stripes = c.find_entry-2.ensures.same ∙ first in
-    let sy : IsSlotOf hash stripes b y = subst (λ (l : List (StripeState V)). IsSlotOf hash l b y) first c.in_ok-at_b.ensures.slot in
-    let w0 : V = c.in_ok-at_b.ensures.found.0 in
-    let found_b : slot_in stripes y ≡ Some (b, w0) = ap (λ (l : List (StripeState V)). slot_in l y) (sym first) ∙ c.in_ok-at_b.ensures.found.1 in
+    let x : HeldSlot = c.in-Some.at_a in
+    let sx : IsSlotOf hash stripes a x = c.in-Some.ensures.occupied.slot in
+    let found_a = c.in-Some.ensures.occupied.found in
+    let y : HeldSlot = c.in-Some-2.at_b in
+    let first : g.H.Held.stripes c.find_slot.new.held ≡ stripes = c.find_slot.ensures.same in
+    let cur : g.H.Held.stripes c.find_slot-2.new.held ≡ stripes = c.find_slot-2.ensures.same ∙ first in
+    let sy : IsSlotOf hash stripes b y = subst (λ (l : List (StripeState V)). IsSlotOf hash l b y) first c.in-Some-2.ensures.occupied.slot in
+    let w0 : V = c.in-Some-2.ensures.occupied.found.0 in
+    let found_b : slot_in stripes y ≡ Some (b, w0) = ap (λ (l : List (StripeState V)). slot_in l y) (sym first) ∙ c.in-Some-2.ensures.occupied.found.1 in
     let v : V = c.remove-key_a.result.1 in
     let entry_a : slot_in stripes x ≡ Some (g.K.TableKey.name c.remove-key_a.result.0, v) = ap (λ (l : List (StripeState V)). slot_in l x) (sym cur) ∙ c.remove-key_a.ensures.entry in
     let name_a : g.K.TableKey.name c.remove-key_a.result.0 ≡ a = (some_pair_parts _ _ _ _ (sym entry_a ∙ found_a.1)).0 in
@@ -70,15 +70,15 @@ remove-key_b-requires-clause-full g c =
     let stripes : List (StripeState V) = g.H.Held.stripes c.args.held.now in
     let a : Name = g.K.TableKey.name c.args.a.now in
     let b : Name = g.K.TableKey.name c.args.b.now in
-    let x : HeldSlot = c.in_ok-at_a.at_a in
-    let sx : IsSlotOf hash stripes a x = c.in_ok-at_a.ensures.slot in
-    let found_a = c.in_ok-at_a.ensures.found in
-    let y : HeldSlot = c.in_ok-at_b.at_b in
-    let first : g.H.Held.stripes c.find_entry.new.held ≡ stripes = c.find_entry.ensures.same in
-    let cur : g.H.Held.stripes c.find_entry-2.new.held ≡ stripes = c.find_entry-2.ensures.same ∙ first in
-    let sy : IsSlotOf hash stripes b y = subst (λ (l : List (StripeState V)). IsSlotOf hash l b y) first c.in_ok-at_b.ensures.slot in
-    let w0 : V = c.in_ok-at_b.ensures.found.0 in
-    let found_b : slot_in stripes y ≡ Some (b, w0) = ap (λ (l : List (StripeState V)). slot_in l y) (sym first) ∙ c.in_ok-at_b.ensures.found.1 in
+    let x : HeldSlot = c.in-Some.at_a in
+    let sx : IsSlotOf hash stripes a x = c.in-Some.ensures.occupied.slot in
+    let found_a = c.in-Some.ensures.occupied.found in
+    let y : HeldSlot = c.in-Some-2.at_b in
+    let first : g.H.Held.stripes c.find_slot.new.held ≡ stripes = c.find_slot.ensures.same in
+    let cur : g.H.Held.stripes c.find_slot-2.new.held ≡ stripes = c.find_slot-2.ensures.same ∙ first in
+    let sy : IsSlotOf hash stripes b y = subst (λ (l : List (StripeState V)). IsSlotOf hash l b y) first c.in-Some-2.ensures.occupied.slot in
+    let w0 : V = c.in-Some-2.ensures.occupied.found.0 in
+    let found_b : slot_in stripes y ≡ Some (b, w0) = ap (λ (l : List (StripeState V)). slot_in l y) (sym first) ∙ c.in-Some-2.ensures.occupied.found.1 in
     let v : V = c.remove-key_a.result.1 in
     let entry_a : slot_in stripes x ≡ Some (g.K.TableKey.name c.remove-key_a.result.0, v) = ap (λ (l : List (StripeState V)). slot_in l x) (sym cur) ∙ c.remove-key_a.ensures.entry in
     let name_a : g.K.TableKey.name c.remove-key_a.result.0 ≡ a = (some_pair_parts _ _ _ _ (sym entry_a ∙ found_a.1)).0 in
@@ -94,15 +94,15 @@ place-requires-clause-reach g c =
     let stripes : List (StripeState V) = g.H.Held.stripes c.args.held.now in
     let a : Name = g.K.TableKey.name c.args.a.now in
     let b : Name = g.K.TableKey.name c.args.b.now in
-    let x : HeldSlot = c.in_ok-at_a.at_a in
-    let sx : IsSlotOf hash stripes a x = c.in_ok-at_a.ensures.slot in
-    let found_a = c.in_ok-at_a.ensures.found in
-    let y : HeldSlot = c.in_ok-at_b.at_b in
-    let first : g.H.Held.stripes c.find_entry.new.held ≡ stripes = c.find_entry.ensures.same in
-    let cur : g.H.Held.stripes c.find_entry-2.new.held ≡ stripes = c.find_entry-2.ensures.same ∙ first in
-    let sy : IsSlotOf hash stripes b y = subst (λ (l : List (StripeState V)). IsSlotOf hash l b y) first c.in_ok-at_b.ensures.slot in
-    let w0 : V = c.in_ok-at_b.ensures.found.0 in
-    let found_b : slot_in stripes y ≡ Some (b, w0) = ap (λ (l : List (StripeState V)). slot_in l y) (sym first) ∙ c.in_ok-at_b.ensures.found.1 in
+    let x : HeldSlot = c.in-Some.at_a in
+    let sx : IsSlotOf hash stripes a x = c.in-Some.ensures.occupied.slot in
+    let found_a = c.in-Some.ensures.occupied.found in
+    let y : HeldSlot = c.in-Some-2.at_b in
+    let first : g.H.Held.stripes c.find_slot.new.held ≡ stripes = c.find_slot.ensures.same in
+    let cur : g.H.Held.stripes c.find_slot-2.new.held ≡ stripes = c.find_slot-2.ensures.same ∙ first in
+    let sy : IsSlotOf hash stripes b y = subst (λ (l : List (StripeState V)). IsSlotOf hash l b y) first c.in-Some-2.ensures.occupied.slot in
+    let w0 : V = c.in-Some-2.ensures.occupied.found.0 in
+    let found_b : slot_in stripes y ≡ Some (b, w0) = ap (λ (l : List (StripeState V)). slot_in l y) (sym first) ∙ c.in-Some-2.ensures.occupied.found.1 in
     let v : V = c.remove-key_a.result.1 in
     let entry_a : slot_in stripes x ≡ Some (g.K.TableKey.name c.remove-key_a.result.0, v) = ap (λ (l : List (StripeState V)). slot_in l x) (sym cur) ∙ c.remove-key_a.ensures.entry in
     let name_a : g.K.TableKey.name c.remove-key_a.result.0 ≡ a = (some_pair_parts _ _ _ _ (sym entry_a ∙ found_a.1)).0 in
@@ -124,15 +124,15 @@ place-requires-clause-free g c =
     let stripes : List (StripeState V) = g.H.Held.stripes c.args.held.now in
     let a : Name = g.K.TableKey.name c.args.a.now in
     let b : Name = g.K.TableKey.name c.args.b.now in
-    let x : HeldSlot = c.in_ok-at_a.at_a in
-    let sx : IsSlotOf hash stripes a x = c.in_ok-at_a.ensures.slot in
-    let found_a = c.in_ok-at_a.ensures.found in
-    let y : HeldSlot = c.in_ok-at_b.at_b in
-    let first : g.H.Held.stripes c.find_entry.new.held ≡ stripes = c.find_entry.ensures.same in
-    let cur : g.H.Held.stripes c.find_entry-2.new.held ≡ stripes = c.find_entry-2.ensures.same ∙ first in
-    let sy : IsSlotOf hash stripes b y = subst (λ (l : List (StripeState V)). IsSlotOf hash l b y) first c.in_ok-at_b.ensures.slot in
-    let w0 : V = c.in_ok-at_b.ensures.found.0 in
-    let found_b : slot_in stripes y ≡ Some (b, w0) = ap (λ (l : List (StripeState V)). slot_in l y) (sym first) ∙ c.in_ok-at_b.ensures.found.1 in
+    let x : HeldSlot = c.in-Some.at_a in
+    let sx : IsSlotOf hash stripes a x = c.in-Some.ensures.occupied.slot in
+    let found_a = c.in-Some.ensures.occupied.found in
+    let y : HeldSlot = c.in-Some-2.at_b in
+    let first : g.H.Held.stripes c.find_slot.new.held ≡ stripes = c.find_slot.ensures.same in
+    let cur : g.H.Held.stripes c.find_slot-2.new.held ≡ stripes = c.find_slot-2.ensures.same ∙ first in
+    let sy : IsSlotOf hash stripes b y = subst (λ (l : List (StripeState V)). IsSlotOf hash l b y) first c.in-Some-2.ensures.occupied.slot in
+    let w0 : V = c.in-Some-2.ensures.occupied.found.0 in
+    let found_b : slot_in stripes y ≡ Some (b, w0) = ap (λ (l : List (StripeState V)). slot_in l y) (sym first) ∙ c.in-Some-2.ensures.occupied.found.1 in
     let v : V = c.remove-key_a.result.1 in
     let entry_a : slot_in stripes x ≡ Some (g.K.TableKey.name c.remove-key_a.result.0, v) = ap (λ (l : List (StripeState V)). slot_in l x) (sym cur) ∙ c.remove-key_a.ensures.entry in
     let name_a : g.K.TableKey.name c.remove-key_a.result.0 ≡ a = (some_pair_parts _ _ _ _ (sym entry_a ∙ found_a.1)).0 in
@@ -154,15 +154,15 @@ place-requires-2-clause-reach g c =
     let stripes : List (StripeState V) = g.H.Held.stripes c.args.held.now in
     let a : Name = g.K.TableKey.name c.args.a.now in
     let b : Name = g.K.TableKey.name c.args.b.now in
-    let x : HeldSlot = c.in_ok-at_a.at_a in
-    let sx : IsSlotOf hash stripes a x = c.in_ok-at_a.ensures.slot in
-    let found_a = c.in_ok-at_a.ensures.found in
-    let y : HeldSlot = c.in_ok-at_b.at_b in
-    let first : g.H.Held.stripes c.find_entry.new.held ≡ stripes = c.find_entry.ensures.same in
-    let cur : g.H.Held.stripes c.find_entry-2.new.held ≡ stripes = c.find_entry-2.ensures.same ∙ first in
-    let sy : IsSlotOf hash stripes b y = subst (λ (l : List (StripeState V)). IsSlotOf hash l b y) first c.in_ok-at_b.ensures.slot in
-    let w0 : V = c.in_ok-at_b.ensures.found.0 in
-    let found_b : slot_in stripes y ≡ Some (b, w0) = ap (λ (l : List (StripeState V)). slot_in l y) (sym first) ∙ c.in_ok-at_b.ensures.found.1 in
+    let x : HeldSlot = c.in-Some.at_a in
+    let sx : IsSlotOf hash stripes a x = c.in-Some.ensures.occupied.slot in
+    let found_a = c.in-Some.ensures.occupied.found in
+    let y : HeldSlot = c.in-Some-2.at_b in
+    let first : g.H.Held.stripes c.find_slot.new.held ≡ stripes = c.find_slot.ensures.same in
+    let cur : g.H.Held.stripes c.find_slot-2.new.held ≡ stripes = c.find_slot-2.ensures.same ∙ first in
+    let sy : IsSlotOf hash stripes b y = subst (λ (l : List (StripeState V)). IsSlotOf hash l b y) first c.in-Some-2.ensures.occupied.slot in
+    let w0 : V = c.in-Some-2.ensures.occupied.found.0 in
+    let found_b : slot_in stripes y ≡ Some (b, w0) = ap (λ (l : List (StripeState V)). slot_in l y) (sym first) ∙ c.in-Some-2.ensures.occupied.found.1 in
     let v : V = c.remove-key_a.result.1 in
     let entry_a : slot_in stripes x ≡ Some (g.K.TableKey.name c.remove-key_a.result.0, v) = ap (λ (l : List (StripeState V)). slot_in l x) (sym cur) ∙ c.remove-key_a.ensures.entry in
     let name_a : g.K.TableKey.name c.remove-key_a.result.0 ≡ a = (some_pair_parts _ _ _ _ (sym entry_a ∙ found_a.1)).0 in
@@ -185,15 +185,15 @@ place-requires-2-clause-free g c =
     let stripes : List (StripeState V) = g.H.Held.stripes c.args.held.now in
     let a : Name = g.K.TableKey.name c.args.a.now in
     let b : Name = g.K.TableKey.name c.args.b.now in
-    let x : HeldSlot = c.in_ok-at_a.at_a in
-    let sx : IsSlotOf hash stripes a x = c.in_ok-at_a.ensures.slot in
-    let found_a = c.in_ok-at_a.ensures.found in
-    let y : HeldSlot = c.in_ok-at_b.at_b in
-    let first : g.H.Held.stripes c.find_entry.new.held ≡ stripes = c.find_entry.ensures.same in
-    let cur : g.H.Held.stripes c.find_entry-2.new.held ≡ stripes = c.find_entry-2.ensures.same ∙ first in
-    let sy : IsSlotOf hash stripes b y = subst (λ (l : List (StripeState V)). IsSlotOf hash l b y) first c.in_ok-at_b.ensures.slot in
-    let w0 : V = c.in_ok-at_b.ensures.found.0 in
-    let found_b : slot_in stripes y ≡ Some (b, w0) = ap (λ (l : List (StripeState V)). slot_in l y) (sym first) ∙ c.in_ok-at_b.ensures.found.1 in
+    let x : HeldSlot = c.in-Some.at_a in
+    let sx : IsSlotOf hash stripes a x = c.in-Some.ensures.occupied.slot in
+    let found_a = c.in-Some.ensures.occupied.found in
+    let y : HeldSlot = c.in-Some-2.at_b in
+    let first : g.H.Held.stripes c.find_slot.new.held ≡ stripes = c.find_slot.ensures.same in
+    let cur : g.H.Held.stripes c.find_slot-2.new.held ≡ stripes = c.find_slot-2.ensures.same ∙ first in
+    let sy : IsSlotOf hash stripes b y = subst (λ (l : List (StripeState V)). IsSlotOf hash l b y) first c.in-Some-2.ensures.occupied.slot in
+    let w0 : V = c.in-Some-2.ensures.occupied.found.0 in
+    let found_b : slot_in stripes y ≡ Some (b, w0) = ap (λ (l : List (StripeState V)). slot_in l y) (sym first) ∙ c.in-Some-2.ensures.occupied.found.1 in
     let v : V = c.remove-key_a.result.1 in
     let entry_a : slot_in stripes x ≡ Some (g.K.TableKey.name c.remove-key_a.result.0, v) = ap (λ (l : List (StripeState V)). slot_in l x) (sym cur) ∙ c.remove-key_a.ensures.entry in
     let name_a : g.K.TableKey.name c.remove-key_a.result.0 ≡ a = (some_pair_parts _ _ _ _ (sym entry_a ∙ found_a.1)).0 in
@@ -216,15 +216,15 @@ returns-clause-bound g c =
     let stripes : List (StripeState V) = g.H.Held.stripes c.args.held.now in
     let a : Name = g.K.TableKey.name c.args.a.now in
     let b : Name = g.K.TableKey.name c.args.b.now in
-    let x : HeldSlot = c.in_ok-at_a.at_a in
-    let sx : IsSlotOf hash stripes a x = c.in_ok-at_a.ensures.slot in
-    let found_a = c.in_ok-at_a.ensures.found in
-    let y : HeldSlot = c.in_ok-at_b.at_b in
-    let first : g.H.Held.stripes c.find_entry.new.held ≡ stripes = c.find_entry.ensures.same in
-    let cur : g.H.Held.stripes c.find_entry-2.new.held ≡ stripes = c.find_entry-2.ensures.same ∙ first in
-    let sy : IsSlotOf hash stripes b y = subst (λ (l : List (StripeState V)). IsSlotOf hash l b y) first c.in_ok-at_b.ensures.slot in
-    let w0 : V = c.in_ok-at_b.ensures.found.0 in
-    let found_b : slot_in stripes y ≡ Some (b, w0) = ap (λ (l : List (StripeState V)). slot_in l y) (sym first) ∙ c.in_ok-at_b.ensures.found.1 in
+    let x : HeldSlot = c.in-Some.at_a in
+    let sx : IsSlotOf hash stripes a x = c.in-Some.ensures.occupied.slot in
+    let found_a = c.in-Some.ensures.occupied.found in
+    let y : HeldSlot = c.in-Some-2.at_b in
+    let first : g.H.Held.stripes c.find_slot.new.held ≡ stripes = c.find_slot.ensures.same in
+    let cur : g.H.Held.stripes c.find_slot-2.new.held ≡ stripes = c.find_slot-2.ensures.same ∙ first in
+    let sy : IsSlotOf hash stripes b y = subst (λ (l : List (StripeState V)). IsSlotOf hash l b y) first c.in-Some-2.ensures.occupied.slot in
+    let w0 : V = c.in-Some-2.ensures.occupied.found.0 in
+    let found_b : slot_in stripes y ≡ Some (b, w0) = ap (λ (l : List (StripeState V)). slot_in l y) (sym first) ∙ c.in-Some-2.ensures.occupied.found.1 in
     let v : V = c.remove-key_a.result.1 in
     let entry_a : slot_in stripes x ≡ Some (g.K.TableKey.name c.remove-key_a.result.0, v) = ap (λ (l : List (StripeState V)). slot_in l x) (sym cur) ∙ c.remove-key_a.ensures.entry in
     let name_a : g.K.TableKey.name c.remove-key_a.result.0 ≡ a = (some_pair_parts _ _ _ _ (sym entry_a ∙ found_a.1)).0 in
@@ -257,15 +257,15 @@ returns-clause-rest g c =
     let stripes : List (StripeState V) = g.H.Held.stripes c.args.held.now in
     let a : Name = g.K.TableKey.name c.args.a.now in
     let b : Name = g.K.TableKey.name c.args.b.now in
-    let x : HeldSlot = c.in_ok-at_a.at_a in
-    let sx : IsSlotOf hash stripes a x = c.in_ok-at_a.ensures.slot in
-    let found_a = c.in_ok-at_a.ensures.found in
-    let y : HeldSlot = c.in_ok-at_b.at_b in
-    let first : g.H.Held.stripes c.find_entry.new.held ≡ stripes = c.find_entry.ensures.same in
-    let cur : g.H.Held.stripes c.find_entry-2.new.held ≡ stripes = c.find_entry-2.ensures.same ∙ first in
-    let sy : IsSlotOf hash stripes b y = subst (λ (l : List (StripeState V)). IsSlotOf hash l b y) first c.in_ok-at_b.ensures.slot in
-    let w0 : V = c.in_ok-at_b.ensures.found.0 in
-    let found_b : slot_in stripes y ≡ Some (b, w0) = ap (λ (l : List (StripeState V)). slot_in l y) (sym first) ∙ c.in_ok-at_b.ensures.found.1 in
+    let x : HeldSlot = c.in-Some.at_a in
+    let sx : IsSlotOf hash stripes a x = c.in-Some.ensures.occupied.slot in
+    let found_a = c.in-Some.ensures.occupied.found in
+    let y : HeldSlot = c.in-Some-2.at_b in
+    let first : g.H.Held.stripes c.find_slot.new.held ≡ stripes = c.find_slot.ensures.same in
+    let cur : g.H.Held.stripes c.find_slot-2.new.held ≡ stripes = c.find_slot-2.ensures.same ∙ first in
+    let sy : IsSlotOf hash stripes b y = subst (λ (l : List (StripeState V)). IsSlotOf hash l b y) first c.in-Some-2.ensures.occupied.slot in
+    let w0 : V = c.in-Some-2.ensures.occupied.found.0 in
+    let found_b : slot_in stripes y ≡ Some (b, w0) = ap (λ (l : List (StripeState V)). slot_in l y) (sym first) ∙ c.in-Some-2.ensures.occupied.found.1 in
     let v : V = c.remove-key_a.result.1 in
     let entry_a : slot_in stripes x ≡ Some (g.K.TableKey.name c.remove-key_a.result.0, v) = ap (λ (l : List (StripeState V)). slot_in l x) (sym cur) ∙ c.remove-key_a.ensures.entry in
     let name_a : g.K.TableKey.name c.remove-key_a.result.0 ≡ a = (some_pair_parts _ _ _ _ (sym entry_a ∙ found_a.1)).0 in
@@ -285,40 +285,40 @@ returns-clause-rest g c =
 pub returns-clause-stays : goal.returns-clause-stays
 returns-clause-stays g c =
     let on = g.met.H.Held.stays_on in
-    on _ _ _ c.find_entry.ensures.stays (on _ _ _ c.find_entry-2.ensures.stays (on _ _ _ c.remove-key_a.ensures.stays (on _ _ _ c.remove-key_b.ensures.stays (on _ _ _ c.place.ensures.stays c.place-2.ensures.stays))))
+    on _ _ _ c.find_slot.ensures.stays (on _ _ _ c.find_slot-2.ensures.stays (on _ _ _ c.remove-key_a.ensures.stays (on _ _ _ c.remove-key_b.ensures.stays (on _ _ _ c.place.ensures.stays c.place-2.ensures.stays))))
 
-pub find_entry-requires : goal.find_entry-requires
-find_entry-requires g c = c.requires.first
+pub find_slot-requires : goal.find_slot-requires
+find_slot-requires g c = c.requires.first
 
 pub returns-in_err-at_a-clause-rest : goal.returns-in_err-at_a-clause-rest
-returns-in_err-at_a-clause-rest g c = unchanged _ _ c.find_entry.ensures.same
+returns-in_err-at_a-clause-rest g c = unchanged _ _ c.find_slot.ensures.same
 
 pub returns-in_err-at_a-clause-stays : goal.returns-in_err-at_a-clause-stays
-returns-in_err-at_a-clause-stays g c = c.find_entry.ensures.stays
+returns-in_err-at_a-clause-stays g c = c.find_slot.ensures.stays
 
-pub find_entry-requires-2 : goal.find_entry-requires-2
-find_entry-requires-2 g c = subst (λ (l : List (StripeState g.row.V.Denot)). IsPlaceOf g.K.TableKey.hash l (g.K.TableKey.name c.args.b.now) c.args.place_b) (sym c.find_entry.ensures.same) c.requires.second
+pub find_slot-requires-2 : goal.find_slot-requires-2
+find_slot-requires-2 g c = subst (λ (l : List (StripeState g.row.V.Denot)). IsPlaceOf g.K.TableKey.hash l (g.K.TableKey.name c.args.b.now) c.args.place_b) (sym c.find_slot.ensures.same) c.requires.second
 
 pub returns-in_err-at_b-clause-rest : goal.returns-in_err-at_b-clause-rest
-returns-in_err-at_b-clause-rest g c = unchanged _ _ (c.find_entry-2.ensures.same ∙ c.find_entry.ensures.same)
+returns-in_err-at_b-clause-rest g c = unchanged _ _ (c.find_slot-2.ensures.same ∙ c.find_slot.ensures.same)
 
 pub returns-in_err-at_b-clause-stays : goal.returns-in_err-at_b-clause-stays
-returns-in_err-at_b-clause-stays g c = g.met.H.Held.stays_on _ _ _ c.find_entry.ensures.stays c.find_entry-2.ensures.stays
+returns-in_err-at_b-clause-stays g c = g.met.H.Held.stays_on _ _ _ c.find_slot.ensures.stays c.find_slot-2.ensures.stays
 
 pub remove-key_a-requires-clause-reach : goal.remove-key_a-requires-clause-reach
-remove-key_a-requires-clause-reach g c = reach_still (g.H.Held.stripes c.args.held.now) (g.H.Held.stripes c.find_entry-2.new.held) (c.find_entry-2.ensures.same ∙ c.find_entry.ensures.same) c.in_ok-at_a.at_a.index c.in_ok-at_a.at_a.bucket c.in_ok-at_a.ensures.slot.reach
+remove-key_a-requires-clause-reach g c = reach_still (g.H.Held.stripes c.args.held.now) (g.H.Held.stripes c.find_slot-2.new.held) (c.find_slot-2.ensures.same ∙ c.find_slot.ensures.same) c.in-Some.at_a.index c.in-Some.at_a.bucket c.in-Some.ensures.occupied.slot.reach
 
 pub remove-key_a-requires-clause-below : goal.remove-key_a-requires-clause-below
-remove-key_a-requires-clause-below g c = c.in_ok-at_a.ensures.slot.below
+remove-key_a-requires-clause-below g c = c.in-Some.ensures.occupied.slot.below
 
 pub remove-key_a-requires-clause-full : goal.remove-key_a-requires-clause-full
-remove-key_a-requires-clause-full g c = full_still (g.H.Held.stripes c.args.held.now) (g.H.Held.stripes c.find_entry-2.new.held) (c.find_entry-2.ensures.same ∙ c.find_entry.ensures.same) c.in_ok-at_a.at_a (g.K.TableKey.name c.args.a.now) c.in_ok-at_a.ensures.found
+remove-key_a-requires-clause-full g c = full_still (g.H.Held.stripes c.args.held.now) (g.H.Held.stripes c.find_slot-2.new.held) (c.find_slot-2.ensures.same ∙ c.find_slot.ensures.same) c.in-Some.at_a (g.K.TableKey.name c.args.a.now) c.in-Some.ensures.occupied.found
 
 pub remove-key_b-requires-clause-below : goal.remove-key_b-requires-clause-below
-remove-key_b-requires-clause-below g c = c.in_ok-at_b.ensures.slot.below
+remove-key_b-requires-clause-below g c = c.in-Some-2.ensures.occupied.slot.below
 
 pub place-requires-clause-below : goal.place-requires-clause-below
-place-requires-clause-below g c = c.in_ok-at_a.ensures.slot.below
+place-requires-clause-below g c = c.in-Some.ensures.occupied.slot.below
 
 pub place-requires-2-clause-below : goal.place-requires-2-clause-below
-place-requires-2-clause-below g c = c.in_ok-at_b.ensures.slot.below
+place-requires-2-clause-below g c = c.in-Some-2.ensures.occupied.slot.below
