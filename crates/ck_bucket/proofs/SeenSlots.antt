@@ -1,14 +1,12 @@
 -- Lemmas on what is seen of slots.
-use Rattle.std.proofs.Common.{IsSome, IfSome, is_some, ◌≡◌, ◌≢◌, ℕ, zero, suc, ◌<◌, ◌+◌, ◌++◌, take, ◌≤◌, List, [], ◌∷◌, Option, Some, None, refl, sym, ◌∙◌, ap, subst, map, slice_index_or, slice_index, option_map, set, length, arith, ◌⊎◌, inl, inr}
+use Rattle.std.proofs.Common.{IsSome, IfSome, is_some, ◌≡◌, ◌≢◌, ℕ, zero, suc, ◌<◌, ◌≤◌, List, [], ◌∷◌, Option, Some, None, refl, sym, ◌∙◌, ap, subst, map, slice_index_or, slice_index, option_map, set, length, arith, ◌⊎◌, inl, inr}
 use Rattle.std.proofs.lemmas.Bool.{cases_eq, cases_lt, false≢true}
-use Rattle.std.proofs.lemmas.List.{get_or-set_same, get_or-set_other, length-set, set_past, take_more, append_assoc, map-append}
+use Rattle.std.proofs.lemmas.List.{get_or-set_same, get_or-set_other, length-set, set_past}
 use Rattle.std.proofs.lemmas.Option.{some_pair_parts, none-some}
-use Rattle.std.specs.Option.{option_to_list}
-use Rattle.std.proofs.lemmas.List.Elements.{filter_map-append}
 use Rattle.ck_model.specs.Arithmetic.{partial_of}
 use Rattle.ck_model.specs.Map.{Name, named}
 use Rattle.ck_model.specs.Slots.{Slot, slot_at, taken_in}
-use Rattle.ck_bucket.specs.Bucket.{seen_slots, KeepsPartials, ReplacesValue}
+use Rattle.ck_bucket.specs.Bucket.{seen_slots, KeepsPartials, ReplacesValue, ChangesValue}
 
 module _ {K V : Type 0} (name : K → Name) where
   -- a slot as it is seen
@@ -16,10 +14,6 @@ module _ {K V : Type 0} (name : K → Name) where
   seen-at [] i = refl
   seen-at (s ∷ slots) zero = refl
   seen-at (s ∷ slots) (suc i) = seen-at slots i
-
-  -- the same from a read of the slot
-  pub seen-read : (slots : List (Option (K × V))) (seen : List (Slot V)) (i : ℕ) (o : Option (K × V)) → seen_slots name slots ≡ seen → o ≡ slice_index_or slots i None → slot_at seen i ≡ option_map (named name) o
-  seen-read slots seen i o same read = ap (λ s. slot_at s i) (sym same) ∙ seen-at slots i ∙ ap (option_map (named name)) (sym read)
 
   -- what is seen of a slot comes from an entry
   entry_of : (o : Option (K × V)) (n : Name) (v : V) → option_map (named name) o ≡ Some (n, v) → (k : K) × (o ≡ Some (k, v)) × (name k ≡ n)
@@ -89,30 +83,6 @@ taken-seen name [] = refl
 taken-seen name (None ∷ slots) = taken-seen name slots
 taken-seen name (Some e ∷ slots) = ap (λ xs. named name e ∷ xs) (taken-seen name slots)
 
-module _ {V : Type 0} where
-  -- one slot more
-  pub taken-more : (slots : List (Slot V)) (i : ℕ) → i < length slots → taken_in (take (i + 1) slots) ≡ taken_in (take i slots) ++ option_to_list (slot_at slots i)
-  taken-more slots i below = ap taken_in (take_more slots i None below) ∙ filter_map-append (λ (s : Slot V). s) (take i slots) (slot_at slots i ∷ []) ∙ ap (λ xs. taken_in (take i slots) ++ xs) (single (slot_at slots i))
-    where
-      single : (s : Slot V) → taken_in (s ∷ []) ≡ option_to_list s
-      single None = refl
-      single (Some e) = refl
-
--- one slot more is copied
-pub copied-more : {K V : Type 0} (name : K → Name) (slots : List (Slot V)) (i : ℕ) (before : List (Name × V)) (pairs after : List (K × V)) (copy : Option (K × V)) → i < length slots
-    → slot_at slots i ≡ option_map (named name) copy → after ≡ pairs ++ option_to_list copy → map (named name) pairs ≡ before ++ taken_in (take i slots)
-    → map (named name) after ≡ before ++ taken_in (take (i + 1) slots)
-copied-more {K} {V = W} name slots i before pairs after copy below same pushed sofar =
-    ap (map (named name)) pushed ∙ map-append (named name) pairs (option_to_list copy)
-    ∙ ap (λ xs. xs ++ map (named name) (option_to_list copy)) sofar
-    ∙ append_assoc before (taken_in (take i slots)) (map (named name) (option_to_list copy))
-    ∙ ap (λ xs. before ++ (taken_in (take i slots) ++ xs)) (seen copy ∙ ap option_to_list (sym same))
-    ∙ ap (λ xs. before ++ xs) (sym (taken-more slots i below))
-  where
-    seen : (o : Option (K × W)) → map (named name) (option_to_list o) ≡ option_to_list (option_map (named name) o)
-    seen None = refl
-    seen (Some e) = refl
-
 -- a value that was replaced, as it is seen
 pub replaced : {K V : Type 0} (name : K → Name) (slots after : List (Option (K × V))) (i : ℕ) (value old : V) → IsSome (slot_at (seen_slots name slots) i)
     → IfSome (slice_index_or slots i None) (λ (e : K × V). (old ≡ e.1) × (after ≡ set slots i (Some (e.0, value)))) → ReplacesValue (seen_slots name slots) (seen_slots name after) i value old
@@ -125,6 +95,17 @@ replaced {K} {V = W} name slots after i value old full h = go (slice_index_or sl
       was = seen-at name slots i ∙ ap (option_map (named name)) e ∙ ap (λ v. Some (name x.0, v)) (sym f.0);
       is = ap (seen_slots name) f.1 ∙ seen-set name slots i (Some (x.0, value));
     }
+
+-- a value that was changed, as it is seen
+pub changed : {K V : Type 0} (name : K → Name) (becomes : V → V → Type 0) (slots after : List (Option (K × V))) (i : ℕ) → IsSome (slot_at (seen_slots name slots) i)
+    → IfSome (slice_index_or slots i None) (λ (e : K × V). (value : V) × becomes e.1 value × (after ≡ set slots i (Some (e.0, value)))) → ChangesValue becomes (seen_slots name slots) (seen_slots name after) i
+changed {K} {V = W} name becomes slots after i full h = go (slice_index_or slots i None) refl h
+  where
+    go : (o : Option (K × W)) → slice_index_or slots i None ≡ o → IfSome o (λ (e : K × W). (value : W) × becomes e.1 value × (after ≡ set slots i (Some (e.0, value)))) → ChangesValue becomes (seen_slots name slots) (seen_slots name after) i
+    go None e f = absurd (false≢true (ap (λ o. is_some (option_map (named name) o)) (sym e) ∙ ap is_some (sym (seen-at name slots i)) ∙ full))
+    go (Some x) e f =
+        let read : IfSome (slice_index_or slots i None) (λ (y : K × W). (x.1 ≡ y.1) × (after ≡ set slots i (Some (y.0, f.0)))) = subst (λ o. IfSome o (λ (y : K × W). (x.1 ≡ y.1) × (after ≡ set slots i (Some (y.0, f.0))))) (sym e) (refl, f.2) in
+        (x.1, f.0, f.1, replaced name slots after i f.0 x.1 full read)
 
 -- partials stay right where a value is replaced
 pub partials-replaced : {V : Type 0} (hash : Name → ℕ) (partials : List ℕ) (before after : List (Slot V)) (i : ℕ) (value old : V) → KeepsPartials hash partials before → ReplacesValue before after i value old → KeepsPartials hash partials after

@@ -1,13 +1,12 @@
 //! Four slots, with the partial of each key beside it.
-ghost use Rattle.std.specs.Prelude.{◌≡◌, ◌≤◌, ◌+◌, ◌<◌, ◌++◌, ℕ, vec_len, vec_capacity, OnOk, IsSome, IfSome, IfNone, Some, None, slice_set, replicate, length, map, option_map, option_copied};
+ghost use Rattle.std.specs.Prelude.{◌≡◌, ◌≤◌, ◌+◌, ◌<◌, ◌++◌, ℕ, vec_len, vec_capacity, IsSome, IfSome, IfNone, Some, None, slice_set, replicate, length, map, option_map, option_copied};
 ghost use Rattle.ck_model.specs.Arithmetic.{partial_of};
 ghost use Rattle.ck_model.specs.Map.{named};
 ghost use Rattle.ck_model.specs.Slots.{slot_at, taken_in, IsFull};
-ghost use Rattle.ck_bucket.specs.Bucket.{HasName, LacksName, ReplacesValue, partial_in, staying, rising, low_row, high_row};
+ghost use Rattle.ck_bucket.specs.Bucket.{HasName, LacksName, ReplacesValue, ChangesValue, partial_in, staying, rising, low_row, high_row};
 
 use crate::slots::Slots;
 use ck_key::TableKey;
-use std::alloc::AllocError;
 use std::marker::Model;
 
 /// A bucket: four slots, each free or with a key and its value. Callers see names in place of keys.
@@ -87,13 +86,14 @@ impl<K: TableKey + Drop, V: Drop> Bucket<K, V> {
         self.slots.get(slot)
     }
 
-    /// Puts a key and its value into a free slot.
-    pub fn put(&mut self, slot: usize, key: K, value: V)
+    /// Puts a key and its value into a free slot. `partial` is that of the key.
+    pub fn put(&mut self, slot: usize, partial: u8, key: K, value: V)
         requires below { slot < 4 }
+        requires partial { partial ≡ partial_of (K.hash (K.name key)) }
         requires free { slot_at self.old slot ≡ None }
         ensures { self.new ≡ slice_set self.old slot (Some (K.name key, value)) }
     {
-        self.partials[slot] = ck_key::partial(key.hash64());
+        self.partials[slot] = partial;
         let _free = self.slots.replace(slot, Some((key, value)));
     }
 
@@ -117,6 +117,17 @@ impl<K: TableKey + Drop, V: Drop> Bucket<K, V> {
         ensures { ReplacesValue self.old self.new slot value result }
     {
         self.slots.replace_value(slot, value)
+    }
+
+    /// Makes of the value in the slot what the closure makes of it, in its place.
+    #[inline(always)]
+    pub fn change<F: FnOnce(V) -> V>(&mut self, slot: usize, f: F)
+        requires below { slot < 4 }
+        requires full { IsSome (slot_at self.old slot) }
+        requires call { F.IsAlwaysCallable f }
+        ensures { ChangesValue (F.post f) self.old self.new slot }
+    {
+        self.slots.change_value(slot, f);
     }
 
     /// Splits bucket `b` where a table of 2^p buckets doubles: what stays in it is kept, what goes to the bucket 2^p
@@ -187,24 +198,5 @@ impl<K: TableKey + Drop, V: Drop> Bucket<K, V> {
     {
         let Bucket { partials: _, slots } = self;
         slots.pour_reserved(into);
-    }
-
-    /// Pushes clones of its pairs, in the order of their slots. Where there is no memory, some of them may have been
-    /// pushed.
-    pub fn copy_into(&self, into: &mut Vec<(K, V)>) -> Result<(), AllocError>
-    where
-        K: Clone,
-        V: Clone,
-        requires keys { (k copy : K) → K.is_clone k copy → K.name copy ≡ K.name k }
-        requires values { (v copy : V) → V.is_clone v copy → copy ≡ v }
-        ensures { OnOk result (map (named K.name) into.new.items ≡ map (named K.name) into.old.items ++ taken_in self.now) }
-    {
-        for i in 0..4 {
-            if let Some((key, value)) = self.slots.get(i) {
-                let copy = (key.clone()?, value.clone()?);
-                into.push(copy)?;
-            }
-        }
-        Ok(())
     }
 }

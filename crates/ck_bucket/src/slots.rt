@@ -4,6 +4,7 @@ ghost use Rattle.std.specs.Prelude.{◌≡◌, ◌+◌, ◌<◌, ◌≤◌, ◌+
 ghost use Rattle.std.specs.Option.{option_to_list};
 ghost use Rattle.ck_model.specs.Slots.{taken_in};
 
+use core::mem::replace_with;
 use std::marker::Model;
 use std::mem;
 
@@ -110,6 +111,22 @@ impl<K, V> Slots<(K, V)> {
             _ => replace_second(&mut self.fourth, value),
         }
     }
+
+    /// Makes of the value in the pair of place `i` what the closure makes of it, in its place.
+    #[inline(always)]
+    pub fn change_value<F: FnOnce(V) -> V>(&mut self, i: usize, f: F)
+        requires below { i < 4 }
+        requires full { IsSome (slice_index_or self.old i None) }
+        requires call { F.IsAlwaysCallable f }
+        ensures { IfSome (slice_index_or self.old i None) (λ e. (w : V) × F.post f e.1 w × (self.new ≡ slice_set self.old i (Some (e.0, w)))) }
+    {
+        match i {
+            0 => change_second(&mut self.first, f),
+            1 => change_second(&mut self.second, f),
+            2 => change_second(&mut self.third, f),
+            _ => change_second(&mut self.fourth, f),
+        }
+    }
 }
 
 fn replace_second<K, V>(slot: &mut Option<(K, V)>, value: V) -> V
@@ -118,6 +135,24 @@ fn replace_second<K, V>(slot: &mut Option<(K, V)>, value: V) -> V
 {
     match slot {
         Some((_, old)) => mem::replace(old, value),
+        None => unreachable!(),
+    }
+}
+
+#[inline(always)]
+fn change_second<K, V, F: FnOnce(V) -> V>(slot: &mut Option<(K, V)>, f: F)
+    requires full { IsSome slot.old }
+    requires call { F.IsAlwaysCallable f }
+    ensures { IfSome slot.old (λ e. (w : V) × F.post f e.1 w × (slot.new ≡ Some (e.0, w))) }
+{
+    match slot {
+        Some((_, value)) => replace_with(
+            value,
+            f,
+            |value, f|
+                requires { F.IsAlwaysCallable f }
+            { (f(value), ()) },
+        ),
         None => unreachable!(),
     }
 }

@@ -1,10 +1,10 @@
-//! The buckets and stripes of a hash, by partial-key cuckoo hashing: an entry's other bucket is found from the bucket
+//! The buckets of a hash, by partial-key cuckoo hashing: an entry's other bucket is found from the bucket
 //! where it is and a byte of its hash, with no look at the key (Fan, Andersen, Kaminsky, Mitzenmacher 2014, "Cuckoo
 //! Filter"; Li, Andersen, Kaminsky, Freedman 2014, "Algorithmic Improvements for Fast Concurrent Cuckoo Hashing").
 #![tactic(auto, unfolding(ck_model::specs::Arithmetic::partial_of, ck_model::specs::Arithmetic::index_of, ck_model::specs::Arithmetic::spread_of, ck_model::specs::Arithmetic::alternate_of, ck_model::specs::Arithmetic::second_of, crate::specs::Doubling::grown_of, crate::specs::Doubling::rises_of))]
 
-ghost use Rattle.std.specs.Prelude.{◌≡◌, ℕ, ◌+◌, ◌^◌, ◌%◌, ◌<◌, ◌≤◌, ◌↔◌, min, max};
-ghost use Rattle.ck_model.specs.Arithmetic.{partial_of, index_of, alternate_of, second_of};
+ghost use Rattle.std.specs.Prelude.{◌≡◌, ℕ, ◌+◌, ◌^◌, ◌%◌, ◌<◌, ◌≤◌, ◌↔◌};
+ghost use Rattle.ck_model.specs.Arithmetic.{partial_of, index_of, alternate_of};
 ghost use Rattle.ck_key.specs.Doubling.{rises_of};
 
 /// Spreads a partial over all bits of a bucket's number: the odd factor of MurmurHash2 (Appleby 2008).
@@ -42,23 +42,6 @@ pub fn alternate(p: u32, t: u8, b: u64) -> u64
     ensures stripe { (s : ℕ) → s ≤ p → result % 2 ^ s ≡ alternate_of s t (b % 2 ^ s) }
 {
     (b ^ (t as u64 + 1).wrapping_mul(SPREAD)) % (1 << p)
-}
-
-/// The two stripes of a hash among 2^s, in rising order, twice the same where they are one.
-pub fn stripes_of(s: u32, h: u64) -> (u32, u32)
-    requires { s ≤ 10 }
-    ensures low { result.0 ≡ min (index_of s h) (second_of s h) }
-    ensures high { result.1 ≡ max (index_of s h) (second_of s h) }
-    ensures order { result.0 ≤ result.1 }
-    ensures below { result.1 < 2 ^ s }
-
-    // They are the stripes of the hash's buckets at every power from `s` on.
-    ensures first { (p : ℕ) → s ≤ p → index_of p h % 2 ^ s ≡ index_of s h }
-    ensures second { (p : ℕ) → s ≤ p → second_of p h % 2 ^ s ≡ second_of s h }
-{
-    let first = index(s, h);
-    let second = alternate(s, partial(h), first);
-    (first.min(second) as u32, first.max(second) as u32)
 }
 
 /// Whether an entry with hash `h` leaves bucket `b` for the bucket 2^p above it, where a table of 2^p buckets doubles.

@@ -37,13 +37,6 @@ module _ {V : Type 0} where
   free_row (x ∷ xs) zero i = free_slot x i
   free_row (x ∷ xs) (suc r) i = free_row xs r i
 
-  -- what is written in a row twice
-  set_row : (rows : List (List (Slot V))) (r i : ℕ) (x y : Slot V)
-      → slice_set (slice_set rows r (slice_set (row_at rows r) i x)) r (slice_set (row_at (slice_set rows r (slice_set (row_at rows r) i x)) r) i y) ≡ slice_set rows r (slice_set (row_at rows r) i y)
-  set_row [] r i x y = refl
-  set_row (l ∷ ls) zero i x y = ap (λ (z : List (Slot V)). z ∷ ls) (set-set l i x y)
-  set_row (l ∷ ls) (suc r) i x y = ap (λ (z : List (List (Slot V))). l ∷ z) (set_row ls r i x y)
-
   module _ (stripes : List (StripeState V)) (at : HeldSlot) (reach : IsInReach stripes at.index at.bucket) where
     abbrev here : StripeState V
     here = stripe_at stripes at.index
@@ -64,19 +57,6 @@ module _ {V : Type 0} where
     freed n =
         let c : Content V = with_slot here at.bucket at.slot None n in
         ap (λ (t : StripeState V). slot_at (bucket_of t at.bucket) at.slot) (set_here stripes at.index c reach.inside) ∙ free_row here.content.rows (at.bucket / 2 ^ here.s) at.slot
-
-    -- a slot that is written twice
-    pub set_twice : (x y : Slot V) (n m : ℕ) → set_slot (set_slot stripes at x n) at y m ≡ set_slot stripes at y m
-    set_twice x y n m =
-        let c : Content V = with_slot here at.bucket at.slot x n in
-        let is : stripe_at (set_content stripes at.index c) at.index ≡ record here { content = c } = set_here stripes at.index c reach.inside in
-        ap (λ (t : StripeState V). slice_set (set_content stripes at.index c) at.index (record t { content = with_slot t at.bucket at.slot y m })) is
-        ∙ set-set stripes at.index (record here { content = c }) (record here { content = with_slot (record here { content = c }) at.bucket at.slot y m })
-        ∙ ap (λ (rows : List (List (Slot V))). slice_set stripes at.index (record here { content = record { power = here.content.power; rows = rows; ledger = m } }))
-        (set_row here.content.rows (at.bucket / 2 ^ here.s) at.slot x y)
-
-    pub ledger_set : (x : Slot V) (n : ℕ) → (stripe_at (set_slot stripes at x n) at.index).content.ledger ≡ n
-    ledger_set x n = ap (λ (t : StripeState V). t.content.ledger) (set_here stripes at.index (with_slot here at.bucket at.slot x n) reach.inside)
 
   module _ (hash : Name → ℕ) (stripes : List (StripeState V)) (q : Name) (place : KeyPlace) (of : IsPlaceOf hash stripes q place) where
     pub s_at : (at : HeldSlot) → IsSlotOf hash stripes q at → (stripe_at stripes at.index).s ≡ place.s
@@ -166,15 +146,3 @@ module _ {V : Type 0} where
           writes max lawful (Some (q, w)) in_it.content.ledger (Some v) (Some w)
           (replaces (layout hash place.s max) in_it.number in_it.content (sound max lawful) r at.slot (within max lawful) slot.below q v w is)
           (alone max lawful v is) answers
-
-      -- an entry is removed and put back with another value
-      pub put_back : (v w : V) → slot_in stripes at ≡ Some (q, v) → Answers act (Some v) reply (Some w)
-          → (new : List (StripeState V)) → new ≡ set_slot (set_slot stripes at None (in_it.content.ledger - 1)) at (Some (q, w)) ((stripe_at (set_slot stripes at None (in_it.content.ledger - 1)) at.index).content.ledger + 1)
-          → IsCallOn hash place.s stripes q act reply new
-      put_back v w is answers new e max lawful =
-          let more : 0 < in_it.content.ledger = ledger_of_taken (layout hash place.s max) in_it.number in_it.content (sound max lawful) r at.slot q v is in
-          let n : (stripe_at (set_slot stripes at None (in_it.content.ledger - 1)) at.index).content.ledger + 1 ≡ in_it.content.ledger =
-          ap (λ m. m + 1) (ledger_set stripes at slot.reach None (in_it.content.ledger - 1)) ∙ (let z : in_it.content.ledger - 1 + 1 ≡ in_it.content.ledger = omega arith in z) in
-          let same : new ≡ set_slot stripes at (Some (q, w)) in_it.content.ledger =
-          e ∙ set_twice stripes at slot.reach None (Some (q, w)) (in_it.content.ledger - 1) _ ∙ ap (λ m. set_slot stripes at (Some (q, w)) m) n in
-          subst (λ (ks : List (StripeState V)). Section (layout hash place.s max) (contents_of stripes) (On q act) reply (contents_of ks)) (sym same) (replaced v w is answers max lawful)

@@ -15,7 +15,7 @@ use Rattle.ck_section.specs.Places.{IsPlaceOf, slot_in, set_slot, IsNowhere, Are
 use Rattle.ck_section.specs.Entries.{IsOccupied, IsVacant, IsEntryOf}
 use Rattle.ck_section.specs.Calls.{IsWithRoom, IsWithoutRoom, ChangesContents}
 use Rattle.ck_section.proofs.Found.{no_room, has_room, bound_room, set_changes, changes_none, changes_on}
-use Rattle.ck_section.proofs.Decided.{IsCallOn, s_at, keeps_unbound, keeps_bound, placed, removed, replaced, put_back, reach_set}
+use Rattle.ck_section.proofs.Decided.{IsCallOn, s_at, keeps_unbound, keeps_bound, placed, removed, replaced}
 
 -- a fact that holds anyway
 pub none_anyway : {A : Type 0} (o : Option A) (P : Type 0) → P → IfNone o P
@@ -48,12 +48,6 @@ module _ {V : Type 0} where
   hop_changes stripes cur mid new from to x y n m same first second e f =
       let one : ChangesContents stripes mid = written_changes stripes mid from x n first (e ∙ ap (λ (l : List (StripeState V)). set_slot l from x n) same) in
       changes_on stripes mid new one (written_changes mid new to y m (subst (λ k. to.index < k) (sym one.count) second) f)
-
-  pub two_changes : (stripes cur new : List (StripeState V)) (at : HeldSlot) (x y : Slot V) (n m : ℕ) → cur ≡ stripes → IsInReach stripes at.index at.bucket → new ≡ set_slot (set_slot cur at x n) at y m → ChangesContents stripes new
-  two_changes stripes cur new at x y n m same reach e =
-      let mid : List (StripeState V) = set_slot stripes at x n in
-      subst (λ (l : List (StripeState V)). ChangesContents stripes l) (sym (e ∙ ap (λ (l : List (StripeState V)). set_slot (set_slot l at x n) at y m) same))
-      (changes_on stripes mid (set_slot mid at y m) (slot_changes stripes stripes mid at x n refl reach refl) (slot_changes mid mid (set_slot mid at y m) at y m refl (reach_set stripes at reach x n) refl))
 
   -- An entry, by its variant.
   pub occupied_here : (hash : Name → ℕ) (stripes : List (StripeState V)) (q : Name) (place : KeyPlace) (entry : Entry) (at : HeldSlot) → entry ≡ Occupied at → IsEntryOf hash stripes q place entry → IsOccupied hash stripes q at
@@ -100,12 +94,6 @@ module _ {V : Type 0} where
           subst (λ (l : List (StripeState V)). IsCallOn hash place.s stripes q act reply l)
           (sym (e ∙ ap (λ (l : List (StripeState V)). set_slot l at (Some (q, w)) (stripe_at l at.index).content.ledger) same))
           (replaced hash stripes q place of act reply at here.slot here.found.0 w here.found.1 answers)
-
-      pub rewrote : (act : Act V) (reply : Reply V) (w : V) (new : List (StripeState V)) → Answers act (Some here.found.0) reply (Some w)
-          → new ≡ set_slot (set_slot cur at None ((stripe_at cur at.index).content.ledger - 1)) at (Some (q, w)) ((stripe_at (set_slot cur at None ((stripe_at cur at.index).content.ledger - 1)) at.index).content.ledger + 1)
-          → IsCallOn hash place.s stripes q act reply new
-      rewrote act reply w new answers e = put_back hash stripes q place of act reply at here.slot here.found.0 w here.found.1 answers new
-          (e ∙ ap (λ (l : List (StripeState V)). set_slot (set_slot l at None ((stripe_at l at.index).content.ledger - 1)) at (Some (q, w)) ((stripe_at (set_slot l at None ((stripe_at l at.index).content.ledger - 1)) at.index).content.ledger + 1)) same)
 
       pub took : (act : Act V) (reply : V → Reply V) (n : Name) (v : V) (new : List (StripeState V)) → ((w : V) → Answers act (Some w) (reply w) None)
           → slot_in cur at ≡ Some (n, v) → new ≡ set_slot cur at None ((stripe_at cur at.index).content.ledger - 1) → IsCallOn hash place.s stripes q act (reply v) new

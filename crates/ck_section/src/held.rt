@@ -102,11 +102,12 @@ pub trait Held<K: TableKey, V> {
         ensures same { stripes self.new ≡ stripes self.old }
         ensures stays { stays self.old self.new };
 
-    /// Puts a key and its value into a free slot of bucket `b` of stripe `i`.
-    fn place(&mut self, i: usize, b: u64, slot: usize, key: K, value: V)
+    /// Puts a key and its value into a free slot of bucket `b` of stripe `i`. `partial` is that of the key.
+    fn place(&mut self, i: usize, b: u64, slot: usize, partial: u8, key: K, value: V)
         requires reach { IsInReach (stripes self.old) i b }
         requires below { slot < 4 }
         requires free { slot_at (bucket_at (stripes self.old) i b) slot ≡ None }
+        requires partial { partial ≡ partial_of (K.hash (K.name key)) }
         ensures content { stripes self.new ≡ set_content (stripes self.old) i (with_slot (stripe_at (stripes self.old) i) b slot (Some (K.name key, value)) ((stripe_at (stripes self.old) i).content.ledger + 1)) }
         ensures stays { stays self.old self.new };
 
@@ -125,6 +126,15 @@ pub trait Held<K: TableKey, V> {
         requires below { slot < 4 }
         requires full { IsSome (slot_at (bucket_at (stripes self.old) i b) slot) }
         ensures content { (n : _) (v : V) → slot_at (bucket_at (stripes self.old) i b) slot ≡ Some (n, v) → (result ≡ v) × (stripes self.new ≡ set_content (stripes self.old) i (with_slot (stripe_at (stripes self.old) i) b slot (Some (n, value)) (stripe_at (stripes self.old) i).content.ledger)) }
+        ensures stays { stays self.old self.new };
+
+    /// Makes of the value in a slot what the closure makes of it, in its place.
+    fn change<F: FnOnce(V) -> V>(&mut self, i: usize, b: u64, slot: usize, f: F)
+        requires reach { IsInReach (stripes self.old) i b }
+        requires below { slot < 4 }
+        requires full { IsSome (slot_at (bucket_at (stripes self.old) i b) slot) }
+        requires call { F.IsAlwaysCallable f }
+        ensures content { (n : _) (v : V) → slot_at (bucket_at (stripes self.old) i b) slot ≡ Some (n, v) → (w : V) × F.post f v w × (stripes self.new ≡ set_content (stripes self.old) i (with_slot (stripe_at (stripes self.old) i) b slot (Some (n, w)) (stripe_at (stripes self.old) i).content.ledger)) }
         ensures stays { stays self.old self.new };
 
     /// Whether no doubling of stripe `i` is left to be carried out by `settle`.

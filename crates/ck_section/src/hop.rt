@@ -49,7 +49,7 @@ pub fn move_entry<K: TableKey + Drop, V: Drop, H: Held<K, V>>(
         return false;
     };
     let (key, value) = held.remove(from, hop.bucket, hop.slot);
-    held.place(to, hop.target, slot, key, value);
+    held.place(to, hop.target, slot, hop.partial, key, value);
     true
 }
 
@@ -60,11 +60,11 @@ pub fn make_hop<K: TableKey + Drop, V: Drop, H: Held<K, V>>(held: &mut H, s: u32
     requires target { hop.target ≡ alternate_of hop.power hop.partial hop.bucket }
     requires source_owned { HasStripe (H.stripes held.old) (hop.bucket % 2 ^ s) }
     requires target_owned { HasStripe (H.stripes held.old) (hop.target % 2 ^ s) }
-    ensures hopped { (i j : _) × IsHopIn (H.stripes held.old) i j hop × MatchBool result
-        (CanHop K.hash (H.stripes held.old) i j hop
-        × Hops (H.stripes held.old) i j hop (H.stripes held.new))
-        (¬ (CanHop K.hash (H.stripes held.old) i j hop)
-        × (H.stripes held.new ≡ H.stripes held.old)) }
+    ensures hopped { (i j : _) × IsHopIn (H.stripes held.old) i j hop
+        × MatchBool result (CanHop K.hash (H.stripes held.old) i j hop)
+        (¬ (CanHop K.hash (H.stripes held.old) i j hop))
+        × MatchBool result (Hops (H.stripes held.old) i j hop (H.stripes held.new))
+        (H.stripes held.new ≡ H.stripes held.old) }
     ensures no_call { IsNoCall K.hash s (H.stripes held.old) (H.stripes held.new) }
     ensures rest { ChangesContents (H.stripes held.old) (H.stripes held.new) }
     ensures stays { H.stays held.old held.new }

@@ -1,5 +1,6 @@
 //! Looking for a key, and for room for it.
 ghost use Rattle.std.specs.Prelude.{◌≡◌, ◌≤◌, ◌<◌, ◌%◌, ◌^◌, IfSome, IfNone, length, map};
+ghost use Rattle.ck_key.specs.Hashes.{IsHashOf};
 ghost use Rattle.ck_bucket.specs.Bucket.{partial_in};
 ghost use Rattle.ck_section.specs.Stripes.{stripe_at, bucket_at, IsInReach};
 ghost use Rattle.ck_section.specs.Places.{AreHeld, HasStripe, HasBoth, IsPlaceOf, IsSlotOf, IsNowhere, AreFull, IsNext};
@@ -7,22 +8,27 @@ ghost use Rattle.ck_section.specs.Entries.{IsOccupied};
 
 use crate::held::Held;
 use crate::place::{HeldBucket, HeldSlot, KeyPlace};
-use ck_key::TableKey;
+use ck_key::{KeyHash, TableKey};
 
-/// Where a key may be among the held stripes of a table of 2^s.
+/// Where a key, whose hash the caller has at hand, may be among the held stripes of a table of 2^s.
 #[inline(always)]
 #[tactic(auto, unfolding(ck_model::specs::Arithmetic::second_of))]
-pub fn key_place<K: TableKey, V, H: Held<K, V>>(held: &mut H, s: u32, key: &K) -> KeyPlace
+pub fn key_place<K: TableKey, V, H: Held<K, V>>(
+    held: &mut H,
+    s: u32,
+    _key: &K,
+    hash: KeyHash,
+) -> KeyPlace
     requires held { AreHeld s (H.stripes held.old) }
-    requires owned { HasBoth K.hash s (H.stripes held.old) (K.name key.now) }
-    ensures place { IsPlaceOf K.hash (H.stripes held.old) (K.name key.now) result }
+    requires hash { IsHashOf K.hash (K.name _key.now) hash }
+    requires owned { HasBoth K.hash s (H.stripes held.old) (K.name _key.now) }
+    ensures place { IsPlaceOf K.hash (H.stripes held.old) (K.name _key.now) result }
     ensures s { result.s ≡ s }
     ensures same { H.stripes held.new ≡ H.stripes held.old }
     ensures stays { H.stays held.old held.new }
 {
-    let hash = key.hash64();
+    let KeyHash { hash, partial } = hash;
     let power = held.power(0);
-    let partial = ck_key::partial(hash);
     let first = ck_key::index(power, hash);
     let alternate = ck_key::alternate(power, partial, first);
     KeyPlace {

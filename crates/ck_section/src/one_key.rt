@@ -1,5 +1,5 @@
 //! Calls on one key, whose two buckets are held. Each looks into a bucket once, and compares keys of one partial alone.
-ghost use Rattle.std.specs.Prelude.{◌≡◌, ◌<◌, ◌+◌, ◌-◌, Some, None, IfSome, IfNone, IsSome, IfOk, IfErr, MatchBool, if◌then◌else◌};
+ghost use Rattle.std.specs.Prelude.{◌≡◌, Some, None, IfSome, IfNone, IfOk, IfErr, MatchBool, if◌then◌else◌};
 ghost use Rattle.std.specs.Bool.{OnFalse};
 ghost use Rattle.std.specs.Fn.{FnOnceReturnsAt};
 ghost use Rattle.ck_model.specs.declared.history.Act.{Act};
@@ -7,8 +7,7 @@ ghost use Rattle.ck_model.specs.declared.history.Reply.{Reply};
 ghost use Rattle.ck_model.specs.declared.history.Act.TheVariants.{Find, Insert, Assign, Update, Change, Upsert, Erase};
 ghost use Rattle.ck_model.specs.declared.history.Reply.TheVariants.{Was, New, Old, Done, Absent};
 ghost use Rattle.ck_model.specs.Map.{Answers};
-ghost use Rattle.ck_section.specs.Stripes.{stripe_at, IsInReach};
-ghost use Rattle.ck_section.specs.Places.{IsPlaceOf, slot_in, set_slot};
+ghost use Rattle.ck_section.specs.Places.{IsPlaceOf};
 ghost use Rattle.ck_section.specs.Entries.{IsEntryOf, IsVacant};
 ghost use Rattle.ck_section.specs.Calls.{effect, IsCall, ChangesContents};
 
@@ -181,7 +180,7 @@ where
     let Some(at) = find_slot(held, place, key) else {
         return false;
     };
-    change_at(held, at, f);
+    held.change(at.index, at.bucket, at.slot, f);
     true
 }
 
@@ -209,7 +208,7 @@ where
 {
     match entry {
         Entry::Occupied(at) => {
-            change_at(held, at, f);
+            held.change(at.index, at.bucket, at.slot, f);
             false
         }
         Entry::Vacant(at) => {
@@ -234,24 +233,5 @@ fn fill<K: TableKey + Drop, V: Drop, H: Held<K, V>>(
     ensures rest { ChangesContents (H.stripes held.old) (H.stripes held.new) }
     ensures stays { H.stays held.old held.new }
 {
-    held.place(at.index, at.bucket, at.slot, key, value);
-}
-
-// Binds the key of the slot to what the closure makes of its value.
-fn change_at<K: TableKey + Drop, V: Drop, H: Held<K, V>, F: FnOnce(V) -> V>(
-    held: &mut H,
-    at: HeldSlot,
-    f: F,
-)
-where
-    F: Drop,
-    requires reach { IsInReach (H.stripes held.old) at.index at.bucket }
-    requires below { at.slot < 4 }
-    requires full { IsSome (slot_in (H.stripes held.old) at) }
-    requires call { F.IsAlwaysCallable f }
-    ensures changed { (q : _) (v : V) → slot_in (H.stripes held.old) at ≡ Some (q, v) → (w : V) × F.post f v w × (H.stripes held.new ≡ set_slot (set_slot (H.stripes held.old) at None ((stripe_at (H.stripes held.old) at.index).content.ledger - 1)) at (Some (q, w)) ((stripe_at (set_slot (H.stripes held.old) at None ((stripe_at (H.stripes held.old) at.index).content.ledger - 1)) at.index).content.ledger + 1)) }
-    ensures stays { H.stays held.old held.new }
-{
-    let (key, value) = held.remove(at.index, at.bucket, at.slot);
-    held.place(at.index, at.bucket, at.slot, key, f(value));
+    held.place(at.index, at.bucket, at.slot, place.partial, key, value);
 }

@@ -52,8 +52,8 @@ impl<K: TableKey + Drop, V: Drop> Held<K, V> for Slice<'_, K, V> {
         }
     }
 
-    fn place(&mut self, i: usize, b: u64, slot: usize, key: K, value: V) {
-        self.stripes[i].place(b, slot, key, value);
+    fn place(&mut self, i: usize, b: u64, slot: usize, partial: u8, key: K, value: V) {
+        self.stripes[i].place(b, slot, partial, key, value);
     }
 
     fn remove(&mut self, i: usize, b: u64, slot: usize) -> (K, V) {
@@ -62,6 +62,10 @@ impl<K: TableKey + Drop, V: Drop> Held<K, V> for Slice<'_, K, V> {
 
     fn replace(&mut self, i: usize, b: u64, slot: usize, value: V) -> V {
         self.stripes[i].replace(b, slot, value)
+    }
+
+    fn change<F: FnOnce(V) -> V>(&mut self, i: usize, b: u64, slot: usize, f: F) {
+        self.stripes[i].change(b, slot, f);
     }
 
     fn settled(&mut self, i: usize) -> bool {

@@ -46,7 +46,21 @@ where
     let (key_a, value_a) = held.remove(at_a.index, at_a.bucket, at_a.slot);
     let (key_b, value_b) = held.remove(at_b.index, at_b.bucket, at_b.slot);
     let (value_a, value_b) = f(value_a, value_b);
-    held.place(at_a.index, at_a.bucket, at_a.slot, key_a, value_a);
-    held.place(at_b.index, at_b.bucket, at_b.slot, key_b, value_b);
+    held.place(
+        at_a.index,
+        at_a.bucket,
+        at_a.slot,
+        place_a.partial,
+        key_a,
+        value_a,
+    );
+    held.place(
+        at_b.index,
+        at_b.bucket,
+        at_b.slot,
+        place_b.partial,
+        key_b,
+        value_b,
+    );
     true
 }

@@ -2,10 +2,11 @@
 //! next, so that a table doubles without going through its entries.
 ghost use Rattle.std.specs.Prelude.{◌≡◌, ◌≤◌, ◌<◌, ◌+◌, ◌-◌, ◌*◌, ◌/◌, ◌^◌, ℕ, true, false, Some, None, IsSome, IfOk, OnOk, OnErr, ◌++◌, length, map, max, vec_len, vec_capacity};
 ghost use Rattle.std.specs.List.Sorted.{IsPermutation};
+ghost use Rattle.ck_model.specs.Arithmetic.{partial_of};
 ghost use Rattle.ck_model.specs.Map.{named};
 ghost use Rattle.ck_model.specs.Slots.{slot_at};
 ghost use Rattle.ck_model.specs.Contents.{Layout, pairs_in, IsSound};
-ghost use Rattle.ck_bucket.specs.Bucket.{ReplacesValue};
+ghost use Rattle.ck_bucket.specs.Bucket.{ReplacesValue, ChangesValue};
 ghost use Rattle.ck_stripe.specs.Doubling.{split_rows, doubled_content, SendsEach};
 ghost use Rattle.ck_stripe.specs.Stripe.{HasBucket, bucket_of, with_bucket, with_slot, empty_content, IsShaped, IsReserved};
 
@@ -79,17 +80,18 @@ impl<K: TableKey + Drop, V: Drop> Stripe<K, V> {
         &self.buckets[row]
     }
 
-    /// Puts a key and its value into a free slot of bucket `b`.
-    pub fn place(&mut self, b: u64, slot: usize, key: K, value: V)
+    /// Puts a key and its value into a free slot of bucket `b`. `partial` is that of the key.
+    pub fn place(&mut self, b: u64, slot: usize, partial: u8, key: K, value: V)
         requires settled { self.old.settled ≡ true }
         requires own { HasBucket self.old b }
         requires below { slot < 4 }
         requires free { slot_at (bucket_of self.old b) slot ≡ None }
+        requires partial { partial ≡ partial_of (K.hash (K.name key)) }
         ensures content { self.new.content ≡ with_slot self.old b slot (Some (K.name key, value)) (self.old.content.ledger + 1) }
         ensures rest { self.new ≡ record self.old { content = self.new.content } }
     {
         let row = self.row(b);
-        self.buckets[row].put(slot, key, value);
+        self.buckets[row].put(slot, partial, key, value);
         self.ledger += 1;
     }
 
@@ -121,6 +123,22 @@ impl<K: TableKey + Drop, V: Drop> Stripe<K, V> {
     {
         let row = self.row(b);
         self.buckets[row].replace(slot, value)
+    }
+
+    /// Makes of the value in a slot of bucket `b` what the closure makes of it, in its place.
+    #[inline(always)]
+    pub fn change<F: FnOnce(V) -> V>(&mut self, b: u64, slot: usize, f: F)
+        requires settled { self.old.settled ≡ true }
+        requires own { HasBucket self.old b }
+        requires below { slot < 4 }
+        requires full { IsSome (slot_at (bucket_of self.old b) slot) }
+        requires call { F.IsAlwaysCallable f }
+        ensures entry { ChangesValue (F.post f) (bucket_of self.old b) (bucket_of self.new b) slot }
+        ensures content { self.new.content ≡ with_bucket self.old b (bucket_of self.new b) self.old.content.ledger }
+        ensures rest { self.new ≡ record self.old { content = self.new.content } }
+    {
+        let row = self.row(b);
+        self.buckets[row].change(slot, f);
     }
 
     // The row of bucket `b`.

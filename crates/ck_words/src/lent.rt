@@ -77,11 +77,21 @@ impl<K: TableKey + Drop, V: Drop> Held<K, V> for Lent<'_, K, V> {
         slots::read_at(shared, &mut pass.seat, &pass.taken, i, b, slot, f)
     }
 
-    fn place(&mut self, i: usize, b: u64, slot: usize, key: K, value: V) {
+    fn place(&mut self, i: usize, b: u64, slot: usize, partial: u8, key: K, value: V) {
         let words = self.words;
         let pass = &mut *self.pass;
         let shared = &words.table.shared;
-        slots::place_at(shared, &mut pass.seat, &pass.taken, i, b, slot, key, value);
+        slots::place_at(
+            shared,
+            &mut pass.seat,
+            &pass.taken,
+            i,
+            b,
+            slot,
+            partial,
+            key,
+            value,
+        );
     }
 
     fn remove(&mut self, i: usize, b: u64, slot: usize) -> (K, V) {
@@ -96,6 +106,13 @@ impl<K: TableKey + Drop, V: Drop> Held<K, V> for Lent<'_, K, V> {
         let pass = &mut *self.pass;
         let shared = &words.table.shared;
         slots::replace_at(shared, &mut pass.seat, &pass.taken, i, b, slot, value)
+    }
+
+    fn change<F: FnOnce(V) -> V>(&mut self, i: usize, b: u64, slot: usize, f: F) {
+        let words = self.words;
+        let pass = &mut *self.pass;
+        let shared = &words.table.shared;
+        slots::change_at(shared, &mut pass.seat, &pass.taken, i, b, slot, f);
     }
 
     fn settled(&mut self, i: usize) -> bool {

@@ -303,6 +303,7 @@ pub(crate) fn place_at<K: TableKey + Drop, V: Drop>(
     i: usize,
     b: u64,
     slot: usize,
+    partial: u8,
     key: K,
     value: V,
 )
@@ -313,6 +314,7 @@ pub(crate) fn place_at<K: TableKey + Drop, V: Drop>(
     requires reach { IsInReach (stripes_in seat.old.me.1) i b }
     requires below { slot < 4 }
     requires free { slot_at (bucket_at (stripes_in seat.old.me.1) i b) slot ≡ None }
+    requires partial { partial ≡ partial_of (K.hash (K.name key)) }
     ensures puts { Puts seat.old.me.1 i (record (stripe_at (stripes_in seat.old.me.1) i) { content = with_slot (stripe_at (stripes_in seat.old.me.1) i) b slot (Some (K.name key, value)) ((stripe_at (stripes_in seat.old.me.1) i).content.ledger + 1) }) seat.new.me.1 }
     ensures kept { (seat.new.table_id ≡ seat.old.table_id) × (seat.new.id ≡ seat.old.id) × (seat.new.me.0 ≡ seat.old.me.0) }
 {
@@ -320,7 +322,7 @@ pub(crate) fn place_at<K: TableKey + Drop, V: Drop>(
     let Some(stripe) = seat.slot_mut(shared, t) else {
         unreachable!()
     };
-    stripe.place(b, slot, key, value);
+    stripe.place(b, slot, partial, key, value);
     turn_by(seat, taken.len() - i);
 }
 
@@ -378,6 +380,34 @@ pub(crate) fn replace_at<K: TableKey + Drop, V: Drop>(
     let answer = stripe.replace(b, slot, value);
     turn_by(seat, taken.len() - i);
     answer
+}
+
+pub(crate) fn change_at<K: TableKey + Drop, V: Drop, F: FnOnce(V) -> V>(
+    shared: &Board<K, V>,
+    seat: &mut Place<K, V>,
+    taken: &[usize],
+    i: usize,
+    b: u64,
+    slot: usize,
+    f: F,
+)
+    requires own { seat.old.table_id ≡ shared.now.table_id }
+    requires full { seat.old.me.1 ≡ map slot_of (stripes_in seat.old.me.1) }
+    requires numbered { numbers_of (stripes_in seat.old.me.1) ≡ taken.now }
+    requires inside { i < length taken.now }
+    requires reach { IsInReach (stripes_in seat.old.me.1) i b }
+    requires below { slot < 4 }
+    requires slot_full { IsSome (slot_at (bucket_at (stripes_in seat.old.me.1) i b) slot) }
+    requires call { F.IsAlwaysCallable f }
+    ensures content { (n : Name) × (v w : V) × (slot_at (bucket_at (stripes_in seat.old.me.1) i b) slot ≡ Some (n, v)) × F.post f v w × Puts seat.old.me.1 i (record (stripe_at (stripes_in seat.old.me.1) i) { content = with_slot (stripe_at (stripes_in seat.old.me.1) i) b slot (Some (n, w)) (stripe_at (stripes_in seat.old.me.1) i).content.ledger }) seat.new.me.1 }
+    ensures kept { (seat.new.table_id ≡ seat.old.table_id) × (seat.new.id ≡ seat.old.id) × (seat.new.me.0 ≡ seat.old.me.0) }
+{
+    let t = bring(seat, taken, i);
+    let Some(stripe) = seat.slot_mut(shared, t) else {
+        unreachable!()
+    };
+    stripe.change(b, slot, f);
+    turn_by(seat, taken.len() - i);
 }
 
 pub(crate) fn settle_at<K: TableKey + Drop, V: Drop>(

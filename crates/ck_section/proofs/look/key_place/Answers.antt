@@ -24,9 +24,9 @@ position-requires g c =
     let V : Type 0 = g.row.V.Denot in
     let stripes : List (StripeState V) = g.H.Held.stripes c.args.held.now in
     let p : ℕ = (stripe_at stripes 0).content.power in
-    let hash : ℕ = g.K.TableKey.hash (g.K.TableKey.name c.args.key.now) in
+    let hash : ℕ = g.K.TableKey.hash (g.K.TableKey.name c.args._key.now) in
     let power : c.power-power.result ≡ p = c.power-power.ensures.value in
-    let first : c.index-first.result ≡ index_of p hash = c.index-first.ensures.value ∙ (λ i. index_of (power i) (c.hash64-hash.ensures i)) in
+    let first : c.index-first.result ≡ index_of p hash = c.index-first.ensures.value ∙ (λ i. index_of (power i) (c.requires.hash.value i)) in
     subst (λ (z : List (StripeState V) × ℕ). HasStripe z.0 z.1)
     (λ i. (sym c.power-power.ensures.same i, sym (first_number c.args.s p hash c.index-first.result c.requires.held.many c.requires.held.least first) i)) c.requires.owned.first
 
@@ -35,11 +35,10 @@ position-requires-2 g c =
     let V : Type 0 = g.row.V.Denot in
     let stripes : List (StripeState V) = g.H.Held.stripes c.args.held.now in
     let p : ℕ = (stripe_at stripes 0).content.power in
-    let hash : ℕ = g.K.TableKey.hash (g.K.TableKey.name c.args.key.now) in
+    let hash : ℕ = g.K.TableKey.hash (g.K.TableKey.name c.args._key.now) in
     let power : c.power-power.result ≡ p = c.power-power.ensures.value in
-    let first : c.index-first.result ≡ index_of p hash = c.index-first.ensures.value ∙ (λ i. index_of (power i) (c.hash64-hash.ensures i)) in
-    let partial : c.partial-partial.result ≡ partial_of hash = c.partial-partial.ensures ∙ ap partial_of c.hash64-hash.ensures in
-    let alternate : c.alternate-alternate.result ≡ alternate_of p (partial_of hash) (index_of p hash) = c.alternate-alternate.ensures.value ∙ (λ i. alternate_of (power i) (partial i) (first i)) in
+    let first : c.index-first.result ≡ index_of p hash = c.index-first.ensures.value ∙ (λ i. index_of (power i) (c.requires.hash.value i)) in
+    let alternate : c.alternate-alternate.result ≡ alternate_of p (partial_of hash) (index_of p hash) = c.alternate-alternate.ensures.value ∙ (λ i. alternate_of (power i) (c.requires.hash.partial i) (first i)) in
     subst (λ (z : List (StripeState V) × ℕ). HasStripe z.0 z.1)
     (λ i. (sym (c.position.ensures.same ∙ c.power-power.ensures.same) i, sym (second_number c.args.s p hash c.alternate-alternate.result c.requires.held.many c.requires.held.least alternate) i)) c.requires.owned.alternate
 

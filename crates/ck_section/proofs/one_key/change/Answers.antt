@@ -1,7 +1,7 @@
 use Rattle.std.proofs.Common.{refl}
 use Rattle.ck_model.specs.declared.history.Act.TheVariants.{Change}
 use Rattle.ck_model.specs.declared.history.Reply.TheVariants.{Done, Absent}
-use Rattle.ck_section.proofs.Steps.{two_changes, lacked, found_in, rewrote, unchanged, reach_still, full_still}
+use Rattle.ck_section.proofs.Steps.{slot_changes, lacked, found_in, wrote, unchanged, reach_still, full_still}
 use Rattle.ck_section.proofs.one_key.change.Goals as goal
 
 pub returns-in_default-clause-call : goal.returns-in_default-clause-call
@@ -21,8 +21,8 @@ returns-clause-call g c =
     let at = c.in-Some.at in
     let here = c.in-Some.ensures.occupied in
     let v = here.found.0 in
-    let z = c.change_at.ensures.changed q v (found_in hash stripes q c.args.place c.requires.place cur c.find_slot.ensures.same at here) in
-    (v, z.0, z.1, rewrote hash stripes q c.args.place c.requires.place cur c.find_slot.ensures.same at here Change (Done v z.0) z.0 _ (z.0, refl, refl) z.2)
+    let z = c.change.ensures.content q v (found_in hash stripes q c.args.place c.requires.place cur c.find_slot.ensures.same at here) in
+    (v, z.0, z.1, wrote hash stripes q c.args.place c.requires.place cur c.find_slot.ensures.same at here Change (Done v z.0) z.0 _ (z.0, refl, refl) z.2)
 
 pub returns-clause-rest : goal.returns-clause-rest
 returns-clause-rest g c =
@@ -32,20 +32,20 @@ returns-clause-rest g c =
     let q = g.K.TableKey.name c.args.key.now in
     let at = c.in-Some.at in
     let here = c.in-Some.ensures.occupied in
-    let z = c.change_at.ensures.changed q here.found.0 (found_in hash stripes q c.args.place c.requires.place cur c.find_slot.ensures.same at here) in
-    two_changes stripes cur _ at _ _ _ _ c.find_slot.ensures.same here.slot.reach z.2
+    let z = c.change.ensures.content q here.found.0 (found_in hash stripes q c.args.place c.requires.place cur c.find_slot.ensures.same at here) in
+    slot_changes stripes cur _ at _ _ c.find_slot.ensures.same here.slot.reach z.2
 
 pub find_slot-requires : goal.find_slot-requires
 find_slot-requires g c = c.requires.place
 
-pub change_at-requires-clause-reach : goal.change_at-requires-clause-reach
-change_at-requires-clause-reach g c = reach_still _ _ c.find_slot.ensures.same c.in-Some.at.index c.in-Some.at.bucket c.in-Some.ensures.occupied.slot.reach
+pub change-requires-clause-reach : goal.change-requires-clause-reach
+change-requires-clause-reach g c = reach_still _ _ c.find_slot.ensures.same c.in-Some.at.index c.in-Some.at.bucket c.in-Some.ensures.occupied.slot.reach
 
-pub change_at-requires-clause-below : goal.change_at-requires-clause-below
-change_at-requires-clause-below g c = c.in-Some.ensures.occupied.slot.below
+pub change-requires-clause-below : goal.change-requires-clause-below
+change-requires-clause-below g c = c.in-Some.ensures.occupied.slot.below
 
-pub change_at-requires-clause-full : goal.change_at-requires-clause-full
-change_at-requires-clause-full g c = full_still _ _ c.find_slot.ensures.same c.in-Some.at _ c.in-Some.ensures.occupied.found
+pub change-requires-clause-full : goal.change-requires-clause-full
+change-requires-clause-full g c = full_still _ _ c.find_slot.ensures.same c.in-Some.at _ c.in-Some.ensures.occupied.found
 
 pub returns-in_default-clause-rest : goal.returns-in_default-clause-rest
 returns-in_default-clause-rest g c = unchanged _ _ c.find_slot.ensures.same
@@ -54,4 +54,4 @@ pub returns-in_default-clause-stays : goal.returns-in_default-clause-stays
 returns-in_default-clause-stays g c = c.find_slot.ensures.stays
 
 pub returns-clause-stays : goal.returns-clause-stays
-returns-clause-stays g c = g.met.H.Held.stays_on _ _ _ c.find_slot.ensures.stays c.change_at.ensures.stays
+returns-clause-stays g c = g.met.H.Held.stays_on _ _ _ c.find_slot.ensures.stays c.change.ensures.stays

@@ -1,6 +1,7 @@
-use Rattle.std.proofs.Common.{refl, None, Some, ap}
+use Rattle.std.proofs.Common.{refl, sym, subst, Option, None, Some, ap}
 use Rattle.ck_model.specs.declared.history.Act.TheVariants.{Update}
 use Rattle.ck_model.specs.declared.history.Reply.TheVariants.{Was}
+use Rattle.ck_section.proofs.Decided.{IsCallOn}
 use Rattle.ck_section.proofs.Steps.{slot_changes, lacked, found_in, wrote, unchanged, reach_still, full_still}
 use Rattle.ck_section.proofs.one_key.update.Goals as goal
 
@@ -10,7 +11,8 @@ returns-in_err-at-clause-call g c =
     let stripes = g.H.Held.stripes c.args.held.now in
     let cur = g.H.Held.stripes c.find_slot.new.held in
     let q = g.K.TableKey.name c.args.key.now in
-    let h = c.from_residual in ?
+    subst (λ (r : Option g.row.V.Denot). IsCallOn hash c.args.place.s stripes q (Update c.args.value) (Was r) cur) (sym c.from_residual.ensures)
+    (lacked hash stripes q c.args.place c.requires cur c.find_slot.ensures.same (Update c.args.value) (Was None) c.in_err-at.ensures.nowhere (refl, refl))
 
 pub returns-clause-call : goal.returns-clause-call
 returns-clause-call g c =

@@ -1,5 +1,5 @@
 use Rattle.ck_model.proofs.Buckets.{index_lower, second_lower}
-use Rattle.ck_key.proofs.arithmetic.stripes_of.Goals as goal
+use Rattle.ck_key.proofs.key_hash.KeyHash.stripes.Goals as goal
 
 pub returns-clause-first : goal.returns-clause-first
 returns-clause-first c = λ p le. index_lower _ p _ le
