@@ -1,8 +1,8 @@
 -- Calls on one name of held stripes, by what was found and written.
-use Rattle.std.proofs.Common.{◌≡◌, ◌≢◌, inl, ℕ, zero, suc, ◌+◌, ◌-◌, ◌/◌, ◌^◌, ◌<◌, List, [], ◌∷◌, Option, Some, None, length, refl, sym, ◌∙◌, ap, subst}
+use Rattle.std.proofs.Common.{◌≡◌, ◌≢◌, inl, ℕ, zero, suc, ◌+◌, ◌-◌, ◌/◌, ◌^◌, ◌<◌, List, [], ◌∷◌, Option, Some, None, length, refl, sym, ◌∙◌, ap, subst, arith}
 use Rattle.std.specs.Prelude.{slice_set}
 use Rattle.std.specs.FinMap.{get, find}
-use Rattle.std.proofs.lemmas.List.{length-set, get_or-set_same}
+use Rattle.std.proofs.lemmas.List.{length-set, get_or-set_same, set-set}
 use Rattle.ck_model.specs.declared.history.Act.{Act}
 use Rattle.ck_model.specs.declared.history.Call.TheVariants.{On}
 use Rattle.ck_model.specs.declared.history.Reply.{Reply}
@@ -13,16 +13,20 @@ use Rattle.ck_model.specs.Numbered.{Holds}
 use Rattle.ck_model.specs.Contents.{IsBucketOf, Layout, Stripes, Binds, pairs_in, row_at, bindings, IsSound, Lawful}
 use Rattle.ck_model.specs.Sections.{Section}
 use Rattle.ck_model.proofs.Local.{Change, section_in_one}
-use Rattle.ck_model.proofs.Writes.{Writes, written, stands, places, removes, replaces}
+use Rattle.ck_model.proofs.Writes.{Writes, written, stands, places, removes, replaces, ledger_of_taken}
 use Rattle.ck_stripe.specs.Stripe.{StripeState, HasBucket, bucket_of, with_slot}
 use Rattle.ck_section.specs.declared.place.KeyPlace.{KeyPlace}
 use Rattle.ck_section.specs.declared.place.HeldSlot.{HeldSlot}
 use Rattle.ck_section.specs.Stripes.{stripe_at, set_content, contents_of, IsInReach}
-use Rattle.ck_section.specs.Places.{place_of, IsPlaceOf, IsSlotOf, slot_in, set_slot, IsNowhere}
-use Rattle.ck_section.specs.Calls.{layout, IsCall, IsAt}
+use Rattle.ck_section.specs.Places.{IsPlaceOf, IsSlotOf, slot_in, set_slot, IsNowhere}
+use Rattle.ck_section.specs.Calls.{layout, Effect, IsCall}
 use Rattle.ck_section.proofs.Found.{holds_at, contents_set, set_here, slot_held, row_bucket, row_within, sound_at, nowhere, unbound, owns, bound_in}
 
 module _ {V : Type 0} where
+  -- a call, by the parts of its effect
+  abbrev pub IsCallOn : (Name → ℕ) → ℕ → List (StripeState V) → Name → Act V → Reply V → List (StripeState V) → Type 0
+  IsCallOn hash s old q act reply new = IsCall (record { hash = hash; s = s; old = old; new = new }) q act reply
+
   free_slot : (slots : List (Slot V)) (i : ℕ) → slot_at (slice_set slots i None) i ≡ None
   free_slot [] i = refl
   free_slot (x ∷ xs) zero = refl
@@ -54,46 +58,22 @@ module _ {V : Type 0} where
         let c : Content V = with_slot here at.bucket at.slot None n in
         ap (λ (t : StripeState V). slot_at (bucket_of t at.bucket) at.slot) (set_here stripes at.index c reach.inside) ∙ free_row here.content.rows (at.bucket / 2 ^ here.s) at.slot
 
-  -- The place of an entry that is in a slot, and of one that was put there.
-  module _ (hash : Name → ℕ) (s : ℕ) (q : Name) where
-    pub at_old : (stripes : List (StripeState V)) (at : HeldSlot) (v : V) → IsInReach stripes at.index at.bucket → (stripe_at stripes at.index).s ≡ s → slot_in stripes at ≡ Some (q, v) → IsAt hash s stripes (place_of s at) q v
-    at_old stripes at v reach e is max lawful = ap (λ (row : List (Slot V)). slot_at row at.slot) (slot_held stripes at.index at.bucket 0 lawful.distinct reach.inside reach.own s e) ∙ is
-
-    pub at_new : (stripes : List (StripeState V)) (at : HeldSlot) (v : V) (n : ℕ) → IsInReach stripes at.index at.bucket → at.slot < 4 → (stripe_at stripes at.index).s ≡ s → IsAt hash s (set_slot stripes at (Some (q, v)) n) (place_of s at) q v
-    at_new stripes at v n reach below e max lawful =
-        let t : StripeState V = stripe_at stripes at.index in
-        let r : ℕ = at.bucket / 2 ^ t.s in
-        let c : Content V = with_slot t at.bucket at.slot (Some (q, v)) n in
-        let new : List (StripeState V) = set_slot stripes at (Some (q, v)) n in
-        let after : IsInReach new at.index at.bucket = reach_set stripes at reach (Some (q, v)) n in
-        let is : stripe_at new at.index ≡ record t { content = c } = set_here stripes at.index c reach.inside in
-        let e2 : (stripe_at new at.index).s ≡ s = ap (λ (u : StripeState V). u.s) is ∙ e in
-        let sound : IsSound (layout hash s max) t.number c = subst (λ (u : StripeState V). IsSound (layout hash s max) u.number u.content) is (sound_at hash s max new lawful at.index after.inside) in
-        let within2 : r < length c.rows = row_within (layout hash s max) (record t { content = c }) at.bucket sound reach.own e in
-        let within : r < length t.content.rows = subst (λ m. r < m) (length-set t.content.rows r (slice_set (row_at t.content.rows r) at.slot (Some (q, v)))) within2 in
-        let row : row_at c.rows r ≡ slice_set (row_at t.content.rows r) at.slot (Some (q, v)) = get_or-set_same t.content.rows r (slice_set (row_at t.content.rows r) at.slot (Some (q, v))) [] within in
-        let four : length (row_at t.content.rows r) ≡ 4 = sym (length-set (row_at t.content.rows r) at.slot (Some (q, v))) ∙ ap length (sym row) ∙ sound.four r [] within2 in
-        at_old new at v after e2 (
-        ap (λ (u : StripeState V). slot_at (bucket_of u at.bucket) at.slot) is
-        ∙ ap (λ (l : List (Slot V)). slot_at l at.slot) row
-        ∙ get_or-set_same (row_at t.content.rows r) at.slot (Some (q, v)) None (subst (λ m. at.slot < m) (sym four) below)) max lawful
-
   module _ (hash : Name → ℕ) (stripes : List (StripeState V)) (q : Name) (place : KeyPlace) (of : IsPlaceOf hash stripes q place) where
     pub s_at : (at : HeldSlot) → IsSlotOf hash stripes q at → (stripe_at stripes at.index).s ≡ place.s
     s_at at slot = of.one_s at.index slot.reach.inside
 
     -- a call that changes nothing
-    keeps : (act : Act V) (reply : Reply V) (o : Option V) → ((max : ℕ) → Lawful (layout hash place.s max) (contents_of stripes) → get (bindings (contents_of stripes)) q ≡ o) → Answers act o reply o → IsCall hash place.s stripes q act reply stripes
+    keeps : (act : Act V) (reply : Reply V) (o : Option V) → ((max : ℕ) → Lawful (layout hash place.s max) (contents_of stripes) → get (bindings (contents_of stripes)) q ≡ o) → Answers act o reply o → IsCallOn hash place.s stripes q act reply stripes
     keeps act reply o is answers max lawful = record {
       renewed = record { same = refl; lawful = lawful; power = inl (λ t u c d h g. sym (lawful.one_power t u c d h g)) };
       owns = owns hash place.s max stripes lawful q place of refl;
       step = (subst (λ (x : Option V). Answers act x reply x) (sym (is max lawful)) answers, λ p ne. refl);
     }
 
-    pub keeps_unbound : (act : Act V) (reply : Reply V) → IsNowhere stripes q place → Answers act None reply None → IsCall hash place.s stripes q act reply stripes
+    pub keeps_unbound : (act : Act V) (reply : Reply V) → IsNowhere stripes q place → Answers act None reply None → IsCallOn hash place.s stripes q act reply stripes
     keeps_unbound act reply lacks answers = keeps act reply None (λ max lawful. unbound hash place.s max stripes lawful q place of refl lacks) answers
 
-    pub keeps_bound : (act : Act V) (reply : Reply V) (at : HeldSlot) (v : V) → IsSlotOf hash stripes q at → slot_in stripes at ≡ Some (q, v) → Answers act (Some v) reply (Some v) → IsCall hash place.s stripes q act reply stripes
+    pub keeps_bound : (act : Act V) (reply : Reply V) (at : HeldSlot) (v : V) → IsSlotOf hash stripes q at → slot_in stripes at ≡ Some (q, v) → Answers act (Some v) reply (Some v) → IsCallOn hash place.s stripes q act reply stripes
     keeps_bound act reply at v slot is answers = keeps act reply (Some v) (λ max lawful. bound_in hash place.s max stripes lawful q v at slot.reach is) answers
 
     -- one slot is written
@@ -137,7 +117,7 @@ module _ {V : Type 0} where
             ne (lawful.once u in_it.number d in_it.content q w v h (holds_at stripes at.index slot.reach.inside) bound (stands k in_it.number in_it.content sound r at.slot q v is))
 
       -- an unbound name is placed in a free slot
-      pub placed : (v : V) → IsNowhere stripes q place → slot_in stripes at ≡ None → Answers act None reply (Some v) → IsCall hash place.s stripes q act reply (set_slot stripes at (Some (q, v)) (in_it.content.ledger + 1))
+      pub placed : (v : V) → IsNowhere stripes q place → slot_in stripes at ≡ None → Answers act None reply (Some v) → IsCallOn hash place.s stripes q act reply (set_slot stripes at (Some (q, v)) (in_it.content.ledger + 1))
       placed v lacks free answers max lawful =
           let e : (stripe_at stripes at.index).s ≡ place.s = s_at at slot in
           let none : find name_cmp q (pairs_in in_it.content) ≡ None = absent (find name_cmp q (pairs_in in_it.content)) refl in
@@ -154,14 +134,14 @@ module _ {V : Type 0} where
           absent (Some w) f = absurd (nowhere hash place.s max stripes lawful q place of refl lacks in_it.number in_it.content w (holds_at stripes at.index slot.reach.inside) f)
 
       -- an entry is removed
-      pub removed : (v : V) → slot_in stripes at ≡ Some (q, v) → Answers act (Some v) reply None → IsCall hash place.s stripes q act reply (set_slot stripes at None (in_it.content.ledger - 1))
+      pub removed : (v : V) → slot_in stripes at ≡ Some (q, v) → Answers act (Some v) reply None → IsCallOn hash place.s stripes q act reply (set_slot stripes at None (in_it.content.ledger - 1))
       removed v is answers max lawful =
           writes max lawful None (in_it.content.ledger - 1) (Some v) None
           (removes (layout hash place.s max) in_it.number in_it.content (sound max lawful) r at.slot (within max lawful) slot.below q v is)
           (alone max lawful v is) answers
 
       -- an entry gets another value
-      pub replaced : (v w : V) → slot_in stripes at ≡ Some (q, v) → Answers act (Some v) reply (Some w) → IsCall hash place.s stripes q act reply (set_slot stripes at (Some (q, w)) in_it.content.ledger)
+      pub replaced : (v w : V) → slot_in stripes at ≡ Some (q, v) → Answers act (Some v) reply (Some w) → IsCallOn hash place.s stripes q act reply (set_slot stripes at (Some (q, w)) in_it.content.ledger)
       replaced v w is answers max lawful =
           writes max lawful (Some (q, w)) in_it.content.ledger (Some v) (Some w)
           (replaces (layout hash place.s max) in_it.number in_it.content (sound max lawful) r at.slot (within max lawful) slot.below q v w is)

@@ -5,18 +5,18 @@ use Rattle.std.proofs.lemmas.Option.{some_pair_parts}
 use Rattle.ck_model.specs.declared.history.Call.TheVariants.{ChangeTwo}
 use Rattle.ck_model.specs.declared.history.Reply.TheVariants.{DoneTwo, Absent}
 use Rattle.ck_model.specs.Map.{Name, AnswersTwo, Step}
-use Rattle.ck_model.specs.Slots.{Slot, slot_at}
+use Rattle.ck_model.specs.Slots.{Slot}
 use Rattle.ck_model.specs.Contents.{Layout, bindings, Lawful}
 use Rattle.ck_model.specs.Sections.{Section}
 use Rattle.ck_stripe.specs.Stripe.{StripeState, with_slot}
 use Rattle.ck_section.specs.declared.place.KeyPlace.{KeyPlace}
 use Rattle.ck_section.specs.declared.place.HeldSlot.{HeldSlot}
 use Rattle.ck_section.specs.Stripes.{stripe_at, contents_of, IsInReach}
-use Rattle.ck_section.specs.Places.{place_of, IsPlaceOf, IsSlotOf, IsNowhere, slot_in, set_slot, HasEntry}
+use Rattle.ck_section.specs.Places.{IsPlaceOf, IsSlotOf, IsNowhere, slot_in, set_slot}
 use Rattle.ck_section.specs.Calls.{layout, ChangesContents}
 use Rattle.ck_section.specs.TwoNames.{IsChangeOfTwo}
-use Rattle.ck_section.proofs.Found.{slot_held, unbound, owns, bound_in, set_changes, changes_on}
-use Rattle.ck_section.proofs.Decided.{freed, at_new}
+use Rattle.ck_section.proofs.Found.{unbound, owns, bound_in, set_changes, changes_on}
+use Rattle.ck_section.proofs.Decided.{freed}
 use Rattle.ck_section.proofs.Rebinding.{Rebinding, power_on, keeps_s, keeps_reach, keeps_slot, slot_other, apart_from, removing, placing}
 
 module _ {V : Type 0} where
@@ -36,7 +36,7 @@ module _ {V : Type 0} where
     one_s = sym (of2.one_s p1.first.index of1.first_reach.inside) ∙ of1.one_s p1.first.index of1.first_reach.inside
 
     -- a call that changes nothing
-    keeps_two : (v w : Option V) → AnswersTwo v w Absent v w → ((max : ℕ) → Lawful (layout hash p1.s max) (contents_of stripes) → (get (bindings (contents_of stripes)) a ≡ v) × (get (bindings (contents_of stripes)) b ≡ w)) → IsChangeOfTwo hash p1.s stripes a b Absent stripes
+    keeps_two : (v w : Option V) → AnswersTwo v w Absent v w → ((max : ℕ) → Lawful (layout hash p1.s max) (contents_of stripes) → (get (bindings (contents_of stripes)) a ≡ v) × (get (bindings (contents_of stripes)) b ≡ w)) → IsChangeOfTwo (record { hash = hash; s = p1.s; old = stripes; new = stripes }) a b Absent
     keeps_two v w answers is max lawful =
         let z = is max lawful in
         record {
@@ -48,13 +48,13 @@ module _ {V : Type 0} where
     whether : (o : Option V) → AnswersTwo None o Absent None o
     whether o = (refl, refl, refl)
 
-    pub first_lacks : (cur : List (StripeState V)) → cur ≡ stripes → IsNowhere stripes a p1 → IsChangeOfTwo hash p1.s stripes a b Absent cur
-    first_lacks cur same lacks = subst (λ (l : List (StripeState V)). IsChangeOfTwo hash p1.s stripes a b Absent l) (sym same)
+    pub first_lacks : (cur : List (StripeState V)) → cur ≡ stripes → IsNowhere stripes a p1 → IsChangeOfTwo (record { hash = hash; s = p1.s; old = stripes; new = cur }) a b Absent
+    first_lacks cur same lacks = subst (λ (l : List (StripeState V)). IsChangeOfTwo (record { hash = hash; s = p1.s; old = stripes; new = l }) a b Absent) (sym same)
         (keeps_two None (get (bindings (contents_of stripes)) b) (whether _) (λ max lawful. (unbound hash p1.s max stripes lawful a p1 of1 refl lacks, refl)))
 
     module _ (x : HeldSlot) (sx : IsSlotOf hash stripes a x) (v : V) (ex : slot_in stripes x ≡ Some (a, v)) where
-      pub second_lacks : (cur : List (StripeState V)) → cur ≡ stripes → IsNowhere stripes b p2 → IsChangeOfTwo hash p1.s stripes a b Absent cur
-      second_lacks cur same lacks = subst (λ (l : List (StripeState V)). IsChangeOfTwo hash p1.s stripes a b Absent l) (sym same)
+      pub second_lacks : (cur : List (StripeState V)) → cur ≡ stripes → IsNowhere stripes b p2 → IsChangeOfTwo (record { hash = hash; s = p1.s; old = stripes; new = cur }) a b Absent
+      second_lacks cur same lacks = subst (λ (l : List (StripeState V)). IsChangeOfTwo (record { hash = hash; s = p1.s; old = stripes; new = l }) a b Absent) (sym same)
           (keeps_two (Some v) None (refl, refl, refl) (λ max lawful. (bound_in hash p1.s max stripes lawful a v x sx.reach ex, unbound hash p1.s max stripes lawful b p2 of2 one_s lacks)))
 
       module _ (y : HeldSlot) (sy : IsSlotOf hash stripes b y) (w : V) (ey : slot_in stripes y ≡ Some (b, w)) (v2 w2 : V) where
@@ -174,15 +174,3 @@ module _ {V : Type 0} where
             owns = (owns hash p1.s max stripes lawful a p1 of1 refl, owns hash p1.s max stripes lawful b p2 of2 one_s);
             step = step;
           }
-
-          pub at_second : HasEntry (contents_of four) (place_of p1.s y) b w2
-          at_second = at_new hash p1.s b three y w2 _ reach3 sy.below (s3 y.index s_y) max r4.lawful
-
-          pub at_first : HasEntry (contents_of four) (place_of p1.s x) a v2
-          at_first =
-              let in_three : slot_in three x ≡ Some (a, v2) =
-              ap (λ (l : List (Slot V)). slot_at l x.slot) (sym (slot_held three x.index x.bucket 0 r3.lawful.distinct (in3 x.index x.bucket sx.reach).inside (in3 x.index x.bucket sx.reach).own p1.s (s3 x.index s_x)))
-              ∙ at_new hash p1.s a two x v2 _ reach2 sx.below (s2 x.index s_x) max r3.lawful in
-              let in4 : IsInReach four x.index x.bucket = keeps_reach three y reach3.inside (Some (b, w2)) _ x.index x.bucket (in3 x.index x.bucket sx.reach) in
-              ap (λ (l : List (Slot V)). slot_at l x.slot) (slot_held four x.index x.bucket 0 r4.lawful.distinct in4.inside in4.own p1.s (keeps_s three y reach3.inside (Some (b, w2)) _ x.index ∙ s3 x.index s_x))
-              ∙ slot_other three y reach3.inside (Some (b, w2)) _ p1.s (s3 y.index s_y) x x_from_y ∙ in_three

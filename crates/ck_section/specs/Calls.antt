@@ -9,22 +9,26 @@ use Rattle.ck_model.specs.Sections.{Section}
 use Rattle.ck_model.specs.Paths.{HasNoRoom}
 use Rattle.ck_stripe.specs.Stripe.{StripeState}
 use Rattle.ck_section.specs.declared.place.KeyPlace.{KeyPlace}
-use Rattle.ck_section.specs.declared.place.HeldSlot.{HeldSlot}
-use Rattle.ck_section.specs.declared.place.Place.{Place}
 use Rattle.ck_section.specs.Stripes.{stripe_at, contents_of}
-use Rattle.ck_section.specs.Places.{place_of, IsNext, HasEntry}
 
 abbrev pub layout : (Name → ℕ) → ℕ → ℕ → Layout
 layout hash s max = record { hash = hash; s = s; max = max }
 
-module _ {V : Type 0} where
-  -- Whatever the greatest power is, lawful stripes of a table of 2^s go from old to new by this act on the name, with this reply.
-  abbrev pub IsCall : (Name → ℕ) → ℕ → List (StripeState V) → Name → Act V → Reply V → List (StripeState V) → Type 0
-  IsCall hash s old q act reply new = (max : ℕ) → Lawful (layout hash s max) (contents_of old) → Section (layout hash s max) (contents_of old) (On q act) reply (contents_of new)
+-- The stripes of a table of 2^s that a call held, before and after it, where names have these hashes.
+pub record Effect (V : Type 0) : Type 0 where
+  pub hash : Name → ℕ
+  pub s : ℕ
+  pub old : List (StripeState V)
+  pub new : List (StripeState V)
 
-  -- In lawful stripes the place has the name with this value.
-  abbrev pub IsAt : (Name → ℕ) → ℕ → List (StripeState V) → Place → Name → V → Type 0
-  IsAt hash s stripes place q v = (max : ℕ) → Lawful (layout hash s max) (contents_of stripes) → HasEntry (contents_of stripes) place q v
+module _ {V : Type 0} where
+  -- the effect of a call on a key of this place
+  abbrev pub effect : {H : Type 0} → (Name → ℕ) → (H → List (StripeState V)) → KeyPlace → H → H → Effect V
+  effect hash stripes place old new = record { hash = hash; s = place.s; old = stripes old; new = stripes new }
+
+  -- Whatever the greatest power is, lawful stripes go from old to new by this act on the name, with this reply.
+  abbrev pub IsCall : Effect V → Name → Act V → Reply V → Type 0
+  IsCall e q act reply = (max : ℕ) → Lawful (layout e.hash e.s max) (contents_of e.old) → Section (layout e.hash e.s max) (contents_of e.old) (On q act) reply (contents_of e.new)
 
   -- In lawful stripes the name is unbound and its buckets are full.
   abbrev pub IsWithoutRoom : (Name → ℕ) → ℕ → List (StripeState V) → Name → Type 0
@@ -33,17 +37,6 @@ module _ {V : Type 0} where
   -- In lawful stripes the name is bound or one of its buckets has a free slot.
   abbrev pub IsWithRoom : (Name → ℕ) → ℕ → List (StripeState V) → Name → Type 0
   IsWithRoom hash s stripes q = (max : ℕ) → Lawful (layout hash s max) (contents_of stripes) → ¬ (HasNoRoom (layout hash s max) (contents_of stripes) q)
-
-  -- a call after which this place has the name with the value v
-  pub record IsCallAt (hash : Name → ℕ) (s : ℕ) (old : List (StripeState V)) (q : Name) (act : Act V) (reply : Reply V) (new : List (StripeState V)) (at : Place) (v : V) : Type 0 where
-    pub call : IsCall hash s old q act reply new
-    pub entry : IsAt hash s new at q v
-
-  -- a call that placed the name with the value v in the lowest free slot of its first bucket, else of its alternate one
-  pub record IsPlacing (hash : Name → ℕ) (place : KeyPlace) (old : List (StripeState V)) (q : Name) (act : Act V) (reply : Reply V) (new : List (StripeState V)) (at : Place) (v : V) : Type 0 where
-    pub call : IsCall hash place.s old q act reply new
-    pub entry : IsAt hash place.s new at q v
-    pub next : (slot : HeldSlot) × IsNext old place slot × (at ≡ place_of place.s slot)
 
   -- nothing but contents differs, and the powers stay
   pub record ChangesContents (old new : List (StripeState V)) : Type 0 where

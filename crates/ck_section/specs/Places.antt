@@ -1,19 +1,14 @@
 -- Where a name is looked for among held stripes, and where its entry is.
-use Rattle.std.specs.Prelude.{◌≡◌, ◌⊎◌, ℕ, ◌/◌, ◌%◌, ◌^◌, ◌<◌, ◌≤◌, true, List, Some, None, IsSome, length}
+use Rattle.std.specs.Prelude.{◌≡◌, ◌⊎◌, ℕ, ◌%◌, ◌^◌, ◌<◌, ◌≤◌, true, List, Some, None, IsSome, length}
 use Rattle.ck_model.specs.Arithmetic.{partial_of, index_of, second_of}
 use Rattle.ck_model.specs.Map.{Name}
 use Rattle.ck_model.specs.Slots.{Slot, slot_at, IsFull}
-use Rattle.ck_model.specs.Contents.{Stripes, IsBucketOf, row_at, rows_of}
+use Rattle.ck_model.specs.Contents.{IsBucketOf}
 use Rattle.ck_bucket.specs.Bucket.{LacksName}
 use Rattle.ck_stripe.specs.Stripe.{StripeState, with_slot}
 use Rattle.ck_section.specs.declared.place.KeyPlace.{KeyPlace}
 use Rattle.ck_section.specs.declared.place.HeldSlot.{HeldSlot}
-use Rattle.ck_section.specs.declared.place.Place.{Place}
 use Rattle.ck_section.specs.Stripes.{stripe_at, bucket_at, set_content, IsInReach}
-
--- the place of a slot in a table of 2^s stripes
-abbrev pub place_of : ℕ → HeldSlot → Place
-place_of s at = record { stripe = at.bucket % 2 ^ s; row = at.bucket / 2 ^ s; slot = at.slot }
 
 module _ {V : Type 0} where
   -- Settled stripes of one table of 2^s stripes, of one power, in rising order of their numbers.
@@ -87,11 +82,3 @@ module _ {V : Type 0} where
       (slot_in stripes at ≡ None) × IsLowest stripes at
       × (((at.index ≡ place.first.index) × (at.bucket ≡ place.first.bucket))
       ⊎ (IsFull (bucket_at stripes place.first.index place.first.bucket) × (at.index ≡ place.alternate.index) × (at.bucket ≡ place.alternate.bucket)))
-
-  -- the slot at this place of the contents
-  abbrev pub slot_of : Stripes V → Place → Slot V
-  slot_of hs place = slot_at (row_at (rows_of hs place.stripe) place.row) place.slot
-
-  -- the place has the name with this value
-  abbrev pub HasEntry : Stripes V → Place → Name → V → Type 0
-  HasEntry hs place q v = slot_of hs place ≡ Some (q, v)

@@ -7,6 +7,7 @@ ghost use Rattle.ck_bucket.specs.Bucket.{HasName, LacksName, ReplacesValue, part
 ghost use Rattle.ck_stripe.specs.Doubling.{doubled_content};
 ghost use Rattle.ck_stripe.specs.Stripe.{StripeState, with_bucket, with_slot, IsReserved};
 ghost use Rattle.ck_section.specs.Stripes.{stripe_at, bucket_at, set_content, IsInReach};
+ghost use Rattle.ck_section.specs.Places.{HasStripe};
 
 use ck_key::TableKey;
 use std::alloc::AllocError;
@@ -28,6 +29,26 @@ pub trait Held<K: TableKey, V> {
         ensures value { result ≡ (stripe_at (stripes self.old) i).number }
         ensures same { stripes self.new ≡ stripes self.old }
         ensures stays { stays self.old self.new };
+
+    /// The position of the stripe of this number.
+    fn position(&mut self, number: u32) -> usize
+        requires { HasStripe (stripes self.old) number }
+        ensures inside { result < length (stripes self.old) }
+        ensures number { (stripe_at (stripes self.old) result).number ≡ number }
+        ensures same { stripes self.new ≡ stripes self.old }
+        ensures stays { stays self.old self.new }
+    {
+        // One or two are held for one key. Which of two it is is a matter of chance, so no branch asks for it.
+        if self.count() <= 2 {
+            return (self.number(0) != number) as usize;
+        }
+        for i in 0..self.count() {
+            if self.number(i) == number {
+                return i;
+            }
+        }
+        unreachable!()
+    }
 
     /// The power of stripe `i`.
     fn power(&mut self, i: usize) -> u32

@@ -2,24 +2,22 @@
 //! written once, over `Held`, which a slice of stripes implements and any other way to hold them.
 #![tactic(auto)]
 
+mod entry;
 mod held;
 mod hop;
 mod look;
 mod one_key;
-mod pair;
 mod place;
-mod several;
 mod slice;
 mod two_keys;
 mod whole;
 
+pub use entry::{Entry, find_entry};
 pub use held::Held;
-pub use hop::{Hop, move_entry};
-pub use look::key_place;
-pub use one_key::{NoRoom, assign, change, erase, erase_if, find, insert, update, upsert};
-pub use pair::Pair;
-pub use place::{Answer, HeldBucket, HeldSlot, KeyPlace, Place};
-pub use several::Several;
+pub use hop::{Hop, make_hop, move_entry};
+pub use look::{key_place, sketch};
+pub use one_key::{assign, change, erase, erase_if, find, insert, update, upsert};
+pub use place::{HeldBucket, HeldSlot, KeyPlace};
 pub use slice::Slice;
 pub use two_keys::update_two;
 pub use whole::{are_all, place_in_all};

@@ -1,8 +1,10 @@
 //! Looking for a key, and for room for it.
-ghost use Rattle.std.specs.Prelude.{◌≡◌, ◌≤◌, ◌<◌, ◌%◌, ◌^◌, Some, IfSome, IfNone, length};
+ghost use Rattle.std.specs.Prelude.{◌≡◌, ◌≤◌, ◌<◌, ◌%◌, ◌^◌, IfSome, IfNone, length, map};
 ghost use Rattle.ck_key.specs.Hashes.{IsHashOf};
-ghost use Rattle.ck_section.specs.Stripes.{stripe_at};
-ghost use Rattle.ck_section.specs.Places.{AreHeld, HasStripe, HasBoth, IsPlaceOf, IsSlotOf, IsNowhere, AreFull, IsNext, slot_in};
+ghost use Rattle.ck_bucket.specs.Bucket.{partial_in};
+ghost use Rattle.ck_section.specs.Stripes.{stripe_at, bucket_at, IsInReach};
+ghost use Rattle.ck_section.specs.Places.{AreHeld, HasStripe, HasBoth, IsPlaceOf, IsSlotOf, IsNowhere, AreFull, IsNext};
+ghost use Rattle.ck_section.specs.Entries.{IsOccupied};
 
 use crate::held::Held;
 use crate::place::{HeldBucket, HeldSlot, KeyPlace};
@@ -33,14 +35,28 @@ pub fn key_place<K: TableKey, V, H: Held<K, V>>(
         s,
         partial,
         first: HeldBucket {
-            index: stripe_index(held, (first % (1 << s)) as u32),
+            index: held.position((first % (1 << s)) as u32),
             bucket: first,
         },
         alternate: HeldBucket {
-            index: stripe_index(held, (alternate % (1 << s)) as u32),
+            index: held.position((alternate % (1 << s)) as u32),
             bucket: alternate,
         },
     }
+}
+
+/// The partials in a bucket of the held stripes of a table of 2^s.
+pub fn sketch<K: TableKey, V, H: Held<K, V>>(held: &mut H, s: u32, b: u64) -> [Option<u8>; 4]
+    requires held { AreHeld s (H.stripes held.old) }
+    requires below { b < 2 ^ (stripe_at (H.stripes held.old) 0).content.power }
+    requires owned { HasStripe (H.stripes held.old) (b % 2 ^ s) }
+    ensures value { (i : _) × IsInReach (H.stripes held.old) i b
+        × (result ≡ map (partial_in K.hash) (bucket_at (H.stripes held.old) i b)) }
+    ensures same { H.stripes held.new ≡ H.stripes held.old }
+    ensures stays { H.stays held.old held.new }
+{
+    let i = bucket_index(held, s, b);
+    held.sketch(i, b)
 }
 
 // The position of the stripe of bucket `b`, in a table of 2^s stripes.
@@ -52,39 +68,18 @@ pub(crate) fn bucket_index<K: TableKey, V, H: Held<K, V>>(held: &mut H, s: u32, 
     ensures same { H.stripes held.new ≡ H.stripes held.old }
     ensures stays { H.stays held.old held.new }
 {
-    stripe_index(held, (b % (1 << s)) as u32)
-}
-
-// The position of the stripe of this number. One or two are held for one key, four at most for two.
-fn stripe_index<K: TableKey, V, H: Held<K, V>>(held: &mut H, number: u32) -> usize
-    requires { HasStripe (H.stripes held.old) number }
-    ensures inside { result < length (H.stripes held.old) }
-    ensures number { (stripe_at (H.stripes held.old) result).number ≡ number }
-    ensures same { H.stripes held.new ≡ H.stripes held.old }
-    ensures stays { H.stays held.old held.new }
-{
-    // Which of two it is is a matter of chance, so no branch asks for it.
-    if held.count() <= 2 {
-        return (held.number(0) != number) as usize;
-    }
-    for i in 0..held.count() {
-        if held.number(i) == number {
-            return i;
-        }
-    }
-    unreachable!()
+    held.position((b % (1 << s)) as u32)
 }
 
 /// The slot of the key.
 #[inline(always)]
-pub(crate) fn find_entry<K: TableKey, V, H: Held<K, V>>(
+pub(crate) fn find_slot<K: TableKey, V, H: Held<K, V>>(
     held: &mut H,
     place: KeyPlace,
     key: &K,
 ) -> Option<HeldSlot>
     requires { IsPlaceOf K.hash (H.stripes held.old) (K.name key.now) place }
-    ensures slot { IfSome result (IsSlotOf K.hash (H.stripes held.old) (K.name key.now)) }
-    ensures found { IfSome result (λ at. (v : V) × (slot_in (H.stripes held.old) at ≡ Some (K.name key.now, v))) }
+    ensures occupied { IfSome result (IsOccupied K.hash (H.stripes held.old) (K.name key.now)) }
     ensures nowhere { IfNone result (IsNowhere (H.stripes held.old) (K.name key.now) place) }
     ensures same { H.stripes held.new ≡ H.stripes held.old }
     ensures stays { H.stays held.old held.new }

@@ -19,8 +19,8 @@ second_number : (s p h n : ℕ) → s ≤ 10 → s ≤ p → n ≡ alternate_of 
 unfolding second_of
 second_number s p h n few le e = (λ i. e i % mask s few i) ∙ second_lower s p h le
 
-pub stripe_index-requires : goal.stripe_index-requires
-stripe_index-requires g c =
+pub position-requires : goal.position-requires
+position-requires g c =
     let V : Type 0 = g.row.V.Denot in
     let stripes : List (StripeState V) = g.H.Held.stripes c.args.held.now in
     let p : ℕ = (stripe_at stripes 0).content.power in
@@ -30,8 +30,8 @@ stripe_index-requires g c =
     subst (λ (z : List (StripeState V) × ℕ). HasStripe z.0 z.1)
     (λ i. (sym c.power-power.ensures.same i, sym (first_number c.args.s p hash c.index-first.result c.requires.held.many c.requires.held.least first) i)) c.requires.owned.first
 
-pub stripe_index-requires-2 : goal.stripe_index-requires-2
-stripe_index-requires-2 g c =
+pub position-requires-2 : goal.position-requires-2
+position-requires-2 g c =
     let V : Type 0 = g.row.V.Denot in
     let stripes : List (StripeState V) = g.H.Held.stripes c.args.held.now in
     let p : ℕ = (stripe_at stripes 0).content.power in
@@ -40,7 +40,7 @@ stripe_index-requires-2 g c =
     let first : c.index-first.result ≡ index_of p hash = c.index-first.ensures.value ∙ (λ i. index_of (power i) (c.requires.hash.value i)) in
     let alternate : c.alternate-alternate.result ≡ alternate_of p (partial_of hash) (index_of p hash) = c.alternate-alternate.ensures.value ∙ (λ i. alternate_of (power i) (c.requires.hash.partial i) (first i)) in
     subst (λ (z : List (StripeState V) × ℕ). HasStripe z.0 z.1)
-    (λ i. (sym (c.stripe_index.ensures.same ∙ c.power-power.ensures.same) i, sym (second_number c.args.s p hash c.alternate-alternate.result c.requires.held.many c.requires.held.least alternate) i)) c.requires.owned.alternate
+    (λ i. (sym (c.position.ensures.same ∙ c.power-power.ensures.same) i, sym (second_number c.args.s p hash c.alternate-alternate.result c.requires.held.many c.requires.held.least alternate) i)) c.requires.owned.alternate
 
 pub returns-clause-stays : goal.returns-clause-stays
-returns-clause-stays g c = let on = g.met.H.Held.stays_on in on _ _ _ c.power-power.ensures.stays (on _ _ _ c.stripe_index.ensures.stays c.stripe_index-2.ensures.stays)
+returns-clause-stays g c = let on = g.met.H.Held.stays_on in on _ _ _ c.power-power.ensures.stays (on _ _ _ c.position.ensures.stays c.position-2.ensures.stays)

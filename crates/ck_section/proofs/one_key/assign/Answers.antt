@@ -1,90 +1,41 @@
-use Rattle.std.proofs.Common.{refl, None, Some, List, subst, ap, ◌∙◌, sym}
+use Rattle.std.proofs.Common.{refl, None, Some, ap}
 use Rattle.ck_model.specs.declared.history.Act.TheVariants.{Assign}
 use Rattle.ck_model.specs.declared.history.Reply.TheVariants.{Was}
-use Rattle.ck_stripe.specs.Stripe.{StripeState}
-use Rattle.ck_section.specs.Calls.{IsPlacing, IsWithRoom, IsWithoutRoom, ChangesContents}
-use Rattle.ck_section.proofs.Steps.{bound_with_room, slot_changes, found_in, wrote, reach_still, full_still}
-use Rattle.ck_section.specs.Places.{IsPlaceOf, IsNowhere}
+use Rattle.ck_section.proofs.Steps.{occupied_here, vacant_here, found_in, wrote, slot_changes, full_still}
 use Rattle.ck_section.proofs.one_key.assign.Goals as goal
 
-pub returns-in-Some-clause-call : goal.returns-in-Some-clause-call
-returns-in-Some-clause-call g c =
+pub returns-in-Occupied-clause-call : goal.returns-in-Occupied-clause-call
+returns-in-Occupied-clause-call g c =
     let hash = g.K.TableKey.hash in
     let stripes = g.H.Held.stripes c.args.held.now in
-    let cur = g.H.Held.stripes c.find_entry.new.held in
-    let name = g.K.TableKey.name c.args.key in
-    let at = c.in-Some.at in
-    let found = c.in-Some.ensures.found in
-    let z = c.replace-was.ensures.content name found.0 (found_in hash stripes name c.args.place c.requires cur c.find_entry.ensures.same at c.in-Some.ensures.slot c.place.result c.place.ensures found) in
-    wrote hash stripes name c.args.place c.requires cur c.find_entry.ensures.same at c.in-Some.ensures.slot c.place.result c.place.ensures found
-    (Assign c.args.value) (Was (Some c.replace-was.result)) c.args.value (g.H.Held.stripes c.replace-was.new.self) (ap (λ (v : g.row.V.Denot). Was (Some v)) z.0, refl) z.1
+    let q = g.K.TableKey.name c.args.key in
+    let here = occupied_here hash stripes q c.args.place c.args.entry c.in-Occupied.at c.in-Occupied.is c.requires.entry in
+    let z = c.replace.ensures.content q here.found.0 (found_in hash stripes q c.args.place c.requires.place stripes refl c.in-Occupied.at here) in
+    wrote hash stripes q c.args.place c.requires.place stripes refl c.in-Occupied.at here (Assign c.args.value) (Was (Some c.replace.result)) c.args.value _ (ap (λ (v : g.row.V.Denot). Was (Some v)) z.0, refl) z.1
 
-pub returns-in-Some-clause-rest : goal.returns-in-Some-clause-rest
-returns-in-Some-clause-rest g c =
+pub returns-in-Occupied-clause-rest : goal.returns-in-Occupied-clause-rest
+returns-in-Occupied-clause-rest g c =
     let hash = g.K.TableKey.hash in
     let stripes = g.H.Held.stripes c.args.held.now in
-    let cur = g.H.Held.stripes c.find_entry.new.held in
-    let name = g.K.TableKey.name c.args.key in
-    let at = c.in-Some.at in
-    let found = c.in-Some.ensures.found in
-    let z = c.replace-was.ensures.content name found.0 (found_in hash stripes name c.args.place c.requires cur c.find_entry.ensures.same at c.in-Some.ensures.slot c.place.result c.place.ensures found) in
-    slot_changes stripes cur (g.H.Held.stripes c.replace-was.new.self) at _ _ c.find_entry.ensures.same c.in-Some.ensures.slot.reach z.1
+    let q = g.K.TableKey.name c.args.key in
+    let here = occupied_here hash stripes q c.args.place c.args.entry c.in-Occupied.at c.in-Occupied.is c.requires.entry in
+    let z = c.replace.ensures.content q here.found.0 (found_in hash stripes q c.args.place c.requires.place stripes refl c.in-Occupied.at here) in
+    slot_changes stripes stripes _ c.in-Occupied.at _ _ refl here.slot.reach z.1
 
-pub returns-in-Some-clause-room : goal.returns-in-Some-clause-room
-returns-in-Some-clause-room g c =
-    let hash = g.K.TableKey.hash in
-    let stripes = g.H.Held.stripes c.args.held.now in
-    let cur = g.H.Held.stripes c.find_entry.new.held in
-    let name = g.K.TableKey.name c.args.key in
-    let at = c.in-Some.at in
-    let found = c.in-Some.ensures.found in
-    bound_with_room hash stripes name c.args.place c.requires cur c.find_entry.ensures.same at c.in-Some.ensures.slot c.place.result c.place.ensures found
+pub returns-in-Vacant-clause-call : goal.returns-in-Vacant-clause-call
+returns-in-Vacant-clause-call g c = c.fill.ensures.call (Assign c.args.value) (Was None) (refl, refl)
 
-pub returns-in-Ok-clause-call : goal.returns-in-Ok-clause-call
-returns-in-Ok-clause-call g c =
-    subst (λ (l : List (StripeState g.row.V.Denot)). IsPlacing g.K.TableKey.hash c.args.place l (g.K.TableKey.name c.args.key) (Assign c.args.value) (Was None) (g.H.Held.stripes c.place_new.new.held) c.in-Ok.at c.args.value) c.find_entry.ensures.same
-    (c.in-Ok.ensures.new (Assign c.args.value) (Was None) (refl, refl))
+pub replace-requires-clause-reach : goal.replace-requires-clause-reach
+replace-requires-clause-reach g c = (occupied_here _ _ _ _ c.args.entry c.in-Occupied.at c.in-Occupied.is c.requires.entry).slot.reach
 
-pub returns-in-Ok-clause-room : goal.returns-in-Ok-clause-room
-returns-in-Ok-clause-room g c =
-    subst (λ (l : List (StripeState g.row.V.Denot)). IsWithRoom g.K.TableKey.hash c.args.place.s l (g.K.TableKey.name c.args.key)) c.find_entry.ensures.same c.in-Ok.ensures.room
+pub replace-requires-clause-below : goal.replace-requires-clause-below
+replace-requires-clause-below g c = (occupied_here _ _ _ _ c.args.entry c.in-Occupied.at c.in-Occupied.is c.requires.entry).slot.below
 
-pub returns-in-Err-clause-no_room : goal.returns-in-Err-clause-no_room
-returns-in-Err-clause-no_room g c = (
-  subst (λ (l : List (StripeState g.row.V.Denot)). IsWithoutRoom g.K.TableKey.hash c.args.place.s l (g.K.TableKey.name c.args.key)) c.find_entry.ensures.same c.in-Err.ensures.no_room.0,
-  c.in-Err.ensures.no_room.1,
-  c.in-Err.ensures.no_room.2 ∙ c.find_entry.ensures.same,
-)
+pub replace-requires-clause-full : goal.replace-requires-clause-full
+replace-requires-clause-full g c = full_still _ _ refl c.in-Occupied.at _ (occupied_here _ _ _ _ c.args.entry c.in-Occupied.at c.in-Occupied.is c.requires.entry).found
 
-pub find_entry-requires : goal.find_entry-requires
-find_entry-requires g c = c.requires
+pub fill-requires-clause-place : goal.fill-requires-clause-place
+fill-requires-clause-place g c = c.requires.place
 
-pub place_new-requires-clause-place : goal.place_new-requires-clause-place
-place_new-requires-clause-place g c = subst (λ (l : List (StripeState g.row.V.Denot)). IsPlaceOf g.K.TableKey.hash l (g.K.TableKey.name c.args.key) c.args.place) (sym c.find_entry.ensures.same) c.requires
-
-pub place_new-requires-clause-nowhere : goal.place_new-requires-clause-nowhere
-place_new-requires-clause-nowhere g c = subst (λ (l : List (StripeState g.row.V.Denot)). IsNowhere l (g.K.TableKey.name c.args.key) c.args.place) (sym c.find_entry.ensures.same) c.in_default.ensures.nowhere
-
-pub returns-in-Ok-clause-rest : goal.returns-in-Ok-clause-rest
-returns-in-Ok-clause-rest g c = subst (λ (l : List (StripeState g.row.V.Denot)). ChangesContents l (g.H.Held.stripes c.place_new.new.held)) c.find_entry.ensures.same c.place_new.ensures.rest
-
-pub returns-in-Ok-clause-stays : goal.returns-in-Ok-clause-stays
-returns-in-Ok-clause-stays g c = g.met.H.Held.stays_on _ _ _ c.find_entry.ensures.stays c.place_new.ensures.stays
-
-pub returns-in-Err-clause-rest : goal.returns-in-Err-clause-rest
-returns-in-Err-clause-rest g c = subst (λ (l : List (StripeState g.row.V.Denot)). ChangesContents l (g.H.Held.stripes c.place_new.new.held)) c.find_entry.ensures.same c.place_new.ensures.rest
-
-pub returns-in-Err-clause-stays : goal.returns-in-Err-clause-stays
-returns-in-Err-clause-stays g c = g.met.H.Held.stays_on _ _ _ c.find_entry.ensures.stays c.place_new.ensures.stays
-
-pub replace-was-requires-clause-reach : goal.replace-was-requires-clause-reach
-replace-was-requires-clause-reach g c = reach_still (g.H.Held.stripes c.args.held.now) (g.H.Held.stripes c.find_entry.new.held) c.find_entry.ensures.same c.in-Some.at.index c.in-Some.at.bucket c.in-Some.ensures.slot.reach
-
-pub replace-was-requires-clause-below : goal.replace-was-requires-clause-below
-replace-was-requires-clause-below g c = c.in-Some.ensures.slot.below
-
-pub replace-was-requires-clause-full : goal.replace-was-requires-clause-full
-replace-was-requires-clause-full g c = full_still (g.H.Held.stripes c.args.held.now) (g.H.Held.stripes c.find_entry.new.held) c.find_entry.ensures.same c.in-Some.at (g.K.TableKey.name c.args.key) c.in-Some.ensures.found
-
-pub returns-in-Some-clause-stays : goal.returns-in-Some-clause-stays
-returns-in-Some-clause-stays g c = g.met.H.Held.stays_on _ _ _ c.find_entry.ensures.stays c.replace-was.ensures.stays
+pub fill-requires-clause-vacant : goal.fill-requires-clause-vacant
+fill-requires-clause-vacant g c = vacant_here _ _ _ _ c.args.entry c.in-Vacant.at c.in-Vacant.is c.requires.entry

@@ -1,71 +1,27 @@
-use Rattle.std.proofs.Common.{refl, List, subst, ◌∙◌, sym}
+use Rattle.std.proofs.Common.{refl}
 use Rattle.ck_model.specs.declared.history.Act.TheVariants.{Insert}
 use Rattle.ck_model.specs.declared.history.Reply.TheVariants.{New, Old}
-use Rattle.ck_stripe.specs.Stripe.{StripeState}
-use Rattle.ck_section.specs.Calls.{IsPlacing, IsWithRoom, IsWithoutRoom, ChangesContents}
-use Rattle.ck_section.proofs.Steps.{bound_with_room, kept, unchanged}
-use Rattle.ck_section.specs.Places.{IsPlaceOf, IsNowhere}
+use Rattle.ck_section.proofs.Steps.{occupied_here, vacant_here, kept, unchanged}
 use Rattle.ck_section.proofs.one_key.insert.Goals as goal
 
-pub returns-in-Some-clause-new : goal.returns-in-Some-clause-new
-returns-in-Some-clause-new g c =
+pub returns-in-Occupied-clause-call : goal.returns-in-Occupied-clause-call
+returns-in-Occupied-clause-call g c =
     let hash = g.K.TableKey.hash in
     let stripes = g.H.Held.stripes c.args.held.now in
-    let cur = g.H.Held.stripes c.find_entry.new.held in
-    let name = g.K.TableKey.name c.args.key in
-    let at = c.in-Some.old in
-    let found = c.in-Some.ensures.found in
-    (c.find_entry.ensures.same, (found.0, kept hash stripes name c.args.place c.requires cur c.find_entry.ensures.same at c.in-Some.ensures.slot c.place.result c.place.ensures found (Insert c.args.value) Old (refl, refl)))
+    let q = g.K.TableKey.name c.args.key in
+    kept hash stripes q c.args.place c.requires.place stripes refl c.in-Occupied.field-0 (occupied_here hash stripes q c.args.place c.args.entry c.in-Occupied.field-0 c.in-Occupied.is c.requires.entry) (Insert c.args.value) Old (refl, refl)
 
-pub returns-in-Some-clause-room : goal.returns-in-Some-clause-room
-returns-in-Some-clause-room g c =
-    let hash = g.K.TableKey.hash in
-    let stripes = g.H.Held.stripes c.args.held.now in
-    let cur = g.H.Held.stripes c.find_entry.new.held in
-    let name = g.K.TableKey.name c.args.key in
-    let at = c.in-Some.old in
-    let found = c.in-Some.ensures.found in
-    bound_with_room hash stripes name c.args.place c.requires cur c.find_entry.ensures.same at c.in-Some.ensures.slot c.place.result c.place.ensures found
+pub returns-in-Vacant-clause-call : goal.returns-in-Vacant-clause-call
+returns-in-Vacant-clause-call g c = c.fill.ensures.call (Insert c.args.value) New (refl, refl)
 
-pub returns-in-Ok-clause-new : goal.returns-in-Ok-clause-new
-returns-in-Ok-clause-new g c =
-    subst (λ (l : List (StripeState g.row.V.Denot)). IsPlacing g.K.TableKey.hash c.args.place l (g.K.TableKey.name c.args.key) (Insert c.args.value) New (g.H.Held.stripes c.place_new.new.held) c.in-Ok.at c.args.value) c.find_entry.ensures.same
-    (c.in-Ok.ensures.new (Insert c.args.value) New (refl, refl))
+pub returns-in-Occupied-clause-rest : goal.returns-in-Occupied-clause-rest
+returns-in-Occupied-clause-rest g c = unchanged _ _ refl
 
-pub returns-in-Ok-clause-room : goal.returns-in-Ok-clause-room
-returns-in-Ok-clause-room g c =
-    subst (λ (l : List (StripeState g.row.V.Denot)). IsWithRoom g.K.TableKey.hash c.args.place.s l (g.K.TableKey.name c.args.key)) c.find_entry.ensures.same c.in-Ok.ensures.room
+pub returns-in-Occupied-clause-stays : goal.returns-in-Occupied-clause-stays
+returns-in-Occupied-clause-stays g c = g.met.H.Held.stays_same _
 
-pub returns-in-Err-clause-no_room : goal.returns-in-Err-clause-no_room
-returns-in-Err-clause-no_room g c = (
-  subst (λ (l : List (StripeState g.row.V.Denot)). IsWithoutRoom g.K.TableKey.hash c.args.place.s l (g.K.TableKey.name c.args.key)) c.find_entry.ensures.same c.in-Err.ensures.no_room.0,
-  c.in-Err.ensures.no_room.1,
-  c.in-Err.ensures.no_room.2 ∙ c.find_entry.ensures.same,
-)
+pub fill-requires-clause-place : goal.fill-requires-clause-place
+fill-requires-clause-place g c = c.requires.place
 
-pub find_entry-requires : goal.find_entry-requires
-find_entry-requires g c = c.requires
-
-pub place_new-requires-clause-place : goal.place_new-requires-clause-place
-place_new-requires-clause-place g c = subst (λ (l : List (StripeState g.row.V.Denot)). IsPlaceOf g.K.TableKey.hash l (g.K.TableKey.name c.args.key) c.args.place) (sym c.find_entry.ensures.same) c.requires
-
-pub place_new-requires-clause-nowhere : goal.place_new-requires-clause-nowhere
-place_new-requires-clause-nowhere g c = subst (λ (l : List (StripeState g.row.V.Denot)). IsNowhere l (g.K.TableKey.name c.args.key) c.args.place) (sym c.find_entry.ensures.same) c.in_default.ensures.nowhere
-
-pub returns-in-Ok-clause-rest : goal.returns-in-Ok-clause-rest
-returns-in-Ok-clause-rest g c = subst (λ (l : List (StripeState g.row.V.Denot)). ChangesContents l (g.H.Held.stripes c.place_new.new.held)) c.find_entry.ensures.same c.place_new.ensures.rest
-
-pub returns-in-Ok-clause-stays : goal.returns-in-Ok-clause-stays
-returns-in-Ok-clause-stays g c = g.met.H.Held.stays_on _ _ _ c.find_entry.ensures.stays c.place_new.ensures.stays
-
-pub returns-in-Err-clause-rest : goal.returns-in-Err-clause-rest
-returns-in-Err-clause-rest g c = subst (λ (l : List (StripeState g.row.V.Denot)). ChangesContents l (g.H.Held.stripes c.place_new.new.held)) c.find_entry.ensures.same c.place_new.ensures.rest
-
-pub returns-in-Err-clause-stays : goal.returns-in-Err-clause-stays
-returns-in-Err-clause-stays g c = g.met.H.Held.stays_on _ _ _ c.find_entry.ensures.stays c.place_new.ensures.stays
-
-pub returns-in-Some-clause-rest : goal.returns-in-Some-clause-rest
-returns-in-Some-clause-rest g c = unchanged _ _ c.find_entry.ensures.same
-
-pub returns-in-Some-clause-stays : goal.returns-in-Some-clause-stays
-returns-in-Some-clause-stays g c = c.find_entry.ensures.stays
+pub fill-requires-clause-vacant : goal.fill-requires-clause-vacant
+fill-requires-clause-vacant g c = vacant_here _ _ _ _ c.args.entry c.in-Vacant.at c.in-Vacant.is c.requires.entry

@@ -6,40 +6,36 @@ use Rattle.ck_model.specs.Map.{Name}
 use Rattle.ck_model.specs.Slots.{Slot}
 use Rattle.ck_stripe.specs.Stripe.{StripeState}
 use Rattle.ck_section.specs.declared.place.HeldSlot.{HeldSlot}
-use Rattle.ck_section.specs.declared.place.Place.{Place}
 use Rattle.ck_section.specs.Stripes.{IsInReach}
-use Rattle.ck_section.specs.Places.{place_of, IsSlotOf, IsNowhere, slot_in, IsPlaceOf}
+use Rattle.ck_section.specs.Places.{IsSlotOf, IsNowhere, slot_in, IsPlaceOf}
 use Rattle.ck_section.specs.Calls.{ChangesContents}
-use Rattle.ck_section.specs.TwoNames.{IsChangeOfTwo, IsAtAfter}
-use Rattle.ck_section.proofs.Steps.{none_anyway, unchanged, reach_still, full_still}
-use Rattle.ck_section.proofs.Rebound.{taken, given, one_s, first_lacks, second_lacks, reach1, full1, reach2, free2, reach3, free3, changed, section, at_first, at_second}
+use Rattle.ck_section.specs.TwoNames.{IsChangeOfTwo}
+use Rattle.ck_section.proofs.Steps.{unchanged, reach_still, full_still}
+use Rattle.ck_section.proofs.Rebound.{taken, given, first_lacks, second_lacks, reach1, full1, reach2, free2, reach3, free3, changed, section}
 use Rattle.ck_section.proofs.two_keys.update_two.Goals as goal
 
-pub returns-in_err-at_a-clause-unbound : goal.returns-in_err-at_a-clause-unbound
-returns-in_err-at_a-clause-unbound g c =
+pub returns-in_default-clause-call : goal.returns-in_default-clause-call
+returns-in_default-clause-call g c =
     let V : Type 0 = g.row.V.Denot in
     let hash = g.K.TableKey.hash in
     let stripes : List (StripeState V) = g.H.Held.stripes c.args.held.now in
     let a : Name = g.K.TableKey.name c.args.a.now in
     let b : Name = g.K.TableKey.name c.args.b.now in
-    none_anyway c.from_residual.result _ (first_lacks hash a b c.args.place_a c.args.place_b stripes c.requires.first c.requires.second c.requires.different (g.H.Held.stripes c.find_entry.new.held) c.find_entry.ensures.same c.in_err-at_a.ensures.nowhere, c.find_entry.ensures.same)
+    (first_lacks hash a b c.args.place_a c.args.place_b stripes c.requires.first c.requires.second c.requires.different (g.H.Held.stripes c.find_slot.new.held) c.find_slot.ensures.same c.in_default.ensures.nowhere)
 
-pub returns-in_err-at_b-clause-unbound : goal.returns-in_err-at_b-clause-unbound
-returns-in_err-at_b-clause-unbound g c =
+pub returns-in_default-find_slot-clause-call : goal.returns-in_default-find_slot-clause-call
+returns-in_default-find_slot-clause-call g c =
     let V : Type 0 = g.row.V.Denot in
     let hash = g.K.TableKey.hash in
     let stripes : List (StripeState V) = g.H.Held.stripes c.args.held.now in
     let a : Name = g.K.TableKey.name c.args.a.now in
     let b : Name = g.K.TableKey.name c.args.b.now in
-    let x : HeldSlot = c.in_ok-at_a.at_a in
-    let sx : IsSlotOf hash stripes a x = c.in_ok-at_a.ensures.slot in
-    let found_a = c.in_ok-at_a.ensures.found in
-    let cur : g.H.Held.stripes c.find_entry-2.new.held ≡ stripes = c.find_entry-2.ensures.same ∙ c.find_entry.ensures.same in
-    none_anyway c.from_residual-in_err-at_b.result _ (
-      second_lacks hash a b c.args.place_a c.args.place_b stripes c.requires.first c.requires.second c.requires.different x sx found_a.0 found_a.1 (g.H.Held.stripes c.find_entry-2.new.held) cur
-          (subst (λ (l : List (StripeState V)). IsNowhere l b c.args.place_b) c.find_entry.ensures.same c.in_err-at_b.ensures.nowhere),
-      cur,
-    )
+    let x : HeldSlot = c.in-Some.at_a in
+    let sx : IsSlotOf hash stripes a x = c.in-Some.ensures.occupied.slot in
+    let found_a = c.in-Some.ensures.occupied.found in
+    let cur : g.H.Held.stripes c.find_slot-2.new.held ≡ stripes = c.find_slot-2.ensures.same ∙ c.find_slot.ensures.same in
+    second_lacks hash a b c.args.place_a c.args.place_b stripes c.requires.first c.requires.second c.requires.different x sx found_a.0 found_a.1 (g.H.Held.stripes c.find_slot-2.new.held) cur
+    (subst (λ (l : List (StripeState V)). IsNowhere l b c.args.place_b) c.find_slot.ensures.same c.in_default-find_slot.ensures.nowhere)
 
 pub remove-key_b-requires-clause-reach : goal.remove-key_b-requires-clause-reach
 remove-key_b-requires-clause-reach g c =
@@ -48,15 +44,15 @@ remove-key_b-requires-clause-reach g c =
     let stripes : List (StripeState V) = g.H.Held.stripes c.args.held.now in
     let a : Name = g.K.TableKey.name c.args.a.now in
     let b : Name = g.K.TableKey.name c.args.b.now in
-    let x : HeldSlot = c.in_ok-at_a.at_a in
-    let sx : IsSlotOf hash stripes a x = c.in_ok-at_a.ensures.slot in
-    let found_a = c.in_ok-at_a.ensures.found in
-    let y : HeldSlot = c.in_ok-at_b.at_b in
-    let first : g.H.Held.stripes c.find_entry.new.held ≡ stripes = c.find_entry.ensures.same in
-    let cur : g.H.Held.stripes c.find_entry-2.new.held ≡ stripes = c.find_entry-2.ensures.same ∙ first in
-    let sy : IsSlotOf hash stripes b y = subst (λ (l : List (StripeState V)). IsSlotOf hash l b y) first c.in_ok-at_b.ensures.slot in
-    let w0 : V = c.in_ok-at_b.ensures.found.0 in
-    let found_b : slot_in stripes y ≡ Some (b, w0) = ap (λ (l : List (StripeState V)). slot_in l y) (sym first) ∙ c.in_ok-at_b.ensures.found.1 in
+    let x : HeldSlot = c.in-Some.at_a in
+    let sx : IsSlotOf hash stripes a x = c.in-Some.ensures.occupied.slot in
+    let found_a = c.in-Some.ensures.occupied.found in
+    let y : HeldSlot = c.in-Some-find_slot.at_b in
+    let first : g.H.Held.stripes c.find_slot.new.held ≡ stripes = c.find_slot.ensures.same in
+    let cur : g.H.Held.stripes c.find_slot-2.new.held ≡ stripes = c.find_slot-2.ensures.same ∙ first in
+    let sy : IsSlotOf hash stripes b y = subst (λ (l : List (StripeState V)). IsSlotOf hash l b y) first c.in-Some-find_slot.ensures.occupied.slot in
+    let w0 : V = c.in-Some-find_slot.ensures.occupied.found.0 in
+    let found_b : slot_in stripes y ≡ Some (b, w0) = ap (λ (l : List (StripeState V)). slot_in l y) (sym first) ∙ c.in-Some-find_slot.ensures.occupied.found.1 in
     let v : V = c.remove-key_a.result.1 in
     let entry_a : slot_in stripes x ≡ Some (g.K.TableKey.name c.remove-key_a.result.0, v) = ap (λ (l : List (StripeState V)). slot_in l x) (sym cur) ∙ c.remove-key_a.ensures.entry in
     let name_a : g.K.TableKey.name c.remove-key_a.result.0 ≡ a = (some_pair_parts _ _ _ _ (sym entry_a ∙ found_a.1)).0 in
@@ -71,15 +67,15 @@ remove-key_b-requires-clause-full g c =
     let stripes : List (StripeState V) = g.H.Held.stripes c.args.held.now in
     let a : Name = g.K.TableKey.name c.args.a.now in
     let b : Name = g.K.TableKey.name c.args.b.now in
-    let x : HeldSlot = c.in_ok-at_a.at_a in
-    let sx : IsSlotOf hash stripes a x = c.in_ok-at_a.ensures.slot in
-    let found_a = c.in_ok-at_a.ensures.found in
-    let y : HeldSlot = c.in_ok-at_b.at_b in
-    let first : g.H.Held.stripes c.find_entry.new.held ≡ stripes = c.find_entry.ensures.same in
-    let cur : g.H.Held.stripes c.find_entry-2.new.held ≡ stripes = c.find_entry-2.ensures.same ∙ first in
-    let sy : IsSlotOf hash stripes b y = subst (λ (l : List (StripeState V)). IsSlotOf hash l b y) first c.in_ok-at_b.ensures.slot in
-    let w0 : V = c.in_ok-at_b.ensures.found.0 in
-    let found_b : slot_in stripes y ≡ Some (b, w0) = ap (λ (l : List (StripeState V)). slot_in l y) (sym first) ∙ c.in_ok-at_b.ensures.found.1 in
+    let x : HeldSlot = c.in-Some.at_a in
+    let sx : IsSlotOf hash stripes a x = c.in-Some.ensures.occupied.slot in
+    let found_a = c.in-Some.ensures.occupied.found in
+    let y : HeldSlot = c.in-Some-find_slot.at_b in
+    let first : g.H.Held.stripes c.find_slot.new.held ≡ stripes = c.find_slot.ensures.same in
+    let cur : g.H.Held.stripes c.find_slot-2.new.held ≡ stripes = c.find_slot-2.ensures.same ∙ first in
+    let sy : IsSlotOf hash stripes b y = subst (λ (l : List (StripeState V)). IsSlotOf hash l b y) first c.in-Some-find_slot.ensures.occupied.slot in
+    let w0 : V = c.in-Some-find_slot.ensures.occupied.found.0 in
+    let found_b : slot_in stripes y ≡ Some (b, w0) = ap (λ (l : List (StripeState V)). slot_in l y) (sym first) ∙ c.in-Some-find_slot.ensures.occupied.found.1 in
     let v : V = c.remove-key_a.result.1 in
     let entry_a : slot_in stripes x ≡ Some (g.K.TableKey.name c.remove-key_a.result.0, v) = ap (λ (l : List (StripeState V)). slot_in l x) (sym cur) ∙ c.remove-key_a.ensures.entry in
     let name_a : g.K.TableKey.name c.remove-key_a.result.0 ≡ a = (some_pair_parts _ _ _ _ (sym entry_a ∙ found_a.1)).0 in
@@ -95,15 +91,15 @@ place-requires-2-clause-partial g c =
     let stripes : List (StripeState V) = g.H.Held.stripes c.args.held.now in
     let a : Name = g.K.TableKey.name c.args.a.now in
     let b : Name = g.K.TableKey.name c.args.b.now in
-    let x : HeldSlot = c.in_ok-at_a.at_a in
-    let sx : IsSlotOf hash stripes a x = c.in_ok-at_a.ensures.slot in
-    let found_a = c.in_ok-at_a.ensures.found in
-    let y : HeldSlot = c.in_ok-at_b.at_b in
-    let first : g.H.Held.stripes c.find_entry.new.held ≡ stripes = c.find_entry.ensures.same in
-    let cur : g.H.Held.stripes c.find_entry-2.new.held ≡ stripes = c.find_entry-2.ensures.same ∙ first in
-    let sy : IsSlotOf hash stripes b y = subst (λ (l : List (StripeState V)). IsSlotOf hash l b y) first c.in_ok-at_b.ensures.slot in
-    let w0 : V = c.in_ok-at_b.ensures.found.0 in
-    let found_b : slot_in stripes y ≡ Some (b, w0) = ap (λ (l : List (StripeState V)). slot_in l y) (sym first) ∙ c.in_ok-at_b.ensures.found.1 in
+    let x : HeldSlot = c.in-Some.at_a in
+    let sx : IsSlotOf hash stripes a x = c.in-Some.ensures.occupied.slot in
+    let found_a = c.in-Some.ensures.occupied.found in
+    let y : HeldSlot = c.in-Some-find_slot.at_b in
+    let first : g.H.Held.stripes c.find_slot.new.held ≡ stripes = c.find_slot.ensures.same in
+    let cur : g.H.Held.stripes c.find_slot-2.new.held ≡ stripes = c.find_slot-2.ensures.same ∙ first in
+    let sy : IsSlotOf hash stripes b y = subst (λ (l : List (StripeState V)). IsSlotOf hash l b y) first c.in-Some-find_slot.ensures.occupied.slot in
+    let w0 : V = c.in-Some-find_slot.ensures.occupied.found.0 in
+    let found_b : slot_in stripes y ≡ Some (b, w0) = ap (λ (l : List (StripeState V)). slot_in l y) (sym first) ∙ c.in-Some-find_slot.ensures.occupied.found.1 in
     let v : V = c.remove-key_a.result.1 in
     let entry_a : slot_in stripes x ≡ Some (g.K.TableKey.name c.remove-key_a.result.0, v) = ap (λ (l : List (StripeState V)). slot_in l x) (sym cur) ∙ c.remove-key_a.ensures.entry in
     let name_a : g.K.TableKey.name c.remove-key_a.result.0 ≡ a = (some_pair_parts _ _ _ _ (sym entry_a ∙ found_a.1)).0 in
@@ -121,15 +117,15 @@ place-requires-clause-reach g c =
     let stripes : List (StripeState V) = g.H.Held.stripes c.args.held.now in
     let a : Name = g.K.TableKey.name c.args.a.now in
     let b : Name = g.K.TableKey.name c.args.b.now in
-    let x : HeldSlot = c.in_ok-at_a.at_a in
-    let sx : IsSlotOf hash stripes a x = c.in_ok-at_a.ensures.slot in
-    let found_a = c.in_ok-at_a.ensures.found in
-    let y : HeldSlot = c.in_ok-at_b.at_b in
-    let first : g.H.Held.stripes c.find_entry.new.held ≡ stripes = c.find_entry.ensures.same in
-    let cur : g.H.Held.stripes c.find_entry-2.new.held ≡ stripes = c.find_entry-2.ensures.same ∙ first in
-    let sy : IsSlotOf hash stripes b y = subst (λ (l : List (StripeState V)). IsSlotOf hash l b y) first c.in_ok-at_b.ensures.slot in
-    let w0 : V = c.in_ok-at_b.ensures.found.0 in
-    let found_b : slot_in stripes y ≡ Some (b, w0) = ap (λ (l : List (StripeState V)). slot_in l y) (sym first) ∙ c.in_ok-at_b.ensures.found.1 in
+    let x : HeldSlot = c.in-Some.at_a in
+    let sx : IsSlotOf hash stripes a x = c.in-Some.ensures.occupied.slot in
+    let found_a = c.in-Some.ensures.occupied.found in
+    let y : HeldSlot = c.in-Some-find_slot.at_b in
+    let first : g.H.Held.stripes c.find_slot.new.held ≡ stripes = c.find_slot.ensures.same in
+    let cur : g.H.Held.stripes c.find_slot-2.new.held ≡ stripes = c.find_slot-2.ensures.same ∙ first in
+    let sy : IsSlotOf hash stripes b y = subst (λ (l : List (StripeState V)). IsSlotOf hash l b y) first c.in-Some-find_slot.ensures.occupied.slot in
+    let w0 : V = c.in-Some-find_slot.ensures.occupied.found.0 in
+    let found_b : slot_in stripes y ≡ Some (b, w0) = ap (λ (l : List (StripeState V)). slot_in l y) (sym first) ∙ c.in-Some-find_slot.ensures.occupied.found.1 in
     let v : V = c.remove-key_a.result.1 in
     let entry_a : slot_in stripes x ≡ Some (g.K.TableKey.name c.remove-key_a.result.0, v) = ap (λ (l : List (StripeState V)). slot_in l x) (sym cur) ∙ c.remove-key_a.ensures.entry in
     let name_a : g.K.TableKey.name c.remove-key_a.result.0 ≡ a = (some_pair_parts _ _ _ _ (sym entry_a ∙ found_a.1)).0 in
@@ -151,15 +147,15 @@ place-requires-clause-free g c =
     let stripes : List (StripeState V) = g.H.Held.stripes c.args.held.now in
     let a : Name = g.K.TableKey.name c.args.a.now in
     let b : Name = g.K.TableKey.name c.args.b.now in
-    let x : HeldSlot = c.in_ok-at_a.at_a in
-    let sx : IsSlotOf hash stripes a x = c.in_ok-at_a.ensures.slot in
-    let found_a = c.in_ok-at_a.ensures.found in
-    let y : HeldSlot = c.in_ok-at_b.at_b in
-    let first : g.H.Held.stripes c.find_entry.new.held ≡ stripes = c.find_entry.ensures.same in
-    let cur : g.H.Held.stripes c.find_entry-2.new.held ≡ stripes = c.find_entry-2.ensures.same ∙ first in
-    let sy : IsSlotOf hash stripes b y = subst (λ (l : List (StripeState V)). IsSlotOf hash l b y) first c.in_ok-at_b.ensures.slot in
-    let w0 : V = c.in_ok-at_b.ensures.found.0 in
-    let found_b : slot_in stripes y ≡ Some (b, w0) = ap (λ (l : List (StripeState V)). slot_in l y) (sym first) ∙ c.in_ok-at_b.ensures.found.1 in
+    let x : HeldSlot = c.in-Some.at_a in
+    let sx : IsSlotOf hash stripes a x = c.in-Some.ensures.occupied.slot in
+    let found_a = c.in-Some.ensures.occupied.found in
+    let y : HeldSlot = c.in-Some-find_slot.at_b in
+    let first : g.H.Held.stripes c.find_slot.new.held ≡ stripes = c.find_slot.ensures.same in
+    let cur : g.H.Held.stripes c.find_slot-2.new.held ≡ stripes = c.find_slot-2.ensures.same ∙ first in
+    let sy : IsSlotOf hash stripes b y = subst (λ (l : List (StripeState V)). IsSlotOf hash l b y) first c.in-Some-find_slot.ensures.occupied.slot in
+    let w0 : V = c.in-Some-find_slot.ensures.occupied.found.0 in
+    let found_b : slot_in stripes y ≡ Some (b, w0) = ap (λ (l : List (StripeState V)). slot_in l y) (sym first) ∙ c.in-Some-find_slot.ensures.occupied.found.1 in
     let v : V = c.remove-key_a.result.1 in
     let entry_a : slot_in stripes x ≡ Some (g.K.TableKey.name c.remove-key_a.result.0, v) = ap (λ (l : List (StripeState V)). slot_in l x) (sym cur) ∙ c.remove-key_a.ensures.entry in
     let name_a : g.K.TableKey.name c.remove-key_a.result.0 ≡ a = (some_pair_parts _ _ _ _ (sym entry_a ∙ found_a.1)).0 in
@@ -181,15 +177,15 @@ place-requires-2-clause-reach g c =
     let stripes : List (StripeState V) = g.H.Held.stripes c.args.held.now in
     let a : Name = g.K.TableKey.name c.args.a.now in
     let b : Name = g.K.TableKey.name c.args.b.now in
-    let x : HeldSlot = c.in_ok-at_a.at_a in
-    let sx : IsSlotOf hash stripes a x = c.in_ok-at_a.ensures.slot in
-    let found_a = c.in_ok-at_a.ensures.found in
-    let y : HeldSlot = c.in_ok-at_b.at_b in
-    let first : g.H.Held.stripes c.find_entry.new.held ≡ stripes = c.find_entry.ensures.same in
-    let cur : g.H.Held.stripes c.find_entry-2.new.held ≡ stripes = c.find_entry-2.ensures.same ∙ first in
-    let sy : IsSlotOf hash stripes b y = subst (λ (l : List (StripeState V)). IsSlotOf hash l b y) first c.in_ok-at_b.ensures.slot in
-    let w0 : V = c.in_ok-at_b.ensures.found.0 in
-    let found_b : slot_in stripes y ≡ Some (b, w0) = ap (λ (l : List (StripeState V)). slot_in l y) (sym first) ∙ c.in_ok-at_b.ensures.found.1 in
+    let x : HeldSlot = c.in-Some.at_a in
+    let sx : IsSlotOf hash stripes a x = c.in-Some.ensures.occupied.slot in
+    let found_a = c.in-Some.ensures.occupied.found in
+    let y : HeldSlot = c.in-Some-find_slot.at_b in
+    let first : g.H.Held.stripes c.find_slot.new.held ≡ stripes = c.find_slot.ensures.same in
+    let cur : g.H.Held.stripes c.find_slot-2.new.held ≡ stripes = c.find_slot-2.ensures.same ∙ first in
+    let sy : IsSlotOf hash stripes b y = subst (λ (l : List (StripeState V)). IsSlotOf hash l b y) first c.in-Some-find_slot.ensures.occupied.slot in
+    let w0 : V = c.in-Some-find_slot.ensures.occupied.found.0 in
+    let found_b : slot_in stripes y ≡ Some (b, w0) = ap (λ (l : List (StripeState V)). slot_in l y) (sym first) ∙ c.in-Some-find_slot.ensures.occupied.found.1 in
     let v : V = c.remove-key_a.result.1 in
     let entry_a : slot_in stripes x ≡ Some (g.K.TableKey.name c.remove-key_a.result.0, v) = ap (λ (l : List (StripeState V)). slot_in l x) (sym cur) ∙ c.remove-key_a.ensures.entry in
     let name_a : g.K.TableKey.name c.remove-key_a.result.0 ≡ a = (some_pair_parts _ _ _ _ (sym entry_a ∙ found_a.1)).0 in
@@ -212,15 +208,15 @@ place-requires-2-clause-free g c =
     let stripes : List (StripeState V) = g.H.Held.stripes c.args.held.now in
     let a : Name = g.K.TableKey.name c.args.a.now in
     let b : Name = g.K.TableKey.name c.args.b.now in
-    let x : HeldSlot = c.in_ok-at_a.at_a in
-    let sx : IsSlotOf hash stripes a x = c.in_ok-at_a.ensures.slot in
-    let found_a = c.in_ok-at_a.ensures.found in
-    let y : HeldSlot = c.in_ok-at_b.at_b in
-    let first : g.H.Held.stripes c.find_entry.new.held ≡ stripes = c.find_entry.ensures.same in
-    let cur : g.H.Held.stripes c.find_entry-2.new.held ≡ stripes = c.find_entry-2.ensures.same ∙ first in
-    let sy : IsSlotOf hash stripes b y = subst (λ (l : List (StripeState V)). IsSlotOf hash l b y) first c.in_ok-at_b.ensures.slot in
-    let w0 : V = c.in_ok-at_b.ensures.found.0 in
-    let found_b : slot_in stripes y ≡ Some (b, w0) = ap (λ (l : List (StripeState V)). slot_in l y) (sym first) ∙ c.in_ok-at_b.ensures.found.1 in
+    let x : HeldSlot = c.in-Some.at_a in
+    let sx : IsSlotOf hash stripes a x = c.in-Some.ensures.occupied.slot in
+    let found_a = c.in-Some.ensures.occupied.found in
+    let y : HeldSlot = c.in-Some-find_slot.at_b in
+    let first : g.H.Held.stripes c.find_slot.new.held ≡ stripes = c.find_slot.ensures.same in
+    let cur : g.H.Held.stripes c.find_slot-2.new.held ≡ stripes = c.find_slot-2.ensures.same ∙ first in
+    let sy : IsSlotOf hash stripes b y = subst (λ (l : List (StripeState V)). IsSlotOf hash l b y) first c.in-Some-find_slot.ensures.occupied.slot in
+    let w0 : V = c.in-Some-find_slot.ensures.occupied.found.0 in
+    let found_b : slot_in stripes y ≡ Some (b, w0) = ap (λ (l : List (StripeState V)). slot_in l y) (sym first) ∙ c.in-Some-find_slot.ensures.occupied.found.1 in
     let v : V = c.remove-key_a.result.1 in
     let entry_a : slot_in stripes x ≡ Some (g.K.TableKey.name c.remove-key_a.result.0, v) = ap (λ (l : List (StripeState V)). slot_in l x) (sym cur) ∙ c.remove-key_a.ensures.entry in
     let name_a : g.K.TableKey.name c.remove-key_a.result.0 ≡ a = (some_pair_parts _ _ _ _ (sym entry_a ∙ found_a.1)).0 in
@@ -236,22 +232,22 @@ place-requires-2-clause-free g c =
     let three : g.H.Held.stripes c.place.new.self ≡ given (taken (taken stripes x) y) x a v2 = c.place.ensures.content ∙ (λ i. given (two i) x (name_a i) v2) in
     ap (λ (l : List (StripeState V)). slot_in l y) three ∙ free3 hash a b c.args.place_a c.args.place_b stripes c.requires.first c.requires.second c.requires.different x sx v ex y sy w ey v2 w2
 
-pub returns-clause-bound : goal.returns-clause-bound
-returns-clause-bound g c =
+pub returns-clause-call : goal.returns-clause-call
+returns-clause-call g c =
     let V : Type 0 = g.row.V.Denot in
     let hash = g.K.TableKey.hash in
     let stripes : List (StripeState V) = g.H.Held.stripes c.args.held.now in
     let a : Name = g.K.TableKey.name c.args.a.now in
     let b : Name = g.K.TableKey.name c.args.b.now in
-    let x : HeldSlot = c.in_ok-at_a.at_a in
-    let sx : IsSlotOf hash stripes a x = c.in_ok-at_a.ensures.slot in
-    let found_a = c.in_ok-at_a.ensures.found in
-    let y : HeldSlot = c.in_ok-at_b.at_b in
-    let first : g.H.Held.stripes c.find_entry.new.held ≡ stripes = c.find_entry.ensures.same in
-    let cur : g.H.Held.stripes c.find_entry-2.new.held ≡ stripes = c.find_entry-2.ensures.same ∙ first in
-    let sy : IsSlotOf hash stripes b y = subst (λ (l : List (StripeState V)). IsSlotOf hash l b y) first c.in_ok-at_b.ensures.slot in
-    let w0 : V = c.in_ok-at_b.ensures.found.0 in
-    let found_b : slot_in stripes y ≡ Some (b, w0) = ap (λ (l : List (StripeState V)). slot_in l y) (sym first) ∙ c.in_ok-at_b.ensures.found.1 in
+    let x : HeldSlot = c.in-Some.at_a in
+    let sx : IsSlotOf hash stripes a x = c.in-Some.ensures.occupied.slot in
+    let found_a = c.in-Some.ensures.occupied.found in
+    let y : HeldSlot = c.in-Some-find_slot.at_b in
+    let first : g.H.Held.stripes c.find_slot.new.held ≡ stripes = c.find_slot.ensures.same in
+    let cur : g.H.Held.stripes c.find_slot-2.new.held ≡ stripes = c.find_slot-2.ensures.same ∙ first in
+    let sy : IsSlotOf hash stripes b y = subst (λ (l : List (StripeState V)). IsSlotOf hash l b y) first c.in-Some-find_slot.ensures.occupied.slot in
+    let w0 : V = c.in-Some-find_slot.ensures.occupied.found.0 in
+    let found_b : slot_in stripes y ≡ Some (b, w0) = ap (λ (l : List (StripeState V)). slot_in l y) (sym first) ∙ c.in-Some-find_slot.ensures.occupied.found.1 in
     let v : V = c.remove-key_a.result.1 in
     let entry_a : slot_in stripes x ≡ Some (g.K.TableKey.name c.remove-key_a.result.0, v) = ap (λ (l : List (StripeState V)). slot_in l x) (sym cur) ∙ c.remove-key_a.ensures.entry in
     let name_a : g.K.TableKey.name c.remove-key_a.result.0 ≡ a = (some_pair_parts _ _ _ _ (sym entry_a ∙ found_a.1)).0 in
@@ -271,10 +267,7 @@ returns-clause-bound g c =
       v2,
       w2,
       c.f-value_a.ensures,
-      subst (λ (l : List (StripeState V)). IsChangeOfTwo hash c.args.place_a.s stripes a b (DoneTwo v w v2 w2) l) (sym four) (section hash a b c.args.place_a c.args.place_b stripes c.requires.first c.requires.second c.requires.different x sx v ex y sy w ey v2 w2),
-      subst (λ (z : List (StripeState V) × Place). IsAtAfter hash c.args.place_a.s stripes z.0 z.1 a v2) (λ i. (sym four i, sym c.place-3.ensures i)) (at_first hash a b c.args.place_a c.args.place_b stripes c.requires.first c.requires.second c.requires.different x sx v ex y sy w ey v2 w2),
-      subst (λ (z : List (StripeState V) × Place). IsAtAfter hash c.args.place_a.s stripes z.0 z.1 b w2)
-          (λ i. (sym four i, sym (c.place-4.ensures ∙ ap (λ n. place_of n y) (one_s hash a b c.args.place_a c.args.place_b stripes c.requires.first c.requires.second c.requires.different)) i)) (at_second hash a b c.args.place_a c.args.place_b stripes c.requires.first c.requires.second c.requires.different x sx v ex y sy w ey v2 w2),
+      subst (λ (l : List (StripeState V)). IsChangeOfTwo (record { hash = hash; s = c.args.place_a.s; old = stripes; new = l }) a b (DoneTwo v w v2 w2)) (sym four) (section hash a b c.args.place_a c.args.place_b stripes c.requires.first c.requires.second c.requires.different x sx v ex y sy w ey v2 w2),
     )
 
 pub returns-clause-rest : goal.returns-clause-rest
@@ -284,15 +277,15 @@ returns-clause-rest g c =
     let stripes : List (StripeState V) = g.H.Held.stripes c.args.held.now in
     let a : Name = g.K.TableKey.name c.args.a.now in
     let b : Name = g.K.TableKey.name c.args.b.now in
-    let x : HeldSlot = c.in_ok-at_a.at_a in
-    let sx : IsSlotOf hash stripes a x = c.in_ok-at_a.ensures.slot in
-    let found_a = c.in_ok-at_a.ensures.found in
-    let y : HeldSlot = c.in_ok-at_b.at_b in
-    let first : g.H.Held.stripes c.find_entry.new.held ≡ stripes = c.find_entry.ensures.same in
-    let cur : g.H.Held.stripes c.find_entry-2.new.held ≡ stripes = c.find_entry-2.ensures.same ∙ first in
-    let sy : IsSlotOf hash stripes b y = subst (λ (l : List (StripeState V)). IsSlotOf hash l b y) first c.in_ok-at_b.ensures.slot in
-    let w0 : V = c.in_ok-at_b.ensures.found.0 in
-    let found_b : slot_in stripes y ≡ Some (b, w0) = ap (λ (l : List (StripeState V)). slot_in l y) (sym first) ∙ c.in_ok-at_b.ensures.found.1 in
+    let x : HeldSlot = c.in-Some.at_a in
+    let sx : IsSlotOf hash stripes a x = c.in-Some.ensures.occupied.slot in
+    let found_a = c.in-Some.ensures.occupied.found in
+    let y : HeldSlot = c.in-Some-find_slot.at_b in
+    let first : g.H.Held.stripes c.find_slot.new.held ≡ stripes = c.find_slot.ensures.same in
+    let cur : g.H.Held.stripes c.find_slot-2.new.held ≡ stripes = c.find_slot-2.ensures.same ∙ first in
+    let sy : IsSlotOf hash stripes b y = subst (λ (l : List (StripeState V)). IsSlotOf hash l b y) first c.in-Some-find_slot.ensures.occupied.slot in
+    let w0 : V = c.in-Some-find_slot.ensures.occupied.found.0 in
+    let found_b : slot_in stripes y ≡ Some (b, w0) = ap (λ (l : List (StripeState V)). slot_in l y) (sym first) ∙ c.in-Some-find_slot.ensures.occupied.found.1 in
     let v : V = c.remove-key_a.result.1 in
     let entry_a : slot_in stripes x ≡ Some (g.K.TableKey.name c.remove-key_a.result.0, v) = ap (λ (l : List (StripeState V)). slot_in l x) (sym cur) ∙ c.remove-key_a.ensures.entry in
     let name_a : g.K.TableKey.name c.remove-key_a.result.0 ≡ a = (some_pair_parts _ _ _ _ (sym entry_a ∙ found_a.1)).0 in
@@ -312,40 +305,40 @@ returns-clause-rest g c =
 pub returns-clause-stays : goal.returns-clause-stays
 returns-clause-stays g c =
     let on = g.met.H.Held.stays_on in
-    on _ _ _ c.find_entry.ensures.stays (on _ _ _ c.find_entry-2.ensures.stays (on _ _ _ c.remove-key_a.ensures.stays (on _ _ _ c.remove-key_b.ensures.stays (on _ _ _ c.place.ensures.stays c.place-2.ensures.stays))))
+    on _ _ _ c.find_slot.ensures.stays (on _ _ _ c.find_slot-2.ensures.stays (on _ _ _ c.remove-key_a.ensures.stays (on _ _ _ c.remove-key_b.ensures.stays (on _ _ _ c.place.ensures.stays c.place-2.ensures.stays))))
 
-pub find_entry-requires : goal.find_entry-requires
-find_entry-requires g c = c.requires.first
+pub find_slot-requires : goal.find_slot-requires
+find_slot-requires g c = c.requires.first
 
-pub returns-in_err-at_a-clause-rest : goal.returns-in_err-at_a-clause-rest
-returns-in_err-at_a-clause-rest g c = unchanged _ _ c.find_entry.ensures.same
+pub returns-in_default-clause-rest : goal.returns-in_default-clause-rest
+returns-in_default-clause-rest g c = unchanged _ _ c.find_slot.ensures.same
 
-pub returns-in_err-at_a-clause-stays : goal.returns-in_err-at_a-clause-stays
-returns-in_err-at_a-clause-stays g c = c.find_entry.ensures.stays
+pub returns-in_default-clause-stays : goal.returns-in_default-clause-stays
+returns-in_default-clause-stays g c = c.find_slot.ensures.stays
 
-pub find_entry-requires-2 : goal.find_entry-requires-2
-find_entry-requires-2 g c = subst (λ (l : List (StripeState g.row.V.Denot)). IsPlaceOf g.K.TableKey.hash l (g.K.TableKey.name c.args.b.now) c.args.place_b) (sym c.find_entry.ensures.same) c.requires.second
+pub find_slot-requires-2 : goal.find_slot-requires-2
+find_slot-requires-2 g c = subst (λ (l : List (StripeState g.row.V.Denot)). IsPlaceOf g.K.TableKey.hash l (g.K.TableKey.name c.args.b.now) c.args.place_b) (sym c.find_slot.ensures.same) c.requires.second
 
-pub returns-in_err-at_b-clause-rest : goal.returns-in_err-at_b-clause-rest
-returns-in_err-at_b-clause-rest g c = unchanged _ _ (c.find_entry-2.ensures.same ∙ c.find_entry.ensures.same)
+pub returns-in_default-find_slot-clause-rest : goal.returns-in_default-find_slot-clause-rest
+returns-in_default-find_slot-clause-rest g c = unchanged _ _ (c.find_slot-2.ensures.same ∙ c.find_slot.ensures.same)
 
-pub returns-in_err-at_b-clause-stays : goal.returns-in_err-at_b-clause-stays
-returns-in_err-at_b-clause-stays g c = g.met.H.Held.stays_on _ _ _ c.find_entry.ensures.stays c.find_entry-2.ensures.stays
+pub returns-in_default-find_slot-clause-stays : goal.returns-in_default-find_slot-clause-stays
+returns-in_default-find_slot-clause-stays g c = g.met.H.Held.stays_on _ _ _ c.find_slot.ensures.stays c.find_slot-2.ensures.stays
 
 pub remove-key_a-requires-clause-reach : goal.remove-key_a-requires-clause-reach
-remove-key_a-requires-clause-reach g c = reach_still (g.H.Held.stripes c.args.held.now) (g.H.Held.stripes c.find_entry-2.new.held) (c.find_entry-2.ensures.same ∙ c.find_entry.ensures.same) c.in_ok-at_a.at_a.index c.in_ok-at_a.at_a.bucket c.in_ok-at_a.ensures.slot.reach
+remove-key_a-requires-clause-reach g c = reach_still (g.H.Held.stripes c.args.held.now) (g.H.Held.stripes c.find_slot-2.new.held) (c.find_slot-2.ensures.same ∙ c.find_slot.ensures.same) c.in-Some.at_a.index c.in-Some.at_a.bucket c.in-Some.ensures.occupied.slot.reach
 
 pub remove-key_a-requires-clause-below : goal.remove-key_a-requires-clause-below
-remove-key_a-requires-clause-below g c = c.in_ok-at_a.ensures.slot.below
+remove-key_a-requires-clause-below g c = c.in-Some.ensures.occupied.slot.below
 
 pub remove-key_a-requires-clause-full : goal.remove-key_a-requires-clause-full
-remove-key_a-requires-clause-full g c = full_still (g.H.Held.stripes c.args.held.now) (g.H.Held.stripes c.find_entry-2.new.held) (c.find_entry-2.ensures.same ∙ c.find_entry.ensures.same) c.in_ok-at_a.at_a (g.K.TableKey.name c.args.a.now) c.in_ok-at_a.ensures.found
+remove-key_a-requires-clause-full g c = full_still (g.H.Held.stripes c.args.held.now) (g.H.Held.stripes c.find_slot-2.new.held) (c.find_slot-2.ensures.same ∙ c.find_slot.ensures.same) c.in-Some.at_a (g.K.TableKey.name c.args.a.now) c.in-Some.ensures.occupied.found
 
 pub remove-key_b-requires-clause-below : goal.remove-key_b-requires-clause-below
-remove-key_b-requires-clause-below g c = c.in_ok-at_b.ensures.slot.below
+remove-key_b-requires-clause-below g c = c.in-Some-find_slot.ensures.occupied.slot.below
 
 pub place-requires-clause-below : goal.place-requires-clause-below
-place-requires-clause-below g c = c.in_ok-at_a.ensures.slot.below
+place-requires-clause-below g c = c.in-Some.ensures.occupied.slot.below
 
 pub place-requires-2-clause-below : goal.place-requires-2-clause-below
-place-requires-2-clause-below g c = c.in_ok-at_b.ensures.slot.below
+place-requires-2-clause-below g c = c.in-Some-find_slot.ensures.occupied.slot.below

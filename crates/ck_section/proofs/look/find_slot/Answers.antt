@@ -3,20 +3,16 @@ use Rattle.ck_bucket.specs.Bucket.{HasName, LacksName}
 use Rattle.ck_stripe.specs.Stripe.{StripeState}
 use Rattle.ck_section.specs.Stripes.{bucket_at, IsInReach}
 use Rattle.ck_section.proofs.Steps.{none_anyway}
-use Rattle.ck_section.proofs.look.find_entry.Goals as goal
+use Rattle.ck_section.proofs.look.find_slot.Goals as goal
 
 pub look-requires-clause-reach : goal.look-requires-clause-reach
 look-requires-clause-reach g c = c.requires.first_reach
 
-pub returns-in-Some-clause-slot : goal.returns-in-Some-clause-slot
-returns-in-Some-clause-slot g c = record {
-  reach = c.requires.first_reach;
-  below = c.in-Some.ensures.below;
-  of_name = inl c.requires.first;
+pub returns-in-Some-clause-occupied : goal.returns-in-Some-clause-occupied
+returns-in-Some-clause-occupied g c = record {
+  slot = record { reach = c.requires.first_reach; below = c.in-Some.ensures.below; of_name = inl c.requires.first };
+  found = c.in-Some.ensures.found;
 }
-
-pub returns-in-Some-clause-found : goal.returns-in-Some-clause-found
-returns-in-Some-clause-found g c = c.in-Some.ensures.found
 
 pub returns-then-alternate-first-clause-nowhere : goal.returns-then-alternate-first-clause-nowhere
 returns-then-alternate-first-clause-nowhere g c =
@@ -49,17 +45,13 @@ returns-in_err-slot-clause-same g c = c.look-2.ensures.same ∙ c.look.ensures.s
 pub returns-in_err-slot-clause-stays : goal.returns-in_err-slot-clause-stays
 returns-in_err-slot-clause-stays g c = g.met.H.Held.stays_on _ _ _ c.look.ensures.stays c.look-2.ensures.stays
 
-pub returns-clause-slot : goal.returns-clause-slot
-returns-clause-slot g c = record {
-  reach = c.requires.alternate_reach;
-  below = c.in_ok-slot.ensures.below;
-  of_name = inr c.requires.alternate;
-}
-
-pub returns-clause-found : goal.returns-clause-found
-returns-clause-found g c =
+pub returns-clause-occupied : goal.returns-clause-occupied
+returns-clause-occupied g c =
     let alternate = c.args.place.alternate in
-    subst (λ (l : List (StripeState g.row.V.Denot)). HasName (bucket_at l alternate.index alternate.bucket) (g.K.TableKey.name c.args.key.now) c.in_ok-slot.slot) c.look.ensures.same c.in_ok-slot.ensures.found
+    record {
+      slot = record { reach = c.requires.alternate_reach; below = c.in_ok-slot.ensures.below; of_name = inr c.requires.alternate };
+      found = subst (λ (l : List (StripeState g.row.V.Denot)). HasName (bucket_at l alternate.index alternate.bucket) (g.K.TableKey.name c.args.key.now) c.in_ok-slot.slot) c.look.ensures.same c.in_ok-slot.ensures.found;
+    }
 
 pub returns-clause-same : goal.returns-clause-same
 returns-clause-same g c = c.look-2.ensures.same ∙ c.look.ensures.same
