@@ -35,7 +35,7 @@ module _ {V : Type 0} where
       let y = length-append (pairs_in h.1) (pairs_of hs) in
       omega arith
 
-  count-reverse : (hs : Stripes V) → length (pairs_of (reverse hs)) ≡ length (pairs_of hs)
+  pub count-reverse : (hs : Stripes V) → length (pairs_of (reverse hs)) ≡ length (pairs_of hs)
   count-reverse [] = refl
   count-reverse (h ∷ hs) =
       let e = count-reverse hs in

@@ -8,10 +8,14 @@ pub mod Takes
 pub mod Gives
 pub mod Staying
 pub mod Turning
+pub mod Lending
 pub mod Starting
 pub mod Meets
 pub mod Settling
-pub mod AllHeld
+pub mod Counting
+pub mod Taking
+pub mod Releasing
+pub mod Missing
 pub mod Joining
 pub mod Totals
 pub mod Draining
@@ -19,5 +23,4 @@ pub mod Dealt
 pub mod Ending
 pub mod Replying
 pub mod AreHeld
-pub mod SomeHeld
 pub mod KnownCaller

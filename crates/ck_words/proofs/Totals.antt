@@ -6,22 +6,21 @@ use Rattle.ck_model.specs.declared.contents.Content.{Content}
 use Rattle.ck_model.specs.Map.{Name}
 use Rattle.ck_model.specs.Ranges.{AreInRange}
 use Rattle.ck_model.specs.Numbered.{Holds}
-use Rattle.ck_model.specs.Contents.{Layout, Stripes, Lawful, IsSound, pairs_in, pairs_of}
+use Rattle.ck_model.specs.Contents.{Layout, Lawful, IsSound, pairs_in, pairs_of}
 use Rattle.ck_stripe.specs.Stripe.{StripeState, IsShaped}
 use Rattle.ck_stripe.proofs.Writes.{few_entries}
 use Rattle.ck_section.specs.Stripes.{stripe_at, contents_of}
 use Rattle.ck_words.specs.Rule.{counting, layout_of}
 use Rattle.ck_words.specs.Passes.{PassState, IsUnchanged, ShowsSeen, numbers_of}
 use Rattle.ck_words.specs.Closing.{IsWhole, settled_stripes}
+use Rattle.ck_words.proofs.Seating.{length-numbers}
+use Rattle.ck_words.proofs.AreHeld.{numbers_settled, contents_settled}
+use Rattle.ck_words.proofs.Counting.{length-counting}
 use Rattle.ck_words.proofs.Reversed.{lawful_reverse}
 
 -- the most entries of a stripe
 abbrev pub most : ℕ
 most = 4 * 2 ^ 26
-
-length-counting : (n a : ℕ) → length (counting a n) ≡ n
-length-counting zero a = refl
-length-counting (suc n) a = ap suc (length-counting n (suc a))
 
 module _ {V : Type 0} where
   -- the entries of the first n stripes
@@ -57,19 +56,6 @@ module _ {V : Type 0} where
   small_each (s ∷ ss) small zero = small s.number s.content (inl (refl, refl))
   small_each (s ∷ ss) small (suc i) = small_each ss (λ t c h. small t c (inr h)) i
 
-  pub length-numbers : (ss : List (StripeState V)) → length (numbers_of ss) ≡ length ss
-  length-numbers [] = refl
-  length-numbers (s ∷ ss) = ap suc (length-numbers ss)
-
-  -- settled stripes contain the same
-  contents-settled : (ss : List (StripeState V)) → contents_of (settled_stripes ss) ≡ contents_of ss
-  contents-settled [] = refl
-  contents-settled (s ∷ ss) = ap {B = Stripes V} (λ l. (s.number, s.content) ∷ l) (contents-settled ss)
-
-  numbers-settled : (ss : List (StripeState V)) → numbers_of (settled_stripes ss) ≡ numbers_of ss
-  numbers-settled [] = refl
-  numbers-settled (s ∷ ss) = ap {B = List ℕ} (λ l. s.number ∷ l) (numbers-settled ss)
-
   each_settled : (ss : List (StripeState V)) (i : ℕ) → (stripe_at (settled_stripes ss) i).settled ≡ true
   each_settled [] i = refl
   each_settled (s ∷ ss) zero = refl
@@ -77,8 +63,8 @@ module _ {V : Type 0} where
 
   pub whole_settled : (hash : Name → ℕ) (set : Settings) (p q : PassState V) → numbers_of p.stripes ≡ counting 0 (2 ^ set.s) → IsUnchanged p → ShowsSeen hash set p → q ≡ record p { stripes = settled_stripes p.stripes } → IsWhole hash set q
   whole_settled hash set p q all unchanged shows is = subst (IsWhole hash set) (sym is) (record {
-    all = numbers-settled p.stripes ∙ all;
-    unchanged = contents-settled p.stripes ∙ unchanged;
+    all = numbers_settled p.stripes ∙ all;
+    unchanged = contents_settled p.stripes ∙ unchanged;
     settled = each_settled p.stripes;
     shows = shows;
   })

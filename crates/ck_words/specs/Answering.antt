@@ -10,7 +10,8 @@ use Rattle.ck_model.specs.Sections.{Section}
 use Rattle.ck_section.specs.Stripes.{contents_of}
 use Rattle.ck_core.specs.Laws.{Answered}
 use Rattle.ck_words.specs.Rule.{layout_of}
-use Rattle.ck_words.specs.Passes.{PassState}
+use Rattle.ck_words.specs.Words.{WordsState}
+use Rattle.ck_words.specs.Passes.{PassState, IsPassOf, IsIdle}
 use Rattle.ck_words.specs.Retries.{StaysBut}
 
 module _ {V : Type 0} where
@@ -28,3 +29,12 @@ module _ {V : Type 0} where
   -- and it has said so of none
   abbrev pub IsAnswered : Call V → Reply V → PassState V → PassState V → Type 0
   IsAnswered = IsAnsweredBut []
+
+  -- The call was decided with the reply that the stripes give it, and all stripes went home.
+  pub record HasCommitted (hash : Name → ℕ) (w : WordsState) (call : Call V) (p q : PassState V) : Type 0 where
+    pub own : IsPassOf w q
+    pub idle : IsIdle q
+    pub answered : (reply : Reply V) → HasDone hash w.settings call reply p → IsAnswered call reply p q
+    pub by : q.view.by ≡ p.view.by
+    pub others : q.view.others ≡ p.view.others
+    pub found : q.view.found ≡ p.view.found

@@ -4,6 +4,7 @@ pub mod Plays
 pub mod Passes
 pub mod Words
 pub mod Retries
+pub mod Holding
 pub mod InPlace
 pub mod Opening
 pub mod Meeting

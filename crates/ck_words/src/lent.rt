@@ -1,6 +1,6 @@
 //! The stripes that a pass holds, as held ones.
 ghost use Rattle.std.specs.Prelude.{◌≡◌};
-ghost use Rattle.ck_words.specs.Passes.{IsPassOf};
+ghost use Rattle.ck_words.specs.Passes.{IsPassOf, numbers_of};
 
 use crate::pass::Pass;
 use crate::slots;
@@ -14,7 +14,10 @@ use std::alloc::AllocError;
 pub struct Lent<'a, K: TableKey, V> {
     pub words: &'a Words<K, V>,
     pub pass: &'a mut Pass<K, V>,
+    /// The numbers of the stripes.
+    pub numbers: &'a [usize],
     ghost own: { IsPassOf words.now pass.now },
+    ghost numbered: { numbers_of pass.now.stripes ≡ numbers.now },
 }
 
 impl<K: TableKey + Drop, V: Drop> Held<K, V> for Lent<'_, K, V> {
@@ -25,67 +28,86 @@ impl<K: TableKey + Drop, V: Drop> Held<K, V> for Lent<'_, K, V> {
     ghost stays = { λ l m. (m.pass.ghost_name ≡ l.pass.ghost_name) × (m.pass.now.view ≡ l.pass.now.view) × (m.pass.now.table ≡ l.pass.now.table) };
 
     fn count(&self) -> usize {
-        self.pass.count()
+        self.numbers.len()
     }
 
     fn number(&mut self, i: usize) -> u32 {
-        let words = self.words;
+        let (words, numbers) = (self.words, self.numbers);
         let pass = &mut *self.pass;
         let shared = &words.table.shared;
-        slots::number_at(shared, &mut pass.seat, &pass.taken, i)
+        slots::number_at(shared, &mut pass.seat, numbers.len(), i, numbers[i])
     }
 
     fn power(&mut self, i: usize) -> u32 {
-        let words = self.words;
+        let (words, numbers) = (self.words, self.numbers);
         let pass = &mut *self.pass;
         let shared = &words.table.shared;
-        slots::power_at(shared, &mut pass.seat, &pass.taken, i)
+        slots::power_at(shared, &mut pass.seat, numbers.len(), i, numbers[i])
     }
 
     fn len(&mut self, i: usize) -> u64 {
-        let words = self.words;
+        let (words, numbers) = (self.words, self.numbers);
         let pass = &mut *self.pass;
         let shared = &words.table.shared;
-        slots::len_at(shared, &mut pass.seat, &pass.taken, i)
+        slots::len_at(shared, &mut pass.seat, numbers.len(), i, numbers[i])
     }
 
     fn look(&mut self, i: usize, b: u64, key: &K, partial: u8) -> Option<usize> {
-        let words = self.words;
+        let (words, numbers) = (self.words, self.numbers);
         let pass = &mut *self.pass;
         let shared = &words.table.shared;
-        slots::look_at(shared, &mut pass.seat, &pass.taken, i, b, key, partial)
+        slots::look_at(
+            shared,
+            &mut pass.seat,
+            numbers.len(),
+            i,
+            numbers[i],
+            b,
+            key,
+            partial,
+        )
     }
 
     fn free(&mut self, i: usize, b: u64) -> Option<usize> {
-        let words = self.words;
+        let (words, numbers) = (self.words, self.numbers);
         let pass = &mut *self.pass;
         let shared = &words.table.shared;
-        slots::free_at(shared, &mut pass.seat, &pass.taken, i, b)
+        slots::free_at(shared, &mut pass.seat, numbers.len(), i, numbers[i], b)
     }
 
     fn sketch(&mut self, i: usize, b: u64) -> [Option<u8>; 4] {
-        let words = self.words;
+        let (words, numbers) = (self.words, self.numbers);
         let pass = &mut *self.pass;
         let shared = &words.table.shared;
-        slots::sketch_at(shared, &mut pass.seat, &pass.taken, i, b)
+        slots::sketch_at(shared, &mut pass.seat, numbers.len(), i, numbers[i], b)
     }
 
     fn read<R, F: FnOnce(&V) -> R>(&mut self, i: usize, b: u64, slot: usize, f: F) -> R {
-        let words = self.words;
+        let (words, numbers) = (self.words, self.numbers);
         let pass = &mut *self.pass;
         let shared = &words.table.shared;
-        slots::read_at(shared, &mut pass.seat, &pass.taken, i, b, slot, f)
+        slots::read_at(
+            shared,
+            &mut pass.seat,
+            numbers.len(),
+            i,
+            numbers[i],
+            b,
+            slot,
+            f,
+        )
     }
 
     fn place(&mut self, i: usize, b: u64, slot: usize, partial: u8, key: K, value: V) {
-        let words = self.words;
+        let (words, numbers) = (self.words, self.numbers);
         let pass = &mut *self.pass;
         let shared = &words.table.shared;
         slots::place_at(
             shared,
             &mut pass.seat,
-            &pass.taken,
+            numbers.len(),
             i,
+            numbers[i],
             b,
             slot,
             partial,
@@ -95,52 +117,78 @@ impl<K: TableKey + Drop, V: Drop> Held<K, V> for Lent<'_, K, V> {
     }
 
     fn remove(&mut self, i: usize, b: u64, slot: usize) -> (K, V) {
-        let words = self.words;
+        let (words, numbers) = (self.words, self.numbers);
         let pass = &mut *self.pass;
         let shared = &words.table.shared;
-        slots::remove_at(shared, &mut pass.seat, &pass.taken, i, b, slot)
+        slots::remove_at(
+            shared,
+            &mut pass.seat,
+            numbers.len(),
+            i,
+            numbers[i],
+            b,
+            slot,
+        )
     }
 
     fn replace(&mut self, i: usize, b: u64, slot: usize, value: V) -> V {
-        let words = self.words;
+        let (words, numbers) = (self.words, self.numbers);
         let pass = &mut *self.pass;
         let shared = &words.table.shared;
-        slots::replace_at(shared, &mut pass.seat, &pass.taken, i, b, slot, value)
+        slots::replace_at(
+            shared,
+            &mut pass.seat,
+            numbers.len(),
+            i,
+            numbers[i],
+            b,
+            slot,
+            value,
+        )
     }
 
     fn change<F: FnOnce(V) -> V>(&mut self, i: usize, b: u64, slot: usize, f: F) {
-        let words = self.words;
+        let (words, numbers) = (self.words, self.numbers);
         let pass = &mut *self.pass;
         let shared = &words.table.shared;
-        slots::change_at(shared, &mut pass.seat, &pass.taken, i, b, slot, f);
+        slots::change_at(
+            shared,
+            &mut pass.seat,
+            numbers.len(),
+            i,
+            numbers[i],
+            b,
+            slot,
+            f,
+        );
     }
 
     fn settled(&mut self, i: usize) -> bool {
-        let words = self.words;
+        let (words, numbers) = (self.words, self.numbers);
         let pass = &mut *self.pass;
         let shared = &words.table.shared;
-        slots::settled_at(shared, &mut pass.seat, &pass.taken, i)
+        slots::settled_at(shared, &mut pass.seat, numbers.len(), i, numbers[i])
     }
 
     fn settle(&mut self, i: usize) {
-        let words = self.words;
+        let (words, numbers) = (self.words, self.numbers);
         let pass = &mut *self.pass;
         let shared = &words.table.shared;
-        slots::settle_at(shared, &mut pass.seat, &pass.taken, i);
+        slots::settle_at(shared, &mut pass.seat, numbers.len(), i, numbers[i]);
     }
 
     fn reserve_double(&mut self, i: usize) -> Result<(), AllocError> {
-        let words = self.words;
+        let (words, numbers) = (self.words, self.numbers);
         let pass = &mut *self.pass;
         let shared = &words.table.shared;
-        slots::reserve_double_at(shared, &mut pass.seat, &pass.taken, i)
+        slots::reserve_double_at(shared, &mut pass.seat, numbers.len(), i, numbers[i])
     }
 
     fn double(&mut self, i: usize) {
-        let words = self.words;
+        let (words, numbers) = (self.words, self.numbers);
         let pass = &mut *self.pass;
         let shared = &words.table.shared;
-        slots::double_at(shared, &mut pass.seat, &pass.taken, i);
+        slots::double_at(shared, &mut pass.seat, numbers.len(), i, numbers[i]);
     }
 
     ghost use Rattle.std.proofs.Common.{refl, ◌∙◌};

@@ -1,5 +1,5 @@
 //! How a table and its passes begin.
-ghost use Rattle.std.specs.Prelude.{◌≡◌, ◌≤◌, ◌^◌, [], ◌∷◌, ℕ, IfOk, OnErr, List};
+ghost use Rattle.std.specs.Prelude.{◌≡◌, ◌≤◌, ◌^◌, [], ◌∷◌, ℕ, IfOk, List};
 ghost use Rattle.ck_model.specs.Ranges.{AreInRange};
 ghost use Rattle.ck_model.specs.declared.history.Entry.{Entry};
 ghost use Rattle.ck_words.specs.Rule.{first_view, counting};
@@ -45,13 +45,12 @@ impl<K: TableKey + Drop, V: Drop> Words<K, V> {
         ensures view { IfOk result (λ r. r.1.view ≡ first_view settings) }
     {
         let count = 1usize << settings.s;
-        let taken = Vec::with_capacity(alloc, count)?;
         let words = Vec::from_elem(alloc, 0u64, count * 8)?;
         let slots = open_slots(alloc, settings)?;
         let Ok((table, seat)) = Table::new(alloc, words.as_slice(), slots, &settings) else {
             return Err(AllocError);
         };
-        Ok((Words { table, settings }, Pass { seat, taken }))
+        Ok((Words { table, settings }, Pass { seat }))
     }
 
     /// A table of empty stripes, and the passes of all callers in the order of their numbers. They have seen nothing. It
@@ -69,26 +68,24 @@ impl<K: TableKey + Drop, V: Drop> Words<K, V> {
         let (words, first) = Words::open(alloc, settings)?;
         passes.push(first)?;
         for _i in 1..settings.callers {
-            let pass = words.deal(alloc, &mut passes[0])?;
+            let pass = words.deal(&mut passes[0]);
             passes.push(pass)?;
         }
         Ok((words, passes))
     }
 
     /// One more pass, with the first of the numbers that the pass `first` keeps. It has seen nothing, and was told the
-    /// power that `first` was told. It is refused only for want of memory, and then `first` is as it was.
-    pub fn deal(&self, alloc: Global, first: &mut Pass<K, V>) -> Result<Pass<K, V>, AllocError>
+    /// power that `first` was told.
+    pub fn deal(&self, first: &mut Pass<K, V>) -> Pass<K, V>
         requires own { IsPassOf self.now first.old }
         requires kept { (m : ℕ) × (others : List (ℕ × List (Entry V))) × (first.old.view.others ≡ (m, []) ∷ others) }
         ensures own { IsPassOf self.now first.new }
-        ensures pass { IfOk result (λ p. IsPassOf self.now p) }
-        ensures idle { IfOk result (λ p. IsIdle p) }
-        ensures view { IfOk result (λ p. p.view ≡ begun first.old.view) }
-        ensures first { IfOk result (λ _. first.new ≡ record first.old { view = opened first.old.view }) }
-        ensures err { OnErr result (first.new ≡ first.old) }
+        ensures pass { IsPassOf self.now result }
+        ensures idle { IsIdle result }
+        ensures view { result.view ≡ begun first.old.view }
+        ensures first { first.new ≡ record first.old { view = opened first.old.view } }
     {
-        let taken = Vec::with_capacity(alloc, self.table.slot_count())?;
         let seat = self.table.shared.split_seat::<Open>(&mut first.seat);
-        Ok(Pass { seat, taken })
+        Pass { seat }
     }
 }

@@ -1,5 +1,6 @@
 use Rattle.std.proofs.Common.{◌∙◌}
-use Rattle.ck_words.proofs.AreHeld.{rise_pair, some_pair, pair_of, are_held, held_then, numbers_then, unchanged_then}
+use Rattle.ck_words.proofs.AreHeld.{rise_pair, some_pair, are_held, held_then, numbers_then, unchanged_then}
+use Rattle.ck_words.specs.Passes.{pair}
 use Rattle.ck_words.proofs.words.Words.hold.Goals as goal
 
 pub returns-clause-held : goal.returns-clause-held
@@ -7,11 +8,11 @@ returns-clause-held g c =
     let h = g.K.TableKey.hash in
     let set = c.args.self.now.settings in
     let p = c.hold_pair.new.pass in
-    let e = c.in_ok-hold_pair.ensures in
-    held_then h set p c.settle_all.new.pass c.settle_all.ensures.settled (are_held h set c.settings.ensures.range p (pair_of c.args.low c.args.high) e.held (rise_pair c.args.low c.args.high c.requires.rising) (some_pair c.args.low c.args.high) e.of_table e.unchanged e.shows)
+    let e = c.in_ok-hold_pair.ensures.taken in
+    held_then h set p c.settle_pair.new.pass c.settle_pair.ensures.settled (are_held h set c.settings.ensures.range p (pair c.args.low c.args.high) e.numbered (rise_pair c.args.low c.args.high c.requires.rising) (some_pair c.args.low c.args.high) e.of_table e.unchanged (e.shows (some_pair c.args.low c.args.high)))
 
 pub returns-clause-numbers : goal.returns-clause-numbers
-returns-clause-numbers g c = numbers_then g.K.TableKey.hash c.args.self.now.settings c.hold_pair.new.pass c.settle_all.new.pass c.settle_all.ensures.settled ∙ c.in_ok-hold_pair.ensures.held
+returns-clause-numbers g c = numbers_then g.K.TableKey.hash c.args.self.now.settings c.hold_pair.new.pass c.settle_pair.new.pass c.settle_pair.ensures.settled ∙ c.in_ok-hold_pair.ensures.taken.numbered
 
 pub returns-clause-unchanged : goal.returns-clause-unchanged
-returns-clause-unchanged g c = unchanged_then g.K.TableKey.hash c.args.self.now.settings c.hold_pair.new.pass c.settle_all.new.pass c.settle_all.ensures.settled c.in_ok-hold_pair.ensures.unchanged
+returns-clause-unchanged g c = unchanged_then g.K.TableKey.hash c.args.self.now.settings c.hold_pair.new.pass c.settle_pair.new.pass c.settle_pair.ensures.settled c.in_ok-hold_pair.ensures.taken.unchanged

@@ -6,8 +6,8 @@ use Rattle.ck_words.specs.Closing.{AreAllPasses}
 use Rattle.ck_words.proofs.Dealt.{first_read, keeps_next, dealt_more, dealt_whole, dealt_all}
 use Rattle.ck_words.proofs.words.Words.open_all.Goals as goal
 
-pub deal-requires-clause-kept : goal.deal-requires-clause-kept
-deal-requires-clause-kept g c =
+pub deal-pass-requires-clause-kept : goal.deal-pass-requires-clause-kept
+deal-pass-requires-clause-kept g c =
     let w : WordsState = record { table = c.words.inside.table.shared.table_id; settings = c.words.inside.settings } in
     let same : w.settings ≡ c.args.settings = ap (λ (x : WordsState). x.settings) c.words.view_is ∙ c.in_ok-words.ensures.settings in
     let callers = ap (λ (x : Settings). x.callers) same in
@@ -18,10 +18,10 @@ loop-i-preserved g c =
     let w : WordsState = record { table = c.words.inside.table.shared.table_id; settings = c.words.inside.settings } in
     let same : w.settings ≡ c.args.settings = ap (λ (x : WordsState). x.settings) c.words.view_is ∙ c.in_ok-words.ensures.settings in
     let callers = ap (λ (x : Settings). x.callers) same in
-    let own : IsPassOf w c.in_ok-pass.pass = subst (λ (x : WordsState). IsPassOf x c.in_ok-pass.pass) (sym c.words.view_is) c.in_ok-pass.ensures.pass in
+    let own : IsPassOf w c.deal-pass.result = subst (λ (x : WordsState). IsPassOf x c.deal-pass.result) (sym c.words.view_is) c.deal-pass.ensures.pass in
     let first = first_read _ _ _ c.index_mut.result.now c.loop-i.invariant c.index_mut.ensures.value in
-    c.in_ok-push-2.ensures.items ∙ ((λ j. set (c.loop-i.invariant j) 0 c.deal.new.first ++ c.in_ok-pass.pass ∷ [])
-    ∙ dealt_more w w.settings c.loop-i._i c.index_mut.result.now c.deal.new.first c.in_ok-pass.pass (omega arith) (omega arith) first own c.in_ok-pass.ensures.idle c.in_ok-pass.ensures.view c.in_ok-pass.ensures.first)
+    c.in_ok-push-2.ensures.items ∙ ((λ j. set (c.loop-i.invariant j) 0 c.deal-pass.new.first ++ c.deal-pass.result ∷ [])
+    ∙ dealt_more w w.settings c.loop-i._i c.index_mut.result.now c.deal-pass.new.first c.deal-pass.result (omega arith) (omega arith) first own c.deal-pass.ensures.idle c.deal-pass.ensures.view c.deal-pass.ensures.first)
 
 pub returns-clause-all : goal.returns-clause-all
 returns-clause-all g c =
