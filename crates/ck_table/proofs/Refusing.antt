@@ -9,18 +9,21 @@ use Rattle.ck_model.specs.declared.history.Why.TheVariants.{NoRoom}
 use Rattle.ck_model.specs.declared.settings.Settings.{Settings}
 use Rattle.ck_model.specs.Map.{Name}
 use Rattle.ck_model.specs.Numbered.{IsIn, numbers}
-use Rattle.ck_model.specs.Contents.{Stripes}
 use Rattle.ck_model.specs.Sections.{Owns}
 use Rattle.ck_model.proofs.Buckets.{index_below, second_below}
 use Rattle.ck_stripe.specs.Stripe.{StripeState}
 use Rattle.ck_section.specs.Stripes.{stripe_at, contents_of}
 use Rattle.ck_section.specs.Places.{HasBoth}
 use Rattle.ck_core.specs.declared.view.View.{View}
+use Rattle.ck_core.specs.Steps.{giving}
+use Rattle.ck_core.specs.Steps.Move.{Give}
 use Rattle.ck_words.specs.Rule.{layout_of}
-use Rattle.ck_words.specs.Passes.{PassState, GivesBack}
+use Rattle.ck_words.specs.Words.{WordsState}
+use Rattle.ck_words.specs.Passes.{PassState, Sends}
 use Rattle.ck_words.specs.Retries.{Stays, StaysBut}
 use Rattle.ck_words.specs.Answering.{IsAnswered}
 use Rattle.ck_words.proofs.Staying.{stays_then}
+use Rattle.ck_words.proofs.Rows.{give_row}
 use Rattle.ck_table.specs.declared.refusal.Why.TheVariants.{Busy, Full}
 use Rattle.ck_table.specs.Refusals.{FindsOwn, IsBusyAt}
 use Rattle.ck_table.specs.Insertions.{reason_of, HasFoundNoRoom, IsInserted, IsRefused, FindsOwnUnlessFull}
@@ -38,9 +41,16 @@ module _ {V : Type 0} where
       (λ e. held_number ss t both.alternate.0 both.alternate.1 (both.alternate.2 ∙ sym e)) of
 
   -- the highest stripe went home and told of the name, and the others went home
-  pub told_full : (hash : Name → ℕ) (set : Settings) (hs : Stripes V) (q : Name) (p p1 p2 : PassState V) → GivesBack hash set hs (Some (q, NoRoom)) p p1 → Stays p1.view p2.view → HasFoundNoRoom q p p2
-  told_full hash set hs q p p1 p2 g = stays_then ((q, NoRoom) ∷ []) [] p.view p1.view p2.view
-      (subst (StaysBut ((q, NoRoom) ∷ []) p.view) (sym g.4) (record { settings = refl; by = refl; mine = refl; others = refl; heard = (refl, refl); noroom = refl; seen = ([], sym (append-nil p.view.seen)); by_others = λ m e. refl; told = omega arith }))
+  module _ (hash : Name → ℕ) (w : WordsState) (q : Name) (p p1 p2 : PassState V) (g : Sends hash w (λ t _. Give t (Some (q, NoRoom))) p p1) where
+    given : p1.view ≡ giving p.view g.0.number g.2.does.1 p.view.held (Some (q, NoRoom))
+    given = give_row hash w.settings p.view p1.view g.0.number (Some (q, NoRoom)) g.2
+
+    pub told_full : Stays p1.view p2.view → HasFoundNoRoom q p p2
+    told_full = stays_then ((q, NoRoom) ∷ []) [] p.view p1.view p2.view
+        (subst (StaysBut ((q, NoRoom) ∷ []) p.view) (sym given) (record { settings = refl; by = refl; mine = refl; others = refl; heard = (refl, refl); noroom = refl; seen = ([], sym (append-nil p.view.seen)); by_others = λ m e. refl; told = omega arith }))
+
+    pub found_full : p2.view.found ≡ p1.view.found → p2.view.found ≡ p.view.found
+    found_full same = same ∙ ap (λ (v : View V). v.found) given
 
   -- it was told after the stripes were taken
   pub told_since : (q : Name) (p p1 p2 z : PassState V) → Stays p.view p1.view → p2.view ≡ p1.view → HasFoundNoRoom q p2 z → HasFoundNoRoom q p z

@@ -8,10 +8,11 @@ use Rattle.ck_core.specs.Steps.{IsAbove}
 use Rattle.ck_section.specs.Stripes.{contents_of}
 use Rattle.ck_words.specs.Rule.{counting}
 use Rattle.ck_words.specs.Words.{WordsState}
-use Rattle.ck_words.specs.Passes.{PassState, IsPassOf, IsIdle, IsUnchanged, ShowsSeen, numbers_of}
-use Rattle.ck_words.specs.Retries.{Stays, IsBusy, TakesWithin, found_again}
+use Rattle.ck_words.specs.Passes.{EachOf, PassState, IsPassOf, IsIdle, IsUnchanged, ShowsSeen, numbers_of}
+use Rattle.ck_words.specs.Retries.{Stays, FindsAmong, IsBusy, TakesWithin, found_again}
 use Rattle.ck_words.proofs.Reversed.{map-append, in_reverse}
-use Rattle.ck_words.proofs.Staying.{stays_same, stays_on, stays_within, stays_finding, shows_taken, unchanged_idle}
+use Rattle.ck_words.proofs.Staying.{stays_same, stays_on, stays_within, stays_finding, shows_taken, unchanged_idle, among_none, among_on, among_within, among_held}
+use Rattle.ck_words.proofs.Seating.{each_append}
 
 pub counting-next : (n a : ℕ) → counting a (suc n) ≡ counting a n ++ (a + n) ∷ []
 counting-next zero a = ap (λ m. m ∷ []) (let e : a ≡ a + 0 = omega arith in e)
@@ -48,7 +49,8 @@ module _ {V : Type 0} (hash : Name → ℕ) (w : WordsState) where
     pub unchanged : IsUnchanged q
     pub stays : Stays p.view q.view
     pub numbered : numbers_of q.stripes ≡ counting 0 n
-    pub found : (before : List ℕ) × (q.view.found ≡ before ++ p.view.found)
+    pub each_of : EachOf w.settings.s q.stripes
+    pub found : FindsAmong (λ t. t < 2 ^ w.settings.s) p q
     pub shows : 0 < n → ShowsSeen hash w.settings q
 
   pub holds_none : (p : PassState V) → IsPassOf w p → IsIdle p → HoldsTo 0 p p
@@ -57,32 +59,34 @@ module _ {V : Type 0} (hash : Name → ℕ) (w : WordsState) where
     unchanged = unchanged_idle p idle;
     stays = stays_same p.view;
     numbered = ap (λ (l : List (StripeState V)). numbers_of l) idle.0;
-    found = ([], refl);
+    each_of = subst (λ (l : List (StripeState V)). EachOf w.settings.s l) (sym idle.0) tt;
+    found = among_none (λ t. t < 2 ^ w.settings.s) p p refl;
     shows = λ l. absurd (omega arith);
   }
 
   pub above_held : (n : ℕ) (p q : PassState V) → HoldsTo n p q → IsAbove n (numbers q.view.held)
   above_held n p q h u i = let b = below_counting n 0 u (subst (IsIn u) h.numbered (numbered_of_held q h.unchanged u i)) in omega arith
 
-  pub holds_more : (n : ℕ) (p q r : PassState V) → HoldsTo n p q → TakesWithin hash w.settings n q r → IsPassOf w r → IsUnchanged r → HoldsTo (n + 1) p r
-  holds_more n p q r h k own unchanged =
-      let stripes : r.stripes ≡ q.stripes ++ k.2.0 ∷ [] = ap (λ (x : PassState V). x.stripes) k.2.4 in
-      record {
-        own = own;
-        unchanged = unchanged;
-        stays = stays_on p.view q.view r.view h.stays (stays_within hash w.settings n q r k);
-        numbered = ap (λ (l : List (StripeState V)). numbers_of l) stripes ∙ (map-append (λ (x : StripeState V). x.number) q.stripes (k.2.0 ∷ []) ∙ ((λ i. h.numbered i ++ k.2.2.0 i ∷ []) ∙ counting-more n));
-        found = (
-          replicate k.0 n ++ h.found.0,
-          ap (λ (x : PassState V). x.view.found) k.2.4 ∙ (ap (λ l. replicate k.0 n ++ l) h.found.1 ∙ sym (append_assoc (replicate k.0 n) h.found.0 p.view.found)),
-        );
-        shows = λ _. shows_taken hash w.settings n q r k;
-      }
+  pub holds_more : (n : ℕ) (p q r : PassState V) → HoldsTo n p q → n < 2 ^ w.settings.s → TakesWithin hash w.settings n q r → IsPassOf w r → IsUnchanged r → HoldsTo (n + 1) p r
+  holds_more n p q r h inside k own unchanged = record {
+    own = own;
+    unchanged = unchanged;
+    stays = stays_on p.view q.view r.view h.stays (stays_within hash w.settings n q r k);
+    numbered = ap (λ (l : List (StripeState V)). numbers_of l) k.2.2 ∙ (map-append (λ (x : StripeState V). x.number) q.stripes (k.2.0 ∷ []) ∙ ((λ i. h.numbered i ++ k.2.1.0 i ∷ []) ∙ counting-more n));
+    each_of = subst (λ (l : List (StripeState V)). EachOf w.settings.s l) (sym k.2.2) (each_append w.settings.s q.stripes k.2.0 h.each_of k.2.1.1);
+    found = among_on (λ t. t < 2 ^ w.settings.s) p q r h.found (among_within (λ t. t < 2 ^ w.settings.s) hash w.settings n q r inside k);
+    shows = λ _. shows_taken hash w.settings n q r k;
+  }
 
   -- the stripe n was found held
   pub busy_after : (turns n : ℕ) (p q r s : PassState V) → HoldsTo n p q → r ≡ found_again turns n q → IsIdle s → s.view.found ≡ r.view.found → IsBusy turns n p s
   busy_after turns n p q r s h again idle same =
       (idle, (h.found.0, same ∙ (ap (λ (x : PassState V). x.view.found) again ∙ (ap (λ l. replicate turns n ++ l) h.found.1 ∙ sym (append_assoc (replicate turns n) h.found.0 p.view.found)))))
+
+  pub found_refused : (turns n : ℕ) (p q r s : PassState V) → HoldsTo n p q → n < 2 ^ w.settings.s → r ≡ found_again turns n q → s.view.found ≡ r.view.found → FindsAmong (λ t. t < 2 ^ w.settings.s) p s
+  found_refused turns n p q r s h inside again same =
+      let P : ℕ → Type 0 = λ t. t < 2 ^ w.settings.s in
+      among_on P p r s (among_on P p q r h.found (among_held P turns n q r inside again)) (among_none P r s same)
 
   pub stays_refused : (turns n : ℕ) (p q r s : PassState V) → HoldsTo n p q → r ≡ found_again turns n q → Stays r.view s.view → Stays p.view s.view
   stays_refused turns n p q r s h again stays =

@@ -10,9 +10,9 @@ use Rattle.ck_model.specs.Arithmetic.{alternate_of, partial_of}
 use Rattle.ck_model.specs.Map.{Name, Map}
 use Rattle.ck_model.specs.Slots.{Slot, slot_at, IsFull, HasFree}
 use Rattle.ck_model.specs.Numbered.{IsIn, numbers, Holds}
-use Rattle.ck_model.specs.Contents.{Layout, Stripes, IsBucketOf, Lawful, bindings, pairs_in, pairs_of, power_of, row_at, rows_of, bucket_in}
-use Rattle.ck_model.specs.Paths.{HasNoRoom, LeadsTo, IsPathFrom, IsStuck, IsTooEmpty, Grounds}
-use Rattle.ck_model.proofs.Numbered.{if_same, if_else, in_held}
+use Rattle.ck_model.specs.Contents.{Layout, Stripes, IsBucketOf, Lawful, pairs_in, pairs_of, power_of, row_at, rows_of, bucket_in}
+use Rattle.ck_model.specs.Paths.{HasNoRoom, IsPathFrom, IsStuck, IsTooEmpty, Grounds}
+use Rattle.ck_model.proofs.Numbered.{if_else}
 use Rattle.ck_core.specs.Steps.{HasGrounds, IsExcused}
 use Rattle.ck_section.proofs.Found.{rows_held, power_held}
 use Rattle.ck_words.proofs.Reversed.{reverse-cons, held_reverse, in_reverse, in_of_reverse, distinct_reverse, lawful_reverse, bindings-reverse}

@@ -93,8 +93,8 @@ module _ {V : Type 0} (hash : Name → ℕ) (w : WordsState) (p : PassState V) (
         let here : told_by w.settings t at_front me3 = told hash w p tz key set z me f (λ x n. told_by x n at_front me3) t front in
         record { slots_left = here.0; step = subst (λ ks. Steps hash w.settings (move t ks) me.0 me3.0) l.now here.1 }
 
-    pub sends : (z3 : TableId) (me3 : Hand V) → Gone me3 → Sends hash w.settings move p (state_of z3 me3)
-    sends z3 me3 g = subst (λ (q : PassState V). Sends hash w.settings move q (state_of z3 me3)) f.pass_is (
+    pub sends : (z3 : TableId) (me3 : Hand V) → Gone me3 → Sends hash w move p (state_of z3 me3)
+    sends z3 me3 g = subst (λ (q : PassState V). Sends hash w move q (state_of z3 me3)) f.pass_is (
       l.stripe,
       l.split ∙ ap (λ has. stripes_in has ++ l.stripe ∷ []) (sym g.slots_left),
       subst (λ n. Steps hash w.settings (move n now) me.0 me3.0) (sym l.own.0) g.step,
@@ -152,7 +152,7 @@ module _ {V : Type 0} (hash : Name → ℕ) (w : WordsState) (p : PassState V) (
           subst (λ (x : Settings × PassState V). HasGrounds (layout_of hash x.0) x.0.min_load (contents_of x.1.stripes) g) (λ i. (same_key hash w p tz key set z me f i, sym f.pass_is i)) grounds in
           let turned_grounds : Lawful k (contents_now at_front.1) → HasGrounds k key.min_load (contents_now at_front.1) g =
           λ lawful. subst (λ ks. HasGrounds k key.min_load ks g) (sym l.now)
-              (has_grounds_reverse k (contents_of (stripes_in me.1)) (subst (Lawful k) (ap reverse l.now ∙ reverse-reverse (contents_of (stripes_in me.1))) (lawful_reverse k (contents_now at_front.1) lawful)) key.min_load g given) in
+          (has_grounds_reverse k (contents_of (stripes_in me.1)) (subst (Lawful k) (ap reverse l.now ∙ reverse-reverse (contents_of (stripes_in me.1))) (lawful_reverse k (contents_now at_front.1) lawful)) key.min_load g given) in
           ready slots id me2 turned renew_move (renew_allowed hash key slots id at_front t l.stripe l.out refl inside_key own_key now_held g turned_sec turned_grounds)
 
       pub renew_tells : (me3 : Hand V) → Gone slots id me2 turned renew_move me3 → Tells slots id me2 turned renew_move me3

@@ -1,28 +1,58 @@
--- What a meeting leaves, from what its steps tell.
-use Rattle.std.proofs.Common.{◌≡◌, ℕ, sym, subst, refl}
-use Rattle.ck_model.specs.declared.settings.Settings.{Settings}
+-- What a meeting and a joined pass leave, from what their steps tell.
+use Rattle.std.proofs.Common.{◌≡◌, ℕ, sym, ap, refl, subst}
 use Rattle.ck_model.specs.Map.{Name}
+use Rattle.ck_core.specs.declared.view.View.{View}
+use Rattle.ck_core.specs.Laws.{Shows}
 use Rattle.ck_core.specs.Steps.{joining, messenger}
-use Rattle.ck_words.specs.Passes.{PassState, Looked}
+use Rattle.ck_core.specs.Steps.Move.{Look}
+use Rattle.ck_words.specs.Rule.{layout_of}
+use Rattle.ck_words.specs.Words.{WordsState}
+use Rattle.ck_words.specs.Passes.{PassState, LooksUp}
 use Rattle.ck_words.specs.Meeting.{Meets}
+use Rattle.ck_words.specs.Closing.{Gathers}
+use Rattle.ck_words.proofs.Rows.{shows_before, shows_after, look_row, look_told}
 
-module _ {V : Type 0} (hash : Name → ℕ) (set : Settings) (a b : PassState V) where
-  -- b heard what a had seen
-  abbrev pub heard : PassState V
-  heard = record b { view = joining b.view (messenger a.view) }
+module _ {V : Type 0} where
+  -- b heard what the view u had seen
+  abbrev pub heard : PassState V → View V → PassState V
+  heard b u = record b { view = joining b.view u }
 
-  at_heard : (q : PassState V) → Looked hash set heard q → Meets a b q
-  at_heard q k = subst (Meets a b) (sym k.5) (record {
-    seen = k.2.0.seen;
-    heard = k.2.0.heard;
-    told = k.3;
-    heard_told = k.4;
-    by = refl;
-    mine = refl;
-    others = refl;
-    held = refl;
-    stripes = refl;
-  })
+  -- and then looked
+  module _ (hash : Name → ℕ) (w : WordsState) (b q : PassState V) (u : View V) (k : LooksUp hash w (heard b u) q) where
+    abbrev looked : PassState V
+    looked = record { table = q.table; view = record (joining b.view u) { seen = k.1.2.log; told = k.1.0 }; stripes = b.stripes }
 
-  pub meets : (p q : PassState V) → p ≡ heard → Looked hash set p q → Meets a b q
-  meets p q is k = at_heard q (subst (λ x. Looked hash set x q) is k)
+    is_looked : q ≡ looked
+    is_looked = λ i. record { table = q.table; view = look_row hash w.settings (joining b.view u) q.view 0 k.1.0 k.1.2 i; stripes = k.0 i }
+
+    before : Shows (layout_of hash w.settings) w.settings.callers k.1.2.log (joining b.view u)
+    before = shows_before hash w.settings (Look 0 k.1.0) (joining b.view u) q.view k.1.2
+
+    after : Shows (layout_of hash w.settings) w.settings.callers k.1.2.log looked.view
+    after = subst (Shows (layout_of hash w.settings) w.settings.callers k.1.2.log) (ap (λ (x : PassState V). x.view) is_looked) (shows_after hash w.settings (Look 0 k.1.0) (joining b.view u) q.view k.1.2)
+
+  module _ (hash : Name → ℕ) (w : WordsState) (p q : PassState V) where
+    pub gathers : (b o : PassState V) → p ≡ heard b o.view → LooksUp hash w p q → Gathers hash w.settings b o q
+    gathers b o is l =
+        let k : LooksUp hash w (heard b o.view) q = subst (λ x. LooksUp hash w x q) is l in
+        let early = before hash w b q o.view k in
+        subst (Gathers hash w.settings b o) (sym (is_looked hash w b q o.view k))
+        (record { by = refl; mine = refl; others = refl; held = refl; stripes = refl; seen = early.seen; heard = early.heard; shows = after hash w b q o.view k })
+
+    pub meets : (a b : PassState V) → p ≡ heard b (messenger a.view) → LooksUp hash w p q → Meets a b q
+    meets a b is l =
+        let k : LooksUp hash w (heard b (messenger a.view)) q = subst (λ x. LooksUp hash w x q) is l in
+        let early = before hash w b q (messenger a.view) k in
+        subst (Meets a b) (sym (is_looked hash w b q (messenger a.view) k)) (record {
+          seen = early.seen;
+          heard = early.heard;
+          told = look_told hash w.settings (joining b.view (messenger a.view)) q.view 0 k.1.0 k.1.2;
+          heard_told = k.1.1;
+          by = refl;
+          mine = refl;
+          others = refl;
+          found = refl;
+          noroom = refl;
+          held = refl;
+          stripes = refl;
+        })

@@ -12,17 +12,21 @@ use Rattle.ck_model.specs.declared.history.Entry.{Entry}
 use Rattle.ck_model.specs.declared.settings.Settings.{Settings}
 use Rattle.ck_model.specs.Map.{Name, Map, Answers, AnswersTwo, Step}
 use Rattle.ck_model.specs.History.{IsLegal}
-use Rattle.ck_model.specs.Contents.{Lawful, bindings}
+use Rattle.ck_model.specs.Contents.{Stripes, Lawful, bindings}
 use Rattle.ck_model.specs.Sections.{Section}
 use Rattle.ck_section.specs.Stripes.{contents_of}
 use Rattle.ck_core.specs.declared.view.View.{View}
+use Rattle.ck_core.specs.Steps.{deciding}
+use Rattle.ck_core.specs.Steps.Move.{Decide}
 use Rattle.ck_core.specs.Laws.{Answered}
 use Rattle.ck_core.proofs.Shown.{answered}
 use Rattle.ck_words.specs.Rule.{layout_of}
-use Rattle.ck_words.specs.Passes.{PassState, Decided}
+use Rattle.ck_words.specs.Steps.{Steps}
+use Rattle.ck_words.specs.Passes.{PassState}
 use Rattle.ck_words.specs.Retries.{Stays}
 use Rattle.ck_words.specs.Answering.{HasDone, IsAnswered}
 use Rattle.ck_words.proofs.Reversed.{lawful_reverse}
+use Rattle.ck_words.proofs.Rows.{shows_before, shows_after, decide_row}
 
 pub number_in : (o : Option ℕ) → IsSome o → (m : ℕ) × (o ≡ Some m)
 number_in None h = absurd (search rules)
@@ -101,15 +105,18 @@ module _ {V : Type 0} where
     its_caller m e = e ∙ ap Some (sym (ap (λ (o : Option ℕ). unwrap_or o 0) e))
 
     -- it was decided, and nothing else happened since
-    pub is_answered : (m : ℕ) → p.view.by ≡ Some m → (q1 q : PassState V) → Decided hash set (reverse (contents_of p.stripes)) (entry_for call p) p q1 → Stays q1.view q.view → q.view.seen ≡ q1.view.seen
+    pub is_answered : (m : ℕ) → p.view.by ≡ Some m → (t : ℕ) (ks : Stripes V) (q1 q : PassState V) → Steps hash set (Decide t ks (entry_for call p)) p.view q1.view → Stays q1.view q.view → q.view.seen ≡ q1.view.seen
         → (r : Reply V) → HasDone hash set call r p → IsAnswered call r p q
-    is_answered m by q1 q d s seen r done =
-        let l = lawful_reverse (layout_of hash set) p.view.held d.3.0.lawful in
+    is_answered m by t ks q1 q d s seen r done =
+        let row : q1.view ≡ deciding p.view t ks d.log (entry_for call p) = decide_row hash set p.view q1.view t ks (entry_for call p) d in
+        let before = shows_before hash set (Decide t ks (entry_for call p)) p.view q1.view d in
+        let after = shows_after hash set (Decide t ks (entry_for call p)) p.view q1.view d in
+        let l = lawful_reverse (layout_of hash set) p.view.held before.lawful in
         let e : Entry V = entry_for call p in
         let number : e.by ≡ m = ap (λ (o : Option ℕ). unwrap_or o 0) by in
         let own : Entry V = record { by = m; call = call; reply = r } in
         let same : e ≡ own = (λ j. record { by = number j; call = call; reply = sym (reply_done r done l) j }) in
-        let told : Answered p.view e q1.view = answered (layout_of hash set) set.callers d.1 p.view q1.view e (its_caller m by) d.3.0 d.3.1 (ap (λ (v : View V). v.seen) d.4) (ap (λ (v : View V). v.mine) d.4) in
+        let told : Answered p.view e q1.view = answered (layout_of hash set) set.callers d.log p.view q1.view e (its_caller m by) before after (ap (λ (v : View V). v.seen) row) (ap (λ (v : View V). v.mine) row) in
         record {
           by = m;
           caller = by;
@@ -121,14 +128,14 @@ module _ {V : Type 0} where
             mine = s.mine ∙ told.mine;
           });
           stays = record {
-            settings = s.settings ∙ ap (λ (v : View V). v.settings) d.4;
-            by = s.by ∙ ap (λ (v : View V). v.by) d.4;
+            settings = s.settings ∙ ap (λ (v : View V). v.settings) row;
+            by = s.by ∙ ap (λ (v : View V). v.by) row;
             mine = refl;
-            others = s.others ∙ ap (λ (v : View V). v.others) d.4;
-            heard = (s.heard.0 ∙ ap (λ (v : View V). v.heard) d.4, s.heard.1 ∙ ap (λ (v : View V). v.heard_told) d.4);
-            noroom = s.noroom ∙ ap (λ (v : View V). v.noroom) d.4;
+            others = s.others ∙ ap (λ (v : View V). v.others) row;
+            heard = (s.heard.0 ∙ ap (λ (v : View V). v.heard) row, s.heard.1 ∙ ap (λ (v : View V). v.heard_told) row);
+            noroom = s.noroom ∙ ap (λ (v : View V). v.noroom) row;
             seen = ([], sym (append-nil q.view.seen));
             by_others = λ n e. refl;
-            told = (let a : q1.view.told ≡ p.view.told = ap (λ (v : View V). v.told) d.4 in let b = s.told in omega arith);
+            told = (let a : q1.view.told ≡ p.view.told = ap (λ (v : View V). v.told) row in let b = s.told in omega arith);
           };
         }

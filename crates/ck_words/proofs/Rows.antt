@@ -1,5 +1,5 @@
 -- What the rows of the core leave of a caller's view.
-use Rattle.std.proofs.Common.{◌≡◌, ℕ, ◌<◌, ◌≤◌, List, [], ◌∷◌, ◌++◌, sym, ap, ◌∙◌, subst, ⊎_elim, arith, Option, None}
+use Rattle.std.proofs.Common.{◌≡◌, ℕ, ◌≤◌, ◌∷◌, sym, ap, ◌∙◌, subst, ⊎_elim, arith, Option, None}
 use Rattle.std.specs.Prelude.{slice_set}
 use mathlib.Core.Option.{some, some-injective}
 use lib.ListN.{get_elem?}
@@ -8,7 +8,7 @@ use Rattle.ck_model.specs.declared.history.Why.{Why}
 use Rattle.ck_model.specs.declared.contents.Content.{Content}
 use Rattle.ck_model.specs.declared.settings.Settings.{Settings}
 use Rattle.ck_model.specs.Map.{Name}
-use Rattle.ck_model.specs.Numbered.{IsIn, numbers, Holds}
+use Rattle.ck_model.specs.Numbered.{numbers, Holds}
 use Rattle.ck_model.specs.Contents.{Stripes}
 use Rattle.ck_model.proofs.Numbered.{in_held}
 use Rattle.ck_core.specs.declared.view.View.{View}

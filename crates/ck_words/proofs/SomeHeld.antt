@@ -124,14 +124,14 @@ module _ {V : Type 0} (hash : Name → ℕ) (w : WordsState) (ts : List ℕ) whe
     pub first_more : (r : PassState V) → IsNonDecreasing ts → (0 < n → get_or ts (n - 1) 0 ≢ get_or ts n 0) → TakesWithin hash w.settings (get_or ts n 0) q r → IsPassOf w r → IsUnchanged r → HoldsFirst (n + 1) p r
     first_more r up fresh k own unchanged =
         let t : ℕ = get_or ts n 0 in
-        let stripes : r.stripes ≡ q.stripes ++ k.2.0 ∷ [] = ap (λ (x : PassState V). x.stripes) k.2.4 in
-        let named : numbers_of r.stripes ≡ numbers_of q.stripes ++ t ∷ [] = ap (λ (l : List (StripeState V)). numbers_of l) stripes ∙ (map-append (λ (x : StripeState V). x.number) q.stripes (k.2.0 ∷ []) ∙ λ i. numbers_of q.stripes ++ k.2.2.0 i ∷ []) in
+        let stripes : r.stripes ≡ q.stripes ++ k.2.0 ∷ [] = k.2.2 in
+        let named : numbers_of r.stripes ≡ numbers_of q.stripes ++ t ∷ [] = ap (λ (l : List (StripeState V)). numbers_of l) stripes ∙ (map-append (λ (x : StripeState V). x.number) q.stripes (k.2.0 ∷ []) ∙ λ i. numbers_of q.stripes ++ k.2.1.0 i ∷ []) in
         record {
           own = own;
           unchanged = unchanged;
           stays = stays_on p.view q.view r.view h.stays (stays_within hash w.settings t q r k);
           rising = subst Rise (sym named) (rise_more (numbers_of q.stripes) t h.rising (below_next up fresh));
-          each_of = subst (λ (l : List (StripeState V)). EachOf w.settings.s l) (sym stripes) (each_append w.settings.s q.stripes k.2.0 h.each_of k.2.2.1);
+          each_of = subst (λ (l : List (StripeState V)). EachOf w.settings.s l) (sym stripes) (each_append w.settings.s q.stripes k.2.0 h.each_of k.2.1.1);
           each = λ i l. subst (λ ns. IsIn (get_or ts i 0) ns) (sym named) (dite (ℕ_discrete i n)
               (λ e. subst (λ m. IsIn (get_or ts m 0) (numbers_of q.stripes ++ t ∷ [])) (sym e) (at_end (numbers_of q.stripes) t))
               (λ ne. in_front (numbers_of q.stripes) t (get_or ts i 0) (h.each i (omega arith))));

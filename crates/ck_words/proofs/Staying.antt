@@ -1,5 +1,5 @@
 -- What stays as it is over steps that decide nothing.
-use Rattle.std.proofs.Common.{◌≡◌, ℕ, ◌<◌, List, [], ◌∷◌, ◌++◌, ◌⊎◌, inl, inr, zero, suc, length, reverse, replicate, append-nil, append_assoc, length-append, sym, refl, ap, ◌∙◌, subst, ⊎_elim, arith, None}
+use Rattle.std.proofs.Common.{◌≡◌, ℕ, ◌<◌, List, [], ◌∷◌, ◌++◌, ◌⊎◌, ◌+◌, false, add-one, inl, inr, zero, suc, length, reverse, replicate, append-nil, append_assoc, length-append, sym, refl, ap, ◌∙◌, subst, ⊎_elim, arith, None}
 use Rattle.ck_model.specs.declared.history.Entry.{Entry}
 use Rattle.ck_model.specs.declared.history.Why.{Why}
 use Rattle.ck_model.specs.declared.settings.Settings.{Settings}
@@ -10,13 +10,16 @@ use Rattle.ck_model.specs.Contents.{Stripes}
 use Rattle.ck_model.proofs.Histories.{calls_by-append}
 use Rattle.ck_stripe.specs.Stripe.{StripeState}
 use Rattle.ck_core.specs.declared.view.View.{View}
-use Rattle.ck_core.specs.Steps.{IsAbove}
+use Rattle.ck_core.specs.Steps.{IsAbove, giving}
+use Rattle.ck_core.specs.Steps.Move.{Take, GiveRest}
 use Rattle.ck_core.specs.Laws.{Shows}
 use Rattle.ck_section.specs.Stripes.{contents_of}
 use Rattle.std.proofs.lemmas.List.{reverse-reverse}
 use Rattle.ck_words.specs.Rule.{layout_of}
 use Rattle.ck_words.proofs.Seating.{each_append}
-use Rattle.ck_words.specs.Passes.{EachOf, PassState, Takes, GivesBack, IsIdle, IsUnchanged, ShowsSeen, numbers_of}
+use Rattle.ck_words.specs.Passes.{EachOf, PassState, IsPassOf, TakesStripe, TriesStripe, Sends, IsIdle, IsUnchanged, ShowsSeen, numbers_of}
+use Rattle.ck_words.specs.Words.{WordsState}
+use Rattle.ck_words.proofs.Rows.{shows_before, shows_after, take_row, find_row, rest_row}
 use Rattle.ck_words.proofs.Reversed.{map-append}
 use Rattle.ck_words.specs.Retries.{Stays, StaysBut, FindsAmong, IsBusy, found_again, TakesWithin}
 
@@ -52,30 +55,55 @@ module _ {V : Type 0} where
   pub stays_on : (u v w : View V) → Stays u v → Stays v w → Stays u w
   stays_on = stays_then [] []
 
-  -- a stripe went home unchanged
-  pub stays_giving : (hash : Name → ℕ) (set : Settings) (hs : Stripes V) (u : View V) (p q : PassState V) → GivesBack hash set hs None p q → Stays u p.view → Stays u q.view
-  stays_giving hash set hs u p q g s = stays_on u p.view q.view s
-      (subst (Stays p.view) (sym g.4) (record { settings = refl; by = refl; mine = refl; others = refl; heard = (refl, refl); noroom = refl; seen = ([], sym (append-nil p.view.seen)); by_others = λ m e. refl; told = omega arith }))
+  -- the rest of a section went home
+  module _ (hash : Name → ℕ) (w : WordsState) (p q : PassState V) (g : Sends hash w (λ t _. GiveRest t) p q) where
+    rest_view : q.view ≡ giving p.view g.0.number g.2.does.1 p.view.held None
+    rest_view = rest_row hash w.settings p.view q.view g.0.number g.2
 
-  pub found_giving : (hash : Name → ℕ) (set : Settings) (hs : Stripes V) (p q : PassState V) → GivesBack hash set hs None p q → q.view.found ≡ p.view.found
-  found_giving hash set hs p q g = ap (λ (v : View V). v.found) g.4
+    pub stays_giving : (u : View V) → Stays u p.view → Stays u q.view
+    stays_giving u s = stays_on u p.view q.view s
+        (subst (Stays p.view) (sym rest_view) (record { settings = refl; by = refl; mine = refl; others = refl; heard = (refl, refl); noroom = refl; seen = ([], sym (append-nil p.view.seen)); by_others = λ m e. refl; told = omega arith }))
 
-  pub seen_giving : (hash : Name → ℕ) (set : Settings) (hs : Stripes V) (p q : PassState V) → GivesBack hash set hs None p q → q.view.seen ≡ p.view.seen
-  seen_giving hash set hs p q g = ap (λ (v : View V). v.seen) g.4
+    pub found_giving : q.view.found ≡ p.view.found
+    found_giving = ap (λ (v : View V). v.found) rest_view
 
-  pub fewer_giving : (hash : Name → ℕ) (set : Settings) (hs : Stripes V) (p q : PassState V) → GivesBack hash set hs None p q → length q.stripes < length p.stripes
-  fewer_giving hash set hs p q g = let e = ap length g.2 in let l = length-append q.stripes (g.0 ∷ []) in omega arith
+    pub seen_giving : q.view.seen ≡ p.view.seen
+    seen_giving = ap (λ (v : View V). v.seen) rest_view
+
+    pub fewer_giving : length q.stripes < length p.stripes
+    fewer_giving = let e = ap length g.1 in let l = length-append q.stripes (g.0 ∷ []) in omega arith
 
   -- a stripe was taken
-  pub stays_taking : (hash : Name → ℕ) (set : Settings) (t : ℕ) (p q : PassState V) → Takes hash set t p q → Stays p.view q.view
-  stays_taking hash set t p q k = subst (λ (x : PassState V). Stays p.view x.view) (sym k.4)
-      (record { settings = refl; by = refl; mine = refl; others = refl; heard = (refl, refl); noroom = refl; seen = k.3.0.seen; by_others = λ m e. k.3.0.unseen m e k.3.0.seen.0 k.3.0.seen.1; told = omega arith })
+  pub stays_taking : (hash : Name → ℕ) (set : Settings) (t : ℕ) (p q : PassState V) → TakesStripe hash set t p q → Stays p.view q.view
+  stays_taking hash set t p q k =
+      let shows = shows_before hash set (Take t) p.view q.view k.3 in
+      subst (Stays p.view) (sym (take_row hash set p.view q.view t k.3))
+      (record { settings = refl; by = refl; mine = refl; others = refl; heard = (refl, refl); noroom = refl; seen = shows.seen; by_others = λ m e. shows.unseen m e shows.seen.0 shows.seen.1; told = omega arith })
+
+  -- the stripe was found held once more
+  pub found_next : (hash : Name → ℕ) (w : WordsState) (n t : ℕ) (p q r : PassState V) → q ≡ found_again n t p → IsPassOf w q → IsPassOf w r → TriesStripe hash w t false q r → r ≡ found_again (n + 1) t p
+  found_next hash w n t p q r again own own2 k =
+      let once : r ≡ found_again 1 t q = λ i. record { table = (own2.0 ∙ sym own.0) i; view = find_row hash w.settings q.view r.view t k.1 i; stripes = k.0 i } in
+      once ∙ (ap (found_again 1 t) again ∙ ap (λ m. found_again m t p) (sym (add-one n)))
 
   pub stays_finding : (n t : ℕ) (p : PassState V) → Stays p.view (found_again n t p).view
   stays_finding n t p = record { settings = refl; by = refl; mine = refl; others = refl; heard = (refl, refl); noroom = refl; seen = ([], sym (append-nil p.view.seen)); by_others = λ m e. refl; told = omega arith }
 
-  pub stays_within : (hash : Name → ℕ) (set : Settings) (t : ℕ) (p q : PassState V) → TakesWithin hash set t p q → Stays p.view q.view
-  stays_within hash set t p q k = stays_on p.view (found_again k.0 t p).view q.view (stays_finding k.0 t p) (stays_taking hash set t (found_again k.0 t p) q k.2)
+  module _ (hash : Name → ℕ) (set : Settings) (t : ℕ) (p q : PassState V) (k : TakesWithin hash set t p q) where
+    within_view : q.view ≡ record (found_again k.0 t p).view { held = (t, k.2.3.does.1) ∷ p.view.held; seen = k.2.3.log }
+    within_view = take_row hash set (found_again k.0 t p).view q.view t k.2.3
+
+    pub stays_within : Stays p.view q.view
+    stays_within = stays_on p.view (found_again k.0 t p).view q.view (stays_finding k.0 t p) (stays_taking hash set t (found_again k.0 t p) q k.2)
+
+    pub found_within : q.view.found ≡ replicate k.0 t ++ p.view.found
+    found_within = ap (λ (v : View V). v.found) within_view
+
+    pub held_within : numbers q.view.held ≡ t ∷ numbers p.view.held
+    held_within = ap (λ (v : View V). numbers v.held) within_view
+
+    pub shows_taken : ShowsSeen hash set q
+    shows_taken = subst (λ log. Shows (layout_of hash set) set.callers log q.view) (sym (ap (λ (v : View V). v.seen) within_view)) (shows_after hash set (Take t) (found_again k.0 t p).view q.view k.2.3)
 
   pub no_stripes : (xs : List (StripeState V)) → ¬ (0 < length xs) → xs ≡ []
   no_stripes [] h = refl
@@ -92,28 +120,25 @@ module _ {V : Type 0} where
 
   module _ (hash : Name → ℕ) (set : Settings) (low high : ℕ) (p q r s : PassState V) (idle : IsIdle p) (first : TakesWithin hash set low p q) where
     one_held : numbers q.view.held ≡ low ∷ []
-    one_held = ap (λ (x : PassState V). numbers x.view.held) first.2.4 ∙ ap (λ (hs : Stripes V). low ∷ numbers hs) idle.1
+    one_held = held_within hash set low p q first ∙ ap (λ (hs : Stripes V). low ∷ numbers hs) idle.1
 
     pub above_one : low < high → IsAbove high (numbers q.view.held)
     above_one l u h = ⊎_elim (λ (e : low ≡ u). subst (λ x. x < high) e l) (λ z. absurd z) (subst (IsIn u) one_held h)
 
     pub numbers_one : numbers_of q.stripes ≡ low ∷ []
-    numbers_one = ap (λ (x : PassState V). numbers_of x.stripes) first.2.4 ∙ (ap (λ (l : List (StripeState V)). numbers_of (l ++ first.2.0 ∷ [])) idle.0 ∙ λ i. first.2.2.0 i ∷ [])
+    numbers_one = ap (λ (l : List (StripeState V)). numbers_of l) first.2.2 ∙ (ap (λ (l : List (StripeState V)). numbers_of (l ++ first.2.0 ∷ [])) idle.0 ∙ λ i. first.2.1.0 i ∷ [])
 
     pub numbers_two : TakesWithin hash set high q r → numbers_of r.stripes ≡ low ∷ high ∷ []
-    numbers_two k = ap (λ (x : PassState V). numbers_of x.stripes) k.2.4 ∙ (map-append (λ (x : StripeState V). x.number) q.stripes (k.2.0 ∷ []) ∙ λ i. numbers_one i ++ k.2.2.0 i ∷ [])
+    numbers_two k = ap (λ (l : List (StripeState V)). numbers_of l) k.2.2 ∙ (map-append (λ (x : StripeState V). x.number) q.stripes (k.2.0 ∷ []) ∙ λ i. numbers_one i ++ k.2.1.0 i ∷ [])
 
     pub each_one : EachOf set.s q.stripes
-    each_one = subst (λ (l : List (StripeState V)). EachOf set.s l) (sym (ap (λ (x : PassState V). x.stripes) first.2.4 ∙ ap (λ (l : List (StripeState V)). l ++ first.2.0 ∷ []) idle.0)) (first.2.2.1, tt)
+    each_one = subst (λ (l : List (StripeState V)). EachOf set.s l) (sym (first.2.2 ∙ ap (λ (l : List (StripeState V)). l ++ first.2.0 ∷ []) idle.0)) (first.2.1.1, tt)
 
     pub each_two : TakesWithin hash set high q r → EachOf set.s r.stripes
-    each_two k = subst (λ (l : List (StripeState V)). EachOf set.s l) (sym (ap (λ (x : PassState V). x.stripes) k.2.4)) (each_append set.s q.stripes k.2.0 each_one k.2.2.1)
+    each_two k = subst (λ (l : List (StripeState V)). EachOf set.s l) (sym k.2.2) (each_append set.s q.stripes k.2.0 each_one k.2.1.1)
 
     pub busy_second : (turns : ℕ) → r ≡ found_again turns high q → IsIdle s → s.view.found ≡ r.view.found → IsBusy turns high p s
-    busy_second turns again none same = (none, (replicate first.0 low, same ∙ (ap (λ (x : PassState V). x.view.found) again ∙ (ap (λ (l : List ℕ). replicate turns high ++ l) (ap (λ (x : PassState V). x.view.found) first.2.4) ∙ sym (append_assoc (replicate turns high) (replicate first.0 low) p.view.found)))))
-
-  pub shows_taken : (hash : Name → ℕ) (set : Settings) (t : ℕ) (p q : PassState V) → TakesWithin hash set t p q → ShowsSeen hash set q
-  shows_taken hash set t p q k = subst (λ log. Shows (layout_of hash set) set.callers log q.view) (sym (ap (λ (x : PassState V). x.view.seen) k.2.4)) k.2.3.1
+    busy_second turns again none same = (none, (replicate first.0 low, same ∙ (ap (λ (x : PassState V). x.view.found) again ∙ (ap (λ (l : List ℕ). replicate turns high ++ l) (found_within hash set low p q first) ∙ sym (append_assoc (replicate turns high) (replicate first.0 low) p.view.found)))))
 
   pub busy_first : (turns t : ℕ) (p q : PassState V) → IsIdle p → q ≡ found_again turns t p → IsBusy turns t p q
   busy_first turns t p q idle again = subst (IsBusy turns t p) (sym again) (idle, ([], ap (λ l. l ++ p.view.found) (sym (append-nil (replicate turns t)))))
@@ -129,7 +154,7 @@ module _ {V : Type 0} where
   among_on P p q r f g = (g.0 ++ f.0, g.1 ∙ (ap (λ l. g.0 ++ l) f.1 ∙ sym (append_assoc g.0 f.0 p.view.found)), (λ t i. ⊎_elim (g.2 t) (f.2 t) (in_parts g.0 f.0 t i)))
 
   pub among_within : (P : ℕ → Type 0) (hash : Name → ℕ) (set : Settings) (t : ℕ) (p q : PassState V) → P t → TakesWithin hash set t p q → FindsAmong P p q
-  among_within P hash set t p q h k = among_again P k.0 t p q h (ap (λ (x : PassState V). x.view.found) k.2.4)
+  among_within P hash set t p q h k = among_again P k.0 t p q h (found_within hash set t p q k)
 
   pub among_held : (P : ℕ → Type 0) (n t : ℕ) (p q : PassState V) → P t → q ≡ found_again n t p → FindsAmong P p q
   among_held P n t p q h k = among_again P n t p q h (ap (λ (x : PassState V). x.view.found) k)

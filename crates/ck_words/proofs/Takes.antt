@@ -1,5 +1,5 @@
 -- What a take asks and leaves, at the fields of words and pass.
-use Rattle.std.proofs.Common.{◌≡◌, ◌≢◌, ℕ, ◌*◌, ◌/◌, ◌^◌, ◌<◌, ◌≤◌, List, [], ◌∷◌, ◌++◌, length, reverse, sym, refl, ap, ◌∙◌, subst, arith, Some}
+use Rattle.std.proofs.Common.{◌≡◌, ◌≢◌, ℕ, ◌*◌, ◌/◌, ◌^◌, ◌<◌, ◌≤◌, List, [], ◌∷◌, ◌++◌, length, reverse, sym, ap, ◌∙◌, subst, arith, false, Some}
 use Rattle.std.proofs.Math.Nat.{one-le-pow}
 use Rattle.atomic_table.specs.Table.{turned, Allows}
 use Rattle.atomic_table.specs.Seated.{TableId}
@@ -15,7 +15,7 @@ use Rattle.ck_words.specs.Rule.{Slot, Hand, RuleOf, IsNumbered}
 use Rattle.ck_words.specs.Steps.{Steps}
 use Rattle.ck_words.specs.Plays.{stripe_in, SeatTries, SeatLooks}
 use Rattle.ck_words.specs.Words.{WordsState, IsLaidOut}
-use Rattle.ck_words.specs.Passes.{PassState, IsSeated, IsPassOf, IsUnchanged, TakesStripe, FindsStripe, LooksUp, state_of, stripes_in}
+use Rattle.ck_words.specs.Passes.{PassState, IsSeated, IsPassOf, IsUnchanged, TakesStripe, TriesStripe, LooksUp, state_of, stripes_in}
 use Rattle.ck_words.proofs.Allowed.{take_allowed, look_allowed}
 use Rattle.ck_words.proofs.Reversed.{map-append, reverse-cons}
 use Rattle.ck_words.proofs.Rows.{take_row, take_held, find_row, look_row}
@@ -144,8 +144,8 @@ module _ {V : Type 0} (hash : Name → ℕ) (w : WordsState) (p : PassState V) (
         let row = find_row hash w.settings me.0 me2.0 t k.1 in
         record { slots = k.0; settings = ap (λ (v : View V). v.settings) row; held = ap (λ (v : View V). v.held) row; step = k.1 }
 
-    pub finds : (z2 : TableId) (me2 : Hand V) → Found me2 → FindsStripe hash w.settings t p (state_of z2 me2)
-    finds z2 me2 k = subst (λ (q : PassState V). FindsStripe hash w.settings t q (state_of z2 me2)) f.pass_is (ap stripes_in k.slots, k.step)
+    pub finds : (z2 : TableId) (me2 : Hand V) → Found me2 → TriesStripe hash w t false p (state_of z2 me2)
+    finds z2 me2 k = subst (λ (q : PassState V). TriesStripe hash w t false q (state_of z2 me2)) f.pass_is (ap stripes_in k.slots, k.step)
 
     pub found_unchanged : (z2 : TableId) (me2 : Hand V) → Found me2 → IsUnchanged p → IsUnchanged (state_of z2 me2)
     found_unchanged z2 me2 k old =
@@ -173,8 +173,8 @@ module _ {V : Type 0} (hash : Name → ℕ) (w : WordsState) (p : PassState V) (
     pub look_settings : me2.0.settings ≡ me.0.settings
     look_settings = ap (λ (v : View V). v.settings) look_view
 
-    pub looked : (z2 : TableId) → LooksUp hash w.settings p (state_of z2 me2)
-    looked z2 = subst (λ (q : PassState V). LooksUp hash w.settings q (state_of z2 me2)) f.pass_is (ap stripes_in looks.0, looks.1)
+    pub looked : (z2 : TableId) → LooksUp hash w p (state_of z2 me2)
+    looked z2 = subst (λ (q : PassState V). LooksUp hash w q (state_of z2 me2)) f.pass_is (ap stripes_in looks.0, looks.1)
 
     pub looked_seated : (ns : List ℕ) (room : ℕ) (z2 : TableId) → IsSeated z me ns room → z2 ≡ z → IsSeated z2 me2 ns room
     looked_seated ns room z2 s same = still_seated ns room z2 me2 s same look_settings (ap (λ (v : View V). v.held) look_view) looks.0

@@ -1,5 +1,5 @@
 -- What contracts see of a pass.
-use Rattle.std.specs.Prelude.{◌≡◌, ℕ, zero, suc, ◌≤◌, List, [], ◌∷◌, ◌++◌, map, reverse, Some}
+use Rattle.std.specs.Prelude.{◌≡◌, ℕ, zero, suc, ◌≤◌, List, [], ◌∷◌, ◌++◌, map, reverse, Bool, MatchBool, Some}
 use Rattle.atomic_table.specs.Seated.{TableId}
 use Rattle.atomic_table.specs.Table.{turned}
 use Rattle.ck_model.specs.declared.settings.Settings.{Settings}
@@ -83,14 +83,14 @@ module _ {V : Type 0} where
   abbrev pub TakesStripe : (Name → ℕ) → Settings → ℕ → PassState V → PassState V → Type 0
   TakesStripe hash set t p q = (stripe : StripeState V) × IsNumbered set.s t stripe × (q.stripes ≡ p.stripes ++ stripe ∷ []) × Steps hash set (Take t) p.view q.view
 
-  -- It found the stripe t held.
-  abbrev pub FindsStripe : (Name → ℕ) → Settings → ℕ → PassState V → PassState V → Type 0
-  FindsStripe hash set t p q = (q.stripes ≡ p.stripes) × Steps hash set (FindHeld t) p.view q.view
+  -- It took the stripe t, or found it held.
+  abbrev pub TriesStripe : (Name → ℕ) → WordsState → ℕ → Bool → PassState V → PassState V → Type 0
+  TriesStripe hash w t taken p q = MatchBool taken (TakesStripe hash w.settings t p q) ((q.stripes ≡ p.stripes) × Steps hash w.settings (FindHeld t) p.view q.view)
 
-  -- Its highest stripe went home by the step for its number and for what the stripes contained then.
-  abbrev pub Sends : (Name → ℕ) → Settings → (ℕ → Stripes V → Move V) → PassState V → PassState V → Type 0
-  Sends hash set move p q = (stripe : StripeState V) × (p.stripes ≡ q.stripes ++ stripe ∷ []) × Steps hash set (move stripe.number (reverse (contents_of p.stripes))) p.view q.view
+  -- Its highest stripe went home, by the step for its number and for what the stripes contained.
+  abbrev pub Sends : (Name → ℕ) → WordsState → (ℕ → Stripes V → Move V) → PassState V → PassState V → Type 0
+  Sends hash w move p q = (stripe : StripeState V) × (p.stripes ≡ q.stripes ++ stripe ∷ []) × Steps hash w.settings (move stripe.number (reverse (contents_of p.stripes))) p.view q.view
 
   -- It looked, and was told no power below the one that it had heard.
-  abbrev pub LooksUp : (Name → ℕ) → Settings → PassState V → PassState V → Type 0
-  LooksUp hash set p q = (q.stripes ≡ p.stripes) × ((power : ℕ) × (p.view.heard_told ≤ power) × Steps hash set (Look 0 power) p.view q.view)
+  abbrev pub LooksUp : (Name → ℕ) → WordsState → PassState V → PassState V → Type 0
+  LooksUp hash w p q = (q.stripes ≡ p.stripes) × ((power : ℕ) × (p.view.heard_told ≤ power) × Steps hash w.settings (Look 0 power) p.view q.view)

@@ -1,13 +1,13 @@
 //! The steps on the lock words. Each is one atomic operation on one word, and nothing else changes what a pass knows or
 //! which stripes it holds.
-ghost use Rattle.std.specs.Prelude.{◌≡◌, ◌<◌, ◌^◌, Some, None, MatchBool, length, reverse};
+ghost use Rattle.std.specs.Prelude.{◌≡◌, ◌<◌, ◌^◌, Some, None, length, reverse};
 ghost use Rattle.ck_model.specs.Numbered.{numbers};
 ghost use Rattle.ck_model.specs.Contents.{Lawful};
 ghost use Rattle.ck_model.specs.Sections.{Section, IdentitySection};
 ghost use Rattle.ck_core.specs.Steps.{Move, IsAbove, IsExcused, HasGrounds};
 ghost use Rattle.ck_section.specs.Stripes.{contents_of};
 ghost use Rattle.ck_words.specs.Rule.{layout_of};
-ghost use Rattle.ck_words.specs.Passes.{rotated, IsPassOf, IsUnchanged, TakesStripe, FindsStripe, Sends, LooksUp};
+ghost use Rattle.ck_words.specs.Passes.{rotated, IsPassOf, IsUnchanged, TriesStripe, Sends, LooksUp};
 
 use crate::law::{Decide, Give, Look, Place, Refuses, Renew, Says, Take};
 use crate::pass::Pass;
@@ -35,7 +35,7 @@ impl<K: TableKey + Drop, V: Drop> Words<K, V> {
         requires above { IsAbove t (numbers pass.old.view.held) }
         requires unchanged { IsUnchanged pass.old }
         ensures own { IsPassOf self.now pass.new }
-        ensures step { MatchBool result (TakesStripe K.hash self.now.settings t pass.old pass.new) (FindsStripe K.hash self.now.settings t pass.old pass.new) }
+        ensures step { TriesStripe K.hash self.now t result pass.old pass.new }
         ensures unchanged { IsUnchanged pass.new }
     {
         if self.table.shared.swap::<Take>(&mut pass.seat, t * 8, 1) != 0 {
@@ -55,7 +55,7 @@ impl<K: TableKey + Drop, V: Drop> Words<K, V> {
         requires unchanged { IsUnchanged pass.old }
         requires excused { Lawful (layout_of K.hash self.now.settings) (contents_of pass.old.stripes) → IsExcused (layout_of K.hash self.now.settings) self.now.settings.min_load (contents_of pass.old.stripes) J.refused }
         ensures own { IsPassOf self.now pass.new }
-        ensures step { Sends K.hash self.now.settings (λ t _. Move.Give t J.refused) pass.old pass.new }
+        ensures step { Sends K.hash self.now (λ t _. Move.Give t J.refused) pass.old pass.new }
         ensures unchanged { IsUnchanged pass.new }
     {
         let _ = said;
@@ -74,7 +74,7 @@ impl<K: TableKey + Drop, V: Drop> Words<K, V> {
         requires held { 0 < length pass.old.stripes }
         requires unchanged { IsUnchanged pass.old }
         ensures own { IsPassOf self.now pass.new }
-        ensures step { Sends K.hash self.now.settings (λ t _. Move.GiveRest t) pass.old pass.new }
+        ensures step { Sends K.hash self.now (λ t _. Move.GiveRest t) pass.old pass.new }
         ensures unchanged { IsUnchanged pass.new }
     {
         self.give::<Brand, ()>(pass, &());
@@ -90,7 +90,7 @@ impl<K: TableKey + Drop, V: Drop> Words<K, V> {
         requires caller { pass.old.view.by ≡ Some J.entry.by }
         requires section { Lawful (layout_of K.hash self.now.settings) (reverse pass.old.view.held) → Section (layout_of K.hash self.now.settings) (reverse pass.old.view.held) J.entry.call J.entry.reply (contents_of pass.old.stripes) }
         ensures own { IsPassOf self.now pass.new }
-        ensures step { Sends K.hash self.now.settings (λ t ks. Move.Decide t ks J.entry) pass.old pass.new }
+        ensures step { Sends K.hash self.now (λ t ks. Move.Decide t ks J.entry) pass.old pass.new }
         ensures unchanged { IsUnchanged pass.new }
     {
         let _ = said;
@@ -113,7 +113,7 @@ impl<K: TableKey + Drop, V: Drop> Words<K, V> {
         requires section { Lawful (layout_of K.hash self.now.settings) (reverse pass.old.view.held) → IdentitySection (layout_of K.hash self.now.settings) (reverse pass.old.view.held) (contents_of pass.old.stripes) }
         requires grounds { HasGrounds (layout_of K.hash self.now.settings) self.now.settings.min_load (contents_of pass.old.stripes) J.refused }
         ensures own { IsPassOf self.now pass.new }
-        ensures step { Sends K.hash self.now.settings (λ t ks. Move.Renew t ks J.refused) pass.old pass.new }
+        ensures step { Sends K.hash self.now (λ t ks. Move.Renew t ks J.refused) pass.old pass.new }
         ensures unchanged { IsUnchanged pass.new }
     {
         let _ = said;
@@ -132,7 +132,7 @@ impl<K: TableKey + Drop, V: Drop> Words<K, V> {
     pub fn look(&self, pass: &mut Pass<K, V>)
         requires own { IsPassOf self.now pass.old }
         ensures own { IsPassOf self.now pass.new }
-        ensures step { LooksUp K.hash self.now.settings pass.old pass.new }
+        ensures step { LooksUp K.hash self.now pass.old pass.new }
     {
         self.table.shared.load::<Look>(&mut pass.seat, 0);
     }

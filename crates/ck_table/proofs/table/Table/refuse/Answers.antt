@@ -5,7 +5,7 @@ use Rattle.ck_model.specs.Contents.{Lawful}
 use Rattle.ck_section.specs.Stripes.{contents_of}
 use Rattle.ck_words.specs.Words.{WordsState}
 use Rattle.ck_words.specs.Rule.{layout_of}
-use Rattle.ck_table.proofs.Refusing.{owns_both, told_full}
+use Rattle.ck_table.proofs.Refusing.{owns_both, told_full, found_full}
 use Rattle.ck_table.proofs.table.Table.refuse.Goals as goal
 
 pub give-requires-clause-excused : goal.give-requires-clause-excused
@@ -18,5 +18,7 @@ give-requires-clause-excused g c =
     (λ lawful. (owns_both hash w.settings q p.stripes c.requires.both, c.requires.room w.settings.max lawful))
 
 pub returns-clause-told : goal.returns-clause-told
-returns-clause-told g c =
-    told_full g.K.TableKey.hash c.self.inside.words.settings c.args.pass.now.view.held (g.K.TableKey.name c.args.back.key) c.args.pass.now c.give.new.pass c.release.new.pass c.give.ensures.step c.release.ensures.stays
+returns-clause-told g c = told_full g.K.TableKey.hash c.self.inside.words (g.K.TableKey.name c.args.back.key) c.args.pass.now c.give.new.pass c.release.new.pass c.give.ensures.step c.release.ensures.stays
+
+pub returns-clause-found : goal.returns-clause-found
+returns-clause-found g c = found_full g.K.TableKey.hash c.self.inside.words (g.K.TableKey.name c.args.back.key) c.args.pass.now c.give.new.pass c.release.new.pass c.give.ensures.step c.release.ensures.found

@@ -1,7 +1,7 @@
-use Rattle.std.proofs.Common.{◌≡◌, ◌⊎◌, ◌∙◌, ℕ, inl, inr, refl, ap, subst, sym}
+use Rattle.std.proofs.Common.{◌≡◌, ◌⊎◌, ◌∙◌, ℕ, inl, inr, refl, ap, subst, sym, arith}
 use Rattle.ck_words.specs.Retries.{Stays, FindsAmong}
-use Rattle.ck_words.specs.Passes.{PassState}
-use Rattle.ck_words.proofs.Staying.{busy_second, stays_on, stays_within, stays_finding, among_again, among_held, among_within, among_on}
+use Rattle.ck_words.specs.Passes.{PassState, ShowsSeen}
+use Rattle.ck_words.proofs.Staying.{above_one, shows_taken, busy_second, stays_on, stays_within, stays_finding, among_again, among_held, among_within, among_on}
 use Rattle.ck_words.proofs.words.Words.hold_pair.Goals.{else-low-high-via-then-low-high+else-not-try_take-2, else-low-high-via-else-low-high}
 use Rattle.ck_words.proofs.words.Words.hold_pair.Goals as goal
 
@@ -58,4 +58,20 @@ returns-clause-found g c =
     elim c.else-low-high.branch [
       | else-low-high-via-then-low-high+else-not-try_take-2 w ↦ subst (λ (x : PassState g.row.V.Denot). FindsAmong among p x) (sym w.pass-is) (among_on among p q w.try_take-then-low-high.new.pass one (among_within among h set c.args.high q w.try_take-then-low-high.new.pass (inr refl) w.if-not-try_take-2.ensures.tries))
       | else-low-high-via-else-low-high w ↦ subst (λ (x : PassState g.row.V.Denot). FindsAmong among p x) (sym w.pass-is) one
+    ]
+
+pub try_take-requires-then-low-high-clause-above : goal.try_take-requires-then-low-high-clause-above
+try_take-requires-then-low-high-clause-above g c =
+    let p = c.args.pass.now in
+    let q = c.try_take.new.pass in
+    above_one g.K.TableKey.hash c.args.self.now.settings c.args.low c.args.high p q q q c.requires.idle c.if-not-try_take.ensures.tries (omega arith)
+
+pub returns-clause-shows : goal.returns-clause-shows
+returns-clause-shows g c =
+    let h = g.K.TableKey.hash in
+    let set = c.args.self.now.settings in
+    let q = c.try_take.new.pass in
+    elim c.else-low-high.branch [
+      | else-low-high-via-then-low-high+else-not-try_take-2 w ↦ subst (ShowsSeen h set) (sym w.pass-is) (shows_taken h set c.args.high q w.try_take-then-low-high.new.pass w.if-not-try_take-2.ensures.tries)
+      | else-low-high-via-else-low-high w ↦ subst (ShowsSeen h set) (sym w.pass-is) (shows_taken h set c.args.low c.args.pass.now q c.if-not-try_take.ensures.tries)
     ]

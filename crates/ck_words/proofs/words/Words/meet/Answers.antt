@@ -1,5 +1,8 @@
-use Rattle.std.proofs.Common.{◌∙◌, ap, refl}
+use Rattle.std.proofs.Common.{◌≡◌, ◌∙◌, ap, refl}
+use Rattle.ck_core.specs.Steps.{messenger}
 use Rattle.ck_words.specs.Rule.{Hand, layout_of}
+use Rattle.ck_words.specs.Passes.{PassState, state_of}
+use Rattle.ck_words.proofs.Meets.{heard, meets}
 use Rattle.ck_words.proofs.Allowed.{tell_allowed, join_allowed}
 use Rattle.ck_words.proofs.Seating.{seated_view}
 use Rattle.ck_words.proofs.Takes.{fits, same_table, some_word}
@@ -21,3 +24,16 @@ join_seat-requires g c = let f = fits _ _ _ _ _ _ _ c.self.view_is c.self.invari
 
 pub invariant_of-b : goal.invariant_of-b
 invariant_of-b g c = seated_view _ _ _ _ _ _ _ c.b.invariant refl refl c.join_seat.ensures.0 c.join_seat.ensures.2
+
+pub invariant_of-a : goal.invariant_of-a
+invariant_of-a g c = seated_view _ _ _ _ _ _ _ c.a.invariant refl refl c.split_seat-told.ensures.0 c.split_seat-told.ensures.2
+
+pub returns-clause-met : goal.returns-clause-met
+returns-clause-met g c =
+    let a = c.args.a.now in
+    let b = c.args.b.now in
+    let z = c.join_seat.new.seat.table_id in
+    let me : Hand g.row.V.Denot = c.join_seat.new.seat.me in
+    let told : c.split_seat-told.result.me.0 ≡ messenger a.view = ap (λ (m : Hand g.row.V.Denot). m.0) c.split_seat-told.ensures.4 ∙ ap (λ (p : PassState g.row.V.Denot). messenger p.view) c.a.view_is in
+    let is : state_of z me ≡ heard b (messenger a.view) = (λ i. state_of (c.join_seat.ensures.0 i) (c.join_seat.ensures.2 i)) ∙ (λ i. heard (c.b.view_is i) (told i)) in
+    meets g.K.TableKey.hash c.args.self.now (state_of z me) c.look.new.pass a b is c.look.ensures.step

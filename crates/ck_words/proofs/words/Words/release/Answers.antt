@@ -8,7 +8,7 @@ loop-pass-init g c = record { own = c.requires.own; unchanged = c.requires.uncha
 pub loop-pass-preserved : goal.loop-pass-preserved
 loop-pass-preserved g c =
     let h = g.K.TableKey.hash in
-    let set = c.args.self.now.settings in
+    let w = c.args.self.now in
     let p = c.loop-pass.pass in
     let q = c.give_rest.new.pass in
     let s = c.give_rest.ensures.step in
@@ -16,9 +16,9 @@ loop-pass-preserved g c =
     record {
       own = c.give_rest.ensures.own;
       unchanged = c.give_rest.ensures.unchanged;
-      stays = stays_giving h set p.view.held c.args.pass.now.view p q s i.stays;
-      found = found_giving h set p.view.held p q s ∙ i.found;
-      seen = seen_giving h set p.view.held p q s ∙ i.seen;
+      stays = stays_giving h w p q s c.args.pass.now.view i.stays;
+      found = found_giving h w p q s ∙ i.found;
+      seen = seen_giving h w p q s ∙ i.seen;
     }
 
 pub returns-clause-idle : goal.returns-clause-idle
