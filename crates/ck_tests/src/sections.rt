@@ -2,7 +2,7 @@
 ghost use Rattle.std.specs.Prelude.{◌≢◌, ◌≤◌, ◌∷◌, [], IfOk};
 ghost use Rattle.ck_section.specs.Places.{AreAllHeld};
 
-use ck_key::NumKey;
+use ck_key::{KeyHash, NumKey};
 use ck_section::{
     Hop, Pair, Several, Slice, assign, change, erase, find, insert, key_place, move_entry, update,
     update_two, upsert,
@@ -48,7 +48,7 @@ fn apply(held: &mut Slice<NumKey, u64>, s: u32, number: u64, act: Act) -> Option
     ensures { AreAllHeld s held.new.stripes.now }
 {
     let key = NumKey(number);
-    let place = key_place(held, s, &key);
+    let place = key_place(held, s, &key, KeyHash::of(&key));
     match act {
         Act::Find(more) => find(held, place, &key, |v| v.saturating_add(more)).map(|a| a.reply),
         Act::Insert(value) => match insert(held, place, key, value) {
@@ -78,8 +78,8 @@ fn shift(held: &mut Slice<NumKey, u64>, s: u32, a: u64, b: u64) -> bool
     ensures { AreAllHeld s held.new.stripes.now }
 {
     let (a, b) = (NumKey(a), NumKey(b));
-    let place_a = key_place(held, s, &a);
-    let place_b = key_place(held, s, &b);
+    let place_a = key_place(held, s, &a, KeyHash::of(&a));
+    let place_b = key_place(held, s, &b, KeyHash::of(&b));
     update_two(held, &a, place_a, &b, place_b, |v, w| {
         (v.saturating_add(1), w.saturating_sub(1))
     })
