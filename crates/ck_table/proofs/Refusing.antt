@@ -66,9 +66,12 @@ module _ {V : Type 0} where
     more = [];
     stays = busy.stays;
     own = All-nil _;
-    shown = (⊎_elim
-        (λ e. subst (λ n. n < 2 ^ set.s) (sym e) (index_below set.s (hash q)))
-        (λ e. subst (λ n. n < 2 ^ set.s) (sym e) (second_below set.s (hash q))) busy.stripe, busy.tried);
+    shown = (
+      ⊎_elim
+          (λ e. subst (λ n. n < 2 ^ set.s) (sym e) (index_below set.s (hash q)))
+          (λ e. subst (λ n. n < 2 ^ set.s) (sym e) (second_below set.s (hash q))) busy.stripe,
+      busy.tried,
+    );
   }
 
   -- a stripe that is held was found before the stripes of the name were taken, if at all

@@ -26,8 +26,10 @@ impl<K: TableKey + Drop, V: Drop> Table<K, V> {
     pub fn update(&self, pass: &mut Pass<K, V>, key: &K, value: V) -> Result<Option<V>, (V, Busy)>
         requires caller { IsCaller self.now pass.old }
         ensures caller { IsCaller self.now pass.new }
-        ensures answered { IfOk result (λ old. IsAnswered (On (K.name key.now) (Update value)) (Was old) pass.old pass.new) }
-        ensures busy { IfErr result (λ back. (back.0 ≡ value) × IsBusyAt K.hash self.now.settings (K.name key.now) back.1.0 pass.old pass.new) }
+        ensures answered { IfOk result (λ old.
+            IsAnswered (On (K.name key.now) (Update value)) (Was old) pass.old pass.new) }
+        ensures busy { IfErr result (λ back. (back.0 ≡ value)
+            × IsBusyAt K.hash self.now.settings (K.name key.now) back.1.0 pass.old pass.new) }
         ensures found { FindsOwn K.hash self.now.settings (K.name key.now) pass.old pass.new }
     {
         if let Err(busy) = self.hold_key(pass, key) {
@@ -58,8 +60,12 @@ impl<K: TableKey + Drop, V: Drop> Table<K, V> {
         requires caller { IsCaller self.now pass.old }
         requires call { F.IsAlwaysCallable f }
         ensures caller { IsCaller self.now pass.new }
-        ensures answered { IfOk result (λ bound. MatchBool bound ((v w : V) × F.post f v w × IsAnswered (On (K.name key.now) Change) (Done v w) pass.old pass.new) (IsAnswered (On (K.name key.now) Change) Absent pass.old pass.new)) }
-        ensures busy { IfErr result (λ busy. IsBusyAt K.hash self.now.settings (K.name key.now) busy.0 pass.old pass.new) }
+        ensures answered { IfOk result (λ bound. MatchBool bound
+            ((v w : V) × F.post f v w
+            × IsAnswered (On (K.name key.now) Change) (Done v w) pass.old pass.new)
+            (IsAnswered (On (K.name key.now) Change) Absent pass.old pass.new)) }
+        ensures busy { IfErr result (λ busy.
+            IsBusyAt K.hash self.now.settings (K.name key.now) busy.0 pass.old pass.new) }
         ensures found { FindsOwn K.hash self.now.settings (K.name key.now) pass.old pass.new }
     {
         self.hold_key(pass, key)?;
@@ -75,8 +81,10 @@ impl<K: TableKey + Drop, V: Drop> Table<K, V> {
     pub fn erase(&self, pass: &mut Pass<K, V>, key: &K) -> Result<Option<V>, Busy>
         requires caller { IsCaller self.now pass.old }
         ensures caller { IsCaller self.now pass.new }
-        ensures answered { IfOk result (λ old. IsAnswered (On (K.name key.now) Erase) (Was old) pass.old pass.new) }
-        ensures busy { IfErr result (λ busy. IsBusyAt K.hash self.now.settings (K.name key.now) busy.0 pass.old pass.new) }
+        ensures answered { IfOk result (λ old.
+            IsAnswered (On (K.name key.now) Erase) (Was old) pass.old pass.new) }
+        ensures busy { IfErr result (λ busy.
+            IsBusyAt K.hash self.now.settings (K.name key.now) busy.0 pass.old pass.new) }
         ensures found { FindsOwn K.hash self.now.settings (K.name key.now) pass.old pass.new }
     {
         self.hold_key(pass, key)?;
@@ -103,8 +111,13 @@ impl<K: TableKey + Drop, V: Drop> Table<K, V> {
         requires caller { IsCaller self.now pass.old }
         requires call { F.IsAlwaysCallable f }
         ensures caller { IsCaller self.now pass.new }
-        ensures answered { IfOk result (λ answer. MatchOption answer (IsAnswered (On (K.name key.now) Find) (Was None) pass.old pass.new) (λ gone. (v : V) × FnOnceReturnsAt F.FnOnce f v gone × MatchBool gone (IsAnswered (On (K.name key.now) Erase) (Was (Some v)) pass.old pass.new) (IsAnswered (On (K.name key.now) Find) (Was (Some v)) pass.old pass.new))) }
-        ensures busy { IfErr result (λ busy. IsBusyAt K.hash self.now.settings (K.name key.now) busy.0 pass.old pass.new) }
+        ensures answered { IfOk result (λ answer. MatchOption answer
+            (IsAnswered (On (K.name key.now) Find) (Was None) pass.old pass.new)
+            (λ gone. (v : V) × FnOnceReturnsAt F.FnOnce f v gone × MatchBool gone
+            (IsAnswered (On (K.name key.now) Erase) (Was (Some v)) pass.old pass.new)
+            (IsAnswered (On (K.name key.now) Find) (Was (Some v)) pass.old pass.new))) }
+        ensures busy { IfErr result (λ busy.
+            IsBusyAt K.hash self.now.settings (K.name key.now) busy.0 pass.old pass.new) }
         ensures found { FindsOwn K.hash self.now.settings (K.name key.now) pass.old pass.new }
     {
         self.hold_key(pass, key)?;
@@ -126,8 +139,12 @@ impl<K: TableKey + Drop, V: Drop> Table<K, V> {
         ensures own { IsPassOf self.now pass.new }
         ensures view { pass.new.view ≡ pass.old.view }
         ensures some { 0 < length pass.new.stripes }
-        ensures bound { IfSome result (λ a. IsCallAt K.hash self.now.settings.s pass.old.stripes (K.name key.now) (Update value) (Was (Some a.reply)) pass.new.stripes a.place value) }
-        ensures unbound { IfNone result (IsCall K.hash self.now.settings.s pass.old.stripes (K.name key.now) (Update value) (Was None) pass.new.stripes × (pass.new.stripes ≡ pass.old.stripes)) }
+        ensures bound { IfSome result (λ a.
+            IsCallAt K.hash self.now.settings.s pass.old.stripes (K.name key.now)
+            (Update value) (Was (Some a.reply)) pass.new.stripes a.place value) }
+        ensures unbound { IfNone result (
+            IsCall K.hash self.now.settings.s pass.old.stripes (K.name key.now)
+            (Update value) (Was None) pass.new.stripes × (pass.new.stripes ≡ pass.old.stripes)) }
     {
         let s = self.words.settings().s;
         let mut lent = Lent {
@@ -149,8 +166,12 @@ impl<K: TableKey + Drop, V: Drop> Table<K, V> {
         ensures own { IsPassOf self.now pass.new }
         ensures view { pass.new.view ≡ pass.old.view }
         ensures some { 0 < length pass.new.stripes }
-        ensures bound { IfSome result (λ at. (v w : V) × F.post f v w × IsCallAt K.hash self.now.settings.s pass.old.stripes (K.name key.now) Change (Done v w) pass.new.stripes at w) }
-        ensures unbound { IfNone result (IsCall K.hash self.now.settings.s pass.old.stripes (K.name key.now) Change Absent pass.new.stripes × (pass.new.stripes ≡ pass.old.stripes)) }
+        ensures bound { IfSome result (λ at. (v w : V) × F.post f v w
+            × IsCallAt K.hash self.now.settings.s pass.old.stripes (K.name key.now)
+            Change (Done v w) pass.new.stripes at w) }
+        ensures unbound { IfNone result (
+            IsCall K.hash self.now.settings.s pass.old.stripes (K.name key.now)
+            Change Absent pass.new.stripes × (pass.new.stripes ≡ pass.old.stripes)) }
     {
         let s = self.words.settings().s;
         let mut lent = Lent {
@@ -169,8 +190,13 @@ impl<K: TableKey + Drop, V: Drop> Table<K, V> {
         ensures own { IsPassOf self.now pass.new }
         ensures view { pass.new.view ≡ pass.old.view }
         ensures some { 0 < length pass.new.stripes }
-        ensures bound { IfSome result (λ a. IsCall K.hash self.now.settings.s pass.old.stripes (K.name key.now) Erase (Was (Some a.reply)) pass.new.stripes × IsAt K.hash self.now.settings.s pass.old.stripes a.place (K.name key.now) a.reply) }
-        ensures unbound { IfNone result (IsCall K.hash self.now.settings.s pass.old.stripes (K.name key.now) Erase (Was None) pass.new.stripes × (pass.new.stripes ≡ pass.old.stripes)) }
+        ensures bound { IfSome result (λ a.
+            IsCall K.hash self.now.settings.s pass.old.stripes (K.name key.now)
+            Erase (Was (Some a.reply)) pass.new.stripes
+            × IsAt K.hash self.now.settings.s pass.old.stripes a.place (K.name key.now) a.reply) }
+        ensures unbound { IfNone result (
+            IsCall K.hash self.now.settings.s pass.old.stripes (K.name key.now)
+            Erase (Was None) pass.new.stripes × (pass.new.stripes ≡ pass.old.stripes)) }
     {
         let s = self.words.settings().s;
         let mut lent = Lent {
@@ -197,8 +223,15 @@ impl<K: TableKey + Drop, V: Drop> Table<K, V> {
         ensures own { IsPassOf self.now pass.new }
         ensures view { pass.new.view ≡ pass.old.view }
         ensures some { 0 < length pass.new.stripes }
-        ensures bound { IfSome result (λ gone. (v : V) × FnOnceReturnsAt F.FnOnce f v gone × MatchBool gone (IsCall K.hash self.now.settings.s pass.old.stripes (K.name key.now) Erase (Was (Some v)) pass.new.stripes) (IsCall K.hash self.now.settings.s pass.old.stripes (K.name key.now) Find (Was (Some v)) pass.new.stripes × (pass.new.stripes ≡ pass.old.stripes))) }
-        ensures unbound { IfNone result (IsCall K.hash self.now.settings.s pass.old.stripes (K.name key.now) Find (Was None) pass.new.stripes × (pass.new.stripes ≡ pass.old.stripes)) }
+        ensures bound { IfSome result (λ gone. (v : V) × FnOnceReturnsAt F.FnOnce f v gone
+            × MatchBool gone
+            (IsCall K.hash self.now.settings.s pass.old.stripes (K.name key.now)
+            Erase (Was (Some v)) pass.new.stripes)
+            (IsCall K.hash self.now.settings.s pass.old.stripes (K.name key.now)
+            Find (Was (Some v)) pass.new.stripes × (pass.new.stripes ≡ pass.old.stripes))) }
+        ensures unbound { IfNone result (
+            IsCall K.hash self.now.settings.s pass.old.stripes (K.name key.now)
+            Find (Was None) pass.new.stripes × (pass.new.stripes ≡ pass.old.stripes)) }
     {
         let s = self.words.settings().s;
         let mut lent = Lent {

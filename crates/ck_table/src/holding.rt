@@ -17,11 +17,13 @@ impl<K: TableKey + Drop, V: Drop> Table<K, V> {
     pub(crate) fn hold_key(&self, pass: &mut Pass<K, V>, key: &K) -> Result<KeyHash, Busy>
         requires caller { IsCaller self.now pass.old }
         ensures own { IsPassOf self.now pass.new }
-        ensures held { OnOk result (HoldsKey K.hash self.now.settings (K.name key.now) pass.old pass.new) }
+        ensures held { OnOk result (
+            HoldsKey K.hash self.now.settings (K.name key.now) pass.old pass.new) }
         ensures found { FindsOwn K.hash self.now.settings (K.name key.now) pass.old pass.new }
         ensures hash { IfOk result (IsHashOf K.hash (K.name key.now)) }
         ensures idle { OnErr result (IsIdle pass.new) }
-        ensures busy { IfErr result (λ busy. IsBusyAt K.hash self.now.settings (K.name key.now) busy.0 pass.old pass.new) }
+        ensures busy { IfErr result (λ busy.
+            IsBusyAt K.hash self.now.settings (K.name key.now) busy.0 pass.old pass.new) }
     {
         let hash = KeyHash::of(key);
         let (low, high) = hash.stripes(self.words.settings().s);

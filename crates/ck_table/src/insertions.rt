@@ -142,11 +142,13 @@ impl<K: TableKey + Drop, V: Drop> Table<K, V> {
         ensures own { IsPassOf self.now pass.new }
         ensures view { pass.new.view ≡ pass.old.view }
         ensures some { 0 < length pass.new.stripes }
-        ensures call { IfOk result (λ fresh. IsCall K.hash self.now.settings.s
-            pass.old.stripes (K.name key) (Insert value) (if fresh then New else Old) pass.new.stripes) }
+        ensures call { IfOk result (λ fresh.
+            IsCall K.hash self.now.settings.s pass.old.stripes (K.name key)
+            (Insert value) (if fresh then New else Old) pass.new.stripes) }
         ensures no_room { IfErr result (λ e.
             IsWithoutRoom K.hash self.now.settings.s pass.old.stripes (K.name key)
-            × (e ≡ record { key = key; value = value }) × (pass.new.stripes ≡ pass.old.stripes)) }
+            × (e ≡ record { key = key; value = value })
+            × (pass.new.stripes ≡ pass.old.stripes)) }
     {
         let s = self.words.settings().s;
         let mut lent = Lent {
@@ -173,11 +175,13 @@ impl<K: TableKey + Drop, V: Drop> Table<K, V> {
         ensures own { IsPassOf self.now pass.new }
         ensures view { pass.new.view ≡ pass.old.view }
         ensures some { 0 < length pass.new.stripes }
-        ensures call { IfOk result (λ old. IsCall K.hash self.now.settings.s
-            pass.old.stripes (K.name key) (Assign value) (Was old) pass.new.stripes) }
+        ensures call { IfOk result (λ old.
+            IsCall K.hash self.now.settings.s pass.old.stripes (K.name key)
+            (Assign value) (Was old) pass.new.stripes) }
         ensures no_room { IfErr result (λ e.
             IsWithoutRoom K.hash self.now.settings.s pass.old.stripes (K.name key)
-            × (e ≡ record { key = key; value = value }) × (pass.new.stripes ≡ pass.old.stripes)) }
+            × (e ≡ record { key = key; value = value })
+            × (pass.new.stripes ≡ pass.old.stripes)) }
     {
         let s = self.words.settings().s;
         let mut lent = Lent {
@@ -209,13 +213,15 @@ impl<K: TableKey + Drop, V: Drop> Table<K, V> {
         ensures view { pass.new.view ≡ pass.old.view }
         ensures some { 0 < length pass.new.stripes }
         ensures call { IfOk result (λ fresh. MatchBool fresh
-            (IsCall K.hash self.now.settings.s
-            pass.old.stripes (K.name key) (Upsert value) New pass.new.stripes)
-            ((v w : V) × F.post f v w × IsCall K.hash self.now.settings.s
-            pass.old.stripes (K.name key) (Upsert value) (Done v w) pass.new.stripes)) }
+            (IsCall K.hash self.now.settings.s pass.old.stripes (K.name key)
+            (Upsert value) New pass.new.stripes)
+            ((v w : V) × F.post f v w
+            × IsCall K.hash self.now.settings.s pass.old.stripes (K.name key)
+            (Upsert value) (Done v w) pass.new.stripes)) }
         ensures no_room { IfErr result (λ e.
             IsWithoutRoom K.hash self.now.settings.s pass.old.stripes (K.name key)
-            × (e ≡ record { key = key; value = value }) × (pass.new.stripes ≡ pass.old.stripes)) }
+            × (e ≡ record { key = key; value = value })
+            × (pass.new.stripes ≡ pass.old.stripes)) }
     {
         let s = self.words.settings().s;
         let mut lent = Lent {
@@ -235,7 +241,8 @@ impl<K: TableKey + Drop, V: Drop> Table<K, V> {
         requires some { 0 < length pass.old.stripes }
         requires unchanged { IsUnchanged pass.old }
         requires both { HasBoth K.hash self.now.settings.s pass.old.stripes (K.name back.key) }
-        requires room { IsWithoutRoom K.hash self.now.settings.s pass.old.stripes (K.name back.key) }
+        requires room { IsWithoutRoom K.hash self.now.settings.s
+            pass.old.stripes (K.name back.key) }
         ensures own { IsPassOf self.now pass.new }
         ensures idle { IsIdle pass.new }
         ensures key { result.key ≡ back.key }

@@ -1,10 +1,9 @@
-use Rattle.ck_key.specs.Hashes.{number_hash}
-use Rattle.ck_script.specs.Output.{name_of}
 use Rattle.ck_script.specs.declared.script.Command.TheVariants.{Assign}
-use Rattle.ck_script.proofs.Answering.{uncalled, no_entry}
+use Rattle.ck_script.proofs.Answering.{uncalled}
 use Rattle.ck_script.proofs.calls.assign.Goals as goal
 
 pub returns-in-Err-clause-answered : goal.returns-in-Err-clause-answered
 returns-in-Err-clause-answered c =
     let command = Assign c.args.key c.args.value in
-    uncalled command c.refusal_of.result _ _ (c.refusal_of.ensures command tt) (no_entry number_hash c.args.table.now.settings (name_of c.args.key) c.in-Err.refused.why c.args.pass.now c.insert_or_assign.new.pass c.in-Err.ensures.refused.2)
+    let refused = c.in-Err.ensures.refused.2 in
+    uncalled command c.refusal_of.result _ _ (c.refusal_of.ensures command tt) (refused.stays.by, refused.stays.mine)
