@@ -1,0 +1,4 @@
+use Rattle.ck_table.proofs.caller.Caller.erase_fn.Goals as goal
+
+pub returns-clause-found : goal.returns-clause-found
+returns-clause-found g c = rw (← c.self.view_is) c.erase_fn.ensures.found
