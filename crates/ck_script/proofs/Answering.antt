@@ -3,11 +3,11 @@ use Rattle.std.proofs.Common.{◌≡◌, ℕ, List, [], ◌∷◌, ◌++◌, sym
 use Rattle.ck_model.specs.declared.history.Entry.{Entry}
 use Rattle.ck_model.specs.declared.settings.Settings.{Settings}
 use Rattle.ck_model.specs.Map.{Name}
-use Rattle.ck_core.specs.declared.view.View.{View}
 use Rattle.ck_words.specs.Passes.{PassState}
 use Rattle.ck_table.specs.declared.refusal.Why.{Why}
 use Rattle.ck_table.specs.declared.refusal.Why.TheVariants.{Busy, Memory, Full, LoadTooLow}
 use Rattle.ck_table.specs.Refusals.{IsRefused}
+use Rattle.ck_table.specs.Callers.{CallerState}
 use Rattle.ck_script.specs.Script.{NumCommand}
 use Rattle.ck_script.specs.declared.answer.Answer.{Answer}
 use Rattle.ck_script.specs.Output.{IsRefusal, AreEntriesOf}
@@ -22,8 +22,9 @@ no_entry hash set q Full p p2 h = (h.stays.by, h.stays.mine)
 no_entry hash set q LoadTooLow p p2 h = absurd h
 
 -- a refused call
-pub uncalled : (c : NumCommand) (a : Answer) (v w : View ℕ) → IsRefusal c a → (w.by ≡ v.by) × (w.mine ≡ v.mine) → IsAnsweredBy c a v w
-uncalled c a v w refusal h = record { by = h.0; entries = λ by is. inl (refusal, h.1) }
+pub uncalled : (c : NumCommand) (a : Answer) (p q : CallerState ℕ) → q.table ≡ p.table → IsRefusal c a
+    → (q.pass.view.by ≡ p.pass.view.by) × (q.pass.view.mine ≡ p.pass.view.mine) → IsAnsweredBy c a p q
+uncalled c a p q same refusal h = record { table = same; by = h.0; entries = λ by is. inl (refusal, h.1) }
 
 -- one command more
 pub entries_grown : (by : ℕ) (cs : List NumCommand) (answers : List Answer) (old new : List (Entry ℕ)) (c : NumCommand) (a : Answer)

@@ -65,8 +65,8 @@ module _ {V : Type 0} where
   abbrev pub ChangesTwo : (V → V → V × V → Type 0) → Name → Name → Bool → CallerState V → CallerState V → Type 0
   ChangesTwo makes q r bound c d =
       MatchBool bound
-        ((v w v2 w2 : V) × makes v w (v2, w2) × Replies (ChangeTwo q r) (DoneTwo v w v2 w2) c d)
-        (Replies (ChangeTwo q r) Absent c d)
+      ((v w v2 w2 : V) × makes v w (v2, w2) × Replies (ChangeTwo q r) (DoneTwo v w v2 w2) c d)
+      (Replies (ChangeTwo q r) Absent c d)
 
   -- the name was unbound, and had this
   abbrev pub Erases : Name → Option V → CallerState V → CallerState V → Type 0
@@ -76,7 +76,7 @@ module _ {V : Type 0} where
   abbrev pub ErasesBy : (V → Bool → Type 0) → Name → Option Bool → CallerState V → CallerState V → Type 0
   ErasesBy returns q answer c d =
       MatchOption answer (Finds q None c d)
-        (λ gone. (v : V) × returns v gone × MatchBool gone (Erases q (Some v) c d) (Finds q (Some v) c d))
+      (λ gone. (v : V) × returns v gone × MatchBool gone (Erases q (Some v) c d) (Finds q (Some v) c d))
 
   -- no stripe was found held but those of the name
   abbrev pub FindsHeldOwn : (Name → ℕ) → Name → CallerState V → CallerState V → Type 0

@@ -148,7 +148,12 @@ impl<'t, K: TableKey + Drop, V: Drop> Caller<'t, K, V> {
     /// Binds an unbound key to the value, and a bound one to what the closure makes of its value; says whether the key was
     /// unbound. Refused, it changes no binding, drops the closure and hands key and value back. It is `Table::upsert`.
     #[inline(always)]
-    pub fn upsert<F: FnOnce(V) -> V>(&mut self, key: K, f: F, value: V) -> Result<bool, Refused<K, V>>
+    pub fn upsert<F: FnOnce(V) -> V>(
+        &mut self,
+        key: K,
+        f: F,
+        value: V,
+    ) -> Result<bool, Refused<K, V>>
     where
         F: Drop,
         requires call { F.IsAlwaysCallable f }
@@ -191,7 +196,12 @@ impl<'t, K: TableKey + Drop, V: Drop> Caller<'t, K, V> {
     /// Binds two different bound keys to what the closure makes of their two values in one step, and says whether both are
     /// bound. Refused as busy, it changes nothing, and the closure is dropped. It is `Table::update_two`.
     #[inline(always)]
-    pub fn update_two<F: FnOnce(V, V) -> (V, V)>(&mut self, a: &K, b: &K, f: F) -> Result<bool, Busy>
+    pub fn update_two<F: FnOnce(V, V) -> (V, V)>(
+        &mut self,
+        a: &K,
+        b: &K,
+        f: F,
+    ) -> Result<bool, Busy>
     where
         F: Drop,
         requires different { K.name a.now ≢ K.name b.now }
