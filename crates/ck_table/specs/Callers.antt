@@ -19,6 +19,11 @@ pub record CallerState (V : Type 0) : Type 0 where
   pub pass : PassState V
 
 module _ {V : Type 0} where
+  -- The caller d is c after calls: it has the same table and the same number.
+  pub record IsSameCaller (c d : CallerState V) : Type 0 where
+    pub table : d.table ≡ c.table
+    pub by : d.pass.view.by ≡ c.pass.view.by
+
   -- the callers of the table that have these passes
   abbrev pub callers_of : WordsState → List (PassState V) → List (CallerState V)
   callers_of table passes = map (λ (p : PassState V). record { table = table; pass = p }) passes

@@ -62,7 +62,7 @@ impl<K: TableKey + Drop, V: Drop> Table<K, V> {
 }
 
 impl<'t, K: TableKey + Drop, V: Drop> Caller<'t, K, V> {
-    ghost use Rattle.ck_table.specs.Callers.{Finds, FindsBound, FindsBy, Inserts, Assigns, Upserts, Updates, Changes, ChangesTwo, Erases, ErasesBy, FindsHeldOwn, FindsHeldOfTwo, IsBusyOn, IsBusyOnTwo, ComesBack};
+    ghost use Rattle.ck_table.specs.Callers.{IsSameCaller, Finds, FindsBound, FindsBy, Inserts, Assigns, Upserts, Updates, Changes, ChangesTwo, Erases, ErasesBy, FindsHeldOwn, FindsHeldOfTwo, IsBusyOn, IsBusyOnTwo, ComesBack};
 
     /// The table.
     pub fn table(&self) -> &'t Table<K, V>
@@ -86,7 +86,7 @@ impl<'t, K: TableKey + Drop, V: Drop> Caller<'t, K, V> {
     pub fn find(&mut self, key: &K) -> Result<Option<V>, Busy>
     where
         V: Copy,
-        ensures table { self.new.table ≡ self.old.table }
+        ensures same { IsSameCaller self.old self.new }
         ensures answered { IfOk result (λ value. Finds (K.name key.now) value self.old self.new) }
         ensures busy { IfErr result (λ busy. IsBusyOn K.hash (K.name key.now) busy.0 self.old self.new) }
         ensures found { FindsHeldOwn K.hash (K.name key.now) self.old self.new }
@@ -101,7 +101,7 @@ impl<'t, K: TableKey + Drop, V: Drop> Caller<'t, K, V> {
     where
         F: Drop,
         requires call { F.IsAlwaysCallable f }
-        ensures table { self.new.table ≡ self.old.table }
+        ensures same { IsSameCaller self.old self.new }
         ensures answered { IfOk result (λ answer.
             FindsBy (FnOnceReturnsAt F.FnOnce f) (K.name key.now) answer self.old self.new) }
         ensures busy { IfErr result (λ busy. IsBusyOn K.hash (K.name key.now) busy.0 self.old self.new) }
@@ -113,7 +113,7 @@ impl<'t, K: TableKey + Drop, V: Drop> Caller<'t, K, V> {
     /// Whether the key is bound. Refused as busy, it changes nothing. It is `Table::contains`.
     #[inline(always)]
     pub fn contains(&mut self, key: &K) -> Result<bool, Busy>
-        ensures table { self.new.table ≡ self.old.table }
+        ensures same { IsSameCaller self.old self.new }
         ensures answered { IfOk result (λ bound. FindsBound (K.name key.now) bound self.old self.new) }
         ensures busy { IfErr result (λ busy. IsBusyOn K.hash (K.name key.now) busy.0 self.old self.new) }
         ensures found { FindsHeldOwn K.hash (K.name key.now) self.old self.new }
@@ -125,7 +125,7 @@ impl<'t, K: TableKey + Drop, V: Drop> Caller<'t, K, V> {
     /// key and value back. It is `Table::insert`.
     #[inline(always)]
     pub fn insert(&mut self, key: K, value: V) -> Result<bool, Refused<K, V>>
-        ensures table { self.new.table ≡ self.old.table }
+        ensures same { IsSameCaller self.old self.new }
         ensures answered { IfOk result (λ fresh. Inserts (K.name key) value fresh self.old self.new) }
         ensures refused { IfErr result (λ e. ComesBack K.hash (K.name key) key value e self.old self.new) }
         ensures found { FindsHeldOwn K.hash (K.name key) self.old self.new }
@@ -137,7 +137,7 @@ impl<'t, K: TableKey + Drop, V: Drop> Caller<'t, K, V> {
     /// back. It is `Table::insert_or_assign`.
     #[inline(always)]
     pub fn insert_or_assign(&mut self, key: K, value: V) -> Result<Option<V>, Refused<K, V>>
-        ensures table { self.new.table ≡ self.old.table }
+        ensures same { IsSameCaller self.old self.new }
         ensures answered { IfOk result (λ old. Assigns (K.name key) value old self.old self.new) }
         ensures refused { IfErr result (λ e. ComesBack K.hash (K.name key) key value e self.old self.new) }
         ensures found { FindsHeldOwn K.hash (K.name key) self.old self.new }
@@ -157,7 +157,7 @@ impl<'t, K: TableKey + Drop, V: Drop> Caller<'t, K, V> {
     where
         F: Drop,
         requires call { F.IsAlwaysCallable f }
-        ensures table { self.new.table ≡ self.old.table }
+        ensures same { IsSameCaller self.old self.new }
         ensures answered { IfOk result (λ fresh. Upserts (F.post f) (K.name key) value fresh self.old self.new) }
         ensures refused { IfErr result (λ e. ComesBack K.hash (K.name key) key value e self.old self.new) }
         ensures found { FindsHeldOwn K.hash (K.name key) self.old self.new }
@@ -169,7 +169,7 @@ impl<'t, K: TableKey + Drop, V: Drop> Caller<'t, K, V> {
     /// it changes nothing and hands the value back. It is `Table::update`.
     #[inline(always)]
     pub fn update(&mut self, key: &K, value: V) -> Result<Option<V>, (V, Busy)>
-        ensures table { self.new.table ≡ self.old.table }
+        ensures same { IsSameCaller self.old self.new }
         ensures answered { IfOk result (λ old. Updates (K.name key.now) value old self.old self.new) }
         ensures back { IfErr result (λ back. back.0 ≡ value) }
         ensures busy { IfErr result (λ back. IsBusyOn K.hash (K.name key.now) back.1.0 self.old self.new) }
@@ -185,7 +185,7 @@ impl<'t, K: TableKey + Drop, V: Drop> Caller<'t, K, V> {
     where
         F: Drop,
         requires call { F.IsAlwaysCallable f }
-        ensures table { self.new.table ≡ self.old.table }
+        ensures same { IsSameCaller self.old self.new }
         ensures answered { IfOk result (λ bound. Changes (F.post f) (K.name key.now) bound self.old self.new) }
         ensures busy { IfErr result (λ busy. IsBusyOn K.hash (K.name key.now) busy.0 self.old self.new) }
         ensures found { FindsHeldOwn K.hash (K.name key.now) self.old self.new }
@@ -206,7 +206,7 @@ impl<'t, K: TableKey + Drop, V: Drop> Caller<'t, K, V> {
         F: Drop,
         requires different { K.name a.now ≢ K.name b.now }
         requires call { F.IsAlwaysCallable f }
-        ensures table { self.new.table ≡ self.old.table }
+        ensures same { IsSameCaller self.old self.new }
         ensures answered { IfOk result (λ bound.
             ChangesTwo (F.post f) (K.name a.now) (K.name b.now) bound self.old self.new) }
         ensures busy { IfErr result (λ busy.
@@ -220,7 +220,7 @@ impl<'t, K: TableKey + Drop, V: Drop> Caller<'t, K, V> {
     /// is `Table::erase`.
     #[inline(always)]
     pub fn erase(&mut self, key: &K) -> Result<Option<V>, Busy>
-        ensures table { self.new.table ≡ self.old.table }
+        ensures same { IsSameCaller self.old self.new }
         ensures answered { IfOk result (λ old. Erases (K.name key.now) old self.old self.new) }
         ensures busy { IfErr result (λ busy. IsBusyOn K.hash (K.name key.now) busy.0 self.old self.new) }
         ensures found { FindsHeldOwn K.hash (K.name key.now) self.old self.new }
@@ -235,7 +235,7 @@ impl<'t, K: TableKey + Drop, V: Drop> Caller<'t, K, V> {
     where
         F: Drop,
         requires call { F.IsAlwaysCallable f }
-        ensures table { self.new.table ≡ self.old.table }
+        ensures same { IsSameCaller self.old self.new }
         ensures answered { IfOk result (λ answer.
             ErasesBy (FnOnceReturnsAt F.FnOnce f) (K.name key.now) answer self.old self.new) }
         ensures busy { IfErr result (λ busy. IsBusyOn K.hash (K.name key.now) busy.0 self.old self.new) }
@@ -250,7 +250,7 @@ impl<'t, K: TableKey + Drop, V: Drop> Caller<'t, K, V> {
     pub fn meet(&mut self, other: &mut Caller<'t, K, V>)
         requires { self.old.table ≡ other.old.table }
         ensures left { self.new ≡ self.old }
-        ensures table { other.new.table ≡ other.old.table }
+        ensures same { IsSameCaller other.old other.new }
         ensures met { Meets self.old.pass other.old.pass other.new.pass }
     {
         self.table.meet(&mut self.pass, &mut other.pass);
