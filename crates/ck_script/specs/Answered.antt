@@ -1,7 +1,7 @@
 -- What one command leaves of its caller. What a run promises stands in `Output`.
 use Rattle.std.specs.Prelude.{◌≡◌, ◌⊎◌, ℕ, List, [], ◌∷◌, ◌++◌, Some}
 use Rattle.ck_model.specs.declared.history.Entry.{Entry}
-use Rattle.ck_table.specs.Callers.{CallerState}
+use Rattle.ck_table.specs.Callers.{CallerState, IsSameCaller}
 use Rattle.ck_script.specs.Script.{NumCommand}
 use Rattle.ck_script.specs.declared.answer.Answer.{Answer}
 use Rattle.ck_script.specs.Output.{IsEntryOf, IsRefusal}
@@ -14,6 +14,5 @@ Grows by c a old new =
 
 -- the caller's command was answered by this answer
 pub record IsAnsweredBy (c : NumCommand) (a : Answer) (p q : CallerState ℕ) : Type 0 where
-  pub table : q.table ≡ p.table
-  pub by : q.pass.view.by ≡ p.pass.view.by
+  pub same : IsSameCaller p q
   pub entries : (by : ℕ) → p.pass.view.by ≡ Some by → Grows by c a p.pass.view.mine q.pass.view.mine

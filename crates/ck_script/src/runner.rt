@@ -2,6 +2,7 @@
 ghost use Rattle.std.specs.Prelude.{◌≡◌, ℕ, [], Some, false, OnOk, IfOk, IfErr};
 ghost use Rattle.ck_words.specs.Rule.{counting};
 ghost use Rattle.ck_words.specs.Closing.{AreAllPasses, dealt};
+ghost use Rattle.ck_table.specs.Callers.{IsSameCaller};
 ghost use Rattle.ck_script.specs.Output.{AreEntriesOf, IsOutputOf, workers_of};
 ghost use Rattle.ck_script.specs.Run.{TakesOutput, StopsBy};
 
@@ -57,8 +58,7 @@ fn answers_of(
     commands: &[Command<NumKey>],
 ) -> Result<Vec<Answer>, AllocError>
     requires { caller.old.pass.view.mine ≡ [] }
-    ensures table { caller.new.table ≡ caller.old.table }
-    ensures by { caller.new.pass.view.by ≡ caller.old.pass.view.by }
+    ensures same { IsSameCaller caller.old caller.new }
     ensures entries { IfOk result (λ answers. (by : ℕ) → caller.old.pass.view.by ≡ Some by →
         AreEntriesOf by commands.now answers.items caller.new.pass.view.mine) }
 {
