@@ -1,13 +1,8 @@
 -- A call leaves its caller the table and the number.
 use Rattle.std.proofs.Common.{◌≡◌, ℕ, Result, Ok, Err, Some, None, Bool, true, false, ap, ◌∙◌}
 use Rattle.std.specs.Prelude.{Option, IfOk, IfErr, MatchOption, MatchBool}
-use Rattle.ck_model.specs.declared.settings.Settings.{Settings}
-use Rattle.ck_model.specs.Map.{Name}
 use Rattle.ck_words.specs.Words.{WordsState}
 use Rattle.ck_words.specs.Passes.{PassState}
-use Rattle.ck_table.specs.declared.refusal.Why.{Why}
-use Rattle.ck_table.specs.declared.refusal.Why.TheVariants.{Busy, Memory, Full, LoadTooLow}
-use Rattle.ck_table.specs.Refusals.{IsRefused}
 use Rattle.ck_table.specs.Callers.{CallerState, IsSameCaller}
 
 module _ {V : Type 0} where
@@ -17,12 +12,6 @@ module _ {V : Type 0} where
     table = ap (λ (c : CallerState V). c.table) is;
     by = by ∙ ap (λ (c : CallerState V). c.pass.view.by) is;
   }
-
-  pub refused_by : (hash : Name → ℕ) (set : Settings) (q : Name) (why : Why) (p p2 : PassState V) → IsRefused hash set q why p p2 → p2.view.by ≡ p.view.by
-  refused_by hash set q (Busy t) p p2 h = h.stays.by
-  refused_by hash set q Memory p p2 h = absurd h
-  refused_by hash set q Full p p2 h = h.stays.by
-  refused_by hash set q LoadTooLow p p2 h = absurd h
 
 -- a fact that holds in both cases
 module _ {Z : Type 0} where

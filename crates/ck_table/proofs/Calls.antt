@@ -1,5 +1,5 @@
 -- What a call leaves of its pass, from what its parts leave.
-use Rattle.std.proofs.Common.{◌≡◌, ◌⊎◌, Bool, true, false, MatchBool, MatchOption, if◌then◌else◌, length, inl, inr, ⊎_elim, ℕ, zero, suc, ◌≤◌, ◌<◌, min, max, Option, None, IfSome, IfNone, List, [], ◌∷◌, ◌++◌, reverse, unwrap_or, append_assoc, append-nil, sym, refl, ap, ◌∙◌, subst, arith, Some}
+use Rattle.std.proofs.Common.{◌≡◌, ◌⊎◌, Bool, true, false, MatchBool, MatchOption, if◌then◌else◌, length, inl, inr, ⊎_elim, ℕ, zero, suc, ◌<◌, min, max, Option, None, IfSome, IfNone, List, [], ◌∷◌, ◌++◌, reverse, unwrap_or, append_assoc, append-nil, sym, refl, ap, ◌∙◌, subst, arith, Some}
 use mathlib.Core.Logic.{dite}
 use native.Mathlib.Decide.{ℕ_discrete, dec_le}
 use Rattle.ck_model.specs.Arithmetic.{index_of, second_of}
@@ -138,17 +138,23 @@ At V = ℕ × List (StripeState V) × List (StripeState V)
 pub s_of : (w v : WordsState) → v ≡ w → (settings : Settings) → settings ≡ v.settings → (s : ℕ) → s ≡ settings.s → s ≡ w.settings.s
 s_of w v is settings same s e = e ∙ ((λ j. (same j).s) ∙ λ j. (is j).settings.s)
 
--- w and v are one table
-module _ {V : Type 0} (hash : Name → ℕ) (w v : WordsState) (is : v ≡ w) (q : Name) (p p1 p2 : PassState V) (held : HoldsKey hash w.settings q p p1) (same : p2.view ≡ p1.view) where
-  pub does : (act : Act V) (reply : Reply V) → IsCall hash w.settings.s p1.stripes q act reply p2.stripes → HasDone hash v.settings (On q act) reply p2
-  does act reply call = subst (λ (x : WordsState). HasDone hash x.settings (On q act) reply p2) (sym is) (did hash w.settings q act reply p p1 p2 w.settings.s p1.stripes held refl refl same call)
+-- w and v are one table, and what was committed is this call on the name
+module _ {V : Type 0} (hash : Name → ℕ) (w v : WordsState) (is : v ≡ w) (q : Name) (p p1 p2 : PassState V) (held : HoldsKey hash w.settings q p p1) (same : p2.view ≡ p1.view)
+    {q1 : Name} {act1 : Act V} (act : Act V) (its_name : q1 ≡ q) (its_act : act1 ≡ act) where
+  is_call : On q1 act1 ≡ On q act
+  is_call i = On (its_name i) (its_act i)
 
-  pub says : (z : PassState V) (act : Act V) (reply : Reply V) → ((r : Reply V) → HasDone hash v.settings (On q act) r p2 → IsAnswered (On q act) r p2 z) → IsCall hash w.settings.s p1.stripes q act reply p2.stripes → IsAnswered (On q act) reply p z
-  says z act reply told call = answered_since p p1 p2 z held.stays same (On q act) reply (told reply (does act reply call))
+  pub does : (reply : Reply V) → IsCall hash w.settings.s p1.stripes q act reply p2.stripes → HasDone hash v.settings (On q1 act1) reply p2
+  does reply call =
+      subst (λ (x : WordsState × Call V). HasDone hash x.0.settings x.1 reply p2) (λ i. (sym is i, sym is_call i)) (did hash w.settings q act reply p p1 p2 w.settings.s p1.stripes held refl refl same call)
 
-module _ {V : Type 0} (w v : WordsState) (is : v ≡ w) (p z : PassState V) where
-  pub caller_then : (call : Call V) (reply : Reply V) → IsCaller w p → IsPassOf v z → IsIdle z → IsAnswered call reply p z → IsCaller w z
-  caller_then call reply r own idle a = caller_after w p z r (subst (λ (x : WordsState). IsPassOf x z) is own) idle a.stays.by a.stays.others
+  pub says : (z : PassState V) (reply : Reply V) → ((r : Reply V) → HasDone hash v.settings (On q1 act1) r p2 → IsAnswered (On q1 act1) r p2 z) → IsCall hash w.settings.s p1.stripes q act reply p2.stripes → IsAnswered (On q act) reply p z
+  says z reply told call = answered_since p p1 p2 z held.stays same (On q act) reply (subst (λ (x : Call V). IsAnswered x reply p2 z) is_call (told reply (does reply call)))
+
+-- a call that was committed is over
+pub caller_then : {V : Type 0} (w v : WordsState) → v ≡ w → (p p1 p2 z : PassState V) → IsCaller w p → Stays p.view p1.view → p2.view ≡ p1.view → IsPassOf v z → IsIdle z → z.view.by ≡ p2.view.by → z.view.others ≡ p2.view.others → IsCaller w z
+caller_then w v is p p1 p2 z r s same own idle by others =
+    caller_after w p z r (subst (λ (x : WordsState). IsPassOf x z) is own) idle (by ∙ (ap (λ v. v.by) same ∙ s.by)) (others ∙ (ap (λ v. v.others) same ∙ s.others))
 
 -- there are stripes still
 pub some_still : {V : Type 0} (old mid new new2 : List (StripeState V)) → mid ≡ old → length new ≡ length mid → new ≡ new2 → 0 < length old → 0 < length new2

@@ -1,5 +1,6 @@
 -- What contracts see of a caller, and what its calls leave of it.
 use Rattle.std.specs.Prelude.{◌≡◌, ℕ, List, map, Option, Some, None, Bool, MatchOption, MatchBool, if◌then◌else◌}
+use Rattle.ck_model.specs.declared.history.Act.{Act}
 use Rattle.ck_model.specs.declared.history.Act.TheVariants.{Find, Insert, Assign, Upsert, Update, Change, Erase}
 use Rattle.ck_model.specs.declared.history.Call.{Call}
 use Rattle.ck_model.specs.declared.history.Call.TheVariants.{On, ChangeTwo}
@@ -11,7 +12,8 @@ use Rattle.ck_words.specs.Passes.{PassState}
 use Rattle.ck_words.specs.Retries.{FindsAmong}
 use Rattle.ck_words.specs.Answering.{IsAnswered}
 use Rattle.ck_table.specs.declared.refusal.Refused.{Refused}
-use Rattle.ck_table.specs.Refusals.{FindsOwn, IsBusyAt, IsBusyAmong, IsStripeOfEither, IsRefused}
+use Rattle.ck_table.specs.Refusals.{FindsOwn, IsBusyAt, IsBusyAmong, IsStripeOfEither}
+use Rattle.ck_table.specs.Insertions.{IsInserted, IsRefused, FindsOwnUnlessFull}
 
 -- Its table, and its pass.
 pub record CallerState (V : Type 0) : Type 0 where
@@ -44,18 +46,24 @@ module _ {V : Type 0} where
   abbrev pub FindsBy : {R : Type 0} → (V → R → Type 0) → Name → Option R → CallerState V → CallerState V → Type 0
   FindsBy returns q answer c d = MatchOption answer (Finds q None c d) (λ r. (v : V) × returns v r × Finds q (Some v) c d)
 
+  -- the insertion was answered by this reply
+  abbrev pub RepliesInserting : Name → Act V → Reply V → CallerState V → CallerState V → Type 0
+  RepliesInserting q act reply c d = IsInserted q act reply c.pass d.pass
+
   -- the name was bound to the value where it was unbound
   abbrev pub Inserts : Name → V → Bool → CallerState V → CallerState V → Type 0
-  Inserts q value fresh = Replies (On q (Insert value)) (if fresh then New else Old)
+  Inserts q value fresh = RepliesInserting q (Insert value) (if fresh then New else Old)
 
   -- the name was bound to the value, in place of this
   abbrev pub Assigns : Name → V → Option V → CallerState V → CallerState V → Type 0
-  Assigns q value old = Replies (On q (Assign value)) (Was old)
+  Assigns q value old = RepliesInserting q (Assign value) (Was old)
 
   -- the name was bound to the value where it was unbound, and else to what the closure made of its value
   abbrev pub Upserts : (V → V → Type 0) → Name → V → Bool → CallerState V → CallerState V → Type 0
   Upserts makes q value fresh c d =
-      MatchBool fresh (Replies (On q (Upsert value)) New c d) ((v w : V) × makes v w × Replies (On q (Upsert value)) (Done v w) c d)
+      MatchBool fresh
+      (RepliesInserting q (Upsert value) New c d)
+      ((v w : V) × makes v w × RepliesInserting q (Upsert value) (Done v w) c d)
 
   -- the name was bound to the value, in place of this, where it was bound
   abbrev pub Updates : Name → V → Option V → CallerState V → CallerState V → Type 0
@@ -87,6 +95,10 @@ module _ {V : Type 0} where
   abbrev pub FindsHeldOwn : (Name → ℕ) → Name → CallerState V → CallerState V → Type 0
   FindsHeldOwn hash q c d = FindsOwn hash c.table.settings q c.pass d.pass
 
+  -- no stripe was found held but those of the name, or any once the name's buckets were full
+  abbrev pub FindsHeldUnlessFull : (Name → ℕ) → Name → CallerState V → CallerState V → Type 0
+  FindsHeldUnlessFull hash q c d = FindsOwnUnlessFull hash c.table.settings q c.pass d.pass
+
   -- no stripe was found held but those of the two names
   abbrev pub FindsHeldOfTwo : (Name → ℕ) → Name → Name → CallerState V → CallerState V → Type 0
   FindsHeldOfTwo hash q r c d = FindsAmong (IsStripeOfEither hash c.table.settings q r) c.pass d.pass
@@ -101,6 +113,6 @@ module _ {V : Type 0} where
       IsBusyAmong (IsStripeOfEither hash c.table.settings q r) c.table.settings.turns t c.pass d.pass
 
   -- the insertion was refused, and key and value came back
-  abbrev pub ComesBack : {K : Type 0} → (Name → ℕ) → Name → K → V → Refused K V → CallerState V → CallerState V → Type 0
-  ComesBack hash q key value e c d =
-      (e.key ≡ key) × (e.value ≡ value) × IsRefused hash c.table.settings q e.why c.pass d.pass
+  abbrev pub ComesBack : {K : Type 0} → Name → K → V → Refused K V → CallerState V → CallerState V → Type 0
+  ComesBack q key value e c d =
+      (e.key ≡ key) × (e.value ≡ value) × IsRefused c.table.settings q e.why c.pass d.pass

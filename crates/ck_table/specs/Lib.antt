@@ -1,4 +1,5 @@
 pub mod Holding
 pub mod Refusals
 pub mod HoldingTwo
+pub mod Insertions
 pub mod Callers

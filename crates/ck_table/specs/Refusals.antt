@@ -1,14 +1,11 @@
--- What a refused call leaves of its pass.
-use Rattle.std.specs.Prelude.{◌≡◌, ◌⊎◌, ℕ, List, ◌∷◌, ◌++◌, replicate}
-use Rattle.ck_model.specs.declared.history.Why.TheVariants.{NoRoom}
+-- What a call that is refused as busy leaves of its pass.
+use Rattle.std.specs.Prelude.{◌⊎◌, ℕ}
 use Rattle.ck_model.specs.declared.settings.Settings.{Settings}
 use Rattle.ck_model.specs.Map.{Name}
 use Rattle.ck_model.specs.Contents.{IsStripeOf}
-use Rattle.ck_table.specs.declared.refusal.Why.{Why}
-use Rattle.ck_table.specs.declared.refusal.Why.TheVariants.{Busy, Memory, Full, LoadTooLow}
 use Rattle.ck_words.specs.Rule.{layout_of}
 use Rattle.ck_words.specs.Passes.{PassState}
-use Rattle.ck_words.specs.Retries.{Stays, FindsAmong}
+use Rattle.ck_words.specs.Retries.{Stays, FindsAmong, FindsLast}
 
 -- a stripe of one of the two names
 abbrev pub IsStripeOfEither : (Name → ℕ) → Settings → Name → Name → ℕ → Type 0
@@ -23,20 +20,8 @@ module _ {V : Type 0} where
   pub record IsBusyAmong (P : ℕ → Type 0) (turns t : ℕ) (p p2 : PassState V) : Type 0 where
     pub stays : Stays p.view p2.view
     pub stripe : P t
-    pub before : List ℕ
-    pub tried : p2.view.found ≡ replicate turns t ++ before ++ p.view.found
+    pub tried : FindsLast turns t p p2
 
   -- it was a stripe of the name
   abbrev pub IsBusyAt : (Name → ℕ) → Settings → Name → ℕ → PassState V → PassState V → Type 0
   IsBusyAt hash set q t p p2 = IsBusyAmong (IsStripeOf (layout_of hash set) q) set.turns t p p2
-
-  -- The call has no entry; the pass has shown that the name was unbound and its buckets were full.
-  pub record HasFoundNoRoom (q : Name) (p p2 : PassState V) : Type 0 where
-    pub stays : Stays (record p.view { noroom = (q, NoRoom) ∷ p.view.noroom }) p2.view
-
-  -- The insertion was refused for this reason.
-  abbrev pub IsRefused : (Name → ℕ) → Settings → Name → Why → PassState V → PassState V → Type 0
-  IsRefused hash set q (Busy t) p p2 = IsBusyAt hash set q t p p2
-  IsRefused hash set q Full p p2 = HasFoundNoRoom q p p2
-  IsRefused hash set q Memory p p2 = ⊥
-  IsRefused hash set q LoadTooLow p p2 = ⊥

@@ -62,7 +62,7 @@ impl<K: TableKey + Drop, V: Drop> Table<K, V> {
 }
 
 impl<'t, K: TableKey + Drop, V: Drop> Caller<'t, K, V> {
-    ghost use Rattle.ck_table.specs.Callers.{IsSameCaller, Finds, FindsBound, FindsBy, Inserts, Assigns, Upserts, Updates, Changes, ChangesTwo, Erases, ErasesBy, FindsHeldOwn, FindsHeldOfTwo, IsBusyOn, IsBusyOnTwo, ComesBack};
+    ghost use Rattle.ck_table.specs.Callers.{IsSameCaller, Finds, FindsBound, FindsBy, Inserts, Assigns, Upserts, Updates, Changes, ChangesTwo, Erases, ErasesBy, FindsHeldOwn, FindsHeldUnlessFull, FindsHeldOfTwo, IsBusyOn, IsBusyOnTwo, ComesBack};
 
     /// The table.
     pub fn table(&self) -> &'t Table<K, V>
@@ -127,8 +127,8 @@ impl<'t, K: TableKey + Drop, V: Drop> Caller<'t, K, V> {
     pub fn insert(&mut self, key: K, value: V) -> Result<bool, Refused<K, V>>
         ensures same { IsSameCaller self.old self.new }
         ensures answered { IfOk result (λ fresh. Inserts (K.name key) value fresh self.old self.new) }
-        ensures refused { IfErr result (λ e. ComesBack K.hash (K.name key) key value e self.old self.new) }
-        ensures found { FindsHeldOwn K.hash (K.name key) self.old self.new }
+        ensures refused { IfErr result (λ e. ComesBack (K.name key) key value e self.old self.new) }
+        ensures found { FindsHeldUnlessFull K.hash (K.name key) self.old self.new }
     {
         self.table.insert(&mut self.pass, key, value)
     }
@@ -139,8 +139,8 @@ impl<'t, K: TableKey + Drop, V: Drop> Caller<'t, K, V> {
     pub fn insert_or_assign(&mut self, key: K, value: V) -> Result<Option<V>, Refused<K, V>>
         ensures same { IsSameCaller self.old self.new }
         ensures answered { IfOk result (λ old. Assigns (K.name key) value old self.old self.new) }
-        ensures refused { IfErr result (λ e. ComesBack K.hash (K.name key) key value e self.old self.new) }
-        ensures found { FindsHeldOwn K.hash (K.name key) self.old self.new }
+        ensures refused { IfErr result (λ e. ComesBack (K.name key) key value e self.old self.new) }
+        ensures found { FindsHeldUnlessFull K.hash (K.name key) self.old self.new }
     {
         self.table.insert_or_assign(&mut self.pass, key, value)
     }
@@ -159,8 +159,8 @@ impl<'t, K: TableKey + Drop, V: Drop> Caller<'t, K, V> {
         requires call { F.IsAlwaysCallable f }
         ensures same { IsSameCaller self.old self.new }
         ensures answered { IfOk result (λ fresh. Upserts (F.post f) (K.name key) value fresh self.old self.new) }
-        ensures refused { IfErr result (λ e. ComesBack K.hash (K.name key) key value e self.old self.new) }
-        ensures found { FindsHeldOwn K.hash (K.name key) self.old self.new }
+        ensures refused { IfErr result (λ e. ComesBack (K.name key) key value e self.old self.new) }
+        ensures found { FindsHeldUnlessFull K.hash (K.name key) self.old self.new }
     {
         self.table.upsert(&mut self.pass, key, f, value)
     }

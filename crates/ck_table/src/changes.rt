@@ -15,8 +15,7 @@ use crate::refusal::Busy;
 use crate::table::Table;
 use ck_key::TableKey;
 use ck_section::{Answer, Place, change, erase, erase_if, key_place, update};
-use ck_words::{Lent, Pass};
-use std::marker::Brand;
+use ck_words::{Commit, Lent, Pass};
 use std::snapshot::Snapshot;
 
 impl<K: TableKey + Drop, V: Drop> Table<K, V> {
@@ -27,17 +26,19 @@ impl<K: TableKey + Drop, V: Drop> Table<K, V> {
     pub fn update(&self, pass: &mut Pass<K, V>, key: &K, value: V) -> Result<Option<V>, (V, Busy)>
         requires caller { IsCaller self.now pass.old }
         ensures caller { IsCaller self.now pass.new }
-        ensures answered { IfOk result (λ old. IsAnswered (On (K.name key.now) (Update value)) (Was old) pass.old pass.new) }
-        ensures busy { IfErr result (λ back. (back.0 ≡ value) × IsBusyAt K.hash self.now.settings (K.name key.now) back.1.0 pass.old pass.new) }
+        ensures answered { IfOk result (λ old.
+            IsAnswered (On (K.name key.now) (Update value)) (Was old) pass.old pass.new) }
+        ensures busy { IfErr result (λ back. (back.0 ≡ value)
+            × IsBusyAt K.hash self.now.settings (K.name key.now) back.1.0 pass.old pass.new) }
         ensures found { FindsOwn K.hash self.now.settings (K.name key.now) pass.old pass.new }
     {
         if let Err(busy) = self.hold_key(pass, key) {
             return Err((value, busy));
         }
-        let said = Snapshot::of(&value);
+        let value_said = Snapshot::of(&value);
         let found = self.update_held(pass, key, value);
         self.words
-            .answer::<Brand, (&K, Snapshot<V>)>(pass, &(key, said));
+            .commit(pass, Commit::Update(Snapshot::of(key), value_said));
         match found {
             Some(found) => Ok(Some(found.reply)),
             None => Ok(None),
@@ -59,13 +60,17 @@ impl<K: TableKey + Drop, V: Drop> Table<K, V> {
         requires caller { IsCaller self.now pass.old }
         requires call { F.IsAlwaysCallable f }
         ensures caller { IsCaller self.now pass.new }
-        ensures answered { IfOk result (λ bound. MatchBool bound ((v w : V) × F.post f v w × IsAnswered (On (K.name key.now) Change) (Done v w) pass.old pass.new) (IsAnswered (On (K.name key.now) Change) Absent pass.old pass.new)) }
-        ensures busy { IfErr result (λ busy. IsBusyAt K.hash self.now.settings (K.name key.now) busy.0 pass.old pass.new) }
+        ensures answered { IfOk result (λ bound. MatchBool bound
+            ((v w : V) × F.post f v w
+            × IsAnswered (On (K.name key.now) Change) (Done v w) pass.old pass.new)
+            (IsAnswered (On (K.name key.now) Change) Absent pass.old pass.new)) }
+        ensures busy { IfErr result (λ busy.
+            IsBusyAt K.hash self.now.settings (K.name key.now) busy.0 pass.old pass.new) }
         ensures found { FindsOwn K.hash self.now.settings (K.name key.now) pass.old pass.new }
     {
         self.hold_key(pass, key)?;
         let found = self.change_held(pass, key, f);
-        self.words.answer::<Brand, &K>(pass, &key);
+        self.words.commit(pass, Commit::Change(Snapshot::of(key)));
         match found {
             Some(_) => Ok(true),
             None => Ok(false),
@@ -76,13 +81,15 @@ impl<K: TableKey + Drop, V: Drop> Table<K, V> {
     pub fn erase(&self, pass: &mut Pass<K, V>, key: &K) -> Result<Option<V>, Busy>
         requires caller { IsCaller self.now pass.old }
         ensures caller { IsCaller self.now pass.new }
-        ensures answered { IfOk result (λ old. IsAnswered (On (K.name key.now) Erase) (Was old) pass.old pass.new) }
-        ensures busy { IfErr result (λ busy. IsBusyAt K.hash self.now.settings (K.name key.now) busy.0 pass.old pass.new) }
+        ensures answered { IfOk result (λ old.
+            IsAnswered (On (K.name key.now) Erase) (Was old) pass.old pass.new) }
+        ensures busy { IfErr result (λ busy.
+            IsBusyAt K.hash self.now.settings (K.name key.now) busy.0 pass.old pass.new) }
         ensures found { FindsOwn K.hash self.now.settings (K.name key.now) pass.old pass.new }
     {
         self.hold_key(pass, key)?;
         let found = self.erase_held(pass, key);
-        self.words.answer::<Brand, &K>(pass, &key);
+        self.words.commit(pass, Commit::Erase(Snapshot::of(key)));
         match found {
             Some(erased) => Ok(Some(erased.reply)),
             None => Ok(None),
@@ -104,14 +111,23 @@ impl<K: TableKey + Drop, V: Drop> Table<K, V> {
         requires caller { IsCaller self.now pass.old }
         requires call { F.IsAlwaysCallable f }
         ensures caller { IsCaller self.now pass.new }
-        ensures answered { IfOk result (λ answer. MatchOption answer (IsAnswered (On (K.name key.now) Find) (Was None) pass.old pass.new) (λ gone. (v : V) × FnOnceReturnsAt F.FnOnce f v gone × MatchBool gone (IsAnswered (On (K.name key.now) Erase) (Was (Some v)) pass.old pass.new) (IsAnswered (On (K.name key.now) Find) (Was (Some v)) pass.old pass.new))) }
-        ensures busy { IfErr result (λ busy. IsBusyAt K.hash self.now.settings (K.name key.now) busy.0 pass.old pass.new) }
+        ensures answered { IfOk result (λ answer. MatchOption answer
+            (IsAnswered (On (K.name key.now) Find) (Was None) pass.old pass.new)
+            (λ gone. (v : V) × FnOnceReturnsAt F.FnOnce f v gone × MatchBool gone
+            (IsAnswered (On (K.name key.now) Erase) (Was (Some v)) pass.old pass.new)
+            (IsAnswered (On (K.name key.now) Find) (Was (Some v)) pass.old pass.new))) }
+        ensures busy { IfErr result (λ busy.
+            IsBusyAt K.hash self.now.settings (K.name key.now) busy.0 pass.old pass.new) }
         ensures found { FindsOwn K.hash self.now.settings (K.name key.now) pass.old pass.new }
     {
         self.hold_key(pass, key)?;
         let gone = self.erase_if_held(pass, key, f);
-        let said = (key, gone.unwrap_or(false));
-        self.words.answer::<Brand, (&K, bool)>(pass, &said);
+        let said = Snapshot::of(key);
+        if gone.unwrap_or(false) {
+            self.words.commit(pass, Commit::Erase(said));
+        } else {
+            self.words.commit(pass, Commit::Find(said));
+        }
         Ok(gone)
     }
 
@@ -123,8 +139,12 @@ impl<K: TableKey + Drop, V: Drop> Table<K, V> {
         ensures own { IsPassOf self.now pass.new }
         ensures view { pass.new.view ≡ pass.old.view }
         ensures some { 0 < length pass.new.stripes }
-        ensures bound { IfSome result (λ a. IsCallAt K.hash self.now.settings.s pass.old.stripes (K.name key.now) (Update value) (Was (Some a.reply)) pass.new.stripes a.place value) }
-        ensures unbound { IfNone result (IsCall K.hash self.now.settings.s pass.old.stripes (K.name key.now) (Update value) (Was None) pass.new.stripes × (pass.new.stripes ≡ pass.old.stripes)) }
+        ensures bound { IfSome result (λ a.
+            IsCallAt K.hash self.now.settings.s pass.old.stripes (K.name key.now)
+            (Update value) (Was (Some a.reply)) pass.new.stripes a.place value) }
+        ensures unbound { IfNone result (
+            IsCall K.hash self.now.settings.s pass.old.stripes (K.name key.now)
+            (Update value) (Was None) pass.new.stripes × (pass.new.stripes ≡ pass.old.stripes)) }
     {
         let s = self.words.settings().s;
         let mut lent = Lent {
@@ -146,8 +166,12 @@ impl<K: TableKey + Drop, V: Drop> Table<K, V> {
         ensures own { IsPassOf self.now pass.new }
         ensures view { pass.new.view ≡ pass.old.view }
         ensures some { 0 < length pass.new.stripes }
-        ensures bound { IfSome result (λ at. (v w : V) × F.post f v w × IsCallAt K.hash self.now.settings.s pass.old.stripes (K.name key.now) Change (Done v w) pass.new.stripes at w) }
-        ensures unbound { IfNone result (IsCall K.hash self.now.settings.s pass.old.stripes (K.name key.now) Change Absent pass.new.stripes × (pass.new.stripes ≡ pass.old.stripes)) }
+        ensures bound { IfSome result (λ at. (v w : V) × F.post f v w
+            × IsCallAt K.hash self.now.settings.s pass.old.stripes (K.name key.now)
+            Change (Done v w) pass.new.stripes at w) }
+        ensures unbound { IfNone result (
+            IsCall K.hash self.now.settings.s pass.old.stripes (K.name key.now)
+            Change Absent pass.new.stripes × (pass.new.stripes ≡ pass.old.stripes)) }
     {
         let s = self.words.settings().s;
         let mut lent = Lent {
@@ -166,8 +190,13 @@ impl<K: TableKey + Drop, V: Drop> Table<K, V> {
         ensures own { IsPassOf self.now pass.new }
         ensures view { pass.new.view ≡ pass.old.view }
         ensures some { 0 < length pass.new.stripes }
-        ensures bound { IfSome result (λ a. IsCall K.hash self.now.settings.s pass.old.stripes (K.name key.now) Erase (Was (Some a.reply)) pass.new.stripes × IsAt K.hash self.now.settings.s pass.old.stripes a.place (K.name key.now) a.reply) }
-        ensures unbound { IfNone result (IsCall K.hash self.now.settings.s pass.old.stripes (K.name key.now) Erase (Was None) pass.new.stripes × (pass.new.stripes ≡ pass.old.stripes)) }
+        ensures bound { IfSome result (λ a.
+            IsCall K.hash self.now.settings.s pass.old.stripes (K.name key.now)
+            Erase (Was (Some a.reply)) pass.new.stripes
+            × IsAt K.hash self.now.settings.s pass.old.stripes a.place (K.name key.now) a.reply) }
+        ensures unbound { IfNone result (
+            IsCall K.hash self.now.settings.s pass.old.stripes (K.name key.now)
+            Erase (Was None) pass.new.stripes × (pass.new.stripes ≡ pass.old.stripes)) }
     {
         let s = self.words.settings().s;
         let mut lent = Lent {
@@ -194,8 +223,15 @@ impl<K: TableKey + Drop, V: Drop> Table<K, V> {
         ensures own { IsPassOf self.now pass.new }
         ensures view { pass.new.view ≡ pass.old.view }
         ensures some { 0 < length pass.new.stripes }
-        ensures bound { IfSome result (λ gone. (v : V) × FnOnceReturnsAt F.FnOnce f v gone × MatchBool gone (IsCall K.hash self.now.settings.s pass.old.stripes (K.name key.now) Erase (Was (Some v)) pass.new.stripes) (IsCall K.hash self.now.settings.s pass.old.stripes (K.name key.now) Find (Was (Some v)) pass.new.stripes × (pass.new.stripes ≡ pass.old.stripes))) }
-        ensures unbound { IfNone result (IsCall K.hash self.now.settings.s pass.old.stripes (K.name key.now) Find (Was None) pass.new.stripes × (pass.new.stripes ≡ pass.old.stripes)) }
+        ensures bound { IfSome result (λ gone. (v : V) × FnOnceReturnsAt F.FnOnce f v gone
+            × MatchBool gone
+            (IsCall K.hash self.now.settings.s pass.old.stripes (K.name key.now)
+            Erase (Was (Some v)) pass.new.stripes)
+            (IsCall K.hash self.now.settings.s pass.old.stripes (K.name key.now)
+            Find (Was (Some v)) pass.new.stripes × (pass.new.stripes ≡ pass.old.stripes))) }
+        ensures unbound { IfNone result (
+            IsCall K.hash self.now.settings.s pass.old.stripes (K.name key.now)
+            Find (Was None) pass.new.stripes × (pass.new.stripes ≡ pass.old.stripes)) }
     {
         let s = self.words.settings().s;
         let mut lent = Lent {

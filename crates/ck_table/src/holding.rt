@@ -16,10 +16,12 @@ impl<K: TableKey + Drop, V: Drop> Table<K, V> {
     pub(crate) fn hold_key(&self, pass: &mut Pass<K, V>, key: &K) -> Result<(), Busy>
         requires caller { IsCaller self.now pass.old }
         ensures own { IsPassOf self.now pass.new }
-        ensures held { OnOk result (HoldsKey K.hash self.now.settings (K.name key.now) pass.old pass.new) }
+        ensures held { OnOk result (
+            HoldsKey K.hash self.now.settings (K.name key.now) pass.old pass.new) }
         ensures found { FindsOwn K.hash self.now.settings (K.name key.now) pass.old pass.new }
         ensures idle { OnErr result (IsIdle pass.new) }
-        ensures busy { IfErr result (λ busy. IsBusyAt K.hash self.now.settings (K.name key.now) busy.0 pass.old pass.new) }
+        ensures busy { IfErr result (λ busy.
+            IsBusyAt K.hash self.now.settings (K.name key.now) busy.0 pass.old pass.new) }
     {
         let (low, high) = stripes_of(self.words.settings().s, key.hash64());
         match self.words.hold(pass, low as usize, high as usize) {

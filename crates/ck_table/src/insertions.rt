@@ -1,20 +1,18 @@
 //! Calls that may bind an unbound key.
 ghost use Rattle.std.specs.Prelude.{◌≡◌, ◌<◌, Some, None, true, false, length, if◌then◌else◌, IfOk, IfErr, MatchBool};
 ghost use Rattle.ck_model.specs.declared.history.Act.TheVariants.{Insert, Assign, Upsert};
-ghost use Rattle.ck_model.specs.declared.history.Call.TheVariants.{On};
 ghost use Rattle.ck_model.specs.declared.history.Reply.TheVariants.{Was, New, Old, Done};
 ghost use Rattle.ck_section.specs.Calls.{IsCall, IsWithoutRoom};
 ghost use Rattle.ck_section.specs.Places.{AreHeld, HasBoth};
 ghost use Rattle.ck_words.specs.Passes.{IsPassOf, IsIdle, IsUnchanged};
-ghost use Rattle.ck_words.specs.Answering.{IsAnswered};
 ghost use Rattle.ck_words.specs.Closing.{IsCaller};
-ghost use Rattle.ck_table.specs.Refusals.{FindsOwn, HasFoundNoRoom, IsRefused};
+ghost use Rattle.ck_table.specs.Insertions.{HasFoundNoRoom, IsInserted, IsRefused, FindsOwnUnlessFull};
 
 use crate::refusal::{Busy, Refused, Why};
 use crate::table::Table;
 use ck_key::TableKey;
 use ck_section::{NoRoom, assign, insert, key_place, upsert};
-use ck_words::{Lent, Pass};
+use ck_words::{Commit, Lent, Pass};
 use std::marker::Brand;
 use std::snapshot::Snapshot;
 
@@ -27,9 +25,11 @@ impl<K: TableKey + Drop, V: Drop> Table<K, V> {
     pub fn insert(&self, pass: &mut Pass<K, V>, key: K, value: V) -> Result<bool, Refused<K, V>>
         requires caller { IsCaller self.now pass.old }
         ensures caller { IsCaller self.now pass.new }
-        ensures answered { IfOk result (λ fresh. IsAnswered (On (K.name key) (Insert value)) (if fresh then New else Old) pass.old pass.new) }
-        ensures refused { IfErr result (λ e. (e.key ≡ key) × (e.value ≡ value) × IsRefused K.hash self.now.settings (K.name key) e.why pass.old pass.new) }
-        ensures found { FindsOwn K.hash self.now.settings (K.name key) pass.old pass.new }
+        ensures answered { IfOk result (λ fresh.
+            IsInserted (K.name key) (Insert value) (if fresh then New else Old) pass.old pass.new) }
+        ensures refused { IfErr result (λ e. (e.key ≡ key) × (e.value ≡ value)
+            × IsRefused self.now.settings (K.name key) e.why pass.old pass.new) }
+        ensures found { FindsOwnUnlessFull K.hash self.now.settings (K.name key) pass.old pass.new }
     {
         if let Err(Busy(stripe)) = self.hold_key(pass, &key) {
             return Err(Refused {
@@ -38,12 +38,13 @@ impl<K: TableKey + Drop, V: Drop> Table<K, V> {
                 why: Why::Busy(stripe),
             });
         }
-        let said = (Snapshot::of(&key), Snapshot::of(&value));
+        let key_said = Snapshot::of(&key);
+        let value_said = Snapshot::of(&value);
         let done = self.insert_held(pass, key, value);
         match done {
             Ok(fresh) => {
                 self.words
-                    .answer::<Brand, (Snapshot<K>, Snapshot<V>)>(pass, &said);
+                    .commit(pass, Commit::Insert(key_said, value_said));
                 Ok(fresh)
             }
             Err(back) => Err(self.refuse(pass, back)),
@@ -62,9 +63,11 @@ impl<K: TableKey + Drop, V: Drop> Table<K, V> {
     ) -> Result<Option<V>, Refused<K, V>>
         requires caller { IsCaller self.now pass.old }
         ensures caller { IsCaller self.now pass.new }
-        ensures answered { IfOk result (λ old. IsAnswered (On (K.name key) (Assign value)) (Was old) pass.old pass.new) }
-        ensures refused { IfErr result (λ e. (e.key ≡ key) × (e.value ≡ value) × IsRefused K.hash self.now.settings (K.name key) e.why pass.old pass.new) }
-        ensures found { FindsOwn K.hash self.now.settings (K.name key) pass.old pass.new }
+        ensures answered { IfOk result (λ old.
+            IsInserted (K.name key) (Assign value) (Was old) pass.old pass.new) }
+        ensures refused { IfErr result (λ e. (e.key ≡ key) × (e.value ≡ value)
+            × IsRefused self.now.settings (K.name key) e.why pass.old pass.new) }
+        ensures found { FindsOwnUnlessFull K.hash self.now.settings (K.name key) pass.old pass.new }
     {
         if let Err(Busy(stripe)) = self.hold_key(pass, &key) {
             return Err(Refused {
@@ -73,12 +76,13 @@ impl<K: TableKey + Drop, V: Drop> Table<K, V> {
                 why: Why::Busy(stripe),
             });
         }
-        let said = (Snapshot::of(&key), Snapshot::of(&value));
+        let key_said = Snapshot::of(&key);
+        let value_said = Snapshot::of(&value);
         let done = self.assign_held(pass, key, value);
         match done {
             Ok(old) => {
                 self.words
-                    .answer::<Brand, (Snapshot<K>, Snapshot<V>)>(pass, &said);
+                    .commit(pass, Commit::Assign(key_said, value_said));
                 Ok(old)
             }
             Err(back) => Err(self.refuse(pass, back)),
@@ -102,9 +106,13 @@ impl<K: TableKey + Drop, V: Drop> Table<K, V> {
         requires caller { IsCaller self.now pass.old }
         requires call { F.IsAlwaysCallable f }
         ensures caller { IsCaller self.now pass.new }
-        ensures answered { IfOk result (λ fresh. MatchBool fresh (IsAnswered (On (K.name key) (Upsert value)) New pass.old pass.new) ((v w : V) × F.post f v w × IsAnswered (On (K.name key) (Upsert value)) (Done v w) pass.old pass.new)) }
-        ensures refused { IfErr result (λ e. (e.key ≡ key) × (e.value ≡ value) × IsRefused K.hash self.now.settings (K.name key) e.why pass.old pass.new) }
-        ensures found { FindsOwn K.hash self.now.settings (K.name key) pass.old pass.new }
+        ensures answered { IfOk result (λ fresh. MatchBool fresh
+            (IsInserted (K.name key) (Upsert value) New pass.old pass.new)
+            ((v w : V) × F.post f v w
+            × IsInserted (K.name key) (Upsert value) (Done v w) pass.old pass.new)) }
+        ensures refused { IfErr result (λ e. (e.key ≡ key) × (e.value ≡ value)
+            × IsRefused self.now.settings (K.name key) e.why pass.old pass.new) }
+        ensures found { FindsOwnUnlessFull K.hash self.now.settings (K.name key) pass.old pass.new }
     {
         if let Err(Busy(stripe)) = self.hold_key(pass, &key) {
             return Err(Refused {
@@ -113,12 +121,13 @@ impl<K: TableKey + Drop, V: Drop> Table<K, V> {
                 why: Why::Busy(stripe),
             });
         }
-        let said = (Snapshot::of(&key), Snapshot::of(&value));
+        let key_said = Snapshot::of(&key);
+        let value_said = Snapshot::of(&value);
         let done = self.upsert_held(pass, key, f, value);
         match done {
             Ok(reply) => {
                 self.words
-                    .answer::<Brand, (Snapshot<K>, Snapshot<V>)>(pass, &said);
+                    .commit(pass, Commit::Upsert(key_said, value_said));
                 Ok(reply)
             }
             Err(back) => Err(self.refuse(pass, back)),
@@ -133,8 +142,13 @@ impl<K: TableKey + Drop, V: Drop> Table<K, V> {
         ensures own { IsPassOf self.now pass.new }
         ensures view { pass.new.view ≡ pass.old.view }
         ensures some { 0 < length pass.new.stripes }
-        ensures call { IfOk result (λ fresh. IsCall K.hash self.now.settings.s pass.old.stripes (K.name key) (Insert value) (if fresh then New else Old) pass.new.stripes) }
-        ensures no_room { IfErr result (λ e. IsWithoutRoom K.hash self.now.settings.s pass.old.stripes (K.name key) × (e ≡ record { key = key; value = value }) × (pass.new.stripes ≡ pass.old.stripes)) }
+        ensures call { IfOk result (λ fresh.
+            IsCall K.hash self.now.settings.s pass.old.stripes (K.name key)
+            (Insert value) (if fresh then New else Old) pass.new.stripes) }
+        ensures no_room { IfErr result (λ e.
+            IsWithoutRoom K.hash self.now.settings.s pass.old.stripes (K.name key)
+            × (e ≡ record { key = key; value = value })
+            × (pass.new.stripes ≡ pass.old.stripes)) }
     {
         let s = self.words.settings().s;
         let mut lent = Lent {
@@ -161,8 +175,13 @@ impl<K: TableKey + Drop, V: Drop> Table<K, V> {
         ensures own { IsPassOf self.now pass.new }
         ensures view { pass.new.view ≡ pass.old.view }
         ensures some { 0 < length pass.new.stripes }
-        ensures call { IfOk result (λ old. IsCall K.hash self.now.settings.s pass.old.stripes (K.name key) (Assign value) (Was old) pass.new.stripes) }
-        ensures no_room { IfErr result (λ e. IsWithoutRoom K.hash self.now.settings.s pass.old.stripes (K.name key) × (e ≡ record { key = key; value = value }) × (pass.new.stripes ≡ pass.old.stripes)) }
+        ensures call { IfOk result (λ old.
+            IsCall K.hash self.now.settings.s pass.old.stripes (K.name key)
+            (Assign value) (Was old) pass.new.stripes) }
+        ensures no_room { IfErr result (λ e.
+            IsWithoutRoom K.hash self.now.settings.s pass.old.stripes (K.name key)
+            × (e ≡ record { key = key; value = value })
+            × (pass.new.stripes ≡ pass.old.stripes)) }
     {
         let s = self.words.settings().s;
         let mut lent = Lent {
@@ -193,8 +212,16 @@ impl<K: TableKey + Drop, V: Drop> Table<K, V> {
         ensures own { IsPassOf self.now pass.new }
         ensures view { pass.new.view ≡ pass.old.view }
         ensures some { 0 < length pass.new.stripes }
-        ensures call { IfOk result (λ fresh. MatchBool fresh (IsCall K.hash self.now.settings.s pass.old.stripes (K.name key) (Upsert value) New pass.new.stripes) ((v w : V) × F.post f v w × IsCall K.hash self.now.settings.s pass.old.stripes (K.name key) (Upsert value) (Done v w) pass.new.stripes)) }
-        ensures no_room { IfErr result (λ e. IsWithoutRoom K.hash self.now.settings.s pass.old.stripes (K.name key) × (e ≡ record { key = key; value = value }) × (pass.new.stripes ≡ pass.old.stripes)) }
+        ensures call { IfOk result (λ fresh. MatchBool fresh
+            (IsCall K.hash self.now.settings.s pass.old.stripes (K.name key)
+            (Upsert value) New pass.new.stripes)
+            ((v w : V) × F.post f v w
+            × IsCall K.hash self.now.settings.s pass.old.stripes (K.name key)
+            (Upsert value) (Done v w) pass.new.stripes)) }
+        ensures no_room { IfErr result (λ e.
+            IsWithoutRoom K.hash self.now.settings.s pass.old.stripes (K.name key)
+            × (e ≡ record { key = key; value = value })
+            × (pass.new.stripes ≡ pass.old.stripes)) }
     {
         let s = self.words.settings().s;
         let mut lent = Lent {
@@ -214,10 +241,13 @@ impl<K: TableKey + Drop, V: Drop> Table<K, V> {
         requires some { 0 < length pass.old.stripes }
         requires unchanged { IsUnchanged pass.old }
         requires both { HasBoth K.hash self.now.settings.s pass.old.stripes (K.name back.key) }
-        requires room { IsWithoutRoom K.hash self.now.settings.s pass.old.stripes (K.name back.key) }
+        requires room { IsWithoutRoom K.hash self.now.settings.s
+            pass.old.stripes (K.name back.key) }
         ensures own { IsPassOf self.now pass.new }
         ensures idle { IsIdle pass.new }
-        ensures refused { (result.key ≡ back.key) × (result.value ≡ back.value) × (result.why ≡ Why.Full) }
+        ensures key { result.key ≡ back.key }
+        ensures value { result.value ≡ back.value }
+        ensures why { result.why ≡ Why.Full }
         ensures told { HasFoundNoRoom (K.name back.key) pass.old pass.new }
         ensures found { pass.new.view.found ≡ pass.old.view.found }
     {

@@ -15,8 +15,8 @@ use crate::refusal::Busy;
 use crate::table::Table;
 use ck_key::TableKey;
 use ck_section::{Answer, find, key_place};
-use ck_words::{Lent, Pass};
-use std::marker::Brand;
+use ck_words::{Commit, Lent, Pass};
+use std::snapshot::Snapshot;
 
 impl<K: TableKey + Drop, V: Drop> Table<K, V> {
     /// What the closure answers for the value of the key; `None` where the key is unbound, and then the closure is not
@@ -34,13 +34,17 @@ impl<K: TableKey + Drop, V: Drop> Table<K, V> {
         requires caller { IsCaller self.now pass.old }
         requires call { F.IsAlwaysCallable f }
         ensures caller { IsCaller self.now pass.new }
-        ensures answered { IfOk result (λ answer. MatchOption answer (IsAnswered (On (K.name key.now) Find) (Was None) pass.old pass.new) (λ r. (v : V) × FnOnceReturnsAt F.FnOnce f v r × IsAnswered (On (K.name key.now) Find) (Was (Some v)) pass.old pass.new)) }
-        ensures busy { IfErr result (λ busy. IsBusyAt K.hash self.now.settings (K.name key.now) busy.0 pass.old pass.new) }
+        ensures answered { IfOk result (λ answer. MatchOption answer
+            (IsAnswered (On (K.name key.now) Find) (Was None) pass.old pass.new)
+            (λ r. (v : V) × FnOnceReturnsAt F.FnOnce f v r
+            × IsAnswered (On (K.name key.now) Find) (Was (Some v)) pass.old pass.new)) }
+        ensures busy { IfErr result (λ busy.
+            IsBusyAt K.hash self.now.settings (K.name key.now) busy.0 pass.old pass.new) }
         ensures found { FindsOwn K.hash self.now.settings (K.name key.now) pass.old pass.new }
     {
         self.hold_key(pass, key)?;
         let found = self.find_held(pass, key, f);
-        self.words.answer::<Brand, &K>(pass, &key);
+        self.words.commit(pass, Commit::Find(Snapshot::of(key)));
         match found {
             Some(found) => Ok(Some(found.reply)),
             None => Ok(None),
@@ -63,8 +67,12 @@ impl<K: TableKey + Drop, V: Drop> Table<K, V> {
         ensures own { IsPassOf self.now pass.new }
         ensures view { pass.new.view ≡ pass.old.view }
         ensures some { 0 < length pass.new.stripes }
-        ensures bound { IfSome result (λ a. (v : V) × FnOnceReturnsAt F.FnOnce f v a.reply × IsCallAt K.hash self.now.settings.s pass.old.stripes (K.name key.now) Find (Was (Some v)) pass.new.stripes a.place v) }
-        ensures unbound { IfNone result (IsCall K.hash self.now.settings.s pass.old.stripes (K.name key.now) Find (Was None) pass.new.stripes) }
+        ensures bound { IfSome result (λ a. (v : V) × FnOnceReturnsAt F.FnOnce f v a.reply
+            × IsCallAt K.hash self.now.settings.s pass.old.stripes (K.name key.now)
+            Find (Was (Some v)) pass.new.stripes a.place v) }
+        ensures unbound { IfNone result (
+            IsCall K.hash self.now.settings.s pass.old.stripes (K.name key.now)
+            Find (Was None) pass.new.stripes) }
     {
         let s = self.words.settings().s;
         let mut lent = Lent {
@@ -81,8 +89,10 @@ impl<K: TableKey + Drop, V: Drop> Table<K, V> {
         V: Copy,
         requires caller { IsCaller self.now pass.old }
         ensures caller { IsCaller self.now pass.new }
-        ensures answered { IfOk result (λ value. IsAnswered (On (K.name key.now) Find) (Was value) pass.old pass.new) }
-        ensures busy { IfErr result (λ busy. IsBusyAt K.hash self.now.settings (K.name key.now) busy.0 pass.old pass.new) }
+        ensures answered { IfOk result (λ value.
+            IsAnswered (On (K.name key.now) Find) (Was value) pass.old pass.new) }
+        ensures busy { IfErr result (λ busy.
+            IsBusyAt K.hash self.now.settings (K.name key.now) busy.0 pass.old pass.new) }
         ensures found { FindsOwn K.hash self.now.settings (K.name key.now) pass.old pass.new }
     {
         self.find_fn(pass, key, |value: &V| *value)
@@ -92,8 +102,11 @@ impl<K: TableKey + Drop, V: Drop> Table<K, V> {
     pub fn contains(&self, pass: &mut Pass<K, V>, key: &K) -> Result<bool, Busy>
         requires caller { IsCaller self.now pass.old }
         ensures caller { IsCaller self.now pass.new }
-        ensures answered { IfOk result (λ bound. MatchBool bound ((v : V) × IsAnswered (On (K.name key.now) Find) (Was (Some v)) pass.old pass.new) (IsAnswered (On (K.name key.now) Find) (Was None) pass.old pass.new)) }
-        ensures busy { IfErr result (λ busy. IsBusyAt K.hash self.now.settings (K.name key.now) busy.0 pass.old pass.new) }
+        ensures answered { IfOk result (λ bound. MatchBool bound
+            ((v : V) × IsAnswered (On (K.name key.now) Find) (Was (Some v)) pass.old pass.new)
+            (IsAnswered (On (K.name key.now) Find) (Was None) pass.old pass.new)) }
+        ensures busy { IfErr result (λ busy.
+            IsBusyAt K.hash self.now.settings (K.name key.now) busy.0 pass.old pass.new) }
         ensures found { FindsOwn K.hash self.now.settings (K.name key.now) pass.old pass.new }
     {
         let found = self.find_fn(pass, key, |_value: &V| ())?;

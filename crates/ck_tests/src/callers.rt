@@ -43,6 +43,13 @@ pub enum Reply {
     ValueBack(u64, u32),
     /// Key and value came back.
     BothBack(u64, u64, Why),
+    /// The call was refused or its key is unbound, and its closure was called nonetheless.
+    CalledInVain,
+}
+
+// The reply of a call that has no use for its closure.
+fn uncalled(called: bool, reply: Reply) -> Reply {
+    if called { Reply::CalledInVain } else { reply }
 }
 
 fn both_back(refused: Refused<NumKey, u64>) -> Reply {
@@ -65,10 +72,15 @@ fn find_tenth(table: &NumTable, pass: &mut NumPass, key: u64) -> Reply
     ensures caller { IsCaller table.now pass.new }
     ensures by { pass.new.view.by ≡ pass.old.view.by }
 {
-    match table.find_fn(pass, &NumKey(key), |value: &u64| *value / 10) {
+    let mut called = false;
+    let tenth = |value: &u64| {
+        called = true;
+        *value / 10
+    };
+    match table.find_fn(pass, &NumKey(key), tenth) {
         Ok(Some(tenth)) => Reply::Was(Some(tenth)),
-        Ok(None) => Reply::Was(None),
-        Err(busy) => Reply::Busy(busy.0),
+        Ok(None) => uncalled(called, Reply::Was(None)),
+        Err(busy) => uncalled(called, Reply::Busy(busy.0)),
     }
 }
 
@@ -111,10 +123,15 @@ fn upsert(table: &NumTable, pass: &mut NumPass, key: u64, value: u64) -> Reply
     ensures caller { IsCaller table.now pass.new }
     ensures by { pass.new.view.by ≡ pass.old.view.by }
 {
-    match table.upsert(pass, NumKey(key), |old| old.saturating_add(1), value) {
-        Ok(true) => Reply::Fresh(true),
+    let mut called = false;
+    let add = |old: u64| {
+        called = true;
+        old.saturating_add(1)
+    };
+    match table.upsert(pass, NumKey(key), add, value) {
+        Ok(true) => uncalled(called, Reply::Fresh(true)),
         Ok(false) => Reply::Fresh(false),
-        Err(refused) => both_back(refused),
+        Err(refused) => uncalled(called, both_back(refused)),
     }
 }
 
@@ -142,7 +159,7 @@ fn update_fn(table: &NumTable, pass: &mut NumPass, key: u64) -> Reply
     match table.update_fn(pass, &NumKey(key), add) {
         Ok(true) => Reply::Updated(true, called),
         Ok(false) => Reply::Updated(false, called),
-        Err(busy) => Reply::Busy(busy.0),
+        Err(busy) => uncalled(called, Reply::Busy(busy.0)),
     }
 }
 
@@ -162,10 +179,15 @@ fn erase_within(table: &NumTable, pass: &mut NumPass, key: u64, low: u64, high: 
     ensures caller { IsCaller table.now pass.new }
     ensures by { pass.new.view.by ≡ pass.old.view.by }
 {
-    let within = |value: &u64| low <= *value && *value <= high;
+    let mut called = false;
+    let within = |value: &u64| {
+        called = true;
+        low <= *value && *value <= high
+    };
     match table.erase_fn(pass, &NumKey(key), within) {
-        Ok(gone) => Reply::Gone(gone),
-        Err(busy) => Reply::Busy(busy.0),
+        Ok(Some(gone)) => Reply::Gone(Some(gone)),
+        Ok(None) => uncalled(called, Reply::Gone(None)),
+        Err(busy) => uncalled(called, Reply::Busy(busy.0)),
     }
 }
 
@@ -177,14 +199,16 @@ fn transfer(table: &NumTable, pass: &mut NumPass, from: u64, to: u64) -> Reply
     if from == to {
         return Reply::Bound(false);
     }
+    let mut called = false;
     let move_one = |less: u64, more: u64| {
+        called = true;
         let moved = less.min(1);
         (less - moved, more.saturating_add(moved))
     };
     match table.update_two(pass, &NumKey(from), &NumKey(to), move_one) {
         Ok(true) => Reply::Bound(true),
-        Ok(false) => Reply::Bound(false),
-        Err(busy) => Reply::Busy(busy.0),
+        Ok(false) => uncalled(called, Reply::Bound(false)),
+        Err(busy) => uncalled(called, Reply::Busy(busy.0)),
     }
 }
 

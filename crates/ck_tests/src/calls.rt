@@ -113,6 +113,7 @@ const RUNS: [Run; 7] = [
             Step::First(Call::Find(11), Reply::Was(Some(110))),
             Step::First(Call::Find(15), Reply::Was(Some(150))),
             Step::First(Call::Find(19), Reply::Was(None)),
+            Step::First(Call::EraseWithin(19, 0, u64::MAX), Reply::Gone(None)),
             // A bound key needs no room, and an erased one leaves some.
             Step::First(Call::InsertOrAssign(7, 71), Reply::Was(Some(70))),
             Step::First(Call::Erase(3), Reply::Was(Some(30))),

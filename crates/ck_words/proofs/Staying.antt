@@ -1,6 +1,7 @@
 -- What stays as it is over steps that decide nothing.
 use Rattle.std.proofs.Common.{◌≡◌, ℕ, ◌<◌, List, [], ◌∷◌, ◌++◌, ◌⊎◌, inl, inr, zero, suc, length, reverse, replicate, append-nil, append_assoc, length-append, sym, refl, ap, ◌∙◌, subst, ⊎_elim, arith, None}
 use Rattle.ck_model.specs.declared.history.Entry.{Entry}
+use Rattle.ck_model.specs.declared.history.Why.{Why}
 use Rattle.ck_model.specs.declared.settings.Settings.{Settings}
 use Rattle.ck_model.specs.Map.{Name}
 use Rattle.ck_model.specs.History.{StartsWith}
@@ -17,7 +18,7 @@ use Rattle.ck_words.specs.Rule.{layout_of}
 use Rattle.ck_words.proofs.Seating.{each_append}
 use Rattle.ck_words.specs.Passes.{EachOf, PassState, Takes, GivesBack, IsIdle, IsUnchanged, ShowsSeen, numbers_of}
 use Rattle.ck_words.proofs.Reversed.{map-append}
-use Rattle.ck_words.specs.Retries.{Stays, FindsAmong, IsBusy, found_again, TakesWithin}
+use Rattle.ck_words.specs.Retries.{Stays, StaysBut, FindsAmong, IsBusy, found_again, TakesWithin}
 
 in_replicate : (n t u : ℕ) → IsIn u (replicate n t) → t ≡ u
 in_replicate zero t u z = absurd z
@@ -34,19 +35,22 @@ module _ {V : Type 0} where
   pub stays_same : (v : View V) → Stays v v
   stays_same v = record { settings = refl; by = refl; mine = refl; others = refl; heard = (refl, refl); noroom = refl; seen = ([], sym (append-nil v.seen)); by_others = λ m e. refl; told = omega arith }
 
-  pub stays_on : (u v w : View V) → Stays u v → Stays v w → Stays u w
+  pub stays_then : (xs ys : List (Name × Why)) (u v w : View V) → StaysBut xs u v → StaysBut ys v w → StaysBut (ys ++ xs) u w
   unfolding starts_on
-  stays_on u v w f g = record {
+  stays_then xs ys u v w f g = record {
     settings = g.settings ∙ f.settings;
     by = g.by ∙ f.by;
     mine = g.mine ∙ f.mine;
     others = g.others ∙ f.others;
     heard = (g.heard.0 ∙ f.heard.0, g.heard.1 ∙ f.heard.1);
-    noroom = g.noroom ∙ f.noroom;
+    noroom = g.noroom ∙ (ap (λ l. ys ++ l) f.noroom ∙ sym (append_assoc ys xs u.noroom));
     seen = starts_on u.seen v.seen w.seen f.seen g.seen;
     by_others = λ m e. calls_by-append m f.seen.0 g.seen.0 ∙ λ j. f.by_others m e j ++ g.by_others m (f.by ∙ e) j;
     told = (let a = f.told in let b = g.told in omega arith);
   }
+
+  pub stays_on : (u v w : View V) → Stays u v → Stays v w → Stays u w
+  stays_on = stays_then [] []
 
   -- a stripe went home unchanged
   pub stays_giving : (hash : Name → ℕ) (set : Settings) (hs : Stripes V) (u : View V) (p q : PassState V) → GivesBack hash set hs None p q → Stays u p.view → Stays u q.view

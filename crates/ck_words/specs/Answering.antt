@@ -1,7 +1,8 @@
 -- What an answered call leaves of its pass.
-use Rattle.std.specs.Prelude.{◌≡◌, ℕ, Some, reverse}
+use Rattle.std.specs.Prelude.{◌≡◌, ℕ, List, [], Some, reverse}
 use Rattle.ck_model.specs.declared.history.Call.{Call}
 use Rattle.ck_model.specs.declared.history.Reply.{Reply}
+use Rattle.ck_model.specs.declared.history.Why.{Why}
 use Rattle.ck_model.specs.declared.settings.Settings.{Settings}
 use Rattle.ck_model.specs.Map.{Name}
 use Rattle.ck_model.specs.Contents.{Lawful}
@@ -10,16 +11,20 @@ use Rattle.ck_section.specs.Stripes.{contents_of}
 use Rattle.ck_core.specs.Laws.{Answered}
 use Rattle.ck_words.specs.Rule.{layout_of}
 use Rattle.ck_words.specs.Passes.{PassState}
-use Rattle.ck_words.specs.Retries.{Stays}
+use Rattle.ck_words.specs.Retries.{StaysBut}
 
 module _ {V : Type 0} where
   -- From what they contained when they were taken, the held stripes went to what they contain now by this call with this reply.
   abbrev pub HasDone : (Name → ℕ) → Settings → Call V → Reply V → PassState V → Type 0
   HasDone hash set call reply p = Lawful (layout_of hash set) (reverse p.view.held) → Section (layout_of hash set) (reverse p.view.held) call reply (contents_of p.stripes)
 
-  -- The pass has one entry more, this call with this reply, and has seen the history up to it; the rest is as it was.
-  pub record IsAnswered (call : Call V) (reply : Reply V) (p q : PassState V) : Type 0 where
+  -- The pass has one entry more, this call with this reply, and has seen the history up to it. It has said of these names that they found no room; the rest is as it was.
+  pub record IsAnsweredBut (more : List (Name × Why)) (call : Call V) (reply : Reply V) (p q : PassState V) : Type 0 where
     pub by : ℕ
     pub caller : p.view.by ≡ Some by
     pub answered : Answered p.view (record { by = by; call = call; reply = reply }) q.view
-    pub stays : Stays (record p.view { seen = q.view.seen; mine = q.view.mine }) q.view
+    pub stays : StaysBut more (record p.view { seen = q.view.seen; mine = q.view.mine }) q.view
+
+  -- and it has said so of none
+  abbrev pub IsAnswered : Call V → Reply V → PassState V → PassState V → Type 0
+  IsAnswered = IsAnsweredBut []

@@ -7,4 +7,5 @@ pub mod InPlace
 pub mod Opening
 pub mod Meeting
 pub mod Closing
+pub mod Commits
 pub mod Answering

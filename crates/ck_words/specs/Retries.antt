@@ -1,5 +1,6 @@
 -- What several tries to take stripes leave.
 use Rattle.std.specs.Prelude.{◌≡◌, ℕ, ◌<◌, ◌≤◌, List, [], ◌++◌, Some, replicate}
+use Rattle.ck_model.specs.declared.history.Why.{Why}
 use Rattle.ck_model.specs.declared.settings.Settings.{Settings}
 use Rattle.ck_model.specs.Map.{Name}
 use Rattle.ck_model.specs.Numbered.{IsIn}
@@ -17,21 +18,30 @@ module _ {V : Type 0} where
   TakesWithin hash set t p q = (n : ℕ) × (n < set.turns) × Takes hash set t (found_again n t p) q
 
   -- What no step changes but one that decides or meets: the caller's entries and what it heard, and it has seen and was told no less. What it sees more is by others.
-  pub record Stays (v w : View V) : Type 0 where
+  -- It has said of these names more that they found no room.
+  pub record StaysBut (more : List (Name × Why)) (v w : View V) : Type 0 where
     pub settings : w.settings ≡ v.settings
     pub by : w.by ≡ v.by
     pub mine : w.mine ≡ v.mine
     pub others : w.others ≡ v.others
     pub heard : (w.heard ≡ v.heard) × (w.heard_told ≡ v.heard_told)
-    pub noroom : w.noroom ≡ v.noroom
+    pub noroom : w.noroom ≡ more ++ v.noroom
     pub seen : StartsWith w.seen v.seen
     pub by_others : (m : ℕ) → v.by ≡ Some m → calls_by m seen.0 ≡ []
     pub told : v.told ≤ w.told
+
+  -- and it has said so of none more
+  abbrev pub Stays : View V → View V → Type 0
+  Stays = StaysBut []
 
   -- Of all stripes, the pass found such ones held.
   abbrev pub FindsAmong : (ℕ → Type 0) → PassState V → PassState V → Type 0
   FindsAmong P p q = (more : List ℕ) × (q.view.found ≡ more ++ p.view.found) × ((t : ℕ) → IsIn t more → P t)
 
+  -- Its last tries all found the stripe t held.
+  abbrev pub FindsLast : ℕ → ℕ → PassState V → PassState V → Type 0
+  FindsLast turns t p q = (before : List ℕ) × (q.view.found ≡ replicate turns t ++ before ++ p.view.found)
+
   -- The pass holds no stripe. Its last tries all found the stripe t held.
   abbrev pub IsBusy : ℕ → ℕ → PassState V → PassState V → Type 0
-  IsBusy turns t p q = IsIdle q × ((before : List ℕ) × (q.view.found ≡ replicate turns t ++ before ++ p.view.found))
+  IsBusy turns t p q = IsIdle q × FindsLast turns t p q

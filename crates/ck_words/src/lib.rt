@@ -1,8 +1,8 @@
 //! Lock words, the stripes in their slots, and the passes of callers, under the law of the core.
 #![tactic(auto)]
 
-mod answers;
 mod close;
+mod commit;
 mod holding;
 mod law;
 mod lent;
@@ -15,7 +15,7 @@ mod tries;
 mod whole;
 mod words;
 
-pub use answers::Asks;
+pub use commit::Commit;
 pub use law::{Refuses, Says};
 pub use lent::Lent;
 pub use pass::Pass;

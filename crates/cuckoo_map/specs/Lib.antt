@@ -8,4 +8,5 @@ pub use Rattle.ck_words.specs.Answering
 pub use Rattle.ck_words.specs.Meeting
 pub use Rattle.ck_words.specs.Closing
 pub use Rattle.ck_table.specs.Refusals
+pub use Rattle.ck_table.specs.Insertions
 pub use Rattle.ck_table.specs.Callers

@@ -1,48 +1,28 @@
-use Rattle.std.proofs.Common.{◌≡◌}
+use Rattle.std.proofs.Common.{◌≡◌, ◌∙◌, sym, refl, ap, true, false}
 use Rattle.std.specs.Fn.{FnOnceReturnsAt}
-use Rattle.ck_model.specs.declared.history.Act.{Act}
+use Rattle.ck_model.specs.declared.history.Act.TheVariants.{Find, Erase}
 use Rattle.ck_model.specs.declared.history.Call.TheVariants.{On}
-use Rattle.ck_model.specs.declared.history.Reply.{Reply}
 use Rattle.ck_section.specs.Calls.{IsCall}
 use Rattle.ck_words.specs.Answering.{IsAnswered}
-use Rattle.ck_table.proofs.Calls.{erases, erased, erasing, does, says, caller_then}
+use Rattle.ck_table.proofs.Calls.{erased, erasing, does, says}
 use Rattle.ck_table.proofs.table.Table.erase_fn.Goals as goal
 
-pub answer-requires-clause-done : goal.answer-requires-clause-done
-answer-requires-clause-done g c =
-    let hash = g.K.TableKey.hash in
-    let q = g.K.TableKey.name c.args.key.now in
-    let w = c.args.self.now in
-    let p1 = c.hold_key.new.pass in
-    let p2 = c.erase_if_held-gone.new.pass in
-    let b = c.unwrap_or.result in
-    let did = erased (λ act r. IsCall hash w.settings.s p1.stripes q act r p2.stripes) (λ v b. FnOnceReturnsAt g.F.FnOnce c.args.f v b) (p2.stripes ≡ p1.stripes) c.erase_if_held-gone.result b c.unwrap_or.ensures (c.erase_if_held-gone.ensures.bound, c.erase_if_held-gone.ensures.unbound) in
-    (did.0, does hash w c.self.inside.words c.self.view_is q c.args.pass.now p1 p2 c.in_ok-hold_key.ensures.held c.erase_if_held-gone.ensures.view (erases b) did.0 did.1)
+pub commit-requires-clause-done : goal.commit-requires-clause-done
+commit-requires-clause-done g c =
+    let did = erased (λ act r. IsCall g.K.TableKey.hash c.args.self.now.settings.s c.hold_key.new.pass.stripes (g.K.TableKey.name c.args.key.now) act r c.erase_if_held-gone.new.pass.stripes) (λ v b. FnOnceReturnsAt g.F.FnOnce c.args.f v b) (c.erase_if_held-gone.new.pass.stripes ≡ c.hold_key.new.pass.stripes) c.erase_if_held-gone.result true (sym c.if-unwrap_or.true ∙ c.unwrap_or.ensures) (c.erase_if_held-gone.ensures.bound, c.erase_if_held-gone.ensures.unbound) in
+    (did.0, does g.K.TableKey.hash c.args.self.now c.self.inside.words c.self.view_is (g.K.TableKey.name c.args.key.now) c.args.pass.now c.hold_key.new.pass c.erase_if_held-gone.new.pass c.in_ok-hold_key.ensures.held c.erase_if_held-gone.ensures.view Erase (ap g.K.TableKey.name c.of-said.ensures) refl did.0 did.1)
 
-pub returns-clause-caller : goal.returns-clause-caller
-returns-clause-caller g c =
-    let hash = g.K.TableKey.hash in
-    let q = g.K.TableKey.name c.args.key.now in
-    let w = c.args.self.now in
-    let p = c.args.pass.now in
-    let p1 = c.hold_key.new.pass in
-    let p2 = c.erase_if_held-gone.new.pass in
-    let z = c.answer.new.pass in
-    let b = c.unwrap_or.result in
-    let did = erased (λ act r. IsCall hash w.settings.s p1.stripes q act r p2.stripes) (λ v b. FnOnceReturnsAt g.F.FnOnce c.args.f v b) (p2.stripes ≡ p1.stripes) c.erase_if_held-gone.result b c.unwrap_or.ensures (c.erase_if_held-gone.ensures.bound, c.erase_if_held-gone.ensures.unbound) in
-    caller_then w c.self.inside.words c.self.view_is p z (On q (erases b)) did.0 c.requires.caller c.answer.ensures.own c.answer.ensures.idle
-    (says hash w c.self.inside.words c.self.view_is q p p1 p2 c.in_ok-hold_key.ensures.held c.erase_if_held-gone.ensures.view z (erases b) did.0 c.answer.ensures.answered did.1)
+pub returns-then-unwrap_or-clause-answered : goal.returns-then-unwrap_or-clause-answered
+returns-then-unwrap_or-clause-answered g c =
+    erasing (λ act r. IsCall g.K.TableKey.hash c.args.self.now.settings.s c.hold_key.new.pass.stripes (g.K.TableKey.name c.args.key.now) act r c.erase_if_held-gone.new.pass.stripes) (λ v b. FnOnceReturnsAt g.F.FnOnce c.args.f v b) (c.erase_if_held-gone.new.pass.stripes ≡ c.hold_key.new.pass.stripes) (λ act r. IsAnswered (On (g.K.TableKey.name c.args.key.now) act) r c.args.pass.now c.commit.new.pass) c.erase_if_held-gone.result true (sym c.if-unwrap_or.true ∙ c.unwrap_or.ensures)
+    (λ r did. says g.K.TableKey.hash c.args.self.now c.self.inside.words c.self.view_is (g.K.TableKey.name c.args.key.now) c.args.pass.now c.hold_key.new.pass c.erase_if_held-gone.new.pass c.in_ok-hold_key.ensures.held c.erase_if_held-gone.ensures.view Erase (ap g.K.TableKey.name c.of-said.ensures) refl c.commit.new.pass r c.commit.ensures.answered did) (c.erase_if_held-gone.ensures.bound, c.erase_if_held-gone.ensures.unbound)
 
-pub returns-clause-answered : goal.returns-clause-answered
-returns-clause-answered g c =
-    let hash = g.K.TableKey.hash in
-    let q = g.K.TableKey.name c.args.key.now in
-    let w = c.args.self.now in
-    let p = c.args.pass.now in
-    let p1 = c.hold_key.new.pass in
-    let p2 = c.erase_if_held-gone.new.pass in
-    let z = c.answer.new.pass in
-    let b = c.unwrap_or.result in
-    erasing (λ act r. IsCall hash w.settings.s p1.stripes q act r p2.stripes) (λ v b. FnOnceReturnsAt g.F.FnOnce c.args.f v b) (p2.stripes ≡ p1.stripes) (λ act r. IsAnswered (On q act) r p z) c.erase_if_held-gone.result b c.unwrap_or.ensures
-    (λ r d. says hash w c.self.inside.words c.self.view_is q p p1 p2 c.in_ok-hold_key.ensures.held c.erase_if_held-gone.ensures.view z (erases b) r c.answer.ensures.answered d)
-    (c.erase_if_held-gone.ensures.bound, c.erase_if_held-gone.ensures.unbound)
+pub commit-requires-else-unwrap_or-clause-done : goal.commit-requires-else-unwrap_or-clause-done
+commit-requires-else-unwrap_or-clause-done g c =
+    let did = erased (λ act r. IsCall g.K.TableKey.hash c.args.self.now.settings.s c.hold_key.new.pass.stripes (g.K.TableKey.name c.args.key.now) act r c.erase_if_held-gone.new.pass.stripes) (λ v b. FnOnceReturnsAt g.F.FnOnce c.args.f v b) (c.erase_if_held-gone.new.pass.stripes ≡ c.hold_key.new.pass.stripes) c.erase_if_held-gone.result false (sym c.if-unwrap_or.false ∙ c.unwrap_or.ensures) (c.erase_if_held-gone.ensures.bound, c.erase_if_held-gone.ensures.unbound) in
+    (did.0, does g.K.TableKey.hash c.args.self.now c.self.inside.words c.self.view_is (g.K.TableKey.name c.args.key.now) c.args.pass.now c.hold_key.new.pass c.erase_if_held-gone.new.pass c.in_ok-hold_key.ensures.held c.erase_if_held-gone.ensures.view Find (ap g.K.TableKey.name c.of-said.ensures) refl did.0 did.1)
+
+pub returns-else-unwrap_or-clause-answered : goal.returns-else-unwrap_or-clause-answered
+returns-else-unwrap_or-clause-answered g c =
+    erasing (λ act r. IsCall g.K.TableKey.hash c.args.self.now.settings.s c.hold_key.new.pass.stripes (g.K.TableKey.name c.args.key.now) act r c.erase_if_held-gone.new.pass.stripes) (λ v b. FnOnceReturnsAt g.F.FnOnce c.args.f v b) (c.erase_if_held-gone.new.pass.stripes ≡ c.hold_key.new.pass.stripes) (λ act r. IsAnswered (On (g.K.TableKey.name c.args.key.now) act) r c.args.pass.now c.commit-else-unwrap_or.new.pass) c.erase_if_held-gone.result false (sym c.if-unwrap_or.false ∙ c.unwrap_or.ensures)
+    (λ r did. says g.K.TableKey.hash c.args.self.now c.self.inside.words c.self.view_is (g.K.TableKey.name c.args.key.now) c.args.pass.now c.hold_key.new.pass c.erase_if_held-gone.new.pass c.in_ok-hold_key.ensures.held c.erase_if_held-gone.ensures.view Find (ap g.K.TableKey.name c.of-said.ensures) refl c.commit-else-unwrap_or.new.pass r c.commit-else-unwrap_or.ensures.answered did) (c.erase_if_held-gone.ensures.bound, c.erase_if_held-gone.ensures.unbound)

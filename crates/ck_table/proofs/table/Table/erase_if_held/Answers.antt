@@ -1,9 +1,8 @@
-use Rattle.std.proofs.Common.{rules, ◌≡◌, ◌∙◌, ℕ, List, None, Some, IfSome, IfNone, MatchBool, ap, subst}
+use Rattle.std.proofs.Common.{rules, ◌≡◌, None, Some, IfSome, IfNone, MatchBool, subst}
 use Rattle.std.specs.Fn.{FnOnceReturnsAt}
-use Rattle.ck_model.specs.declared.history.Act.TheVariants.{Find, Update, Change, Erase}
-use Rattle.ck_model.specs.declared.history.Reply.TheVariants.{Was, Done, Absent}
-use Rattle.ck_stripe.specs.Stripe.{StripeState}
-use Rattle.ck_section.specs.Calls.{IsAt, IsCall, IsCallAt}
+use Rattle.ck_model.specs.declared.history.Act.TheVariants.{Find, Erase}
+use Rattle.ck_model.specs.declared.history.Reply.TheVariants.{Was}
+use Rattle.ck_section.specs.Calls.{IsCall}
 use Rattle.ck_table.proofs.Calls.{s_of, At, some_still}
 use Rattle.ck_table.proofs.table.Table.erase_if_held.Goals as goal
 

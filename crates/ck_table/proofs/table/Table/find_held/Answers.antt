@@ -1,11 +1,8 @@
-use Rattle.std.proofs.Common.{rules, ◌≡◌, ◌∙◌, ℕ, List, None, Some, IfSome, IfNone, length, ap, subst}
+use Rattle.std.proofs.Common.{rules, ◌≡◌, None, Some, IfSome, IfNone, length, ap, subst}
 use Rattle.std.specs.Fn.{FnOnceReturnsAt}
 use Rattle.ck_model.specs.declared.history.Act.TheVariants.{Find}
 use Rattle.ck_model.specs.declared.history.Reply.TheVariants.{Was}
-use Rattle.ck_model.specs.declared.settings.Settings.{Settings}
-use Rattle.ck_stripe.specs.Stripe.{StripeState}
 use Rattle.ck_section.specs.Calls.{IsCall, IsCallAt}
-use Rattle.ck_words.specs.Words.{WordsState}
 use Rattle.ck_table.proofs.Calls.{s_of, At, some_still}
 use Rattle.ck_table.proofs.table.Table.find_held.Goals as goal
 

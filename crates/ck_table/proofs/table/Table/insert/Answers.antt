@@ -1,90 +1,50 @@
-use Rattle.std.proofs.Common.{◌∙◌, List, sym, subst, if◌then◌else◌}
-use Rattle.std.specs.Fn.{FnOnceReturns}
-use Rattle.ck_model.specs.declared.history.Act.TheVariants.{Insert, Assign, Upsert}
-use Rattle.ck_model.specs.declared.history.Call.TheVariants.{On}
-use Rattle.ck_model.specs.declared.history.Reply.{Reply}
-use Rattle.ck_model.specs.declared.history.Reply.TheVariants.{Was, New, Old}
+use Rattle.std.proofs.Common.{◌∙◌, List, sym, refl, ap, subst, if◌then◌else◌}
+use Rattle.ck_model.specs.declared.history.Act.TheVariants.{Insert}
+use Rattle.ck_model.specs.declared.history.Reply.TheVariants.{New, Old}
 use Rattle.ck_stripe.specs.Stripe.{StripeState}
-use Rattle.ck_section.specs.Calls.{IsCall, IsWithoutRoom}
-use Rattle.ck_words.specs.Answering.{HasDone, IsAnswered}
-use Rattle.ck_table.specs.Refusals.{HasFoundNoRoom, IsRefused}
-use Rattle.ck_table.proofs.Calls.{does, says, caller_then, upsert_did, upserting}
-use Rattle.ck_table.proofs.Refusing.{told_since}
+use Rattle.ck_section.specs.Calls.{IsWithoutRoom}
+use Rattle.ck_table.specs.Insertions.{HasFoundNoRoom, IsRefused}
+use Rattle.ck_table.proofs.Calls.{does, says}
+use Rattle.ck_table.proofs.Refusing.{told_since, refused_full, refused_busy, found_own, inserts}
 use Rattle.ck_table.proofs.table.Table.insert.Goals as goal
 
-pub answer-requires-clause-done : goal.answer-requires-clause-done
-answer-requires-clause-done g c =
-    let hash = g.K.TableKey.hash in
-    let name = g.K.TableKey.name in
-    let q = name c.args.key in
-    let w = c.args.self.now in
-    let v = c.self.inside.words in
-    let p = c.args.pass.now in
-    let p1 = c.hold_key.new.pass in
-    let p2 = c.insert_held-done.new.pass in
-    let held = c.in_default.ensures.held in
-    let same = c.insert_held-done.ensures.view in (
-      (if c.in-Ok.fresh then New else Old),
-      subst (λ (x : g.row.K.Denot × g.row.V.Denot). HasDone hash v.settings (On (name x.0) (Insert x.1)) (if c.in-Ok.fresh then New else Old) p2) (λ i. (sym c.of.ensures i, sym c.of-2.ensures i))
-          (does hash w v c.self.view_is q p p1 p2 held same (Insert c.args.value) (if c.in-Ok.fresh then New else Old) c.in-Ok.ensures.call),
-    )
-
-pub returns-in-Ok-clause-caller : goal.returns-in-Ok-clause-caller
-returns-in-Ok-clause-caller g c =
-    let hash = g.K.TableKey.hash in
-    let name = g.K.TableKey.name in
-    let q = name c.args.key in
-    let w = c.args.self.now in
-    let v = c.self.inside.words in
-    let p = c.args.pass.now in
-    let p1 = c.hold_key.new.pass in
-    let p2 = c.insert_held-done.new.pass in
-    let held = c.in_default.ensures.held in
-    let same = c.insert_held-done.ensures.view in
-    let z = c.answer.new.pass in
-    let told = subst (λ (x : g.row.K.Denot × g.row.V.Denot). (r : Reply g.row.V.Denot) → HasDone hash v.settings (On (name x.0) (Insert x.1)) r p2 → IsAnswered (On (name x.0) (Insert x.1)) r p2 z)
-    (λ i. (c.of.ensures i, c.of-2.ensures i)) c.answer.ensures.answered in
-    caller_then w v c.self.view_is p z (On q (Insert c.args.value)) (if c.in-Ok.fresh then New else Old) c.requires.caller c.answer.ensures.own c.answer.ensures.idle
-    (says hash w v c.self.view_is q p p1 p2 held same z (Insert c.args.value) (if c.in-Ok.fresh then New else Old) told c.in-Ok.ensures.call)
+pub commit-requires-clause-done : goal.commit-requires-clause-done
+commit-requires-clause-done g c =
+    (if c.in-Ok.fresh then New else Old, does g.K.TableKey.hash c.args.self.now c.self.inside.words c.self.view_is (g.K.TableKey.name c.args.key) c.args.pass.now c.hold_key.new.pass c.insert_held-done.new.pass c.in_default.ensures.held c.insert_held-done.ensures.view (Insert c.args.value) (ap g.K.TableKey.name c.of-key_said.ensures) (ap Insert c.of-value_said.ensures) (if c.in-Ok.fresh then New else Old) c.in-Ok.ensures.call)
 
 pub returns-in-Ok-clause-answered : goal.returns-in-Ok-clause-answered
 returns-in-Ok-clause-answered g c =
-    let hash = g.K.TableKey.hash in
-    let name = g.K.TableKey.name in
-    let q = name c.args.key in
-    let w = c.args.self.now in
-    let v = c.self.inside.words in
-    let p = c.args.pass.now in
-    let p1 = c.hold_key.new.pass in
-    let p2 = c.insert_held-done.new.pass in
-    let held = c.in_default.ensures.held in
-    let same = c.insert_held-done.ensures.view in
-    let z = c.answer.new.pass in
-    let told = subst (λ (x : g.row.K.Denot × g.row.V.Denot). (r : Reply g.row.V.Denot) → HasDone hash v.settings (On (name x.0) (Insert x.1)) r p2 → IsAnswered (On (name x.0) (Insert x.1)) r p2 z)
-    (λ i. (c.of.ensures i, c.of-2.ensures i)) c.answer.ensures.answered in
-    says hash w v c.self.view_is q p p1 p2 held same z (Insert c.args.value) (if c.in-Ok.fresh then New else Old) told c.in-Ok.ensures.call
+    inserts _ _ _ _ _ (says g.K.TableKey.hash c.args.self.now c.self.inside.words c.self.view_is (g.K.TableKey.name c.args.key) c.args.pass.now c.hold_key.new.pass c.insert_held-done.new.pass c.in_default.ensures.held c.insert_held-done.ensures.view (Insert c.args.value) (ap g.K.TableKey.name c.of-key_said.ensures) (ap Insert c.of-value_said.ensures) c.commit.new.pass (if c.in-Ok.fresh then New else Old) c.commit.ensures.answered c.in-Ok.ensures.call)
 
 pub refuse-requires-clause-room : goal.refuse-requires-clause-room
 refuse-requires-clause-room g c =
     let n = c.in-Err-done.ensures.no_room in
     subst (λ (x : List (StripeState g.row.V.Denot) × g.row.K.Denot). IsWithoutRoom g.K.TableKey.hash c.args.self.now.settings.s x.0 (g.K.TableKey.name x.1)) (λ i. (sym n.2 i, (sym n.1 i).key)) n.0
 
-pub returns-clause-refused : goal.returns-clause-refused
-returns-clause-refused g c =
-    let hash = g.K.TableKey.hash in
-    let name = g.K.TableKey.name in
-    let q = name c.args.key in
-    let w = c.args.self.now in
-    let v = c.self.inside.words in
-    let p = c.args.pass.now in
-    let p1 = c.hold_key.new.pass in
-    let p2 = c.insert_held-done.new.pass in
-    let held = c.in_default.ensures.held in
-    let same = c.insert_held-done.ensures.view in
+pub returns-in-Err-done-clause-refused : goal.returns-in-Err-done-clause-refused
+returns-in-Err-done-clause-refused g c =
+    let q = g.K.TableKey.name c.args.key in
     let z = c.refuse.new.pass in
     let n = c.in-Err-done.ensures.no_room in
-    let r = c.refuse.ensures.refused in (
-      r.0 ∙ λ i. (n.1 i).key,
-      r.1 ∙ λ i. (n.1 i).value,
-      subst (λ y. IsRefused hash w.settings q y p z) (sym r.2) (told_since q p p1 p2 z held.stays same (subst (λ (k : g.row.K.Denot). HasFoundNoRoom (name k) p2 z) (λ i. (n.1 i).key) c.refuse.ensures.told)),
+    let told = subst (λ (k : g.row.K.Denot). HasFoundNoRoom (g.K.TableKey.name k) c.insert_held-done.new.pass z) (λ i. (n.1 i).key) c.refuse.ensures.told in (
+      c.refuse.ensures.key ∙ λ i. (n.1 i).key,
+      c.refuse.ensures.value ∙ λ i. (n.1 i).value,
+      subst (λ y. IsRefused c.args.self.now.settings q y c.args.pass.now z) (sym c.refuse.ensures.why)
+          (refused_full c.args.self.now.settings q c.args.pass.now z (told_since q c.args.pass.now c.hold_key.new.pass c.insert_held-done.new.pass z c.in_default.ensures.held.stays c.insert_held-done.ensures.view told)),
     )
+
+pub returns-in-Err-clause-refused : goal.returns-in-Err-clause-refused
+returns-in-Err-clause-refused g c =
+    (refl, refl, refused_busy g.K.TableKey.hash c.args.self.now.settings (g.K.TableKey.name c.args.key) _ c.args.pass.now c.hold_key.new.pass c.in-Err.ensures.busy)
+
+pub returns-in-Ok-clause-found : goal.returns-in-Ok-clause-found
+returns-in-Ok-clause-found g c =
+    found_own g.K.TableKey.hash c.args.self.now.settings (g.K.TableKey.name c.args.key) c.args.pass.now c.hold_key.new.pass c.insert_held-done.new.pass c.commit.new.pass c.hold_key.ensures.found c.insert_held-done.ensures.view c.commit.ensures.found
+
+pub returns-in-Err-done-clause-found : goal.returns-in-Err-done-clause-found
+returns-in-Err-done-clause-found g c =
+    found_own g.K.TableKey.hash c.args.self.now.settings (g.K.TableKey.name c.args.key) c.args.pass.now c.hold_key.new.pass c.insert_held-done.new.pass c.refuse.new.pass c.hold_key.ensures.found c.insert_held-done.ensures.view c.refuse.ensures.found
+
+pub returns-in-Err-clause-found : goal.returns-in-Err-clause-found
+returns-in-Err-clause-found g c =
+    found_own g.K.TableKey.hash c.args.self.now.settings (g.K.TableKey.name c.args.key) c.args.pass.now c.hold_key.new.pass c.hold_key.new.pass c.hold_key.new.pass c.hold_key.ensures.found refl refl

@@ -1,9 +1,8 @@
-use Rattle.std.proofs.Common.{rules, ◌≡◌, ℕ, List, None, Some, if◌then◌else◌, MatchBool, ap, subst}
-use Rattle.std.specs.Fn.{FnOnceReturns}
-use Rattle.ck_model.specs.declared.history.Act.TheVariants.{Insert, Assign, Upsert}
-use Rattle.ck_model.specs.declared.history.Reply.TheVariants.{Was, New, Old, Done}
+use Rattle.std.proofs.Common.{rules, ◌≡◌, if◌then◌else◌, subst}
+use Rattle.ck_model.specs.declared.history.Act.TheVariants.{Insert}
+use Rattle.ck_model.specs.declared.history.Reply.TheVariants.{New, Old}
 use Rattle.ck_section.specs.Calls.{IsCall, IsWithoutRoom}
-use Rattle.ck_table.proofs.Calls.{s_of, At, some_still, inserted, assigned, upserted}
+use Rattle.ck_table.proofs.Calls.{s_of, At, inserted}
 use Rattle.ck_table.proofs.table.Table.insert_held.Goals as goal
 
 pub returns-in-Ok-clause-call : goal.returns-in-Ok-clause-call

@@ -1,9 +1,9 @@
-use Rattle.std.proofs.Common.{rules, ◌≡◌, ℕ, List, None, Some, if◌then◌else◌, MatchBool, ap, subst}
+use Rattle.std.proofs.Common.{rules, ◌≡◌, MatchBool, ap, subst}
 use Rattle.std.specs.Fn.{FnOnceReturns}
-use Rattle.ck_model.specs.declared.history.Act.TheVariants.{Insert, Assign, Upsert}
-use Rattle.ck_model.specs.declared.history.Reply.TheVariants.{Was, New, Old, Done}
+use Rattle.ck_model.specs.declared.history.Act.TheVariants.{Upsert}
+use Rattle.ck_model.specs.declared.history.Reply.TheVariants.{New, Done}
 use Rattle.ck_section.specs.Calls.{IsCall, IsWithoutRoom}
-use Rattle.ck_table.proofs.Calls.{s_of, At, some_still, inserted, assigned, upserted}
+use Rattle.ck_table.proofs.Calls.{s_of, At, upserted}
 use Rattle.ck_table.proofs.table.Table.upsert_held.Goals as goal
 
 pub returns-in-Ok-clause-call : goal.returns-in-Ok-clause-call
