@@ -37,7 +37,8 @@ pub enum Why {
 }
 
 /// A key and a value that were refused, given back.
-#[derive(Debug, Drop)]
+#[derive(Debug, Drop, Error)]
+#[error("{why}")]
 pub struct Refused<K, V> {
     /// The key that was to be bound.
     pub key: K,

@@ -2,8 +2,7 @@ use Rattle.ck_script.specs.declared.script.Command.TheVariants.{Insert}
 use Rattle.ck_script.proofs.Answering.{uncalled}
 use Rattle.ck_script.proofs.calls.insert.Goals as goal
 
-pub returns-in-Err-clause-answered : goal.returns-in-Err-clause-answered
-returns-in-Err-clause-answered c =
+pub returns-in-Err : goal.returns-in-Err
+returns-in-Err c =
     let command = Insert c.args.key c.args.value in
-    let refused = c.in-Err.ensures.refused.2 in
-    uncalled command c.refusal_of.result _ _ (c.refusal_of.ensures command tt) (refused.stays.by, refused.stays.mine)
+    uncalled command c.refusal_of.result c.args.caller.now c.insert.new.self c.insert.ensures.same (c.refusal_of.ensures command tt) c.in-Err.ensures.refused.2.stays.mine

@@ -1,4 +1,0 @@
-use Rattle.ck_tests.proofs.callers.upsert.Goals as goal
-
-pub returns-in-Err-clause-by : goal.returns-in-Err-clause-by
-returns-in-Err-clause-by c = c.in-Err.ensures.refused.2.stays.by
