@@ -2,12 +2,12 @@ use Rattle.std.proofs.Common.{refl, None, Some, ◌∙◌}
 use Rattle.ck_model.specs.declared.history.Act.TheVariants.{Find}
 use Rattle.ck_model.specs.declared.history.Reply.TheVariants.{Was}
 use Rattle.ck_section.proofs.Steps.{none_anyway, lacked, found_in, kept, reach_still, full_still}
-use Rattle.ck_section.proofs.one_key.find.Goals as goal
+use Rattle.ck_section.proofs.pair.Pair.find.Goals as goal
 
 pub returns-in_err-at-clause-unbound : goal.returns-in_err-at-clause-unbound
 returns-in_err-at-clause-unbound g c =
     let hash = g.K.TableKey.hash in
-    let stripes = g.H.Held.stripes c.args.held.now in
+    let stripes = g.H.Held.stripes c.args.self.now.held in
     let cur = g.H.Held.stripes c.find_slot.new.held in
     let q = g.K.TableKey.name c.args.key.now in
     none_anyway c.from_residual.result _ (lacked hash stripes q c.args.place c.requires.place cur c.find_slot.ensures.same Find (Was None) c.in_err-at.ensures.nowhere (refl, refl))
@@ -15,13 +15,12 @@ returns-in_err-at-clause-unbound g c =
 pub returns-clause-bound : goal.returns-clause-bound
 returns-clause-bound g c =
     let hash = g.K.TableKey.hash in
-    let stripes = g.H.Held.stripes c.args.held.now in
+    let stripes = g.H.Held.stripes c.args.self.now.held in
     let cur = g.H.Held.stripes c.find_slot.new.held in
     let q = g.K.TableKey.name c.args.key.now in
     let at = c.in_ok-at.at in
     let here = c.in_ok-at.ensures.occupied in
-    let v = here.found.0 in
-    (
+    let v = here.found.0 in (
       v,
       c.read.ensures.read q v (found_in hash stripes q c.args.place c.requires.place cur c.find_slot.ensures.same at here),
       kept hash stripes q c.args.place c.requires.place (g.H.Held.stripes c.read.new.self) (c.read.ensures.same ∙ c.find_slot.ensures.same) at here Find (Was (Some v)) (refl, refl),

@@ -12,13 +12,13 @@ use Rattle.ck_section.specs.Calls.{ChangesContents}
 use Rattle.ck_section.specs.TwoNames.{IsChangeOfTwo}
 use Rattle.ck_section.proofs.Steps.{unchanged, reach_still, full_still}
 use Rattle.ck_section.proofs.Rebound.{taken, given, first_lacks, second_lacks, reach1, full1, reach2, free2, reach3, free3, changed, section}
-use Rattle.ck_section.proofs.two_keys.update_two.Goals as goal
+use Rattle.ck_section.proofs.pair.Pair.update_two.Goals as goal
 
 pub returns-in_default-clause-call : goal.returns-in_default-clause-call
 returns-in_default-clause-call g c =
     let V : Type 0 = g.row.V.Denot in
     let hash = g.K.TableKey.hash in
-    let stripes : List (StripeState V) = g.H.Held.stripes c.args.held.now in
+    let stripes : List (StripeState V) = g.H.Held.stripes c.args.self.now.held in
     let a : Name = g.K.TableKey.name c.args.a.now in
     let b : Name = g.K.TableKey.name c.args.b.now in
     (first_lacks hash a b c.args.place_a c.args.place_b stripes c.requires.first c.requires.second c.requires.different (g.H.Held.stripes c.find_slot.new.held) c.find_slot.ensures.same c.in_default.ensures.nowhere)
@@ -27,7 +27,7 @@ pub returns-in_default-find_slot-clause-call : goal.returns-in_default-find_slot
 returns-in_default-find_slot-clause-call g c =
     let V : Type 0 = g.row.V.Denot in
     let hash = g.K.TableKey.hash in
-    let stripes : List (StripeState V) = g.H.Held.stripes c.args.held.now in
+    let stripes : List (StripeState V) = g.H.Held.stripes c.args.self.now.held in
     let a : Name = g.K.TableKey.name c.args.a.now in
     let b : Name = g.K.TableKey.name c.args.b.now in
     let x : HeldSlot = c.in-Some.at_a in
@@ -41,7 +41,7 @@ pub remove-key_b-requires-clause-reach : goal.remove-key_b-requires-clause-reach
 remove-key_b-requires-clause-reach g c =
     let V : Type 0 = g.row.V.Denot in
     let hash = g.K.TableKey.hash in
-    let stripes : List (StripeState V) = g.H.Held.stripes c.args.held.now in
+    let stripes : List (StripeState V) = g.H.Held.stripes c.args.self.now.held in
     let a : Name = g.K.TableKey.name c.args.a.now in
     let b : Name = g.K.TableKey.name c.args.b.now in
     let x : HeldSlot = c.in-Some.at_a in
@@ -64,7 +64,7 @@ pub remove-key_b-requires-clause-full : goal.remove-key_b-requires-clause-full
 remove-key_b-requires-clause-full g c =
     let V : Type 0 = g.row.V.Denot in
     let hash = g.K.TableKey.hash in
-    let stripes : List (StripeState V) = g.H.Held.stripes c.args.held.now in
+    let stripes : List (StripeState V) = g.H.Held.stripes c.args.self.now.held in
     let a : Name = g.K.TableKey.name c.args.a.now in
     let b : Name = g.K.TableKey.name c.args.b.now in
     let x : HeldSlot = c.in-Some.at_a in
@@ -88,7 +88,7 @@ pub place-requires-2-clause-partial : goal.place-requires-2-clause-partial
 place-requires-2-clause-partial g c =
     let V : Type 0 = g.row.V.Denot in
     let hash = g.K.TableKey.hash in
-    let stripes : List (StripeState V) = g.H.Held.stripes c.args.held.now in
+    let stripes : List (StripeState V) = g.H.Held.stripes c.args.self.now.held in
     let a : Name = g.K.TableKey.name c.args.a.now in
     let b : Name = g.K.TableKey.name c.args.b.now in
     let x : HeldSlot = c.in-Some.at_a in
@@ -114,7 +114,7 @@ pub place-requires-clause-reach : goal.place-requires-clause-reach
 place-requires-clause-reach g c =
     let V : Type 0 = g.row.V.Denot in
     let hash = g.K.TableKey.hash in
-    let stripes : List (StripeState V) = g.H.Held.stripes c.args.held.now in
+    let stripes : List (StripeState V) = g.H.Held.stripes c.args.self.now.held in
     let a : Name = g.K.TableKey.name c.args.a.now in
     let b : Name = g.K.TableKey.name c.args.b.now in
     let x : HeldSlot = c.in-Some.at_a in
@@ -144,7 +144,7 @@ pub place-requires-clause-free : goal.place-requires-clause-free
 place-requires-clause-free g c =
     let V : Type 0 = g.row.V.Denot in
     let hash = g.K.TableKey.hash in
-    let stripes : List (StripeState V) = g.H.Held.stripes c.args.held.now in
+    let stripes : List (StripeState V) = g.H.Held.stripes c.args.self.now.held in
     let a : Name = g.K.TableKey.name c.args.a.now in
     let b : Name = g.K.TableKey.name c.args.b.now in
     let x : HeldSlot = c.in-Some.at_a in
@@ -174,7 +174,7 @@ pub place-requires-2-clause-reach : goal.place-requires-2-clause-reach
 place-requires-2-clause-reach g c =
     let V : Type 0 = g.row.V.Denot in
     let hash = g.K.TableKey.hash in
-    let stripes : List (StripeState V) = g.H.Held.stripes c.args.held.now in
+    let stripes : List (StripeState V) = g.H.Held.stripes c.args.self.now.held in
     let a : Name = g.K.TableKey.name c.args.a.now in
     let b : Name = g.K.TableKey.name c.args.b.now in
     let x : HeldSlot = c.in-Some.at_a in
@@ -205,7 +205,7 @@ pub place-requires-2-clause-free : goal.place-requires-2-clause-free
 place-requires-2-clause-free g c =
     let V : Type 0 = g.row.V.Denot in
     let hash = g.K.TableKey.hash in
-    let stripes : List (StripeState V) = g.H.Held.stripes c.args.held.now in
+    let stripes : List (StripeState V) = g.H.Held.stripes c.args.self.now.held in
     let a : Name = g.K.TableKey.name c.args.a.now in
     let b : Name = g.K.TableKey.name c.args.b.now in
     let x : HeldSlot = c.in-Some.at_a in
@@ -236,7 +236,7 @@ pub returns-clause-call : goal.returns-clause-call
 returns-clause-call g c =
     let V : Type 0 = g.row.V.Denot in
     let hash = g.K.TableKey.hash in
-    let stripes : List (StripeState V) = g.H.Held.stripes c.args.held.now in
+    let stripes : List (StripeState V) = g.H.Held.stripes c.args.self.now.held in
     let a : Name = g.K.TableKey.name c.args.a.now in
     let b : Name = g.K.TableKey.name c.args.b.now in
     let x : HeldSlot = c.in-Some.at_a in
@@ -274,7 +274,7 @@ pub returns-clause-rest : goal.returns-clause-rest
 returns-clause-rest g c =
     let V : Type 0 = g.row.V.Denot in
     let hash = g.K.TableKey.hash in
-    let stripes : List (StripeState V) = g.H.Held.stripes c.args.held.now in
+    let stripes : List (StripeState V) = g.H.Held.stripes c.args.self.now.held in
     let a : Name = g.K.TableKey.name c.args.a.now in
     let b : Name = g.K.TableKey.name c.args.b.now in
     let x : HeldSlot = c.in-Some.at_a in
@@ -326,13 +326,13 @@ pub returns-in_default-find_slot-clause-stays : goal.returns-in_default-find_slo
 returns-in_default-find_slot-clause-stays g c = g.met.H.Held.stays_on _ _ _ c.find_slot.ensures.stays c.find_slot-2.ensures.stays
 
 pub remove-key_a-requires-clause-reach : goal.remove-key_a-requires-clause-reach
-remove-key_a-requires-clause-reach g c = reach_still (g.H.Held.stripes c.args.held.now) (g.H.Held.stripes c.find_slot-2.new.held) (c.find_slot-2.ensures.same ∙ c.find_slot.ensures.same) c.in-Some.at_a.index c.in-Some.at_a.bucket c.in-Some.ensures.occupied.slot.reach
+remove-key_a-requires-clause-reach g c = reach_still (g.H.Held.stripes c.args.self.now.held) (g.H.Held.stripes c.find_slot-2.new.held) (c.find_slot-2.ensures.same ∙ c.find_slot.ensures.same) c.in-Some.at_a.index c.in-Some.at_a.bucket c.in-Some.ensures.occupied.slot.reach
 
 pub remove-key_a-requires-clause-below : goal.remove-key_a-requires-clause-below
 remove-key_a-requires-clause-below g c = c.in-Some.ensures.occupied.slot.below
 
 pub remove-key_a-requires-clause-full : goal.remove-key_a-requires-clause-full
-remove-key_a-requires-clause-full g c = full_still (g.H.Held.stripes c.args.held.now) (g.H.Held.stripes c.find_slot-2.new.held) (c.find_slot-2.ensures.same ∙ c.find_slot.ensures.same) c.in-Some.at_a (g.K.TableKey.name c.args.a.now) c.in-Some.ensures.occupied.found
+remove-key_a-requires-clause-full g c = full_still (g.H.Held.stripes c.args.self.now.held) (g.H.Held.stripes c.find_slot-2.new.held) (c.find_slot-2.ensures.same ∙ c.find_slot.ensures.same) c.in-Some.at_a (g.K.TableKey.name c.args.a.now) c.in-Some.ensures.occupied.found
 
 pub remove-key_b-requires-clause-below : goal.remove-key_b-requires-clause-below
 remove-key_b-requires-clause-below g c = c.in-Some-find_slot.ensures.occupied.slot.below

@@ -2,12 +2,12 @@ use Rattle.std.proofs.Common.{refl, None, Some, ap}
 use Rattle.ck_model.specs.declared.history.Act.TheVariants.{Assign}
 use Rattle.ck_model.specs.declared.history.Reply.TheVariants.{Was}
 use Rattle.ck_section.proofs.Steps.{occupied_here, vacant_here, found_in, wrote, slot_changes, full_still}
-use Rattle.ck_section.proofs.one_key.assign.Goals as goal
+use Rattle.ck_section.proofs.pair.Pair.assign.Goals as goal
 
 pub returns-in-Occupied-clause-call : goal.returns-in-Occupied-clause-call
 returns-in-Occupied-clause-call g c =
     let hash = g.K.TableKey.hash in
-    let stripes = g.H.Held.stripes c.args.held.now in
+    let stripes = g.H.Held.stripes c.args.self.now.held in
     let q = g.K.TableKey.name c.args.key in
     let here = occupied_here hash stripes q c.args.place c.args.entry c.in-Occupied.at c.in-Occupied.is c.requires.entry in
     let z = c.replace.ensures.content q here.found.0 (found_in hash stripes q c.args.place c.requires.place stripes refl c.in-Occupied.at here) in
@@ -16,7 +16,7 @@ returns-in-Occupied-clause-call g c =
 pub returns-in-Occupied-clause-rest : goal.returns-in-Occupied-clause-rest
 returns-in-Occupied-clause-rest g c =
     let hash = g.K.TableKey.hash in
-    let stripes = g.H.Held.stripes c.args.held.now in
+    let stripes = g.H.Held.stripes c.args.self.now.held in
     let q = g.K.TableKey.name c.args.key in
     let here = occupied_here hash stripes q c.args.place c.args.entry c.in-Occupied.at c.in-Occupied.is c.requires.entry in
     let z = c.replace.ensures.content q here.found.0 (found_in hash stripes q c.args.place c.requires.place stripes refl c.in-Occupied.at here) in

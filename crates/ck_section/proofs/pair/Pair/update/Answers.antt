@@ -3,12 +3,12 @@ use Rattle.ck_model.specs.declared.history.Act.TheVariants.{Update}
 use Rattle.ck_model.specs.declared.history.Reply.TheVariants.{Was}
 use Rattle.ck_section.proofs.Decided.{IsCallOn}
 use Rattle.ck_section.proofs.Steps.{slot_changes, lacked, found_in, wrote, unchanged, reach_still, full_still}
-use Rattle.ck_section.proofs.one_key.update.Goals as goal
+use Rattle.ck_section.proofs.pair.Pair.update.Goals as goal
 
 pub returns-in_err-at-clause-call : goal.returns-in_err-at-clause-call
 returns-in_err-at-clause-call g c =
     let hash = g.K.TableKey.hash in
-    let stripes = g.H.Held.stripes c.args.held.now in
+    let stripes = g.H.Held.stripes c.args.self.now.held in
     let cur = g.H.Held.stripes c.find_slot.new.held in
     let q = g.K.TableKey.name c.args.key.now in
     subst (λ (r : Option g.row.V.Denot). IsCallOn hash c.args.place.s stripes q (Update c.args.value) (Was r) cur) (sym c.from_residual.ensures)
@@ -17,7 +17,7 @@ returns-in_err-at-clause-call g c =
 pub returns-clause-call : goal.returns-clause-call
 returns-clause-call g c =
     let hash = g.K.TableKey.hash in
-    let stripes = g.H.Held.stripes c.args.held.now in
+    let stripes = g.H.Held.stripes c.args.self.now.held in
     let cur = g.H.Held.stripes c.find_slot.new.held in
     let q = g.K.TableKey.name c.args.key.now in
     let at = c.in_ok-at.at in
@@ -28,7 +28,7 @@ returns-clause-call g c =
 pub returns-clause-rest : goal.returns-clause-rest
 returns-clause-rest g c =
     let hash = g.K.TableKey.hash in
-    let stripes = g.H.Held.stripes c.args.held.now in
+    let stripes = g.H.Held.stripes c.args.self.now.held in
     let cur = g.H.Held.stripes c.find_slot.new.held in
     let q = g.K.TableKey.name c.args.key.now in
     let at = c.in_ok-at.at in

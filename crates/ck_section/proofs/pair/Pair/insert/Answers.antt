@@ -2,12 +2,12 @@ use Rattle.std.proofs.Common.{refl}
 use Rattle.ck_model.specs.declared.history.Act.TheVariants.{Insert}
 use Rattle.ck_model.specs.declared.history.Reply.TheVariants.{New, Old}
 use Rattle.ck_section.proofs.Steps.{occupied_here, vacant_here, kept, unchanged}
-use Rattle.ck_section.proofs.one_key.insert.Goals as goal
+use Rattle.ck_section.proofs.pair.Pair.insert.Goals as goal
 
 pub returns-in-Occupied-clause-call : goal.returns-in-Occupied-clause-call
 returns-in-Occupied-clause-call g c =
     let hash = g.K.TableKey.hash in
-    let stripes = g.H.Held.stripes c.args.held.now in
+    let stripes = g.H.Held.stripes c.args.self.now.held in
     let q = g.K.TableKey.name c.args.key in
     kept hash stripes q c.args.place c.requires.place stripes refl c.in-Occupied.field-0 (occupied_here hash stripes q c.args.place c.args.entry c.in-Occupied.field-0 c.in-Occupied.is c.requires.entry) (Insert c.args.value) Old (refl, refl)
 

@@ -4,12 +4,12 @@ use Rattle.ck_model.specs.declared.history.Reply.TheVariants.{Was}
 use Rattle.ck_stripe.specs.Stripe.{StripeState}
 use Rattle.ck_section.specs.Places.{slot_in}
 use Rattle.ck_section.proofs.Steps.{lacked, found_in, kept, took, unchanged, reach_still, full_still, slot_changes}
-use Rattle.ck_section.proofs.one_key.erase_if.Goals as goal
+use Rattle.ck_section.proofs.pair.Pair.erase_if.Goals as goal
 
 pub returns-in_default-clause-unbound : goal.returns-in_default-clause-unbound
 returns-in_default-clause-unbound g c =
     let hash = g.K.TableKey.hash in
-    let stripes = g.H.Held.stripes c.args.held.now in
+    let stripes = g.H.Held.stripes c.args.self.now.held in
     let cur = g.H.Held.stripes c.find_slot.new.held in
     let q = g.K.TableKey.name c.args.key.now in
     (refl, lacked hash stripes q c.args.place c.requires.place cur c.find_slot.ensures.same Find (Was None) c.in_default.ensures.nowhere (refl, refl), c.find_slot.ensures.same)
@@ -17,13 +17,12 @@ returns-in_default-clause-unbound g c =
 pub returns-then-not-read-clause-bound : goal.returns-then-not-read-clause-bound
 returns-then-not-read-clause-bound g c =
     let hash = g.K.TableKey.hash in
-    let stripes = g.H.Held.stripes c.args.held.now in
+    let stripes = g.H.Held.stripes c.args.self.now.held in
     let cur = g.H.Held.stripes c.find_slot.new.held in
     let q = g.K.TableKey.name c.args.key.now in
     let at = c.in-Some.at in
     let here = c.in-Some.ensures.occupied in
-    let v = here.found.0 in
-    (
+    let v = here.found.0 in (
       v,
       c.if-not-read.ensures.read q v (found_in hash stripes q c.args.place c.requires.place cur c.find_slot.ensures.same at here),
       kept hash stripes q c.args.place c.requires.place (g.H.Held.stripes c.read.new.self) (c.read.ensures.same ∙ c.find_slot.ensures.same) at here Find (Was (Some v)) (refl, refl),
@@ -32,11 +31,10 @@ returns-then-not-read-clause-bound g c =
 pub returns-clause-bound : goal.returns-clause-bound
 returns-clause-bound g c =
     let hash = g.K.TableKey.hash in
-    let stripes = g.H.Held.stripes c.args.held.now in
+    let stripes = g.H.Held.stripes c.args.self.now.held in
     let q = g.K.TableKey.name c.args.key.now in
     let at = c.in-Some.at in
-    let v = c.remove.result.1 in
-    (
+    let v = c.remove.result.1 in (
       v,
       c.if-not-read.ensures.read (g.K.TableKey.name c.remove.result.0) v (ap (λ (l : List (StripeState g.row.V.Denot)). slot_in l at) (sym c.read.ensures.same) ∙ c.remove.ensures.entry),
       took hash stripes q c.args.place c.requires.place (g.H.Held.stripes c.read.new.self) (c.read.ensures.same ∙ c.find_slot.ensures.same) at c.in-Some.ensures.occupied

@@ -2,12 +2,12 @@ use Rattle.std.proofs.Common.{refl}
 use Rattle.ck_model.specs.declared.history.Act.TheVariants.{Change}
 use Rattle.ck_model.specs.declared.history.Reply.TheVariants.{Done, Absent}
 use Rattle.ck_section.proofs.Steps.{slot_changes, lacked, found_in, wrote, unchanged, reach_still, full_still}
-use Rattle.ck_section.proofs.one_key.change.Goals as goal
+use Rattle.ck_section.proofs.pair.Pair.change.Goals as goal
 
 pub returns-in_default-clause-call : goal.returns-in_default-clause-call
 returns-in_default-clause-call g c =
     let hash = g.K.TableKey.hash in
-    let stripes = g.H.Held.stripes c.args.held.now in
+    let stripes = g.H.Held.stripes c.args.self.now.held in
     let cur = g.H.Held.stripes c.find_slot.new.held in
     let q = g.K.TableKey.name c.args.key.now in
     lacked hash stripes q c.args.place c.requires.place cur c.find_slot.ensures.same Change Absent c.in_default.ensures.nowhere (refl, refl)
@@ -15,7 +15,7 @@ returns-in_default-clause-call g c =
 pub returns-clause-call : goal.returns-clause-call
 returns-clause-call g c =
     let hash = g.K.TableKey.hash in
-    let stripes = g.H.Held.stripes c.args.held.now in
+    let stripes = g.H.Held.stripes c.args.self.now.held in
     let cur = g.H.Held.stripes c.find_slot.new.held in
     let q = g.K.TableKey.name c.args.key.now in
     let at = c.in-Some.at in
@@ -27,7 +27,7 @@ returns-clause-call g c =
 pub returns-clause-rest : goal.returns-clause-rest
 returns-clause-rest g c =
     let hash = g.K.TableKey.hash in
-    let stripes = g.H.Held.stripes c.args.held.now in
+    let stripes = g.H.Held.stripes c.args.self.now.held in
     let cur = g.H.Held.stripes c.find_slot.new.held in
     let q = g.K.TableKey.name c.args.key.now in
     let at = c.in-Some.at in
