@@ -24,7 +24,8 @@ impl<K: TableKey + Drop, V: Drop, H: Held<K, V>> Pair<K, V, H> {
     #[inline(always)]
     pub fn entry(&mut self, place: KeyPlace, key: &K) -> Option<Entry>
         requires { IsPlaceOf K.hash (H.stripes self.old.held) (K.name key.now) place }
-        ensures entry { IfSome result (IsEntryOf K.hash (H.stripes self.old.held) (K.name key.now) place) }
+        ensures entry { IfSome result
+            (IsEntryOf K.hash (H.stripes self.old.held) (K.name key.now) place) }
         ensures room { IfSome result
             (λ _. IsWithRoom K.hash place.s (H.stripes self.old.held) (K.name key.now)) }
         ensures no_room { IfNone result

@@ -31,9 +31,12 @@ pub fn move_entry<K: TableKey + Drop, V: Drop, H: Held<K, V>>(
     hop: Hop,
 ) -> bool
     requires { IsHopIn (H.stripes held.old) from to hop }
-    ensures exactly { MatchBool result (CanHop K.hash (H.stripes held.old) from to hop) (¬ (CanHop K.hash (H.stripes held.old) from to hop)) }
-    ensures moved { MatchBool result (Hops (H.stripes held.old) from to hop (H.stripes held.new)) (H.stripes held.new ≡ H.stripes held.old) }
-    ensures no_call { IsNoCall K.hash (stripe_at (H.stripes held.old) from).s (H.stripes held.old) (H.stripes held.new) }
+    ensures exactly { MatchBool result (CanHop K.hash (H.stripes held.old) from to hop)
+        (¬ (CanHop K.hash (H.stripes held.old) from to hop)) }
+    ensures moved { MatchBool result (Hops (H.stripes held.old) from to hop (H.stripes held.new))
+        (H.stripes held.new ≡ H.stripes held.old) }
+    ensures no_call { IsNoCall K.hash (stripe_at (H.stripes held.old) from).s
+        (H.stripes held.old) (H.stripes held.new) }
     ensures rest { ChangesContents (H.stripes held.old) (H.stripes held.new) }
     ensures stays { H.stays held.old held.new }
 {
@@ -54,7 +57,9 @@ pub fn move_entry<K: TableKey + Drop, V: Drop, H: Held<K, V>>(
 // Whether the slot has an entry of the hop's partial.
 fn has_partial<K: TableKey, V, H: Held<K, V>>(held: &mut H, from: usize, hop: Hop) -> bool
     requires { IsInReach (H.stripes held.old) from hop.bucket }
-    ensures value { MatchBool result (HasPartial K.hash (slot_in (H.stripes held.old) (source_in from hop)) hop.partial) (¬ (HasPartial K.hash (slot_in (H.stripes held.old) (source_in from hop)) hop.partial)) }
+    ensures value { MatchBool result
+        (HasPartial K.hash (slot_in (H.stripes held.old) (source_in from hop)) hop.partial)
+        (¬ (HasPartial K.hash (slot_in (H.stripes held.old) (source_in from hop)) hop.partial)) }
     ensures below { OnTrue result (hop.slot < 4) }
     ensures same { H.stripes held.new ≡ H.stripes held.old }
     ensures stays { H.stays held.old held.new }

@@ -27,9 +27,11 @@ impl<K: TableKey + Drop, V: Drop, H: Held<K, V>> Pair<K, V, H> {
         requires place { IsPlaceOf K.hash (H.stripes self.old.held) (K.name key.now) place }
         requires call { F.IsAlwaysCallable f }
         ensures bound { IfSome result (λ r. (v : V) × FnOnceReturnsAt F.FnOnce f v r
-            × IsCall (effect K.hash H.stripes place self.old self.new) (K.name key.now) Find (Was (Some v))) }
+            × IsCall (effect K.hash H.stripes place self.old self.new) (K.name key.now)
+            Find (Was (Some v))) }
         ensures unbound { IfNone result
-            (IsCall (effect K.hash H.stripes place self.old self.new) (K.name key.now) Find (Was None)) }
+            (IsCall (effect K.hash H.stripes place self.old self.new) (K.name key.now)
+            Find (Was None)) }
         ensures same { H.stripes self.new.held ≡ H.stripes self.old.held }
         ensures s { self.new.s ≡ self.old.s }
         ensures stays { H.stays self.old.held self.new.held }
@@ -121,10 +123,11 @@ impl<K: TableKey + Drop, V: Drop, H: Held<K, V>> Pair<K, V, H> {
         ensures bound { IfOk result (λ gone. (v : V) × FnOnceReturnsAt F.FnOnce f v gone
             × IsCall (effect K.hash H.stripes place self.old self.new) (K.name key.now)
             (if gone then Erase else Find) (Was (Some v))) }
-        ensures same { IfOk result (λ gone. OnFalse gone (H.stripes self.new.held ≡ H.stripes self.old.held)) }
+        ensures same { IfOk result
+            (λ gone. OnFalse gone (H.stripes self.new.held ≡ H.stripes self.old.held)) }
         ensures unbound { IfErr result (λ back. (back ≡ f)
-            × IsCall (effect K.hash H.stripes place self.old self.new) (K.name key.now) Find (Was None)
-            × (H.stripes self.new.held ≡ H.stripes self.old.held)) }
+            × IsCall (effect K.hash H.stripes place self.old self.new) (K.name key.now)
+            Find (Was None) × (H.stripes self.new.held ≡ H.stripes self.old.held)) }
         ensures rest { ChangesContents (H.stripes self.old.held) (H.stripes self.new.held) }
         ensures s { self.new.s ≡ self.old.s }
         ensures stays { H.stays self.old.held self.new.held }
@@ -148,8 +151,10 @@ impl<K: TableKey + Drop, V: Drop, H: Held<K, V>> Pair<K, V, H> {
         requires call { F.IsAlwaysCallable f }
         ensures call { MatchBool result
             ((v w : V) × F.post f v w
-            × IsCall (effect K.hash H.stripes place self.old self.new) (K.name key.now) Change (Done v w))
-            (IsCall (effect K.hash H.stripes place self.old self.new) (K.name key.now) Change Absent) }
+            × IsCall (effect K.hash H.stripes place self.old self.new) (K.name key.now)
+            Change (Done v w))
+            (IsCall (effect K.hash H.stripes place self.old self.new) (K.name key.now)
+            Change Absent) }
         ensures same { OnFalse result (H.stripes self.new.held ≡ H.stripes self.old.held) }
         ensures rest { ChangesContents (H.stripes self.old.held) (H.stripes self.new.held) }
         ensures s { self.new.s ≡ self.old.s }
@@ -178,7 +183,8 @@ impl<K: TableKey + Drop, V: Drop, H: Held<K, V>> Pair<K, V, H> {
         requires entry { IsEntryOf K.hash (H.stripes self.old.held) (K.name key) place entry }
         requires call { F.IsAlwaysCallable f }
         ensures call { MatchBool result
-            (IsCall (effect K.hash H.stripes place self.old self.new) (K.name key) (Upsert value) New)
+            (IsCall (effect K.hash H.stripes place self.old self.new) (K.name key)
+            (Upsert value) New)
             ((v w : V) × F.post f v w × IsCall (effect K.hash H.stripes place self.old self.new)
             (K.name key) (Upsert value) (Done v w)) }
         ensures rest { ChangesContents (H.stripes self.old.held) (H.stripes self.new.held) }

@@ -87,7 +87,8 @@ impl<K: TableKey + Drop, V: Drop, H: Held<K, V>> Pair<K, V, H> {
             (¬ (CanHop K.hash (H.stripes self.old.held) i j hop))
             × MatchBool result (Hops (H.stripes self.old.held) i j hop (H.stripes self.new.held))
             (H.stripes self.new.held ≡ H.stripes self.old.held) }
-        ensures no_call { IsNoCall K.hash self.old.s (H.stripes self.old.held) (H.stripes self.new.held) }
+        ensures no_call { IsNoCall K.hash self.old.s
+            (H.stripes self.old.held) (H.stripes self.new.held) }
         ensures rest { ChangesContents (H.stripes self.old.held) (H.stripes self.new.held) }
         ensures s { self.new.s ≡ self.old.s }
         ensures stays { H.stays self.old.held self.new.held }
