@@ -72,7 +72,7 @@ impl<K: TableKey + Drop, V: Drop, H: Held<K, V>> Pair<K, V, H> {
         ensures stays { H.stays self.old.held self.new.held }
     {
         match entry {
-            Entry::Occupied(at) => Some(self.held.replace(at.index, at.bucket, at.slot, value)),
+            Entry::Occupied(old) => Some(self.held.replace(old.index, old.bucket, old.slot, value)),
             Entry::Vacant(at) => {
                 self.fill(place, at, key, value);
                 None
@@ -192,8 +192,8 @@ impl<K: TableKey + Drop, V: Drop, H: Held<K, V>> Pair<K, V, H> {
         ensures stays { H.stays self.old.held self.new.held }
     {
         match entry {
-            Entry::Occupied(at) => {
-                self.held.change(at.index, at.bucket, at.slot, f);
+            Entry::Occupied(old) => {
+                self.held.change(old.index, old.bucket, old.slot, f);
                 false
             }
             Entry::Vacant(at) => {
@@ -213,7 +213,8 @@ impl<K: TableKey + Drop, V: Drop, H: Held<K, V>> Pair<K, V, H> {
         ensures s { self.new.s ≡ self.old.s }
         ensures stays { H.stays self.old.held self.new.held }
     {
+        let partial = place.partial;
         self.held
-            .place(at.index, at.bucket, at.slot, place.partial, key, value);
+            .place(at.index, at.bucket, at.slot, partial, key, value);
     }
 }
