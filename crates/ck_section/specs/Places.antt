@@ -10,6 +10,10 @@ use Rattle.ck_section.specs.declared.place.KeyPlace.{KeyPlace}
 use Rattle.ck_section.specs.declared.place.HeldSlot.{HeldSlot}
 use Rattle.ck_section.specs.Stripes.{stripe_at, bucket_at, set_content, IsInReach}
 
+-- this slot of bucket b of stripe i
+abbrev pub at : ℕ → ℕ → ℕ → HeldSlot
+at i b slot = record { index = i; bucket = b; slot = slot }
+
 module _ {V : Type 0} where
   -- Settled stripes of one table of 2^s stripes, of one power, in rising order of their numbers.
   pub record AreHeld (s : ℕ) (stripes : List (StripeState V)) : Type 0 where

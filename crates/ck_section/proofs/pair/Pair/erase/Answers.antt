@@ -1,0 +1,47 @@
+use Rattle.std.proofs.Common.{refl, sym, subst, Option, None, Some}
+use Rattle.ck_model.specs.declared.history.Act.TheVariants.{Erase}
+use Rattle.ck_model.specs.declared.history.Reply.TheVariants.{Was}
+use Rattle.ck_section.proofs.Decided.{IsCallOn}
+use Rattle.ck_section.proofs.Steps.{lacked, took, unchanged, reach_still, full_still, slot_changes}
+use Rattle.ck_section.proofs.pair.Pair.erase.Goals as goal
+
+pub returns-in_err-at-clause-call : goal.returns-in_err-at-clause-call
+returns-in_err-at-clause-call g c =
+    let hash = g.K.TableKey.hash in
+    let stripes = g.H.Held.stripes c.args.self.now.held in
+    let cur = g.H.Held.stripes c.find_slot.new.held in
+    let q = g.K.TableKey.name c.args.key.now in
+    subst (λ (r : Option g.row.V.Denot). IsCallOn hash c.args.place.s stripes q Erase (Was r) cur) (sym c.from_residual.ensures)
+    (lacked hash stripes q c.args.place c.requires cur c.find_slot.ensures.same Erase (Was None) c.in_err-at.ensures.nowhere (refl, refl))
+
+pub returns-clause-call : goal.returns-clause-call
+returns-clause-call g c =
+    let hash = g.K.TableKey.hash in
+    let stripes = g.H.Held.stripes c.args.self.now.held in
+    let cur = g.H.Held.stripes c.find_slot.new.held in
+    let q = g.K.TableKey.name c.args.key.now in
+    took hash stripes q c.args.place c.requires cur c.find_slot.ensures.same c.in_ok-at.at c.in_ok-at.ensures.occupied Erase (λ (v : g.row.V.Denot). Was (Some v)) _ c.remove-value.result.1 _ (λ w. (refl, refl)) c.remove-value.ensures.entry c.remove-value.ensures.content
+
+pub find_slot-requires : goal.find_slot-requires
+find_slot-requires g c = c.requires
+
+pub remove-value-requires-clause-reach : goal.remove-value-requires-clause-reach
+remove-value-requires-clause-reach g c = reach_still _ _ c.find_slot.ensures.same c.in_ok-at.at.index c.in_ok-at.at.bucket c.in_ok-at.ensures.occupied.slot.reach
+
+pub remove-value-requires-clause-below : goal.remove-value-requires-clause-below
+remove-value-requires-clause-below g c = c.in_ok-at.ensures.occupied.slot.below
+
+pub remove-value-requires-clause-full : goal.remove-value-requires-clause-full
+remove-value-requires-clause-full g c = full_still _ _ c.find_slot.ensures.same c.in_ok-at.at _ c.in_ok-at.ensures.occupied.found
+
+pub returns-in_err-at-clause-rest : goal.returns-in_err-at-clause-rest
+returns-in_err-at-clause-rest g c = unchanged _ _ c.find_slot.ensures.same
+
+pub returns-in_err-at-clause-stays : goal.returns-in_err-at-clause-stays
+returns-in_err-at-clause-stays g c = c.find_slot.ensures.stays
+
+pub returns-clause-rest : goal.returns-clause-rest
+returns-clause-rest g c = slot_changes _ _ _ c.in_ok-at.at _ _ c.find_slot.ensures.same c.in_ok-at.ensures.occupied.slot.reach c.remove-value.ensures.content
+
+pub returns-clause-stays : goal.returns-clause-stays
+returns-clause-stays g c = g.met.H.Held.stays_on _ _ _ c.find_slot.ensures.stays c.remove-value.ensures.stays

@@ -1,0 +1,22 @@
+use Rattle.std.proofs.Common.{refl}
+use Rattle.ck_section.proofs.Steps.{put, slot_changes}
+use Rattle.ck_section.proofs.pair.Pair.fill.Goals as goal
+
+pub place-requires-clause-reach : goal.place-requires-clause-reach
+place-requires-clause-reach g c = c.requires.vacant.slot.reach
+
+pub place-requires-clause-below : goal.place-requires-clause-below
+place-requires-clause-below g c = c.requires.vacant.slot.below
+
+pub place-requires-clause-free : goal.place-requires-clause-free
+place-requires-clause-free g c = c.requires.vacant.next.0
+
+pub returns-clause-call : goal.returns-clause-call
+returns-clause-call g c act reply answers =
+    let stripes = g.H.Held.stripes c.args.self.now.held in
+    put g.K.TableKey.hash stripes (g.K.TableKey.name c.args.key) c.args.place c.requires.place stripes refl c.args.at c.requires.vacant act reply c.args.value _ answers c.place.ensures.content
+
+pub returns-clause-rest : goal.returns-clause-rest
+returns-clause-rest g c =
+    let stripes = g.H.Held.stripes c.args.self.now.held in
+    slot_changes stripes stripes _ c.args.at _ _ refl c.requires.vacant.slot.reach c.place.ensures.content

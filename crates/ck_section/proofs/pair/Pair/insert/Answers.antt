@@ -1,0 +1,27 @@
+use Rattle.std.proofs.Common.{refl}
+use Rattle.ck_model.specs.declared.history.Act.TheVariants.{Insert}
+use Rattle.ck_model.specs.declared.history.Reply.TheVariants.{New, Old}
+use Rattle.ck_section.proofs.Steps.{occupied_here, vacant_here, kept, unchanged}
+use Rattle.ck_section.proofs.pair.Pair.insert.Goals as goal
+
+pub returns-in-Occupied-clause-call : goal.returns-in-Occupied-clause-call
+returns-in-Occupied-clause-call g c =
+    let hash = g.K.TableKey.hash in
+    let stripes = g.H.Held.stripes c.args.self.now.held in
+    let q = g.K.TableKey.name c.args.key in
+    kept hash stripes q c.args.place c.requires.place stripes refl c.in-Occupied.field-0 (occupied_here hash stripes q c.args.place c.args.entry c.in-Occupied.field-0 c.in-Occupied.is c.requires.entry) (Insert c.args.value) Old (refl, refl)
+
+pub returns-in-Vacant-clause-call : goal.returns-in-Vacant-clause-call
+returns-in-Vacant-clause-call g c = c.fill.ensures.call (Insert c.args.value) New (refl, refl)
+
+pub returns-in-Occupied-clause-rest : goal.returns-in-Occupied-clause-rest
+returns-in-Occupied-clause-rest g c = unchanged _ _ refl
+
+pub returns-in-Occupied-clause-stays : goal.returns-in-Occupied-clause-stays
+returns-in-Occupied-clause-stays g c = g.met.H.Held.stays_same _
+
+pub fill-requires-clause-place : goal.fill-requires-clause-place
+fill-requires-clause-place g c = c.requires.place
+
+pub fill-requires-clause-vacant : goal.fill-requires-clause-vacant
+fill-requires-clause-vacant g c = vacant_here _ _ _ _ c.args.entry c.in-Vacant.at c.in-Vacant.is c.requires.entry
