@@ -27,7 +27,7 @@ use Rattle.ck_words.proofs.Reversed.{lawful_reverse, section_turned, identity_tu
 use Rattle.ck_words.proofs.Excuses.{excused_reverse, has_grounds_reverse}
 use Rattle.ck_words.proofs.Rows.{give_row, renew_row, decide_row}
 use Rattle.ck_words.proofs.Seating.{Last}
-use Rattle.ck_words.proofs.Takes.{Fits, same_settings, same_key, slots_are, below_key, settled, told}
+use Rattle.ck_words.proofs.Takes.{Fits, same_settings, same_key, slots_are, Left, below_key, unchanged_mine, own_after, settled, told}
 
 pub turned_by : {V : Type 0} (me me2 : Hand V) (n m : ℕ) → me2 ≡ (me.0, rotated n me.1) → n ≡ m → me2 ≡ (me.0, rotated m me.1)
 turned_by me me2 n m e same = e ∙ λ i. (me.0, rotated (same i) me.1)
@@ -44,7 +44,7 @@ module _ {V : Type 0} (hash : Name → ℕ) (w : WordsState) (p : PassState V) (
   unchanged_held = me.0.held ≡ reverse (contents_of (stripes_in me.1))
 
   pub held_now : IsUnchanged p → unchanged_held
-  held_now u = let e : contents_of (stripes_in me.1) ≡ reverse me.0.held = subst IsUnchanged (sym f.pass_is) u in sym (ap reverse e ∙ reverse-reverse me.0.held)
+  held_now u = sym (ap reverse (unchanged_mine hash w p tz key set z me f u) ∙ reverse-reverse me.0.held)
 
   pub word_fits : Fits64 w64 (t * 8)
   word_fits =
@@ -82,34 +82,26 @@ module _ {V : Type 0} (hash : Name → ℕ) (w : WordsState) (p : PassState V) (
     ready h = subst (λ (m : Hand V). Allows (RuleOf hash key) slots id m (t * 8) (λ _. 0) (λ _. told_by m.0.settings (t * 8 / 8) m)) (sym is_front)
         (settled hash w p tz key set z me f (λ x n. Allows (RuleOf hash key) slots id at_front (t * 8) (λ _. 0) (λ _. told_by x n at_front)) t h)
 
-    -- it went home, and the others are still held
-    pub record Gone (me3 : Hand V) : Type 0 where
-      pub slots_left : me3.1 ≡ l.out
-      pub step : Steps hash w.settings (move t now) me.0 me3.0
+    -- the view after it tells of the others
+    abbrev Tells : View V → Type 0
+    Tells v = (v.settings ≡ me.0.settings) × (v.held ≡ without t now)
 
-    pub gone : (me3 : Hand V) → told_by me2.0.settings (t * 8 / 8) me2 me3 → Gone me3
-    gone me3 h =
+    left : ((v : View V) → Steps hash w.settings (move t now) me.0 v → Tells v) → (z3 : TableId) (me3 : Hand V) (room3 : ℕ) → told_by me2.0.settings (t * 8 / 8) me2 me3 → z3 ≡ z → room3 ≡ room → Left w (Sends hash w move p) z3 me3 ms room3
+    left tells z3 me3 room3 h same cap =
         let front : told_by me.0.settings (t * 8 / 8) at_front me3 = subst (λ (m : Hand V). told_by m.0.settings (t * 8 / 8) m me3) is_front h in
         let here : told_by w.settings t at_front me3 = told hash w p tz key set z me f (λ x n. told_by x n at_front me3) t front in
-        record { slots_left = here.0; step = subst (λ ks. Steps hash w.settings (move t ks) me.0 me3.0) l.now here.1 }
-
-    pub sends : (z3 : TableId) (me3 : Hand V) → Gone me3 → Sends hash w move p (state_of z3 me3)
-    sends z3 me3 g = subst (λ (q : PassState V). Sends hash w move q (state_of z3 me3)) f.pass_is (
-      l.stripe,
-      l.split ∙ ap (λ has. stripes_in has ++ l.stripe ∷ []) (sym g.slots_left),
-      subst (λ n. Steps hash w.settings (move n now) me.0 me3.0) (sym l.own.0) g.step,
-    )
-
-    -- the view tells of the others
-    pub record Tells (me3 : Hand V) : Type 0 where
-      pub settings : me3.0.settings ≡ me.0.settings
-      pub held : me3.0.held ≡ without t now
-
-    pub gone_seated : (z3 : TableId) (me3 : Hand V) (room3 : ℕ) → Gone me3 → Tells me3 → z3 ≡ z → room3 ≡ room → IsSeated z3 me3 ms room3
-    gone_seated z3 me3 room3 g v same cap = subst (λ (x : (TableId × List (ℕ × Slot V)) × ℕ). IsSeated x.0.0 (me3.0, x.0.1) ms x.1) (λ i. ((sym same i, sym g.slots_left i), sym cap i)) (l.left me3.0 v.settings (v.held ∙ l.others))
-
-    pub gone_unchanged : (z3 : TableId) (me3 : Hand V) → Gone me3 → Tells me3 → IsUnchanged (state_of z3 me3)
-    gone_unchanged z3 me3 g v = ap (λ has. contents_of (stripes_in has)) g.slots_left ∙ sym (ap reverse (v.held ∙ l.others) ∙ reverse-reverse (contents_of (stripes_in l.out)))
+        let step : Steps hash w.settings (move t now) me.0 me3.0 = subst (λ ks. Steps hash w.settings (move t ks) me.0 me3.0) l.now here.1 in
+        let v = tells me3.0 step in
+        record {
+          seated = subst (λ (x : (TableId × List (ℕ × Slot V)) × ℕ). IsSeated x.0.0 (me3.0, x.0.1) ms x.1) (λ i. ((sym same i, sym here.0 i), sym cap i)) (l.left me3.0 v.0 (v.1 ∙ l.others));
+          own = own_after hash w p tz key set z me f z3 me3 same v.0;
+          step = subst (λ (q : PassState V). Sends hash w move q (state_of z3 me3)) f.pass_is (
+            l.stripe,
+            l.split ∙ ap (λ has. stripes_in has ++ l.stripe ∷ []) (sym here.0),
+            subst (λ n. Steps hash w.settings (move n now) me.0 me3.0) (sym l.own.0) step,
+          );
+          unchanged = ap (λ has. contents_of (stripes_in has)) here.0 ∙ sym (ap reverse (v.1 ∙ l.others) ∙ reverse-reverse (contents_of (stripes_in l.out)));
+        }
 
   module _ (slots id : ℕ) (me2 : Hand V) (turned : me2 ≡ (me.0, rotated (length ms) me.1)) where
     module _ (g : Option (Name × Why)) (u : IsUnchanged p) where
@@ -131,10 +123,8 @@ module _ {V : Type 0} (hash : Name → ℕ) (w : WordsState) (p : PassState V) (
           let holds : Holds me.0.held t l.stripe.content = subst (λ (hs : Stripes V). Holds hs t l.stripe.content) (sym (held_now u ∙ l.first)) (inl (refl, refl)) in
           ready slots id me2 turned give_move (give_allowed hash key slots id at_front t l.stripe l.out refl inside_key own_key g holds (excused_held excused))
 
-      pub give_tells : (me3 : Hand V) → Gone slots id me2 turned give_move me3 → Tells slots id me2 turned give_move me3
-      give_tells me3 gone =
-          let row = give_row hash w.settings me.0 me3.0 t g gone.step in
-          record { settings = ap (λ (v : View V). v.settings) row; held = ap (λ (v : View V). v.held) row ∙ ap (without t) (held_now u) }
+      pub give_left : (z3 : TableId) (me3 : Hand V) (room3 : ℕ) → told_by slots id me2 turned give_move me2.0.settings (t * 8 / 8) me2 me3 → z3 ≡ z → room3 ≡ room → Left w (Sends hash w give_move p) z3 me3 ms room3
+      give_left = left slots id me2 turned give_move (λ v step. let row = give_row hash w.settings me.0 v t g step in (ap (λ (u : View V). u.settings) row, ap (λ (u : View V). u.held) row ∙ ap (without t) (held_now u)))
 
     module _ (g : Option (Name × Why)) where
       abbrev pub renew_move : ℕ → Stripes V → Move V
@@ -155,8 +145,8 @@ module _ {V : Type 0} (hash : Name → ℕ) (w : WordsState) (p : PassState V) (
           (has_grounds_reverse k (contents_of (stripes_in me.1)) (subst (Lawful k) (ap reverse l.now ∙ reverse-reverse (contents_of (stripes_in me.1))) (lawful_reverse k (contents_now at_front.1) lawful)) key.min_load g given) in
           ready slots id me2 turned renew_move (renew_allowed hash key slots id at_front t l.stripe l.out refl inside_key own_key now_held g turned_sec turned_grounds)
 
-      pub renew_tells : (me3 : Hand V) → Gone slots id me2 turned renew_move me3 → Tells slots id me2 turned renew_move me3
-      renew_tells me3 gone = let row = renew_row hash w.settings me.0 me3.0 t now g gone.step in record { settings = ap (λ (v : View V). v.settings) row; held = ap (λ (v : View V). v.held) row }
+      pub renew_left : (z3 : TableId) (me3 : Hand V) (room3 : ℕ) → told_by slots id me2 turned renew_move me2.0.settings (t * 8 / 8) me2 me3 → z3 ≡ z → room3 ≡ room → Left w (Sends hash w renew_move p) z3 me3 ms room3
+      renew_left = left slots id me2 turned renew_move (λ v step. let row = renew_row hash w.settings me.0 v t now g step in (ap (λ (u : View V). u.settings) row, ap (λ (u : View V). u.held) row))
 
     module _ (e : Entry V) where
       abbrev pub decide_move : ℕ → Stripes V → Move V
@@ -171,5 +161,5 @@ module _ {V : Type 0} (hash : Name → ℕ) (w : WordsState) (p : PassState V) (
           λ lawful. subst (λ ks. Section k me.0.held e.call e.reply ks) (sym l.now) (section_turned k me.0.held (contents_of (stripes_in me.1)) e.call e.reply lawful here) in
           ready slots id me2 turned decide_move (decide_allowed hash key slots id at_front t l.stripe l.out refl inside_key own_key now_held e (ap (λ (q : PassState V). q.view.by) f.pass_is ∙ by) turned_sec)
 
-      pub decide_tells : (me3 : Hand V) → Gone slots id me2 turned decide_move me3 → Tells slots id me2 turned decide_move me3
-      decide_tells me3 gone = let row = decide_row hash w.settings me.0 me3.0 t now e gone.step in record { settings = ap (λ (v : View V). v.settings) row; held = ap (λ (v : View V). v.held) row }
+      pub decide_left : (z3 : TableId) (me3 : Hand V) (room3 : ℕ) → told_by slots id me2 turned decide_move me2.0.settings (t * 8 / 8) me2 me3 → z3 ≡ z → room3 ≡ room → Left w (Sends hash w decide_move p) z3 me3 ms room3
+      decide_left = left slots id me2 turned decide_move (λ v step. let row = decide_row hash w.settings me.0 v t now e step in (ap (λ (u : View V). u.settings) row, ap (λ (u : View V). u.held) row))

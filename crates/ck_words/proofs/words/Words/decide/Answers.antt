@@ -1,7 +1,7 @@
 use Rattle.std.proofs.Common.{◌≡◌, ◌∙◌, length, rules}
-use Rattle.ck_words.proofs.Takes.{fits, same_table, word_inside, own_after}
+use Rattle.ck_words.proofs.Takes.{fits, same_table, word_inside}
 use Rattle.ck_words.proofs.Seating.{last}
-use Rattle.ck_words.proofs.Gives.{turned_by, inside, word_fits, decide_move, decide_ready, decide_tells, gone, sends, gone_seated, gone_unchanged}
+use Rattle.ck_words.proofs.Gives.{turned_by, inside, word_fits, decide_ready, decide_left}
 use Rattle.ck_words.proofs.words.Words.decide.Goals as goal
 
 pub overflow_mul-t : goal.overflow_mul-t
@@ -22,25 +22,22 @@ pub invariant_of-pass : goal.invariant_of-pass
 invariant_of-pass g c = let f = fits _ _ _ _ _ _ _ c.self.view_is c.self.invariant c.pass.view_is c.requires.own in let h = g.K.TableKey.hash in
     let n : c.len.result ≡ length c.pop.new.self.items = search rules in let turned = turned_by _ _ _ _ c.turn_by.ensures.turned n in
     let l = last _ _ _ _ _ _ _ c.pass.invariant c.in-Some.ensures.items in
-    let k = gone h _ _ _ _ _ _ _ f _ _ _ l 0 0 _ turned (decide_move h _ _ _ _ _ _ _ f _ _ _ l 0 0 _ turned g.J.Says.entry) _ c.store.ensures.2 in
-    gone_seated h _ _ _ _ _ _ _ f _ _ _ l 0 0 _ turned (decide_move h _ _ _ _ _ _ _ f _ _ _ l 0 0 _ turned g.J.Says.entry) _ _ _ k (decide_tells h _ _ _ _ _ _ _ f _ _ _ l 0 0 _ turned g.J.Says.entry c.store.new.seat.me k) (c.store.ensures.0 ∙ c.turn_by.ensures.kept.0) c.in-Some.ensures.capacity
+    let k = decide_left h _ _ _ _ _ _ _ f _ _ _ l 0 0 _ turned g.J.Says.entry c.store.new.seat.table_id c.store.new.seat.me _ c.store.ensures.2 (c.store.ensures.0 ∙ c.turn_by.ensures.kept.0) c.in-Some.ensures.capacity in k.seated
 
 pub returns-clause-own : goal.returns-clause-own
 returns-clause-own g c = let f = fits _ _ _ _ _ _ _ c.self.view_is c.self.invariant c.pass.view_is c.requires.own in let h = g.K.TableKey.hash in
     let n : c.len.result ≡ length c.pop.new.self.items = search rules in let turned = turned_by _ _ _ _ c.turn_by.ensures.turned n in
     let l = last _ _ _ _ _ _ _ c.pass.invariant c.in-Some.ensures.items in
-    let k = gone h _ _ _ _ _ _ _ f _ _ _ l 0 0 _ turned (decide_move h _ _ _ _ _ _ _ f _ _ _ l 0 0 _ turned g.J.Says.entry) _ c.store.ensures.2 in
-    own_after h _ _ _ _ _ _ _ f c.store.new.seat.table_id c.store.new.seat.me (c.store.ensures.0 ∙ c.turn_by.ensures.kept.0) (decide_tells h _ _ _ _ _ _ _ f _ _ _ l 0 0 _ turned g.J.Says.entry c.store.new.seat.me k).settings
+    let k = decide_left h _ _ _ _ _ _ _ f _ _ _ l 0 0 _ turned g.J.Says.entry c.store.new.seat.table_id c.store.new.seat.me _ c.store.ensures.2 (c.store.ensures.0 ∙ c.turn_by.ensures.kept.0) c.in-Some.ensures.capacity in k.own
 
 pub returns-clause-step : goal.returns-clause-step
 returns-clause-step g c = let f = fits _ _ _ _ _ _ _ c.self.view_is c.self.invariant c.pass.view_is c.requires.own in let h = g.K.TableKey.hash in
     let n : c.len.result ≡ length c.pop.new.self.items = search rules in let turned = turned_by _ _ _ _ c.turn_by.ensures.turned n in
     let l = last _ _ _ _ _ _ _ c.pass.invariant c.in-Some.ensures.items in
-    sends h _ _ _ _ _ _ _ f _ _ _ l 0 0 _ turned (decide_move h _ _ _ _ _ _ _ f _ _ _ l 0 0 _ turned g.J.Says.entry) c.store.new.seat.table_id c.store.new.seat.me (gone h _ _ _ _ _ _ _ f _ _ _ l 0 0 _ turned (decide_move h _ _ _ _ _ _ _ f _ _ _ l 0 0 _ turned g.J.Says.entry) _ c.store.ensures.2)
+    let k = decide_left h _ _ _ _ _ _ _ f _ _ _ l 0 0 _ turned g.J.Says.entry c.store.new.seat.table_id c.store.new.seat.me _ c.store.ensures.2 (c.store.ensures.0 ∙ c.turn_by.ensures.kept.0) c.in-Some.ensures.capacity in k.step
 
 pub returns-clause-unchanged : goal.returns-clause-unchanged
 returns-clause-unchanged g c = let f = fits _ _ _ _ _ _ _ c.self.view_is c.self.invariant c.pass.view_is c.requires.own in let h = g.K.TableKey.hash in
     let n : c.len.result ≡ length c.pop.new.self.items = search rules in let turned = turned_by _ _ _ _ c.turn_by.ensures.turned n in
     let l = last _ _ _ _ _ _ _ c.pass.invariant c.in-Some.ensures.items in
-    let k = gone h _ _ _ _ _ _ _ f _ _ _ l 0 0 _ turned (decide_move h _ _ _ _ _ _ _ f _ _ _ l 0 0 _ turned g.J.Says.entry) _ c.store.ensures.2 in
-    gone_unchanged h _ _ _ _ _ _ _ f _ _ _ l 0 0 _ turned (decide_move h _ _ _ _ _ _ _ f _ _ _ l 0 0 _ turned g.J.Says.entry) c.store.new.seat.table_id c.store.new.seat.me k (decide_tells h _ _ _ _ _ _ _ f _ _ _ l 0 0 _ turned g.J.Says.entry c.store.new.seat.me k)
+    let k = decide_left h _ _ _ _ _ _ _ f _ _ _ l 0 0 _ turned g.J.Says.entry c.store.new.seat.table_id c.store.new.seat.me _ c.store.ensures.2 (c.store.ensures.0 ∙ c.turn_by.ensures.kept.0) c.in-Some.ensures.capacity in k.unchanged

@@ -1,6 +1,6 @@
 use Rattle.std.proofs.Common.{◌≡◌, ◌<◌, ◌∙◌, subst, length, vec_len, rules}
 use Rattle.std.specs.Prelude.{vec_capacity}
-use Rattle.ck_words.proofs.Takes.{fits, same_table, word_inside, own_after, take_ready, took, takes, still_unchanged, seated_after, room_there, found, finds, found_unchanged, found_seated}
+use Rattle.ck_words.proofs.Takes.{fits, same_table, word_inside, take_ready, room_there, took, found}
 use Rattle.ck_words.proofs.words.Words.take.Goals as goal
 
 pub swap-requires : goal.swap-requires
@@ -14,40 +14,32 @@ push_reserved-requires g c = let f = fits _ _ _ _ _ _ _ c.self.view_is c.self.in
 
 pub invariant_of-pass : goal.invariant_of-pass
 invariant_of-pass g c = let f = fits _ _ _ _ _ _ _ c.self.view_is c.self.invariant c.pass.view_is c.requires.own in let h = g.K.TableKey.hash in
-    let k = found h _ _ _ _ _ _ _ f c.args.t c.requires.inside c.requires.above c.swap.new.seat.me c.swap.result c.swap.ensures.2 c.if-swap-ne0.true in
-    found_seated h _ _ _ _ _ _ _ f c.args.t c.requires.inside c.requires.above _ _ _ _ c.pass.invariant c.swap.ensures.0 k
+    let k = found h _ _ _ _ _ _ _ f c.args.t c.requires.inside c.requires.above _ _ c.swap.result c.swap.new.seat.table_id c.swap.new.seat.me c.swap.ensures.2 c.if-swap-ne0.true c.pass.invariant c.requires.unchanged c.swap.ensures.0 in k.seated
 
 pub returns-then-swap-ne0-clause-own : goal.returns-then-swap-ne0-clause-own
 returns-then-swap-ne0-clause-own g c = let f = fits _ _ _ _ _ _ _ c.self.view_is c.self.invariant c.pass.view_is c.requires.own in let h = g.K.TableKey.hash in
-    let k = found h _ _ _ _ _ _ _ f c.args.t c.requires.inside c.requires.above c.swap.new.seat.me c.swap.result c.swap.ensures.2 c.if-swap-ne0.true in
-    own_after h _ _ _ _ _ _ _ f c.swap.new.seat.table_id c.swap.new.seat.me c.swap.ensures.0 k.settings
+    let k = found h _ _ _ _ _ _ _ f c.args.t c.requires.inside c.requires.above _ _ c.swap.result c.swap.new.seat.table_id c.swap.new.seat.me c.swap.ensures.2 c.if-swap-ne0.true c.pass.invariant c.requires.unchanged c.swap.ensures.0 in k.own
 
 pub returns-then-swap-ne0-clause-step : goal.returns-then-swap-ne0-clause-step
 returns-then-swap-ne0-clause-step g c = let f = fits _ _ _ _ _ _ _ c.self.view_is c.self.invariant c.pass.view_is c.requires.own in let h = g.K.TableKey.hash in
-    let k = found h _ _ _ _ _ _ _ f c.args.t c.requires.inside c.requires.above c.swap.new.seat.me c.swap.result c.swap.ensures.2 c.if-swap-ne0.true in
-    finds h _ _ _ _ _ _ _ f c.args.t c.requires.inside c.requires.above c.swap.new.seat.table_id c.swap.new.seat.me k
+    let k = found h _ _ _ _ _ _ _ f c.args.t c.requires.inside c.requires.above _ _ c.swap.result c.swap.new.seat.table_id c.swap.new.seat.me c.swap.ensures.2 c.if-swap-ne0.true c.pass.invariant c.requires.unchanged c.swap.ensures.0 in k.step
 
 pub returns-then-swap-ne0-clause-unchanged : goal.returns-then-swap-ne0-clause-unchanged
 returns-then-swap-ne0-clause-unchanged g c = let f = fits _ _ _ _ _ _ _ c.self.view_is c.self.invariant c.pass.view_is c.requires.own in let h = g.K.TableKey.hash in
-    let k = found h _ _ _ _ _ _ _ f c.args.t c.requires.inside c.requires.above c.swap.new.seat.me c.swap.result c.swap.ensures.2 c.if-swap-ne0.true in
-    found_unchanged h _ _ _ _ _ _ _ f c.args.t c.requires.inside c.requires.above c.swap.new.seat.table_id c.swap.new.seat.me k c.requires.unchanged
+    let k = found h _ _ _ _ _ _ _ f c.args.t c.requires.inside c.requires.above _ _ c.swap.result c.swap.new.seat.table_id c.swap.new.seat.me c.swap.ensures.2 c.if-swap-ne0.true c.pass.invariant c.requires.unchanged c.swap.ensures.0 in k.unchanged
 
 pub invariant_of-pass-2 : goal.invariant_of-pass-2
 invariant_of-pass-2 g c = let f = fits _ _ _ _ _ _ _ c.self.view_is c.self.invariant c.pass.view_is c.requires.own in let h = g.K.TableKey.hash in
-    let k = took h _ _ _ _ _ _ _ f c.args.t c.requires.inside c.requires.above c.swap.new.seat.me c.turn.new.self.me c.swap.result c.swap.ensures.2 c.if-swap-ne0.false c.turn.ensures.2 in
-    seated_after h _ _ _ _ _ _ _ f c.args.t c.requires.inside c.requires.above _ _ _ _ _ _ c.pass.invariant k (c.turn.ensures.0 ∙ c.swap.ensures.0) c.push_reserved.ensures.items c.push_reserved.ensures.capacity
+    let k = took h _ _ _ _ _ _ _ f c.args.t c.requires.inside c.requires.above _ _ _ _ c.swap.result c.turn.new.self.table_id c.swap.new.seat.me c.turn.new.self.me c.swap.ensures.2 c.if-swap-ne0.false c.turn.ensures.2 c.pass.invariant c.requires.unchanged (c.turn.ensures.0 ∙ c.swap.ensures.0) c.push_reserved.ensures.items c.push_reserved.ensures.capacity in k.seated
 
 pub returns-clause-own : goal.returns-clause-own
 returns-clause-own g c = let f = fits _ _ _ _ _ _ _ c.self.view_is c.self.invariant c.pass.view_is c.requires.own in let h = g.K.TableKey.hash in
-    let k = took h _ _ _ _ _ _ _ f c.args.t c.requires.inside c.requires.above c.swap.new.seat.me c.turn.new.self.me c.swap.result c.swap.ensures.2 c.if-swap-ne0.false c.turn.ensures.2 in
-    own_after h _ _ _ _ _ _ _ f c.turn.new.self.table_id c.turn.new.self.me (c.turn.ensures.0 ∙ c.swap.ensures.0) k.settings
+    let k = took h _ _ _ _ _ _ _ f c.args.t c.requires.inside c.requires.above _ _ _ _ c.swap.result c.turn.new.self.table_id c.swap.new.seat.me c.turn.new.self.me c.swap.ensures.2 c.if-swap-ne0.false c.turn.ensures.2 c.pass.invariant c.requires.unchanged (c.turn.ensures.0 ∙ c.swap.ensures.0) c.push_reserved.ensures.items c.push_reserved.ensures.capacity in k.own
 
 pub returns-clause-step : goal.returns-clause-step
 returns-clause-step g c = let f = fits _ _ _ _ _ _ _ c.self.view_is c.self.invariant c.pass.view_is c.requires.own in let h = g.K.TableKey.hash in
-    let k = took h _ _ _ _ _ _ _ f c.args.t c.requires.inside c.requires.above c.swap.new.seat.me c.turn.new.self.me c.swap.result c.swap.ensures.2 c.if-swap-ne0.false c.turn.ensures.2 in
-    takes h _ _ _ _ _ _ _ f c.args.t c.requires.inside c.requires.above c.turn.new.self.table_id c.turn.new.self.me k
+    let k = took h _ _ _ _ _ _ _ f c.args.t c.requires.inside c.requires.above _ _ _ _ c.swap.result c.turn.new.self.table_id c.swap.new.seat.me c.turn.new.self.me c.swap.ensures.2 c.if-swap-ne0.false c.turn.ensures.2 c.pass.invariant c.requires.unchanged (c.turn.ensures.0 ∙ c.swap.ensures.0) c.push_reserved.ensures.items c.push_reserved.ensures.capacity in k.step
 
 pub returns-clause-unchanged : goal.returns-clause-unchanged
 returns-clause-unchanged g c = let f = fits _ _ _ _ _ _ _ c.self.view_is c.self.invariant c.pass.view_is c.requires.own in let h = g.K.TableKey.hash in
-    let k = took h _ _ _ _ _ _ _ f c.args.t c.requires.inside c.requires.above c.swap.new.seat.me c.turn.new.self.me c.swap.result c.swap.ensures.2 c.if-swap-ne0.false c.turn.ensures.2 in
-    still_unchanged h _ _ _ _ _ _ _ f c.args.t c.requires.inside c.requires.above c.turn.new.self.table_id c.turn.new.self.me k c.requires.unchanged
+    let k = took h _ _ _ _ _ _ _ f c.args.t c.requires.inside c.requires.above _ _ _ _ c.swap.result c.turn.new.self.table_id c.swap.new.seat.me c.turn.new.self.me c.swap.ensures.2 c.if-swap-ne0.false c.turn.ensures.2 c.pass.invariant c.requires.unchanged (c.turn.ensures.0 ∙ c.swap.ensures.0) c.push_reserved.ensures.items c.push_reserved.ensures.capacity in k.unchanged
