@@ -4,6 +4,7 @@ ghost use Rattle.std.specs.Fn.{FnOnceReturnsAt};
 ghost use Rattle.ck_model.specs.declared.history.Act.TheVariants.{Find, Update, Change, Erase};
 ghost use Rattle.ck_model.specs.declared.history.Call.TheVariants.{On};
 ghost use Rattle.ck_model.specs.declared.history.Reply.TheVariants.{Was, Done, Absent};
+ghost use Rattle.ck_key.specs.Hashes.{IsHashOf};
 ghost use Rattle.ck_section.specs.Places.{AreHeld, HasBoth};
 ghost use Rattle.ck_section.specs.Calls.{IsAt, IsCall, IsCallAt};
 ghost use Rattle.ck_words.specs.Passes.{IsPassOf};
@@ -13,7 +14,7 @@ ghost use Rattle.ck_table.specs.Refusals.{FindsOwn, IsBusyAt};
 
 use crate::refusal::Busy;
 use crate::table::Table;
-use ck_key::TableKey;
+use ck_key::{KeyHash, TableKey};
 use ck_section::{Answer, Place, change, erase, erase_if, key_place, update};
 use ck_words::{Lent, Pass};
 use std::marker::Brand;
@@ -31,11 +32,12 @@ impl<K: TableKey + Drop, V: Drop> Table<K, V> {
         ensures busy { IfErr result (λ back. (back.0 ≡ value) × IsBusyAt K.hash self.now.settings (K.name key.now) back.1.0 pass.old pass.new) }
         ensures found { FindsOwn K.hash self.now.settings (K.name key.now) pass.old pass.new }
     {
-        if let Err(busy) = self.hold_key(pass, key) {
-            return Err((value, busy));
-        }
+        let hash = match self.hold_key(pass, key) {
+            Ok(hash) => hash,
+            Err(busy) => return Err((value, busy)),
+        };
         let said = Snapshot::of(&value);
-        let found = self.update_held(pass, key, value);
+        let found = self.update_held(pass, key, hash, value);
         self.words
             .answer::<Brand, (&K, Snapshot<V>)>(pass, &(key, said));
         match found {
@@ -63,8 +65,8 @@ impl<K: TableKey + Drop, V: Drop> Table<K, V> {
         ensures busy { IfErr result (λ busy. IsBusyAt K.hash self.now.settings (K.name key.now) busy.0 pass.old pass.new) }
         ensures found { FindsOwn K.hash self.now.settings (K.name key.now) pass.old pass.new }
     {
-        self.hold_key(pass, key)?;
-        let found = self.change_held(pass, key, f);
+        let hash = self.hold_key(pass, key)?;
+        let found = self.change_held(pass, key, hash, f);
         self.words.answer::<Brand, &K>(pass, &key);
         match found {
             Some(_) => Ok(true),
@@ -80,8 +82,8 @@ impl<K: TableKey + Drop, V: Drop> Table<K, V> {
         ensures busy { IfErr result (λ busy. IsBusyAt K.hash self.now.settings (K.name key.now) busy.0 pass.old pass.new) }
         ensures found { FindsOwn K.hash self.now.settings (K.name key.now) pass.old pass.new }
     {
-        self.hold_key(pass, key)?;
-        let found = self.erase_held(pass, key);
+        let hash = self.hold_key(pass, key)?;
+        let found = self.erase_held(pass, key, hash);
         self.words.answer::<Brand, &K>(pass, &key);
         match found {
             Some(erased) => Ok(Some(erased.reply)),
@@ -108,18 +110,25 @@ impl<K: TableKey + Drop, V: Drop> Table<K, V> {
         ensures busy { IfErr result (λ busy. IsBusyAt K.hash self.now.settings (K.name key.now) busy.0 pass.old pass.new) }
         ensures found { FindsOwn K.hash self.now.settings (K.name key.now) pass.old pass.new }
     {
-        self.hold_key(pass, key)?;
-        let gone = self.erase_if_held(pass, key, f);
+        let hash = self.hold_key(pass, key)?;
+        let gone = self.erase_if_held(pass, key, hash, f);
         let said = (key, gone.unwrap_or(false));
         self.words.answer::<Brand, (&K, bool)>(pass, &said);
         Ok(gone)
     }
 
     // The call `update` on the stripes that the pass holds.
-    fn update_held(&self, pass: &mut Pass<K, V>, key: &K, value: V) -> Option<Answer<V>>
+    fn update_held(
+        &self,
+        pass: &mut Pass<K, V>,
+        key: &K,
+        hash: KeyHash,
+        value: V,
+    ) -> Option<Answer<V>>
         requires own { IsPassOf self.now pass.old }
         requires held { AreHeld self.now.settings.s pass.old.stripes }
         requires both { HasBoth K.hash self.now.settings.s pass.old.stripes (K.name key.now) }
+        requires hash { IsHashOf K.hash (K.name key.now) hash }
         ensures own { IsPassOf self.now pass.new }
         ensures view { pass.new.view ≡ pass.old.view }
         ensures some { 0 < length pass.new.stripes }
@@ -131,17 +140,24 @@ impl<K: TableKey + Drop, V: Drop> Table<K, V> {
             words: &self.words,
             pass,
         };
-        let place = key_place(&mut lent, s, key);
+        let place = key_place(&mut lent, s, key, hash);
         update(&mut lent, place, key, value)
     }
 
     // The call `change` on the stripes that the pass holds.
-    fn change_held<F: FnOnce(V) -> V>(&self, pass: &mut Pass<K, V>, key: &K, f: F) -> Option<Place>
+    fn change_held<F: FnOnce(V) -> V>(
+        &self,
+        pass: &mut Pass<K, V>,
+        key: &K,
+        hash: KeyHash,
+        f: F,
+    ) -> Option<Place>
     where
         F: Drop,
         requires own { IsPassOf self.now pass.old }
         requires held { AreHeld self.now.settings.s pass.old.stripes }
         requires both { HasBoth K.hash self.now.settings.s pass.old.stripes (K.name key.now) }
+        requires hash { IsHashOf K.hash (K.name key.now) hash }
         requires call { F.IsAlwaysCallable f }
         ensures own { IsPassOf self.now pass.new }
         ensures view { pass.new.view ≡ pass.old.view }
@@ -154,15 +170,16 @@ impl<K: TableKey + Drop, V: Drop> Table<K, V> {
             words: &self.words,
             pass,
         };
-        let place = key_place(&mut lent, s, key);
+        let place = key_place(&mut lent, s, key, hash);
         change(&mut lent, place, key, f)
     }
 
     // The call `erase` on the stripes that the pass holds.
-    fn erase_held(&self, pass: &mut Pass<K, V>, key: &K) -> Option<Answer<V>>
+    fn erase_held(&self, pass: &mut Pass<K, V>, key: &K, hash: KeyHash) -> Option<Answer<V>>
         requires own { IsPassOf self.now pass.old }
         requires held { AreHeld self.now.settings.s pass.old.stripes }
         requires both { HasBoth K.hash self.now.settings.s pass.old.stripes (K.name key.now) }
+        requires hash { IsHashOf K.hash (K.name key.now) hash }
         ensures own { IsPassOf self.now pass.new }
         ensures view { pass.new.view ≡ pass.old.view }
         ensures some { 0 < length pass.new.stripes }
@@ -174,7 +191,7 @@ impl<K: TableKey + Drop, V: Drop> Table<K, V> {
             words: &self.words,
             pass,
         };
-        let place = key_place(&mut lent, s, key);
+        let place = key_place(&mut lent, s, key, hash);
         erase(&mut lent, place, key)
     }
 
@@ -183,6 +200,7 @@ impl<K: TableKey + Drop, V: Drop> Table<K, V> {
         &self,
         pass: &mut Pass<K, V>,
         key: &K,
+        hash: KeyHash,
         f: F,
     ) -> Option<bool>
     where
@@ -190,6 +208,7 @@ impl<K: TableKey + Drop, V: Drop> Table<K, V> {
         requires own { IsPassOf self.now pass.old }
         requires held { AreHeld self.now.settings.s pass.old.stripes }
         requires both { HasBoth K.hash self.now.settings.s pass.old.stripes (K.name key.now) }
+        requires hash { IsHashOf K.hash (K.name key.now) hash }
         requires call { F.IsAlwaysCallable f }
         ensures own { IsPassOf self.now pass.new }
         ensures view { pass.new.view ≡ pass.old.view }
@@ -202,7 +221,7 @@ impl<K: TableKey + Drop, V: Drop> Table<K, V> {
             words: &self.words,
             pass,
         };
-        let place = key_place(&mut lent, s, key);
+        let place = key_place(&mut lent, s, key, hash);
         erase_if(&mut lent, place, key, f)
     }
 }

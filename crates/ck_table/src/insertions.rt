@@ -3,6 +3,7 @@ ghost use Rattle.std.specs.Prelude.{◌≡◌, ◌<◌, Some, None, true, false,
 ghost use Rattle.ck_model.specs.declared.history.Act.TheVariants.{Insert, Assign, Upsert};
 ghost use Rattle.ck_model.specs.declared.history.Call.TheVariants.{On};
 ghost use Rattle.ck_model.specs.declared.history.Reply.TheVariants.{Was, New, Old, Done};
+ghost use Rattle.ck_key.specs.Hashes.{IsHashOf};
 ghost use Rattle.ck_section.specs.Calls.{IsCall, IsWithoutRoom};
 ghost use Rattle.ck_section.specs.Places.{AreHeld, HasBoth};
 ghost use Rattle.ck_words.specs.Passes.{IsPassOf, IsIdle, IsUnchanged};
@@ -12,7 +13,7 @@ ghost use Rattle.ck_table.specs.Refusals.{FindsOwn, HasFoundNoRoom, IsRefused};
 
 use crate::refusal::{Busy, Refused, Why};
 use crate::table::Table;
-use ck_key::TableKey;
+use ck_key::{KeyHash, TableKey};
 use ck_section::{NoRoom, assign, insert, key_place, upsert};
 use ck_words::{Lent, Pass};
 use std::marker::Brand;
@@ -31,15 +32,18 @@ impl<K: TableKey + Drop, V: Drop> Table<K, V> {
         ensures refused { IfErr result (λ e. (e.key ≡ key) × (e.value ≡ value) × IsRefused K.hash self.now.settings (K.name key) e.why pass.old pass.new) }
         ensures found { FindsOwn K.hash self.now.settings (K.name key) pass.old pass.new }
     {
-        if let Err(Busy(stripe)) = self.hold_key(pass, &key) {
-            return Err(Refused {
-                key,
-                value,
-                why: Why::Busy(stripe),
-            });
-        }
+        let hash = match self.hold_key(pass, &key) {
+            Ok(hash) => hash,
+            Err(Busy(stripe)) => {
+                return Err(Refused {
+                    key,
+                    value,
+                    why: Why::Busy(stripe),
+                });
+            }
+        };
         let said = (Snapshot::of(&key), Snapshot::of(&value));
-        let done = self.insert_held(pass, key, value);
+        let done = self.insert_held(pass, key, hash, value);
         match done {
             Ok(fresh) => {
                 self.words
@@ -66,15 +70,18 @@ impl<K: TableKey + Drop, V: Drop> Table<K, V> {
         ensures refused { IfErr result (λ e. (e.key ≡ key) × (e.value ≡ value) × IsRefused K.hash self.now.settings (K.name key) e.why pass.old pass.new) }
         ensures found { FindsOwn K.hash self.now.settings (K.name key) pass.old pass.new }
     {
-        if let Err(Busy(stripe)) = self.hold_key(pass, &key) {
-            return Err(Refused {
-                key,
-                value,
-                why: Why::Busy(stripe),
-            });
-        }
+        let hash = match self.hold_key(pass, &key) {
+            Ok(hash) => hash,
+            Err(Busy(stripe)) => {
+                return Err(Refused {
+                    key,
+                    value,
+                    why: Why::Busy(stripe),
+                });
+            }
+        };
         let said = (Snapshot::of(&key), Snapshot::of(&value));
-        let done = self.assign_held(pass, key, value);
+        let done = self.assign_held(pass, key, hash, value);
         match done {
             Ok(old) => {
                 self.words
@@ -106,15 +113,18 @@ impl<K: TableKey + Drop, V: Drop> Table<K, V> {
         ensures refused { IfErr result (λ e. (e.key ≡ key) × (e.value ≡ value) × IsRefused K.hash self.now.settings (K.name key) e.why pass.old pass.new) }
         ensures found { FindsOwn K.hash self.now.settings (K.name key) pass.old pass.new }
     {
-        if let Err(Busy(stripe)) = self.hold_key(pass, &key) {
-            return Err(Refused {
-                key,
-                value,
-                why: Why::Busy(stripe),
-            });
-        }
+        let hash = match self.hold_key(pass, &key) {
+            Ok(hash) => hash,
+            Err(Busy(stripe)) => {
+                return Err(Refused {
+                    key,
+                    value,
+                    why: Why::Busy(stripe),
+                });
+            }
+        };
         let said = (Snapshot::of(&key), Snapshot::of(&value));
-        let done = self.upsert_held(pass, key, f, value);
+        let done = self.upsert_held(pass, key, hash, f, value);
         match done {
             Ok(reply) => {
                 self.words
@@ -126,10 +136,17 @@ impl<K: TableKey + Drop, V: Drop> Table<K, V> {
     }
 
     // The call `insert` on the stripes that the pass holds.
-    fn insert_held(&self, pass: &mut Pass<K, V>, key: K, value: V) -> Result<bool, NoRoom<K, V>>
+    fn insert_held(
+        &self,
+        pass: &mut Pass<K, V>,
+        key: K,
+        hash: KeyHash,
+        value: V,
+    ) -> Result<bool, NoRoom<K, V>>
         requires own { IsPassOf self.now pass.old }
         requires held { AreHeld self.now.settings.s pass.old.stripes }
         requires both { HasBoth K.hash self.now.settings.s pass.old.stripes (K.name key) }
+        requires hash { IsHashOf K.hash (K.name key) hash }
         ensures own { IsPassOf self.now pass.new }
         ensures view { pass.new.view ≡ pass.old.view }
         ensures some { 0 < length pass.new.stripes }
@@ -141,7 +158,7 @@ impl<K: TableKey + Drop, V: Drop> Table<K, V> {
             words: &self.words,
             pass,
         };
-        let place = key_place(&mut lent, s, &key);
+        let place = key_place(&mut lent, s, &key, hash);
         match insert(&mut lent, place, key, value) {
             Ok(answer) => Ok(answer.reply),
             Err(back) => Err(back),
@@ -153,11 +170,13 @@ impl<K: TableKey + Drop, V: Drop> Table<K, V> {
         &self,
         pass: &mut Pass<K, V>,
         key: K,
+        hash: KeyHash,
         value: V,
     ) -> Result<Option<V>, NoRoom<K, V>>
         requires own { IsPassOf self.now pass.old }
         requires held { AreHeld self.now.settings.s pass.old.stripes }
         requires both { HasBoth K.hash self.now.settings.s pass.old.stripes (K.name key) }
+        requires hash { IsHashOf K.hash (K.name key) hash }
         ensures own { IsPassOf self.now pass.new }
         ensures view { pass.new.view ≡ pass.old.view }
         ensures some { 0 < length pass.new.stripes }
@@ -169,7 +188,7 @@ impl<K: TableKey + Drop, V: Drop> Table<K, V> {
             words: &self.words,
             pass,
         };
-        let place = key_place(&mut lent, s, &key);
+        let place = key_place(&mut lent, s, &key, hash);
         match assign(&mut lent, place, key, value) {
             Ok(answer) => Ok(answer.reply),
             Err(back) => Err(back),
@@ -181,6 +200,7 @@ impl<K: TableKey + Drop, V: Drop> Table<K, V> {
         &self,
         pass: &mut Pass<K, V>,
         key: K,
+        hash: KeyHash,
         f: F,
         value: V,
     ) -> Result<bool, NoRoom<K, V>>
@@ -189,6 +209,7 @@ impl<K: TableKey + Drop, V: Drop> Table<K, V> {
         requires own { IsPassOf self.now pass.old }
         requires held { AreHeld self.now.settings.s pass.old.stripes }
         requires both { HasBoth K.hash self.now.settings.s pass.old.stripes (K.name key) }
+        requires hash { IsHashOf K.hash (K.name key) hash }
         requires call { F.IsAlwaysCallable f }
         ensures own { IsPassOf self.now pass.new }
         ensures view { pass.new.view ≡ pass.old.view }
@@ -201,7 +222,7 @@ impl<K: TableKey + Drop, V: Drop> Table<K, V> {
             words: &self.words,
             pass,
         };
-        let place = key_place(&mut lent, s, &key);
+        let place = key_place(&mut lent, s, &key, hash);
         match upsert(&mut lent, place, key, f, value) {
             Ok(answer) => Ok(answer.reply),
             Err((_, back)) => Err(back),

@@ -4,6 +4,7 @@ ghost use Rattle.std.specs.Fn.{FnOnceReturnsAt};
 ghost use Rattle.ck_model.specs.declared.history.Act.TheVariants.{Find};
 ghost use Rattle.ck_model.specs.declared.history.Call.TheVariants.{On};
 ghost use Rattle.ck_model.specs.declared.history.Reply.TheVariants.{Was};
+ghost use Rattle.ck_key.specs.Hashes.{IsHashOf};
 ghost use Rattle.ck_section.specs.Places.{AreHeld, HasBoth};
 ghost use Rattle.ck_section.specs.Calls.{IsCall, IsCallAt};
 ghost use Rattle.ck_words.specs.Passes.{IsPassOf};
@@ -13,7 +14,7 @@ ghost use Rattle.ck_table.specs.Refusals.{FindsOwn, IsBusyAt};
 
 use crate::refusal::Busy;
 use crate::table::Table;
-use ck_key::TableKey;
+use ck_key::{KeyHash, TableKey};
 use ck_section::{Answer, find, key_place};
 use ck_words::{Lent, Pass};
 use std::marker::Brand;
@@ -38,8 +39,8 @@ impl<K: TableKey + Drop, V: Drop> Table<K, V> {
         ensures busy { IfErr result (λ busy. IsBusyAt K.hash self.now.settings (K.name key.now) busy.0 pass.old pass.new) }
         ensures found { FindsOwn K.hash self.now.settings (K.name key.now) pass.old pass.new }
     {
-        self.hold_key(pass, key)?;
-        let found = self.find_held(pass, key, f);
+        let hash = self.hold_key(pass, key)?;
+        let found = self.find_held(pass, key, hash, f);
         self.words.answer::<Brand, &K>(pass, &key);
         match found {
             Some(found) => Ok(Some(found.reply)),
@@ -52,6 +53,7 @@ impl<K: TableKey + Drop, V: Drop> Table<K, V> {
         &self,
         pass: &mut Pass<K, V>,
         key: &K,
+        hash: KeyHash,
         f: F,
     ) -> Option<Answer<R>>
     where
@@ -59,6 +61,7 @@ impl<K: TableKey + Drop, V: Drop> Table<K, V> {
         requires own { IsPassOf self.now pass.old }
         requires held { AreHeld self.now.settings.s pass.old.stripes }
         requires both { HasBoth K.hash self.now.settings.s pass.old.stripes (K.name key.now) }
+        requires hash { IsHashOf K.hash (K.name key.now) hash }
         requires call { F.IsAlwaysCallable f }
         ensures own { IsPassOf self.now pass.new }
         ensures view { pass.new.view ≡ pass.old.view }
@@ -71,7 +74,7 @@ impl<K: TableKey + Drop, V: Drop> Table<K, V> {
             words: &self.words,
             pass,
         };
-        let place = key_place(&mut lent, s, key);
+        let place = key_place(&mut lent, s, key, hash);
         find(&mut lent, place, key, f)
     }
 

@@ -14,7 +14,7 @@ answer-requires-clause-done g c =
     let p = c.args.pass.now in
     let p1 = c.hold_key.new.pass in
     let p2 = c.erase_held-found.new.pass in
-    let held = c.in_ok-hold_key.ensures.held in
+    let held = c.in_ok-hash.ensures.held in
     let same = c.erase_held-found.ensures.view in
     by_option c.erase_held-found.result _ _ _ c.erase_held-found.ensures.bound c.erase_held-found.ensures.unbound
     (λ a x. (Was (Some a.reply), does hash w v c.self.view_is q p p1 p2 held same Erase (Was (Some a.reply)) x.0))
@@ -29,7 +29,7 @@ returns-in-Some-clause-caller g c =
     let p = c.args.pass.now in
     let p1 = c.hold_key.new.pass in
     let p2 = c.erase_held-found.new.pass in
-    let held = c.in_ok-hold_key.ensures.held in
+    let held = c.in_ok-hash.ensures.held in
     let same = c.erase_held-found.ensures.view in
     let b = c.in-Some.ensures.bound in
     caller_then w v c.self.view_is p c.answer.new.pass (On q Erase) (Was (Some c.in-Some.erased.reply)) c.requires.caller c.answer.ensures.own c.answer.ensures.idle (says hash w v c.self.view_is q p p1 p2 held same c.answer.new.pass Erase (Was (Some c.in-Some.erased.reply)) c.answer.ensures.answered b.0)
@@ -43,7 +43,7 @@ returns-in-Some-clause-answered g c =
     let p = c.args.pass.now in
     let p1 = c.hold_key.new.pass in
     let p2 = c.erase_held-found.new.pass in
-    let held = c.in_ok-hold_key.ensures.held in
+    let held = c.in_ok-hash.ensures.held in
     let same = c.erase_held-found.ensures.view in
     let b = c.in-Some.ensures.bound in
     (says hash w v c.self.view_is q p p1 p2 held same c.answer.new.pass Erase (Was (Some c.in-Some.erased.reply)) c.answer.ensures.answered b.0)
@@ -57,7 +57,7 @@ returns-in-None-clause-caller g c =
     let p = c.args.pass.now in
     let p1 = c.hold_key.new.pass in
     let p2 = c.erase_held-found.new.pass in
-    let held = c.in_ok-hold_key.ensures.held in
+    let held = c.in_ok-hash.ensures.held in
     let same = c.erase_held-found.ensures.view in
     let b = c.in-None.ensures.unbound in
     caller_then w v c.self.view_is p c.answer.new.pass (On q Erase) (Was None) c.requires.caller c.answer.ensures.own c.answer.ensures.idle (says hash w v c.self.view_is q p p1 p2 held same c.answer.new.pass Erase (Was None) c.answer.ensures.answered b.0)
@@ -71,7 +71,7 @@ returns-in-None-clause-answered g c =
     let p = c.args.pass.now in
     let p1 = c.hold_key.new.pass in
     let p2 = c.erase_held-found.new.pass in
-    let held = c.in_ok-hold_key.ensures.held in
+    let held = c.in_ok-hash.ensures.held in
     let same = c.erase_held-found.ensures.view in
     let b = c.in-None.ensures.unbound in
     says hash w v c.self.view_is q p p1 p2 held same c.answer.new.pass Erase (Was None) c.answer.ensures.answered b.0

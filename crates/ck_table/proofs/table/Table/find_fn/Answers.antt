@@ -14,7 +14,7 @@ answer-requires-clause-done g c =
     let p = c.args.pass.now in
     let p1 = c.hold_key.new.pass in
     let p2 = c.find_held-found.new.pass in
-    let held = c.in_ok-hold_key.ensures.held in
+    let held = c.in_ok-hash.ensures.held in
     let same = c.find_held-found.ensures.view in
     by_option c.find_held-found.result _ _ _ c.find_held-found.ensures.bound c.find_held-found.ensures.unbound
     (λ a x. (Was (Some x.0), does hash w v c.self.view_is q p p1 p2 held same Find (Was (Some x.0)) x.2.call))
@@ -29,7 +29,7 @@ returns-in-Some-clause-caller g c =
     let p = c.args.pass.now in
     let p1 = c.hold_key.new.pass in
     let p2 = c.find_held-found.new.pass in
-    let held = c.in_ok-hold_key.ensures.held in
+    let held = c.in_ok-hash.ensures.held in
     let same = c.find_held-found.ensures.view in
     let b = c.in-Some.ensures.bound in
     caller_then w v c.self.view_is p c.answer.new.pass (On q Find) (Was (Some b.0)) c.requires.caller c.answer.ensures.own c.answer.ensures.idle (says hash w v c.self.view_is q p p1 p2 held same c.answer.new.pass Find (Was (Some b.0)) c.answer.ensures.answered b.2.call)
@@ -43,7 +43,7 @@ returns-in-Some-clause-answered g c =
     let p = c.args.pass.now in
     let p1 = c.hold_key.new.pass in
     let p2 = c.find_held-found.new.pass in
-    let held = c.in_ok-hold_key.ensures.held in
+    let held = c.in_ok-hash.ensures.held in
     let same = c.find_held-found.ensures.view in
     let b = c.in-Some.ensures.bound in
     (b.0, b.1, (says hash w v c.self.view_is q p p1 p2 held same c.answer.new.pass Find (Was (Some b.0)) c.answer.ensures.answered b.2.call))
@@ -57,7 +57,7 @@ returns-in-None-clause-caller g c =
     let p = c.args.pass.now in
     let p1 = c.hold_key.new.pass in
     let p2 = c.find_held-found.new.pass in
-    let held = c.in_ok-hold_key.ensures.held in
+    let held = c.in_ok-hash.ensures.held in
     let same = c.find_held-found.ensures.view in
     let b = c.in-None.ensures.unbound in
     caller_then w v c.self.view_is p c.answer.new.pass (On q Find) (Was None) c.requires.caller c.answer.ensures.own c.answer.ensures.idle (says hash w v c.self.view_is q p p1 p2 held same c.answer.new.pass Find (Was None) c.answer.ensures.answered b)
@@ -71,7 +71,7 @@ returns-in-None-clause-answered g c =
     let p = c.args.pass.now in
     let p1 = c.hold_key.new.pass in
     let p2 = c.find_held-found.new.pass in
-    let held = c.in_ok-hold_key.ensures.held in
+    let held = c.in_ok-hash.ensures.held in
     let same = c.find_held-found.ensures.view in
     let b = c.in-None.ensures.unbound in
     says hash w v c.self.view_is q p p1 p2 held same c.answer.new.pass Find (Was None) c.answer.ensures.answered b

@@ -22,15 +22,15 @@ answer-requires-clause-done g c =
     let p = c.args.pass.now in
     let p1 = c.hold_key.new.pass in
     let p2 = c.insert_held-done.new.pass in
-    let held = c.in_default.ensures.held in
+    let held = c.in-Ok.ensures.held in
     let same = c.insert_held-done.ensures.view in (
-      (if c.in-Ok.fresh then New else Old),
-      subst (λ (x : g.row.K.Denot × g.row.V.Denot). HasDone hash v.settings (On (name x.0) (Insert x.1)) (if c.in-Ok.fresh then New else Old) p2) (λ i. (sym c.of.ensures i, sym c.of-2.ensures i))
-          (does hash w v c.self.view_is q p p1 p2 held same (Insert c.args.value) (if c.in-Ok.fresh then New else Old) c.in-Ok.ensures.call),
+      (if c.in-Ok-done.fresh then New else Old),
+      subst (λ (x : g.row.K.Denot × g.row.V.Denot). HasDone hash v.settings (On (name x.0) (Insert x.1)) (if c.in-Ok-done.fresh then New else Old) p2) (λ i. (sym c.of.ensures i, sym c.of-2.ensures i))
+          (does hash w v c.self.view_is q p p1 p2 held same (Insert c.args.value) (if c.in-Ok-done.fresh then New else Old) c.in-Ok-done.ensures.call),
     )
 
-pub returns-in-Ok-clause-caller : goal.returns-in-Ok-clause-caller
-returns-in-Ok-clause-caller g c =
+pub returns-in-Ok-done-clause-caller : goal.returns-in-Ok-done-clause-caller
+returns-in-Ok-done-clause-caller g c =
     let hash = g.K.TableKey.hash in
     let name = g.K.TableKey.name in
     let q = name c.args.key in
@@ -39,16 +39,16 @@ returns-in-Ok-clause-caller g c =
     let p = c.args.pass.now in
     let p1 = c.hold_key.new.pass in
     let p2 = c.insert_held-done.new.pass in
-    let held = c.in_default.ensures.held in
+    let held = c.in-Ok.ensures.held in
     let same = c.insert_held-done.ensures.view in
     let z = c.answer.new.pass in
     let told = subst (λ (x : g.row.K.Denot × g.row.V.Denot). (r : Reply g.row.V.Denot) → HasDone hash v.settings (On (name x.0) (Insert x.1)) r p2 → IsAnswered (On (name x.0) (Insert x.1)) r p2 z)
     (λ i. (c.of.ensures i, c.of-2.ensures i)) c.answer.ensures.answered in
-    caller_then w v c.self.view_is p z (On q (Insert c.args.value)) (if c.in-Ok.fresh then New else Old) c.requires.caller c.answer.ensures.own c.answer.ensures.idle
-    (says hash w v c.self.view_is q p p1 p2 held same z (Insert c.args.value) (if c.in-Ok.fresh then New else Old) told c.in-Ok.ensures.call)
+    caller_then w v c.self.view_is p z (On q (Insert c.args.value)) (if c.in-Ok-done.fresh then New else Old) c.requires.caller c.answer.ensures.own c.answer.ensures.idle
+    (says hash w v c.self.view_is q p p1 p2 held same z (Insert c.args.value) (if c.in-Ok-done.fresh then New else Old) told c.in-Ok-done.ensures.call)
 
-pub returns-in-Ok-clause-answered : goal.returns-in-Ok-clause-answered
-returns-in-Ok-clause-answered g c =
+pub returns-in-Ok-done-clause-answered : goal.returns-in-Ok-done-clause-answered
+returns-in-Ok-done-clause-answered g c =
     let hash = g.K.TableKey.hash in
     let name = g.K.TableKey.name in
     let q = name c.args.key in
@@ -57,12 +57,12 @@ returns-in-Ok-clause-answered g c =
     let p = c.args.pass.now in
     let p1 = c.hold_key.new.pass in
     let p2 = c.insert_held-done.new.pass in
-    let held = c.in_default.ensures.held in
+    let held = c.in-Ok.ensures.held in
     let same = c.insert_held-done.ensures.view in
     let z = c.answer.new.pass in
     let told = subst (λ (x : g.row.K.Denot × g.row.V.Denot). (r : Reply g.row.V.Denot) → HasDone hash v.settings (On (name x.0) (Insert x.1)) r p2 → IsAnswered (On (name x.0) (Insert x.1)) r p2 z)
     (λ i. (c.of.ensures i, c.of-2.ensures i)) c.answer.ensures.answered in
-    says hash w v c.self.view_is q p p1 p2 held same z (Insert c.args.value) (if c.in-Ok.fresh then New else Old) told c.in-Ok.ensures.call
+    says hash w v c.self.view_is q p p1 p2 held same z (Insert c.args.value) (if c.in-Ok-done.fresh then New else Old) told c.in-Ok-done.ensures.call
 
 pub refuse-requires-clause-room : goal.refuse-requires-clause-room
 refuse-requires-clause-room g c =
@@ -79,7 +79,7 @@ returns-clause-refused g c =
     let p = c.args.pass.now in
     let p1 = c.hold_key.new.pass in
     let p2 = c.insert_held-done.new.pass in
-    let held = c.in_default.ensures.held in
+    let held = c.in-Ok.ensures.held in
     let same = c.insert_held-done.ensures.view in
     let z = c.refuse.new.pass in
     let n = c.in-Err-done.ensures.no_room in

@@ -22,15 +22,15 @@ answer-requires-clause-done g c =
     let p = c.args.pass.now in
     let p1 = c.hold_key.new.pass in
     let p2 = c.assign_held-done.new.pass in
-    let held = c.in_default.ensures.held in
+    let held = c.in-Ok.ensures.held in
     let same = c.assign_held-done.ensures.view in (
-      (Was c.in-Ok.old),
-      subst (λ (x : g.row.K.Denot × g.row.V.Denot). HasDone hash v.settings (On (name x.0) (Assign x.1)) (Was c.in-Ok.old) p2) (λ i. (sym c.of.ensures i, sym c.of-2.ensures i))
-          (does hash w v c.self.view_is q p p1 p2 held same (Assign c.args.value) (Was c.in-Ok.old) c.in-Ok.ensures.call),
+      (Was c.in-Ok-done.old),
+      subst (λ (x : g.row.K.Denot × g.row.V.Denot). HasDone hash v.settings (On (name x.0) (Assign x.1)) (Was c.in-Ok-done.old) p2) (λ i. (sym c.of.ensures i, sym c.of-2.ensures i))
+          (does hash w v c.self.view_is q p p1 p2 held same (Assign c.args.value) (Was c.in-Ok-done.old) c.in-Ok-done.ensures.call),
     )
 
-pub returns-in-Ok-clause-caller : goal.returns-in-Ok-clause-caller
-returns-in-Ok-clause-caller g c =
+pub returns-in-Ok-done-clause-caller : goal.returns-in-Ok-done-clause-caller
+returns-in-Ok-done-clause-caller g c =
     let hash = g.K.TableKey.hash in
     let name = g.K.TableKey.name in
     let q = name c.args.key in
@@ -39,16 +39,16 @@ returns-in-Ok-clause-caller g c =
     let p = c.args.pass.now in
     let p1 = c.hold_key.new.pass in
     let p2 = c.assign_held-done.new.pass in
-    let held = c.in_default.ensures.held in
+    let held = c.in-Ok.ensures.held in
     let same = c.assign_held-done.ensures.view in
     let z = c.answer.new.pass in
     let told = subst (λ (x : g.row.K.Denot × g.row.V.Denot). (r : Reply g.row.V.Denot) → HasDone hash v.settings (On (name x.0) (Assign x.1)) r p2 → IsAnswered (On (name x.0) (Assign x.1)) r p2 z)
     (λ i. (c.of.ensures i, c.of-2.ensures i)) c.answer.ensures.answered in
-    caller_then w v c.self.view_is p z (On q (Assign c.args.value)) (Was c.in-Ok.old) c.requires.caller c.answer.ensures.own c.answer.ensures.idle
-    (says hash w v c.self.view_is q p p1 p2 held same z (Assign c.args.value) (Was c.in-Ok.old) told c.in-Ok.ensures.call)
+    caller_then w v c.self.view_is p z (On q (Assign c.args.value)) (Was c.in-Ok-done.old) c.requires.caller c.answer.ensures.own c.answer.ensures.idle
+    (says hash w v c.self.view_is q p p1 p2 held same z (Assign c.args.value) (Was c.in-Ok-done.old) told c.in-Ok-done.ensures.call)
 
-pub returns-in-Ok-clause-answered : goal.returns-in-Ok-clause-answered
-returns-in-Ok-clause-answered g c =
+pub returns-in-Ok-done-clause-answered : goal.returns-in-Ok-done-clause-answered
+returns-in-Ok-done-clause-answered g c =
     let hash = g.K.TableKey.hash in
     let name = g.K.TableKey.name in
     let q = name c.args.key in
@@ -57,12 +57,12 @@ returns-in-Ok-clause-answered g c =
     let p = c.args.pass.now in
     let p1 = c.hold_key.new.pass in
     let p2 = c.assign_held-done.new.pass in
-    let held = c.in_default.ensures.held in
+    let held = c.in-Ok.ensures.held in
     let same = c.assign_held-done.ensures.view in
     let z = c.answer.new.pass in
     let told = subst (λ (x : g.row.K.Denot × g.row.V.Denot). (r : Reply g.row.V.Denot) → HasDone hash v.settings (On (name x.0) (Assign x.1)) r p2 → IsAnswered (On (name x.0) (Assign x.1)) r p2 z)
     (λ i. (c.of.ensures i, c.of-2.ensures i)) c.answer.ensures.answered in
-    says hash w v c.self.view_is q p p1 p2 held same z (Assign c.args.value) (Was c.in-Ok.old) told c.in-Ok.ensures.call
+    says hash w v c.self.view_is q p p1 p2 held same z (Assign c.args.value) (Was c.in-Ok-done.old) told c.in-Ok-done.ensures.call
 
 pub refuse-requires-clause-room : goal.refuse-requires-clause-room
 refuse-requires-clause-room g c =
@@ -79,7 +79,7 @@ returns-clause-refused g c =
     let p = c.args.pass.now in
     let p1 = c.hold_key.new.pass in
     let p2 = c.assign_held-done.new.pass in
-    let held = c.in_default.ensures.held in
+    let held = c.in-Ok.ensures.held in
     let same = c.assign_held-done.ensures.view in
     let z = c.refuse.new.pass in
     let n = c.in-Err-done.ensures.no_room in

@@ -14,7 +14,7 @@ answer-requires-clause-done g c =
     let p = c.args.pass.now in
     let p1 = c.hold_key.new.pass in
     let p2 = c.change_held-found.new.pass in
-    let held = c.in_ok-hold_key.ensures.held in
+    let held = c.in_ok-hash.ensures.held in
     let same = c.change_held-found.ensures.view in
     by_option c.change_held-found.result _ _ _ c.change_held-found.ensures.bound c.change_held-found.ensures.unbound
     (λ a x. (Done x.0 x.1, does hash w v c.self.view_is q p p1 p2 held same Change (Done x.0 x.1) x.3.call))
@@ -29,7 +29,7 @@ returns-in-Some-clause-caller g c =
     let p = c.args.pass.now in
     let p1 = c.hold_key.new.pass in
     let p2 = c.change_held-found.new.pass in
-    let held = c.in_ok-hold_key.ensures.held in
+    let held = c.in_ok-hash.ensures.held in
     let same = c.change_held-found.ensures.view in
     let b = c.in-Some.ensures.bound in
     caller_then w v c.self.view_is p c.answer.new.pass (On q Change) (Done b.0 b.1) c.requires.caller c.answer.ensures.own c.answer.ensures.idle (says hash w v c.self.view_is q p p1 p2 held same c.answer.new.pass Change (Done b.0 b.1) c.answer.ensures.answered b.3.call)
@@ -43,7 +43,7 @@ returns-in-Some-clause-answered g c =
     let p = c.args.pass.now in
     let p1 = c.hold_key.new.pass in
     let p2 = c.change_held-found.new.pass in
-    let held = c.in_ok-hold_key.ensures.held in
+    let held = c.in_ok-hash.ensures.held in
     let same = c.change_held-found.ensures.view in
     let b = c.in-Some.ensures.bound in
     (b.0, b.1, b.2, (says hash w v c.self.view_is q p p1 p2 held same c.answer.new.pass Change (Done b.0 b.1) c.answer.ensures.answered b.3.call))
@@ -57,7 +57,7 @@ returns-in-None-clause-caller g c =
     let p = c.args.pass.now in
     let p1 = c.hold_key.new.pass in
     let p2 = c.change_held-found.new.pass in
-    let held = c.in_ok-hold_key.ensures.held in
+    let held = c.in_ok-hash.ensures.held in
     let same = c.change_held-found.ensures.view in
     let b = c.in-None.ensures.unbound in
     caller_then w v c.self.view_is p c.answer.new.pass (On q Change) (Absent) c.requires.caller c.answer.ensures.own c.answer.ensures.idle (says hash w v c.self.view_is q p p1 p2 held same c.answer.new.pass Change (Absent) c.answer.ensures.answered b.0)
@@ -71,7 +71,7 @@ returns-in-None-clause-answered g c =
     let p = c.args.pass.now in
     let p1 = c.hold_key.new.pass in
     let p2 = c.change_held-found.new.pass in
-    let held = c.in_ok-hold_key.ensures.held in
+    let held = c.in_ok-hash.ensures.held in
     let same = c.change_held-found.ensures.view in
     let b = c.in-None.ensures.unbound in
     says hash w v c.self.view_is q p p1 p2 held same c.answer.new.pass Change (Absent) c.answer.ensures.answered b.0

@@ -22,16 +22,16 @@ answer-requires-clause-done g c =
     let p = c.args.pass.now in
     let p1 = c.hold_key.new.pass in
     let p2 = c.upsert_held-done.new.pass in
-    let held = c.in_default.ensures.held in
+    let held = c.in-Ok.ensures.held in
     let same = c.upsert_held-done.ensures.view in
-    let did = upsert_did (λ r. IsCall hash w.settings.s p1.stripes q (Upsert c.args.value) r p2.stripes) (λ v w. FnOnceReturns g.F.FnOnce c.args.f (v, tt) w) c.in-Ok.reply c.in-Ok.ensures.call in (
+    let did = upsert_did (λ r. IsCall hash w.settings.s p1.stripes q (Upsert c.args.value) r p2.stripes) (λ v w. FnOnceReturns g.F.FnOnce c.args.f (v, tt) w) c.in-Ok-done.reply c.in-Ok-done.ensures.call in (
       did.0,
       subst (λ (x : g.row.K.Denot × g.row.V.Denot). HasDone hash v.settings (On (name x.0) (Upsert x.1)) did.0 p2) (λ i. (sym c.of.ensures i, sym c.of-2.ensures i))
           (does hash w v c.self.view_is q p p1 p2 held same (Upsert c.args.value) did.0 did.1),
     )
 
-pub returns-in-Ok-clause-caller : goal.returns-in-Ok-clause-caller
-returns-in-Ok-clause-caller g c =
+pub returns-in-Ok-done-clause-caller : goal.returns-in-Ok-done-clause-caller
+returns-in-Ok-done-clause-caller g c =
     let hash = g.K.TableKey.hash in
     let name = g.K.TableKey.name in
     let q = name c.args.key in
@@ -40,17 +40,17 @@ returns-in-Ok-clause-caller g c =
     let p = c.args.pass.now in
     let p1 = c.hold_key.new.pass in
     let p2 = c.upsert_held-done.new.pass in
-    let held = c.in_default.ensures.held in
+    let held = c.in-Ok.ensures.held in
     let same = c.upsert_held-done.ensures.view in
     let z = c.answer.new.pass in
     let told = subst (λ (x : g.row.K.Denot × g.row.V.Denot). (r : Reply g.row.V.Denot) → HasDone hash v.settings (On (name x.0) (Upsert x.1)) r p2 → IsAnswered (On (name x.0) (Upsert x.1)) r p2 z)
     (λ i. (c.of.ensures i, c.of-2.ensures i)) c.answer.ensures.answered in
-    let did = upsert_did (λ r. IsCall hash w.settings.s p1.stripes q (Upsert c.args.value) r p2.stripes) (λ v w. FnOnceReturns g.F.FnOnce c.args.f (v, tt) w) c.in-Ok.reply c.in-Ok.ensures.call in
+    let did = upsert_did (λ r. IsCall hash w.settings.s p1.stripes q (Upsert c.args.value) r p2.stripes) (λ v w. FnOnceReturns g.F.FnOnce c.args.f (v, tt) w) c.in-Ok-done.reply c.in-Ok-done.ensures.call in
     caller_then w v c.self.view_is p z (On q (Upsert c.args.value)) did.0 c.requires.caller c.answer.ensures.own c.answer.ensures.idle
     (says hash w v c.self.view_is q p p1 p2 held same z (Upsert c.args.value) did.0 told did.1)
 
-pub returns-in-Ok-clause-answered : goal.returns-in-Ok-clause-answered
-returns-in-Ok-clause-answered g c =
+pub returns-in-Ok-done-clause-answered : goal.returns-in-Ok-done-clause-answered
+returns-in-Ok-done-clause-answered g c =
     let hash = g.K.TableKey.hash in
     let name = g.K.TableKey.name in
     let q = name c.args.key in
@@ -59,12 +59,12 @@ returns-in-Ok-clause-answered g c =
     let p = c.args.pass.now in
     let p1 = c.hold_key.new.pass in
     let p2 = c.upsert_held-done.new.pass in
-    let held = c.in_default.ensures.held in
+    let held = c.in-Ok.ensures.held in
     let same = c.upsert_held-done.ensures.view in
     let z = c.answer.new.pass in
     let told = subst (λ (x : g.row.K.Denot × g.row.V.Denot). (r : Reply g.row.V.Denot) → HasDone hash v.settings (On (name x.0) (Upsert x.1)) r p2 → IsAnswered (On (name x.0) (Upsert x.1)) r p2 z)
     (λ i. (c.of.ensures i, c.of-2.ensures i)) c.answer.ensures.answered in
-    upserting (λ r. IsCall hash w.settings.s p1.stripes q (Upsert c.args.value) r p2.stripes) (λ v w. FnOnceReturns g.F.FnOnce c.args.f (v, tt) w) (λ r. IsAnswered (On q (Upsert c.args.value)) r p z) c.in-Ok.reply (λ r d. says hash w v c.self.view_is q p p1 p2 held same z (Upsert c.args.value) r told d) c.in-Ok.ensures.call
+    upserting (λ r. IsCall hash w.settings.s p1.stripes q (Upsert c.args.value) r p2.stripes) (λ v w. FnOnceReturns g.F.FnOnce c.args.f (v, tt) w) (λ r. IsAnswered (On q (Upsert c.args.value)) r p z) c.in-Ok-done.reply (λ r d. says hash w v c.self.view_is q p p1 p2 held same z (Upsert c.args.value) r told d) c.in-Ok-done.ensures.call
 
 pub refuse-requires-clause-room : goal.refuse-requires-clause-room
 refuse-requires-clause-room g c =
@@ -81,7 +81,7 @@ returns-clause-refused g c =
     let p = c.args.pass.now in
     let p1 = c.hold_key.new.pass in
     let p2 = c.upsert_held-done.new.pass in
-    let held = c.in_default.ensures.held in
+    let held = c.in-Ok.ensures.held in
     let same = c.upsert_held-done.ensures.view in
     let z = c.refuse.new.pass in
     let n = c.in-Err-done.ensures.no_room in
