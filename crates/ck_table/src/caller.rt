@@ -62,7 +62,10 @@ impl<K: TableKey + Drop, V: Drop> Table<K, V> {
 }
 
 impl<'t, K: TableKey + Drop, V: Drop> Caller<'t, K, V> {
-    ghost use Rattle.ck_table.specs.Callers.{IsSameCaller, Finds, FindsBound, FindsBy, Inserts, Assigns, Upserts, Updates, Changes, ChangesTwo, Erases, ErasesBy, FindsHeldOwn, FindsHeldUnlessFull, FindsHeldOfTwo, IsBusyOn, IsBusyOnTwo, ComesBack};
+    ghost use Rattle.ck_table.specs.Callers.{IsSameCaller, Finds, FindsBound, FindsBy, Inserts, Assigns};
+    ghost use Rattle.ck_table.specs.Callers.{Upserts, Updates, Changes, ChangesTwo, Erases, ErasesBy};
+    ghost use Rattle.ck_table.specs.Callers.{FindsHeldOwn, FindsHeldUnlessFull, FindsHeldOfTwo};
+    ghost use Rattle.ck_table.specs.Callers.{IsBusyOn, IsBusyOnTwo, ComesBack};
 
     /// The table.
     pub fn table(&self) -> &'t Table<K, V>
@@ -87,8 +90,8 @@ impl<'t, K: TableKey + Drop, V: Drop> Caller<'t, K, V> {
     where
         V: Copy,
         ensures same { IsSameCaller self.old self.new }
-        ensures answered { IfOk result (λ value. Finds (K.name key.now) value self.old self.new) }
-        ensures busy { IfErr result (λ busy. IsBusyOn K.hash (K.name key.now) busy.0 self.old self.new) }
+        ensures answered { IfOk result (Finds (K.name key.now) self.old self.new) }
+        ensures busy { IfErr result (IsBusyOn K.hash (K.name key.now) self.old self.new) }
         ensures found { FindsHeldOwn K.hash (K.name key.now) self.old self.new }
     {
         self.table.find(&mut self.pass, key)
@@ -102,9 +105,9 @@ impl<'t, K: TableKey + Drop, V: Drop> Caller<'t, K, V> {
         F: Drop,
         requires call { F.IsAlwaysCallable f }
         ensures same { IsSameCaller self.old self.new }
-        ensures answered { IfOk result (λ answer.
-            FindsBy (FnOnceReturnsAt F.FnOnce f) (K.name key.now) answer self.old self.new) }
-        ensures busy { IfErr result (λ busy. IsBusyOn K.hash (K.name key.now) busy.0 self.old self.new) }
+        ensures answered { IfOk result (
+            FindsBy (FnOnceReturnsAt F.FnOnce f) (K.name key.now) self.old self.new) }
+        ensures busy { IfErr result (IsBusyOn K.hash (K.name key.now) self.old self.new) }
         ensures found { FindsHeldOwn K.hash (K.name key.now) self.old self.new }
     {
         self.table.find_fn(&mut self.pass, key, f)
@@ -114,8 +117,8 @@ impl<'t, K: TableKey + Drop, V: Drop> Caller<'t, K, V> {
     #[inline(always)]
     pub fn contains(&mut self, key: &K) -> Result<bool, Busy>
         ensures same { IsSameCaller self.old self.new }
-        ensures answered { IfOk result (λ bound. FindsBound (K.name key.now) bound self.old self.new) }
-        ensures busy { IfErr result (λ busy. IsBusyOn K.hash (K.name key.now) busy.0 self.old self.new) }
+        ensures answered { IfOk result (FindsBound (K.name key.now) self.old self.new) }
+        ensures busy { IfErr result (IsBusyOn K.hash (K.name key.now) self.old self.new) }
         ensures found { FindsHeldOwn K.hash (K.name key.now) self.old self.new }
     {
         self.table.contains(&mut self.pass, key)
@@ -126,8 +129,8 @@ impl<'t, K: TableKey + Drop, V: Drop> Caller<'t, K, V> {
     #[inline(always)]
     pub fn insert(&mut self, key: K, value: V) -> Result<bool, Refused<K, V>>
         ensures same { IsSameCaller self.old self.new }
-        ensures answered { IfOk result (λ fresh. Inserts (K.name key) value fresh self.old self.new) }
-        ensures refused { IfErr result (λ e. ComesBack (K.name key) key value e self.old self.new) }
+        ensures answered { IfOk result (Inserts (K.name key) value self.old self.new) }
+        ensures refused { IfErr result (ComesBack (K.name key) key value self.old self.new) }
         ensures found { FindsHeldUnlessFull K.hash (K.name key) self.old self.new }
     {
         self.table.insert(&mut self.pass, key, value)
@@ -138,8 +141,8 @@ impl<'t, K: TableKey + Drop, V: Drop> Caller<'t, K, V> {
     #[inline(always)]
     pub fn insert_or_assign(&mut self, key: K, value: V) -> Result<Option<V>, Refused<K, V>>
         ensures same { IsSameCaller self.old self.new }
-        ensures answered { IfOk result (λ old. Assigns (K.name key) value old self.old self.new) }
-        ensures refused { IfErr result (λ e. ComesBack (K.name key) key value e self.old self.new) }
+        ensures answered { IfOk result (Assigns (K.name key) value self.old self.new) }
+        ensures refused { IfErr result (ComesBack (K.name key) key value self.old self.new) }
         ensures found { FindsHeldUnlessFull K.hash (K.name key) self.old self.new }
     {
         self.table.insert_or_assign(&mut self.pass, key, value)
@@ -158,8 +161,8 @@ impl<'t, K: TableKey + Drop, V: Drop> Caller<'t, K, V> {
         F: Drop,
         requires call { F.IsAlwaysCallable f }
         ensures same { IsSameCaller self.old self.new }
-        ensures answered { IfOk result (λ fresh. Upserts (F.post f) (K.name key) value fresh self.old self.new) }
-        ensures refused { IfErr result (λ e. ComesBack (K.name key) key value e self.old self.new) }
+        ensures answered { IfOk result (Upserts (F.post f) (K.name key) value self.old self.new) }
+        ensures refused { IfErr result (ComesBack (K.name key) key value self.old self.new) }
         ensures found { FindsHeldUnlessFull K.hash (K.name key) self.old self.new }
     {
         self.table.upsert(&mut self.pass, key, f, value)
@@ -170,9 +173,10 @@ impl<'t, K: TableKey + Drop, V: Drop> Caller<'t, K, V> {
     #[inline(always)]
     pub fn update(&mut self, key: &K, value: V) -> Result<Option<V>, (V, Busy)>
         ensures same { IsSameCaller self.old self.new }
-        ensures answered { IfOk result (λ old. Updates (K.name key.now) value old self.old self.new) }
+        ensures answered { IfOk result (Updates (K.name key.now) value self.old self.new) }
         ensures back { IfErr result (λ back. back.0 ≡ value) }
-        ensures busy { IfErr result (λ back. IsBusyOn K.hash (K.name key.now) back.1.0 self.old self.new) }
+        ensures busy { IfErr result (λ back.
+            IsBusyOn K.hash (K.name key.now) self.old self.new back.1) }
         ensures found { FindsHeldOwn K.hash (K.name key.now) self.old self.new }
     {
         self.table.update(&mut self.pass, key, value)
@@ -186,8 +190,8 @@ impl<'t, K: TableKey + Drop, V: Drop> Caller<'t, K, V> {
         F: Drop,
         requires call { F.IsAlwaysCallable f }
         ensures same { IsSameCaller self.old self.new }
-        ensures answered { IfOk result (λ bound. Changes (F.post f) (K.name key.now) bound self.old self.new) }
-        ensures busy { IfErr result (λ busy. IsBusyOn K.hash (K.name key.now) busy.0 self.old self.new) }
+        ensures answered { IfOk result (Changes (F.post f) (K.name key.now) self.old self.new) }
+        ensures busy { IfErr result (IsBusyOn K.hash (K.name key.now) self.old self.new) }
         ensures found { FindsHeldOwn K.hash (K.name key.now) self.old self.new }
     {
         self.table.update_fn(&mut self.pass, key, f)
@@ -207,10 +211,10 @@ impl<'t, K: TableKey + Drop, V: Drop> Caller<'t, K, V> {
         requires different { K.name a.now ≢ K.name b.now }
         requires call { F.IsAlwaysCallable f }
         ensures same { IsSameCaller self.old self.new }
-        ensures answered { IfOk result (λ bound.
-            ChangesTwo (F.post f) (K.name a.now) (K.name b.now) bound self.old self.new) }
-        ensures busy { IfErr result (λ busy.
-            IsBusyOnTwo K.hash (K.name a.now) (K.name b.now) busy.0 self.old self.new) }
+        ensures answered { IfOk result (
+            ChangesTwo (F.post f) (K.name a.now) (K.name b.now) self.old self.new) }
+        ensures busy { IfErr result (
+            IsBusyOnTwo K.hash (K.name a.now) (K.name b.now) self.old self.new) }
         ensures found { FindsHeldOfTwo K.hash (K.name a.now) (K.name b.now) self.old self.new }
     {
         self.table.update_two(&mut self.pass, a, b, f)
@@ -221,8 +225,8 @@ impl<'t, K: TableKey + Drop, V: Drop> Caller<'t, K, V> {
     #[inline(always)]
     pub fn erase(&mut self, key: &K) -> Result<Option<V>, Busy>
         ensures same { IsSameCaller self.old self.new }
-        ensures answered { IfOk result (λ old. Erases (K.name key.now) old self.old self.new) }
-        ensures busy { IfErr result (λ busy. IsBusyOn K.hash (K.name key.now) busy.0 self.old self.new) }
+        ensures answered { IfOk result (Erases (K.name key.now) self.old self.new) }
+        ensures busy { IfErr result (IsBusyOn K.hash (K.name key.now) self.old self.new) }
         ensures found { FindsHeldOwn K.hash (K.name key.now) self.old self.new }
     {
         self.table.erase(&mut self.pass, key)
@@ -236,9 +240,9 @@ impl<'t, K: TableKey + Drop, V: Drop> Caller<'t, K, V> {
         F: Drop,
         requires call { F.IsAlwaysCallable f }
         ensures same { IsSameCaller self.old self.new }
-        ensures answered { IfOk result (λ answer.
-            ErasesBy (FnOnceReturnsAt F.FnOnce f) (K.name key.now) answer self.old self.new) }
-        ensures busy { IfErr result (λ busy. IsBusyOn K.hash (K.name key.now) busy.0 self.old self.new) }
+        ensures answered { IfOk result (
+            ErasesBy (FnOnceReturnsAt F.FnOnce f) (K.name key.now) self.old self.new) }
+        ensures busy { IfErr result (IsBusyOn K.hash (K.name key.now) self.old self.new) }
         ensures found { FindsHeldOwn K.hash (K.name key.now) self.old self.new }
     {
         self.table.erase_fn(&mut self.pass, key, f)
