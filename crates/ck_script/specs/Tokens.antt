@@ -1,4 +1,4 @@
--- The words of a line, and numbers.
+-- The tokens of a line, and numbers.
 use Rattle.std.specs.Prelude.{◌≡◌, ℕ, ◌<◌, ◌^◌, List, [], ◌∷◌, Option, Some, None, Bool, true, false, ◌&&◌, ◌==◌, not, nat_lt, if◌then◌else◌}
 use Rattle.std.specs.List.{slice_split}
 use Rattle.std.specs.Str.{all_ascii_digits}
@@ -9,8 +9,8 @@ abbrev pub is_space : ℕ → Bool
 is_space b = b == 32
 
 -- a line is cut at each space, so two spaces together have an empty word between them
-abbrev pub words : List ℕ → List (List ℕ)
-words line = slice_split is_space line
+abbrev pub tokens : List ℕ → List (List ℕ)
+tokens line = slice_split is_space line
 
 -- a digit comes first, and no 0 in front of another byte
 abbrev pub begins_as_number : List ℕ → Bool

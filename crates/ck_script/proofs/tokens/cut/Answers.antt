@@ -1,5 +1,5 @@
 use Rattle.ck_script.proofs.Cuts.{split_whole, split_found, to_end}
-use Rattle.ck_script.proofs.words.cut.Goals as goal
+use Rattle.ck_script.proofs.tokens.cut.Goals as goal
 
 pub returns-in-None : goal.returns-in-None
 returns-in-None c = split_whole 32 c.args.line.now c.in-None.ensures
