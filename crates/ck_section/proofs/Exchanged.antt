@@ -1,5 +1,5 @@
 -- What a call on two names finds on its way: it takes both entries, and puts them back with other values.
-use Rattle.std.proofs.Common.{◌≡◌, ◌≢◌, ℕ, List, Some, None, IsSome, is_some, refl, sym, ◌∙◌, ap, subst}
+use Rattle.std.proofs.Common.{◌≡◌, ◌≢◌, ℕ, List, Some, None, IsSome, is_some, sym, ◌∙◌, ap, subst}
 use Rattle.std.proofs.lemmas.Option.{some_pair_parts}
 use Rattle.ck_model.specs.Arithmetic.{partial_of}
 use Rattle.ck_model.specs.declared.history.Reply.TheVariants.{DoneTwo}

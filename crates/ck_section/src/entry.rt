@@ -37,9 +37,7 @@ impl<K: TableKey + Drop, V: Drop, H: Held<K, V>> Pair<K, V, H> {
         if let Some(at) = find_slot(&mut self.held, place, key) {
             return Some(Entry::Occupied(at));
         }
-        match find_free(&mut self.held, place, key) {
-            Some(at) => Some(Entry::Vacant(at)),
-            None => None,
-        }
+        let at = find_free(&mut self.held, place, key)?;
+        Some(Entry::Vacant(at))
     }
 }
