@@ -164,12 +164,7 @@ fn two_keys(rt: HostRuntime) -> Result<(), Fail> {
 }
 
 // Tries the hop of an entry of bucket 1 of a table of two stripes.
-fn try_hop(
-    rt: &impl Abort,
-    held: &mut Slice<NumKey, u64>,
-    power: u32,
-    partial: u8,
-) -> bool
+fn try_hop(rt: &impl Abort, held: &mut Slice<NumKey, u64>, power: u32, partial: u8) -> bool
     requires all { AreAllHeld 1 held.old.stripes.now }
     requires least { 1 ≤ power }
     requires most { power ≤ 26 }
@@ -177,13 +172,17 @@ fn try_hop(
 {
     let target = ck_key::alternate(power, partial, 1);
     assert!(rt; target % 2 == 1);
-    make_hop(held, 1, Hop {
-        power,
-        bucket: 1,
-        slot: 0,
-        partial,
-        target,
-    })
+    make_hop(
+        held,
+        1,
+        Hop {
+            power,
+            bucket: 1,
+            slot: 0,
+            partial,
+            target,
+        },
+    )
 }
 
 /// Key 1 is in slot 0 of bucket 1, and its other bucket is 3, which is free in the first rows, and full of keys without
