@@ -5,7 +5,7 @@ ghost use Rattle.ck_section.specs.Whole.{AreAll};
 
 use crate::calls::{Calls, POWER};
 use ck_key::NumKey;
-use ck_section::{Pair, are_all, place_in_all};
+use ck_section::{Slice, are_all, erase, find, find_entry, insert, place_in_all, update};
 use ck_stripe::Stripe;
 use std::alloc::Global;
 use std::io;
@@ -56,8 +56,8 @@ fn find_in(stripes: &mut [Stripe<NumKey, u64>], key: NumKey) -> Option<u64>
     ensures { stripes.new ≡ stripes.old }
 {
     let place = place_in_all(stripes, S, &key);
-    let mut held = Pair::over(stripes);
-    held.find(place, &key, |value| *value)
+    let mut held = Slice { stripes };
+    find(&mut held, place, &key, |value| *value)
 }
 
 fn update_in(stripes: &mut [Stripe<NumKey, u64>], key: NumKey, value: u64) -> Option<u64>
@@ -65,8 +65,8 @@ fn update_in(stripes: &mut [Stripe<NumKey, u64>], key: NumKey, value: u64) -> Op
     ensures { ChangesContents stripes.old stripes.new }
 {
     let place = place_in_all(stripes, S, &key);
-    let mut held = Pair::over(stripes);
-    held.update(place, &key, value)
+    let mut held = Slice { stripes };
+    update(&mut held, place, &key, value)
 }
 
 fn erase_in(stripes: &mut [Stripe<NumKey, u64>], key: NumKey) -> Option<u64>
@@ -74,8 +74,8 @@ fn erase_in(stripes: &mut [Stripe<NumKey, u64>], key: NumKey) -> Option<u64>
     ensures { ChangesContents stripes.old stripes.new }
 {
     let place = place_in_all(stripes, S, &key);
-    let mut held = Pair::over(stripes);
-    held.erase(place, &key)
+    let mut held = Slice { stripes };
+    erase(&mut held, place, &key)
 }
 
 fn insert_in(stripes: &mut [Stripe<NumKey, u64>], key: NumKey, value: u64) -> Option<bool>
@@ -83,7 +83,7 @@ fn insert_in(stripes: &mut [Stripe<NumKey, u64>], key: NumKey, value: u64) -> Op
     ensures { ChangesContents stripes.old stripes.new }
 {
     let place = place_in_all(stripes, S, &key);
-    let mut held = Pair::over(stripes);
-    let entry = held.entry(place, &key)?;
-    Some(held.insert(place, entry, key, value))
+    let mut held = Slice { stripes };
+    let entry = find_entry(&mut held, place, &key)?;
+    Some(insert(&mut held, place, entry, key, value))
 }

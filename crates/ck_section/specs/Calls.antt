@@ -8,7 +8,6 @@ use Rattle.ck_model.specs.Contents.{Layout, Lawful}
 use Rattle.ck_model.specs.Sections.{Section}
 use Rattle.ck_model.specs.Paths.{HasNoRoom}
 use Rattle.ck_stripe.specs.Stripe.{StripeState}
-use Rattle.ck_section.specs.declared.pair.Pair.{Pair}
 use Rattle.ck_section.specs.declared.place.KeyPlace.{KeyPlace}
 use Rattle.ck_section.specs.Stripes.{stripe_at, contents_of}
 
@@ -24,8 +23,8 @@ pub record Effect (V : Type 0) : Type 0 where
 
 module _ {V : Type 0} where
   -- the effect of a call on a key of this place
-  abbrev pub effect : {K H : Type 0} → (Name → ℕ) → (H → List (StripeState V)) → KeyPlace → Pair K V H → Pair K V H → Effect V
-  effect hash stripes place old new = record { hash = hash; s = place.s; old = stripes old.held; new = stripes new.held }
+  abbrev pub effect : {H : Type 0} → (Name → ℕ) → (H → List (StripeState V)) → KeyPlace → H → H → Effect V
+  effect hash stripes place old new = record { hash = hash; s = place.s; old = stripes old; new = stripes new }
 
   -- Whatever the greatest power is, lawful stripes go from old to new by this act on the name, with this reply.
   abbrev pub IsCall : Effect V → Name → Act V → Reply V → Type 0

@@ -1,12 +1,14 @@
 //! One hop of a displacement: an entry goes to its other bucket, and no binding changes.
-ghost use Rattle.std.specs.Prelude.{◌≡◌, ◌<◌, MatchBool};
+ghost use Rattle.std.specs.Prelude.{◌≡◌, ◌%◌, ◌^◌, ◌<◌, MatchBool};
 ghost use Rattle.std.specs.Bool.{OnTrue};
 ghost use Rattle.ck_section.specs.Stripes.{stripe_at, IsInReach};
-ghost use Rattle.ck_section.specs.Places.{slot_in};
+ghost use Rattle.ck_model.specs.Arithmetic.{alternate_of};
+ghost use Rattle.ck_section.specs.Places.{AreHeld, HasStripe, slot_in};
 ghost use Rattle.ck_section.specs.Hops.{IsHopIn, HasPartial, CanHop, source_in, Hops, IsNoCall};
 ghost use Rattle.ck_section.specs.Calls.{ChangesContents};
 
 use crate::held::Held;
+use crate::look::bucket_index;
 use ck_key::TableKey;
 
 /// A hop, as a search of a table of 2^power buckets saw it: the entry of this partial in this slot of bucket `bucket`
@@ -52,6 +54,28 @@ pub fn move_entry<K: TableKey + Drop, V: Drop, H: Held<K, V>>(
     let (key, value) = held.remove(from, hop.bucket, hop.slot);
     held.place(to, hop.target, slot, hop.partial, key, value);
     true
+}
+
+/// Carries out a hop among held stripes of a table of 2^s, as `move_entry` does between two of them.
+pub fn make_hop<K: TableKey + Drop, V: Drop, H: Held<K, V>>(held: &mut H, s: u32, hop: Hop) -> bool
+    requires held { AreHeld s (H.stripes held.old) }
+    requires below { hop.bucket < 2 ^ hop.power }
+    requires target { hop.target ≡ alternate_of hop.power hop.partial hop.bucket }
+    requires source_owned { HasStripe (H.stripes held.old) (hop.bucket % 2 ^ s) }
+    requires target_owned { HasStripe (H.stripes held.old) (hop.target % 2 ^ s) }
+    ensures hopped { (i j : _) × IsHopIn (H.stripes held.old) i j hop
+        × MatchBool result (CanHop K.hash (H.stripes held.old) i j hop)
+        (¬ (CanHop K.hash (H.stripes held.old) i j hop))
+        × MatchBool result (Hops (H.stripes held.old) i j hop (H.stripes held.new))
+        (H.stripes held.new ≡ H.stripes held.old) }
+    ensures no_call { IsNoCall K.hash s
+        (H.stripes held.old) (H.stripes held.new) }
+    ensures rest { ChangesContents (H.stripes held.old) (H.stripes held.new) }
+    ensures stays { H.stays held.old held.new }
+{
+    let from = bucket_index(held, s, hop.bucket);
+    let to = bucket_index(held, s, hop.target);
+    move_entry(held, from, to, hop)
 }
 
 // Whether the slot has an entry of the hop's partial.

@@ -1,5 +1,5 @@
 //! Decisions on stripes that a call holds: the calls on one key and on two, and one hop of a displacement. They are
-//! written once, as methods of `Pair` over anything that is `Held`: a slice of stripes, and any other way to hold them.
+//! written once, over anything that is `Held`: a slice of stripes, and any other way to hold them.
 #![tactic(auto)]
 
 mod entry;
@@ -7,17 +7,17 @@ mod held;
 mod hop;
 mod look;
 mod one_key;
-mod pair;
 mod place;
 mod slice;
 mod two_keys;
 mod whole;
 
-pub use entry::Entry;
+pub use entry::{Entry, find_entry};
 pub use held::Held;
-pub use hop::{Hop, move_entry};
-pub use look::key_place;
-pub use pair::Pair;
+pub use hop::{Hop, make_hop, move_entry};
+pub use look::{key_place, sketch};
+pub use one_key::{assign, change, erase, erase_if, find, insert, update, upsert};
 pub use place::{HeldBucket, HeldSlot, KeyPlace};
 pub use slice::Slice;
+pub use two_keys::update_two;
 pub use whole::{are_all, place_in_all};

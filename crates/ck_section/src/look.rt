@@ -1,7 +1,8 @@
 //! Looking for a key, and for room for it.
-ghost use Rattle.std.specs.Prelude.{◌≡◌, ◌≤◌, ◌<◌, ◌%◌, ◌^◌, IfSome, IfNone, length};
+ghost use Rattle.std.specs.Prelude.{◌≡◌, ◌≤◌, ◌<◌, ◌%◌, ◌^◌, IfSome, IfNone, length, map};
+ghost use Rattle.ck_bucket.specs.Bucket.{partial_in};
 ghost use Rattle.ck_key.specs.Hashes.{IsHashOf};
-ghost use Rattle.ck_section.specs.Stripes.{stripe_at};
+ghost use Rattle.ck_section.specs.Stripes.{stripe_at, bucket_at, IsInReach};
 ghost use Rattle.ck_section.specs.Places.{AreHeld, HasStripe, HasBoth, IsPlaceOf, IsSlotOf, IsNowhere, AreFull, IsNext};
 ghost use Rattle.ck_section.specs.Entries.{IsOccupied};
 
@@ -42,6 +43,20 @@ pub fn key_place<K: TableKey, V, H: Held<K, V>>(
             bucket: alternate,
         },
     }
+}
+
+/// The partials in a bucket of the held stripes of a table of 2^s.
+pub fn sketch<K: TableKey, V, H: Held<K, V>>(held: &mut H, s: u32, b: u64) -> [Option<u8>; 4]
+    requires held { AreHeld s (H.stripes held.old) }
+    requires below { b < 2 ^ (stripe_at (H.stripes held.old) 0).content.power }
+    requires owned { HasStripe (H.stripes held.old) (b % 2 ^ s) }
+    ensures value { (i : _) × IsInReach (H.stripes held.old) i b
+        × (result ≡ map (partial_in K.hash) (bucket_at (H.stripes held.old) i b)) }
+    ensures same { H.stripes held.new ≡ H.stripes held.old }
+    ensures stays { H.stays held.old held.new }
+{
+    let i = bucket_index(held, s, b);
+    held.sketch(i, b)
 }
 
 // The position of the stripe of bucket `b`, in a table of 2^s stripes.

@@ -14,207 +14,231 @@ ghost use Rattle.ck_section.specs.Calls.{effect, IsCall, ChangesContents};
 use crate::entry::Entry;
 use crate::held::Held;
 use crate::look::find_slot;
-use crate::pair::Pair;
 use crate::place::{HeldSlot, KeyPlace};
 use ck_key::TableKey;
 
-impl<K: TableKey + Drop, V: Drop, H: Held<K, V>> Pair<K, V, H> {
-    /// What the closure answers for the value of the key; `None` where the key is unbound, and then the closure is not
-    /// called.
-    pub fn find<R, F: FnOnce(&V) -> R>(&mut self, place: KeyPlace, key: &K, f: F) -> Option<R>
-    where
-        F: Drop,
-        requires place { IsPlaceOf K.hash (H.stripes self.old.held) (K.name key.now) place }
-        requires call { F.IsAlwaysCallable f }
-        ensures bound { IfSome result (λ r. (v : V) × FnOnceReturnsAt F.FnOnce f v r
-            × IsCall (effect K.hash H.stripes place self.old self.new) (K.name key.now)
-            Find (Was (Some v))) }
-        ensures unbound { IfNone result
-            (IsCall (effect K.hash H.stripes place self.old self.new) (K.name key.now)
-            Find (Was None)) }
-        ensures same { H.stripes self.new.held ≡ H.stripes self.old.held }
-        ensures s { self.new.s ≡ self.old.s }
-        ensures stays { H.stays self.old.held self.new.held }
-    {
-        let at = find_slot(&mut self.held, place, key)?;
-        Some(self.held.read(at.index, at.bucket, at.slot, f))
-    }
+/// What the closure answers for the value of the key; `None` where the key is unbound, and then the closure is not
+/// called.
+pub fn find<K: TableKey, V, H: Held<K, V>, R, F: FnOnce(&V) -> R>(
+    held: &mut H,
+    place: KeyPlace,
+    key: &K,
+    f: F,
+) -> Option<R>
+where
+    F: Drop,
+    requires place { IsPlaceOf K.hash (H.stripes held.old) (K.name key.now) place }
+    requires call { F.IsAlwaysCallable f }
+    ensures bound { IfSome result (λ r. (v : V) × FnOnceReturnsAt F.FnOnce f v r
+        × IsCall (effect K.hash H.stripes place held.old held.new) (K.name key.now)
+        Find (Was (Some v))) }
+    ensures unbound { IfNone result
+        (IsCall (effect K.hash H.stripes place held.old held.new) (K.name key.now)
+        Find (Was None)) }
+    ensures same { H.stripes held.new ≡ H.stripes held.old }
+    ensures stays { H.stays held.old held.new }
+{
+    let at = find_slot(held, place, key)?;
+    Some(held.read(at.index, at.bucket, at.slot, f))
+}
 
-    /// Binds the key of the entry where it is unbound, and says whether it was. A bound key keeps its value, and the one that
-    /// was passed is dropped.
-    pub fn insert(&mut self, place: KeyPlace, entry: Entry, key: K, value: V) -> bool
-        requires place { IsPlaceOf K.hash (H.stripes self.old.held) (K.name key) place }
-        requires entry { IsEntryOf K.hash (H.stripes self.old.held) (K.name key) place entry }
-        ensures call { IsCall (effect K.hash H.stripes place self.old self.new) (K.name key)
-            (Insert value) (if result then New else Old) }
-        ensures same { OnFalse result (H.stripes self.new.held ≡ H.stripes self.old.held) }
-        ensures rest { ChangesContents (H.stripes self.old.held) (H.stripes self.new.held) }
-        ensures s { self.new.s ≡ self.old.s }
-        ensures stays { H.stays self.old.held self.new.held }
-    {
-        match entry {
-            Entry::Occupied(_) => false,
-            Entry::Vacant(at) => {
-                self.fill(place, at, key, value);
-                true
-            }
+/// Binds the key of the entry where it is unbound, and says whether it was. A bound key keeps its value, and the one that
+/// was passed is dropped.
+pub fn insert<K: TableKey + Drop, V: Drop, H: Held<K, V>>(
+    held: &mut H,
+    place: KeyPlace,
+    entry: Entry,
+    key: K,
+    value: V,
+) -> bool
+    requires place { IsPlaceOf K.hash (H.stripes held.old) (K.name key) place }
+    requires entry { IsEntryOf K.hash (H.stripes held.old) (K.name key) place entry }
+    ensures call { IsCall (effect K.hash H.stripes place held.old held.new) (K.name key)
+        (Insert value) (if result then New else Old) }
+    ensures same { OnFalse result (H.stripes held.new ≡ H.stripes held.old) }
+    ensures rest { ChangesContents (H.stripes held.old) (H.stripes held.new) }
+    ensures stays { H.stays held.old held.new }
+{
+    match entry {
+        Entry::Occupied(_) => false,
+        Entry::Vacant(at) => {
+            fill(held, place, at, key, value);
+            true
         }
     }
+}
 
-    /// Binds the key of the entry, and gives the value that it had.
-    pub fn assign(&mut self, place: KeyPlace, entry: Entry, key: K, value: V) -> Option<V>
-        requires place { IsPlaceOf K.hash (H.stripes self.old.held) (K.name key) place }
-        requires entry { IsEntryOf K.hash (H.stripes self.old.held) (K.name key) place entry }
-        ensures call { IsCall (effect K.hash H.stripes place self.old self.new) (K.name key)
-            (Assign value) (Was result) }
-        ensures rest { ChangesContents (H.stripes self.old.held) (H.stripes self.new.held) }
-        ensures s { self.new.s ≡ self.old.s }
-        ensures stays { H.stays self.old.held self.new.held }
-    {
-        match entry {
-            Entry::Occupied(old) => Some(self.held.replace(old.index, old.bucket, old.slot, value)),
-            Entry::Vacant(at) => {
-                self.fill(place, at, key, value);
-                None
-            }
+/// Binds the key of the entry, and gives the value that it had.
+pub fn assign<K: TableKey + Drop, V: Drop, H: Held<K, V>>(
+    held: &mut H,
+    place: KeyPlace,
+    entry: Entry,
+    key: K,
+    value: V,
+) -> Option<V>
+    requires place { IsPlaceOf K.hash (H.stripes held.old) (K.name key) place }
+    requires entry { IsEntryOf K.hash (H.stripes held.old) (K.name key) place entry }
+    ensures call { IsCall (effect K.hash H.stripes place held.old held.new) (K.name key)
+        (Assign value) (Was result) }
+    ensures rest { ChangesContents (H.stripes held.old) (H.stripes held.new) }
+    ensures stays { H.stays held.old held.new }
+{
+    match entry {
+        Entry::Occupied(old) => Some(held.replace(old.index, old.bucket, old.slot, value)),
+        Entry::Vacant(at) => {
+            fill(held, place, at, key, value);
+            None
         }
     }
+}
 
-    /// Binds a bound key to another value, and gives the one that it had; `None` where the key is unbound, and then it stays
-    /// so and the value is dropped.
-    pub fn update(&mut self, place: KeyPlace, key: &K, value: V) -> Option<V>
-        requires { IsPlaceOf K.hash (H.stripes self.old.held) (K.name key.now) place }
-        ensures call { IsCall (effect K.hash H.stripes place self.old self.new) (K.name key.now)
-            (Update value) (Was result) }
-        ensures same { IfNone result (H.stripes self.new.held ≡ H.stripes self.old.held) }
-        ensures rest { ChangesContents (H.stripes self.old.held) (H.stripes self.new.held) }
-        ensures s { self.new.s ≡ self.old.s }
-        ensures stays { H.stays self.old.held self.new.held }
-    {
-        let at = find_slot(&mut self.held, place, key)?;
-        Some(self.held.replace(at.index, at.bucket, at.slot, value))
+/// Binds a bound key to another value, and gives the one that it had; `None` where the key is unbound, and then it stays
+/// so and the value is dropped.
+pub fn update<K: TableKey + Drop, V: Drop, H: Held<K, V>>(
+    held: &mut H,
+    place: KeyPlace,
+    key: &K,
+    value: V,
+) -> Option<V>
+    requires { IsPlaceOf K.hash (H.stripes held.old) (K.name key.now) place }
+    ensures call { IsCall (effect K.hash H.stripes place held.old held.new) (K.name key.now)
+        (Update value) (Was result) }
+    ensures same { IfNone result (H.stripes held.new ≡ H.stripes held.old) }
+    ensures rest { ChangesContents (H.stripes held.old) (H.stripes held.new) }
+    ensures stays { H.stays held.old held.new }
+{
+    let at = find_slot(held, place, key)?;
+    Some(held.replace(at.index, at.bucket, at.slot, value))
+}
+
+/// Unbinds the key, and gives the value that it had; `None` where it is unbound.
+pub fn erase<K: TableKey + Drop, V: Drop, H: Held<K, V>>(
+    held: &mut H,
+    place: KeyPlace,
+    key: &K,
+) -> Option<V>
+    requires { IsPlaceOf K.hash (H.stripes held.old) (K.name key.now) place }
+    ensures call { IsCall (effect K.hash H.stripes place held.old held.new) (K.name key.now)
+        Erase (Was result) }
+    ensures same { IfNone result (H.stripes held.new ≡ H.stripes held.old) }
+    ensures rest { ChangesContents (H.stripes held.old) (H.stripes held.new) }
+    ensures stays { H.stays held.old held.new }
+{
+    let at = find_slot(held, place, key)?;
+    let (_, value) = held.remove(at.index, at.bucket, at.slot);
+    Some(value)
+}
+
+/// Unbinds a bound key where the closure answers true for its value, and gives what the closure answers. Where the key is
+/// unbound, the closure is not called and comes back.
+pub fn erase_if<K: TableKey + Drop, V: Drop, H: Held<K, V>, F: FnOnce(&V) -> bool>(
+    held: &mut H,
+    place: KeyPlace,
+    key: &K,
+    f: F,
+) -> Result<bool, F>
+    requires place { IsPlaceOf K.hash (H.stripes held.old) (K.name key.now) place }
+    requires call { F.IsAlwaysCallable f }
+    ensures bound { IfOk result (λ gone. (v : V) × FnOnceReturnsAt F.FnOnce f v gone
+        × IsCall (effect K.hash H.stripes place held.old held.new) (K.name key.now)
+        (if gone then Erase else Find) (Was (Some v))) }
+    ensures same { IfOk result
+        (λ gone. OnFalse gone (H.stripes held.new ≡ H.stripes held.old)) }
+    ensures unbound { IfErr result (λ back. (back ≡ f)
+        × IsCall (effect K.hash H.stripes place held.old held.new) (K.name key.now)
+        Find (Was None) × (H.stripes held.new ≡ H.stripes held.old)) }
+    ensures rest { ChangesContents (H.stripes held.old) (H.stripes held.new) }
+    ensures stays { H.stays held.old held.new }
+{
+    let Some(at) = find_slot(held, place, key) else {
+        return Err(f);
+    };
+    if !held.read(at.index, at.bucket, at.slot, f) {
+        return Ok(false);
     }
+    held.remove(at.index, at.bucket, at.slot);
+    Ok(true)
+}
 
-    /// Unbinds the key, and gives the value that it had; `None` where it is unbound.
-    pub fn erase(&mut self, place: KeyPlace, key: &K) -> Option<V>
-        requires { IsPlaceOf K.hash (H.stripes self.old.held) (K.name key.now) place }
-        ensures call { IsCall (effect K.hash H.stripes place self.old self.new) (K.name key.now)
-            Erase (Was result) }
-        ensures same { IfNone result (H.stripes self.new.held ≡ H.stripes self.old.held) }
-        ensures rest { ChangesContents (H.stripes self.old.held) (H.stripes self.new.held) }
-        ensures s { self.new.s ≡ self.old.s }
-        ensures stays { H.stays self.old.held self.new.held }
-    {
-        let at = find_slot(&mut self.held, place, key)?;
-        let (_, value) = self.held.remove(at.index, at.bucket, at.slot);
-        Some(value)
-    }
+/// Binds a bound key to what the closure makes of its value, and says whether it was bound. Where it was not, the closure
+/// is not called.
+pub fn change<K: TableKey + Drop, V: Drop, H: Held<K, V>, F: FnOnce(V) -> V>(
+    held: &mut H,
+    place: KeyPlace,
+    key: &K,
+    f: F,
+) -> bool
+where
+    F: Drop,
+    requires place { IsPlaceOf K.hash (H.stripes held.old) (K.name key.now) place }
+    requires call { F.IsAlwaysCallable f }
+    ensures call { MatchBool result
+        ((v w : V) × F.post f v w
+        × IsCall (effect K.hash H.stripes place held.old held.new) (K.name key.now)
+        Change (Done v w))
+        (IsCall (effect K.hash H.stripes place held.old held.new) (K.name key.now)
+        Change Absent) }
+    ensures same { OnFalse result (H.stripes held.new ≡ H.stripes held.old) }
+    ensures rest { ChangesContents (H.stripes held.old) (H.stripes held.new) }
+    ensures stays { H.stays held.old held.new }
+{
+    let Some(at) = find_slot(held, place, key) else {
+        return false;
+    };
+    held.change(at.index, at.bucket, at.slot, f);
+    true
+}
 
-    /// Unbinds a bound key where the closure answers true for its value, and gives what the closure answers. Where the key is
-    /// unbound, the closure is not called and comes back.
-    pub fn erase_if<F: FnOnce(&V) -> bool>(
-        &mut self,
-        place: KeyPlace,
-        key: &K,
-        f: F,
-    ) -> Result<bool, F>
-        requires place { IsPlaceOf K.hash (H.stripes self.old.held) (K.name key.now) place }
-        requires call { F.IsAlwaysCallable f }
-        ensures bound { IfOk result (λ gone. (v : V) × FnOnceReturnsAt F.FnOnce f v gone
-            × IsCall (effect K.hash H.stripes place self.old self.new) (K.name key.now)
-            (if gone then Erase else Find) (Was (Some v))) }
-        ensures same { IfOk result
-            (λ gone. OnFalse gone (H.stripes self.new.held ≡ H.stripes self.old.held)) }
-        ensures unbound { IfErr result (λ back. (back ≡ f)
-            × IsCall (effect K.hash H.stripes place self.old self.new) (K.name key.now)
-            Find (Was None) × (H.stripes self.new.held ≡ H.stripes self.old.held)) }
-        ensures rest { ChangesContents (H.stripes self.old.held) (H.stripes self.new.held) }
-        ensures s { self.new.s ≡ self.old.s }
-        ensures stays { H.stays self.old.held self.new.held }
-    {
-        let Some(at) = find_slot(&mut self.held, place, key) else {
-            return Err(f);
-        };
-        if !self.held.read(at.index, at.bucket, at.slot, f) {
-            return Ok(false);
+/// Binds the key of the entry to the value where it is unbound, and else to what the closure makes of its value; says
+/// whether the key was unbound. Of closure and value the one that isn't used is dropped.
+pub fn upsert<K: TableKey + Drop, V: Drop, H: Held<K, V>, F: FnOnce(V) -> V>(
+    held: &mut H,
+    place: KeyPlace,
+    entry: Entry,
+    key: K,
+    f: F,
+    value: V,
+) -> bool
+where
+    F: Drop,
+    requires place { IsPlaceOf K.hash (H.stripes held.old) (K.name key) place }
+    requires entry { IsEntryOf K.hash (H.stripes held.old) (K.name key) place entry }
+    requires call { F.IsAlwaysCallable f }
+    ensures call { MatchBool result
+        (IsCall (effect K.hash H.stripes place held.old held.new) (K.name key)
+        (Upsert value) New)
+        ((v w : V) × F.post f v w × IsCall (effect K.hash H.stripes place held.old held.new)
+        (K.name key) (Upsert value) (Done v w)) }
+    ensures rest { ChangesContents (H.stripes held.old) (H.stripes held.new) }
+    ensures stays { H.stays held.old held.new }
+{
+    match entry {
+        Entry::Occupied(old) => {
+            held.change(old.index, old.bucket, old.slot, f);
+            false
         }
-        self.held.remove(at.index, at.bucket, at.slot);
-        Ok(true)
-    }
-
-    /// Binds a bound key to what the closure makes of its value, and says whether it was bound. Where it was not, the closure
-    /// is not called.
-    pub fn change<F: FnOnce(V) -> V>(&mut self, place: KeyPlace, key: &K, f: F) -> bool
-    where
-        F: Drop,
-        requires place { IsPlaceOf K.hash (H.stripes self.old.held) (K.name key.now) place }
-        requires call { F.IsAlwaysCallable f }
-        ensures call { MatchBool result
-            ((v w : V) × F.post f v w
-            × IsCall (effect K.hash H.stripes place self.old self.new) (K.name key.now)
-            Change (Done v w))
-            (IsCall (effect K.hash H.stripes place self.old self.new) (K.name key.now)
-            Change Absent) }
-        ensures same { OnFalse result (H.stripes self.new.held ≡ H.stripes self.old.held) }
-        ensures rest { ChangesContents (H.stripes self.old.held) (H.stripes self.new.held) }
-        ensures s { self.new.s ≡ self.old.s }
-        ensures stays { H.stays self.old.held self.new.held }
-    {
-        let Some(at) = find_slot(&mut self.held, place, key) else {
-            return false;
-        };
-        self.held.change(at.index, at.bucket, at.slot, f);
-        true
-    }
-
-    /// Binds the key of the entry to the value where it is unbound, and else to what the closure makes of its value; says
-    /// whether the key was unbound. Of closure and value the one that isn't used is dropped.
-    pub fn upsert<F: FnOnce(V) -> V>(
-        &mut self,
-        place: KeyPlace,
-        entry: Entry,
-        key: K,
-        f: F,
-        value: V,
-    ) -> bool
-    where
-        F: Drop,
-        requires place { IsPlaceOf K.hash (H.stripes self.old.held) (K.name key) place }
-        requires entry { IsEntryOf K.hash (H.stripes self.old.held) (K.name key) place entry }
-        requires call { F.IsAlwaysCallable f }
-        ensures call { MatchBool result
-            (IsCall (effect K.hash H.stripes place self.old self.new) (K.name key)
-            (Upsert value) New)
-            ((v w : V) × F.post f v w × IsCall (effect K.hash H.stripes place self.old self.new)
-            (K.name key) (Upsert value) (Done v w)) }
-        ensures rest { ChangesContents (H.stripes self.old.held) (H.stripes self.new.held) }
-        ensures s { self.new.s ≡ self.old.s }
-        ensures stays { H.stays self.old.held self.new.held }
-    {
-        match entry {
-            Entry::Occupied(old) => {
-                self.held.change(old.index, old.bucket, old.slot, f);
-                false
-            }
-            Entry::Vacant(at) => {
-                self.fill(place, at, key, value);
-                true
-            }
+        Entry::Vacant(at) => {
+            fill(held, place, at, key, value);
+            true
         }
     }
+}
 
-    // Puts an unbound key into its slot.
-    fn fill(&mut self, place: KeyPlace, at: HeldSlot, key: K, value: V)
-        requires place { IsPlaceOf K.hash (H.stripes self.old.held) (K.name key) place }
-        requires vacant { IsVacant K.hash (H.stripes self.old.held) (K.name key) place at }
-        ensures call { (act : Act V) (reply : Reply V) → Answers act None reply (Some value)
-            → IsCall (effect K.hash H.stripes place self.old self.new) (K.name key) act reply }
-        ensures rest { ChangesContents (H.stripes self.old.held) (H.stripes self.new.held) }
-        ensures s { self.new.s ≡ self.old.s }
-        ensures stays { H.stays self.old.held self.new.held }
-    {
-        let partial = place.partial;
-        self.held
-            .place(at.index, at.bucket, at.slot, partial, key, value);
-    }
+// Puts an unbound key into its slot.
+fn fill<K: TableKey + Drop, V: Drop, H: Held<K, V>>(
+    held: &mut H,
+    place: KeyPlace,
+    at: HeldSlot,
+    key: K,
+    value: V,
+)
+    requires place { IsPlaceOf K.hash (H.stripes held.old) (K.name key) place }
+    requires vacant { IsVacant K.hash (H.stripes held.old) (K.name key) place at }
+    ensures call { (act : Act V) (reply : Reply V) → Answers act None reply (Some value)
+        → IsCall (effect K.hash H.stripes place held.old held.new) (K.name key) act reply }
+    ensures rest { ChangesContents (H.stripes held.old) (H.stripes held.new) }
+    ensures stays { H.stays held.old held.new }
+{
+    let partial = place.partial;
+    held.place(at.index, at.bucket, at.slot, partial, key, value);
 }

@@ -8,7 +8,9 @@ use crate::fixtures::name_of;
 use ck_key::NumKey;
 use ck_model::history::Name;
 use ck_oracle::map::PlainMap;
-use ck_section::{Pair, are_all, place_in_all};
+use ck_section::{
+    Slice, are_all, assign, erase, find, find_entry, insert, place_in_all, update, upsert,
+};
 use ck_stripe::Stripe;
 use rand_core::Rng;
 use rand_pcg::Lcg64Xsh32;
@@ -138,52 +140,52 @@ fn find_in(stripes: &mut [Stripe<NumKey, u64>], key: NumKey) -> Option<u64>
     requires { AreAll 2 stripes.old }
 {
     let place = place_in_all(stripes, S, &key);
-    let mut held = Pair::over(stripes);
-    held.find(place, &key, |value| *value)
+    let mut held = Slice { stripes };
+    find(&mut held, place, &key, |value| *value)
 }
 
 fn insert_in(stripes: &mut [Stripe<NumKey, u64>], key: NumKey, value: u64) -> Option<bool>
     requires { AreAll 2 stripes.old }
 {
     let place = place_in_all(stripes, S, &key);
-    let mut held = Pair::over(stripes);
-    let entry = held.entry(place, &key)?;
-    Some(held.insert(place, entry, key, value))
+    let mut held = Slice { stripes };
+    let entry = find_entry(&mut held, place, &key)?;
+    Some(insert(&mut held, place, entry, key, value))
 }
 
 fn assign_in(stripes: &mut [Stripe<NumKey, u64>], key: NumKey, value: u64) -> Option<Option<u64>>
     requires { AreAll 2 stripes.old }
 {
     let place = place_in_all(stripes, S, &key);
-    let mut held = Pair::over(stripes);
-    let entry = held.entry(place, &key)?;
-    Some(held.assign(place, entry, key, value))
+    let mut held = Slice { stripes };
+    let entry = find_entry(&mut held, place, &key)?;
+    Some(assign(&mut held, place, entry, key, value))
 }
 
 fn update_in(stripes: &mut [Stripe<NumKey, u64>], key: NumKey, value: u64) -> Option<u64>
     requires { AreAll 2 stripes.old }
 {
     let place = place_in_all(stripes, S, &key);
-    let mut held = Pair::over(stripes);
-    held.update(place, &key, value)
+    let mut held = Slice { stripes };
+    update(&mut held, place, &key, value)
 }
 
 fn upsert_in(stripes: &mut [Stripe<NumKey, u64>], key: NumKey, value: u64) -> Option<bool>
     requires { AreAll 2 stripes.old }
 {
     let place = place_in_all(stripes, S, &key);
-    let mut held = Pair::over(stripes);
-    let entry = held.entry(place, &key)?;
+    let mut held = Slice { stripes };
+    let entry = find_entry(&mut held, place, &key)?;
     let add = |old: u64| old.wrapping_add(value);
-    Some(held.upsert(place, entry, key, add, value))
+    Some(upsert(&mut held, place, entry, key, add, value))
 }
 
 fn erase_in(stripes: &mut [Stripe<NumKey, u64>], key: NumKey) -> Option<u64>
     requires { AreAll 2 stripes.old }
 {
     let place = place_in_all(stripes, S, &key);
-    let mut held = Pair::over(stripes);
-    held.erase(place, &key)
+    let mut held = Slice { stripes };
+    erase(&mut held, place, &key)
 }
 
 /// What the operation replies, or `None` where there is no room for the key.

@@ -1,9 +1,12 @@
 //! Calls on all stripes of small tables, as rows of data.
-ghost use Rattle.std.specs.Prelude.{◌≡◌, ◌≢◌, ◌≤◌, ◌∷◌, [], IfOk};
+ghost use Rattle.std.specs.Prelude.{◌≢◌, ◌≤◌, ◌∷◌, [], IfOk};
 ghost use Rattle.ck_section.specs.Places.{AreAllHeld};
 
 use ck_key::{KeyHash, NumKey};
-use ck_section::{Hop, Pair, Slice, key_place};
+use ck_section::{
+    Hop, Slice, assign, change, erase, find, find_entry, insert, key_place, make_hop, update,
+    update_two, upsert,
+};
 use ck_stripe::Stripe;
 use std::alloc::{AllocError, Global};
 use std::process::Abort;
@@ -40,35 +43,28 @@ enum Act {
 const NO_ROOM: u64 = 999;
 
 // What a call answers: the value that was found or stood before, or how many names it bound anew.
-fn apply(
-    held: &mut Pair<NumKey, u64, Slice<NumKey, u64>>,
-    number: u64,
-    act: Act,
-) -> Option<u64>
-    requires { AreAllHeld held.old.s held.old.held.stripes.now }
-    ensures held { AreAllHeld held.new.s held.new.held.stripes.now }
-    ensures s { held.new.s ≡ held.old.s }
+fn apply(held: &mut Slice<NumKey, u64>, s: u32, number: u64, act: Act) -> Option<u64>
+    requires { AreAllHeld s held.old.stripes.now }
+    ensures { AreAllHeld s held.new.stripes.now }
 {
     let key = NumKey(number);
-    let place = key_place(&mut held.held, held.s, &key, KeyHash::of(&key));
+    let place = key_place(held, s, &key, KeyHash::of(&key));
     match act {
-        Act::Find(more) => held.find(place, &key, |v| v.saturating_add(more)),
-        Act::Update(value) => held.update(place, &key, value),
-        Act::Add(more) => held
-            .change(place, &key, |v| v.saturating_add(more))
-            .then_some(1),
-        Act::Erase => held.erase(place, &key),
+        Act::Find(more) => find(held, place, &key, |v| v.saturating_add(more)),
+        Act::Update(value) => update(held, place, &key, value),
+        Act::Add(more) => change(held, place, &key, |v| v.saturating_add(more)).then_some(1),
+        Act::Erase => erase(held, place, &key),
         Act::Insert(_) | Act::Assign(_) | Act::Upsert(..) => {
-            let Some(entry) = held.entry(place, &key) else {
+            let Some(entry) = find_entry(held, place, &key) else {
                 return Some(NO_ROOM);
             };
             match act {
-                Act::Assign(value) => held.assign(place, entry, key, value),
+                Act::Assign(value) => assign(held, place, entry, key, value),
                 Act::Upsert(more, value) => {
                     let add = |v: u64| v.saturating_add(more);
-                    Some(held.upsert(place, entry, key, add, value) as u64)
+                    Some(upsert(held, place, entry, key, add, value) as u64)
                 }
-                Act::Insert(value) => Some(held.insert(place, entry, key, value) as u64),
+                Act::Insert(value) => Some(insert(held, place, entry, key, value) as u64),
                 _ => None,
             }
         }
@@ -76,16 +72,15 @@ fn apply(
 }
 
 // Adds to the value of the first key what is taken from that of the second, and says whether both were bound.
-fn shift(held: &mut Pair<NumKey, u64, Slice<NumKey, u64>>, a: u64, b: u64) -> bool
-    requires all { AreAllHeld held.old.s held.old.held.stripes.now }
+fn shift(held: &mut Slice<NumKey, u64>, s: u32, a: u64, b: u64) -> bool
+    requires all { AreAllHeld s held.old.stripes.now }
     requires different { a ≢ b }
-    ensures held { AreAllHeld held.new.s held.new.held.stripes.now }
-    ensures s { held.new.s ≡ held.old.s }
+    ensures { AreAllHeld s held.new.stripes.now }
 {
     let (a, b) = (NumKey(a), NumKey(b));
-    let place_a = key_place(&mut held.held, held.s, &a, KeyHash::of(&a));
-    let place_b = key_place(&mut held.held, held.s, &b, KeyHash::of(&b));
-    held.update_two(&a, place_a, &b, place_b, |v, w| {
+    let place_a = key_place(held, s, &a, KeyHash::of(&a));
+    let place_b = key_place(held, s, &b, KeyHash::of(&b));
+    update_two(held, &a, place_a, &b, place_b, |v, w| {
         (v.saturating_add(1), w.saturating_sub(1))
     })
 }
@@ -96,7 +91,9 @@ fn shift(held: &mut Pair<NumKey, u64, Slice<NumKey, u64>>, a: u64, b: u64) -> bo
 fn one_key(rt: HostRuntime) -> Result<(), Fail> {
     for s in 0..3u32 {
         let mut stripes = open_all(rt.alloc(), s, 2)?;
-        let mut held = Pair::over(&mut stripes);
+        let mut held = Slice {
+            stripes: &mut stripes,
+        };
         for (row, (key, act, want)) in [
             (9, Act::Update(1), None),
             (9, Act::Insert(1), Some(1)),
@@ -130,7 +127,7 @@ fn one_key(rt: HostRuntime) -> Result<(), Fail> {
         .into_iter()
         .enumerate()
         {
-            assert_eq!(rt; apply(&mut held, key, act), want, "row {row}");
+            assert_eq!(rt; apply(&mut held, s, key, act), want, "row {row}");
         }
     }
     Ok(())
@@ -141,9 +138,11 @@ fn one_key(rt: HostRuntime) -> Result<(), Fail> {
 fn two_keys(rt: HostRuntime) -> Result<(), Fail> {
     for s in 0..3u32 {
         let mut stripes = open_all(rt.alloc(), s, 2)?;
-        let mut held = Pair::over(&mut stripes);
+        let mut held = Slice {
+            stripes: &mut stripes,
+        };
         for (key, value) in [(0, 10), (u64::MAX, 20), (3, 30)] {
-            let _new = apply(&mut held, key, Act::Insert(value));
+            let _new = apply(&mut held, s, key, Act::Insert(value));
         }
         for (row, (a, b, want, of_a, of_b)) in [
             (0u64, u64::MAX, true, Some(11), Some(19)),
@@ -156,37 +155,34 @@ fn two_keys(rt: HostRuntime) -> Result<(), Fail> {
         .enumerate()
         {
             assert!(rt; a != b);
-            assert_eq!(rt; shift(&mut held, a, b), want, "row {row}");
-            assert_eq!(rt; apply(&mut held, a, Act::Find(0)), of_a, "row {row}");
-            assert_eq!(rt; apply(&mut held, b, Act::Find(0)), of_b, "row {row}");
+            assert_eq!(rt; shift(&mut held, s, a, b), want, "row {row}");
+            assert_eq!(rt; apply(&mut held, s, a, Act::Find(0)), of_a, "row {row}");
+            assert_eq!(rt; apply(&mut held, s, b, Act::Find(0)), of_b, "row {row}");
         }
     }
     Ok(())
 }
 
 // Tries the hop of an entry of bucket 1 of a table of two stripes.
-fn try_hop(
-    rt: &impl Abort,
-    held: &mut Pair<NumKey, u64, Slice<NumKey, u64>>,
-    power: u32,
-    partial: u8,
-) -> bool
-    requires all { AreAllHeld 1 held.old.held.stripes.now }
-    requires s { held.old.s ≡ 1 }
+fn try_hop(rt: &impl Abort, held: &mut Slice<NumKey, u64>, power: u32, partial: u8) -> bool
+    requires all { AreAllHeld 1 held.old.stripes.now }
     requires least { 1 ≤ power }
     requires most { power ≤ 26 }
-    ensures held { AreAllHeld 1 held.new.held.stripes.now }
-    ensures s { held.new.s ≡ 1 }
+    ensures { AreAllHeld 1 held.new.stripes.now }
 {
     let target = ck_key::alternate(power, partial, 1);
     assert!(rt; target % 2 == 1);
-    held.hop(Hop {
-        power,
-        bucket: 1,
-        slot: 0,
-        partial,
-        target,
-    })
+    make_hop(
+        held,
+        1,
+        Hop {
+            power,
+            bucket: 1,
+            slot: 0,
+            partial,
+            target,
+        },
+    )
 }
 
 /// Key 1 is in slot 0 of bucket 1, and its other bucket is 3, which is free in the first rows, and full of keys without
@@ -200,16 +196,18 @@ fn hops(rt: HostRuntime) -> Result<(), Fail> {
         (true, 2, 1, &[false, false]),
     ] {
         let mut stripes = open_all(rt.alloc(), 1, 2)?;
-        let mut held = Pair::over(&mut stripes);
+        let mut held = Slice {
+            stripes: &mut stripes,
+        };
         if full {
             for key in [3, 7, 11, 15] {
-                let _new = apply(&mut held, key, Act::Insert(0));
+                let _new = apply(&mut held, 1, key, Act::Insert(0));
             }
         }
-        let _new = apply(&mut held, 1, Act::Insert(10));
+        let _new = apply(&mut held, 1, 1, Act::Insert(10));
         for want in want {
             assert_eq!(rt; try_hop(&rt, &mut held, power, partial), *want);
-            assert_eq!(rt; apply(&mut held, 1, Act::Find(0)), Some(10));
+            assert_eq!(rt; apply(&mut held, 1, 1, Act::Find(0)), Some(10));
         }
     }
     Ok(())

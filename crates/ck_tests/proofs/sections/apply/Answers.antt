@@ -2,4 +2,4 @@ use Rattle.ck_section.proofs.Kept.{has_both}
 use Rattle.ck_tests.proofs.sections.apply.Goals as goal
 
 pub key_place-place-requires-clause-owned : goal.key_place-place-requires-clause-owned
-key_place-place-requires-clause-owned c = has_both c.args.held.now.s c.args.held.now.held.stripes.now c.requires _ _
+key_place-place-requires-clause-owned c = has_both c.args.s c.args.held.now.stripes.now c.requires _ _

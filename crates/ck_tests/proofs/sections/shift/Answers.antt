@@ -2,9 +2,9 @@ use Rattle.ck_section.proofs.Kept.{has_both, all_same}
 use Rattle.ck_tests.proofs.sections.shift.Goals as goal
 
 pub key_place-place_a-requires-clause-owned : goal.key_place-place_a-requires-clause-owned
-key_place-place_a-requires-clause-owned c = has_both c.args.held.now.s c.args.held.now.held.stripes.now c.requires.all _ _
+key_place-place_a-requires-clause-owned c = has_both c.args.s c.args.held.now.stripes.now c.requires.all _ _
 
 pub key_place-place_b-requires-clause-owned : goal.key_place-place_b-requires-clause-owned
 key_place-place_b-requires-clause-owned c =
-    has_both c.args.held.now.s c.key_place-place_a.new.held.stripes.now
-    (all_same c.args.held.now.s c.args.held.now.held.stripes.now c.key_place-place_a.new.held.stripes.now c.requires.all c.key_place-place_a.ensures.same) _ _
+    has_both c.args.s c.key_place-place_a.new.held.stripes.now
+    (all_same c.args.s c.args.held.now.stripes.now c.key_place-place_a.new.held.stripes.now c.requires.all c.key_place-place_a.ensures.same) _ _

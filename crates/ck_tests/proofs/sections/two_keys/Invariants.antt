@@ -1,9 +1,8 @@
-use Rattle.std.proofs.Common.{◌≡◌}
 use Rattle.ck_section.specs.Places.{AreAllHeld}
 use Rattle.ck_tests.proofs.sections.two_keys.Given as goal
 
 abbrev pub invariant-loop-key : goal.invariant-loop-key
-invariant-loop-key g l = AreAllHeld l.s l.held.held.stripes.now × (l.held.s ≡ l.s)
+invariant-loop-key g l = AreAllHeld l.s l.held.stripes.now
 
 abbrev pub invariant-loop-row : goal.invariant-loop-row
-invariant-loop-row g l = AreAllHeld l.s l.held.held.stripes.now × (l.held.s ≡ l.s)
+invariant-loop-row g l = AreAllHeld l.s l.held.stripes.now

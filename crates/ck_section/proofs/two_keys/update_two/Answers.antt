@@ -4,7 +4,7 @@ use Rattle.ck_section.specs.Places.{IsNowhere, IsPlaceOf}
 use Rattle.ck_section.proofs.Steps.{unchanged, reach_still, full_still}
 use Rattle.ck_section.proofs.Rebound.{first_lacks, second_lacks}
 use Rattle.ck_section.proofs.Exchanged.{partial_first, second_reach, second_full, partial_second, first_reach, first_free, again_reach, again_free, exchanged, exchanged_contents}
-use Rattle.ck_section.proofs.pair.Pair.update_two.Goals as goal
+use Rattle.ck_section.proofs.two_keys.update_two.Goals as goal
 
 pub returns-in_default-clause-call : goal.returns-in_default-clause-call
 returns-in_default-clause-call g c =
@@ -96,13 +96,13 @@ pub returns-in_default-find_slot-clause-stays : goal.returns-in_default-find_slo
 returns-in_default-find_slot-clause-stays g c = g.met.H.Held.stays_on _ _ _ c.find_slot.ensures.stays c.find_slot-2.ensures.stays
 
 pub remove-key_a-requires-clause-reach : goal.remove-key_a-requires-clause-reach
-remove-key_a-requires-clause-reach g c = reach_still (g.H.Held.stripes c.args.self.now.held) (g.H.Held.stripes c.find_slot-2.new.held) (c.find_slot-2.ensures.same ∙ c.find_slot.ensures.same) c.in-Some.at_a.index c.in-Some.at_a.bucket c.in-Some.ensures.occupied.slot.reach
+remove-key_a-requires-clause-reach g c = reach_still (g.H.Held.stripes c.args.held.now) (g.H.Held.stripes c.find_slot-2.new.held) (c.find_slot-2.ensures.same ∙ c.find_slot.ensures.same) c.in-Some.at_a.index c.in-Some.at_a.bucket c.in-Some.ensures.occupied.slot.reach
 
 pub remove-key_a-requires-clause-below : goal.remove-key_a-requires-clause-below
 remove-key_a-requires-clause-below g c = c.in-Some.ensures.occupied.slot.below
 
 pub remove-key_a-requires-clause-full : goal.remove-key_a-requires-clause-full
-remove-key_a-requires-clause-full g c = full_still (g.H.Held.stripes c.args.self.now.held) (g.H.Held.stripes c.find_slot-2.new.held) (c.find_slot-2.ensures.same ∙ c.find_slot.ensures.same) c.in-Some.at_a (g.K.TableKey.name c.args.a.now) c.in-Some.ensures.occupied.found
+remove-key_a-requires-clause-full g c = full_still (g.H.Held.stripes c.args.held.now) (g.H.Held.stripes c.find_slot-2.new.held) (c.find_slot-2.ensures.same ∙ c.find_slot.ensures.same) c.in-Some.at_a (g.K.TableKey.name c.args.a.now) c.in-Some.ensures.occupied.found
 
 pub remove-key_b-requires-clause-below : goal.remove-key_b-requires-clause-below
 remove-key_b-requires-clause-below g c = c.in-Some-find_slot.ensures.occupied.slot.below

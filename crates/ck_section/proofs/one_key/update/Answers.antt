@@ -2,7 +2,7 @@ use Rattle.std.proofs.Common.{refl, None}
 use Rattle.ck_model.specs.declared.history.Act.TheVariants.{Update}
 use Rattle.ck_model.specs.declared.history.Reply.TheVariants.{Was}
 use Rattle.ck_section.proofs.Steps.{replied_none, lacked, swapped, unchanged, reach_still, full_still}
-use Rattle.ck_section.proofs.pair.Pair.update.Goals as goal
+use Rattle.ck_section.proofs.one_key.update.Goals as goal
 
 pub returns-in_err-at-clause-call : goal.returns-in_err-at-clause-call
 returns-in_err-at-clause-call g c = replied_none _ _ _ _ _ _ _ c.from_residual.ensures (lacked _ _ _ _ c.requires _ c.find_slot.ensures.same (Update c.args.value) (Was None) c.in_err-at.ensures.nowhere (refl, refl))

@@ -4,12 +4,12 @@ use Rattle.ck_section.specs.Stripes.{stripe_at}
 use Rattle.ck_section.specs.Places.{HasStripe}
 use Rattle.ck_section.specs.Hops.{IsHopIn, IsNoCall}
 use Rattle.ck_section.specs.Calls.{ChangesContents}
-use Rattle.ck_section.proofs.pair.Pair.hop.Goals as goal
+use Rattle.ck_section.proofs.hop.make_hop.Goals as goal
 
 pub returns-clause-hopped : goal.returns-clause-hopped
 returns-clause-hopped g c =
     let V : Type 0 = g.row.V.Denot in
-    let stripes : List (StripeState V) = g.H.Held.stripes c.args.self.now.held in
+    let stripes : List (StripeState V) = g.H.Held.stripes c.args.held.now in
     let held = c.requires.held in
     let i : ℕ = c.bucket_index-from.result in
     let j : ℕ = c.bucket_index-to.result in
@@ -17,7 +17,7 @@ returns-clause-hopped g c =
     let same : (g.H.Held.stripes c.bucket_index-to.new.held) ≡ stripes = c.bucket_index-to.ensures.same ∙ first in
     let inside_i : i < length stripes = c.bucket_index-from.ensures.inside in
     let inside_j : j < length stripes = subst (λ (l : List (StripeState V)). j < length l) first c.bucket_index-to.ensures.inside in
-    let number_j : (stripe_at stripes j).number ≡ c.args.hop.target % 2 ^ c.args.self.now.s = ap (λ (l : List (StripeState V)). (stripe_at l j).number) (sym first) ∙ c.bucket_index-to.ensures.number in
+    let number_j : (stripe_at stripes j).number ≡ c.args.hop.target % 2 ^ c.args.s = ap (λ (l : List (StripeState V)). (stripe_at l j).number) (sym first) ∙ c.bucket_index-to.ensures.number in
     let is : IsHopIn stripes i j c.args.hop = record {
       first = inside_i;
       second = inside_j;
@@ -35,9 +35,9 @@ returns-clause-hopped g c =
 pub returns-clause-no_call : goal.returns-clause-no_call
 returns-clause-no_call g c =
     let V : Type 0 = g.row.V.Denot in
-    let stripes : List (StripeState V) = g.H.Held.stripes c.args.self.now.held in
+    let stripes : List (StripeState V) = g.H.Held.stripes c.args.held.now in
     let same : (g.H.Held.stripes c.bucket_index-to.new.held) ≡ stripes = c.bucket_index-to.ensures.same ∙ c.bucket_index-from.ensures.same in
-    let s : (stripe_at (g.H.Held.stripes c.bucket_index-to.new.held) c.bucket_index-from.result).s ≡ c.args.self.now.s =
+    let s : (stripe_at (g.H.Held.stripes c.bucket_index-to.new.held) c.bucket_index-from.result).s ≡ c.args.s =
     ap (λ (l : List (StripeState V)). (stripe_at l c.bucket_index-from.result).s) same ∙ c.requires.held.one_s c.bucket_index-from.result c.bucket_index-from.ensures.inside in
     subst (λ (x : ℕ × List (StripeState V)). IsNoCall g.K.TableKey.hash x.0 x.1 (g.H.Held.stripes c.move_entry.new.held)) (λ z. (s z, same z)) c.move_entry.ensures.no_call
 
@@ -51,4 +51,4 @@ pub bucket_index-from-requires-clause-owned : goal.bucket_index-from-requires-cl
 bucket_index-from-requires-clause-owned g c = c.requires.source_owned
 
 pub bucket_index-to-requires-clause-owned : goal.bucket_index-to-requires-clause-owned
-bucket_index-to-requires-clause-owned g c = subst (λ (l : List (StripeState g.row.V.Denot)). HasStripe l (c.args.hop.target % 2 ^ c.args.self.now.s)) (sym c.bucket_index-from.ensures.same) c.requires.target_owned
+bucket_index-to-requires-clause-owned g c = subst (λ (l : List (StripeState g.row.V.Denot)). HasStripe l (c.args.hop.target % 2 ^ c.args.s)) (sym c.bucket_index-from.ensures.same) c.requires.target_owned

@@ -2,7 +2,7 @@ use Rattle.std.proofs.Common.{refl, None}
 use Rattle.ck_model.specs.declared.history.Act.TheVariants.{Assign}
 use Rattle.ck_model.specs.declared.history.Reply.TheVariants.{Was}
 use Rattle.ck_section.proofs.Steps.{occupied_here, vacant_here, swapped, full_still}
-use Rattle.ck_section.proofs.pair.Pair.assign.Goals as goal
+use Rattle.ck_section.proofs.one_key.assign.Goals as goal
 
 pub returns-in-Occupied-clause-call : goal.returns-in-Occupied-clause-call
 returns-in-Occupied-clause-call g c = (swapped _ _ _ _ c.requires.place _ refl c.in-Occupied.old (occupied_here _ _ _ _ c.args.entry c.in-Occupied.old c.in-Occupied.is c.requires.entry) (Assign c.args.value) _ _ _ (λ v. (refl, refl)) c.replace.ensures.content).0

@@ -2,7 +2,7 @@ use Rattle.std.proofs.Common.{refl}
 use Rattle.ck_model.specs.declared.history.Act.TheVariants.{Insert}
 use Rattle.ck_model.specs.declared.history.Reply.TheVariants.{New, Old}
 use Rattle.ck_section.proofs.Steps.{occupied_here, vacant_here, kept, unchanged}
-use Rattle.ck_section.proofs.pair.Pair.insert.Goals as goal
+use Rattle.ck_section.proofs.one_key.insert.Goals as goal
 
 pub returns-in-Occupied-clause-call : goal.returns-in-Occupied-clause-call
 returns-in-Occupied-clause-call g c =

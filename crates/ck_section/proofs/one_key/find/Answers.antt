@@ -2,7 +2,7 @@ use Rattle.std.proofs.Common.{refl, None, Some, ◌∙◌}
 use Rattle.ck_model.specs.declared.history.Act.TheVariants.{Find}
 use Rattle.ck_model.specs.declared.history.Reply.TheVariants.{Was}
 use Rattle.ck_section.proofs.Steps.{none_anyway, lacked, found_in, kept, reach_still, full_still}
-use Rattle.ck_section.proofs.pair.Pair.find.Goals as goal
+use Rattle.ck_section.proofs.one_key.find.Goals as goal
 
 pub returns-in_err-at-clause-unbound : goal.returns-in_err-at-clause-unbound
 returns-in_err-at-clause-unbound g c = none_anyway c.from_residual.result _ (lacked _ _ _ _ c.requires.place _ c.find_slot.ensures.same Find (Was None) c.in_err-at.ensures.nowhere (refl, refl))

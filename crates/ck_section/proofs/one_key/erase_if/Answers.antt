@@ -4,7 +4,7 @@ use Rattle.ck_model.specs.declared.history.Reply.TheVariants.{Was}
 use Rattle.ck_stripe.specs.Stripe.{StripeState}
 use Rattle.ck_section.specs.Places.{slot_in}
 use Rattle.ck_section.proofs.Steps.{lacked, found_in, kept, took, unchanged, reach_still, full_still, slot_changes}
-use Rattle.ck_section.proofs.pair.Pair.erase_if.Goals as goal
+use Rattle.ck_section.proofs.one_key.erase_if.Goals as goal
 
 pub returns-in_default-clause-unbound : goal.returns-in_default-clause-unbound
 returns-in_default-clause-unbound g c = (refl, lacked _ _ _ _ c.requires.place _ c.find_slot.ensures.same Find (Was None) c.in_default.ensures.nowhere (refl, refl), c.find_slot.ensures.same)

@@ -1,6 +1,6 @@
 use Rattle.std.proofs.Common.{refl}
 use Rattle.ck_section.proofs.Steps.{put, slot_changes}
-use Rattle.ck_section.proofs.pair.Pair.fill.Goals as goal
+use Rattle.ck_section.proofs.one_key.fill.Goals as goal
 
 pub place-requires-clause-reach : goal.place-requires-clause-reach
 place-requires-clause-reach g c = c.requires.vacant.slot.reach
@@ -13,10 +13,10 @@ place-requires-clause-free g c = c.requires.vacant.next.0
 
 pub returns-clause-call : goal.returns-clause-call
 returns-clause-call g c act reply answers =
-    let stripes = g.H.Held.stripes c.args.self.now.held in
+    let stripes = g.H.Held.stripes c.args.held.now in
     put g.K.TableKey.hash stripes (g.K.TableKey.name c.args.key) c.args.place c.requires.place stripes refl c.args.at c.requires.vacant act reply c.args.value _ answers c.place.ensures.content
 
 pub returns-clause-rest : goal.returns-clause-rest
 returns-clause-rest g c =
-    let stripes = g.H.Held.stripes c.args.self.now.held in
+    let stripes = g.H.Held.stripes c.args.held.now in
     slot_changes stripes stripes _ c.args.at _ _ refl c.requires.vacant.slot.reach c.place.ensures.content

@@ -6,7 +6,7 @@ use Rattle.ck_section.specs.declared.place.HeldSlot.{HeldSlot}
 use Rattle.ck_section.specs.Places.{IsSlotOf, IsNowhere, IsNext, AreFull}
 use Rattle.ck_section.specs.Entries.{IsVacant}
 use Rattle.ck_section.proofs.Steps.{none_anyway, bound_with_room, with_room, without_room}
-use Rattle.ck_section.proofs.pair.Pair.entry.Goals as goal
+use Rattle.ck_section.proofs.entry.find_entry.Goals as goal
 
 -- what was found in stripes that are as they were
 vacant_there : {V : Type 0} (hash : Name → ℕ) (stripes cur : List (StripeState V)) (q : Name) (place : KeyPlace) → cur ≡ stripes → (at : HeldSlot)

@@ -2,7 +2,7 @@ use Rattle.std.proofs.Common.{refl}
 use Rattle.ck_model.specs.declared.history.Act.TheVariants.{Change}
 use Rattle.ck_model.specs.declared.history.Reply.TheVariants.{Absent}
 use Rattle.ck_section.proofs.Steps.{lacked, remade, unchanged, reach_still, full_still}
-use Rattle.ck_section.proofs.pair.Pair.change.Goals as goal
+use Rattle.ck_section.proofs.one_key.change.Goals as goal
 
 pub returns-in_default-clause-call : goal.returns-in_default-clause-call
 returns-in_default-clause-call g c = lacked _ _ _ _ c.requires.place _ c.find_slot.ensures.same Change Absent c.in_default.ensures.nowhere (refl, refl)

@@ -2,7 +2,7 @@ use Rattle.std.proofs.Common.{refl}
 use Rattle.ck_model.specs.declared.history.Act.TheVariants.{Upsert}
 use Rattle.ck_model.specs.declared.history.Reply.TheVariants.{New}
 use Rattle.ck_section.proofs.Steps.{occupied_here, vacant_here, remade, full_still}
-use Rattle.ck_section.proofs.pair.Pair.upsert.Goals as goal
+use Rattle.ck_section.proofs.one_key.upsert.Goals as goal
 
 pub returns-in-Occupied-clause-call : goal.returns-in-Occupied-clause-call
 returns-in-Occupied-clause-call g c = (remade _ _ _ _ c.requires.place _ refl c.in-Occupied.old (occupied_here _ _ _ _ c.args.entry c.in-Occupied.old c.in-Occupied.is c.requires.entry) _ (Upsert c.args.value) _ (λ v w. (w, refl, refl)) c.change.ensures.content).0
