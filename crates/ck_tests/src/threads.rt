@@ -351,7 +351,8 @@ fn there_and_back(rt: HostRuntime) -> Result<(), Fail> {
     let mut first = table.caller(pass);
     let after = answer(&mut first, Call::Find(0));
     assert!(rt; after == Reply::Was(Some(CALLS)));
-    let pairs = close(alloc, table, first.into_pass(), second, third)?;
+    let first = first.into_pass();
+    let pairs = close(alloc, table, first, second, third)?;
     assert_eq!(rt; pairs.as_slice(), [(NumKey(0), CALLS)].as_slice());
     Ok(())
 }
