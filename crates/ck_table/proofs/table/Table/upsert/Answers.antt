@@ -1,7 +1,6 @@
 use Rattle.std.proofs.Common.{◌∙◌, List, sym, refl, ap, subst}
 use Rattle.std.specs.Fn.{FnOnceReturns}
 use Rattle.ck_model.specs.declared.history.Act.TheVariants.{Upsert}
-use Rattle.ck_model.specs.declared.history.Call.TheVariants.{On}
 use Rattle.ck_stripe.specs.Stripe.{StripeState}
 use Rattle.ck_section.specs.Calls.{IsCall, IsWithoutRoom}
 use Rattle.ck_table.specs.Insertions.{HasFoundNoRoom, IsInserted, IsRefused}
