@@ -1,5 +1,5 @@
 -- A call leaves its caller the table and the number.
-use Rattle.std.proofs.Common.{◌≡◌, ℕ, Result, Ok, Err, Some, None, Bool, true, false, ap, ◌∙◌}
+use Rattle.std.proofs.Common.{◌≡◌, Result, Ok, Err, Some, None, Bool, true, false, ap, ◌∙◌}
 use Rattle.std.specs.Prelude.{Option, IfOk, IfErr, MatchOption, MatchBool}
 use Rattle.ck_words.specs.Words.{WordsState}
 use Rattle.ck_words.specs.Passes.{PassState}
