@@ -1,5 +1,5 @@
 //! Searches at power 8 that were worked out by hand.
-use ck_path::{PathHop, Path, Search};
+use ck_path::{Path, PathHop, Search};
 use std::process::Abort;
 use std::test::Fail;
 
