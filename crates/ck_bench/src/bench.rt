@@ -3,7 +3,7 @@
 ghost use Rattle.std.specs.Prelude.{◌<◌, ⊤};
 
 use crate::calls::{CALLS, Call, KEYS, KINDS, MOST, TIMES, random_keys};
-use crate::table::{Caller, callers, open};
+use crate::table::{Caller, NumTable, SETTINGS};
 use crate::worker::{Kind, Worker};
 use std::alloc::{AllocError, Global};
 use std::rt::Clock;
@@ -206,8 +206,10 @@ fn print(rt: &impl Print, benches: &mut [Bench]) -> io::Result<()> {
 
 /// Measures and prints.
 pub fn run<R: Threads + Clock + Print + Sync>(rt: &R, alloc: Global) -> io::Result<()> {
-    let (table, passes) = open(alloc)?;
-    let mut callers = callers(alloc, &table, passes)?;
+    let Ok((table, passes)) = NumTable::open(alloc, SETTINGS) else {
+        return Err(io::ErrorKind::OutOfMemory.into());
+    };
+    let mut callers = table.callers(alloc, passes)?;
     let mut benches = open_benches(alloc, &mut callers)?;
     let others = random_keys(alloc, 2027)?;
     measure(rt, alloc, &mut benches, &others)?;

@@ -118,7 +118,7 @@ impl Calls for Buckets {
             return Some(false);
         }
         let (bucket, slot) = pair.find_free(&self.buckets)?;
-        self.buckets[bucket].put(slot, key, value);
+        self.buckets[bucket].put(slot, pair.partial, key, value);
         Some(true)
     }
 }

@@ -5,7 +5,7 @@ ghost use Rattle.ck_section.specs.Whole.{AreAll};
 
 use crate::calls::{Calls, POWER};
 use ck_key::NumKey;
-use ck_section::{Slice, are_all, erase, find, insert, place_in_all, update};
+use ck_section::{Slice, are_all, erase, find, find_entry, insert, place_in_all, update};
 use ck_stripe::Stripe;
 use std::alloc::Global;
 use std::io;
@@ -57,7 +57,7 @@ fn find_in(stripes: &mut [Stripe<NumKey, u64>], key: NumKey) -> Option<u64>
 {
     let place = place_in_all(stripes, S, &key);
     let mut held = Slice { stripes };
-    Some(find(&mut held, place, &key, |value| *value)?.reply)
+    find(&mut held, place, &key, |value| *value)
 }
 
 fn update_in(stripes: &mut [Stripe<NumKey, u64>], key: NumKey, value: u64) -> Option<u64>
@@ -66,7 +66,7 @@ fn update_in(stripes: &mut [Stripe<NumKey, u64>], key: NumKey, value: u64) -> Op
 {
     let place = place_in_all(stripes, S, &key);
     let mut held = Slice { stripes };
-    Some(update(&mut held, place, &key, value)?.reply)
+    update(&mut held, place, &key, value)
 }
 
 fn erase_in(stripes: &mut [Stripe<NumKey, u64>], key: NumKey) -> Option<u64>
@@ -75,7 +75,7 @@ fn erase_in(stripes: &mut [Stripe<NumKey, u64>], key: NumKey) -> Option<u64>
 {
     let place = place_in_all(stripes, S, &key);
     let mut held = Slice { stripes };
-    Some(erase(&mut held, place, &key)?.reply)
+    erase(&mut held, place, &key)
 }
 
 fn insert_in(stripes: &mut [Stripe<NumKey, u64>], key: NumKey, value: u64) -> Option<bool>
@@ -84,5 +84,6 @@ fn insert_in(stripes: &mut [Stripe<NumKey, u64>], key: NumKey, value: u64) -> Op
 {
     let place = place_in_all(stripes, S, &key);
     let mut held = Slice { stripes };
-    Some(insert(&mut held, place, key, value).ok()?.reply)
+    let entry = find_entry(&mut held, place, &key)?;
+    Some(insert(&mut held, place, entry, key, value))
 }

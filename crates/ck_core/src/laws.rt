@@ -60,9 +60,9 @@ pub fn law_of_runs<V>()
 {}
 
 /// What each view shows while the law holds: what was seen and heard are beginnings of one legal history, which has of
-/// its caller just the entries that are its own, all of them seen. The held stripes are lawful, and where they are all
-/// stripes, the history leads to what they contain. Where a view keeps the numbers of all callers, the history is a
-/// shuffle of their entries.
+/// its caller just the entries that are its own, all of them seen. The held stripes are lawful, their power is no less
+/// than what was told and heard, and where they are all stripes, the history leads to what they contain. Where a view
+/// keeps the numbers of all callers, the history is a shuffle of their entries.
 pub fn law_of_views<V>()
     ensures { LawOfViews V }
 {}

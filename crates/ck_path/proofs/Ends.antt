@@ -4,9 +4,9 @@ use Rattle.std.specs.Prelude.{slice_get, IsTrue}
 use Rattle.std.proofs.lemmas.Bool.{cases_lt}
 use Rattle.std.proofs.lemmas.Option.{slice_get_within}
 use Rattle.ck_model.specs.Arithmetic.{alternate_of}
-use Rattle.ck_model.specs.declared.hop.Hop.{Hop}
+use Rattle.ck_model.specs.declared.hop.PathHop.{PathHop}
 use Rattle.ck_path.specs.declared.node.Node.{Node}
-use Rattle.ck_model.specs.Sketches.{Sketch, has_free, IsPathFrom, IsPath, HasNoPath}
+use Rattle.ck_model.specs.Sketches.{Sketch, has_free, IsSketchPathFrom, IsSketchPath, HasNoSketchPath}
 use Rattle.ck_path.specs.Route.{Route, IsSeenFrom, IsShortestPath}
 use Rattle.ck_path.specs.Queue.{Queue, IsBelow, IsSoundNode, IsSound}
 use Rattle.ck_path.specs.Progress.{Covers, IsSearchSeeing, IsSearchOver}
@@ -19,7 +19,7 @@ not_free true e h = cc
 not_free false e h = cc
 
 -- the parent of a node on the way
-hop_up : (q : Queue) → IsSound q → (n c : Node) (h : Hop) → IsHop q.nodes n h c → (c.depth ≡ n.depth + 1) × (c.bucket ≡ alternate_of q.power h.partial n.bucket)
+hop_up : (q : Queue) → IsSound q → (n c : Node) (h : PathHop) → IsHop q.nodes n h c → (c.depth ≡ n.depth + 1) × (c.bucket ≡ alternate_of q.power h.partial n.bucket)
 hop_up q sound n c h hop =
     let w : (m : Node) × IsBelow q.power q.nodes hop.k c m = (sound.each hop.k c hop.at).below hop.low in
     let is : w.0 ≡ n = same_get q.nodes c.parent w.0 n w.1.at hop.up in (
@@ -27,14 +27,14 @@ hop_up q sound n c h hop =
       cc (w.1.bucket, hop.partial, ap (λ (x : Node). x.bucket) is),
     )
 
-leads_depth : (q : Queue) (last : Node) → IsSound q → (hops : List Hop) (n : Node) → Leads q.nodes n hops last → n.depth + length hops ≡ last.depth
+leads_depth : (q : Queue) (last : Node) → IsSound q → (hops : List PathHop) (n : Node) → Leads q.nodes n hops last → n.depth + length hops ≡ last.depth
 leads_depth q last sound [] n leads = omega (arith, ap (λ (x : Node). x.depth) leads)
 leads_depth q last sound (h ∷ hops) n leads =
     omega (arith, leads_depth q last sound hops leads.0 leads.2, (hop_up q sound n leads.0 h leads.1).0)
 
 module _ (q : Queue) (sound : IsSound q) (Seen : ℕ → Sketch → Type 0) (p b1 b2 : ℕ) (sees : IsSearchSeeing Seen p b1 b2 q)
     (last : Node) (s : Sketch) (was_seen : Seen last.bucket s) (free : has_free s ≡ true) where
-  leads_seen : (hops : List Hop) (n : Node) → Leads q.nodes n hops last → IsSeenFrom Seen p n.bucket hops last.bucket
+  leads_seen : (hops : List PathHop) (n : Node) → Leads q.nodes n hops last → IsSeenFrom Seen p n.bucket hops last.bucket
   leads_seen [] n leads = (ap (λ (x : Node). x.bucket) leads, (s, subst (λ (x : Node). Seen x.bucket s) (sym leads) was_seen, free))
   leads_seen (h ∷ hops) n leads =
       let c : Node = leads.0 in
@@ -59,8 +59,8 @@ module _ (q : Queue) (sound : IsSound q) (Seen : ℕ → Sketch → Type 0) (p b
       ]
 
 -- where each bucket has one sketch
-path_from_seen : (p : ℕ) (sketches : ℕ → Sketch) (b : ℕ) (hops : List Hop) (end : ℕ)
-    → IsSeenFrom (λ x s. sketches x ≡ s) p b hops end → IsPathFrom p sketches b hops end
+path_from_seen : (p : ℕ) (sketches : ℕ → Sketch) (b : ℕ) (hops : List PathHop) (end : ℕ)
+    → IsSeenFrom (λ x s. sketches x ≡ s) p b hops end → IsSketchPathFrom p sketches b hops end
 path_from_seen p sketches b [] end path = (path.0, ap has_free path.1.1 ∙ path.1.2)
 path_from_seen p sketches b (h ∷ hops) end path =
     (path.0, ap has_free path.1.1 ∙ path.1.2, ap (λ u. slice_get u h.slot) path.1.1 ∙ path.1.3, path_from_seen p sketches (alternate_of p h.partial b) hops end path.2)
@@ -68,14 +68,14 @@ path_from_seen p sketches b (h ∷ hops) end path =
 module _ (p : ℕ) (sketches : ℕ → Sketch) (b1 b2 : ℕ) (q : Queue) (sound : IsSound q) (over : IsSearchOver p sketches b1 b2 q) where
   -- where all nodes above depth D were taken, no path ends above depth D
   dead : (D : ℕ) → D ≤ 5 → ((k : ℕ) (n : Node) → slice_get q.nodes k ≡ Some n → n.depth < D → k < q.taken)
-      → (hops : List Hop) (b d end : ℕ) → Covers q.nodes b d → d + length hops < D → IsPathFrom p sketches b hops end → ⊥
+      → (hops : List PathHop) (b d end : ℕ) → Covers q.nodes b d → d + length hops < D → IsSketchPathFrom p sketches b hops end → ⊥
   dead D five closed [] b d end c short path =
       let above : c.node.depth < D = omega (arith, c.depth) in
       let full : has_free (sketches c.node.bucket) ≡ false = over.full c.k c.node (closed c.k c.node c.at above) c.at in
       not_free (has_free (sketches b)) (ap (λ x. has_free (sketches x)) (sym c.bucket) ∙ full)
       (subst (λ x. IsTrue (has_free (sketches x))) (sym path.0) (ends_free b end path))
     where
-      ends_free : (b end : ℕ) → IsPathFrom p sketches b [] end → IsTrue (has_free (sketches end))
+      ends_free : (b end : ℕ) → IsSketchPathFrom p sketches b [] end → IsTrue (has_free (sketches end))
       ends_free b end path = subst (λ x. IsTrue (has_free (sketches x))) path.0 path.1
   dead D five closed (h ∷ hops) b d end c short path =
       let above : c.node.depth < D = omega (arith, c.depth) in
@@ -95,14 +95,14 @@ module _ (p : ℕ) (sketches : ℕ → Sketch) (b1 b2 : ℕ) (q : Queue) (sound 
       dead D five closed hops (alternate_of p h.partial b) (d + 1) end here (omega arith) path.3
 
   not_above : (D : ℕ) → D ≤ 5 → ((k : ℕ) (n : Node) → slice_get q.nodes k ≡ Some n → n.depth < D → k < q.taken)
-      → (hops : List Hop) (end : ℕ) → length hops < D → IsPath p sketches b1 b2 hops end → ⊥
+      → (hops : List PathHop) (end : ℕ) → length hops < D → IsSketchPath p sketches b1 b2 hops end → ⊥
   not_above D five closed hops end short path = elim path [
     | inl one ↦ dead D five closed hops b1 0 end over.first_root (omega arith) one
     | inr two ↦ dead D five closed hops b2 0 end over.second_root (omega arith) two
   ]
 
   -- a search whose nodes were all taken
-  pub no_path : length q.nodes ≤ q.taken → HasNoPath p sketches b1 b2
+  pub no_path : length q.nodes ≤ q.taken → HasNoSketchPath p sketches b1 b2
   no_path all hops end four path =
       not_above 5 (omega arith) (λ k n at above. omega (arith, slice_get_within q.nodes k n at)) hops end (omega arith) path
 
@@ -113,12 +113,12 @@ module _ (p : ℕ) (sketches : ℕ → Sketch) (b1 b2 : ℕ) (q : Queue) (sound 
     shortest_path route power end trace =
         let me : IsSoundNode q.power q.nodes q.taken last = sound.each q.taken last here in
         let long : trace.root.depth + length route.hops ≡ last.depth = leads_depth q last sound route.hops trace.root trace.leads in
-        let path : IsPath p sketches b1 b2 route.hops route.end =
+        let path : IsSketchPath p sketches b1 b2 route.hops route.end =
         elim (seen_path q sound (λ b s. sketches b ≡ s) p b1 b2 over.sees last (sketches last.bucket) refl free route end trace) [
           | inl one ↦ inl (path_from_seen p sketches b1 route.hops route.end one)
           | inr two ↦ inr (path_from_seen p sketches b2 route.hops route.end two)
         ] in
-        let least : (hops : List Hop) (end' : ℕ) → IsPath p sketches b1 b2 hops end' → length route.hops ≤ length hops =
+        let least : (hops : List PathHop) (end' : ℕ) → IsSketchPath p sketches b1 b2 hops end' → length route.hops ≤ length hops =
         λ hops end' other. elim (cases_lt (length hops) last.depth) [
           | inl less ↦ absurd (not_above last.depth (omega (arith, me.depth)) closed hops end' less other)
           | inr ge ↦ omega (arith, trace.top, long)

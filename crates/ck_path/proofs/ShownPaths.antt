@@ -1,13 +1,13 @@
 -- A path over the contents of a lawful whole is one over the sketches of its buckets, and the other way round.
 use Rattle.std.proofs.Common.{◌≡◌, ℕ, suc, ◌^◌, ◌<◌, List, [], ◌∷◌, length, refl, ap, subst, inl, inr, ⊎_elim, arith}
-use Rattle.ck_model.specs.declared.hop.Hop.{Hop}
+use Rattle.ck_model.specs.declared.hop.PathHop.{PathHop}
 use Rattle.ck_model.specs.Arithmetic.{partial_of, index_of, alternate_of, second_of}
 use Rattle.ck_model.specs.Map.{Name}
 use Rattle.ck_model.specs.Slots.{slot_at}
 use Rattle.ck_model.specs.Contents.{Layout, Stripes, Lawful, IsBucketOf, power_of, bucket_in}
 use Rattle.ck_model.specs.Sections.{HasAll}
 use Rattle.ck_model.specs.Paths.{IsPathFrom, sketch_in}
-use Rattle.ck_model.specs.Sketches.{IsPathFrom as IsSketchPathFrom, IsPath}
+use Rattle.ck_model.specs.Sketches.{IsSketchPathFrom, IsSketchPath}
 use Rattle.ck_model.proofs.Buckets.{index_below, alternate_below, second_below}
 use Rattle.ck_path.specs.Laws.{SketchesShowPaths}
 use Rattle.ck_path.proofs.Shown.{free_shown, free_there, full_shown, full_there, entry_shown, entry_there}
@@ -15,7 +15,7 @@ use Rattle.ck_path.proofs.Whole.{four_slots}
 
 -- hops in the sketches, as many as there are buckets after the first
 record IsShown {V : Type 0} (k : Layout) (hs : Stripes V) (b : ℕ) (cs : List ℕ) : Type 0 where
-  hops : List Hop
+  hops : List PathHop
   end : ℕ
   long : length hops ≡ length cs
   path : IsSketchPathFrom (power_of hs) (sketch_in k hs) b hops end
@@ -43,7 +43,7 @@ module _ {V : Type 0} (k : Layout) (hs : Stripes V) (lawful : Lawful k hs) (all 
         );
       }
 
-  there : (hops : List Hop) (b end : ℕ) → b < 2 ^ power_of hs → IsSketchPathFrom (power_of hs) (sketch_in k hs) b hops end
+  there : (hops : List PathHop) (b end : ℕ) → b < 2 ^ power_of hs → IsSketchPathFrom (power_of hs) (sketch_in k hs) b hops end
       → (cs : List ℕ) × (length cs ≡ length hops) × IsPathFrom k hs b cs
   there [] b end below path =
       let four : length (bucket_in k hs b) ≡ 4 = four_slots k hs lawful all b below in
@@ -68,8 +68,8 @@ module _ {V : Type 0} (k : Layout) (hs : Stripes V) (lawful : Lawful k hs) (all 
       (λ e. rw e (second_below (power_of hs) (k.hash q))) home
 
   -- a path that begins at a bucket of the name is one for the name
-  at_home : (q : Name) (b : ℕ) (hops : List Hop) (end : ℕ) → IsBucketOf k.hash (power_of hs) q b → IsSketchPathFrom (power_of hs) (sketch_in k hs) b hops end
-      → IsPath (power_of hs) (sketch_in k hs) (index_of (power_of hs) (k.hash q)) (second_of (power_of hs) (k.hash q)) hops end
+  at_home : (q : Name) (b : ℕ) (hops : List PathHop) (end : ℕ) → IsBucketOf k.hash (power_of hs) q b → IsSketchPathFrom (power_of hs) (sketch_in k hs) b hops end
+      → IsSketchPath (power_of hs) (sketch_in k hs) (index_of (power_of hs) (k.hash q)) (second_of (power_of hs) (k.hash q)) hops end
   at_home q b hops end home path = ⊎_elim
       (λ e. inl (subst (λ x. IsSketchPathFrom (power_of hs) (sketch_in k hs) x hops end) e path))
       (λ e. inr (subst (λ x. IsSketchPathFrom (power_of hs) (sketch_in k hs) x hops end) e path)) home

@@ -2,7 +2,7 @@
 use Rattle.std.proofs.Common.{◌≡◌, ℕ, ◌+◌, ◌<◌, List, [], ◌∷◌, length, get_or, Some, sym, ◌∙◌, ap}
 use Rattle.std.specs.Prelude.{slice_get}
 use Rattle.std.proofs.lemmas.Option.{slice_get_within, slice_get-get_or, get_or_from_slice_get}
-use Rattle.ck_model.specs.declared.hop.Hop.{Hop}
+use Rattle.ck_model.specs.declared.hop.PathHop.{PathHop}
 use Rattle.ck_path.specs.declared.node.Node.{Node}
 use Rattle.ck_model.specs.Arithmetic.{alternate_of}
 use Rattle.ck_path.specs.Route.{start_of, AreLinked}
@@ -30,14 +30,14 @@ parent_read p nodes sound n place low at is blank =
     }
 
 -- one hop more, from the parent down
-pub leads_up : (nodes : List Node) (n m last : Node) (h : Hop) (hops : List Hop) → (k : ℕ) × (slice_get nodes k ≡ Some n) → 0 < n.depth
+pub leads_up : (nodes : List Node) (n m last : Node) (h : PathHop) (hops : List PathHop) → (k : ℕ) × (slice_get nodes k ≡ Some n) → 0 < n.depth
     → slice_get nodes n.parent ≡ Some m → h.bucket ≡ m.bucket → h.slot ≡ n.slot → h.partial ≡ n.partial
     → Leads nodes n hops last → Leads nodes m (h ∷ hops) last
 leads_up nodes n m last h hops place low up bucket slot partial leads =
     (n, record { k = place.0; at = place.1; low = low; up = up; bucket = bucket; slot = slot; partial = partial }, leads)
 
 -- the way down is linked
-pub leads_linked : (p : ℕ) (nodes : List Node) (last : Node) → AreSound p nodes → (hops : List Hop) (n : Node)
+pub leads_linked : (p : ℕ) (nodes : List Node) (last : Node) → AreSound p nodes → (hops : List PathHop) (n : Node)
     → (k : ℕ) × (slice_get nodes k ≡ Some n) → Leads nodes n hops last → AreLinked p hops last.bucket × (start_of hops last.bucket ≡ n.bucket)
 leads_linked p nodes last sound [] n place leads =
     let bucket : n.bucket ≡ last.bucket = ap (λ (x : Node). x.bucket) leads in

@@ -1,22 +1,22 @@
 -- What a found path is, in sketches that were seen and in those of one table.
 use Rattle.std.specs.Prelude.{◌≡◌, ◌≢◌, ℕ, ◌^◌, ◌<◌, ◌≤◌, ◌⊎◌, Bool, false, IsTrue, List, [], ◌∷◌, length, Some, slice_get}
-use Rattle.ck_model.specs.declared.hop.Hop.{Hop}
+use Rattle.ck_model.specs.declared.hop.PathHop.{PathHop}
 use Rattle.ck_model.specs.Arithmetic.{alternate_of}
-use Rattle.ck_model.specs.Sketches.{Sketch, has_free, IsPath}
+use Rattle.ck_model.specs.Sketches.{Sketch, has_free, IsSketchPath}
 
 -- the power that was searched, the hops from the key's bucket on, and the bucket at their end
 pub record Route : Type 0 where
   pub power : ℕ
-  pub hops : List Hop
+  pub hops : List PathHop
   pub end : ℕ
 
 -- the bucket at which hops begin
-abbrev pub start_of : List Hop → ℕ → ℕ
+abbrev pub start_of : List PathHop → ℕ → ℕ
 start_of [] end = end
 start_of (h ∷ hops) end = h.bucket
 
 -- each hop leads from a bucket of the table to the other bucket of its entry, where the next one begins
-abbrev pub AreLinked : ℕ → List Hop → ℕ → Type 0
+abbrev pub AreLinked : ℕ → List PathHop → ℕ → Type 0
 AreLinked p [] end = end < 2 ^ p
 AreLinked p (h ∷ hops) end =
     (h.bucket < 2 ^ p) × (h.slot < 4) × (alternate_of p h.partial h.bucket ≡ start_of hops end) × AreLinked p hops end
@@ -29,7 +29,7 @@ pub record IsLinked (route : Route) : Type 0 where
 
 -- From bucket b each hop takes an entry of a full bucket to its other bucket, and the last bucket has a free slot. Each
 -- bucket is as in a sketch that was seen of it.
-abbrev pub IsSeenFrom : (ℕ → Sketch → Type 0) → ℕ → ℕ → List Hop → ℕ → Type 0
+abbrev pub IsSeenFrom : (ℕ → Sketch → Type 0) → ℕ → ℕ → List PathHop → ℕ → Type 0
 IsSeenFrom Seen p b [] end = (b ≡ end) × ((s : Sketch) × Seen b s × IsTrue (has_free s))
 IsSeenFrom Seen p b (h ∷ hops) end =
     (h.bucket ≡ b) × ((s : Sketch) × Seen b s × (has_free s ≡ false) × (slice_get s h.slot ≡ Some (Some h.partial)))
@@ -41,19 +41,19 @@ IsSeen seen p first second route =
     IsSeenFrom (λ b s. IsTrue (seen b s)) p first route.hops route.end ⊎ IsSeenFrom (λ b s. IsTrue (seen b s)) p second route.hops route.end
 
 -- a bucket is none of those of the hops and their end
-abbrev pub Avoids : ℕ → List Hop → ℕ → Type 0
+abbrev pub Avoids : ℕ → List PathHop → ℕ → Type 0
 Avoids b [] end = b ≢ end
 Avoids b (h ∷ hops) end = (b ≢ h.bucket) × Avoids b hops end
 
 -- no bucket is visited twice
-abbrev pub VisitsOnce : List Hop → ℕ → Type 0
+abbrev pub VisitsOnce : List PathHop → ℕ → Type 0
 VisitsOnce [] end = Unit {0}
 VisitsOnce (h ∷ hops) end = Avoids h.bucket hops end × VisitsOnce hops end
 
 -- a path of at most four hops than which none is shorter
 pub record IsShortestPath (p : ℕ) (sketches : ℕ → Sketch) (first second : ℕ) (route : Route) : Type 0 where
   pub power : route.power ≡ p
-  pub path : IsPath p sketches first second route.hops route.end
+  pub path : IsSketchPath p sketches first second route.hops route.end
   pub at_most_four : length route.hops ≤ 4
   pub once : VisitsOnce route.hops route.end
-  pub shortest : (hops : List Hop) (end : ℕ) → IsPath p sketches first second hops end → length route.hops ≤ length hops
+  pub shortest : (hops : List PathHop) (end : ℕ) → IsSketchPath p sketches first second hops end → length route.hops ≤ length hops

@@ -1,10 +1,10 @@
 -- The way from a node up to its root, as the hops down it.
 use Rattle.std.specs.Prelude.{◌≡◌, ℕ, ◌<◌, List, [], ◌∷◌, Some, slice_get}
-use Rattle.ck_model.specs.declared.hop.Hop.{Hop}
+use Rattle.ck_model.specs.declared.hop.PathHop.{PathHop}
 use Rattle.ck_path.specs.declared.node.Node.{Node}
 
 -- a hop from the bucket of node n to that of a node c queued below it
-pub record IsHop (nodes : List Node) (n : Node) (h : Hop) (c : Node) : Type 0 where
+pub record IsHop (nodes : List Node) (n : Node) (h : PathHop) (c : Node) : Type 0 where
   pub k : ℕ
   pub at : slice_get nodes k ≡ Some c
   pub low : 0 < c.depth
@@ -14,12 +14,12 @@ pub record IsHop (nodes : List Node) (n : Node) (h : Hop) (c : Node) : Type 0 wh
   pub partial : h.partial ≡ c.partial
 
 -- the hops lead from node n down to node last
-abbrev pub Leads : List Node → Node → List Hop → Node → Type 0
+abbrev pub Leads : List Node → Node → List PathHop → Node → Type 0
 Leads nodes n [] last = n ≡ last
 Leads nodes n (h ∷ hops) last = (c : Node) × IsHop nodes n h c × Leads nodes c hops last
 
 -- the hops lead from a root down to node last
-pub record IsTrace (nodes : List Node) (hops : List Hop) (last : Node) : Type 0 where
+pub record IsTrace (nodes : List Node) (hops : List PathHop) (last : Node) : Type 0 where
   pub root : Node
   pub k : ℕ
   pub at : slice_get nodes k ≡ Some root

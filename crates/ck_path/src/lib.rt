@@ -8,7 +8,7 @@ mod node;
 mod path;
 mod search;
 
-pub use ck_model::hop::Hop;
+pub use ck_model::hop::PathHop;
 pub use laws::law_of_sketches;
 pub use path::Path;
 pub use search::Search;

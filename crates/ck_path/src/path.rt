@@ -5,7 +5,7 @@ ghost use Rattle.ck_path.specs.Trace.{IsTrace};
 
 use crate::node::Node;
 use arrayvec::ArrayVec;
-use ck_model::hop::Hop;
+use ck_model::hop::PathHop;
 use std::marker::Model;
 
 /// The most hops of a path.
@@ -21,7 +21,7 @@ pub struct Path {
     power: u32,
     end: u64,
     // From the end backwards: so they are found, on the way up from the last node, and so they are carried out.
-    hops: ArrayVec<Hop, MAX_HOPS>,
+    hops: ArrayVec<PathHop, MAX_HOPS>,
 }
 
 impl Model for Path {
@@ -51,7 +51,7 @@ impl Path {
         let mut node = last;
         while node.depth > 0 {
             let parent = nodes[usize::from(node.parent)];
-            hops.push(Hop {
+            hops.push(PathHop {
                 bucket: u64::from(parent.bucket),
                 slot: usize::from(node.slot),
                 partial: node.partial,
@@ -83,7 +83,7 @@ impl Path {
     /// The hops, at most four, in the order in which they are carried out: the last one of the path first, and each goes
     /// to the bucket that the hop before it has left. So each finds a free slot, and no entry is without a bucket at any
     /// moment.
-    pub fn hops_from_end(&self) -> &[Hop]
+    pub fn hops_from_end(&self) -> &[PathHop]
         ensures { result.now ≡ reverse self.now.hops }
     {
         self.hops.as_slice()

@@ -43,7 +43,7 @@ impl Model for Search {
 impl Search {
     ghost use Rattle.ck_path.specs.Progress.{IsSearchFed, IsSearchOver};
     ghost use Rattle.ck_path.specs.Route.{IsLinked, IsSeen, IsShortestPath};
-    ghost use Rattle.ck_model.specs.Sketches.{HasNoPath};
+    ghost use Rattle.ck_model.specs.Sketches.{HasNoSketchPath};
 
     /// A search in a table of 2^p buckets from the first bucket `b1` of a key and then its alternate `b2`, which may be the
     /// same.
@@ -78,7 +78,7 @@ impl Search {
 
         // Where a search that was fed the sketches of a table is over with no path, there is none.
         ensures none { (p b1 b2 : ℕ) (sketches : ℕ → Sketch) → IsSearchOver p sketches b1 b2 self.now
-            → IfNone result (HasNoPath p sketches b1 b2) }
+            → IfNone result (HasNoSketchPath p sketches b1 b2) }
     {
         if self.taken < self.nodes.len() {
             Some(u64::from(self.nodes[self.taken].bucket))

@@ -1,9 +1,8 @@
 //! Two callers of one table, in turn.
 #![tactic(auto)]
 
-use ck_key::NumKey;
-use ck_table::{Settings, Table};
-use std::io;
+use anyhow::Result;
+use cuckoo_map::{NumKey, Settings, Table};
 
 const SETTINGS: Settings = Settings {
     s: 4, // 2^4 stripes, each with a lock of its own
@@ -15,27 +14,18 @@ const SETTINGS: Settings = Settings {
     min_load: 5,
 };
 
-fn main(rt: HostRuntime) -> io::Result<()> {
-    let Ok((table, mut passes)) = Table::<NumKey, u64>::open(rt.alloc(), SETTINGS) else {
-        return Err(io::ErrorKind::OutOfMemory.into());
-    };
-    // A caller makes its calls by a pass of its own, which may go to another thread.
-    let (Some(mut one), Some(mut other)) = (passes.pop(), passes.pop()) else {
-        return Ok(());
-    };
-    let fresh = table.insert(&mut one, NumKey(5), 50);
-    println!(rt;
-        "{}",
-        if let Ok(true) = fresh {
-            "new"
-        } else {
-            "refused"
-        }
-    )?;
-    let _ = table.upsert(&mut other, NumKey(5), |value| value.saturating_add(1), 1);
-    match table.find(&mut one, &NumKey(5)) {
-        Ok(Some(value)) => println!(rt; "{value}"),
-        Ok(None) => println!(rt; "unbound"),
-        Err(busy) => println!(rt; "stripe {} is held", busy.0),
+fn main(rt: HostRuntime) -> Result<()> {
+    let (table, passes) = Table::<NumKey, u64>::open(rt.alloc(), SETTINGS)?;
+    // Each caller has a pass of its own, and may go to another thread.
+    let mut callers = table.callers(rt.alloc(), passes)?;
+    for caller in &mut callers {
+        let fresh = caller.upsert(NumKey(5), |value| value.saturating_add(1), 50)?;
+        println!(rt; "{}", if fresh { "new" } else { "old" })?;
     }
+    for caller in &mut callers {
+        if let Some(value) = caller.find(&NumKey(5))? {
+            println!(rt; "{value}")?;
+        }
+    }
+    Ok(())
 }

@@ -1,29 +1,16 @@
 -- What a call of the table leaves is what its command leaves.
 use Rattle.std.proofs.Common.{◌≡◌, ℕ, List, [], ◌∷◌, ◌++◌, sym, ◌∙◌, subst, append-nil, inl, inr}
 use Rattle.ck_model.specs.declared.history.Entry.{Entry}
-use Rattle.ck_model.specs.declared.settings.Settings.{Settings}
-use Rattle.ck_model.specs.Map.{Name}
-use Rattle.ck_core.specs.declared.view.View.{View}
-use Rattle.ck_words.specs.Passes.{PassState}
-use Rattle.ck_table.specs.declared.refusal.Why.{Why}
-use Rattle.ck_table.specs.declared.refusal.Why.TheVariants.{Busy, Memory, Full, LoadTooLow}
-use Rattle.ck_table.specs.Refusals.{IsRefused}
+use Rattle.ck_table.specs.Callers.{CallerState, IsSameCaller}
 use Rattle.ck_script.specs.Script.{NumCommand}
 use Rattle.ck_script.specs.declared.answer.Answer.{Answer}
 use Rattle.ck_script.specs.Output.{IsRefusal, AreEntriesOf}
 use Rattle.ck_script.specs.Answered.{Grows, IsAnsweredBy}
 use Rattle.ck_script.proofs.Entries.{entries_more, refused, answered}
 
--- a call that was refused for want of room, or since a stripe was busy, is no entry
-pub no_entry : (hash : Name → ℕ) (set : Settings) (q : Name) (why : Why) (p p2 : PassState ℕ) → IsRefused hash set q why p p2 → (p2.view.by ≡ p.view.by) × (p2.view.mine ≡ p.view.mine)
-no_entry hash set q (Busy t) p p2 h = (h.stays.by, h.stays.mine)
-no_entry hash set q Memory p p2 h = absurd h
-no_entry hash set q Full p p2 h = (h.stays.by, h.stays.mine)
-no_entry hash set q LoadTooLow p p2 h = absurd h
-
 -- a refused call
-pub uncalled : (c : NumCommand) (a : Answer) (v w : View ℕ) → IsRefusal c a → (w.by ≡ v.by) × (w.mine ≡ v.mine) → IsAnsweredBy c a v w
-uncalled c a v w refusal h = record { by = h.0; entries = λ by is. inl (refusal, h.1) }
+pub uncalled : (c : NumCommand) (a : Answer) (p q : CallerState ℕ) → IsSameCaller p q → IsRefusal c a → q.pass.view.mine ≡ p.pass.view.mine → IsAnsweredBy c a p q
+uncalled c a p q same refusal h = record { same = same; entries = λ by is. inl (refusal, h) }
 
 -- one command more
 pub entries_grown : (by : ℕ) (cs : List NumCommand) (answers : List Answer) (old new : List (Entry ℕ)) (c : NumCommand) (a : Answer)

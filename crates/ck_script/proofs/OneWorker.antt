@@ -1,6 +1,7 @@
 -- A table of one caller, and what its worker's entries make of the output.
-use Rattle.std.proofs.Common.{Result, Ok, Err, map, ◌≡◌, ℕ, List, [], ◌∷◌, set, Some, All, inl, refl, ap, ◌∙◌, subst, arith}
+use Rattle.std.proofs.Common.{Result, Ok, Err, map, ◌≡◌, ℕ, List, [], ◌∷◌, ◌++◌, Some, All, inl, sym, refl, ap, ◌∙◌, subst, arith}
 use Rattle.std.specs.Prelude.{IfOk, unwrap_or, slice_index_or, Option}
+use Rattle.std.specs.List.{remove}
 use Rattle.std.specs.Ordering.{nat_cmp}
 use Rattle.ck_model.specs.declared.history.Entry.{Entry}
 use Rattle.ck_model.specs.Map.{Map, named, ListsInOrder}
@@ -22,9 +23,9 @@ abbrev pub first_pass : WordsState → PassState ℕ
 first_pass w = record { table = w.table; view = newcomer w.settings 0 w.settings.power; stripes = [] }
 
 module _ (w : WordsState) (passes : List (PassState ℕ)) (dealt_one : passes ≡ first_pass w ∷ []) where
-  -- it is alone, also where it is put back as another
-  pub put_back : (q : PassState ℕ) → set passes 0 q ≡ q ∷ []
-  put_back q = ap (λ (ps : List (PassState ℕ)). set ps 0 q) dealt_one
+  -- where it was taken out and another put back, that is alone
+  pub put_back : (rest back : List (PassState ℕ)) (q : PassState ℕ) → rest ≡ remove passes 0 → back ≡ rest ++ q ∷ [] → back ≡ q ∷ []
+  put_back rest back q taken put = put ∙ ap (λ (ps : List (PassState ℕ)). ps ++ q ∷ []) (taken ∙ ap (λ (ps : List (PassState ℕ)). remove ps 0) dealt_one)
 
   pub is_first : (p : PassState ℕ) → p ≡ slice_index_or passes 0 p → p ≡ first_pass w
   is_first p same = same ∙ ap (λ (ps : List (PassState ℕ)). slice_index_or ps 0 p) dealt_one

@@ -19,7 +19,7 @@ use Rattle.ck_script.specs.declared.line.Stage.TheVariants as at
 use Rattle.ck_script.specs.declared.script.What.{What}
 use Rattle.ck_script.specs.declared.script.What.TheVariants as is
 use Rattle.ck_script.specs.declared.script.ScriptFault.{ScriptFault}
-use Rattle.ck_script.specs.Words.{words, number_at, begins_as_number, IsNumber}
+use Rattle.ck_script.specs.Tokens.{tokens, number_at, begins_as_number, IsNumber}
 use Rattle.ck_script.specs.Lines.{with_feed, IsLine, ◌>>=◌, number_or_fault, pair_or_fault, key_command, pair_command, command_in, command_at, parts, is_feed}
 use Rattle.ck_script.specs.Parse.{commands_of, within_count, line_at, ending, with_front, parse_lines, parse, step_at}
 use Rattle.ck_script.specs.Spells.{AreNameAndKey, AreNameAndPair, IsCommand, AreCommands, IsScript, Spells}
@@ -71,16 +71,16 @@ command_in-of ws (Add k v) h = command_in-pair (codes "add") Add refl ws k v h
 command_in-of ws (Erase k) h = command_in-key (codes "erase") Erase refl ws k h
 
 -- a command line is no line end
-no_end : (line : List ℕ) (c : NumCommand) → IsCommand (words line) c → bytes_eq line (codes "end") ≡ false
+no_end : (line : List ℕ) (c : NumCommand) → IsCommand (tokens line) c → bytes_eq line (codes "end") ≡ false
 no_end line c h =
     false_from_ne_true _ (λ e.
-    let one : IsCommand (codes "end" ∷ []) c = subst (λ (l : List ℕ). IsCommand (words l) c) (same_bytes line (codes "end") e) h in
+    let one : IsCommand (codes "end" ∷ []) c = subst (λ (l : List ℕ). IsCommand (tokens l) c) (same_bytes line (codes "end") e) h in
     let read : command_in (codes "end" ∷ []) ≡ Ok c = command_in-of (codes "end" ∷ []) c one in
     cc)
 
-step_at-command : (line : List ℕ) (c : NumCommand) → IsCommand (words line) c → step_at at.Block line ≡ Ok (at.Block, Some c)
+step_at-command : (line : List ℕ) (c : NumCommand) → IsCommand (tokens line) c → step_at at.Block line ≡ Ok (at.Block, Some c)
 unfolding step_at command_at
-step_at-command line c h = rw (no_end line c h, command_in-of (words line) c h) refl
+step_at-command line c h = rw (no_end line c h, command_in-of (tokens line) c h) refl
 
 step_at-end : (line : List ℕ) → line ≡ codes "end" → step_at at.Block line ≡ Ok (at.After, None)
 unfolding step_at

@@ -20,7 +20,7 @@ use Rattle.ck_script.specs.declared.line.Stage.TheVariants as at
 use Rattle.ck_script.specs.declared.script.What.{What}
 use Rattle.ck_script.specs.declared.script.What.TheVariants as is
 use Rattle.ck_script.specs.declared.script.ScriptFault.{ScriptFault}
-use Rattle.ck_script.specs.Words.{words, number_at, begins_as_number, IsNumber}
+use Rattle.ck_script.specs.Tokens.{tokens, number_at, begins_as_number, IsNumber}
 use Rattle.ck_script.specs.Lines.{with_feed, IsLine, ◌>>=◌, number_or_fault, pair_or_fault, key_command, pair_command, with_key, with_pair, command_in, command_at, parts, is_feed}
 use Rattle.ck_script.specs.Parse.{lines_before, commands_of, within_count, IsParsed, line_at, ending, on_line, with_front, parse_lines, parse, step_at, is_complete}
 use Rattle.ck_script.specs.Spells.{IsCommand, AreCommands, IsScript, Spells}
@@ -210,14 +210,14 @@ unfolding step_at
 after_step line s e = absurd cc
 
 pub block_step : (line : List ℕ) (s : Stage × Option NumCommand) → step_at at.Block line ≡ Ok s
-    → ((line ≡ codes "end") × (s ≡ (at.After, None))) ⊎ ((c : NumCommand) × IsCommand (words line) c × (s ≡ (at.Block, Some c)))
+    → ((line ≡ codes "end") × (s ≡ (at.After, None))) ⊎ ((c : NumCommand) × IsCommand (tokens line) c × (s ≡ (at.Block, Some c)))
 unfolding step_at command_at
 block_step line s e =
-    elim (chosen (bytes_eq line (codes "end")) (Ok (at.After, None)) (command_in (words line) >>= λ c. Ok (at.Block, Some c)) (Ok s) e) [
+    elim (chosen (bytes_eq line (codes "end")) (Ok (at.After, None)) (command_in (tokens line) >>= λ c. Ok (at.Block, Some c)) (Ok s) e) [
       | inl h ↦ inl (same_bytes line (codes "end") h.0, sym (ok_line-injective (at.After, None) s h.1))
       | inr h ↦
-          let c = bind_ok (command_in (words line)) (λ c. Ok (at.Block, Some c)) s h.1 in
-          inr (c.0, command_law (words line) c.0 c.1, sym (ok_line-injective (at.Block, Some c.0) s c.2))
+          let c = bind_ok (command_in (tokens line)) (λ c. Ok (at.Block, Some c)) s h.1 in
+          inr (c.0, command_law (tokens line) c.0 c.1, sym (ok_line-injective (at.Block, Some c.0) s c.2))
     ]
 
 -- nothing stands after the end
@@ -229,7 +229,7 @@ after_law n (line ∷ next ∷ more) cs e = let t = turn at.After n line next mo
 abbrev Behind : List (List ℕ) → List NumCommand → Type 0
 Behind ps cs = (lines : List (List ℕ)) × (ps ≡ lines ++ [] ∷ []) × AreCommands lines cs
 
-more_commands : (line : List ℕ) (ps : List (List ℕ)) (c : NumCommand) (cs : List NumCommand) → IsCommand (words line) c → Behind ps cs → Behind (line ∷ ps) (c ∷ cs)
+more_commands : (line : List ℕ) (ps : List (List ℕ)) (c : NumCommand) (cs : List NumCommand) → IsCommand (tokens line) c → Behind ps cs → Behind (line ∷ ps) (c ∷ cs)
 more_commands line ps c cs one (lines, cut, more) = (line ∷ lines, ap (λ (x : List (List ℕ)). line ∷ x) cut, (one, more))
 
 -- the lines of a block

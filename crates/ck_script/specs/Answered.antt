@@ -1,7 +1,7 @@
--- What one command leaves of what its caller knows. What a run promises stands in `Output`.
+-- What one command leaves of its caller. What a run promises stands in `Output`.
 use Rattle.std.specs.Prelude.{◌≡◌, ◌⊎◌, ℕ, List, [], ◌∷◌, ◌++◌, Some}
 use Rattle.ck_model.specs.declared.history.Entry.{Entry}
-use Rattle.ck_core.specs.declared.view.View.{View}
+use Rattle.ck_table.specs.Callers.{CallerState, IsSameCaller}
 use Rattle.ck_script.specs.Script.{NumCommand}
 use Rattle.ck_script.specs.declared.answer.Answer.{Answer}
 use Rattle.ck_script.specs.Output.{IsEntryOf, IsRefusal}
@@ -13,6 +13,6 @@ Grows by c a old new =
     ⊎ ((e : Entry ℕ) × (e.by ≡ by) × IsEntryOf c a e.call e.reply × (new ≡ old ++ e ∷ []))
 
 -- the caller's command was answered by this answer
-pub record IsAnsweredBy (c : NumCommand) (a : Answer) (v w : View ℕ) : Type 0 where
-  pub by : w.by ≡ v.by
-  pub entries : (by : ℕ) → v.by ≡ Some by → Grows by c a v.mine w.mine
+pub record IsAnsweredBy (c : NumCommand) (a : Answer) (p q : CallerState ℕ) : Type 0 where
+  pub same : IsSameCaller p q
+  pub entries : (by : ℕ) → p.pass.view.by ≡ Some by → Grows by c a p.pass.view.mine q.pass.view.mine

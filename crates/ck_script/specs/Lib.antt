@@ -1,6 +1,6 @@
 pub mod Script
-pub mod Words
-pub mod AreWords
+pub mod Tokens
+pub mod AreTokens
 pub mod Lines
 pub mod Parse
 pub mod State

@@ -8,7 +8,7 @@ use Rattle.ck_script.specs.Script.{NumCommand, key_of}
 use Rattle.ck_script.specs.declared.script.Command.TheVariants.{Find, Has, Insert, Assign, Update, Add, Erase}
 use Rattle.ck_script.specs.declared.script.What.{What}
 use Rattle.ck_script.specs.declared.script.What.TheVariants as is
-use Rattle.ck_script.specs.Words.{words, number_at}
+use Rattle.ck_script.specs.Tokens.{tokens, number_at}
 
 abbrev pub is_feed : ℕ → Bool
 is_feed b = b == 10
@@ -74,7 +74,7 @@ with_pair command pair = do
   p ← pair
   Ok (c (key_of p.0) p.1)
 
--- the words of a command line: first their count and that none is empty, then the name, then the numbers from left to right
+-- the tokens of a command line: first their count and that none is empty, then the name, then the numbers from left to right
 abbrev pub command_in : List (List ℕ) → Result NumCommand What
 command_in (name ∷ key ∷ []) =
     if length key == 0 then Err is.Command else with_key (key_command name) (number_or_fault key)
@@ -84,4 +84,4 @@ command_in ws = Err is.Command
 
 -- a command line
 unfoldable pub command_at : List ℕ → Result NumCommand What
-command_at line = command_in (words line)
+command_at line = command_in (tokens line)

@@ -4,20 +4,20 @@ use Rattle.std.specs.List.{flat_map}
 use Rattle.ck_key.specs.declared.num_key.NumKey.{NumKey}
 use Rattle.ck_script.specs.Script.{NumCommand}
 use Rattle.ck_script.specs.declared.script.Command.TheVariants.{Find, Has, Insert, Assign, Update, Add, Erase}
-use Rattle.ck_script.specs.Words.{words, IsNumber}
+use Rattle.ck_script.specs.Tokens.{tokens, IsNumber}
 use Rattle.ck_script.specs.Lines.{IsLine, with_feed}
 
--- the words are this name and a key
+-- the tokens are this name and a key
 abbrev pub AreNameAndKey : List ℕ → List (List ℕ) → NumKey → Type 0
 AreNameAndKey name (word ∷ key ∷ []) k = (word ≡ name) × IsNumber key k.0
 AreNameAndKey name ws k = ⊥
 
--- the words are this name, a key and a number
+-- the tokens are this name, a key and a number
 abbrev pub AreNameAndPair : List ℕ → List (List ℕ) → NumKey → ℕ → Type 0
 AreNameAndPair name (word ∷ key ∷ value ∷ []) k v = (word ≡ name) × IsNumber key k.0 × IsNumber value v
 AreNameAndPair name ws k v = ⊥
 
--- the words of a line are this command
+-- the tokens of a line are this command
 abbrev pub IsCommand : List (List ℕ) → NumCommand → Type 0
 IsCommand ws (Find k) = AreNameAndKey (codes "find") ws k
 IsCommand ws (Has k) = AreNameAndKey (codes "has") ws k
@@ -29,7 +29,7 @@ IsCommand ws (Erase k) = AreNameAndKey (codes "erase") ws k
 
 -- the lines behind a line `worker` are these commands, one a line, and then the line `end`
 abbrev pub AreCommands : List (List ℕ) → List NumCommand → Type 0
-AreCommands (line ∷ lines) (c ∷ cs) = IsCommand (words line) c × AreCommands lines cs
+AreCommands (line ∷ lines) (c ∷ cs) = IsCommand (tokens line) c × AreCommands lines cs
 AreCommands (line ∷ []) [] = line ≡ codes "end"
 AreCommands lines cs = ⊥
 

@@ -19,7 +19,7 @@ pub enum Answer {
     Set,
     /// The key was bound, and is unbound now.
     Gone,
-    /// Another caller held a stripe of the key for too long.
+    /// Another caller held a stripe that the command needs for too long.
     Busy,
     /// The table has to grow for the key, and there is no memory.
     Memory,

@@ -1,6 +1,4 @@
 //! One command on the table.
-ghost use Rattle.std.specs.Prelude.{◌≡◌};
-ghost use Rattle.ck_words.specs.Closing.{IsCaller};
 ghost use Rattle.ck_script.specs.Script.{NumCommand};
 ghost use Rattle.ck_script.specs.Output.{NeedsRoom, IsRefusal};
 ghost use Rattle.ck_script.specs.Answered.{IsAnsweredBy};
@@ -8,7 +6,10 @@ ghost use Rattle.ck_script.specs.Answered.{IsAnsweredBy};
 use crate::answer::Answer;
 use crate::script::Command;
 use ck_key::NumKey;
-use ck_table::{Pass, Table, Why};
+use ck_table::{Caller, Why};
+
+// A caller of the table of a script.
+pub type NumCaller<'t> = Caller<'t, NumKey, u64>;
 
 // What a command that may need room is refused for.
 fn refusal_of(why: Why) -> Answer
@@ -24,99 +25,70 @@ fn refusal_of(why: Why) -> Answer
 
 // A function for each command: it asks the table, and picks the word for the reply.
 
-fn find(table: &Table<NumKey, u64>, pass: &mut Pass<NumKey, u64>, key: NumKey) -> Answer
-    requires { IsCaller table.now pass.old }
-    ensures caller { IsCaller table.now pass.new }
-    ensures answered { IsAnsweredBy (Command.Find key) result pass.old.view pass.new.view }
+fn find(caller: &mut NumCaller<'_>, key: NumKey) -> Answer
+    ensures { IsAnsweredBy (Command.Find key) result caller.old caller.new }
 {
-    match table.find(pass, &key) {
+    match caller.find(&key) {
         Ok(Some(value)) => Answer::Value(value),
         Ok(None) => Answer::Absent,
         Err(_) => Answer::Busy,
     }
 }
 
-fn has(table: &Table<NumKey, u64>, pass: &mut Pass<NumKey, u64>, key: NumKey) -> Answer
-    requires { IsCaller table.now pass.old }
-    ensures caller { IsCaller table.now pass.new }
-    ensures answered { IsAnsweredBy (Command.Has key) result pass.old.view pass.new.view }
+fn has(caller: &mut NumCaller<'_>, key: NumKey) -> Answer
+    ensures { IsAnsweredBy (Command.Has key) result caller.old caller.new }
 {
-    match table.contains(pass, &key) {
+    match caller.contains(&key) {
         Ok(true) => Answer::Yes,
         Ok(false) => Answer::No,
         Err(_) => Answer::Busy,
     }
 }
 
-fn insert(
-    table: &Table<NumKey, u64>,
-    pass: &mut Pass<NumKey, u64>,
-    key: NumKey,
-    value: u64,
-) -> Answer
-    requires { IsCaller table.now pass.old }
-    ensures caller { IsCaller table.now pass.new }
-    ensures answered { IsAnsweredBy (Command.Insert key value) result pass.old.view pass.new.view }
+fn insert(caller: &mut NumCaller<'_>, key: NumKey, value: u64) -> Answer
+    ensures { IsAnsweredBy (Command.Insert key value) result caller.old caller.new }
 {
-    match table.insert(pass, key, value) {
+    match caller.insert(key, value) {
         Ok(true) => Answer::New,
         Ok(false) => Answer::Old,
         Err(refused) => refusal_of(refused.why),
     }
 }
 
-fn assign(
-    table: &Table<NumKey, u64>,
-    pass: &mut Pass<NumKey, u64>,
-    key: NumKey,
-    value: u64,
-) -> Answer
-    requires { IsCaller table.now pass.old }
-    ensures caller { IsCaller table.now pass.new }
-    ensures answered { IsAnsweredBy (Command.Assign key value) result pass.old.view pass.new.view }
+fn assign(caller: &mut NumCaller<'_>, key: NumKey, value: u64) -> Answer
+    ensures { IsAnsweredBy (Command.Assign key value) result caller.old caller.new }
 {
-    match table.insert_or_assign(pass, key, value) {
+    match caller.insert_or_assign(key, value) {
         Ok(Some(_)) => Answer::Set,
         Ok(None) => Answer::New,
         Err(refused) => refusal_of(refused.why),
     }
 }
 
-fn update(
-    table: &Table<NumKey, u64>,
-    pass: &mut Pass<NumKey, u64>,
-    key: NumKey,
-    value: u64,
-) -> Answer
-    requires { IsCaller table.now pass.old }
-    ensures caller { IsCaller table.now pass.new }
-    ensures answered { IsAnsweredBy (Command.Update key value) result pass.old.view pass.new.view }
+fn update(caller: &mut NumCaller<'_>, key: NumKey, value: u64) -> Answer
+    ensures { IsAnsweredBy (Command.Update key value) result caller.old caller.new }
 {
-    match table.update(pass, &key, value) {
+    match caller.update(&key, value) {
         Ok(Some(_)) => Answer::Set,
         Ok(None) => Answer::Absent,
         Err(_) => Answer::Busy,
     }
 }
 
-fn add(table: &Table<NumKey, u64>, pass: &mut Pass<NumKey, u64>, key: NumKey, value: u64) -> Answer
-    requires { IsCaller table.now pass.old }
-    ensures caller { IsCaller table.now pass.new }
-    ensures answered { IsAnsweredBy (Command.Add key value) result pass.old.view pass.new.view }
+fn add(caller: &mut NumCaller<'_>, key: NumKey, value: u64) -> Answer
+    ensures { IsAnsweredBy (Command.Add key value) result caller.old caller.new }
 {
-    match table.upsert(pass, key, |bound| bound.saturating_add(value), value) {
+    match caller.upsert(key, |bound| bound.saturating_add(value), value) {
         Ok(true) => Answer::New,
         Ok(false) => Answer::Set,
         Err(refused) => refusal_of(refused.why),
     }
 }
 
-fn erase(table: &Table<NumKey, u64>, pass: &mut Pass<NumKey, u64>, key: NumKey) -> Answer
-    requires { IsCaller table.now pass.old }
-    ensures caller { IsCaller table.now pass.new }
-    ensures answered { IsAnsweredBy (Command.Erase key) result pass.old.view pass.new.view }
+fn erase(caller: &mut NumCaller<'_>, key: NumKey) -> Answer
+    ensures { IsAnsweredBy (Command.Erase key) result caller.old caller.new }
 {
-    match table.erase(pass, &key) {
+    match caller.erase(&key) {
         Ok(Some(_)) => Answer::Gone,
         Ok(None) => Answer::Absent,
         Err(_) => Answer::Busy,
@@ -124,22 +96,16 @@ fn erase(table: &Table<NumKey, u64>, pass: &mut Pass<NumKey, u64>, key: NumKey) 
 }
 
 /// Does what the command says.
-pub fn answer_of(
-    table: &Table<NumKey, u64>,
-    pass: &mut Pass<NumKey, u64>,
-    command: Command<NumKey>,
-) -> Answer
-    requires { IsCaller table.now pass.old }
-    ensures caller { IsCaller table.now pass.new }
-    ensures answered { IsAnsweredBy command result pass.old.view pass.new.view }
+pub fn answer_of(caller: &mut NumCaller<'_>, command: Command<NumKey>) -> Answer
+    ensures { IsAnsweredBy command result caller.old caller.new }
 {
     match command {
-        Command::Find(key) => find(table, pass, key),
-        Command::Has(key) => has(table, pass, key),
-        Command::Insert(key, value) => insert(table, pass, key, value),
-        Command::Assign(key, value) => assign(table, pass, key, value),
-        Command::Update(key, value) => update(table, pass, key, value),
-        Command::Add(key, value) => add(table, pass, key, value),
-        Command::Erase(key) => erase(table, pass, key),
+        Command::Find(key) => find(caller, key),
+        Command::Has(key) => has(caller, key),
+        Command::Insert(key, value) => insert(caller, key, value),
+        Command::Assign(key, value) => assign(caller, key, value),
+        Command::Update(key, value) => update(caller, key, value),
+        Command::Add(key, value) => add(caller, key, value),
+        Command::Erase(key) => erase(caller, key),
     }
 }

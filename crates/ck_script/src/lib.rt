@@ -11,7 +11,7 @@ mod script;
 mod sink;
 mod source;
 mod text;
-mod words;
+mod tokens;
 
 pub use answer::Answer;
 pub use laws::law_of_scripts;

@@ -4,7 +4,7 @@ ghost use Rattle.ck_script.specs.Lines.{number_or_fault, pair_or_fault, key_comm
 ghost use Rattle.ck_script.specs.Parse.{step_at};
 
 use crate::script::{Command, What};
-use crate::words::{Words, number_of, words_of};
+use crate::tokens::{Tokens, number_of, tokens_of};
 use ck_key::NumKey;
 
 /// Where in a script a line stands.
@@ -87,20 +87,20 @@ fn command_of(line: &[u8]) -> Result<Command<NumKey>, What>
     ensures value { result ≡ command_at line.now }
     ensures text { IfErr result (λ what. what ≢ What.Read) }
 {
-    match words_of(line) {
-        Words::Two(name, key) => {
+    match tokens_of(line) {
+        Tokens::Two(name, key) => {
             if key.is_empty() {
                 return Err(What::Command);
             }
             key_command(name, number(key))
         }
-        Words::Three(name, key, value) => {
+        Tokens::Three(name, key, value) => {
             if key.is_empty() || value.is_empty() {
                 return Err(What::Command);
             }
             pair_command(name, pair(key, value))
         }
-        Words::One(_) | Words::More => Err(What::Command),
+        Tokens::One(_) | Tokens::More => Err(What::Command),
     }
 }
 

@@ -1,12 +1,13 @@
 //! Runs scripts.
 ghost use Rattle.std.specs.Prelude.{◌≡◌, ℕ, [], Some, false, OnOk, IfOk, IfErr};
 ghost use Rattle.ck_words.specs.Rule.{counting};
-ghost use Rattle.ck_words.specs.Closing.{IsCaller, AreAllPasses, dealt};
+ghost use Rattle.ck_words.specs.Closing.{AreAllPasses, dealt};
+ghost use Rattle.ck_table.specs.Callers.{IsSameCaller};
 ghost use Rattle.ck_script.specs.Output.{AreEntriesOf, IsOutputOf, workers_of};
 ghost use Rattle.ck_script.specs.Run.{TakesOutput, StopsBy};
 
 use crate::answer::Answer;
-use crate::calls::answer_of;
+use crate::calls::{NumCaller, answer_of};
 use crate::script::{Command, Script};
 use crate::sink::{Sink, write_all};
 use crate::text::text_of;
@@ -53,20 +54,17 @@ fn open(alloc: Global) -> Result<(Table<NumKey, u64>, Vec<Pass<NumKey, u64>>), A
 // The answers to a caller's commands.
 fn answers_of(
     alloc: Global,
-    table: &Table<NumKey, u64>,
-    pass: &mut Pass<NumKey, u64>,
+    caller: &mut NumCaller<'_>,
     commands: &[Command<NumKey>],
 ) -> Result<Vec<Answer>, AllocError>
-    requires caller { IsCaller table.now pass.old }
-    requires new { pass.old.view.mine ≡ [] }
-    ensures caller { IsCaller table.now pass.new }
-    ensures by { pass.new.view.by ≡ pass.old.view.by }
-    ensures entries { IfOk result (λ answers. (by : ℕ) → pass.old.view.by ≡ Some by →
-        AreEntriesOf by commands.now answers.items pass.new.view.mine) }
+    requires { caller.old.pass.view.mine ≡ [] }
+    ensures same { IsSameCaller caller.old caller.new }
+    ensures entries { IfOk result (λ answers. (by : ℕ) → caller.old.pass.view.by ≡ Some by →
+        AreEntriesOf by commands.now answers.items caller.new.pass.view.mine) }
 {
     let mut answers = Vec::with_capacity(alloc, commands.len())?;
     for command in commands {
-        answers.push(answer_of(table, pass, *command))?;
+        answers.push(answer_of(caller, *command))?;
     }
     Ok(answers)
 }
@@ -76,8 +74,9 @@ fn output_of(alloc: Global, script: &Script) -> Result<Vec<u8>, AllocError>
     ensures { IfOk result (λ text. IsOutputOf (workers_of script.now) text.items) }
 {
     let (table, mut passes) = open(alloc)?;
-    let pass = &mut passes[0];
-    let answers = answers_of(alloc, &table, pass, &script.commands)?;
+    let mut caller = table.caller(passes.remove(0));
+    let answers = answers_of(alloc, &mut caller, &script.commands)?;
+    passes.push(caller.into_pass())?;
     match table.close(passes) {
         Ok(pairs) => text_of(alloc, &answers, &pairs),
         // The only caller holds no stripe, so it is memory that was refused.

@@ -1,8 +1,8 @@
 -- Calls on one name of held stripes, by what was found and written.
-use Rattle.std.proofs.Common.{◌≡◌, ◌≢◌, inl, ℕ, zero, suc, ◌+◌, ◌-◌, ◌/◌, ◌^◌, ◌<◌, List, [], ◌∷◌, Option, Some, None, length, refl, sym, ◌∙◌, ap, subst, arith}
+use Rattle.std.proofs.Common.{◌≡◌, ◌≢◌, inl, ℕ, zero, suc, ◌+◌, ◌-◌, ◌/◌, ◌^◌, ◌<◌, List, [], ◌∷◌, Option, Some, None, length, refl, sym, ◌∙◌, ap, subst}
 use Rattle.std.specs.Prelude.{slice_set}
 use Rattle.std.specs.FinMap.{get, find}
-use Rattle.std.proofs.lemmas.List.{length-set, get_or-set_same, set-set}
+use Rattle.std.proofs.lemmas.List.{length-set}
 use Rattle.ck_model.specs.declared.history.Act.{Act}
 use Rattle.ck_model.specs.declared.history.Call.TheVariants.{On}
 use Rattle.ck_model.specs.declared.history.Reply.{Reply}
@@ -13,14 +13,14 @@ use Rattle.ck_model.specs.Numbered.{Holds}
 use Rattle.ck_model.specs.Contents.{IsBucketOf, Layout, Stripes, Binds, pairs_in, row_at, bindings, IsSound, Lawful}
 use Rattle.ck_model.specs.Sections.{Section}
 use Rattle.ck_model.proofs.Local.{Change, section_in_one}
-use Rattle.ck_model.proofs.Writes.{Writes, written, stands, places, removes, replaces, ledger_of_taken}
+use Rattle.ck_model.proofs.Writes.{Writes, written, stands, places, removes, replaces}
 use Rattle.ck_stripe.specs.Stripe.{StripeState, HasBucket, bucket_of, with_slot}
 use Rattle.ck_section.specs.declared.place.KeyPlace.{KeyPlace}
 use Rattle.ck_section.specs.declared.place.HeldSlot.{HeldSlot}
 use Rattle.ck_section.specs.Stripes.{stripe_at, set_content, contents_of, IsInReach}
 use Rattle.ck_section.specs.Places.{IsPlaceOf, IsSlotOf, slot_in, set_slot, IsNowhere}
-use Rattle.ck_section.specs.Calls.{layout, Effect, IsCall}
-use Rattle.ck_section.proofs.Found.{holds_at, contents_set, set_here, slot_held, row_bucket, row_within, sound_at, nowhere, unbound, owns, bound_in}
+use Rattle.ck_section.specs.Calls.{layout, IsCall}
+use Rattle.ck_section.proofs.Found.{holds_at, contents_set, set_here, row_bucket, row_within, sound_at, nowhere, unbound, owns, bound_in}
 
 module _ {V : Type 0} where
   -- a call, by the parts of its effect

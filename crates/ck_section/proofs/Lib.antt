@@ -4,5 +4,6 @@ pub mod Steps
 pub mod Rebinding
 pub mod Hopped
 pub mod Rebound
+pub mod Exchanged
 pub mod Kept
 pub mod AllStripes

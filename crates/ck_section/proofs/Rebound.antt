@@ -1,5 +1,5 @@
 -- Two entries are taken and put back with other values.
-use Rattle.std.proofs.Common.{◌≡◌, ◌≢◌, inl, ℕ, ◌+◌, ◌-◌, ◌/◌, ◌^◌, ◌<◌, List, Option, Some, None, length, refl, sym, ◌∙◌, ap, subst}
+use Rattle.std.proofs.Common.{◌≡◌, ◌≢◌, inl, ℕ, ◌+◌, ◌-◌, ◌/◌, ◌^◌, ◌<◌, List, Option, Some, None, length, refl, sym, ◌∙◌, subst}
 use Rattle.std.specs.FinMap.{get}
 use Rattle.std.proofs.lemmas.Option.{some_pair_parts}
 use Rattle.ck_model.specs.declared.history.Call.TheVariants.{ChangeTwo}

@@ -3,6 +3,7 @@ use Rattle.std.proofs.Common.{◌≡◌, ℕ, ◌+◌, ◌-◌, ◌<◌, List, O
 use Rattle.std.proofs.lemmas.Option.{some_pair_parts}
 use Rattle.ck_model.specs.declared.history.Act.{Act}
 use Rattle.ck_model.specs.declared.history.Reply.{Reply}
+use Rattle.ck_model.specs.declared.history.Reply.TheVariants.{Was, Done}
 use Rattle.ck_model.specs.Map.{Name, Answers}
 use Rattle.ck_model.specs.Slots.{Slot}
 use Rattle.ck_stripe.specs.Stripe.{StripeState, with_slot}
@@ -10,7 +11,7 @@ use Rattle.ck_section.specs.declared.entry.Entry.{Entry}
 use Rattle.ck_section.specs.declared.entry.Entry.TheVariants.{Occupied, Vacant}
 use Rattle.ck_section.specs.declared.place.KeyPlace.{KeyPlace}
 use Rattle.ck_section.specs.declared.place.HeldSlot.{HeldSlot}
-use Rattle.ck_section.specs.Stripes.{stripe_at, IsInReach}
+use Rattle.ck_section.specs.Stripes.{stripe_at, len_at, IsInReach}
 use Rattle.ck_section.specs.Places.{IsPlaceOf, slot_in, set_slot, IsNowhere, AreFull}
 use Rattle.ck_section.specs.Entries.{IsOccupied, IsVacant, IsEntryOf}
 use Rattle.ck_section.specs.Calls.{IsWithRoom, IsWithoutRoom, ChangesContents}
@@ -48,6 +49,11 @@ module _ {V : Type 0} where
   hop_changes stripes cur mid new from to x y n m same first second e f =
       let one : ChangesContents stripes mid = written_changes stripes mid from x n first (e ∙ ap (λ (l : List (StripeState V)). set_slot l from x n) same) in
       changes_on stripes mid new one (written_changes mid new to y m (subst (λ k. to.index < k) (sym one.count) second) f)
+
+  -- what a call replied that gave nothing back
+  pub replied_none : (hash : Name → ℕ) (s : ℕ) (stripes new : List (StripeState V)) (q : Name) (act : Act V) (r : Option V) → r ≡ None
+      → IsCallOn hash s stripes q act (Was None) new → IsCallOn hash s stripes q act (Was r) new
+  replied_none hash s stripes new q act r is = subst (λ (o : Option V). IsCallOn hash s stripes q act (Was o) new) (sym is)
 
   -- An entry, by its variant.
   pub occupied_here : (hash : Name → ℕ) (stripes : List (StripeState V)) (q : Name) (place : KeyPlace) (entry : Entry) (at : HeldSlot) → entry ≡ Occupied at → IsEntryOf hash stripes q place entry → IsOccupied hash stripes q at
@@ -88,12 +94,31 @@ module _ {V : Type 0} where
       kept act reply answers =
           subst (λ (l : List (StripeState V)). IsCallOn hash place.s stripes q act reply l) (sym same) (keeps_bound hash stripes q place of act reply at here.found.0 here.slot here.found.1 answers)
 
-      pub wrote : (act : Act V) (reply : Reply V) (w : V) (new : List (StripeState V)) → Answers act (Some here.found.0) reply (Some w)
+      wrote : (act : Act V) (reply : Reply V) (w : V) (new : List (StripeState V)) → Answers act (Some here.found.0) reply (Some w)
           → new ≡ set_slot cur at (Some (q, w)) (stripe_at cur at.index).content.ledger → IsCallOn hash place.s stripes q act reply new
       wrote act reply w new answers e =
           subst (λ (l : List (StripeState V)). IsCallOn hash place.s stripes q act reply l)
           (sym (e ∙ ap (λ (l : List (StripeState V)). set_slot l at (Some (q, w)) (stripe_at l at.index).content.ledger) same))
           (replaced hash stripes q place of act reply at here.slot here.found.0 w here.found.1 answers)
+
+      -- a call that puts a value in place of the old one, which it gives
+      pub swapped : (act : Act V) (w r : V) (new : List (StripeState V)) → ((v : V) → Answers act (Some v) (Was (Some v)) (Some w))
+          → ((n : Name) (v : V) → slot_in cur at ≡ Some (n, v) → (r ≡ v) × (new ≡ set_slot cur at (Some (n, w)) (len_at cur at.index)))
+          → IsCallOn hash place.s stripes q act (Was (Some r)) new × ChangesContents stripes new
+      swapped act w r new answers content =
+          let z = content q here.found.0 found_in in (
+            wrote act (Was (Some r)) w new (subst (λ (v : V). Answers act (Some here.found.0) (Was (Some v)) (Some w)) (sym z.0) (answers here.found.0)) z.1,
+            slot_changes stripes cur new at _ _ same here.slot.reach z.1,
+          )
+
+      -- a call that puts in place of the old value what a closure makes of it
+      pub remade : (post : V → V → Type 0) (act : Act V) (new : List (StripeState V)) → ((v w : V) → Answers act (Some v) (Done v w) (Some w))
+          → ((n : Name) (v : V) → slot_in cur at ≡ Some (n, v) → (w : V) × post v w × (new ≡ set_slot cur at (Some (n, w)) (len_at cur at.index)))
+          → ((v w : V) × post v w × IsCallOn hash place.s stripes q act (Done v w) new) × ChangesContents stripes new
+      remade post act new answers content =
+          let v = here.found.0 in
+          let z = content q v found_in in
+          ((v, z.0, z.1, wrote act (Done v z.0) z.0 new (answers v z.0) z.2), slot_changes stripes cur new at _ _ same here.slot.reach z.2)
 
       pub took : (act : Act V) (reply : V → Reply V) (n : Name) (v : V) (new : List (StripeState V)) → ((w : V) → Answers act (Some w) (reply w) None)
           → slot_in cur at ≡ Some (n, v) → new ≡ set_slot cur at None ((stripe_at cur at.index).content.ledger - 1) → IsCallOn hash place.s stripes q act (reply v) new

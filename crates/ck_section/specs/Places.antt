@@ -1,5 +1,5 @@
 -- Where a name is looked for among held stripes, and where its entry is.
-use Rattle.std.specs.Prelude.{◌≡◌, ◌⊎◌, ℕ, ◌%◌, ◌^◌, ◌<◌, ◌≤◌, true, List, Some, None, IsSome, length}
+use Rattle.std.specs.Prelude.{◌≡◌, ◌⊎◌, ℕ, ◌^◌, ◌<◌, ◌≤◌, true, List, None, IsSome, length}
 use Rattle.ck_model.specs.Arithmetic.{partial_of, index_of, second_of}
 use Rattle.ck_model.specs.Map.{Name}
 use Rattle.ck_model.specs.Slots.{Slot, slot_at, IsFull}
@@ -9,6 +9,10 @@ use Rattle.ck_stripe.specs.Stripe.{StripeState, with_slot}
 use Rattle.ck_section.specs.declared.place.KeyPlace.{KeyPlace}
 use Rattle.ck_section.specs.declared.place.HeldSlot.{HeldSlot}
 use Rattle.ck_section.specs.Stripes.{stripe_at, bucket_at, set_content, IsInReach}
+
+-- this slot of bucket b of stripe i
+abbrev pub at : ℕ → ℕ → ℕ → HeldSlot
+at i b slot = record { index = i; bucket = b; slot = slot }
 
 module _ {V : Type 0} where
   -- Settled stripes of one table of 2^s stripes, of one power, in rising order of their numbers.

@@ -1,8 +1,10 @@
 -- Stripes that a call holds, as a list.
-use Rattle.std.specs.Prelude.{◌≡◌, ℕ, true, ◌<◌, List, [], length, map, slice_index_or, slice_set}
+use Rattle.std.specs.Prelude.{◌≡◌, ℕ, true, false, ◌<◌, List, [], length, map, slice_index_or, slice_set}
 use Rattle.ck_model.specs.Contents.{Stripes}
+use Rattle.ck_model.specs.Map.{Name}
 use Rattle.ck_model.specs.Slots.{Slot}
 use Rattle.ck_model.specs.declared.contents.Content.{Content}
+use Rattle.ck_stripe.specs.Doubling.{doubled_content}
 use Rattle.ck_stripe.specs.Stripe.{StripeState, HasBucket, bucket_of}
 
 module _ {V : Type 0} where
@@ -20,6 +22,14 @@ module _ {V : Type 0} where
   -- stripe i with this content
   abbrev pub set_content : List (StripeState V) → ℕ → Content V → List (StripeState V)
   set_content stripes i c = slice_set stripes i (record (stripe_at stripes i) { content = c })
+
+  -- the number of entries of stripe i
+  abbrev pub len_at : List (StripeState V) → ℕ → ℕ
+  len_at stripes i = (stripe_at stripes i).content.ledger
+
+  -- the stripe at the next power, not yet settled
+  abbrev pub doubled : (Name → ℕ) → StripeState V → StripeState V
+  doubled hash t = record t { content = doubled_content hash t.s t.number t.content; settled = false }
 
   -- the contents by the numbers of their stripes
   abbrev pub contents_of : List (StripeState V) → Stripes V

@@ -26,7 +26,8 @@ pub fn find_entry<K: TableKey, V, H: Held<K, V>>(
     key: &K,
 ) -> Option<Entry>
     requires { IsPlaceOf K.hash (H.stripes held.old) (K.name key.now) place }
-    ensures entry { IfSome result (IsEntryOf K.hash (H.stripes held.old) (K.name key.now) place) }
+    ensures entry { IfSome result
+        (IsEntryOf K.hash (H.stripes held.old) (K.name key.now) place) }
     ensures room { IfSome result
         (λ _. IsWithRoom K.hash place.s (H.stripes held.old) (K.name key.now)) }
     ensures no_room { IfNone result
@@ -37,8 +38,6 @@ pub fn find_entry<K: TableKey, V, H: Held<K, V>>(
     if let Some(at) = find_slot(held, place, key) {
         return Some(Entry::Occupied(at));
     }
-    match find_free(held, place, key) {
-        Some(at) => Some(Entry::Vacant(at)),
-        None => None,
-    }
+    let at = find_free(held, place, key)?;
+    Some(Entry::Vacant(at))
 }

@@ -1,13 +1,12 @@
 //! Stripes that a call holds, worked on one at a time.
-ghost use Rattle.std.specs.Prelude.{◌≡◌, ◌≤◌, ◌<◌, ◌+◌, ◌-◌, ◌*◌, List, true, false, Some, None, IsSome, IfSome, IfNone, OnOk, OnErr, length, map, slice_set};
+ghost use Rattle.std.specs.Prelude.{◌≡◌, ◌<◌, ◌+◌, ◌-◌, List, true, Some, None, IsSome, IfSome, IfNone, OnOk, OnErr, length, map, slice_set};
 ghost use Rattle.std.specs.Fn.{FnOnceReturnsAt};
 ghost use Rattle.ck_model.specs.Arithmetic.{partial_of};
-ghost use Rattle.ck_model.specs.Slots.{slot_at, IsFull};
-ghost use Rattle.ck_bucket.specs.Bucket.{HasName, LacksName, ReplacesValue, partial_in};
-ghost use Rattle.ck_stripe.specs.Doubling.{doubled_content};
-ghost use Rattle.ck_stripe.specs.Stripe.{StripeState, with_bucket, with_slot, IsReserved};
-ghost use Rattle.ck_section.specs.Stripes.{stripe_at, bucket_at, set_content, IsInReach};
-ghost use Rattle.ck_section.specs.Places.{HasStripe};
+ghost use Rattle.ck_model.specs.Slots.{IsFull};
+ghost use Rattle.ck_bucket.specs.Bucket.{HasName, LacksName, partial_in};
+ghost use Rattle.ck_stripe.specs.Stripe.{StripeState, IsReserved};
+ghost use Rattle.ck_section.specs.Stripes.{stripe_at, bucket_at, len_at, doubled, IsInReach};
+ghost use Rattle.ck_section.specs.Places.{HasStripe, at, slot_in, set_slot, IsLowest};
 
 use ck_key::TableKey;
 use std::alloc::AllocError;
@@ -60,7 +59,7 @@ pub trait Held<K: TableKey, V> {
     /// The number of entries of stripe `i`.
     fn len(&mut self, i: usize) -> u64
         requires { i < length (stripes self.old) }
-        ensures value { result ≡ (stripe_at (stripes self.old) i).content.ledger }
+        ensures value { result ≡ len_at (stripes self.old) i }
         ensures same { stripes self.new ≡ stripes self.old }
         ensures stays { stays self.old self.new };
 
@@ -69,8 +68,10 @@ pub trait Held<K: TableKey, V> {
         requires reach { IsInReach (stripes self.old) i b }
         requires partial { partial ≡ partial_of (K.hash (K.name key.now)) }
         ensures below { IfSome result (λ slot. slot < 4) }
-        ensures found { IfSome result (HasName (bucket_at (stripes self.old) i b) (K.name key.now)) }
-        ensures absent { IfNone result (LacksName (bucket_at (stripes self.old) i b) (K.name key.now)) }
+        ensures found { IfSome result
+            (HasName (bucket_at (stripes self.old) i b) (K.name key.now)) }
+        ensures absent { IfNone result
+            (LacksName (bucket_at (stripes self.old) i b) (K.name key.now)) }
         ensures same { stripes self.new ≡ stripes self.old }
         ensures stays { stays self.old self.new };
 
@@ -78,8 +79,8 @@ pub trait Held<K: TableKey, V> {
     fn free(&mut self, i: usize, b: u64) -> Option<usize>
         requires reach { IsInReach (stripes self.old) i b }
         ensures below { IfSome result (λ slot. slot < 4) }
-        ensures found { IfSome result (λ slot. slot_at (bucket_at (stripes self.old) i b) slot ≡ None) }
-        ensures lowest { IfSome result (λ slot. (j : _) → j < slot → IsSome (slot_at (bucket_at (stripes self.old) i b) j)) }
+        ensures found { IfSome result (λ slot. slot_in (stripes self.old) (at i b slot) ≡ None) }
+        ensures lowest { IfSome result (λ slot. IsLowest (stripes self.old) (at i b slot)) }
         ensures full { IfNone result (IsFull (bucket_at (stripes self.old) i b)) }
         ensures same { stripes self.new ≡ stripes self.old }
         ensures stays { stays self.old self.new };
@@ -96,9 +97,10 @@ pub trait Held<K: TableKey, V> {
     fn read<R, F: FnOnce(&V) -> R>(&mut self, i: usize, b: u64, slot: usize, f: F) -> R
         requires reach { IsInReach (stripes self.old) i b }
         requires below { slot < 4 }
-        requires full { IsSome (slot_at (bucket_at (stripes self.old) i b) slot) }
+        requires full { IsSome (slot_in (stripes self.old) (at i b slot)) }
         requires call { F.IsAlwaysCallable f }
-        ensures read { (n : _) (v : V) → slot_at (bucket_at (stripes self.old) i b) slot ≡ Some (n, v) → FnOnceReturnsAt F.FnOnce f v result }
+        ensures read { (n : _) (v : V) → slot_in (stripes self.old) (at i b slot) ≡ Some (n, v)
+            → FnOnceReturnsAt F.FnOnce f v result }
         ensures same { stripes self.new ≡ stripes self.old }
         ensures stays { stays self.old self.new };
 
@@ -106,35 +108,42 @@ pub trait Held<K: TableKey, V> {
     fn place(&mut self, i: usize, b: u64, slot: usize, partial: u8, key: K, value: V)
         requires reach { IsInReach (stripes self.old) i b }
         requires below { slot < 4 }
-        requires free { slot_at (bucket_at (stripes self.old) i b) slot ≡ None }
+        requires free { slot_in (stripes self.old) (at i b slot) ≡ None }
         requires partial { partial ≡ partial_of (K.hash (K.name key)) }
-        ensures content { stripes self.new ≡ set_content (stripes self.old) i (with_slot (stripe_at (stripes self.old) i) b slot (Some (K.name key, value)) ((stripe_at (stripes self.old) i).content.ledger + 1)) }
+        ensures content { stripes self.new ≡ set_slot (stripes self.old) (at i b slot)
+            (Some (K.name key, value)) (len_at (stripes self.old) i + 1) }
         ensures stays { stays self.old self.new };
 
     /// Frees a slot of bucket `b` of stripe `i`, and gives what was in it.
     fn remove(&mut self, i: usize, b: u64, slot: usize) -> (K, V)
         requires reach { IsInReach (stripes self.old) i b }
         requires below { slot < 4 }
-        requires full { IsSome (slot_at (bucket_at (stripes self.old) i b) slot) }
-        ensures entry { slot_at (bucket_at (stripes self.old) i b) slot ≡ Some (K.name result.0, result.1) }
-        ensures content { stripes self.new ≡ set_content (stripes self.old) i (with_slot (stripe_at (stripes self.old) i) b slot None ((stripe_at (stripes self.old) i).content.ledger - 1)) }
+        requires full { IsSome (slot_in (stripes self.old) (at i b slot)) }
+        ensures entry { slot_in (stripes self.old) (at i b slot)
+            ≡ Some (K.name result.0, result.1) }
+        ensures content { stripes self.new ≡ set_slot (stripes self.old) (at i b slot)
+            None (len_at (stripes self.old) i - 1) }
         ensures stays { stays self.old self.new };
 
     /// Puts another value beside the key in a slot, and gives the old one.
     fn replace(&mut self, i: usize, b: u64, slot: usize, value: V) -> V
         requires reach { IsInReach (stripes self.old) i b }
         requires below { slot < 4 }
-        requires full { IsSome (slot_at (bucket_at (stripes self.old) i b) slot) }
-        ensures content { (n : _) (v : V) → slot_at (bucket_at (stripes self.old) i b) slot ≡ Some (n, v) → (result ≡ v) × (stripes self.new ≡ set_content (stripes self.old) i (with_slot (stripe_at (stripes self.old) i) b slot (Some (n, value)) (stripe_at (stripes self.old) i).content.ledger)) }
+        requires full { IsSome (slot_in (stripes self.old) (at i b slot)) }
+        ensures content { (n : _) (v : V) → slot_in (stripes self.old) (at i b slot) ≡ Some (n, v)
+            → (result ≡ v) × (stripes self.new ≡ set_slot (stripes self.old) (at i b slot)
+            (Some (n, value)) (len_at (stripes self.old) i)) }
         ensures stays { stays self.old self.new };
 
     /// Makes of the value in a slot what the closure makes of it, in its place.
     fn change<F: FnOnce(V) -> V>(&mut self, i: usize, b: u64, slot: usize, f: F)
         requires reach { IsInReach (stripes self.old) i b }
         requires below { slot < 4 }
-        requires full { IsSome (slot_at (bucket_at (stripes self.old) i b) slot) }
+        requires full { IsSome (slot_in (stripes self.old) (at i b slot)) }
         requires call { F.IsAlwaysCallable f }
-        ensures content { (n : _) (v : V) → slot_at (bucket_at (stripes self.old) i b) slot ≡ Some (n, v) → (w : V) × F.post f v w × (stripes self.new ≡ set_content (stripes self.old) i (with_slot (stripe_at (stripes self.old) i) b slot (Some (n, w)) (stripe_at (stripes self.old) i).content.ledger)) }
+        ensures content { (n : _) (v : V) → slot_in (stripes self.old) (at i b slot) ≡ Some (n, v)
+            → (w : V) × F.post f v w × (stripes self.new ≡ set_slot (stripes self.old) (at i b slot)
+            (Some (n, w)) (len_at (stripes self.old) i)) }
         ensures stays { stays self.old self.new };
 
     /// Whether no doubling of stripe `i` is left to be carried out by `settle`.
@@ -147,14 +156,17 @@ pub trait Held<K: TableKey, V> {
     /// Carries out a doubling of stripe `i`; a settled one stays as it is.
     fn settle(&mut self, i: usize)
         requires { i < length (stripes self.old) }
-        ensures settled { stripes self.new ≡ slice_set (stripes self.old) i (record (stripe_at (stripes self.old) i) { settled = true }) }
+        ensures settled { stripes self.new ≡ slice_set (stripes self.old) i
+            (record (stripe_at (stripes self.old) i) { settled = true }) }
         ensures stays { stays self.old self.new };
 
     /// Takes the memory for a doubling of stripe `i`, by one request at most. A refused request leaves all as it was.
     fn reserve_double(&mut self, i: usize) -> Result<(), AllocError>
         requires inside { i < length (stripes self.old) }
         requires settled { (stripe_at (stripes self.old) i).settled ≡ true }
-        ensures room { stripes self.new ≡ slice_set (stripes self.old) i (record (stripe_at (stripes self.old) i) { room = (stripe_at (stripes self.new) i).room }) }
+        ensures room { stripes self.new ≡ slice_set (stripes self.old) i
+            (record (stripe_at (stripes self.old) i)
+            { room = (stripe_at (stripes self.new) i).room }) }
         ensures ok { OnOk result (IsReserved (stripe_at (stripes self.new) i)) }
         ensures kept { OnErr result (stripes self.new ≡ stripes self.old) }
         ensures stays { stays self.old self.new };
@@ -165,7 +177,8 @@ pub trait Held<K: TableKey, V> {
         requires settled { (stripe_at (stripes self.old) i).settled ≡ true }
         requires reserved { IsReserved (stripe_at (stripes self.old) i) }
         requires power { (stripe_at (stripes self.old) i).content.power < 26 }
-        ensures doubled { stripes self.new ≡ slice_set (stripes self.old) i (record (stripe_at (stripes self.old) i) { content = doubled_content K.hash (stripe_at (stripes self.old) i).s (stripe_at (stripes self.old) i).number (stripe_at (stripes self.old) i).content; settled = false }) }
+        ensures doubled { stripes self.new ≡ slice_set (stripes self.old) i
+            (doubled K.hash (stripe_at (stripes self.old) i)) }
         ensures stays { stays self.old self.new };
 
     ghost stays_same: { (s : Self) → stays s s };

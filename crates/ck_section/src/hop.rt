@@ -33,9 +33,12 @@ pub fn move_entry<K: TableKey + Drop, V: Drop, H: Held<K, V>>(
     hop: Hop,
 ) -> bool
     requires { IsHopIn (H.stripes held.old) from to hop }
-    ensures exactly { MatchBool result (CanHop K.hash (H.stripes held.old) from to hop) (¬ (CanHop K.hash (H.stripes held.old) from to hop)) }
-    ensures moved { MatchBool result (Hops (H.stripes held.old) from to hop (H.stripes held.new)) (H.stripes held.new ≡ H.stripes held.old) }
-    ensures no_call { IsNoCall K.hash (stripe_at (H.stripes held.old) from).s (H.stripes held.old) (H.stripes held.new) }
+    ensures exactly { MatchBool result (CanHop K.hash (H.stripes held.old) from to hop)
+        (¬ (CanHop K.hash (H.stripes held.old) from to hop)) }
+    ensures moved { MatchBool result (Hops (H.stripes held.old) from to hop (H.stripes held.new))
+        (H.stripes held.new ≡ H.stripes held.old) }
+    ensures no_call { IsNoCall K.hash (stripe_at (H.stripes held.old) from).s
+        (H.stripes held.old) (H.stripes held.new) }
     ensures rest { ChangesContents (H.stripes held.old) (H.stripes held.new) }
     ensures stays { H.stays held.old held.new }
 {
@@ -65,7 +68,8 @@ pub fn make_hop<K: TableKey + Drop, V: Drop, H: Held<K, V>>(held: &mut H, s: u32
         (¬ (CanHop K.hash (H.stripes held.old) i j hop))
         × MatchBool result (Hops (H.stripes held.old) i j hop (H.stripes held.new))
         (H.stripes held.new ≡ H.stripes held.old) }
-    ensures no_call { IsNoCall K.hash s (H.stripes held.old) (H.stripes held.new) }
+    ensures no_call { IsNoCall K.hash s
+        (H.stripes held.old) (H.stripes held.new) }
     ensures rest { ChangesContents (H.stripes held.old) (H.stripes held.new) }
     ensures stays { H.stays held.old held.new }
 {
@@ -77,7 +81,9 @@ pub fn make_hop<K: TableKey + Drop, V: Drop, H: Held<K, V>>(held: &mut H, s: u32
 // Whether the slot has an entry of the hop's partial.
 fn has_partial<K: TableKey, V, H: Held<K, V>>(held: &mut H, from: usize, hop: Hop) -> bool
     requires { IsInReach (H.stripes held.old) from hop.bucket }
-    ensures value { MatchBool result (HasPartial K.hash (slot_in (H.stripes held.old) (source_in from hop)) hop.partial) (¬ (HasPartial K.hash (slot_in (H.stripes held.old) (source_in from hop)) hop.partial)) }
+    ensures value { MatchBool result
+        (HasPartial K.hash (slot_in (H.stripes held.old) (source_in from hop)) hop.partial)
+        (¬ (HasPartial K.hash (slot_in (H.stripes held.old) (source_in from hop)) hop.partial)) }
     ensures below { OnTrue result (hop.slot < 4) }
     ensures same { H.stripes held.new ≡ H.stripes held.old }
     ensures stays { H.stays held.old held.new }

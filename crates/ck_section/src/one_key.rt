@@ -30,9 +30,11 @@ where
     requires place { IsPlaceOf K.hash (H.stripes held.old) (K.name key.now) place }
     requires call { F.IsAlwaysCallable f }
     ensures bound { IfSome result (λ r. (v : V) × FnOnceReturnsAt F.FnOnce f v r
-        × IsCall (effect K.hash H.stripes place held.old held.new) (K.name key.now) Find (Was (Some v))) }
+        × IsCall (effect K.hash H.stripes place held.old held.new) (K.name key.now)
+        Find (Was (Some v))) }
     ensures unbound { IfNone result
-        (IsCall (effect K.hash H.stripes place held.old held.new) (K.name key.now) Find (Was None)) }
+        (IsCall (effect K.hash H.stripes place held.old held.new) (K.name key.now)
+        Find (Was None)) }
     ensures same { H.stripes held.new ≡ H.stripes held.old }
     ensures stays { H.stays held.old held.new }
 {
@@ -82,7 +84,7 @@ pub fn assign<K: TableKey + Drop, V: Drop, H: Held<K, V>>(
     ensures stays { H.stays held.old held.new }
 {
     match entry {
-        Entry::Occupied(at) => Some(held.replace(at.index, at.bucket, at.slot, value)),
+        Entry::Occupied(old) => Some(held.replace(old.index, old.bucket, old.slot, value)),
         Entry::Vacant(at) => {
             fill(held, place, at, key, value);
             None
@@ -140,10 +142,11 @@ pub fn erase_if<K: TableKey + Drop, V: Drop, H: Held<K, V>, F: FnOnce(&V) -> boo
     ensures bound { IfOk result (λ gone. (v : V) × FnOnceReturnsAt F.FnOnce f v gone
         × IsCall (effect K.hash H.stripes place held.old held.new) (K.name key.now)
         (if gone then Erase else Find) (Was (Some v))) }
-    ensures same { IfOk result (λ gone. OnFalse gone (H.stripes held.new ≡ H.stripes held.old)) }
+    ensures same { IfOk result
+        (λ gone. OnFalse gone (H.stripes held.new ≡ H.stripes held.old)) }
     ensures unbound { IfErr result (λ back. (back ≡ f)
-        × IsCall (effect K.hash H.stripes place held.old held.new) (K.name key.now) Find (Was None)
-        × (H.stripes held.new ≡ H.stripes held.old)) }
+        × IsCall (effect K.hash H.stripes place held.old held.new) (K.name key.now)
+        Find (Was None) × (H.stripes held.new ≡ H.stripes held.old)) }
     ensures rest { ChangesContents (H.stripes held.old) (H.stripes held.new) }
     ensures stays { H.stays held.old held.new }
 {
@@ -171,8 +174,10 @@ where
     requires call { F.IsAlwaysCallable f }
     ensures call { MatchBool result
         ((v w : V) × F.post f v w
-        × IsCall (effect K.hash H.stripes place held.old held.new) (K.name key.now) Change (Done v w))
-        (IsCall (effect K.hash H.stripes place held.old held.new) (K.name key.now) Change Absent) }
+        × IsCall (effect K.hash H.stripes place held.old held.new) (K.name key.now)
+        Change (Done v w))
+        (IsCall (effect K.hash H.stripes place held.old held.new) (K.name key.now)
+        Change Absent) }
     ensures same { OnFalse result (H.stripes held.new ≡ H.stripes held.old) }
     ensures rest { ChangesContents (H.stripes held.old) (H.stripes held.new) }
     ensures stays { H.stays held.old held.new }
@@ -200,15 +205,16 @@ where
     requires entry { IsEntryOf K.hash (H.stripes held.old) (K.name key) place entry }
     requires call { F.IsAlwaysCallable f }
     ensures call { MatchBool result
-        (IsCall (effect K.hash H.stripes place held.old held.new) (K.name key) (Upsert value) New)
+        (IsCall (effect K.hash H.stripes place held.old held.new) (K.name key)
+        (Upsert value) New)
         ((v w : V) × F.post f v w × IsCall (effect K.hash H.stripes place held.old held.new)
         (K.name key) (Upsert value) (Done v w)) }
     ensures rest { ChangesContents (H.stripes held.old) (H.stripes held.new) }
     ensures stays { H.stays held.old held.new }
 {
     match entry {
-        Entry::Occupied(at) => {
-            held.change(at.index, at.bucket, at.slot, f);
+        Entry::Occupied(old) => {
+            held.change(old.index, old.bucket, old.slot, f);
             false
         }
         Entry::Vacant(at) => {
@@ -233,5 +239,6 @@ fn fill<K: TableKey + Drop, V: Drop, H: Held<K, V>>(
     ensures rest { ChangesContents (H.stripes held.old) (H.stripes held.new) }
     ensures stays { H.stays held.old held.new }
 {
-    held.place(at.index, at.bucket, at.slot, place.partial, key, value);
+    let partial = place.partial;
+    held.place(at.index, at.bucket, at.slot, partial, key, value);
 }

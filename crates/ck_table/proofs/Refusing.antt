@@ -1,18 +1,19 @@
--- What an insertion leaves of its pass.
+-- What a refused insertion leaves of its pass.
 use Rattle.std.proofs.Common.{◌≡◌, ◌⊎◌, ℕ, zero, suc, ◌<◌, ◌^◌, length, List, [], ◌∷◌, ⊎_elim, inl, inr, sym, refl, ap, ◌∙◌, subst, append-nil, arith, Some}
 use Rattle.std.proofs.lemmas.List.Elements.{All-nil, All-cons}
-use Rattle.ck_model.specs.declared.history.Act.{Act}
-use Rattle.ck_model.specs.declared.history.Call.TheVariants.{On}
-use Rattle.ck_model.specs.declared.history.Reply.{Reply}
 use Rattle.ck_model.specs.declared.history.Why.{Why}
 use Rattle.ck_model.specs.declared.history.Why.TheVariants.{NoRoom}
 use Rattle.ck_model.specs.declared.settings.Settings.{Settings}
 use Rattle.ck_model.specs.Map.{Name}
 use Rattle.ck_model.specs.Numbered.{IsIn, numbers}
+use Rattle.ck_model.specs.Contents.{Lawful}
 use Rattle.ck_model.specs.Sections.{Owns}
+use Rattle.ck_model.specs.Paths.{HasNoRoom}
 use Rattle.ck_model.proofs.Buckets.{index_below, second_below}
 use Rattle.ck_stripe.specs.Stripe.{StripeState}
 use Rattle.ck_section.specs.Stripes.{stripe_at, contents_of}
+use Rattle.ck_section.specs.declared.place.KeyPlace.{KeyPlace}
+use Rattle.ck_section.specs.Calls.{IsWithoutRoom}
 use Rattle.ck_section.specs.Places.{HasBoth}
 use Rattle.ck_core.specs.declared.view.View.{View}
 use Rattle.ck_core.specs.Steps.{giving}
@@ -21,12 +22,12 @@ use Rattle.ck_words.specs.Rule.{layout_of}
 use Rattle.ck_words.specs.Words.{WordsState}
 use Rattle.ck_words.specs.Passes.{PassState, Sends}
 use Rattle.ck_words.specs.Retries.{Stays, StaysBut}
-use Rattle.ck_words.specs.Answering.{IsAnswered}
 use Rattle.ck_words.proofs.Staying.{stays_then}
 use Rattle.ck_words.proofs.Rows.{give_row}
 use Rattle.ck_table.specs.declared.refusal.Why.TheVariants.{Busy, Full}
+use Rattle.ck_table.specs.Holding.{HoldsKeyBut}
 use Rattle.ck_table.specs.Refusals.{FindsOwn, IsBusyAt}
-use Rattle.ck_table.specs.Insertions.{reason_of, HasFoundNoRoom, IsInserted, IsRefused, FindsOwnUnlessFull}
+use Rattle.ck_table.specs.Insertions.{reason_of, HasFoundNoRoom, IsRefused, FindsOwnUnlessFull}
 
 module _ {V : Type 0} where
   held_number : (ss : List (StripeState V)) (t i : ℕ) → i < length ss → (stripe_at ss i).number ≡ t → IsIn t (numbers (contents_of ss))
@@ -39,6 +40,15 @@ module _ {V : Type 0} where
   owns_both hash set q ss both t of = ⊎_elim
       (λ e. held_number ss t both.first.0 both.first.1 (both.first.2 ∙ sym e))
       (λ e. held_number ss t both.alternate.0 both.alternate.1 (both.alternate.2 ∙ sym e)) of
+
+  -- where the name has no room among the stripes that its pass holds, the pass may say so
+  pub excused : {hash : Name → ℕ} {w v : WordsState} {q : Name} {place : KeyPlace} {more : List (Name × Why)} {p p1 : PassState V} → v ≡ w → HoldsKeyBut more hash w.settings q place p p1
+      → (p2 : PassState V) → p2.stripes ≡ p1.stripes → IsWithoutRoom hash place.s p1.stripes q
+      → Lawful (layout_of hash v.settings) (contents_of p2.stripes) → Owns (layout_of hash v.settings) (contents_of p2.stripes) q × HasNoRoom (layout_of hash v.settings) (contents_of p2.stripes) q
+  excused {hash} {w} {v} {q} {place} {more} {p} {p1} is held p2 same room =
+      let none : IsWithoutRoom hash w.settings.s p1.stripes q = subst (λ (s : ℕ). IsWithoutRoom hash s p1.stripes q) held.s room in
+      subst (λ (x : WordsState × List (StripeState V)). Lawful (layout_of hash x.0.settings) (contents_of x.1) → Owns (layout_of hash x.0.settings) (contents_of x.1) q × HasNoRoom (layout_of hash x.0.settings) (contents_of x.1) q)
+      (λ j. (sym is j, sym same j)) (λ lawful. (owns_both hash w.settings q p1.stripes held.both, none w.settings.max lawful))
 
   -- the highest stripe went home and told of the name, and the others went home
   module _ (hash : Name → ℕ) (w : WordsState) (q : Name) (p p1 p2 : PassState V) (g : Sends hash w (λ t _. Give t (Some (q, NoRoom))) p p1) where
@@ -66,15 +76,18 @@ module _ {V : Type 0} where
     more = [];
     stays = busy.stays;
     own = All-nil _;
-    shown = (⊎_elim
-        (λ e. subst (λ n. n < 2 ^ set.s) (sym e) (index_below set.s (hash q)))
-        (λ e. subst (λ n. n < 2 ^ set.s) (sym e) (second_below set.s (hash q))) busy.stripe, busy.tried);
+    shown = (
+      ⊎_elim
+          (λ e. subst (λ n. n < 2 ^ set.s) (sym e) (index_below set.s (hash q)))
+          (λ e. subst (λ n. n < 2 ^ set.s) (sym e) (second_below set.s (hash q))) busy.stripe,
+      busy.tried,
+    );
   }
 
-  -- a stripe that is held was found before the stripes of the name were taken, if at all
-  pub found_own : (hash : Name → ℕ) (set : Settings) (q : Name) (p p1 p2 z : PassState V) → FindsOwn hash set q p p1 → p2.view ≡ p1.view → z.view.found ≡ p2.view.found → FindsOwnUnlessFull hash set q p z
-  found_own hash set q p p1 p2 z f same found = (f.0, found ∙ (ap (λ (v : View V). v.found) same ∙ f.1), (λ t i. inl (f.2 t i)))
+  -- what was found held is of the name, also where the pass has found no other since
+  pub found_own : (hash : Name → ℕ) (set : Settings) (q : Name) (p p1 z : PassState V) → FindsOwn hash set q p p1 → z.view.found ≡ p1.view.found → FindsOwnUnlessFull hash set q p z
+  found_own hash set q p p1 z f same = (f.0, same ∙ f.1, (λ t i. inl (f.2 t i)))
 
-  -- an insertion that was answered at once
-  pub inserts : (q : Name) (act : Act V) (reply : Reply V) (p z : PassState V) → IsAnswered (On q act) reply p z → IsInserted q act reply p z
-  inserts q act reply p z a = ([], All-nil _, a)
+  -- and where the pass was answered since, with no other said to be without room
+  pub found_since : (hash : Name → ℕ) (set : Settings) (q : Name) (p p1 z : PassState V) → FindsOwnUnlessFull hash set q p p1 → z.view.found ≡ p1.view.found → z.view.noroom ≡ p1.view.noroom → FindsOwnUnlessFull hash set q p z
+  found_since hash set q p p1 z f same said = (f.0, same ∙ f.1, (λ t i. ⊎_elim inl (λ x. inr (x.0, said ∙ x.1, x.2)) (f.2 t i)))

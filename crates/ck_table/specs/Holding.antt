@@ -1,15 +1,23 @@
 -- A pass while a call holds the stripes of its key.
-use Rattle.std.specs.Prelude.{ℕ}
+use Rattle.std.specs.Prelude.{◌≡◌, ℕ, List, []}
+use Rattle.ck_model.specs.declared.history.Why.{Why}
 use Rattle.ck_model.specs.declared.settings.Settings.{Settings}
 use Rattle.ck_model.specs.Map.{Name}
-use Rattle.ck_section.specs.Places.{AreHeld, HasBoth}
+use Rattle.ck_section.specs.declared.place.KeyPlace.{KeyPlace}
+use Rattle.ck_section.specs.Places.{HasBoth, IsPlaceOf}
 use Rattle.ck_words.specs.Passes.{PassState, IsUnchanged}
-use Rattle.ck_words.specs.Retries.{Stays}
+use Rattle.ck_words.specs.Retries.{StaysBut}
 
 module _ {V : Type 0} where
-  -- Since p the pass has taken the stripes of the name, and has settled them.
-  pub record HoldsKey (hash : Name → ℕ) (set : Settings) (q : Name) (p p2 : PassState V) : Type 0 where
-    pub stays : Stays p.view p2.view
-    pub held : AreHeld set.s p2.stripes
+  -- Since p the pass has taken the stripes of the name, and has settled them. The name may be at this place among them.
+  -- It has said of these names more that they found no room.
+  pub record HoldsKeyBut (more : List (Name × Why)) (hash : Name → ℕ) (set : Settings) (q : Name) (place : KeyPlace) (p p2 : PassState V) : Type 0 where
+    pub stays : StaysBut more p.view p2.view
     pub both : HasBoth hash set.s p2.stripes q
+    pub at : IsPlaceOf hash p2.stripes q place
+    pub s : place.s ≡ set.s
     pub unchanged : IsUnchanged p2
+
+  -- and it has said so of none more
+  abbrev pub HoldsKey : (Name → ℕ) → Settings → Name → KeyPlace → PassState V → PassState V → Type 0
+  HoldsKey = HoldsKeyBut []

@@ -8,12 +8,15 @@ use Rattle.ck_model.specs.declared.history.Why.TheVariants as reason
 use Rattle.ck_model.specs.declared.settings.Settings.{Settings}
 use Rattle.ck_model.specs.Map.{Name}
 use Rattle.ck_model.specs.Contents.{IsStripeOf}
+use Rattle.ck_section.specs.Entries.{IsEntryOf}
+use Rattle.ck_table.specs.declared.holding.Room.{Room}
 use Rattle.ck_table.specs.declared.refusal.Why.{Why}
 use Rattle.ck_table.specs.declared.refusal.Why.TheVariants.{Busy, Memory, Full, LoadTooLow}
 use Rattle.ck_words.specs.Rule.{layout_of}
 use Rattle.ck_words.specs.Passes.{PassState}
 use Rattle.ck_words.specs.Retries.{StaysBut, FindsAmong, FindsLast}
 use Rattle.ck_words.specs.Answering.{IsAnsweredBut}
+use Rattle.ck_table.specs.Holding.{HoldsKeyBut}
 
 -- Why the name was without room, as the history has it. A busy insertion has no other reason than that its buckets were full.
 abbrev pub reason_of : Why → history.Why
@@ -31,6 +34,13 @@ module _ {V : Type 0} where
   abbrev pub IsInserted : Name → Act V → Reply V → PassState V → PassState V → Type 0
   IsInserted q act reply p p2 =
       (more : List (Name × history.Why)) × All (λ x. x ≡ (q, reason.NoRoom)) more × IsAnsweredBut more (On q act) reply p p2
+
+  -- The pass holds the stripes of the name, with its entry. It has said nothing of room but that its name's buckets were full.
+  pub record HasRoom (hash : Name → ℕ) (set : Settings) (q : Name) (room : Room) (p p2 : PassState V) : Type 0 where
+    pub more : List (Name × history.Why)
+    pub own : All (λ x. x ≡ (q, reason.NoRoom)) more
+    pub held : HoldsKeyBut more hash set q room.place p p2
+    pub entry : IsEntryOf hash p2.stripes q room.place room.entry
 
   -- among what it has said of room since is that the name's buckets were full
   abbrev pub SaysNoRoom : Name → PassState V → PassState V → Type 0

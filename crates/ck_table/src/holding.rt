@@ -1,30 +1,82 @@
-//! Taking the stripes of a key.
-ghost use Rattle.std.specs.Prelude.{◌≡◌, OnOk, OnErr, IfErr};
+//! Taking the stripes of a key, with room for it.
+ghost use Rattle.std.specs.Prelude.{◌≡◌, OnErr, IfOk, IfErr};
 ghost use Rattle.ck_words.specs.Passes.{IsPassOf, IsIdle};
 ghost use Rattle.ck_words.specs.Closing.{IsCaller};
 ghost use Rattle.ck_table.specs.Holding.{HoldsKey};
+ghost use Rattle.ck_table.specs.Insertions.{HasRoom, IsRefused, FindsOwnUnlessFull};
 ghost use Rattle.ck_table.specs.Refusals.{FindsOwn, IsBusyAt};
 
-use crate::refusal::Busy;
+use crate::refusal::{Busy, Why};
 use crate::table::Table;
-use ck_key::{TableKey, stripes_of};
-use ck_words::Pass;
+use ck_key::{KeyHash, TableKey};
+use ck_section::{Entry, KeyPlace, find_entry, key_place};
+use ck_words::{Lent, Pass};
+use std::marker::Brand;
+
+// Where a key may be among the stripes that its pass holds, and its entry there.
+#[derive(Clone, Copy)]
+pub(crate) struct Room {
+    pub(crate) place: KeyPlace,
+    pub(crate) entry: Entry,
+}
 
 impl<K: TableKey + Drop, V: Drop> Table<K, V> {
-    // Takes the stripes of the key, and carries out a doubling that is left to be.
+    // Takes the stripes of the key, and carries out a doubling that is left to be. Where the key may be among them comes
+    // back.
     #[inline(always)]
-    pub(crate) fn hold_key(&self, pass: &mut Pass<K, V>, key: &K) -> Result<(), Busy>
+    pub(crate) fn hold_key(&self, pass: &mut Pass<K, V>, key: &K) -> Result<KeyPlace, Busy>
         requires caller { IsCaller self.now pass.old }
         ensures own { IsPassOf self.now pass.new }
-        ensures held { OnOk result (HoldsKey K.hash self.now.settings (K.name key.now) pass.old pass.new) }
+        ensures held { IfOk result (λ place.
+            HoldsKey K.hash self.now.settings (K.name key.now) place pass.old pass.new) }
         ensures found { FindsOwn K.hash self.now.settings (K.name key.now) pass.old pass.new }
         ensures idle { OnErr result (IsIdle pass.new) }
-        ensures busy { IfErr result (λ busy. IsBusyAt K.hash self.now.settings (K.name key.now) busy.0 pass.old pass.new) }
+        ensures busy { IfErr result (λ busy.
+            IsBusyAt K.hash self.now.settings (K.name key.now) busy.0 pass.old pass.new) }
     {
-        let (low, high) = stripes_of(self.words.settings().s, key.hash64());
+        let s = self.words.settings().s;
+        let hash = KeyHash::of(key);
+        let (low, high) = hash.stripes(s);
         match self.words.hold(pass, low as usize, high as usize) {
-            Ok(()) => Ok(()),
+            Ok(()) => {
+                let mut lent = Lent {
+                    words: &self.words,
+                    pass,
+                };
+                Ok(key_place(&mut lent, s, key, hash))
+            }
             Err(stripe) => Err(Busy(stripe as u32)),
         }
+    }
+
+    // Takes the stripes of the key, and finds its entry there. Where the key is unbound and its buckets are full, it gives
+    // them back.
+    #[inline(always)]
+    pub(crate) fn hold_with_room(&self, pass: &mut Pass<K, V>, key: &K) -> Result<Room, Why>
+        requires caller { IsCaller self.now pass.old }
+        ensures own { IsPassOf self.now pass.new }
+        ensures room { IfOk result (λ room.
+            HasRoom K.hash self.now.settings (K.name key.now) room pass.old pass.new) }
+        ensures found { FindsOwnUnlessFull K.hash self.now.settings
+            (K.name key.now) pass.old pass.new }
+        ensures idle { OnErr result (IsIdle pass.new) }
+        ensures refused { IfErr result (λ why.
+            IsRefused self.now.settings (K.name key.now) why pass.old pass.new) }
+    {
+        let place = match self.hold_key(pass, key) {
+            Ok(place) => place,
+            Err(Busy(stripe)) => return Err(Why::Busy(stripe)),
+        };
+        let mut lent = Lent {
+            words: &self.words,
+            pass,
+        };
+        let entry = find_entry(&mut lent, place, key);
+        if let Some(entry) = entry {
+            return Ok(Room { place, entry });
+        }
+        self.words.give::<Brand, K>(lent.pass, key);
+        self.words.release(lent.pass);
+        Err(Why::Full)
     }
 }

@@ -1,19 +1,15 @@
 //! Calls that may bind an unbound key.
-ghost use Rattle.std.specs.Prelude.{◌≡◌, ◌<◌, Some, None, true, false, length, if◌then◌else◌, IfOk, IfErr, MatchBool};
+ghost use Rattle.std.specs.Prelude.{◌≡◌, if◌then◌else◌, IfOk, IfErr, MatchBool};
 ghost use Rattle.ck_model.specs.declared.history.Act.TheVariants.{Insert, Assign, Upsert};
 ghost use Rattle.ck_model.specs.declared.history.Reply.TheVariants.{Was, New, Old, Done};
-ghost use Rattle.ck_section.specs.Calls.{IsCall, IsWithoutRoom};
-ghost use Rattle.ck_section.specs.Places.{AreHeld, HasBoth};
-ghost use Rattle.ck_words.specs.Passes.{IsPassOf, IsIdle, IsUnchanged};
 ghost use Rattle.ck_words.specs.Closing.{IsCaller};
-ghost use Rattle.ck_table.specs.Insertions.{HasFoundNoRoom, IsInserted, IsRefused, FindsOwnUnlessFull};
+ghost use Rattle.ck_table.specs.Insertions.{IsInserted, IsRefused, FindsOwnUnlessFull};
 
-use crate::refusal::{Busy, Refused, Why};
+use crate::refusal::Refused;
 use crate::table::Table;
 use ck_key::TableKey;
-use ck_section::{NoRoom, assign, insert, key_place, upsert};
+use ck_section::{assign, insert, upsert};
 use ck_words::{Commit, Lent, Pass};
-use std::marker::Brand;
 use std::snapshot::Snapshot;
 
 impl<K: TableKey + Drop, V: Drop> Table<K, V> {
@@ -31,24 +27,18 @@ impl<K: TableKey + Drop, V: Drop> Table<K, V> {
             × IsRefused self.now.settings (K.name key) e.why pass.old pass.new) }
         ensures found { FindsOwnUnlessFull K.hash self.now.settings (K.name key) pass.old pass.new }
     {
-        if let Err(Busy(stripe)) = self.hold_key(pass, &key) {
-            return Err(Refused {
-                key,
-                value,
-                why: Why::Busy(stripe),
-            });
-        }
-        let key_said = Snapshot::of(&key);
-        let value_said = Snapshot::of(&value);
-        let done = self.insert_held(pass, key, value);
-        match done {
-            Ok(fresh) => {
-                self.words
-                    .commit(pass, Commit::Insert(key_said, value_said));
-                Ok(fresh)
-            }
-            Err(back) => Err(self.refuse(pass, back)),
-        }
+        let room = match self.hold_with_room(pass, &key) {
+            Ok(room) => room,
+            Err(why) => return Err(Refused { key, value, why }),
+        };
+        let said = Commit::Insert(Snapshot::of(&key), Snapshot::of(&value));
+        let mut lent = Lent {
+            words: &self.words,
+            pass,
+        };
+        let fresh = insert(&mut lent, room.place, room.entry, key, value);
+        self.words.commit(lent.pass, said);
+        Ok(fresh)
     }
 
     /// Binds the key to the value, and gives the value that it had.
@@ -69,24 +59,18 @@ impl<K: TableKey + Drop, V: Drop> Table<K, V> {
             × IsRefused self.now.settings (K.name key) e.why pass.old pass.new) }
         ensures found { FindsOwnUnlessFull K.hash self.now.settings (K.name key) pass.old pass.new }
     {
-        if let Err(Busy(stripe)) = self.hold_key(pass, &key) {
-            return Err(Refused {
-                key,
-                value,
-                why: Why::Busy(stripe),
-            });
-        }
-        let key_said = Snapshot::of(&key);
-        let value_said = Snapshot::of(&value);
-        let done = self.assign_held(pass, key, value);
-        match done {
-            Ok(old) => {
-                self.words
-                    .commit(pass, Commit::Assign(key_said, value_said));
-                Ok(old)
-            }
-            Err(back) => Err(self.refuse(pass, back)),
-        }
+        let room = match self.hold_with_room(pass, &key) {
+            Ok(room) => room,
+            Err(why) => return Err(Refused { key, value, why }),
+        };
+        let said = Commit::Assign(Snapshot::of(&key), Snapshot::of(&value));
+        let mut lent = Lent {
+            words: &self.words,
+            pass,
+        };
+        let old = assign(&mut lent, room.place, room.entry, key, value);
+        self.words.commit(lent.pass, said);
+        Ok(old)
     }
 
     /// Binds an unbound key to the value, and a bound one to what the closure makes of its value; says whether the key was
@@ -114,142 +98,17 @@ impl<K: TableKey + Drop, V: Drop> Table<K, V> {
             × IsRefused self.now.settings (K.name key) e.why pass.old pass.new) }
         ensures found { FindsOwnUnlessFull K.hash self.now.settings (K.name key) pass.old pass.new }
     {
-        if let Err(Busy(stripe)) = self.hold_key(pass, &key) {
-            return Err(Refused {
-                key,
-                value,
-                why: Why::Busy(stripe),
-            });
-        }
-        let key_said = Snapshot::of(&key);
-        let value_said = Snapshot::of(&value);
-        let done = self.upsert_held(pass, key, f, value);
-        match done {
-            Ok(reply) => {
-                self.words
-                    .commit(pass, Commit::Upsert(key_said, value_said));
-                Ok(reply)
-            }
-            Err(back) => Err(self.refuse(pass, back)),
-        }
-    }
-
-    // The call `insert` on the stripes that the pass holds.
-    fn insert_held(&self, pass: &mut Pass<K, V>, key: K, value: V) -> Result<bool, NoRoom<K, V>>
-        requires own { IsPassOf self.now pass.old }
-        requires held { AreHeld self.now.settings.s pass.old.stripes }
-        requires both { HasBoth K.hash self.now.settings.s pass.old.stripes (K.name key) }
-        ensures own { IsPassOf self.now pass.new }
-        ensures view { pass.new.view ≡ pass.old.view }
-        ensures some { 0 < length pass.new.stripes }
-        ensures call { IfOk result (λ fresh. IsCall K.hash self.now.settings.s
-            pass.old.stripes (K.name key) (Insert value) (if fresh then New else Old) pass.new.stripes) }
-        ensures no_room { IfErr result (λ e.
-            IsWithoutRoom K.hash self.now.settings.s pass.old.stripes (K.name key)
-            × (e ≡ record { key = key; value = value }) × (pass.new.stripes ≡ pass.old.stripes)) }
-    {
-        let s = self.words.settings().s;
+        let room = match self.hold_with_room(pass, &key) {
+            Ok(room) => room,
+            Err(why) => return Err(Refused { key, value, why }),
+        };
+        let said = Commit::Upsert(Snapshot::of(&key), Snapshot::of(&value));
         let mut lent = Lent {
             words: &self.words,
             pass,
         };
-        let place = key_place(&mut lent, s, &key);
-        match insert(&mut lent, place, key, value) {
-            Ok(answer) => Ok(answer.reply),
-            Err(back) => Err(back),
-        }
-    }
-
-    // The call `assign` on the stripes that the pass holds.
-    fn assign_held(
-        &self,
-        pass: &mut Pass<K, V>,
-        key: K,
-        value: V,
-    ) -> Result<Option<V>, NoRoom<K, V>>
-        requires own { IsPassOf self.now pass.old }
-        requires held { AreHeld self.now.settings.s pass.old.stripes }
-        requires both { HasBoth K.hash self.now.settings.s pass.old.stripes (K.name key) }
-        ensures own { IsPassOf self.now pass.new }
-        ensures view { pass.new.view ≡ pass.old.view }
-        ensures some { 0 < length pass.new.stripes }
-        ensures call { IfOk result (λ old. IsCall K.hash self.now.settings.s
-            pass.old.stripes (K.name key) (Assign value) (Was old) pass.new.stripes) }
-        ensures no_room { IfErr result (λ e.
-            IsWithoutRoom K.hash self.now.settings.s pass.old.stripes (K.name key)
-            × (e ≡ record { key = key; value = value }) × (pass.new.stripes ≡ pass.old.stripes)) }
-    {
-        let s = self.words.settings().s;
-        let mut lent = Lent {
-            words: &self.words,
-            pass,
-        };
-        let place = key_place(&mut lent, s, &key);
-        match assign(&mut lent, place, key, value) {
-            Ok(answer) => Ok(answer.reply),
-            Err(back) => Err(back),
-        }
-    }
-
-    // The call `upsert` on the stripes that the pass holds.
-    fn upsert_held<F: FnOnce(V) -> V>(
-        &self,
-        pass: &mut Pass<K, V>,
-        key: K,
-        f: F,
-        value: V,
-    ) -> Result<bool, NoRoom<K, V>>
-    where
-        F: Drop,
-        requires own { IsPassOf self.now pass.old }
-        requires held { AreHeld self.now.settings.s pass.old.stripes }
-        requires both { HasBoth K.hash self.now.settings.s pass.old.stripes (K.name key) }
-        requires call { F.IsAlwaysCallable f }
-        ensures own { IsPassOf self.now pass.new }
-        ensures view { pass.new.view ≡ pass.old.view }
-        ensures some { 0 < length pass.new.stripes }
-        ensures call { IfOk result (λ fresh. MatchBool fresh
-            (IsCall K.hash self.now.settings.s
-            pass.old.stripes (K.name key) (Upsert value) New pass.new.stripes)
-            ((v w : V) × F.post f v w × IsCall K.hash self.now.settings.s
-            pass.old.stripes (K.name key) (Upsert value) (Done v w) pass.new.stripes)) }
-        ensures no_room { IfErr result (λ e.
-            IsWithoutRoom K.hash self.now.settings.s pass.old.stripes (K.name key)
-            × (e ≡ record { key = key; value = value }) × (pass.new.stripes ≡ pass.old.stripes)) }
-    {
-        let s = self.words.settings().s;
-        let mut lent = Lent {
-            words: &self.words,
-            pass,
-        };
-        let place = key_place(&mut lent, s, &key);
-        match upsert(&mut lent, place, key, f, value) {
-            Ok(answer) => Ok(answer.reply),
-            Err((_, back)) => Err(back),
-        }
-    }
-
-    // Gives the stripes back as they are, where they have no room for the key.
-    fn refuse(&self, pass: &mut Pass<K, V>, back: NoRoom<K, V>) -> Refused<K, V>
-        requires own { IsPassOf self.now pass.old }
-        requires some { 0 < length pass.old.stripes }
-        requires unchanged { IsUnchanged pass.old }
-        requires both { HasBoth K.hash self.now.settings.s pass.old.stripes (K.name back.key) }
-        requires room { IsWithoutRoom K.hash self.now.settings.s pass.old.stripes (K.name back.key) }
-        ensures own { IsPassOf self.now pass.new }
-        ensures idle { IsIdle pass.new }
-        ensures key { result.key ≡ back.key }
-        ensures value { result.value ≡ back.value }
-        ensures why { result.why ≡ Why.Full }
-        ensures told { HasFoundNoRoom (K.name back.key) pass.old pass.new }
-        ensures found { pass.new.view.found ≡ pass.old.view.found }
-    {
-        self.words.give::<Brand, K>(pass, &back.key);
-        self.words.release(pass);
-        Refused {
-            key: back.key,
-            value: back.value,
-            why: Why::Full,
-        }
+        let unbound = upsert(&mut lent, room.place, room.entry, key, f, value);
+        self.words.commit(lent.pass, said);
+        Ok(unbound)
     }
 }

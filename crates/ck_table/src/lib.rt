@@ -7,6 +7,7 @@
 //! displacement of entries come with the whole-table lock.
 #![tactic(auto)]
 
+mod caller;
 mod changes;
 mod holding;
 mod insertions;
@@ -15,6 +16,7 @@ mod refusal;
 mod table;
 mod two_keys;
 
+pub use caller::Caller;
 pub use ck_model::settings::Settings;
 pub use ck_words::Pass;
 pub use refusal::{Busy, OpenFault, Refused, Why};

@@ -13,7 +13,7 @@ pub enum OpenFault {
     Memory,
 }
 
-/// This stripe of the key was found held in as many tries as the settings allow. The call changed nothing.
+/// This stripe of the call's keys was found held in as many tries in a row as the settings allow. The call changed nothing.
 #[derive(Debug, Clone, Copy, PartialEq, Eq, Error)]
 #[error("stripe {0} is busy")]
 pub struct Busy(pub u32);
@@ -21,7 +21,8 @@ pub struct Busy(pub u32);
 /// Why an entry was refused.
 #[derive(Debug, Clone, Copy, PartialEq, Eq, Error)]
 pub enum Why {
-    /// This stripe of the key was found held in as many tries as the settings allow.
+    /// This stripe was found held in as many tries in a row as the settings allow. It is one of the key, but where the
+    /// key's buckets were found full.
     #[error("stripe {0} is busy")]
     Busy(u32),
     /// The table has to grow, and there is no memory.
@@ -36,7 +37,8 @@ pub enum Why {
 }
 
 /// A key and a value that were refused, given back.
-#[derive(Debug, Drop)]
+#[derive(Debug, Drop, Error)]
+#[error("{why}")]
 pub struct Refused<K, V> {
     /// The key that was to be bound.
     pub key: K,

@@ -39,7 +39,9 @@ impl<K: TableKey + Drop, V: Drop> Table<K, V> {
         alloc: Global,
         settings: Settings,
     ) -> Result<(Table<K, V>, Vec<Pass<K, V>>), OpenFault>
-        ensures ok { IfOk result (λ r. (r.0.settings ≡ settings) × (r.1.items ≡ dealt r.0.table settings (counting 0 settings.callers)) × AreAllPasses r.0 r.1.items) }
+        ensures ok { IfOk result (λ r. (r.0.settings ≡ settings)
+            × (r.1.items ≡ dealt r.0.table settings (counting 0 settings.callers))
+            × AreAllPasses r.0 r.1.items) }
         ensures settings { (result ≡ Err OpenFault.Settings) ↔ ¬ (AreInRange settings) }
     {
         if !settings.are_in_range() {
@@ -58,8 +60,11 @@ impl<K: TableKey + Drop, V: Drop> Table<K, V> {
     /// and the passes come back, with the same entries.
     pub fn close(self, passes: Vec<Pass<K, V>>) -> Result<Vec<(K, V)>, (Self, Vec<Pass<K, V>>)>
         requires { AreAllPasses self passes.items }
-        ensures pairs { IfOk result (λ pairs. (log : List (Entry V)) × (m : Map V) × IsShuffle log (parts_of passes.items) × EachSaw log passes.items × After log m × ListsInOrder K.name K.cmp pairs.items m) }
-        ensures back { IfErr result (λ back. (back.0 ≡ self) × AreAllPasses back.0 back.1.items × EachStays passes.items back.1.items) }
+        ensures pairs { IfOk result (λ pairs. (log : List (Entry V)) × (m : Map V)
+            × IsShuffle log (parts_of passes.items) × EachSaw log passes.items
+            × After log m × ListsInOrder K.name K.cmp pairs.items m) }
+        ensures back { IfErr result (λ back. (back.0 ≡ self)
+            × AreAllPasses back.0 back.1.items × EachStays passes.items back.1.items) }
     {
         let Table { words } = self;
         match words.close(passes) {

@@ -1,8 +1,7 @@
 //! Calls on a table and their replies, as data.
-ghost use Rattle.std.specs.Prelude.{◌≡◌};
-ghost use Rattle.ck_words.specs.Closing.{IsCaller};
+ghost use Rattle.ck_table.specs.Callers.{IsSameCaller};
 
-use crate::fixtures::{NumPass, NumTable};
+use crate::fixtures::NumCaller;
 use ck_key::NumKey;
 use ck_table::{Refused, Why};
 
@@ -43,168 +42,168 @@ pub enum Reply {
     ValueBack(u64, u32),
     /// Key and value came back.
     BothBack(u64, u64, Why),
+    /// The call was refused or its key is unbound, and its closure was called nonetheless.
+    CalledInVain,
+}
+
+// The reply of a call that has no use for its closure.
+fn uncalled(called: bool, reply: Reply) -> Reply {
+    if called { Reply::CalledInVain } else { reply }
 }
 
 fn both_back(refused: Refused<NumKey, u64>) -> Reply {
     Reply::BothBack(refused.key.0, refused.value, refused.why)
 }
 
-fn find(table: &NumTable, pass: &mut NumPass, key: u64) -> Reply
-    requires { IsCaller table.now pass.old }
-    ensures caller { IsCaller table.now pass.new }
-    ensures by { pass.new.view.by ≡ pass.old.view.by }
+fn find(caller: &mut NumCaller<'_>, key: u64) -> Reply
+    ensures { IsSameCaller caller.old caller.new }
 {
-    match table.find(pass, &NumKey(key)) {
+    match caller.find(&NumKey(key)) {
         Ok(value) => Reply::Was(value),
         Err(busy) => Reply::Busy(busy.0),
     }
 }
 
-fn find_tenth(table: &NumTable, pass: &mut NumPass, key: u64) -> Reply
-    requires { IsCaller table.now pass.old }
-    ensures caller { IsCaller table.now pass.new }
-    ensures by { pass.new.view.by ≡ pass.old.view.by }
+fn find_tenth(caller: &mut NumCaller<'_>, key: u64) -> Reply
+    ensures { IsSameCaller caller.old caller.new }
 {
-    match table.find_fn(pass, &NumKey(key), |value: &u64| *value / 10) {
+    let mut called = false;
+    let tenth = |value: &u64| {
+        called = true;
+        *value / 10
+    };
+    match caller.find_fn(&NumKey(key), tenth) {
         Ok(Some(tenth)) => Reply::Was(Some(tenth)),
-        Ok(None) => Reply::Was(None),
-        Err(busy) => Reply::Busy(busy.0),
+        Ok(None) => uncalled(called, Reply::Was(None)),
+        Err(busy) => uncalled(called, Reply::Busy(busy.0)),
     }
 }
 
-fn contains(table: &NumTable, pass: &mut NumPass, key: u64) -> Reply
-    requires { IsCaller table.now pass.old }
-    ensures caller { IsCaller table.now pass.new }
-    ensures by { pass.new.view.by ≡ pass.old.view.by }
+fn contains(caller: &mut NumCaller<'_>, key: u64) -> Reply
+    ensures { IsSameCaller caller.old caller.new }
 {
-    match table.contains(pass, &NumKey(key)) {
+    match caller.contains(&NumKey(key)) {
         Ok(true) => Reply::Bound(true),
         Ok(false) => Reply::Bound(false),
         Err(busy) => Reply::Busy(busy.0),
     }
 }
 
-fn insert(table: &NumTable, pass: &mut NumPass, key: u64, value: u64) -> Reply
-    requires { IsCaller table.now pass.old }
-    ensures caller { IsCaller table.now pass.new }
-    ensures by { pass.new.view.by ≡ pass.old.view.by }
+fn insert(caller: &mut NumCaller<'_>, key: u64, value: u64) -> Reply
+    ensures { IsSameCaller caller.old caller.new }
 {
-    match table.insert(pass, NumKey(key), value) {
+    match caller.insert(NumKey(key), value) {
         Ok(fresh) => Reply::Fresh(fresh),
         Err(refused) => both_back(refused),
     }
 }
 
-fn insert_or_assign(table: &NumTable, pass: &mut NumPass, key: u64, value: u64) -> Reply
-    requires { IsCaller table.now pass.old }
-    ensures caller { IsCaller table.now pass.new }
-    ensures by { pass.new.view.by ≡ pass.old.view.by }
+fn insert_or_assign(caller: &mut NumCaller<'_>, key: u64, value: u64) -> Reply
+    ensures { IsSameCaller caller.old caller.new }
 {
-    match table.insert_or_assign(pass, NumKey(key), value) {
+    match caller.insert_or_assign(NumKey(key), value) {
         Ok(old) => Reply::Was(old),
         Err(refused) => both_back(refused),
     }
 }
 
-fn upsert(table: &NumTable, pass: &mut NumPass, key: u64, value: u64) -> Reply
-    requires { IsCaller table.now pass.old }
-    ensures caller { IsCaller table.now pass.new }
-    ensures by { pass.new.view.by ≡ pass.old.view.by }
-{
-    match table.upsert(pass, NumKey(key), |old| old.saturating_add(1), value) {
-        Ok(true) => Reply::Fresh(true),
-        Ok(false) => Reply::Fresh(false),
-        Err(refused) => both_back(refused),
-    }
-}
-
-fn update(table: &NumTable, pass: &mut NumPass, key: u64, value: u64) -> Reply
-    requires { IsCaller table.now pass.old }
-    ensures caller { IsCaller table.now pass.new }
-    ensures by { pass.new.view.by ≡ pass.old.view.by }
-{
-    match table.update(pass, &NumKey(key), value) {
-        Ok(old) => Reply::Was(old),
-        Err((back, busy)) => Reply::ValueBack(back, busy.0),
-    }
-}
-
-fn update_fn(table: &NumTable, pass: &mut NumPass, key: u64) -> Reply
-    requires { IsCaller table.now pass.old }
-    ensures caller { IsCaller table.now pass.new }
-    ensures by { pass.new.view.by ≡ pass.old.view.by }
+fn upsert(caller: &mut NumCaller<'_>, key: u64, value: u64) -> Reply
+    ensures { IsSameCaller caller.old caller.new }
 {
     let mut called = false;
     let add = |old: u64| {
         called = true;
         old.saturating_add(1)
     };
-    match table.update_fn(pass, &NumKey(key), add) {
-        Ok(true) => Reply::Updated(true, called),
-        Ok(false) => Reply::Updated(false, called),
-        Err(busy) => Reply::Busy(busy.0),
+    match caller.upsert(NumKey(key), add, value) {
+        Ok(true) => uncalled(called, Reply::Fresh(true)),
+        Ok(false) => Reply::Fresh(false),
+        Err(refused) => uncalled(called, both_back(refused)),
     }
 }
 
-fn erase(table: &NumTable, pass: &mut NumPass, key: u64) -> Reply
-    requires { IsCaller table.now pass.old }
-    ensures caller { IsCaller table.now pass.new }
-    ensures by { pass.new.view.by ≡ pass.old.view.by }
+fn update(caller: &mut NumCaller<'_>, key: u64, value: u64) -> Reply
+    ensures { IsSameCaller caller.old caller.new }
 {
-    match table.erase(pass, &NumKey(key)) {
+    match caller.update(&NumKey(key), value) {
+        Ok(old) => Reply::Was(old),
+        Err((back, busy)) => Reply::ValueBack(back, busy.0),
+    }
+}
+
+fn update_fn(caller: &mut NumCaller<'_>, key: u64) -> Reply
+    ensures { IsSameCaller caller.old caller.new }
+{
+    let mut called = false;
+    let add = |old: u64| {
+        called = true;
+        old.saturating_add(1)
+    };
+    match caller.update_fn(&NumKey(key), add) {
+        Ok(true) => Reply::Updated(true, called),
+        Ok(false) => Reply::Updated(false, called),
+        Err(busy) => uncalled(called, Reply::Busy(busy.0)),
+    }
+}
+
+fn erase(caller: &mut NumCaller<'_>, key: u64) -> Reply
+    ensures { IsSameCaller caller.old caller.new }
+{
+    match caller.erase(&NumKey(key)) {
         Ok(old) => Reply::Was(old),
         Err(busy) => Reply::Busy(busy.0),
     }
 }
 
-fn erase_within(table: &NumTable, pass: &mut NumPass, key: u64, low: u64, high: u64) -> Reply
-    requires { IsCaller table.now pass.old }
-    ensures caller { IsCaller table.now pass.new }
-    ensures by { pass.new.view.by ≡ pass.old.view.by }
+fn erase_within(caller: &mut NumCaller<'_>, key: u64, low: u64, high: u64) -> Reply
+    ensures { IsSameCaller caller.old caller.new }
 {
-    let within = |value: &u64| low <= *value && *value <= high;
-    match table.erase_fn(pass, &NumKey(key), within) {
-        Ok(gone) => Reply::Gone(gone),
-        Err(busy) => Reply::Busy(busy.0),
+    let mut called = false;
+    let within = |value: &u64| {
+        called = true;
+        low <= *value && *value <= high
+    };
+    match caller.erase_fn(&NumKey(key), within) {
+        Ok(Some(gone)) => Reply::Gone(Some(gone)),
+        Ok(None) => uncalled(called, Reply::Gone(None)),
+        Err(busy) => uncalled(called, Reply::Busy(busy.0)),
     }
 }
 
-fn transfer(table: &NumTable, pass: &mut NumPass, from: u64, to: u64) -> Reply
-    requires { IsCaller table.now pass.old }
-    ensures caller { IsCaller table.now pass.new }
-    ensures by { pass.new.view.by ≡ pass.old.view.by }
+fn transfer(caller: &mut NumCaller<'_>, from: u64, to: u64) -> Reply
+    ensures { IsSameCaller caller.old caller.new }
 {
     if from == to {
         return Reply::Bound(false);
     }
+    let mut called = false;
     let move_one = |less: u64, more: u64| {
+        called = true;
         let moved = less.min(1);
         (less - moved, more.saturating_add(moved))
     };
-    match table.update_two(pass, &NumKey(from), &NumKey(to), move_one) {
+    match caller.update_two(&NumKey(from), &NumKey(to), move_one) {
         Ok(true) => Reply::Bound(true),
-        Ok(false) => Reply::Bound(false),
-        Err(busy) => Reply::Busy(busy.0),
+        Ok(false) => uncalled(called, Reply::Bound(false)),
+        Err(busy) => uncalled(called, Reply::Busy(busy.0)),
     }
 }
 
 /// Makes the call.
-pub fn answer(table: &NumTable, pass: &mut NumPass, call: Call) -> Reply
-    requires { IsCaller table.now pass.old }
-    ensures caller { IsCaller table.now pass.new }
-    ensures by { pass.new.view.by ≡ pass.old.view.by }
+pub fn answer(caller: &mut NumCaller<'_>, call: Call) -> Reply
+    ensures { IsSameCaller caller.old caller.new }
 {
     match call {
-        Call::Find(key) => find(table, pass, key),
-        Call::FindTenth(key) => find_tenth(table, pass, key),
-        Call::Contains(key) => contains(table, pass, key),
-        Call::Insert(key, value) => insert(table, pass, key, value),
-        Call::InsertOrAssign(key, value) => insert_or_assign(table, pass, key, value),
-        Call::Upsert(key, value) => upsert(table, pass, key, value),
-        Call::Update(key, value) => update(table, pass, key, value),
-        Call::UpdateFn(key) => update_fn(table, pass, key),
-        Call::Erase(key) => erase(table, pass, key),
-        Call::EraseWithin(key, low, high) => erase_within(table, pass, key, low, high),
-        Call::Transfer(from, to) => transfer(table, pass, from, to),
+        Call::Find(key) => find(caller, key),
+        Call::FindTenth(key) => find_tenth(caller, key),
+        Call::Contains(key) => contains(caller, key),
+        Call::Insert(key, value) => insert(caller, key, value),
+        Call::InsertOrAssign(key, value) => insert_or_assign(caller, key, value),
+        Call::Upsert(key, value) => upsert(caller, key, value),
+        Call::Update(key, value) => update(caller, key, value),
+        Call::UpdateFn(key) => update_fn(caller, key),
+        Call::Erase(key) => erase(caller, key),
+        Call::EraseWithin(key, low, high) => erase_within(caller, key, low, high),
+        Call::Transfer(from, to) => transfer(caller, from, to),
     }
 }

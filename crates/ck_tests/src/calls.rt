@@ -1,9 +1,9 @@
-//! Calls on one key by two passes of a table, from one thread, and what the table has at its end. A third pass makes none.
+//! Calls on one key by two callers of a table, from one thread, and what the table has at its end. A third makes none.
 ghost use Rattle.std.specs.Prelude.{◌≡◌};
-ghost use Rattle.ck_words.specs.Closing.{IsCaller};
+ghost use Rattle.ck_table.specs.Callers.{IsSameCaller};
 
 use crate::callers::{Call, Reply, answer};
-use crate::fixtures::{NumPass, NumTable, close, open};
+use crate::fixtures::{NumCaller, close, open};
 use ck_key::NumKey;
 use ck_table::Why;
 use std::alloc::Global;
@@ -12,11 +12,11 @@ use std::test::Fail;
 
 #[derive(Clone, Copy)]
 enum Step {
-    /// The first pass makes the call, and gets the reply.
+    /// The first caller makes the call, and gets the reply.
     First(Call, Reply),
-    /// The second pass makes the call, and gets the reply.
+    /// The second caller makes the call, and gets the reply.
     Second(Call, Reply),
-    /// The second pass meets the first.
+    /// The second caller meets the first.
     Meet,
 }
 
@@ -31,7 +31,7 @@ struct Run {
 
 const RUNS: [Run; 7] = [
     Run {
-        what: "after they met, one pass finds what the other has bound",
+        what: "after they met, one caller finds what the other has bound",
         power: 4,
         steps: &[
             Step::First(Call::Insert(1, 10), Reply::Fresh(true)),
@@ -113,6 +113,7 @@ const RUNS: [Run; 7] = [
             Step::First(Call::Find(11), Reply::Was(Some(110))),
             Step::First(Call::Find(15), Reply::Was(Some(150))),
             Step::First(Call::Find(19), Reply::Was(None)),
+            Step::First(Call::EraseWithin(19, 0, u64::MAX), Reply::Gone(None)),
             // A bound key needs no room, and an erased one leaves some.
             Step::First(Call::InsertOrAssign(7, 71), Reply::Was(Some(70))),
             Step::First(Call::Erase(3), Reply::Was(Some(30))),
@@ -126,7 +127,7 @@ const RUNS: [Run; 7] = [
         ],
     },
     Run {
-        what: "the pairs come in rising order of the keys, whichever pass has bound them",
+        what: "the pairs come in rising order of the keys, whichever caller has bound them",
         power: 4,
         steps: &[
             Step::First(Call::Insert(u64::MAX, 1), Reply::Fresh(true)),
@@ -146,47 +147,39 @@ const RUNS: [Run; 7] = [
 ];
 
 /// Takes the step, and says whether the reply was the wanted one.
-fn take_step(table: &NumTable, first: &mut NumPass, second: &mut NumPass, step: Step) -> bool
-    requires first { IsCaller table.now first.old }
-    requires second { IsCaller table.now second.old }
-    ensures first { IsCaller table.now first.new }
-    ensures second { IsCaller table.now second.new }
-    ensures by { (first.new.view.by ≡ first.old.view.by) × (second.new.view.by ≡ second.old.view.by) }
+fn take_step<'t>(first: &mut NumCaller<'t>, second: &mut NumCaller<'t>, step: Step) -> bool
+    requires { first.old.table ≡ second.old.table }
+    ensures first { IsSameCaller first.old first.new }
+    ensures second { IsSameCaller second.old second.new }
 {
     match step {
-        Step::First(call, want) => answer(table, first, call) == want,
-        Step::Second(call, want) => answer(table, second, call) == want,
+        Step::First(call, want) => answer(first, call) == want,
+        Step::Second(call, want) => answer(second, call) == want,
         Step::Meet => {
-            table.meet(first, second);
+            first.meet(second);
             true
         }
     }
 }
 
-fn take_steps(
-    rt: &impl Abort,
-    table: &NumTable,
-    first: &mut NumPass,
-    second: &mut NumPass,
-    run: &Run,
-)
-    requires first { IsCaller table.now first.old }
-    requires second { IsCaller table.now second.old }
-    ensures first { IsCaller table.now first.new }
-    ensures second { IsCaller table.now second.new }
-    ensures by { (first.new.view.by ≡ first.old.view.by) × (second.new.view.by ≡ second.old.view.by) }
+fn take_steps<'t>(rt: &impl Abort, first: &mut NumCaller<'t>, second: &mut NumCaller<'t>, run: &Run)
+    requires { first.old.table ≡ second.old.table }
+    ensures first { IsSameCaller first.old first.new }
+    ensures second { IsSameCaller second.old second.new }
 {
     let what = run.what;
     for (number, step) in run.steps.iter().enumerate() {
-        let as_wanted = take_step(table, first, second, *step);
+        let as_wanted = take_step(first, second, *step);
         assert!(rt; as_wanted, "{what}: step {number}");
     }
 }
 
 /// The pairs at the end of the run.
 fn end_of(rt: &impl Abort, alloc: Global, run: &Run) -> Result<Vec<(NumKey, u64)>, Fail> {
-    let (table, mut first, mut second, third) = open(alloc, run.power)?;
-    take_steps(rt, &table, &mut first, &mut second, run);
+    let (table, first, second, third) = open(alloc, run.power)?;
+    let (mut first, mut second) = (table.caller(first), table.caller(second));
+    take_steps(rt, &mut first, &mut second, run);
+    let (first, second) = (first.into_pass(), second.into_pass());
     close(alloc, table, first, second, third)
 }
 

@@ -4,7 +4,7 @@ ghost use Rattle.ck_words.specs.Closing.{IsCaller};
 
 use ck_key::NumKey;
 use ck_model::history::Name;
-use ck_table::{Pass, Settings, Table};
+use ck_table::{Caller, Pass, Settings, Table};
 use std::alloc::{AllocError, Global};
 use std::collections::LinkedList;
 use std::test::Fail;
@@ -12,6 +12,8 @@ use std::test::Fail;
 pub type NumTable = Table<NumKey, u64>;
 
 pub type NumPass = Pass<NumKey, u64>;
+
+pub type NumCaller<'t> = Caller<'t, NumKey, u64>;
 
 /// Two stripes of two buckets each, for three callers.
 pub const TWO_STRIPES: Settings = Settings {

@@ -1,83 +1,66 @@
-//! Calls by two passes while a call of another holds the stripes of its key: that call's closure makes them.
+//! Calls by two callers while a call of another holds the stripes of its key: that call's closure makes them.
 //!
 //! Of the four stripes, key 3 has stripe 3 alone, key 513 has stripe 1 alone, key 0 has stripes 0 and 1, key 1 has
 //! stripes 1 and 3, key 2 has stripes 1 and 2, and key 258 has stripe 2 alone.
 ghost use Rattle.std.specs.Prelude.{◌≢◌};
-ghost use Rattle.ck_words.specs.Closing.{IsCaller};
 
 use crate::callers::{Call, Reply, answer};
-use crate::fixtures::{NumPass, NumTable, open};
+use crate::fixtures::{NumCaller, open};
 use ck_key::NumKey;
 use ck_table::Why;
 use std::alloc::Global;
 use std::process::Abort;
 use std::test::Fail;
 
-/// A pass and its table. That they belong together is known by its type, and so also after a closure has used it.
-#[derive(Drop)]
-struct Caller<'a> {
-    table: &'a NumTable,
-    pass: NumPass,
-    ghost own: { ∥ IsCaller table.now pass ∥₁ },
+fn check_rows(rt: &impl Abort, caller: &mut NumCaller<'_>, what: &str, rows: &[Row]) {
+    for (number, (call, want)) in rows.iter().enumerate() {
+        let as_wanted = answer(caller, *call) == *want;
+        assert!(rt; as_wanted, "{what}: call {number}");
+    }
 }
 
-impl<'a> Caller<'a> {
-    fn call(&mut self, call: Call) -> Reply {
-        answer(self.table, &mut self.pass, call)
-    }
+/// Binds a bound key, where a value is given, by a closure in which the other two make their calls.
+fn update_around(
+    rt: &impl Abort,
+    first: &mut NumCaller<'_>,
+    key: u64,
+    new: Option<u64>,
+    others: &mut Others,
+    turn: &Turn,
+) {
+    let around = |old: u64| {
+        others.check(rt, turn);
+        new.unwrap_or(old)
+    };
+    let bound = first.update_fn(&NumKey(key), around);
+    assert!(rt; bound == Ok(true));
+}
 
-    fn check(&mut self, rt: &impl Abort, what: &str, rows: &[Row]) {
-        for (number, (call, want)) in rows.iter().enumerate() {
-            let as_wanted = self.call(*call) == *want;
-            assert!(rt; as_wanted, "{what}: call {number}");
-        }
-    }
+/// Moves one from a bound key to another by a closure in which the other two make their calls.
+fn transfer_around(
+    rt: &impl Abort,
+    first: &mut NumCaller<'_>,
+    from: u64,
+    to: u64,
+    others: &mut Others,
+    turn: &Turn,
+)
+    requires { from ≢ to }
+{
+    let around = |less: u64, more: u64| {
+        others.check(rt, turn);
+        (less.saturating_sub(1), more.saturating_add(1))
+    };
+    let bound = first.update_two(&NumKey(from), &NumKey(to), around);
+    assert!(rt; bound == Ok(true));
+}
 
-    /// Binds a bound key, where a value is given, by a closure in which the other two make their calls.
-    fn update_around(
-        &mut self,
-        rt: &impl Abort,
-        key: u64,
-        new: Option<u64>,
-        others: &mut Others,
-        turn: &Turn,
-    ) {
-        let around = |old: u64| {
-            others.check(rt, turn);
-            new.unwrap_or(old)
-        };
-        let bound = self.table.update_fn(&mut self.pass, &NumKey(key), around);
-        assert!(rt; bound == Ok(true));
-    }
-
-    /// Moves one from a bound key to another by a closure in which the other two make their calls.
-    fn transfer_around(
-        &mut self,
-        rt: &impl Abort,
-        from: u64,
-        to: u64,
-        others: &mut Others,
-        turn: &Turn,
-    )
-        requires { from ≢ to }
-    {
-        let around = |less: u64, more: u64| {
-            others.check(rt, turn);
-            (less.saturating_sub(1), more.saturating_add(1))
-        };
-        let bound = self
-            .table
-            .update_two(&mut self.pass, &NumKey(from), &NumKey(to), around);
-        assert!(rt; bound == Ok(true));
-    }
-
-    fn take_turn(&mut self, rt: &impl Abort, others: &mut Others, turn: &Turn) {
-        match turn.around {
-            Around::Update(key, new) => self.update_around(rt, key, new, others, turn),
-            Around::Transfer(from, to) => {
-                assert!(rt; from != to);
-                self.transfer_around(rt, from, to, others, turn);
-            }
+fn take_turn(rt: &impl Abort, first: &mut NumCaller<'_>, others: &mut Others, turn: &Turn) {
+    match turn.around {
+        Around::Update(key, new) => update_around(rt, first, key, new, others, turn),
+        Around::Transfer(from, to) => {
+            assert!(rt; from != to);
+            transfer_around(rt, first, from, to, others, turn);
         }
     }
 }
@@ -85,14 +68,14 @@ impl<'a> Caller<'a> {
 /// Two callers that make their calls while another is in one.
 #[derive(Drop)]
 struct Others<'a> {
-    second: Caller<'a>,
-    third: Caller<'a>,
+    second: NumCaller<'a>,
+    third: NumCaller<'a>,
 }
 
 impl<'a> Others<'a> {
     fn check(&mut self, rt: &impl Abort, turn: &Turn) {
-        self.second.check(rt, "within, second", turn.seconds);
-        self.third.check(rt, "within, third", turn.thirds);
+        check_rows(rt, &mut self.second, "within, second", turn.seconds);
+        check_rows(rt, &mut self.third, "within, third", turn.thirds);
     }
 }
 
@@ -286,25 +269,21 @@ const SCENES: [Scene; 4] = [
     },
 ];
 
-fn play(rt: &impl Abort, first: &mut Caller, others: &mut Others, scene: &Scene) {
-    first.check(rt, scene.what, scene.firsts);
+fn play(rt: &impl Abort, first: &mut NumCaller<'_>, others: &mut Others, scene: &Scene) {
+    check_rows(rt, first, scene.what, scene.firsts);
     for turn in scene.turns {
-        first.take_turn(rt, others, turn);
+        take_turn(rt, first, others, turn);
     }
-    others.second.check(rt, scene.what, scene.seconds);
-    others.third.check(rt, scene.what, scene.thirds);
+    check_rows(rt, &mut others.second, scene.what, scene.seconds);
+    check_rows(rt, &mut others.third, scene.what, scene.thirds);
 }
 
 fn check(rt: &impl Abort, alloc: Global, scene: &Scene) -> Result<(), Fail> {
     let (table, first, second, third) = open(alloc, 4)?;
-    let table = &table;
-    let mut first = Caller { table, pass: first };
+    let mut first = table.caller(first);
     let mut others = Others {
-        second: Caller {
-            table,
-            pass: second,
-        },
-        third: Caller { table, pass: third },
+        second: table.caller(second),
+        third: table.caller(third),
     };
     play(rt, &mut first, &mut others, scene);
     Ok(())

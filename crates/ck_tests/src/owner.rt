@@ -8,7 +8,9 @@ use crate::fixtures::name_of;
 use ck_key::NumKey;
 use ck_model::history::Name;
 use ck_oracle::map::PlainMap;
-use ck_section::{Slice, are_all, assign, erase, find, insert, place_in_all, update, upsert};
+use ck_section::{
+    Slice, are_all, assign, erase, find, find_entry, insert, place_in_all, update, upsert,
+};
 use ck_stripe::Stripe;
 use rand_core::Rng;
 use rand_pcg::Lcg64Xsh32;
@@ -139,7 +141,7 @@ fn find_in(stripes: &mut [Stripe<NumKey, u64>], key: NumKey) -> Option<u64>
 {
     let place = place_in_all(stripes, S, &key);
     let mut held = Slice { stripes };
-    Some(find(&mut held, place, &key, |value| *value)?.reply)
+    find(&mut held, place, &key, |value| *value)
 }
 
 fn insert_in(stripes: &mut [Stripe<NumKey, u64>], key: NumKey, value: u64) -> Option<bool>
@@ -147,7 +149,8 @@ fn insert_in(stripes: &mut [Stripe<NumKey, u64>], key: NumKey, value: u64) -> Op
 {
     let place = place_in_all(stripes, S, &key);
     let mut held = Slice { stripes };
-    Some(insert(&mut held, place, key, value).ok()?.reply)
+    let entry = find_entry(&mut held, place, &key)?;
+    Some(insert(&mut held, place, entry, key, value))
 }
 
 fn assign_in(stripes: &mut [Stripe<NumKey, u64>], key: NumKey, value: u64) -> Option<Option<u64>>
@@ -155,7 +158,8 @@ fn assign_in(stripes: &mut [Stripe<NumKey, u64>], key: NumKey, value: u64) -> Op
 {
     let place = place_in_all(stripes, S, &key);
     let mut held = Slice { stripes };
-    Some(assign(&mut held, place, key, value).ok()?.reply)
+    let entry = find_entry(&mut held, place, &key)?;
+    Some(assign(&mut held, place, entry, key, value))
 }
 
 fn update_in(stripes: &mut [Stripe<NumKey, u64>], key: NumKey, value: u64) -> Option<u64>
@@ -163,7 +167,7 @@ fn update_in(stripes: &mut [Stripe<NumKey, u64>], key: NumKey, value: u64) -> Op
 {
     let place = place_in_all(stripes, S, &key);
     let mut held = Slice { stripes };
-    Some(update(&mut held, place, &key, value)?.reply)
+    update(&mut held, place, &key, value)
 }
 
 fn upsert_in(stripes: &mut [Stripe<NumKey, u64>], key: NumKey, value: u64) -> Option<bool>
@@ -171,8 +175,9 @@ fn upsert_in(stripes: &mut [Stripe<NumKey, u64>], key: NumKey, value: u64) -> Op
 {
     let place = place_in_all(stripes, S, &key);
     let mut held = Slice { stripes };
+    let entry = find_entry(&mut held, place, &key)?;
     let add = |old: u64| old.wrapping_add(value);
-    Some(upsert(&mut held, place, key, add, value).ok()?.reply)
+    Some(upsert(&mut held, place, entry, key, add, value))
 }
 
 fn erase_in(stripes: &mut [Stripe<NumKey, u64>], key: NumKey) -> Option<u64>
@@ -180,7 +185,7 @@ fn erase_in(stripes: &mut [Stripe<NumKey, u64>], key: NumKey) -> Option<u64>
 {
     let place = place_in_all(stripes, S, &key);
     let mut held = Slice { stripes };
-    Some(erase(&mut held, place, &key)?.reply)
+    erase(&mut held, place, &key)
 }
 
 /// What the operation replies, or `None` where there is no room for the key.
@@ -241,19 +246,19 @@ struct Seen {
 
 /// The table, the plain map beside it, and what the operations met so far.
 #[derive(Drop)]
-struct Pair {
+struct Twins {
     owner: Owner,
     plain: PlainMap,
     seen: [Seen; 6],
 }
 
-impl Pair {
-    fn open(alloc: Global) -> Result<Pair, AllocError> {
+impl Twins {
+    fn open(alloc: Global) -> Result<Twins, AllocError> {
         let none = Seen {
             unbound: false,
             bound: false,
         };
-        Ok(Pair {
+        Ok(Twins {
             owner: Owner::open(alloc)?,
             plain: PlainMap::new(alloc),
             seen: [none; 6],
@@ -297,12 +302,12 @@ fn make_calls(
     rt: &impl Abort,
     alloc: Global,
     random: &mut Lcg64Xsh32,
-    pair: &mut Pair,
+    twins: &mut Twins,
 ) -> Result<(), Fail> {
     for step in 0..STEPS {
         let which = random.next_u32() as usize % OPERATIONS.len();
         let key = random.next_u64() % KEYS;
-        let same = pair.call(alloc, which, key, random.next_u64())?;
+        let same = twins.call(alloc, which, key, random.next_u64())?;
         assert!(rt; same, "step {step}: operation {which} on {key}");
     }
     Ok(())
@@ -312,13 +317,13 @@ fn make_calls(
 fn random_calls(rt: HostRuntime) -> Result<(), Fail> {
     let alloc = rt.alloc();
     let mut random = Lcg64Xsh32::new(2026, 1);
-    let mut pair = Pair::open(alloc)?;
+    let mut twins = Twins::open(alloc)?;
     for _ in 0..20 {
-        make_calls(&rt, alloc, &mut random, &mut pair)?;
-        pair.compare(&rt, alloc)?;
+        make_calls(&rt, alloc, &mut random, &mut twins)?;
+        twins.compare(&rt, alloc)?;
     }
-    assert!(rt; pair.owner.doublings > 3);
-    for seen in pair.seen {
+    assert!(rt; twins.owner.doublings > 3);
+    for seen in twins.seen {
         assert!(rt; seen.unbound && seen.bound);
     }
     Ok(())

@@ -1,5 +1,5 @@
 //! Searches at power 8 that were worked out by hand.
-use ck_path::{Hop, Path, Search};
+use ck_path::{Path, PathHop, Search};
 use std::process::Abort;
 use std::test::Fail;
 
@@ -24,7 +24,7 @@ struct Row<'a> {
     /// The buckets that are wanted, and how often each in a row.
     wanted: &'a [(u64, u32)],
     /// The end of the path and its hops in the order in which they are carried out, if there is one.
-    path: Option<(u64, &'a [Hop])>,
+    path: Option<(u64, &'a [PathHop])>,
 }
 
 fn sketch_of(table: &[(u64, Sketch)], bucket: u64) -> Sketch {
@@ -34,8 +34,8 @@ fn sketch_of(table: &[(u64, Sketch)], bucket: u64) -> Sketch {
         .map_or([None; 4], |row| row.1)
 }
 
-fn hop(bucket: u64, slot: usize, partial: u8) -> Hop {
-    Hop {
+fn hop(bucket: u64, slot: usize, partial: u8) -> PathHop {
+    PathHop {
         bucket,
         slot,
         partial,

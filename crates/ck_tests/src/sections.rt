@@ -2,9 +2,9 @@
 ghost use Rattle.std.specs.Prelude.{◌≢◌, ◌≤◌, ◌∷◌, [], IfOk};
 ghost use Rattle.ck_section.specs.Places.{AreAllHeld};
 
-use ck_key::NumKey;
+use ck_key::{KeyHash, NumKey};
 use ck_section::{
-    Hop, Pair, Several, Slice, assign, change, erase, find, insert, key_place, move_entry, update,
+    Hop, Slice, assign, change, erase, find, find_entry, insert, key_place, make_hop, update,
     update_two, upsert,
 };
 use ck_stripe::Stripe;
@@ -48,26 +48,26 @@ fn apply(held: &mut Slice<NumKey, u64>, s: u32, number: u64, act: Act) -> Option
     ensures { AreAllHeld s held.new.stripes.now }
 {
     let key = NumKey(number);
-    let place = key_place(held, s, &key);
+    let place = key_place(held, s, &key, KeyHash::of(&key));
     match act {
-        Act::Find(more) => find(held, place, &key, |v| v.saturating_add(more)).map(|a| a.reply),
-        Act::Insert(value) => match insert(held, place, key, value) {
-            Ok(a) => Some(a.reply as u64),
-            Err(_) => Some(NO_ROOM),
-        },
-        Act::Assign(value) => match assign(held, place, key, value) {
-            Ok(a) => a.reply,
-            Err(_) => Some(NO_ROOM),
-        },
-        Act::Update(value) => update(held, place, &key, value).map(|a| a.reply),
-        Act::Add(more) => change(held, place, &key, |v| v.saturating_add(more)).map(|_| 1),
-        Act::Upsert(more, value) => {
-            match upsert(held, place, key, |v| v.saturating_add(more), value) {
-                Ok(a) => Some(a.reply as u64),
-                Err(_) => Some(NO_ROOM),
+        Act::Find(more) => find(held, place, &key, |v| v.saturating_add(more)),
+        Act::Update(value) => update(held, place, &key, value),
+        Act::Add(more) => change(held, place, &key, |v| v.saturating_add(more)).then_some(1),
+        Act::Erase => erase(held, place, &key),
+        Act::Insert(_) | Act::Assign(_) | Act::Upsert(..) => {
+            let Some(entry) = find_entry(held, place, &key) else {
+                return Some(NO_ROOM);
+            };
+            match act {
+                Act::Assign(value) => assign(held, place, entry, key, value),
+                Act::Upsert(more, value) => {
+                    let add = |v: u64| v.saturating_add(more);
+                    Some(upsert(held, place, entry, key, add, value) as u64)
+                }
+                Act::Insert(value) => Some(insert(held, place, entry, key, value) as u64),
+                _ => None,
             }
         }
-        Act::Erase => erase(held, place, &key).map(|a| a.reply),
     }
 }
 
@@ -78,12 +78,11 @@ fn shift(held: &mut Slice<NumKey, u64>, s: u32, a: u64, b: u64) -> bool
     ensures { AreAllHeld s held.new.stripes.now }
 {
     let (a, b) = (NumKey(a), NumKey(b));
-    let place_a = key_place(held, s, &a);
-    let place_b = key_place(held, s, &b);
+    let place_a = key_place(held, s, &a, KeyHash::of(&a));
+    let place_b = key_place(held, s, &b, KeyHash::of(&b));
     update_two(held, &a, place_a, &b, place_b, |v, w| {
         (v.saturating_add(1), w.saturating_sub(1))
     })
-    .is_some()
 }
 
 /// On one, two and four stripes. At power 2 the keys 3, 7, 11, 15 and 19 have bucket 3 alone, 1 has buckets 1 and 3, and
@@ -173,9 +172,8 @@ fn try_hop(rt: &impl Abort, held: &mut Slice<NumKey, u64>, power: u32, partial: 
 {
     let target = ck_key::alternate(power, partial, 1);
     assert!(rt; target % 2 == 1);
-    move_entry(
+    make_hop(
         held,
-        1,
         1,
         Hop {
             power,
@@ -211,38 +209,6 @@ fn hops(rt: HostRuntime) -> Result<(), Fail> {
             assert_eq!(rt; try_hop(&rt, &mut held, power, partial), *want);
             assert_eq!(rt; apply(&mut held, 1, 1, Act::Find(0)), Some(10));
         }
-    }
-    Ok(())
-}
-
-// Binds the key in a pair, and gives what is found there.
-fn insert_and_find(stripes: &mut [Stripe<NumKey, u64>], s: u32, key: u64) -> Option<u64>
-    requires { AreAllHeld s stripes.old }
-{
-    let mut pair = Pair::over(stripes);
-    let _new = pair.insert(NumKey(key), key).is_ok();
-    pair.find(&NumKey(key), |v| v.saturating_add(1))
-        .map(|a| a.reply)
-}
-
-// Exchanges the values of two keys.
-fn exchange(stripes: &mut [Stripe<NumKey, u64>], s: u32, a: u64, b: u64) -> bool
-    requires all { AreAllHeld s stripes.old }
-    requires different { a ≢ b }
-{
-    let mut several = Several::over(stripes);
-    several
-        .update_two(&NumKey(a), &NumKey(b), |v, w| (w, v))
-        .is_some()
-}
-
-#[test]
-fn slices(rt: HostRuntime) -> Result<(), Fail> {
-    for s in 0..3u32 {
-        let mut stripes = open_all(rt.alloc(), s, 2)?;
-        assert_eq!(rt; insert_and_find(&mut stripes, s, 5), Some(6));
-        let mut stripes = open_all(rt.alloc(), s, 2)?;
-        assert!(rt; !exchange(&mut stripes, s, 5, 6));
     }
     Ok(())
 }

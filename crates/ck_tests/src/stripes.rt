@@ -2,7 +2,7 @@
 ghost use Rattle.std.specs.Prelude.{◌≡◌, true};
 
 use ck_bucket::Bucket;
-use ck_key::NumKey;
+use ck_key::{KeyHash, NumKey};
 use ck_stripe::Stripe;
 use std::alloc::Global;
 use std::process::Abort;
@@ -30,7 +30,8 @@ fn place(rt: &impl Abort, stripe: &mut Stripe<NumKey, u64>, entry: Entry)
     let (b, slot, key) = entry;
     assert!(rt; b < 4 && b % 2 == 1 && slot < 4);
     assert!(rt; stripe.bucket(b).get(slot).is_none());
-    stripe.place(b, slot, NumKey(key), key);
+    let partial = KeyHash::of(&NumKey(key)).partial;
+    stripe.place(b, slot, partial, NumKey(key), key);
 }
 
 fn keys(bucket: &Bucket<NumKey, u64>) -> [Option<u64>; 4] {

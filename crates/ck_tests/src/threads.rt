@@ -165,18 +165,19 @@ impl Notes {
 }
 
 /// Makes the calls of a task.
-fn work(table: &NumTable, mut pass: NumPass, task: Task, notes: &Notes) -> NumPass
+fn work(table: &NumTable, pass: NumPass, task: Task, notes: &Notes) -> NumPass
     requires { IsCaller table.now pass }
     ensures caller { IsCaller table.now result }
     ensures by { result.view.by ≡ pass.view.by }
 {
     let thread = count(&notes.begun);
+    let mut caller = table.caller(pass);
     for step in 0..task.calls() {
         let call = task.call(thread, step);
-        let reply = answer(table, &mut pass, call);
+        let reply = answer(&mut caller, call);
         notes.note(call, reply);
     }
-    pass
+    caller.into_pass()
 }
 
 /// The pairs that a table has after so many threads have done the task.
@@ -329,24 +330,28 @@ fn one_of_two(rt: HostRuntime) -> Result<(), Fail> {
     Ok(())
 }
 
-/// A pass goes to another thread, is used there, and comes back.
+/// A caller goes to another thread, makes calls there, and comes back.
 #[test]
 fn there_and_back(rt: HostRuntime) -> Result<(), Fail> {
     let alloc = rt.alloc();
     let notes = Notes::new(alloc, 1)?;
-    let (table, mut first, second, third) = open(alloc, 4)?;
+    let (table, first, second, third) = open(alloc, 4)?;
     let (shared, seen) = (&table, &notes);
-    let before = answer(shared, &mut first, Call::Insert(0, 0));
+    let mut first = table.caller(first);
+    let before = answer(&mut first, Call::Insert(0, 0));
     assert!(rt; before == Reply::Fresh(true));
+    let pass = first.into_pass();
     let there = move || -> NumPass
-        requires { IsCaller shared.now first }
+        requires { IsCaller shared.now pass }
         ensures caller { IsCaller shared.entry.now result }
-        ensures by { result.view.by ≡ first.view.by }
-    { work(shared, first, Task::Replace, seen) };
-    let (mut first, ()) = thread::join(&rt, there, || ());
+        ensures by { result.view.by ≡ pass.view.by }
+    { work(shared, pass, Task::Replace, seen) };
+    let (pass, ()) = thread::join(&rt, there, || ());
     assert_eq!(rt; read(&notes.wrong), 0);
-    let after = answer(shared, &mut first, Call::Find(0));
+    let mut first = table.caller(pass);
+    let after = answer(&mut first, Call::Find(0));
     assert!(rt; after == Reply::Was(Some(CALLS)));
+    let first = first.into_pass();
     let pairs = close(alloc, table, first, second, third)?;
     assert_eq!(rt; pairs.as_slice(), [(NumKey(0), CALLS)].as_slice());
     Ok(())

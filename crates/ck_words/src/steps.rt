@@ -1,5 +1,5 @@
-//! The steps on the lock words. Each is one atomic operation on one word, and nothing else changes what a pass knows or
-//! which stripes it holds.
+//! The steps on the lock words. Each is one atomic operation on one word, and one step of the core. Nothing else but a
+//! split or a join changes what a pass knows, and nothing else which stripes it holds.
 ghost use Rattle.std.specs.Prelude.{◌≡◌, ◌<◌, ◌^◌, Some, None, reverse};
 ghost use Rattle.ck_model.specs.Numbered.{numbers};
 ghost use Rattle.ck_model.specs.Contents.{Lawful};

@@ -1,10 +1,8 @@
-use Rattle.ck_key.specs.Hashes.{number_hash}
-use Rattle.ck_script.specs.Output.{name_of}
 use Rattle.ck_script.specs.declared.script.Command.TheVariants.{Add}
-use Rattle.ck_script.proofs.Answering.{uncalled, no_entry}
+use Rattle.ck_script.proofs.Answering.{uncalled}
 use Rattle.ck_script.proofs.calls.add.Goals as goal
 
-pub returns-in-Err-clause-answered : goal.returns-in-Err-clause-answered
-returns-in-Err-clause-answered c =
+pub returns-in-Err : goal.returns-in-Err
+returns-in-Err c =
     let command = Add c.args.key c.args.value in
-    uncalled command c.refusal_of.result _ _ (c.refusal_of.ensures command tt) (no_entry number_hash c.args.table.now.settings (name_of c.args.key) c.in-Err.refused.why c.args.pass.now c.upsert.new.pass c.in-Err.ensures.refused.2)
+    uncalled command c.refusal_of.result c.args.caller.now c.upsert.new.self c.upsert.ensures.same (c.refusal_of.ensures command tt) c.in-Err.ensures.refused.2.stays.mine

@@ -9,9 +9,11 @@ pub loop-command-preserved : goal.loop-command-preserved
 loop-command-preserved c =
     let none : NumCommand = Find (key_of 0) in
     record {
-      caller = c.answer_of.ensures.caller;
-      by = c.answer_of.ensures.answered.by ∙ c.loop-command.invariant.by;
+      same = record {
+        table = c.answer_of.ensures.same.table ∙ c.loop-command.invariant.same.table;
+        by = c.answer_of.ensures.same.by ∙ c.loop-command.invariant.same.by;
+      };
       entries = λ by is.
           rw (take_more c.args.commands.now c.loop-command.command-index none (omega arith), c.in_ok-push.ensures.items)
-          (entries_grown by _ _ _ _ _ _ (c.loop-command.invariant.entries by is) (c.answer_of.ensures.answered.entries by (c.loop-command.invariant.by ∙ is)));
+          (entries_grown by _ _ _ _ _ _ (c.loop-command.invariant.entries by is) (c.answer_of.ensures.entries by (c.loop-command.invariant.same.by ∙ is)));
     }

@@ -5,7 +5,7 @@ use Rattle.ck_section.specs.declared.place.KeyPlace.{KeyPlace}
 use Rattle.ck_section.specs.declared.place.HeldSlot.{HeldSlot}
 use Rattle.ck_section.specs.Places.{IsSlotOf, IsNowhere, IsNext, AreFull}
 use Rattle.ck_section.specs.Entries.{IsVacant}
-use Rattle.ck_section.proofs.Steps.{bound_with_room, with_room, without_room}
+use Rattle.ck_section.proofs.Steps.{none_anyway, bound_with_room, with_room, without_room}
 use Rattle.ck_section.proofs.entry.find_entry.Goals as goal
 
 -- what was found in stripes that are as they were
@@ -18,22 +18,16 @@ vacant_there {V} hash stripes cur q place same at slot next nowhere = record {
 }
 
 pub returns-in-Some-clause-room : goal.returns-in-Some-clause-room
-returns-in-Some-clause-room g c =
-    let stripes = g.H.Held.stripes c.args.held.now in
-    bound_with_room g.K.TableKey.hash stripes (g.K.TableKey.name c.args.key.now) c.args.place c.requires stripes refl c.in-Some.at c.in-Some.ensures.occupied
+returns-in-Some-clause-room g c = bound_with_room _ _ _ _ c.requires _ refl c.in-Some.at c.in-Some.ensures.occupied
 
-pub returns-in-Some-find_free-clause-entry : goal.returns-in-Some-find_free-clause-entry
-returns-in-Some-find_free-clause-entry g c =
-    vacant_there _ _ _ _ _ c.find_slot.ensures.same c.in-Some-find_free.at c.in-Some-find_free.ensures.slot c.in-Some-find_free.ensures.next c.in_default.ensures.nowhere
+pub returns-clause-entry : goal.returns-clause-entry
+returns-clause-entry g c = vacant_there _ _ _ _ _ c.find_slot.ensures.same c.in_ok-at.at c.in_ok-at.ensures.slot c.in_ok-at.ensures.next c.in_default.ensures.nowhere
 
-pub returns-in-Some-find_free-clause-room : goal.returns-in-Some-find_free-clause-room
-returns-in-Some-find_free-clause-room g c =
-    let stripes = g.H.Held.stripes c.args.held.now in
-    with_room g.K.TableKey.hash stripes (g.K.TableKey.name c.args.key.now) c.args.place c.requires stripes refl c.in-Some-find_free.at
-    (vacant_there _ _ _ _ _ c.find_slot.ensures.same c.in-Some-find_free.at c.in-Some-find_free.ensures.slot c.in-Some-find_free.ensures.next c.in_default.ensures.nowhere)
+pub returns-clause-room : goal.returns-clause-room
+returns-clause-room g c =
+    with_room _ _ _ _ c.requires _ refl c.in_ok-at.at (vacant_there _ _ _ _ _ c.find_slot.ensures.same c.in_ok-at.at c.in_ok-at.ensures.slot c.in_ok-at.ensures.next c.in_default.ensures.nowhere)
 
-pub returns-in-None-clause-no_room : goal.returns-in-None-clause-no_room
-returns-in-None-clause-no_room g c =
-    let stripes = g.H.Held.stripes c.args.held.now in
-    without_room g.K.TableKey.hash stripes (g.K.TableKey.name c.args.key.now) c.args.place c.requires stripes refl c.in_default.ensures.nowhere
-    (subst (λ (l : List (StripeState g.row.V.Denot)). AreFull l c.args.place) c.find_slot.ensures.same c.in-None.ensures.full)
+pub returns-in_err-at-clause-no_room : goal.returns-in_err-at-clause-no_room
+returns-in_err-at-clause-no_room g c =
+    none_anyway c.from_residual.result _ (without_room _ _ _ _ c.requires _ refl c.in_default.ensures.nowhere
+    (subst (λ (l : List (StripeState g.row.V.Denot)). AreFull l c.args.place) c.find_slot.ensures.same c.in_err-at.ensures.full))

@@ -1,38 +1,26 @@
-use Rattle.std.proofs.Common.{refl, None, Some, ap}
+use Rattle.std.proofs.Common.{refl, None}
 use Rattle.ck_model.specs.declared.history.Act.TheVariants.{Assign}
 use Rattle.ck_model.specs.declared.history.Reply.TheVariants.{Was}
-use Rattle.ck_section.proofs.Steps.{occupied_here, vacant_here, found_in, wrote, slot_changes, full_still}
+use Rattle.ck_section.proofs.Steps.{occupied_here, vacant_here, swapped, full_still}
 use Rattle.ck_section.proofs.one_key.assign.Goals as goal
 
 pub returns-in-Occupied-clause-call : goal.returns-in-Occupied-clause-call
-returns-in-Occupied-clause-call g c =
-    let hash = g.K.TableKey.hash in
-    let stripes = g.H.Held.stripes c.args.held.now in
-    let q = g.K.TableKey.name c.args.key in
-    let here = occupied_here hash stripes q c.args.place c.args.entry c.in-Occupied.at c.in-Occupied.is c.requires.entry in
-    let z = c.replace.ensures.content q here.found.0 (found_in hash stripes q c.args.place c.requires.place stripes refl c.in-Occupied.at here) in
-    wrote hash stripes q c.args.place c.requires.place stripes refl c.in-Occupied.at here (Assign c.args.value) (Was (Some c.replace.result)) c.args.value _ (ap (λ (v : g.row.V.Denot). Was (Some v)) z.0, refl) z.1
+returns-in-Occupied-clause-call g c = (swapped _ _ _ _ c.requires.place _ refl c.in-Occupied.old (occupied_here _ _ _ _ c.args.entry c.in-Occupied.old c.in-Occupied.is c.requires.entry) (Assign c.args.value) _ _ _ (λ v. (refl, refl)) c.replace.ensures.content).0
 
 pub returns-in-Occupied-clause-rest : goal.returns-in-Occupied-clause-rest
-returns-in-Occupied-clause-rest g c =
-    let hash = g.K.TableKey.hash in
-    let stripes = g.H.Held.stripes c.args.held.now in
-    let q = g.K.TableKey.name c.args.key in
-    let here = occupied_here hash stripes q c.args.place c.args.entry c.in-Occupied.at c.in-Occupied.is c.requires.entry in
-    let z = c.replace.ensures.content q here.found.0 (found_in hash stripes q c.args.place c.requires.place stripes refl c.in-Occupied.at here) in
-    slot_changes stripes stripes _ c.in-Occupied.at _ _ refl here.slot.reach z.1
+returns-in-Occupied-clause-rest g c = (swapped _ _ _ _ c.requires.place _ refl c.in-Occupied.old (occupied_here _ _ _ _ c.args.entry c.in-Occupied.old c.in-Occupied.is c.requires.entry) (Assign c.args.value) _ _ _ (λ v. (refl, refl)) c.replace.ensures.content).1
 
 pub returns-in-Vacant-clause-call : goal.returns-in-Vacant-clause-call
 returns-in-Vacant-clause-call g c = c.fill.ensures.call (Assign c.args.value) (Was None) (refl, refl)
 
 pub replace-requires-clause-reach : goal.replace-requires-clause-reach
-replace-requires-clause-reach g c = (occupied_here _ _ _ _ c.args.entry c.in-Occupied.at c.in-Occupied.is c.requires.entry).slot.reach
+replace-requires-clause-reach g c = (occupied_here _ _ _ _ c.args.entry c.in-Occupied.old c.in-Occupied.is c.requires.entry).slot.reach
 
 pub replace-requires-clause-below : goal.replace-requires-clause-below
-replace-requires-clause-below g c = (occupied_here _ _ _ _ c.args.entry c.in-Occupied.at c.in-Occupied.is c.requires.entry).slot.below
+replace-requires-clause-below g c = (occupied_here _ _ _ _ c.args.entry c.in-Occupied.old c.in-Occupied.is c.requires.entry).slot.below
 
 pub replace-requires-clause-full : goal.replace-requires-clause-full
-replace-requires-clause-full g c = full_still _ _ refl c.in-Occupied.at _ (occupied_here _ _ _ _ c.args.entry c.in-Occupied.at c.in-Occupied.is c.requires.entry).found
+replace-requires-clause-full g c = full_still _ _ refl c.in-Occupied.old _ (occupied_here _ _ _ _ c.args.entry c.in-Occupied.old c.in-Occupied.is c.requires.entry).found
 
 pub fill-requires-clause-place : goal.fill-requires-clause-place
 fill-requires-clause-place g c = c.requires.place

@@ -1,39 +1,17 @@
 use Rattle.std.proofs.Common.{refl}
 use Rattle.ck_model.specs.declared.history.Act.TheVariants.{Change}
-use Rattle.ck_model.specs.declared.history.Reply.TheVariants.{Done, Absent}
-use Rattle.ck_section.proofs.Steps.{slot_changes, lacked, found_in, wrote, unchanged, reach_still, full_still}
+use Rattle.ck_model.specs.declared.history.Reply.TheVariants.{Absent}
+use Rattle.ck_section.proofs.Steps.{lacked, remade, unchanged, reach_still, full_still}
 use Rattle.ck_section.proofs.one_key.change.Goals as goal
 
 pub returns-in_default-clause-call : goal.returns-in_default-clause-call
-returns-in_default-clause-call g c =
-    let hash = g.K.TableKey.hash in
-    let stripes = g.H.Held.stripes c.args.held.now in
-    let cur = g.H.Held.stripes c.find_slot.new.held in
-    let q = g.K.TableKey.name c.args.key.now in
-    lacked hash stripes q c.args.place c.requires.place cur c.find_slot.ensures.same Change Absent c.in_default.ensures.nowhere (refl, refl)
+returns-in_default-clause-call g c = lacked _ _ _ _ c.requires.place _ c.find_slot.ensures.same Change Absent c.in_default.ensures.nowhere (refl, refl)
 
 pub returns-clause-call : goal.returns-clause-call
-returns-clause-call g c =
-    let hash = g.K.TableKey.hash in
-    let stripes = g.H.Held.stripes c.args.held.now in
-    let cur = g.H.Held.stripes c.find_slot.new.held in
-    let q = g.K.TableKey.name c.args.key.now in
-    let at = c.in-Some.at in
-    let here = c.in-Some.ensures.occupied in
-    let v = here.found.0 in
-    let z = c.change.ensures.content q v (found_in hash stripes q c.args.place c.requires.place cur c.find_slot.ensures.same at here) in
-    (v, z.0, z.1, wrote hash stripes q c.args.place c.requires.place cur c.find_slot.ensures.same at here Change (Done v z.0) z.0 _ (z.0, refl, refl) z.2)
+returns-clause-call g c = (remade _ _ _ _ c.requires.place _ c.find_slot.ensures.same c.in-Some.at c.in-Some.ensures.occupied _ Change _ (λ v w. (w, refl, refl)) c.change.ensures.content).0
 
 pub returns-clause-rest : goal.returns-clause-rest
-returns-clause-rest g c =
-    let hash = g.K.TableKey.hash in
-    let stripes = g.H.Held.stripes c.args.held.now in
-    let cur = g.H.Held.stripes c.find_slot.new.held in
-    let q = g.K.TableKey.name c.args.key.now in
-    let at = c.in-Some.at in
-    let here = c.in-Some.ensures.occupied in
-    let z = c.change.ensures.content q here.found.0 (found_in hash stripes q c.args.place c.requires.place cur c.find_slot.ensures.same at here) in
-    slot_changes stripes cur _ at _ _ c.find_slot.ensures.same here.slot.reach z.2
+returns-clause-rest g c = (remade _ _ _ _ c.requires.place _ c.find_slot.ensures.same c.in-Some.at c.in-Some.ensures.occupied _ Change _ (λ v w. (w, refl, refl)) c.change.ensures.content).1
 
 pub find_slot-requires : goal.find_slot-requires
 find_slot-requires g c = c.requires.place

@@ -1,26 +1,15 @@
-use Rattle.std.proofs.Common.{refl, sym, subst, Option, None, Some}
+use Rattle.std.proofs.Common.{refl, None, Some}
 use Rattle.ck_model.specs.declared.history.Act.TheVariants.{Erase}
 use Rattle.ck_model.specs.declared.history.Reply.TheVariants.{Was}
-use Rattle.ck_section.proofs.Decided.{IsCallOn}
-use Rattle.ck_section.proofs.Steps.{lacked, took, unchanged, reach_still, full_still, slot_changes}
+use Rattle.ck_section.proofs.Steps.{replied_none, lacked, took, unchanged, reach_still, full_still, slot_changes}
 use Rattle.ck_section.proofs.one_key.erase.Goals as goal
 
 pub returns-in_err-at-clause-call : goal.returns-in_err-at-clause-call
-returns-in_err-at-clause-call g c =
-    let hash = g.K.TableKey.hash in
-    let stripes = g.H.Held.stripes c.args.held.now in
-    let cur = g.H.Held.stripes c.find_slot.new.held in
-    let q = g.K.TableKey.name c.args.key.now in
-    subst (λ (r : Option g.row.V.Denot). IsCallOn hash c.args.place.s stripes q Erase (Was r) cur) (sym c.from_residual.ensures)
-    (lacked hash stripes q c.args.place c.requires cur c.find_slot.ensures.same Erase (Was None) c.in_err-at.ensures.nowhere (refl, refl))
+returns-in_err-at-clause-call g c = replied_none _ _ _ _ _ _ _ c.from_residual.ensures (lacked _ _ _ _ c.requires _ c.find_slot.ensures.same Erase (Was None) c.in_err-at.ensures.nowhere (refl, refl))
 
 pub returns-clause-call : goal.returns-clause-call
 returns-clause-call g c =
-    let hash = g.K.TableKey.hash in
-    let stripes = g.H.Held.stripes c.args.held.now in
-    let cur = g.H.Held.stripes c.find_slot.new.held in
-    let q = g.K.TableKey.name c.args.key.now in
-    took hash stripes q c.args.place c.requires cur c.find_slot.ensures.same c.in_ok-at.at c.in_ok-at.ensures.occupied Erase (λ (v : g.row.V.Denot). Was (Some v)) _ c.remove-value.result.1 _ (λ w. (refl, refl)) c.remove-value.ensures.entry c.remove-value.ensures.content
+    took _ _ _ _ c.requires _ c.find_slot.ensures.same c.in_ok-at.at c.in_ok-at.ensures.occupied Erase (λ (v : g.row.V.Denot). Was (Some v)) _ c.remove-value.result.1 _ (λ w. (refl, refl)) c.remove-value.ensures.entry c.remove-value.ensures.content
 
 pub find_slot-requires : goal.find_slot-requires
 find_slot-requires g c = c.requires

@@ -7,40 +7,25 @@ use Rattle.ck_section.proofs.Steps.{lacked, found_in, kept, took, unchanged, rea
 use Rattle.ck_section.proofs.one_key.erase_if.Goals as goal
 
 pub returns-in_default-clause-unbound : goal.returns-in_default-clause-unbound
-returns-in_default-clause-unbound g c =
-    let hash = g.K.TableKey.hash in
-    let stripes = g.H.Held.stripes c.args.held.now in
-    let cur = g.H.Held.stripes c.find_slot.new.held in
-    let q = g.K.TableKey.name c.args.key.now in
-    (refl, lacked hash stripes q c.args.place c.requires.place cur c.find_slot.ensures.same Find (Was None) c.in_default.ensures.nowhere (refl, refl), c.find_slot.ensures.same)
+returns-in_default-clause-unbound g c = (refl, lacked _ _ _ _ c.requires.place _ c.find_slot.ensures.same Find (Was None) c.in_default.ensures.nowhere (refl, refl), c.find_slot.ensures.same)
 
 pub returns-then-not-read-clause-bound : goal.returns-then-not-read-clause-bound
 returns-then-not-read-clause-bound g c =
-    let hash = g.K.TableKey.hash in
-    let stripes = g.H.Held.stripes c.args.held.now in
-    let cur = g.H.Held.stripes c.find_slot.new.held in
-    let q = g.K.TableKey.name c.args.key.now in
     let at = c.in-Some.at in
     let here = c.in-Some.ensures.occupied in
-    let v = here.found.0 in
-    (
+    let v = here.found.0 in (
       v,
-      c.if-not-read.ensures.read q v (found_in hash stripes q c.args.place c.requires.place cur c.find_slot.ensures.same at here),
-      kept hash stripes q c.args.place c.requires.place (g.H.Held.stripes c.read.new.self) (c.read.ensures.same ∙ c.find_slot.ensures.same) at here Find (Was (Some v)) (refl, refl),
+      c.if-not-read.ensures.read _ v (found_in _ _ _ _ c.requires.place _ c.find_slot.ensures.same at here),
+      kept _ _ _ _ c.requires.place _ (c.read.ensures.same ∙ c.find_slot.ensures.same) at here Find (Was (Some v)) (refl, refl),
     )
 
 pub returns-clause-bound : goal.returns-clause-bound
 returns-clause-bound g c =
-    let hash = g.K.TableKey.hash in
-    let stripes = g.H.Held.stripes c.args.held.now in
-    let q = g.K.TableKey.name c.args.key.now in
     let at = c.in-Some.at in
-    let v = c.remove.result.1 in
-    (
+    let v = c.remove.result.1 in (
       v,
-      c.if-not-read.ensures.read (g.K.TableKey.name c.remove.result.0) v (ap (λ (l : List (StripeState g.row.V.Denot)). slot_in l at) (sym c.read.ensures.same) ∙ c.remove.ensures.entry),
-      took hash stripes q c.args.place c.requires.place (g.H.Held.stripes c.read.new.self) (c.read.ensures.same ∙ c.find_slot.ensures.same) at c.in-Some.ensures.occupied
-          Erase (λ (w : g.row.V.Denot). Was (Some w)) _ v _ (λ w. (refl, refl)) c.remove.ensures.entry c.remove.ensures.content,
+      c.if-not-read.ensures.read _ v (ap (λ (l : List (StripeState g.row.V.Denot)). slot_in l at) (sym c.read.ensures.same) ∙ c.remove.ensures.entry),
+      took _ _ _ _ c.requires.place _ (c.read.ensures.same ∙ c.find_slot.ensures.same) at c.in-Some.ensures.occupied Erase (λ (w : g.row.V.Denot). Was (Some w)) _ v _ (λ w. (refl, refl)) c.remove.ensures.entry c.remove.ensures.content,
     )
 
 pub find_slot-requires : goal.find_slot-requires

@@ -5,26 +5,16 @@ use Rattle.ck_section.proofs.Steps.{none_anyway, lacked, found_in, kept, reach_s
 use Rattle.ck_section.proofs.one_key.find.Goals as goal
 
 pub returns-in_err-at-clause-unbound : goal.returns-in_err-at-clause-unbound
-returns-in_err-at-clause-unbound g c =
-    let hash = g.K.TableKey.hash in
-    let stripes = g.H.Held.stripes c.args.held.now in
-    let cur = g.H.Held.stripes c.find_slot.new.held in
-    let q = g.K.TableKey.name c.args.key.now in
-    none_anyway c.from_residual.result _ (lacked hash stripes q c.args.place c.requires.place cur c.find_slot.ensures.same Find (Was None) c.in_err-at.ensures.nowhere (refl, refl))
+returns-in_err-at-clause-unbound g c = none_anyway c.from_residual.result _ (lacked _ _ _ _ c.requires.place _ c.find_slot.ensures.same Find (Was None) c.in_err-at.ensures.nowhere (refl, refl))
 
 pub returns-clause-bound : goal.returns-clause-bound
 returns-clause-bound g c =
-    let hash = g.K.TableKey.hash in
-    let stripes = g.H.Held.stripes c.args.held.now in
-    let cur = g.H.Held.stripes c.find_slot.new.held in
-    let q = g.K.TableKey.name c.args.key.now in
     let at = c.in_ok-at.at in
     let here = c.in_ok-at.ensures.occupied in
-    let v = here.found.0 in
-    (
+    let v = here.found.0 in (
       v,
-      c.read.ensures.read q v (found_in hash stripes q c.args.place c.requires.place cur c.find_slot.ensures.same at here),
-      kept hash stripes q c.args.place c.requires.place (g.H.Held.stripes c.read.new.self) (c.read.ensures.same ∙ c.find_slot.ensures.same) at here Find (Was (Some v)) (refl, refl),
+      c.read.ensures.read _ v (found_in _ _ _ _ c.requires.place _ c.find_slot.ensures.same at here),
+      kept _ _ _ _ c.requires.place _ (c.read.ensures.same ∙ c.find_slot.ensures.same) at here Find (Was (Some v)) (refl, refl),
     )
 
 pub find_slot-requires : goal.find_slot-requires

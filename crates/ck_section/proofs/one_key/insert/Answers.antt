@@ -6,10 +6,7 @@ use Rattle.ck_section.proofs.one_key.insert.Goals as goal
 
 pub returns-in-Occupied-clause-call : goal.returns-in-Occupied-clause-call
 returns-in-Occupied-clause-call g c =
-    let hash = g.K.TableKey.hash in
-    let stripes = g.H.Held.stripes c.args.held.now in
-    let q = g.K.TableKey.name c.args.key in
-    kept hash stripes q c.args.place c.requires.place stripes refl c.in-Occupied.field-0 (occupied_here hash stripes q c.args.place c.args.entry c.in-Occupied.field-0 c.in-Occupied.is c.requires.entry) (Insert c.args.value) Old (refl, refl)
+    kept _ _ _ _ c.requires.place _ refl c.in-Occupied.field-0 (occupied_here _ _ _ _ c.args.entry c.in-Occupied.field-0 c.in-Occupied.is c.requires.entry) (Insert c.args.value) Old (refl, refl)
 
 pub returns-in-Vacant-clause-call : goal.returns-in-Vacant-clause-call
 returns-in-Vacant-clause-call g c = c.fill.ensures.call (Insert c.args.value) New (refl, refl)

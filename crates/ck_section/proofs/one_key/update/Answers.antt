@@ -1,40 +1,17 @@
-use Rattle.std.proofs.Common.{refl, sym, subst, Option, None, Some, ap}
+use Rattle.std.proofs.Common.{refl, None}
 use Rattle.ck_model.specs.declared.history.Act.TheVariants.{Update}
 use Rattle.ck_model.specs.declared.history.Reply.TheVariants.{Was}
-use Rattle.ck_section.proofs.Decided.{IsCallOn}
-use Rattle.ck_section.proofs.Steps.{slot_changes, lacked, found_in, wrote, unchanged, reach_still, full_still}
+use Rattle.ck_section.proofs.Steps.{replied_none, lacked, swapped, unchanged, reach_still, full_still}
 use Rattle.ck_section.proofs.one_key.update.Goals as goal
 
 pub returns-in_err-at-clause-call : goal.returns-in_err-at-clause-call
-returns-in_err-at-clause-call g c =
-    let hash = g.K.TableKey.hash in
-    let stripes = g.H.Held.stripes c.args.held.now in
-    let cur = g.H.Held.stripes c.find_slot.new.held in
-    let q = g.K.TableKey.name c.args.key.now in
-    subst (λ (r : Option g.row.V.Denot). IsCallOn hash c.args.place.s stripes q (Update c.args.value) (Was r) cur) (sym c.from_residual.ensures)
-    (lacked hash stripes q c.args.place c.requires cur c.find_slot.ensures.same (Update c.args.value) (Was None) c.in_err-at.ensures.nowhere (refl, refl))
+returns-in_err-at-clause-call g c = replied_none _ _ _ _ _ _ _ c.from_residual.ensures (lacked _ _ _ _ c.requires _ c.find_slot.ensures.same (Update c.args.value) (Was None) c.in_err-at.ensures.nowhere (refl, refl))
 
 pub returns-clause-call : goal.returns-clause-call
-returns-clause-call g c =
-    let hash = g.K.TableKey.hash in
-    let stripes = g.H.Held.stripes c.args.held.now in
-    let cur = g.H.Held.stripes c.find_slot.new.held in
-    let q = g.K.TableKey.name c.args.key.now in
-    let at = c.in_ok-at.at in
-    let here = c.in_ok-at.ensures.occupied in
-    let z = c.replace.ensures.content q here.found.0 (found_in hash stripes q c.args.place c.requires cur c.find_slot.ensures.same at here) in
-    wrote hash stripes q c.args.place c.requires cur c.find_slot.ensures.same at here (Update c.args.value) (Was (Some c.replace.result)) c.args.value _ (ap (λ (v : g.row.V.Denot). Was (Some v)) z.0, refl) z.1
+returns-clause-call g c = (swapped _ _ _ _ c.requires _ c.find_slot.ensures.same c.in_ok-at.at c.in_ok-at.ensures.occupied (Update c.args.value) _ _ _ (λ v. (refl, refl)) c.replace.ensures.content).0
 
 pub returns-clause-rest : goal.returns-clause-rest
-returns-clause-rest g c =
-    let hash = g.K.TableKey.hash in
-    let stripes = g.H.Held.stripes c.args.held.now in
-    let cur = g.H.Held.stripes c.find_slot.new.held in
-    let q = g.K.TableKey.name c.args.key.now in
-    let at = c.in_ok-at.at in
-    let here = c.in_ok-at.ensures.occupied in
-    let z = c.replace.ensures.content q here.found.0 (found_in hash stripes q c.args.place c.requires cur c.find_slot.ensures.same at here) in
-    slot_changes stripes cur _ at _ _ c.find_slot.ensures.same here.slot.reach z.1
+returns-clause-rest g c = (swapped _ _ _ _ c.requires _ c.find_slot.ensures.same c.in_ok-at.at c.in_ok-at.ensures.occupied (Update c.args.value) _ _ _ (λ v. (refl, refl)) c.replace.ensures.content).1
 
 pub find_slot-requires : goal.find_slot-requires
 find_slot-requires g c = c.requires

@@ -6,4 +6,5 @@ key_place-place_a-requires-clause-owned c = has_both c.args.s c.args.held.now.st
 
 pub key_place-place_b-requires-clause-owned : goal.key_place-place_b-requires-clause-owned
 key_place-place_b-requires-clause-owned c =
-    has_both c.args.s c.key_place-place_a.new.held.stripes.now (all_same c.args.s c.args.held.now.stripes.now c.key_place-place_a.new.held.stripes.now c.requires.all c.key_place-place_a.ensures.same) _ _
+    has_both c.args.s c.key_place-place_a.new.held.stripes.now
+    (all_same c.args.s c.args.held.now.stripes.now c.key_place-place_a.new.held.stripes.now c.requires.all c.key_place-place_a.ensures.same) _ _

@@ -1,21 +1,14 @@
-use Rattle.std.proofs.Common.{None, Some, refl, ap}
+use Rattle.std.proofs.Common.{rules, ◌≡◌, ap}
 use Rattle.ck_model.specs.declared.history.Act.TheVariants.{Erase}
+use Rattle.ck_model.specs.declared.history.Call.TheVariants.{On}
 use Rattle.ck_model.specs.declared.history.Reply.TheVariants.{Was}
-use Rattle.ck_table.proofs.Calls.{by_option, does, says}
+use Rattle.ck_table.proofs.Calls.{does, says}
 use Rattle.ck_table.proofs.table.Table.erase.Goals as goal
 
 pub commit-requires-clause-done : goal.commit-requires-clause-done
-commit-requires-clause-done g c =
-    let did = does g.K.TableKey.hash c.args.self.now c.self.inside.words c.self.view_is (g.K.TableKey.name c.args.key.now) c.args.pass.now c.hold_key.new.pass c.erase_held-found.new.pass c.in_ok-hold_key.ensures.held c.erase_held-found.ensures.view Erase (ap g.K.TableKey.name c.of.ensures) refl in
-    by_option c.erase_held-found.result _ _ _ c.erase_held-found.ensures.bound c.erase_held-found.ensures.unbound
-    (λ a x. (Was (Some a.reply), did (Was (Some a.reply)) x.0))
-    (λ x. (Was None, did (Was None) x.0))
+commit-requires-clause-done g c = (Was c.erase-value.result, does c.self.view_is c.in_ok-place.ensures.held c.erase-value.new.held.pass.now c.erase-value.ensures.stays.1 (ap (λ k. On (g.K.TableKey.name k) Erase) c.of.ensures) (Was c.erase-value.result) c.erase-value.ensures.call)
 
-pub returns-in-Some-clause-answered : goal.returns-in-Some-clause-answered
-returns-in-Some-clause-answered g c =
-    let b = c.in-Some.ensures.bound in
-    says g.K.TableKey.hash c.args.self.now c.self.inside.words c.self.view_is (g.K.TableKey.name c.args.key.now) c.args.pass.now c.hold_key.new.pass c.erase_held-found.new.pass c.in_ok-hold_key.ensures.held c.erase_held-found.ensures.view Erase (ap g.K.TableKey.name c.of.ensures) refl c.commit.new.pass (Was (Some c.in-Some.erased.reply)) c.commit.ensures.answered b.0
-
-pub returns-in-None-clause-answered : goal.returns-in-None-clause-answered
-returns-in-None-clause-answered g c =
-    says g.K.TableKey.hash c.args.self.now c.self.inside.words c.self.view_is (g.K.TableKey.name c.args.key.now) c.args.pass.now c.hold_key.new.pass c.erase_held-found.new.pass c.in_ok-hold_key.ensures.held c.erase_held-found.ensures.view Erase (ap g.K.TableKey.name c.of.ensures) refl c.commit.new.pass (Was None) c.commit.ensures.answered c.in-None.ensures.unbound.0
+pub returns-clause-answered : goal.returns-clause-answered
+returns-clause-answered g c =
+    let there : c.commit.new.pass ≡ c.pass-1.given.0 = search rules in
+    rw (← there) (says c.self.view_is c.in_ok-place.ensures.held c.erase-value.new.held.pass.now c.erase-value.ensures.stays.1 (ap (λ k. On (g.K.TableKey.name k) Erase) c.of.ensures) c.commit.ensures.answered (Was c.erase-value.result) c.erase-value.ensures.call)

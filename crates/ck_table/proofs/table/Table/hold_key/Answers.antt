@@ -1,38 +1,25 @@
-use Rattle.std.proofs.Common.{subst}
-use Rattle.ck_words.specs.Words.{WordsState}
-use Rattle.ck_table.specs.Holding.{HoldsKey}
-use Rattle.ck_table.specs.Refusals.{FindsOwn}
-use Rattle.ck_table.proofs.Calls.{has_both, finds_own, low_of, high_of}
+use Rattle.std.proofs.Common.{rules, ◌≡◌, ◌∙◌, refl, ap}
+use Rattle.ck_table.proofs.Calls.{has_both, finds_own, holds_then, s_of}
 use Rattle.ck_table.proofs.table.Table.hold_key.Goals as goal
+
+pub key_place-requires-clause-owned : goal.key_place-requires-clause-owned
+key_place-requires-clause-owned g c =
+    has_both c.settings-s.result refl c.of-hash.ensures c.stripes-low.ensures.low c.stripes-low.ensures.high c.hold.new.pass.stripes c.in-Ok.ensures.numbers
 
 pub returns-in-Ok-clause-held : goal.returns-in-Ok-clause-held
 returns-in-Ok-clause-held g c =
-    let hash = g.K.TableKey.hash in
-    let q = g.K.TableKey.name c.args.key.now in
-    let set = c.self.inside.words.settings in
-    let low = low_of hash set q c.settings.result c.settings.ensures.value c.hash64.result c.hash64.ensures c.stripes_of-low.result.0 c.stripes_of-low.ensures.low in
-    let high = high_of hash set q c.settings.result c.settings.ensures.value c.hash64.result c.hash64.ensures c.stripes_of-low.result.1 c.stripes_of-low.ensures.high in
-    subst (λ (w : WordsState). HoldsKey hash w.settings q c.args.pass.now c.hold.new.pass) c.self.view_is (record {
-      stays = c.hold.ensures.stays;
-      held = c.in-Ok.ensures.held;
-      both = has_both hash set q c.stripes_of-low.result.0 c.stripes_of-low.result.1 low high c.hold.new.pass.stripes c.in-Ok.ensures.numbers;
-      unchanged = c.in-Ok.ensures.unchanged;
-    })
+    let there : c.key_place.new.held.pass.now ≡ c.pass-1.given.0 = search rules in
+    let same = s_of c.self.view_is c.settings-s.ensures.value in
+    let both = has_both c.args.self.now.settings same c.of-hash.ensures c.stripes-low.ensures.low c.stripes-low.ensures.high c.hold.new.pass.stripes c.in-Ok.ensures.numbers in
+    let k = c.key_place in
+    rw (← there) (holds_then c.args.pass.now c.hold.new.pass c.hold.ensures.stays both c.in-Ok.ensures.unchanged k.ensures.place (k.ensures.s ∙ same) k.new.held.pass.now k.ensures.same k.ensures.stays.1)
 
 pub returns-in-Ok-clause-found : goal.returns-in-Ok-clause-found
 returns-in-Ok-clause-found g c =
-    let hash = g.K.TableKey.hash in
-    let q = g.K.TableKey.name c.args.key.now in
-    let set = c.self.inside.words.settings in
-    let low = low_of hash set q c.settings.result c.settings.ensures.value c.hash64.result c.hash64.ensures c.stripes_of-low.result.0 c.stripes_of-low.ensures.low in
-    let high = high_of hash set q c.settings.result c.settings.ensures.value c.hash64.result c.hash64.ensures c.stripes_of-low.result.1 c.stripes_of-low.ensures.high in
-    subst (λ (w : WordsState). FindsOwn hash w.settings q c.args.pass.now c.hold.new.pass) c.self.view_is (finds_own hash set q c.stripes_of-low.result.0 c.stripes_of-low.result.1 low high c.args.pass.now c.hold.new.pass c.hold.ensures.found)
+    let there : c.key_place.new.held.pass.now ≡ c.pass-1.given.0 = search rules in
+    let found = finds_own c.args.self.now.settings (s_of c.self.view_is c.settings-s.ensures.value) c.of-hash.ensures c.stripes-low.ensures.low c.stripes-low.ensures.high c.args.pass.now c.hold.new.pass c.hold.ensures.found in
+    rw (← there) (found.0, ap (λ v. v.found) c.key_place.ensures.stays.1 ∙ found.1, found.2)
 
 pub returns-in-Err-clause-found : goal.returns-in-Err-clause-found
 returns-in-Err-clause-found g c =
-    let hash = g.K.TableKey.hash in
-    let q = g.K.TableKey.name c.args.key.now in
-    let set = c.self.inside.words.settings in
-    let low = low_of hash set q c.settings.result c.settings.ensures.value c.hash64.result c.hash64.ensures c.stripes_of-low.result.0 c.stripes_of-low.ensures.low in
-    let high = high_of hash set q c.settings.result c.settings.ensures.value c.hash64.result c.hash64.ensures c.stripes_of-low.result.1 c.stripes_of-low.ensures.high in
-    subst (λ (w : WordsState). FindsOwn hash w.settings q c.args.pass.now c.hold.new.pass) c.self.view_is (finds_own hash set q c.stripes_of-low.result.0 c.stripes_of-low.result.1 low high c.args.pass.now c.hold.new.pass c.hold.ensures.found)
+    finds_own c.args.self.now.settings (s_of c.self.view_is c.settings-s.ensures.value) c.of-hash.ensures c.stripes-low.ensures.low c.stripes-low.ensures.high c.args.pass.now c.hold.new.pass c.hold.ensures.found

@@ -1,5 +1,0 @@
-use Rattle.ck_words.proofs.KnownCaller.{known_caller}
-use Rattle.ck_bench.proofs.table.CallerCalls.update.Goals as goal
-
-pub update-requires : goal.update-requires
-update-requires c = record { caller = known_caller c.args.self.now.table.now c.args.self.now.pass c.args.self.now.own }

@@ -1,0 +1,65 @@
+//! Four threads count the words of a text in one table.
+#![tactic(auto)]
+
+use anyhow::{Context, Result};
+use cuckoo_map::{Caller, Settings, Table, TextKey};
+use std::alloc::Global;
+use std::thread;
+
+const SETTINGS: Settings = Settings {
+    s: 4,
+    power: 8,
+    max: 20,
+    callers: 5, // a thread each, and the one that asks for the counts
+    turns: u32::MAX, // so often may a stripe be found held: the threads wait for one another
+    rounds: 4,
+    min_load: 5,
+};
+
+/// The text, in a part for each thread.
+const PARTS: [&[&str]; 4] = [
+    &["the cat saw the dog", "the dog saw the cat"],
+    &["a bird saw the cat and the dog", "and the cat saw the bird"],
+    &["the cat and the dog saw a bird", "the bird sang"],
+    &["and the cat slept", "and the dog slept"],
+];
+
+/// The words whose counts are asked for at the end.
+const WORDS: [&str; 6] = ["the", "cat", "dog", "bird", "sang", "mouse"];
+
+type Counter<'t> = Caller<'t, TextKey, u64>;
+
+/// Counts the words of the lines. A new word is bound to 1, and the count of another one goes up by 1.
+fn count(alloc: Global, counter: &mut Counter<'_>, lines: &[&str]) -> Result<()> {
+    for line in lines {
+        for word in line.split_ascii_whitespace() {
+            let key = TextKey::new(alloc, word.as_bytes())?;
+            counter.upsert(key, |count| count.saturating_add(1), 1)?;
+        }
+    }
+    Ok(())
+}
+
+/// How often the word was counted.
+fn count_of(alloc: Global, counter: &mut Counter<'_>, word: &str) -> Result<u64> {
+    let key = TextKey::new(alloc, word.as_bytes())?;
+    let count = counter.find(&key)?;
+    Ok(count.unwrap_or(0))
+}
+
+fn main(rt: HostRuntime) -> Result<()> {
+    let alloc = rt.alloc();
+    let (table, passes) = Table::<TextKey, u64>::open(alloc, SETTINGS)?;
+    let mut counters = table.callers(alloc, passes)?;
+    let mut asker = counters.pop().context("no caller")?;
+    let jobs: Vec<(Counter<'_>, &[&str])> = counters.into_iter().zip(PARTS).collect(alloc)?;
+    let work = |(mut counter, lines): (Counter<'_>, &[&str])| count(alloc, &mut counter, lines);
+    for done in thread::map_vec(&rt, jobs, &work)? {
+        done?;
+    }
+    for word in WORDS {
+        let count = count_of(alloc, &mut asker, word)?;
+        println!(rt; "{word} {count}")?;
+    }
+    Ok(())
+}

@@ -1,0 +1,11 @@
+-- The tokens that the code cuts a line into. Only the proofs need this file.
+use Rattle.std.specs.Prelude.{◌≡◌, ℕ, ◌<◌, List, [], ◌∷◌, length}
+use Rattle.ck_script.specs.declared.tokens.Tokens.{Tokens}
+use Rattle.ck_script.specs.declared.tokens.Tokens.TheVariants.{One, Two, Three, More}
+
+-- these are the tokens of the list, or there are more than three
+abbrev pub AreTokens : Tokens → List (List ℕ) → Type 0
+AreTokens (One a) ws = ws ≡ a.now ∷ []
+AreTokens (Two a b) ws = ws ≡ a.now ∷ b.now ∷ []
+AreTokens (Three a b c) ws = ws ≡ a.now ∷ b.now ∷ c.now ∷ []
+AreTokens More ws = 3 < length ws

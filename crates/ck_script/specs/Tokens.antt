@@ -1,0 +1,30 @@
+-- The tokens of a line, and numbers.
+use Rattle.std.specs.Prelude.{◌≡◌, ℕ, ◌<◌, ◌^◌, List, [], ◌∷◌, Option, Some, None, Bool, true, false, ◌&&◌, ◌==◌, not, nat_lt, if◌then◌else◌}
+use Rattle.std.specs.List.{slice_split}
+use Rattle.std.specs.Str.{all_ascii_digits}
+use Rattle.std.specs.Char.{is_ascii_digit}
+use Rattle.std.specs.Str.Parse.{digits_value}
+
+abbrev pub is_space : ℕ → Bool
+is_space b = b == 32
+
+-- a line is cut at each space, so two spaces together have an empty word between them
+abbrev pub tokens : List ℕ → List (List ℕ)
+tokens line = slice_split is_space line
+
+-- a digit comes first, and no 0 in front of another byte
+abbrev pub begins_as_number : List ℕ → Bool
+begins_as_number [] = false
+begins_as_number (c ∷ []) = is_ascii_digit c
+begins_as_number (c ∷ d ∷ ds) = is_ascii_digit c && not (c == 48)
+
+-- the number that a word is, where it is one below 2^64
+abbrev pub number_at : List ℕ → Option ℕ
+number_at word = if begins_as_number word && all_ascii_digits word && nat_lt (digits_value 10 word) (2 ^ 64) then Some (digits_value 10 word) else None
+
+-- a word is a number, in the one form that it has
+pub record IsNumber (word : List ℕ) (n : ℕ) : Type 0 where
+  pub begins : begins_as_number word ≡ true
+  pub digits : all_ascii_digits word ≡ true
+  pub value : n ≡ digits_value 10 word
+  pub fits : n < 2 ^ 64

@@ -1,0 +1,12 @@
+pub use Rattle.ck_model.specs.Map
+pub use Rattle.ck_model.specs.History
+pub use Rattle.ck_model.specs.Ranges
+pub use Rattle.ck_words.specs.Words
+pub use Rattle.ck_words.specs.Passes
+pub use Rattle.ck_words.specs.Retries
+pub use Rattle.ck_words.specs.Answering
+pub use Rattle.ck_words.specs.Meeting
+pub use Rattle.ck_words.specs.Closing
+pub use Rattle.ck_table.specs.Refusals
+pub use Rattle.ck_table.specs.Insertions
+pub use Rattle.ck_table.specs.Callers
