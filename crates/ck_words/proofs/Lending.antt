@@ -9,10 +9,10 @@ use Rattle.ck_words.proofs.Turning.{stands_at, same_numbers}
 
 module _ {V : Type 0} (old : StripeSeat V) (p : PassState V) (is : state_of old.table_id old.me ≡ p) (w : WordsState) (own : IsPassOf w p) (ns : List ℕ) (numbered : numbers_of p.stripes ≡ ns) where
   -- stripe i of the pass is the one of the i-th number
-  pub lends : (view : WordsState) (i : ℕ) → view ≡ w → IsSeated old.table_id old.me → i < length p.stripes → HoldsAt view.table (length ns) i (get_or ns i 0) old
-  lends view i same s inside =
-      let count = counts p ns numbered in
-      stands_at old p view.table (length ns) i (get_or ns i 0) s is (own.0 ∙ sym (ap (λ (x : WordsState). x.table) same)) count (omega arith) (named p ns i numbered (omega arith))
+  pub lends : (view : WordsState) (i n t : ℕ) → view ≡ w → IsSeated old.table_id old.me → i < length p.stripes → n ≡ length ns → t ≡ get_or ns i 0 → HoldsAt view.table n i t old
+  lends view i n t same s inside count number =
+      let all = counts p ns numbered in
+      stands_at old p view.table n i t s is (own.0 ∙ sym (ap (λ (x : WordsState). x.table) same)) (omega arith) (omega arith) (named p ns i numbered (omega arith) ∙ sym number)
 
   module _ (new : StripeSeat V) (i : ℕ) (stripe : StripeState V) (puts : Puts i stripe old new) where
     pub still_own : IsPassOf w (state_of new.table_id new.me)

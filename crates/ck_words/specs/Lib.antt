@@ -5,6 +5,7 @@ pub mod Passes
 pub mod Words
 pub mod Retries
 pub mod Holding
+pub mod Lending
 pub mod InPlace
 pub mod Opening
 pub mod Meeting

@@ -1,5 +1,6 @@
 //! The stripes that a pass holds, as held ones.
-ghost use Rattle.std.specs.Prelude.{◌≡◌};
+ghost use Rattle.std.specs.Prelude.{◌≡◌, ◌<◌, length, slice_index};
+ghost use Rattle.ck_words.specs.Lending.{list_of};
 ghost use Rattle.ck_words.specs.Passes.{IsPassOf, numbers_of};
 
 use crate::pass::Pass;
@@ -9,15 +10,47 @@ use ck_key::TableKey;
 use ck_section::Held;
 use std::alloc::AllocError;
 
+/// The numbers of held stripes: of two, or of the one that both are, or of several, in rising order.
+#[derive(Clone, Copy)]
+pub enum Numbers<'a> {
+    Pair(usize, usize),
+    Several(&'a [usize]),
+}
+
+impl Numbers<'_> {
+    /// How many stripes are held.
+    #[inline(always)]
+    fn count(self) -> usize
+        ensures { result ≡ length (list_of self.entry) }
+    {
+        match self {
+            Numbers::Pair(low, high) => { if low == high { 1 } else { 2 } }
+            Numbers::Several(numbers) => numbers.len(),
+        }
+    }
+
+    /// The number of the stripe at position `i`.
+    #[inline(always)]
+    fn at(self, i: usize) -> usize
+        requires { i < length (list_of self) }
+        ensures { result ≡ slice_index (list_of self.entry) i }
+    {
+        match self {
+            Numbers::Pair(low, high) => { if i == 0 { low } else { high } }
+            Numbers::Several(numbers) => numbers[i],
+        }
+    }
+}
+
 /// The stripes that a pass holds, lent to calls that work on them in their slots.
 #[derive(Drop)]
 pub struct Lent<'a, K: TableKey, V> {
     pub words: &'a Words<K, V>,
     pub pass: &'a mut Pass<K, V>,
     /// The numbers of the stripes.
-    pub numbers: &'a [usize],
+    pub numbers: Numbers<'a>,
     ghost own: { IsPassOf words.now pass.now },
-    ghost numbered: { numbers_of pass.now.stripes ≡ numbers.now },
+    ghost numbered: { numbers_of pass.now.stripes ≡ list_of numbers },
 }
 
 impl<K: TableKey + Drop, V: Drop> Held<K, V> for Lent<'_, K, V> {
@@ -25,31 +58,31 @@ impl<K: TableKey + Drop, V: Drop> Held<K, V> for Lent<'_, K, V> {
 
     ghost stripes = { λ l. l.pass.now.stripes };
 
-    ghost stays = { λ l m. (m.pass.ghost_name ≡ l.pass.ghost_name) × (m.pass.now.view ≡ l.pass.now.view) × (m.pass.now.table ≡ l.pass.now.table) };
+    ghost stays = { λ l m. (m.pass.ghost_name ≡ l.pass.ghost_name) × (m.pass.now.view ≡ l.pass.now.view) × (m.pass.now.table ≡ l.pass.now.table) × (m.numbers ≡ l.numbers) };
 
     fn count(&self) -> usize {
-        self.numbers.len()
+        self.numbers.count()
     }
 
     fn number(&mut self, i: usize) -> u32 {
         let (words, numbers) = (self.words, self.numbers);
         let pass = &mut *self.pass;
         let shared = &words.table.shared;
-        slots::number_at(shared, &mut pass.seat, numbers.len(), i, numbers[i])
+        slots::number_at(shared, &mut pass.seat, numbers.count(), i, numbers.at(i))
     }
 
     fn power(&mut self, i: usize) -> u32 {
         let (words, numbers) = (self.words, self.numbers);
         let pass = &mut *self.pass;
         let shared = &words.table.shared;
-        slots::power_at(shared, &mut pass.seat, numbers.len(), i, numbers[i])
+        slots::power_at(shared, &mut pass.seat, numbers.count(), i, numbers.at(i))
     }
 
     fn len(&mut self, i: usize) -> u64 {
         let (words, numbers) = (self.words, self.numbers);
         let pass = &mut *self.pass;
         let shared = &words.table.shared;
-        slots::len_at(shared, &mut pass.seat, numbers.len(), i, numbers[i])
+        slots::len_at(shared, &mut pass.seat, numbers.count(), i, numbers.at(i))
     }
 
     fn look(&mut self, i: usize, b: u64, key: &K, partial: u8) -> Option<usize> {
@@ -59,9 +92,9 @@ impl<K: TableKey + Drop, V: Drop> Held<K, V> for Lent<'_, K, V> {
         slots::look_at(
             shared,
             &mut pass.seat,
-            numbers.len(),
+            numbers.count(),
             i,
-            numbers[i],
+            numbers.at(i),
             b,
             key,
             partial,
@@ -72,14 +105,14 @@ impl<K: TableKey + Drop, V: Drop> Held<K, V> for Lent<'_, K, V> {
         let (words, numbers) = (self.words, self.numbers);
         let pass = &mut *self.pass;
         let shared = &words.table.shared;
-        slots::free_at(shared, &mut pass.seat, numbers.len(), i, numbers[i], b)
+        slots::free_at(shared, &mut pass.seat, numbers.count(), i, numbers.at(i), b)
     }
 
     fn sketch(&mut self, i: usize, b: u64) -> [Option<u8>; 4] {
         let (words, numbers) = (self.words, self.numbers);
         let pass = &mut *self.pass;
         let shared = &words.table.shared;
-        slots::sketch_at(shared, &mut pass.seat, numbers.len(), i, numbers[i], b)
+        slots::sketch_at(shared, &mut pass.seat, numbers.count(), i, numbers.at(i), b)
     }
 
     fn read<R, F: FnOnce(&V) -> R>(&mut self, i: usize, b: u64, slot: usize, f: F) -> R {
@@ -89,9 +122,9 @@ impl<K: TableKey + Drop, V: Drop> Held<K, V> for Lent<'_, K, V> {
         slots::read_at(
             shared,
             &mut pass.seat,
-            numbers.len(),
+            numbers.count(),
             i,
-            numbers[i],
+            numbers.at(i),
             b,
             slot,
             f,
@@ -105,9 +138,9 @@ impl<K: TableKey + Drop, V: Drop> Held<K, V> for Lent<'_, K, V> {
         slots::place_at(
             shared,
             &mut pass.seat,
-            numbers.len(),
+            numbers.count(),
             i,
-            numbers[i],
+            numbers.at(i),
             b,
             slot,
             partial,
@@ -123,9 +156,9 @@ impl<K: TableKey + Drop, V: Drop> Held<K, V> for Lent<'_, K, V> {
         slots::remove_at(
             shared,
             &mut pass.seat,
-            numbers.len(),
+            numbers.count(),
             i,
-            numbers[i],
+            numbers.at(i),
             b,
             slot,
         )
@@ -138,9 +171,9 @@ impl<K: TableKey + Drop, V: Drop> Held<K, V> for Lent<'_, K, V> {
         slots::replace_at(
             shared,
             &mut pass.seat,
-            numbers.len(),
+            numbers.count(),
             i,
-            numbers[i],
+            numbers.at(i),
             b,
             slot,
             value,
@@ -154,9 +187,9 @@ impl<K: TableKey + Drop, V: Drop> Held<K, V> for Lent<'_, K, V> {
         slots::change_at(
             shared,
             &mut pass.seat,
-            numbers.len(),
+            numbers.count(),
             i,
-            numbers[i],
+            numbers.at(i),
             b,
             slot,
             f,
@@ -167,33 +200,33 @@ impl<K: TableKey + Drop, V: Drop> Held<K, V> for Lent<'_, K, V> {
         let (words, numbers) = (self.words, self.numbers);
         let pass = &mut *self.pass;
         let shared = &words.table.shared;
-        slots::settled_at(shared, &mut pass.seat, numbers.len(), i, numbers[i])
+        slots::settled_at(shared, &mut pass.seat, numbers.count(), i, numbers.at(i))
     }
 
     fn settle(&mut self, i: usize) {
         let (words, numbers) = (self.words, self.numbers);
         let pass = &mut *self.pass;
         let shared = &words.table.shared;
-        slots::settle_at(shared, &mut pass.seat, numbers.len(), i, numbers[i]);
+        slots::settle_at(shared, &mut pass.seat, numbers.count(), i, numbers.at(i));
     }
 
     fn reserve_double(&mut self, i: usize) -> Result<(), AllocError> {
         let (words, numbers) = (self.words, self.numbers);
         let pass = &mut *self.pass;
         let shared = &words.table.shared;
-        slots::reserve_double_at(shared, &mut pass.seat, numbers.len(), i, numbers[i])
+        slots::reserve_double_at(shared, &mut pass.seat, numbers.count(), i, numbers.at(i))
     }
 
     fn double(&mut self, i: usize) {
         let (words, numbers) = (self.words, self.numbers);
         let pass = &mut *self.pass;
         let shared = &words.table.shared;
-        slots::double_at(shared, &mut pass.seat, numbers.len(), i, numbers[i]);
+        slots::double_at(shared, &mut pass.seat, numbers.count(), i, numbers.at(i));
     }
 
     ghost use Rattle.std.proofs.Common.{refl, ◌∙◌};
 
-    ghost stays_same = { λ l. (refl, refl, refl) };
+    ghost stays_same = { λ l. (refl, refl, refl, refl) };
 
-    ghost stays_on = { λ l m n e f. (f.0 ∙ e.0, f.1 ∙ e.1, f.2 ∙ e.2) };
+    ghost stays_on = { λ l m n e f. (f.0 ∙ e.0, f.1 ∙ e.1, f.2 ∙ e.2, f.3 ∙ e.3) };
 }

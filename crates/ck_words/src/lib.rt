@@ -16,7 +16,8 @@ mod whole;
 mod words;
 
 pub use commit::Commit;
+pub use holding::Missed;
 pub use law::{Refuses, Says};
-pub use lent::Lent;
+pub use lent::{Lent, Numbers};
 pub use pass::Pass;
 pub use words::Words;

@@ -92,9 +92,9 @@ impl<K: TableKey + Drop, V: Drop> Words<K, V> {
         self.release_low(pass, low, high);
     }
 
-    // Gives the lower of two stripes back, where they are two.
+    /// Gives the lower of two stripes back as it is, where they are two.
     #[inline(always)]
-    pub(crate) fn release_low(&self, pass: &mut Pass<K, V>, low: usize, high: usize)
+    pub fn release_low(&self, pass: &mut Pass<K, V>, low: usize, high: usize)
         requires own { IsPassOf self.now pass.old }
         requires numbered { numbers_of pass.old.stripes ≡ lower low high }
         requires unchanged { IsUnchanged pass.old }
