@@ -10,22 +10,28 @@ use ck_key::TableKey;
 use ck_section::Held;
 use std::alloc::AllocError;
 
-/// The numbers of held stripes: of two, or of the one that both are, or of several, in rising order.
+/// The numbers of held stripes, in rising order: of two, or of the one that both are, or the first so many of four.
 #[derive(Clone, Copy)]
-pub enum Numbers<'a> {
+pub enum Numbers {
     Pair(usize, usize),
-    Several(&'a [usize]),
+    Several([usize; 4], usize),
 }
 
-impl Numbers<'_> {
+impl Numbers {
     /// How many stripes are held.
     #[inline(always)]
     fn count(self) -> usize
-        ensures { result ≡ length (list_of self.entry) }
+        ensures { result ≡ length (list_of self) }
     {
         match self {
-            Numbers::Pair(low, high) => { if low == high { 1 } else { 2 } }
-            Numbers::Several(numbers) => numbers.len(),
+            Numbers::Pair(low, high) => {
+                if low == high {
+                    1
+                } else {
+                    2
+                }
+            }
+            Numbers::Several(_, count) => count.min(4),
         }
     }
 
@@ -33,11 +39,17 @@ impl Numbers<'_> {
     #[inline(always)]
     fn at(self, i: usize) -> usize
         requires { i < length (list_of self) }
-        ensures { result ≡ slice_index (list_of self.entry) i }
+        ensures { result ≡ slice_index (list_of self) i }
     {
         match self {
-            Numbers::Pair(low, high) => { if i == 0 { low } else { high } }
-            Numbers::Several(numbers) => numbers[i],
+            Numbers::Pair(low, high) => {
+                if i == 0 {
+                    low
+                } else {
+                    high
+                }
+            }
+            Numbers::Several(numbers, _) => numbers[i],
         }
     }
 }
@@ -48,7 +60,7 @@ pub struct Lent<'a, K: TableKey, V> {
     pub words: &'a Words<K, V>,
     pub pass: &'a mut Pass<K, V>,
     /// The numbers of the stripes.
-    pub numbers: Numbers<'a>,
+    pub numbers: Numbers,
     ghost own: { IsPassOf words.now pass.now },
     ghost numbered: { numbers_of pass.now.stripes ≡ list_of numbers },
 }
