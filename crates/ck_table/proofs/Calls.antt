@@ -31,7 +31,7 @@ use Rattle.ck_words.specs.Words.{WordsState}
 use Rattle.ck_words.specs.Passes.{PassState, IsUnchanged, numbers_of}
 use Rattle.ck_words.specs.Retries.{Stays, StaysBut, FindsAmong}
 use Rattle.ck_words.specs.Answering.{HasDone, IsAnswered, IsAnsweredBut}
-use Rattle.ck_words.proofs.AreHeld.{pair_of}
+use Rattle.ck_words.specs.Passes.{pair}
 use Rattle.ck_table.specs.Holding.{HoldsKeyBut, HoldsKey}
 use Rattle.ck_table.specs.Refusals.{FindsOwn}
 
@@ -146,7 +146,7 @@ has_of : {V : Type 0} (ss : List (StripeState V)) (t : ℕ) → IsIn t (numbers_
 has_of [] t z = absurd z
 has_of (s ∷ ss) t i = ⊎_elim (λ (e : s.number ≡ t). (zero, omega arith, e)) (λ r. let x = has_of ss t r in (suc x.0, omega arith, x.2)) i
 
-in_pair : (low high t : ℕ) → (t ≡ low) ⊎ (t ≡ high) → IsIn t (pair_of low high)
+in_pair : (low high t : ℕ) → (t ≡ low) ⊎ (t ≡ high) → IsIn t (pair low high)
 in_pair low high t h = dite (ℕ_discrete low high)
     (λ e. subst (IsIn t) (sym (if_same low high (low ∷ []) (low ∷ high ∷ []) e)) (inl (⊎_elim (λ (a : t ≡ low). sym a) (λ b. e ∙ sym b) h)))
     (λ ne. subst (IsIn t) (sym (if_else low high (low ∷ []) (low ∷ high ∷ []) ne)) (⊎_elim (λ (a : t ≡ low). inl (sym a)) (λ b. inr (inl (sym b))) h))
@@ -166,7 +166,7 @@ module _ {hash : Name → ℕ} (set : Settings) {q : Name} {s low high : ℕ} {h
   highest = is_high ∙ λ j. max (index_of (same j) (hashed.value j)) (second_of (same j) (hashed.value j))
 
   -- the two stripes are those of the name
-  pub has_both : {V : Type 0} (ss : List (StripeState V)) → numbers_of ss ≡ pair_of low high → HasBoth hash set.s ss q
+  pub has_both : {V : Type 0} (ss : List (StripeState V)) → numbers_of ss ≡ pair low high → HasBoth hash set.s ss q
   has_both ss named =
       let a = index_of set.s (hash q) in
       let b = second_of set.s (hash q) in

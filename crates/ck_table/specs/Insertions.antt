@@ -39,8 +39,8 @@ module _ {V : Type 0} where
   pub record HasRoom (hash : Name → ℕ) (set : Settings) (q : Name) (room : Room) (p p2 : PassState V) : Type 0 where
     pub more : List (Name × history.Why)
     pub own : All (λ x. x ≡ (q, reason.NoRoom)) more
-    pub held : HoldsKeyBut more hash set q room.place p p2
-    pub entry : IsEntryOf hash p2.stripes q room.place room.entry
+    pub held : HoldsKeyBut more hash set q room.spot.place p p2
+    pub entry : IsEntryOf hash p2.stripes q room.spot.place room.entry
 
   -- among what it has said of room since is that the name's buckets were full
   abbrev pub SaysNoRoom : Name → PassState V → PassState V → Type 0

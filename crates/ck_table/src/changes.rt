@@ -29,17 +29,19 @@ impl<K: TableKey + Drop, V: Drop> Table<K, V> {
             × IsBusyAt K.hash self.now.settings (K.name key.now) back.1.0 pass.old pass.new) }
         ensures found { FindsOwn K.hash self.now.settings (K.name key.now) pass.old pass.new }
     {
-        let place = match self.hold_key(pass, key) {
-            Ok(place) => place,
+        let spot = match self.hold_key(pass, key) {
+            Ok(spot) => spot,
             Err(busy) => return Err((value, busy)),
         };
         let said = Commit::Update(Snapshot::of(key), Snapshot::of(&value));
         let mut lent = Lent {
             words: &self.words,
             pass,
+            numbers: spot.numbers(),
         };
-        let old = update(&mut lent, place, key, value);
-        self.words.commit(lent.pass, said);
+        let old = update(&mut lent, spot.place, key, value);
+        let Lent { pass, .. } = lent;
+        self.words.commit(pass, spot.low, spot.high, said);
         Ok(old)
     }
 
@@ -66,14 +68,16 @@ impl<K: TableKey + Drop, V: Drop> Table<K, V> {
             IsBusyAt K.hash self.now.settings (K.name key.now) busy.0 pass.old pass.new) }
         ensures found { FindsOwn K.hash self.now.settings (K.name key.now) pass.old pass.new }
     {
-        let place = self.hold_key(pass, key)?;
+        let spot = self.hold_key(pass, key)?;
         let mut lent = Lent {
             words: &self.words,
             pass,
+            numbers: spot.numbers(),
         };
-        let bound = change(&mut lent, place, key, f);
+        let bound = change(&mut lent, spot.place, key, f);
+        let Lent { pass, .. } = lent;
         self.words
-            .commit(lent.pass, Commit::Change(Snapshot::of(key)));
+            .commit(pass, spot.low, spot.high, Commit::Change(Snapshot::of(key)));
         Ok(bound)
     }
 
@@ -87,14 +91,16 @@ impl<K: TableKey + Drop, V: Drop> Table<K, V> {
             IsBusyAt K.hash self.now.settings (K.name key.now) busy.0 pass.old pass.new) }
         ensures found { FindsOwn K.hash self.now.settings (K.name key.now) pass.old pass.new }
     {
-        let place = self.hold_key(pass, key)?;
+        let spot = self.hold_key(pass, key)?;
         let mut lent = Lent {
             words: &self.words,
             pass,
+            numbers: spot.numbers(),
         };
-        let value = erase(&mut lent, place, key);
+        let value = erase(&mut lent, spot.place, key);
+        let Lent { pass, .. } = lent;
         self.words
-            .commit(lent.pass, Commit::Erase(Snapshot::of(key)));
+            .commit(pass, spot.low, spot.high, Commit::Erase(Snapshot::of(key)));
         Ok(value)
     }
 
@@ -122,17 +128,19 @@ impl<K: TableKey + Drop, V: Drop> Table<K, V> {
             IsBusyAt K.hash self.now.settings (K.name key.now) busy.0 pass.old pass.new) }
         ensures found { FindsOwn K.hash self.now.settings (K.name key.now) pass.old pass.new }
     {
-        let place = self.hold_key(pass, key)?;
+        let spot = self.hold_key(pass, key)?;
         let mut lent = Lent {
             words: &self.words,
             pass,
+            numbers: spot.numbers(),
         };
-        let gone = erase_if(&mut lent, place, key, f).ok();
+        let gone = erase_if(&mut lent, spot.place, key, f).ok();
+        let Lent { pass, .. } = lent;
         let said = Snapshot::of(key);
         if gone.unwrap_or(false) {
-            self.words.commit(lent.pass, Commit::Erase(said));
+            self.words.commit(pass, spot.low, spot.high, Commit::Erase(said));
         } else {
-            self.words.commit(lent.pass, Commit::Find(said));
+            self.words.commit(pass, spot.low, spot.high, Commit::Find(said));
         }
         Ok(gone)
     }

@@ -35,9 +35,11 @@ impl<K: TableKey + Drop, V: Drop> Table<K, V> {
         let mut lent = Lent {
             words: &self.words,
             pass,
+            numbers: room.spot.numbers(),
         };
-        let fresh = insert(&mut lent, room.place, room.entry, key, value);
-        self.words.commit(lent.pass, said);
+        let fresh = insert(&mut lent, room.spot.place, room.entry, key, value);
+        let Lent { pass, .. } = lent;
+        self.words.commit(pass, room.spot.low, room.spot.high, said);
         Ok(fresh)
     }
 
@@ -67,9 +69,11 @@ impl<K: TableKey + Drop, V: Drop> Table<K, V> {
         let mut lent = Lent {
             words: &self.words,
             pass,
+            numbers: room.spot.numbers(),
         };
-        let old = assign(&mut lent, room.place, room.entry, key, value);
-        self.words.commit(lent.pass, said);
+        let old = assign(&mut lent, room.spot.place, room.entry, key, value);
+        let Lent { pass, .. } = lent;
+        self.words.commit(pass, room.spot.low, room.spot.high, said);
         Ok(old)
     }
 
@@ -106,9 +110,11 @@ impl<K: TableKey + Drop, V: Drop> Table<K, V> {
         let mut lent = Lent {
             words: &self.words,
             pass,
+            numbers: room.spot.numbers(),
         };
-        let unbound = upsert(&mut lent, room.place, room.entry, key, f, value);
-        self.words.commit(lent.pass, said);
+        let unbound = upsert(&mut lent, room.spot.place, room.entry, key, f, value);
+        let Lent { pass, .. } = lent;
+        self.words.commit(pass, room.spot.low, room.spot.high, said);
         Ok(unbound)
     }
 }
