@@ -28,7 +28,7 @@ impl Spot {
     pub(crate) fn numbers(self) -> Numbers
         ensures { list_of result ≡ pair self.low self.high }
     {
-        Numbers::Pair(self.low, self.high)
+        Numbers::pair(self.low, self.high)
     }
 }
 
@@ -64,7 +64,7 @@ impl<K: TableKey + Drop, V: Drop> Table<K, V> {
                 let mut lent = Lent {
                     words: &self.words,
                     pass,
-                    numbers: Numbers::Pair(low, high),
+                    numbers: Numbers::pair(low, high),
                 };
                 let place = key_place(&mut lent, s, key, hash);
                 Ok(Spot { low, high, place })

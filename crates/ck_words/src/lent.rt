@@ -1,7 +1,7 @@
 //! The stripes that a pass holds, as held ones.
-ghost use Rattle.std.specs.Prelude.{◌≡◌, ◌<◌, length, slice_index};
+ghost use Rattle.std.specs.Prelude.{◌≡◌, ◌<◌, length, slice_index, take};
 ghost use Rattle.ck_words.specs.Lending.{list_of};
-ghost use Rattle.ck_words.specs.Passes.{IsPassOf, numbers_of};
+ghost use Rattle.ck_words.specs.Passes.{IsPassOf, numbers_of, pair};
 
 use crate::pass::Pass;
 use crate::slots;
@@ -10,46 +10,65 @@ use ck_key::TableKey;
 use ck_section::Held;
 use std::alloc::AllocError;
 
-/// The numbers of held stripes, in rising order: of two, or of the one that both are, or the first so many of four.
+/// The numbers of held stripes, in rising order: the first so many of four. Each stands in a field of its own, since an array
+/// would be kept in memory.
 #[derive(Clone, Copy)]
-pub enum Numbers {
-    Pair(usize, usize),
-    Several([usize; 4], usize),
+pub struct Numbers {
+    first: usize,
+    second: usize,
+    third: usize,
+    fourth: usize,
+    count: usize,
 }
 
 impl Numbers {
-    /// How many stripes are held.
+    /// The numbers of two stripes, or of the one that both are.
+    #[inline(always)]
+    pub fn pair(low: usize, high: usize) -> Self
+        ensures { list_of result ≡ pair low high }
+    {
+        let count = if low == high { 1 } else { 2 };
+        Numbers {
+            first: low,
+            second: high,
+            third: high,
+            fourth: high,
+            count,
+        }
+    }
+
+    /// The first so many of these numbers.
+    pub fn several(numbers: [usize; 4], count: usize) -> Self
+        ensures { list_of result ≡ take count numbers }
+    {
+        Numbers {
+            first: numbers[0],
+            second: numbers[1],
+            third: numbers[2],
+            fourth: numbers[3],
+            count,
+        }
+    }
+
+    // How many stripes are held.
     #[inline(always)]
     fn count(self) -> usize
         ensures { result ≡ length (list_of self) }
     {
-        match self {
-            Numbers::Pair(low, high) => {
-                if low == high {
-                    1
-                } else {
-                    2
-                }
-            }
-            Numbers::Several(_, count) => count.min(4),
-        }
+        self.count.min(4)
     }
 
-    /// The number of the stripe at position `i`.
+    // The number of the stripe at position `i`.
     #[inline(always)]
     fn at(self, i: usize) -> usize
         requires { i < length (list_of self) }
         ensures { result ≡ slice_index (list_of self) i }
     {
-        match self {
-            Numbers::Pair(low, high) => {
-                if i == 0 {
-                    low
-                } else {
-                    high
-                }
-            }
-            Numbers::Several(numbers, _) => numbers[i],
+        match i {
+            0 => self.first,
+            1 => self.second,
+            2 => self.third,
+            _ => self.fourth,
         }
     }
 }
