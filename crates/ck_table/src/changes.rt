@@ -76,8 +76,7 @@ impl<K: TableKey + Drop, V: Drop> Table<K, V> {
         };
         let bound = change(&mut lent, spot.place, key, f);
         let Lent { pass, .. } = lent;
-        self.words
-            .commit(pass, spot.low, spot.high, Commit::Change(Snapshot::of(key)));
+        self.words.commit(pass, spot.low, spot.high, Commit::Change(Snapshot::of(key)));
         Ok(bound)
     }
 
@@ -99,8 +98,7 @@ impl<K: TableKey + Drop, V: Drop> Table<K, V> {
         };
         let value = erase(&mut lent, spot.place, key);
         let Lent { pass, .. } = lent;
-        self.words
-            .commit(pass, spot.low, spot.high, Commit::Erase(Snapshot::of(key)));
+        self.words.commit(pass, spot.low, spot.high, Commit::Erase(Snapshot::of(key)));
         Ok(value)
     }
 
@@ -138,9 +136,11 @@ impl<K: TableKey + Drop, V: Drop> Table<K, V> {
         let Lent { pass, .. } = lent;
         let said = Snapshot::of(key);
         if gone.unwrap_or(false) {
-            self.words.commit(pass, spot.low, spot.high, Commit::Erase(said));
+            self.words
+                .commit(pass, spot.low, spot.high, Commit::Erase(said));
         } else {
-            self.words.commit(pass, spot.low, spot.high, Commit::Find(said));
+            self.words
+                .commit(pass, spot.low, spot.high, Commit::Find(said));
         }
         Ok(gone)
     }
