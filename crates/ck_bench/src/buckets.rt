@@ -50,7 +50,8 @@ impl BucketPair {
         requires second { self.second < length buckets.now }
         requires partial { self.partial ≡ partial_of (K.hash (K.name key.now)) }
         ensures below { IfSome result (λ at. (at.0 < length buckets.now) × (at.1 < 4)) }
-        ensures found { IfSome result (λ at. HasName (row_at buckets.now at.0) (K.name key.now) at.1) }
+        ensures found { IfSome result
+            (λ at. HasName (row_at buckets.now at.0) (K.name key.now) at.1) }
     {
         if let Some(slot) = buckets[self.first].look(key, self.partial) {
             return Some((self.first, slot));

@@ -56,3 +56,7 @@ low_row hash p b slots = map (staying hash p b) slots
 -- the bucket 2^p above b after the doubling: each entry that comes from b has kept its slot
 abbrev pub high_row : {V : Type 0} → (Name → ℕ) → ℕ → ℕ → List (Slot V) → List (Slot V)
 high_row hash p b slots = map (rising hash p b) slots
+
+-- a clone is equal to what it was made of
+abbrev pub ClonesAreEqual : {A : Type 0} → (A → A → Type 0) → Type 0
+ClonesAreEqual {A} is_clone = (x y : A) → is_clone x y → y ≡ x

@@ -1,12 +1,13 @@
 //! Four slots, with the partial of each key beside it.
-ghost use Rattle.std.specs.Prelude.{◌≡◌, ◌≤◌, ◌+◌, ◌<◌, ◌++◌, ℕ, vec_len, vec_capacity, IsSome, IfSome, IfNone, Some, None, slice_set, replicate, length, map, option_map, option_copied};
+ghost use Rattle.std.specs.Prelude.{◌≡◌, ◌≤◌, ◌+◌, ◌<◌, ◌++◌, ℕ, vec_len, vec_capacity, IsSome, IfSome, IfNone, OnOk, Some, None, slice_set, replicate, length, map, option_map, option_copied};
 ghost use Rattle.ck_model.specs.Arithmetic.{partial_of};
 ghost use Rattle.ck_model.specs.Map.{named};
 ghost use Rattle.ck_model.specs.Slots.{slot_at, taken_in, IsFull};
-ghost use Rattle.ck_bucket.specs.Bucket.{HasName, LacksName, ReplacesValue, ChangesValue, partial_in, staying, rising, low_row, high_row};
+ghost use Rattle.ck_bucket.specs.Bucket.{HasName, LacksName, ReplacesValue, ChangesValue, ClonesAreEqual, partial_in, staying, rising, low_row, high_row};
 
 use crate::slots::Slots;
 use ck_key::TableKey;
+use std::alloc::AllocError;
 use std::marker::Model;
 
 /// A bucket: four slots, each free or with a key and its value. Callers see names in place of keys.
@@ -150,8 +151,10 @@ impl<K: TableKey + Drop, V: Drop> Bucket<K, V> {
         requires below { slot < 4 }
         requires power { p < 26 }
         requires free { slot_at high.old slot ≡ None }
-        ensures low { self.new ≡ slice_set self.old slot (staying K.hash p b (slot_at self.old slot)) }
-        ensures high { high.new ≡ slice_set high.old slot (rising K.hash p b (slot_at self.old slot)) }
+        ensures low { self.new ≡ slice_set self.old slot
+            (staying K.hash p b (slot_at self.old slot)) }
+        ensures high { high.new ≡ slice_set high.old slot
+            (rising K.hash p b (slot_at self.old slot)) }
         ensures four { length self.old ≡ 4 }
     {
         let rises = match self.slots.get(slot) {
@@ -192,11 +195,28 @@ impl<K: TableKey + Drop, V: Drop> Bucket<K, V> {
     /// Pushes its pairs, in the order of their slots, into room that was reserved.
     pub fn pour_reserved(self, into: &mut Vec<(K, V)>)
         requires { vec_len into.old + 4 ≤ vec_capacity into.old }
-        ensures pairs { map (named K.name) into.new.items ≡ map (named K.name) into.old.items ++ taken_in self }
+        ensures pairs { map (named K.name) into.new.items
+            ≡ map (named K.name) into.old.items ++ taken_in self }
         ensures len { vec_len into.new ≤ vec_len into.old + 4 }
         ensures capacity { vec_capacity into.new ≡ vec_capacity into.old }
     {
         let Bucket { partials: _, slots } = self;
         slots.pour_reserved(into);
+    }
+}
+
+impl<K: TableKey + Clone, V: Clone> Bucket<K, V> {
+    /// Pushes clones of its pairs, in the order of their slots, into room that was reserved. Where there is no memory for
+    /// a clone, the pairs before it were pushed.
+    pub fn clone_reserved(&self, into: &mut Vec<(K, V)>) -> Result<(), AllocError>
+        requires keys { ClonesAreEqual K.is_clone }
+        requires values { ClonesAreEqual V.is_clone }
+        requires room { vec_len into.old + 4 ≤ vec_capacity into.old }
+        ensures pairs { OnOk result (map (named K.name) into.new.items
+            ≡ map (named K.name) into.old.items ++ taken_in self.now) }
+        ensures len { vec_len into.new ≤ vec_len into.old + 4 }
+        ensures capacity { vec_capacity into.new ≡ vec_capacity into.old }
+    {
+        self.slots.clone_reserved(into)
     }
 }

@@ -1,10 +1,12 @@
 //! Four places for a value. They are named fields, since an index into an array of a type parameter is not proved to
 //! fit.
-ghost use Rattle.std.specs.Prelude.{◌≡◌, ◌+◌, ◌<◌, ◌≤◌, ◌++◌, vec_len, vec_capacity, None, Some, IsSome, IfSome, length, replicate, slice_index_or, slice_set, option_copied};
+ghost use Rattle.std.specs.Prelude.{◌≡◌, ◌+◌, ◌<◌, ◌≤◌, ◌++◌, vec_len, vec_capacity, None, Some, IsSome, IfSome, OnOk, length, replicate, slice_index_or, slice_set, option_copied};
 ghost use Rattle.std.specs.Option.{option_to_list};
 ghost use Rattle.ck_model.specs.Slots.{taken_in};
+ghost use Rattle.ck_bucket.specs.Bucket.{ClonesAreEqual};
 
 use core::mem::replace_with;
+use std::alloc::AllocError;
 use std::marker::Model;
 use std::mem;
 
@@ -86,6 +88,35 @@ impl<T> Slots<T> {
     }
 }
 
+impl<T: Clone> Slots<T> {
+    /// Pushes clones of the values that are there, in order, into room that was reserved.
+    pub fn clone_reserved(&self, into: &mut Vec<T>) -> Result<(), AllocError>
+        requires clones { ClonesAreEqual T.is_clone }
+        requires room { vec_len into.old + 4 ≤ vec_capacity into.old }
+        ensures items { OnOk result (into.new.items ≡ into.old.items ++ taken_in self.now) }
+        ensures len { vec_len into.new ≤ vec_len into.old + 4 }
+        ensures capacity { vec_capacity into.new ≡ vec_capacity into.old }
+    {
+        push_clone_reserved(into, &self.first)?;
+        push_clone_reserved(into, &self.second)?;
+        push_clone_reserved(into, &self.third)?;
+        push_clone_reserved(into, &self.fourth)
+    }
+}
+
+fn push_clone_reserved<T: Clone>(into: &mut Vec<T>, value: &Option<T>) -> Result<(), AllocError>
+    requires clones { ClonesAreEqual T.is_clone }
+    requires room { vec_len into.old < vec_capacity into.old }
+    ensures items { OnOk result (into.new.items ≡ into.old.items ++ option_to_list value.now) }
+    ensures len { vec_len into.new ≤ vec_len into.old + 1 }
+    ensures capacity { vec_capacity into.new ≡ vec_capacity into.old }
+{
+    if let Some(value) = value {
+        into.push_reserved(value.clone()?);
+    }
+    Ok(())
+}
+
 fn push_some_reserved<T>(into: &mut Vec<T>, value: Option<T>)
     requires { vec_len into.old < vec_capacity into.old }
     ensures items { into.new.items ≡ into.old.items ++ option_to_list value }
@@ -102,7 +133,8 @@ impl<K, V> Slots<(K, V)> {
     pub fn replace_value(&mut self, i: usize, value: V) -> V
         requires below { i < 4 }
         requires full { IsSome (slice_index_or self.old i None) }
-        ensures { IfSome (slice_index_or self.old i None) (λ e. (result ≡ e.1) × (self.new ≡ slice_set self.old i (Some (e.0, value)))) }
+        ensures { IfSome (slice_index_or self.old i None)
+            (λ e. (result ≡ e.1) × (self.new ≡ slice_set self.old i (Some (e.0, value)))) }
     {
         match i {
             0 => replace_second(&mut self.first, value),
@@ -118,7 +150,8 @@ impl<K, V> Slots<(K, V)> {
         requires below { i < 4 }
         requires full { IsSome (slice_index_or self.old i None) }
         requires call { F.IsAlwaysCallable f }
-        ensures { IfSome (slice_index_or self.old i None) (λ e. (w : V) × F.post f e.1 w × (self.new ≡ slice_set self.old i (Some (e.0, w)))) }
+        ensures { IfSome (slice_index_or self.old i None)
+            (λ e. (w : V) × F.post f e.1 w × (self.new ≡ slice_set self.old i (Some (e.0, w)))) }
     {
         match i {
             0 => change_second(&mut self.first, f),

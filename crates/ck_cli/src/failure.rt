@@ -1,5 +1,6 @@
 //! How the program fails.
 use ck_script::ScriptFault;
+use clap::error::ErrorKind;
 use std::io;
 use thiserror::Error;
 
@@ -9,6 +10,9 @@ pub enum Failure {
     /// The words ask for nothing that the program does.
     #[error("bad arguments")]
     Arguments,
+    /// The script that is asked for would have too many command lines.
+    #[error("too many lines")]
+    TooManyLines,
     #[error("cannot open")]
     Open,
     #[error("no memory")]
@@ -23,8 +27,17 @@ impl Failure {
     /// The status that the program ends with.
     pub fn status(&self) -> u8 {
         match self {
-            Failure::Arguments => 2,
+            Failure::Arguments | Failure::TooManyLines => 2,
             Failure::Open | Failure::Memory | Failure::Write | Failure::Script(_) => 1,
+        }
+    }
+}
+
+impl From<clap::Error> for Failure {
+    fn from(error: clap::Error) -> Self {
+        match error.kind() {
+            ErrorKind::OutOfMemory => Failure::Memory,
+            _ => Failure::Arguments,
         }
     }
 }

@@ -1,8 +1,9 @@
-//! The program `cuckoo`: runs scripts on a cuckoo hash map.
+//! The program `cuckoo`: runs scripts on a cuckoo hash map, and makes scripts.
 #![tactic(auto)]
 
 mod failure;
 mod program;
+mod recipe;
 mod request;
 #[cfg(test)]
 mod tests;

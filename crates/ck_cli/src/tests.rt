@@ -5,6 +5,7 @@ use std::io::Write;
 use std::process::Abort;
 use std::rt::{Env, Files};
 use std::test::Fail;
+use std::thread::Threads;
 use std::{env, fs, io};
 
 fn words_of(alloc: Global, words: &[&str]) -> Result<Vec<String>, Fail> {
@@ -16,7 +17,7 @@ fn words_of(alloc: Global, words: &[&str]) -> Result<Vec<String>, Fail> {
 }
 
 /// Runs the program, and compares its status and what it writes to both outputs.
-fn check<R: Abort + Files>(
+fn check<R: Abort + Files + Threads + Sync>(
     rt: &R,
     alloc: Global,
     words: &[&str],
@@ -64,7 +65,20 @@ fn scripts(rt: HostRuntime) -> Result<(), Fail> {
             "cuckoo 1\nworker\ninsert 3 1\ninsert 7 2\ninsert 11 3\ninsert 15 4\ninsert 19 5\nfind 19\nend\n",
             (
                 0,
-                "worker 1\nnew\nnew\nnew\nnew\nfull\nnone\nmap\n3 1\n7 2\n11 3\n15 4\n",
+                "worker 1\nnew\nnew\nnew\nnew\nnew\nv 5\nmap\n3 1\n7 2\n11 3\n15 4\n19 5\n",
+                "",
+            ),
+        ),
+        (
+            "cuckoo 1\nworker\ninsert 282574488338432 1\ninsert 565148976676864 2\n\
+             insert 847723465015296 3\ninsert 1130297953353728 4\ninsert 1412872441692160 5\n\
+             insert 1695446930030592 6\ninsert 1978021418369024 7\ninsert 2260595906707456 8\n\
+             insert 2543170395045888 9\nend\n",
+            (
+                0,
+                "worker 1\nnew\nnew\nnew\nnew\nnew\nnew\nnew\nnew\nload\nmap\n\
+                 282574488338432 1\n565148976676864 2\n847723465015296 3\n1130297953353728 4\n\
+                 1412872441692160 5\n1695446930030592 6\n1978021418369024 7\n2260595906707456 8\n",
                 "",
             ),
         ),
@@ -104,8 +118,12 @@ fn scripts(rt: HostRuntime) -> Result<(), Fail> {
         ),
         ("cuckoo 3\n", (1, "", "cuckoo: line 1: bad header\n")),
         (
-            "cuckoo 1\nworker\nlen\nend\n",
-            (1, "", "cuckoo: line 3: bad command\n"),
+            "cuckoo 1\nworker\nupdate 9 1\ninsert 9 1\nupdate 9 2\nhas 9\nhas 8\nlen\nend\n",
+            (
+                0,
+                "worker 1\nnone\nnew\nset\nyes\nno\nlen 1\nmap\n9 2\n",
+                "",
+            ),
         ),
         (
             "cuckoo 1\nworker\nerase 5\nadd 5\nend\n",
@@ -117,16 +135,161 @@ fn scripts(rt: HostRuntime) -> Result<(), Fail> {
     Ok(())
 }
 
+/// Scripts of the whole format, with what they write or which fault they have. A `/` stands for a line feed.
+const WHOLE: [(&str, (u8, &str, &str)); 30] = [
+    (
+        "cuckoo 1/worker/insert 18446744073709551615 9/insert 0 0/list/end/",
+        (
+            0,
+            "worker 1/new/new/list 2/0 0/18446744073709551615 9/map/0 0/18446744073709551615 9/",
+            "",
+        ),
+    ),
+    (
+        "cuckoo 1/keys text/worker/insert b 2/insert a 1/list/end/",
+        (0, "worker 1/new/new/list 2/a 1/b 2/map/a 1/b 2/", ""),
+    ),
+    (
+        "cuckoo 1/max 2/worker/insert 3 0/insert 7 0/insert 11 0/insert 15 0/insert 19 0/end/",
+        (
+            0,
+            "worker 1/new/new/new/new/full/map/3 0/7 0/11 0/15 0/",
+            "",
+        ),
+    ),
+    (
+        "cuckoo 1/load 0/rounds 0/turns 1/max 3/power 1/s 1/keys num/worker/len/list/end/",
+        (0, "worker 1/len 0/list 0/map/", ""),
+    ),
+    (
+        "cuckoo 2/worker/insert 0 10/insert 3 5/move 0 3 4/find 0/find 3/move 0 9 1/move 0 3 100/end/",
+        (0, "worker 1/new/new/set/v 6/v 9/none/set/map/0 0/3 15/", ""),
+    ),
+    (
+        "cuckoo 2/worker/insert 1 7/insert 2 18446744073709551615/move 1 2 5/end/",
+        (
+            0,
+            "worker 1/new/new/set/map/1 7/2 18446744073709551615/",
+            "",
+        ),
+    ),
+    (
+        "cuckoo 1/worker/worker/worker/end/",
+        (0, "worker 1/worker 2/worker 3/map/", ""),
+    ),
+    (
+        "cuckoo 1/turns 4294967295/worker/insert 1 10/worker/insert 2 20/end/",
+        (0, "worker 1/new/worker 2/new/map/1 10/2 20/", ""),
+    ),
+    ("cuckoo 2/max 25/worker/end/", (0, "worker 1/map/", "")),
+    ("cuckoo 2/max 26/worker/end/", (0, "worker 1/map/", "")),
+    ("cuckoo 1/max 25/", (1, "", "cuckoo: line 2: bad setting/")),
+    ("cuckoo 2/max 27/", (1, "", "cuckoo: line 2: bad setting/")),
+    (
+        "cuckoo 1/s 3/worker/end/",
+        (1, "", "cuckoo: line 3: bad setting/"),
+    ),
+    ("cuckoo 1/s 11/", (1, "", "cuckoo: line 2: bad setting/")),
+    ("cuckoo 1/s 1/s 1/", (1, "", "cuckoo: line 3: bad setting/")),
+    (
+        "cuckoo 1/keys big/",
+        (1, "", "cuckoo: line 2: bad setting/"),
+    ),
+    (
+        "cuckoo 1/keys num/keys num/",
+        (1, "", "cuckoo: line 3: bad setting/"),
+    ),
+    ("cuckoo 1/power 0/", (1, "", "cuckoo: line 2: bad setting/")),
+    ("cuckoo 1/turns 0/", (1, "", "cuckoo: line 2: bad setting/")),
+    (
+        "cuckoo 1/turns 4294967296/",
+        (1, "", "cuckoo: line 2: bad setting/"),
+    ),
+    (
+        "cuckoo 1/rounds 65/",
+        (1, "", "cuckoo: line 2: bad setting/"),
+    ),
+    (
+        "cuckoo 1/load 101/",
+        (1, "", "cuckoo: line 2: bad setting/"),
+    ),
+    ("cuckoo 1/s 01/", (1, "", "cuckoo: line 2: bad number/")),
+    ("cuckoo 1/speed 1/", (1, "", "cuckoo: line 2: bad command/")),
+    (
+        "cuckoo 2/worker/move 5 5 1/",
+        (1, "", "cuckoo: line 3: bad command/"),
+    ),
+    (
+        "cuckoo 1/worker/move 5 6 1/",
+        (1, "", "cuckoo: line 3: bad command/"),
+    ),
+    (
+        "cuckoo 1/keys text/worker/find a\u{7f}/",
+        (1, "", "cuckoo: line 4: bad command/"),
+    ),
+    (
+        "cuckoo 1/keys text/worker/find \
+         aaaaaaaaaaaaaaaaaaaaaaaaaaaaaaaaaaaaaaaaaaaaaaaaaaaaaaaaaaaaaaaaa/",
+        (1, "", "cuckoo: line 4: too long/"),
+    ),
+    (
+        "cuckoo 1/worker/worker/power 3/",
+        (1, "", "cuckoo: line 4: bad command/"),
+    ),
+    (
+        "cuckoo 1/worker/list 1/",
+        (1, "", "cuckoo: line 3: bad command/"),
+    ),
+];
+
+#[test]
+fn whole_scripts(rt: HostRuntime) -> Result<(), Fail> {
+    for (input, (status, output, errors)) in WHOLE {
+        let input = input.replace(rt.alloc(), "/", "\n")?;
+        let output = output.replace(rt.alloc(), "/", "\n")?;
+        let errors = errors.replace(rt.alloc(), "/", "\n")?;
+        let want = (status, output.as_str(), errors.as_str());
+        check(&rt, rt.alloc(), &["run"], &input, want)?;
+    }
+    Ok(())
+}
+
 #[test]
 fn words(rt: HostRuntime) -> Result<(), Fail> {
-    let refused: [&[&str]; 7] = [
+    let refused: [&[&str]; 14] = [
         &[],
         &["help"],
         &["--help"],
         &["--version"],
         &["run", "a", "b"],
         &["run", "--all"],
-        &["make", "--seed", "1", "--workers", "1", "--lines", "1"],
+        &["make"],
+        &["make", "--help"],
+        &["make", "--seed", "1", "--workers", "1"],
+        &["make", "--seed", "1", "--workers", "1", "--lines"],
+        &["make", "--seed", "1", "--workers", "1", "--lines", "1", "1"],
+        &[
+            "make",
+            "--seed",
+            "1",
+            "--workers",
+            "1",
+            "--lines",
+            "1",
+            "--all",
+        ],
+        &[
+            "make",
+            "--seed",
+            "1",
+            "--workers",
+            "1",
+            "--lines",
+            "1",
+            "--seed",
+            "1",
+        ],
+        &["make", "--seed", "1", "2", "--workers", "1", "--lines", "1"],
     ];
     for words in refused {
         check(
@@ -144,6 +307,127 @@ fn words(rt: HostRuntime) -> Result<(), Fail> {
         "",
         (1, "", "cuckoo: cannot open\n"),
     )
+}
+
+/// The numbers of a made script, and what comes of them. A `/` stands for a line feed.
+const MADE: [((&str, &str, &str), (u8, &str, &str)); 15] = [
+    (
+        ("42", "1", "3"),
+        (
+            0,
+            "cuckoo 1/worker/add 55 97/add 48 955/add 11 566/end/",
+            "",
+        ),
+    ),
+    (
+        ("42", "3", "1"),
+        (
+            0,
+            "cuckoo 1/worker/add 55 97/worker/add 48 955/worker/add 11 566/end/",
+            "",
+        ),
+    ),
+    (
+        ("1", "3", "0"),
+        (0, "cuckoo 1/worker/worker/worker/end/", ""),
+    ),
+    (
+        ("18446744073709551615", "2", "2"),
+        (
+            0,
+            "cuckoo 1/worker/add 55 298/add 58 769/worker/add 56 464/add 2 84/end/",
+            "",
+        ),
+    ),
+    (("1", "256", "3907"), (2, "", "cuckoo: too many lines/")),
+    (("1", "1024", "977"), (2, "", "cuckoo: too many lines/")),
+    (("1", "1024", "1000000"), (2, "", "cuckoo: too many lines/")),
+    (("1", "1025", "0"), (2, "", "cuckoo: bad arguments/")),
+    (("1", "0", "1"), (2, "", "cuckoo: bad arguments/")),
+    (("1", "1", "1000001"), (2, "", "cuckoo: bad arguments/")),
+    (("1", "1025", "1000000"), (2, "", "cuckoo: bad arguments/")),
+    (("01", "1", "1"), (2, "", "cuckoo: bad arguments/")),
+    (("1", "4294967297", "1"), (2, "", "cuckoo: bad arguments/")),
+    (
+        ("18446744073709551616", "1", "1"),
+        (2, "", "cuckoo: bad arguments/"),
+    ),
+    (("", "1", "1"), (2, "", "cuckoo: bad arguments/")),
+];
+
+#[test]
+fn made_scripts(rt: HostRuntime) -> Result<(), Fail> {
+    for ((seed, workers, lines), (status, output, errors)) in MADE {
+        let words = [
+            "make",
+            "--lines",
+            lines,
+            "--seed",
+            seed,
+            "--workers",
+            workers,
+        ];
+        let output = output.replace(rt.alloc(), "/", "\n")?;
+        let errors = errors.replace(rt.alloc(), "/", "\n")?;
+        let want = (status, output.as_str(), errors.as_str());
+        check(&rt, rt.alloc(), &words, "", want)?;
+    }
+    Ok(())
+}
+
+/// More than 256 workers have the second format.
+#[test]
+fn made_of_many_workers(rt: HostRuntime) -> Result<(), Fail> {
+    for (workers, many, header) in [
+        ("256", 256, "cuckoo 1\n"),
+        ("257", 257, "cuckoo 2\n"),
+        ("1024", 1024, "cuckoo 2\n"),
+    ] {
+        let mut want = String::from_str(rt.alloc(), header)?;
+        for _ in 0..many {
+            want.push_str("worker\n")?;
+        }
+        want.push_str("end\n")?;
+        let words = ["make", "--seed", "1", "--workers", workers, "--lines", "0"];
+        check(&rt, rt.alloc(), &words, "", (0, want.as_str(), ""))?;
+    }
+    Ok(())
+}
+
+/// What the program writes for these words, to its output alone.
+fn output_of<R: Abort + Files + Threads + Sync>(
+    rt: &R,
+    alloc: Global,
+    words: &[&str],
+    input: &[u8],
+) -> Result<Vec<u8>, Fail> {
+    let words = words_of(alloc, words)?;
+    let (mut out, mut err) = (Vec::new(alloc), Vec::new(alloc));
+    let status = program(rt, alloc, &words, input, &mut out, &mut err);
+    assert_eq!(rt; status, 0);
+    assert_eq!(rt; err.len(), 0);
+    Ok(out)
+}
+
+#[test]
+fn made_of_many_lines(rt: HostRuntime) -> Result<(), Fail> {
+    let words = ["make", "--seed", "1", "--workers", "256", "--lines", "3906"];
+    let text = output_of(&rt, rt.alloc(), &words, b"")?;
+    let feeds = text.iter().filter(|byte| **byte == b'\n').count();
+    assert_eq!(rt; feeds, 2 + 256 + 256 * 3906);
+    Ok(())
+}
+
+#[test]
+fn made_script_runs(rt: HostRuntime) -> Result<(), Fail> {
+    let words = ["make", "--seed", "42", "--workers", "1", "--lines", "3"];
+    let text = output_of(&rt, rt.alloc(), &words, b"")?;
+    let output = output_of(&rt, rt.alloc(), &["run"], &text)?;
+    assert_eq!(rt;
+        output.as_slice(),
+        b"worker 1\nnew\nnew\nnew\nmap\n11 566\n48 955\n55 97\n".as_slice()
+    );
+    Ok(())
 }
 
 #[test]
@@ -188,19 +472,29 @@ impl Write for Breaking {
 
 #[test]
 fn breaking_output(rt: HostRuntime) -> Result<(), Fail> {
-    let words = words_of(rt.alloc(), &["run"])?;
-    for left in 0..13usize {
-        let mut err = Vec::new(rt.alloc());
-        let status = program(
-            &rt,
-            rt.alloc(),
-            &words,
-            b"cuckoo 1\nworker\nend\n".as_slice(),
-            Breaking { left },
-            &mut err,
-        );
-        assert_eq!(rt; status, 1);
-        assert_eq!(rt; err.as_slice(), b"cuckoo: write failed\n".as_slice());
+    let rows: [(&[&str], &str, usize); 2] = [
+        (&["run"], "cuckoo 1\nworker\nend\n", 13),
+        (
+            &["make", "--seed", "42", "--workers", "1", "--lines", "3"],
+            "",
+            52,
+        ),
+    ];
+    for (words, input, length) in rows {
+        let words = words_of(rt.alloc(), words)?;
+        for left in 0..length {
+            let mut err = Vec::new(rt.alloc());
+            let status = program(
+                &rt,
+                rt.alloc(),
+                &words,
+                input.as_bytes(),
+                Breaking { left },
+                &mut err,
+            );
+            assert_eq!(rt; status, 1);
+            assert_eq!(rt; err.as_slice(), b"cuckoo: write failed\n".as_slice());
+        }
     }
     Ok(())
 }

@@ -4,7 +4,7 @@ use mathlib.Core.Option.{some, some-injective}
 use lib.ListN.{get_elem?}
 use Rattle.std.proofs.lemmas.Option.{none-some}
 use Rattle.ck_model.specs.declared.history.Entry.{Entry}
-use Rattle.ck_model.specs.declared.history.Why.{Why}
+use Rattle.ck_model.specs.declared.history.Reason.{Reason}
 use Rattle.ck_core.specs.declared.view.View.{View}
 use Rattle.ck_model.specs.Map.{Name}
 use Rattle.ck_model.specs.History.{After, StartsWith}
@@ -92,7 +92,7 @@ module _ {V : Type 0} (k : Layout) (callers : ℕ) (log : List (Entry V)) (s : W
   same_power : (w : ℕ → Content V) → Lawful k (whole k w) → (t u : ℕ) (c : Content V) → t < 2 ^ k.s → u < 2 ^ k.s → w t ≡ c → c.power ≤ (w u).power
   same_power w lawful t u c l m e = le_of_eq (ap (λ (x : Content V). x.power) (sym e) ∙ lawful.one_power t u (w t) (w u) (listed_at (2 ^ k.s) w t l) (listed_at (2 ^ k.s) w u m))
 
-  pub give_keeps : (t : ℕ) (c : Content V) (g : Option (Name × Why)) → Holds v.held t c → Law k callers log (sent_home s id t c (giving v t c v.held g))
+  pub give_keeps : (t : ℕ) (c : Content V) (g : Option (Name × Reason)) → Holds v.held t c → Law k callers log (sent_home s id t c (giving v t c v.held g))
   give_keeps t c g h =
       let w : View V = giving v t c v.held g in
       let f = law.places.holds id v at t c h in
@@ -134,7 +134,7 @@ module _ {V : Type 0} (k : Layout) (callers : ℕ) (log : List (Entry V)) (s : W
           legal = leads_snoc _ (bindings (whole k law.contents)) (bindings (whole k contents2)) log e law.legal z.1;
         }
 
-    pub renew_keeps : (g : Option (Name × Why)) → IdentitySection k v.held ks → Law k callers log (sent_home s id t c (giving v t c ks g))
+    pub renew_keeps : (g : Option (Name × Reason)) → IdentitySection k v.held ks → Law k callers log (sent_home s id t c (giving v t c ks g))
     renew_keeps g sec =
         let w : View V = giving v t c ks g in
         let z = identity_of_whole k law.contents v.held ks law.lawful agrees sec in

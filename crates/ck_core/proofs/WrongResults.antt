@@ -4,7 +4,7 @@ use Rattle.std.proofs.lemmas.Option.{same_Some}
 use mathlib.Core.Option.{some, some-injective}
 use lib.ListN.{get_elem?}
 use Rattle.ck_model.specs.declared.history.Entry.{Entry}
-use Rattle.ck_model.specs.declared.history.Why.{Why}
+use Rattle.ck_model.specs.declared.history.Reason.{Reason}
 use Rattle.ck_model.specs.declared.settings.Settings.{Settings}
 use Rattle.ck_model.specs.declared.contents.Content.{Content}
 use Rattle.ck_model.specs.Map.{Name}
@@ -30,7 +30,7 @@ beside_held : (c : Content ℕ) → Holds (both full_stripe) 0 c → c ≡ full_
 beside_held c h = ⊎_elim (λ (e : (1 ≡ 0) × (empty_stripe ≡ c)). let one : ◌≡◌ {A = ℕ} 1 0 = e.0 in absurd (omega arith))
     (λ r. ⊎_elim (λ (e : (0 ≡ 0) × (full_stripe ≡ c)). sym e.1) (λ z. absurd z) r) h
 
-pub give_other_content : (g : Option (Name × Why)) → LeavesHome [] one_held 0 (Give 0 g) 0 empty_stripe
+pub give_other_content : (g : Option (Name × Reason)) → LeavesHome [] one_held 0 (Give 0 g) 0 empty_stripe
 give_other_content g min_load s2 d =
     let same = the_view one_held.views 0 _ d.0 refl d.2 in
     ap (λ (x : World ℕ). get_elem? x.homes 0) d.5 ∙ ap (λ (c : Content ℕ). some (Some c)) (alone_held d.1 (subst (λ (v : View ℕ). Holds v.held 0 d.1) same d.3))
@@ -40,7 +40,7 @@ give_rest_other_content min_load s2 d =
     let same = the_view one_held.views 0 _ d.0 refl d.2 in
     ap (λ (x : World ℕ). get_elem? x.homes 0) d.4 ∙ ap (λ (c : Content ℕ). some (Some c)) (alone_held d.1 (subst (λ (v : View ℕ). Holds v.held 0 d.1) same d.3))
 
-pub give_other_stripe : (g : Option (Name × Why)) → LeavesHome (insertion ∷ []) both_held 1 (Give 0 g) 0 full_stripe
+pub give_other_stripe : (g : Option (Name × Reason)) → LeavesHome (insertion ∷ []) both_held 1 (Give 0 g) 0 full_stripe
 give_other_stripe g min_load s2 d =
     let same = the_view both_held.views 1 _ d.0 refl d.2 in
     ap (λ (x : World ℕ). get_elem? x.homes 0) d.5 ∙ ap (λ (c : Content ℕ). some (Some c)) (beside_held d.1 (subst (λ (v : View ℕ). Holds v.held 0 d.1) same d.3))

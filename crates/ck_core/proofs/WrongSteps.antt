@@ -8,8 +8,8 @@ use Rattle.ck_model.specs.declared.history.Act.TheVariants.{Find, Insert}
 use Rattle.ck_model.specs.declared.history.Call.TheVariants.{On}
 use Rattle.ck_model.specs.declared.history.Reply.{Reply}
 use Rattle.ck_model.specs.declared.history.Reply.TheVariants.{Was, New, Old}
-use Rattle.ck_model.specs.declared.history.Why.{Why}
-use Rattle.ck_model.specs.declared.history.Why.TheVariants.{NoRoom, Full, LoadTooLow, Memory}
+use Rattle.ck_model.specs.declared.history.Reason.{Reason}
+use Rattle.ck_model.specs.declared.history.Reason.TheVariants.{NoRoom, Full, LoadTooLow, Memory}
 use Rattle.ck_model.specs.declared.history.Entry.{Entry}
 use Rattle.ck_model.specs.Map.{Name, Answers}
 use Rattle.ck_model.specs.Numbered.{IsIn, numbers, Holds}
@@ -39,7 +39,7 @@ take_held min_load s2 d = let one : ◌≡◌ {A = ℕ} 1 0 = d.4 in omega arith
 pub find_own : IsRefused [] one_held 0 (FindHeld 0)
 find_own min_load s2 d = let same = the_view one_held.views 0 _ d.0 refl d.1 in subst (λ (v : View ℕ). ¬ (IsIn 0 (numbers v.held))) same d.4 (inl refl)
 
-pub give_not_held : (g : Option (Name × Why)) → IsRefused (insertion ∷ []) decided 0 (Give 0 g)
+pub give_not_held : (g : Option (Name × Reason)) → IsRefused (insertion ∷ []) decided 0 (Give 0 g)
 give_not_held g min_load s2 d =
     let same = the_view decided.views 0 _ d.0 refl d.2 in
     ⊎_elim (λ e. let one : ◌≡◌ {A = ℕ} 1 0 = e.0 in omega arith) (λ z. z) (subst (λ (v : View ℕ). Holds v.held 0 d.1) same d.3)
@@ -104,30 +104,30 @@ undealt_number (suc zero) t ks e above min_load s2 d =
     omega arith
 undealt_number (suc (suc id)) t ks e above min_load s2 d = some-ne-none d.0 (sym d.2)
 
-pub lost_entry : (t : ℕ) (g : Option (Name × Why)) → IsRefused (insertion ∷ []) both_held 1 (Renew t (both empty_stripe) g)
+pub lost_entry : (t : ℕ) (g : Option (Name × Reason)) → IsRefused (insertion ∷ []) both_held 1 (Renew t (both empty_stripe) g)
 lost_entry t g min_load s2 d =
     let same = the_view both_held.views 1 _ d.0 refl d.2 in
     let sec = subst (λ (v : View ℕ). IdentitySection two_stripes v.held (both empty_stripe)) same d.4 in
     none-some 5 (sym (empty_at zero_name) ∙ (ap (λ m. get m zero_name) sec.same_bindings ∙ bound))
 
-bound_name : (min_load : ℕ) (why : Why) → ¬ (IsExcused two_stripes min_load (both full_stripe) (Some (zero_name, why)))
+bound_name : (min_load : ℕ) (why : Reason) → ¬ (IsExcused two_stripes min_load (both full_stripe) (Some (zero_name, why)))
 bound_name min_load NoRoom h = none-some 5 (sym h.1.unbound ∙ bound)
 bound_name min_load Full h = none-some 5 (sym h.0.unbound ∙ bound)
 bound_name min_load LoadTooLow h = none-some 5 (sym h.0.unbound ∙ bound)
 bound_name min_load Memory h = none-some 5 (sym h.0.unbound ∙ bound)
 
-no_grounds_of_bound : (min_load : ℕ) (ks : Stripes ℕ) (why : Why) → get (bindings ks) zero_name ≡ Some 5 → ¬ (HasGrounds two_stripes min_load ks (Some (zero_name, why)))
+no_grounds_of_bound : (min_load : ℕ) (ks : Stripes ℕ) (why : Reason) → get (bindings ks) zero_name ≡ Some 5 → ¬ (HasGrounds two_stripes min_load ks (Some (zero_name, why)))
 no_grounds_of_bound min_load ks NoRoom e h = h
 no_grounds_of_bound min_load ks Full e h = none-some 5 (sym h.0.unbound ∙ e)
 no_grounds_of_bound min_load ks LoadTooLow e h = none-some 5 (sym h.0.unbound ∙ e)
 no_grounds_of_bound min_load ks Memory e h = none-some 5 (sym h.0.unbound ∙ e)
 
-pub no_grounds : (t : ℕ) (why : Why) → IsRefused (insertion ∷ []) both_held 1 (Give t (Some (zero_name, why)))
+pub no_grounds : (t : ℕ) (why : Reason) → IsRefused (insertion ∷ []) both_held 1 (Give t (Some (zero_name, why)))
 no_grounds t why min_load s2 d =
     let same = the_view both_held.views 1 _ d.0 refl d.2 in
     bound_name min_load why (subst (λ (v : View ℕ). IsExcused two_stripes min_load v.held (Some (zero_name, why))) same d.4)
 
-pub renew_no_grounds : (t : ℕ) (ks : Stripes ℕ) (why : Why) → IsRefused (insertion ∷ []) both_held 1 (Renew t ks (Some (zero_name, why)))
+pub renew_no_grounds : (t : ℕ) (ks : Stripes ℕ) (why : Reason) → IsRefused (insertion ∷ []) both_held 1 (Renew t ks (Some (zero_name, why)))
 renew_no_grounds t ks why min_load s2 d =
     let same = the_view both_held.views 1 _ d.0 refl d.2 in
     let sec = subst (λ (v : View ℕ). IdentitySection two_stripes v.held ks) same d.4 in

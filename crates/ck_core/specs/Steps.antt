@@ -4,8 +4,8 @@ use mathlib.Core.Option.{some}
 use lib.ListN.{get_elem?}
 use Rattle.std.specs.FinMap.{empty}
 use Rattle.ck_model.specs.declared.history.Entry.{Entry}
-use Rattle.ck_model.specs.declared.history.Why.{Why}
-use Rattle.ck_model.specs.declared.history.Why.TheVariants.{NoRoom, Full, LoadTooLow, Memory}
+use Rattle.ck_model.specs.declared.history.Reason.{Reason}
+use Rattle.ck_model.specs.declared.history.Reason.TheVariants.{NoRoom, Full, LoadTooLow, Memory}
 use Rattle.ck_model.specs.declared.settings.Settings.{Settings}
 use Rattle.ck_model.specs.Map.{Name}
 use Rattle.ck_model.specs.Numbered.{IsIn, AreDistinct, numbers, Holds, without}
@@ -23,13 +23,13 @@ pub data Move (V : Type 0) : Type 0 where
   -- a swap(1) that brings back 1
   FindHeld : (t : ℕ) → Move V
   -- a store(0) by which the content goes home unchanged; noroom may rise
-  Give : (t : ℕ) → Option (Name × Why) → Move V
+  Give : (t : ℕ) → Option (Name × Reason) → Move V
   -- a store(0) that decides a call, with the new contents of a section
   Decide : (t : ℕ) → Stripes V → Entry V → Move V
   -- as Give, after a Decide or a Renew
   GiveRest : (t : ℕ) → Move V
   -- a store(0) with the new contents of an identity section
-  Renew : (t : ℕ) → Stripes V → Option (Name × Why) → Move V
+  Renew : (t : ℕ) → Stripes V → Option (Name × Reason) → Move V
   -- a load; told may rise to p
   Look : (t p : ℕ) → Move V
   -- a load by which a new caller gets a number that nobody has used
@@ -47,7 +47,7 @@ IsAbove t ts = (u : ℕ) → IsIn u ts → u < t
 abbrev pub no_settings : Settings
 no_settings = record { s = 0; power = 0; max = 0; callers = 0; turns = 0; rounds = 0; min_load = 0 }
 
-abbrev pub gaining : List (Name × Why) → Option (Name × Why) → List (Name × Why)
+abbrev pub gaining : List (Name × Reason) → Option (Name × Reason) → List (Name × Reason)
 gaining l None = l
 gaining l (Some g) = g ∷ l
 
@@ -63,7 +63,7 @@ module _ {V : Type 0} where
   sent_home s id t c w = record { words = set s.words t 0; homes = set s.homes t (Some c); views = set s.views id w }
 
   -- the view v after the stripe t with the content c, of the held stripes hs, went home
-  abbrev pub giving : View V → ℕ → Content V → Stripes V → Option (Name × Why) → View V
+  abbrev pub giving : View V → ℕ → Content V → Stripes V → Option (Name × Reason) → View V
   giving v t c hs g = record v { held = without t hs; told = max v.told c.power; noroom = gaining v.noroom g }
 
   -- the view v after the entry e was decided with the new contents ks, of which the stripe t went home
@@ -93,12 +93,12 @@ module _ {V : Type 0} where
   joined s id both other = record s { views = set (set s.views id both) other spent }
 
   -- noroom may rise where the stripes give grounds
-  abbrev pub HasGrounds : Layout → ℕ → Stripes V → Option (Name × Why) → Type 0
+  abbrev pub HasGrounds : Layout → ℕ → Stripes V → Option (Name × Reason) → Type 0
   HasGrounds k min_load hs None = Unit {0}
   HasGrounds k min_load hs (Some (q, why)) = Grounds k min_load hs q why
 
   -- or where the name's stripes are held, it is unbound in them, and its buckets are full
-  abbrev pub IsExcused : Layout → ℕ → Stripes V → Option (Name × Why) → Type 0
+  abbrev pub IsExcused : Layout → ℕ → Stripes V → Option (Name × Reason) → Type 0
   IsExcused k min_load hs None = Unit {0}
   IsExcused k min_load hs (Some (q, NoRoom)) = Owns k hs q × HasNoRoom k hs q
   IsExcused k min_load hs (Some (q, Full)) = Grounds k min_load hs q Full

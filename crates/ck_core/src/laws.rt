@@ -1,7 +1,7 @@
 //! The laws of the core. The functions do nothing: their contracts are the laws.
 ghost use Rattle.std.specs.Prelude.{ℕ, Option};
 ghost use Rattle.ck_model.specs.declared.history.Entry.{Entry};
-ghost use Rattle.ck_model.specs.declared.history.Why.{Why};
+ghost use Rattle.ck_model.specs.declared.history.Reason.{Reason};
 ghost use Rattle.ck_model.specs.Map.{Name};
 ghost use Rattle.ck_model.specs.Contents.{Stripes};
 ghost use Rattle.ck_core.specs.Steps.Move.{Take, FindHeld, Give, Decide, GiveRest, Renew, Look, Open, Tell, Join};
@@ -20,7 +20,7 @@ pub fn law_of_find_held<V>()
 
 /// A step by which a caller gives back a stripe unchanged keeps the law, whatever it says of room.
 pub fn law_of_give<V>()
-    ensures { (t : ℕ) (g : Option (Name × Why)) → Keeps {V = V} (Give t g) }
+    ensures { (t : ℕ) (g : Option (Name × Reason)) → Keeps {V = V} (Give t g) }
 {}
 
 /// A step by which a caller gives back the first stripe after a section, and so decides a call, keeps the law: the
@@ -38,7 +38,7 @@ pub fn law_of_give_rest<V>()
 /// A step by which a caller gives back the first stripe after an identity section, as a displacement or a doubling is,
 /// keeps the law.
 pub fn law_of_renew<V>()
-    ensures { (t : ℕ) (ks : Stripes V) (g : Option (Name × Why)) → Keeps (Renew t ks g) }
+    ensures { (t : ℕ) (ks : Stripes V) (g : Option (Name × Reason)) → Keeps (Renew t ks g) }
 {}
 
 /// A step by which a caller sees the history and may be told a greater power keeps the law.

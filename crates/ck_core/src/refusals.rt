@@ -3,7 +3,7 @@ ghost use Rattle.std.specs.Prelude.{◌≡◌, ℕ, ◌<◌, ◌≤◌, List, Op
 ghost use Rattle.ck_model.specs.declared.history.Act.TheVariants.{Find, Insert};
 ghost use Rattle.ck_model.specs.declared.history.Call.TheVariants.{On};
 ghost use Rattle.ck_model.specs.declared.history.Reply.TheVariants.{Was, New};
-ghost use Rattle.ck_model.specs.declared.history.Why.{Why};
+ghost use Rattle.ck_model.specs.declared.history.Reason.{Reason};
 ghost use Rattle.ck_model.specs.declared.history.Entry.{Entry};
 ghost use Rattle.ck_model.specs.declared.settings.Settings.{Settings};
 ghost use Rattle.ck_model.specs.Map.{Name};
@@ -32,29 +32,50 @@ pub fn wrong_steps()
     ensures take_below { IsRefused (insertion ∷ []) decided 0 (Take 0) }
     ensures take_held { IsRefused [] one_held 1 (Take 0) }
     ensures find_own { IsRefused [] one_held 0 (FindHeld 0) }
-    ensures give_not_held { (g : Option (Name × Why)) → IsRefused (insertion ∷ []) decided 0 (Give 0 g) }
+    ensures give_not_held { (g : Option (Name × Reason))
+        → IsRefused (insertion ∷ []) decided 0 (Give 0 g) }
     ensures give_of_another { IsRefused [] one_held 1 (GiveRest 0) }
-    ensures wrong_reply { (t : ℕ) (ks : Stripes ℕ) → IsRefused (insertion ∷ []) both_held 1 (Decide t ks (record { by = 1; call = On zero_name (Insert 7); reply = New })) }
-    ensures wrong_value { (t : ℕ) (ks : Stripes ℕ) → IsRefused (insertion ∷ []) both_held 1 (Decide t ks (record { by = 1; call = On zero_name Find; reply = Was None })) }
-    ensures without_all { (t : ℕ) (ks : Stripes ℕ) → IsRefused [] one_held 0 (Decide t ks insertion) }
-    ensures for_another { (t : ℕ) (ks : Stripes ℕ) → IsRefused (insertion ∷ []) both_held 0 (Decide t ks look_up) }
-    ensures undealt_number { (id t : ℕ) (ks : Stripes ℕ) (e : Entry ℕ) → settings.callers ≤ e.by → IsRefused (insertion ∷ []) both_held id (Decide t ks e) }
-    ensures lost_entry { (t : ℕ) (g : Option (Name × Why)) → IsRefused (insertion ∷ []) both_held 1 (Renew t (both empty_stripe) g) }
-    ensures no_grounds { (t : ℕ) (why : Why) → IsRefused (insertion ∷ []) both_held 1 (Give t (Some (zero_name, why))) }
-    ensures renew_no_grounds { (t : ℕ) (ks : Stripes ℕ) (why : Why) → IsRefused (insertion ∷ []) both_held 1 (Renew t ks (Some (zero_name, why))) }
+    ensures wrong_reply { (t : ℕ) (ks : Stripes ℕ)
+        → IsRefused (insertion ∷ []) both_held 1
+        (Decide t ks (record { by = 1; call = On zero_name (Insert 7); reply = New })) }
+    ensures wrong_value { (t : ℕ) (ks : Stripes ℕ)
+        → IsRefused (insertion ∷ []) both_held 1
+        (Decide t ks (record { by = 1; call = On zero_name Find; reply = Was None })) }
+    ensures without_all { (t : ℕ) (ks : Stripes ℕ)
+        → IsRefused [] one_held 0 (Decide t ks insertion) }
+    ensures for_another { (t : ℕ) (ks : Stripes ℕ)
+        → IsRefused (insertion ∷ []) both_held 0 (Decide t ks look_up) }
+    ensures undealt_number { (id t : ℕ) (ks : Stripes ℕ) (e : Entry ℕ) → settings.callers ≤ e.by
+        → IsRefused (insertion ∷ []) both_held id (Decide t ks e) }
+    ensures lost_entry { (t : ℕ) (g : Option (Name × Reason))
+        → IsRefused (insertion ∷ []) both_held 1 (Renew t (both empty_stripe) g) }
+    ensures no_grounds { (t : ℕ) (why : Reason)
+        → IsRefused (insertion ∷ []) both_held 1 (Give t (Some (zero_name, why))) }
+    ensures renew_no_grounds { (t : ℕ) (ks : Stripes ℕ) (why : Reason)
+        → IsRefused (insertion ∷ []) both_held 1 (Renew t ks (Some (zero_name, why))) }
     ensures told_above { (t p : ℕ) → 1 < p → IsRefused [] start 0 (Look t p) }
     ensures no_number_left { IsRefused [] start 0 Open }
     ensures join_a_holder { IsRefused [] one_held 1 (Join 0) }
     ensures join_itself { IsRefused [] start 0 (Join 0) }
-    ensures give_other_content { (g : Option (Name × Why)) → LeavesHome [] one_held 0 (Give 0 g) 0 empty_stripe }
+    ensures give_other_content { (g : Option (Name × Reason))
+        → LeavesHome [] one_held 0 (Give 0 g) 0 empty_stripe }
     ensures give_rest_other_content { LeavesHome [] one_held 0 (GiveRest 0) 0 empty_stripe }
-    ensures give_other_stripe { (g : Option (Name × Why)) → LeavesHome (insertion ∷ []) both_held 1 (Give 0 g) 0 full_stripe }
-    ensures give_rest_other_stripe { LeavesHome (insertion ∷ []) both_held 1 (GiveRest 0) 0 full_stripe }
-    ensures decide_two_entries { (t : ℕ) (ks : Stripes ℕ) (e a b : Entry ℕ) (more : List (Entry ℕ)) → LeavesView (insertion ∷ []) both_held 1 (Decide t ks e) 1 (λ w. ¬ (w.mine ≡ a ∷ b ∷ more)) }
-    ensures decide_two_seen { (t : ℕ) (ks : Stripes ℕ) (e a b : Entry ℕ) (more : List (Entry ℕ)) → LeavesView (insertion ∷ []) both_held 1 (Decide t ks e) 1 (λ w. ¬ (w.seen ≡ insertion ∷ a ∷ b ∷ more)) }
-    ensures look_told_falls { (t p : ℕ) → LeavesView [] start 0 (Look t p) 0 (λ w. first.told ≤ w.told) }
+    ensures give_other_stripe { (g : Option (Name × Reason))
+        → LeavesHome (insertion ∷ []) both_held 1 (Give 0 g) 0 full_stripe }
+    ensures give_rest_other_stripe { LeavesHome (insertion ∷ []) both_held 1 (GiveRest 0) 0
+        full_stripe }
+    ensures decide_two_entries { (t : ℕ) (ks : Stripes ℕ) (e a b : Entry ℕ) (more : List (Entry ℕ))
+        → LeavesView (insertion ∷ []) both_held 1 (Decide t ks e) 1
+        (λ w. ¬ (w.mine ≡ a ∷ b ∷ more)) }
+    ensures decide_two_seen { (t : ℕ) (ks : Stripes ℕ) (e a b : Entry ℕ) (more : List (Entry ℕ))
+        → LeavesView (insertion ∷ []) both_held 1 (Decide t ks e) 1
+        (λ w. ¬ (w.seen ≡ insertion ∷ a ∷ b ∷ more)) }
+    ensures look_told_falls { (t p : ℕ)
+        → LeavesView [] start 0 (Look t p) 0 (λ w. first.told ≤ w.told) }
     ensures open_other_number { LeavesView [] alone 0 Open 1 (λ w. w.by ≡ Some 1) }
     ensures open_number_again { LeavesView [] alone 0 Open 0 (λ w. w.others ≡ []) }
-    ensures one_number_twice { (set : Settings) (callers p : ℕ) → ¬ (Opening two_stripes set callers p one_number) }
-    ensures kept_number_twice { (set : Settings) (callers p : ℕ) → ¬ (Opening two_stripes set callers p one_kept) }
+    ensures one_number_twice { (set : Settings) (callers p : ℕ)
+        → ¬ (Opening two_stripes set callers p one_number) }
+    ensures kept_number_twice { (set : Settings) (callers p : ℕ)
+        → ¬ (Opening two_stripes set callers p one_kept) }
 {}

@@ -1,6 +1,6 @@
 //! What a caller knows.
 use ck_model::contents::Content;
-use ck_model::history::{Entry, Name, Why};
+use ck_model::history::{Entry, Name, Reason};
 use ck_model::settings::Settings;
 use std::collections::LinkedList;
 
@@ -21,7 +21,7 @@ pub struct View<V> {
     /// The stripes that were found held, once for each time.
     pub found: LinkedList<u64>,
     /// The names that found no room and why, once for each time.
-    pub noroom: LinkedList<(Name, Why)>,
+    pub noroom: LinkedList<(Name, Reason)>,
     /// What another caller had seen when it was last met.
     pub heard: LinkedList<Entry<V>>,
     /// The power that the other caller had been told.

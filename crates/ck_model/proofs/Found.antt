@@ -56,7 +56,8 @@ module _ {V : Type 0} where
   bound_in_one [] q v e = absurd (none-some v e)
   bound_in_one (h ∷ hs) q v e = ⊎_elim (λ b. (h.0, h.1, inl (refl, refl), b)) (λ r. let z = bound_in_one hs q v r in (z.0, z.1, inr z.2, z.3)) (found_either q v (pairs_in h.1) (pairs_of hs) e)
 
-  present : (hs : Stripes V) (t : ℕ) (c : Content V) (q : Name) (v : V) → Holds hs t c → Binds c q v → (w : V) × (find name_cmp q (pairs_of hs) ≡ Some w)
+  -- what one of the stripes has is among all pairs
+  pub present : (hs : Stripes V) (t : ℕ) (c : Content V) (q : Name) (v : V) → Holds hs t c → Binds c q v → (w : V) × (find name_cmp q (pairs_of hs) ≡ Some w)
   present [] t c q v h b = absurd h
   present (x ∷ xs) t c q v h b = ⊎_elim
       (λ (e : (x.0 ≡ t) × (x.1 ≡ c)). (v, found_first q v (pairs_in x.1) (pairs_of xs) (subst (λ (d : Content V). Binds d q v) (sym e.1) b)))

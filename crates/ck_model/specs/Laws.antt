@@ -12,6 +12,7 @@ use Rattle.ck_model.specs.Numbered.{Holds, over}
 use Rattle.ck_model.specs.declared.contents.Content.{Content}
 use Rattle.ck_model.specs.Contents.{Layout, Stripes, bindings, Lawful, whole}
 use Rattle.ck_model.specs.Sections.{Section, IdentitySection}
+use Rattle.ck_model.specs.Doubling.{IsDoubledTo, HasShape}
 
 -- the call speaks of the name
 abbrev pub SpeaksOf : {V : Type 0} → Call V → Name → Type 0
@@ -50,6 +51,14 @@ module _ (V : Type 0) where
   abbrev pub IdentitySectionsKeepBindings : Type 0
   IdentitySectionsKeepBindings = (k : Layout) (w : ℕ → Content V) (hs ks : Stripes V) → Lawful k (whole k w) → ArePartOf k w hs → IdentitySection k hs ks
       → Lawful k (whole k (over ks w)) × (bindings (whole k (over ks w)) ≡ bindings (whole k w))
+
+  -- a table that doubled binds what it bound
+  abbrev pub DoublingsKeepBindings : Type 0
+  DoublingsKeepBindings = (k : Layout) (p : ℕ) (hs ks : Stripes V) → Lawful k hs → IsDoubledTo k p hs ks → bindings ks ≡ bindings hs
+
+  -- where the buckets and the ledger of each stripe have their shape, and the power may be, it is lawful
+  abbrev pub DoublingsKeepLawful : Type 0
+  DoublingsKeepLawful = (k : Layout) (p : ℕ) (hs ks : Stripes V) → Lawful k hs → IsDoubledTo k p hs ks → ((t : ℕ) (c : Content V) → Holds ks t c → HasShape k c) → p ≤ k.max → Lawful k ks
 
 -- the alternate of a bucket's alternate is the bucket
 abbrev pub AlternateTwice : Type 0

@@ -7,5 +7,6 @@ pub mod Contents
 pub mod Sections
 pub mod Sketches
 pub mod Paths
+pub mod Doubling
 pub mod Ranges
 pub mod Laws

@@ -1,8 +1,8 @@
 -- Displacement paths over contents, and grounds for a refusal.
 use Rattle.std.specs.Prelude.{◌≡◌, ◌≢◌, ℕ, ◌*◌, ◌^◌, ◌<◌, ◌≤◌, List, [], ◌∷◌, length, map, option_map, Some, None}
 use Rattle.std.specs.FinMap.{get}
-use Rattle.ck_model.specs.declared.history.Why.{Why}
-use Rattle.ck_model.specs.declared.history.Why.TheVariants.{NoRoom, Full, LoadTooLow, Memory}
+use Rattle.ck_model.specs.declared.history.Reason.{Reason}
+use Rattle.ck_model.specs.declared.history.Reason.TheVariants.{NoRoom, Full, LoadTooLow, Memory}
 use Rattle.ck_model.specs.Arithmetic.{alternate_of, partial_of}
 use Rattle.ck_model.specs.Map.{Name}
 use Rattle.ck_model.specs.Slots.{Slot, slot_at, IsFull, HasFree}
@@ -45,7 +45,7 @@ module _ {V : Type 0} where
   IsTooEmpty min_load hs = 100 * length (pairs_of hs) < min_load * (4 * 2 ^ power_of hs)
 
   -- the contents give this reason to refuse the name
-  abbrev pub Grounds : Layout → ℕ → Stripes V → Name → Why → Type 0
+  abbrev pub Grounds : Layout → ℕ → Stripes V → Name → Reason → Type 0
   Grounds k min_load hs q Full = IsStuck k hs q × (power_of hs ≡ k.max)
   Grounds k min_load hs q LoadTooLow = IsStuck k hs q × (power_of hs ≢ k.max) × IsTooEmpty min_load hs
   Grounds k min_load hs q Memory = IsStuck k hs q × (power_of hs ≢ k.max) × ¬ (IsTooEmpty min_load hs)

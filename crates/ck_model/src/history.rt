@@ -51,9 +51,9 @@ pub struct Entry<V> {
     pub reply: Reply<V>,
 }
 
-/// Why no room was found for a name.
+/// The reason why no room was found for a name.
 #[derive(Clone, Copy, PartialEq, Eq)]
-pub enum Why {
+pub enum Reason {
     /// It is unbound and its buckets are full.
     NoRoom,
     /// No room can be made, and the table may not grow.

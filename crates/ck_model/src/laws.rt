@@ -1,5 +1,5 @@
 //! The laws of the definitions. The functions do nothing: their contracts are the laws.
-ghost use Rattle.ck_model.specs.Laws.{StepsAreDetermined, StepsLeaveOthers, BeginningsAreLegal, HistoriesLeadToOneMap, SectionsAreSteps, IdentitySectionsKeepBindings, AlternateTwice, AlternateAtNextPower, AlternateItself, StripesStay};
+ghost use Rattle.ck_model.specs.Laws.{StepsAreDetermined, StepsLeaveOthers, BeginningsAreLegal, HistoriesLeadToOneMap, SectionsAreSteps, IdentitySectionsKeepBindings, DoublingsKeepBindings, DoublingsKeepLawful, AlternateTwice, AlternateAtNextPower, AlternateItself, StripesStay};
 
 /// A call and its reply determine what a step of the plain map leaves, and the names of which the call doesn't speak
 /// stay bound as they were.
@@ -23,6 +23,13 @@ pub fn law_of_sections<V>()
 /// A section of no call, as a displacement or a doubling is, leaves the whole lawful and with the same bindings.
 pub fn law_of_identity_sections<V>()
     ensures { IdentitySectionsKeepBindings V }
+{}
+
+/// A table that doubled from lawful contents binds what it bound, and it is lawful where each of its stripes has the shape
+/// of its power.
+pub fn law_of_doublings<V>()
+    ensures bindings { DoublingsKeepBindings V }
+    ensures lawful { DoublingsKeepLawful V }
 {}
 
 /// The alternate of a bucket's alternate is the bucket. At the next power an alternate is, modulo the old number of

@@ -1,7 +1,7 @@
 -- What the programs decide: that a claimed step is one of the core.
 use Rattle.std.specs.Prelude.{◌≡◌, ℕ, Option, None}
 use Rattle.ck_model.specs.declared.contents.Content.{Content}
-use Rattle.ck_model.specs.declared.history.Why.{Why}
+use Rattle.ck_model.specs.declared.history.Reason.{Reason}
 use Rattle.ck_model.specs.Map.{Name}
 use Rattle.ck_model.specs.Numbered.{Holds}
 use Rattle.ck_model.specs.Contents.{Stripes}
@@ -19,7 +19,7 @@ abbrev pub Allows : PlainTable → Claim → Move ℕ → Type 0
 Allows table claim m = Does (layout_of table) table.min_load claim.log.now claim.id m (world_of claim.before.now) (world_of claim.after.now)
 
 -- the stripe goes home, and the caller, of the view v, holds the others of hs and is told its power
-abbrev pub GoesHome : ℕ → World ℕ → World ℕ → View ℕ → ℕ → Stripes ℕ → Option (Name × Why) → Type 0
+abbrev pub GoesHome : ℕ → World ℕ → World ℕ → View ℕ → ℕ → Stripes ℕ → Option (Name × Reason) → Type 0
 GoesHome id s s2 v t hs g = (c : Content ℕ) × Holds hs t c × (s2 ≡ sent_home s id t c (giving v t c hs g))
 
 -- the stripe goes home, and the caller has this view

@@ -4,7 +4,7 @@ ghost use Rattle.std.specs.Prelude.{◌≡◌, ◌↔◌, ℕ, ◌<◌, ◌≤�
 use crate::sections::{has_all, has_stripes_of, hash_of};
 use crate::world::PlainTable;
 use ck_key::{alternate, partial};
-use ck_model::history::{Name, Why};
+use ck_model::history::{Name, Reason};
 use ck_oracle::stripes::{PlainEntry, PlainStripe, buckets, is_lawful};
 
 // How many slots a bucket has.
@@ -117,7 +117,7 @@ fn is_too_empty(min_load: u32, power: u32, stripes: &[PlainStripe]) -> bool
 }
 
 // Whether the stripes give this reason to refuse the name.
-fn are_grounds(table: &PlainTable, stripes: &[PlainStripe], name: &Name, why: &Why) -> bool
+fn are_grounds(table: &PlainTable, stripes: &[PlainStripe], name: &Name, why: &Reason) -> bool
     requires stripes { table.now.s ≤ 10 }
     requires power { table.now.max ≤ 26 }
 {
@@ -127,10 +127,10 @@ fn are_grounds(table: &PlainTable, stripes: &[PlainStripe], name: &Name, why: &W
     }
     let may_grow = power != table.max;
     match why {
-        Why::NoRoom => false,
-        Why::Full => !may_grow,
-        Why::LoadTooLow => may_grow && is_too_empty(table.min_load, power, stripes),
-        Why::Memory => may_grow && !is_too_empty(table.min_load, power, stripes),
+        Reason::NoRoom => false,
+        Reason::Full => !may_grow,
+        Reason::LoadTooLow => may_grow && is_too_empty(table.min_load, power, stripes),
+        Reason::Memory => may_grow && !is_too_empty(table.min_load, power, stripes),
     }
 }
 
@@ -154,7 +154,7 @@ fn has_no_room(table: &PlainTable, held: &[PlainStripe], name: &Name) -> bool
 pub fn has_grounds(
     table: &PlainTable,
     stripes: &[PlainStripe],
-    noroom: &Option<(Name, Why)>,
+    noroom: &Option<(Name, Reason)>,
 ) -> bool
     requires stripes { table.now.s ≤ 10 }
     requires power { table.now.max ≤ 26 }
@@ -167,13 +167,13 @@ pub fn has_grounds(
 }
 
 /// The same, or the name has no room in its stripes.
-pub fn is_excused(table: &PlainTable, held: &[PlainStripe], noroom: &Option<(Name, Why)>) -> bool
+pub fn is_excused(table: &PlainTable, held: &[PlainStripe], noroom: &Option<(Name, Reason)>) -> bool
     requires stripes { table.now.s ≤ 10 }
     requires power { table.now.max ≤ 26 }
     ensures { noroom.now ≡ None → IsTrue result }
 {
     match noroom {
-        Some((name, Why::NoRoom)) => has_no_room(table, held, name),
+        Some((name, Reason::NoRoom)) => has_no_room(table, held, name),
         Some((name, why)) => are_grounds(table, held, name, why),
         None => true,
     }

@@ -11,7 +11,7 @@ ghost use Rattle.ck_oracle_steps.specs.Left.{topped, grown_by, behind, taken_of,
 use crate::refusal::{Part, Refusal};
 use crate::same::{Stands, are_same, are_same_entries, are_same_reasons, is_same_content};
 use crate::world::{Claim, NO_SETTINGS, PlainOther, PlainView};
-use ck_model::history::{Entry, Name, Why};
+use ck_model::history::{Entry, Name, Reason};
 use ck_model::settings::Settings;
 use ck_oracle::stripes::PlainStripe;
 
@@ -28,7 +28,7 @@ pub struct ExpectedView<'a> {
     decided: Option<&'a Entry<u64>>,
     told: u64,
     found: Option<u64>,
-    noroom: Option<&'a (Name, Why)>,
+    noroom: Option<&'a (Name, Reason)>,
     // The view that is heard, and whose numbers come first.
     joined: Option<&'a PlainView>,
     others: Option<&'a [PlainOther]>,
@@ -87,7 +87,11 @@ fn is_grown(before: &[Entry<u64>], last: Option<&Entry<u64>>, after: &[Entry<u64
 }
 
 // Whether the list is the first reason, if there is one, and then this one.
-fn is_topped(first: Option<&(Name, Why)>, before: &[(Name, Why)], after: &[(Name, Why)]) -> bool
+fn is_topped(
+    first: Option<&(Name, Reason)>,
+    before: &[(Name, Reason)],
+    after: &[(Name, Reason)],
+) -> bool
     ensures { IsTrue result ↔ (after.now ≡ topped (behind first.entry) before.now) }
 {
     match first {
@@ -113,8 +117,12 @@ fn is_found(first: Option<u64>, before: &[u64], after: &[u64]) -> bool
 
 // What follows the view's own number with its entries, where the list begins by that.
 fn behind_own<'a>(view: &PlainView, list: &'a [PlainOther]) -> Option<&'a [PlainOther]>
-    ensures some { IfSome result (λ rest. map other_of list.now ≡ own view.now.by view.now.mine.items ++ map other_of rest.now) }
-    ensures none { IfNone result ((l : List (ℕ × List (Entry ℕ))) → ¬ (map other_of list.now ≡ own view.now.by view.now.mine.items ++ l)) }
+    ensures some { IfSome result
+        (λ rest. map other_of list.now
+        ≡ own view.now.by view.now.mine.items ++ map other_of rest.now) }
+    ensures none { IfNone result
+        ((l : List (ℕ × List (Entry ℕ)))
+        → ¬ (map other_of list.now ≡ own view.now.by view.now.mine.items ++ l)) }
 {
     match view.by {
         Some(number) => match list.split_first() {
@@ -130,8 +138,10 @@ fn behind_own<'a>(view: &PlainView, list: &'a [PlainOther]) -> Option<&'a [Plain
 
 // What follows these numbers with their entries, where the list begins by them.
 fn behind_others<'a>(kept: &[PlainOther], list: &'a [PlainOther]) -> Option<&'a [PlainOther]>
-    ensures some { IfSome result (λ rest. map other_of list.now ≡ map other_of kept.now ++ map other_of rest.now) }
-    ensures none { IfNone result ((l : List (ℕ × List (Entry ℕ))) → ¬ (map other_of list.now ≡ map other_of kept.now ++ l)) }
+    ensures some { IfSome result
+        (λ rest. map other_of list.now ≡ map other_of kept.now ++ map other_of rest.now) }
+    ensures none { IfNone result
+        ((l : List (ℕ × List (Entry ℕ))) → ¬ (map other_of list.now ≡ map other_of kept.now ++ l)) }
 {
     let count = kept.len();
     if list.len() < count {
@@ -234,7 +244,10 @@ impl<'a> ExpectedView<'a> {
         content: &'a PlainStripe,
         log: &'a [Entry<u64>],
     ) -> ExpectedView<'a>
-        ensures { left_of result ≡ record (view_of view.now) { held = (number, content_of content.now) ∷ stripes_of view.now.held.items; seen = log.now } }
+        ensures { left_of result ≡ record (view_of view.now) {
+          held = (number, content_of content.now) ∷ stripes_of view.now.held.items;
+          seen = log.now;
+        } }
     {
         ExpectedView {
             taken: Some((number, content)),
@@ -246,7 +259,8 @@ impl<'a> ExpectedView<'a> {
     /// The view that found this stripe held once more.
     #[tactic(auto, unfolding(crate::specs::Plain::view_of, crate::specs::Left::left_of, crate::specs::Left::new_of))]
     pub fn finding(view: &'a PlainView, number: u64) -> ExpectedView<'a>
-        ensures { left_of result ≡ record (view_of view.now) { found = number ∷ view.now.found.items } }
+        ensures { left_of result ≡ record (view_of view.now)
+            { found = number ∷ view.now.found.items } }
     {
         ExpectedView {
             found: Some(number),
@@ -262,9 +276,13 @@ impl<'a> ExpectedView<'a> {
         number: u64,
         power: u32,
         stripes: &'a [PlainStripe],
-        noroom: &'a Option<(Name, Why)>,
+        noroom: &'a Option<(Name, Reason)>,
     ) -> ExpectedView<'a>
-        ensures { left_of result ≡ record (view_of view.now) { held = without number (stripes_of stripes.now); told = max view.now.told power; noroom = gaining view.now.noroom.items noroom.now } }
+        ensures { left_of result ≡ record (view_of view.now) {
+          held = without number (stripes_of stripes.now);
+          told = max view.now.told power;
+          noroom = gaining view.now.noroom.items noroom.now;
+        } }
     {
         ExpectedView {
             given: Some((number, stripes)),
@@ -283,7 +301,11 @@ impl<'a> ExpectedView<'a> {
         log: &'a [Entry<u64>],
         entry: &'a Entry<u64>,
     ) -> ExpectedView<'a>
-        ensures { left_of result ≡ record (view_of view.now) { held = without number (stripes_of stripes.now); seen = log.now ++ entry.now ∷ []; mine = view.now.mine.items ++ entry.now ∷ [] } }
+        ensures { left_of result ≡ record (view_of view.now) {
+          held = without number (stripes_of stripes.now);
+          seen = log.now ++ entry.now ∷ [];
+          mine = view.now.mine.items ++ entry.now ∷ [];
+        } }
     {
         ExpectedView {
             given: Some((number, stripes)),
@@ -329,7 +351,8 @@ impl<'a> ExpectedView<'a> {
 
     // Whether these are the stripes behind the one that was taken.
     fn is_kept(&self, held: &[PlainStripe]) -> bool
-        ensures { IsTrue result ↔ (stripes_of held.now ≡ kept_of self.now.given (stripes_of self.now.base.now.held.items)) }
+        ensures { IsTrue result ↔ (stripes_of held.now
+            ≡ kept_of self.now.given (stripes_of self.now.base.now.held.items)) }
     {
         match self.given {
             Some((number, stripes)) => are_without(number, stripes, held),
@@ -338,7 +361,9 @@ impl<'a> ExpectedView<'a> {
     }
 
     fn is_held(&self, held: &[PlainStripe]) -> bool
-        ensures { IsTrue result ↔ (stripes_of held.now ≡ topped (taken_of self.now.taken) (kept_of self.now.given (stripes_of self.now.base.now.held.items))) }
+        ensures { IsTrue result ↔ (stripes_of held.now
+            ≡ topped (taken_of self.now.taken)
+            (kept_of self.now.given (stripes_of self.now.base.now.held.items))) }
     {
         match self.taken {
             Some((number, content)) => match held.split_first() {
@@ -352,7 +377,9 @@ impl<'a> ExpectedView<'a> {
     }
 
     fn is_seen(&self, seen: &[Entry<u64>]) -> bool
-        ensures { IsTrue result ↔ (seen.now ≡ grown_by (list_or self.now.seen self.now.base.now.seen.items) (behind self.now.decided)) }
+        ensures { IsTrue result ↔ (seen.now
+            ≡ grown_by (list_or self.now.seen self.now.base.now.seen.items)
+            (behind self.now.decided)) }
     {
         match self.seen {
             Some(log) => is_grown(log, self.decided, seen),
@@ -361,7 +388,8 @@ impl<'a> ExpectedView<'a> {
     }
 
     fn is_heard(&self, heard: &[Entry<u64>]) -> bool
-        ensures { IsTrue result ↔ (heard.now ≡ heard_of self.now.joined self.now.base.now.heard.items) }
+        ensures { IsTrue result ↔ (heard.now
+            ≡ heard_of self.now.joined self.now.base.now.heard.items) }
     {
         match self.joined {
             Some(view) => are_same_entries(&view.seen, heard),
@@ -379,7 +407,8 @@ impl<'a> ExpectedView<'a> {
     }
 
     fn is_behind(&self, others: &[PlainOther]) -> bool
-        ensures { IsTrue result ↔ (map other_of others.now ≡ map other_of (list_or self.now.others self.now.base.now.others.items)) }
+        ensures { IsTrue result ↔ (map other_of others.now
+            ≡ map other_of (list_or self.now.others self.now.base.now.others.items)) }
     {
         match self.others {
             Some(kept) => are_same(kept, others),
@@ -389,7 +418,9 @@ impl<'a> ExpectedView<'a> {
 
     #[tactic(auto, unfolding(crate::specs::Plain::view_of))]
     fn is_others(&self, others: &[PlainOther]) -> bool
-        ensures { IsTrue result ↔ (map other_of others.now ≡ joined_of self.now.joined (map other_of (list_or self.now.others self.now.base.now.others.items))) }
+        ensures { IsTrue result ↔ (map other_of others.now
+            ≡ joined_of self.now.joined
+            (map other_of (list_or self.now.others self.now.base.now.others.items))) }
     {
         match self.joined {
             Some(view) => match behind_own(view, others) {
@@ -469,7 +500,8 @@ fn is_home(
     old: &Option<PlainStripe>,
     new: &Option<PlainStripe>,
 ) -> bool
-    ensures { IsTrue result ↔ ((place ≡ at → home_of new.now ≡ home_of (behind content.entry)) × (place ≢ at → home_of new.now ≡ home_of old.now)) }
+    ensures { IsTrue result ↔ ((place ≡ at → home_of new.now ≡ home_of (behind content.entry))
+        × (place ≢ at → home_of new.now ≡ home_of old.now)) }
 {
     if place == at {
         has_content(new, content)
@@ -485,7 +517,8 @@ fn is_home_set(
     content: Option<&PlainStripe>,
     after: &[Option<PlainStripe>],
 ) -> bool
-    ensures { IsTrue result ↔ (map home_of after.now ≡ set (map home_of before.now) at (home_of (behind content.entry))) }
+    ensures { IsTrue result ↔ (map home_of after.now
+        ≡ set (map home_of before.now) at (home_of (behind content.entry))) }
 {
     if before.len() != after.len() {
         return false;
@@ -528,7 +561,8 @@ fn check_views(
     after: &[PlainView],
 ) -> Result<(), Refusal>
     requires { id < length before.now }
-    ensures { IsOk result ↔ (map view_of after.now ≡ set (map view_of before.now) id (left_of left.now)) }
+    ensures { IsOk result ↔ (map view_of after.now
+        ≡ set (map view_of before.now) id (left_of left.now)) }
 {
     check_part(are_others_same(before, id, id, after), Part::Views)?;
     match after.get(id) {
@@ -548,7 +582,8 @@ fn check_both_views(
     requires id { id < length before.now }
     requires other { other < length before.now }
     requires different { other ≢ id }
-    ensures { IsOk result ↔ (map view_of after.now ≡ set (set (map view_of before.now) id (left_of left.now)) other spent) }
+    ensures { IsOk result ↔ (map view_of after.now
+        ≡ set (set (map view_of before.now) id (left_of left.now)) other spent) }
 {
     check_part(are_others_same(before, id, other, after), Part::Views)?;
     match after.get(id) {
@@ -563,7 +598,9 @@ fn check_both_views(
 
 // No word and no place is another.
 fn check_at_rest(claim: &Claim) -> Result<(), Refusal>
-    ensures { IsOk result ↔ ((claim.now.after.now.words.items ≡ claim.now.before.now.words.items) × (map home_of claim.now.after.now.homes.items ≡ map home_of claim.now.before.now.homes.items)) }
+    ensures { IsOk result ↔ ((claim.now.after.now.words.items ≡ claim.now.before.now.words.items)
+        × (map home_of claim.now.after.now.homes.items
+        ≡ map home_of claim.now.before.now.homes.items)) }
 {
     check_part(claim.after.words == claim.before.words, Part::Words)?;
     check_part(
@@ -579,7 +616,11 @@ fn check_stripe(
     word: u64,
     content: Option<&PlainStripe>,
 ) -> Result<(), Refusal>
-    ensures { IsOk result ↔ ((claim.now.after.now.words.items ≡ set claim.now.before.now.words.items stripe word) × (map home_of claim.now.after.now.homes.items ≡ set (map home_of claim.now.before.now.homes.items) stripe (home_of (behind content.entry)))) }
+    ensures { IsOk result ↔ ((claim.now.after.now.words.items
+        ≡ set claim.now.before.now.words.items stripe word)
+        × (map home_of claim.now.after.now.homes.items
+        ≡ set (map home_of claim.now.before.now.homes.items) stripe
+        (home_of (behind content.entry)))) }
 {
     let (before, after) = (claim.before, claim.after);
     let words = is_word_set(&before.words, stripe, word, &after.words);
@@ -591,7 +632,8 @@ fn check_stripe(
 /// The caller has this view afterwards, and nothing else is another.
 pub fn check_seen(claim: &Claim, left: &ExpectedView) -> Result<(), Refusal>
     requires { claim.now.id < length claim.now.before.now.views.items }
-    ensures { IsOk result ↔ (world_of claim.now.after.now ≡ seen_as (world_of claim.now.before.now) claim.now.id (left_of left.now)) }
+    ensures { IsOk result ↔ (world_of claim.now.after.now
+        ≡ seen_as (world_of claim.now.before.now) claim.now.id (left_of left.now)) }
 {
     check_at_rest(claim)?;
     check_views(&claim.before.views, claim.id, left, &claim.after.views)
@@ -600,7 +642,13 @@ pub fn check_seen(claim: &Claim, left: &ExpectedView) -> Result<(), Refusal>
 /// The stripe's word is 1, its place empty, and the caller has this view afterwards.
 pub fn check_taken(claim: &Claim, stripe: u64, left: &ExpectedView) -> Result<(), Refusal>
     requires { claim.now.id < length claim.now.before.now.views.items }
-    ensures { IsOk result ↔ (world_of claim.now.after.now ≡ record { words = set claim.now.before.now.words.items stripe 1; homes = set (map home_of claim.now.before.now.homes.items) stripe None; views = set (map view_of claim.now.before.now.views.items) claim.now.id (left_of left.now) }) }
+    ensures { IsOk result ↔ (world_of claim.now.after.now
+        ≡ record {
+          words = set claim.now.before.now.words.items stripe 1;
+          homes = set (map home_of claim.now.before.now.homes.items) stripe None;
+          views = set (map view_of claim.now.before.now.views.items) claim.now.id
+              (left_of left.now);
+        }) }
 {
     check_stripe(claim, stripe, 1, None)?;
     check_views(&claim.before.views, claim.id, left, &claim.after.views)
@@ -614,7 +662,9 @@ pub fn check_sent_home(
     left: &ExpectedView,
 ) -> Result<(), Refusal>
     requires { claim.now.id < length claim.now.before.now.views.items }
-    ensures { IsOk result ↔ (world_of claim.now.after.now ≡ sent_home (world_of claim.now.before.now) claim.now.id stripe (content_of content.now) (left_of left.now)) }
+    ensures { IsOk result ↔ (world_of claim.now.after.now
+        ≡ sent_home (world_of claim.now.before.now) claim.now.id stripe (content_of content.now)
+        (left_of left.now)) }
 {
     check_stripe(claim, stripe, 0, Some(content))?;
     check_views(&claim.before.views, claim.id, left, &claim.after.views)
@@ -623,7 +673,9 @@ pub fn check_sent_home(
 /// The caller has this view afterwards, and there is a further view.
 pub fn check_split(claim: &Claim, left: &ExpectedView, right: &FreshView) -> Result<(), Refusal>
     requires { claim.now.id < length claim.now.before.now.views.items }
-    ensures { IsOk result ↔ (world_of claim.now.after.now ≡ split_as (world_of claim.now.before.now) claim.now.id (left_of left.now) (new_of right.now)) }
+    ensures { IsOk result ↔ (world_of claim.now.after.now
+        ≡ split_as (world_of claim.now.before.now) claim.now.id (left_of left.now)
+        (new_of right.now)) }
 {
     check_at_rest(claim)?;
     match claim.after.views.split_last() {
@@ -640,7 +692,8 @@ pub fn check_joined(claim: &Claim, left: &ExpectedView, other: usize) -> Result<
     requires id { claim.now.id < length claim.now.before.now.views.items }
     requires other { other < length claim.now.before.now.views.items }
     requires different { other ≢ claim.now.id }
-    ensures { IsOk result ↔ (world_of claim.now.after.now ≡ joined (world_of claim.now.before.now) claim.now.id (left_of left.now) other) }
+    ensures { IsOk result ↔ (world_of claim.now.after.now
+        ≡ joined (world_of claim.now.before.now) claim.now.id (left_of left.now) other) }
 {
     check_at_rest(claim)?;
     check_both_views(

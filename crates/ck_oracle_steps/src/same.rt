@@ -1,7 +1,7 @@
 //! Whether plain data stand for the same.
 ghost use Rattle.std.specs.Prelude.{◌≡◌, ◌↔◌, ℕ, List, Option, map, IsTrue};
 ghost use Rattle.ck_model.specs.declared.history.Entry.{Entry};
-ghost use Rattle.ck_model.specs.declared.history.Why.{Why};
+ghost use Rattle.ck_model.specs.declared.history.Reason.{Reason};
 ghost use Rattle.ck_model.specs.Map.{Name};
 ghost use Rattle.ck_model.specs.Slots.{Slot};
 ghost use Rattle.ck_model.specs.declared.contents.Content.{Content};
@@ -9,7 +9,7 @@ ghost use Rattle.ck_oracle.specs.Plain.{slot_of, row_of, content_of};
 ghost use Rattle.ck_oracle_steps.specs.Plain.{other_of, home_of};
 
 use crate::world::PlainOther;
-use ck_model::history::{Call, Entry, Name, Why};
+use ck_model::history::{Call, Entry, Name, Reason};
 use ck_oracle::stripes::{PlainEntry, PlainStripe};
 use std::collections::LinkedList;
 
@@ -79,12 +79,12 @@ impl Stands for Entry<u64> {
     }
 }
 
-impl Stands for (Name, Why) {
-    ghost Value = { Name × Why };
+impl Stands for (Name, Reason) {
+    ghost Value = { Name × Reason };
 
     ghost value = { λ e. e };
 
-    fn is_same(&self, other: &(Name, Why)) -> bool {
+    fn is_same(&self, other: &(Name, Reason)) -> bool {
         self.0 == other.0 && self.1 == other.1
     }
 }
@@ -97,7 +97,7 @@ pub fn are_same_entries(entries: &[Entry<u64>], others: &[Entry<u64>]) -> bool
 }
 
 /// Whether both lists are the same.
-pub fn are_same_reasons(reasons: &[(Name, Why)], others: &[(Name, Why)]) -> bool
+pub fn are_same_reasons(reasons: &[(Name, Reason)], others: &[(Name, Reason)]) -> bool
     ensures { IsTrue result ↔ (reasons.now ≡ others.now) }
 {
     are_same(reasons, others)

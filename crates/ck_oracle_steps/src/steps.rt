@@ -22,13 +22,15 @@ use crate::left::{
 use crate::refusal::Refusal;
 use crate::sections::{check_call, check_renewed, has_number};
 use crate::world::{Claim, PlainMove, PlainOther, PlainTable, PlainView, PlainWorld};
-use ck_model::history::{Entry, Name, Why};
+use ck_model::history::{Entry, Name, Reason};
 use ck_oracle::stripes::PlainStripe;
 use std::alloc::{AllocError, Global};
 
 fn view_at(world: &PlainWorld, id: usize) -> Result<&PlainView, Refusal>
-    ensures ok { IfOk result (λ v. (id < length world.now.views.items) × (get_elem? (map view_of world.now.views.items) id ≡ some (view_of v.now))) }
-    ensures err { IfErr result (λ e. (v : View ℕ) → ¬ (get_elem? (map view_of world.now.views.items) id ≡ some v)) }
+    ensures ok { IfOk result (λ v. (id < length world.now.views.items)
+        × (get_elem? (map view_of world.now.views.items) id ≡ some (view_of v.now))) }
+    ensures err { IfErr result
+        (λ e. (v : View ℕ) → ¬ (get_elem? (map view_of world.now.views.items) id ≡ some v)) }
 {
     match world.views.get(id) {
         Some(view) => Ok(view),
@@ -37,8 +39,11 @@ fn view_at(world: &PlainWorld, id: usize) -> Result<&PlainView, Refusal>
 }
 
 fn home_at(world: &PlainWorld, stripe: u64) -> Result<&PlainStripe, Refusal>
-    ensures ok { IfOk result (λ c. get_elem? (map home_of world.now.homes.items) stripe ≡ some (Some (content_of c.now))) }
-    ensures err { IfErr result (λ e. (c : Content ℕ) → ¬ (get_elem? (map home_of world.now.homes.items) stripe ≡ some (Some c))) }
+    ensures ok { IfOk result (λ c. get_elem? (map home_of world.now.homes.items) stripe
+        ≡ some (Some (content_of c.now))) }
+    ensures err { IfErr result
+        (λ e. (c : Content ℕ) → ¬ (get_elem? (map home_of world.now.homes.items) stripe
+        ≡ some (Some c))) }
 {
     match world.homes.get(stripe as usize) {
         Some(home) => match home {
@@ -113,10 +118,12 @@ fn check_given(
     view: &PlainView,
     stripe: u64,
     stripes: &[PlainStripe],
-    noroom: &Option<(Name, Why)>,
+    noroom: &Option<(Name, Reason)>,
 ) -> Result<(), Refusal>
     requires { claim.now.id < length claim.now.before.now.views.items }
-    ensures { IsOk result ↔ GoesHome claim.now.id (world_of claim.now.before.now) (world_of claim.now.after.now) (view_of view.now) stripe (stripes_of stripes.now) noroom.now }
+    ensures { IsOk result ↔ GoesHome claim.now.id (world_of claim.now.before.now)
+        (world_of claim.now.after.now) (view_of view.now) stripe (stripes_of stripes.now)
+        noroom.now }
 {
     let mut refusal = Refusal::NotHeld;
     for content in stripes {
@@ -139,7 +146,8 @@ fn check_decided(
     left: &ExpectedView,
 ) -> Result<(), Refusal>
     requires { claim.now.id < length claim.now.before.now.views.items }
-    ensures { IsOk result ↔ GoesHomeLeaving claim.now.id (world_of claim.now.before.now) (world_of claim.now.after.now) (left_of left.now) stripe (stripes_of stripes.now) }
+    ensures { IsOk result ↔ GoesHomeLeaving claim.now.id (world_of claim.now.before.now)
+        (world_of claim.now.after.now) (left_of left.now) stripe (stripes_of stripes.now) }
 {
     let mut refusal = Refusal::NotHeld;
     for content in stripes {
@@ -159,11 +167,12 @@ pub fn check_give(
     table: &PlainTable,
     claim: &Claim,
     stripe: u64,
-    noroom: &Option<(Name, Why)>,
+    noroom: &Option<(Name, Reason)>,
 ) -> Result<(), Refusal>
     requires stripes { table.now.s ≤ 10 }
     requires power { table.now.max ≤ 26 }
-    ensures nothing { noroom.now ≡ None → (IsOk result ↔ Allows table.now claim.now (Give stripe None)) }
+    ensures nothing { noroom.now ≡ None
+        → (IsOk result ↔ Allows table.now claim.now (Give stripe None)) }
 {
     let view = view_at(claim.before, claim.id)?;
     let excused = is_excused(table, &view.held, noroom);
@@ -216,7 +225,7 @@ pub fn check_renew(
     claim: &Claim,
     stripe: u64,
     stripes: &[PlainStripe],
-    noroom: &Option<(Name, Why)>,
+    noroom: &Option<(Name, Reason)>,
 ) -> Result<Result<(), Refusal>, AllocError>
     requires stripes { table.now.s ≤ 10 }
     requires power { table.now.max ≤ 26 }
@@ -261,7 +270,8 @@ fn have_power_in_views(views: &[PlainView], power: u64) -> bool
 
 // Whether no stripe, at home or held, has a power below this one.
 fn is_power_of_all(world: &PlainWorld, power: u64) -> bool
-    ensures { IsTrue result ↔ ((u : ℕ) (c : Content ℕ) → IsPart (world_of world.now) u c → power ≤ c.power) }
+    ensures { IsTrue result ↔ ((u : ℕ) (c : Content ℕ) → IsPart (world_of world.now) u c
+        → power ≤ c.power) }
 {
     have_power_at_home(&world.homes, power) && have_power_in_views(&world.views, power)
 }
@@ -351,7 +361,8 @@ pub fn check_step(
 ) -> Result<Result<(), Refusal>, AllocError>
     requires stripes { table.now.s ≤ 10 }
     requires power { table.now.max ≤ 26 }
-    ensures { IfOk result (λ r. IsPlain made.now → (IsOk r ↔ Allows table.now claim.now (move_of made.now))) }
+    ensures { IfOk result (λ r. IsPlain made.now
+        → (IsOk r ↔ Allows table.now claim.now (move_of made.now))) }
 {
     match made {
         PlainMove::Take(stripe) => Ok(check_take(table, claim, *stripe)),

@@ -3,7 +3,7 @@ ghost use Rattle.std.specs.Prelude.{◌≡◌};
 ghost use Rattle.ck_core.specs.Steps.{newcomer, spent};
 ghost use Rattle.ck_oracle_steps.specs.Plain.{view_of};
 
-use ck_model::history::{Entry, Name, Why};
+use ck_model::history::{Entry, Name, Reason};
 use ck_model::settings::Settings;
 use ck_oracle::stripes::PlainStripe;
 use std::alloc::Global;
@@ -35,7 +35,7 @@ pub struct PlainView {
     pub mine: Vec<Entry<u64>>,
     pub told: u64,
     pub found: Vec<u64>,
-    pub noroom: Vec<(Name, Why)>,
+    pub noroom: Vec<(Name, Reason)>,
     pub heard: Vec<Entry<u64>>,
     pub heard_told: u64,
     pub others: Vec<PlainOther>,
@@ -98,10 +98,10 @@ pub struct PlainWorld {
 pub enum PlainMove {
     Take(u64),
     FindHeld(u64),
-    Give(u64, Option<(Name, Why)>),
+    Give(u64, Option<(Name, Reason)>),
     Decide(u64, Vec<PlainStripe>, Entry<u64>),
     GiveRest(u64),
-    Renew(u64, Vec<PlainStripe>, Option<(Name, Why)>),
+    Renew(u64, Vec<PlainStripe>, Option<(Name, Reason)>),
     Look(u64, u64),
     Open,
     Tell,

@@ -77,7 +77,8 @@ impl Search {
         ensures below { IfSome result (λ b. b < 2 ^ self.now.power) }
 
         // Where a search that was fed the sketches of a table is over with no path, there is none.
-        ensures none { (p b1 b2 : ℕ) (sketches : ℕ → Sketch) → IsSearchOver p sketches b1 b2 self.now
+        ensures none { (p b1 b2 : ℕ) (sketches : ℕ → Sketch)
+            → IsSearchOver p sketches b1 b2 self.now
             → IfNone result (HasNoSketchPath p sketches b1 b2) }
     {
         if self.taken < self.nodes.len() {
@@ -104,7 +105,8 @@ impl Search {
             → MatchOption result (IsSearchFed seen p b1 b2 self.new) (IsSeen seen p b1 b2) }
 
         // Where all sketches are those of one table, the path is a shortest one in it.
-        ensures path { (p b1 b2 : ℕ) (sketches : ℕ → Sketch) → IsSearchOver p sketches b1 b2 self.old
+        ensures path { (p b1 b2 : ℕ) (sketches : ℕ → Sketch)
+            → IsSearchOver p sketches b1 b2 self.old
             → option_map sketches (wanted self.old) ≡ Some sketch
             → MatchOption result (IsSearchOver p sketches b1 b2 self.new) (IsShortestPath p sketches b1 b2) }
     {

@@ -27,5 +27,16 @@ fn main(rt: HostRuntime) -> Result<()> {
             println!(rt; "{value}")?;
         }
     }
+    for caller in callers {
+        // A caller that has locked the table has it alone until it unlocks it.
+        match caller.lock() {
+            Ok(locked) => {
+                let count = locked.len();
+                locked.unlock();
+                println!(rt; "{count}")?;
+            }
+            Err((_, busy)) => return Err(busy.into()),
+        }
+    }
     Ok(())
 }

@@ -40,5 +40,5 @@ to_end xs i = take_all _ _ (omega (arith, length-drop i xs))
 pub some_part : (p : ℕ → Bool) (xs : List ℕ) → 0 < length (slice_split p xs)
 some_part p xs = omega (arith, length-slice_split p xs)
 
-pub four : (a b c d : List (List ℕ)) (x y z : List ℕ) → a ≡ x ∷ b → b ≡ y ∷ c → c ≡ z ∷ d → 0 < length d → 3 < length a
-four a b c d x y z first second third some = omega (arith, ap length first, ap length second, ap length third)
+pub five : (a b c d e : List (List ℕ)) (w x y z : List ℕ) → a ≡ w ∷ b → b ≡ x ∷ c → c ≡ y ∷ d → d ≡ z ∷ e → 0 < length e → 4 < length a
+five a b c d e w x y z first second third fourth some = omega (arith, ap length first, ap length second, ap length third, ap length fourth)

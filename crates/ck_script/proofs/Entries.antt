@@ -1,26 +1,64 @@
--- The entries of a caller's commands.
-use Rattle.std.proofs.Common.{ℕ, List, [], ◌∷◌, ◌++◌, sym, refl, ap, subst, inl, inr}
+-- The entries that a caller's commands left.
+use Rattle.std.proofs.Common.{◌≡◌, ℕ, List, [], ◌∷◌, ◌++◌, map, sym, refl, ap, subst, inl, inr, ◌∙◌}
+use Rattle.std.specs.Global.{Vec}
+use Rattle.std.proofs.lemmas.List.{map-append}
 use Rattle.ck_model.specs.declared.history.Entry.{Entry}
-use Rattle.ck_script.specs.Script.{NumCommand}
+use Rattle.ck_model.specs.Map.{Name}
+use Rattle.ck_table.specs.Callers.{CallerState, IsSameCaller}
+use Rattle.ck_script.specs.declared.script.Command.{Command}
 use Rattle.ck_script.specs.declared.answer.Answer.{Answer}
-use Rattle.ck_script.specs.Output.{IsRefusal, IsEntryOf, AreEntriesOf}
+use Rattle.ck_script.specs.Script.{on_names}
+use Rattle.ck_script.specs.Text.{Pairs}
+use Rattle.ck_script.specs.Output.{IsRefusal}
+use Rattle.ck_script.specs.Answered.{answer_on_names, answers_on_names, Grows, HaveLeft, IsAnsweredBy}
 
--- one command more, and what it adds
-pub entries_more : (by : ℕ) (cs : List NumCommand) (answers : List Answer) (es now : List (Entry ℕ)) (c : NumCommand) (a : Answer)
-    → AreEntriesOf by cs answers es → AreEntriesOf by (c ∷ []) (a ∷ []) now → AreEntriesOf by (cs ++ c ∷ []) (answers ++ a ∷ []) (es ++ now)
-entries_more by [] [] es now c a h last = subst (λ (l : List (Entry ℕ)). AreEntriesOf by (c ∷ []) (a ∷ []) (l ++ now)) (sym h) last
-entries_more by [] (x ∷ xs) es now c a h last = absurd h
-entries_more by (d ∷ cs) [] es now c a h last = absurd h
-entries_more by (d ∷ cs) (x ∷ xs) es now c a h last =
-    elim h [
-      | inl h ↦ inl (h.0, entries_more by cs xs es now c a h.1 last)
-      | inr h ↦ inr (h.0, h.1 ++ now, ap (λ (l : List (Entry ℕ)). l ++ now) h.2, h.3, h.4, entries_more by cs xs h.1 now c a h.5 last)
+-- a refused call
+pub uncalled : (c : Command Name) (a : Answer Pairs) (p q : CallerState ℕ) → IsSameCaller p q → IsRefusal c a → q.pass.view.mine ≡ p.pass.view.mine → IsAnsweredBy c a p q
+uncalled c a p q same refusal h = record { same = same; entries = λ by is. inl (refusal, h) }
+
+-- what the last command left
+left_last : (by : ℕ) (c : Command Name) (a : Answer Pairs) (new : List (Entry ℕ)) → Grows by c a [] new → HaveLeft by (c ∷ []) (a ∷ []) new
+left_last by c a new grows =
+    elim grows [
+      | inl h ↦ inl h
+      | inr h ↦ inr (h.0, [], h.3, h.1, h.2, refl)
     ]
 
--- a refused command adds nothing
-pub refused : (by : ℕ) (c : NumCommand) (a : Answer) → IsRefusal c a → AreEntriesOf by (c ∷ []) (a ∷ []) []
-refused by c a h = inl (h, refl)
+-- one command more
+pub left_more : (by : ℕ) (cs : List (Command Name)) (answers : List (Answer Pairs)) (old new : List (Entry ℕ)) (c : Command Name) (a : Answer Pairs)
+    → HaveLeft by cs answers old → Grows by c a old new → HaveLeft by (cs ++ c ∷ []) (answers ++ a ∷ []) new
+left_more by [] [] old new c a h grows = left_last by c a new (subst (λ (es : List (Entry ℕ)). Grows by c a es new) h grows)
+left_more by [] (x ∷ xs) old new c a h grows = absurd h
+left_more by (d ∷ cs) [] old new c a h grows = absurd h
+left_more by (d ∷ cs) (x ∷ xs) old new c a h grows =
+    elim h [
+      | inl h ↦ inl (h.0, left_more by cs xs old new c a h.1 grows)
+      | inr h ↦
+          elim grows [
+            | inl g ↦ inr (h.0, h.1, g.1 ∙ h.2, h.3, h.4, left_more by cs xs h.1 h.1 c a h.5 (inl (g.0, refl)))
+            | inr g ↦ inr (h.0, h.1 ++ g.0 ∷ [], g.3 ∙ ap (λ (es : List (Entry ℕ)). es ++ g.0 ∷ []) h.2, h.3, h.4, left_more by cs xs h.1 (h.1 ++ g.0 ∷ []) c a h.5 (inr (g.0, g.1, g.2, refl)))
+          ]
+    ]
 
--- each other adds its entry
-pub answered : (c : NumCommand) (a : Answer) (e : Entry ℕ) → IsEntryOf c a e.call e.reply → AreEntriesOf e.by (c ∷ []) (a ∷ []) (e ∷ [])
-answered c a e h = inr (e, [], refl, refl, h, refl)
+-- a command that is another's name
+pub answered_as : (c d : Command Name) (a b : Answer Pairs) (p q r : CallerState ℕ) → IsAnsweredBy c a p q → d ≡ c → b ≡ a → r ≡ q → IsAnsweredBy d b p r
+answered_as c d a b p q r h same_command same_answer same_caller =
+    subst (λ (s : CallerState ℕ). IsAnsweredBy d b p s) (sym same_caller)
+    (subst (λ (x : Answer Pairs). IsAnsweredBy d x p q) (sym same_answer)
+    (subst (λ (x : Command Name). IsAnsweredBy x a p q) (sym same_command) h))
+
+-- a worker's command more
+pub left_by_one : {K : Type 0} (name : K → Name) (by : ℕ) (commands : List (Command K)) (command : Command K) (answers items : List (Answer (Vec (K × ℕ)))) (answer : Answer (Vec (K × ℕ))) (old new : List (Entry ℕ))
+    → HaveLeft by (map (on_names name) commands) (answers_on_names name answers) old → Grows by (on_names name command) (answer_on_names name answer) old new → items ≡ answers ++ answer ∷ []
+    → HaveLeft by (map (on_names name) (commands ++ command ∷ [])) (answers_on_names name items) new
+left_by_one name by commands command answers items answer old new have grows pushed =
+    subst (λ (cs : List (Command Name)). HaveLeft by cs (answers_on_names name items) new) (sym (map-append (on_names name) commands (command ∷ [])))
+    (subst (λ (told : List (Answer Pairs)). HaveLeft by (map (on_names name) commands ++ on_names name command ∷ []) told new) (sym (ap (answers_on_names name) pushed ∙ map-append (answer_on_names name) answers (answer ∷ [])))
+    (left_more by (map (on_names name) commands) (answers_on_names name answers) old new (on_names name command) (answer_on_names name answer) have grows))
+
+-- all of a worker's commands
+pub left_by_all : {K : Type 0} (name : K → Name) (by : ℕ) (so_far commands : List (Command K)) (answers : List (Answer (Vec (K × ℕ)))) (mine es : List (Entry ℕ))
+    → HaveLeft by (map (on_names name) so_far) (answers_on_names name answers) mine → so_far ≡ commands → es ≡ mine → HaveLeft by (map (on_names name) commands) (answers_on_names name answers) es
+left_by_all {K} name by so_far commands answers mine es have all same =
+    subst (λ (l : List (Entry ℕ)). HaveLeft by (map (on_names name) commands) (answers_on_names name answers) l) (sym same)
+    (subst (λ (cs : List (Command K)). HaveLeft by (map (on_names name) cs) (answers_on_names name answers) mine) all have)

@@ -1,15 +1,16 @@
 -- What std's parse gives at a word that begins as a number does.
-use Rattle.std.proofs.Common.{◌≡◌, ℕ, ◌^◌, ◌<◌, true, ltb, eqb, List, [], ◌∷◌, length, get_or, Some, None, Result, Ok, Err, refl, sym, ap, ◌∙◌, inl, inr, arith}
+use Rattle.std.proofs.Common.{◌≡◌, ℕ, ◌^◌, ◌<◌, true, ltb, eqb, List, [], ◌∷◌, length, get_or, Some, None, Result, Ok, Err, refl, sym, ap, subst, ◌∙◌, inl, inr, arith}
 use Rattle.std.specs.Prelude.{◌&&◌, not}
 use Rattle.std.specs.Str.{all_ascii_digits, IsUtf8, IsAscii}
+use Rattle.std.specs.Fmt.{decimal}
 use Rattle.std.specs.Char.{is_ascii_digit}
 use Rattle.std.specs.Result.{OkIff, result_ok}
 use Rattle.std.specs.Str.Parse.{ParsesUnsigned, digits_value}
 use Rattle.std.proofs.lemmas.Bool.{cases_Bool, ltb-true, lt-ltb, false≢true}
 use Rattle.std.proofs.lemmas.Str.Parse.{IsNumeralModel, numerals_by_value, tells_all_ascii_digits, parse_plain}
 use Rattle.std.proofs.lemmas.Str.{IsUtf8-from_ascii}
-use Rattle.std.proofs.lemmas.Fmt.{IsAscii-from_digits}
-use Rattle.ck_script.specs.Tokens.{begins_as_number, number_at}
+use Rattle.std.proofs.lemmas.Fmt.{IsAscii-from_digits, decimal-digits_value}
+use Rattle.ck_script.specs.Tokens.{begins_as_number, number_at, IsNumber}
 
 own : IsNumeralModel (λ ds. all_ascii_digits ds ≡ true) (digits_value 10)
 own = numerals_by_value _ tells_all_ascii_digits
@@ -44,3 +45,14 @@ no_text word h =
       | inl all ↦ absurd (h (IsUtf8-from_ascii word (ascii_digits word all)))
       | inr other ↦ elim (cases_Bool (begins_as_number word)) [ inl begun ↦ rw (begun, other) refl | inr not_begun ↦ rw not_begun refl ]
     ]
+
+alone_zero : (word : List ℕ) → begins_as_number word ≡ true → get_or word 0 0 ≡ 48 → length word ≡ 1
+alone_zero [] h e = absurd (false≢true h)
+alone_zero (c ∷ []) h e = omega arith
+alone_zero (c ∷ d ∷ ds) h e = absurd (false≢true (sym (ap (λ (x : ℕ). is_ascii_digit x && not (eqb x 48)) e) ∙ h))
+
+-- a number is written in one way
+pub written : (word : List ℕ) (n : ℕ) → IsNumber word n → decimal n ≡ word
+written word n h =
+    let small : digits_value 10 word < 2 ^ 64 = subst (λ (m : ℕ). m < 2 ^ 64) h.value h.fits in
+    ap decimal h.value ∙ decimal-digits_value own word h.digits (no_plus word h.begins).1 (alone_zero word h.begins) small

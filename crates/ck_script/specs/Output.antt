@@ -3,33 +3,32 @@ use Rattle.std.specs.Prelude.{◌≡◌, ◌⊎◌, ℕ, ◌+◌, ◌-◌, ◌^�
 use Rattle.std.specs.FinMap.{entries}
 use Rattle.ck_model.specs.declared.history.Act.TheVariants as act
 use Rattle.ck_model.specs.declared.history.Call.{Call}
-use Rattle.ck_model.specs.declared.history.Call.TheVariants.{On}
+use Rattle.ck_model.specs.declared.history.Call.TheVariants as call
 use Rattle.ck_model.specs.declared.history.Reply.{Reply}
 use Rattle.ck_model.specs.declared.history.Reply.TheVariants as reply
 use Rattle.ck_model.specs.declared.history.Entry.{Entry}
 use Rattle.ck_model.specs.Map.{Name, Map}
 use Rattle.ck_model.specs.History.{After, IsShuffle}
-use Rattle.ck_key.specs.declared.num_key.NumKey.{NumKey}
-use Rattle.ck_script.specs.Script.{NumCommand}
+use Rattle.ck_script.specs.declared.script.Keys.{Keys}
+use Rattle.ck_script.specs.declared.script.Command.{Command}
 use Rattle.ck_script.specs.declared.script.Command.TheVariants as command
-use Rattle.ck_script.specs.declared.script.Script.{Script}
 use Rattle.ck_script.specs.declared.answer.Answer.{Answer}
 use Rattle.ck_script.specs.declared.answer.Answer.TheVariants as answer
-use Rattle.ck_script.specs.Text.{output_text}
+use Rattle.ck_script.specs.Script.{Said}
+use Rattle.ck_script.specs.Text.{Pairs, output_text}
 
--- a key's name is the list of its number alone
-abbrev pub name_of : NumKey → Name
-name_of k = k.0 ∷ []
-
--- the call that a command makes
-abbrev pub call_of : NumCommand → Call ℕ
-call_of (command.Find k) = On (name_of k) act.Find
-call_of (command.Has k) = On (name_of k) act.Find
-call_of (command.Insert k n) = On (name_of k) (act.Insert n)
-call_of (command.Assign k n) = On (name_of k) (act.Assign n)
-call_of (command.Update k n) = On (name_of k) (act.Update n)
-call_of (command.Add k n) = On (name_of k) (act.Upsert n)
-call_of (command.Erase k) = On (name_of k) act.Erase
+-- The call that a command makes: a list is a session that changes nothing.
+abbrev pub IsCallOf : Command Name → Call ℕ → Type 0
+IsCallOf (command.Find k) c = c ≡ call.On k act.Find
+IsCallOf (command.Has k) c = c ≡ call.On k act.Find
+IsCallOf (command.Insert k n) c = c ≡ call.On k (act.Insert n)
+IsCallOf (command.Assign k n) c = c ≡ call.On k (act.Assign n)
+IsCallOf (command.Update k n) c = c ≡ call.On k (act.Update n)
+IsCallOf (command.Add k n) c = c ≡ call.On k (act.Upsert n)
+IsCallOf (command.Erase k) c = c ≡ call.On k act.Erase
+IsCallOf command.Len c = c ≡ call.Len
+IsCallOf command.List c = (pairs : Pairs) × (c ≡ call.Session pairs pairs)
+IsCallOf (command.Move j k n) c = c ≡ call.ChangeTwo j k
 
 -- some value was bound
 abbrev pub WasBound : Reply ℕ → Type 0
@@ -39,45 +38,62 @@ WasBound r = (v : ℕ) × (r ≡ reply.Was (Some v))
 abbrev pub WasRaised : ℕ → Reply ℕ → Type 0
 WasRaised n r = (v : ℕ) × (r ≡ reply.Done v (min (v + n) (2 ^ 64 - 1)))
 
--- the command's answer tells this reply of the plain map
-abbrev pub Tells : NumCommand → Answer → Reply ℕ → Type 0
-Tells (command.Find k) (answer.Value v) r = r ≡ reply.Was (Some v)
-Tells (command.Find k) answer.Absent r = r ≡ reply.Was None
-Tells (command.Has k) answer.Yes r = WasBound r
-Tells (command.Has k) answer.No r = r ≡ reply.Was None
-Tells (command.Insert k n) answer.New r = r ≡ reply.New
-Tells (command.Insert k n) answer.Old r = r ≡ reply.Old
-Tells (command.Assign k n) answer.New r = r ≡ reply.Was None
-Tells (command.Assign k n) answer.Set r = WasBound r
-Tells (command.Update k n) answer.Set r = WasBound r
-Tells (command.Update k n) answer.Absent r = r ≡ reply.Was None
-Tells (command.Add k n) answer.New r = r ≡ reply.New
-Tells (command.Add k n) answer.Set r = WasRaised n r
-Tells (command.Erase k) answer.Gone r = WasBound r
-Tells (command.Erase k) answer.Absent r = r ≡ reply.Was None
-Tells c a r = ⊥
+-- as much of n as v has, and as w can take
+abbrev pub share : ℕ → ℕ → ℕ → ℕ
+share n v w = min n (min v (2 ^ 64 - 1 - w))
+
+-- so much went from the one value that was bound to the other
+abbrev pub WasMoved : ℕ → Reply ℕ → Type 0
+WasMoved n r = (v w : ℕ) × (r ≡ reply.DoneTwo v w (v - share n v w) (w + share n v w))
+
+-- the command's answer tells this reply of the plain map to its call
+abbrev pub Tells : Command Name → Answer Pairs → Call ℕ → Reply ℕ → Type 0
+Tells (command.Find k) (answer.Value v) c r = r ≡ reply.Was (Some v)
+Tells (command.Find k) answer.Absent c r = r ≡ reply.Was None
+Tells (command.Has k) answer.Yes c r = WasBound r
+Tells (command.Has k) answer.No c r = r ≡ reply.Was None
+Tells (command.Insert k n) answer.New c r = r ≡ reply.New
+Tells (command.Insert k n) answer.Old c r = r ≡ reply.Old
+Tells (command.Assign k n) answer.New c r = r ≡ reply.Was None
+Tells (command.Assign k n) answer.Set c r = WasBound r
+Tells (command.Update k n) answer.Set c r = WasBound r
+Tells (command.Update k n) answer.Absent c r = r ≡ reply.Was None
+Tells (command.Add k n) answer.New c r = r ≡ reply.New
+Tells (command.Add k n) answer.Set c r = WasRaised n r
+Tells (command.Erase k) answer.Gone c r = WasBound r
+Tells (command.Erase k) answer.Absent c r = r ≡ reply.Was None
+Tells command.Len (answer.Count n) c r = r ≡ reply.Count n
+Tells command.List (answer.Listed pairs) c r = (c ≡ call.Session pairs pairs) × (r ≡ reply.Closed)
+Tells (command.Move j k n) answer.Set c r = WasMoved n r
+Tells (command.Move j k n) answer.Absent c r = r ≡ reply.Absent
+Tells command a c r = ⊥
 
 -- the command with this answer stands for this call with this reply
-abbrev pub IsEntryOf : NumCommand → Answer → Call ℕ → Reply ℕ → Type 0
-IsEntryOf c a call r = (call ≡ call_of c) × Tells c a r
+abbrev pub IsEntryOf : Command Name → Answer Pairs → Call ℕ → Reply ℕ → Type 0
+IsEntryOf command a c r = IsCallOf command c × Tells command a c r
 
 -- the command may need room for its key
-abbrev pub NeedsRoom : NumCommand → Type 0
+abbrev pub NeedsRoom : Command Name → Type 0
 NeedsRoom (command.Insert k n) = Unit {0}
 NeedsRoom (command.Assign k n) = Unit {0}
 NeedsRoom (command.Add k n) = Unit {0}
 NeedsRoom c = ⊥
 
+-- the command may find no memory: for room, or for its list
+abbrev pub TakesMemory : Command Name → Type 0
+TakesMemory command.List = Unit {0}
+TakesMemory c = NeedsRoom c
+
 -- the answer refuses the command: any may find a stripe busy
-abbrev pub IsRefusal : NumCommand → Answer → Type 0
+abbrev pub IsRefusal : Command Name → Answer Pairs → Type 0
 IsRefusal c answer.Busy = Unit {0}
-IsRefusal c answer.Memory = NeedsRoom c
+IsRefusal c answer.Memory = TakesMemory c
 IsRefusal c answer.Full = NeedsRoom c
 IsRefusal c answer.Load = NeedsRoom c
 IsRefusal c a = ⊥
 
 -- the entries of a caller's commands with their answers, in order: none of a refused command, and one of each other
-abbrev pub AreEntriesOf : ℕ → List NumCommand → List Answer → List (Entry ℕ) → Type 0
+abbrev pub AreEntriesOf : ℕ → List (Command Name) → List (Answer Pairs) → List (Entry ℕ) → Type 0
 AreEntriesOf by [] [] es = es ≡ []
 AreEntriesOf by (c ∷ cs) (a ∷ answers) es =
     (IsRefusal c a × AreEntriesOf by cs answers es)
@@ -85,22 +101,18 @@ AreEntriesOf by (c ∷ cs) (a ∷ answers) es =
 AreEntriesOf by cs answers es = ⊥
 
 -- the same of each worker, of which the first has the number by
-abbrev pub ArePartsOf : ℕ → List (List NumCommand) → List (List Answer) → List (ℕ × List (Entry ℕ)) → Type 0
+abbrev pub ArePartsOf : ℕ → List (List (Command Name)) → List (List (Answer Pairs)) → List (ℕ × List (Entry ℕ)) → Type 0
 ArePartsOf by [] [] parts = parts ≡ []
 ArePartsOf by (cs ∷ workers) (answers ∷ more) (part ∷ parts) = (part.0 ≡ by) × AreEntriesOf by cs answers part.1 × ArePartsOf (by + 1) workers more parts
 ArePartsOf by workers answers parts = ⊥
 
 -- The entries of the workers' commands have a legal shuffle, and the text is that of the answers and of the map after it.
-pub record IsOutputOf (workers : List (List NumCommand)) (out : List ℕ) : Type 0 where
-  pub answers : List (List Answer)
+pub record IsOutputOf (said : Said) (out : List ℕ) : Type 0 where
+  pub answers : List (List (Answer Pairs))
   pub parts : List (ℕ × List (Entry ℕ))
   pub log : List (Entry ℕ)
   pub map : Map ℕ
-  pub entries_of : ArePartsOf 0 workers answers parts
+  pub entries_of : ArePartsOf 0 said.workers answers parts
   pub shuffle : IsShuffle log parts
   pub legal : After log map
-  pub text : out ≡ output_text answers (entries map)
-
--- the commands of each worker
-abbrev pub workers_of : Script → List (List NumCommand)
-workers_of script = script.commands.items ∷ []
+  pub text : out ≡ output_text said.keys answers (entries map)

@@ -1,80 +1,136 @@
--- Parsing line by line, as the reader does it. Only private contracts and proofs need this file.
-use Rattle.std.specs.Prelude.{◌≡◌, ℕ, ◌+◌, List, [], ◌∷◌, ◌++◌, length, Option, Some, None, Result, Ok, Err, Bool, false, ◌==◌, nat_lt, if◌then◌else◌, codes}
+-- What a command line says, as the reader finds it. Only private contracts and proofs need this file.
+use Rattle.std.specs.Prelude.{◌≡◌, ℕ, List, [], ◌∷◌, Option, Some, None, Result, Ok, Err, Bool, true, false, ◌||◌, ◌&&◌, if◌then◌else◌, codes}
+use Rattle.std.specs.Option.{ok_or}
 use Rattle.std.specs.Str.{bytes_eq}
-use Rattle.ck_script.specs.Script.{NumCommand, fault_at, OnTextFault}
-use Rattle.ck_script.specs.declared.line.Stage.{Stage}
-use Rattle.ck_script.specs.declared.line.Stage.TheVariants as at
+use Rattle.std.specs.Str.Parse.{digits_value}
+use Rattle.std.specs.Borrow.{Bor}
+use Rattle.ck_model.specs.Map.{Name}
+use Rattle.ck_script.specs.Script.{on_names}
+use Rattle.ck_script.specs.declared.script.Version.{Version}
+use Rattle.ck_script.specs.declared.script.Version.TheVariants.{One, Two}
+use Rattle.ck_script.specs.declared.script.Keys.{Keys}
+use Rattle.ck_script.specs.declared.script.Keys.TheVariants.{Num, Text}
+use Rattle.ck_script.specs.declared.script.Command.{Command}
+use Rattle.ck_script.specs.declared.script.Command.TheVariants.{Find, Has, Insert, Assign, Update, Add, Erase, Len, List as Lists, Move}
 use Rattle.ck_script.specs.declared.script.What.{What}
 use Rattle.ck_script.specs.declared.script.What.TheVariants as is
-use Rattle.ck_script.specs.declared.script.ScriptFault.{ScriptFault}
-use Rattle.ck_script.specs.Lines.{◌>>=◌, parts, command_at}
+use Rattle.ck_script.specs.Tokens.{tokens, number_at}
+use Rattle.ck_script.specs.FirstFault.{key_fault, is_empty}
 
--- the stage of the next line, and the command that this one says; or what is wrong with it
-unfoldable pub step_at : Stage → List ℕ → Result (Stage × Option NumCommand) What
-step_at at.Header line = if bytes_eq line (codes "cuckoo 1") then Ok (at.Settings, None) else Err is.Header
-step_at at.Settings line = if bytes_eq line (codes "worker") then Ok (at.Block, None) else Err is.Command
-step_at at.Block line =
-    if bytes_eq line (codes "end") then Ok (at.After, None) else do
-      c ← command_at line
-      Ok (at.Block, Some c)
-step_at at.After line = Err is.Command
+-- the name of the key that a word is
+abbrev pub name_of : Keys → List ℕ → Name
+name_of Num word = digits_value 10 word ∷ []
+name_of Text word = word
 
--- how many lines stand before a stage, behind n commands
-abbrev pub lines_before : Stage → ℕ → ℕ
-lines_before at.Header n = 0
-lines_before at.Settings n = 1
-lines_before at.Block n = n + 2
-lines_before at.After n = n + 3
+-- the first refusal, or what the second step gives
+infixl 10 ◌>>=◌
+abbrev pub ◌>>=◌ : {A B E : Type 0} → Result A E → (A → Result B E) → Result B E
+(Ok x) >>= f = f x
+(Err e) >>= f = Err e
 
--- none or one
-abbrev pub commands_of : Option NumCommand → List NumCommand
-commands_of None = []
-commands_of (Some c) = c ∷ []
+-- what is wrong, or else this
+abbrev pub unless : {A : Type 0} → Option What → Result A What → Result A What
+unless None r = r
+unless (Some what) r = Err what
 
--- the command has room behind n others: at most 1,000,000 are allowed
-abbrev pub within_count : ℕ → Stage → Option NumCommand → Result (Stage × Option NumCommand) What
-within_count n stage None = Ok (stage, None)
-within_count n stage (Some c) = if nat_lt n 1000000 then Ok (stage, Some c) else Err is.TooLong
+-- a command on words in the places of its keys
+abbrev pub WordCommand : Type 0
+WordCommand = Command (List ℕ)
 
--- a line that a line feed ends, at a stage behind n commands
-unfoldable pub line_at : Stage → ℕ → List ℕ → Result (Stage × Option NumCommand) What
-line_at stage n line = if nat_lt 200 (length line) then Err is.TooLong else (step_at stage line >>= λ s. within_count n s.0 s.1)
+-- a word in the place of a number
+abbrev pub number_or_fault : List ℕ → Result ℕ What
+number_or_fault word = ok_or (number_at word) is.Number
 
--- the input may end here, with these bytes behind its last line feed
-abbrev pub is_complete : Stage → List ℕ → Bool
-is_complete at.After rest = length rest == 0
-is_complete stage rest = false
+-- the commands without words behind their names
+abbrev pub alone_command : List ℕ → Option WordCommand
+alone_command name =
+    if bytes_eq name (codes "len") then Some Len
+    else if bytes_eq name (codes "list") then Some Lists
+    else None
 
--- the end of the input: no more commands, or what is wrong with it
-unfoldable pub ending : Stage → List ℕ → Result (List NumCommand) What
-ending stage rest = if nat_lt 200 (length rest) then Err is.TooLong else if is_complete stage rest then Ok [] else Err is.Truncated
+-- the commands on a key, by their names
+abbrev pub key_command : List ℕ → Option (List ℕ → WordCommand)
+key_command name =
+    if bytes_eq name (codes "find") then Some Find
+    else if bytes_eq name (codes "has") then Some Has
+    else if bytes_eq name (codes "erase") then Some Erase
+    else None
 
--- the fault with its line
-abbrev pub on_line : {A : Type 0} → ℕ → Result A What → Result A ScriptFault
-on_line line (Ok x) = Ok x
-on_line line (Err what) = Err (fault_at line what)
+-- the commands on a key and a number, by their names
+abbrev pub pair_command : List ℕ → Option (List ℕ → ℕ → WordCommand)
+pair_command name =
+    if bytes_eq name (codes "insert") then Some Insert
+    else if bytes_eq name (codes "assign") then Some Assign
+    else if bytes_eq name (codes "update") then Some Update
+    else if bytes_eq name (codes "add") then Some Add
+    else None
 
--- the commands behind those in front
-abbrev pub with_front : List NumCommand → Result (List NumCommand) ScriptFault → Result (List NumCommand) ScriptFault
-with_front front read = read >>= λ cs. Ok (front ++ cs)
+-- the command on this key, with which this is wrong; a wrong name is told first
+abbrev pub with_key : Option (List ℕ → WordCommand) → List ℕ → Option What → Result WordCommand What
+with_key command key fault = do
+  c ← ok_or command is.Command
+  unless fault (Ok (c key))
 
--- the commands of these parts, behind n commands, or the first fault
-unfoldable pub parse_lines : Stage → ℕ → List (List ℕ) → Result (List NumCommand) ScriptFault
-parse_lines stage n [] = Err (fault_at (lines_before stage n + 1) is.Truncated)
-parse_lines stage n (rest ∷ []) = on_line (lines_before stage n + 1) (ending stage rest)
-parse_lines stage n (line ∷ next ∷ more) = do
-  s ← on_line (lines_before stage n + 1) (line_at stage n line)
-  with_front (commands_of s.1) (parse_lines s.0 (n + length (commands_of s.1)) (next ∷ more))
+-- the same of a key and a number
+abbrev pub with_pair : Option (List ℕ → ℕ → WordCommand) → List ℕ → Result ℕ What → Result WordCommand What
+with_pair command key number = do
+  c ← ok_or command is.Command
+  n ← number
+  Ok (c key n)
 
--- the commands of all of the bytes, or the first fault
-abbrev pub parse : List ℕ → Result (List NumCommand) ScriptFault
-parse bytes = parse_lines at.Header 0 (parts bytes)
+-- the number behind a key; what is wrong with the key is told first
+abbrev pub number_behind : Keys → List ℕ → List ℕ → Result ℕ What
+number_behind keys key number = unless (key_fault keys key) (number_or_fault number)
 
--- the same of the rest of the bytes, behind these commands and the front of a line
-abbrev pub parse_from : Stage → List NumCommand → List ℕ → List ℕ → Result (List NumCommand) ScriptFault
-parse_from stage cs line rest = with_front cs (parse_lines stage (length cs) (parts (line ++ rest)))
+-- the number of a `move`, in which no key stands twice
+abbrev pub moved : List ℕ → List ℕ → ℕ → Result WordCommand What
+moved source target n = if bytes_eq source target then Err is.Command else Ok (Move source target n)
 
--- a result is what parsing gives, or want of memory or a failed read
-abbrev pub IsParsed : {X : Type 0} → (X → List NumCommand) → Result X ScriptFault → Result (List NumCommand) ScriptFault → Type 0
-IsParsed view (Ok x) read = read ≡ Ok (view x)
-IsParsed view (Err e) read = OnTextFault e.what (read ≡ Err e)
+-- a `move` of two keys and a number; what is wrong with the words is told from left to right
+abbrev pub move_command : Keys → List ℕ → List ℕ → List ℕ → Result WordCommand What
+move_command keys source target number = do
+  n ← unless (key_fault keys source) (number_behind keys target number)
+  moved source target n
+
+abbrev pub has_moves : Version → Bool
+has_moves One = false
+has_moves Two = true
+
+-- The words of a command line: first their count and that none is empty, and the name, then the words from left to right.
+abbrev pub command_in : Version → Keys → List (List ℕ) → Result WordCommand What
+command_in v keys (name ∷ []) = ok_or (alone_command name) is.Command
+command_in v keys (name ∷ key ∷ []) =
+    if is_empty key then Err is.Command else with_key (key_command name) key (key_fault keys key)
+command_in v keys (name ∷ key ∷ number ∷ []) =
+    if is_empty key || is_empty number then Err is.Command
+    else with_pair (pair_command name) key (number_behind keys key number)
+command_in v keys (name ∷ source ∷ target ∷ number ∷ []) =
+    if is_empty source || is_empty target || is_empty number then Err is.Command
+    else if has_moves v && bytes_eq name (codes "move") then move_command keys source target number
+    else Err is.Command
+command_in v keys words = Err is.Command
+
+-- a command line
+unfoldable pub command_at : Version → Keys → List ℕ → Result WordCommand What
+command_at v keys line = command_in v keys (tokens line)
+
+-- a command on slices, in the words that they hold
+abbrev pub held : Command (Bor (List ℕ)) → WordCommand
+held c = on_names (λ (w : Bor (List ℕ)). w.now) c
+
+abbrev pub held_in : Result (Command (Bor (List ℕ))) What → Result WordCommand What
+held_in (Ok c) = Ok (held c)
+held_in (Err what) = Err what
+
+-- nothing is wrong with the words in the places of keys
+abbrev pub HasKeys : Keys → WordCommand → Type 0
+HasKeys keys (Find k) = key_fault keys k ≡ None
+HasKeys keys (Has k) = key_fault keys k ≡ None
+HasKeys keys (Insert k n) = key_fault keys k ≡ None
+HasKeys keys (Assign k n) = key_fault keys k ≡ None
+HasKeys keys (Update k n) = key_fault keys k ≡ None
+HasKeys keys (Add k n) = key_fault keys k ≡ None
+HasKeys keys (Erase k) = key_fault keys k ≡ None
+HasKeys keys Len = Unit {0}
+HasKeys keys Lists = Unit {0}
+HasKeys keys (Move j k n) = (key_fault keys j ≡ None) × (key_fault keys k ≡ None)

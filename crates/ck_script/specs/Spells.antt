@@ -1,47 +1,60 @@
 -- The grammar of scripts: a script is a list of lines, each ended by a line feed.
-use Rattle.std.specs.Prelude.{All, length, ◌≤◌, ◌≡◌, ℕ, List, [], ◌∷◌, codes}
-use Rattle.std.specs.List.{flat_map}
-use Rattle.ck_key.specs.declared.num_key.NumKey.{NumKey}
-use Rattle.ck_script.specs.Script.{NumCommand}
-use Rattle.ck_script.specs.declared.script.Command.TheVariants.{Find, Has, Insert, Assign, Update, Add, Erase}
-use Rattle.ck_script.specs.Tokens.{tokens, IsNumber}
+use Rattle.std.specs.Prelude.{All, length, ◌≤◌, ◌≡◌, ◌≢◌, ℕ, List, [], ◌∷◌, ◌++◌, codes, flat_map, sum_by}
+use Rattle.std.specs.List.{AllZip}
+use Rattle.ck_model.specs.Map.{Name}
+use Rattle.ck_script.specs.declared.script.Version.{Version}
+use Rattle.ck_script.specs.declared.script.Version.TheVariants.{Two}
+use Rattle.ck_script.specs.declared.script.Keys.{Keys}
+use Rattle.ck_script.specs.declared.script.Command.{Command}
+use Rattle.ck_script.specs.declared.script.Command.TheVariants.{Find, Has, Insert, Assign, Update, Add, Erase, Len, List as Lists, Move}
+use Rattle.ck_script.specs.Script.{Said}
 use Rattle.ck_script.specs.Lines.{IsLine, with_feed}
+use Rattle.ck_script.specs.Tokens.{tokens, IsNumber, IsKey}
+use Rattle.ck_script.specs.Formats.{header_of, most_workers, AreSettings}
 
--- the tokens are this name and a key
-abbrev pub AreNameAndKey : List ℕ → List (List ℕ) → NumKey → Type 0
-AreNameAndKey name (word ∷ key ∷ []) k = (word ≡ name) × IsNumber key k.0
-AreNameAndKey name ws k = ⊥
+-- the words are this name and a key
+abbrev pub AreNameAndKey : Keys → List ℕ → List (List ℕ) → Name → Type 0
+AreNameAndKey keys name ws k = (key : List ℕ) × (ws ≡ name ∷ key ∷ []) × IsKey keys key k
 
--- the tokens are this name, a key and a number
-abbrev pub AreNameAndPair : List ℕ → List (List ℕ) → NumKey → ℕ → Type 0
-AreNameAndPair name (word ∷ key ∷ value ∷ []) k v = (word ≡ name) × IsNumber key k.0 × IsNumber value v
-AreNameAndPair name ws k v = ⊥
+-- the words are this name, a key and a number
+abbrev pub AreNameAndPair : Keys → List ℕ → List (List ℕ) → Name → ℕ → Type 0
+AreNameAndPair keys name ws k n =
+    (key number : List ℕ) × (ws ≡ name ∷ key ∷ number ∷ []) × IsKey keys key k × IsNumber number n
 
--- the tokens of a line are this command
-abbrev pub IsCommand : List (List ℕ) → NumCommand → Type 0
-IsCommand ws (Find k) = AreNameAndKey (codes "find") ws k
-IsCommand ws (Has k) = AreNameAndKey (codes "has") ws k
-IsCommand ws (Insert k v) = AreNameAndPair (codes "insert") ws k v
-IsCommand ws (Assign k v) = AreNameAndPair (codes "assign") ws k v
-IsCommand ws (Update k v) = AreNameAndPair (codes "update") ws k v
-IsCommand ws (Add k v) = AreNameAndPair (codes "add") ws k v
-IsCommand ws (Erase k) = AreNameAndKey (codes "erase") ws k
+-- the words are `move`, two different keys and a number
+abbrev pub AreMoveAndTwo : Keys → List (List ℕ) → Name → Name → ℕ → Type 0
+AreMoveAndTwo keys ws j k n =
+    (source target number : List ℕ) × (ws ≡ codes "move" ∷ source ∷ target ∷ number ∷ [])
+    × IsKey keys source j × IsKey keys target k × (j ≢ k) × IsNumber number n
 
--- the lines behind a line `worker` are these commands, one a line, and then the line `end`
-abbrev pub AreCommands : List (List ℕ) → List NumCommand → Type 0
-AreCommands (line ∷ lines) (c ∷ cs) = IsCommand (tokens line) c × AreCommands lines cs
-AreCommands (line ∷ []) [] = line ≡ codes "end"
-AreCommands lines cs = ⊥
+-- the words of a line are this command
+abbrev pub IsCommand : Version → Keys → List (List ℕ) → Command Name → Type 0
+IsCommand v keys ws (Find k) = AreNameAndKey keys (codes "find") ws k
+IsCommand v keys ws (Has k) = AreNameAndKey keys (codes "has") ws k
+IsCommand v keys ws (Insert k n) = AreNameAndPair keys (codes "insert") ws k n
+IsCommand v keys ws (Assign k n) = AreNameAndPair keys (codes "assign") ws k n
+IsCommand v keys ws (Update k n) = AreNameAndPair keys (codes "update") ws k n
+IsCommand v keys ws (Add k n) = AreNameAndPair keys (codes "add") ws k n
+IsCommand v keys ws (Erase k) = AreNameAndKey keys (codes "erase") ws k
+IsCommand v keys ws Len = ws ≡ codes "len" ∷ []
+IsCommand v keys ws Lists = ws ≡ codes "list" ∷ []
+IsCommand v keys ws (Move j k n) = (v ≡ Two) × AreMoveAndTwo keys ws j k n
 
--- the lines of a script with these commands
-abbrev pub IsScript : List (List ℕ) → List NumCommand → Type 0
-IsScript (header ∷ worker ∷ lines) cs = (header ≡ codes "cuckoo 1") × (worker ≡ codes "worker") × AreCommands lines cs
-IsScript lines cs = ⊥
+-- the lines of a script of these settings, and of a block of command lines for each worker
+abbrev pub lines_of : Version → List (List ℕ) → List (List (List ℕ)) → List (List ℕ)
+lines_of v settings blocks =
+    header_of v ∷ settings ++ flat_map (λ (block : List (List ℕ)). codes "worker" ∷ block) blocks ++ codes "end" ∷ []
 
--- the bytes are a script with these commands, at most 1,000,000
-pub record Spells (bytes : List ℕ) (commands : List NumCommand) : Type 0 where
-  pub lines : List (List ℕ)
-  pub whole : bytes ≡ flat_map with_feed lines
-  pub each : All IsLine lines
-  pub script : IsScript lines commands
-  pub few : length commands ≤ 1000000
+-- The bytes are a script that says this.
+pub record Spells (bytes : List ℕ) (said : Said) : Type 0 where
+  pub version : Version
+  pub settings : List (List ℕ)
+  pub blocks : List (List (List ℕ))
+  pub whole : bytes ≡ flat_map with_feed (lines_of version settings blocks)
+  pub each : All IsLine (lines_of version settings blocks)
+  pub settings_are : AreSettings version settings said.keys said.settings
+  pub blocks_are : AllZip (AllZip (λ line c. IsCommand version said.keys (tokens line) c)) blocks said.workers
+  pub callers : said.settings.callers ≡ length said.workers
+  pub some : 1 ≤ length said.workers
+  pub many : length said.workers ≤ most_workers version
+  pub few : sum_by length said.workers ≤ 1000000

@@ -1,19 +1,22 @@
 //! One command on the table.
-ghost use Rattle.ck_script.specs.Script.{NumCommand};
-ghost use Rattle.ck_script.specs.Output.{NeedsRoom, IsRefusal};
-ghost use Rattle.ck_script.specs.Answered.{IsAnsweredBy};
+ghost use Rattle.std.specs.Prelude.{◌≡◌, ◌-◌, ◌+◌};
+ghost use Rattle.std.specs.FinMap.{entries};
+ghost use Rattle.ck_model.specs.Map.{Name};
+ghost use Rattle.ck_script.specs.Script.{on_names};
+ghost use Rattle.ck_script.specs.Output.{NeedsRoom, IsRefusal, share};
+ghost use Rattle.ck_table.specs.Locking.{map_of};
+ghost use Rattle.ck_script.specs.Answered.{answer_on_names, IsAnsweredBy, IsListOf};
 
-use crate::answer::Answer;
+use crate::answer::{Answer, Pairs};
 use crate::script::Command;
-use ck_key::NumKey;
-use ck_table::{Caller, Why};
-
-// A caller of the table of a script.
-pub type NumCaller<'t> = Caller<'t, NumKey, u64>;
+use crate::written_key::WrittenKey;
+use ck_key::TableKey;
+use ck_table::{Caller, LockedTable, Why};
+use std::alloc::Global;
 
 // What a command that may need room is refused for.
-fn refusal_of(why: Why) -> Answer
-    ensures { (c : NumCommand) → NeedsRoom c → IsRefusal c result }
+fn refusal_of<K: TableKey + Drop>(why: Why) -> Answer<Pairs<K>>
+    ensures { (c : Command Name) → NeedsRoom c → IsRefusal c (answer_on_names K.name result) }
 {
     match why {
         Why::Busy(_) => Answer::Busy,
@@ -25,8 +28,9 @@ fn refusal_of(why: Why) -> Answer
 
 // A function for each command: it asks the table, and picks the word for the reply.
 
-fn find(caller: &mut NumCaller<'_>, key: NumKey) -> Answer
-    ensures { IsAnsweredBy (Command.Find key) result caller.old caller.new }
+fn find<K: TableKey + Drop>(caller: &mut Caller<'_, K, u64>, key: K) -> Answer<Pairs<K>>
+    ensures { IsAnsweredBy (Command.Find (K.name key)) (answer_on_names K.name result)
+        caller.old caller.new }
 {
     match caller.find(&key) {
         Ok(Some(value)) => Answer::Value(value),
@@ -35,8 +39,9 @@ fn find(caller: &mut NumCaller<'_>, key: NumKey) -> Answer
     }
 }
 
-fn has(caller: &mut NumCaller<'_>, key: NumKey) -> Answer
-    ensures { IsAnsweredBy (Command.Has key) result caller.old caller.new }
+fn has<K: TableKey + Drop>(caller: &mut Caller<'_, K, u64>, key: K) -> Answer<Pairs<K>>
+    ensures { IsAnsweredBy (Command.Has (K.name key)) (answer_on_names K.name result)
+        caller.old caller.new }
 {
     match caller.contains(&key) {
         Ok(true) => Answer::Yes,
@@ -45,8 +50,13 @@ fn has(caller: &mut NumCaller<'_>, key: NumKey) -> Answer
     }
 }
 
-fn insert(caller: &mut NumCaller<'_>, key: NumKey, value: u64) -> Answer
-    ensures { IsAnsweredBy (Command.Insert key value) result caller.old caller.new }
+fn insert<K: TableKey + Drop>(
+    caller: &mut Caller<'_, K, u64>,
+    key: K,
+    value: u64,
+) -> Answer<Pairs<K>>
+    ensures { IsAnsweredBy (Command.Insert (K.name key) value) (answer_on_names K.name result)
+        caller.old caller.new }
 {
     match caller.insert(key, value) {
         Ok(true) => Answer::New,
@@ -55,8 +65,13 @@ fn insert(caller: &mut NumCaller<'_>, key: NumKey, value: u64) -> Answer
     }
 }
 
-fn assign(caller: &mut NumCaller<'_>, key: NumKey, value: u64) -> Answer
-    ensures { IsAnsweredBy (Command.Assign key value) result caller.old caller.new }
+fn assign<K: TableKey + Drop>(
+    caller: &mut Caller<'_, K, u64>,
+    key: K,
+    value: u64,
+) -> Answer<Pairs<K>>
+    ensures { IsAnsweredBy (Command.Assign (K.name key) value) (answer_on_names K.name result)
+        caller.old caller.new }
 {
     match caller.insert_or_assign(key, value) {
         Ok(Some(_)) => Answer::Set,
@@ -65,8 +80,13 @@ fn assign(caller: &mut NumCaller<'_>, key: NumKey, value: u64) -> Answer
     }
 }
 
-fn update(caller: &mut NumCaller<'_>, key: NumKey, value: u64) -> Answer
-    ensures { IsAnsweredBy (Command.Update key value) result caller.old caller.new }
+fn update<K: TableKey + Drop>(
+    caller: &mut Caller<'_, K, u64>,
+    key: K,
+    value: u64,
+) -> Answer<Pairs<K>>
+    ensures { IsAnsweredBy (Command.Update (K.name key) value) (answer_on_names K.name result)
+        caller.old caller.new }
 {
     match caller.update(&key, value) {
         Ok(Some(_)) => Answer::Set,
@@ -75,8 +95,9 @@ fn update(caller: &mut NumCaller<'_>, key: NumKey, value: u64) -> Answer
     }
 }
 
-fn add(caller: &mut NumCaller<'_>, key: NumKey, value: u64) -> Answer
-    ensures { IsAnsweredBy (Command.Add key value) result caller.old caller.new }
+fn add<K: TableKey + Drop>(caller: &mut Caller<'_, K, u64>, key: K, value: u64) -> Answer<Pairs<K>>
+    ensures { IsAnsweredBy (Command.Add (K.name key) value) (answer_on_names K.name result)
+        caller.old caller.new }
 {
     match caller.upsert(key, |bound| bound.saturating_add(value), value) {
         Ok(true) => Answer::New,
@@ -85,8 +106,9 @@ fn add(caller: &mut NumCaller<'_>, key: NumKey, value: u64) -> Answer
     }
 }
 
-fn erase(caller: &mut NumCaller<'_>, key: NumKey) -> Answer
-    ensures { IsAnsweredBy (Command.Erase key) result caller.old caller.new }
+fn erase<K: TableKey + Drop>(caller: &mut Caller<'_, K, u64>, key: K) -> Answer<Pairs<K>>
+    ensures { IsAnsweredBy (Command.Erase (K.name key)) (answer_on_names K.name result)
+        caller.old caller.new }
 {
     match caller.erase(&key) {
         Ok(Some(_)) => Answer::Gone,
@@ -95,17 +117,93 @@ fn erase(caller: &mut NumCaller<'_>, key: NumKey) -> Answer
     }
 }
 
-/// Does what the command says.
-pub fn answer_of(caller: &mut NumCaller<'_>, command: Command<NumKey>) -> Answer
-    ensures { IsAnsweredBy command result caller.old caller.new }
+fn len<K: TableKey + Drop>(caller: &mut Caller<'_, K, u64>) -> Answer<Pairs<K>>
+    ensures { IsAnsweredBy Command.Len (answer_on_names K.name result) caller.old caller.new }
 {
-    match command {
-        Command::Find(key) => find(caller, key),
-        Command::Has(key) => has(caller, key),
-        Command::Insert(key, value) => insert(caller, key, value),
-        Command::Assign(key, value) => assign(caller, key, value),
-        Command::Update(key, value) => update(caller, key, value),
-        Command::Add(key, value) => add(caller, key, value),
-        Command::Erase(key) => erase(caller, key),
+    match caller.len() {
+        Ok(count) => Answer::Count(count),
+        Err(_) => Answer::Busy,
     }
+}
+
+// As much of the amount as the one number has goes to the other, as far as that can take it.
+fn moved(amount: u64, from: u64, to: u64) -> (u64, u64)
+    ensures from { result.0 ≡ from - share amount from to }
+    ensures to { result.1 ≡ to + share amount from to }
+{
+    let share = amount.min(from).min(u64::MAX - to);
+    (from - share, to + share)
+}
+
+// Nothing goes from a key to itself. No script that was read says so, and no call of the table does it.
+fn transfer<K: TableKey + Drop>(
+    caller: &mut Caller<'_, K, u64>,
+    from: K,
+    to: K,
+    amount: u64,
+) -> Answer<Pairs<K>>
+    ensures { IsAnsweredBy (Command.Move (K.name from) (K.name to) amount)
+        (answer_on_names K.name result) caller.old caller.new }
+{
+    if from == to {
+        return Answer::Busy;
+    }
+    match caller.update_two(&from, &to, |less, more| moved(amount, less, more)) {
+        Ok(true) => Answer::Set,
+        Ok(false) => Answer::Absent,
+        Err(_) => Answer::Busy,
+    }
+}
+
+// The list of a locked table, where there is memory for it.
+fn listed<K: WrittenKey>(alloc: Global, locked: &LockedTable<'_, K, u64>) -> Answer<Pairs<K>>
+    ensures { IsListOf (entries (map_of locked.now)) (answer_on_names K.name result) }
+{
+    match locked.export(alloc) {
+        Ok(pairs) => Answer::Listed(pairs),
+        Err(_) => Answer::Memory,
+    }
+}
+
+// A session that changes nothing. Where there is no memory for the list, the table is unlocked all the same.
+fn list<'t, K: WrittenKey>(
+    alloc: Global,
+    caller: Caller<'t, K, u64>,
+) -> (Answer<Pairs<K>>, Caller<'t, K, u64>)
+    ensures { IsAnsweredBy Command.List (answer_on_names K.name result.0)
+        caller.entry result.1 }
+{
+    let table = caller.table();
+    match caller.lock() {
+        Ok(locked) => {
+            let answer = listed(alloc, &locked);
+            (answer, table.caller(locked.unlock()))
+        }
+        Err((caller, _)) => (Answer::Busy, caller),
+    }
+}
+
+/// Does what the command says.
+pub fn answer_of<'t, K: WrittenKey>(
+    alloc: Global,
+    caller: Caller<'t, K, u64>,
+    command: Command<K>,
+) -> (Answer<Pairs<K>>, Caller<'t, K, u64>)
+    ensures { IsAnsweredBy (on_names K.name command) (answer_on_names K.name result.0)
+        caller.entry result.1 }
+{
+    let mut caller = caller;
+    let answer = match command {
+        Command::Find(key) => find(&mut caller, key),
+        Command::Has(key) => has(&mut caller, key),
+        Command::Insert(key, value) => insert(&mut caller, key, value),
+        Command::Assign(key, value) => assign(&mut caller, key, value),
+        Command::Update(key, value) => update(&mut caller, key, value),
+        Command::Add(key, value) => add(&mut caller, key, value),
+        Command::Erase(key) => erase(&mut caller, key),
+        Command::Len => len(&mut caller),
+        Command::List => return list(alloc, caller),
+        Command::Move(from, to, amount) => transfer(&mut caller, from, to, amount),
+    };
+    (answer, caller)
 }

@@ -1,29 +1,17 @@
-//! What a line says where it stands.
-ghost use Rattle.std.specs.Prelude.{◌≡◌, ◌≢◌, IfErr};
-ghost use Rattle.ck_script.specs.Lines.{number_or_fault, pair_or_fault, key_command, with_key, pair_command, with_pair, command_at};
-ghost use Rattle.ck_script.specs.Parse.{step_at};
+//! What a command line says.
+ghost use Rattle.std.specs.Prelude.{◌≡◌, ◌≢◌, IfOk, IfErr};
+ghost use Rattle.std.specs.Option.{ok_or};
+ghost use Rattle.ck_script.specs.Script.{on_names};
+ghost use Rattle.ck_script.specs.Parse.{alone_command, key_command, pair_command, with_key, with_pair, number_behind, number_or_fault, move_command, has_moves, command_at, held, held_in, name_of, HasKeys};
 
-use crate::script::{Command, What};
+use crate::script::{Command, Version, What};
+use crate::script_key::ScriptKey;
 use crate::tokens::{Tokens, number_of, tokens_of};
-use ck_key::NumKey;
-
-/// Where in a script a line stands.
-#[derive(Clone, Copy, Debug, PartialEq, Eq)]
-pub enum Stage {
-    /// Line 1.
-    Header,
-    /// Before the first line `worker`.
-    Settings,
-    /// Behind a line `worker`.
-    Block,
-    /// Behind the line `end`.
-    After,
-}
+use std::alloc::{AllocError, Global};
 
 // The number that a word is.
 fn number(word: &[u8]) -> Result<u64, What>
-    ensures value { result ≡ number_or_fault word.now }
-    ensures text { IfErr result (λ what. what ≢ What.Read) }
+    ensures { result ≡ number_or_fault word.now }
 {
     match number_of(word) {
         Some(n) => Ok(n),
@@ -31,108 +19,158 @@ fn number(word: &[u8]) -> Result<u64, What>
     }
 }
 
-// The command of this name on a key. A wrong name is told before a wrong number.
-fn key_command(name: &[u8], key: Result<u64, What>) -> Result<Command<NumKey>, What>
-    requires { IfErr key (λ what. what ≢ What.Read) }
-    ensures value { result ≡ with_key (key_command name.now) key }
-    ensures text { IfErr result (λ what. what ≢ What.Read) }
+// The number that a word behind a key is. What is wrong with the key is told first.
+fn number_behind<K: ScriptKey>(key: &[u8], word: &[u8]) -> Result<u64, What>
+    ensures { result ≡ number_behind K.kind key.now word.now }
 {
-    if name == b"find".as_slice() {
-        Ok(Command::Find(NumKey(key?)))
-    } else if name == b"has".as_slice() {
-        Ok(Command::Has(NumKey(key?)))
-    } else if name == b"erase".as_slice() {
-        Ok(Command::Erase(NumKey(key?)))
+    match K::fault(key) {
+        Some(what) => Err(what),
+        None => number(word),
+    }
+}
+
+// The command of this name.
+fn alone<'a>(name: &[u8]) -> Result<Command<&'a [u8]>, What>
+    ensures { held_in result ≡ ok_or (alone_command name.now) What.Command }
+{
+    if name == b"len".as_slice() {
+        Ok(Command::Len)
+    } else if name == b"list".as_slice() {
+        Ok(Command::List)
     } else {
         Err(What::Command)
     }
 }
 
-// The key and the number that two words are.
-fn pair(key: &[u8], value: &[u8]) -> Result<(u64, u64), What>
-    ensures value { result ≡ pair_or_fault key.now value.now }
-    ensures text { IfErr result (λ what. what ≢ What.Read) }
+// The command of this name on a key. A wrong name is told before a wrong key.
+fn on_key<'a>(name: &[u8], key: &'a [u8], fault: Option<What>) -> Result<Command<&'a [u8]>, What>
+    ensures { held_in result ≡ with_key (key_command name.now) key.now fault }
 {
-    let key = number(key)?;
-    let value = number(value)?;
-    Ok((key, value))
+    let command = if name == b"find".as_slice() {
+        Command::Find(key)
+    } else if name == b"has".as_slice() {
+        Command::Has(key)
+    } else if name == b"erase".as_slice() {
+        Command::Erase(key)
+    } else {
+        return Err(What::Command);
+    };
+    match fault {
+        Some(what) => Err(what),
+        None => Ok(command),
+    }
 }
 
-// The command of this name on a key and a number. A wrong name is told before a wrong number.
-fn pair_command(name: &[u8], pair: Result<(u64, u64), What>) -> Result<Command<NumKey>, What>
-    requires { IfErr pair (λ what. what ≢ What.Read) }
-    ensures value { result ≡ with_pair (pair_command name.now) pair }
-    ensures text { IfErr result (λ what. what ≢ What.Read) }
+// The command of this name on a key and a number. A wrong name is told before a wrong word.
+fn on_pair<'a>(
+    name: &[u8],
+    key: &'a [u8],
+    number: Result<u64, What>,
+) -> Result<Command<&'a [u8]>, What>
+    ensures { held_in result ≡ with_pair (pair_command name.now) key.now number }
 {
     if name == b"insert".as_slice() {
-        let (key, value) = pair?;
-        Ok(Command::Insert(NumKey(key), value))
+        Ok(Command::Insert(key, number?))
     } else if name == b"assign".as_slice() {
-        let (key, value) = pair?;
-        Ok(Command::Assign(NumKey(key), value))
+        Ok(Command::Assign(key, number?))
     } else if name == b"update".as_slice() {
-        let (key, value) = pair?;
-        Ok(Command::Update(NumKey(key), value))
+        Ok(Command::Update(key, number?))
     } else if name == b"add".as_slice() {
-        let (key, value) = pair?;
-        Ok(Command::Add(NumKey(key), value))
+        Ok(Command::Add(key, number?))
     } else {
         Err(What::Command)
+    }
+}
+
+// The command `move` on two keys and a number. That the keys are one is told last.
+fn on_two<'a, K: ScriptKey>(
+    source: &'a [u8],
+    target: &'a [u8],
+    number: &[u8],
+) -> Result<Command<&'a [u8]>, What>
+    ensures { held_in result ≡ move_command K.kind source.now target.now number.now }
+{
+    if let Some(what) = K::fault(source) {
+        return Err(what);
+    }
+    let number = number_behind::<K>(target, number)?;
+    if source == target {
+        return Err(What::Command);
+    }
+    Ok(Command::Move(source, target, number))
+}
+
+// Whether a format has `move`.
+fn has_moves(version: Version) -> bool
+    ensures { result ≡ has_moves version }
+{
+    match version {
+        Version::One => false,
+        Version::Two => true,
     }
 }
 
 // The command that a line is.
-#[tactic(auto, unfolding(crate::specs::Lines::command_at))]
-fn command_of(line: &[u8]) -> Result<Command<NumKey>, What>
-    ensures value { result ≡ command_at line.now }
-    ensures text { IfErr result (λ what. what ≢ What.Read) }
+#[tactic(auto, unfolding(crate::specs::Parse::command_at))]
+fn parse<'a, K: ScriptKey>(version: Version, line: &'a [u8]) -> Result<Command<&'a [u8]>, What>
+    ensures { held_in result ≡ command_at version K.kind line.now }
 {
     match tokens_of(line) {
+        Tokens::One(name) => alone(name),
         Tokens::Two(name, key) => {
             if key.is_empty() {
                 return Err(What::Command);
             }
-            key_command(name, number(key))
+            on_key(name, key, K::fault(key))
         }
-        Tokens::Three(name, key, value) => {
-            if key.is_empty() || value.is_empty() {
+        Tokens::Three(name, key, number) => {
+            if key.is_empty() || number.is_empty() {
                 return Err(What::Command);
             }
-            pair_command(name, pair(key, value))
+            on_pair(name, key, number_behind::<K>(key, number))
         }
-        Tokens::One(_) | Tokens::More => Err(What::Command),
-    }
-}
-
-/// Where the next line stands, and the command that this one is, if it is one; or what is wrong
-/// with it there.
-#[tactic(auto, unfolding(crate::specs::Parse::step_at))]
-pub fn step(stage: Stage, line: &[u8]) -> Result<(Stage, Option<Command<NumKey>>), What>
-    ensures value { result ≡ step_at stage line.now }
-    ensures text { IfErr result (λ what. what ≢ What.Read) }
-{
-    match stage {
-        Stage::Header => {
-            if line == b"cuckoo 1".as_slice() {
-                Ok((Stage::Settings, None))
-            } else {
-                Err(What::Header)
+        Tokens::Four(name, source, target, number) => {
+            if source.is_empty() || target.is_empty() || number.is_empty() {
+                return Err(What::Command);
             }
-        }
-        Stage::Settings => {
-            if line == b"worker".as_slice() {
-                Ok((Stage::Block, None))
+            if has_moves(version) && name == b"move".as_slice() {
+                on_two::<K>(source, target, number)
             } else {
                 Err(What::Command)
             }
         }
-        Stage::Block => {
-            if line == b"end".as_slice() {
-                return Ok((Stage::After, None));
-            }
-            let command = command_of(line)?;
-            Ok((Stage::Block, Some(command)))
-        }
-        Stage::After => Err(What::Command),
+        Tokens::More => Err(What::Command),
     }
+}
+
+/// The command that a line is, on the words in the places of its keys.
+pub fn command_of<'a, K: ScriptKey>(
+    version: Version,
+    line: &'a [u8],
+) -> Result<Command<&'a [u8]>, What>
+    ensures value { held_in result ≡ command_at version K.kind line.now }
+    ensures keys { IfOk result (λ c. HasKeys K.kind (held c)) }
+    ensures text { IfErr result (λ what. what ≢ What.Read) }
+{
+    parse::<K>(version, line)
+}
+
+/// The command on the keys that its words are.
+pub fn keep<K: ScriptKey>(alloc: Global, command: Command<&[u8]>) -> Result<Command<K>, AllocError>
+    requires { HasKeys K.kind (held command) }
+    ensures { IfOk result (λ c.
+        on_names K.name c ≡ on_names (name_of K.kind) (held command.entry)) }
+{
+    Ok(match command {
+        Command::Find(k) => Command::Find(K::of_word(alloc, k)?),
+        Command::Has(k) => Command::Has(K::of_word(alloc, k)?),
+        Command::Insert(k, n) => Command::Insert(K::of_word(alloc, k)?, n),
+        Command::Assign(k, n) => Command::Assign(K::of_word(alloc, k)?, n),
+        Command::Update(k, n) => Command::Update(K::of_word(alloc, k)?, n),
+        Command::Add(k, n) => Command::Add(K::of_word(alloc, k)?, n),
+        Command::Erase(k) => Command::Erase(K::of_word(alloc, k)?),
+        Command::Len => Command::Len,
+        Command::List => Command::List,
+        Command::Move(j, k, n) => { Command::Move(K::of_word(alloc, j)?, K::of_word(alloc, k)?, n) }
+    })
 }

@@ -1,29 +1,31 @@
 //! Reading a script, a block of bytes at a time.
-ghost use Rattle.std.specs.Prelude.{◌≡◌, ◌≢◌, ◌↔◌, ◌≤◌, ◌<◌, ◌+◌, ◌++◌, ◌∷◌, [], List, ℕ, length, true, false, Ok, Err, Some, OnOk, IfOk, IfErr, IfSome, IfNone, All};
-ghost use Rattle.ck_script.specs.declared.line.Stage.{Stage};
+ghost use Rattle.std.specs.Prelude.{◌≡◌, ◌≢◌, ◌↔◌, ◌≤◌, ◌<◌, ◌+◌, ◌++◌, ◌∷◌, [], List, ℕ, length, true, false, Ok, Err, Some, None, OnOk, IfOk, IfErr, IfSome, IfNone, All};
 ghost use Rattle.ck_script.specs.Spells.{Spells};
-ghost use Rattle.ck_script.specs.FirstFault.{first_fault, IsCutIn, StopsIn};
-ghost use Rattle.ck_script.specs.Script.{OnTextFault};
+ghost use Rattle.ck_script.specs.FirstFault.{first_fault, first_fault_behind, IsCutIn, StopsIn};
+ghost use Rattle.ck_script.specs.Script.{OnTextFault, said_of};
 ghost use Rattle.ck_script.specs.Lines.{is_feed};
-ghost use Rattle.ck_script.specs.Parse.{is_complete, commands_of, within_count, lines_before, parse, IsParsed};
 
-use crate::line::{Stage, step};
-use crate::script::{Command, Script, ScriptFault, What};
+use crate::script::{Script, ScriptFault, What};
 use crate::source::Source;
-use ck_key::NumKey;
+use crate::stage::{Stage, behind};
 use memchr::memchr;
 use std::alloc::Global;
+use std::mem;
 
 const MOST_BYTES: usize = 200;
 
-const MOST_COMMANDS: usize = 1_000_000;
+/// The line that is read, and what is known where it begins.
+#[derive(Drop)]
+pub struct Place {
+    stage: Stage,
+    number: u64,
+}
 
-/// What was read so far: the commands, and the front of the line that is not ended yet.
+/// What was read so far, and the front of the line that is not ended yet.
 #[derive(Drop)]
 pub struct ScriptReader {
-    stage: Stage,
-    line: Vec<u8>,
-    commands: Vec<Command<NumKey>>,
+    place: Place,
+    front: Vec<u8>,
 }
 
 // The bytes before the first line feed, and those after it.
@@ -38,42 +40,63 @@ fn cut_line(bytes: &[u8]) -> Option<(&[u8], &[u8])>
     }
 }
 
-// Keeps a command, where there is one and room for it.
-fn keep(commands: &mut Vec<Command<NumKey>>, command: Option<Command<NumKey>>) -> Result<(), What>
-    ensures ok { OnOk result (commands.new.items ≡ commands.old.items ++ commands_of command) }
-    ensures few { OnOk result (length commands.old.items ≤ 1000000 →
-        length commands.new.items ≤ 1000000) }
-    ensures fits { OnOk result ((p : Stage) →
-        within_count (length commands.old.items) p command ≡ Ok (p, command)) }
-    ensures err { IfErr result (λ what. (p : Stage) →
-        OnTextFault what (within_count (length commands.old.items) p command ≡ Err what)) }
-    ensures text { IfErr result (λ what. what ≢ What.Read) }
-{
-    let Some(command) = command else {
-        return Ok(());
-    };
-    if commands.len() >= MOST_COMMANDS {
-        return Err(What::TooLong);
+impl Place {
+    ghost use Rattle.ck_script.specs.Taken.{StandsBehind, IsInScript};
+
+    // What is wrong with the line.
+    fn fault(&self, what: What) -> ScriptFault
+        ensures { result ≡ record { line = self.now.number; what = what } }
+    {
+        ScriptFault {
+            line: self.number,
+            what,
+        }
     }
-    match commands.push(command) {
-        Ok(()) => Ok(()),
-        Err(_) => Err(What::Memory),
+
+    // Takes a line that a line feed ends.
+    fn take(&mut self, alloc: Global, line: &[u8]) -> Result<(), ScriptFault>
+        requires limits { IsInScript self.old }
+        requires no_feed { All (λ b. is_feed b ≡ false) line.now }
+        ensures limits { OnOk result (IsInScript self.new) }
+        ensures number { OnOk result (self.new.number ≡ self.old.number + 1) }
+        ensures short { OnOk result (length line.now ≤ 200) }
+        ensures ok { OnOk result ((lines : List (List ℕ)) →
+            StandsBehind self.old lines → StandsBehind self.new (lines ++ line.now ∷ [])) }
+        ensures err { IfErr result (λ e. (lines more : List (List ℕ)) →
+            StandsBehind self.old lines → 0 < length more →
+            OnTextFault e.what (first_fault_behind lines (line.now ∷ more) ≡ Some e)) }
+        ensures here { IfErr result (λ e. e.line ≡ self.old.number) }
+        ensures text { IfErr result (λ e. e.what ≢ What.Read) }
+    {
+        if line.len() > MOST_BYTES {
+            return Err(self.fault(What::TooLong));
+        }
+        let stage = mem::replace(&mut self.stage, Stage::Header);
+        match behind(alloc, stage, line) {
+            Ok(stage) => {
+                self.stage = stage;
+                self.number += 1;
+                Ok(())
+            }
+            Err(what) => Err(self.fault(what)),
+        }
     }
 }
 
 impl ScriptReader {
-    ghost use Rattle.ck_script.specs.State.{parse_rest, size_of, HasStopped, IsWithinLimits};
+    ghost use Rattle.ck_script.specs.Taken.{HasTaken, IsWithinLimits, FaultOf, StopsWithin, size_of};
 
-    // The line that is read, counted from 1.
-    fn line_number(&self) -> u64
-        ensures { result ≡ lines_before self.now.stage (length self.now.commands.items) + 1 }
+    // A reader before the first byte.
+    fn new(alloc: Global) -> Self
+        ensures limits { IsWithinLimits result }
+        ensures taken { HasTaken result [] }
     {
-        let commands = self.commands.len() as u64;
-        match self.stage {
-            Stage::Header => 1,
-            Stage::Settings => 2,
-            Stage::Block => commands + 3,
-            Stage::After => commands + 4,
+        ScriptReader {
+            place: Place {
+                stage: Stage::Header,
+                number: 1,
+            },
+            front: Vec::new(alloc),
         }
     }
 
@@ -83,130 +106,80 @@ impl ScriptReader {
         requires piece { All (λ b. is_feed b ≡ false) piece.now }
         ensures limits { OnOk result (IsWithinLimits self.new) }
         ensures size { OnOk result (size_of self.new ≡ size_of self.old + length piece.now) }
-        ensures ok { OnOk result ((rest : List ℕ) →
-            parse_rest self.new rest ≡ parse_rest self.old (piece.now ++ rest)) }
-        ensures err { IfErr result (λ e. (rest : List ℕ) →
-            OnTextFault e.what (parse_rest self.old (piece.now ++ rest) ≡ Err e)) }
+        ensures ok { OnOk result ((bytes : List ℕ) →
+            HasTaken self.old bytes → HasTaken self.new (bytes ++ piece.now)) }
+        ensures err { IfErr result (λ e. FaultOf self.old piece.now e) }
         ensures text { IfErr result (λ e. e.what ≢ What.Read) }
         ensures memory { IfErr result (λ e. e.what ≡ What.Memory →
-            HasStopped self.old piece.now e.line) }
+            StopsWithin self.old piece.now e.line) }
     {
-        if piece.len() > MOST_BYTES - self.line.len() {
-            let line = self.line_number();
-            return Err(ScriptFault {
-                line,
-                what: What::TooLong,
-            });
+        if piece.len() > MOST_BYTES - self.front.len() {
+            return Err(self.place.fault(What::TooLong));
         }
-        match self.line.extend_from_slice(piece) {
+        match self.front.extend_from_slice(piece) {
             Ok(()) => Ok(()),
-            Err(_) => {
-                let line = self.line_number();
-                Err(ScriptFault {
-                    line,
-                    what: What::Memory,
-                })
-            }
+            Err(_) => Err(self.place.fault(What::Memory)),
         }
     }
 
-    // Takes a line feed: the line is whole.
-    fn end_line(&mut self) -> Result<(), ScriptFault>
-        requires { IsWithinLimits self.old }
+    // Takes the rest of a line, and its line feed.
+    fn end_line(&mut self, alloc: Global, rest: &[u8]) -> Result<(), ScriptFault>
+        requires limits { IsWithinLimits self.old }
+        requires rest { All (λ b. is_feed b ≡ false) rest.now }
         ensures limits { OnOk result (IsWithinLimits self.new) }
-        ensures size { OnOk result (size_of self.old < size_of self.new) }
-        ensures ok { OnOk result ((rest : List ℕ) →
-            parse_rest self.new rest ≡ parse_rest self.old (10 ∷ rest)) }
-        ensures err { IfErr result (λ e. (rest : List ℕ) →
-            OnTextFault e.what (parse_rest self.old (10 ∷ rest) ≡ Err e)) }
+        ensures size { OnOk result (size_of self.old + length rest.now < size_of self.new) }
+        ensures ok { OnOk result ((bytes : List ℕ) →
+            HasTaken self.old bytes → HasTaken self.new (bytes ++ (rest.now ++ 10 ∷ []))) }
+        ensures err { IfErr result (λ e. FaultOf self.old (rest.now ++ 10 ∷ []) e) }
         ensures text { IfErr result (λ e. e.what ≢ What.Read) }
         ensures memory { IfErr result (λ e. e.what ≡ What.Memory →
-            HasStopped self.old (10 ∷ []) e.line) }
+            StopsWithin self.old (rest.now ++ 10 ∷ []) e.line) }
     {
-        let line = self.line_number();
-        match step(self.stage, &self.line) {
-            Err(what) => Err(ScriptFault { line, what }),
-            Ok((stage, command)) => match keep(&mut self.commands, command) {
-                Err(what) => Err(ScriptFault { line, what }),
-                Ok(()) => {
-                    self.stage = stage;
-                    self.line.clear();
-                    Ok(())
-                }
-            },
+        if self.front.is_empty() {
+            return self.place.take(alloc, rest);
         }
+        self.extend(rest)?;
+        self.place.take(alloc, &self.front)?;
+        self.front.clear();
+        Ok(())
     }
-}
-
-impl ScriptReader {
-    ghost use Rattle.ck_script.specs.State.{parse_rest, size_of, HasStopped, IsWithinLimits};
 
     // Takes a block of bytes.
-    fn feed(&mut self, block: &[u8]) -> Result<(), ScriptFault>
+    fn feed(&mut self, alloc: Global, block: &[u8]) -> Result<(), ScriptFault>
         requires { IsWithinLimits self.old }
         ensures limits { OnOk result (IsWithinLimits self.new) }
         ensures size { OnOk result (size_of self.old + length block.now ≤ size_of self.new) }
-        ensures ok { OnOk result ((more : List ℕ) →
-            parse_rest self.new more ≡ parse_rest self.old (block.now ++ more)) }
-        ensures err { IfErr result (λ e. (more : List ℕ) →
-            OnTextFault e.what (parse_rest self.old (block.now ++ more) ≡ Err e)) }
+        ensures ok { OnOk result ((bytes : List ℕ) →
+            HasTaken self.old bytes → HasTaken self.new (bytes ++ block.now)) }
+        ensures err { IfErr result (λ e. FaultOf self.old block.now e) }
         ensures text { IfErr result (λ e. e.what ≢ What.Read) }
         ensures memory { IfErr result (λ e. e.what ≡ What.Memory →
-            HasStopped self.old block.now e.line) }
+            StopsWithin self.old block.now e.line) }
     {
         let mut rest = block;
         while let Some((line, after)) = cut_line(rest) {
-            match self.extend(line) {
-                Ok(()) => {}
-                Err(fault) => return Err(fault),
-            }
-            match self.end_line() {
-                Ok(()) => {}
-                Err(fault) => return Err(fault),
-            }
+            self.end_line(alloc, line)?;
             rest = after;
         }
         self.extend(rest)
     }
 
-    // Whether the input may end here.
-    fn is_complete(&self) -> bool
-        ensures { result ≡ is_complete self.now.stage self.now.line.items }
-    {
-        match self.stage {
-            Stage::After => self.line.is_empty(),
-            Stage::Header | Stage::Settings | Stage::Block => false,
-        }
-    }
-
-    // The commands, where the input ends here.
+    // The script, where the input ends here.
     fn finish(self) -> Result<Script, ScriptFault>
         requires { IsWithinLimits self }
-        ensures parse { IsParsed (λ s. s.commands.items) result (parse_rest self []) }
-        ensures text { IfErr result (λ e. e.what ≢ What.Read) }
-        ensures memory { IfErr result (λ e. e.what ≢ What.Memory) }
+        ensures ok { IfOk result (λ s. (bytes : List ℕ) →
+            HasTaken self bytes → Spells bytes (said_of s)) }
+        ensures err { IfErr result (λ e. (bytes : List ℕ) →
+            HasTaken self bytes → first_fault bytes ≡ Some e) }
+        ensures text { IfErr result (λ e. e.what ≡ What.Truncated) }
     {
-        if self.is_complete() {
-            return Ok(Script {
-                commands: self.commands,
-            });
+        let fault = self.place.fault(What::Truncated);
+        if !self.front.is_empty() {
+            return Err(fault);
         }
-        let line = self.line_number();
-        Err(ScriptFault {
-            line,
-            what: What::Truncated,
-        })
-    }
-
-    // A reader before the first byte.
-    fn new(alloc: Global) -> Self
-        ensures limits { IsWithinLimits result }
-        ensures whole { (bytes : List ℕ) → parse_rest result bytes ≡ parse bytes }
-    {
-        ScriptReader {
-            stage: Stage::Header,
-            line: Vec::new(alloc),
-            commands: Vec::new(alloc),
+        match self.place.stage.script() {
+            Some(script) => Ok(script),
+            None => Err(fault),
         }
     }
 }
@@ -216,8 +189,10 @@ const BLOCK: usize = 4096;
 // Reads to the end of the source.
 fn read_all<R: Source>(alloc: Global, source: &mut R) -> Result<Script, ScriptFault>
     requires { R.has_failed source.old ≡ false }
-    ensures parse { IfSome (R.left source.old) (λ bytes.
-        IsParsed (λ s. s.commands.items) result (parse bytes)) }
+    ensures spelled { IfOk result (λ s.
+        IfSome (R.left source.old) (λ bytes. Spells bytes (said_of s))) }
+    ensures fault { IfErr result (λ e. IfSome (R.left source.old) (λ bytes.
+        OnTextFault e.what (first_fault bytes ≡ Some e))) }
     ensures works { OnOk result (R.has_failed source.new ≡ false) }
     ensures failed { IfErr result (λ e. (e.what ≡ What.Read) ↔ (R.has_failed source.new ≡ true)) }
     ensures cut { IfErr result (λ e. e.what ≡ What.Read →
@@ -229,15 +204,9 @@ fn read_all<R: Source>(alloc: Global, source: &mut R) -> Result<Script, ScriptFa
     let mut block = [0; BLOCK];
     loop {
         match source.read(&mut block) {
-            Err(_) => {
-                let line = reader.line_number();
-                return Err(ScriptFault {
-                    line,
-                    what: What::Read,
-                });
-            }
+            Err(_) => return Err(reader.place.fault(What::Read)),
             Ok(0) => return reader.finish(),
-            Ok(n) => match reader.feed(&block[..n]) {
+            Ok(n) => match reader.feed(alloc, &block[..n]) {
                 Ok(()) => {}
                 Err(fault) => return Err(fault),
             },
@@ -254,7 +223,7 @@ pub fn read_script<R: Source>(alloc: Global, source: &mut R) -> Result<Script, S
     requires { R.has_failed source.old ≡ false }
     // What is read is in the grammar.
     ensures spelled { IfSome (R.left source.old) (λ bytes.
-        IfOk result (λ s. Spells bytes s.commands.items)) }
+        IfOk result (λ s. Spells bytes (said_of s))) }
     // A fault of the text is the first one.
     ensures fault { IfSome (R.left source.old) (λ bytes.
         IfErr result (λ e. OnTextFault e.what (first_fault bytes ≡ Some e))) }

@@ -18,6 +18,7 @@ use Rattle.ck_model.proofs.Buckets.{index_lower, second_lower}
 use Rattle.ck_model.proofs.Numbered.{in_held, one_content, if_same, if_else}
 use Rattle.ck_model.proofs.Belongs.{found_entry}
 use Rattle.ck_model.proofs.Found.{bound_where, bound_from}
+pub use Rattle.ck_model.proofs.Rows.{rows_held, power_held}
 use Rattle.ck_model.proofs.Writes.{stands}
 use Rattle.ck_stripe.specs.Stripe.{StripeState, HasBucket}
 use Rattle.ck_section.specs.declared.place.KeyPlace.{KeyPlace}
@@ -79,13 +80,6 @@ module _ {V : Type 0} where
     power = λ j l. two.power j (subst (λ n. j < n) (sym one.count) l) ∙ one.power j l;
   }
 
-  -- the rows of a held stripe
-  pub rows_held : (hs : Stripes V) (t : ℕ) (c : Content V) → AreDistinct (numbers hs) → Holds hs t c → rows_of hs t ≡ c.rows
-  rows_held [] t c apart h = absurd h
-  rows_held (x ∷ xs) t c apart h = ⊎_elim
-      (λ (e : (x.0 ≡ t) × (x.1 ≡ c)). if_same x.0 t x.1.rows (rows_of xs t) e.0 ∙ ap (λ (d : Content V). d.rows) e.1)
-      (λ r. if_else x.0 t x.1.rows (rows_of xs t) (λ e. apart.0 (subst (λ n. IsIn n (numbers xs)) (sym e) (in_held xs t c r))) ∙ rows_held xs t c apart.1 r) h
-
   -- a slot of a held stripe is one of the contents
   pub slot_held : (stripes : List (StripeState V)) (i b j : ℕ) → AreDistinct (numbers (contents_of stripes)) → i < length stripes → HasBucket (stripe_at stripes i) b → (s : ℕ) → (stripe_at stripes i).s ≡ s
       → row_at (rows_of (contents_of stripes) (b % 2 ^ s)) (b / 2 ^ s) ≡ bucket_at stripes i b
@@ -95,10 +89,6 @@ module _ {V : Type 0} where
       ap (λ n. row_at (rows_of (contents_of stripes) n) (b / 2 ^ s)) number
       ∙ ap (λ (rows : List (List (Slot V))). row_at rows (b / 2 ^ s)) (rows_held (contents_of stripes) t.number t.content apart (holds_at stripes i lt))
       ∙ ap (λ n. row_at t.content.rows (b / 2 ^ n)) (sym e)
-
-  pub power_held : (k : Layout) (hs : Stripes V) (t : ℕ) (c : Content V) → Lawful k hs → Holds hs t c → power_of hs ≡ c.power
-  power_held k [] t c lawful h = absurd h
-  power_held k (x ∷ xs) t c lawful h = lawful.one_power x.0 t x.1 c (inl (refl, refl)) h
 
   -- a bucket by its row and its stripe
   pub row_bucket : (t : StripeState V) (b s : ℕ) → HasBucket t b → t.s ≡ s → b / 2 ^ t.s * 2 ^ s + t.number ≡ b

@@ -7,3 +7,12 @@ pub mod Rebound
 pub mod Exchanged
 pub mod Kept
 pub mod AllStripes
+pub mod Doublings
+pub mod Followed
+pub mod Growing
+pub mod RoomMade
+pub mod Tables
+pub mod Searched
+pub mod Stepwise
+pub mod Doubled
+pub mod Table

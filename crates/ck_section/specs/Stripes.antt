@@ -5,7 +5,7 @@ use Rattle.ck_model.specs.Map.{Name}
 use Rattle.ck_model.specs.Slots.{Slot}
 use Rattle.ck_model.specs.declared.contents.Content.{Content}
 use Rattle.ck_stripe.specs.Doubling.{doubled_content}
-use Rattle.ck_stripe.specs.Stripe.{StripeState, HasBucket, bucket_of}
+use Rattle.ck_stripe.specs.Stripe.{StripeState, HasBucket, bucket_of, IsShaped}
 
 module _ {V : Type 0} where
   -- what stands for a stripe past the end
@@ -27,9 +27,21 @@ module _ {V : Type 0} where
   abbrev pub len_at : List (StripeState V) → ℕ → ℕ
   len_at stripes i = (stripe_at stripes i).content.ledger
 
+  -- stripe i has the shape of its number and power
+  abbrev pub IsShapedAt : List (StripeState V) → ℕ → Type 0
+  IsShapedAt stripes i = IsShaped (stripe_at stripes i).s (stripe_at stripes i).number (stripe_at stripes i).content
+
+  -- the stripes with no doubling left to carry out
+  abbrev pub settled_stripes : List (StripeState V) → List (StripeState V)
+  settled_stripes stripes = map (λ (stripe : StripeState V). record stripe { settled = true }) stripes
+
   -- the stripe at the next power, not yet settled
   abbrev pub doubled : (Name → ℕ) → StripeState V → StripeState V
   doubled hash t = record t { content = doubled_content hash t.s t.number t.content; settled = false }
+
+  -- each stripe so
+  abbrev pub doubled_stripes : (Name → ℕ) → List (StripeState V) → List (StripeState V)
+  doubled_stripes hash stripes = map (doubled hash) stripes
 
   -- the contents by the numbers of their stripes
   abbrev pub contents_of : List (StripeState V) → Stripes V

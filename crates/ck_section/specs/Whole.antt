@@ -11,3 +11,17 @@ module _ {V : Type 0} where
     pub number : (i : ℕ) → i < length stripes → (stripe_at stripes i).number ≡ i
     pub one_s : (i : ℕ) → i < length stripes → (stripe_at stripes i).s ≡ s
     pub settled : (i : ℕ) → i < length stripes → (stripe_at stripes i).settled ≡ true
+
+  -- no doubling is left to be carried out
+  abbrev pub AreSettled : List (StripeState V) → Type 0
+  AreSettled stripes = (i : ℕ) → i < length stripes → (stripe_at stripes i).settled ≡ true
+
+  -- The 2^s stripes of a table in the order of their numbers, of one power, settled or not.
+  pub record IsTable (s : ℕ) (stripes : List (StripeState V)) : Type 0 where
+    pub many : s ≤ 10
+    pub count : length stripes ≡ 2 ^ s
+    pub number : (i : ℕ) → i < length stripes → (stripe_at stripes i).number ≡ i
+    pub one_s : (i : ℕ) → i < length stripes → (stripe_at stripes i).s ≡ s
+    pub one_power : (i : ℕ) → i < length stripes → (stripe_at stripes i).content.power ≡ (stripe_at stripes 0).content.power
+    pub least : s ≤ (stripe_at stripes 0).content.power
+    pub most : (stripe_at stripes 0).content.power ≤ 26

@@ -4,8 +4,9 @@ ghost use Rattle.std.specs.Fn.{FnOnceReturnsAt};
 ghost use Rattle.ck_model.specs.Arithmetic.{partial_of};
 ghost use Rattle.ck_model.specs.Slots.{IsFull};
 ghost use Rattle.ck_bucket.specs.Bucket.{HasName, LacksName, partial_in};
+ghost use Rattle.ck_stripe.specs.Doubling.{SendsEach};
 ghost use Rattle.ck_stripe.specs.Stripe.{StripeState, IsReserved};
-ghost use Rattle.ck_section.specs.Stripes.{stripe_at, bucket_at, len_at, doubled, IsInReach};
+ghost use Rattle.ck_section.specs.Stripes.{stripe_at, bucket_at, len_at, doubled, IsShapedAt, IsInReach};
 ghost use Rattle.ck_section.specs.Places.{HasStripe, at, slot_in, set_slot, IsLowest};
 
 use ck_key::TableKey;
@@ -60,6 +61,7 @@ pub trait Held<K: TableKey, V> {
     fn len(&mut self, i: usize) -> u64
         requires { i < length (stripes self.old) }
         ensures value { result ≡ len_at (stripes self.old) i }
+        ensures shaped { IsShapedAt (stripes self.old) i }
         ensures same { stripes self.new ≡ stripes self.old }
         ensures stays { stays self.old self.new };
 
@@ -179,6 +181,9 @@ pub trait Held<K: TableKey, V> {
         requires power { (stripe_at (stripes self.old) i).content.power < 26 }
         ensures doubled { stripes self.new ≡ slice_set (stripes self.old) i
             (doubled K.hash (stripe_at (stripes self.old) i)) }
+        ensures sends { SendsEach K.hash (stripe_at (stripes self.old) i).s
+            (stripe_at (stripes self.old) i).number (stripe_at (stripes self.old) i).content
+            (stripe_at (stripes self.new) i).content }
         ensures stays { stays self.old self.new };
 
     ghost stays_same: { (s : Self) → stays s s };

@@ -1,23 +1,32 @@
-//! Decisions on stripes that a call holds: the calls on one key and on two, and one hop of a displacement. They are
-//! written once, over anything that is `Held`: a slice of stripes, and any other way to hold them.
+//! Decisions on stripes that a call holds: the calls on one key and on two, and one hop of a displacement; and of all
+//! stripes of a table, their doubling and how room for a key is made. They are written once, over anything that is `Held`:
+//! a slice of stripes, and any other way to hold them.
 #![tactic(auto)]
 
+mod double;
 mod entry;
 mod held;
 mod hop;
+mod listing;
 mod look;
 mod one_key;
+mod path;
 mod place;
+mod room;
 mod slice;
 mod two_keys;
 mod whole;
 
+pub use double::{double_all, len, settle_all};
 pub use entry::{Entry, find_entry};
 pub use held::Held;
 pub use hop::{Hop, make_hop, move_entry};
+pub use listing::export;
 pub use look::{key_place, sketch};
 pub use one_key::{assign, change, erase, erase_if, find, insert, update, upsert};
+pub use path::{find_path, follow_path};
 pub use place::{HeldBucket, HeldSlot, KeyPlace};
+pub use room::{Lack, make_room};
 pub use slice::Slice;
 pub use two_keys::update_two;
-pub use whole::{are_all, place_in_all};
+pub use whole::{are_all, find_in_all, place_in_all};

@@ -109,6 +109,7 @@ pub(crate) fn find_slot<K: TableKey, V, H: Held<K, V>>(
 }
 
 /// The lowest free slot of the key's first bucket, else of its alternate one.
+#[inline(always)]
 pub(crate) fn find_free<K: TableKey, V, H: Held<K, V>>(
     held: &mut H,
     place: KeyPlace,

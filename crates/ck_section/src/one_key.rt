@@ -44,6 +44,7 @@ where
 
 /// Binds the key of the entry where it is unbound, and says whether it was. A bound key keeps its value, and the one that
 /// was passed is dropped.
+#[inline(always)]
 pub fn insert<K: TableKey + Drop, V: Drop, H: Held<K, V>>(
     held: &mut H,
     place: KeyPlace,
@@ -69,6 +70,7 @@ pub fn insert<K: TableKey + Drop, V: Drop, H: Held<K, V>>(
 }
 
 /// Binds the key of the entry, and gives the value that it had.
+#[inline(always)]
 pub fn assign<K: TableKey + Drop, V: Drop, H: Held<K, V>>(
     held: &mut H,
     place: KeyPlace,
@@ -191,6 +193,7 @@ where
 
 /// Binds the key of the entry to the value where it is unbound, and else to what the closure makes of its value; says
 /// whether the key was unbound. Of closure and value the one that isn't used is dropped.
+#[inline(always)]
 pub fn upsert<K: TableKey + Drop, V: Drop, H: Held<K, V>, F: FnOnce(V) -> V>(
     held: &mut H,
     place: KeyPlace,

@@ -1,6 +1,13 @@
 //! Where a key may be among all stripes of a table, held as one slice.
-ghost use Rattle.std.specs.Prelude.{◌≡◌, ◌≤◌, ◌<◌, ◌^◌, MatchBool};
+ghost use Rattle.std.specs.Prelude.{◌≡◌, ◌≤◌, ◌<◌, ◌^◌, ℕ, true, Some, MatchBool, IfSome, IfNone};
+ghost use Rattle.std.specs.Option.{option_copied};
+ghost use Rattle.ck_model.specs.declared.history.Act.TheVariants.{Find};
+ghost use Rattle.ck_model.specs.declared.history.Reply.TheVariants.{Was};
 ghost use Rattle.ck_model.specs.Arithmetic.{partial_of, second_of};
+ghost use Rattle.ck_model.specs.Slots.{slot_at};
+ghost use Rattle.ck_bucket.specs.Bucket.{LacksName};
+ghost use Rattle.ck_stripe.specs.Stripe.{HasBucket, bucket_of};
+ghost use Rattle.ck_section.specs.Calls.{effect, IsCall};
 ghost use Rattle.ck_section.specs.Places.{IsPlaceOf};
 ghost use Rattle.ck_section.specs.Whole.{AreAll};
 
@@ -49,6 +56,53 @@ pub fn place_in_all<K: TableKey + Drop, V: Drop>(
             index: alternate,
             bucket: second(stripes[alternate].power(), partial, hash),
         },
+    }
+}
+
+/// The value of the key, which may be at this place among the stripes.
+pub fn find_in_all<'s, K: TableKey + Drop, V: Drop>(
+    stripes: &'s [Stripe<K, V>],
+    place: KeyPlace,
+    key: &K,
+) -> Option<&'s V>
+    requires { IsPlaceOf K.hash stripes.now (K.name key.now) place }
+    ensures { IsCall (effect K.hash (λ stripes. stripes) place stripes.now stripes.now)
+        (K.name key.now) Find (Was (option_copied result)) }
+{
+    let KeyPlace {
+        s: _,
+        partial,
+        first,
+        alternate,
+    } = place;
+    if let Some(value) = value_in(&stripes[first.index], first.bucket, key, partial) {
+        return Some(value);
+    }
+    if alternate.bucket == first.bucket {
+        return None;
+    }
+    value_in(&stripes[alternate.index], alternate.bucket, key, partial)
+}
+
+// The value of the key in bucket `b` of the stripe.
+fn value_in<'s, K: TableKey + Drop, V: Drop>(
+    stripe: &'s Stripe<K, V>,
+    b: u64,
+    key: &K,
+    partial: u8,
+) -> Option<&'s V>
+    requires settled { stripe.now.settled ≡ true }
+    requires own { HasBucket stripe.now b }
+    requires partial { partial ≡ partial_of (K.hash (K.name key.now)) }
+    ensures found { IfSome result (λ value. (slot : ℕ) × (slot < 4)
+        × (slot_at (bucket_of stripe.now b) slot ≡ Some (K.name key.now, value.now))) }
+    ensures absent { IfNone result (LacksName (bucket_of stripe.now b) (K.name key.now)) }
+{
+    let bucket = stripe.bucket(b);
+    let slot = bucket.look(key, partial)?;
+    match bucket.get(slot) {
+        Some((_, value)) => Some(value),
+        None => unreachable!(),
     }
 }
 

@@ -1,7 +1,7 @@
 -- Rows of slots are poured one after another into reserved room.
 use Rattle.std.proofs.Common.{◌≡◌, ℕ, ◌+◌, ◌<◌, ◌≤◌, List, [], ◌++◌, length, map, take, sym, ◌∙◌, ap, length-append, arith}
 use Rattle.std.specs.Prelude.{flat_map}
-use Rattle.std.proofs.lemmas.List.{length-map}
+use Rattle.std.proofs.lemmas.List.{length-map, length-take-le}
 use Rattle.std.proofs.lemmas.List.Folds.{length-flat_map-take}
 use Rattle.ck_model.specs.Map.{Name, named}
 use Rattle.ck_model.specs.Slots.{Slot, taken_in}
@@ -16,3 +16,10 @@ module _ {K V : Type 0} where
       let fewer = length-flat_map-take taken_in rows (length poured) [] more in
       let same = ap (λ (l : List (List (Slot V))). length (flat_map taken_in l)) first in
       omega arith
+
+  -- the same where the first n rows were poured
+  pub room_after : (name : K → Name) (pairs start : List (K × V)) (n : ℕ) (rows : List (List (Slot V))) (room : ℕ) → map (named name) pairs ≡ map (named name) start ++ flat_map taken_in (take n rows)
+      → n < length rows → length start + length (flat_map taken_in rows) + 4 ≤ room → length pairs + 4 ≤ room
+  room_after name pairs start n rows room seen more enough =
+      let long : length (take n rows) ≡ n = length-take-le n rows (omega arith) in
+      room_left name pairs start (take n rows) rows room seen (ap (λ m. take m rows) (sym long)) (omega arith) enough

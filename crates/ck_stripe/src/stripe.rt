@@ -6,7 +6,7 @@ ghost use Rattle.ck_model.specs.Arithmetic.{partial_of};
 ghost use Rattle.ck_model.specs.Map.{named};
 ghost use Rattle.ck_model.specs.Slots.{slot_at};
 ghost use Rattle.ck_model.specs.Contents.{Layout, pairs_in, IsSound};
-ghost use Rattle.ck_bucket.specs.Bucket.{ReplacesValue, ChangesValue};
+ghost use Rattle.ck_bucket.specs.Bucket.{ReplacesValue, ChangesValue, ClonesAreEqual};
 ghost use Rattle.ck_stripe.specs.Doubling.{split_rows, doubled_content, SendsEach};
 ghost use Rattle.ck_stripe.specs.Stripe.{HasBucket, bucket_of, with_bucket, with_slot, empty_content, IsShaped, IsReserved};
 
@@ -50,8 +50,16 @@ impl<K: TableKey + Drop, V: Drop> Stripe<K, V> {
         requires number { number < 2 ^ s }
         requires least { s ≤ power }
         requires most { power ≤ 26 }
-        ensures value { IfOk result (λ stripe. stripe ≡ record { number = number; s = s; content = empty_content s power; settled = true; room = 2 ^ (power - s) }) }
-        ensures sound { IfOk result (λ stripe. (k : Layout) → k.s ≡ s → power ≤ k.max → IsSound k number stripe.content) }
+        ensures value { IfOk result
+            (λ stripe. stripe ≡ record {
+              number = number;
+              s = s;
+              content = empty_content s power;
+              settled = true;
+              room = 2 ^ (power - s);
+            }) }
+        ensures sound { IfOk result
+            (λ stripe. (k : Layout) → k.s ≡ s → power ≤ k.max → IsSound k number stripe.content) }
     {
         let rows = 1usize << (power - s);
         let mut buckets = Vec::with_capacity(alloc, rows)?;
@@ -87,7 +95,8 @@ impl<K: TableKey + Drop, V: Drop> Stripe<K, V> {
         requires below { slot < 4 }
         requires free { slot_at (bucket_of self.old b) slot ≡ None }
         requires partial { partial ≡ partial_of (K.hash (K.name key)) }
-        ensures content { self.new.content ≡ with_slot self.old b slot (Some (K.name key, value)) (self.old.content.ledger + 1) }
+        ensures content { self.new.content
+            ≡ with_slot self.old b slot (Some (K.name key, value)) (self.old.content.ledger + 1) }
         ensures rest { self.new ≡ record self.old { content = self.new.content } }
     {
         let row = self.row(b);
@@ -102,7 +111,8 @@ impl<K: TableKey + Drop, V: Drop> Stripe<K, V> {
         requires below { slot < 4 }
         requires full { IsSome (slot_at (bucket_of self.old b) slot) }
         ensures entry { slot_at (bucket_of self.old b) slot ≡ Some (K.name result.0, result.1) }
-        ensures content { self.new.content ≡ with_slot self.old b slot None (self.old.content.ledger - 1) }
+        ensures content { self.new.content
+            ≡ with_slot self.old b slot None (self.old.content.ledger - 1) }
         ensures rest { self.new ≡ record self.old { content = self.new.content } }
     {
         let row = self.row(b);
@@ -117,8 +127,10 @@ impl<K: TableKey + Drop, V: Drop> Stripe<K, V> {
         requires own { HasBucket self.old b }
         requires below { slot < 4 }
         requires full { IsSome (slot_at (bucket_of self.old b) slot) }
-        ensures entry { ReplacesValue (bucket_of self.old b) (bucket_of self.new b) slot value result }
-        ensures content { self.new.content ≡ with_bucket self.old b (bucket_of self.new b) self.old.content.ledger }
+        ensures entry { ReplacesValue (bucket_of self.old b) (bucket_of self.new b) slot value
+            result }
+        ensures content { self.new.content
+            ≡ with_bucket self.old b (bucket_of self.new b) self.old.content.ledger }
         ensures rest { self.new ≡ record self.old { content = self.new.content } }
     {
         let row = self.row(b);
@@ -134,7 +146,8 @@ impl<K: TableKey + Drop, V: Drop> Stripe<K, V> {
         requires full { IsSome (slot_at (bucket_of self.old b) slot) }
         requires call { F.IsAlwaysCallable f }
         ensures entry { ChangesValue (F.post f) (bucket_of self.old b) (bucket_of self.new b) slot }
-        ensures content { self.new.content ≡ with_bucket self.old b (bucket_of self.new b) self.old.content.ledger }
+        ensures content { self.new.content
+            ≡ with_bucket self.old b (bucket_of self.new b) self.old.content.ledger }
         ensures rest { self.new ≡ record self.old { content = self.new.content } }
     {
         let row = self.row(b);
@@ -180,6 +193,7 @@ impl<K: TableKey + Drop, V: Drop> Stripe<K, V> {
     pub fn len(&self) -> u64
         ensures value { result ≡ self.now.content.ledger }
         ensures pairs { result ≡ length (pairs_in self.now.content) }
+        ensures shaped { IsShaped self.now.s self.now.number self.now.content }
     {
         self.ledger
     }
@@ -191,7 +205,8 @@ impl<K: TableKey + Drop, V: Drop> Stripe<K, V> {
         ensures same { self.new ≡ record self.old { room = self.new.room } }
         ensures room { self.old.room ≤ self.new.room }
         ensures ok { OnOk result (IsReserved self.new) }
-        ensures exact { OnOk result (self.new.room ≡ max self.old.room (2 * length self.old.content.rows)) }
+        ensures exact { OnOk result
+            (self.new.room ≡ max self.old.room (2 * length self.old.content.rows)) }
         ensures due { OnErr result (self.old.room < 2 * length self.old.content.rows) }
         ensures kept { OnErr result (self.new ≡ self.old) }
     {
@@ -205,10 +220,12 @@ impl<K: TableKey + Drop, V: Drop> Stripe<K, V> {
         requires settled { self.old.settled ≡ true }
         requires reserved { IsReserved self.old }
         requires power { self.old.content.power < 26 }
-        ensures content { self.new.content ≡ doubled_content K.hash self.old.s self.old.number self.old.content }
+        ensures content { self.new.content
+            ≡ doubled_content K.hash self.old.s self.old.number self.old.content }
         ensures rest { self.new ≡ record self.old { content = self.new.content; settled = false } }
         ensures pairs { IsPermutation (pairs_in self.old.content) (pairs_in self.new.content) }
-        ensures sends { SendsEach K.hash self.old.s self.old.number self.old.content self.new.content }
+        ensures sends { SendsEach K.hash self.old.s self.old.number self.old.content
+            self.new.content }
     {
         self.power += 1;
         self.settled = false;
@@ -235,8 +252,10 @@ impl<K: TableKey + Drop, V: Drop> Stripe<K, V> {
     /// Pushes its pairs, in the order of rows and slots, into reserved room for them and for four more.
     pub fn pour_reserved(self, pairs: &mut Vec<(K, V)>)
         requires settled { self.settled ≡ true }
-        requires room { vec_len pairs.old + length (pairs_in self.content) + 4 ≤ vec_capacity pairs.old }
-        ensures pairs { map (named K.name) pairs.new.items ≡ map (named K.name) pairs.old.items ++ pairs_in self.content }
+        requires room { vec_len pairs.old + length (pairs_in self.content) + 4
+            ≤ vec_capacity pairs.old }
+        ensures pairs { map (named K.name) pairs.new.items
+            ≡ map (named K.name) pairs.old.items ++ pairs_in self.content }
         ensures capacity { vec_capacity pairs.new ≡ vec_capacity pairs.old }
     {
         let Stripe {
@@ -251,6 +270,26 @@ impl<K: TableKey + Drop, V: Drop> Stripe<K, V> {
         for bucket in buckets {
             bucket.pour_reserved(pairs);
         }
+    }
+}
+
+impl<K: TableKey + Clone, V: Clone> Stripe<K, V> {
+    /// Pushes clones of its pairs, in the order of rows and slots, into reserved room for them and for four more. Where
+    /// there is no memory for a clone, the pairs before it were pushed.
+    pub fn clone_reserved(&self, pairs: &mut Vec<(K, V)>) -> Result<(), AllocError>
+        requires keys { ClonesAreEqual K.is_clone }
+        requires values { ClonesAreEqual V.is_clone }
+        requires settled { self.now.settled ≡ true }
+        requires room { vec_len pairs.old + length (pairs_in self.now.content) + 4
+            ≤ vec_capacity pairs.old }
+        ensures pairs { OnOk result (map (named K.name) pairs.new.items
+            ≡ map (named K.name) pairs.old.items ++ pairs_in self.now.content) }
+        ensures capacity { vec_capacity pairs.new ≡ vec_capacity pairs.old }
+    {
+        for bucket in &self.buckets {
+            bucket.clone_reserved(pairs)?;
+        }
+        Ok(())
     }
 }
 

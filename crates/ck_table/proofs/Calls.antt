@@ -13,11 +13,11 @@ use Rattle.ck_model.specs.declared.history.Act.TheVariants.{Find, Erase}
 use Rattle.ck_model.specs.declared.history.Call.{Call}
 use Rattle.ck_model.specs.declared.history.Entry.{Entry}
 use Rattle.ck_model.specs.declared.history.Reply.{Reply}
-use Rattle.ck_model.specs.declared.history.Reply.TheVariants.{Was}
-use Rattle.ck_model.specs.declared.history.Why.{Why}
+use Rattle.ck_model.specs.declared.history.Reply.TheVariants.{Was, New, Done}
+use Rattle.ck_model.specs.declared.history.Reason.{Reason}
 use Rattle.ck_model.specs.declared.settings.Settings.{Settings}
 use Rattle.ck_model.specs.Map.{Name}
-use Rattle.ck_model.specs.Contents.{Stripes, Lawful}
+use Rattle.ck_model.specs.Contents.{Lawful}
 use Rattle.ck_model.specs.Sections.{Section}
 use Rattle.ck_model.proofs.Histories.{calls_by-append}
 use Rattle.ck_stripe.specs.Stripe.{StripeState}
@@ -29,11 +29,15 @@ use Rattle.ck_core.specs.declared.view.View.{View}
 use Rattle.ck_core.specs.Laws.{Answered}
 use Rattle.ck_words.specs.Words.{WordsState}
 use Rattle.ck_words.specs.Passes.{PassState, IsUnchanged, numbers_of}
-use Rattle.ck_words.specs.Retries.{Stays, StaysBut, FindsAmong}
+use Rattle.ck_words.specs.Retries.{Stays, StaysBut, FindsAmong, IsBusy}
 use Rattle.ck_words.specs.Answering.{HasDone, IsAnswered, IsAnsweredBut}
-use Rattle.ck_words.proofs.AreHeld.{pair_of}
+use Rattle.ck_words.specs.Renewing.{HasRenewed}
+use Rattle.ck_words.proofs.Renewals.{renewed_none, done_then}
+use Rattle.ck_words.specs.Passes.{pair}
+use Rattle.ck_table.specs.declared.room.Room.{Room}
 use Rattle.ck_table.specs.Holding.{HoldsKeyBut, HoldsKey}
-use Rattle.ck_table.specs.Refusals.{FindsOwn}
+use Rattle.ck_table.specs.Insertions.{HasRoom}
+use Rattle.ck_table.specs.Refusals.{FindsOwn, IsBusyAt}
 
 joined_on : {A : Type 0} (a b c d x : List A) → x ≡ a ++ b → x ++ c ++ d ≡ a ++ (b ++ c) ++ d
 joined_on a b c d x e = ap (λ l. l ++ d) (ap (λ l. l ++ c) e ∙ append_assoc a b c)
@@ -47,7 +51,7 @@ module _ {V : Type 0} where
   IsStep hash s old new call reply = (max : ℕ) → Lawful (layout hash s max) (contents_of old) → Section (layout hash s max) (contents_of old) call reply (contents_of new)
 
   -- the call was answered after the stripes were taken
-  answered_since : (more : List (Name × Why)) (p p1 p2 z : PassState V) → StaysBut more p.view p1.view → p2.view ≡ p1.view → (call : Call V) (reply : Reply V) → IsAnswered call reply p2 z → IsAnsweredBut more call reply p z
+  pub answered_since : (more : List (Name × Reason)) (p p1 p2 z : PassState V) → StaysBut more p.view p1.view → p2.view ≡ p1.view → (call : Call V) (reply : Reply V) → IsAnswered call reply p2 z → IsAnsweredBut more call reply p z
   answered_since more p p1 p2 z s same call reply a =
       let e : Entry V = record { by = a.by; call = call; reply = reply } in
       let told : Answered p1.view e z.view = subst (λ (v : View V). Answered v e z.view) same a.answered in
@@ -91,19 +95,40 @@ holds_then {V} {hash} {set} {q} {place} p p1 stays both unchanged at s p2 stripe
   unchanged = ap contents_of stripes ∙ (unchanged ∙ ap (λ (x : View V). reverse x.held) (sym view));
 }
 
--- The pass held the stripes of a name as p1, and was p2 after the call. w and v are one table.
-module _ {V : Type 0} {hash : Name → ℕ} {w v : WordsState} {q : Name} {place : KeyPlace} {more : List (Name × Why)} {p p1 : PassState V}
+-- The pass held stripes as p1, which were renewed since they were taken, and was p2 after the call. w and v are one table.
+module _ {V : Type 0} {hash : Name → ℕ} {w v : WordsState} {s : ℕ} {more : List (Name × Reason)} (p p1 : PassState V)
+    (is : v ≡ w) (stays : StaysBut more p.view p1.view) (of_table : s ≡ w.settings.s) (renewed : HasRenewed hash w.settings p1) (p2 : PassState V) (same : p2.view ≡ p1.view) {call call1 : Call V} (named : call1 ≡ call) where
+  does_since : (reply : Reply V) → IsStep hash s p1.stripes p2.stripes call reply → HasDone hash v.settings call1 reply p2
+  does_since reply step =
+      let here = subst (λ n. Lawful (layout hash n w.settings.max) (contents_of p1.stripes) → Section (layout hash n w.settings.max) (contents_of p1.stripes) call reply (contents_of p2.stripes)) of_table (step w.settings.max) in
+      let done : HasDone hash w.settings call reply p2 = done_then hash w.settings p1 p2 (ap (λ (x : View V). x.held) same) renewed call reply here in
+      subst (λ (x : WordsState × Call V). HasDone hash x.0.settings x.1 reply p2) (λ i. (sym is i, sym named i)) done
+
+  says_since : {z : PassState V} → ((r : Reply V) → HasDone hash v.settings call1 r p2 → IsAnswered call1 r p2 z) → (reply : Reply V) → IsStep hash s p1.stripes p2.stripes call reply → IsAnsweredBut more call reply p z
+  says_since {z} told reply step = answered_since more p p1 p2 z stays same call reply (subst (λ (x : Call V). IsAnswered x reply p2 z) named (told reply (does_since reply step)))
+
+-- The pass held the stripes of a name.
+module _ {V : Type 0} {hash : Name → ℕ} {w v : WordsState} {q : Name} {place : KeyPlace} {more : List (Name × Reason)} {p p1 : PassState V}
     (is : v ≡ w) (held : HoldsKeyBut more hash w.settings q place p p1) (p2 : PassState V) (same : p2.view ≡ p1.view) {call call1 : Call V} (named : call1 ≡ call) where
+  renewed : HasRenewed hash w.settings p1
+  renewed = renewed_none hash w.settings p1 held.unchanged
+
   -- what the call did to the stripes is what their pass has done
   pub does : (reply : Reply V) → IsStep hash place.s p1.stripes p2.stripes call reply → HasDone hash v.settings call1 reply p2
-  does reply step =
-      let old : contents_of p1.stripes ≡ reverse p2.view.held = held.unchanged ∙ ap (λ (x : View V). reverse x.held) (sym same) in
-      let done : HasDone hash w.settings call reply p2 = subst (λ (x : ℕ × Stripes V). Lawful (layout hash x.0 w.settings.max) x.1 → Section (layout hash x.0 w.settings.max) x.1 call reply (contents_of p2.stripes)) (λ j. (held.s j, old j)) (step w.settings.max) in
-      subst (λ (x : WordsState × Call V). HasDone hash x.0.settings x.1 reply p2) (λ i. (sym is i, sym named i)) done
+  does = does_since p p1 is held.stays held.s renewed p2 same named
 
   -- and is what the pass was answered by its commit
   pub says : {z : PassState V} → ((r : Reply V) → HasDone hash v.settings call1 r p2 → IsAnswered call1 r p2 z) → (reply : Reply V) → IsStep hash place.s p1.stripes p2.stripes call reply → IsAnsweredBut more call reply p z
-  says {z} told reply step = answered_since more p p1 p2 z held.stays same call reply (subst (λ (x : Call V). IsAnswered x reply p2 z) named (told reply (does reply step)))
+  says = says_since p p1 is held.stays held.s renewed p2 same named
+
+-- The pass held stripes with room for a name.
+module _ {V : Type 0} {hash : Name → ℕ} (w : WordsState) {q : Name} {room : Room} {p p1 : PassState V} (has : HasRoom hash w.settings q room p p1)
+    (p2 : PassState V) (same : p2.view ≡ p1.view) {call call1 : Call V} (named : call1 ≡ call) where
+  pub does_there : (reply : Reply V) → IsStep hash room.spot.place.s p1.stripes p2.stripes call reply → HasDone hash w.settings call1 reply p2
+  does_there = does_since {w = w} {v = w} p p1 refl has.stays has.held.s has.held.renewed p2 same named
+
+  pub says_there : {z : PassState V} → ((r : Reply V) → HasDone hash w.settings call1 r p2 → IsAnswered call1 r p2 z) → (reply : Reply V) → IsStep hash room.spot.place.s p1.stripes p2.stripes call reply → IsAnsweredBut has.more call reply p z
+  says_there = says_since {w = w} {v = w} p p1 refl has.stays has.held.s has.held.renewed p2 same named
 
 -- what is said of a value, and of none
 pub by_option : {A : Type 0} (o : Option A) (P : A → Type 0) (Q C : Type 0) → IfSome o P → IfNone o Q → ((a : A) → P a → C) → (Q → C) → C
@@ -114,6 +139,11 @@ pub map_option : {A : Type 0} (o : Option A) (P R : A → Type 0) (Q S : Type 0)
 map_option None P R Q S p q f g = g q
 map_option (Some a) P R Q S p q f g = f a p
 
+-- what is said of a value, and of an error
+pub by_result : {A E : Type 0} (r : Result A E) (P : A → Type 0) (Q : E → Type 0) (C : Type 0) → IfOk r P → IfErr r Q → ((a : A) → P a → C) → ((e : E) → Q e → C) → C
+by_result (Ok a) P Q C p q f g = f a p
+by_result (Err e) P Q C p q f g = g e q
+
 -- what is said of a success, and of a failure
 pub by_bool : (b : Bool) (P Q C : Type 0) → MatchBool b P Q → (P → C) → (Q → C) → C
 by_bool true P Q C h f g = f h
@@ -122,6 +152,16 @@ by_bool false P Q C h f g = g h
 pub map_bool : (b : Bool) (P Q R S : Type 0) → MatchBool b P Q → (P → R) → (Q → S) → MatchBool b R S
 map_bool true P Q R S h f g = f h
 map_bool false P Q R S h f g = g h
+
+-- the reply that an upsert tells by its answer, where P holds with a reply, and R of a value and what it became
+module _ {V : Type 0} (P : Reply V → Type 0) (R : V → V → Type 0) where
+  pub done_or_new : (b : Bool) → MatchBool b (P New) ((v w : V) × R v w × P (Done v w)) → (r : Reply V) × MatchBool b (r ≡ New) ((v w : V) × R v w × (r ≡ Done v w)) × P r
+  done_or_new true h = (New, refl, h)
+  done_or_new false h = (Done h.0 h.1, (h.0, h.1, h.2, refl), h.3)
+
+  pub as_told : (b : Bool) (r : Reply V) → MatchBool b (r ≡ New) ((v w : V) × R v w × (r ≡ Done v w)) → P r → MatchBool b (P New) ((v w : V) × R v w × P (Done v w))
+  as_told true r e h = subst P e h
+  as_told false r e h = (e.0, e.1, e.2, subst P e.3 h)
 
 -- D is what a call with a reply has done, and R what the closure of `erase_fn` answers for a value
 module _ {V F : Type 0} (D : Act V → Reply V → Type 0) (R : V → Bool → Type 0) (X : F → Type 0) (Y : Type 0) where
@@ -146,10 +186,14 @@ has_of : {V : Type 0} (ss : List (StripeState V)) (t : ℕ) → IsIn t (numbers_
 has_of [] t z = absurd z
 has_of (s ∷ ss) t i = ⊎_elim (λ (e : s.number ≡ t). (zero, omega arith, e)) (λ r. let x = has_of ss t r in (suc x.0, omega arith, x.2)) i
 
-in_pair : (low high t : ℕ) → (t ≡ low) ⊎ (t ≡ high) → IsIn t (pair_of low high)
+in_pair : (low high t : ℕ) → (t ≡ low) ⊎ (t ≡ high) → IsIn t (pair low high)
 in_pair low high t h = dite (ℕ_discrete low high)
     (λ e. subst (IsIn t) (sym (if_same low high (low ∷ []) (low ∷ high ∷ []) e)) (inl (⊎_elim (λ (a : t ≡ low). sym a) (λ b. e ∙ sym b) h)))
     (λ ne. subst (IsIn t) (sym (if_else low high (low ∷ []) (low ∷ high ∷ []) ne)) (⊎_elim (λ (a : t ≡ low). inl (sym a)) (λ b. inr (inl (sym b))) h))
+
+-- one of the two stripes that are held
+pub has_in_pair : {V : Type 0} (ss : List (StripeState V)) (low high t : ℕ) → numbers_of ss ≡ pair low high → (t ≡ low) ⊎ (t ≡ high) → HasStripe ss t
+has_in_pair ss low high t named h = has_of ss t (subst (IsIn t) (sym named) (in_pair low high t h))
 
 either_of : (a b low high t : ℕ) → low ≡ min a b → high ≡ max a b → (t ≡ low) ⊎ (t ≡ high) → (t ≡ a) ⊎ (t ≡ b)
 either_of a b low high t l h e = dite (dec_le a b)
@@ -166,7 +210,7 @@ module _ {hash : Name → ℕ} (set : Settings) {q : Name} {s low high : ℕ} {h
   highest = is_high ∙ λ j. max (index_of (same j) (hashed.value j)) (second_of (same j) (hashed.value j))
 
   -- the two stripes are those of the name
-  pub has_both : {V : Type 0} (ss : List (StripeState V)) → numbers_of ss ≡ pair_of low high → HasBoth hash set.s ss q
+  pub has_both : {V : Type 0} (ss : List (StripeState V)) → numbers_of ss ≡ pair low high → HasBoth hash set.s ss q
   has_both ss named =
       let a = index_of set.s (hash q) in
       let b = second_of set.s (hash q) in
@@ -175,9 +219,16 @@ module _ {hash : Name → ℕ} (set : Settings) {q : Name} {s low high : ℕ} {h
       let one : (a ≡ low) ⊎ (a ≡ high) = dite (dec_le a b) (λ k. inl (omega arith)) (λ n. inr (omega arith)) in
       let two : (b ≡ low) ⊎ (b ≡ high) = dite (dec_le a b) (λ k. inr (omega arith)) (λ n. inl (omega arith)) in
       record {
-        first = has_of ss a (subst (IsIn a) (sym named) (in_pair low high a one));
-        alternate = has_of ss b (subst (IsIn b) (sym named) (in_pair low high b two));
+        first = has_in_pair ss low high a named one;
+        alternate = has_in_pair ss low high b named two;
       }
 
   pub finds_own : {V : Type 0} (p p2 : PassState V) → FindsAmong (λ t. (t ≡ low) ⊎ (t ≡ high)) p p2 → FindsOwn hash set q p p2
   finds_own p p2 f = (f.0, f.1, (λ t i. either_of (index_of set.s (hash q)) (second_of set.s (hash q)) low high t lowest highest (f.2 t i)))
+
+  pub busy_own : {V : Type 0} (p p2 : PassState V) (t : ℕ) → Stays p.view p2.view → IsBusy set.turns t p p2 → (t ≡ low) ⊎ (t ≡ high) → IsBusyAt hash set q t p p2
+  busy_own p p2 t stays busy asked = record {
+    stays = stays;
+    stripe = either_of (index_of set.s (hash q)) (second_of set.s (hash q)) low high t lowest highest asked;
+    tried = busy.1;
+  }

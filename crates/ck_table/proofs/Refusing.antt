@@ -1,12 +1,12 @@
 -- What a refused insertion leaves of its pass.
-use Rattle.std.proofs.Common.{◌≡◌, ◌⊎◌, ℕ, zero, suc, ◌<◌, ◌^◌, length, List, [], ◌∷◌, ⊎_elim, inl, inr, sym, refl, ap, ◌∙◌, subst, append-nil, arith, Some}
-use Rattle.std.proofs.lemmas.List.Elements.{All-nil, All-cons}
-use Rattle.ck_model.specs.declared.history.Why.{Why}
-use Rattle.ck_model.specs.declared.history.Why.TheVariants.{NoRoom}
+use Rattle.std.proofs.Common.{◌≡◌, ℕ, zero, suc, ◌<◌, ◌^◌, length, List, [], ◌∷◌, ⊎_elim, inl, inr, sym, refl, ap, ◌∙◌, subst, append-nil, arith, Some}
+use Rattle.std.proofs.lemmas.List.Elements.{All-nil}
+use Rattle.ck_model.specs.declared.history.Reason.{Reason}
+use Rattle.ck_model.specs.declared.history.Reason.TheVariants.{NoRoom}
 use Rattle.ck_model.specs.declared.settings.Settings.{Settings}
 use Rattle.ck_model.specs.Map.{Name}
 use Rattle.ck_model.specs.Numbered.{IsIn, numbers}
-use Rattle.ck_model.specs.Contents.{Lawful}
+use Rattle.ck_model.specs.Contents.{IsStripeOf, Lawful}
 use Rattle.ck_model.specs.Sections.{Owns}
 use Rattle.ck_model.specs.Paths.{HasNoRoom}
 use Rattle.ck_model.proofs.Buckets.{index_below, second_below}
@@ -24,10 +24,16 @@ use Rattle.ck_words.specs.Passes.{PassState, Sends}
 use Rattle.ck_words.specs.Retries.{Stays, StaysBut}
 use Rattle.ck_words.proofs.Staying.{stays_then}
 use Rattle.ck_words.proofs.Rows.{give_row}
-use Rattle.ck_table.specs.declared.refusal.Why.TheVariants.{Busy, Full}
+use Rattle.ck_table.specs.declared.refusal.Why.TheVariants.{Busy}
 use Rattle.ck_table.specs.Holding.{HoldsKeyBut}
-use Rattle.ck_table.specs.Refusals.{FindsOwn, IsBusyAt}
-use Rattle.ck_table.specs.Insertions.{reason_of, HasFoundNoRoom, IsRefused, FindsOwnUnlessFull}
+use Rattle.ck_table.specs.Refusals.{FindsOwn, IsBusyAmong, IsBusyAt}
+use Rattle.ck_table.specs.Insertions.{HasFoundNoRoom, IsRefused, FindsOwnUnlessFull}
+
+-- a stripe of the name is one of the table
+pub own_below : (hash : Name → ℕ) (set : Settings) (q : Name) (t : ℕ) → IsStripeOf (layout_of hash set) q t → t < 2 ^ set.s
+own_below hash set q t of = ⊎_elim
+    (λ e. subst (λ n. n < 2 ^ set.s) (sym e) (index_below set.s (hash q)))
+    (λ e. subst (λ n. n < 2 ^ set.s) (sym e) (second_below set.s (hash q))) of
 
 module _ {V : Type 0} where
   held_number : (ss : List (StripeState V)) (t i : ℕ) → i < length ss → (stripe_at ss i).number ≡ t → IsIn t (numbers (contents_of ss))
@@ -42,7 +48,7 @@ module _ {V : Type 0} where
       (λ e. held_number ss t both.alternate.0 both.alternate.1 (both.alternate.2 ∙ sym e)) of
 
   -- where the name has no room among the stripes that its pass holds, the pass may say so
-  pub excused : {hash : Name → ℕ} {w v : WordsState} {q : Name} {place : KeyPlace} {more : List (Name × Why)} {p p1 : PassState V} → v ≡ w → HoldsKeyBut more hash w.settings q place p p1
+  pub excused : {hash : Name → ℕ} {w v : WordsState} {q : Name} {place : KeyPlace} {more : List (Name × Reason)} {p p1 : PassState V} → v ≡ w → HoldsKeyBut more hash w.settings q place p p1
       → (p2 : PassState V) → p2.stripes ≡ p1.stripes → IsWithoutRoom hash place.s p1.stripes q
       → Lawful (layout_of hash v.settings) (contents_of p2.stripes) → Owns (layout_of hash v.settings) (contents_of p2.stripes) q × HasNoRoom (layout_of hash v.settings) (contents_of p2.stripes) q
   excused {hash} {w} {v} {q} {place} {more} {p} {p1} is held p2 same room =
@@ -66,23 +72,17 @@ module _ {V : Type 0} where
   pub told_since : (q : Name) (p p1 p2 z : PassState V) → Stays p.view p1.view → p2.view ≡ p1.view → HasFoundNoRoom q p2 z → HasFoundNoRoom q p z
   told_since q p p1 p2 z s same h = stays_then [] ((q, NoRoom) ∷ []) p.view p1.view z.view s (subst (λ (v : View V). StaysBut ((q, NoRoom) ∷ []) v z.view) same h)
 
-  pub refused_full : (set : Settings) (q : Name) (p z : PassState V) → HasFoundNoRoom q p z → IsRefused set q Full p z
-  refused_full set q p z told =
-      let Own : Name × Why → Type 0 = λ x. (x ≡ (q, NoRoom)) ⊎ (x ≡ (q, reason_of Full)) in
-      record { more = (q, NoRoom) ∷ []; stays = told; own = All-cons Own (q, NoRoom) [] (inl refl) (All-nil Own); shown = inl (0, omega arith, refl) }
-
-  pub refused_busy : (hash : Name → ℕ) (set : Settings) (q : Name) (t : ℕ) (p z : PassState V) → IsBusyAt hash set q t p z → IsRefused set q (Busy t) p z
-  refused_busy hash set q t p z busy = record {
+  -- a stripe of the table was found held
+  pub refused_among : (P : ℕ → Type 0) (set : Settings) → ((t : ℕ) → P t → t < 2 ^ set.s) → (q : Name) (t : ℕ) (p z : PassState V) → IsBusyAmong P set.turns t p z → IsRefused set q (Busy t) p z
+  refused_among P set below q t p z busy = record {
     more = [];
     stays = busy.stays;
     own = All-nil _;
-    shown = (
-      ⊎_elim
-          (λ e. subst (λ n. n < 2 ^ set.s) (sym e) (index_below set.s (hash q)))
-          (λ e. subst (λ n. n < 2 ^ set.s) (sym e) (second_below set.s (hash q))) busy.stripe,
-      busy.tried,
-    );
+    shown = (below t busy.stripe, busy.tried);
   }
+
+  pub refused_busy : (hash : Name → ℕ) (set : Settings) (q : Name) (t : ℕ) (p z : PassState V) → IsBusyAt hash set q t p z → IsRefused set q (Busy t) p z
+  refused_busy hash set q = refused_among (IsStripeOf (layout_of hash set) q) set (own_below hash set q) q
 
   -- what was found held is of the name, also where the pass has found no other since
   pub found_own : (hash : Name → ℕ) (set : Settings) (q : Name) (p p1 z : PassState V) → FindsOwn hash set q p p1 → z.view.found ≡ p1.view.found → FindsOwnUnlessFull hash set q p z

@@ -1,20 +1,22 @@
 -- What contracts see of a caller, and what its calls leave of it.
-use Rattle.std.specs.Prelude.{◌≡◌, ℕ, List, map, Option, Some, None, Bool, MatchOption, MatchBool, if◌then◌else◌}
+use Rattle.std.specs.Prelude.{◌≡◌, ℕ, List, map, Option, Some, None, Result, Bool, MatchOption, MatchBool, if◌then◌else◌}
 use Rattle.ck_model.specs.declared.history.Act.{Act}
 use Rattle.ck_model.specs.declared.history.Act.TheVariants.{Find, Insert, Assign, Upsert, Update, Change, Erase}
 use Rattle.ck_model.specs.declared.history.Call.{Call}
-use Rattle.ck_model.specs.declared.history.Call.TheVariants.{On, ChangeTwo}
+use Rattle.ck_model.specs.declared.history.Call.TheVariants.{On, ChangeTwo, Len}
 use Rattle.ck_model.specs.declared.history.Reply.{Reply}
-use Rattle.ck_model.specs.declared.history.Reply.TheVariants.{Was, New, Old, Done, DoneTwo, Absent}
+use Rattle.ck_model.specs.declared.history.Reply.TheVariants.{Was, New, Old, Done, DoneTwo, Absent, Count}
 use Rattle.ck_model.specs.Map.{Name}
 use Rattle.ck_words.specs.Words.{WordsState}
 use Rattle.ck_words.specs.Passes.{PassState}
 use Rattle.ck_words.specs.Retries.{FindsAmong}
 use Rattle.ck_words.specs.Answering.{IsAnswered}
 use Rattle.ck_table.specs.declared.refusal.Busy.{Busy}
+use Rattle.ck_table.specs.declared.refusal.GrowFault.{GrowFault}
 use Rattle.ck_table.specs.declared.refusal.Refused.{Refused}
-use Rattle.ck_table.specs.Refusals.{FindsOwn, IsBusyAt, IsBusyAmong, IsStripeOfEither}
+use Rattle.ck_table.specs.Refusals.{FindsOwn, IsBusyAt, IsBusyAmong, IsStripeIn, IsStripeOfEither}
 use Rattle.ck_table.specs.Insertions.{IsInserted, IsRefused, FindsOwnUnlessFull}
+use Rattle.ck_table.specs.Growth.{Rehashes, Reserves}
 
 -- Its table, and its pass.
 pub record CallerState (V : Type 0) : Type 0 where
@@ -92,6 +94,18 @@ module _ {V : Type 0} where
       MatchOption answer (Finds q c d None)
       (λ gone. (v : V) × returns v gone × MatchBool gone (Erases q c d (Some v)) (Finds q c d (Some v)))
 
+  -- so many names were bound
+  abbrev pub Counts : CallerState V → CallerState V → ℕ → Type 0
+  Counts c d count = Replies Len (Count count) c d
+
+  -- the table was to have 2^power buckets at least
+  abbrev pub GrowsTo : ℕ → Result Bool GrowFault → CallerState V → CallerState V → Type 0
+  GrowsTo power result c d = Rehashes c.table.settings power result c.pass d.pass
+
+  -- the table was to have n slots at least
+  abbrev pub GrowsFor : ℕ → Result Bool GrowFault → CallerState V → CallerState V → Type 0
+  GrowsFor n result c d = Reserves c.table.settings n result c.pass d.pass
+
   -- no stripe was found held but those of the name
   abbrev pub FindsHeldOwn : (Name → ℕ) → Name → CallerState V → CallerState V → Type 0
   FindsHeldOwn hash q c d = FindsOwn hash c.table.settings q c.pass d.pass
@@ -104,6 +118,10 @@ module _ {V : Type 0} where
   abbrev pub FindsHeldOfTwo : (Name → ℕ) → Name → Name → CallerState V → CallerState V → Type 0
   FindsHeldOfTwo hash q r c d = FindsAmong (IsStripeOfEither hash c.table.settings q r) c.pass d.pass
 
+  -- no stripe was found held but those of the table
+  abbrev pub FindsHeldOfAny : CallerState V → CallerState V → Type 0
+  FindsHeldOfAny c d = FindsAmong (IsStripeIn c.table.settings) c.pass d.pass
+
   -- the call on the name was refused, since this stripe was busy
   abbrev pub IsBusyOn : (Name → ℕ) → Name → CallerState V → CallerState V → Busy → Type 0
   IsBusyOn hash q c d busy = IsBusyAt hash c.table.settings q busy.0 c.pass d.pass
@@ -113,7 +131,20 @@ module _ {V : Type 0} where
   IsBusyOnTwo hash q r c d busy =
       IsBusyAmong (IsStripeOfEither hash c.table.settings q r) c.table.settings.turns busy.0 c.pass d.pass
 
+  -- the call on all stripes was refused, since this one was busy
+  abbrev pub IsBusyOnAny : CallerState V → CallerState V → Busy → Type 0
+  IsBusyOnAny c d busy =
+      IsBusyAmong (IsStripeIn c.table.settings) c.table.settings.turns busy.0 c.pass d.pass
+
   -- the insertion was refused, and key and value came back
   abbrev pub ComesBack : {K : Type 0} → Name → K → V → CallerState V → CallerState V → Refused K V → Type 0
   ComesBack q key value c d e =
       (e.key ≡ key) × (e.value ≡ value) × IsRefused c.table.settings q e.why c.pass d.pass
+
+  -- the call was refused, since it found this stripe held, which is such a one
+  abbrev pub IsBusyOnSome : (ℕ → Type 0) → CallerState V → CallerState V → Busy → Type 0
+  IsBusyOnSome P c d busy = IsBusyAmong P c.table.settings.turns busy.0 c.pass d.pass
+
+  -- no stripe was found held but such ones
+  abbrev pub FindsHeldAmong : (ℕ → Type 0) → CallerState V → CallerState V → Type 0
+  FindsHeldAmong P c d = FindsAmong P c.pass d.pass

@@ -1,6 +1,6 @@
 -- A pass while a call holds the stripes of its key.
 use Rattle.std.specs.Prelude.{◌≡◌, ℕ, List, []}
-use Rattle.ck_model.specs.declared.history.Why.{Why}
+use Rattle.ck_model.specs.declared.history.Reason.{Reason}
 use Rattle.ck_model.specs.declared.settings.Settings.{Settings}
 use Rattle.ck_model.specs.Map.{Name}
 use Rattle.ck_section.specs.declared.place.KeyPlace.{KeyPlace}
@@ -11,7 +11,7 @@ use Rattle.ck_words.specs.Retries.{StaysBut}
 module _ {V : Type 0} where
   -- Since p the pass has taken the stripes of the name, and has settled them. The name may be at this place among them.
   -- It has said of these names more that they found no room.
-  pub record HoldsKeyBut (more : List (Name × Why)) (hash : Name → ℕ) (set : Settings) (q : Name) (place : KeyPlace) (p p2 : PassState V) : Type 0 where
+  pub record HoldsKeyBut (more : List (Name × Reason)) (hash : Name → ℕ) (set : Settings) (q : Name) (place : KeyPlace) (p p2 : PassState V) : Type 0 where
     pub stays : StaysBut more p.view p2.view
     pub both : HasBoth hash set.s p2.stripes q
     pub at : IsPlaceOf hash p2.stripes q place

@@ -1,29 +1,34 @@
 -- What an insertion leaves of its pass. Before it is answered or refused it may find its name without room, and say so.
-use Rattle.std.specs.Prelude.{◌≡◌, ◌⊎◌, ℕ, ◌<◌, ◌^◌, List, [], ◌∷◌, ◌++◌, All, Contains}
+use Rattle.std.specs.Prelude.{◌≡◌, ◌⊎◌, ℕ, ◌<◌, ◌^◌, if◌then◌else◌, List, [], ◌∷◌, ◌++◌, All, Contains}
 use Rattle.ck_model.specs.declared.history.Act.{Act}
 use Rattle.ck_model.specs.declared.history.Call.TheVariants.{On}
 use Rattle.ck_model.specs.declared.history.Reply.{Reply}
-use Rattle.ck_model.specs.declared.history.Why as history
-use Rattle.ck_model.specs.declared.history.Why.TheVariants as reason
+use Rattle.ck_model.specs.declared.history.Reason as history
+use Rattle.ck_model.specs.declared.history.Reason.TheVariants as reason
 use Rattle.ck_model.specs.declared.settings.Settings.{Settings}
 use Rattle.ck_model.specs.Map.{Name}
 use Rattle.ck_model.specs.Contents.{IsStripeOf}
+use Rattle.ck_section.specs.Places.{IsPlaceOf}
 use Rattle.ck_section.specs.Entries.{IsEntryOf}
-use Rattle.ck_table.specs.declared.holding.Room.{Room}
+use Rattle.ck_table.specs.declared.room.Room.{Room}
 use Rattle.ck_table.specs.declared.refusal.Why.{Why}
 use Rattle.ck_table.specs.declared.refusal.Why.TheVariants.{Busy, Memory, Full, LoadTooLow}
-use Rattle.ck_words.specs.Rule.{layout_of}
-use Rattle.ck_words.specs.Passes.{PassState}
+use Rattle.ck_words.specs.Rule.{counting, layout_of}
+use Rattle.ck_words.specs.Passes.{PassState, pair}
 use Rattle.ck_words.specs.Retries.{StaysBut, FindsAmong, FindsLast}
 use Rattle.ck_words.specs.Answering.{IsAnsweredBut}
-use Rattle.ck_table.specs.Holding.{HoldsKeyBut}
+use Rattle.ck_words.specs.Renewing.{HasRenewed}
 
 -- Why the name was without room, as the history has it. A busy insertion has no other reason than that its buckets were full.
-abbrev pub reason_of : Why → history.Why
+abbrev pub reason_of : Why → history.Reason
 reason_of (Busy t) = reason.NoRoom
 reason_of Memory = reason.Memory
 reason_of Full = reason.Full
 reason_of LoadTooLow = reason.LoadTooLow
+
+-- the numbers of the stripes that are held with the room: all of the table, or those of the key
+abbrev pub numbers_in : Room → List ℕ
+numbers_in room = if room.all then counting 0 (2 ^ room.spot.place.s) else pair room.spot.low room.spot.high
 
 module _ {V : Type 0} where
   -- the pass has said that the name was unbound and its buckets were full
@@ -33,34 +38,40 @@ module _ {V : Type 0} where
   -- The insertion is answered. It has said nothing of room but that its name's buckets were full.
   abbrev pub IsInserted : Name → Act V → Reply V → PassState V → PassState V → Type 0
   IsInserted q act reply p p2 =
-      (more : List (Name × history.Why)) × All (λ x. x ≡ (q, reason.NoRoom)) more × IsAnsweredBut more (On q act) reply p p2
+      (more : List (Name × history.Reason)) × All (λ x. x ≡ (q, reason.NoRoom)) more × IsAnsweredBut more (On q act) reply p p2
 
-  -- The pass holds the stripes of the name, with its entry. It has said nothing of room but that its name's buckets were full.
+  -- The stripes that the pass holds were renewed since they were taken. The name may be at this place among them, and has this entry there.
+  pub record HoldsRoom (hash : Name → ℕ) (set : Settings) (q : Name) (room : Room) (p : PassState V) : Type 0 where
+    pub at : IsPlaceOf hash p.stripes q room.spot.place
+    pub s : room.spot.place.s ≡ set.s
+    pub entry : IsEntryOf hash p.stripes q room.spot.place room.entry
+    pub renewed : HasRenewed hash set p
+
+  -- Since p the pass has taken stripes, with an entry of the name among them. It has said nothing of room but that its name's buckets were full.
   pub record HasRoom (hash : Name → ℕ) (set : Settings) (q : Name) (room : Room) (p p2 : PassState V) : Type 0 where
-    pub more : List (Name × history.Why)
+    pub more : List (Name × history.Reason)
     pub own : All (λ x. x ≡ (q, reason.NoRoom)) more
-    pub held : HoldsKeyBut more hash set q room.place p p2
-    pub entry : IsEntryOf hash p2.stripes q room.place room.entry
+    pub stays : StaysBut more p.view p2.view
+    pub held : HoldsRoom hash set q room p2
 
   -- among what it has said of room since is that the name's buckets were full
   abbrev pub SaysNoRoom : Name → PassState V → PassState V → Type 0
-  SaysNoRoom q p p2 = (more : List (Name × history.Why)) × (p2.view.noroom ≡ more ++ p.view.noroom) × Contains more (q, reason.NoRoom)
+  SaysNoRoom q p p2 = (more : List (Name × history.Reason)) × (p2.view.noroom ≡ more ++ p.view.noroom) × Contains more (q, reason.NoRoom)
 
   -- the pass found no stripe held but those of the name, or any once the name's buckets were full
   abbrev pub FindsOwnUnlessFull : (Name → ℕ) → Settings → Name → PassState V → PassState V → Type 0
   FindsOwnUnlessFull hash set q p p2 = FindsAmong (λ t. IsStripeOf (layout_of hash set) q t ⊎ SaysNoRoom q p p2) p p2
 
   -- what was found, or said of room, where an insertion is refused for this reason
-  abbrev pub ShowsWhy : Settings → Name → Why → List (Name × history.Why) → PassState V → PassState V → Type 0
+  abbrev pub ShowsWhy : Settings → Name → Why → List (Name × history.Reason) → PassState V → PassState V → Type 0
   ShowsWhy set q (Busy t) more p p2 = (t < 2 ^ set.s) × FindsLast set.turns t p p2
   ShowsWhy set q Memory more p p2 = Contains more (q, reason.Memory)
-  -- Once full buckets make it search, this is `Full` alone.
-  ShowsWhy set q Full more p p2 = Contains more (q, reason.NoRoom) ⊎ Contains more (q, reason.Full)
+  ShowsWhy set q Full more p p2 = Contains more (q, reason.Full)
   ShowsWhy set q LoadTooLow more p p2 = Contains more (q, reason.LoadTooLow)
 
   -- The insertion was refused for this reason, and has no entry. It has said nothing of room but that its name's buckets were full, and the reason.
   pub record IsRefused (set : Settings) (q : Name) (why : Why) (p p2 : PassState V) : Type 0 where
-    pub more : List (Name × history.Why)
+    pub more : List (Name × history.Reason)
     pub stays : StaysBut more p.view p2.view
     pub own : All (λ x. (x ≡ (q, reason.NoRoom)) ⊎ (x ≡ (q, reason_of why))) more
     pub shown : ShowsWhy set q why more p p2

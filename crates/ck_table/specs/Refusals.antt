@@ -1,15 +1,29 @@
 -- What a call that is refused as busy leaves of its pass.
-use Rattle.std.specs.Prelude.{◌⊎◌, ℕ}
+use Rattle.std.specs.Prelude.{◌⊎◌, ℕ, ◌<◌, ◌^◌}
 use Rattle.ck_model.specs.declared.settings.Settings.{Settings}
 use Rattle.ck_model.specs.Map.{Name}
 use Rattle.ck_model.specs.Contents.{IsStripeOf}
+use Rattle.ck_section.specs.declared.room.Lack as lack
+use Rattle.ck_section.specs.declared.room.Lack.TheVariants.{Memory, Full, LoadTooLow}
+use Rattle.ck_table.specs.declared.refusal.Why as refusal
+use Rattle.ck_table.specs.declared.refusal.Why.TheVariants as why
 use Rattle.ck_words.specs.Rule.{layout_of}
 use Rattle.ck_words.specs.Passes.{PassState}
 use Rattle.ck_words.specs.Retries.{Stays, FindsAmong, FindsLast}
 
+-- a stripe of the table
+abbrev pub IsStripeIn : Settings → ℕ → Type 0
+IsStripeIn set t = t < 2 ^ set.s
+
 -- a stripe of one of the two names
 abbrev pub IsStripeOfEither : (Name → ℕ) → Settings → Name → Name → ℕ → Type 0
 IsStripeOfEither hash set q r t = IsStripeOf (layout_of hash set) q t ⊎ IsStripeOf (layout_of hash set) r t
+
+-- why a key is refused where the table lacks this to make room for it
+abbrev pub why_of : lack.Lack → refusal.Why
+why_of Memory = why.Memory
+why_of Full = why.Full
+why_of LoadTooLow = why.LoadTooLow
 
 module _ {V : Type 0} where
   -- the pass found no stripe held but those of the name

@@ -1,10 +1,11 @@
 //! A caller: the table, and a pass of its own.
-ghost use Rattle.std.specs.Prelude.{◌≡◌, ◌≢◌, All, map, IfOk, IfErr};
+ghost use Rattle.std.specs.Prelude.{◌≡◌, ◌≢◌, All, map, OnOk, IfOk, IfErr};
 ghost use Rattle.std.specs.Fn.{FnOnceReturnsAt};
 ghost use Rattle.ck_words.specs.Closing.{IsCaller};
 ghost use Rattle.ck_words.specs.Meeting.{Meets};
 
-use crate::refusal::{Busy, Refused};
+use crate::locked::LockedTable;
+use crate::refusal::{Busy, GrowFault, Refused};
 use crate::table::Table;
 use ck_key::TableKey;
 use ck_words::Pass;
@@ -65,7 +66,10 @@ impl<'t, K: TableKey + Drop, V: Drop> Caller<'t, K, V> {
     ghost use Rattle.ck_table.specs.Callers.{IsSameCaller, Finds, FindsBound, FindsBy, Inserts, Assigns};
     ghost use Rattle.ck_table.specs.Callers.{Upserts, Updates, Changes, ChangesTwo, Erases, ErasesBy};
     ghost use Rattle.ck_table.specs.Callers.{FindsHeldOwn, FindsHeldUnlessFull, FindsHeldOfTwo};
-    ghost use Rattle.ck_table.specs.Callers.{IsBusyOn, IsBusyOnTwo, ComesBack};
+    ghost use Rattle.ck_table.specs.Callers.{IsBusyOn, IsBusyOnTwo, IsBusyOnSome, FindsHeldAmong, ComesBack};
+    ghost use Rattle.ck_words.specs.Retries.{Stays};
+    ghost use Rattle.ck_table.specs.Callers.{Counts, GrowsTo, GrowsFor, IsBusyOnAny, FindsHeldOfAny};
+    ghost use Rattle.ck_table.specs.Locking.{HasLocked};
 
     /// The table.
     pub fn table(&self) -> &'t Table<K, V>
@@ -85,6 +89,10 @@ impl<'t, K: TableKey + Drop, V: Drop> Caller<'t, K, V> {
 
     /// The value that is bound to the key; `None` where the key is unbound. Refused as busy, it changes nothing. It is
     /// `Table::find`.
+    ///
+    /// ```
+    /// let value: Option<u64> = caller.find(&NumKey(5))?;
+    /// ```
     #[inline(always)]
     pub fn find(&mut self, key: &K) -> Result<Option<V>, Busy>
     where
@@ -99,6 +107,10 @@ impl<'t, K: TableKey + Drop, V: Drop> Caller<'t, K, V> {
 
     /// What the closure answers for the value of the key; `None` where the key is unbound. Refused as busy, it changes
     /// nothing, and the closure is dropped. It is `Table::find_fn`.
+    ///
+    /// ```
+    /// let half: Option<u64> = caller.find_fn(&NumKey(5), |value: &u64| *value / 2)?;
+    /// ```
     #[inline(always)]
     pub fn find_fn<R, F: FnOnce(&V) -> R>(&mut self, key: &K, f: F) -> Result<Option<R>, Busy>
     where
@@ -114,6 +126,10 @@ impl<'t, K: TableKey + Drop, V: Drop> Caller<'t, K, V> {
     }
 
     /// Whether the key is bound. Refused as busy, it changes nothing. It is `Table::contains`.
+    ///
+    /// ```
+    /// let bound: bool = caller.contains(&NumKey(5))?;
+    /// ```
     #[inline(always)]
     pub fn contains(&mut self, key: &K) -> Result<bool, Busy>
         ensures same { IsSameCaller self.old self.new }
@@ -124,8 +140,15 @@ impl<'t, K: TableKey + Drop, V: Drop> Caller<'t, K, V> {
         self.table.contains(&mut self.pass, key)
     }
 
-    /// Binds the key to the value where it is unbound, and says whether it was. Refused, it changes no binding and hands
-    /// key and value back. It is `Table::insert`.
+    /// Binds the key to the value where it is unbound, and says whether it was. The table may grow for it. Refused, it
+    /// changes no binding and hands key and value back. It is `Table::insert`.
+    ///
+    /// ```
+    /// match caller.insert(NumKey(5), 50) {
+    ///     Ok(fresh) => println!(rt; "{}", if fresh { "new" } else { "old" })?,
+    ///     Err(refused) => println!(rt; "{} comes back: {refused}", refused.value)?,
+    /// }
+    /// ```
     #[inline(always)]
     pub fn insert(&mut self, key: K, value: V) -> Result<bool, Refused<K, V>>
         ensures same { IsSameCaller self.old self.new }
@@ -136,8 +159,12 @@ impl<'t, K: TableKey + Drop, V: Drop> Caller<'t, K, V> {
         self.table.insert(&mut self.pass, key, value)
     }
 
-    /// Binds the key to the value, and gives the value that it had. Refused, it changes no binding and hands key and value
-    /// back. It is `Table::insert_or_assign`.
+    /// Binds the key to the value, and gives the value that it had. The table may grow for it. Refused, it changes no
+    /// binding and hands key and value back. It is `Table::insert_or_assign`.
+    ///
+    /// ```
+    /// let old: Option<u64> = caller.insert_or_assign(NumKey(5), 51)?;
+    /// ```
     #[inline(always)]
     pub fn insert_or_assign(&mut self, key: K, value: V) -> Result<Option<V>, Refused<K, V>>
         ensures same { IsSameCaller self.old self.new }
@@ -149,7 +176,12 @@ impl<'t, K: TableKey + Drop, V: Drop> Caller<'t, K, V> {
     }
 
     /// Binds an unbound key to the value, and a bound one to what the closure makes of its value; says whether the key was
-    /// unbound. Refused, it changes no binding, drops the closure and hands key and value back. It is `Table::upsert`.
+    /// unbound. The table may grow for it. Refused, it changes no binding, drops the closure and hands key and value back.
+    /// It is `Table::upsert`.
+    ///
+    /// ```
+    /// let fresh = caller.upsert(NumKey(word), |count| count.saturating_add(1), 1)?;
+    /// ```
     #[inline(always)]
     pub fn upsert<F: FnOnce(V) -> V>(
         &mut self,
@@ -170,6 +202,12 @@ impl<'t, K: TableKey + Drop, V: Drop> Caller<'t, K, V> {
 
     /// Binds a bound key to another value, and gives the one that it had; `None` where the key is unbound. Refused as busy,
     /// it changes nothing and hands the value back. It is `Table::update`.
+    ///
+    /// ```
+    /// if let Err((value, busy)) = caller.update(&NumKey(5), 52) {
+    ///     println!(rt; "{value} comes back: {busy}")?;
+    /// }
+    /// ```
     #[inline(always)]
     pub fn update(&mut self, key: &K, value: V) -> Result<Option<V>, (V, Busy)>
         ensures same { IsSameCaller self.old self.new }
@@ -184,6 +222,10 @@ impl<'t, K: TableKey + Drop, V: Drop> Caller<'t, K, V> {
 
     /// Binds a bound key to what the closure makes of its value, and says whether the key is bound. Refused as busy, it
     /// changes nothing, and the closure is dropped. It is `Table::update_fn`.
+    ///
+    /// ```
+    /// let bound = caller.update_fn(&NumKey(5), |value| value / 2)?;
+    /// ```
     #[inline(always)]
     pub fn update_fn<F: FnOnce(V) -> V>(&mut self, key: &K, f: F) -> Result<bool, Busy>
     where
@@ -199,6 +241,10 @@ impl<'t, K: TableKey + Drop, V: Drop> Caller<'t, K, V> {
 
     /// Binds two different bound keys to what the closure makes of their two values in one step, and says whether both are
     /// bound. Refused as busy, it changes nothing, and the closure is dropped. It is `Table::update_two`.
+    ///
+    /// ```
+    /// let paid = caller.update_two(&payer, &payee, |a, b| if 0 < a && b < u64::MAX { (a - 1, b + 1) } else { (a, b) })?;
+    /// ```
     #[inline(always)]
     pub fn update_two<F: FnOnce(V, V) -> (V, V)>(
         &mut self,
@@ -222,6 +268,10 @@ impl<'t, K: TableKey + Drop, V: Drop> Caller<'t, K, V> {
 
     /// Unbinds the key, and gives the value that it had; `None` where it is unbound. Refused as busy, it changes nothing. It
     /// is `Table::erase`.
+    ///
+    /// ```
+    /// let value: Option<u64> = caller.erase(&NumKey(5))?;
+    /// ```
     #[inline(always)]
     pub fn erase(&mut self, key: &K) -> Result<Option<V>, Busy>
         ensures same { IsSameCaller self.old self.new }
@@ -234,6 +284,10 @@ impl<'t, K: TableKey + Drop, V: Drop> Caller<'t, K, V> {
 
     /// Unbinds a bound key where the closure answers true for its value, and gives the closure's answer; `None` where the
     /// key is unbound. Refused as busy, it changes nothing, and the closure is dropped. It is `Table::erase_fn`.
+    ///
+    /// ```
+    /// let gone: Option<bool> = caller.erase_fn(&NumKey(5), |value: &u64| *value == 0)?;
+    /// ```
     #[inline(always)]
     pub fn erase_fn<F: FnOnce(&V) -> bool>(&mut self, key: &K, f: F) -> Result<Option<bool>, Busy>
     where
@@ -248,8 +302,79 @@ impl<'t, K: TableKey + Drop, V: Drop> Caller<'t, K, V> {
         self.table.erase_fn(&mut self.pass, key, f)
     }
 
+    /// The power: the table has 2^power buckets of four slots. Refused as busy, it changes nothing. It is `Table::power`.
+    #[inline(always)]
+    pub fn power(&mut self) -> Result<u32, Busy>
+        ensures same { IsSameCaller self.old self.new }
+        ensures stays { OnOk result (Stays self.old.pass.view self.new.pass.view) }
+        ensures told { IfOk result (λ power. power ≡ self.new.pass.view.told) }
+        ensures busy { IfErr result (IsBusyOnSome (λ t. t ≡ 0) self.old self.new) }
+        ensures found { FindsHeldAmong (λ t. t ≡ 0) self.old self.new }
+    {
+        self.table.power(&mut self.pass)
+    }
+
+    /// How many keys are bound. Refused as busy, it changes nothing. It is `Table::len`.
+    pub fn len(&mut self) -> Result<u64, Busy>
+        ensures same { IsSameCaller self.old self.new }
+        ensures answered { IfOk result (Counts self.old self.new) }
+        ensures busy { IfErr result (IsBusyOnAny self.old self.new) }
+        ensures found { FindsHeldOfAny self.old self.new }
+    {
+        self.table.len(&mut self.pass)
+    }
+
+    /// Doubles the table until it has 2^power buckets, and says whether it had fewer. Refused as busy or as `OverMax`, it
+    /// changes nothing; refused for want of memory, it may have doubled the table some times. It is `Table::rehash`.
+    pub fn rehash(&mut self, power: u32) -> Result<bool, GrowFault>
+        ensures same { IsSameCaller self.old self.new }
+        ensures stays { Stays self.old.pass.view self.new.pass.view }
+        ensures rehashed { GrowsTo power result self.old self.new }
+        ensures found { FindsHeldOfAny self.old self.new }
+    {
+        self.table.rehash(&mut self.pass, power)
+    }
+
+    /// Doubles the table until it has `n` slots, and says whether it had fewer. It is refused as `rehash` is. It is
+    /// `Table::reserve`.
+    ///
+    /// ```
+    /// match caller.reserve(1_000_000) {
+    ///     Ok(grown) => println!(rt; "{}", if grown { "grown" } else { "large enough" })?,
+    ///     Err(GrowFault::OverMax) => println!(rt; "the table may not have a million slots")?,
+    ///     Err(fault) => println!(rt; "not now: {fault}")?,
+    /// }
+    /// ```
+    pub fn reserve(&mut self, n: u64) -> Result<bool, GrowFault>
+        ensures same { IsSameCaller self.old self.new }
+        ensures stays { Stays self.old.pass.view self.new.pass.view }
+        ensures reserved { GrowsFor n result self.old self.new }
+        ensures found { FindsHeldOfAny self.old self.new }
+    {
+        self.table.reserve(&mut self.pass, n)
+    }
+
+    /// Locks the table. Refused as busy, it changes nothing, and the caller comes back. It is `Table::lock_table`, and
+    /// `Table::caller` makes a caller again of the pass that `LockedTable::unlock` gives.
+    pub fn lock(self) -> Result<LockedTable<'t, K, V>, (Caller<'t, K, V>, Busy)>
+        ensures locked { IfOk result (HasLocked self.entry.table self.entry.pass) }
+        ensures same { IfErr result (λ back. IsSameCaller self.entry back.0) }
+        ensures busy { IfErr result (λ back. IsBusyOnAny self.entry back.0 back.1) }
+        ensures found { IfErr result (λ back. FindsHeldOfAny self.entry back.0) }
+    {
+        let Caller { table, pass } = self;
+        match table.lock_table(pass) {
+            Ok(locked) => Ok(locked),
+            Err((pass, busy)) => Err((table.caller(pass), busy)),
+        }
+    }
+
     /// Tells the other caller of this table what this one has seen: that is then a beginning of what the other has seen. It
     /// is `Table::meet`.
+    ///
+    /// ```
+    /// first.meet(&mut second);
+    /// ```
     #[inline(always)]
     pub fn meet(&mut self, other: &mut Caller<'t, K, V>)
         requires { self.old.table ≡ other.old.table }

@@ -29,17 +29,20 @@ impl<K: TableKey + Drop, V: Drop> Table<K, V> {
             × IsBusyAt K.hash self.now.settings (K.name key.now) back.1.0 pass.old pass.new) }
         ensures found { FindsOwn K.hash self.now.settings (K.name key.now) pass.old pass.new }
     {
-        let place = match self.hold_key(pass, key) {
-            Ok(place) => place,
+        let spot = match self.hold_key(pass, key) {
+            Ok(spot) => spot,
             Err(busy) => return Err((value, busy)),
         };
         let said = Commit::Update(Snapshot::of(key), Snapshot::of(&value));
         let mut lent = Lent {
             words: &self.words,
             pass,
+            numbers: spot.numbers(),
+            s: spot.place.s,
         };
-        let old = update(&mut lent, place, key, value);
-        self.words.commit(lent.pass, said);
+        let old = update(&mut lent, spot.place, key, value);
+        let Lent { pass, .. } = lent;
+        self.words.commit(pass, spot.low, spot.high, said);
         Ok(old)
     }
 
@@ -66,14 +69,16 @@ impl<K: TableKey + Drop, V: Drop> Table<K, V> {
             IsBusyAt K.hash self.now.settings (K.name key.now) busy.0 pass.old pass.new) }
         ensures found { FindsOwn K.hash self.now.settings (K.name key.now) pass.old pass.new }
     {
-        let place = self.hold_key(pass, key)?;
+        let spot = self.hold_key(pass, key)?;
         let mut lent = Lent {
             words: &self.words,
             pass,
+            numbers: spot.numbers(),
+            s: spot.place.s,
         };
-        let bound = change(&mut lent, place, key, f);
-        self.words
-            .commit(lent.pass, Commit::Change(Snapshot::of(key)));
+        let bound = change(&mut lent, spot.place, key, f);
+        let Lent { pass, .. } = lent;
+        self.words.commit(pass, spot.low, spot.high, Commit::Change(Snapshot::of(key)));
         Ok(bound)
     }
 
@@ -87,14 +92,16 @@ impl<K: TableKey + Drop, V: Drop> Table<K, V> {
             IsBusyAt K.hash self.now.settings (K.name key.now) busy.0 pass.old pass.new) }
         ensures found { FindsOwn K.hash self.now.settings (K.name key.now) pass.old pass.new }
     {
-        let place = self.hold_key(pass, key)?;
+        let spot = self.hold_key(pass, key)?;
         let mut lent = Lent {
             words: &self.words,
             pass,
+            numbers: spot.numbers(),
+            s: spot.place.s,
         };
-        let value = erase(&mut lent, place, key);
-        self.words
-            .commit(lent.pass, Commit::Erase(Snapshot::of(key)));
+        let value = erase(&mut lent, spot.place, key);
+        let Lent { pass, .. } = lent;
+        self.words.commit(pass, spot.low, spot.high, Commit::Erase(Snapshot::of(key)));
         Ok(value)
     }
 
@@ -122,17 +129,22 @@ impl<K: TableKey + Drop, V: Drop> Table<K, V> {
             IsBusyAt K.hash self.now.settings (K.name key.now) busy.0 pass.old pass.new) }
         ensures found { FindsOwn K.hash self.now.settings (K.name key.now) pass.old pass.new }
     {
-        let place = self.hold_key(pass, key)?;
+        let spot = self.hold_key(pass, key)?;
         let mut lent = Lent {
             words: &self.words,
             pass,
+            numbers: spot.numbers(),
+            s: spot.place.s,
         };
-        let gone = erase_if(&mut lent, place, key, f).ok();
+        let gone = erase_if(&mut lent, spot.place, key, f).ok();
+        let Lent { pass, .. } = lent;
         let said = Snapshot::of(key);
         if gone.unwrap_or(false) {
-            self.words.commit(lent.pass, Commit::Erase(said));
+            self.words
+                .commit(pass, spot.low, spot.high, Commit::Erase(said));
         } else {
-            self.words.commit(lent.pass, Commit::Find(said));
+            self.words
+                .commit(pass, spot.low, spot.high, Commit::Find(said));
         }
         Ok(gone)
     }

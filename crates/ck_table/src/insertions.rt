@@ -1,23 +1,34 @@
 //! Calls that may bind an unbound key.
 ghost use Rattle.std.specs.Prelude.{◌≡◌, if◌then◌else◌, IfOk, IfErr, MatchBool};
 ghost use Rattle.ck_model.specs.declared.history.Act.TheVariants.{Insert, Assign, Upsert};
+ghost use Rattle.ck_model.specs.declared.history.Reply.{Reply};
 ghost use Rattle.ck_model.specs.declared.history.Reply.TheVariants.{Was, New, Old, Done};
 ghost use Rattle.ck_words.specs.Closing.{IsCaller};
-ghost use Rattle.ck_table.specs.Insertions.{IsInserted, IsRefused, FindsOwnUnlessFull};
+ghost use Rattle.ck_words.specs.Passes.{IsPassOf, numbers_of};
+ghost use Rattle.ck_table.specs.Displacing.{IsKeptOut};
+ghost use Rattle.ck_table.specs.Insertions.{numbers_in, HasRoom, IsInserted, IsRefused, FindsOwnUnlessFull};
+ghost use Rattle.ck_table.specs.Refusals.{FindsOwn};
 
-use crate::refusal::Refused;
+use crate::entries;
+use crate::entries::Insertion;
+use crate::holding::Obstacle;
+use crate::refusal::{Refused, Why};
+use crate::room::Room;
 use crate::table::Table;
 use ck_key::TableKey;
-use ck_section::{assign, insert, upsert};
-use ck_words::{Commit, Lent, Pass};
+use ck_words::{Lent, Pass};
 use std::snapshot::Snapshot;
 
 impl<K: TableKey + Drop, V: Drop> Table<K, V> {
     /// Binds the key to the value where it is unbound, and says whether it was. A bound key keeps its value, and the one
     /// that was passed is dropped.
     ///
-    /// Refused, it changes no binding and hands key and value back: as `Busy`, or as `Full` where the key is unbound and
-    /// both its buckets are full.
+    /// Where both buckets of an unbound key are full, other entries are displaced to make room, and where that is of no
+    /// avail the table doubles, under all stripes; neither changes a binding.
+    ///
+    /// Refused, it changes no binding and hands key and value back: as `Busy`, or where no displacement makes room and the
+    /// table doesn't grow, as `Full` at its greatest power, as `LoadTooLow` where too few slots are taken, or as `Memory`.
+    /// The table may have grown all the same.
     pub fn insert(&self, pass: &mut Pass<K, V>, key: K, value: V) -> Result<bool, Refused<K, V>>
         requires caller { IsCaller self.now pass.old }
         ensures caller { IsCaller self.now pass.new }
@@ -27,24 +38,17 @@ impl<K: TableKey + Drop, V: Drop> Table<K, V> {
             × IsRefused self.now.settings (K.name key) e.why pass.old pass.new) }
         ensures found { FindsOwnUnlessFull K.hash self.now.settings (K.name key) pass.old pass.new }
     {
-        let room = match self.hold_with_room(pass, &key) {
-            Ok(room) => room,
-            Err(why) => return Err(Refused { key, value, why }),
-        };
-        let said = Commit::Insert(Snapshot::of(&key), Snapshot::of(&value));
-        let mut lent = Lent {
-            words: &self.words,
-            pass,
-        };
-        let fresh = insert(&mut lent, room.place, room.entry, key, value);
-        self.words.commit(lent.pass, said);
-        Ok(fresh)
+        self.place(pass, key, value, entries::Insert)
     }
 
     /// Binds the key to the value, and gives the value that it had.
     ///
-    /// Refused, it changes no binding and hands key and value back: as `Busy`, or as `Full` where the key is unbound and
-    /// both its buckets are full.
+    /// Where both buckets of an unbound key are full, other entries are displaced to make room, and where that is of no
+    /// avail the table doubles, under all stripes; neither changes a binding.
+    ///
+    /// Refused, it changes no binding and hands key and value back: as `Busy`, or where no displacement makes room and the
+    /// table doesn't grow, as `Full` at its greatest power, as `LoadTooLow` where too few slots are taken, or as `Memory`.
+    /// The table may have grown all the same.
     pub fn insert_or_assign(
         &self,
         pass: &mut Pass<K, V>,
@@ -59,25 +63,18 @@ impl<K: TableKey + Drop, V: Drop> Table<K, V> {
             × IsRefused self.now.settings (K.name key) e.why pass.old pass.new) }
         ensures found { FindsOwnUnlessFull K.hash self.now.settings (K.name key) pass.old pass.new }
     {
-        let room = match self.hold_with_room(pass, &key) {
-            Ok(room) => room,
-            Err(why) => return Err(Refused { key, value, why }),
-        };
-        let said = Commit::Assign(Snapshot::of(&key), Snapshot::of(&value));
-        let mut lent = Lent {
-            words: &self.words,
-            pass,
-        };
-        let old = assign(&mut lent, room.place, room.entry, key, value);
-        self.words.commit(lent.pass, said);
-        Ok(old)
+        self.place(pass, key, value, entries::Assign)
     }
 
     /// Binds an unbound key to the value, and a bound one to what the closure makes of its value; says whether the key was
     /// unbound. Of closure and value the one that isn't used is dropped. The closure runs while the key's stripes are held.
     ///
-    /// Refused, it changes no binding, drops the closure and hands key and value back: as `Busy`, or as `Full` where the
-    /// key is unbound and both its buckets are full.
+    /// Where both buckets of an unbound key are full, other entries are displaced to make room, and where that is of no
+    /// avail the table doubles, under all stripes; neither changes a binding.
+    ///
+    /// Refused, it changes no binding, drops the closure and hands key and value back: as `Busy`, or where no displacement
+    /// makes room and the table doesn't grow, as `Full` at its greatest power, as `LoadTooLow` where too few slots are
+    /// taken, or as `Memory`. The table may have grown all the same.
     pub fn upsert<F: FnOnce(V) -> V>(
         &self,
         pass: &mut Pass<K, V>,
@@ -98,17 +95,111 @@ impl<K: TableKey + Drop, V: Drop> Table<K, V> {
             × IsRefused self.now.settings (K.name key) e.why pass.old pass.new) }
         ensures found { FindsOwnUnlessFull K.hash self.now.settings (K.name key) pass.old pass.new }
     {
-        let room = match self.hold_with_room(pass, &key) {
-            Ok(room) => room,
-            Err(why) => return Err(Refused { key, value, why }),
+        self.place(pass, key, value, entries::Upsert(f))
+    }
+}
+
+impl<K: TableKey + Drop, V: Drop> Table<K, V> {
+    // Makes the insertion of the entry of the key. Where its stripes have none, that is a call of its own, so that nothing of
+    // it is in the way of the others.
+    #[inline(always)]
+    fn place<I: Insertion<K, V>>(
+        &self,
+        pass: &mut Pass<K, V>,
+        key: K,
+        value: V,
+        insertion: I,
+    ) -> Result<I::Answer, Refused<K, V>>
+        requires caller { IsCaller self.now pass.old }
+        requires call { I.can_make insertion }
+        ensures caller { IsCaller self.now pass.new }
+        ensures answered { IfOk result (λ answer. (reply : Reply V) × I.tells insertion answer reply
+            × IsInserted (K.name key) (I.asks value) reply pass.old pass.new) }
+        ensures refused { IfErr result (λ e. (e.key ≡ key) × (e.value ≡ value)
+            × IsRefused self.now.settings (K.name key) e.why pass.old pass.new) }
+        ensures found { FindsOwnUnlessFull K.hash self.now.settings (K.name key) pass.old pass.new }
+    {
+        let since = Snapshot::of(pass);
+        match self.find_room(pass, &key) {
+            Ok(room) => Ok(self.place_in(pass, room, key, value, insertion, since)),
+            Err(obstacle) => self.place_later(pass, key, value, insertion, obstacle, since),
+        }
+    }
+
+    // The same for a key that has no entry among its stripes, which have gone home: where its buckets are full, it makes
+    // room. `since` is the pass as the call began.
+    #[cold]
+    #[inline(never)]
+    fn place_later<I: Insertion<K, V>>(
+        &self,
+        pass: &mut Pass<K, V>,
+        key: K,
+        value: V,
+        insertion: I,
+        obstacle: Obstacle,
+        since: Snapshot<Pass<K, V>>,
+    ) -> Result<I::Answer, Refused<K, V>>
+        requires since { IsCaller self.now since.value }
+        requires caller { IsCaller self.now pass.old }
+        requires kept_out { IsKeptOut K.hash self.now.settings (K.name key) obstacle
+            since.value pass.old }
+        requires found { FindsOwn K.hash self.now.settings (K.name key) since.value pass.old }
+        requires call { I.can_make insertion }
+        ensures caller { IsCaller self.now pass.new }
+        ensures answered { IfOk result (λ answer. (reply : Reply V) × I.tells insertion answer reply
+            × IsInserted (K.name key) (I.asks value) reply since.value pass.new) }
+        ensures refused { IfErr result (λ e. (e.key ≡ key) × (e.value ≡ value)
+            × IsRefused self.now.settings (K.name key) e.why since.value pass.new) }
+        ensures found { FindsOwnUnlessFull K.hash self.now.settings (K.name key)
+            since.value pass.new }
+    {
+        let power = match obstacle {
+            Obstacle::Full(power) => power,
+            Obstacle::Busy(stripe) => {
+                let why = Why::Busy(stripe);
+                return Err(Refused { key, value, why });
+            }
         };
-        let said = Commit::Upsert(Snapshot::of(&key), Snapshot::of(&value));
+        match self.make_room(pass, &key, power) {
+            Ok(made) => Ok(self.place_in(pass, made, key, value, insertion, since)),
+            Err(why) => Err(Refused { key, value, why }),
+        }
+    }
+
+    // The same for a key that has this entry among the stripes that its pass holds, which go home.
+    #[inline(always)]
+    fn place_in<I: Insertion<K, V>>(
+        &self,
+        pass: &mut Pass<K, V>,
+        room: Room,
+        key: K,
+        value: V,
+        insertion: I,
+        since: Snapshot<Pass<K, V>>,
+    ) -> I::Answer
+        requires since { IsCaller self.now since.value }
+        requires own { IsPassOf self.now pass.old }
+        requires room { HasRoom K.hash self.now.settings (K.name key) room since.value pass.old }
+        requires numbered { numbers_of pass.old.stripes ≡ numbers_in room }
+        requires found { FindsOwnUnlessFull K.hash self.now.settings (K.name key)
+            since.value pass.old }
+        requires call { I.can_make insertion }
+        ensures caller { IsCaller self.now pass.new }
+        ensures answered { (reply : Reply V) × I.tells insertion result reply
+            × IsInserted (K.name key) (I.asks value) reply since.value pass.new }
+        ensures found { FindsOwnUnlessFull K.hash self.now.settings (K.name key)
+            since.value pass.new }
+    {
+        let said = I::commit(&key, &value);
         let mut lent = Lent {
             words: &self.words,
             pass,
+            numbers: room.numbers(),
+            s: room.spot.place.s,
         };
-        let unbound = upsert(&mut lent, room.place, room.entry, key, f, value);
-        self.words.commit(lent.pass, said);
-        Ok(unbound)
+        let answer = insertion.make(&mut lent, room.spot.place, room.entry, key, value);
+        let Lent { pass, .. } = lent;
+        self.commit_room(pass, room, said);
+        answer
     }
 }

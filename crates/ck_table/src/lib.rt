@@ -3,21 +3,30 @@
 //!
 //! An entry is in one of the two buckets of its key (Pagh and Rodler 2004, "Cuckoo Hashing"), and a bucket has four
 //! slots (Dietzfelbinger and Weidling 2007). Striped locks guard the buckets (Li, Andersen, Kaminsky, Freedman 2014,
-//! "Algorithmic Improvements for Fast Concurrent Cuckoo Hashing"). The number of buckets is fixed so far: growth and the
-//! displacement of entries come with the whole-table lock.
+//! "Algorithmic Improvements for Fast Concurrent Cuckoo Hashing"), and entries are displaced under two of them at a time.
+//! Where that makes no room, the number of buckets doubles, under all locks.
 #![tactic(auto)]
 
 mod caller;
 mod changes;
+mod displacement;
+mod entries;
+mod growth;
 mod holding;
 mod insertions;
+mod locked;
 mod look_ups;
+mod power;
 mod refusal;
+mod room;
+mod search;
+mod size;
 mod table;
 mod two_keys;
 
 pub use caller::Caller;
 pub use ck_model::settings::Settings;
 pub use ck_words::Pass;
-pub use refusal::{Busy, OpenFault, Refused, Why};
+pub use locked::LockedTable;
+pub use refusal::{Busy, GrowFault, OpenFault, Refused, Why};
 pub use table::Table;

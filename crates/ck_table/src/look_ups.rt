@@ -39,14 +39,17 @@ impl<K: TableKey + Drop, V: Drop> Table<K, V> {
             IsBusyAt K.hash self.now.settings (K.name key.now) busy.0 pass.old pass.new) }
         ensures found { FindsOwn K.hash self.now.settings (K.name key.now) pass.old pass.new }
     {
-        let place = self.hold_key(pass, key)?;
+        let spot = self.hold_key(pass, key)?;
         let mut lent = Lent {
             words: &self.words,
             pass,
+            numbers: spot.numbers(),
+            s: spot.place.s,
         };
-        let found = find(&mut lent, place, key, f);
+        let found = find(&mut lent, spot.place, key, f);
+        let Lent { pass, .. } = lent;
         self.words
-            .commit(lent.pass, Commit::Find(Snapshot::of(key)));
+            .commit(pass, spot.low, spot.high, Commit::Find(Snapshot::of(key)));
         Ok(found)
     }
 

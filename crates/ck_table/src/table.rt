@@ -15,7 +15,7 @@ use ck_words::{Pass, Words};
 use std::alloc::Global;
 use std::marker::Model;
 
-/// A map from keys to values in 2^power buckets, for many callers.
+/// A map from keys to values in 2^power buckets, for many callers. It doubles where an entry finds no room.
 ///
 /// A caller makes each call with its own pass. Contracts see which table it is, and its settings.
 #[derive(Drop)]

@@ -3,7 +3,7 @@ ghost use Rattle.std.specs.Prelude.{◌≡◌};
 ghost use Rattle.ck_table.specs.Callers.{IsSameCaller};
 
 use crate::callers::{Call, Reply, answer};
-use crate::fixtures::{NumCaller, close, open};
+use crate::fixtures::{FOUR_BUCKETS, NumCaller, SIXTEEN_BUCKETS, Shape, close, open};
 use ck_key::NumKey;
 use ck_table::Why;
 use std::alloc::Global;
@@ -18,21 +18,110 @@ enum Step {
     Second(Call, Reply),
     /// The second caller meets the first.
     Meet,
+    /// The table has 2^this buckets, by the second caller.
+    Power(u32),
 }
 
-/// A table of 2^power buckets, steps on it, and the pairs that it has at its end.
+/// A table of a shape, steps on it, and the pairs that it has at its end.
 #[derive(Clone, Copy)]
 struct Run {
     what: &'static str,
-    power: u32,
+    shape: Shape,
     steps: &'static [Step],
     end: &'static [(NumKey, u64)],
 }
 
-const RUNS: [Run; 7] = [
+/// Two stripes of two buckets each, which stay so.
+const TWO_BY_TWO: Shape = Shape {
+    s: 1,
+    power: 2,
+    max: 2,
+    rounds: 4,
+};
+
+/// The same, which may grow.
+const GROWING: Shape = Shape {
+    s: 1,
+    power: 2,
+    max: 20,
+    rounds: 4,
+};
+
+/// Keys 0, 4, 8, 12 and 16 have buckets 0 and 1, and keys 1, 5, 9 and 13 have buckets 1 and 3: the ninth insertion finds two
+/// full buckets, and one hop makes room.
+const ONE_HOP: &[Step] = &[
+    Step::First(Call::Insert(0, 1), Reply::Fresh(true)),
+    Step::First(Call::Insert(4, 2), Reply::Fresh(true)),
+    Step::First(Call::Insert(8, 3), Reply::Fresh(true)),
+    Step::First(Call::Insert(12, 4), Reply::Fresh(true)),
+    Step::First(Call::Insert(1, 5), Reply::Fresh(true)),
+    Step::First(Call::Insert(5, 6), Reply::Fresh(true)),
+    Step::First(Call::Insert(9, 7), Reply::Fresh(true)),
+    Step::First(Call::Insert(13, 8), Reply::Fresh(true)),
+    Step::First(Call::Insert(16, 9), Reply::Fresh(true)),
+    Step::First(Call::Find(0), Reply::Was(Some(1))),
+    Step::First(Call::Find(4), Reply::Was(Some(2))),
+    Step::First(Call::Find(8), Reply::Was(Some(3))),
+    Step::First(Call::Find(12), Reply::Was(Some(4))),
+    Step::First(Call::Find(1), Reply::Was(Some(5))),
+    Step::First(Call::Find(5), Reply::Was(Some(6))),
+    Step::First(Call::Find(9), Reply::Was(Some(7))),
+    Step::First(Call::Find(13), Reply::Was(Some(8))),
+    Step::First(Call::Find(16), Reply::Was(Some(9))),
+    Step::Power(2),
+];
+
+const NINE_PAIRS: &[(NumKey, u64)] = &[
+    (NumKey(0), 1),
+    (NumKey(1), 5),
+    (NumKey(4), 2),
+    (NumKey(5), 6),
+    (NumKey(8), 3),
+    (NumKey(9), 7),
+    (NumKey(12), 4),
+    (NumKey(13), 8),
+    (NumKey(16), 9),
+];
+
+/// Two to the 48th and two to the 40th: its multiples have partial 0, and end in as many zeros.
+const APART: u64 = 282_574_488_338_432;
+
+/// Keys whose partial is 0 and whose buckets are 0 and the last bits of one number, at each power.
+const ONE_PAIR_OF_BUCKETS: &[Step] = &[
+    Step::First(Call::Insert(APART, 1), Reply::Fresh(true)),
+    Step::First(Call::Insert(2 * APART, 2), Reply::Fresh(true)),
+    Step::First(Call::Insert(3 * APART, 3), Reply::Fresh(true)),
+    Step::First(Call::Insert(4 * APART, 4), Reply::Fresh(true)),
+    Step::First(Call::Insert(5 * APART, 5), Reply::Fresh(true)),
+    Step::First(Call::Insert(6 * APART, 6), Reply::Fresh(true)),
+    Step::First(Call::Insert(7 * APART, 7), Reply::Fresh(true)),
+    Step::First(Call::Insert(8 * APART, 8), Reply::Fresh(true)),
+    Step::Power(2),
+    // It grows until 8 entries are fewer than a twentieth of its slots.
+    Step::First(
+        Call::Insert(9 * APART, 9),
+        Reply::BothBack(9 * APART, 9, Why::LoadTooLow),
+    ),
+    Step::Power(6),
+    Step::Second(
+        Call::Upsert(9 * APART, 9),
+        Reply::BothBack(9 * APART, 9, Why::LoadTooLow),
+    ),
+    Step::Second(Call::Find(APART), Reply::Was(Some(1))),
+    Step::Second(Call::Find(2 * APART), Reply::Was(Some(2))),
+    Step::Second(Call::Find(3 * APART), Reply::Was(Some(3))),
+    Step::Second(Call::Find(4 * APART), Reply::Was(Some(4))),
+    Step::Second(Call::Find(5 * APART), Reply::Was(Some(5))),
+    Step::Second(Call::Find(6 * APART), Reply::Was(Some(6))),
+    Step::Second(Call::Find(7 * APART), Reply::Was(Some(7))),
+    Step::Second(Call::Find(8 * APART), Reply::Was(Some(8))),
+    Step::Second(Call::Find(9 * APART), Reply::Was(None)),
+];
+
+const RUNS: [Run; 14] = [
     Run {
         what: "after they met, one caller finds what the other has bound",
-        power: 4,
+        shape: SIXTEEN_BUCKETS,
         steps: &[
             Step::First(Call::Insert(1, 10), Reply::Fresh(true)),
             Step::Meet,
@@ -43,7 +132,7 @@ const RUNS: [Run; 7] = [
     },
     Run {
         what: "an update binds no unbound key",
-        power: 4,
+        shape: SIXTEEN_BUCKETS,
         steps: &[
             Step::First(Call::Update(9, 1), Reply::Was(None)),
             Step::First(Call::Find(9), Reply::Was(None)),
@@ -55,7 +144,7 @@ const RUNS: [Run; 7] = [
     },
     Run {
         what: "closures on bound keys",
-        power: 4,
+        shape: SIXTEEN_BUCKETS,
         steps: &[
             Step::First(Call::Insert(5, 50), Reply::Fresh(true)),
             Step::First(Call::FindTenth(5), Reply::Was(Some(5))),
@@ -71,7 +160,7 @@ const RUNS: [Run; 7] = [
     },
     Run {
         what: "no closure is called for an unbound key",
-        power: 4,
+        shape: SIXTEEN_BUCKETS,
         steps: &[
             Step::First(Call::UpdateFn(5), Reply::Updated(false, false)),
             Step::First(Call::FindTenth(5), Reply::Was(None)),
@@ -82,7 +171,7 @@ const RUNS: [Run; 7] = [
     },
     Run {
         what: "what a key was bound to before",
-        power: 4,
+        shape: SIXTEEN_BUCKETS,
         steps: &[
             Step::First(Call::InsertOrAssign(2, 7), Reply::Was(None)),
             Step::First(Call::Contains(2), Reply::Bound(true)),
@@ -96,7 +185,7 @@ const RUNS: [Run; 7] = [
     },
     Run {
         what: "these keys have one bucket alone, which is full with four of them",
-        power: 2,
+        shape: FOUR_BUCKETS,
         steps: &[
             Step::First(Call::Insert(3, 30), Reply::Fresh(true)),
             Step::First(Call::InsertOrAssign(7, 70), Reply::Was(None)),
@@ -128,7 +217,7 @@ const RUNS: [Run; 7] = [
     },
     Run {
         what: "the pairs come in rising order of the keys, whichever caller has bound them",
-        power: 4,
+        shape: SIXTEEN_BUCKETS,
         steps: &[
             Step::First(Call::Insert(u64::MAX, 1), Reply::Fresh(true)),
             Step::Second(Call::Insert(30, 2), Reply::Fresh(true)),
@@ -142,6 +231,127 @@ const RUNS: [Run; 7] = [
             (NumKey(17), 5),
             (NumKey(30), 2),
             (NumKey(u64::MAX), 1),
+        ],
+    },
+    Run {
+        what: "one hop makes room",
+        shape: TWO_BY_TWO,
+        steps: ONE_HOP,
+        end: NINE_PAIRS,
+    },
+    Run {
+        what: "one hop makes room, with as many tries as there can be",
+        shape: Shape {
+            s: 1,
+            power: 2,
+            max: 2,
+            rounds: 64,
+        },
+        steps: ONE_HOP,
+        end: NINE_PAIRS,
+    },
+    Run {
+        what: "no entry can leave the one bucket of these keys",
+        shape: TWO_BY_TWO,
+        steps: &[
+            Step::First(Call::Insert(3, 30), Reply::Fresh(true)),
+            Step::First(Call::Insert(7, 70), Reply::Fresh(true)),
+            Step::First(Call::Insert(11, 110), Reply::Fresh(true)),
+            Step::First(Call::Insert(15, 150), Reply::Fresh(true)),
+            Step::First(Call::Insert(19, 190), Reply::BothBack(19, 190, Why::Full)),
+            Step::First(Call::Find(3), Reply::Was(Some(30))),
+            Step::First(Call::Find(7), Reply::Was(Some(70))),
+            Step::First(Call::Find(11), Reply::Was(Some(110))),
+            Step::First(Call::Find(15), Reply::Was(Some(150))),
+            Step::First(Call::Find(19), Reply::Was(None)),
+        ],
+        end: &[
+            (NumKey(3), 30),
+            (NumKey(7), 70),
+            (NumKey(11), 110),
+            (NumKey(15), 150),
+        ],
+    },
+    Run {
+        what: "one hop makes room, under all stripes",
+        shape: Shape {
+            rounds: 0,
+            ..TWO_BY_TWO
+        },
+        steps: ONE_HOP,
+        end: NINE_PAIRS,
+    },
+    Run {
+        what: "the table grows rather than that these keys share one bucket",
+        shape: GROWING,
+        steps: &[
+            Step::First(Call::Insert(3, 30), Reply::Fresh(true)),
+            Step::First(Call::InsertOrAssign(7, 70), Reply::Was(None)),
+            Step::First(Call::Upsert(11, 110), Reply::Fresh(true)),
+            Step::First(Call::Insert(15, 150), Reply::Fresh(true)),
+            Step::Power(2),
+            Step::First(Call::Insert(19, 190), Reply::Fresh(true)),
+            Step::Power(3),
+            Step::Second(Call::Find(3), Reply::Was(Some(30))),
+            Step::Second(Call::Find(7), Reply::Was(Some(70))),
+            Step::Second(Call::Find(19), Reply::Was(Some(190))),
+            // The same buckets are full once more.
+            Step::Second(Call::Insert(27, 270), Reply::Fresh(true)),
+            Step::Second(Call::Insert(35, 350), Reply::Fresh(true)),
+            Step::Power(3),
+            Step::First(Call::InsertOrAssign(3, 31), Reply::Was(Some(30))),
+            Step::First(Call::Find(35), Reply::Was(Some(350))),
+            Step::First(Call::Erase(11), Reply::Was(Some(110))),
+        ],
+        end: &[
+            (NumKey(3), 31),
+            (NumKey(7), 70),
+            (NumKey(15), 150),
+            (NumKey(19), 190),
+            (NumKey(27), 270),
+            (NumKey(35), 350),
+        ],
+    },
+    Run {
+        what: "each call that inserts makes the table grow",
+        shape: Shape {
+            rounds: 0,
+            ..GROWING
+        },
+        steps: &[
+            Step::First(Call::Insert(3, 30), Reply::Fresh(true)),
+            Step::First(Call::Insert(11, 110), Reply::Fresh(true)),
+            Step::First(Call::Insert(19, 190), Reply::Fresh(true)),
+            Step::First(Call::Insert(27, 270), Reply::Fresh(true)),
+            Step::First(Call::InsertOrAssign(259, 1), Reply::Was(None)),
+            Step::First(Call::Find(259), Reply::Was(Some(1))),
+            Step::First(Call::Upsert(515, 2), Reply::Fresh(true)),
+            Step::First(Call::Find(515), Reply::Was(Some(2))),
+            Step::Second(Call::Find(3), Reply::Was(Some(30))),
+            Step::Second(Call::Find(27), Reply::Was(Some(270))),
+        ],
+        end: &[
+            (NumKey(3), 30),
+            (NumKey(11), 110),
+            (NumKey(19), 190),
+            (NumKey(27), 270),
+            (NumKey(259), 1),
+            (NumKey(515), 2),
+        ],
+    },
+    Run {
+        what: "growth that is of no avail ends with the load",
+        shape: GROWING,
+        steps: ONE_PAIR_OF_BUCKETS,
+        end: &[
+            (NumKey(APART), 1),
+            (NumKey(2 * APART), 2),
+            (NumKey(3 * APART), 3),
+            (NumKey(4 * APART), 4),
+            (NumKey(5 * APART), 5),
+            (NumKey(6 * APART), 6),
+            (NumKey(7 * APART), 7),
+            (NumKey(8 * APART), 8),
         ],
     },
 ];
@@ -159,6 +369,7 @@ fn take_step<'t>(first: &mut NumCaller<'t>, second: &mut NumCaller<'t>, step: St
             first.meet(second);
             true
         }
+        Step::Power(power) => second.power() == Ok(power),
     }
 }
 
@@ -176,7 +387,7 @@ fn take_steps<'t>(rt: &impl Abort, first: &mut NumCaller<'t>, second: &mut NumCa
 
 /// The pairs at the end of the run.
 fn end_of(rt: &impl Abort, alloc: Global, run: &Run) -> Result<Vec<(NumKey, u64)>, Fail> {
-    let (table, first, second, third) = open(alloc, run.power)?;
+    let (table, first, second, third) = open(alloc, run.shape)?;
     let (mut first, mut second) = (table.caller(first), table.caller(second));
     take_steps(rt, &mut first, &mut second, run);
     let (first, second) = (first.into_pass(), second.into_pass());

@@ -4,7 +4,7 @@ ghost use Rattle.ck_words.specs.Closing.{IsCaller};
 
 use ck_key::NumKey;
 use ck_model::history::Name;
-use ck_table::{Caller, Pass, Settings, Table};
+use ck_table::{Caller, LockedTable, Pass, Settings, Table};
 use std::alloc::{AllocError, Global};
 use std::collections::LinkedList;
 use std::test::Fail;
@@ -14,6 +14,8 @@ pub type NumTable = Table<NumKey, u64>;
 pub type NumPass = Pass<NumKey, u64>;
 
 pub type NumCaller<'t> = Caller<'t, NumKey, u64>;
+
+pub type NumLocked<'t> = LockedTable<'t, NumKey, u64>;
 
 /// Two stripes of two buckets each, for three callers.
 pub const TWO_STRIPES: Settings = Settings {
@@ -26,18 +28,51 @@ pub const TWO_STRIPES: Settings = Settings {
     min_load: 5,
 };
 
-/// Four stripes in 2^power buckets, for so many callers.
-pub fn four_stripes(power: u32, callers: u32) -> Settings
-    ensures { result.callers ≡ callers }
-{
-    Settings {
-        s: 2,
-        power,
-        max: 20,
-        callers,
-        turns: 8,
-        rounds: 4,
-        min_load: 5,
+/// The stripes and buckets of a table, and how many tries an insertion makes to displace entries.
+#[derive(Clone, Copy)]
+pub struct Shape {
+    pub s: u32,
+    pub power: u32,
+    pub max: u32,
+    pub rounds: u32,
+}
+
+/// Four stripes of four buckets each.
+pub const SIXTEEN_BUCKETS: Shape = Shape {
+    s: 2,
+    power: 4,
+    max: 20,
+    rounds: 4,
+};
+
+/// Four stripes of one bucket each, which stay so.
+pub const FOUR_BUCKETS: Shape = Shape {
+    s: 2,
+    power: 2,
+    max: 2,
+    rounds: 4,
+};
+
+impl Shape {
+    /// The settings of a table of this shape, for so many callers.
+    pub fn settings(self, callers: u32) -> Settings
+        ensures { result.callers ≡ callers }
+    {
+        let Shape {
+            s,
+            power,
+            max,
+            rounds,
+        } = self;
+        Settings {
+            s,
+            power,
+            max,
+            callers,
+            turns: 8,
+            rounds,
+            min_load: 5,
+        }
     }
 }
 
@@ -48,14 +83,28 @@ pub fn name_of(alloc: Global, key: u64) -> Result<Name, AllocError> {
     Ok(name)
 }
 
-/// An empty table of four stripes, and the passes of its three callers.
-pub fn open(alloc: Global, power: u32) -> Result<(NumTable, NumPass, NumPass, NumPass), Fail>
+/// An empty table of this shape, and the passes of its three callers.
+pub fn open(alloc: Global, shape: Shape) -> Result<(NumTable, NumPass, NumPass, NumPass), Fail>
     ensures callers { IfOk result (λ r. r.0.settings.callers ≡ 3) }
     ensures first { IfOk result (λ r. IsCaller r.0 r.1 × (r.1.view.by ≡ Some 0)) }
     ensures second { IfOk result (λ r. IsCaller r.0 r.2 × (r.2.view.by ≡ Some 1)) }
     ensures third { IfOk result (λ r. IsCaller r.0 r.3 × (r.3.view.by ≡ Some 2)) }
 {
-    let (table, mut passes) = NumTable::open(alloc, four_stripes(power, 3))?;
+    open_with(alloc, shape.settings(3))
+}
+
+/// An empty table for three callers, and their passes.
+pub fn open_with(
+    alloc: Global,
+    settings: Settings,
+) -> Result<(NumTable, NumPass, NumPass, NumPass), Fail>
+    requires { settings.callers ≡ 3 }
+    ensures callers { IfOk result (λ r. r.0.settings.callers ≡ 3) }
+    ensures first { IfOk result (λ r. IsCaller r.0 r.1 × (r.1.view.by ≡ Some 0)) }
+    ensures second { IfOk result (λ r. IsCaller r.0 r.2 × (r.2.view.by ≡ Some 1)) }
+    ensures third { IfOk result (λ r. IsCaller r.0 r.3 × (r.3.view.by ≡ Some 2)) }
+{
+    let (table, mut passes) = NumTable::open(alloc, settings)?;
     let Some(third) = passes.pop() else {
         return Err(Fail::from("no third pass"));
     };

@@ -10,7 +10,11 @@ mod calls;
 #[cfg(test)]
 mod fixtures;
 #[cfg(test)]
+mod growth;
+#[cfg(test)]
 mod keys;
+#[cfg(test)]
+mod locks;
 #[cfg(test)]
 mod memory;
 #[cfg(test)]
@@ -23,6 +27,8 @@ mod scripts;
 mod search;
 #[cfg(test)]
 mod sections;
+#[cfg(test)]
+mod sessions;
 #[cfg(test)]
 mod stripes;
 #[cfg(test)]

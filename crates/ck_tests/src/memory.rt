@@ -4,14 +4,17 @@
 ghost use Rattle.std.specs.Prelude.{◌≡◌, IfSome, IfOk};
 ghost use Rattle.ck_words.specs.Closing.{IsCaller, AreAllPasses};
 
-use crate::fixtures::{NumPass, NumTable, TWO_STRIPES};
+use crate::fixtures::{NumLocked, NumPass, NumTable, TWO_STRIPES};
 use ck_key::{KeyFault, NumKey, TextKey};
-use ck_script::{FromRead, IntoWrite, RunFault, Script, ScriptFault, What, read_script, run};
-use ck_table::{OpenFault, Settings};
+use ck_script::{
+    FromRead, IntoWrite, OpenGate, RunFault, Script, ScriptFault, What, read_script, run,
+};
+use ck_table::{GrowFault, OpenFault, Refused, Settings, Why};
 use ck_words::Words;
 use std::alloc::{AllocError, Global};
 use std::process::Abort;
 use std::test::Fail;
+use std::thread::Threads;
 
 /// How many blocks are taken at the most.
 const BLOCKS: usize = 200_000;
@@ -117,14 +120,17 @@ fn open(rt: &impl Abort, alloc: Global) -> End {
     }
 }
 
-/// Binds eight keys, each four in the bucket that they share, and says whether each was.
+/// Eight keys, each four in the bucket that they share.
+const KEYS: [u64; 8] = [3, 7, 11, 15, 12, 8, 4, 0];
+
+/// Binds all keys, and says whether each was.
 fn fill(table: &NumTable, pass: &mut NumPass) -> bool
     requires { IsCaller table.now pass.old }
     ensures caller { IsCaller table.now pass.new }
     ensures by { pass.new.view.by ≡ pass.old.view.by }
 {
     let mut bound = true;
-    for key in [3u64, 7, 11, 15, 12, 8, 4, 0] {
+    for key in KEYS {
         bound &= table.insert(pass, NumKey(key), 10 * key).is_ok();
     }
     bound
@@ -144,6 +150,27 @@ fn table_of(alloc: Global) -> Option<(NumTable, Vec<NumPass>)>
     } else {
         None
     }
+}
+
+/// Whether each key has its value.
+fn has_all(table: &NumTable, pass: &mut NumPass) -> bool
+    requires { IsCaller table.now pass.old }
+    ensures { IsCaller table.now pass.new }
+{
+    let mut all = true;
+    for key in KEYS {
+        all &= table.find(pass, &NumKey(key)) == Ok(Some(10 * key));
+    }
+    all
+}
+
+/// The same table, and its one pass.
+fn table_and_pass(alloc: Global) -> Option<(NumTable, NumPass)>
+    ensures { IfSome result (λ r. IsCaller r.0 r.1) }
+{
+    let (table, mut passes) = table_of(alloc)?;
+    let pass = passes.pop()?;
+    Some((table, pass))
 }
 
 fn close(rt: &impl Abort, alloc: Global) -> End {
@@ -176,12 +203,35 @@ fn close_words(rt: &impl Abort, alloc: Global) -> End {
     }
 }
 
+/// What `fill` binds.
+const EIGHT_PAIRS: [(NumKey, u64); 8] = [
+    (NumKey(0), 0),
+    (NumKey(3), 30),
+    (NumKey(4), 40),
+    (NumKey(7), 70),
+    (NumKey(8), 80),
+    (NumKey(11), 110),
+    (NumKey(12), 120),
+    (NumKey(15), 150),
+];
+
+/// Whether there was memory for a copy of the pairs.
+fn exports_eight(rt: &impl Abort, alloc: Global, locked: &NumLocked<'_>) -> bool {
+    match locked.export(alloc) {
+        Ok(pairs) => {
+            assert!(rt; pairs.as_slice() == EIGHT_PAIRS.as_slice());
+            true
+        }
+        Err(AllocError) => false,
+    }
+}
+
 const SCRIPT: &[u8] =
     b"cuckoo 1\nworker\ninsert 3 1\ninsert 7 2\nfind 3\nfind 4\ninsert 3 5\nend\n";
 
 const OUTPUT: &[u8; 42] = b"worker 1\nnew\nnew\nv 1\nnone\nold\nmap\n3 1\n7 2\n";
 
-fn read_and_run(rt: &impl Abort, alloc: Global) -> End {
+fn read_and_run<R: Abort + Threads + Sync>(rt: &R, alloc: Global) -> End {
     match read_script(alloc, &mut FromRead::new(SCRIPT)) {
         Err(ScriptFault { line, what }) => {
             assert!(rt; what == What::Memory);
@@ -192,9 +242,10 @@ fn read_and_run(rt: &impl Abort, alloc: Global) -> End {
     }
 }
 
-fn run_script(rt: &impl Abort, alloc: Global, script: Script) -> End {
+fn run_script<R: Abort + Threads + Sync>(rt: &R, alloc: Global, script: Script) -> End {
     let mut out = [0u8; 42];
-    let result = run(alloc, script, &mut IntoWrite::new(out.as_mut_slice()));
+    let mut sink = IntoWrite::new(out.as_mut_slice());
+    let result = run(rt, alloc, script, &mut sink, &OpenGate);
     match result {
         Ok(()) => {
             assert!(rt; out == *OUTPUT);
@@ -208,7 +259,7 @@ fn run_script(rt: &impl Abort, alloc: Global, script: Script) -> End {
     }
 }
 
-fn call(rt: &impl Abort, alloc: Global, subject: Subject) -> End {
+fn call<R: Abort + Threads + Sync>(rt: &R, alloc: Global, subject: Subject) -> End {
     match subject {
         Subject::Key => make_key(rt, alloc),
         Subject::Opening => open(rt, alloc),
@@ -219,8 +270,8 @@ fn call(rt: &impl Abort, alloc: Global, subject: Subject) -> End {
 }
 
 /// Makes the call with 16 bytes more from step to step.
-fn ends_of(
-    rt: &impl Abort,
+fn ends_of<R: Abort + Threads + Sync>(
+    rt: &R,
     alloc: Global,
     subject: Subject,
     steps: usize,
@@ -289,16 +340,69 @@ fn closing_again(rt: HostRuntime) -> Result<(), Fail> {
     let Ok(pairs) = table.close(passes) else {
         return Err(Fail::from("refused with ample memory"));
     };
-    let want = [
-        (NumKey(0), 0u64),
-        (NumKey(3), 30),
-        (NumKey(4), 40),
-        (NumKey(7), 70),
-        (NumKey(8), 80),
-        (NumKey(11), 110),
-        (NumKey(12), 120),
-        (NumKey(15), 150),
-    ];
-    assert_eq!(rt; pairs.as_slice(), want.as_slice());
+    assert_eq!(rt; pairs.as_slice(), EIGHT_PAIRS.as_slice());
+    Ok(())
+}
+
+/// A table that didn't grow for want of memory does so with ample memory.
+#[test]
+fn growing_again(rt: HostRuntime) -> Result<(), Fail> {
+    let Some((table, mut pass)) = table_and_pass(rt.alloc()) else {
+        return Err(Fail::from("no memory at the start"));
+    };
+    let hoard = hoard(rt.alloc())?;
+    let refused = table.rehash(&mut pass, 4);
+    let kept = has_all(&table, &mut pass);
+    drop(hoard);
+    assert!(rt; refused == Err(GrowFault::Memory) && kept);
+    let grown = table.rehash(&mut pass, 4);
+    let kept = has_all(&table, &mut pass);
+    assert!(rt; grown == Ok(true) && kept);
+    Ok(())
+}
+
+/// A session that found no memory for a list goes on, and lists the pairs with ample memory.
+#[test]
+fn listing_again(rt: HostRuntime) -> Result<(), Fail> {
+    let Some((table, pass)) = table_and_pass(rt.alloc()) else {
+        return Err(Fail::from("no memory at the start"));
+    };
+    let Ok(locked) = table.lock_table(pass) else {
+        return Err(Fail::from("a table that was not locked"));
+    };
+    let Ok(hoard) = hoard(rt.alloc()) else {
+        locked.unlock();
+        return Err(Fail::from("no memory to take the rest"));
+    };
+    let first = exports_eight(&rt, rt.alloc(), &locked);
+    drop(hoard);
+    let again = exports_eight(&rt, rt.alloc(), &locked);
+    locked.unlock();
+    assert!(rt; !first && again);
+    Ok(())
+}
+
+/// Key 19, whose one bucket is full of keys with no other, comes back where there is no memory to grow, and is bound with ample
+/// memory. No key is lost.
+#[test]
+fn inserting_again(rt: HostRuntime) -> Result<(), Fail> {
+    let Some((table, mut pass)) = table_and_pass(rt.alloc()) else {
+        return Err(Fail::from("no memory at the start"));
+    };
+    let hoard = hoard(rt.alloc())?;
+    let refused = match table.insert(&mut pass, NumKey(19), 190) {
+        Ok(_) => false,
+        Err(Refused { key, value, why }) => key == NumKey(19) && value == 190 && why == Why::Memory,
+    };
+    let kept = has_all(&table, &mut pass);
+    drop(hoard);
+    assert!(rt; refused && kept);
+    let fresh = match table.insert(&mut pass, NumKey(19), 190) {
+        Ok(fresh) => fresh,
+        Err(_) => false,
+    };
+    let kept = has_all(&table, &mut pass);
+    let found = table.find(&mut pass, &NumKey(19));
+    assert!(rt; fresh && kept && found == Ok(Some(190)));
     Ok(())
 }

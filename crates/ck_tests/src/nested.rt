@@ -5,7 +5,7 @@
 ghost use Rattle.std.specs.Prelude.{◌≢◌};
 
 use crate::callers::{Call, Reply, answer};
-use crate::fixtures::{NumCaller, open};
+use crate::fixtures::{FOUR_BUCKETS, NumCaller, SIXTEEN_BUCKETS, Shape, open};
 use ck_key::NumKey;
 use ck_table::Why;
 use std::alloc::Global;
@@ -102,6 +102,7 @@ struct Turn {
 #[derive(Clone, Copy)]
 struct Scene {
     what: &'static str,
+    shape: Shape,
     firsts: &'static [Row],
     turns: &'static [Turn],
     seconds: &'static [Row],
@@ -120,10 +121,25 @@ const AFTER: &[Row] = &[
     (Call::Find(0), Reply::Was(Some(6))),
 ];
 
-const SCENES: [Scene; 4] = [
+/// Four stripes of one bucket each: bucket 2 has key 258, and buckets 0 and 1, those of key 16, are full. Bucket 3 has room
+/// for the keys of bucket 1.
+const TWO_FULL_BUCKETS: &[Row] = &[
+    (Call::Insert(258, 258), Reply::Fresh(true)),
+    (Call::Insert(0, 1), Reply::Fresh(true)),
+    (Call::Insert(4, 2), Reply::Fresh(true)),
+    (Call::Insert(8, 3), Reply::Fresh(true)),
+    (Call::Insert(12, 4), Reply::Fresh(true)),
+    (Call::Insert(1, 5), Reply::Fresh(true)),
+    (Call::Insert(5, 6), Reply::Fresh(true)),
+    (Call::Insert(9, 7), Reply::Fresh(true)),
+    (Call::Insert(13, 8), Reply::Fresh(true)),
+];
+
+const SCENES: [Scene; 6] = [
     // Stripe 3 is found held, whichever call wants it, and the others are free.
     Scene {
         what: "a held stripe",
+        shape: SIXTEEN_BUCKETS,
         firsts: BOUND,
         turns: &[Turn {
             around: Around::Update(3, Some(31)),
@@ -152,6 +168,7 @@ const SCENES: [Scene; 4] = [
     // A call that found its second stripe held has given its first one back.
     Scene {
         what: "the first stripe back",
+        shape: SIXTEEN_BUCKETS,
         firsts: BOUND,
         turns: &[Turn {
             around: Around::Update(3, Some(31)),
@@ -168,6 +185,7 @@ const SCENES: [Scene; 4] = [
     // A call on two keys holds their three stripes, and the fourth is free.
     Scene {
         what: "three held stripes",
+        shape: SIXTEEN_BUCKETS,
         firsts: &[
             (Call::Insert(0, 5), Reply::Fresh(true)),
             (Call::Insert(258, 7), Reply::Fresh(true)),
@@ -203,6 +221,7 @@ const SCENES: [Scene; 4] = [
     // each one alone.
     Scene {
         what: "each stripe in turn",
+        shape: SIXTEEN_BUCKETS,
         firsts: &[
             (Call::Insert(772, 772), Reply::Fresh(true)),
             (Call::Insert(513, 513), Reply::Fresh(true)),
@@ -267,6 +286,47 @@ const SCENES: [Scene; 4] = [
         ],
         thirds: &[],
     },
+    // An insertion that displaces entries needs no other stripes than theirs.
+    Scene {
+        what: "room beside a held stripe",
+        shape: FOUR_BUCKETS,
+        firsts: TWO_FULL_BUCKETS,
+        turns: &[Turn {
+            around: Around::Update(258, None),
+            seconds: &[
+                (Call::Insert(16, 9), Reply::Fresh(true)),
+                (Call::Find(16), Reply::Was(Some(9))),
+                (Call::Find(258), Reply::Busy(2)),
+            ],
+            thirds: &[
+                (Call::Find(1), Reply::Was(Some(5))),
+                (Call::Find(16), Reply::Was(Some(9))),
+            ],
+        }],
+        seconds: &[(Call::Find(258), Reply::Was(Some(258)))],
+        thirds: &[],
+    },
+    // Displacement is tried as often as the settings say, and then under all stripes, of which one is held.
+    Scene {
+        what: "no try to make room but under all stripes",
+        shape: Shape {
+            s: 2,
+            power: 2,
+            max: 2,
+            rounds: 0,
+        },
+        firsts: TWO_FULL_BUCKETS,
+        turns: &[Turn {
+            around: Around::Update(258, None),
+            seconds: &[
+                (Call::Insert(16, 9), Reply::BothBack(16, 9, Why::Busy(2))),
+                (Call::Find(16), Reply::Was(None)),
+            ],
+            thirds: &[],
+        }],
+        seconds: &[],
+        thirds: &[],
+    },
 ];
 
 fn play(rt: &impl Abort, first: &mut NumCaller<'_>, others: &mut Others, scene: &Scene) {
@@ -279,7 +339,7 @@ fn play(rt: &impl Abort, first: &mut NumCaller<'_>, others: &mut Others, scene: 
 }
 
 fn check(rt: &impl Abort, alloc: Global, scene: &Scene) -> Result<(), Fail> {
-    let (table, first, second, third) = open(alloc, 4)?;
+    let (table, first, second, third) = open(alloc, scene.shape)?;
     let mut first = table.caller(first);
     let mut others = Others {
         second: table.caller(second),

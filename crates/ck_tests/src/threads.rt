@@ -3,7 +3,7 @@ ghost use Rattle.std.specs.Prelude.{◌≡◌};
 ghost use Rattle.ck_words.specs.Closing.{IsCaller};
 
 use crate::callers::{Call, Reply, answer};
-use crate::fixtures::{NumPass, NumTable, close, open};
+use crate::fixtures::{NumPass, NumTable, SIXTEEN_BUCKETS, Shape, close, open};
 use ck_key::NumKey;
 use ck_table::Settings;
 use std::alloc::{AllocError, Global};
@@ -22,6 +22,20 @@ const KEYS: usize = 3;
 /// What each key has before anything is transferred.
 const FUND: u64 = 1000;
 
+/// How many keys of its own a thread binds where the table gets as full as nine slots in ten.
+const OWN_KEYS: u64 = 115;
+
+/// How many calls it makes for each of them.
+const CALLS_A_KEY: u64 = 5;
+
+/// Four stripes of one bucket each, which may grow.
+const FOUR_STRIPES: Shape = Shape {
+    s: 2,
+    power: 2,
+    max: 20,
+    rounds: 4,
+};
+
 /// What a thread does.
 #[derive(Clone, Copy)]
 enum Task {
@@ -35,6 +49,10 @@ enum Task {
     Replace,
     /// Binds the keys, and transfers from one to another.
     Transfer,
+    /// Binds keys of its own, each to its index, looks for them, changes and erases them, and binds them again.
+    Fill,
+    /// The same, in a table that has to grow for them.
+    Grow,
 }
 
 impl Task {
@@ -42,6 +60,7 @@ impl Task {
         match self {
             Task::Bind => 1,
             Task::Add | Task::BindAndErase | Task::Replace | Task::Transfer => CALLS,
+            Task::Fill | Task::Grow => OWN_KEYS * CALLS_A_KEY,
         }
     }
 
@@ -60,7 +79,69 @@ impl Task {
             Task::Transfer if step < KEYS as u64 => Call::Insert(step, FUND),
             Task::Transfer if step % 2 == 0 => Call::Transfer(key, next),
             Task::Transfer => Call::Transfer(next, key),
+            Task::Fill | Task::Grow => fill_call(thread, step),
         }
+    }
+
+    /// The table for so many threads: as large as a few keys need, or with nine slots in ten for all, or too small.
+    fn shape(self, threads: u32) -> Shape {
+        let power = match (self, threads) {
+            (Task::Grow, _) => return FOUR_STRIPES,
+            (Task::Fill, 2) => 6,
+            (Task::Fill, 4) => 7,
+            (Task::Fill, _) => 8,
+            _ => return SIXTEEN_BUCKETS,
+        };
+        Shape {
+            s: 4,
+            power,
+            max: power,
+            rounds: 64,
+        }
+    }
+}
+
+/// The key of an index. No two indices have the same, since each step can be undone.
+fn scattered(index: u64) -> u64 {
+    let x = index.wrapping_mul(0x9e37_79b9_7f4a_7c15);
+    let x = (x ^ (x >> 30)).wrapping_mul(0xbf58_476d_1ce4_e5b9);
+    let x = (x ^ (x >> 27)).wrapping_mul(0x94d0_49bb_1331_11eb);
+    x ^ (x >> 31)
+}
+
+/// Whether a thread erases the key of this index, to bind it again.
+fn is_erased(index: u64) -> bool {
+    index % 4 == 0
+}
+
+/// The calls for one key of a thread after another, and between them one for a key of another thread.
+fn fill_call(thread: u64, step: u64) -> Call {
+    let own = step / CALLS_A_KEY;
+    let index = thread.wrapping_mul(OWN_KEYS).wrapping_add(own);
+    let key = scattered(index);
+    match step % CALLS_A_KEY {
+        0 => Call::Insert(key, index),
+        1 => Call::UpdateFn(key),
+        2 if is_erased(index) => Call::Erase(key),
+        2 => Call::Find(key),
+        3 => Call::InsertOrAssign(key, index),
+        _ => Call::Contains(scattered(index.wrapping_add(OWN_KEYS))),
+    }
+}
+
+/// Whether a call of `fill_call` can be answered so: a thread's own keys are as it left them, wherever they were displaced to.
+fn fits_filling(call: Call, reply: Reply) -> bool {
+    match (call, reply) {
+        (Call::Insert(..), Reply::Fresh(true)) => true,
+        (Call::UpdateFn(_), Reply::Updated(true, true)) => true,
+        (Call::Contains(_), Reply::Bound(_)) => true,
+        (Call::Erase(key), Reply::Was(Some(value))) => scattered(value.wrapping_sub(1)) == key,
+        (Call::Find(key), Reply::Was(Some(value))) => scattered(value.wrapping_sub(1)) == key,
+        (Call::InsertOrAssign(_, index), Reply::Was(None)) => is_erased(index),
+        (Call::InsertOrAssign(_, index), Reply::Was(Some(old))) => {
+            !is_erased(index) && old == index.wrapping_add(1)
+        }
+        _ => false,
     }
 }
 
@@ -140,7 +221,17 @@ impl Notes {
         }
     }
 
-    fn note(&self, call: Call, reply: Reply) {
+    fn note(&self, task: Task, call: Call, reply: Reply) {
+        match task {
+            Task::Fill | Task::Grow if fits_filling(call, reply) => {}
+            Task::Fill | Task::Grow => {
+                count(&self.wrong);
+            }
+            _ => self.note_contended(call, reply),
+        }
+    }
+
+    fn note_contended(&self, call: Call, reply: Reply) {
         match (call, reply) {
             (Call::Upsert(..), Reply::Fresh(_))
             | (Call::UpdateFn(_), Reply::Updated(true, true))
@@ -175,7 +266,7 @@ fn work(table: &NumTable, pass: NumPass, task: Task, notes: &Notes) -> NumPass
     for step in 0..task.calls() {
         let call = task.call(thread, step);
         let reply = answer(&mut caller, call);
-        notes.note(call, reply);
+        notes.note(task, call, reply);
     }
     caller.into_pass()
 }
@@ -189,13 +280,8 @@ fn run<R: Threads + Sync>(
     notes: &Notes,
 ) -> Result<Vec<(NumKey, u64)>, Fail> {
     let settings = Settings {
-        s: 2,
-        power: 4,
-        max: 20,
-        callers: threads,
         turns: u32::MAX,
-        rounds: 4,
-        min_load: 5,
+        ..task.shape(threads).settings(threads)
     };
     let (table, passes) = NumTable::open(alloc, settings)?;
     let shared = &table;
@@ -229,6 +315,7 @@ fn check_end(
             assert!(rt; pairs == [(NumKey(0), last)].as_slice());
         }
         Task::Transfer => check_transfers(rt, notes, pairs),
+        Task::Fill | Task::Grow => check_filled(rt, threads, pairs),
     }
     Ok(())
 }
@@ -261,6 +348,21 @@ fn check_transfers(rt: &impl Abort, notes: &Notes, pairs: &[(NumKey, u64)]) {
     assert_eq!(rt; pairs.len(), KEYS);
     assert_eq!(rt; sum_of(pairs), KEYS as u64 * FUND);
     assert!(rt; read(&notes.added) >= CALLS / 2);
+}
+
+/// Each key of each thread is there once, with its index. The pairs come in rising order of the keys.
+fn check_filled(rt: &impl Abort, threads: u32, pairs: &[(NumKey, u64)]) {
+    let keys = u64::from(threads).wrapping_mul(OWN_KEYS);
+    assert_eq!(rt; pairs.len() as u64, keys);
+    for (key, index) in pairs {
+        assert!(rt;
+            *index < keys && key.0 == scattered(*index),
+            "index {index}"
+        );
+    }
+    for i in 1..pairs.len() {
+        assert!(rt; pairs[i - 1].0.0 < pairs[i].0.0, "pair {i}");
+    }
 }
 
 fn is_bound(pairs: &[(NumKey, u64)], key: usize) -> bool {
@@ -314,7 +416,14 @@ fn check<R: Threads + Abort + Sync>(
 
 #[test]
 fn tasks(rt: HostRuntime) -> Result<(), Fail> {
-    for task in [Task::Add, Task::Transfer, Task::BindAndErase, Task::Replace] {
+    for task in [
+        Task::Add,
+        Task::Transfer,
+        Task::BindAndErase,
+        Task::Replace,
+        Task::Fill,
+        Task::Grow,
+    ] {
         for threads in [2u32, 4, 8] {
             check(&rt, rt.alloc(), threads, task)?;
         }
@@ -335,7 +444,7 @@ fn one_of_two(rt: HostRuntime) -> Result<(), Fail> {
 fn there_and_back(rt: HostRuntime) -> Result<(), Fail> {
     let alloc = rt.alloc();
     let notes = Notes::new(alloc, 1)?;
-    let (table, first, second, third) = open(alloc, 4)?;
+    let (table, first, second, third) = open(alloc, SIXTEEN_BUCKETS)?;
     let (shared, seen) = (&table, &notes);
     let mut first = table.caller(first);
     let before = answer(&mut first, Call::Insert(0, 0));

@@ -8,7 +8,7 @@ use Rattle.std.proofs.lemmas.Option.{none-some}
 use Rattle.std.proofs.lemmas.List.{set-get_or}
 use Rattle.atomic_table.specs.Table.{State, Act, keeps, takes, gives, stepped, carried_after, Valid, Allows, Splits, Joins}
 use Rattle.ck_model.specs.declared.history.Entry.{Entry}
-use Rattle.ck_model.specs.declared.history.Why.{Why}
+use Rattle.ck_model.specs.declared.history.Reason.{Reason}
 use Rattle.ck_model.specs.declared.settings.Settings.{Settings}
 use Rattle.ck_model.specs.declared.contents.Content.{Content}
 use Rattle.ck_model.specs.Map.{Name}
@@ -26,7 +26,7 @@ use Rattle.ck_core.proofs.Shown.{shows}
 use Rattle.ck_core.proofs.Keeps.{take_keeps, find_keeps, give_keeps, decide_keeps, renew_keeps, look_keeps, told_below, open_keeps, tell_keeps, join_keeps}
 use Rattle.ck_words.specs.Rule.{Slot, Hand, lying, spaced, world, IsNumbered, IsKept, Rule, RuleOf, layout_of}
 use Rattle.ck_words.specs.Steps.{Steps}
-use Rattle.ck_words.specs.Plays.{contents_now, SeatTries, SeatGives, SeatLooks, first_number, opened, begun}
+use Rattle.ck_words.specs.Plays.{contents_in, SeatTries, SeatGives, SeatLooks, first_number, opened, begun}
 use Rattle.ck_words.proofs.Spacing.{spaced-at, spaced-set}
 
 module _ {V : Type 0} where
@@ -164,28 +164,29 @@ module _ (hash : Name → ℕ) (set : Settings) where
       take_allowed t l above s r _ at _ = take_by t l above s r.0 r.1 at (get_or s.words (t * 8) 0) refl (subst (λ b. b < 2) (spaced-at (2 ^ k.s) t s.words l) (r.1.law.places.is_bit t l))
 
       module _ (t : ℕ) (stripe : StripeState V) (out : List (ℕ × Slot V)) (is : m.1 ≡ (t, Some stripe) ∷ out) (l : t < 2 ^ k.s) (own : IsNumbered k.s t stripe) where
-        pub give_allowed : (g : Option (Name × Why)) → Holds m.0.held t stripe.content → (Lawful k m.0.held → IsExcused k set.min_load m.0.held g) → Allows (RuleOf hash set) slots id m (t * 8) (λ _. 0) (λ _. SeatGives hash set (Give t g) m)
+        pub give_allowed : (g : Option (Name × Reason)) → Holds m.0.held t stripe.content → (Lawful k m.0.held → IsExcused k set.min_load m.0.held g) → Allows (RuleOf hash set) slots id m (t * 8) (λ _. 0) (λ _. SeatGives hash set (Give t g) m)
         give_allowed g h excused s r _ at _ =
             let w : View V = giving m.0 t stripe.content m.0.held g in
             let kept = gave k set.callers r.0 r.0 s id t stripe w m.1 out is l own r.1 (give_keeps k set.callers r.0 (world (2 ^ k.s) s) r.1.law id m.0 at t stripe.content g h) in
             (w, gives, tt, (r.0, kept), (refl, steps_from (Give t g) r.0 s id m.0 w (sent_home (world (2 ^ k.s) s) id t stripe.content w) r.1 at (m.0, stripe.content, at, h, excused (lawful_now r.0 s id m.0 r.1 at), refl) refl))
 
-        module _ (h : Holds (contents_now m.1) t stripe.content) where
-          pub renew_allowed : (g : Option (Name × Why)) → (Lawful k m.0.held → IdentitySection k m.0.held (contents_now m.1)) → (Lawful k (contents_now m.1) → HasGrounds k set.min_load (contents_now m.1) g)
-              → Allows (RuleOf hash set) slots id m (t * 8) (λ _. 0) (λ _. SeatGives hash set (Renew t (contents_now m.1) g) m)
+        module _ (h : Holds (contents_in m.1) t stripe.content) where
+          pub renew_allowed : (g : Option (Name × Reason)) → (Lawful k m.0.held → IdentitySection k m.0.held (contents_in m.1)) → (Lawful k m.0.held → Lawful k (contents_in m.1) → HasGrounds k set.min_load (contents_in m.1) g)
+              → Allows (RuleOf hash set) slots id m (t * 8) (λ _. 0) (λ _. SeatGives hash set (Renew t (contents_in m.1) g) m)
           renew_allowed g section grounds s r _ at _ =
-              let w : View V = giving m.0 t stripe.content (contents_now m.1) g in
-              let sec = section (lawful_now r.0 s id m.0 r.1 at) in
-              let kept = gave k set.callers r.0 r.0 s id t stripe w m.1 out is l own r.1 (renew_keeps k set.callers r.0 (world (2 ^ k.s) s) r.1.law id m.0 at (contents_now m.1) t stripe.content h g sec) in
-              (w, gives, tt, (r.0, kept), (refl, steps_from (Renew t (contents_now m.1) g) r.0 s id m.0 w (sent_home (world (2 ^ k.s) s) id t stripe.content w) r.1 at (m.0, stripe.content, at, h, sec, grounds sec.renewed.lawful, refl) refl))
+              let w : View V = giving m.0 t stripe.content (contents_in m.1) g in
+              let lawful = lawful_now r.0 s id m.0 r.1 at in
+              let sec = section lawful in
+              let kept = gave k set.callers r.0 r.0 s id t stripe w m.1 out is l own r.1 (renew_keeps k set.callers r.0 (world (2 ^ k.s) s) r.1.law id m.0 at (contents_in m.1) t stripe.content h g sec) in
+              (w, gives, tt, (r.0, kept), (refl, steps_from (Renew t (contents_in m.1) g) r.0 s id m.0 w (sent_home (world (2 ^ k.s) s) id t stripe.content w) r.1 at (m.0, stripe.content, at, h, sec, grounds lawful sec.renewed.lawful, refl) refl))
 
-          pub decide_allowed : (e : Entry V) → m.0.by ≡ Some e.by → (Lawful k m.0.held → Section k m.0.held e.call e.reply (contents_now m.1))
-              → Allows (RuleOf hash set) slots id m (t * 8) (λ _. 0) (λ _. SeatGives hash set (Decide t (contents_now m.1) e) m)
+          pub decide_allowed : (e : Entry V) → m.0.by ≡ Some e.by → (Lawful k m.0.held → Section k m.0.held e.call e.reply (contents_in m.1))
+              → Allows (RuleOf hash set) slots id m (t * 8) (λ _. 0) (λ _. SeatGives hash set (Decide t (contents_in m.1) e) m)
           decide_allowed e by section s r _ at _ =
-              let w : View V = deciding m.0 t (contents_now m.1) r.0 e in
+              let w : View V = deciding m.0 t (contents_in m.1) r.0 e in
               let sec = section (lawful_now r.0 s id m.0 r.1 at) in
-              let kept = gave k set.callers r.0 (r.0 ++ e ∷ []) s id t stripe w m.1 out is l own r.1 (decide_keeps k set.callers r.0 (world (2 ^ k.s) s) r.1.law id m.0 at (contents_now m.1) t stripe.content h e by sec) in
-              (w, gives, tt, (r.0 ++ e ∷ [], kept), (refl, steps_from (Decide t (contents_now m.1) e) r.0 s id m.0 w (sent_home (world (2 ^ k.s) s) id t stripe.content w) r.1 at (m.0, stripe.content, at, by, h, sec, refl) refl))
+              let kept = gave k set.callers r.0 (r.0 ++ e ∷ []) s id t stripe w m.1 out is l own r.1 (decide_keeps k set.callers r.0 (world (2 ^ k.s) s) r.1.law id m.0 at (contents_in m.1) t stripe.content h e by sec) in
+              (w, gives, tt, (r.0 ++ e ∷ [], kept), (refl, steps_from (Decide t (contents_in m.1) e) r.0 s id m.0 w (sent_home (world (2 ^ k.s) s) id t stripe.content w) r.1 at (m.0, stripe.content, at, by, h, sec, refl) refl))
 
       pub look_allowed : (t : ℕ) → t < 2 ^ k.s → Allows (RuleOf hash set) slots id m (t * 8) (λ x. x) (λ _. SeatLooks hash set t m)
       look_allowed t l s r _ at _ =

@@ -1,19 +1,22 @@
 -- Stripes that were taken and settled are held as calls need them.
-use Rattle.std.proofs.Common.{◌≡◌, ℕ, zero, suc, ◌<◌, ◌≤◌, ◌==◌, if◌then◌else◌, true, List, [], ◌∷◌, length, get_or, sym, refl, ap, ◌∙◌, subst, arith}
+use Rattle.std.proofs.Common.{◌≡◌, ℕ, zero, suc, ◌<◌, ◌≤◌, true, List, [], ◌∷◌, length, get_or, sym, refl, ap, ◌∙◌, subst, arith}
 use mathlib.Core.Logic.{dite}
 use native.Mathlib.Decide.{ℕ_discrete}
+use Rattle.std.specs.Prelude.{All}
+use Rattle.std.proofs.lemmas.List.{get_or_default}
 use Rattle.ck_model.proofs.Numbered.{if_same, if_else}
 use Rattle.ck_model.specs.declared.settings.Settings.{Settings}
 use Rattle.ck_model.specs.Map.{Name}
 use Rattle.ck_model.specs.Ranges.{AreInRange}
 use Rattle.ck_model.specs.Contents.{Stripes, Lawful}
 use Rattle.ck_stripe.specs.Stripe.{StripeState}
-use Rattle.ck_section.specs.Stripes.{stripe_at, contents_of}
-use Rattle.ck_section.specs.Places.{AreHeld}
+use Rattle.ck_section.specs.Stripes.{stripe_at, contents_of, settled_stripes}
+use Rattle.ck_section.specs.Places.{AreHeld, HasStripe}
 use Rattle.ck_section.proofs.Found.{holds_at}
 use Rattle.ck_words.specs.Rule.{layout_of}
-use Rattle.ck_words.specs.Closing.{settled_stripes}
-use Rattle.ck_words.specs.Passes.{EachOf, PassState, IsUnchanged, ShowsSeen, numbers_of}
+use Rattle.ck_words.specs.Passes.{EachOf, PassState, IsUnchanged, ShowsSeen, numbers_of, pair}
+use Rattle.ck_words.proofs.Lending.{each_at}
+use Rattle.ck_words.proofs.Seating.{length-numbers, number_at}
 use Rattle.ck_words.proofs.Reversed.{lawful_reverse}
 
 -- the numbers of the list rise
@@ -29,26 +32,17 @@ rise_two low high l zero (suc zero) a b = l
 rise_two low high l zero (suc (suc j)) a b = absurd (omega arith)
 rise_two low high l (suc i) j a b = absurd (omega arith)
 
--- a stripe, or two of which the second is above the first
-abbrev pub pair_of : ℕ → ℕ → List ℕ
-pair_of low high = if low == high then low ∷ [] else low ∷ high ∷ []
-
-pub rise_pair : (low high : ℕ) → low ≤ high → Rise (pair_of low high)
+pub rise_pair : (low high : ℕ) → low ≤ high → Rise (pair low high)
 rise_pair low high h = dite (ℕ_discrete low high)
     (λ e. subst Rise (sym (if_same low high (low ∷ []) (low ∷ high ∷ []) e)) (rise_one low))
     (λ ne. subst Rise (sym (if_else low high (low ∷ []) (low ∷ high ∷ []) ne)) (rise_two low high (omega arith)))
 
-pub some_pair : (low high : ℕ) → 0 < length (pair_of low high)
+pub some_pair : (low high : ℕ) → 0 < length (pair low high)
 some_pair low high = dite (ℕ_discrete low high)
     (λ e. subst (λ (l : List ℕ). 0 < length l) (sym (if_same low high (low ∷ []) (low ∷ high ∷ []) e)) (omega arith))
     (λ ne. subst (λ (l : List ℕ). 0 < length l) (sym (if_else low high (low ∷ []) (low ∷ high ∷ []) ne)) (omega arith))
 
 module _ {V : Type 0} where
-  each_at : (n : ℕ) (ss : List (StripeState V)) → EachOf n ss → (i : ℕ) → i < length ss → (stripe_at ss i).s ≡ n
-  each_at n [] e i h = absurd (omega arith)
-  each_at n (s ∷ ss) e zero h = e.0
-  each_at n (s ∷ ss) e (suc i) h = each_at n ss e.1 i (omega arith)
-
   each_settled : (n : ℕ) (ss : List (StripeState V)) → EachOf n ss → EachOf n (settled_stripes ss)
   each_settled n [] e = tt
   each_settled n (s ∷ ss) e = (e.0, each_settled n ss e.1)
@@ -57,15 +51,6 @@ module _ {V : Type 0} where
   settled_at [] i h = absurd (omega arith)
   settled_at (s ∷ ss) zero h = refl
   settled_at (s ∷ ss) (suc i) h = settled_at ss i (omega arith)
-
-  number_at : (ss : List (StripeState V)) (i : ℕ) → i < length ss → (stripe_at ss i).number ≡ get_or (numbers_of ss) i 0
-  number_at [] i h = absurd (omega arith)
-  number_at (s ∷ ss) zero h = refl
-  number_at (s ∷ ss) (suc i) h = number_at ss i (omega arith)
-
-  count_numbers : (ss : List (StripeState V)) → length (numbers_of ss) ≡ length ss
-  count_numbers [] = refl
-  count_numbers (s ∷ ss) = ap suc (count_numbers ss)
 
   pub numbers_settled : (ss : List (StripeState V)) → numbers_of (settled_stripes ss) ≡ numbers_of ss
   numbers_settled [] = refl
@@ -80,7 +65,7 @@ module _ {V : Type 0} where
   are_held hash set range p ns numbered rise some each unchanged shows =
       let ss : List (StripeState V) = settled_stripes p.stripes in
       let named : numbers_of ss ≡ ns = numbers_settled p.stripes ∙ numbered in
-      let count : length ss ≡ length ns = sym (count_numbers ss) ∙ ap length named in
+      let count : length ss ≡ length ns = sym (length-numbers ss) ∙ ap length named in
       let lawful : Lawful (layout_of hash set) (contents_of ss) = subst (λ hs. Lawful (layout_of hash set) hs) (sym (contents_settled p.stripes ∙ unchanged)) (lawful_reverse (layout_of hash set) p.view.held shows.lawful) in
       let first : 0 < length ss = omega arith in
       let sound = lawful.sound (stripe_at ss 0).number (stripe_at ss 0).content (holds_at ss 0 first) in
@@ -105,3 +90,10 @@ module _ {V : Type 0} where
 
     pub unchanged_then : IsUnchanged p → IsUnchanged q
     unchanged_then u = subst IsUnchanged (sym settled) (contents_settled p.stripes ∙ u)
+
+    -- each of the stripes that were taken is held
+    pub each_then : (ns : List ℕ) → numbers_of p.stripes ≡ ns → All (HasStripe q.stripes) ns
+    each_then ns numbered k d l =
+        let named : numbers_of q.stripes ≡ ns = numbers_then ∙ numbered in
+        let count = length-numbers q.stripes in let same = ap length named in
+        (k, omega arith, number_at q.stripes k (omega arith) ∙ (ap (λ (ms : List ℕ). get_or ms k 0) named ∙ get_or_default ns k 0 d l))

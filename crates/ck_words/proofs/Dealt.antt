@@ -14,7 +14,7 @@ use Rattle.ck_words.specs.Words.{WordsState}
 use Rattle.ck_words.specs.Passes.{PassState, IsPassOf, IsIdle}
 use Rattle.ck_words.specs.Closing.{dealt, parts_of, IsCaller, AreAllPasses}
 use Rattle.ck_words.proofs.Reversed.{map-append}
-use Rattle.ck_words.proofs.AllHeld.{counting-next, in_counting}
+use Rattle.ck_words.proofs.Counting.{counting-next, in_counting}
 
 next_number : (n m : ℕ) → n < m → counting n (m - n) ≡ n ∷ counting (n + 1) (m - (n + 1))
 next_number n m l = ap (counting n) (let e : m - n ≡ suc (m - (n + 1)) = omega arith in e) ∙ (λ i. n ∷ counting (let e : suc n ≡ n + 1 = omega arith in e i) (m - (n + 1)))

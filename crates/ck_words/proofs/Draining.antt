@@ -1,17 +1,21 @@
 -- Stripes are taken out of the slots of a seat, and poured.
-use Rattle.std.proofs.Common.{◌≡◌, ℕ, suc, ◌+◌, ◌<◌, ◌≤◌, List, [], ◌∷◌, ◌++◌, map, length, get_or, take, drop, drop-cons, add-one, append-nil, append_assoc, length-append, sym, ap, ◌∙◌, arith, Some, None}
+use Rattle.std.proofs.Common.{◌≡◌, ℕ, suc, ◌+◌, ◌-◌, ◌<◌, ◌≤◌, true, List, [], ◌∷◌, ◌++◌, map, length, get_or, reverse, take, drop, drop-cons, add-one, append-nil, append_assoc, length-append, sym, ap, ◌∙◌, arith, Some, None}
 use Rattle.std.specs.Prelude.{flat_map}
-use Rattle.std.proofs.lemmas.List.{length-map, get_or-map, take_more}
+use Rattle.std.proofs.lemmas.List.{length-map, get_or-map, take_more, get_or-reverse, reverse-reverse, length-reverse}
 use Rattle.std.proofs.lemmas.Grind.{flat_map-append}
 use Rattle.std.proofs.lemmas.List.Folds.{length-flat_map-take, flat_map-map}
 use Rattle.atomic_table.specs.Table.{rest, turned}
 use Rattle.ck_model.specs.declared.contents.Content.{Content}
 use Rattle.ck_model.specs.Map.{Name, named}
-use Rattle.ck_model.specs.Contents.{pairs_in, pairs_of}
+use Rattle.ck_model.specs.Contents.{Stripes, pairs_in, pairs_of}
 use Rattle.ck_stripe.specs.Stripe.{StripeState}
 use Rattle.ck_section.specs.Stripes.{no_stripe, stripe_at, contents_of}
-use Rattle.ck_words.specs.Rule.{Slot}
+use Rattle.ck_words.specs.Rule.{Slot, counting}
 use Rattle.ck_words.specs.Passes.{slot_of, numbers_of}
+use Rattle.ck_words.proofs.Counting.{length-counting, counting-at}
+use Rattle.ck_words.proofs.Reversed.{map-reverse}
+use Rattle.ck_words.proofs.Excuses.{count-reverse}
+use Rattle.ck_words.proofs.Seating.{length-numbers}
 
 module _ {V : Type 0} where
   -- the pairs of the stripes
@@ -35,10 +39,32 @@ module _ {V : Type 0} where
   number_there : (i : ℕ) (ss : List (StripeState V)) (ns : List ℕ) → numbers_of ss ≡ ns → i < length ss → (stripe_at ss i).number ≡ get_or ns i 0
   number_there i ss ns e l = sym (get_or-map (λ (s : StripeState V). s.number) ss i no_stripe 0 l) ∙ ap (λ l. get_or l i 0) e
 
-  pub front_slot : (i : ℕ) (ss : List (StripeState V)) (ms : List (ℕ × Slot V)) (ns : List ℕ) → HasLeft i ss ms → numbers_of ss ≡ ns → i < length ss → ms ≡ (get_or ns i 0, Some (stripe_at ss i)) ∷ rest ms
+  front_slot : (i : ℕ) (ss : List (StripeState V)) (ms : List (ℕ × Slot V)) (ns : List ℕ) → HasLeft i ss ms → numbers_of ss ≡ ns → i < length ss → ms ≡ (get_or ns i 0, Some (stripe_at ss i)) ∷ rest ms
   front_slot i ss ms ns h e l =
       let f = left_front i ss ms h l in
       f ∙ (λ j. (number_there i ss ns e l j, Some (stripe_at ss i)) ∷ rest (sym f j))
+
+  -- it is the highest of those that are left
+  pub counted_front : (n i : ℕ) (ss : List (StripeState V)) (ms : List (ℕ × Slot V)) → HasLeft i ss ms → numbers_of (reverse ss) ≡ counting 0 n → i < n → ms ≡ (n - 1 - i, Some (stripe_at ss i)) ∷ rest ms
+  counted_front n i ss ms h e l =
+      let ns : List ℕ = counting 0 n in
+      let all : length ns ≡ n = length-counting n 0 in
+      let named : numbers_of ss ≡ reverse ns = sym (reverse-reverse (numbers_of ss)) ∙ ap reverse (sym (map-reverse (λ (s : StripeState V). s.number) ss) ∙ e) in
+      let count : length ss ≡ n = sym (length-numbers ss) ∙ (ap length named ∙ (length-reverse ns ∙ all)) in
+      let number : get_or (reverse ns) i 0 ≡ n - 1 - i = get_or-reverse ns i 0 (omega arith) ∙ (ap (λ k. get_or ns (k - 1 - i) 0) all ∙ counting-at n (n - 1 - i) (omega arith)) in
+      front_slot i ss ms (reverse ns) h named (omega arith) ∙ λ j. (number j, Some (stripe_at ss i)) ∷ rest ms
+
+  pub counted_length : (n : ℕ) (ss : List (StripeState V)) → numbers_of (reverse ss) ≡ counting 0 n → length ss ≡ n
+  counted_length n ss e = sym (length-reverse ss) ∙ (sym (length-numbers (reverse ss)) ∙ (ap length e ∙ length-counting n 0))
+
+  -- what holds of the stripes in rising order
+  pub settled_turned : (ss : List (StripeState V)) → ((i : ℕ) → (stripe_at (reverse ss) i).settled ≡ true) → (i : ℕ) → i < length ss → (stripe_at ss i).settled ≡ true
+  settled_turned ss all i l =
+      let r = length-reverse ss in
+      ap (λ (s : StripeState V). s.settled) (ap (λ (l : List (StripeState V)). stripe_at l i) (sym (reverse-reverse ss)) ∙ get_or-reverse (reverse ss) i no_stripe (omega arith)) ∙ all (length (reverse ss) - 1 - i)
+
+  pub count_turned : (ss : List (StripeState V)) → length (pairs_of (contents_of (reverse ss))) ≡ length (pairs_of (contents_of ss))
+  count_turned ss = ap (λ (hs : Stripes V). length (pairs_of hs)) (map-reverse (λ (s : StripeState V). (s.number, s.content)) ss) ∙ count-reverse (contents_of ss)
 
   -- what was in the first slot
   pub came_out : (ms : List (ℕ × Slot V)) (t : ℕ) (s : StripeState V) (o : Slot V) → ms ≡ (t, Some s) ∷ rest ms → ms ≡ (t, o) ∷ rest ms → o ≡ Some s

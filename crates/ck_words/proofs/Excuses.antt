@@ -3,8 +3,8 @@ use Rattle.std.proofs.Common.{◌≡◌, ◌⊎◌, ℕ, ◌+◌, ◌/◌, ◌%�
 use Rattle.std.specs.FinMap.{get}
 use mathlib.Core.Logic.{dite}
 use native.Mathlib.Decide.{ℕ_discrete}
-use Rattle.ck_model.specs.declared.history.Why.{Why}
-use Rattle.ck_model.specs.declared.history.Why.TheVariants.{NoRoom, Full, LoadTooLow, Memory}
+use Rattle.ck_model.specs.declared.history.Reason.{Reason}
+use Rattle.ck_model.specs.declared.history.Reason.TheVariants.{NoRoom, Full, LoadTooLow, Memory}
 use Rattle.ck_model.specs.declared.contents.Content.{Content}
 use Rattle.ck_model.specs.Arithmetic.{alternate_of, partial_of}
 use Rattle.ck_model.specs.Map.{Name, Map}
@@ -35,7 +35,7 @@ module _ {V : Type 0} where
       let y = length-append (pairs_in h.1) (pairs_of hs) in
       omega arith
 
-  count-reverse : (hs : Stripes V) → length (pairs_of (reverse hs)) ≡ length (pairs_of hs)
+  pub count-reverse : (hs : Stripes V) → length (pairs_of (reverse hs)) ≡ length (pairs_of hs)
   count-reverse [] = refl
   count-reverse (h ∷ hs) =
       let e = count-reverse hs in
@@ -83,7 +83,7 @@ module _ {V : Type 0} (k : Layout) (hs : Stripes V) (l : Lawful k hs) where
     no_path = λ b cs of short path. s.no_path b cs (subst (λ p. IsBucketOf k.hash p q b) (power-reverse k hs l) of) short (path_of_reverse b cs path);
   }
 
-  grounds_reverse : (min_load : ℕ) (q : Name) (why : Why) → Grounds k min_load hs q why → Grounds k min_load (reverse hs) q why
+  grounds_reverse : (min_load : ℕ) (q : Name) (why : Reason) → Grounds k min_load hs q why → Grounds k min_load (reverse hs) q why
   grounds_reverse min_load q Full g = (stuck_reverse q g.0, power-reverse k hs l ∙ g.1)
   grounds_reverse min_load q LoadTooLow g = (stuck_reverse q g.0, (λ e. g.1 (sym (power-reverse k hs l) ∙ e)), too_empty)
     where
@@ -95,11 +95,11 @@ module _ {V : Type 0} (k : Layout) (hs : Stripes V) (l : Lawful k hs) where
       enough e = g.2 (subst (λ (x : ℕ × ℕ). 100 * x.0 < min_load * (4 * 2 ^ x.1)) (λ j. (count-reverse hs j, power-reverse k hs l j)) e)
   grounds_reverse min_load q NoRoom g = absurd g
 
-  pub has_grounds_reverse : (min_load : ℕ) (g : Option (Name × Why)) → HasGrounds k min_load hs g → HasGrounds k min_load (reverse hs) g
+  pub has_grounds_reverse : (min_load : ℕ) (g : Option (Name × Reason)) → HasGrounds k min_load hs g → HasGrounds k min_load (reverse hs) g
   has_grounds_reverse min_load None h = tt
   has_grounds_reverse min_load (Some (q, why)) h = grounds_reverse min_load q why h
 
-  pub excused_reverse : (min_load : ℕ) (g : Option (Name × Why)) → IsExcused k min_load hs g → IsExcused k min_load (reverse hs) g
+  pub excused_reverse : (min_load : ℕ) (g : Option (Name × Reason)) → IsExcused k min_load hs g → IsExcused k min_load (reverse hs) g
   excused_reverse min_load None h = tt
   excused_reverse min_load (Some (q, NoRoom)) h = ((λ t of. in_reverse hs t (h.0 t of)), no_room_reverse q h.1)
   excused_reverse min_load (Some (q, Full)) h = grounds_reverse min_load q Full h

@@ -8,10 +8,15 @@ pub mod Takes
 pub mod Gives
 pub mod Staying
 pub mod Turning
+pub mod Lending
 pub mod Starting
 pub mod Meets
 pub mod Settling
-pub mod AllHeld
+pub mod Counting
+pub mod Taking
+pub mod Releasing
+pub mod Renewed
+pub mod Missing
 pub mod Joining
 pub mod Totals
 pub mod Draining
@@ -19,5 +24,9 @@ pub mod Dealt
 pub mod Ending
 pub mod Replying
 pub mod AreHeld
-pub mod SomeHeld
 pub mod KnownCaller
+pub mod Telling
+pub mod WholeTables
+pub mod Lifting
+pub mod Renewals
+pub mod Listed

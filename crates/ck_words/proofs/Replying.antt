@@ -22,9 +22,11 @@ use Rattle.ck_core.specs.Laws.{Answered}
 use Rattle.ck_core.proofs.Shown.{answered}
 use Rattle.ck_words.specs.Rule.{layout_of}
 use Rattle.ck_words.specs.Steps.{Steps}
-use Rattle.ck_words.specs.Passes.{PassState}
+use Rattle.ck_words.specs.Words.{WordsState}
+use Rattle.ck_words.specs.Passes.{PassState, Sends}
 use Rattle.ck_words.specs.Retries.{Stays}
-use Rattle.ck_words.specs.Answering.{HasDone, IsAnswered}
+use Rattle.ck_words.specs.Answering.{HasDone, IsAnswered, HasCommitted}
+use Rattle.ck_words.specs.Holding.{HasReleased}
 use Rattle.ck_words.proofs.Reversed.{lawful_reverse}
 use Rattle.ck_words.proofs.Rows.{shows_before, shows_after, decide_row}
 
@@ -93,7 +95,10 @@ module _ {V : Type 0} where
   abbrev pub entry_for : Call V → PassState V → Entry V
   entry_for call p = record { by = unwrap_or p.view.by 0; call = call; reply = reply_to call (bindings (reverse p.view.held)) (bindings (contents_of p.stripes)) }
 
-  module _ (hash : Name → ℕ) (set : Settings) (call : Call V) (p : PassState V) where
+  module _ (hash : Name → ℕ) (w : WordsState) (call : Call V) (p : PassState V) where
+    abbrev set : Settings
+    set = w.settings
+
     reply_done : (r : Reply V) → HasDone hash set call r p → Lawful (layout_of hash set) (reverse p.view.held) → r ≡ (entry_for call p).reply
     reply_done r done l = reply_told (bindings (reverse p.view.held)) call r (bindings (contents_of p.stripes)) (done l).step
 
@@ -138,4 +143,17 @@ module _ {V : Type 0} where
             by_others = λ n e. refl;
             told = (let a : q1.view.told ≡ p.view.told = ap (λ (v : View V). v.told) row in let b = s.told in omega arith);
           };
+        }
+
+    pub has_committed : IsSome p.view.by → (q1 q : PassState V) → Sends hash w (λ t ks. Decide t ks (entry_for call p)) p q1 → HasReleased w q1 q → HasCommitted hash w call p q
+    has_committed some q1 q d r =
+        let m = number_in p.view.by some in
+        let row = decide_row hash set p.view q1.view d.0.number (reverse (contents_of p.stripes)) (entry_for call p) d.2 in
+        record {
+          own = r.own;
+          idle = r.idle;
+          answered = is_answered m.0 m.1 d.0.number (reverse (contents_of p.stripes)) q1 q d.2 r.stays r.seen;
+          by = r.stays.by ∙ ap (λ (v : View V). v.by) row;
+          others = r.stays.others ∙ ap (λ (v : View V). v.others) row;
+          found = r.found ∙ ap (λ (v : View V). v.found) row;
         }

@@ -4,7 +4,7 @@ use Rattle.std.specs.Prelude.{slice_set}
 use mathlib.Core.Option.{some, some-injective}
 use lib.ListN.{get_elem?}
 use Rattle.ck_model.specs.declared.history.Entry.{Entry}
-use Rattle.ck_model.specs.declared.history.Why.{Why}
+use Rattle.ck_model.specs.declared.history.Reason.{Reason}
 use Rattle.ck_model.specs.declared.contents.Content.{Content}
 use Rattle.ck_model.specs.declared.settings.Settings.{Settings}
 use Rattle.ck_model.specs.Map.{Name}
@@ -31,7 +31,7 @@ module _ {V : Type 0} (hash : Name → ℕ) (set : Settings) where
     shows_after = shows (layout_of hash set) set.callers (grown r.log m) r.after (step_keeps (layout_of hash set) set.min_load set.callers r.log r.id m r.before r.after r.law r.does) r.id w r.is
 
     -- there is one view of the caller before the step
-    same_view : (u : View V) → get_elem? r.before.views r.id ≡ some u → u ≡ v
+    pub same_view : (u : View V) → get_elem? r.before.views r.id ≡ some u → u ≡ v
     same_view u at = some-injective u v (sym at ∙ r.was)
 
     -- and one after it
@@ -55,7 +55,7 @@ module _ {V : Type 0} (hash : Name → ℕ) (set : Settings) where
     pub find_row : (t : ℕ) → Steps hash set (FindHeld t) v w → w ≡ record v { found = t ∷ v.found }
     find_row t r = new_view (FindHeld t) v w r (λ u. record u { found = t ∷ u.found }) r.does.0 r.does.1 (ap (λ (x : World V). x.views) r.does.5)
 
-    pub give_row : (t : ℕ) (g : Option (Name × Why)) (r : Steps hash set (Give t g) v w) → w ≡ giving v t r.does.1 v.held g
+    pub give_row : (t : ℕ) (g : Option (Name × Reason)) (r : Steps hash set (Give t g) v w) → w ≡ giving v t r.does.1 v.held g
     give_row t g r = new_view (Give t g) v w r (λ u. giving u t r.does.1 u.held g) r.does.0 r.does.2 (ap (λ (x : World V). x.views) r.does.5)
 
     -- a give that tells nothing is a give of the rest
@@ -68,7 +68,7 @@ module _ {V : Type 0} (hash : Name → ℕ) (set : Settings) where
     pub decide_row : (t : ℕ) (ks : Stripes V) (e : Entry V) (r : Steps hash set (Decide t ks e) v w) → w ≡ deciding v t ks r.log e
     decide_row t ks e r = new_view (Decide t ks e) v w r (λ u. deciding u t ks r.log e) r.does.0 r.does.2 (ap (λ (x : World V). x.views) r.does.6)
 
-    pub renew_row : (t : ℕ) (ks : Stripes V) (g : Option (Name × Why)) (r : Steps hash set (Renew t ks g) v w) → w ≡ giving v t r.does.1 ks g
+    pub renew_row : (t : ℕ) (ks : Stripes V) (g : Option (Name × Reason)) (r : Steps hash set (Renew t ks g) v w) → w ≡ giving v t r.does.1 ks g
     renew_row t ks g r = new_view (Renew t ks g) v w r (λ u. giving u t r.does.1 ks g) r.does.0 r.does.2 (ap (λ (x : World V). x.views) r.does.6)
 
     pub look_row : (t p : ℕ) (r : Steps hash set (Look t p) v w) → w ≡ record v { seen = r.log; told = p }

@@ -1,43 +1,40 @@
 -- Stripes are settled one after another.
-use Rattle.std.proofs.Common.{◌≡◌, ℕ, zero, suc, ◌+◌, ◌<◌, true, List, [], ◌∷◌, length, set, add-one, refl, sym, ap, ◌∙◌, arith}
+use Rattle.std.proofs.Common.{◌≡◌, ℕ, zero, suc, ◌+◌, ◌<◌, true, List, [], ◌∷◌, length, get_or, add-one, refl, sym, ap, ◌∙◌, arith}
 use Rattle.ck_stripe.specs.Stripe.{StripeState}
-use Rattle.ck_section.specs.Stripes.{stripe_at}
-use Rattle.ck_words.specs.Passes.{PassState}
-use Rattle.ck_words.specs.Closing.{settled_stripes}
+use Rattle.ck_section.specs.Stripes.{no_stripe, stripe_at, settled_stripes}
+use Rattle.ck_section.proofs.Stepwise.{changed_to, changed-next, changed-all}
+use Rattle.ck_words.specs.Passes.{PassState, numbers_of}
+use Rattle.ck_words.specs.Closing.{settled_also}
+use Rattle.ck_words.proofs.Seating.{length-numbers, number_at}
 
 module _ {V : Type 0} where
+  abbrev settle : StripeState V → StripeState V
+  settle s = record s { settled = true }
+
   -- the first n are settled
   abbrev pub settled_to : ℕ → List (StripeState V) → List (StripeState V)
-  settled_to zero ss = ss
-  settled_to (suc n) [] = []
-  settled_to (suc n) (s ∷ ss) = record s { settled = true } ∷ settled_to n ss
+  settled_to n ss = changed_to settle n ss
 
-  -- stripe i of these becomes settled
-  abbrev pub settled_also : ℕ → List (StripeState V) → List (StripeState V)
-  settled_also i ss = set ss i (record (stripe_at ss i) { settled = true })
-
-  pub length-settled_to : (n : ℕ) (ss : List (StripeState V)) → length (settled_to n ss) ≡ length ss
-  length-settled_to zero ss = refl
-  length-settled_to (suc n) [] = refl
-  length-settled_to (suc n) (s ∷ ss) = ap suc (length-settled_to n ss)
-
-  settled-next : (n : ℕ) (ss : List (StripeState V)) → settled_also n (settled_to n ss) ≡ settled_to (suc n) ss
-  settled-next zero [] = refl
-  settled-next zero (s ∷ ss) = refl
-  settled-next (suc n) [] = refl
-  settled-next (suc n) (s ∷ ss) = ap {B = List (StripeState V)} (λ l. record s { settled = true } ∷ l) (settled-next n ss)
-
-  settled-all : (ss : List (StripeState V)) → settled_to (length ss) ss ≡ settled_stripes ss
-  settled-all [] = refl
-  settled-all (s ∷ ss) = ap {B = List (StripeState V)} (λ l. record s { settled = true } ∷ l) (settled-all ss)
+  numbers-settled_to : (n : ℕ) (ss : List (StripeState V)) → numbers_of (settled_to n ss) ≡ numbers_of ss
+  numbers-settled_to zero ss = refl
+  numbers-settled_to (suc n) [] = refl
+  numbers-settled_to (suc n) (s ∷ ss) = ap {B = List ℕ} (λ l. s.number ∷ l) (numbers-settled_to n ss)
 
   pub one_more : (p q r : PassState V) (i : ℕ) → q ≡ record p { stripes = settled_to i p.stripes } → r ≡ record q { stripes = settled_also i q.stripes } → r ≡ record p { stripes = settled_to (i + 1) p.stripes }
   one_more p q r i before after =
-      let next : settled_also i (settled_to i p.stripes) ≡ settled_to (i + 1) p.stripes = settled-next i p.stripes ∙ ap (λ n. settled_to n p.stripes) (sym (add-one i)) in
+      let next : settled_also i (settled_to i p.stripes) ≡ settled_to (i + 1) p.stripes = changed-next settle i p.stripes no_stripe ∙ ap (λ n. settled_to n p.stripes) (sym (add-one i)) in
       after ∙ ((λ j. record (before j) { stripes = settled_also i (before j).stripes }) ∙ λ j. record p { stripes = next j })
 
   pub all_settled : (p q : PassState V) (i : ℕ) → q ≡ record p { stripes = settled_to i p.stripes } → i ≡ length p.stripes → q ≡ record p { stripes = settled_stripes p.stripes }
-  all_settled p q i before end = before ∙ λ j. record p { stripes = (ap (λ n. settled_to n p.stripes) end ∙ settled-all p.stripes) j }
+  all_settled p q i before end = before ∙ λ j. record p { stripes = (ap (λ n. settled_to n p.stripes) end ∙ changed-all settle p.stripes) j }
 
-  pub still_there : (p q : PassState V) (i : ℕ) → q ≡ record p { stripes = settled_to i p.stripes } → i < length p.stripes → i < length q.stripes
-  still_there p q i before inside = let e = ap (λ (x : PassState V). length x.stripes) before ∙ length-settled_to i p.stripes in omega arith
+  -- the stripes are those that they were, by their numbers
+  pub still_there : (p q : PassState V) (i : ℕ) (ns : List ℕ) → q ≡ record p { stripes = settled_to i p.stripes } → numbers_of p.stripes ≡ ns → numbers_of q.stripes ≡ ns
+  still_there p q i ns before numbered = ap (λ (x : PassState V). numbers_of x.stripes) before ∙ (numbers-settled_to i p.stripes ∙ numbered)
+
+  -- stripe i of them, and how many there are
+  pub counts : (p : PassState V) (ns : List ℕ) → numbers_of p.stripes ≡ ns → length p.stripes ≡ length ns
+  counts p ns numbered = sym (length-numbers p.stripes) ∙ ap length numbered
+
+  pub named : (p : PassState V) (ns : List ℕ) (i : ℕ) → numbers_of p.stripes ≡ ns → i < length ns → (stripe_at p.stripes i).number ≡ get_or ns i 0
+  named p ns i numbered inside = let n = counts p ns numbered in number_at p.stripes i (omega arith) ∙ ap (λ (l : List ℕ). get_or l i 0) numbered

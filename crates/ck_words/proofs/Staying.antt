@@ -1,27 +1,24 @@
 -- What stays as it is over steps that decide nothing.
 use Rattle.std.proofs.Common.{◌≡◌, ℕ, ◌<◌, List, [], ◌∷◌, ◌++◌, ◌⊎◌, ◌+◌, false, add-one, inl, inr, zero, suc, length, reverse, replicate, append-nil, append_assoc, length-append, sym, refl, ap, ◌∙◌, subst, ⊎_elim, arith, None}
 use Rattle.ck_model.specs.declared.history.Entry.{Entry}
-use Rattle.ck_model.specs.declared.history.Why.{Why}
+use Rattle.ck_model.specs.declared.history.Reason.{Reason}
 use Rattle.ck_model.specs.declared.settings.Settings.{Settings}
 use Rattle.ck_model.specs.Map.{Name}
 use Rattle.ck_model.specs.History.{StartsWith}
 use Rattle.ck_model.specs.Numbered.{IsIn, numbers}
-use Rattle.ck_model.specs.Contents.{Stripes}
 use Rattle.ck_model.proofs.Histories.{calls_by-append}
 use Rattle.ck_stripe.specs.Stripe.{StripeState}
 use Rattle.ck_core.specs.declared.view.View.{View}
-use Rattle.ck_core.specs.Steps.{IsAbove, giving}
+use Rattle.ck_core.specs.Steps.{giving}
 use Rattle.ck_core.specs.Steps.Move.{Take, GiveRest}
 use Rattle.ck_core.specs.Laws.{Shows}
 use Rattle.ck_section.specs.Stripes.{contents_of}
 use Rattle.std.proofs.lemmas.List.{reverse-reverse}
 use Rattle.ck_words.specs.Rule.{layout_of}
-use Rattle.ck_words.proofs.Seating.{each_append}
-use Rattle.ck_words.specs.Passes.{EachOf, PassState, IsPassOf, TakesStripe, TriesStripe, Sends, IsIdle, IsUnchanged, ShowsSeen, numbers_of}
+use Rattle.ck_words.specs.Passes.{PassState, IsPassOf, TakesStripe, TriesStripe, Sends, IsIdle, IsUnchanged, ShowsSeen}
 use Rattle.ck_words.specs.Words.{WordsState}
 use Rattle.ck_words.proofs.Rows.{shows_before, shows_after, take_row, find_row, rest_row}
-use Rattle.ck_words.proofs.Reversed.{map-append}
-use Rattle.ck_words.specs.Retries.{Stays, StaysBut, FindsAmong, IsBusy, found_again, TakesWithin}
+use Rattle.ck_words.specs.Retries.{Stays, StaysBut, FindsAmong, found_again, TakesWithin}
 
 in_replicate : (n t u : ℕ) → IsIn u (replicate n t) → t ≡ u
 in_replicate zero t u z = absurd z
@@ -38,7 +35,7 @@ module _ {V : Type 0} where
   pub stays_same : (v : View V) → Stays v v
   stays_same v = record { settings = refl; by = refl; mine = refl; others = refl; heard = (refl, refl); noroom = refl; seen = ([], sym (append-nil v.seen)); by_others = λ m e. refl; told = omega arith }
 
-  pub stays_then : (xs ys : List (Name × Why)) (u v w : View V) → StaysBut xs u v → StaysBut ys v w → StaysBut (ys ++ xs) u w
+  pub stays_then : (xs ys : List (Name × Reason)) (u v w : View V) → StaysBut xs u v → StaysBut ys v w → StaysBut (ys ++ xs) u w
   unfolding starts_on
   stays_then xs ys u v w f g = record {
     settings = g.settings ∙ f.settings;
@@ -89,7 +86,7 @@ module _ {V : Type 0} where
   pub stays_finding : (n t : ℕ) (p : PassState V) → Stays p.view (found_again n t p).view
   stays_finding n t p = record { settings = refl; by = refl; mine = refl; others = refl; heard = (refl, refl); noroom = refl; seen = ([], sym (append-nil p.view.seen)); by_others = λ m e. refl; told = omega arith }
 
-  module _ (hash : Name → ℕ) (set : Settings) (t : ℕ) (p q : PassState V) (k : TakesWithin hash set t p q) where
+  module _ (hash : Name → ℕ) (set : Settings) (turns t : ℕ) (p q : PassState V) (k : TakesWithin hash set turns t p q) where
     within_view : q.view ≡ record (found_again k.0 t p).view { held = (t, k.2.3.does.1) ∷ p.view.held; seen = k.2.3.log }
     within_view = take_row hash set (found_again k.0 t p).view q.view t k.2.3
 
@@ -115,34 +112,6 @@ module _ {V : Type 0} where
   pub unchanged_idle : (p : PassState V) → IsIdle p → IsUnchanged p
   unchanged_idle p i = ap contents_of i.0 ∙ ap reverse (sym i.1)
 
-  pub above_none : (t : ℕ) (p : PassState V) → IsIdle p → IsAbove t (numbers p.view.held)
-  above_none t p i u h = absurd (subst (λ (hs : Stripes V). IsIn u (numbers hs)) i.1 h)
-
-  module _ (hash : Name → ℕ) (set : Settings) (low high : ℕ) (p q r s : PassState V) (idle : IsIdle p) (first : TakesWithin hash set low p q) where
-    one_held : numbers q.view.held ≡ low ∷ []
-    one_held = held_within hash set low p q first ∙ ap (λ (hs : Stripes V). low ∷ numbers hs) idle.1
-
-    pub above_one : low < high → IsAbove high (numbers q.view.held)
-    above_one l u h = ⊎_elim (λ (e : low ≡ u). subst (λ x. x < high) e l) (λ z. absurd z) (subst (IsIn u) one_held h)
-
-    pub numbers_one : numbers_of q.stripes ≡ low ∷ []
-    numbers_one = ap (λ (l : List (StripeState V)). numbers_of l) first.2.2 ∙ (ap (λ (l : List (StripeState V)). numbers_of (l ++ first.2.0 ∷ [])) idle.0 ∙ λ i. first.2.1.0 i ∷ [])
-
-    pub numbers_two : TakesWithin hash set high q r → numbers_of r.stripes ≡ low ∷ high ∷ []
-    numbers_two k = ap (λ (l : List (StripeState V)). numbers_of l) k.2.2 ∙ (map-append (λ (x : StripeState V). x.number) q.stripes (k.2.0 ∷ []) ∙ λ i. numbers_one i ++ k.2.1.0 i ∷ [])
-
-    pub each_one : EachOf set.s q.stripes
-    each_one = subst (λ (l : List (StripeState V)). EachOf set.s l) (sym (first.2.2 ∙ ap (λ (l : List (StripeState V)). l ++ first.2.0 ∷ []) idle.0)) (first.2.1.1, tt)
-
-    pub each_two : TakesWithin hash set high q r → EachOf set.s r.stripes
-    each_two k = subst (λ (l : List (StripeState V)). EachOf set.s l) (sym k.2.2) (each_append set.s q.stripes k.2.0 each_one k.2.1.1)
-
-    pub busy_second : (turns : ℕ) → r ≡ found_again turns high q → IsIdle s → s.view.found ≡ r.view.found → IsBusy turns high p s
-    busy_second turns again none same = (none, (replicate first.0 low, same ∙ (ap (λ (x : PassState V). x.view.found) again ∙ (ap (λ (l : List ℕ). replicate turns high ++ l) (found_within hash set low p q first) ∙ sym (append_assoc (replicate turns high) (replicate first.0 low) p.view.found)))))
-
-  pub busy_first : (turns t : ℕ) (p q : PassState V) → IsIdle p → q ≡ found_again turns t p → IsBusy turns t p q
-  busy_first turns t p q idle again = subst (IsBusy turns t p) (sym again) (idle, ([], ap (λ l. l ++ p.view.found) (sym (append-nil (replicate turns t)))))
-
   -- the stripes that were found held
   pub among_none : (P : ℕ → Type 0) (p q : PassState V) → q.view.found ≡ p.view.found → FindsAmong P p q
   among_none P p q e = ([], e, (λ t z. absurd z))
@@ -153,8 +122,8 @@ module _ {V : Type 0} where
   pub among_on : (P : ℕ → Type 0) (p q r : PassState V) → FindsAmong P p q → FindsAmong P q r → FindsAmong P p r
   among_on P p q r f g = (g.0 ++ f.0, g.1 ∙ (ap (λ l. g.0 ++ l) f.1 ∙ sym (append_assoc g.0 f.0 p.view.found)), (λ t i. ⊎_elim (g.2 t) (f.2 t) (in_parts g.0 f.0 t i)))
 
-  pub among_within : (P : ℕ → Type 0) (hash : Name → ℕ) (set : Settings) (t : ℕ) (p q : PassState V) → P t → TakesWithin hash set t p q → FindsAmong P p q
-  among_within P hash set t p q h k = among_again P k.0 t p q h (found_within hash set t p q k)
+  pub among_within : (P : ℕ → Type 0) (hash : Name → ℕ) (set : Settings) (turns t : ℕ) (p q : PassState V) → P t → TakesWithin hash set turns t p q → FindsAmong P p q
+  among_within P hash set turns t p q h k = among_again P k.0 t p q h (found_within hash set turns t p q k)
 
   pub among_held : (P : ℕ → Type 0) (n t : ℕ) (p q : PassState V) → P t → q ≡ found_again n t p → FindsAmong P p q
   among_held P n t p q h k = among_again P n t p q h (ap (λ (x : PassState V). x.view.found) k)

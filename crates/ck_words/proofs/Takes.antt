@@ -1,36 +1,29 @@
 -- What a take asks and leaves, at the fields of words and pass.
-use Rattle.std.proofs.Common.{◌≡◌, ◌≢◌, ℕ, ◌*◌, ◌/◌, ◌^◌, ◌<◌, ◌≤◌, List, [], ◌∷◌, ◌++◌, length, reverse, sym, ap, ◌∙◌, subst, arith, false, true, Some}
+use Rattle.std.proofs.Common.{◌≡◌, ◌≢◌, ℕ, ◌*◌, ◌/◌, ◌^◌, ◌<◌, ◌≤◌, List, [], ◌∷◌, ◌++◌, reverse, sym, ap, ◌∙◌, subst, arith, false, Some}
 use Rattle.std.proofs.Math.Nat.{one-le-pow}
-use Rattle.atomic_table.specs.Table.{turned, Allows}
+use Rattle.atomic_table.specs.Table.{Allows}
 use Rattle.atomic_table.specs.Seated.{TableId}
 use Rattle.ck_model.specs.declared.settings.Settings.{Settings}
 use Rattle.ck_model.specs.Map.{Name}
-use Rattle.ck_model.specs.Numbered.{numbers, Holds}
+use Rattle.ck_model.specs.Numbered.{numbers}
 use Rattle.ck_stripe.specs.Stripe.{StripeState}
 use Rattle.ck_section.specs.Stripes.{contents_of}
 use Rattle.ck_core.specs.declared.view.View.{View}
 use Rattle.ck_core.specs.Steps.{IsAbove}
-use Rattle.ck_core.specs.Steps.Move.{Take}
+use Rattle.ck_core.specs.Steps.Move.{Take, FindHeld}
 use Rattle.ck_words.specs.Rule.{Slot, Hand, RuleOf, IsNumbered}
 use Rattle.ck_words.specs.Steps.{Steps}
-use Rattle.ck_words.specs.Plays.{stripe_in, SeatTries, SeatLooks}
+use Rattle.ck_words.specs.Plays.{SeatTries, SeatLooks}
 use Rattle.ck_words.specs.Words.{WordsState, IsLaidOut}
-use Rattle.ck_words.specs.Passes.{PassState, IsSeated, IsPassOf, IsUnchanged, TriesStripe, LooksUp, state_of, stripes_in}
+use Rattle.ck_words.specs.Passes.{PassState, IsSeated, IsPassOf, IsUnchanged, TakesStripe, TriesStripe, LooksUp, state_of, stripes_in, held_in}
 use Rattle.ck_words.proofs.Allowed.{take_allowed, look_allowed}
 use Rattle.ck_words.proofs.Reversed.{map-append, reverse-cons}
 use Rattle.ck_words.proofs.Rows.{take_row, take_held, find_row, look_row}
-use Rattle.ck_words.proofs.Seating.{seated_take, seated_view, has_room}
+use Rattle.ck_words.proofs.Seating.{seated_take, seated_view}
 
 -- the number of the stripe whose word it is
 pub word_of : (t : ℕ) → t * 8 / 8 ≡ t
 word_of t = omega arith
-
--- what a step leaves of a pass, whose seat has these numbers then
-pub record Left {V : Type 0} (w : WordsState) (Step : PassState V → Type 0) (z : TableId) (me : Hand V) (ns : List ℕ) (room : ℕ) : Type 0 where
-  pub seated : IsSeated z me ns room
-  pub own : IsPassOf w (state_of z me)
-  pub step : Step (state_of z me)
-  pub unchanged : IsUnchanged (state_of z me)
 
 -- the table of a pass and its words
 pub record Fits {V : Type 0} (w : WordsState) (p : PassState V) (tz : TableId) (key set : Settings) (z : TableId) (me : Hand V) : Type 0 where
@@ -77,8 +70,9 @@ module _ {V : Type 0} (hash : Name → ℕ) (w : WordsState) (p : PassState V) (
   pub below_key : (t : ℕ) → t < 2 ^ w.settings.s → t < 2 ^ key.s
   below_key t l = subst (λ (x : Settings). t < 2 ^ x.s) same_key l
 
-  pub unchanged_mine : IsUnchanged p → contents_of (stripes_in me.1) ≡ reverse me.0.held
-  unchanged_mine u = subst IsUnchanged (sym f.pass_is) u
+  -- the stripes and the content of its view are as before
+  pub still_seated : (z2 : TableId) (me2 : Hand V) → IsSeated z me → z2 ≡ z → me2.0.settings ≡ me.0.settings → me2.0.held ≡ me.0.held → me2.1 ≡ me.1 → IsSeated z2 me2
+  still_seated z2 me2 s same settings held slots = seated_view z z2 me me2 me2.0 s held settings same (λ i. (me2.0, slots i))
 
   module _ (t : ℕ) (inside : t < 2 ^ w.settings.s) (above : IsAbove t (numbers p.view.held)) where
     above_mine : IsAbove t (numbers me.0.held)
@@ -90,44 +84,69 @@ module _ {V : Type 0} (hash : Name → ℕ) (w : WordsState) (p : PassState V) (
     told_now : (r : ℕ) (me2 : Hand V) → SeatTries hash me.0.settings (t * 8 / 8) me r me2 → SeatTries hash w.settings t me r me2
     told_now r me2 h = told (λ x n. SeatTries hash x n me r me2) t h
 
-    -- the stripe was taken, and went behind the others
-    pub took : (ns ns2 : List ℕ) (room room2 r : ℕ) (z3 : TableId) (me2 me3 : Hand V) → SeatTries hash me.0.settings (t * 8 / 8) me r me2 → r ≡ 0 → me3 ≡ (me2.0, turned me2.1)
-        → IsSeated z me ns room → IsUnchanged p → z3 ≡ z → ns2 ≡ ns ++ t ∷ [] → room2 ≡ room → Left w (TriesStripe hash w t true p) z3 me3 ns2 room2
-    took ns ns2 room room2 r z3 me2 me3 h zero_found after seated old same items cap =
+    -- the stripe was taken
+    pub record Took (me3 : Hand V) : Type 0 where
+      pub stripe : StripeState V
+      pub own_number : IsNumbered w.settings.s t stripe
+      pub slots : me3.1 ≡ (t, Some stripe) ∷ me.1
+      pub settings : me3.0.settings ≡ me.0.settings
+      pub held : me3.0.held ≡ (t, stripe.content) ∷ me.0.held
+      pub step : Steps hash w.settings (Take t) me.0 me3.0
+
+    pub took : (me2 : Hand V) (r : ℕ) → SeatTries hash me.0.settings (t * 8 / 8) me r me2 → r ≡ 0 → Took me2
+    took me2 r h zero_found =
         let k = (told_now r me2 h).0 zero_found in
-        let view : me2.0 ≡ me3.0 = sym (ap (λ (m : Hand V). m.0) after) in
-        let stripe : StripeState V = k.0 in
-        let step : Steps hash w.settings (Take t) me.0 me3.0 = subst (λ (v : View V). Steps hash w.settings (Take t) me.0 v) view k.4 in
-        let slots : me3.1 ≡ me.1 ++ (t, Some stripe) ∷ [] = ap (λ (m : Hand V). m.1) after ∙ ap turned k.2 in
-        let settings : me3.0.settings ≡ me.0.settings = ap (λ (v : View V). v.settings) (take_row hash w.settings me.0 me3.0 t step) in
-        let held : me3.0.held ≡ (t, stripe.content) ∷ me.0.held = take_held hash w.settings me.0 me3.0 t stripe.content step (subst (λ (v : View V). Holds v.held t stripe.content) view k.3) in
-        let new = seated_take z me.0 me3.0 me.1 ns room t stripe seated above_mine (below_slots t inside) (subst (λ (x : Settings). IsNumbered x.s t stripe) (sym same_settings) k.1) settings (ap numbers held) in
-        let stripes : stripes_in me3.1 ≡ stripes_in me.1 ++ stripe ∷ [] = ap stripes_in slots ∙ map-append stripe_in me.1 ((t, Some stripe) ∷ []) in
         record {
-          seated = subst (λ (x : (TableId × List (ℕ × Slot V)) × (List ℕ × ℕ)). IsSeated x.0.0 (me3.0, x.0.1) x.1.0 x.1.1) (λ i. ((sym same i, sym slots i), (sym items i, sym cap i))) new;
-          own = own_after z3 me3 same settings;
-          step = subst (λ (q : PassState V). TriesStripe hash w t true q (state_of z3 me3)) f.pass_is (stripe, k.1, stripes, step);
-          unchanged =
-              ap contents_of stripes
-              ∙ (map-append (λ (x : StripeState V). (x.number, x.content)) (stripes_in me.1) (stripe ∷ [])
-              ∙ ((λ i. unchanged_mine old i ++ (k.1.0 i, stripe.content) ∷ []) ∙ (sym (reverse-cons (t, stripe.content) me.0.held) ∙ sym (ap reverse held))));
+          stripe = k.0;
+          own_number = k.1;
+          slots = k.2;
+          settings = ap (λ (v : View V). v.settings) (take_row hash w.settings me.0 me2.0 t k.4);
+          held = take_held hash w.settings me.0 me2.0 t k.0.content k.4 k.3;
+          step = k.4;
         }
 
-    pub room_there : (ns : List ℕ) (room : ℕ) → IsSeated z me ns room → length ns < room
-    room_there ns room s = has_room z me.0 me.1 ns room t s above_mine (below_slots t inside)
+    -- the stripes of which it is the highest
+    more : (me2 : Hand V) (k : Took me2) → held_in me2.1 ≡ held_in me.1 ++ k.stripe ∷ []
+    more me2 k = ap held_in k.slots ∙ reverse-cons k.stripe (stripes_in me.1)
+
+    pub takes : (z2 : TableId) (me2 : Hand V) → Took me2 → TakesStripe hash w.settings t p (state_of z2 me2)
+    takes z2 me2 k = subst (λ (q : PassState V). TakesStripe hash w.settings t q (state_of z2 me2)) f.pass_is (k.stripe, k.own_number, more me2 k, k.step)
+
+    pub still_unchanged : (z2 : TableId) (me2 : Hand V) → Took me2 → IsUnchanged p → IsUnchanged (state_of z2 me2)
+    still_unchanged z2 me2 k old =
+        let before : contents_of (held_in me.1) ≡ reverse me.0.held = subst IsUnchanged (sym f.pass_is) old in
+        ap contents_of (more me2 k)
+        ∙ (map-append (λ (x : StripeState V). (x.number, x.content)) (held_in me.1) (k.stripe ∷ [])
+        ∙ ((λ i. before i ++ (k.own_number.0 i, k.stripe.content) ∷ []) ∙ (sym (reverse-cons (t, k.stripe.content) me.0.held) ∙ sym (ap reverse k.held))))
+
+    pub seated_after : (z2 : TableId) (me2 : Hand V) → IsSeated z me → Took me2 → z2 ≡ z → IsSeated z2 me2
+    seated_after z2 me2 s k same =
+        let new = seated_take z me.0 me2.0 me.1 t k.stripe s above_mine (below_slots t inside) (subst (λ (x : Settings). IsNumbered x.s t k.stripe) (sym same_settings) k.own_number) k.settings (ap numbers k.held) in
+        subst (λ (x : TableId × List (ℕ × Slot V)). IsSeated x.0 (me2.0, x.1)) (λ i. (sym same i, sym k.slots i)) new
 
     -- the stripe was found held
-    pub found : (ns : List ℕ) (room r : ℕ) (z2 : TableId) (me2 : Hand V) → SeatTries hash me.0.settings (t * 8 / 8) me r me2 → r ≢ 0 → IsSeated z me ns room → IsUnchanged p → z2 ≡ z → Left w (TriesStripe hash w t false p) z2 me2 ns room
-    found ns room r z2 me2 h other seated old same =
+    pub record Found (me2 : Hand V) : Type 0 where
+      pub slots : me2.1 ≡ me.1
+      pub settings : me2.0.settings ≡ me.0.settings
+      pub held : me2.0.held ≡ me.0.held
+      pub step : Steps hash w.settings (FindHeld t) me.0 me2.0
+
+    pub found : (me2 : Hand V) (r : ℕ) → SeatTries hash me.0.settings (t * 8 / 8) me r me2 → r ≢ 0 → Found me2
+    found me2 r h other =
         let k = (told_now r me2 h).1 other in
         let row = find_row hash w.settings me.0 me2.0 t k.1 in
-        let held : me2.0.held ≡ me.0.held = ap (λ (v : View V). v.held) row in
-        record {
-          seated = seated_view z z2 me me2 me2.0 ns room seated held (ap (λ (v : View V). v.settings) row) same (λ i. (me2.0, k.0 i));
-          own = own_after z2 me2 same (ap (λ (v : View V). v.settings) row);
-          step = subst (λ (q : PassState V). TriesStripe hash w t false q (state_of z2 me2)) f.pass_is (ap stripes_in k.0, k.1);
-          unchanged = ap (λ has. contents_of (stripes_in has)) k.0 ∙ (unchanged_mine old ∙ sym (ap reverse held));
-        }
+        record { slots = k.0; settings = ap (λ (v : View V). v.settings) row; held = ap (λ (v : View V). v.held) row; step = k.1 }
+
+    pub finds : (z2 : TableId) (me2 : Hand V) → Found me2 → TriesStripe hash w t false p (state_of z2 me2)
+    finds z2 me2 k = subst (λ (q : PassState V). TriesStripe hash w t false q (state_of z2 me2)) f.pass_is (ap held_in k.slots, k.step)
+
+    pub found_unchanged : (z2 : TableId) (me2 : Hand V) → Found me2 → IsUnchanged p → IsUnchanged (state_of z2 me2)
+    found_unchanged z2 me2 k old =
+        let before : contents_of (held_in me.1) ≡ reverse me.0.held = subst IsUnchanged (sym f.pass_is) old in
+        ap (λ has. contents_of (held_in has)) k.slots ∙ (before ∙ sym (ap reverse k.held))
+
+    pub found_seated : (z2 : TableId) (me2 : Hand V) → IsSeated z me → z2 ≡ z → Found me2 → IsSeated z2 me2
+    found_seated z2 me2 s same k = still_seated z2 me2 s same k.settings k.held k.slots
 
   pub look_ready : (slots id : ℕ) → Allows (RuleOf hash key) slots id me 0 (λ n. n) (λ _. SeatLooks hash me.0.settings 0 me)
   look_ready slots id =
@@ -148,7 +167,7 @@ module _ {V : Type 0} (hash : Name → ℕ) (w : WordsState) (p : PassState V) (
     look_settings = ap (λ (v : View V). v.settings) look_view
 
     pub looked : (z2 : TableId) → LooksUp hash w p (state_of z2 me2)
-    looked z2 = subst (λ (q : PassState V). LooksUp hash w q (state_of z2 me2)) f.pass_is (ap stripes_in looks.0, looks.1)
+    looked z2 = subst (λ (q : PassState V). LooksUp hash w q (state_of z2 me2)) f.pass_is (ap held_in looks.0, looks.1)
 
-    pub looked_seated : (ns : List ℕ) (room : ℕ) (z2 : TableId) → IsSeated z me ns room → z2 ≡ z → IsSeated z2 me2 ns room
-    looked_seated ns room z2 s same = seated_view z z2 me me2 me2.0 ns room s (ap (λ (v : View V). v.held) look_view) look_settings same (λ i. (me2.0, looks.0 i))
+    pub looked_seated : (z2 : TableId) → IsSeated z me → z2 ≡ z → IsSeated z2 me2
+    looked_seated z2 s same = still_seated z2 me2 s same look_settings (ap (λ (v : View V). v.held) look_view) looks.0

@@ -6,22 +6,21 @@ use Rattle.ck_model.specs.declared.contents.Content.{Content}
 use Rattle.ck_model.specs.Map.{Name}
 use Rattle.ck_model.specs.Ranges.{AreInRange}
 use Rattle.ck_model.specs.Numbered.{Holds}
-use Rattle.ck_model.specs.Contents.{Layout, Stripes, Lawful, IsSound, pairs_in, pairs_of}
+use Rattle.ck_model.specs.Contents.{Layout, Lawful, IsSound, pairs_in, pairs_of}
 use Rattle.ck_stripe.specs.Stripe.{StripeState, IsShaped}
 use Rattle.ck_stripe.proofs.Writes.{few_entries}
-use Rattle.ck_section.specs.Stripes.{stripe_at, contents_of}
+use Rattle.ck_section.specs.Stripes.{stripe_at, contents_of, settled_stripes}
 use Rattle.ck_words.specs.Rule.{counting, layout_of}
 use Rattle.ck_words.specs.Passes.{PassState, IsUnchanged, ShowsSeen, numbers_of}
-use Rattle.ck_words.specs.Closing.{IsWhole, settled_stripes}
+use Rattle.ck_words.specs.Closing.{IsWhole}
+use Rattle.ck_words.proofs.Seating.{length-numbers}
+use Rattle.ck_words.proofs.AreHeld.{numbers_settled, contents_settled}
+use Rattle.ck_words.proofs.Counting.{length-counting}
 use Rattle.ck_words.proofs.Reversed.{lawful_reverse}
 
 -- the most entries of a stripe
 abbrev pub most : ℕ
 most = 4 * 2 ^ 26
-
-length-counting : (n a : ℕ) → length (counting a n) ≡ n
-length-counting zero a = refl
-length-counting (suc n) a = ap suc (length-counting n (suc a))
 
 module _ {V : Type 0} where
   -- the entries of the first n stripes
@@ -57,19 +56,6 @@ module _ {V : Type 0} where
   small_each (s ∷ ss) small zero = small s.number s.content (inl (refl, refl))
   small_each (s ∷ ss) small (suc i) = small_each ss (λ t c h. small t c (inr h)) i
 
-  pub length-numbers : (ss : List (StripeState V)) → length (numbers_of ss) ≡ length ss
-  length-numbers [] = refl
-  length-numbers (s ∷ ss) = ap suc (length-numbers ss)
-
-  -- settled stripes contain the same
-  contents-settled : (ss : List (StripeState V)) → contents_of (settled_stripes ss) ≡ contents_of ss
-  contents-settled [] = refl
-  contents-settled (s ∷ ss) = ap {B = Stripes V} (λ l. (s.number, s.content) ∷ l) (contents-settled ss)
-
-  numbers-settled : (ss : List (StripeState V)) → numbers_of (settled_stripes ss) ≡ numbers_of ss
-  numbers-settled [] = refl
-  numbers-settled (s ∷ ss) = ap {B = List ℕ} (λ l. s.number ∷ l) (numbers-settled ss)
-
   each_settled : (ss : List (StripeState V)) (i : ℕ) → (stripe_at (settled_stripes ss) i).settled ≡ true
   each_settled [] i = refl
   each_settled (s ∷ ss) zero = refl
@@ -77,11 +63,37 @@ module _ {V : Type 0} where
 
   pub whole_settled : (hash : Name → ℕ) (set : Settings) (p q : PassState V) → numbers_of p.stripes ≡ counting 0 (2 ^ set.s) → IsUnchanged p → ShowsSeen hash set p → q ≡ record p { stripes = settled_stripes p.stripes } → IsWhole hash set q
   whole_settled hash set p q all unchanged shows is = subst (IsWhole hash set) (sym is) (record {
-    all = numbers-settled p.stripes ∙ all;
-    unchanged = contents-settled p.stripes ∙ unchanged;
+    all = numbers_settled p.stripes ∙ all;
+    unchanged = contents_settled p.stripes ∙ unchanged;
     settled = each_settled p.stripes;
     shows = shows;
   })
+
+  -- of all stripes of a table
+  module _ (hash : Name → ℕ) (set : Settings) (ss : List (StripeState V)) (lawful : Lawful (layout_of hash set) (contents_of ss)) where
+    pub counted_table : (n : ℕ) → n ≡ length ss → counted_to n ss ≡ length (pairs_of (contents_of ss))
+    counted_table n e = ap (λ m. counted_to m ss) e ∙ counted-all ss (λ t c h. (lawful.sound t c h).ledger)
+
+    module _ (range : AreInRange set) where
+      shaped : (t : ℕ) (c : Content V) → IsSound (layout_of hash set) t c → IsShaped set.s t c
+      shaped t c s = record {
+        many = range.stripes;
+        number = s.number;
+        least = s.least;
+        most = (let a = s.most in let b = range.max in omega arith);
+        rows = s.rows;
+        four = s.four;
+        ledger = s.ledger;
+      }
+
+      small : (i : ℕ) → (stripe_at ss i).content.ledger ≤ most
+      small = small_each ss (λ t c h. few_entries set.s t c (shaped t c (lawful.sound t c h)))
+
+      pub counted_small : (n : ℕ) → n ≤ 2 ^ set.s → counted_to n ss ≤ 2 ^ 38
+      counted_small n l =
+          let few = counted_few n ss small in
+          let all : 2 ^ set.s ≤ 2 ^ 10 = pow-le-pow_right {n = 2} (omega arith) range.stripes in
+          omega arith
 
   module _ (hash : Name → ℕ) (set : Settings) (p : PassState V) (whole : IsWhole hash set p) where
     abbrev k : Layout
@@ -94,25 +106,7 @@ module _ {V : Type 0} where
     count_all = sym (length-numbers p.stripes) ∙ (ap length whole.all ∙ length-counting (2 ^ set.s) 0)
 
     pub counted_whole : (n : ℕ) → n ≡ 2 ^ set.s → counted_to n p.stripes ≡ length (pairs_of (contents_of p.stripes))
-    counted_whole n e = ap (λ m. counted_to m p.stripes) (e ∙ sym count_all) ∙ counted-all p.stripes (λ t c h. (lawful_held.sound t c h).ledger)
+    counted_whole n e = counted_table hash set p.stripes lawful_held n (e ∙ sym count_all)
 
-    module _ (range : AreInRange set) where
-      shaped : (t : ℕ) (c : Content V) → IsSound k t c → IsShaped set.s t c
-      shaped t c s = record {
-        many = range.stripes;
-        number = s.number;
-        least = s.least;
-        most = (let a = s.most in let b = range.max in omega arith);
-        rows = s.rows;
-        four = s.four;
-        ledger = s.ledger;
-      }
-
-      small : (i : ℕ) → (stripe_at p.stripes i).content.ledger ≤ most
-      small = small_each p.stripes (λ t c h. few_entries set.s t c (shaped t c (lawful_held.sound t c h)))
-
-      pub counted_below : (n : ℕ) → n ≤ 2 ^ set.s → counted_to n p.stripes ≤ 2 ^ 38
-      counted_below n l =
-          let few = counted_few n p.stripes small in
-          let all : 2 ^ set.s ≤ 2 ^ 10 = pow-le-pow_right {n = 2} (omega arith) range.stripes in
-          omega arith
+    pub counted_below : AreInRange set → (n : ℕ) → n ≤ 2 ^ set.s → counted_to n p.stripes ≤ 2 ^ 38
+    counted_below range n l = counted_small hash set p.stripes lawful_held range n l

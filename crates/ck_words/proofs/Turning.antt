@@ -1,18 +1,28 @@
 -- One of the slots is brought to the front, and back.
-use Rattle.std.proofs.Common.{◌≡◌, ℕ, suc, zero, ◌-◌, ◌<◌, Bool, true, false, List, [], ◌∷◌, ◌++◌, map, length, get_or, set, refl, sym, ap, ◌∙◌, subst, length-append, arith, Some}
-use Rattle.atomic_table.specs.Table.{rest}
+use Rattle.std.proofs.Common.{◌≡◌, ℕ, suc, zero, ◌+◌, ◌-◌, ◌<◌, true, false, List, [], ◌∷◌, ◌++◌, map, length, set, reverse, append-nil, append_assoc, refl, sym, ap, ◌∙◌, subst, length-append, arith, Some}
+use Rattle.atomic_table.specs.Table.{rest, turned}
 use Rattle.atomic_table.specs.Seated.{TableId}
-use Rattle.std.proofs.lemmas.List.{set-get_or}
+use Rattle.std.proofs.lemmas.List.{set-get_or, reverse-append, reverse-reverse, length-reverse}
 use Rattle.ck_model.specs.declared.contents.Content.{Content}
 use Rattle.ck_model.specs.Map.{Name}
+use Rattle.ck_core.specs.declared.view.View.{View}
 use Rattle.ck_stripe.specs.Doubling.{doubled_content}
 use Rattle.ck_stripe.specs.Stripe.{StripeState}
 use Rattle.ck_section.specs.Stripes.{stripe_at, no_stripe}
 use Rattle.ck_words.specs.Rule.{Slot, Hand}
-use Rattle.ck_words.specs.Passes.{EachOf, IsSeated, rotated, slot_of, stripes_in, numbers_of}
-use Rattle.ck_words.specs.InPlace.{Puts, altered}
-use Rattle.ck_words.proofs.Reversed.{map-append}
-use Rattle.ck_words.proofs.Seating.{rotated-append, stripes-slots}
+use Rattle.ck_words.specs.Passes.{PassState, EachOf, IsSeated, rotated, slot_of, state_of, stripes_in, held_in, numbers_of}
+use Rattle.ck_words.specs.InPlace.{StripeSeat, HoldsAt, Brings, Puts}
+use Rattle.ck_words.proofs.Reversed.{map-append, map-reverse, reverse-cons}
+use Rattle.ck_words.proofs.Seating.{stripes-slots}
+
+module _ {A : Type 0} where
+  rotated-turned : (n : ℕ) (l : List (ℕ × A)) → rotated n (turned l) ≡ turned (rotated n l)
+  rotated-turned zero l = refl
+  rotated-turned (suc n) l = ap turned (rotated-turned n l)
+
+  pub rotated-append : (xs ys : List (ℕ × A)) → rotated (length xs) (xs ++ ys) ≡ ys ++ xs
+  rotated-append [] ys = sym (append-nil ys)
+  rotated-append (x ∷ xs) ys = sym (rotated-turned (length xs) (x ∷ (xs ++ ys))) ∙ (ap (rotated (length xs)) (append_assoc xs ys (x ∷ [])) ∙ (rotated-append xs (ys ++ x ∷ []) ∙ append_assoc ys (x ∷ []) xs))
 
 module _ {V : Type 0} where
   -- where stripe i is
@@ -32,10 +42,6 @@ module _ {V : Type 0} where
   at-here [] z ys = refl
   at-here (x ∷ xs) z ys = at-here xs z ys
 
-  number-here : (xs : List (StripeState V)) (z : StripeState V) (ys : List (StripeState V)) → get_or (numbers_of (xs ++ z ∷ ys)) (length xs) 0 ≡ z.number
-  number-here [] z ys = refl
-  number-here (x ∷ xs) z ys = number-here xs z ys
-
   set-here : (xs : List (StripeState V)) (y z : StripeState V) (ys : List (StripeState V)) → xs ++ z ∷ ys ≡ set (xs ++ y ∷ ys) (length xs) z
   set-here [] y z ys = refl
   set-here (x ∷ xs) y z ys = ap (λ l. x ∷ l) (set-here xs y z ys)
@@ -48,73 +54,100 @@ module _ {V : Type 0} where
   each-here s [] y z ys e a = (e ∙ a.0, a.1)
   each-here s (x ∷ xs) y z ys e a = (a.0, each-here s xs y z ys e a.1)
 
-  pub record Brought (ms : List (ℕ × Slot V)) (i n t : ℕ) : Type 0 where
-    pub front : rotated i ms ≡ (t, Some (stripe_at (stripes_in ms) i)) ∷ rest (rotated i ms)
-    pub back : (c : Content V) (settled : Bool) (room : ℕ) → Puts ms i (altered (stripe_at (stripes_in ms) i) c settled room) (rotated (n - i) ((t, Some (altered (stripe_at (stripes_in ms) i) c settled room)) ∷ rest (rotated i ms)))
+  reverse-around : (xs : List (StripeState V)) (z : StripeState V) (ys : List (StripeState V)) → reverse (xs ++ z ∷ ys) ≡ reverse ys ++ z ∷ reverse xs
+  reverse-around xs z ys = reverse-append xs (z ∷ ys) ∙ (ap (λ (l : List (StripeState V)). l ++ reverse xs) (reverse-cons z ys) ∙ append_assoc (reverse ys) (z ∷ []) (reverse xs))
 
-  brought_at : (xs : List (StripeState V)) (z : StripeState V) (ys : List (StripeState V)) → Brought (map slot_of (xs ++ z ∷ ys)) (length xs) (length (xs ++ z ∷ ys)) z.number
-  brought_at xs z ys =
-      let has : map slot_of (xs ++ z ∷ ys) ≡ map slot_of xs ++ slot_of z ∷ map slot_of ys = map-append slot_of xs (z ∷ ys) in
-      let len : (ss : List (StripeState V)) → length (map slot_of ss) ≡ length ss = λ ss. count ss in
-      let first : rotated (length xs) (map slot_of (xs ++ z ∷ ys)) ≡ slot_of z ∷ map slot_of ys ++ map slot_of xs = (λ i. rotated (sym (len xs) i) (has i)) ∙ rotated-append (map slot_of xs) (slot_of z ∷ map slot_of ys) in
-      let others : rest (rotated (length xs) (map slot_of (xs ++ z ∷ ys))) ≡ map slot_of ys ++ map slot_of xs = ap rest first in
-      let here : stripe_at (stripes_in (map slot_of (xs ++ z ∷ ys))) (length xs) ≡ z = ap (λ l. stripe_at l (length xs)) (stripes-slots (xs ++ z ∷ ys)) ∙ at-here xs z ys in
-      let left : length (xs ++ z ∷ ys) - length xs ≡ length (z ∷ ys) = (let a = length-append xs (z ∷ ys) in omega arith) in
+  count-slots : (ss : List (StripeState V)) → length (map slot_of ss) ≡ length ss
+  count-slots [] = refl
+  count-slots (s ∷ ss) = ap suc (count-slots ss)
+
+  -- the slots of stripes xs, z and ys, and what is left of them when z comes first
+  abbrev slots_of : List (StripeState V) → StripeState V → List (StripeState V) → List (ℕ × Slot V)
+  slots_of xs z ys = map slot_of (reverse ys ++ z ∷ reverse xs)
+
+  abbrev others_of : List (StripeState V) → List (StripeState V) → List (ℕ × Slot V)
+  others_of xs ys = map slot_of (reverse xs) ++ map slot_of (reverse ys)
+
+  come : (xs : List (StripeState V)) (z : StripeState V) (ys : List (StripeState V)) (n : ℕ) → n ≡ length ys → rotated n (slots_of xs z ys) ≡ slot_of z ∷ others_of xs ys
+  come xs z ys n count =
+      let same : n ≡ length (map slot_of (reverse ys)) = count ∙ sym (count-slots (reverse ys) ∙ length-reverse ys) in
+      (λ j. rotated (same j) (map-append slot_of (reverse ys) (z ∷ reverse xs) j)) ∙ rotated-append (map slot_of (reverse ys)) (slot_of z ∷ map slot_of (reverse xs))
+
+  go : (xs : List (StripeState V)) (z : StripeState V) (ys : List (StripeState V)) (n : ℕ) → n ≡ length xs + 1 → rotated n (slot_of z ∷ others_of xs ys) ≡ slots_of xs z ys
+  go xs z ys n count =
+      let same : n ≡ length (slot_of z ∷ map slot_of (reverse xs)) = (let c = count-slots (reverse xs) in let r = length-reverse xs in omega arith) in
+      ap (λ m. rotated m (slot_of z ∷ others_of xs ys)) same ∙ (rotated-append (slot_of z ∷ map slot_of (reverse xs)) (map slot_of (reverse ys)) ∙ sym (map-append slot_of (reverse ys) (z ∷ reverse xs)))
+
+  held-slots : (xs : List (StripeState V)) (z : StripeState V) (ys : List (StripeState V)) → held_in (slots_of xs z ys) ≡ xs ++ z ∷ ys
+  held-slots xs z ys = ap reverse (stripes-slots (reverse ys ++ z ∷ reverse xs) ∙ sym (reverse-around xs z ys)) ∙ reverse-reverse (xs ++ z ∷ ys)
+
+  -- the slots with another stripe of that number
+  put : (old after : StripeSeat V) (xs : List (StripeState V)) (y z : StripeState V) (ys : List (StripeState V)) (i : ℕ) → old.me.1 ≡ slots_of xs y ys → length xs ≡ i → z.number ≡ y.number → z.s ≡ y.s
+      → after.table_id ≡ old.table_id → after.me ≡ (old.me.0, slots_of xs z ys) → Puts i z old after
+  put old after xs y z ys i was at number same_s table me =
+      let slots : slots_of xs z ys ≡ after.me.1 = sym (ap (λ (m : Hand V). m.1) me) in
+      let before : stripes_in old.me.1 ≡ reverse ys ++ y ∷ reverse xs = ap stripes_in was ∙ stripes-slots (reverse ys ++ y ∷ reverse xs) in
+      let now : reverse ys ++ z ∷ reverse xs ≡ stripes_in after.me.1 = sym (stripes-slots (reverse ys ++ z ∷ reverse xs)) ∙ ap stripes_in slots in
       record {
-        front = first ∙ λ j. (z.number, Some (sym here j)) ∷ sym others j;
-        back = λ c settled room.
-            let y : StripeState V = altered z c settled room in
-            let whole : map slot_of (xs ++ y ∷ ys) ≡ rotated (length (xs ++ z ∷ ys) - length xs) ((z.number, Some y) ∷ rest (rotated (length xs) (map slot_of (xs ++ z ∷ ys)))) =
-            map-append slot_of xs (y ∷ ys) ∙ sym ((λ j. rotated ((left ∙ sym (len (z ∷ ys))) j) ((z.number, Some y) ∷ others j)) ∙ rotated-append (slot_of y ∷ map slot_of ys) (map slot_of xs)) in
-            let new : stripes_in (map slot_of (xs ++ y ∷ ys)) ≡ xs ++ y ∷ ys = stripes-slots (xs ++ y ∷ ys) in
-            let old : stripes_in (map slot_of (xs ++ z ∷ ys)) ≡ xs ++ z ∷ ys = stripes-slots (xs ++ z ∷ ys) in
-            let puts : Puts (map slot_of (xs ++ z ∷ ys)) (length xs) y (map slot_of (xs ++ y ∷ ys)) = (
-              new ∙ (set-here xs z y ys ∙ ap (λ l. set l (length xs) y) (sym old)),
-              ap (map slot_of) (sym new),
-              ap numbers_of new ∙ (numbers-here xs z y ys refl ∙ ap numbers_of (sym old)),
-              (λ s a. subst (EachOf s) (sym new) (each-here s xs z y ys refl (subst (EachOf s) old a))),
-            ) in
-            subst (λ (x : StripeState V × List (ℕ × Slot V)). Puts (map slot_of (xs ++ z ∷ ys)) (length xs) (altered x.0 c settled room) x.1) (λ j. (sym here j, refold c settled room xs z ys whole here j)) puts;
+        stripes = sym (ap held_in slots) ∙ (held-slots xs z ys ∙ (set-here xs y z ys ∙ λ j. set ((sym (held-slots xs y ys) ∙ sym (ap held_in was)) j) (at j) z));
+        full = sym slots ∙ ap (map slot_of) now;
+        numbered = ap numbers_of (sym now) ∙ (numbers-here (reverse ys) y z (reverse xs) number ∙ ap numbers_of (sym before));
+        each_of = λ s a. subst (EachOf s) now (each-here s (reverse ys) y z (reverse xs) same_s (subst (EachOf s) before a));
+        table = table;
+        view = ap (λ (m : Hand V). m.0) me;
       }
-    where
-      count : (ss : List (StripeState V)) → length (map slot_of ss) ≡ length ss
-      count [] = refl
-      count (s ∷ ss) = ap suc (count ss)
 
-      refold : (c : Content V) (settled : Bool) (room : ℕ) (xs : List (StripeState V)) (z : StripeState V) (ys : List (StripeState V))
-          → map slot_of (xs ++ altered z c settled room ∷ ys) ≡ rotated (length (xs ++ z ∷ ys) - length xs) ((z.number, Some (altered z c settled room)) ∷ rest (rotated (length xs) (map slot_of (xs ++ z ∷ ys))))
-          → stripe_at (stripes_in (map slot_of (xs ++ z ∷ ys))) (length xs) ≡ z
-          → map slot_of (xs ++ altered z c settled room ∷ ys) ≡ rotated (length (xs ++ z ∷ ys) - length xs) ((z.number, Some (altered (stripe_at (stripes_in (map slot_of (xs ++ z ∷ ys))) (length xs)) c settled room)) ∷ rest (rotated (length xs) (map slot_of (xs ++ z ∷ ys))))
-      refold c settled room xs z ys whole here = whole ∙ λ j. rotated (length (xs ++ z ∷ ys) - length xs) ((z.number, Some (altered (sym here j) c settled room)) ∷ rest (rotated (length xs) (map slot_of (xs ++ z ∷ ys))))
-
-  length-numbers : (ss : List (StripeState V)) → length (numbers_of ss) ≡ length ss
-  length-numbers [] = refl
-  length-numbers (s ∷ ss) = ap suc (length-numbers ss)
-
-  pub brought : (ms : List (ℕ × Slot V)) (ns : List ℕ) (i : ℕ) → ms ≡ map slot_of (stripes_in ms) → numbers_of (stripes_in ms) ≡ ns → i < length ns → Brought ms i (length ns) (get_or ns i 0)
-  brought ms ns i full named inside =
-      let len : length (stripes_in ms) ≡ length ns = sym (length-numbers (stripes_in ms)) ∙ ap length named in
-      let p = spot (stripes_in ms) i (omega arith) in
-      let same : map slot_of (p.before ++ p.here ∷ p.behind) ≡ ms = ap (map slot_of) (sym p.split) ∙ sym full in
-      let number : p.here.number ≡ get_or ns i 0 = sym (number-here p.before p.here p.behind) ∙ (λ j. get_or ((ap numbers_of (sym p.split) ∙ named) j) (p.at j) 0) in
-      subst (λ (x : (List (ℕ × Slot V) × ℕ) × (ℕ × ℕ)). Brought x.0.0 x.0.1 x.1.0 x.1.1) (λ j. ((same j, p.at j), ((ap length (sym p.split) ∙ len) j, number j))) (brought_at p.before p.here p.behind)
-
-  -- a pass after an act on one of its stripes
-  pub seated_puts : (z z2 : TableId) (me me2 : Hand V) (ns : List ℕ) (room i : ℕ) (stripe : StripeState V) → Puts me.1 i stripe me2.1 → me2.0 ≡ me.0 → z2 ≡ z → IsSeated z me ns room → IsSeated z2 me2 ns room
-  seated_puts z z2 me me2 ns room i stripe p view same s =
-      let new : IsSeated z (me.0, me2.1) ns room = record { full = p.1; numbered = p.2 ∙ s.numbered; held = s.held; falls = s.falls; below = s.below; one_s = p.3 me.0.settings.s s.one_s; room_for_all = s.room_for_all } in
-      subst (λ (x : TableId × Hand V). IsSeated x.0 x.1 ns room) (λ j. (sym same j, (sym view j, me2.1))) new
-
-  -- nothing changed
-  pub puts-same : (ms ns : List (ℕ × Slot V)) (i : ℕ) → Puts ms i (stripe_at (stripes_in ms) i) ns → stripes_in ns ≡ stripes_in ms
-  puts-same ms ns i p = p.0 ∙ set-get_or (stripes_in ms) i no_stripe
+  pub brings : (table : TableId) (n i t : ℕ) (old new : StripeSeat V) → HoldsAt table n i t old → new.table_id ≡ old.table_id → new.me ≡ (old.me.0, rotated (n - 1 - i) old.me.1) → Brings i t old new
+  brings table n i t old new h same me =
+      let count = h.count in
+      let inside = h.inside in
+      let p = spot (held_in old.me.1) i (omega arith) in
+      let here : stripe_at (held_in old.me.1) i ≡ p.here = (λ j. stripe_at (p.split j) (sym p.at j)) ∙ at-here p.before p.here p.behind in
+      let number : p.here.number ≡ t = ap (λ (s : StripeState V). s.number) (sym here) ∙ h.number in
+      let was : old.me.1 ≡ slots_of p.before p.here p.behind = h.full ∙ ap (map slot_of) (sym (reverse-reverse (stripes_in old.me.1)) ∙ (ap reverse p.split ∙ reverse-around p.before p.here p.behind)) in
+      let left : n - 1 - i ≡ length p.behind = (let a = length-append p.before (p.here ∷ p.behind) in let b = ap length p.split in let d = p.at in omega arith) in
+      let come_first : new.me.1 ≡ slot_of p.here ∷ others_of p.before p.behind = ap (λ (m : Hand V). m.1) me ∙ ((λ j. rotated (n - 1 - i) (was j)) ∙ come p.before p.here p.behind (n - 1 - i) left) in
+      let others : rest new.me.1 ≡ others_of p.before p.behind = ap rest come_first in
+      record {
+        table = same;
+        front = come_first ∙ λ j. (number j, Some (sym here j)) ∷ sym others j;
+        back = λ stripe after own own_s table_after me_after.
+            let slot : (t, Some stripe) ≡ slot_of stripe = λ j. (sym (own ∙ h.number) j, Some stripe) in
+            let gone : rotated (i + 1) ((t, Some stripe) ∷ rest new.me.1) ≡ slots_of p.before stripe p.behind = (λ j. rotated (i + 1) (slot j ∷ others j)) ∙ go p.before stripe p.behind (i + 1) (let d = p.at in omega arith) in
+            put old after p.before p.here stripe p.behind i was p.at (own ∙ ap (λ (s : StripeState V). s.number) here) (own_s ∙ ap (λ (s : StripeState V). s.s) here) (table_after ∙ same)
+            (me_after ∙ λ j. (ap (λ (m : Hand V). m.0) me j, gone j));
+      }
 
   -- the stripe that was brought to the front went back, with what was made of it
-  pub put : (ms l ns : List (ℕ × Slot V)) (i k n t : ℕ) (old here new stripe : StripeState V) → ((c : Content V) (settled : Bool) (room : ℕ) → Puts ms i (altered old c settled room) (rotated k ((t, Some (altered old c settled room)) ∷ rest l)))
-      → n ≡ k → old ≡ here → stripe ≡ altered old stripe.content stripe.settled stripe.room → new ≡ stripe → ns ≡ rotated n ((t, Some new) ∷ rest l) → Puts ms i stripe ns
-  put ms l ns i k n t old here new stripe back count same made is turned =
-      let whole : rotated k ((t, Some (altered old stripe.content stripe.settled stripe.room)) ∷ rest l) ≡ ns = sym (turned ∙ λ j. rotated (count j) ((t, Some ((is ∙ made) j)) ∷ rest l)) in
-      subst (λ (x : StripeState V × List (ℕ × Slot V)). Puts ms i x.0 x.1) (λ j. (sym made j, whole j)) (back stripe.content stripe.settled stripe.room)
+  pub puts : (i t : ℕ) (old new after : StripeSeat V) (made stripe : StripeState V) → Brings i t old new → stripe.number ≡ (stripe_at (held_in old.me.1) i).number → stripe.s ≡ (stripe_at (held_in old.me.1) i).s → made ≡ stripe
+      → after.table_id ≡ new.table_id → after.me ≡ (new.me.0, rotated (i + 1) ((t, Some made) ∷ rest new.me.1)) → Puts i stripe old after
+  puts i t old new after made stripe b number own_s is table me = b.back stripe after number own_s table (me ∙ λ j. (new.me.0, rotated (i + 1) ((t, Some (is j)) ∷ rest new.me.1)))
+
+  -- a pass after an act on one of its stripes
+  pub seated_puts : (old new : StripeSeat V) (i : ℕ) (stripe : StripeState V) → Puts i stripe old new → IsSeated old.table_id old.me → IsSeated new.table_id new.me
+  seated_puts old new i stripe p s =
+      let next : IsSeated old.table_id (old.me.0, new.me.1) = record { full = p.full; held = s.held ∙ sym p.numbered; falls = s.falls; below = s.below; one_s = p.each_of old.me.0.settings.s s.one_s } in
+      subst (λ (x : TableId × View V). IsSeated x.0 (x.1, new.me.1)) (λ j. (sym p.table j, sym p.view j)) next
+
+  pub same_numbers : (old new : StripeSeat V) (i : ℕ) (stripe : StripeState V) → Puts i stripe old new → numbers_of (held_in new.me.1) ≡ numbers_of (held_in old.me.1)
+  same_numbers old new i stripe p =
+      let number : StripeState V → ℕ = λ s. s.number in
+      map-reverse number (stripes_in new.me.1) ∙ (ap reverse p.numbered ∙ sym (map-reverse number (stripes_in old.me.1)))
+
+  -- nothing changed
+  pub puts-same : (old new : StripeSeat V) (i : ℕ) → Puts i (stripe_at (held_in old.me.1) i) old new → held_in new.me.1 ≡ held_in old.me.1
+  puts-same old new i p = p.stripes ∙ set-get_or (held_in old.me.1) i no_stripe
+
+  -- stripe i of those that the pass has
+  pub stands_at : (seat : StripeSeat V) (p : PassState V) (table : TableId) (n i t : ℕ) → IsSeated seat.table_id seat.me → state_of seat.table_id seat.me ≡ p → p.table ≡ table → length p.stripes ≡ n → i < n → (stripe_at p.stripes i).number ≡ t
+      → HoldsAt table n i t seat
+  stands_at seat p table n i t s is own count inside number = record {
+    own = ap (λ (q : PassState V). q.table) is ∙ own;
+    full = s.full;
+    count = ap (λ (q : PassState V). length q.stripes) is ∙ count;
+    inside = inside;
+    number = ap (λ (q : PassState V). (stripe_at q.stripes i).number) is ∙ number;
+  }
 
   -- what an act on a stripe made, where it is told of its content and of the rest
   pub made_of : (old here new : StripeState V) (f : StripeState V → Content V) → old ≡ here → new ≡ record here { content = new.content } → new.content ≡ f here → new ≡ record old { content = f old }
@@ -136,8 +169,5 @@ module _ {V : Type 0} where
   set-at (s ∷ ss) (suc i) x h = set-at ss i x (omega arith)
 
   -- the stripe that was put
-  pub put_here : (ms ns : List (ℕ × Slot V)) (i : ℕ) (stripe : StripeState V) → i < length (stripes_in ms) → Puts ms i stripe ns → stripe_at (stripes_in ns) i ≡ stripe
-  put_here ms ns i stripe h p = ap (λ (l : List (StripeState V)). stripe_at l i) p.0 ∙ set-at (stripes_in ms) i stripe h
-
-  pub length-named : (ms : List (ℕ × Slot V)) (ns : List ℕ) → numbers_of (stripes_in ms) ≡ ns → length (stripes_in ms) ≡ length ns
-  length-named ms ns named = sym (length-numbers (stripes_in ms)) ∙ ap length named
+  pub put_here : (old new : StripeSeat V) (i : ℕ) (stripe : StripeState V) → i < length (held_in old.me.1) → Puts i stripe old new → stripe_at (held_in new.me.1) i ≡ stripe
+  put_here old new i stripe h p = ap (λ (l : List (StripeState V)). stripe_at l i) p.stripes ∙ set-at (held_in old.me.1) i stripe h

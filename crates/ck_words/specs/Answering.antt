@@ -2,7 +2,7 @@
 use Rattle.std.specs.Prelude.{◌≡◌, ℕ, List, [], Some, reverse}
 use Rattle.ck_model.specs.declared.history.Call.{Call}
 use Rattle.ck_model.specs.declared.history.Reply.{Reply}
-use Rattle.ck_model.specs.declared.history.Why.{Why}
+use Rattle.ck_model.specs.declared.history.Reason.{Reason}
 use Rattle.ck_model.specs.declared.settings.Settings.{Settings}
 use Rattle.ck_model.specs.Map.{Name}
 use Rattle.ck_model.specs.Contents.{Lawful}
@@ -10,7 +10,8 @@ use Rattle.ck_model.specs.Sections.{Section}
 use Rattle.ck_section.specs.Stripes.{contents_of}
 use Rattle.ck_core.specs.Laws.{Answered}
 use Rattle.ck_words.specs.Rule.{layout_of}
-use Rattle.ck_words.specs.Passes.{PassState}
+use Rattle.ck_words.specs.Words.{WordsState}
+use Rattle.ck_words.specs.Passes.{PassState, IsPassOf, IsIdle}
 use Rattle.ck_words.specs.Retries.{StaysBut}
 
 module _ {V : Type 0} where
@@ -19,7 +20,7 @@ module _ {V : Type 0} where
   HasDone hash set call reply p = Lawful (layout_of hash set) (reverse p.view.held) → Section (layout_of hash set) (reverse p.view.held) call reply (contents_of p.stripes)
 
   -- The pass has one entry more, this call with this reply, and has seen the history up to it. It has said of these names that they found no room; the rest is as it was.
-  pub record IsAnsweredBut (more : List (Name × Why)) (call : Call V) (reply : Reply V) (p q : PassState V) : Type 0 where
+  pub record IsAnsweredBut (more : List (Name × Reason)) (call : Call V) (reply : Reply V) (p q : PassState V) : Type 0 where
     pub by : ℕ
     pub caller : p.view.by ≡ Some by
     pub answered : Answered p.view (record { by = by; call = call; reply = reply }) q.view
@@ -28,3 +29,12 @@ module _ {V : Type 0} where
   -- and it has said so of none
   abbrev pub IsAnswered : Call V → Reply V → PassState V → PassState V → Type 0
   IsAnswered = IsAnsweredBut []
+
+  -- The call was decided with the reply that the stripes give it, and all stripes went home.
+  pub record HasCommitted (hash : Name → ℕ) (w : WordsState) (call : Call V) (p q : PassState V) : Type 0 where
+    pub own : IsPassOf w q
+    pub idle : IsIdle q
+    pub answered : (reply : Reply V) → HasDone hash w.settings call reply p → IsAnswered call reply p q
+    pub by : q.view.by ≡ p.view.by
+    pub others : q.view.others ≡ p.view.others
+    pub found : q.view.found ≡ p.view.found

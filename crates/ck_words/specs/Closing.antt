@@ -1,5 +1,5 @@
 -- All stripes at once, and the end of a table.
-use Rattle.std.specs.Prelude.{◌≡◌, ℕ, ◌<◌, ◌^◌, true, List, [], ◌∷◌, ◌++◌, map, Some, All}
+use Rattle.std.specs.Prelude.{◌≡◌, ℕ, ◌<◌, ◌^◌, true, List, [], ◌∷◌, ◌++◌, map, slice_set, Some, All}
 use Rattle.std.specs.List.{AllZip}
 use Rattle.std.specs.Option.{unwrap_or}
 use Rattle.std.specs.FinMap.{from_entries}
@@ -20,9 +20,9 @@ use Rattle.ck_words.specs.Passes.{PassState, IsPassOf, IsIdle, IsUnchanged, Show
 use Rattle.ck_words.specs.Retries.{Stays}
 
 module _ {V : Type 0} where
-  -- the stripes with no doubling left to carry out
-  abbrev pub settled_stripes : List (StripeState V) → List (StripeState V)
-  settled_stripes stripes = map (λ (stripe : StripeState V). record stripe { settled = true }) stripes
+  -- stripe i of these becomes settled
+  abbrev pub settled_also : ℕ → List (StripeState V) → List (StripeState V)
+  settled_also i stripes = slice_set stripes i (record (stripe_at stripes i) { settled = true })
 
   -- The pass holds all stripes as it took them, and no doubling of them is left to carry out.
   pub record IsWhole (hash : Name → ℕ) (set : Settings) (p : PassState V) : Type 0 where

@@ -1,10 +1,15 @@
 -- Which call a commit names.
+use Rattle.std.specs.Prelude.{reverse}
+use Rattle.std.specs.FinMap.{entries}
 use Rattle.ck_model.specs.declared.history.Act.TheVariants as act
 use Rattle.ck_model.specs.declared.history.Call as calls
-use Rattle.ck_model.specs.declared.history.Call.TheVariants.{On}
+use Rattle.ck_model.specs.declared.history.Call.TheVariants.{On, Session}
 use Rattle.ck_model.specs.Map.{Name}
+use Rattle.ck_model.specs.Contents.{bindings}
+use Rattle.ck_section.specs.Stripes.{contents_of}
 use Rattle.ck_words.specs.declared.commit.Commit.{Commit}
-use Rattle.ck_words.specs.declared.commit.Commit.TheVariants.{Find, Insert, Assign, Update, Change, Upsert, Erase, ChangeTwo}
+use Rattle.ck_words.specs.Passes.{PassState}
+use Rattle.ck_words.specs.declared.commit.Commit.TheVariants.{Find, Insert, Assign, Update, Change, Upsert, Erase, ChangeTwo, Len}
 
 module _ {K V : Type 0} (name : K → Name) where
   -- the call of the plain map, on the names of the keys
@@ -17,3 +22,8 @@ module _ {K V : Type 0} (name : K → Name) where
   call_of (Upsert k v) = On (name k.value) (act.Upsert v.value)
   call_of (Erase k) = On (name k.value) act.Erase
   call_of (ChangeTwo a b) = calls.TheVariants.ChangeTwo (name a.value) (name b.value)
+  call_of Len = calls.TheVariants.Len
+
+-- the session of a pass that holds all stripes: from the pairs that they contained when they were taken to those that they contain now
+abbrev pub session_of : {V : Type 0} → PassState V → calls.Call V
+session_of p = Session (entries (bindings (reverse p.view.held))) (entries (bindings (contents_of p.stripes)))

@@ -4,6 +4,10 @@ pub mod Plays
 pub mod Passes
 pub mod Words
 pub mod Retries
+pub mod Holding
+pub mod Renewing
+pub mod Lifting
+pub mod Lending
 pub mod InPlace
 pub mod Opening
 pub mod Meeting

@@ -1,5 +1,5 @@
 -- What contracts see of a pass.
-use Rattle.std.specs.Prelude.{◌≡◌, ℕ, zero, suc, ◌≤◌, List, [], ◌∷◌, ◌++◌, map, reverse, Bool, MatchBool, Some}
+use Rattle.std.specs.Prelude.{◌≡◌, ◌==◌, if◌then◌else◌, ℕ, zero, suc, ◌≤◌, List, [], ◌∷◌, ◌++◌, map, reverse, Bool, MatchBool, Some}
 use Rattle.atomic_table.specs.Seated.{TableId}
 use Rattle.atomic_table.specs.Table.{turned}
 use Rattle.ck_model.specs.declared.settings.Settings.{Settings}
@@ -27,6 +27,14 @@ abbrev pub rotated : {A : Type 0} → ℕ → List (ℕ × A) → List (ℕ × A
 rotated zero l = l
 rotated (suc n) l = turned (rotated n l)
 
+-- the numbers of two stripes, or of the one that both are
+abbrev pub pair : ℕ → ℕ → List ℕ
+pair low high = if low == high then low ∷ [] else low ∷ high ∷ []
+
+-- the lower of two stripes, where they are two
+abbrev pub lower : ℕ → ℕ → List ℕ
+lower low high = if low == high then [] else low ∷ []
+
 -- Which table it is a pass of, what its caller knows, and the stripes that it holds, in rising order of their numbers.
 pub record PassState (V : Type 0) : Type 0 where
   pub table : TableId
@@ -49,19 +57,31 @@ module _ {V : Type 0} where
   EachOf s [] = Unit {0}
   EachOf s (stripe ∷ stripes) = (stripe.s ≡ s) × EachOf s stripes
 
-  -- The slots have the stripes of their numbers, these, in rising order, and the view tells of them. There is room for all.
-  pub record IsSeated (table : TableId) (me : Hand V) (taken : List ℕ) (room : ℕ) : Type 0 where
+  -- the last of these stripes has this number
+  abbrev pub IsHighest : ℕ → List (StripeState V) → Type 0
+  IsHighest t stripes = (others : List ℕ) × (numbers_of stripes ≡ others ++ t ∷ [])
+
+  -- The slots have the stripes of their numbers, the one that was taken last first. Each is above those behind it, and the view tells of them.
+  pub record IsSeated (table : TableId) (me : Hand V) : Type 0 where
     pub full : me.1 ≡ map slot_of (stripes_in me.1)
-    pub numbered : numbers_of (stripes_in me.1) ≡ taken
-    pub held : numbers me.0.held ≡ reverse taken
-    pub falls : Falls (reverse taken)
-    pub below : IsAbove table.slots (reverse taken)
+    pub held : numbers me.0.held ≡ numbers_of (stripes_in me.1)
+    pub falls : Falls (numbers me.0.held)
+    pub below : IsAbove table.slots (numbers me.0.held)
     pub one_s : EachOf me.0.settings.s (stripes_in me.1)
-    pub room_for_all : table.slots ≤ room
+
+  -- the seat of a pass, and a list that is empty and has room for all stripes of the table
+  pub record IsReady (table : TableId) (me : Hand V) (list : List (StripeState V)) (capacity : ℕ) : Type 0 where
+    pub seated : IsSeated table me
+    pub empty : list ≡ []
+    pub room : table.slots ≤ capacity
+
+  -- the stripes in a seat's slots, in rising order
+  abbrev pub held_in : List (ℕ × Slot V) → List (StripeState V)
+  held_in slots = reverse (stripes_in slots)
 
   -- what contracts see of a seat
   abbrev pub state_of : TableId → Hand V → PassState V
-  state_of table me = record { table = table; view = me.0; stripes = stripes_in me.1 }
+  state_of table me = record { table = table; view = me.0; stripes = held_in me.1 }
 
   -- a pass of this table
   abbrev pub IsPassOf : WordsState → PassState V → Type 0

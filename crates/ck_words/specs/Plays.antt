@@ -1,5 +1,5 @@
 -- What each step on a word tells.
-use Rattle.std.specs.Prelude.{◌≡◌, ◌≢◌, ℕ, ◌≤◌, List, [], ◌∷◌, drop, Some, None, reverse}
+use Rattle.std.specs.Prelude.{◌≡◌, ◌≢◌, ℕ, ◌≤◌, List, [], ◌∷◌, drop, Some, None}
 use Rattle.std.specs.Option.{unwrap_or}
 use Rattle.atomic_table.specs.Table.{rest}
 use Rattle.ck_model.specs.declared.history.Entry.{Entry}
@@ -26,16 +26,11 @@ module _ {V : Type 0} where
   abbrev pub stripe_in : ℕ × Slot V → StripeState V
   stripe_in x = unwrap_or x.1 no_stripe
 
-  -- the contents of the stripes in these slots
+  -- the contents of the stripes in these slots, in their order
   abbrev pub contents_in : List (ℕ × Slot V) → Stripes V
   contents_in [] = []
   contents_in ((t, Some stripe) ∷ xs) = (t, stripe.content) ∷ contents_in xs
   contents_in ((t, None) ∷ xs) = contents_in xs
-
-  -- The contents in a seat's slots, the last taken first. The seat has the last taken first, and then the others in the order in which they were taken.
-  abbrev pub contents_now : List (ℕ × Slot V) → Stripes V
-  contents_now [] = []
-  contents_now (x ∷ xs) = contents_in (x ∷ reverse xs)
 
   -- The seat took the stripe t, which it has first then, or found it held.
   abbrev pub SeatTries : (Name → ℕ) → Settings → ℕ → Hand V → ℕ → Hand V → Type 0

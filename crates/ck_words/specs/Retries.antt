@@ -1,6 +1,6 @@
 -- What several tries to take stripes leave.
 use Rattle.std.specs.Prelude.{◌≡◌, ℕ, ◌<◌, ◌≤◌, List, [], ◌++◌, Some, replicate}
-use Rattle.ck_model.specs.declared.history.Why.{Why}
+use Rattle.ck_model.specs.declared.history.Reason.{Reason}
 use Rattle.ck_model.specs.declared.settings.Settings.{Settings}
 use Rattle.ck_model.specs.Map.{Name}
 use Rattle.ck_model.specs.Numbered.{IsIn}
@@ -13,13 +13,13 @@ module _ {V : Type 0} where
   abbrev pub found_again : ℕ → ℕ → PassState V → PassState V
   found_again n t p = record p { view = record p.view { found = replicate n t ++ p.view.found } }
 
-  -- the stripe t was taken, after it was found held fewer times than the settings allow
-  abbrev pub TakesWithin : (Name → ℕ) → Settings → ℕ → PassState V → PassState V → Type 0
-  TakesWithin hash set t p q = (n : ℕ) × (n < set.turns) × TakesStripe hash set t (found_again n t p) q
+  -- the stripe t was taken within so many tries, after the others found it held
+  abbrev pub TakesWithin : (Name → ℕ) → Settings → ℕ → ℕ → PassState V → PassState V → Type 0
+  TakesWithin hash set turns t p q = (n : ℕ) × (n < turns) × TakesStripe hash set t (found_again n t p) q
 
   -- What no step changes but one that decides or meets: the caller's entries and what it heard, and it has seen and was told no less. What it sees more is by others.
   -- It has said of these names more that they found no room.
-  pub record StaysBut (more : List (Name × Why)) (v w : View V) : Type 0 where
+  pub record StaysBut (more : List (Name × Reason)) (v w : View V) : Type 0 where
     pub settings : w.settings ≡ v.settings
     pub by : w.by ≡ v.by
     pub mine : w.mine ≡ v.mine

@@ -1,10 +1,11 @@
 //! The end of a table.
-ghost use Rattle.std.specs.Prelude.{◌≡◌, ℕ, ◌+◌, ◌≤◌, ◌++◌, [], true, All, IfNone, IfSome, IfOk, IfErr, length, map, vec_len, vec_capacity};
+ghost use Rattle.std.specs.Prelude.{◌≡◌, ℕ, ◌+◌, ◌^◌, ◌<◌, ◌≤◌, ◌++◌, [], true, All, IfNone, IfSome, IfOk, IfErr, length, map, reverse, vec_len, vec_capacity};
 ghost use Rattle.ck_model.specs.Map.{named};
 ghost use Rattle.ck_model.specs.Contents.{pairs_of};
 ghost use Rattle.ck_core.specs.Steps.{joining};
 ghost use Rattle.ck_section.specs.Stripes.{stripe_at, contents_of};
-ghost use Rattle.ck_words.specs.Passes.{IsPassOf, IsIdle, ShowsSeen, slot_of, stripes_in, numbers_of};
+ghost use Rattle.ck_words.specs.Rule.{counting};
+ghost use Rattle.ck_words.specs.Passes.{IsPassOf, IsIdle, ShowsSeen, slot_of, stripes_in, held_in, numbers_of};
 ghost use Rattle.ck_words.specs.Retries.{Stays};
 ghost use Rattle.ck_words.specs.Closing.{IsWhole, IsCaller, AreAllPasses, EachStays, Gathers, Gathered, Closes};
 
@@ -15,7 +16,7 @@ use ck_key::TableKey;
 use std::alloc::Global;
 
 impl<K: TableKey + Drop, V: Drop> Words<K, V> {
-    /// Ends the table, given the passes of all callers, and gives its pairs in the order of their stripes. There is one
+    /// Ends the table, given the passes of all callers, and gives its pairs, those of the highest stripe first. There is one
     /// history of all that the callers have done, and these pairs are what it leaves.
     ///
     /// It is refused where a stripe was found held, and for want of memory. Then it gives words and passes back, and no
@@ -25,7 +26,8 @@ impl<K: TableKey + Drop, V: Drop> Words<K, V> {
         passes: Vec<Pass<K, V>>,
     ) -> Result<Vec<(K, V)>, (Words<K, V>, Vec<Pass<K, V>>)>
         requires { AreAllPasses self passes.items }
-        ensures closed { IfOk result (λ pairs. Closes passes.items (map (named K.name) pairs.items)) }
+        ensures closed { IfOk result (λ pairs.
+            Closes passes.items (map (named K.name) pairs.items)) }
         ensures words { IfErr result (λ r. r.0 ≡ self) }
         ensures passes { IfErr result (λ r. AreAllPasses self r.1.items) }
         ensures stays { IfErr result (λ r. EachStays passes.items r.1.items) }
@@ -55,7 +57,8 @@ impl<K: TableKey + Drop, V: Drop> Words<K, V> {
         ensures idle { IfNone result (IsIdle pass.new) }
         ensures whole { IfSome result (λ _. IsWhole K.hash self.now.settings pass.new) }
         ensures empty { IfSome result (λ pairs. pairs.items ≡ []) }
-        ensures room { IfSome result (λ pairs. length (pairs_of (contents_of pass.new.stripes)) + 4 ≤ vec_capacity pairs) }
+        ensures room { IfSome result (λ pairs. length (pairs_of (contents_of pass.new.stripes)) + 4
+            ≤ vec_capacity pairs) }
     {
         let Ok(()) = self.hold_all(pass) else {
             return None;
@@ -64,7 +67,7 @@ impl<K: TableKey + Drop, V: Drop> Words<K, V> {
         // A bucket is poured where there is room for four more.
         let room = self.entries(pass) + 4;
         let Ok(pairs) = Vec::with_capacity(alloc, room) else {
-            self.release(pass);
+            self.release_below(pass, self.table.slot_count());
             return None;
         };
         Some(pairs)
@@ -77,7 +80,7 @@ impl<K: TableKey + Drop, V: Drop> Words<K, V> {
         ensures own { IsPassOf self.now first.new }
         ensures joined { first.new ≡ record first.old { view = joining first.old.view other.view } }
     {
-        let Pass { seat, taken: _ } = other;
+        let Pass { seat, room: _ } = other;
         self.table.shared.join_seat::<Tell>(&mut first.seat, seat);
     }
 
@@ -104,35 +107,45 @@ impl<K: TableKey + Drop, V: Drop> Words<K, V> {
         }
     }
 
-    // Pours the pairs of all stripes that the pass holds.
+    // Pours the pairs of all stripes, those of the highest one first.
     fn pour(&self, pass: Pass<K, V>, mut pairs: Vec<(K, V)>) -> Vec<(K, V)>
         requires own { IsPassOf self.now pass }
+        requires numbered { numbers_of pass.stripes ≡ counting 0 (2 ^ self.now.settings.s) }
         requires settled { (i : ℕ) → (stripe_at pass.stripes i).settled ≡ true }
         requires empty { pairs.items ≡ [] }
         requires room { length (pairs_of (contents_of pass.stripes)) + 4 ≤ vec_capacity pairs }
-        ensures { map (named K.name) result.items ≡ pairs_of (contents_of pass.stripes) }
+        ensures { map (named K.name) result.items ≡ pairs_of (reverse (contents_of pass.stripes)) }
     {
-        let Pass { mut seat, taken } = pass;
-        drain(&self.table.shared, &mut seat, taken.as_slice(), &mut pairs);
+        let Pass { mut seat, room: _ } = pass;
+        drain(
+            &self.table.shared,
+            &mut seat,
+            self.table.slot_count(),
+            &mut pairs,
+        );
         pairs
     }
 }
 
-// Takes the stripes out of the slots of a seat, which keeps the slots with nothing in them, and pours their pairs.
+// Takes the stripes out of the slots of a seat that has all, which keeps the slots with nothing in them, and pours their
+// pairs.
 fn drain<K: TableKey + Drop, V: Drop>(
     shared: &Board<K, V>,
     seat: &mut Place<K, V>,
-    taken: &[usize],
+    count: usize,
     pairs: &mut Vec<(K, V)>,
 )
     requires own { seat.old.table_id ≡ shared.now.table_id }
     requires full { seat.old.me.1 ≡ map slot_of (stripes_in seat.old.me.1) }
-    requires numbered { numbers_of (stripes_in seat.old.me.1) ≡ taken.now }
-    requires settled { (i : ℕ) → (stripe_at (stripes_in seat.old.me.1) i).settled ≡ true }
-    requires room { vec_len pairs.old + length (pairs_of (contents_of (stripes_in seat.old.me.1))) + 4 ≤ vec_capacity pairs.old }
-    ensures { map (named K.name) pairs.new.items ≡ map (named K.name) pairs.old.items ++ pairs_of (contents_of (stripes_in seat.old.me.1)) }
+    requires numbered { numbers_of (held_in seat.old.me.1) ≡ counting 0 count }
+    requires settled { (i : ℕ) → i < count
+        → (stripe_at (stripes_in seat.old.me.1) i).settled ≡ true }
+    requires room { vec_len pairs.old + length
+        (pairs_of (contents_of (stripes_in seat.old.me.1))) + 4 ≤ vec_capacity pairs.old }
+    ensures { map (named K.name) pairs.new.items ≡ map (named K.name) pairs.old.items
+        ++ pairs_of (contents_of (stripes_in seat.old.me.1)) }
 {
-    for &t in taken {
+    for t in (0..count).rev() {
         let Some(stripe) = shared.exchange(seat, t, None) else {
             unreachable!()
         };

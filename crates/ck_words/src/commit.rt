@@ -1,9 +1,9 @@
 //! The store that decides a call.
 ghost use Rattle.std.specs.Prelude.{◌≡◌, ◌<◌, IsSome, length};
 ghost use Rattle.ck_model.specs.declared.history.Reply.{Reply};
-ghost use Rattle.ck_words.specs.Passes.{IsPassOf, IsIdle};
+ghost use Rattle.ck_words.specs.Passes.{IsPassOf, numbers_of, pair};
 ghost use Rattle.ck_words.specs.Commits.{call_of};
-ghost use Rattle.ck_words.specs.Answering.{HasDone, IsAnswered};
+ghost use Rattle.ck_words.specs.Answering.{HasDone, HasCommitted};
 
 use crate::pass::Pass;
 use crate::words::Words;
@@ -22,27 +22,40 @@ pub enum Commit<K, V> {
     Upsert(Snapshot<K>, Snapshot<V>),
     Erase(Snapshot<K>),
     ChangeTwo(Snapshot<K>, Snapshot<K>),
+    Len,
 }
 
 impl<K: TableKey + Drop, V: Drop> Words<K, V> {
-    /// Decides the call with what the stripes contain now, and gives all of them back.
+    /// Decides the call with what two stripes contain now, or one where they are the same, and gives them back.
     ///
     /// The first store decides, and the entry has the reply that what the stripes contained gives to the call.
     #[inline(always)]
-    pub fn commit(&self, pass: &mut Pass<K, V>, call: Commit<K, V>)
+    pub fn commit(&self, pass: &mut Pass<K, V>, low: usize, high: usize, call: Commit<K, V>)
         requires own { IsPassOf self.now pass.old }
-        requires held { 0 < length pass.old.stripes }
+        requires numbered { numbers_of pass.old.stripes ≡ pair low high }
         requires caller { IsSome pass.old.view.by }
-        requires done { (reply : Reply V) × HasDone K.hash self.now.settings (call_of K.name call) reply pass.old }
-        ensures own { IsPassOf self.now pass.new }
-        ensures idle { IsIdle pass.new }
-        ensures answered { (reply : Reply V) → HasDone K.hash self.now.settings (call_of K.name call) reply pass.old → IsAnswered (call_of K.name call) reply pass.old pass.new }
-        ensures by { pass.new.view.by ≡ pass.old.view.by }
-        ensures others { pass.new.view.others ≡ pass.old.view.others }
-        ensures found { pass.new.view.found ≡ pass.old.view.found }
+        requires done { (reply : Reply V)
+            × HasDone K.hash self.now.settings (call_of K.name call) reply pass.old }
+        ensures { HasCommitted K.hash self.now (call_of K.name call) pass.old pass.new }
     {
         let said = Snapshot::of(&call);
-        self.decide::<Brand, Snapshot<Commit<K, V>>>(pass, &said);
-        self.release(pass);
+        self.decide::<Brand, Snapshot<Commit<K, V>>>(pass, high, &said);
+        self.release_low(pass, low, high);
+    }
+
+    /// Decides the call with what these stripes contain now, as `commit` does.
+    pub fn commit_several(&self, pass: &mut Pass<K, V>, numbers: &[usize], call: Commit<K, V>)
+        requires own { IsPassOf self.now pass.old }
+        requires some { 0 < length numbers.now }
+        requires numbered { numbers_of pass.old.stripes ≡ numbers.now }
+        requires caller { IsSome pass.old.view.by }
+        requires done { (reply : Reply V)
+            × HasDone K.hash self.now.settings (call_of K.name call) reply pass.old }
+        ensures { HasCommitted K.hash self.now (call_of K.name call) pass.old pass.new }
+    {
+        let said = Snapshot::of(&call);
+        let last = numbers.len() - 1;
+        self.decide::<Brand, Snapshot<Commit<K, V>>>(pass, numbers[last], &said);
+        self.release(pass, &numbers[..last]);
     }
 }

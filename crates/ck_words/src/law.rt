@@ -30,10 +30,10 @@ impl<K: TableKey, V> Play<Option<Stripe<K, V>>, View<V>> for Take {
 /// What a stripe that goes home says of room. A call at `Brand` picks it.
 pub trait Refuses {
     ghost use Rattle.std.specs.Prelude.{Option};
-    ghost use Rattle.ck_model.specs.declared.history.Why.{Why};
+    ghost use Rattle.ck_model.specs.declared.history.Reason.{Reason};
     ghost use Rattle.ck_model.specs.Map.{Name};
 
-    ghost refused: { Option (Name × Why) };
+    ghost refused: { Option (Name × Reason) };
 }
 
 impl Refuses for Brand {
@@ -63,9 +63,9 @@ pub struct Renew<J> {
 impl<K: TableKey, V, J: Refuses> Play<Option<Stripe<K, V>>, View<V>> for Renew<J> {
     ghost use Rattle.std.specs.Prelude.{◌/◌};
     ghost use Rattle.ck_core.specs.Steps.Move.{Renew};
-    ghost use Rattle.ck_words.specs.Plays.{SeatGives, contents_now};
+    ghost use Rattle.ck_words.specs.Plays.{SeatGives, contents_in};
 
-    ghost then = { λ st m _ m2. SeatGives K.hash m.0.settings (Renew (st.word / 8) (contents_now m.1) J.refused) m m2 };
+    ghost then = { λ st m _ m2. SeatGives K.hash m.0.settings (Renew (st.word / 8) (contents_in m.1) J.refused) m m2 };
 }
 
 /// The entry that a step decides. A call at `Brand` picks it.
@@ -89,9 +89,9 @@ pub struct Decide<J> {
 impl<K: TableKey, V, J: Says<V>> Play<Option<Stripe<K, V>>, View<V>> for Decide<J> {
     ghost use Rattle.std.specs.Prelude.{◌/◌};
     ghost use Rattle.ck_core.specs.Steps.Move.{Decide};
-    ghost use Rattle.ck_words.specs.Plays.{SeatGives, contents_now};
+    ghost use Rattle.ck_words.specs.Plays.{SeatGives, contents_in};
 
-    ghost then = { λ st m _ m2. SeatGives K.hash m.0.settings (Decide (st.word / 8) (contents_now m.1) J.entry) m m2 };
+    ghost then = { λ st m _ m2. SeatGives K.hash m.0.settings (Decide (st.word / 8) (contents_in m.1) J.entry) m m2 };
 }
 
 /// A load: the history so far is seen.

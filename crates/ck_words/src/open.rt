@@ -1,5 +1,5 @@
 //! How a table and its passes begin.
-ghost use Rattle.std.specs.Prelude.{◌≡◌, ◌≤◌, ◌^◌, [], ◌∷◌, ℕ, IfOk, OnErr, List};
+ghost use Rattle.std.specs.Prelude.{◌≡◌, ◌≤◌, ◌^◌, [], ◌∷◌, ℕ, IfOk, OnOk, OnErr, List};
 ghost use Rattle.ck_model.specs.Ranges.{AreInRange};
 ghost use Rattle.ck_model.specs.declared.history.Entry.{Entry};
 ghost use Rattle.ck_words.specs.Rule.{first_view, counting};
@@ -45,13 +45,13 @@ impl<K: TableKey + Drop, V: Drop> Words<K, V> {
         ensures view { IfOk result (λ r. r.1.view ≡ first_view settings) }
     {
         let count = 1usize << settings.s;
-        let taken = Vec::with_capacity(alloc, count)?;
         let words = Vec::from_elem(alloc, 0u64, count * 8)?;
         let slots = open_slots(alloc, settings)?;
+        let room = Vec::with_capacity(alloc, slots.len())?;
         let Ok((table, seat)) = Table::new(alloc, words.as_slice(), slots, &settings) else {
             return Err(AllocError);
         };
-        Ok((Words { table, settings }, Pass { seat, taken }))
+        Ok((Words { table, settings }, Pass { seat, room }))
     }
 
     /// A table of empty stripes, and the passes of all callers in the order of their numbers. They have seen nothing. It
@@ -62,33 +62,36 @@ impl<K: TableKey + Drop, V: Drop> Words<K, V> {
     ) -> Result<(Words<K, V>, Vec<Pass<K, V>>), AllocError>
         requires { AreInRange settings }
         ensures settings { IfOk result (λ r. r.0.settings ≡ settings) }
-        ensures passes { IfOk result (λ r. r.1.items ≡ dealt r.0.table settings (counting 0 settings.callers)) }
+        ensures passes { IfOk result (λ r.
+            r.1.items ≡ dealt r.0.table settings (counting 0 settings.callers)) }
         ensures all { IfOk result (λ r. AreAllPasses r.0 r.1.items) }
     {
         let mut passes = Vec::with_capacity(alloc, settings.callers as usize)?;
         let (words, first) = Words::open(alloc, settings)?;
         passes.push(first)?;
         for _i in 1..settings.callers {
-            let pass = words.deal(alloc, &mut passes[0])?;
+            let pass = words.deal(&mut passes[0])?;
             passes.push(pass)?;
         }
         Ok((words, passes))
     }
 
     /// One more pass, with the first of the numbers that the pass `first` keeps. It has seen nothing, and was told the
-    /// power that `first` was told. It is refused only for want of memory, and then `first` is as it was.
-    pub fn deal(&self, alloc: Global, first: &mut Pass<K, V>) -> Result<Pass<K, V>, AllocError>
+    /// power that `first` was told. It is refused only for want of memory, and then `first` is unchanged.
+    pub fn deal(&self, first: &mut Pass<K, V>) -> Result<Pass<K, V>, AllocError>
         requires own { IsPassOf self.now first.old }
-        requires kept { (m : ℕ) × (others : List (ℕ × List (Entry V))) × (first.old.view.others ≡ (m, []) ∷ others) }
+        requires kept { (m : ℕ) × (others : List (ℕ × List (Entry V)))
+            × (first.old.view.others ≡ (m, []) ∷ others) }
         ensures own { IsPassOf self.now first.new }
-        ensures pass { IfOk result (λ p. IsPassOf self.now p) }
-        ensures idle { IfOk result (λ p. IsIdle p) }
-        ensures view { IfOk result (λ p. p.view ≡ begun first.old.view) }
-        ensures first { IfOk result (λ _. first.new ≡ record first.old { view = opened first.old.view }) }
-        ensures err { OnErr result (first.new ≡ first.old) }
+        ensures pass { IfOk result (IsPassOf self.now) }
+        ensures idle { IfOk result IsIdle }
+        ensures view { IfOk result (λ pass. pass.view ≡ begun first.old.view) }
+        ensures first { OnOk result
+            (first.new ≡ record first.old { view = opened first.old.view }) }
+        ensures refused { OnErr result (first.new ≡ first.old) }
     {
-        let taken = Vec::with_capacity(alloc, self.table.slot_count())?;
+        let room = Vec::with_capacity(*first.room.allocator(), self.table.slot_count())?;
         let seat = self.table.shared.split_seat::<Open>(&mut first.seat);
-        Ok(Pass { seat, taken })
+        Ok(Pass { seat, room })
     }
 }

@@ -1,36 +1,27 @@
 //! A caller's token.
 use crate::law::Place;
 use ck_key::TableKey;
+use ck_stripe::Stripe;
 use std::marker::Model;
 
-/// A caller's token. Contracts see what the caller knows, and the stripes that it holds.
+/// A caller's token. Contracts see what the caller knows, and the stripes that it holds. What says so has no
+/// bytes, so whoever holds stripes keeps their numbers; what has bytes is room for a list of all stripes, so that it takes no
+/// memory to lock the table.
 ///
 /// It may go to another thread, and can't be cloned.
 #[derive(Drop)]
 pub struct Pass<K: TableKey, V> {
     pub(crate) seat: Place<K, V>,
-    // The numbers of the stripes that are held, rising. It has room for all, so that taking one takes no memory.
-    pub(crate) taken: Vec<usize>,
+    pub(crate) room: Vec<Stripe<K, V>>,
 }
 
 impl<K: TableKey, V> Model for Pass<K, V> {
     ghost use Rattle.std.specs.Prelude.{vec_capacity};
-    ghost use Rattle.ck_words.specs.Passes.{PassState, state_of, IsSeated};
+    ghost use Rattle.ck_words.specs.Passes.{PassState, state_of, IsReady};
 
     ghost Value = { PassState V };
 
     ghost view = { λ p. state_of p.seat.table_id p.seat.me };
 
-    ghost invariant = { λ p. IsSeated p.seat.table_id p.seat.me p.taken.items (vec_capacity p.taken) };
-}
-
-impl<K: TableKey + Drop, V: Drop> Pass<K, V> {
-    ghost use Rattle.std.specs.Prelude.{◌≡◌, length};
-
-    /// How many stripes are held.
-    pub fn count(&self) -> usize
-        ensures { result ≡ length self.now.stripes }
-    {
-        self.taken.len()
-    }
+    ghost invariant = { λ p. IsReady p.seat.table_id p.seat.me p.room.items (vec_capacity p.room) };
 }

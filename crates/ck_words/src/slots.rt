@@ -1,39 +1,47 @@
-//! Work on one of the stripes that a seat holds, in its slot. The seat's slots are turned until that stripe is the first,
-//! and then on until they are in their old order; a seat has no bytes, so a turn costs nothing.
-ghost use Rattle.std.specs.Prelude.{◌≡◌, ℕ, Bool, true, false, ◌+◌, ◌-◌, ◌<◌, ◌∷◌, Some, None, IsSome, IfSome, IfNone, OnOk, OnErr, length, map};
+//! Work on one of the stripes that a seat holds, in its slot. A seat lends the slot that it has first, so its slots are
+//! turned until that is the one, and then on until they are in their old order. A seat has no bytes, so a turn costs nothing,
+//! and what finds the slot is the stripe's number.
+ghost use Rattle.std.specs.Prelude.{◌≡◌, true, false, ◌+◌, ◌-◌, ◌<◌, Some, None, IsSome, IfSome, IfNone, OnOk, OnErr, map};
 ghost use Rattle.std.specs.Fn.{FnOnceReturnsAt};
-ghost use Rattle.atomic_table.specs.Table.{rest};
-ghost use Rattle.ck_model.specs.declared.contents.Content.{Content};
+ghost use Rattle.atomic_table.specs.Seated.{TableId};
 ghost use Rattle.ck_model.specs.Arithmetic.{partial_of};
 ghost use Rattle.ck_model.specs.Map.{Name};
 ghost use Rattle.ck_model.specs.Slots.{slot_at, IsFull};
 ghost use Rattle.ck_bucket.specs.Bucket.{HasName, LacksName, partial_in};
-ghost use Rattle.ck_stripe.specs.Doubling.{doubled_content};
+ghost use Rattle.ck_stripe.specs.Doubling.{doubled_content, SendsEach};
 ghost use Rattle.ck_stripe.specs.Stripe.{HasBucket, bucket_of, with_slot, IsReserved};
-ghost use Rattle.ck_section.specs.Stripes.{stripe_at, bucket_at, IsInReach};
-ghost use Rattle.ck_words.specs.Passes.{rotated, slot_of, stripes_in, numbers_of};
-ghost use Rattle.ck_words.specs.InPlace.{Puts, altered};
+ghost use Rattle.ck_section.specs.Stripes.{stripe_at, bucket_at, IsShapedAt, IsInReach};
+ghost use Rattle.ck_words.specs.Passes.{rotated, held_in};
+ghost use Rattle.ck_words.specs.InPlace.{HoldsAt, Brings, Puts};
 
 use crate::law::{Board, Place};
-use crate::steps::turn_by;
 use ck_key::TableKey;
 use ck_stripe::Stripe;
 use std::alloc::AllocError;
 
-// Brings stripe `i` to the front, and gives its number.
-fn bring<K: TableKey, V>(seat: &mut Place<K, V>, taken: &[usize], i: usize) -> usize
-    requires full { seat.old.me.1 ≡ map slot_of (stripes_in seat.old.me.1) }
-    requires numbered { numbers_of (stripes_in seat.old.me.1) ≡ taken.now }
-    requires inside { i < length taken.now }
-    ensures kept { (seat.new.table_id ≡ seat.old.table_id) × (seat.new.id ≡ seat.old.id) × (seat.new.me.0 ≡ seat.old.me.0) }
-    ensures front { seat.new.me.1 ≡ (result, Some (stripe_at (stripes_in seat.old.me.1) i)) ∷ rest seat.new.me.1 }
-    ensures back { (c : Content V) (settled : Bool) (room : ℕ) → Puts seat.old.me.1 i (altered (stripe_at (stripes_in seat.old.me.1) i) c settled room) (rotated (length taken.now - i) ((result, Some (altered (stripe_at (stripes_in seat.old.me.1) i) c settled room)) ∷ rest seat.new.me.1)) }
+// The first `n` slots go behind the others.
+#[inline(always)]
+pub(crate) fn turn_by<K: TableKey, V>(seat: &mut Place<K, V>, n: usize)
+    ensures table { seat.new.table_id ≡ seat.old.table_id }
+    ensures turned { seat.new.me ≡ (seat.old.me.0, rotated n seat.old.me.1) }
 {
-    turn_by(seat, i);
-    taken[i]
+    for _i in 0..n {
+        seat.turn();
+    }
+}
+
+// Brings stripe `i` of `count` to the front, number `t`.
+#[inline(always)]
+fn bring<K: TableKey, V>(seat: &mut Place<K, V>, count: usize, i: usize, t: usize)
+    requires { (table : TableId) × HoldsAt table count i t seat.old }
+    ensures { Brings i t seat.old seat.new }
+{
+    let _ = t;
+    turn_by(seat, count - 1 - i);
 }
 
 // A look into a bucket, which borrows nothing of the stripe afterwards.
+#[inline(always)]
 fn look_in<K: TableKey + Drop, V: Drop>(
     stripe: &Stripe<K, V>,
     b: u64,
@@ -56,7 +64,8 @@ fn free_in<K: TableKey + Drop, V: Drop>(stripe: &Stripe<K, V>, b: u64) -> Option
     requires own { HasBucket stripe.now b }
     ensures below { IfSome result (λ slot. slot < 4) }
     ensures found { IfSome result (λ slot. slot_at (bucket_of stripe.now b) slot ≡ None) }
-    ensures lowest { IfSome result (λ slot. (j : _) → j < slot → IsSome (slot_at (bucket_of stripe.now b) j)) }
+    ensures lowest { IfSome result (λ slot. (j : _) → j < slot
+        → IsSome (slot_at (bucket_of stripe.now b) j)) }
     ensures no_room { IfNone result (IsFull (bucket_of stripe.now b)) }
 {
     stripe.bucket(b).free()
@@ -83,7 +92,8 @@ fn read_in<K: TableKey + Drop, V: Drop, R, F: FnOnce(&V) -> R>(
     requires below { slot < 4 }
     requires slot_full { IsSome (slot_at (bucket_of stripe.now b) slot) }
     requires call { F.IsAlwaysCallable f }
-    ensures read { (n : _) (v : V) → slot_at (bucket_of stripe.now b) slot ≡ Some (n, v) → FnOnceReturnsAt F.FnOnce f v result }
+    ensures read { (n : _) (v : V) → slot_at (bucket_of stripe.now b) slot ≡ Some (n, v)
+        → FnOnceReturnsAt F.FnOnce f v result }
 {
     match stripe.bucket(b).get(slot) {
         Some((_, value)) => f(value),
@@ -91,391 +101,370 @@ fn read_in<K: TableKey + Drop, V: Drop, R, F: FnOnce(&V) -> R>(
     }
 }
 
-pub(crate) fn number_at<K: TableKey + Drop, V: Drop>(
-    shared: &Board<K, V>,
-    seat: &mut Place<K, V>,
-    taken: &[usize],
-    i: usize,
-) -> u32
-    requires own { seat.old.table_id ≡ shared.now.table_id }
-    requires full { seat.old.me.1 ≡ map slot_of (stripes_in seat.old.me.1) }
-    requires numbered { numbers_of (stripes_in seat.old.me.1) ≡ taken.now }
-    requires inside { i < length taken.now }
-    ensures value { result ≡ (stripe_at (stripes_in seat.old.me.1) i).number }
-    ensures puts { Puts seat.old.me.1 i ((stripe_at (stripes_in seat.old.me.1) i)) seat.new.me.1 }
-    ensures kept { (seat.new.table_id ≡ seat.old.table_id) × (seat.new.id ≡ seat.old.id) × (seat.new.me.0 ≡ seat.old.me.0) }
-{
-    let t = bring(seat, taken, i);
-    let Some(stripe) = seat.slot_mut(shared, t) else {
-        unreachable!()
-    };
-    let answer = stripe.number();
-    turn_by(seat, taken.len() - i);
-    answer
-}
-
+#[inline(always)]
 pub(crate) fn power_at<K: TableKey + Drop, V: Drop>(
     shared: &Board<K, V>,
     seat: &mut Place<K, V>,
-    taken: &[usize],
+    count: usize,
     i: usize,
+    t: usize,
 ) -> u32
-    requires own { seat.old.table_id ≡ shared.now.table_id }
-    requires full { seat.old.me.1 ≡ map slot_of (stripes_in seat.old.me.1) }
-    requires numbered { numbers_of (stripes_in seat.old.me.1) ≡ taken.now }
-    requires inside { i < length taken.now }
-    ensures value { result ≡ (stripe_at (stripes_in seat.old.me.1) i).content.power }
-    ensures puts { Puts seat.old.me.1 i ((stripe_at (stripes_in seat.old.me.1) i)) seat.new.me.1 }
-    ensures kept { (seat.new.table_id ≡ seat.old.table_id) × (seat.new.id ≡ seat.old.id) × (seat.new.me.0 ≡ seat.old.me.0) }
+    requires seat { HoldsAt shared.now.table_id count i t seat.old }
+    ensures value { result ≡ (stripe_at (held_in seat.old.me.1) i).content.power }
+    ensures puts { Puts i (stripe_at (held_in seat.old.me.1) i) seat.old seat.new }
 {
-    let t = bring(seat, taken, i);
+    bring(seat, count, i, t);
     let Some(stripe) = seat.slot_mut(shared, t) else {
         unreachable!()
     };
     let answer = stripe.power();
-    turn_by(seat, taken.len() - i);
+    turn_by(seat, i + 1);
     answer
 }
 
 pub(crate) fn len_at<K: TableKey + Drop, V: Drop>(
     shared: &Board<K, V>,
     seat: &mut Place<K, V>,
-    taken: &[usize],
+    count: usize,
     i: usize,
+    t: usize,
 ) -> u64
-    requires own { seat.old.table_id ≡ shared.now.table_id }
-    requires full { seat.old.me.1 ≡ map slot_of (stripes_in seat.old.me.1) }
-    requires numbered { numbers_of (stripes_in seat.old.me.1) ≡ taken.now }
-    requires inside { i < length taken.now }
-    ensures value { result ≡ (stripe_at (stripes_in seat.old.me.1) i).content.ledger }
-    ensures puts { Puts seat.old.me.1 i ((stripe_at (stripes_in seat.old.me.1) i)) seat.new.me.1 }
-    ensures kept { (seat.new.table_id ≡ seat.old.table_id) × (seat.new.id ≡ seat.old.id) × (seat.new.me.0 ≡ seat.old.me.0) }
+    requires seat { HoldsAt shared.now.table_id count i t seat.old }
+    ensures value { result ≡ (stripe_at (held_in seat.old.me.1) i).content.ledger }
+    ensures shaped { IsShapedAt (held_in seat.old.me.1) i }
+    ensures puts { Puts i (stripe_at (held_in seat.old.me.1) i) seat.old seat.new }
 {
-    let t = bring(seat, taken, i);
+    bring(seat, count, i, t);
     let Some(stripe) = seat.slot_mut(shared, t) else {
         unreachable!()
     };
     let answer = stripe.len();
-    turn_by(seat, taken.len() - i);
+    turn_by(seat, i + 1);
     answer
 }
 
+#[inline(always)]
 pub(crate) fn look_at<K: TableKey + Drop, V: Drop>(
     shared: &Board<K, V>,
     seat: &mut Place<K, V>,
-    taken: &[usize],
+    count: usize,
     i: usize,
+    t: usize,
     b: u64,
     key: &K,
     partial: u8,
 ) -> Option<usize>
-    requires own { seat.old.table_id ≡ shared.now.table_id }
-    requires full { seat.old.me.1 ≡ map slot_of (stripes_in seat.old.me.1) }
-    requires numbered { numbers_of (stripes_in seat.old.me.1) ≡ taken.now }
-    requires inside { i < length taken.now }
-    requires reach { IsInReach (stripes_in seat.old.me.1) i b }
+    requires seat { HoldsAt shared.now.table_id count i t seat.old }
+    requires reach { IsInReach (held_in seat.old.me.1) i b }
     requires partial { partial ≡ partial_of (K.hash (K.name key.now)) }
     ensures below { IfSome result (λ slot. slot < 4) }
-    ensures found { IfSome result (HasName (bucket_at (stripes_in seat.old.me.1) i b) (K.name key.now)) }
-    ensures absent { IfNone result (LacksName (bucket_at (stripes_in seat.old.me.1) i b) (K.name key.now)) }
-    ensures puts { Puts seat.old.me.1 i ((stripe_at (stripes_in seat.old.me.1) i)) seat.new.me.1 }
-    ensures kept { (seat.new.table_id ≡ seat.old.table_id) × (seat.new.id ≡ seat.old.id) × (seat.new.me.0 ≡ seat.old.me.0) }
+    ensures found { IfSome result
+        (HasName (bucket_at (held_in seat.old.me.1) i b) (K.name key.now)) }
+    ensures absent { IfNone result
+        (LacksName (bucket_at (held_in seat.old.me.1) i b) (K.name key.now)) }
+    ensures puts { Puts i (stripe_at (held_in seat.old.me.1) i) seat.old seat.new }
 {
-    let t = bring(seat, taken, i);
+    bring(seat, count, i, t);
     let Some(stripe) = seat.slot_mut(shared, t) else {
         unreachable!()
     };
     let answer = look_in(stripe, b, key, partial);
-    turn_by(seat, taken.len() - i);
+    turn_by(seat, i + 1);
     answer
 }
 
+#[inline(always)]
 pub(crate) fn free_at<K: TableKey + Drop, V: Drop>(
     shared: &Board<K, V>,
     seat: &mut Place<K, V>,
-    taken: &[usize],
+    count: usize,
     i: usize,
+    t: usize,
     b: u64,
 ) -> Option<usize>
-    requires own { seat.old.table_id ≡ shared.now.table_id }
-    requires full { seat.old.me.1 ≡ map slot_of (stripes_in seat.old.me.1) }
-    requires numbered { numbers_of (stripes_in seat.old.me.1) ≡ taken.now }
-    requires inside { i < length taken.now }
-    requires reach { IsInReach (stripes_in seat.old.me.1) i b }
+    requires seat { HoldsAt shared.now.table_id count i t seat.old }
+    requires reach { IsInReach (held_in seat.old.me.1) i b }
     ensures below { IfSome result (λ slot. slot < 4) }
-    ensures found { IfSome result (λ slot. slot_at (bucket_at (stripes_in seat.old.me.1) i b) slot ≡ None) }
-    ensures lowest { IfSome result (λ slot. (j : _) → j < slot → IsSome (slot_at (bucket_at (stripes_in seat.old.me.1) i b) j)) }
-    ensures no_room { IfNone result (IsFull (bucket_at (stripes_in seat.old.me.1) i b)) }
-    ensures puts { Puts seat.old.me.1 i ((stripe_at (stripes_in seat.old.me.1) i)) seat.new.me.1 }
-    ensures kept { (seat.new.table_id ≡ seat.old.table_id) × (seat.new.id ≡ seat.old.id) × (seat.new.me.0 ≡ seat.old.me.0) }
+    ensures found { IfSome result (λ slot. slot_at (bucket_at (held_in seat.old.me.1) i b) slot
+        ≡ None) }
+    ensures lowest { IfSome result (λ slot. (j : _) → j < slot
+        → IsSome (slot_at (bucket_at (held_in seat.old.me.1) i b) j)) }
+    ensures no_room { IfNone result (IsFull (bucket_at (held_in seat.old.me.1) i b)) }
+    ensures puts { Puts i (stripe_at (held_in seat.old.me.1) i) seat.old seat.new }
 {
-    let t = bring(seat, taken, i);
+    bring(seat, count, i, t);
     let Some(stripe) = seat.slot_mut(shared, t) else {
         unreachable!()
     };
     let answer = free_in(stripe, b);
-    turn_by(seat, taken.len() - i);
+    turn_by(seat, i + 1);
     answer
 }
 
 pub(crate) fn sketch_at<K: TableKey + Drop, V: Drop>(
     shared: &Board<K, V>,
     seat: &mut Place<K, V>,
-    taken: &[usize],
+    count: usize,
     i: usize,
+    t: usize,
     b: u64,
 ) -> [Option<u8>; 4]
-    requires own { seat.old.table_id ≡ shared.now.table_id }
-    requires full { seat.old.me.1 ≡ map slot_of (stripes_in seat.old.me.1) }
-    requires numbered { numbers_of (stripes_in seat.old.me.1) ≡ taken.now }
-    requires inside { i < length taken.now }
-    requires reach { IsInReach (stripes_in seat.old.me.1) i b }
-    ensures value { result ≡ map (partial_in K.hash) (bucket_at (stripes_in seat.old.me.1) i b) }
-    ensures puts { Puts seat.old.me.1 i ((stripe_at (stripes_in seat.old.me.1) i)) seat.new.me.1 }
-    ensures kept { (seat.new.table_id ≡ seat.old.table_id) × (seat.new.id ≡ seat.old.id) × (seat.new.me.0 ≡ seat.old.me.0) }
+    requires seat { HoldsAt shared.now.table_id count i t seat.old }
+    requires reach { IsInReach (held_in seat.old.me.1) i b }
+    ensures value { result ≡ map (partial_in K.hash) (bucket_at (held_in seat.old.me.1) i b) }
+    ensures puts { Puts i (stripe_at (held_in seat.old.me.1) i) seat.old seat.new }
 {
-    let t = bring(seat, taken, i);
+    bring(seat, count, i, t);
     let Some(stripe) = seat.slot_mut(shared, t) else {
         unreachable!()
     };
     let answer = sketch_in(stripe, b);
-    turn_by(seat, taken.len() - i);
+    turn_by(seat, i + 1);
     answer
 }
 
+#[inline(always)]
 pub(crate) fn settled_at<K: TableKey + Drop, V: Drop>(
     shared: &Board<K, V>,
     seat: &mut Place<K, V>,
-    taken: &[usize],
+    count: usize,
     i: usize,
+    t: usize,
 ) -> bool
-    requires own { seat.old.table_id ≡ shared.now.table_id }
-    requires full { seat.old.me.1 ≡ map slot_of (stripes_in seat.old.me.1) }
-    requires numbered { numbers_of (stripes_in seat.old.me.1) ≡ taken.now }
-    requires inside { i < length taken.now }
-    ensures value { result ≡ (stripe_at (stripes_in seat.old.me.1) i).settled }
-    ensures puts { Puts seat.old.me.1 i ((stripe_at (stripes_in seat.old.me.1) i)) seat.new.me.1 }
-    ensures kept { (seat.new.table_id ≡ seat.old.table_id) × (seat.new.id ≡ seat.old.id) × (seat.new.me.0 ≡ seat.old.me.0) }
+    requires seat { HoldsAt shared.now.table_id count i t seat.old }
+    ensures value { result ≡ (stripe_at (held_in seat.old.me.1) i).settled }
+    ensures puts { Puts i (stripe_at (held_in seat.old.me.1) i) seat.old seat.new }
 {
-    let t = bring(seat, taken, i);
+    bring(seat, count, i, t);
     let Some(stripe) = seat.slot_mut(shared, t) else {
         unreachable!()
     };
     let answer = stripe.settled();
-    turn_by(seat, taken.len() - i);
+    turn_by(seat, i + 1);
     answer
 }
 
+#[inline(always)]
 pub(crate) fn read_at<K: TableKey + Drop, V: Drop, R, F: FnOnce(&V) -> R>(
     shared: &Board<K, V>,
     seat: &mut Place<K, V>,
-    taken: &[usize],
+    count: usize,
     i: usize,
+    t: usize,
     b: u64,
     slot: usize,
     f: F,
 ) -> R
-    requires own { seat.old.table_id ≡ shared.now.table_id }
-    requires full { seat.old.me.1 ≡ map slot_of (stripes_in seat.old.me.1) }
-    requires numbered { numbers_of (stripes_in seat.old.me.1) ≡ taken.now }
-    requires inside { i < length taken.now }
-    requires reach { IsInReach (stripes_in seat.old.me.1) i b }
+    requires seat { HoldsAt shared.now.table_id count i t seat.old }
+    requires reach { IsInReach (held_in seat.old.me.1) i b }
     requires below { slot < 4 }
-    requires slot_full { IsSome (slot_at (bucket_at (stripes_in seat.old.me.1) i b) slot) }
+    requires slot_full { IsSome (slot_at (bucket_at (held_in seat.old.me.1) i b) slot) }
     requires call { F.IsAlwaysCallable f }
-    ensures read { (n : _) (v : V) → slot_at (bucket_at (stripes_in seat.old.me.1) i b) slot ≡ Some (n, v) → FnOnceReturnsAt F.FnOnce f v result }
-    ensures puts { Puts seat.old.me.1 i (stripe_at (stripes_in seat.old.me.1) i) seat.new.me.1 }
-    ensures kept { (seat.new.table_id ≡ seat.old.table_id) × (seat.new.id ≡ seat.old.id) × (seat.new.me.0 ≡ seat.old.me.0) }
+    ensures read { (n : _) (v : V)
+        → slot_at (bucket_at (held_in seat.old.me.1) i b) slot ≡ Some (n,
+        v) → FnOnceReturnsAt F.FnOnce f v result }
+    ensures puts { Puts i (stripe_at (held_in seat.old.me.1) i) seat.old seat.new }
 {
-    let t = bring(seat, taken, i);
+    bring(seat, count, i, t);
     let Some(stripe) = seat.slot_mut(shared, t) else {
         unreachable!()
     };
     let answer = read_in(stripe, b, slot, f);
-    turn_by(seat, taken.len() - i);
+    turn_by(seat, i + 1);
     answer
 }
 
+#[inline(always)]
 pub(crate) fn place_at<K: TableKey + Drop, V: Drop>(
     shared: &Board<K, V>,
     seat: &mut Place<K, V>,
-    taken: &[usize],
+    count: usize,
     i: usize,
+    t: usize,
     b: u64,
     slot: usize,
     partial: u8,
     key: K,
     value: V,
 )
-    requires own { seat.old.table_id ≡ shared.now.table_id }
-    requires full { seat.old.me.1 ≡ map slot_of (stripes_in seat.old.me.1) }
-    requires numbered { numbers_of (stripes_in seat.old.me.1) ≡ taken.now }
-    requires inside { i < length taken.now }
-    requires reach { IsInReach (stripes_in seat.old.me.1) i b }
+    requires seat { HoldsAt shared.now.table_id count i t seat.old }
+    requires reach { IsInReach (held_in seat.old.me.1) i b }
     requires below { slot < 4 }
-    requires free { slot_at (bucket_at (stripes_in seat.old.me.1) i b) slot ≡ None }
+    requires free { slot_at (bucket_at (held_in seat.old.me.1) i b) slot ≡ None }
     requires partial { partial ≡ partial_of (K.hash (K.name key)) }
-    ensures puts { Puts seat.old.me.1 i (record (stripe_at (stripes_in seat.old.me.1) i) { content = with_slot (stripe_at (stripes_in seat.old.me.1) i) b slot (Some (K.name key, value)) ((stripe_at (stripes_in seat.old.me.1) i).content.ledger + 1) }) seat.new.me.1 }
-    ensures kept { (seat.new.table_id ≡ seat.old.table_id) × (seat.new.id ≡ seat.old.id) × (seat.new.me.0 ≡ seat.old.me.0) }
+    ensures puts { Puts i
+        (record (stripe_at (held_in seat.old.me.1) i)
+        { content = with_slot (stripe_at (held_in seat.old.me.1) i) b slot
+        (Some (K.name key, value)) ((stripe_at (held_in seat.old.me.1) i).content.ledger + 1) })
+        seat.old seat.new }
 {
-    let t = bring(seat, taken, i);
+    bring(seat, count, i, t);
     let Some(stripe) = seat.slot_mut(shared, t) else {
         unreachable!()
     };
     stripe.place(b, slot, partial, key, value);
-    turn_by(seat, taken.len() - i);
+    turn_by(seat, i + 1);
 }
 
+#[inline(always)]
 pub(crate) fn remove_at<K: TableKey + Drop, V: Drop>(
     shared: &Board<K, V>,
     seat: &mut Place<K, V>,
-    taken: &[usize],
+    count: usize,
     i: usize,
+    t: usize,
     b: u64,
     slot: usize,
 ) -> (K, V)
-    requires own { seat.old.table_id ≡ shared.now.table_id }
-    requires full { seat.old.me.1 ≡ map slot_of (stripes_in seat.old.me.1) }
-    requires numbered { numbers_of (stripes_in seat.old.me.1) ≡ taken.now }
-    requires inside { i < length taken.now }
-    requires reach { IsInReach (stripes_in seat.old.me.1) i b }
+    requires seat { HoldsAt shared.now.table_id count i t seat.old }
+    requires reach { IsInReach (held_in seat.old.me.1) i b }
     requires below { slot < 4 }
-    requires slot_full { IsSome (slot_at (bucket_at (stripes_in seat.old.me.1) i b) slot) }
-    ensures entry { slot_at (bucket_at (stripes_in seat.old.me.1) i b) slot ≡ Some (K.name result.0, result.1) }
-    ensures puts { Puts seat.old.me.1 i (record (stripe_at (stripes_in seat.old.me.1) i) { content = with_slot (stripe_at (stripes_in seat.old.me.1) i) b slot None ((stripe_at (stripes_in seat.old.me.1) i).content.ledger - 1) }) seat.new.me.1 }
-    ensures kept { (seat.new.table_id ≡ seat.old.table_id) × (seat.new.id ≡ seat.old.id) × (seat.new.me.0 ≡ seat.old.me.0) }
+    requires slot_full { IsSome (slot_at (bucket_at (held_in seat.old.me.1) i b) slot) }
+    ensures entry { slot_at (bucket_at (held_in seat.old.me.1) i b) slot
+        ≡ Some (K.name result.0, result.1) }
+    ensures puts { Puts i
+        (record (stripe_at (held_in seat.old.me.1) i)
+        { content = with_slot (stripe_at (held_in seat.old.me.1) i) b slot None
+        ((stripe_at (held_in seat.old.me.1) i).content.ledger - 1) }) seat.old seat.new }
 {
-    let t = bring(seat, taken, i);
+    bring(seat, count, i, t);
     let Some(stripe) = seat.slot_mut(shared, t) else {
         unreachable!()
     };
     let answer = stripe.remove(b, slot);
-    turn_by(seat, taken.len() - i);
+    turn_by(seat, i + 1);
     answer
 }
 
+#[inline(always)]
 pub(crate) fn replace_at<K: TableKey + Drop, V: Drop>(
     shared: &Board<K, V>,
     seat: &mut Place<K, V>,
-    taken: &[usize],
+    count: usize,
     i: usize,
+    t: usize,
     b: u64,
     slot: usize,
     value: V,
 ) -> V
-    requires own { seat.old.table_id ≡ shared.now.table_id }
-    requires full { seat.old.me.1 ≡ map slot_of (stripes_in seat.old.me.1) }
-    requires numbered { numbers_of (stripes_in seat.old.me.1) ≡ taken.now }
-    requires inside { i < length taken.now }
-    requires reach { IsInReach (stripes_in seat.old.me.1) i b }
+    requires seat { HoldsAt shared.now.table_id count i t seat.old }
+    requires reach { IsInReach (held_in seat.old.me.1) i b }
     requires below { slot < 4 }
-    requires slot_full { IsSome (slot_at (bucket_at (stripes_in seat.old.me.1) i b) slot) }
-    ensures content { (n : Name) × (slot_at (bucket_at (stripes_in seat.old.me.1) i b) slot ≡ Some (n, result)) × Puts seat.old.me.1 i (record (stripe_at (stripes_in seat.old.me.1) i) { content = with_slot (stripe_at (stripes_in seat.old.me.1) i) b slot (Some (n, value)) (stripe_at (stripes_in seat.old.me.1) i).content.ledger }) seat.new.me.1 }
-    ensures kept { (seat.new.table_id ≡ seat.old.table_id) × (seat.new.id ≡ seat.old.id) × (seat.new.me.0 ≡ seat.old.me.0) }
+    requires slot_full { IsSome (slot_at (bucket_at (held_in seat.old.me.1) i b) slot) }
+    ensures content { (n : Name)
+        × (slot_at (bucket_at (held_in seat.old.me.1) i b) slot
+        ≡ Some (n, result))
+        × Puts i (record (stripe_at (held_in seat.old.me.1) i)
+        { content = with_slot (stripe_at (held_in seat.old.me.1) i) b slot (Some (n, value))
+        (stripe_at (held_in seat.old.me.1) i).content.ledger }) seat.old seat.new }
 {
-    let t = bring(seat, taken, i);
+    bring(seat, count, i, t);
     let Some(stripe) = seat.slot_mut(shared, t) else {
         unreachable!()
     };
     let answer = stripe.replace(b, slot, value);
-    turn_by(seat, taken.len() - i);
+    turn_by(seat, i + 1);
     answer
 }
 
+#[inline(always)]
 pub(crate) fn change_at<K: TableKey + Drop, V: Drop, F: FnOnce(V) -> V>(
     shared: &Board<K, V>,
     seat: &mut Place<K, V>,
-    taken: &[usize],
+    count: usize,
     i: usize,
+    t: usize,
     b: u64,
     slot: usize,
     f: F,
 )
-    requires own { seat.old.table_id ≡ shared.now.table_id }
-    requires full { seat.old.me.1 ≡ map slot_of (stripes_in seat.old.me.1) }
-    requires numbered { numbers_of (stripes_in seat.old.me.1) ≡ taken.now }
-    requires inside { i < length taken.now }
-    requires reach { IsInReach (stripes_in seat.old.me.1) i b }
+    requires seat { HoldsAt shared.now.table_id count i t seat.old }
+    requires reach { IsInReach (held_in seat.old.me.1) i b }
     requires below { slot < 4 }
-    requires slot_full { IsSome (slot_at (bucket_at (stripes_in seat.old.me.1) i b) slot) }
+    requires slot_full { IsSome (slot_at (bucket_at (held_in seat.old.me.1) i b) slot) }
     requires call { F.IsAlwaysCallable f }
-    ensures content { (n : Name) × (v w : V) × (slot_at (bucket_at (stripes_in seat.old.me.1) i b) slot ≡ Some (n, v)) × F.post f v w × Puts seat.old.me.1 i (record (stripe_at (stripes_in seat.old.me.1) i) { content = with_slot (stripe_at (stripes_in seat.old.me.1) i) b slot (Some (n, w)) (stripe_at (stripes_in seat.old.me.1) i).content.ledger }) seat.new.me.1 }
-    ensures kept { (seat.new.table_id ≡ seat.old.table_id) × (seat.new.id ≡ seat.old.id) × (seat.new.me.0 ≡ seat.old.me.0) }
+    ensures content { (n : Name) × (v w : V)
+        × (slot_at (bucket_at (held_in seat.old.me.1) i b) slot
+        ≡ Some (n, v)) × F.post f v w
+        × Puts i (record (stripe_at (held_in seat.old.me.1) i)
+        { content = with_slot (stripe_at (held_in seat.old.me.1) i) b slot (Some (n, w))
+        (stripe_at (held_in seat.old.me.1) i).content.ledger }) seat.old seat.new }
 {
-    let t = bring(seat, taken, i);
+    bring(seat, count, i, t);
     let Some(stripe) = seat.slot_mut(shared, t) else {
         unreachable!()
     };
     stripe.change(b, slot, f);
-    turn_by(seat, taken.len() - i);
+    turn_by(seat, i + 1);
 }
 
 pub(crate) fn settle_at<K: TableKey + Drop, V: Drop>(
     shared: &Board<K, V>,
     seat: &mut Place<K, V>,
-    taken: &[usize],
+    count: usize,
     i: usize,
+    t: usize,
 )
-    requires own { seat.old.table_id ≡ shared.now.table_id }
-    requires full { seat.old.me.1 ≡ map slot_of (stripes_in seat.old.me.1) }
-    requires numbered { numbers_of (stripes_in seat.old.me.1) ≡ taken.now }
-    requires inside { i < length taken.now }
-    ensures puts { Puts seat.old.me.1 i (record (stripe_at (stripes_in seat.old.me.1) i) { settled = true }) seat.new.me.1 }
-    ensures kept { (seat.new.table_id ≡ seat.old.table_id) × (seat.new.id ≡ seat.old.id) × (seat.new.me.0 ≡ seat.old.me.0) }
+    requires seat { HoldsAt shared.now.table_id count i t seat.old }
+    ensures puts { Puts i (record (stripe_at (held_in seat.old.me.1) i) { settled = true }) seat.old
+        seat.new }
 {
-    let t = bring(seat, taken, i);
+    bring(seat, count, i, t);
     let Some(stripe) = seat.slot_mut(shared, t) else {
         unreachable!()
     };
     stripe.settle();
-    turn_by(seat, taken.len() - i);
+    turn_by(seat, i + 1);
 }
 
 pub(crate) fn reserve_double_at<K: TableKey + Drop, V: Drop>(
     shared: &Board<K, V>,
     seat: &mut Place<K, V>,
-    taken: &[usize],
+    count: usize,
     i: usize,
+    t: usize,
 ) -> Result<(), AllocError>
-    requires own { seat.old.table_id ≡ shared.now.table_id }
-    requires full { seat.old.me.1 ≡ map slot_of (stripes_in seat.old.me.1) }
-    requires numbered { numbers_of (stripes_in seat.old.me.1) ≡ taken.now }
-    requires inside { i < length taken.now }
-    requires settled { (stripe_at (stripes_in seat.old.me.1) i).settled ≡ true }
-    ensures puts { Puts seat.old.me.1 i (record (stripe_at (stripes_in seat.old.me.1) i) { room = (stripe_at (stripes_in seat.new.me.1) i).room }) seat.new.me.1 }
-    ensures ok { OnOk result (IsReserved (stripe_at (stripes_in seat.new.me.1) i)) }
-    ensures err { OnErr result (stripes_in seat.new.me.1 ≡ stripes_in seat.old.me.1) }
-    ensures kept { (seat.new.table_id ≡ seat.old.table_id) × (seat.new.id ≡ seat.old.id) × (seat.new.me.0 ≡ seat.old.me.0) }
+    requires seat { HoldsAt shared.now.table_id count i t seat.old }
+    requires settled { (stripe_at (held_in seat.old.me.1) i).settled ≡ true }
+    ensures puts { Puts i
+        (record (stripe_at (held_in seat.old.me.1) i)
+        { room = (stripe_at (held_in seat.new.me.1) i).room }) seat.old seat.new }
+    ensures ok { OnOk result (IsReserved (stripe_at (held_in seat.new.me.1) i)) }
+    ensures err { OnErr result (held_in seat.new.me.1 ≡ held_in seat.old.me.1) }
 {
-    let t = bring(seat, taken, i);
+    bring(seat, count, i, t);
     let Some(stripe) = seat.slot_mut(shared, t) else {
         unreachable!()
     };
     let answer = stripe.reserve_double();
-    turn_by(seat, taken.len() - i);
+    turn_by(seat, i + 1);
     answer
 }
 
 pub(crate) fn double_at<K: TableKey + Drop, V: Drop>(
     shared: &Board<K, V>,
     seat: &mut Place<K, V>,
-    taken: &[usize],
+    count: usize,
     i: usize,
+    t: usize,
 )
-    requires own { seat.old.table_id ≡ shared.now.table_id }
-    requires full { seat.old.me.1 ≡ map slot_of (stripes_in seat.old.me.1) }
-    requires numbered { numbers_of (stripes_in seat.old.me.1) ≡ taken.now }
-    requires inside { i < length taken.now }
-    requires settled { (stripe_at (stripes_in seat.old.me.1) i).settled ≡ true }
-    requires reserved { IsReserved (stripe_at (stripes_in seat.old.me.1) i) }
-    requires power { (stripe_at (stripes_in seat.old.me.1) i).content.power < 26 }
-    ensures puts { Puts seat.old.me.1 i (record (stripe_at (stripes_in seat.old.me.1) i) { content = doubled_content K.hash (stripe_at (stripes_in seat.old.me.1) i).s (stripe_at (stripes_in seat.old.me.1) i).number (stripe_at (stripes_in seat.old.me.1) i).content; settled = false }) seat.new.me.1 }
-    ensures kept { (seat.new.table_id ≡ seat.old.table_id) × (seat.new.id ≡ seat.old.id) × (seat.new.me.0 ≡ seat.old.me.0) }
+    requires seat { HoldsAt shared.now.table_id count i t seat.old }
+    requires settled { (stripe_at (held_in seat.old.me.1) i).settled ≡ true }
+    requires reserved { IsReserved (stripe_at (held_in seat.old.me.1) i) }
+    requires power { (stripe_at (held_in seat.old.me.1) i).content.power < 26 }
+    ensures puts { Puts i
+        (record (stripe_at (held_in seat.old.me.1) i)
+        { content = doubled_content K.hash (stripe_at (held_in seat.old.me.1) i).s
+        (stripe_at (held_in seat.old.me.1) i).number (stripe_at (held_in seat.old.me.1)
+        i).content; settled = false }) seat.old seat.new }
+    ensures sends { let stripe = stripe_at (held_in seat.old.me.1) i in
+        SendsEach K.hash stripe.s stripe.number stripe.content
+        (doubled_content K.hash stripe.s stripe.number stripe.content) }
 {
-    let t = bring(seat, taken, i);
+    bring(seat, count, i, t);
     let Some(stripe) = seat.slot_mut(shared, t) else {
         unreachable!()
     };
     stripe.double();
-    turn_by(seat, taken.len() - i);
+    turn_by(seat, i + 1);
 }

@@ -1,29 +1,19 @@
 //! The steps on the lock words. Each is one atomic operation on one word, and one step of the core. Nothing else but a
 //! split or a join changes what a pass knows, and nothing else which stripes it holds.
-ghost use Rattle.std.specs.Prelude.{◌≡◌, ◌<◌, ◌^◌, Some, None, length, reverse};
+ghost use Rattle.std.specs.Prelude.{◌≡◌, ◌<◌, ◌^◌, Some, None, reverse};
 ghost use Rattle.ck_model.specs.Numbered.{numbers};
 ghost use Rattle.ck_model.specs.Contents.{Lawful};
 ghost use Rattle.ck_model.specs.Sections.{Section, IdentitySection};
 ghost use Rattle.ck_core.specs.Steps.{Move, IsAbove, IsExcused, HasGrounds};
 ghost use Rattle.ck_section.specs.Stripes.{contents_of};
 ghost use Rattle.ck_words.specs.Rule.{layout_of};
-ghost use Rattle.ck_words.specs.Passes.{rotated, IsPassOf, IsUnchanged, TriesStripe, Sends, LooksUp};
+ghost use Rattle.ck_words.specs.Passes.{IsPassOf, IsHighest, IsUnchanged, TriesStripe, Sends, LooksUp};
 
-use crate::law::{Decide, Give, Look, Place, Refuses, Renew, Says, Take};
+use crate::law::{Decide, Give, Look, Refuses, Renew, Says, Take};
 use crate::pass::Pass;
 use crate::words::Words;
 use ck_key::TableKey;
 use std::marker::Brand;
-
-// The first `n` slots go behind the others.
-pub(crate) fn turn_by<K: TableKey, V>(seat: &mut Place<K, V>, n: usize)
-    ensures kept { (seat.new.table_id ≡ seat.old.table_id) × (seat.new.id ≡ seat.old.id) }
-    ensures turned { seat.new.me ≡ (seat.old.me.0, rotated n seat.old.me.1) }
-{
-    for _i in 0..n {
-        seat.turn();
-    }
-}
 
 impl<K: TableKey + Drop, V: Drop> Words<K, V> {
     /// Takes stripe `t`, which is above all that the pass holds. False where another pass holds it.
@@ -41,86 +31,80 @@ impl<K: TableKey + Drop, V: Drop> Words<K, V> {
         if self.table.shared.swap::<Take>(&mut pass.seat, t * 8, 1) != 0 {
             return false;
         }
-        pass.seat.turn();
-        pass.taken.push_reserved(t);
         true
     }
 
-    /// Gives the highest stripe back as it was taken. `said` is for the pick of `J` alone.
+    /// Gives the highest stripe back, number `t`, as it was taken. `said` is for the pick of `J` alone.
     ///
     /// It is a store of 0. Where the stripes show it, it may tell that a name found no room.
-    pub fn give<J: Refuses, X>(&self, pass: &mut Pass<K, V>, said: &X)
+    pub fn give<J: Refuses, X>(&self, pass: &mut Pass<K, V>, t: usize, said: &X)
         requires own { IsPassOf self.now pass.old }
-        requires held { 0 < length pass.old.stripes }
+        requires highest { IsHighest t pass.old.stripes }
         requires unchanged { IsUnchanged pass.old }
-        requires excused { Lawful (layout_of K.hash self.now.settings) (contents_of pass.old.stripes) → IsExcused (layout_of K.hash self.now.settings) self.now.settings.min_load (contents_of pass.old.stripes) J.refused }
+        requires excused { Lawful (layout_of K.hash self.now.settings)
+            (contents_of pass.old.stripes) → IsExcused (layout_of K.hash
+            self.now.settings) self.now.settings.min_load (contents_of pass.old.stripes) J.refused }
         ensures own { IsPassOf self.now pass.new }
         ensures step { Sends K.hash self.now (λ t _. Move.Give t J.refused) pass.old pass.new }
         ensures unchanged { IsUnchanged pass.new }
     {
         let _ = said;
-        let Some(t) = pass.taken.pop() else {
-            unreachable!()
-        };
-        turn_by(&mut pass.seat, pass.taken.len());
         self.table.shared.store::<Give<J>>(&mut pass.seat, t * 8, 0);
     }
 
-    /// Gives the highest stripe back after a `decide` or a `renew`, which told what it contains.
+    /// Gives the highest stripe back, number `t`, after a `decide` or a `renew`, which told what it contains.
     ///
     /// It is a store of 0.
-    pub fn give_rest(&self, pass: &mut Pass<K, V>)
+    pub fn give_rest(&self, pass: &mut Pass<K, V>, t: usize)
         requires own { IsPassOf self.now pass.old }
-        requires held { 0 < length pass.old.stripes }
+        requires highest { IsHighest t pass.old.stripes }
         requires unchanged { IsUnchanged pass.old }
         ensures own { IsPassOf self.now pass.new }
         ensures step { Sends K.hash self.now (λ t _. Move.GiveRest t) pass.old pass.new }
         ensures unchanged { IsUnchanged pass.new }
     {
-        self.give::<Brand, ()>(pass, &());
+        self.give::<Brand, ()>(pass, t, &());
     }
 
-    /// Decides the call of `J` with what the stripes contain now, and gives the highest one back. `said` is for the pick
+    /// Decides the call of `J` with what the stripes contain now, and gives the highest one back, number `t`. `said` is for the pick
     /// of `J` alone.
     ///
     /// It is a store of 0, by which the entry joins the history. The pass has then seen the history up to it.
-    pub fn decide<J: Says<V>, X>(&self, pass: &mut Pass<K, V>, said: &X)
+    pub fn decide<J: Says<V>, X>(&self, pass: &mut Pass<K, V>, t: usize, said: &X)
         requires own { IsPassOf self.now pass.old }
-        requires held { 0 < length pass.old.stripes }
+        requires highest { IsHighest t pass.old.stripes }
         requires caller { pass.old.view.by ≡ Some J.entry.by }
-        requires section { Lawful (layout_of K.hash self.now.settings) (reverse pass.old.view.held) → Section (layout_of K.hash self.now.settings) (reverse pass.old.view.held) J.entry.call J.entry.reply (contents_of pass.old.stripes) }
+        requires section { Lawful (layout_of K.hash self.now.settings) (reverse pass.old.view.held)
+            → Section (layout_of K.hash self.now.settings) (reverse
+            pass.old.view.held) J.entry.call J.entry.reply (contents_of pass.old.stripes) }
         ensures own { IsPassOf self.now pass.new }
         ensures step { Sends K.hash self.now (λ t ks. Move.Decide t ks J.entry) pass.old pass.new }
         ensures unchanged { IsUnchanged pass.new }
     {
         let _ = said;
-        let Some(t) = pass.taken.pop() else {
-            unreachable!()
-        };
-        turn_by(&mut pass.seat, pass.taken.len());
         self.table
             .shared
             .store::<Decide<J>>(&mut pass.seat, t * 8, 0);
     }
 
-    /// Gives the highest stripe back after an identity section, as a displacement or a doubling is, with what the stripes
+    /// Gives the highest stripe back, number `t`, after an identity section, as a displacement or a doubling is, with what the stripes
     /// contain now. `said` is for the pick of `J` alone.
     ///
     /// It is a store of 0. Where the stripes show it, it may tell that a name found no room.
-    pub fn renew<J: Refuses, X>(&self, pass: &mut Pass<K, V>, said: &X)
+    pub fn renew<J: Refuses, X>(&self, pass: &mut Pass<K, V>, t: usize, said: &X)
         requires own { IsPassOf self.now pass.old }
-        requires held { 0 < length pass.old.stripes }
-        requires section { Lawful (layout_of K.hash self.now.settings) (reverse pass.old.view.held) → IdentitySection (layout_of K.hash self.now.settings) (reverse pass.old.view.held) (contents_of pass.old.stripes) }
-        requires grounds { HasGrounds (layout_of K.hash self.now.settings) self.now.settings.min_load (contents_of pass.old.stripes) J.refused }
+        requires highest { IsHighest t pass.old.stripes }
+        requires section { Lawful (layout_of K.hash self.now.settings) (reverse pass.old.view.held)
+            → IdentitySection (layout_of K.hash self.now.settings) (reverse
+            pass.old.view.held) (contents_of pass.old.stripes) }
+        requires grounds { Lawful (layout_of K.hash self.now.settings) (reverse pass.old.view.held)
+            → HasGrounds (layout_of K.hash
+            self.now.settings) self.now.settings.min_load (contents_of pass.old.stripes) J.refused }
         ensures own { IsPassOf self.now pass.new }
         ensures step { Sends K.hash self.now (λ t ks. Move.Renew t ks J.refused) pass.old pass.new }
         ensures unchanged { IsUnchanged pass.new }
     {
         let _ = said;
-        let Some(t) = pass.taken.pop() else {
-            unreachable!()
-        };
-        turn_by(&mut pass.seat, pass.taken.len());
         self.table
             .shared
             .store::<Renew<J>>(&mut pass.seat, t * 8, 0);

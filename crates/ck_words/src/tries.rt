@@ -1,20 +1,22 @@
-//! Taking stripes with a bound on the tries, and giving them back.
-ghost use Rattle.std.specs.Prelude.{◌≡◌, ◌⊎◌, ◌<◌, ◌≤◌, ◌^◌, ◌==◌, if◌then◌else◌, [], ◌∷◌, MatchBool, OnOk, IfErr};
+//! Taking a stripe with a bound on the tries, and giving stripes back.
+ghost use Rattle.std.specs.Prelude.{◌≡◌, ◌<◌, ◌-◌, ◌^◌, MatchBool};
 ghost use Rattle.ck_model.specs.Numbered.{numbers};
 ghost use Rattle.ck_core.specs.Steps.{IsAbove};
-ghost use Rattle.ck_words.specs.Passes.{EachOf, IsPassOf, IsIdle, IsUnchanged, ShowsSeen, numbers_of};
-ghost use Rattle.ck_words.specs.Retries.{TakesWithin, found_again, Stays, FindsAmong, IsBusy};
+ghost use Rattle.ck_words.specs.Rule.{counting};
+ghost use Rattle.ck_words.specs.Passes.{IsPassOf, IsUnchanged, numbers_of, pair, lower};
+ghost use Rattle.ck_words.specs.Retries.{TakesWithin, found_again};
+ghost use Rattle.ck_words.specs.Holding.{HasReleased, IsToldNoMore};
 
 use crate::pass::Pass;
 use crate::words::Words;
 use ck_key::TableKey;
 use std::{hint, thread};
 
-// Waits before the next try, and after each 64 lets other threads run.
+// Waits after so many tries, and after each 64 lets other threads run.
 #[cold]
 #[inline(never)]
 fn wait(tries: u32) {
-    if tries % 64 == 63 {
+    if tries % 64 == 0 {
         thread::yield_now();
     } else {
         hint::spin_loop();
@@ -31,59 +33,88 @@ impl<K: TableKey + Drop, V: Drop> Words<K, V> {
         requires above { IsAbove t (numbers pass.old.view.held) }
         requires unchanged { IsUnchanged pass.old }
         ensures own { IsPassOf self.now pass.new }
-        ensures tries { MatchBool result (TakesWithin K.hash self.now.settings t pass.old pass.new) (pass.new ≡ found_again self.now.settings.turns t pass.old) }
+        ensures tries { MatchBool result
+            (TakesWithin K.hash self.now.settings self.now.settings.turns t pass.old pass.new)
+            (pass.new ≡ found_again self.now.settings.turns t pass.old) }
         ensures unchanged { IsUnchanged pass.new }
     {
-        for tries in 0..self.settings().turns {
+        let _ = self.settings();
+        if self.take(pass, t) {
+            return true;
+        }
+        self.try_again(pass, t)
+    }
+
+    // Goes on with the second of the tries that `try_take` makes.
+    #[cold]
+    #[inline(never)]
+    pub(crate) fn try_again(&self, pass: &mut Pass<K, V>, t: usize) -> bool
+        requires own { IsPassOf self.now pass.old }
+        requires inside { t < 2 ^ self.now.settings.s }
+        requires above { IsAbove t (numbers pass.old.view.held) }
+        requires unchanged { IsUnchanged pass.old }
+        ensures own { IsPassOf self.now pass.new }
+        ensures tries { MatchBool result
+            (TakesWithin K.hash self.now.settings (self.now.settings.turns - 1) t pass.old pass.new)
+            (pass.new ≡ found_again (self.now.settings.turns - 1) t pass.old) }
+        ensures unchanged { IsUnchanged pass.new }
+    {
+        for tries in 1..self.settings().turns {
+            wait(tries);
             if self.take(pass, t) {
                 return true;
             }
-            wait(tries);
         }
         false
     }
 
-    /// Gives all stripes back as they are.
-    pub fn release(&self, pass: &mut Pass<K, V>)
+    /// Gives all stripes back as they are, given their numbers.
+    pub fn release(&self, pass: &mut Pass<K, V>, numbers: &[usize])
         requires own { IsPassOf self.now pass.old }
+        requires numbered { numbers_of pass.old.stripes ≡ numbers.now }
         requires unchanged { IsUnchanged pass.old }
-        ensures own { IsPassOf self.now pass.new }
-        ensures idle { IsIdle pass.new }
-        ensures stays { Stays pass.old.view pass.new.view }
-        ensures found { pass.new.view.found ≡ pass.old.view.found }
-        ensures seen { pass.new.view.seen ≡ pass.old.view.seen }
+        ensures { HasReleased self.now pass.old pass.new }
     {
-        while pass.count() > 0 {
-            self.give_rest(pass);
+        for i in (0..numbers.len()).rev() {
+            self.give_rest(pass, numbers[i]);
         }
     }
 
-    /// Takes two stripes, or one where they are the same, in rising order of their numbers. Where another pass holds one,
-    /// it gives back what it holds, unchanged, and answers the number of that stripe, which was found held `turns` times
-    /// in a row.
+    /// Gives two stripes back as they are, or one where they are the same.
     #[inline(always)]
-    pub fn hold_pair(&self, pass: &mut Pass<K, V>, low: usize, high: usize) -> Result<(), usize>
+    pub fn release_pair(&self, pass: &mut Pass<K, V>, low: usize, high: usize)
         requires own { IsPassOf self.now pass.old }
-        requires idle { IsIdle pass.old }
-        requires rising { low ≤ high }
-        requires inside { high < 2 ^ self.now.settings.s }
-        ensures own { IsPassOf self.now pass.new }
-        ensures stays { Stays pass.old.view pass.new.view }
-        ensures held { OnOk result (numbers_of pass.new.stripes ≡ (if low == high then low ∷ [] else low ∷ high ∷ [])) }
-        ensures of_table { OnOk result (EachOf self.now.settings.s pass.new.stripes) }
-        ensures unchanged { OnOk result (IsUnchanged pass.new) }
-        ensures shows { OnOk result (ShowsSeen K.hash self.now.settings pass.new) }
-        ensures found { FindsAmong (λ t. (t ≡ low) ⊎ (t ≡ high)) pass.old pass.new }
-        ensures busy { IfErr result (λ t. IsBusy self.now.settings.turns t pass.old pass.new) }
-        ensures asked { IfErr result (λ t. (t ≡ low) ⊎ (t ≡ high)) }
+        requires numbered { numbers_of pass.old.stripes ≡ pair low high }
+        requires unchanged { IsUnchanged pass.old }
+        ensures { HasReleased self.now pass.old pass.new }
     {
-        if !self.try_take(pass, low) {
-            return Err(low);
+        self.give_rest(pass, high);
+        self.release_low(pass, low, high);
+    }
+
+    /// Gives the lower of two stripes back as it is, where they are two.
+    #[inline(always)]
+    pub fn release_low(&self, pass: &mut Pass<K, V>, low: usize, high: usize)
+        requires own { IsPassOf self.now pass.old }
+        requires numbered { numbers_of pass.old.stripes ≡ lower low high }
+        requires unchanged { IsUnchanged pass.old }
+        ensures { HasReleased self.now pass.old pass.new }
+    {
+        if low != high {
+            self.give_rest(pass, low);
         }
-        if low != high && !self.try_take(pass, high) {
-            self.release(pass);
-            return Err(high);
+    }
+
+    // Gives the first stripes back as they are, up to number `end`.
+    pub(crate) fn release_below(&self, pass: &mut Pass<K, V>, end: usize)
+        requires own { IsPassOf self.now pass.old }
+        requires numbered { numbers_of pass.old.stripes ≡ counting 0 end }
+        requires unchanged { IsUnchanged pass.old }
+        ensures released { HasReleased self.now pass.old pass.new }
+        ensures told { IsToldNoMore pass.old pass.new }
+    {
+        for t in (0..end).rev() {
+            self.give_rest(pass, t);
         }
-        Ok(())
     }
 }

@@ -9,4 +9,6 @@ pub use Rattle.ck_words.specs.Meeting
 pub use Rattle.ck_words.specs.Closing
 pub use Rattle.ck_table.specs.Refusals
 pub use Rattle.ck_table.specs.Insertions
+pub use Rattle.ck_table.specs.Growth
 pub use Rattle.ck_table.specs.Callers
+pub use Rattle.ck_table.specs.Locking

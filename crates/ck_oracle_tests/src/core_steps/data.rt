@@ -1,5 +1,5 @@
 //! Moves and what they change, as data. A key is a number, and it is its own hash.
-use ck_model::history::Why;
+use ck_model::history::Reason;
 use ck_model::settings::Settings;
 
 /// The keys and values of a stripe's one bucket.
@@ -29,7 +29,7 @@ pub enum Answer {
 pub type Said = (u64, Ask, Answer);
 
 /// A key, and why no room was found for it.
-pub type Grounds = (u64, Why);
+pub type Grounds = (u64, Reason);
 
 #[derive(Clone, Copy)]
 pub enum Made {

@@ -2,7 +2,7 @@
 //! in the second.
 use crate::core_steps::data::{Bucket, Change, EMPTY, Grounds, Held, Made};
 use crate::core_steps::worlds::{begin, make_change, step};
-use ck_model::history::Why;
+use ck_model::history::Reason;
 use ck_oracle_steps::refusal::{Refusal, Stop};
 use ck_oracle_steps::runs::check_steps;
 use ck_oracle_steps::world::{PlainTable, PlainWorld};
@@ -40,32 +40,32 @@ const ONLY_SECOND: &[Held] = &[(1, ODD)];
 // A caller that holds these stripes of a table with this greatest power and least load gives stripe 1 back and says
 // this; and whether it may.
 const SAID: [(&[Held], u32, u32, Grounds, bool); 22] = [
-    (ALL_FULL, 1, 0, (16, Why::NoRoom), true),
-    (ALL_FULL, 1, 0, (16, Why::Full), true),
-    (ALL_FULL, 1, 100, (16, Why::LoadTooLow), false),
-    (ALL_FULL, 1, 0, (16, Why::Memory), false),
-    (ALL_FULL, 2, 100, (16, Why::Full), false),
-    (ALL_FULL, 2, 100, (16, Why::LoadTooLow), false),
-    (ALL_FULL, 2, 100, (16, Why::Memory), true),
+    (ALL_FULL, 1, 0, (16, Reason::NoRoom), true),
+    (ALL_FULL, 1, 0, (16, Reason::Full), true),
+    (ALL_FULL, 1, 100, (16, Reason::LoadTooLow), false),
+    (ALL_FULL, 1, 0, (16, Reason::Memory), false),
+    (ALL_FULL, 2, 100, (16, Reason::Full), false),
+    (ALL_FULL, 2, 100, (16, Reason::LoadTooLow), false),
+    (ALL_FULL, 2, 100, (16, Reason::Memory), true),
     // The name is bound.
-    (ALL_FULL, 1, 0, (4, Why::NoRoom), false),
-    (ALL_FULL, 1, 0, (4, Why::Full), false),
+    (ALL_FULL, 1, 0, (4, Reason::NoRoom), false),
+    (ALL_FULL, 1, 0, (4, Reason::Full), false),
     // A slot of its buckets is free.
-    (ONE_FREE, 1, 0, (16, Why::NoRoom), false),
-    (ONE_FREE, 1, 0, (16, Why::Full), false),
-    (ONE_FREE, 2, 0, (16, Why::Memory), false),
+    (ONE_FREE, 1, 0, (16, Reason::NoRoom), false),
+    (ONE_FREE, 1, 0, (16, Reason::Full), false),
+    (ONE_FREE, 2, 0, (16, Reason::Memory), false),
     // Its only bucket is full of entries that have no other.
-    (HALF_FULL, 1, 0, (9, Why::NoRoom), true),
-    (HALF_FULL, 1, 0, (9, Why::Full), true),
-    (HALF_FULL, 2, 51, (9, Why::LoadTooLow), true),
-    (HALF_FULL, 2, 50, (9, Why::LoadTooLow), false),
-    (HALF_FULL, 2, 50, (9, Why::Memory), true),
-    (HALF_FULL, 2, 51, (9, Why::Memory), false),
+    (HALF_FULL, 1, 0, (9, Reason::NoRoom), true),
+    (HALF_FULL, 1, 0, (9, Reason::Full), true),
+    (HALF_FULL, 2, 51, (9, Reason::LoadTooLow), true),
+    (HALF_FULL, 2, 50, (9, Reason::LoadTooLow), false),
+    (HALF_FULL, 2, 50, (9, Reason::Memory), true),
+    (HALF_FULL, 2, 51, (9, Reason::Memory), false),
     // Not all stripes are held.
-    (ONLY_SECOND, 1, 0, (9, Why::NoRoom), true),
-    (ONLY_SECOND, 1, 0, (9, Why::Full), false),
-    (ONLY_SECOND, 1, 0, (16, Why::NoRoom), false),
-    (ONLY_SECOND, 1, 0, (16, Why::Full), false),
+    (ONLY_SECOND, 1, 0, (9, Reason::NoRoom), true),
+    (ONLY_SECOND, 1, 0, (9, Reason::Full), false),
+    (ONLY_SECOND, 1, 0, (16, Reason::NoRoom), false),
+    (ONLY_SECOND, 1, 0, (16, Reason::Full), false),
 ];
 
 // The world in which the caller holds these stripes.

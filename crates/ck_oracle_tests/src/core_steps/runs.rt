@@ -3,7 +3,7 @@ use crate::core_steps::data::{
     Answer, Ask, Change, Claim, Dealt, EMPTY, FULL, Held, Made, SETTINGS, Said,
 };
 use crate::core_steps::worlds::{begin, entries, steps};
-use ck_model::history::Why;
+use ck_model::history::Reason;
 use ck_oracle_steps::refusal::{Flaw, Part, Refusal, Stop};
 use ck_oracle_steps::runs::check_run;
 use ck_oracle_steps::world::{PlainOpening, PlainTable};
@@ -525,14 +525,14 @@ const DECISIONS: [Row; 8] = [
     Row {
         dealt: TWO_CALLERS,
         first: 8,
-        then: &[(1, Made::Give(0, Some((0, Why::NoRoom))), &[])],
+        then: &[(1, Made::Give(0, Some((0, Reason::NoRoom))), &[])],
         log: &[INSERTION],
         stop: Some(Stop::Step(8, Refusal::NoGrounds)),
     },
     Row {
         dealt: TWO_CALLERS,
         first: 8,
-        then: &[(1, Made::Renew(0, BOTH_FULL, Some((0, Why::Full))), &[])],
+        then: &[(1, Made::Renew(0, BOTH_FULL, Some((0, Reason::Full))), &[])],
         log: &[INSERTION],
         stop: Some(Stop::Step(8, Refusal::NoGrounds)),
     },

@@ -2,7 +2,7 @@
 use crate::core_steps::data::{
     Answer, Ask, Bucket, Change, Claim, Dealt, EMPTY, Grounds, Held, Made, SETTINGS, Said, place_in,
 };
-use ck_model::history::{Act, Call, Entry, Name, Reply, Why};
+use ck_model::history::{Act, Call, Entry, Name, Reason, Reply};
 use ck_oracle::stripes::{PlainEntry, PlainStripe};
 use ck_oracle_steps::world::{PlainMove, PlainOther, PlainStep, PlainView, PlainWorld};
 use std::alloc::{AllocError, Global};
@@ -78,11 +78,11 @@ fn stripes(alloc: Global, held: &[Held]) -> Result<Vec<PlainStripe>, AllocError>
     Ok(stripes)
 }
 
-fn reason(alloc: Global, (key, why): Grounds) -> Result<(Name, Why), AllocError> {
+fn reason(alloc: Global, (key, why): Grounds) -> Result<(Name, Reason), AllocError> {
     Ok((name(alloc, key)?, why))
 }
 
-fn grounds(alloc: Global, said: Option<Grounds>) -> Result<Option<(Name, Why)>, AllocError> {
+fn grounds(alloc: Global, said: Option<Grounds>) -> Result<Option<(Name, Reason)>, AllocError> {
     match said {
         Some(one) => Ok(Some(reason(alloc, one)?)),
         None => Ok(None),

@@ -1,5 +1,5 @@
 use Rattle.std.proofs.Common.{ℕ, sym, ap, subst, Option}
-use Rattle.ck_model.specs.declared.history.Why.{Why}
+use Rattle.ck_model.specs.declared.history.Reason.{Reason}
 use Rattle.ck_model.specs.Map.{Name}
 use Rattle.ck_model.specs.Contents.{Stripes}
 use Rattle.ck_oracle.specs.Plain.{stripes_of}
@@ -17,7 +17,7 @@ returns c = record {
       let s2 = world_of claim.after.now in
       let v = view_of c.in_ok-view.view.now in
       let held = ap stripes_of c.deref-2.ensures.value in
-      let P : Stripes ℕ × Option (Name × Why) → Type 0 = λ x. GoesHome claim.id s s2 v c.args.stripe x.0 x.1 in
+      let P : Stripes ℕ × Option (Name × Reason) → Type 0 = λ x. GoesHome claim.id s s2 v c.args.stripe x.0 x.1 in
       let k = layout_of c.args.table.now in
       let least = c.args.table.now.min_load in (
         λ t. give_of_home k least claim.log.now claim.id s s2 v c.in_ok-view.ensures.ok.1 c.args.stripe (subst P (λ j. (held j, e j)) (c.check_given.ensures.0 t)),

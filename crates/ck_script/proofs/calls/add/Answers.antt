@@ -1,8 +1,9 @@
 use Rattle.ck_script.specs.declared.script.Command.TheVariants.{Add}
-use Rattle.ck_script.proofs.Answering.{uncalled}
+use Rattle.ck_script.specs.Answered.{answer_on_names}
+use Rattle.ck_script.proofs.Entries.{uncalled}
 use Rattle.ck_script.proofs.calls.add.Goals as goal
 
 pub returns-in-Err : goal.returns-in-Err
-returns-in-Err c =
-    let command = Add c.args.key c.args.value in
-    uncalled command c.refusal_of.result c.args.caller.now c.upsert.new.self c.upsert.ensures.same (c.refusal_of.ensures command tt) c.in-Err.ensures.refused.2.stays.mine
+returns-in-Err g c =
+    let command = Add (g.K.TableKey.name c.args.key) c.args.value in
+    uncalled command (answer_on_names g.K.TableKey.name c.refusal_of.result) c.args.caller.now c.upsert.new.self c.upsert.ensures.same (c.refusal_of.ensures command tt) c.in-Err.ensures.refused.2.stays.mine

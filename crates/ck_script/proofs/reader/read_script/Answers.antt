@@ -1,9 +1,8 @@
-use Rattle.ck_script.proofs.Spelling.{is_spelled}
-use Rattle.ck_script.proofs.Faults.{is_first}
+use Rattle.ck_script.proofs.Sources.{spelled_of, fault_of}
 use Rattle.ck_script.proofs.reader.read_script.Goals as goal
 
 pub returns-clause-spelled : goal.returns-clause-spelled
-returns-clause-spelled g c = is_spelled _ _ c.read_all.ensures.parse
+returns-clause-spelled g c = spelled_of _ _ c.read_all.ensures.spelled
 
 pub returns-clause-fault : goal.returns-clause-fault
-returns-clause-fault g c = is_first _ _ c.read_all.ensures.parse
+returns-clause-fault g c = fault_of _ _ c.read_all.ensures.fault

@@ -1,39 +1,29 @@
-use Rattle.std.proofs.Common.{◌∙◌, ℕ, List, ap, sym, subst}
-use Rattle.ck_words.specs.Words.{WordsState}
-use Rattle.ck_words.specs.Passes.{PassState}
-use Rattle.ck_words.specs.Closing.{IsCaller, AreAllPasses}
-use Rattle.ck_script.specs.Output.{AreEntriesOf}
-use Rattle.ck_script.proofs.OneWorker.{put_back, is_first, first_calls, all_passes, Closes, output_of_pairs}
+use Rattle.std.proofs.Common.{sym, ◌∙◌, ap, subst}
+use Rattle.ck_model.specs.declared.settings.Settings.{Settings}
+use Rattle.ck_words.specs.Rule.{counting}
+use Rattle.ck_words.specs.Closing.{AreAllPasses}
+use Rattle.ck_script.proofs.Workers.{dealt_new, given_dealt, done_passes, output_of_run}
 use Rattle.ck_script.proofs.runner.output_of.Goals as goal
 
-pub caller-caller-requires : goal.caller-caller-requires
-caller-caller-requires c =
-    let w = c.in_ok-table.table in
-    let passes = c.in_ok-table.passes.items in
-    let dealt = c.in_ok-table.ensures.dealt in
-    subst (IsCaller w) (sym (is_first w passes dealt c.remove.result c.remove.ensures.value)) (first_calls w passes dealt c.in_ok-table.ensures.all)
+pub jobs_of-requires-clause-new : goal.jobs_of-requires-clause-new
+jobs_of-requires-clause-new g c =
+    dealt_new c.in_ok-table.table c.args.work.settings (counting 0 c.args.work.settings.callers) c.in_ok-table.passes.items c.in_ok-table.ensures.all c.in_ok-table.ensures.dealt
 
-pub close-requires : goal.close-requires
-close-requires c =
+pub text_at_end-requires : goal.text_at_end-requires
+text_at_end-requires g c =
     let w = c.in_ok-table.table in
-    let passes = c.in_ok-table.passes.items in
-    let dealt = c.in_ok-table.ensures.dealt in
-    let q = c.into_pass.result in
-    let first = ap (λ (p : PassState ℕ). p.view.by) (c.caller-caller.ensures.pass ∙ is_first w passes dealt c.remove.result c.remove.ensures.value) in
-    let by = ap (λ (p : PassState ℕ). p.view.by) c.into_pass.ensures.pass ∙ c.answers_of.ensures.same.by ∙ first in
-    let own = subst (λ (w : WordsState). IsCaller w q) (c.answers_of.ensures.same.table ∙ c.caller-caller.ensures.table) c.into_pass.ensures.caller in
-    subst (AreAllPasses w) (sym (put_back w passes dealt c.remove.new.self.items c.push.new.self.items q c.remove.ensures.items c.in_ok-push.ensures.items)) (all_passes w q c.in_ok-table.ensures.one own by)
+    let set = c.args.work.settings in
+    let workers = c.args.work.workers.items in
+    let jobs = c.in_ok-jobs.jobs.items in
+    let given = given_dealt g.K.TableKey.name w set workers c.in_ok-table.passes.items jobs c.in_ok-table.ensures.dealt c.args.work.callers c.in_ok-jobs.ensures.jobs in
+    let count = ap (λ (s : Settings). s.callers) c.in_ok-table.ensures.settings ∙ c.args.work.callers in
+    subst (AreAllPasses w) (sym c.in_ok-answers.ensures.passes) (done_passes g.K.TableKey.name w set workers jobs c.in_ok-dones.dones.items count given c.in_ok-dones.ensures)
 
-pub returns-in-Ok : goal.returns-in-Ok
-returns-in-Ok c =
+pub returns : goal.returns
+returns g c =
     let w = c.in_ok-table.table in
-    let passes = c.in_ok-table.passes.items in
-    let dealt = c.in_ok-table.ensures.dealt in
-    let q = c.into_pass.result in
-    let first = ap (λ (p : PassState ℕ). p.view.by) (c.caller-caller.ensures.pass ∙ is_first w passes dealt c.remove.result c.remove.ensures.value) in
-    let by = ap (λ (p : PassState ℕ). p.view.by) c.into_pass.ensures.pass ∙ c.answers_of.ensures.same.by ∙ first in
-    output_of_pairs (λ t. t.items) c.text_of.result c.args.script.now c.deref.result.now c.in_ok-answers.answers.items c.in-Ok.pairs.items q
-    c.deref.ensures.value by
-    (subst (λ (p : PassState ℕ). AreEntriesOf 0 c.deref.result.now c.in_ok-answers.answers.items p.view.mine) (sym c.into_pass.ensures.pass) (c.in_ok-answers.ensures.entries 0 first))
-    (subst (λ (passes : List (PassState ℕ)). Closes passes c.in-Ok.pairs.items) (put_back w passes dealt c.remove.new.self.items c.push.new.self.items q c.remove.ensures.items c.in_ok-push.ensures.items) c.in-Ok.ensures.pairs)
-    (rw (c.deref-in-Ok.ensures.value, c.deref-in-Ok-2.ensures.value) at c.text_of.ensures)
+    let set = c.args.work.settings in
+    let jobs = c.in_ok-jobs.jobs.items in
+    let given = given_dealt g.K.TableKey.name w set c.args.work.workers.items c.in_ok-table.passes.items jobs c.in_ok-table.ensures.dealt c.args.work.callers c.in_ok-jobs.ensures.jobs in
+    output_of_run g.K.TableKey.name w set g.K.WrittenKey.keys c.args.work jobs c.in_ok-dones.dones.items c.in_ok-answers.passes.items c.in_ok-answers.answers.items c.text_at_end.result
+    given c.in_ok-dones.ensures c.in_ok-answers.ensures.passes c.in_ok-answers.ensures.answers (rw c.deref.ensures.value at c.text_at_end.ensures)

@@ -1,15 +1,11 @@
-use Rattle.std.proofs.Common.{◌≡◌, ℕ, ◌*◌, ◌^◌, ◌%◌, ◌<◌, ◌≤◌, List, sym, ◌∙◌, ap, subst, arith}
-use Rattle.std.proofs.Math.Nat.{mod-eq_of_lt}
-use Rattle.std.proofs.Math.Pow.{pow_mono}
+use Rattle.std.proofs.Common.{◌≡◌, ℕ, ◌*◌, ◌^◌, ◌%◌, ◌≤◌, List, sym, ◌∙◌, subst}
 use Rattle.ck_model.specs.Arithmetic.{partial_of, index_of, second_of, alternate_of}
 use Rattle.ck_model.proofs.Buckets.{index_lower, second_lower}
 use Rattle.ck_stripe.specs.Stripe.{StripeState}
 use Rattle.ck_section.specs.Stripes.{stripe_at}
 use Rattle.ck_section.specs.Places.{HasStripe}
+use Rattle.ck_section.proofs.Tables.{mask}
 use Rattle.ck_section.proofs.look.key_place.Goals as goal
-
-mask : (s : ℕ) → s ≤ 10 → 1 * 2 ^ s % 18446744073709551616 ≡ 2 ^ s
-mask s le = let z : 2 ^ s ≤ 2 ^ 10 = pow_mono le in let o : 1 * 2 ^ s ≡ 2 ^ s = omega arith in ap (λ n. n % 18446744073709551616) o ∙ mod-eq_of_lt (let below : 2 ^ s < 18446744073709551616 = omega arith in below)
 
 -- the stripe of a first bucket
 first_number : (s p h n : ℕ) → s ≤ 10 → s ≤ p → n ≡ index_of p h → n % (1 * 2 ^ s % 18446744073709551616) ≡ index_of s h

@@ -1,14 +1,12 @@
-use Rattle.std.proofs.Common.{rules, ◌≡◌, ◌-◌, length, ap, refl, None}
+use Rattle.std.proofs.Common.{rules, ◌≡◌, ◌-◌, refl, None}
 use Rattle.ck_stripe.specs.Stripe.{StripeState, with_slot}
 use Rattle.ck_section.specs.Stripes.{stripe_at}
-use Rattle.ck_words.specs.Rule.{Hand}
-use Rattle.ck_words.specs.Passes.{stripes_in}
-use Rattle.ck_words.proofs.Turning.{put, made_of}
+use Rattle.ck_words.specs.Passes.{held_in}
+use Rattle.ck_words.proofs.Turning.{puts, made_of}
 use Rattle.ck_words.proofs.slots.remove_at.Goals as goal
 
 pub returns-clause-puts : goal.returns-clause-puts
 returns-clause-puts g c =
-    let old : StripeState g.row.V.Denot = stripe_at (stripes_in c.args.seat.now.me.1) c.args.i in
+    let old : StripeState g.row.V.Denot = stripe_at (held_in c.args.seat.now.me.1) c.args.i in
     let same : old ≡ c.in-Some.stripe = search rules in
-    put c.args.seat.now.me.1 c.bring-t.new.seat.me.1 c.turn_by.new.seat.me.1 c.args.i (length c.args.taken.now - c.args.i) (length c.args.taken.now - c.args.i) c.bring-t.result old c.in-Some.stripe c.remove-answer.new.self _ c.bring-t.ensures.back refl same refl (made_of old c.in-Some.stripe c.remove-answer.new.self (λ (s : StripeState g.row.V.Denot). with_slot s c.args.b c.args.slot None (s.content.ledger - 1)) same c.remove-answer.ensures.rest c.remove-answer.ensures.content)
-    (ap (λ (m : Hand g.row.V.Denot). m.1) c.turn_by.ensures.turned)
+    puts c.args.i c.args.t c.args.seat.now c.bring.new.seat c.turn_by.new.seat c.remove-answer.new.self _ c.bring.ensures refl refl (made_of old c.in-Some.stripe c.remove-answer.new.self (λ (s : StripeState g.row.V.Denot). with_slot s c.args.b c.args.slot None (s.content.ledger - 1)) same c.remove-answer.ensures.rest c.remove-answer.ensures.content) c.turn_by.ensures.table c.turn_by.ensures.turned

@@ -1,40 +1,46 @@
-use Rattle.std.proofs.Common.{List, ℕ, [], ◌∷◌, ◌∙◌, sym, ap}
-use Rattle.ck_script.specs.Parse.{parse_from, step_at}
-use Rattle.ck_script.proofs.ParseFrom.{line_ok, line_err, count_err, on_text_fault-any}
-use Rattle.ck_script.proofs.Progress.{IsLine-nil, line_grows}
-use Rattle.ck_script.proofs.Ends.{HasStopped-here}
+use Rattle.std.proofs.Common.{◌≡◌, ℕ, List, [], ◌∷◌, ◌++◌, refl, subst, sym, ◌∙◌}
+use Rattle.ck_script.specs.declared.reader.ScriptReader.{ScriptReader}
+use Rattle.std.proofs.lemmas.Result.{err_from_is_err_and}
+use Rattle.std.proofs.lemmas.List.{append-nil}
+use Rattle.ck_script.proofs.Reading.{NoFeed, line_fault_of, line_stops_of, fault_more, fault_line, fault_after, stops_more, stops_after, stops_here, takes_line, takes_both, no_bytes}
 use Rattle.ck_script.proofs.reader.ScriptReader.end_line.Goals as goal
 
-pub returns-in-Err-clause-err : goal.returns-in-Err-clause-err
-returns-in-Err-clause-err c rest =
-    let self = c.args.self.now in
-    let stepped = ap (step_at self.stage) (sym c.deref.ensures.value) ∙ sym c.step.ensures.value ∙ c.in-Err.is in
-    on_text_fault-any c.in-Err.what (line_err self.stage self.commands.items self.line.items c.line_number-line.result c.in-Err.what c.requires.line c.line_number-line.ensures stepped rest)
+pub returns-then-is_empty-clause-err : goal.returns-then-is_empty-clause-err
+returns-then-is_empty-clause-err c =
+    let empty = no_bytes _ c.args.self.now.front.items c.args.self.now.front.ok.0 (sym c.is_empty.ensures ∙ c.if-is_empty.true) in
+    line_fault_of c.args.self.now c.args.rest.now c.args.rest.now c.take.result (rw empty refl) c.requires.rest c.take.ensures.err
 
-pub returns-in-Err-keep-clause-err : goal.returns-in-Err-keep-clause-err
-returns-in-Err-keep-clause-err c rest =
-    let self = c.args.self.now in
-    let stepped = ap (step_at self.stage) (sym c.deref.ensures.value) ∙ sym c.step.ensures.value ∙ c.in-Ok.is in
-    count_err self.stage c.in-Ok.stage self.commands.items c.in-Ok.command self.line.items c.line_number-line.result c.in-Err-keep.what c.requires.line c.line_number-line.ensures stepped c.in-Err-keep.ensures.err rest
+pub returns-then-is_empty-clause-memory : goal.returns-then-is_empty-clause-memory
+returns-then-is_empty-clause-memory c = line_stops_of c.args.self.now _ c.take.result c.requires.limits.front c.take.ensures.here
 
-pub returns-in-Ok-keep-clause-ok : goal.returns-in-Ok-keep-clause-ok
-returns-in-Ok-keep-clause-ok c rest =
-    let self = c.args.self.now in
-    let stepped = ap (step_at self.stage) (sym c.deref.ensures.value) ∙ sym c.step.ensures.value ∙ c.in-Ok.is in
-    ap (λ (line : List ℕ). parse_from c.in-Ok.stage c.keep.new.commands.items line rest) c.clear.ensures.items
-    ∙ line_ok self.stage c.in-Ok.stage self.commands.items c.keep.new.commands.items c.in-Ok.command self.line.items c.requires.line stepped c.in-Ok-keep.ensures.fits c.in-Ok-keep.ensures.ok rest
+pub returns-in_err-extend-clause-err : goal.returns-in_err-extend-clause-err
+returns-in_err-extend-clause-err c =
+    let p = err_from_is_err_and c.from_residual.result c.from_residual.ensures.1 in
+    rw (p.1, p.2) (fault_more c.args.self.now c.args.rest.now (10 ∷ []) c.in_err-extend.field-0.0 c.in_err-extend.ensures.err)
 
-pub returns-in-Ok-keep-clause-limits : goal.returns-in-Ok-keep-clause-limits
-returns-in-Ok-keep-clause-limits c = record { line = IsLine-nil _ c.clear.ensures.items; few = c.in-Ok-keep.ensures.few c.requires.few }
+pub returns-in_err-extend-clause-memory : goal.returns-in_err-extend-clause-memory
+returns-in_err-extend-clause-memory c =
+    let p = err_from_is_err_and c.from_residual.result c.from_residual.ensures.1 in
+    rw (p.1, p.2) (λ refused. stops_more c.args.self.now c.args.rest.now (10 ∷ []) c.in_err-extend.field-0.0.line (c.in_err-extend.ensures.memory refused))
 
-pub returns-in-Ok-keep-clause-size : goal.returns-in-Ok-keep-clause-size
-returns-in-Ok-keep-clause-size c =
-    let self = c.args.self.now in
-    let stepped = ap (step_at self.stage) (sym c.deref.ensures.value) ∙ sym c.step.ensures.value ∙ c.in-Ok.is in
-    line_grows self.stage c.in-Ok.stage self.commands.items c.keep.new.commands.items c.in-Ok.command self.line.items c.clear.new.self.items c.requires.line stepped c.in-Ok-keep.ensures.ok
+pub returns-in_err-take-clause-err : goal.returns-in_err-take-clause-err
+returns-in_err-take-clause-err c =
+    let p = err_from_is_err_and c.from_residual-in_err-take.result c.from_residual-in_err-take.ensures.1 in
+    let r = c.extend.new.self in
+    let line : r.front.items ++ [] ≡ c.deref.result.now = append-nil r.front.items ∙ sym c.deref.ensures.value in
+    let none = subst (λ (xs : List ℕ). NoFeed xs) (sym c.deref.ensures.value) c.in_ok-extend.ensures.limits.front.no_feed in
+    rw (p.1, p.2) (fault_after c.args.self.now r c.args.rest.now (10 ∷ []) c.in_err-take.field-0.0 c.in_ok-extend.ensures.ok (fault_line r [] c.deref.result.now c.in_err-take.field-0.0 line none c.in_err-take.ensures.err))
 
-pub returns-in-Err-clause-memory : goal.returns-in-Err-clause-memory
-returns-in-Err-clause-memory c refused = HasStopped-here c.args.self.now (10 ∷ []) c.line_number-line.result c.requires.line c.line_number-line.ensures
+pub returns-in_err-take-clause-memory : goal.returns-in_err-take-clause-memory
+returns-in_err-take-clause-memory c =
+    let p = err_from_is_err_and c.from_residual-in_err-take.result c.from_residual-in_err-take.ensures.1 in
+    let r = c.extend.new.self in
+    let e = c.in_err-take.field-0.0 in
+    rw (p.1, p.2) (λ refused. stops_after c.args.self.now r c.args.rest.now (10 ∷ []) e.line c.in_ok-extend.ensures.ok (stops_here r (10 ∷ []) e.line c.in_ok-extend.ensures.limits.front c.in_err-take.ensures.here))
 
-pub returns-in-Err-keep-clause-memory : goal.returns-in-Err-keep-clause-memory
-returns-in-Err-keep-clause-memory c refused = HasStopped-here c.args.self.now (10 ∷ []) c.line_number-line.result c.requires.line c.line_number-line.ensures
+pub returns-clause-ok : goal.returns-clause-ok
+returns-clause-ok c =
+    let r = c.extend.new.self in
+    let s : ScriptReader = record { place = c.take-2.new.self; front = c.clear.new.self } in
+    let line : r.front.items ++ [] ≡ c.deref.result.now = append-nil r.front.items ∙ sym c.deref.ensures.value in
+    takes_both c.args.self.now r s c.args.rest.now (10 ∷ []) c.in_ok-extend.ensures.ok (takes_line r s [] c.deref.result.now line c.clear.ensures.items c.in_ok-take.ensures.ok)

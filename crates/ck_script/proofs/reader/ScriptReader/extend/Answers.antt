@@ -1,13 +1,12 @@
-use Rattle.std.proofs.Common.{arith}
-use Rattle.ck_script.proofs.ParseFrom.{too_long}
-use Rattle.ck_script.proofs.Ends.{HasStopped-here}
+use Rattle.std.proofs.Common.{ap, arith}
+use Rattle.ck_script.specs.declared.script.ScriptFault.{ScriptFault}
+use Rattle.ck_script.proofs.Reading.{fault_piece, stops_here}
 use Rattle.ck_script.proofs.reader.ScriptReader.extend.Goals as goal
 
 pub returns-then-piece-len-clause-err : goal.returns-then-piece-len-clause-err
 returns-then-piece-len-clause-err c =
-    let self = c.args.self.now in
-    too_long self.stage self.commands.items self.line.items c.args.piece.now c.line_number-line.result c.requires.limits.line.no_feed c.requires.piece c.line_number-line.ensures (omega arith)
+    fault_piece c.args.self.now c.args.piece.now c.fault.result c.requires.limits.front.no_feed c.requires.piece (omega arith) c.fault.ensures
 
 pub returns-in-Err-clause-memory : goal.returns-in-Err-clause-memory
 returns-in-Err-clause-memory c refused =
-    HasStopped-here c.args.self.now c.args.piece.now c.line_number-line-in-Err.result c.requires.limits.line c.line_number-line-in-Err.ensures
+    stops_here c.args.self.now c.args.piece.now c.fault-in-Err.result.line c.requires.limits.front (ap (λ (e : ScriptFault). e.line) c.fault-in-Err.ensures)

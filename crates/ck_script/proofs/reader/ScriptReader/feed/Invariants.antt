@@ -1,5 +1,5 @@
-use Rattle.std.proofs.Common.{◌≡◌, ◌≤◌, ◌+◌, ℕ, List, ◌++◌, length}
-use Rattle.ck_script.specs.State.{parse_rest, size_of, IsWithinLimits}
+use Rattle.std.proofs.Common.{◌≤◌, ◌+◌, length}
+use Rattle.ck_script.specs.Taken.{size_of, IsWithinLimits}
 use Rattle.ck_script.proofs.Reading.{HasFed}
 use Rattle.ck_script.proofs.reader.ScriptReader.feed.Given as goal
 
@@ -8,7 +8,6 @@ invariant-loop-line l = record {
   limits : IsWithinLimits l.self;
   size : size_of l.fn.self + length l.block ≤ size_of l.self + length l.rest;
   fed : HasFed l.fn.self l.block l.self l.rest;
-  same : (more : List ℕ) → parse_rest l.self (l.rest ++ more) ≡ parse_rest l.fn.self (l.block ++ more);
 }
 
 abbrev pub decreases-loop-line : goal.decreases-loop-line

@@ -1,13 +1,14 @@
-use Rattle.std.proofs.Common.{◌∙◌, sym}
-use Rattle.ck_script.proofs.ParseFrom.{ends_well, ends_early}
+use Rattle.std.proofs.Common.{sym, ◌∙◌}
+use Rattle.ck_script.proofs.Reading.{ends_within, ends_early, ends_whole, no_bytes, some_bytes}
 use Rattle.ck_script.proofs.reader.ScriptReader.finish.Goals as goal
 
-pub returns-then-is_complete-clause-parse : goal.returns-then-is_complete-clause-parse
-returns-then-is_complete-clause-parse c =
-    let self = c.args.self in
-    ends_well self.stage self.commands.items self.line.items c.requires.line (sym c.is_complete.ensures ∙ c.if-is_complete.true)
+pub returns-then-not-is_empty-clause-err : goal.returns-then-not-is_empty-clause-err
+returns-then-not-is_empty-clause-err c bytes taken =
+    ends_within c.args.self c.requires.front c.fault-fault.result c.fault-fault.ensures bytes taken
+    (some_bytes _ c.args.self.front.items c.args.self.front.ok.0 (sym c.is_empty.ensures ∙ c.if-not-is_empty.true))
 
-pub returns-clause-parse : goal.returns-clause-parse
-returns-clause-parse c =
-    let self = c.args.self in
-    ends_early self.stage self.commands.items self.line.items c.line_number-line.result c.requires.line c.line_number-line.ensures (sym c.is_complete.ensures ∙ c.if-is_complete.false)
+pub returns-in-Some-clause-ok : goal.returns-in-Some-clause-ok
+returns-in-Some-clause-ok c = ends_whole c.args.self c.in-Some.script (no_bytes _ c.args.self.front.items c.args.self.front.ok.0 (sym c.is_empty.ensures ∙ c.if-not-is_empty.false)) c.in-Some.ensures.some
+
+pub returns-clause-err : goal.returns-clause-err
+returns-clause-err c bytes taken = ends_early c.args.self c.requires.front c.fault-fault.result c.fault-fault.ensures bytes taken c.in-None.ensures.none

@@ -8,12 +8,12 @@ use Rattle.ck_table.proofs.table.Table.update_fn.Goals as goal
 pub commit-requires-clause-done : goal.commit-requires-clause-done
 commit-requires-clause-done g c =
     by_bool c.change-bound.result _ _ _ c.change-bound.ensures.call
-    (λ x. (Done x.0 x.1, does c.self.view_is c.in_ok-place.ensures.held c.change-bound.new.held.pass.now c.change-bound.ensures.stays.1 (ap (λ k. On (g.K.TableKey.name k) Change) c.of.ensures) (Done x.0 x.1) x.3))
-    (λ x. (Absent, does c.self.view_is c.in_ok-place.ensures.held c.change-bound.new.held.pass.now c.change-bound.ensures.stays.1 (ap (λ k. On (g.K.TableKey.name k) Change) c.of.ensures) Absent x))
+    (λ x. (Done x.0 x.1, does c.self.view_is c.in_ok-spot.ensures.held c.change-bound.new.held.pass.now c.change-bound.ensures.stays.1 (ap (λ k. On (g.K.TableKey.name k) Change) c.of.ensures) (Done x.0 x.1) x.3))
+    (λ x. (Absent, does c.self.view_is c.in_ok-spot.ensures.held c.change-bound.new.held.pass.now c.change-bound.ensures.stays.1 (ap (λ k. On (g.K.TableKey.name k) Change) c.of.ensures) Absent x))
 
 pub returns-clause-answered : goal.returns-clause-answered
 returns-clause-answered g c =
     let there : c.commit.new.pass ≡ c.pass-1.given.0 = search rules in
     rw (← there) (map_bool c.change-bound.result _ _ _ _ c.change-bound.ensures.call
-    (λ x. (x.0, x.1, x.2, says c.self.view_is c.in_ok-place.ensures.held c.change-bound.new.held.pass.now c.change-bound.ensures.stays.1 (ap (λ k. On (g.K.TableKey.name k) Change) c.of.ensures) c.commit.ensures.answered (Done x.0 x.1) x.3))
-    (λ x. says c.self.view_is c.in_ok-place.ensures.held c.change-bound.new.held.pass.now c.change-bound.ensures.stays.1 (ap (λ k. On (g.K.TableKey.name k) Change) c.of.ensures) c.commit.ensures.answered Absent x))
+    (λ x. (x.0, x.1, x.2, says c.self.view_is c.in_ok-spot.ensures.held c.change-bound.new.held.pass.now c.change-bound.ensures.stays.1 (ap (λ k. On (g.K.TableKey.name k) Change) c.of.ensures) c.commit.ensures.answered (Done x.0 x.1) x.3))
+    (λ x. says c.self.view_is c.in_ok-spot.ensures.held c.change-bound.new.held.pass.now c.change-bound.ensures.stays.1 (ap (λ k. On (g.K.TableKey.name k) Change) c.of.ensures) c.commit.ensures.answered Absent x))

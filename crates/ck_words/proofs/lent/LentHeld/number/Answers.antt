@@ -1,28 +1,19 @@
-use Rattle.ck_words.proofs.Turning.{seated_puts, puts-same, length-named}
-use Rattle.std.proofs.Common.{refl, ap, ◌∙◌, ◌<◌, length, sym, subst}
+use Rattle.std.proofs.Common.{◌≡◌, ◌^◌, ◌<◌, ◌≤◌, ◌∙◌, sym, ap, arith}
+use Rattle.std.proofs.Math.Pow.{pow_mono}
+use Rattle.ck_words.specs.Lending.{list_of}
 use Rattle.ck_words.specs.Passes.{PassState}
-use Rattle.ck_section.specs.Stripes.{stripe_at}
+use Rattle.ck_words.specs.Words.{WordsState}
+use Rattle.ck_words.proofs.Settling.{counts}
+use Rattle.ck_words.proofs.Lending.{lent_below}
 use Rattle.ck_words.proofs.lent.LentHeld.number.Goals as goal
 
-pub invariant_of-pass : goal.invariant_of-pass
-invariant_of-pass g c = seated_puts _ _ _ _ _ _ _ _ c.number_at.ensures.puts c.number_at.ensures.kept.2 c.number_at.ensures.kept.0 c.pass.invariant
-
-pub number_at-requires-clause-full : goal.number_at-requires-clause-full
-number_at-requires-clause-full g c = c.pass.invariant.full
-
-pub returns-clause-stays : goal.returns-clause-stays
-returns-clause-stays g c = (refl, c.number_at.ensures.kept.2 ∙ ap (λ (p : PassState g.row.V.Denot). p.view) c.pass.view_is, c.number_at.ensures.kept.0 ∙ ap (λ (p : PassState g.row.V.Denot). p.table) c.pass.view_is)
-
-pub returns-clause-same : goal.returns-clause-same
-returns-clause-same g c = puts-same _ _ _ c.number_at.ensures.puts ∙ ap (λ (p : PassState g.row.V.Denot). p.stripes) c.pass.view_is
-
-pub returns-clause-value : goal.returns-clause-value
-returns-clause-value g c = c.number_at.ensures.value ∙ ap (λ (p : PassState g.row.V.Denot). (stripe_at p.stripes c.args.i).number) c.pass.view_is
-
-pub number_at-requires-clause-numbered : goal.number_at-requires-clause-numbered
-number_at-requires-clause-numbered g c = c.pass.invariant.numbered ∙ sym c.deref.ensures.value
-
-pub number_at-requires-clause-inside : goal.number_at-requires-clause-inside
-number_at-requires-clause-inside g c =
-    subst (λ n. c.args.i < n) (length-named c.pass.inside.seat.me.1 c.deref.result.now (c.pass.invariant.numbered ∙ sym c.deref.ensures.value))
-    (subst (λ (p : PassState g.row.V.Denot). c.args.i < length p.stripes) (sym c.pass.view_is) c.requires)
+pub overflow_cast-result : goal.overflow_cast-result
+overflow_cast-result g c =
+    let l = c.args.self.now in
+    let count = counts l.pass.now (list_of l.numbers) l.numbered in
+    let inside = c.requires in
+    let below : c.at.result < c.pass.inside.seat.table_id.slots = lent_below c.pass.inside.seat l.pass.now c.pass.view_is l.words.now l.own (list_of l.numbers) l.numbered c.args.i c.at.result c.pass.invariant.seated (omega arith) c.at.ensures in
+    let same : c.pass.inside.seat.table_id.slots ≡ c.words.inside.table.shared.table_id.slots = ap (λ (p : PassState g.row.V.Denot). p.table.slots) c.pass.view_is ∙ (ap (λ z. z.slots) l.own.0 ∙ sym (ap (λ (w : WordsState). w.table.slots) c.words.view_is)) in
+    let slots = c.words.invariant.slots in
+    let few : 2 ^ c.words.inside.settings.s ≤ 2 ^ 10 = pow_mono c.words.invariant.range.stripes in
+    omega arith

@@ -1,25 +1,27 @@
-use Rattle.ck_words.proofs.Turning.{seated_puts, length-named}
 use Rattle.std.proofs.Common.{◌<◌, length, refl, sym, subst, ap, ◌∙◌}
 use Rattle.ck_words.specs.Passes.{PassState}
 use Rattle.ck_section.specs.Stripes.{IsInReach}
+use Rattle.ck_words.specs.Lending.{list_of}
+use Rattle.ck_words.proofs.Seating.{ready_on}
+use Rattle.ck_words.proofs.Turning.{seated_puts}
+use Rattle.ck_words.proofs.Lending.{lends_own, still_own, still_numbered}
 use Rattle.ck_words.proofs.lent.LentHeld.remove.Goals as goal
 
+pub remove_at-requires-clause-seat : goal.remove_at-requires-clause-seat
+remove_at-requires-clause-seat g c = lends_own c.pass.inside.seat c.args.self.now.pass.now c.pass.view_is c.args.self.now.words.now c.args.self.now.own (list_of c.args.self.now.numbers) c.args.self.now.numbered _ c.args.i _ _ c.args.b _ c.words.view_is c.pass.invariant.seated c.count.ensures c.args.self.now.of_table c.requires.reach c.stripe_of-t.ensures
+
 pub invariant_of-pass : goal.invariant_of-pass
-invariant_of-pass g c = seated_puts _ _ _ _ _ _ _ _ c.remove_at.ensures.puts c.remove_at.ensures.kept.2 c.remove_at.ensures.kept.0 c.pass.invariant
+invariant_of-pass g c = ready_on c.pass.invariant c.remove_at.ensures.puts.table (seated_puts _ _ _ _ c.remove_at.ensures.puts c.pass.invariant.seated)
 
-pub remove_at-requires-clause-numbered : goal.remove_at-requires-clause-numbered
-remove_at-requires-clause-numbered g c = c.pass.invariant.numbered ∙ sym c.deref.ensures.value
-
-pub remove_at-requires-clause-inside : goal.remove_at-requires-clause-inside
-remove_at-requires-clause-inside g c =
-    subst (λ n. c.args.i < n) (length-named c.pass.inside.seat.me.1 c.deref.result.now (c.pass.invariant.numbered ∙ sym c.deref.ensures.value))
-    (subst (λ (p : PassState g.row.V.Denot). c.args.i < length p.stripes) (sym c.pass.view_is) c.requires.reach.inside)
-
-pub remove_at-requires-clause-full : goal.remove_at-requires-clause-full
-remove_at-requires-clause-full g c = c.pass.invariant.full
+pub invariant_of-self : goal.invariant_of-self
+invariant_of-self g c = record {
+  own = still_own c.pass.inside.seat c.args.self.now.pass.now c.pass.view_is c.args.self.now.words.now c.args.self.now.own (list_of c.args.self.now.numbers) c.args.self.now.numbered c.remove_at.new.seat _ _ c.remove_at.ensures.puts;
+  numbered = still_numbered c.pass.inside.seat c.args.self.now.pass.now c.pass.view_is c.args.self.now.words.now c.args.self.now.own (list_of c.args.self.now.numbers) c.args.self.now.numbered c.remove_at.new.seat _ _ c.remove_at.ensures.puts;
+  of_table = c.args.self.now.of_table;
+}
 
 pub returns-clause-stays : goal.returns-clause-stays
-returns-clause-stays g c = (refl, c.remove_at.ensures.kept.2 ∙ ap (λ (p : PassState g.row.V.Denot). p.view) c.pass.view_is, c.remove_at.ensures.kept.0 ∙ ap (λ (p : PassState g.row.V.Denot). p.table) c.pass.view_is)
+returns-clause-stays g c = let puts = c.remove_at.ensures.puts in (refl, puts.view ∙ ap (λ (p : PassState g.row.V.Denot). p.view) c.pass.view_is, puts.table ∙ ap (λ (p : PassState g.row.V.Denot). p.table) c.pass.view_is, refl)
 
 pub remove_at-requires-clause-reach : goal.remove_at-requires-clause-reach
 remove_at-requires-clause-reach g c = subst (λ (p : PassState g.row.V.Denot). IsInReach p.stripes c.args.i c.args.b) (sym c.pass.view_is) c.requires.reach

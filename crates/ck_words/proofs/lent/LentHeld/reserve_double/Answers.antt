@@ -1,21 +1,23 @@
-use Rattle.ck_words.proofs.Turning.{seated_puts, length-named}
 use Rattle.std.proofs.Common.{◌<◌, length, refl, sym, subst, ap, ◌∙◌}
 use Rattle.ck_words.specs.Passes.{PassState}
+use Rattle.ck_words.specs.Lending.{list_of}
+use Rattle.ck_words.proofs.Seating.{ready_on}
+use Rattle.ck_words.proofs.Turning.{seated_puts}
+use Rattle.ck_words.proofs.Lending.{lends, still_own, still_numbered}
 use Rattle.ck_words.proofs.lent.LentHeld.reserve_double.Goals as goal
 
+pub reserve_double_at-requires-clause-seat : goal.reserve_double_at-requires-clause-seat
+reserve_double_at-requires-clause-seat g c = lends c.pass.inside.seat c.args.self.now.pass.now c.pass.view_is c.args.self.now.words.now c.args.self.now.own (list_of c.args.self.now.numbers) c.args.self.now.numbered _ c.args.i _ _ c.words.view_is c.pass.invariant.seated c.requires.inside c.count.ensures c.at.ensures
+
 pub invariant_of-pass : goal.invariant_of-pass
-invariant_of-pass g c = seated_puts _ _ _ _ _ _ _ _ c.reserve_double_at.ensures.puts c.reserve_double_at.ensures.kept.2 c.reserve_double_at.ensures.kept.0 c.pass.invariant
+invariant_of-pass g c = ready_on c.pass.invariant c.reserve_double_at.ensures.puts.table (seated_puts _ _ _ _ c.reserve_double_at.ensures.puts c.pass.invariant.seated)
 
-pub reserve_double_at-requires-clause-numbered : goal.reserve_double_at-requires-clause-numbered
-reserve_double_at-requires-clause-numbered g c = c.pass.invariant.numbered ∙ sym c.deref.ensures.value
-
-pub reserve_double_at-requires-clause-inside : goal.reserve_double_at-requires-clause-inside
-reserve_double_at-requires-clause-inside g c =
-    subst (λ n. c.args.i < n) (length-named c.pass.inside.seat.me.1 c.deref.result.now (c.pass.invariant.numbered ∙ sym c.deref.ensures.value))
-    (subst (λ (p : PassState g.row.V.Denot). c.args.i < length p.stripes) (sym c.pass.view_is) c.requires.inside)
-
-pub reserve_double_at-requires-clause-full : goal.reserve_double_at-requires-clause-full
-reserve_double_at-requires-clause-full g c = c.pass.invariant.full
+pub invariant_of-self : goal.invariant_of-self
+invariant_of-self g c = record {
+  own = still_own c.pass.inside.seat c.args.self.now.pass.now c.pass.view_is c.args.self.now.words.now c.args.self.now.own (list_of c.args.self.now.numbers) c.args.self.now.numbered c.reserve_double_at.new.seat _ _ c.reserve_double_at.ensures.puts;
+  numbered = still_numbered c.pass.inside.seat c.args.self.now.pass.now c.pass.view_is c.args.self.now.words.now c.args.self.now.own (list_of c.args.self.now.numbers) c.args.self.now.numbered c.reserve_double_at.new.seat _ _ c.reserve_double_at.ensures.puts;
+  of_table = c.args.self.now.of_table;
+}
 
 pub returns-clause-stays : goal.returns-clause-stays
-returns-clause-stays g c = (refl, c.reserve_double_at.ensures.kept.2 ∙ ap (λ (p : PassState g.row.V.Denot). p.view) c.pass.view_is, c.reserve_double_at.ensures.kept.0 ∙ ap (λ (p : PassState g.row.V.Denot). p.table) c.pass.view_is)
+returns-clause-stays g c = let puts = c.reserve_double_at.ensures.puts in (refl, puts.view ∙ ap (λ (p : PassState g.row.V.Denot). p.view) c.pass.view_is, puts.table ∙ ap (λ (p : PassState g.row.V.Denot). p.table) c.pass.view_is, refl)

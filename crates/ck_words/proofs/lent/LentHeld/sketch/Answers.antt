@@ -1,28 +1,30 @@
-use Rattle.ck_words.proofs.Turning.{seated_puts, puts-same, length-named}
 use Rattle.std.proofs.Common.{refl, ap, ◌∙◌, ◌<◌, length, sym, subst}
 use Rattle.ck_words.specs.Passes.{PassState}
 use Rattle.ck_section.specs.Stripes.{IsInReach}
+use Rattle.ck_words.specs.Lending.{list_of}
+use Rattle.ck_words.proofs.Seating.{ready_on}
+use Rattle.ck_words.proofs.Turning.{seated_puts, puts-same}
+use Rattle.ck_words.proofs.Lending.{lends_own, still_own, still_numbered}
 use Rattle.ck_words.proofs.lent.LentHeld.sketch.Goals as goal
 
-pub invariant_of-pass : goal.invariant_of-pass
-invariant_of-pass g c = seated_puts _ _ _ _ _ _ _ _ c.sketch_at.ensures.puts c.sketch_at.ensures.kept.2 c.sketch_at.ensures.kept.0 c.pass.invariant
+pub sketch_at-requires-clause-seat : goal.sketch_at-requires-clause-seat
+sketch_at-requires-clause-seat g c = lends_own c.pass.inside.seat c.args.self.now.pass.now c.pass.view_is c.args.self.now.words.now c.args.self.now.own (list_of c.args.self.now.numbers) c.args.self.now.numbered _ c.args.i _ _ c.args.b _ c.words.view_is c.pass.invariant.seated c.count.ensures c.args.self.now.of_table c.requires.reach c.stripe_of-t.ensures
 
-pub sketch_at-requires-clause-full : goal.sketch_at-requires-clause-full
-sketch_at-requires-clause-full g c = c.pass.invariant.full
+pub invariant_of-pass : goal.invariant_of-pass
+invariant_of-pass g c = ready_on c.pass.invariant c.sketch_at.ensures.puts.table (seated_puts _ _ _ _ c.sketch_at.ensures.puts c.pass.invariant.seated)
+
+pub invariant_of-self : goal.invariant_of-self
+invariant_of-self g c = record {
+  own = still_own c.pass.inside.seat c.args.self.now.pass.now c.pass.view_is c.args.self.now.words.now c.args.self.now.own (list_of c.args.self.now.numbers) c.args.self.now.numbered c.sketch_at.new.seat _ _ c.sketch_at.ensures.puts;
+  numbered = still_numbered c.pass.inside.seat c.args.self.now.pass.now c.pass.view_is c.args.self.now.words.now c.args.self.now.own (list_of c.args.self.now.numbers) c.args.self.now.numbered c.sketch_at.new.seat _ _ c.sketch_at.ensures.puts;
+  of_table = c.args.self.now.of_table;
+}
 
 pub returns-clause-stays : goal.returns-clause-stays
-returns-clause-stays g c = (refl, c.sketch_at.ensures.kept.2 ∙ ap (λ (p : PassState g.row.V.Denot). p.view) c.pass.view_is, c.sketch_at.ensures.kept.0 ∙ ap (λ (p : PassState g.row.V.Denot). p.table) c.pass.view_is)
+returns-clause-stays g c = let puts = c.sketch_at.ensures.puts in (refl, puts.view ∙ ap (λ (p : PassState g.row.V.Denot). p.view) c.pass.view_is, puts.table ∙ ap (λ (p : PassState g.row.V.Denot). p.table) c.pass.view_is, refl)
 
 pub returns-clause-same : goal.returns-clause-same
 returns-clause-same g c = puts-same _ _ _ c.sketch_at.ensures.puts ∙ ap (λ (p : PassState g.row.V.Denot). p.stripes) c.pass.view_is
-
-pub sketch_at-requires-clause-numbered : goal.sketch_at-requires-clause-numbered
-sketch_at-requires-clause-numbered g c = c.pass.invariant.numbered ∙ sym c.deref.ensures.value
-
-pub sketch_at-requires-clause-inside : goal.sketch_at-requires-clause-inside
-sketch_at-requires-clause-inside g c =
-    subst (λ n. c.args.i < n) (length-named c.pass.inside.seat.me.1 c.deref.result.now (c.pass.invariant.numbered ∙ sym c.deref.ensures.value))
-    (subst (λ (p : PassState g.row.V.Denot). c.args.i < length p.stripes) (sym c.pass.view_is) c.requires.reach.inside)
 
 pub sketch_at-requires-clause-reach : goal.sketch_at-requires-clause-reach
 sketch_at-requires-clause-reach g c = subst (λ (p : PassState g.row.V.Denot). IsInReach p.stripes c.args.i c.args.b) (sym c.pass.view_is) c.requires.reach

@@ -1,9 +1,9 @@
-use Rattle.std.proofs.Common.{sym, subst, List, map, arith, All, Some, refl, length, ◌++◌, ◌∷◌, [], true, ◌≡◌, ◌+◌, ◌≤◌, vec_capacity}
+use Rattle.std.proofs.Common.{sym, ap, ◌∙◌, subst, List, map, arith, All, Some, refl, length, ◌++◌, ◌∷◌, [], true, ◌≡◌, ◌+◌, ◌≤◌, vec_capacity}
 use Rattle.std.proofs.lemmas.List.Elements.{All-pop}
 use Rattle.ck_model.specs.Map.{named}
 use Rattle.ck_model.specs.Ranges.{AreInRange}
 use Rattle.ck_words.specs.Words.{WordsState}
-use Rattle.ck_words.specs.Passes.{PassState}
+use Rattle.ck_words.specs.Passes.{PassState, numbers_of}
 use Rattle.ck_words.specs.Closing.{IsCaller, AreAllPasses, EachStays, Closes}
 use Rattle.ck_words.proofs.Ending.{some_pass, all_back, each_stays, closes}
 use Rattle.ck_section.specs.Stripes.{stripe_at, contents_of}
@@ -72,3 +72,6 @@ pour-requires-clause-room g c = subst (λ (l : List (StripeState g.row.V.Denot))
 
 pub returns-in_default-hold_with_room-clause-words : goal.returns-in_default-hold_with_room-clause-words
 returns-in_default-hold_with_room-clause-words g c = refl
+
+pub pour-requires-clause-numbered : goal.pour-requires-clause-numbered
+pour-requires-clause-numbered g c = ap (λ (l : List (StripeState g.row.V.Denot)). numbers_of l) c.gather_all.ensures.stripes ∙ c.in-Some-hold_with_room.ensures.whole.all

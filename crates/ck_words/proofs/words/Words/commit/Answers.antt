@@ -1,29 +1,24 @@
-use Rattle.std.proofs.Common.{◌≡◌, ◌∙◌, ap, subst}
-use Rattle.ck_core.specs.declared.view.View.{View}
-use Rattle.ck_words.proofs.Rows.{decide_row}
-use Rattle.ck_model.specs.declared.history.Reply.{Reply}
+use Rattle.std.proofs.Common.{◌∙◌, subst}
+use Rattle.ck_words.specs.Passes.{lower}
 use Rattle.ck_words.specs.declared.commit.Commit.{Commit}
 use Rattle.ck_words.specs.Commits.{call_of}
-use Rattle.ck_words.specs.Answering.{HasDone, IsAnswered}
-use Rattle.ck_words.proofs.Replying.{number_in, is_answered}
+use Rattle.ck_words.specs.Answering.{HasCommitted}
+use Rattle.ck_words.proofs.Replying.{has_committed}
+use Rattle.ck_words.proofs.Releasing.{pair_split, numbers_left}
 use Rattle.ck_words.proofs.words.Words.commit.Goals as goal
 
-pub returns-clause-answered : goal.returns-clause-answered
-returns-clause-answered g c =
+pub decide-requires-clause-highest : goal.decide-requires-clause-highest
+decide-requires-clause-highest g c = (lower c.args.low c.args.high, c.requires.numbered ∙ pair_split c.args.low c.args.high)
+
+pub release_low-requires-clause-numbered : goal.release_low-requires-clause-numbered
+release_low-requires-clause-numbered g c = numbers_left (lower c.args.low c.args.high) c.args.high c.args.pass.now c.decide.new.pass c.decide.ensures.step.0 c.decide.ensures.step.1 (c.requires.numbered ∙ pair_split c.args.low c.args.high)
+
+pub returns : goal.returns
+returns g c =
     let hash = g.K.TableKey.hash in
     let name = g.K.TableKey.name in
-    let set = c.args.self.now.settings in
+    let w = c.args.self.now in
     let p = c.args.pass.now in
-    let q = c.release.new.pass in
-    let m = number_in p.view.by c.requires.caller in
-    subst (λ (x : Commit g.row.K.Denot g.row.V.Denot). (r : Reply g.row.V.Denot) → HasDone hash set (call_of name x) r p → IsAnswered (call_of name x) r p q) c.of-said.ensures
-    (is_answered hash set (call_of name c.of-said.result.value) p m.0 m.1 _ _ c.decide.new.pass q c.decide.ensures.step.2 c.release.ensures.stays c.release.ensures.seen)
-
-pub returns-clause-found : goal.returns-clause-found
-returns-clause-found g c = c.release.ensures.found ∙ ap (λ (v : View g.row.V.Denot). v.found) (decide_row g.K.TableKey.hash c.args.self.now.settings c.args.pass.now.view c.decide.new.pass.view _ _ _ c.decide.ensures.step.2)
-
-pub returns-clause-by : goal.returns-clause-by
-returns-clause-by g c = c.release.ensures.stays.by ∙ ap (λ (v : View g.row.V.Denot). v.by) (decide_row g.K.TableKey.hash c.args.self.now.settings c.args.pass.now.view c.decide.new.pass.view _ _ _ c.decide.ensures.step.2)
-
-pub returns-clause-others : goal.returns-clause-others
-returns-clause-others g c = c.release.ensures.stays.others ∙ ap (λ (v : View g.row.V.Denot). v.others) (decide_row g.K.TableKey.hash c.args.self.now.settings c.args.pass.now.view c.decide.new.pass.view _ _ _ c.decide.ensures.step.2)
+    let q = c.release_low.new.pass in
+    subst (λ (x : Commit g.row.K.Denot g.row.V.Denot). HasCommitted hash w (call_of name x) p q) c.of-said.ensures
+    (has_committed hash w (call_of name c.of-said.result.value) p c.requires.caller c.decide.new.pass q c.decide.ensures.step c.release_low.ensures)

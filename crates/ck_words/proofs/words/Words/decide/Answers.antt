@@ -1,43 +1,37 @@
-use Rattle.std.proofs.Common.{◌≡◌, ◌∙◌, length, rules}
-use Rattle.ck_words.proofs.Takes.{fits, same_table, word_inside}
-use Rattle.ck_words.proofs.Seating.{last}
-use Rattle.ck_words.proofs.Gives.{turned_by, inside, word_fits, decide_ready, decide_left}
+use Rattle.ck_words.proofs.Seating.{ready_on}
+use Rattle.ck_words.proofs.Takes.{fits, same_table, word_inside, own_after}
+use Rattle.ck_words.proofs.Gives.{last_of, inside, word_fits, decide_move, decide_ready, decide_tells, gone, sends, gone_seated, gone_unchanged}
 use Rattle.ck_words.proofs.words.Words.decide.Goals as goal
 
 pub overflow_mul-t : goal.overflow_mul-t
-overflow_mul-t g c = let f = fits _ _ _ _ _ _ _ c.self.view_is c.self.invariant c.pass.view_is c.requires.own in let h = g.K.TableKey.hash in
-    let l = last _ _ _ _ _ _ _ c.pass.invariant c.in-Some.ensures.items in
-    word_fits h _ _ _ _ _ _ _ f _ _ _ l
+overflow_mul-t g c = let f = fits _ _ _ _ _ _ c.pass.inside.seat.me c.self.view_is c.self.invariant c.pass.view_is c.requires.own in let h = g.K.TableKey.hash in
+    let l = last_of _ _ _ _ _ _ _ f c.args.t c.pass.invariant.seated c.requires.highest in
+    word_fits h _ _ _ _ _ _ _ f _ l
 
 pub store-requires : goal.store-requires
-store-requires g c = let f = fits _ _ _ _ _ _ _ c.self.view_is c.self.invariant c.pass.view_is c.requires.own in let h = g.K.TableKey.hash in
-    let n : c.len.result ≡ length c.pop.new.self.items = search rules in let turned = turned_by _ _ _ _ c.turn_by.ensures.turned n in
-    let l = last _ _ _ _ _ _ _ c.pass.invariant c.in-Some.ensures.items in (
-      c.turn_by.ensures.kept.0 ∙ same_table h _ _ _ _ _ _ _ f,
-      word_inside h _ _ _ _ _ _ _ f _ (inside h _ _ _ _ _ _ _ f _ _ _ l),
-      decide_ready h _ _ _ _ _ _ _ f _ _ _ l _ _ _ turned g.J.Says.entry c.requires.caller c.requires.section,
-    )
+store-requires g c = let f = fits _ _ _ _ _ _ c.pass.inside.seat.me c.self.view_is c.self.invariant c.pass.view_is c.requires.own in let h = g.K.TableKey.hash in
+    let l = last_of _ _ _ _ _ _ _ f c.args.t c.pass.invariant.seated c.requires.highest in
+    (same_table h _ _ _ _ _ _ _ f, word_inside h _ _ _ _ _ _ _ f _ (inside h _ _ _ _ _ _ _ f _ l), decide_ready h _ _ _ _ _ _ _ f _ l g.J.Says.entry _ _ c.requires.caller c.requires.section)
 
 pub invariant_of-pass : goal.invariant_of-pass
-invariant_of-pass g c = let f = fits _ _ _ _ _ _ _ c.self.view_is c.self.invariant c.pass.view_is c.requires.own in let h = g.K.TableKey.hash in
-    let n : c.len.result ≡ length c.pop.new.self.items = search rules in let turned = turned_by _ _ _ _ c.turn_by.ensures.turned n in
-    let l = last _ _ _ _ _ _ _ c.pass.invariant c.in-Some.ensures.items in
-    let k = decide_left h _ _ _ _ _ _ _ f _ _ _ l 0 0 _ turned g.J.Says.entry c.store.new.seat.table_id c.store.new.seat.me _ c.store.ensures.2 (c.store.ensures.0 ∙ c.turn_by.ensures.kept.0) c.in-Some.ensures.capacity in k.seated
+invariant_of-pass g c = ready_on c.pass.invariant c.store.ensures.0 (let f = fits _ _ _ _ _ _ c.pass.inside.seat.me c.self.view_is c.self.invariant c.pass.view_is c.requires.own in let h = g.K.TableKey.hash in
+    let l = last_of _ _ _ _ _ _ _ f c.args.t c.pass.invariant.seated c.requires.highest in
+    let k = gone h _ _ _ _ _ _ _ f _ l (decide_move h _ _ _ _ _ _ _ f _ l g.J.Says.entry) _ c.store.ensures.2 in
+    gone_seated h _ _ _ _ _ _ _ f _ l (decide_move h _ _ _ _ _ _ _ f _ l g.J.Says.entry) _ _ k (decide_tells h _ _ _ _ _ _ _ f _ l g.J.Says.entry c.store.new.seat.me k) c.store.ensures.0)
 
 pub returns-clause-own : goal.returns-clause-own
-returns-clause-own g c = let f = fits _ _ _ _ _ _ _ c.self.view_is c.self.invariant c.pass.view_is c.requires.own in let h = g.K.TableKey.hash in
-    let n : c.len.result ≡ length c.pop.new.self.items = search rules in let turned = turned_by _ _ _ _ c.turn_by.ensures.turned n in
-    let l = last _ _ _ _ _ _ _ c.pass.invariant c.in-Some.ensures.items in
-    let k = decide_left h _ _ _ _ _ _ _ f _ _ _ l 0 0 _ turned g.J.Says.entry c.store.new.seat.table_id c.store.new.seat.me _ c.store.ensures.2 (c.store.ensures.0 ∙ c.turn_by.ensures.kept.0) c.in-Some.ensures.capacity in k.own
+returns-clause-own g c = let f = fits _ _ _ _ _ _ c.pass.inside.seat.me c.self.view_is c.self.invariant c.pass.view_is c.requires.own in let h = g.K.TableKey.hash in
+    let l = last_of _ _ _ _ _ _ _ f c.args.t c.pass.invariant.seated c.requires.highest in
+    let k = gone h _ _ _ _ _ _ _ f _ l (decide_move h _ _ _ _ _ _ _ f _ l g.J.Says.entry) _ c.store.ensures.2 in
+    own_after h _ _ _ _ _ _ _ f c.store.new.seat.table_id c.store.new.seat.me c.store.ensures.0 (decide_tells h _ _ _ _ _ _ _ f _ l g.J.Says.entry c.store.new.seat.me k).settings
 
 pub returns-clause-step : goal.returns-clause-step
-returns-clause-step g c = let f = fits _ _ _ _ _ _ _ c.self.view_is c.self.invariant c.pass.view_is c.requires.own in let h = g.K.TableKey.hash in
-    let n : c.len.result ≡ length c.pop.new.self.items = search rules in let turned = turned_by _ _ _ _ c.turn_by.ensures.turned n in
-    let l = last _ _ _ _ _ _ _ c.pass.invariant c.in-Some.ensures.items in
-    let k = decide_left h _ _ _ _ _ _ _ f _ _ _ l 0 0 _ turned g.J.Says.entry c.store.new.seat.table_id c.store.new.seat.me _ c.store.ensures.2 (c.store.ensures.0 ∙ c.turn_by.ensures.kept.0) c.in-Some.ensures.capacity in k.step
+returns-clause-step g c = let f = fits _ _ _ _ _ _ c.pass.inside.seat.me c.self.view_is c.self.invariant c.pass.view_is c.requires.own in let h = g.K.TableKey.hash in
+    let l = last_of _ _ _ _ _ _ _ f c.args.t c.pass.invariant.seated c.requires.highest in
+    sends h _ _ _ _ _ _ _ f _ l (decide_move h _ _ _ _ _ _ _ f _ l g.J.Says.entry) c.store.new.seat.table_id c.store.new.seat.me (gone h _ _ _ _ _ _ _ f _ l (decide_move h _ _ _ _ _ _ _ f _ l g.J.Says.entry) _ c.store.ensures.2)
 
 pub returns-clause-unchanged : goal.returns-clause-unchanged
-returns-clause-unchanged g c = let f = fits _ _ _ _ _ _ _ c.self.view_is c.self.invariant c.pass.view_is c.requires.own in let h = g.K.TableKey.hash in
-    let n : c.len.result ≡ length c.pop.new.self.items = search rules in let turned = turned_by _ _ _ _ c.turn_by.ensures.turned n in
-    let l = last _ _ _ _ _ _ _ c.pass.invariant c.in-Some.ensures.items in
-    let k = decide_left h _ _ _ _ _ _ _ f _ _ _ l 0 0 _ turned g.J.Says.entry c.store.new.seat.table_id c.store.new.seat.me _ c.store.ensures.2 (c.store.ensures.0 ∙ c.turn_by.ensures.kept.0) c.in-Some.ensures.capacity in k.unchanged
+returns-clause-unchanged g c = let f = fits _ _ _ _ _ _ c.pass.inside.seat.me c.self.view_is c.self.invariant c.pass.view_is c.requires.own in let h = g.K.TableKey.hash in
+    let l = last_of _ _ _ _ _ _ _ f c.args.t c.pass.invariant.seated c.requires.highest in
+    let k = gone h _ _ _ _ _ _ _ f _ l (decide_move h _ _ _ _ _ _ _ f _ l g.J.Says.entry) _ c.store.ensures.2 in
+    gone_unchanged h _ _ _ _ _ _ _ f _ l (decide_move h _ _ _ _ _ _ _ f _ l g.J.Says.entry) c.store.new.seat.table_id c.store.new.seat.me k (decide_tells h _ _ _ _ _ _ _ f _ l g.J.Says.entry c.store.new.seat.me k)

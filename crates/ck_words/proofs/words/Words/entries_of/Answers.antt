@@ -1,26 +1,28 @@
-use Rattle.ck_words.proofs.Turning.{seated_puts, length-named}
-use Rattle.std.proofs.Common.{◌<◌, length, sym, subst, ap, ◌∙◌}
+use Rattle.std.proofs.Common.{◌∙◌, ◌^◌, ap, sym, arith}
+use Rattle.ck_section.specs.Stripes.{stripe_at}
+use Rattle.ck_words.specs.Rule.{counting}
 use Rattle.ck_words.specs.Passes.{PassState}
 use Rattle.ck_words.specs.Words.{WordsState}
-use Rattle.ck_section.specs.Stripes.{stripe_at}
+use Rattle.ck_words.proofs.Seating.{ready_on}
+use Rattle.ck_words.proofs.Counting.{length-counting, counting-at}
+use Rattle.ck_words.proofs.Settling.{counts, named}
+use Rattle.ck_words.proofs.Turning.{seated_puts, stands_at}
 use Rattle.ck_words.proofs.words.Words.entries_of.Goals as goal
 
+pub len_at-requires : goal.len_at-requires
+len_at-requires g c =
+    let n = 2 ^ c.args.self.now.settings.s in
+    let slots = c.self.invariant.slots ∙ ap (λ (w : WordsState). 2 ^ w.settings.s) c.self.view_is in
+    let all = length-counting n 0 in
+    let count = counts c.args.pass.now (counting 0 n) c.requires.numbered in
+    let inside = c.requires.inside in
+    record {
+      seat = stands_at c.pass.inside.seat c.args.pass.now _ _ c.args.t c.args.t c.pass.invariant.seated c.pass.view_is (c.requires.own.0 ∙ sym (ap (λ (w : WordsState). w.table) c.self.view_is)) (omega arith) (omega arith)
+          (named c.args.pass.now (counting 0 n) c.args.t c.requires.numbered (omega arith) ∙ counting-at n c.args.t c.requires.inside);
+    }
+
 pub invariant_of-pass : goal.invariant_of-pass
-invariant_of-pass g c = seated_puts _ _ _ _ _ _ c.args.i _ c.len_at.ensures.puts c.len_at.ensures.kept.2 c.len_at.ensures.kept.0 c.pass.invariant
-
-pub len_at-requires-clause-full : goal.len_at-requires-clause-full
-len_at-requires-clause-full g c = c.pass.invariant.full
-
-pub len_at-requires-clause-numbered : goal.len_at-requires-clause-numbered
-len_at-requires-clause-numbered g c = c.pass.invariant.numbered ∙ sym c.as_slice.ensures.value
-
-pub len_at-requires-clause-own : goal.len_at-requires-clause-own
-len_at-requires-clause-own g c = ap (λ (p : PassState g.row.V.Denot). p.table) c.pass.view_is ∙ c.requires.own.0 ∙ sym (ap (λ (w : WordsState). w.table) c.self.view_is)
-
-pub len_at-requires-clause-inside : goal.len_at-requires-clause-inside
-len_at-requires-clause-inside g c =
-    subst (λ n. c.args.i < n) (length-named c.pass.inside.seat.me.1 c.as_slice.result.now (c.pass.invariant.numbered ∙ sym c.as_slice.ensures.value))
-    (subst (λ (p : PassState g.row.V.Denot). c.args.i < length p.stripes) (sym c.pass.view_is) c.requires.inside)
+invariant_of-pass g c = ready_on c.pass.invariant c.len_at.ensures.puts.table (seated_puts _ _ _ _ c.len_at.ensures.puts c.pass.invariant.seated)
 
 pub returns-clause-value : goal.returns-clause-value
-returns-clause-value g c = c.len_at.ensures.value ∙ ap (λ (p : PassState g.row.V.Denot). (stripe_at p.stripes c.args.i).content.ledger) c.pass.view_is
+returns-clause-value g c = c.len_at.ensures.value ∙ ap (λ (p : PassState g.row.V.Denot). (stripe_at p.stripes c.args.t).content.ledger) c.pass.view_is

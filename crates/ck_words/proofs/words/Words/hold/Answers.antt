@@ -1,17 +1,17 @@
-use Rattle.std.proofs.Common.{◌∙◌}
-use Rattle.ck_words.proofs.AreHeld.{rise_pair, some_pair, pair_of, are_held, held_then, numbers_then, unchanged_then}
+use Rattle.std.proofs.Common.{sym, subst}
+use Rattle.ck_words.specs.Passes.{PassState}
+use Rattle.ck_words.specs.Retries.{Stays}
+use Rattle.ck_words.proofs.words.Words.hold.Goals.{in-Err+in_ok-hold_later, in_default}
 use Rattle.ck_words.proofs.words.Words.hold.Goals as goal
 
-pub returns-clause-held : goal.returns-clause-held
-returns-clause-held g c =
-    let h = g.K.TableKey.hash in
-    let set = c.args.self.now.settings in
-    let p = c.hold_pair.new.pass in
-    let e = c.in_ok-hold_pair.ensures in
-    held_then h set p c.settle_all.new.pass c.settle_all.ensures.settled (are_held h set c.settings.ensures.range p (pair_of c.args.low c.args.high) e.held (rise_pair c.args.low c.args.high c.requires.rising) (some_pair c.args.low c.args.high) e.of_table e.unchanged e.shows)
+pub returns-in_err-hold_later-clause-stays : goal.returns-in_err-hold_later-clause-stays
+returns-in_err-hold_later-clause-stays g c = (c.in_err-hold_later.ensures.refused c.args.pass.now c.requires.idle c.in-Err.ensures.missed).stays
 
-pub returns-clause-numbers : goal.returns-clause-numbers
-returns-clause-numbers g c = numbers_then g.K.TableKey.hash c.args.self.now.settings c.hold_pair.new.pass c.settle_all.new.pass c.settle_all.ensures.settled ∙ c.in_ok-hold_pair.ensures.held
-
-pub returns-clause-unchanged : goal.returns-clause-unchanged
-returns-clause-unchanged g c = unchanged_then g.K.TableKey.hash c.args.self.now.settings c.hold_pair.new.pass c.settle_all.new.pass c.settle_all.ensures.settled c.in_ok-hold_pair.ensures.unchanged
+pub returns-clause-stays : goal.returns-clause-stays
+returns-clause-stays g c =
+    let p = c.args.pass.now in
+    let taken : Stays p.view c.match-hold_now.pass.view = elim c.match-hold_now.branch [
+      | in-Err+in_ok-hold_later w ↦ subst (λ (q : PassState g.row.V.Denot). Stays p.view q.view) (sym w.pass-is) (w.in_ok-hold_later.ensures.taken p c.requires.idle w.in-Err.ensures.missed).stays
+      | in_default w ↦ subst (λ (q : PassState g.row.V.Denot). Stays p.view q.view) (sym w.pass-is) w.in_default.ensures.taken.stays
+    ] in
+    subst (Stays p.view) (sym c.settle_taken.ensures.view) taken

@@ -1,5 +1,7 @@
-use Rattle.ck_words.proofs.AllHeld.{HoldsTo}
+use Rattle.std.proofs.Common.{◌<◌, ◌^◌}
+use Rattle.ck_words.specs.Rule.{counting}
+use Rattle.ck_words.specs.Holding.{HasTaken}
 use Rattle.ck_words.proofs.words.Words.hold_all.Given as goal
 
 abbrev pub invariant-loop-t : goal.invariant-loop-t
-invariant-loop-t g l = HoldsTo g.K.TableKey.hash l.self l.t l.initial.pass l.pass
+invariant-loop-t g l = HasTaken g.K.TableKey.hash l.self (λ t. t < 2 ^ l.self.settings.s) (counting 0 l.t) l.initial.pass l.pass

@@ -4,16 +4,16 @@ use Rattle.ck_words.specs.Rule.{Hand, layout_of}
 use Rattle.ck_words.specs.Passes.{PassState, state_of}
 use Rattle.ck_words.proofs.Meets.{heard, meets}
 use Rattle.ck_words.proofs.Allowed.{tell_allowed, join_allowed}
-use Rattle.ck_words.proofs.Seating.{seated_view}
+use Rattle.ck_words.proofs.Seating.{ready_on, seated_view}
 use Rattle.ck_words.proofs.Takes.{fits, same_table, some_word}
 use Rattle.ck_words.proofs.words.Words.meet.Goals as goal
 
 pub split_seat-told-requires : goal.split_seat-told-requires
-split_seat-told-requires g c = let f = fits _ _ _ _ _ _ _ c.self.view_is c.self.invariant c.a.view_is c.requires.own.0 in let h = g.K.TableKey.hash in let key = c.self.inside.table.shared.key in
+split_seat-told-requires g c = let f = fits _ _ _ _ _ _ c.a.inside.seat.me c.self.view_is c.self.invariant c.a.view_is c.requires.own.0 in let h = g.K.TableKey.hash in let key = c.self.inside.table.shared.key in
     (same_table h _ _ _ _ _ _ _ f, some_word h _ _ _ _ _ _ _ f, tell_allowed (layout_of h key) key.callers c.a.inside.seat.id c.a.inside.seat.me.0)
 
 pub join_seat-requires : goal.join_seat-requires
-join_seat-requires g c = let f = fits _ _ _ _ _ _ _ c.self.view_is c.self.invariant c.a.view_is c.requires.own.0 in let e = fits _ _ _ _ _ _ _ c.self.view_is c.self.invariant c.b.view_is c.requires.own.1 in
+join_seat-requires g c = let f = fits _ _ _ _ _ _ c.a.inside.seat.me c.self.view_is c.self.invariant c.a.view_is c.requires.own.0 in let e = fits _ _ _ _ _ _ c.b.inside.seat.me c.self.view_is c.self.invariant c.b.view_is c.requires.own.1 in
     let h = g.K.TableKey.hash in let key = c.self.inside.table.shared.key in let told = c.split_seat-told in (
       same_table h _ _ _ _ _ _ _ e,
       told.ensures.3 ∙ same_table h _ _ _ _ _ _ _ f,
@@ -23,10 +23,10 @@ join_seat-requires g c = let f = fits _ _ _ _ _ _ _ c.self.view_is c.self.invari
     )
 
 pub invariant_of-b : goal.invariant_of-b
-invariant_of-b g c = seated_view _ _ _ _ _ _ _ c.b.invariant refl refl c.join_seat.ensures.0 c.join_seat.ensures.2
+invariant_of-b g c = ready_on c.b.invariant c.join_seat.ensures.0 (seated_view _ _ _ _ _ c.b.invariant.seated refl refl c.join_seat.ensures.0 c.join_seat.ensures.2)
 
 pub invariant_of-a : goal.invariant_of-a
-invariant_of-a g c = seated_view _ _ _ _ _ _ _ c.a.invariant refl refl c.split_seat-told.ensures.0 c.split_seat-told.ensures.2
+invariant_of-a g c = ready_on c.a.invariant c.split_seat-told.ensures.0 (seated_view _ _ _ _ _ c.a.invariant.seated refl refl c.split_seat-told.ensures.0 c.split_seat-told.ensures.2)
 
 pub returns-clause-met : goal.returns-clause-met
 returns-clause-met g c =

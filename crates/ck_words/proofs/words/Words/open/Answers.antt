@@ -1,7 +1,6 @@
-use Rattle.std.proofs.Common.{◌≡◌, ◌≤◌, ◌*◌, ◌^◌, ◌∙◌, ℕ, ap, sym, subst, replicate, length, rules}
-use Rattle.std.specs.Prelude.{vec_capacity}
-use lib.ListN.{length-replicate}
+use Rattle.std.proofs.Common.{◌≡◌, ◌*◌, ◌^◌, ◌∙◌, ℕ, ap, replicate, length, rules, arith}
 use Rattle.atomic_table.specs.Seated.{TableId}
+use lib.ListN.{length-replicate}
 use Rattle.ck_words.specs.Rule.{Hand}
 use Rattle.ck_words.proofs.Starting.{starts, length-fresh}
 use Rattle.ck_words.proofs.Seating.{seated_none}
@@ -25,7 +24,8 @@ invariant_of-result g c =
 pub invariant_of-result-2 : goal.invariant_of-result-2
 invariant_of-result-2 g c =
     let z = c.in-Ok.ensures.ok in
-    let slots : c.in-Ok.table.shared.table_id.slots ≡ 2 ^ c.args.settings.s = z.1 ∙ length-fresh c.args.settings (2 ^ c.args.settings.s) _ c.in_ok-slots.ensures in
-    let same : c.in-Ok.seat.table_id.slots ≡ 2 ^ c.args.settings.s = ap (λ (t : TableId). t.slots) z.2 ∙ slots in
-    let enough : 2 ^ c.args.settings.s ≤ vec_capacity c.in_ok-taken.taken = search rules in
-    seated_none _ _ _ _ (ap (λ (m : Hand g.row.V.Denot). m.1) z.4) (ap (λ (m : Hand g.row.V.Denot). m.0.held) z.4) c.in_ok-taken.ensures.items (subst (λ n. n ≤ vec_capacity c.in_ok-taken.taken) (sym same) enough)
+    record {
+      seated = seated_none _ _ (ap (λ (m : Hand g.row.V.Denot). m.1) z.4) (ap (λ (m : Hand g.row.V.Denot). m.0.held) z.4);
+      empty = c.in_ok-room.ensures.items;
+      room = (let many = ap (λ (t : TableId). t.slots) z.2 ∙ z.1 in let room = c.in_ok-room.ensures.capacity in let len = c.in_ok-slots.slots.ok.0 in omega arith);
+    }

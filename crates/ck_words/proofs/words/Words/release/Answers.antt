@@ -1,27 +1,19 @@
-use Rattle.std.proofs.Common.{rules, ◌∙◌, ◌<◌, length, refl}
-use Rattle.ck_words.proofs.Staying.{stays_same, stays_giving, found_giving, seen_giving, no_stripes, idle_of}
+use Rattle.std.proofs.Common.{◌≡◌, ◌∙◌, ◌-◌, take, length, get_or, sym, subst, arith}
+use Rattle.std.proofs.lemmas.List.{take_all}
+use Rattle.ck_words.proofs.Releasing.{Leaves, last_taken, leaves_all, leaves_fewer, leaves_none}
 use Rattle.ck_words.proofs.words.Words.release.Goals as goal
 
-pub loop-pass-init : goal.loop-pass-init
-loop-pass-init g c = record { own = c.requires.own; unchanged = c.requires.unchanged; stays = stays_same c.args.pass.now.view; found = refl; seen = refl }
+pub loop-i-init : goal.loop-i-init
+loop-i-init g c = let ns = c.args.numbers.now in leaves_all c.args.self.now (take (length ns) ns) c.args.pass.now c.requires.own c.requires.unchanged (c.requires.numbered ∙ sym (take_all (length ns) ns (omega arith)))
 
-pub loop-pass-preserved : goal.loop-pass-preserved
-loop-pass-preserved g c =
-    let h = g.K.TableKey.hash in
-    let w = c.args.self.now in
-    let p = c.loop-pass.pass in
-    let q = c.give_rest.new.pass in
-    let s = c.give_rest.ensures.step in
-    let i = c.loop-pass.invariant in
-    record {
-      own = c.give_rest.ensures.own;
-      unchanged = c.give_rest.ensures.unchanged;
-      stays = stays_giving h w p q s c.args.pass.now.view i.stays;
-      found = found_giving h w p q s ∙ i.found;
-      seen = seen_giving h w p q s ∙ i.seen;
-    }
+pub give_rest-requires-clause-highest : goal.give_rest-requires-clause-highest
+give_rest-requires-clause-highest g c = let ns = c.args.numbers.now in (take (c.loop-i.i - 1) ns, c.loop-i.invariant.numbered ∙ last_taken ns c.loop-i.i c.loop-i-test.true c.loop-i.auto.i)
 
-pub returns-clause-idle : goal.returns-clause-idle
-returns-clause-idle g c =
-    let none : ¬ (0 < length c.loop-pass.pass.stripes) = search rules in
-    idle_of c.loop-pass.pass (no_stripes c.loop-pass.pass.stripes none) c.loop-pass.invariant.unchanged
+pub loop-i-preserved : goal.loop-i-preserved
+loop-i-preserved g c =
+    let w = c.args.self.now in let ns = c.args.numbers.now in let i = c.loop-i.i in let p = c.args.pass.now in let q = c.loop-i.pass in
+    leaves_fewer w g.K.TableKey.hash (take (i - 1) ns) (get_or ns (i - 1) 0) p q c.give_rest.new.pass (subst (λ l. Leaves w l p q) (last_taken ns i c.loop-i-test.true c.loop-i.auto.i) c.loop-i.invariant) c.give_rest.ensures.own c.give_rest.ensures.unchanged c.give_rest.ensures.step
+
+pub returns : goal.returns
+returns g c = let w = c.args.self.now in let ns = c.args.numbers.now in
+    let end : c.loop-i.i ≡ 0 = omega arith in leaves_none w c.args.pass.now c.loop-i.pass (subst (λ n. Leaves w (take n ns) c.args.pass.now c.loop-i.pass) end c.loop-i.invariant)

@@ -1,16 +1,6 @@
-use Rattle.std.proofs.Common.{◌≡◌, length}
-use Rattle.ck_words.specs.Passes.{IsPassOf, IsUnchanged}
-use Rattle.ck_words.specs.Retries.{Stays}
+use Rattle.std.proofs.Common.{take}
+use Rattle.ck_words.proofs.Releasing.{Leaves}
 use Rattle.ck_words.proofs.words.Words.release.Given as goal
 
-abbrev pub invariant-loop-pass : goal.invariant-loop-pass
-invariant-loop-pass g l = record {
-  own : IsPassOf l.self l.pass;
-  unchanged : IsUnchanged l.pass;
-  stays : Stays l.initial.pass.view l.pass.view;
-  found : l.pass.view.found ≡ l.initial.pass.view.found;
-  seen : l.pass.view.seen ≡ l.initial.pass.view.seen;
-}
-
-abbrev pub decreases-loop-pass : goal.decreases-loop-pass
-decreases-loop-pass g l = length l.pass.stripes
+abbrev pub invariant-loop-i : goal.invariant-loop-i
+invariant-loop-i g l = Leaves l.self (take l.i l.numbers) l.initial.pass l.pass

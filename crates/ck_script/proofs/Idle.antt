@@ -1,0 +1,106 @@
+-- A history without the sessions that changed nothing.
+use Rattle.std.proofs.Common.{◌≡◌, ◌≢◌, ◌⊎◌, ℕ, List, [], ◌∷◌, ⊎_elim, inl, inr, refl, sym, ap, ◌∙◌, subst}
+use Rattle.std.specs.Prelude.{if◌then◌else◌, ◌==◌}
+use Rattle.std.specs.FinMap.{same_entries_map}
+use mathlib.Core.Logic.{dite}
+use native.Mathlib.Decide.{ℕ_discrete}
+use Rattle.ck_model.specs.declared.history.Call.{Call}
+use Rattle.ck_model.specs.declared.history.Entry.{Entry}
+use Rattle.ck_model.specs.Map.{Map, Step}
+use Rattle.ck_model.specs.Numbered.{IsIn, AreDistinct, numbers, Holds, over}
+use Rattle.ck_model.specs.History.{Leads, After, IsShuffle, calls_by}
+use Rattle.ck_model.proofs.Numbered.{if_same, if_else, dec_in, over_miss, over_hit}
+use Rattle.ck_script.specs.Answered.{IsIdleSession}
+
+-- these entries are kept, and the others are sessions that changed nothing
+abbrev pub Drops : List (Entry ℕ) → List (Entry ℕ) → Type 0
+Drops [] kept = kept ≡ []
+Drops (e ∷ es) kept = ((more : List (Entry ℕ)) × (kept ≡ e ∷ more) × Drops es more) ⊎ (IsIdleSession e × Drops es kept)
+
+idle_step : (m m2 : Map ℕ) (e : Entry ℕ) → IsIdleSession e → Step m e.call e.reply m2 → m2 ≡ m
+idle_step m m2 e idle step =
+    let ends = subst (λ (c : Call ℕ). Step m c e.reply m2) idle.call step in
+    same_entries_map m2 m (ends.2 ∙ sym ends.1)
+
+-- the first entry, of its caller and of another
+own_first : (e : Entry ℕ) (es : List (Entry ℕ)) (k : ℕ) → e.by ≡ k → calls_by k (e ∷ es) ≡ e ∷ calls_by k es
+own_first e es k is = if_same e.by k (e ∷ calls_by k es) (calls_by k es) is
+
+other_first : (e : Entry ℕ) (es : List (Entry ℕ)) (k : ℕ) → e.by ≢ k → calls_by k (e ∷ es) ≡ calls_by k es
+other_first e es k apart = if_else e.by k (e ∷ calls_by k es) (calls_by k es) apart
+
+-- what is kept behind the first entry, of which more is kept
+abbrev behind : Entry ℕ → List (Entry ℕ) → (ℕ → List (Entry ℕ)) → ℕ → List (Entry ℕ)
+behind e more kept k = if e.by == k then more else kept k
+
+drops_behind : (e : Entry ℕ) (es more : List (Entry ℕ)) (kept : ℕ → List (Entry ℕ)) → Drops (calls_by e.by es) more → ((k : ℕ) → Drops (calls_by k (e ∷ es)) (kept k)) → (k : ℕ) → Drops (calls_by k es) (behind e more kept k)
+drops_behind e es more kept own drops k = dite (ℕ_discrete e.by k)
+    (λ is. subst (λ (l : List (Entry ℕ)). Drops (calls_by k es) l) (sym (if_same e.by k more (kept k) is)) (subst (λ (n : ℕ). Drops (calls_by n es) more) is own))
+    (λ apart. subst (λ (l : List (Entry ℕ)). Drops (calls_by k es) l) (sym (if_else e.by k more (kept k) apart)) (subst (λ (l : List (Entry ℕ)). Drops l (kept k)) (other_first e es k apart) (drops k)))
+
+kept_first : (e : Entry ℕ) (log more : List (Entry ℕ)) (kept : ℕ → List (Entry ℕ)) → kept e.by ≡ e ∷ more → ((k : ℕ) → calls_by k log ≡ behind e more kept k) → (k : ℕ) → calls_by k (e ∷ log) ≡ kept k
+kept_first e log more kept is each k = dite (ℕ_discrete e.by k)
+    (λ same. own_first e log k same ∙ ap (λ (l : List (Entry ℕ)). e ∷ l) (each k ∙ if_same e.by k more (kept k) same) ∙ sym is ∙ ap kept same)
+    (λ apart. other_first e log k apart ∙ each k ∙ if_else e.by k more (kept k) apart)
+
+drops_other : (e : Entry ℕ) (es : List (Entry ℕ)) (kept : ℕ → List (Entry ℕ)) → Drops (calls_by e.by es) (kept e.by) → ((k : ℕ) → Drops (calls_by k (e ∷ es)) (kept k)) → (k : ℕ) → Drops (calls_by k es) (kept k)
+drops_other e es kept own drops k = dite (ℕ_discrete e.by k)
+    (λ is. subst (λ (n : ℕ). Drops (calls_by n es) (kept n)) is own)
+    (λ apart. subst (λ (l : List (Entry ℕ)). Drops l (kept k)) (other_first e es k apart) (drops k))
+
+-- the history of what is kept of each caller leaves the same map
+without_idle : (log : List (Entry ℕ)) (m m2 : Map ℕ) (kept : ℕ → List (Entry ℕ)) → Leads m log m2 → ((k : ℕ) → Drops (calls_by k log) (kept k))
+    → (l : List (Entry ℕ)) × Leads m l m2 × ((k : ℕ) → calls_by k l ≡ kept k)
+without_idle [] m m2 kept leads drops = ([], leads, λ k. sym (drops k))
+without_idle (e ∷ es) m m2 kept leads drops =
+    let own = subst (λ (l : List (Entry ℕ)). Drops l (kept e.by)) (own_first e es e.by refl) (drops e.by) in
+    elim own [
+      | inl h ↦
+          let rest = without_idle es leads.0 m2 (behind e h.0 kept) leads.2 (drops_behind e es h.0 kept h.2 drops) in
+          (e ∷ rest.0, (leads.0, leads.1, rest.1), kept_first e rest.0 h.0 kept h.1 rest.2)
+      | inr h ↦
+          let rest = without_idle es leads.0 m2 kept leads.2 (drops_other e es kept h.1 drops) in
+          (rest.0, subst (λ (x : Map ℕ). Leads x rest.0 m2) (idle_step m leads.0 e h.0 leads.1) rest.1, rest.2)
+    ]
+
+-- of each caller of the one list the other has what is kept
+abbrev pub DropsEach : List (ℕ × List (Entry ℕ)) → List (ℕ × List (Entry ℕ)) → Type 0
+DropsEach [] [] = Unit {0}
+DropsEach (p ∷ parts) (q ∷ kept) = (q.0 ≡ p.0) × Drops p.1 q.1 × DropsEach parts kept
+DropsEach parts kept = ⊥
+
+kept_there : (parts kept : List (ℕ × List (Entry ℕ))) (k : ℕ) → DropsEach parts kept → IsIn k (numbers parts) → (l : List (Entry ℕ)) × Holds parts k l × Drops l (over kept (λ n. []) k)
+kept_there [] [] k each inside = absurd inside
+kept_there [] (q ∷ kept) k each inside = absurd each
+kept_there (p ∷ parts) [] k each inside = absurd each
+kept_there (p ∷ parts) (q ∷ kept) k each inside = dite (ℕ_discrete q.0 k)
+    (λ is. (p.1, inl (sym each.0 ∙ is, refl), subst (λ (l : List (Entry ℕ)). Drops p.1 l) (sym (if_same q.0 k q.1 (over kept (λ n. []) k) is)) each.1))
+    (λ apart.
+    let rest = kept_there parts kept k each.2 (⊎_elim (λ here. absurd (apart (each.0 ∙ here))) (λ there. there) inside) in
+    (rest.0, inr rest.1, subst (λ (l : List (Entry ℕ)). Drops rest.0 l) (sym (if_else q.0 k q.1 (over kept (λ n. []) k) apart)) rest.2))
+
+same_numbers : (parts kept : List (ℕ × List (Entry ℕ))) → DropsEach parts kept → numbers kept ≡ numbers parts
+same_numbers [] [] each = refl
+same_numbers [] (q ∷ kept) each = absurd each
+same_numbers (p ∷ parts) [] each = absurd each
+same_numbers (p ∷ parts) (q ∷ kept) each = λ j. each.0 j ∷ same_numbers parts kept each.2 j
+
+drops_in : (log : List (Entry ℕ)) (parts kept : List (ℕ × List (Entry ℕ))) → IsShuffle log parts → DropsEach parts kept → (k : ℕ) → Drops (calls_by k log) (over kept (λ n. []) k)
+drops_in log parts kept shuffle each k = dite (dec_in k (numbers parts))
+    (λ inside. let there = kept_there parts kept k each inside in subst (λ (l : List (Entry ℕ)). Drops l (over kept (λ n. []) k)) (sym (shuffle.each k there.0 there.1)) there.2)
+    (λ outside.
+    let none = over_miss kept (λ n. []) k (λ inside. outside (subst (IsIn k) (same_numbers parts kept each) inside)) in
+    subst (λ (l : List (Entry ℕ)). Drops l (over kept (λ n. []) k)) (sym (shuffle.no_others k outside)) none)
+
+-- what is kept of each caller has a legal shuffle too, with the same map after it
+pub kept_shuffle : (log : List (Entry ℕ)) (m : Map ℕ) (parts kept : List (ℕ × List (Entry ℕ))) → IsShuffle log parts → After log m → DropsEach parts kept → AreDistinct (numbers kept)
+    → (l : List (Entry ℕ)) × IsShuffle l kept × After l m
+kept_shuffle log m parts kept shuffle after each distinct =
+    let all = without_idle log _ m (over kept (λ n. [])) after (drops_in log parts kept shuffle each) in (
+      all.0,
+      record {
+        each = λ k l held. all.2 k ∙ over_hit kept (λ n. []) distinct k l held;
+        no_others = λ k outside. all.2 k ∙ over_miss kept (λ n. []) k outside;
+      },
+      all.1,
+    )

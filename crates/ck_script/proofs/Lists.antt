@@ -1,0 +1,45 @@
+-- A list is a session that changes nothing.
+use Rattle.std.proofs.Common.{◌≡◌, ℕ, List, [], ◌∷◌, ◌++◌, refl, sym, ap, ◌∙◌, subst, inl, inr}
+use Rattle.std.specs.FinMap.{entries}
+use Rattle.ck_model.specs.declared.history.Call.TheVariants.{Session}
+use Rattle.ck_model.specs.declared.history.Reply.TheVariants.{Closed}
+use Rattle.ck_model.specs.declared.history.Entry.{Entry}
+use Rattle.ck_model.specs.Map.{Map}
+use Rattle.ck_model.proofs.Numbered.{Some-injective}
+use Rattle.ck_words.specs.Passes.{PassState}
+use Rattle.ck_words.specs.Answering.{IsAnswered}
+use Rattle.ck_table.specs.Callers.{CallerState}
+use Rattle.ck_table.specs.Locking.{LockedState, start_of, map_of, HasLocked}
+use Rattle.ck_script.specs.declared.script.Command.TheVariants as command
+use Rattle.ck_script.specs.declared.answer.Answer.{Answer}
+use Rattle.ck_script.specs.Text.{Pairs}
+use Rattle.ck_script.specs.Answered.{IsListOf, IsLeft, IsAnsweredBy}
+
+-- the entry of a session that changed nothing is that of a list, or of one that found no memory
+left_by_list : (by : ℕ) (a : Answer Pairs) (start now : Map ℕ) → now ≡ start → IsListOf (entries now) a
+    → IsLeft command.List a (record { by = by; call = Session (entries start) (entries now); reply = Closed })
+left_by_list by a start now same list =
+    let pairs = entries now in
+    let idle = ap (λ (m : Map ℕ). Session (entries m) pairs) (sym same) in
+    elim list [
+      | inl is ↦ subst (λ (a : Answer Pairs). IsLeft command.List a (record { by = by; call = Session (entries start) pairs; reply = Closed })) (sym is) (inl ((pairs, idle), (idle, refl)))
+      | inr is ↦ subst (λ (a : Answer Pairs). IsLeft command.List a (record { by = by; call = Session (entries start) pairs; reply = Closed })) (sym is) (inr (tt, record { pairs = pairs; call = idle; reply = refl }))
+    ]
+
+-- locked and unlocked, the table is left to the same caller
+pub listed : (c back : CallerState ℕ) (l : LockedState ℕ) (p : PassState ℕ) (a : Answer Pairs) → HasLocked c.table c.pass l → IsListOf (entries (map_of l)) a
+    → IsAnswered (Session (entries (start_of l)) (entries (map_of l))) Closed l.pass p → back.table ≡ c.table → back.pass ≡ p → IsAnsweredBy command.List a c back
+listed c back l p a locked list answered table pass =
+    let by_kept = ap (λ (q : PassState ℕ). q.view.by) pass ∙ answered.stays.by ∙ locked.stays.by in
+    let mine = ap (λ (q : PassState ℕ). q.view.mine) pass ∙ answered.answered.mine in
+    let entry : Entry ℕ = record { by = answered.by; call = Session (entries (start_of l)) (entries (map_of l)); reply = Closed } in
+    record {
+      same = record { table = table; by = by_kept };
+      entries = λ by is.
+          inr (
+            entry,
+            Some-injective answered.by by (sym answered.caller ∙ locked.stays.by ∙ is),
+            left_by_list answered.by a (start_of l) (map_of l) locked.same list,
+            mine ∙ ap (λ (es : List (Entry ℕ)). es ++ entry ∷ []) locked.stays.mine,
+          );
+    }

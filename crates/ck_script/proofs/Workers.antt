@@ -1,0 +1,237 @@
+-- What the workers of a run leave is its output.
+use Rattle.std.proofs.Common.{◌≡◌, Result, Ok, Err, ℕ, zero, suc, ◌+◌, ◌<◌, ◌≤◌, List, [], ◌∷◌, ◌++◌, length, map, All, inl, inr, ⊎_elim, refl, sym, ap, ◌∙◌, subst, add-one, arith}
+use Rattle.std.specs.Prelude.{Option, unwrap_or, IfOk, vec_len}
+use denote.Param.Members.{Shared}
+use Rattle.std.specs.Fn.{FnReturns}
+use Rattle.std.specs.Fork.{GivesJobs}
+use Rattle.std.specs.Global.{Vec}
+use Rattle.std.specs.List.{AllZip, zip, slice_index_or}
+use Rattle.std.specs.FinMap.{entries}
+use Rattle.std.specs.declared.cmp.Ordering.{Ordering}
+use Rattle.std.proofs.lemmas.List.Elements.{All-append}
+use Rattle.std.proofs.lemmas.Slice.Zip.{all_zipped_more, length-zip, get_or-zip}
+use Rattle.ck_model.specs.declared.history.Entry.{Entry}
+use Rattle.ck_model.specs.declared.settings.Settings.{Settings}
+use Rattle.ck_model.specs.Map.{Name, Map, named, name_cmp, ListsInOrder}
+use Rattle.ck_model.proofs.Entries.{entries_listed}
+use Rattle.ck_model.specs.Numbered.{IsIn, AreDistinct, numbers}
+use Rattle.ck_model.specs.History.{After, IsShuffle}
+use Rattle.ck_words.specs.Rule.{counting}
+use Rattle.ck_words.specs.Words.{WordsState}
+use Rattle.ck_words.specs.Passes.{PassState}
+use Rattle.ck_words.specs.Closing.{IsCaller, AreAllPasses, EachSaw, dealt, parts_of}
+use Rattle.ck_words.proofs.Counting.{in_counting}
+use Rattle.ck_script.specs.declared.script.Keys.{Keys}
+use Rattle.ck_script.specs.declared.script.Command.{Command}
+use Rattle.ck_script.specs.declared.script.Work.{Work}
+use Rattle.ck_script.specs.declared.answer.Answer.{Answer}
+use Rattle.ck_script.specs.declared.job.Job.{Job}
+use Rattle.ck_script.specs.declared.job.Done.{Done}
+use Rattle.ck_script.specs.Script.{Said, on_names, said_in, workers_on_names}
+use Rattle.ck_script.specs.Text.{Pairs, output_text}
+use Rattle.ck_script.specs.Output.{AreEntriesOf, ArePartsOf, IsOutputOf}
+use Rattle.ck_script.specs.Answered.{answers_on_names, lists_on_names, HaveLeft}
+use Rattle.ck_script.specs.Jobs.{IsNew, IsJob, HasWorked, IsTextAtEnd, answers_of, passes_of}
+use Rattle.ck_script.proofs.Idle.{Drops, DropsEach, kept_shuffle}
+
+-- the same of each worker, of which the first has the number by
+abbrev pub HaveParts : ℕ → List (List (Command Name)) → List (List (Answer Pairs)) → List (ℕ × List (Entry ℕ)) → Type 0
+HaveParts by [] [] parts = parts ≡ []
+HaveParts by (cs ∷ workers) (answers ∷ more) (part ∷ parts) = (part.0 ≡ by) × HaveLeft by cs answers part.1 × HaveParts (by + 1) workers more parts
+HaveParts by workers answers parts = ⊥
+
+-- the entries of a caller without those of refused lists
+strictly : (by : ℕ) (cs : List (Command Name)) (answers : List (Answer Pairs)) (es : List (Entry ℕ)) → HaveLeft by cs answers es → (kept : List (Entry ℕ)) × AreEntriesOf by cs answers kept × Drops es kept
+strictly by [] [] es h = ([], refl, subst (λ (l : List (Entry ℕ)). Drops l []) (sym h) refl)
+strictly by [] (a ∷ answers) es h = absurd h
+strictly by (c ∷ cs) [] es h = absurd h
+strictly by (c ∷ cs) (a ∷ answers) es h =
+    elim h [
+      | inl h ↦ let rest = strictly by cs answers es h.1 in (rest.0, inl (h.0, rest.1), rest.2)
+      | inr h ↦
+          let rest = strictly by cs answers h.1 h.5 in
+          elim h.4 [
+            | inl entry ↦ (h.0 ∷ rest.0, inr (h.0, rest.0, refl, h.3, entry, rest.1), subst (λ (l : List (Entry ℕ)). Drops l (h.0 ∷ rest.0)) (sym h.2) (inl (rest.0, refl, rest.2)))
+            | inr idle ↦ (rest.0, inl (idle.0, rest.1), subst (λ (l : List (Entry ℕ)). Drops l rest.0) (sym h.2) (inr (idle.1, rest.2)))
+          ]
+    ]
+
+all_strictly : (by : ℕ) (workers : List (List (Command Name))) (answers : List (List (Answer Pairs))) (parts : List (ℕ × List (Entry ℕ)))
+    → HaveParts by workers answers parts → (kept : List (ℕ × List (Entry ℕ))) × ArePartsOf by workers answers kept × DropsEach parts kept
+all_strictly by [] [] parts h = ([], refl, subst (λ (l : List (ℕ × List (Entry ℕ))). DropsEach l []) (sym h) tt)
+all_strictly by [] (a ∷ answers) parts h = absurd h
+all_strictly by (cs ∷ workers) [] parts h = absurd h
+all_strictly by (cs ∷ workers) (a ∷ answers) [] h = absurd h
+all_strictly by (cs ∷ workers) (a ∷ answers) (part ∷ parts) h =
+    let first = strictly by cs a part.1 h.1 in
+    let rest = all_strictly (by + 1) workers answers parts h.2 in
+    ((by, first.0) ∷ rest.0, (refl, first.1, rest.1), (sym h.0, first.2, rest.2))
+
+above : (a n m : ℕ) → IsIn m (counting a n) → a ≤ m
+above a zero m h = absurd h
+above a (suc n) m h = ⊎_elim (λ e. omega arith) (λ r. let z = above (suc a) n m r in omega arith) h
+
+distinct_counting : (a n : ℕ) → AreDistinct (counting a n)
+distinct_counting a zero = tt
+distinct_counting a (suc n) = ((λ h. let z = above (suc a) n a h in absurd (omega arith)), distinct_counting (suc a) n)
+
+numbers_of_parts : (by : ℕ) (workers : List (List (Command Name))) (answers : List (List (Answer Pairs))) (kept : List (ℕ × List (Entry ℕ)))
+    → ArePartsOf by workers answers kept → numbers kept ≡ counting by (length workers)
+numbers_of_parts by [] [] kept h = ap numbers h
+numbers_of_parts by [] (a ∷ answers) kept h = absurd h
+numbers_of_parts by (cs ∷ workers) [] kept h = absurd h
+numbers_of_parts by (cs ∷ workers) (a ∷ answers) [] h = absurd h
+numbers_of_parts by (cs ∷ workers) (a ∷ answers) (part ∷ kept) h =
+    let rest = numbers_of_parts (by + 1) workers answers kept h.2 ∙ ap (λ n. counting n (length workers)) (add-one by) in
+    λ j. h.0 j ∷ rest j
+
+-- the text of the answers and of the pairs is an output
+pub output_of_parts : (said : Said) (answers : List (List (Answer Pairs))) (parts : List (ℕ × List (Entry ℕ))) (log : List (Entry ℕ)) (m : Map ℕ) (out : List ℕ)
+    → HaveParts 0 said.workers answers parts → IsShuffle log parts → After log m → out ≡ output_text said.keys answers (entries m) → IsOutputOf said out
+output_of_parts said answers parts log m out have shuffle after text =
+    let strict = all_strictly 0 said.workers answers parts have in
+    let distinct = subst AreDistinct (sym (numbers_of_parts 0 said.workers answers strict.0 strict.1)) (distinct_counting 0 (length said.workers)) in
+    let kept = kept_shuffle log m parts strict.0 shuffle after strict.2 distinct in
+    record {
+      answers = answers;
+      parts = strict.0;
+      log = kept.0;
+      map = m;
+      entries_of = strict.1;
+      shuffle = kept.1;
+      legal = kept.2;
+      text = text;
+    }
+
+no_entries : (w : WordsState) (set : Settings) (ms : List ℕ) → All (λ (p : PassState ℕ). p.view.mine ≡ []) (dealt w.table set ms)
+no_entries w set [] k d lt = absurd (omega arith)
+no_entries w set (m ∷ ms) zero d lt = refl
+no_entries w set (m ∷ ms) (suc k) d lt = no_entries w set ms k d (omega arith)
+
+-- passes that were dealt have made no call
+pub dealt_new : (w : WordsState) (set : Settings) (ms : List ℕ) (passes : List (PassState ℕ)) → AreAllPasses w passes → passes ≡ dealt w.table set ms → All (IsNew w) passes
+dealt_new w set ms passes all is k d lt = record {
+  caller = all.callers k d lt;
+  no_entry = subst (All (λ (p : PassState ℕ). p.view.mine ≡ [])) (sym is) (no_entries w set ms) k d lt;
+}
+
+module _ {K : Type 0} (name : K → Name) (w : WordsState) (set : Settings) where
+  abbrev pub Given : ℕ → List (Vec (Command K)) → List (Job K) → Type 0
+  Given a workers jobs = AllZip (IsJob w) (zip (dealt w.table set (counting a (length workers))) workers) jobs
+
+  abbrev pub Worked : List (Job K) → List (Done K) → Type 0
+  Worked jobs dones = AllZip (HasWorked name) jobs dones
+
+  -- what the workers left, by their numbers
+  pub done_parts : (a : ℕ) (workers : List (Vec (Command K))) (jobs : List (Job K)) (dones : List (Done K)) → Given a workers jobs → Worked jobs dones
+      → HaveParts a (workers_on_names name workers) (lists_on_names name (answers_of dones)) (parts_of (passes_of dones))
+  done_parts a [] [] [] given worked = refl
+  done_parts a [] [] (d ∷ dones) given worked = absurd worked
+  done_parts a [] (j ∷ jobs) dones given worked = absurd given
+  done_parts a (cs ∷ workers) [] dones given worked = absurd given
+  done_parts a (cs ∷ workers) (j ∷ jobs) [] given worked = absurd worked
+  done_parts a (cs ∷ workers) (j ∷ jobs) (d ∷ dones) given worked =
+      let by = ap (λ (p : PassState ℕ). p.view.by) given.0.pass in (
+        ap (λ (o : Option ℕ). unwrap_or o 0) (worked.0.by ∙ by),
+        subst (λ (c : Vec (Command K)). HaveLeft a (map (on_names name) c.items) (answers_on_names name d.answers.items) d.pass.view.mine) given.0.commands (worked.0.entries a by),
+        subst (λ n. HaveParts n (workers_on_names name workers) (lists_on_names name (answers_of dones)) (parts_of (passes_of dones))) (sym (add-one a)) (done_parts (suc a) workers jobs dones given.1 worked.1),
+      )
+
+  done_callers : (a : ℕ) (workers : List (Vec (Command K))) (jobs : List (Job K)) (dones : List (Done K)) → Given a workers jobs → Worked jobs dones → All (IsCaller w) (passes_of dones)
+  done_callers a [] [] [] given worked k d lt = absurd (omega arith)
+  done_callers a [] [] (e ∷ dones) given worked k d lt = absurd worked
+  done_callers a [] (j ∷ jobs) dones given worked k d lt = absurd given
+  done_callers a (cs ∷ workers) [] dones given worked k d lt = absurd given
+  done_callers a (cs ∷ workers) (j ∷ jobs) [] given worked k d lt = absurd worked
+  done_callers a (cs ∷ workers) (j ∷ jobs) (e ∷ dones) given worked zero d lt = subst (λ (x : WordsState). IsCaller x e.pass) given.0.table worked.0.caller
+  done_callers a (cs ∷ workers) (j ∷ jobs) (e ∷ dones) given worked (suc k) d lt = done_callers (suc a) workers jobs dones given.1 worked.1 k d (omega arith)
+
+  done_numbers : (a : ℕ) (workers : List (Vec (Command K))) (jobs : List (Job K)) (dones : List (Done K)) → Given a workers jobs → Worked jobs dones
+      → numbers (parts_of (passes_of dones)) ≡ counting a (length workers)
+  done_numbers a [] [] [] given worked = refl
+  done_numbers a [] [] (d ∷ dones) given worked = absurd worked
+  done_numbers a [] (j ∷ jobs) dones given worked = absurd given
+  done_numbers a (cs ∷ workers) [] dones given worked = absurd given
+  done_numbers a (cs ∷ workers) (j ∷ jobs) [] given worked = absurd worked
+  done_numbers a (cs ∷ workers) (j ∷ jobs) (d ∷ dones) given worked =
+      let first = ap (λ (o : Option ℕ). unwrap_or o 0) (worked.0.by ∙ ap (λ (p : PassState ℕ). p.view.by) given.0.pass) in
+      let rest = done_numbers (suc a) workers jobs dones given.1 worked.1 in
+      λ i. first i ∷ rest i
+
+  -- the passes of the workers are all of the table's
+  pub done_passes : (workers : List (Vec (Command K))) (jobs : List (Job K)) (dones : List (Done K)) → w.settings.callers ≡ length workers → Given 0 workers jobs → Worked jobs dones
+      → AreAllPasses w (passes_of dones)
+  done_passes workers jobs dones count given worked = record {
+    callers = done_callers 0 workers jobs dones given worked;
+    all = λ m lt. subst (IsIn m) (sym (done_numbers 0 workers jobs dones given worked)) (in_counting (length workers) m (omega arith));
+  }
+
+-- what calls returned to their jobs, list by list
+module _ {K F : Type 0} (name : K → Name) (g : Shared F (Job K × Unit {0}) (Done K)) (f : F) where
+  worked_each : (jobs : List (Job K)) (dones : List (Done K)) → length dones ≡ length jobs → ((i : ℕ) (j : Job K) (d : Done K) → i < length jobs → HasWorked name (slice_index_or jobs i j) (slice_index_or dones i d)) → AllZip (HasWorked name) jobs dones
+  worked_each [] [] e h = tt
+  worked_each [] (d ∷ dones) e h = absurd (omega arith)
+  worked_each (j ∷ jobs) [] e h = absurd (omega arith)
+  worked_each (j ∷ jobs) (d ∷ dones) e h = (h 0 j d (omega arith), worked_each jobs dones (omega arith) (λ i a b lt. h (suc i) a b (omega arith)))
+
+  pub all_worked : {E : Type 0} (jobs : Vec (Job K)) (r : Result (Vec (Done K)) E) → IfOk r (λ v. vec_len v ≡ vec_len jobs) → IfOk r (λ v. GivesJobs g f jobs.items v.items)
+      → ((j : Job K) (d : Done K) → FnReturns g f (j, tt) d → HasWorked name j d) → IfOk r (λ v. AllZip (HasWorked name) jobs.items v.items)
+  all_worked jobs (Ok v) len gives returns =
+      worked_each jobs.items v.items (omega arith) (λ i j d lt. let one = (gives i d lt).1 in subst (λ (x : Job K). HasWorked name x (slice_index_or v.items i d)) (sym (one.job_is j)) (returns one.job (slice_index_or v.items i d) one.call))
+  all_worked jobs (Err e) len gives returns = tt
+
+-- what holds of each of the first things holds of that of a pair
+pub first_of_zip : {A B : Type 0} (P : A → Type 0) (xs : List A) (ys : List B) (i : ℕ) (p : A × B) → All P xs → (i < length (zip xs ys)) × (p ≡ slice_index_or (zip xs ys) i p) → P p.0
+first_of_zip {A} {B} P xs ys i p all turn =
+    let both = length-zip xs ys in
+    let lt = turn.0 in
+    let inside : i < length xs = omega arith in
+    let there : i < length ys = omega arith in
+    subst P (sym (ap (λ (q : A × B). q.0) (turn.1 ∙ get_or-zip xs ys i p inside there))) (all i p.0 inside)
+
+-- one job more
+pub job_more : {K : Type 0} (w : WordsState) (given : List (PassState ℕ × Vec (Command K))) (jobs items : List (Job K)) (next : PassState ℕ × Vec (Command K)) (job : Job K)
+    → AllZip (IsJob w) given jobs → IsJob w next job → items ≡ jobs ++ job ∷ [] → AllZip (IsJob w) (given ++ next ∷ []) items
+job_more {K} w given jobs items next job all is pushed =
+    subst (λ (l : List (Job K)). AllZip (IsJob w) (given ++ next ∷ []) l) (sym pushed) (all_zipped_more (IsJob w) given jobs next job all is)
+
+pub all_more : {A : Type 0} (P : A → Type 0) (xs items : List A) (x : A) → All P xs → P x → items ≡ xs ++ x ∷ [] → All P items
+all_more {A} P xs items x all is pushed = subst (All P) (sym pushed) (All-append P xs (x ∷ []) all (alone x is))
+  where
+    alone : (x : A) → P x → All P (x ∷ [])
+    alone x is zero d lt = is
+    alone x is (suc k) d lt = absurd (omega arith)
+
+-- the table was closed, and these are its pairs
+abbrev pub Closed : {K : Type 0} → (K → Name) → (K → K → Ordering) → List (PassState ℕ) → List (K × ℕ) → Type 0
+Closed name cmp passes pairs = (log : List (Entry ℕ)) × (m : Map ℕ) × IsShuffle log (parts_of passes) × EachSaw log passes × After log m × ListsInOrder name cmp pairs m
+
+pub text_at_end : {K E : Type 0} (name : K → Name) (cmp : K → K → Ordering) → ((a b : K) → cmp a b ≡ name_cmp (name a) (name b)) → (keys : Keys) (passes : List (PassState ℕ)) (answers : List (List (Answer Pairs)))
+    (pairs : List (K × ℕ)) (r : Result (Vec ℕ) E) → Closed name cmp passes pairs → IfOk r (λ text. text.items ≡ output_text keys answers (map (named name) pairs)) → IfOk r (λ text. IsTextAtEnd keys passes answers text.items)
+text_at_end name cmp in_order keys passes answers pairs (Ok text) closed is = record {
+  log = closed.0;
+  map = closed.1;
+  shuffle = closed.2;
+  legal = closed.4;
+  text_is = is ∙ ap (output_text keys answers) (entries_listed name cmp in_order pairs closed.1 closed.5);
+}
+text_at_end name cmp in_order keys passes answers pairs (Err e) closed is = tt
+
+module _ {K : Type 0} (name : K → Name) (w : WordsState) (set : Settings) where
+  -- the jobs are those of the passes that were dealt
+  pub given_dealt : (workers : List (Vec (Command K))) (passes : List (PassState ℕ)) (jobs : List (Job K)) → passes ≡ dealt w.table set (counting 0 set.callers) → set.callers ≡ length workers
+      → AllZip (IsJob w) (zip passes workers) jobs → Given name w set 0 workers jobs
+  given_dealt workers passes jobs is count given =
+      subst (λ (ps : List (PassState ℕ)). AllZip (IsJob w) (zip ps workers) jobs) (is ∙ ap (λ n. dealt w.table set (counting 0 n)) count) given
+
+  -- the text at the end is an output of the work
+  pub output_of_run : {E : Type 0} (keys : Keys) (work : Work K) (jobs : List (Job K)) (dones : List (Done K)) (passes : List (PassState ℕ)) (answers : List (Vec (Answer (Vec (K × ℕ))))) (r : Result (Vec ℕ) E)
+      → Given name w set 0 work.workers.items jobs → Worked name w set jobs dones → passes ≡ passes_of dones → answers ≡ answers_of dones
+      → IfOk r (λ text. IsTextAtEnd keys passes (lists_on_names name answers) text.items) → IfOk r (λ text. IsOutputOf (said_in keys name work) text.items)
+  output_of_run keys work jobs dones passes answers (Ok text) given worked same_passes same_answers end =
+      let workers = work.workers.items in
+      let have : HaveParts 0 (workers_on_names name workers) (lists_on_names name answers) (parts_of passes) =
+      subst (λ (told : List (Vec (Answer (Vec (K × ℕ))))). HaveParts 0 (workers_on_names name workers) (lists_on_names name told) (parts_of passes)) (sym same_answers)
+      (subst (λ (ps : List (PassState ℕ)). HaveParts 0 (workers_on_names name workers) (lists_on_names name (answers_of dones)) (parts_of ps)) (sym same_passes) (done_parts name w set 0 workers jobs dones given worked)) in
+      output_of_parts (said_in keys name work) (lists_on_names name answers) (parts_of passes) end.log end.map text.items have end.shuffle end.legal end.text_is
+  output_of_run keys work jobs dones passes answers (Err e) given worked same_passes same_answers end = tt

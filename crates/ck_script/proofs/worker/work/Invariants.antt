@@ -1,0 +1,13 @@
+use Rattle.std.proofs.Common.{◌≡◌, ◌≤◌, ℕ, Some, length, map, vec_len, vec_capacity}
+use Rattle.ck_table.specs.Callers.{IsSameCaller}
+use Rattle.ck_script.specs.Script.{on_names}
+use Rattle.ck_script.specs.Answered.{answers_on_names, HaveLeft}
+use Rattle.ck_script.proofs.worker.work.Given as goal
+
+abbrev pub invariant-loop-command : goal.invariant-loop-command
+invariant-loop-command g l = record {
+  same : IsSameCaller l.initial.caller l.caller;
+  count : vec_len l.answers ≡ length l.yielded;
+  room : vec_capacity l.initial.answers ≤ vec_capacity l.answers;
+  entries : (by : ℕ) → l.initial.caller.pass.view.by ≡ Some by → HaveLeft by (map (on_names g.K.TableKey.name) l.yielded) (answers_on_names g.K.TableKey.name l.answers.items) l.caller.pass.view.mine;
+}

@@ -1,0 +1,58 @@
+-- What the workers of a run are given, and what they hand back.
+use Rattle.std.specs.Prelude.{◌≡◌, ℕ, ◌≤◌, List, [], length, map, Some, vec_capacity}
+use Rattle.std.specs.Global.{Vec}
+use Rattle.std.specs.FinMap.{entries}
+use Rattle.ck_model.specs.declared.history.Entry.{Entry}
+use Rattle.ck_model.specs.Map.{Name, Map}
+use Rattle.ck_model.specs.History.{After, IsShuffle}
+use Rattle.ck_words.specs.Words.{WordsState}
+use Rattle.ck_words.specs.Passes.{PassState}
+use Rattle.ck_words.specs.Closing.{IsCaller, parts_of}
+use Rattle.ck_script.specs.declared.script.Keys.{Keys}
+use Rattle.ck_script.specs.declared.script.Command.{Command}
+use Rattle.ck_script.specs.declared.answer.Answer.{Answer}
+use Rattle.ck_script.specs.declared.job.Job.{Job}
+use Rattle.ck_script.specs.declared.job.Done.{Done}
+use Rattle.ck_script.specs.Script.{on_names}
+use Rattle.ck_script.specs.Text.{Pairs, output_text}
+use Rattle.ck_script.specs.Answered.{answers_on_names, HaveLeft}
+
+-- The pass is one of this table's callers, and was in no call that left an entry.
+pub record IsNew (w : WordsState) (p : PassState ℕ) : Type 0 where
+  pub caller : IsCaller w p
+  pub no_entry : p.view.mine ≡ []
+
+module _ {K : Type 0} where
+  -- The worker has made no call, and has room for all of its answers.
+  pub record IsReady (job : Job K) : Type 0 where
+    pub fresh : job.caller.pass.view.mine ≡ []
+    pub empty : job.answers.items ≡ []
+    pub room : length job.commands.items ≤ vec_capacity job.answers
+
+  -- the job makes these commands on the table by this pass
+  pub record IsJob (w : WordsState) (given : PassState ℕ × Vec (Command K)) (job : Job K) : Type 0 where
+    pub table : job.caller.table ≡ w
+    pub pass : job.caller.pass ≡ given.0
+    pub commands : job.commands ≡ given.1
+
+  -- the answers and the passes of those who are done
+  abbrev pub answers_of : List (Done K) → List (Vec (Answer (Vec (K × ℕ))))
+  answers_of dones = map (λ (d : Done K). d.answers) dones
+
+  abbrev pub passes_of : List (Done K) → List (PassState ℕ)
+  passes_of dones = map (λ (d : Done K). d.pass) dones
+
+module _ {K : Type 0} (name : K → Name) where
+  -- The worker made its calls on the same table under the same number, and its entries are what its commands left.
+  pub record HasWorked (job : Job K) (done : Done K) : Type 0 where
+    pub caller : IsCaller job.caller.table done.pass
+    pub by : done.pass.view.by ≡ job.caller.pass.view.by
+    pub entries : (by : ℕ) → job.caller.pass.view.by ≡ Some by → HaveLeft by (map (on_names name) job.commands.items) (answers_on_names name done.answers.items) done.pass.view.mine
+
+-- The text is that of these answers and of the map after a legal history, which is a shuffle of the entries of the passes.
+pub record IsTextAtEnd (keys : Keys) (passes : List (PassState ℕ)) (answers : List (List (Answer Pairs))) (text : List ℕ) : Type 0 where
+  pub log : List (Entry ℕ)
+  pub map : Map ℕ
+  pub shuffle : IsShuffle log (parts_of passes)
+  pub legal : After log map
+  pub text_is : text ≡ output_text keys answers (entries map)

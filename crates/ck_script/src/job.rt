@@ -1,0 +1,21 @@
+//! What a worker is given, and what it hands back.
+use crate::answer::{Answer, Pairs};
+use crate::script::Command;
+use crate::written_key::WrittenKey;
+use ck_table::{Caller, Pass};
+
+/// What a worker is to do: its number, counted from 1, its caller, its commands, and room for their answers.
+#[derive(Drop)]
+pub struct Job<'t, K: WrittenKey> {
+    pub worker: u32,
+    pub caller: Caller<'t, K, u64>,
+    pub commands: Vec<Command<K>>,
+    pub answers: Vec<Answer<Pairs<K>>>,
+}
+
+/// What a worker leaves: the answers to its commands, and the pass that it made them by.
+#[derive(Drop)]
+pub struct Done<K: WrittenKey> {
+    pub answers: Vec<Answer<Pairs<K>>>,
+    pub pass: Pass<K, u64>,
+}

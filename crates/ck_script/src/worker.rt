@@ -1,0 +1,53 @@
+//! The workers of a run.
+ghost use Rattle.std.specs.Prelude.{All, IfOk};
+ghost use Rattle.std.specs.List.{AllZip};
+ghost use Rattle.ck_script.specs.Jobs.{HasWorked, IsReady};
+
+use crate::calls::answer_of;
+use crate::gate::Gate;
+use crate::job::{Done, Job};
+use crate::written_key::WrittenKey;
+use std::alloc::{AllocError, Global};
+use std::thread::{Threads, map_vec};
+
+// Makes the calls of a worker, and notes their answers.
+fn work<K: WrittenKey, G: Gate>(alloc: Global, gate: &G, job: Job<'_, K>) -> Done<K>
+    requires { IsReady job }
+    ensures { HasWorked K.name job.entry result }
+{
+    let Job {
+        worker,
+        mut caller,
+        commands,
+        mut answers,
+    } = job;
+    for command in commands {
+        let line = answers.len() as u64 + 1;
+        gate.before(worker, line);
+        let (answer, same) = answer_of(alloc, caller, command);
+        caller = same;
+        answers.push_reserved(answer);
+        gate.after(worker, line);
+    }
+    Done {
+        answers,
+        pass: caller.into_pass(),
+    }
+}
+
+/// Does all jobs, each in a thread of its own.
+pub fn work_all<T: Threads + Sync, K: WrittenKey + Send, G: Gate>(
+    rt: &T,
+    alloc: Global,
+    gate: &G,
+    jobs: Vec<Job<'_, K>>,
+) -> Result<Vec<Done<K>>, AllocError>
+    requires { All IsReady jobs.items }
+    ensures { IfOk result (λ dones. AllZip (HasWorked K.name) jobs.entry.items dones.items) }
+{
+    let work_on = |job: Job<'_, K>| -> Done<K>
+        requires { IsReady job }
+        ensures { HasWorked K.name job.entry result }
+    { work(alloc, gate, job) };
+    map_vec(rt, jobs, &work_on)
+}

@@ -1,0 +1,133 @@
+-- All stripes of a table are a whole: what a search sees in them is what stands in their contents.
+use Rattle.std.proofs.Common.{◌≡◌, ℕ, ◌*◌, ◌/◌, ◌%◌, ◌^◌, ◌<◌, ◌≤◌, Bool, true, false, List, [], ◌∷◌, Option, Some, None, IfNone, Result, Ok, Err, IfErr, length, map, refl, sym, ◌∙◌, ap, subst, arith}
+use Rattle.std.specs.Bool.{OnFalse}
+use Rattle.std.specs.Result.{IsErrAnd}
+use Rattle.std.proofs.Math.Nat.{mod-lt, mod-eq_of_lt}
+use Rattle.std.proofs.Math.Pow.{pow_mono}
+use Rattle.std.proofs.lemmas.Nat.{pow_pos}
+use Rattle.ck_model.specs.Arithmetic.{partial_of, index_of, alternate_of, second_of}
+use Rattle.ck_model.specs.Map.{Name}
+use Rattle.ck_model.specs.Numbered.{IsIn, numbers}
+use Rattle.ck_model.specs.Slots.{Slot}
+use Rattle.ck_model.specs.Contents.{Layout, Stripes, Lawful, row_at, rows_of, power_of, bucket_in}
+use Rattle.ck_model.specs.Sections.{HasAll}
+use Rattle.ck_model.specs.Paths.{sketch_in}
+use Rattle.ck_model.specs.Sketches.{Sketch, HasNoSketchPath}
+use Rattle.ck_model.proofs.Numbered.{in_held}
+use Rattle.ck_bucket.specs.Bucket.{partial_in}
+use Rattle.ck_path.proofs.ShownPaths.{sketches_show_paths}
+use Rattle.ck_stripe.specs.Stripe.{StripeState}
+use Rattle.ck_section.specs.Stripes.{stripe_at, bucket_at, contents_of}
+use Rattle.ck_section.specs.Places.{AreAllHeld}
+use Rattle.ck_section.specs.Whole.{AreSettled, IsTable}
+use Rattle.ck_section.specs.Calls.{layout}
+use Rattle.ck_section.specs.Room.{power_in, sketch_of, IsWithoutPath}
+use Rattle.ck_model.proofs.Rows.{rows_held, power_held}
+use Rattle.ck_section.proofs.Found.{holds_at}
+
+-- a bucket's stripe, as code finds it
+pub mask : (s : ℕ) → s ≤ 10 → 1 * 2 ^ s % 18446744073709551616 ≡ 2 ^ s
+mask s le = let z : 2 ^ s ≤ 2 ^ 10 = pow_mono le in let o : 1 * 2 ^ s ≡ 2 ^ s = omega arith in ap (λ n. n % 18446744073709551616) o ∙ mod-eq_of_lt (let below : 2 ^ s < 18446744073709551616 = omega arith in below)
+
+-- the second bucket of a hash, as code finds it
+pub second_by : (p h t n : ℕ) → t ≡ partial_of h → n ≡ index_of p h → alternate_of p t n ≡ second_of p h
+unfolding second_of
+second_by p h t n e f = λ z. alternate_of p (e z) (f z)
+
+pub none_maps : {A : Type 0} (o : Option A) (P Q : Type 0) → (P → Q) → IfNone o P → IfNone o Q
+none_maps None P Q f p = f p
+none_maps (Some a) P Q f p = tt
+
+pub err_maps : {A E : Type 0} (r : Result A E) (P Q : E → Type 0) → ((e : E) → P e → Q e) → IsErrAnd r P → IfErr r Q
+err_maps (Ok a) P Q f p = tt
+err_maps (Err e) P Q f p = f e p
+
+pub false_maps : (b : Bool) (P Q : Type 0) → (P → Q) → OnFalse b P → OnFalse b Q
+false_maps true P Q f p = tt
+false_maps false P Q f p = f p
+
+-- the power that contents show
+pub power_shown : {V : Type 0} (stripes : List (StripeState V)) → 0 < length stripes → power_of (contents_of stripes) ≡ power_in stripes
+power_shown [] lt = absurd (omega arith)
+power_shown (t ∷ ts) lt = refl
+
+pub power_same : {V : Type 0} (s : ℕ) (old new : List (StripeState V)) → IsTable s old → IsTable s new → contents_of new ≡ contents_of old → power_in new ≡ power_in old
+power_same s old new old_table new_table same =
+    sym (power_shown new (subst (λ n. 0 < n) (sym new_table.count) (pow_pos s))) ∙ ap power_of same ∙ power_shown old (subst (λ n. 0 < n) (sym old_table.count) (pow_pos s))
+
+module _ {V : Type 0} (s : ℕ) (stripes : List (StripeState V)) where
+  -- stripes that are held and settled are those of a table
+  pub table_of : AreAllHeld s stripes → IsTable s stripes
+  table_of all = record {
+    many = all.held.many;
+    count = all.count;
+    number = all.number;
+    one_s = all.held.one_s;
+    one_power = all.held.one_power;
+    least = all.held.least;
+    most = all.held.most;
+  }
+
+  -- and the other way round
+  pub held_of : IsTable s stripes → AreSettled stripes → AreAllHeld s stripes
+  held_of table settled = record {
+    held = record {
+      some = subst (λ n. 0 < n) (sym table.count) (pow_pos s);
+      many = table.many;
+      one_s = table.one_s;
+      settled = settled;
+      one_power = table.one_power;
+      least = table.least;
+      most = table.most;
+      rising = λ i j lt inside. rises i j lt inside;
+    };
+    count = table.count;
+    number = table.number;
+  }
+    where
+      within : (i j : ℕ) → i < j → j < length stripes → i < length stripes
+      within i j lt inside = omega arith
+
+      rises : (i j : ℕ) → i < j → j < length stripes → (stripe_at stripes i).number < (stripe_at stripes j).number
+      rises i j lt inside = subst (λ (x : ℕ × ℕ). x.0 < x.1) (λ z. (sym (table.number i (within i j lt inside)) z, sym (table.number j inside) z)) lt
+
+  module _ (table : IsTable s stripes) where
+    -- the stripe of a bucket is one of them
+    pub stripe_inside : (b : ℕ) → b % 2 ^ s < length stripes
+    stripe_inside b = subst (λ n. b % 2 ^ s < n) (sym table.count) (mod-lt b (pow_pos s))
+
+    module _ (hash : Name → ℕ) (max : ℕ) (lawful : Lawful (layout hash s max) (contents_of stripes)) where
+      abbrev k : Layout
+      k = layout hash s max
+
+      abbrev hs : Stripes V
+      hs = contents_of stripes
+
+      pub has_all : HasAll k hs
+      has_all t lt =
+          let inside : t < length stripes = subst (λ n. t < n) (sym table.count) lt in
+          subst (λ n. IsIn n (numbers hs)) (table.number t inside) (in_held hs (stripe_at stripes t).number (stripe_at stripes t).content (holds_at stripes t inside))
+
+      pub power_is : power_of hs ≡ power_in stripes
+      power_is = power_held k hs (stripe_at stripes 0).number (stripe_at stripes 0).content lawful (holds_at stripes 0 (subst (λ n. 0 < n) (sym table.count) (pow_pos s)))
+
+      -- a bucket of the contents is that of its stripe
+      pub bucket_is : (b : ℕ) → bucket_in k hs b ≡ bucket_at stripes (b % 2 ^ s) b
+      bucket_is b =
+          let i : ℕ = b % 2 ^ s in
+          let inside : i < length stripes = stripe_inside b in
+          let t : StripeState V = stripe_at stripes i in
+          ap (λ n. row_at (rows_of hs n) (b / 2 ^ s)) (sym (table.number i inside))
+          ∙ ap (λ (rows : List (List (Slot V))). row_at rows (b / 2 ^ s)) (rows_held hs t.number t.content lawful.distinct (holds_at stripes i inside))
+          ∙ ap (λ n. row_at t.content.rows (b / 2 ^ n)) (sym (table.one_s i inside))
+
+      pub sketches_are : sketch_of hash s stripes ≡ sketch_in k hs
+      sketches_are z b = map (partial_in hash) (sym (bucket_is b) z)
+
+  -- where a search of all stripes is over with no path, there is none in lawful contents
+  pub no_path_of : IsTable s stripes → (hash : Name → ℕ) (q : Name) (p : ℕ) → p ≡ power_in stripes → HasNoSketchPath p (sketch_of hash s stripes) (index_of p (hash q)) (second_of p (hash q)) → IsWithoutPath hash s stripes q
+  no_path_of table hash q p power none max lawful =
+      let k : Layout = layout hash s max in
+      let e : p ≡ power_of (contents_of stripes) = power ∙ sym (power_is table hash max lawful) in
+      (sketches_show_paths V k (contents_of stripes) q lawful (has_all table hash max lawful)).0
+      (subst (λ (x : ℕ × (ℕ → Sketch)). HasNoSketchPath x.0 x.1 (index_of x.0 (hash q)) (second_of x.0 (hash q))) (λ z. (e z, sketches_are table hash max lawful z)) none)

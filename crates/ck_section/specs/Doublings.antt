@@ -1,0 +1,32 @@
+-- What a doubling of all stripes of a table leaves.
+use Rattle.std.specs.Prelude.{◌≡◌, ℕ, ◌+◌, ◌<◌, List, length}
+use Rattle.ck_model.specs.Map.{Name}
+use Rattle.ck_model.specs.Contents.{Lawful}
+use Rattle.ck_model.specs.Sections.{IdentitySection}
+use Rattle.ck_model.specs.Doubling.{IsDoubledTo}
+use Rattle.ck_stripe.specs.Stripe.{StripeState, IsReserved}
+use Rattle.ck_section.specs.Stripes.{stripe_at, contents_of, doubled}
+use Rattle.ck_section.specs.Calls.{layout}
+
+module _ {V : Type 0} where
+  -- nothing but for how many rows the stripes have memory differs
+  pub record ChangesRoom (old new : List (StripeState V)) : Type 0 where
+    pub count : length new ≡ length old
+    pub each : (i : ℕ) → i < length old → stripe_at new i ≡ record (stripe_at old i) { room = (stripe_at new i).room }
+
+  -- there is memory for a doubling of each
+  abbrev pub AreReserved : List (StripeState V) → Type 0
+  AreReserved stripes = (i : ℕ) → i < length stripes → IsReserved (stripe_at stripes i)
+
+  -- Each stripe is at the next power and not yet settled; it may have memory for more rows.
+  pub record DoublesEach (hash : Name → ℕ) (old new : List (StripeState V)) : Type 0 where
+    pub count : length new ≡ length old
+    pub each : (i : ℕ) → i < length old → stripe_at new i ≡ record (doubled hash (stripe_at old i)) { room = (stripe_at new i).room }
+    pub power : (i : ℕ) → i < length old → (stripe_at new i).content.power ≡ (stripe_at old i).content.power + 1
+
+  -- Whatever greatest power above theirs there is, lawful stripes of a table of 2^s have doubled once, by no call.
+  pub record Grows (hash : Name → ℕ) (s : ℕ) (old new : List (StripeState V)) : Type 0 where
+    pub doubled : (max : ℕ) → (stripe_at old 0).content.power < max → Lawful (layout hash s max) (contents_of old)
+        → IsDoubledTo (layout hash s max) ((stripe_at old 0).content.power + 1) (contents_of old) (contents_of new)
+    pub no_call : (max : ℕ) → (stripe_at old 0).content.power < max → Lawful (layout hash s max) (contents_of old)
+        → IdentitySection (layout hash s max) (contents_of old) (contents_of new)

@@ -1,0 +1,93 @@
+//! All stripes of a table at once: how many entries they have, and their doubling.
+ghost use Rattle.std.specs.Prelude.{◌≡◌, ℕ, ◌≤◌, ◌<◌, OnOk, OnErr, length};
+ghost use Rattle.ck_model.specs.declared.history.Call.TheVariants.{Len};
+ghost use Rattle.ck_model.specs.declared.history.Reply.TheVariants.{Count};
+ghost use Rattle.ck_model.specs.Contents.{Lawful, pairs_of};
+ghost use Rattle.ck_model.specs.Sections.{Section};
+ghost use Rattle.ck_section.specs.Stripes.{stripe_at, contents_of, settled_stripes, doubled_stripes};
+ghost use Rattle.ck_section.specs.Calls.{layout};
+ghost use Rattle.ck_section.specs.Whole.{AreSettled, IsTable};
+ghost use Rattle.ck_section.specs.Doublings.{ChangesRoom, AreReserved, DoublesEach, Grows};
+
+use crate::held::Held;
+use ck_key::TableKey;
+use std::alloc::AllocError;
+
+/// Carries out the doublings that are left of the held stripes.
+pub fn settle_all<K: TableKey + Drop, V: Drop, H: Held<K, V>>(held: &mut H)
+    ensures settled { H.stripes held.new ≡ settled_stripes (H.stripes held.old) }
+    ensures stays { H.stays held.old held.new }
+{
+    for i in 0..held.count() {
+        held.settle(i);
+    }
+}
+
+/// The number of entries of a table of 2^s stripes, by their ledgers.
+pub fn len<K: TableKey + Drop, V: Drop, H: Held<K, V>>(held: &mut H, s: u32) -> u64
+    requires { IsTable s (H.stripes held.old) }
+    ensures value { result ≡ length (pairs_of (contents_of (H.stripes held.old))) }
+    ensures call { (max : ℕ) → Lawful (layout K.hash s max) (contents_of (H.stripes held.old))
+        → Section (layout K.hash s max) (contents_of (H.stripes held.old)) Len (Count result)
+        (contents_of (H.stripes held.new)) }
+    ensures same { H.stripes held.new ≡ H.stripes held.old }
+    ensures stays { H.stays held.old held.new }
+{
+    let mut entries = 0;
+    for i in 0..1usize << s {
+        entries += held.len(i);
+    }
+    entries
+}
+
+/// Doubles a table of 2^s stripes. The memory for all is taken first, by one request a stripe at most, so a refused
+/// request leaves each stripe at its power, with the same entries in the same slots.
+pub fn double_all<K: TableKey + Drop, V: Drop, H: Held<K, V>>(
+    held: &mut H,
+    s: u32,
+) -> Result<(), AllocError>
+    requires table { IsTable s (H.stripes held.old) }
+    requires settled { AreSettled (H.stripes held.old) }
+    requires below { (stripe_at (H.stripes held.old) 0).content.power < 26 }
+    ensures table { IsTable s (H.stripes held.new) }
+    ensures kept { OnErr result (ChangesRoom (H.stripes held.old) (H.stripes held.new)) }
+    ensures doubled { OnOk result (DoublesEach K.hash (H.stripes held.old) (H.stripes held.new)) }
+    ensures grown { OnOk result (Grows K.hash s (H.stripes held.old) (H.stripes held.new)) }
+    ensures stays { H.stays held.old held.new }
+{
+    let count = 1usize << s;
+    reserve_all(held, count)?;
+    raise_all(held, count);
+    Ok(())
+}
+
+// Takes the memory for a doubling of each of the `count` stripes that are held.
+fn reserve_all<K: TableKey + Drop, V: Drop, H: Held<K, V>>(
+    held: &mut H,
+    count: usize,
+) -> Result<(), AllocError>
+    requires count { length (H.stripes held.old) ≡ count }
+    requires settled { AreSettled (H.stripes held.old) }
+    ensures room { ChangesRoom (H.stripes held.old) (H.stripes held.new) }
+    ensures reserved { OnOk result (AreReserved (H.stripes held.new)) }
+    ensures stays { H.stays held.old held.new }
+{
+    for i in 0..count {
+        held.reserve_double(i)?;
+    }
+    Ok(())
+}
+
+// Raises the power of each of the `count` stripes that are held by one.
+fn raise_all<K: TableKey + Drop, V: Drop, H: Held<K, V>>(held: &mut H, count: usize)
+    requires count { length (H.stripes held.old) ≡ count }
+    requires settled { AreSettled (H.stripes held.old) }
+    requires reserved { AreReserved (H.stripes held.old) }
+    requires below { (i : ℕ) → i < count → (stripe_at (H.stripes held.old) i).content.power < 26 }
+    ensures doubled { H.stripes held.new ≡ doubled_stripes K.hash (H.stripes held.old) }
+    ensures stays { H.stays held.old held.new }
+{
+    for t in 0..count {
+        held.double(t);
+    }
+}

@@ -1,0 +1,131 @@
+-- Room for a name: which stripes are held with it, and what is left of a pass that made it among all of the table.
+use Rattle.std.proofs.Common.{◌≡◌, ◌⊎◌, ℕ, ◌%◌, ◌^◌, List, [], ◌∷◌, reverse, true, false, if◌then◌else◌, refl, inr, sym, ap, ◌∙◌, subst, arith}
+use Rattle.std.proofs.lemmas.List.Elements.{All-nil, All-cons}
+use Rattle.ck_key.specs.declared.key_hash.KeyHash.{KeyHash}
+use Rattle.ck_key.specs.Hashes.{IsHashOf}
+use Rattle.ck_model.specs.declared.history.Reason.{Reason}
+use Rattle.ck_model.specs.declared.history.Reason.TheVariants.{NoRoom}
+use Rattle.ck_model.specs.declared.settings.Settings.{Settings}
+use Rattle.ck_model.specs.Arithmetic.{index_of, second_of}
+use Rattle.ck_model.specs.Map.{Name}
+use Rattle.ck_model.specs.Contents.{Layout, Stripes, Lawful}
+use Rattle.ck_model.specs.Sections.{IdentitySection}
+use Rattle.ck_model.specs.Paths.{Grounds}
+use Rattle.ck_model.proofs.Buckets.{index_lower, second_lower}
+use Rattle.ck_stripe.specs.Stripe.{StripeState}
+use Rattle.ck_section.specs.declared.room.Lack as lack
+use Rattle.ck_section.specs.declared.room.Lack.TheVariants.{Memory, Full, LoadTooLow}
+use Rattle.ck_section.specs.Stripes.{stripe_at, contents_of}
+use Rattle.ck_section.specs.Places.{AreAllHeld, IsPlaceOf}
+use Rattle.ck_section.specs.Entries.{IsEntryOf}
+use Rattle.ck_section.specs.Calls.{IsWithoutRoom}
+use Rattle.ck_section.specs.Whole.{IsTable, AreSettled}
+use Rattle.ck_section.specs.Room as room
+use Rattle.ck_section.specs.Room.{power_in, AreBothSettled, KeepsBindings, MakesRoom}
+use Rattle.ck_section.proofs.Tables.{held_of}
+use Rattle.ck_section.proofs.Growing.{place_in}
+use Rattle.ck_core.specs.declared.view.View.{View}
+use Rattle.ck_words.specs.Rule.{counting, layout_of}
+use Rattle.ck_words.specs.Words.{WordsState}
+use Rattle.ck_words.specs.Passes.{PassState, pair}
+use Rattle.ck_words.specs.Retries.{Stays}
+use Rattle.ck_words.specs.Renewing.{HasRenewed, HasRefused}
+use Rattle.ck_words.specs.Closing.{IsWhole}
+use Rattle.ck_words.proofs.Staying.{stays_then}
+use Rattle.ck_words.proofs.Totals.{lawful_held}
+use Rattle.ck_words.proofs.Renewals.{renewed_none, renewed_then}
+use Rattle.ck_table.specs.declared.room.Room.{Room}
+use Rattle.ck_table.specs.Refusals.{why_of}
+use Rattle.ck_table.specs.Insertions.{numbers_in, reason_of, HoldsRoom, HasRoom, ShowsWhy, IsRefused}
+
+-- the stripes of the key alone
+pub numbers_own : (r : Room) → r.all ≡ false → numbers_in r ≡ pair r.spot.low r.spot.high
+numbers_own r own = ap (λ b. if b then counting 0 (2 ^ r.spot.place.s) else pair r.spot.low r.spot.high) own
+
+-- or all
+pub numbers_all : (r : Room) → r.all ≡ true → numbers_in r ≡ counting 0 (2 ^ r.spot.place.s)
+numbers_all r all = ap (λ b. if b then counting 0 (2 ^ r.spot.place.s) else pair r.spot.low r.spot.high) all
+
+-- the reason of a refusal for a lack is that of the lack
+reason_same : (l : lack.Lack) → reason_of (why_of l) ≡ room.reason_of l
+reason_same Memory = refl
+reason_same Full = refl
+reason_same LoadTooLow = refl
+
+module _ {V : Type 0} where
+  -- where a name may be among all stripes, of which its own two are settled
+  pub placed : (s : ℕ) (stripes : List (StripeState V)) → IsTable s stripes → (hash : Name → ℕ) (q : Name) → AreBothSettled hash s stripes q → (h : KeyHash) → IsHashOf hash q h
+      → (first second : ℕ) → first ≡ index_of (power_in stripes) (hash q) → second ≡ second_of (power_in stripes) (hash q)
+      → IsPlaceOf hash stripes q (record { s = s; partial = h.partial; first = record { index = first % 2 ^ s; bucket = first }; alternate = record { index = second % 2 ^ s; bucket = second } })
+  placed s stripes table hash q both h of first second one two =
+      let p : ℕ = power_in stripes in
+      let low : first % 2 ^ s ≡ index_of s (hash q) = ap (λ n. n % 2 ^ s) one ∙ index_lower s p (hash q) table.least in
+      let high : second % 2 ^ s ≡ second_of s (hash q) = ap (λ n. n % 2 ^ s) two ∙ second_lower s p (hash q) table.least in
+      let S : ℕ → Type 0 = λ i. (stripe_at stripes i).settled ≡ true in
+      place_in s stripes table hash q h first second of one two (subst S (sym low) both.first) (subst S (sym high) both.second)
+
+  shows_lack : (set : Settings) (q : Name) (l : lack.Lack) (p z : PassState V) → ShowsWhy set q (why_of l) ((q, room.reason_of l) ∷ []) p z
+  shows_lack set q Memory p z = (0, omega arith, refl)
+  shows_lack set q Full p z = (0, omega arith, refl)
+  shows_lack set q LoadTooLow p z = (0, omega arith, refl)
+
+  -- All stripes were taken from p to p1, and are held as p2 since.
+  module _ (p p1 p2 : PassState V) (stays : Stays p.view p1.view) (same : p2.view ≡ p1.view) where
+    stays_there : Stays p.view p2.view
+    stays_there = subst (Stays p.view) (sym same) stays
+
+    -- room was made among them
+    pub room_there : {hash : Name → ℕ} {set : Settings} {q : Name} {r : Room} → HoldsRoom hash set q r p2 → HasRoom hash set q r p p2
+    room_there held = record { more = []; own = All-nil _; stays = stays_there; held = held }
+
+    -- none could be made, and they went home
+    pub refused_there : (set : Settings) (q : Name) (w : WordsState) (l : lack.Lack) (z : PassState V) → HasRefused w q (room.reason_of l) p2 z → IsRefused set q (why_of l) p z
+    refused_there set q w l z r =
+        let why : Reason = room.reason_of l in
+        let Own : Name × Reason → Type 0 = λ x. (x ≡ (q, NoRoom)) ⊎ (x ≡ (q, reason_of (why_of l))) in
+        record {
+          more = (q, why) ∷ [];
+          stays = stays_then [] ((q, why) ∷ []) p.view p2.view z.view stays_there r.stays;
+          own = All-cons Own (q, why) [] (inr (ap (λ (x : Reason). (q, x)) (sym (reason_same l)))) (All-nil Own);
+          shown = shows_lack set q l p z;
+        }
+
+  -- All stripes were taken as p1, where w and v are one table.
+  module _ {hash : Name → ℕ} {w v : WordsState} {set : Settings} (is : v ≡ w) (value : set ≡ v.settings) (q : Name) (p1 : PassState V) (whole : IsWhole hash w.settings p1) where
+    set_is : set ≡ w.settings
+    set_is = value ∙ ap (λ (x : WordsState). x.settings) is
+
+    abbrev k : Layout
+    k = layout_of hash set
+
+    lawful_taken : Lawful k (contents_of p1.stripes)
+    lawful_taken = subst (λ (x : Settings). Lawful (layout_of hash x) (contents_of p1.stripes)) (sym set_is) (lawful_held hash w.settings p1 whole)
+
+    pub all_there : AreSettled p1.stripes → IsTable w.settings.s p1.stripes → AreAllHeld set.s p1.stripes
+    all_there settled table = held_of set.s p1.stripes (subst (λ (x : Settings). IsTable x.s p1.stripes) (sym set_is) table) settled
+
+    -- and are p2 since
+    module _ (p2 : PassState V) (same : p2.view ≡ p1.view) (keeps : KeepsBindings k p1.stripes p2.stripes) where
+      pub renewed_there : HasRenewed hash w.settings p2
+      renewed_there = renewed_then hash w.settings p1 p2 (ap (λ (x : View V). x.held) same) (renewed_none hash w.settings p1 whole.unchanged)
+          (subst (λ (x : Settings). KeepsBindings (layout_of hash x) p1.stripes p2.stripes) set_is keeps)
+
+      -- what is lacked is the reason to refuse the name
+      pub grounds_there : (l : lack.Lack) → room.IsRefused k set.min_load p1.stripes p2.stripes q l
+          → Lawful (layout_of hash w.settings) (reverse p2.view.held) → Grounds (layout_of hash w.settings) w.settings.min_load (contents_of p2.stripes) q (room.reason_of l)
+      grounds_there l refused held = subst (λ (x : Settings). Grounds (layout_of hash x) x.min_load (contents_of p2.stripes) q (room.reason_of l)) set_is (refused lawful_taken)
+
+      -- where there is room, there is an entry
+      pub has_entry : MakesRoom k p1.stripes p2.stripes q → (s : ℕ) (stripes : List (StripeState V)) → s ≡ set.s → stripes ≡ p2.stripes → ¬ (IsWithoutRoom hash s stripes q)
+      has_entry made s stripes of_table kept none =
+          let here : IsWithoutRoom hash set.s p2.stripes q = subst (λ (x : ℕ × List (StripeState V)). IsWithoutRoom hash x.0 x.1 q) (λ i. (of_table i, kept i)) none in
+          made lawful_taken (here set.max (keeps lawful_taken).renewed.lawful)
+
+      -- and the entry was found
+      pub holds_there : (p3 p4 : PassState V) → p3.stripes ≡ p2.stripes → p4.stripes ≡ p3.stripes → p4.view ≡ p2.view → (r : Room) → IsPlaceOf hash p2.stripes q r.spot.place → r.spot.place.s ≡ set.s → IsEntryOf hash p3.stripes q r.spot.place r.entry → HoldsRoom hash w.settings q r p4
+      holds_there p3 p4 one two view r at of_table entry = record {
+        at = subst (λ (ss : List (StripeState V)). IsPlaceOf hash ss q r.spot.place) (sym (two ∙ one)) at;
+        s = of_table ∙ ap (λ (x : Settings). x.s) set_is;
+        entry = subst (λ (ss : List (StripeState V)). IsEntryOf hash ss q r.spot.place r.entry) (sym two) entry;
+        renewed = subst (λ (x : Stripes V × Stripes V). Lawful (layout_of hash w.settings) (reverse x.0) → IdentitySection (layout_of hash w.settings) (reverse x.0) x.1) (λ i. (ap (λ (x : View V). x.held) (sym view) i, ap contents_of (sym (two ∙ one)) i)) renewed_there;
+      }

@@ -1,0 +1,190 @@
+//! Room for a key: its entry among the stripes that its pass holds, which are those of the key or all of the table.
+ghost use Rattle.std.specs.Prelude.{◌≡◌, ◌≤◌, ◌^◌, ◌%◌, true, IsSome, OnErr, IfOk, IfErr, reverse};
+ghost use Rattle.ck_key.specs.Hashes.{IsHashOf};
+ghost use Rattle.ck_model.specs.declared.history.Reply.{Reply};
+ghost use Rattle.ck_model.specs.Contents.{Lawful};
+ghost use Rattle.ck_model.specs.Paths.{Grounds};
+ghost use Rattle.ck_section.specs.Stripes.{contents_of};
+ghost use Rattle.ck_section.specs.Places.{IsPlaceOf};
+ghost use Rattle.ck_section.specs.Whole.{IsTable, AreSettled};
+ghost use Rattle.ck_section.specs.Room.{AreBothSettled, reason_of};
+ghost use Rattle.ck_words.specs.Rule.{counting, layout_of};
+ghost use Rattle.ck_words.specs.Passes.{IsPassOf, IsIdle, numbers_of};
+ghost use Rattle.ck_words.specs.Lending.{list_of};
+ghost use Rattle.ck_words.specs.Retries.{FindsAmong};
+ghost use Rattle.ck_words.specs.Renewing.{HasRenewed};
+ghost use Rattle.ck_words.specs.Closing.{IsCaller, IsWhole};
+ghost use Rattle.ck_words.specs.Commits.{call_of};
+ghost use Rattle.ck_words.specs.Answering.{HasDone, HasCommitted};
+ghost use Rattle.ck_table.specs.Refusals.{IsStripeIn};
+ghost use Rattle.ck_table.specs.Insertions.{numbers_in, HoldsRoom, HasRoom, IsRefused};
+
+use crate::holding::Spot;
+use crate::refusal::{Busy, Why};
+use crate::search::stripe_of;
+use crate::table::Table;
+use ck_key::{KeyHash, TableKey, alternate, index};
+use ck_section::{Entry, Held, HeldBucket, KeyPlace, Lack, find_entry, make_room};
+use ck_words::{Commit, Lent, Numbers, Pass};
+
+// Where a key may be among the stripes that its pass holds, and its entry there.
+#[derive(Clone, Copy)]
+pub(crate) struct Room {
+    pub(crate) spot: Spot,
+    pub(crate) entry: Entry,
+    // Whether the pass holds all stripes of the table, and not those of the key alone.
+    pub(crate) all: bool,
+}
+
+impl Room {
+    // The stripes, as they are lent.
+    #[inline(always)]
+    pub(crate) fn numbers(self) -> Numbers
+        requires { self.spot.place.s ≤ 10 }
+        ensures { list_of result ≡ numbers_in self }
+    {
+        if self.all {
+            return Numbers::all(self.spot.place.s);
+        }
+        self.spot.numbers()
+    }
+}
+
+impl<K: TableKey + Drop, V: Drop> Table<K, V> {
+    // Decides the call with what the held stripes contain now, and gives them back.
+    #[inline(always)]
+    pub(crate) fn commit_room(&self, pass: &mut Pass<K, V>, room: Room, call: Commit<K, V>)
+        requires own { IsPassOf self.now pass.old }
+        requires s { room.spot.place.s ≡ self.now.settings.s }
+        requires numbered { numbers_of pass.old.stripes ≡ numbers_in room }
+        requires caller { IsSome pass.old.view.by }
+        requires done { (reply : Reply V)
+            × HasDone K.hash self.now.settings (call_of K.name call) reply pass.old }
+        ensures { HasCommitted K.hash self.now (call_of K.name call) pass.old pass.new }
+    {
+        if room.all {
+            self.commit_table(pass, call);
+        } else {
+            self.words.commit(pass, room.spot.low, room.spot.high, call);
+        }
+    }
+
+    // The same where all stripes are held.
+    #[cold]
+    #[inline(never)]
+    fn commit_table(&self, pass: &mut Pass<K, V>, call: Commit<K, V>)
+        requires own { IsPassOf self.now pass.old }
+        requires numbered { numbers_of pass.old.stripes ≡ counting 0 (2 ^ self.now.settings.s) }
+        requires caller { IsSome pass.old.view.by }
+        requires done { (reply : Reply V)
+            × HasDone K.hash self.now.settings (call_of K.name call) reply pass.old }
+        ensures { HasCommitted K.hash self.now (call_of K.name call) pass.old pass.new }
+    {
+        self.words.commit_all(pass, call);
+    }
+
+    // Takes all stripes and makes room for the key there, by a displacement or by growing. It keeps them, with the entry of
+    // the key. Where it can't make room, all have gone home with what they contain then, and the pass has told the reason.
+    pub(crate) fn make_room_in_all(&self, pass: &mut Pass<K, V>, key: &K) -> Result<Room, Why>
+        requires caller { IsCaller self.now pass.old }
+        ensures own { IsPassOf self.now pass.new }
+        ensures room { IfOk result (λ room.
+            HasRoom K.hash self.now.settings (K.name key.now) room pass.old pass.new) }
+        ensures numbered { IfOk result (λ room. numbers_of pass.new.stripes ≡ numbers_in room) }
+        ensures found { FindsAmong (IsStripeIn self.now.settings) pass.old pass.new }
+        ensures idle { OnErr result (IsIdle pass.new) }
+        ensures refused { IfErr result (λ why.
+            IsRefused self.now.settings (K.name key.now) why pass.old pass.new) }
+    {
+        if let Err(Busy(stripe)) = self.hold_table(pass) {
+            return Err(Why::Busy(stripe));
+        }
+        match self.make_room_held(pass, key) {
+            Ok(room) => Ok(room),
+            Err(lack) => {
+                self.words.refuse_all(pass, key, lack);
+                Err(Why::of(lack))
+            }
+        }
+    }
+
+    // Makes room for the key among all stripes, which the pass has just taken.
+    fn make_room_held(&self, pass: &mut Pass<K, V>, key: &K) -> Result<Room, Lack>
+        requires own { IsPassOf self.now pass.old }
+        requires whole { IsWhole K.hash self.now.settings pass.old }
+        requires table { IsTable self.now.settings.s pass.old.stripes }
+        requires settled { AreSettled pass.old.stripes }
+        ensures own { IsPassOf self.now pass.new }
+        ensures view { pass.new.view ≡ pass.old.view }
+        ensures numbered { numbers_of pass.new.stripes ≡ counting 0 (2 ^ self.now.settings.s) }
+        ensures renewed { HasRenewed K.hash self.now.settings pass.new }
+        ensures all { IfOk result (λ room. room.all ≡ true) }
+        ensures room { IfOk result (λ room.
+            HoldsRoom K.hash self.now.settings (K.name key.now) room pass.new) }
+        ensures grounds { IfErr result (λ lack.
+            Lawful (layout_of K.hash self.now.settings) (reverse pass.new.view.held)
+            → Grounds (layout_of K.hash self.now.settings) self.now.settings.min_load
+            (contents_of pass.new.stripes) (K.name key.now) (reason_of lack)) }
+    {
+        let settings = self.words.settings();
+        let s = settings.s;
+        let hash = KeyHash::of(key);
+        let mut lent = Lent {
+            words: &self.words,
+            pass,
+            numbers: Numbers::all(s),
+            s,
+        };
+        make_room(&mut lent, s, key, hash, settings.max, settings.min_load)?;
+        let place = place_in_table(&mut lent, s, key, hash);
+        let Some(entry) = find_entry(&mut lent, place, key) else {
+            unreachable!()
+        };
+        let (low, high) = hash.stripes(s);
+        Ok(Room {
+            spot: Spot {
+                low: low as usize,
+                high: high as usize,
+                place,
+            },
+            entry,
+            all: true,
+        })
+    }
+}
+
+// Where the key, whose hash the caller has at hand, may be among all stripes of a table of 2^s. Its own two are settled.
+fn place_in_table<K: TableKey, V, H: Held<K, V>>(
+    held: &mut H,
+    s: u32,
+    _key: &K,
+    hash: KeyHash,
+) -> KeyPlace
+    requires table { IsTable s (H.stripes held.old) }
+    requires hash { IsHashOf K.hash (K.name _key.now) hash }
+    requires settled { AreBothSettled K.hash s (H.stripes held.old) (K.name _key.now) }
+    ensures place { IsPlaceOf K.hash (H.stripes held.old) (K.name _key.now) result }
+    ensures s { result.s ≡ s }
+    ensures same { H.stripes held.new ≡ H.stripes held.old }
+    ensures stays { H.stays held.old held.new }
+{
+    let power = held.power(0);
+    let first = index(power, hash.hash);
+    KeyPlace {
+        s,
+        partial: hash.partial,
+        first: bucket_in_table(s, first),
+        alternate: bucket_in_table(s, alternate(power, hash.partial, first)),
+    }
+}
+
+// A bucket of a table of 2^s stripes that are all held, so that a stripe's position is its number.
+fn bucket_in_table(s: u32, bucket: u64) -> HeldBucket
+    requires { s ≤ 10 }
+    ensures { result ≡ record { index = bucket % 2 ^ s; bucket = bucket } }
+{
+    HeldBucket {
+        index: stripe_of(s, bucket),
+        bucket,
+    }
+}

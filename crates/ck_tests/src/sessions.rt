@@ -1,0 +1,372 @@
+//! Sessions: a table under one caller, which may bind more keys than the table has room for when it is locked.
+ghost use Rattle.std.specs.Prelude.{◌≡◌};
+ghost use Rattle.ck_table.specs.Callers.{IsSameCaller};
+
+use crate::fixtures::{FOUR_BUCKETS, NumCaller, NumLocked, Shape, name_of, open};
+use ck_key::NumKey;
+use ck_model::history::Name;
+use ck_oracle::map::PlainMap;
+use ck_table::{Refused, Why};
+use rand_core::Rng;
+use rand_pcg::Lcg64Xsh32;
+use std::alloc::{AllocError, Global};
+use std::process::Abort;
+use std::test::Fail;
+
+/// A call in a session.
+#[derive(Clone, Copy, PartialEq, Eq)]
+enum Call {
+    Find(u64),
+    Insert(u64, u64),
+    Erase(u64),
+    Len,
+}
+
+/// What a call is answered.
+#[derive(Clone, Copy, PartialEq, Eq)]
+enum Reply {
+    Was(Option<u64>),
+    /// The key was unbound, and is bound now.
+    Fresh(bool),
+    Count(u64),
+    /// Key and value came back.
+    Back(u64, u64, Why),
+}
+
+fn insert(locked: &mut NumLocked<'_>, key: u64, value: u64) -> Reply
+    ensures { locked.new.table ≡ locked.old.table }
+{
+    match locked.insert(NumKey(key), value) {
+        Ok(fresh) => Reply::Fresh(fresh),
+        Err(Refused { key, value, why }) => Reply::Back(key.0, value, why),
+    }
+}
+
+/// Makes the call.
+fn answer(locked: &mut NumLocked<'_>, call: Call) -> Reply
+    ensures { locked.new.table ≡ locked.old.table }
+{
+    match call {
+        Call::Find(key) => Reply::Was(locked.find(&NumKey(key)).copied()),
+        Call::Insert(key, value) => insert(locked, key, value),
+        Call::Erase(key) => Reply::Was(locked.erase(&NumKey(key))),
+        Call::Len => Reply::Count(locked.len()),
+    }
+}
+
+/// A session from the empty table on, with calls and their replies, and the pairs and the power that it leaves.
+#[derive(Clone, Copy)]
+struct Session {
+    what: &'static str,
+    shape: Shape,
+    calls: &'static [(Call, Reply)],
+    end: &'static [(NumKey, u64)],
+    power: u32,
+}
+
+/// As `TWO_STRIPES`.
+const MAY_GROW: Shape = Shape {
+    s: 1,
+    power: 2,
+    max: 20,
+    rounds: 4,
+};
+
+/// Keys `b` times this have partial 0 and the bucket 0 at each power up to 40, so they all have the same two buckets.
+const APART: u64 = 282_574_488_338_432;
+
+const SESSIONS: [Session; 3] = [
+    Session {
+        what: "a bound key keeps its value",
+        shape: MAY_GROW,
+        calls: &[
+            (Call::Insert(1, 10), Reply::Fresh(true)),
+            (Call::Insert(1, 11), Reply::Fresh(false)),
+            (Call::Find(1), Reply::Was(Some(10))),
+            (Call::Len, Reply::Count(1)),
+            (Call::Insert(2, 20), Reply::Fresh(true)),
+            (Call::Len, Reply::Count(2)),
+            (Call::Erase(1), Reply::Was(Some(10))),
+            (Call::Erase(1), Reply::Was(None)),
+            (Call::Insert(1, 12), Reply::Fresh(true)),
+        ],
+        end: &[(NumKey(1), 12), (NumKey(2), 20)],
+        power: 2,
+    },
+    Session {
+        what: "the one bucket of these keys is full, and the table may not grow",
+        shape: FOUR_BUCKETS,
+        calls: &[
+            (Call::Insert(3, 30), Reply::Fresh(true)),
+            (Call::Insert(7, 70), Reply::Fresh(true)),
+            (Call::Insert(11, 110), Reply::Fresh(true)),
+            (Call::Insert(15, 150), Reply::Fresh(true)),
+            (Call::Insert(19, 190), Reply::Back(19, 190, Why::Full)),
+            (Call::Find(19), Reply::Was(None)),
+            (Call::Insert(7, 71), Reply::Fresh(false)),
+            (Call::Len, Reply::Count(4)),
+            (Call::Erase(3), Reply::Was(Some(30))),
+            (Call::Insert(19, 191), Reply::Fresh(true)),
+        ],
+        end: &[
+            (NumKey(7), 70),
+            (NumKey(11), 110),
+            (NumKey(15), 150),
+            (NumKey(19), 191),
+        ],
+        power: 2,
+    },
+    Session {
+        what: "nine keys of the same two buckets, until too few slots are taken",
+        shape: MAY_GROW,
+        calls: &[
+            (Call::Insert(APART, 1), Reply::Fresh(true)),
+            (Call::Insert(2 * APART, 2), Reply::Fresh(true)),
+            (Call::Insert(3 * APART, 3), Reply::Fresh(true)),
+            (Call::Insert(4 * APART, 4), Reply::Fresh(true)),
+            (Call::Insert(5 * APART, 5), Reply::Fresh(true)),
+            (Call::Insert(6 * APART, 6), Reply::Fresh(true)),
+            (Call::Insert(7 * APART, 7), Reply::Fresh(true)),
+            (Call::Insert(8 * APART, 8), Reply::Fresh(true)),
+            (
+                Call::Insert(9 * APART, 9),
+                Reply::Back(9 * APART, 9, Why::LoadTooLow),
+            ),
+            (Call::Len, Reply::Count(8)),
+        ],
+        end: &[
+            (NumKey(APART), 1),
+            (NumKey(2 * APART), 2),
+            (NumKey(3 * APART), 3),
+            (NumKey(4 * APART), 4),
+            (NumKey(5 * APART), 5),
+            (NumKey(6 * APART), 6),
+            (NumKey(7 * APART), 7),
+            (NumKey(8 * APART), 8),
+        ],
+        power: 6,
+    },
+];
+
+fn make_calls(rt: &impl Abort, locked: &mut NumLocked<'_>, session: &Session)
+    ensures { locked.new.table ≡ locked.old.table }
+{
+    let what = session.what;
+    for (number, (call, want)) in session.calls.iter().enumerate() {
+        let reply = answer(locked, *call);
+        assert!(rt; reply == *want, "{what}: call {number}");
+    }
+}
+
+/// After the session another caller finds what it left, at the power that it left.
+#[test]
+fn sessions(rt: HostRuntime) -> Result<(), Fail> {
+    for session in &SESSIONS {
+        let what = session.what;
+        let (table, first, second, _) = open(rt.alloc(), session.shape)?;
+        let Ok(mut locked) = table.caller(first).lock() else {
+            return Err(Fail::from("a table that was not locked"));
+        };
+        make_calls(&rt, &mut locked, session);
+        let pairs = locked.export(rt.alloc());
+        locked.unlock();
+        assert!(rt; pairs?.as_slice() == session.end, "{what}");
+        let mut second = table.caller(second);
+        let power = second.power();
+        assert!(rt; power == Ok(session.power), "{what}");
+        finds_all(&rt, &mut second, session);
+    }
+    Ok(())
+}
+
+fn finds_all(rt: &impl Abort, caller: &mut NumCaller<'_>, session: &Session) {
+    let what = session.what;
+    for (key, value) in session.end {
+        let found = caller.find(key);
+        assert!(rt; found == Ok(Some(*value)), "{what}: key {}", key.0);
+    }
+}
+
+/// Two buckets in two stripes, which become 2^12 at most.
+const TO_TWELVE: Shape = Shape {
+    s: 1,
+    power: 1,
+    max: 12,
+    rounds: 4,
+};
+
+const KEYS: u64 = 700;
+
+/// More than two buckets have room for.
+const CROWD: u64 = 12;
+
+/// A key below `KEYS`, or one time in eight one of those that all have the same two buckets.
+fn any_key(random: &mut Lcg64Xsh32) -> u64 {
+    let key = random.next_u64() % KEYS;
+    if random.next_u32() % 8 == 0 {
+        (key % CROWD).saturating_mul(APART)
+    } else {
+        key
+    }
+}
+
+fn any_call(random: &mut Lcg64Xsh32) -> Call {
+    let key = any_key(random);
+    match random.next_u32() % 8 {
+        0 | 1 => Call::Find(key),
+        2 => Call::Erase(key),
+        3 => Call::Len,
+        _ => Call::Insert(key, random.next_u64()),
+    }
+}
+
+/// Makes the call on the plain map.
+fn answer_plain(plain: &mut PlainMap, name: &Name, call: Call) -> Result<Reply, AllocError> {
+    let bound = plain.get(name);
+    match call {
+        Call::Find(_) => Ok(Reply::Was(bound)),
+        Call::Insert(_, value) => {
+            if bound.is_none() {
+                plain.insert(name, value)?;
+            }
+            Ok(Reply::Fresh(bound.is_none()))
+        }
+        Call::Erase(_) => {
+            plain.remove(name);
+            Ok(Reply::Was(bound))
+        }
+        Call::Len => Ok(Reply::Count(plain.len() as u64)),
+    }
+}
+
+fn key_of(call: Call) -> u64 {
+    match call {
+        Call::Find(key) | Call::Insert(key, _) | Call::Erase(key) => key,
+        Call::Len => 0,
+    }
+}
+
+/// Makes the call on both, and says whether the replies are the same. Where there is no room for a key, it is unbound in the
+/// plain map too.
+fn agree(
+    alloc: Global,
+    locked: &mut NumLocked<'_>,
+    plain: &mut PlainMap,
+    call: Call,
+) -> Result<bool, AllocError>
+    ensures { locked.new.table ≡ locked.old.table }
+{
+    let reply = answer(locked, call);
+    let name = name_of(alloc, key_of(call))?;
+    match reply {
+        Reply::Back(key, value, Why::Full | Why::LoadTooLow) => {
+            Ok(call == Call::Insert(key, value) && plain.get(&name).is_none())
+        }
+        _ => Ok(reply == answer_plain(plain, &name, call)?),
+    }
+}
+
+/// Whether all pairs are those of the plain map.
+fn exports_same(
+    alloc: Global,
+    locked: &NumLocked<'_>,
+    plain: &PlainMap,
+) -> Result<bool, AllocError> {
+    let pairs = locked.export(alloc)?;
+    for (key, value) in &pairs {
+        if plain.get(&name_of(alloc, key.0)?) != Some(*value) {
+            return Ok(false);
+        }
+    }
+    Ok(pairs.len() == plain.len())
+}
+
+/// A thousand random calls on both, and then all pairs.
+fn make_random_calls(
+    rt: &impl Abort,
+    alloc: Global,
+    random: &mut Lcg64Xsh32,
+    locked: &mut NumLocked<'_>,
+    plain: &mut PlainMap,
+) -> Result<(), AllocError>
+    ensures { locked.new.table ≡ locked.old.table }
+{
+    for number in 0..1000u32 {
+        let same = agree(alloc, locked, plain, any_call(random))?;
+        assert!(rt; same, "call {number}");
+    }
+    let same = exports_same(alloc, locked, plain)?;
+    assert!(rt; same, "pairs");
+    Ok(())
+}
+
+/// A session of ten thousand random calls.
+fn random_session(
+    rt: &impl Abort,
+    alloc: Global,
+    random: &mut Lcg64Xsh32,
+    caller: NumCaller<'_>,
+    plain: &mut PlainMap,
+) -> Result<(), Fail> {
+    let Ok(mut locked) = caller.lock() else {
+        return Err(Fail::from("a table that was not locked"));
+    };
+    let mut made = Ok(());
+    for _ in 0..10 {
+        if made.is_ok() {
+            made = make_random_calls(rt, alloc, random, &mut locked, plain);
+        }
+    }
+    locked.unlock();
+    made?;
+    Ok(())
+}
+
+/// Whether the caller finds the key as the plain map has it.
+fn finds_same(
+    alloc: Global,
+    caller: &mut NumCaller<'_>,
+    plain: &PlainMap,
+    key: u64,
+) -> Result<bool, AllocError>
+    ensures { IsSameCaller caller.old caller.new }
+{
+    let want = plain.get(&name_of(alloc, key)?);
+    Ok(caller.find(&NumKey(key)) == Ok(want))
+}
+
+fn finds_all_same(
+    rt: &impl Abort,
+    alloc: Global,
+    caller: &mut NumCaller<'_>,
+    plain: &PlainMap,
+) -> Result<(), Fail> {
+    for key in 0..KEYS {
+        let same = finds_same(alloc, caller, plain, key)?;
+        assert!(rt; same, "key {key}");
+    }
+    for b in 0..CROWD {
+        let same = finds_same(alloc, caller, plain, b.saturating_mul(APART))?;
+        assert!(rt; same, "key {b} of the crowd");
+    }
+    let count = caller.len();
+    assert!(rt; count == Ok(plain.len() as u64));
+    Ok(())
+}
+
+/// Two callers have a session each, and a third finds what they left.
+#[test]
+fn random_sessions(rt: HostRuntime) -> Result<(), Fail> {
+    let alloc = rt.alloc();
+    let mut random = Lcg64Xsh32::new(2026, 2);
+    let mut plain = PlainMap::new(alloc);
+    let (table, first, second, third) = open(alloc, TO_TWELVE)?;
+    let mut third = table.caller(third);
+    random_session(&rt, alloc, &mut random, table.caller(first), &mut plain)?;
+    finds_all_same(&rt, alloc, &mut third, &plain)?;
+    let power = third.power();
+    assert!(rt; power == Ok(12));
+    random_session(&rt, alloc, &mut random, table.caller(second), &mut plain)?;
+    finds_all_same(&rt, alloc, &mut third, &plain)?;
+    Ok(())
+}

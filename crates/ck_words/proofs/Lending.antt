@@ -1,0 +1,55 @@
+-- The stripes of a pass are lent to calls.
+use Rattle.std.proofs.Common.{◌≡◌, ℕ, ◌%◌, ◌^◌, ◌<◌, List, [], ◌∷◌, zero, suc, length, get_or, reverse, sym, ap, ◌∙◌, subst, arith}
+use Rattle.ck_model.specs.Numbered.{IsIn, numbers}
+use Rattle.ck_stripe.specs.Stripe.{StripeState}
+use Rattle.ck_section.specs.Stripes.{stripe_at, contents_of, IsInReach}
+use Rattle.ck_words.specs.Words.{WordsState}
+use Rattle.ck_words.specs.Passes.{PassState, EachOf, IsSeated, IsPassOf, stripes_in, held_in, state_of, numbers_of}
+use Rattle.ck_words.specs.InPlace.{StripeSeat, HoldsAt, Puts}
+use Rattle.ck_words.proofs.Settling.{counts, named}
+use Rattle.ck_words.proofs.Reversed.{reverse-cons, map-reverse, in_of_reverse}
+use Rattle.ck_words.proofs.Seating.{each_append, numbers-contents}
+use Rattle.ck_words.proofs.Taking.{in_list}
+use Rattle.ck_words.proofs.Turning.{stands_at, same_numbers}
+
+module _ {V : Type 0} where
+  each_reverse : (n : ℕ) (ss : List (StripeState V)) → EachOf n ss → EachOf n (reverse ss)
+  each_reverse n [] e = tt
+  each_reverse n (s ∷ ss) e = subst (EachOf n) (sym (reverse-cons s ss)) (each_append n (reverse ss) s (each_reverse n ss e.1) e.0)
+
+  pub each_at : (n : ℕ) (ss : List (StripeState V)) → EachOf n ss → (i : ℕ) → i < length ss → (stripe_at ss i).s ≡ n
+  each_at n [] e i h = absurd (omega arith)
+  each_at n (s ∷ ss) e zero h = e.0
+  each_at n (s ∷ ss) e (suc i) h = each_at n ss e.1 i (omega arith)
+
+module _ {V : Type 0} (old : StripeSeat V) (p : PassState V) (is : state_of old.table_id old.me ≡ p) (w : WordsState) (own : IsPassOf w p) (ns : List ℕ) (numbered : numbers_of p.stripes ≡ ns) where
+  -- stripe i of the pass is the one of the i-th number
+  pub lends : (view : WordsState) (i n t : ℕ) → view ≡ w → IsSeated old.table_id old.me → i < length p.stripes → n ≡ length ns → t ≡ get_or ns i 0 → HoldsAt view.table n i t old
+  lends view i n t same s inside count number =
+      let all = counts p ns numbered in
+      stands_at old p view.table n i t s is (own.0 ∙ sym (ap (λ (x : WordsState). x.table) same)) (omega arith) (omega arith) (named p ns i numbered (omega arith) ∙ sym number)
+
+  -- stripe i of the pass is the one of a bucket that is in its reach
+  pub lends_own : (view : WordsState) (i n t b s : ℕ) → view ≡ w → IsSeated old.table_id old.me → n ≡ length ns → s ≡ w.settings.s → IsInReach p.stripes i b → t ≡ b % 2 ^ s → HoldsAt view.table n i t old
+  lends_own view i n t b s same seated count is_s reach number =
+      let all = counts p ns numbered in
+      let inside : i < length p.stripes = reach.inside in
+      let each : EachOf old.me.0.settings.s p.stripes = subst (λ (q : PassState V). EachOf old.me.0.settings.s q.stripes) is (each_reverse old.me.0.settings.s (stripes_in old.me.1) seated.one_s) in
+      let one : old.me.0.settings.s ≡ w.settings.s = ap (λ (q : PassState V). q.view.settings.s) is ∙ ap (λ set. set.s) own.1 in
+      let of : (stripe_at p.stripes i).s ≡ s = each_at old.me.0.settings.s p.stripes each i inside ∙ (one ∙ sym is_s) in
+      stands_at old p view.table n i t seated is (own.0 ∙ sym (ap (λ (x : WordsState). x.table) same)) (omega arith) (omega arith) (sym reach.own.1 ∙ (ap (λ m. b % 2 ^ m) of ∙ sym number))
+
+  -- the numbers are below that of the slots
+  pub lent_below : (i t : ℕ) → IsSeated old.table_id old.me → i < length ns → t ≡ get_or ns i 0 → t < old.table_id.slots
+  lent_below i t seated inside number =
+      let xs : List (StripeState V) = stripes_in old.me.1 in
+      let same : ns ≡ numbers (reverse (contents_of xs)) = sym numbered ∙ (sym (ap (λ (q : PassState V). numbers_of q.stripes) is) ∙ (sym (numbers-contents (reverse xs)) ∙ ap numbers (map-reverse (λ (s : StripeState V). (s.number, s.content)) xs))) in
+      let there : IsIn t (numbers (reverse (contents_of xs))) = subst (IsIn t) same (subst (λ u. IsIn u ns) (sym number) (in_list ns i inside)) in
+      seated.below t (subst (IsIn t) (numbers-contents xs ∙ sym seated.held) (in_of_reverse (contents_of xs) t there))
+
+  module _ (new : StripeSeat V) (i : ℕ) (stripe : StripeState V) (puts : Puts i stripe old new) where
+    pub still_own : IsPassOf w (state_of new.table_id new.me)
+    still_own = (puts.table ∙ (ap (λ (q : PassState V). q.table) is ∙ own.0), ap (λ v. v.settings) puts.view ∙ (ap (λ (q : PassState V). q.view.settings) is ∙ own.1))
+
+    pub still_numbered : numbers_of (state_of new.table_id new.me).stripes ≡ ns
+    still_numbered = same_numbers old new i stripe puts ∙ (ap (λ (q : PassState V). numbers_of q.stripes) is ∙ numbered)

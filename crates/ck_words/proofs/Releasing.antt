@@ -1,0 +1,80 @@
+-- Stripes go home as they were, one after another.
+use Rattle.std.proofs.Common.{◌≡◌, ℕ, ◌+◌, ◌-◌, ◌<◌, ◌≤◌, List, [], ◌∷◌, ◌++◌, take, get_or, drop, length, reverse, refl, arith, sym, ap, ◌∙◌}
+use Rattle.std.proofs.lemmas.List.{reverse-append, reverse-reverse, take_more}
+use mathlib.Core.Logic.{dite}
+use native.Mathlib.Decide.{ℕ_discrete}
+use Rattle.ck_model.specs.Map.{Name}
+use Rattle.ck_model.proofs.Numbered.{if_same, if_else}
+use Rattle.ck_stripe.specs.Stripe.{StripeState}
+use Rattle.ck_core.specs.Steps.Move.{GiveRest}
+use Rattle.ck_words.specs.Rule.{counting}
+use Rattle.ck_words.specs.Words.{WordsState}
+use Rattle.ck_words.specs.Passes.{PassState, IsPassOf, IsIdle, IsUnchanged, Sends, numbers_of, pair, lower}
+use Rattle.ck_words.specs.Retries.{Stays}
+use Rattle.ck_words.specs.Holding.{HasReleased}
+use Rattle.ck_words.proofs.Counting.{counting-more}
+use Rattle.ck_words.proofs.Reversed.{map-append}
+use Rattle.ck_words.proofs.Staying.{stays_same, stays_on, stays_giving, found_giving, seen_giving, idle_of}
+
+front : (ns : List ℕ) (t : ℕ) → reverse (drop 1 (reverse (ns ++ t ∷ []))) ≡ ns
+front ns t = ap (λ (l : List ℕ). reverse (drop 1 l)) (reverse-append ns (t ∷ [])) ∙ reverse-reverse ns
+
+pub pair_split : (low high : ℕ) → pair low high ≡ lower low high ++ high ∷ []
+pair_split low high = dite (ℕ_discrete low high)
+    (λ e. if_same low high (low ∷ []) (low ∷ high ∷ []) e ∙ ((λ i. e i ∷ []) ∙ ap (λ (l : List ℕ). l ++ high ∷ []) (sym (if_same low high [] (low ∷ []) e))))
+    (λ ne. if_else low high (low ∷ []) (low ∷ high ∷ []) ne ∙ ap (λ (l : List ℕ). l ++ high ∷ []) (sym (if_else low high [] (low ∷ []) ne)))
+
+-- the last of the first i numbers
+pub last_taken : (ns : List ℕ) (i : ℕ) → 0 < i → i ≤ length ns → take i ns ≡ take (i - 1) ns ++ get_or ns (i - 1) 0 ∷ []
+last_taken ns i some inside = ap (λ k. take k ns) (let e : i ≡ i - 1 + 1 = omega arith in e) ∙ take_more ns (i - 1) 0 (omega arith)
+
+pub last_counted : (n : ℕ) → 0 < n → counting 0 n ≡ counting 0 (n - 1) ++ (n - 1) ∷ []
+last_counted n some = ap (counting 0) (let e : n ≡ n - 1 + 1 = omega arith in e) ∙ sym (counting-more (n - 1))
+
+module _ {V : Type 0} where
+  no_numbers : (ss : List (StripeState V)) → numbers_of ss ≡ [] → ss ≡ []
+  no_numbers [] e = refl
+  no_numbers (s ∷ ss) e = absurd (cons_nil s.number (numbers_of ss) e) where
+    cons_nil : (n : ℕ) (ns : List ℕ) → ¬ (n ∷ ns ≡ [])
+    cons_nil n ns e = let l = ap length e in omega arith
+
+  -- the numbers that are left after the highest stripe went home
+  pub numbers_left : (ns : List ℕ) (t : ℕ) (p q : PassState V) (stripe : StripeState V) → p.stripes ≡ q.stripes ++ stripe ∷ [] → numbers_of p.stripes ≡ ns ++ t ∷ [] → numbers_of q.stripes ≡ ns
+  numbers_left ns t p q stripe split e =
+      let numbered : numbers_of q.stripes ++ stripe.number ∷ [] ≡ ns ++ t ∷ [] = sym (map-append (λ (x : StripeState V). x.number) q.stripes (stripe ∷ [])) ∙ (ap (λ (l : List (StripeState V)). numbers_of l) (sym split) ∙ e) in
+      sym (front (numbers_of q.stripes) stripe.number) ∙ (ap (λ (l : List ℕ). reverse (drop 1 (reverse l))) numbered ∙ front ns t)
+
+  -- From p to q some went home as they were. Those of these numbers are left.
+  pub record Leaves (w : WordsState) (ns : List ℕ) (p q : PassState V) : Type 0 where
+    pub own : IsPassOf w q
+    pub unchanged : IsUnchanged q
+    pub numbered : numbers_of q.stripes ≡ ns
+    pub stays : Stays p.view q.view
+    pub found : q.view.found ≡ p.view.found
+    pub seen : q.view.seen ≡ p.view.seen
+
+  module _ (w : WordsState) where
+    pub leaves_all : (ns : List ℕ) (p : PassState V) → IsPassOf w p → IsUnchanged p → numbers_of p.stripes ≡ ns → Leaves w ns p p
+    leaves_all ns p own unchanged numbered = record { own = own; unchanged = unchanged; numbered = numbered; stays = stays_same p.view; found = refl; seen = refl }
+
+    pub leaves_fewer : (hash : Name → ℕ) (ns : List ℕ) (t : ℕ) (p q r : PassState V) → Leaves w (ns ++ t ∷ []) p q → IsPassOf w r → IsUnchanged r → Sends hash w (λ t _. GiveRest t) q r → Leaves w ns p r
+    leaves_fewer hash ns t p q r h own unchanged g = record {
+      own = own;
+      unchanged = unchanged;
+      numbered = numbers_left ns t q r g.0 g.1 h.numbered;
+      stays = stays_giving hash w q r g p.view h.stays;
+      found = found_giving hash w q r g ∙ h.found;
+      seen = seen_giving hash w q r g ∙ h.seen;
+    }
+
+    pub leaves_after : (hash : Name → ℕ) (ns : List ℕ) (t : ℕ) (p q : PassState V) → IsPassOf w p → IsUnchanged p → numbers_of p.stripes ≡ ns ++ t ∷ [] → IsPassOf w q → IsUnchanged q → Sends hash w (λ t _. GiveRest t) p q → Leaves w ns p q
+    leaves_after hash ns t p q own unchanged numbered own2 unchanged2 g = leaves_fewer hash ns t p p q (leaves_all (ns ++ t ∷ []) p own unchanged numbered) own2 unchanged2 g
+
+    pub leaves_none : (p q : PassState V) → Leaves w [] p q → HasReleased w p q
+    leaves_none p q h = record { own = h.own; idle = idle_of q (no_numbers q.stripes h.numbered) h.unchanged; stays = h.stays; found = h.found; seen = h.seen }
+
+    pub released_on : (ns : List ℕ) (p q r : PassState V) → Leaves w ns p q → HasReleased w q r → HasReleased w p r
+    released_on ns p q r h g = record { own = g.own; idle = g.idle; stays = stays_on p.view q.view r.view h.stays g.stays; found = g.found ∙ h.found; seen = g.seen ∙ h.seen }
+
+    pub released_idle : (p : PassState V) → IsPassOf w p → IsIdle p → HasReleased w p p
+    released_idle p own idle = record { own = own; idle = idle; stays = stays_same p.view; found = refl; seen = refl }

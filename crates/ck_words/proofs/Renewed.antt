@@ -1,0 +1,49 @@
+-- The highest stripe goes home with what it contains now, and the rest after it.
+use Rattle.std.proofs.Common.{◌≡◌, ℕ, List, [], ◌∷◌, ◌++◌, reverse, append-nil, refl, sym, ap, ◌∙◌, subst, arith, Option, Some, None}
+use Rattle.ck_model.specs.declared.history.Reason.{Reason}
+use Rattle.ck_model.specs.Map.{Name}
+use Rattle.ck_section.specs.Stripes.{contents_of}
+use Rattle.ck_core.specs.declared.view.View.{View}
+use Rattle.ck_core.specs.Steps.{giving, gaining}
+use Rattle.ck_core.specs.Steps.Move.{Renew}
+use Rattle.ck_words.specs.Words.{WordsState}
+use Rattle.ck_words.specs.Passes.{PassState, IsPassOf, IsUnchanged, Sends, numbers_of}
+use Rattle.ck_words.specs.Retries.{StaysBut}
+use Rattle.ck_words.specs.Holding.{HasReleased}
+use Rattle.ck_words.specs.Renewing.{HasRefused}
+use Rattle.ck_words.proofs.Rows.{renew_row}
+use Rattle.ck_words.proofs.Staying.{stays_then}
+use Rattle.ck_words.proofs.Releasing.{Leaves, numbers_left}
+
+gaining-append : (l : List (Name × Reason)) (why : Option (Name × Reason)) → gaining l why ≡ gaining [] why ++ l
+gaining-append l None = refl
+gaining-append l (Some g) = refl
+
+module _ {V : Type 0} (hash : Name → ℕ) (w : WordsState) (p q : PassState V) where
+  module _ (why : Option (Name × Reason)) (g : Sends hash w (λ t ks. Renew t ks why) p q) where
+    renewed_view : q.view ≡ giving p.view g.0.number g.2.does.1 (reverse (contents_of p.stripes)) why
+    renewed_view = renew_row hash w.settings p.view q.view g.0.number (reverse (contents_of p.stripes)) why g.2
+
+    stays_renewing : StaysBut (gaining [] why) p.view q.view
+    stays_renewing = subst (StaysBut (gaining [] why) p.view) (sym renewed_view)
+        (record { settings = refl; by = refl; mine = refl; others = refl; heard = (refl, refl); noroom = gaining-append p.view.noroom why; seen = ([], sym (append-nil p.view.seen)); by_others = λ m e. refl; told = omega arith })
+
+  pub leaves_renewed : Sends hash w (λ t ks. Renew t ks None) p q → (ns : List ℕ) (t : ℕ) → numbers_of p.stripes ≡ ns ++ t ∷ [] → IsPassOf w q → IsUnchanged q → Leaves w ns p q
+  leaves_renewed g ns t numbered own unchanged = record {
+    own = own;
+    unchanged = unchanged;
+    numbered = numbers_left ns t p q g.0 g.1 numbered;
+    stays = stays_renewing None g;
+    found = ap (λ (v : View V). v.found) (renewed_view None g);
+    seen = ap (λ (v : View V). v.seen) (renewed_view None g);
+  }
+
+  -- it told that a name found no room
+  pub refused_on : (name : Name) (why : Reason) → Sends hash w (λ t ks. Renew t ks (Some (name, why))) p q → (r : PassState V) → HasReleased w q r → HasRefused w name why p r
+  refused_on name why g r rest = record {
+    own = rest.own;
+    idle = rest.idle;
+    stays = stays_then ((name, why) ∷ []) [] p.view q.view r.view (stays_renewing (Some (name, why)) g) rest.stays;
+    found = rest.found ∙ ap (λ (v : View V). v.found) (renewed_view (Some (name, why)) g);
+    seen = rest.seen ∙ ap (λ (v : View V). v.seen) (renewed_view (Some (name, why)) g);
+  }

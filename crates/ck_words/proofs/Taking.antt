@@ -1,0 +1,125 @@
+-- Stripes are taken, one after another.
+use Rattle.std.proofs.Common.{◌≡◌, ℕ, zero, suc, ◌+◌, ◌-◌, ◌<◌, ◌≤◌, Bool, true, false, List, [], ◌∷◌, ◌++◌, take, length, get_or, replicate, append_assoc, refl, sym, ap, ◌∙◌, subst, ⊎_elim, inl, inr, arith}
+use Rattle.std.proofs.Math.Nat.{eq-or-lt_of_le}
+use Rattle.std.specs.Prelude.{MatchBool}
+use Rattle.std.specs.List.Sorted.{IsStrictlyIncreasing}
+use Rattle.ck_model.specs.Map.{Name}
+use Rattle.ck_model.specs.declared.settings.Settings.{Settings}
+use Rattle.ck_model.specs.Numbered.{IsIn, numbers}
+use Rattle.ck_stripe.specs.Stripe.{StripeState}
+use Rattle.ck_core.specs.Steps.{IsAbove}
+use Rattle.ck_words.specs.Words.{WordsState}
+use Rattle.ck_words.specs.Passes.{PassState, EachOf, IsPassOf, IsIdle, IsUnchanged, TakesStripe, numbers_of, pair}
+use Rattle.ck_words.specs.Retries.{Stays, TakesWithin, found_again}
+use Rattle.ck_words.specs.Holding.{IsEither, HasTaken, GivesUp, HasReleased}
+use Rattle.ck_model.proofs.Numbered.{if_same, if_else}
+use Rattle.ck_words.proofs.Reversed.{map-append, in_reverse}
+use Rattle.ck_words.proofs.Seating.{each_append, numbers-contents}
+use Rattle.ck_words.proofs.Staying.{stays_same, stays_on, stays_within, stays_finding, shows_taken, unchanged_idle, among_none, among_on, among_within, among_held}
+
+-- a number of the list stands in it
+pub in_list : (ts : List ℕ) (i : ℕ) → i < length ts → IsIn (get_or ts i 0) ts
+in_list [] i l = absurd (omega arith)
+in_list (t ∷ ts) zero l = inl refl
+in_list (t ∷ ts) (suc i) l = inr (in_list ts i (omega arith))
+
+-- where a number of the first n stands
+in_first : (ts : List ℕ) (n t : ℕ) → IsIn t (take n ts) → (i : ℕ) × (i < n) × (i < length ts) × (get_or ts i 0 ≡ t)
+in_first ts zero t z = absurd z
+in_first [] (suc n) t z = absurd z
+in_first (u ∷ ts) (suc n) t z = ⊎_elim (λ e. (0, omega arith, omega arith, e)) (λ r. let x = in_first ts n t r in (suc x.0, omega arith, omega arith, x.3)) z
+
+-- the numbers rise
+pub rises : (ts : List ℕ) → IsStrictlyIncreasing ts → (i j : ℕ) → i < j → j < length ts → get_or ts i 0 < get_or ts j 0
+rises ts up i zero a b = absurd (omega arith)
+rises ts up i (suc j) a b =
+    let next : get_or ts j 0 < get_or ts (suc j) 0 = subst (λ k. get_or ts j 0 < get_or ts k 0) (let e : j + 1 ≡ suc j = omega arith in e) (up j (omega arith)) in
+    ⊎_elim (λ (e : i ≡ j). subst (λ k. get_or ts k 0 < get_or ts (suc j) 0) (sym e) next) (λ (l : i < j). let x = rises ts up i j l (omega arith) in omega arith) (eq-or-lt_of_le {n = i} {m = j} (omega arith))
+
+-- the next of rising numbers is above those before it
+pub above_first : (ts : List ℕ) (n : ℕ) → IsStrictlyIncreasing ts → n < length ts → IsAbove (get_or ts n 0) (take n ts)
+above_first ts n up l u i = let x = in_first ts n u i in let r = rises ts up x.0 n x.1 l in let e = x.3 in omega arith
+
+found_more : (n t : ℕ) (l : List ℕ) → replicate n t ++ t ∷ l ≡ t ∷ (replicate n t ++ l)
+found_more zero t l = refl
+found_more (suc n) t l = ap (λ m. t ∷ m) (found_more n t l)
+
+module _ {V : Type 0} where
+  -- what is held has the numbers of the stripes
+  numbered_of_held : (p : PassState V) → IsUnchanged p → (t : ℕ) → IsIn t (numbers p.view.held) → IsIn t (numbers_of p.stripes)
+  numbered_of_held p u t i = subst (IsIn t) (ap numbers (sym u) ∙ numbers-contents p.stripes) (in_reverse p.view.held t i)
+
+  -- the stripe was found held once, and then n times
+  pub again_later : (n t : ℕ) (p : PassState V) → found_again n t (found_again 1 t p) ≡ found_again (suc n) t p
+  again_later n t p = λ i. record p { view = record p.view { found = found_more n t p.view.found i } }
+
+  pub takes_later : (hash : Name → ℕ) (set : Settings) (turns t : ℕ) (p q r : PassState V) → 1 ≤ turns → q ≡ found_again 1 t p → TakesWithin hash set (turns - 1) t q r → TakesWithin hash set turns t p r
+  takes_later hash set turns t p q r some again k =
+      let l = k.1 in
+      (suc k.0, omega arith, subst (λ (x : PassState V). TakesStripe hash set t x r) (ap (found_again k.0 t) again ∙ again_later k.0 t p) k.2)
+
+  pub found_later : (turns t : ℕ) (p q r : PassState V) → 1 ≤ turns → q ≡ found_again 1 t p → r ≡ found_again (turns - 1) t q → r ≡ found_again turns t p
+  found_later turns t p q r some again more =
+      more ∙ (ap (found_again (turns - 1) t) again ∙ (again_later (turns - 1) t p ∙ ap (λ n. found_again n t p) (let e : suc (turns - 1) ≡ turns = omega arith in e)))
+
+  pub tries_later : (hash : Name → ℕ) (set : Settings) (turns t : ℕ) (p q r : PassState V) (taken : Bool) → 1 ≤ turns → q ≡ found_again 1 t p → MatchBool taken (TakesWithin hash set (turns - 1) t q r) (r ≡ found_again (turns - 1) t q)
+      → MatchBool taken (TakesWithin hash set turns t p r) (r ≡ found_again turns t p)
+  tries_later hash set turns t p q r true some again k = takes_later hash set turns t p q r some again k
+  tries_later hash set turns t p q r false some again k = found_later turns t p q r some again k
+
+module _ {V : Type 0} (hash : Name → ℕ) (w : WordsState) (P : ℕ → Type 0) where
+  pub none_taken : (p : PassState V) → IsPassOf w p → IsIdle p → HasTaken hash w P [] p p
+  none_taken p own idle = record {
+    own = own;
+    unchanged = unchanged_idle p idle;
+    stays = stays_same p.view;
+    numbered = ap (λ (l : List (StripeState V)). numbers_of l) idle.0;
+    of_table = subst (λ (l : List (StripeState V)). EachOf w.settings.s l) (sym idle.0) tt;
+    found = among_none P p p refl;
+    shows = λ l. absurd (omega arith);
+  }
+
+  module _ (ns : List ℕ) (t : ℕ) (p q : PassState V) (h : HasTaken hash w P ns p q) where
+    pub above_taken : IsAbove t ns → IsAbove t (numbers q.view.held)
+    above_taken a u i = a u (subst (IsIn u) h.numbered (numbered_of_held q h.unchanged u i))
+
+    pub one_taken : (turns : ℕ) (r : PassState V) → P t → TakesWithin hash w.settings turns t q r → IsPassOf w r → IsUnchanged r → HasTaken hash w P (ns ++ t ∷ []) p r
+    one_taken turns r asked k own unchanged = record {
+      own = own;
+      unchanged = unchanged;
+      stays = stays_on p.view q.view r.view h.stays (stays_within hash w.settings turns t q r k);
+      numbered = ap (λ (l : List (StripeState V)). numbers_of l) k.2.2 ∙ (map-append (λ (x : StripeState V). x.number) q.stripes (k.2.0 ∷ []) ∙ λ i. h.numbered i ++ k.2.1.0 i ∷ []);
+      of_table = subst (λ (l : List (StripeState V)). EachOf w.settings.s l) (sym k.2.2) (each_append w.settings.s q.stripes k.2.0 h.of_table k.2.1.1);
+      found = among_on P p q r h.found (among_within P hash w.settings turns t q r asked k);
+      shows = λ _. shows_taken hash w.settings turns t q r k;
+    }
+
+    -- the stripe was found held to the end, and the others went home
+    pub given_up : (r s : PassState V) → P t → r ≡ found_again w.settings.turns t q → HasReleased w r s → GivesUp w P t p s
+    given_up r s asked again released =
+        let turns = w.settings.turns in
+        let found : s.view.found ≡ replicate turns t ++ q.view.found = released.found ∙ ap (λ (x : PassState V). x.view.found) again in
+        let tried : Stays q.view r.view = subst (λ (x : PassState V). Stays q.view x.view) (sym again) (stays_finding turns t q) in
+        record {
+          own = released.own;
+          stays = stays_on p.view r.view s.view (stays_on p.view q.view r.view h.stays tried) released.stays;
+          found = among_on P p r s (among_on P p q r h.found (among_held P turns t q r asked again)) (among_none P r s released.found);
+          busy = (released.idle, (h.found.0, found ∙ (ap (λ l. replicate turns t ++ l) h.found.1 ∙ sym (append_assoc (replicate turns t) h.found.0 p.view.found))));
+          asked = asked;
+        }
+
+-- two stripes, or one where they are the same
+module _ {V : Type 0} (hash : Name → ℕ) (w : WordsState) (low high : ℕ) where
+  pub low_taken : (turns : ℕ) (p q : PassState V) → IsPassOf w p → IsIdle p → TakesWithin hash w.settings turns low p q → IsPassOf w q → IsUnchanged q → HasTaken hash w (IsEither low high) (low ∷ []) p q
+  low_taken turns p q own idle k own2 unchanged = one_taken hash w (IsEither low high) [] low p p (none_taken hash w (IsEither low high) p own idle) turns q (inl refl) k own2 unchanged
+
+  module _ (p q : PassState V) (h : HasTaken hash w (IsEither low high) (low ∷ []) p q) where
+    pub one_held : low ≡ high → HasTaken hash w (IsEither low high) (pair low high) p q
+    one_held e = subst (λ ns. HasTaken hash w (IsEither low high) ns p q) (sym (if_same low high (low ∷ []) (low ∷ high ∷ []) e)) h
+
+    pub above_low : low < high → IsAbove high (numbers q.view.held)
+    above_low l = above_taken hash w (IsEither low high) (low ∷ []) high p q h (λ u i. ⊎_elim (λ (e : low ≡ u). subst (λ x. x < high) e l) (λ z. absurd z) i)
+
+    pub both_held : (turns : ℕ) (r : PassState V) → low < high → TakesWithin hash w.settings turns high q r → IsPassOf w r → IsUnchanged r → HasTaken hash w (IsEither low high) (pair low high) p r
+    both_held turns r l k own unchanged = subst (λ ns. HasTaken hash w (IsEither low high) ns p r) (sym (if_else low high (low ∷ []) (low ∷ high ∷ []) (λ e. omega arith)))
+        (one_taken hash w (IsEither low high) (low ∷ []) high p q h turns r (inr refl) k own unchanged)

@@ -1,0 +1,28 @@
+use Rattle.std.proofs.Common.{◌≡◌, ◌∙◌, sym, refl, subst}
+use Rattle.ck_words.specs.Passes.{PassState}
+use Rattle.ck_words.specs.Retries.{Stays}
+use Rattle.ck_words.proofs.Staying.{stays_finding, among_held}
+use Rattle.ck_words.proofs.Telling.{stays_home, found_home, told_there}
+use Rattle.ck_words.proofs.words.Words.power.Goals as goal
+
+pub returns-then-not-try_take-clause-stays : goal.returns-then-not-try_take-clause-stays
+returns-then-not-try_take-clause-stays g c =
+    let p = c.args.pass.now in let turns = c.args.self.now.settings.turns in
+    subst (λ (q : PassState g.row.V.Denot). Stays p.view q.view) (sym c.if-not-try_take.ensures.tries) (stays_finding turns 0 p)
+
+pub returns-then-not-try_take-clause-found : goal.returns-then-not-try_take-clause-found
+returns-then-not-try_take-clause-found g c =
+    among_held (λ t. t ≡ 0) c.args.self.now.settings.turns 0 c.args.pass.now c.try_take.new.pass refl c.if-not-try_take.ensures.tries
+
+pub returns-clause-stays : goal.returns-clause-stays
+returns-clause-stays g c =
+    stays_home g.K.TableKey.hash c.args.self.now 0 c.args.pass.now c.try_take.new.pass c.power_of_only-power.new.pass c.give_rest.new.pass c.requires.own c.requires.idle c.if-not-try_take.ensures.tries c.try_take.ensures.own c.try_take.ensures.unchanged c.power_of_only-power.ensures.same c.give_rest.ensures.step
+
+pub returns-clause-found : goal.returns-clause-found
+returns-clause-found g c =
+    found_home g.K.TableKey.hash c.args.self.now 0 c.args.pass.now c.try_take.new.pass c.power_of_only-power.new.pass c.give_rest.new.pass c.requires.own c.requires.idle c.if-not-try_take.ensures.tries c.try_take.ensures.own c.try_take.ensures.unchanged c.power_of_only-power.ensures.same c.give_rest.ensures.step
+
+pub returns-clause-told : goal.returns-clause-told
+returns-clause-told g c =
+    c.power_of_only-power.ensures.value
+    ∙ told_there g.K.TableKey.hash c.args.self.now 0 c.args.pass.now c.try_take.new.pass c.power_of_only-power.new.pass c.give_rest.new.pass c.requires.own c.requires.idle c.if-not-try_take.ensures.tries c.try_take.ensures.own c.try_take.ensures.unchanged c.power_of_only-power.ensures.same c.give_rest.ensures.step

@@ -1,0 +1,7 @@
+use Rattle.std.proofs.Common.{◌∙◌, ap, sym}
+use Rattle.ck_words.proofs.Seating.{ready_on}
+use Rattle.ck_words.proofs.Turning.{seated_puts}
+use Rattle.ck_words.proofs.words.Words.power_of_only.Goals as goal
+
+pub invariant_of-pass : goal.invariant_of-pass
+invariant_of-pass g c = ready_on c.pass.invariant c.power_at.ensures.puts.table (seated_puts _ _ _ _ c.power_at.ensures.puts c.pass.invariant.seated)

@@ -1,0 +1,61 @@
+-- What it leaves to take several stripes, and to give them back.
+use Rattle.std.specs.Prelude.{◌≡◌, ◌⊎◌, ℕ, ◌<◌, ◌≤◌, max, List, [], ◌∷◌, length}
+use Rattle.ck_model.specs.Map.{Name}
+use Rattle.ck_model.specs.Numbered.{Holds}
+use Rattle.ck_model.specs.declared.contents.Content.{Content}
+use Rattle.ck_stripe.specs.Stripe.{StripeState}
+use Rattle.ck_section.specs.Stripes.{contents_of}
+use Rattle.ck_section.specs.Room.{power_in}
+use Rattle.ck_words.specs.declared.holding.Missed.{Missed}
+use Rattle.ck_words.specs.declared.holding.Missed.TheVariants.{Low, High}
+use Rattle.ck_words.specs.Words.{WordsState}
+use Rattle.ck_words.specs.Passes.{PassState, EachOf, IsPassOf, IsIdle, IsUnchanged, ShowsSeen, numbers_of}
+use Rattle.ck_words.specs.Retries.{Stays, FindsAmong, IsBusy, found_again}
+
+-- one of the two numbers
+abbrev pub IsEither : ℕ → ℕ → ℕ → Type 0
+IsEither low high t = (t ≡ low) ⊎ (t ≡ high)
+
+module _ {V : Type 0} where
+  -- From p to q the stripes of these numbers were taken, in this order. The pass found none held but such ones.
+  pub record HasTaken (hash : Name → ℕ) (w : WordsState) (P : ℕ → Type 0) (ns : List ℕ) (p q : PassState V) : Type 0 where
+    pub own : IsPassOf w q
+    pub unchanged : IsUnchanged q
+    pub stays : Stays p.view q.view
+    pub numbered : numbers_of q.stripes ≡ ns
+    pub of_table : EachOf w.settings.s q.stripes
+    pub found : FindsAmong P p q
+    pub shows : 0 < length ns → ShowsSeen hash w.settings q
+
+  -- From p to q the last tries found the stripe t held, as many as the settings allow. What had been taken went home.
+  pub record GivesUp (w : WordsState) (P : ℕ → Type 0) (t : ℕ) (p q : PassState V) : Type 0 where
+    pub own : IsPassOf w q
+    pub stays : Stays p.view q.view
+    pub found : FindsAmong P p q
+    pub busy : IsBusy w.settings.turns t p q
+    pub asked : P t
+
+  -- From p to q one swap found the lower of two stripes held, or the higher one, after the lower was taken.
+  abbrev pub Misses : (Name → ℕ) → WordsState → ℕ → ℕ → Missed → PassState V → PassState V → Type 0
+  Misses hash w low high Low p q = q ≡ found_again 1 low p
+  Misses hash w low high High p q = (low < high) × ((r : PassState V) × HasTaken hash w (IsEither low high) (low ∷ []) p r × (q ≡ found_again 1 high r))
+
+  -- From p to q all stripes went home.
+  pub record HasReleased (w : WordsState) (p q : PassState V) : Type 0 where
+    pub own : IsPassOf w q
+    pub idle : IsIdle q
+    pub stays : Stays p.view q.view
+    pub found : q.view.found ≡ p.view.found
+    pub seen : q.view.seen ≡ p.view.seen
+
+  -- each of the stripes has this power
+  abbrev pub AreOfPower : ℕ → List (StripeState V) → Type 0
+  AreOfPower power stripes = (t : ℕ) (c : Content V) → Holds (contents_of stripes) t c → c.power ≡ power
+
+  -- From p to q stripes of one power went home, and the pass was told none above it.
+  abbrev pub IsToldNoMore : PassState V → PassState V → Type 0
+  IsToldNoMore p q = (power : ℕ) → AreOfPower power p.stripes → q.view.told ≤ max p.view.told power
+
+  -- From p to q all stripes went home, which have one power, and the pass was told of it.
+  abbrev pub IsToldPower : PassState V → PassState V → Type 0
+  IsToldPower p q = q.view.told ≡ max p.view.told (power_in p.stripes)

@@ -1,0 +1,121 @@
+//! All stripes of a table out of their slots, in one list.
+ghost use Rattle.std.specs.Prelude.{◌≡◌, ◌≤◌, ◌^◌, [], map, reverse, vec_capacity};
+ghost use Rattle.ck_words.specs.Rule.{counting};
+ghost use Rattle.ck_words.specs.Passes.{EachOf, IsPassOf, slot_of, stripes_in, held_in, numbers_of};
+ghost use Rattle.ck_words.specs.Lifting.{emptied};
+
+use crate::law::{Board, Place};
+use crate::pass::Pass;
+use crate::slots::turn_by;
+use crate::words::Words;
+use ck_key::TableKey;
+use ck_stripe::Stripe;
+use std::marker::Model;
+
+/// All stripes of a table, which one caller holds, in one list in rising order of their numbers. They stand out of their
+/// slots until `Words::lower` puts them back; it can't be dropped. Contracts see what they see of the caller's pass.
+pub struct Whole<K: TableKey, V> {
+    pub(crate) seat: Place<K, V>,
+    /// The stripes.
+    pub stripes: Vec<Stripe<K, V>>,
+}
+
+impl<K: TableKey, V> Model for Whole<K, V> {
+    ghost use Rattle.ck_words.specs.Passes.{PassState};
+    ghost use Rattle.ck_words.specs.Lifting.{IsEmptied};
+
+    ghost Value = { PassState V };
+
+    ghost view = { λ w. record { table = w.seat.table_id; view = w.seat.me.0; stripes = w.stripes.items } };
+
+    ghost invariant = { λ w. IsEmptied w.seat.table_id w.seat.me };
+}
+
+impl<K: TableKey + Drop, V: Drop> Words<K, V> {
+    /// Moves all stripes, which the pass holds, out of their slots into one list. It takes no memory.
+    pub fn lift(&self, pass: Pass<K, V>) -> Whole<K, V>
+        requires own { IsPassOf self.now pass }
+        requires numbered { numbers_of pass.stripes ≡ counting 0 (2 ^ self.now.settings.s) }
+        ensures { result ≡ pass }
+    {
+        let Pass { mut seat, mut room } = pass;
+        let shared = &self.table.shared;
+        take_out(shared, &mut seat, self.table.slot_count(), &mut room);
+        Whole {
+            seat,
+            stripes: room,
+        }
+    }
+
+    /// Moves all stripes back into their slots.
+    pub fn lower(&self, whole: Whole<K, V>) -> Pass<K, V>
+        requires own { IsPassOf self.now whole }
+        requires numbered { numbers_of whole.stripes ≡ counting 0 (2 ^ self.now.settings.s) }
+        requires of_table { EachOf self.now.settings.s whole.stripes }
+        ensures { result ≡ whole }
+    {
+        let Whole {
+            mut seat,
+            mut stripes,
+        } = whole;
+        let shared = &self.table.shared;
+        put_back(shared, &mut seat, self.table.slot_count(), &mut stripes);
+        Pass {
+            seat,
+            room: stripes,
+        }
+    }
+}
+
+// Takes the stripes out of the slots of a seat that has all, those of the lowest numbers first. The seat keeps the slots with
+// nothing in them.
+fn take_out<K: TableKey + Drop, V: Drop>(
+    shared: &Board<K, V>,
+    seat: &mut Place<K, V>,
+    count: usize,
+    list: &mut Vec<Stripe<K, V>>,
+)
+    requires own { seat.old.table_id ≡ shared.now.table_id }
+    requires full { seat.old.me.1 ≡ map slot_of (stripes_in seat.old.me.1) }
+    requires numbered { numbers_of (held_in seat.old.me.1) ≡ counting 0 count }
+    requires empty { list.old.items ≡ [] }
+    requires room { count ≤ vec_capacity list.old }
+    ensures table { seat.new.table_id ≡ seat.old.table_id }
+    ensures view { seat.new.me.0 ≡ seat.old.me.0 }
+    ensures emptied { seat.new.me.1 ≡ emptied (reverse (counting 0 count)) }
+    ensures list { list.new.items ≡ held_in seat.old.me.1 }
+{
+    for t in 0..count {
+        // The slot of the lowest stripe that is left is the last.
+        turn_by(seat, count - 1);
+        let Some(stripe) = shared.exchange(seat, t, None) else {
+            unreachable!()
+        };
+        list.push_reserved(stripe);
+    }
+}
+
+// Puts these stripes into the slots of a seat that has nothing in them.
+fn put_back<K: TableKey + Drop, V: Drop>(
+    shared: &Board<K, V>,
+    seat: &mut Place<K, V>,
+    count: usize,
+    list: &mut Vec<Stripe<K, V>>,
+)
+    requires own { seat.old.table_id ≡ shared.now.table_id }
+    requires emptied { seat.old.me.1 ≡ emptied (reverse (counting 0 count)) }
+    requires numbered { numbers_of list.old.items ≡ counting 0 count }
+    ensures table { seat.new.table_id ≡ seat.old.table_id }
+    ensures view { seat.new.me.0 ≡ seat.old.me.0 }
+    ensures full { seat.new.me.1 ≡ map slot_of (reverse list.old.items) }
+    ensures empty { list.new.items ≡ [] }
+    ensures capacity { vec_capacity list.new ≡ vec_capacity list.old }
+{
+    for t in (0..count).rev() {
+        let Some(stripe) = list.pop() else {
+            unreachable!()
+        };
+        shared.exchange(seat, t, Some(stripe));
+        seat.turn();
+    }
+}
