@@ -261,8 +261,10 @@ pub(crate) fn read_at<K: TableKey + Drop, V: Drop, R, F: FnOnce(&V) -> R>(
     requires slot_full { IsSome (slot_at (bucket_at (held_in seat.old.me.1) i b) slot) }
     requires call { F.IsAlwaysCallable f }
     ensures read { (n : _) (v : V)
-        → slot_at (bucket_at (held_in seat.old.me.1) i b) slot ≡ Some (n,
-        v) → FnOnceReturnsAt F.FnOnce f v result }
+        → slot_at (bucket_at (held_in seat.old.me.1) i b) slot ≡ Some (
+          n,
+          v,
+        ) → FnOnceReturnsAt F.FnOnce f v result }
     ensures puts { Puts i (stripe_at (held_in seat.old.me.1) i) seat.old seat.new }
 {
     bring(seat, count, i, t);
@@ -293,9 +295,10 @@ pub(crate) fn place_at<K: TableKey + Drop, V: Drop>(
     requires free { slot_at (bucket_at (held_in seat.old.me.1) i b) slot ≡ None }
     requires partial { partial ≡ partial_of (K.hash (K.name key)) }
     ensures puts { Puts i
-        (record (stripe_at (held_in seat.old.me.1) i)
-        { content = with_slot (stripe_at (held_in seat.old.me.1) i) b slot
-        (Some (K.name key, value)) ((stripe_at (held_in seat.old.me.1) i).content.ledger + 1) })
+        (record (stripe_at (held_in seat.old.me.1) i) {
+          content = with_slot (stripe_at (held_in seat.old.me.1) i) b slot
+              (Some (K.name key, value)) ((stripe_at (held_in seat.old.me.1) i).content.ledger + 1);
+        })
         seat.old seat.new }
 {
     bring(seat, count, i, t);
@@ -323,9 +326,10 @@ pub(crate) fn remove_at<K: TableKey + Drop, V: Drop>(
     ensures entry { slot_at (bucket_at (held_in seat.old.me.1) i b) slot
         ≡ Some (K.name result.0, result.1) }
     ensures puts { Puts i
-        (record (stripe_at (held_in seat.old.me.1) i)
-        { content = with_slot (stripe_at (held_in seat.old.me.1) i) b slot None
-        ((stripe_at (held_in seat.old.me.1) i).content.ledger - 1) }) seat.old seat.new }
+        (record (stripe_at (held_in seat.old.me.1) i) {
+          content = with_slot (stripe_at (held_in seat.old.me.1) i) b slot None
+              ((stripe_at (held_in seat.old.me.1) i).content.ledger - 1);
+        }) seat.old seat.new }
 {
     bring(seat, count, i, t);
     let Some(stripe) = seat.slot_mut(shared, t) else {
@@ -354,9 +358,10 @@ pub(crate) fn replace_at<K: TableKey + Drop, V: Drop>(
     ensures content { (n : Name)
         × (slot_at (bucket_at (held_in seat.old.me.1) i b) slot
         ≡ Some (n, result))
-        × Puts i (record (stripe_at (held_in seat.old.me.1) i)
-        { content = with_slot (stripe_at (held_in seat.old.me.1) i) b slot (Some (n, value))
-        (stripe_at (held_in seat.old.me.1) i).content.ledger }) seat.old seat.new }
+        × Puts i (record (stripe_at (held_in seat.old.me.1) i) {
+          content = with_slot (stripe_at (held_in seat.old.me.1) i) b slot (Some (n, value))
+              (stripe_at (held_in seat.old.me.1) i).content.ledger;
+        }) seat.old seat.new }
 {
     bring(seat, count, i, t);
     let Some(stripe) = seat.slot_mut(shared, t) else {
@@ -386,9 +391,10 @@ pub(crate) fn change_at<K: TableKey + Drop, V: Drop, F: FnOnce(V) -> V>(
     ensures content { (n : Name) × (v w : V)
         × (slot_at (bucket_at (held_in seat.old.me.1) i b) slot
         ≡ Some (n, v)) × F.post f v w
-        × Puts i (record (stripe_at (held_in seat.old.me.1) i)
-        { content = with_slot (stripe_at (held_in seat.old.me.1) i) b slot (Some (n, w))
-        (stripe_at (held_in seat.old.me.1) i).content.ledger }) seat.old seat.new }
+        × Puts i (record (stripe_at (held_in seat.old.me.1) i) {
+          content = with_slot (stripe_at (held_in seat.old.me.1) i) b slot (Some (n, w))
+              (stripe_at (held_in seat.old.me.1) i).content.ledger;
+        }) seat.old seat.new }
 {
     bring(seat, count, i, t);
     let Some(stripe) = seat.slot_mut(shared, t) else {
@@ -453,10 +459,12 @@ pub(crate) fn double_at<K: TableKey + Drop, V: Drop>(
     requires reserved { IsReserved (stripe_at (held_in seat.old.me.1) i) }
     requires power { (stripe_at (held_in seat.old.me.1) i).content.power < 26 }
     ensures puts { Puts i
-        (record (stripe_at (held_in seat.old.me.1) i)
-        { content = doubled_content K.hash (stripe_at (held_in seat.old.me.1) i).s
-        (stripe_at (held_in seat.old.me.1) i).number (stripe_at (held_in seat.old.me.1)
-        i).content; settled = false }) seat.old seat.new }
+        (record (stripe_at (held_in seat.old.me.1) i) {
+          content = doubled_content K.hash (stripe_at (held_in seat.old.me.1) i).s
+              (stripe_at (held_in seat.old.me.1) i).number (stripe_at (held_in seat.old.me.1)
+              i).content;
+          settled = false;
+        }) seat.old seat.new }
     ensures sends { let stripe = stripe_at (held_in seat.old.me.1) i in
         SendsEach K.hash stripe.s stripe.number stripe.content
         (doubled_content K.hash stripe.s stripe.number stripe.content) }

@@ -20,4 +20,6 @@
 #![tactic(auto)]
 
 pub use ck_key::{KeyFault, NumKey, TableKey, TextKey};
-pub use ck_table::{Busy, Caller, GrowFault, LockedTable, OpenFault, Pass, Refused, Settings, Table, Why};
+pub use ck_table::{
+    Busy, Caller, GrowFault, LockedTable, OpenFault, Pass, Refused, Settings, Table, Why,
+};
