@@ -188,7 +188,8 @@ impl PlainMap {
         ensures refused { IfOk result (λ b.
             b ≡ false
             → (self.new ≡ self.old)
-            × ((m2 : Map ℕ) → ¬ (Step self.old (Call.ChangeTwo first.now second.now) reply.now m2))) }
+            × ((m2 : Map ℕ)
+            → ¬ (Step self.old (Call.ChangeTwo first.now second.now) reply.now m2))) }
         ensures err { OnErr result (self.new ≡ self.old) }
     {
         if first == second {

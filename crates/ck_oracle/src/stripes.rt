@@ -283,7 +283,8 @@ pub fn is_lawful(s: u32, max: u32, stripes: &[PlainStripe]) -> bool
     requires stripes { s ≤ 10 }
     requires power { max ≤ 26 }
     ensures { (hash : Name → ℕ) → AreHashed hash stripes.now
-        → (IsTrue result ↔ Lawful (record { hash = hash; s = s; max = max }) (stripes_of stripes.now)) }
+        → (IsTrue result
+        ↔ Lawful (record { hash = hash; s = s; max = max }) (stripes_of stripes.now)) }
 {
     is_plain_lawful(s, max, stripes)
 }

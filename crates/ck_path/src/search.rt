@@ -108,7 +108,8 @@ impl Search {
         ensures path { (p b1 b2 : ℕ) (sketches : ℕ → Sketch)
             → IsSearchOver p sketches b1 b2 self.old
             → option_map sketches (wanted self.old) ≡ Some sketch
-            → MatchOption result (IsSearchOver p sketches b1 b2 self.new) (IsShortestPath p sketches b1 b2) }
+            → MatchOption result (IsSearchOver p sketches b1 b2 self.new)
+            (IsShortestPath p sketches b1 b2) }
     {
         let node = self.nodes[self.taken];
         if has_free(&sketch) {

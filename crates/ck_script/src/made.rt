@@ -52,7 +52,8 @@ pub fn add_line(k: u64, n: u64, out: &mut Vec<u8>) -> Result<(), AllocError>
 // Adds the command line of the generator's next two words.
 fn add_next_line(generator: &mut Lcg64Xsh32, out: &mut Vec<u8>) -> Result<(), AllocError>
     ensures generator { generator.new ≡ after_lines 1 generator.old }
-    ensures ok { OnOk result (out.new.items ≡ out.old.items ++ with_feed (nth_line generator.old 0)) }
+    ensures ok { OnOk result
+        (out.new.items ≡ out.old.items ++ with_feed (nth_line generator.old 0)) }
     ensures err { OnErr result (out.new.items ≡ out.old.items) }
 {
     let key = generator.next_word() % KEYS;
