@@ -63,7 +63,8 @@ pub enum Command<K> {
     Len,
     /// `list`: all keys with their numbers.
     List,
-    /// `move J K N`: takes up to the number from that of `J`, and adds it to that of `K`, as far as that goes.
+    /// `move J K N`: takes up to the number from that of `J`, and adds it to that of `K`, as far as that goes. No text has one key
+    /// twice here; a command that has is answered as busy, and changes nothing.
     Move(K, K, u64),
 }
 
