@@ -1,14 +1,12 @@
 -- What an insertion leaves of its pass while it makes room for its key.
-use Rattle.std.specs.Prelude.{◌≡◌, ℕ, ◌^◌, ◌<◌, ◌≤◌, List, [], ◌++◌}
+use Rattle.std.specs.Prelude.{◌≡◌, ℕ, ◌^◌, ◌<◌, List, [], ◌++◌}
 use Rattle.ck_model.specs.declared.history.Reason.{Reason}
 use Rattle.ck_model.specs.declared.settings.Settings.{Settings}
 use Rattle.ck_model.specs.Map.{Name}
 use Rattle.ck_words.specs.Words.{WordsState}
 use Rattle.ck_words.specs.Passes.{PassState, IsPassOf, IsIdle}
 use Rattle.ck_words.specs.Retries.{StaysBut}
-use Rattle.ck_table.specs.declared.holding.Obstacle.{Obstacle}
-use Rattle.ck_table.specs.declared.holding.Obstacle.TheVariants.{Busy, Full}
-use Rattle.ck_table.specs.Refusals.{FindsOwn, IsBusyAmong, IsBusyAt}
+use Rattle.ck_table.specs.Refusals.{FindsOwn, IsBusyAmong}
 use Rattle.ck_table.specs.Insertions.{HasFoundNoRoom}
 
 module _ {V : Type 0} where
@@ -31,11 +29,6 @@ module _ {V : Type 0} where
   -- its last tries all found this stripe of the table held
   abbrev pub IsBusyAnywhere : Settings → ℕ → PassState V → PassState V → Type 0
   IsBusyAnywhere set t p p2 = IsBusyAmong (λ u. u < 2 ^ set.s) set.turns t p p2
-
-  -- The name has no entry among its stripes for this reason.
-  abbrev pub IsKeptOut : (Name → ℕ) → Settings → Name → Obstacle → PassState V → PassState V → Type 0
-  IsKeptOut hash set q (Busy t) p p2 = IsBusyAt hash set q t p p2
-  IsKeptOut hash set q (Full power) p p2 = HasFoundNoRoom q p p2 × (power ≤ 26)
 
   -- It is so since each p after which no stripe was found held but those of the name, and it was said that the name's buckets were full.
   abbrev pub SinceFull : (Name → ℕ) → Settings → Name → PassState V → (PassState V → Type 0) → Type 0

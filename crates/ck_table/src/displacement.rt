@@ -6,7 +6,6 @@ ghost use Rattle.ck_words.specs.Closing.{IsCaller};
 ghost use Rattle.ck_table.specs.Insertions.{numbers_in, HasRoom, IsRefused, FindsOwnUnlessFull};
 ghost use Rattle.ck_table.specs.Displacing.{IsBack, IsBusyAnywhere, SinceFull};
 
-use crate::holding::Obstacle;
 use crate::refusal::{Busy, Why};
 use crate::room::Room;
 use crate::search::{Searched, stripe_of};
@@ -15,6 +14,7 @@ use ck_key::{KeyHash, TableKey};
 use ck_path::Path;
 use ck_section::{Hop, make_hop};
 use ck_words::{Lent, Numbers, Pass};
+use std::snapshot::Snapshot;
 
 impl<K: TableKey + Drop, V: Drop> Table<K, V> {
     // Makes room for an unbound key whose buckets were found full, in a table of 2^power buckets, and takes its stripes. It
@@ -44,10 +44,14 @@ impl<K: TableKey + Drop, V: Drop> Table<K, V> {
                 Ok(false) => break,
                 Err(Busy(stripe)) => return Err(Why::Busy(stripe)),
             }
-            match self.find_room(pass, key) {
+            let since = Snapshot::of(pass);
+            let spot = match self.hold_key(pass, key) {
+                Ok(spot) => spot,
+                Err(Busy(stripe)) => return Err(Why::Busy(stripe)),
+            };
+            match self.find_room(pass, key, spot, &since) {
                 Ok(room) => return Ok(room),
-                Err(Obstacle::Busy(stripe)) => return Err(Why::Busy(stripe)),
-                Err(Obstacle::Full(seen)) => power = seen,
+                Err(seen) => power = seen,
             }
         }
         self.make_room_in_all(pass, key)

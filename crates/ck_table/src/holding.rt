@@ -1,13 +1,13 @@
 //! Taking the stripes of a key, with room for it.
-ghost use Rattle.std.specs.Prelude.{◌≡◌, false, OnOk, OnErr, IfOk, IfErr};
+ghost use Rattle.std.specs.Prelude.{◌≡◌, ◌≤◌, false, OnOk, OnErr, IfOk, IfErr};
 ghost use Rattle.ck_section.specs.Places.{AreHeld};
-ghost use Rattle.ck_words.specs.Passes.{IsPassOf, IsIdle, numbers_of, pair};
+ghost use Rattle.ck_words.specs.Passes.{PassState, IsPassOf, IsIdle, numbers_of, pair};
 ghost use Rattle.ck_words.specs.Lending.{list_of};
+ghost use Rattle.ck_words.specs.Holding.{IsEither, HasTaken};
 ghost use Rattle.ck_words.specs.Closing.{IsCaller};
-ghost use Rattle.ck_table.specs.Holding.{HoldsKey};
-ghost use Rattle.ck_table.specs.Insertions.{HasRoom};
+ghost use Rattle.ck_table.specs.Holding.{HoldsKey, IsHomeOf};
+ghost use Rattle.ck_table.specs.Insertions.{HasFoundNoRoom, HasRoom};
 ghost use Rattle.ck_table.specs.Refusals.{FindsOwn, IsBusyAt};
-ghost use Rattle.ck_table.specs.Displacing.{IsKeptOut};
 
 use crate::refusal::Busy;
 use crate::room::Room;
@@ -16,6 +16,16 @@ use ck_key::{KeyHash, TableKey};
 use ck_section::{Held, KeyPlace, find_entry, key_place};
 use ck_words::{Lent, Numbers, Pass};
 use std::marker::Brand;
+use std::snapshot::Snapshot;
+
+// The stripes of a key among 2^s, in rising order, or the one that both are, and the key's hash.
+#[derive(Clone, Copy)]
+pub(crate) struct Home {
+    pub(crate) s: u32,
+    pub(crate) low: usize,
+    pub(crate) high: usize,
+    pub(crate) hash: KeyHash,
+}
 
 // The stripes of a key, which its pass holds, or the one that both are, and where the key may be among them.
 #[derive(Clone, Copy)]
@@ -35,15 +45,6 @@ impl Spot {
     }
 }
 
-// Why a key has no entry among its stripes.
-#[derive(Clone, Copy)]
-pub(crate) enum Obstacle {
-    // This stripe of the key was found held in as many tries in a row as the settings allow.
-    Busy(u32),
-    // The key is unbound and its buckets are full, in a table of 2^power buckets.
-    Full(u32),
-}
-
 impl<K: TableKey + Drop, V: Drop> Table<K, V> {
     // Takes the stripes of the key, and carries out a doubling that is left to be. Where the key may be among them comes
     // back.
@@ -61,16 +62,50 @@ impl<K: TableKey + Drop, V: Drop> Table<K, V> {
         ensures busy { IfErr result (λ busy.
             IsBusyAt K.hash self.now.settings (K.name key.now) busy.0 pass.old pass.new) }
     {
-        let s = self.words.settings().s;
-        let hash = KeyHash::of(key);
-        let (low, high) = hash.stripes(s);
-        let (low, high) = (low as usize, high as usize);
+        let home = self.home_of(key);
         // What may wait is called right here: each function that it is inlined through would cost one more test.
-        if let Err(missed) = self.words.hold_now(pass, low, high) {
-            if let Err(stripe) = self.words.hold_later(pass, low, high, missed) {
+        if let Err(missed) = self.words.hold_now(pass, home.low, home.high) {
+            if let Err(stripe) = self.words.hold_later(pass, home.low, home.high, missed) {
                 return Err(Busy(stripe as u32));
             }
         }
+        Ok(self.spot_in(pass, key, home))
+    }
+
+    // The stripes of the key, and its hash.
+    #[inline(always)]
+    pub(crate) fn home_of(&self, key: &K) -> Home
+        ensures { IsHomeOf K.hash self.now.settings (K.name key.now) result }
+    {
+        let s = self.words.settings().s;
+        let hash = KeyHash::of(key);
+        let (low, high) = hash.stripes(s);
+        Home {
+            s,
+            low: low as usize,
+            high: high as usize,
+            hash,
+        }
+    }
+
+    // Carries out a doubling that is left of the key's stripes, which were just taken. Where the key may be among them comes
+    // back.
+    #[inline(always)]
+    pub(crate) fn spot_in(&self, pass: &mut Pass<K, V>, key: &K, home: Home) -> Spot
+        requires home { IsHomeOf K.hash self.now.settings (K.name key.now) home }
+        requires taken { (p : PassState V) × HasTaken K.hash self.now
+            (IsEither home.low home.high) (pair home.low home.high) p pass.old }
+        ensures own { IsPassOf self.now pass.new }
+        ensures held { (p : PassState V) → HasTaken K.hash self.now
+            (IsEither home.low home.high) (pair home.low home.high) p pass.old
+            → HoldsKey K.hash self.now.settings (K.name key.now) result.place p pass.new }
+        ensures found { (p : PassState V) → HasTaken K.hash self.now
+            (IsEither home.low home.high) (pair home.low home.high) p pass.old
+            → FindsOwn K.hash self.now.settings (K.name key.now) p pass.new }
+        ensures numbered { numbers_of pass.new.stripes ≡ pair result.low result.high }
+        ensures settled { AreHeld self.now.settings.s pass.new.stripes }
+    {
+        let Home { s, low, high, hash } = home;
         self.words.settle_taken(pass, low, high);
         let mut lent = Lent {
             words: &self.words,
@@ -79,29 +114,37 @@ impl<K: TableKey + Drop, V: Drop> Table<K, V> {
             s,
         };
         let place = key_place(&mut lent, s, key, hash);
-        Ok(Spot { low, high, place })
+        Spot { low, high, place }
     }
 
-    // Takes the stripes of the key, and finds its entry there. Where the key is unbound and its buckets are full, it gives
-    // them back.
+    // The entry of the key on its stripes, which the pass holds. Where the key is unbound and its buckets are full, it gives
+    // them back, and answers the power of the table. `since` is the pass before it took them.
     #[inline(always)]
-    pub(crate) fn find_room(&self, pass: &mut Pass<K, V>, key: &K) -> Result<Room, Obstacle>
-        requires caller { IsCaller self.now pass.old }
+    pub(crate) fn find_room(
+        &self,
+        pass: &mut Pass<K, V>,
+        key: &K,
+        spot: Spot,
+        since: &Snapshot<Pass<K, V>>,
+    ) -> Result<Room, u32>
+        requires since { IsCaller self.now since.now.value }
+        requires own { IsPassOf self.now pass.old }
+        requires held { HoldsKey K.hash self.now.settings (K.name key.now) spot.place
+            since.now.value pass.old }
+        requires numbered { numbers_of pass.old.stripes ≡ pair spot.low spot.high }
+        requires settled { AreHeld self.now.settings.s pass.old.stripes }
+        requires found { FindsOwn K.hash self.now.settings (K.name key.now) since.now.value pass.old }
         ensures own { IsPassOf self.now pass.new }
         ensures room { IfOk result (λ room.
-            HasRoom K.hash self.now.settings (K.name key.now) room pass.old pass.new) }
+            HasRoom K.hash self.now.settings (K.name key.now) room since.now.value pass.new) }
         ensures numbered { IfOk result (λ room.
             numbers_of pass.new.stripes ≡ pair room.spot.low room.spot.high) }
         ensures own_alone { IfOk result (λ room. room.all ≡ false) }
-        ensures found { FindsOwn K.hash self.now.settings (K.name key.now) pass.old pass.new }
+        ensures found { FindsOwn K.hash self.now.settings (K.name key.now) since.now.value pass.new }
         ensures idle { OnErr result (IsIdle pass.new) }
-        ensures kept_out { IfErr result (λ obstacle.
-            IsKeptOut K.hash self.now.settings (K.name key.now) obstacle pass.old pass.new) }
+        ensures full { OnErr result (HasFoundNoRoom (K.name key.now) since.now.value pass.new) }
+        ensures power { IfErr result (λ power. power ≤ 26) }
     {
-        let spot = match self.hold_key(pass, key) {
-            Ok(spot) => spot,
-            Err(Busy(stripe)) => return Err(Obstacle::Busy(stripe)),
-        };
         let mut lent = Lent {
             words: &self.words,
             pass,
@@ -119,6 +162,6 @@ impl<K: TableKey + Drop, V: Drop> Table<K, V> {
         let Lent { pass, .. } = lent;
         self.words.give::<Brand, K>(pass, spot.high, key);
         self.words.release_low(pass, spot.low, spot.high);
-        Err(Obstacle::Full(power))
+        Err(power)
     }
 }

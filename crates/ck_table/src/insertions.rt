@@ -1,22 +1,24 @@
 //! Calls that may bind an unbound key.
-ghost use Rattle.std.specs.Prelude.{◌≡◌, if◌then◌else◌, IfOk, IfErr, MatchBool};
+ghost use Rattle.std.specs.Prelude.{◌≡◌, ◌≤◌, if◌then◌else◌, IfOk, IfErr, MatchBool};
 ghost use Rattle.ck_model.specs.declared.history.Act.TheVariants.{Insert, Assign, Upsert};
 ghost use Rattle.ck_model.specs.declared.history.Reply.{Reply};
 ghost use Rattle.ck_model.specs.declared.history.Reply.TheVariants.{Was, New, Old, Done};
 ghost use Rattle.ck_words.specs.Closing.{IsCaller};
-ghost use Rattle.ck_words.specs.Passes.{IsPassOf, numbers_of};
-ghost use Rattle.ck_table.specs.Displacing.{IsKeptOut};
-ghost use Rattle.ck_table.specs.Insertions.{numbers_in, HasRoom, IsInserted, IsRefused, FindsOwnUnlessFull};
+ghost use Rattle.ck_words.specs.Passes.{IsPassOf, IsUnchanged, numbers_of, pair};
+ghost use Rattle.ck_words.specs.Holding.{IsEither, HasTaken, Misses};
+ghost use Rattle.ck_table.specs.declared.holding.Home.{Home};
+ghost use Rattle.ck_table.specs.Holding.{IsHomeOf};
+ghost use Rattle.ck_table.specs.Insertions.{numbers_in, HasFoundNoRoom, HasRoom, IsInserted, IsRefused, FindsOwnUnlessFull};
 ghost use Rattle.ck_table.specs.Refusals.{FindsOwn};
 
 use crate::entries;
 use crate::entries::Insertion;
-use crate::holding::Obstacle;
+use crate::holding::Home;
 use crate::refusal::{Refused, Why};
 use crate::room::Room;
 use crate::table::Table;
 use ck_key::TableKey;
-use ck_words::{Lent, Pass};
+use ck_words::{Lent, Missed, Pass};
 use std::snapshot::Snapshot;
 
 impl<K: TableKey + Drop, V: Drop> Table<K, V> {
@@ -100,8 +102,8 @@ impl<K: TableKey + Drop, V: Drop> Table<K, V> {
 }
 
 impl<K: TableKey + Drop, V: Drop> Table<K, V> {
-    // Makes the insertion of the entry of the key. Where its stripes have none, that is a call of its own, so that nothing of
-    // it is in the way of the others.
+    // Makes the insertion of the entry of the key. What may wait, where a stripe is held or no entry was found, is a call of
+    // its own, so that nothing of it is in the way of the others.
     #[inline(always)]
     fn place<I: Insertion<K, V>>(
         &self,
@@ -120,29 +122,98 @@ impl<K: TableKey + Drop, V: Drop> Table<K, V> {
         ensures found { FindsOwnUnlessFull K.hash self.now.settings (K.name key) pass.old pass.new }
     {
         let since = Snapshot::of(pass);
-        match self.find_room(pass, &key) {
-            Ok(room) => Ok(self.place_in(pass, room, key, value, insertion, since)),
-            Err(obstacle) => self.place_later(pass, key, value, insertion, obstacle, since),
+        let home = self.home_of(&key);
+        match self.words.hold_now(pass, home.low, home.high) {
+            Ok(()) => self.place_taken(pass, home, key, value, insertion, since),
+            Err(missed) => self.place_waiting(pass, missed, key, value, insertion, since),
         }
     }
 
-    // The same for a key that has no entry among its stripes, which have gone home: where its buckets are full, it makes
-    // room. `since` is the pass as the call began.
+    // The same where a stripe of the key was found held. It computes the stripes anew, so that the call before it needs to keep
+    // nothing of them. `since` is the pass as the call began.
+    #[cold]
+    #[inline(never)]
+    fn place_waiting<I: Insertion<K, V>>(
+        &self,
+        pass: &mut Pass<K, V>,
+        missed: Missed,
+        key: K,
+        value: V,
+        insertion: I,
+        since: Snapshot<Pass<K, V>>,
+    ) -> Result<I::Answer, Refused<K, V>>
+        requires since { IsCaller self.now since.value }
+        requires own { IsPassOf self.now pass.old }
+        requires unchanged { IsUnchanged pass.old }
+        requires missed { (home : Home) × IsHomeOf K.hash self.now.settings (K.name key) home
+            × Misses K.hash self.now home.low home.high missed since.value pass.old }
+        requires call { I.can_make insertion }
+        ensures caller { IsCaller self.now pass.new }
+        ensures answered { IfOk result (λ answer. (reply : Reply V) × I.tells insertion answer reply
+            × IsInserted (K.name key) (I.asks value) reply since.value pass.new) }
+        ensures refused { IfErr result (λ e. (e.key ≡ key) × (e.value ≡ value)
+            × IsRefused self.now.settings (K.name key) e.why since.value pass.new) }
+        ensures found { FindsOwnUnlessFull K.hash self.now.settings (K.name key)
+            since.value pass.new }
+    {
+        let home = self.home_of(&key);
+        match self.words.hold_later(pass, home.low, home.high, missed) {
+            Ok(()) => self.place_taken(pass, home, key, value, insertion, since),
+            Err(stripe) => {
+                let why = Why::Busy(stripe as u32);
+                Err(Refused { key, value, why })
+            }
+        }
+    }
+
+    // The same for a key whose stripes were just taken.
+    #[inline(always)]
+    fn place_taken<I: Insertion<K, V>>(
+        &self,
+        pass: &mut Pass<K, V>,
+        home: Home,
+        key: K,
+        value: V,
+        insertion: I,
+        since: Snapshot<Pass<K, V>>,
+    ) -> Result<I::Answer, Refused<K, V>>
+        requires since { IsCaller self.now since.value }
+        requires home { IsHomeOf K.hash self.now.settings (K.name key) home }
+        requires taken { HasTaken K.hash self.now (IsEither home.low home.high)
+            (pair home.low home.high) since.value pass.old }
+        requires call { I.can_make insertion }
+        ensures caller { IsCaller self.now pass.new }
+        ensures answered { IfOk result (λ answer. (reply : Reply V) × I.tells insertion answer reply
+            × IsInserted (K.name key) (I.asks value) reply since.value pass.new) }
+        ensures refused { IfErr result (λ e. (e.key ≡ key) × (e.value ≡ value)
+            × IsRefused self.now.settings (K.name key) e.why since.value pass.new) }
+        ensures found { FindsOwnUnlessFull K.hash self.now.settings (K.name key)
+            since.value pass.new }
+    {
+        let spot = self.spot_in(pass, &key, home);
+        match self.find_room(pass, &key, spot, &since) {
+            Ok(room) => Ok(self.place_in(pass, room, key, value, insertion, since)),
+            Err(power) => self.place_later(pass, power, key, value, insertion, since),
+        }
+    }
+
+    // The same for a key whose buckets are full, in a table of 2^power buckets, and whose stripes have gone home: it makes
+    // room.
     #[cold]
     #[inline(never)]
     fn place_later<I: Insertion<K, V>>(
         &self,
         pass: &mut Pass<K, V>,
+        power: u32,
         key: K,
         value: V,
         insertion: I,
-        obstacle: Obstacle,
         since: Snapshot<Pass<K, V>>,
     ) -> Result<I::Answer, Refused<K, V>>
         requires since { IsCaller self.now since.value }
         requires caller { IsCaller self.now pass.old }
-        requires kept_out { IsKeptOut K.hash self.now.settings (K.name key) obstacle
-            since.value pass.old }
+        requires full { HasFoundNoRoom (K.name key) since.value pass.old }
+        requires power { power ≤ 26 }
         requires found { FindsOwn K.hash self.now.settings (K.name key) since.value pass.old }
         requires call { I.can_make insertion }
         ensures caller { IsCaller self.now pass.new }
@@ -153,13 +224,6 @@ impl<K: TableKey + Drop, V: Drop> Table<K, V> {
         ensures found { FindsOwnUnlessFull K.hash self.now.settings (K.name key)
             since.value pass.new }
     {
-        let power = match obstacle {
-            Obstacle::Full(power) => power,
-            Obstacle::Busy(stripe) => {
-                let why = Why::Busy(stripe);
-                return Err(Refused { key, value, why });
-            }
-        };
         match self.make_room(pass, &key, power) {
             Ok(made) => Ok(self.place_in(pass, made, key, value, insertion, since)),
             Err(why) => Err(Refused { key, value, why }),

@@ -1,9 +1,7 @@
 use Rattle.std.proofs.Common.{ℕ, ◌<◌, ◌^◌, [], sym, subst}
 use Rattle.std.proofs.lemmas.Result.{IfOk-weaker, IfErr-weaker}
 use Rattle.ck_words.specs.Passes.{PassState}
-use Rattle.ck_table.specs.declared.holding.Obstacle.{Obstacle}
 use Rattle.ck_table.specs.declared.refusal.Why.TheVariants.{Busy}
-use Rattle.ck_table.specs.Displacing.{IsKeptOut}
 use Rattle.ck_table.proofs.Refusing.{refused_among, refused_busy}
 use Rattle.ck_table.proofs.Calls.{by_result}
 use Rattle.ck_table.proofs.Displacing.{any_among}
@@ -31,35 +29,35 @@ returns-in-Err-clause-refused g c = λ p full own.
     let busy = refused_among (λ (t : ℕ). t < 2 ^ set.s) set (λ t l. l) q c.in-Err.field-0.0 c.tries.pass c.displace.new.pass c.in-Err.ensures.busy in
     refused_after q c.args.self.now g.K.TableKey.hash p c.args.pass.now c.tries.pass c.displace.new.pass full own c.tries.invariant.tried (Busy c.in-Err.field-0.0) busy
 
--- the key has an entry
-pub returns-in-Ok-clause-room : goal.returns-in-Ok-clause-room
-returns-in-Ok-clause-room g c = λ p full own.
-    let q = g.K.TableKey.name c.args.key.now in
-    let tried = tried_on q c.args.self.now c.args.pass.now c.tries.pass c.displace.new.pass c.tries.invariant.tried c.displace.ensures.back in
-    room_after q c.args.self.now g.K.TableKey.hash p c.args.pass.now c.displace.new.pass c.find_room.new.pass full own tried c.in-Ok.ensures.room
-
-pub returns-in-Ok-clause-found : goal.returns-in-Ok-clause-found
-returns-in-Ok-clause-found g c = λ p full own.
-    let q = g.K.TableKey.name c.args.key.now in
-    let tried = tried_on q c.args.self.now c.args.pass.now c.tries.pass c.displace.new.pass c.tries.invariant.tried c.displace.ensures.back in
-    let room = c.in-Ok.ensures.room in
-    found_since_full q c.args.self.now g.K.TableKey.hash p c.args.pass.now c.displace.new.pass c.find_room.new.pass full own tried room.more room.stays (any_among _ c.displace.new.pass c.find_room.new.pass c.find_room.ensures.found)
-
 -- a stripe of the key was found held
-pub returns-in-Err-Busy-clause-found : goal.returns-in-Err-Busy-clause-found
-returns-in-Err-Busy-clause-found g c = λ p full own.
+pub returns-in-Err-hold_key-clause-found : goal.returns-in-Err-hold_key-clause-found
+returns-in-Err-hold_key-clause-found g c = λ p full own.
     let q = g.K.TableKey.name c.args.key.now in
     let tried = tried_on q c.args.self.now c.args.pass.now c.tries.pass c.displace.new.pass c.tries.invariant.tried c.displace.ensures.back in
-    let busy = subst (λ (o : Obstacle). IsKeptOut g.K.TableKey.hash c.args.self.now.settings (g.K.TableKey.name c.args.key.now) o c.displace.new.pass c.find_room.new.pass) c.in-Err-Busy.field-0-is c.in-Err-Busy.ensures.kept_out in
-    found_since_full q c.args.self.now g.K.TableKey.hash p c.args.pass.now c.displace.new.pass c.find_room.new.pass full own tried [] busy.stays (any_among _ c.displace.new.pass c.find_room.new.pass c.find_room.ensures.found)
+    found_since_full q c.args.self.now g.K.TableKey.hash p c.args.pass.now c.displace.new.pass c.hold_key.new.pass full own tried [] c.in-Err-hold_key.ensures.busy.stays (any_among _ c.displace.new.pass c.hold_key.new.pass c.hold_key.ensures.found)
 
-pub returns-in-Err-Busy-clause-refused : goal.returns-in-Err-Busy-clause-refused
-returns-in-Err-Busy-clause-refused g c = λ p full own.
+pub returns-in-Err-hold_key-clause-refused : goal.returns-in-Err-hold_key-clause-refused
+returns-in-Err-hold_key-clause-refused g c = λ p full own.
     let q = g.K.TableKey.name c.args.key.now in
     let tried = tried_on q c.args.self.now c.args.pass.now c.tries.pass c.displace.new.pass c.tries.invariant.tried c.displace.ensures.back in
-    let held = subst (λ (o : Obstacle). IsKeptOut g.K.TableKey.hash c.args.self.now.settings q o c.displace.new.pass c.find_room.new.pass) c.in-Err-Busy.field-0-is c.in-Err-Busy.ensures.kept_out in
-    let busy = refused_busy g.K.TableKey.hash c.args.self.now.settings q c.in-Err-Busy.stripe c.displace.new.pass c.find_room.new.pass held in
-    refused_after q c.args.self.now g.K.TableKey.hash p c.args.pass.now c.displace.new.pass c.find_room.new.pass full own tried (Busy c.in-Err-Busy.stripe) busy
+    let busy = refused_busy g.K.TableKey.hash c.args.self.now.settings q c.in-Err-hold_key.field-0.0 c.displace.new.pass c.hold_key.new.pass c.in-Err-hold_key.ensures.busy in
+    refused_after q c.args.self.now g.K.TableKey.hash p c.args.pass.now c.displace.new.pass c.hold_key.new.pass full own tried (Busy c.in-Err-hold_key.field-0.0) busy
+
+-- the key has an entry
+pub returns-in-Ok-find_room-clause-room : goal.returns-in-Ok-find_room-clause-room
+returns-in-Ok-find_room-clause-room g c = λ p full own.
+    let q = g.K.TableKey.name c.args.key.now in
+    let r = c.of-since.result.value in
+    let tried = subst (HasTried q c.args.self.now c.args.pass.now) (sym c.of-since.ensures) (tried_on q c.args.self.now c.args.pass.now c.tries.pass c.displace.new.pass c.tries.invariant.tried c.displace.ensures.back) in
+    room_after q c.args.self.now g.K.TableKey.hash p c.args.pass.now r c.find_room.new.pass full own tried c.in-Ok-find_room.ensures.room
+
+pub returns-in-Ok-find_room-clause-found : goal.returns-in-Ok-find_room-clause-found
+returns-in-Ok-find_room-clause-found g c = λ p full own.
+    let q = g.K.TableKey.name c.args.key.now in
+    let r = c.of-since.result.value in
+    let tried = subst (HasTried q c.args.self.now c.args.pass.now) (sym c.of-since.ensures) (tried_on q c.args.self.now c.args.pass.now c.tries.pass c.displace.new.pass c.tries.invariant.tried c.displace.ensures.back) in
+    let room = c.in-Ok-find_room.ensures.room in
+    found_since_full q c.args.self.now g.K.TableKey.hash p c.args.pass.now r c.find_room.new.pass full own tried room.more room.stays (any_among _ r c.find_room.new.pass c.find_room.ensures.found)
 
 -- its buckets were full again
 pub tries-preserved : goal.tries-preserved
@@ -67,12 +65,11 @@ tries-preserved g c =
     let q = g.K.TableKey.name c.args.key.now in
     let w = c.args.self.now in
     let p = c.args.pass.now in
-    let r = c.displace.new.pass in
+    let r = c.of-since.result.value in
     let z = c.find_room.new.pass in
-    let back = tried_on q w p c.tries.pass r c.tries.invariant.tried c.displace.ensures.back in
-    let kept_out = subst (λ (o : Obstacle). IsKeptOut g.K.TableKey.hash c.args.self.now.settings (g.K.TableKey.name c.args.key.now) o c.displace.new.pass c.find_room.new.pass) c.in-Err-Full.field-0-is c.in-Err-Full.ensures.kept_out in
-    let tried = tried_full q w p r z back c.find_room.ensures.own c.in-Err-Full.ensures.idle kept_out.0 (any_among _ r z c.find_room.ensures.found) in
-    record { caller = still_caller q w p z c.requires.caller tried; tried = tried; power = kept_out.1 }
+    let back = subst (HasTried q w p) (sym c.of-since.ensures) (tried_on q w p c.tries.pass c.displace.new.pass c.tries.invariant.tried c.displace.ensures.back) in
+    let tried = tried_full q w p r z back c.find_room.ensures.own c.in-Err-find_room.ensures.idle c.in-Err-find_room.ensures.full (any_among _ r z c.find_room.ensures.found) in
+    record { caller = still_caller q w p z c.requires.caller tried; tried = tried; power = c.in-Err-find_room.ensures.power }
 
 -- all tries were made, and all stripes were taken
 over : (g : Over) (c : goal.After-make_room_in_all g) → HasTried (g.K.TableKey.name c.args.key.now) c.args.self.now c.args.pass.now c.tries-test.pass
