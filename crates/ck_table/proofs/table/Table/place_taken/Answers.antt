@@ -7,4 +7,4 @@ place_in-requires-clause-found g c =
     found_own g.K.TableKey.hash c.args.self.now.settings (g.K.TableKey.name c.args.key) c.args.since.value c.find_room.new.pass c.find_room.new.pass c.find_room.ensures.found refl
 
 pub find_room-requires-clause-held : goal.find_room-requires-clause-held
-find_room-requires-clause-held g c = c.spot_in.ensures.held c.args.since.value c.requires.taken
+find_room-requires-clause-held g c = c.spot_in-spot.ensures.held c.args.since.value c.requires.taken
