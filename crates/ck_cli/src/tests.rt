@@ -136,7 +136,7 @@ fn scripts(rt: HostRuntime) -> Result<(), Fail> {
 }
 
 /// Scripts of the whole format, with what they write or which fault they have. A `/` stands for a line feed.
-const WHOLE: [(&str, (u8, &str, &str)); 30] = [
+const WHOLE: [(&str, (u8, &str, &str)); 37] = [
     (
         "cuckoo 1/worker/insert 18446744073709551615 9/insert 0 0/list/end/",
         (
@@ -240,6 +240,28 @@ const WHOLE: [(&str, (u8, &str, &str)); 30] = [
         "cuckoo 1/worker/list 1/",
         (1, "", "cuckoo: line 3: bad command/"),
     ),
+    ("cuckoo 1/find 1/", (1, "", "cuckoo: line 2: bad command/")),
+    ("cuckoo 1/end/", (1, "", "cuckoo: line 2: bad command/")),
+    (
+        "cuckoo 1/worker/power 3/",
+        (1, "", "cuckoo: line 3: bad command/"),
+    ),
+    (
+        "cuckoo 1/worker/find  5/",
+        (1, "", "cuckoo: line 3: bad command/"),
+    ),
+    (
+        "cuckoo 1/worker/find 18446744073709551616/",
+        (1, "", "cuckoo: line 3: bad number/"),
+    ),
+    (
+        "cuckoo 1/worker/end//",
+        (1, "", "cuckoo: line 4: bad command/"),
+    ),
+    (
+        "cuckoo 1/worker/end/x",
+        (1, "", "cuckoo: line 4: truncated/"),
+    ),
 ];
 
 #[test]
@@ -252,6 +274,115 @@ fn whole_scripts(rt: HostRuntime) -> Result<(), Fail> {
         check(&rt, rt.alloc(), &["run"], &input, want)?;
     }
     Ok(())
+}
+
+/// A piece of a text, and how often it stands there.
+type Piece = (&'static str, usize);
+
+/// Ten lines for even keys, and ten for odd ones.
+const EVEN: &str = "add 0 1/add 2 1/add 4 1/add 6 1/add 8 1/\
+                    add 10 1/add 12 1/add 14 1/add 16 1/add 18 1/";
+
+const ODD: &str = "add 1 1/add 3 1/add 5 1/add 7 1/add 9 1/\
+                   add 11 1/add 13 1/add 15 1/add 17 1/add 19 1/";
+
+/// Scripts in pieces, with what they write or which fault they have. A `/` stands for a line feed.
+const LONG: [(&[Piece], (u8, &[Piece], &str)); 5] = [
+    (
+        &[
+            ("cuckoo 1/turns 4294967295/worker/", 1),
+            (EVEN, 100),
+            ("worker/", 1),
+            (ODD, 100),
+            ("end/", 1),
+        ],
+        (
+            0,
+            &[
+                ("worker 1/", 1),
+                ("new/", 10),
+                ("set/", 990),
+                ("worker 2/", 1),
+                ("new/", 10),
+                ("set/", 990),
+                (
+                    "map/0 100/1 100/2 100/3 100/4 100/5 100/6 100/7 100/8 100/9 100/",
+                    1,
+                ),
+                (
+                    "10 100/11 100/12 100/13 100/14 100/15 100/16 100/17 100/18 100/19 100/",
+                    1,
+                ),
+            ],
+            "",
+        ),
+    ),
+    (
+        &[("cuckoo 1/", 1), ("a", 201)],
+        (1, &[], "cuckoo: line 2: too long/"),
+    ),
+    (
+        &[("cuckoo 1/", 1), ("worker/", 257)],
+        (1, &[], "cuckoo: line 258: too long/"),
+    ),
+    (
+        &[("cuckoo 2/", 1), ("worker/", 1025)],
+        (1, &[], "cuckoo: line 1026: too long/"),
+    ),
+    (
+        &[("cuckoo 1/worker/", 1), ("len/", 1_000_001)],
+        (1, &[], "cuckoo: line 1000003: too long/"),
+    ),
+];
+
+fn whole_text(alloc: Global, pieces: &[Piece]) -> Result<String, Fail> {
+    let mut text = String::new(alloc);
+    for (piece, times) in pieces {
+        let piece = piece.replace(alloc, "/", "\n")?;
+        text.push_str(&piece.repeat(alloc, *times)?)?;
+    }
+    Ok(text)
+}
+
+#[test]
+fn long_scripts(rt: HostRuntime) -> Result<(), Fail> {
+    for (input, (status, output, errors)) in LONG {
+        let input = whole_text(rt.alloc(), input)?;
+        let output = whole_text(rt.alloc(), output)?;
+        let errors = errors.replace(rt.alloc(), "/", "\n")?;
+        let want = (status, output.as_str(), errors.as_str());
+        check(&rt, rt.alloc(), &["run"], &input, want)?;
+    }
+    Ok(())
+}
+
+/// Adds a line for every second one of the numbers below 2000, from the first on: the words, and then the number twice.
+fn add_lines(text: &mut String, words: &str, first: u64, step: usize) -> Result<(), Fail> {
+    for number in (first..2000).step_by(step) {
+        writeln!(text, "{words}{number} {number}")?;
+    }
+    Ok(())
+}
+
+/// Two workers fill a table that has to grow, the one with the even keys, the other with the odd ones.
+#[test]
+fn workers_grow_a_table(rt: HostRuntime) -> Result<(), Fail> {
+    let mut input = String::from_str(rt.alloc(), "cuckoo 1\nload 0\nturns 4294967295\n")?;
+    for first in 0..2u64 {
+        input.push_str("worker\n")?;
+        add_lines(&mut input, "insert ", first, 2)?;
+    }
+    input.push_str("end\n")?;
+    let answers = [
+        ("worker 1/", 1),
+        ("new/", 1000),
+        ("worker 2/", 1),
+        ("new/", 1000),
+        ("map/", 1),
+    ];
+    let mut output = whole_text(rt.alloc(), &answers)?;
+    add_lines(&mut output, "", 0, 1)?;
+    check(&rt, rt.alloc(), &["run"], &input, (0, output.as_str(), ""))
 }
 
 #[test]
@@ -426,6 +557,83 @@ fn made_script_runs(rt: HostRuntime) -> Result<(), Fail> {
     assert_eq!(rt;
         output.as_slice(),
         b"worker 1\nnew\nnew\nnew\nmap\n11 566\n48 955\n55 97\n".as_slice()
+    );
+    Ok(())
+}
+
+/// The number that a command line adds.
+fn amount_of(line: &str) -> Option<u64> {
+    line.strip_prefix("add ")?.split_once(' ')?.1.parse().ok()
+}
+
+/// The sum of the numbers that the lines added that are answered `new` or `set`.
+fn sum_of_answered(script: &str, output: &str) -> u64 {
+    let mut sum = 0u64;
+    for (line, answer) in script.lines().skip(1).zip(output.lines()) {
+        if answer == "new" || answer == "set" {
+            sum = sum.wrapping_add(amount_of(line).unwrap_or(u64::MAX));
+        }
+    }
+    sum
+}
+
+/// The sum of the numbers to which keys are bound at the end, and how many keys those are.
+fn sum_of_map(output: &str) -> (u64, usize) {
+    let (mut sum, mut keys) = (0u64, 0usize);
+    let map = output.split_once("map\n").map_or("", |parts| parts.1);
+    for pair in map.lines() {
+        let number = pair
+            .split_once(' ')
+            .and_then(|words| words.1.parse::<u64>().ok());
+        sum = sum.wrapping_add(number.unwrap_or(u64::MAX));
+        keys += 1;
+    }
+    (sum, keys)
+}
+
+fn text_of(bytes: &[u8]) -> Result<&str, Fail> {
+    str::from_utf8(bytes).map_err(|_| Fail::from("bytes that are no text"))
+}
+
+/// What is bound at the end is what the answered lines added.
+#[test]
+fn made_scripts_run(rt: HostRuntime) -> Result<(), Fail> {
+    for (seed, workers, lines) in [
+        ("7", "4", "10000"),
+        ("1", "4", "250000"),
+        ("1", "1024", "900"),
+    ] {
+        let words = [
+            "make",
+            "--seed",
+            seed,
+            "--workers",
+            workers,
+            "--lines",
+            lines,
+        ];
+        let script = output_of(&rt, rt.alloc(), &words, b"")?;
+        let output = output_of(&rt, rt.alloc(), &["run"], &script)?;
+        let (script, output) = (text_of(&script)?, text_of(&output)?);
+        let (sum, keys) = sum_of_map(output);
+        let fresh = output.lines().filter(|answer| *answer == "new").count();
+        assert_eq!(rt; sum_of_answered(script, output), sum, "{workers} workers");
+        assert_eq!(rt; fresh, keys, "{workers} workers");
+        assert_eq!(rt; keys, 64, "{workers} workers");
+    }
+    Ok(())
+}
+
+/// Of two workers who insert one key, one does.
+#[test]
+fn one_of_two_workers(rt: HostRuntime) -> Result<(), Fail> {
+    let input = b"cuckoo 1\nturns 4294967295\nworker\ninsert 1 10\nworker\ninsert 1 20\nend\n";
+    let output = output_of(&rt, rt.alloc(), &["run"], input)?;
+    let output = text_of(&output)?;
+    assert!(rt;
+        output == "worker 1\nnew\nworker 2\nold\nmap\n1 10\n"
+            || output == "worker 1\nold\nworker 2\nnew\nmap\n1 20\n",
+        "{output:?}"
     );
     Ok(())
 }
