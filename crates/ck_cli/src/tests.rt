@@ -16,6 +16,9 @@ fn words_of(alloc: Global, words: &[&str]) -> Result<Vec<String>, Fail> {
     Ok(all)
 }
 
+/// The longest script that a failed test shows.
+const MOST_SHOWN: usize = 1000;
+
 /// Runs the program, and compares its status and what it writes to both outputs.
 fn check<R: Abort + Files + Threads + Sync>(
     rt: &R,
@@ -27,17 +30,19 @@ fn check<R: Abort + Files + Threads + Sync>(
     let words = words_of(alloc, words)?;
     let (mut out, mut err) = (Vec::new(alloc), Vec::new(alloc));
     let got = program(rt, alloc, &words, input.as_bytes(), &mut out, &mut err);
+    let length = input.len();
+    let shown = if length > MOST_SHOWN { "long" } else { input };
     assert_eq!(rt;
         out.as_slice(),
         output.as_bytes(),
-        "the output of {input:?}"
+        "the output of {shown:?}, {length} bytes"
     );
     assert_eq!(rt;
         err.as_slice(),
         errors.as_bytes(),
-        "the errors of {input:?}"
+        "the errors of {shown:?}, {length} bytes"
     );
-    assert_eq!(rt; got, status, "the status of {input:?}");
+    assert_eq!(rt; got, status, "the status of {shown:?}, {length} bytes");
     Ok(())
 }
 
@@ -136,7 +141,7 @@ fn scripts(rt: HostRuntime) -> Result<(), Fail> {
 }
 
 /// Scripts of the whole format, with what they write or which fault they have. A `/` stands for a line feed.
-const WHOLE: [(&str, (u8, &str, &str)); 37] = [
+const WHOLE: [(&str, (u8, &str, &str)); 30] = [
     (
         "cuckoo 1/worker/insert 18446744073709551615 9/insert 0 0/list/end/",
         (
@@ -240,28 +245,6 @@ const WHOLE: [(&str, (u8, &str, &str)); 37] = [
         "cuckoo 1/worker/list 1/",
         (1, "", "cuckoo: line 3: bad command/"),
     ),
-    ("cuckoo 1/find 1/", (1, "", "cuckoo: line 2: bad command/")),
-    ("cuckoo 1/end/", (1, "", "cuckoo: line 2: bad command/")),
-    (
-        "cuckoo 1/worker/power 3/",
-        (1, "", "cuckoo: line 3: bad command/"),
-    ),
-    (
-        "cuckoo 1/worker/find  5/",
-        (1, "", "cuckoo: line 3: bad command/"),
-    ),
-    (
-        "cuckoo 1/worker/find 18446744073709551616/",
-        (1, "", "cuckoo: line 3: bad number/"),
-    ),
-    (
-        "cuckoo 1/worker/end//",
-        (1, "", "cuckoo: line 4: bad command/"),
-    ),
-    (
-        "cuckoo 1/worker/end/x",
-        (1, "", "cuckoo: line 4: truncated/"),
-    ),
 ];
 
 #[test]
@@ -276,87 +259,71 @@ fn whole_scripts(rt: HostRuntime) -> Result<(), Fail> {
     Ok(())
 }
 
-/// A piece of a text, and how often it stands there.
-type Piece = (&'static str, usize);
+/// Each row is a script and the fault that it has. A `/` stands for a line feed, and `*N` behind a piece says how often the
+/// piece stands there; pieces are separated by `|`.
+const FAULTS: &str = "\
+cuckoo 1/find 1/ => line 2: bad command
+cuckoo 1/end/ => line 2: bad command
+cuckoo 1/worker/power 3/ => line 3: bad command
+cuckoo 1/worker/find  5/ => line 3: bad command
+cuckoo 1/worker/find 18446744073709551616/ => line 3: bad number
+cuckoo 1/worker/end// => line 4: bad command
+cuckoo 1/worker/end/x => line 4: truncated
+cuckoo 1/|a*201 => line 2: too long
+cuckoo 1/|worker/*257 => line 258: too long
+cuckoo 2/|worker/*1025 => line 1026: too long
+cuckoo 1/worker/|len/*1000001 => line 1000003: too long
+";
 
-/// Ten lines for even keys, and ten for odd ones.
-const EVEN: &str = "add 0 1/add 2 1/add 4 1/add 6 1/add 8 1/\
-                    add 10 1/add 12 1/add 14 1/add 16 1/add 18 1/";
+/// Two workers who add one to ten keys each, a hundred times.
+const ADDING: &str = "\
+cuckoo 1/turns 4294967295/worker/\
+|add 0 1/add 2 1/add 4 1/add 6 1/add 8 1/add 10 1/add 12 1/add 14 1/add 16 1/add 18 1/*100\
+|worker/\
+|add 1 1/add 3 1/add 5 1/add 7 1/add 9 1/add 11 1/add 13 1/add 15 1/add 17 1/add 19 1/*100\
+|end/";
 
-const ODD: &str = "add 1 1/add 3 1/add 5 1/add 7 1/add 9 1/\
-                   add 11 1/add 13 1/add 15 1/add 17 1/add 19 1/";
+const ADDED: &str = "\
+worker 1/|new/*10|set/*990|worker 2/|new/*10|set/*990\
+|map/0 100/1 100/2 100/3 100/4 100/5 100/6 100/7 100/8 100/9 100/\
+10 100/11 100/12 100/13 100/14 100/15 100/16 100/17 100/18 100/19 100/";
 
-/// Scripts in pieces, with what they write or which fault they have. A `/` stands for a line feed.
-const LONG: [(&[Piece], (u8, &[Piece], &str)); 5] = [
-    (
-        &[
-            ("cuckoo 1/turns 4294967295/worker/", 1),
-            (EVEN, 100),
-            ("worker/", 1),
-            (ODD, 100),
-            ("end/", 1),
-        ],
-        (
-            0,
-            &[
-                ("worker 1/", 1),
-                ("new/", 10),
-                ("set/", 990),
-                ("worker 2/", 1),
-                ("new/", 10),
-                ("set/", 990),
-                (
-                    "map/0 100/1 100/2 100/3 100/4 100/5 100/6 100/7 100/8 100/9 100/",
-                    1,
-                ),
-                (
-                    "10 100/11 100/12 100/13 100/14 100/15 100/16 100/17 100/18 100/19 100/",
-                    1,
-                ),
-            ],
-            "",
-        ),
-    ),
-    (
-        &[("cuckoo 1/", 1), ("a", 201)],
-        (1, &[], "cuckoo: line 2: too long/"),
-    ),
-    (
-        &[("cuckoo 1/", 1), ("worker/", 257)],
-        (1, &[], "cuckoo: line 258: too long/"),
-    ),
-    (
-        &[("cuckoo 2/", 1), ("worker/", 1025)],
-        (1, &[], "cuckoo: line 1026: too long/"),
-    ),
-    (
-        &[("cuckoo 1/worker/", 1), ("len/", 1_000_001)],
-        (1, &[], "cuckoo: line 1000003: too long/"),
-    ),
-];
-
-fn whole_text(alloc: Global, pieces: &[Piece]) -> Result<String, Fail> {
+/// The text that is written in pieces.
+fn whole_text(alloc: Global, pieces: &str) -> Result<String, Fail> {
     let mut text = String::new(alloc);
-    for (piece, times) in pieces {
+    for piece in pieces.split('|') {
+        let (piece, times) = piece.split_once('*').unwrap_or((piece, "1"));
+        let Ok(times) = times.parse::<usize>() else {
+            return Err(Fail::from("a piece with no number"));
+        };
         let piece = piece.replace(alloc, "/", "\n")?;
-        text.push_str(&piece.repeat(alloc, *times)?)?;
+        text.push_str(&piece.repeat(alloc, times)?)?;
     }
     Ok(text)
 }
 
 #[test]
-fn long_scripts(rt: HostRuntime) -> Result<(), Fail> {
-    for (input, (status, output, errors)) in LONG {
-        let input = whole_text(rt.alloc(), input)?;
-        let output = whole_text(rt.alloc(), output)?;
-        let errors = errors.replace(rt.alloc(), "/", "\n")?;
-        let want = (status, output.as_str(), errors.as_str());
-        check(&rt, rt.alloc(), &["run"], &input, want)?;
+fn faults(rt: HostRuntime) -> Result<(), Fail> {
+    for row in FAULTS.lines() {
+        let Some((script, fault)) = row.split_once(" => ") else {
+            return Err(Fail::from("a row with no fault"));
+        };
+        let input = whole_text(rt.alloc(), script)?;
+        let errors = format!(in rt.alloc(); "cuckoo: {fault}\n")?;
+        check(&rt, rt.alloc(), &["run"], &input, (1, "", errors.as_str()))?;
     }
     Ok(())
 }
 
-/// Adds a line for every second one of the numbers below 2000, from the first on: the words, and then the number twice.
+/// Each worker is the only one who adds to its keys.
+#[test]
+fn workers_add(rt: HostRuntime) -> Result<(), Fail> {
+    let input = whole_text(rt.alloc(), ADDING)?;
+    let output = whole_text(rt.alloc(), ADDED)?;
+    check(&rt, rt.alloc(), &["run"], &input, (0, output.as_str(), ""))
+}
+
+/// Adds a line for each number below 2000, from the first on and in such steps: the words, and then the number twice.
 fn add_lines(text: &mut String, words: &str, first: u64, step: usize) -> Result<(), Fail> {
     for number in (first..2000).step_by(step) {
         writeln!(text, "{words}{number} {number}")?;
@@ -373,14 +340,8 @@ fn workers_grow_a_table(rt: HostRuntime) -> Result<(), Fail> {
         add_lines(&mut input, "insert ", first, 2)?;
     }
     input.push_str("end\n")?;
-    let answers = [
-        ("worker 1/", 1),
-        ("new/", 1000),
-        ("worker 2/", 1),
-        ("new/", 1000),
-        ("map/", 1),
-    ];
-    let mut output = whole_text(rt.alloc(), &answers)?;
+    let answers = "worker 1/|new/*1000|worker 2/|new/*1000|map/";
+    let mut output = whole_text(rt.alloc(), answers)?;
     add_lines(&mut output, "", 0, 1)?;
     check(&rt, rt.alloc(), &["run"], &input, (0, output.as_str(), ""))
 }
