@@ -323,9 +323,16 @@ fn workers_add(rt: HostRuntime) -> Result<(), Fail> {
     check(&rt, rt.alloc(), &["run"], &input, (0, output.as_str(), ""))
 }
 
-/// Adds a line for each number below 2000, from the first on and in such steps: the words, and then the number twice.
-fn add_lines(text: &mut String, words: &str, first: u64, step: usize) -> Result<(), Fail> {
-    for number in (first..2000).step_by(step) {
+/// Adds so many lines, for the numbers from the first on in such steps: the words, and then the number twice.
+fn add_lines(
+    text: &mut String,
+    words: &str,
+    first: u64,
+    step: u64,
+    lines: u64,
+) -> Result<(), Fail> {
+    for line in 0..lines {
+        let number = first.wrapping_add(line.wrapping_mul(step));
         writeln!(text, "{words}{number} {number}")?;
     }
     Ok(())
@@ -337,12 +344,12 @@ fn workers_grow_a_table(rt: HostRuntime) -> Result<(), Fail> {
     let mut input = String::from_str(rt.alloc(), "cuckoo 1\nload 0\nturns 4294967295\n")?;
     for first in 0..2u64 {
         input.push_str("worker\n")?;
-        add_lines(&mut input, "insert ", first, 2)?;
+        add_lines(&mut input, "insert ", first, 2, 1000)?;
     }
     input.push_str("end\n")?;
     let answers = "worker 1/|new/*1000|worker 2/|new/*1000|map/";
     let mut output = whole_text(rt.alloc(), answers)?;
-    add_lines(&mut output, "", 0, 1)?;
+    add_lines(&mut output, "", 0, 1, 2000)?;
     check(&rt, rt.alloc(), &["run"], &input, (0, output.as_str(), ""))
 }
 
@@ -524,7 +531,7 @@ fn made_script_runs(rt: HostRuntime) -> Result<(), Fail> {
 
 /// The number that a command line adds.
 fn amount_of(line: &str) -> Option<u64> {
-    line.strip_prefix("add ")?.split_once(' ')?.1.parse().ok()
+    number_of(line.strip_prefix("add ")?)
 }
 
 /// The sum of the numbers that the lines added that are answered `new` or `set`.
@@ -538,18 +545,26 @@ fn sum_of_answered(script: &str, output: &str) -> u64 {
     sum
 }
 
-/// The sum of the numbers to which keys are bound at the end, and how many keys those are.
-fn sum_of_map(output: &str) -> (u64, usize) {
-    let (mut sum, mut keys) = (0u64, 0usize);
-    let map = output.split_once("map\n").map_or("", |parts| parts.1);
-    for pair in map.lines() {
-        let number = pair
-            .split_once(' ')
-            .and_then(|words| words.1.parse::<u64>().ok());
-        sum = sum.wrapping_add(number.unwrap_or(u64::MAX));
-        keys += 1;
+/// The lines of the pairs that are bound at the end.
+fn map_of(output: &str) -> &str {
+    match output.split_once("map\n") {
+        Some((_, map)) => map,
+        None => "",
     }
-    (sum, keys)
+}
+
+/// The number of a line `K N`.
+fn number_of(pair: &str) -> Option<u64> {
+    pair.split_once(' ')?.1.parse().ok()
+}
+
+/// The sum of the numbers to which keys are bound.
+fn sum_of_map(map: &str) -> u64 {
+    let mut sum = 0u64;
+    for pair in map.lines() {
+        sum = sum.wrapping_add(number_of(pair).unwrap_or(u64::MAX));
+    }
+    sum
 }
 
 fn text_of(bytes: &[u8]) -> Result<&str, Fail> {
@@ -576,7 +591,8 @@ fn made_scripts_run(rt: HostRuntime) -> Result<(), Fail> {
         let script = output_of(&rt, rt.alloc(), &words, b"")?;
         let output = output_of(&rt, rt.alloc(), &["run"], &script)?;
         let (script, output) = (text_of(&script)?, text_of(&output)?);
-        let (sum, keys) = sum_of_map(output);
+        let map = map_of(output);
+        let (sum, keys) = (sum_of_map(map), map.lines().count());
         let fresh = output.lines().filter(|answer| *answer == "new").count();
         assert_eq!(rt; sum_of_answered(script, output), sum, "{workers} workers");
         assert_eq!(rt; fresh, keys, "{workers} workers");
