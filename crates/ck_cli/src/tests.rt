@@ -16,6 +16,9 @@ fn words_of(alloc: Global, words: &[&str]) -> Result<Vec<String>, Fail> {
     Ok(all)
 }
 
+/// The longest script that a failed test shows.
+const MOST_SHOWN: usize = 1000;
+
 /// Runs the program, and compares its status and what it writes to both outputs.
 fn check<R: Abort + Files + Threads + Sync>(
     rt: &R,
@@ -27,17 +30,19 @@ fn check<R: Abort + Files + Threads + Sync>(
     let words = words_of(alloc, words)?;
     let (mut out, mut err) = (Vec::new(alloc), Vec::new(alloc));
     let got = program(rt, alloc, &words, input.as_bytes(), &mut out, &mut err);
+    let length = input.len();
+    let shown = if length > MOST_SHOWN { "long" } else { input };
     assert_eq!(rt;
         out.as_slice(),
         output.as_bytes(),
-        "the output of {input:?}"
+        "the output of {shown:?}, {length} bytes"
     );
     assert_eq!(rt;
         err.as_slice(),
         errors.as_bytes(),
-        "the errors of {input:?}"
+        "the errors of {shown:?}, {length} bytes"
     );
-    assert_eq!(rt; got, status, "the status of {input:?}");
+    assert_eq!(rt; got, status, "the status of {shown:?}, {length} bytes");
     Ok(())
 }
 
@@ -254,6 +259,100 @@ fn whole_scripts(rt: HostRuntime) -> Result<(), Fail> {
     Ok(())
 }
 
+/// Each row is a script and the fault that it has. A `/` stands for a line feed, and `*N` behind a piece says how often the
+/// piece stands there; pieces are separated by `|`.
+const FAULTS: &str = "\
+cuckoo 1/find 1/ => line 2: bad command
+cuckoo 1/end/ => line 2: bad command
+cuckoo 1/worker/power 3/ => line 3: bad command
+cuckoo 1/worker/find  5/ => line 3: bad command
+cuckoo 1/worker/find 18446744073709551616/ => line 3: bad number
+cuckoo 1/worker/end// => line 4: bad command
+cuckoo 1/worker/end/x => line 4: truncated
+cuckoo 1/|a*201 => line 2: too long
+cuckoo 1/|worker/*257 => line 258: too long
+cuckoo 2/|worker/*1025 => line 1026: too long
+cuckoo 1/worker/|len/*1000001 => line 1000003: too long
+";
+
+/// Two workers who add one to ten keys each, a hundred times.
+const ADDING: &str = "\
+cuckoo 1/turns 4294967295/worker/\
+|add 0 1/add 2 1/add 4 1/add 6 1/add 8 1/add 10 1/add 12 1/add 14 1/add 16 1/add 18 1/*100\
+|worker/\
+|add 1 1/add 3 1/add 5 1/add 7 1/add 9 1/add 11 1/add 13 1/add 15 1/add 17 1/add 19 1/*100\
+|end/";
+
+const ADDED: &str = "\
+worker 1/|new/*10|set/*990|worker 2/|new/*10|set/*990\
+|map/0 100/1 100/2 100/3 100/4 100/5 100/6 100/7 100/8 100/9 100/\
+10 100/11 100/12 100/13 100/14 100/15 100/16 100/17 100/18 100/19 100/";
+
+/// The text that is written in pieces.
+fn whole_text(alloc: Global, pieces: &str) -> Result<String, Fail> {
+    let mut text = String::new(alloc);
+    for piece in pieces.split('|') {
+        let (piece, times) = piece.split_once('*').unwrap_or((piece, "1"));
+        let Ok(times) = times.parse::<usize>() else {
+            return Err(Fail::from("a piece with no number"));
+        };
+        let piece = piece.replace(alloc, "/", "\n")?;
+        text.push_str(&piece.repeat(alloc, times)?)?;
+    }
+    Ok(text)
+}
+
+#[test]
+fn faults(rt: HostRuntime) -> Result<(), Fail> {
+    for row in FAULTS.lines() {
+        let Some((script, fault)) = row.split_once(" => ") else {
+            return Err(Fail::from("a row with no fault"));
+        };
+        let input = whole_text(rt.alloc(), script)?;
+        let errors = format!(in rt.alloc(); "cuckoo: {fault}\n")?;
+        check(&rt, rt.alloc(), &["run"], &input, (1, "", errors.as_str()))?;
+    }
+    Ok(())
+}
+
+/// Each worker is the only one who adds to its keys.
+#[test]
+fn workers_add(rt: HostRuntime) -> Result<(), Fail> {
+    let input = whole_text(rt.alloc(), ADDING)?;
+    let output = whole_text(rt.alloc(), ADDED)?;
+    check(&rt, rt.alloc(), &["run"], &input, (0, output.as_str(), ""))
+}
+
+/// Adds so many lines, for the numbers from the first on in such steps: the words, and then the number twice.
+fn add_lines(
+    text: &mut String,
+    words: &str,
+    first: u64,
+    step: u64,
+    lines: u64,
+) -> Result<(), Fail> {
+    for line in 0..lines {
+        let number = first.wrapping_add(line.wrapping_mul(step));
+        writeln!(text, "{words}{number} {number}")?;
+    }
+    Ok(())
+}
+
+/// Two workers fill a table that has to grow, the one with the even keys, the other with the odd ones.
+#[test]
+fn workers_grow_a_table(rt: HostRuntime) -> Result<(), Fail> {
+    let mut input = String::from_str(rt.alloc(), "cuckoo 1\nload 0\nturns 4294967295\n")?;
+    for first in 0..2u64 {
+        input.push_str("worker\n")?;
+        add_lines(&mut input, "insert ", first, 2, 1000)?;
+    }
+    input.push_str("end\n")?;
+    let answers = "worker 1/|new/*1000|worker 2/|new/*1000|map/";
+    let mut output = whole_text(rt.alloc(), answers)?;
+    add_lines(&mut output, "", 0, 1, 2000)?;
+    check(&rt, rt.alloc(), &["run"], &input, (0, output.as_str(), ""))
+}
+
 #[test]
 fn words(rt: HostRuntime) -> Result<(), Fail> {
     let refused: [&[&str]; 14] = [
@@ -426,6 +525,92 @@ fn made_script_runs(rt: HostRuntime) -> Result<(), Fail> {
     assert_eq!(rt;
         output.as_slice(),
         b"worker 1\nnew\nnew\nnew\nmap\n11 566\n48 955\n55 97\n".as_slice()
+    );
+    Ok(())
+}
+
+/// The number that a command line adds.
+fn amount_of(line: &str) -> Option<u64> {
+    number_of(line.strip_prefix("add ")?)
+}
+
+/// The sum of the numbers that the lines added that are answered `new` or `set`.
+fn sum_of_answered(script: &str, output: &str) -> u64 {
+    let mut sum = 0u64;
+    for (line, answer) in script.lines().skip(1).zip(output.lines()) {
+        if answer == "new" || answer == "set" {
+            sum = sum.wrapping_add(amount_of(line).unwrap_or(u64::MAX));
+        }
+    }
+    sum
+}
+
+/// The lines of the pairs that are bound at the end.
+fn map_of(output: &str) -> &str {
+    match output.split_once("map\n") {
+        Some((_, map)) => map,
+        None => "",
+    }
+}
+
+/// The number of a line `K N`.
+fn number_of(pair: &str) -> Option<u64> {
+    pair.split_once(' ')?.1.parse().ok()
+}
+
+/// The sum of the numbers to which keys are bound.
+fn sum_of_map(map: &str) -> u64 {
+    let mut sum = 0u64;
+    for pair in map.lines() {
+        sum = sum.wrapping_add(number_of(pair).unwrap_or(u64::MAX));
+    }
+    sum
+}
+
+fn text_of(bytes: &[u8]) -> Result<&str, Fail> {
+    str::from_utf8(bytes).map_err(|_| Fail::from("bytes that are no text"))
+}
+
+/// What is bound at the end is what the answered lines added.
+#[test]
+fn made_scripts_run(rt: HostRuntime) -> Result<(), Fail> {
+    for (seed, workers, lines) in [
+        ("7", "4", "10000"),
+        ("1", "4", "250000"),
+        ("1", "1024", "900"),
+    ] {
+        let words = [
+            "make",
+            "--seed",
+            seed,
+            "--workers",
+            workers,
+            "--lines",
+            lines,
+        ];
+        let script = output_of(&rt, rt.alloc(), &words, b"")?;
+        let output = output_of(&rt, rt.alloc(), &["run"], &script)?;
+        let (script, output) = (text_of(&script)?, text_of(&output)?);
+        let map = map_of(output);
+        let (sum, keys) = (sum_of_map(map), map.lines().count());
+        let fresh = output.lines().filter(|answer| *answer == "new").count();
+        assert_eq!(rt; sum_of_answered(script, output), sum, "{workers} workers");
+        assert_eq!(rt; fresh, keys, "{workers} workers");
+        assert_eq!(rt; keys, 64, "{workers} workers");
+    }
+    Ok(())
+}
+
+/// Of two workers who insert one key, one does.
+#[test]
+fn one_of_two_workers(rt: HostRuntime) -> Result<(), Fail> {
+    let input = b"cuckoo 1\nturns 4294967295\nworker\ninsert 1 10\nworker\ninsert 1 20\nend\n";
+    let output = output_of(&rt, rt.alloc(), &["run"], input)?;
+    let output = text_of(&output)?;
+    assert!(rt;
+        output == "worker 1\nnew\nworker 2\nold\nmap\n1 10\n"
+            || output == "worker 1\nold\nworker 2\nnew\nmap\n1 20\n",
+        "{output:?}"
     );
     Ok(())
 }
