@@ -10,6 +10,8 @@ mod calls;
 #[cfg(test)]
 mod fixtures;
 #[cfg(test)]
+mod growing;
+#[cfg(test)]
 mod growth;
 #[cfg(test)]
 mod keys;
