@@ -24,6 +24,8 @@ mod nested;
 #[cfg(test)]
 mod owner;
 #[cfg(test)]
+mod requests;
+#[cfg(test)]
 mod scripts;
 #[cfg(test)]
 mod search;
