@@ -10,6 +10,8 @@ mod calls;
 #[cfg(test)]
 mod fixtures;
 #[cfg(test)]
+mod growing;
+#[cfg(test)]
 mod growth;
 #[cfg(test)]
 mod keys;
@@ -21,6 +23,8 @@ mod memory;
 mod nested;
 #[cfg(test)]
 mod owner;
+#[cfg(test)]
+mod requests;
 #[cfg(test)]
 mod scripts;
 #[cfg(test)]

@@ -34,7 +34,7 @@ const SETTINGS: Settings = Settings {
 };
 
 /// All memory that is left, in blocks from large to small.
-fn hoard(alloc: Global) -> Result<Vec<Vec<u8>>, AllocError> {
+pub fn hoard(alloc: Global) -> Result<Vec<Vec<u8>>, AllocError> {
     let mut blocks = Vec::with_capacity(alloc, BLOCKS)?;
     let mut size = 1usize << 46;
     for _ in 0..43 {
@@ -45,7 +45,7 @@ fn hoard(alloc: Global) -> Result<Vec<Vec<u8>>, AllocError> {
 }
 
 /// Takes blocks of this size until there is none left.
-fn take_all(alloc: Global, size: usize, blocks: &mut Vec<Vec<u8>>) -> Result<(), AllocError> {
+pub fn take_all(alloc: Global, size: usize, blocks: &mut Vec<Vec<u8>>) -> Result<(), AllocError> {
     for _ in blocks.len()..BLOCKS {
         let Ok(block) = Vec::with_capacity(alloc, size) else {
             return Ok(());

@@ -1,0 +1,276 @@
+//! Requests for memory that are refused in turn, where a table grows or lists its pairs.
+//!
+//! A test takes all memory that the allocator still gives, and gives back one block from call to call, which is as large as the
+//! next request of the call.
+ghost use Rattle.std.specs.Prelude.{◌≡◌};
+
+use crate::fixtures::{NumCaller, NumLocked, NumTable, TWO_STRIPES};
+use crate::memory::{hoard, take_all};
+use ck_key::NumKey;
+use ck_table::{GrowFault, Refused, Why};
+use std::alloc::{AllocError, Global};
+use std::process::Abort;
+use std::test::Fail;
+
+/// Eight keys, each four in the bucket that they share.
+const KEYS: [u64; 8] = [3, 7, 11, 15, 12, 8, 4, 0];
+
+/// A key that has one bucket alone, which the first four share.
+const NEXT: NumKey = NumKey(19);
+
+/// Room for the buckets of a stripe at power 3, and for no more than these.
+const AT_THREE: usize = 448;
+
+/// The same at power 4.
+const AT_FOUR: usize = 896;
+
+/// Room for a list of eight pairs.
+const LIST: usize = 320;
+
+/// What is called.
+#[derive(Clone, Copy)]
+enum Subject {
+    /// Makes a table of 2^2 buckets one of 2^4.
+    Rehash,
+    /// Binds a key for which the table must grow.
+    Insert,
+    /// The same in a session.
+    InsertLocked,
+    /// Lists the pairs in a session.
+    Export,
+}
+
+/// Calls on a table of power 2, and the memory for them.
+#[derive(Clone, Copy)]
+struct Row {
+    what: &'static str,
+    subject: Subject,
+    /// The power after each call that is refused.
+    refused: &'static [u32],
+    /// How large a block is given back after each of them. Where none is, all memory is given back.
+    blocks: &'static [usize],
+    /// The power after the last call, which is not refused.
+    done: u32,
+}
+
+const ROWS: [Row; 5] = [
+    Row {
+        what: "two doublings of two stripes",
+        subject: Subject::Rehash,
+        refused: &[2, 2, 3, 3],
+        blocks: &[AT_THREE, AT_THREE, AT_FOUR, AT_FOUR],
+        done: 4,
+    },
+    Row {
+        what: "an insertion for which two stripes double",
+        subject: Subject::Insert,
+        refused: &[2, 2],
+        blocks: &[AT_THREE, AT_THREE],
+        done: 3,
+    },
+    Row {
+        what: "the same in a session",
+        subject: Subject::InsertLocked,
+        refused: &[2, 2],
+        blocks: &[AT_THREE, AT_THREE],
+        done: 3,
+    },
+    Row {
+        what: "an insertion in a session, and again with ample memory",
+        subject: Subject::InsertLocked,
+        refused: &[2],
+        blocks: &[],
+        done: 3,
+    },
+    Row {
+        what: "a list",
+        subject: Subject::Export,
+        refused: &[2],
+        blocks: &[LIST],
+        done: 2,
+    },
+];
+
+/// Takes the free blocks too that are of no size that `hoard` asks for.
+fn take_small(alloc: Global, blocks: &mut Vec<Vec<u8>>) -> Result<(), AllocError> {
+    for sixteens in 0..80usize {
+        take_all(alloc, 1280 - 16 * sixteens, blocks)?;
+    }
+    Ok(())
+}
+
+/// Blocks of these sizes, of which the first is the last in the list.
+fn blocks_of(alloc: Global, sizes: &[usize]) -> Result<Vec<Vec<u8>>, AllocError> {
+    let mut blocks = Vec::with_capacity(alloc, sizes.len())?;
+    for size in sizes.iter().rev() {
+        blocks.push(Vec::with_capacity(alloc, *size)?)?;
+    }
+    Ok(blocks)
+}
+
+fn bind_all(rt: &impl Abort, caller: &mut NumCaller<'_>) {
+    for key in KEYS {
+        let fresh = caller.insert(NumKey(key), 10 * key);
+        assert!(rt; fresh.is_ok());
+    }
+}
+
+/// Whether key and value came back for want of memory.
+fn is_back(refused: Refused<NumKey, u64>) -> bool {
+    let Refused { key, value, why } = refused;
+    key == NEXT && value == 190 && why == Why::Memory
+}
+
+/// Whether the table was made to grow. Refused, it wanted memory.
+fn rehash(rt: &impl Abort, caller: &mut NumCaller<'_>) -> bool {
+    let grown = caller.rehash(4);
+    assert!(rt; grown == Ok(true) || grown == Err(GrowFault::Memory));
+    grown.is_ok()
+}
+
+fn insert(rt: &impl Abort, caller: &mut NumCaller<'_>) -> bool {
+    match caller.insert(NEXT, 190) {
+        Ok(fresh) => {
+            assert!(rt; fresh);
+            true
+        }
+        Err(refused) => {
+            assert!(rt; is_back(refused));
+            false
+        }
+    }
+}
+
+fn insert_locked(rt: &impl Abort, locked: &mut NumLocked<'_>) -> bool
+    ensures { locked.new.table ≡ locked.old.table }
+{
+    match locked.insert(NEXT, 190) {
+        Ok(fresh) => {
+            assert!(rt; fresh);
+            true
+        }
+        Err(refused) => {
+            assert!(rt; is_back(refused));
+            false
+        }
+    }
+}
+
+fn export(rt: &impl Abort, alloc: Global, locked: &NumLocked<'_>) -> bool {
+    match locked.export(alloc) {
+        Ok(pairs) => {
+            assert!(rt; pairs.len() == 8);
+            true
+        }
+        Err(AllocError) => false,
+    }
+}
+
+/// A session goes on, whatever was refused: each key has its value, and one is erased and bound again.
+fn go_on(rt: &impl Abort, locked: &mut NumLocked<'_>, bound: bool)
+    ensures { locked.new.table ≡ locked.old.table }
+{
+    for key in KEYS {
+        assert!(rt; locked.find(&NumKey(key)) == Some(&(10 * key)));
+    }
+    assert!(rt; locked.find(&NEXT).is_some() == bound);
+    assert!(rt; locked.len() == 8 + u64::from(bound));
+    let old = locked.erase(&NumKey(8));
+    assert!(rt; old == Some(80));
+    let fresh = locked.insert(NumKey(8), 80);
+    assert!(rt; matches!(fresh, Ok(true)));
+}
+
+/// Makes a call in a session, and says whether there was memory for it.
+fn call_locked<'t>(
+    rt: &impl Abort,
+    alloc: Global,
+    caller: NumCaller<'t>,
+    subject: Subject,
+) -> (NumCaller<'t>, bool) {
+    let table = caller.table();
+    let Ok(mut locked) = caller.lock() else {
+        panic!(rt; "a table that was not locked");
+    };
+    let (done, bound) = match subject {
+        Subject::Export => (export(rt, alloc, &locked), false),
+        _ => {
+            let done = insert_locked(rt, &mut locked);
+            (done, done)
+        }
+    };
+    go_on(rt, &mut locked, bound);
+    (table.caller(locked.unlock()), done)
+}
+
+/// Makes the call, and says whether there was memory for it.
+fn call<'t>(
+    rt: &impl Abort,
+    alloc: Global,
+    caller: NumCaller<'t>,
+    subject: Subject,
+) -> (NumCaller<'t>, bool) {
+    let mut caller = caller;
+    match subject {
+        Subject::Rehash => {
+            let done = rehash(rt, &mut caller);
+            (caller, done)
+        }
+        Subject::Insert => {
+            let done = insert(rt, &mut caller);
+            (caller, done)
+        }
+        Subject::InsertLocked | Subject::Export => call_locked(rt, alloc, caller, subject),
+    }
+}
+
+/// Makes the call, which is to be refused or not, and then to leave this power. No key is lost.
+fn check_call<'t>(
+    rt: &impl Abort,
+    alloc: Global,
+    caller: NumCaller<'t>,
+    row: &Row,
+    want: (bool, u32),
+) -> NumCaller<'t> {
+    let what = row.what;
+    let (mut caller, done) = call(rt, alloc, caller, row.subject);
+    let power = caller.power();
+    assert!(rt; power.is_ok(), "{what}");
+    let seen = (done, power.unwrap_or(0));
+    assert!(rt; seen == want, "{what}: {}, power {}", seen.0, seen.1);
+    for key in KEYS {
+        let found = caller.find(&NumKey(key));
+        assert!(rt; found == Ok(Some(10 * key)), "{what}: key {key}");
+    }
+    caller
+}
+
+fn check(rt: &impl Abort, alloc: Global, row: &Row) -> Result<(), Fail> {
+    let (table, passes) = NumTable::open(alloc, TWO_STRIPES)?;
+    let mut callers = table.callers(alloc, passes)?;
+    let Some(mut caller) = callers.pop() else {
+        return Err(Fail::from("no caller"));
+    };
+    bind_all(rt, &mut caller);
+    let mut blocks = blocks_of(alloc, row.blocks)?;
+    let mut rest = hoard(alloc)?;
+    take_small(alloc, &mut rest)?;
+    for power in row.refused {
+        caller = check_call(rt, alloc, caller, row, (false, *power));
+        drop(blocks.pop());
+    }
+    if row.blocks.is_empty() {
+        rest.clear();
+    }
+    check_call(rt, alloc, caller, row, (true, row.done));
+    drop(rest);
+    Ok(())
+}
+
+#[test]
+fn refused_in_turn(rt: HostRuntime) -> Result<(), Fail> {
+    for row in &ROWS {
+        check(&rt, rt.alloc(), row)?;
+    }
+    Ok(())
+}
