@@ -261,8 +261,9 @@ fn check<R: Threads + Abort + Sync>(rt: &R, alloc: Global, run: &Run) -> Result<
     let pairs = pairs?;
     let wrong = read(&notes.wrong);
     assert_eq!(rt; wrong, 0, "{}", run.what);
-    assert!(rt; run.few() <= pairs.len() as u64, "{}", run.what);
-    let (few, bound) = pairs.split_at(run.few() as usize);
+    let few = run.few() as usize;
+    assert!(rt; few <= pairs.len(), "{}", run.what);
+    let (few, bound) = pairs.split_at(few);
     check_few(rt, run, &notes, few);
     check_bound(rt, run, bound);
     Ok(())

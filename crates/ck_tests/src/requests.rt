@@ -7,30 +7,37 @@ ghost use Rattle.std.specs.Prelude.{◌≡◌};
 use crate::fixtures::{NumCaller, NumLocked, NumTable, TWO_STRIPES};
 use crate::memory::{hoard, take_all};
 use ck_key::NumKey;
-use ck_table::{GrowFault, Refused, Why};
+use ck_table::{GrowFault, Refused, Settings, Why};
 use std::alloc::{AllocError, Global};
 use std::process::Abort;
 use std::test::Fail;
 
-/// Eight keys, each four in the bucket that they share.
-const KEYS: [u64; 8] = [3, 7, 11, 15, 12, 8, 4, 0];
+/// Two stripes of eight buckets each. A stripe of fewer buckets wants so little when it grows that the allocator would keep what
+/// is given back for other requests of just that size.
+const SETTINGS: Settings = Settings {
+    power: 4,
+    ..TWO_STRIPES
+};
 
-/// A key that has one bucket alone, which the first four share.
-const NEXT: NumKey = NumKey(19);
+/// Eight keys. The first four have one bucket alone, which they share.
+const KEYS: [u64; 8] = [15, 31, 47, 63, 12, 8, 4, 0];
 
-/// Room for the buckets of a stripe at power 3, and for no more than these.
-const AT_THREE: usize = 448;
+/// A key that has that bucket alone too.
+const NEXT: NumKey = NumKey(79);
 
-/// The same at power 4.
-const AT_FOUR: usize = 896;
+/// Room for the sixteen buckets of a stripe at power 5, of 104 bytes each, and for no more than these.
+const AT_FIVE: usize = 1680;
+
+/// The same at power 6.
+const AT_SIX: usize = 3344;
 
 /// Room for a list of eight pairs.
-const LIST: usize = 320;
+const LIST: usize = 2048;
 
 /// What is called.
 #[derive(Clone, Copy)]
 enum Subject {
-    /// Makes a table of 2^2 buckets one of 2^4.
+    /// Makes a table of 2^4 buckets one of 2^6.
     Rehash,
     /// Binds a key for which the table must grow.
     Insert,
@@ -40,7 +47,7 @@ enum Subject {
     Export,
 }
 
-/// Calls on a table of power 2, and the memory for them.
+/// Calls on a table of power 4, and the memory for them.
 #[derive(Clone, Copy)]
 struct Row {
     what: &'static str,
@@ -57,37 +64,37 @@ const ROWS: [Row; 5] = [
     Row {
         what: "two doublings of two stripes",
         subject: Subject::Rehash,
-        refused: &[2, 2, 3, 3],
-        blocks: &[AT_THREE, AT_THREE, AT_FOUR, AT_FOUR],
-        done: 4,
+        refused: &[4, 4, 5, 5],
+        blocks: &[AT_FIVE, AT_FIVE, AT_SIX, AT_SIX],
+        done: 6,
     },
     Row {
         what: "an insertion for which two stripes double",
         subject: Subject::Insert,
-        refused: &[2, 2],
-        blocks: &[AT_THREE, AT_THREE],
-        done: 3,
+        refused: &[4, 4],
+        blocks: &[AT_FIVE, AT_FIVE],
+        done: 5,
     },
     Row {
         what: "the same in a session",
         subject: Subject::InsertLocked,
-        refused: &[2, 2],
-        blocks: &[AT_THREE, AT_THREE],
-        done: 3,
+        refused: &[4, 4],
+        blocks: &[AT_FIVE, AT_FIVE],
+        done: 5,
     },
     Row {
         what: "an insertion in a session, and again with ample memory",
         subject: Subject::InsertLocked,
-        refused: &[2],
+        refused: &[4],
         blocks: &[],
-        done: 3,
+        done: 5,
     },
     Row {
         what: "a list",
         subject: Subject::Export,
-        refused: &[2],
+        refused: &[4],
         blocks: &[LIST],
-        done: 2,
+        done: 4,
     },
 ];
 
@@ -123,7 +130,7 @@ fn is_back(refused: Refused<NumKey, u64>) -> bool {
 
 /// Whether the table was made to grow. Refused, it wanted memory.
 fn rehash(rt: &impl Abort, caller: &mut NumCaller<'_>) -> bool {
-    let grown = caller.rehash(4);
+    let grown = caller.rehash(6);
     assert!(rt; grown == Ok(true) || grown == Err(GrowFault::Memory));
     grown.is_ok()
 }
@@ -246,7 +253,7 @@ fn check_call<'t>(
 }
 
 fn check(rt: &impl Abort, alloc: Global, row: &Row) -> Result<(), Fail> {
-    let (table, passes) = NumTable::open(alloc, TWO_STRIPES)?;
+    let (table, passes) = NumTable::open(alloc, SETTINGS)?;
     let mut callers = table.callers(alloc, passes)?;
     let Some(mut caller) = callers.pop() else {
         return Err(Fail::from("no caller"));
