@@ -9,6 +9,7 @@ mod doublings;
 mod growth;
 mod pauses;
 mod search;
+mod sessions;
 mod stripes;
 mod table;
 mod worker;
@@ -25,16 +26,18 @@ enum Measurement {
     Search,
     Calls,
     Growth,
+    Sessions,
 }
 
 /// Each with its word.
-const MEASUREMENTS: [(&str, Measurement); 3] = [
+const MEASUREMENTS: [(&str, Measurement); 4] = [
     ("search", Measurement::Search),
     ("calls", Measurement::Calls),
     ("growth", Measurement::Growth),
+    ("sessions", Measurement::Sessions),
 ];
 
-const WORDS: &str = "run measures all; search, calls or growth measures one";
+const WORDS: &str = "run measures all; search, calls, growth or sessions measures one";
 
 impl Measurement {
     fn run<R: Threads + Clock + Print + Sync>(self, rt: &R, alloc: Global) -> io::Result<()> {
@@ -46,6 +49,7 @@ impl Measurement {
                 doublings::run(rt, alloc)?;
                 pauses::run(rt, alloc)
             }
+            Measurement::Sessions => sessions::run(rt, alloc),
         }
     }
 }
