@@ -8,6 +8,7 @@ mod calls;
 mod doublings;
 mod growth;
 mod pauses;
+mod scripts;
 mod search;
 mod sessions;
 mod stripes;
@@ -27,17 +28,19 @@ enum Measurement {
     Calls,
     Growth,
     Sessions,
+    Scripts,
 }
 
 /// Each with its word.
-const MEASUREMENTS: [(&str, Measurement); 4] = [
+const MEASUREMENTS: [(&str, Measurement); 5] = [
     ("search", Measurement::Search),
     ("calls", Measurement::Calls),
     ("growth", Measurement::Growth),
     ("sessions", Measurement::Sessions),
+    ("scripts", Measurement::Scripts),
 ];
 
-const WORDS: &str = "run measures all; search, calls, growth or sessions measures one";
+const WORDS: &str = "run measures all; search, calls, growth, sessions or scripts measures one";
 
 impl Measurement {
     fn run<R: Threads + Clock + Print + Sync>(self, rt: &R, alloc: Global) -> io::Result<()> {
@@ -50,6 +53,7 @@ impl Measurement {
                 pauses::run(rt, alloc)
             }
             Measurement::Sessions => sessions::run(rt, alloc),
+            Measurement::Scripts => scripts::run(rt, alloc),
         }
     }
 }
