@@ -94,7 +94,7 @@ impl<'t> Filling<'t> {
         Err(io::Error::other("the table has not doubled"))
     }
 
-    /// The longest insertion of the keys after this one.
+    /// The longest insertion of the keys from this one on, which is bound by now.
     fn after(&mut self, rt: &impl Clock, keys: &[u64], number: usize) -> io::Result<u128> {
         let mut longest = 0;
         for key in keys.iter().skip(number).take(AFTER) {
