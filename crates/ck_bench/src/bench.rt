@@ -3,7 +3,7 @@
 ghost use Rattle.std.specs.Prelude.{◌<◌, ⊤};
 
 use crate::calls::{CALLS, Call, KEYS, KINDS, MOST, TIMES, random_keys};
-use crate::table::{Caller, NumTable, SETTINGS};
+use crate::table::{Caller, SETTINGS, open};
 use crate::worker::{Kind, Worker};
 use std::alloc::{AllocError, Global};
 use std::rt::Clock;
@@ -172,7 +172,7 @@ fn open_workers<'a>(
 }
 
 fn open_benches<'a>(alloc: Global, callers: &mut Vec<Caller<'a>>) -> io::Result<Vec<Bench<'a>>> {
-    let keys = random_keys(alloc, 2026)?;
+    let keys = random_keys(alloc, 2026, KEYS)?;
     let mut benches = Vec::new(alloc);
     for (name, kind, threads) in BENCHES {
         let workers = open_workers(alloc, kind, threads, callers)?;
@@ -206,12 +206,10 @@ fn print(rt: &impl Print, benches: &mut [Bench]) -> io::Result<()> {
 
 /// Measures and prints.
 pub fn run<R: Threads + Clock + Print + Sync>(rt: &R, alloc: Global) -> io::Result<()> {
-    let Ok((table, passes)) = NumTable::open(alloc, SETTINGS) else {
-        return Err(io::ErrorKind::OutOfMemory.into());
-    };
+    let (table, passes) = open(alloc, SETTINGS)?;
     let mut callers = table.callers(alloc, passes)?;
     let mut benches = open_benches(alloc, &mut callers)?;
-    let others = random_keys(alloc, 2027)?;
+    let others = random_keys(alloc, 2027, KEYS)?;
     measure(rt, alloc, &mut benches, &others)?;
     print(rt, &mut benches)
 }

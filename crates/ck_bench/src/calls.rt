@@ -51,10 +51,10 @@ pub const CALLS: [(&str, Call); KINDS] = [
     ("erase and insert", Call::EraseAndInsert),
 ];
 
-/// Random keys. Two seeds have none in common but for a chance in 2^24.
-pub fn random_keys(alloc: Global, seed: u64) -> Result<Vec<u64>, AllocError> {
+/// So many random keys. Two seeds have none in common but for a chance in 2^23.
+pub fn random_keys(alloc: Global, seed: u64, count: usize) -> Result<Vec<u64>, AllocError> {
     let mut random = Lcg64Xsh32::new(seed, 1);
-    let mut keys = Vec::from_elem(alloc, 0, KEYS)?;
+    let mut keys = Vec::from_elem(alloc, 0, count)?;
     for key in &mut keys {
         *key = random.next_u64();
     }

@@ -74,8 +74,8 @@ fn measure(rt: &impl Clock, sketches: &[Sketch], full: u32) -> io::Result<(u128,
 }
 
 /// Measures and prints.
-pub fn run(rt: &HostRuntime) -> io::Result<()> {
-    let sketches = full_sketches(rt.alloc())?;
+pub fn run(rt: &(impl Clock + Print), alloc: Global) -> io::Result<()> {
+    let sketches = full_sketches(alloc)?;
     for (what, full) in [("no path", ALL), ("one hop", 2)] {
         let (time, buckets, sum) = measure(rt, &sketches, full)?;
         println!(rt; "{what}: {time} ns for {buckets} buckets (sum {sum})")?;
