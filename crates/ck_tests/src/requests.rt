@@ -106,11 +106,16 @@ fn take_small(alloc: Global, blocks: &mut Vec<Vec<u8>>) -> Result<(), AllocError
     Ok(())
 }
 
-/// Blocks of these sizes, of which the first is the last in the list.
-fn blocks_of(alloc: Global, sizes: &[usize]) -> Result<Vec<Vec<u8>>, AllocError> {
+/// Blocks of these sizes, of which the first is the last in the list. Behind each is one that stays, so that no two become one.
+fn blocks_of(
+    alloc: Global,
+    sizes: &[usize],
+    between: &mut Vec<Vec<u8>>,
+) -> Result<Vec<Vec<u8>>, AllocError> {
     let mut blocks = Vec::with_capacity(alloc, sizes.len())?;
     for size in sizes.iter().rev() {
         blocks.push(Vec::with_capacity(alloc, *size)?)?;
+        between.push(Vec::with_capacity(alloc, *size)?)?;
     }
     Ok(blocks)
 }
@@ -259,7 +264,8 @@ fn check(rt: &impl Abort, alloc: Global, row: &Row) -> Result<(), Fail> {
         return Err(Fail::from("no caller"));
     };
     bind_all(rt, &mut caller);
-    let mut blocks = blocks_of(alloc, row.blocks)?;
+    let mut between = Vec::new(alloc);
+    let mut blocks = blocks_of(alloc, row.blocks, &mut between)?;
     let mut rest = hoard(alloc)?;
     take_small(alloc, &mut rest)?;
     for power in row.refused {
@@ -271,6 +277,7 @@ fn check(rt: &impl Abort, alloc: Global, row: &Row) -> Result<(), Fail> {
     }
     check_call(rt, alloc, caller, row, (true, row.done));
     drop(rest);
+    drop(between);
     Ok(())
 }
 
