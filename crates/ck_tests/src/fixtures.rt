@@ -7,6 +7,7 @@ use ck_model::history::Name;
 use ck_table::{Caller, LockedTable, Pass, Settings, Table};
 use std::alloc::{AllocError, Global};
 use std::collections::LinkedList;
+use std::sync::atomic::{AtomicU64, Ordering};
 use std::test::Fail;
 
 pub type NumTable = Table<NumKey, u64>;
@@ -135,4 +136,30 @@ pub fn close(
         Ok(pairs) => Ok(pairs),
         Err(_) => Err(Fail::from("a table that was not closed")),
     }
+}
+
+/// Adds one, and gives what there was before.
+pub fn count(counter: &AtomicU64) -> u64 {
+    counter.fetch_add(1, Ordering::SeqCst)
+}
+
+pub fn read(counter: &AtomicU64) -> u64 {
+    counter.load(Ordering::SeqCst)
+}
+
+/// So many counters at 0.
+pub fn counters(alloc: Global, many: usize) -> Result<Vec<AtomicU64>, AllocError> {
+    let mut all = Vec::new(alloc);
+    for _ in 0..many {
+        all.push(AtomicU64::new(0))?;
+    }
+    Ok(all)
+}
+
+/// The key of an index. No two indices have the same, since each step can be undone.
+pub fn scattered(index: u64) -> u64 {
+    let x = index.wrapping_mul(0x9e37_79b9_7f4a_7c15);
+    let x = (x ^ (x >> 30)).wrapping_mul(0xbf58_476d_1ce4_e5b9);
+    let x = (x ^ (x >> 27)).wrapping_mul(0x94d0_49bb_1331_11eb);
+    x ^ (x >> 31)
 }

@@ -1,7 +1,7 @@
 //! Threads that bind keys of their own in one table, which grows for them from four buckets on.
 
 use crate::callers::{Call, Reply, answer};
-use crate::fixtures::{NumCaller, NumTable, Shape};
+use crate::fixtures::{NumCaller, NumTable, Shape, count, counters, read, scattered};
 use ck_key::NumKey;
 use ck_table::{Settings, Why};
 use std::alloc::{AllocError, Global};
@@ -62,14 +62,6 @@ impl Run {
     }
 }
 
-/// The key of an index. No two indices have the same, since each step can be undone.
-fn scattered(index: u64) -> u64 {
-    let x = index.wrapping_mul(0x9e37_79b9_7f4a_7c15);
-    let x = (x ^ (x >> 30)).wrapping_mul(0xbf58_476d_1ce4_e5b9);
-    let x = (x ^ (x >> 27)).wrapping_mul(0x94d0_49bb_1331_11eb);
-    x ^ (x >> 31)
-}
-
 /// What the callers write down.
 #[derive(Drop)]
 struct Notes {
@@ -87,15 +79,11 @@ struct Notes {
 
 impl Notes {
     fn new(alloc: Global, run: &Run) -> Result<Notes, AllocError> {
-        let mut bound = Vec::new(alloc);
-        for _ in 0..run.binders {
-            bound.push(AtomicU64::new(0))?;
-        }
         Ok(Notes {
             wrong: AtomicU64::new(0),
             busy: AtomicU64::new(0),
             added: AtomicU64::new(0),
-            bound,
+            bound: counters(alloc, run.binders as usize)?,
             through: AtomicU64::new(0),
         })
     }
@@ -105,14 +93,6 @@ impl Notes {
             count(&self.wrong);
         }
     }
-}
-
-fn count(counter: &AtomicU64) -> u64 {
-    counter.fetch_add(1, Ordering::SeqCst)
-}
-
-fn read(counter: &AtomicU64) -> u64 {
-    counter.load(Ordering::SeqCst)
 }
 
 /// Lets other threads run after each 64 calls: one that holds a stripe may have to go on first.
@@ -272,7 +252,7 @@ fn check<R: Threads + Abort + Sync>(rt: &R, alloc: Global, run: &Run) -> Result<
 const TWO: Run = Run {
     what: "two threads that bind keys",
     binders: 2,
-    keys: 1 << 13,
+    keys: 1 << 19,
     others: 2,
     threads: 4,
     turns: u32::MAX,
@@ -282,7 +262,7 @@ const TWO: Run = Run {
 const FOUR: Run = Run {
     what: "four threads that bind keys",
     binders: 4,
-    keys: 1 << 12,
+    keys: 1 << 18,
     others: 2,
     threads: 6,
     turns: u32::MAX,
@@ -292,7 +272,7 @@ const FOUR: Run = Run {
 const EIGHT: Run = Run {
     what: "eight threads that bind keys",
     binders: 8,
-    keys: 1 << 11,
+    keys: 1 << 17,
     others: 2,
     threads: 10,
     turns: u32::MAX,
@@ -309,12 +289,18 @@ const ALL_CALLERS: Run = Run {
     rounds: 4,
 };
 
+/// Each table gets 2^20 keys.
 #[test]
-fn runs(rt: HostRuntime) -> Result<(), Fail> {
-    for run in [TWO, FOUR, EIGHT, ALL_CALLERS] {
+fn many_keys(rt: HostRuntime) -> Result<(), Fail> {
+    for run in [TWO, FOUR, EIGHT] {
         check(&rt, rt.alloc(), &run)?;
     }
     Ok(())
+}
+
+#[test]
+fn many_callers(rt: HostRuntime) -> Result<(), Fail> {
+    check(&rt, rt.alloc(), &ALL_CALLERS)
 }
 
 /// A caller that finds a stripe busy once gets key and value back, and tries again.

@@ -3,7 +3,9 @@ ghost use Rattle.std.specs.Prelude.{◌≡◌};
 ghost use Rattle.ck_words.specs.Closing.{IsCaller};
 
 use crate::callers::{Call, Reply, answer};
-use crate::fixtures::{NumPass, NumTable, SIXTEEN_BUCKETS, Shape, close, open};
+use crate::fixtures::{
+    NumPass, NumTable, SIXTEEN_BUCKETS, Shape, close, count, counters, open, read, scattered,
+};
 use ck_key::NumKey;
 use ck_table::Settings;
 use std::alloc::{AllocError, Global};
@@ -101,14 +103,6 @@ impl Task {
     }
 }
 
-/// The key of an index. No two indices have the same, since each step can be undone.
-fn scattered(index: u64) -> u64 {
-    let x = index.wrapping_mul(0x9e37_79b9_7f4a_7c15);
-    let x = (x ^ (x >> 30)).wrapping_mul(0xbf58_476d_1ce4_e5b9);
-    let x = (x ^ (x >> 27)).wrapping_mul(0x94d0_49bb_1331_11eb);
-    x ^ (x >> 31)
-}
-
 /// Whether a thread erases the key of this index, to bind it again.
 fn is_erased(index: u64) -> bool {
     index % 4 == 0
@@ -150,22 +144,6 @@ fn value_of(thread: u64, step: u64) -> u64 {
         .wrapping_mul(CALLS)
         .wrapping_add(step)
         .wrapping_add(1)
-}
-
-fn count(counter: &AtomicU64) -> u64 {
-    counter.fetch_add(1, Ordering::SeqCst)
-}
-
-fn read(counter: &AtomicU64) -> u64 {
-    counter.load(Ordering::SeqCst)
-}
-
-fn counters(alloc: Global, many: usize) -> Result<Vec<AtomicU64>, AllocError> {
-    let mut all = Vec::new(alloc);
-    for _ in 0..many {
-        all.push(AtomicU64::new(0))?;
-    }
-    Ok(all)
 }
 
 /// What the threads write down of their replies.
