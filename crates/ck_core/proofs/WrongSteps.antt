@@ -20,31 +20,31 @@ use Rattle.ck_core.specs.declared.view.View.{View}
 use Rattle.ck_core.specs.Steps.{IsAbove, IsExcused, HasGrounds}
 use Rattle.ck_core.specs.Steps.Move.{Take, FindHeld, Give, Decide, GiveRest, Renew, Look, Open, Join}
 use Rattle.ck_core.specs.Example.{two_stripes, settings, zero_name, insertion, look_up, empty_stripe, full_stripe, both, start, one_held, decided, both_held}
-use Rattle.ck_core.specs.Refusals.{IsRefused}
+use Rattle.ck_core.specs.Refusals.{IsForbidden}
 use Rattle.ck_core.proofs.ExampleRun.{empty_at, full_at}
 
 -- the view that a step speaks of is the caller's
 pub the_view : (vs : List (View ℕ)) (id : ℕ) (v w : View ℕ) → get_elem? vs id ≡ some v → get_elem? vs id ≡ some w → w ≡ v
 the_view vs id v w a b = some-injective w v (sym b ∙ a)
 
-pub take_below : IsRefused (insertion ∷ []) decided 0 (Take 0)
+pub take_below : IsForbidden (insertion ∷ []) decided 0 (Take 0)
 take_below min_load s2 d =
     let same = the_view decided.views 0 _ d.0 refl d.2 in
     let below : 1 < 0 = subst (λ (v : View ℕ). IsAbove 0 (numbers v.held)) same d.5 1 (inl refl) in
     omega arith
 
-pub take_held : IsRefused [] one_held 1 (Take 0)
+pub take_held : IsForbidden [] one_held 1 (Take 0)
 take_held min_load s2 d = let one : ◌≡◌ {A = ℕ} 1 0 = d.4 in omega arith
 
-pub find_own : IsRefused [] one_held 0 (FindHeld 0)
+pub find_own : IsForbidden [] one_held 0 (FindHeld 0)
 find_own min_load s2 d = let same = the_view one_held.views 0 _ d.0 refl d.1 in subst (λ (v : View ℕ). ¬ (IsIn 0 (numbers v.held))) same d.4 (inl refl)
 
-pub give_not_held : (g : Option (Name × Reason)) → IsRefused (insertion ∷ []) decided 0 (Give 0 g)
+pub give_not_held : (g : Option (Name × Reason)) → IsForbidden (insertion ∷ []) decided 0 (Give 0 g)
 give_not_held g min_load s2 d =
     let same = the_view decided.views 0 _ d.0 refl d.2 in
     ⊎_elim (λ e. let one : ◌≡◌ {A = ℕ} 1 0 = e.0 in omega arith) (λ z. z) (subst (λ (v : View ℕ). Holds v.held 0 d.1) same d.3)
 
-pub give_of_another : IsRefused [] one_held 1 (GiveRest 0)
+pub give_of_another : IsForbidden [] one_held 1 (GiveRest 0)
 give_of_another min_load s2 d = let same = the_view one_held.views 1 _ d.0 refl d.2 in subst (λ (v : View ℕ). Holds v.held 0 d.1) same d.3
 
 -- in the contents of both stripes the name is bound
@@ -58,7 +58,7 @@ new_of_bound r (Some v) p e f h = apart h.0
     apart : r ≡ Old → ⊥
     apart g = cc
 
-pub wrong_reply : (t : ℕ) (ks : Stripes ℕ) → IsRefused (insertion ∷ []) both_held 1 (Decide t ks (record { by = 1; call = On zero_name (Insert 7); reply = New }))
+pub wrong_reply : (t : ℕ) (ks : Stripes ℕ) → IsForbidden (insertion ∷ []) both_held 1 (Decide t ks (record { by = 1; call = On zero_name (Insert 7); reply = New }))
 wrong_reply t ks min_load s2 d =
     let same = the_view both_held.views 1 _ d.0 refl d.2 in
     let sec = subst (λ (v : View ℕ). Section two_stripes v.held (On zero_name (Insert 7)) New ks) same d.5 in
@@ -71,7 +71,7 @@ none_of_bound r (Some v) p e f h = apart h.0
     apart : r ≡ Was (Some v) → ⊥
     apart g = cc
 
-pub wrong_value : (t : ℕ) (ks : Stripes ℕ) → IsRefused (insertion ∷ []) both_held 1 (Decide t ks (record { by = 1; call = On zero_name Find; reply = Was None }))
+pub wrong_value : (t : ℕ) (ks : Stripes ℕ) → IsForbidden (insertion ∷ []) both_held 1 (Decide t ks (record { by = 1; call = On zero_name Find; reply = Was None }))
 wrong_value t ks min_load s2 d =
     let same = the_view both_held.views 1 _ d.0 refl d.2 in
     let sec = subst (λ (v : View ℕ). Section two_stripes v.held (On zero_name Find) (Was None) ks) same d.5 in
@@ -81,19 +81,19 @@ one_is_of_zero : IsStripeOf two_stripes zero_name 1
 unfolding second_of index_of alternate_of partial_of spread_of
 one_is_of_zero = inr refl
 
-pub without_all : (t : ℕ) (ks : Stripes ℕ) → IsRefused [] one_held 0 (Decide t ks insertion)
+pub without_all : (t : ℕ) (ks : Stripes ℕ) → IsForbidden [] one_held 0 (Decide t ks insertion)
 without_all t ks min_load s2 d =
     let same = the_view one_held.views 0 _ d.0 refl d.2 in
     let owns = subst (λ (v : View ℕ). Owns two_stripes v.held zero_name) same d.5.owns in
     ⊎_elim (λ e. let zero_one : ◌≡◌ {A = ℕ} 0 1 = e in omega arith) (λ z. z) (owns 1 one_is_of_zero)
 
-pub for_another : (t : ℕ) (ks : Stripes ℕ) → IsRefused (insertion ∷ []) both_held 0 (Decide t ks look_up)
+pub for_another : (t : ℕ) (ks : Stripes ℕ) → IsForbidden (insertion ∷ []) both_held 0 (Decide t ks look_up)
 for_another t ks min_load s2 d =
     let same = the_view both_held.views 0 _ d.0 refl d.2 in
     let numbers_same : ◌≡◌ {A = ℕ} 0 1 = same_Some 0 1 (subst (λ (v : View ℕ). v.by ≡ Some 1) same d.3) in
     omega arith
 
-pub undealt_number : (id t : ℕ) (ks : Stripes ℕ) (e : Entry ℕ) → settings.callers ≤ e.by → IsRefused (insertion ∷ []) both_held id (Decide t ks e)
+pub undealt_number : (id t : ℕ) (ks : Stripes ℕ) (e : Entry ℕ) → settings.callers ≤ e.by → IsForbidden (insertion ∷ []) both_held id (Decide t ks e)
 undealt_number zero t ks e above min_load s2 d =
     let same = the_view both_held.views 0 _ d.0 refl d.2 in
     let number : 0 ≡ e.by = same_Some 0 e.by (subst (λ (v : View ℕ). v.by ≡ Some e.by) same d.3) in
@@ -104,7 +104,7 @@ undealt_number (suc zero) t ks e above min_load s2 d =
     omega arith
 undealt_number (suc (suc id)) t ks e above min_load s2 d = some-ne-none d.0 (sym d.2)
 
-pub lost_entry : (t : ℕ) (g : Option (Name × Reason)) → IsRefused (insertion ∷ []) both_held 1 (Renew t (both empty_stripe) g)
+pub lost_entry : (t : ℕ) (g : Option (Name × Reason)) → IsForbidden (insertion ∷ []) both_held 1 (Renew t (both empty_stripe) g)
 lost_entry t g min_load s2 d =
     let same = the_view both_held.views 1 _ d.0 refl d.2 in
     let sec = subst (λ (v : View ℕ). IdentitySection two_stripes v.held (both empty_stripe)) same d.4 in
@@ -122,28 +122,28 @@ no_grounds_of_bound min_load ks Full e h = none-some 5 (sym h.0.unbound ∙ e)
 no_grounds_of_bound min_load ks LoadTooLow e h = none-some 5 (sym h.0.unbound ∙ e)
 no_grounds_of_bound min_load ks Memory e h = none-some 5 (sym h.0.unbound ∙ e)
 
-pub no_grounds : (t : ℕ) (why : Reason) → IsRefused (insertion ∷ []) both_held 1 (Give t (Some (zero_name, why)))
+pub no_grounds : (t : ℕ) (why : Reason) → IsForbidden (insertion ∷ []) both_held 1 (Give t (Some (zero_name, why)))
 no_grounds t why min_load s2 d =
     let same = the_view both_held.views 1 _ d.0 refl d.2 in
     bound_name min_load why (subst (λ (v : View ℕ). IsExcused two_stripes min_load v.held (Some (zero_name, why))) same d.4)
 
-pub renew_no_grounds : (t : ℕ) (ks : Stripes ℕ) (why : Reason) → IsRefused (insertion ∷ []) both_held 1 (Renew t ks (Some (zero_name, why)))
+pub renew_no_grounds : (t : ℕ) (ks : Stripes ℕ) (why : Reason) → IsForbidden (insertion ∷ []) both_held 1 (Renew t ks (Some (zero_name, why)))
 renew_no_grounds t ks why min_load s2 d =
     let same = the_view both_held.views 1 _ d.0 refl d.2 in
     let sec = subst (λ (v : View ℕ). IdentitySection two_stripes v.held ks) same d.4 in
     no_grounds_of_bound min_load ks why (ap (λ m. get m zero_name) sec.same_bindings ∙ bound) d.5
 
-pub told_above : (t p : ℕ) → 1 < p → IsRefused [] start 0 (Look t p)
+pub told_above : (t p : ℕ) → 1 < p → IsForbidden [] start 0 (Look t p)
 told_above t p above min_load s2 d = let most : p ≤ 1 = d.4 0 empty_stripe (inl refl) in omega arith
 
 no_first : {A : Type 0} (x : A) (xs : List A) → [] ≡ x ∷ xs → ⊥
 no_first x xs e = cc
 
-pub no_number_left : IsRefused [] start 0 Open
+pub no_number_left : IsForbidden [] start 0 Open
 no_number_left min_load s2 d = let same = the_view start.views 0 _ d.0 refl d.3 in no_first (d.1, []) d.2 (subst (λ (v : View ℕ). v.others ≡ (d.1, []) ∷ d.2) same d.4)
 
-pub join_a_holder : IsRefused [] one_held 1 (Join 0)
+pub join_a_holder : IsForbidden [] one_held 1 (Join 0)
 join_a_holder min_load s2 d = let same = the_view one_held.views 0 _ d.1 refl d.3 in no_first (0, empty_stripe) [] (sym (subst (λ (v : View ℕ). v.held ≡ []) same d.5))
 
-pub join_itself : IsRefused [] start 0 (Join 0)
+pub join_itself : IsForbidden [] start 0 (Join 0)
 join_itself min_load s2 d = d.4 refl

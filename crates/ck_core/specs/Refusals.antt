@@ -14,8 +14,8 @@ abbrev pub Reaches : List (ℕ × Move ℕ) → List (Entry ℕ) → World ℕ �
 Reaches ms log s = Runs two_stripes 0 [] start ms log s
 
 -- in the state s, with this history, the caller may not go by this step to any state
-abbrev pub IsRefused : List (Entry ℕ) → World ℕ → ℕ → Move ℕ → Type 0
-IsRefused log s id m = (min_load : ℕ) (s2 : World ℕ) → ¬ (Does two_stripes min_load log id m s s2)
+abbrev pub IsForbidden : List (Entry ℕ) → World ℕ → ℕ → Move ℕ → Type 0
+IsForbidden log s id m = (min_load : ℕ) (s2 : World ℕ) → ¬ (Does two_stripes min_load log id m s s2)
 
 -- wherever the caller goes from s by this step, the stripe t is at home there with the content c
 abbrev pub LeavesHome : List (Entry ℕ) → World ℕ → ℕ → Move ℕ → ℕ → Content ℕ → Type 0

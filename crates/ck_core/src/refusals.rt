@@ -11,7 +11,7 @@ ghost use Rattle.ck_model.specs.Contents.{Stripes};
 ghost use Rattle.ck_core.specs.Steps.{Opening};
 ghost use Rattle.ck_core.specs.Steps.Move.{Take, FindHeld, Give, Decide, GiveRest, Renew, Look, Open, Join};
 ghost use Rattle.ck_core.specs.Example.{two_stripes, settings, zero_name, insertion, look_up, empty_stripe, full_stripe, both, first, start, one_held, decided, both_held, alone, steps};
-ghost use Rattle.ck_core.specs.Refusals.{Reaches, IsRefused, LeavesHome, LeavesView, one_number, one_kept};
+ghost use Rattle.ck_core.specs.Refusals.{Reaches, IsForbidden, LeavesHome, LeavesView, one_number, one_kept};
 
 /// From the states of the example run after its first, fourth and eighth step, and from the opening, these steps aren't
 /// allowed: to take a stripe below a held one, or one that another caller holds; to find one's own stripe held; to give
@@ -29,34 +29,34 @@ pub fn wrong_steps()
     ensures one_held_is_reached { Reaches (take 1 steps) [] one_held }
     ensures decided_is_reached { Reaches (take 4 steps) (insertion ∷ []) decided }
     ensures both_held_is_reached { Reaches (take 8 steps) (insertion ∷ []) both_held }
-    ensures take_below { IsRefused (insertion ∷ []) decided 0 (Take 0) }
-    ensures take_held { IsRefused [] one_held 1 (Take 0) }
-    ensures find_own { IsRefused [] one_held 0 (FindHeld 0) }
+    ensures take_below { IsForbidden (insertion ∷ []) decided 0 (Take 0) }
+    ensures take_held { IsForbidden [] one_held 1 (Take 0) }
+    ensures find_own { IsForbidden [] one_held 0 (FindHeld 0) }
     ensures give_not_held { (g : Option (Name × Reason))
-        → IsRefused (insertion ∷ []) decided 0 (Give 0 g) }
-    ensures give_of_another { IsRefused [] one_held 1 (GiveRest 0) }
+        → IsForbidden (insertion ∷ []) decided 0 (Give 0 g) }
+    ensures give_of_another { IsForbidden [] one_held 1 (GiveRest 0) }
     ensures wrong_reply { (t : ℕ) (ks : Stripes ℕ)
-        → IsRefused (insertion ∷ []) both_held 1
+        → IsForbidden (insertion ∷ []) both_held 1
         (Decide t ks (record { by = 1; call = On zero_name (Insert 7); reply = New })) }
     ensures wrong_value { (t : ℕ) (ks : Stripes ℕ)
-        → IsRefused (insertion ∷ []) both_held 1
+        → IsForbidden (insertion ∷ []) both_held 1
         (Decide t ks (record { by = 1; call = On zero_name Find; reply = Was None })) }
     ensures without_all { (t : ℕ) (ks : Stripes ℕ)
-        → IsRefused [] one_held 0 (Decide t ks insertion) }
+        → IsForbidden [] one_held 0 (Decide t ks insertion) }
     ensures for_another { (t : ℕ) (ks : Stripes ℕ)
-        → IsRefused (insertion ∷ []) both_held 0 (Decide t ks look_up) }
+        → IsForbidden (insertion ∷ []) both_held 0 (Decide t ks look_up) }
     ensures undealt_number { (id t : ℕ) (ks : Stripes ℕ) (e : Entry ℕ) → settings.callers ≤ e.by
-        → IsRefused (insertion ∷ []) both_held id (Decide t ks e) }
+        → IsForbidden (insertion ∷ []) both_held id (Decide t ks e) }
     ensures lost_entry { (t : ℕ) (g : Option (Name × Reason))
-        → IsRefused (insertion ∷ []) both_held 1 (Renew t (both empty_stripe) g) }
+        → IsForbidden (insertion ∷ []) both_held 1 (Renew t (both empty_stripe) g) }
     ensures no_grounds { (t : ℕ) (why : Reason)
-        → IsRefused (insertion ∷ []) both_held 1 (Give t (Some (zero_name, why))) }
+        → IsForbidden (insertion ∷ []) both_held 1 (Give t (Some (zero_name, why))) }
     ensures renew_no_grounds { (t : ℕ) (ks : Stripes ℕ) (why : Reason)
-        → IsRefused (insertion ∷ []) both_held 1 (Renew t ks (Some (zero_name, why))) }
-    ensures told_above { (t p : ℕ) → 1 < p → IsRefused [] start 0 (Look t p) }
-    ensures no_number_left { IsRefused [] start 0 Open }
-    ensures join_a_holder { IsRefused [] one_held 1 (Join 0) }
-    ensures join_itself { IsRefused [] start 0 (Join 0) }
+        → IsForbidden (insertion ∷ []) both_held 1 (Renew t ks (Some (zero_name, why))) }
+    ensures told_above { (t p : ℕ) → 1 < p → IsForbidden [] start 0 (Look t p) }
+    ensures no_number_left { IsForbidden [] start 0 Open }
+    ensures join_a_holder { IsForbidden [] one_held 1 (Join 0) }
+    ensures join_itself { IsForbidden [] start 0 (Join 0) }
     ensures give_other_content { (g : Option (Name × Reason))
         → LeavesHome [] one_held 0 (Give 0 g) 0 empty_stripe }
     ensures give_rest_other_content { LeavesHome [] one_held 0 (GiveRest 0) 0 empty_stripe }

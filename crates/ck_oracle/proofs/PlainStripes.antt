@@ -15,7 +15,7 @@ use Rattle.ck_model.specs.Numbered.{IsIn, AreDistinct, numbers, Holds}
 use Rattle.ck_model.specs.Slots.{Slot, slot_at, taken_in}
 use Rattle.ck_model.specs.declared.contents.Content.{Content}
 use Rattle.ck_model.specs.Contents.{Layout, row_at, IsBucketOf, Binds, NamesApart, IsSound, Lawful}
-use Rattle.ck_oracle.specs.Plain.{PlainSlots, PlainRow, PlainRows, slot_of, row_of, content_of, stripes_of, EachEntry, EachEntryIn, AreHashed, IsBucketOfHash, Lacks, RowsLack, IsRowApart, AreRowsApart, AreDisjoint, IsOneOrDisjoint, ArePlaced, AreNumbersDistinct, IsPlainSound, IsPlainLawful}
+use Rattle.ck_oracle.specs.Plain.{PlainSlots, PlainRow, PlainRows, as_slot, row_of, content_of, stripes_of, EachEntry, EachEntryIn, AreHashed, IsBucketOfHash, Lacks, RowsLack, IsRowApart, AreRowsApart, AreDisjoint, IsOneOrDisjoint, ArePlaced, AreNumbersDistinct, IsPlainSound, IsPlainLawful}
 use Rattle.ck_model.proofs.Numbered.{Some-injective}
 use Rattle.ck_model.proofs.Names.{no_name, cases_name}
 
@@ -59,7 +59,7 @@ module _ (P : ℕ → Content ℕ → Type 0) where
 
 -- ---- names
 abbrev pairs_of_slots : PlainSlots → List (Name × ℕ)
-pairs_of_slots slots = taken_in (map slot_of slots)
+pairs_of_slots slots = taken_in (map as_slot slots)
 
 abbrev pairs_of_rows : PlainRows → List (Name × ℕ)
 pairs_of_rows rows = flat_map taken_in (map row_of rows)
@@ -141,11 +141,11 @@ IsFour row = length row ≡ 4
 
 four_of : (rows : PlainRows) → All HasFour rows → All IsFour (map row_of rows)
 four_of [] h = All-nil IsFour
-four_of (row ∷ rows) h = All-cons IsFour (row_of row) (map row_of rows) (length-map row.items slot_of ∙ All-head HasFour row rows h) (four_of rows (All-tail HasFour row rows h))
+four_of (row ∷ rows) h = All-cons IsFour (row_of row) (map row_of rows) (length-map row.items as_slot ∙ All-head HasFour row rows h) (four_of rows (All-tail HasFour row rows h))
 
 four_from : (rows : PlainRows) → All IsFour (map row_of rows) → All HasFour rows
 four_from [] h = All-nil HasFour
-four_from (row ∷ rows) h = All-cons HasFour row rows (sym (length-map row.items slot_of) ∙ All-head IsFour (row_of row) (map row_of rows) h) (four_from rows (All-tail IsFour (row_of row) (map row_of rows) h))
+four_from (row ∷ rows) h = All-cons HasFour row rows (sym (length-map row.items as_slot) ∙ All-head IsFour (row_of row) (map row_of rows) h) (four_from rows (All-tail IsFour (row_of row) (map row_of rows) h))
 
 -- ---- buckets of entries
 abbrev InSlot : (PlainEntry → Type 0) → Option PlainEntry → Type 0
@@ -155,7 +155,7 @@ abbrev InRow : (PlainEntry → Type 0) → PlainRow → Type 0
 InRow P row = EachEntry P row.items
 
 -- what a slot has is an entry
-entry_at : (P : PlainEntry → Type 0) (slots : PlainSlots) → EachEntry P slots → (i : ℕ) (q : Name) (v : ℕ) → slot_at (map slot_of slots) i ≡ Some (q, v) → (e : PlainEntry) × P e × (e.name ≡ q)
+entry_at : (P : PlainEntry → Type 0) (slots : PlainSlots) → EachEntry P slots → (i : ℕ) (q : Name) (v : ℕ) → slot_at (map as_slot slots) i ≡ Some (q, v) → (e : PlainEntry) × P e × (e.name ≡ q)
 entry_at P [] h i q v is = absurd (cc)
 entry_at P (None ∷ slots) h zero q v is = absurd (cc)
 entry_at P (Some e ∷ slots) h zero q v is = (e, All-head (InSlot P) (Some e) slots h, ap (λ (x : Name × ℕ). x.0) (Some-injective (e.name, e.value) (q, v) is))
@@ -163,7 +163,7 @@ entry_at P (slot ∷ slots) h (suc i) q v is = entry_at P slots (All-tail (InSlo
 
 -- what holds of each slot's name holds of each entry
 each_entry : (P : PlainEntry → Type 0) (R : Name → Type 0) (Q : PlainEntry → Type 0) → ((e : PlainEntry) → P e → R e.name → Q e) → (slots : PlainSlots) → EachEntry P slots
-    → ((i : ℕ) (q : Name) (v : ℕ) → slot_at (map slot_of slots) i ≡ Some (q, v) → R q) → EachEntry Q slots
+    → ((i : ℕ) (q : Name) (v : ℕ) → slot_at (map as_slot slots) i ≡ Some (q, v) → R q) → EachEntry Q slots
 each_entry P R Q gives [] h each = All-nil (InSlot Q)
 each_entry P R Q gives (None ∷ slots) h each = All-cons (InSlot Q) None slots tt (each_entry P R Q gives slots (All-tail (InSlot P) None slots h) (λ i. each (suc i)))
 each_entry P R Q gives (Some e ∷ slots) h each =

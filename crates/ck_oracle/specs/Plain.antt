@@ -20,12 +20,12 @@ PlainRow = Vec (Option PlainEntry) Global
 abbrev pub PlainRows : Type 0
 PlainRows = List PlainRow
 
-abbrev pub slot_of : Option PlainEntry → Slot ℕ
-slot_of None = None
-slot_of (Some e) = Some (e.name, e.value)
+abbrev pub as_slot : Option PlainEntry → Slot ℕ
+as_slot None = None
+as_slot (Some e) = Some (e.name, e.value)
 
 abbrev pub row_of : PlainRow → List (Slot ℕ)
-row_of row = map slot_of row.items
+row_of row = map as_slot row.items
 
 abbrev pub content_of : PlainStripe → Content ℕ
 content_of s = record { power = s.power; rows = map row_of s.rows.items; ledger = s.ledger }

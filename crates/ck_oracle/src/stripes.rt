@@ -4,7 +4,7 @@ ghost use Rattle.ck_model.specs.Map.{Name};
 ghost use Rattle.ck_model.specs.Contents.{Lawful};
 ghost use Rattle.ck_model.specs.Slots.{taken_in};
 ghost use Rattle.ck_model.specs.Arithmetic.{index_of, second_of};
-ghost use Rattle.ck_oracle.specs.Plain.{slot_of, EachEntry, IsBucketOfHash, ArePlaced, Lacks, RowsLack, IsRowApart, AreRowsApart, AreDisjoint, IsOneOrDisjoint, entry_count, AreNumbersDistinct, IsSized, IsPlainSound, IsPlainLawful, AreHashed, stripes_of};
+ghost use Rattle.ck_oracle.specs.Plain.{as_slot, EachEntry, IsBucketOfHash, ArePlaced, Lacks, RowsLack, IsRowApart, AreRowsApart, AreDisjoint, IsOneOrDisjoint, entry_count, AreNumbersDistinct, IsSized, IsPlainSound, IsPlainLawful, AreHashed, stripes_of};
 
 use ck_key::{alternate, index, partial};
 use ck_model::history::Name;
@@ -134,7 +134,7 @@ fn are_rows_apart(rows: &[Vec<Option<PlainEntry>>]) -> bool
 
 // How many entries the slots have.
 fn count(slots: &[Option<PlainEntry>]) -> usize
-    ensures { result ≡ length (taken_in (map slot_of slots.now)) }
+    ensures { result ≡ length (taken_in (map as_slot slots.now)) }
 {
     let mut count = 0;
     for slot in slots {

@@ -12,11 +12,11 @@ use Rattle.ck_oracle_steps.specs.declared.world.PlainTable.{PlainTable}
 use Rattle.ck_oracle_steps.specs.declared.world.PlainMove.{PlainMove}
 use Rattle.ck_oracle_steps.specs.declared.world.PlainMove.TheVariants as plain
 use Rattle.ck_core.specs.Steps.{Move, Does, sent_home, giving}
-use Rattle.ck_oracle_steps.specs.Plain.{layout_of, world_of}
+use Rattle.ck_oracle_steps.specs.Plain.{plain_layout, world_of}
 
 -- with the claim's history its caller may go by this step from its world to the other
 abbrev pub Allows : PlainTable → Claim → Move ℕ → Type 0
-Allows table claim m = Does (layout_of table) table.min_load claim.log.now claim.id m (world_of claim.before.now) (world_of claim.after.now)
+Allows table claim m = Does (plain_layout table) table.min_load claim.log.now claim.id m (world_of claim.before.now) (world_of claim.after.now)
 
 -- the stripe goes home, and the caller, of the view v, holds the others of hs and is told its power
 abbrev pub GoesHome : ℕ → World ℕ → World ℕ → View ℕ → ℕ → Stripes ℕ → Option (Name × Reason) → Type 0

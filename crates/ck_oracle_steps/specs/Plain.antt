@@ -18,8 +18,8 @@ use Rattle.ck_core.specs.Steps.{Move}
 use Rattle.ck_core.specs.Steps.Move.{Take, FindHeld, Give, Decide, GiveRest, Renew, Look, Open, Tell, Join}
 
 -- the hash of a name is its first number, or 0
-abbrev pub layout_of : PlainTable → Layout
-layout_of t = record { hash = first_number; s = t.s; max = t.max }
+abbrev pub plain_layout : PlainTable → Layout
+plain_layout t = record { hash = first_number; s = t.s; max = t.max }
 
 abbrev pub other_of : PlainOther → ℕ × List (Entry ℕ)
 other_of o = (o.number, o.entries.items)

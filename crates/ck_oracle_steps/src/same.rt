@@ -5,7 +5,7 @@ ghost use Rattle.ck_model.specs.declared.history.Reason.{Reason};
 ghost use Rattle.ck_model.specs.Map.{Name};
 ghost use Rattle.ck_model.specs.Slots.{Slot};
 ghost use Rattle.ck_model.specs.declared.contents.Content.{Content};
-ghost use Rattle.ck_oracle.specs.Plain.{slot_of, row_of, content_of};
+ghost use Rattle.ck_oracle.specs.Plain.{as_slot, row_of, content_of};
 ghost use Rattle.ck_oracle_steps.specs.Plain.{other_of, home_of};
 
 use crate::world::PlainOther;
@@ -106,7 +106,7 @@ pub fn are_same_reasons(reasons: &[(Name, Reason)], others: &[(Name, Reason)]) -
 impl Stands for Option<PlainEntry> {
     ghost Value = { Slot ℕ };
 
-    ghost value = { slot_of };
+    ghost value = { as_slot };
 
     fn is_same(&self, other: &Option<PlainEntry>) -> bool {
         match self {

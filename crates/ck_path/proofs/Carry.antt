@@ -5,7 +5,7 @@ use Rattle.std.proofs.lemmas.List.{drop_more, reverse-append}
 use Rattle.ck_model.specs.Arithmetic.{alternate_of}
 use Rattle.ck_model.specs.declared.hop.PathHop.{PathHop}
 use Rattle.ck_model.specs.Sketches.{Sketch, has_free, IsSketchPathFrom, IsSketchPath}
-use Rattle.ck_path.specs.Route.{Avoids, VisitsOnce, start_of, AreLinked}
+use Rattle.ck_path.specs.Route.{Avoids, VisitsOnce, first_bucket, AreLinked}
 
 -- what a hop leaves: its own bucket has a free slot, and only its two buckets may change
 pub record IsMoved (old new : ℕ → Sketch) (from to : ℕ) : Type 0 where
@@ -87,7 +87,7 @@ pub linked_last : (p : ℕ) (hops : List PathHop) (h : PathHop) (end : ℕ) → 
 linked_last p [] h end linked = record { bucket = linked.0; slot = linked.1; target = linked.2; below = linked.3 }
 linked_last p (g ∷ hops) h end linked = linked_last p hops h end linked.3
 
-start_front : (hops : List PathHop) (h : PathHop) (end : ℕ) → start_of (hops ++ h ∷ []) end ≡ start_of hops h.bucket
+start_front : (hops : List PathHop) (h : PathHop) (end : ℕ) → first_bucket (hops ++ h ∷ []) end ≡ first_bucket hops h.bucket
 start_front [] h end = refl
 start_front (g ∷ hops) h end = refl
 

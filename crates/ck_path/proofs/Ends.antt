@@ -8,9 +8,9 @@ use Rattle.ck_model.specs.declared.hop.PathHop.{PathHop}
 use Rattle.ck_path.specs.declared.node.Node.{Node}
 use Rattle.ck_model.specs.Sketches.{Sketch, has_free, IsSketchPathFrom, IsSketchPath, HasNoSketchPath}
 use Rattle.ck_path.specs.Route.{Route, IsSeenFrom, IsShortestPath}
-use Rattle.ck_path.specs.Queue.{Queue, IsBelow, IsSoundNode, IsSound}
+use Rattle.ck_path.specs.Queue.{Queue, IsBelow, IsSoundNode, IsSoundQueue}
 use Rattle.ck_path.specs.Progress.{Covers, IsSearchSeeing, IsSearchOver}
-use Rattle.ck_path.specs.Trace.{IsHop, Leads, IsTrace}
+use Rattle.ck_path.specs.Trace.{IsHop, LeadsDown, IsTrace}
 use Rattle.ck_path.proofs.Lists.{same_get}
 use Rattle.ck_path.proofs.Once.{visits_once}
 
@@ -19,7 +19,7 @@ not_free true e h = cc
 not_free false e h = cc
 
 -- the parent of a node on the way
-hop_up : (q : Queue) → IsSound q → (n c : Node) (h : PathHop) → IsHop q.nodes n h c → (c.depth ≡ n.depth + 1) × (c.bucket ≡ alternate_of q.power h.partial n.bucket)
+hop_up : (q : Queue) → IsSoundQueue q → (n c : Node) (h : PathHop) → IsHop q.nodes n h c → (c.depth ≡ n.depth + 1) × (c.bucket ≡ alternate_of q.power h.partial n.bucket)
 hop_up q sound n c h hop =
     let w : (m : Node) × IsBelow q.power q.nodes hop.k c m = (sound.each hop.k c hop.at).below hop.low in
     let is : w.0 ≡ n = same_get q.nodes c.parent w.0 n w.1.at hop.up in (
@@ -27,14 +27,14 @@ hop_up q sound n c h hop =
       cc (w.1.bucket, hop.partial, ap (λ (x : Node). x.bucket) is),
     )
 
-leads_depth : (q : Queue) (last : Node) → IsSound q → (hops : List PathHop) (n : Node) → Leads q.nodes n hops last → n.depth + length hops ≡ last.depth
+leads_depth : (q : Queue) (last : Node) → IsSoundQueue q → (hops : List PathHop) (n : Node) → LeadsDown q.nodes n hops last → n.depth + length hops ≡ last.depth
 leads_depth q last sound [] n leads = omega (arith, ap (λ (x : Node). x.depth) leads)
 leads_depth q last sound (h ∷ hops) n leads =
     omega (arith, leads_depth q last sound hops leads.0 leads.2, (hop_up q sound n leads.0 h leads.1).0)
 
-module _ (q : Queue) (sound : IsSound q) (Seen : ℕ → Sketch → Type 0) (p b1 b2 : ℕ) (sees : IsSearchSeeing Seen p b1 b2 q)
+module _ (q : Queue) (sound : IsSoundQueue q) (Seen : ℕ → Sketch → Type 0) (p b1 b2 : ℕ) (sees : IsSearchSeeing Seen p b1 b2 q)
     (last : Node) (s : Sketch) (was_seen : Seen last.bucket s) (free : has_free s ≡ true) where
-  leads_seen : (hops : List PathHop) (n : Node) → Leads q.nodes n hops last → IsSeenFrom Seen p n.bucket hops last.bucket
+  leads_seen : (hops : List PathHop) (n : Node) → LeadsDown q.nodes n hops last → IsSeenFrom Seen p n.bucket hops last.bucket
   leads_seen [] n leads = (ap (λ (x : Node). x.bucket) leads, (s, subst (λ (x : Node). Seen x.bucket s) (sym leads) was_seen, free))
   leads_seen (h ∷ hops) n leads =
       let c : Node = leads.0 in
@@ -65,7 +65,7 @@ path_from_seen p sketches b [] end path = (path.0, ap has_free path.1.1 ∙ path
 path_from_seen p sketches b (h ∷ hops) end path =
     (path.0, ap has_free path.1.1 ∙ path.1.2, ap (λ u. slice_get u h.slot) path.1.1 ∙ path.1.3, path_from_seen p sketches (alternate_of p h.partial b) hops end path.2)
 
-module _ (p : ℕ) (sketches : ℕ → Sketch) (b1 b2 : ℕ) (q : Queue) (sound : IsSound q) (over : IsSearchOver p sketches b1 b2 q) where
+module _ (p : ℕ) (sketches : ℕ → Sketch) (b1 b2 : ℕ) (q : Queue) (sound : IsSoundQueue q) (over : IsSearchOver p sketches b1 b2 q) where
   -- where all nodes above depth D were taken, no path ends above depth D
   dead : (D : ℕ) → D ≤ 5 → ((k : ℕ) (n : Node) → slice_get q.nodes k ≡ Some n → n.depth < D → k < q.taken)
       → (hops : List PathHop) (b d end : ℕ) → Covers q.nodes b d → d + length hops < D → IsSketchPathFrom p sketches b hops end → ⊥

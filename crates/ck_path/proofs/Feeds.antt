@@ -5,7 +5,7 @@ use Rattle.std.proofs.lemmas.Bool.{cases_lt}
 use Rattle.std.proofs.lemmas.Option.{none-some, same_Some, slice_get_past, slice_get-get_or}
 use Rattle.ck_path.specs.declared.node.Node.{Node}
 use Rattle.ck_model.specs.Sketches.{Sketch, has_free}
-use Rattle.ck_path.specs.Queue.{Queue, wanted, children, room_of, IsSoundNode, IsSound}
+use Rattle.ck_path.specs.Queue.{Queue, wanted, children, room_of, IsSoundNode, IsSoundQueue}
 use Rattle.ck_path.specs.Progress.{IsSearchSeeing, IsSearchOver}
 use Rattle.ck_path.proofs.Steps.{Adds, adds_children, adds_none, sound_after, sees_after, over_after}
 
@@ -40,12 +40,12 @@ room_above (suc (suc (suc zero))) h = omega arith
 room_above (suc (suc (suc (suc d)))) h = absurd (omega arith)
 
 -- only the first 170 nodes have others below them
-pub taken_above : (q : Queue) (n : Node) → IsSound q → slice_get q.nodes q.taken ≡ Some n → n.depth < 4 → q.taken < 170
+pub taken_above : (q : Queue) (n : Node) → IsSoundQueue q → slice_get q.nodes q.taken ≡ Some n → n.depth < 4 → q.taken < 170
 taken_above q n sound here above =
     let me : IsSoundNode q.power q.nodes q.taken n = sound.each q.taken n here in
     omega (arith, me.room, room_above n.depth above)
 
-pub has_room : (q : Queue) (n : Node) → IsSound q → slice_get q.nodes q.taken ≡ Some n → n.depth < 4 → length q.nodes + 4 ≤ 682
+pub has_room : (q : Queue) (n : Node) → IsSoundQueue q → slice_get q.nodes q.taken ≡ Some n → n.depth < 4 → length q.nodes + 4 ≤ 682
 has_room q n sound here above = omega (arith, sound.size, taken_above q n sound here above)
 
 -- the fields of a search after its front was taken
@@ -76,18 +76,18 @@ fed_deep q n s power nodes taken short deep e f g = record {
   taken_is = g;
 }
 
-pub fed_sound : (q : Queue) (n : Node) (s : Sketch) (power : ℕ) (nodes : List Node) (taken : ℕ) → IsSound q → slice_get q.nodes q.taken ≡ Some n
-    → IsFed q n s power nodes taken → IsSound (record { power = power; nodes = nodes; taken = taken + 1 })
+pub fed_sound : (q : Queue) (n : Node) (s : Sketch) (power : ℕ) (nodes : List Node) (taken : ℕ) → IsSoundQueue q → slice_get q.nodes q.taken ≡ Some n
+    → IsFed q n s power nodes taken → IsSoundQueue (record { power = power; nodes = nodes; taken = taken + 1 })
 fed_sound q n s power nodes taken sound here fed =
     rw (fed.power_is, fed.nodes_is, fed.taken_is) (sound_after q n s fed.added sound here fed.adds)
 
-pub fed_sees : (q : Queue) (n : Node) (s : Sketch) (power : ℕ) (nodes : List Node) (taken : ℕ) → IsSound q → slice_get q.nodes q.taken ≡ Some n
+pub fed_sees : (q : Queue) (n : Node) (s : Sketch) (power : ℕ) (nodes : List Node) (taken : ℕ) → IsSoundQueue q → slice_get q.nodes q.taken ≡ Some n
     → IsFed q n s power nodes taken → (Seen : ℕ → Sketch → Type 0) (p b1 b2 : ℕ) → IsSearchSeeing Seen p b1 b2 q
     → Seen n.bucket s → has_free s ≡ false → IsSearchSeeing Seen p b1 b2 (record { power = power; nodes = nodes; taken = taken + 1 })
 fed_sees q n s power nodes taken sound here fed Seen p b1 b2 sees was_seen full =
     rw (fed.power_is, fed.nodes_is, fed.taken_is) (sees_after q n s fed.added sound here fed.adds Seen p b1 b2 sees was_seen full)
 
-pub fed_over : (q : Queue) (n : Node) (s : Sketch) (power : ℕ) (nodes : List Node) (taken : ℕ) → IsSound q → slice_get q.nodes q.taken ≡ Some n
+pub fed_over : (q : Queue) (n : Node) (s : Sketch) (power : ℕ) (nodes : List Node) (taken : ℕ) → IsSoundQueue q → slice_get q.nodes q.taken ≡ Some n
     → IsFed q n s power nodes taken → (p : ℕ) (sketches : ℕ → Sketch) (b1 b2 : ℕ) → IsSearchOver p sketches b1 b2 q
     → sketches n.bucket ≡ s → has_free s ≡ false → IsSearchOver p sketches b1 b2 (record { power = power; nodes = nodes; taken = taken + 1 })
 fed_over q n s power nodes taken sound here fed p sketches b1 b2 over says full =

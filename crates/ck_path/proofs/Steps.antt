@@ -6,7 +6,7 @@ use Rattle.std.proofs.lemmas.Option.{none-some, slice_get_within}
 use Rattle.ck_model.specs.Arithmetic.{alternate_of}
 use Rattle.ck_path.specs.declared.node.Node.{Node}
 use Rattle.ck_model.specs.Sketches.{Sketch, has_free}
-use Rattle.ck_path.specs.Queue.{Queue, children, room_of, IsBelow, IsSoundNode, IsSound}
+use Rattle.ck_path.specs.Queue.{Queue, children, room_of, IsBelow, IsSoundNode, IsSoundQueue}
 use Rattle.ck_path.specs.Progress.{Covers, IsSearchSeeing, IsSearchOver}
 use Rattle.ck_model.proofs.Buckets.{alternate_below}
 use Rattle.ck_path.proofs.Lists.{get_cases, get_left, get_right, same_get}
@@ -52,7 +52,7 @@ covers_more nodes added b d c = record { k = c.k; node = c.node; at = get_left n
 abbrev pub after_taken : Queue → List Node → Queue
 after_taken q added = record { power = q.power; nodes = q.nodes ++ added; taken = q.taken + 1 }
 
-module _ (q : Queue) (n : Node) (s : Sketch) (added : List Node) (sound : IsSound q) (here : slice_get q.nodes q.taken ≡ Some n)
+module _ (q : Queue) (n : Node) (s : Sketch) (added : List Node) (sound : IsSoundQueue q) (here : slice_get q.nodes q.taken ≡ Some n)
     (adds : Adds q.power q.taken n s added) where
   deeper : (k : ℕ) (c : Node) → slice_get (q.nodes ++ added) k ≡ Some c → c.depth ≤ n.depth + 1
   deeper k c at = elim (get_cases q.nodes added k c at) [
@@ -106,7 +106,7 @@ module _ (q : Queue) (n : Node) (s : Sketch) (added : List Node) (sound : IsSoun
     | inr new ↦ let is : IsChild q.power q.taken n 0 s c = adds.sound new.i c new.at in omega (arith, deeper j m at_j)
   ]
 
-  pub sound_after : IsSound (after_taken q added)
+  pub sound_after : IsSoundQueue (after_taken q added)
   sound_after = record {
     power = sound.power;
     taken = omega (arith, slice_get_within q.nodes q.taken n here, length-append q.nodes added);

@@ -5,9 +5,9 @@ use Rattle.std.proofs.lemmas.Option.{slice_get_within, slice_get-get_or, get_or_
 use Rattle.ck_model.specs.declared.hop.PathHop.{PathHop}
 use Rattle.ck_path.specs.declared.node.Node.{Node}
 use Rattle.ck_model.specs.Arithmetic.{alternate_of}
-use Rattle.ck_path.specs.Route.{start_of, AreLinked}
+use Rattle.ck_path.specs.Route.{first_bucket, AreLinked}
 use Rattle.ck_path.specs.Queue.{IsBelow, IsSoundNode, AreSound}
-use Rattle.ck_path.specs.Trace.{IsHop, Leads}
+use Rattle.ck_path.specs.Trace.{IsHop, LeadsDown}
 use Rattle.ck_path.proofs.Lists.{same_get}
 
 -- the parent of a node of the queue, as it is read at an index, at any default
@@ -32,13 +32,13 @@ parent_read p nodes sound n place low at is blank =
 -- one hop more, from the parent down
 pub leads_up : (nodes : List Node) (n m last : Node) (h : PathHop) (hops : List PathHop) → (k : ℕ) × (slice_get nodes k ≡ Some n) → 0 < n.depth
     → slice_get nodes n.parent ≡ Some m → h.bucket ≡ m.bucket → h.slot ≡ n.slot → h.partial ≡ n.partial
-    → Leads nodes n hops last → Leads nodes m (h ∷ hops) last
+    → LeadsDown nodes n hops last → LeadsDown nodes m (h ∷ hops) last
 leads_up nodes n m last h hops place low up bucket slot partial leads =
     (n, record { k = place.0; at = place.1; low = low; up = up; bucket = bucket; slot = slot; partial = partial }, leads)
 
 -- the way down is linked
 pub leads_linked : (p : ℕ) (nodes : List Node) (last : Node) → AreSound p nodes → (hops : List PathHop) (n : Node)
-    → (k : ℕ) × (slice_get nodes k ≡ Some n) → Leads nodes n hops last → AreLinked p hops last.bucket × (start_of hops last.bucket ≡ n.bucket)
+    → (k : ℕ) × (slice_get nodes k ≡ Some n) → LeadsDown nodes n hops last → AreLinked p hops last.bucket × (first_bucket hops last.bucket ≡ n.bucket)
 leads_linked p nodes last sound [] n place leads =
     let bucket : n.bucket ≡ last.bucket = ap (λ (x : Node). x.bucket) leads in
     (rw (← bucket) (sound place.0 n place.1).bucket, sym bucket)
@@ -48,7 +48,7 @@ leads_linked p nodes last sound (h ∷ hops) n place leads =
     let child : IsSoundNode p nodes hop.k c = sound hop.k c hop.at in
     let w : (m : Node) × IsBelow p nodes hop.k c m = child.below hop.low in
     let is : w.0 ≡ n = same_get nodes c.parent w.0 n w.1.at hop.up in
-    let rest : AreLinked p hops last.bucket × (start_of hops last.bucket ≡ c.bucket) =
+    let rest : AreLinked p hops last.bucket × (first_bucket hops last.bucket ≡ c.bucket) =
     leads_linked p nodes last sound hops c (hop.k, hop.at) leads.2 in
     let bucket : h.bucket ≡ n.bucket = hop.bucket in
     let there : alternate_of p h.partial h.bucket ≡ c.bucket = cc (w.1.bucket, hop.partial, hop.bucket, ap (λ (x : Node). x.bucket) is) in

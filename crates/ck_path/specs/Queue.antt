@@ -60,7 +60,7 @@ abbrev pub AreSound : ℕ → List Node → Type 0
 AreSound p nodes = (k : ℕ) (n : Node) → slice_get nodes k ≡ Some n → IsSoundNode p nodes k n
 
 -- what holds of a search whatever it was fed
-pub record IsSound (q : Queue) : Type 0 where
+pub record IsSoundQueue (q : Queue) : Type 0 where
   pub power : q.power ≤ 26
   pub taken : q.taken ≤ length q.nodes
   pub size : length q.nodes ≤ 2 + 4 * q.taken

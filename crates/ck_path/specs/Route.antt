@@ -11,15 +11,15 @@ pub record Route : Type 0 where
   pub end : ℕ
 
 -- the bucket at which hops begin
-abbrev pub start_of : List PathHop → ℕ → ℕ
-start_of [] end = end
-start_of (h ∷ hops) end = h.bucket
+abbrev pub first_bucket : List PathHop → ℕ → ℕ
+first_bucket [] end = end
+first_bucket (h ∷ hops) end = h.bucket
 
 -- each hop leads from a bucket of the table to the other bucket of its entry, where the next one begins
 abbrev pub AreLinked : ℕ → List PathHop → ℕ → Type 0
 AreLinked p [] end = end < 2 ^ p
 AreLinked p (h ∷ hops) end =
-    (h.bucket < 2 ^ p) × (h.slot < 4) × (alternate_of p h.partial h.bucket ≡ start_of hops end) × AreLinked p hops end
+    (h.bucket < 2 ^ p) × (h.slot < 4) × (alternate_of p h.partial h.bucket ≡ first_bucket hops end) × AreLinked p hops end
 
 -- what holds of a path whatever the search was fed
 pub record IsLinked (route : Route) : Type 0 where

@@ -14,9 +14,9 @@ pub record IsHop (nodes : List Node) (n : Node) (h : PathHop) (c : Node) : Type 
   pub partial : h.partial ≡ c.partial
 
 -- the hops lead from node n down to node last
-abbrev pub Leads : List Node → Node → List PathHop → Node → Type 0
-Leads nodes n [] last = n ≡ last
-Leads nodes n (h ∷ hops) last = (c : Node) × IsHop nodes n h c × Leads nodes c hops last
+abbrev pub LeadsDown : List Node → Node → List PathHop → Node → Type 0
+LeadsDown nodes n [] last = n ≡ last
+LeadsDown nodes n (h ∷ hops) last = (c : Node) × IsHop nodes n h c × LeadsDown nodes c hops last
 
 -- the hops lead from a root down to node last
 pub record IsTrace (nodes : List Node) (hops : List PathHop) (last : Node) : Type 0 where
@@ -24,4 +24,4 @@ pub record IsTrace (nodes : List Node) (hops : List PathHop) (last : Node) : Typ
   pub k : ℕ
   pub at : slice_get nodes k ≡ Some root
   pub top : root.depth ≡ 0
-  pub leads : Leads nodes root hops last
+  pub leads : LeadsDown nodes root hops last

@@ -31,13 +31,13 @@ pub struct Search {
 }
 
 impl Model for Search {
-    ghost use Rattle.ck_path.specs.Queue.{Queue, IsSound};
+    ghost use Rattle.ck_path.specs.Queue.{Queue, IsSoundQueue};
 
     ghost Value = { Queue };
 
     ghost view = { λ s. record { power = s.power; nodes = s.nodes.items; taken = s.taken } };
 
-    ghost invariant = { λ s. IsSound (record { power = s.power; nodes = s.nodes.items; taken = s.taken }) };
+    ghost invariant = { λ s. IsSoundQueue (record { power = s.power; nodes = s.nodes.items; taken = s.taken }) };
 }
 
 impl Search {

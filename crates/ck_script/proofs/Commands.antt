@@ -26,7 +26,7 @@ use Rattle.ck_script.specs.Tokens.{tokens, number_at, begins_as_number, is_print
 use Rattle.ck_script.specs.Spells.{AreNameAndKey, AreNameAndPair, AreMoveAndTwo, IsCommand}
 use Rattle.ck_script.specs.FirstFault.{option_or, is_empty, number_fault, key_fault, Place, Key, Number, places_of_move, places_of, word_fault, words_fault, twice_fault, behind_fault, tokens_fault}
 use Rattle.ck_script.proofs.Numbers.{written}
-use Rattle.ck_script.specs.Parse.{command_at, held, held_in, ◌>>=◌, unless, name_of, WordCommand, number_or_fault, alone_command, key_command, pair_command, with_key, with_pair, number_behind, moved, move_command, has_moves, command_in, HasKeys}
+use Rattle.ck_script.specs.Parse.{command_at, held, held_command, ◌>>=◌, unless, name_of, WordCommand, number_or_fault, alone_command, key_command, pair_command, with_key, with_pair, number_behind, moved, move_command, has_moves, command_in, HasKeys}
 
 -- Small facts.
 
@@ -601,10 +601,10 @@ line_text v keys line w e = tokens_text v keys (tokens line) w (sym (line_fault-
 
 -- The same of what the code returns.
 
-pub read_keys : (v : Version) (keys : Keys) (line : List ℕ) (r : Result (Command (Bor (List ℕ))) What) → held_in r ≡ command_at v keys line → IfOk r (λ c. HasKeys keys (held c))
+pub read_keys : (v : Version) (keys : Keys) (line : List ℕ) (r : Result (Command (Bor (List ℕ))) What) → held_command r ≡ command_at v keys line → IfOk r (λ c. HasKeys keys (held c))
 read_keys v keys line (Ok c) e = keys_of_line v keys line (held c) (sym e)
 read_keys v keys line (Err w) e = tt
 
-pub read_text : (v : Version) (keys : Keys) (line : List ℕ) (r : Result (Command (Bor (List ℕ))) What) → held_in r ≡ command_at v keys line → IfErr r (λ w. w ≢ is.Read)
+pub read_text : (v : Version) (keys : Keys) (line : List ℕ) (r : Result (Command (Bor (List ℕ))) What) → held_command r ≡ command_at v keys line → IfErr r (λ w. w ≢ is.Read)
 read_text v keys line (Ok c) e = tt
 read_text v keys line (Err w) e = line_text v keys line w (sym e)

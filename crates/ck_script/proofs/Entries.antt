@@ -10,14 +10,14 @@ use Rattle.ck_script.specs.declared.answer.Answer.{Answer}
 use Rattle.ck_script.specs.Script.{on_names}
 use Rattle.ck_script.specs.Text.{Pairs}
 use Rattle.ck_script.specs.Output.{IsRefusal}
-use Rattle.ck_script.specs.Answered.{answer_on_names, answers_on_names, Grows, HaveLeft, IsAnsweredBy}
+use Rattle.ck_script.specs.Answered.{answer_on_names, answers_on_names, StaysOrGrows, HaveLeft, IsAnsweredBy}
 
 -- a refused call
 pub uncalled : (c : Command Name) (a : Answer Pairs) (p q : CallerState ℕ) → IsSameCaller p q → IsRefusal c a → q.pass.view.mine ≡ p.pass.view.mine → IsAnsweredBy c a p q
 uncalled c a p q same refusal h = record { same = same; entries = λ by is. inl (refusal, h) }
 
 -- what the last command left
-left_last : (by : ℕ) (c : Command Name) (a : Answer Pairs) (new : List (Entry ℕ)) → Grows by c a [] new → HaveLeft by (c ∷ []) (a ∷ []) new
+left_last : (by : ℕ) (c : Command Name) (a : Answer Pairs) (new : List (Entry ℕ)) → StaysOrGrows by c a [] new → HaveLeft by (c ∷ []) (a ∷ []) new
 left_last by c a new grows =
     elim grows [
       | inl h ↦ inl h
@@ -26,8 +26,8 @@ left_last by c a new grows =
 
 -- one command more
 pub left_more : (by : ℕ) (cs : List (Command Name)) (answers : List (Answer Pairs)) (old new : List (Entry ℕ)) (c : Command Name) (a : Answer Pairs)
-    → HaveLeft by cs answers old → Grows by c a old new → HaveLeft by (cs ++ c ∷ []) (answers ++ a ∷ []) new
-left_more by [] [] old new c a h grows = left_last by c a new (subst (λ (es : List (Entry ℕ)). Grows by c a es new) h grows)
+    → HaveLeft by cs answers old → StaysOrGrows by c a old new → HaveLeft by (cs ++ c ∷ []) (answers ++ a ∷ []) new
+left_more by [] [] old new c a h grows = left_last by c a new (subst (λ (es : List (Entry ℕ)). StaysOrGrows by c a es new) h grows)
 left_more by [] (x ∷ xs) old new c a h grows = absurd h
 left_more by (d ∷ cs) [] old new c a h grows = absurd h
 left_more by (d ∷ cs) (x ∷ xs) old new c a h grows =
@@ -49,7 +49,7 @@ answered_as c d a b p q r h same_command same_answer same_caller =
 
 -- a worker's command more
 pub left_by_one : {K : Type 0} (name : K → Name) (by : ℕ) (commands : List (Command K)) (command : Command K) (answers items : List (Answer (Vec (K × ℕ)))) (answer : Answer (Vec (K × ℕ))) (old new : List (Entry ℕ))
-    → HaveLeft by (map (on_names name) commands) (answers_on_names name answers) old → Grows by (on_names name command) (answer_on_names name answer) old new → items ≡ answers ++ answer ∷ []
+    → HaveLeft by (map (on_names name) commands) (answers_on_names name answers) old → StaysOrGrows by (on_names name command) (answer_on_names name answer) old new → items ≡ answers ++ answer ∷ []
     → HaveLeft by (map (on_names name) (commands ++ command ∷ [])) (answers_on_names name items) new
 left_by_one name by commands command answers items answer old new have grows pushed =
     subst (λ (cs : List (Command Name)). HaveLeft by cs (answers_on_names name items) new) (sym (map-append (on_names name) commands (command ∷ [])))

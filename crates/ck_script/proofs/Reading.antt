@@ -20,9 +20,9 @@ use Rattle.ck_script.specs.Script.{fault_at, OnTextFault, Said, said_of}
 use Rattle.ck_script.specs.Lines.{is_feed, parts, with_feed, IsLine}
 use Rattle.ck_script.specs.Spells.{Spells}
 use Rattle.ck_script.specs.FirstFault.{is_end, placed, end_fault, first_fault, first_fault_behind, EndsIn}
-use Rattle.ck_script.specs.State.{State, Header, Setting as Settings, Block, After, state_of, step, has_ended}
+use Rattle.ck_script.specs.State.{State, Header, Setting as Settings, Block, After, parse_state, step, has_ended}
 use Rattle.ck_script.specs.Stands.{IsKnown, AreScript}
-use Rattle.ck_script.specs.Taken.{StandsBehind, IsInScript, HasTaken, FaultOf, StopsWithin}
+use Rattle.ck_script.specs.Taken.{StandsBehind, IsInScript, HasTakenLines, FaultOf, StopsWithin}
 use Rattle.ck_script.proofs.Cuts.{some_part}
 use Rattle.ck_script.proofs.SettingLaws.{given_before}
 use Rattle.ck_script.proofs.Steps.{fuller, read_next, fault_next, fault_long}
@@ -54,27 +54,27 @@ on_text_fault-any is.Truncated h = h
 
 -- A line is taken.
 
-pub place_next : (p : Place) (old new : Stage) (line : List ℕ) → old ≡ p.stage → step (state_of old) line ≡ Ok (state_of new) → NoFeed line → length line ≤ 200
+pub place_next : (p : Place) (old new : Stage) (line : List ℕ) → old ≡ p.stage → step (parse_state old) line ≡ Ok (parse_state new) → NoFeed line → length line ≤ 200
     → (lines : List (List ℕ)) → StandsBehind p lines → StandsBehind (record { stage = new; number = p.number + 1 }) (lines ++ line ∷ [])
 place_next p old new line same e no_feed short lines stands =
-    let told : step (state_of p.stage) line ≡ Ok (state_of new) = ap (λ (s : Stage). step (state_of s) line) (sym same) ∙ e in
+    let told : step (parse_state p.stage) line ≡ Ok (parse_state new) = ap (λ (s : Stage). step (parse_state s) line) (sym same) ∙ e in
     let number = stands.number in
     record {
-      read = read_next (state_of p.stage) lines stands.read line (state_of new) (record { no_feed = no_feed; short = short }) told;
+      read = read_next (parse_state p.stage) lines stands.read line (parse_state new) (record { no_feed = no_feed; short = short }) told;
       number = let more : length (lines ++ line ∷ []) ≡ length lines + 1 = length-append lines (line ∷ []) in omega arith;
     }
 
-pub place_limits : (p : Place) (old new : Stage) (line : List ℕ) → old ≡ p.stage → step (state_of old) line ≡ Ok (state_of new) → IsInScript p → IsInScript (record { stage = new; number = p.number + 1 })
+pub place_limits : (p : Place) (old new : Stage) (line : List ℕ) → old ≡ p.stage → step (parse_state old) line ≡ Ok (parse_state new) → IsInScript p → IsInScript (record { stage = new; number = p.number + 1 })
 place_limits p old new line same e limits =
-    let told : step (state_of p.stage) line ≡ Ok (state_of new) = ap (λ (s : Stage). step (state_of s) line) (sym same) ∙ e in
-    let more = fuller (state_of p.stage) (state_of new) line limits.few told in
+    let told : step (parse_state p.stage) line ≡ Ok (parse_state new) = ap (λ (s : Stage). step (parse_state s) line) (sym same) ∙ e in
+    let more = fuller (parse_state p.stage) (parse_state new) line limits.few told in
     let number = limits.number in
     record { number = let room = more.0 in omega arith; few = more.1 }
 
-pub place_fault : (p : Place) (old : Stage) (line : List ℕ) (what : What) (n : ℕ) → old ≡ p.stage → n ≡ p.number → OnTextFault what (step (state_of old) line ≡ Err what) → length line ≤ 200
+pub place_fault : (p : Place) (old : Stage) (line : List ℕ) (what : What) (n : ℕ) → old ≡ p.stage → n ≡ p.number → OnTextFault what (step (parse_state old) line ≡ Err what) → length line ≤ 200
     → (lines more : List (List ℕ)) → StandsBehind p lines → 0 < length more → OnTextFault what (first_fault_behind lines (line ∷ more) ≡ Some (fault_at n what))
 place_fault p old line what n same here e short lines more stands some =
-    on_text_fault-map what (λ told. fault_next (state_of p.stage) lines stands.read line what n short (ap (λ (s : Stage). step (state_of s) line) (sym same) ∙ told) (here ∙ stands.number) more some) e
+    on_text_fault-map what (λ told. fault_next (parse_state p.stage) lines stands.read line what n short (ap (λ (s : Stage). step (parse_state s) line) (sym same) ∙ told) (here ∙ stands.number) more some) e
 
 pub place_long : (p : Place) (line : List ℕ) (n : ℕ) → n ≡ p.number → 200 < length line → (lines more : List (List ℕ)) → StandsBehind p lines → 0 < length more
     → first_fault_behind lines (line ∷ more) ≡ Some (fault_at n is.TooLong)
@@ -122,7 +122,7 @@ open_end : (lines : List (List ℕ)) (rest : List ℕ) → length rest ≤ 200 �
 unfolding end_fault
 open_end lines rest short cut = rw (le-ltb 200 (length rest) short, cut) refl
 
-module _ (r : ScriptReader) (bytes : List ℕ) (taken : HasTaken r bytes) where
+module _ (r : ScriptReader) (bytes : List ℕ) (taken : HasTakenLines r bytes) where
   -- the first fault of the bytes and of others is that behind the lines
   fault_behind : (rest : List ℕ) → first_fault (bytes ++ rest) ≡ first_fault_behind taken.lines (parts (r.front.items ++ rest))
   fault_behind rest =
@@ -159,7 +159,7 @@ module _ (r : ScriptReader) (bytes : List ℕ) (taken : HasTaken r bytes) where
 -- A reader that took more.
 
 abbrev pub Takes : ScriptReader → List ℕ → ScriptReader → Type 0
-Takes r piece s = (bytes : List ℕ) → HasTaken r bytes → HasTaken s (bytes ++ piece)
+Takes r piece s = (bytes : List ℕ) → HasTakenLines r bytes → HasTakenLines s (bytes ++ piece)
 
 -- more of a line
 pub takes_piece : (r s : ScriptReader) (piece : List ℕ) → s.place ≡ r.place → s.front.items ≡ r.front.items ++ piece → Takes r piece s
@@ -185,10 +185,10 @@ takes_line r s piece line whole empty next bytes taken = record {
 }
 
 pub takes_both : (r s t : ScriptReader) (a b : List ℕ) → Takes r a s → Takes s b t → Takes r (a ++ b) t
-takes_both r s t a b first second bytes taken = subst (HasTaken t) (append_assoc bytes a b) (second (bytes ++ a) (first bytes taken))
+takes_both r s t a b first second bytes taken = subst (HasTakenLines t) (append_assoc bytes a b) (second (bytes ++ a) (first bytes taken))
 
 pub takes_none : (r : ScriptReader) → Takes r [] r
-takes_none r bytes taken = subst (HasTaken r) (sym (append-nil bytes)) taken
+takes_none r bytes taken = subst (HasTakenLines r) (sym (append-nil bytes)) taken
 
 -- Faults of what a reader takes.
 
@@ -306,7 +306,7 @@ and_no : (a b : Bool) → b ≡ false → (a && b) ≡ false
 and_no true b e = e
 and_no false b e = refl
 
-module _ (r : ScriptReader) (front : IsLine r.front.items) (fault : ScriptFault) (same : fault ≡ fault_at r.place.number is.Truncated) (bytes : List ℕ) (taken : HasTaken r bytes) where
+module _ (r : ScriptReader) (front : IsLine r.front.items) (fault : ScriptFault) (same : fault ≡ fault_at r.place.number is.Truncated) (bytes : List ℕ) (taken : HasTakenLines r bytes) where
   truncated : (list_any is_end taken.lines && eqb (length r.front.items) 0) ≡ false → first_fault bytes ≡ Some fault
   truncated cut =
       fault_at_end r bytes taken front
@@ -318,8 +318,8 @@ module _ (r : ScriptReader) (front : IsLine r.front.items) (fault : ScriptFault)
   ends_within some = truncated (and_no (list_any is_end taken.lines) _ some)
 
   -- in front of the line feed of `end`
-  pub ends_early : has_ended (state_of r.place.stage) ≡ false → first_fault bytes ≡ Some fault
-  ends_early open_state = truncated (rw (open_lines (state_of r.place.stage) taken.lines taken.stands.read.known open_state) refl)
+  pub ends_early : has_ended (parse_state r.place.stage) ≡ false → first_fault bytes ≡ Some fault
+  ends_early open_state = truncated (rw (open_lines (parse_state r.place.stage) taken.lines taken.stands.read.known open_state) refl)
 
 pub script_spells : (lines : List (List ℕ)) (said : Said) (bytes : List ℕ) → AreScript said lines → All IsLine lines → bytes ≡ flat_map with_feed lines → Spells bytes said
 script_spells lines said bytes script each whole = record {
@@ -337,9 +337,9 @@ script_spells lines said bytes script each whole = record {
 }
 
 -- right behind the line `end`
-pub ends_whole : (r : ScriptReader) (script : Script) → r.front.items ≡ [] → r.place.stage ≡ after.After script → (bytes : List ℕ) → HasTaken r bytes → Spells bytes (said_of script)
+pub ends_whole : (r : ScriptReader) (script : Script) → r.front.items ≡ [] → r.place.stage ≡ after.After script → (bytes : List ℕ) → HasTakenLines r bytes → Spells bytes (said_of script)
 ends_whole r script empty stage bytes taken =
-    let known : AreScript (said_of script) taken.lines = subst (λ (s : Stage). IsKnown (state_of s) taken.lines) stage taken.stands.read.known in
+    let known : AreScript (said_of script) taken.lines = subst (λ (s : Stage). IsKnown (parse_state s) taken.lines) stage taken.stands.read.known in
     script_spells taken.lines (said_of script) bytes known taken.stands.read.each
     (taken.whole ∙ ap (λ (xs : List ℕ). flat_map with_feed taken.lines ++ xs) empty ∙ append-nil (flat_map with_feed taken.lines))
 

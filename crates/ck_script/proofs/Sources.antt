@@ -12,8 +12,8 @@ use Rattle.ck_script.specs.Script.{OnTextFault, said_of, fault_at}
 use Rattle.ck_script.specs.Lines.{IsLine}
 use Rattle.ck_script.specs.Spells.{Spells}
 use Rattle.ck_script.specs.FirstFault.{first_fault, IsCutIn, StopsIn}
-use Rattle.ck_script.specs.State.{State, Header, Setting as Settings, Block, After, state_of, lines_to, AreFew}
-use Rattle.ck_script.specs.Taken.{HasTaken, IsWithinLimits, FaultOf, StopsWithin, size_of}
+use Rattle.ck_script.specs.State.{State, Header, Setting as Settings, Block, After, parse_state, lines_to, AreFew}
+use Rattle.ck_script.specs.Taken.{HasTakenLines, IsWithinLimits, FaultOf, StopsWithin, size_of}
 use Rattle.ck_script.proofs.SettingLaws.{count_most}
 use Rattle.ck_script.proofs.Reading.{Takes, ends_here, on_text_fault-map, on_text_fault-any}
 
@@ -21,7 +21,7 @@ use Rattle.ck_script.proofs.Reading.{Takes, ends_here, on_text_fault-map, on_tex
 pub record HasRead (before : Option (List ℕ)) (r : ScriptReader) (now : Option (List ℕ)) : Type 0 where
   pub bytes : List ℕ
   pub given : Consumes before now bytes
-  pub taken : HasTaken r bytes
+  pub taken : HasTakenLines r bytes
 
 -- a block more
 pub read_more : (before between now : Option (List ℕ)) (r s : ScriptReader) (block : List ℕ) → HasRead before r between → Consumes between now block → Takes r block s → HasRead before s now
@@ -66,7 +66,7 @@ lines_most (After said) few = omega arith
 pub size_most : (r : ScriptReader) → IsWithinLimits r → size_of r < 201208036
 size_most r limits =
     let number = limits.place.number in
-    let most = lines_most (state_of r.place.stage) limits.place.few in
+    let most = lines_most (parse_state r.place.stage) limits.place.few in
     let short = limits.front.short in
     omega arith
 
@@ -77,27 +77,27 @@ abbrev pub FirstOf : Option (List ℕ) → ScriptFault → Type 0
 FirstOf before e = IfSome before (λ bytes. OnTextFault e.what (first_fault bytes ≡ Some e))
 
 -- where nothing is left, the bytes that were read are all
-end_taken : (before between now : Option (List ℕ)) (r : ScriptReader) (none : List ℕ) → none ≡ [] → HasRead before r between → Consumes between now none → IsAtEnd now → IfSome before (λ bytes. HasTaken r bytes)
+end_taken : (before between now : Option (List ℕ)) (r : ScriptReader) (none : List ℕ) → none ≡ [] → HasRead before r between → Consumes between now none → IsAtEnd now → IfSome before (λ bytes. HasTakenLines r bytes)
 end_taken None between now r none empty read given at_end = tt
 end_taken (Some bytes) between None r none empty read given at_end = absurd (Consumes-trans (Some bytes) between None read.bytes none read.given given)
 end_taken (Some bytes) between (Some left) r none empty read given at_end =
     let whole : bytes ≡ (read.bytes ++ none) ++ left = Consumes-trans (Some bytes) between (Some left) read.bytes none read.given given in
-    subst (HasTaken r) (sym (whole ∙ ap (λ (xs : List ℕ). (read.bytes ++ xs) ++ left) empty ∙ ap (λ (xs : List ℕ). (read.bytes ++ []) ++ xs) at_end ∙ append-nil (read.bytes ++ []) ∙ append-nil read.bytes)) read.taken
+    subst (HasTakenLines r) (sym (whole ∙ ap (λ (xs : List ℕ). (read.bytes ++ xs) ++ left) empty ∙ ap (λ (xs : List ℕ). (read.bytes ++ []) ++ xs) at_end ∙ append-nil (read.bytes ++ []) ∙ append-nil read.bytes)) read.taken
 
-script_spelled : (before : Option (List ℕ)) (r : ScriptReader) (s : Script) → IfSome before (λ bytes. HasTaken r bytes) → ((bytes : List ℕ) → HasTaken r bytes → Spells bytes (said_of s)) → Spelled before s
+script_spelled : (before : Option (List ℕ)) (r : ScriptReader) (s : Script) → IfSome before (λ bytes. HasTakenLines r bytes) → ((bytes : List ℕ) → HasTakenLines r bytes → Spells bytes (said_of s)) → Spelled before s
 script_spelled None r s taken spells = tt
 script_spelled (Some bytes) r s taken spells = spells bytes taken
 
-fault_first : (before : Option (List ℕ)) (r : ScriptReader) (e : ScriptFault) → IfSome before (λ bytes. HasTaken r bytes) → ((bytes : List ℕ) → HasTaken r bytes → first_fault bytes ≡ Some e) → FirstOf before e
+fault_first : (before : Option (List ℕ)) (r : ScriptReader) (e : ScriptFault) → IfSome before (λ bytes. HasTakenLines r bytes) → ((bytes : List ℕ) → HasTakenLines r bytes → first_fault bytes ≡ Some e) → FirstOf before e
 fault_first None r e taken fault = tt
 fault_first (Some bytes) r e taken fault = on_text_fault-any e.what (fault bytes taken)
 
 module _ (before between now : Option (List ℕ)) (r : ScriptReader) (none : List ℕ) (empty : none ≡ []) (read : HasRead before r between) (given : Consumes between now none) (at_end : IsAtEnd now) where
-  pub end_spelled : (result : Result Script ScriptFault) → IfOk result (λ s. (bytes : List ℕ) → HasTaken r bytes → Spells bytes (said_of s)) → IfOk result (Spelled before)
+  pub end_spelled : (result : Result Script ScriptFault) → IfOk result (λ s. (bytes : List ℕ) → HasTakenLines r bytes → Spells bytes (said_of s)) → IfOk result (Spelled before)
   end_spelled (Ok s) h = script_spelled before r s (end_taken before between now r none empty read given at_end) h
   end_spelled (Err e) h = tt
 
-  pub end_fault_of : (result : Result Script ScriptFault) → IfErr result (λ e. (bytes : List ℕ) → HasTaken r bytes → first_fault bytes ≡ Some e) → IfErr result (FirstOf before)
+  pub end_fault_of : (result : Result Script ScriptFault) → IfErr result (λ e. (bytes : List ℕ) → HasTakenLines r bytes → first_fault bytes ≡ Some e) → IfErr result (FirstOf before)
   end_fault_of (Ok s) h = tt
   end_fault_of (Err e) h = fault_first before r e (end_taken before between now r none empty read given at_end) h
 

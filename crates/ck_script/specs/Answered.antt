@@ -10,7 +10,7 @@ use Rattle.ck_script.specs.declared.script.Command.{Command}
 use Rattle.ck_script.specs.declared.answer.Answer.{Answer}
 use Rattle.ck_script.specs.declared.answer.Answer.TheVariants.{Value, Absent, Yes, No, New, Old, Set, Gone, Count, Listed, Busy, Memory, Full, Load}
 use Rattle.ck_script.specs.Text.{Pairs}
-use Rattle.ck_script.specs.Output.{IsEntryOf, IsRefusal}
+use Rattle.ck_script.specs.Output.{StandsFor, IsRefusal}
 
 -- the answer on the names of the keys that it lists
 abbrev pub answer_on_names : {K : Type 0} → (K → Name) → Answer (Vec (K × ℕ)) → Answer Pairs
@@ -48,18 +48,18 @@ IsListOf pairs a = (a ≡ Listed pairs) ⊎ (a ≡ Memory)
 
 -- the entry is that of the command with the answer, or of a session that changed nothing, where the command is refused
 abbrev pub IsLeft : Command Name → Answer Pairs → Entry ℕ → Type 0
-IsLeft c a e = IsEntryOf c a e.call e.reply ⊎ (IsRefusal c a × IsIdleSession e)
+IsLeft c a e = StandsFor c a e.call e.reply ⊎ (IsRefusal c a × IsIdleSession e)
 
 -- the command is refused and its caller's entries stay, or they grow by one
-abbrev pub Grows : ℕ → Command Name → Answer Pairs → List (Entry ℕ) → List (Entry ℕ) → Type 0
-Grows by c a old new =
+abbrev pub StaysOrGrows : ℕ → Command Name → Answer Pairs → List (Entry ℕ) → List (Entry ℕ) → Type 0
+StaysOrGrows by c a old new =
     (IsRefusal c a × (new ≡ old))
     ⊎ ((e : Entry ℕ) × (e.by ≡ by) × IsLeft c a e × (new ≡ old ++ e ∷ []))
 
 -- the caller's command was answered by this answer
 pub record IsAnsweredBy (c : Command Name) (a : Answer Pairs) (p q : CallerState ℕ) : Type 0 where
   pub same : IsSameCaller p q
-  pub entries : (by : ℕ) → p.pass.view.by ≡ Some by → Grows by c a p.pass.view.mine q.pass.view.mine
+  pub entries : (by : ℕ) → p.pass.view.by ≡ Some by → StaysOrGrows by c a p.pass.view.mine q.pass.view.mine
 
 -- The entries that a caller's commands with their answers left, in order: one or none of a refused command, and one of each other.
 abbrev pub HaveLeft : ℕ → List (Command Name) → List (Answer Pairs) → List (Entry ℕ) → Type 0

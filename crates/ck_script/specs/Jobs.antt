@@ -24,7 +24,7 @@ pub record IsNew (w : WordsState) (p : PassState ℕ) : Type 0 where
 
 module _ {K : Type 0} where
   -- The worker has made no call, and has room for all of its answers.
-  pub record IsReady (job : Job K) : Type 0 where
+  pub record IsReadyJob (job : Job K) : Type 0 where
     pub fresh : job.caller.pass.view.mine ≡ []
     pub empty : job.answers.items ≡ []
     pub room : length job.commands.items ≤ vec_capacity job.answers

@@ -69,8 +69,8 @@ Tells (command.Move j k n) answer.Absent c r = r ≡ reply.Absent
 Tells command a c r = ⊥
 
 -- the command with this answer stands for this call with this reply
-abbrev pub IsEntryOf : Command Name → Answer Pairs → Call ℕ → Reply ℕ → Type 0
-IsEntryOf command a c r = IsCallOf command c × Tells command a c r
+abbrev pub StandsFor : Command Name → Answer Pairs → Call ℕ → Reply ℕ → Type 0
+StandsFor command a c r = IsCallOf command c × Tells command a c r
 
 -- the command may need room for its key
 abbrev pub NeedsRoom : Command Name → Type 0
@@ -97,7 +97,7 @@ abbrev pub AreEntriesOf : ℕ → List (Command Name) → List (Answer Pairs) �
 AreEntriesOf by [] [] es = es ≡ []
 AreEntriesOf by (c ∷ cs) (a ∷ answers) es =
     (IsRefusal c a × AreEntriesOf by cs answers es)
-    ⊎ ((e : Entry ℕ) × (more : List (Entry ℕ)) × (es ≡ e ∷ more) × (e.by ≡ by) × IsEntryOf c a e.call e.reply × AreEntriesOf by cs answers more)
+    ⊎ ((e : Entry ℕ) × (more : List (Entry ℕ)) × (es ≡ e ∷ more) × (e.by ≡ by) × StandsFor c a e.call e.reply × AreEntriesOf by cs answers more)
 AreEntriesOf by cs answers es = ⊥
 
 -- the same of each worker, of which the first has the number by

@@ -118,9 +118,9 @@ command_at v keys line = command_in v keys (tokens line)
 abbrev pub held : Command (Bor (List ℕ)) → WordCommand
 held c = on_names (λ (w : Bor (List ℕ)). w.now) c
 
-abbrev pub held_in : Result (Command (Bor (List ℕ))) What → Result WordCommand What
-held_in (Ok c) = Ok (held c)
-held_in (Err what) = Err what
+abbrev pub held_command : Result (Command (Bor (List ℕ))) What → Result WordCommand What
+held_command (Ok c) = Ok (held c)
+held_command (Err what) = Err what
 
 -- nothing is wrong with the words in the places of keys
 abbrev pub HasKeys : Keys → WordCommand → Type 0

@@ -27,12 +27,12 @@ pub data State : Type 0 where
   Block : Blocks → State
   After : Said → State
 
-abbrev pub state_of : Stage → State
-state_of stage.Header = Header
-state_of (stage.Settings given) = Setting (found_of given)
-state_of (stage.Num body) = Block (blocks_of keys.Num (λ (k : NumKey). k.0 ∷ []) body)
-state_of (stage.Text body) = Block (blocks_of keys.Text (λ (k : Name). k) body)
-state_of (stage.After script) = After (said_of script)
+abbrev pub parse_state : Stage → State
+parse_state stage.Header = Header
+parse_state (stage.Settings given) = Setting (found_of given)
+parse_state (stage.Num body) = Block (blocks_of keys.Num (λ (k : NumKey). k.0 ∷ []) body)
+parse_state (stage.Text body) = Block (blocks_of keys.Text (λ (k : Name). k) body)
+parse_state (stage.After script) = After (said_of script)
 
 -- behind the first line
 abbrev pub header_step : List ℕ → Result State What

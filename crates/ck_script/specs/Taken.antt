@@ -6,18 +6,18 @@ use Rattle.ck_script.specs.declared.reader.ScriptReader.{ScriptReader}
 use Rattle.ck_script.specs.Script.{OnTextFault}
 use Rattle.ck_script.specs.Lines.{IsLine, with_feed}
 use Rattle.ck_script.specs.FirstFault.{first_fault, EndsIn}
-use Rattle.ck_script.specs.State.{state_of, lines_to, AreFew}
+use Rattle.ck_script.specs.State.{parse_state, lines_to, AreFew}
 use Rattle.ck_script.specs.Stands.{AreRead}
 
 -- where it stands behind these lines
 pub record StandsBehind (place : Place) (lines : List (List ℕ)) : Type 0 where
-  pub read : AreRead (state_of place.stage) lines
+  pub read : AreRead (parse_state place.stage) lines
   pub number : place.number ≡ length lines + 1
 
 -- its line is within what a script may have
 pub record IsInScript (place : Place) : Type 0 where
-  pub number : place.number ≤ lines_to (state_of place.stage)
-  pub few : AreFew (state_of place.stage)
+  pub number : place.number ≤ lines_to (parse_state place.stage)
+  pub few : AreFew (parse_state place.stage)
 
 -- the same, and of the front of a line
 pub record IsWithinLimits (r : ScriptReader) : Type 0 where
@@ -25,7 +25,7 @@ pub record IsWithinLimits (r : ScriptReader) : Type 0 where
   pub front : IsLine r.front.items
 
 -- the bytes are lines and the front of a line
-pub record HasTaken (r : ScriptReader) (bytes : List ℕ) : Type 0 where
+pub record HasTakenLines (r : ScriptReader) (bytes : List ℕ) : Type 0 where
   pub lines : List (List ℕ)
   pub whole : bytes ≡ flat_map with_feed lines ++ r.front.items
   pub stands : StandsBehind r.place lines
@@ -36,8 +36,8 @@ size_of r = 201 * r.place.number + length r.front.items
 
 -- behind what the reader took, these bytes have this fault first, whatever follows them
 abbrev pub FaultOf : ScriptReader → List ℕ → ScriptFault → Type 0
-FaultOf r piece e = (bytes : List ℕ) → HasTaken r bytes → (more : List ℕ) → OnTextFault e.what (first_fault ((bytes ++ piece) ++ more) ≡ Some e)
+FaultOf r piece e = (bytes : List ℕ) → HasTakenLines r bytes → (more : List ℕ) → OnTextFault e.what (first_fault ((bytes ++ piece) ++ more) ≡ Some e)
 
 -- behind what the reader took, some of these bytes are read and end in this line
 abbrev pub StopsWithin : ScriptReader → List ℕ → ℕ → Type 0
-StopsWithin r piece line = (bytes : List ℕ) → HasTaken r bytes → (front : List ℕ) × (rest : List ℕ) × (piece ≡ front ++ rest) × EndsIn (bytes ++ front) line
+StopsWithin r piece line = (bytes : List ℕ) → HasTakenLines r bytes → (front : List ℕ) × (rest : List ℕ) × (piece ≡ front ++ rest) × EndsIn (bytes ++ front) line

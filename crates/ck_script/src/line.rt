@@ -2,7 +2,7 @@
 ghost use Rattle.std.specs.Prelude.{◌≡◌, ◌≢◌, IfOk, IfErr};
 ghost use Rattle.std.specs.Option.{ok_or};
 ghost use Rattle.ck_script.specs.Script.{on_names};
-ghost use Rattle.ck_script.specs.Parse.{alone_command, key_command, pair_command, with_key, with_pair, number_behind, number_or_fault, move_command, has_moves, command_at, held, held_in, name_of, HasKeys};
+ghost use Rattle.ck_script.specs.Parse.{alone_command, key_command, pair_command, with_key, with_pair, number_behind, number_or_fault, move_command, has_moves, command_at, held, held_command, name_of, HasKeys};
 
 use crate::script::{Command, Version, What};
 use crate::script_key::ScriptKey;
@@ -31,7 +31,7 @@ fn number_behind<K: ScriptKey>(key: &[u8], word: &[u8]) -> Result<u64, What>
 
 // The command of this name.
 fn alone<'a>(name: &[u8]) -> Result<Command<&'a [u8]>, What>
-    ensures { held_in result ≡ ok_or (alone_command name.now) What.Command }
+    ensures { held_command result ≡ ok_or (alone_command name.now) What.Command }
 {
     if name == b"len".as_slice() {
         Ok(Command::Len)
@@ -44,7 +44,7 @@ fn alone<'a>(name: &[u8]) -> Result<Command<&'a [u8]>, What>
 
 // The command of this name on a key. A wrong name is told before a wrong key.
 fn on_key<'a>(name: &[u8], key: &'a [u8], fault: Option<What>) -> Result<Command<&'a [u8]>, What>
-    ensures { held_in result ≡ with_key (key_command name.now) key.now fault }
+    ensures { held_command result ≡ with_key (key_command name.now) key.now fault }
 {
     let command = if name == b"find".as_slice() {
         Command::Find(key)
@@ -67,7 +67,7 @@ fn on_pair<'a>(
     key: &'a [u8],
     number: Result<u64, What>,
 ) -> Result<Command<&'a [u8]>, What>
-    ensures { held_in result ≡ with_pair (pair_command name.now) key.now number }
+    ensures { held_command result ≡ with_pair (pair_command name.now) key.now number }
 {
     if name == b"insert".as_slice() {
         Ok(Command::Insert(key, number?))
@@ -88,7 +88,7 @@ fn on_two<'a, K: ScriptKey>(
     target: &'a [u8],
     number: &[u8],
 ) -> Result<Command<&'a [u8]>, What>
-    ensures { held_in result ≡ move_command K.kind source.now target.now number.now }
+    ensures { held_command result ≡ move_command K.kind source.now target.now number.now }
 {
     if let Some(what) = K::fault(source) {
         return Err(what);
@@ -113,7 +113,7 @@ fn has_moves(version: Version) -> bool
 // The command that a line is.
 #[tactic(auto, unfolding(crate::specs::Parse::command_at))]
 fn parse<'a, K: ScriptKey>(version: Version, line: &'a [u8]) -> Result<Command<&'a [u8]>, What>
-    ensures { held_in result ≡ command_at version K.kind line.now }
+    ensures { held_command result ≡ command_at version K.kind line.now }
 {
     match tokens_of(line) {
         Tokens::One(name) => alone(name),
@@ -148,7 +148,7 @@ pub fn command_of<'a, K: ScriptKey>(
     version: Version,
     line: &'a [u8],
 ) -> Result<Command<&'a [u8]>, What>
-    ensures value { held_in result ≡ command_at version K.kind line.now }
+    ensures value { held_command result ≡ command_at version K.kind line.now }
     ensures keys { IfOk result (λ c. HasKeys K.kind (held c)) }
     ensures text { IfErr result (λ what. what ≢ What.Read) }
 {

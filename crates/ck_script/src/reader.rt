@@ -84,12 +84,12 @@ impl Place {
 }
 
 impl ScriptReader {
-    ghost use Rattle.ck_script.specs.Taken.{HasTaken, IsWithinLimits, FaultOf, StopsWithin, size_of};
+    ghost use Rattle.ck_script.specs.Taken.{HasTakenLines, IsWithinLimits, FaultOf, StopsWithin, size_of};
 
     // A reader before the first byte.
     fn new(alloc: Global) -> Self
         ensures limits { IsWithinLimits result }
-        ensures taken { HasTaken result [] }
+        ensures taken { HasTakenLines result [] }
     {
         ScriptReader {
             place: Place {
@@ -107,7 +107,7 @@ impl ScriptReader {
         ensures limits { OnOk result (IsWithinLimits self.new) }
         ensures size { OnOk result (size_of self.new ≡ size_of self.old + length piece.now) }
         ensures ok { OnOk result ((bytes : List ℕ) →
-            HasTaken self.old bytes → HasTaken self.new (bytes ++ piece.now)) }
+            HasTakenLines self.old bytes → HasTakenLines self.new (bytes ++ piece.now)) }
         ensures err { IfErr result (λ e. FaultOf self.old piece.now e) }
         ensures text { IfErr result (λ e. e.what ≢ What.Read) }
         ensures memory { IfErr result (λ e. e.what ≡ What.Memory →
@@ -129,7 +129,7 @@ impl ScriptReader {
         ensures limits { OnOk result (IsWithinLimits self.new) }
         ensures size { OnOk result (size_of self.old + length rest.now < size_of self.new) }
         ensures ok { OnOk result ((bytes : List ℕ) →
-            HasTaken self.old bytes → HasTaken self.new (bytes ++ (rest.now ++ 10 ∷ []))) }
+            HasTakenLines self.old bytes → HasTakenLines self.new (bytes ++ (rest.now ++ 10 ∷ []))) }
         ensures err { IfErr result (λ e. FaultOf self.old (rest.now ++ 10 ∷ []) e) }
         ensures text { IfErr result (λ e. e.what ≢ What.Read) }
         ensures memory { IfErr result (λ e. e.what ≡ What.Memory →
@@ -150,7 +150,7 @@ impl ScriptReader {
         ensures limits { OnOk result (IsWithinLimits self.new) }
         ensures size { OnOk result (size_of self.old + length block.now ≤ size_of self.new) }
         ensures ok { OnOk result ((bytes : List ℕ) →
-            HasTaken self.old bytes → HasTaken self.new (bytes ++ block.now)) }
+            HasTakenLines self.old bytes → HasTakenLines self.new (bytes ++ block.now)) }
         ensures err { IfErr result (λ e. FaultOf self.old block.now e) }
         ensures text { IfErr result (λ e. e.what ≢ What.Read) }
         ensures memory { IfErr result (λ e. e.what ≡ What.Memory →
@@ -168,9 +168,9 @@ impl ScriptReader {
     fn finish(self) -> Result<Script, ScriptFault>
         requires { IsWithinLimits self }
         ensures ok { IfOk result (λ s. (bytes : List ℕ) →
-            HasTaken self bytes → Spells bytes (said_of s)) }
+            HasTakenLines self bytes → Spells bytes (said_of s)) }
         ensures err { IfErr result (λ e. (bytes : List ℕ) →
-            HasTaken self bytes → first_fault bytes ≡ Some e) }
+            HasTakenLines self bytes → first_fault bytes ≡ Some e) }
         ensures text { IfErr result (λ e. e.what ≡ What.Truncated) }
     {
         let fault = self.place.fault(What::Truncated);

@@ -7,7 +7,7 @@ ghost use Rattle.ck_words.specs.Closing.{AreAllPasses, dealt};
 ghost use Rattle.ck_script.specs.Script.{said_in, said_of};
 ghost use Rattle.ck_script.specs.Output.{IsOutputOf};
 ghost use Rattle.ck_script.specs.Answered.{lists_on_names};
-ghost use Rattle.ck_script.specs.Jobs.{IsJob, IsNew, IsReady, IsTextAtEnd, answers_of, passes_of};
+ghost use Rattle.ck_script.specs.Jobs.{IsJob, IsNew, IsReadyJob, IsTextAtEnd, answers_of, passes_of};
 ghost use Rattle.ck_script.specs.Run.{TakesOutput, StopsBy};
 
 use crate::answer::{Answer, Pairs};
@@ -63,7 +63,7 @@ fn job_of<'t, K: WrittenKey>(
 ) -> Result<Job<'t, K>, AllocError>
     requires { IsNew table.now pass }
     ensures job { IfOk result (IsJob table.now (pass, commands)) }
-    ensures ready { IfOk result IsReady }
+    ensures ready { IfOk result IsReadyJob }
 {
     let answers = Vec::with_capacity(alloc, commands.len())?;
     Ok(Job {
@@ -85,7 +85,7 @@ fn jobs_of<'t, K: WrittenKey>(
     requires new { All (IsNew table.now) passes.items }
     ensures jobs { IfOk result (λ jobs.
         AllZip (IsJob table.now) (zip passes.items workers.items) jobs.items) }
-    ensures ready { IfOk result (λ jobs. All IsReady jobs.items) }
+    ensures ready { IfOk result (λ jobs. All IsReadyJob jobs.items) }
 {
     let mut jobs = Vec::with_capacity(alloc, workers.len())?;
     for (pass, commands) in passes.into_iter().zip(workers) {

@@ -3,7 +3,7 @@ ghost use Rattle.std.specs.Prelude.{◌≡◌, ◌≢◌, Ok, Err, IfOk, IfErr, 
 ghost use Rattle.ck_script.specs.Script.{OnTextFault};
 ghost use Rattle.ck_script.specs.Blocks.{blocks_of};
 ghost use Rattle.ck_script.specs.SettingLines.{found_of};
-ghost use Rattle.ck_script.specs.State.{state_of, step, header_step, setting_step, first_worker, block_step, next_of};
+ghost use Rattle.ck_script.specs.State.{parse_state, step, header_step, setting_step, first_worker, block_step, next_of};
 
 use crate::body::Body;
 use crate::given::Given;
@@ -29,12 +29,12 @@ pub enum Stage {
 
 impl Stage {
     ghost use Rattle.std.specs.Prelude.{◌≡◌, false, IfSome, IfNone};
-    ghost use Rattle.ck_script.specs.State.{state_of, has_ended};
+    ghost use Rattle.ck_script.specs.State.{parse_state, has_ended};
 
     /// The script, behind the line `end`.
     pub fn script(self) -> Option<Script>
         ensures some { IfSome result (λ s. self ≡ Stage.After s) }
-        ensures none { IfNone result (has_ended (state_of self) ≡ false) }
+        ensures none { IfNone result (has_ended (parse_state self) ≡ false) }
     {
         match self {
             Stage::After(script) => Some(script),
@@ -55,7 +55,7 @@ enum Next<K> {
 
 // Behind line 1.
 fn behind_header(line: &[u8]) -> Result<Stage, What>
-    ensures ok { IfOk result (λ s. header_step line.now ≡ Ok (state_of s)) }
+    ensures ok { IfOk result (λ s. header_step line.now ≡ Ok (parse_state s)) }
     ensures err { IfErr result (λ what. header_step line.now ≡ Err what) }
     ensures text { IfErr result (λ what. what ≡ What.Header) }
 {
@@ -70,7 +70,7 @@ fn behind_header(line: &[u8]) -> Result<Stage, What>
 
 // Behind the first line `worker`.
 fn behind_settings(alloc: Global, given: &Given) -> Result<Stage, What>
-    ensures ok { IfOk result (λ s. first_worker (found_of given.now) ≡ Ok (state_of s)) }
+    ensures ok { IfOk result (λ s. first_worker (found_of given.now) ≡ Ok (parse_state s)) }
     ensures err { IfErr result (λ what. first_worker (found_of given.now) ≡ Err what) }
     ensures text { IfErr result (λ what. what ≡ What.Setting) }
 {
@@ -86,7 +86,7 @@ fn behind_settings(alloc: Global, given: &Given) -> Result<Stage, What>
 
 // Behind a line where settings stand.
 fn behind_setting(alloc: Global, mut given: Given, line: &[u8]) -> Result<Stage, What>
-    ensures ok { IfOk result (λ s. setting_step (found_of given) line.now ≡ Ok (state_of s)) }
+    ensures ok { IfOk result (λ s. setting_step (found_of given) line.now ≡ Ok (parse_state s)) }
     ensures err { IfErr result (λ what.
         OnTextFault what (setting_step (found_of given) line.now ≡ Err what)) }
     ensures text { IfErr result (λ what. what ≢ What.Read) }
@@ -119,9 +119,9 @@ fn behind_line<K: ScriptKey>(alloc: Global, mut body: Body<K>, line: &[u8]) -> R
 
 /// What is known behind a line, or what is wrong with it.
 pub fn behind(alloc: Global, stage: Stage, line: &[u8]) -> Result<Stage, What>
-    ensures ok { IfOk result (λ s. step (state_of stage) line.now ≡ Ok (state_of s)) }
+    ensures ok { IfOk result (λ s. step (parse_state stage) line.now ≡ Ok (parse_state s)) }
     ensures err { IfErr result (λ what.
-        OnTextFault what (step (state_of stage) line.now ≡ Err what)) }
+        OnTextFault what (step (parse_state stage) line.now ≡ Err what)) }
     ensures text { IfErr result (λ what. what ≢ What.Read) }
 {
     match stage {

@@ -1,7 +1,7 @@
 //! The workers of a run.
 ghost use Rattle.std.specs.Prelude.{All, IfOk};
 ghost use Rattle.std.specs.List.{AllZip};
-ghost use Rattle.ck_script.specs.Jobs.{HasWorked, IsReady};
+ghost use Rattle.ck_script.specs.Jobs.{HasWorked, IsReadyJob};
 
 use crate::calls::answer_of;
 use crate::gate::Gate;
@@ -12,7 +12,7 @@ use std::thread::{Threads, map_vec};
 
 // Makes the calls of a worker, and notes their answers.
 fn work<K: WrittenKey, G: Gate>(alloc: Global, gate: &G, job: Job<'_, K>) -> Done<K>
-    requires { IsReady job }
+    requires { IsReadyJob job }
     ensures { HasWorked K.name job.entry result }
 {
     let Job {
@@ -42,11 +42,11 @@ pub fn work_all<T: Threads + Sync, K: WrittenKey + Send, G: Gate>(
     gate: &G,
     jobs: Vec<Job<'_, K>>,
 ) -> Result<Vec<Done<K>>, AllocError>
-    requires { All IsReady jobs.items }
+    requires { All IsReadyJob jobs.items }
     ensures { IfOk result (λ dones. AllZip (HasWorked K.name) jobs.entry.items dones.items) }
 {
     let work_on = |job: Job<'_, K>| -> Done<K>
-        requires { IsReady job }
+        requires { IsReadyJob job }
         ensures { HasWorked K.name job.entry result }
     { work(alloc, gate, job) };
     map_vec(rt, jobs, &work_on)

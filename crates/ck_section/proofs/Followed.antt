@@ -17,7 +17,7 @@ use Rattle.ck_model.specs.Sketches.{Sketch, has_free, IsSketchPathFrom}
 use Rattle.ck_model.proofs.Buckets.{alternate_below}
 use Rattle.ck_model.proofs.Writes.{row_inside, slot_inside}
 use Rattle.ck_bucket.specs.Bucket.{partial_in}
-use Rattle.ck_path.specs.Route.{Route, start_of, AreLinked, IsLinked, Avoids, VisitsOnce}
+use Rattle.ck_path.specs.Route.{Route, first_bucket, AreLinked, IsLinked, Avoids, VisitsOnce}
 use Rattle.ck_path.proofs.Shown.{free_shown, free_there, entry_there}
 use Rattle.ck_stripe.specs.Stripe.{StripeState, bucket_of, with_slot}
 use Rattle.ck_section.specs.declared.hop.Hop.{Hop}
@@ -209,19 +209,19 @@ pub next_left : (p : ℕ) (sketches : ℕ → Sketch) (b : ℕ) (todo : List Pat
 next_left p sketches b todo i t d lt left =
     subst (λ (hs : List PathHop). IsLeft p sketches b hs t) (ap reverse (drop-cons todo i d lt) ∙ reverse_onto (drop (suc i) todo) (get_or todo i d) [] ∙ ap (λ n. reverse (drop n todo) ++ (get_or todo i d ∷ [])) (sym (add-one i))) left
 
-start_below : (p : ℕ) (hops : List PathHop) (end : ℕ) → AreLinked p hops end → start_of hops end < 2 ^ p
+start_below : (p : ℕ) (hops : List PathHop) (end : ℕ) → AreLinked p hops end → first_bucket hops end < 2 ^ p
 start_below p [] end linked = linked
 start_below p (h ∷ hops) end linked = linked.0
 
 -- the bucket at which a path begins is one of the table
-pub begins_below : (route : Route) → IsLinked route → start_of route.hops route.end < 2 ^ route.power
+pub begins_below : (route : Route) → IsLinked route → first_bucket route.hops route.end < 2 ^ route.power
 begins_below route linked = start_below route.power route.hops route.end linked.linked
 
 -- what it finds
 pub last_now : (route : Route) → IsLinked route → (p : ℕ) → p ≡ route.power → (sketches : ℕ → Sketch) (todo : List PathHop) (i t : ℕ) (d : PathHop) → i < length todo
-    → IsLeft p sketches (start_of route.hops route.end) (reverse (drop i todo)) t → IsLastHop p sketches (get_or todo i d) t
+    → IsLeft p sketches (first_bucket route.hops route.end) (reverse (drop i todo)) t → IsLastHop p sketches (get_or todo i d) t
 last_now route linked p power sketches todo i t d lt left =
-    let b : ℕ = start_of route.hops route.end in
+    let b : ℕ = first_bucket route.hops route.end in
     let next = next_left p sketches b todo i t d lt left in
     last_hop p sketches b (reverse (drop (i + 1) todo)) (get_or todo i d) t (subst (λ n. b < 2 ^ n) (sym power) (begins_below route linked)) next.path next.once next.four
 

@@ -16,7 +16,7 @@ use Rattle.ck_section.specs.Stripes.{contents_of}
 use Rattle.ck_section.specs.Whole.{IsTable}
 use Rattle.ck_section.specs.Doublings.{Grows}
 use Rattle.ck_section.specs.Calls.{layout, IsWithoutRoom}
-use Rattle.ck_section.specs.Room.{power_in, reason_of, IsLack, IsWithoutPath, IsRefused, GrowsForRoom}
+use Rattle.ck_section.specs.Room.{power_in, reason_of_lack, IsLack, IsWithoutPath, GivesReason, GrowsForRoom}
 use Rattle.ck_section.proofs.Found.{sound_at}
 use Rattle.ck_section.proofs.Rebinding.{identity_of_none}
 use Rattle.ck_section.proofs.Doublings.{identity_on, doubled_none, doubled_on}
@@ -45,7 +45,7 @@ module _ {V : Type 0} (hash : Name → ℕ) (s max min_load : ℕ) (q : Name) wh
   }
 
   -- what a table lacks that has no room and can make none without growing is the reason to refuse the name
-  pub grounds_for : (cur : List (StripeState V)) → IsTable s cur → (why : Lack) → IsLack max min_load cur why → IsStuck (layout hash s max) (contents_of cur) q → Grounds (layout hash s max) min_load (contents_of cur) q (reason_of why)
+  pub grounds_for : (cur : List (StripeState V)) → IsTable s cur → (why : Lack) → IsLack max min_load cur why → IsStuck (layout hash s max) (contents_of cur) q → Grounds (layout hash s max) min_load (contents_of cur) q (reason_of_lack why)
   grounds_for cur table Full lack stuck =
       let inside : 0 < length cur = subst (λ n. 0 < n) (sym table.count) (pow_pos s) in
       let most : power_in cur ≤ max = (sound_at hash s max cur stuck.lawful 0 inside).most in
@@ -99,7 +99,7 @@ module _ {V : Type 0} (hash : Name → ℕ) (s max min_load : ℕ) (q : Name) wh
 
   -- what is refused for a lack
   pub refused_in : (old cur mid new : List (StripeState V)) → (Lawful (layout hash s max) (contents_of old) → Grown old cur) → contents_of mid ≡ contents_of cur → contents_of new ≡ contents_of mid → IsTable s mid
-      → IsWithoutRoom hash s mid q → IsWithoutPath hash s mid q → (why : Lack) → IsLack max min_load mid why → IsRefused (layout hash s max) min_load old new q why
+      → IsWithoutRoom hash s mid q → IsWithoutPath hash s mid q → (why : Lack) → IsLack max min_load mid why → GivesReason (layout hash s max) min_load old new q why
   refused_in old cur mid new grown same kept table no_room no_path why lack lawful =
       let mid_lawful : Lawful (layout hash s max) (contents_of mid) = subst (Lawful (layout hash s max)) (sym same) (grown lawful).no_call.renewed.lawful in
-      subst (λ (hs : Stripes V). Grounds (layout hash s max) min_load hs q (reason_of why)) (sym kept) (grounds_for mid table why lack (stuck_in mid table no_room no_path mid_lawful))
+      subst (λ (hs : Stripes V). Grounds (layout hash s max) min_load hs q (reason_of_lack why)) (sym kept) (grounds_for mid table why lack (stuck_in mid table no_room no_path mid_lawful))

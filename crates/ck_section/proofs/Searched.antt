@@ -8,7 +8,7 @@ use Rattle.ck_model.specs.Arithmetic.{alternate_of, index_of, second_of}
 use Rattle.ck_model.specs.Map.{Name}
 use Rattle.ck_model.specs.Slots.{Slot}
 use Rattle.ck_model.specs.Contents.{IsBucketOf}
-use Rattle.ck_path.specs.Route.{Route, start_of, IsSeenFrom, IsSeen}
+use Rattle.ck_path.specs.Route.{Route, first_bucket, IsSeenFrom, IsSeen}
 use Rattle.ck_path.specs.Queue.{Queue, wanted}
 use Rattle.ck_bucket.specs.Bucket.{partial_in}
 use Rattle.ck_stripe.specs.Stripe.{StripeState}
@@ -47,7 +47,7 @@ module _ {V : Type 0} (hash : Name → ℕ) (s : ℕ) (stripes cur : List (Strip
 pub seen_four : (sketches : ℕ → Sketch) (p first second : ℕ) (route : Route) → IsSeen (is_four sketches) p first second route → HaveFour sketches route.hops route.end
 seen_four sketches p first second route seen = ⊎_elim (four_from sketches p first route.hops route.end) (four_from sketches p second route.hops route.end) seen
 
-begins : (p : ℕ) (sketches : ℕ → Sketch) (b : ℕ) (hops : List PathHop) (end : ℕ) → IsSketchPathFrom p sketches b hops end → b ≡ start_of hops end
+begins : (p : ℕ) (sketches : ℕ → Sketch) (b : ℕ) (hops : List PathHop) (end : ℕ) → IsSketchPathFrom p sketches b hops end → b ≡ first_bucket hops end
 begins p sketches b [] end path = path.0
 begins p sketches b (h ∷ hops) end path = sym path.0
 
@@ -66,7 +66,7 @@ module _ {V : Type 0} (hash : Name → ℕ) (s : ℕ) (stripes : List (StripeSta
       }
 
   -- the bucket at which it begins is one of the name
-  pub begins_home : IsBucketOf hash (power_in stripes) q (start_of route.hops route.end)
+  pub begins_home : IsBucketOf hash (power_in stripes) q (first_bucket route.hops route.end)
   begins_home =
       let p : ℕ = power_in stripes in
       let sketches : ℕ → Sketch = sketch_of hash s stripes in

@@ -11,7 +11,7 @@ use Rattle.ck_model.specs.Paths.{HasNoRoom, HasNoPath, IsTooEmpty, Grounds}
 use Rattle.ck_model.specs.Sections.{IdentitySection}
 use Rattle.ck_model.specs.Sketches.{Sketch, IsSketchPathFrom}
 use Rattle.ck_bucket.specs.Bucket.{partial_in}
-use Rattle.ck_path.specs.Route.{Route, start_of, VisitsOnce, IsShortestPath}
+use Rattle.ck_path.specs.Route.{Route, first_bucket, VisitsOnce, IsShortestPath}
 use Rattle.ck_stripe.specs.Stripe.{StripeState}
 use Rattle.ck_section.specs.declared.room.Lack.{Lack}
 use Rattle.ck_section.specs.declared.room.Lack.TheVariants.{Memory, Full, LoadTooLow}
@@ -24,10 +24,10 @@ HaveFour sketches [] end = length (sketches end) ≡ 4
 HaveFour sketches (h ∷ hops) end = (length (sketches h.bucket) ≡ 4) × HaveFour sketches hops end
 
 -- the reason why a table that lacks this makes no room
-abbrev pub reason_of : Lack → Reason
-reason_of Memory = Reasons.Memory
-reason_of Full = Reasons.Full
-reason_of LoadTooLow = Reasons.LoadTooLow
+abbrev pub reason_of_lack : Lack → Reason
+reason_of_lack Memory = Reasons.Memory
+reason_of_lack Full = Reasons.Full
+reason_of_lack LoadTooLow = Reasons.LoadTooLow
 
 module _ {V : Type 0} where
   -- the power of stripes that have one
@@ -50,7 +50,7 @@ module _ {V : Type 0} where
   -- a path of these stripes, which visits no bucket twice
   pub record IsPathIn (hash : Name → ℕ) (s : ℕ) (stripes : List (StripeState V)) (route : Route) : Type 0 where
     pub power : route.power ≡ power_in stripes
-    pub path : IsSketchPathFrom (power_in stripes) (sketch_of hash s stripes) (start_of route.hops route.end) route.hops route.end
+    pub path : IsSketchPathFrom (power_in stripes) (sketch_of hash s stripes) (first_bucket route.hops route.end) route.hops route.end
     pub once : VisitsOnce route.hops route.end
     pub four : HaveFour (sketch_of hash s stripes) route.hops route.end
 
@@ -78,8 +78,8 @@ module _ {V : Type 0} where
   MakesRoom k old new q = Lawful k (contents_of old) → ¬ (HasNoRoom k (contents_of new) q)
 
   -- What was lawful gives this reason to refuse the name.
-  abbrev pub IsRefused : Layout → ℕ → List (StripeState V) → List (StripeState V) → Name → Lack → Type 0
-  IsRefused k min_load old new q why = Lawful k (contents_of old) → Grounds k min_load (contents_of new) q (reason_of why)
+  abbrev pub GivesReason : Layout → ℕ → List (StripeState V) → List (StripeState V) → Name → Lack → Type 0
+  GivesReason k min_load old new q why = Lawful k (contents_of old) → Grounds k min_load (contents_of new) q (reason_of_lack why)
 
   -- Lawful stripes have doubled only where no path for the name existed and the load was high enough: at each power from that of old on, below that of new, growing alone could make room.
   abbrev pub GrowsForRoom : Layout → ℕ → List (StripeState V) → List (StripeState V) → Name → Type 0

@@ -4,7 +4,7 @@ ghost use Rattle.ck_key.specs.Hashes.{IsHashOf};
 ghost use Rattle.ck_model.specs.Arithmetic.{alternate_of};
 ghost use Rattle.ck_model.specs.Slots.{HasFree};
 ghost use Rattle.ck_model.specs.Sketches.{HasNoSketchPath};
-ghost use Rattle.ck_path.specs.Route.{start_of, IsShortestPath};
+ghost use Rattle.ck_path.specs.Route.{first_bucket, IsShortestPath};
 ghost use Rattle.ck_section.specs.Stripes.{bucket_at};
 ghost use Rattle.ck_section.specs.Places.{AreAllHeld};
 ghost use Rattle.ck_section.specs.Hops.{CanHop, Hops, IsNoCall};
@@ -80,7 +80,7 @@ pub fn follow_path<K: TableKey + Drop, V: Drop, H: Held<K, V>>(held: &mut H, s: 
     ensures held { AreAllHeld s (H.stripes held.new) }
     ensures no_call { IsNoCall K.hash s (H.stripes held.old) (H.stripes held.new) }
     ensures rest { ChangesContents (H.stripes held.old) (H.stripes held.new) }
-    ensures free { let b = start_of path.now.hops path.now.end in
+    ensures free { let b = first_bucket path.now.hops path.now.end in
         HasFree (bucket_at (H.stripes held.new) (b % 2 ^ s) b) }
     ensures stays { H.stays held.old held.new }
 {

@@ -9,7 +9,7 @@ ghost use Rattle.ck_section.specs.Doublings.{Grows};
 ghost use Rattle.ck_section.specs.Places.{AreAllHeld, IsPlaceOf};
 ghost use Rattle.ck_section.specs.Hops.{IsNoCall};
 ghost use Rattle.ck_section.specs.Calls.{layout, ChangesContents, IsWithRoom, IsWithoutRoom};
-ghost use Rattle.ck_section.specs.Room.{power_in, settled_at, AreBothSettled, IsWithoutPath, IsLack, KeepsBindings, MakesRoom, IsRefused, GrowsForRoom};
+ghost use Rattle.ck_section.specs.Room.{power_in, settled_at, AreBothSettled, IsWithoutPath, IsLack, KeepsBindings, MakesRoom, GivesReason, GrowsForRoom};
 
 use crate::double::{double_all, len, settle_all};
 use crate::entry::find_entry;
@@ -53,7 +53,7 @@ pub fn make_room<K: TableKey + Drop, V: Drop, H: Held<K, V>>(
     ensures room { OnOk result (MakesRoom (layout K.hash s max)
         (H.stripes held.old) (H.stripes held.new) (K.name key.now)) }
     ensures settled { OnOk result (AreBothSettled K.hash s (H.stripes held.new) (K.name key.now)) }
-    ensures refused { IfErr result (IsRefused (layout K.hash s max) min_load
+    ensures refused { IfErr result (GivesReason (layout K.hash s max) min_load
         (H.stripes held.old) (H.stripes held.new) (K.name key.now)) }
     ensures doubled { GrowsForRoom (layout K.hash s max) min_load
         (H.stripes held.old) (H.stripes held.new) (K.name key.now) }

@@ -3,7 +3,7 @@ use Rattle.std.proofs.Common.{◌≡◌, ℕ, ◌+◌, ◌<◌, ◌^◌, List, [
 use Rattle.std.proofs.lemmas.List.{take-append-drop, take_more, reverse-append, reverse-reverse}
 use Rattle.ck_model.specs.declared.hop.PathHop.{PathHop}
 use Rattle.ck_model.specs.Arithmetic.{alternate_of}
-use Rattle.ck_path.specs.Route.{start_of, AreLinked}
+use Rattle.ck_path.specs.Route.{first_bucket, AreLinked}
 
 linked_later : (p : ℕ) (xs ys : List PathHop) (end : ℕ) → AreLinked p (xs ++ ys) end → AreLinked p ys end
 linked_later p [] ys end l = l
@@ -20,10 +20,10 @@ module _ (p : ℕ) (hops items : List PathHop) (end : ℕ) (from_end : items ≡
   split : hops ≡ reverse (drop (i + 1) items) ++ hop ∷ reverse (take i items)
   split = sym (reverse-reverse hops) ∙ (ap reverse (sym from_end) ∙ (ap reverse (sym (take-append-drop (i + 1) items)) ∙ (reverse-append (take (i + 1) items) (drop (i + 1) items) ∙ ap (λ l. reverse (drop (i + 1) items) ++ l) one_more)))
 
-  pub hop_linked : AreLinked p hops end → (hop.bucket < 2 ^ p) × (alternate_of p hop.partial hop.bucket ≡ start_of (reverse (take i items)) end)
+  pub hop_linked : AreLinked p hops end → (hop.bucket < 2 ^ p) × (alternate_of p hop.partial hop.bucket ≡ first_bucket (reverse (take i items)) end)
   hop_linked l =
       let rest = linked_later p (reverse (drop (i + 1) items)) (hop ∷ reverse (take i items)) end (subst (λ (h : List PathHop). AreLinked p h end) split l) in
       (rest.0, rest.2)
 
-  pub next_target : hop.bucket ≡ start_of (reverse (take (i + 1) items)) end
-  next_target = sym (ap (λ l. start_of l end) one_more)
+  pub next_target : hop.bucket ≡ first_bucket (reverse (take (i + 1) items)) end
+  next_target = sym (ap (λ l. first_bucket l end) one_more)

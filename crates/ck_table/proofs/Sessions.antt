@@ -25,7 +25,7 @@ use Rattle.ck_section.specs.Stripes.{stripe_at, contents_of, settled_stripes}
 use Rattle.ck_section.specs.Places.{AreAllHeld}
 use Rattle.ck_section.specs.declared.place.KeyPlace.{KeyPlace}
 use Rattle.ck_section.specs.declared.room.Lack.{Lack}
-use Rattle.ck_section.specs.Room.{reason_of, KeepsBindings, MakesRoom, IsRefused}
+use Rattle.ck_section.specs.Room.{reason_of_lack, KeepsBindings, MakesRoom, GivesReason}
 use Rattle.ck_section.specs.Calls.{layout, IsWithoutRoom, ChangesContents}
 use Rattle.ck_section.proofs.Decided.{IsCallOn}
 use Rattle.ck_section.proofs.Growing.{all_settled, contents_settled}
@@ -222,7 +222,7 @@ module _ {V : Type 0} where
 
   -- room was made or not, and then all stripes were settled
   pub seeks_room : (hash : Name → ℕ) (set : Settings) (q : Name) (found : Result (Unit {0}) Lack) (old mid new : List (StripeState V)) → new ≡ settled_stripes mid → IsTable set.s mid
-      → KeepsBindings (layout_of hash set) old mid → OnOk found (MakesRoom (layout_of hash set) old mid q) → IfErr found (IsRefused (layout_of hash set) set.min_load old mid q) → SeeksRoom hash set q found old new
+      → KeepsBindings (layout_of hash set) old mid → OnOk found (MakesRoom (layout_of hash set) old mid q) → IfErr found (GivesReason (layout_of hash set) set.min_load old mid q) → SeeksRoom hash set q found old new
   seeks_room hash set q found old mid new same table no_call room refused =
       let k : Layout = layout_of hash set in
       let kept : contents_of new ≡ contents_of mid = ap (λ (ss : List (StripeState V)). contents_of ss) same ∙ contents_settled mid in
@@ -230,7 +230,7 @@ module _ {V : Type 0} where
         held = subst (λ (ss : List (StripeState V)). AreAllHeld set.s ss) (sym same) (all_settled set.s mid table);
         no_call = λ lawful. subst (λ (hs : Stripes V). IdentitySection k (contents_of old) hs) (sym kept) (no_call lawful);
         room = IfOk-weaker found _ _ (λ x makes lawful. subst (λ (hs : Stripes V). ¬ (HasNoRoom k hs q)) (sym kept) (makes lawful)) room;
-        refused = IfErr-weaker found _ _ (λ lack grounds lawful. subst (λ (hs : Stripes V). Grounds k set.min_load hs q (reason_of lack)) (sym kept) (grounds lawful)) refused;
+        refused = IfErr-weaker found _ _ (λ lack grounds lawful. subst (λ (hs : Stripes V). Grounds k set.min_load hs q (reason_of_lack lack)) (sym kept) (grounds lawful)) refused;
       }
 
   -- room was looked for in a locked table
@@ -255,7 +255,7 @@ module _ {V : Type 0} where
           kept = keeps_map s is;
           lack = lack;
           is = refl;
-          grounds = subst (λ (x : LockedState V). Grounds (layout_of hash x.table.settings) x.table.settings.min_load (contents_of q.stripes) name (reason_of lack)) is (grounds l.renewed.lawful);
+          grounds = subst (λ (x : LockedState V). Grounds (layout_of hash x.table.settings) x.table.settings.min_load (contents_of q.stripes) name (reason_of_lack lack)) is (grounds l.renewed.lawful);
         }) seeks.refused
 
   -- what was done once room was made

@@ -14,7 +14,7 @@ use Rattle.ck_section.specs.declared.room.Lack.{Lack}
 use Rattle.ck_section.specs.Stripes.{contents_of}
 use Rattle.ck_section.specs.Places.{AreAllHeld}
 use Rattle.ck_section.specs.Whole.{IsTable, AreSettled}
-use Rattle.ck_section.specs.Room.{reason_of, KeepsBindings, MakesRoom, IsRefused}
+use Rattle.ck_section.specs.Room.{reason_of_lack, KeepsBindings, MakesRoom, GivesReason}
 use Rattle.ck_words.specs.Rule.{layout_of}
 use Rattle.ck_words.specs.Words.{WordsState}
 use Rattle.ck_words.specs.Passes.{PassState, IsPassOf, ShowsSeen}
@@ -71,11 +71,11 @@ module _ {V : Type 0} where
     pub kept : KeepsMap l m
     pub lack : Lack
     pub is : why ≡ why_of lack
-    pub grounds : Grounds (layout_of hash l.table.settings) l.table.settings.min_load (contents_of m.pass.stripes) q (reason_of lack)
+    pub grounds : Grounds (layout_of hash l.table.settings) l.table.settings.min_load (contents_of m.pass.stripes) q (reason_of_lack lack)
 
   -- Room for the name was looked for among all stripes, which went from old to new: they are settled, and there is room, or a lack of it that was found.
   pub record SeeksRoom (hash : Name → ℕ) (set : Settings) (q : Name) (found : Result (Unit {0}) Lack) (old new : List (StripeState V)) : Type 0 where
     pub held : AreAllHeld set.s new
     pub no_call : KeepsBindings (layout_of hash set) old new
     pub room : OnOk found (MakesRoom (layout_of hash set) old new q)
-    pub refused : IfErr found (IsRefused (layout_of hash set) set.min_load old new q)
+    pub refused : IfErr found (GivesReason (layout_of hash set) set.min_load old new q)

@@ -13,7 +13,7 @@ ghost use Rattle.ck_section.specs.Stripes.{contents_of};
 ghost use Rattle.ck_section.specs.Places.{IsPlaceOf, AreAllHeld};
 ghost use Rattle.ck_section.specs.Entries.{IsEntryOf};
 ghost use Rattle.ck_section.specs.Calls.{effect, IsCall, IsWithoutRoom, ChangesContents};
-ghost use Rattle.ck_section.specs.Room.{KeepsBindings, MakesRoom, IsRefused};
+ghost use Rattle.ck_section.specs.Room.{KeepsBindings, MakesRoom, GivesReason};
 ghost use Rattle.ck_words.specs.Rule.{layout_of};
 ghost use Rattle.ck_words.specs.Retries.{FindsAmong};
 ghost use Rattle.ck_words.specs.Answering.{IsAnswered};

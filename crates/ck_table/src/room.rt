@@ -7,7 +7,7 @@ ghost use Rattle.ck_model.specs.Paths.{Grounds};
 ghost use Rattle.ck_section.specs.Stripes.{contents_of};
 ghost use Rattle.ck_section.specs.Places.{IsPlaceOf};
 ghost use Rattle.ck_section.specs.Whole.{IsTable, AreSettled};
-ghost use Rattle.ck_section.specs.Room.{AreBothSettled, reason_of};
+ghost use Rattle.ck_section.specs.Room.{AreBothSettled, reason_of_lack};
 ghost use Rattle.ck_words.specs.Rule.{counting, layout_of};
 ghost use Rattle.ck_words.specs.Passes.{IsPassOf, IsIdle, numbers_of};
 ghost use Rattle.ck_words.specs.Lending.{list_of};
@@ -124,7 +124,7 @@ impl<K: TableKey + Drop, V: Drop> Table<K, V> {
         ensures grounds { IfErr result (λ lack.
             Lawful (layout_of K.hash self.now.settings) (reverse pass.new.view.held)
             → Grounds (layout_of K.hash self.now.settings) self.now.settings.min_load
-            (contents_of pass.new.stripes) (K.name key.now) (reason_of lack)) }
+            (contents_of pass.new.stripes) (K.name key.now) (reason_of_lack lack)) }
     {
         let settings = self.words.settings();
         let s = settings.s;

@@ -24,36 +24,36 @@ use Rattle.ck_core.specs.Steps.Move.{Take, FindHeld, Give, Decide, Renew, Look}
 use Rattle.ck_core.proofs.Lists.{at_set, set_else, set_there}
 use Rattle.ck_core.proofs.Shown.{shows}
 use Rattle.ck_core.proofs.Keeps.{take_keeps, find_keeps, give_keeps, decide_keeps, renew_keeps, look_keeps, told_below, open_keeps, tell_keeps, join_keeps}
-use Rattle.ck_words.specs.Rule.{Slot, Hand, lying, spaced, world, IsNumbered, IsKept, Rule, RuleOf, layout_of}
+use Rattle.ck_words.specs.Rule.{StripeSlot, Hand, lying, spaced, world, IsNumbered, IsKept, Rule, RuleOf, layout_of}
 use Rattle.ck_words.specs.Steps.{Steps}
-use Rattle.ck_words.specs.Plays.{contents_in, SeatTries, SeatGives, SeatLooks, first_number, opened, begun}
+use Rattle.ck_words.specs.Plays.{contents_in, SeatTries, SeatGives, SeatLooks, first_kept, opened, begun}
 use Rattle.ck_words.proofs.Spacing.{spaced-at, spaced-set}
 
 module _ {V : Type 0} where
-  map_set : (hs : List (maybe.Option (Slot V))) (i : ℕ) (x : maybe.Option (Slot V)) → set (map lying hs) i (lying x) ≡ map lying (set hs i x)
+  map_set : (hs : List (maybe.Option (StripeSlot V))) (i : ℕ) (x : maybe.Option (StripeSlot V)) → set (map lying hs) i (lying x) ≡ map lying (set hs i x)
   map_set [] i x = refl
   map_set (h ∷ hs) zero x = refl
   map_set (h ∷ hs) (suc i) x = ap {B = List (Option (Content V))} (λ l. lying h ∷ l) (map_set hs i x)
 
-  full : (x : maybe.Option (Slot V)) (c : Content V) → lying x ≡ Some c → (stripe : StripeState V) × (x ≡ some (Some stripe)) × (stripe.content ≡ c)
+  full : (x : maybe.Option (StripeSlot V)) (c : Content V) → lying x ≡ Some c → (stripe : StripeState V) × (x ≡ some (Some stripe)) × (stripe.content ≡ c)
   full none c e = absurd (none-some c e)
   full (some None) c e = absurd (none-some c e)
   full (some (Some stripe)) c e = (stripe, refl, Some-injective stripe.content c e)
 
-  lies_there : (hs : List (maybe.Option (Slot V))) (i : ℕ) (c : Content V) → get_elem? (map lying hs) i ≡ some (Some c) → (stripe : StripeState V) × (get_elem? hs i ≡ some (some (Some stripe))) × (stripe.content ≡ c)
+  lies_there : (hs : List (maybe.Option (StripeSlot V))) (i : ℕ) (c : Content V) → get_elem? (map lying hs) i ≡ some (Some c) → (stripe : StripeState V) × (get_elem? hs i ≡ some (some (Some stripe))) × (stripe.content ≡ c)
   lies_there [] i c e = absurd (some-ne-none (Some c) (sym e))
   lies_there (h ∷ hs) zero c e = let f = full h c (some-injective (lying h) (Some c) e) in (f.0, ap some f.1, f.2)
   lies_there (h ∷ hs) (suc i) c e = lies_there hs i c e
 
   -- slots with the stripes of their numbers
-  abbrev pub AreNumbered : ℕ → List (maybe.Option (Slot V)) → Type 0
+  abbrev pub AreNumbered : ℕ → List (maybe.Option (StripeSlot V)) → Type 0
   AreNumbered s hs = (t : ℕ) (stripe : StripeState V) → get_elem? hs t ≡ some (some (Some stripe)) → IsNumbered s t stripe
 
-  numbered_out : (s : ℕ) (hs : List (maybe.Option (Slot V))) (t : ℕ) → AreNumbered s hs → AreNumbered s (set hs t none)
+  numbered_out : (s : ℕ) (hs : List (maybe.Option (StripeSlot V))) (t : ℕ) → AreNumbered s hs → AreNumbered s (set hs t none)
   numbered_out s hs t old u stripe e = ⊎_elim (λ (h : (u ≡ t) × (none ≡ some (Some stripe))). absurd (some-ne-none (Some stripe) (sym h.1))) (λ (h : (u ≢ t) × (get_elem? hs u ≡ some (some (Some stripe)))). old u stripe h.1)
       (at_set hs t u none (some (Some stripe)) e)
 
-  numbered_back : (s : ℕ) (hs : List (maybe.Option (Slot V))) (t : ℕ) (new : StripeState V) → IsNumbered s t new → AreNumbered s hs → AreNumbered s (set hs t (some (Some new)))
+  numbered_back : (s : ℕ) (hs : List (maybe.Option (StripeSlot V))) (t : ℕ) (new : StripeState V) → IsNumbered s t new → AreNumbered s hs → AreNumbered s (set hs t (some (Some new)))
   numbered_back s hs t new own old u stripe e = ⊎_elim
       (λ (h : (u ≡ t) × (some (Some new) ≡ some (Some stripe))). subst (λ (x : ℕ × StripeState V). IsNumbered s x.0 x.1) (λ i. (sym h.0 i, Some-injective new stripe (some-injective (Some new) (Some stripe) h.1) i)) own)
       (λ (h : (u ≢ t) × (get_elem? hs u ≡ some (some (Some stripe)))). old u stripe h.1)
@@ -61,7 +61,7 @@ module _ {V : Type 0} where
 
 module _ {V : Type 0} (k : Layout) (callers : ℕ) where
   -- the word of stripe t became x, and its slot h
-  kept_at : (log : List (Entry V)) (s : State (Slot V) (View V)) (t x : ℕ) (h : maybe.Option (Slot V)) (views : List (View V)) → t < 2 ^ k.s → length s.words ≡ 2 ^ k.s * 8
+  kept_at : (log : List (Entry V)) (s : State (StripeSlot V) (View V)) (t x : ℕ) (h : maybe.Option (StripeSlot V)) (views : List (View V)) → t < 2 ^ k.s → length s.words ≡ 2 ^ k.s * 8
       → Law k callers log (record { words = set (spaced (2 ^ k.s) s.words) t x; homes = set (map lying s.homes) t (lying h); views = views }) → AreNumbered k.s (set s.homes t h)
       → IsKept k callers log (record { words = set s.words (t * 8) x; homes = set s.homes t h; views = views })
   kept_at log s t x h views l sized law own = record {
@@ -71,7 +71,7 @@ module _ {V : Type 0} (k : Layout) (callers : ℕ) where
   }
 
   -- a step that leaves words and slots as they were
-  unmoved : (log : List (Entry V)) (s : State (Slot V) (View V)) (id t x : ℕ) (w : View V) (has : List (ℕ × Slot V)) → x ≡ get_or s.words t 0 → IsKept k callers log s → Law k callers log (seen_as (world (2 ^ k.s) s) id w)
+  unmoved : (log : List (Entry V)) (s : State (StripeSlot V) (View V)) (id t x : ℕ) (w : View V) (has : List (ℕ × StripeSlot V)) → x ≡ get_or s.words t 0 → IsKept k callers log s → Law k callers log (seen_as (world (2 ^ k.s) s) id w)
       → IsKept k callers log (stepped s t x id has w keeps)
   unmoved log s id t x w has e old law =
       let same : s.words ≡ set s.words t x = sym (set-get_or s.words t 0) ∙ ap (set s.words t) (sym e) in
@@ -82,10 +82,10 @@ module _ {V : Type 0} (k : Layout) (callers : ℕ) where
       }
 
   -- a seat gives back the slot that it has first
-  gave : (log log2 : List (Entry V)) (s : State (Slot V) (View V)) (id t : ℕ) (stripe : StripeState V) (w : View V) (has out : List (ℕ × Slot V)) → has ≡ (t, Some stripe) ∷ out → t < 2 ^ k.s → IsNumbered k.s t stripe → IsKept k callers log s
+  gave : (log log2 : List (Entry V)) (s : State (StripeSlot V) (View V)) (id t : ℕ) (stripe : StripeState V) (w : View V) (has out : List (ℕ × StripeSlot V)) → has ≡ (t, Some stripe) ∷ out → t < 2 ^ k.s → IsNumbered k.s t stripe → IsKept k callers log s
       → Law k callers log2 (sent_home (world (2 ^ k.s) s) id t stripe.content w)
       → IsKept k callers log2 (stepped s (t * 8) 0 id has w gives)
-  gave log log2 s id t stripe w has out is l own old law = subst (λ (xs : List (ℕ × Slot V)). IsKept k callers log2 (stepped s (t * 8) 0 id xs w gives)) (sym is)
+  gave log log2 s id t stripe w has out is l own old law = subst (λ (xs : List (ℕ × StripeSlot V)). IsKept k callers log2 (stepped s (t * 8) 0 id xs w gives)) (sym is)
       (kept_at log2 s t 0 (some (Some stripe)) (set s.views id w) l old.words_sized law (numbered_back k.s s.homes t stripe own old.numbered))
 
   module _ (id : ℕ) (v : View V) where
@@ -94,7 +94,7 @@ module _ {V : Type 0} (k : Layout) (callers : ℕ) where
         let law = open_keeps k callers r.0 (world (2 ^ k.s) s) r.1.law id v at j others is in (
           r.0,
           record {
-            law = subst (λ (o : List (ℕ × List (Entry V))). Law k callers r.0 (record { words = spaced (2 ^ k.s) s.words; homes = map lying s.homes; views = set s.views id (record v { others = drop 1 o }) ++ newcomer v.settings (first_number o) v.told ∷ [] })) (sym is) law;
+            law = subst (λ (o : List (ℕ × List (Entry V))). Law k callers r.0 (record { words = spaced (2 ^ k.s) s.words; homes = map lying s.homes; views = set s.views id (record v { others = drop 1 o }) ++ newcomer v.settings (first_kept o) v.told ∷ [] })) (sym is) law;
             words_sized = r.1.words_sized;
             numbered = r.1.numbered;
           },
@@ -119,7 +119,7 @@ module _ (hash : Name → ℕ) (set : Settings) where
 
   module _ {V : Type 0} where
     -- a step of the core from a state of the table, by which the view v becomes w
-    steps_from : (move : Move V) (log : List (Entry V)) (s : State (Slot V) (View V)) (id : ℕ) (v w : View V) (after : World V) → IsKept k set.callers log s → get_elem? s.views id ≡ some v
+    steps_from : (move : Move V) (log : List (Entry V)) (s : State (StripeSlot V) (View V)) (id : ℕ) (v w : View V) (after : World V) → IsKept k set.callers log s → get_elem? s.views id ≡ some v
         → Does k set.min_load log id move (world (2 ^ k.s) s) after → after.views ≡ slice_set s.views id w → Steps hash set move v w
     steps_from move log s id v w after r at does views = record {
       log = log;
@@ -132,12 +132,12 @@ module _ (hash : Name → ℕ) (set : Settings) where
       is = ap (λ vs. get_elem? vs id) views ∙ set_there s.views id v w at;
     }
 
-    lawful_now : (log : List (Entry V)) (s : State (Slot V) (View V)) (id : ℕ) (v : View V) → IsKept k set.callers log s → get_elem? s.views id ≡ some v → Lawful k v.held
+    lawful_now : (log : List (Entry V)) (s : State (StripeSlot V) (View V)) (id : ℕ) (v : View V) → IsKept k set.callers log s → get_elem? s.views id ≡ some v → Lawful k v.held
     lawful_now log s id v r at = (shows k set.callers log (world (2 ^ k.s) s) r.law id v at).lawful
 
     module _ (slots id : ℕ) (m : Hand V) where
-      take_by : (t : ℕ) → t < 2 ^ k.s → IsAbove t (numbers m.0.held) → (s : State (Slot V) (View V)) (log : List (Entry V)) (r : IsKept k set.callers log s) → get_elem? s.views id ≡ some m.0 → (b : ℕ) → get_or s.words (t * 8) 0 ≡ b → b < 2
-          → (w : View V) × (a : Act (Slot V)) × Valid s.homes m.1 a × RuleOf hash set (stepped s (t * 8) 1 id m.1 w a) × SeatTries hash set t m (get_or s.words (t * 8) 0) (w, carried_after m.1 a)
+      take_by : (t : ℕ) → t < 2 ^ k.s → IsAbove t (numbers m.0.held) → (s : State (StripeSlot V) (View V)) (log : List (Entry V)) (r : IsKept k set.callers log s) → get_elem? s.views id ≡ some m.0 → (b : ℕ) → get_or s.words (t * 8) 0 ≡ b → b < 2
+          → (w : View V) × (a : Act (StripeSlot V)) × Valid s.homes m.1 a × RuleOf hash set (stepped s (t * 8) 1 id m.1 w a) × SeatTries hash set t m (get_or s.words (t * 8) 0) (w, carried_after m.1 a)
       take_by t l above s log r at zero e h =
           let free : get_or (spaced (2 ^ k.s) s.words) t 0 ≡ 0 = spaced-at (2 ^ k.s) t s.words l ∙ e in
           let c : Content V = r.law.contents t in
@@ -163,7 +163,7 @@ module _ (hash : Name → ℕ) (set : Settings) where
       pub take_allowed : (t : ℕ) → t < 2 ^ k.s → IsAbove t (numbers m.0.held) → Allows (RuleOf hash set) slots id m (t * 8) (λ _. 1) (SeatTries hash set t m)
       take_allowed t l above s r _ at _ = take_by t l above s r.0 r.1 at (get_or s.words (t * 8) 0) refl (subst (λ b. b < 2) (spaced-at (2 ^ k.s) t s.words l) (r.1.law.places.is_bit t l))
 
-      module _ (t : ℕ) (stripe : StripeState V) (out : List (ℕ × Slot V)) (is : m.1 ≡ (t, Some stripe) ∷ out) (l : t < 2 ^ k.s) (own : IsNumbered k.s t stripe) where
+      module _ (t : ℕ) (stripe : StripeState V) (out : List (ℕ × StripeSlot V)) (is : m.1 ≡ (t, Some stripe) ∷ out) (l : t < 2 ^ k.s) (own : IsNumbered k.s t stripe) where
         pub give_allowed : (g : Option (Name × Reason)) → Holds m.0.held t stripe.content → (Lawful k m.0.held → IsExcused k set.min_load m.0.held g) → Allows (RuleOf hash set) slots id m (t * 8) (λ _. 0) (λ _. SeatGives hash set (Give t g) m)
         give_allowed g h excused s r _ at _ =
             let w : View V = giving m.0 t stripe.content m.0.held g in

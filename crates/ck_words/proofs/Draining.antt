@@ -10,7 +10,7 @@ use Rattle.ck_model.specs.Map.{Name, named}
 use Rattle.ck_model.specs.Contents.{Stripes, pairs_in, pairs_of}
 use Rattle.ck_stripe.specs.Stripe.{StripeState}
 use Rattle.ck_section.specs.Stripes.{no_stripe, stripe_at, contents_of}
-use Rattle.ck_words.specs.Rule.{Slot, counting}
+use Rattle.ck_words.specs.Rule.{StripeSlot, counting}
 use Rattle.ck_words.specs.Passes.{slot_of, numbers_of}
 use Rattle.ck_words.proofs.Counting.{length-counting, counting-at}
 use Rattle.ck_words.proofs.Reversed.{map-reverse}
@@ -26,26 +26,26 @@ module _ {V : Type 0} where
   pairs-all ss = flat_map-map (λ (h : ℕ × Content V). pairs_in h.1) (λ (s : StripeState V). (s.number, s.content)) ss
 
   -- the slots from the i-th stripe on, and behind them those that were emptied
-  abbrev pub HasLeft : ℕ → List (StripeState V) → List (ℕ × Slot V) → Type 0
-  HasLeft i ss ms = (out : List (ℕ × Slot V)) × (ms ≡ map slot_of (drop i ss) ++ out)
+  abbrev pub HasLeft : ℕ → List (StripeState V) → List (ℕ × StripeSlot V) → Type 0
+  HasLeft i ss ms = (out : List (ℕ × StripeSlot V)) × (ms ≡ map slot_of (drop i ss) ++ out)
 
-  pub all_left : (ss : List (StripeState V)) (ms : List (ℕ × Slot V)) → ms ≡ map slot_of ss → HasLeft 0 ss ms
+  pub all_left : (ss : List (StripeState V)) (ms : List (ℕ × StripeSlot V)) → ms ≡ map slot_of ss → HasLeft 0 ss ms
   all_left ss ms e = ([], e ∙ sym (append-nil (map slot_of ss)))
 
-  left_front : (i : ℕ) (ss : List (StripeState V)) (ms : List (ℕ × Slot V)) (h : HasLeft i ss ms) → i < length ss → ms ≡ slot_of (stripe_at ss i) ∷ (map slot_of (drop (suc i) ss) ++ h.0)
+  left_front : (i : ℕ) (ss : List (StripeState V)) (ms : List (ℕ × StripeSlot V)) (h : HasLeft i ss ms) → i < length ss → ms ≡ slot_of (stripe_at ss i) ∷ (map slot_of (drop (suc i) ss) ++ h.0)
   left_front i ss ms h l = h.1 ∙ ap (λ (l : List (StripeState V)). map slot_of l ++ h.0) (drop-cons ss i no_stripe l)
 
   -- the number of the stripe
   number_there : (i : ℕ) (ss : List (StripeState V)) (ns : List ℕ) → numbers_of ss ≡ ns → i < length ss → (stripe_at ss i).number ≡ get_or ns i 0
   number_there i ss ns e l = sym (get_or-map (λ (s : StripeState V). s.number) ss i no_stripe 0 l) ∙ ap (λ l. get_or l i 0) e
 
-  front_slot : (i : ℕ) (ss : List (StripeState V)) (ms : List (ℕ × Slot V)) (ns : List ℕ) → HasLeft i ss ms → numbers_of ss ≡ ns → i < length ss → ms ≡ (get_or ns i 0, Some (stripe_at ss i)) ∷ rest ms
+  front_slot : (i : ℕ) (ss : List (StripeState V)) (ms : List (ℕ × StripeSlot V)) (ns : List ℕ) → HasLeft i ss ms → numbers_of ss ≡ ns → i < length ss → ms ≡ (get_or ns i 0, Some (stripe_at ss i)) ∷ rest ms
   front_slot i ss ms ns h e l =
       let f = left_front i ss ms h l in
       f ∙ (λ j. (number_there i ss ns e l j, Some (stripe_at ss i)) ∷ rest (sym f j))
 
   -- it is the highest of those that are left
-  pub counted_front : (n i : ℕ) (ss : List (StripeState V)) (ms : List (ℕ × Slot V)) → HasLeft i ss ms → numbers_of (reverse ss) ≡ counting 0 n → i < n → ms ≡ (n - 1 - i, Some (stripe_at ss i)) ∷ rest ms
+  pub counted_front : (n i : ℕ) (ss : List (StripeState V)) (ms : List (ℕ × StripeSlot V)) → HasLeft i ss ms → numbers_of (reverse ss) ≡ counting 0 n → i < n → ms ≡ (n - 1 - i, Some (stripe_at ss i)) ∷ rest ms
   counted_front n i ss ms h e l =
       let ns : List ℕ = counting 0 n in
       let all : length ns ≡ n = length-counting n 0 in
@@ -67,17 +67,17 @@ module _ {V : Type 0} where
   count_turned ss = ap (λ (hs : Stripes V). length (pairs_of hs)) (map-reverse (λ (s : StripeState V). (s.number, s.content)) ss) ∙ count-reverse (contents_of ss)
 
   -- what was in the first slot
-  pub came_out : (ms : List (ℕ × Slot V)) (t : ℕ) (s : StripeState V) (o : Slot V) → ms ≡ (t, Some s) ∷ rest ms → ms ≡ (t, o) ∷ rest ms → o ≡ Some s
+  pub came_out : (ms : List (ℕ × StripeSlot V)) (t : ℕ) (s : StripeState V) (o : StripeSlot V) → ms ≡ (t, Some s) ∷ rest ms → ms ≡ (t, o) ∷ rest ms → o ≡ Some s
   came_out ms t s o is found = ap first (sym found ∙ is)
     where
-      first : List (ℕ × Slot V) → Slot V
+      first : List (ℕ × StripeSlot V) → StripeSlot V
       first [] = None
       first (x ∷ xs) = x.1
 
-  pub still_left : (i : ℕ) (ss : List (StripeState V)) (ms ms2 ms3 : List (ℕ × Slot V)) (t : ℕ) → HasLeft i ss ms → i < length ss → ms2 ≡ (t, None) ∷ rest ms → ms3 ≡ turned ms2 → HasLeft (i + 1) ss ms3
+  pub still_left : (i : ℕ) (ss : List (StripeState V)) (ms ms2 ms3 : List (ℕ × StripeSlot V)) (t : ℕ) → HasLeft i ss ms → i < length ss → ms2 ≡ (t, None) ∷ rest ms → ms3 ≡ turned ms2 → HasLeft (i + 1) ss ms3
   still_left i ss ms ms2 ms3 t h l emptied after =
       let f = left_front i ss ms h l in
-      let behind : List (ℕ × Slot V) = map slot_of (drop (suc i) ss) in (
+      let behind : List (ℕ × StripeSlot V) = map slot_of (drop (suc i) ss) in (
         h.0 ++ (t, None) ∷ [],
         after ∙ (ap turned (emptied ∙ λ j. (t, None) ∷ rest (f j)) ∙ (append_assoc behind h.0 ((t, None) ∷ []) ∙ ap (λ n. map slot_of (drop n ss) ++ (h.0 ++ (t, None) ∷ [])) (sym (add-one i)))),
       )

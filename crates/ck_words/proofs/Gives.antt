@@ -17,7 +17,7 @@ use Rattle.ck_section.specs.Stripes.{contents_of}
 use Rattle.ck_core.specs.declared.view.View.{View}
 use Rattle.ck_core.specs.Steps.{Move, IsExcused, HasGrounds}
 use Rattle.ck_core.specs.Steps.Move.{Give, Decide, Renew}
-use Rattle.ck_words.specs.Rule.{Slot, Hand, RuleOf, layout_of}
+use Rattle.ck_words.specs.Rule.{StripeSlot, Hand, RuleOf, layout_of}
 use Rattle.ck_words.specs.Steps.{Steps}
 use Rattle.ck_words.specs.Plays.{SeatGives, contents_in}
 use Rattle.ck_words.specs.Words.{WordsState}
@@ -98,7 +98,7 @@ module _ {V : Type 0} (hash : Name → ℕ) (w : WordsState) (p : PassState V) (
       pub held : me2.0.held ≡ without t now
 
     pub gone_seated : (z2 : TableId) (me2 : Hand V) → Gone me2 → Tells me2 → z2 ≡ z → IsSeated z2 me2
-    gone_seated z2 me2 g v same = subst (λ (x : TableId × List (ℕ × Slot V)). IsSeated x.0 (me2.0, x.1)) (λ i. (sym same i, sym g.slots_left i)) (l.left me2.0 v.settings (v.held ∙ l.others))
+    gone_seated z2 me2 g v same = subst (λ (x : TableId × List (ℕ × StripeSlot V)). IsSeated x.0 (me2.0, x.1)) (λ i. (sym same i, sym g.slots_left i)) (l.left me2.0 v.settings (v.held ∙ l.others))
 
     pub gone_unchanged : (z2 : TableId) (me2 : Hand V) → Gone me2 → Tells me2 → IsUnchanged (state_of z2 me2)
     gone_unchanged z2 me2 g v = ap (λ has. contents_of (held_in has)) g.slots_left ∙ sym (ap reverse (v.held ∙ l.others) ∙ reverse-reverse (contents_of (held_in l.out)))

@@ -7,7 +7,7 @@ use Rattle.ck_model.specs.Numbered.{numbers}
 use Rattle.ck_model.specs.declared.settings.Settings.{Settings}
 use Rattle.ck_stripe.specs.Stripe.{StripeState}
 use Rattle.ck_section.specs.Stripes.{no_stripe, stripe_at}
-use Rattle.ck_words.specs.Rule.{Slot, Hand, counting}
+use Rattle.ck_words.specs.Rule.{StripeSlot, Hand, counting}
 use Rattle.ck_core.specs.Steps.{IsAbove}
 use Rattle.ck_words.specs.Passes.{EachOf, Falls, IsSeated, rotated, slot_of, stripes_in, held_in, numbers_of}
 use Rattle.ck_words.specs.Lifting.{emptied, IsEmptied}
@@ -17,18 +17,18 @@ use Rattle.ck_words.proofs.Seating.{length-numbers, number_at, stripes-slots, ea
 use Rattle.ck_words.proofs.Turning.{rotated-append}
 
 length-emptied : (V : Type 0) (t : ℕ) → length (emptied {V = V} (reverse (counting 0 t))) ≡ t
-length-emptied V t = let empty : ℕ → ℕ × Slot V = λ n. (n, None) in length-map (reverse (counting 0 t)) empty ∙ (length-reverse (counting 0 t) ∙ length-counting t 0)
+length-emptied V t = let empty : ℕ → ℕ × StripeSlot V = λ n. (n, None) in length-map (reverse (counting 0 t)) empty ∙ (length-reverse (counting 0 t) ∙ length-counting t 0)
 
 module _ {V : Type 0} where
   -- the slots after the first t stripes left them: those are behind, and were turned to the front
-  abbrev pub lifted_to : ℕ → List (StripeState V) → List (ℕ × Slot V)
+  abbrev pub lifted_to : ℕ → List (StripeState V) → List (ℕ × StripeSlot V)
   lifted_to t rs = emptied (reverse (counting 0 t)) ++ map slot_of (reverse (drop t rs))
 
   -- the slots of those that are left but for stripe t
-  abbrev pub others_from : ℕ → List (StripeState V) → List (ℕ × Slot V)
+  abbrev pub others_from : ℕ → List (StripeState V) → List (ℕ × StripeSlot V)
   others_from t rs = emptied (reverse (counting 0 t)) ++ map slot_of (reverse (drop (suc t) rs))
 
-  pub lifted_none : (slots : List (ℕ × Slot V)) → slots ≡ map slot_of (stripes_in slots) → slots ≡ lifted_to 0 (held_in slots)
+  pub lifted_none : (slots : List (ℕ × StripeSlot V)) → slots ≡ map slot_of (stripes_in slots) → slots ≡ lifted_to 0 (held_in slots)
   lifted_none slots full = full ∙ ap (map slot_of) (sym (reverse-reverse (stripes_in slots)))
 
   pub lifted_all : (n : ℕ) (rs : List (StripeState V)) → length rs ≤ n → lifted_to n rs ≡ emptied (reverse (counting 0 n))
@@ -51,8 +51,8 @@ module _ {V : Type 0} where
 
   count_others : (t : ℕ) (rs : List (StripeState V)) → t < length rs → length (others_from t rs) ≡ length rs - 1
   count_others t rs l =
-      let e : List (ℕ × Slot V) = emptied (reverse (counting 0 t)) in
-      let b : List (ℕ × Slot V) = map slot_of (reverse (drop (suc t) rs)) in
+      let e : List (ℕ × StripeSlot V) = emptied (reverse (counting 0 t)) in
+      let b : List (ℕ × StripeSlot V) = map slot_of (reverse (drop (suc t) rs)) in
       let left = length-map (reverse (drop (suc t) rs)) (slot_of {V = V}) in
       let turn = length-reverse (drop (suc t) rs) in
       let rest = length-drop (suc t) rs in
@@ -68,47 +68,47 @@ module _ {V : Type 0} where
   count_of n rs named = sym (length-numbers rs) ∙ (ap length named ∙ length-counting n 0)
 
   -- the slot of stripe t comes to the front
-  pub brought : (n t : ℕ) (rs : List (StripeState V)) (ms ms2 : List (ℕ × Slot V)) → numbers_of rs ≡ counting 0 n → t < n → ms ≡ lifted_to t rs → ms2 ≡ rotated (n - 1) ms → ms2 ≡ (t, Some (stripe_at rs t)) ∷ others_from t rs
+  pub brought : (n t : ℕ) (rs : List (StripeState V)) (ms ms2 : List (ℕ × StripeSlot V)) → numbers_of rs ≡ counting 0 n → t < n → ms ≡ lifted_to t rs → ms2 ≡ rotated (n - 1) ms → ms2 ≡ (t, Some (stripe_at rs t)) ∷ others_from t rs
   brought n t rs ms ms2 named l is turn =
       let count : length rs ≡ n = count_of n rs named in
       let inside : t < length rs = omega arith in
-      let front : List (ℕ × Slot V) = emptied (reverse (counting 0 t)) in
-      let back : List (ℕ × Slot V) = map slot_of (reverse (drop (suc t) rs)) in
+      let front : List (ℕ × StripeSlot V) = emptied (reverse (counting 0 t)) in
+      let back : List (ℕ × StripeSlot V) = map slot_of (reverse (drop (suc t) rs)) in
       let split : ms ≡ others_from t rs ++ slot_of (stripe_at rs t) ∷ [] = is ∙ (ap (λ l. front ++ l) (last_of_rest t rs inside) ∙ sym (append_assoc front back (slot_of (stripe_at rs t) ∷ []))) in
       let many : n - 1 ≡ length (others_from t rs) = (let c = count_others t rs inside in omega arith) in
       turn ∙ ((λ j. rotated (many j) (split j)) ∙ (rotated-append (others_from t rs) (slot_of (stripe_at rs t) ∷ []) ∙ λ j. (counted_number n t rs named l j, Some (stripe_at rs t)) ∷ others_from t rs))
 
-  pub in_front : (t : ℕ) (s : StripeState V) (ms others : List (ℕ × Slot V)) → ms ≡ (t, Some s) ∷ others → ms ≡ (t, Some s) ∷ rest ms
+  pub in_front : (t : ℕ) (s : StripeState V) (ms others : List (ℕ × StripeSlot V)) → ms ≡ (t, Some s) ∷ others → ms ≡ (t, Some s) ∷ rest ms
   in_front t s ms others e = e ∙ λ j. (t, Some s) ∷ rest (sym e j)
 
   -- and the stripe leaves it
-  pub lifted_more : (t : ℕ) (rs : List (StripeState V)) (s : StripeState V) (ms ms2 : List (ℕ × Slot V)) → ms ≡ (t, Some s) ∷ others_from t rs → ms2 ≡ (t, None) ∷ rest ms → ms2 ≡ lifted_to (t + 1) rs
+  pub lifted_more : (t : ℕ) (rs : List (StripeState V)) (s : StripeState V) (ms ms2 : List (ℕ × StripeSlot V)) → ms ≡ (t, Some s) ∷ others_from t rs → ms2 ≡ (t, None) ∷ rest ms → ms2 ≡ lifted_to (t + 1) rs
   lifted_more t rs s ms ms2 front out =
       out ∙ ((λ j. (t, None) ∷ rest (front j)) ∙ λ j. sym (emptied-next t) j ++ map slot_of (reverse (drop (sym (add-one t) j) rs)))
 
   -- the highest slot that is empty comes first
-  first_empty : (t : ℕ) (rs : List (StripeState V)) (ms : List (ℕ × Slot V)) → 0 < t → ms ≡ lifted_to t rs → ms ≡ (t - 1, None) ∷ (emptied (reverse (counting 0 (t - 1))) ++ map slot_of (reverse (drop t rs)))
+  first_empty : (t : ℕ) (rs : List (StripeState V)) (ms : List (ℕ × StripeSlot V)) → 0 < t → ms ≡ lifted_to t rs → ms ≡ (t - 1, None) ∷ (emptied (reverse (counting 0 (t - 1))) ++ map slot_of (reverse (drop t rs)))
   first_empty t rs ms some is =
       let same : t ≡ t - 1 + 1 = omega arith in
       let first : emptied {V = V} (reverse (counting 0 t)) ≡ (t - 1, None) ∷ emptied (reverse (counting 0 (t - 1))) = ap (λ n. emptied {V = V} (reverse (counting 0 n))) same ∙ emptied-next (t - 1) in
-      is ∙ ap (λ (l : List (ℕ × Slot V)). l ++ map slot_of (reverse (drop t rs))) first
+      is ∙ ap (λ (l : List (ℕ × StripeSlot V)). l ++ map slot_of (reverse (drop t rs))) first
 
-  pub empty_front : (t : ℕ) (rs : List (StripeState V)) (ms : List (ℕ × Slot V)) → 0 < t → ms ≡ lifted_to t rs → ms ≡ (t - 1, None) ∷ rest ms
+  pub empty_front : (t : ℕ) (rs : List (StripeState V)) (ms : List (ℕ × StripeSlot V)) → 0 < t → ms ≡ lifted_to t rs → ms ≡ (t - 1, None) ∷ rest ms
   empty_front t rs ms some is = let e = first_empty t rs ms some is in e ∙ λ j. (t - 1, None) ∷ rest (sym e j)
 
   -- a stripe comes back into it, and it goes behind the others
-  pub lowered_more : (n t : ℕ) (rs : List (StripeState V)) (s : StripeState V) (ms ms2 ms3 : List (ℕ × Slot V)) → numbers_of rs ≡ counting 0 n → 0 < t → t ≤ n → s ≡ stripe_at rs (t - 1) → ms ≡ lifted_to t rs → ms2 ≡ (t - 1, Some s) ∷ rest ms → ms3 ≡ turned ms2
+  pub lowered_more : (n t : ℕ) (rs : List (StripeState V)) (s : StripeState V) (ms ms2 ms3 : List (ℕ × StripeSlot V)) → numbers_of rs ≡ counting 0 n → 0 < t → t ≤ n → s ≡ stripe_at rs (t - 1) → ms ≡ lifted_to t rs → ms2 ≡ (t - 1, Some s) ∷ rest ms → ms3 ≡ turned ms2
       → ms3 ≡ lifted_to (t - 1) rs
   lowered_more n t rs s ms ms2 ms3 named some most made is put turn =
       let count : length rs ≡ n = count_of n rs named in
-      let front : List (ℕ × Slot V) = emptied (reverse (counting 0 (t - 1))) in
-      let back : List (ℕ × Slot V) = map slot_of (reverse (drop t rs)) in
+      let front : List (ℕ × StripeSlot V) = emptied (reverse (counting 0 (t - 1))) in
+      let back : List (ℕ × StripeSlot V) = map slot_of (reverse (drop t rs)) in
       let slot : (t - 1, Some s) ≡ slot_of (stripe_at rs (t - 1)) = λ j. (sym (counted_number n (t - 1) rs named (omega arith)) j, Some (made j)) in
       let same : t ≡ suc (t - 1) = omega arith in
       turn
       ∙ (ap turned (put ∙ λ j. slot j ∷ rest (first_empty t rs ms some is j))
       ∙ (append_assoc front back (slot_of (stripe_at rs (t - 1)) ∷ [])
-      ∙ ap (λ (l : List (ℕ × Slot V)). front ++ l) ((λ j. map slot_of (reverse (drop (same j) rs)) ++ slot_of (stripe_at rs (t - 1)) ∷ []) ∙ sym (last_of_rest (t - 1) rs (omega arith)))))
+      ∙ ap (λ (l : List (ℕ × StripeSlot V)). front ++ l) ((λ j. map slot_of (reverse (drop (same j) rs)) ++ slot_of (stripe_at rs (t - 1)) ∷ []) ∙ sym (last_of_rest (t - 1) rs (omega arith)))))
 
   -- what a list has but for its last, and the last
   parted : (xs ys : List (StripeState V)) (x y : StripeState V) → xs ++ x ∷ [] ≡ ys ++ y ∷ [] → (xs ≡ ys) × (x ≡ y)

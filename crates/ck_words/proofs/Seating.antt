@@ -11,7 +11,7 @@ use Rattle.ck_stripe.specs.Stripe.{StripeState}
 use Rattle.ck_section.specs.Stripes.{stripe_at, contents_of}
 use Rattle.ck_core.specs.declared.view.View.{View}
 use Rattle.ck_core.specs.Steps.{IsAbove}
-use Rattle.ck_words.specs.Rule.{Slot, Hand, IsNumbered}
+use Rattle.ck_words.specs.Rule.{StripeSlot, Hand, IsNumbered}
 use Rattle.ck_words.specs.Plays.{stripe_in, contents_in}
 use Rattle.ck_words.specs.Passes.{Falls, stripes_in, held_in, slot_of, numbers_of, EachOf, IsSeated, IsReady, IsHighest}
 use Rattle.ck_words.proofs.Reversed.{map-reverse, reverse-cons}
@@ -44,7 +44,7 @@ module _ {V : Type 0} where
   each_append n (x ∷ xs) y a p = (a.0, each_append n xs y a.1 p)
 
   -- a stripe was taken: it is before the others
-  pub seated_take : (z : TableId) (v w : View V) (has : List (ℕ × Slot V)) (t : ℕ) (stripe : StripeState V) → IsSeated z (v, has) → IsAbove t (numbers v.held) → t < z.slots → IsNumbered v.settings.s t stripe
+  pub seated_take : (z : TableId) (v w : View V) (has : List (ℕ × StripeSlot V)) (t : ℕ) (stripe : StripeState V) → IsSeated z (v, has) → IsAbove t (numbers v.held) → t < z.slots → IsNumbered v.settings.s t stripe
       → w.settings ≡ v.settings → numbers w.held ≡ t ∷ numbers v.held → IsSeated z (w, (t, Some stripe) ∷ has)
   seated_take z v w has t stripe s above inside own settings held =
       let same : v.settings.s ≡ w.settings.s = sym (ap (λ (x : Settings). x.s) settings) in
@@ -60,7 +60,7 @@ module _ {V : Type 0} where
   contents-slots [] = refl
   contents-slots (s ∷ ss) = ap {B = Stripes V} (λ l. (s.number, s.content) ∷ l) (contents-slots ss)
 
-  pub contents-turned : (slots : List (ℕ × Slot V)) → reverse (contents_of (held_in slots)) ≡ contents_of (stripes_in slots)
+  pub contents-turned : (slots : List (ℕ × StripeSlot V)) → reverse (contents_of (held_in slots)) ≡ contents_of (stripes_in slots)
   contents-turned slots = ap reverse (map-reverse (λ (x : StripeState V). (x.number, x.content)) (stripes_in slots)) ∙ reverse-reverse (contents_of (stripes_in slots))
 
   without_none : (t : ℕ) (hs : Stripes V) → ¬ (IsIn t (numbers hs)) → without t hs ≡ hs
@@ -71,9 +71,9 @@ module _ {V : Type 0} where
   without-first t c hs out = if_same t t (without t hs) ((t, c) ∷ without t hs) refl ∙ without_none t hs out
 
   -- The stripe that a pass took last, number t.
-  pub record Last (z : TableId) (v : View V) (has : List (ℕ × Slot V)) (t : ℕ) : Type 0 where
+  pub record Last (z : TableId) (v : View V) (has : List (ℕ × StripeSlot V)) (t : ℕ) : Type 0 where
     pub stripe : StripeState V
-    pub out : List (ℕ × Slot V)
+    pub out : List (ℕ × StripeSlot V)
     pub split : held_in has ≡ held_in out ++ stripe ∷ []
     pub own : IsNumbered v.settings.s t stripe
     pub front : has ≡ (t, Some stripe) ∷ out
@@ -89,7 +89,7 @@ module _ {V : Type 0} where
     sym (reverse-reverse (numbers_of ss)) ∙ (ap reverse (sym (map-reverse (λ (x : StripeState V). x.number) ss) ∙ h.1) ∙ reverse-append h.0 (t ∷ [])),
   )
 
-  pub last : (z : TableId) (v : View V) (has : List (ℕ × Slot V)) (t : ℕ) → IsSeated z (v, has) → IsHighest t (held_in has) → Last z v has t
+  pub last : (z : TableId) (v : View V) (has : List (ℕ × StripeSlot V)) (t : ℕ) → IsSeated z (v, has) → IsHighest t (held_in has) → Last z v has t
   last z v [] t s h = absurd (let e = ap length h.1 in let l = length-append h.0 (t ∷ []) in omega arith)
   last z v (x ∷ xs) t s h =
       let stripe : StripeState V = stripe_in x in
@@ -122,7 +122,7 @@ module _ {V : Type 0} where
             };
       }
 
-  pub empty_seat : (slots : List (ℕ × Slot V)) → slots ≡ map slot_of (stripes_in slots) → held_in slots ≡ [] → slots ≡ []
+  pub empty_seat : (slots : List (ℕ × StripeSlot V)) → slots ≡ map slot_of (stripes_in slots) → held_in slots ≡ [] → slots ≡ []
   empty_seat slots full none = full ∙ ap (map slot_of) (sym (reverse-reverse (stripes_in slots)) ∙ ap reverse none)
 
   -- the view changed in what doesn't concern the slots

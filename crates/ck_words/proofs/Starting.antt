@@ -27,7 +27,7 @@ use Rattle.ck_core.specs.State.{World, Law}
 use Rattle.ck_core.specs.Steps.{Opening, opener}
 use Rattle.ck_core.proofs.Lists.{at_snoc, at_longer}
 use Rattle.ck_core.proofs.Openings.{opens}
-use Rattle.ck_words.specs.Rule.{Slot, IsNumbered, IsKept, RuleOf, layout_of, lying, counting, first_view}
+use Rattle.ck_words.specs.Rule.{StripeSlot, IsNumbered, IsKept, RuleOf, layout_of, lying, counting, first_view}
 use Rattle.ck_words.specs.Opening.{fresh, fresh_slots}
 use Rattle.ck_words.proofs.Spacing.{spaced-zeros}
 use Rattle.ck_words.proofs.Reversed.{map-append}
@@ -44,7 +44,7 @@ module _ (V : Type 0) (hash : Name → ℕ) (set : Settings) (range : AreInRange
   abbrev nothing : Content V
   nothing = empty_content set.s set.power
 
-  abbrev slots_of : ℕ → List (maybe.Option (Slot V))
+  abbrev slots_of : ℕ → List (maybe.Option (StripeSlot V))
   slots_of n = map some (fresh_slots set n)
 
   length-slots_of : (n : ℕ) → length (slots_of n) ≡ n
@@ -56,16 +56,16 @@ module _ (V : Type 0) (hash : Name → ℕ) (set : Settings) (range : AreInRange
 
   slot_there : (n t : ℕ) → t < n → get_elem? (slots_of n) t ≡ some (some (Some (fresh set t)))
   slot_there zero t l = absurd (omega arith)
-  slot_there (suc n) t l = ap (λ (hs : List (maybe.Option (Slot V))). get_elem? hs t) (slots-next n) ∙ dite (ℕ_discrete n t)
+  slot_there (suc n) t l = ap (λ (hs : List (maybe.Option (StripeSlot V))). get_elem? hs t) (slots-next n) ∙ dite (ℕ_discrete n t)
       (λ e. subst (λ m. get_elem? (slots_of n ++ some (Some (fresh set n)) ∷ []) t ≡ some (some (Some (fresh set m)))) e (at_last (slots_of n) (some (Some (fresh set n))) t (length-slots_of n ∙ e)))
       (λ ne. at_longer (slots_of n) (some (Some (fresh set n)) ∷ []) t (some (Some (fresh set t))) (slot_there n t (omega arith)))
 
-  at_map : (hs : List (maybe.Option (Slot V))) (t : ℕ) (x : maybe.Option (Slot V)) → get_elem? hs t ≡ some x → get_elem? (map lying hs) t ≡ some (lying x)
+  at_map : (hs : List (maybe.Option (StripeSlot V))) (t : ℕ) (x : maybe.Option (StripeSlot V)) → get_elem? hs t ≡ some x → get_elem? (map lying hs) t ≡ some (lying x)
   at_map [] t x e = absurd (some-ne-none x (sym e))
-  at_map (h ∷ hs) zero x e = ap (λ (y : maybe.Option (Slot V)). some (lying y)) (some-injective h x e)
+  at_map (h ∷ hs) zero x e = ap (λ (y : maybe.Option (StripeSlot V)). some (lying y)) (some-injective h x e)
   at_map (h ∷ hs) (suc t) x e = at_map hs t x e
 
-  length-map : (hs : List (maybe.Option (Slot V))) → length (map lying hs) ≡ length hs
+  length-map : (hs : List (maybe.Option (StripeSlot V))) → length (map lying hs) ≡ length hs
   length-map [] = refl
   length-map (h ∷ hs) = ap suc (length-map hs)
 
@@ -74,7 +74,7 @@ module _ (V : Type 0) (hash : Name → ℕ) (set : Settings) (range : AreInRange
   numbered_all (suc n) t stripe e = ⊎_elim
       (λ (h : (t ≡ length (slots_of n)) × (some (Some (fresh set n)) ≡ some (Some stripe))). subst (λ (x : ℕ × StripeState V). IsNumbered set.s x.0 x.1) (λ i. ((sym (length-slots_of n) ∙ sym h.0) i, Some-injective (fresh set n) stripe (some-injective (Some (fresh set n)) (Some stripe) h.1) i)) (refl, refl))
       (λ (h : get_elem? (slots_of n) t ≡ some (some (Some stripe))). numbered_all n t stripe h)
-      (at_snoc (slots_of n) (some (Some (fresh set n))) (some (Some stripe)) t (ap (λ (hs : List (maybe.Option (Slot V))). get_elem? hs t) (sym (slots-next n)) ∙ e))
+      (at_snoc (slots_of n) (some (Some (fresh set n))) (some (Some stripe)) t (ap (λ (hs : List (maybe.Option (StripeSlot V))). get_elem? hs t) (sym (slots-next n)) ∙ e))
 
   abbrev k : Layout
   k = layout_of hash set
@@ -126,21 +126,21 @@ module _ (V : Type 0) (hash : Name → ℕ) (set : Settings) (range : AreInRange
   }
 
   -- words 0 and empty stripes
-  pub starts : (ws : List ℕ) (xs : List (Slot V)) → ws ≡ replicate (2 ^ set.s * 8) 0 → xs ≡ fresh_slots set (2 ^ set.s) → RuleOf hash set (opening ws xs (first_view set))
+  pub starts : (ws : List ℕ) (xs : List (StripeSlot V)) → ws ≡ replicate (2 ^ set.s * 8) 0 → xs ≡ fresh_slots set (2 ^ set.s) → RuleOf hash set (opening ws xs (first_view set))
   starts ws xs zeros is =
       let kept : IsKept k set.callers [] (opening (replicate (2 ^ set.s * 8) 0) (fresh_slots set (2 ^ set.s)) (first_view set)) = record {
         law = subst (λ l. Law k set.callers [] (begun_world l)) (sym (spaced-zeros (2 ^ set.s))) (opens k set set.callers set.power (begun_world (replicate (2 ^ set.s) 0)) begins);
         words_sized = length-replicate (2 ^ set.s * 8) 0;
         numbered = numbered_all (2 ^ set.s);
       } in
-      ([], subst (λ (x : List ℕ × List (Slot V)). IsKept k set.callers [] (opening x.0 x.1 (first_view set))) (λ i. (sym zeros i, sym is i)) kept)
+      ([], subst (λ (x : List ℕ × List (StripeSlot V)). IsKept k set.callers [] (opening x.0 x.1 (first_view set))) (λ i. (sym zeros i, sym is i)) kept)
 
-pub length-fresh : {V : Type 0} (set : Settings) (n : ℕ) (xs : List (Slot V)) → xs ≡ fresh_slots set n → length xs ≡ n
+pub length-fresh : {V : Type 0} (set : Settings) (n : ℕ) (xs : List (StripeSlot V)) → xs ≡ fresh_slots set n → length xs ≡ n
 length-fresh {V} set n xs e = ap length e ∙ count n
   where
     count : (n : ℕ) → length (fresh_slots {V = V} set n) ≡ n
     count zero = refl
     count (suc n) = length-append (fresh_slots {V = V} set n) (Some (fresh set n) ∷ []) ∙ (let h = count n in omega arith)
 
-pub fresh-next : {V : Type 0} (set : Settings) (n : ℕ) (xs ys : List (Slot V)) (stripe : StripeState V) → xs ≡ fresh_slots set n → stripe ≡ fresh set n → ys ≡ xs ++ Some stripe ∷ [] → ys ≡ fresh_slots set (n + 1)
+pub fresh-next : {V : Type 0} (set : Settings) (n : ℕ) (xs ys : List (StripeSlot V)) (stripe : StripeState V) → xs ≡ fresh_slots set n → stripe ≡ fresh set n → ys ≡ xs ++ Some stripe ∷ [] → ys ≡ fresh_slots set (n + 1)
 fresh-next {V} set n xs ys stripe old is new = new ∙ ((λ i. old i ++ Some (is i) ∷ []) ∙ ap (fresh_slots {V = V} set) (sym (add-one n)))

@@ -11,7 +11,7 @@ use Rattle.ck_section.specs.Stripes.{contents_of}
 use Rattle.ck_core.specs.declared.view.View.{View}
 use Rattle.ck_core.specs.Steps.{IsAbove}
 use Rattle.ck_core.specs.Steps.Move.{Take, FindHeld}
-use Rattle.ck_words.specs.Rule.{Slot, Hand, RuleOf, IsNumbered}
+use Rattle.ck_words.specs.Rule.{StripeSlot, Hand, RuleOf, IsNumbered}
 use Rattle.ck_words.specs.Steps.{Steps}
 use Rattle.ck_words.specs.Plays.{SeatTries, SeatLooks}
 use Rattle.ck_words.specs.Words.{WordsState, IsLaidOut}
@@ -122,7 +122,7 @@ module _ {V : Type 0} (hash : Name → ℕ) (w : WordsState) (p : PassState V) (
     pub seated_after : (z2 : TableId) (me2 : Hand V) → IsSeated z me → Took me2 → z2 ≡ z → IsSeated z2 me2
     seated_after z2 me2 s k same =
         let new = seated_take z me.0 me2.0 me.1 t k.stripe s above_mine (below_slots t inside) (subst (λ (x : Settings). IsNumbered x.s t k.stripe) (sym same_settings) k.own_number) k.settings (ap numbers k.held) in
-        subst (λ (x : TableId × List (ℕ × Slot V)). IsSeated x.0 (me2.0, x.1)) (λ i. (sym same i, sym k.slots i)) new
+        subst (λ (x : TableId × List (ℕ × StripeSlot V)). IsSeated x.0 (me2.0, x.1)) (λ i. (sym same i, sym k.slots i)) new
 
     -- the stripe was found held
     pub record Found (me2 : Hand V) : Type 0 where

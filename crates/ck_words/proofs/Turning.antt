@@ -9,7 +9,7 @@ use Rattle.ck_core.specs.declared.view.View.{View}
 use Rattle.ck_stripe.specs.Doubling.{doubled_content}
 use Rattle.ck_stripe.specs.Stripe.{StripeState}
 use Rattle.ck_section.specs.Stripes.{stripe_at, no_stripe}
-use Rattle.ck_words.specs.Rule.{Slot, Hand}
+use Rattle.ck_words.specs.Rule.{StripeSlot, Hand}
 use Rattle.ck_words.specs.Passes.{PassState, EachOf, IsSeated, rotated, slot_of, state_of, stripes_in, held_in, numbers_of}
 use Rattle.ck_words.specs.InPlace.{StripeSeat, HoldsAt, Brings, Puts}
 use Rattle.ck_words.proofs.Reversed.{map-append, map-reverse, reverse-cons}
@@ -62,10 +62,10 @@ module _ {V : Type 0} where
   count-slots (s ∷ ss) = ap suc (count-slots ss)
 
   -- the slots of stripes xs, z and ys, and what is left of them when z comes first
-  abbrev slots_of : List (StripeState V) → StripeState V → List (StripeState V) → List (ℕ × Slot V)
+  abbrev slots_of : List (StripeState V) → StripeState V → List (StripeState V) → List (ℕ × StripeSlot V)
   slots_of xs z ys = map slot_of (reverse ys ++ z ∷ reverse xs)
 
-  abbrev others_of : List (StripeState V) → List (StripeState V) → List (ℕ × Slot V)
+  abbrev others_of : List (StripeState V) → List (StripeState V) → List (ℕ × StripeSlot V)
   others_of xs ys = map slot_of (reverse xs) ++ map slot_of (reverse ys)
 
   come : (xs : List (StripeState V)) (z : StripeState V) (ys : List (StripeState V)) (n : ℕ) → n ≡ length ys → rotated n (slots_of xs z ys) ≡ slot_of z ∷ others_of xs ys

@@ -6,8 +6,8 @@ use Rattle.ck_model.specs.declared.contents.Content.{Content}
 use Rattle.ck_stripe.specs.Stripe.{StripeState}
 use Rattle.ck_section.specs.Stripes.{contents_of}
 use Rattle.ck_section.specs.Room.{power_in}
-use Rattle.ck_words.specs.declared.holding.Missed.{Missed}
-use Rattle.ck_words.specs.declared.holding.Missed.TheVariants.{Low, High}
+use Rattle.ck_words.specs.declared.acquire.Missed.{Missed}
+use Rattle.ck_words.specs.declared.acquire.Missed.TheVariants.{Low, High}
 use Rattle.ck_words.specs.Words.{WordsState}
 use Rattle.ck_words.specs.Passes.{PassState, EachOf, IsPassOf, IsIdle, IsUnchanged, ShowsSeen, numbers_of}
 use Rattle.ck_words.specs.Retries.{Stays, FindsAmong, IsBusy, found_again}

@@ -6,12 +6,12 @@ use Rattle.atomic_table.specs.declared.shared.Seat.{Seat}
 use Rattle.ck_stripe.specs.Stripe.{StripeState}
 use Rattle.ck_core.specs.declared.view.View.{View}
 use Rattle.ck_section.specs.Stripes.{stripe_at}
-use Rattle.ck_words.specs.Rule.{Slot}
+use Rattle.ck_words.specs.Rule.{StripeSlot}
 use Rattle.ck_words.specs.Passes.{EachOf, rotated, slot_of, stripes_in, held_in, numbers_of}
 
 -- a seat of a table of stripes
 abbrev pub StripeSeat : Type 0 → Type 0
-StripeSeat V = Seat (Slot V) (View V)
+StripeSeat V = Seat (StripeSlot V) (View V)
 
 module _ {V : Type 0} where
   -- The seat of this table holds n stripes, each in the slot of its number. Stripe i of them is stripe t.

@@ -12,7 +12,7 @@ use Rattle.ck_core.specs.declared.view.View.{View}
 use Rattle.ck_core.specs.Steps.{Move, IsAbove}
 use Rattle.ck_core.specs.Steps.Move.{Take, FindHeld, Look}
 use Rattle.ck_core.specs.Laws.{Shows}
-use Rattle.ck_words.specs.Rule.{Slot, Hand, IsNumbered, layout_of}
+use Rattle.ck_words.specs.Rule.{StripeSlot, Hand, IsNumbered, layout_of}
 use Rattle.ck_words.specs.Steps.{Steps}
 use Rattle.ck_words.specs.Plays.{stripe_in}
 use Rattle.ck_words.specs.Words.{WordsState}
@@ -42,11 +42,11 @@ pub record PassState (V : Type 0) : Type 0 where
   pub stripes : List (StripeState V)
 
 module _ {V : Type 0} where
-  abbrev pub stripes_in : List (ℕ × Slot V) → List (StripeState V)
+  abbrev pub stripes_in : List (ℕ × StripeSlot V) → List (StripeState V)
   stripes_in = map stripe_in
 
   -- the slot with this stripe
-  abbrev pub slot_of : StripeState V → ℕ × Slot V
+  abbrev pub slot_of : StripeState V → ℕ × StripeSlot V
   slot_of stripe = (stripe.number, Some stripe)
 
   abbrev pub numbers_of : List (StripeState V) → List ℕ
@@ -76,7 +76,7 @@ module _ {V : Type 0} where
     pub room : table.slots ≤ capacity
 
   -- the stripes in a seat's slots, in rising order
-  abbrev pub held_in : List (ℕ × Slot V) → List (StripeState V)
+  abbrev pub held_in : List (ℕ × StripeSlot V) → List (StripeState V)
   held_in slots = reverse (stripes_in slots)
 
   -- what contracts see of a seat

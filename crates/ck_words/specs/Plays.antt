@@ -14,7 +14,7 @@ use Rattle.ck_section.specs.Stripes.{no_stripe}
 use Rattle.ck_core.specs.declared.view.View.{View}
 use Rattle.ck_core.specs.Steps.{Move, newcomer}
 use Rattle.ck_core.specs.Steps.Move.{Take, FindHeld, Look}
-use Rattle.ck_words.specs.Rule.{Slot, Hand, IsNumbered}
+use Rattle.ck_words.specs.Rule.{StripeSlot, Hand, IsNumbered}
 use Rattle.ck_words.specs.Steps.{Steps}
 
 -- what stands where no entry was picked
@@ -23,11 +23,11 @@ no_entry = record { by = 0; call = Len; reply = Closed }
 
 module _ {V : Type 0} where
   -- the stripe of a slot that is full
-  abbrev pub stripe_in : ℕ × Slot V → StripeState V
+  abbrev pub stripe_in : ℕ × StripeSlot V → StripeState V
   stripe_in x = unwrap_or x.1 no_stripe
 
   -- the contents of the stripes in these slots, in their order
-  abbrev pub contents_in : List (ℕ × Slot V) → Stripes V
+  abbrev pub contents_in : List (ℕ × StripeSlot V) → Stripes V
   contents_in [] = []
   contents_in ((t, Some stripe) ∷ xs) = (t, stripe.content) ∷ contents_in xs
   contents_in ((t, None) ∷ xs) = contents_in xs
@@ -51,10 +51,10 @@ module _ {V : Type 0} where
   opened v = record v { others = drop 1 v.others }
 
   -- the first of the numbers that are kept
-  abbrev pub first_number : List (ℕ × List (Entry V)) → ℕ
-  first_number [] = 0
-  first_number (x ∷ xs) = x.0
+  abbrev pub first_kept : List (ℕ × List (Entry V)) → ℕ
+  first_kept [] = 0
+  first_kept (x ∷ xs) = x.0
 
   -- a caller that begins with the first of the numbers that the view keeps
   abbrev pub begun : View V → View V
-  begun v = newcomer v.settings (first_number v.others) v.told
+  begun v = newcomer v.settings (first_kept v.others) v.told

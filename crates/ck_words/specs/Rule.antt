@@ -16,12 +16,12 @@ use Rattle.ck_core.specs.Steps.{opener}
 use Rattle.ck_section.specs.Calls.{layout}
 
 -- what a slot contains
-abbrev pub Slot : Type 0 → Type 0
-Slot V = Option (StripeState V)
+abbrev pub StripeSlot : Type 0 → Type 0
+StripeSlot V = Option (StripeState V)
 
 -- a seat's view, and the slots that it holds
 abbrev pub Hand : Type 0 → Type 0
-Hand V = Me (Slot V) (View V)
+Hand V = Me (StripeSlot V) (View V)
 
 abbrev pub layout_of : (Name → ℕ) → Settings → Layout
 layout_of hash set = layout hash set.s set.max
@@ -42,12 +42,12 @@ first_view set = opener set 0 set.power (counting 1 (pred set.callers))
 
 module _ {V : Type 0} where
   -- the content of the stripe that lies in a slot, where one does
-  abbrev pub lying : maybe.Option (Slot V) → Option (Content V)
+  abbrev pub lying : maybe.Option (StripeSlot V) → Option (Content V)
   lying none = None
   lying (some None) = None
   lying (some (Some stripe)) = Some stripe.content
 
-  abbrev pub world : ℕ → State (Slot V) (View V) → World V
+  abbrev pub world : ℕ → State (StripeSlot V) (View V) → World V
   world n s = record { words = spaced n s.words; homes = map lying s.homes; views = s.views }
 
   -- stripe t of 2^s
@@ -55,14 +55,14 @@ module _ {V : Type 0} where
   IsNumbered s t stripe = (stripe.number ≡ t) × (stripe.s ≡ s)
 
   -- The law of the core with this history; eight words for each stripe; and each slot has the stripe of its number.
-  pub record IsKept (k : Layout) (callers : ℕ) (log : List (Entry V)) (s : State (Slot V) (View V)) : Type 0 where
+  pub record IsKept (k : Layout) (callers : ℕ) (log : List (Entry V)) (s : State (StripeSlot V) (View V)) : Type 0 where
     pub law : Law k callers log (world (2 ^ k.s) s)
     pub words_sized : length s.words ≡ 2 ^ k.s * 8
     pub numbered : (t : ℕ) (stripe : StripeState V) → get_elem? s.homes t ≡ some (some (Some stripe)) → IsNumbered k.s t stripe
 
   -- there is a history with which the law holds
-  abbrev pub Rule : Layout → ℕ → State (Slot V) (View V) → Type 0
+  abbrev pub Rule : Layout → ℕ → State (StripeSlot V) (View V) → Type 0
   Rule k callers s = (log : List (Entry V)) × IsKept k callers log s
 
-  abbrev pub RuleOf : (Name → ℕ) → Settings → State (Slot V) (View V) → Type 0
+  abbrev pub RuleOf : (Name → ℕ) → Settings → State (StripeSlot V) (View V) → Type 0
   RuleOf hash set = Rule (layout_of hash set) set.callers

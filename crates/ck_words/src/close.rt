@@ -2,14 +2,13 @@
 ghost use Rattle.std.specs.Prelude.{◌≡◌, ℕ, ◌+◌, ◌^◌, ◌<◌, ◌≤◌, ◌++◌, [], true, All, IfNone, IfSome, IfOk, IfErr, length, map, reverse, vec_len, vec_capacity};
 ghost use Rattle.ck_model.specs.Map.{named};
 ghost use Rattle.ck_model.specs.Contents.{pairs_of};
-ghost use Rattle.ck_core.specs.Steps.{joining};
 ghost use Rattle.ck_section.specs.Stripes.{stripe_at, contents_of};
 ghost use Rattle.ck_words.specs.Rule.{counting};
 ghost use Rattle.ck_words.specs.Passes.{IsPassOf, IsIdle, ShowsSeen, slot_of, stripes_in, held_in, numbers_of};
 ghost use Rattle.ck_words.specs.Retries.{Stays};
 ghost use Rattle.ck_words.specs.Closing.{IsWhole, IsCaller, AreAllPasses, EachStays, Gathers, Gathered, Closes};
 
-use crate::law::{Board, Place, Tell};
+use crate::law::{Board, Place};
 use crate::pass::Pass;
 use crate::words::Words;
 use ck_key::TableKey;
@@ -71,17 +70,6 @@ impl<K: TableKey + Drop, V: Drop> Words<K, V> {
             return None;
         };
         Some(pairs)
-    }
-
-    /// Joins an idle pass to another, which has then heard what it has seen, and keeps its numbers.
-    pub(crate) fn join(&self, first: &mut Pass<K, V>, other: Pass<K, V>)
-        requires own { IsPassOf self.now first.old × IsPassOf self.now other }
-        requires idle { IsIdle other }
-        ensures own { IsPassOf self.now first.new }
-        ensures joined { first.new ≡ record first.old { view = joining first.old.view other.view } }
-    {
-        let Pass { seat, room: _ } = other;
-        self.table.shared.join_seat::<Tell>(&mut first.seat, seat);
     }
 
     // Joins an idle pass to another, which then sees the history.

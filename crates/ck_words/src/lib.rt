@@ -1,29 +1,27 @@
 //! Lock words, the stripes in their slots, and the passes of callers, under the law of the core.
 #![tactic(auto)]
 
-mod all_held;
+mod acquire;
 mod close;
 mod commit;
-mod holding;
 mod law;
 mod lent;
 mod lift;
-mod meet;
 mod open;
 mod pass;
 mod power;
-mod refusing;
-mod renewing;
+mod release;
+mod settle;
+mod size;
 mod slots;
 mod steps;
-mod tries;
-mod whole;
+mod views;
 mod words;
 
+pub use acquire::Missed;
 pub use commit::Commit;
-pub use holding::Missed;
-pub use law::{Refuses, Says};
 pub use lent::{Lent, Numbers};
 pub use lift::Whole;
 pub use pass::Pass;
+pub use steps::{Refuses, Says};
 pub use words::Words;

@@ -8,14 +8,25 @@ ghost use Rattle.ck_words.specs.Opening.{fresh_slots};
 ghost use Rattle.ck_words.specs.Passes.{IsPassOf, IsIdle};
 ghost use Rattle.ck_words.specs.Closing.{dealt, AreAllPasses};
 
-use crate::law::Open;
 use crate::pass::Pass;
 use crate::words::Words;
-use atomic_table::Table;
+use atomic_table::{Split, Table};
+use ck_core::view::View;
 use ck_key::TableKey;
 use ck_model::settings::Settings;
 use ck_stripe::Stripe;
 use std::alloc::{AllocError, Global};
+
+/// A caller begins, with a number that nobody has used.
+pub struct Open;
+
+impl<V> Split<View<V>> for Open {
+    ghost use Rattle.ck_words.specs.Plays.{opened, begun};
+
+    ghost left = { opened };
+
+    ghost right = { begun };
+}
 
 // A slot with an empty stripe for each stripe.
 fn open_slots<K: TableKey + Drop, V: Drop>(

@@ -1,5 +1,5 @@
-//! The steps on the lock words. Each is one atomic operation on one word, and one step of the core. Nothing else but a
-//! split or a join changes what a pass knows, and nothing else which stripes it holds.
+//! The steps on the lock words, and what each tells. Each is one atomic operation on one word, and one step of the core. Nothing
+//! else but a split or a join changes what a pass knows, and nothing else which stripes it holds.
 ghost use Rattle.std.specs.Prelude.{◌≡◌, ◌<◌, ◌^◌, Some, None, reverse};
 ghost use Rattle.ck_model.specs.Numbered.{numbers};
 ghost use Rattle.ck_model.specs.Contents.{Lawful};
@@ -9,11 +9,100 @@ ghost use Rattle.ck_section.specs.Stripes.{contents_of};
 ghost use Rattle.ck_words.specs.Rule.{layout_of};
 ghost use Rattle.ck_words.specs.Passes.{IsPassOf, IsHighest, IsUnchanged, TriesStripe, Sends, LooksUp};
 
-use crate::law::{Decide, Give, Look, Refuses, Renew, Says, Take};
 use crate::pass::Pass;
 use crate::words::Words;
+use atomic_table::Play;
+use ck_core::view::View;
 use ck_key::TableKey;
-use std::marker::Brand;
+use ck_stripe::Stripe;
+use std::marker::{Brand, PhantomData};
+
+/// A swap for 1: the stripe is taken, or it was found held.
+pub struct Take;
+
+impl<K: TableKey, V> Play<Option<Stripe<K, V>>, View<V>> for Take {
+    ghost use Rattle.std.specs.Prelude.{◌/◌};
+    ghost use Rattle.ck_words.specs.Plays.{SeatTries};
+
+    ghost then = { λ st m r m2. SeatTries K.hash m.0.settings (st.word / 8) m r m2 };
+}
+
+/// What a stripe that goes home says of room. A call at `Brand` picks it.
+pub trait Refuses {
+    ghost use Rattle.std.specs.Prelude.{Option};
+    ghost use Rattle.ck_model.specs.declared.history.Reason.{Reason};
+    ghost use Rattle.ck_model.specs.Map.{Name};
+
+    ghost refused: { Option (Name × Reason) };
+}
+
+impl Refuses for Brand {
+    ghost use Rattle.std.specs.Prelude.{None};
+
+    ghost refused = { None };
+}
+
+/// A store of 0: the stripe goes home unchanged.
+pub struct Give<J> {
+    said: PhantomData<J>,
+}
+
+impl<K: TableKey, V, J: Refuses> Play<Option<Stripe<K, V>>, View<V>> for Give<J> {
+    ghost use Rattle.std.specs.Prelude.{◌/◌};
+    ghost use Rattle.ck_core.specs.Steps.Move.{Give};
+    ghost use Rattle.ck_words.specs.Plays.{SeatGives};
+
+    ghost then = { λ st m _ m2. SeatGives K.hash m.0.settings (Give (st.word / 8) J.refused) m m2 };
+}
+
+/// A store of 0 after an identity section: the stripe goes home with its new content.
+pub struct Renew<J> {
+    said: PhantomData<J>,
+}
+
+impl<K: TableKey, V, J: Refuses> Play<Option<Stripe<K, V>>, View<V>> for Renew<J> {
+    ghost use Rattle.std.specs.Prelude.{◌/◌};
+    ghost use Rattle.ck_core.specs.Steps.Move.{Renew};
+    ghost use Rattle.ck_words.specs.Plays.{SeatGives, contents_in};
+
+    ghost then = { λ st m _ m2. SeatGives K.hash m.0.settings (Renew (st.word / 8) (contents_in m.1) J.refused) m m2 };
+}
+
+/// The entry that a step decides. A call at `Brand` picks it.
+pub trait Says<V> {
+    ghost use Rattle.ck_model.specs.declared.history.Entry.{Entry};
+
+    ghost entry: { Entry V };
+}
+
+impl<V> Says<V> for Brand {
+    ghost use Rattle.ck_words.specs.Plays.{no_entry};
+
+    ghost entry = { no_entry };
+}
+
+/// A store of 0 after a section: the call is decided, and the stripe goes home with its new content.
+pub struct Decide<J> {
+    said: PhantomData<J>,
+}
+
+impl<K: TableKey, V, J: Says<V>> Play<Option<Stripe<K, V>>, View<V>> for Decide<J> {
+    ghost use Rattle.std.specs.Prelude.{◌/◌};
+    ghost use Rattle.ck_core.specs.Steps.Move.{Decide};
+    ghost use Rattle.ck_words.specs.Plays.{SeatGives, contents_in};
+
+    ghost then = { λ st m _ m2. SeatGives K.hash m.0.settings (Decide (st.word / 8) (contents_in m.1) J.entry) m m2 };
+}
+
+/// A load: the history so far is seen.
+pub struct Look;
+
+impl<K: TableKey, V> Play<Option<Stripe<K, V>>, View<V>> for Look {
+    ghost use Rattle.std.specs.Prelude.{◌/◌};
+    ghost use Rattle.ck_words.specs.Plays.{SeatLooks};
+
+    ghost then = { λ st m _ m2. SeatLooks K.hash m.0.settings (st.word / 8) m m2 };
+}
 
 impl<K: TableKey + Drop, V: Drop> Words<K, V> {
     /// Takes stripe `t`, which is above all that the pass holds. False where another pass holds it.

@@ -6,7 +6,7 @@ use Rattle.ck_oracle.specs.Plain.{stripes_of, content_of}
 use Rattle.ck_core.specs.declared.view.View.{View}
 use Rattle.ck_core.specs.State.{World}
 use Rattle.ck_core.specs.Steps.{IsAbove}
-use Rattle.ck_oracle_steps.specs.Plain.{view_of, world_of, layout_of}
+use Rattle.ck_oracle_steps.specs.Plain.{view_of, world_of, plain_layout}
 use Rattle.ck_oracle_steps.proofs.PlainViews.{not_both}
 use Rattle.ck_oracle_steps.proofs.PlainRows.{take_above, take_leaves}
 use Rattle.ck_oracle_steps.proofs.steps.check_take.Goals as goal
@@ -18,7 +18,7 @@ returns-in_err-check-3 c =
     let held = ap (λ (l : List PlainStripe). numbers (stripes_of l)) c.deref.ensures.value in (
       λ t. absurd (not_both c.from_residual-in_err-check-3.result t c.from_residual-in_err-check-3.ensures.0),
       λ d. absurd (false≢true (c.in_err-check-3.ensures.1 (c.are_below.ensures.1 (subst (IsAbove c.args.stripe) (sym held)
-          (take_above (layout_of c.args.table.now) c.args.table.now.min_load claim.log.now claim.id (world_of claim.before.now) (world_of claim.after.now) (view_of c.in_ok-view.view.now) c.in_ok-view.ensures.ok.1 c.args.stripe d))))),
+          (take_above (plain_layout c.args.table.now) c.args.table.now.min_load claim.log.now claim.id (world_of claim.before.now) (world_of claim.after.now) (view_of c.in_ok-view.view.now) c.in_ok-view.ensures.ok.1 c.args.stripe d))))),
     )
 
 pub returns : goal.returns
@@ -41,5 +41,5 @@ returns c =
         c.in_ok-content.ensures.ok,
         c.check_taken.ensures.0 t ∙ left,
       ),
-      λ d. c.check_taken.ensures.1 (take_leaves (layout_of c.args.table.now) c.args.table.now.min_load claim.log.now claim.id s (world_of claim.after.now) v c.in_ok-view.ensures.ok.1 c.args.stripe content c.in_ok-content.ensures.ok d ∙ sym left),
+      λ d. c.check_taken.ensures.1 (take_leaves (plain_layout c.args.table.now) c.args.table.now.min_load claim.log.now claim.id s (world_of claim.after.now) v c.in_ok-view.ensures.ok.1 c.args.stripe content c.in_ok-content.ensures.ok d ∙ sym left),
     )

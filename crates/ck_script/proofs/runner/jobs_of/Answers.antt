@@ -4,7 +4,7 @@ use Rattle.std.proofs.lemmas.List.{map-id, length-append}
 use Rattle.std.proofs.lemmas.Iterator.{YieldsList-from_zip}
 use Rattle.std.proofs.lemmas.Iterator.Consumers.{YieldsList-turn, YieldsList-end}
 use Rattle.std.proofs.lemmas.Iterator.Adapters.{YieldsList-from_vec}
-use Rattle.ck_script.specs.Jobs.{IsNew, IsJob, IsReady}
+use Rattle.ck_script.specs.Jobs.{IsNew, IsJob, IsReadyJob}
 use Rattle.ck_script.proofs.Workers.{first_of_zip, job_more, all_more}
 use Rattle.ck_script.proofs.runner.jobs_of.Goals as goal
 
@@ -22,7 +22,7 @@ loop-pass-preserved g c =
     record {
       count = c.in_ok-push.ensures.len ∙ ap (λ n. n + 1) c.loop-pass.invariant.count ∙ sym (length-append c.loop-pass.yielded ((c.in-Some.pass, c.in-Some.commands) ∷ []));
       jobs = job_more c.args.table.now c.loop-pass.yielded c.loop-pass.jobs.items c.push.new.self.items (c.in-Some.pass, c.in-Some.commands) job c.loop-pass.invariant.jobs c.in_ok-job_of.ensures.job c.in_ok-push.ensures.items;
-      ready = all_more IsReady c.loop-pass.jobs.items c.push.new.self.items job c.loop-pass.invariant.ready c.in_ok-job_of.ensures.ready c.in_ok-push.ensures.items;
+      ready = all_more IsReadyJob c.loop-pass.jobs.items c.push.new.self.items job c.loop-pass.invariant.ready c.in_ok-job_of.ensures.ready c.in_ok-push.ensures.items;
     }
 
 pub returns-clause-jobs : goal.returns-clause-jobs

@@ -1,6 +1,6 @@
 use Rattle.std.proofs.Common.{ℕ, ◌+◌, ◌%◌, ◌^◌, List, drop, get_or, reverse, sym, ◌∙◌}
 use Rattle.ck_model.specs.declared.hop.PathHop.{PathHop}
-use Rattle.ck_path.specs.Route.{start_of}
+use Rattle.ck_path.specs.Route.{first_bucket}
 use Rattle.ck_stripe.specs.Stripe.{StripeState}
 use Rattle.ck_section.specs.Stripes.{contents_of}
 use Rattle.ck_section.specs.Places.{AreAllHeld}
@@ -53,7 +53,7 @@ loop-hop-preserved g c =
     let known = c.loop-hop.invariant in
     let todo : List PathHop = c.hops_from_end-hops.result.now in
     let i : ℕ = c.loop-hop.hop-index in
-    let b : ℕ = start_of c.args.path.now.hops c.args.path.now.end in
+    let b : ℕ = first_bucket c.args.path.now.hops c.args.path.now.end in
     let t : ℕ = c.loop-hop.target in
     let h : PathHop = get_or todo i blank in
     let all : AreAllHeld s cur = all_after s old cur c.requires.held known.rest in
@@ -75,5 +75,5 @@ loop-hop-preserved g c =
 
 pub returns-clause-free : goal.returns-clause-free
 returns-clause-free g c =
-    end_free g.K.TableKey.hash c.args.s (g.H.Held.stripes c.loop-hop.held) c.power-power.result (start_of c.args.path.now.hops c.args.path.now.end) c.hops_from_end-hops.result.now c.loop-hop.hop-index c.loop-hop.target c.loop-hop-test.false
+    end_free g.K.TableKey.hash c.args.s (g.H.Held.stripes c.loop-hop.held) c.power-power.result (first_bucket c.args.path.now.hops c.args.path.now.end) c.hops_from_end-hops.result.now c.loop-hop.hop-index c.loop-hop.target c.loop-hop-test.false
     c.loop-hop.invariant.left

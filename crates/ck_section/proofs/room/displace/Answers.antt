@@ -1,6 +1,6 @@
 use Rattle.std.proofs.Common.{◌≡◌, ℕ, ◌%◌, ◌^◌, ◌<◌, List, length, sym, ◌∙◌, ap, subst}
 use Rattle.ck_model.specs.Contents.{IsBucketOf}
-use Rattle.ck_path.specs.Route.{start_of}
+use Rattle.ck_path.specs.Route.{first_bucket}
 use Rattle.ck_stripe.specs.Stripe.{StripeState}
 use Rattle.ck_section.specs.Hops.{IsNoCall}
 use Rattle.ck_section.specs.Room.{power_in}
@@ -23,7 +23,7 @@ returns-in-Some-clause-room g c =
     let new : List (StripeState V) = g.H.Held.stripes c.follow_path.new.held in
     let all = c.follow_path.ensures.held in
     let table = table_of s new all in
-    let b : ℕ = start_of c.in-Some.path.hops c.in-Some.path.end in
+    let b : ℕ = first_bucket c.in-Some.path.hops c.in-Some.path.end in
     let home : IsBucketOf hash (power_in old) q b = begins_home hash s old q c.in-Some.path c.in-Some.ensures.path in
     let same : cur ≡ old = c.find_path.ensures.same in
     let some : 0 < length cur = subst (λ (l : List (StripeState V)). 0 < length l) (sym same) c.requires.held.held.some in

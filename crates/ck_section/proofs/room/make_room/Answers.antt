@@ -5,7 +5,7 @@ use Rattle.ck_stripe.specs.Stripe.{StripeState}
 use Rattle.ck_section.specs.Stripes.{contents_of}
 use Rattle.ck_section.specs.Calls.{layout}
 use Rattle.ck_section.specs.declared.room.Lack.{Lack}
-use Rattle.ck_section.specs.Room.{power_in, IsRefused}
+use Rattle.ck_section.specs.Room.{power_in, GivesReason}
 use Rattle.ck_section.proofs.Doublings.{identity_on}
 use Rattle.ck_section.proofs.RoomMade.{grown_none, grown_more, grows_for_room, stuck_in, refused_in}
 use Rattle.ck_section.proofs.Tables.{table_of, power_same, err_maps}
@@ -77,7 +77,7 @@ returns-in_err-grow-clause-refused g c =
     let known = c.loop-hash.invariant in
     let stuck = c.loop-hash-test.ensures in
     let said = refused_in hash s max c.args.min_load q old cur mid new known.grown stuck.same c.in_err-grow.ensures.same stuck.table stuck.no_room stuck.no_path in
-    let R : Lack → Type 0 = IsRefused (layout hash s max) c.args.min_load old new q in
+    let R : Lack → Type 0 = GivesReason (layout hash s max) c.args.min_load old new q in
     err_maps c.from_residual.result _ R (λ why is. subst R (sym is) (said c.in_err-grow.field-0.0 c.in_err-grow.ensures.lack)) c.from_residual.ensures.1
 
 pub returns-in_err-grow-clause-doubled : goal.returns-in_err-grow-clause-doubled

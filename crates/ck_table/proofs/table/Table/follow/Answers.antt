@@ -1,6 +1,6 @@
 use Rattle.std.proofs.Common.{◌≡◌, ◌∙◌, ◌+◌, List, take, reverse, sym, ap}
 use Rattle.ck_model.specs.declared.hop.PathHop.{PathHop}
-use Rattle.ck_path.specs.Route.{start_of}
+use Rattle.ck_path.specs.Route.{first_bucket}
 use Rattle.std.proofs.lemmas.Result.{err_from_is_err_and}
 use Rattle.ck_table.proofs.Displacing.{back_same, back_on, busy_on}
 use Rattle.ck_table.proofs.Following.{hop_linked, next_target}
@@ -24,7 +24,7 @@ make_one_hop-requires-clause-target g c =
     let path = c.args.path.now in
     let items = c.hops_from_end-step-items.result.now in
     let linked = hop_linked path.power path.hops items path.end c.hops_from_end-step-items.ensures c.loop-step.step-index c.loop-step-test.true none c.power-power.ensures.linked.linked in
-    rw c.power-power.ensures.value (c.loop-step.invariant.target ∙ (ap (λ (l : List PathHop). start_of (reverse (take c.loop-step.step-index l)) path.end) (sym c.hops_from_end-step-items.ensures) ∙ sym linked.1))
+    rw c.power-power.ensures.value (c.loop-step.invariant.target ∙ (ap (λ (l : List PathHop). first_bucket (reverse (take c.loop-step.step-index l)) path.end) (sym c.hops_from_end-step-items.ensures) ∙ sym linked.1))
 
 pub returns-in_err-make_one_hop-clause-back : goal.returns-in_err-make_one_hop-clause-back
 returns-in_err-make_one_hop-clause-back g c = back_on c.args.self.now c.args.pass.now c.loop-step.pass c.make_one_hop.new.pass c.loop-step.invariant.back c.make_one_hop.ensures.back
@@ -41,7 +41,7 @@ loop-step-preserved g c = record {
       let path = c.args.path.now in
       let items = c.hops_from_end-step-items.result.now in
       next_target path.power path.hops items path.end c.hops_from_end-step-items.ensures c.loop-step.step-index c.loop-step-test.true none
-      ∙ ap (λ (l : List PathHop). start_of (reverse (take (c.loop-step.step-index + 1) l)) path.end) c.hops_from_end-step-items.ensures
+      ∙ ap (λ (l : List PathHop). first_bucket (reverse (take (c.loop-step.step-index + 1) l)) path.end) c.hops_from_end-step-items.ensures
       );
 }
 

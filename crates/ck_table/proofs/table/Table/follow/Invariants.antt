@@ -1,10 +1,10 @@
 use Rattle.std.proofs.Common.{◌≡◌, take, reverse}
-use Rattle.ck_path.specs.Route.{start_of}
+use Rattle.ck_path.specs.Route.{first_bucket}
 use Rattle.ck_table.specs.Displacing.{IsBack}
 use Rattle.ck_table.proofs.table.Table.follow.Given as goal
 
 abbrev pub invariant-loop-step : goal.invariant-loop-step
 invariant-loop-step g l = record {
   back : IsBack l.self l.initial.pass l.pass;
-  target : l.target ≡ start_of (reverse (take l.step-index (reverse l.path.hops))) l.path.end;
+  target : l.target ≡ first_bucket (reverse (take l.step-index (reverse l.path.hops))) l.path.end;
 }

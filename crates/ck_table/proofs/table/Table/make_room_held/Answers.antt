@@ -3,7 +3,7 @@ use Rattle.ck_model.specs.Contents.{Lawful}
 use Rattle.ck_model.specs.Paths.{Grounds}
 use Rattle.ck_section.specs.declared.room.Lack.{Lack}
 use Rattle.ck_section.specs.Stripes.{contents_of}
-use Rattle.ck_section.specs.Room.{reason_of}
+use Rattle.ck_section.specs.Room.{reason_of_lack}
 use Rattle.ck_section.proofs.Tables.{err_maps}
 use Rattle.ck_words.specs.Rule.{layout_of}
 use Rattle.ck_table.proofs.Rooms.{grounds_there, has_entry}
@@ -16,7 +16,7 @@ returns-in_err-make_room-clause-grounds g c =
     let q = g.K.TableKey.name c.args.key.now in
     let z = c.make_room.new.held.pass.now in
     let lack = c.in_err-make_room.field-0.0 in
-    let R : Lack → Type 0 = λ l. Lawful (layout_of hash set) (reverse z.view.held) → Grounds (layout_of hash set) set.min_load (contents_of z.stripes) q (reason_of l) in
+    let R : Lack → Type 0 = λ l. Lawful (layout_of hash set) (reverse z.view.held) → Grounds (layout_of hash set) set.min_load (contents_of z.stripes) q (reason_of_lack l) in
     let said : R lack = grounds_there c.self.view_is c.settings-settings.ensures.value q c.args.pass.now c.requires.whole z c.make_room.ensures.stays.1 c.make_room.ensures.no_call lack c.in_err-make_room.ensures.refused in
     let there : z ≡ c.in_err-make_room.pass-1-own.given.0 = search rules in
     rw (← there) (err_maps c.from_residual.result _ R (λ why is. subst R (sym is) said) c.from_residual.ensures.1)

@@ -1,5 +1,5 @@
 use Rattle.std.proofs.Common.{◌-◌, subst, Some}
-use Rattle.ck_section.specs.Room.{reason_of}
+use Rattle.ck_section.specs.Room.{reason_of_lack}
 use Rattle.ck_words.specs.Rule.{counting}
 use Rattle.ck_words.specs.Renewing.{HasRefused}
 use Rattle.ck_words.proofs.Releasing.{numbers_left}
@@ -26,11 +26,11 @@ returns-clause-refused g c =
     let w = c.args.self.now in
     let p = c.args.pass.now in
     let r = c.release_below.new.pass in
-    let why = reason_of c.args.lack in
+    let why = reason_of_lack c.args.lack in
     subst (λ (x : g.row.K.Denot). HasRefused w (name x) why p r) c.of.ensures
     (refused_on g.K.TableKey.hash w p c.renew.new.pass (name c.of.result.value) why c.renew.ensures.step r c.release_below.ensures.released)
 
 pub returns-clause-told : goal.returns-clause-told
 returns-clause-told g c =
     let b = c.release_below.ensures in
-    told_renewed g.K.TableKey.hash c.args.self.now (Some (g.K.TableKey.name c.of.result.value, reason_of c.args.lack)) c.args.pass.now c.renew.new.pass c.release_below.new.pass c.renew.ensures.step b.released b.told
+    told_renewed g.K.TableKey.hash c.args.self.now (Some (g.K.TableKey.name c.of.result.value, reason_of_lack c.args.lack)) c.args.pass.now c.renew.new.pass c.release_below.new.pass c.renew.ensures.step b.released b.told

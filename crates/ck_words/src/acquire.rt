@@ -1,15 +1,31 @@
-//! Stripes held as calls need them.
-ghost use Rattle.std.specs.Prelude.{◌≡◌, ◌≤◌, ◌^◌, ◌<◌, length, All, OnOk, IfErr};
+//! Taking stripes in rising order of their numbers, each with a bound on the tries.
+ghost use Rattle.std.specs.Prelude.{◌≡◌, ◌<◌, ◌-◌, ◌^◌, MatchBool, ◌≤◌, length, All, OnOk, IfErr};
 ghost use Rattle.std.specs.List.Sorted.{IsStrictlyIncreasing};
-ghost use Rattle.ck_model.specs.Numbered.{IsIn};
+ghost use Rattle.ck_model.specs.Numbered.{numbers, IsIn};
+ghost use Rattle.ck_core.specs.Steps.{IsAbove};
 ghost use Rattle.ck_section.specs.Places.{AreHeld, HasStripe};
-ghost use Rattle.ck_words.specs.Passes.{PassState, IsPassOf, IsIdle, IsUnchanged, numbers_of, pair};
-ghost use Rattle.ck_words.specs.Retries.{Stays, FindsAmong, IsBusy};
+ghost use Rattle.ck_section.specs.Whole.{IsTable, AreSettled};
+ghost use Rattle.ck_words.specs.Rule.{counting};
+ghost use Rattle.ck_words.specs.Passes.{IsPassOf, IsUnchanged, numbers_of, pair, PassState, IsIdle, EachOf, ShowsSeen};
+ghost use Rattle.ck_words.specs.Retries.{TakesWithin, found_again, Stays, FindsAmong, IsBusy};
 ghost use Rattle.ck_words.specs.Holding.{IsEither, HasTaken, Misses, GivesUp};
+ghost use Rattle.ck_words.specs.Closing.{IsWhole};
 
 use crate::pass::Pass;
 use crate::words::Words;
 use ck_key::TableKey;
+use std::{hint, thread};
+
+// Waits after so many tries, and after each 64 lets other threads run.
+#[cold]
+#[inline(never)]
+fn wait(tries: u32) {
+    if tries % 64 == 0 {
+        thread::yield_now();
+    } else {
+        hint::spin_loop();
+    }
+}
 
 /// Which of two stripes was found held.
 #[derive(Drop)]
@@ -19,6 +35,50 @@ pub enum Missed {
 }
 
 impl<K: TableKey + Drop, V: Drop> Words<K, V> {
+    /// Takes stripe `t`, which is above all that the pass holds, by at most `turns` swaps. False where each of them found
+    /// it held.
+    #[inline(always)]
+    pub fn try_take(&self, pass: &mut Pass<K, V>, t: usize) -> bool
+        requires own { IsPassOf self.now pass.old }
+        requires inside { t < 2 ^ self.now.settings.s }
+        requires above { IsAbove t (numbers pass.old.view.held) }
+        requires unchanged { IsUnchanged pass.old }
+        ensures own { IsPassOf self.now pass.new }
+        ensures tries { MatchBool result
+            (TakesWithin K.hash self.now.settings self.now.settings.turns t pass.old pass.new)
+            (pass.new ≡ found_again self.now.settings.turns t pass.old) }
+        ensures unchanged { IsUnchanged pass.new }
+    {
+        let _ = self.settings();
+        if self.take(pass, t) {
+            return true;
+        }
+        self.try_again(pass, t)
+    }
+
+    // Goes on with the second of the tries that `try_take` makes.
+    #[cold]
+    #[inline(never)]
+    pub(crate) fn try_again(&self, pass: &mut Pass<K, V>, t: usize) -> bool
+        requires own { IsPassOf self.now pass.old }
+        requires inside { t < 2 ^ self.now.settings.s }
+        requires above { IsAbove t (numbers pass.old.view.held) }
+        requires unchanged { IsUnchanged pass.old }
+        ensures own { IsPassOf self.now pass.new }
+        ensures tries { MatchBool result
+            (TakesWithin K.hash self.now.settings (self.now.settings.turns - 1) t pass.old pass.new)
+            (pass.new ≡ found_again (self.now.settings.turns - 1) t pass.old) }
+        ensures unchanged { IsUnchanged pass.new }
+    {
+        for tries in 1..self.settings().turns {
+            wait(tries);
+            if self.take(pass, t) {
+                return true;
+            }
+        }
+        false
+    }
+
     /// Takes two stripes, or one where they are the same, and carries out the doublings that are left of them. Where
     /// another pass holds one, it gives back what it holds, unchanged, and answers the number of that stripe, which was
     /// found held `turns` times in a row.
@@ -42,22 +102,6 @@ impl<K: TableKey + Drop, V: Drop> Words<K, V> {
         }
         self.settle_taken(pass, low, high);
         Ok(())
-    }
-
-    /// Carries out the doublings that are left of two stripes that were just taken, or of one where they are the same.
-    #[inline(always)]
-    pub fn settle_taken(&self, pass: &mut Pass<K, V>, low: usize, high: usize)
-        requires taken { (p : PassState V)
-            × HasTaken K.hash self.now (IsEither low high) (pair low high) p pass.old }
-        requires rising { low ≤ high }
-        ensures own { IsPassOf self.now pass.new }
-        ensures view { pass.new.view ≡ pass.old.view }
-        ensures held { AreHeld self.now.settings.s pass.new.stripes }
-        ensures numbers { numbers_of pass.new.stripes ≡ pair low high }
-        ensures unchanged { IsUnchanged pass.new }
-    {
-        let _ = self.settings();
-        self.settle_pair(pass, low, high);
     }
 
     /// Takes two stripes, or one where they are the same, in rising order of their numbers, by one swap each. Where
@@ -163,6 +207,53 @@ impl<K: TableKey + Drop, V: Drop> Words<K, V> {
             }
         }
         self.settle_several(pass, numbers);
+        Ok(())
+    }
+
+    /// Takes all stripes, in rising order of their numbers. Where another pass holds one, it gives back what it holds,
+    /// unchanged, and answers the number of that stripe, which was found held `turns` times in a row.
+    pub fn hold_all(&self, pass: &mut Pass<K, V>) -> Result<(), usize>
+        requires own { IsPassOf self.now pass.old }
+        requires idle { IsIdle pass.old }
+        ensures own { IsPassOf self.now pass.new }
+        ensures stays { Stays pass.old.view pass.new.view }
+        ensures held { OnOk result (numbers_of pass.new.stripes
+            ≡ counting 0 (2 ^ self.now.settings.s)) }
+        ensures of_table { OnOk result (EachOf self.now.settings.s pass.new.stripes) }
+        ensures unchanged { OnOk result (IsUnchanged pass.new) }
+        ensures shows { OnOk result (ShowsSeen K.hash self.now.settings pass.new) }
+        ensures found { FindsAmong (λ t. t < 2 ^ self.now.settings.s) pass.old pass.new }
+        ensures busy { IfErr result (λ t. IsBusy self.now.settings.turns t pass.old pass.new) }
+        ensures asked { IfErr result (λ t. t < 2 ^ self.now.settings.s) }
+    {
+        for t in 0..self.table.slot_count() {
+            if !self.try_take(pass, t) {
+                self.release_below(pass, t);
+                return Err(t);
+            }
+        }
+        Ok(())
+    }
+
+    /// Takes all stripes, in rising order of their numbers, and carries out the doublings that are left of them. Where
+    /// another pass holds one, it gives back what it holds, unchanged, and answers the number of that stripe, which was
+    /// found held `turns` times in a row.
+    pub fn hold_settled(&self, pass: &mut Pass<K, V>) -> Result<(), usize>
+        requires own { IsPassOf self.now pass.old }
+        requires idle { IsIdle pass.old }
+        ensures own { IsPassOf self.now pass.new }
+        ensures stays { Stays pass.old.view pass.new.view }
+        ensures whole { OnOk result (IsWhole K.hash self.now.settings pass.new) }
+        ensures table { OnOk result (IsTable self.now.settings.s pass.new.stripes) }
+        ensures settled { OnOk result (AreSettled pass.new.stripes) }
+        ensures found { FindsAmong (λ t. t < 2 ^ self.now.settings.s) pass.old pass.new }
+        ensures busy { IfErr result (λ t.
+            IsBusy self.now.settings.turns t pass.old pass.new) }
+        ensures asked { IfErr result (λ t. t < 2 ^ self.now.settings.s) }
+    {
+        let _ = self.settings();
+        self.hold_all(pass)?;
+        self.settle_all(pass);
         Ok(())
     }
 }
