@@ -20,8 +20,7 @@ use Rattle.ck_section.specs.Places.{AreAllHeld, IsPlaceOf}
 use Rattle.ck_section.specs.Entries.{IsEntryOf}
 use Rattle.ck_section.specs.Calls.{IsWithoutRoom}
 use Rattle.ck_section.specs.Whole.{IsTable, AreSettled}
-use Rattle.ck_section.specs.Room as room
-use Rattle.ck_section.specs.Room.{power_in, AreBothSettled, KeepsBindings, MakesRoom}
+use Rattle.ck_section.specs.Room.{power_in, reason_of_lack, AreBothSettled, KeepsBindings, MakesRoom, GivesReason}
 use Rattle.ck_section.proofs.Tables.{held_of}
 use Rattle.ck_section.proofs.Growing.{place_in}
 use Rattle.ck_core.specs.declared.view.View.{View}
@@ -47,7 +46,7 @@ pub numbers_all : (r : Room) → r.all ≡ true → numbers_in r ≡ counting 0 
 numbers_all r all = ap (λ b. if b then counting 0 (2 ^ r.spot.place.s) else pair r.spot.low r.spot.high) all
 
 -- the reason of a refusal for a lack is that of the lack
-reason_same : (l : lack.Lack) → reason_of (why_of l) ≡ room.reason_of l
+reason_same : (l : lack.Lack) → reason_of (why_of l) ≡ reason_of_lack l
 reason_same Memory = refl
 reason_same Full = refl
 reason_same LoadTooLow = refl
@@ -64,7 +63,7 @@ module _ {V : Type 0} where
       let S : ℕ → Type 0 = λ i. (stripe_at stripes i).settled ≡ true in
       place_in s stripes table hash q h first second of one two (subst S (sym low) both.first) (subst S (sym high) both.second)
 
-  shows_lack : (set : Settings) (q : Name) (l : lack.Lack) (p z : PassState V) → ShowsWhy set q (why_of l) ((q, room.reason_of l) ∷ []) p z
+  shows_lack : (set : Settings) (q : Name) (l : lack.Lack) (p z : PassState V) → ShowsWhy set q (why_of l) ((q, reason_of_lack l) ∷ []) p z
   shows_lack set q Memory p z = (0, omega arith, refl)
   shows_lack set q Full p z = (0, omega arith, refl)
   shows_lack set q LoadTooLow p z = (0, omega arith, refl)
@@ -79,9 +78,9 @@ module _ {V : Type 0} where
     room_there held = record { more = []; own = All-nil _; stays = stays_there; held = held }
 
     -- none could be made, and they went home
-    pub refused_there : (set : Settings) (q : Name) (w : WordsState) (l : lack.Lack) (z : PassState V) → HasRefused w q (room.reason_of l) p2 z → IsRefused set q (why_of l) p z
+    pub refused_there : (set : Settings) (q : Name) (w : WordsState) (l : lack.Lack) (z : PassState V) → HasRefused w q (reason_of_lack l) p2 z → IsRefused set q (why_of l) p z
     refused_there set q w l z r =
-        let why : Reason = room.reason_of l in
+        let why : Reason = reason_of_lack l in
         let Own : Name × Reason → Type 0 = λ x. (x ≡ (q, NoRoom)) ⊎ (x ≡ (q, reason_of (why_of l))) in
         record {
           more = (q, why) ∷ [];
@@ -111,9 +110,9 @@ module _ {V : Type 0} where
           (subst (λ (x : Settings). KeepsBindings (layout_of hash x) p1.stripes p2.stripes) set_is keeps)
 
       -- what is lacked is the reason to refuse the name
-      pub grounds_there : (l : lack.Lack) → room.IsRefused k set.min_load p1.stripes p2.stripes q l
-          → Lawful (layout_of hash w.settings) (reverse p2.view.held) → Grounds (layout_of hash w.settings) w.settings.min_load (contents_of p2.stripes) q (room.reason_of l)
-      grounds_there l refused held = subst (λ (x : Settings). Grounds (layout_of hash x) x.min_load (contents_of p2.stripes) q (room.reason_of l)) set_is (refused lawful_taken)
+      pub grounds_there : (l : lack.Lack) → GivesReason k set.min_load p1.stripes p2.stripes q l
+          → Lawful (layout_of hash w.settings) (reverse p2.view.held) → Grounds (layout_of hash w.settings) w.settings.min_load (contents_of p2.stripes) q (reason_of_lack l)
+      grounds_there l refused held = subst (λ (x : Settings). Grounds (layout_of hash x) x.min_load (contents_of p2.stripes) q (reason_of_lack l)) set_is (refused lawful_taken)
 
       -- where there is room, there is an entry
       pub has_entry : MakesRoom k p1.stripes p2.stripes q → (s : ℕ) (stripes : List (StripeState V)) → s ≡ set.s → stripes ≡ p2.stripes → ¬ (IsWithoutRoom hash s stripes q)

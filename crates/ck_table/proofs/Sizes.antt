@@ -1,11 +1,11 @@
 -- The number of keys that all stripes bind.
-use Rattle.std.proofs.Common.{◌≡◌, ℕ, ◌^◌, ◌<◌, length, reverse, inl, refl, sym, ap, ◌∙◌, subst}
+use Rattle.std.proofs.Common.{◌≡◌, ℕ, ◌^◌, length, inl, refl, sym, ap, ◌∙◌, subst}
 use Rattle.ck_model.specs.declared.history.Call.TheVariants.{Len}
 use Rattle.ck_model.specs.declared.history.Reply.TheVariants.{Count}
 use Rattle.ck_model.specs.declared.settings.Settings.{Settings}
 use Rattle.ck_model.specs.Map.{Name}
-use Rattle.ck_model.specs.Numbered.{IsIn, numbers}
-use Rattle.ck_model.specs.Contents.{Layout, Stripes, Lawful, bindings, pairs_of}
+use Rattle.ck_model.specs.Numbered.{IsIn}
+use Rattle.ck_model.specs.Contents.{Layout, Stripes, Lawful, pairs_of}
 use Rattle.ck_model.specs.Sections.{HasAll, Renewed, Section}
 use Rattle.ck_model.proofs.Counted.{len-bindings}
 use Rattle.ck_section.specs.Stripes.{contents_of}

@@ -1,4 +1,4 @@
-use Rattle.std.proofs.Common.{◌≡◌, ◌∙◌, ◌+◌, List, take, reverse, sym, ap}
+use Rattle.std.proofs.Common.{◌∙◌, ◌+◌, List, take, reverse, sym, ap}
 use Rattle.ck_model.specs.declared.hop.PathHop.{PathHop}
 use Rattle.ck_path.specs.Route.{first_bucket}
 use Rattle.std.proofs.lemmas.Result.{err_from_is_err_and}

@@ -1,6 +1,4 @@
-use Rattle.std.proofs.Common.{◌∙◌, sym, ap, subst, reverse}
-use Rattle.ck_model.specs.Contents.{bindings}
-use Rattle.ck_section.specs.Stripes.{contents_of}
+use Rattle.std.proofs.Common.{sym, subst}
 use Rattle.ck_words.specs.Passes.{PassState}
 use Rattle.ck_table.specs.Locking.{IsLocked, HasLocked}
 use Rattle.ck_table.proofs.Sessions.{locked_by, has_locked}
