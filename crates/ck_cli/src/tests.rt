@@ -30,238 +30,77 @@ fn check<R: Abort + Files + Threads + Sync>(
     let words = words_of(alloc, words)?;
     let (mut out, mut err) = (Vec::new(alloc), Vec::new(alloc));
     let got = program(rt, alloc, &words, input.as_bytes(), &mut out, &mut err);
-    let length = input.len();
-    let shown = if length > MOST_SHOWN { "long" } else { input };
-    assert_eq!(rt;
-        out.as_slice(),
-        output.as_bytes(),
-        "the output of {shown:?}, {length} bytes"
+    let is_wanted = got == status
+        && out.as_slice() == output.as_bytes()
+        && err.as_slice() == errors.as_bytes();
+    let shown = if input.len() > MOST_SHOWN {
+        "a long script"
+    } else {
+        input
+    };
+    assert!(rt;
+        is_wanted,
+        "status {got}, errors {err:?}, output {out:?} of {shown:?}"
     );
-    assert_eq!(rt;
-        err.as_slice(),
-        errors.as_bytes(),
-        "the errors of {shown:?}, {length} bytes"
-    );
-    assert_eq!(rt; got, status, "the status of {shown:?}, {length} bytes");
     Ok(())
 }
 
-#[test]
-fn scripts(rt: HostRuntime) -> Result<(), Fail> {
-    for (input, want) in [
-        ("cuckoo 1\nworker\nend\n", (0u8, "worker 1\nmap\n", "")),
-        (
-            "cuckoo 1\nworker\nfind 5\nend\n",
-            (0, "worker 1\nnone\nmap\n", ""),
-        ),
-        (
-            "cuckoo 1\nworker\ninsert 5 50\ninsert 5 51\nfind 5\nend\n",
-            (0, "worker 1\nnew\nold\nv 50\nmap\n5 50\n", ""),
-        ),
-        (
-            "cuckoo 1\nworker\ninsert 18446744073709551615 9\ninsert 0 0\nend\n",
-            (
-                0,
-                "worker 1\nnew\nnew\nmap\n0 0\n18446744073709551615 9\n",
-                "",
-            ),
-        ),
-        (
-            "cuckoo 1\nworker\ninsert 3 1\ninsert 7 2\ninsert 11 3\ninsert 15 4\ninsert 19 5\nfind 19\nend\n",
-            (
-                0,
-                "worker 1\nnew\nnew\nnew\nnew\nnew\nv 5\nmap\n3 1\n7 2\n11 3\n15 4\n19 5\n",
-                "",
-            ),
-        ),
-        (
-            "cuckoo 1\nworker\ninsert 282574488338432 1\ninsert 565148976676864 2\n\
-             insert 847723465015296 3\ninsert 1130297953353728 4\ninsert 1412872441692160 5\n\
-             insert 1695446930030592 6\ninsert 1978021418369024 7\ninsert 2260595906707456 8\n\
-             insert 2543170395045888 9\nend\n",
-            (
-                0,
-                "worker 1\nnew\nnew\nnew\nnew\nnew\nnew\nnew\nnew\nload\nmap\n\
-                 282574488338432 1\n565148976676864 2\n847723465015296 3\n1130297953353728 4\n\
-                 1412872441692160 5\n1695446930030592 6\n1978021418369024 7\n2260595906707456 8\n",
-                "",
-            ),
-        ),
-        (
-            "cuckoo 1\nworker\nhas 5\ninsert 5 50\nhas 5\nassign 5 51\nassign 6 1\nfind 5\nend\n",
-            (
-                0,
-                "worker 1\nno\nnew\nyes\nset\nnew\nv 51\nmap\n5 51\n6 1\n",
-                "",
-            ),
-        ),
-        (
-            "cuckoo 1\nworker\nupdate 5 1\nadd 5 2\nupdate 5 3\nadd 5 4\nfind 5\nend\n",
-            (0, "worker 1\nnone\nnew\nset\nset\nv 7\nmap\n5 7\n", ""),
-        ),
-        (
-            "cuckoo 1\nworker\ninsert 5 2\nadd 5 18446744073709551614\nfind 5\nadd 5 1\nfind 5\nend\n",
-            (
-                0,
-                "worker 1\nnew\nset\nv 18446744073709551615\nset\nv 18446744073709551615\n\
-                 map\n5 18446744073709551615\n",
-                "",
-            ),
-        ),
-        (
-            "cuckoo 1\nworker\nerase 5\ninsert 5 50\nerase 5\nfind 5\nerase 5\nend\n",
-            (0, "worker 1\nnone\nnew\ngone\nnone\nnone\nmap\n", ""),
-        ),
-        (
-            "cuckoo 1\nworker\ninsert 5",
-            (1, "", "cuckoo: line 3: truncated\n"),
-        ),
-        ("", (1, "", "cuckoo: line 1: truncated\n")),
-        (
-            "cuckoo 1\nworker\nfind 05\nend\n",
-            (1, "", "cuckoo: line 3: bad number\n"),
-        ),
-        ("cuckoo 3\n", (1, "", "cuckoo: line 1: bad header\n")),
-        (
-            "cuckoo 1\nworker\nupdate 9 1\ninsert 9 1\nupdate 9 2\nhas 9\nhas 8\nlen\nend\n",
-            (
-                0,
-                "worker 1\nnone\nnew\nset\nyes\nno\nlen 1\nmap\n9 2\n",
-                "",
-            ),
-        ),
-        (
-            "cuckoo 1\nworker\nerase 5\nadd 5\nend\n",
-            (1, "", "cuckoo: line 4: bad command\n"),
-        ),
-    ] {
-        check(&rt, rt.alloc(), &["run"], input, want)?;
-    }
-    Ok(())
-}
-
-/// Scripts of the whole format, with what they write or which fault they have. A `/` stands for a line feed.
-const WHOLE: [(&str, (u8, &str, &str)); 30] = [
-    (
-        "cuckoo 1/worker/insert 18446744073709551615 9/insert 0 0/list/end/",
-        (
-            0,
-            "worker 1/new/new/list 2/0 0/18446744073709551615 9/map/0 0/18446744073709551615 9/",
-            "",
-        ),
-    ),
-    (
-        "cuckoo 1/keys text/worker/insert b 2/insert a 1/list/end/",
-        (0, "worker 1/new/new/list 2/a 1/b 2/map/a 1/b 2/", ""),
-    ),
-    (
-        "cuckoo 1/max 2/worker/insert 3 0/insert 7 0/insert 11 0/insert 15 0/insert 19 0/end/",
-        (
-            0,
-            "worker 1/new/new/new/new/full/map/3 0/7 0/11 0/15 0/",
-            "",
-        ),
-    ),
-    (
-        "cuckoo 1/load 0/rounds 0/turns 1/max 3/power 1/s 1/keys num/worker/len/list/end/",
-        (0, "worker 1/len 0/list 0/map/", ""),
-    ),
-    (
-        "cuckoo 2/worker/insert 0 10/insert 3 5/move 0 3 4/find 0/find 3/move 0 9 1/move 0 3 100/end/",
-        (0, "worker 1/new/new/set/v 6/v 9/none/set/map/0 0/3 15/", ""),
-    ),
-    (
-        "cuckoo 2/worker/insert 1 7/insert 2 18446744073709551615/move 1 2 5/end/",
-        (
-            0,
-            "worker 1/new/new/set/map/1 7/2 18446744073709551615/",
-            "",
-        ),
-    ),
-    (
-        "cuckoo 1/worker/worker/worker/end/",
-        (0, "worker 1/worker 2/worker 3/map/", ""),
-    ),
-    (
-        "cuckoo 1/turns 4294967295/worker/insert 1 10/worker/insert 2 20/end/",
-        (0, "worker 1/new/worker 2/new/map/1 10/2 20/", ""),
-    ),
-    ("cuckoo 2/max 25/worker/end/", (0, "worker 1/map/", "")),
-    ("cuckoo 2/max 26/worker/end/", (0, "worker 1/map/", "")),
-    ("cuckoo 1/max 25/", (1, "", "cuckoo: line 2: bad setting/")),
-    ("cuckoo 2/max 27/", (1, "", "cuckoo: line 2: bad setting/")),
-    (
-        "cuckoo 1/s 3/worker/end/",
-        (1, "", "cuckoo: line 3: bad setting/"),
-    ),
-    ("cuckoo 1/s 11/", (1, "", "cuckoo: line 2: bad setting/")),
-    ("cuckoo 1/s 1/s 1/", (1, "", "cuckoo: line 3: bad setting/")),
-    (
-        "cuckoo 1/keys big/",
-        (1, "", "cuckoo: line 2: bad setting/"),
-    ),
-    (
-        "cuckoo 1/keys num/keys num/",
-        (1, "", "cuckoo: line 3: bad setting/"),
-    ),
-    ("cuckoo 1/power 0/", (1, "", "cuckoo: line 2: bad setting/")),
-    ("cuckoo 1/turns 0/", (1, "", "cuckoo: line 2: bad setting/")),
-    (
-        "cuckoo 1/turns 4294967296/",
-        (1, "", "cuckoo: line 2: bad setting/"),
-    ),
-    (
-        "cuckoo 1/rounds 65/",
-        (1, "", "cuckoo: line 2: bad setting/"),
-    ),
-    (
-        "cuckoo 1/load 101/",
-        (1, "", "cuckoo: line 2: bad setting/"),
-    ),
-    ("cuckoo 1/s 01/", (1, "", "cuckoo: line 2: bad number/")),
-    ("cuckoo 1/speed 1/", (1, "", "cuckoo: line 2: bad command/")),
-    (
-        "cuckoo 2/worker/move 5 5 1/",
-        (1, "", "cuckoo: line 3: bad command/"),
-    ),
-    (
-        "cuckoo 1/worker/move 5 6 1/",
-        (1, "", "cuckoo: line 3: bad command/"),
-    ),
-    (
-        "cuckoo 1/keys text/worker/find a\u{7f}/",
-        (1, "", "cuckoo: line 4: bad command/"),
-    ),
-    (
-        "cuckoo 1/keys text/worker/find \
-         aaaaaaaaaaaaaaaaaaaaaaaaaaaaaaaaaaaaaaaaaaaaaaaaaaaaaaaaaaaaaaaaa/",
-        (1, "", "cuckoo: line 4: too long/"),
-    ),
-    (
-        "cuckoo 1/worker/worker/power 3/",
-        (1, "", "cuckoo: line 4: bad command/"),
-    ),
-    (
-        "cuckoo 1/worker/list 1/",
-        (1, "", "cuckoo: line 3: bad command/"),
-    ),
-];
-
-#[test]
-fn whole_scripts(rt: HostRuntime) -> Result<(), Fail> {
-    for (input, (status, output, errors)) in WHOLE {
-        let input = input.replace(rt.alloc(), "/", "\n")?;
-        let output = output.replace(rt.alloc(), "/", "\n")?;
-        let errors = errors.replace(rt.alloc(), "/", "\n")?;
-        let want = (status, output.as_str(), errors.as_str());
-        check(&rt, rt.alloc(), &["run"], &input, want)?;
-    }
-    Ok(())
-}
+/// Scripts with what they write. A `/` stands for a line feed.
+const ANSWERED: &str = "\
+cuckoo 1/worker/end/ => worker 1/map/
+cuckoo 1/worker/find 5/end/ => worker 1/none/map/
+cuckoo 1/worker/insert 5 50/insert 5 51/find 5/end/ => worker 1/new/old/v 50/map/5 50/
+cuckoo 1/worker/insert 18446744073709551615 9/insert 0 0/end/ => worker 1/new/new/map/0 0/18446744073709551615 9/
+cuckoo 1/worker/insert 3 1/insert 7 2/insert 11 3/insert 15 4/insert 19 5/find 19/end/ => worker 1/new/new/new/new/new/v 5/map/3 1/7 2/11 3/15 4/19 5/
+cuckoo 1/worker/insert 282574488338432 1/insert 565148976676864 2/insert 847723465015296 3/insert 1130297953353728 4/\
+insert 1412872441692160 5/insert 1695446930030592 6/insert 1978021418369024 7/insert 2260595906707456 8/\
+insert 2543170395045888 9/end/ => worker 1/new/new/new/new/new/new/new/new/load/map/282574488338432 1/565148976676864 2/\
+847723465015296 3/1130297953353728 4/1412872441692160 5/1695446930030592 6/1978021418369024 7/2260595906707456 8/
+cuckoo 1/worker/has 5/insert 5 50/has 5/assign 5 51/assign 6 1/find 5/end/ => worker 1/no/new/yes/set/new/v 51/map/5 51/6 1/
+cuckoo 1/worker/update 5 1/add 5 2/update 5 3/add 5 4/find 5/end/ => worker 1/none/new/set/set/v 7/map/5 7/
+cuckoo 1/worker/insert 5 2/add 5 18446744073709551614/find 5/add 5 1/find 5/end/ => worker 1/new/set/v 18446744073709551615/set/v 18446744073709551615/map/5 18446744073709551615/
+cuckoo 1/worker/erase 5/insert 5 50/erase 5/find 5/erase 5/end/ => worker 1/none/new/gone/none/none/map/
+cuckoo 1/worker/update 9 1/insert 9 1/update 9 2/has 9/has 8/len/end/ => worker 1/none/new/set/yes/no/len 1/map/9 2/
+cuckoo 1/worker/insert 18446744073709551615 9/insert 0 0/list/end/ => worker 1/new/new/list 2/0 0/18446744073709551615 9/map/0 0/18446744073709551615 9/
+cuckoo 1/keys text/worker/insert b 2/insert a 1/list/end/ => worker 1/new/new/list 2/a 1/b 2/map/a 1/b 2/
+cuckoo 1/max 2/worker/insert 3 0/insert 7 0/insert 11 0/insert 15 0/insert 19 0/end/ => worker 1/new/new/new/new/full/map/3 0/7 0/11 0/15 0/
+cuckoo 1/load 0/rounds 0/turns 1/max 3/power 1/s 1/keys num/worker/len/list/end/ => worker 1/len 0/list 0/map/
+cuckoo 2/worker/insert 0 10/insert 3 5/move 0 3 4/find 0/find 3/move 0 9 1/move 0 3 100/end/ => worker 1/new/new/set/v 6/v 9/none/set/map/0 0/3 15/
+cuckoo 2/worker/insert 1 7/insert 2 18446744073709551615/move 1 2 5/end/ => worker 1/new/new/set/map/1 7/2 18446744073709551615/
+cuckoo 1/worker/worker/worker/end/ => worker 1/worker 2/worker 3/map/
+cuckoo 1/turns 4294967295/worker/insert 1 10/worker/insert 2 20/end/ => worker 1/new/worker 2/new/map/1 10/2 20/
+cuckoo 2/max 25/worker/end/ => worker 1/map/
+cuckoo 2/max 26/worker/end/ => worker 1/map/
+";
 
 /// Each row is a script and the fault that it has. A `/` stands for a line feed, and `*N` behind a piece says how often the
 /// piece stands there; pieces are separated by `|`.
 const FAULTS: &str = "\
+cuckoo 1/worker/insert 5 => line 3: truncated
+ => line 1: truncated
+cuckoo 1/worker/find 05/end/ => line 3: bad number
+cuckoo 3/ => line 1: bad header
+cuckoo 1/worker/erase 5/add 5/end/ => line 4: bad command
+cuckoo 1/max 25/ => line 2: bad setting
+cuckoo 2/max 27/ => line 2: bad setting
+cuckoo 1/s 3/worker/end/ => line 3: bad setting
+cuckoo 1/s 11/ => line 2: bad setting
+cuckoo 1/s 1/s 1/ => line 3: bad setting
+cuckoo 1/keys big/ => line 2: bad setting
+cuckoo 1/keys num/keys num/ => line 3: bad setting
+cuckoo 1/power 0/ => line 2: bad setting
+cuckoo 1/turns 0/ => line 2: bad setting
+cuckoo 1/turns 4294967296/ => line 2: bad setting
+cuckoo 1/rounds 65/ => line 2: bad setting
+cuckoo 1/load 101/ => line 2: bad setting
+cuckoo 1/s 01/ => line 2: bad number
+cuckoo 1/speed 1/ => line 2: bad command
+cuckoo 2/worker/move 5 5 1/ => line 3: bad command
+cuckoo 1/worker/move 5 6 1/ => line 3: bad command
+cuckoo 1/keys text/worker/find a\u{7f}/ => line 4: bad command
+cuckoo 1/keys text/worker/find aaaaaaaaaaaaaaaaaaaaaaaaaaaaaaaaaaaaaaaaaaaaaaaaaaaaaaaaaaaaaaaaa/ => line 4: too long
+cuckoo 1/worker/worker/power 3/ => line 4: bad command
+cuckoo 1/worker/list 1/ => line 3: bad command
 cuckoo 1/find 1/ => line 2: bad command
 cuckoo 1/end/ => line 2: bad command
 cuckoo 1/worker/power 3/ => line 3: bad command
@@ -288,6 +127,14 @@ worker 1/|new/*10|set/*990|worker 2/|new/*10|set/*990\
 |map/0 100/1 100/2 100/3 100/4 100/5 100/6 100/7 100/8 100/9 100/\
 10 100/11 100/12 100/13 100/14 100/15 100/16 100/17 100/18 100/19 100/";
 
+/// The two sides of a row.
+fn sides(row: &str) -> Result<(&str, &str), Fail> {
+    match row.split_once(" => ") {
+        Some(sides) => Ok(sides),
+        None => Err(Fail::from("a row with one side")),
+    }
+}
+
 /// The text that is written in pieces.
 fn whole_text(alloc: Global, pieces: &str) -> Result<String, Fail> {
     let mut text = String::new(alloc);
@@ -303,11 +150,20 @@ fn whole_text(alloc: Global, pieces: &str) -> Result<String, Fail> {
 }
 
 #[test]
+fn scripts(rt: HostRuntime) -> Result<(), Fail> {
+    for row in ANSWERED.lines() {
+        let (script, output) = sides(row)?;
+        let input = whole_text(rt.alloc(), script)?;
+        let output = whole_text(rt.alloc(), output)?;
+        check(&rt, rt.alloc(), &["run"], &input, (0, output.as_str(), ""))?;
+    }
+    Ok(())
+}
+
+#[test]
 fn faults(rt: HostRuntime) -> Result<(), Fail> {
     for row in FAULTS.lines() {
-        let Some((script, fault)) = row.split_once(" => ") else {
-            return Err(Fail::from("a row with no fault"));
-        };
+        let (script, fault) = sides(row)?;
         let input = whole_text(rt.alloc(), script)?;
         let errors = format!(in rt.alloc(); "cuckoo: {fault}\n")?;
         check(&rt, rt.alloc(), &["run"], &input, (1, "", errors.as_str()))?;
@@ -353,123 +209,97 @@ fn workers_grow_a_table(rt: HostRuntime) -> Result<(), Fail> {
     check(&rt, rt.alloc(), &["run"], &input, (0, output.as_str(), ""))
 }
 
+/// Words that are no command, a line each.
+const REFUSED: &str = "\
+help
+--help
+--version
+run a b
+run --all
+make
+make --help
+make --seed 1 --workers 1
+make --seed 1 --workers 1 --lines
+make --seed 1 --workers 1 --lines 1 1
+make --seed 1 --workers 1 --lines 1 --all
+make --seed 1 --workers 1 --lines 1 --seed 1
+make --seed 1 2 --workers 1 --lines 1
+";
+
 #[test]
 fn words(rt: HostRuntime) -> Result<(), Fail> {
-    let refused: [&[&str]; 14] = [
-        &[],
-        &["help"],
-        &["--help"],
-        &["--version"],
-        &["run", "a", "b"],
-        &["run", "--all"],
-        &["make"],
-        &["make", "--help"],
-        &["make", "--seed", "1", "--workers", "1"],
-        &["make", "--seed", "1", "--workers", "1", "--lines"],
-        &["make", "--seed", "1", "--workers", "1", "--lines", "1", "1"],
-        &[
-            "make",
-            "--seed",
-            "1",
-            "--workers",
-            "1",
-            "--lines",
-            "1",
-            "--all",
-        ],
-        &[
-            "make",
-            "--seed",
-            "1",
-            "--workers",
-            "1",
-            "--lines",
-            "1",
-            "--seed",
-            "1",
-        ],
-        &["make", "--seed", "1", "2", "--workers", "1", "--lines", "1"],
-    ];
-    for words in refused {
-        check(
-            &rt,
-            rt.alloc(),
-            words,
-            "",
-            (2, "", "cuckoo: bad arguments\n"),
-        )?;
+    let refused = (2, "", "cuckoo: bad arguments\n");
+    check(&rt, rt.alloc(), &[], "", refused)?;
+    for row in REFUSED.lines() {
+        let mut words = Vec::new(rt.alloc());
+        for word in row.split(' ') {
+            words.push(word)?;
+        }
+        check(&rt, rt.alloc(), words.as_slice(), "", refused)?;
     }
-    check(
-        &rt,
-        rt.alloc(),
-        &["run", "no such file"],
-        "",
-        (1, "", "cuckoo: cannot open\n"),
-    )
+    let missing = (1, "", "cuckoo: cannot open\n");
+    check(&rt, rt.alloc(), &["run", "no such file"], "", missing)
 }
 
-/// The numbers of a made script, and what comes of them. A `/` stands for a line feed.
-const MADE: [((&str, &str, &str), (u8, &str, &str)); 15] = [
-    (
-        ("42", "1", "3"),
-        (
-            0,
-            "cuckoo 1/worker/add 55 97/add 48 955/add 11 566/end/",
-            "",
-        ),
-    ),
-    (
-        ("42", "3", "1"),
-        (
-            0,
-            "cuckoo 1/worker/add 55 97/worker/add 48 955/worker/add 11 566/end/",
-            "",
-        ),
-    ),
-    (
-        ("1", "3", "0"),
-        (0, "cuckoo 1/worker/worker/worker/end/", ""),
-    ),
-    (
-        ("18446744073709551615", "2", "2"),
-        (
-            0,
-            "cuckoo 1/worker/add 55 298/add 58 769/worker/add 56 464/add 2 84/end/",
-            "",
-        ),
-    ),
-    (("1", "256", "3907"), (2, "", "cuckoo: too many lines/")),
-    (("1", "1024", "977"), (2, "", "cuckoo: too many lines/")),
-    (("1", "1024", "1000000"), (2, "", "cuckoo: too many lines/")),
-    (("1", "1025", "0"), (2, "", "cuckoo: bad arguments/")),
-    (("1", "0", "1"), (2, "", "cuckoo: bad arguments/")),
-    (("1", "1", "1000001"), (2, "", "cuckoo: bad arguments/")),
-    (("1", "1025", "1000000"), (2, "", "cuckoo: bad arguments/")),
-    (("01", "1", "1"), (2, "", "cuckoo: bad arguments/")),
-    (("1", "4294967297", "1"), (2, "", "cuckoo: bad arguments/")),
-    (
-        ("18446744073709551616", "1", "1"),
-        (2, "", "cuckoo: bad arguments/"),
-    ),
-    (("", "1", "1"), (2, "", "cuckoo: bad arguments/")),
-];
+/// Seed, workers and lines of scripts that are made, and these. A `/` stands for a line feed.
+const MADE: &str = "\
+42 1 3 => cuckoo 1/worker/add 55 97/add 48 955/add 11 566/end/
+42 3 1 => cuckoo 1/worker/add 55 97/worker/add 48 955/worker/add 11 566/end/
+1 3 0 => cuckoo 1/worker/worker/worker/end/
+18446744073709551615 2 2 => cuckoo 1/worker/add 55 298/add 58 769/worker/add 56 464/add 2 84/end/
+";
+
+/// Seed, workers and lines that are refused, and why.
+const NOT_MADE: &str = "\
+1 256 3907 => too many lines
+1 1024 977 => too many lines
+1 1024 1000000 => too many lines
+1 1025 0 => bad arguments
+1 0 1 => bad arguments
+1 1 1000001 => bad arguments
+1 1025 1000000 => bad arguments
+01 1 1 => bad arguments
+1 4294967297 1 => bad arguments
+18446744073709551616 1 1 => bad arguments
+ 1 1 => bad arguments
+";
+
+/// Makes a script of a row's seed, workers and lines, and compares what comes of it.
+fn check_made<R: Abort + Files + Threads + Sync>(
+    rt: &R,
+    alloc: Global,
+    row: &str,
+    want: (u8, &str, &str),
+) -> Result<(), Fail> {
+    let Some((seed, rest)) = row.split_once(' ') else {
+        return Err(Fail::from("a row with no seed"));
+    };
+    let Some((workers, lines)) = rest.split_once(' ') else {
+        return Err(Fail::from("a row with no lines"));
+    };
+    let words = [
+        "make",
+        "--lines",
+        lines,
+        "--seed",
+        seed,
+        "--workers",
+        workers,
+    ];
+    check(rt, alloc, &words, "", want)
+}
 
 #[test]
 fn made_scripts(rt: HostRuntime) -> Result<(), Fail> {
-    for ((seed, workers, lines), (status, output, errors)) in MADE {
-        let words = [
-            "make",
-            "--lines",
-            lines,
-            "--seed",
-            seed,
-            "--workers",
-            workers,
-        ];
-        let output = output.replace(rt.alloc(), "/", "\n")?;
-        let errors = errors.replace(rt.alloc(), "/", "\n")?;
-        let want = (status, output.as_str(), errors.as_str());
-        check(&rt, rt.alloc(), &words, "", want)?;
+    for row in MADE.lines() {
+        let (row, output) = sides(row)?;
+        let output = whole_text(rt.alloc(), output)?;
+        check_made(&rt, rt.alloc(), row, (0, output.as_str(), ""))?;
+    }
+    for row in NOT_MADE.lines() {
+        let (row, fault) = sides(row)?;
+        let errors = format!(in rt.alloc(); "cuckoo: {fault}\n")?;
+        check_made(&rt, rt.alloc(), row, (2, "", errors.as_str()))?;
     }
     Ok(())
 }
@@ -568,7 +398,10 @@ fn sum_of_map(map: &str) -> u64 {
 }
 
 fn text_of(bytes: &[u8]) -> Result<&str, Fail> {
-    str::from_utf8(bytes).map_err(|_| Fail::from("bytes that are no text"))
+    match str::from_utf8(bytes) {
+        Ok(text) => Ok(text),
+        Err(_) => Err(Fail::from("bytes that are no text")),
+    }
 }
 
 /// What is bound at the end is what the answered lines added.

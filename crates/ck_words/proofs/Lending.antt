@@ -4,7 +4,7 @@ use Rattle.ck_model.specs.Numbered.{IsIn, numbers}
 use Rattle.ck_stripe.specs.Stripe.{StripeState}
 use Rattle.ck_section.specs.Stripes.{stripe_at, contents_of, IsInReach}
 use Rattle.ck_words.specs.Words.{WordsState}
-use Rattle.ck_words.specs.Passes.{PassState, EachOf, IsSeated, IsPassOf, stripes_in, held_in, state_of, numbers_of}
+use Rattle.ck_words.specs.Passes.{PassState, EachOf, IsSeated, IsPassOf, stripes_in, state_of, numbers_of}
 use Rattle.ck_words.specs.InPlace.{StripeSeat, HoldsAt, Puts}
 use Rattle.ck_words.proofs.Settling.{counts, named}
 use Rattle.ck_words.proofs.Reversed.{reverse-cons, map-reverse, in_of_reverse}

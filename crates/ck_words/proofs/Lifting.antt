@@ -1,10 +1,9 @@
 -- Stripes leave the slots of a seat for a list, from the lowest on, and come back.
 use Rattle.std.proofs.Common.{◌≡◌, ℕ, suc, ◌+◌, ◌-◌, ◌<◌, ◌≤◌, List, [], ◌∷◌, ◌++◌, map, length, get_or, reverse, take, drop, drop-cons, add-one, append-nil, append_assoc, length-append, length-drop, refl, sym, ap, ◌∙◌, subst, arith, Some, None}
-use Rattle.std.proofs.lemmas.List.{length-map, reverse-append, reverse-reverse, length-reverse, take_more, take_all}
+use Rattle.std.proofs.lemmas.List.{length-map, reverse-append, reverse-reverse, length-reverse, take_more}
 use Rattle.atomic_table.specs.Table.{rest, turned}
 use Rattle.atomic_table.specs.Seated.{TableId}
 use Rattle.ck_model.specs.Numbered.{numbers}
-use Rattle.ck_model.specs.declared.settings.Settings.{Settings}
 use Rattle.ck_stripe.specs.Stripe.{StripeState}
 use Rattle.ck_section.specs.Stripes.{no_stripe, stripe_at}
 use Rattle.ck_words.specs.Rule.{StripeSlot, Hand, counting}

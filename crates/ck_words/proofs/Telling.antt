@@ -25,7 +25,7 @@ use Rattle.ck_words.proofs.Seating.{length-numbers}
 use Rattle.ck_words.proofs.Staying.{stays_giving, found_giving, among_none, among_on}
 use Rattle.ck_words.proofs.Taking.{none_taken, one_taken}
 use Rattle.ck_words.proofs.Reversed.{map-append, held_reverse, of_reverse, lawful_reverse}
-use Rattle.ck_words.proofs.Rows.{shows_before, rest_row, renew_row, same_view}
+use Rattle.ck_words.proofs.Rows.{rest_row, renew_row, same_view}
 
 max_right : (a b : ℕ) → a ≤ b → max a b ≡ b
 max_right a b h = omega arith
@@ -103,17 +103,6 @@ module _ {V : Type 0} where
         let is : power_in p.stripes ≡ c.power = all (stripe_at p.stripes 0).number (stripe_at p.stripes 0).content (holds_at p.stripes 0 some) in
         let most = within c.power (power_left c.power p q stripe split all) in
         omega arith
-
-  -- all as they were
-  pub told_released : (hash : Name → ℕ) (w : WordsState) (p q r : PassState V) → IsUnchanged p → Sends hash w (λ t _. GiveRest t) p q → HasReleased w q r → IsToldNoMore q r → IsToldPower p r
-  told_released hash w p q r unchanged g rest within =
-      let k : Layout = layout_of hash w.settings in
-      let t : ℕ = g.0.number in
-      let c : Content V = g.2.does.1 in
-      let before = shows_before hash w.settings (GiveRest t) p.view q.view g.2 in
-      let lawful : Lawful k (contents_of p.stripes) = subst (Lawful k) (sym unchanged) (lawful_reverse k p.view.held before.lawful) in
-      let there : Holds (contents_of p.stripes) t c = subst (λ (hs : Stripes V). Holds hs t c) (sym unchanged) (held_reverse p.view.held t c (goes hash w.settings p q.view t g.2)) in
-      told_all k p q r g.0 g.1 lawful t c there (told_rest hash w.settings p q.view t g.2) rest.stays.told within
 
   -- all with what they contain now
   pub told_renewed : (hash : Name → ℕ) (w : WordsState) (why : Option (Name × Reason)) (p q r : PassState V) → Sends hash w (λ t ks. Renew t ks why) p q → HasReleased w q r → IsToldNoMore q r → IsToldPower p r

@@ -67,19 +67,6 @@ impl<K: TableKey + Drop, V: Drop> Words<K, V> {
         }
     }
 
-    /// Gives all stripes back as they were taken. The pass has then been told of their power.
-    pub fn release_all(&self, pass: &mut Pass<K, V>)
-        requires own { IsPassOf self.now pass.old }
-        requires numbered { numbers_of pass.old.stripes ≡ counting 0 (2 ^ self.now.settings.s) }
-        requires unchanged { IsUnchanged pass.old }
-        ensures released { HasReleased self.now pass.old pass.new }
-        ensures told { IsToldPower pass.old pass.new }
-    {
-        let last = self.table.slot_count() - 1;
-        self.give_rest(pass, last);
-        self.release_below(pass, last);
-    }
-
     /// Gives two stripes home with what they contain now, or one where they are the same, after an identity section, as a
     /// displacement is. It tells nothing of room.
     ///

@@ -1,7 +1,6 @@
-use Rattle.std.proofs.Common.{◌≡◌, ◌-◌, ◌∷◌, ◌∙◌, List, length, refl, sym, ap, arith, None}
+use Rattle.std.proofs.Common.{◌≡◌, ◌∙◌, List, length, refl, sym, ap, arith, None}
 use Rattle.std.proofs.lemmas.List.{take_all, length-take-le}
 use Rattle.ck_stripe.specs.Stripe.{StripeState}
-use Rattle.ck_section.specs.Stripes.{stripe_at}
 use Rattle.ck_words.specs.Rule.{Hand}
 use Rattle.ck_words.proofs.Lifting.{lifted_to, lifted_all, count_of, empty_front, popped, lowered_more}
 use Rattle.ck_words.proofs.lift.put_back.Goals as goal

@@ -1,4 +1,4 @@
-use Rattle.std.proofs.Common.{◌≡◌, ◌<◌, ◌∷◌, ◌∙◌, List, length, sym, ap, arith, Some}
+use Rattle.std.proofs.Common.{◌≡◌, ◌∙◌, List, sym, ap, arith, Some}
 use Rattle.std.proofs.lemmas.List.{take_all}
 use Rattle.ck_model.proofs.Numbered.{Some-injective}
 use Rattle.ck_stripe.specs.Stripe.{StripeState}

@@ -1,4 +1,4 @@
-use Rattle.std.proofs.Common.{subst, ◌<◌, length, refl, sym, ap, ◌∙◌}
+use Rattle.std.proofs.Common.{subst, refl, sym, ap, ◌∙◌}
 use Rattle.std.specs.Option.{IfNone}
 use Rattle.ck_bucket.specs.Bucket.{LacksName}
 use Rattle.ck_section.specs.Stripes.{bucket_at, IsInReach}

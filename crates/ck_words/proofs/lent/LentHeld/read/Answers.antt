@@ -1,4 +1,4 @@
-use Rattle.std.proofs.Common.{ap, ◌∙◌, ◌<◌, length, refl, sym, subst}
+use Rattle.std.proofs.Common.{ap, ◌∙◌, refl, sym, subst}
 use Rattle.ck_model.specs.Slots.{slot_at}
 use Rattle.ck_section.specs.Stripes.{bucket_at, IsInReach}
 use Rattle.ck_words.specs.Passes.{PassState}

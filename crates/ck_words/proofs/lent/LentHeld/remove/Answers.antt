@@ -1,4 +1,4 @@
-use Rattle.std.proofs.Common.{◌<◌, length, refl, sym, subst, ap, ◌∙◌}
+use Rattle.std.proofs.Common.{refl, sym, subst, ap, ◌∙◌}
 use Rattle.ck_words.specs.Passes.{PassState}
 use Rattle.ck_section.specs.Stripes.{IsInReach}
 use Rattle.ck_words.specs.Lending.{list_of}

@@ -1,4 +1,3 @@
-use Rattle.std.proofs.Common.{◌∙◌, ap, sym}
 use Rattle.ck_words.proofs.Seating.{ready_on}
 use Rattle.ck_words.proofs.Turning.{seated_puts}
 use Rattle.ck_words.proofs.words.Words.power_of_only.Goals as goal
