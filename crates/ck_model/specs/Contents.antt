@@ -2,6 +2,7 @@
 use Rattle.std.specs.Prelude.{◌≡◌, ◌⊎◌, ℕ, ◌+◌, ◌*◌, ◌-◌, ◌/◌, ◌%◌, ◌^◌, ◌<◌, ◌≤◌, ◌==◌, if◌then◌else◌, List, [], ◌∷◌, Some, None, length, slice_index_or, flat_map, All}
 use Rattle.std.specs.FinMap.{find, from_entries}
 use Rattle.ck_model.specs.declared.contents.Content.{Content}
+use Rattle.ck_model.specs.declared.settings.Settings.{Settings}
 use Rattle.ck_model.specs.Arithmetic.{index_of, second_of}
 use Rattle.ck_model.specs.Map.{Name, name_cmp, Map}
 use Rattle.ck_model.specs.Numbered.{AreDistinct, numbers, Holds, listed}
@@ -12,6 +13,13 @@ pub record Layout : Type 0 where
   pub hash : Name → ℕ
   pub s : ℕ
   pub max : ℕ
+
+abbrev pub layout : (Name → ℕ) → ℕ → ℕ → Layout
+layout hash s max = record { hash = hash; s = s; max = max }
+
+-- that of a table with these settings
+abbrev pub layout_of : (Name → ℕ) → Settings → Layout
+layout_of hash set = layout hash set.s set.max
 
 -- stripes by their numbers
 abbrev pub Stripes : Type 0 → Type 0

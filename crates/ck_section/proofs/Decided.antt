@@ -10,7 +10,7 @@ use Rattle.ck_model.specs.declared.contents.Content.{Content}
 use Rattle.ck_model.specs.Map.{Name, name_cmp, Answers}
 use Rattle.ck_model.specs.Slots.{Slot, slot_at}
 use Rattle.ck_model.specs.Numbered.{Holds}
-use Rattle.ck_model.specs.Contents.{IsBucketOf, Layout, Stripes, Binds, pairs_in, row_at, bindings, IsSound, Lawful}
+use Rattle.ck_model.specs.Contents.{IsBucketOf, Layout, layout, Stripes, Binds, pairs_in, row_at, bindings, IsSound, Lawful}
 use Rattle.ck_model.specs.Sections.{Section}
 use Rattle.ck_model.proofs.Local.{Change, section_in_one}
 use Rattle.ck_model.proofs.Writes.{Writes, written, stands, places, removes, replaces}
@@ -19,7 +19,7 @@ use Rattle.ck_section.specs.declared.place.KeyPlace.{KeyPlace}
 use Rattle.ck_section.specs.declared.place.HeldSlot.{HeldSlot}
 use Rattle.ck_section.specs.Stripes.{stripe_at, set_content, contents_of, IsInReach}
 use Rattle.ck_section.specs.Places.{IsPlaceOf, IsSlotOf, slot_in, set_slot, IsNowhere}
-use Rattle.ck_section.specs.Calls.{layout, IsCall}
+use Rattle.ck_section.specs.Calls.{IsCall}
 use Rattle.ck_section.proofs.Found.{holds_at, contents_set, set_here, row_bucket, row_within, sound_at, nowhere, unbound, owns, bound_in}
 
 module _ {V : Type 0} where

@@ -11,7 +11,7 @@ use Rattle.ck_model.specs.Map.{Name}
 use Rattle.ck_model.specs.Slots.{Slot, slot_at, IsFull}
 use Rattle.ck_model.specs.Numbered.{IsIn, AreDistinct, numbers, Holds, with_content}
 use Rattle.ck_model.specs.declared.contents.Content.{Content}
-use Rattle.ck_model.specs.Contents.{Layout, Stripes, Binds, row_at, rows_of, bindings, bucket_in, power_of, IsBucketOf, IsSound, Lawful}
+use Rattle.ck_model.specs.Contents.{Layout, layout, Stripes, Binds, row_at, rows_of, bindings, bucket_in, power_of, IsBucketOf, IsSound, Lawful}
 use Rattle.ck_model.specs.Sections.{Owns}
 use Rattle.ck_model.specs.Paths.{HasNoRoom}
 use Rattle.ck_model.proofs.Buckets.{index_lower, second_lower}
@@ -25,7 +25,7 @@ use Rattle.ck_section.specs.declared.place.KeyPlace.{KeyPlace}
 use Rattle.ck_section.specs.declared.place.HeldSlot.{HeldSlot}
 use Rattle.ck_section.specs.Stripes.{no_stripe, stripe_at, bucket_at, set_content, contents_of, IsInReach}
 use Rattle.ck_section.specs.Places.{IsPlaceOf, IsSlotOf, slot_in, IsNowhere, AreFull}
-use Rattle.ck_section.specs.Calls.{layout, ChangesContents}
+use Rattle.ck_section.specs.Calls.{ChangesContents}
 
 module _ {V : Type 0} where
   -- a held stripe is among the contents

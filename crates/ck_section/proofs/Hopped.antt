@@ -8,7 +8,7 @@ use Rattle.std.proofs.lemmas.Option.{none-some, some_pair_parts}
 use Rattle.ck_model.specs.Arithmetic.{partial_of, index_of, second_of, alternate_of}
 use Rattle.ck_model.specs.Map.{Name}
 use Rattle.ck_model.specs.Slots.{Slot, slot_at, IsFull, HasFree}
-use Rattle.ck_model.specs.Contents.{IsBucketOf, IsSound}
+use Rattle.ck_model.specs.Contents.{layout, IsBucketOf, IsSound}
 use Rattle.ck_model.specs.Sections.{IdentitySection}
 use Rattle.ck_model.proofs.Buckets.{index_below, alternate_twice, alternate_below}
 use Rattle.ck_bucket.specs.Bucket.{partial_in}
@@ -17,7 +17,6 @@ use Rattle.ck_section.specs.declared.hop.Hop.{Hop}
 use Rattle.ck_section.specs.declared.place.HeldSlot.{HeldSlot}
 use Rattle.ck_section.specs.Stripes.{stripe_at, contents_of, IsInReach}
 use Rattle.ck_section.specs.Places.{IsSlotOf, slot_in, set_slot}
-use Rattle.ck_section.specs.Calls.{layout}
 use Rattle.ck_section.specs.Hops.{source_in, IsHopIn, HasPartial, lifted, IsNoCall}
 use Rattle.ck_section.proofs.Found.{row_bucket, sound_at}
 use Rattle.ck_section.proofs.Rebinding.{Rebinding, keeps_s, keeps_reach, keeps_slot, slot_other, apart_from, removing, placing, identity_of_two}

@@ -10,7 +10,7 @@ use Rattle.ck_model.specs.declared.contents.Content.{Content}
 use Rattle.ck_model.specs.Map.{Name, name_cmp}
 use Rattle.ck_model.specs.Slots.{Slot, slot_at}
 use Rattle.ck_model.specs.Numbered.{IsIn, numbers, Holds}
-use Rattle.ck_model.specs.Contents.{Layout, Stripes, Binds, IsBucketOf, pairs_in, row_at, bindings, IsSound, Lawful}
+use Rattle.ck_model.specs.Contents.{Layout, layout, Stripes, Binds, IsBucketOf, pairs_in, row_at, bindings, IsSound, Lawful}
 use Rattle.ck_model.specs.Sections.{IdentitySection}
 use Rattle.ck_model.proofs.Numbered.{in_held, held_of_in, numbers-with, holds_with}
 use Rattle.ck_model.proofs.Names.{dec_name, maps_alike}
@@ -21,7 +21,6 @@ use Rattle.ck_stripe.specs.Stripe.{StripeState, bucket_of, with_slot}
 use Rattle.ck_section.specs.declared.place.HeldSlot.{HeldSlot}
 use Rattle.ck_section.specs.Stripes.{no_stripe, stripe_at, bucket_at, set_content, contents_of, IsInReach}
 use Rattle.ck_section.specs.Places.{IsSlotOf, slot_in, set_slot}
-use Rattle.ck_section.specs.Calls.{layout}
 use Rattle.ck_section.proofs.Found.{holds_at, contents_set, set_here, row_bucket, row_within, sound_at}
 
 module _ {V : Type 0} where

@@ -6,14 +6,14 @@ use Rattle.ck_model.specs.declared.history.Call.TheVariants.{ChangeTwo}
 use Rattle.ck_model.specs.declared.history.Reply.TheVariants.{DoneTwo, Absent}
 use Rattle.ck_model.specs.Map.{Name, AnswersTwo, Step}
 use Rattle.ck_model.specs.Slots.{Slot}
-use Rattle.ck_model.specs.Contents.{Layout, bindings, Lawful}
+use Rattle.ck_model.specs.Contents.{Layout, layout, bindings, Lawful}
 use Rattle.ck_model.specs.Sections.{Section}
 use Rattle.ck_stripe.specs.Stripe.{StripeState, with_slot}
 use Rattle.ck_section.specs.declared.place.KeyPlace.{KeyPlace}
 use Rattle.ck_section.specs.declared.place.HeldSlot.{HeldSlot}
 use Rattle.ck_section.specs.Stripes.{stripe_at, contents_of, IsInReach}
 use Rattle.ck_section.specs.Places.{IsPlaceOf, IsSlotOf, IsNowhere, slot_in, set_slot}
-use Rattle.ck_section.specs.Calls.{layout, ChangesContents}
+use Rattle.ck_section.specs.Calls.{ChangesContents}
 use Rattle.ck_section.specs.TwoNames.{IsChangeOfTwo}
 use Rattle.ck_section.proofs.Found.{unbound, owns, bound_in, set_changes, changes_on}
 use Rattle.ck_section.proofs.Decided.{freed}

@@ -5,7 +5,7 @@ use native.Mathlib.Decide.{ℕ_discrete}
 use Rattle.std.proofs.lemmas.Nat.{pow_pos}
 use Rattle.ck_model.specs.declared.history.Reason.TheVariants as Reasons
 use Rattle.ck_model.specs.Map.{Name}
-use Rattle.ck_model.specs.Contents.{Stripes, Lawful, power_of}
+use Rattle.ck_model.specs.Contents.{layout, Stripes, Lawful, power_of}
 use Rattle.ck_model.specs.Doubling.{IsDoubledTo}
 use Rattle.ck_model.specs.Paths.{IsStuck, Grounds}
 use Rattle.ck_model.specs.Sections.{IdentitySection}
@@ -15,7 +15,7 @@ use Rattle.ck_section.specs.declared.room.Lack.TheVariants.{Memory, Full, LoadTo
 use Rattle.ck_section.specs.Stripes.{contents_of}
 use Rattle.ck_section.specs.Whole.{IsTable}
 use Rattle.ck_section.specs.Doublings.{Grows}
-use Rattle.ck_section.specs.Calls.{layout, IsWithoutRoom}
+use Rattle.ck_section.specs.Calls.{IsWithoutRoom}
 use Rattle.ck_section.specs.Room.{power_in, reason_of_lack, IsLack, IsWithoutPath, GivesReason, GrowsForRoom}
 use Rattle.ck_section.proofs.Found.{sound_at}
 use Rattle.ck_section.proofs.Rebinding.{identity_of_none}

@@ -8,14 +8,13 @@ use Rattle.ck_model.specs.declared.history.Call.TheVariants.{Len}
 use Rattle.ck_model.specs.declared.history.Reply.TheVariants.{Count}
 use Rattle.ck_model.specs.Map.{Name, named}
 use Rattle.ck_model.specs.Numbered.{IsIn, numbers}
-use Rattle.ck_model.specs.Contents.{Stripes, Lawful, pairs_in, pairs_of, power_of}
+use Rattle.ck_model.specs.Contents.{layout, Stripes, Lawful, pairs_in, pairs_of, power_of}
 use Rattle.ck_model.specs.Sections.{HasAll, Section, IdentitySection}
 use Rattle.ck_model.specs.Doubling.{IsDoubledTo}
 use Rattle.ck_model.proofs.Numbered.{in_held}
 use Rattle.ck_model.proofs.Counted.{len-bindings}
 use Rattle.ck_stripe.specs.Stripe.{StripeState, IsReserved}
 use Rattle.ck_section.specs.Stripes.{no_stripe, stripe_at, contents_of, doubled, doubled_stripes}
-use Rattle.ck_section.specs.Calls.{layout}
 use Rattle.ck_section.specs.Whole.{AreSettled, IsTable}
 use Rattle.ck_section.specs.Doublings.{ChangesRoom, DoublesEach, Grows}
 use Rattle.ck_section.proofs.AllStripes.{stripe_read}

@@ -9,7 +9,7 @@ use Rattle.ck_model.specs.Arithmetic.{partial_of, index_of, alternate_of, second
 use Rattle.ck_model.specs.Map.{Name}
 use Rattle.ck_model.specs.Numbered.{IsIn, numbers}
 use Rattle.ck_model.specs.Slots.{Slot}
-use Rattle.ck_model.specs.Contents.{Layout, Stripes, Lawful, row_at, rows_of, power_of, bucket_in}
+use Rattle.ck_model.specs.Contents.{Layout, layout, Stripes, Lawful, row_at, rows_of, power_of, bucket_in}
 use Rattle.ck_model.specs.Sections.{HasAll}
 use Rattle.ck_model.specs.Paths.{sketch_in}
 use Rattle.ck_model.specs.Sketches.{Sketch, HasNoSketchPath}
@@ -20,7 +20,6 @@ use Rattle.ck_stripe.specs.Stripe.{StripeState}
 use Rattle.ck_section.specs.Stripes.{stripe_at, bucket_at, contents_of}
 use Rattle.ck_section.specs.Places.{AreAllHeld}
 use Rattle.ck_section.specs.Whole.{AreSettled, IsTable}
-use Rattle.ck_section.specs.Calls.{layout}
 use Rattle.ck_section.specs.Room.{power_in, sketch_of, IsWithoutPath}
 use Rattle.ck_model.proofs.Rows.{rows_held, power_held}
 use Rattle.ck_section.proofs.Found.{holds_at}

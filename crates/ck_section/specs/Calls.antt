@@ -4,15 +4,12 @@ use Rattle.ck_model.specs.declared.history.Act.{Act}
 use Rattle.ck_model.specs.declared.history.Call.TheVariants.{On}
 use Rattle.ck_model.specs.declared.history.Reply.{Reply}
 use Rattle.ck_model.specs.Map.{Name}
-use Rattle.ck_model.specs.Contents.{Layout, Lawful}
+use Rattle.ck_model.specs.Contents.{layout, Lawful}
 use Rattle.ck_model.specs.Sections.{Section}
 use Rattle.ck_model.specs.Paths.{HasNoRoom}
 use Rattle.ck_stripe.specs.Stripe.{StripeState}
 use Rattle.ck_section.specs.declared.place.KeyPlace.{KeyPlace}
 use Rattle.ck_section.specs.Stripes.{stripe_at, contents_of}
-
-abbrev pub layout : (Name → ℕ) → ℕ → ℕ → Layout
-layout hash s max = record { hash = hash; s = s; max = max }
 
 -- The stripes of a table of 2^s that a call held, before and after it, where names have these hashes.
 pub record Effect (V : Type 0) : Type 0 where

@@ -1,12 +1,11 @@
 -- What a doubling of all stripes of a table leaves.
 use Rattle.std.specs.Prelude.{◌≡◌, ℕ, ◌+◌, ◌<◌, List, length}
 use Rattle.ck_model.specs.Map.{Name}
-use Rattle.ck_model.specs.Contents.{Lawful}
+use Rattle.ck_model.specs.Contents.{layout, Lawful}
 use Rattle.ck_model.specs.Sections.{IdentitySection}
 use Rattle.ck_model.specs.Doubling.{IsDoubledTo}
 use Rattle.ck_stripe.specs.Stripe.{StripeState, IsReserved}
 use Rattle.ck_section.specs.Stripes.{stripe_at, contents_of, doubled}
-use Rattle.ck_section.specs.Calls.{layout}
 
 module _ {V : Type 0} where
   -- nothing but for how many rows the stripes have memory differs

@@ -3,14 +3,13 @@ use Rattle.std.specs.Prelude.{◌≡◌, ℕ, ◌+◌, ◌-◌, ◌%◌, ◌^◌
 use Rattle.ck_model.specs.Arithmetic.{partial_of, alternate_of}
 use Rattle.ck_model.specs.Map.{Name}
 use Rattle.ck_model.specs.Slots.{Slot, HasFree}
-use Rattle.ck_model.specs.Contents.{Lawful}
+use Rattle.ck_model.specs.Contents.{layout, Lawful}
 use Rattle.ck_model.specs.Sections.{IdentitySection}
 use Rattle.ck_stripe.specs.Stripe.{StripeState}
 use Rattle.ck_section.specs.declared.hop.Hop.{Hop}
 use Rattle.ck_section.specs.declared.place.HeldSlot.{HeldSlot}
 use Rattle.ck_section.specs.Stripes.{stripe_at, bucket_at, contents_of}
 use Rattle.ck_section.specs.Places.{slot_in, set_slot, IsLowest}
-use Rattle.ck_section.specs.Calls.{layout}
 
 -- the slot that the hop empties, in stripe i
 abbrev pub source_in : ℕ → Hop → HeldSlot

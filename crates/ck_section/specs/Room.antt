@@ -5,7 +5,7 @@ use Rattle.ck_model.specs.declared.history.Reason.TheVariants as Reasons
 use Rattle.ck_model.specs.declared.hop.PathHop.{PathHop}
 use Rattle.ck_model.specs.Arithmetic.{index_of, second_of}
 use Rattle.ck_model.specs.Map.{Name}
-use Rattle.ck_model.specs.Contents.{Layout, Stripes, Lawful}
+use Rattle.ck_model.specs.Contents.{Layout, layout, Stripes, Lawful}
 use Rattle.ck_model.specs.Doubling.{IsDoubledTo}
 use Rattle.ck_model.specs.Paths.{HasNoRoom, HasNoPath, IsTooEmpty, Grounds}
 use Rattle.ck_model.specs.Sections.{IdentitySection}
@@ -16,7 +16,6 @@ use Rattle.ck_stripe.specs.Stripe.{StripeState}
 use Rattle.ck_section.specs.declared.room.Lack.{Lack}
 use Rattle.ck_section.specs.declared.room.Lack.TheVariants.{Memory, Full, LoadTooLow}
 use Rattle.ck_section.specs.Stripes.{stripe_at, bucket_at, contents_of}
-use Rattle.ck_section.specs.Calls.{layout}
 
 -- each bucket of the hops and their end has four slots
 abbrev pub HaveFour : (ℕ → Sketch) → List PathHop → ℕ → Type 0

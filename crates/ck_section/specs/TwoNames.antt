@@ -3,10 +3,10 @@ use Rattle.std.specs.Prelude.{ℕ}
 use Rattle.ck_model.specs.declared.history.Call.TheVariants.{ChangeTwo}
 use Rattle.ck_model.specs.declared.history.Reply.{Reply}
 use Rattle.ck_model.specs.Map.{Name}
-use Rattle.ck_model.specs.Contents.{Lawful}
+use Rattle.ck_model.specs.Contents.{layout, Lawful}
 use Rattle.ck_model.specs.Sections.{Section}
 use Rattle.ck_section.specs.Stripes.{contents_of}
-use Rattle.ck_section.specs.Calls.{layout, Effect}
+use Rattle.ck_section.specs.Calls.{Effect}
 
 module _ {V : Type 0} where
   -- Whatever the greatest power is, lawful stripes go from old to new by a change of the two names, with this reply.

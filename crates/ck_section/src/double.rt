@@ -2,10 +2,9 @@
 ghost use Rattle.std.specs.Prelude.{◌≡◌, ℕ, ◌≤◌, ◌<◌, OnOk, OnErr, length};
 ghost use Rattle.ck_model.specs.declared.history.Call.TheVariants.{Len};
 ghost use Rattle.ck_model.specs.declared.history.Reply.TheVariants.{Count};
-ghost use Rattle.ck_model.specs.Contents.{Lawful, pairs_of};
+ghost use Rattle.ck_model.specs.Contents.{layout, Lawful, pairs_of};
 ghost use Rattle.ck_model.specs.Sections.{Section};
 ghost use Rattle.ck_section.specs.Stripes.{stripe_at, contents_of, settled_stripes, doubled_stripes};
-ghost use Rattle.ck_section.specs.Calls.{layout};
 ghost use Rattle.ck_section.specs.Whole.{AreSettled, IsTable};
 ghost use Rattle.ck_section.specs.Doublings.{ChangesRoom, AreReserved, DoublesEach, Grows};
 

@@ -2,13 +2,14 @@
 ghost use Rattle.std.specs.Prelude.{◌≡◌, ◌<◌, ◌+◌, ◌*◌, ◌%◌, ◌^◌, ◌≤◌, IfOk, IfErr, OnOk, OnErr, MatchBool};
 ghost use Rattle.std.specs.Bool.{OnTrue, OnFalse};
 ghost use Rattle.ck_key.specs.Hashes.{IsHashOf};
+ghost use Rattle.ck_model.specs.Contents.{layout};
 ghost use Rattle.ck_model.specs.Paths.{IsTooEmpty};
 ghost use Rattle.ck_section.specs.Stripes.{contents_of, IsInReach};
 ghost use Rattle.ck_section.specs.Whole.{AreSettled, IsTable};
 ghost use Rattle.ck_section.specs.Doublings.{Grows};
 ghost use Rattle.ck_section.specs.Places.{AreAllHeld, IsPlaceOf};
 ghost use Rattle.ck_section.specs.Hops.{IsNoCall};
-ghost use Rattle.ck_section.specs.Calls.{layout, ChangesContents, IsWithRoom, IsWithoutRoom};
+ghost use Rattle.ck_section.specs.Calls.{ChangesContents, IsWithRoom, IsWithoutRoom};
 ghost use Rattle.ck_section.specs.Room.{power_in, settled_at, AreBothSettled, IsWithoutPath, IsLack, KeepsBindings, MakesRoom, GivesReason, GrowsForRoom};
 
 use crate::double::{double_all, len, settle_all};

@@ -7,13 +7,12 @@ use Rattle.std.proofs.lemmas.Nat.{pow_pos}
 use Rattle.ck_model.specs.declared.settings.Settings.{Settings}
 use Rattle.ck_model.specs.Map.{Name}
 use Rattle.ck_model.specs.Numbered.{Holds}
-use Rattle.ck_model.specs.Contents.{Layout, Stripes, Lawful}
+use Rattle.ck_model.specs.Contents.{Layout, layout, layout_of, Stripes, Lawful}
 use Rattle.ck_model.specs.Sections.{IdentitySection}
 use Rattle.ck_stripe.specs.Stripe.{StripeState}
 use Rattle.ck_section.specs.Stripes.{stripe_at, contents_of, settled_stripes}
 use Rattle.ck_section.specs.Places.{AreAllHeld}
 use Rattle.ck_section.specs.Whole.{IsTable, AreSettled}
-use Rattle.ck_section.specs.Calls.{layout}
 use Rattle.ck_section.specs.Doublings.{DoublesEach, Grows}
 use Rattle.ck_section.specs.Room.{power_in, KeepsBindings}
 use Rattle.ck_section.proofs.Found.{holds_at}
@@ -22,7 +21,6 @@ use Rattle.ck_section.proofs.Doublings.{identity_on}
 use Rattle.ck_section.proofs.Growing.{contents_settled, all_settled}
 use Rattle.ck_section.proofs.Tables.{table_of, power_same}
 use Rattle.ck_core.specs.declared.view.View.{View}
-use Rattle.ck_words.specs.Rule.{layout_of}
 use Rattle.ck_words.specs.Words.{WordsState}
 use Rattle.ck_words.specs.Passes.{PassState}
 use Rattle.ck_words.specs.Retries.{Stays}

@@ -6,7 +6,7 @@ use Rattle.ck_model.specs.declared.history.Reason.TheVariants.{NoRoom}
 use Rattle.ck_model.specs.declared.settings.Settings.{Settings}
 use Rattle.ck_model.specs.Map.{Name}
 use Rattle.ck_model.specs.Numbered.{IsIn, numbers}
-use Rattle.ck_model.specs.Contents.{IsStripeOf, Lawful}
+use Rattle.ck_model.specs.Contents.{layout_of, IsStripeOf, Lawful}
 use Rattle.ck_model.specs.Sections.{Owns}
 use Rattle.ck_model.specs.Paths.{HasNoRoom}
 use Rattle.ck_model.proofs.Buckets.{index_below, second_below}
@@ -18,7 +18,6 @@ use Rattle.ck_section.specs.Places.{HasBoth}
 use Rattle.ck_core.specs.declared.view.View.{View}
 use Rattle.ck_core.specs.Steps.{giving}
 use Rattle.ck_core.specs.Steps.Move.{Give}
-use Rattle.ck_words.specs.Rule.{layout_of}
 use Rattle.ck_words.specs.Words.{WordsState}
 use Rattle.ck_words.specs.Passes.{PassState, Sends}
 use Rattle.ck_words.specs.Retries.{Stays, StaysBut}

@@ -8,7 +8,7 @@ use Rattle.ck_model.specs.declared.history.Reason.TheVariants.{NoRoom}
 use Rattle.ck_model.specs.declared.settings.Settings.{Settings}
 use Rattle.ck_model.specs.Arithmetic.{index_of, second_of}
 use Rattle.ck_model.specs.Map.{Name}
-use Rattle.ck_model.specs.Contents.{Layout, Stripes, Lawful}
+use Rattle.ck_model.specs.Contents.{Layout, layout_of, Stripes, Lawful}
 use Rattle.ck_model.specs.Sections.{IdentitySection}
 use Rattle.ck_model.specs.Paths.{Grounds}
 use Rattle.ck_model.proofs.Buckets.{index_lower, second_lower}
@@ -24,7 +24,7 @@ use Rattle.ck_section.specs.Room.{power_in, reason_of_lack, AreBothSettled, Keep
 use Rattle.ck_section.proofs.Tables.{held_of}
 use Rattle.ck_section.proofs.Growing.{place_in}
 use Rattle.ck_core.specs.declared.view.View.{View}
-use Rattle.ck_words.specs.Rule.{counting, layout_of}
+use Rattle.ck_words.specs.Rule.{counting}
 use Rattle.ck_words.specs.Words.{WordsState}
 use Rattle.ck_words.specs.Passes.{PassState, pair}
 use Rattle.ck_words.specs.Retries.{Stays}

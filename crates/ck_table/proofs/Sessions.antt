@@ -15,7 +15,7 @@ use Rattle.ck_model.specs.Map.{Name, Answers, Step}
 use Rattle.ck_model.specs.Ranges.{AreInRange}
 use Rattle.ck_model.specs.History.{After}
 use Rattle.ck_model.specs.Numbered.{IsIn, numbers, Holds}
-use Rattle.ck_model.specs.Contents.{Layout, Stripes, Lawful, bindings}
+use Rattle.ck_model.specs.Contents.{Layout, layout, layout_of, Stripes, Lawful, bindings}
 use Rattle.ck_model.specs.Paths.{HasNoRoom, Grounds}
 use Rattle.ck_model.specs.Sections.{HasAll, Renewed, Section, IdentitySection}
 use Rattle.ck_model.proofs.Numbered.{held_of_in, in_held}
@@ -26,12 +26,12 @@ use Rattle.ck_section.specs.Places.{AreAllHeld}
 use Rattle.ck_section.specs.declared.place.KeyPlace.{KeyPlace}
 use Rattle.ck_section.specs.declared.room.Lack.{Lack}
 use Rattle.ck_section.specs.Room.{reason_of_lack, KeepsBindings, MakesRoom, GivesReason}
-use Rattle.ck_section.specs.Calls.{layout, IsWithoutRoom, ChangesContents}
+use Rattle.ck_section.specs.Calls.{IsWithoutRoom, ChangesContents}
 use Rattle.ck_section.proofs.Decided.{IsCallOn}
 use Rattle.ck_section.proofs.Growing.{all_settled, contents_settled}
 use Rattle.ck_section.proofs.Tables.{table_of}
 use Rattle.ck_section.specs.Whole.{AreAll, AreSettled, IsTable}
-use Rattle.ck_words.specs.Rule.{counting, layout_of}
+use Rattle.ck_words.specs.Rule.{counting}
 use Rattle.ck_words.specs.Words.{WordsState}
 use Rattle.ck_words.specs.Passes.{EachOf, PassState, IsPassOf, numbers_of}
 use Rattle.ck_words.specs.Retries.{Stays, FindsAmong}

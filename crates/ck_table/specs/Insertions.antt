@@ -7,13 +7,13 @@ use Rattle.ck_model.specs.declared.history.Reason as history
 use Rattle.ck_model.specs.declared.history.Reason.TheVariants as reason
 use Rattle.ck_model.specs.declared.settings.Settings.{Settings}
 use Rattle.ck_model.specs.Map.{Name}
-use Rattle.ck_model.specs.Contents.{IsStripeOf}
+use Rattle.ck_model.specs.Contents.{layout_of, IsStripeOf}
 use Rattle.ck_section.specs.Places.{IsPlaceOf}
 use Rattle.ck_section.specs.Entries.{IsEntryOf}
 use Rattle.ck_table.specs.declared.room.Room.{Room}
 use Rattle.ck_table.specs.declared.refusal.Why.{Why}
 use Rattle.ck_table.specs.declared.refusal.Why.TheVariants.{Busy, Memory, Full, LoadTooLow}
-use Rattle.ck_words.specs.Rule.{counting, layout_of}
+use Rattle.ck_words.specs.Rule.{counting}
 use Rattle.ck_words.specs.Passes.{PassState, pair}
 use Rattle.ck_words.specs.Retries.{StaysBut, FindsAmong, FindsLast}
 use Rattle.ck_words.specs.Answering.{IsAnsweredBut}

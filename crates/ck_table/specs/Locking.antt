@@ -6,7 +6,7 @@ use Rattle.ck_model.specs.declared.history.Reply.{Reply}
 use Rattle.ck_model.specs.declared.settings.Settings.{Settings}
 use Rattle.ck_model.specs.Map.{Name, Map, Step}
 use Rattle.ck_model.specs.History.{After}
-use Rattle.ck_model.specs.Contents.{bindings}
+use Rattle.ck_model.specs.Contents.{layout_of, bindings}
 use Rattle.ck_model.specs.Paths.{Grounds}
 use Rattle.ck_model.specs.Sections.{Renewed}
 use Rattle.ck_stripe.specs.Stripe.{StripeState}
@@ -15,7 +15,6 @@ use Rattle.ck_section.specs.Stripes.{contents_of}
 use Rattle.ck_section.specs.Places.{AreAllHeld}
 use Rattle.ck_section.specs.Whole.{IsTable, AreSettled}
 use Rattle.ck_section.specs.Room.{reason_of_lack, KeepsBindings, MakesRoom, GivesReason}
-use Rattle.ck_words.specs.Rule.{layout_of}
 use Rattle.ck_words.specs.Words.{WordsState}
 use Rattle.ck_words.specs.Passes.{PassState, IsPassOf, ShowsSeen}
 use Rattle.ck_words.specs.Retries.{Stays, FindsAmong}

@@ -2,12 +2,11 @@
 use Rattle.std.specs.Prelude.{◌⊎◌, ℕ, ◌<◌, ◌^◌}
 use Rattle.ck_model.specs.declared.settings.Settings.{Settings}
 use Rattle.ck_model.specs.Map.{Name}
-use Rattle.ck_model.specs.Contents.{IsStripeOf}
+use Rattle.ck_model.specs.Contents.{layout_of, IsStripeOf}
 use Rattle.ck_section.specs.declared.room.Lack as lack
 use Rattle.ck_section.specs.declared.room.Lack.TheVariants.{Memory, Full, LoadTooLow}
 use Rattle.ck_table.specs.declared.refusal.Why as refusal
 use Rattle.ck_table.specs.declared.refusal.Why.TheVariants as why
-use Rattle.ck_words.specs.Rule.{layout_of}
 use Rattle.ck_words.specs.Passes.{PassState}
 use Rattle.ck_words.specs.Retries.{Stays, FindsAmong, FindsLast}
 

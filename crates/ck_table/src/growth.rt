@@ -1,7 +1,7 @@
 //! Growing the table, under all stripes.
 ghost use Rattle.std.specs.Prelude.{◌≡◌, ℕ, ◌≤◌, ◌<◌, IfOk, OnErr, MatchBool};
+ghost use Rattle.ck_model.specs.Contents.{layout};
 ghost use Rattle.ck_section.specs.Whole.{IsTable};
-ghost use Rattle.ck_section.specs.Calls.{layout};
 ghost use Rattle.ck_section.specs.Room.{power_in, KeepsBindings};
 ghost use Rattle.ck_words.specs.Retries.{Stays, FindsAmong};
 ghost use Rattle.ck_words.specs.Closing.{IsCaller};

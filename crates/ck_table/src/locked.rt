@@ -6,6 +6,7 @@ ghost use Rattle.ck_model.specs.declared.history.Act.TheVariants.{Insert, Erase}
 ghost use Rattle.ck_model.specs.declared.history.Call.TheVariants.{Session};
 ghost use Rattle.ck_model.specs.declared.history.Reply.TheVariants.{New, Old, Was, Closed};
 ghost use Rattle.ck_model.specs.Map.{ListsInOrder};
+ghost use Rattle.ck_model.specs.Contents.{layout_of};
 ghost use Rattle.ck_bucket.specs.Bucket.{ClonesAreEqual};
 ghost use Rattle.ck_model.specs.Paths.{HasNoRoom};
 ghost use Rattle.ck_model.specs.Ranges.{AreInRange};
@@ -14,7 +15,6 @@ ghost use Rattle.ck_section.specs.Places.{IsPlaceOf, AreAllHeld};
 ghost use Rattle.ck_section.specs.Entries.{IsEntryOf};
 ghost use Rattle.ck_section.specs.Calls.{effect, IsCall, IsWithoutRoom, ChangesContents};
 ghost use Rattle.ck_section.specs.Room.{KeepsBindings, MakesRoom, GivesReason};
-ghost use Rattle.ck_words.specs.Rule.{layout_of};
 ghost use Rattle.ck_words.specs.Retries.{FindsAmong};
 ghost use Rattle.ck_words.specs.Answering.{IsAnswered};
 ghost use Rattle.ck_words.specs.Closing.{IsCaller};

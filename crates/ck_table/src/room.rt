@@ -2,13 +2,13 @@
 ghost use Rattle.std.specs.Prelude.{◌≡◌, ◌≤◌, ◌^◌, ◌%◌, true, IsSome, OnErr, IfOk, IfErr, reverse};
 ghost use Rattle.ck_key.specs.Hashes.{IsHashOf};
 ghost use Rattle.ck_model.specs.declared.history.Reply.{Reply};
-ghost use Rattle.ck_model.specs.Contents.{Lawful};
+ghost use Rattle.ck_model.specs.Contents.{layout_of, Lawful};
 ghost use Rattle.ck_model.specs.Paths.{Grounds};
 ghost use Rattle.ck_section.specs.Stripes.{contents_of};
 ghost use Rattle.ck_section.specs.Places.{IsPlaceOf};
 ghost use Rattle.ck_section.specs.Whole.{IsTable, AreSettled};
 ghost use Rattle.ck_section.specs.Room.{AreBothSettled, reason_of_lack};
-ghost use Rattle.ck_words.specs.Rule.{counting, layout_of};
+ghost use Rattle.ck_words.specs.Rule.{counting};
 ghost use Rattle.ck_words.specs.Passes.{IsPassOf, IsIdle, numbers_of};
 ghost use Rattle.ck_words.specs.Lending.{list_of};
 ghost use Rattle.ck_words.specs.Retries.{FindsAmong};

@@ -13,7 +13,7 @@ use Rattle.ck_model.specs.declared.settings.Settings.{Settings}
 use Rattle.ck_model.specs.declared.contents.Content.{Content}
 use Rattle.ck_model.specs.Map.{Name}
 use Rattle.ck_model.specs.Numbered.{IsIn, numbers, Holds}
-use Rattle.ck_model.specs.Contents.{Layout, Lawful}
+use Rattle.ck_model.specs.Contents.{Layout, layout_of, Lawful}
 use Rattle.ck_model.specs.Sections.{Section, IdentitySection}
 use Rattle.ck_model.proofs.Numbered.{Some-injective}
 use Rattle.ck_stripe.specs.Stripe.{StripeState}
@@ -24,7 +24,7 @@ use Rattle.ck_core.specs.Steps.Move.{Take, FindHeld, Give, Decide, Renew, Look}
 use Rattle.ck_core.proofs.Lists.{at_set, set_else, set_there}
 use Rattle.ck_core.proofs.Shown.{shows}
 use Rattle.ck_core.proofs.Keeps.{take_keeps, find_keeps, give_keeps, decide_keeps, renew_keeps, look_keeps, told_below, open_keeps, tell_keeps, join_keeps}
-use Rattle.ck_words.specs.Rule.{StripeSlot, Hand, lying, spaced, world, IsNumbered, IsKept, Rule, RuleOf, layout_of}
+use Rattle.ck_words.specs.Rule.{StripeSlot, Hand, lying, spaced, world, IsNumbered, IsKept, Rule, RuleOf}
 use Rattle.ck_words.specs.Steps.{Steps}
 use Rattle.ck_words.specs.Plays.{contents_in, SeatTries, SeatGives, SeatLooks, first_kept, opened, begun}
 use Rattle.ck_words.proofs.Spacing.{spaced-at, spaced-set}

@@ -8,12 +8,11 @@ use Rattle.ck_model.proofs.Numbered.{if_same, if_else}
 use Rattle.ck_model.specs.declared.settings.Settings.{Settings}
 use Rattle.ck_model.specs.Map.{Name}
 use Rattle.ck_model.specs.Ranges.{AreInRange}
-use Rattle.ck_model.specs.Contents.{Stripes, Lawful}
+use Rattle.ck_model.specs.Contents.{layout_of, Stripes, Lawful}
 use Rattle.ck_stripe.specs.Stripe.{StripeState}
 use Rattle.ck_section.specs.Stripes.{stripe_at, contents_of, settled_stripes}
 use Rattle.ck_section.specs.Places.{AreHeld, HasStripe}
 use Rattle.ck_section.proofs.Found.{holds_at}
-use Rattle.ck_words.specs.Rule.{layout_of}
 use Rattle.ck_words.specs.Passes.{EachOf, PassState, IsUnchanged, ShowsSeen, numbers_of, pair}
 use Rattle.ck_words.proofs.Lending.{each_at}
 use Rattle.ck_words.proofs.Seating.{length-numbers, number_at}

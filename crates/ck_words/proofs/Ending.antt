@@ -8,10 +8,9 @@ use Rattle.ck_model.specs.declared.history.Entry.{Entry}
 use Rattle.ck_model.specs.Map.{Name}
 use Rattle.ck_model.specs.Numbered.{IsIn, numbers}
 use Rattle.ck_model.specs.History.{After, StartsWith}
-use Rattle.ck_model.specs.Contents.{Layout, Stripes, pairs_of, bindings, NamesApart}
+use Rattle.ck_model.specs.Contents.{Layout, layout_of, Stripes, pairs_of, bindings, NamesApart}
 use Rattle.ck_model.proofs.Counted.{names_apart}
 use Rattle.ck_section.specs.Stripes.{contents_of}
-use Rattle.ck_words.specs.Rule.{layout_of}
 use Rattle.ck_words.specs.Words.{WordsState}
 use Rattle.ck_words.specs.Passes.{PassState, IsPassOf, IsIdle}
 use Rattle.ck_words.specs.Retries.{Stays}

@@ -11,13 +11,13 @@ use Rattle.ck_model.specs.declared.history.Reason.{Reason}
 use Rattle.ck_model.specs.declared.settings.Settings.{Settings}
 use Rattle.ck_model.specs.Map.{Name}
 use Rattle.ck_model.specs.Numbered.{Holds, without}
-use Rattle.ck_model.specs.Contents.{Layout, Stripes, Lawful}
+use Rattle.ck_model.specs.Contents.{Layout, layout_of, Stripes, Lawful}
 use Rattle.ck_model.specs.Sections.{Section, IdentitySection}
 use Rattle.ck_section.specs.Stripes.{contents_of}
 use Rattle.ck_core.specs.declared.view.View.{View}
 use Rattle.ck_core.specs.Steps.{Move, IsExcused, HasGrounds}
 use Rattle.ck_core.specs.Steps.Move.{Give, Decide, Renew}
-use Rattle.ck_words.specs.Rule.{StripeSlot, Hand, RuleOf, layout_of}
+use Rattle.ck_words.specs.Rule.{StripeSlot, Hand, RuleOf}
 use Rattle.ck_words.specs.Steps.{Steps}
 use Rattle.ck_words.specs.Plays.{SeatGives, contents_in}
 use Rattle.ck_words.specs.Words.{WordsState}

@@ -1,11 +1,11 @@
 -- What a meeting and a joined pass leave, from what their steps tell.
 use Rattle.std.proofs.Common.{◌≡◌, ℕ, sym, ap, refl, subst}
 use Rattle.ck_model.specs.Map.{Name}
+use Rattle.ck_model.specs.Contents.{layout_of}
 use Rattle.ck_core.specs.declared.view.View.{View}
 use Rattle.ck_core.specs.Laws.{Shows}
 use Rattle.ck_core.specs.Steps.{joining, messenger}
 use Rattle.ck_core.specs.Steps.Move.{Look}
-use Rattle.ck_words.specs.Rule.{layout_of}
 use Rattle.ck_words.specs.Words.{WordsState}
 use Rattle.ck_words.specs.Passes.{PassState, LooksUp}
 use Rattle.ck_words.specs.Meeting.{Meets}

@@ -12,7 +12,7 @@ use Rattle.ck_model.specs.declared.history.Entry.{Entry}
 use Rattle.ck_model.specs.declared.settings.Settings.{Settings}
 use Rattle.ck_model.specs.Map.{Name, Map, Answers, AnswersTwo, Step}
 use Rattle.ck_model.specs.History.{IsLegal}
-use Rattle.ck_model.specs.Contents.{Stripes, Lawful, bindings}
+use Rattle.ck_model.specs.Contents.{layout_of, Stripes, Lawful, bindings}
 use Rattle.ck_model.specs.Sections.{Section}
 use Rattle.ck_section.specs.Stripes.{contents_of}
 use Rattle.ck_core.specs.declared.view.View.{View}
@@ -20,7 +20,6 @@ use Rattle.ck_core.specs.Steps.{deciding}
 use Rattle.ck_core.specs.Steps.Move.{Decide}
 use Rattle.ck_core.specs.Laws.{Answered}
 use Rattle.ck_core.proofs.Shown.{answered}
-use Rattle.ck_words.specs.Rule.{layout_of}
 use Rattle.ck_words.specs.Steps.{Steps}
 use Rattle.ck_words.specs.Words.{WordsState}
 use Rattle.ck_words.specs.Passes.{PassState, Sends}

@@ -9,7 +9,7 @@ use Rattle.ck_model.specs.declared.contents.Content.{Content}
 use Rattle.ck_model.specs.declared.settings.Settings.{Settings}
 use Rattle.ck_model.specs.Map.{Name}
 use Rattle.ck_model.specs.Numbered.{numbers, Holds}
-use Rattle.ck_model.specs.Contents.{Stripes}
+use Rattle.ck_model.specs.Contents.{layout_of, Stripes}
 use Rattle.ck_model.proofs.Numbered.{in_held}
 use Rattle.ck_core.specs.declared.view.View.{View}
 use Rattle.ck_core.specs.State.{World}
@@ -19,7 +19,6 @@ use Rattle.ck_core.specs.Laws.{Shows}
 use Rattle.ck_core.proofs.Lists.{set_there}
 use Rattle.ck_core.proofs.Keeps.{step_keeps}
 use Rattle.ck_core.proofs.Shown.{shows}
-use Rattle.ck_words.specs.Rule.{layout_of}
 use Rattle.ck_words.specs.Steps.{Steps}
 
 module _ {V : Type 0} (hash : Name → ℕ) (set : Settings) where

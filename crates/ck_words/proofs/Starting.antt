@@ -15,7 +15,7 @@ use Rattle.ck_model.specs.declared.contents.Content.{Content}
 use Rattle.ck_model.specs.Map.{Name, name_cmp}
 use Rattle.ck_model.specs.Ranges.{AreInRange}
 use Rattle.ck_model.specs.Numbered.{IsIn, AreDistinct, Holds}
-use Rattle.ck_model.specs.Contents.{Layout, Binds, bindings, IsSound, Lawful, whole}
+use Rattle.ck_model.specs.Contents.{Layout, layout_of, Binds, bindings, IsSound, Lawful, whole}
 use Rattle.ck_model.proofs.Numbered.{Some-injective, same_option, in_listed, distinct_listed}
 use Rattle.ck_model.proofs.Names.{maps_alike}
 use Rattle.ck_model.proofs.Found.{bound_where}
@@ -27,7 +27,7 @@ use Rattle.ck_core.specs.State.{World, Law}
 use Rattle.ck_core.specs.Steps.{Opening, opener}
 use Rattle.ck_core.proofs.Lists.{at_snoc, at_longer}
 use Rattle.ck_core.proofs.Openings.{opens}
-use Rattle.ck_words.specs.Rule.{StripeSlot, IsNumbered, IsKept, RuleOf, layout_of, lying, counting, first_view}
+use Rattle.ck_words.specs.Rule.{StripeSlot, IsNumbered, IsKept, RuleOf, lying, counting, first_view}
 use Rattle.ck_words.specs.Opening.{fresh, fresh_slots}
 use Rattle.ck_words.proofs.Spacing.{spaced-zeros}
 use Rattle.ck_words.proofs.Reversed.{map-append}

@@ -6,11 +6,11 @@ use Rattle.ck_model.specs.declared.contents.Content.{Content}
 use Rattle.ck_model.specs.Map.{Name}
 use Rattle.ck_model.specs.Ranges.{AreInRange}
 use Rattle.ck_model.specs.Numbered.{Holds}
-use Rattle.ck_model.specs.Contents.{Layout, Lawful, IsSound, pairs_in, pairs_of}
+use Rattle.ck_model.specs.Contents.{Layout, layout_of, Lawful, IsSound, pairs_in, pairs_of}
 use Rattle.ck_stripe.specs.Stripe.{StripeState, IsShaped}
 use Rattle.ck_stripe.proofs.Writes.{few_entries}
 use Rattle.ck_section.specs.Stripes.{stripe_at, contents_of, settled_stripes}
-use Rattle.ck_words.specs.Rule.{counting, layout_of}
+use Rattle.ck_words.specs.Rule.{counting}
 use Rattle.ck_words.specs.Passes.{PassState, IsUnchanged, ShowsSeen, numbers_of}
 use Rattle.ck_words.specs.Closing.{IsWhole}
 use Rattle.ck_words.proofs.Seating.{length-numbers}

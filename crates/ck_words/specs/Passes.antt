@@ -5,14 +5,14 @@ use Rattle.atomic_table.specs.Table.{turned}
 use Rattle.ck_model.specs.declared.settings.Settings.{Settings}
 use Rattle.ck_model.specs.Map.{Name}
 use Rattle.ck_model.specs.Numbered.{numbers}
-use Rattle.ck_model.specs.Contents.{Stripes}
+use Rattle.ck_model.specs.Contents.{layout_of, Stripes}
 use Rattle.ck_stripe.specs.Stripe.{StripeState}
 use Rattle.ck_section.specs.Stripes.{contents_of}
 use Rattle.ck_core.specs.declared.view.View.{View}
 use Rattle.ck_core.specs.Steps.{Move, IsAbove}
 use Rattle.ck_core.specs.Steps.Move.{Take, FindHeld, Look}
 use Rattle.ck_core.specs.Laws.{Shows}
-use Rattle.ck_words.specs.Rule.{StripeSlot, Hand, IsNumbered, layout_of}
+use Rattle.ck_words.specs.Rule.{StripeSlot, Hand, IsNumbered}
 use Rattle.ck_words.specs.Steps.{Steps}
 use Rattle.ck_words.specs.Plays.{stripe_in}
 use Rattle.ck_words.specs.Words.{WordsState}

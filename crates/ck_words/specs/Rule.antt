@@ -8,12 +8,11 @@ use Rattle.ck_model.specs.declared.history.Entry.{Entry}
 use Rattle.ck_model.specs.declared.settings.Settings.{Settings}
 use Rattle.ck_model.specs.declared.contents.Content.{Content}
 use Rattle.ck_model.specs.Map.{Name}
-use Rattle.ck_model.specs.Contents.{Layout}
+use Rattle.ck_model.specs.Contents.{Layout, layout_of}
 use Rattle.ck_stripe.specs.Stripe.{StripeState}
 use Rattle.ck_core.specs.declared.view.View.{View}
 use Rattle.ck_core.specs.State.{World, Law}
 use Rattle.ck_core.specs.Steps.{opener}
-use Rattle.ck_section.specs.Calls.{layout}
 
 -- what a slot contains
 abbrev pub StripeSlot : Type 0 → Type 0
@@ -22,9 +21,6 @@ StripeSlot V = Option (StripeState V)
 -- a seat's view, and the slots that it holds
 abbrev pub Hand : Type 0 → Type 0
 Hand V = Me (StripeSlot V) (View V)
-
-abbrev pub layout_of : (Name → ℕ) → Settings → Layout
-layout_of hash set = layout hash set.s set.max
 
 -- The words of n stripes. They stand 64 bytes apart, so that no two are in one line of a cache, and the seven words between two of them are never written.
 abbrev pub spaced : ℕ → List ℕ → List ℕ

@@ -5,10 +5,10 @@ use lib.ListN.{get_elem?}
 use Rattle.ck_model.specs.declared.history.Entry.{Entry}
 use Rattle.ck_model.specs.declared.settings.Settings.{Settings}
 use Rattle.ck_model.specs.Map.{Name}
+use Rattle.ck_model.specs.Contents.{layout_of}
 use Rattle.ck_core.specs.declared.view.View.{View}
 use Rattle.ck_core.specs.State.{World, Law}
 use Rattle.ck_core.specs.Steps.{Move, Does}
-use Rattle.ck_words.specs.Rule.{layout_of}
 
 -- A caller went from the view v to w by this step of the core, in a state under the law with this history.
 pub record Steps {V : Type 0} (hash : Name → ℕ) (set : Settings) (m : Move V) (v w : View V) : Type 0 where

@@ -2,11 +2,10 @@
 //! else but a split or a join changes what a pass knows, and nothing else which stripes it holds.
 ghost use Rattle.std.specs.Prelude.{◌≡◌, ◌<◌, ◌^◌, Some, None, reverse};
 ghost use Rattle.ck_model.specs.Numbered.{numbers};
-ghost use Rattle.ck_model.specs.Contents.{Lawful};
+ghost use Rattle.ck_model.specs.Contents.{layout_of, Lawful};
 ghost use Rattle.ck_model.specs.Sections.{Section, IdentitySection};
 ghost use Rattle.ck_core.specs.Steps.{Move, IsAbove, IsExcused, HasGrounds};
 ghost use Rattle.ck_section.specs.Stripes.{contents_of};
-ghost use Rattle.ck_words.specs.Rule.{layout_of};
 ghost use Rattle.ck_words.specs.Passes.{IsPassOf, IsHighest, IsUnchanged, TriesStripe, Sends, LooksUp};
 
 use crate::pass::Pass;

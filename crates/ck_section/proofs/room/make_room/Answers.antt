@@ -1,9 +1,8 @@
 use Rattle.std.proofs.Common.{◌≡◌, ℕ, ◌+◌, ◌≤◌, List, sym, ◌∙◌, subst, arith}
-use Rattle.ck_model.specs.Contents.{Stripes}
+use Rattle.ck_model.specs.Contents.{layout, Stripes}
 use Rattle.ck_model.specs.Sections.{IdentitySection}
 use Rattle.ck_stripe.specs.Stripe.{StripeState}
 use Rattle.ck_section.specs.Stripes.{contents_of}
-use Rattle.ck_section.specs.Calls.{layout}
 use Rattle.ck_section.specs.declared.room.Lack.{Lack}
 use Rattle.ck_section.specs.Room.{power_in, GivesReason}
 use Rattle.ck_section.proofs.Doublings.{identity_on}

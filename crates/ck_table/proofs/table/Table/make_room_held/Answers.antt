@@ -1,11 +1,10 @@
 use Rattle.std.proofs.Common.{rules, ◌≡◌, reverse, sym, subst}
-use Rattle.ck_model.specs.Contents.{Lawful}
+use Rattle.ck_model.specs.Contents.{layout_of, Lawful}
 use Rattle.ck_model.specs.Paths.{Grounds}
 use Rattle.ck_section.specs.declared.room.Lack.{Lack}
 use Rattle.ck_section.specs.Stripes.{contents_of}
 use Rattle.ck_section.specs.Room.{reason_of_lack}
 use Rattle.ck_section.proofs.Tables.{err_maps}
-use Rattle.ck_words.specs.Rule.{layout_of}
 use Rattle.ck_table.proofs.Rooms.{grounds_there, has_entry}
 use Rattle.ck_table.proofs.table.Table.make_room_held.Goals as goal
 

@@ -1,6 +1,7 @@
 use Rattle.std.proofs.Common.{◌∙◌, ap, refl, arith}
 use Rattle.atomic_table.specs.Seated.{TableId}
-use Rattle.ck_words.specs.Rule.{Hand, layout_of}
+use Rattle.ck_model.specs.Contents.{layout_of}
+use Rattle.ck_words.specs.Rule.{Hand}
 use Rattle.ck_words.specs.Passes.{PassState}
 use Rattle.ck_words.proofs.Allowed.{open_allowed}
 use Rattle.ck_words.proofs.Seating.{ready_on, seated_view, seated_none}

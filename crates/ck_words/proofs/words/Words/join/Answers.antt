@@ -1,5 +1,5 @@
 use Rattle.std.proofs.Common.{◌∙◌, ap, refl}
-use Rattle.ck_words.specs.Rule.{layout_of}
+use Rattle.ck_model.specs.Contents.{layout_of}
 use Rattle.ck_words.specs.Passes.{PassState}
 use Rattle.ck_words.proofs.Allowed.{join_allowed}
 use Rattle.ck_words.proofs.Seating.{ready_on, seated_view, empty_seat}

@@ -1,6 +1,7 @@
 use Rattle.std.proofs.Common.{◌≡◌, ◌∙◌, ap, refl}
+use Rattle.ck_model.specs.Contents.{layout_of}
 use Rattle.ck_core.specs.Steps.{messenger}
-use Rattle.ck_words.specs.Rule.{Hand, layout_of}
+use Rattle.ck_words.specs.Rule.{Hand}
 use Rattle.ck_words.specs.Passes.{PassState, state_of}
 use Rattle.ck_words.proofs.Meets.{heard, meets}
 use Rattle.ck_words.proofs.Allowed.{tell_allowed, join_allowed}
