@@ -13,12 +13,16 @@ has_free [] = false
 has_free (None ∷ s) = true
 has_free (Some t ∷ s) = has_free s
 
--- From bucket b each hop takes an entry of a full bucket to its other bucket, and the last bucket has a free slot.
+-- From bucket b each hop takes an entry of a full bucket to its other bucket, and the last bucket has a free slot, where Shows says what a bucket may look like.
+abbrev pub IsPathAlong : (ℕ → Sketch → Type 0) → ℕ → ℕ → List PathHop → ℕ → Type 0
+IsPathAlong Shows p b [] end = (b ≡ end) × ((s : Sketch) × Shows b s × IsTrue (has_free s))
+IsPathAlong Shows p b (h ∷ hops) end =
+    (h.bucket ≡ b) × ((s : Sketch) × Shows b s × (has_free s ≡ false) × (slice_get s h.slot ≡ Some (Some h.partial)))
+    × IsPathAlong Shows p (alternate_of p h.partial b) hops end
+
+-- such a path where each bucket has one sketch
 abbrev pub IsSketchPathFrom : ℕ → (ℕ → Sketch) → ℕ → List PathHop → ℕ → Type 0
-IsSketchPathFrom p sketches b [] end = (b ≡ end) × IsTrue (has_free (sketches b))
-IsSketchPathFrom p sketches b (h ∷ hops) end =
-    (h.bucket ≡ b) × (has_free (sketches b) ≡ false) × (slice_get (sketches b) h.slot ≡ Some (Some h.partial))
-    × IsSketchPathFrom p sketches (alternate_of p h.partial b) hops end
+IsSketchPathFrom p sketches b hops end = IsPathAlong (λ c s. sketches c ≡ s) p b hops end
 
 -- a path from one of two buckets
 abbrev pub IsSketchPath : ℕ → (ℕ → Sketch) → ℕ → ℕ → List PathHop → ℕ → Type 0

@@ -6,8 +6,9 @@ use Rattle.std.proofs.lemmas.Option.{slice_get_within}
 use Rattle.ck_model.specs.Arithmetic.{alternate_of}
 use Rattle.ck_model.specs.declared.hop.PathHop.{PathHop}
 use Rattle.ck_path.specs.declared.node.Node.{Node}
-use Rattle.ck_model.specs.Sketches.{Sketch, has_free, IsSketchPathFrom, IsSketchPath, HasNoSketchPath}
-use Rattle.ck_path.specs.Route.{Route, IsSeenFrom, IsShortestPath}
+use Rattle.ck_model.specs.Sketches.{Sketch, has_free, IsPathAlong, IsSketchPathFrom, IsSketchPath, HasNoSketchPath}
+use Rattle.ck_model.proofs.Sketches.{free_of, full_of}
+use Rattle.ck_path.specs.Route.{Route, IsShortestPath}
 use Rattle.ck_path.specs.Queue.{Queue, IsBelow, IsSoundNode, IsSoundQueue}
 use Rattle.ck_path.specs.Progress.{Covers, IsSearchSeeing, IsSearchOver}
 use Rattle.ck_path.specs.Trace.{IsHop, LeadsDown, IsTrace}
@@ -34,7 +35,7 @@ leads_depth q last sound (h ∷ hops) n leads =
 
 module _ (q : Queue) (sound : IsSoundQueue q) (Seen : ℕ → Sketch → Type 0) (p b1 b2 : ℕ) (sees : IsSearchSeeing Seen p b1 b2 q)
     (last : Node) (s : Sketch) (was_seen : Seen last.bucket s) (free : has_free s ≡ true) where
-  leads_seen : (hops : List PathHop) (n : Node) → LeadsDown q.nodes n hops last → IsSeenFrom Seen p n.bucket hops last.bucket
+  leads_seen : (hops : List PathHop) (n : Node) → LeadsDown q.nodes n hops last → IsPathAlong Seen p n.bucket hops last.bucket
   leads_seen [] n leads = (ap (λ (x : Node). x.bucket) leads, (s, subst (λ (x : Node). Seen x.bucket s) (sym leads) was_seen, free))
   leads_seen (h ∷ hops) n leads =
       let c : Node = leads.0 in
@@ -45,25 +46,18 @@ module _ (q : Queue) (sound : IsSoundQueue q) (Seen : ℕ → Sketch → Type 0)
       (hop_up q sound n c h hop).1 ∙ ap (λ x. alternate_of x h.partial n.bucket) sees.power in (
         hop.bucket,
         (seen.0, seen.1, seen.2, rw (hop.slot, hop.partial) seen.3),
-        subst (λ x. IsSeenFrom Seen p x hops last.bucket) there (leads_seen hops c leads.2),
+        subst (λ x. IsPathAlong Seen p x hops last.bucket) there (leads_seen hops c leads.2),
       )
 
   -- the path to a bucket with a free slot
   pub seen_path : (route : Route) → route.end ≡ last.bucket → IsTrace q.nodes route.hops last
-      → IsSeenFrom Seen p b1 route.hops route.end ⊎ IsSeenFrom Seen p b2 route.hops route.end
+      → IsPathAlong Seen p b1 route.hops route.end ⊎ IsPathAlong Seen p b2 route.hops route.end
   seen_path route end trace =
-      let path : IsSeenFrom Seen p trace.root.bucket route.hops route.end = rw end (leads_seen route.hops trace.root trace.leads) in
+      let path : IsPathAlong Seen p trace.root.bucket route.hops route.end = rw end (leads_seen route.hops trace.root trace.leads) in
       elim (sees.roots trace.k trace.root trace.at trace.top) [
-        | inl one ↦ inl (subst (λ x. IsSeenFrom Seen p x route.hops route.end) one path)
-        | inr two ↦ inr (subst (λ x. IsSeenFrom Seen p x route.hops route.end) two path)
+        | inl one ↦ inl (subst (λ x. IsPathAlong Seen p x route.hops route.end) one path)
+        | inr two ↦ inr (subst (λ x. IsPathAlong Seen p x route.hops route.end) two path)
       ]
-
--- where each bucket has one sketch
-path_from_seen : (p : ℕ) (sketches : ℕ → Sketch) (b : ℕ) (hops : List PathHop) (end : ℕ)
-    → IsSeenFrom (λ x s. sketches x ≡ s) p b hops end → IsSketchPathFrom p sketches b hops end
-path_from_seen p sketches b [] end path = (path.0, ap has_free path.1.1 ∙ path.1.2)
-path_from_seen p sketches b (h ∷ hops) end path =
-    (path.0, ap has_free path.1.1 ∙ path.1.2, ap (λ u. slice_get u h.slot) path.1.1 ∙ path.1.3, path_from_seen p sketches (alternate_of p h.partial b) hops end path.2)
 
 module _ (p : ℕ) (sketches : ℕ → Sketch) (b1 b2 : ℕ) (q : Queue) (sound : IsSoundQueue q) (over : IsSearchOver p sketches b1 b2 q) where
   -- where all nodes above depth D were taken, no path ends above depth D
@@ -73,16 +67,13 @@ module _ (p : ℕ) (sketches : ℕ → Sketch) (b1 b2 : ℕ) (q : Queue) (sound 
       let above : c.node.depth < D = omega (arith, c.depth) in
       let full : has_free (sketches c.node.bucket) ≡ false = over.full c.k c.node (closed c.k c.node c.at above) c.at in
       not_free (has_free (sketches b)) (ap (λ x. has_free (sketches x)) (sym c.bucket) ∙ full)
-      (subst (λ x. IsTrue (has_free (sketches x))) (sym path.0) (ends_free b end path))
-    where
-      ends_free : (b end : ℕ) → IsSketchPathFrom p sketches b [] end → IsTrue (has_free (sketches end))
-      ends_free b end path = subst (λ x. IsTrue (has_free (sketches x))) path.0 path.1
+      (free_of (sketches b) path.1)
   dead D five closed (h ∷ hops) b d end c short path =
       let above : c.node.depth < D = omega (arith, c.depth) in
       let four : c.node.depth < 4 = omega (arith, c.depth) in
       let taken : c.k < q.taken = closed c.k c.node c.at above in
       let entry : slice_get (sketches c.node.bucket) h.slot ≡ Some (Some h.partial) =
-      ap (λ x. slice_get (sketches x) h.slot) c.bucket ∙ path.2 in
+      ap (λ x. slice_get (sketches x) h.slot) c.bucket ∙ (full_of (sketches b) h.slot (Some h.partial) path.1).1 in
       let next : Covers q.nodes (alternate_of p h.partial c.node.bucket) (c.node.depth + 1) =
       over.followed c.k c.node h.slot h.partial taken c.at four entry in
       let here : Covers q.nodes (alternate_of p h.partial b) (d + 1) = record {
@@ -92,7 +83,7 @@ module _ (p : ℕ) (sketches : ℕ → Sketch) (b1 b2 : ℕ) (q : Queue) (sound 
         bucket = next.bucket ∙ ap (λ x. alternate_of p h.partial x) c.bucket;
         depth = omega (arith, next.depth, c.depth);
       } in
-      dead D five closed hops (alternate_of p h.partial b) (d + 1) end here (omega arith) path.3
+      dead D five closed hops (alternate_of p h.partial b) (d + 1) end here (omega arith) path.2
 
   not_above : (D : ℕ) → D ≤ 5 → ((k : ℕ) (n : Node) → slice_get q.nodes k ≡ Some n → n.depth < D → k < q.taken)
       → (hops : List PathHop) (end : ℕ) → length hops < D → IsSketchPath p sketches b1 b2 hops end → ⊥
@@ -114,10 +105,7 @@ module _ (p : ℕ) (sketches : ℕ → Sketch) (b1 b2 : ℕ) (q : Queue) (sound 
         let me : IsSoundNode q.power q.nodes q.taken last = sound.each q.taken last here in
         let long : trace.root.depth + length route.hops ≡ last.depth = leads_depth q last sound route.hops trace.root trace.leads in
         let path : IsSketchPath p sketches b1 b2 route.hops route.end =
-        elim (seen_path q sound (λ b s. sketches b ≡ s) p b1 b2 over.sees last (sketches last.bucket) refl free route end trace) [
-          | inl one ↦ inl (path_from_seen p sketches b1 route.hops route.end one)
-          | inr two ↦ inr (path_from_seen p sketches b2 route.hops route.end two)
-        ] in
+        seen_path q sound (λ b s. sketches b ≡ s) p b1 b2 over.sees last (sketches last.bucket) refl free route end trace in
         let least : (hops : List PathHop) (end' : ℕ) → IsSketchPath p sketches b1 b2 hops end' → length route.hops ≤ length hops =
         λ hops end' other. elim (cases_lt (length hops) last.depth) [
           | inl less ↦ absurd (not_above last.depth (omega (arith, me.depth)) closed hops end' less other)

@@ -6,7 +6,6 @@ pub mod Ends
 pub mod Traces
 pub mod Starts
 pub mod Feeds
-pub mod Carry
 pub mod Shown
 pub mod Whole
 pub mod ShownPaths

@@ -1,5 +1,5 @@
 -- A path over the contents of a lawful whole is one over the sketches of its buckets, and the other way round.
-use Rattle.std.proofs.Common.{◌≡◌, ℕ, suc, ◌^◌, ◌<◌, List, [], ◌∷◌, length, refl, ap, subst, inl, inr, ⊎_elim, arith}
+use Rattle.std.proofs.Common.{◌≡◌, ℕ, suc, ◌^◌, ◌<◌, List, [], ◌∷◌, length, Some, refl, ap, subst, inl, inr, ⊎_elim, arith}
 use Rattle.ck_model.specs.declared.hop.PathHop.{PathHop}
 use Rattle.ck_model.specs.Arithmetic.{partial_of, index_of, alternate_of, second_of}
 use Rattle.ck_model.specs.Map.{Name}
@@ -9,6 +9,7 @@ use Rattle.ck_model.specs.Sections.{HasAll}
 use Rattle.ck_model.specs.Paths.{IsPathFrom, sketch_in}
 use Rattle.ck_model.specs.Sketches.{IsSketchPathFrom, IsSketchPath}
 use Rattle.ck_model.proofs.Buckets.{index_below, alternate_below, second_below}
+use Rattle.ck_model.proofs.Sketches.{free_of, full_of}
 use Rattle.ck_path.specs.Laws.{SketchesShowPaths}
 use Rattle.ck_path.proofs.Shown.{free_shown, free_there, full_shown, full_there, entry_shown, entry_there}
 use Rattle.ck_path.proofs.Whole.{four_slots}
@@ -24,7 +25,7 @@ module _ {V : Type 0} (k : Layout) (hs : Stripes V) (lawful : Lawful k hs) (all 
   shown : (cs : List ℕ) (b : ℕ) → b < 2 ^ power_of hs → IsPathFrom k hs b cs → IsShown k hs b cs
   shown [] b below free =
       let four : length (bucket_in k hs b) ≡ 4 = four_slots k hs lawful all b below in
-      record { hops = []; end = b; long = refl; path = (refl, free_shown k.hash (bucket_in k hs b) free.0 (omega (arith, free.1)) free.2) }
+      record { hops = []; end = b; long = refl; path = (refl, (sketch_in k hs b, refl, free_shown k.hash (bucket_in k hs b) free.0 (omega (arith, free.1)) free.2)) }
   shown (c ∷ cs) b below path =
       let four : length (bucket_in k hs b) ≡ 4 = four_slots k hs lawful all b below in
       let i : ℕ = path.1.0 in
@@ -37,8 +38,12 @@ module _ {V : Type 0} (k : Layout) (hs : Stripes V) (lawful : Lawful k hs) (all 
         long = ap suc rest.long;
         path = (
           refl,
-          full_shown k.hash (bucket_in k hs b) (λ j within. path.0 j (omega arith)),
-          entry_shown k.hash (bucket_in k hs b) i q path.1.2 path.1.3,
+          (
+            sketch_in k hs b,
+            refl,
+            full_shown k.hash (bucket_in k hs b) (λ j within. path.0 j (omega arith)),
+            entry_shown k.hash (bucket_in k hs b) i q path.1.2 path.1.3,
+          ),
           subst (λ x. IsSketchPathFrom (power_of hs) (sketch_in k hs) x rest.hops rest.end) next rest.path,
         );
       }
@@ -47,16 +52,17 @@ module _ {V : Type 0} (k : Layout) (hs : Stripes V) (lawful : Lawful k hs) (all 
       → (cs : List ℕ) × (length cs ≡ length hops) × IsPathFrom k hs b cs
   there [] b end below path =
       let four : length (bucket_in k hs b) ≡ 4 = four_slots k hs lawful all b below in
-      let free : (i : ℕ) × (i < length (bucket_in k hs b)) × (slot_at (bucket_in k hs b) i ≡ _) = free_there k.hash (bucket_in k hs b) path.1 in
+      let free : (i : ℕ) × (i < length (bucket_in k hs b)) × (slot_at (bucket_in k hs b) i ≡ _) = free_there k.hash (bucket_in k hs b) (free_of (sketch_in k hs b) path.1) in
       ([], refl, (free.0, omega (arith, free.1), free.2))
   there (h ∷ hops) b end below path =
       let four : length (bucket_in k hs b) ≡ 4 = four_slots k hs lawful all b below in
-      let entry = entry_there k.hash (bucket_in k hs b) h.slot h.partial path.2 in
-      let rest = there hops (alternate_of (power_of hs) h.partial b) end (alternate_below _ _ _) path.3 in (
+      let full = full_of (sketch_in k hs b) h.slot (Some h.partial) path.1 in
+      let entry = entry_there k.hash (bucket_in k hs b) h.slot h.partial full.1 in
+      let rest = there hops (alternate_of (power_of hs) h.partial b) end (alternate_below _ _ _) path.2 in (
         alternate_of (power_of hs) h.partial b ∷ rest.0,
         ap suc rest.1,
         (
-          λ i within. full_there k.hash (bucket_in k hs b) path.1 i (omega arith),
+          λ i within. full_there k.hash (bucket_in k hs b) full.0 i (omega arith),
           (h.slot, entry.0, entry.1, entry.2, ap (λ t. alternate_of (power_of hs) t b) entry.3),
           rest.2,
         ),

@@ -1,8 +1,8 @@
 -- What a found path is, in sketches that were seen and in those of one table.
-use Rattle.std.specs.Prelude.{◌≡◌, ◌≢◌, ℕ, ◌^◌, ◌<◌, ◌≤◌, ◌⊎◌, Bool, false, IsTrue, List, [], ◌∷◌, length, Some, slice_get}
+use Rattle.std.specs.Prelude.{◌≡◌, ◌≢◌, ℕ, ◌^◌, ◌<◌, ◌≤◌, ◌⊎◌, Bool, IsTrue, List, [], ◌∷◌, length}
 use Rattle.ck_model.specs.declared.hop.PathHop.{PathHop}
 use Rattle.ck_model.specs.Arithmetic.{alternate_of}
-use Rattle.ck_model.specs.Sketches.{Sketch, has_free, IsSketchPath}
+use Rattle.ck_model.specs.Sketches.{Sketch, IsPathAlong, IsSketchPath}
 
 -- the power that was searched, the hops from the key's bucket on, and the bucket at their end
 pub record Route : Type 0 where
@@ -27,18 +27,10 @@ pub record IsLinked (route : Route) : Type 0 where
   pub at_most_four : length route.hops ≤ 4
   pub linked : AreLinked route.power route.hops route.end
 
--- From bucket b each hop takes an entry of a full bucket to its other bucket, and the last bucket has a free slot. Each
--- bucket is as in a sketch that was seen of it.
-abbrev pub IsSeenFrom : (ℕ → Sketch → Type 0) → ℕ → ℕ → List PathHop → ℕ → Type 0
-IsSeenFrom Seen p b [] end = (b ≡ end) × ((s : Sketch) × Seen b s × IsTrue (has_free s))
-IsSeenFrom Seen p b (h ∷ hops) end =
-    (h.bucket ≡ b) × ((s : Sketch) × Seen b s × (has_free s ≡ false) × (slice_get s h.slot ≡ Some (Some h.partial)))
-    × IsSeenFrom Seen p (alternate_of p h.partial b) hops end
-
 -- a path from one of the two buckets of a key in sketches that were seen
 abbrev pub IsSeen : (ℕ → Sketch → Bool) → ℕ → ℕ → ℕ → Route → Type 0
 IsSeen seen p first second route =
-    IsSeenFrom (λ b s. IsTrue (seen b s)) p first route.hops route.end ⊎ IsSeenFrom (λ b s. IsTrue (seen b s)) p second route.hops route.end
+    IsPathAlong (λ b s. IsTrue (seen b s)) p first route.hops route.end ⊎ IsPathAlong (λ b s. IsTrue (seen b s)) p second route.hops route.end
 
 -- a bucket is none of those of the hops and their end
 abbrev pub Avoids : ℕ → List PathHop → ℕ → Type 0

@@ -15,6 +15,7 @@ use Rattle.ck_model.specs.Slots.{Slot, HasFree}
 use Rattle.ck_model.specs.Contents.{row_at}
 use Rattle.ck_model.specs.Sketches.{Sketch, has_free, IsSketchPathFrom}
 use Rattle.ck_model.proofs.Buckets.{alternate_below}
+use Rattle.ck_model.proofs.Sketches.{free_of, full_of}
 use Rattle.ck_model.proofs.Writes.{row_inside, slot_inside}
 use Rattle.ck_bucket.specs.Bucket.{partial_in}
 use Rattle.ck_path.specs.Route.{Route, first_bucket, AreLinked, IsLinked, Avoids, VisitsOnce}
@@ -52,14 +53,14 @@ pub last_hop : (p : ℕ) (sketches : ℕ → Sketch) (b : ℕ) (hs : List PathHo
     → HaveFour sketches (hs ++ (h ∷ [])) t → IsLastHop p sketches h t
 last_hop p sketches b [] h t below path once four = record {
   below = subst (λ n. n < 2 ^ p) (sym path.0) below;
-  target = sym path.3.0 ∙ ap (alternate_of p h.partial) (sym path.0);
+  target = sym path.2.0 ∙ ap (alternate_of p h.partial) (sym path.0);
   apart = once.0;
-  entry = subst (λ n. slice_get (sketches n) h.slot ≡ Some (Some h.partial)) (sym path.0) path.2;
+  entry = subst (λ n. slice_get (sketches n) h.slot ≡ Some (Some h.partial)) (sym path.0) (full_of (sketches b) h.slot (Some h.partial) path.1).1;
   four = four.0;
-  free = subst (λ n. IsTrue (has_free (sketches n))) path.3.0 path.3.1;
+  free = subst (λ n. IsTrue (has_free (sketches n))) path.2.0 (free_of (sketches (alternate_of p h.partial b)) path.2.1);
   four_there = four.1;
 }
-last_hop p sketches b (g ∷ gs) h t below path once four = last_hop p sketches (alternate_of p g.partial b) gs h t (alternate_below p g.partial b) path.3 once.1 four.1
+last_hop p sketches b (g ∷ gs) h t below path once four = last_hop p sketches (alternate_of p g.partial b) gs h t (alternate_below p g.partial b) path.2 once.1 four.1
 
 -- What is left of a path whose last hop was carried out: it ends at the bucket that the hop has left.
 pub record IsLeft (p : ℕ) (sketches : ℕ → Sketch) (b : ℕ) (hs : List PathHop) (t : ℕ) : Type 0 where
@@ -70,21 +71,20 @@ pub record IsLeft (p : ℕ) (sketches : ℕ → Sketch) (b : ℕ) (hs : List Pat
 pub hop_left : (p : ℕ) (before after : ℕ → Sketch) (b : ℕ) (hs : List PathHop) (h : PathHop) (t : ℕ) → ((c : ℕ) → c ≢ h.bucket → c ≢ t → after c ≡ before c) → IsTrue (has_free (after h.bucket)) → length (after h.bucket) ≡ 4
     → IsLeft p before b (hs ++ (h ∷ [])) t → IsLeft p after b hs h.bucket
 hop_left p before after b [] h t others free four left = record {
-  path = (sym left.path.0, subst (λ n. IsTrue (has_free (after n))) left.path.0 free);
+  path = (sym left.path.0, (after b, refl, subst (λ n. IsTrue (has_free (after n))) left.path.0 free));
   once = tt;
   four = four;
 }
 hop_left p before after b (g ∷ gs) h t others free four left =
     let next : ℕ = alternate_of p g.partial b in
-    let rest : IsLeft p after next gs h.bucket = hop_left p before after next gs h t others free four (record { path = left.path.3; once = left.once.1; four = left.four.1 }) in
+    let rest : IsLeft p after next gs h.bucket = hop_left p before after next gs h t others free four (record { path = left.path.2; once = left.once.1; four = left.four.1 }) in
     let far = avoids_last g.bucket gs h t left.once.0 in
     let same : after g.bucket ≡ before g.bucket = others g.bucket far.0 far.1 in
     let same_b : after b ≡ before b = subst (λ n. after n ≡ before n) left.path.0 same in
     record {
       path = (
         left.path.0,
-        ap has_free same_b ∙ left.path.1,
-        ap (λ (k : Sketch). slice_get k g.slot) same_b ∙ left.path.2,
+        (left.path.1.0, same_b ∙ left.path.1.1, left.path.1.2, left.path.1.3),
         rest.path,
       );
       once = (far.2, rest.once);
@@ -230,4 +230,4 @@ pub end_free : {V : Type 0} (hash : Name → ℕ) (s : ℕ) (stripes : List (Str
     → HasFree (bucket_at stripes (b % 2 ^ s) b)
 end_free hash s stripes p b todo i t past left =
     let none : IsLeft p (sketch_of hash s stripes) b [] t = subst (λ (hs : List PathHop). IsLeft p (sketch_of hash s stripes) b hs t) (ap reverse (drop_all i todo past)) left in
-    free_in hash s stripes b none.path.1 (subst (λ n. length (sketch_of hash s stripes n) ≡ 4) (sym none.path.0) none.four)
+    free_in hash s stripes b (free_of (sketch_of hash s stripes b) none.path.1) (subst (λ n. length (sketch_of hash s stripes n) ≡ 4) (sym none.path.0) none.four)

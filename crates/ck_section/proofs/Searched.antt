@@ -3,12 +3,12 @@ use Rattle.std.proofs.Common.{◌≡◌, ℕ, ◌*◌, ◌%◌, ◌^◌, ◌≤�
 use Rattle.std.proofs.lemmas.Bool.{eqb-true, eq-eqb}
 use Rattle.std.proofs.lemmas.List.{length-map}
 use Rattle.ck_model.specs.declared.hop.PathHop.{PathHop}
-use Rattle.ck_model.specs.Sketches.{Sketch, IsSketchPathFrom}
+use Rattle.ck_model.specs.Sketches.{Sketch, IsPathAlong, IsSketchPathFrom}
 use Rattle.ck_model.specs.Arithmetic.{alternate_of, index_of, second_of}
 use Rattle.ck_model.specs.Map.{Name}
 use Rattle.ck_model.specs.Slots.{Slot}
 use Rattle.ck_model.specs.Contents.{IsBucketOf}
-use Rattle.ck_path.specs.Route.{Route, first_bucket, IsSeenFrom, IsSeen}
+use Rattle.ck_path.specs.Route.{Route, first_bucket, IsSeen}
 use Rattle.ck_path.specs.Queue.{Queue, wanted}
 use Rattle.ck_bucket.specs.Bucket.{partial_in}
 use Rattle.ck_stripe.specs.Stripe.{StripeState}
@@ -20,7 +20,7 @@ use Rattle.ck_section.proofs.Tables.{mask}
 abbrev pub is_four : (ℕ → Sketch) → ℕ → Sketch → Bool
 is_four sketches b s = eqb (length (sketches b)) 4
 
-four_from : (sketches : ℕ → Sketch) (p b : ℕ) (hops : List PathHop) (end : ℕ) → IsSeenFrom (λ c s. IsTrue (is_four sketches c s)) p b hops end → HaveFour sketches hops end
+four_from : (sketches : ℕ → Sketch) (p b : ℕ) (hops : List PathHop) (end : ℕ) → IsPathAlong (λ c s. IsTrue (is_four sketches c s)) p b hops end → HaveFour sketches hops end
 four_from sketches p b [] end seen = subst (λ n. length (sketches n) ≡ 4) seen.0 (eqb-true (length (sketches b)) 4 seen.1.1)
 four_from sketches p b (h ∷ hops) end seen = (
   subst (λ n. length (sketches n) ≡ 4) (sym seen.0) (eqb-true (length (sketches b)) 4 seen.1.1),
