@@ -1,7 +1,7 @@
 //! A table of stripes in one slice.
 ghost use Rattle.std.specs.Prelude.{◌≡◌};
 ghost use Rattle.ck_section.specs.Calls.{ChangesContents};
-ghost use Rattle.ck_section.specs.Whole.{AreAll};
+ghost use Rattle.ck_section.specs.Whole.{AreAllHeld};
 
 use crate::calls::{Calls, POWER};
 use ck_key::NumKey;
@@ -16,7 +16,7 @@ const S: u32 = 10;
 #[derive(Drop)]
 pub struct Stripes {
     stripes: Vec<Stripe<NumKey, u64>>,
-    ghost all: { AreAll 10 stripes.items },
+    ghost all: { AreAllHeld 10 stripes.items },
 }
 
 impl Stripes {
@@ -52,7 +52,7 @@ impl Calls for Stripes {
 }
 
 fn find_in(stripes: &mut [Stripe<NumKey, u64>], key: NumKey) -> Option<u64>
-    requires { AreAll 10 stripes.old }
+    requires { AreAllHeld 10 stripes.old }
     ensures { stripes.new ≡ stripes.old }
 {
     let place = place_in_all(stripes, S, &key);
@@ -61,7 +61,7 @@ fn find_in(stripes: &mut [Stripe<NumKey, u64>], key: NumKey) -> Option<u64>
 }
 
 fn update_in(stripes: &mut [Stripe<NumKey, u64>], key: NumKey, value: u64) -> Option<u64>
-    requires { AreAll 10 stripes.old }
+    requires { AreAllHeld 10 stripes.old }
     ensures { ChangesContents stripes.old stripes.new }
 {
     let place = place_in_all(stripes, S, &key);
@@ -70,7 +70,7 @@ fn update_in(stripes: &mut [Stripe<NumKey, u64>], key: NumKey, value: u64) -> Op
 }
 
 fn erase_in(stripes: &mut [Stripe<NumKey, u64>], key: NumKey) -> Option<u64>
-    requires { AreAll 10 stripes.old }
+    requires { AreAllHeld 10 stripes.old }
     ensures { ChangesContents stripes.old stripes.new }
 {
     let place = place_in_all(stripes, S, &key);
@@ -79,7 +79,7 @@ fn erase_in(stripes: &mut [Stripe<NumKey, u64>], key: NumKey) -> Option<u64>
 }
 
 fn insert_in(stripes: &mut [Stripe<NumKey, u64>], key: NumKey, value: u64) -> Option<bool>
-    requires { AreAll 10 stripes.old }
+    requires { AreAllHeld 10 stripes.old }
     ensures { ChangesContents stripes.old stripes.new }
 {
     let place = place_in_all(stripes, S, &key);

@@ -14,7 +14,7 @@ use Rattle.ck_section.specs.declared.place.KeyPlace.{KeyPlace}
 use Rattle.ck_section.specs.Stripes.{no_stripe, stripe_at, bucket_at, IsInReach}
 use Rattle.ck_section.specs.Places.{IsPlaceOf, at}
 use Rattle.ck_section.specs.Entries.{IsOccupied}
-use Rattle.ck_section.specs.Whole.{AreAll}
+use Rattle.ck_section.specs.Whole.{AreAllHeld}
 use Rattle.ck_section.proofs.Decided.{IsCallOn}
 use Rattle.ck_section.proofs.Steps.{lacked, kept}
 
@@ -34,11 +34,11 @@ module _ {V : Type 0} where
       subst (λ n. s ≤ n) (sym e) (subst (λ n. n ≤ t.content.power) same least)
 
   -- a bucket is in reach of the stripe that its number names
-  pub reach_of_all : (s : ℕ) (stripes : List (StripeState V)) → AreAll s stripes → (i b : ℕ) → i < length stripes → b < 2 ^ (stripe_at stripes i).content.power → b % 2 ^ s ≡ i → IsInReach stripes i b
+  pub reach_of_all : (s : ℕ) (stripes : List (StripeState V)) → AreAllHeld s stripes → (i b : ℕ) → i < length stripes → b < 2 ^ (stripe_at stripes i).content.power → b % 2 ^ s ≡ i → IsInReach stripes i b
   reach_of_all s stripes all i b lt below low = record {
     inside = lt;
     settled = all.settled i lt;
-    own = (below, ap (λ n. b % 2 ^ n) (all.one_s i lt) ∙ low ∙ sym (all.number i lt));
+    own = (below, ap (λ n. b % 2 ^ n) (all.table.one_s i lt) ∙ low ∙ sym (all.table.number i lt));
   }
 
   -- what a look into a bucket shows

@@ -1,12 +1,9 @@
 -- All contents of a table, doubled.
 use Rattle.std.proofs.Common.{◌≡◌, ◌⊎◌, inl, inr, ⊎_elim, ℕ, ◌+◌, ◌*◌, ◌/◌, ◌%◌, ◌^◌, ◌<◌, Bool, true, false, List, [], ◌∷◌, Some, map, refl, sym, ◌∙◌, ap, subst, arith}
-use mathlib.Core.Logic.{dite}
-use native.Mathlib.Decide.{ℕ_discrete}
 use Rattle.std.specs.FinMap.{find}
 use Rattle.std.specs.List.Sorted.{IsPermutation}
 use Rattle.std.proofs.Math.Nat.{add-mul-mod_self_right}
 use Rattle.std.proofs.lemmas.Nat.{div-add-mod'}
-use Rattle.std.proofs.lemmas.Option.{none-some}
 use Rattle.std.proofs.lemmas.List.Sorted.{IsPermutation-refl, IsPermutation-append}
 use Rattle.ck_model.specs.Arithmetic.{index_of, second_of}
 use Rattle.ck_model.specs.Map.{Name, name_cmp}
@@ -16,7 +13,6 @@ use Rattle.ck_model.specs.declared.contents.Content.{Content}
 use Rattle.ck_model.specs.Contents.{Layout, Stripes, row_at, rows_of, pairs_in, pairs_of, power_of, bucket_in, Binds, IsBucketOf, IsSound, Lawful}
 use Rattle.ck_model.specs.Sections.{HasAll, IdentitySection}
 use Rattle.ck_model.specs.Doubling.{bucket_after, IsDoubledTo}
-use Rattle.ck_model.proofs.Numbered.{if_same, if_else}
 use Rattle.ck_model.proofs.Rows.{rows_held, held_there, power_held}
 use Rattle.ck_model.proofs.Doubling.{bindings-permuted}
 use Rattle.ck_key.specs.Doubling.{grown_of, rises_of}

@@ -24,7 +24,8 @@ use Rattle.ck_stripe.specs.Stripe.{StripeState, bucket_of, with_slot}
 use Rattle.ck_section.specs.declared.hop.Hop.{Hop}
 use Rattle.ck_section.specs.declared.place.HeldSlot.{HeldSlot}
 use Rattle.ck_section.specs.Stripes.{no_stripe, stripe_at, bucket_at}
-use Rattle.ck_section.specs.Places.{AreAllHeld, slot_in, set_slot}
+use Rattle.ck_section.specs.Places.{slot_in, set_slot}
+use Rattle.ck_section.specs.Whole.{AreAllHeld}
 use Rattle.ck_section.specs.Hops.{source_in, IsHopIn, CanHop, Hops, lifted}
 use Rattle.ck_section.specs.Room.{HaveFour, sketch_of}
 use Rattle.ck_section.proofs.Found.{set_here}
@@ -134,7 +135,7 @@ module _ {V : Type 0} where
     in_mid = subst (λ (z : ℕ × ℕ). z.0 < z.1) (λ k. (sym hops.index k, sym (length-set old i (record (stripe_at old i) { content = with_slot (stripe_at old i) hop.bucket hop.slot None ((stripe_at old i).content.ledger - 1) })) k)) second
 
     s_mid : (stripe_at mid hops.to.index).s ≡ s
-    s_mid = keeps_s old from first None _ hops.to.index ∙ ap (λ n. (stripe_at old n).s) hops.index ∙ all.held.one_s (hop.target % 2 ^ s) second
+    s_mid = keeps_s old from first None _ hops.to.index ∙ ap (λ n. (stripe_at old n).s) hops.index ∙ all.table.one_s (hop.target % 2 ^ s) second
 
     own_mid : hops.to.index ≡ hops.to.bucket % 2 ^ s
     own_mid = hops.index ∙ ap (λ n. n % 2 ^ s) (sym hops.bucket)
@@ -146,7 +147,7 @@ module _ {V : Type 0} where
 
     -- Of the buckets the two of the hop alone change,
     pub others_stay : (c : ℕ) → c ≢ hop.bucket → c ≢ hop.target → sketch_of hash s new c ≡ sketch_of hash s old c
-    others_stay c ne nt = ap (map (partial_in hash)) (after_mid c nt ∙ bucket_other old from first None _ s (all.held.one_s i first) refl c ne)
+    others_stay c ne nt = ap (map (partial_in hash)) (after_mid c nt ∙ bucket_other old from first None _ s (all.table.one_s i first) refl c ne)
 
     source_after : bucket_at new i hop.bucket ≡ slice_set (bucket_at old i hop.bucket) hop.slot None
     source_after = after_mid hop.bucket apart ∙ bucket_here old from first None _ (hops.name, hops.value) hops.entry
@@ -189,18 +190,18 @@ module _ {V : Type 0} where
   hop_in s stripes all hop first second below target =
       let i : ℕ = hop.bucket % 2 ^ s in
       let j : ℕ = hop.target % 2 ^ s in
-      let held = all.held in
+      let table = all.table in
       record {
         first = first;
         second = second;
-        first_settled = held.settled i first;
-        second_settled = held.settled j second;
-        one_s = held.one_s j second ∙ sym (held.one_s i first);
-        one_power = held.one_power j second ∙ sym (held.one_power i first);
+        first_settled = all.settled i first;
+        second_settled = all.settled j second;
+        one_s = table.one_s j second ∙ sym (table.one_s i first);
+        one_power = table.one_power j second ∙ sym (table.one_power i first);
         below = below;
         target = target;
-        first_own = ap (λ n. hop.bucket % 2 ^ n) (held.one_s i first) ∙ sym (all.number i first);
-        second_own = ap (λ n. hop.target % 2 ^ n) (held.one_s j second) ∙ sym (all.number j second);
+        first_own = ap (λ n. hop.bucket % 2 ^ n) (table.one_s i first) ∙ sym (table.number i first);
+        second_own = ap (λ n. hop.target % 2 ^ n) (table.one_s j second) ∙ sym (table.number j second);
       }
 
 -- the hop that is next, from the end backwards

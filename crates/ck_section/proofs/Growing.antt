@@ -15,13 +15,13 @@ use Rattle.ck_model.specs.Contents.{Stripes, IsBucketOf}
 use Rattle.ck_model.proofs.Buckets.{index_below, second_below, index_lower, second_lower}
 use Rattle.ck_stripe.specs.Stripe.{StripeState}
 use Rattle.ck_section.specs.Stripes.{no_stripe, stripe_at, bucket_at, contents_of, settled_stripes, IsInReach}
-use Rattle.ck_section.specs.Places.{AreAllHeld, IsPlaceOf}
-use Rattle.ck_section.specs.Whole.{IsTable}
+use Rattle.ck_section.specs.Places.{IsPlaceOf}
+use Rattle.ck_section.specs.Whole.{AreAllHeld, IsTable}
 use Rattle.ck_section.specs.Calls.{IsWithRoom}
 use Rattle.ck_section.specs.Room.{power_in, settled_at, AreBothSettled}
 use Rattle.ck_section.specs.Doublings.{ChangesRoom}
 use Rattle.ck_section.proofs.Found.{has_room}
-use Rattle.ck_section.proofs.Tables.{held_of, stripe_inside}
+use Rattle.ck_section.proofs.Tables.{stripe_inside}
 
 module _ {V : Type 0} where
   -- the stripe by what places it in a table
@@ -79,9 +79,10 @@ module _ {V : Type 0} where
   contents_settled (t ∷ ts) = ap (λ (hs : Stripes V). (t.number, t.content) ∷ hs) (contents_settled ts)
 
   pub all_settled : (s : ℕ) (stripes : List (StripeState V)) → IsTable s stripes → AreAllHeld s (settled_stripes stripes)
-  all_settled s stripes table = held_of s (settled_stripes stripes)
-      (table_alike s stripes (settled_stripes stripes) (record { count = length-map stripes (λ (t : StripeState V). record t { settled = true }); each = λ i l. ap form (settled_each stripes i) }) table)
-      (λ i l. ap (λ (t : StripeState V). t.settled) (settled_each stripes i))
+  all_settled s stripes table = record {
+    table = table_alike s stripes (settled_stripes stripes) (record { count = length-map stripes (λ (t : StripeState V). record t { settled = true }); each = λ i l. ap form (settled_each stripes i) }) table;
+    settled = λ i l. ap (λ (t : StripeState V). t.settled) (settled_each stripes i);
+  }
 
   pub contents_settled_at : (stripes : List (StripeState V)) (i : ℕ) → contents_of (settled_at stripes i) ≡ contents_of stripes
   contents_settled_at [] i = refl

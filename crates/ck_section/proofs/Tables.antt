@@ -18,8 +18,8 @@ use Rattle.ck_bucket.specs.Bucket.{partial_in}
 use Rattle.ck_path.proofs.ShownPaths.{sketches_show_paths}
 use Rattle.ck_stripe.specs.Stripe.{StripeState}
 use Rattle.ck_section.specs.Stripes.{stripe_at, bucket_at, contents_of}
-use Rattle.ck_section.specs.Places.{AreAllHeld}
-use Rattle.ck_section.specs.Whole.{AreSettled, IsTable}
+use Rattle.ck_section.specs.Places.{AreHeld}
+use Rattle.ck_section.specs.Whole.{AreAllHeld, IsTable}
 use Rattle.ck_section.specs.Room.{power_in, sketch_of, IsWithoutPath}
 use Rattle.ck_model.proofs.Rows.{rows_held, power_held}
 use Rattle.ck_section.proofs.Found.{holds_at}
@@ -55,40 +55,24 @@ power_same s old new old_table new_table same =
     sym (power_shown new (subst (λ n. 0 < n) (sym new_table.count) (pow_pos s))) ∙ ap power_of same ∙ power_shown old (subst (λ n. 0 < n) (sym old_table.count) (pow_pos s))
 
 module _ {V : Type 0} (s : ℕ) (stripes : List (StripeState V)) where
-  -- stripes that are held and settled are those of a table
-  pub table_of : AreAllHeld s stripes → IsTable s stripes
-  table_of all = record {
-    many = all.held.many;
-    count = all.count;
-    number = all.number;
-    one_s = all.held.one_s;
-    one_power = all.held.one_power;
-    least = all.held.least;
-    most = all.held.most;
-  }
-
-  -- and the other way round
-  pub held_of : IsTable s stripes → AreSettled stripes → AreAllHeld s stripes
-  held_of table settled = record {
-    held = record {
-      some = subst (λ n. 0 < n) (sym table.count) (pow_pos s);
-      many = table.many;
-      one_s = table.one_s;
-      settled = settled;
-      one_power = table.one_power;
-      least = table.least;
-      most = table.most;
-      rising = λ i j lt inside. rises i j lt inside;
-    };
-    count = table.count;
-    number = table.number;
+  -- all stripes of a table are stripes of it, in rising order of their numbers
+  pub held_of : AreAllHeld s stripes → AreHeld s stripes
+  held_of all = record {
+    some = subst (λ n. 0 < n) (sym all.table.count) (pow_pos s);
+    many = all.table.many;
+    one_s = all.table.one_s;
+    settled = all.settled;
+    one_power = all.table.one_power;
+    least = all.table.least;
+    most = all.table.most;
+    rising = λ i j lt inside. rises i j lt inside;
   }
     where
       within : (i j : ℕ) → i < j → j < length stripes → i < length stripes
       within i j lt inside = omega arith
 
       rises : (i j : ℕ) → i < j → j < length stripes → (stripe_at stripes i).number < (stripe_at stripes j).number
-      rises i j lt inside = subst (λ (x : ℕ × ℕ). x.0 < x.1) (λ z. (sym (table.number i (within i j lt inside)) z, sym (table.number j inside) z)) lt
+      rises i j lt inside = subst (λ (x : ℕ × ℕ). x.0 < x.1) (λ z. (sym (all.table.number i (within i j lt inside)) z, sym (all.table.number j inside) z)) lt
 
   module _ (table : IsTable s stripes) where
     -- the stripe of a bucket is one of them

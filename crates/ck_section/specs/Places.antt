@@ -1,5 +1,5 @@
 -- Where a name is looked for among held stripes, and where its entry is.
-use Rattle.std.specs.Prelude.{◌≡◌, ◌⊎◌, ℕ, ◌^◌, ◌<◌, ◌≤◌, true, List, None, IsSome, length}
+use Rattle.std.specs.Prelude.{◌≡◌, ◌⊎◌, ℕ, ◌<◌, ◌≤◌, true, List, None, IsSome, length}
 use Rattle.ck_model.specs.Arithmetic.{partial_of, index_of, second_of}
 use Rattle.ck_model.specs.Map.{Name}
 use Rattle.ck_model.specs.Slots.{Slot, slot_at, IsFull}
@@ -25,12 +25,6 @@ module _ {V : Type 0} where
     pub least : s ≤ (stripe_at stripes 0).content.power
     pub most : (stripe_at stripes 0).content.power ≤ 26
     pub rising : (i j : ℕ) → i < j → j < length stripes → (stripe_at stripes i).number < (stripe_at stripes j).number
-
-  -- All stripes of the table, held, each at the index of its number.
-  pub record AreAllHeld (s : ℕ) (stripes : List (StripeState V)) : Type 0 where
-    pub held : AreHeld s stripes
-    pub count : length stripes ≡ 2 ^ s
-    pub number : (i : ℕ) → i < length stripes → (stripe_at stripes i).number ≡ i
 
   -- the stripe of this number is held
   abbrev pub HasStripe : List (StripeState V) → ℕ → Type 0

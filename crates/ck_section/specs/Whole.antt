@@ -4,18 +4,6 @@ use Rattle.ck_stripe.specs.Stripe.{StripeState}
 use Rattle.ck_section.specs.Stripes.{stripe_at}
 
 module _ {V : Type 0} where
-  -- The 2^s stripes of a table in the order of their numbers, each settled.
-  pub record AreAll (s : ℕ) (stripes : List (StripeState V)) : Type 0 where
-    pub many : s ≤ 10
-    pub count : length stripes ≡ 2 ^ s
-    pub number : (i : ℕ) → i < length stripes → (stripe_at stripes i).number ≡ i
-    pub one_s : (i : ℕ) → i < length stripes → (stripe_at stripes i).s ≡ s
-    pub settled : (i : ℕ) → i < length stripes → (stripe_at stripes i).settled ≡ true
-
-  -- no doubling is left to be carried out
-  abbrev pub AreSettled : List (StripeState V) → Type 0
-  AreSettled stripes = (i : ℕ) → i < length stripes → (stripe_at stripes i).settled ≡ true
-
   -- The 2^s stripes of a table in the order of their numbers, of one power, settled or not.
   pub record IsTable (s : ℕ) (stripes : List (StripeState V)) : Type 0 where
     pub many : s ≤ 10
@@ -25,3 +13,12 @@ module _ {V : Type 0} where
     pub one_power : (i : ℕ) → i < length stripes → (stripe_at stripes i).content.power ≡ (stripe_at stripes 0).content.power
     pub least : s ≤ (stripe_at stripes 0).content.power
     pub most : (stripe_at stripes 0).content.power ≤ 26
+
+  -- no doubling is left to be carried out
+  abbrev pub AreSettled : List (StripeState V) → Type 0
+  AreSettled stripes = (i : ℕ) → i < length stripes → (stripe_at stripes i).settled ≡ true
+
+  -- All stripes of a table, with no doubling left to carry out.
+  pub record AreAllHeld (s : ℕ) (stripes : List (StripeState V)) : Type 0 where
+    pub table : IsTable s stripes
+    pub settled : AreSettled stripes

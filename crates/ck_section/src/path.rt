@@ -6,7 +6,7 @@ ghost use Rattle.ck_model.specs.Slots.{HasFree};
 ghost use Rattle.ck_model.specs.Sketches.{HasNoSketchPath};
 ghost use Rattle.ck_path.specs.Route.{first_bucket, IsShortestPath};
 ghost use Rattle.ck_section.specs.Stripes.{bucket_at};
-ghost use Rattle.ck_section.specs.Places.{AreAllHeld};
+ghost use Rattle.ck_section.specs.Whole.{AreAllHeld};
 ghost use Rattle.ck_section.specs.Hops.{CanHop, Hops, IsNoCall};
 ghost use Rattle.ck_section.specs.Calls.{ChangesContents};
 ghost use Rattle.ck_section.specs.Room.{HaveFour, power_in, sketch_of, IsPathFor, IsWithoutPath, IsPathIn};

@@ -9,22 +9,27 @@ ghost use Rattle.ck_bucket.specs.Bucket.{LacksName};
 ghost use Rattle.ck_stripe.specs.Stripe.{HasBucket, bucket_of};
 ghost use Rattle.ck_section.specs.Calls.{effect, IsCall};
 ghost use Rattle.ck_section.specs.Places.{IsPlaceOf};
-ghost use Rattle.ck_section.specs.Whole.{AreAll};
+ghost use Rattle.ck_section.specs.Whole.{AreAllHeld};
 
 use crate::place::{HeldBucket, KeyPlace};
 use ck_key::TableKey;
 use ck_stripe::Stripe;
 
-/// Whether these are the 2^s stripes of a table in the order of their numbers, each settled.
+/// Whether these are the 2^s stripes of a table in the order of their numbers, of one power and each settled.
 pub fn are_all<K: TableKey + Drop, V: Drop>(stripes: &[Stripe<K, V>], s: u32) -> bool
     requires { s ≤ 10 }
-    ensures { MatchBool result (AreAll s stripes.now) (¬ (AreAll s stripes.now)) }
+    ensures { MatchBool result (AreAllHeld s stripes.now) (¬ (AreAllHeld s stripes.now)) }
 {
     if stripes.len() != 1 << s {
         return false;
     }
+    let power = stripes[0].power();
     for (i, stripe) in stripes.iter().enumerate() {
-        if stripe.number() as usize != i || stripe.s() != s || !stripe.settled() {
+        if stripe.number() as usize != i
+            || stripe.s() != s
+            || stripe.power() != power
+            || !stripe.settled()
+        {
             return false;
         }
     }
@@ -37,7 +42,7 @@ pub fn place_in_all<K: TableKey + Drop, V: Drop>(
     s: u32,
     key: &K,
 ) -> KeyPlace
-    requires { AreAll s stripes.now }
+    requires { AreAllHeld s stripes.now }
     ensures place { IsPlaceOf K.hash stripes.now (K.name key.now) result }
     ensures s { result.s ≡ s }
 {

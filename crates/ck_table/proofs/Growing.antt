@@ -11,15 +11,14 @@ use Rattle.ck_model.specs.Contents.{Layout, layout, layout_of, Stripes, Lawful}
 use Rattle.ck_model.specs.Sections.{IdentitySection}
 use Rattle.ck_stripe.specs.Stripe.{StripeState}
 use Rattle.ck_section.specs.Stripes.{stripe_at, contents_of, settled_stripes}
-use Rattle.ck_section.specs.Places.{AreAllHeld}
-use Rattle.ck_section.specs.Whole.{IsTable, AreSettled}
+use Rattle.ck_section.specs.Whole.{AreAllHeld, AreSettled, IsTable}
 use Rattle.ck_section.specs.Doublings.{DoublesEach, Grows}
 use Rattle.ck_section.specs.Room.{power_in, KeepsBindings}
 use Rattle.ck_section.proofs.Found.{holds_at}
 use Rattle.ck_section.proofs.Rebinding.{identity_of_none}
 use Rattle.ck_section.proofs.Doublings.{identity_on}
 use Rattle.ck_section.proofs.Growing.{contents_settled, all_settled}
-use Rattle.ck_section.proofs.Tables.{table_of, power_same}
+use Rattle.ck_section.proofs.Tables.{power_same}
 use Rattle.ck_core.specs.declared.view.View.{View}
 use Rattle.ck_words.specs.Words.{WordsState}
 use Rattle.ck_words.specs.Passes.{PassState}
@@ -44,9 +43,8 @@ module _ {V : Type 0} (s : ℕ) where
   pub settles_table : (old new : List (StripeState V)) → IsTable s old → new ≡ settled_stripes old → SettlesTable old new
   settles_table old new table is =
       let all : AreAllHeld s new = subst (λ l. AreAllHeld s l) (sym is) (all_settled s old table) in
-      let now : IsTable s new = table_of s new all in
       let same : contents_of new ≡ contents_of old = ap (λ (l : List (StripeState V)). contents_of l) is ∙ contents_settled old in
-      record { table = now; settled = all.held.settled; contents = same; power = power_same s old new table now same }
+      record { table = all.table; settled = all.settled; contents = same; power = power_same s old new table all.table same }
 
   -- each stripe of a table has the next power
   pub power_next : (hash : Name → ℕ) (old new : List (StripeState V)) → IsTable s old → DoublesEach hash old new → power_in new ≡ power_in old + 1

@@ -16,12 +16,11 @@ use Rattle.ck_stripe.specs.Stripe.{StripeState}
 use Rattle.ck_section.specs.declared.room.Lack as lack
 use Rattle.ck_section.specs.declared.room.Lack.TheVariants.{Memory, Full, LoadTooLow}
 use Rattle.ck_section.specs.Stripes.{stripe_at, contents_of}
-use Rattle.ck_section.specs.Places.{AreAllHeld, IsPlaceOf}
+use Rattle.ck_section.specs.Places.{IsPlaceOf}
 use Rattle.ck_section.specs.Entries.{IsEntryOf}
 use Rattle.ck_section.specs.Calls.{IsWithoutRoom}
-use Rattle.ck_section.specs.Whole.{IsTable, AreSettled}
+use Rattle.ck_section.specs.Whole.{AreAllHeld, AreSettled, IsTable}
 use Rattle.ck_section.specs.Room.{power_in, reason_of_lack, AreBothSettled, KeepsBindings, MakesRoom, GivesReason}
-use Rattle.ck_section.proofs.Tables.{held_of}
 use Rattle.ck_section.proofs.Growing.{place_in}
 use Rattle.ck_core.specs.declared.view.View.{View}
 use Rattle.ck_words.specs.Rule.{counting}
@@ -101,7 +100,7 @@ module _ {V : Type 0} where
     lawful_taken = subst (λ (x : Settings). Lawful (layout_of hash x) (contents_of p1.stripes)) (sym set_is) (lawful_held hash w.settings p1 whole)
 
     pub all_there : AreSettled p1.stripes → IsTable w.settings.s p1.stripes → AreAllHeld set.s p1.stripes
-    all_there settled table = held_of set.s p1.stripes (subst (λ (x : Settings). IsTable x.s p1.stripes) (sym set_is) table) settled
+    all_there settled table = record { table = subst (λ (x : Settings). IsTable x.s p1.stripes) (sym set_is) table; settled = settled }
 
     -- and are p2 since
     module _ (p2 : PassState V) (same : p2.view ≡ p1.view) (keeps : KeepsBindings k p1.stripes p2.stripes) where

@@ -1,7 +1,6 @@
 -- All stripes in one list, from the lock of a table to its end.
 use Rattle.std.proofs.Common.{◌≡◌, ℕ, suc, ◌^◌, ◌<◌, ◌≤◌, List, [], ◌∷◌, ◌++◌, length, take, drop, get_or, reverse, inr, ⊎_elim, refl, sym, ap, ◌∙◌, subst, arith, Some, None, Result, OnOk, IfErr}
 use Rattle.std.proofs.lemmas.Result.{IfOk-weaker, IfErr-weaker}
-use Rattle.std.proofs.Math.Nat.{one-le-pow}
 use Rattle.std.specs.Prelude.{Option}
 use Rattle.std.specs.FinMap.{get, len}
 use Rattle.ck_model.specs.declared.contents.Content.{Content}
@@ -22,15 +21,14 @@ use Rattle.ck_model.proofs.Numbered.{held_of_in, in_held}
 use Rattle.ck_model.proofs.Counted.{len-bindings}
 use Rattle.ck_stripe.specs.Stripe.{StripeState}
 use Rattle.ck_section.specs.Stripes.{stripe_at, contents_of, settled_stripes}
-use Rattle.ck_section.specs.Places.{AreAllHeld}
 use Rattle.ck_section.specs.declared.place.KeyPlace.{KeyPlace}
 use Rattle.ck_section.specs.declared.room.Lack.{Lack}
 use Rattle.ck_section.specs.Room.{reason_of_lack, KeepsBindings, MakesRoom, GivesReason}
 use Rattle.ck_section.specs.Calls.{IsWithoutRoom, ChangesContents}
 use Rattle.ck_section.proofs.Decided.{IsCallOn}
 use Rattle.ck_section.proofs.Growing.{all_settled, contents_settled}
-use Rattle.ck_section.proofs.Tables.{table_of}
-use Rattle.ck_section.specs.Whole.{AreAll, AreSettled, IsTable}
+use Rattle.ck_section.proofs.Kept.{table_after, settled_after}
+use Rattle.ck_section.specs.Whole.{AreAllHeld, AreSettled, IsTable}
 use Rattle.ck_words.specs.Rule.{counting}
 use Rattle.ck_words.specs.Words.{WordsState}
 use Rattle.ck_words.specs.Passes.{EachOf, PassState, IsPassOf, numbers_of}
@@ -74,32 +72,6 @@ module _ {V : Type 0} where
 
   pub each_of : (s : ℕ) (ss : List (StripeState V)) → IsTable s ss → EachOf s ss
   each_of s ss t = each_s s ss t.one_s
-
-  pub are_all : (s : ℕ) (ss : List (StripeState V)) → IsTable s ss → AreSettled ss → AreAll s ss
-  are_all s ss t settled = record { many = t.many; count = t.count; number = t.number; one_s = t.one_s; settled = settled }
-
-  -- after a call on the stripes
-  module _ (s : ℕ) (old new : List (StripeState V)) (changes : ChangesContents old new) where
-    inside : (i : ℕ) → i < length new → i < length old
-    inside i l = subst (λ n. i < n) changes.count l
-
-    pub table_after : IsTable s old → IsTable s new
-    table_after t =
-        let one : 1 ≤ 2 ^ s = one-le-pow s 2 (omega arith) in
-        let count = t.count in
-        let first : (stripe_at new 0).content.power ≡ (stripe_at old 0).content.power = changes.power 0 (omega arith) in
-        record {
-          many = t.many;
-          count = changes.count ∙ t.count;
-          number = λ i l. ap (λ (x : StripeState V). x.number) (changes.each i (inside i l)) ∙ t.number i (inside i l);
-          one_s = λ i l. ap (λ (x : StripeState V). x.s) (changes.each i (inside i l)) ∙ t.one_s i (inside i l);
-          one_power = λ i l. changes.power i (inside i l) ∙ (t.one_power i (inside i l) ∙ sym first);
-          least = subst (λ n. s ≤ n) (sym first) t.least;
-          most = subst (λ n. n ≤ 26) (sym first) t.most;
-        }
-
-    pub settled_after : AreSettled old → AreSettled new
-    settled_after settled i l = ap (λ (x : StripeState V). x.settled) (changes.each i (inside i l)) ∙ settled i (inside i l)
 
   not_below : (k : Layout) (hs ks : Stripes V) → Renewed k hs ks → (t u : ℕ) (c d : Content V) → Holds hs t c → Holds ks u d → c.power ≤ d.power
   not_below k hs ks r t u c d h g = ⊎_elim (λ same. let e = same t u c d h g in omega arith) (λ more. more.1 t u c d h g) r.power
@@ -210,7 +182,7 @@ module _ {V : Type 0} where
   module _ (hash : Name → ℕ) (w : WordsState) (p : PassState V) (l : IsLocked hash w p) (place : KeyPlace) (same : place.s ≡ w.settings.s) (name : Name) (act : Act V) (reply : Reply V) (q : PassState V) (kept : q ≡ record p { stripes = q.stripes }) where
     pub acted_locked : ChangesContents p.stripes q.stripes → IsCallOn hash place.s p.stripes name act reply q.stripes → IsLocked hash w q
     acted_locked changes call =
-        locked_again hash w p q l kept (table_after w.settings.s p.stripes q.stripes changes l.table) (settled_after w.settings.s p.stripes q.stripes changes l.settled)
+        locked_again hash w p q l kept (table_after w.settings.s p.stripes q.stripes l.table changes) (settled_after w.settings.s p.stripes q.stripes l.settled changes)
         (acted hash w p l place same name act reply q.stripes call).renewed
 
     pub has_acted : (s : LockedState V) → ◌≡◌ {A = LockedState V} (record { table = w; pass = p }) s → IsCallOn hash place.s p.stripes name act reply q.stripes → HasActed name act reply s (record { table = w; pass = q })
@@ -237,7 +209,7 @@ module _ {V : Type 0} where
   module _ (hash : Name → ℕ) (w : WordsState) (p : PassState V) (l : IsLocked hash w p) (name : Name) (found : Result (Unit {0}) Lack) (q : PassState V) (kept : q ≡ record p { stripes = q.stripes })
       (seeks : SeeksRoom hash w.settings name found p.stripes q.stripes) where
     pub sought_locked : IsLocked hash w q
-    sought_locked = locked_again hash w p q l kept (table_of w.settings.s q.stripes seeks.held) seeks.held.held.settled (seeks.no_call l.renewed.lawful).renewed
+    sought_locked = locked_again hash w p q l kept seeks.held.table seeks.held.settled (seeks.no_call l.renewed.lawful).renewed
 
     pub keeps_map : (s : LockedState V) → ◌≡◌ {A = LockedState V} (record { table = w; pass = p }) s → KeepsMap s (record { table = w; pass = q })
     keeps_map s is = record {

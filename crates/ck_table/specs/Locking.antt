@@ -12,8 +12,7 @@ use Rattle.ck_model.specs.Sections.{Renewed}
 use Rattle.ck_stripe.specs.Stripe.{StripeState}
 use Rattle.ck_section.specs.declared.room.Lack.{Lack}
 use Rattle.ck_section.specs.Stripes.{contents_of}
-use Rattle.ck_section.specs.Places.{AreAllHeld}
-use Rattle.ck_section.specs.Whole.{IsTable, AreSettled}
+use Rattle.ck_section.specs.Whole.{AreAllHeld, AreSettled, IsTable}
 use Rattle.ck_section.specs.Room.{reason_of_lack, KeepsBindings, MakesRoom, GivesReason}
 use Rattle.ck_words.specs.Words.{WordsState}
 use Rattle.ck_words.specs.Passes.{PassState, IsPassOf, ShowsSeen}

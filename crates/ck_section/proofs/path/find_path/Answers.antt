@@ -5,7 +5,7 @@ use Rattle.ck_model.specs.Sketches.{HasNoSketchPath}
 use Rattle.ck_path.specs.Route.{IsShortestPath}
 use Rattle.ck_stripe.specs.Stripe.{StripeState}
 use Rattle.ck_section.specs.Room.{power_in, sketch_of, IsWithoutPath}
-use Rattle.ck_section.proofs.Tables.{second_by, none_maps, table_of, no_path_of}
+use Rattle.ck_section.proofs.Tables.{second_by, none_maps, no_path_of}
 use Rattle.ck_section.proofs.path.find_path.Goals as goal
 
 -- what the search was given
@@ -27,7 +27,7 @@ returns-clause-none g c =
     let stripes : List (StripeState g.row.V.Denot) = g.H.Held.stripes c.args.held.now in
     let q = g.K.TableKey.name c.args._key.now in
     none_maps c.search_from.result _ (IsWithoutPath g.K.TableKey.hash c.args.s stripes q)
-    (no_path_of c.args.s stripes (table_of c.args.s stripes c.requires.held) g.K.TableKey.hash q (power_in stripes) refl)
+    (no_path_of c.args.s stripes c.requires.held.table g.K.TableKey.hash q (power_in stripes) refl)
     (given c.args.s stripes (g.H.Held.stripes c.power-power.new.self) (g.K.TableKey.hash q) c.args.hash c.power-power.result c.index-first.result c.alternate-second.result
     c.power-power.ensures.same c.requires.hash.value c.requires.hash.partial c.power-power.ensures.value c.index-first.ensures.value c.alternate-second.ensures.value
     (λ (p : ℕ) (l : List (StripeState g.row.V.Denot)) (b1 b2 : ℕ). IfNone c.search_from.result (HasNoSketchPath p (sketch_of g.K.TableKey.hash c.args.s l) b1 b2)) c.search_from.ensures.none)

@@ -4,13 +4,13 @@ use Rattle.ck_model.specs.Contents.{layout}
 use Rattle.ck_path.specs.Route.{first_bucket}
 use Rattle.ck_stripe.specs.Stripe.{StripeState}
 use Rattle.ck_section.specs.Stripes.{contents_of}
-use Rattle.ck_section.specs.Places.{AreAllHeld}
+use Rattle.ck_section.specs.Whole.{AreAllHeld}
 use Rattle.ck_section.specs.Room.{sketch_of}
 use Rattle.ck_section.proofs.Doublings.{identity_on}
 use Rattle.ck_section.proofs.Followed.{IsLastHop, hop_of, next_left, last_now, can_hop, hop_left, others_stay, source_free, source_four, end_free}
 use Rattle.ck_section.proofs.Found.{changes_on}
 use Rattle.ck_section.proofs.Kept.{all_after}
-use Rattle.ck_section.proofs.Tables.{table_of, stripe_inside}
+use Rattle.ck_section.proofs.Tables.{held_of, stripe_inside}
 use Rattle.ck_section.proofs.path.follow_path.Given.{Over}
 use Rattle.ck_section.proofs.path.follow_path.Goals as goal
 
@@ -37,9 +37,9 @@ carry_out-requires-clause-can g c =
     let rest = c.loop-hop.invariant.rest in
     let old : List (StripeState g.row.V.Denot) = g.H.Held.stripes c.args.held.now in
     let all : AreAllHeld c.args.s cur = all_after c.args.s old cur c.requires.held rest in
-    let inside = stripe_inside c.args.s cur (table_of c.args.s cur all) (next g c).bucket in
+    let inside = stripe_inside c.args.s cur all.table (next g c).bucket in
     can_hop g.K.TableKey.hash c.args.s cur c.power-power.result (next g c) c.loop-hop.target
-    (all.held.one_power ((next g c).bucket % 2 ^ c.args.s) inside ∙ rest.power 0 c.requires.held.held.some ∙ sym c.requires.path.power ∙ sym c.power-power.ensures.value) (last g c)
+    (all.table.one_power ((next g c).bucket % 2 ^ c.args.s) inside ∙ rest.power 0 (held_of c.args.s old c.requires.held).some ∙ sym c.requires.path.power ∙ sym c.power-power.ensures.value) (last g c)
 
 pub loop-hop-preserved : goal.loop-hop-preserved
 loop-hop-preserved g c =
@@ -57,9 +57,8 @@ loop-hop-preserved g c =
     let t : ℕ = c.loop-hop.target in
     let h : PathHop = get_or todo i blank in
     let all : AreAllHeld s cur = all_after s old cur c.requires.held known.rest in
-    let table = table_of s cur all in
-    let first = stripe_inside s cur table h.bucket in
-    let second = stripe_inside s cur table t in
+    let first = stripe_inside s cur all.table h.bucket in
+    let second = stripe_inside s cur all.table t in
     let is : IsLastHop p (sketch_of hash s cur) h t = last_now c.args.path.now c.power-power.ensures.linked p c.power-power.ensures.value _ todo i t blank c.loop-hop-test.true known.left in
     let hopped = c.carry_out.ensures.hopped in
     record {

@@ -17,14 +17,14 @@ loop-bucket-init g c = record {
 pub returns-in-Some-feed-clause-path : goal.returns-in-Some-feed-clause-path
 returns-in-Some-feed-clause-path g c =
     c.in-Some-feed.ensures.path c.args.power c.args.first c.args.second _ c.loop-bucket.invariant.over
-    (shows g.K.TableKey.hash c.args.s (g.H.Held.stripes c.args.held.now) (g.H.Held.stripes c.loop-bucket.held) c.requires.held.held.many c.loop-bucket.invariant.same c.loop-bucket.search c.in-Some.bucket c.in-Some.ensures.value
+    (shows g.K.TableKey.hash c.args.s (g.H.Held.stripes c.args.held.now) (g.H.Held.stripes c.loop-bucket.held) c.requires.held.table.many c.loop-bucket.invariant.same c.loop-bucket.search c.in-Some.bucket c.in-Some.ensures.value
     c.sketch-sketch.result c.sketch-sketch.ensures.value)
 
 pub returns-in-Some-feed-clause-four : goal.returns-in-Some-feed-clause-four
 returns-in-Some-feed-clause-four g c =
     seen_four (sketch_of g.K.TableKey.hash c.args.s (g.H.Held.stripes c.args.held.now)) c.args.power c.args.first c.args.second c.in-Some-feed.path
     (c.in-Some-feed.ensures.seen c.args.power c.args.first c.args.second (is_four (sketch_of g.K.TableKey.hash c.args.s (g.H.Held.stripes c.args.held.now))) c.loop-bucket.invariant.fed
-    (passes g.K.TableKey.hash c.args.s (g.H.Held.stripes c.args.held.now) (g.H.Held.stripes c.loop-bucket.held) c.requires.held.held.many c.loop-bucket.invariant.same c.loop-bucket.search c.in-Some.bucket c.in-Some.ensures.value
+    (passes g.K.TableKey.hash c.args.s (g.H.Held.stripes c.args.held.now) (g.H.Held.stripes c.loop-bucket.held) c.requires.held.table.many c.loop-bucket.invariant.same c.loop-bucket.search c.in-Some.bucket c.in-Some.ensures.value
     c.sketch-sketch.result c.sketch-sketch.ensures.four))
 
 pub loop-bucket-preserved : goal.loop-bucket-preserved
@@ -34,7 +34,7 @@ loop-bucket-preserved g c =
     let old : List (StripeState g.row.V.Denot) = g.H.Held.stripes c.args.held.now in
     let cur : List (StripeState g.row.V.Denot) = g.H.Held.stripes c.loop-bucket.held in
     let known = c.loop-bucket.invariant in
-    let few = c.requires.held.held.many in
+    let few = c.requires.held.table.many in
     let sketches : ℕ → Sketch = sketch_of hash s old in
     record {
       power = c.in_default-feed.ensures.power ∙ known.power;

@@ -7,13 +7,13 @@ use Rattle.ck_section.specs.declared.room.Lack.{Lack}
 use Rattle.ck_section.specs.Room.{power_in, GivesReason}
 use Rattle.ck_section.proofs.Doublings.{identity_on}
 use Rattle.ck_section.proofs.RoomMade.{grown_none, grown_more, grows_for_room, stuck_in, refused_in}
-use Rattle.ck_section.proofs.Tables.{table_of, power_same, err_maps}
+use Rattle.ck_section.proofs.Tables.{power_same, err_maps}
 use Rattle.ck_section.proofs.room.make_room.Goals as goal
 
 pub loop-hash-init : goal.loop-hash-init
 loop-hash-init g c =
     let old : List (StripeState g.row.V.Denot) = g.H.Held.stripes c.args.held.now in
-    let table = table_of c.args.s old c.requires.held in
+    let table = c.requires.held.table in
     record {
       table = table;
       rising = omega arith;
@@ -42,7 +42,7 @@ loop-hash-preserved g c =
       table = c.in_ok-grow.ensures.table;
       rising = omega arith;
       grown = λ lawful.
-          grown_more hash s max c.args.min_load q old cur mid new (table_of s old c.requires.held) known.table before lawful (known.grown lawful) stuck.same level c.in_ok-grow.ensures.may
+          grown_more hash s max c.args.min_load q old cur mid new c.requires.held.table known.table before lawful (known.grown lawful) stuck.same level c.in_ok-grow.ensures.may
           (stuck_in hash s max c.args.min_load q mid stuck.table stuck.no_room stuck.no_path) c.in_ok-grow.ensures.grown next;
       stays = on _ _ _ known.stays (on _ _ _ c.room_by_hops.ensures.stays c.grow.ensures.stays);
     }

@@ -1,7 +1,6 @@
-use Rattle.std.proofs.Common.{◌≡◌, List, sym, subst}
+use Rattle.std.proofs.Common.{List, sym, subst}
 use Rattle.ck_bucket.specs.Bucket.{LacksName}
 use Rattle.ck_stripe.specs.Stripe.{StripeState, bucket_of}
-use Rattle.ck_section.specs.Stripes.{stripe_at}
 use Rattle.ck_section.proofs.AllStripes.{stripe_read, found_first, not_found_once, found_then}
 use Rattle.ck_section.proofs.whole.find_in_all.Goals as goal
 
