@@ -32,7 +32,8 @@ impl Model for Path {
 
     ghost view = { λ p. record { power = p.power; hops = reverse p.hops.items; end = p.end } };
 
-    ghost invariant = { λ p. IsLinked (record { power = p.power; hops = reverse p.hops.items; end = p.end }) };
+    ghost invariant = { λ p. IsLinked
+        (record { power = p.power; hops = reverse p.hops.items; end = p.end }) };
 }
 
 impl Path {

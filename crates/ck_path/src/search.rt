@@ -37,7 +37,8 @@ impl Model for Search {
 
     ghost view = { λ s. record { power = s.power; nodes = s.nodes.items; taken = s.taken } };
 
-    ghost invariant = { λ s. IsSoundQueue (record { power = s.power; nodes = s.nodes.items; taken = s.taken }) };
+    ghost invariant = { λ s. IsSoundQueue
+        (record { power = s.power; nodes = s.nodes.items; taken = s.taken }) };
 }
 
 impl Search {

@@ -129,7 +129,8 @@ impl ScriptReader {
         ensures limits { OnOk result (IsWithinLimits self.new) }
         ensures size { OnOk result (size_of self.old + length rest.now < size_of self.new) }
         ensures ok { OnOk result ((bytes : List ℕ) →
-            HasTakenLines self.old bytes → HasTakenLines self.new (bytes ++ (rest.now ++ 10 ∷ []))) }
+            HasTakenLines self.old bytes
+            → HasTakenLines self.new (bytes ++ (rest.now ++ 10 ∷ []))) }
         ensures err { IfErr result (λ e. FaultOf self.old (rest.now ++ 10 ∷ []) e) }
         ensures text { IfErr result (λ e. e.what ≢ What.Read) }
         ensures memory { IfErr result (λ e. e.what ≡ What.Memory →

@@ -38,9 +38,11 @@ impl<K: TableKey, V> Model for Stripe<K, V> {
 
     ghost Value = { StripeState V };
 
-    ghost view = { λ t. shown K.hash (state_from t.number t.s t.power t.buckets.items t.ledger t.settled (vec_capacity t.buckets)) };
+    ghost view = { λ t. shown K.hash (state_from t.number t.s t.power t.buckets.items t.ledger
+        t.settled (vec_capacity t.buckets)) };
 
-    ghost invariant = { λ t. IsConsistent K.hash (state_from t.number t.s t.power t.buckets.items t.ledger t.settled (vec_capacity t.buckets)) };
+    ghost invariant = { λ t. IsConsistent K.hash (state_from t.number t.s t.power t.buckets.items
+        t.ledger t.settled (vec_capacity t.buckets)) };
 }
 
 impl<K: TableKey + Drop, V: Drop> Stripe<K, V> {

@@ -135,7 +135,8 @@ where
 
     ghost asks = { λ v. Upsert v };
 
-    ghost tells = { λ u fresh reply. MatchBool fresh (reply ≡ New) ((v w : V) × F.post u.0 v w × (reply ≡ Done v w)) };
+    ghost tells = { λ u fresh reply. MatchBool fresh (reply ≡ New)
+        ((v w : V) × F.post u.0 v w × (reply ≡ Done v w)) };
 
     ghost can_make = { λ u. F.IsAlwaysCallable u.0 };
 

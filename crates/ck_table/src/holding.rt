@@ -133,14 +133,16 @@ impl<K: TableKey + Drop, V: Drop> Table<K, V> {
             since.now.value pass.old }
         requires numbered { numbers_of pass.old.stripes ≡ pair spot.low spot.high }
         requires settled { AreHeld self.now.settings.s pass.old.stripes }
-        requires found { FindsOwn K.hash self.now.settings (K.name key.now) since.now.value pass.old }
+        requires found { FindsOwn K.hash self.now.settings (K.name key.now) since.now.value
+            pass.old }
         ensures own { IsPassOf self.now pass.new }
         ensures room { IfOk result (λ room.
             HasRoom K.hash self.now.settings (K.name key.now) room since.now.value pass.new) }
         ensures numbered { IfOk result (λ room.
             numbers_of pass.new.stripes ≡ pair room.spot.low room.spot.high) }
         ensures own_alone { IfOk result (λ room. room.all ≡ false) }
-        ensures found { FindsOwn K.hash self.now.settings (K.name key.now) since.now.value pass.new }
+        ensures found { FindsOwn K.hash self.now.settings (K.name key.now) since.now.value
+            pass.new }
         ensures idle { OnErr result (IsIdle pass.new) }
         ensures full { OnErr result (HasFoundNoRoom (K.name key.now) since.now.value pass.new) }
         ensures power { IfErr result (λ power. power ≤ 26) }

@@ -119,7 +119,10 @@ impl<K: TableKey + Drop, V: Drop> Held<K, V> for Lent<'_, K, V> {
 
     ghost stripes = { λ l. l.pass.now.stripes };
 
-    ghost stays = { λ l m. (m.pass.ghost_name ≡ l.pass.ghost_name) × (m.pass.now.view ≡ l.pass.now.view) × (m.pass.now.table ≡ l.pass.now.table) × (m.numbers ≡ l.numbers) };
+    ghost stays = { λ l m. (m.pass.ghost_name ≡ l.pass.ghost_name)
+        × (m.pass.now.view ≡ l.pass.now.view)
+        × (m.pass.now.table ≡ l.pass.now.table)
+        × (m.numbers ≡ l.numbers) };
 
     fn count(&self) -> usize {
         self.numbers.count()

@@ -26,7 +26,11 @@ impl<K: TableKey, V> Model for Whole<K, V> {
 
     ghost Value = { PassState V };
 
-    ghost view = { λ w. record { table = w.seat.table_id; view = w.seat.me.0; stripes = w.stripes.items } };
+    ghost view = { λ w. record {
+      table = w.seat.table_id;
+      view = w.seat.me.0;
+      stripes = w.stripes.items;
+    } };
 
     ghost invariant = { λ w. IsEmptied w.seat.table_id w.seat.me };
 }

@@ -108,7 +108,8 @@ impl<K: TableKey + Drop, V: Drop> Words<K, V> {
         requires grounds { Lawful (layout_of K.hash self.now.settings) (reverse pass.old.view.held)
             → Grounds (layout_of K.hash self.now.settings) self.now.settings.min_load
             (contents_of pass.old.stripes) (K.name key.now) (reason_of_lack lack) }
-        ensures refused { HasRefused self.now (K.name key.now) (reason_of_lack lack) pass.old pass.new }
+        ensures refused { HasRefused self.now (K.name key.now) (reason_of_lack lack) pass.old
+            pass.new }
         ensures told { IsToldPower pass.old pass.new }
     {
         let said = (Snapshot::of(key), lack);

@@ -64,7 +64,8 @@ impl<K: TableKey, V, J: Refuses> Play<Option<Stripe<K, V>>, View<V>> for Renew<J
     ghost use Rattle.ck_core.specs.Steps.Move.{Renew};
     ghost use Rattle.ck_words.specs.Plays.{SeatGives, contents_in};
 
-    ghost then = { λ st m _ m2. SeatGives K.hash m.0.settings (Renew (st.word / 8) (contents_in m.1) J.refused) m m2 };
+    ghost then = { λ st m _ m2. SeatGives K.hash m.0.settings
+        (Renew (st.word / 8) (contents_in m.1) J.refused) m m2 };
 }
 
 /// The entry that a step decides. A call at `Brand` picks it.
@@ -90,7 +91,8 @@ impl<K: TableKey, V, J: Says<V>> Play<Option<Stripe<K, V>>, View<V>> for Decide<
     ghost use Rattle.ck_core.specs.Steps.Move.{Decide};
     ghost use Rattle.ck_words.specs.Plays.{SeatGives, contents_in};
 
-    ghost then = { λ st m _ m2. SeatGives K.hash m.0.settings (Decide (st.word / 8) (contents_in m.1) J.entry) m m2 };
+    ghost then = { λ st m _ m2. SeatGives K.hash m.0.settings
+        (Decide (st.word / 8) (contents_in m.1) J.entry) m m2 };
 }
 
 /// A load: the history so far is seen.
