@@ -2,7 +2,7 @@
 //! doubles as it fills.
 ghost use Rattle.std.specs.Prelude.{◌≡◌, ◌<◌, true, OnOk};
 ghost use Rattle.ck_stripe.specs.Stripe.{IsReserved};
-ghost use Rattle.ck_section.specs.Whole.{AreAll};
+ghost use Rattle.ck_section.specs.Whole.{AreAllHeld};
 
 use crate::fixtures::name_of;
 use ck_key::NumKey;
@@ -137,7 +137,7 @@ fn double(stripe: &mut Stripe<NumKey, u64>) -> Result<(), Fail> {
 }
 
 fn find_in(stripes: &mut [Stripe<NumKey, u64>], key: NumKey) -> Option<u64>
-    requires { AreAll 2 stripes.old }
+    requires { AreAllHeld 2 stripes.old }
 {
     let place = place_in_all(stripes, S, &key);
     let mut held = Slice { stripes };
@@ -145,7 +145,7 @@ fn find_in(stripes: &mut [Stripe<NumKey, u64>], key: NumKey) -> Option<u64>
 }
 
 fn insert_in(stripes: &mut [Stripe<NumKey, u64>], key: NumKey, value: u64) -> Option<bool>
-    requires { AreAll 2 stripes.old }
+    requires { AreAllHeld 2 stripes.old }
 {
     let place = place_in_all(stripes, S, &key);
     let mut held = Slice { stripes };
@@ -154,7 +154,7 @@ fn insert_in(stripes: &mut [Stripe<NumKey, u64>], key: NumKey, value: u64) -> Op
 }
 
 fn assign_in(stripes: &mut [Stripe<NumKey, u64>], key: NumKey, value: u64) -> Option<Option<u64>>
-    requires { AreAll 2 stripes.old }
+    requires { AreAllHeld 2 stripes.old }
 {
     let place = place_in_all(stripes, S, &key);
     let mut held = Slice { stripes };
@@ -163,7 +163,7 @@ fn assign_in(stripes: &mut [Stripe<NumKey, u64>], key: NumKey, value: u64) -> Op
 }
 
 fn update_in(stripes: &mut [Stripe<NumKey, u64>], key: NumKey, value: u64) -> Option<u64>
-    requires { AreAll 2 stripes.old }
+    requires { AreAllHeld 2 stripes.old }
 {
     let place = place_in_all(stripes, S, &key);
     let mut held = Slice { stripes };
@@ -171,7 +171,7 @@ fn update_in(stripes: &mut [Stripe<NumKey, u64>], key: NumKey, value: u64) -> Op
 }
 
 fn upsert_in(stripes: &mut [Stripe<NumKey, u64>], key: NumKey, value: u64) -> Option<bool>
-    requires { AreAll 2 stripes.old }
+    requires { AreAllHeld 2 stripes.old }
 {
     let place = place_in_all(stripes, S, &key);
     let mut held = Slice { stripes };
@@ -181,7 +181,7 @@ fn upsert_in(stripes: &mut [Stripe<NumKey, u64>], key: NumKey, value: u64) -> Op
 }
 
 fn erase_in(stripes: &mut [Stripe<NumKey, u64>], key: NumKey) -> Option<u64>
-    requires { AreAll 2 stripes.old }
+    requires { AreAllHeld 2 stripes.old }
 {
     let place = place_in_all(stripes, S, &key);
     let mut held = Slice { stripes };
@@ -195,7 +195,7 @@ fn call_once(
     key: NumKey,
     value: u64,
 ) -> Option<Reply>
-    requires { AreAll 2 stripes.old }
+    requires { AreAllHeld 2 stripes.old }
 {
     match operation {
         Operation::Find => Some(Reply::Was(find_in(stripes, key))),

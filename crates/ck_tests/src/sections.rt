@@ -1,6 +1,6 @@
 //! Calls on all stripes of small tables, as rows of data.
 ghost use Rattle.std.specs.Prelude.{◌≢◌, ◌≤◌, ◌∷◌, [], IfOk};
-ghost use Rattle.ck_section.specs.Places.{AreAllHeld};
+ghost use Rattle.ck_section.specs.Whole.{AreAllHeld};
 
 use ck_key::{KeyHash, NumKey};
 use ck_section::{

@@ -1,4 +1,4 @@
-use Rattle.ck_section.specs.Places.{AreAllHeld}
+use Rattle.ck_section.specs.Whole.{AreAllHeld}
 use Rattle.ck_tests.proofs.sections.one_key.Given as goal
 
 abbrev pub invariant-loop-row : goal.invariant-loop-row

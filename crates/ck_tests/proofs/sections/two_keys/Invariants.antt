@@ -1,4 +1,4 @@
-use Rattle.ck_section.specs.Places.{AreAllHeld}
+use Rattle.ck_section.specs.Whole.{AreAllHeld}
 use Rattle.ck_tests.proofs.sections.two_keys.Given as goal
 
 abbrev pub invariant-loop-key : goal.invariant-loop-key
