@@ -21,17 +21,24 @@ use Rattle.ck_words.specs.Rule.{StripeSlot, Hand, RuleOf}
 use Rattle.ck_words.specs.Steps.{Steps}
 use Rattle.ck_words.specs.Plays.{SeatGives, contents_in}
 use Rattle.ck_words.specs.Words.{WordsState}
-use Rattle.ck_words.specs.Passes.{PassState, IsSeated, IsUnchanged, Sends, IsHighest, state_of, held_in}
+use Rattle.ck_words.specs.Passes.{PassState, IsSeated, IsPassOf, IsUnchanged, Sends, IsHighest, state_of, held_in}
 use Rattle.ck_words.proofs.Allowed.{give_allowed, renew_allowed, decide_allowed}
 use Rattle.ck_words.proofs.Reversed.{lawful_reverse, section_turned, identity_turned}
 use Rattle.ck_words.proofs.Excuses.{excused_reverse, has_grounds_reverse}
 use Rattle.ck_words.proofs.Rows.{give_row, renew_row, decide_row}
 use Rattle.ck_words.proofs.Seating.{Last, last}
-use Rattle.ck_words.proofs.Takes.{Fits, same_settings, same_key, slots_are, below_key, settled, told}
+use Rattle.ck_words.proofs.Takes.{Fits, same_settings, same_key, slots_are, own_after, below_key, settled, told}
 
 -- the highest of its stripes, at the fields of the pass
 pub last_of : {V : Type 0} (w : WordsState) (p : PassState V) (tz : TableId) (key set : Settings) (z : TableId) (me : Hand V) → Fits w p tz key set z me → (t : ℕ) → IsSeated z me → IsHighest t p.stripes → Last z me.0 me.1 t
 last_of w p tz key set z me f t s h = last z me.0 me.1 t s (subst (λ (q : PassState _). IsHighest t q.stripes) (sym f.pass_is) h)
+
+-- the highest stripe went home by this move, and the pass has the others as they were
+pub record Went {V : Type 0} (hash : Name → ℕ) (w : WordsState) (move : ℕ → Stripes V → Move V) (p : PassState V) (z : TableId) (me : Hand V) : Type 0 where
+  pub seated : IsSeated z me
+  pub own : IsPassOf w (state_of z me)
+  pub sends : Sends hash w move p (state_of z me)
+  pub unchanged : IsUnchanged (state_of z me)
 
 module _ {V : Type 0} (hash : Name → ℕ) (w : WordsState) (p : PassState V) (tz : TableId) (key set : Settings) (z : TableId) (me : Hand V) (f : Fits w p tz key set z me) (t : ℕ) (l : Last z me.0 me.1 t) where
   pub inside : t < 2 ^ w.settings.s
@@ -76,16 +83,16 @@ module _ {V : Type 0} (hash : Name → ℕ) (w : WordsState) (p : PassState V) (
     ready slots id h = settled hash w p tz key set z me f (λ x n. Allows (RuleOf hash key) slots id me (t * 8) (λ _. 0) (λ _. told_by x n)) t h
 
     -- it went home, and the others are still held
-    pub record Gone (me2 : Hand V) : Type 0 where
-      pub slots_left : me2.1 ≡ l.out
-      pub step : Steps hash w.settings (move t now) me.0 me2.0
+    record Gone (me2 : Hand V) : Type 0 where
+      slots_left : me2.1 ≡ l.out
+      step : Steps hash w.settings (move t now) me.0 me2.0
 
-    pub gone : (me2 : Hand V) → told_by me.0.settings (t * 8 / 8) me2 → Gone me2
+    gone : (me2 : Hand V) → told_by me.0.settings (t * 8 / 8) me2 → Gone me2
     gone me2 h =
         let here : told_by w.settings t me2 = told hash w p tz key set z me f (λ x n. told_by x n me2) t h in
         record { slots_left = here.0 ∙ ap rest l.front; step = subst (λ ks. Steps hash w.settings (move t ks) me.0 me2.0) l.now here.1 }
 
-    pub sends : (z2 : TableId) (me2 : Hand V) → Gone me2 → Sends hash w move p (state_of z2 me2)
+    sends : (z2 : TableId) (me2 : Hand V) → Gone me2 → Sends hash w move p (state_of z2 me2)
     sends z2 me2 g = subst (λ (q : PassState V). Sends hash w move q (state_of z2 me2)) f.pass_is (
       l.stripe,
       l.split ∙ ap (λ has. held_in has ++ l.stripe ∷ []) (sym g.slots_left),
@@ -93,15 +100,18 @@ module _ {V : Type 0} (hash : Name → ℕ) (w : WordsState) (p : PassState V) (
     )
 
     -- the view tells of the others
-    pub record Tells (me2 : Hand V) : Type 0 where
-      pub settings : me2.0.settings ≡ me.0.settings
-      pub held : me2.0.held ≡ without t now
+    record Tells (me2 : Hand V) : Type 0 where
+      settings : me2.0.settings ≡ me.0.settings
+      held : me2.0.held ≡ without t now
 
-    pub gone_seated : (z2 : TableId) (me2 : Hand V) → Gone me2 → Tells me2 → z2 ≡ z → IsSeated z2 me2
+    gone_seated : (z2 : TableId) (me2 : Hand V) → Gone me2 → Tells me2 → z2 ≡ z → IsSeated z2 me2
     gone_seated z2 me2 g v same = subst (λ (x : TableId × List (ℕ × StripeSlot V)). IsSeated x.0 (me2.0, x.1)) (λ i. (sym same i, sym g.slots_left i)) (l.left me2.0 v.settings (v.held ∙ l.others))
 
-    pub gone_unchanged : (z2 : TableId) (me2 : Hand V) → Gone me2 → Tells me2 → IsUnchanged (state_of z2 me2)
+    gone_unchanged : (z2 : TableId) (me2 : Hand V) → Gone me2 → Tells me2 → IsUnchanged (state_of z2 me2)
     gone_unchanged z2 me2 g v = ap (λ has. contents_of (held_in has)) g.slots_left ∙ sym (ap reverse (v.held ∙ l.others) ∙ reverse-reverse (contents_of (held_in l.out)))
+
+    went : (z2 : TableId) (me2 : Hand V) → z2 ≡ z → (g : Gone me2) → Tells me2 → Went hash w move p z2 me2
+    went z2 me2 same g v = record { seated = gone_seated z2 me2 g v same; own = own_after hash w p tz key set z me f z2 me2 same v.settings; sends = sends z2 me2 g; unchanged = gone_unchanged z2 me2 g v }
 
   module _ (g : Option (Name × Reason)) (u : IsUnchanged p) where
     abbrev pub give_move : ℕ → Stripes V → Move V
@@ -122,10 +132,13 @@ module _ {V : Type 0} (hash : Name → ℕ) (w : WordsState) (p : PassState V) (
         let holds : Holds me.0.held t l.stripe.content = subst (λ (hs : Stripes V). Holds hs t l.stripe.content) (sym (held_now u ∙ l.first)) (inl (refl, refl)) in
         ready give_move slots id (give_allowed hash key slots id me t l.stripe l.out l.front inside_key own_key g holds (excused_held excused))
 
-    pub give_tells : (me2 : Hand V) → Gone give_move me2 → Tells give_move me2
+    give_tells : (me2 : Hand V) → Gone give_move me2 → Tells give_move me2
     give_tells me2 gone =
         let row = give_row hash w.settings me.0 me2.0 t g gone.step in
         record { settings = ap (λ (v : View V). v.settings) row; held = ap (λ (v : View V). v.held) row ∙ ap (without t) (held_now u) }
+
+    pub give_went : (z2 : TableId) (me2 : Hand V) → z2 ≡ z → told_by give_move me.0.settings (t * 8 / 8) me2 → Went hash w give_move p z2 me2
+    give_went z2 me2 same h = let g = gone give_move me2 h in went give_move z2 me2 same g (give_tells me2 g)
 
   module _ (g : Option (Name × Reason)) where
     abbrev pub renew_move : ℕ → Stripes V → Move V
@@ -146,8 +159,11 @@ module _ {V : Type 0} (hash : Name → ℕ) (w : WordsState) (p : PassState V) (
         (has_grounds_reverse k (contents_of (held_in me.1)) (subst (Lawful k) (ap reverse l.now ∙ reverse-reverse (contents_of (held_in me.1))) (lawful_reverse k (contents_in me.1) lawful)) key.min_load g (given (lawful_reverse k me.0.held before))) in
         ready renew_move slots id (renew_allowed hash key slots id me t l.stripe l.out l.front inside_key own_key now_held g turned_sec turned_grounds)
 
-    pub renew_tells : (me2 : Hand V) → Gone renew_move me2 → Tells renew_move me2
+    renew_tells : (me2 : Hand V) → Gone renew_move me2 → Tells renew_move me2
     renew_tells me2 gone = let row = renew_row hash w.settings me.0 me2.0 t now g gone.step in record { settings = ap (λ (v : View V). v.settings) row; held = ap (λ (v : View V). v.held) row }
+
+    pub renew_went : (z2 : TableId) (me2 : Hand V) → z2 ≡ z → told_by renew_move me.0.settings (t * 8 / 8) me2 → Went hash w renew_move p z2 me2
+    renew_went z2 me2 same h = let g = gone renew_move me2 h in went renew_move z2 me2 same g (renew_tells me2 g)
 
   module _ (e : Entry V) where
     abbrev pub decide_move : ℕ → Stripes V → Move V
@@ -162,5 +178,8 @@ module _ {V : Type 0} (hash : Name → ℕ) (w : WordsState) (p : PassState V) (
         λ lawful. subst (λ ks. Section k me.0.held e.call e.reply ks) (sym l.now) (section_turned k me.0.held (contents_of (held_in me.1)) e.call e.reply lawful here) in
         ready decide_move slots id (decide_allowed hash key slots id me t l.stripe l.out l.front inside_key own_key now_held e (ap (λ (q : PassState V). q.view.by) f.pass_is ∙ by) turned_sec)
 
-    pub decide_tells : (me2 : Hand V) → Gone decide_move me2 → Tells decide_move me2
+    decide_tells : (me2 : Hand V) → Gone decide_move me2 → Tells decide_move me2
     decide_tells me2 gone = let row = decide_row hash w.settings me.0 me2.0 t now e gone.step in record { settings = ap (λ (v : View V). v.settings) row; held = ap (λ (v : View V). v.held) row }
+
+    pub decide_went : (z2 : TableId) (me2 : Hand V) → z2 ≡ z → told_by decide_move me.0.settings (t * 8 / 8) me2 → Went hash w decide_move p z2 me2
+    decide_went z2 me2 same h = let g = gone decide_move me2 h in went decide_move z2 me2 same g (decide_tells me2 g)

@@ -49,50 +49,28 @@ loop-hash-preserved g c =
 
 pub returns-in_err-grow-clause-no_call : goal.returns-in_err-grow-clause-no_call
 returns-in_err-grow-clause-no_call g c =
-    let V : Type 0 = g.row.V.Denot in
-    let hash = g.K.TableKey.hash in
-    let q = g.K.TableKey.name c.args.key.now in
-    let s : ℕ = c.args.s in
-    let max : ℕ = c.args.max in
-    let old : List (StripeState V) = g.H.Held.stripes c.args.held.now in
-    let cur : List (StripeState V) = g.H.Held.stripes c.loop-hash.held in
-    let mid : List (StripeState V) = g.H.Held.stripes c.room_by_hops.new.held in
-    let new : List (StripeState V) = g.H.Held.stripes c.grow.new.held in
-    let known = c.loop-hash.invariant in
-    let stuck = c.loop-hash-test.ensures in
-    λ lawful. subst (λ (hs : Stripes V). IdentitySection (layout hash s max) (contents_of old) hs) (sym (c.in_err-grow.ensures.same ∙ stuck.same)) (known.grown lawful).no_call
+    let old : List (StripeState g.row.V.Denot) = g.H.Held.stripes c.args.held.now in
+    λ lawful. subst (λ (hs : Stripes g.row.V.Denot). IdentitySection (layout g.K.TableKey.hash c.args.s c.args.max) (contents_of old) hs) (sym (c.in_err-grow.ensures.same ∙ c.loop-hash-test.ensures.same)) (c.loop-hash.invariant.grown lawful).no_call
 
 pub returns-in_err-grow-clause-refused : goal.returns-in_err-grow-clause-refused
 returns-in_err-grow-clause-refused g c =
     let V : Type 0 = g.row.V.Denot in
-    let hash = g.K.TableKey.hash in
-    let q = g.K.TableKey.name c.args.key.now in
-    let s : ℕ = c.args.s in
-    let max : ℕ = c.args.max in
     let old : List (StripeState V) = g.H.Held.stripes c.args.held.now in
-    let cur : List (StripeState V) = g.H.Held.stripes c.loop-hash.held in
-    let mid : List (StripeState V) = g.H.Held.stripes c.room_by_hops.new.held in
     let new : List (StripeState V) = g.H.Held.stripes c.grow.new.held in
-    let known = c.loop-hash.invariant in
     let stuck = c.loop-hash-test.ensures in
-    let said = refused_in hash s max c.args.min_load q old cur mid new known.grown stuck.same c.in_err-grow.ensures.same stuck.table stuck.no_room stuck.no_path in
-    let R : Lack → Type 0 = GivesReason (layout hash s max) c.args.min_load old new q in
+    let said = refused_in g.K.TableKey.hash c.args.s c.args.max c.args.min_load (g.K.TableKey.name c.args.key.now) old (g.H.Held.stripes c.loop-hash.held) (g.H.Held.stripes c.room_by_hops.new.held) new c.loop-hash.invariant.grown
+    stuck.same c.in_err-grow.ensures.same stuck.table stuck.no_room stuck.no_path in
+    let R : Lack → Type 0 = GivesReason (layout g.K.TableKey.hash c.args.s c.args.max) c.args.min_load old new (g.K.TableKey.name c.args.key.now) in
     err_maps c.from_residual.result _ R (λ why is. subst R (sym is) (said c.in_err-grow.field-0.0 c.in_err-grow.ensures.lack)) c.from_residual.ensures.1
 
 pub returns-in_err-grow-clause-doubled : goal.returns-in_err-grow-clause-doubled
 returns-in_err-grow-clause-doubled g c =
     let V : Type 0 = g.row.V.Denot in
-    let hash = g.K.TableKey.hash in
-    let q = g.K.TableKey.name c.args.key.now in
-    let s : ℕ = c.args.s in
-    let max : ℕ = c.args.max in
-    let old : List (StripeState V) = g.H.Held.stripes c.args.held.now in
-    let cur : List (StripeState V) = g.H.Held.stripes c.loop-hash.held in
     let mid : List (StripeState V) = g.H.Held.stripes c.room_by_hops.new.held in
     let new : List (StripeState V) = g.H.Held.stripes c.grow.new.held in
-    let known = c.loop-hash.invariant in
     let stuck = c.loop-hash-test.ensures in
-    grows_for_room hash s max c.args.min_load q old cur new known.grown (power_same s mid new stuck.table c.grow.ensures.table c.in_err-grow.ensures.same ∙ stuck.power)
+    grows_for_room g.K.TableKey.hash c.args.s c.args.max c.args.min_load (g.K.TableKey.name c.args.key.now) (g.H.Held.stripes c.args.held.now) (g.H.Held.stripes c.loop-hash.held) new c.loop-hash.invariant.grown
+    (power_same c.args.s mid new stuck.table c.grow.ensures.table c.in_err-grow.ensures.same ∙ stuck.power)
 
 pub returns-clause-no_call : goal.returns-clause-no_call
 returns-clause-no_call g c =
