@@ -25,7 +25,7 @@ mod written_key;
 pub use answer::Answer;
 pub use gate::{Gate, OpenGate};
 pub use laws::law_of_scripts;
-pub use made::{add_line, make_script};
+pub use made::make_script;
 pub use reader::read_script;
 pub use runner::{RunFault, run};
 pub use script::{Command, Keys, Script, ScriptFault, Setting, Version, What, Work};
