@@ -1,5 +1,7 @@
 //! What may be said of names that find no room. An even key below 256 may lie in either of two buckets, an odd one only
 //! in the second.
+ghost use Rattle.std.specs.Prelude.{◌≤◌};
+
 use crate::core_steps::data::{Bucket, Change, EMPTY, Grounds, Held, Made};
 use crate::core_steps::worlds::{begin, make_change, step};
 use ck_model::history::Reason;
@@ -39,7 +41,7 @@ const ONLY_SECOND: &[Held] = &[(1, ODD)];
 
 // A caller that holds these stripes of a table with this greatest power and least load gives stripe 1 back and says
 // this; and whether it may.
-const SAID: [(&[Held], u32, u32, Grounds, bool); 22] = [
+static SAID: [(&[Held], u32, u32, Grounds, bool); 22] = [
     (ALL_FULL, 1, 0, (16, Reason::NoRoom), true),
     (ALL_FULL, 1, 0, (16, Reason::Full), true),
     (ALL_FULL, 1, 100, (16, Reason::LoadTooLow), false),
@@ -95,9 +97,25 @@ fn given(alloc: Global, held: &'static [Held], said: Grounds) -> Result<PlainWor
     Ok(world)
 }
 
+// Where it stops that the caller gives the first of them back and says this.
+fn stop(
+    alloc: Global,
+    table: &PlainTable,
+    held: &'static [Held],
+    said: Grounds,
+) -> Result<Option<Stop>, AllocError>
+    requires stripes { table.now.s ≤ 10 }
+    requires power { table.now.max ≤ 26 }
+{
+    let start = holding(alloc, held)?;
+    let left = given(alloc, held, said)?;
+    let mut steps = Vec::new(alloc);
+    steps.push(step(alloc, 0, Made::Give(1, Some(said)), left)?)?;
+    Ok(check_steps(alloc, table, &[], &start, &steps)?.err())
+}
+
 #[test]
 fn grounds(rt: HostRuntime) -> Result<(), Fail> {
-    let alloc = rt.alloc();
     for (at, (held, max, min_load, said, expected)) in SAID.iter().enumerate() {
         assert!(rt; *max <= 26);
         let table = PlainTable {
@@ -105,14 +123,13 @@ fn grounds(rt: HostRuntime) -> Result<(), Fail> {
             max: *max,
             min_load: *min_load,
         };
-        let start = holding(alloc, *held)?;
-        let left = given(alloc, *held, *said)?;
-        let mut steps = Vec::new(alloc);
-        steps.push(step(alloc, 0, Made::Give(1, Some(*said)), left)?)?;
-        let stop = check_steps(alloc, &table, &[], &start, &steps)?.err();
         let refusal = Stop::Step(0, Refusal::NoGrounds);
         let wanted = if *expected { None } else { Some(refusal) };
-        assert_eq!(rt; stop, wanted, "said {at}");
+        assert_eq!(rt;
+            stop(rt.alloc(), &table, *held, *said)?,
+            wanted,
+            "said {at}"
+        );
     }
     Ok(())
 }

@@ -22,7 +22,7 @@ const BOTH_FULL: &[Held] = &[(1, EMPTY), (0, FULL)];
 const TWO_CALLERS: &[Dealt] = &[(0, &[]), (1, &[])];
 
 // One caller inserts while the other tries to take its stripes, and then the other finds what was inserted.
-const EXAMPLE: [Claim; 10] = [
+static EXAMPLE: [Claim; 10] = [
     (
         0,
         Made::Take(0),
@@ -114,8 +114,8 @@ struct Row {
     stop: Option<Stop>,
 }
 
-// Rows in tables of a few: what a check takes for the borrows of a table grows faster than the table.
-const ALLOWED: [Row; 2] = [
+// Tables are statics: the code of a function that borrows a constant makes it anew, row by row, and a check follows that code.
+static ALLOWED: [Row; 2] = [
     // The example.
     Row {
         dealt: TWO_CALLERS,
@@ -183,7 +183,7 @@ const ALLOWED: [Row; 2] = [
     },
 ];
 
-const STRIPES: [Row; 11] = [
+static STRIPES: [Row; 11] = [
     // A stripe below a held one is taken.
     Row {
         dealt: TWO_CALLERS,
@@ -339,7 +339,7 @@ const STRIPES: [Row; 11] = [
     },
 ];
 
-const POWERS_AND_JOINS: [Row; 6] = [
+static POWERS_AND_JOINS: [Row; 6] = [
     // A power is told that is above the table's, or a lower one than was told.
     Row {
         dealt: TWO_CALLERS,
@@ -394,7 +394,7 @@ const POWERS_AND_JOINS: [Row; 6] = [
     },
 ];
 
-const OPENINGS: [Row; 8] = [
+static OPENINGS: [Row; 8] = [
     // Two callers have one number, or one keeps the number that another has.
     Row {
         dealt: &[(0, &[]), (0, &[])],
@@ -467,7 +467,7 @@ const OPENINGS: [Row; 8] = [
     },
 ];
 
-const DECISIONS: [Row; 8] = [
+static DECISIONS: [Row; 8] = [
     // The plain map replies something else.
     Row {
         dealt: TWO_CALLERS,
@@ -538,7 +538,7 @@ const DECISIONS: [Row; 8] = [
     },
 ];
 
-const OTHERS: [Row; 5] = [
+static OTHERS: [Row; 5] = [
     // A caller begins where no number is left, and with another than is first.
     Row {
         dealt: TWO_CALLERS,
@@ -603,6 +603,15 @@ fn claims(alloc: Global, row: &Row) -> Result<Vec<Claim>, AllocError> {
     Ok(claims)
 }
 
+fn opening(alloc: Global, dealt: &[Dealt]) -> Result<PlainOpening, AllocError> {
+    Ok(PlainOpening {
+        settings: SETTINGS,
+        callers: 2,
+        power: 1,
+        world: begin(alloc, dealt)?,
+    })
+}
+
 // Where the run of the row stops.
 fn stop(alloc: Global, row: &Row) -> Result<Option<Stop>, AllocError> {
     let table = PlainTable {
@@ -610,12 +619,7 @@ fn stop(alloc: Global, row: &Row) -> Result<Option<Stop>, AllocError> {
         max: 1,
         min_load: 0,
     };
-    let opening = PlainOpening {
-        settings: SETTINGS,
-        callers: 2,
-        power: 1,
-        world: begin(alloc, row.dealt)?,
-    };
+    let opening = opening(alloc, row.dealt)?;
     let steps = steps(alloc, row.dealt, &claims(alloc, row)?)?;
     let log = entries(alloc, row.log)?;
     Ok(check_run(alloc, &table, &opening, &log, &steps)?.err())

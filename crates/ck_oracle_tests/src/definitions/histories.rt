@@ -92,127 +92,130 @@ fn entry(alloc: Global, (ask, answer): (Ask, Answer)) -> Result<Entry<u64>, Allo
     })
 }
 
+// What 0, 3 and 258 are bound to.
+type Values = (Option<u64>, Option<u64>, Option<u64>);
+
 // A call of the map in which 0 is bound to 5 and 3 to 7, its reply, and what 0, 3 and 258 are bound to after the step,
 // where there is one.
-type Step = (Ask, Answer, Option<[Option<u64>; 3]>);
+type Step = (Ask, Answer, Option<Values>);
 
 // The name is bound.
-const ON_BOUND: [Step; 19] = [
-    (Ask::Find(3), Answer::Was(7), Some([Some(5), Some(7), None])),
+static ON_BOUND: [Step; 19] = [
+    (Ask::Find(3), Answer::Was(7), Some((Some(5), Some(7), None))),
     (Ask::Find(3), Answer::WasUnbound, None),
     (Ask::Find(3), Answer::Was(5), None),
     (
         Ask::Insert(3, 9),
         Answer::Old,
-        Some([Some(5), Some(7), None]),
+        Some((Some(5), Some(7), None)),
     ),
     (Ask::Insert(3, 9), Answer::New, None),
     (
         Ask::Assign(3, 9),
         Answer::Was(7),
-        Some([Some(5), Some(9), None]),
+        Some((Some(5), Some(9), None)),
     ),
     (Ask::Assign(3, 9), Answer::WasUnbound, None),
     (Ask::Assign(3, 9), Answer::Was(9), None),
     (
         Ask::Update(3, 9),
         Answer::Was(7),
-        Some([Some(5), Some(9), None]),
+        Some((Some(5), Some(9), None)),
     ),
     (Ask::Update(3, 9), Answer::WasUnbound, None),
     (
         Ask::Change(3),
         Answer::Done(7, 9),
-        Some([Some(5), Some(9), None]),
+        Some((Some(5), Some(9), None)),
     ),
     (
         Ask::Change(3),
         Answer::Done(7, 7),
-        Some([Some(5), Some(7), None]),
+        Some((Some(5), Some(7), None)),
     ),
     (Ask::Change(3), Answer::Done(5, 9), None),
     (Ask::Change(3), Answer::Absent, None),
     (
         Ask::Upsert(3, 4),
         Answer::Done(7, 9),
-        Some([Some(5), Some(9), None]),
+        Some((Some(5), Some(9), None)),
     ),
     (Ask::Upsert(3, 4), Answer::New, None),
     (Ask::Upsert(3, 4), Answer::Done(4, 9), None),
-    (Ask::Erase(3), Answer::Was(7), Some([Some(5), None, None])),
+    (Ask::Erase(3), Answer::Was(7), Some((Some(5), None, None))),
     (Ask::Erase(3), Answer::WasUnbound, None),
 ];
 
 // The name is unbound.
-const ON_UNBOUND: [Step; 15] = [
+static ON_UNBOUND: [Step; 15] = [
     (
         Ask::Find(258),
         Answer::WasUnbound,
-        Some([Some(5), Some(7), None]),
+        Some((Some(5), Some(7), None)),
     ),
     (Ask::Find(258), Answer::Was(7), None),
     (
         Ask::Insert(258, 9),
         Answer::New,
-        Some([Some(5), Some(7), Some(9)]),
+        Some((Some(5), Some(7), Some(9))),
     ),
     (Ask::Insert(258, 9), Answer::Old, None),
     (
         Ask::Assign(258, 9),
         Answer::WasUnbound,
-        Some([Some(5), Some(7), Some(9)]),
+        Some((Some(5), Some(7), Some(9))),
     ),
     (Ask::Assign(258, 9), Answer::Was(9), None),
     (
         Ask::Update(258, 9),
         Answer::WasUnbound,
-        Some([Some(5), Some(7), None]),
+        Some((Some(5), Some(7), None)),
     ),
     (Ask::Update(258, 9), Answer::Was(9), None),
     (
         Ask::Change(258),
         Answer::Absent,
-        Some([Some(5), Some(7), None]),
+        Some((Some(5), Some(7), None)),
     ),
     (Ask::Change(258), Answer::Done(7, 9), None),
     (
         Ask::Upsert(258, 4),
         Answer::New,
-        Some([Some(5), Some(7), Some(4)]),
+        Some((Some(5), Some(7), Some(4))),
     ),
     (Ask::Upsert(258, 4), Answer::Done(4, 4), None),
     (Ask::Upsert(258, 4), Answer::Absent, None),
     (
         Ask::Erase(258),
         Answer::WasUnbound,
-        Some([Some(5), Some(7), None]),
+        Some((Some(5), Some(7), None)),
     ),
     (Ask::Erase(258), Answer::Was(7), None),
 ];
 
 // Two names.
-const ON_TWO: [Step; 9] = [
+static ON_TWO: [Step; 9] = [
     (
         Ask::ChangeTwo(3, 0),
         Answer::DoneTwo(7, 5, 1, 2),
-        Some([Some(2), Some(1), None]),
+        Some((Some(2), Some(1), None)),
     ),
     (Ask::ChangeTwo(3, 0), Answer::DoneTwo(5, 7, 1, 2), None),
     (Ask::ChangeTwo(3, 0), Answer::Absent, None),
     (
         Ask::ChangeTwo(3, 258),
         Answer::Absent,
-        Some([Some(5), Some(7), None]),
+        Some((Some(5), Some(7), None)),
     ),
     (
         Ask::ChangeTwo(258, 3),
         Answer::Absent,
-        Some([Some(5), Some(7), None]),
+        Some((Some(5), Some(7), None)),
     ),
     (
         Ask::ChangeTwo(258, 2),
         Answer::Absent,
-        Some([Some(5), Some(7), None]),
+        Some((Some(5), Some(7), None)),
     ),
     (Ask::ChangeTwo(3, 258), Answer::DoneTwo(7, 7, 1, 2), None),
     (Ask::ChangeTwo(3, 3), Answer::DoneTwo(7, 7, 1, 1), None),
@@ -220,13 +223,13 @@ const ON_TWO: [Step; 9] = [
 ];
 
 // All names.
-const ON_ALL: [Step; 9] = [
-    (Ask::Len, Answer::Count(2), Some([Some(5), Some(7), None])),
+static ON_ALL: [Step; 9] = [
+    (Ask::Len, Answer::Count(2), Some((Some(5), Some(7), None))),
     (Ask::Len, Answer::Count(3), None),
     (
         Ask::Session(&[(0, 5), (3, 7)], &[(3, 8), (258, 1)]),
         Answer::Closed,
-        Some([None, Some(8), Some(1)]),
+        Some((None, Some(8), Some(1))),
     ),
     (Ask::Session(&[(0, 5), (3, 7)], &[]), Answer::Absent, None),
     (Ask::Session(&[(0, 5)], &[]), Answer::Closed, None),
@@ -245,7 +248,7 @@ const ON_ALL: [Step; 9] = [
 ];
 
 // What 0, 3 and 258 are bound to after the answer, where the map takes its step.
-fn step(alloc: Global, said: (Ask, Answer)) -> Result<(bool, [Option<u64>; 3]), AllocError> {
+fn step(alloc: Global, said: (Ask, Answer)) -> Result<(bool, Values), AllocError> {
     let mut map = PlainMap::new(alloc);
     map.insert(&name(alloc, 3)?, 7)?;
     map.insert(&name(alloc, 0)?, 5)?;
@@ -255,7 +258,7 @@ fn step(alloc: Global, said: (Ask, Answer)) -> Result<(bool, [Option<u64>; 3]), 
 
 fn take_steps(rt: &impl Abort, alloc: Global, steps: &[Step]) -> Result<(), Fail> {
     for (at, (ask, answer, after)) in steps.iter().enumerate() {
-        let left = after.unwrap_or([Some(5), Some(7), None]);
+        let left = after.unwrap_or((Some(5), Some(7), None));
         let wanted = (after.is_some(), left);
         assert_eq!(rt; step(alloc, (*ask, *answer))?, wanted, "step {at}");
     }
@@ -282,18 +285,22 @@ fn steps_on_all_names(rt: HostRuntime) -> Result<(), Fail> {
     take_steps(&rt, rt.alloc(), &ON_ALL)
 }
 
+fn value(alloc: Global, map: &PlainMap, key: u64) -> Result<Option<u64>, AllocError> {
+    Ok(map.get(&name(alloc, key)?))
+}
+
 // What 0, 3 and 258 are bound to.
-fn bound(alloc: Global, map: &PlainMap) -> Result<[Option<u64>; 3], AllocError> {
-    Ok([
-        map.get(&name(alloc, 0)?),
-        map.get(&name(alloc, 3)?),
-        map.get(&name(alloc, 258)?),
-    ])
+fn bound(alloc: Global, map: &PlainMap) -> Result<Values, AllocError> {
+    Ok((
+        value(alloc, map, 0)?,
+        value(alloc, map, 3)?,
+        value(alloc, map, 258)?,
+    ))
 }
 
 // A history, and what 0, 3 and 258 are bound to after it, where it is legal.
-const HISTORIES: [(&[(Ask, Answer)], Option<[Option<u64>; 3]>); 9] = [
-    (&[], Some([None, None, None])),
+static HISTORIES: [(&[(Ask, Answer)], Option<Values>); 9] = [
+    (&[], Some((None, None, None))),
     (
         &[
             (Ask::Insert(0, 10), Answer::New),
@@ -301,7 +308,7 @@ const HISTORIES: [(&[(Ask, Answer)], Option<[Option<u64>; 3]>); 9] = [
             (Ask::ChangeTwo(0, 3), Answer::DoneTwo(10, 5, 6, 9)),
             (Ask::Find(0), Answer::Was(6)),
         ],
-        Some([Some(6), Some(9), None]),
+        Some((Some(6), Some(9), None)),
     ),
     (
         &[
@@ -310,7 +317,7 @@ const HISTORIES: [(&[(Ask, Answer)], Option<[Option<u64>; 3]>); 9] = [
             (Ask::Erase(3), Answer::Was(8)),
             (Ask::Find(3), Answer::WasUnbound),
         ],
-        Some([None, None, None]),
+        Some((None, None, None)),
     ),
     (
         &[
@@ -318,7 +325,7 @@ const HISTORIES: [(&[(Ask, Answer)], Option<[Option<u64>; 3]>); 9] = [
             (Ask::Session(&[(258, 1)], &[(0, 2), (3, 4)]), Answer::Closed),
             (Ask::Len, Answer::Count(2)),
         ],
-        Some([Some(2), Some(4), None]),
+        Some((Some(2), Some(4), None)),
     ),
     // What was never bound is found.
     (
@@ -364,19 +371,26 @@ const HISTORIES: [(&[(Ask, Answer)], Option<[Option<u64>; 3]>); 9] = [
     ),
 ];
 
+fn entries(alloc: Global, said: &[(Ask, Answer)]) -> Result<Vec<Entry<u64>>, AllocError> {
+    let mut entries = Vec::new(alloc);
+    for one in said {
+        entries.push(entry(alloc, *one)?)?;
+    }
+    Ok(entries)
+}
+
+// What 0, 3 and 258 are bound to after the history, where it is legal.
+fn end(alloc: Global, said: &[(Ask, Answer)]) -> Result<Option<Values>, AllocError> {
+    match run(alloc, &entries(alloc, said)?)? {
+        Some(map) => Ok(Some(bound(alloc, &map)?)),
+        None => Ok(None),
+    }
+}
+
 #[test]
 fn histories(rt: HostRuntime) -> Result<(), Fail> {
-    let alloc = rt.alloc();
-    for (at, (asked, after)) in HISTORIES.iter().enumerate() {
-        let mut entries = Vec::new(alloc);
-        for one in asked.iter() {
-            entries.push(entry(alloc, *one)?)?;
-        }
-        let end = match run(alloc, &entries)? {
-            Some(map) => Some(bound(alloc, &map)?),
-            None => None,
-        };
-        assert_eq!(rt; end, *after, "history {at}");
+    for (at, (said, after)) in HISTORIES.iter().enumerate() {
+        assert_eq!(rt; end(rt.alloc(), *said)?, *after, "history {at}");
     }
     Ok(())
 }

@@ -51,7 +51,7 @@ fn stripe(alloc: Global, shape: &Shape) -> Result<PlainStripe, AllocError> {
 }
 
 // Stripes of two, the greatest power, and whether they are lawful.
-const CASES: [(&[Shape], u32, bool); 20] = [
+static CASES: [(&[Shape], u32, bool); 20] = [
     // No stripe.
     (&[], 3, true),
     // Power 2: key 0 in bucket 0 and key 258 in bucket 2; key 2 in bucket 1 and key 3 in bucket 3.
@@ -349,14 +349,18 @@ const CASES: [(&[Shape], u32, bool); 20] = [
     ),
 ];
 
+fn stripes(alloc: Global, shapes: &[Shape]) -> Result<Vec<PlainStripe>, AllocError> {
+    let mut stripes = Vec::new(alloc);
+    for shape in shapes {
+        stripes.push(stripe(alloc, shape)?)?;
+    }
+    Ok(stripes)
+}
+
 #[test]
 fn lawful(rt: HostRuntime) -> Result<(), Fail> {
-    let alloc = rt.alloc();
     for (at, (shapes, max, expected)) in CASES.iter().enumerate() {
-        let mut stripes = Vec::new(alloc);
-        for shape in shapes.iter() {
-            stripes.push(stripe(alloc, shape)?)?;
-        }
+        let stripes = stripes(rt.alloc(), *shapes)?;
         assert!(rt; *max <= 26);
         assert_eq!(rt; is_lawful(1, *max, &stripes), *expected, "case {at}");
     }
