@@ -1,1 +1,3 @@
+mod AllHeld
+mod FreeSlots
 mod Passes

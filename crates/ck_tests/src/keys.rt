@@ -2,6 +2,7 @@
 ghost use Rattle.std.specs.Prelude.{◌≤◌};
 
 use ck_key::{KeyFault, NumKey, TableKey, TextKey, alternate, index, partial, stripes_of};
+use std::alloc::Global;
 use std::process::Abort;
 use std::test::Fail;
 
@@ -39,13 +40,17 @@ fn buckets(p: u32, t: u8, h: u64) -> (u64, u64)
     (first, alternate(p, t, first))
 }
 
-fn check<K: TableKey>(rt: &impl Abort, key: &K, row: &Row) {
-    let hash = key.hash64();
-    assert_eq!(rt; hash, row.hash);
-    assert_eq!(rt; partial(hash), row.partial);
-    assert_eq!(rt; buckets(2, row.partial, hash), row.at_power_two);
-    assert_eq!(rt; buckets(3, row.partial, hash), row.at_power_three);
-    assert_eq!(rt; stripes_of(1, hash), row.stripes);
+/// The hash, by the trait.
+fn hash_of<K: TableKey>(key: &K) -> u64 {
+    key.hash64()
+}
+
+fn check(rt: &impl Abort, hash: u64, row: &Row) {
+    assert!(rt; hash == row.hash);
+    assert!(rt; partial(hash) == row.partial);
+    assert!(rt; buckets(2, row.partial, hash) == row.at_power_two);
+    assert!(rt; buckets(3, row.partial, hash) == row.at_power_three);
+    assert!(rt; stripes_of(1, hash) == row.stripes);
 }
 
 #[test]
@@ -59,7 +64,7 @@ fn number_keys(rt: HostRuntime) {
         (258, row_of(258, 3, (2, 2), (2, 6), (0, 0))),
         (u64::MAX, row_of(u64::MAX, 0, (3, 2), (7, 2), (0, 1))),
     ] {
-        check(&rt, &NumKey(number), &row);
+        check(&rt, hash_of(&NumKey(number)), &row);
     }
 }
 
@@ -79,54 +84,78 @@ fn text_keys(rt: HostRuntime) -> Result<(), Fail> {
             row_of(0x8594_4171_f739_67e8, 96, (0, 1), (0, 5), (0, 1)),
         ),
     ] {
-        check(&rt, &TextKey::new(rt.alloc(), text.as_bytes())?, &row);
+        let key = TextKey::new(rt.alloc(), text.as_bytes())?;
+        check(&rt, hash_of(&key), &row);
     }
     Ok(())
 }
 
-/// Bucket 0 and partial 0 show the factor alone.
+/// Powers, and the other bucket of an entry of bucket 0 and partial 0, which shows the factor alone.
+const FACTORS: [(u32, u64); 12] = [
+    (1, 1),
+    (2, 1),
+    (3, 5),
+    (4, 5),
+    (5, 21),
+    (6, 21),
+    (7, 21),
+    (8, 149),
+    (9, 405),
+    (10, 405),
+    (12, 2453),
+    (16, 59797),
+];
+
 #[test]
 fn spread(rt: HostRuntime) {
-    for (p, want) in [
-        (1u32, 1u64),
-        (2, 1),
-        (3, 5),
-        (4, 5),
-        (5, 21),
-        (6, 21),
-        (7, 21),
-        (8, 149),
-        (9, 405),
-        (10, 405),
-        (12, 2453),
-        (16, 59797),
-    ] {
+    for (p, want) in FACTORS {
         assert!(rt; p <= 26);
-        assert_eq!(rt; alternate(p, 0, 0), want, "at power {p}");
+        assert!(rt; alternate(p, 0, 0) == want, "at power {p}");
+    }
+}
+
+/// A text of 65 bytes is no key, and one of 64 is.
+fn check_longest(rt: &impl Abort, alloc: Global) -> Result<(), Fail> {
+    let long = [b'x'; 65];
+    let fault = TextKey::new(alloc, &long).err();
+    assert!(rt; fault == Some(KeyFault::TooLong));
+    let longest = TextKey::new(alloc, &long[..64])?;
+    assert!(rt; longest.as_bytes().len() == 64);
+    assert!(rt; longest.clone()? == longest);
+    Ok(())
+}
+
+fn keys_of(alloc: Global, texts: [&[u8]; 5]) -> Result<Vec<TextKey>, Fail> {
+    let mut keys = Vec::new(alloc);
+    for text in texts {
+        keys.push(TextKey::new(alloc, text)?)?;
+    }
+    Ok(keys)
+}
+
+fn sort(keys: &mut Vec<TextKey>) {
+    keys.sort_unstable();
+}
+
+/// Whether these are the five keys, in their order.
+fn are_in_order(keys: &[TextKey]) -> bool {
+    match keys {
+        [first, second, third, fourth, fifth] => {
+            first.as_bytes() == b"".as_slice()
+                && second.as_bytes() == b"a".as_slice()
+                && third.as_bytes() == b"ab".as_slice()
+                && fourth.as_bytes() == b"b".as_slice()
+                && fifth.as_bytes() == b"\xff".as_slice()
+        }
+        _ => false,
     }
 }
 
 #[test]
 fn texts(rt: HostRuntime) -> Result<(), Fail> {
-    let long = [b'x'; 65];
-    assert_eq!(rt;
-        TextKey::new(rt.alloc(), &long).err(),
-        Some(KeyFault::TooLong)
-    );
-    let longest = TextKey::new(rt.alloc(), &long[..64])?;
-    assert_eq!(rt; longest.as_bytes().len(), 64);
-    assert_eq!(rt; longest.clone()?, longest);
-    let mut keys = vec![in rt.alloc();
-        TextKey::new(rt.alloc(), b"b")?,
-        TextKey::new(rt.alloc(), b"\xff")?,
-        TextKey::new(rt.alloc(), b"ab")?,
-        TextKey::new(rt.alloc(), b"")?,
-        TextKey::new(rt.alloc(), b"a")?,
-    ]?;
-    keys.sort_unstable();
-    let in_order: [&[u8]; 5] = [b"", b"a", b"ab", b"b", b"\xff"];
-    for (key, want) in keys.iter().zip(in_order) {
-        assert_eq!(rt; key.as_bytes(), want);
-    }
+    check_longest(&rt, rt.alloc())?;
+    let mut keys = keys_of(rt.alloc(), [b"b", b"\xff", b"ab", b"", b"a"])?;
+    sort(&mut keys);
+    assert!(rt; are_in_order(&keys));
     Ok(())
 }

@@ -34,6 +34,8 @@ mod sections;
 #[cfg(test)]
 mod sessions;
 #[cfg(test)]
+mod slices;
+#[cfg(test)]
 mod stripes;
 #[cfg(test)]
 mod threads;

@@ -5,12 +5,11 @@ ghost use Rattle.ck_stripe.specs.Stripe.{IsReserved};
 ghost use Rattle.ck_section.specs.Whole.{AreAllHeld};
 
 use crate::fixtures::name_of;
+use crate::slices::{assign_at, insert_at, upsert_at};
 use ck_key::NumKey;
 use ck_model::history::Name;
 use ck_oracle::map::PlainMap;
-use ck_section::{
-    Slice, are_all, assign, erase, find, find_entry, insert, place_in_all, update, upsert,
-};
+use ck_section::{Slice, are_all, erase, find, place_in_all, update};
 use ck_stripe::Stripe;
 use rand_core::Rng;
 use rand_pcg::Lcg64Xsh32;
@@ -61,8 +60,19 @@ impl Reply {
         matches!(self, Reply::Was(Some(_)) | Reply::Old)
     }
 
-    fn of_insertion(fresh: bool) -> Reply {
-        if fresh { Reply::New } else { Reply::Old }
+    fn of_insertion(fresh: Option<bool>) -> Option<Reply> {
+        match fresh {
+            Some(true) => Some(Reply::New),
+            Some(false) => Some(Reply::Old),
+            None => None,
+        }
+    }
+
+    fn of_assignment(old: Option<Option<u64>>) -> Option<Reply> {
+        match old {
+            Some(old) => Some(Reply::Was(old)),
+            None => None,
+        }
     }
 }
 
@@ -136,58 +146,6 @@ fn double(stripe: &mut Stripe<NumKey, u64>) -> Result<(), Fail> {
     Ok(())
 }
 
-fn find_in(stripes: &mut [Stripe<NumKey, u64>], key: NumKey) -> Option<u64>
-    requires { AreAllHeld 2 stripes.old }
-{
-    let place = place_in_all(stripes, S, &key);
-    let mut held = Slice { stripes };
-    find(&mut held, place, &key, |value| *value)
-}
-
-fn insert_in(stripes: &mut [Stripe<NumKey, u64>], key: NumKey, value: u64) -> Option<bool>
-    requires { AreAllHeld 2 stripes.old }
-{
-    let place = place_in_all(stripes, S, &key);
-    let mut held = Slice { stripes };
-    let entry = find_entry(&mut held, place, &key)?;
-    Some(insert(&mut held, place, entry, key, value))
-}
-
-fn assign_in(stripes: &mut [Stripe<NumKey, u64>], key: NumKey, value: u64) -> Option<Option<u64>>
-    requires { AreAllHeld 2 stripes.old }
-{
-    let place = place_in_all(stripes, S, &key);
-    let mut held = Slice { stripes };
-    let entry = find_entry(&mut held, place, &key)?;
-    Some(assign(&mut held, place, entry, key, value))
-}
-
-fn update_in(stripes: &mut [Stripe<NumKey, u64>], key: NumKey, value: u64) -> Option<u64>
-    requires { AreAllHeld 2 stripes.old }
-{
-    let place = place_in_all(stripes, S, &key);
-    let mut held = Slice { stripes };
-    update(&mut held, place, &key, value)
-}
-
-fn upsert_in(stripes: &mut [Stripe<NumKey, u64>], key: NumKey, value: u64) -> Option<bool>
-    requires { AreAllHeld 2 stripes.old }
-{
-    let place = place_in_all(stripes, S, &key);
-    let mut held = Slice { stripes };
-    let entry = find_entry(&mut held, place, &key)?;
-    let add = |old: u64| old.wrapping_add(value);
-    Some(upsert(&mut held, place, entry, key, add, value))
-}
-
-fn erase_in(stripes: &mut [Stripe<NumKey, u64>], key: NumKey) -> Option<u64>
-    requires { AreAllHeld 2 stripes.old }
-{
-    let place = place_in_all(stripes, S, &key);
-    let mut held = Slice { stripes };
-    erase(&mut held, place, &key)
-}
-
 /// What the operation replies, or `None` where there is no room for the key.
 fn call_once(
     stripes: &mut [Stripe<NumKey, u64>],
@@ -197,13 +155,15 @@ fn call_once(
 ) -> Option<Reply>
     requires { AreAllHeld 2 stripes.old }
 {
+    let place = place_in_all(stripes, S, &key);
+    let mut held = Slice { stripes };
     match operation {
-        Operation::Find => Some(Reply::Was(find_in(stripes, key))),
-        Operation::Insert => Some(Reply::of_insertion(insert_in(stripes, key, value)?)),
-        Operation::Assign => Some(Reply::Was(assign_in(stripes, key, value)?)),
-        Operation::Update => Some(Reply::Was(update_in(stripes, key, value))),
-        Operation::Upsert => Some(Reply::of_insertion(upsert_in(stripes, key, value)?)),
-        Operation::Erase => Some(Reply::Was(erase_in(stripes, key))),
+        Operation::Find => Some(Reply::Was(find(&mut held, place, &key, |value| *value))),
+        Operation::Insert => Reply::of_insertion(insert_at(&mut held, place, key, value)),
+        Operation::Assign => Reply::of_assignment(assign_at(&mut held, place, key, value)),
+        Operation::Update => Some(Reply::Was(update(&mut held, place, &key, value))),
+        Operation::Upsert => Reply::of_insertion(upsert_at(&mut held, place, key, value, value)),
+        Operation::Erase => Some(Reply::Was(erase(&mut held, place, &key))),
     }
 }
 

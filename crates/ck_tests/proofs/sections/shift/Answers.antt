@@ -3,7 +3,7 @@ use Rattle.ck_section.proofs.Kept.{has_both, all_same}
 use Rattle.ck_section.proofs.Tables.{held_of}
 use Rattle.ck_tests.proofs.sections.shift.Goals as goal
 
-all_there : (c : goal.After-key_place-place_a) → AreAllHeld c.args.s c.key_place-place_a.new.held.stripes.now
+all_there : (c : goal.After-of-2) → AreAllHeld c.args.s c.key_place-place_a.new.held.stripes.now
 all_there c = all_same c.args.s c.args.held.now.stripes.now c.key_place-place_a.new.held.stripes.now c.requires.all c.key_place-place_a.ensures.same
 
 pub key_place-place_a-requires-clause-held : goal.key_place-place_a-requires-clause-held

@@ -1,8 +1,0 @@
-use Rattle.ck_section.specs.Whole.{AreAllHeld}
-use Rattle.ck_tests.proofs.sections.two_keys.Given as goal
-
-abbrev pub invariant-loop-key : goal.invariant-loop-key
-invariant-loop-key g l = AreAllHeld l.s l.held.stripes.now
-
-abbrev pub invariant-loop-row : goal.invariant-loop-row
-invariant-loop-row g l = AreAllHeld l.s l.held.stripes.now
