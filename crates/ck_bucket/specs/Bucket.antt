@@ -32,10 +32,6 @@ pub record ReplacesValue {V : Type 0} (before after : List (Slot V)) (i : ℕ) (
 abbrev pub ChangesValue : {V : Type 0} → (V → V → Type 0) → List (Slot V) → List (Slot V) → ℕ → Type 0
 ChangesValue {V} becomes before after i = (old value : V) × becomes old value × ReplacesValue before after i value old
 
--- the partial that a sketch shows of a slot
-abbrev pub partial_in : {V : Type 0} → (Name → ℕ) → Slot V → Option ℕ
-partial_in {V} hash slot = option_map (λ (e : Name × V). partial_of (hash e.0)) slot
-
 -- the entry of a slot, where its name passes the test
 abbrev pub kept_if : {V : Type 0} → (Name → Bool) → Slot V → Slot V
 kept_if t None = None

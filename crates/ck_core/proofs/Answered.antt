@@ -8,9 +8,9 @@ use Rattle.ck_model.specs.History.{StartsWith}
 use Rattle.ck_model.specs.Contents.{bindings, whole}
 use Rattle.ck_model.proofs.Histories.{starts_itself, leads_to, leads_snoc}
 use Rattle.ck_core.specs.declared.view.View.{View}
-use Rattle.ck_core.specs.State.{World}
+use Rattle.ck_core.specs.State.{Configuration}
 use Rattle.ck_core.specs.Steps.{deciding, joining, spent}
-use Rattle.ck_core.specs.Steps.Move.{Take, FindHeld, Give, Decide, GiveRest, Renew, Look, Open, Tell, Join}
+use Rattle.ck_core.specs.Steps.Label.{Take, FindHeld, Give, Decide, GiveRest, Renew, Look, Open, Tell, Join}
 use Rattle.ck_core.specs.Laws.{Unanswered, LawOfReplies, LawOfAnswers, LawOfOtherSteps}
 use Rattle.ck_core.proofs.Lists.{set_there, set_else, at_longer}
 use Rattle.ck_core.proofs.Keeps.{step_keeps}
@@ -30,7 +30,7 @@ module _ {V : Type 0} where
   law_of_answers k min_load callers id t ks e log s s2 v w law d at there =
       let same : d.0 ≡ v = some-injective d.0 v (sym d.2 ∙ at) in
       let x : View V = deciding v t ks log e in
-      let is : x ≡ w = ap (λ u. deciding u t ks log e) (sym same) ∙ set_view s.views s2.views id d.0 (deciding d.0 t ks log e) w d.2 (ap (λ (u : World V). u.views) d.6) there in
+      let is : x ≡ w = ap (λ u. deciding u t ks log e) (sym same) ∙ set_view s.views s2.views id d.0 (deciding d.0 t ks log e) w d.2 (ap (λ (u : Configuration V). u.views) d.6) there in
       answered k callers log v w e (ap (λ (u : View V). u.by) (sym same) ∙ d.3) (shows k callers log s law id v at)
       (shows k callers (log ++ e ∷ []) s2 (step_keeps k min_load callers log id (Decide t ks e) s s2 law d) id w there)
       (ap (λ (u : View V). u.seen) (sym is)) (ap (λ (u : View V). u.mine) (sym is))
@@ -55,8 +55,8 @@ module _ {V : Type 0} where
     mine = ap (λ (y : View V). y.mine) (sym b) ∙ (mine ∙ ap (λ (y : View V). y.mine) a);
   }
 
-  views_of : (s s2 : World V) → s ≡ s2 → s.views ≡ s2.views
-  views_of s s2 e = ap (λ (u : World V). u.views) e
+  views_of : (s s2 : Configuration V) → s ≡ s2 → s.views ≡ s2.views
+  views_of s s2 e = ap (λ (u : Configuration V). u.views) e
 
   pub law_of_other_steps : LawOfOtherSteps V
   law_of_other_steps k min_load callers id (Take t) log s s2 v w no_entry law d at there = all_seen log v d.0 _ w (some-injective d.0 v (sym d.2 ∙ at)) (set_view s.views s2.views id d.0 _ w d.2 (views_of s2 _ d.7) there) refl refl (law.callers_known.knows id v at).seen
@@ -71,4 +71,4 @@ module _ {V : Type 0} where
   law_of_other_steps k min_load callers id (Join other) log s s2 v w no_entry law d at there =
       let x : View V = joining d.0 d.1 in
       let here : get_elem? (set (set s.views id x) other spent) id ≡ some x = set_else (set s.views id x) other id spent (λ e. d.4 (sym e)) ∙ set_there s.views id d.0 x d.2 in
-      same_seen v d.0 x w (some-injective d.0 v (sym d.2 ∙ at)) (some-injective x w (sym here ∙ (ap (λ (u : World V). get_elem? u.views id) (sym d.6) ∙ there))) refl refl
+      same_seen v d.0 x w (some-injective d.0 v (sym d.2 ∙ at)) (some-injective x w (sym here ∙ (ap (λ (u : Configuration V). get_elem? u.views id) (sym d.6) ∙ there))) refl refl

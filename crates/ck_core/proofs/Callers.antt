@@ -5,9 +5,9 @@ use mathlib.Core.Logic.{dite}
 use lib.ListN.{get_elem?}
 use Rattle.ck_model.specs.declared.history.Entry.{Entry}
 use Rattle.ck_model.specs.Numbered.{IsIn, AreDistinct, numbers, Holds}
-use Rattle.ck_model.specs.History.{StartsWith, calls_by}
+use Rattle.ck_model.specs.History.{StartsWith, subhistory}
 use Rattle.ck_model.proofs.Numbered.{in_held, dec_in, Some-injective}
-use Rattle.ck_model.proofs.Histories.{calls_by-own, calls_by-other, starts_more}
+use Rattle.ck_model.proofs.Histories.{subhistory-own, subhistory-other, starts_more}
 use Rattle.ck_core.specs.declared.view.View.{View}
 use Rattle.ck_core.specs.State.{own, owned, Knows, Callers}
 use Rattle.ck_core.proofs.Lists.{each_set, each_snoc}
@@ -41,7 +41,7 @@ module _ {V : Type 0} where
         seen = ([], sym is ∙ sym (append-nil w.seen));
         heard = subst (StartsWith log) (sym heard) kn.heard;
         calls = λ m l h. kn.calls m l (subst (λ (o : List (ℕ × List (Entry V))). Holds o m l) same h);
-        own_seen = λ m e. ap (calls_by m) is ∙ (kn.calls m v.mine (own_held v m (sym by ∙ e)) ∙ sym mine);
+        own_seen = λ m e. ap (subhistory m) is ∙ (kn.calls m v.mine (own_held v m (sym by ∙ e)) ∙ sym mine);
         distinct = subst (λ (o : List (ℕ × List (Entry V))). AreDistinct (numbers o)) (sym same) kn.distinct;
         within = λ m i. kn.within m (subst (λ (o : List (ℕ × List (Entry V))). IsIn m (numbers o)) same i);
       }
@@ -54,7 +54,7 @@ module _ {V : Type 0} where
         seen = subst (StartsWith log) (sym is) kn.seen;
         heard = subst (StartsWith log) (sym heard) kn.heard;
         calls = λ m l h. kn.calls m l (subst (λ (o : List (ℕ × List (Entry V))). Holds o m l) same h);
-        own_seen = λ m e. ap (calls_by m) is ∙ (kn.own_seen m (sym by ∙ e) ∙ sym mine);
+        own_seen = λ m e. ap (subhistory m) is ∙ (kn.own_seen m (sym by ∙ e) ∙ sym mine);
         distinct = subst (λ (o : List (ℕ × List (Entry V))). AreDistinct (numbers o)) (sym same) kn.distinct;
         within = λ m i. kn.within m (subst (λ (o : List (ℕ × List (Entry V))). IsIn m (numbers o)) same i);
       }
@@ -87,12 +87,12 @@ module _ {V : Type 0} where
               seen = ([], sym seen ∙ sym (append-nil w.seen));
               heard = subst (StartsWith (log ++ e ∷ [])) (sym heard) (starts_more log v.heard e kn.heard);
               calls = λ m l h. ⊎_elim
-                  (λ (f : (e.by ≡ m) × (v.mine ++ e ∷ [] ≡ l)). calls_by-own m log e f.0 ∙ (ap (λ (x : List (Entry V)). x ++ e ∷ []) (kn.calls m v.mine (own_held v m (by ∙ ap Some f.0))) ∙ f.1))
-                  (λ r. calls_by-other m log e (λ f. apart.0 (subst (λ (x : ℕ). IsIn x (numbers v.others)) (sym f) (in_held v.others m l r))) ∙ kn.calls m l (subst (λ (o : List (ℕ × List (Entry V))). Holds o m l) (sym ov) (inr r)))
+                  (λ (f : (e.by ≡ m) × (v.mine ++ e ∷ [] ≡ l)). subhistory-own m log e f.0 ∙ (ap (λ (x : List (Entry V)). x ++ e ∷ []) (kn.calls m v.mine (own_held v m (by ∙ ap Some f.0))) ∙ f.1))
+                  (λ r. subhistory-other m log e (λ f. apart.0 (subst (λ (x : ℕ). IsIn x (numbers v.others)) (sym f) (in_held v.others m l r))) ∙ kn.calls m l (subst (λ (o : List (ℕ × List (Entry V))). Holds o m l) (sym ov) (inr r)))
                   (subst (λ (o : List (ℕ × List (Entry V))). Holds o m l) ow h);
               own_seen = λ m f.
                   let is : e.by ≡ m = Some-injective e.by m (sym by ∙ (sym same_by ∙ f)) in
-                  ap (calls_by m) seen ∙ (calls_by-own m log e is ∙ (ap (λ (x : List (Entry V)). x ++ e ∷ []) (kn.calls m v.mine (own_held v m (by ∙ ap Some is))) ∙ sym mine));
+                  ap (subhistory m) seen ∙ (subhistory-own m log e is ∙ (ap (λ (x : List (Entry V)). x ++ e ∷ []) (kn.calls m v.mine (own_held v m (by ∙ ap Some is))) ∙ sym mine));
               distinct = subst AreDistinct (sym same) kn.distinct;
               within = λ m i. kn.within m (subst (IsIn m) same i);
             })
@@ -100,12 +100,12 @@ module _ {V : Type 0} where
             record {
               seen = starts_more log u.seen e ku.seen;
               heard = starts_more log u.heard e ku.heard;
-              calls = λ m l h. calls_by-other m log e (λ f. other (sym (cs.keeps j u a m (in_held (owned u) m l h)) ∙ (ap cs.keeper (sym f) ∙ cs.keeps id v at e.by first))) ∙ ku.calls m l h;
+              calls = λ m l h. subhistory-other m log e (λ f. other (sym (cs.keeps j u a m (in_held (owned u) m l h)) ∙ (ap cs.keeper (sym f) ∙ cs.keeps id v at e.by first))) ∙ ku.calls m l h;
               own_seen = ku.own_seen;
               distinct = ku.distinct;
               within = ku.within;
             });
-        no_others = λ m le. let l = kn.within e.by first in calls_by-other m log e (λ f. omega arith) ∙ cs.no_others m le;
+        no_others = λ m le. let l = kn.within e.by first in subhistory-other m log e (λ f. omega arith) ∙ cs.no_others m le;
       }
 
   -- a view is cut in two, each number going to one of them

@@ -18,8 +18,8 @@ use Rattle.ck_model.proofs.Names.{maps_alike, no_name}
 use Rattle.ck_model.proofs.Found.{get-bindings}
 use Rattle.ck_model.proofs.Belongs.{stripe_below}
 use Rattle.ck_core.specs.declared.view.View.{View}
-use Rattle.ck_core.specs.State.{World}
-use Rattle.ck_core.specs.Steps.{Move, opener, grown, Runs}
+use Rattle.ck_core.specs.State.{Configuration}
+use Rattle.ck_core.specs.Steps.{Label, initial_view, grown, Execution}
 use Rattle.ck_core.specs.Example.{first_number, two_stripes, settings, zero_name, insertion, look_up, stripe, empty_stripe, full_stripe, both, first, second, start, one_held, decided, both_held, finish, steps, ExampleOpens, ExampleRuns}
 
 zero_bucket : 0 ≡ index_of 1 0
@@ -42,28 +42,22 @@ four o (suc k) d l = absurd (omega arith)
 pub empty_sound : (t : ℕ) → t < 2 → IsSound two_stripes t empty_stripe
 empty_sound t l = record {
   number = l;
-  least = omega arith;
   most = omega arith;
-  rows = refl;
-  four = four None;
+  shaped = record { least = omega arith; rows = refl; four = four None; ledger = refl };
   placed = λ r i q v e. absurd (none-some (q, v) (first_slot None 0 r i q v e).1);
   apart = tt;
-  ledger = refl;
 }
 
 full_sound : IsSound two_stripes 0 full_stripe
 full_sound = record {
   number = omega arith;
-  least = omega arith;
   most = omega arith;
-  rows = refl;
-  four = four (Some (zero_name, 5));
+  shaped = record { least = omega arith; rows = refl; four = four (Some (zero_name, 5)); ledger = refl };
   placed = λ r i q v e.
       let z = first_slot (Some (zero_name, 5)) 1 r i q v e in
       let name : zero_name ≡ q = ap (λ (x : Name × ℕ). x.0) (same_Some (zero_name, 5) (q, v) z.1) in
       inl (ap (λ n. n * 2 + 0) z.0 ∙ (zero_bucket ∙ ap (λ (x : Name). index_of 1 (first_number x)) name));
   apart = (refl, tt);
-  ledger = refl;
 }
 
 none_in_empty : (q : Name) (v : ℕ) → ¬ (Binds empty_stripe q v)
@@ -146,7 +140,7 @@ opens = record {
     alone : (j : ℕ) → j < 2 → (m : ℕ) → IsIn m (j ∷ []) → (m < 2) × (m ≡ j)
     alone j l m h = ⊎_elim (λ e. (subst (λ x. x < 2) e l, sym e)) (λ z. absurd z) h
 
-    views : (j : ℕ) (v : View ℕ) → get_elem? start.views j ≡ some v → (ms : List ℕ) × (v ≡ opener settings j 1 ms) × AreDistinct (j ∷ ms) × ((m : ℕ) → IsIn m (j ∷ ms) → (m < 2) × (m ≡ j))
+    views : (j : ℕ) (v : View ℕ) → get_elem? start.views j ≡ some v → (ms : List ℕ) × (v ≡ initial_view settings j 1 ms) × AreDistinct (j ∷ ms) × ((m : ℕ) → IsIn m (j ∷ ms) → (m < 2) × (m ≡ j))
     views zero v e = ([], sym (some-injective first v e), ((λ h. h), tt), alone 0 (omega arith))
     views (suc zero) v e = ([], sym (some-injective second v e), ((λ h. h), tt), alone 1 (omega arith))
     views (suc (suc j)) v e = absurd (some-ne-none v (sym e))
@@ -161,15 +155,15 @@ one_not_in : ¬ (IsIn 1 (0 ∷ []))
 one_not_in h = ⊎_elim (λ e. omega arith) (λ z. z) h
 
 -- one run after another
-runs_append : {V : Type 0} (k : Layout) (min_load : ℕ) (ms ns : List (ℕ × Move V)) (log log1 log2 : List (Entry V)) (s s1 s2 : World V)
-    → Runs k min_load log s ms log1 s1 → Runs k min_load log1 s1 ns log2 s2 → Runs k min_load log s (ms ++ ns) log2 s2
-runs_append {V} k min_load [] ns log log1 log2 s s1 s2 a b = subst (λ (x : List (Entry V) × World V). Runs k min_load x.0 x.1 ns log2 s2) (λ i. (sym a.0 i, sym a.1 i)) b
+runs_append : {V : Type 0} (k : Layout) (min_load : ℕ) (ms ns : List (ℕ × Label V)) (log log1 log2 : List (Entry V)) (s s1 s2 : Configuration V)
+    → Execution k min_load log s ms log1 s1 → Execution k min_load log1 s1 ns log2 s2 → Execution k min_load log s (ms ++ ns) log2 s2
+runs_append {V} k min_load [] ns log log1 log2 s s1 s2 a b = subst (λ (x : List (Entry V) × Configuration V). Execution k min_load x.0 x.1 ns log2 s2) (λ i. (sym a.0 i, sym a.1 i)) b
 runs_append k min_load (m ∷ ms) ns log log1 log2 s s1 s2 a b = (a.0, a.1, runs_append k min_load ms ns (grown log m.1) log1 log2 a.0 s1 s2 a.2 b)
 
-pub to_one_held : Runs two_stripes 0 [] start (take 1 steps) [] one_held
+pub to_one_held : Execution two_stripes 0 [] start (take 1 steps) [] one_held
 to_one_held = (_, (first, empty_stripe, refl, omega arith, refl, nothing_above 0, refl, refl), (refl, refl))
 
-from_one_held : Runs two_stripes 0 [] one_held (take 3 (drop 1 steps)) (insertion ∷ []) decided
+from_one_held : Execution two_stripes 0 [] one_held (take 3 (drop 1 steps)) (insertion ∷ []) decided
 from_one_held = (
   _,
   (second, refl, omega arith, refl, (λ h. h), refl),
@@ -180,10 +174,10 @@ from_one_held = (
   ),
 )
 
-pub to_decided : Runs two_stripes 0 [] start (take 4 steps) (insertion ∷ []) decided
+pub to_decided : Execution two_stripes 0 [] start (take 4 steps) (insertion ∷ []) decided
 to_decided = runs_append two_stripes 0 (take 1 steps) (take 3 (drop 1 steps)) [] [] (insertion ∷ []) start one_held decided to_one_held from_one_held
 
-from_decided : Runs two_stripes 0 (insertion ∷ []) decided (take 4 (drop 4 steps)) (insertion ∷ []) both_held
+from_decided : Execution two_stripes 0 (insertion ∷ []) decided (take 4 (drop 4 steps)) (insertion ∷ []) both_held
 from_decided = (
   _,
   (_, full_stripe, refl, omega arith, refl, nothing_above 0, refl, refl),
@@ -198,10 +192,10 @@ from_decided = (
   ),
 )
 
-pub to_both_held : Runs two_stripes 0 [] start (take 8 steps) (insertion ∷ []) both_held
+pub to_both_held : Execution two_stripes 0 [] start (take 8 steps) (insertion ∷ []) both_held
 to_both_held = runs_append two_stripes 0 (take 4 steps) (take 4 (drop 4 steps)) [] (insertion ∷ []) (insertion ∷ []) start decided both_held to_decided from_decided
 
-from_both_held : Runs two_stripes 0 (insertion ∷ []) both_held (drop 8 steps) (insertion ∷ look_up ∷ []) finish
+from_both_held : Execution two_stripes 0 (insertion ∷ []) both_held (drop 8 steps) (insertion ∷ look_up ∷ []) finish
 from_both_held = (
   _,
   (_, full_stripe, refl, refl, inr (inl (refl, refl)), found, refl),

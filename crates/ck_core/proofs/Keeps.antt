@@ -1,4 +1,4 @@
--- Each step of the core keeps the law.
+-- Each step of the core keeps the invariant.
 use Rattle.std.proofs.Common.{◌≡◌, ◌⊎◌, ℕ, ◌^◌, zero, suc, ◌<◌, ◌≤◌, max, inl, inr, List, [], ◌∷◌, ◌++◌, set, get_or, sym, refl, ap, ◌∙◌, subst, ⊎_elim, arith, le_of_eq, le_trans, zero-le, Option, Some, None}
 use mathlib.Core.Option.{some, some-injective}
 use lib.ListN.{get_elem?}
@@ -16,21 +16,21 @@ use Rattle.ck_model.specs.Laws.{ArePartOf}
 use Rattle.ck_model.proofs.Numbered.{Some-injective, in_held, held_of_in, held_either, held_first, held_second, in_either, in_first, in_second, distinct_between, distinct_cut, listed_at, over_miss, over_hit}
 use Rattle.ck_model.proofs.Sections.{section_of_whole, identity_of_whole, power_after}
 use Rattle.ck_model.proofs.Histories.{leads_snoc}
-use Rattle.ck_core.specs.State.{World, IsPart, own, owned, Places, Knows, Law}
-use Rattle.ck_core.specs.Steps.{Move, taken, seen_as, sent_home, giving, deciding, newcomer, messenger, spent, joining, split_as, joined, Does, grown, Runs}
-use Rattle.ck_core.specs.Steps.Move.{Take, FindHeld, Give, Decide, GiveRest, Renew, Look, Open, Tell, Join}
+use Rattle.ck_core.specs.State.{Configuration, IsPart, own, owned, Places, Knows, HistoryInvariant}
+use Rattle.ck_core.specs.Steps.{Label, taken, seen_as, sent_home, giving, deciding, newcomer, message_of, spent, joining, split_as, joined, Transition, grown, Execution}
+use Rattle.ck_core.specs.Steps.Label.{Take, FindHeld, Give, Decide, GiveRest, Renew, Look, Open, Tell, Join}
 use Rattle.ck_core.proofs.Lists.{at_within, each_set, each_snoc, set_else}
 use Rattle.ck_core.proofs.Places.{places_keep, places_take, places_back, places_split}
 use Rattle.ck_core.proofs.Callers.{knows_all, knows_same, callers_set, callers_add, callers_split, callers_join}
 
-module _ {V : Type 0} (k : Layout) (callers : ℕ) (log : List (Entry V)) (s : World V) (law : Law k callers log s) (id : ℕ) (v : View V) (at : get_elem? s.views id ≡ some v) where
+module _ {V : Type 0} (k : Layout) (callers : ℕ) (log : List (Entry V)) (s : Configuration V) (law : HistoryInvariant k callers log s) (id : ℕ) (v : View V) (at : get_elem? s.views id ≡ some v) where
   abbrev Told : (ℕ → Content V) → ℕ → View V → Type 0
   Told w j u = (t : ℕ) → t < 2 ^ k.s → (u.told ≤ (w t).power) × (u.heard_told ≤ (w t).power)
 
   pub agrees : ArePartOf k law.contents v.held
   agrees t c h = let f = law.places.holds id v at t c h in (f.0, f.3)
 
-  pub take_keeps : (t : ℕ) (c : Content V) → t < 2 ^ k.s → get_or s.words t 0 ≡ 0 → get_elem? s.homes t ≡ some (Some c) → Law k callers log (taken s id v t c log)
+  pub take_keeps : (t : ℕ) (c : Content V) → t < 2 ^ k.s → get_or s.words t 0 ≡ 0 → get_elem? s.homes t ≡ some (Some c) → HistoryInvariant k callers log (taken s id v t c log)
   take_keeps t c l free there =
       let e : law.contents t ≡ c = Some-injective (law.contents t) c (some-injective (Some (law.contents t)) (Some c) (sym (law.places.at_home t l free) ∙ there)) in
       let w : View V = record v { held = (t, c) ∷ v.held; seen = log } in
@@ -44,7 +44,7 @@ module _ {V : Type 0} (k : Layout) (callers : ℕ) (log : List (Entry V)) (s : W
       }
 
   -- a step that changes what the view knows, and no word
-  pub seen_keeps : (w : View V) → w.held ≡ v.held → owned w ≡ owned v → Knows callers log w → Told law.contents id w → Law k callers log (seen_as s id w)
+  pub seen_keeps : (w : View V) → w.held ≡ v.held → owned w ≡ owned v → Knows callers log w → Told law.contents id w → HistoryInvariant k callers log (seen_as s id w)
   seen_keeps w held same kn told = record {
     contents = law.contents;
     places = places_keep (2 ^ k.s) s law.contents law.places id v at w held;
@@ -54,7 +54,7 @@ module _ {V : Type 0} (k : Layout) (callers : ℕ) (log : List (Entry V)) (s : W
     legal = law.legal;
   }
 
-  pub find_keeps : (t : ℕ) → Law k callers log (seen_as s id (record v { found = t ∷ v.found }))
+  pub find_keeps : (t : ℕ) → HistoryInvariant k callers log (seen_as s id (record v { found = t ∷ v.found }))
   find_keeps t = let w : View V = record v { found = t ∷ v.found } in seen_keeps w refl refl (knows_same callers log v w (law.callers_known.knows id v at) refl refl refl refl refl) (law.told id v at)
 
   max_le : (a b c : ℕ) → a ≤ c → b ≤ c → max a b ≤ c
@@ -85,14 +85,14 @@ module _ {V : Type 0} (k : Layout) (callers : ℕ) (log : List (Entry V)) (s : W
       by (suc zero) e h = let z = law.places.is_held t l e in inr (law.places.owner t, z.0, z.1, z.2)
       by (suc (suc b)) e h = absurd (omega arith)
 
-  pub look_keeps : (p : ℕ) → ((u : ℕ) (c : Content V) → IsPart s u c → p ≤ c.power) → Law k callers log (seen_as s id (record v { seen = log; told = p }))
+  pub look_keeps : (p : ℕ) → ((u : ℕ) (c : Content V) → IsPart s u c → p ≤ c.power) → HistoryInvariant k callers log (seen_as s id (record v { seen = log; told = p }))
   look_keeps p h = let w : View V = record v { seen = log; told = p } in
       seen_keeps w refl refl (knows_all callers log v w (law.callers_known.knows id v at) refl refl refl refl refl) (λ t l. (h t (law.contents t) (whole_is_part t l), (law.told id v at t l).1))
 
   same_power : (w : ℕ → Content V) → Lawful k (whole k w) → (t u : ℕ) (c : Content V) → t < 2 ^ k.s → u < 2 ^ k.s → w t ≡ c → c.power ≤ (w u).power
   same_power w lawful t u c l m e = le_of_eq (ap (λ (x : Content V). x.power) (sym e) ∙ lawful.one_power t u (w t) (w u) (listed_at (2 ^ k.s) w t l) (listed_at (2 ^ k.s) w u m))
 
-  pub give_keeps : (t : ℕ) (c : Content V) (g : Option (Name × Reason)) → Holds v.held t c → Law k callers log (sent_home s id t c (giving v t c v.held g))
+  pub give_keeps : (t : ℕ) (c : Content V) (g : Option (Name × Reason)) → Holds v.held t c → HistoryInvariant k callers log (sent_home s id t c (giving v t c v.held g))
   give_keeps t c g h =
       let w : View V = giving v t c v.held g in
       let f = law.places.holds id v at t c h in
@@ -121,7 +121,7 @@ module _ {V : Type 0} (k : Layout) (callers : ℕ) (log : List (Entry V)) (s : W
           let p = power_after k law.contents v.held ks agrees r q l in
           (le_trans (law.told j u a q l).0 p, le_trans (law.told j u a q l).1 p)
 
-    pub decide_keeps : (e : Entry V) → v.by ≡ Some e.by → Section k v.held e.call e.reply ks → Law k callers (log ++ e ∷ []) (sent_home s id t c (deciding v t ks log e))
+    pub decide_keeps : (e : Entry V) → v.by ≡ Some e.by → Section k v.held e.call e.reply ks → HistoryInvariant k callers (log ++ e ∷ []) (sent_home s id t c (deciding v t ks log e))
     decide_keeps e by sec =
         let w : View V = deciding v t ks log e in
         let z = section_of_whole k law.contents v.held ks law.lawful agrees e.call e.reply sec in
@@ -134,7 +134,7 @@ module _ {V : Type 0} (k : Layout) (callers : ℕ) (log : List (Entry V)) (s : W
           legal = leads_snoc _ (bindings (whole k law.contents)) (bindings (whole k contents2)) log e law.legal z.1;
         }
 
-    pub renew_keeps : (g : Option (Name × Reason)) → IdentitySection k v.held ks → Law k callers log (sent_home s id t c (giving v t c ks g))
+    pub renew_keeps : (g : Option (Name × Reason)) → IdentitySection k v.held ks → HistoryInvariant k callers log (sent_home s id t c (giving v t c ks g))
     renew_keeps g sec =
         let w : View V = giving v t c ks g in
         let z = identity_of_whole k law.contents v.held ks law.lawful agrees sec in
@@ -154,7 +154,7 @@ module _ {V : Type 0} (k : Layout) (callers : ℕ) (log : List (Entry V)) (s : W
   -- splits and joins
   split_keeps : (left right : View V) → left.held ≡ v.held → right.held ≡ [] → Told law.contents id left → Told law.contents id right
       → ((m : ℕ) → IsIn m (numbers (owned left)) → IsIn m (numbers (owned v)) × ¬ (IsIn m (numbers (owned right)))) → ((m : ℕ) → IsIn m (numbers (owned right)) → IsIn m (numbers (owned v)))
-      → Knows callers log left → Knows callers log right → Law k callers log (split_as s id left right)
+      → Knows callers log left → Knows callers log right → HistoryInvariant k callers log (split_as s id left right)
   split_keeps left right same none tl tr of_left of_right kl kr = record {
     contents = law.contents;
     places = places_split (2 ^ k.s) s law.contents law.places id v at left right same none;
@@ -164,7 +164,7 @@ module _ {V : Type 0} (k : Layout) (callers : ℕ) (log : List (Entry V)) (s : W
     legal = law.legal;
   }
 
-  pub open_keeps : (m : ℕ) (rest : List (ℕ × List (Entry V))) → v.others ≡ (m, []) ∷ rest → Law k callers log (split_as s id (record v { others = rest }) (newcomer v.settings m v.told))
+  pub open_keeps : (m : ℕ) (rest : List (ℕ × List (Entry V))) → v.others ≡ (m, []) ∷ rest → HistoryInvariant k callers log (split_as s id (record v { others = rest }) (newcomer v.settings m v.told))
   open_keeps m rest is =
       let left : View V = record v { others = rest } in
       let right : View V = newcomer v.settings m v.told in
@@ -205,18 +205,18 @@ module _ {V : Type 0} (k : Layout) (callers : ℕ) (log : List (Entry V)) (s : W
     within = λ m i. absurd (subst (λ (o : List (ℕ × List (Entry V))). IsIn m (numbers o)) none i);
   }
 
-  pub tell_keeps : Law k callers log (split_as s id v (messenger v))
+  pub tell_keeps : HistoryInvariant k callers log (split_as s id v (message_of v))
   tell_keeps =
       let kn = law.callers_known.knows id v at in
-      split_keeps v (messenger v) refl refl (law.told id v at) (λ t l. ((law.told id v at t l).0, zero-le)) (λ m i. (i, λ h. h)) (λ m h. absurd h) kn (knows_nothing (messenger v) refl refl kn.seen refl)
+      split_keeps v (message_of v) refl refl (law.told id v at) (λ t l. ((law.told id v at t l).0, zero-le)) (λ m i. (i, λ h. h)) (λ m h. absurd h) kn (knows_nothing (message_of v) refl refl kn.seen refl)
 
-  pub join_keeps : (other : ℕ) (w : View V) → get_elem? s.views other ≡ some w → ¬ (other ≡ id) → w.held ≡ [] → Law k callers log (joined s id (joining v w) other)
+  pub join_keeps : (other : ℕ) (w : View V) → get_elem? s.views other ≡ some w → ¬ (other ≡ id) → w.held ≡ [] → HistoryInvariant k callers log (joined s id (joining v w) other)
   join_keeps other w there apart empty_handed =
       let both : View V = joining v w in
       let kv = law.callers_known.knows id v at in
       let kw = law.callers_known.knows other w there in
       let cs = law.callers_known in
-      let s1 : World V = seen_as s id both in
+      let s1 : Configuration V = seen_as s id both in
       let there1 : get_elem? s1.views other ≡ some w = set_else s.views id other both apart ∙ there in
       let of_both : (m : ℕ) → IsIn m (numbers (owned both)) → IsIn m (numbers (owned v)) ⊎ IsIn m (numbers (owned w)) = λ m i.
       ⊎_elim (λ h. inl (in_first (own v.by v.mine) v.others m h))
@@ -245,18 +245,18 @@ module _ {V : Type 0} (k : Layout) (callers : ℕ) (log : List (Entry V)) (s : W
 
 module _ {V : Type 0} (k : Layout) (min_load callers : ℕ) where
   -- a step of any kind
-  pub step_keeps : (log : List (Entry V)) (id : ℕ) (m : Move V) (s s2 : World V) → Law k callers log s → Does k min_load log id m s s2 → Law k callers (grown log m) s2
-  step_keeps log id (Take t) s s2 law d = subst (Law k callers log) (sym d.7) (take_keeps k callers log s law id d.0 d.2 t d.1 d.3 d.4 d.6)
-  step_keeps log id (FindHeld t) s s2 law d = subst (Law k callers log) (sym d.5) (find_keeps k callers log s law id d.0 d.1 t)
-  step_keeps log id (Give t g) s s2 law d = subst (Law k callers log) (sym d.5) (give_keeps k callers log s law id d.0 d.2 t d.1 g d.3)
-  step_keeps log id (Decide t ks e) s s2 law d = subst (Law k callers (log ++ e ∷ [])) (sym d.6) (decide_keeps k callers log s law id d.0 d.2 ks t d.1 d.4 e d.3 d.5)
-  step_keeps log id (GiveRest t) s s2 law d = subst (Law k callers log) (sym d.4) (give_keeps k callers log s law id d.0 d.2 t d.1 None d.3)
-  step_keeps log id (Renew t ks g) s s2 law d = subst (Law k callers log) (sym d.6) (renew_keeps k callers log s law id d.0 d.2 ks t d.1 d.3 g d.4)
-  step_keeps log id (Look t p) s s2 law d = subst (Law k callers log) (sym d.5) (look_keeps k callers log s law id d.0 d.1 p d.4)
-  step_keeps log id Open s s2 law d = subst (Law k callers log) (sym d.5) (open_keeps k callers log s law id d.0 d.3 d.1 d.2 d.4)
-  step_keeps log id Tell s s2 law d = subst (Law k callers log) (sym d.2) (tell_keeps k callers log s law id d.0 d.1)
-  step_keeps log id (Join other) s s2 law d = subst (Law k callers log) (sym d.6) (join_keeps k callers log s law id d.0 d.2 other d.1 d.3 d.4 d.5)
+  pub step_keeps : (log : List (Entry V)) (id : ℕ) (m : Label V) (s s2 : Configuration V) → HistoryInvariant k callers log s → Transition k min_load log id m s s2 → HistoryInvariant k callers (grown log m) s2
+  step_keeps log id (Take t) s s2 law d = subst (HistoryInvariant k callers log) (sym d.7) (take_keeps k callers log s law id d.0 d.2 t d.1 d.3 d.4 d.6)
+  step_keeps log id (FindHeld t) s s2 law d = subst (HistoryInvariant k callers log) (sym d.5) (find_keeps k callers log s law id d.0 d.1 t)
+  step_keeps log id (Give t g) s s2 law d = subst (HistoryInvariant k callers log) (sym d.5) (give_keeps k callers log s law id d.0 d.2 t d.1 g d.3)
+  step_keeps log id (Decide t ks e) s s2 law d = subst (HistoryInvariant k callers (log ++ e ∷ [])) (sym d.6) (decide_keeps k callers log s law id d.0 d.2 ks t d.1 d.4 e d.3 d.5)
+  step_keeps log id (GiveRest t) s s2 law d = subst (HistoryInvariant k callers log) (sym d.4) (give_keeps k callers log s law id d.0 d.2 t d.1 None d.3)
+  step_keeps log id (Renew t ks g) s s2 law d = subst (HistoryInvariant k callers log) (sym d.6) (renew_keeps k callers log s law id d.0 d.2 ks t d.1 d.3 g d.4)
+  step_keeps log id (Look t p) s s2 law d = subst (HistoryInvariant k callers log) (sym d.5) (look_keeps k callers log s law id d.0 d.1 p d.4)
+  step_keeps log id Open s s2 law d = subst (HistoryInvariant k callers log) (sym d.5) (open_keeps k callers log s law id d.0 d.3 d.1 d.2 d.4)
+  step_keeps log id Tell s s2 law d = subst (HistoryInvariant k callers log) (sym d.2) (tell_keeps k callers log s law id d.0 d.1)
+  step_keeps log id (Join other) s s2 law d = subst (HistoryInvariant k callers log) (sym d.6) (join_keeps k callers log s law id d.0 d.2 other d.1 d.3 d.4 d.5)
 
-  pub run_keeps : (ms : List (ℕ × Move V)) (log : List (Entry V)) (s : World V) (log2 : List (Entry V)) (s2 : World V) → Law k callers log s → Runs k min_load log s ms log2 s2 → Law k callers log2 s2
-  run_keeps [] log s log2 s2 law r = subst (λ (x : List (Entry V) × World V). Law k callers x.0 x.1) (λ i. (r.0 i, r.1 i)) law
+  pub run_keeps : (ms : List (ℕ × Label V)) (log : List (Entry V)) (s : Configuration V) (log2 : List (Entry V)) (s2 : Configuration V) → HistoryInvariant k callers log s → Execution k min_load log s ms log2 s2 → HistoryInvariant k callers log2 s2
+  run_keeps [] log s log2 s2 law r = subst (λ (x : List (Entry V) × Configuration V). HistoryInvariant k callers x.0 x.1) (λ i. (r.0 i, r.1 i)) law
   run_keeps (m ∷ ms) log s log2 s2 law r = run_keeps ms (grown log m.1) r.0 log2 s2 (step_keeps log m.0 m.1 s r.0 law r.1) r.2

@@ -8,8 +8,8 @@ use Rattle.ck_model.specs.Numbered.{IsIn, AreDistinct, Holds}
 use Rattle.ck_model.specs.Contents.{Stripes, IsSound, Lawful}
 use Rattle.ck_model.specs.Sections.{IdentitySection}
 use Rattle.ck_core.specs.declared.view.View.{View}
-use Rattle.ck_core.specs.State.{World, IsPart}
-use Rattle.ck_core.specs.Steps.{opener, messenger, spent}
+use Rattle.ck_core.specs.State.{Configuration, IsPart}
+use Rattle.ck_core.specs.Steps.{initial_view, message_of, spent}
 use Rattle.ck_core.specs.Example.{two_stripes, settings, empty_stripe, first, second, alone, MeetingOpens, MeetingRuns}
 use Rattle.ck_core.proofs.ExampleRun.{opens, empty_sound}
 
@@ -32,8 +32,8 @@ meeting_opens = record {
     apart : AreDistinct (0 ∷ 1 ∷ [])
     apart = ((λ h. ⊎_elim (λ e. omega arith) (λ z. z) h), ((λ h. h), tt))
 
-    views : (j : ℕ) (v : View ℕ) → get_elem? alone.views j ≡ some v → (ms : List ℕ) × (v ≡ opener settings j 1 ms) × AreDistinct (j ∷ ms) × ((m : ℕ) → IsIn m (j ∷ ms) → (m < 2) × (0 ≡ j))
-    views zero v e = (1 ∷ [], sym (some-injective (opener settings 0 1 (1 ∷ [])) v e), apart, below)
+    views : (j : ℕ) (v : View ℕ) → get_elem? alone.views j ≡ some v → (ms : List ℕ) × (v ≡ initial_view settings j 1 ms) × AreDistinct (j ∷ ms) × ((m : ℕ) → IsIn m (j ∷ ms) → (m < 2) × (0 ≡ j))
+    views zero v e = (1 ∷ [], sym (some-injective (initial_view settings 0 1 (1 ∷ [])) v e), apart, below)
     views (suc j) v e = absurd (some-ne-none v (sym e))
 
 -- stripe 0 alone
@@ -61,7 +61,7 @@ unchanged = record {
 }
 
 -- the state in which the other caller looks
-abbrev joined_now : World ℕ
+abbrev joined_now : Configuration ℕ
 joined_now = record { words = 0 ∷ 0 ∷ []; homes = Some empty_stripe ∷ Some empty_stripe ∷ []; views = first ∷ record second { heard_told = 1 } ∷ spent ∷ [] }
 
 no_less : (c : Content ℕ) → empty_stripe ≡ c → 1 ≤ c.power
@@ -112,7 +112,7 @@ meeting_runs = (
             (_, refl, refl),
             (
               _,
-              (_, messenger first, refl, refl, two_not_one, refl, refl),
+              (_, message_of first, refl, refl, two_not_one, refl, refl),
               (_, (_, refl, omega arith, omega arith, part_power, refl), (refl, refl)),
             ),
           ),

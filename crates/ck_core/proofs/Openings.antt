@@ -8,11 +8,11 @@ use Rattle.ck_core.specs.declared.view.View.{View}
 use Rattle.ck_model.specs.Numbered.{IsIn, AreDistinct, numbers, Holds}
 use Rattle.ck_model.specs.declared.contents.Content.{Content}
 use Rattle.ck_model.specs.Contents.{Layout}
-use Rattle.ck_core.specs.State.{World, owned, Knows, Law}
-use Rattle.ck_core.specs.Steps.{Move, Runs, opener, Opening}
+use Rattle.ck_core.specs.State.{Configuration, owned, Knows, HistoryInvariant}
+use Rattle.ck_core.specs.Steps.{Label, Execution, initial_view, Opening}
 use Rattle.ck_core.proofs.Keeps.{run_keeps}
 
-module _ {V : Type 0} (k : Layout) (set : Settings) (callers p : ℕ) (s : World V) (o : Opening k set callers p s) where
+module _ {V : Type 0} (k : Layout) (set : Settings) (callers p : ℕ) (s : Configuration V) (o : Opening k set callers p s) where
   word_at : (t : ℕ) → t < 2 ^ k.s → get_or s.words t 0 ≡ 0
   word_at t l = ap (λ ws. get_or ws t 0) o.words ∙ get_or-replicate (2 ^ k.s) t 0 0 l
 
@@ -24,11 +24,11 @@ module _ {V : Type 0} (k : Layout) (set : Settings) (callers p : ℕ) (s : World
   numbers_unused [] = refl
   numbers_unused (x ∷ xs) = ap {B = List ℕ} (λ l. x ∷ l) (numbers_unused xs)
 
-  each_new : (P : ℕ → View V → Type 0) → ((j : ℕ) (ms : List ℕ) → AreDistinct (j ∷ ms) → ((m : ℕ) → IsIn m (j ∷ ms) → (m < callers) × (o.keeper m ≡ j)) → P j (opener set j p ms))
+  each_new : (P : ℕ → View V → Type 0) → ((j : ℕ) (ms : List ℕ) → AreDistinct (j ∷ ms) → ((m : ℕ) → IsIn m (j ∷ ms) → (m < callers) × (o.keeper m ≡ j)) → P j (initial_view set j p ms))
       → (j : ℕ) (v : View V) → get_elem? s.views j ≡ some v → P j v
   each_new P h j v a = let z = o.views j v a in subst (P j) (sym z.1) (h j z.0 z.2 z.3)
 
-  pub opens : Law k callers [] s
+  pub opens : HistoryInvariant k callers [] s
   opens = record {
     contents = o.contents;
     places = record {
@@ -60,5 +60,5 @@ module _ {V : Type 0} (k : Layout) (set : Settings) (callers p : ℕ) (s : World
     legal = sym o.empty_whole;
   }
 
-  pub runs_keep : (min_load : ℕ) (ms : List (ℕ × Move V)) (log : List (Entry V)) (s2 : World V) → Runs k min_load [] s ms log s2 → Law k callers log s2
+  pub runs_keep : (min_load : ℕ) (ms : List (ℕ × Label V)) (log : List (Entry V)) (s2 : Configuration V) → Execution k min_load [] s ms log s2 → HistoryInvariant k callers log s2
   runs_keep min_load ms log s2 r = run_keeps k min_load callers ms [] s log s2 opens r

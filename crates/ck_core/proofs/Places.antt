@@ -8,7 +8,7 @@ use Rattle.ck_core.specs.declared.view.View.{View}
 use Rattle.ck_model.specs.Numbered.{IsIn, AreDistinct, numbers, Holds, without}
 use Rattle.ck_model.specs.declared.contents.Content.{Content}
 use Rattle.ck_model.specs.Contents.{Stripes}
-use Rattle.ck_core.specs.State.{World, Places}
+use Rattle.ck_core.specs.State.{Configuration, Places}
 use Rattle.ck_core.specs.Steps.{seen_as, sent_home, split_as}
 use Rattle.ck_core.proofs.Lists.{set_here, set_else, set_there, each_set, each_snoc, at_longer}
 use Rattle.ck_model.proofs.Numbered.{if_same, if_else, in_held, held_of_in, in_without, kept_without, distinct_without}
@@ -22,7 +22,7 @@ module _ {V : Type 0} where
       (w, ap (get_elem? (set views id w)) e ∙ set_there views id v w at, mine (subst (λ (u : View V). P u.held) same h.2)))
       (λ other. (h.0, set_else views id o w other ∙ h.1, others other h.0 h.1 h.2))
 
-  module _ (n : ℕ) (s : World V) (whole : ℕ → Content V) (r : Places n s whole) (id : ℕ) (v : View V) (at : get_elem? s.views id ≡ some v) where
+  module _ (n : ℕ) (s : Configuration V) (whole : ℕ → Content V) (r : Places n s whole) (id : ℕ) (v : View V) (at : get_elem? s.views id ≡ some v) where
     pub places_keep : (w : View V) → w.held ≡ v.held → Places n (seen_as s id w) whole
     places_keep w same = record {
       owner = r.owner;

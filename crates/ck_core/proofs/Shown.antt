@@ -7,16 +7,16 @@ use lib.ListN.{get_elem?}
 use Rattle.ck_model.specs.declared.history.Entry.{Entry}
 use Rattle.ck_model.specs.declared.contents.Content.{Content}
 use Rattle.ck_model.specs.Numbered.{IsIn, numbers, Holds}
-use Rattle.ck_model.specs.History.{After, calls_by}
+use Rattle.ck_model.specs.History.{After, subhistory}
 use Rattle.ck_model.specs.Contents.{Layout, bindings, whole}
 use Rattle.ck_model.specs.Sections.{HasAll}
 use Rattle.ck_model.proofs.Numbered.{held_of_in, listed_as}
 use Rattle.ck_model.proofs.Names.{maps_alike}
 use Rattle.ck_model.proofs.Belongs.{stripe_below}
 use Rattle.ck_model.proofs.Sections.{owned_binding}
-use Rattle.ck_model.proofs.Histories.{calls_by-append}
+use Rattle.ck_model.proofs.Histories.{subhistory-append}
 use Rattle.ck_core.specs.declared.view.View.{View}
-use Rattle.ck_core.specs.State.{World, Law, owned}
+use Rattle.ck_core.specs.State.{Configuration, HistoryInvariant, owned}
 use Rattle.ck_core.specs.Laws.{Shows, Answered}
 use Rattle.ck_core.proofs.Keeps.{agrees}
 use Rattle.ck_core.proofs.Callers.{own_held}
@@ -39,7 +39,7 @@ module _ {V : Type 0} (k : Layout) (callers : ℕ) (log : List (Entry V)) (v w :
     mine = mine;
   }
 
-module _ {V : Type 0} (k : Layout) (callers : ℕ) (log : List (Entry V)) (s : World V) (law : Law k callers log s) (j : ℕ) (v : View V) (at : get_elem? s.views j ≡ some v) where
+module _ {V : Type 0} (k : Layout) (callers : ℕ) (log : List (Entry V)) (s : Configuration V) (law : HistoryInvariant k callers log s) (j : ℕ) (v : View V) (at : get_elem? s.views j ≡ some v) where
   there : (t : ℕ) (c : Content V) → Holds v.held t c → Holds (whole k law.contents) t c
   there t c h = let a = agrees k callers log s law j v at t c h in listed_as (2 ^ k.s) law.contents t c a.0 a.1
 
@@ -56,8 +56,8 @@ module _ {V : Type 0} (k : Layout) (callers : ℕ) (log : List (Entry V)) (s : W
     heard = kn.heard;
     legal = (bindings (whole k law.contents), law.legal);
     own = λ m e. kn.calls m v.mine (own_held v m e);
-    unseen = λ m e more is. none_after v.mine (calls_by m more)
-        (sym (ap (λ l. l ++ calls_by m more) (sym (kn.own_seen m e)) ∙ (sym (calls_by-append m v.seen more) ∙ (ap (calls_by m) (sym is) ∙ kn.calls m v.mine (own_held v m e)))));
+    unseen = λ m e more is. none_after v.mine (subhistory m more)
+        (sym (ap (λ l. l ++ subhistory m more) (sym (kn.own_seen m e)) ∙ (sym (subhistory-append m v.seen more) ∙ (ap (subhistory m) (sym is) ∙ kn.calls m v.mine (own_held v m e)))));
     lawful = record {
       distinct = law.places.distinct j v at;
       sound = λ t c h. law.lawful.sound t c (there t c h);

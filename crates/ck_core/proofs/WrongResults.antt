@@ -11,16 +11,16 @@ use Rattle.ck_model.specs.Map.{Name}
 use Rattle.ck_model.specs.Numbered.{IsIn, numbers, Holds}
 use Rattle.ck_model.specs.Contents.{Stripes}
 use Rattle.ck_core.specs.declared.view.View.{View}
-use Rattle.ck_core.specs.State.{World}
+use Rattle.ck_core.specs.State.{Configuration}
 use Rattle.ck_core.specs.Steps.{Opening, deciding}
-use Rattle.ck_core.specs.Steps.Move.{Give, Decide, GiveRest, Look, Open}
+use Rattle.ck_core.specs.Steps.Label.{Give, Decide, GiveRest, Look, Open}
 use Rattle.ck_core.specs.Example.{two_stripes, insertion, empty_stripe, full_stripe, both, first, second, start, one_held, both_held, alone}
 use Rattle.ck_core.specs.Refusals.{LeavesHome, LeavesView, one_number, one_kept}
 use Rattle.ck_core.proofs.WrongSteps.{the_view}
 
 -- the view that a step left is the one that is there
-left : (s s2 : World ℕ) (j : ℕ) (v w : View ℕ) → s2 ≡ s → get_elem? s.views j ≡ some v → get_elem? s2.views j ≡ some w → w ≡ v
-left s s2 j v w e a b = some-injective w v (sym b ∙ (ap (λ (x : World ℕ). get_elem? x.views j) e ∙ a))
+left : (s s2 : Configuration ℕ) (j : ℕ) (v w : View ℕ) → s2 ≡ s → get_elem? s.views j ≡ some v → get_elem? s2.views j ≡ some w → w ≡ v
+left s s2 j v w e a b = some-injective w v (sym b ∙ (ap (λ (x : Configuration ℕ). get_elem? x.views j) e ∙ a))
 
 -- what is held as stripe 0, alone or beside stripe 1
 alone_held : (c : Content ℕ) → Holds ((0, empty_stripe) ∷ []) 0 c → c ≡ empty_stripe
@@ -33,22 +33,22 @@ beside_held c h = ⊎_elim (λ (e : (1 ≡ 0) × (empty_stripe ≡ c)). let one 
 pub give_other_content : (g : Option (Name × Reason)) → LeavesHome [] one_held 0 (Give 0 g) 0 empty_stripe
 give_other_content g min_load s2 d =
     let same = the_view one_held.views 0 _ d.0 refl d.2 in
-    ap (λ (x : World ℕ). get_elem? x.homes 0) d.5 ∙ ap (λ (c : Content ℕ). some (Some c)) (alone_held d.1 (subst (λ (v : View ℕ). Holds v.held 0 d.1) same d.3))
+    ap (λ (x : Configuration ℕ). get_elem? x.homes 0) d.5 ∙ ap (λ (c : Content ℕ). some (Some c)) (alone_held d.1 (subst (λ (v : View ℕ). Holds v.held 0 d.1) same d.3))
 
 pub give_rest_other_content : LeavesHome [] one_held 0 (GiveRest 0) 0 empty_stripe
 give_rest_other_content min_load s2 d =
     let same = the_view one_held.views 0 _ d.0 refl d.2 in
-    ap (λ (x : World ℕ). get_elem? x.homes 0) d.4 ∙ ap (λ (c : Content ℕ). some (Some c)) (alone_held d.1 (subst (λ (v : View ℕ). Holds v.held 0 d.1) same d.3))
+    ap (λ (x : Configuration ℕ). get_elem? x.homes 0) d.4 ∙ ap (λ (c : Content ℕ). some (Some c)) (alone_held d.1 (subst (λ (v : View ℕ). Holds v.held 0 d.1) same d.3))
 
 pub give_other_stripe : (g : Option (Name × Reason)) → LeavesHome (insertion ∷ []) both_held 1 (Give 0 g) 0 full_stripe
 give_other_stripe g min_load s2 d =
     let same = the_view both_held.views 1 _ d.0 refl d.2 in
-    ap (λ (x : World ℕ). get_elem? x.homes 0) d.5 ∙ ap (λ (c : Content ℕ). some (Some c)) (beside_held d.1 (subst (λ (v : View ℕ). Holds v.held 0 d.1) same d.3))
+    ap (λ (x : Configuration ℕ). get_elem? x.homes 0) d.5 ∙ ap (λ (c : Content ℕ). some (Some c)) (beside_held d.1 (subst (λ (v : View ℕ). Holds v.held 0 d.1) same d.3))
 
 pub give_rest_other_stripe : LeavesHome (insertion ∷ []) both_held 1 (GiveRest 0) 0 full_stripe
 give_rest_other_stripe min_load s2 d =
     let same = the_view both_held.views 1 _ d.0 refl d.2 in
-    ap (λ (x : World ℕ). get_elem? x.homes 0) d.4 ∙ ap (λ (c : Content ℕ). some (Some c)) (beside_held d.1 (subst (λ (v : View ℕ). Holds v.held 0 d.1) same d.3))
+    ap (λ (x : Configuration ℕ). get_elem? x.homes 0) d.4 ∙ ap (λ (c : Content ℕ). some (Some c)) (beside_held d.1 (subst (λ (v : View ℕ). Holds v.held 0 d.1) same d.3))
 
 one_of_two : (e a b : Entry ℕ) (more l : List (Entry ℕ)) → l ≡ e ∷ [] → l ≡ a ∷ b ∷ more → ⊥
 one_of_two e a b more l h g = cc

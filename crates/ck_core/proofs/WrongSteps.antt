@@ -18,7 +18,7 @@ use Rattle.ck_model.specs.Contents.{Stripes, bindings, IsStripeOf}
 use Rattle.ck_model.specs.Sections.{Owns, Section, IdentitySection}
 use Rattle.ck_core.specs.declared.view.View.{View}
 use Rattle.ck_core.specs.Steps.{IsAbove, IsExcused, HasGrounds}
-use Rattle.ck_core.specs.Steps.Move.{Take, FindHeld, Give, Decide, GiveRest, Renew, Look, Open, Join}
+use Rattle.ck_core.specs.Steps.Label.{Take, FindHeld, Give, Decide, GiveRest, Renew, Look, Open, Join}
 use Rattle.ck_core.specs.Example.{two_stripes, settings, zero_name, insertion, look_up, empty_stripe, full_stripe, both, start, one_held, decided, both_held}
 use Rattle.ck_core.specs.Refusals.{IsForbidden}
 use Rattle.ck_core.proofs.ExampleRun.{empty_at, full_at}

@@ -10,9 +10,9 @@ use Rattle.ck_model.specs.Map.{Name}
 use Rattle.ck_model.specs.Slots.{Slot}
 use Rattle.ck_model.specs.Contents.{Layout, Stripes}
 use Rattle.ck_core.specs.declared.view.View.{View}
-use Rattle.ck_core.specs.State.{World}
-use Rattle.ck_core.specs.Steps.{Move, Opening, Runs, newcomer, opener, spent}
-use Rattle.ck_core.specs.Steps.Move.{Take, FindHeld, Give, Decide, GiveRest, Renew, Look, Open, Tell, Join}
+use Rattle.ck_core.specs.State.{Configuration}
+use Rattle.ck_core.specs.Steps.{Label, Opening, Execution, newcomer, initial_view, spent}
+use Rattle.ck_core.specs.Steps.Label.{Take, FindHeld, Give, Decide, GiveRest, Renew, Look, Open, Tell, Join}
 
 -- the hash of a name is its first number, or 0
 abbrev pub first_number : Name → ℕ
@@ -58,15 +58,15 @@ abbrev pub second : View ℕ
 second = newcomer settings 1 1
 
 -- the opening
-abbrev pub start : World ℕ
+abbrev pub start : Configuration ℕ
 start = record { words = 0 ∷ 0 ∷ []; homes = Some empty_stripe ∷ Some empty_stripe ∷ []; views = first ∷ second ∷ [] }
 
 -- the first caller has taken stripe 0
-abbrev pub one_held : World ℕ
+abbrev pub one_held : Configuration ℕ
 one_held = record { words = 1 ∷ 0 ∷ []; homes = None ∷ Some empty_stripe ∷ []; views = record first { held = (0, empty_stripe) ∷ [] } ∷ second ∷ [] }
 
 -- the first caller has decided its call, and still holds stripe 1
-abbrev pub decided : World ℕ
+abbrev pub decided : Configuration ℕ
 decided = record {
   words = 0 ∷ 1 ∷ [];
   homes = Some full_stripe ∷ None ∷ [];
@@ -74,7 +74,7 @@ decided = record {
 }
 
 -- the second caller holds both stripes
-abbrev pub both_held : World ℕ
+abbrev pub both_held : Configuration ℕ
 both_held = record {
   words = 1 ∷ 1 ∷ [];
   homes = None ∷ None ∷ [];
@@ -82,14 +82,14 @@ both_held = record {
 }
 
 -- all stripes are at home
-abbrev pub finish : World ℕ
+abbrev pub finish : Configuration ℕ
 finish = record {
   words = 0 ∷ 0 ∷ [];
   homes = Some full_stripe ∷ Some empty_stripe ∷ [];
   views = record first { seen = insertion ∷ []; mine = insertion ∷ [] } ∷ record second { seen = insertion ∷ look_up ∷ []; mine = look_up ∷ []; found = 1 ∷ 0 ∷ [] } ∷ [];
 }
 
-abbrev pub steps : List (ℕ × Move ℕ)
+abbrev pub steps : List (ℕ × Label ℕ)
 steps = (0, Take 0) ∷ (1, FindHeld 0) ∷ (0, Take 1) ∷ (0, Decide 0 (both full_stripe) insertion) ∷ (1, Take 0)
     ∷ (1, FindHeld 1) ∷ (0, GiveRest 1) ∷ (1, Take 1) ∷ (1, Decide 0 (both full_stripe) look_up) ∷ (1, GiveRest 1) ∷ []
 
@@ -99,21 +99,21 @@ ExampleOpens = Opening two_stripes settings 2 1 start
 
 -- the steps lead from the opening to the end, with a history of the two entries
 abbrev pub ExampleRuns : Type 0
-ExampleRuns = Runs two_stripes 0 [] start steps (insertion ∷ look_up ∷ []) finish
+ExampleRuns = Execution two_stripes 0 [] start steps (insertion ∷ look_up ∷ []) finish
 
 -- one caller, which keeps the number of the other
-abbrev pub alone : World ℕ
-alone = record { words = 0 ∷ 0 ∷ []; homes = Some empty_stripe ∷ Some empty_stripe ∷ []; views = opener settings 0 1 (1 ∷ []) ∷ [] }
+abbrev pub alone : Configuration ℕ
+alone = record { words = 0 ∷ 0 ∷ []; homes = Some empty_stripe ∷ Some empty_stripe ∷ []; views = initial_view settings 0 1 (1 ∷ []) ∷ [] }
 
 -- the other caller has begun and met the first
-abbrev pub met : World ℕ
+abbrev pub met : Configuration ℕ
 met = record { words = 0 ∷ 0 ∷ []; homes = Some empty_stripe ∷ Some empty_stripe ∷ []; views = first ∷ record second { heard_told = 1 } ∷ spent ∷ [] }
 
-abbrev pub meeting : List (ℕ × Move ℕ)
+abbrev pub meeting : List (ℕ × Label ℕ)
 meeting = (0, Open) ∷ (0, Take 0) ∷ (0, Renew 0 ((0, empty_stripe) ∷ []) None) ∷ (0, Take 1) ∷ (0, Give 1 None) ∷ (0, Tell) ∷ (1, Join 2) ∷ (1, Look 0 1) ∷ []
 
 abbrev pub MeetingOpens : Type 0
 MeetingOpens = Opening two_stripes settings 2 1 alone
 
 abbrev pub MeetingRuns : Type 0
-MeetingRuns = Runs two_stripes 0 [] alone meeting [] met
+MeetingRuns = Execution two_stripes 0 [] alone meeting [] met

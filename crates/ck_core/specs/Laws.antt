@@ -7,27 +7,27 @@ use Rattle.ck_model.specs.declared.settings.Settings.{Settings}
 use Rattle.ck_model.specs.Map.{Map, Step}
 use Rattle.ck_model.specs.Numbered.{IsIn, numbers, Holds}
 use Rattle.ck_model.specs.declared.contents.Content.{Content}
-use Rattle.ck_model.specs.History.{After, IsLegal, StartsWith, calls_by, IsShuffle}
+use Rattle.ck_model.specs.History.{After, IsLegal, StartsWith, subhistory, IsInterleaving}
 use Rattle.ck_model.specs.Contents.{Layout, Stripes, bindings, Lawful}
 use Rattle.ck_model.specs.Sections.{HasAll}
 use Rattle.ck_core.specs.declared.view.View.{View}
-use Rattle.ck_core.specs.State.{World, Law, owned}
-use Rattle.ck_core.specs.Steps.{Move, Does, grown, Runs, Opening}
-use Rattle.ck_core.specs.Steps.Move.{Take, FindHeld, Give, Decide, GiveRest, Renew, Look, Open, Tell, Join}
+use Rattle.ck_core.specs.State.{Configuration, HistoryInvariant, owned}
+use Rattle.ck_core.specs.Steps.{Label, Transition, grown, Execution, Opening}
+use Rattle.ck_core.specs.Steps.Label.{Take, FindHeld, Give, Decide, GiveRest, Renew, Look, Open, Tell, Join}
 
 module _ (V : Type 0) where
-  -- Whatever callers do from an opening state on, the law holds after it with the history of what was decided.
+  -- Whatever callers do from an opening state on, the invariant holds after it with the history of what was decided.
   abbrev pub LawOfRuns : Type 0
-  LawOfRuns = (k : Layout) (min_load : ℕ) (set : Settings) (callers p : ℕ) (s : World V) (ms : List (ℕ × Move V)) (log : List (Entry V)) (s2 : World V)
-      → Opening k set callers p s → Runs k min_load [] s ms log s2 → Law k callers log s2
+  LawOfRuns = (k : Layout) (min_load : ℕ) (set : Settings) (callers p : ℕ) (s : Configuration V) (ms : List (ℕ × Label V)) (log : List (Entry V)) (s2 : Configuration V)
+      → Opening k set callers p s → Execution k min_load [] s ms log s2 → HistoryInvariant k callers log s2
 
 module _ {V : Type 0} where
-  -- a step of this kind keeps the law
-  abbrev pub Keeps : Move V → Type 0
-  Keeps m = (k : Layout) (min_load callers id : ℕ) (log : List (Entry V)) (s s2 : World V) → Law k callers log s → Does k min_load log id m s s2 → Law k callers (grown log m) s2
+  -- a step of this kind keeps the invariant
+  abbrev pub Keeps : Label V → Type 0
+  Keeps m = (k : Layout) (min_load callers id : ℕ) (log : List (Entry V)) (s s2 : Configuration V) → HistoryInvariant k callers log s → Transition k min_load log id m s s2 → HistoryInvariant k callers (grown log m) s2
 
   -- the step decides a call
-  abbrev pub IsDeciding : Move V → Type 0
+  abbrev pub IsDeciding : Label V → Type 0
   IsDeciding (Decide t ks e) = Unit {0}
   IsDeciding (Take t) = ⊥
   IsDeciding (FindHeld t) = ⊥
@@ -44,23 +44,23 @@ module _ {V : Type 0} where
     pub seen : StartsWith log v.seen
     pub heard : StartsWith log v.heard
     pub legal : IsLegal log
-    pub own : (m : ℕ) → v.by ≡ Some m → calls_by m log ≡ v.mine
+    pub own : (m : ℕ) → v.by ≡ Some m → subhistory m log ≡ v.mine
     -- what the caller hasn't seen is by others
-    pub unseen : (m : ℕ) → v.by ≡ Some m → (more : List (Entry V)) → log ≡ v.seen ++ more → calls_by m more ≡ []
+    pub unseen : (m : ℕ) → v.by ≡ Some m → (more : List (Entry V)) → log ≡ v.seen ++ more → subhistory m more ≡ []
     pub lawful : Lawful k v.held
     pub inside : (t : ℕ) → IsIn t (numbers v.held) → t < 2 ^ k.s
     -- it was told no power above that of a stripe that it holds
     pub told : (t : ℕ) (c : Content V) → Holds v.held t c → (v.told ≤ c.power) × (v.heard_told ≤ c.power)
     -- all stripes are held: they contain what the history leaves
     pub all_held : HasAll k v.held → After log (bindings v.held)
-    -- all numbers are kept: the history is a shuffle of their entries
-    pub all_kept : ((m : ℕ) → m < callers → IsIn m (numbers (owned v))) → IsShuffle log (owned v)
+    -- all numbers are kept: the history is an interleaving of their entries
+    pub all_kept : ((m : ℕ) → m < callers → IsIn m (numbers (owned v))) → IsInterleaving log (owned v)
 
   -- An answered call: to what was seen come some entries of others and then this one, all of it is legal, and the caller has one entry more.
   pub record Answered (v : View V) (e : Entry V) (w : View V) : Type 0 where
     pub others : List (Entry V)
     pub seen : w.seen ≡ v.seen ++ others ++ e ∷ []
-    pub by_others : calls_by e.by others ≡ []
+    pub by_others : subhistory e.by others ≡ []
     pub legal : IsLegal w.seen
     pub mine : w.mine ≡ v.mine ++ e ∷ []
 
@@ -70,21 +70,21 @@ module _ {V : Type 0} where
     pub mine : w.mine ≡ v.mine
 
 module _ (V : Type 0) where
-  -- under the law each view shows what it says
+  -- under the invariant each view shows what it says
   abbrev pub LawOfViews : Type 0
-  LawOfViews = (k : Layout) (callers : ℕ) (log : List (Entry V)) (s : World V) → Law k callers log s → (j : ℕ) (v : View V) → get_elem? s.views j ≡ some v → Shows k callers log v
+  LawOfViews = (k : Layout) (callers : ℕ) (log : List (Entry V)) (s : Configuration V) → HistoryInvariant k callers log s → (j : ℕ) (v : View V) → get_elem? s.views j ≡ some v → Shows k callers log v
 
-  -- under the law a call gets the plain map's reply at that point of the history
+  -- under the invariant a call gets the plain map's reply at that point of the history
   abbrev pub LawOfReplies : Type 0
-  LawOfReplies = (k : Layout) (min_load callers id t : ℕ) (ks : Stripes V) (e : Entry V) (log : List (Entry V)) (s s2 : World V) → Law k callers log s → Does k min_load log id (Decide t ks e) s s2
+  LawOfReplies = (k : Layout) (min_load callers id t : ℕ) (ks : Stripes V) (e : Entry V) (log : List (Entry V)) (s s2 : Configuration V) → HistoryInvariant k callers log s → Transition k min_load log id (Decide t ks e) s s2
       → (m : Map V) × (m2 : Map V) × After log m × Step m e.call e.reply m2 × After (log ++ e ∷ []) m2
 
-  -- under the law a step that decides leaves its caller with an answered call
+  -- under the invariant a step that decides leaves its caller with an answered call
   abbrev pub LawOfAnswers : Type 0
-  LawOfAnswers = (k : Layout) (min_load callers id t : ℕ) (ks : Stripes V) (e : Entry V) (log : List (Entry V)) (s s2 : World V) (v w : View V) → Law k callers log s → Does k min_load log id (Decide t ks e) s s2
+  LawOfAnswers = (k : Layout) (min_load callers id t : ℕ) (ks : Stripes V) (e : Entry V) (log : List (Entry V)) (s s2 : Configuration V) (v w : View V) → HistoryInvariant k callers log s → Transition k min_load log id (Decide t ks e) s s2
       → get_elem? s.views id ≡ some v → get_elem? s2.views id ≡ some w → Answered v e w
 
   -- and each other step leaves its caller with no entry more
   abbrev pub LawOfOtherSteps : Type 0
-  LawOfOtherSteps = (k : Layout) (min_load callers id : ℕ) (m : Move V) (log : List (Entry V)) (s s2 : World V) (v w : View V) → ¬ (IsDeciding m) → Law k callers log s → Does k min_load log id m s s2
+  LawOfOtherSteps = (k : Layout) (min_load callers id : ℕ) (m : Label V) (log : List (Entry V)) (s s2 : Configuration V) (v w : View V) → ¬ (IsDeciding m) → HistoryInvariant k callers log s → Transition k min_load log id m s s2
       → get_elem? s.views id ≡ some v → get_elem? s2.views id ≡ some w → Unanswered v w

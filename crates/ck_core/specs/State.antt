@@ -1,16 +1,16 @@
--- The state of the core, and the law that it keeps.
+-- The state of the core, and the invariant that it keeps.
 use Rattle.std.specs.Prelude.{◌≡◌, ◌⊎◌, ℕ, ◌^◌, ◌<◌, ◌≤◌, List, [], ◌∷◌, ◌++◌, length, slice_index, Option, Some, None}
 use mathlib.Core.Option.{some}
 use lib.ListN.{get_elem?}
 use Rattle.ck_model.specs.declared.history.Entry.{Entry}
 use Rattle.ck_model.specs.Numbered.{IsIn, AreDistinct, numbers, Holds}
-use Rattle.ck_model.specs.History.{After, StartsWith, calls_by}
+use Rattle.ck_model.specs.History.{After, StartsWith, subhistory}
 use Rattle.ck_model.specs.declared.contents.Content.{Content}
 use Rattle.ck_model.specs.Contents.{Layout, bindings, Lawful, whole}
 use Rattle.ck_core.specs.declared.view.View.{View}
 
 -- The words of the stripes, what lies in their places, and the views. A place is empty while its stripe is held.
-pub record World (V : Type 0) : Type 0 where
+pub record Configuration (V : Type 0) : Type 0 where
   pub words : List ℕ
   pub homes : List (Option (Content V))
   pub views : List (View V)
@@ -26,11 +26,11 @@ module _ {V : Type 0} where
   owned v = own v.by v.mine ++ v.others
 
   -- what the stripe t contains: at home, or in its holder's view
-  abbrev pub IsPart : World V → ℕ → Content V → Type 0
+  abbrev pub IsPart : Configuration V → ℕ → Content V → Type 0
   IsPart s t c = (get_elem? s.homes t ≡ some (Some c)) ⊎ ((j : ℕ) × (v : View V) × (get_elem? s.views j ≡ some v) × Holds v.held t c)
 
   -- Of n stripes, the word is 0 where the stripe is at home, and 1 where its owner holds it and its place is empty. Stripe t contains w t.
-  pub record Places (n : ℕ) (s : World V) (w : ℕ → Content V) : Type 0 where
+  pub record Places (n : ℕ) (s : Configuration V) (w : ℕ → Content V) : Type 0 where
     pub owner : ℕ → ℕ
     pub words_sized : length s.words ≡ n
     pub homes_sized : length s.homes ≡ n
@@ -45,8 +45,8 @@ module _ {V : Type 0} where
   pub record Knows (callers : ℕ) (log : List (Entry V)) (v : View V) : Type 0 where
     pub seen : StartsWith log v.seen
     pub heard : StartsWith log v.heard
-    pub calls : (m : ℕ) (l : List (Entry V)) → Holds (owned v) m l → calls_by m log ≡ l
-    pub own_seen : (m : ℕ) → v.by ≡ Some m → calls_by m v.seen ≡ v.mine
+    pub calls : (m : ℕ) (l : List (Entry V)) → Holds (owned v) m l → subhistory m log ≡ l
+    pub own_seen : (m : ℕ) → v.by ≡ Some m → subhistory m v.seen ≡ v.mine
     pub distinct : AreDistinct (numbers (owned v))
     pub within : (m : ℕ) → IsIn m (numbers (owned v)) → m < callers
 
@@ -55,10 +55,10 @@ module _ {V : Type 0} where
     pub keeper : ℕ → ℕ
     pub keeps : (j : ℕ) (v : View V) → get_elem? views j ≡ some v → (m : ℕ) → IsIn m (numbers (owned v)) → keeper m ≡ j
     pub knows : (j : ℕ) (v : View V) → get_elem? views j ≡ some v → Knows callers log v
-    pub no_others : (m : ℕ) → callers ≤ m → calls_by m log ≡ []
+    pub no_others : (m : ℕ) → callers ≤ m → subhistory m log ≡ []
 
-  -- The history law: each stripe is in its place or with one holder, the whole is lawful, no view was told a power above the table's, each view knows a beginning of the history, and the history is legal and leads to the bindings of the whole.
-  pub record Law (k : Layout) (callers : ℕ) (log : List (Entry V)) (s : World V) : Type 0 where
+  -- The history invariant: each stripe is in its place or with one holder, the whole is lawful, no view was told a power above the table's, each view knows a beginning of the history, and the history is legal and leads to the bindings of the whole.
+  pub record HistoryInvariant (k : Layout) (callers : ℕ) (log : List (Entry V)) (s : Configuration V) : Type 0 where
     pub contents : ℕ → Content V
     pub places : Places (2 ^ k.s) s contents
     pub lawful : Lawful k (whole k contents)

@@ -14,30 +14,30 @@ use Rattle.ck_model.specs.Contents.{Layout, Stripes, bindings, Lawful, whole}
 use Rattle.ck_model.specs.Sections.{Owns, Section, IdentitySection}
 use Rattle.ck_model.specs.Paths.{HasNoRoom, Grounds}
 use Rattle.ck_core.specs.declared.view.View.{View}
-use Rattle.ck_core.specs.State.{World, IsPart, owned}
+use Rattle.ck_core.specs.State.{Configuration, IsPart, owned}
 
 -- One atomic operation on the word of a stripe.
-pub data Move (V : Type 0) : Type 0 where
+pub data Label (V : Type 0) : Type 0 where
   -- a swap(1) that brings back 0
-  Take : (t : ℕ) → Move V
+  Take : (t : ℕ) → Label V
   -- a swap(1) that brings back 1
-  FindHeld : (t : ℕ) → Move V
+  FindHeld : (t : ℕ) → Label V
   -- a store(0) by which the content goes home unchanged; noroom may rise
-  Give : (t : ℕ) → Option (Name × Reason) → Move V
+  Give : (t : ℕ) → Option (Name × Reason) → Label V
   -- a store(0) that decides a call, with the new contents of a section
-  Decide : (t : ℕ) → Stripes V → Entry V → Move V
+  Decide : (t : ℕ) → Stripes V → Entry V → Label V
   -- as Give, after a Decide or a Renew
-  GiveRest : (t : ℕ) → Move V
+  GiveRest : (t : ℕ) → Label V
   -- a store(0) with the new contents of an identity section
-  Renew : (t : ℕ) → Stripes V → Option (Name × Reason) → Move V
+  Renew : (t : ℕ) → Stripes V → Option (Name × Reason) → Label V
   -- a load; told may rise to p
-  Look : (t p : ℕ) → Move V
+  Look : (t p : ℕ) → Label V
   -- a load by which a new caller gets a number that nobody has used
-  Open : Move V
+  Open : Label V
   -- a load that splits off what the caller has seen and was told
-  Tell : Move V
+  Tell : Label V
   -- a load that joins another view, which holds no stripe, to the caller's
-  Join : (other : ℕ) → Move V
+  Join : (other : ℕ) → Label V
 
 -- the number is above each of the list
 abbrev pub IsAbove : ℕ → List ℕ → Type 0
@@ -53,13 +53,13 @@ gaining l (Some g) = g ∷ l
 
 module _ {V : Type 0} where
   -- What each step leaves.
-  abbrev pub taken : World V → ℕ → View V → ℕ → Content V → List (Entry V) → World V
+  abbrev pub taken : Configuration V → ℕ → View V → ℕ → Content V → List (Entry V) → Configuration V
   taken s id v t c log = record { words = set s.words t 1; homes = set s.homes t None; views = set s.views id (record v { held = (t, c) ∷ v.held; seen = log }) }
 
-  abbrev pub seen_as : World V → ℕ → View V → World V
+  abbrev pub seen_as : Configuration V → ℕ → View V → Configuration V
   seen_as s id w = record s { views = set s.views id w }
 
-  abbrev pub sent_home : World V → ℕ → ℕ → Content V → View V → World V
+  abbrev pub sent_home : Configuration V → ℕ → ℕ → Content V → View V → Configuration V
   sent_home s id t c w = record { words = set s.words t 0; homes = set s.homes t (Some c); views = set s.views id w }
 
   -- the view v after the stripe t with the content c, of the held stripes hs, went home
@@ -75,8 +75,8 @@ module _ {V : Type 0} where
   newcomer set j p = record { settings = set; by = Some j; held = []; seen = []; mine = []; told = p; found = []; noroom = []; heard = []; heard_told = 0; others = [] }
 
   -- what v has seen and was told
-  abbrev pub messenger : View V → View V
-  messenger v = record { settings = v.settings; by = None; held = []; seen = v.seen; mine = []; told = v.told; found = []; noroom = []; heard = []; heard_told = 0; others = [] }
+  abbrev pub message_of : View V → View V
+  message_of v = record { settings = v.settings; by = None; held = []; seen = v.seen; mine = []; told = v.told; found = []; noroom = []; heard = []; heard_told = 0; others = [] }
 
   -- what a join leaves of the other view
   abbrev pub spent : View V
@@ -86,10 +86,10 @@ module _ {V : Type 0} where
   abbrev pub joining : View V → View V → View V
   joining v w = record v { heard = w.seen; heard_told = w.told; others = owned w ++ v.others }
 
-  abbrev pub split_as : World V → ℕ → View V → View V → World V
+  abbrev pub split_as : Configuration V → ℕ → View V → View V → Configuration V
   split_as s id left right = record s { views = set s.views id left ++ right ∷ [] }
 
-  abbrev pub joined : World V → ℕ → View V → ℕ → World V
+  abbrev pub joined : Configuration V → ℕ → View V → ℕ → Configuration V
   joined s id both other = record s { views = set (set s.views id both) other spent }
 
   -- noroom may rise where the stripes give grounds
@@ -106,29 +106,29 @@ module _ {V : Type 0} where
   IsExcused k min_load hs (Some (q, Memory)) = Grounds k min_load hs q Memory
 
   -- With this history, the caller of the view `id` may go by this step from s to s2.
-  abbrev pub Does : Layout → ℕ → List (Entry V) → ℕ → Move V → World V → World V → Type 0
-  Does k min_load log id (Take t) s s2 = (v : View V) × (c : Content V) × (get_elem? s.views id ≡ some v) × (t < 2 ^ k.s) × (slice_index s.words t ≡ 0) × IsAbove t (numbers v.held)
+  abbrev pub Transition : Layout → ℕ → List (Entry V) → ℕ → Label V → Configuration V → Configuration V → Type 0
+  Transition k min_load log id (Take t) s s2 = (v : View V) × (c : Content V) × (get_elem? s.views id ≡ some v) × (t < 2 ^ k.s) × (slice_index s.words t ≡ 0) × IsAbove t (numbers v.held)
       × (get_elem? s.homes t ≡ some (Some c)) × (s2 ≡ taken s id v t c log)
-  Does k min_load log id (FindHeld t) s s2 = (v : View V) × (get_elem? s.views id ≡ some v) × (t < 2 ^ k.s) × (slice_index s.words t ≡ 1) × ¬ (IsIn t (numbers v.held))
+  Transition k min_load log id (FindHeld t) s s2 = (v : View V) × (get_elem? s.views id ≡ some v) × (t < 2 ^ k.s) × (slice_index s.words t ≡ 1) × ¬ (IsIn t (numbers v.held))
       × (s2 ≡ seen_as s id (record v { found = t ∷ v.found }))
-  Does k min_load log id (Give t g) s s2 = (v : View V) × (c : Content V) × (get_elem? s.views id ≡ some v) × Holds v.held t c × IsExcused k min_load v.held g
+  Transition k min_load log id (Give t g) s s2 = (v : View V) × (c : Content V) × (get_elem? s.views id ≡ some v) × Holds v.held t c × IsExcused k min_load v.held g
       × (s2 ≡ sent_home s id t c (giving v t c v.held g))
-  Does k min_load log id (Decide t ks e) s s2 = (v : View V) × (c : Content V) × (get_elem? s.views id ≡ some v) × (v.by ≡ Some e.by) × Holds ks t c × Section k v.held e.call e.reply ks
+  Transition k min_load log id (Decide t ks e) s s2 = (v : View V) × (c : Content V) × (get_elem? s.views id ≡ some v) × (v.by ≡ Some e.by) × Holds ks t c × Section k v.held e.call e.reply ks
       × (s2 ≡ sent_home s id t c (deciding v t ks log e))
-  Does k min_load log id (GiveRest t) s s2 = (v : View V) × (c : Content V) × (get_elem? s.views id ≡ some v) × Holds v.held t c
+  Transition k min_load log id (GiveRest t) s s2 = (v : View V) × (c : Content V) × (get_elem? s.views id ≡ some v) × Holds v.held t c
       × (s2 ≡ sent_home s id t c (giving v t c v.held None))
-  Does k min_load log id (Renew t ks g) s s2 = (v : View V) × (c : Content V) × (get_elem? s.views id ≡ some v) × Holds ks t c × IdentitySection k v.held ks × HasGrounds k min_load ks g
+  Transition k min_load log id (Renew t ks g) s s2 = (v : View V) × (c : Content V) × (get_elem? s.views id ≡ some v) × Holds ks t c × IdentitySection k v.held ks × HasGrounds k min_load ks g
       × (s2 ≡ sent_home s id t c (giving v t c ks g))
-  Does k min_load log id (Look t p) s s2 = (v : View V) × (get_elem? s.views id ≡ some v) × (t < 2 ^ k.s) × (v.told ≤ p) × ((u : ℕ) (c : Content V) → IsPart s u c → p ≤ c.power)
+  Transition k min_load log id (Look t p) s s2 = (v : View V) × (get_elem? s.views id ≡ some v) × (t < 2 ^ k.s) × (v.told ≤ p) × ((u : ℕ) (c : Content V) → IsPart s u c → p ≤ c.power)
       × (s2 ≡ seen_as s id (record v { seen = log; told = p }))
-  Does k min_load log id Open s s2 = (v : View V) × (m : ℕ) × (rest : List (ℕ × List (Entry V))) × (get_elem? s.views id ≡ some v) × (v.others ≡ (m, []) ∷ rest)
+  Transition k min_load log id Open s s2 = (v : View V) × (m : ℕ) × (rest : List (ℕ × List (Entry V))) × (get_elem? s.views id ≡ some v) × (v.others ≡ (m, []) ∷ rest)
       × (s2 ≡ split_as s id (record v { others = rest }) (newcomer v.settings m v.told))
-  Does k min_load log id Tell s s2 = (v : View V) × (get_elem? s.views id ≡ some v) × (s2 ≡ split_as s id v (messenger v))
-  Does k min_load log id (Join other) s s2 = (v : View V) × (w : View V) × (get_elem? s.views id ≡ some v) × (get_elem? s.views other ≡ some w) × ¬ (other ≡ id) × (w.held ≡ [])
+  Transition k min_load log id Tell s s2 = (v : View V) × (get_elem? s.views id ≡ some v) × (s2 ≡ split_as s id v (message_of v))
+  Transition k min_load log id (Join other) s s2 = (v : View V) × (w : View V) × (get_elem? s.views id ≡ some v) × (get_elem? s.views other ≡ some w) × ¬ (other ≡ id) × (w.held ≡ [])
       × (s2 ≡ joined s id (joining v w) other)
 
   -- the history after a step
-  abbrev pub grown : List (Entry V) → Move V → List (Entry V)
+  abbrev pub grown : List (Entry V) → Label V → List (Entry V)
   grown log (Decide t ks e) = log ++ e ∷ []
   grown log (Take t) = log
   grown log (FindHeld t) = log
@@ -141,16 +141,16 @@ module _ {V : Type 0} where
   grown log (Join other) = log
 
   -- Steps of several callers, one after another, lead from s with one history to s2 with another.
-  abbrev pub Runs : Layout → ℕ → List (Entry V) → World V → List (ℕ × Move V) → List (Entry V) → World V → Type 0
-  Runs k min_load log s [] log2 s2 = (log ≡ log2) × (s ≡ s2)
-  Runs k min_load log s (m ∷ ms) log2 s2 = (s1 : World V) × Does k min_load log m.0 m.1 s s1 × Runs k min_load (grown log m.1) s1 ms log2 s2
+  abbrev pub Execution : Layout → ℕ → List (Entry V) → Configuration V → List (ℕ × Label V) → List (Entry V) → Configuration V → Type 0
+  Execution k min_load log s [] log2 s2 = (log ≡ log2) × (s ≡ s2)
+  Execution k min_load log s (m ∷ ms) log2 s2 = (s1 : Configuration V) × Transition k min_load log m.0 m.1 s s1 × Execution k min_load (grown log m.1) s1 ms log2 s2
 
   -- the view of a caller at the opening, with the numbers that it keeps for later callers
-  abbrev pub opener : Settings → ℕ → ℕ → List ℕ → View V
-  opener set j p ms = record (newcomer set j p) { others = map (λ (m : ℕ). (m, [])) ms }
+  abbrev pub initial_view : Settings → ℕ → ℕ → List ℕ → View V
+  initial_view set j p ms = record (newcomer set j p) { others = map (λ (m : ℕ). (m, [])) ms }
 
   -- Words 0, an empty lawful whole of power p, and callers that know nothing, whose numbers are no other's.
-  pub record Opening (k : Layout) (set : Settings) (callers p : ℕ) (s : World V) : Type 0 where
+  pub record Opening (k : Layout) (set : Settings) (callers p : ℕ) (s : Configuration V) : Type 0 where
     pub contents : ℕ → Content V
     pub words : s.words ≡ replicate (2 ^ k.s) 0
     pub homes_sized : length s.homes ≡ 2 ^ k.s
@@ -159,5 +159,5 @@ module _ {V : Type 0} where
     pub power : (t : ℕ) → t < 2 ^ k.s → (contents t).power ≡ p
     pub empty_whole : bindings (whole k contents) ≡ empty
     pub keeper : ℕ → ℕ
-    pub views : (j : ℕ) (v : View V) → get_elem? s.views j ≡ some v → (ms : List ℕ) × (v ≡ opener set j p ms) × AreDistinct (j ∷ ms)
+    pub views : (j : ℕ) (v : View V) → get_elem? s.views j ≡ some v → (ms : List ℕ) × (v ≡ initial_view set j p ms) × AreDistinct (j ∷ ms)
         × ((m : ℕ) → IsIn m (j ∷ ms) → (m < callers) × (keeper m ≡ j))

@@ -4,65 +4,65 @@ ghost use Rattle.ck_model.specs.declared.history.Entry.{Entry};
 ghost use Rattle.ck_model.specs.declared.history.Reason.{Reason};
 ghost use Rattle.ck_model.specs.Map.{Name};
 ghost use Rattle.ck_model.specs.Contents.{Stripes};
-ghost use Rattle.ck_core.specs.Steps.Move.{Take, FindHeld, Give, Decide, GiveRest, Renew, Look, Open, Tell, Join};
+ghost use Rattle.ck_core.specs.Steps.Label.{Take, FindHeld, Give, Decide, GiveRest, Renew, Look, Open, Tell, Join};
 ghost use Rattle.ck_core.specs.Laws.{LawOfRuns, Keeps, LawOfViews, LawOfReplies, LawOfAnswers, LawOfOtherSteps};
 ghost use Rattle.ck_core.specs.Sums.{LawOfSums};
 
-/// A step by which a caller takes a stripe that is at home keeps the law.
+/// A step by which a caller takes a stripe that is at home keeps the invariant.
 pub fn law_of_take<V>()
     ensures { (t : ℕ) → Keeps {V = V} (Take t) }
 {}
 
-/// A step by which a caller finds a stripe held keeps the law.
+/// A step by which a caller finds a stripe held keeps the invariant.
 pub fn law_of_find_held<V>()
     ensures { (t : ℕ) → Keeps {V = V} (FindHeld t) }
 {}
 
-/// A step by which a caller gives back a stripe unchanged keeps the law, whatever it says of room.
+/// A step by which a caller gives back a stripe unchanged keeps the invariant, whatever it says of room.
 pub fn law_of_give<V>()
     ensures { (t : ℕ) (g : Option (Name × Reason)) → Keeps {V = V} (Give t g) }
 {}
 
-/// A step by which a caller gives back the first stripe after a section, and so decides a call, keeps the law: the
+/// A step by which a caller gives back the first stripe after a section, and so decides a call, keeps the invariant: the
 /// entry joins the history, and its reply is the plain map's at that point.
 pub fn law_of_decide<V>()
     ensures kept { (t : ℕ) (ks : Stripes V) (e : Entry V) → Keeps (Decide t ks e) }
     ensures reply { LawOfReplies V }
 {}
 
-/// A step by which a caller gives back a further stripe keeps the law.
+/// A step by which a caller gives back a further stripe keeps the invariant.
 pub fn law_of_give_rest<V>()
     ensures { (t : ℕ) → Keeps {V = V} (GiveRest t) }
 {}
 
 /// A step by which a caller gives back the first stripe after an identity section, as a displacement or a doubling is,
-/// keeps the law.
+/// keeps the invariant.
 pub fn law_of_renew<V>()
     ensures { (t : ℕ) (ks : Stripes V) (g : Option (Name × Reason)) → Keeps (Renew t ks g) }
 {}
 
-/// A step by which a caller sees the history and may be told a greater power keeps the law.
+/// A step by which a caller sees the history and may be told a greater power keeps the invariant.
 pub fn law_of_look<V>()
     ensures { (t p : ℕ) → Keeps {V = V} (Look t p) }
 {}
 
 /// The steps by which a new caller begins, by which a caller tells what it has seen, and by which a caller joins
-/// another view to its own keep the law.
+/// another view to its own keep the invariant.
 pub fn law_of_splits<V>()
     ensures opening { Keeps {V = V} Open }
     ensures telling { Keeps {V = V} Tell }
     ensures joining { (other : ℕ) → Keeps {V = V} (Join other) }
 {}
 
-/// Whatever callers do from an opening state on, the law holds after each step, with the history of what was decided.
+/// Whatever callers do from an opening state on, the invariant holds after each step, with the history of what was decided.
 pub fn law_of_runs<V>()
     ensures { LawOfRuns V }
 {}
 
-/// What each view shows while the law holds: what was seen and heard are beginnings of one legal history, which has of
+/// What each view shows while the invariant holds: what was seen and heard are beginnings of one legal history, which has of
 /// its caller just the entries that are its own, all of them seen. The held stripes are lawful, their power is no less
 /// than what was told and heard, and where they are all stripes, the history leads to what they contain. Where a view
-/// keeps the numbers of all callers, the history is a shuffle of their entries.
+/// keeps the numbers of all callers, the history is an interleaving of their entries.
 pub fn law_of_views<V>()
     ensures { LawOfViews V }
 {}

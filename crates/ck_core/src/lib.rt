@@ -1,4 +1,4 @@
-//! The core of the table: its state, its steps, and the law that every run of them keeps.
+//! The core of the table: its state, its steps, and the invariant that every run of them keeps.
 #![tactic(auto)]
 
 pub mod example;

@@ -9,7 +9,7 @@ ghost use Rattle.ck_model.specs.declared.settings.Settings.{Settings};
 ghost use Rattle.ck_model.specs.Map.{Name};
 ghost use Rattle.ck_model.specs.Contents.{Stripes};
 ghost use Rattle.ck_core.specs.Steps.{Opening};
-ghost use Rattle.ck_core.specs.Steps.Move.{Take, FindHeld, Give, Decide, GiveRest, Renew, Look, Open, Join};
+ghost use Rattle.ck_core.specs.Steps.Label.{Take, FindHeld, Give, Decide, GiveRest, Renew, Look, Open, Join};
 ghost use Rattle.ck_core.specs.Example.{two_stripes, settings, zero_name, insertion, look_up, empty_stripe, full_stripe, both, first, start, one_held, decided, both_held, alone, steps};
 ghost use Rattle.ck_core.specs.Refusals.{Reaches, IsForbidden, LeavesHome, LeavesView, one_number, one_kept};
 

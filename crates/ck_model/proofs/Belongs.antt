@@ -53,4 +53,4 @@ module _ {V : Type 0} where
   pub belongs : (k : Layout) (t : ℕ) (c : Content V) (q : Name) (v : V) → IsSound k t c → Binds c q v → IsStripeOf k q t
   belongs k t c q v sound bound =
       let z = found_entry q c.rows v bound in
-      stripe_of_bucket k c.power z.0 t q sound.least sound.number (sound.placed z.0 z.1 q v z.2)
+      stripe_of_bucket k c.power z.0 t q sound.shaped.least sound.number (sound.placed z.0 z.1 q v z.2)

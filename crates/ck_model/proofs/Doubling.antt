@@ -14,8 +14,8 @@ use Rattle.ck_model.specs.Map.{Name, Map, name_cmp}
 use Rattle.ck_model.specs.Slots.{Slot, slot_at, taken_in}
 use Rattle.ck_model.specs.Numbered.{IsIn, AreDistinct, numbers, Holds}
 use Rattle.ck_model.specs.declared.contents.Content.{Content}
-use Rattle.ck_model.specs.Contents.{Layout, Stripes, row_at, rows_of, pairs_in, pairs_of, power_of, bucket_in, bindings, Binds, NamesApart, IsBucketOf, IsSound, Lawful}
-use Rattle.ck_model.specs.Doubling.{bucket_after, IsDoubledTo, HasShape}
+use Rattle.ck_model.specs.Contents.{Layout, Stripes, row_at, rows_of, pairs_in, pairs_of, power_of, bucket_in, bindings, Binds, NamesApart, IsBucketOf, IsShaped, IsSound, Lawful}
+use Rattle.ck_model.specs.Doubling.{bucket_after, IsDoubledTo}
 use Rattle.ck_model.proofs.Numbered.{in_held, held_of_in, one_content}
 use Rattle.ck_model.proofs.Names.{is_name}
 use Rattle.ck_model.proofs.Found.{Once, found_first, found_second, present, bound_where, bound_from}
@@ -121,7 +121,7 @@ module _ {V : Type 0} (k : Layout) (hs : Stripes V) (lawful : Lawful k hs) where
       let sound : IsSound k t c = lawful.sound t c h in
       let b : ℕ = r * 2 ^ k.s + t in
       let rows : rows_of hs (b % 2 ^ k.s) ≡ c.rows = ap (rows_of hs) (mod-mul-add r (2 ^ k.s) t sound.number) ∙ rows_held hs t c lawful.distinct h in
-      let below : b < 2 ^ c.power = below_all r t k.s c.power (length c.rows) sound.least sound.rows sound.number (row_inside c.rows r j (q, v) at) in (
+      let below : b < 2 ^ c.power = below_all r t k.s c.power (length c.rows) sound.shaped.least sound.shaped.rows sound.number (row_inside c.rows r j (q, v) at) in (
         b,
         subst (λ n. b < 2 ^ n) (sym (power_held k hs t c lawful h)) below,
         ap (λ (l : List (List (Slot V))). slot_at (row_at l (b / 2 ^ k.s)) j) rows ∙ ap (λ n. slot_at (row_at c.rows n) j) (div-mul-add r (2 ^ k.s) t sound.number) ∙ at,
@@ -160,21 +160,16 @@ module _ {V : Type 0} (k : Layout) (hs : Stripes V) (lawful : Lawful k hs) where
         let whole : r * 2 ^ k.s + t ≡ next = (λ z. row z * 2 ^ k.s + stripe z) ∙ div-add-mod' next (2 ^ k.s) in
         subst (λ (x : ℕ × ℕ). IsBucketOf k.hash x.0 q x.1) (λ z. (sym (to.power t c h) z, sym whole z)) (bucket_own k.hash (power_of hs) p q b.0)
 
-    pub lawful_doubled : ((t : ℕ) (c : Content V) → Holds ks t c → HasShape k c) → p ≤ k.max → Lawful k ks
-    lawful_doubled shape fits = record {
+    pub lawful_doubled : ((t : ℕ) (c : Content V) → Holds ks t c → IsShaped k.s c) → p ≤ k.max → Lawful k ks
+    lawful_doubled shaped fits = record {
       distinct = distinct;
-      sound = λ t c h.
-          let shaped : HasShape k c = shape t c h in
-          record {
-            number = number t c h;
-            least = shaped.least;
-            most = subst (λ n. n ≤ k.max) (sym (to.power t c h)) fits;
-            rows = shaped.rows;
-            four = shaped.four;
-            placed = placed t c h;
-            apart = each_apart ks apart t c h;
-            ledger = shaped.ledger;
-          };
+      sound = λ t c h. record {
+        number = number t c h;
+        most = subst (λ n. n ≤ k.max) (sym (to.power t c h)) fits;
+        shaped = shaped t c h;
+        placed = placed t c h;
+        apart = each_apart ks apart t c h;
+      };
       once = once_apart ks apart;
       one_power = λ t u c d h g. to.power t c h ∙ sym (to.power u d g);
     }

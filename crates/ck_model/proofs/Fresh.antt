@@ -33,11 +33,13 @@ module _ {V : Type 0} where
   pub sound-fresh : (k : Layout) (t p : ℕ) → t < 2 ^ k.s → k.s ≤ p → p ≤ k.max → IsSound k t (fresh p (2 ^ (p - k.s)))
   sound-fresh k t p number least most = record {
     number = number;
-    least = least;
     most = most;
-    rows = length-replicate (2 ^ (p - k.s)) free_bucket;
-    four = All-replicate (λ (row : List (Slot V)). length row ≡ 4) (2 ^ (p - k.s)) free_bucket refl;
+    shaped = record {
+      least = least;
+      rows = length-replicate (2 ^ (p - k.s)) free_bucket;
+      four = All-replicate (λ (row : List (Slot V)). length row ≡ 4) (2 ^ (p - k.s)) free_bucket refl;
+      ledger = ap length (sym (no_pairs (2 ^ (p - k.s))));
+    };
     placed = λ r i q v e. absurd (none-some (q, v) (sym (free_entry (2 ^ (p - k.s)) r i) ∙ e));
     apart = subst NamesApart (sym (no_pairs (2 ^ (p - k.s)))) tt;
-    ledger = ap length (sym (no_pairs (2 ^ (p - k.s))));
   }

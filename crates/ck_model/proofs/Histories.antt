@@ -5,7 +5,7 @@ use native.Mathlib.Decide.{ℕ_discrete}
 use Rattle.std.specs.FinMap.{empty}
 use Rattle.ck_model.specs.declared.history.Entry.{Entry}
 use Rattle.ck_model.specs.Map.{Map, Step}
-use Rattle.ck_model.specs.History.{Leads, IsLegal, StartsWith, calls_by}
+use Rattle.ck_model.specs.History.{Leads, IsLegal, StartsWith, subhistory}
 use Rattle.ck_model.proofs.Numbered.{if_same, if_else}
 
 module _ {V : Type 0} where
@@ -22,19 +22,19 @@ module _ {V : Type 0} where
   pub legal_beginning : (log start : List (Entry V)) → IsLegal log → StartsWith log start → IsLegal start
   legal_beginning log start l s = let z = leads_to empty l.0 start s.0 (subst (λ (x : List (Entry V)). Leads empty x l.0) s.1 l.1) in (z.0, z.1)
 
-  pub calls_by-append : (m : ℕ) (xs ys : List (Entry V)) → calls_by m (xs ++ ys) ≡ calls_by m xs ++ calls_by m ys
-  calls_by-append m [] ys = refl
-  calls_by-append m (x ∷ xs) ys = dite (ℕ_discrete x.by m)
-      (λ e. if_same x.by m (x ∷ calls_by m (xs ++ ys)) (calls_by m (xs ++ ys)) e ∙ (ap {B = List (Entry V)} (λ l. x ∷ l) (calls_by-append m xs ys)
-      ∙ ap (λ l. l ++ calls_by m ys) (sym (if_same x.by m (x ∷ calls_by m xs) (calls_by m xs) e))))
-      (λ ne. if_else x.by m (x ∷ calls_by m (xs ++ ys)) (calls_by m (xs ++ ys)) ne ∙ (calls_by-append m xs ys
-      ∙ ap (λ l. l ++ calls_by m ys) (sym (if_else x.by m (x ∷ calls_by m xs) (calls_by m xs) ne))))
+  pub subhistory-append : (m : ℕ) (xs ys : List (Entry V)) → subhistory m (xs ++ ys) ≡ subhistory m xs ++ subhistory m ys
+  subhistory-append m [] ys = refl
+  subhistory-append m (x ∷ xs) ys = dite (ℕ_discrete x.by m)
+      (λ e. if_same x.by m (x ∷ subhistory m (xs ++ ys)) (subhistory m (xs ++ ys)) e ∙ (ap {B = List (Entry V)} (λ l. x ∷ l) (subhistory-append m xs ys)
+      ∙ ap (λ l. l ++ subhistory m ys) (sym (if_same x.by m (x ∷ subhistory m xs) (subhistory m xs) e))))
+      (λ ne. if_else x.by m (x ∷ subhistory m (xs ++ ys)) (subhistory m (xs ++ ys)) ne ∙ (subhistory-append m xs ys
+      ∙ ap (λ l. l ++ subhistory m ys) (sym (if_else x.by m (x ∷ subhistory m xs) (subhistory m xs) ne))))
 
-  pub calls_by-own : (m : ℕ) (log : List (Entry V)) (e : Entry V) → e.by ≡ m → calls_by m (log ++ e ∷ []) ≡ calls_by m log ++ e ∷ []
-  calls_by-own m log e is = calls_by-append m log (e ∷ []) ∙ ap (λ l. calls_by m log ++ l) (if_same e.by m (e ∷ []) [] is)
+  pub subhistory-own : (m : ℕ) (log : List (Entry V)) (e : Entry V) → e.by ≡ m → subhistory m (log ++ e ∷ []) ≡ subhistory m log ++ e ∷ []
+  subhistory-own m log e is = subhistory-append m log (e ∷ []) ∙ ap (λ l. subhistory m log ++ l) (if_same e.by m (e ∷ []) [] is)
 
-  pub calls_by-other : (m : ℕ) (log : List (Entry V)) (e : Entry V) → e.by ≢ m → calls_by m (log ++ e ∷ []) ≡ calls_by m log
-  calls_by-other m log e ne = calls_by-append m log (e ∷ []) ∙ (ap (λ l. calls_by m log ++ l) (if_else e.by m (e ∷ []) [] ne) ∙ append-nil (calls_by m log))
+  pub subhistory-other : (m : ℕ) (log : List (Entry V)) (e : Entry V) → e.by ≢ m → subhistory m (log ++ e ∷ []) ≡ subhistory m log
+  subhistory-other m log e ne = subhistory-append m log (e ∷ []) ∙ (ap (λ l. subhistory m log ++ l) (if_else e.by m (e ∷ []) [] ne) ∙ append-nil (subhistory m log))
 
   pub starts_itself : (log : List (Entry V)) → StartsWith log log
   starts_itself log = ([], sym (append-nil log))

@@ -83,7 +83,7 @@ module _ {V : Type 0} where
       row = row_at c.rows r
 
       row-four : length row ≡ 4
-      row-four = sound.four r [] within
+      row-four = sound.shaped.four r [] within
 
       inside : i < length row
       inside = subst (λ n. i < n) (sym row-four) below
@@ -108,13 +108,15 @@ module _ {V : Type 0} where
           → IsSound k t (written c r i s n)
       sound_after s n of apart ledger = record {
         number = sound.number;
-        least = sound.least;
         most = sound.most;
-        rows = length-set c.rows r (slice_set row i s) ∙ sound.rows;
-        four = All-set (λ (x : List (Slot V)). length x ≡ 4) c.rows r (slice_set row i s) (length-set row i s ∙ row-four) sound.four;
+        shaped = record {
+          least = sound.shaped.least;
+          rows = length-set c.rows r (slice_set row i s) ∙ sound.shaped.rows;
+          four = All-set (λ (x : List (Slot V)). length x ≡ 4) c.rows r (slice_set row i s) (length-set row i s ∙ row-four) sound.shaped.four;
+          ledger = ledger;
+        };
         placed = placed_after s of;
         apart = apart;
-        ledger = ledger;
       }
 
       -- an unbound name is placed in a free slot of one of its buckets
@@ -125,7 +127,7 @@ module _ {V : Type 0} where
           let z = rebinds (pairs_in c) _ q None (Some (q, v)) b tt refl (subst NamesApart b.was sound.apart) (ap (find name_cmp q) (sym b.was) ∙ none) in
           let more : length (pairs_in (written c r i (Some (q, v)) 0)) ≡ length (pairs_in c) + 1 = ap length b.is ∙ length-between b.before (q, v) b.after ∙ ap (λ es. length es + 1) (sym b.was) in
           record {
-            sound = sound_after (Some (q, v)) (c.ledger + 1) (λ p w e. subst (λ (n : Name). IsBucketOf k.hash c.power n (r * 2 ^ k.s + t)) (some_pair_parts _ _ _ _ e).0 of) z.apart (ap (λ n. n + 1) sound.ledger ∙ sym more);
+            sound = sound_after (Some (q, v)) (c.ledger + 1) (λ p w e. subst (λ (n : Name). IsBucketOf k.hash c.power n (r * 2 ^ k.s + t)) (some_pair_parts _ _ _ _ e).0 of) z.apart (ap (λ n. n + 1) sound.shaped.ledger ∙ sym more);
             power = refl;
             was = z.was;
             is = z.is;
@@ -143,7 +145,7 @@ module _ {V : Type 0} where
           let alone = alone_in q v None b in
           let z = rebinds (pairs_in c) _ q (Some (q, v)) None b refl tt alone.0 alone.1 in
           let less : length (pairs_in c) ≡ length (pairs_in (written c r i None 0)) + 1 = ap length b.was ∙ length-between b.before (q, v) b.after ∙ ap (λ es. length es + 1) (sym b.is) in
-          let count : c.ledger ≡ length (pairs_in c) = sound.ledger in
+          let count : c.ledger ≡ length (pairs_in c) = sound.shaped.ledger in
           record {
             sound = sound_after None (c.ledger - 1) (λ p w e. absurd (none-some _ e)) z.apart (omega (arith, less, count));
             power = refl;
@@ -161,7 +163,7 @@ module _ {V : Type 0} where
           let same : length (pairs_in c) ≡ length (pairs_in (written c r i (Some (q, w)) 0)) =
           ap length b.was ∙ length-between b.before (q, v) b.after ∙ sym (ap length b.is ∙ length-between b.before (q, w) b.after) in
           record {
-            sound = sound_after (Some (q, w)) c.ledger (λ p u e. subst (λ (n : Name). IsBucketOf k.hash c.power n (r * 2 ^ k.s + t)) (some_pair_parts _ _ _ _ e).0 (sound.placed r i q v is)) z.apart (sound.ledger ∙ same);
+            sound = sound_after (Some (q, w)) c.ledger (λ p u e. subst (λ (n : Name). IsBucketOf k.hash c.power n (r * 2 ^ k.s + t)) (some_pair_parts _ _ _ _ e).0 (sound.placed r i q v is)) z.apart (sound.shaped.ledger ∙ same);
             power = refl;
             was = z.was;
             is = z.is;
@@ -174,4 +176,4 @@ module _ {V : Type 0} where
       where
         go : (es : List (Name × V)) → pairs_in c ≡ es → find name_cmp q es ≡ Some v → 0 < c.ledger
         go [] e f = absurd (none-some v f)
-        go (x ∷ es) e f = let n : c.ledger ≡ length (x ∷ es) = sound.ledger ∙ ap length e in omega (arith, n)
+        go (x ∷ es) e f = let n : c.ledger ≡ length (x ∷ es) = sound.shaped.ledger ∙ ap length e in omega (arith, n)

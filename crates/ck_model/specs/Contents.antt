@@ -59,16 +59,20 @@ module _ {V : Type 0} where
   NamesApart [] = Unit {0}
   NamesApart (e ∷ es) = (find name_cmp e.0 es ≡ None) × NamesApart es
 
-  -- The stripe t by itself: buckets of four slots, each entry in a bucket of its name, no name in two slots, and a ledger that is the number of its entries.
+  -- What one of 2^s stripes contains: 2^(power - s) buckets of four slots, and a ledger that is the number of its entries.
+  pub record IsShaped (s : ℕ) (c : Content V) : Type 0 where
+    pub least : s ≤ c.power
+    pub rows : length c.rows ≡ 2 ^ (c.power - s)
+    pub four : All (λ (row : List (Slot V)). length row ≡ 4) c.rows
+    pub ledger : c.ledger ≡ length (pairs_in c)
+
+  -- The stripe t by itself: of the right shape, each entry in a bucket of its name, and no name in two slots.
   pub record IsSound (k : Layout) (t : ℕ) (c : Content V) : Type 0 where
     pub number : t < 2 ^ k.s
-    pub least : k.s ≤ c.power
     pub most : c.power ≤ k.max
-    pub rows : length c.rows ≡ 2 ^ (c.power - k.s)
-    pub four : All (λ (row : List (Slot V)). length row ≡ 4) c.rows
+    pub shaped : IsShaped k.s c
     pub placed : (r i : ℕ) (q : Name) (v : V) → slot_at (row_at c.rows r) i ≡ Some (q, v) → IsBucketOf k.hash c.power q (r * 2 ^ k.s + t)
     pub apart : NamesApart (pairs_in c)
-    pub ledger : c.ledger ≡ length (pairs_in c)
 
   -- Different stripes, each sound, no name in two of them, and all of one power.
   pub record Lawful (k : Layout) (hs : Stripes V) : Type 0 where

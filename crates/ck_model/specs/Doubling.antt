@@ -1,12 +1,12 @@
 -- What a table contains after it has doubled.
-use Rattle.std.specs.Prelude.{◌≡◌, ℕ, ◌-◌, ◌^◌, ◌<◌, ◌≤◌, ◌==◌, if◌then◌else◌, List, Some, length, All}
+use Rattle.std.specs.Prelude.{◌≡◌, ℕ, ◌^◌, ◌<◌, ◌==◌, if◌then◌else◌, Some}
 use Rattle.std.specs.List.Sorted.{IsPermutation}
 use Rattle.ck_model.specs.Arithmetic.{index_of, second_of}
 use Rattle.ck_model.specs.Map.{Name}
 use Rattle.ck_model.specs.Numbered.{numbers, Holds}
-use Rattle.ck_model.specs.Slots.{Slot, slot_at}
+use Rattle.ck_model.specs.Slots.{slot_at}
 use Rattle.ck_model.specs.declared.contents.Content.{Content}
-use Rattle.ck_model.specs.Contents.{Layout, Stripes, pairs_in, pairs_of, power_of, bucket_in}
+use Rattle.ck_model.specs.Contents.{Layout, Stripes, pairs_of, power_of, bucket_in}
 
 -- the bucket at power p2 of an entry that stands in bucket b at power p: from its name's first bucket it goes to the first, from any other to the alternate one
 abbrev pub bucket_after : (Name → ℕ) → ℕ → ℕ → Name → ℕ → ℕ
@@ -20,10 +20,3 @@ module _ {V : Type 0} where
     pub sends : (b i : ℕ) (q : Name) (v : V) → b < 2 ^ power_of hs → slot_at (bucket_in k hs b) i ≡ Some (q, v)
         → slot_at (bucket_in k ks (bucket_after k.hash (power_of hs) p q b)) i ≡ Some (q, v)
     pub pairs : IsPermutation (pairs_of hs) (pairs_of ks)
-
-  -- buckets of four slots, as many as the power says, and a ledger that is the number of the entries
-  pub record HasShape (k : Layout) (c : Content V) : Type 0 where
-    pub least : k.s ≤ c.power
-    pub rows : length c.rows ≡ 2 ^ (c.power - k.s)
-    pub four : All (λ (row : List (Slot V)). length row ≡ 4) c.rows
-    pub ledger : c.ledger ≡ length (pairs_in c)

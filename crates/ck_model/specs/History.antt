@@ -24,11 +24,11 @@ module _ {V : Type 0} where
   StartsWith log start = (more : List (Entry V)) × (log ≡ start ++ more)
 
   -- the entries of one caller, in order
-  abbrev pub calls_by : ℕ → List (Entry V) → List (Entry V)
-  calls_by n [] = []
-  calls_by n (e ∷ es) = if e.by == n then e ∷ calls_by n es else calls_by n es
+  abbrev pub subhistory : ℕ → List (Entry V) → List (Entry V)
+  subhistory n [] = []
+  subhistory n (e ∷ es) = if e.by == n then e ∷ subhistory n es else subhistory n es
 
   -- Of each caller of the list, the history has these entries, in order, and it has no others.
-  pub record IsShuffle (log : List (Entry V)) (parts : List (ℕ × List (Entry V))) : Type 0 where
-    pub each : (m : ℕ) (l : List (Entry V)) → Holds parts m l → calls_by m log ≡ l
-    pub no_others : (m : ℕ) → ¬ (IsIn m (numbers parts)) → calls_by m log ≡ []
+  pub record IsInterleaving (log : List (Entry V)) (parts : List (ℕ × List (Entry V))) : Type 0 where
+    pub each : (m : ℕ) (l : List (Entry V)) → Holds parts m l → subhistory m log ≡ l
+    pub no_others : (m : ℕ) → ¬ (IsIn m (numbers parts)) → subhistory m log ≡ []

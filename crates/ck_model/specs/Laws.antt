@@ -10,9 +10,9 @@ use Rattle.ck_model.specs.Map.{Name, Map, Step}
 use Rattle.ck_model.specs.History.{After, IsLegal, StartsWith}
 use Rattle.ck_model.specs.Numbered.{Holds, over}
 use Rattle.ck_model.specs.declared.contents.Content.{Content}
-use Rattle.ck_model.specs.Contents.{Layout, Stripes, bindings, Lawful, whole}
+use Rattle.ck_model.specs.Contents.{Layout, Stripes, bindings, IsShaped, Lawful, whole}
 use Rattle.ck_model.specs.Sections.{Section, IdentitySection}
-use Rattle.ck_model.specs.Doubling.{IsDoubledTo, HasShape}
+use Rattle.ck_model.specs.Doubling.{IsDoubledTo}
 
 -- the call speaks of the name
 abbrev pub SpeaksOf : {V : Type 0} → Call V → Name → Type 0
@@ -58,7 +58,7 @@ module _ (V : Type 0) where
 
   -- where the buckets and the ledger of each stripe have their shape, and the power may be, it is lawful
   abbrev pub DoublingsKeepLawful : Type 0
-  DoublingsKeepLawful = (k : Layout) (p : ℕ) (hs ks : Stripes V) → Lawful k hs → IsDoubledTo k p hs ks → ((t : ℕ) (c : Content V) → Holds ks t c → HasShape k c) → p ≤ k.max → Lawful k ks
+  DoublingsKeepLawful = (k : Layout) (p : ℕ) (hs ks : Stripes V) → Lawful k hs → IsDoubledTo k p hs ks → ((t : ℕ) (c : Content V) → Holds ks t c → IsShaped k.s c) → p ≤ k.max → Lawful k ks
 
 -- the alternate of a bucket's alternate is the bucket
 abbrev pub AlternateTwice : Type 0

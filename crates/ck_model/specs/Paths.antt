@@ -1,5 +1,5 @@
 -- Displacement paths over contents, and grounds for a refusal.
-use Rattle.std.specs.Prelude.{◌≡◌, ◌≢◌, ℕ, ◌*◌, ◌^◌, ◌<◌, ◌≤◌, List, [], ◌∷◌, length, map, option_map, Some, None}
+use Rattle.std.specs.Prelude.{◌≡◌, ◌≢◌, ℕ, ◌*◌, ◌^◌, ◌<◌, ◌≤◌, List, [], ◌∷◌, length, map, Option, option_map, Some, None}
 use Rattle.std.specs.FinMap.{get}
 use Rattle.ck_model.specs.declared.history.Reason.{Reason}
 use Rattle.ck_model.specs.declared.history.Reason.TheVariants.{NoRoom, Full, LoadTooLow, Memory}
@@ -25,9 +25,13 @@ module _ {V : Type 0} where
   IsPathFrom k hs b [] = HasFree (bucket_in k hs b)
   IsPathFrom k hs b (c ∷ cs) = IsFull (bucket_in k hs b) × LeadsTo k hs b c × IsPathFrom k hs c cs
 
+  -- the partial that a sketch shows of a slot
+  abbrev pub partial_in : (Name → ℕ) → Slot V → Option ℕ
+  partial_in hash slot = option_map (λ (e : Name × V). partial_of (hash e.0)) slot
+
   -- what a search sees of bucket b
   abbrev pub sketch_in : Layout → Stripes V → ℕ → Sketch
-  sketch_in k hs b = map (λ (s : Slot V). option_map (λ (e : Name × V). partial_of (k.hash e.0)) s) (bucket_in k hs b)
+  sketch_in k hs b = map (partial_in k.hash) (bucket_in k hs b)
 
   -- no path of at most four hops begins at a bucket of the name
   abbrev pub HasNoPath : Layout → Stripes V → Name → Type 0

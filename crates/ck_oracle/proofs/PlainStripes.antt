@@ -215,22 +215,19 @@ module _ (hash : Name → ℕ) (s max : ℕ) where
   sound_of : (stripe : PlainStripe) → StripeHashed stripe → IsPlainSound s max stripe → IsSound layout stripe.number (content_of stripe)
   sound_of stripe hashed h = record {
     number = h.sized.number;
-    least = h.sized.least;
     most = h.sized.most;
-    rows = length-map stripe.rows.items row_of ∙ h.sized.rows;
-    four = four_of stripe.rows.items h.four;
+    shaped = record { least = h.sized.least; rows = length-map stripe.rows.items row_of ∙ h.sized.rows; four = four_of stripe.rows.items h.four; ledger = h.ledger };
     placed = λ r i q v is. subst (λ m. IsBucketOf hash stripe.power q (m * 2 ^ s + stripe.number)) (omega arith) (placed_of hash stripe.power s stripe.number 0 stripe.rows.items hashed h.placed r i q v is);
     apart = apart_of stripe.rows.items h.apart;
-    ledger = h.ledger;
   }
 
   sound_from : (stripe : PlainStripe) → StripeHashed stripe → IsSound layout stripe.number (content_of stripe) → IsPlainSound s max stripe
   sound_from stripe hashed h = record {
-    sized = record { number = h.number; least = h.least; most = h.most; rows = sym (length-map stripe.rows.items row_of) ∙ h.rows };
-    four = four_from stripe.rows.items h.four;
+    sized = record { number = h.number; least = h.shaped.least; most = h.most; rows = sym (length-map stripe.rows.items row_of) ∙ h.shaped.rows };
+    four = four_from stripe.rows.items h.shaped.four;
     placed = placed_from hash stripe.power s stripe.number 0 stripe.rows.items hashed (λ r i q v is. subst (λ m. IsBucketOf hash stripe.power q (m * 2 ^ s + stripe.number)) (omega arith) (h.placed r i q v is));
     apart = apart_from stripe.rows.items h.apart;
-    ledger = h.ledger;
+    ledger = h.shaped.ledger;
   }
 
   all_sound_of : (ss : List PlainStripe) → All StripeHashed ss → All (IsPlainSound s max) ss → All (λ (u : PlainStripe). IsSound layout u.number (content_of u)) ss

@@ -1,4 +1,4 @@
--- Plain data of worlds and of moves, and what it stands for.
+-- Plain data of configurations and of labels, and what it stands for.
 use Rattle.std.specs.Prelude.{ℕ, List, map, Option, Some, None}
 use Rattle.ck_model.specs.declared.history.Entry.{Entry}
 use Rattle.ck_model.specs.declared.contents.Content.{Content}
@@ -13,9 +13,9 @@ use Rattle.ck_oracle_steps.specs.declared.world.PlainWorld.{PlainWorld}
 use Rattle.ck_oracle_steps.specs.declared.world.PlainMove.{PlainMove}
 use Rattle.ck_oracle_steps.specs.declared.world.PlainMove.TheVariants as plain
 use Rattle.ck_core.specs.Example.{first_number}
-use Rattle.ck_core.specs.State.{World}
-use Rattle.ck_core.specs.Steps.{Move}
-use Rattle.ck_core.specs.Steps.Move.{Take, FindHeld, Give, Decide, GiveRest, Renew, Look, Open, Tell, Join}
+use Rattle.ck_core.specs.State.{Configuration}
+use Rattle.ck_core.specs.Steps.{Label}
+use Rattle.ck_core.specs.Steps.Label.{Take, FindHeld, Give, Decide, GiveRest, Renew, Look, Open, Tell, Join}
 
 -- the hash of a name is its first number, or 0
 abbrev pub plain_layout : PlainTable → Layout
@@ -43,10 +43,10 @@ view_of v = record {
   others = map other_of v.others.items;
 }
 
-abbrev pub world_of : PlainWorld → World ℕ
+abbrev pub world_of : PlainWorld → Configuration ℕ
 world_of w = record { words = w.words.items; homes = map home_of w.homes.items; views = map view_of w.views.items }
 
-abbrev pub move_of : PlainMove → Move ℕ
+abbrev pub move_of : PlainMove → Label ℕ
 move_of (plain.Take t) = Take t
 move_of (plain.FindHeld t) = FindHeld t
 move_of (plain.Give t g) = Give t g

@@ -4,7 +4,7 @@ ghost use Rattle.ck_model.specs.declared.history.Entry.{Entry};
 ghost use Rattle.ck_model.specs.Numbered.{without};
 ghost use Rattle.ck_oracle.specs.Plain.{content_of, stripes_of};
 ghost use Rattle.ck_core.specs.State.{own, owned};
-ghost use Rattle.ck_core.specs.Steps.{newcomer, messenger, spent, joining, gaining, seen_as, sent_home, split_as, joined};
+ghost use Rattle.ck_core.specs.Steps.{newcomer, message_of, spent, joining, gaining, seen_as, sent_home, split_as, joined};
 ghost use Rattle.ck_oracle_steps.specs.Plain.{other_of, home_of, view_of, world_of};
 ghost use Rattle.ck_oracle_steps.specs.Left.{topped, grown_by, behind, taken_of, kept_of, heard_of, heard_told_of, joined_of, list_or, left_of, new_of, IsOf, SameBut};
 
@@ -170,8 +170,8 @@ impl<'a> FreshView<'a> {
 
     /// What the view has seen and was told.
     #[tactic(auto, unfolding(crate::specs::Plain::view_of, crate::specs::Left::left_of, crate::specs::Left::new_of))]
-    pub fn messenger(view: &'a PlainView) -> FreshView<'a>
-        ensures { new_of result ≡ messenger (view_of view.now) }
+    pub fn message_of(view: &'a PlainView) -> FreshView<'a>
+        ensures { new_of result ≡ message_of (view_of view.now) }
     {
         FreshView {
             settings: view.settings,

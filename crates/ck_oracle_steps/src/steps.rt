@@ -8,7 +8,7 @@ ghost use Rattle.ck_oracle.specs.Plain.{content_of, stripes_of};
 ghost use Rattle.ck_core.specs.declared.view.View.{View};
 ghost use Rattle.ck_core.specs.State.{IsPart};
 ghost use Rattle.ck_core.specs.Steps.{IsAbove};
-ghost use Rattle.ck_core.specs.Steps.Move.{Take, FindHeld, Give, Decide, GiveRest, Renew, Look, Open, Tell, Join};
+ghost use Rattle.ck_core.specs.Steps.Label.{Take, FindHeld, Give, Decide, GiveRest, Renew, Look, Open, Tell, Join};
 ghost use Rattle.ck_oracle_steps.specs.Plain.{other_of, home_of, view_of, world_of, move_of};
 ghost use Rattle.ck_oracle_steps.specs.Left.{left_of};
 ghost use Rattle.ck_oracle_steps.specs.declared.world.PlainTable.{PlainTable};
@@ -336,7 +336,7 @@ pub fn check_tell(claim: &Claim) -> Result<(), Refusal>
     check_split(
         claim,
         &ExpectedView::same(view),
-        &FreshView::messenger(view),
+        &FreshView::message_of(view),
     )
 }
 

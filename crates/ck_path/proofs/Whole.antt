@@ -28,9 +28,9 @@ module _ {V : Type 0} where
       let held : (c : Content V) × Holds hs t c = held_of_in hs t (all t (mod-lt b (pow_pos k.s))) in
       let sound : IsSound k t held.0 = lawful.sound t held.0 held.1 in
       let power : power_of hs ≡ held.0.power = power_held k hs lawful t held.0 held.1 in
-      let split : held.0.power ≡ (held.0.power - k.s) + k.s = omega (arith, sound.least) in
+      let split : held.0.power ≡ (held.0.power - k.s) + k.s = omega (arith, sound.shaped.least) in
       let size : 2 ^ power_of hs ≡ 2 ^ (held.0.power - k.s) * 2 ^ k.s = ap (λ p. 2 ^ p) (power ∙ split) ∙ pow-add 2 (held.0.power - k.s) k.s in
       let row : b / 2 ^ k.s < length held.0.rows =
-      rw sound.rows (div_below b (2 ^ k.s) (2 ^ (held.0.power - k.s)) (pow_pos k.s) (subst (λ n. b < n) size below)) in
+      rw sound.shaped.rows (div_below b (2 ^ k.s) (2 ^ (held.0.power - k.s)) (pow_pos k.s) (subst (λ n. b < n) size below)) in
       rw (rows_held hs lawful.distinct t held.0 held.1)
-      (All-get_or (λ (row : List (Slot V)). length row ≡ 4) held.0.rows (b / 2 ^ k.s) [] row sound.four)
+      (All-get_or (λ (row : List (Slot V)). length row ≡ 4) held.0.rows (b / 2 ^ k.s) [] row sound.shaped.four)

@@ -24,7 +24,7 @@ use Rattle.ck_script.specs.declared.script.What.TheVariants as is
 use Rattle.ck_script.specs.Script.{on_names}
 use Rattle.ck_script.specs.Tokens.{tokens, number_at, begins_as_number, is_printed, IsNumber, IsText, IsKey}
 use Rattle.ck_script.specs.Spells.{AreNameAndKey, AreNameAndPair, AreMoveAndTwo, IsCommand}
-use Rattle.ck_script.specs.FirstFault.{option_or, is_empty, number_fault, key_fault, Place, Key, Number, places_of_move, places_of, word_fault, words_fault, twice_fault, behind_fault, tokens_fault}
+use Rattle.ck_script.specs.FirstFault.{option_or, is_empty, number_fault, key_fault, Operand, Key, Number, operands_of_move, operands_of, word_fault, words_fault, twice_fault, behind_fault, tokens_fault}
 use Rattle.ck_script.proofs.Numbers.{written}
 use Rattle.ck_script.specs.Parse.{command_at, held, held_command, ◌>>=◌, unless, name_of, WordCommand, number_or_fault, alone_command, key_command, pair_command, with_key, with_pair, number_behind, moved, move_command, has_moves, command_in, HasKeys}
 
@@ -164,11 +164,11 @@ key_of Text word q (h, e) = (rw (list_of_all is_printed word h.printed, le-ltb 6
 
 -- Names: what stands behind one that is told from the others.
 
-abbrev Places : Type 0
-Places = Option (List Place)
+abbrev Operands : Type 0
+Operands = Option (List Operand)
 
-abbrev table : Version → Bool → Bool → Bool → Bool → Places
-table v a b c d = cond a (Some (Key ∷ [])) (cond b (Some (Key ∷ Number ∷ [])) (cond c (Some []) (cond d (places_of_move v) None)))
+abbrev table : Version → Bool → Bool → Bool → Bool → Operands
+table v a b c d = cond a (Some (Key ∷ [])) (cond b (Some (Key ∷ Number ∷ [])) (cond c (Some []) (cond d (operands_of_move v) None)))
 
 other_alone : (v : Version) (keys : Keys) (a b d : Bool) → behind_fault keys (table v a b false d) [] ≡ Some is.Command
 other_alone v keys true b d = refl
@@ -207,43 +207,43 @@ other_more v keys false false false false words h = refl
 other_more One keys false false false true words h = refl
 other_more Two keys false false false true words h = let no : eqb (length words) 3 ≡ false = grind (arith, nat_tests) in rw no refl
 
--- a name for which a table has a command, and the places behind it, or a name that none of the table's is
-abbrev IsNamed : {A : Type 0} → Version → List ℕ → Option A → List Place → Type 0
-IsNamed {A} v name command places = (c : A) × (command ≡ Some c) × (places_of v name ≡ Some places)
+-- a name for which a table has a command, and the operands behind it, or a name that none of the table's is
+abbrev IsNamed : {A : Type 0} → Version → List ℕ → Option A → List Operand → Type 0
+IsNamed {A} v name command operands = (c : A) × (command ≡ Some c) × (operands_of v name ≡ Some operands)
 
-alone_named : (v : Version) (name : List ℕ) → IsNamed v name (alone_command name) [] ⊎ ((alone_command name ≡ None) × ((keys : Keys) → behind_fault keys (places_of v name) [] ≡ Some is.Command))
+alone_named : (v : Version) (name : List ℕ) → IsNamed v name (alone_command name) [] ⊎ ((alone_command name ≡ None) × ((keys : Keys) → behind_fault keys (operands_of v name) [] ≡ Some is.Command))
 alone_named v name =
     elim (cases_Bool (bytes_eq name (codes "len"))) [
-      | inl h ↦ let e = same_bytes name (codes "len") h in inl (Len, ap alone_command e, ap (places_of v) e)
+      | inl h ↦ let e = same_bytes name (codes "len") h in inl (Len, ap alone_command e, ap (operands_of v) e)
       | inr a ↦ elim (cases_Bool (bytes_eq name (codes "list"))) [
-        | inl h ↦ let e = same_bytes name (codes "list") h in inl (Lists, ap alone_command e, ap (places_of v) e)
+        | inl h ↦ let e = same_bytes name (codes "list") h in inl (Lists, ap alone_command e, ap (operands_of v) e)
         | inr b ↦ inr (rw (a, b) refl, λ keys. rw (a, b) (other_alone v keys _ _ _))
       ]
     ]
 
-key_named : (v : Version) (name : List ℕ) → IsNamed v name (key_command name) (Key ∷ []) ⊎ ((key_command name ≡ None) × ((keys : Keys) (x : List ℕ) → behind_fault keys (places_of v name) (x ∷ []) ≡ Some is.Command))
+key_named : (v : Version) (name : List ℕ) → IsNamed v name (key_command name) (Key ∷ []) ⊎ ((key_command name ≡ None) × ((keys : Keys) (x : List ℕ) → behind_fault keys (operands_of v name) (x ∷ []) ≡ Some is.Command))
 key_named v name =
     elim (cases_Bool (bytes_eq name (codes "find"))) [
-      | inl h ↦ let e = same_bytes name (codes "find") h in inl (Find, ap key_command e, ap (places_of v) e)
+      | inl h ↦ let e = same_bytes name (codes "find") h in inl (Find, ap key_command e, ap (operands_of v) e)
       | inr a ↦ elim (cases_Bool (bytes_eq name (codes "has"))) [
-        | inl h ↦ let e = same_bytes name (codes "has") h in inl (Has, ap key_command e, ap (places_of v) e)
+        | inl h ↦ let e = same_bytes name (codes "has") h in inl (Has, ap key_command e, ap (operands_of v) e)
         | inr b ↦ elim (cases_Bool (bytes_eq name (codes "erase"))) [
-          | inl h ↦ let e = same_bytes name (codes "erase") h in inl (Erase, ap key_command e, ap (places_of v) e)
+          | inl h ↦ let e = same_bytes name (codes "erase") h in inl (Erase, ap key_command e, ap (operands_of v) e)
           | inr d ↦ inr (rw (a, b, d) refl, λ keys x. rw (a, b, d) (other_key v keys _ _ _ x))
         ]
       ]
     ]
 
-pair_named : (v : Version) (name : List ℕ) → IsNamed v name (pair_command name) (Key ∷ Number ∷ []) ⊎ ((pair_command name ≡ None) × ((keys : Keys) (x y : List ℕ) → behind_fault keys (places_of v name) (x ∷ y ∷ []) ≡ Some is.Command))
+pair_named : (v : Version) (name : List ℕ) → IsNamed v name (pair_command name) (Key ∷ Number ∷ []) ⊎ ((pair_command name ≡ None) × ((keys : Keys) (x y : List ℕ) → behind_fault keys (operands_of v name) (x ∷ y ∷ []) ≡ Some is.Command))
 pair_named v name =
     elim (cases_Bool (bytes_eq name (codes "insert"))) [
-      | inl h ↦ let e = same_bytes name (codes "insert") h in inl (Insert, ap pair_command e, ap (places_of v) e)
+      | inl h ↦ let e = same_bytes name (codes "insert") h in inl (Insert, ap pair_command e, ap (operands_of v) e)
       | inr a ↦ elim (cases_Bool (bytes_eq name (codes "assign"))) [
-        | inl h ↦ let e = same_bytes name (codes "assign") h in inl (Assign, ap pair_command e, ap (places_of v) e)
+        | inl h ↦ let e = same_bytes name (codes "assign") h in inl (Assign, ap pair_command e, ap (operands_of v) e)
         | inr b ↦ elim (cases_Bool (bytes_eq name (codes "update"))) [
-          | inl h ↦ let e = same_bytes name (codes "update") h in inl (Update, ap pair_command e, ap (places_of v) e)
+          | inl h ↦ let e = same_bytes name (codes "update") h in inl (Update, ap pair_command e, ap (operands_of v) e)
           | inr d ↦ elim (cases_Bool (bytes_eq name (codes "add"))) [
-            | inl h ↦ let e = same_bytes name (codes "add") h in inl (Add, ap pair_command e, ap (places_of v) e)
+            | inl h ↦ let e = same_bytes name (codes "add") h in inl (Add, ap pair_command e, ap (operands_of v) e)
             | inr f ↦ inr (rw (a, b, d, f) refl, λ keys x y. rw (a, b, d, f) (other_pair v keys _ _ _ x y))
           ]
         ]
@@ -312,9 +312,9 @@ move_tail None None None same f = refl
 move_tail None None (Some n) true f = refl
 move_tail None None (Some n) false f = refl
 
-move_places : (v : Version) (name : List ℕ) → (has_moves v && bytes_eq name (codes "move")) ≡ true → places_of v name ≡ Some (Key ∷ Key ∷ Number ∷ [])
-move_places One name e = absurd (false≢true e)
-move_places Two name e = ap (places_of Two) (same_bytes name (codes "move") e)
+move_operands : (v : Version) (name : List ℕ) → (has_moves v && bytes_eq name (codes "move")) ≡ true → operands_of v name ≡ Some (Key ∷ Key ∷ Number ∷ [])
+move_operands One name e = absurd (false≢true e)
+move_operands Two name e = ap (operands_of Two) (same_bytes name (codes "move") e)
 
 fault_move : (v : Version) (keys : Keys) (name source target number : List ℕ) → SameFault v keys (name ∷ source ∷ target ∷ number ∷ [])
 fault_move v keys name source target number =
@@ -325,7 +325,7 @@ fault_move v keys name source target number =
         | inr more ↦ elim (cases_Bool (is_empty number)) [
           | inl none ↦ rw (some, more, none) refl
           | inr all ↦ elim (cases_Bool (has_moves v && bytes_eq name (codes "move"))) [
-            | inl h ↦ rw (some, more, all, h, move_places v name h) (move_tail (key_fault keys source) (key_fault keys target) (number_at number) (bytes_eq source target) (Move source target))
+            | inl h ↦ rw (some, more, all, h, move_operands v name h) (move_tail (key_fault keys source) (key_fault keys target) (number_at number) (bytes_eq source target) (Move source target))
             | inr h ↦ rw (some, more, all, h) (sym (other_move v keys _ _ _ _ source target number h))
           ]
         ]
@@ -570,16 +570,16 @@ key_text : (keys : Keys) (word : List ℕ) → IsOfText (key_fault keys word)
 key_text Num word = number_text word
 key_text Text word = cond_text (list_all is_printed word) _ _ (cond_text (ltb 64 (length word)) _ _ (one_text is.TooLong (λ e. cc)) none_text) command_text
 
-word_text : (keys : Keys) (p : Place) (word : List ℕ) → IsOfText (word_fault keys p word)
+word_text : (keys : Keys) (p : Operand) (word : List ℕ) → IsOfText (word_fault keys p word)
 word_text keys Key word = key_text keys word
 word_text keys Number word = number_text word
 
-words_text : (keys : Keys) (ps : List Place) (words : List (List ℕ)) → IsOfText (words_fault keys ps words)
+words_text : (keys : Keys) (ps : List Operand) (words : List (List ℕ)) → IsOfText (words_fault keys ps words)
 words_text keys [] words = none_text
 words_text keys (p ∷ ps) [] = none_text
 words_text keys (p ∷ ps) (word ∷ words) = or_text (word_fault keys p word) (words_fault keys ps words) (word_text keys p word) (words_text keys ps words)
 
-twice_text : (ps : List Place) (words : List (List ℕ)) → IsOfText (twice_fault ps words)
+twice_text : (ps : List Operand) (words : List (List ℕ)) → IsOfText (twice_fault ps words)
 twice_text [] words = none_text
 twice_text (Number ∷ ps) words = none_text
 twice_text (Key ∷ []) words = none_text
@@ -588,13 +588,13 @@ twice_text (Key ∷ Key ∷ ps) [] = none_text
 twice_text (Key ∷ Key ∷ ps) (a ∷ []) = none_text
 twice_text (Key ∷ Key ∷ ps) (a ∷ b ∷ words) = cond_text (bytes_eq a b) _ _ command_text none_text
 
-behind_text : (keys : Keys) (places : Option (List Place)) (words : List (List ℕ)) → IsOfText (behind_fault keys places words)
+behind_text : (keys : Keys) (operands : Option (List Operand)) (words : List (List ℕ)) → IsOfText (behind_fault keys operands words)
 behind_text keys None words = command_text
 behind_text keys (Some ps) words = cond_text (eqb (length words) (length ps)) _ _ (or_text _ _ (words_text keys ps words) (twice_text ps words)) command_text
 
 tokens_text : (v : Version) (keys : Keys) (ws : List (List ℕ)) → IsOfText (tokens_fault v keys ws)
 tokens_text v keys [] = command_text
-tokens_text v keys (name ∷ words) = cond_text (list_any is_empty words) _ _ command_text (behind_text keys (places_of v name) words)
+tokens_text v keys (name ∷ words) = cond_text (list_any is_empty words) _ _ command_text (behind_text keys (operands_of v name) words)
 
 pub line_text : (v : Version) (keys : Keys) (line : List ℕ) (w : What) → command_at v keys line ≡ Err w → w ≢ is.Read
 line_text v keys line w e = tokens_text v keys (tokens line) w (sym (line_fault-same v keys line) ∙ ap result_err e)

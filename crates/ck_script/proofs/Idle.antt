@@ -8,7 +8,7 @@ use Rattle.ck_model.specs.declared.history.Call.{Call}
 use Rattle.ck_model.specs.declared.history.Entry.{Entry}
 use Rattle.ck_model.specs.Map.{Map, Step}
 use Rattle.ck_model.specs.Numbered.{IsIn, AreDistinct, numbers, Holds, over}
-use Rattle.ck_model.specs.History.{Leads, After, IsShuffle, calls_by}
+use Rattle.ck_model.specs.History.{Leads, After, IsInterleaving, subhistory}
 use Rattle.ck_model.proofs.Numbered.{if_same, if_else, dec_in, over_miss, over_hit}
 use Rattle.ck_script.specs.Answered.{IsIdleSession}
 
@@ -23,34 +23,34 @@ idle_step m m2 e idle step =
     same_entries_map m2 m (ends.2 ∙ sym ends.1)
 
 -- the first entry, of its caller and of another
-own_first : (e : Entry ℕ) (es : List (Entry ℕ)) (k : ℕ) → e.by ≡ k → calls_by k (e ∷ es) ≡ e ∷ calls_by k es
-own_first e es k is = if_same e.by k (e ∷ calls_by k es) (calls_by k es) is
+own_first : (e : Entry ℕ) (es : List (Entry ℕ)) (k : ℕ) → e.by ≡ k → subhistory k (e ∷ es) ≡ e ∷ subhistory k es
+own_first e es k is = if_same e.by k (e ∷ subhistory k es) (subhistory k es) is
 
-other_first : (e : Entry ℕ) (es : List (Entry ℕ)) (k : ℕ) → e.by ≢ k → calls_by k (e ∷ es) ≡ calls_by k es
-other_first e es k apart = if_else e.by k (e ∷ calls_by k es) (calls_by k es) apart
+other_first : (e : Entry ℕ) (es : List (Entry ℕ)) (k : ℕ) → e.by ≢ k → subhistory k (e ∷ es) ≡ subhistory k es
+other_first e es k apart = if_else e.by k (e ∷ subhistory k es) (subhistory k es) apart
 
 -- what is kept behind the first entry, of which more is kept
 abbrev behind : Entry ℕ → List (Entry ℕ) → (ℕ → List (Entry ℕ)) → ℕ → List (Entry ℕ)
 behind e more kept k = if e.by == k then more else kept k
 
-drops_behind : (e : Entry ℕ) (es more : List (Entry ℕ)) (kept : ℕ → List (Entry ℕ)) → Drops (calls_by e.by es) more → ((k : ℕ) → Drops (calls_by k (e ∷ es)) (kept k)) → (k : ℕ) → Drops (calls_by k es) (behind e more kept k)
+drops_behind : (e : Entry ℕ) (es more : List (Entry ℕ)) (kept : ℕ → List (Entry ℕ)) → Drops (subhistory e.by es) more → ((k : ℕ) → Drops (subhistory k (e ∷ es)) (kept k)) → (k : ℕ) → Drops (subhistory k es) (behind e more kept k)
 drops_behind e es more kept own drops k = dite (ℕ_discrete e.by k)
-    (λ is. subst (λ (l : List (Entry ℕ)). Drops (calls_by k es) l) (sym (if_same e.by k more (kept k) is)) (subst (λ (n : ℕ). Drops (calls_by n es) more) is own))
-    (λ apart. subst (λ (l : List (Entry ℕ)). Drops (calls_by k es) l) (sym (if_else e.by k more (kept k) apart)) (subst (λ (l : List (Entry ℕ)). Drops l (kept k)) (other_first e es k apart) (drops k)))
+    (λ is. subst (λ (l : List (Entry ℕ)). Drops (subhistory k es) l) (sym (if_same e.by k more (kept k) is)) (subst (λ (n : ℕ). Drops (subhistory n es) more) is own))
+    (λ apart. subst (λ (l : List (Entry ℕ)). Drops (subhistory k es) l) (sym (if_else e.by k more (kept k) apart)) (subst (λ (l : List (Entry ℕ)). Drops l (kept k)) (other_first e es k apart) (drops k)))
 
-kept_first : (e : Entry ℕ) (log more : List (Entry ℕ)) (kept : ℕ → List (Entry ℕ)) → kept e.by ≡ e ∷ more → ((k : ℕ) → calls_by k log ≡ behind e more kept k) → (k : ℕ) → calls_by k (e ∷ log) ≡ kept k
+kept_first : (e : Entry ℕ) (log more : List (Entry ℕ)) (kept : ℕ → List (Entry ℕ)) → kept e.by ≡ e ∷ more → ((k : ℕ) → subhistory k log ≡ behind e more kept k) → (k : ℕ) → subhistory k (e ∷ log) ≡ kept k
 kept_first e log more kept is each k = dite (ℕ_discrete e.by k)
     (λ same. own_first e log k same ∙ ap (λ (l : List (Entry ℕ)). e ∷ l) (each k ∙ if_same e.by k more (kept k) same) ∙ sym is ∙ ap kept same)
     (λ apart. other_first e log k apart ∙ each k ∙ if_else e.by k more (kept k) apart)
 
-drops_other : (e : Entry ℕ) (es : List (Entry ℕ)) (kept : ℕ → List (Entry ℕ)) → Drops (calls_by e.by es) (kept e.by) → ((k : ℕ) → Drops (calls_by k (e ∷ es)) (kept k)) → (k : ℕ) → Drops (calls_by k es) (kept k)
+drops_other : (e : Entry ℕ) (es : List (Entry ℕ)) (kept : ℕ → List (Entry ℕ)) → Drops (subhistory e.by es) (kept e.by) → ((k : ℕ) → Drops (subhistory k (e ∷ es)) (kept k)) → (k : ℕ) → Drops (subhistory k es) (kept k)
 drops_other e es kept own drops k = dite (ℕ_discrete e.by k)
-    (λ is. subst (λ (n : ℕ). Drops (calls_by n es) (kept n)) is own)
+    (λ is. subst (λ (n : ℕ). Drops (subhistory n es) (kept n)) is own)
     (λ apart. subst (λ (l : List (Entry ℕ)). Drops l (kept k)) (other_first e es k apart) (drops k))
 
 -- the history of what is kept of each caller leaves the same map
-without_idle : (log : List (Entry ℕ)) (m m2 : Map ℕ) (kept : ℕ → List (Entry ℕ)) → Leads m log m2 → ((k : ℕ) → Drops (calls_by k log) (kept k))
-    → (l : List (Entry ℕ)) × Leads m l m2 × ((k : ℕ) → calls_by k l ≡ kept k)
+without_idle : (log : List (Entry ℕ)) (m m2 : Map ℕ) (kept : ℕ → List (Entry ℕ)) → Leads m log m2 → ((k : ℕ) → Drops (subhistory k log) (kept k))
+    → (l : List (Entry ℕ)) × Leads m l m2 × ((k : ℕ) → subhistory k l ≡ kept k)
 without_idle [] m m2 kept leads drops = ([], leads, λ k. sym (drops k))
 without_idle (e ∷ es) m m2 kept leads drops =
     let own = subst (λ (l : List (Entry ℕ)). Drops l (kept e.by)) (own_first e es e.by refl) (drops e.by) in
@@ -85,18 +85,18 @@ same_numbers [] (q ∷ kept) each = absurd each
 same_numbers (p ∷ parts) [] each = absurd each
 same_numbers (p ∷ parts) (q ∷ kept) each = λ j. each.0 j ∷ same_numbers parts kept each.2 j
 
-drops_in : (log : List (Entry ℕ)) (parts kept : List (ℕ × List (Entry ℕ))) → IsShuffle log parts → DropsEach parts kept → (k : ℕ) → Drops (calls_by k log) (over kept (λ n. []) k)
-drops_in log parts kept shuffle each k = dite (dec_in k (numbers parts))
-    (λ inside. let there = kept_there parts kept k each inside in subst (λ (l : List (Entry ℕ)). Drops l (over kept (λ n. []) k)) (sym (shuffle.each k there.0 there.1)) there.2)
+drops_in : (log : List (Entry ℕ)) (parts kept : List (ℕ × List (Entry ℕ))) → IsInterleaving log parts → DropsEach parts kept → (k : ℕ) → Drops (subhistory k log) (over kept (λ n. []) k)
+drops_in log parts kept interleaving each k = dite (dec_in k (numbers parts))
+    (λ inside. let there = kept_there parts kept k each inside in subst (λ (l : List (Entry ℕ)). Drops l (over kept (λ n. []) k)) (sym (interleaving.each k there.0 there.1)) there.2)
     (λ outside.
     let none = over_miss kept (λ n. []) k (λ inside. outside (subst (IsIn k) (same_numbers parts kept each) inside)) in
-    subst (λ (l : List (Entry ℕ)). Drops l (over kept (λ n. []) k)) (sym (shuffle.no_others k outside)) none)
+    subst (λ (l : List (Entry ℕ)). Drops l (over kept (λ n. []) k)) (sym (interleaving.no_others k outside)) none)
 
--- what is kept of each caller has a legal shuffle too, with the same map after it
-pub kept_shuffle : (log : List (Entry ℕ)) (m : Map ℕ) (parts kept : List (ℕ × List (Entry ℕ))) → IsShuffle log parts → After log m → DropsEach parts kept → AreDistinct (numbers kept)
-    → (l : List (Entry ℕ)) × IsShuffle l kept × After l m
-kept_shuffle log m parts kept shuffle after each distinct =
-    let all = without_idle log _ m (over kept (λ n. [])) after (drops_in log parts kept shuffle each) in (
+-- what is kept of each caller has a legal interleaving too, with the same map after it
+pub kept_interleaving : (log : List (Entry ℕ)) (m : Map ℕ) (parts kept : List (ℕ × List (Entry ℕ))) → IsInterleaving log parts → After log m → DropsEach parts kept → AreDistinct (numbers kept)
+    → (l : List (Entry ℕ)) × IsInterleaving l kept × After l m
+kept_interleaving log m parts kept interleaving after each distinct =
+    let all = without_idle log _ m (over kept (λ n. [])) after (drops_in log parts kept interleaving each) in (
       all.0,
       record {
         each = λ k l held. all.2 k ∙ over_hit kept (λ n. []) distinct k l held;

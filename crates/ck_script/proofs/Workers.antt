@@ -15,7 +15,7 @@ use Rattle.ck_model.specs.declared.settings.Settings.{Settings}
 use Rattle.ck_model.specs.Map.{Name, Map, named, name_cmp, ListsInOrder}
 use Rattle.ck_model.proofs.Entries.{entries_listed}
 use Rattle.ck_model.specs.Numbered.{IsIn, AreDistinct, numbers}
-use Rattle.ck_model.specs.History.{After, IsShuffle}
+use Rattle.ck_model.specs.History.{After, IsInterleaving}
 use Rattle.ck_words.specs.Rule.{counting}
 use Rattle.ck_words.specs.Words.{WordsState}
 use Rattle.ck_words.specs.Passes.{PassState}
@@ -32,7 +32,7 @@ use Rattle.ck_script.specs.Text.{Pairs, output_text}
 use Rattle.ck_script.specs.Output.{AreEntriesOf, ArePartsOf, IsOutputOf}
 use Rattle.ck_script.specs.Answered.{answers_on_names, lists_on_names, HaveLeft}
 use Rattle.ck_script.specs.Jobs.{IsNew, IsJob, HasWorked, IsTextAtEnd, answers_of, passes_of}
-use Rattle.ck_script.proofs.Idle.{Drops, DropsEach, kept_shuffle}
+use Rattle.ck_script.proofs.Idle.{Drops, DropsEach, kept_interleaving}
 
 -- the same of each worker, of which the first has the number by
 abbrev pub HaveParts : ℕ → List (List (Command Name)) → List (List (Answer Pairs)) → List (ℕ × List (Entry ℕ)) → Type 0
@@ -87,18 +87,18 @@ numbers_of_parts by (cs ∷ workers) (a ∷ answers) (part ∷ kept) h =
 
 -- the text of the answers and of the pairs is an output
 pub output_of_parts : (said : Said) (answers : List (List (Answer Pairs))) (parts : List (ℕ × List (Entry ℕ))) (log : List (Entry ℕ)) (m : Map ℕ) (out : List ℕ)
-    → HaveParts 0 said.workers answers parts → IsShuffle log parts → After log m → out ≡ output_text said.keys answers (entries m) → IsOutputOf said out
-output_of_parts said answers parts log m out have shuffle after text =
+    → HaveParts 0 said.workers answers parts → IsInterleaving log parts → After log m → out ≡ output_text said.keys answers (entries m) → IsOutputOf said out
+output_of_parts said answers parts log m out have interleaving after text =
     let strict = all_strictly 0 said.workers answers parts have in
     let distinct = subst AreDistinct (sym (numbers_of_parts 0 said.workers answers strict.0 strict.1)) (distinct_counting 0 (length said.workers)) in
-    let kept = kept_shuffle log m parts strict.0 shuffle after strict.2 distinct in
+    let kept = kept_interleaving log m parts strict.0 interleaving after strict.2 distinct in
     record {
       answers = answers;
       parts = strict.0;
       log = kept.0;
       map = m;
       entries_of = strict.1;
-      shuffle = kept.1;
+      interleaving = kept.1;
       legal = kept.2;
       text = text;
     }
@@ -204,14 +204,14 @@ all_more {A} P xs items x all is pushed = subst (All P) (sym pushed) (All-append
 
 -- the table was closed, and these are its pairs
 abbrev pub Closed : {K : Type 0} → (K → Name) → (K → K → Ordering) → List (PassState ℕ) → List (K × ℕ) → Type 0
-Closed name cmp passes pairs = (log : List (Entry ℕ)) × (m : Map ℕ) × IsShuffle log (parts_of passes) × EachSaw log passes × After log m × ListsInOrder name cmp pairs m
+Closed name cmp passes pairs = (log : List (Entry ℕ)) × (m : Map ℕ) × IsInterleaving log (parts_of passes) × EachSaw log passes × After log m × ListsInOrder name cmp pairs m
 
 pub text_at_end : {K E : Type 0} (name : K → Name) (cmp : K → K → Ordering) → ((a b : K) → cmp a b ≡ name_cmp (name a) (name b)) → (keys : Keys) (passes : List (PassState ℕ)) (answers : List (List (Answer Pairs)))
     (pairs : List (K × ℕ)) (r : Result (Vec ℕ) E) → Closed name cmp passes pairs → IfOk r (λ text. text.items ≡ output_text keys answers (map (named name) pairs)) → IfOk r (λ text. IsTextAtEnd keys passes answers text.items)
 text_at_end name cmp in_order keys passes answers pairs (Ok text) closed is = record {
   log = closed.0;
   map = closed.1;
-  shuffle = closed.2;
+  interleaving = closed.2;
   legal = closed.4;
   text_is = is ∙ ap (output_text keys answers) (entries_listed name cmp in_order pairs closed.1 closed.5);
 }
@@ -233,5 +233,5 @@ module _ {K : Type 0} (name : K → Name) (w : WordsState) (set : Settings) wher
       let have : HaveParts 0 (workers_on_names name workers) (lists_on_names name answers) (parts_of passes) =
       subst (λ (told : List (Vec (Answer (Vec (K × ℕ))))). HaveParts 0 (workers_on_names name workers) (lists_on_names name told) (parts_of passes)) (sym same_answers)
       (subst (λ (ps : List (PassState ℕ)). HaveParts 0 (workers_on_names name workers) (lists_on_names name (answers_of dones)) (parts_of ps)) (sym same_passes) (done_parts name w set 0 workers jobs dones given worked)) in
-      output_of_parts (said_in keys name work) (lists_on_names name answers) (parts_of passes) end.log end.map text.items have end.shuffle end.legal end.text_is
+      output_of_parts (said_in keys name work) (lists_on_names name answers) (parts_of passes) end.log end.map text.items have end.interleaving end.legal end.text_is
   output_of_run keys work jobs dones passes answers (Err e) given worked same_passes same_answers end = tt

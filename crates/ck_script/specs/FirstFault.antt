@@ -71,61 +71,61 @@ do_fit earlier =
 abbrev pub is_empty : List ℕ → Bool
 is_empty word = length word == 0
 
--- what is wrong with a word in the place of a number
+-- what is wrong with a word as a number
 abbrev pub number_fault : List ℕ → Option What
 number_fault word = if is_some (number_at word) then None else Some is.Number
 
--- what is wrong with a word in the place of a key
+-- what is wrong with a word as a key
 abbrev pub key_fault : Keys → List ℕ → Option What
 key_fault Num word = number_fault word
 key_fault Text word =
     if list_all is_printed word then (if nat_lt 64 (length word) then Some is.TooLong else None) else Some is.Command
 
 -- what stands behind the name of a command
-pub data Place : Type 0 where
-  Key : Place
-  Number : Place
+pub data Operand : Type 0 where
+  Key : Operand
+  Number : Operand
 
 -- what stands behind `move`
-abbrev pub places_of_move : Version → Option (List Place)
-places_of_move One = None
-places_of_move Two = Some (Key ∷ Key ∷ Number ∷ [])
+abbrev pub operands_of_move : Version → Option (List Operand)
+operands_of_move One = None
+operands_of_move Two = Some (Key ∷ Key ∷ Number ∷ [])
 
 -- what stands behind this name
-abbrev pub places_of : Version → List ℕ → Option (List Place)
-places_of v name =
+abbrev pub operands_of : Version → List ℕ → Option (List Operand)
+operands_of v name =
     if bytes_eq name (codes "find") || bytes_eq name (codes "has") || bytes_eq name (codes "erase") then Some (Key ∷ [])
     else if bytes_eq name (codes "insert") || bytes_eq name (codes "assign") || bytes_eq name (codes "update") || bytes_eq name (codes "add") then Some (Key ∷ Number ∷ [])
     else if bytes_eq name (codes "len") || bytes_eq name (codes "list") then Some []
-    else if bytes_eq name (codes "move") then places_of_move v
+    else if bytes_eq name (codes "move") then operands_of_move v
     else None
 
--- what is wrong with a word in such a place
-abbrev pub word_fault : Keys → Place → List ℕ → Option What
+-- what is wrong with a word as such an operand
+abbrev pub word_fault : Keys → Operand → List ℕ → Option What
 word_fault keys Key word = key_fault keys word
 word_fault keys Number word = number_fault word
 
 -- what is wrong with these words, from left to right; at last that a `move` has one key twice
-abbrev pub words_fault : Keys → List Place → List (List ℕ) → Option What
+abbrev pub words_fault : Keys → List Operand → List (List ℕ) → Option What
 words_fault keys (p ∷ ps) (word ∷ words) = option_or (word_fault keys p word) (words_fault keys ps words)
 words_fault keys ps words = None
 
-abbrev pub twice_fault : List Place → List (List ℕ) → Option What
-twice_fault (Key ∷ Key ∷ places) (source ∷ target ∷ words) = if bytes_eq source target then Some is.Command else None
-twice_fault places words = None
+abbrev pub twice_fault : List Operand → List (List ℕ) → Option What
+twice_fault (Key ∷ Key ∷ operands) (source ∷ target ∷ words) = if bytes_eq source target then Some is.Command else None
+twice_fault operands words = None
 
 -- Lines.
 
--- what is wrong with the words behind a name that has these places
-abbrev pub behind_fault : Keys → Option (List Place) → List (List ℕ) → Option What
+-- what is wrong with the words behind a name that has these operands
+abbrev pub behind_fault : Keys → Option (List Operand) → List (List ℕ) → Option What
 behind_fault keys None words = Some is.Command
-behind_fault keys (Some places) words =
-    if length words == length places then option_or (words_fault keys places words) (twice_fault places words) else Some is.Command
+behind_fault keys (Some operands) words =
+    if length words == length operands then option_or (words_fault keys operands words) (twice_fault operands words) else Some is.Command
 
 -- what is wrong with the words of a command line: first its name, its spaces and how many words it has
 abbrev pub tokens_fault : Version → Keys → List (List ℕ) → Option What
 tokens_fault v keys [] = Some is.Command
-tokens_fault v keys (name ∷ words) = if list_any is_empty words then Some is.Command else behind_fault keys (places_of v name) words
+tokens_fault v keys (name ∷ words) = if list_any is_empty words then Some is.Command else behind_fault keys (operands_of v name) words
 
 -- what is wrong with a command line: its words, or that 1,000,000 stand before it
 abbrev pub command_fault : List (List ℕ) → List ℕ → Option What

@@ -4,7 +4,7 @@ use Rattle.std.specs.Global.{Vec}
 use Rattle.std.specs.FinMap.{entries}
 use Rattle.ck_model.specs.declared.history.Entry.{Entry}
 use Rattle.ck_model.specs.Map.{Name, Map}
-use Rattle.ck_model.specs.History.{After, IsShuffle}
+use Rattle.ck_model.specs.History.{After, IsInterleaving}
 use Rattle.ck_words.specs.Words.{WordsState}
 use Rattle.ck_words.specs.Passes.{PassState}
 use Rattle.ck_words.specs.Closing.{IsCaller, parts_of}
@@ -49,10 +49,10 @@ module _ {K : Type 0} (name : K → Name) where
     pub by : done.pass.view.by ≡ job.caller.pass.view.by
     pub entries : (by : ℕ) → job.caller.pass.view.by ≡ Some by → HaveLeft by (map (on_names name) job.commands.items) (answers_on_names name done.answers.items) done.pass.view.mine
 
--- The text is that of these answers and of the map after a legal history, which is a shuffle of the entries of the passes.
+-- The text is that of these answers and of the map after a legal history, which is an interleaving of the entries of the passes.
 pub record IsTextAtEnd (keys : Keys) (passes : List (PassState ℕ)) (answers : List (List (Answer Pairs))) (text : List ℕ) : Type 0 where
   pub log : List (Entry ℕ)
   pub map : Map ℕ
-  pub shuffle : IsShuffle log (parts_of passes)
+  pub interleaving : IsInterleaving log (parts_of passes)
   pub legal : After log map
   pub text_is : text ≡ output_text keys answers (entries map)

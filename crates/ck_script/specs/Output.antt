@@ -8,7 +8,7 @@ use Rattle.ck_model.specs.declared.history.Reply.{Reply}
 use Rattle.ck_model.specs.declared.history.Reply.TheVariants as reply
 use Rattle.ck_model.specs.declared.history.Entry.{Entry}
 use Rattle.ck_model.specs.Map.{Name, Map}
-use Rattle.ck_model.specs.History.{After, IsShuffle}
+use Rattle.ck_model.specs.History.{After, IsInterleaving}
 use Rattle.ck_script.specs.declared.script.Keys.{Keys}
 use Rattle.ck_script.specs.declared.script.Command.{Command}
 use Rattle.ck_script.specs.declared.script.Command.TheVariants as command
@@ -106,13 +106,13 @@ ArePartsOf by [] [] parts = parts ≡ []
 ArePartsOf by (cs ∷ workers) (answers ∷ more) (part ∷ parts) = (part.0 ≡ by) × AreEntriesOf by cs answers part.1 × ArePartsOf (by + 1) workers more parts
 ArePartsOf by workers answers parts = ⊥
 
--- The entries of the workers' commands have a legal shuffle, and the text is that of the answers and of the map after it.
+-- The entries of the workers' commands have a legal interleaving, and the text is that of the answers and of the map after it.
 pub record IsOutputOf (said : Said) (out : List ℕ) : Type 0 where
   pub answers : List (List (Answer Pairs))
   pub parts : List (ℕ × List (Entry ℕ))
   pub log : List (Entry ℕ)
   pub map : Map ℕ
   pub entries_of : ArePartsOf 0 said.workers answers parts
-  pub shuffle : IsShuffle log parts
+  pub interleaving : IsInterleaving log parts
   pub legal : After log map
   pub text : out ≡ output_text said.keys answers (entries map)

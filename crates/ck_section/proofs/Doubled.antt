@@ -100,12 +100,12 @@ module _ {V : Type 0} (k : Layout) where
         let at : slot_at (row_at c.rows (b / 2 ^ k.s)) i ≡ Some (q, v) = ap (λ (rows : List (List (Slot V))). slot_at (row_at rows (b / 2 ^ k.s)) i) (sym z.2) ∙ is in
         let of : IsBucketOf k.hash c.power q b = subst (λ n. IsBucketOf k.hash c.power q n) (div-add-mod' b (2 ^ k.s)) (sound.placed (b / 2 ^ k.s) i q v at) in
         let next : ℕ = grown_of c.power b (k.hash q) in
-        let stripe : next % 2 ^ k.s ≡ t = same_stripe k.s c.power b (k.hash q) _ (all_buckets k.s c.power _ sound.least sound.rows) of in
+        let stripe : next % 2 ^ k.s ≡ t = same_stripe k.s c.power b (k.hash q) _ (all_buckets k.s c.power _ sound.shaped.least sound.shaped.rows) of in
         let rows : rows_of (doubled_all hs) (next % 2 ^ k.s) ≡ (doubled_content k.hash k.s t c).rows =
         ap (λ n. rows_of (doubled_all hs) n) stripe ∙ rows_held (doubled_all hs) t (doubled_content k.hash k.s t c) lawful_doubled.distinct (held_after hs t c z.1) in
         ap (λ p. slot_at (bucket_in k (doubled_all hs) (bucket_after k.hash p (p + 1) q b)) i) power
         ∙ ap (λ (l : List (List (Slot V))). slot_at (row_at l (next / 2 ^ k.s)) i) rows
-        ∙ sends_doubled k.hash k.s t c sound.least sound.rows b i q v (subst (λ p. b < 2 ^ p) power small) refl of at
+        ∙ sends_doubled k.hash k.s t c sound.shaped.least sound.shaped.rows b i q v (subst (λ p. b < 2 ^ p) power small) refl of at
 
     pub is_doubled : IsDoubledTo k (power_of hs + 1) hs (doubled_all hs)
     is_doubled = record { same = numbers-doubled hs; power = power_after; sends = sends_all; pairs = pairs-doubled hs }

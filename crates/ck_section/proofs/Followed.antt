@@ -17,7 +17,7 @@ use Rattle.ck_model.specs.Sketches.{Sketch, has_free, IsSketchPathFrom}
 use Rattle.ck_model.proofs.Buckets.{alternate_below}
 use Rattle.ck_model.proofs.Sketches.{free_of, full_of}
 use Rattle.ck_model.proofs.Writes.{row_inside, slot_inside}
-use Rattle.ck_bucket.specs.Bucket.{partial_in}
+use Rattle.ck_model.specs.Paths.{partial_in}
 use Rattle.ck_path.specs.Route.{Route, first_bucket, AreLinked, IsLinked, Avoids, VisitsOnce}
 use Rattle.ck_path.proofs.Shown.{free_shown, free_there, entry_there}
 use Rattle.ck_stripe.specs.Stripe.{StripeState, bucket_of, with_slot}

@@ -98,11 +98,11 @@ module _ {V : Type 0} where
   pub row_within : (k : Layout) (t : StripeState V) (b : ℕ) → IsSound k t.number t.content → HasBucket t b → t.s ≡ k.s → b / 2 ^ t.s < length t.content.rows
   row_within k t b sound own e =
       let p : ℕ = t.content.power in
-      let least : k.s ≤ p = sound.least in
+      let least : k.s ≤ p = sound.shaped.least in
       let split : (p - k.s) + k.s ≡ p = omega arith in
       let below : b < 2 ^ (p - k.s) * 2 ^ k.s = subst (λ n. b < n) (ap (λ n. 2 ^ n) (sym split) ∙ pow-add 2 (p - k.s) k.s) own.0 in
       let row : b / 2 ^ k.s < 2 ^ (p - k.s) = div_below b (2 ^ k.s) (2 ^ (p - k.s)) (pow_pos k.s) below in
-      subst (λ (x : ℕ × ℕ). b / 2 ^ x.0 < x.1) (λ i. (sym e i, sym sound.rows i)) row
+      subst (λ (x : ℕ × ℕ). b / 2 ^ x.0 < x.1) (λ i. (sym e i, sym sound.shaped.rows i)) row
 
   module _ (hash : Name → ℕ) (s max : ℕ) (stripes : List (StripeState V)) (lawful : Lawful (layout hash s max) (contents_of stripes)) where
     abbrev k : Layout
@@ -156,12 +156,12 @@ module _ {V : Type 0} where
       owns e t which = ⊎_elim
           (λ f. let p : ℕ = one.content.power in
           let at : one.s ≡ s = of.one_s place.first.index of.first_reach.inside ∙ e in
-          let least : s ≤ p = (sound_at place.first.index of.first_reach.inside).least in
+          let least : s ≤ p = (sound_at place.first.index of.first_reach.inside).shaped.least in
           let number : one.number ≡ t = sym of.first_reach.own.1 ∙ ap (λ n. place.first.bucket % 2 ^ n) at ∙ ap (λ n. n % 2 ^ s) of.first ∙ index_lower s p (hash q) least ∙ sym f in
           subst (λ n. IsIn n (numbers hs)) number (in_held hs one.number one.content (holds_at stripes place.first.index of.first_reach.inside)))
           (λ f. let p : ℕ = two.content.power in
           let at : two.s ≡ s = of.one_s place.alternate.index of.alternate_reach.inside ∙ e in
-          let least : s ≤ p = (sound_at place.alternate.index of.alternate_reach.inside).least in
+          let least : s ≤ p = (sound_at place.alternate.index of.alternate_reach.inside).shaped.least in
           let number : two.number ≡ t = sym of.alternate_reach.own.1 ∙ ap (λ n. place.alternate.bucket % 2 ^ n) at ∙ ap (λ n. n % 2 ^ s) of.alternate ∙ second_lower s p (hash q) least ∙ sym f in
           subst (λ n. IsIn n (numbers hs)) number (in_held hs two.number two.content (holds_at stripes place.alternate.index of.alternate_reach.inside)))
           which

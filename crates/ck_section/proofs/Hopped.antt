@@ -11,7 +11,7 @@ use Rattle.ck_model.specs.Slots.{Slot, slot_at, IsFull, HasFree}
 use Rattle.ck_model.specs.Contents.{layout, IsBucketOf, IsSound}
 use Rattle.ck_model.specs.Sections.{IdentitySection}
 use Rattle.ck_model.proofs.Buckets.{index_below, alternate_twice, alternate_below}
-use Rattle.ck_bucket.specs.Bucket.{partial_in}
+use Rattle.ck_model.specs.Paths.{partial_in}
 use Rattle.ck_stripe.specs.Stripe.{StripeState}
 use Rattle.ck_section.specs.declared.hop.Hop.{Hop}
 use Rattle.ck_section.specs.declared.place.HeldSlot.{HeldSlot}

@@ -1,21 +1,20 @@
 -- All stripes of a table stay so in a call, and have those of every name.
 use Rattle.std.proofs.Common.{◌≡◌, ℕ, ◌^◌, ◌<◌, ◌≤◌, List, length, sym, ◌∙◌, ap, subst}
 use Rattle.std.proofs.lemmas.Nat.{pow_pos}
-use Rattle.ck_model.specs.Arithmetic.{index_of, second_of}
 use Rattle.ck_model.specs.Map.{Name}
-use Rattle.ck_model.proofs.Buckets.{index_below, second_below}
 use Rattle.ck_stripe.specs.Stripe.{StripeState}
 use Rattle.ck_section.specs.Stripes.{stripe_at}
 use Rattle.ck_section.specs.Places.{HasStripe, HasBoth}
 use Rattle.ck_section.specs.Whole.{AreAllHeld, AreSettled, IsTable}
 use Rattle.ck_section.specs.Calls.{ChangesContents}
+use Rattle.ck_section.proofs.Owned.{own_below, in_contents}
 
 module _ {V : Type 0} (s : ℕ) (old : List (StripeState V)) where
   has_number : AreAllHeld s old → (t : ℕ) → t < 2 ^ s → HasStripe old t
   has_number all t lt = let inside : t < length old = subst (λ n. t < n) (sym all.table.count) lt in (t, inside, all.table.number t inside)
 
   pub has_both : AreAllHeld s old → (hash : Name → ℕ) (q : Name) → HasBoth hash s old q
-  has_both all hash q = record { first = has_number all (index_of s (hash q)) (index_below s (hash q)); alternate = has_number all (second_of s (hash q)) (second_below s (hash q)) }
+  has_both all hash q max t of = in_contents old t (has_number all t (own_below hash s q t of))
 
   pub table_after : (new : List (StripeState V)) → IsTable s old → ChangesContents old new → IsTable s new
   table_after new table changes =

@@ -16,3 +16,4 @@ pub mod Searched
 pub mod Stepwise
 pub mod Doubled
 pub mod Table
+pub mod Owned

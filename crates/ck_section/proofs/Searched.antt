@@ -10,7 +10,7 @@ use Rattle.ck_model.specs.Slots.{Slot}
 use Rattle.ck_model.specs.Contents.{IsBucketOf}
 use Rattle.ck_path.specs.Route.{Route, first_bucket, IsSeen}
 use Rattle.ck_path.specs.Queue.{Queue, wanted}
-use Rattle.ck_bucket.specs.Bucket.{partial_in}
+use Rattle.ck_model.specs.Paths.{partial_in}
 use Rattle.ck_stripe.specs.Stripe.{StripeState}
 use Rattle.ck_section.specs.Stripes.{bucket_at}
 use Rattle.ck_section.specs.Room.{HaveFour, power_in, sketch_of, IsPathFor, IsPathIn}

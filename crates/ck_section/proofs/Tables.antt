@@ -11,10 +11,9 @@ use Rattle.ck_model.specs.Numbered.{IsIn, numbers}
 use Rattle.ck_model.specs.Slots.{Slot}
 use Rattle.ck_model.specs.Contents.{Layout, layout, Stripes, Lawful, row_at, rows_of, power_of, bucket_in}
 use Rattle.ck_model.specs.Sections.{HasAll}
-use Rattle.ck_model.specs.Paths.{sketch_in}
+use Rattle.ck_model.specs.Paths.{sketch_in, partial_in}
 use Rattle.ck_model.specs.Sketches.{Sketch, HasNoSketchPath}
 use Rattle.ck_model.proofs.Numbered.{in_held}
-use Rattle.ck_bucket.specs.Bucket.{partial_in}
 use Rattle.ck_path.proofs.ShownPaths.{sketches_show_paths}
 use Rattle.ck_stripe.specs.Stripe.{StripeState}
 use Rattle.ck_section.specs.Stripes.{stripe_at, bucket_at, contents_of}

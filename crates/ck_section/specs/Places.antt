@@ -3,12 +3,13 @@ use Rattle.std.specs.Prelude.{◌≡◌, ◌⊎◌, ℕ, ◌<◌, ◌≤◌, tru
 use Rattle.ck_model.specs.Arithmetic.{partial_of, index_of, second_of}
 use Rattle.ck_model.specs.Map.{Name}
 use Rattle.ck_model.specs.Slots.{Slot, slot_at, IsFull}
-use Rattle.ck_model.specs.Contents.{IsBucketOf}
+use Rattle.ck_model.specs.Contents.{layout, IsBucketOf}
+use Rattle.ck_model.specs.Sections.{Owns}
 use Rattle.ck_bucket.specs.Bucket.{LacksName}
 use Rattle.ck_stripe.specs.Stripe.{StripeState, with_slot}
 use Rattle.ck_section.specs.declared.place.KeyPlace.{KeyPlace}
 use Rattle.ck_section.specs.declared.place.HeldSlot.{HeldSlot}
-use Rattle.ck_section.specs.Stripes.{stripe_at, bucket_at, set_content, IsInReach}
+use Rattle.ck_section.specs.Stripes.{stripe_at, bucket_at, set_content, contents_of, IsInReach}
 
 -- this slot of bucket b of stripe i
 abbrev pub at : ℕ → ℕ → ℕ → HeldSlot
@@ -30,10 +31,9 @@ module _ {V : Type 0} where
   abbrev pub HasStripe : List (StripeState V) → ℕ → Type 0
   HasStripe stripes t = (i : ℕ) × (i < length stripes) × ((stripe_at stripes i).number ≡ t)
 
-  -- the two stripes of the name are held
-  pub record HasBoth (hash : Name → ℕ) (s : ℕ) (stripes : List (StripeState V)) (q : Name) : Type 0 where
-    pub first : HasStripe stripes (index_of s (hash q))
-    pub alternate : HasStripe stripes (second_of s (hash q))
+  -- the two stripes of the name are held, whatever the greatest power is
+  abbrev pub HasBoth : (Name → ℕ) → ℕ → List (StripeState V) → Name → Type 0
+  HasBoth hash s stripes q = (max : ℕ) → Owns (layout hash s max) (contents_of stripes) q
 
   -- The held stripes are stripes of a table of 2^s, and these are the two buckets of the name, in reach.
   pub record IsPlaceOf (hash : Name → ℕ) (stripes : List (StripeState V)) (q : Name) (place : KeyPlace) : Type 0 where

@@ -7,10 +7,9 @@ use Rattle.ck_model.specs.Arithmetic.{index_of, second_of}
 use Rattle.ck_model.specs.Map.{Name}
 use Rattle.ck_model.specs.Contents.{Layout, layout, Stripes, Lawful}
 use Rattle.ck_model.specs.Doubling.{IsDoubledTo}
-use Rattle.ck_model.specs.Paths.{HasNoRoom, HasNoPath, IsTooEmpty, Grounds}
+use Rattle.ck_model.specs.Paths.{HasNoRoom, HasNoPath, IsTooEmpty, Grounds, partial_in}
 use Rattle.ck_model.specs.Sections.{IdentitySection}
 use Rattle.ck_model.specs.Sketches.{Sketch, IsSketchPathFrom}
-use Rattle.ck_bucket.specs.Bucket.{partial_in}
 use Rattle.ck_path.specs.Route.{Route, first_bucket, VisitsOnce, IsShortestPath}
 use Rattle.ck_stripe.specs.Stripe.{StripeState}
 use Rattle.ck_section.specs.declared.room.Lack.{Lack}

@@ -5,7 +5,7 @@ use Rattle.ck_model.specs.Map.{Name}
 use Rattle.ck_model.specs.Slots.{Slot}
 use Rattle.ck_model.specs.declared.contents.Content.{Content}
 use Rattle.ck_stripe.specs.Doubling.{doubled_content}
-use Rattle.ck_stripe.specs.Stripe.{StripeState, HasBucket, bucket_of, IsShaped}
+use Rattle.ck_stripe.specs.Stripe.{StripeState, HasBucket, bucket_of}
 
 module _ {V : Type 0} where
   -- what stands for a stripe past the end
@@ -26,10 +26,6 @@ module _ {V : Type 0} where
   -- the number of entries of stripe i
   abbrev pub len_at : List (StripeState V) → ℕ → ℕ
   len_at stripes i = (stripe_at stripes i).content.ledger
-
-  -- stripe i has the shape of its number and power
-  abbrev pub IsShapedAt : List (StripeState V) → ℕ → Type 0
-  IsShapedAt stripes i = IsShaped (stripe_at stripes i).s (stripe_at stripes i).number (stripe_at stripes i).content
 
   -- the stripes with no doubling left to carry out
   abbrev pub settled_stripes : List (StripeState V) → List (StripeState V)

@@ -3,10 +3,11 @@ ghost use Rattle.std.specs.Prelude.{◌≡◌, ◌<◌, ◌+◌, ◌-◌, List, 
 ghost use Rattle.std.specs.Fn.{FnOnceReturnsAt};
 ghost use Rattle.ck_model.specs.Arithmetic.{partial_of};
 ghost use Rattle.ck_model.specs.Slots.{IsFull};
-ghost use Rattle.ck_bucket.specs.Bucket.{HasName, LacksName, partial_in};
+ghost use Rattle.ck_model.specs.Paths.{partial_in};
+ghost use Rattle.ck_bucket.specs.Bucket.{HasName, LacksName};
 ghost use Rattle.ck_stripe.specs.Doubling.{SendsEach};
-ghost use Rattle.ck_stripe.specs.Stripe.{StripeState, IsReserved};
-ghost use Rattle.ck_section.specs.Stripes.{stripe_at, bucket_at, len_at, doubled, IsShapedAt, IsInReach};
+ghost use Rattle.ck_stripe.specs.Stripe.{StripeState, IsWellFormed, IsReserved};
+ghost use Rattle.ck_section.specs.Stripes.{stripe_at, bucket_at, len_at, doubled, IsInReach};
 ghost use Rattle.ck_section.specs.Places.{HasStripe, at, slot_in, set_slot, IsLowest};
 
 use ck_key::TableKey;
@@ -61,7 +62,7 @@ pub trait Held<K: TableKey, V> {
     fn len(&mut self, i: usize) -> u64
         requires { i < length (stripes self.old) }
         ensures value { result ≡ len_at (stripes self.old) i }
-        ensures shaped { IsShapedAt (stripes self.old) i }
+        ensures formed { IsWellFormed (stripe_at (stripes self.old) i) }
         ensures same { stripes self.new ≡ stripes self.old }
         ensures stays { stays self.old self.new };
 

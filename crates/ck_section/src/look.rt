@@ -1,6 +1,6 @@
 //! Looking for a key, and for room for it.
 ghost use Rattle.std.specs.Prelude.{◌≡◌, ◌≤◌, ◌<◌, ◌%◌, ◌^◌, IfSome, IfNone, length, map};
-ghost use Rattle.ck_bucket.specs.Bucket.{partial_in};
+ghost use Rattle.ck_model.specs.Paths.{partial_in};
 ghost use Rattle.ck_key.specs.Hashes.{IsHashOf};
 ghost use Rattle.ck_section.specs.Stripes.{stripe_at, bucket_at, IsInReach};
 ghost use Rattle.ck_section.specs.Places.{AreHeld, HasStripe, HasBoth, IsPlaceOf, IsSlotOf, IsNowhere, AreFull, IsNext};

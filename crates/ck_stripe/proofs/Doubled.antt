@@ -12,12 +12,11 @@ use Rattle.ck_model.specs.Arithmetic.{index_of, second_of}
 use Rattle.ck_model.specs.Map.{Name, name_cmp}
 use Rattle.ck_model.specs.Slots.{Slot, slot_at}
 use Rattle.ck_model.specs.declared.contents.Content.{Content}
-use Rattle.ck_model.specs.Contents.{Layout, row_at, pairs_in, IsBucketOf, IsSound}
+use Rattle.ck_model.specs.Contents.{Layout, row_at, pairs_in, IsBucketOf, IsShaped, IsSound}
 use Rattle.ck_key.specs.Doubling.{grown_of, rises_of}
 use Rattle.ck_key.proofs.Doubling.{grown_own, stays_at, rises_to}
 use Rattle.ck_bucket.specs.Bucket.{kept_if, low_row, high_row}
 use Rattle.ck_stripe.specs.Doubling.{low_rows, high_rows, split_rows, doubled_content, SendsEach}
-use Rattle.ck_stripe.specs.Stripe.{IsShaped}
 use Rattle.ck_stripe.proofs.Splits.{split_moved, length-lows, length-highs, length-split, low_at, high_at, four-split}
 use Rattle.ck_stripe.proofs.Permuted.{apart_permuted, find_permuted}
 
@@ -152,12 +151,9 @@ module _ {V : Type 0} where
   pub pairs_doubled : (hash : Name → ℕ) (s t : ℕ) (c : Content V) → IsPermutation (pairs_in c) (pairs_in (doubled_content hash s t c))
   pairs_doubled hash s t c = split_moved hash s t c.power c.rows
 
-  pub shaped_doubled : (hash : Name → ℕ) (s t : ℕ) (c : Content V) → IsShaped s t c → c.power < 26 → IsShaped s t (doubled_content hash s t c)
-  shaped_doubled hash s t c shaped below = record {
-    many = shaped.many;
-    number = shaped.number;
+  pub shaped_doubled : (hash : Name → ℕ) (s t : ℕ) (c : Content V) → IsShaped s c → IsShaped s (doubled_content hash s t c)
+  shaped_doubled hash s t c shaped = record {
     least = omega (arith, shaped.least);
-    most = omega arith;
     rows = length-split hash s t c.power c.rows ∙ twice_rows s c.power (length c.rows) shaped.least shaped.rows;
     four = four-split hash s t c.power c.rows shaped.four;
     ledger = shaped.ledger ∙ sym (length_permutation _ _ (pairs_doubled hash s t c));
@@ -166,13 +162,10 @@ module _ {V : Type 0} where
   pub sound_doubled : (k : Layout) (t : ℕ) (c : Content V) → IsSound k t c → c.power < k.max → IsSound k t (doubled_content k.hash k.s t c)
   sound_doubled k t c sound below = record {
     number = sound.number;
-    least = omega (arith, sound.least);
     most = omega arith;
-    rows = length-split k.hash k.s t c.power c.rows ∙ twice_rows k.s c.power (length c.rows) sound.least sound.rows;
-    four = four-split k.hash k.s t c.power c.rows sound.four;
-    placed = placed_doubled k.hash k.s t c sound.least sound.rows sound.placed;
+    shaped = shaped_doubled k.hash k.s t c sound.shaped;
+    placed = placed_doubled k.hash k.s t c sound.shaped.least sound.shaped.rows sound.placed;
     apart = apart_permuted (pairs_in c) (pairs_in (doubled_content k.hash k.s t c)) sound.apart (pairs_doubled k.hash k.s t c);
-    ledger = sound.ledger ∙ sym (length_permutation _ _ (pairs_doubled k.hash k.s t c));
   }
 
   -- it has the same of each name

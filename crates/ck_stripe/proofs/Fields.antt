@@ -6,8 +6,9 @@ use Rattle.std.proofs.Math.Pow.{pow_mono}
 use Rattle.std.proofs.lemmas.Bool.{true≢false}
 use Rattle.ck_model.specs.Map.{Name}
 use Rattle.ck_model.specs.Slots.{Slot, taken_in}
+use Rattle.ck_model.specs.Contents.{IsShaped}
 use Rattle.ck_stripe.specs.Doubling.{split_rows, doubled_content}
-use Rattle.ck_stripe.specs.Stripe.{StripeState, state_from, shown, IsShaped, IsReserved, IsConsistent}
+use Rattle.ck_stripe.specs.Stripe.{StripeState, state_from, shown, IsWellFormed, IsReserved, IsConsistent}
 use Rattle.ck_stripe.proofs.Splits.{length-split}
 use Rattle.ck_stripe.proofs.Doubled.{all_buckets, shaped_doubled}
 
@@ -30,8 +31,8 @@ module _ {V : Type 0} (hash : Name → ℕ) where
       ap (λ (q : ℕ). state_from t.number t.s (t.content.power + 1) (split_rows hash t.s t.number q t.content.rows) t.content.ledger false t.room) back
 
   module _ (t now : StripeState V) (kept : IsConsistent hash t) (is : shown hash t ≡ now) where
-    pub shaped_now : IsShaped now.s now.number now.content
-    shaped_now = subst (λ (w : StripeState V). IsShaped w.s w.number w.content) is kept.shaped
+    pub formed_now : IsWellFormed now
+    formed_now = subst IsWellFormed is kept.formed
 
     module _ (settled : now.settled ≡ true) where
       pub stored_settled : t.settled ≡ true
@@ -45,22 +46,28 @@ module _ {V : Type 0} (hash : Name → ℕ) where
 
       pub consistent_raised : now.content.power < 26 → IsReserved now → IsConsistent hash (raised t)
       consistent_raised below reserved =
-          let shaped : IsShaped t.s t.number t.content = subst (λ (w : StripeState V). IsShaped w.s w.number w.content) now_stored shaped_now in
+          let formed : IsWellFormed t = subst IsWellFormed now_stored formed_now in
+          let small : t.content.power < 26 = subst (λ (w : StripeState V). w.content.power < 26) now_stored below in
           record {
-            shaped = subst (λ (w : StripeState V). IsShaped t.s t.number w.content) (sym (shown_raised t)) (shaped_doubled hash t.s t.number t.content shaped (subst (λ (w : StripeState V). w.content.power < 26) now_stored below));
-            late = λ _. (omega (arith, shaped.least), subst IsReserved now_stored reserved);
+            formed = subst IsWellFormed (sym (shown_raised t)) (record {
+              many = formed.many;
+              number = formed.number;
+              most = omega (arith, small);
+              shaped = shaped_doubled hash t.s t.number t.content formed.shaped;
+            });
+            late = λ _. (omega (arith, formed.shaped.least), subst IsReserved now_stored reserved);
           }
 
   pub consistent_room : (t : StripeState V) → IsConsistent hash t → (n : ℕ) → t.room ≤ n → IsConsistent hash (state_from t.number t.s t.content.power t.content.rows t.content.ledger t.settled n)
   consistent_room t kept n le = record {
-    shaped = kept.shaped;
+    formed = record { many = kept.formed.many; number = kept.formed.number; most = kept.formed.most; shaped = kept.formed.shaped };
     late = λ e. ((kept.late e).0, omega (arith, (kept.late e).1));
   }
 
   module _ (t : StripeState V) (kept : IsConsistent hash t) (late : t.settled ≡ false) where
     -- what is shown before the split
-    shaped_late : IsShaped t.s t.number (record { power = t.content.power; rows = split_rows hash t.s t.number (t.content.power - 1) t.content.rows; ledger = t.content.ledger })
-    shaped_late = subst (λ (b : Bool). IsShaped t.s t.number (record { power = t.content.power; rows = cond b t.content.rows (split_rows hash t.s t.number (t.content.power - 1) t.content.rows); ledger = t.content.ledger })) late kept.shaped
+    shaped_late : IsShaped t.s (record { power = t.content.power; rows = split_rows hash t.s t.number (t.content.power - 1) t.content.rows; ledger = t.content.ledger })
+    shaped_late = subst (λ (b : Bool). IsShaped t.s (record { power = t.content.power; rows = cond b t.content.rows (split_rows hash t.s t.number (t.content.power - 1) t.content.rows); ledger = t.content.ledger })) late kept.formed.shaped
 
     pub few_late : length t.content.rows * 2 ^ t.s ≤ 2 ^ 26
     few_late =
@@ -69,19 +76,21 @@ module _ {V : Type 0} (hash : Name → ℕ) where
         let less : length t.content.rows ≤ 2 ^ (t.content.power - t.s) = omega arith in
         let most = mul-le-mul_right (2 ^ t.s) less in
         let all : 2 ^ t.content.power ≡ 2 ^ (t.content.power - t.s) * 2 ^ t.s = all_buckets t.s t.content.power (2 ^ (t.content.power - t.s)) shaped_late.least refl in
-        let end : 2 ^ t.content.power ≤ 2 ^ 26 = pow_mono shaped_late.most in
+        let end : 2 ^ t.content.power ≤ 2 ^ 26 = pow_mono kept.formed.most in
         omega arith
 
     pub consistent_settled : (rows : List (List (Slot V))) → rows ≡ split_rows hash t.s t.number (t.content.power - 1) t.content.rows → (n : ℕ) → IsConsistent hash (state_from t.number t.s t.content.power rows t.content.ledger true n)
     consistent_settled rows is n = record {
-      shaped = record {
-        many = shaped_late.many;
-        number = shaped_late.number;
-        least = shaped_late.least;
-        most = shaped_late.most;
-        rows = ap length is ∙ shaped_late.rows;
-        four = subst (All (λ (row : List (Slot V)). length row ≡ 4)) (sym is) shaped_late.four;
-        ledger = shaped_late.ledger ∙ ap (λ (ys : List (List (Slot V))). length (flat_map taken_in ys)) (sym is);
+      formed = record {
+        many = kept.formed.many;
+        number = kept.formed.number;
+        most = kept.formed.most;
+        shaped = record {
+          least = shaped_late.least;
+          rows = ap length is ∙ shaped_late.rows;
+          four = subst (All (λ (row : List (Slot V)). length row ≡ 4)) (sym is) shaped_late.four;
+          ledger = shaped_late.ledger ∙ ap (λ (ys : List (List (Slot V))). length (flat_map taken_in ys)) (sym is);
+        };
       };
       late = λ e. absurd (true≢false e);
     }

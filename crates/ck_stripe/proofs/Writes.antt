@@ -11,10 +11,10 @@ use Rattle.std.proofs.lemmas.List.Elements.{All-set, All-replicate}
 use Rattle.ck_model.specs.declared.contents.Content.{Content}
 use Rattle.ck_model.specs.Map.{Name}
 use Rattle.ck_model.specs.Slots.{Slot, slot_at, taken_in}
-use Rattle.ck_model.specs.Contents.{Layout, row_at, NamesApart, IsSound}
-use Rattle.ck_stripe.specs.Stripe.{StripeState, HasBucket, bucket_of, state_from, shown, empty_content, IsShaped, IsConsistent}
+use Rattle.ck_model.specs.Contents.{Layout, row_at, NamesApart, IsShaped, IsSound}
+use Rattle.ck_stripe.specs.Stripe.{StripeState, HasBucket, bucket_of, state_from, shown, empty_content, IsWellFormed, IsConsistent}
 use Rattle.ck_stripe.proofs.Doubled.{all_buckets}
-use Rattle.ck_stripe.proofs.Fields.{shown_settled, shaped_now, stored_settled, now_stored}
+use Rattle.ck_stripe.proofs.Fields.{shown_settled, formed_now, stored_settled, now_stored}
 
 -- the number of pairs, where one row is written
 count_rows : {X : Type 0} (rows : List (List (Option X))) (r : ℕ) (row : List (Option X)) → r < length rows
@@ -74,22 +74,22 @@ one_full None h = absurd (true≢false (sym h))
 one_full (Some x) h = refl
 
 module _ {V : Type 0} where
-  pub row_below : (t : StripeState V) (b : ℕ) → IsShaped t.s t.number t.content → HasBucket t b → b / 2 ^ t.s < length t.content.rows
+  pub row_below : (t : StripeState V) (b : ℕ) → IsShaped t.s t.content → HasBucket t b → b / 2 ^ t.s < length t.content.rows
   row_below t b shaped own =
       let all : 2 ^ t.content.power ≡ length t.content.rows * 2 ^ t.s = all_buckets t.s t.content.power (length t.content.rows) shaped.least shaped.rows in
       div_below b (2 ^ t.s) (length t.content.rows) (pow_pos t.s) (subst (λ n. b < n) all own.0)
 
-  pub few_entries : (s t : ℕ) (c : Content V) → IsShaped s t c → c.ledger ≤ 4 * 2 ^ 26
-  few_entries s t c shaped =
+  pub few_entries : (s : ℕ) (c : Content V) → IsShaped s c → c.power ≤ 26 → c.ledger ≤ 4 * 2 ^ 26
+  few_entries s c shaped most =
       let few = few_pairs c.rows shaped.four in
       let rows = shaped.rows in
-      let less : c.power - s ≤ 26 = omega (arith, shaped.most) in
+      let less : c.power - s ≤ 26 = omega (arith, most) in
       let end : 2 ^ (c.power - s) ≤ 2 ^ 26 = pow_mono less in
       let is = shaped.ledger in
       omega arith
 
   -- at least one entry where a slot is full
-  pub some_entry : (now : StripeState V) (b r i : ℕ) → IsShaped now.s now.number now.content → r ≡ b / 2 ^ now.s → r < length now.content.rows → i < 4 → IsSome (slot_at (bucket_of now b) i) → 0 < now.content.ledger
+  pub some_entry : (now : StripeState V) (b r i : ℕ) → IsShaped now.s now.content → r ≡ b / 2 ^ now.s → r < length now.content.rows → i < 4 → IsSome (slot_at (bucket_of now b) i) → 0 < now.content.ledger
   some_entry now b r i shaped at lt below full =
       let rows : List (List (Slot V)) = now.content.rows in
       let gone = count_rows rows r (set (row_at rows r) i None) lt in
@@ -100,25 +100,27 @@ module _ {V : Type 0} where
       omega arith
 
   -- a slot of a settled stripe is written
-  consistent_written : (hash : Name → ℕ) (t : StripeState V) → IsShaped t.s t.number t.content → t.settled ≡ true → (r i : ℕ) (o : Slot V) (slots : List (Slot V)) (ledger : ℕ) → r < length t.content.rows → i < 4
+  consistent_written : (hash : Name → ℕ) (t : StripeState V) → IsWellFormed t → t.settled ≡ true → (r i : ℕ) (o : Slot V) (slots : List (Slot V)) (ledger : ℕ) → r < length t.content.rows → i < 4
       → slots ≡ set (row_at t.content.rows r) i o → ledger + length (option_to_list (slot_at (row_at t.content.rows r) i)) ≡ t.content.ledger + length (option_to_list o)
       → IsConsistent hash (state_from t.number t.s t.content.power (set t.content.rows r slots) ledger t.settled t.room)
-  consistent_written hash t shaped settled r i o slots ledger lt below is counts =
-      let four : length (row_at t.content.rows r) ≡ 4 = shaped.four r [] lt in
+  consistent_written hash t formed settled r i o slots ledger lt below is counts =
+      let four : length (row_at t.content.rows r) ≡ 4 = formed.shaped.four r [] lt in
       let slot = count_slots (row_at t.content.rows r) i o (omega arith) in
       let same : length (taken_in slots) ≡ length (taken_in (set (row_at t.content.rows r) i o)) = ap (λ (xs : List (Slot V)). length (taken_in xs)) is in
       let long : length slots ≡ 4 = ap length is ∙ length-set (row_at t.content.rows r) i o ∙ four in
-      let written : IsShaped t.s t.number (record { power = t.content.power; rows = set t.content.rows r slots; ledger = ledger }) = record {
-        many = shaped.many;
-        number = shaped.number;
-        least = shaped.least;
-        most = shaped.most;
-        rows = length-set t.content.rows r slots ∙ shaped.rows;
-        four = All-set (λ (row : List (Slot V)). length row ≡ 4) t.content.rows r slots long shaped.four;
-        ledger = let all = count_rows t.content.rows r slots lt in let was = shaped.ledger in omega arith;
-      } in
+      let after : StripeState V = state_from t.number t.s t.content.power (set t.content.rows r slots) ledger t.settled t.room in
       record {
-        shaped = subst (λ (w : StripeState V). IsShaped t.s t.number w.content) (sym (shown_settled hash (state_from t.number t.s t.content.power (set t.content.rows r slots) ledger t.settled t.room) settled)) written;
+        formed = subst IsWellFormed (sym (shown_settled hash after settled)) (record {
+          many = formed.many;
+          number = formed.number;
+          most = formed.most;
+          shaped = record {
+            least = formed.shaped.least;
+            rows = length-set t.content.rows r slots ∙ formed.shaped.rows;
+            four = All-set (λ (row : List (Slot V)). length row ≡ 4) t.content.rows r slots long formed.shaped.four;
+            ledger = let all = count_rows t.content.rows r slots lt in let was = formed.shaped.ledger in omega arith;
+          };
+        });
         late = λ f. absurd (true≢false (sym settled ∙ f));
       }
 
@@ -150,21 +152,21 @@ module _ {V : Type 0} where
         let same : now ≡ t = now_stored hash t now kept is settled in
         let old = ap (λ (x : List (Slot V)). length (option_to_list (slot_at x i))) here in
         let entries = ap (λ (w : StripeState V). w.content.ledger) same in
-        consistent_written hash t (subst (λ (w : StripeState V). IsShaped w.s w.number w.content) same (shaped_now hash t now kept is)) (stored_settled hash t now kept is settled) r i o after ledger below_stored below
+        consistent_written hash t (subst IsWellFormed same (formed_now hash t now kept is)) (stored_settled hash t now kept is settled) r i o after ledger below_stored below
         (wrote ∙ ap (λ (x : List (Slot V)). set x i o) (row_read row read ∙ here)) (omega arith)
+
+  shaped_empty : (s power : ℕ) → s ≤ power → IsShaped s (empty_content {V = V} s power)
+  shaped_empty s power least = record {
+    least = least;
+    rows = length-replicate (2 ^ (power - s)) (replicate 4 None);
+    four = All-replicate (λ (row : List (Slot V)). length row ≡ 4) (2 ^ (power - s)) (replicate 4 None) refl;
+    ledger = sym (ap length (no_pairs (Name × V) (2 ^ (power - s))));
+  }
 
   pub consistent_empty : (hash : Name → ℕ) (s number power room : ℕ) → s ≤ 10 → number < 2 ^ s → s ≤ power → power ≤ 26
       → IsConsistent {V = V} hash (record { number = number; s = s; content = empty_content s power; settled = true; room = room })
   consistent_empty hash s number power room many below least most = record {
-    shaped = record {
-      many = many;
-      number = below;
-      least = least;
-      most = most;
-      rows = length-replicate (2 ^ (power - s)) (replicate 4 None);
-      four = All-replicate (λ (row : List (Slot V)). length row ≡ 4) (2 ^ (power - s)) (replicate 4 None) refl;
-      ledger = sym (ap length (no_pairs (Name × V) (2 ^ (power - s))));
-    };
+    formed = record { many = many; number = below; most = most; shaped = shaped_empty s power least };
     late = λ f. absurd (true≢false f);
   }
 
@@ -178,11 +180,8 @@ module _ {V : Type 0} where
   pub sound_empty : (k : Layout) (t s power : ℕ) → k.s ≡ s → t < 2 ^ s → s ≤ power → power ≤ k.max → IsSound {V = V} k t (empty_content s power)
   sound_empty k t s power same below least most = record {
     number = subst (λ n. t < 2 ^ n) (sym same) below;
-    least = omega arith;
     most = most;
-    rows = length-replicate (2 ^ (power - s)) (replicate 4 None) ∙ ap (λ n. 2 ^ (power - n)) (sym same);
-    four = All-replicate (λ (row : List (Slot V)). length row ≡ 4) (2 ^ (power - s)) (replicate 4 None) refl;
+    shaped = subst (λ n. IsShaped n (empty_content {V = V} s power)) (sym same) (shaped_empty s power least);
     placed = λ r i q v e. absurd (none-some _ (sym (no_entry V (2 ^ (power - s)) r i) ∙ e));
     apart = subst NamesApart (sym (no_pairs (Name × V) (2 ^ (power - s)))) tt;
-    ledger = sym (ap length (no_pairs (Name × V) (2 ^ (power - s))));
   }

@@ -1,9 +1,9 @@
 -- What contracts see of a stripe.
-use Rattle.std.specs.Prelude.{◌≡◌, ℕ, Bool, false, if◌then◌else◌, ◌-◌, ◌*◌, ◌/◌, ◌%◌, ◌^◌, ◌<◌, ◌≤◌, List, None, length, replicate, slice_set, All}
+use Rattle.std.specs.Prelude.{◌≡◌, ℕ, Bool, false, if◌then◌else◌, ◌-◌, ◌*◌, ◌/◌, ◌%◌, ◌^◌, ◌<◌, ◌≤◌, List, None, length, replicate, slice_set}
 use Rattle.ck_model.specs.Map.{Name}
 use Rattle.ck_model.specs.Slots.{Slot}
 use Rattle.ck_model.specs.declared.contents.Content.{Content}
-use Rattle.ck_model.specs.Contents.{row_at, pairs_in}
+use Rattle.ck_model.specs.Contents.{row_at, IsShaped}
 use Rattle.ck_stripe.specs.Doubling.{split_rows}
 
 -- A stripe: its number among 2^s, its content, whether its entries stand in the rows where the content shows them, and for how many rows it has memory.
@@ -14,15 +14,12 @@ pub record StripeState (V : Type 0) : Type 0 where
   pub settled : Bool
   pub room : ℕ
 
--- 2^(power - s) rows of four slots, and a ledger that is the number of pairs
-pub record IsShaped {V : Type 0} (s t : ℕ) (c : Content V) : Type 0 where
-  pub many : s ≤ 10
-  pub number : t < 2 ^ s
-  pub least : s ≤ c.power
-  pub most : c.power ≤ 26
-  pub rows : length c.rows ≡ 2 ^ (c.power - s)
-  pub four : All (λ (row : List (Slot V)). length row ≡ 4) c.rows
-  pub ledger : c.ledger ≡ length (pairs_in c)
+-- one of at most 2^10 stripes, of at most 2^26 buckets in all, and of the right shape
+pub record IsWellFormed {V : Type 0} (stripe : StripeState V) : Type 0 where
+  pub many : stripe.s ≤ 10
+  pub number : stripe.number < 2 ^ stripe.s
+  pub most : stripe.content.power ≤ 26
+  pub shaped : IsShaped stripe.s stripe.content
 
 -- rows of free slots
 abbrev pub empty_content : {V : Type 0} → ℕ → ℕ → Content V
@@ -61,7 +58,7 @@ module _ {V : Type 0} where
   abbrev pub shown : (Name → ℕ) → StripeState V → StripeState V
   shown hash stored = state_from stored.number stored.s stored.content.power (shown_rows hash stored.s stored.number stored.content.power stored.settled stored.content.rows) stored.content.ledger stored.settled stored.room
 
-  -- what is stored: what it shows has its shape, and before the split there is memory for it
+  -- what is stored: what it shows is well formed, and before the split there is memory for it
   pub record IsConsistent (hash : Name → ℕ) (stored : StripeState V) : Type 0 where
-    pub shaped : IsShaped stored.s stored.number (shown hash stored).content
+    pub formed : IsWellFormed (shown hash stored)
     pub late : stored.settled ≡ false → (stored.s < stored.content.power) × IsReserved stored

@@ -8,7 +8,7 @@ ghost use Rattle.ck_model.specs.Slots.{slot_at};
 ghost use Rattle.ck_model.specs.Contents.{Layout, pairs_in, IsSound};
 ghost use Rattle.ck_bucket.specs.Bucket.{ReplacesValue, ChangesValue, ClonesAreEqual};
 ghost use Rattle.ck_stripe.specs.Doubling.{split_rows, doubled_content, SendsEach};
-ghost use Rattle.ck_stripe.specs.Stripe.{HasBucket, bucket_of, with_bucket, with_slot, empty_content, IsShaped, IsReserved};
+ghost use Rattle.ck_stripe.specs.Stripe.{HasBucket, bucket_of, with_bucket, with_slot, empty_content, IsWellFormed, IsReserved};
 
 use ck_bucket::Bucket;
 use ck_key::TableKey;
@@ -84,7 +84,7 @@ impl<K: TableKey + Drop, V: Drop> Stripe<K, V> {
         requires settled { self.now.settled ≡ true }
         requires own { HasBucket self.now b }
         ensures value { result.now ≡ bucket_of self.now b }
-        ensures shaped { IsShaped self.now.s self.now.number self.now.content }
+        ensures formed { IsWellFormed self.now }
     {
         let row = self.row(b);
         &self.buckets[row]
@@ -162,7 +162,7 @@ impl<K: TableKey + Drop, V: Drop> Stripe<K, V> {
         requires own { HasBucket self.now b }
         ensures value { result ≡ b / 2 ^ self.now.s }
         ensures below { result < length self.now.content.rows }
-        ensures shaped { IsShaped self.now.s self.now.number self.now.content }
+        ensures formed { IsWellFormed self.now }
     {
         (b >> self.s) as usize
     }
@@ -170,7 +170,7 @@ impl<K: TableKey + Drop, V: Drop> Stripe<K, V> {
     /// Which stripe of the table it is.
     pub fn number(&self) -> u32
         ensures value { result ≡ self.now.number }
-        ensures shaped { IsShaped self.now.s self.now.number self.now.content }
+        ensures formed { IsWellFormed self.now }
     {
         self.number
     }
@@ -178,7 +178,7 @@ impl<K: TableKey + Drop, V: Drop> Stripe<K, V> {
     /// The table has 2^s stripes.
     pub fn s(&self) -> u32
         ensures value { result ≡ self.now.s }
-        ensures shaped { IsShaped self.now.s self.now.number self.now.content }
+        ensures formed { IsWellFormed self.now }
     {
         self.s
     }
@@ -186,7 +186,7 @@ impl<K: TableKey + Drop, V: Drop> Stripe<K, V> {
     /// The table has 2^power buckets.
     pub fn power(&self) -> u32
         ensures value { result ≡ self.now.content.power }
-        ensures shaped { IsShaped self.now.s self.now.number self.now.content }
+        ensures formed { IsWellFormed self.now }
     {
         self.power
     }
@@ -195,7 +195,7 @@ impl<K: TableKey + Drop, V: Drop> Stripe<K, V> {
     pub fn len(&self) -> u64
         ensures value { result ≡ self.now.content.ledger }
         ensures pairs { result ≡ length (pairs_in self.now.content) }
-        ensures shaped { IsShaped self.now.s self.now.number self.now.content }
+        ensures formed { IsWellFormed self.now }
     {
         self.ledger
     }
@@ -236,7 +236,7 @@ impl<K: TableKey + Drop, V: Drop> Stripe<K, V> {
     /// Whether no doubling is left to be carried out by `settle`.
     pub fn settled(&self) -> bool
         ensures value { result ≡ self.now.settled }
-        ensures shaped { IsShaped self.now.s self.now.number self.now.content }
+        ensures formed { IsWellFormed self.now }
     {
         self.settled
     }

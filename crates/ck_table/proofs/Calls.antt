@@ -6,7 +6,7 @@ use native.Mathlib.Decide.{ℕ_discrete, dec_le}
 use Rattle.ck_key.specs.declared.key_hash.KeyHash.{KeyHash}
 use Rattle.ck_key.specs.Hashes.{IsHashOf}
 use Rattle.ck_model.specs.Arithmetic.{index_of, second_of}
-use Rattle.ck_model.specs.Numbered.{IsIn}
+use Rattle.ck_model.specs.Numbered.{IsIn, numbers}
 use Rattle.ck_model.proofs.Numbered.{if_same, if_else}
 use Rattle.ck_model.specs.declared.history.Act.{Act}
 use Rattle.ck_model.specs.declared.history.Act.TheVariants.{Find, Erase}
@@ -17,13 +17,13 @@ use Rattle.ck_model.specs.declared.history.Reply.TheVariants.{Was, New, Done}
 use Rattle.ck_model.specs.declared.history.Reason.{Reason}
 use Rattle.ck_model.specs.declared.settings.Settings.{Settings}
 use Rattle.ck_model.specs.Map.{Name}
-use Rattle.ck_model.specs.Contents.{layout, Lawful}
-use Rattle.ck_model.specs.Sections.{Section}
-use Rattle.ck_model.proofs.Histories.{calls_by-append}
+use Rattle.ck_model.specs.Contents.{layout, layout_of, Lawful}
+use Rattle.ck_model.specs.Sections.{Owns, Section}
+use Rattle.ck_model.proofs.Histories.{subhistory-append}
 use Rattle.ck_stripe.specs.Stripe.{StripeState}
 use Rattle.ck_section.specs.declared.place.KeyPlace.{KeyPlace}
 use Rattle.ck_section.specs.Stripes.{contents_of}
-use Rattle.ck_section.specs.Places.{HasStripe, HasBoth, IsPlaceOf}
+use Rattle.ck_section.specs.Places.{HasBoth, IsPlaceOf}
 use Rattle.ck_core.specs.declared.view.View.{View}
 use Rattle.ck_core.specs.Laws.{Answered}
 use Rattle.ck_words.specs.Words.{WordsState}
@@ -31,6 +31,7 @@ use Rattle.ck_words.specs.Passes.{PassState, IsUnchanged, numbers_of}
 use Rattle.ck_words.specs.Retries.{Stays, StaysBut, FindsAmong, IsBusy}
 use Rattle.ck_words.specs.Answering.{HasDone, IsAnswered, IsAnsweredBut}
 use Rattle.ck_words.specs.Renewing.{HasRenewed}
+use Rattle.ck_words.proofs.Seating.{numbers-contents}
 use Rattle.ck_words.proofs.Renewals.{renewed_none, done_then}
 use Rattle.ck_words.specs.Passes.{pair}
 use Rattle.ck_table.specs.declared.room.Room.{Room}
@@ -62,7 +63,7 @@ module _ {V : Type 0} where
         answered = record {
           others = s.seen.0 ++ told.others;
           seen = told.seen ∙ joined_on p.view.seen s.seen.0 told.others (e ∷ []) p1.view.seen s.seen.1;
-          by_others = calls_by-append a.by s.seen.0 told.others ∙ λ j. s.by_others a.by by j ++ told.by_others j;
+          by_others = subhistory-append a.by s.seen.0 told.others ∙ λ j. s.by_others a.by by j ++ told.by_others j;
           legal = told.legal;
           mine = told.mine ∙ ap (λ l. l ++ e ∷ []) s.mine;
         };
@@ -88,7 +89,7 @@ pub holds_then : {V : Type 0} {hash : Name → ℕ} {set : Settings} {q : Name} 
     → (p2 : PassState V) → p2.stripes ≡ p1.stripes → p2.view ≡ p1.view → HoldsKey hash set q place p p2
 holds_then {V} {hash} {set} {q} {place} p p1 stays both unchanged at s p2 stripes view = record {
   stays = subst (Stays p.view) (sym view) stays;
-  both = subst (λ ss. HasBoth hash set.s ss q) (sym stripes) both;
+  both = subst (λ (ss : List (StripeState V)). Owns (layout_of hash set) (contents_of ss) q) (sym stripes) (both set.max);
   at = subst (λ ss. IsPlaceOf hash ss q place) (sym stripes) at;
   s = s;
   unchanged = ap contents_of stripes ∙ (unchanged ∙ ap (λ (x : View V). reverse x.held) (sym view));
@@ -181,18 +182,18 @@ module _ {V F : Type 0} (D : Act V → Reply V → Type 0) (R : V → Bool → T
   erasing A (Ok false) b e f h = (h.0.0, h.0.1, subst (λ x. (r : Reply V) → D (erases x) r → A (erases x) r) e f (Was (Some h.0.0)) h.0.2)
   erasing A (Err back) b e f h = subst (λ x. (r : Reply V) → D (erases x) r → A (erases x) r) e f (Was None) h.1.1
 
-has_of : {V : Type 0} (ss : List (StripeState V)) (t : ℕ) → IsIn t (numbers_of ss) → HasStripe ss t
-has_of [] t z = absurd z
-has_of (s ∷ ss) t i = ⊎_elim (λ (e : s.number ≡ t). (zero, omega arith, e)) (λ r. let x = has_of ss t r in (suc x.0, omega arith, x.2)) i
-
 in_pair : (low high t : ℕ) → (t ≡ low) ⊎ (t ≡ high) → IsIn t (pair low high)
 in_pair low high t h = dite (ℕ_discrete low high)
     (λ e. subst (IsIn t) (sym (if_same low high (low ∷ []) (low ∷ high ∷ []) e)) (inl (⊎_elim (λ (a : t ≡ low). sym a) (λ b. e ∙ sym b) h)))
     (λ ne. subst (IsIn t) (sym (if_else low high (low ∷ []) (low ∷ high ∷ []) ne)) (⊎_elim (λ (a : t ≡ low). inl (sym a)) (λ b. inr (inl (sym b))) h))
 
--- one of the two stripes that are held
-pub has_in_pair : {V : Type 0} (ss : List (StripeState V)) (low high t : ℕ) → numbers_of ss ≡ pair low high → (t ≡ low) ⊎ (t ≡ high) → HasStripe ss t
-has_in_pair ss low high t named h = has_of ss t (subst (IsIn t) (sym named) (in_pair low high t h))
+-- two stripes, of which one may be the other, are held
+pub in_both : {V : Type 0} (ss : List (StripeState V)) (a b low high : ℕ) → low ≡ min a b → high ≡ max a b → numbers_of ss ≡ pair low high → (t : ℕ) → (t ≡ a) ⊎ (t ≡ b) → IsIn t (numbers (contents_of ss))
+in_both ss a b low high is_low is_high named t of =
+    let which : (t ≡ low) ⊎ (t ≡ high) = dite (dec_le a b)
+    (λ le. ⊎_elim (λ (e : t ≡ a). inl (omega arith)) (λ (e : t ≡ b). inr (omega arith)) of)
+    (λ ne. ⊎_elim (λ (e : t ≡ a). inr (omega arith)) (λ (e : t ≡ b). inl (omega arith)) of) in
+    subst (IsIn t) (sym (numbers-contents ss ∙ named)) (in_pair low high t which)
 
 either_of : (a b low high t : ℕ) → low ≡ min a b → high ≡ max a b → (t ≡ low) ⊎ (t ≡ high) → (t ≡ a) ⊎ (t ≡ b)
 either_of a b low high t l h e = dite (dec_le a b)
@@ -210,17 +211,7 @@ module _ {hash : Name → ℕ} (set : Settings) {q : Name} {s low high : ℕ} {h
 
   -- the two stripes are those of the name
   pub has_both : {V : Type 0} (ss : List (StripeState V)) → numbers_of ss ≡ pair low high → HasBoth hash set.s ss q
-  has_both ss named =
-      let a = index_of set.s (hash q) in
-      let b = second_of set.s (hash q) in
-      let l : low ≡ min a b = lowest in
-      let m : high ≡ max a b = highest in
-      let one : (a ≡ low) ⊎ (a ≡ high) = dite (dec_le a b) (λ k. inl (omega arith)) (λ n. inr (omega arith)) in
-      let two : (b ≡ low) ⊎ (b ≡ high) = dite (dec_le a b) (λ k. inr (omega arith)) (λ n. inl (omega arith)) in
-      record {
-        first = has_in_pair ss low high a named one;
-        alternate = has_in_pair ss low high b named two;
-      }
+  has_both ss named max t of = in_both ss (index_of set.s (hash q)) (second_of set.s (hash q)) low high lowest highest named t of
 
   pub finds_own : {V : Type 0} (p p2 : PassState V) → FindsAmong (λ t. (t ≡ low) ⊎ (t ≡ high)) p p2 → FindsOwn hash set q p p2
   finds_own p p2 f = (f.0, f.1, (λ t i. either_of (index_of set.s (hash q)) (second_of set.s (hash q)) low high t lowest highest (f.2 t i)))

@@ -17,7 +17,8 @@ use Rattle.ck_words.specs.Retries.{Stays, FindsAmong}
 use Rattle.ck_words.specs.Holding.{HasReleased}
 use Rattle.ck_words.specs.Renewing.{HasRenewed}
 use Rattle.ck_words.proofs.Staying.{stays_same, stays_then, stays_on}
-use Rattle.ck_table.proofs.Calls.{has_in_pair}
+use Rattle.ck_section.proofs.Owned.{has_stripe}
+use Rattle.ck_table.proofs.Calls.{in_both}
 use Rattle.ck_table.specs.Displacing.{FindsAny, IsBackBut, IsBack, IsBusyAnywhere}
 
 -- a run of finds, before others and before what was found earlier
@@ -63,9 +64,8 @@ module _ {V : Type 0} where
   -- two stripes, of which one may be the other, are held
   pub has_two : (ss : List (StripeState V)) (a b low high : ℕ) → low ≡ min a b → high ≡ max a b → numbers_of ss ≡ pair low high → HasStripe ss a × HasStripe ss b
   has_two ss a b low high is_low is_high numbered =
-      let first : (a ≡ low) ⊎ (a ≡ high) = dite (dec_le a b) (λ k. inl (omega arith)) (λ n. inr (omega arith)) in
-      let second : (b ≡ low) ⊎ (b ≡ high) = dite (dec_le a b) (λ k. inr (omega arith)) (λ n. inl (omega arith)) in
-      (has_in_pair ss low high a numbered first, has_in_pair ss low high b numbered second)
+      let held = in_both ss a b low high is_low is_high numbered in
+      (has_stripe ss a (held a (inl refl)), has_stripe ss b (held b (inr refl)))
 
   -- what a hop made of the stripes that were taken
   pub renewed : {hash : Name → ℕ} {v w : WordsState} {s : ℕ} → v ≡ w → s ≡ w.settings.s → (p1 p2 : PassState V) → IsUnchanged p1 → p2.view ≡ p1.view → IsNoCall hash s p1.stripes p2.stripes → HasRenewed hash v.settings p2

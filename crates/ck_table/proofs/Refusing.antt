@@ -1,23 +1,21 @@
 -- What a refused insertion leaves of its pass.
-use Rattle.std.proofs.Common.{◌≡◌, ℕ, zero, suc, ◌<◌, ◌^◌, length, List, [], ◌∷◌, ⊎_elim, inl, inr, sym, refl, ap, ◌∙◌, subst, append-nil, arith, Some}
+use Rattle.std.proofs.Common.{◌≡◌, ℕ, ◌<◌, ◌^◌, length, List, [], ◌∷◌, ⊎_elim, inl, inr, sym, refl, ap, ◌∙◌, subst, append-nil, arith, Some}
 use Rattle.std.proofs.lemmas.List.Elements.{All-nil}
 use Rattle.ck_model.specs.declared.history.Reason.{Reason}
 use Rattle.ck_model.specs.declared.history.Reason.TheVariants.{NoRoom}
 use Rattle.ck_model.specs.declared.settings.Settings.{Settings}
 use Rattle.ck_model.specs.Map.{Name}
-use Rattle.ck_model.specs.Numbered.{IsIn, numbers}
 use Rattle.ck_model.specs.Contents.{layout_of, IsStripeOf, Lawful}
 use Rattle.ck_model.specs.Sections.{Owns}
 use Rattle.ck_model.specs.Paths.{HasNoRoom}
-use Rattle.ck_model.proofs.Buckets.{index_below, second_below}
 use Rattle.ck_stripe.specs.Stripe.{StripeState}
-use Rattle.ck_section.specs.Stripes.{stripe_at, contents_of}
+use Rattle.ck_section.specs.Stripes.{contents_of}
 use Rattle.ck_section.specs.declared.place.KeyPlace.{KeyPlace}
 use Rattle.ck_section.specs.Calls.{IsWithoutRoom}
-use Rattle.ck_section.specs.Places.{HasBoth}
+use Rattle.ck_section.proofs.Owned.{own_below}
 use Rattle.ck_core.specs.declared.view.View.{View}
 use Rattle.ck_core.specs.Steps.{giving}
-use Rattle.ck_core.specs.Steps.Move.{Give}
+use Rattle.ck_core.specs.Steps.Label.{Give}
 use Rattle.ck_words.specs.Words.{WordsState}
 use Rattle.ck_words.specs.Passes.{PassState, Sends}
 use Rattle.ck_words.specs.Retries.{Stays, StaysBut}
@@ -28,24 +26,7 @@ use Rattle.ck_table.specs.Holding.{HoldsKeyBut}
 use Rattle.ck_table.specs.Refusals.{FindsOwn, IsBusyAmong, IsBusyAt}
 use Rattle.ck_table.specs.Insertions.{HasFoundNoRoom, IsRefused, FindsOwnUnlessFull}
 
--- a stripe of the name is one of the table
-pub own_below : (hash : Name → ℕ) (set : Settings) (q : Name) (t : ℕ) → IsStripeOf (layout_of hash set) q t → t < 2 ^ set.s
-own_below hash set q t of = ⊎_elim
-    (λ e. subst (λ n. n < 2 ^ set.s) (sym e) (index_below set.s (hash q)))
-    (λ e. subst (λ n. n < 2 ^ set.s) (sym e) (second_below set.s (hash q))) of
-
 module _ {V : Type 0} where
-  held_number : (ss : List (StripeState V)) (t i : ℕ) → i < length ss → (stripe_at ss i).number ≡ t → IsIn t (numbers (contents_of ss))
-  held_number [] t i lt e = absurd (omega arith)
-  held_number (s ∷ ss) t zero lt e = inl e
-  held_number (s ∷ ss) t (suc i) lt e = inr (held_number ss t i (omega arith) e)
-
-  -- the stripes of the name are held
-  pub owns_both : (hash : Name → ℕ) (set : Settings) (q : Name) (ss : List (StripeState V)) → HasBoth hash set.s ss q → Owns (layout_of hash set) (contents_of ss) q
-  owns_both hash set q ss both t of = ⊎_elim
-      (λ e. held_number ss t both.first.0 both.first.1 (both.first.2 ∙ sym e))
-      (λ e. held_number ss t both.alternate.0 both.alternate.1 (both.alternate.2 ∙ sym e)) of
-
   -- where the name has no room among the stripes that its pass holds, the pass may say so
   pub excused : {hash : Name → ℕ} {w v : WordsState} {q : Name} {place : KeyPlace} {more : List (Name × Reason)} {p p1 : PassState V} → v ≡ w → HoldsKeyBut more hash w.settings q place p p1
       → (p2 : PassState V) → p2.stripes ≡ p1.stripes → IsWithoutRoom hash place.s p1.stripes q
@@ -53,7 +34,7 @@ module _ {V : Type 0} where
   excused {hash} {w} {v} {q} {place} {more} {p} {p1} is held p2 same room =
       let none : IsWithoutRoom hash w.settings.s p1.stripes q = subst (λ (s : ℕ). IsWithoutRoom hash s p1.stripes q) held.s room in
       subst (λ (x : WordsState × List (StripeState V)). Lawful (layout_of hash x.0.settings) (contents_of x.1) → Owns (layout_of hash x.0.settings) (contents_of x.1) q × HasNoRoom (layout_of hash x.0.settings) (contents_of x.1) q)
-      (λ j. (sym is j, sym same j)) (λ lawful. (owns_both hash w.settings q p1.stripes held.both, none w.settings.max lawful))
+      (λ j. (sym is j, sym same j)) (λ lawful. (held.both, none w.settings.max lawful))
 
   -- the highest stripe went home and told of the name, and the others went home
   module _ (hash : Name → ℕ) (w : WordsState) (q : Name) (p p1 p2 : PassState V) (g : Sends hash w (λ t _. Give t (Some (q, NoRoom))) p p1) where
@@ -81,7 +62,7 @@ module _ {V : Type 0} where
   }
 
   pub refused_busy : (hash : Name → ℕ) (set : Settings) (q : Name) (t : ℕ) (p z : PassState V) → IsBusyAt hash set q t p z → IsRefused set q (Busy t) p z
-  refused_busy hash set q = refused_among (IsStripeOf (layout_of hash set) q) set (own_below hash set q) q
+  refused_busy hash set q = refused_among (IsStripeOf (layout_of hash set) q) set (own_below hash set.s q) q
 
   -- what was found held is of the name, also where the pass has found no other since
   pub found_own : (hash : Name → ℕ) (set : Settings) (q : Name) (p p1 z : PassState V) → FindsOwn hash set q p p1 → z.view.found ≡ p1.view.found → FindsOwnUnlessFull hash set q p z

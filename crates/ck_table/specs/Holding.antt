@@ -5,8 +5,11 @@ use Rattle.ck_model.specs.Arithmetic.{index_of, second_of}
 use Rattle.ck_model.specs.declared.history.Reason.{Reason}
 use Rattle.ck_model.specs.declared.settings.Settings.{Settings}
 use Rattle.ck_model.specs.Map.{Name}
+use Rattle.ck_model.specs.Contents.{layout_of}
+use Rattle.ck_model.specs.Sections.{Owns}
 use Rattle.ck_section.specs.declared.place.KeyPlace.{KeyPlace}
-use Rattle.ck_section.specs.Places.{HasBoth, IsPlaceOf}
+use Rattle.ck_section.specs.Stripes.{contents_of}
+use Rattle.ck_section.specs.Places.{IsPlaceOf}
 use Rattle.ck_words.specs.Passes.{PassState, IsUnchanged}
 use Rattle.ck_words.specs.Retries.{StaysBut}
 use Rattle.ck_table.specs.declared.holding.Home.{Home}
@@ -26,7 +29,7 @@ module _ {V : Type 0} where
   -- It has said of these names more that they found no room.
   pub record HoldsKeyBut (more : List (Name × Reason)) (hash : Name → ℕ) (set : Settings) (q : Name) (place : KeyPlace) (p p2 : PassState V) : Type 0 where
     pub stays : StaysBut more p.view p2.view
-    pub both : HasBoth hash set.s p2.stripes q
+    pub both : Owns (layout_of hash set) (contents_of p2.stripes) q
     pub at : IsPlaceOf hash p2.stripes q place
     pub s : place.s ≡ set.s
     pub unchanged : IsUnchanged p2

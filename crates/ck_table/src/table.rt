@@ -2,7 +2,7 @@
 ghost use Rattle.std.specs.Prelude.{◌≡◌, ◌↔◌, IfOk, IfErr, Err, List};
 ghost use Rattle.ck_model.specs.declared.history.Entry.{Entry};
 ghost use Rattle.ck_model.specs.Map.{Map, ListsInOrder};
-ghost use Rattle.ck_model.specs.History.{After, IsShuffle};
+ghost use Rattle.ck_model.specs.History.{After, IsInterleaving};
 ghost use Rattle.ck_model.specs.Ranges.{AreInRange};
 ghost use Rattle.ck_words.specs.Meeting.{Meets};
 ghost use Rattle.ck_words.specs.Rule.{counting};
@@ -61,7 +61,7 @@ impl<K: TableKey + Drop, V: Drop> Table<K, V> {
     pub fn close(self, passes: Vec<Pass<K, V>>) -> Result<Vec<(K, V)>, (Self, Vec<Pass<K, V>>)>
         requires { AreAllPasses self passes.items }
         ensures pairs { IfOk result (λ pairs. (log : List (Entry V)) × (m : Map V)
-            × IsShuffle log (parts_of passes.items) × EachSaw log passes.items
+            × IsInterleaving log (parts_of passes.items) × EachSaw log passes.items
             × After log m × ListsInOrder K.name K.cmp pairs.items m) }
         ensures back { IfErr result (λ back. (back.0 ≡ self)
             × AreAllPasses back.0 back.1.items × EachStays passes.items back.1.items) }

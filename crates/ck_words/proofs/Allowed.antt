@@ -18,9 +18,9 @@ use Rattle.ck_model.specs.Sections.{Section, IdentitySection}
 use Rattle.ck_model.proofs.Numbered.{Some-injective}
 use Rattle.ck_stripe.specs.Stripe.{StripeState}
 use Rattle.ck_core.specs.declared.view.View.{View}
-use Rattle.ck_core.specs.State.{World, Law}
-use Rattle.ck_core.specs.Steps.{Move, Does, IsAbove, IsExcused, HasGrounds, taken, seen_as, sent_home, giving, deciding, newcomer, messenger, joining, spent}
-use Rattle.ck_core.specs.Steps.Move.{Take, FindHeld, Give, Decide, Renew, Look}
+use Rattle.ck_core.specs.State.{Configuration, HistoryInvariant}
+use Rattle.ck_core.specs.Steps.{Label, Transition, IsAbove, IsExcused, HasGrounds, taken, seen_as, sent_home, giving, deciding, newcomer, message_of, joining, spent}
+use Rattle.ck_core.specs.Steps.Label.{Take, FindHeld, Give, Decide, Renew, Look}
 use Rattle.ck_core.proofs.Lists.{at_set, set_else, set_there}
 use Rattle.ck_core.proofs.Shown.{shows}
 use Rattle.ck_core.proofs.Keeps.{take_keeps, find_keeps, give_keeps, decide_keeps, renew_keeps, look_keeps, told_below, open_keeps, tell_keeps, join_keeps}
@@ -62,28 +62,28 @@ module _ {V : Type 0} where
 module _ {V : Type 0} (k : Layout) (callers : ℕ) where
   -- the word of stripe t became x, and its slot h
   kept_at : (log : List (Entry V)) (s : State (StripeSlot V) (View V)) (t x : ℕ) (h : maybe.Option (StripeSlot V)) (views : List (View V)) → t < 2 ^ k.s → length s.words ≡ 2 ^ k.s * 8
-      → Law k callers log (record { words = set (spaced (2 ^ k.s) s.words) t x; homes = set (map lying s.homes) t (lying h); views = views }) → AreNumbered k.s (set s.homes t h)
+      → HistoryInvariant k callers log (record { words = set (spaced (2 ^ k.s) s.words) t x; homes = set (map lying s.homes) t (lying h); views = views }) → AreNumbered k.s (set s.homes t h)
       → IsKept k callers log (record { words = set s.words (t * 8) x; homes = set s.homes t h; views = views })
   kept_at log s t x h views l sized law own = record {
-    law = subst (λ (w : World V). Law k callers log w) (λ i. record { words = sym (spaced-set (2 ^ k.s) t x s.words l sized) i; homes = map_set s.homes t h i; views = views }) law;
+    law = subst (λ (w : Configuration V). HistoryInvariant k callers log w) (λ i. record { words = sym (spaced-set (2 ^ k.s) t x s.words l sized) i; homes = map_set s.homes t h i; views = views }) law;
     words_sized = length-set s.words (t * 8) x ∙ sized;
     numbered = own;
   }
 
   -- a step that leaves words and slots as they were
-  unmoved : (log : List (Entry V)) (s : State (StripeSlot V) (View V)) (id t x : ℕ) (w : View V) (has : List (ℕ × StripeSlot V)) → x ≡ get_or s.words t 0 → IsKept k callers log s → Law k callers log (seen_as (world (2 ^ k.s) s) id w)
+  unmoved : (log : List (Entry V)) (s : State (StripeSlot V) (View V)) (id t x : ℕ) (w : View V) (has : List (ℕ × StripeSlot V)) → x ≡ get_or s.words t 0 → IsKept k callers log s → HistoryInvariant k callers log (seen_as (world (2 ^ k.s) s) id w)
       → IsKept k callers log (stepped s t x id has w keeps)
   unmoved log s id t x w has e old law =
       let same : s.words ≡ set s.words t x = sym (set-get_or s.words t 0) ∙ ap (set s.words t) (sym e) in
       record {
-        law = subst (λ ws. Law k callers log (record { words = spaced (2 ^ k.s) ws; homes = map lying s.homes; views = set s.views id w })) same law;
+        law = subst (λ ws. HistoryInvariant k callers log (record { words = spaced (2 ^ k.s) ws; homes = map lying s.homes; views = set s.views id w })) same law;
         words_sized = length-set s.words t x ∙ old.words_sized;
         numbered = old.numbered;
       }
 
   -- a seat gives back the slot that it has first
   gave : (log log2 : List (Entry V)) (s : State (StripeSlot V) (View V)) (id t : ℕ) (stripe : StripeState V) (w : View V) (has out : List (ℕ × StripeSlot V)) → has ≡ (t, Some stripe) ∷ out → t < 2 ^ k.s → IsNumbered k.s t stripe → IsKept k callers log s
-      → Law k callers log2 (sent_home (world (2 ^ k.s) s) id t stripe.content w)
+      → HistoryInvariant k callers log2 (sent_home (world (2 ^ k.s) s) id t stripe.content w)
       → IsKept k callers log2 (stepped s (t * 8) 0 id has w gives)
   gave log log2 s id t stripe w has out is l own old law = subst (λ (xs : List (ℕ × StripeSlot V)). IsKept k callers log2 (stepped s (t * 8) 0 id xs w gives)) (sym is)
       (kept_at log2 s t 0 (some (Some stripe)) (set s.views id w) l old.words_sized law (numbered_back k.s s.homes t stripe own old.numbered))
@@ -94,13 +94,13 @@ module _ {V : Type 0} (k : Layout) (callers : ℕ) where
         let law = open_keeps k callers r.0 (world (2 ^ k.s) s) r.1.law id v at j others is in (
           r.0,
           record {
-            law = subst (λ (o : List (ℕ × List (Entry V))). Law k callers r.0 (record { words = spaced (2 ^ k.s) s.words; homes = map lying s.homes; views = set s.views id (record v { others = drop 1 o }) ++ newcomer v.settings (first_kept o) v.told ∷ [] })) (sym is) law;
+            law = subst (λ (o : List (ℕ × List (Entry V))). HistoryInvariant k callers r.0 (record { words = spaced (2 ^ k.s) s.words; homes = map lying s.homes; views = set s.views id (record v { others = drop 1 o }) ++ newcomer v.settings (first_kept o) v.told ∷ [] })) (sym is) law;
             words_sized = r.1.words_sized;
             numbered = r.1.numbered;
           },
         )
 
-    pub tell_allowed : Splits (Rule k callers) id v v (messenger v)
+    pub tell_allowed : Splits (Rule k callers) id v v (message_of v)
     tell_allowed s r at = (r.0, record { law = tell_keeps k callers r.0 (world (2 ^ k.s) s) r.1.law id v at; words_sized = r.1.words_sized; numbered = r.1.numbered })
 
     pub join_allowed : (other : ℕ) (w : View V) → w.held ≡ [] → Joins (Rule k callers) id v other w (joining v w) spent
@@ -119,8 +119,8 @@ module _ (hash : Name → ℕ) (set : Settings) where
 
   module _ {V : Type 0} where
     -- a step of the core from a state of the table, by which the view v becomes w
-    steps_from : (move : Move V) (log : List (Entry V)) (s : State (StripeSlot V) (View V)) (id : ℕ) (v w : View V) (after : World V) → IsKept k set.callers log s → get_elem? s.views id ≡ some v
-        → Does k set.min_load log id move (world (2 ^ k.s) s) after → after.views ≡ slice_set s.views id w → Steps hash set move v w
+    steps_from : (move : Label V) (log : List (Entry V)) (s : State (StripeSlot V) (View V)) (id : ℕ) (v w : View V) (after : Configuration V) → IsKept k set.callers log s → get_elem? s.views id ≡ some v
+        → Transition k set.min_load log id move (world (2 ^ k.s) s) after → after.views ≡ slice_set s.views id w → Steps hash set move v w
     steps_from move log s id v w after r at does views = record {
       log = log;
       id = id;
@@ -146,7 +146,7 @@ module _ (hash : Name → ℕ) (set : Settings) where
           let stripe : StripeState V = slot.0 in
           let there2 : get_elem? (map lying s.homes) t ≡ some (Some stripe.content) = there ∙ ap (λ (x : Content V). some (Some x)) (sym slot.2) in
           let w : View V = record m.0 { held = (t, stripe.content) ∷ m.0.held; seen = log } in
-          let after : World V = taken (world (2 ^ k.s) s) id m.0 t stripe.content log in
+          let after : Configuration V = taken (world (2 ^ k.s) s) id m.0 t stripe.content log in
           let kept : IsKept k set.callers log (stepped s (t * 8) 1 id m.1 w (takes t (Some stripe))) =
           kept_at k set.callers log s t 1 none (slice_set s.views id w) l r.words_sized (take_keeps k set.callers log (world (2 ^ k.s) s) r.law id m.0 at t stripe.content l free there2) (numbered_out k.s s.homes t r.numbered) in
           let steps : Steps hash set (Take t) m.0 w = steps_from (Take t) log s id m.0 w after r at (m.0, stripe.content, at, l, free, above, there2, refl) refl in

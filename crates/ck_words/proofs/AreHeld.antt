@@ -74,7 +74,7 @@ module _ {V : Type 0} where
         one_s = each_at set.s ss (each_settled set.s p.stripes each);
         settled = settled_at p.stripes;
         one_power = λ i h. lawful.one_power (stripe_at ss i).number (stripe_at ss 0).number (stripe_at ss i).content (stripe_at ss 0).content (holds_at ss i h) (holds_at ss 0 first);
-        least = sound.least;
+        least = sound.shaped.least;
         most = (let a = sound.most in let b = range.max in omega arith);
         rising = λ i j a b. let l = rise i j a (omega arith) in let x = number_at ss i (omega arith) in let y = number_at ss j b in let e = ap (λ ms. get_or ms i 0) named in let f = ap (λ ms. get_or ms j 0) named in omega arith;
       }

@@ -7,7 +7,7 @@ use Rattle.ck_model.specs.declared.history.Entry.{Entry}
 use Rattle.ck_model.specs.declared.settings.Settings.{Settings}
 use Rattle.ck_model.specs.Numbered.{IsIn, numbers}
 use Rattle.ck_core.specs.declared.view.View.{View}
-use Rattle.ck_core.specs.Steps.{newcomer, opener}
+use Rattle.ck_core.specs.Steps.{newcomer, initial_view}
 use Rattle.ck_words.specs.Rule.{counting, first_view}
 use Rattle.ck_words.specs.Plays.{opened, begun}
 use Rattle.ck_words.specs.Words.{WordsState}
@@ -30,7 +30,7 @@ module _ {V : Type 0} where
 
   -- the first pass after n were dealt with it
   abbrev pub first_after : TableId → Settings → ℕ → PassState V
-  first_after table set n = record { table = table; view = opener set 0 set.power (counting n (set.callers - n)); stripes = [] }
+  first_after table set n = record { table = table; view = initial_view set 0 set.power (counting n (set.callers - n)); stripes = [] }
 
   abbrev pub dealt_to : TableId → Settings → ℕ → List (PassState V)
   dealt_to table set n = first_after table set n ∷ dealt table set (counting 1 (n - 1))
@@ -45,7 +45,7 @@ module _ {V : Type 0} where
   pub dealt_one : (w : WordsState) (set : Settings) (p : PassState V) → w.settings ≡ set → IsPassOf w p → IsIdle p → p.view ≡ first_view set → p ∷ [] ≡ dealt_to w.table set 1
   dealt_one w set p same own idle e =
       let less : pred set.callers ≡ set.callers - 1 = omega arith in
-      λ i. (as_idle w p (first_view set) own idle e ∙ λ j. record { table = w.table; view = opener set 0 set.power (counting 1 (less j)); stripes = [] }) i ∷ []
+      λ i. (as_idle w p (first_view set) own idle e ∙ λ j. record { table = w.table; view = initial_view set 0 set.power (counting 1 (less j)); stripes = [] }) i ∷ []
 
   others_first : (set : Settings) (n : ℕ) → n < set.callers → kept_for (counting n (set.callers - n)) ≡ (n, []) ∷ kept_for (counting (n + 1) (set.callers - (n + 1)))
   others_first set n l = ap kept_for (next_number n set.callers l)
@@ -58,7 +58,7 @@ module _ {V : Type 0} where
       → q ∷ dealt w.table set (counting 1 (n - 1)) ++ r ∷ [] ≡ dealt_to w.table set (n + 1)
   dealt_more w set n p q r some l is own idle new left =
       let others = others_first set n l in
-      let old : View V = opener set 0 set.power (counting n (set.callers - n)) in
+      let old : View V = initial_view set 0 set.power (counting n (set.callers - n)) in
       let left_first : q ≡ first_after w.table set (n + 1) = left ∙ ((λ i. record (is i) { view = opened (is i).view }) ∙ λ i. record { table = w.table; view = opened (record old { others = others i }); stripes = [] }) in
       let newest : r ≡ record { table = w.table; view = newcomer set n set.power; stripes = [] } = as_idle w r (newcomer set n set.power) own idle (new ∙ ((λ i. begun (is i).view) ∙ λ i. begun (record old { others = others i }))) in
       let count : counting 1 (n - 1) ++ n ∷ [] ≡ counting 1 (n + 1 - 1) =
@@ -71,7 +71,7 @@ module _ {V : Type 0} where
   dealt_whole table set n ps some end is =
       let none : set.callers - n ≡ 0 = omega arith in
       let all : suc (n - 1) ≡ set.callers = omega arith in
-      is ∙ ((λ i. record { table = table; view = opener set 0 set.power (counting n (none i)); stripes = [] } ∷ dealt table set (counting 1 (n - 1))) ∙ ap (λ m. dealt table set (counting 0 m)) all)
+      is ∙ ((λ i. record { table = table; view = initial_view set 0 set.power (counting n (none i)); stripes = [] } ∷ dealt table set (counting 1 (n - 1))) ∙ ap (λ m. dealt table set (counting 0 m)) all)
 
   dealt_callers : (w : WordsState) (n a : ℕ) → a + n ≤ w.settings.callers → All (IsCaller {V = V} w) (dealt w.table w.settings (counting a n))
   dealt_callers w zero a l = All-nil (IsCaller w)

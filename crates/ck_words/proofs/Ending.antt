@@ -19,7 +19,7 @@ use Rattle.ck_words.proofs.Reversed.{map-append, in_of_reverse}
 use Rattle.ck_words.proofs.Staying.{starts_on, stays_same}
 use Rattle.ck_words.proofs.Counting.{in_counting}
 use Rattle.ck_words.proofs.Seating.{numbers-contents}
-use Rattle.ck_words.proofs.Joining.{owned_numbers, shuffled}
+use Rattle.ck_words.proofs.Joining.{owned_numbers, interleaved}
 
 -- a table has a pass
 pub some_pass : {V : Type 0} (w : WordsState) (ps : List (PassState V)) → 1 ≤ w.settings.callers → AreAllPasses w ps → ¬ (length ps ≡ 0)
@@ -84,7 +84,7 @@ module _ {V : Type 0} (w : WordsState) (os : List (PassState V)) (p p1 : PassSta
         let others : q.view.others ≡ gathered os [] = g.others ∙ ap (gathered os) (stays.others ∙ last_caller.alone) in
         record {
           log = q.view.seen;
-          shuffle = shuffled w os p all.callers q.view by mine others q.view.seen (g.shows.all_kept (λ m l. owned_numbers w os p all.callers q.view by mine others m (all.all m l)));
+          interleaving = interleaved w os p all.callers q.view by mine others q.view.seen (g.shows.all_kept (λ m l. owned_numbers w os p all.callers q.view by mine others m (all.all m l)));
           saw = All-push (λ (x : PassState V). StartsWith q.view.seen x.view.seen) os p g.saw (starts_on p.view.seen p1.view.seen q.view.seen stays.seen g.seen);
           after = subst (λ (l : List (Name × V)). After q.view.seen (from_entries l)) (sym poured) leaves;
           apart = subst NamesApart (sym poured) no_name_twice;

@@ -15,8 +15,8 @@ use Rattle.ck_model.specs.Contents.{Layout, layout_of, Stripes, Lawful}
 use Rattle.ck_model.specs.Sections.{Section, IdentitySection}
 use Rattle.ck_section.specs.Stripes.{contents_of}
 use Rattle.ck_core.specs.declared.view.View.{View}
-use Rattle.ck_core.specs.Steps.{Move, IsExcused, HasGrounds}
-use Rattle.ck_core.specs.Steps.Move.{Give, Decide, Renew}
+use Rattle.ck_core.specs.Steps.{Label, IsExcused, HasGrounds}
+use Rattle.ck_core.specs.Steps.Label.{Give, Decide, Renew}
 use Rattle.ck_words.specs.Rule.{StripeSlot, Hand, RuleOf}
 use Rattle.ck_words.specs.Steps.{Steps}
 use Rattle.ck_words.specs.Plays.{SeatGives, contents_in}
@@ -34,7 +34,7 @@ pub last_of : {V : Type 0} (w : WordsState) (p : PassState V) (tz : TableId) (ke
 last_of w p tz key set z me f t s h = last z me.0 me.1 t s (subst (λ (q : PassState _). IsHighest t q.stripes) (sym f.pass_is) h)
 
 -- the highest stripe went home by this move, and the pass has the others as they were
-pub record Went {V : Type 0} (hash : Name → ℕ) (w : WordsState) (move : ℕ → Stripes V → Move V) (p : PassState V) (z : TableId) (me : Hand V) : Type 0 where
+pub record Went {V : Type 0} (hash : Name → ℕ) (w : WordsState) (move : ℕ → Stripes V → Label V) (p : PassState V) (z : TableId) (me : Hand V) : Type 0 where
   pub seated : IsSeated z me
   pub own : IsPassOf w (state_of z me)
   pub sends : Sends hash w move p (state_of z me)
@@ -75,7 +75,7 @@ module _ {V : Type 0} (hash : Name → ℕ) (w : WordsState) (p : PassState V) (
   k = layout_of hash key
 
   -- the first stripe goes home by the move for its number and for what the stripes contain
-  module _ (move : ℕ → Stripes V → Move V) where
+  module _ (move : ℕ → Stripes V → Label V) where
     abbrev pub told_by : Settings → ℕ → Hand V → Type 0
     told_by x n m2 = SeatGives hash x (move n (contents_in me.1)) me m2
 
@@ -114,7 +114,7 @@ module _ {V : Type 0} (hash : Name → ℕ) (w : WordsState) (p : PassState V) (
     went z2 me2 same g v = record { seated = gone_seated z2 me2 g v same; own = own_after hash w p tz key set z me f z2 me2 same v.settings; sends = sends z2 me2 g; unchanged = gone_unchanged z2 me2 g v }
 
   module _ (g : Option (Name × Reason)) (u : IsUnchanged p) where
-    abbrev pub give_move : ℕ → Stripes V → Move V
+    abbrev pub give_move : ℕ → Stripes V → Label V
     give_move n ks = Give n g
 
     -- what excuses it of the stripes, excuses it of the view
@@ -141,7 +141,7 @@ module _ {V : Type 0} (hash : Name → ℕ) (w : WordsState) (p : PassState V) (
     give_went z2 me2 same h = let g = gone give_move me2 h in went give_move z2 me2 same g (give_tells me2 g)
 
   module _ (g : Option (Name × Reason)) where
-    abbrev pub renew_move : ℕ → Stripes V → Move V
+    abbrev pub renew_move : ℕ → Stripes V → Label V
     renew_move n ks = Renew n ks g
 
     pub renew_ready : (slots id : ℕ) → (Lawful (layout_of hash w.settings) (reverse p.view.held) → IdentitySection (layout_of hash w.settings) (reverse p.view.held) (contents_of p.stripes))
@@ -166,7 +166,7 @@ module _ {V : Type 0} (hash : Name → ℕ) (w : WordsState) (p : PassState V) (
     renew_went z2 me2 same h = let g = gone renew_move me2 h in went renew_move z2 me2 same g (renew_tells me2 g)
 
   module _ (e : Entry V) where
-    abbrev pub decide_move : ℕ → Stripes V → Move V
+    abbrev pub decide_move : ℕ → Stripes V → Label V
     decide_move n ks = Decide n ks e
 
     pub decide_ready : (slots id : ℕ) → p.view.by ≡ Some e.by → (Lawful (layout_of hash w.settings) (reverse p.view.held) → Section (layout_of hash w.settings) (reverse p.view.held) e.call e.reply (contents_of p.stripes))

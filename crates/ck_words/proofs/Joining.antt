@@ -6,7 +6,7 @@ use Rattle.std.proofs.lemmas.List.Elements.{All-nil, All-head, All-tail, All-pus
 use Rattle.ck_model.specs.declared.history.Entry.{Entry}
 use Rattle.ck_model.specs.Map.{Name}
 use Rattle.ck_model.specs.Numbered.{IsIn, numbers, Holds}
-use Rattle.ck_model.specs.History.{StartsWith, IsShuffle}
+use Rattle.ck_model.specs.History.{StartsWith, IsInterleaving}
 use Rattle.ck_model.proofs.Numbered.{held_either, held_first, held_second, in_either, in_first, in_second, in_held, held_of_in}
 use Rattle.ck_model.proofs.Histories.{starts_itself}
 use Rattle.ck_core.specs.declared.view.View.{View}
@@ -92,8 +92,8 @@ module _ {V : Type 0} where
       pub owned_numbers : (m : ℕ) → IsIn m (numbers (parts_of (os ++ p ∷ []))) → IsIn m (numbers (owned v))
       owned_numbers m i = let d = held_of_in (parts_of (os ++ p ∷ [])) m i in in_held (owned v) m d.0 (owned_of_parts m d.0 d.1)
 
-      pub shuffled : (log : List (Entry V)) → IsShuffle log (owned v) → IsShuffle log (parts_of (os ++ p ∷ []))
-      shuffled log s = record {
+      pub interleaved : (log : List (Entry V)) → IsInterleaving log (owned v) → IsInterleaving log (parts_of (os ++ p ∷ []))
+      interleaved log s = record {
         each = λ m es h. s.each m es (owned_of_parts m es h);
         no_others = λ m out. s.no_others m (λ i. out (parts_of_owned m i));
       }

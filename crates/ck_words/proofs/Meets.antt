@@ -4,8 +4,8 @@ use Rattle.ck_model.specs.Map.{Name}
 use Rattle.ck_model.specs.Contents.{layout_of}
 use Rattle.ck_core.specs.declared.view.View.{View}
 use Rattle.ck_core.specs.Laws.{Shows}
-use Rattle.ck_core.specs.Steps.{joining, messenger}
-use Rattle.ck_core.specs.Steps.Move.{Look}
+use Rattle.ck_core.specs.Steps.{joining, message_of}
+use Rattle.ck_core.specs.Steps.Label.{Look}
 use Rattle.ck_words.specs.Words.{WordsState}
 use Rattle.ck_words.specs.Passes.{PassState, LooksUp}
 use Rattle.ck_words.specs.Meeting.{Meets}
@@ -39,14 +39,14 @@ module _ {V : Type 0} where
         subst (Gathers hash w.settings b o) (sym (is_looked hash w b q o.view k))
         (record { by = refl; mine = refl; others = refl; held = refl; stripes = refl; seen = early.seen; heard = early.heard; shows = after hash w b q o.view k })
 
-    pub meets : (a b : PassState V) → p ≡ heard b (messenger a.view) → LooksUp hash w p q → Meets a b q
+    pub meets : (a b : PassState V) → p ≡ heard b (message_of a.view) → LooksUp hash w p q → Meets a b q
     meets a b is l =
-        let k : LooksUp hash w (heard b (messenger a.view)) q = subst (λ x. LooksUp hash w x q) is l in
-        let early = before hash w b q (messenger a.view) k in
-        subst (Meets a b) (sym (is_looked hash w b q (messenger a.view) k)) (record {
+        let k : LooksUp hash w (heard b (message_of a.view)) q = subst (λ x. LooksUp hash w x q) is l in
+        let early = before hash w b q (message_of a.view) k in
+        subst (Meets a b) (sym (is_looked hash w b q (message_of a.view) k)) (record {
           seen = early.seen;
           heard = early.heard;
-          told = look_told hash w.settings (joining b.view (messenger a.view)) q.view 0 k.1.0 k.1.2;
+          told = look_told hash w.settings (joining b.view (message_of a.view)) q.view 0 k.1.0 k.1.2;
           heard_told = k.1.1;
           by = refl;
           mine = refl;

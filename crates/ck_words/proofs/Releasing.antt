@@ -6,7 +6,7 @@ use native.Mathlib.Decide.{ℕ_discrete}
 use Rattle.ck_model.specs.Map.{Name}
 use Rattle.ck_model.proofs.Numbered.{if_same, if_else}
 use Rattle.ck_stripe.specs.Stripe.{StripeState}
-use Rattle.ck_core.specs.Steps.Move.{GiveRest}
+use Rattle.ck_core.specs.Steps.Label.{GiveRest}
 use Rattle.ck_words.specs.Rule.{counting}
 use Rattle.ck_words.specs.Words.{WordsState}
 use Rattle.ck_words.specs.Passes.{PassState, IsPassOf, IsIdle, IsUnchanged, Sends, numbers_of, pair, lower}

@@ -5,7 +5,7 @@ use Rattle.ck_model.specs.Map.{Name}
 use Rattle.ck_section.specs.Stripes.{contents_of}
 use Rattle.ck_core.specs.declared.view.View.{View}
 use Rattle.ck_core.specs.Steps.{giving, gaining}
-use Rattle.ck_core.specs.Steps.Move.{Renew}
+use Rattle.ck_core.specs.Steps.Label.{Renew}
 use Rattle.ck_words.specs.Words.{WordsState}
 use Rattle.ck_words.specs.Passes.{PassState, IsPassOf, IsUnchanged, Sends, numbers_of}
 use Rattle.ck_words.specs.Retries.{StaysBut}

@@ -17,7 +17,7 @@ use Rattle.ck_model.specs.Sections.{Section}
 use Rattle.ck_section.specs.Stripes.{contents_of}
 use Rattle.ck_core.specs.declared.view.View.{View}
 use Rattle.ck_core.specs.Steps.{deciding}
-use Rattle.ck_core.specs.Steps.Move.{Decide}
+use Rattle.ck_core.specs.Steps.Label.{Decide}
 use Rattle.ck_core.specs.Laws.{Answered}
 use Rattle.ck_core.proofs.Shown.{answered}
 use Rattle.ck_words.specs.Steps.{Steps}

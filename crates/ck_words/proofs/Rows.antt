@@ -12,9 +12,9 @@ use Rattle.ck_model.specs.Numbered.{numbers, Holds}
 use Rattle.ck_model.specs.Contents.{layout_of, Stripes}
 use Rattle.ck_model.proofs.Numbered.{in_held}
 use Rattle.ck_core.specs.declared.view.View.{View}
-use Rattle.ck_core.specs.State.{World}
-use Rattle.ck_core.specs.Steps.{Move, IsAbove, giving, deciding, grown}
-use Rattle.ck_core.specs.Steps.Move.{Take, FindHeld, Give, Decide, GiveRest, Renew, Look}
+use Rattle.ck_core.specs.State.{Configuration}
+use Rattle.ck_core.specs.Steps.{Label, IsAbove, giving, deciding, grown}
+use Rattle.ck_core.specs.Steps.Label.{Take, FindHeld, Give, Decide, GiveRest, Renew, Look}
 use Rattle.ck_core.specs.Laws.{Shows}
 use Rattle.ck_core.proofs.Lists.{set_there}
 use Rattle.ck_core.proofs.Keeps.{step_keeps}
@@ -22,7 +22,7 @@ use Rattle.ck_core.proofs.Shown.{shows}
 use Rattle.ck_words.specs.Steps.{Steps}
 
 module _ {V : Type 0} (hash : Name → ℕ) (set : Settings) where
-  module _ (m : Move V) (v w : View V) (r : Steps hash set m v w) where
+  module _ (m : Label V) (v w : View V) (r : Steps hash set m v w) where
     pub shows_before : Shows (layout_of hash set) set.callers r.log v
     shows_before = shows (layout_of hash set) set.callers r.log r.before r.law r.id v r.was
 
@@ -39,7 +39,7 @@ module _ {V : Type 0} (hash : Name → ℕ) (set : Settings) where
 
   module _ (v w : View V) where
     pub take_row : (t : ℕ) (r : Steps hash set (Take t) v w) → w ≡ record v { held = (t, r.does.1) ∷ v.held; seen = r.log }
-    take_row t r = new_view (Take t) v w r (λ u. record u { held = (t, r.does.1) ∷ u.held; seen = r.log }) r.does.0 r.does.2 (ap (λ (x : World V). x.views) r.does.7)
+    take_row t r = new_view (Take t) v w r (λ u. record u { held = (t, r.does.1) ∷ u.held; seen = r.log }) r.does.0 r.does.2 (ap (λ (x : Configuration V). x.views) r.does.7)
 
     take_above : (t : ℕ) (r : Steps hash set (Take t) v w) → IsAbove t (numbers v.held)
     take_above t r = subst (λ (u : View V). IsAbove t (numbers u.held)) (same_view (Take t) v w r r.does.0 r.does.2) r.does.5
@@ -52,26 +52,26 @@ module _ {V : Type 0} (hash : Name → ℕ) (set : Settings) where
         held ∙ λ i. (t, same i) ∷ v.held
 
     pub find_row : (t : ℕ) → Steps hash set (FindHeld t) v w → w ≡ record v { found = t ∷ v.found }
-    find_row t r = new_view (FindHeld t) v w r (λ u. record u { found = t ∷ u.found }) r.does.0 r.does.1 (ap (λ (x : World V). x.views) r.does.5)
+    find_row t r = new_view (FindHeld t) v w r (λ u. record u { found = t ∷ u.found }) r.does.0 r.does.1 (ap (λ (x : Configuration V). x.views) r.does.5)
 
     pub give_row : (t : ℕ) (g : Option (Name × Reason)) (r : Steps hash set (Give t g) v w) → w ≡ giving v t r.does.1 v.held g
-    give_row t g r = new_view (Give t g) v w r (λ u. giving u t r.does.1 u.held g) r.does.0 r.does.2 (ap (λ (x : World V). x.views) r.does.5)
+    give_row t g r = new_view (Give t g) v w r (λ u. giving u t r.does.1 u.held g) r.does.0 r.does.2 (ap (λ (x : Configuration V). x.views) r.does.5)
 
     -- a give that tells nothing is a give of the rest
     pub give_rest : (t : ℕ) → Steps hash set (Give t None) v w → Steps hash set (GiveRest t) v w
     give_rest t r = record { log = r.log; id = r.id; before = r.before; after = r.after; law = r.law; does = (r.does.0, r.does.1, r.does.2, r.does.3, r.does.5); was = r.was; is = r.is }
 
     pub rest_row : (t : ℕ) (r : Steps hash set (GiveRest t) v w) → w ≡ giving v t r.does.1 v.held None
-    rest_row t r = new_view (GiveRest t) v w r (λ u. giving u t r.does.1 u.held None) r.does.0 r.does.2 (ap (λ (x : World V). x.views) r.does.4)
+    rest_row t r = new_view (GiveRest t) v w r (λ u. giving u t r.does.1 u.held None) r.does.0 r.does.2 (ap (λ (x : Configuration V). x.views) r.does.4)
 
     pub decide_row : (t : ℕ) (ks : Stripes V) (e : Entry V) (r : Steps hash set (Decide t ks e) v w) → w ≡ deciding v t ks r.log e
-    decide_row t ks e r = new_view (Decide t ks e) v w r (λ u. deciding u t ks r.log e) r.does.0 r.does.2 (ap (λ (x : World V). x.views) r.does.6)
+    decide_row t ks e r = new_view (Decide t ks e) v w r (λ u. deciding u t ks r.log e) r.does.0 r.does.2 (ap (λ (x : Configuration V). x.views) r.does.6)
 
     pub renew_row : (t : ℕ) (ks : Stripes V) (g : Option (Name × Reason)) (r : Steps hash set (Renew t ks g) v w) → w ≡ giving v t r.does.1 ks g
-    renew_row t ks g r = new_view (Renew t ks g) v w r (λ u. giving u t r.does.1 ks g) r.does.0 r.does.2 (ap (λ (x : World V). x.views) r.does.6)
+    renew_row t ks g r = new_view (Renew t ks g) v w r (λ u. giving u t r.does.1 ks g) r.does.0 r.does.2 (ap (λ (x : Configuration V). x.views) r.does.6)
 
     pub look_row : (t p : ℕ) (r : Steps hash set (Look t p) v w) → w ≡ record v { seen = r.log; told = p }
-    look_row t p r = new_view (Look t p) v w r (λ u. record u { seen = r.log; told = p }) r.does.0 r.does.1 (ap (λ (x : World V). x.views) r.does.5)
+    look_row t p r = new_view (Look t p) v w r (λ u. record u { seen = r.log; told = p }) r.does.0 r.does.1 (ap (λ (x : Configuration V). x.views) r.does.5)
 
     pub look_told : (t p : ℕ) → Steps hash set (Look t p) v w → v.told ≤ p
     look_told t p r = subst (λ (u : View V). u.told ≤ p) (same_view (Look t p) v w r r.does.0 r.does.1) r.does.3

@@ -23,8 +23,8 @@ use Rattle.ck_model.proofs.Fresh.{no_pairs}
 use Rattle.ck_stripe.specs.Stripe.{StripeState, empty_content}
 use Rattle.ck_stripe.proofs.Writes.{sound_empty}
 use Rattle.ck_core.specs.declared.view.View.{View}
-use Rattle.ck_core.specs.State.{World, Law}
-use Rattle.ck_core.specs.Steps.{Opening, opener}
+use Rattle.ck_core.specs.State.{Configuration, HistoryInvariant}
+use Rattle.ck_core.specs.Steps.{Opening, initial_view}
 use Rattle.ck_core.proofs.Lists.{at_snoc, at_longer}
 use Rattle.ck_core.proofs.Openings.{opens}
 use Rattle.ck_words.specs.Rule.{StripeSlot, IsNumbered, IsKept, RuleOf, lying, counting, first_view}
@@ -105,10 +105,10 @@ module _ (V : Type 0) (hash : Name → ℕ) (set : Settings) (range : AreInRange
   first_within : (m : ℕ) → IsIn m (0 ∷ counting 1 (pred set.callers)) → (m < set.callers) × (◌≡◌ {A = ℕ} 0 0)
   first_within m h = let some_caller = range.caller in (⊎_elim (λ e. omega arith) (λ r. let z = in_counting (pred set.callers) 1 m r in omega arith) h, refl)
 
-  abbrev begun_world : List ℕ → World V
+  abbrev begun_world : List ℕ → Configuration V
   begun_world ws = record { words = ws; homes = map lying (slots_of (2 ^ set.s)); views = first_view set ∷ [] }
 
-  views : (ws : List ℕ) (j : ℕ) (v : View V) → get_elem? (first_view set ∷ []) j ≡ some v → (ms : List ℕ) × (v ≡ opener set j set.power ms) × AreDistinct (j ∷ ms) × ((m : ℕ) → IsIn m (j ∷ ms) → (m < set.callers) × (0 ≡ j))
+  views : (ws : List ℕ) (j : ℕ) (v : View V) → get_elem? (first_view set ∷ []) j ≡ some v → (ms : List ℕ) × (v ≡ initial_view set j set.power ms) × AreDistinct (j ∷ ms) × ((m : ℕ) → IsIn m (j ∷ ms) → (m < set.callers) × (0 ≡ j))
   views ws zero v e = (counting 1 (pred set.callers), sym (some-injective (first_view set) v e), first_apart, first_within)
   views ws (suc j) v e = absurd (some-ne-none v (sym e))
 
@@ -129,7 +129,7 @@ module _ (V : Type 0) (hash : Name → ℕ) (set : Settings) (range : AreInRange
   pub starts : (ws : List ℕ) (xs : List (StripeSlot V)) → ws ≡ replicate (2 ^ set.s * 8) 0 → xs ≡ fresh_slots set (2 ^ set.s) → RuleOf hash set (opening ws xs (first_view set))
   starts ws xs zeros is =
       let kept : IsKept k set.callers [] (opening (replicate (2 ^ set.s * 8) 0) (fresh_slots set (2 ^ set.s)) (first_view set)) = record {
-        law = subst (λ l. Law k set.callers [] (begun_world l)) (sym (spaced-zeros (2 ^ set.s))) (opens k set set.callers set.power (begun_world (replicate (2 ^ set.s) 0)) begins);
+        law = subst (λ l. HistoryInvariant k set.callers [] (begun_world l)) (sym (spaced-zeros (2 ^ set.s))) (opens k set set.callers set.power (begun_world (replicate (2 ^ set.s) 0)) begins);
         words_sized = length-replicate (2 ^ set.s * 8) 0;
         numbered = numbered_all (2 ^ set.s);
       } in

@@ -7,11 +7,11 @@ use Rattle.ck_model.specs.Map.{Name}
 use Rattle.ck_model.specs.History.{StartsWith}
 use Rattle.ck_model.specs.Numbered.{IsIn, numbers}
 use Rattle.ck_model.specs.Contents.{layout_of}
-use Rattle.ck_model.proofs.Histories.{calls_by-append}
+use Rattle.ck_model.proofs.Histories.{subhistory-append}
 use Rattle.ck_stripe.specs.Stripe.{StripeState}
 use Rattle.ck_core.specs.declared.view.View.{View}
 use Rattle.ck_core.specs.Steps.{giving}
-use Rattle.ck_core.specs.Steps.Move.{Take, GiveRest}
+use Rattle.ck_core.specs.Steps.Label.{Take, GiveRest}
 use Rattle.ck_core.specs.Laws.{Shows}
 use Rattle.ck_section.specs.Stripes.{contents_of}
 use Rattle.std.proofs.lemmas.List.{reverse-reverse}
@@ -45,7 +45,7 @@ module _ {V : Type 0} where
     heard = (g.heard.0 ∙ f.heard.0, g.heard.1 ∙ f.heard.1);
     noroom = g.noroom ∙ (ap (λ l. ys ++ l) f.noroom ∙ sym (append_assoc ys xs u.noroom));
     seen = starts_on u.seen v.seen w.seen f.seen g.seen;
-    by_others = λ m e. calls_by-append m f.seen.0 g.seen.0 ∙ λ j. f.by_others m e j ++ g.by_others m (f.by ∙ e) j;
+    by_others = λ m e. subhistory-append m f.seen.0 g.seen.0 ∙ λ j. f.by_others m e j ++ g.by_others m (f.by ∙ e) j;
     told = (let a = f.told in let b = g.told in omega arith);
   }
 

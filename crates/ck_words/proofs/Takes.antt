@@ -10,7 +10,7 @@ use Rattle.ck_stripe.specs.Stripe.{StripeState}
 use Rattle.ck_section.specs.Stripes.{contents_of}
 use Rattle.ck_core.specs.declared.view.View.{View}
 use Rattle.ck_core.specs.Steps.{IsAbove}
-use Rattle.ck_core.specs.Steps.Move.{Take, FindHeld}
+use Rattle.ck_core.specs.Steps.Label.{Take, FindHeld}
 use Rattle.ck_words.specs.Rule.{StripeSlot, Hand, RuleOf, IsNumbered}
 use Rattle.ck_words.specs.Steps.{Steps}
 use Rattle.ck_words.specs.Plays.{SeatTries, SeatLooks}

@@ -11,7 +11,7 @@ use Rattle.ck_core.specs.declared.view.View.{View}
 use Rattle.ck_model.specs.Contents.{Layout, layout_of, Stripes, Lawful}
 use Rattle.ck_model.proofs.Numbered.{held_first}
 use Rattle.ck_stripe.specs.Stripe.{StripeState}
-use Rattle.ck_core.specs.Steps.Move.{GiveRest, Renew}
+use Rattle.ck_core.specs.Steps.Label.{GiveRest, Renew}
 use Rattle.ck_section.specs.Stripes.{stripe_at, contents_of}
 use Rattle.ck_section.specs.Room.{power_in}
 use Rattle.ck_section.proofs.Found.{holds_at}

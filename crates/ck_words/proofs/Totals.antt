@@ -6,8 +6,8 @@ use Rattle.ck_model.specs.declared.contents.Content.{Content}
 use Rattle.ck_model.specs.Map.{Name}
 use Rattle.ck_model.specs.Ranges.{AreInRange}
 use Rattle.ck_model.specs.Numbered.{Holds}
-use Rattle.ck_model.specs.Contents.{Layout, layout_of, Lawful, IsSound, pairs_in, pairs_of}
-use Rattle.ck_stripe.specs.Stripe.{StripeState, IsShaped}
+use Rattle.ck_model.specs.Contents.{Layout, layout_of, Lawful, pairs_in, pairs_of}
+use Rattle.ck_stripe.specs.Stripe.{StripeState}
 use Rattle.ck_stripe.proofs.Writes.{few_entries}
 use Rattle.ck_section.specs.Stripes.{stripe_at, contents_of, settled_stripes}
 use Rattle.ck_words.specs.Rule.{counting}
@@ -72,22 +72,11 @@ module _ {V : Type 0} where
   -- of all stripes of a table
   module _ (hash : Name → ℕ) (set : Settings) (ss : List (StripeState V)) (lawful : Lawful (layout_of hash set) (contents_of ss)) where
     pub counted_table : (n : ℕ) → n ≡ length ss → counted_to n ss ≡ length (pairs_of (contents_of ss))
-    counted_table n e = ap (λ m. counted_to m ss) e ∙ counted-all ss (λ t c h. (lawful.sound t c h).ledger)
+    counted_table n e = ap (λ m. counted_to m ss) e ∙ counted-all ss (λ t c h. (lawful.sound t c h).shaped.ledger)
 
     module _ (range : AreInRange set) where
-      shaped : (t : ℕ) (c : Content V) → IsSound (layout_of hash set) t c → IsShaped set.s t c
-      shaped t c s = record {
-        many = range.stripes;
-        number = s.number;
-        least = s.least;
-        most = (let a = s.most in let b = range.max in omega arith);
-        rows = s.rows;
-        four = s.four;
-        ledger = s.ledger;
-      }
-
       small : (i : ℕ) → (stripe_at ss i).content.ledger ≤ most
-      small = small_each ss (λ t c h. few_entries set.s t c (shaped t c (lawful.sound t c h)))
+      small = small_each ss (λ t c h. let s = lawful.sound t c h in let a = s.most in few_entries set.s c s.shaped (omega (arith, range.max)))
 
       pub counted_small : (n : ℕ) → n ≤ 2 ^ set.s → counted_to n ss ≤ 2 ^ 38
       counted_small n l =

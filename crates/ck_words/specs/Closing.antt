@@ -8,7 +8,7 @@ use Rattle.ck_model.specs.declared.history.Entry.{Entry}
 use Rattle.ck_model.specs.declared.settings.Settings.{Settings}
 use Rattle.ck_model.specs.Map.{Name}
 use Rattle.ck_model.specs.Numbered.{IsIn, numbers}
-use Rattle.ck_model.specs.History.{After, StartsWith, IsShuffle}
+use Rattle.ck_model.specs.History.{After, StartsWith, IsInterleaving}
 use Rattle.ck_model.specs.Contents.{NamesApart}
 use Rattle.ck_stripe.specs.Stripe.{StripeState}
 use Rattle.ck_section.specs.Stripes.{stripe_at}
@@ -94,7 +94,7 @@ module _ {V : Type 0} where
   -- A history of the passes' entries, of each in its order. It begins with what each has seen, and leaves these pairs.
   pub record Closes (ps : List (PassState V)) (pairs : List (Name × V)) : Type 0 where
     pub log : List (Entry V)
-    pub shuffle : IsShuffle log (parts_of ps)
+    pub interleaving : IsInterleaving log (parts_of ps)
     pub saw : EachSaw log ps
     pub after : After log (from_entries pairs)
     pub apart : NamesApart pairs

@@ -9,8 +9,8 @@ use Rattle.ck_model.specs.Contents.{layout_of, Stripes}
 use Rattle.ck_stripe.specs.Stripe.{StripeState}
 use Rattle.ck_section.specs.Stripes.{contents_of}
 use Rattle.ck_core.specs.declared.view.View.{View}
-use Rattle.ck_core.specs.Steps.{Move, IsAbove}
-use Rattle.ck_core.specs.Steps.Move.{Take, FindHeld, Look}
+use Rattle.ck_core.specs.Steps.{Label, IsAbove}
+use Rattle.ck_core.specs.Steps.Label.{Take, FindHeld, Look}
 use Rattle.ck_core.specs.Laws.{Shows}
 use Rattle.ck_words.specs.Rule.{StripeSlot, Hand, IsNumbered}
 use Rattle.ck_words.specs.Steps.{Steps}
@@ -108,7 +108,7 @@ module _ {V : Type 0} where
   TriesStripe hash w t taken p q = MatchBool taken (TakesStripe hash w.settings t p q) ((q.stripes ≡ p.stripes) × Steps hash w.settings (FindHeld t) p.view q.view)
 
   -- Its highest stripe went home, by the step for its number and for what the stripes contained.
-  abbrev pub Sends : (Name → ℕ) → WordsState → (ℕ → Stripes V → Move V) → PassState V → PassState V → Type 0
+  abbrev pub Sends : (Name → ℕ) → WordsState → (ℕ → Stripes V → Label V) → PassState V → PassState V → Type 0
   Sends hash w move p q = (stripe : StripeState V) × (p.stripes ≡ q.stripes ++ stripe ∷ []) × Steps hash w.settings (move stripe.number (reverse (contents_of p.stripes))) p.view q.view
 
   -- It looked, and was told no power below the one that it had heard.

@@ -12,8 +12,8 @@ use Rattle.ck_model.specs.Contents.{Stripes}
 use Rattle.ck_stripe.specs.Stripe.{StripeState}
 use Rattle.ck_section.specs.Stripes.{no_stripe}
 use Rattle.ck_core.specs.declared.view.View.{View}
-use Rattle.ck_core.specs.Steps.{Move, newcomer}
-use Rattle.ck_core.specs.Steps.Move.{Take, FindHeld, Look}
+use Rattle.ck_core.specs.Steps.{Label, newcomer}
+use Rattle.ck_core.specs.Steps.Label.{Take, FindHeld, Look}
 use Rattle.ck_words.specs.Rule.{StripeSlot, Hand, IsNumbered}
 use Rattle.ck_words.specs.Steps.{Steps}
 
@@ -39,7 +39,7 @@ module _ {V : Type 0} where
       × (r ≢ 0 → (m2.1 ≡ m.1) × Steps hash set (FindHeld t) m.0 m2.0)
 
   -- the stripe that the seat had first went home by this step
-  abbrev pub SeatGives : (Name → ℕ) → Settings → Move V → Hand V → Hand V → Type 0
+  abbrev pub SeatGives : (Name → ℕ) → Settings → Label V → Hand V → Hand V → Type 0
   SeatGives hash set move m m2 = (m2.1 ≡ rest m.1) × Steps hash set move m.0 m2.0
 
   -- the seat looked at the word of stripe t, and was told no power below the one that it had heard

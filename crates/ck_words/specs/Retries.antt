@@ -4,7 +4,7 @@ use Rattle.ck_model.specs.declared.history.Reason.{Reason}
 use Rattle.ck_model.specs.declared.settings.Settings.{Settings}
 use Rattle.ck_model.specs.Map.{Name}
 use Rattle.ck_model.specs.Numbered.{IsIn}
-use Rattle.ck_model.specs.History.{StartsWith, calls_by}
+use Rattle.ck_model.specs.History.{StartsWith, subhistory}
 use Rattle.ck_core.specs.declared.view.View.{View}
 use Rattle.ck_words.specs.Passes.{PassState, TakesStripe, IsIdle}
 
@@ -27,7 +27,7 @@ module _ {V : Type 0} where
     pub heard : (w.heard ≡ v.heard) × (w.heard_told ≡ v.heard_told)
     pub noroom : w.noroom ≡ more ++ v.noroom
     pub seen : StartsWith w.seen v.seen
-    pub by_others : (m : ℕ) → v.by ≡ Some m → calls_by m seen.0 ≡ []
+    pub by_others : (m : ℕ) → v.by ≡ Some m → subhistory m seen.0 ≡ []
     pub told : v.told ≤ w.told
 
   -- and it has said so of none more

@@ -11,8 +11,8 @@ use Rattle.ck_model.specs.Map.{Name}
 use Rattle.ck_model.specs.Contents.{Layout, layout_of}
 use Rattle.ck_stripe.specs.Stripe.{StripeState}
 use Rattle.ck_core.specs.declared.view.View.{View}
-use Rattle.ck_core.specs.State.{World, Law}
-use Rattle.ck_core.specs.Steps.{opener}
+use Rattle.ck_core.specs.State.{Configuration, HistoryInvariant}
+use Rattle.ck_core.specs.Steps.{initial_view}
 
 -- what a slot contains
 abbrev pub StripeSlot : Type 0 → Type 0
@@ -34,7 +34,7 @@ counting a (suc n) = a ∷ counting (suc a) n
 
 -- the first caller keeps the numbers of the others
 abbrev pub first_view : {V : Type 0} → Settings → View V
-first_view set = opener set 0 set.power (counting 1 (pred set.callers))
+first_view set = initial_view set 0 set.power (counting 1 (pred set.callers))
 
 module _ {V : Type 0} where
   -- the content of the stripe that lies in a slot, where one does
@@ -43,20 +43,20 @@ module _ {V : Type 0} where
   lying (some None) = None
   lying (some (Some stripe)) = Some stripe.content
 
-  abbrev pub world : ℕ → State (StripeSlot V) (View V) → World V
+  abbrev pub world : ℕ → State (StripeSlot V) (View V) → Configuration V
   world n s = record { words = spaced n s.words; homes = map lying s.homes; views = s.views }
 
   -- stripe t of 2^s
   abbrev pub IsNumbered : ℕ → ℕ → StripeState V → Type 0
   IsNumbered s t stripe = (stripe.number ≡ t) × (stripe.s ≡ s)
 
-  -- The law of the core with this history; eight words for each stripe; and each slot has the stripe of its number.
+  -- The invariant of the core with this history; eight words for each stripe; and each slot has the stripe of its number.
   pub record IsKept (k : Layout) (callers : ℕ) (log : List (Entry V)) (s : State (StripeSlot V) (View V)) : Type 0 where
-    pub law : Law k callers log (world (2 ^ k.s) s)
+    pub law : HistoryInvariant k callers log (world (2 ^ k.s) s)
     pub words_sized : length s.words ≡ 2 ^ k.s * 8
     pub numbered : (t : ℕ) (stripe : StripeState V) → get_elem? s.homes t ≡ some (some (Some stripe)) → IsNumbered k.s t stripe
 
-  -- there is a history with which the law holds
+  -- there is a history with which the invariant holds
   abbrev pub Rule : Layout → ℕ → State (StripeSlot V) (View V) → Type 0
   Rule k callers s = (log : List (Entry V)) × IsKept k callers log s
 

@@ -8,7 +8,7 @@ ghost use Rattle.ck_words.specs.Passes.{IsPassOf, IsIdle, ShowsSeen, slot_of, st
 ghost use Rattle.ck_words.specs.Retries.{Stays};
 ghost use Rattle.ck_words.specs.Closing.{IsWhole, IsCaller, AreAllPasses, EachStays, Gathers, Gathered, Closes};
 
-use crate::law::{Board, Place};
+use crate::law::{Board, StripeSeat};
 use crate::pass::Pass;
 use crate::words::Words;
 use ck_key::TableKey;
@@ -119,7 +119,7 @@ impl<K: TableKey + Drop, V: Drop> Words<K, V> {
 // pairs.
 fn drain<K: TableKey + Drop, V: Drop>(
     shared: &Board<K, V>,
-    seat: &mut Place<K, V>,
+    seat: &mut StripeSeat<K, V>,
     count: usize,
     pairs: &mut Vec<(K, V)>,
 )

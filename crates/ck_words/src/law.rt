@@ -1,4 +1,4 @@
-//! The law of the core as the rule of a table of words.
+//! The invariant of the core as the rule of a table of words.
 
 use atomic_table::{Seat, Shared, TableRule};
 use ck_core::view::View;
@@ -6,10 +6,10 @@ use ck_key::TableKey;
 use ck_model::settings::Settings;
 use ck_stripe::Stripe;
 
-/// The law of the core.
-pub struct Law;
+/// The invariant of the core.
+pub struct CoreRule;
 
-impl<K: TableKey, V> TableRule<Option<Stripe<K, V>>, View<V>, Settings> for Law {
+impl<K: TableKey, V> TableRule<Option<Stripe<K, V>>, View<V>, Settings> for CoreRule {
     ghost use Rattle.ck_words.specs.Rule.{RuleOf, first_view};
 
     ghost holds = { RuleOf K.hash };
@@ -17,6 +17,6 @@ impl<K: TableKey, V> TableRule<Option<Stripe<K, V>>, View<V>, Settings> for Law 
     ghost first = { first_view };
 }
 
-pub(crate) type Board<K, V> = Shared<Option<Stripe<K, V>>, View<V>, Settings, Law>;
+pub(crate) type Board<K, V> = Shared<Option<Stripe<K, V>>, View<V>, Settings, CoreRule>;
 
-pub(crate) type Place<K, V> = Seat<Option<Stripe<K, V>>, View<V>>;
+pub(crate) type StripeSeat<K, V> = Seat<Option<Stripe<K, V>>, View<V>>;

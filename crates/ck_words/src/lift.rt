@@ -4,7 +4,7 @@ ghost use Rattle.ck_words.specs.Rule.{counting};
 ghost use Rattle.ck_words.specs.Passes.{EachOf, IsPassOf, slot_of, stripes_in, held_in, numbers_of};
 ghost use Rattle.ck_words.specs.Lifting.{emptied};
 
-use crate::law::{Board, Place};
+use crate::law::{Board, StripeSeat};
 use crate::pass::Pass;
 use crate::slots::turn_by;
 use crate::words::Words;
@@ -15,7 +15,7 @@ use std::marker::Model;
 /// All stripes of a table, which one caller holds, in one list in rising order of their numbers. They stand out of their
 /// slots until `Words::lower` puts them back; it can't be dropped. Contracts see what they see of the caller's pass.
 pub struct Whole<K: TableKey, V> {
-    pub(crate) seat: Place<K, V>,
+    pub(crate) seat: StripeSeat<K, V>,
     /// The stripes.
     pub stripes: Vec<Stripe<K, V>>,
 }
@@ -75,7 +75,7 @@ impl<K: TableKey + Drop, V: Drop> Words<K, V> {
 // nothing in them.
 fn take_out<K: TableKey + Drop, V: Drop>(
     shared: &Board<K, V>,
-    seat: &mut Place<K, V>,
+    seat: &mut StripeSeat<K, V>,
     count: usize,
     list: &mut Vec<Stripe<K, V>>,
 )
@@ -102,7 +102,7 @@ fn take_out<K: TableKey + Drop, V: Drop>(
 // Puts these stripes into the slots of a seat that has nothing in them.
 fn put_back<K: TableKey + Drop, V: Drop>(
     shared: &Board<K, V>,
-    seat: &mut Place<K, V>,
+    seat: &mut StripeSeat<K, V>,
     count: usize,
     list: &mut Vec<Stripe<K, V>>,
 )

@@ -1,5 +1,5 @@
 //! A caller's token.
-use crate::law::Place;
+use crate::law::StripeSeat;
 use ck_key::TableKey;
 use ck_stripe::Stripe;
 use std::marker::Model;
@@ -11,7 +11,7 @@ use std::marker::Model;
 /// It may go to another thread, and can't be cloned.
 #[derive(Drop)]
 pub struct Pass<K: TableKey, V> {
-    pub(crate) seat: Place<K, V>,
+    pub(crate) seat: StripeSeat<K, V>,
     pub(crate) room: Vec<Stripe<K, V>>,
 }
 

@@ -7,21 +7,22 @@ ghost use Rattle.atomic_table.specs.Seated.{TableId};
 ghost use Rattle.ck_model.specs.Arithmetic.{partial_of};
 ghost use Rattle.ck_model.specs.Map.{Name};
 ghost use Rattle.ck_model.specs.Slots.{slot_at, IsFull};
-ghost use Rattle.ck_bucket.specs.Bucket.{HasName, LacksName, partial_in};
+ghost use Rattle.ck_model.specs.Paths.{partial_in};
+ghost use Rattle.ck_bucket.specs.Bucket.{HasName, LacksName};
 ghost use Rattle.ck_stripe.specs.Doubling.{doubled_content, SendsEach};
-ghost use Rattle.ck_stripe.specs.Stripe.{HasBucket, bucket_of, with_slot, IsReserved};
-ghost use Rattle.ck_section.specs.Stripes.{stripe_at, bucket_at, IsShapedAt, IsInReach};
+ghost use Rattle.ck_stripe.specs.Stripe.{HasBucket, bucket_of, with_slot, IsWellFormed, IsReserved};
+ghost use Rattle.ck_section.specs.Stripes.{stripe_at, bucket_at, IsInReach};
 ghost use Rattle.ck_words.specs.Passes.{rotated, held_in};
 ghost use Rattle.ck_words.specs.InPlace.{HoldsAt, Brings, Puts};
 
-use crate::law::{Board, Place};
+use crate::law::{Board, StripeSeat};
 use ck_key::TableKey;
 use ck_stripe::Stripe;
 use std::alloc::AllocError;
 
 // The first `n` slots go behind the others.
 #[inline(always)]
-pub(crate) fn turn_by<K: TableKey, V>(seat: &mut Place<K, V>, n: usize)
+pub(crate) fn turn_by<K: TableKey, V>(seat: &mut StripeSeat<K, V>, n: usize)
     ensures table { seat.new.table_id ≡ seat.old.table_id }
     ensures turned { seat.new.me ≡ (seat.old.me.0, rotated n seat.old.me.1) }
 {
@@ -32,7 +33,7 @@ pub(crate) fn turn_by<K: TableKey, V>(seat: &mut Place<K, V>, n: usize)
 
 // Brings stripe `i` of `count` to the front, number `t`.
 #[inline(always)]
-fn bring<K: TableKey, V>(seat: &mut Place<K, V>, count: usize, i: usize, t: usize)
+fn bring<K: TableKey, V>(seat: &mut StripeSeat<K, V>, count: usize, i: usize, t: usize)
     requires { (table : TableId) × HoldsAt table count i t seat.old }
     ensures { Brings i t seat.old seat.new }
 {
@@ -104,7 +105,7 @@ fn read_in<K: TableKey + Drop, V: Drop, R, F: FnOnce(&V) -> R>(
 #[inline(always)]
 pub(crate) fn power_at<K: TableKey + Drop, V: Drop>(
     shared: &Board<K, V>,
-    seat: &mut Place<K, V>,
+    seat: &mut StripeSeat<K, V>,
     count: usize,
     i: usize,
     t: usize,
@@ -124,14 +125,14 @@ pub(crate) fn power_at<K: TableKey + Drop, V: Drop>(
 
 pub(crate) fn len_at<K: TableKey + Drop, V: Drop>(
     shared: &Board<K, V>,
-    seat: &mut Place<K, V>,
+    seat: &mut StripeSeat<K, V>,
     count: usize,
     i: usize,
     t: usize,
 ) -> u64
     requires seat { HoldsAt shared.now.table_id count i t seat.old }
     ensures value { result ≡ (stripe_at (held_in seat.old.me.1) i).content.ledger }
-    ensures shaped { IsShapedAt (held_in seat.old.me.1) i }
+    ensures formed { IsWellFormed (stripe_at (held_in seat.old.me.1) i) }
     ensures puts { Puts i (stripe_at (held_in seat.old.me.1) i) seat.old seat.new }
 {
     bring(seat, count, i, t);
@@ -146,7 +147,7 @@ pub(crate) fn len_at<K: TableKey + Drop, V: Drop>(
 #[inline(always)]
 pub(crate) fn look_at<K: TableKey + Drop, V: Drop>(
     shared: &Board<K, V>,
-    seat: &mut Place<K, V>,
+    seat: &mut StripeSeat<K, V>,
     count: usize,
     i: usize,
     t: usize,
@@ -176,7 +177,7 @@ pub(crate) fn look_at<K: TableKey + Drop, V: Drop>(
 #[inline(always)]
 pub(crate) fn free_at<K: TableKey + Drop, V: Drop>(
     shared: &Board<K, V>,
-    seat: &mut Place<K, V>,
+    seat: &mut StripeSeat<K, V>,
     count: usize,
     i: usize,
     t: usize,
@@ -203,7 +204,7 @@ pub(crate) fn free_at<K: TableKey + Drop, V: Drop>(
 
 pub(crate) fn sketch_at<K: TableKey + Drop, V: Drop>(
     shared: &Board<K, V>,
-    seat: &mut Place<K, V>,
+    seat: &mut StripeSeat<K, V>,
     count: usize,
     i: usize,
     t: usize,
@@ -226,7 +227,7 @@ pub(crate) fn sketch_at<K: TableKey + Drop, V: Drop>(
 #[inline(always)]
 pub(crate) fn settled_at<K: TableKey + Drop, V: Drop>(
     shared: &Board<K, V>,
-    seat: &mut Place<K, V>,
+    seat: &mut StripeSeat<K, V>,
     count: usize,
     i: usize,
     t: usize,
@@ -247,7 +248,7 @@ pub(crate) fn settled_at<K: TableKey + Drop, V: Drop>(
 #[inline(always)]
 pub(crate) fn read_at<K: TableKey + Drop, V: Drop, R, F: FnOnce(&V) -> R>(
     shared: &Board<K, V>,
-    seat: &mut Place<K, V>,
+    seat: &mut StripeSeat<K, V>,
     count: usize,
     i: usize,
     t: usize,
@@ -279,7 +280,7 @@ pub(crate) fn read_at<K: TableKey + Drop, V: Drop, R, F: FnOnce(&V) -> R>(
 #[inline(always)]
 pub(crate) fn place_at<K: TableKey + Drop, V: Drop>(
     shared: &Board<K, V>,
-    seat: &mut Place<K, V>,
+    seat: &mut StripeSeat<K, V>,
     count: usize,
     i: usize,
     t: usize,
@@ -312,7 +313,7 @@ pub(crate) fn place_at<K: TableKey + Drop, V: Drop>(
 #[inline(always)]
 pub(crate) fn remove_at<K: TableKey + Drop, V: Drop>(
     shared: &Board<K, V>,
-    seat: &mut Place<K, V>,
+    seat: &mut StripeSeat<K, V>,
     count: usize,
     i: usize,
     t: usize,
@@ -343,7 +344,7 @@ pub(crate) fn remove_at<K: TableKey + Drop, V: Drop>(
 #[inline(always)]
 pub(crate) fn replace_at<K: TableKey + Drop, V: Drop>(
     shared: &Board<K, V>,
-    seat: &mut Place<K, V>,
+    seat: &mut StripeSeat<K, V>,
     count: usize,
     i: usize,
     t: usize,
@@ -375,7 +376,7 @@ pub(crate) fn replace_at<K: TableKey + Drop, V: Drop>(
 #[inline(always)]
 pub(crate) fn change_at<K: TableKey + Drop, V: Drop, F: FnOnce(V) -> V>(
     shared: &Board<K, V>,
-    seat: &mut Place<K, V>,
+    seat: &mut StripeSeat<K, V>,
     count: usize,
     i: usize,
     t: usize,
@@ -406,7 +407,7 @@ pub(crate) fn change_at<K: TableKey + Drop, V: Drop, F: FnOnce(V) -> V>(
 
 pub(crate) fn settle_at<K: TableKey + Drop, V: Drop>(
     shared: &Board<K, V>,
-    seat: &mut Place<K, V>,
+    seat: &mut StripeSeat<K, V>,
     count: usize,
     i: usize,
     t: usize,
@@ -425,7 +426,7 @@ pub(crate) fn settle_at<K: TableKey + Drop, V: Drop>(
 
 pub(crate) fn reserve_double_at<K: TableKey + Drop, V: Drop>(
     shared: &Board<K, V>,
-    seat: &mut Place<K, V>,
+    seat: &mut StripeSeat<K, V>,
     count: usize,
     i: usize,
     t: usize,
@@ -449,7 +450,7 @@ pub(crate) fn reserve_double_at<K: TableKey + Drop, V: Drop>(
 
 pub(crate) fn double_at<K: TableKey + Drop, V: Drop>(
     shared: &Board<K, V>,
-    seat: &mut Place<K, V>,
+    seat: &mut StripeSeat<K, V>,
     count: usize,
     i: usize,
     t: usize,

@@ -4,7 +4,7 @@ ghost use Rattle.std.specs.Prelude.{◌≡◌, ◌<◌, ◌^◌, Some, None, rev
 ghost use Rattle.ck_model.specs.Numbered.{numbers};
 ghost use Rattle.ck_model.specs.Contents.{layout_of, Lawful};
 ghost use Rattle.ck_model.specs.Sections.{Section, IdentitySection};
-ghost use Rattle.ck_core.specs.Steps.{Move, IsAbove, IsExcused, HasGrounds};
+ghost use Rattle.ck_core.specs.Steps.{Label, IsAbove, IsExcused, HasGrounds};
 ghost use Rattle.ck_section.specs.Stripes.{contents_of};
 ghost use Rattle.ck_words.specs.Passes.{IsPassOf, IsHighest, IsUnchanged, TriesStripe, Sends, LooksUp};
 
@@ -48,7 +48,7 @@ pub struct Give<J> {
 
 impl<K: TableKey, V, J: Refuses> Play<Option<Stripe<K, V>>, View<V>> for Give<J> {
     ghost use Rattle.std.specs.Prelude.{◌/◌};
-    ghost use Rattle.ck_core.specs.Steps.Move.{Give};
+    ghost use Rattle.ck_core.specs.Steps.Label.{Give};
     ghost use Rattle.ck_words.specs.Plays.{SeatGives};
 
     ghost then = { λ st m _ m2. SeatGives K.hash m.0.settings (Give (st.word / 8) J.refused) m m2 };
@@ -61,7 +61,7 @@ pub struct Renew<J> {
 
 impl<K: TableKey, V, J: Refuses> Play<Option<Stripe<K, V>>, View<V>> for Renew<J> {
     ghost use Rattle.std.specs.Prelude.{◌/◌};
-    ghost use Rattle.ck_core.specs.Steps.Move.{Renew};
+    ghost use Rattle.ck_core.specs.Steps.Label.{Renew};
     ghost use Rattle.ck_words.specs.Plays.{SeatGives, contents_in};
 
     ghost then = { λ st m _ m2. SeatGives K.hash m.0.settings
@@ -88,7 +88,7 @@ pub struct Decide<J> {
 
 impl<K: TableKey, V, J: Says<V>> Play<Option<Stripe<K, V>>, View<V>> for Decide<J> {
     ghost use Rattle.std.specs.Prelude.{◌/◌};
-    ghost use Rattle.ck_core.specs.Steps.Move.{Decide};
+    ghost use Rattle.ck_core.specs.Steps.Label.{Decide};
     ghost use Rattle.ck_words.specs.Plays.{SeatGives, contents_in};
 
     ghost then = { λ st m _ m2. SeatGives K.hash m.0.settings
@@ -135,7 +135,7 @@ impl<K: TableKey + Drop, V: Drop> Words<K, V> {
             (contents_of pass.old.stripes) → IsExcused (layout_of K.hash
             self.now.settings) self.now.settings.min_load (contents_of pass.old.stripes) J.refused }
         ensures own { IsPassOf self.now pass.new }
-        ensures step { Sends K.hash self.now (λ t _. Move.Give t J.refused) pass.old pass.new }
+        ensures step { Sends K.hash self.now (λ t _. Label.Give t J.refused) pass.old pass.new }
         ensures unchanged { IsUnchanged pass.new }
     {
         let _ = said;
@@ -150,7 +150,7 @@ impl<K: TableKey + Drop, V: Drop> Words<K, V> {
         requires highest { IsHighest t pass.old.stripes }
         requires unchanged { IsUnchanged pass.old }
         ensures own { IsPassOf self.now pass.new }
-        ensures step { Sends K.hash self.now (λ t _. Move.GiveRest t) pass.old pass.new }
+        ensures step { Sends K.hash self.now (λ t _. Label.GiveRest t) pass.old pass.new }
         ensures unchanged { IsUnchanged pass.new }
     {
         self.give::<Brand, ()>(pass, t, &());
@@ -168,7 +168,7 @@ impl<K: TableKey + Drop, V: Drop> Words<K, V> {
             → Section (layout_of K.hash self.now.settings) (reverse
             pass.old.view.held) J.entry.call J.entry.reply (contents_of pass.old.stripes) }
         ensures own { IsPassOf self.now pass.new }
-        ensures step { Sends K.hash self.now (λ t ks. Move.Decide t ks J.entry) pass.old pass.new }
+        ensures step { Sends K.hash self.now (λ t ks. Label.Decide t ks J.entry) pass.old pass.new }
         ensures unchanged { IsUnchanged pass.new }
     {
         let _ = said;
@@ -191,7 +191,8 @@ impl<K: TableKey + Drop, V: Drop> Words<K, V> {
             → HasGrounds (layout_of K.hash
             self.now.settings) self.now.settings.min_load (contents_of pass.old.stripes) J.refused }
         ensures own { IsPassOf self.now pass.new }
-        ensures step { Sends K.hash self.now (λ t ks. Move.Renew t ks J.refused) pass.old pass.new }
+        ensures step { Sends K.hash self.now
+            (λ t ks. Label.Renew t ks J.refused) pass.old pass.new }
         ensures unchanged { IsUnchanged pass.new }
     {
         let _ = said;

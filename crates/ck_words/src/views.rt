@@ -14,11 +14,11 @@ use ck_key::TableKey;
 pub struct Tell;
 
 impl<V> Split<View<V>> for Tell {
-    ghost use Rattle.ck_core.specs.Steps.{messenger};
+    ghost use Rattle.ck_core.specs.Steps.{message_of};
 
     ghost left = { λ v. v };
 
-    ghost right = { messenger };
+    ghost right = { message_of };
 }
 
 impl<V> Join<View<V>> for Tell {

@@ -1,5 +1,5 @@
 //! The lock words, and the steps on them.
-use crate::law::Law;
+use crate::law::CoreRule;
 use atomic_table::Table;
 use ck_core::view::View;
 use ck_key::TableKey;
@@ -11,7 +11,7 @@ use std::marker::Model;
 /// A lock word and a slot for each stripe. Contracts see which table it is, and its settings.
 #[derive(Drop)]
 pub struct Words<K: TableKey, V> {
-    pub(crate) table: Table<Option<Stripe<K, V>>, View<V>, Settings, Law, Global>,
+    pub(crate) table: Table<Option<Stripe<K, V>>, View<V>, Settings, CoreRule, Global>,
     pub(crate) settings: Settings,
 }
 

@@ -1,4 +1,4 @@
-use Rattle.ck_core.specs.Steps.Move.{Decide}
+use Rattle.ck_core.specs.Steps.Label.{Decide}
 use Rattle.ck_core.proofs.Statements.{law_of_step}
 use Rattle.ck_core.proofs.Answered.{law_of_replies}
 use Rattle.ck_core.proofs.laws.law_of_decide.Goals as goal

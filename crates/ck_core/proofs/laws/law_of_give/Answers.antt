@@ -1,4 +1,4 @@
-use Rattle.ck_core.specs.Steps.Move.{Give}
+use Rattle.ck_core.specs.Steps.Label.{Give}
 use Rattle.ck_core.proofs.Statements.{law_of_step}
 use Rattle.ck_core.proofs.laws.law_of_give.Goals as goal
 

@@ -1,4 +1,4 @@
-use Rattle.ck_core.specs.Steps.Move.{Look}
+use Rattle.ck_core.specs.Steps.Label.{Look}
 use Rattle.ck_core.proofs.Statements.{law_of_step}
 use Rattle.ck_core.proofs.laws.law_of_look.Goals as goal
 

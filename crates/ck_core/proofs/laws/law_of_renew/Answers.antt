@@ -1,4 +1,4 @@
-use Rattle.ck_core.specs.Steps.Move.{Renew}
+use Rattle.ck_core.specs.Steps.Label.{Renew}
 use Rattle.ck_core.proofs.Statements.{law_of_step}
 use Rattle.ck_core.proofs.laws.law_of_renew.Goals as goal
 

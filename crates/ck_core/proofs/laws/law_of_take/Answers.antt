@@ -1,4 +1,4 @@
-use Rattle.ck_core.specs.Steps.Move.{Take}
+use Rattle.ck_core.specs.Steps.Label.{Take}
 use Rattle.ck_core.proofs.Statements.{law_of_step}
 use Rattle.ck_core.proofs.laws.law_of_take.Goals as goal
 

@@ -4,7 +4,7 @@ use Rattle.ck_oracle.specs.declared.stripes.PlainStripe.{PlainStripe}
 use Rattle.ck_model.specs.Numbered.{numbers}
 use Rattle.ck_oracle.specs.Plain.{stripes_of, content_of}
 use Rattle.ck_core.specs.declared.view.View.{View}
-use Rattle.ck_core.specs.State.{World}
+use Rattle.ck_core.specs.State.{Configuration}
 use Rattle.ck_core.specs.Steps.{IsAbove}
 use Rattle.ck_oracle_steps.specs.Plain.{view_of, world_of, plain_layout}
 use Rattle.ck_oracle_steps.proofs.PlainViews.{not_both}
@@ -29,7 +29,7 @@ returns c =
     let v = view_of c.in_ok-view.view.now in
     let content = content_of c.in_ok-content.content.now in
     let held = ap (λ (l : List PlainStripe). numbers (stripes_of l)) c.deref.ensures.value in
-    let leaves : View ℕ → World ℕ = λ w. record { words = set s.words c.args.stripe 1; homes = set s.homes c.args.stripe None; views = set s.views claim.id w } in
+    let leaves : View ℕ → Configuration ℕ = λ w. record { words = set s.words c.args.stripe 1; homes = set s.homes c.args.stripe None; views = set s.views claim.id w } in
     let left = ap leaves c.taking.ensures in (
       λ t. (
         v,

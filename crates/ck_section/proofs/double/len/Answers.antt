@@ -1,8 +1,8 @@
 use Rattle.std.proofs.Common.{◌≡◌, ◌<◌, ◌≤◌, ◌+◌, ◌*◌, ◌^◌, ◌∙◌, List, ap, length, sym, arith}
 use Rattle.std.proofs.Math.Facts.{Fits-bits}
 use Rattle.std.proofs.Math.Nat.{pow-le-pow_right}
-use Rattle.ck_model.specs.Contents.{pairs_in}
-use Rattle.ck_stripe.specs.Stripe.{StripeState, IsShaped}
+use Rattle.ck_model.specs.Contents.{pairs_in, IsShaped}
+use Rattle.ck_stripe.specs.Stripe.{StripeState}
 use Rattle.ck_stripe.proofs.Writes.{few_entries}
 use Rattle.ck_section.specs.Stripes.{stripe_at}
 use Rattle.ck_section.proofs.Table.{entries_more, entries_all, counts_all}
@@ -11,7 +11,7 @@ use Rattle.ck_section.proofs.double.len.Goals as goal
 pub overflow_add-entries : goal.overflow_add-entries
 overflow_add-entries g c =
     let t : StripeState g.row.V.Denot = stripe_at (g.H.Held.stripes c.loop-i.held) c.loop-i.i in
-    let here : t.content.ledger ≤ 4 * 2 ^ 26 = few_entries t.s t.number t.content c.len-entries.ensures.shaped in
+    let here : t.content.ledger ≤ 4 * 2 ^ 26 = few_entries t.s t.content c.len-entries.ensures.formed.shaped c.len-entries.ensures.formed.most in
     let value : c.len-entries.result ≡ t.content.ledger = c.len-entries.ensures.value in
     let all : 2 ^ c.args.s ≤ 2 ^ 10 = pow-le-pow_right {n = 2} (omega arith) c.requires.many in
     let small : c.loop-i.entries + c.len-entries.result < 2 ^ 39 = omega (arith, c.loop-i.invariant.few) in
@@ -22,8 +22,8 @@ loop-i-preserved g c =
     let stripes : List (StripeState g.row.V.Denot) = g.H.Held.stripes c.args.held.now in
     let i = c.loop-i.i in
     let t : StripeState g.row.V.Denot = stripe_at (g.H.Held.stripes c.loop-i.held) i in
-    let shaped : IsShaped t.s t.number t.content = c.len-entries.ensures.shaped in
-    let here : t.content.ledger ≤ 4 * 2 ^ 26 = few_entries t.s t.number t.content shaped in
+    let shaped : IsShaped t.s t.content = c.len-entries.ensures.formed.shaped in
+    let here : t.content.ledger ≤ 4 * 2 ^ 26 = few_entries t.s t.content shaped c.len-entries.ensures.formed.most in
     let value : c.len-entries.result ≡ t.content.ledger = c.len-entries.ensures.value in
     let inside : i < length stripes = omega (arith, c.requires.count) in
     let pairs : c.len-entries.result ≡ length (pairs_in (stripe_at stripes i).content) = value ∙ shaped.ledger ∙ ap (λ (l : List (StripeState g.row.V.Denot)). length (pairs_in (stripe_at l i).content)) c.loop-i.invariant.same in

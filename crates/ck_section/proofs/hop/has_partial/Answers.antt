@@ -3,7 +3,7 @@ use Rattle.std.specs.Option.{option_eq, option_flatten}
 use Rattle.std.specs.Bool.{OnTrue}
 use Rattle.std.proofs.Common.{arith, ◌≤◌}
 use Rattle.ck_model.specs.Slots.{Slot}
-use Rattle.ck_bucket.specs.Bucket.{partial_in}
+use Rattle.ck_model.specs.Paths.{partial_in}
 use Rattle.ck_section.specs.Stripes.{bucket_at}
 use Rattle.ck_section.specs.Places.{slot_in}
 use Rattle.ck_section.specs.Hops.{HasPartial, source_in}

@@ -11,4 +11,4 @@ pub returns-clause-bindings : goal.returns-clause-bindings
 returns-clause-bindings g c = found_doubled
 
 pub returns-clause-sends : goal.returns-clause-sends
-returns-clause-sends g c = λ k t content sound. sends_doubled k.hash k.s t content sound.least sound.rows
+returns-clause-sends g c = λ k t content sound. sends_doubled k.hash k.s t content sound.shaped.least sound.shaped.rows

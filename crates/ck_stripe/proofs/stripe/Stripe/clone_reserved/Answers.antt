@@ -1,4 +1,4 @@
-use Rattle.std.proofs.Common.{◌≡◌, ◌+◌, ◌<◌, ◌≤◌, ◌++◌, List, sym, ◌∙◌, ap, flat_map, length, map, take, arith}
+use Rattle.std.proofs.Common.{◌+◌, ◌≤◌, ◌++◌, List, sym, ◌∙◌, ap, flat_map, length, map, arith}
 use Rattle.std.specs.Prelude.{vec_capacity}
 use Rattle.std.proofs.lemmas.List.{take_all}
 use Rattle.ck_model.specs.Map.{named}

@@ -8,7 +8,7 @@ use Rattle.ck_stripe.proofs.stripe.Stripe.place.Goals as goal
 
 pub overflow_add-self : goal.overflow_add-self
 overflow_add-self g c =
-    let few = few_entries c.args.self.now.s c.args.self.now.number c.args.self.now.content c.row-row.ensures.shaped in
+    let few = few_entries c.args.self.now.s c.args.self.now.content c.row-row.ensures.formed.shaped c.row-row.ensures.formed.most in
     let entries = ap (λ (w : StripeState g.row.V.Denot). w.content.ledger) c.self.view_is in
     omega arith
 

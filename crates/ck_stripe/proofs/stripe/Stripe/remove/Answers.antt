@@ -7,7 +7,7 @@ use Rattle.ck_stripe.proofs.stripe.Stripe.remove.Goals as goal
 
 pub overflow_sub-self : goal.overflow_sub-self
 overflow_sub-self g c =
-    let some = some_entry c.args.self.now c.args.b c.row-row.result c.args.slot c.row-row.ensures.shaped c.row-row.ensures.value c.row-row.ensures.below c.requires.below c.requires.full in
+    let some = some_entry c.args.self.now c.args.b c.row-row.result c.args.slot c.row-row.ensures.formed.shaped c.row-row.ensures.value c.row-row.ensures.below c.requires.below c.requires.full in
     let entries = ap (λ (w : StripeState g.row.V.Denot). w.content.ledger) c.self.view_is in
     omega arith
 
@@ -16,6 +16,6 @@ invariant_of-self g c =
     let stored : StripeState g.row.V.Denot = state_from c.self.inside.number c.self.inside.s c.self.inside.power c.self.inside.buckets.items c.self.inside.ledger c.self.inside.settled (vec_capacity c.self.inside.buckets) in
     let entries = ap (λ (w : StripeState g.row.V.Denot). w.content.ledger) c.self.view_is in
     let one = one_full (slot_at (bucket_of c.args.self.now c.args.b) c.args.slot) c.requires.full in
-    let some = some_entry c.args.self.now c.args.b c.row-row.result c.args.slot c.row-row.ensures.shaped c.row-row.ensures.value c.row-row.ensures.below c.requires.below c.requires.full in
+    let some = some_entry c.args.self.now c.args.b c.row-row.result c.args.slot c.row-row.ensures.formed.shaped c.row-row.ensures.value c.row-row.ensures.below c.requires.below c.requires.full in
     slot_written g.K.TableKey.hash stored c.args.self.now c.self.invariant c.self.view_is c.requires.settled c.args.b c.row-row.result c.row-row.ensures.value c.row-row.ensures.below c.args.slot c.requires.below c.index_mut.result.now
     c.take-entry.new.self c.index_mut.ensures.value None c.take-entry.ensures.rest (c.self.inside.ledger - 1) (omega arith)

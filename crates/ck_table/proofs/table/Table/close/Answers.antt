@@ -11,7 +11,7 @@ returns-in-Ok-clause-pairs g c =
     let closed = c.in-Ok.ensures.closed in (
       closed.log,
       from_entries (map (named g.K.TableKey.name) c.in-Ok.pairs.items),
-      closed.shuffle,
+      closed.interleaving,
       closed.saw,
       closed.after,
       lists_in_order g.K.TableKey.name g.K.Ord.cmp g.met.K.Ord.total

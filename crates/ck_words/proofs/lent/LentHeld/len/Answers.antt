@@ -1,6 +1,7 @@
 use Rattle.std.proofs.Common.{refl, subst, ap, ◌∙◌}
 use Rattle.ck_words.specs.Passes.{PassState}
-use Rattle.ck_section.specs.Stripes.{stripe_at, IsShapedAt}
+use Rattle.ck_stripe.specs.Stripe.{IsWellFormed}
+use Rattle.ck_section.specs.Stripes.{stripe_at}
 use Rattle.ck_words.specs.Lending.{list_of}
 use Rattle.ck_words.proofs.Seating.{ready_on}
 use Rattle.ck_words.proofs.Turning.{seated_puts, puts-same}
@@ -29,5 +30,5 @@ returns-clause-same g c = puts-same _ _ _ c.len_at.ensures.puts ∙ ap (λ (p : 
 pub returns-clause-value : goal.returns-clause-value
 returns-clause-value g c = c.len_at.ensures.value ∙ ap (λ (p : PassState g.row.V.Denot). (stripe_at p.stripes c.args.i).content.ledger) c.pass.view_is
 
-pub returns-clause-shaped : goal.returns-clause-shaped
-returns-clause-shaped g c = subst (λ (p : PassState g.row.V.Denot). IsShapedAt p.stripes c.args.i) c.pass.view_is c.len_at.ensures.shaped
+pub returns-clause-formed : goal.returns-clause-formed
+returns-clause-formed g c = subst (λ (p : PassState g.row.V.Denot). IsWellFormed (stripe_at p.stripes c.args.i)) c.pass.view_is c.len_at.ensures.formed

@@ -1,4 +1,4 @@
-use Rattle.ck_core.specs.Steps.Move.{Give}
+use Rattle.ck_core.specs.Steps.Label.{Give}
 use Rattle.ck_words.proofs.Seating.{ready_on}
 use Rattle.ck_words.proofs.Takes.{fits, same_table, word_inside}
 use Rattle.ck_words.proofs.Gives.{Went, last_of, inside, word_fits, give_ready, give_went}

@@ -1,6 +1,6 @@
 use Rattle.std.proofs.Common.{◌≡◌, ◌∙◌, ap, refl}
 use Rattle.ck_model.specs.Contents.{layout_of}
-use Rattle.ck_core.specs.Steps.{messenger}
+use Rattle.ck_core.specs.Steps.{message_of}
 use Rattle.ck_words.specs.Rule.{Hand}
 use Rattle.ck_words.specs.Passes.{PassState, state_of}
 use Rattle.ck_words.proofs.Meets.{heard, meets}
@@ -35,6 +35,6 @@ returns-clause-met g c =
     let b = c.args.b.now in
     let z = c.join_seat.new.seat.table_id in
     let me : Hand g.row.V.Denot = c.join_seat.new.seat.me in
-    let told : c.split_seat-told.result.me.0 ≡ messenger a.view = ap (λ (m : Hand g.row.V.Denot). m.0) c.split_seat-told.ensures.4 ∙ ap (λ (p : PassState g.row.V.Denot). messenger p.view) c.a.view_is in
-    let is : state_of z me ≡ heard b (messenger a.view) = (λ i. state_of (c.join_seat.ensures.0 i) (c.join_seat.ensures.2 i)) ∙ (λ i. heard (c.b.view_is i) (told i)) in
+    let told : c.split_seat-told.result.me.0 ≡ message_of a.view = ap (λ (m : Hand g.row.V.Denot). m.0) c.split_seat-told.ensures.4 ∙ ap (λ (p : PassState g.row.V.Denot). message_of p.view) c.a.view_is in
+    let is : state_of z me ≡ heard b (message_of a.view) = (λ i. state_of (c.join_seat.ensures.0 i) (c.join_seat.ensures.2 i)) ∙ (λ i. heard (c.b.view_is i) (told i)) in
     meets g.K.TableKey.hash c.args.self.now (state_of z me) c.look.new.pass a b is c.look.ensures.step
