@@ -3,7 +3,7 @@
 
 use anyhow::{Context, Result};
 use cuckoo_map::{Busy, Caller, NumKey, Settings, Table};
-use std::thread;
+use std::thread::{self, Threads};
 
 const SETTINGS: Settings = Settings {
     s: 4,
@@ -68,15 +68,21 @@ fn work(teller: &mut Teller<'_>) -> Result<(), Busy> {
     Ok(())
 }
 
+/// Lets each teller work in a thread of its own.
+fn work_all(rt: &(impl Threads + Sync), tellers: Vec<Teller<'_>>) -> Result<()> {
+    for done in thread::map_vec(rt, tellers, &|mut teller| work(&mut teller))? {
+        done?;
+    }
+    Ok(())
+}
+
 fn main(rt: HostRuntime) -> Result<()> {
     let (table, passes) = Table::<NumKey, u64>::open(rt.alloc(), SETTINGS)?;
     let mut tellers = table.callers(rt.alloc(), passes)?;
     let mut auditor = tellers.pop().context("no caller")?;
     open(&mut auditor)?;
     let before = total(&mut auditor)?;
-    for done in thread::map_vec(&rt, tellers, &|mut teller| work(&mut teller))? {
-        done?;
-    }
+    work_all(&rt, tellers)?;
     let after = total(&mut auditor)?;
     println!(rt; "{before} before, {after} after")?;
     Ok(())

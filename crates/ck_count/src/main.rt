@@ -4,7 +4,7 @@
 use anyhow::{Context, Result};
 use cuckoo_map::{Caller, Settings, Table, TextKey};
 use std::alloc::Global;
-use std::thread;
+use std::thread::{self, Threads};
 
 const SETTINGS: Settings = Settings {
     s: 4,
@@ -47,19 +47,29 @@ fn count_of(alloc: Global, counter: &mut Counter<'_>, word: &str) -> Result<u64>
     Ok(count.unwrap_or(0))
 }
 
-fn main(rt: HostRuntime) -> Result<()> {
-    let alloc = rt.alloc();
-    let (table, passes) = Table::<TextKey, u64>::open(alloc, SETTINGS)?;
-    let mut counters = table.callers(alloc, passes)?;
-    let mut asker = counters.pop().context("no caller")?;
+/// Counts each part of the text in a thread of its own.
+fn count_all(rt: &(impl Threads + Sync), alloc: Global, counters: Vec<Counter<'_>>) -> Result<()> {
     let jobs: Vec<(Counter<'_>, &[&str])> = counters.into_iter().zip(PARTS).collect(alloc)?;
     let work = |(mut counter, lines): (Counter<'_>, &[&str])| count(alloc, &mut counter, lines);
-    for done in thread::map_vec(&rt, jobs, &work)? {
+    for done in thread::map_vec(rt, jobs, &work)? {
         done?;
     }
+    Ok(())
+}
+
+/// Prints how often each of the words was counted.
+fn print_counts(rt: &HostRuntime, asker: &mut Counter<'_>) -> Result<()> {
     for word in WORDS {
-        let count = count_of(alloc, &mut asker, word)?;
+        let count = count_of(rt.alloc(), asker, word)?;
         println!(rt; "{word} {count}")?;
     }
     Ok(())
+}
+
+fn main(rt: HostRuntime) -> Result<()> {
+    let (table, passes) = Table::<TextKey, u64>::open(rt.alloc(), SETTINGS)?;
+    let mut counters = table.callers(rt.alloc(), passes)?;
+    let mut asker = counters.pop().context("no caller")?;
+    count_all(&rt, rt.alloc(), counters)?;
+    print_counts(&rt, &mut asker)
 }

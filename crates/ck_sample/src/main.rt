@@ -2,7 +2,7 @@
 #![tactic(auto)]
 
 use anyhow::Result;
-use cuckoo_map::{NumKey, Settings, Table};
+use cuckoo_map::{Caller, NumKey, Settings, Table};
 
 const SETTINGS: Settings = Settings {
     s: 4, // 2^4 stripes, each with a lock of its own
@@ -13,6 +13,18 @@ const SETTINGS: Settings = Settings {
     rounds: 4,
     min_load: 5,
 };
+
+/// Counts the keys. A caller that has locked the table has it alone until it unlocks it.
+fn count(caller: Caller<'_, NumKey, u64>) -> Result<u64> {
+    match caller.lock() {
+        Ok(locked) => {
+            let count = locked.len();
+            locked.unlock();
+            Ok(count)
+        }
+        Err((_, busy)) => Err(busy.into()),
+    }
+}
 
 fn main(rt: HostRuntime) -> Result<()> {
     let (table, passes) = Table::<NumKey, u64>::open(rt.alloc(), SETTINGS)?;
@@ -28,15 +40,7 @@ fn main(rt: HostRuntime) -> Result<()> {
         }
     }
     for caller in callers {
-        // A caller that has locked the table has it alone until it unlocks it.
-        match caller.lock() {
-            Ok(locked) => {
-                let count = locked.len();
-                locked.unlock();
-                println!(rt; "{count}")?;
-            }
-            Err((_, busy)) => return Err(busy.into()),
-        }
+        println!(rt; "{}", count(caller)?)?;
     }
     Ok(())
 }
