@@ -14,7 +14,7 @@ const SETTINGS: Settings = Settings {
     min_load: 5,
 };
 
-/// Counts the keys. A caller that has locked the table has it alone until it unlocks it.
+/// Counts the keys, while the table is the caller's alone.
 fn count(caller: Caller<'_, NumKey, u64>) -> Result<u64> {
     match caller.lock() {
         Ok(locked) => {
@@ -28,7 +28,7 @@ fn count(caller: Caller<'_, NumKey, u64>) -> Result<u64> {
 
 fn main(rt: HostRuntime) -> Result<()> {
     let (table, passes) = Table::<NumKey, u64>::open(rt.alloc(), SETTINGS)?;
-    // Each caller has a pass of its own, and may go to another thread.
+    // Each caller may go to another thread.
     let mut callers = table.callers(rt.alloc(), passes)?;
     for caller in &mut callers {
         let fresh = caller.upsert(NumKey(5), |value| value.saturating_add(1), 50)?;

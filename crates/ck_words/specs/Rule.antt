@@ -1,4 +1,4 @@
--- The core's law as the rule of a table of words and slots.
+-- The core's invariant as the rule of a table of words and slots.
 use Rattle.std.specs.Prelude.{◌≡◌, ℕ, zero, suc, pred, ◌*◌, ◌^◌, List, [], ◌∷◌, map, drop, length, slice_index, Option, Some, None}
 use mathlib.Core.Option.{none, some}
 use mathlib.Core.Option as maybe

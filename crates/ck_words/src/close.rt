@@ -8,8 +8,8 @@ ghost use Rattle.ck_words.specs.Passes.{IsPassOf, IsIdle, ShowsSeen, slot_of, st
 ghost use Rattle.ck_words.specs.Retries.{Stays};
 ghost use Rattle.ck_words.specs.Closing.{IsWhole, IsCaller, AreAllPasses, EachStays, Gathers, Gathered, Closes};
 
-use crate::law::{Board, StripeSeat};
 use crate::pass::Pass;
+use crate::rule::{Board, StripeSeat};
 use crate::words::Words;
 use ck_key::TableKey;
 use std::alloc::Global;

@@ -4,13 +4,13 @@
 mod acquire;
 mod close;
 mod commit;
-mod law;
 mod lent;
 mod lift;
 mod open;
 mod pass;
 mod power;
 mod release;
+mod rule;
 mod settle;
 mod size;
 mod slots;

@@ -4,8 +4,8 @@ ghost use Rattle.ck_words.specs.Rule.{counting};
 ghost use Rattle.ck_words.specs.Passes.{EachOf, IsPassOf, slot_of, stripes_in, held_in, numbers_of};
 ghost use Rattle.ck_words.specs.Lifting.{emptied};
 
-use crate::law::{Board, StripeSeat};
 use crate::pass::Pass;
+use crate::rule::{Board, StripeSeat};
 use crate::slots::turn_by;
 use crate::words::Words;
 use ck_key::TableKey;

@@ -1,5 +1,5 @@
 //! A caller's token.
-use crate::law::StripeSeat;
+use crate::rule::StripeSeat;
 use ck_key::TableKey;
 use ck_stripe::Stripe;
 use std::marker::Model;

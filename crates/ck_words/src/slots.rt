@@ -15,7 +15,7 @@ ghost use Rattle.ck_section.specs.Stripes.{stripe_at, bucket_at, IsInReach};
 ghost use Rattle.ck_words.specs.Passes.{rotated, held_in};
 ghost use Rattle.ck_words.specs.InPlace.{HoldsAt, Brings, Puts};
 
-use crate::law::{Board, StripeSeat};
+use crate::rule::{Board, StripeSeat};
 use ck_key::TableKey;
 use ck_stripe::Stripe;
 use std::alloc::AllocError;

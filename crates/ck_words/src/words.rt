@@ -1,5 +1,5 @@
 //! The lock words, and the steps on them.
-use crate::law::CoreRule;
+use crate::rule::CoreRule;
 use atomic_table::Table;
 use ck_core::view::View;
 use ck_key::TableKey;
