@@ -118,7 +118,7 @@ const ONE_PAIR_OF_BUCKETS: &[Step] = &[
     Step::Second(Call::Find(9 * APART), Reply::Was(None)),
 ];
 
-const RUNS: [Run; 14] = [
+static RUNS: [Run; 14] = [
     Run {
         what: "after they met, one caller finds what the other has bound",
         shape: SIXTEEN_BUCKETS,

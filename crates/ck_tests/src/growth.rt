@@ -22,7 +22,7 @@ use Size::{Power, Slots};
 type Row = (Size, Result<bool, GrowFault>, u32);
 
 /// In a table of four buckets, which may have 2^20.
-const ROWS: [Row; 12] = [
+static ROWS: [Row; 12] = [
     (Slots(16), Ok(false), 2),
     (Slots(17), Ok(true), 3),
     (Power(3), Ok(false), 3),
@@ -38,7 +38,7 @@ const ROWS: [Row; 12] = [
 ];
 
 /// In a table of four buckets, which may have 2^26.
-const LARGE_ROWS: [Row; 4] = [
+static LARGE_ROWS: [Row; 4] = [
     (Power(27), Err(GrowFault::OverMax), 2),
     (Slots(268_435_457), Err(GrowFault::OverMax), 2),
     (Slots(9), Ok(false), 2),

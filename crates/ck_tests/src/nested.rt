@@ -135,7 +135,7 @@ const TWO_FULL_BUCKETS: &[Row] = &[
     (Call::Insert(13, 8), Reply::Fresh(true)),
 ];
 
-const SCENES: [Scene; 6] = [
+static SCENES: [Scene; 6] = [
     // Stripe 3 is found held, whichever call wants it, and the others are free.
     Scene {
         what: "a held stripe",

@@ -60,7 +60,7 @@ struct Row {
     done: u32,
 }
 
-const ROWS: [Row; 5] = [
+static ROWS: [Row; 5] = [
     Row {
         what: "two doublings of two stripes",
         subject: Subject::Rehash,

@@ -165,7 +165,7 @@ fn hop_among(held: &mut NumSlice<'_>, s: u32, hop: Hop) -> bool
 type Row = (u64, Act, Option<u64>);
 
 /// At power 2 the keys 3, 7, 11, 15 and 19 have bucket 3 alone, 1 has buckets 1 and 3, and 5 has buckets 1 and 3 too.
-const ONE_KEY: [Row; 28] = [
+static ONE_KEY: [Row; 28] = [
     (9, Act::Update(1), None),
     (9, Act::Insert(1), Some(1)),
     (9, Act::Update(2), Some(1)),
@@ -219,7 +219,7 @@ fn one_key(rt: HostRuntime) -> Result<(), Fail> {
 /// Two keys, whether both are bound, and what they have then.
 type Pair = (u64, u64, bool, Option<u64>, Option<u64>);
 
-const TWO_KEYS: [Pair; 5] = [
+static TWO_KEYS: [Pair; 5] = [
     (0, u64::MAX, true, Some(11), Some(19)),
     (u64::MAX, 0, true, Some(20), Some(10)),
     (3, 0, true, Some(31), Some(9)),

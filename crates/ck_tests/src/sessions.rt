@@ -75,7 +75,7 @@ const MAY_GROW: Shape = Shape {
 /// Keys `b` times this have partial 0 and the bucket 0 at each power up to 40, so they all have the same two buckets.
 const APART: u64 = 282_574_488_338_432;
 
-const SESSIONS: [Session; 3] = [
+static SESSIONS: [Session; 3] = [
     Session {
         what: "a bound key keeps its value",
         shape: MAY_GROW,
