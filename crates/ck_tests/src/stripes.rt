@@ -95,7 +95,7 @@ fn check(rt: &impl Abort, alloc: Global, row: &Row) -> Result<(), Fail> {
 }
 
 /// At power 2 the keys 3, 7, 11 and 15 have one bucket only, and at power 3 two.
-static ROWS: [Row; 2] = [
+const ROWS: [Row; 2] = [
     Row {
         entries: [(3, 0, 3), (3, 1, 7), (3, 2, 11), (3, 3, 15), (1, 2, 2)],
         after: [
