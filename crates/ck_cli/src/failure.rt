@@ -1,18 +1,15 @@
 //! How the program fails.
-use ck_script::ScriptFault;
-use clap::error::ErrorKind;
+use ck_format::ScriptFault;
+use ck_request::RequestFault;
 use std::io;
 use thiserror::Error;
 
 /// Why the program ended without doing what was asked.
 #[derive(Debug, Drop, Error)]
 pub enum Failure {
-    /// The words ask for nothing that the program does.
-    #[error("bad arguments")]
-    Arguments,
-    /// The script that is asked for would have too many command lines.
-    #[error("too many lines")]
-    TooManyLines,
+    /// The words ask for nothing that the program does, or could not be read.
+    #[error("{0}")]
+    Request(RequestFault),
     #[error("cannot open")]
     Open,
     #[error("no memory")]
@@ -27,18 +24,19 @@ impl Failure {
     /// The status that the program ends with.
     pub fn status(&self) -> u8 {
         match self {
-            Failure::Arguments | Failure::TooManyLines => 2,
-            Failure::Open | Failure::Memory | Failure::Write | Failure::Script(_) => 1,
+            Failure::Request(RequestFault::Arguments | RequestFault::TooManyLines) => 2,
+            Failure::Request(RequestFault::Memory)
+            | Failure::Open
+            | Failure::Memory
+            | Failure::Write
+            | Failure::Script(_) => 1,
         }
     }
 }
 
-impl From<clap::Error> for Failure {
-    fn from(error: clap::Error) -> Self {
-        match error.kind() {
-            ErrorKind::OutOfMemory => Failure::Memory,
-            _ => Failure::Arguments,
-        }
+impl From<RequestFault> for Failure {
+    fn from(fault: RequestFault) -> Self {
+        Failure::Request(fault)
     }
 }
 
@@ -46,6 +44,6 @@ impl From<clap::Error> for Failure {
 pub fn of_words(error: &io::Error) -> Failure {
     match error.kind() {
         io::ErrorKind::OutOfMemory => Failure::Memory,
-        _ => Failure::Arguments,
+        _ => Failure::Request(RequestFault::Arguments),
     }
 }

@@ -3,8 +3,6 @@
 
 mod failure;
 mod program;
-mod recipe;
-mod request;
 #[cfg(test)]
 mod tests;
 

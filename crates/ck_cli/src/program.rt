@@ -1,8 +1,8 @@
 //! The program, over any readers and writers.
 use crate::failure::Failure;
-use crate::recipe::Recipe;
-use crate::request::{Request, request_of};
-use ck_script::{FromRead, IntoWrite, OpenGate, RunFault, make_script, read_script, run};
+use ck_format::{FromRead, IntoWrite, make_script, read_script};
+use ck_request::{Recipe, Request, request_of};
+use ck_script::{OpenGate, RunFault, run};
 use std::alloc::Global;
 use std::fs::File;
 use std::io::{Read, Write};

@@ -1,5 +1,6 @@
 pub mod Arithmetic
 pub mod Numbered
+pub mod Counting
 pub mod Map
 pub mod History
 pub mod Slots

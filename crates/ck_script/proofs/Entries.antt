@@ -5,12 +5,13 @@ use Rattle.std.proofs.lemmas.List.{map-append}
 use Rattle.ck_model.specs.declared.history.Entry.{Entry}
 use Rattle.ck_model.specs.Map.{Name}
 use Rattle.ck_table.specs.Callers.{CallerState, IsSameCaller}
-use Rattle.ck_script.specs.declared.script.Command.{Command}
-use Rattle.ck_script.specs.declared.answer.Answer.{Answer}
-use Rattle.ck_script.specs.Script.{on_names}
-use Rattle.ck_script.specs.Text.{Pairs}
+use Rattle.ck_format.specs.declared.script.Command.{Command}
+use Rattle.ck_format.specs.declared.answer.Answer.{Answer}
+use Rattle.ck_format.specs.Script.{on_names}
+use Rattle.ck_format.specs.Text.{Pairs}
 use Rattle.ck_script.specs.Output.{IsRefusal}
-use Rattle.ck_script.specs.Answered.{answer_on_names, answers_on_names, StaysOrGrows, HaveLeft, IsAnsweredBy}
+use Rattle.ck_format.specs.Answers.{answer_on_names, answers_on_names}
+use Rattle.ck_script.specs.Answered.{StaysOrGrows, HaveLeft, IsAnsweredBy}
 
 -- a refused call
 pub uncalled : (c : Command Name) (a : Answer Pairs) (p q : CallerState ℕ) → IsSameCaller p q → IsRefusal c a → q.pass.view.mine ≡ p.pass.view.mine → IsAnsweredBy c a p q

@@ -1,17 +1,4 @@
-pub mod Cuts
-pub mod Numbers
-pub mod Commands
-pub mod SettingLaws
-pub mod BlockLaws
-pub mod Steps
-pub mod Reading
-pub mod Sources
-pub mod Faultless
-pub mod Grammar
 pub mod Entries
 pub mod Idle
 pub mod Lists
-pub mod Making
 pub mod Workers
-pub mod WorkersText
-pub mod Writing

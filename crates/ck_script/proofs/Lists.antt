@@ -10,9 +10,9 @@ use Rattle.ck_words.specs.Passes.{PassState}
 use Rattle.ck_words.specs.Answering.{IsAnswered}
 use Rattle.ck_table.specs.Callers.{CallerState}
 use Rattle.ck_table.specs.Locking.{LockedState, start_of, map_of, HasLocked}
-use Rattle.ck_script.specs.declared.script.Command.TheVariants as command
-use Rattle.ck_script.specs.declared.answer.Answer.{Answer}
-use Rattle.ck_script.specs.Text.{Pairs}
+use Rattle.ck_format.specs.declared.script.Command.TheVariants as command
+use Rattle.ck_format.specs.declared.answer.Answer.{Answer}
+use Rattle.ck_format.specs.Text.{Pairs}
 use Rattle.ck_script.specs.Answered.{IsListOf, IsLeft, IsAnsweredBy}
 
 -- the entry of a session that changed nothing is that of a list, or of one that found no memory

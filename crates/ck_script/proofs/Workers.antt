@@ -16,21 +16,22 @@ use Rattle.ck_model.specs.Map.{Name, Map, named, name_cmp, ListsInOrder}
 use Rattle.ck_model.proofs.Entries.{entries_listed}
 use Rattle.ck_model.specs.Numbered.{IsIn, AreDistinct, numbers}
 use Rattle.ck_model.specs.History.{After, IsInterleaving}
-use Rattle.ck_words.specs.Rule.{counting}
+use Rattle.ck_model.specs.Counting.{counting}
 use Rattle.ck_words.specs.Words.{WordsState}
 use Rattle.ck_words.specs.Passes.{PassState}
 use Rattle.ck_words.specs.Closing.{IsCaller, AreAllPasses, EachSaw, dealt, parts_of}
-use Rattle.ck_words.proofs.Counting.{in_counting}
-use Rattle.ck_script.specs.declared.script.Keys.{Keys}
-use Rattle.ck_script.specs.declared.script.Command.{Command}
-use Rattle.ck_script.specs.declared.script.Work.{Work}
-use Rattle.ck_script.specs.declared.answer.Answer.{Answer}
+use Rattle.ck_model.proofs.Counting.{in_counting}
+use Rattle.ck_format.specs.declared.script.Keys.{Keys}
+use Rattle.ck_format.specs.declared.script.Command.{Command}
+use Rattle.ck_format.specs.declared.script.Work.{Work}
+use Rattle.ck_format.specs.declared.answer.Answer.{Answer}
 use Rattle.ck_script.specs.declared.job.Job.{Job}
 use Rattle.ck_script.specs.declared.job.Done.{Done}
-use Rattle.ck_script.specs.Script.{Said, on_names, said_in, workers_on_names}
-use Rattle.ck_script.specs.Text.{Pairs, output_text}
+use Rattle.ck_format.specs.Script.{Said, on_names, said_in, workers_on_names}
+use Rattle.ck_format.specs.Text.{Pairs, output_text}
 use Rattle.ck_script.specs.Output.{AreEntriesOf, ArePartsOf, IsOutputOf}
-use Rattle.ck_script.specs.Answered.{answers_on_names, lists_on_names, HaveLeft}
+use Rattle.ck_format.specs.Answers.{answers_on_names, lists_on_names}
+use Rattle.ck_script.specs.Answered.{HaveLeft}
 use Rattle.ck_script.specs.Jobs.{IsNew, IsJob, HasWorked, IsTextAtEnd, answers_of, passes_of}
 use Rattle.ck_script.proofs.Idle.{Drops, DropsEach, kept_interleaving}
 

@@ -1,40 +1,15 @@
 -- What commands leave of their caller, and what the workers of a run are given and hand back. What a run promises stands in `Output`.
-use Rattle.std.specs.Prelude.{◌≡◌, ◌⊎◌, ℕ, List, [], ◌∷◌, ◌++◌, map, Some}
-use Rattle.std.specs.Global.{Vec}
+use Rattle.std.specs.Prelude.{◌≡◌, ◌⊎◌, ℕ, List, [], ◌∷◌, ◌++◌, Some}
 use Rattle.ck_model.specs.declared.history.Call.TheVariants.{Session}
 use Rattle.ck_model.specs.declared.history.Reply.TheVariants.{Closed}
 use Rattle.ck_model.specs.declared.history.Entry.{Entry}
-use Rattle.ck_model.specs.Map.{Name, named}
+use Rattle.ck_model.specs.Map.{Name}
 use Rattle.ck_table.specs.Callers.{CallerState, IsSameCaller}
-use Rattle.ck_script.specs.declared.script.Command.{Command}
-use Rattle.ck_script.specs.declared.answer.Answer.{Answer}
-use Rattle.ck_script.specs.declared.answer.Answer.TheVariants.{Value, Absent, Yes, No, New, Old, Set, Gone, Count, Listed, Busy, Memory, Full, Load}
-use Rattle.ck_script.specs.Text.{Pairs}
+use Rattle.ck_format.specs.declared.script.Command.{Command}
+use Rattle.ck_format.specs.declared.answer.Answer.{Answer}
+use Rattle.ck_format.specs.declared.answer.Answer.TheVariants.{Listed, Memory}
+use Rattle.ck_format.specs.Text.{Pairs}
 use Rattle.ck_script.specs.Output.{StandsFor, IsRefusal}
-
--- the answer on the names of the keys that it lists
-abbrev pub answer_on_names : {K : Type 0} → (K → Name) → Answer (Vec (K × ℕ)) → Answer Pairs
-answer_on_names name (Value v) = Value v
-answer_on_names name Absent = Absent
-answer_on_names name Yes = Yes
-answer_on_names name No = No
-answer_on_names name New = New
-answer_on_names name Old = Old
-answer_on_names name Set = Set
-answer_on_names name Gone = Gone
-answer_on_names name (Count n) = Count n
-answer_on_names name (Listed pairs) = Listed (map (named name) pairs.items)
-answer_on_names name Busy = Busy
-answer_on_names name Memory = Memory
-answer_on_names name Full = Full
-answer_on_names name Load = Load
-
-abbrev pub answers_on_names : {K : Type 0} → (K → Name) → List (Answer (Vec (K × ℕ))) → List (Answer Pairs)
-answers_on_names name answers = map (answer_on_names name) answers
-
--- those of each worker
-abbrev pub lists_on_names : {K : Type 0} → (K → Name) → List (Vec (Answer (Vec (K × ℕ)))) → List (List (Answer Pairs))
-lists_on_names {K} name lists = map (λ (answers : Vec (Answer (Vec (K × ℕ)))). answers_on_names name answers.items) lists
 
 -- the entry of a session that changed nothing
 pub record IsIdleSession (e : Entry ℕ) : Type 0 where

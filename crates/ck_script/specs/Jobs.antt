@@ -8,14 +8,15 @@ use Rattle.ck_model.specs.History.{After, IsInterleaving}
 use Rattle.ck_words.specs.Words.{WordsState}
 use Rattle.ck_words.specs.Passes.{PassState}
 use Rattle.ck_words.specs.Closing.{IsCaller, parts_of}
-use Rattle.ck_script.specs.declared.script.Keys.{Keys}
-use Rattle.ck_script.specs.declared.script.Command.{Command}
-use Rattle.ck_script.specs.declared.answer.Answer.{Answer}
+use Rattle.ck_format.specs.declared.script.Keys.{Keys}
+use Rattle.ck_format.specs.declared.script.Command.{Command}
+use Rattle.ck_format.specs.declared.answer.Answer.{Answer}
 use Rattle.ck_script.specs.declared.job.Job.{Job}
 use Rattle.ck_script.specs.declared.job.Done.{Done}
-use Rattle.ck_script.specs.Script.{on_names}
-use Rattle.ck_script.specs.Text.{Pairs, output_text}
-use Rattle.ck_script.specs.Answered.{answers_on_names, HaveLeft}
+use Rattle.ck_format.specs.Script.{on_names}
+use Rattle.ck_format.specs.Text.{Pairs, output_text}
+use Rattle.ck_format.specs.Answers.{answers_on_names}
+use Rattle.ck_script.specs.Answered.{HaveLeft}
 
 -- The pass is one of this table's callers, and was in no call that left an entry.
 pub record IsNew (w : WordsState) (p : PassState ℕ) : Type 0 where

@@ -9,13 +9,13 @@ use Rattle.ck_model.specs.declared.history.Reply.TheVariants as reply
 use Rattle.ck_model.specs.declared.history.Entry.{Entry}
 use Rattle.ck_model.specs.Map.{Name, Map}
 use Rattle.ck_model.specs.History.{After, IsInterleaving}
-use Rattle.ck_script.specs.declared.script.Keys.{Keys}
-use Rattle.ck_script.specs.declared.script.Command.{Command}
-use Rattle.ck_script.specs.declared.script.Command.TheVariants as command
-use Rattle.ck_script.specs.declared.answer.Answer.{Answer}
-use Rattle.ck_script.specs.declared.answer.Answer.TheVariants as answer
-use Rattle.ck_script.specs.Script.{Said}
-use Rattle.ck_script.specs.Text.{Pairs, output_text}
+use Rattle.ck_format.specs.declared.script.Keys.{Keys}
+use Rattle.ck_format.specs.declared.script.Command.{Command}
+use Rattle.ck_format.specs.declared.script.Command.TheVariants as command
+use Rattle.ck_format.specs.declared.answer.Answer.{Answer}
+use Rattle.ck_format.specs.declared.answer.Answer.TheVariants as answer
+use Rattle.ck_format.specs.Script.{Said}
+use Rattle.ck_format.specs.Text.{Pairs, output_text}
 
 -- The call that a command makes: a list is a session that changes nothing.
 abbrev pub IsCallOf : Command Name → Call ℕ → Type 0

@@ -1,10 +1,10 @@
 -- What a run leaves of the sink that it writes to.
 use Rattle.std.specs.Prelude.{◌≡◌, ℕ, ◌<◌, List, Option, Bool, true, false, length, take}
 use Rattle.std.specs.Io.KnownBytes.{Appends}
-use Rattle.ck_script.specs.declared.script.Script.{Script}
+use Rattle.ck_format.specs.declared.script.Script.{Script}
 use Rattle.ck_script.specs.declared.runner.RunFault.{RunFault}
 use Rattle.ck_script.specs.declared.runner.RunFault.TheVariants.{Memory, Write}
-use Rattle.ck_script.specs.Script.{said_of}
+use Rattle.ck_format.specs.Script.{said_of}
 use Rattle.ck_script.specs.Output.{IsOutputOf}
 
 -- the sink took a text that belongs to the script

@@ -2,14 +2,13 @@
 ghost use Rattle.std.specs.Prelude.{◌≡◌, ◌-◌, ◌+◌};
 ghost use Rattle.std.specs.FinMap.{entries};
 ghost use Rattle.ck_model.specs.Map.{Name};
-ghost use Rattle.ck_script.specs.Script.{on_names};
+ghost use Rattle.ck_format.specs.Script.{on_names};
 ghost use Rattle.ck_script.specs.Output.{NeedsRoom, IsRefusal, share};
 ghost use Rattle.ck_table.specs.Locking.{map_of};
-ghost use Rattle.ck_script.specs.Answered.{answer_on_names, IsAnsweredBy, IsListOf};
+ghost use Rattle.ck_format.specs.Answers.{answer_on_names};
+ghost use Rattle.ck_script.specs.Answered.{IsAnsweredBy, IsListOf};
 
-use crate::answer::{Answer, Pairs};
-use crate::script::Command;
-use crate::written_key::WrittenKey;
+use ck_format::{Answer, Command, Pairs, WrittenKey};
 use ck_key::TableKey;
 use ck_table::{Caller, LockedTable, Why};
 use std::alloc::Global;

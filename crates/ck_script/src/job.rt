@@ -1,7 +1,5 @@
 //! What a worker is given, and what it hands back.
-use crate::answer::{Answer, Pairs};
-use crate::script::Command;
-use crate::written_key::WrittenKey;
+use ck_format::{Answer, Command, Pairs, WrittenKey};
 use ck_table::{Caller, Pass};
 
 /// What a worker is to do: its number, counted from 1, its caller, its commands, and room for their answers.

@@ -1,34 +1,17 @@
-//! Scripts: their grammar, the devices that give and take their bytes, the reader, and running them.
+//! Runs scripts: each worker is a caller of one table, and works in a thread of its own.
 #![tactic(auto)]
 
-mod answer;
-mod body;
 mod calls;
 mod gate;
-mod given;
 mod job;
-mod laws;
-mod line;
-mod made;
-mod reader;
 mod runner;
-mod script;
-mod script_key;
-mod sink;
-mod source;
-mod stage;
-mod text;
-mod tokens;
 mod worker;
-mod written_key;
 
-pub use answer::Answer;
 pub use gate::{Gate, OpenGate};
-pub use laws::law_of_scripts;
-pub use made::make_script;
-pub use reader::read_script;
 pub use runner::{RunFault, run};
-pub use script::{Command, Keys, Script, ScriptFault, Setting, Version, What, Work};
-pub use sink::{IntoWrite, Sink};
-pub use source::{Failed, FromRead, Source};
-pub use tokens::number_of;
+
+// What a caller of `run` needs of the format.
+pub use ck_format::{
+    Answer, Command, Failed, FromRead, IntoWrite, Keys, Script, ScriptFault, Setting, Sink, Source,
+    Version, What, Work, law_of_scripts, make_script, number_of, read_script,
+};

@@ -2,22 +2,18 @@
 ghost use Rattle.std.specs.Prelude.{◌≡◌, ◌≤◌, [], All, false, OnOk, IfOk, IfErr, vec_len};
 ghost use Rattle.std.specs.List.{AllZip, zip};
 ghost use Rattle.ck_model.specs.Ranges.{AreInRange};
-ghost use Rattle.ck_words.specs.Rule.{counting};
+ghost use Rattle.ck_model.specs.Counting.{counting};
 ghost use Rattle.ck_words.specs.Closing.{AreAllPasses, dealt};
-ghost use Rattle.ck_script.specs.Script.{said_in, said_of};
+ghost use Rattle.ck_format.specs.Script.{said_in, said_of};
 ghost use Rattle.ck_script.specs.Output.{IsOutputOf};
-ghost use Rattle.ck_script.specs.Answered.{lists_on_names};
+ghost use Rattle.ck_format.specs.Answers.{lists_on_names};
 ghost use Rattle.ck_script.specs.Jobs.{IsJob, IsNew, IsReadyJob, IsTextAtEnd, answers_of, passes_of};
 ghost use Rattle.ck_script.specs.Run.{TakesOutput, StopsBy};
 
-use crate::answer::{Answer, Pairs};
 use crate::gate::Gate;
 use crate::job::{Done, Job};
-use crate::script::{Command, Script, Work};
-use crate::sink::{Sink, write_all};
-use crate::text::text_of;
 use crate::worker::work_all;
-use crate::written_key::WrittenKey;
+use ck_format::{Answer, Command, Pairs, Script, Sink, Work, WrittenKey, text_of, write_all};
 use ck_model::settings::Settings;
 use ck_table::{OpenFault, Pass, Table};
 use std::alloc::{AllocError, Global};

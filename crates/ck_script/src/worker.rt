@@ -6,7 +6,7 @@ ghost use Rattle.ck_script.specs.Jobs.{HasWorked, IsReadyJob};
 use crate::calls::answer_of;
 use crate::gate::Gate;
 use crate::job::{Done, Job};
-use crate::written_key::WrittenKey;
+use ck_format::WrittenKey;
 use std::alloc::{AllocError, Global};
 use std::thread::{Threads, map_vec};
 

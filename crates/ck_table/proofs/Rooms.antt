@@ -23,7 +23,7 @@ use Rattle.ck_section.specs.Whole.{AreAllHeld, AreSettled, IsTable}
 use Rattle.ck_section.specs.Room.{power_in, reason_of_lack, AreBothSettled, KeepsBindings, MakesRoom, GivesReason}
 use Rattle.ck_section.proofs.Growing.{place_in}
 use Rattle.ck_core.specs.declared.view.View.{View}
-use Rattle.ck_words.specs.Rule.{counting}
+use Rattle.ck_model.specs.Counting.{counting}
 use Rattle.ck_words.specs.Words.{WordsState}
 use Rattle.ck_words.specs.Passes.{PassState, pair}
 use Rattle.ck_words.specs.Retries.{Stays}

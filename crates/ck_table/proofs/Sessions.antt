@@ -29,14 +29,14 @@ use Rattle.ck_section.proofs.Decided.{IsCallOn}
 use Rattle.ck_section.proofs.Growing.{all_settled, contents_settled}
 use Rattle.ck_section.proofs.Kept.{table_after, settled_after}
 use Rattle.ck_section.specs.Whole.{AreAllHeld, AreSettled, IsTable}
-use Rattle.ck_words.specs.Rule.{counting}
+use Rattle.ck_model.specs.Counting.{counting}
 use Rattle.ck_words.specs.Words.{WordsState}
 use Rattle.ck_words.specs.Passes.{EachOf, PassState, IsPassOf, numbers_of}
 use Rattle.ck_words.specs.Retries.{Stays, FindsAmong}
 use Rattle.ck_words.specs.Closing.{IsWhole, IsCaller}
 use Rattle.ck_words.specs.Commits.{session_of}
 use Rattle.ck_words.specs.Answering.{HasDone}
-use Rattle.ck_words.proofs.Counting.{length-counting, counting-at}
+use Rattle.ck_model.proofs.Counting.{length-counting, counting-at}
 use Rattle.ck_words.proofs.Reversed.{in_of_reverse, bindings-reverse}
 use Rattle.ck_words.proofs.Seating.{length-numbers, number_at}
 use Rattle.ck_words.proofs.Totals.{counted_to, counted_table, counted_small, lawful_held}

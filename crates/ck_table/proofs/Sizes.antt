@@ -9,12 +9,12 @@ use Rattle.ck_model.specs.Contents.{Layout, layout_of, Stripes, Lawful, pairs_of
 use Rattle.ck_model.specs.Sections.{HasAll, Renewed, Section}
 use Rattle.ck_model.proofs.Counted.{len-bindings}
 use Rattle.ck_section.specs.Stripes.{contents_of}
-use Rattle.ck_words.specs.Rule.{counting}
+use Rattle.ck_model.specs.Counting.{counting}
 use Rattle.ck_words.specs.Words.{WordsState}
 use Rattle.ck_words.specs.Passes.{PassState, numbers_of}
 use Rattle.ck_words.specs.Answering.{HasDone}
 use Rattle.ck_words.specs.Closing.{IsWhole}
-use Rattle.ck_words.proofs.Counting.{in_counting}
+use Rattle.ck_model.proofs.Counting.{in_counting}
 use Rattle.ck_words.proofs.Seating.{numbers-contents}
 
 module _ {V : Type 0} where

@@ -13,7 +13,7 @@ use Rattle.ck_section.specs.Entries.{IsEntryOf}
 use Rattle.ck_table.specs.declared.room.Room.{Room}
 use Rattle.ck_table.specs.declared.refusal.Why.{Why}
 use Rattle.ck_table.specs.declared.refusal.Why.TheVariants.{Busy, Memory, Full, LoadTooLow}
-use Rattle.ck_words.specs.Rule.{counting}
+use Rattle.ck_model.specs.Counting.{counting}
 use Rattle.ck_words.specs.Passes.{PassState, pair}
 use Rattle.ck_words.specs.Retries.{StaysBut, FindsAmong, FindsLast}
 use Rattle.ck_words.specs.Answering.{IsAnsweredBut}

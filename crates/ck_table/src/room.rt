@@ -8,7 +8,7 @@ ghost use Rattle.ck_section.specs.Stripes.{contents_of};
 ghost use Rattle.ck_section.specs.Places.{IsPlaceOf};
 ghost use Rattle.ck_section.specs.Whole.{IsTable, AreSettled};
 ghost use Rattle.ck_section.specs.Room.{AreBothSettled, reason_of_lack};
-ghost use Rattle.ck_words.specs.Rule.{counting};
+ghost use Rattle.ck_model.specs.Counting.{counting};
 ghost use Rattle.ck_words.specs.Passes.{IsPassOf, IsIdle, numbers_of};
 ghost use Rattle.ck_words.specs.Lending.{list_of};
 ghost use Rattle.ck_words.specs.Retries.{FindsAmong};

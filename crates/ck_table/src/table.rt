@@ -5,7 +5,7 @@ ghost use Rattle.ck_model.specs.Map.{Map, ListsInOrder};
 ghost use Rattle.ck_model.specs.History.{After, IsInterleaving};
 ghost use Rattle.ck_model.specs.Ranges.{AreInRange};
 ghost use Rattle.ck_words.specs.Meeting.{Meets};
-ghost use Rattle.ck_words.specs.Rule.{counting};
+ghost use Rattle.ck_model.specs.Counting.{counting};
 ghost use Rattle.ck_words.specs.Closing.{IsCaller, AreAllPasses, EachSaw, EachStays, dealt, parts_of};
 
 use crate::refusal::OpenFault;

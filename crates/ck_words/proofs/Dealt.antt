@@ -8,13 +8,14 @@ use Rattle.ck_model.specs.declared.settings.Settings.{Settings}
 use Rattle.ck_model.specs.Numbered.{IsIn, numbers}
 use Rattle.ck_core.specs.declared.view.View.{View}
 use Rattle.ck_core.specs.Steps.{newcomer, initial_view}
-use Rattle.ck_words.specs.Rule.{counting, first_view}
+use Rattle.ck_words.specs.Rule.{first_view}
+use Rattle.ck_model.specs.Counting.{counting}
 use Rattle.ck_words.specs.Plays.{opened, begun}
 use Rattle.ck_words.specs.Words.{WordsState}
 use Rattle.ck_words.specs.Passes.{PassState, IsPassOf, IsIdle}
 use Rattle.ck_words.specs.Closing.{dealt, parts_of, IsCaller, AreAllPasses}
 use Rattle.ck_words.proofs.Reversed.{map-append}
-use Rattle.ck_words.proofs.Counting.{counting-next, in_counting}
+use Rattle.ck_model.proofs.Counting.{counting-next, in_counting}
 
 next_number : (n m : ℕ) → n < m → counting n (m - n) ≡ n ∷ counting (n + 1) (m - (n + 1))
 next_number n m l = ap (counting n) (let e : m - n ≡ suc (m - (n + 1)) = omega arith in e) ∙ (λ i. n ∷ counting (let e : suc n ≡ n + 1 = omega arith in e i) (m - (n + 1)))

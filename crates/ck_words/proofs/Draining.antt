@@ -10,9 +10,10 @@ use Rattle.ck_model.specs.Map.{Name, named}
 use Rattle.ck_model.specs.Contents.{Stripes, pairs_in, pairs_of}
 use Rattle.ck_stripe.specs.Stripe.{StripeState}
 use Rattle.ck_section.specs.Stripes.{no_stripe, stripe_at, contents_of}
-use Rattle.ck_words.specs.Rule.{StripeSlot, counting}
+use Rattle.ck_words.specs.Rule.{StripeSlot}
+use Rattle.ck_model.specs.Counting.{counting}
 use Rattle.ck_words.specs.Passes.{slot_of, numbers_of}
-use Rattle.ck_words.proofs.Counting.{length-counting, counting-at}
+use Rattle.ck_model.proofs.Counting.{length-counting, counting-at}
 use Rattle.ck_words.proofs.Reversed.{map-reverse}
 use Rattle.ck_words.proofs.Excuses.{count-reverse}
 use Rattle.ck_words.proofs.Seating.{length-numbers}

@@ -17,7 +17,7 @@ use Rattle.ck_words.specs.Retries.{Stays}
 use Rattle.ck_words.specs.Closing.{IsWhole, number_of, parts_of, IsCaller, AreAllPasses, EachStays, gathered, Gathered, Closes}
 use Rattle.ck_words.proofs.Reversed.{map-append, in_of_reverse}
 use Rattle.ck_words.proofs.Staying.{starts_on, stays_same}
-use Rattle.ck_words.proofs.Counting.{in_counting}
+use Rattle.ck_model.proofs.Counting.{in_counting}
 use Rattle.ck_words.proofs.Seating.{numbers-contents}
 use Rattle.ck_words.proofs.Joining.{owned_numbers, interleaved}
 

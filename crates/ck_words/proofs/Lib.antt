@@ -12,7 +12,6 @@ pub mod Lending
 pub mod Starting
 pub mod Meets
 pub mod Settling
-pub mod Counting
 pub mod Taking
 pub mod Releasing
 pub mod Renewed

@@ -6,11 +6,12 @@ use Rattle.atomic_table.specs.Seated.{TableId}
 use Rattle.ck_model.specs.Numbered.{numbers}
 use Rattle.ck_stripe.specs.Stripe.{StripeState}
 use Rattle.ck_section.specs.Stripes.{no_stripe, stripe_at}
-use Rattle.ck_words.specs.Rule.{StripeSlot, Hand, counting}
+use Rattle.ck_words.specs.Rule.{StripeSlot, Hand}
+use Rattle.ck_model.specs.Counting.{counting}
 use Rattle.ck_core.specs.Steps.{IsAbove}
 use Rattle.ck_words.specs.Passes.{EachOf, Falls, IsSeated, rotated, slot_of, stripes_in, held_in, numbers_of}
 use Rattle.ck_words.specs.Lifting.{emptied, IsEmptied}
-use Rattle.ck_words.proofs.Counting.{length-counting, counting-at, counting-more}
+use Rattle.ck_model.proofs.Counting.{length-counting, counting-at, counting-more}
 use Rattle.ck_words.proofs.Reversed.{map-append, map-reverse, reverse-cons}
 use Rattle.ck_words.proofs.Seating.{length-numbers, number_at, stripes-slots, each_append}
 use Rattle.ck_words.proofs.Turning.{rotated-append}

@@ -7,12 +7,12 @@ use Rattle.ck_model.specs.Map.{Name}
 use Rattle.ck_model.proofs.Numbered.{if_same, if_else}
 use Rattle.ck_stripe.specs.Stripe.{StripeState}
 use Rattle.ck_core.specs.Steps.Label.{GiveRest}
-use Rattle.ck_words.specs.Rule.{counting}
+use Rattle.ck_model.specs.Counting.{counting}
 use Rattle.ck_words.specs.Words.{WordsState}
 use Rattle.ck_words.specs.Passes.{PassState, IsPassOf, IsIdle, IsUnchanged, Sends, numbers_of, pair, lower}
 use Rattle.ck_words.specs.Retries.{Stays}
 use Rattle.ck_words.specs.Holding.{HasReleased}
-use Rattle.ck_words.proofs.Counting.{counting-more}
+use Rattle.ck_model.proofs.Counting.{counting-more}
 use Rattle.ck_words.proofs.Reversed.{map-append}
 use Rattle.ck_words.proofs.Staying.{stays_same, stays_on, stays_giving, found_giving, seen_giving, idle_of}
 

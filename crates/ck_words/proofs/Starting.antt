@@ -27,7 +27,8 @@ use Rattle.ck_core.specs.State.{Configuration, HistoryInvariant}
 use Rattle.ck_core.specs.Steps.{Opening, initial_view}
 use Rattle.ck_core.proofs.Lists.{at_snoc, at_longer}
 use Rattle.ck_core.proofs.Openings.{opens}
-use Rattle.ck_words.specs.Rule.{StripeSlot, IsNumbered, IsKept, RuleOf, lying, counting, first_view}
+use Rattle.ck_words.specs.Rule.{StripeSlot, IsNumbered, IsKept, RuleOf, lying, first_view}
+use Rattle.ck_model.specs.Counting.{counting}
 use Rattle.ck_words.specs.Opening.{fresh, fresh_slots}
 use Rattle.ck_words.proofs.Spacing.{spaced-zeros}
 use Rattle.ck_words.proofs.Reversed.{map-append}

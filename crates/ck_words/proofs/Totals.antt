@@ -10,12 +10,12 @@ use Rattle.ck_model.specs.Contents.{Layout, layout_of, Lawful, pairs_in, pairs_o
 use Rattle.ck_stripe.specs.Stripe.{StripeState}
 use Rattle.ck_stripe.proofs.Writes.{few_entries}
 use Rattle.ck_section.specs.Stripes.{stripe_at, contents_of, settled_stripes}
-use Rattle.ck_words.specs.Rule.{counting}
+use Rattle.ck_model.specs.Counting.{counting}
 use Rattle.ck_words.specs.Passes.{PassState, IsUnchanged, ShowsSeen, numbers_of}
 use Rattle.ck_words.specs.Closing.{IsWhole}
 use Rattle.ck_words.proofs.Seating.{length-numbers}
 use Rattle.ck_words.proofs.AreHeld.{numbers_settled, contents_settled}
-use Rattle.ck_words.proofs.Counting.{length-counting}
+use Rattle.ck_model.proofs.Counting.{length-counting}
 use Rattle.ck_words.proofs.Reversed.{lawful_reverse}
 
 -- the most entries of a stripe

@@ -7,12 +7,12 @@ use Rattle.ck_model.specs.Map.{Name}
 use Rattle.ck_model.specs.Ranges.{AreInRange}
 use Rattle.ck_stripe.specs.Stripe.{StripeState}
 use Rattle.ck_section.specs.Whole.{IsTable}
-use Rattle.ck_words.specs.Rule.{counting}
+use Rattle.ck_model.specs.Counting.{counting}
 use Rattle.ck_words.specs.Words.{WordsState, IsLaidOut}
 use Rattle.ck_section.specs.Stripes.{settled_stripes}
 use Rattle.ck_words.specs.Passes.{EachOf, PassState, IsUnchanged, ShowsSeen, numbers_of}
 use Rattle.ck_words.proofs.AreHeld.{Rise, are_held, numbers_settled}
-use Rattle.ck_words.proofs.Counting.{length-counting, counting-at}
+use Rattle.ck_model.proofs.Counting.{length-counting, counting-at}
 use Rattle.ck_words.proofs.Seating.{length-numbers, number_at}
 use Rattle.ck_words.proofs.Releasing.{last_counted}
 

@@ -1,7 +1,7 @@
 -- The numbers of stripes that are lent.
 use Rattle.std.specs.Prelude.{ℕ, List, ◌∷◌, take}
 use Rattle.ck_words.specs.declared.lent.Numbers.{Numbers}
-use Rattle.ck_words.specs.Rule.{counting}
+use Rattle.ck_model.specs.Counting.{counting}
 
 -- the numbers from 4 on of the most stripes that a table has; a name of their own keeps a proof from counting them
 unfoldable pub later_numbers : List ℕ

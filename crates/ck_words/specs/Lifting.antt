@@ -3,7 +3,8 @@ use Rattle.std.specs.Prelude.{◌≡◌, ℕ, List, map, reverse, None}
 use Rattle.atomic_table.specs.Seated.{TableId}
 use Rattle.ck_model.specs.Numbered.{numbers}
 use Rattle.ck_core.specs.Steps.{IsAbove}
-use Rattle.ck_words.specs.Rule.{StripeSlot, Hand, counting}
+use Rattle.ck_words.specs.Rule.{StripeSlot, Hand}
+use Rattle.ck_model.specs.Counting.{counting}
 use Rattle.ck_words.specs.Passes.{Falls}
 
 module _ {V : Type 0} where

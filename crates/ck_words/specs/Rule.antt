@@ -8,6 +8,7 @@ use Rattle.ck_model.specs.declared.history.Entry.{Entry}
 use Rattle.ck_model.specs.declared.settings.Settings.{Settings}
 use Rattle.ck_model.specs.declared.contents.Content.{Content}
 use Rattle.ck_model.specs.Map.{Name}
+use Rattle.ck_model.specs.Counting.{counting}
 use Rattle.ck_model.specs.Contents.{Layout, layout_of}
 use Rattle.ck_stripe.specs.Stripe.{StripeState}
 use Rattle.ck_core.specs.declared.view.View.{View}
@@ -26,11 +27,6 @@ Hand V = Me (StripeSlot V) (View V)
 abbrev pub spaced : ℕ → List ℕ → List ℕ
 spaced zero words = []
 spaced (suc n) words = slice_index words 0 ∷ spaced n (drop 8 words)
-
--- n numbers from a on
-abbrev pub counting : ℕ → ℕ → List ℕ
-counting a zero = []
-counting a (suc n) = a ∷ counting (suc a) n
 
 -- the first caller keeps the numbers of the others
 abbrev pub first_view : {V : Type 0} → Settings → View V

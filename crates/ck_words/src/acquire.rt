@@ -5,7 +5,7 @@ ghost use Rattle.ck_model.specs.Numbered.{numbers, IsIn};
 ghost use Rattle.ck_core.specs.Steps.{IsAbove};
 ghost use Rattle.ck_section.specs.Places.{AreHeld, HasStripe};
 ghost use Rattle.ck_section.specs.Whole.{IsTable, AreSettled};
-ghost use Rattle.ck_words.specs.Rule.{counting};
+ghost use Rattle.ck_model.specs.Counting.{counting};
 ghost use Rattle.ck_words.specs.Passes.{IsPassOf, IsUnchanged, numbers_of, pair, PassState, IsIdle, EachOf, ShowsSeen};
 ghost use Rattle.ck_words.specs.Retries.{TakesWithin, found_again, Stays, FindsAmong, IsBusy};
 ghost use Rattle.ck_words.specs.Holding.{IsEither, HasTaken, Misses, GivesUp};

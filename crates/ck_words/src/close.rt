@@ -3,7 +3,7 @@ ghost use Rattle.std.specs.Prelude.{◌≡◌, ℕ, ◌+◌, ◌^◌, ◌<◌, �
 ghost use Rattle.ck_model.specs.Map.{named};
 ghost use Rattle.ck_model.specs.Contents.{pairs_of};
 ghost use Rattle.ck_section.specs.Stripes.{stripe_at, contents_of};
-ghost use Rattle.ck_words.specs.Rule.{counting};
+ghost use Rattle.ck_model.specs.Counting.{counting};
 ghost use Rattle.ck_words.specs.Passes.{IsPassOf, IsIdle, ShowsSeen, slot_of, stripes_in, held_in, numbers_of};
 ghost use Rattle.ck_words.specs.Retries.{Stays};
 ghost use Rattle.ck_words.specs.Closing.{IsWhole, IsCaller, AreAllPasses, EachStays, Gathers, Gathered, Closes};

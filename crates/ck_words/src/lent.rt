@@ -1,6 +1,6 @@
 //! The stripes that a pass holds, as held ones.
 ghost use Rattle.std.specs.Prelude.{◌≡◌, ◌<◌, ◌≤◌, ◌%◌, ◌^◌, length, slice_index, take};
-ghost use Rattle.ck_words.specs.Rule.{counting};
+ghost use Rattle.ck_model.specs.Counting.{counting};
 ghost use Rattle.ck_words.specs.Lending.{list_of};
 ghost use Rattle.ck_words.specs.Passes.{IsPassOf, numbers_of, pair};
 

@@ -1,6 +1,6 @@
 //! All stripes of a table out of their slots, in one list.
 ghost use Rattle.std.specs.Prelude.{◌≡◌, ◌≤◌, ◌^◌, [], map, reverse, vec_capacity};
-ghost use Rattle.ck_words.specs.Rule.{counting};
+ghost use Rattle.ck_model.specs.Counting.{counting};
 ghost use Rattle.ck_words.specs.Passes.{EachOf, IsPassOf, slot_of, stripes_in, held_in, numbers_of};
 ghost use Rattle.ck_words.specs.Lifting.{emptied};
 

@@ -2,7 +2,8 @@
 ghost use Rattle.std.specs.Prelude.{◌≡◌, ◌≤◌, ◌^◌, [], ◌∷◌, ℕ, IfOk, OnOk, OnErr, List};
 ghost use Rattle.ck_model.specs.Ranges.{AreInRange};
 ghost use Rattle.ck_model.specs.declared.history.Entry.{Entry};
-ghost use Rattle.ck_words.specs.Rule.{first_view, counting};
+ghost use Rattle.ck_words.specs.Rule.{first_view};
+ghost use Rattle.ck_model.specs.Counting.{counting};
 ghost use Rattle.ck_words.specs.Plays.{opened, begun};
 ghost use Rattle.ck_words.specs.Opening.{fresh_slots};
 ghost use Rattle.ck_words.specs.Passes.{IsPassOf, IsIdle};

@@ -4,7 +4,7 @@ ghost use Rattle.ck_model.specs.Contents.{layout_of, Lawful};
 ghost use Rattle.ck_model.specs.Paths.{Grounds};
 ghost use Rattle.ck_section.specs.Stripes.{contents_of};
 ghost use Rattle.ck_section.specs.Room.{reason_of_lack};
-ghost use Rattle.ck_words.specs.Rule.{counting};
+ghost use Rattle.ck_model.specs.Counting.{counting};
 ghost use Rattle.ck_words.specs.Passes.{IsPassOf, IsUnchanged, numbers_of, pair, lower};
 ghost use Rattle.ck_words.specs.Holding.{HasReleased, IsToldNoMore, IsToldPower};
 ghost use Rattle.ck_words.specs.Renewing.{HasRenewed, HasRefused};

@@ -2,7 +2,7 @@
 ghost use Rattle.std.specs.Prelude.{◌≡◌, ◌<◌, ◌^◌, ◌≤◌, length};
 ghost use Rattle.ck_section.specs.Places.{AreHeld};
 ghost use Rattle.ck_section.specs.Stripes.{stripe_at, settled_stripes};
-ghost use Rattle.ck_words.specs.Rule.{counting};
+ghost use Rattle.ck_model.specs.Counting.{counting};
 ghost use Rattle.ck_words.specs.Passes.{IsPassOf, IsUnchanged, numbers_of, pair, PassState};
 ghost use Rattle.ck_words.specs.Holding.{IsEither, HasTaken};
 ghost use Rattle.ck_words.specs.Closing.{settled_also};

@@ -2,7 +2,7 @@
 ghost use Rattle.std.specs.Prelude.{◌≡◌, ◌<◌, ◌^◌, ◌≤◌, length};
 ghost use Rattle.ck_model.specs.Contents.{pairs_of};
 ghost use Rattle.ck_section.specs.Stripes.{stripe_at, contents_of};
-ghost use Rattle.ck_words.specs.Rule.{counting};
+ghost use Rattle.ck_model.specs.Counting.{counting};
 ghost use Rattle.ck_words.specs.Passes.{IsPassOf, numbers_of};
 ghost use Rattle.ck_words.specs.Closing.{IsWhole};
 

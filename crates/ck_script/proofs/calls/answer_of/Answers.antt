@@ -1,6 +1,6 @@
 use Rattle.std.proofs.Common.{ap}
-use Rattle.ck_script.specs.Script.{on_names}
-use Rattle.ck_script.specs.Answered.{answer_on_names}
+use Rattle.ck_format.specs.Script.{on_names}
+use Rattle.ck_format.specs.Answers.{answer_on_names}
 use Rattle.ck_script.proofs.Entries.{answered_as}
 use Rattle.ck_script.proofs.calls.answer_of.Goals as goal
 use Rattle.ck_script.proofs.calls.answer_of.Goals.{in-Find, in-Has, in-Insert, in-Assign, in-Update, in-Add, in-Erase, in-Len, in-Move}

@@ -1,5 +1,5 @@
-use Rattle.ck_script.specs.declared.script.Command.TheVariants.{Insert}
-use Rattle.ck_script.specs.Answered.{answer_on_names}
+use Rattle.ck_format.specs.declared.script.Command.TheVariants.{Insert}
+use Rattle.ck_format.specs.Answers.{answer_on_names}
 use Rattle.ck_script.proofs.Entries.{uncalled}
 use Rattle.ck_script.proofs.calls.insert.Goals as goal
 

@@ -1,5 +1,5 @@
 use Rattle.std.proofs.Common.{◌∙◌}
-use Rattle.ck_script.specs.Answered.{answer_on_names}
+use Rattle.ck_format.specs.Answers.{answer_on_names}
 use Rattle.ck_script.proofs.Lists.{listed}
 use Rattle.ck_script.proofs.calls.list.Goals as goal
 

@@ -1,6 +1,6 @@
 use Rattle.std.proofs.Common.{sym, ◌∙◌, ap, subst}
 use Rattle.ck_model.specs.declared.settings.Settings.{Settings}
-use Rattle.ck_words.specs.Rule.{counting}
+use Rattle.ck_model.specs.Counting.{counting}
 use Rattle.ck_words.specs.Closing.{AreAllPasses}
 use Rattle.ck_script.proofs.Workers.{dealt_new, given_dealt, done_passes, output_of_run}
 use Rattle.ck_script.proofs.runner.output_of.Goals as goal

@@ -1,4 +1,4 @@
-use Rattle.ck_script.specs.Answered.{lists_on_names}
+use Rattle.ck_format.specs.Answers.{lists_on_names}
 use Rattle.ck_script.proofs.Workers.{text_at_end}
 use Rattle.ck_script.proofs.runner.text_at_end.Goals as goal
 

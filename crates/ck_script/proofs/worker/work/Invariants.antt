@@ -1,7 +1,8 @@
 use Rattle.std.proofs.Common.{◌≡◌, ◌≤◌, ℕ, Some, length, map, vec_len, vec_capacity}
 use Rattle.ck_table.specs.Callers.{IsSameCaller}
-use Rattle.ck_script.specs.Script.{on_names}
-use Rattle.ck_script.specs.Answered.{answers_on_names, HaveLeft}
+use Rattle.ck_format.specs.Script.{on_names}
+use Rattle.ck_format.specs.Answers.{answers_on_names}
+use Rattle.ck_script.specs.Answered.{HaveLeft}
 use Rattle.ck_script.proofs.worker.work.Given as goal
 
 abbrev pub invariant-loop-command : goal.invariant-loop-command

@@ -1,6 +1,6 @@
 use Rattle.std.proofs.Common.{◌^◌, ◌∙◌, sym, ap, subst}
 use Rattle.ck_model.specs.declared.history.Reply.TheVariants.{Closed}
-use Rattle.ck_words.specs.Rule.{counting}
+use Rattle.ck_model.specs.Counting.{counting}
 use Rattle.ck_words.specs.Words.{WordsState}
 use Rattle.ck_words.specs.Passes.{EachOf, PassState, numbers_of}
 use Rattle.ck_words.specs.Commits.{session_of}

@@ -1,5 +1,5 @@
 use Rattle.std.proofs.Common.{◌-◌, subst}
-use Rattle.ck_words.specs.Rule.{counting}
+use Rattle.ck_model.specs.Counting.{counting}
 use Rattle.ck_words.specs.declared.commit.Commit.{Commit}
 use Rattle.ck_words.specs.Commits.{call_of}
 use Rattle.ck_words.specs.Answering.{HasCommitted}

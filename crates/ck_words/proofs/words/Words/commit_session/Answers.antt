@@ -1,5 +1,5 @@
 use Rattle.std.proofs.Common.{◌-◌}
-use Rattle.ck_words.specs.Rule.{counting}
+use Rattle.ck_model.specs.Counting.{counting}
 use Rattle.ck_words.specs.Commits.{session_of}
 use Rattle.ck_words.proofs.Replying.{has_committed}
 use Rattle.ck_words.proofs.Releasing.{numbers_left}

@@ -1,10 +1,10 @@
 use Rattle.std.proofs.Common.{◌∙◌, ◌^◌, ap, sym, arith}
 use Rattle.ck_section.specs.Stripes.{stripe_at}
-use Rattle.ck_words.specs.Rule.{counting}
+use Rattle.ck_model.specs.Counting.{counting}
 use Rattle.ck_words.specs.Passes.{PassState}
 use Rattle.ck_words.specs.Words.{WordsState}
 use Rattle.ck_words.proofs.Seating.{ready_on}
-use Rattle.ck_words.proofs.Counting.{length-counting, counting-at}
+use Rattle.ck_model.proofs.Counting.{length-counting, counting-at}
 use Rattle.ck_words.proofs.Settling.{counts, named}
 use Rattle.ck_words.proofs.Turning.{seated_puts, stands_at}
 use Rattle.ck_words.proofs.words.Words.entries_of.Goals as goal

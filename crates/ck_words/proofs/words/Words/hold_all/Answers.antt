@@ -1,9 +1,9 @@
 use Rattle.std.proofs.Common.{◌≤◌, ◌<◌, ◌^◌, ◌∙◌, ap, subst, arith}
 use Rattle.std.proofs.Math.Nat.{one-le-pow}
-use Rattle.ck_words.specs.Rule.{counting}
+use Rattle.ck_model.specs.Counting.{counting}
 use Rattle.ck_words.specs.Words.{WordsState}
 use Rattle.ck_words.specs.Holding.{HasTaken}
-use Rattle.ck_words.proofs.Counting.{counting-more, counting_below, length-counting}
+use Rattle.ck_model.proofs.Counting.{counting-more, counting_below, length-counting}
 use Rattle.ck_words.proofs.Taking.{none_taken, above_taken, one_taken, given_up}
 use Rattle.ck_words.proofs.words.Words.hold_all.Goals as goal
 

@@ -1,6 +1,6 @@
 use Rattle.std.proofs.Common.{◌≡◌, ◌∙◌, ◌^◌, sym, ap, subst}
 use Rattle.atomic_table.specs.Seated.{TableId}
-use Rattle.ck_words.specs.Rule.{counting}
+use Rattle.ck_model.specs.Counting.{counting}
 use Rattle.ck_words.specs.Words.{WordsState}
 use Rattle.ck_words.specs.Passes.{PassState, held_in, numbers_of}
 use Rattle.ck_words.specs.Lifting.{IsEmptied}

@@ -2,7 +2,7 @@ use Rattle.std.proofs.Common.{◌≡◌, ◌∙◌, ◌^◌, ℕ, List, sym, ap,
 use Rattle.atomic_table.specs.Seated.{TableId}
 use Rattle.ck_model.specs.declared.settings.Settings.{Settings}
 use Rattle.ck_stripe.specs.Stripe.{StripeState}
-use Rattle.ck_words.specs.Rule.{counting}
+use Rattle.ck_model.specs.Counting.{counting}
 use Rattle.ck_words.specs.Words.{WordsState}
 use Rattle.ck_words.specs.Passes.{EachOf, PassState, numbers_of}
 use Rattle.ck_words.proofs.Lifting.{count_of, seated_again, held_again}

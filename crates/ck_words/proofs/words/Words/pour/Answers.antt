@@ -1,5 +1,5 @@
 use Rattle.std.proofs.Common.{ap, sym, subst, reverse, ◌∙◌, ◌≡◌, ◌^◌, ◌++◌, ℕ, List, length, map, arith, true}
-use Rattle.ck_words.specs.Rule.{counting}
+use Rattle.ck_model.specs.Counting.{counting}
 use Rattle.ck_words.specs.Passes.{PassState, stripes_in, held_in, numbers_of}
 use Rattle.ck_words.specs.Words.{WordsState}
 use Rattle.ck_model.specs.Contents.{pairs_of}

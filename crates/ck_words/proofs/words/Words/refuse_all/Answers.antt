@@ -1,6 +1,6 @@
 use Rattle.std.proofs.Common.{◌-◌, subst, Some}
 use Rattle.ck_section.specs.Room.{reason_of_lack}
-use Rattle.ck_words.specs.Rule.{counting}
+use Rattle.ck_model.specs.Counting.{counting}
 use Rattle.ck_words.specs.Renewing.{HasRefused}
 use Rattle.ck_words.proofs.Releasing.{numbers_left}
 use Rattle.ck_words.proofs.Renewed.{refused_on}

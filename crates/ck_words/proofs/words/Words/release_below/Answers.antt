@@ -1,5 +1,5 @@
 use Rattle.std.proofs.Common.{◌≡◌, ◌∙◌, ◌-◌, subst, arith}
-use Rattle.ck_words.specs.Rule.{counting}
+use Rattle.ck_model.specs.Counting.{counting}
 use Rattle.ck_words.proofs.Releasing.{Leaves, last_counted, leaves_all, leaves_fewer, leaves_none}
 use Rattle.ck_words.proofs.Telling.{told_none, told_fewer}
 use Rattle.ck_words.proofs.words.Words.release_below.Goals as goal

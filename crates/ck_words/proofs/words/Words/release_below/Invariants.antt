@@ -1,4 +1,4 @@
-use Rattle.ck_words.specs.Rule.{counting}
+use Rattle.ck_model.specs.Counting.{counting}
 use Rattle.ck_words.proofs.Releasing.{Leaves}
 use Rattle.ck_words.proofs.Telling.{IsToldBelow}
 use Rattle.ck_words.proofs.words.Words.release_below.Given as goal

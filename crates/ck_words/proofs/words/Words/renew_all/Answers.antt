@@ -1,5 +1,5 @@
 use Rattle.std.proofs.Common.{◌-◌, None}
-use Rattle.ck_words.specs.Rule.{counting}
+use Rattle.ck_model.specs.Counting.{counting}
 use Rattle.ck_words.proofs.Releasing.{numbers_left, released_on}
 use Rattle.ck_words.proofs.Renewed.{leaves_renewed}
 use Rattle.ck_words.proofs.Telling.{told_renewed}

@@ -1,7 +1,7 @@
 use Rattle.std.proofs.Common.{◌∙◌, ◌^◌, ap, arith}
-use Rattle.ck_words.specs.Rule.{counting}
+use Rattle.ck_model.specs.Counting.{counting}
 use Rattle.ck_words.specs.Words.{WordsState}
-use Rattle.ck_words.proofs.Counting.{length-counting, counting-at}
+use Rattle.ck_model.proofs.Counting.{length-counting, counting-at}
 use Rattle.ck_words.proofs.Settling.{still_there, counts, named, one_more, all_settled}
 use Rattle.ck_words.proofs.words.Words.settle_all.Goals as goal
 

@@ -1,0 +1,13 @@
+pub mod Cuts
+pub mod Numbers
+pub mod Commands
+pub mod SettingLaws
+pub mod BlockLaws
+pub mod Steps
+pub mod Reading
+pub mod Sources
+pub mod Faultless
+pub mod Grammar
+pub mod Making
+pub mod WorkersText
+pub mod Writing

@@ -1,0 +1,30 @@
+//! The format of scripts and of what a run of one writes: the grammar, the devices that give and take bytes, the reader, the
+//! maker, and the text of the answers.
+#![tactic(auto)]
+
+mod answer;
+mod body;
+mod given;
+mod laws;
+mod line;
+mod made;
+mod reader;
+mod script;
+mod script_key;
+mod sink;
+mod source;
+mod stage;
+mod text;
+mod tokens;
+mod written_key;
+
+pub use answer::{Answer, Pairs};
+pub use laws::law_of_scripts;
+pub use made::make_script;
+pub use reader::read_script;
+pub use script::{Command, Keys, Script, ScriptFault, Setting, Version, What, Work};
+pub use sink::{IntoWrite, Sink, write_all};
+pub use source::{Failed, FromRead, Source};
+pub use text::text_of;
+pub use tokens::number_of;
+pub use written_key::WrittenKey;
