@@ -5,8 +5,6 @@ mod failure;
 mod program;
 mod recipe;
 mod request;
-#[cfg(test)]
-mod tests;
 
 use program::program;
 use std::process::ExitCode;
