@@ -3,8 +3,6 @@
 
 mod failure;
 mod program;
-#[cfg(test)]
-mod tests;
 
 use program::program;
 use std::process::ExitCode;
