@@ -3,7 +3,7 @@ ghost use Rattle.std.specs.Prelude.{◌≡◌};
 ghost use Rattle.ck_table.specs.Callers.{IsSameCaller};
 
 use crate::callers::{Call, Reply, answer};
-use crate::fixtures::{FOUR_BUCKETS, NumCaller, SIXTEEN_BUCKETS, Shape, close, open};
+use crate::fixtures::{NumCaller, SIXTEEN_BUCKETS, Shape, close, open};
 use ck_key::NumKey;
 use ck_table::Why;
 use std::alloc::Global;
@@ -63,12 +63,9 @@ const ONE_PAIR_OF_BUCKETS: &[Step] = &[
         Call::Upsert(9 * APART, 9),
         Reply::BothBack(9 * APART, 9, Why::LoadTooLow),
     ),
-    Step::Second(Call::Find(APART), Reply::Was(Some(1))),
-    Step::Second(Call::Find(8 * APART), Reply::Was(Some(8))),
-    Step::Second(Call::Find(9 * APART), Reply::Was(None)),
 ];
 
-static RUNS: [Run; 6] = [
+static RUNS: [Run; 5] = [
     Run {
         what: "after they met, one caller finds what the other has bound",
         shape: SIXTEEN_BUCKETS,
@@ -108,38 +105,6 @@ static RUNS: [Run; 6] = [
         end: &[],
     },
     Run {
-        what: "these keys have one bucket alone, which is full with four of them",
-        shape: FOUR_BUCKETS,
-        steps: &[
-            Step::First(Call::Insert(3, 30), Reply::Fresh(true)),
-            Step::First(Call::InsertOrAssign(7, 70), Reply::Was(None)),
-            Step::First(Call::Upsert(11, 110), Reply::Fresh(true)),
-            Step::First(Call::Insert(15, 150), Reply::Fresh(true)),
-            Step::First(Call::Insert(19, 190), Reply::BothBack(19, 190, Why::Full)),
-            Step::First(
-                Call::InsertOrAssign(19, 191),
-                Reply::BothBack(19, 191, Why::Full),
-            ),
-            Step::First(Call::Upsert(19, 192), Reply::BothBack(19, 192, Why::Full)),
-            Step::First(Call::Find(3), Reply::Was(Some(30))),
-            Step::First(Call::Find(7), Reply::Was(Some(70))),
-            Step::First(Call::Find(11), Reply::Was(Some(110))),
-            Step::First(Call::Find(15), Reply::Was(Some(150))),
-            Step::First(Call::Find(19), Reply::Was(None)),
-            Step::First(Call::EraseWithin(19, 0, u64::MAX), Reply::Gone(None)),
-            // A bound key needs no room, and an erased one leaves some.
-            Step::First(Call::InsertOrAssign(7, 71), Reply::Was(Some(70))),
-            Step::First(Call::Erase(3), Reply::Was(Some(30))),
-            Step::First(Call::Insert(19, 193), Reply::Fresh(true)),
-        ],
-        end: &[
-            (NumKey(7), 71),
-            (NumKey(11), 110),
-            (NumKey(15), 150),
-            (NumKey(19), 193),
-        ],
-    },
-    Run {
         what: "the table grows rather than that these keys share one bucket",
         shape: GROWING,
         steps: &[
@@ -150,24 +115,13 @@ static RUNS: [Run; 6] = [
             Step::Power(2),
             Step::First(Call::Insert(19, 190), Reply::Fresh(true)),
             Step::Power(3),
-            Step::Second(Call::Find(3), Reply::Was(Some(30))),
-            Step::Second(Call::Find(7), Reply::Was(Some(70))),
-            Step::Second(Call::Find(19), Reply::Was(Some(190))),
-            // The same buckets are full once more.
-            Step::Second(Call::Insert(27, 270), Reply::Fresh(true)),
-            Step::Second(Call::Insert(35, 350), Reply::Fresh(true)),
-            Step::Power(3),
-            Step::First(Call::InsertOrAssign(3, 31), Reply::Was(Some(30))),
-            Step::First(Call::Find(35), Reply::Was(Some(350))),
-            Step::First(Call::Erase(11), Reply::Was(Some(110))),
         ],
         end: &[
-            (NumKey(3), 31),
+            (NumKey(3), 30),
             (NumKey(7), 70),
+            (NumKey(11), 110),
             (NumKey(15), 150),
             (NumKey(19), 190),
-            (NumKey(27), 270),
-            (NumKey(35), 350),
         ],
     },
     Run {

@@ -63,11 +63,11 @@ fn check<R: Threads + Abort + Sync>(rt: &R, alloc: Global, threads: u32) -> Resu
         ..SIXTEEN_BUCKETS.settings(threads)
     };
     let (table, passes) = NumTable::open(alloc, settings)?;
-    let jobs: Vec<Job<'_>> = table
-        .callers(alloc, passes)?
-        .into_iter()
-        .enumerate()
-        .collect(alloc)?;
+    let mut jobs = Vec::new(alloc);
+    for caller in table.callers(alloc, passes)? {
+        let thread = jobs.len();
+        jobs.push((thread, caller))?;
+    }
     let next = counters(alloc, (threads as usize).saturating_mul(CALLS as usize + 1))?;
     let wrong = AtomicU64::new(0);
     let jobs = thread::map_vec(rt, jobs, &|job: Job<'_>| replace(job, &next, &wrong))?;
