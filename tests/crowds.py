@@ -79,14 +79,16 @@ def transfer(workers, lines):
 
 
 def sessions(workers, lines):
-    """The first two bind ten keys and move numbers between them, the third counts the keys, the others list them."""
+    """The first two bind ten keys and move numbers between them, ten times as often as the third counts the keys and the
+    others list them."""
     def line(worker, at):
         if worker < 2:
             return "move %d %d 1" % (at % 10, (at // 10 % 9 + at + 1) % 10)
         return "len" if worker == 2 else "list"
     block = ["insert %d 100" % key for key in range(10)]
     return script(["s 2", "power 4"], [
-        (block if worker < 2 else []) + [line(worker, at) for at in range(lines)] for worker in range(workers)])
+        (block if worker < 2 else []) + [line(worker, at) for at in range(lines * (10 if worker < 2 else 1))]
+        for worker in range(workers)])
 
 
 def own_keys(worker, lines, other):

@@ -1,157 +1,108 @@
-//! What is measured: the calls on one key, and how a thread makes them.
-//!
-//! Each thread has a share of the keys, and the shares are of one size. So a thread makes the same number of calls however
-//! many threads there are, and only what the others do can make it slower.
-use rand_core::Rng;
-use rand_pcg::Lcg64Xsh32;
-use std::alloc::{AllocError, Global};
+//! Times of calls on one key at load 0.66, by one, two and four threads, each with keys of its own.
+use crate::table::{POWER, Worker, open, random_keys, settings, share};
+use crate::timing::Least;
+use ck_key::NumKey;
+use std::alloc::Global;
+use std::rt::Clock;
+use std::thread::Threads;
+use std::time::Instant;
+use std::{io, thread};
 
-/// The tables have 2^POWER buckets.
-pub const POWER: u32 = 18;
+/// How many keys are drawn, which makes a load of 0.66 of four slots a bucket.
+const KEYS: usize = 700_000;
 
-/// How many keys are drawn. For most there is room, which makes a load of 0.66 of four slots a bucket.
-pub const KEYS: usize = 700_000;
+/// How many threads there are at the most. Each has as many keys, however many threads there are.
+const MOST: usize = 4;
 
-/// How many threads there are at the most, and how many shares the keys are cut into.
-pub const MOST: usize = 4;
-
-/// How often a thread calls each key of its share in one measurement.
-pub const TIMES: usize = 4;
-
-/// A map whose calls are measured.
-pub trait Calls {
-    fn find(&mut self, key: u64) -> Option<u64>;
-
-    fn update(&mut self, key: u64, value: u64) -> Option<u64>;
-
-    fn erase(&mut self, key: u64) -> Option<u64>;
-
-    /// Whether the key was unbound; `None` where there is no room.
-    fn insert(&mut self, key: u64, value: u64) -> Option<bool>;
-}
+/// How often each call is measured.
+const ROUNDS: u32 = 5;
 
 /// What is called for each key.
 #[derive(Clone, Copy)]
-pub enum Call {
-    Find,
-    FindUnbound,
-    FindInTurn,
-    Update,
+enum Call {
+    Hit,
+    Miss,
+    Upsert,
     EraseAndInsert,
 }
 
-pub const KINDS: usize = 5;
-
-/// The calls in the order in which they are measured, with their names.
-pub const CALLS: [(&str, Call); KINDS] = [
-    ("find, bound", Call::Find),
-    ("find, bound, each after the last", Call::FindInTurn),
-    ("find, unbound", Call::FindUnbound),
-    ("update", Call::Update),
+const CALLS: [(&str, Call); 4] = [
+    ("hit", Call::Hit),
+    ("miss", Call::Miss),
+    ("upsert", Call::Upsert),
     ("erase and insert", Call::EraseAndInsert),
 ];
 
-/// So many random keys. Two seeds have none in common but for a chance in 2^23.
-pub fn random_keys(alloc: Global, seed: u64, count: usize) -> Result<Vec<u64>, AllocError> {
-    let mut random = Lcg64Xsh32::new(seed, 1);
-    let mut keys = Vec::from_elem(alloc, 0, count)?;
-    for key in &mut keys {
-        *key = random.next_u64();
-    }
-    Ok(keys)
-}
-
-/// Inserts the keys, each with its own number as its value, and gives those that there was room for.
-pub fn bind<M: Calls>(map: &mut M, alloc: Global, keys: &[u64]) -> Result<Vec<u64>, AllocError> {
-    let mut bound = Vec::with_capacity(alloc, keys.len())?;
-    for key in keys {
-        if map.insert(*key, *key).is_some() {
-            bound.push(*key)?;
-        }
-    }
-    Ok(bound)
-}
-
-/// How many of the keys are no longer bound: between the two calls of an `erase and insert` another thread may take the
-/// room that the key had.
-pub fn lost<M: Calls>(map: &mut M, keys: &[u64]) -> usize {
-    let mut lost = 0usize;
-    for key in keys {
-        if map.find(*key).is_none() {
-            lost = lost.saturating_add(1);
-        }
-    }
-    lost
-}
-
-/// The sum of the values of the keys.
-fn find_each<M: Calls>(map: &mut M, keys: &[u64]) -> u64 {
-    let mut sum = 0u64;
-    for key in keys {
-        sum = sum.wrapping_add(map.find(*key).unwrap_or(1));
-    }
-    sum
-}
-
-/// The sum of the values of the keys, where which key is next depends on the last value. So no find can begin before the
-/// one before it has ended, as finds with no locks otherwise do.
-fn find_in_turn<M: Calls>(map: &mut M, keys: &[u64]) -> u64 {
-    let mut sum = 0u64;
-    let mut difference = 0;
-    for key in keys {
-        // Each key has its own number as its value, so they don't differ.
-        let key = *key ^ difference;
-        let value = map.find(key).unwrap_or(key);
-        difference = value ^ key;
-        sum = sum.wrapping_add(value);
-    }
-    sum
-}
-
-/// The sum of the values that the keys had.
-fn update_each<M: Calls>(map: &mut M, keys: &[u64]) -> u64 {
-    let mut sum = 0u64;
-    for key in keys {
-        sum = sum.wrapping_add(map.update(*key, *key).unwrap_or(1));
-    }
-    sum
-}
-
-/// How many keys were erased and inserted.
-fn renew_each<M: Calls>(map: &mut M, keys: &[u64]) -> u64 {
-    let mut sum = 0u64;
-    for key in keys {
-        if let Some(value) = map.erase(*key) {
-            sum = sum.wrapping_add(map.insert(*key, value).is_some() as u64);
-        }
-    }
-    sum
-}
-
-/// Makes the call for each key, and gives a sum of all answers: what must be used for the calls not to be left out.
-fn make<M: Calls>(map: &mut M, call: Call, keys: &[u64]) -> u64 {
+/// Makes the call for a key, and gives something of its answer.
+fn answer(worker: &mut Worker, call: Call, key: u64) -> u64 {
+    let caller = &mut worker.caller;
     match call {
-        Call::Find | Call::FindUnbound => find_each(map, keys),
-        Call::FindInTurn => find_in_turn(map, keys),
-        Call::Update => update_each(map, keys),
-        Call::EraseAndInsert => renew_each(map, keys),
+        Call::Hit => caller.find(&NumKey(key)).unwrap_or(None).unwrap_or(0),
+        // No such key was drawn but for a chance in 2^44.
+        Call::Miss => caller.find(&NumKey(!key)).unwrap_or(None).unwrap_or(1),
+        Call::Upsert => {
+            let new = caller.upsert(NumKey(key), |value| value.wrapping_add(1), key);
+            u64::from(new.is_ok())
+        }
+        Call::EraseAndInsert => {
+            let old = caller.erase(&NumKey(key)).unwrap_or(None);
+            u64::from(caller.insert(NumKey(key), old.unwrap_or(0)).is_ok())
+        }
     }
 }
 
-/// The keys of a share.
-fn share_of(keys: &[u64], share: usize) -> &[u64] {
-    let size = keys.len() / MOST;
-    let start = share.saturating_mul(size).min(keys.len());
-    let rest = &keys[start..];
-    &rest[..size.min(rest.len())]
+fn call_each(worker: &mut Worker, call: Call) {
+    let keys = worker.keys;
+    for key in keys {
+        let sum = answer(worker, call, *key);
+        worker.sum = worker.sum.wrapping_add(sum);
+    }
 }
 
-/// Makes all the calls of a thread in one measurement.
-pub fn work<M: Calls>(map: &mut M, call: Call, keys: &[u64], share: usize) -> u64 {
-    let keys = share_of(keys, share);
-    let mut sum = 0u64;
-    for _ in 0..TIMES {
-        sum = sum.wrapping_add(make(map, call, keys));
+/// The time from the start of the first thread to the end of the last one.
+fn measure<R: Threads + Clock + Sync>(
+    rt: &R,
+    workers: &mut [Worker],
+    call: Call,
+    least: &mut Least,
+) -> io::Result<()> {
+    let threads = workers.len().max(1);
+    let start = Instant::now(rt)?;
+    let working = |_: usize, worker: &mut Worker<'_, '_>| call_each(worker, call);
+    thread::for_each_mut(rt, workers, threads, &working);
+    least.note(rt, start)
+}
+
+/// Measures and prints the calls of these workers.
+fn run_with<R: Threads + Clock + Print + Sync>(rt: &R, workers: &mut [Worker]) -> io::Result<()> {
+    let (threads, keys) = (workers.len(), KEYS / MOST);
+    println!(rt; "calls of {threads} threads:")?;
+    for (what, call) in CALLS {
+        let mut least = Least::none();
+        for _ in 0..ROUNDS {
+            measure(rt, workers, call, &mut least)?;
+        }
+        least.print(rt, what, keys)?;
     }
-    sum
+    Ok(())
+}
+
+/// Measures and prints.
+pub fn run<R: Threads + Clock + Print + Sync>(rt: &R, alloc: Global) -> io::Result<()> {
+    let keys = random_keys(alloc, 2026, KEYS)?;
+    let (table, passes) = open(alloc, settings(10, POWER, MOST as u32))?;
+    let mut workers = share(alloc, table.callers(alloc, passes)?, &keys)?;
+    for worker in &mut workers {
+        worker.insert_all();
+    }
+    let all = workers.len();
+    for threads in [1usize, 2, MOST] {
+        let (some, _) = workers.split_at_mut(threads.min(all));
+        run_with(rt, some)?;
+    }
+    for worker in &workers {
+        let sum = worker.sum;
+        println!(rt; "  (sum {sum})")?;
+    }
+    Ok(())
 }

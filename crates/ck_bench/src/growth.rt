@@ -1,136 +1,112 @@
-//! Times of insertions into a table that grows from four buckets, by one, two and four threads.
-ghost use Rattle.std.specs.Prelude.{⊤};
-
-use crate::calls::random_keys;
-use crate::table::{Caller, GROWING, busy_error, open};
+//! Times of insertions into a table that grows, by one, two and four threads, and of the longest ones.
+use crate::table::{POWER, Worker, busy_error, open, random_keys, settings, share};
+use crate::timing::Least;
 use ck_key::NumKey;
-use ck_table::Settings;
-use std::alloc::{AllocError, Global};
+use std::alloc::Global;
 use std::rt::Clock;
 use std::thread::Threads;
 use std::time::Instant;
 use std::{io, thread};
 
-/// How many keys are inserted.
+/// How many keys are inserted into a table that grows from four buckets in four stripes.
 const KEYS: usize = 1_000_000;
 
-/// How often they are inserted, each time into a new table; the least time counts.
+/// How often they are inserted, each time into a new table.
 const ROUNDS: u32 = 3;
 
-/// A caller, the keys that its thread inserts, and how many of them the table has refused.
-#[derive(Drop)]
-struct Inserter<'t, 'k> {
-    caller: Caller<'t>,
-    keys: &'k [u64],
-    refused: usize,
-}
+/// More keys than 2^POWER buckets have slots.
+const PAUSE_KEYS: usize = 1_200_000;
 
-impl<'t, 'k> Inserter<'t, 'k> {
-    fn work(mut self) -> Inserter<'t, 'k> {
-        for key in self.keys {
-            if self.caller.insert(NumKey(*key), *key).is_err() {
-                self.refused = self.refused.saturating_add(1);
-            }
-        }
-        self
-    }
-}
-
-/// The least time of all insertions, how many keys were refused in all rounds, and what the last round left.
-#[derive(Drop)]
-struct Growth {
-    threads: u32,
-    nanos: u128,
-    refused: usize,
-    entries: u64,
-    power: u32,
-}
-
-impl Growth {
-    fn new(threads: u32) -> Growth {
-        Growth {
-            threads,
-            nanos: u128::MAX,
-            refused: 0,
-            entries: 0,
-            power: 0,
-        }
-    }
-
-    /// Inserts the keys into a new table, and keeps the lesser time.
-    fn measure<R: Threads + Clock + Sync>(
-        &mut self,
-        rt: &R,
-        alloc: Global,
-        keys: &[u64],
-    ) -> io::Result<()> {
-        let (table, passes) = open(alloc, settings(self.threads))?;
-        let inserters = share(alloc, table.callers(alloc, passes)?, keys)?;
-        let start = Instant::now(rt)?;
-        let mut done = thread::map_vec(
-            rt,
-            inserters,
-            &|inserter|
-                ensures { ⊤ }
-            { inserter.work() },
-        )?;
-        self.nanos = self.nanos.min(start.elapsed(rt)?.as_nanos());
-        self.note(&mut done)
-    }
-
-    /// Notes what a round has left.
-    fn note(&mut self, inserters: &mut [Inserter]) -> io::Result<()> {
-        for inserter in inserters {
-            self.refused = self.refused.saturating_add(inserter.refused);
-            self.entries = inserter.caller.len().map_err(busy_error)?;
-            self.power = inserter.caller.power().map_err(busy_error)?;
-        }
-        Ok(())
-    }
-
-    fn print(&self, rt: &impl Print) -> io::Result<()> {
-        let (threads, refused) = (self.threads, self.refused);
-        let (entries, power) = (self.entries, self.power);
-        print!(rt; "growth from 2^2 buckets, threads: {threads}, ")?;
-        println!(rt; "{entries} entries in 2^{power} buckets, {refused} keys refused")?;
-        let keys = KEYS as u128;
-        let each = self.nanos.saturating_mul(u128::from(threads)) / keys;
-        let rate = (keys * 1_000_000).checked_div(self.nanos).unwrap_or(0);
-        println!(rt; "  insert: {each} ns, {rate} thousand a second")
-    }
-}
-
-fn settings(callers: u32) -> Settings {
-    Settings { callers, ..GROWING }
-}
-
-/// The keys in as many parts as there are callers.
-fn share<'t, 'k>(
-    alloc: Global,
-    callers: Vec<Caller<'t>>,
-    keys: &'k [u64],
-) -> Result<Vec<Inserter<'t, 'k>>, AllocError> {
-    let size = keys.len().div_ceil(callers.len().max(1)).max(1);
-    let mut inserters = Vec::with_capacity(alloc, callers.len())?;
-    for (caller, keys) in callers.into_iter().zip(keys.chunks(size)) {
-        inserters.push(Inserter {
-            caller,
-            keys,
-            refused: 0,
-        })?;
-    }
-    Ok(inserters)
-}
-
-/// Measures each number of threads once.
+/// Inserts the keys into a new table, and says how many it refused.
 fn measure<R: Threads + Clock + Sync>(
     rt: &R,
     alloc: Global,
-    growths: &mut [Growth],
+    threads: u32,
+    keys: &[u64],
+    least: &mut Least,
+) -> io::Result<u64> {
+    let (table, passes) = open(alloc, settings(2, 2, threads))?;
+    let mut workers = share(alloc, table.callers(alloc, passes)?, keys)?;
+    let start = Instant::now(rt)?;
+    let working = |_: usize, worker: &mut Worker<'_, '_>| worker.insert_all();
+    thread::for_each_mut(rt, workers.as_mut_slice(), threads as usize, &working);
+    least.note(rt, start)?;
+    let mut refused = 0u64;
+    for worker in &workers {
+        refused = refused.wrapping_add(worker.sum);
+    }
+    Ok(refused)
+}
+
+/// Measures and prints so many threads.
+fn run_with<R: Threads + Clock + Print + Sync>(
+    rt: &R,
+    alloc: Global,
+    threads: u32,
     keys: &[u64],
 ) -> io::Result<()> {
-    for growth in growths {
-        growth.measure(rt, alloc, keys)?;
+    let (mut least, mut refused) = (Least::none(), 0u64);
+    for _ in 0..ROUNDS {
+        refused = refused.wrapping_add(measure(rt, alloc, threads, keys, &mut least)?);
+    }
+    println!(rt; "growth from 2^2 buckets by {threads} threads, {refused} keys refused:")?;
+    least.print(rt, "insertion of a thread", KEYS / threads.max(1) as usize)
+}
+
+/// The longest insertions in microseconds: before the table doubles, the one that doubles it, and those behind it.
+#[derive(Clone, Copy)]
+struct Pauses {
+    before: u128,
+    doubling: u128,
+    after: u128,
+}
+
+impl Pauses {
+    fn note(&mut self, micros: u128, doubled: bool) {
+        if doubled {
+            self.doubling = self.doubling.max(micros);
+        } else if self.doubling == 0 {
+            self.before = self.before.max(micros);
+        } else {
+            self.after = self.after.max(micros);
+        }
+    }
+}
+
+/// Inserts the keys, each timed, into a table of 2^POWER buckets.
+fn pauses_of(rt: &impl Clock, worker: &mut Worker) -> io::Result<Pauses> {
+    let mut pauses = Pauses {
+        before: 0,
+        doubling: 0,
+        after: 0,
+    };
+    let mut power = POWER;
+    for key in worker.keys {
+        let start = Instant::now(rt)?;
+        let refused = worker.caller.insert(NumKey(*key), *key).is_err();
+        let micros = start.elapsed(rt)?.as_micros();
+        worker.sum = worker.sum.wrapping_add(u64::from(refused));
+        let now = worker.caller.power().map_err(busy_error)?;
+        pauses.note(micros, now != power);
+        power = now;
+    }
+    Ok(pauses)
+}
+
+/// Measures and prints the pauses of tables of 2^s stripes.
+fn run_pauses(rt: &(impl Clock + Print), alloc: Global, s: u32, keys: &[u64]) -> io::Result<()> {
+    let (table, passes) = open(alloc, settings(s, POWER, 1))?;
+    for worker in &mut share(alloc, table.callers(alloc, passes)?, keys)? {
+        let Pauses {
+            before,
+            doubling,
+            after,
+        } = pauses_of(rt, worker)?;
+        let refused = worker.sum;
+        println!(rt; "doubling of 2^{POWER} buckets, s = {s}, {refused} keys refused:")?;
+        println!(rt; "  longest insertion before it: {before} us")?;
+        println!(rt; "  the insertion that doubles: {doubling} us")?;
+        println!(rt; "  longest of those after it: {after} us")?;
     }
     Ok(())
 }
@@ -138,12 +114,12 @@ fn measure<R: Threads + Clock + Sync>(
 /// Measures and prints.
 pub fn run<R: Threads + Clock + Print + Sync>(rt: &R, alloc: Global) -> io::Result<()> {
     let keys = random_keys(alloc, 2028, KEYS)?;
-    let mut growths = [Growth::new(1), Growth::new(2), Growth::new(4)];
-    for _ in 0..ROUNDS {
-        measure(rt, alloc, &mut growths, &keys)?;
+    for threads in [1u32, 2, 4] {
+        run_with(rt, alloc, threads, &keys)?;
     }
-    for growth in &growths {
-        growth.print(rt)?;
+    let keys = random_keys(alloc, 2030, PAUSE_KEYS)?;
+    for s in [2u32, 10] {
+        run_pauses(rt, alloc, s, &keys)?;
     }
     Ok(())
 }

@@ -1,19 +1,12 @@
-//! Times of the map and of its parts. A word says what is measured, and `run` measures all; with no word it only tells the
-//! words, so that what it prints doesn't depend on the machine.
+//! Times of the table. A word says what is measured, and `run` measures all; with no word it only tells the words, so that
+//! what it prints doesn't depend on the machine.
 #![tactic(auto)]
 
-mod bench;
-mod buckets;
 mod calls;
-mod doublings;
 mod growth;
-mod pauses;
-mod scripts;
-mod search;
 mod sessions;
-mod stripes;
 mod table;
-mod worker;
+mod timing;
 
 use std::alloc::Global;
 use std::process::ExitCode;
@@ -21,42 +14,7 @@ use std::rt::Clock;
 use std::thread::Threads;
 use std::{env, io};
 
-/// What is measured.
-#[derive(Clone, Copy)]
-enum Measurement {
-    Search,
-    Calls,
-    Growth,
-    Sessions,
-    Scripts,
-}
-
-/// Each with its word.
-const MEASUREMENTS: [(&str, Measurement); 5] = [
-    ("search", Measurement::Search),
-    ("calls", Measurement::Calls),
-    ("growth", Measurement::Growth),
-    ("sessions", Measurement::Sessions),
-    ("scripts", Measurement::Scripts),
-];
-
-const WORDS: &str = "run measures all; search, calls, growth, sessions or scripts measures one";
-
-impl Measurement {
-    fn run<R: Threads + Clock + Print + Sync>(self, rt: &R, alloc: Global) -> io::Result<()> {
-        match self {
-            Measurement::Search => search::run(rt, alloc),
-            Measurement::Calls => bench::run(rt, alloc),
-            Measurement::Growth => {
-                growth::run(rt, alloc)?;
-                doublings::run(rt, alloc)?;
-                pauses::run(rt, alloc)
-            }
-            Measurement::Sessions => sessions::run(rt, alloc),
-            Measurement::Scripts => scripts::run(rt, alloc),
-        }
-    }
-}
+const WORDS: &str = "run measures all; calls, growth or sessions measures one";
 
 /// Measures what the word says. Where it says nothing, false comes back.
 fn measure<R: Threads + Clock + Print + Sync>(
@@ -64,14 +22,18 @@ fn measure<R: Threads + Clock + Print + Sync>(
     alloc: Global,
     word: &str,
 ) -> io::Result<bool> {
-    let mut known = false;
-    for (name, measurement) in MEASUREMENTS {
-        if word == name || word == "run" {
-            measurement.run(rt, alloc)?;
-            known = true;
+    match word {
+        "calls" => calls::run(rt, alloc)?,
+        "growth" => growth::run(rt, alloc)?,
+        "sessions" => sessions::run(rt, alloc)?,
+        "run" => {
+            calls::run(rt, alloc)?;
+            growth::run(rt, alloc)?;
+            sessions::run(rt, alloc)?;
         }
+        _ => return Ok(false),
     }
-    Ok(known)
+    Ok(true)
 }
 
 fn main(rt: HostRuntime) -> io::Result<ExitCode> {

@@ -1,13 +1,13 @@
-//! The table of many callers, and a caller whose calls are measured.
+//! The tables that are measured, and random keys for them.
 ghost use Rattle.std.specs.Prelude.{IfOk};
 ghost use Rattle.ck_words.specs.Closing.{AreAllPasses};
 
-use crate::calls::{Calls, POWER};
-use ck_bucket::Bucket;
 use ck_key::NumKey;
 use ck_table::{Busy, OpenFault, Settings, Table};
-use std::alloc::Global;
-use std::{io, mem};
+use rand_core::Rng;
+use rand_pcg::Lcg64Xsh32;
+use std::alloc::{AllocError, Global};
+use std::io;
 
 pub type NumTable = Table<NumKey, u64>;
 
@@ -15,30 +15,21 @@ pub type Pass = ck_table::Pass<NumKey, u64>;
 
 pub type Caller<'a> = ck_table::Caller<'a, NumKey, u64>;
 
-/// The groups of one, two and four threads are all of one table, each with callers of its own.
-pub const SETTINGS: Settings = Settings {
-    s: 10,
-    power: POWER,
-    max: POWER,
-    callers: 7,
-    turns: u32::MAX,
-    rounds: 4,
-    min_load: 5,
-};
+/// The power of tables that don't grow, or are to double.
+pub const POWER: u32 = 18;
 
-/// A table that grows from 2^2 buckets, and can have no more than 2^2 stripes then.
-pub const GROWING: Settings = Settings {
-    s: 2,
-    power: 2,
-    max: 20,
-    callers: 1,
-    turns: u32::MAX,
-    rounds: 4,
-    min_load: 5,
-};
-
-/// The bytes of a bucket.
-pub const BUCKET_BYTES: usize = mem::size_of::<Bucket<NumKey, u64>>();
+/// A table of 2^s stripes that begins with 2^power buckets and may grow.
+pub fn settings(s: u32, power: u32, callers: u32) -> Settings {
+    Settings {
+        s,
+        power,
+        max: 20,
+        callers,
+        turns: u32::MAX,
+        rounds: 4,
+        min_load: 5,
+    }
+}
 
 /// An empty table and its passes.
 pub fn open(alloc: Global, settings: Settings) -> io::Result<(NumTable, Vec<Pass>)>
@@ -56,20 +47,48 @@ pub fn busy_error(_busy: Busy) -> io::Error {
     io::ErrorKind::ResourceBusy.into()
 }
 
-impl<'a> Calls for Caller<'a> {
-    fn find(&mut self, key: u64) -> Option<u64> {
-        self.find(&NumKey(key)).unwrap_or(None)
+/// So many random keys.
+pub fn random_keys(alloc: Global, seed: u64, count: usize) -> Result<Vec<u64>, AllocError> {
+    let mut random = Lcg64Xsh32::new(seed, 1);
+    let mut keys = Vec::from_elem(alloc, 0, count)?;
+    for key in &mut keys {
+        *key = random.next_u64();
     }
+    Ok(keys)
+}
 
-    fn update(&mut self, key: u64, value: u64) -> Option<u64> {
-        self.update(&NumKey(key), value).unwrap_or(None)
-    }
+/// A caller, the keys that it is called with, and a sum of all answers: what must be used for the calls not to be left out.
+#[derive(Drop)]
+pub struct Worker<'t, 'k> {
+    pub caller: Caller<'t>,
+    pub keys: &'k [u64],
+    pub sum: u64,
+}
 
-    fn erase(&mut self, key: u64) -> Option<u64> {
-        self.erase(&NumKey(key)).unwrap_or(None)
+impl<'t, 'k> Worker<'t, 'k> {
+    /// Inserts the keys, and adds up how many the table refused.
+    pub fn insert_all(&mut self) {
+        for key in self.keys {
+            let refused = self.caller.insert(NumKey(*key), *key).is_err();
+            self.sum = self.sum.wrapping_add(u64::from(refused));
+        }
     }
+}
 
-    fn insert(&mut self, key: u64, value: u64) -> Option<bool> {
-        self.insert(NumKey(key), value).ok()
+/// A worker for each caller. Each has as many keys, of its own.
+pub fn share<'t, 'k>(
+    alloc: Global,
+    callers: Vec<Caller<'t>>,
+    keys: &'k [u64],
+) -> Result<Vec<Worker<'t, 'k>>, AllocError> {
+    let size = keys.len().div_ceil(callers.len().max(1)).max(1);
+    let mut workers = Vec::with_capacity(alloc, callers.len())?;
+    for (caller, keys) in callers.into_iter().zip(keys.chunks(size)) {
+        workers.push(Worker {
+            caller,
+            keys,
+            sum: 0,
+        })?;
     }
+    Ok(workers)
 }

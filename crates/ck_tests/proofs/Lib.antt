@@ -1,3 +1,1 @@
-mod AllHeld
-mod FreeSlots
 mod Passes

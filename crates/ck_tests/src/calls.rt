@@ -3,7 +3,7 @@ ghost use Rattle.std.specs.Prelude.{◌≡◌};
 ghost use Rattle.ck_table.specs.Callers.{IsSameCaller};
 
 use crate::callers::{Call, Reply, answer};
-use crate::fixtures::{FOUR_BUCKETS, NumCaller, SIXTEEN_BUCKETS, Shape, close, open};
+use crate::fixtures::{NumCaller, SIXTEEN_BUCKETS, Shape, close, open};
 use ck_key::NumKey;
 use ck_table::Why;
 use std::alloc::Global;
@@ -31,57 +31,13 @@ struct Run {
     end: &'static [(NumKey, u64)],
 }
 
-/// Two stripes of two buckets each, which stay so.
-const TWO_BY_TWO: Shape = Shape {
-    s: 1,
-    power: 2,
-    max: 2,
-    rounds: 4,
-};
-
-/// The same, which may grow.
+/// Two stripes of two buckets each, which may grow.
 const GROWING: Shape = Shape {
     s: 1,
     power: 2,
     max: 20,
     rounds: 4,
 };
-
-/// Keys 0, 4, 8, 12 and 16 have buckets 0 and 1, and keys 1, 5, 9 and 13 have buckets 1 and 3: the ninth insertion finds two
-/// full buckets, and one hop makes room.
-const ONE_HOP: &[Step] = &[
-    Step::First(Call::Insert(0, 1), Reply::Fresh(true)),
-    Step::First(Call::Insert(4, 2), Reply::Fresh(true)),
-    Step::First(Call::Insert(8, 3), Reply::Fresh(true)),
-    Step::First(Call::Insert(12, 4), Reply::Fresh(true)),
-    Step::First(Call::Insert(1, 5), Reply::Fresh(true)),
-    Step::First(Call::Insert(5, 6), Reply::Fresh(true)),
-    Step::First(Call::Insert(9, 7), Reply::Fresh(true)),
-    Step::First(Call::Insert(13, 8), Reply::Fresh(true)),
-    Step::First(Call::Insert(16, 9), Reply::Fresh(true)),
-    Step::First(Call::Find(0), Reply::Was(Some(1))),
-    Step::First(Call::Find(4), Reply::Was(Some(2))),
-    Step::First(Call::Find(8), Reply::Was(Some(3))),
-    Step::First(Call::Find(12), Reply::Was(Some(4))),
-    Step::First(Call::Find(1), Reply::Was(Some(5))),
-    Step::First(Call::Find(5), Reply::Was(Some(6))),
-    Step::First(Call::Find(9), Reply::Was(Some(7))),
-    Step::First(Call::Find(13), Reply::Was(Some(8))),
-    Step::First(Call::Find(16), Reply::Was(Some(9))),
-    Step::Power(2),
-];
-
-const NINE_PAIRS: &[(NumKey, u64)] = &[
-    (NumKey(0), 1),
-    (NumKey(1), 5),
-    (NumKey(4), 2),
-    (NumKey(5), 6),
-    (NumKey(8), 3),
-    (NumKey(9), 7),
-    (NumKey(12), 4),
-    (NumKey(13), 8),
-    (NumKey(16), 9),
-];
 
 /// Two to the 48th and two to the 40th: its multiples have partial 0, and end in as many zeros.
 const APART: u64 = 282_574_488_338_432;
@@ -107,18 +63,9 @@ const ONE_PAIR_OF_BUCKETS: &[Step] = &[
         Call::Upsert(9 * APART, 9),
         Reply::BothBack(9 * APART, 9, Why::LoadTooLow),
     ),
-    Step::Second(Call::Find(APART), Reply::Was(Some(1))),
-    Step::Second(Call::Find(2 * APART), Reply::Was(Some(2))),
-    Step::Second(Call::Find(3 * APART), Reply::Was(Some(3))),
-    Step::Second(Call::Find(4 * APART), Reply::Was(Some(4))),
-    Step::Second(Call::Find(5 * APART), Reply::Was(Some(5))),
-    Step::Second(Call::Find(6 * APART), Reply::Was(Some(6))),
-    Step::Second(Call::Find(7 * APART), Reply::Was(Some(7))),
-    Step::Second(Call::Find(8 * APART), Reply::Was(Some(8))),
-    Step::Second(Call::Find(9 * APART), Reply::Was(None)),
 ];
 
-static RUNS: [Run; 14] = [
+static RUNS: [Run; 5] = [
     Run {
         what: "after they met, one caller finds what the other has bound",
         shape: SIXTEEN_BUCKETS,
@@ -129,18 +76,6 @@ static RUNS: [Run; 14] = [
             Step::Second(Call::Find(1), Reply::Was(Some(10))),
         ],
         end: &[(NumKey(1), 10)],
-    },
-    Run {
-        what: "an update binds no unbound key",
-        shape: SIXTEEN_BUCKETS,
-        steps: &[
-            Step::First(Call::Update(9, 1), Reply::Was(None)),
-            Step::First(Call::Find(9), Reply::Was(None)),
-            Step::First(Call::Insert(9, 1), Reply::Fresh(true)),
-            Step::First(Call::Update(9, 2), Reply::Was(Some(1))),
-            Step::First(Call::Find(9), Reply::Was(Some(2))),
-        ],
-        end: &[(NumKey(9), 2)],
     },
     Run {
         what: "closures on bound keys",
@@ -170,118 +105,6 @@ static RUNS: [Run; 14] = [
         end: &[],
     },
     Run {
-        what: "what a key was bound to before",
-        shape: SIXTEEN_BUCKETS,
-        steps: &[
-            Step::First(Call::InsertOrAssign(2, 7), Reply::Was(None)),
-            Step::First(Call::Contains(2), Reply::Bound(true)),
-            Step::First(Call::InsertOrAssign(2, 8), Reply::Was(Some(7))),
-            Step::First(Call::Contains(3), Reply::Bound(false)),
-            Step::First(Call::Erase(2), Reply::Was(Some(8))),
-            Step::First(Call::Erase(2), Reply::Was(None)),
-            Step::First(Call::Contains(2), Reply::Bound(false)),
-        ],
-        end: &[],
-    },
-    Run {
-        what: "these keys have one bucket alone, which is full with four of them",
-        shape: FOUR_BUCKETS,
-        steps: &[
-            Step::First(Call::Insert(3, 30), Reply::Fresh(true)),
-            Step::First(Call::InsertOrAssign(7, 70), Reply::Was(None)),
-            Step::First(Call::Upsert(11, 110), Reply::Fresh(true)),
-            Step::First(Call::Insert(15, 150), Reply::Fresh(true)),
-            Step::First(Call::Insert(19, 190), Reply::BothBack(19, 190, Why::Full)),
-            Step::First(
-                Call::InsertOrAssign(19, 191),
-                Reply::BothBack(19, 191, Why::Full),
-            ),
-            Step::First(Call::Upsert(19, 192), Reply::BothBack(19, 192, Why::Full)),
-            Step::First(Call::Find(3), Reply::Was(Some(30))),
-            Step::First(Call::Find(7), Reply::Was(Some(70))),
-            Step::First(Call::Find(11), Reply::Was(Some(110))),
-            Step::First(Call::Find(15), Reply::Was(Some(150))),
-            Step::First(Call::Find(19), Reply::Was(None)),
-            Step::First(Call::EraseWithin(19, 0, u64::MAX), Reply::Gone(None)),
-            // A bound key needs no room, and an erased one leaves some.
-            Step::First(Call::InsertOrAssign(7, 71), Reply::Was(Some(70))),
-            Step::First(Call::Erase(3), Reply::Was(Some(30))),
-            Step::First(Call::Insert(19, 193), Reply::Fresh(true)),
-        ],
-        end: &[
-            (NumKey(7), 71),
-            (NumKey(11), 110),
-            (NumKey(15), 150),
-            (NumKey(19), 193),
-        ],
-    },
-    Run {
-        what: "the pairs come in rising order of the keys, whichever caller has bound them",
-        shape: SIXTEEN_BUCKETS,
-        steps: &[
-            Step::First(Call::Insert(u64::MAX, 1), Reply::Fresh(true)),
-            Step::Second(Call::Insert(30, 2), Reply::Fresh(true)),
-            Step::First(Call::Insert(4, 3), Reply::Fresh(true)),
-            Step::Second(Call::Insert(0, 4), Reply::Fresh(true)),
-            Step::First(Call::Insert(17, 5), Reply::Fresh(true)),
-            Step::Second(Call::Erase(4), Reply::Was(Some(3))),
-        ],
-        end: &[
-            (NumKey(0), 4),
-            (NumKey(17), 5),
-            (NumKey(30), 2),
-            (NumKey(u64::MAX), 1),
-        ],
-    },
-    Run {
-        what: "one hop makes room",
-        shape: TWO_BY_TWO,
-        steps: ONE_HOP,
-        end: NINE_PAIRS,
-    },
-    Run {
-        what: "one hop makes room, with as many tries as there can be",
-        shape: Shape {
-            s: 1,
-            power: 2,
-            max: 2,
-            rounds: 64,
-        },
-        steps: ONE_HOP,
-        end: NINE_PAIRS,
-    },
-    Run {
-        what: "no entry can leave the one bucket of these keys",
-        shape: TWO_BY_TWO,
-        steps: &[
-            Step::First(Call::Insert(3, 30), Reply::Fresh(true)),
-            Step::First(Call::Insert(7, 70), Reply::Fresh(true)),
-            Step::First(Call::Insert(11, 110), Reply::Fresh(true)),
-            Step::First(Call::Insert(15, 150), Reply::Fresh(true)),
-            Step::First(Call::Insert(19, 190), Reply::BothBack(19, 190, Why::Full)),
-            Step::First(Call::Find(3), Reply::Was(Some(30))),
-            Step::First(Call::Find(7), Reply::Was(Some(70))),
-            Step::First(Call::Find(11), Reply::Was(Some(110))),
-            Step::First(Call::Find(15), Reply::Was(Some(150))),
-            Step::First(Call::Find(19), Reply::Was(None)),
-        ],
-        end: &[
-            (NumKey(3), 30),
-            (NumKey(7), 70),
-            (NumKey(11), 110),
-            (NumKey(15), 150),
-        ],
-    },
-    Run {
-        what: "one hop makes room, under all stripes",
-        shape: Shape {
-            rounds: 0,
-            ..TWO_BY_TWO
-        },
-        steps: ONE_HOP,
-        end: NINE_PAIRS,
-    },
-    Run {
         what: "the table grows rather than that these keys share one bucket",
         shape: GROWING,
         steps: &[
@@ -292,51 +115,13 @@ static RUNS: [Run; 14] = [
             Step::Power(2),
             Step::First(Call::Insert(19, 190), Reply::Fresh(true)),
             Step::Power(3),
-            Step::Second(Call::Find(3), Reply::Was(Some(30))),
-            Step::Second(Call::Find(7), Reply::Was(Some(70))),
-            Step::Second(Call::Find(19), Reply::Was(Some(190))),
-            // The same buckets are full once more.
-            Step::Second(Call::Insert(27, 270), Reply::Fresh(true)),
-            Step::Second(Call::Insert(35, 350), Reply::Fresh(true)),
-            Step::Power(3),
-            Step::First(Call::InsertOrAssign(3, 31), Reply::Was(Some(30))),
-            Step::First(Call::Find(35), Reply::Was(Some(350))),
-            Step::First(Call::Erase(11), Reply::Was(Some(110))),
-        ],
-        end: &[
-            (NumKey(3), 31),
-            (NumKey(7), 70),
-            (NumKey(15), 150),
-            (NumKey(19), 190),
-            (NumKey(27), 270),
-            (NumKey(35), 350),
-        ],
-    },
-    Run {
-        what: "each call that inserts makes the table grow",
-        shape: Shape {
-            rounds: 0,
-            ..GROWING
-        },
-        steps: &[
-            Step::First(Call::Insert(3, 30), Reply::Fresh(true)),
-            Step::First(Call::Insert(11, 110), Reply::Fresh(true)),
-            Step::First(Call::Insert(19, 190), Reply::Fresh(true)),
-            Step::First(Call::Insert(27, 270), Reply::Fresh(true)),
-            Step::First(Call::InsertOrAssign(259, 1), Reply::Was(None)),
-            Step::First(Call::Find(259), Reply::Was(Some(1))),
-            Step::First(Call::Upsert(515, 2), Reply::Fresh(true)),
-            Step::First(Call::Find(515), Reply::Was(Some(2))),
-            Step::Second(Call::Find(3), Reply::Was(Some(30))),
-            Step::Second(Call::Find(27), Reply::Was(Some(270))),
         ],
         end: &[
             (NumKey(3), 30),
+            (NumKey(7), 70),
             (NumKey(11), 110),
+            (NumKey(15), 150),
             (NumKey(19), 190),
-            (NumKey(27), 270),
-            (NumKey(259), 1),
-            (NumKey(515), 2),
         ],
     },
     Run {

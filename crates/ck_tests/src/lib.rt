@@ -2,8 +2,6 @@
 #![tactic(auto)]
 
 #[cfg(test)]
-mod buckets;
-#[cfg(test)]
 mod callers;
 #[cfg(test)]
 mod calls;
@@ -14,7 +12,11 @@ mod growing;
 #[cfg(test)]
 mod growth;
 #[cfg(test)]
+mod histories;
+#[cfg(test)]
 mod keys;
+#[cfg(test)]
+mod lawful;
 #[cfg(test)]
 mod locks;
 #[cfg(test)]
@@ -22,19 +24,13 @@ mod memory;
 #[cfg(test)]
 mod nested;
 #[cfg(test)]
-mod owner;
-#[cfg(test)]
 mod requests;
 #[cfg(test)]
 mod scripts;
 #[cfg(test)]
 mod search;
 #[cfg(test)]
-mod sections;
-#[cfg(test)]
 mod sessions;
-#[cfg(test)]
-mod slices;
 #[cfg(test)]
 mod stripes;
 #[cfg(test)]

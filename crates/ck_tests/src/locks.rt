@@ -1,15 +1,11 @@
 //! A table under one caller, and the calls of others meanwhile.
 ghost use Rattle.std.specs.Prelude.{◌≡◌};
 
-use crate::callers::{Call, Reply, answer};
-use crate::fixtures::{NumCaller, NumTable, SIXTEEN_BUCKETS, TWO_STRIPES, open_with};
+use crate::fixtures::{NumCaller, SIXTEEN_BUCKETS, TWO_STRIPES, open_with};
 use ck_key::NumKey;
 use ck_table::{Busy, Refused, Settings, Why};
-use std::alloc::Global;
 use std::process::Abort;
-use std::sync::atomic::{AtomicU64, Ordering};
 use std::test::Fail;
-use std::thread;
 
 /// Four stripes for three callers, of which each tries once to take a held stripe.
 fn one_try() -> Settings
@@ -139,122 +135,4 @@ fn refused_meanwhile(rt: &impl Abort, caller: &mut NumCaller<'_>) {
     }
     let count = caller.len();
     assert!(rt; count == Err(Busy(0)));
-}
-
-/// How many keys the transfers are made between.
-const KEYS: u64 = 10;
-
-/// What each of them has before anything is transferred.
-const FUND: u64 = 100;
-
-/// How often each thread does its part at the least.
-const TIMES: u64 = 1000;
-
-/// And at the most, where the others have not begun.
-const MOST: u64 = 100_000;
-
-/// What a thread does again and again.
-#[derive(Clone, Copy)]
-enum Part {
-    /// Transfers from one key to another.
-    Transfer,
-    /// Locks the table, and adds up what it lists.
-    Session,
-    /// Counts the keys.
-    Count,
-}
-
-const PARTS: [Part; 3] = [Part::Transfer, Part::Session, Part::Count];
-
-/// Moves one from a key to another of the ten.
-fn transfer<'t>(caller: NumCaller<'t>, step: u64) -> (NumCaller<'t>, bool) {
-    let mut caller = caller;
-    let from = step % KEYS;
-    let to = (step / KEYS % (KEYS - 1) + from + 1) % KEYS;
-    let reply = answer(&mut caller, Call::Transfer(from, to));
-    (caller, reply == Reply::Bound(true))
-}
-
-/// Whether these are the ten keys, with all that they had.
-fn has_all_funds(pairs: &[(NumKey, u64)]) -> bool {
-    let mut sum = 0u64;
-    for (_, value) in pairs {
-        sum = sum.saturating_add(*value);
-    }
-    pairs.len() as u64 == KEYS && sum == KEYS * FUND
-}
-
-/// Locks the table, and says whether it has the ten keys and all that they had.
-fn add_up<'t>(alloc: Global, caller: NumCaller<'t>) -> (NumCaller<'t>, bool) {
-    let table = caller.table();
-    match caller.lock() {
-        Ok(locked) => {
-            let count = locked.len();
-            let pairs = locked.export(alloc);
-            let caller = table.caller(locked.unlock());
-            match pairs {
-                Ok(pairs) => (caller, count == KEYS && has_all_funds(&pairs)),
-                Err(_) => (caller, false),
-            }
-        }
-        Err((caller, _)) => (caller, false),
-    }
-}
-
-/// Does a part once, and says whether it was answered as it has to be.
-fn do_once<'t>(
-    alloc: Global,
-    caller: NumCaller<'t>,
-    part: Part,
-    step: u64,
-) -> (NumCaller<'t>, bool) {
-    match part {
-        Part::Transfer => transfer(caller, step),
-        Part::Session => add_up(alloc, caller),
-        Part::Count => {
-            let mut caller = caller;
-            let count = caller.len();
-            (caller, count == Ok(KEYS))
-        }
-    }
-}
-
-/// Does a part until all threads have done theirs often enough, and counts the wrong answers.
-fn do_part(alloc: Global, caller: NumCaller<'_>, part: Part, through: &AtomicU64) -> u64 {
-    let mut caller = caller;
-    let mut wrong = 0u64;
-    for step in 0..MOST {
-        if step == TIMES {
-            through.fetch_add(1, Ordering::SeqCst);
-        }
-        if step >= TIMES && through.load(Ordering::SeqCst) == 3 {
-            return wrong;
-        }
-        let (back, right) = do_once(alloc, caller, part, step);
-        caller = back;
-        wrong = wrong.saturating_add(u64::from(!right));
-    }
-    wrong
-}
-
-/// However the transfers of one thread and the sessions of another fall, a session lists all that the keys had.
-#[test]
-fn transfers_and_sessions(rt: HostRuntime) -> Result<(), Fail> {
-    let alloc = rt.alloc();
-    let settings = Settings {
-        turns: u32::MAX,
-        ..SIXTEEN_BUCKETS.settings(3)
-    };
-    let (table, passes) = NumTable::open(alloc, settings)?;
-    let mut callers = table.callers(alloc, passes)?;
-    for key in 0..KEYS {
-        let fresh = callers[0].insert(NumKey(key), FUND);
-        assert!(rt; fresh.is_ok());
-    }
-    let jobs: Vec<(NumCaller<'_>, Part)> = callers.into_iter().zip(PARTS).collect(alloc)?;
-    let through = AtomicU64::new(0);
-    let work = |(caller, part): (NumCaller<'_>, Part)| do_part(alloc, caller, part, &through);
-    let wrong = thread::map_vec(&rt, jobs, &work)?;
-    assert!(rt; wrong.as_slice() == [0u64; 3].as_slice());
-    Ok(())
 }

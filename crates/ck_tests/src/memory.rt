@@ -70,7 +70,7 @@ enum End {
 }
 
 /// Which ends came.
-#[derive(Clone, Copy, Debug, PartialEq, Eq)]
+#[derive(Clone, Copy, PartialEq, Eq)]
 struct Ends {
     unbegun: bool,
     refused: bool,
@@ -179,7 +179,7 @@ fn close(rt: &impl Abort, alloc: Global) -> End {
     };
     match table.close(passes) {
         Ok(pairs) => {
-            assert_eq!(rt; pairs.len(), 8);
+            assert!(rt; pairs.len() == 8);
             End::Done
         }
         Err(_) => End::Refused,
@@ -193,11 +193,11 @@ fn close_words(rt: &impl Abort, alloc: Global) -> End {
     };
     match words.close(passes) {
         Ok(pairs) => {
-            assert_eq!(rt; pairs.len(), 0);
+            assert!(rt; pairs.len() == 0);
             End::Done
         }
         Err((_, passes)) => {
-            assert_eq!(rt; passes.len(), 3);
+            assert!(rt; passes.len() == 3);
             End::Refused
         }
     }
@@ -340,7 +340,7 @@ fn closing_again(rt: HostRuntime) -> Result<(), Fail> {
     let Ok(pairs) = table.close(passes) else {
         return Err(Fail::from("refused with ample memory"));
     };
-    assert_eq!(rt; pairs.as_slice(), EIGHT_PAIRS.as_slice());
+    assert!(rt; pairs.as_slice() == EIGHT_PAIRS.as_slice());
     Ok(())
 }
 

@@ -362,7 +362,7 @@ fn lawful(rt: HostRuntime) -> Result<(), Fail> {
     for (at, (shapes, max, expected)) in CASES.iter().enumerate() {
         let stripes = stripes(rt.alloc(), *shapes)?;
         assert!(rt; *max <= 26);
-        assert_eq!(rt; is_lawful(1, *max, &stripes), *expected, "case {at}");
+        assert!(rt; is_lawful(1, *max, &stripes) == *expected, "case {at}");
     }
     Ok(())
 }

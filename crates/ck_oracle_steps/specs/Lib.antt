@@ -1,3 +1,0 @@
-pub mod Plain
-pub mod Left
-pub mod Claims

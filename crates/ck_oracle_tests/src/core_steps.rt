@@ -1,6 +1,0 @@
-//! Runs of the core, right and wrong, by the program that decides its steps.
-
-mod data;
-mod grounds;
-mod runs;
-mod worlds;
