@@ -95,10 +95,9 @@ pub fn run<R: Threads + Clock + Print + Sync>(rt: &R, alloc: Global) -> io::Resu
     for worker in &mut workers {
         worker.insert_all();
     }
-    let all = workers.len();
     for threads in [1usize, 2, MOST] {
-        let (some, _) = workers.split_at_mut(threads.min(all));
-        run_with(rt, some)?;
+        let some = threads.min(workers.len());
+        run_with(rt, &mut workers[..some])?;
     }
     for worker in &workers {
         let sum = worker.sum;

@@ -29,7 +29,12 @@ fn measure<R: Threads + Clock + Sync>(
     let mut workers = share(alloc, table.callers(alloc, passes)?, keys)?;
     let start = Instant::now(rt)?;
     let working = |_: usize, worker: &mut Worker<'_, '_>| worker.insert_all();
-    thread::for_each_mut(rt, workers.as_mut_slice(), threads as usize, &working);
+    thread::for_each_mut(
+        rt,
+        workers.as_mut_slice(),
+        threads.max(1) as usize,
+        &working,
+    );
     least.note(rt, start)?;
     let mut refused = 0u64;
     for worker in &workers {
@@ -93,20 +98,24 @@ fn pauses_of(rt: &impl Clock, worker: &mut Worker) -> io::Result<Pauses> {
     Ok(pauses)
 }
 
-/// Measures and prints the pauses of tables of 2^s stripes.
+/// Measures and prints the pauses of a worker on a table of its own.
+fn print_pauses(rt: &(impl Clock + Print), worker: &mut Worker) -> io::Result<()> {
+    let pauses = pauses_of(rt, worker)?;
+    let refused = worker.sum;
+    println!(rt; "doubling of 2^{POWER} buckets, {refused} keys refused:")?;
+    let (before, doubling, after) = (pauses.before, pauses.doubling, pauses.after);
+    println!(rt; "  longest insertion before it: {before} us")?;
+    println!(rt; "  the insertion that doubles: {doubling} us")?;
+    println!(rt; "  longest of those after it: {after} us")
+}
+
+/// Measures and prints the pauses of a table of 2^s stripes.
 fn run_pauses(rt: &(impl Clock + Print), alloc: Global, s: u32, keys: &[u64]) -> io::Result<()> {
     let (table, passes) = open(alloc, settings(s, POWER, 1))?;
-    for worker in &mut share(alloc, table.callers(alloc, passes)?, keys)? {
-        let Pauses {
-            before,
-            doubling,
-            after,
-        } = pauses_of(rt, worker)?;
-        let refused = worker.sum;
-        println!(rt; "doubling of 2^{POWER} buckets, s = {s}, {refused} keys refused:")?;
-        println!(rt; "  longest insertion before it: {before} us")?;
-        println!(rt; "  the insertion that doubles: {doubling} us")?;
-        println!(rt; "  longest of those after it: {after} us")?;
+    let mut workers = share(alloc, table.callers(alloc, passes)?, keys)?;
+    println!(rt; "stripes: 2^{s}")?;
+    for worker in &mut workers {
+        print_pauses(rt, worker)?;
     }
     Ok(())
 }

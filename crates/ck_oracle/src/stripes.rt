@@ -29,9 +29,9 @@ pub struct PlainStripe {
     pub ledger: u64,
 }
 
-/// The two buckets of a hash, of 2^power.
+// The two buckets of a hash, of 2^power.
 #[tactic(auto, unfolding(ck_model::specs::Arithmetic::second_of))]
-pub fn buckets(power: u32, hash: u64) -> (u64, u64)
+fn buckets(power: u32, hash: u64) -> (u64, u64)
     requires { power ≤ 26 }
     ensures first { result.0 ≡ index_of power hash }
     ensures second { result.1 ≡ second_of power hash }

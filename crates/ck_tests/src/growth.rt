@@ -134,7 +134,19 @@ fn keys_stay(rt: HostRuntime) -> Result<(), Fail> {
     Ok(())
 }
 
-/// While the table is locked another caller can't make it grow. What is above the greatest power is refused as such.
+/// Another caller can't make a locked table grow. What is above the greatest power is refused as such.
+fn refused_meanwhile(rt: &impl Abort, caller: &mut NumCaller<'_>) {
+    let rows = [
+        (Power(3), GrowFault::Busy(0)),
+        (Slots(17), GrowFault::Busy(0)),
+        (Power(21), GrowFault::OverMax),
+    ];
+    for (size, why) in rows {
+        let grown = grow(caller, size);
+        assert!(rt; grown == Err(why));
+    }
+}
+
 #[test]
 fn while_locked(rt: HostRuntime) -> Result<(), Fail> {
     let (table, first, second, _) = open_with(rt.alloc(), TWO_STRIPES)?;
@@ -142,12 +154,7 @@ fn while_locked(rt: HostRuntime) -> Result<(), Fail> {
     let Ok(locked) = table.caller(first).lock() else {
         return Err(Fail::from("a table that was not locked"));
     };
-    let grown = second.rehash(3);
-    assert!(rt; grown == Err(GrowFault::Busy(0)));
-    let grown = second.reserve(17);
-    assert!(rt; grown == Err(GrowFault::Busy(0)));
-    let grown = second.rehash(21);
-    assert!(rt; grown == Err(GrowFault::OverMax));
+    refused_meanwhile(&rt, &mut second);
     locked.unlock();
     let grown = second.reserve(17);
     assert!(rt; grown == Ok(true));

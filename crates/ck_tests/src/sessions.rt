@@ -158,23 +158,39 @@ fn make_calls(rt: &impl Abort, locked: &mut NumLocked<'_>, session: &Session)
     }
 }
 
+/// Makes the calls of the session, and gives the pairs that it leaves.
+fn pairs_of(
+    rt: &impl Abort,
+    alloc: Global,
+    caller: NumCaller<'_>,
+    session: &Session,
+) -> Result<Vec<(NumKey, u64)>, Fail> {
+    let Ok(mut locked) = caller.lock() else {
+        return Err(Fail::from("a table that was not locked"));
+    };
+    make_calls(rt, &mut locked, session);
+    let pairs = locked.export(alloc);
+    locked.unlock();
+    Ok(pairs?)
+}
+
 /// After the session another caller finds what it left, at the power that it left.
+fn check(rt: &impl Abort, alloc: Global, session: &Session) -> Result<(), Fail> {
+    let what = session.what;
+    let (table, first, second, _) = open(alloc, session.shape)?;
+    let pairs = pairs_of(rt, alloc, table.caller(first), session)?;
+    assert!(rt; pairs.as_slice() == session.end, "{what}");
+    let mut second = table.caller(second);
+    let power = second.power();
+    assert!(rt; power == Ok(session.power), "{what}");
+    finds_all(rt, &mut second, session);
+    Ok(())
+}
+
 #[test]
 fn sessions(rt: HostRuntime) -> Result<(), Fail> {
     for session in &SESSIONS {
-        let what = session.what;
-        let (table, first, second, _) = open(rt.alloc(), session.shape)?;
-        let Ok(mut locked) = table.caller(first).lock() else {
-            return Err(Fail::from("a table that was not locked"));
-        };
-        make_calls(&rt, &mut locked, session);
-        let pairs = locked.export(rt.alloc());
-        locked.unlock();
-        assert!(rt; pairs?.as_slice() == session.end, "{what}");
-        let mut second = table.caller(second);
-        let power = second.power();
-        assert!(rt; power == Ok(session.power), "{what}");
-        finds_all(&rt, &mut second, session);
+        check(&rt, rt.alloc(), session)?;
     }
     Ok(())
 }
