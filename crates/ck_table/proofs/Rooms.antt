@@ -8,8 +8,7 @@ use Rattle.ck_model.specs.declared.history.Reason.TheVariants.{NoRoom}
 use Rattle.ck_model.specs.declared.settings.Settings.{Settings}
 use Rattle.ck_model.specs.Arithmetic.{index_of, second_of}
 use Rattle.ck_model.specs.Map.{Name}
-use Rattle.ck_model.specs.Contents.{Layout, layout_of, Stripes, Lawful}
-use Rattle.ck_model.specs.Sections.{IdentitySection}
+use Rattle.ck_model.specs.Contents.{Layout, layout_of, Lawful}
 use Rattle.ck_model.specs.Paths.{Grounds}
 use Rattle.ck_model.proofs.Buckets.{index_lower, second_lower}
 use Rattle.ck_stripe.specs.Stripe.{StripeState}
@@ -17,7 +16,6 @@ use Rattle.ck_section.specs.declared.room.Lack as lack
 use Rattle.ck_section.specs.declared.room.Lack.TheVariants.{Memory, Full, LoadTooLow}
 use Rattle.ck_section.specs.Stripes.{stripe_at, contents_of}
 use Rattle.ck_section.specs.Places.{IsPlaceOf}
-use Rattle.ck_section.specs.Entries.{IsEntryOf}
 use Rattle.ck_section.specs.Calls.{IsWithoutRoom}
 use Rattle.ck_section.specs.Whole.{AreAllHeld, AreSettled, IsTable}
 use Rattle.ck_section.specs.Room.{power_in, reason_of_lack, AreBothSettled, KeepsBindings, MakesRoom, GivesReason}
@@ -62,6 +60,13 @@ module _ {V : Type 0} where
       let S : ℕ → Type 0 = λ i. (stripe_at stripes i).settled ≡ true in
       place_in s stripes table hash q h first second of one two (subst S (sym low) both.first) (subst S (sym high) both.second)
 
+  -- lawful stripes in which room was made for a name have an entry of it
+  pub has_entry : {hash : Name → ℕ} {q : Name} (set : Settings) (ss ss2 : List (StripeState V)) → Lawful (layout_of hash set) (contents_of ss) → KeepsBindings (layout_of hash set) ss ss2 → MakesRoom (layout_of hash set) ss ss2 q
+      → (s : ℕ) (stripes : List (StripeState V)) → s ≡ set.s → stripes ≡ ss2 → ¬ (IsWithoutRoom hash s stripes q)
+  has_entry {hash} {q} set ss ss2 lawful keeps made s stripes of_table kept none =
+      let here : IsWithoutRoom hash set.s ss2 q = subst (λ (x : ℕ × List (StripeState V)). IsWithoutRoom hash x.0 x.1 q) (λ i. (of_table i, kept i)) none in
+      made lawful (here set.max (keeps lawful).renewed.lawful)
+
   shows_lack : (set : Settings) (q : Name) (l : lack.Lack) (p z : PassState V) → ShowsWhy set q (why_of l) ((q, reason_of_lack l) ∷ []) p z
   shows_lack set q Memory p z = (0, omega arith, refl)
   shows_lack set q Full p z = (0, omega arith, refl)
@@ -96,7 +101,7 @@ module _ {V : Type 0} where
     abbrev k : Layout
     k = layout_of hash set
 
-    lawful_taken : Lawful k (contents_of p1.stripes)
+    pub lawful_taken : Lawful k (contents_of p1.stripes)
     lawful_taken = subst (λ (x : Settings). Lawful (layout_of hash x) (contents_of p1.stripes)) (sym set_is) (lawful_held hash w.settings p1 whole)
 
     pub all_there : AreSettled p1.stripes → IsTable w.settings.s p1.stripes → AreAllHeld set.s p1.stripes
@@ -112,18 +117,3 @@ module _ {V : Type 0} where
       pub grounds_there : (l : lack.Lack) → GivesReason k set.min_load p1.stripes p2.stripes q l
           → Lawful (layout_of hash w.settings) (reverse p2.view.held) → Grounds (layout_of hash w.settings) w.settings.min_load (contents_of p2.stripes) q (reason_of_lack l)
       grounds_there l refused held = subst (λ (x : Settings). Grounds (layout_of hash x) x.min_load (contents_of p2.stripes) q (reason_of_lack l)) set_is (refused lawful_taken)
-
-      -- where there is room, there is an entry
-      pub has_entry : MakesRoom k p1.stripes p2.stripes q → (s : ℕ) (stripes : List (StripeState V)) → s ≡ set.s → stripes ≡ p2.stripes → ¬ (IsWithoutRoom hash s stripes q)
-      has_entry made s stripes of_table kept none =
-          let here : IsWithoutRoom hash set.s p2.stripes q = subst (λ (x : ℕ × List (StripeState V)). IsWithoutRoom hash x.0 x.1 q) (λ i. (of_table i, kept i)) none in
-          made lawful_taken (here set.max (keeps lawful_taken).renewed.lawful)
-
-      -- and the entry was found
-      pub holds_there : (p3 p4 : PassState V) → p3.stripes ≡ p2.stripes → p4.stripes ≡ p3.stripes → p4.view ≡ p2.view → (r : Room) → IsPlaceOf hash p2.stripes q r.spot.place → r.spot.place.s ≡ set.s → IsEntryOf hash p3.stripes q r.spot.place r.entry → HoldsRoom hash w.settings q r p4
-      holds_there p3 p4 one two view r at of_table entry = record {
-        at = subst (λ (ss : List (StripeState V)). IsPlaceOf hash ss q r.spot.place) (sym (two ∙ one)) at;
-        s = of_table ∙ ap (λ (x : Settings). x.s) set_is;
-        entry = subst (λ (ss : List (StripeState V)). IsEntryOf hash ss q r.spot.place r.entry) (sym two) entry;
-        renewed = subst (λ (x : Stripes V × Stripes V). Lawful (layout_of hash w.settings) (reverse x.0) → IdentitySection (layout_of hash w.settings) (reverse x.0) x.1) (λ i. (ap (λ (x : View V). x.held) (sym view) i, ap contents_of (sym (two ∙ one)) i)) renewed_there;
-      }

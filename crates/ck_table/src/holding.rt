@@ -1,6 +1,7 @@
 //! Taking the stripes of a key, with room for it.
 ghost use Rattle.std.specs.Prelude.{◌≡◌, ◌≤◌, false, OnOk, OnErr, IfOk, IfErr};
-ghost use Rattle.ck_section.specs.Places.{AreHeld};
+ghost use Rattle.ck_key.specs.Hashes.{IsHashOf};
+ghost use Rattle.ck_section.specs.Places.{AreHeld, HasBoth, IsPlaceOf};
 ghost use Rattle.ck_words.specs.Passes.{PassState, IsPassOf, IsIdle, numbers_of, pair};
 ghost use Rattle.ck_words.specs.Lending.{list_of};
 ghost use Rattle.ck_words.specs.Holding.{IsEither, HasTaken};
@@ -107,14 +108,38 @@ impl<K: TableKey + Drop, V: Drop> Table<K, V> {
     {
         let Home { s, low, high, hash } = home;
         self.words.settle_taken(pass, low, high);
+        let place = self.place_of(pass, Numbers::pair(low, high), s, key, hash);
+        Spot { low, high, place }
+    }
+
+    // Where the key may be among the stripes of these numbers, which its pass holds.
+    #[inline(always)]
+    pub(crate) fn place_of(
+        &self,
+        pass: &mut Pass<K, V>,
+        numbers: Numbers,
+        s: u32,
+        key: &K,
+        hash: KeyHash,
+    ) -> KeyPlace
+        requires own { IsPassOf self.now pass.old }
+        requires numbered { numbers_of pass.old.stripes ≡ list_of numbers }
+        requires s { s ≡ self.now.settings.s }
+        requires held { AreHeld s pass.old.stripes }
+        requires hash { IsHashOf K.hash (K.name key.now) hash }
+        requires both { HasBoth K.hash s pass.old.stripes (K.name key.now) }
+        ensures own { IsPassOf self.now pass.new }
+        ensures place { IsPlaceOf K.hash pass.old.stripes (K.name key.now) result }
+        ensures s { result.s ≡ s }
+        ensures same { pass.new ≡ pass.old }
+    {
         let mut lent = Lent {
             words: &self.words,
             pass,
-            numbers: Numbers::pair(low, high),
+            numbers,
             s,
         };
-        let place = key_place(&mut lent, s, key, hash);
-        Spot { low, high, place }
+        key_place(&mut lent, s, key, hash)
     }
 
     // The entry of the key on its stripes, which the pass holds. Where the key is unbound and its buckets are full, it gives

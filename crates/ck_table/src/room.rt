@@ -4,11 +4,13 @@ ghost use Rattle.ck_key.specs.Hashes.{IsHashOf};
 ghost use Rattle.ck_model.specs.declared.history.Reply.{Reply};
 ghost use Rattle.ck_model.specs.Contents.{layout_of, Lawful};
 ghost use Rattle.ck_model.specs.Paths.{Grounds};
+ghost use Rattle.ck_model.specs.Counting.{counting};
+ghost use Rattle.ck_model.specs.Ranges.{AreInRange};
 ghost use Rattle.ck_section.specs.Stripes.{contents_of};
 ghost use Rattle.ck_section.specs.Places.{IsPlaceOf};
-ghost use Rattle.ck_section.specs.Whole.{IsTable, AreSettled};
-ghost use Rattle.ck_section.specs.Room.{AreBothSettled, reason_of_lack};
-ghost use Rattle.ck_model.specs.Counting.{counting};
+ghost use Rattle.ck_section.specs.Entries.{IsEntryOf};
+ghost use Rattle.ck_section.specs.Whole.{IsTable, AreSettled, AreAllHeld};
+ghost use Rattle.ck_section.specs.Room.{AreBothSettled, KeepsBindings, GivesReason, reason_of_lack};
 ghost use Rattle.ck_words.specs.Passes.{IsPassOf, IsIdle, numbers_of};
 ghost use Rattle.ck_words.specs.Lending.{list_of};
 ghost use Rattle.ck_words.specs.Retries.{FindsAmong};
@@ -24,6 +26,7 @@ use crate::refusal::{Busy, Why};
 use crate::search::stripe_of;
 use crate::table::Table;
 use ck_key::{KeyHash, TableKey, alternate, index};
+use ck_model::settings::Settings;
 use ck_section::{Entry, Held, HeldBucket, KeyPlace, Lack, find_entry, make_room};
 use ck_words::{Commit, Lent, Numbers, Pass};
 
@@ -135,11 +138,7 @@ impl<K: TableKey + Drop, V: Drop> Table<K, V> {
             numbers: Numbers::all(s),
             s,
         };
-        make_room(&mut lent, s, key, hash, settings.max, settings.min_load)?;
-        let place = place_in_table(&mut lent, s, key, hash);
-        let Some(entry) = find_entry(&mut lent, place, key) else {
-            unreachable!()
-        };
+        let (place, entry) = make_entry(&mut lent, settings, key, hash)?;
         let (low, high) = hash.stripes(s);
         Ok(Room {
             spot: Spot {
@@ -151,6 +150,43 @@ impl<K: TableKey + Drop, V: Drop> Table<K, V> {
             all: true,
         })
     }
+}
+
+// Makes room for the key, whose hash the caller has at hand, among all stripes of a table. Where it may be among them comes
+// back, and its entry there.
+fn make_entry<K: TableKey + Drop, V: Drop, H: Held<K, V>>(
+    held: &mut H,
+    settings: Settings,
+    key: &K,
+    hash: KeyHash,
+) -> Result<(KeyPlace, Entry), Lack>
+    requires range { AreInRange settings }
+    requires held { AreAllHeld settings.s (H.stripes held.old) }
+    requires lawful { Lawful (layout_of K.hash settings) (contents_of (H.stripes held.old)) }
+    requires hash { IsHashOf K.hash (K.name key.now) hash }
+    ensures no_call { KeepsBindings (layout_of K.hash settings)
+        (H.stripes held.old) (H.stripes held.new) }
+    ensures place { IfOk result (λ found.
+        IsPlaceOf K.hash (H.stripes held.new) (K.name key.now) found.0) }
+    ensures s { IfOk result (λ found. found.0.s ≡ settings.s) }
+    ensures entry { IfOk result (λ found.
+        IsEntryOf K.hash (H.stripes held.new) (K.name key.now) found.0 found.1) }
+    ensures refused { IfErr result (GivesReason (layout_of K.hash settings) settings.min_load
+        (H.stripes held.old) (H.stripes held.new) (K.name key.now)) }
+    ensures stays { H.stays held.old held.new }
+{
+    let Settings {
+        s,
+        max,
+        min_load,
+        ..
+    } = settings;
+    make_room(held, s, key, hash, max, min_load)?;
+    let place = place_in_table(held, s, key, hash);
+    let Some(entry) = find_entry(held, place, key) else {
+        unreachable!()
+    };
+    Ok((place, entry))
 }
 
 // Where the key, whose hash the caller has at hand, may be among all stripes of a table of 2^s. Its own two are settled.

@@ -1,11 +1,12 @@
-use Rattle.std.proofs.Common.{rules, ℕ, ◌≡◌, ◌∙◌, ap, sym, subst}
+use Rattle.std.proofs.Common.{ℕ, ◌∙◌, ap, sym, subst}
 use Rattle.ck_section.specs.Places.{HasBoth}
+use Rattle.ck_words.specs.Passes.{PassState}
 use Rattle.ck_words.specs.Retries.{Stays}
 use Rattle.ck_table.proofs.Calls.{has_both, finds_own, holds_then}
 use Rattle.ck_table.proofs.table.Table.spot_in.Goals as goal
 
-pub key_place-place-requires-clause-owned : goal.key_place-place-requires-clause-owned
-key_place-place-requires-clause-owned g c =
+pub place_of-place-requires-clause-both : goal.place_of-place-requires-clause-both
+place_of-place-requires-clause-both g c =
     let h = c.requires.home in
     subst (λ (s : ℕ). HasBoth g.K.TableKey.hash s c.settle_taken.new.pass.stripes (g.K.TableKey.name c.args.key.now)) (sym h.s)
     (has_both c.args.self.now.settings h.s h.hashed h.low h.high c.settle_taken.new.pass.stripes c.settle_taken.ensures.numbers)
@@ -13,14 +14,12 @@ key_place-place-requires-clause-owned g c =
 pub returns-clause-held : goal.returns-clause-held
 returns-clause-held g c = λ p taken.
     let h = c.requires.home in
-    let k = c.key_place-place in
-    let there : k.new.held.pass.now ≡ c.pass-1.given.0 = search rules in
+    let k = c.place_of-place in
     let both = has_both c.args.self.now.settings h.s h.hashed h.low h.high c.settle_taken.new.pass.stripes c.settle_taken.ensures.numbers in
-    rw (← there) (holds_then p c.settle_taken.new.pass (subst (Stays p.view) (sym c.settle_taken.ensures.view) taken.stays) both c.settle_taken.ensures.unchanged k.ensures.place (k.ensures.s ∙ h.s) k.new.held.pass.now k.ensures.same k.ensures.stays.1)
+    holds_then p c.settle_taken.new.pass (subst (Stays p.view) (sym c.settle_taken.ensures.view) taken.stays) both c.settle_taken.ensures.unchanged k.ensures.place (k.ensures.s ∙ h.s) k.new.pass (ap (λ (x : PassState g.row.V.Denot). x.stripes) k.ensures.same) (ap (λ (x : PassState g.row.V.Denot). x.view) k.ensures.same)
 
 pub returns-clause-found : goal.returns-clause-found
 returns-clause-found g c = λ p taken.
     let h = c.requires.home in
-    let there : c.key_place-place.new.held.pass.now ≡ c.pass-1.given.0 = search rules in
     let found = finds_own c.args.self.now.settings h.s h.hashed h.low h.high p c.args.pass.now taken.found in
-    rw (← there) (found.0, ap (λ v. v.found) (c.key_place-place.ensures.stays.1 ∙ c.settle_taken.ensures.view) ∙ found.1, found.2)
+    (found.0, ap (λ (x : PassState g.row.V.Denot). x.view.found) c.place_of-place.ensures.same ∙ (ap (λ v. v.found) c.settle_taken.ensures.view ∙ found.1), found.2)
