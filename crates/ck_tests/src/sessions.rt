@@ -370,19 +370,36 @@ fn finds_all_same(
     Ok(())
 }
 
+/// A caller has a session, and another finds what it left.
+fn check_random(
+    rt: &impl Abort,
+    alloc: Global,
+    random: &mut Lcg64Xsh32,
+    first: NumCaller<'_>,
+    second: &mut NumCaller<'_>,
+    plain: &mut PlainMap,
+) -> Result<(), Fail> {
+    random_session(rt, alloc, random, first, plain)?;
+    finds_all_same(rt, alloc, second, plain)?;
+    let power = second.power();
+    assert!(rt; power == Ok(12));
+    Ok(())
+}
+
 /// Two callers have a session each, and a third finds what they left.
-#[test]
-fn random_sessions(rt: HostRuntime) -> Result<(), Fail> {
-    let alloc = rt.alloc();
+fn check_two(rt: &impl Abort, alloc: Global) -> Result<(), Fail> {
     let mut random = Lcg64Xsh32::new(2026, 2);
     let mut plain = PlainMap::new(alloc);
     let (table, first, second, third) = open(alloc, TO_TWELVE)?;
+    let (first, second) = (table.caller(first), table.caller(second));
     let mut third = table.caller(third);
-    random_session(&rt, alloc, &mut random, table.caller(first), &mut plain)?;
-    finds_all_same(&rt, alloc, &mut third, &plain)?;
-    let power = third.power();
-    assert!(rt; power == Ok(12));
-    random_session(&rt, alloc, &mut random, table.caller(second), &mut plain)?;
-    finds_all_same(&rt, alloc, &mut third, &plain)?;
+    for caller in [first, second] {
+        check_random(rt, alloc, &mut random, caller, &mut third, &mut plain)?;
+    }
     Ok(())
+}
+
+#[test]
+fn random_sessions(rt: HostRuntime) -> Result<(), Fail> {
+    check_two(&rt, rt.alloc())
 }

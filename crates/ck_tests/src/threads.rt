@@ -63,8 +63,9 @@ fn check<R: Threads + Abort + Sync>(rt: &R, alloc: Global, threads: u32) -> Resu
         ..SIXTEEN_BUCKETS.settings(threads)
     };
     let (table, passes) = NumTable::open(alloc, settings)?;
+    let callers = table.callers(alloc, passes)?;
     let mut jobs = Vec::new(alloc);
-    for caller in table.callers(alloc, passes)? {
+    for caller in callers {
         let thread = jobs.len();
         jobs.push((thread, caller))?;
     }
