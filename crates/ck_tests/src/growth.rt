@@ -114,7 +114,8 @@ fn keys_stay(rt: HostRuntime) -> Result<(), Fail> {
     Ok(())
 }
 
-/// Another caller can't make a locked table grow. What is above the greatest power is refused as such.
+/// Another caller can't make a locked table grow. What is above the greatest power is refused as
+/// such.
 fn refused_meanwhile(rt: &impl Abort, caller: &mut NumCaller<'_>) {
     let rows = [
         (Power(3), GrowFault::Busy(0)),

@@ -1,6 +1,8 @@
-//! Want of memory: a call gets a little more memory from step to step, so that each of its requests is refused in turn.
+//! Want of memory: a call gets a little more memory from step to step, so that each of its requests
+//! is refused in turn.
 //!
-//! A test first takes all memory that the allocator still gives, and gives back a small block of it for the call.
+//! A test first takes all memory that the allocator still gives, and gives back a small block of it
+//! for the call.
 ghost use Rattle.std.specs.Prelude.{◌≡◌, IfSome, IfOk};
 ghost use Rattle.ck_words.specs.Closing.{IsCaller, AreAllPasses};
 
@@ -136,8 +138,8 @@ fn fill(table: &NumTable, pass: &mut NumPass) -> bool
     bound
 }
 
-/// A table with eight keys, and the pass of its one caller. The list of the pairs takes more memory than is free again once
-/// the table is open.
+/// A table with eight keys, and the pass of its one caller. The list of the pairs takes more memory
+/// than is free again once the table is open.
 fn table_of(alloc: Global) -> Option<(NumTable, Vec<NumPass>)>
     ensures { IfSome result (λ r. AreAllPasses r.0 r.1.items) }
 {
@@ -261,7 +263,8 @@ fn ends_of<R: Abort + Threads + Sync>(
     Ok(ends)
 }
 
-/// Both are refused for want of memory, and then neither is; what has to come before needs memory too, or none.
+/// Both are refused for want of memory, and then neither is; what has to come before needs memory
+/// too, or none.
 const ROWS: [(&str, Subject, usize, bool); 5] = [
     ("a text key", Subject::Key, 20, false),
     ("opening a table", Subject::Opening, 120, false),

@@ -1,4 +1,5 @@
-//! Sessions: a table under one caller, which may bind more keys than the table has room for when it is locked.
+//! Sessions: a table under one caller, which may bind more keys than the table has room for when it
+//! is locked.
 ghost use Rattle.std.specs.Prelude.{◌≡◌};
 ghost use Rattle.ck_table.specs.Callers.{IsSameCaller};
 
@@ -54,7 +55,8 @@ fn answer(locked: &mut NumLocked<'_>, call: Call) -> Reply
     }
 }
 
-/// A session from the empty table on, with calls and their replies, and the pairs and the power that it leaves.
+/// A session from the empty table on, with calls and their replies, and the pairs and the power
+/// that it leaves.
 #[derive(Clone, Copy)]
 struct Session {
     what: &'static str,
@@ -72,7 +74,8 @@ const MAY_GROW: Shape = Shape {
     rounds: 4,
 };
 
-/// Keys `b` times this have partial 0 and the bucket 0 at each power up to 40, so they all have the same two buckets.
+/// Keys `b` times this have partial 0 and the bucket 0 at each power up to 40, so they all have the
+/// same two buckets.
 const APART: u64 = 282_574_488_338_432;
 
 static SESSIONS: [Session; 3] = [
@@ -262,8 +265,8 @@ fn key_of(call: Call) -> u64 {
     }
 }
 
-/// Makes the call on both, and says whether the replies are the same. Where there is no room for a key, it is unbound in the
-/// plain map too.
+/// Makes the call on both, and says whether the replies are the same. Where there is no room for a
+/// key, it is unbound in the plain map too.
 fn agree(
     alloc: Global,
     locked: &mut NumLocked<'_>,
