@@ -1,16 +1,17 @@
 """What every output of a script has, recomputed from the script's own lines.
 
-A script of several workers has no single output. Its row names checks, each a function here that is given a `Run` and
-yields what is wrong: the words of the commands with their answers, and the pairs behind the line `map`.
+A script of several workers has no single output. Its row names checks, each a function here that
+is given a `Run` and yields what is wrong: the words of the commands with their answers, and the
+pairs behind the line `map`.
 """
 
 MOST = 2**64 - 1
 
-# What a command may be answered, besides `busy`, where the first word is all of the answer or goes before a number.
+# What a command is answered where it is not refused: the first word of the answer.
 ANSWERS = {
-    "find": {"v", "none"}, "has": {"yes", "no"}, "erase": {"gone", "none"}, "len": {"len"}, "list": {"list"},
-    "insert": {"new", "old"}, "assign": {"new", "set"}, "update": {"set", "none"}, "add": {"new", "set"},
-    "move": {"set", "none"},
+    "find": {"v", "none"}, "has": {"yes", "no"}, "insert": {"new", "old"},
+    "assign": {"new", "set"}, "update": {"set", "none"}, "add": {"new", "set"},
+    "erase": {"gone", "none"}, "move": {"set", "none"}, "len": {"len"}, "list": {"list"},
 }
 
 
@@ -90,7 +91,9 @@ def pairs_of(lines):
 
 
 def form(run):
-    """Each command has an answer of its kind, and none is refused; pairs are in rising order of their keys."""
+    """Each command has an answer of its kind, and none is refused; pairs are in rising order of
+    their keys.
+    """
     for done in run.done:
         if done.reply not in ANSWERS[done.kind]:
             yield str(done)
@@ -135,7 +138,8 @@ def answer_of(run, plain, done):
     if done.kind == "list":
         return "list %d" % len(plain), sorted(plain.items(), key=lambda pair: run.rank(pair[0]))
     key = done.words[1]
-    value, answer = next_value(done.kind, plain.get(key), int(done.words[-1]) if len(done.words) > 2 else 0)
+    amount = done.amount() if len(done.words) > 2 else 0
+    value, answer = next_value(done.kind, plain.get(key), amount)
     plain.pop(key, None)
     if value is not None:
         plain[key] = value
@@ -143,8 +147,9 @@ def answer_of(run, plain, done):
 
 
 def alone(run):
-    """A worker that is the only one to change a key is answered of it, and leaves it, as on a plain map. Where there is one
-    worker, that holds of every command and of the whole end."""
+    """A worker that is the only one to change a key is answered of it, and leaves it, as on a
+    plain map. Where there is one worker, that holds of every command and of the whole end.
+    """
     one = all(done.worker == 1 for done in run.done)
     changers = {key: {done.worker for done in commands if done.kind not in ("find", "has")}
                 for key, commands in run.of_keys.items()}
@@ -182,21 +187,25 @@ def sums(run):
 
 
 def counts(run):
-    """A key that is only inserted and erased is bound at the end where it was bound once more than it was erased, to a
-    number with which an insertion bound it."""
+    """A key that is only inserted and erased is bound at the end where it was bound once more
+    than it was erased, to a number with which an insertion bound it.
+    """
     end, found = dict(run.map), 0
     for key, commands in of_kinds(run, {"insert", "erase", "has", "find"}):
         bound = [done.amount() for done in commands if done.reply == "new"]
         left = len(bound) - sum(done.reply == "gone" for done in commands)
         found += 1
         if not bound or left != (key in end) or left and end[key] not in bound:
-            yield "key %s: %d times bound, %d left, %s at the end" % (key, len(bound), left, end.get(key))
+            wrong = (key, len(bound), left, end.get(key))
+            yield "key %s: %d times bound, %d left, %s at the end" % wrong
     if not found:
         yield "no key that is inserted"
 
 
 def last(run):
-    """A key that is only assigned to has one `new`, and ends with the last number of one of its workers."""
+    """A key that is only assigned to has one `new`, and ends with the last number of one of its
+    workers.
+    """
     end, found = dict(run.map), 0
     for key, commands in of_kinds(run, {"assign"}):
         lasts = {done.worker: done.amount() for done in commands}
@@ -209,8 +218,10 @@ def last(run):
 
 
 def funds(run):
-    """Keys begin with one and the same number, and are only moved between: at the end, and in each list, they have that
-    number each on the average. A worker that counts the keys finds no fewer than before."""
+    """Keys begin with one and the same number, and are only moved between: at the end, and in
+    each list, they have that number each on the average. A worker that counts the keys finds no
+    fewer than before.
+    """
     amounts = {done.amount() for done in run.done if done.kind == "insert"}
     fund = amounts.pop() if len(amounts) == 1 else None
     for pairs in [run.map] + [done.listed for done in run.done]:
@@ -228,7 +239,9 @@ def funds(run):
 
 
 def seen(run):
-    """A key that one worker inserts and nobody changes is found with its number by the others, if at all, and stays found."""
+    """A key that one worker inserts and nobody changes is found with its number by the others,
+    if at all, and stays found.
+    """
     found = {}
     for key, commands in of_kinds(run, {"insert", "find", "has"}):
         bound = [done for done in commands if done.reply == "new"]
@@ -256,7 +269,8 @@ def keys(run, count):
 
 
 CHECKS = {
-    "alone": alone, "sums": sums, "counts": counts, "last": last, "funds": funds, "seen": seen, "keys": keys,
+    "alone": alone, "sums": sums, "counts": counts, "last": last, "funds": funds, "seen": seen,
+    "keys": keys,
 }
 
 

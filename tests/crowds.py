@@ -1,4 +1,6 @@
-"""Scripts that are made: those of `cuckoo make`, by docs/SCRIPTS.md, and those of many commands for several workers."""
+"""Scripts that are made: those of `cuckoo make`, by docs/SCRIPTS.md, and those of many commands
+for several workers.
+"""
 import random
 
 HEAD = "cuckoo 2\nturns 4294967295\n"
@@ -45,13 +47,15 @@ def scattered(index):
 def bind(workers, lines):
     """All bind the same keys."""
     return script(["s 2", "power 4"], [
-        ["insert %d %d" % (key, worker * lines + key + 1) for key in range(lines)] for worker in range(workers)])
+        ["insert %d %d" % (key, worker * lines + key + 1) for key in range(lines)]
+        for worker in range(workers)])
 
 
 def add(workers, lines):
     """All add to three keys in turn."""
     return script(["s 2", "power 4"], [
-        ["add %d %d" % ((worker + at) % 3, at % 7 + 1) for at in range(lines)] for worker in range(workers)])
+        ["add %d %d" % ((worker + at) % 3, at % 7 + 1) for at in range(lines)]
+        for worker in range(workers)])
 
 
 def renew(workers, lines):
@@ -59,13 +63,15 @@ def renew(workers, lines):
     def line(worker, at):
         key = (worker + at) % 3
         return "erase %d" % key if at % 2 else "insert %d %d" % (key, worker * lines + at + 1)
-    return script(["s 2", "power 4"], [[line(worker, at) for at in range(lines)] for worker in range(workers)])
+    return script(["s 2", "power 4"], [
+        [line(worker, at) for at in range(lines)] for worker in range(workers)])
 
 
 def assign(workers, lines):
     """All bind one key again and again, each time to another number."""
     return script(["s 2", "power 4"], [
-        ["assign 0 %d" % (worker * lines + at + 1) for at in range(lines)] for worker in range(workers)])
+        ["assign 0 %d" % (worker * lines + at + 1) for at in range(lines)]
+        for worker in range(workers)])
 
 
 def transfer(workers, lines):
@@ -79,20 +85,24 @@ def transfer(workers, lines):
 
 
 def sessions(workers, lines):
-    """The first two bind ten keys and move numbers between them, ten times as often as the third counts the keys and the
-    others list them."""
+    """The first two bind ten keys and move numbers between them, ten times as often as the third
+    counts the keys and the others list them.
+    """
     def line(worker, at):
         if worker < 2:
             return "move %d %d 1" % (at % 10, (at // 10 % 9 + at + 1) % 10)
         return "len" if worker == 2 else "list"
     block = ["insert %d 100" % key for key in range(10)]
     return script(["s 2", "power 4"], [
-        (block if worker < 2 else []) + [line(worker, at) for at in range(lines * (10 if worker < 2 else 1))]
+        block + [line(worker, at) for at in range(10 * lines)] if worker < 2
+        else [line(worker, at) for at in range(lines)]
         for worker in range(workers)])
 
 
 def own_keys(worker, lines, other):
-    """Binds keys of its own, changes and erases them, and binds them again, and looks for those of another."""
+    """Binds keys of its own, changes and erases them, and binds them again, and looks for those
+    of another.
+    """
     for at in range(lines):
         index = worker * lines + at
         key = scattered(index)
@@ -112,7 +122,8 @@ def fill(workers, lines):
 
 def grow(workers, lines):
     """The same in a table of four buckets, which has to grow."""
-    return script(["s 2"], [own_keys(worker, lines, (worker + 1) % workers) for worker in range(workers)])
+    return script(["s 2"], [
+        own_keys(worker, lines, (worker + 1) % workers) for worker in range(workers)])
 
 
 def busy_block(first, lines, binders, bound):
@@ -120,29 +131,35 @@ def busy_block(first, lines, binders, bound):
     yield from ("insert %d 100" % (first + own) for own in range(4))
     for at in range(lines):
         yield ["add %d 1" % first, "erase %d" % (first + 1), "insert %d 100" % (first + 1),
-               "move %d %d 1" % (first + 2, first + 3), "move %d %d 1" % (first + 3, first + 2)][at % 5]
+               "move %d %d 1" % (first + 2, first + 3),
+               "move %d %d 1" % (first + 3, first + 2)][at % 5]
         yield "find %d" % scattered(at * 7919 % (binders * bound) + 1000)
 
 
 def crowd(workers, lines):
-    """All but two bind keys of their own, from four buckets on, and the last two change theirs and look for the others'."""
+    """All but two bind keys of their own, from four buckets on, and the last two change theirs
+    and look for the others'.
+    """
     binders = workers - 2
-    blocks = [["insert %d %d" % (scattered(index + 1000), index) for index in range(worker * lines, (worker + 1) * lines)]
+    blocks = [["insert %d %d" % (scattered(index + 1000), index)
+               for index in range(worker * lines, (worker + 1) * lines)]
               for worker in range(binders)]
     blocks += [busy_block(first, min(lines, 20000), binders, lines) for first in (0, 4)]
     return script(["s 2"], blocks)
 
 
 def rows_of(seed, lines, keys):
-    """A worker's random commands of each kind, on so many keys, of which one in 64 has the same two buckets as the others of
-    its kind at each power."""
+    """A worker's random commands of each kind, on so many keys, of which one in 64 has the same
+    two buckets as the others of its kind at each power.
+    """
     pick = random.Random(seed)
     for _ in range(lines):
         key, other = pick.sample(range(keys), 2)
         key = key // 64 * 282574488338432 if key % 64 == 0 else key
         number = pick.choice([0, 1, pick.getrandbits(10), pick.getrandbits(64)])
         yield pick.choices([
-            "find %d" % key, "has %d" % key, "insert %d %d" % (key, number), "assign %d %d" % (key, number),
+            "find %d" % key, "has %d" % key,
+            "insert %d %d" % (key, number), "assign %d %d" % (key, number),
             "update %d %d" % (key, number), "add %d %d" % (key, number), "erase %d" % key,
             "move %d %d %d" % (key, other, number) if key != other else "len", "len", "list",
         ], [10, 5, 20, 10, 5, 10, 10, 10, 3, 0.1])[0]

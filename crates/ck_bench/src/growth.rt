@@ -1,4 +1,5 @@
-//! Times of insertions into a table that grows, by one, two and four threads, and of the longest ones.
+//! Times of insertions into a table that grows, by one, two and four threads, and of the longest
+//! ones.
 use crate::table::{POWER, Worker, busy_error, open, random_keys, settings, share};
 use crate::timing::Least;
 use ck_key::NumKey;
@@ -58,7 +59,8 @@ fn run_with<R: Threads + Clock + Print + Sync>(
     least.print(rt, "insertion of a thread", KEYS / threads.max(1) as usize)
 }
 
-/// The longest insertions in microseconds: before the table doubles, the one that doubles it, and those behind it.
+/// The longest insertions in microseconds: before the table doubles, the one that doubles it, and
+/// those behind it.
 #[derive(Clone, Copy)]
 struct Pauses {
     before: u128,

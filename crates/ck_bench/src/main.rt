@@ -1,5 +1,5 @@
-//! Times of the table. A word says what is measured, and `run` measures all; with no word it only tells the words, so that
-//! what it prints doesn't depend on the machine.
+//! Times of the table. A word says what is measured, and `run` measures all; with no word it only
+//! tells the words, so that what it prints doesn't depend on the machine.
 #![tactic(auto)]
 
 mod calls;

@@ -1,4 +1,5 @@
-//! Times of what one caller does with all stripes: of `len`, of a session that does nothing, and of one that exports all pairs.
+//! Times of what one caller does with all stripes: of `len`, of a session that does nothing, and of
+//! one that exports all pairs.
 use crate::table::{Caller, busy_error, open, random_keys, settings, share};
 use crate::timing::Least;
 use std::alloc::Global;

@@ -57,7 +57,8 @@ pub fn random_keys(alloc: Global, seed: u64, count: usize) -> Result<Vec<u64>, A
     Ok(keys)
 }
 
-/// A caller, the keys that it is called with, and a sum of all answers: what must be used for the calls not to be left out.
+/// A caller, the keys that it is called with, and a sum of all answers: what must be used for the
+/// calls not to be left out.
 #[derive(Drop)]
 pub struct Worker<'t, 'k> {
     pub caller: Caller<'t>,

@@ -3,7 +3,8 @@ use std::io;
 use std::rt::Clock;
 use std::time::Instant;
 
-/// The least time that was noted, in nanoseconds. What slows the machine down for a while doesn't count.
+/// The least time that was noted, in nanoseconds. What slows the machine down for a while doesn't
+/// count.
 #[derive(Clone, Copy)]
 pub struct Least(pub u128);
 

@@ -1,4 +1,5 @@
-//! Calls on one key by two callers of a table, from one thread, and what the table has at its end. A third makes none.
+//! Calls on one key by two callers of a table, from one thread, and what the table has at its end.
+//! A third makes none.
 ghost use Rattle.std.specs.Prelude.{◌≡◌};
 ghost use Rattle.ck_table.specs.Callers.{IsSameCaller};
 

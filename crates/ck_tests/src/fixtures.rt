@@ -118,7 +118,8 @@ pub fn open_with(
     Ok((table, first, second, third))
 }
 
-/// Ends a table of three callers, none of which is in a call, so that it is refused only for want of memory.
+/// Ends a table of three callers, none of which is in a call, so that it is refused only for want
+/// of memory.
 pub fn close(
     alloc: Global,
     table: NumTable,

@@ -1,4 +1,5 @@
-//! Threads that bind keys of their own in one table, which grows for them from four buckets on, while others look for these keys.
+//! Threads that bind keys of their own in one table, which grows for them from four buckets on,
+//! while others look for these keys.
 
 use crate::callers::{Call, Reply, answer};
 use crate::fixtures::{NumCaller, NumTable, Shape, count, counters, read, scattered};
@@ -105,7 +106,8 @@ impl Notes {
     }
 }
 
-/// Binds the key of an index to the index, and tries again as long as a stripe is busy: key and value come back then.
+/// Binds the key of an index to the index, and tries again as long as a stripe is busy: key and
+/// value come back then.
 fn bind(caller: &mut NumCaller<'_>, index: u64, notes: &Notes) {
     let key = scattered(index);
     for tries in 1..u64::MAX {

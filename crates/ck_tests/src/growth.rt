@@ -79,26 +79,6 @@ fn the_greatest_powers(rt: HostRuntime) -> Result<(), Fail> {
     Ok(())
 }
 
-/// A key whose bucket is the last one.
-#[test]
-fn the_last_bucket(rt: HostRuntime) -> Result<(), Fail> {
-    let settings = Settings {
-        power: 8,
-        ..TWO_STRIPES
-    };
-    let (table, first, _, _) = open_with(rt.alloc(), settings)?;
-    let mut caller = table.caller(first);
-    let fresh = caller.insert(NumKey(255), 1);
-    assert!(rt; fresh.is_ok());
-    let found = caller.find(&NumKey(255));
-    assert!(rt; found == Ok(Some(1)));
-    let grown = caller.rehash(9);
-    assert!(rt; grown == Ok(true));
-    let found = caller.find(&NumKey(255));
-    assert!(rt; found == Ok(Some(1)));
-    Ok(())
-}
-
 /// Eight keys, each four in the bucket that they share.
 const KEYS: [u64; 8] = [3, 7, 11, 15, 12, 8, 4, 0];
 
@@ -134,7 +114,8 @@ fn keys_stay(rt: HostRuntime) -> Result<(), Fail> {
     Ok(())
 }
 
-/// Another caller can't make a locked table grow. What is above the greatest power is refused as such.
+/// Another caller can't make a locked table grow. What is above the greatest power is refused as
+/// such.
 fn refused_meanwhile(rt: &impl Abort, caller: &mut NumCaller<'_>) {
     let rows = [
         (Power(3), GrowFault::Busy(0)),

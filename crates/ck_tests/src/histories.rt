@@ -95,8 +95,8 @@ fn entry(alloc: Global, (ask, answer): (Ask, Answer)) -> Result<Entry<u64>, Allo
 // What 0, 3 and 258 are bound to.
 type Values = (Option<u64>, Option<u64>, Option<u64>);
 
-// A call of the map in which 0 is bound to 5 and 3 to 7, its reply, and what 0, 3 and 258 are bound to after the step,
-// where there is one.
+// A call of the map in which 0 is bound to 5 and 3 to 7, its reply, and what 0, 3 and 258 are bound
+// to after the step, where there is one.
 type Step = (Ask, Answer, Option<Values>);
 
 // The name is bound.

@@ -90,7 +90,8 @@ fn text_keys(rt: HostRuntime) -> Result<(), Fail> {
     Ok(())
 }
 
-/// Powers, and the other bucket of an entry of bucket 0 and partial 0, which shows the factor alone.
+/// Powers, and the other bucket of an entry of bucket 0 and partial 0, which shows the factor
+/// alone.
 const FACTORS: [(u32, u64); 12] = [
     (1, 1),
     (2, 1),

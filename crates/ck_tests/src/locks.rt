@@ -1,7 +1,7 @@
 //! A table under one caller, and the calls of others meanwhile.
 ghost use Rattle.std.specs.Prelude.{◌≡◌};
 
-use crate::fixtures::{NumCaller, SIXTEEN_BUCKETS, TWO_STRIPES, open_with};
+use crate::fixtures::{NumCaller, SIXTEEN_BUCKETS, open_with};
 use ck_key::NumKey;
 use ck_table::{Busy, Refused, Settings, Why};
 use std::process::Abort;
@@ -15,43 +15,6 @@ fn one_try() -> Settings
         turns: 1,
         ..SIXTEEN_BUCKETS.settings(3)
     }
-}
-
-/// While the table is locked, another caller finds its stripes held.
-#[test]
-fn a_session(rt: HostRuntime) -> Result<(), Fail> {
-    let settings = Settings {
-        turns: 4,
-        ..TWO_STRIPES
-    };
-    let (table, first, second, _) = open_with(rt.alloc(), settings)?;
-    let mut first = table.caller(first);
-    let mut second = table.caller(second);
-    let fresh = first.insert(NumKey(1), 10);
-    assert!(rt; fresh.is_ok());
-    let Ok(mut locked) = first.lock() else {
-        return Err(Fail::from("a table that was not locked"));
-    };
-    assert!(rt; locked.find(&NumKey(1)) == Some(&10));
-    assert!(rt; locked.find(&NumKey(2)) == None);
-    assert!(rt; locked.len() == 1);
-    let fresh = locked.insert(NumKey(2), 20);
-    assert!(rt; matches!(fresh, Ok(true)));
-    let busy = second.find(&NumKey(2));
-    assert!(rt; busy == Err(Busy(0)));
-    let old = locked.erase(&NumKey(1));
-    assert!(rt; old == Some(10));
-    assert!(rt; locked.len() == 1);
-    let pairs = locked.export(rt.alloc());
-    let mut first = table.caller(locked.unlock());
-    assert!(rt; pairs?.as_slice() == [(NumKey(2), 20u64)].as_slice());
-    let found = second.find(&NumKey(1));
-    assert!(rt; found == Ok(None));
-    let found = second.find(&NumKey(2));
-    assert!(rt; found == Ok(Some(20)));
-    let count = first.len();
-    assert!(rt; count == Ok(1));
-    Ok(())
 }
 
 /// Keys of four stripes, each with one stripe alone, in the order of their stripes.

@@ -1,15 +1,17 @@
-//! Want of memory: a call gets a little more memory from step to step, so that each of its requests is refused in turn.
+//! Want of memory: a call gets a little more memory from step to step, so that each of its requests
+//! is refused in turn.
 //!
-//! A test first takes all memory that the allocator still gives, and gives back a small block of it for the call.
+//! A test first takes all memory that the allocator still gives, and gives back a small block of it
+//! for the call.
 ghost use Rattle.std.specs.Prelude.{◌≡◌, IfSome, IfOk};
 ghost use Rattle.ck_words.specs.Closing.{IsCaller, AreAllPasses};
 
-use crate::fixtures::{NumLocked, NumPass, NumTable, TWO_STRIPES};
+use crate::fixtures::{NumPass, NumTable, TWO_STRIPES};
 use ck_key::{KeyFault, NumKey, TextKey};
 use ck_script::{
     FromRead, IntoWrite, OpenGate, RunFault, Script, ScriptFault, What, read_script, run,
 };
-use ck_table::{GrowFault, OpenFault, Refused, Settings, Why};
+use ck_table::{OpenFault, Settings};
 use ck_words::Words;
 use std::alloc::{AllocError, Global};
 use std::process::Abort;
@@ -136,8 +138,8 @@ fn fill(table: &NumTable, pass: &mut NumPass) -> bool
     bound
 }
 
-/// A table with eight keys, and the pass of its one caller. The list of the pairs takes more memory than is free again once
-/// the table is open.
+/// A table with eight keys, and the pass of its one caller. The list of the pairs takes more memory
+/// than is free again once the table is open.
 fn table_of(alloc: Global) -> Option<(NumTable, Vec<NumPass>)>
     ensures { IfSome result (λ r. AreAllPasses r.0 r.1.items) }
 {
@@ -150,27 +152,6 @@ fn table_of(alloc: Global) -> Option<(NumTable, Vec<NumPass>)>
     } else {
         None
     }
-}
-
-/// Whether each key has its value.
-fn has_all(table: &NumTable, pass: &mut NumPass) -> bool
-    requires { IsCaller table.now pass.old }
-    ensures { IsCaller table.now pass.new }
-{
-    let mut all = true;
-    for key in KEYS {
-        all &= table.find(pass, &NumKey(key)) == Ok(Some(10 * key));
-    }
-    all
-}
-
-/// The same table, and its one pass.
-fn table_and_pass(alloc: Global) -> Option<(NumTable, NumPass)>
-    ensures { IfSome result (λ r. IsCaller r.0 r.1) }
-{
-    let (table, mut passes) = table_of(alloc)?;
-    let pass = passes.pop()?;
-    Some((table, pass))
 }
 
 fn close(rt: &impl Abort, alloc: Global) -> End {
@@ -214,17 +195,6 @@ const EIGHT_PAIRS: [(NumKey, u64); 8] = [
     (NumKey(12), 120),
     (NumKey(15), 150),
 ];
-
-/// Whether there was memory for a copy of the pairs.
-fn exports_eight(rt: &impl Abort, alloc: Global, locked: &NumLocked<'_>) -> bool {
-    match locked.export(alloc) {
-        Ok(pairs) => {
-            assert!(rt; pairs.as_slice() == EIGHT_PAIRS.as_slice());
-            true
-        }
-        Err(AllocError) => false,
-    }
-}
 
 const SCRIPT: &[u8] =
     b"cuckoo 1\nworker\ninsert 3 1\ninsert 7 2\nfind 3\nfind 4\ninsert 3 5\nend\n";
@@ -293,7 +263,8 @@ fn ends_of<R: Abort + Threads + Sync>(
     Ok(ends)
 }
 
-/// Both are refused for want of memory, and then neither is; what has to come before needs memory too, or none.
+/// Both are refused for want of memory, and then neither is; what has to come before needs memory
+/// too, or none.
 const ROWS: [(&str, Subject, usize, bool); 5] = [
     ("a text key", Subject::Key, 20, false),
     ("opening a table", Subject::Opening, 120, false),
@@ -341,68 +312,5 @@ fn closing_again(rt: HostRuntime) -> Result<(), Fail> {
         return Err(Fail::from("refused with ample memory"));
     };
     assert!(rt; pairs.as_slice() == EIGHT_PAIRS.as_slice());
-    Ok(())
-}
-
-/// A table that didn't grow for want of memory does so with ample memory.
-#[test]
-fn growing_again(rt: HostRuntime) -> Result<(), Fail> {
-    let Some((table, mut pass)) = table_and_pass(rt.alloc()) else {
-        return Err(Fail::from("no memory at the start"));
-    };
-    let hoard = hoard(rt.alloc())?;
-    let refused = table.rehash(&mut pass, 4);
-    let kept = has_all(&table, &mut pass);
-    drop(hoard);
-    assert!(rt; refused == Err(GrowFault::Memory) && kept);
-    let grown = table.rehash(&mut pass, 4);
-    let kept = has_all(&table, &mut pass);
-    assert!(rt; grown == Ok(true) && kept);
-    Ok(())
-}
-
-/// A session that found no memory for a list goes on, and lists the pairs with ample memory.
-#[test]
-fn listing_again(rt: HostRuntime) -> Result<(), Fail> {
-    let Some((table, pass)) = table_and_pass(rt.alloc()) else {
-        return Err(Fail::from("no memory at the start"));
-    };
-    let Ok(locked) = table.lock_table(pass) else {
-        return Err(Fail::from("a table that was not locked"));
-    };
-    let Ok(hoard) = hoard(rt.alloc()) else {
-        locked.unlock();
-        return Err(Fail::from("no memory to take the rest"));
-    };
-    let first = exports_eight(&rt, rt.alloc(), &locked);
-    drop(hoard);
-    let again = exports_eight(&rt, rt.alloc(), &locked);
-    locked.unlock();
-    assert!(rt; !first && again);
-    Ok(())
-}
-
-/// Key 19, whose one bucket is full of keys with no other, comes back where there is no memory to grow, and is bound with ample
-/// memory. No key is lost.
-#[test]
-fn inserting_again(rt: HostRuntime) -> Result<(), Fail> {
-    let Some((table, mut pass)) = table_and_pass(rt.alloc()) else {
-        return Err(Fail::from("no memory at the start"));
-    };
-    let hoard = hoard(rt.alloc())?;
-    let refused = match table.insert(&mut pass, NumKey(19), 190) {
-        Ok(_) => false,
-        Err(Refused { key, value, why }) => key == NumKey(19) && value == 190 && why == Why::Memory,
-    };
-    let kept = has_all(&table, &mut pass);
-    drop(hoard);
-    assert!(rt; refused && kept);
-    let fresh = match table.insert(&mut pass, NumKey(19), 190) {
-        Ok(fresh) => fresh,
-        Err(_) => false,
-    };
-    let kept = has_all(&table, &mut pass);
-    let found = table.find(&mut pass, &NumKey(19));
-    assert!(rt; fresh && kept && found == Ok(Some(190)));
     Ok(())
 }

@@ -1,7 +1,8 @@
-//! Calls by two callers while a call of another holds the stripes of its key: that call's closure makes them.
+//! Calls by two callers while a call of another holds the stripes of its key: that call's closure
+//! makes them.
 //!
-//! Of the four stripes, key 3 has stripe 3 alone, key 513 has stripe 1 alone, key 0 has stripes 0 and 1, key 1 has
-//! stripes 1 and 3, key 2 has stripes 1 and 2, and key 258 has stripe 2 alone.
+//! Of the four stripes, key 3 has stripe 3 alone, key 513 has stripe 1 alone, key 0 has stripes 0
+//! and 1, key 1 has stripes 1 and 3, key 2 has stripes 1 and 2, and key 258 has stripe 2 alone.
 ghost use Rattle.std.specs.Prelude.{◌≢◌};
 
 use crate::callers::{Call, Reply, answer};
@@ -98,7 +99,8 @@ struct Turn {
     thirds: &'static [Row],
 }
 
-/// The first caller makes its calls, then those in which the others make theirs, and then the others make their last ones.
+/// The first caller makes its calls, then those in which the others make theirs, and then the
+/// others make their last ones.
 #[derive(Clone, Copy)]
 struct Scene {
     what: &'static str,
@@ -121,8 +123,8 @@ const AFTER: &[Row] = &[
     (Call::Find(0), Reply::Was(Some(6))),
 ];
 
-/// Four stripes of one bucket each: bucket 2 has key 258, and buckets 0 and 1, those of key 16, are full. Bucket 3 has room
-/// for the keys of bucket 1.
+/// Four stripes of one bucket each: bucket 2 has key 258, and buckets 0 and 1, those of key 16, are
+/// full. Bucket 3 has room for the keys of bucket 1.
 const TWO_FULL_BUCKETS: &[Row] = &[
     (Call::Insert(258, 258), Reply::Fresh(true)),
     (Call::Insert(0, 1), Reply::Fresh(true)),
@@ -217,8 +219,8 @@ static SCENES: [Scene; 6] = [
         ],
         thirds: &[],
     },
-    // A call is refused for a stripe of its own key, and for no other. Keys 772, 513, 258 and 3 have stripes 0, 1, 2 and 3,
-    // each one alone.
+    // A call is refused for a stripe of its own key, and for no other. Keys 772, 513, 258 and 3
+    // have stripes 0, 1, 2 and 3, each one alone.
     Scene {
         what: "each stripe in turn",
         shape: SIXTEEN_BUCKETS,
@@ -306,7 +308,8 @@ static SCENES: [Scene; 6] = [
         seconds: &[(Call::Find(258), Reply::Was(Some(258)))],
         thirds: &[],
     },
-    // Displacement is tried as often as the settings say, and then under all stripes, of which one is held.
+    // Displacement is tried as often as the settings say, and then under all stripes, of which one
+    // is held.
     Scene {
         what: "no try to make room but under all stripes",
         shape: Shape {

@@ -1,7 +1,7 @@
 //! Requests for memory that are refused in turn, where a table grows or lists its pairs.
 //!
-//! A test takes all memory that the allocator still gives, and gives back one block from call to call, which is as large as the
-//! next request of the call.
+//! A test takes all memory that the allocator still gives, and gives back one block from call to
+//! call, which is as large as the next request of the call.
 ghost use Rattle.std.specs.Prelude.{◌≡◌};
 
 use crate::fixtures::{NumCaller, NumLocked, NumTable, TWO_STRIPES};
@@ -12,8 +12,8 @@ use std::alloc::{AllocError, Global};
 use std::process::Abort;
 use std::test::Fail;
 
-/// Two stripes of eight buckets each. A stripe of fewer buckets wants so little when it grows that the allocator would keep what
-/// is given back for other requests of just that size.
+/// Two stripes of eight buckets each. A stripe of fewer buckets wants so little when it grows that
+/// the allocator would keep what is given back for other requests of just that size.
 const SETTINGS: Settings = Settings {
     power: 4,
     ..TWO_STRIPES
@@ -25,7 +25,8 @@ const KEYS: [u64; 8] = [15, 31, 47, 63, 12, 8, 4, 0];
 /// A key that has that bucket alone too.
 const NEXT: NumKey = NumKey(79);
 
-/// Room for the sixteen buckets of a stripe at power 5, of 104 bytes each, and for no more than these.
+/// Room for the sixteen buckets of a stripe at power 5, of 104 bytes each, and for no more than
+/// these.
 const AT_FIVE: usize = 1680;
 
 /// The same at power 6.
@@ -106,7 +107,8 @@ fn take_small(alloc: Global, blocks: &mut Vec<Vec<u8>>) -> Result<(), AllocError
     Ok(())
 }
 
-/// Blocks of these sizes, of which the first is the last in the list. Behind each is one that stays, so that no two become one.
+/// Blocks of these sizes, of which the first is the last in the list. Behind each is one that
+/// stays, so that no two become one.
 fn blocks_of(
     alloc: Global,
     sizes: &[usize],
@@ -178,7 +180,8 @@ fn export(rt: &impl Abort, alloc: Global, locked: &NumLocked<'_>) -> bool {
     }
 }
 
-/// A session goes on, whatever was refused: each key has its value, and one is erased and bound again.
+/// A session goes on, whatever was refused: each key has its value, and one is erased and bound
+/// again.
 fn go_on(rt: &impl Abort, locked: &mut NumLocked<'_>, bound: bool)
     ensures { locked.new.table ≡ locked.old.table }
 {

@@ -26,7 +26,8 @@ struct Row<'a> {
     table: &'a [(u64, Sketch)],
     /// The buckets that are wanted, and how often each in a row.
     wanted: &'a [(u64, u32)],
-    /// The end of the path and its hops in the order in which they are carried out, if there is one.
+    /// The end of the path and its hops in the order in which they are carried out, if there is
+    /// one.
     path: Option<(u64, &'a [Hop])>,
 }
 
@@ -107,7 +108,8 @@ fn searches(rt: HostRuntime) -> Result<(), Fail> {
             wanted: &[(0, 1), (149, 1)],
             path: Some((149, &[(0, 0, 0)])),
         },
-        // Both roots in order, the slots of a bucket in order, then the next level; what leads nowhere queues nothing.
+        // Both roots in order, the slots of a bucket in order, then the next level; what leads
+        // nowhere queues nothing.
         Row {
             roots: (0, 5),
             table: &[

@@ -1,4 +1,5 @@
-//! Sessions: a table under one caller, which may bind more keys than the table has room for when it is locked.
+//! Sessions: a table under one caller, which may bind more keys than the table has room for when it
+//! is locked.
 ghost use Rattle.std.specs.Prelude.{◌≡◌};
 ghost use Rattle.ck_table.specs.Callers.{IsSameCaller};
 
@@ -54,7 +55,8 @@ fn answer(locked: &mut NumLocked<'_>, call: Call) -> Reply
     }
 }
 
-/// A session from the empty table on, with calls and their replies, and the pairs and the power that it leaves.
+/// A session from the empty table on, with calls and their replies, and the pairs and the power
+/// that it leaves.
 #[derive(Clone, Copy)]
 struct Session {
     what: &'static str,
@@ -72,7 +74,8 @@ const MAY_GROW: Shape = Shape {
     rounds: 4,
 };
 
-/// Keys `b` times this have partial 0 and the bucket 0 at each power up to 40, so they all have the same two buckets.
+/// Keys `b` times this have partial 0 and the bucket 0 at each power up to 40, so they all have the
+/// same two buckets.
 const APART: u64 = 282_574_488_338_432;
 
 static SESSIONS: [Session; 3] = [
@@ -262,8 +265,8 @@ fn key_of(call: Call) -> u64 {
     }
 }
 
-/// Makes the call on both, and says whether the replies are the same. Where there is no room for a key, it is unbound in the
-/// plain map too.
+/// Makes the call on both, and says whether the replies are the same. Where there is no room for a
+/// key, it is unbound in the plain map too.
 fn agree(
     alloc: Global,
     locked: &mut NumLocked<'_>,
@@ -370,19 +373,36 @@ fn finds_all_same(
     Ok(())
 }
 
+/// A caller has a session, and another finds what it left.
+fn check_random(
+    rt: &impl Abort,
+    alloc: Global,
+    random: &mut Lcg64Xsh32,
+    first: NumCaller<'_>,
+    second: &mut NumCaller<'_>,
+    plain: &mut PlainMap,
+) -> Result<(), Fail> {
+    random_session(rt, alloc, random, first, plain)?;
+    finds_all_same(rt, alloc, second, plain)?;
+    let power = second.power();
+    assert!(rt; power == Ok(12));
+    Ok(())
+}
+
 /// Two callers have a session each, and a third finds what they left.
-#[test]
-fn random_sessions(rt: HostRuntime) -> Result<(), Fail> {
-    let alloc = rt.alloc();
+fn check_two(rt: &impl Abort, alloc: Global) -> Result<(), Fail> {
     let mut random = Lcg64Xsh32::new(2026, 2);
     let mut plain = PlainMap::new(alloc);
     let (table, first, second, third) = open(alloc, TO_TWELVE)?;
+    let (first, second) = (table.caller(first), table.caller(second));
     let mut third = table.caller(third);
-    random_session(&rt, alloc, &mut random, table.caller(first), &mut plain)?;
-    finds_all_same(&rt, alloc, &mut third, &plain)?;
-    let power = third.power();
-    assert!(rt; power == Ok(12));
-    random_session(&rt, alloc, &mut random, table.caller(second), &mut plain)?;
-    finds_all_same(&rt, alloc, &mut third, &plain)?;
+    for caller in [first, second] {
+        check_random(rt, alloc, &mut random, caller, &mut third, &mut plain)?;
+    }
     Ok(())
+}
+
+#[test]
+fn random_sessions(rt: HostRuntime) -> Result<(), Fail> {
+    check_two(&rt, rt.alloc())
 }

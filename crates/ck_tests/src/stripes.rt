@@ -11,16 +11,16 @@ type NumStripe = Stripe<NumKey, u64>;
 /// Bucket, slot and key of an entry.
 type Entry = (u64, usize, u64);
 
-/// Entries of stripe 1 of 2^1 in a table of 2^2 buckets, and the keys in the slots of its buckets 1, 3, 5 and 7 after a
-/// doubling.
+/// Entries of stripe 1 of 2^1 in a table of 2^2 buckets, and the keys in the slots of its buckets
+/// 1, 3, 5 and 7 after a doubling.
 #[derive(Clone, Copy)]
 struct Row {
     entries: [Entry; 5],
     after: [[Option<u64>; 4]; 4],
 }
 
-// Each call on a stripe stands in a function of its own that tests what the call requires, so that no proof goes over more than
-// one or two of them.
+// Each call on a stripe stands in a function of its own that tests what the call requires, so that
+// no proof goes over more than one or two of them.
 
 fn place(rt: &impl Abort, stripe: &mut NumStripe, entry: Entry) {
     let (b, slot, key) = entry;

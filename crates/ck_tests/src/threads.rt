@@ -1,4 +1,5 @@
-//! Threads that bind one key again and again, each time to another value, each with a caller of its own.
+//! Threads that bind one key again and again, each time to another value, each with a caller of its
+//! own.
 
 use crate::fixtures::{NumCaller, NumTable, SIXTEEN_BUCKETS, count, counters, read};
 use ck_key::NumKey;
@@ -16,8 +17,8 @@ const CALLS: u64 = 1500;
 /// A caller and the number of its thread.
 type Job<'t> = (usize, NumCaller<'t>);
 
-/// Binds the key to the thread's values in turn, and notes by which value each was replaced. No two calls have the same
-/// value, which is above 0.
+/// Binds the key to the thread's values in turn, and notes by which value each was replaced. No two
+/// calls have the same value, which is above 0.
 fn replace<'t>((thread, mut caller): Job<'t>, next: &[AtomicU64], wrong: &AtomicU64) -> Job<'t> {
     for step in 1..=CALLS {
         let new = (thread as u64).wrapping_mul(CALLS).wrapping_add(step);
@@ -44,8 +45,9 @@ fn pass_by(rt: &impl Abort, steps: &mut [u64], value: u64) {
     steps[thread] = steps[thread].wrapping_add(1);
 }
 
-/// Follows the values from the one that was bound first, and gives the last one. They form one chain, in which each value of
-/// each thread stands, and those of one thread in the order of its calls.
+/// Follows the values from the one that was bound first, and gives the last one. They form one
+/// chain, in which each value of each thread stands, and those of one thread in the order of its
+/// calls.
 fn follow(rt: &impl Abort, alloc: Global, next: &[AtomicU64], threads: u32) -> Result<u64, Fail> {
     let mut steps = Vec::from_elem(alloc, 0u64, threads as usize)?;
     let mut value = 0u64;
@@ -63,8 +65,9 @@ fn check<R: Threads + Abort + Sync>(rt: &R, alloc: Global, threads: u32) -> Resu
         ..SIXTEEN_BUCKETS.settings(threads)
     };
     let (table, passes) = NumTable::open(alloc, settings)?;
+    let callers = table.callers(alloc, passes)?;
     let mut jobs = Vec::new(alloc);
-    for caller in table.callers(alloc, passes)? {
+    for caller in callers {
         let thread = jobs.len();
         jobs.push((thread, caller))?;
     }
