@@ -31,7 +31,7 @@ use ck_section::{
     place_in_all, settle_all,
 };
 use ck_stripe::Stripe;
-use ck_words::{Pass, Whole};
+use ck_words::{Pass, StripeSet, Whole};
 use std::alloc::{AllocError, Global};
 use std::marker::Model;
 
@@ -185,7 +185,8 @@ impl<'t, K: TableKey + Drop, V: Drop> LockedTable<'t, K, V> {
     {
         let LockedTable { table, whole } = self;
         let mut pass = table.words.lower(whole);
-        table.words.commit_session(&mut pass);
+        let all = StripeSet::all(table.words.settings().s);
+        table.words.commit_session(&mut pass, all);
         pass
     }
 }

@@ -12,7 +12,7 @@ ghost use Rattle.ck_table.specs.Refusals.{IsStripeIn, IsBusyAmong};
 use crate::refusal::Busy;
 use crate::table::Table;
 use ck_key::TableKey;
-use ck_words::{Commit, Pass};
+use ck_words::{Commit, Pass, StripeSet};
 
 impl<K: TableKey + Drop, V: Drop> Table<K, V> {
     /// How many keys are bound. It counts while it holds all stripes.
@@ -26,9 +26,10 @@ impl<K: TableKey + Drop, V: Drop> Table<K, V> {
             self.now.settings.turns busy.0 pass.old pass.new) }
         ensures found { FindsAmong (IsStripeIn self.now.settings) pass.old pass.new }
     {
+        let s = self.words.settings().s;
         self.hold_table(pass)?;
         let count = self.words.entries(pass) as u64;
-        self.words.commit_all(pass, Commit::Len);
+        self.words.commit(pass, StripeSet::all(s), Commit::Len);
         Ok(count)
     }
 
@@ -45,10 +46,9 @@ impl<K: TableKey + Drop, V: Drop> Table<K, V> {
         ensures busy { IfErr result (λ busy. IsBusyAmong (IsStripeIn self.now.settings)
             self.now.settings.turns busy.0 pass.old pass.new) }
     {
-        let _ = self.words.settings();
-        match self.words.hold_settled(pass) {
+        match self.words.lock_all(pass) {
             Ok(()) => Ok(()),
-            Err(stripe) => Err(Busy(stripe as u32)),
+            Err(stripe) => Err(Busy(stripe)),
         }
     }
 }

@@ -10,6 +10,7 @@ ghost use Rattle.ck_words.specs.Closing.{IsWhole, IsCaller, AreAllPasses, EachSt
 
 use crate::pass::Pass;
 use crate::rule::{Board, StripeSeat};
+use crate::stripe_set::StripeSet;
 use crate::words::Words;
 use ck_key::TableKey;
 use std::alloc::Global;
@@ -59,14 +60,13 @@ impl<K: TableKey + Drop, V: Drop> Words<K, V> {
         ensures room { IfSome result (λ pairs. length (pairs_of (contents_of pass.new.stripes)) + 4
             ≤ vec_capacity pairs) }
     {
-        let Ok(()) = self.hold_all(pass) else {
+        let Ok(()) = self.lock_all(pass) else {
             return None;
         };
-        self.settle_all(pass);
         // A bucket is poured where there is room for four more.
         let room = self.entries(pass) + 4;
         let Ok(pairs) = Vec::with_capacity(alloc, room) else {
-            self.release_below(pass, self.table.slot_count());
+            self.release(pass, StripeSet::all(self.settings().s));
             return None;
         };
         Some(pairs)
