@@ -33,7 +33,6 @@ use Rattle.ck_words.specs.Answering.{HasDone, IsAnswered, IsAnsweredBut}
 use Rattle.ck_words.specs.Renewing.{HasRenewed}
 use Rattle.ck_words.proofs.Seating.{numbers-contents}
 use Rattle.ck_words.proofs.Renewals.{renewed_none, done_then}
-use Rattle.ck_words.specs.Passes.{pair}
 use Rattle.ck_table.specs.declared.room.Room.{Room}
 use Rattle.ck_table.specs.Holding.{HoldsKeyBut, HoldsKey}
 use Rattle.ck_table.specs.Insertions.{HasRoom}
@@ -121,14 +120,14 @@ module _ {V : Type 0} {hash : Name → ℕ} {w v : WordsState} {q : Name} {place
   pub says : {z : PassState V} → ((r : Reply V) → HasDone hash v.settings call1 r p2 → IsAnswered call1 r p2 z) → (reply : Reply V) → IsStep hash place.s p1.stripes p2.stripes call reply → IsAnsweredBut more call reply p z
   says = says_since p p1 is held.stays held.s renewed p2 same named
 
--- The pass held stripes with room for a name.
-module _ {V : Type 0} {hash : Name → ℕ} (w : WordsState) {q : Name} {room : Room} {p p1 : PassState V} (has : HasRoom hash w.settings q room p p1)
+-- The pass held stripes with room for a name. w and v are one table.
+module _ {V : Type 0} {hash : Name → ℕ} {w v : WordsState} {q : Name} {room : Room} {p p1 : PassState V} (is : v ≡ w) (has : HasRoom hash w.settings q room p p1)
     (p2 : PassState V) (same : p2.view ≡ p1.view) {call call1 : Call V} (named : call1 ≡ call) where
-  pub does_there : (reply : Reply V) → IsStep hash room.spot.place.s p1.stripes p2.stripes call reply → HasDone hash w.settings call1 reply p2
-  does_there = does_since {w = w} {v = w} p p1 refl has.stays has.held.s has.held.renewed p2 same named
+  pub does_there : (reply : Reply V) → IsStep hash room.spot.place.s p1.stripes p2.stripes call reply → HasDone hash v.settings call1 reply p2
+  does_there = does_since p p1 is has.stays has.held.s has.held.renewed p2 same named
 
-  pub says_there : {z : PassState V} → ((r : Reply V) → HasDone hash w.settings call1 r p2 → IsAnswered call1 r p2 z) → (reply : Reply V) → IsStep hash room.spot.place.s p1.stripes p2.stripes call reply → IsAnsweredBut has.more call reply p z
-  says_there = says_since {w = w} {v = w} p p1 refl has.stays has.held.s has.held.renewed p2 same named
+  pub says_there : {z : PassState V} → ((r : Reply V) → HasDone hash v.settings call1 r p2 → IsAnswered call1 r p2 z) → (reply : Reply V) → IsStep hash room.spot.place.s p1.stripes p2.stripes call reply → IsAnsweredBut has.more call reply p z
+  says_there = says_since p p1 is has.stays has.held.s has.held.renewed p2 same named
 
 -- what is said of a value, and of none
 pub by_option : {A : Type 0} (o : Option A) (P : A → Type 0) (Q C : Type 0) → IfSome o P → IfNone o Q → ((a : A) → P a → C) → (Q → C) → C

@@ -1,5 +1,5 @@
 -- The stripes of keys, as a set of them, which a pass takes.
-use Rattle.std.proofs.Common.{◌≡◌, ◌⊎◌, ◌↔◌, ℕ, List, inl, inr, sym, subst, ◌∙◌}
+use Rattle.std.proofs.Common.{◌≡◌, ◌⊎◌, ◌↔◌, ℕ, ◌<◌, ◌^◌, List, inl, inr, sym, subst, ◌∙◌}
 use Rattle.ck_key.specs.declared.key_hash.KeyHash.{KeyHash}
 use Rattle.ck_key.specs.Hashes.{IsHashOf}
 use Rattle.ck_model.specs.Arithmetic.{index_of, second_of}
@@ -13,6 +13,9 @@ use Rattle.ck_section.specs.Places.{HasStripe, HasBoth}
 use Rattle.ck_section.proofs.Owned.{has_stripe}
 use Rattle.ck_words.specs.Passes.{PassState, numbers_of}
 use Rattle.ck_words.specs.Retries.{Stays, FindsAmong, IsBusy}
+use Rattle.ck_words.specs.declared.stripe_set.StripeSet.{StripeSet}
+use Rattle.ck_words.specs.StripeSets.{list_of}
+use Rattle.ck_words.proofs.Numbers.{all_in}
 use Rattle.ck_words.proofs.Seating.{numbers-contents}
 use Rattle.ck_table.specs.Refusals.{IsBusyAmong, IsStripeOfEither}
 
@@ -44,11 +47,15 @@ of_names set ns same first second are = subst
     (λ j. (same j, first.value j, second.value j)) are
 
 -- both stripes of the name are held
-pub has_both : {V : Type 0} {hash : Name → ℕ} (set : Settings) {q : Name} (ns : List ℕ) → ((t : ℕ) → IsIn t ns ↔ IsStripeOf (layout_of hash set) q t) → (ss : List (StripeState V)) → numbers_of ss ≡ ns → HasBoth hash set.s ss q
-has_both set ns exact ss named max t of = holds_each ns exact ss named t of
+pub has_both : {V : Type 0} (hash : Name → ℕ) (set : Settings) (q : Name) (ns : List ℕ) → ((t : ℕ) → IsIn t ns ↔ IsStripeOf (layout_of hash set) q t) → (ss : List (StripeState V)) → numbers_of ss ≡ ns → HasBoth hash set.s ss q
+has_both hash set q ns exact ss named max t of = holds_each ns exact ss named t of
 
-pub has_first : {V : Type 0} {hash : Name → ℕ} (set : Settings) {a b : Name} (ns : List ℕ) → ((t : ℕ) → IsIn t ns ↔ IsStripeOfEither hash set a b t) → (ss : List (StripeState V)) → numbers_of ss ≡ ns → HasBoth hash set.s ss a
-has_first set ns exact ss named max t of = holds_each ns exact ss named t (inl of)
+pub has_first : {V : Type 0} (hash : Name → ℕ) (set : Settings) (a b : Name) (ns : List ℕ) → ((t : ℕ) → IsIn t ns ↔ IsStripeOfEither hash set a b t) → (ss : List (StripeState V)) → numbers_of ss ≡ ns → HasBoth hash set.s ss a
+has_first hash set a b ns exact ss named max t of = holds_each ns exact ss named t (inl of)
 
-pub has_second : {V : Type 0} {hash : Name → ℕ} (set : Settings) {a b : Name} (ns : List ℕ) → ((t : ℕ) → IsIn t ns ↔ IsStripeOfEither hash set a b t) → (ss : List (StripeState V)) → numbers_of ss ≡ ns → HasBoth hash set.s ss b
-has_second set ns exact ss named max t of = holds_each ns exact ss named t (inr of)
+pub has_second : {V : Type 0} (hash : Name → ℕ) (set : Settings) (a b : Name) (ns : List ℕ) → ((t : ℕ) → IsIn t ns ↔ IsStripeOfEither hash set a b t) → (ss : List (StripeState V)) → numbers_of ss ≡ ns → HasBoth hash set.s ss b
+has_second hash set a b ns exact ss named max t of = holds_each ns exact ss named t (inr of)
+
+-- each stripe of a set is one of the table
+pub below_set : (x : StripeSet) (s t : ℕ) → x.s ≡ s → IsIn t (list_of x) → t < 2 ^ s
+below_set x s t same i = subst (λ n. t < 2 ^ n) same (all_in (λ u. u < 2 ^ x.s) (list_of x) x.inside t i)

@@ -13,7 +13,7 @@ use crate::table::Table;
 use ck_key::TableKey;
 use ck_model::settings::Settings;
 use ck_section::{Held, double_all, settle_all};
-use ck_words::{Lent, Pass, StripeSet};
+use ck_words::{Lent, Pass};
 use std::alloc::AllocError;
 
 impl<K: TableKey + Drop, V: Drop> Table<K, V> {
@@ -37,7 +37,7 @@ impl<K: TableKey + Drop, V: Drop> Table<K, V> {
         if let Err(Busy(stripe)) = self.hold_table(pass) {
             return Err(GrowFault::Busy(stripe));
         }
-        let all = StripeSet::all(s);
+        let all = self.words.all();
         let mut lent = Lent {
             words: &self.words,
             pass,

@@ -31,7 +31,7 @@ use ck_section::{
     place_in_all, settle_all,
 };
 use ck_stripe::Stripe;
-use ck_words::{Pass, StripeSet, Whole};
+use ck_words::{Pass, Whole};
 use std::alloc::{AllocError, Global};
 use std::marker::Model;
 
@@ -185,8 +185,7 @@ impl<'t, K: TableKey + Drop, V: Drop> LockedTable<'t, K, V> {
     {
         let LockedTable { table, whole } = self;
         let mut pass = table.words.lower(whole);
-        let all = StripeSet::all(table.words.settings().s);
-        table.words.commit_session(&mut pass, all);
+        table.words.commit_session(&mut pass, table.words.all());
         pass
     }
 }

@@ -24,7 +24,7 @@ use crate::table::Table;
 use ck_key::{KeyHash, TableKey, alternate, index};
 use ck_model::settings::Settings;
 use ck_section::{Entry, Held, HeldBucket, KeyPlace, Lack, find_entry, make_room};
-use ck_words::{Lent, Pass, StripeSet};
+use ck_words::{Lent, Pass};
 
 // Where a key may be among the stripes that its pass holds, those of the key or all of the table, and its entry there.
 #[derive(Clone, Copy)]
@@ -54,8 +54,7 @@ impl<K: TableKey + Drop, V: Drop> Table<K, V> {
         match self.make_room_held(pass, key) {
             Ok(room) => Ok(room),
             Err(lack) => {
-                let all = StripeSet::all(self.words.settings().s);
-                self.words.refuse(pass, all, key, lack);
+                self.words.refuse(pass, self.words.all(), key, lack);
                 Err(Why::of(lack))
             }
         }
@@ -81,7 +80,7 @@ impl<K: TableKey + Drop, V: Drop> Table<K, V> {
             (contents_of pass.new.stripes) (K.name key.now) (reason_of_lack lack)) }
     {
         let settings = self.words.settings();
-        let stripes = StripeSet::all(settings.s);
+        let stripes = self.words.all();
         let mut lent = Lent {
             words: &self.words,
             pass,

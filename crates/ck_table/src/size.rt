@@ -12,7 +12,7 @@ ghost use Rattle.ck_table.specs.Refusals.{IsStripeIn, IsBusyAmong};
 use crate::refusal::Busy;
 use crate::table::Table;
 use ck_key::TableKey;
-use ck_words::{Commit, Pass, StripeSet};
+use ck_words::{Commit, Pass};
 
 impl<K: TableKey + Drop, V: Drop> Table<K, V> {
     /// How many keys are bound. It counts while it holds all stripes.
@@ -26,10 +26,9 @@ impl<K: TableKey + Drop, V: Drop> Table<K, V> {
             self.now.settings.turns busy.0 pass.old pass.new) }
         ensures found { FindsAmong (IsStripeIn self.now.settings) pass.old pass.new }
     {
-        let s = self.words.settings().s;
         self.hold_table(pass)?;
         let count = self.words.entries(pass) as u64;
-        self.words.commit(pass, StripeSet::all(s), Commit::Len);
+        self.words.commit(pass, self.words.all(), Commit::Len);
         Ok(count)
     }
 

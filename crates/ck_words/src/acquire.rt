@@ -167,7 +167,7 @@ impl<K: TableKey + Drop, V: Drop> Words<K, V> {
         ensures busy { IfErr result (λ t. IsBusy self.now.settings.turns t pass.old pass.new) }
         ensures asked { IfErr result (λ t. t < 2 ^ self.now.settings.s) }
     {
-        if let Err(t) = self.lock(pass, StripeSet::all(self.settings().s)) {
+        if let Err(t) = self.lock(pass, self.all()) {
             return Err(t);
         }
         Ok(())

@@ -10,7 +10,6 @@ ghost use Rattle.ck_words.specs.Closing.{IsWhole, IsCaller, AreAllPasses, EachSt
 
 use crate::pass::Pass;
 use crate::rule::{Board, StripeSeat};
-use crate::stripe_set::StripeSet;
 use crate::words::Words;
 use ck_key::TableKey;
 use std::alloc::Global;
@@ -66,7 +65,7 @@ impl<K: TableKey + Drop, V: Drop> Words<K, V> {
         // A bucket is poured where there is room for four more.
         let room = self.entries(pass) + 4;
         let Ok(pairs) = Vec::with_capacity(alloc, room) else {
-            self.release(pass, StripeSet::all(self.settings().s));
+            self.release(pass, self.all());
             return None;
         };
         Some(pairs)

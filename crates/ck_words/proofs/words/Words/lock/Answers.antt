@@ -29,13 +29,15 @@ returns-in-Err-lock_later-clause-asked g c = (c.in-Err-lock_later.ensures.refuse
 pub settle_taken-requires : goal.settle_taken-requires
 settle_taken-requires g c =
     let P : PassState g.row.V.Denot → Type 0 = λ q. HasTakenAll g.K.TableKey.hash c.args.self.now (list_of c.args.set) c.args.pass.now q in
-    record { taken = (
-      c.args.pass.now,
-      elim c.match-lock_now.branch [
-        | in-Err+in_default-lock_later w ↦ subst P (sym w.pass-is) (w.in_default-lock_later.ensures.taken c.args.pass.now w.in-Err.ensures.missed)
-        | in_default w ↦ subst P (sym w.pass-is) w.in_default.ensures.taken
-      ],
-    ) }
+    record {
+      taken = (
+        c.args.pass.now,
+        elim c.match-lock_now.branch [
+          | in-Err+in_default-lock_later w ↦ subst P (sym w.pass-is) (w.in_default-lock_later.ensures.taken c.args.pass.now w.in-Err.ensures.missed)
+          | in_default w ↦ subst P (sym w.pass-is) w.in_default.ensures.taken
+        ],
+      );
+    }
 
 -- the stripes were taken at once, or later
 taken : (g : Over) (c : goal.After-settle_taken g) → HasTakenAll {V = g.row.V.Denot} g.K.TableKey.hash c.args.self.now (list_of c.args.set) c.args.pass.now c.match-lock_now.pass

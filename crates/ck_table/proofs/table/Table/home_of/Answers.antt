@@ -1,0 +1,14 @@
+use Rattle.std.proofs.Common.{◌∙◌}
+use Rattle.ck_words.specs.StripeSets.{list_of}
+use Rattle.ck_table.proofs.Calls.{s_of}
+use Rattle.ck_table.proofs.Sets.{of_name}
+use Rattle.ck_table.proofs.table.Table.home_of.Goals as goal
+
+pub returns : goal.returns
+returns g c =
+    let same = s_of c.self.view_is c.settings.ensures.value in
+    record {
+      s = c.of_key-stripes.ensures.s ∙ same;
+      hashed = c.of-hash.ensures;
+      exact = of_name c.args.self.now.settings (list_of c.of_key-stripes.result) same c.of-hash.ensures c.of_key-stripes.ensures.exact;
+    }
