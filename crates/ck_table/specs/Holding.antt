@@ -11,6 +11,7 @@ use Rattle.ck_section.specs.declared.place.KeyPlace.{KeyPlace}
 use Rattle.ck_section.specs.Stripes.{contents_of}
 use Rattle.ck_section.specs.Places.{IsPlaceOf}
 use Rattle.ck_words.specs.Passes.{PassState, IsUnchanged}
+use Rattle.ck_words.specs.StripeNumbers.{own_numbers}
 use Rattle.ck_words.specs.StripeSets.{list_of}
 use Rattle.ck_words.specs.Retries.{StaysBut}
 use Rattle.ck_table.specs.declared.holding.Home.{Home}
@@ -19,6 +20,7 @@ use Rattle.ck_table.specs.declared.holding.Home.{Home}
 pub record IsHomeOf (hash : Name → ℕ) (set : Settings) (q : Name) (home : Home) : Type 0 where
   pub s : home.stripes.s ≡ set.s
   pub hashed : IsHashOf hash q home.hash
+  pub list : list_of home.stripes ≡ own_numbers set.s (hash q)
   pub exact : (t : ℕ) → IsIn t (list_of home.stripes) ↔ IsStripeOf (layout_of hash set) q t
 
 module _ {V : Type 0} where

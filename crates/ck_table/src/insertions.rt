@@ -5,6 +5,7 @@ ghost use Rattle.ck_model.specs.declared.history.Reply.{Reply};
 ghost use Rattle.ck_model.specs.declared.history.Reply.TheVariants.{Was, New, Old, Done};
 ghost use Rattle.ck_words.specs.Closing.{IsCaller};
 ghost use Rattle.ck_words.specs.Passes.{IsPassOf, IsUnchanged, numbers_of};
+ghost use Rattle.ck_words.specs.StripeNumbers.{own_numbers};
 ghost use Rattle.ck_words.specs.StripeSets.{list_of};
 ghost use Rattle.ck_words.specs.Holding.{HasTakenAll, Misses};
 ghost use Rattle.ck_table.specs.Holding.{IsHomeOf};
@@ -125,18 +126,17 @@ impl<K: TableKey + Drop, V: Drop> Table<K, V> {
         let home = self.home_of(&key);
         match self.words.lock_now(pass, home.stripes) {
             Ok(()) => self.place_taken(pass, home, key, value, insertion, since),
-            Err(missed) => { self.place_waiting(pass, home, missed, key, value, insertion, since) }
+            Err(missed) => self.place_waiting(pass, missed, key, value, insertion, since),
         }
     }
 
-    // The same where the stripe at position `missed` was found held, and those before it were taken. `since` is the pass as
-    // the call began.
+    // The same where the stripe at position `missed` was found held, and those before it were taken. It computes the stripes
+    // anew, so that the call before it needs to keep nothing of them. `since` is the pass as the call began.
     #[cold]
     #[inline(never)]
     fn place_waiting<I: Insertion<K, V>>(
         &self,
         pass: &mut Pass<K, V>,
-        home: Home,
         missed: usize,
         key: K,
         value: V,
@@ -146,9 +146,8 @@ impl<K: TableKey + Drop, V: Drop> Table<K, V> {
         requires since { IsCaller self.now since.value }
         requires own { IsPassOf self.now pass.old }
         requires unchanged { IsUnchanged pass.old }
-        requires home { IsHomeOf K.hash self.now.settings (K.name key) home }
-        requires missed { Misses K.hash self.now (list_of home.stripes) missed
-            since.value pass.old }
+        requires missed { Misses K.hash self.now
+            (own_numbers self.now.settings.s (K.hash (K.name key))) missed since.value pass.old }
         requires call { I.can_make insertion }
         ensures caller { IsCaller self.now pass.new }
         ensures answered { IfOk result (λ answer. (reply : Reply V) × I.tells insertion answer reply
@@ -158,6 +157,7 @@ impl<K: TableKey + Drop, V: Drop> Table<K, V> {
         ensures found { FindsOwnUnlessFull K.hash self.now.settings (K.name key)
             since.value pass.new }
     {
+        let home = self.home_of(&key);
         match self.words.lock_later(pass, home.stripes, missed) {
             Ok(()) => self.place_taken(pass, home, key, value, insertion, since),
             Err(stripe) => {

@@ -1,10 +1,11 @@
 //! Taking stripes in rising order of their numbers, each with a bound on the tries.
-ghost use Rattle.std.specs.Prelude.{◌≡◌, ◌<◌, ◌-◌, ◌^◌, MatchBool, OnOk, IfErr};
+ghost use Rattle.std.specs.Prelude.{◌≡◌, ◌<◌, ◌≤◌, ◌-◌, ◌^◌, MatchBool, OnOk, IfErr, length, take};
 ghost use Rattle.ck_model.specs.Numbered.{numbers, IsIn};
 ghost use Rattle.ck_core.specs.Steps.{IsAbove};
 ghost use Rattle.ck_section.specs.Places.{AreHeld};
 ghost use Rattle.ck_section.specs.Whole.{IsTable, AreSettled};
 ghost use Rattle.ck_words.specs.Passes.{IsPassOf, IsUnchanged, numbers_of, PassState, IsIdle, ShowsSeen};
+ghost use Rattle.ck_words.specs.StripeNumbers.{pair};
 ghost use Rattle.ck_words.specs.StripeSets.{list_of};
 ghost use Rattle.ck_words.specs.Retries.{TakesWithin, found_again, Stays, FindsAmong, IsBusy};
 ghost use Rattle.ck_words.specs.Holding.{HasTaken, HasTakenAll, Misses, GivesUp};
@@ -113,7 +114,41 @@ impl<K: TableKey + Drop, V: Drop> Words<K, V> {
         ensures missed { IfErr result (λ i.
             Misses K.hash self.now (list_of set) i pass.old pass.new) }
     {
-        for i in 0..set.count() {
+        if !self.take(pass, set.at(0)) {
+            return Err(0);
+        }
+        if set.count() == 1 {
+            return Ok(());
+        }
+        if !self.take(pass, set.at(1)) {
+            return Err(1);
+        }
+        if set.count() == 2 {
+            return Ok(());
+        }
+        self.lock_rest(pass, set)
+    }
+
+    // Goes on with the third stripe.
+    #[cold]
+    #[inline(never)]
+    fn lock_rest(&self, pass: &mut Pass<K, V>, set: StripeSet) -> Result<(), usize>
+        requires own { IsPassOf self.now pass.old }
+        requires unchanged { IsUnchanged pass.old }
+        requires of_table { set.s ≡ self.now.settings.s }
+        requires more { 2 < length (list_of set) }
+        requires taken { (p : PassState V) × HasTaken K.hash self.now (λ t. IsIn t (list_of set))
+            (take 2 (list_of set)) p pass.old }
+        ensures own { IsPassOf self.now pass.new }
+        ensures unchanged { IsUnchanged pass.new }
+        ensures taken { OnOk result ((p : PassState V) → HasTaken K.hash self.now
+            (λ t. IsIn t (list_of set)) (take 2 (list_of set)) p pass.old
+            → HasTakenAll K.hash self.now (list_of set) p pass.new) }
+        ensures missed { IfErr result (λ i. (p : PassState V) → HasTaken K.hash self.now
+            (λ t. IsIn t (list_of set)) (take 2 (list_of set)) p pass.old
+            → Misses K.hash self.now (list_of set) i p pass.new) }
+    {
+        for i in 2..set.count() {
             if !self.take(pass, set.at(i)) {
                 return Err(i);
             }
@@ -123,9 +158,56 @@ impl<K: TableKey + Drop, V: Drop> Words<K, V> {
 
     /// Goes on where `lock_now` missed the stripe at position `i`, with the second of `turns` tries in all. Where each of
     /// them found a stripe held, it gives back what it holds, unchanged, and answers the number of that stripe.
+    #[inline(always)]
+    pub fn lock_later(&self, pass: &mut Pass<K, V>, set: StripeSet, i: usize) -> Result<(), u32>
+        requires own { IsPassOf self.now pass.old }
+        requires unchanged { IsUnchanged pass.old }
+        requires of_table { set.s ≡ self.now.settings.s }
+        requires missed { (p : PassState V)
+            × Misses K.hash self.now (list_of set) i p pass.old }
+        ensures taken { OnOk result ((p : PassState V)
+            → Misses K.hash self.now (list_of set) i p pass.old
+            → HasTakenAll K.hash self.now (list_of set) p pass.new) }
+        ensures refused { IfErr result (λ t. (p : PassState V)
+            → Misses K.hash self.now (list_of set) i p pass.old
+            → GivesUp self.now (λ u. IsIn u (list_of set)) t p pass.new) }
+    {
+        if set.count() <= 2 {
+            let (low, high) = set.two();
+            return self.lock_pair_later(pass, low, high, i);
+        }
+        self.lock_set_later(pass, set, i)
+    }
+
+    // Goes on so with the set of two stripes, which are handed on by their numbers: a set would be kept in memory.
     #[cold]
     #[inline(never)]
-    pub fn lock_later(&self, pass: &mut Pass<K, V>, set: StripeSet, i: usize) -> Result<(), u32>
+    fn lock_pair_later(
+        &self,
+        pass: &mut Pass<K, V>,
+        low: usize,
+        high: usize,
+        i: usize,
+    ) -> Result<(), u32>
+        requires own { IsPassOf self.now pass.old }
+        requires unchanged { IsUnchanged pass.old }
+        requires rising { low ≤ high }
+        requires inside { high < 2 ^ self.now.settings.s }
+        requires missed { (p : PassState V)
+            × Misses K.hash self.now (pair low high) i p pass.old }
+        ensures taken { OnOk result ((p : PassState V)
+            → Misses K.hash self.now (pair low high) i p pass.old
+            → HasTakenAll K.hash self.now (pair low high) p pass.new) }
+        ensures refused { IfErr result (λ t. (p : PassState V)
+            → Misses K.hash self.now (pair low high) i p pass.old
+            → GivesUp self.now (λ u. IsIn u (pair low high)) t p pass.new) }
+    {
+        let set = StripeSet::of_pair(self.settings().s, low, high);
+        self.lock_set_later(pass, set, i)
+    }
+
+    // Goes on so with any set.
+    fn lock_set_later(&self, pass: &mut Pass<K, V>, set: StripeSet, i: usize) -> Result<(), u32>
         requires own { IsPassOf self.now pass.old }
         requires unchanged { IsUnchanged pass.old }
         requires of_table { set.s ≡ self.now.settings.s }

@@ -41,6 +41,24 @@ impl<K: TableKey + Drop, V: Drop> Words<K, V> {
         ensures released { HasReleased self.now pass.old pass.new }
         ensures told { IsToldNoMore pass.old pass.new }
     {
+        match n {
+            0 => {}
+            1 => self.give_rest(pass, set.at(0)),
+            _ => self.release_each(pass, set, n),
+        }
+    }
+
+    // Gives them back one after another.
+    #[cold]
+    #[inline(never)]
+    fn release_each(&self, pass: &mut Pass<K, V>, set: StripeSet, n: usize)
+        requires own { IsPassOf self.now pass.old }
+        requires inside { n ≤ length (list_of set) }
+        requires numbered { numbers_of pass.old.stripes ≡ take n (list_of set) }
+        requires unchanged { IsUnchanged pass.old }
+        ensures released { HasReleased self.now pass.old pass.new }
+        ensures told { IsToldNoMore pass.old pass.new }
+    {
         for i in (0..n).rev() {
             self.give_rest(pass, set.at(i));
         }

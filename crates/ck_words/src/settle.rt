@@ -1,8 +1,9 @@
 //! Carrying out the doublings that are left of stripes that a pass holds.
-ghost use Rattle.std.specs.Prelude.{◌≡◌, ◌<◌, length};
+ghost use Rattle.std.specs.Prelude.{◌≡◌, ◌<◌, ◌≤◌, ◌^◌, length};
 ghost use Rattle.ck_section.specs.Places.{AreHeld};
 ghost use Rattle.ck_section.specs.Stripes.{stripe_at, settled_stripes};
 ghost use Rattle.ck_words.specs.Passes.{IsPassOf, IsUnchanged, numbers_of, PassState};
+ghost use Rattle.ck_words.specs.StripeNumbers.{pair};
 ghost use Rattle.ck_words.specs.StripeSets.{list_of};
 ghost use Rattle.ck_words.specs.Holding.{HasTakenAll};
 ghost use Rattle.ck_words.specs.Closing.{settled_also};
@@ -17,6 +18,7 @@ impl<K: TableKey + Drop, V: Drop> Words<K, V> {
     /// Carries out the doublings that are left of the stripes of a set, which were just taken.
     #[inline(always)]
     pub fn settle_taken(&self, pass: &mut Pass<K, V>, set: StripeSet)
+        requires of_table { set.s ≡ self.now.settings.s }
         requires taken { (p : PassState V)
             × HasTakenAll K.hash self.now (list_of set) p pass.old }
         ensures own { IsPassOf self.now pass.new }
@@ -33,6 +35,7 @@ impl<K: TableKey + Drop, V: Drop> Words<K, V> {
     #[inline(always)]
     fn settle(&self, pass: &mut Pass<K, V>, set: StripeSet)
         requires own { IsPassOf self.now pass.old }
+        requires of_table { set.s ≡ self.now.settings.s }
         requires numbered { numbers_of pass.old.stripes ≡ list_of set }
         ensures own { IsPassOf self.now pass.new }
         ensures settled { pass.new
@@ -43,16 +46,33 @@ impl<K: TableKey + Drop, V: Drop> Words<K, V> {
             // One test for both, before anything is looked into.
             let first = self.is_settled(pass, count, 0, set.at(0));
             let last = self.is_settled(pass, count, count - 1, set.at(count - 1));
-            if first && last {
-                return;
+            if !(first && last) {
+                let (low, high) = set.two();
+                self.settle_pair(pass, low, high);
             }
+            return;
         }
         self.settle_each(pass, set);
     }
 
-    // Carries out the doublings that are left of the stripes of a set, one after another.
+    // Carries out the doublings that are left of two stripes, which are handed on by their numbers: a set would be kept in
+    // memory.
     #[cold]
     #[inline(never)]
+    fn settle_pair(&self, pass: &mut Pass<K, V>, low: usize, high: usize)
+        requires own { IsPassOf self.now pass.old }
+        requires rising { low ≤ high }
+        requires inside { high < 2 ^ self.now.settings.s }
+        requires numbered { numbers_of pass.old.stripes ≡ pair low high }
+        ensures own { IsPassOf self.now pass.new }
+        ensures settled { pass.new
+            ≡ record pass.old { stripes = settled_stripes pass.old.stripes } }
+    {
+        let set = StripeSet::of_pair(self.settings().s, low, high);
+        self.settle_each(pass, set);
+    }
+
+    // Carries out the doublings that are left of the stripes of a set, one after another.
     fn settle_each(&self, pass: &mut Pass<K, V>, set: StripeSet)
         requires own { IsPassOf self.now pass.old }
         requires numbered { numbers_of pass.old.stripes ≡ list_of set }

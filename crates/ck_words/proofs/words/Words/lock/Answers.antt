@@ -30,6 +30,7 @@ pub settle_taken-requires : goal.settle_taken-requires
 settle_taken-requires g c =
     let P : PassState g.row.V.Denot → Type 0 = λ q. HasTakenAll g.K.TableKey.hash c.args.self.now (list_of c.args.set) c.args.pass.now q in
     record {
+      of_table = c.requires.of_table;
       taken = (
         c.args.pass.now,
         elim c.match-lock_now.branch [

@@ -2,7 +2,7 @@ use Rattle.std.proofs.Common.{take}
 use Rattle.ck_words.specs.StripeSets.{list_of}
 use Rattle.ck_words.proofs.Releasing.{Leaves}
 use Rattle.ck_words.proofs.Telling.{IsToldBelow}
-use Rattle.ck_words.proofs.words.Words.release_first.Given as goal
+use Rattle.ck_words.proofs.words.Words.release_each.Given as goal
 
 abbrev pub invariant-loop-i : goal.invariant-loop-i
 invariant-loop-i g l = record {
