@@ -46,11 +46,11 @@ impl<K: TableKey + Drop, V: Drop> Words<K, V> {
             // One test for both, before anything is looked into.
             let first = self.is_settled(pass, count, 0, set.at(0));
             let last = self.is_settled(pass, count, count - 1, set.at(count - 1));
-            if !(first && last) {
-                let (low, high) = set.two();
-                self.settle_pair(pass, low, high);
+            if first && last {
+                return;
             }
-            return;
+            let (low, high) = set.two();
+            return self.settle_pair(pass, low, high);
         }
         self.settle_each(pass, set);
     }

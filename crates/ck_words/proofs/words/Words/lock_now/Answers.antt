@@ -18,8 +18,7 @@ take-requires-clause-above g c =
 -- the first was found held
 pub returns-then-not-take-clause-missed : goal.returns-then-not-take-clause-missed
 returns-then-not-take-clause-missed g c =
-    let p = c.args.pass.now in
-    (
+    let p = c.args.pass.now in (
       c.args.set.some,
       (p, none_taken g.K.TableKey.hash c.args.self.now _ p c.requires.own c.requires.idle, found_next g.K.TableKey.hash c.args.self.now 0 _ p p c.take.new.pass refl c.requires.own c.take.ensures.own c.if-not-take.ensures.step ∙ ap (λ t. found_again 1 t p) c.at.ensures.value),
     )
