@@ -33,7 +33,6 @@ use Rattle.ck_words.specs.Answering.{HasDone, IsAnswered, IsAnsweredBut}
 use Rattle.ck_words.specs.Renewing.{HasRenewed}
 use Rattle.ck_words.proofs.Seating.{numbers-contents}
 use Rattle.ck_words.proofs.Renewals.{renewed_none, done_then}
-use Rattle.ck_words.specs.Passes.{pair}
 use Rattle.ck_table.specs.declared.room.Room.{Room}
 use Rattle.ck_table.specs.Holding.{HoldsKeyBut, HoldsKey}
 use Rattle.ck_table.specs.Insertions.{HasRoom}
@@ -121,14 +120,14 @@ module _ {V : Type 0} {hash : Name → ℕ} {w v : WordsState} {q : Name} {place
   pub says : {z : PassState V} → ((r : Reply V) → HasDone hash v.settings call1 r p2 → IsAnswered call1 r p2 z) → (reply : Reply V) → IsStep hash place.s p1.stripes p2.stripes call reply → IsAnsweredBut more call reply p z
   says = says_since p p1 is held.stays held.s renewed p2 same named
 
--- The pass held stripes with room for a name.
-module _ {V : Type 0} {hash : Name → ℕ} (w : WordsState) {q : Name} {room : Room} {p p1 : PassState V} (has : HasRoom hash w.settings q room p p1)
+-- The pass held stripes with room for a name. w and v are one table.
+module _ {V : Type 0} {hash : Name → ℕ} {w v : WordsState} {q : Name} {room : Room} {p p1 : PassState V} (is : v ≡ w) (has : HasRoom hash w.settings q room p p1)
     (p2 : PassState V) (same : p2.view ≡ p1.view) {call call1 : Call V} (named : call1 ≡ call) where
-  pub does_there : (reply : Reply V) → IsStep hash room.spot.place.s p1.stripes p2.stripes call reply → HasDone hash w.settings call1 reply p2
-  does_there = does_since {w = w} {v = w} p p1 refl has.stays has.held.s has.held.renewed p2 same named
+  pub does_there : (reply : Reply V) → IsStep hash room.spot.place.s p1.stripes p2.stripes call reply → HasDone hash v.settings call1 reply p2
+  does_there = does_since p p1 is has.stays has.held.s has.held.renewed p2 same named
 
-  pub says_there : {z : PassState V} → ((r : Reply V) → HasDone hash w.settings call1 r p2 → IsAnswered call1 r p2 z) → (reply : Reply V) → IsStep hash room.spot.place.s p1.stripes p2.stripes call reply → IsAnsweredBut has.more call reply p z
-  says_there = says_since {w = w} {v = w} p p1 refl has.stays has.held.s has.held.renewed p2 same named
+  pub says_there : {z : PassState V} → ((r : Reply V) → HasDone hash v.settings call1 r p2 → IsAnswered call1 r p2 z) → (reply : Reply V) → IsStep hash room.spot.place.s p1.stripes p2.stripes call reply → IsAnsweredBut has.more call reply p z
+  says_there = says_since p p1 is has.stays has.held.s has.held.renewed p2 same named
 
 -- what is said of a value, and of none
 pub by_option : {A : Type 0} (o : Option A) (P : A → Type 0) (Q C : Type 0) → IfSome o P → IfNone o Q → ((a : A) → P a → C) → (Q → C) → C
@@ -181,44 +180,3 @@ module _ {V F : Type 0} (D : Act V → Reply V → Type 0) (R : V → Bool → T
   erasing A (Ok true) b e f h = (h.0.0, h.0.1, subst (λ x. (r : Reply V) → D (erases x) r → A (erases x) r) e f (Was (Some h.0.0)) h.0.2)
   erasing A (Ok false) b e f h = (h.0.0, h.0.1, subst (λ x. (r : Reply V) → D (erases x) r → A (erases x) r) e f (Was (Some h.0.0)) h.0.2)
   erasing A (Err back) b e f h = subst (λ x. (r : Reply V) → D (erases x) r → A (erases x) r) e f (Was None) h.1.1
-
-in_pair : (low high t : ℕ) → (t ≡ low) ⊎ (t ≡ high) → IsIn t (pair low high)
-in_pair low high t h = dite (ℕ_discrete low high)
-    (λ e. subst (IsIn t) (sym (if_same low high (low ∷ []) (low ∷ high ∷ []) e)) (inl (⊎_elim (λ (a : t ≡ low). sym a) (λ b. e ∙ sym b) h)))
-    (λ ne. subst (IsIn t) (sym (if_else low high (low ∷ []) (low ∷ high ∷ []) ne)) (⊎_elim (λ (a : t ≡ low). inl (sym a)) (λ b. inr (inl (sym b))) h))
-
--- two stripes, of which one may be the other, are held
-pub in_both : {V : Type 0} (ss : List (StripeState V)) (a b low high : ℕ) → low ≡ min a b → high ≡ max a b → numbers_of ss ≡ pair low high → (t : ℕ) → (t ≡ a) ⊎ (t ≡ b) → IsIn t (numbers (contents_of ss))
-in_both ss a b low high is_low is_high named t of =
-    let which : (t ≡ low) ⊎ (t ≡ high) = dite (dec_le a b)
-    (λ le. ⊎_elim (λ (e : t ≡ a). inl (omega arith)) (λ (e : t ≡ b). inr (omega arith)) of)
-    (λ ne. ⊎_elim (λ (e : t ≡ a). inr (omega arith)) (λ (e : t ≡ b). inl (omega arith)) of) in
-    subst (IsIn t) (sym (numbers-contents ss ∙ named)) (in_pair low high t which)
-
-either_of : (a b low high t : ℕ) → low ≡ min a b → high ≡ max a b → (t ≡ low) ⊎ (t ≡ high) → (t ≡ a) ⊎ (t ≡ b)
-either_of a b low high t l h e = dite (dec_le a b)
-    (λ le. ⊎_elim (λ (x : t ≡ low). inl (omega arith)) (λ y. inr (omega arith)) e)
-    (λ ne. ⊎_elim (λ (x : t ≡ low). inr (omega arith)) (λ y. inl (omega arith)) e)
-
--- the lower and the higher stripe of the name, whose hash this is
-module _ {hash : Name → ℕ} (set : Settings) {q : Name} {s low high : ℕ} {h : KeyHash} (same : s ≡ set.s) (hashed : IsHashOf hash q h)
-    (is_low : low ≡ min (index_of s h.hash) (second_of s h.hash)) (is_high : high ≡ max (index_of s h.hash) (second_of s h.hash)) where
-  lowest : low ≡ min (index_of set.s (hash q)) (second_of set.s (hash q))
-  lowest = is_low ∙ λ j. min (index_of (same j) (hashed.value j)) (second_of (same j) (hashed.value j))
-
-  highest : high ≡ max (index_of set.s (hash q)) (second_of set.s (hash q))
-  highest = is_high ∙ λ j. max (index_of (same j) (hashed.value j)) (second_of (same j) (hashed.value j))
-
-  -- the two stripes are those of the name
-  pub has_both : {V : Type 0} (ss : List (StripeState V)) → numbers_of ss ≡ pair low high → HasBoth hash set.s ss q
-  has_both ss named max t of = in_both ss (index_of set.s (hash q)) (second_of set.s (hash q)) low high lowest highest named t of
-
-  pub finds_own : {V : Type 0} (p p2 : PassState V) → FindsAmong (λ t. (t ≡ low) ⊎ (t ≡ high)) p p2 → FindsOwn hash set q p p2
-  finds_own p p2 f = (f.0, f.1, (λ t i. either_of (index_of set.s (hash q)) (second_of set.s (hash q)) low high t lowest highest (f.2 t i)))
-
-  pub busy_own : {V : Type 0} (p p2 : PassState V) (t : ℕ) → Stays p.view p2.view → IsBusy set.turns t p p2 → (t ≡ low) ⊎ (t ≡ high) → IsBusyAt hash set q t p p2
-  busy_own p p2 t stays busy asked = record {
-    stays = stays;
-    stripe = either_of (index_of set.s (hash q)) (second_of set.s (hash q)) low high t lowest highest asked;
-    tried = busy.1;
-  }

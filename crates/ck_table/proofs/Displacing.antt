@@ -8,17 +8,14 @@ use Rattle.ck_model.specs.Contents.{layout, Stripes, Lawful}
 use Rattle.ck_model.specs.Sections.{IdentitySection}
 use Rattle.ck_stripe.specs.Stripe.{StripeState}
 use Rattle.ck_section.specs.Stripes.{contents_of}
-use Rattle.ck_section.specs.Places.{HasStripe}
 use Rattle.ck_section.specs.Hops.{IsNoCall}
 use Rattle.ck_core.specs.declared.view.View.{View}
 use Rattle.ck_words.specs.Words.{WordsState}
-use Rattle.ck_words.specs.Passes.{PassState, IsPassOf, IsIdle, IsUnchanged, numbers_of, pair}
+use Rattle.ck_words.specs.Passes.{PassState, IsPassOf, IsIdle, IsUnchanged}
 use Rattle.ck_words.specs.Retries.{Stays, FindsAmong}
 use Rattle.ck_words.specs.Holding.{HasReleased}
 use Rattle.ck_words.specs.Renewing.{HasRenewed}
 use Rattle.ck_words.proofs.Staying.{stays_same, stays_then, stays_on}
-use Rattle.ck_section.proofs.Owned.{has_stripe}
-use Rattle.ck_table.proofs.Calls.{in_both}
 use Rattle.ck_table.specs.Displacing.{FindsAny, IsBackBut, IsBack, IsBusyAnywhere}
 
 -- a run of finds, before others and before what was found earlier
@@ -60,12 +57,6 @@ module _ {V : Type 0} where
     stays = stays_on p.view p1.view z.view stays (subst (λ (u : View V). Stays u z.view) same home.stays);
     found = (f.0, home.found ∙ (ap (λ (u : View V). u.found) same ∙ f.1));
   }
-
-  -- two stripes, of which one may be the other, are held
-  pub has_two : (ss : List (StripeState V)) (a b low high : ℕ) → low ≡ min a b → high ≡ max a b → numbers_of ss ≡ pair low high → HasStripe ss a × HasStripe ss b
-  has_two ss a b low high is_low is_high numbered =
-      let held = in_both ss a b low high is_low is_high numbered in
-      (has_stripe ss a (held a (inl refl)), has_stripe ss b (held b (inr refl)))
 
   -- what a hop made of the stripes that were taken
   pub renewed : {hash : Name → ℕ} {v w : WordsState} {s : ℕ} → v ≡ w → s ≡ w.settings.s → (p1 p2 : PassState V) → IsUnchanged p1 → p2.view ≡ p1.view → IsNoCall hash s p1.stripes p2.stripes → HasRenewed hash v.settings p2

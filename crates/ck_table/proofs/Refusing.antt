@@ -14,13 +14,10 @@ use Rattle.ck_section.specs.declared.place.KeyPlace.{KeyPlace}
 use Rattle.ck_section.specs.Calls.{IsWithoutRoom}
 use Rattle.ck_section.proofs.Owned.{own_below}
 use Rattle.ck_core.specs.declared.view.View.{View}
-use Rattle.ck_core.specs.Steps.{giving}
-use Rattle.ck_core.specs.Steps.Label.{Give}
 use Rattle.ck_words.specs.Words.{WordsState}
-use Rattle.ck_words.specs.Passes.{PassState, Sends}
+use Rattle.ck_words.specs.Passes.{PassState}
 use Rattle.ck_words.specs.Retries.{Stays, StaysBut}
 use Rattle.ck_words.proofs.Staying.{stays_then}
-use Rattle.ck_words.proofs.Rows.{give_row}
 use Rattle.ck_table.specs.declared.refusal.Why.TheVariants.{Busy}
 use Rattle.ck_table.specs.Holding.{HoldsKeyBut}
 use Rattle.ck_table.specs.Refusals.{FindsOwn, IsBusyAmong, IsBusyAt}
@@ -35,18 +32,6 @@ module _ {V : Type 0} where
       let none : IsWithoutRoom hash w.settings.s p1.stripes q = subst (λ (s : ℕ). IsWithoutRoom hash s p1.stripes q) held.s room in
       subst (λ (x : WordsState × List (StripeState V)). Lawful (layout_of hash x.0.settings) (contents_of x.1) → Owns (layout_of hash x.0.settings) (contents_of x.1) q × HasNoRoom (layout_of hash x.0.settings) (contents_of x.1) q)
       (λ j. (sym is j, sym same j)) (λ lawful. (held.both, none w.settings.max lawful))
-
-  -- the highest stripe went home and told of the name, and the others went home
-  module _ (hash : Name → ℕ) (w : WordsState) (q : Name) (p p1 p2 : PassState V) (g : Sends hash w (λ t _. Give t (Some (q, NoRoom))) p p1) where
-    given : p1.view ≡ giving p.view g.0.number g.2.does.1 p.view.held (Some (q, NoRoom))
-    given = give_row hash w.settings p.view p1.view g.0.number (Some (q, NoRoom)) g.2
-
-    pub told_full : Stays p1.view p2.view → HasFoundNoRoom q p p2
-    told_full = stays_then ((q, NoRoom) ∷ []) [] p.view p1.view p2.view
-        (subst (StaysBut ((q, NoRoom) ∷ []) p.view) (sym given) (record { settings = refl; by = refl; mine = refl; others = refl; heard = (refl, refl); noroom = refl; seen = ([], sym (append-nil p.view.seen)); by_others = λ m e. refl; told = omega arith }))
-
-    pub found_full : p2.view.found ≡ p1.view.found → p2.view.found ≡ p.view.found
-    found_full same = same ∙ ap (λ (v : View V). v.found) given
 
   -- it was told after the stripes were taken
   pub told_since : (q : Name) (p p1 p2 z : PassState V) → Stays p.view p1.view → p2.view ≡ p1.view → HasFoundNoRoom q p2 z → HasFoundNoRoom q p z

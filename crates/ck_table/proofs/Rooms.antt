@@ -23,7 +23,7 @@ use Rattle.ck_section.proofs.Growing.{place_in}
 use Rattle.ck_core.specs.declared.view.View.{View}
 use Rattle.ck_model.specs.Counting.{counting}
 use Rattle.ck_words.specs.Words.{WordsState}
-use Rattle.ck_words.specs.Passes.{PassState, pair}
+use Rattle.ck_words.specs.Passes.{PassState}
 use Rattle.ck_words.specs.Retries.{Stays}
 use Rattle.ck_words.specs.Renewing.{HasRenewed, HasRefused}
 use Rattle.ck_words.specs.Closing.{IsWhole}
@@ -32,15 +32,7 @@ use Rattle.ck_words.proofs.Totals.{lawful_held}
 use Rattle.ck_words.proofs.Renewals.{renewed_none, renewed_then}
 use Rattle.ck_table.specs.declared.room.Room.{Room}
 use Rattle.ck_table.specs.Refusals.{why_of}
-use Rattle.ck_table.specs.Insertions.{numbers_in, reason_of, HoldsRoom, HasRoom, ShowsWhy, IsRefused}
-
--- the stripes of the key alone
-pub numbers_own : (r : Room) → r.all ≡ false → numbers_in r ≡ pair r.spot.low r.spot.high
-numbers_own r own = ap (λ b. if b then counting 0 (2 ^ r.spot.place.s) else pair r.spot.low r.spot.high) own
-
--- or all
-pub numbers_all : (r : Room) → r.all ≡ true → numbers_in r ≡ counting 0 (2 ^ r.spot.place.s)
-numbers_all r all = ap (λ b. if b then counting 0 (2 ^ r.spot.place.s) else pair r.spot.low r.spot.high) all
+use Rattle.ck_table.specs.Insertions.{reason_of, HoldsRoom, HasRoom, ShowsWhy, IsRefused}
 
 -- the reason of a refusal for a lack is that of the lack
 reason_same : (l : lack.Lack) → reason_of (why_of l) ≡ reason_of_lack l

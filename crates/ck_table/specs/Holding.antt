@@ -1,28 +1,27 @@
 -- A pass while a call holds the stripes of its key.
-use Rattle.std.specs.Prelude.{◌≡◌, ℕ, ◌≤◌, ◌<◌, ◌^◌, min, max, List, []}
+use Rattle.std.specs.Prelude.{◌≡◌, ◌↔◌, ℕ, List, []}
 use Rattle.ck_key.specs.Hashes.{IsHashOf}
-use Rattle.ck_model.specs.Arithmetic.{index_of, second_of}
 use Rattle.ck_model.specs.declared.history.Reason.{Reason}
 use Rattle.ck_model.specs.declared.settings.Settings.{Settings}
 use Rattle.ck_model.specs.Map.{Name}
-use Rattle.ck_model.specs.Contents.{layout_of}
+use Rattle.ck_model.specs.Numbered.{IsIn}
+use Rattle.ck_model.specs.Contents.{layout_of, IsStripeOf}
 use Rattle.ck_model.specs.Sections.{Owns}
 use Rattle.ck_section.specs.declared.place.KeyPlace.{KeyPlace}
 use Rattle.ck_section.specs.Stripes.{contents_of}
 use Rattle.ck_section.specs.Places.{IsPlaceOf}
 use Rattle.ck_words.specs.Passes.{PassState, IsUnchanged}
+use Rattle.ck_words.specs.StripeNumbers.{own_numbers}
+use Rattle.ck_words.specs.StripeSets.{list_of}
 use Rattle.ck_words.specs.Retries.{StaysBut}
 use Rattle.ck_table.specs.declared.holding.Home.{Home}
 
--- the hash of the name, and its two stripes, the lower first
+-- the hash of the name, and its stripes
 pub record IsHomeOf (hash : Name → ℕ) (set : Settings) (q : Name) (home : Home) : Type 0 where
-  pub s : home.s ≡ set.s
+  pub s : home.stripes.s ≡ set.s
   pub hashed : IsHashOf hash q home.hash
-  pub low : home.low ≡ min (index_of home.s home.hash.hash) (second_of home.s home.hash.hash)
-  pub high : home.high ≡ max (index_of home.s home.hash.hash) (second_of home.s home.hash.hash)
-  pub rising : home.low ≤ home.high
-  pub inside : home.high < 2 ^ set.s
-  pub fits : home.high < 2 ^ 32
+  pub list : list_of home.stripes ≡ own_numbers set.s (hash q)
+  pub exact : (t : ℕ) → IsIn t (list_of home.stripes) ↔ IsStripeOf (layout_of hash set) q t
 
 module _ {V : Type 0} where
   -- Since p the pass has taken the stripes of the name, and has settled them. The name may be at this place among them.

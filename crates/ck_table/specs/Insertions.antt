@@ -1,5 +1,5 @@
 -- What an insertion leaves of its pass. Before it is answered or refused it may find its name without room, and say so.
-use Rattle.std.specs.Prelude.{◌≡◌, ◌⊎◌, ℕ, ◌<◌, ◌^◌, if◌then◌else◌, List, [], ◌∷◌, ◌++◌, All, Contains}
+use Rattle.std.specs.Prelude.{◌≡◌, ◌⊎◌, ℕ, ◌<◌, ◌^◌, List, [], ◌∷◌, ◌++◌, All, Contains}
 use Rattle.ck_model.specs.declared.history.Act.{Act}
 use Rattle.ck_model.specs.declared.history.Call.TheVariants.{On}
 use Rattle.ck_model.specs.declared.history.Reply.{Reply}
@@ -13,8 +13,7 @@ use Rattle.ck_section.specs.Entries.{IsEntryOf}
 use Rattle.ck_table.specs.declared.room.Room.{Room}
 use Rattle.ck_table.specs.declared.refusal.Why.{Why}
 use Rattle.ck_table.specs.declared.refusal.Why.TheVariants.{Busy, Memory, Full, LoadTooLow}
-use Rattle.ck_model.specs.Counting.{counting}
-use Rattle.ck_words.specs.Passes.{PassState, pair}
+use Rattle.ck_words.specs.Passes.{PassState}
 use Rattle.ck_words.specs.Retries.{StaysBut, FindsAmong, FindsLast}
 use Rattle.ck_words.specs.Answering.{IsAnsweredBut}
 use Rattle.ck_words.specs.Renewing.{HasRenewed}
@@ -25,10 +24,6 @@ reason_of (Busy t) = reason.NoRoom
 reason_of Memory = reason.Memory
 reason_of Full = reason.Full
 reason_of LoadTooLow = reason.LoadTooLow
-
--- the numbers of the stripes that are held with the room: all of the table, or those of the key
-abbrev pub numbers_in : Room → List ℕ
-numbers_in room = if room.all then counting 0 (2 ^ room.spot.place.s) else pair room.spot.low room.spot.high
 
 module _ {V : Type 0} where
   -- the pass has said that the name was unbound and its buckets were full
@@ -44,6 +39,7 @@ module _ {V : Type 0} where
   pub record HoldsRoom (hash : Name → ℕ) (set : Settings) (q : Name) (room : Room) (p : PassState V) : Type 0 where
     pub at : IsPlaceOf hash p.stripes q room.spot.place
     pub s : room.spot.place.s ≡ set.s
+    pub of_table : room.spot.stripes.s ≡ set.s
     pub entry : IsEntryOf hash p.stripes q room.spot.place room.entry
     pub renewed : HasRenewed hash set p
 

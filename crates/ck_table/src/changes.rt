@@ -37,12 +37,11 @@ impl<K: TableKey + Drop, V: Drop> Table<K, V> {
         let mut lent = Lent {
             words: &self.words,
             pass,
-            numbers: spot.numbers(),
-            s: spot.place.s,
+            set: spot.stripes,
         };
         let old = update(&mut lent, spot.place, key, value);
         let Lent { pass, .. } = lent;
-        self.words.commit(pass, spot.low, spot.high, said);
+        self.words.commit(pass, spot.stripes, said);
         Ok(old)
     }
 
@@ -73,12 +72,12 @@ impl<K: TableKey + Drop, V: Drop> Table<K, V> {
         let mut lent = Lent {
             words: &self.words,
             pass,
-            numbers: spot.numbers(),
-            s: spot.place.s,
+            set: spot.stripes,
         };
         let bound = change(&mut lent, spot.place, key, f);
         let Lent { pass, .. } = lent;
-        self.words.commit(pass, spot.low, spot.high, Commit::Change(Snapshot::of(key)));
+        self.words
+            .commit(pass, spot.stripes, Commit::Change(Snapshot::of(key)));
         Ok(bound)
     }
 
@@ -96,12 +95,12 @@ impl<K: TableKey + Drop, V: Drop> Table<K, V> {
         let mut lent = Lent {
             words: &self.words,
             pass,
-            numbers: spot.numbers(),
-            s: spot.place.s,
+            set: spot.stripes,
         };
         let value = erase(&mut lent, spot.place, key);
         let Lent { pass, .. } = lent;
-        self.words.commit(pass, spot.low, spot.high, Commit::Erase(Snapshot::of(key)));
+        self.words
+            .commit(pass, spot.stripes, Commit::Erase(Snapshot::of(key)));
         Ok(value)
     }
 
@@ -133,18 +132,15 @@ impl<K: TableKey + Drop, V: Drop> Table<K, V> {
         let mut lent = Lent {
             words: &self.words,
             pass,
-            numbers: spot.numbers(),
-            s: spot.place.s,
+            set: spot.stripes,
         };
         let gone = erase_if(&mut lent, spot.place, key, f).ok();
         let Lent { pass, .. } = lent;
         let said = Snapshot::of(key);
         if gone.unwrap_or(false) {
-            self.words
-                .commit(pass, spot.low, spot.high, Commit::Erase(said));
+            self.words.commit(pass, spot.stripes, Commit::Erase(said));
         } else {
-            self.words
-                .commit(pass, spot.low, spot.high, Commit::Find(said));
+            self.words.commit(pass, spot.stripes, Commit::Find(said));
         }
         Ok(gone)
     }

@@ -1,19 +1,20 @@
 //! Making room for a key whose buckets are full: other entries go to their other buckets, or in the end the table grows.
 ghost use Rattle.std.specs.Prelude.{◌≡◌, ◌^◌, ◌<◌, ◌≤◌, OnErr, IfOk, IfErr};
 ghost use Rattle.ck_model.specs.Arithmetic.{alternate_of};
-ghost use Rattle.ck_words.specs.Passes.{IsPassOf, IsIdle, numbers_of, pair};
+ghost use Rattle.ck_words.specs.Passes.{IsPassOf, IsIdle, numbers_of};
+ghost use Rattle.ck_words.specs.StripeSets.{list_of};
 ghost use Rattle.ck_words.specs.Closing.{IsCaller};
-ghost use Rattle.ck_table.specs.Insertions.{numbers_in, HasRoom, IsRefused, FindsOwnUnlessFull};
+ghost use Rattle.ck_table.specs.Insertions.{HasRoom, IsRefused, FindsOwnUnlessFull};
 ghost use Rattle.ck_table.specs.Displacing.{IsBack, IsBusyAnywhere, SinceFull};
 
 use crate::refusal::{Busy, Why};
 use crate::room::Room;
-use crate::search::{Searched, stripe_of};
+use crate::search::Searched;
 use crate::table::Table;
 use ck_key::{KeyHash, TableKey};
 use ck_path::Path;
 use ck_section::{Hop, make_hop};
-use ck_words::{Lent, Numbers, Pass};
+use ck_words::{Lent, Pass, StripeSet};
 use std::snapshot::Snapshot;
 
 impl<K: TableKey + Drop, V: Drop> Table<K, V> {
@@ -28,7 +29,8 @@ impl<K: TableKey + Drop, V: Drop> Table<K, V> {
         ensures room { IfOk result (λ room.
             SinceFull K.hash self.now.settings (K.name key.now) pass.old (λ p.
             HasRoom K.hash self.now.settings (K.name key.now) room p pass.new)) }
-        ensures numbered { IfOk result (λ room. numbers_of pass.new.stripes ≡ numbers_in room) }
+        ensures numbered { IfOk result (λ room.
+            numbers_of pass.new.stripes ≡ list_of room.spot.stripes) }
         ensures found { SinceFull K.hash self.now.settings (K.name key.now) pass.old (λ p.
             FindsOwnUnlessFull K.hash self.now.settings (K.name key.now) p pass.new) }
         ensures idle { OnErr result (IsIdle pass.new) }
@@ -112,24 +114,21 @@ impl<K: TableKey + Drop, V: Drop> Table<K, V> {
             IsBusyAnywhere self.now.settings busy.0 pass.old pass.new) }
     {
         let s = self.words.settings().s;
-        let from = stripe_of(s, hop.bucket);
-        let to = stripe_of(s, hop.target);
-        let (low, high) = (from.min(to), from.max(to));
-        if let Err(stripe) = self.words.hold(pass, low, high) {
-            return Err(Busy(stripe as u32));
+        let stripes = StripeSet::of_buckets(s, hop.bucket, hop.target);
+        if let Err(stripe) = self.words.lock(pass, stripes) {
+            return Err(Busy(stripe));
         }
         let mut lent = Lent {
             words: &self.words,
             pass,
-            numbers: Numbers::pair(low, high),
-            s,
+            set: stripes,
         };
         let hopped = make_hop(&mut lent, s, hop);
         let Lent { pass, .. } = lent;
         if hopped {
-            self.words.renew_pair(pass, low, high);
+            self.words.renew_set(pass, stripes);
         } else {
-            self.words.release_pair(pass, low, high);
+            self.words.release(pass, stripes);
         }
         Ok(hopped)
     }

@@ -13,7 +13,7 @@ use crate::table::Table;
 use ck_key::TableKey;
 use ck_model::settings::Settings;
 use ck_section::{Held, double_all, settle_all};
-use ck_words::{Lent, Numbers, Pass};
+use ck_words::{Lent, Pass};
 use std::alloc::AllocError;
 
 impl<K: TableKey + Drop, V: Drop> Table<K, V> {
@@ -37,15 +37,15 @@ impl<K: TableKey + Drop, V: Drop> Table<K, V> {
         if let Err(Busy(stripe)) = self.hold_table(pass) {
             return Err(GrowFault::Busy(stripe));
         }
+        let all = self.words.all();
         let mut lent = Lent {
             words: &self.words,
             pass,
-            numbers: Numbers::all(s),
-            s,
+            set: all,
         };
         let grown = double_to(&mut lent, s, power);
         let Lent { pass, .. } = lent;
-        self.words.renew_all(pass);
+        self.words.renew_set(pass, all);
         match grown {
             Ok(grown) => Ok(grown),
             Err(_) => Err(GrowFault::Memory),

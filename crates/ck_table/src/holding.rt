@@ -1,10 +1,10 @@
 //! Taking the stripes of a key, with room for it.
-ghost use Rattle.std.specs.Prelude.{◌≡◌, ◌≤◌, false, OnOk, OnErr, IfOk, IfErr};
+ghost use Rattle.std.specs.Prelude.{◌≡◌, ◌≤◌, OnOk, OnErr, IfOk, IfErr};
 ghost use Rattle.ck_key.specs.Hashes.{IsHashOf};
 ghost use Rattle.ck_section.specs.Places.{AreHeld, HasBoth, IsPlaceOf};
-ghost use Rattle.ck_words.specs.Passes.{PassState, IsPassOf, IsIdle, numbers_of, pair};
-ghost use Rattle.ck_words.specs.Lending.{list_of};
-ghost use Rattle.ck_words.specs.Holding.{IsEither, HasTaken};
+ghost use Rattle.ck_words.specs.Passes.{PassState, IsPassOf, IsIdle, numbers_of};
+ghost use Rattle.ck_words.specs.StripeSets.{list_of};
+ghost use Rattle.ck_words.specs.Holding.{HasTakenAll};
 ghost use Rattle.ck_words.specs.Closing.{IsCaller};
 ghost use Rattle.ck_table.specs.Holding.{HoldsKey, IsHomeOf};
 ghost use Rattle.ck_table.specs.Insertions.{HasFoundNoRoom, HasRoom};
@@ -15,35 +15,21 @@ use crate::room::Room;
 use crate::table::Table;
 use ck_key::{KeyHash, TableKey};
 use ck_section::{Held, KeyPlace, find_entry, key_place};
-use ck_words::{Lent, Numbers, Pass};
-use std::marker::Brand;
+use ck_words::{Lent, Pass, StripeSet};
 use std::snapshot::Snapshot;
 
-// The stripes of a key among 2^s, in rising order, or the one that both are, and the key's hash.
+// The stripes of a key, and its hash.
 #[derive(Clone, Copy)]
 pub(crate) struct Home {
-    pub(crate) s: u32,
-    pub(crate) low: usize,
-    pub(crate) high: usize,
+    pub(crate) stripes: StripeSet,
     pub(crate) hash: KeyHash,
 }
 
-// The stripes of a key, which its pass holds, or the one that both are, and where the key may be among them.
+// The stripes that a pass holds, and where its key may be among them.
 #[derive(Clone, Copy)]
 pub(crate) struct Spot {
-    pub(crate) low: usize,
-    pub(crate) high: usize,
+    pub(crate) stripes: StripeSet,
     pub(crate) place: KeyPlace,
-}
-
-impl Spot {
-    // The stripes, as they are lent.
-    #[inline(always)]
-    pub(crate) fn numbers(self) -> Numbers
-        ensures { list_of result ≡ pair self.low self.high }
-    {
-        Numbers::pair(self.low, self.high)
-    }
 }
 
 impl<K: TableKey + Drop, V: Drop> Table<K, V> {
@@ -55,8 +41,9 @@ impl<K: TableKey + Drop, V: Drop> Table<K, V> {
         ensures own { IsPassOf self.now pass.new }
         ensures held { IfOk result (λ spot.
             HoldsKey K.hash self.now.settings (K.name key.now) spot.place pass.old pass.new) }
+        ensures s { IfOk result (λ spot. spot.stripes.s ≡ self.now.settings.s) }
         ensures numbered { IfOk result (λ spot.
-            numbers_of pass.new.stripes ≡ pair spot.low spot.high) }
+            numbers_of pass.new.stripes ≡ list_of spot.stripes) }
         ensures settled { OnOk result (AreHeld self.now.settings.s pass.new.stripes) }
         ensures found { FindsOwn K.hash self.now.settings (K.name key.now) pass.old pass.new }
         ensures idle { OnErr result (IsIdle pass.new) }
@@ -65,9 +52,9 @@ impl<K: TableKey + Drop, V: Drop> Table<K, V> {
     {
         let home = self.home_of(key);
         // What may wait is called right here: each function that it is inlined through would cost one more test.
-        if let Err(missed) = self.words.hold_now(pass, home.low, home.high) {
-            if let Err(stripe) = self.words.hold_later(pass, home.low, home.high, missed) {
-                return Err(Busy(stripe as u32));
+        if let Err(i) = self.words.lock_now(pass, home.stripes) {
+            if let Err(stripe) = self.words.lock_later(pass, home.stripes, i) {
+                return Err(Busy(stripe));
             }
         }
         Ok(self.spot_in(pass, key, home))
@@ -78,15 +65,9 @@ impl<K: TableKey + Drop, V: Drop> Table<K, V> {
     pub(crate) fn home_of(&self, key: &K) -> Home
         ensures { IsHomeOf K.hash self.now.settings (K.name key.now) result }
     {
-        let s = self.words.settings().s;
         let hash = KeyHash::of(key);
-        let (low, high) = hash.stripes(s);
-        Home {
-            s,
-            low: low as usize,
-            high: high as usize,
-            hash,
-        }
+        let stripes = StripeSet::of_key(self.words.settings().s, hash);
+        Home { stripes, hash }
     }
 
     // Carries out a doubling that is left of the key's stripes, which were just taken. Where the key may be among them comes
@@ -94,52 +75,51 @@ impl<K: TableKey + Drop, V: Drop> Table<K, V> {
     #[inline(always)]
     pub(crate) fn spot_in(&self, pass: &mut Pass<K, V>, key: &K, home: Home) -> Spot
         requires home { IsHomeOf K.hash self.now.settings (K.name key.now) home }
-        requires taken { (p : PassState V) × HasTaken K.hash self.now
-            (IsEither home.low home.high) (pair home.low home.high) p pass.old }
+        requires taken { (p : PassState V)
+            × HasTakenAll K.hash self.now (list_of home.stripes) p pass.old }
         ensures own { IsPassOf self.now pass.new }
-        ensures held { (p : PassState V) → HasTaken K.hash self.now
-            (IsEither home.low home.high) (pair home.low home.high) p pass.old
+        ensures held { (p : PassState V)
+            → HasTakenAll K.hash self.now (list_of home.stripes) p pass.old
             → HoldsKey K.hash self.now.settings (K.name key.now) result.place p pass.new }
-        ensures found { (p : PassState V) → HasTaken K.hash self.now
-            (IsEither home.low home.high) (pair home.low home.high) p pass.old
+        ensures found { (p : PassState V)
+            → HasTakenAll K.hash self.now (list_of home.stripes) p pass.old
             → FindsOwn K.hash self.now.settings (K.name key.now) p pass.new }
-        ensures numbered { numbers_of pass.new.stripes ≡ pair result.low result.high }
+        ensures s { result.stripes.s ≡ self.now.settings.s }
+        ensures numbered { numbers_of pass.new.stripes ≡ list_of result.stripes }
         ensures settled { AreHeld self.now.settings.s pass.new.stripes }
     {
-        let Home { s, low, high, hash } = home;
-        self.words.settle_taken(pass, low, high);
-        let place = self.place_of(pass, Numbers::pair(low, high), s, key, hash);
-        Spot { low, high, place }
+        let Home { stripes, hash } = home;
+        self.words.settle_taken(pass, stripes);
+        let place = self.place_of(pass, stripes, key, hash);
+        Spot { stripes, place }
     }
 
-    // Where the key may be among the stripes of these numbers, which its pass holds.
+    // Where the key may be among these stripes, which its pass holds.
     #[inline(always)]
     pub(crate) fn place_of(
         &self,
         pass: &mut Pass<K, V>,
-        numbers: Numbers,
-        s: u32,
+        stripes: StripeSet,
         key: &K,
         hash: KeyHash,
     ) -> KeyPlace
         requires own { IsPassOf self.now pass.old }
-        requires numbered { numbers_of pass.old.stripes ≡ list_of numbers }
-        requires s { s ≡ self.now.settings.s }
-        requires held { AreHeld s pass.old.stripes }
+        requires numbered { numbers_of pass.old.stripes ≡ list_of stripes }
+        requires s { stripes.s ≡ self.now.settings.s }
+        requires held { AreHeld stripes.s pass.old.stripes }
         requires hash { IsHashOf K.hash (K.name key.now) hash }
-        requires both { HasBoth K.hash s pass.old.stripes (K.name key.now) }
+        requires both { HasBoth K.hash stripes.s pass.old.stripes (K.name key.now) }
         ensures own { IsPassOf self.now pass.new }
         ensures place { IsPlaceOf K.hash pass.old.stripes (K.name key.now) result }
-        ensures s { result.s ≡ s }
+        ensures s { result.s ≡ stripes.s }
         ensures same { pass.new ≡ pass.old }
     {
         let mut lent = Lent {
             words: &self.words,
             pass,
-            numbers,
-            s,
+            set: stripes,
         };
-        key_place(&mut lent, s, key, hash)
+        key_place(&mut lent, stripes.s, key, hash)
     }
 
     // The entry of the key on its stripes, which the pass holds. Where the key is unbound and its buckets are full, it gives
@@ -156,7 +136,8 @@ impl<K: TableKey + Drop, V: Drop> Table<K, V> {
         requires own { IsPassOf self.now pass.old }
         requires held { HoldsKey K.hash self.now.settings (K.name key.now) spot.place
             since.now.value pass.old }
-        requires numbered { numbers_of pass.old.stripes ≡ pair spot.low spot.high }
+        requires s { spot.stripes.s ≡ self.now.settings.s }
+        requires numbered { numbers_of pass.old.stripes ≡ list_of spot.stripes }
         requires settled { AreHeld self.now.settings.s pass.old.stripes }
         requires found { FindsOwn K.hash self.now.settings (K.name key.now) since.now.value
             pass.old }
@@ -164,8 +145,7 @@ impl<K: TableKey + Drop, V: Drop> Table<K, V> {
         ensures room { IfOk result (λ room.
             HasRoom K.hash self.now.settings (K.name key.now) room since.now.value pass.new) }
         ensures numbered { IfOk result (λ room.
-            numbers_of pass.new.stripes ≡ pair room.spot.low room.spot.high) }
-        ensures own_alone { IfOk result (λ room. room.all ≡ false) }
+            numbers_of pass.new.stripes ≡ list_of room.spot.stripes) }
         ensures found { FindsOwn K.hash self.now.settings (K.name key.now) since.now.value
             pass.new }
         ensures idle { OnErr result (IsIdle pass.new) }
@@ -175,20 +155,14 @@ impl<K: TableKey + Drop, V: Drop> Table<K, V> {
         let mut lent = Lent {
             words: &self.words,
             pass,
-            numbers: spot.numbers(),
-            s: spot.place.s,
+            set: spot.stripes,
         };
         if let Some(entry) = find_entry(&mut lent, spot.place, key) {
-            return Ok(Room {
-                spot,
-                entry,
-                all: false,
-            });
+            return Ok(Room { spot, entry });
         }
         let power = lent.power(0);
         let Lent { pass, .. } = lent;
-        self.words.give::<Brand, K>(pass, spot.high, key);
-        self.words.release_low(pass, spot.low, spot.high);
+        self.words.refuse_full(pass, spot.stripes, key);
         Err(power)
     }
 }

@@ -4,11 +4,12 @@ ghost use Rattle.ck_model.specs.declared.history.Act.TheVariants.{Insert, Assign
 ghost use Rattle.ck_model.specs.declared.history.Reply.{Reply};
 ghost use Rattle.ck_model.specs.declared.history.Reply.TheVariants.{Was, New, Old, Done};
 ghost use Rattle.ck_words.specs.Closing.{IsCaller};
-ghost use Rattle.ck_words.specs.Passes.{IsPassOf, IsUnchanged, numbers_of, pair};
-ghost use Rattle.ck_words.specs.Holding.{IsEither, HasTaken, Misses};
-ghost use Rattle.ck_table.specs.declared.holding.Home.{Home};
+ghost use Rattle.ck_words.specs.Passes.{IsPassOf, IsUnchanged, numbers_of};
+ghost use Rattle.ck_words.specs.StripeNumbers.{own_numbers};
+ghost use Rattle.ck_words.specs.StripeSets.{list_of};
+ghost use Rattle.ck_words.specs.Holding.{HasTakenAll, Misses};
 ghost use Rattle.ck_table.specs.Holding.{IsHomeOf};
-ghost use Rattle.ck_table.specs.Insertions.{numbers_in, HasFoundNoRoom, HasRoom, IsInserted, IsRefused, FindsOwnUnlessFull};
+ghost use Rattle.ck_table.specs.Insertions.{HasFoundNoRoom, HasRoom, IsInserted, IsRefused, FindsOwnUnlessFull};
 ghost use Rattle.ck_table.specs.Refusals.{FindsOwn};
 
 use crate::entries;
@@ -18,7 +19,7 @@ use crate::refusal::{Refused, Why};
 use crate::room::Room;
 use crate::table::Table;
 use ck_key::TableKey;
-use ck_words::{Lent, Missed, Pass};
+use ck_words::{Lent, Pass};
 use std::snapshot::Snapshot;
 
 impl<K: TableKey + Drop, V: Drop> Table<K, V> {
@@ -123,20 +124,20 @@ impl<K: TableKey + Drop, V: Drop> Table<K, V> {
     {
         let since = Snapshot::of(pass);
         let home = self.home_of(&key);
-        match self.words.hold_now(pass, home.low, home.high) {
+        match self.words.lock_now(pass, home.stripes) {
             Ok(()) => self.place_taken(pass, home, key, value, insertion, since),
             Err(missed) => self.place_waiting(pass, missed, key, value, insertion, since),
         }
     }
 
-    // The same where a stripe of the key was found held. It computes the stripes anew, so that the call before it needs to keep
-    // nothing of them. `since` is the pass as the call began.
+    // The same where the stripe at position `missed` was found held, and those before it were taken. It computes the stripes
+    // anew, so that the call before it needs to keep nothing of them. `since` is the pass as the call began.
     #[cold]
     #[inline(never)]
     fn place_waiting<I: Insertion<K, V>>(
         &self,
         pass: &mut Pass<K, V>,
-        missed: Missed,
+        missed: usize,
         key: K,
         value: V,
         insertion: I,
@@ -145,8 +146,8 @@ impl<K: TableKey + Drop, V: Drop> Table<K, V> {
         requires since { IsCaller self.now since.value }
         requires own { IsPassOf self.now pass.old }
         requires unchanged { IsUnchanged pass.old }
-        requires missed { (home : Home) × IsHomeOf K.hash self.now.settings (K.name key) home
-            × Misses K.hash self.now home.low home.high missed since.value pass.old }
+        requires missed { Misses K.hash self.now
+            (own_numbers self.now.settings.s (K.hash (K.name key))) missed since.value pass.old }
         requires call { I.can_make insertion }
         ensures caller { IsCaller self.now pass.new }
         ensures answered { IfOk result (λ answer. (reply : Reply V) × I.tells insertion answer reply
@@ -157,10 +158,10 @@ impl<K: TableKey + Drop, V: Drop> Table<K, V> {
             since.value pass.new }
     {
         let home = self.home_of(&key);
-        match self.words.hold_later(pass, home.low, home.high, missed) {
+        match self.words.lock_later(pass, home.stripes, missed) {
             Ok(()) => self.place_taken(pass, home, key, value, insertion, since),
             Err(stripe) => {
-                let why = Why::Busy(stripe as u32);
+                let why = Why::Busy(stripe);
                 Err(Refused { key, value, why })
             }
         }
@@ -179,8 +180,7 @@ impl<K: TableKey + Drop, V: Drop> Table<K, V> {
     ) -> Result<I::Answer, Refused<K, V>>
         requires since { IsCaller self.now since.value }
         requires home { IsHomeOf K.hash self.now.settings (K.name key) home }
-        requires taken { HasTaken K.hash self.now (IsEither home.low home.high)
-            (pair home.low home.high) since.value pass.old }
+        requires taken { HasTakenAll K.hash self.now (list_of home.stripes) since.value pass.old }
         requires call { I.can_make insertion }
         ensures caller { IsCaller self.now pass.new }
         ensures answered { IfOk result (λ answer. (reply : Reply V) × I.tells insertion answer reply
@@ -244,7 +244,7 @@ impl<K: TableKey + Drop, V: Drop> Table<K, V> {
         requires since { IsCaller self.now since.value }
         requires own { IsPassOf self.now pass.old }
         requires room { HasRoom K.hash self.now.settings (K.name key) room since.value pass.old }
-        requires numbered { numbers_of pass.old.stripes ≡ numbers_in room }
+        requires numbered { numbers_of pass.old.stripes ≡ list_of room.spot.stripes }
         requires found { FindsOwnUnlessFull K.hash self.now.settings (K.name key)
             since.value pass.old }
         requires call { I.can_make insertion }
@@ -258,12 +258,11 @@ impl<K: TableKey + Drop, V: Drop> Table<K, V> {
         let mut lent = Lent {
             words: &self.words,
             pass,
-            numbers: room.numbers(),
-            s: room.spot.place.s,
+            set: room.spot.stripes,
         };
         let answer = insertion.make(&mut lent, room.spot.place, room.entry, key, value);
         let Lent { pass, .. } = lent;
-        self.commit_room(pass, room, said);
+        self.words.commit(pass, room.spot.stripes, said);
         answer
     }
 }

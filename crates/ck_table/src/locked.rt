@@ -185,7 +185,7 @@ impl<'t, K: TableKey + Drop, V: Drop> LockedTable<'t, K, V> {
     {
         let LockedTable { table, whole } = self;
         let mut pass = table.words.lower(whole);
-        table.words.commit_session(&mut pass);
+        table.words.commit_session(&mut pass, table.words.all());
         pass
     }
 }

@@ -43,13 +43,12 @@ impl<K: TableKey + Drop, V: Drop> Table<K, V> {
         let mut lent = Lent {
             words: &self.words,
             pass,
-            numbers: spot.numbers(),
-            s: spot.place.s,
+            set: spot.stripes,
         };
         let found = find(&mut lent, spot.place, key, f);
         let Lent { pass, .. } = lent;
         self.words
-            .commit(pass, spot.low, spot.high, Commit::Find(Snapshot::of(key)));
+            .commit(pass, spot.stripes, Commit::Find(Snapshot::of(key)));
         Ok(found)
     }
 

@@ -1,7 +1,6 @@
 //! Room for a key: its entry among the stripes that its pass holds, which are those of the key or all of the table.
-ghost use Rattle.std.specs.Prelude.{◌≡◌, ◌≤◌, ◌^◌, ◌%◌, true, IsSome, OnErr, IfOk, IfErr, reverse};
+ghost use Rattle.std.specs.Prelude.{◌≡◌, ◌≤◌, ◌^◌, ◌%◌, OnErr, IfOk, IfErr, reverse};
 ghost use Rattle.ck_key.specs.Hashes.{IsHashOf};
-ghost use Rattle.ck_model.specs.declared.history.Reply.{Reply};
 ghost use Rattle.ck_model.specs.Contents.{layout_of, Lawful};
 ghost use Rattle.ck_model.specs.Paths.{Grounds};
 ghost use Rattle.ck_model.specs.Counting.{counting};
@@ -12,80 +11,29 @@ ghost use Rattle.ck_section.specs.Entries.{IsEntryOf};
 ghost use Rattle.ck_section.specs.Whole.{IsTable, AreSettled, AreAllHeld};
 ghost use Rattle.ck_section.specs.Room.{AreBothSettled, KeepsBindings, GivesReason, reason_of_lack};
 ghost use Rattle.ck_words.specs.Passes.{IsPassOf, IsIdle, numbers_of};
-ghost use Rattle.ck_words.specs.Lending.{list_of};
+ghost use Rattle.ck_words.specs.StripeSets.{list_of};
 ghost use Rattle.ck_words.specs.Retries.{FindsAmong};
 ghost use Rattle.ck_words.specs.Renewing.{HasRenewed};
 ghost use Rattle.ck_words.specs.Closing.{IsCaller, IsWhole};
-ghost use Rattle.ck_words.specs.Commits.{call_of};
-ghost use Rattle.ck_words.specs.Answering.{HasDone, HasCommitted};
 ghost use Rattle.ck_table.specs.Refusals.{IsStripeIn};
-ghost use Rattle.ck_table.specs.Insertions.{numbers_in, HoldsRoom, HasRoom, IsRefused};
+ghost use Rattle.ck_table.specs.Insertions.{HoldsRoom, HasRoom, IsRefused};
 
 use crate::holding::Spot;
 use crate::refusal::{Busy, Why};
-use crate::search::stripe_of;
 use crate::table::Table;
 use ck_key::{KeyHash, TableKey, alternate, index};
 use ck_model::settings::Settings;
 use ck_section::{Entry, Held, HeldBucket, KeyPlace, Lack, find_entry, make_room};
-use ck_words::{Commit, Lent, Numbers, Pass};
+use ck_words::{Lent, Pass};
 
-// Where a key may be among the stripes that its pass holds, and its entry there.
+// Where a key may be among the stripes that its pass holds, those of the key or all of the table, and its entry there.
 #[derive(Clone, Copy)]
 pub(crate) struct Room {
     pub(crate) spot: Spot,
     pub(crate) entry: Entry,
-    // Whether the pass holds all stripes of the table, and not those of the key alone.
-    pub(crate) all: bool,
-}
-
-impl Room {
-    // The stripes, as they are lent.
-    #[inline(always)]
-    pub(crate) fn numbers(self) -> Numbers
-        requires { self.spot.place.s ≤ 10 }
-        ensures { list_of result ≡ numbers_in self }
-    {
-        if self.all {
-            return Numbers::all(self.spot.place.s);
-        }
-        self.spot.numbers()
-    }
 }
 
 impl<K: TableKey + Drop, V: Drop> Table<K, V> {
-    // Decides the call with what the held stripes contain now, and gives them back.
-    #[inline(always)]
-    pub(crate) fn commit_room(&self, pass: &mut Pass<K, V>, room: Room, call: Commit<K, V>)
-        requires own { IsPassOf self.now pass.old }
-        requires s { room.spot.place.s ≡ self.now.settings.s }
-        requires numbered { numbers_of pass.old.stripes ≡ numbers_in room }
-        requires caller { IsSome pass.old.view.by }
-        requires done { (reply : Reply V)
-            × HasDone K.hash self.now.settings (call_of K.name call) reply pass.old }
-        ensures { HasCommitted K.hash self.now (call_of K.name call) pass.old pass.new }
-    {
-        if room.all {
-            self.commit_table(pass, call);
-        } else {
-            self.words.commit(pass, room.spot.low, room.spot.high, call);
-        }
-    }
-
-    // The same where all stripes are held.
-    #[cold]
-    #[inline(never)]
-    fn commit_table(&self, pass: &mut Pass<K, V>, call: Commit<K, V>)
-        requires own { IsPassOf self.now pass.old }
-        requires numbered { numbers_of pass.old.stripes ≡ counting 0 (2 ^ self.now.settings.s) }
-        requires caller { IsSome pass.old.view.by }
-        requires done { (reply : Reply V)
-            × HasDone K.hash self.now.settings (call_of K.name call) reply pass.old }
-        ensures { HasCommitted K.hash self.now (call_of K.name call) pass.old pass.new }
-    {
-        self.words.commit_all(pass, call);
-    }
-
     // Takes all stripes and makes room for the key there, by a displacement or by growing. It keeps them, with the entry of
     // the key. Where it can't make room, all have gone home with what they contain then, and the pass has told the reason.
     pub(crate) fn make_room_in_all(&self, pass: &mut Pass<K, V>, key: &K) -> Result<Room, Why>
@@ -93,7 +41,8 @@ impl<K: TableKey + Drop, V: Drop> Table<K, V> {
         ensures own { IsPassOf self.now pass.new }
         ensures room { IfOk result (λ room.
             HasRoom K.hash self.now.settings (K.name key.now) room pass.old pass.new) }
-        ensures numbered { IfOk result (λ room. numbers_of pass.new.stripes ≡ numbers_in room) }
+        ensures numbered { IfOk result (λ room.
+            numbers_of pass.new.stripes ≡ list_of room.spot.stripes) }
         ensures found { FindsAmong (IsStripeIn self.now.settings) pass.old pass.new }
         ensures idle { OnErr result (IsIdle pass.new) }
         ensures refused { IfErr result (λ why.
@@ -105,7 +54,7 @@ impl<K: TableKey + Drop, V: Drop> Table<K, V> {
         match self.make_room_held(pass, key) {
             Ok(room) => Ok(room),
             Err(lack) => {
-                self.words.refuse_all(pass, key, lack);
+                self.words.refuse(pass, self.words.all(), key, lack);
                 Err(Why::of(lack))
             }
         }
@@ -121,7 +70,8 @@ impl<K: TableKey + Drop, V: Drop> Table<K, V> {
         ensures view { pass.new.view ≡ pass.old.view }
         ensures numbered { numbers_of pass.new.stripes ≡ counting 0 (2 ^ self.now.settings.s) }
         ensures renewed { HasRenewed K.hash self.now.settings pass.new }
-        ensures all { IfOk result (λ room. room.all ≡ true) }
+        ensures all { IfOk result (λ room.
+            list_of room.spot.stripes ≡ counting 0 (2 ^ self.now.settings.s)) }
         ensures room { IfOk result (λ room.
             HoldsRoom K.hash self.now.settings (K.name key.now) room pass.new) }
         ensures grounds { IfErr result (λ lack.
@@ -130,24 +80,16 @@ impl<K: TableKey + Drop, V: Drop> Table<K, V> {
             (contents_of pass.new.stripes) (K.name key.now) (reason_of_lack lack)) }
     {
         let settings = self.words.settings();
-        let s = settings.s;
-        let hash = KeyHash::of(key);
+        let stripes = self.words.all();
         let mut lent = Lent {
             words: &self.words,
             pass,
-            numbers: Numbers::all(s),
-            s,
+            set: stripes,
         };
-        let (place, entry) = make_entry(&mut lent, settings, key, hash)?;
-        let (low, high) = hash.stripes(s);
+        let (place, entry) = make_entry(&mut lent, settings, key, KeyHash::of(key))?;
         Ok(Room {
-            spot: Spot {
-                low: low as usize,
-                high: high as usize,
-                place,
-            },
+            spot: Spot { stripes, place },
             entry,
-            all: true,
         })
     }
 }
@@ -220,7 +162,7 @@ fn bucket_in_table(s: u32, bucket: u64) -> HeldBucket
     ensures { result ≡ record { index = bucket % 2 ^ s; bucket = bucket } }
 {
     HeldBucket {
-        index: stripe_of(s, bucket),
+        index: (bucket % (1 << s)) as usize,
         bucket,
     }
 }

@@ -1,5 +1,5 @@
 //! The search for a displacement path. It looks at one bucket at a time, so it keeps no other caller from more than that.
-ghost use Rattle.std.specs.Prelude.{◌≡◌, ◌^◌, ◌%◌, ◌<◌, ◌≤◌, IfErr};
+ghost use Rattle.std.specs.Prelude.{◌^◌, ◌<◌, ◌≤◌, IfErr};
 ghost use Rattle.ck_words.specs.Passes.{IsPassOf, IsIdle};
 ghost use Rattle.ck_table.specs.Displacing.{IsBack, IsBusyAnywhere};
 
@@ -8,7 +8,7 @@ use crate::table::Table;
 use ck_key::{KeyHash, TableKey, alternate, index};
 use ck_path::{Path, Search};
 use ck_section::{Held, sketch};
-use ck_words::{Lent, Numbers, Pass};
+use ck_words::{Lent, Pass, StripeSet};
 
 // What a search came to.
 #[derive(Drop)]
@@ -19,15 +19,6 @@ pub(crate) enum Searched {
     Nothing,
     // The table has another power by now.
     OutOfDate,
-}
-
-// The stripe of a bucket, in a table of 2^s stripes.
-pub(crate) fn stripe_of(s: u32, bucket: u64) -> usize
-    requires { s ≤ 10 }
-    ensures stripe { result ≡ bucket % 2 ^ s }
-    ensures below { result < 2 ^ s }
-{
-    (bucket % (1 << s)) as usize
 }
 
 impl<K: TableKey + Drop, V: Drop> Table<K, V> {
@@ -73,15 +64,14 @@ impl<K: TableKey + Drop, V: Drop> Table<K, V> {
             IsBusyAnywhere self.now.settings busy.0 pass.old pass.new) }
     {
         let s = self.words.settings().s;
-        let stripe = stripe_of(s, bucket);
-        if let Err(stripe) = self.words.hold(pass, stripe, stripe) {
-            return Err(Busy(stripe as u32));
+        let stripe = StripeSet::of_buckets(s, bucket, bucket);
+        if let Err(stripe) = self.words.lock(pass, stripe) {
+            return Err(Busy(stripe));
         }
         let mut lent = Lent {
             words: &self.words,
             pass,
-            numbers: Numbers::pair(stripe, stripe),
-            s,
+            set: stripe,
         };
         let seen = if lent.power(0) == power {
             Some(sketch(&mut lent, s, bucket))
@@ -89,7 +79,7 @@ impl<K: TableKey + Drop, V: Drop> Table<K, V> {
             None
         };
         let Lent { pass, .. } = lent;
-        self.words.release_pair(pass, stripe, stripe);
+        self.words.release(pass, stripe);
         Ok(seen)
     }
 }

@@ -28,7 +28,7 @@ impl<K: TableKey + Drop, V: Drop> Table<K, V> {
     {
         self.hold_table(pass)?;
         let count = self.words.entries(pass) as u64;
-        self.words.commit_all(pass, Commit::Len);
+        self.words.commit(pass, self.words.all(), Commit::Len);
         Ok(count)
     }
 
@@ -45,10 +45,9 @@ impl<K: TableKey + Drop, V: Drop> Table<K, V> {
         ensures busy { IfErr result (λ busy. IsBusyAmong (IsStripeIn self.now.settings)
             self.now.settings.turns busy.0 pass.old pass.new) }
     {
-        let _ = self.words.settings();
-        match self.words.hold_settled(pass) {
+        match self.words.lock_all(pass) {
             Ok(()) => Ok(()),
-            Err(stripe) => Err(Busy(stripe as u32)),
+            Err(stripe) => Err(Busy(stripe)),
         }
     }
 }

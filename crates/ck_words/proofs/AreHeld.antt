@@ -1,19 +1,14 @@
 -- Stripes that were taken and settled are held as calls need them.
 use Rattle.std.proofs.Common.{◌≡◌, ℕ, zero, suc, ◌<◌, ◌≤◌, true, List, [], ◌∷◌, length, get_or, sym, refl, ap, ◌∙◌, subst, arith}
-use mathlib.Core.Logic.{dite}
-use native.Mathlib.Decide.{ℕ_discrete}
-use Rattle.std.specs.Prelude.{All}
-use Rattle.std.proofs.lemmas.List.{get_or_default}
-use Rattle.ck_model.proofs.Numbered.{if_same, if_else}
 use Rattle.ck_model.specs.declared.settings.Settings.{Settings}
 use Rattle.ck_model.specs.Map.{Name}
 use Rattle.ck_model.specs.Ranges.{AreInRange}
 use Rattle.ck_model.specs.Contents.{layout_of, Stripes, Lawful}
 use Rattle.ck_stripe.specs.Stripe.{StripeState}
 use Rattle.ck_section.specs.Stripes.{stripe_at, contents_of, settled_stripes}
-use Rattle.ck_section.specs.Places.{AreHeld, HasStripe}
+use Rattle.ck_section.specs.Places.{AreHeld}
 use Rattle.ck_section.proofs.Found.{holds_at}
-use Rattle.ck_words.specs.Passes.{EachOf, PassState, IsUnchanged, ShowsSeen, numbers_of, pair}
+use Rattle.ck_words.specs.Passes.{EachOf, PassState, IsUnchanged, ShowsSeen, numbers_of}
 use Rattle.ck_words.proofs.Lending.{each_at}
 use Rattle.ck_words.proofs.Seating.{length-numbers, number_at}
 use Rattle.ck_words.proofs.Reversed.{lawful_reverse}
@@ -21,25 +16,6 @@ use Rattle.ck_words.proofs.Reversed.{lawful_reverse}
 -- the numbers of the list rise
 abbrev pub Rise : List ℕ → Type 0
 Rise ns = (i j : ℕ) → i < j → j < length ns → get_or ns i 0 < get_or ns j 0
-
-pub rise_one : (low : ℕ) → Rise (low ∷ [])
-rise_one low i j a b = absurd (omega arith)
-
-pub rise_two : (low high : ℕ) → low < high → Rise (low ∷ high ∷ [])
-rise_two low high l zero zero a b = absurd (omega arith)
-rise_two low high l zero (suc zero) a b = l
-rise_two low high l zero (suc (suc j)) a b = absurd (omega arith)
-rise_two low high l (suc i) j a b = absurd (omega arith)
-
-pub rise_pair : (low high : ℕ) → low ≤ high → Rise (pair low high)
-rise_pair low high h = dite (ℕ_discrete low high)
-    (λ e. subst Rise (sym (if_same low high (low ∷ []) (low ∷ high ∷ []) e)) (rise_one low))
-    (λ ne. subst Rise (sym (if_else low high (low ∷ []) (low ∷ high ∷ []) ne)) (rise_two low high (omega arith)))
-
-pub some_pair : (low high : ℕ) → 0 < length (pair low high)
-some_pair low high = dite (ℕ_discrete low high)
-    (λ e. subst (λ (l : List ℕ). 0 < length l) (sym (if_same low high (low ∷ []) (low ∷ high ∷ []) e)) (omega arith))
-    (λ ne. subst (λ (l : List ℕ). 0 < length l) (sym (if_else low high (low ∷ []) (low ∷ high ∷ []) ne)) (omega arith))
 
 module _ {V : Type 0} where
   each_settled : (n : ℕ) (ss : List (StripeState V)) → EachOf n ss → EachOf n (settled_stripes ss)
@@ -50,6 +26,11 @@ module _ {V : Type 0} where
   settled_at [] i h = absurd (omega arith)
   settled_at (s ∷ ss) zero h = refl
   settled_at (s ∷ ss) (suc i) h = settled_at ss i (omega arith)
+
+  -- settled stripes stay as they are
+  pub settled_same : (ss : List (StripeState V)) → ((i : ℕ) → i < length ss → (stripe_at ss i).settled ≡ true) → settled_stripes ss ≡ ss
+  settled_same [] all = refl
+  settled_same (s ∷ ss) all = λ j. record s { settled = sym (all 0 (omega arith)) j } ∷ settled_same ss (λ i l. all (suc i) (omega arith)) j
 
   pub numbers_settled : (ss : List (StripeState V)) → numbers_of (settled_stripes ss) ≡ numbers_of ss
   numbers_settled [] = refl
@@ -89,10 +70,3 @@ module _ {V : Type 0} where
 
     pub unchanged_then : IsUnchanged p → IsUnchanged q
     unchanged_then u = subst IsUnchanged (sym settled) (contents_settled p.stripes ∙ u)
-
-    -- each of the stripes that were taken is held
-    pub each_then : (ns : List ℕ) → numbers_of p.stripes ≡ ns → All (HasStripe q.stripes) ns
-    each_then ns numbered k d l =
-        let named : numbers_of q.stripes ≡ ns = numbers_then ∙ numbered in
-        let count = length-numbers q.stripes in let same = ap length named in
-        (k, omega arith, number_at q.stripes k (omega arith) ∙ (ap (λ (ms : List ℕ). get_or ms k 0) named ∙ get_or_default ns k 0 d l))

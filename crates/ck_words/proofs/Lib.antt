@@ -28,4 +28,5 @@ pub mod Telling
 pub mod WholeTables
 pub mod Lifting
 pub mod Renewals
+pub mod Numbers
 pub mod Listed

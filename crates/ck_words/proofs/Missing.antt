@@ -1,44 +1,51 @@
--- One of two stripes was found held, and is tried again.
-use Rattle.std.proofs.Common.{◌≡◌, ℕ, ◌-◌, ◌<◌, ◌≤◌, [], ◌∷◌, inl, inr, refl, sym, ap, ◌∙◌, subst}
+-- A stripe of a set was found held, and is tried again.
+use Rattle.std.proofs.Common.{◌≡◌, ℕ, ◌+◌, ◌-◌, ◌<◌, ◌≤◌, List, [], ◌∷◌, ◌++◌, take, length, get_or, sym, ap, ◌∙◌, subst, arith}
+use Rattle.std.specs.List.Sorted.{IsStrictlyIncreasing}
 use Rattle.ck_model.specs.Map.{Name}
-use Rattle.ck_model.specs.Numbered.{numbers}
+use Rattle.ck_model.specs.Numbered.{IsIn, numbers}
 use Rattle.ck_core.specs.Steps.{IsAbove}
-use Rattle.ck_core.specs.Steps.Label.{GiveRest}
 use Rattle.ck_words.specs.Words.{WordsState}
-use Rattle.ck_words.specs.Passes.{PassState, IsPassOf, IsIdle, IsUnchanged, IsHighest, Sends, numbers_of}
+use Rattle.ck_words.specs.Passes.{PassState, IsPassOf, IsUnchanged, numbers_of}
 use Rattle.ck_words.specs.Retries.{TakesWithin, found_again}
-use Rattle.ck_words.specs.Holding.{IsEither, HasTaken, GivesUp}
-use Rattle.ck_words.proofs.Taking.{none_taken, given_up, low_taken, above_low, takes_later, found_later}
-use Rattle.ck_words.proofs.Releasing.{leaves_after, leaves_none, released_idle}
+use Rattle.ck_words.specs.Holding.{HasTaken, HasTakenAll, GivesUp, HasReleased, Misses}
+use Rattle.ck_words.proofs.Taking.{in_list, above_first, above_taken, next_first, one_taken, given_up, takes_later, found_later}
 
-module _ {V : Type 0} (hash : Name → ℕ) (w : WordsState) (low high : ℕ) (p q : PassState V) where
-  -- the lower one was found held once
-  module _ (some : 1 ≤ w.settings.turns) (idle : IsIdle p) (own : IsPassOf w q) (again : q ≡ found_again 1 low p) where
-    own_before : IsPassOf w p
-    own_before = subst (IsPassOf w) again own
+module _ {V : Type 0} (hash : Name → ℕ) (w : WordsState) (ns : List ℕ) (i t : ℕ) (is : t ≡ get_or ns i 0) (p q : PassState V) where
+  asked : i < length ns → IsIn t ns
+  asked inside = subst (λ u. IsIn u ns) (sym is) (in_list ns i inside)
 
-    pub above_missed : IsAbove low (numbers q.view.held)
-    above_missed = subst (λ (x : PassState V). IsAbove low (numbers x.view.held)) (sym again) (subst (λ hs. IsAbove low (numbers hs)) (sym idle.1) (λ u i. absurd i))
+  -- the first of them were taken
+  module _ (rising : IsStrictlyIncreasing ns) (inside : i < length ns) (taken : HasTaken hash w (λ u. IsIn u ns) (take i ns) p q) where
+    pub above_next : IsAbove t (numbers q.view.held)
+    above_next = above_taken hash w (λ u. IsIn u ns) (take i ns) t p q taken (subst (λ u. IsAbove u (take i ns)) (sym is) (above_first ns i rising inside))
 
-    pub low_later : (r : PassState V) → TakesWithin hash w.settings (w.settings.turns - 1) low q r → IsPassOf w r → IsUnchanged r → HasTaken hash w (IsEither low high) (low ∷ []) p r
-    low_later r k own2 unchanged = low_taken hash w low high w.settings.turns p r own_before idle (takes_later hash w.settings w.settings.turns low p q r some again k) own2 unchanged
+    pub next_taken : (turns : ℕ) (r : PassState V) → TakesWithin hash w.settings turns t q r → IsPassOf w r → IsUnchanged r → HasTaken hash w (λ u. IsIn u ns) (take (i + 1) ns) p r
+    next_taken turns r k own unchanged = subst (λ ms. HasTaken hash w (λ u. IsIn u ns) ms p r) (next_first ns i t inside is) (one_taken hash w (λ u. IsIn u ns) (take i ns) t p q taken turns r (asked inside) k own unchanged)
 
-    pub low_refused : (r : PassState V) → r ≡ found_again (w.settings.turns - 1) low q → IsPassOf w r → GivesUp w (IsEither low high) low p r
-    low_refused r more own2 =
-        let all = found_later w.settings.turns low p q r some again more in
-        given_up hash w (IsEither low high) [] low p p (none_taken hash w (IsEither low high) p own_before idle) r r (inl refl) all (released_idle w r own2 (subst IsIdle (sym all) idle))
+    pub next_refused : (r s : PassState V) → r ≡ found_again w.settings.turns t q → HasReleased w r s → GivesUp w (λ u. IsIn u ns) t p s
+    next_refused r s again released = given_up hash w (λ u. IsIn u ns) (take i ns) t p q taken r s (asked inside) again released
 
-  -- the lower one was taken
-  module _ (h : HasTaken hash w (IsEither low high) (low ∷ []) p q) where
-    one_left : (n : ℕ) (r : PassState V) → r ≡ found_again n high q → numbers_of r.stripes ≡ low ∷ []
-    one_left n r again = ap (λ (x : PassState V). numbers_of x.stripes) again ∙ h.numbered
+    pub still_first : (n : ℕ) (r : PassState V) → r ≡ found_again n t q → numbers_of r.stripes ≡ take i ns
+    still_first n r again = ap (λ (x : PassState V). numbers_of x.stripes) again ∙ taken.numbered
 
-    pub low_left : (n : ℕ) (r : PassState V) → r ≡ found_again n high q → IsHighest low r.stripes
-    low_left n r again = ([], one_left n r again)
+  -- and the next was found held once
+  module _ (rising : IsStrictlyIncreasing ns) (some : 1 ≤ w.settings.turns) (missed : Misses hash w ns i p q) where
+    before : PassState V
+    before = missed.1.0
 
-    pub above_again : (n : ℕ) (r : PassState V) → low < high → r ≡ found_again n high q → IsAbove high (numbers r.view.held)
-    above_again n r l again = subst (λ (x : PassState V). IsAbove high (numbers x.view.held)) (sym again) (above_low hash w low high p q h l)
+    again : q ≡ found_again 1 t missed.1.0
+    again = missed.1.2 ∙ ap (λ u. found_again 1 u missed.1.0) (sym is)
 
-    pub high_refused : (r s : PassState V) → r ≡ found_again w.settings.turns high q → IsPassOf w r → IsUnchanged r → Sends hash w (λ t _. GiveRest t) r s → IsPassOf w s → IsUnchanged s → GivesUp w (IsEither low high) high p s
-    high_refused r s again own unchanged g own2 unchanged2 =
-        given_up hash w (IsEither low high) (low ∷ []) high p q h r s (inr refl) again (leaves_none w r s (leaves_after w hash [] low r s own unchanged (one_left w.settings.turns r again) own2 unchanged2 g))
+    pub above_missed : IsAbove t (numbers q.view.held)
+    above_missed = subst (λ (x : PassState V). IsAbove t (numbers x.view.held)) (sym again)
+        (above_taken hash w (λ u. IsIn u ns) (take i ns) t p missed.1.0 missed.1.1 (subst (λ u. IsAbove u (take i ns)) (sym is) (above_first ns i rising missed.0)))
+
+    pub later_taken : (r : PassState V) → TakesWithin hash w.settings (w.settings.turns - 1) t q r → IsPassOf w r → IsUnchanged r → HasTaken hash w (λ u. IsIn u ns) (take (i + 1) ns) p r
+    later_taken r k own unchanged = subst (λ ms. HasTaken hash w (λ u. IsIn u ns) ms p r) (next_first ns i t missed.0 is)
+        (one_taken hash w (λ u. IsIn u ns) (take i ns) t p missed.1.0 missed.1.1 w.settings.turns r (asked missed.0) (takes_later hash w.settings w.settings.turns t missed.1.0 q r some again k) own unchanged)
+
+    pub later_first : (n : ℕ) (r : PassState V) → r ≡ found_again n t q → numbers_of r.stripes ≡ take i ns
+    later_first n r more = ap (λ (x : PassState V). numbers_of x.stripes) more ∙ (ap (λ (x : PassState V). numbers_of x.stripes) again ∙ missed.1.1.numbered)
+
+    pub later_refused : (r s : PassState V) → r ≡ found_again (w.settings.turns - 1) t q → HasReleased w r s → GivesUp w (λ u. IsIn u ns) t p s
+    later_refused r s more released = given_up hash w (λ u. IsIn u ns) (take i ns) t p missed.1.0 missed.1.1 r s (asked missed.0) (found_later w.settings.turns t missed.1.0 q r some again more) released

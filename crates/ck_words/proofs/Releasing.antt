@@ -1,35 +1,28 @@
 -- Stripes go home as they were, one after another.
 use Rattle.std.proofs.Common.{◌≡◌, ℕ, ◌+◌, ◌-◌, ◌<◌, ◌≤◌, List, [], ◌∷◌, ◌++◌, take, get_or, drop, length, reverse, refl, arith, sym, ap, ◌∙◌}
-use Rattle.std.proofs.lemmas.List.{reverse-append, reverse-reverse, take_more}
-use mathlib.Core.Logic.{dite}
-use native.Mathlib.Decide.{ℕ_discrete}
+use Rattle.std.proofs.lemmas.List.{reverse-append, reverse-reverse, take_all, take_more}
 use Rattle.ck_model.specs.Map.{Name}
-use Rattle.ck_model.proofs.Numbered.{if_same, if_else}
 use Rattle.ck_stripe.specs.Stripe.{StripeState}
 use Rattle.ck_core.specs.Steps.Label.{GiveRest}
-use Rattle.ck_model.specs.Counting.{counting}
 use Rattle.ck_words.specs.Words.{WordsState}
-use Rattle.ck_words.specs.Passes.{PassState, IsPassOf, IsIdle, IsUnchanged, Sends, numbers_of, pair, lower}
+use Rattle.ck_words.specs.Passes.{PassState, IsPassOf, IsIdle, IsUnchanged, Sends, numbers_of}
 use Rattle.ck_words.specs.Retries.{Stays}
 use Rattle.ck_words.specs.Holding.{HasReleased}
-use Rattle.ck_model.proofs.Counting.{counting-more}
 use Rattle.ck_words.proofs.Reversed.{map-append}
 use Rattle.ck_words.proofs.Staying.{stays_same, stays_on, stays_giving, found_giving, seen_giving, idle_of}
 
 front : (ns : List ℕ) (t : ℕ) → reverse (drop 1 (reverse (ns ++ t ∷ []))) ≡ ns
 front ns t = ap (λ (l : List ℕ). reverse (drop 1 l)) (reverse-append ns (t ∷ [])) ∙ reverse-reverse ns
 
-pub pair_split : (low high : ℕ) → pair low high ≡ lower low high ++ high ∷ []
-pair_split low high = dite (ℕ_discrete low high)
-    (λ e. if_same low high (low ∷ []) (low ∷ high ∷ []) e ∙ ((λ i. e i ∷ []) ∙ ap (λ (l : List ℕ). l ++ high ∷ []) (sym (if_same low high [] (low ∷ []) e))))
-    (λ ne. if_else low high (low ∷ []) (low ∷ high ∷ []) ne ∙ ap (λ (l : List ℕ). l ++ high ∷ []) (sym (if_else low high [] (low ∷ []) ne)))
-
 -- the last of the first i numbers
 pub last_taken : (ns : List ℕ) (i : ℕ) → 0 < i → i ≤ length ns → take i ns ≡ take (i - 1) ns ++ get_or ns (i - 1) 0 ∷ []
 last_taken ns i some inside = ap (λ k. take k ns) (let e : i ≡ i - 1 + 1 = omega arith in e) ∙ take_more ns (i - 1) 0 (omega arith)
 
-pub last_counted : (n : ℕ) → 0 < n → counting 0 n ≡ counting 0 (n - 1) ++ (n - 1) ∷ []
-last_counted n some = ap (counting 0) (let e : n ≡ n - 1 + 1 = omega arith in e) ∙ sym (counting-more (n - 1))
+-- all numbers, with the last apart
+pub last_of_all : (ns : List ℕ) (i t : ℕ) → 0 < length ns → i ≡ length ns - 1 → t ≡ get_or ns i 0 → ns ≡ take i ns ++ t ∷ []
+last_of_all ns i t some last is =
+    let all : take (i + 1) ns ≡ ns = take_all (i + 1) ns (omega arith) in
+    sym all ∙ (take_more ns i 0 (omega arith) ∙ ap (λ u. take i ns ++ u ∷ []) (sym is))
 
 module _ {V : Type 0} where
   no_numbers : (ss : List (StripeState V)) → numbers_of ss ≡ [] → ss ≡ []

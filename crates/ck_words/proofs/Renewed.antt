@@ -5,13 +5,13 @@ use Rattle.ck_model.specs.Map.{Name}
 use Rattle.ck_section.specs.Stripes.{contents_of}
 use Rattle.ck_core.specs.declared.view.View.{View}
 use Rattle.ck_core.specs.Steps.{giving, gaining}
-use Rattle.ck_core.specs.Steps.Label.{Renew}
+use Rattle.ck_core.specs.Steps.Label.{Give, Renew}
 use Rattle.ck_words.specs.Words.{WordsState}
 use Rattle.ck_words.specs.Passes.{PassState, IsPassOf, IsUnchanged, Sends, numbers_of}
 use Rattle.ck_words.specs.Retries.{StaysBut}
 use Rattle.ck_words.specs.Holding.{HasReleased}
 use Rattle.ck_words.specs.Renewing.{HasRefused}
-use Rattle.ck_words.proofs.Rows.{renew_row}
+use Rattle.ck_words.proofs.Rows.{give_row, renew_row}
 use Rattle.ck_words.proofs.Staying.{stays_then}
 use Rattle.ck_words.proofs.Releasing.{Leaves, numbers_left}
 
@@ -47,3 +47,21 @@ module _ {V : Type 0} (hash : Name → ℕ) (w : WordsState) (p q : PassState V)
     found = rest.found ∙ ap (λ (v : View V). v.found) (renewed_view (Some (name, why)) g);
     seen = rest.seen ∙ ap (λ (v : View V). v.seen) (renewed_view (Some (name, why)) g);
   }
+
+  -- it went home as it was, and told so
+  module _ (name : Name) (why : Reason) (g : Sends hash w (λ t _. Give t (Some (name, why))) p q) where
+    given_view : q.view ≡ giving p.view g.0.number g.2.does.1 p.view.held (Some (name, why))
+    given_view = give_row hash w.settings p.view q.view g.0.number (Some (name, why)) g.2
+
+    stays_telling : StaysBut ((name, why) ∷ []) p.view q.view
+    stays_telling = subst (StaysBut ((name, why) ∷ []) p.view) (sym given_view)
+        (record { settings = refl; by = refl; mine = refl; others = refl; heard = (refl, refl); noroom = refl; seen = ([], sym (append-nil p.view.seen)); by_others = λ m e. refl; told = omega arith })
+
+    pub refused_giving : (r : PassState V) → HasReleased w q r → HasRefused w name why p r
+    refused_giving r rest = record {
+      own = rest.own;
+      idle = rest.idle;
+      stays = stays_then ((name, why) ∷ []) [] p.view q.view r.view stays_telling rest.stays;
+      found = rest.found ∙ ap (λ (v : View V). v.found) given_view;
+      seen = rest.seen ∙ ap (λ (v : View V). v.seen) given_view;
+    }

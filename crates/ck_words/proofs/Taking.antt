@@ -1,6 +1,7 @@
 -- Stripes are taken, one after another.
 use Rattle.std.proofs.Common.{◌≡◌, ℕ, zero, suc, ◌+◌, ◌-◌, ◌<◌, ◌≤◌, Bool, true, false, List, [], ◌∷◌, ◌++◌, take, length, get_or, replicate, append_assoc, refl, sym, ap, ◌∙◌, subst, ⊎_elim, inl, inr, arith}
 use Rattle.std.proofs.Math.Nat.{eq-or-lt_of_le}
+use Rattle.std.proofs.lemmas.List.{take_more}
 use Rattle.std.specs.Prelude.{MatchBool}
 use Rattle.std.specs.List.Sorted.{IsStrictlyIncreasing}
 use Rattle.ck_model.specs.Map.{Name}
@@ -9,10 +10,9 @@ use Rattle.ck_model.specs.Numbered.{IsIn, numbers}
 use Rattle.ck_stripe.specs.Stripe.{StripeState}
 use Rattle.ck_core.specs.Steps.{IsAbove}
 use Rattle.ck_words.specs.Words.{WordsState}
-use Rattle.ck_words.specs.Passes.{PassState, EachOf, IsPassOf, IsIdle, IsUnchanged, TakesStripe, numbers_of, pair}
+use Rattle.ck_words.specs.Passes.{PassState, EachOf, IsPassOf, IsIdle, IsUnchanged, TakesStripe, numbers_of}
 use Rattle.ck_words.specs.Retries.{Stays, TakesWithin, found_again}
-use Rattle.ck_words.specs.Holding.{IsEither, HasTaken, GivesUp, HasReleased}
-use Rattle.ck_model.proofs.Numbered.{if_same, if_else}
+use Rattle.ck_words.specs.Holding.{HasTaken, GivesUp, HasReleased}
 use Rattle.ck_words.proofs.Reversed.{map-append, in_reverse}
 use Rattle.ck_words.proofs.Seating.{each_append, numbers-contents}
 use Rattle.ck_words.proofs.Staying.{stays_same, stays_on, stays_within, stays_finding, shows_taken, unchanged_idle, among_none, among_on, among_within, among_held}
@@ -39,6 +39,10 @@ rises ts up i (suc j) a b =
 -- the next of rising numbers is above those before it
 pub above_first : (ts : List ℕ) (n : ℕ) → IsStrictlyIncreasing ts → n < length ts → IsAbove (get_or ts n 0) (take n ts)
 above_first ts n up l u i = let x = in_first ts n u i in let r = rises ts up x.0 n x.1 l in let e = x.3 in omega arith
+
+-- the first numbers, and the next of them
+pub next_first : (ts : List ℕ) (i t : ℕ) → i < length ts → t ≡ get_or ts i 0 → take i ts ++ t ∷ [] ≡ take (i + 1) ts
+next_first ts i t l e = ap (λ u. take i ts ++ u ∷ []) e ∙ sym (take_more ts i 0 l)
 
 found_more : (n t : ℕ) (l : List ℕ) → replicate n t ++ t ∷ l ≡ t ∷ (replicate n t ++ l)
 found_more zero t l = refl
@@ -107,19 +111,3 @@ module _ {V : Type 0} (hash : Name → ℕ) (w : WordsState) (P : ℕ → Type 0
           busy = (released.idle, (h.found.0, found ∙ (ap (λ l. replicate turns t ++ l) h.found.1 ∙ sym (append_assoc (replicate turns t) h.found.0 p.view.found))));
           asked = asked;
         }
-
--- two stripes, or one where they are the same
-module _ {V : Type 0} (hash : Name → ℕ) (w : WordsState) (low high : ℕ) where
-  pub low_taken : (turns : ℕ) (p q : PassState V) → IsPassOf w p → IsIdle p → TakesWithin hash w.settings turns low p q → IsPassOf w q → IsUnchanged q → HasTaken hash w (IsEither low high) (low ∷ []) p q
-  low_taken turns p q own idle k own2 unchanged = one_taken hash w (IsEither low high) [] low p p (none_taken hash w (IsEither low high) p own idle) turns q (inl refl) k own2 unchanged
-
-  module _ (p q : PassState V) (h : HasTaken hash w (IsEither low high) (low ∷ []) p q) where
-    pub one_held : low ≡ high → HasTaken hash w (IsEither low high) (pair low high) p q
-    one_held e = subst (λ ns. HasTaken hash w (IsEither low high) ns p q) (sym (if_same low high (low ∷ []) (low ∷ high ∷ []) e)) h
-
-    pub above_low : low < high → IsAbove high (numbers q.view.held)
-    above_low l = above_taken hash w (IsEither low high) (low ∷ []) high p q h (λ u i. ⊎_elim (λ (e : low ≡ u). subst (λ x. x < high) e l) (λ z. absurd z) i)
-
-    pub both_held : (turns : ℕ) (r : PassState V) → low < high → TakesWithin hash w.settings turns high q r → IsPassOf w r → IsUnchanged r → HasTaken hash w (IsEither low high) (pair low high) p r
-    both_held turns r l k own unchanged = subst (λ ns. HasTaken hash w (IsEither low high) ns p r) (sym (if_else low high (low ∷ []) (low ∷ high ∷ []) (λ e. omega arith)))
-        (one_taken hash w (IsEither low high) (low ∷ []) high p q h turns r (inr refl) k own unchanged)

@@ -1,20 +1,14 @@
 -- What it leaves to take several stripes, and to give them back.
-use Rattle.std.specs.Prelude.{◌≡◌, ◌⊎◌, ℕ, ◌<◌, ◌≤◌, max, List, [], ◌∷◌, length}
+use Rattle.std.specs.Prelude.{◌≡◌, ℕ, ◌<◌, ◌≤◌, max, List, length, slice_index, take}
 use Rattle.ck_model.specs.Map.{Name}
-use Rattle.ck_model.specs.Numbered.{Holds}
+use Rattle.ck_model.specs.Numbered.{Holds, IsIn}
 use Rattle.ck_model.specs.declared.contents.Content.{Content}
 use Rattle.ck_stripe.specs.Stripe.{StripeState}
 use Rattle.ck_section.specs.Stripes.{contents_of}
 use Rattle.ck_section.specs.Room.{power_in}
-use Rattle.ck_words.specs.declared.acquire.Missed.{Missed}
-use Rattle.ck_words.specs.declared.acquire.Missed.TheVariants.{Low, High}
 use Rattle.ck_words.specs.Words.{WordsState}
 use Rattle.ck_words.specs.Passes.{PassState, EachOf, IsPassOf, IsIdle, IsUnchanged, ShowsSeen, numbers_of}
 use Rattle.ck_words.specs.Retries.{Stays, FindsAmong, IsBusy, found_again}
-
--- one of the two numbers
-abbrev pub IsEither : ℕ → ℕ → ℕ → Type 0
-IsEither low high t = (t ≡ low) ⊎ (t ≡ high)
 
 module _ {V : Type 0} where
   -- From p to q the stripes of these numbers were taken, in this order. The pass found none held but such ones.
@@ -35,10 +29,14 @@ module _ {V : Type 0} where
     pub busy : IsBusy w.settings.turns t p q
     pub asked : P t
 
-  -- From p to q one swap found the lower of two stripes held, or the higher one, after the lower was taken.
-  abbrev pub Misses : (Name → ℕ) → WordsState → ℕ → ℕ → Missed → PassState V → PassState V → Type 0
-  Misses hash w low high Low p q = q ≡ found_again 1 low p
-  Misses hash w low high High p q = (low < high) × ((r : PassState V) × HasTaken hash w (IsEither low high) (low ∷ []) p r × (q ≡ found_again 1 high r))
+  -- These stripes were taken, and none but such ones were found held.
+  abbrev pub HasTakenAll : (Name → ℕ) → WordsState → List ℕ → PassState V → PassState V → Type 0
+  HasTakenAll hash w ns p q = HasTaken hash w (λ t. IsIn t ns) ns p q
+
+  -- From p to q the first i of these stripes were taken, and then one swap found the next held.
+  abbrev pub Misses : (Name → ℕ) → WordsState → List ℕ → ℕ → PassState V → PassState V → Type 0
+  Misses hash w ns i p q =
+      (i < length ns) × ((r : PassState V) × HasTaken hash w (λ t. IsIn t ns) (take i ns) p r × (q ≡ found_again 1 (slice_index ns i) r))
 
   -- From p to q all stripes went home.
   pub record HasReleased (w : WordsState) (p q : PassState V) : Type 0 where

@@ -7,7 +7,8 @@ pub mod Retries
 pub mod Holding
 pub mod Renewing
 pub mod Lifting
-pub mod Lending
+pub mod StripeNumbers
+pub mod StripeSets
 pub mod InPlace
 pub mod Opening
 pub mod Meeting

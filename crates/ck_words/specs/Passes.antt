@@ -27,14 +27,6 @@ abbrev pub rotated : {A : Type 0} → ℕ → List (ℕ × A) → List (ℕ × A
 rotated zero l = l
 rotated (suc n) l = turned (rotated n l)
 
--- the numbers of two stripes, or of the one that both are
-abbrev pub pair : ℕ → ℕ → List ℕ
-pair low high = if low == high then low ∷ [] else low ∷ high ∷ []
-
--- the lower of two stripes, where they are two
-abbrev pub lower : ℕ → ℕ → List ℕ
-lower low high = if low == high then [] else low ∷ []
-
 -- Which table it is a pass of, what its caller knows, and the stripes that it holds, in rising order of their numbers.
 pub record PassState (V : Type 0) : Type 0 where
   pub table : TableId

@@ -1,17 +1,18 @@
 //! Taking stripes in rising order of their numbers, each with a bound on the tries.
-ghost use Rattle.std.specs.Prelude.{◌≡◌, ◌<◌, ◌-◌, ◌^◌, MatchBool, ◌≤◌, length, All, OnOk, IfErr};
-ghost use Rattle.std.specs.List.Sorted.{IsStrictlyIncreasing};
+ghost use Rattle.std.specs.Prelude.{◌≡◌, ◌<◌, ◌≤◌, ◌-◌, ◌^◌, MatchBool, OnOk, IfErr, length, take};
 ghost use Rattle.ck_model.specs.Numbered.{numbers, IsIn};
 ghost use Rattle.ck_core.specs.Steps.{IsAbove};
-ghost use Rattle.ck_section.specs.Places.{AreHeld, HasStripe};
+ghost use Rattle.ck_section.specs.Places.{AreHeld};
 ghost use Rattle.ck_section.specs.Whole.{IsTable, AreSettled};
-ghost use Rattle.ck_model.specs.Counting.{counting};
-ghost use Rattle.ck_words.specs.Passes.{IsPassOf, IsUnchanged, numbers_of, pair, PassState, IsIdle, EachOf, ShowsSeen};
+ghost use Rattle.ck_words.specs.Passes.{IsPassOf, IsUnchanged, numbers_of, PassState, IsIdle, ShowsSeen};
+ghost use Rattle.ck_words.specs.StripeNumbers.{pair};
+ghost use Rattle.ck_words.specs.StripeSets.{list_of};
 ghost use Rattle.ck_words.specs.Retries.{TakesWithin, found_again, Stays, FindsAmong, IsBusy};
-ghost use Rattle.ck_words.specs.Holding.{IsEither, HasTaken, Misses, GivesUp};
+ghost use Rattle.ck_words.specs.Holding.{HasTaken, HasTakenAll, Misses, GivesUp};
 ghost use Rattle.ck_words.specs.Closing.{IsWhole};
 
 use crate::pass::Pass;
+use crate::stripe_set::StripeSet;
 use crate::words::Words;
 use ck_key::TableKey;
 use std::{hint, thread};
@@ -27,18 +28,11 @@ fn wait(tries: u32) {
     }
 }
 
-/// Which of two stripes was found held.
-#[derive(Drop)]
-pub enum Missed {
-    Low,
-    High,
-}
-
 impl<K: TableKey + Drop, V: Drop> Words<K, V> {
     /// Takes stripe `t`, which is above all that the pass holds, by at most `turns` swaps. False where each of them found
     /// it held.
     #[inline(always)]
-    pub fn try_take(&self, pass: &mut Pass<K, V>, t: usize) -> bool
+    pub(crate) fn try_take(&self, pass: &mut Pass<K, V>, t: usize) -> bool
         requires own { IsPassOf self.now pass.old }
         requires inside { t < 2 ^ self.now.settings.s }
         requires above { IsAbove t (numbers pass.old.view.held) }
@@ -79,166 +73,171 @@ impl<K: TableKey + Drop, V: Drop> Words<K, V> {
         false
     }
 
-    /// Takes two stripes, or one where they are the same, and carries out the doublings that are left of them. Where
-    /// another pass holds one, it gives back what it holds, unchanged, and answers the number of that stripe, which was
-    /// found held `turns` times in a row.
+    /// Takes the stripes of a set, and carries out the doublings that are left of them. Where another pass holds one, it
+    /// gives back what it holds, unchanged, and answers the number of that stripe, which was found held `turns` times in a
+    /// row.
     #[inline(always)]
-    pub fn hold(&self, pass: &mut Pass<K, V>, low: usize, high: usize) -> Result<(), usize>
+    pub fn lock(&self, pass: &mut Pass<K, V>, set: StripeSet) -> Result<(), u32>
         requires own { IsPassOf self.now pass.old }
         requires idle { IsIdle pass.old }
-        requires rising { low ≤ high }
-        requires inside { high < 2 ^ self.now.settings.s }
+        requires of_table { set.s ≡ self.now.settings.s }
         ensures own { IsPassOf self.now pass.new }
         ensures stays { Stays pass.old.view pass.new.view }
         ensures held { OnOk result (AreHeld self.now.settings.s pass.new.stripes) }
-        ensures numbers { OnOk result (numbers_of pass.new.stripes ≡ pair low high) }
+        ensures numbers { OnOk result (numbers_of pass.new.stripes ≡ list_of set) }
         ensures unchanged { OnOk result (IsUnchanged pass.new) }
-        ensures found { FindsAmong (IsEither low high) pass.old pass.new }
+        ensures shows { OnOk result (ShowsSeen K.hash self.now.settings pass.new) }
+        ensures found { FindsAmong (λ t. IsIn t (list_of set)) pass.old pass.new }
         ensures busy { IfErr result (λ t. IsBusy self.now.settings.turns t pass.old pass.new) }
-        ensures asked { IfErr result (λ t. IsEither low high t) }
+        ensures asked { IfErr result (λ t. IsIn t (list_of set)) }
     {
-        if let Err(missed) = self.hold_now(pass, low, high) {
-            self.hold_later(pass, low, high, missed)?;
+        if let Err(i) = self.lock_now(pass, set) {
+            if let Err(t) = self.lock_later(pass, set, i) {
+                return Err(t);
+            }
         }
-        self.settle_taken(pass, low, high);
+        self.settle_taken(pass, set);
         Ok(())
     }
 
-    /// Takes two stripes, or one where they are the same, in rising order of their numbers, by one swap each. Where
-    /// another pass holds the higher one, it still holds the lower.
+    /// Takes the stripes of a set by one swap each. Where another pass holds one, it keeps those before it, and answers its
+    /// position in the set.
     #[inline(always)]
-    pub fn hold_now(&self, pass: &mut Pass<K, V>, low: usize, high: usize) -> Result<(), Missed>
+    pub fn lock_now(&self, pass: &mut Pass<K, V>, set: StripeSet) -> Result<(), usize>
         requires own { IsPassOf self.now pass.old }
         requires idle { IsIdle pass.old }
-        requires rising { low ≤ high }
-        requires inside { high < 2 ^ self.now.settings.s }
+        requires of_table { set.s ≡ self.now.settings.s }
         ensures own { IsPassOf self.now pass.new }
         ensures unchanged { IsUnchanged pass.new }
         ensures taken { OnOk result
-            (HasTaken K.hash self.now (IsEither low high) (pair low high) pass.old pass.new) }
-        ensures missed { IfErr result (λ missed.
-            Misses K.hash self.now low high missed pass.old pass.new) }
+            (HasTakenAll K.hash self.now (list_of set) pass.old pass.new) }
+        ensures missed { IfErr result (λ i.
+            Misses K.hash self.now (list_of set) i pass.old pass.new) }
     {
-        if !self.take(pass, low) {
-            return Err(Missed::Low);
+        if !self.take(pass, set.at(0)) {
+            return Err(0);
         }
-        if low == high {
+        if set.count() == 1 {
             return Ok(());
         }
-        if !self.take(pass, high) {
-            return Err(Missed::High);
+        if !self.take(pass, set.at(1)) {
+            return Err(1);
+        }
+        if set.count() == 2 {
+            return Ok(());
+        }
+        self.lock_rest(pass, set)
+    }
+
+    // Goes on with the third stripe.
+    #[cold]
+    #[inline(never)]
+    fn lock_rest(&self, pass: &mut Pass<K, V>, set: StripeSet) -> Result<(), usize>
+        requires own { IsPassOf self.now pass.old }
+        requires unchanged { IsUnchanged pass.old }
+        requires of_table { set.s ≡ self.now.settings.s }
+        requires more { 2 < length (list_of set) }
+        requires taken { (p : PassState V) × HasTaken K.hash self.now (λ t. IsIn t (list_of set))
+            (take 2 (list_of set)) p pass.old }
+        ensures own { IsPassOf self.now pass.new }
+        ensures unchanged { IsUnchanged pass.new }
+        ensures taken { OnOk result ((p : PassState V) → HasTaken K.hash self.now
+            (λ t. IsIn t (list_of set)) (take 2 (list_of set)) p pass.old
+            → HasTakenAll K.hash self.now (list_of set) p pass.new) }
+        ensures missed { IfErr result (λ i. (p : PassState V) → HasTaken K.hash self.now
+            (λ t. IsIn t (list_of set)) (take 2 (list_of set)) p pass.old
+            → Misses K.hash self.now (list_of set) i p pass.new) }
+    {
+        for i in 2..set.count() {
+            if !self.take(pass, set.at(i)) {
+                return Err(i);
+            }
         }
         Ok(())
     }
 
-    /// Goes on where `hold_now` missed a stripe, with the second of `turns` tries in all. Where each of them found the
-    /// stripe held, it gives back what it holds, unchanged, and answers the number of that stripe.
+    /// Goes on where `lock_now` missed the stripe at position `i`, with the second of `turns` tries in all. Where each of
+    /// them found a stripe held, it gives back what it holds, unchanged, and answers the number of that stripe.
+    #[inline(always)]
+    pub fn lock_later(&self, pass: &mut Pass<K, V>, set: StripeSet, i: usize) -> Result<(), u32>
+        requires own { IsPassOf self.now pass.old }
+        requires unchanged { IsUnchanged pass.old }
+        requires of_table { set.s ≡ self.now.settings.s }
+        requires missed { (p : PassState V)
+            × Misses K.hash self.now (list_of set) i p pass.old }
+        ensures taken { OnOk result ((p : PassState V)
+            → Misses K.hash self.now (list_of set) i p pass.old
+            → HasTakenAll K.hash self.now (list_of set) p pass.new) }
+        ensures refused { IfErr result (λ t. (p : PassState V)
+            → Misses K.hash self.now (list_of set) i p pass.old
+            → GivesUp self.now (λ u. IsIn u (list_of set)) t p pass.new) }
+    {
+        if set.count() <= 2 {
+            let (low, high) = set.two();
+            return self.lock_pair_later(pass, low, high, i);
+        }
+        self.lock_set_later(pass, set, i)
+    }
+
+    // Goes on so with the set of two stripes, which are handed on by their numbers: a set would be kept in memory.
     #[cold]
     #[inline(never)]
-    pub fn hold_later(
+    fn lock_pair_later(
         &self,
         pass: &mut Pass<K, V>,
         low: usize,
         high: usize,
-        missed: Missed,
-    ) -> Result<(), usize>
+        i: usize,
+    ) -> Result<(), u32>
         requires own { IsPassOf self.now pass.old }
         requires unchanged { IsUnchanged pass.old }
         requires rising { low ≤ high }
         requires inside { high < 2 ^ self.now.settings.s }
-        requires missed { (p : PassState V) × IsIdle p
-            × Misses K.hash self.now low high missed p pass.old }
-        ensures taken { OnOk result ((p : PassState V) → IsIdle p
-            → Misses K.hash self.now low high missed p pass.old
-            → HasTaken K.hash self.now (IsEither low high) (pair low high) p pass.new) }
-        ensures refused { IfErr result (λ t. (p : PassState V) → IsIdle p
-            → Misses K.hash self.now low high missed p pass.old
-            → GivesUp self.now (IsEither low high) t p pass.new) }
+        requires missed { (p : PassState V)
+            × Misses K.hash self.now (pair low high) i p pass.old }
+        ensures taken { OnOk result ((p : PassState V)
+            → Misses K.hash self.now (pair low high) i p pass.old
+            → HasTakenAll K.hash self.now (pair low high) p pass.new) }
+        ensures refused { IfErr result (λ t. (p : PassState V)
+            → Misses K.hash self.now (pair low high) i p pass.old
+            → GivesUp self.now (λ u. IsIn u (pair low high)) t p pass.new) }
     {
-        let _ = self.settings();
-        match missed {
-            Missed::Low => {
-                if !self.try_again(pass, low) {
-                    return Err(low);
-                }
-                if low == high {
-                    return Ok(());
-                }
-                if !self.try_take(pass, high) {
-                    self.give_rest(pass, low);
-                    return Err(high);
-                }
-                Ok(())
-            }
-            Missed::High => {
-                if !self.try_again(pass, high) {
-                    self.give_rest(pass, low);
-                    return Err(high);
-                }
-                Ok(())
-            }
-        }
+        let set = StripeSet::of_pair(self.settings().s, low, high);
+        self.lock_set_later(pass, set, i)
     }
 
-    /// Takes these stripes, in rising order of their numbers, and carries out the doublings that are left of them. Where
-    /// another pass holds one, it gives back what it holds, unchanged, and answers the number of that stripe, which was
-    /// found held `turns` times in a row.
-    pub fn hold_several(&self, pass: &mut Pass<K, V>, numbers: &[usize]) -> Result<(), usize>
+    // Goes on so with any set.
+    fn lock_set_later(&self, pass: &mut Pass<K, V>, set: StripeSet, i: usize) -> Result<(), u32>
         requires own { IsPassOf self.now pass.old }
-        requires idle { IsIdle pass.old }
-        requires some { 0 < length numbers.now }
-        requires rising { IsStrictlyIncreasing numbers.now }
-        requires inside { All (λ t. t < 2 ^ self.now.settings.s) numbers.now }
-        ensures own { IsPassOf self.now pass.new }
-        ensures stays { Stays pass.old.view pass.new.view }
-        ensures held { OnOk result (AreHeld self.now.settings.s pass.new.stripes) }
-        ensures numbers { OnOk result (numbers_of pass.new.stripes ≡ numbers.now) }
-        ensures each { OnOk result (All (HasStripe pass.new.stripes) numbers.now) }
-        ensures unchanged { OnOk result (IsUnchanged pass.new) }
-        ensures found { FindsAmong (λ t. IsIn t numbers.now) pass.old pass.new }
-        ensures busy { IfErr result (λ t. IsBusy self.now.settings.turns t pass.old pass.new) }
-        ensures asked { IfErr result (λ t. IsIn t numbers.now) }
+        requires unchanged { IsUnchanged pass.old }
+        requires of_table { set.s ≡ self.now.settings.s }
+        requires missed { (p : PassState V)
+            × Misses K.hash self.now (list_of set) i p pass.old }
+        ensures taken { OnOk result ((p : PassState V)
+            → Misses K.hash self.now (list_of set) i p pass.old
+            → HasTakenAll K.hash self.now (list_of set) p pass.new) }
+        ensures refused { IfErr result (λ t. (p : PassState V)
+            → Misses K.hash self.now (list_of set) i p pass.old
+            → GivesUp self.now (λ u. IsIn u (list_of set)) t p pass.new) }
     {
         let _ = self.settings();
-        for i in 0..numbers.len() {
-            if !self.try_take(pass, numbers[i]) {
-                self.release(pass, &numbers[..i]);
-                return Err(numbers[i]);
-            }
+        let missed = set.at(i);
+        if !self.try_again(pass, missed) {
+            self.release_first(pass, set, i);
+            return Err(missed as u32);
         }
-        self.settle_several(pass, numbers);
-        Ok(())
-    }
-
-    /// Takes all stripes, in rising order of their numbers. Where another pass holds one, it gives back what it holds,
-    /// unchanged, and answers the number of that stripe, which was found held `turns` times in a row.
-    pub fn hold_all(&self, pass: &mut Pass<K, V>) -> Result<(), usize>
-        requires own { IsPassOf self.now pass.old }
-        requires idle { IsIdle pass.old }
-        ensures own { IsPassOf self.now pass.new }
-        ensures stays { Stays pass.old.view pass.new.view }
-        ensures held { OnOk result (numbers_of pass.new.stripes
-            ≡ counting 0 (2 ^ self.now.settings.s)) }
-        ensures of_table { OnOk result (EachOf self.now.settings.s pass.new.stripes) }
-        ensures unchanged { OnOk result (IsUnchanged pass.new) }
-        ensures shows { OnOk result (ShowsSeen K.hash self.now.settings pass.new) }
-        ensures found { FindsAmong (λ t. t < 2 ^ self.now.settings.s) pass.old pass.new }
-        ensures busy { IfErr result (λ t. IsBusy self.now.settings.turns t pass.old pass.new) }
-        ensures asked { IfErr result (λ t. t < 2 ^ self.now.settings.s) }
-    {
-        for t in 0..self.table.slot_count() {
+        for j in i + 1..set.count() {
+            let t = set.at(j);
             if !self.try_take(pass, t) {
-                self.release_below(pass, t);
-                return Err(t);
+                self.release_first(pass, set, j);
+                return Err(t as u32);
             }
         }
         Ok(())
     }
 
-    /// Takes all stripes, in rising order of their numbers, and carries out the doublings that are left of them. Where
-    /// another pass holds one, it gives back what it holds, unchanged, and answers the number of that stripe, which was
-    /// found held `turns` times in a row.
-    pub fn hold_settled(&self, pass: &mut Pass<K, V>) -> Result<(), usize>
+    /// Takes all stripes, and carries out the doublings that are left of them, as `lock` does.
+    pub fn lock_all(&self, pass: &mut Pass<K, V>) -> Result<(), u32>
         requires own { IsPassOf self.now pass.old }
         requires idle { IsIdle pass.old }
         ensures own { IsPassOf self.now pass.new }
@@ -247,13 +246,12 @@ impl<K: TableKey + Drop, V: Drop> Words<K, V> {
         ensures table { OnOk result (IsTable self.now.settings.s pass.new.stripes) }
         ensures settled { OnOk result (AreSettled pass.new.stripes) }
         ensures found { FindsAmong (λ t. t < 2 ^ self.now.settings.s) pass.old pass.new }
-        ensures busy { IfErr result (λ t.
-            IsBusy self.now.settings.turns t pass.old pass.new) }
+        ensures busy { IfErr result (λ t. IsBusy self.now.settings.turns t pass.old pass.new) }
         ensures asked { IfErr result (λ t. t < 2 ^ self.now.settings.s) }
     {
-        let _ = self.settings();
-        self.hold_all(pass)?;
-        self.settle_all(pass);
+        if let Err(t) = self.lock(pass, self.all()) {
+            return Err(t);
+        }
         Ok(())
     }
 }

@@ -59,14 +59,13 @@ impl<K: TableKey + Drop, V: Drop> Words<K, V> {
         ensures room { IfSome result (λ pairs. length (pairs_of (contents_of pass.new.stripes)) + 4
             ≤ vec_capacity pairs) }
     {
-        let Ok(()) = self.hold_all(pass) else {
+        let Ok(()) = self.lock_all(pass) else {
             return None;
         };
-        self.settle_all(pass);
         // A bucket is poured where there is room for four more.
         let room = self.entries(pass) + 4;
         let Ok(pairs) = Vec::with_capacity(alloc, room) else {
-            self.release_below(pass, self.table.slot_count());
+            self.release(pass, self.all());
             return None;
         };
         Some(pairs)

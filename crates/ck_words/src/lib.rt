@@ -15,13 +15,13 @@ mod settle;
 mod size;
 mod slots;
 mod steps;
+mod stripe_set;
 mod views;
 mod words;
 
-pub use acquire::Missed;
 pub use commit::Commit;
-pub use lent::{Lent, Numbers};
+pub use lent::Lent;
 pub use lift::Whole;
 pub use pass::Pass;
-pub use steps::{Refuses, Says};
+pub use stripe_set::StripeSet;
 pub use words::Words;

@@ -1,94 +1,87 @@
 //! Carrying out the doublings that are left of stripes that a pass holds.
-ghost use Rattle.std.specs.Prelude.{◌≡◌, ◌<◌, ◌^◌, ◌≤◌, length};
+ghost use Rattle.std.specs.Prelude.{◌≡◌, ◌<◌, ◌≤◌, ◌^◌, length};
 ghost use Rattle.ck_section.specs.Places.{AreHeld};
 ghost use Rattle.ck_section.specs.Stripes.{stripe_at, settled_stripes};
-ghost use Rattle.ck_model.specs.Counting.{counting};
-ghost use Rattle.ck_words.specs.Passes.{IsPassOf, IsUnchanged, numbers_of, pair, PassState};
-ghost use Rattle.ck_words.specs.Holding.{IsEither, HasTaken};
+ghost use Rattle.ck_words.specs.Passes.{IsPassOf, IsUnchanged, numbers_of, PassState};
+ghost use Rattle.ck_words.specs.StripeNumbers.{pair};
+ghost use Rattle.ck_words.specs.StripeSets.{list_of};
+ghost use Rattle.ck_words.specs.Holding.{HasTakenAll};
 ghost use Rattle.ck_words.specs.Closing.{settled_also};
 
 use crate::pass::Pass;
 use crate::slots;
+use crate::stripe_set::StripeSet;
 use crate::words::Words;
 use ck_key::TableKey;
 
 impl<K: TableKey + Drop, V: Drop> Words<K, V> {
-    /// Carries out the doublings that are left of two stripes that were just taken, or of one where they are the same.
+    /// Carries out the doublings that are left of the stripes of a set, which were just taken.
     #[inline(always)]
-    pub fn settle_taken(&self, pass: &mut Pass<K, V>, low: usize, high: usize)
+    pub fn settle_taken(&self, pass: &mut Pass<K, V>, set: StripeSet)
+        requires of_table { set.s ≡ self.now.settings.s }
         requires taken { (p : PassState V)
-            × HasTaken K.hash self.now (IsEither low high) (pair low high) p pass.old }
-        requires rising { low ≤ high }
+            × HasTakenAll K.hash self.now (list_of set) p pass.old }
         ensures own { IsPassOf self.now pass.new }
         ensures view { pass.new.view ≡ pass.old.view }
         ensures held { AreHeld self.now.settings.s pass.new.stripes }
-        ensures numbers { numbers_of pass.new.stripes ≡ pair low high }
+        ensures numbers { numbers_of pass.new.stripes ≡ list_of set }
         ensures unchanged { IsUnchanged pass.new }
     {
         let _ = self.settings();
-        self.settle_pair(pass, low, high);
+        self.settle(pass, set);
     }
 
-    // Carries out the doublings that are left of two stripes, or of one where they are the same. Mostly there is none.
+    // Carries out the doublings that are left of the stripes of a set. Mostly there is none.
     #[inline(always)]
-    pub(crate) fn settle_pair(&self, pass: &mut Pass<K, V>, low: usize, high: usize)
+    fn settle(&self, pass: &mut Pass<K, V>, set: StripeSet)
         requires own { IsPassOf self.now pass.old }
-        requires numbered { numbers_of pass.old.stripes ≡ pair low high }
+        requires of_table { set.s ≡ self.now.settings.s }
+        requires numbered { numbers_of pass.old.stripes ≡ list_of set }
         ensures own { IsPassOf self.now pass.new }
         ensures settled { pass.new
             ≡ record pass.old { stripes = settled_stripes pass.old.stripes } }
     {
-        let last = (low != high) as usize;
-        let low_settled = self.is_settled(pass, last + 1, 0, low);
-        let high_settled = self.is_settled(pass, last + 1, last, high);
-        if low_settled && high_settled {
-            return;
+        let count = set.count();
+        if count <= 2 {
+            // One test for both, before anything is looked into.
+            let first = self.is_settled(pass, count, 0, set.at(0));
+            let last = self.is_settled(pass, count, count - 1, set.at(count - 1));
+            if first && last {
+                return;
+            }
+            let (low, high) = set.two();
+            return self.settle_pair(pass, low, high);
         }
-        self.settle_both(pass, low, high);
+        self.settle_each(pass, set);
     }
 
-    // Carries out the doublings that are left of two stripes, or of one where they are the same.
+    // Carries out the doublings that are left of two stripes, which are handed on by their numbers: a set would be kept in
+    // memory.
     #[cold]
     #[inline(never)]
-    fn settle_both(&self, pass: &mut Pass<K, V>, low: usize, high: usize)
+    fn settle_pair(&self, pass: &mut Pass<K, V>, low: usize, high: usize)
         requires own { IsPassOf self.now pass.old }
+        requires rising { low ≤ high }
+        requires inside { high < 2 ^ self.now.settings.s }
         requires numbered { numbers_of pass.old.stripes ≡ pair low high }
         ensures own { IsPassOf self.now pass.new }
         ensures settled { pass.new
             ≡ record pass.old { stripes = settled_stripes pass.old.stripes } }
     {
-        if low == high {
-            self.settle_one(pass, 1, 0, low);
-        } else {
-            self.settle_one(pass, 2, 0, low);
-            self.settle_one(pass, 2, 1, high);
-        }
+        let set = StripeSet::of_pair(self.settings().s, low, high);
+        self.settle_each(pass, set);
     }
 
-    // Carries out the doublings that are left of these stripes.
-    pub(crate) fn settle_several(&self, pass: &mut Pass<K, V>, numbers: &[usize])
+    // Carries out the doublings that are left of the stripes of a set, one after another.
+    fn settle_each(&self, pass: &mut Pass<K, V>, set: StripeSet)
         requires own { IsPassOf self.now pass.old }
-        requires numbered { numbers_of pass.old.stripes ≡ numbers.now }
+        requires numbered { numbers_of pass.old.stripes ≡ list_of set }
         ensures own { IsPassOf self.now pass.new }
         ensures settled { pass.new
             ≡ record pass.old { stripes = settled_stripes pass.old.stripes } }
     {
-        for i in 0..numbers.len() {
-            self.settle_one(pass, numbers.len(), i, numbers[i]);
-        }
-    }
-
-    // Carries out the doublings that are left of all stripes.
-    pub(crate) fn settle_all(&self, pass: &mut Pass<K, V>)
-        requires own { IsPassOf self.now pass.old }
-        requires numbered { numbers_of pass.old.stripes ≡ counting 0 (2 ^ self.now.settings.s) }
-        ensures own { IsPassOf self.now pass.new }
-        ensures settled { pass.new
-            ≡ record pass.old { stripes = settled_stripes pass.old.stripes } }
-    {
-        let count = self.table.slot_count();
-        for t in 0..count {
-            self.settle_one(pass, count, t, t);
+        for i in 0..set.count() {
+            self.settle_one(pass, set.count(), i, set.at(i));
         }
     }
 

@@ -1,5 +1,6 @@
 //! The lock words, and the steps on them.
 use crate::rule::CoreRule;
+use crate::stripe_set::StripeSet;
 use atomic_table::Table;
 use ck_core::view::View;
 use ck_key::TableKey;
@@ -26,8 +27,10 @@ impl<K: TableKey, V> Model for Words<K, V> {
 }
 
 impl<K: TableKey + Drop, V: Drop> Words<K, V> {
-    ghost use Rattle.std.specs.Prelude.{◌≡◌};
+    ghost use Rattle.std.specs.Prelude.{◌≡◌, ◌^◌};
+    ghost use Rattle.ck_model.specs.Counting.{counting};
     ghost use Rattle.ck_model.specs.Ranges.{AreInRange};
+    ghost use Rattle.ck_words.specs.StripeSets.{list_of};
 
     /// What the table was opened with.
     pub fn settings(&self) -> Settings
@@ -35,5 +38,13 @@ impl<K: TableKey + Drop, V: Drop> Words<K, V> {
         ensures range { AreInRange self.now.settings }
     {
         self.settings
+    }
+
+    /// All stripes of the table.
+    pub fn all(&self) -> StripeSet
+        ensures s { result.s ≡ self.now.settings.s }
+        ensures all { list_of result ≡ counting 0 (2 ^ self.now.settings.s) }
+    {
+        StripeSet::all(self.settings().s)
     }
 }

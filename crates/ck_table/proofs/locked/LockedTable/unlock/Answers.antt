@@ -20,7 +20,7 @@ lower-pass-requires-clause-of_table g c =
 pub commit_session-requires-clause-numbered : goal.commit_session-requires-clause-numbered
 commit_session-requires-clause-numbered g c =
     ap (λ (p : PassState g.row.V.Denot). numbers_of p.stripes) c.lower-pass.ensures
-    ∙ (numbered c.self.inside.table.now.settings.s c.self.inside.whole.stripes c.self.invariant.table ∙ ap (λ (w : WordsState). counting 0 (2 ^ w.settings.s)) (sym c.table.view_is))
+    ∙ (numbered c.self.inside.table.now.settings.s c.self.inside.whole.stripes c.self.invariant.table ∙ (ap (λ (w : WordsState). counting 0 (2 ^ w.settings.s)) (sym c.table.view_is) ∙ sym c.all.ensures.all))
 
 pub commit_session-requires-clause-done : goal.commit_session-requires-clause-done
 commit_session-requires-clause-done g c =

@@ -5,7 +5,7 @@ use Rattle.ck_table.specs.Refusals.{IsStripeIn}
 use Rattle.ck_table.proofs.table.Table.hold_table.Goals as goal
 
 pub returns-in-Ok-clause-found : goal.returns-in-Ok-clause-found
-returns-in-Ok-clause-found g c = subst (λ (w : WordsState). FindsAmong (IsStripeIn w.settings) c.args.pass.now c.hold_settled.new.pass) c.self.view_is c.hold_settled.ensures.found
+returns-in-Ok-clause-found g c = subst (λ (w : WordsState). FindsAmong (IsStripeIn w.settings) c.args.pass.now c.lock_all.new.pass) c.self.view_is c.lock_all.ensures.found
 
 pub returns-in-Err-clause-found : goal.returns-in-Err-clause-found
-returns-in-Err-clause-found g c = subst (λ (w : WordsState). FindsAmong (IsStripeIn w.settings) c.args.pass.now c.hold_settled.new.pass) c.self.view_is c.hold_settled.ensures.found
+returns-in-Err-clause-found g c = subst (λ (w : WordsState). FindsAmong (IsStripeIn w.settings) c.args.pass.now c.lock_all.new.pass) c.self.view_is c.lock_all.ensures.found

@@ -5,22 +5,22 @@ use Rattle.ck_stripe.specs.Doubling.{doubled_content, SendsEach}
 use Rattle.ck_stripe.specs.Stripe.{StripeState}
 use Rattle.ck_section.specs.Stripes.{no_stripe, stripe_at, doubled}
 use Rattle.ck_words.specs.Passes.{PassState, held_in}
-use Rattle.ck_words.specs.Lending.{list_of}
+use Rattle.ck_words.specs.StripeSets.{list_of}
 use Rattle.ck_words.proofs.Seating.{ready_on}
 use Rattle.ck_words.proofs.Turning.{seated_puts}
 use Rattle.ck_words.proofs.Lending.{lends, still_own, still_numbered}
 use Rattle.ck_words.proofs.lent.LentHeld.double.Goals as goal
 
 pub double_at-requires-clause-seat : goal.double_at-requires-clause-seat
-double_at-requires-clause-seat g c = lends c.pass.inside.seat c.args.self.now.pass.now c.pass.view_is c.args.self.now.words.now c.args.self.now.own (list_of c.args.self.now.numbers) c.args.self.now.numbered _ c.args.i _ _ c.words.view_is c.pass.invariant.seated c.requires.inside c.count.ensures c.at.ensures
+double_at-requires-clause-seat g c = lends c.pass.inside.seat c.args.self.now.pass.now c.pass.view_is c.args.self.now.words.now c.args.self.now.own (list_of c.args.self.now.set) c.args.self.now.numbered _ c.args.i _ _ c.words.view_is c.pass.invariant.seated c.requires.inside c.count.ensures c.at.ensures.value
 
 pub invariant_of-pass : goal.invariant_of-pass
 invariant_of-pass g c = ready_on c.pass.invariant c.double_at.ensures.puts.table (seated_puts _ _ _ _ c.double_at.ensures.puts c.pass.invariant.seated)
 
 pub invariant_of-self : goal.invariant_of-self
 invariant_of-self g c = record {
-  own = still_own c.pass.inside.seat c.args.self.now.pass.now c.pass.view_is c.args.self.now.words.now c.args.self.now.own (list_of c.args.self.now.numbers) c.args.self.now.numbered c.double_at.new.seat _ _ c.double_at.ensures.puts;
-  numbered = still_numbered c.pass.inside.seat c.args.self.now.pass.now c.pass.view_is c.args.self.now.words.now c.args.self.now.own (list_of c.args.self.now.numbers) c.args.self.now.numbered c.double_at.new.seat _ _ c.double_at.ensures.puts;
+  own = still_own c.pass.inside.seat c.args.self.now.pass.now c.pass.view_is c.args.self.now.words.now c.args.self.now.own (list_of c.args.self.now.set) c.args.self.now.numbered c.double_at.new.seat _ _ c.double_at.ensures.puts;
+  numbered = still_numbered c.pass.inside.seat c.args.self.now.pass.now c.pass.view_is c.args.self.now.words.now c.args.self.now.own (list_of c.args.self.now.set) c.args.self.now.numbered c.double_at.new.seat _ _ c.double_at.ensures.puts;
   of_table = c.args.self.now.of_table;
 }
 

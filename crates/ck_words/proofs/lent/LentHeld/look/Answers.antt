@@ -3,22 +3,22 @@ use Rattle.std.specs.Option.{IfNone}
 use Rattle.ck_bucket.specs.Bucket.{LacksName}
 use Rattle.ck_section.specs.Stripes.{bucket_at, IsInReach}
 use Rattle.ck_words.specs.Passes.{PassState}
-use Rattle.ck_words.specs.Lending.{list_of}
+use Rattle.ck_words.specs.StripeSets.{list_of}
 use Rattle.ck_words.proofs.Seating.{ready_on}
 use Rattle.ck_words.proofs.Turning.{seated_puts, puts-same}
 use Rattle.ck_words.proofs.Lending.{lends_own, still_own, still_numbered}
 use Rattle.ck_words.proofs.lent.LentHeld.look.Goals as goal
 
 pub look_at-requires-clause-seat : goal.look_at-requires-clause-seat
-look_at-requires-clause-seat g c = lends_own c.pass.inside.seat c.args.self.now.pass.now c.pass.view_is c.args.self.now.words.now c.args.self.now.own (list_of c.args.self.now.numbers) c.args.self.now.numbered _ c.args.i _ _ c.args.b _ c.words.view_is c.pass.invariant.seated c.count.ensures c.args.self.now.of_table c.requires.reach c.stripe_of-t.ensures
+look_at-requires-clause-seat g c = lends_own c.pass.inside.seat c.args.self.now.pass.now c.pass.view_is c.args.self.now.words.now c.args.self.now.own (list_of c.args.self.now.set) c.args.self.now.numbered _ c.args.i _ _ c.args.b _ c.words.view_is c.pass.invariant.seated c.count.ensures c.args.self.now.of_table c.requires.reach c.stripe_of-t.ensures
 
 pub invariant_of-pass : goal.invariant_of-pass
 invariant_of-pass g c = ready_on c.pass.invariant c.look_at.ensures.puts.table (seated_puts _ _ _ _ c.look_at.ensures.puts c.pass.invariant.seated)
 
 pub invariant_of-self : goal.invariant_of-self
 invariant_of-self g c = record {
-  own = still_own c.pass.inside.seat c.args.self.now.pass.now c.pass.view_is c.args.self.now.words.now c.args.self.now.own (list_of c.args.self.now.numbers) c.args.self.now.numbered c.look_at.new.seat _ _ c.look_at.ensures.puts;
-  numbered = still_numbered c.pass.inside.seat c.args.self.now.pass.now c.pass.view_is c.args.self.now.words.now c.args.self.now.own (list_of c.args.self.now.numbers) c.args.self.now.numbered c.look_at.new.seat _ _ c.look_at.ensures.puts;
+  own = still_own c.pass.inside.seat c.args.self.now.pass.now c.pass.view_is c.args.self.now.words.now c.args.self.now.own (list_of c.args.self.now.set) c.args.self.now.numbered c.look_at.new.seat _ _ c.look_at.ensures.puts;
+  numbered = still_numbered c.pass.inside.seat c.args.self.now.pass.now c.pass.view_is c.args.self.now.words.now c.args.self.now.own (list_of c.args.self.now.set) c.args.self.now.numbered c.look_at.new.seat _ _ c.look_at.ensures.puts;
   of_table = c.args.self.now.of_table;
 }
 

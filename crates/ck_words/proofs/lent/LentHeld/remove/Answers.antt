@@ -1,22 +1,22 @@
 use Rattle.std.proofs.Common.{refl, sym, subst, ap, ◌∙◌}
 use Rattle.ck_words.specs.Passes.{PassState}
 use Rattle.ck_section.specs.Stripes.{IsInReach}
-use Rattle.ck_words.specs.Lending.{list_of}
+use Rattle.ck_words.specs.StripeSets.{list_of}
 use Rattle.ck_words.proofs.Seating.{ready_on}
 use Rattle.ck_words.proofs.Turning.{seated_puts}
 use Rattle.ck_words.proofs.Lending.{lends_own, still_own, still_numbered}
 use Rattle.ck_words.proofs.lent.LentHeld.remove.Goals as goal
 
 pub remove_at-requires-clause-seat : goal.remove_at-requires-clause-seat
-remove_at-requires-clause-seat g c = lends_own c.pass.inside.seat c.args.self.now.pass.now c.pass.view_is c.args.self.now.words.now c.args.self.now.own (list_of c.args.self.now.numbers) c.args.self.now.numbered _ c.args.i _ _ c.args.b _ c.words.view_is c.pass.invariant.seated c.count.ensures c.args.self.now.of_table c.requires.reach c.stripe_of-t.ensures
+remove_at-requires-clause-seat g c = lends_own c.pass.inside.seat c.args.self.now.pass.now c.pass.view_is c.args.self.now.words.now c.args.self.now.own (list_of c.args.self.now.set) c.args.self.now.numbered _ c.args.i _ _ c.args.b _ c.words.view_is c.pass.invariant.seated c.count.ensures c.args.self.now.of_table c.requires.reach c.stripe_of-t.ensures
 
 pub invariant_of-pass : goal.invariant_of-pass
 invariant_of-pass g c = ready_on c.pass.invariant c.remove_at.ensures.puts.table (seated_puts _ _ _ _ c.remove_at.ensures.puts c.pass.invariant.seated)
 
 pub invariant_of-self : goal.invariant_of-self
 invariant_of-self g c = record {
-  own = still_own c.pass.inside.seat c.args.self.now.pass.now c.pass.view_is c.args.self.now.words.now c.args.self.now.own (list_of c.args.self.now.numbers) c.args.self.now.numbered c.remove_at.new.seat _ _ c.remove_at.ensures.puts;
-  numbered = still_numbered c.pass.inside.seat c.args.self.now.pass.now c.pass.view_is c.args.self.now.words.now c.args.self.now.own (list_of c.args.self.now.numbers) c.args.self.now.numbered c.remove_at.new.seat _ _ c.remove_at.ensures.puts;
+  own = still_own c.pass.inside.seat c.args.self.now.pass.now c.pass.view_is c.args.self.now.words.now c.args.self.now.own (list_of c.args.self.now.set) c.args.self.now.numbered c.remove_at.new.seat _ _ c.remove_at.ensures.puts;
+  numbered = still_numbered c.pass.inside.seat c.args.self.now.pass.now c.pass.view_is c.args.self.now.words.now c.args.self.now.own (list_of c.args.self.now.set) c.args.self.now.numbered c.remove_at.new.seat _ _ c.remove_at.ensures.puts;
   of_table = c.args.self.now.of_table;
 }
 

@@ -1,6 +1,0 @@
-use Rattle.std.specs.Prelude.{Some}
-use Rattle.ck_model.specs.declared.history.Reason.TheVariants.{NoRoom}
-use Rattle.ck_table.proofs.table.Table.find_room.Given as goal
-
-abbrev pub ghosts-give : goal.ghosts-give
-ghosts-give g a = record { refused = Some (g.K.TableKey.name a.said.now, NoRoom) }

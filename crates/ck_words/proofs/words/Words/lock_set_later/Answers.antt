@@ -1,0 +1,49 @@
+use Rattle.std.proofs.Common.{take, subst, arith}
+use Rattle.std.proofs.lemmas.List.{take_all}
+use Rattle.ck_model.specs.Numbered.{IsIn}
+use Rattle.ck_words.specs.Holding.{HasTaken}
+use Rattle.ck_words.specs.StripeSets.{list_of}
+use Rattle.ck_words.proofs.Missing.{above_next, next_taken, next_refused, still_first, above_missed, later_taken, later_first, later_refused}
+use Rattle.ck_words.proofs.words.Words.lock_set_later.Goals as goal
+
+pub try_again-requires-clause-above : goal.try_again-requires-clause-above
+try_again-requires-clause-above g c =
+    above_missed g.K.TableKey.hash c.args.self.now (list_of c.args.set) c.args.i c.at-missed.result c.at-missed.ensures.value c.requires.missed.0 c.args.pass.now c.args.set.rising c.settings.ensures.range.turns c.requires.missed.1
+
+pub release_first-requires-clause-numbered : goal.release_first-requires-clause-numbered
+release_first-requires-clause-numbered g c =
+    later_first g.K.TableKey.hash c.args.self.now (list_of c.args.set) c.args.i c.at-missed.result c.at-missed.ensures.value c.requires.missed.0 c.args.pass.now c.args.set.rising c.settings.ensures.range.turns c.requires.missed.1 _ c.try_again.new.pass c.if-not-try_again.ensures.tries
+
+pub returns-then-not-try_again-clause-refused : goal.returns-then-not-try_again-clause-refused
+returns-then-not-try_again-clause-refused g c p m =
+    later_refused g.K.TableKey.hash c.args.self.now (list_of c.args.set) c.args.i c.at-missed.result c.at-missed.ensures.value p c.args.pass.now c.args.set.rising c.settings.ensures.range.turns m c.try_again.new.pass c.release_first.new.pass c.if-not-try_again.ensures.tries c.release_first.ensures.released
+
+pub loop-j-init : goal.loop-j-init
+loop-j-init g c p m =
+    later_taken g.K.TableKey.hash c.args.self.now (list_of c.args.set) c.args.i c.at-missed.result c.at-missed.ensures.value p c.args.pass.now c.args.set.rising c.settings.ensures.range.turns m c.try_again.new.pass c.if-not-try_again.ensures.tries c.try_again.ensures.own c.try_again.ensures.unchanged
+
+pub try_take-requires-clause-own : goal.try_take-requires-clause-own
+try_take-requires-clause-own g c = let h = c.loop-j.invariant c.requires.missed.0 c.requires.missed.1 in h.own
+
+pub try_take-requires-clause-unchanged : goal.try_take-requires-clause-unchanged
+try_take-requires-clause-unchanged g c = let h = c.loop-j.invariant c.requires.missed.0 c.requires.missed.1 in h.unchanged
+
+pub try_take-requires-clause-above : goal.try_take-requires-clause-above
+try_take-requires-clause-above g c =
+    above_next g.K.TableKey.hash c.args.self.now (list_of c.args.set) c.loop-j.j c.at-t.result c.at-t.ensures.value c.requires.missed.0 c.loop-j.pass c.args.set.rising (omega arith) (c.loop-j.invariant c.requires.missed.0 c.requires.missed.1)
+
+pub loop-j-preserved : goal.loop-j-preserved
+loop-j-preserved g c p m =
+    next_taken g.K.TableKey.hash c.args.self.now (list_of c.args.set) c.loop-j.j c.at-t.result c.at-t.ensures.value p c.loop-j.pass c.args.set.rising (omega arith) (c.loop-j.invariant p m) c.args.self.now.settings.turns c.try_take.new.pass c.if-not-try_take.ensures.tries c.try_take.ensures.own c.try_take.ensures.unchanged
+
+pub release_first-requires-then-not-try_take-clause-numbered : goal.release_first-requires-then-not-try_take-clause-numbered
+release_first-requires-then-not-try_take-clause-numbered g c =
+    still_first g.K.TableKey.hash c.args.self.now (list_of c.args.set) c.loop-j.j c.at-t.result c.at-t.ensures.value c.requires.missed.0 c.loop-j.pass c.args.set.rising (omega arith) (c.loop-j.invariant c.requires.missed.0 c.requires.missed.1) _ c.try_take.new.pass c.if-not-try_take.ensures.tries
+
+pub returns-then-not-try_take-clause-refused : goal.returns-then-not-try_take-clause-refused
+returns-then-not-try_take-clause-refused g c p m =
+    next_refused g.K.TableKey.hash c.args.self.now (list_of c.args.set) c.loop-j.j c.at-t.result c.at-t.ensures.value p c.loop-j.pass c.args.set.rising (omega arith) (c.loop-j.invariant p m) c.try_take.new.pass c.release_first-then-not-try_take.new.pass c.if-not-try_take.ensures.tries c.release_first-then-not-try_take.ensures.released
+
+pub returns-clause-taken : goal.returns-clause-taken
+returns-clause-taken g c p m =
+    subst (λ ns. HasTaken g.K.TableKey.hash c.args.self.now (λ t. IsIn t (list_of c.args.set)) ns p c.loop-j.pass) (take_all c.loop-j.j (list_of c.args.set) (omega arith)) (c.loop-j.invariant p m)
