@@ -1,13 +1,6 @@
 -- What a call leaves of its pass, from what its parts leave.
-use Rattle.std.proofs.Common.{◌≡◌, ◌⊎◌, Bool, true, false, MatchBool, MatchOption, if◌then◌else◌, inl, inr, ⊎_elim, ℕ, zero, suc, min, max, Option, None, IfSome, IfNone, Result, Ok, Err, IfOk, IfErr, List, [], ◌∷◌, ◌++◌, reverse, unwrap_or, append_assoc, append-nil, sym, refl, ap, ◌∙◌, subst, arith, Some}
+use Rattle.std.proofs.Common.{◌≡◌, Bool, true, false, MatchBool, MatchOption, if◌then◌else◌, ℕ, Option, None, IfSome, IfNone, Result, Ok, Err, IfOk, IfErr, List, [], ◌∷◌, ◌++◌, reverse, unwrap_or, append_assoc, append-nil, sym, refl, ap, ◌∙◌, subst, arith, Some}
 use Rattle.std.specs.Result.{result_ok}
-use mathlib.Core.Logic.{dite}
-use native.Mathlib.Decide.{ℕ_discrete, dec_le}
-use Rattle.ck_key.specs.declared.key_hash.KeyHash.{KeyHash}
-use Rattle.ck_key.specs.Hashes.{IsHashOf}
-use Rattle.ck_model.specs.Arithmetic.{index_of, second_of}
-use Rattle.ck_model.specs.Numbered.{IsIn, numbers}
-use Rattle.ck_model.proofs.Numbered.{if_same, if_else}
 use Rattle.ck_model.specs.declared.history.Act.{Act}
 use Rattle.ck_model.specs.declared.history.Act.TheVariants.{Find, Erase}
 use Rattle.ck_model.specs.declared.history.Call.{Call}
@@ -27,16 +20,14 @@ use Rattle.ck_section.specs.Places.{HasBoth, IsPlaceOf}
 use Rattle.ck_core.specs.declared.view.View.{View}
 use Rattle.ck_core.specs.Laws.{Answered}
 use Rattle.ck_words.specs.Words.{WordsState}
-use Rattle.ck_words.specs.Passes.{PassState, IsUnchanged, numbers_of}
-use Rattle.ck_words.specs.Retries.{Stays, StaysBut, FindsAmong, IsBusy}
+use Rattle.ck_words.specs.Passes.{PassState, IsUnchanged}
+use Rattle.ck_words.specs.Retries.{Stays, StaysBut}
 use Rattle.ck_words.specs.Answering.{HasDone, IsAnswered, IsAnsweredBut}
 use Rattle.ck_words.specs.Renewing.{HasRenewed}
-use Rattle.ck_words.proofs.Seating.{numbers-contents}
 use Rattle.ck_words.proofs.Renewals.{renewed_none, done_then}
 use Rattle.ck_table.specs.declared.room.Room.{Room}
 use Rattle.ck_table.specs.Holding.{HoldsKeyBut, HoldsKey}
 use Rattle.ck_table.specs.Insertions.{HasRoom}
-use Rattle.ck_table.specs.Refusals.{FindsOwn, IsBusyAt}
 
 joined_on : {A : Type 0} (a b c d x : List A) → x ≡ a ++ b → x ++ c ++ d ≡ a ++ (b ++ c) ++ d
 joined_on a b c d x e = ap (λ l. l ++ d) (ap (λ l. l ++ c) e ∙ append_assoc a b c)

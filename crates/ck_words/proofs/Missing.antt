@@ -1,5 +1,5 @@
 -- A stripe of a set was found held, and is tried again.
-use Rattle.std.proofs.Common.{◌≡◌, ℕ, ◌+◌, ◌-◌, ◌<◌, ◌≤◌, List, [], ◌∷◌, ◌++◌, take, length, get_or, sym, ap, ◌∙◌, subst, arith}
+use Rattle.std.proofs.Common.{◌≡◌, ℕ, ◌+◌, ◌-◌, ◌<◌, ◌≤◌, List, take, length, get_or, sym, ap, ◌∙◌, subst}
 use Rattle.std.specs.List.Sorted.{IsStrictlyIncreasing}
 use Rattle.ck_model.specs.Map.{Name}
 use Rattle.ck_model.specs.Numbered.{IsIn, numbers}
@@ -7,7 +7,7 @@ use Rattle.ck_core.specs.Steps.{IsAbove}
 use Rattle.ck_words.specs.Words.{WordsState}
 use Rattle.ck_words.specs.Passes.{PassState, IsPassOf, IsUnchanged, numbers_of}
 use Rattle.ck_words.specs.Retries.{TakesWithin, found_again}
-use Rattle.ck_words.specs.Holding.{HasTaken, HasTakenAll, GivesUp, HasReleased, Misses}
+use Rattle.ck_words.specs.Holding.{HasTaken, GivesUp, HasReleased, Misses}
 use Rattle.ck_words.proofs.Taking.{in_list, above_first, above_taken, next_first, one_taken, given_up, takes_later, found_later}
 
 module _ {V : Type 0} (hash : Name → ℕ) (w : WordsState) (ns : List ℕ) (i t : ℕ) (is : t ≡ get_or ns i 0) (p q : PassState V) where

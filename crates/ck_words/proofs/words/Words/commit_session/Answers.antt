@@ -1,4 +1,4 @@
-use Rattle.std.proofs.Common.{◌∙◌, ◌-◌, take, subst, arith}
+use Rattle.std.proofs.Common.{◌∙◌, ◌-◌, take, arith}
 use Rattle.ck_words.specs.Commits.{session_of}
 use Rattle.ck_words.proofs.Replying.{has_committed}
 use Rattle.ck_words.specs.StripeSets.{list_of}

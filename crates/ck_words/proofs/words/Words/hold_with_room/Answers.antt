@@ -1,8 +1,7 @@
 use Rattle.std.proofs.Common.{◌≡◌, ◌∙◌, ap, sym, subst, ◌+◌, ◌≤◌, length, vec_capacity}
 use Rattle.ck_core.specs.declared.view.View.{View}
-use Rattle.ck_words.specs.Passes.{PassState, IsPassOf, IsUnchanged, numbers_of}
+use Rattle.ck_words.specs.Passes.{PassState}
 use Rattle.ck_words.specs.Retries.{Stays}
-use Rattle.ck_words.specs.Closing.{IsWhole}
 use Rattle.ck_words.proofs.Staying.{stays_on}
 use Rattle.ck_model.specs.Contents.{pairs_of}
 use Rattle.ck_section.specs.Stripes.{contents_of}

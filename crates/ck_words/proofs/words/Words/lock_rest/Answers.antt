@@ -1,4 +1,4 @@
-use Rattle.std.proofs.Common.{◌∙◌, ap, take, refl, subst, arith}
+use Rattle.std.proofs.Common.{◌∙◌, ap, refl, subst, arith}
 use Rattle.std.proofs.lemmas.List.{take_all}
 use Rattle.ck_model.specs.Numbered.{IsIn}
 use Rattle.ck_words.specs.Retries.{found_again}

@@ -1,4 +1,4 @@
-use Rattle.std.proofs.Common.{take, subst, arith}
+use Rattle.std.proofs.Common.{subst, arith}
 use Rattle.std.proofs.lemmas.List.{take_all}
 use Rattle.ck_model.specs.Numbered.{IsIn}
 use Rattle.ck_words.specs.Holding.{HasTaken}

@@ -1,6 +1,6 @@
 use Rattle.std.proofs.Common.{take}
 use Rattle.ck_model.specs.Numbered.{IsIn}
-use Rattle.ck_words.specs.Passes.{PassState, IsPassOf, IsUnchanged}
+use Rattle.ck_words.specs.Passes.{PassState}
 use Rattle.ck_words.specs.StripeSets.{list_of}
 use Rattle.ck_words.specs.Holding.{HasTaken, Misses}
 use Rattle.ck_words.proofs.words.Words.lock_set_later.Given as goal

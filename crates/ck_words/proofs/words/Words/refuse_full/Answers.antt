@@ -1,4 +1,4 @@
-use Rattle.std.proofs.Common.{◌∙◌, ◌-◌, take, length, get_or, arith}
+use Rattle.std.proofs.Common.{◌∙◌, ◌-◌, take, arith}
 use Rattle.ck_model.specs.declared.history.Reason.TheVariants.{NoRoom}
 use Rattle.ck_words.specs.StripeSets.{list_of}
 use Rattle.ck_words.proofs.Releasing.{last_of_all, numbers_left}

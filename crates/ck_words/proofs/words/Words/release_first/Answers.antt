@@ -1,5 +1,4 @@
-use Rattle.std.proofs.Common.{◌≡◌, ◌∙◌, ◌++◌, ◌≤◌, List, ℕ, [], ◌∷◌, take, length, ap, sym, subst, arith}
-use Rattle.ck_words.specs.Passes.{numbers_of}
+use Rattle.std.proofs.Common.{◌∙◌, ℕ, [], ◌∷◌, take, ap, sym, arith}
 use Rattle.ck_words.specs.StripeSets.{list_of}
 use Rattle.ck_words.proofs.Releasing.{last_taken, leaves_all, leaves_after, leaves_none}
 use Rattle.ck_words.proofs.Telling.{told_none, told_fewer}

@@ -1,4 +1,4 @@
-use Rattle.std.proofs.Common.{◌∙◌, ◌-◌, take, subst, arith, None}
+use Rattle.std.proofs.Common.{◌∙◌, ◌-◌, take, arith, None}
 use Rattle.ck_words.specs.StripeSets.{list_of}
 use Rattle.ck_words.proofs.Releasing.{last_of_all, numbers_left}
 use Rattle.ck_words.proofs.Releasing.{released_on}
