@@ -17,3 +17,4 @@ pub mod Stepwise
 pub mod Doubled
 pub mod Table
 pub mod Owned
+pub mod Visited

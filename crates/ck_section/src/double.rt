@@ -9,21 +9,23 @@ ghost use Rattle.ck_section.specs.Whole.{AreSettled, IsTable};
 ghost use Rattle.ck_section.specs.Doublings.{ChangesRoom, AreReserved, DoublesEach, Grows};
 
 use crate::held::Held;
+use crate::one_stripe;
 use ck_key::TableKey;
+use ck_stripe::Stripe;
 use std::alloc::AllocError;
 
 /// Carries out the doublings that are left of the held stripes.
-pub fn settle_all<K: TableKey + Drop, V: Drop, H: Held<K, V>>(held: &mut H)
+pub fn settle_all<K: TableKey + Drop, V: Drop, H: Held<Stripe<K, V>>>(held: &mut H)
     ensures settled { H.stripes held.new ≡ settled_stripes (H.stripes held.old) }
     ensures stays { H.stays held.old held.new }
 {
     for i in 0..held.count() {
-        held.settle(i);
+        one_stripe::settle(held, i);
     }
 }
 
 /// The number of entries of a table of 2^s stripes, by their ledgers.
-pub fn len<K: TableKey + Drop, V: Drop, H: Held<K, V>>(held: &mut H, s: u32) -> u64
+pub fn len<K: TableKey + Drop, V: Drop, H: Held<Stripe<K, V>>>(held: &mut H, s: u32) -> u64
     requires { IsTable s (H.stripes held.old) }
     ensures value { result ≡ length (pairs_of (contents_of (H.stripes held.old))) }
     ensures call { (max : ℕ) → Lawful (layout K.hash s max) (contents_of (H.stripes held.old))
@@ -34,14 +36,14 @@ pub fn len<K: TableKey + Drop, V: Drop, H: Held<K, V>>(held: &mut H, s: u32) -> 
 {
     let mut entries = 0;
     for i in 0..1usize << s {
-        entries += held.len(i);
+        entries += one_stripe::len(held, i);
     }
     entries
 }
 
 /// Doubles a table of 2^s stripes. The memory for all is taken first, by one request a stripe at most, so a refused
 /// request leaves each stripe at its power, with the same entries in the same slots.
-pub fn double_all<K: TableKey + Drop, V: Drop, H: Held<K, V>>(
+pub fn double_all<K: TableKey + Drop, V: Drop, H: Held<Stripe<K, V>>>(
     held: &mut H,
     s: u32,
 ) -> Result<(), AllocError>
@@ -61,7 +63,7 @@ pub fn double_all<K: TableKey + Drop, V: Drop, H: Held<K, V>>(
 }
 
 // Takes the memory for a doubling of each of the `count` stripes that are held.
-fn reserve_all<K: TableKey + Drop, V: Drop, H: Held<K, V>>(
+fn reserve_all<K: TableKey + Drop, V: Drop, H: Held<Stripe<K, V>>>(
     held: &mut H,
     count: usize,
 ) -> Result<(), AllocError>
@@ -72,13 +74,13 @@ fn reserve_all<K: TableKey + Drop, V: Drop, H: Held<K, V>>(
     ensures stays { H.stays held.old held.new }
 {
     for i in 0..count {
-        held.reserve_double(i)?;
+        one_stripe::reserve_double(held, i)?;
     }
     Ok(())
 }
 
 // Raises the power of each of the `count` stripes that are held by one.
-fn raise_all<K: TableKey + Drop, V: Drop, H: Held<K, V>>(held: &mut H, count: usize)
+fn raise_all<K: TableKey + Drop, V: Drop, H: Held<Stripe<K, V>>>(held: &mut H, count: usize)
     requires count { length (H.stripes held.old) ≡ count }
     requires settled { AreSettled (H.stripes held.old) }
     requires reserved { AreReserved (H.stripes held.old) }
@@ -87,6 +89,6 @@ fn raise_all<K: TableKey + Drop, V: Drop, H: Held<K, V>>(held: &mut H, count: us
     ensures stays { H.stays held.old held.new }
 {
     for t in 0..count {
-        held.double(t);
+        one_stripe::double(held, t);
     }
 }

@@ -8,6 +8,7 @@ use crate::held::Held;
 use crate::look::{find_free, find_slot};
 use crate::place::{HeldSlot, KeyPlace};
 use ck_key::TableKey;
+use ck_stripe::Stripe;
 
 /// The slot of a bound key, or the one that an unbound key would get.
 #[derive(Clone, Copy, Debug, PartialEq, Eq)]
@@ -20,7 +21,7 @@ pub enum Entry {
 
 /// The entry of the key; `None` where it is unbound and both its buckets are full.
 #[inline(always)]
-pub fn find_entry<K: TableKey, V, H: Held<K, V>>(
+pub fn find_entry<K: TableKey + Drop, V: Drop, H: Held<Stripe<K, V>>>(
     held: &mut H,
     place: KeyPlace,
     key: &K,

@@ -9,7 +9,9 @@ ghost use Rattle.ck_section.specs.Calls.{ChangesContents};
 
 use crate::held::Held;
 use crate::look::bucket_index;
+use crate::one_stripe;
 use ck_key::TableKey;
+use ck_stripe::Stripe;
 
 /// A hop, as a search of a table of 2^power buckets saw it: the entry of this partial in this slot of bucket `bucket`
 /// goes to its other bucket, `target`.
@@ -26,7 +28,7 @@ pub struct Hop {
 ///
 /// It doesn't where the table has another power by now, where the slot has no entry of the partial, or where the target
 /// has no free slot; then nothing has changed.
-pub fn move_entry<K: TableKey + Drop, V: Drop, H: Held<K, V>>(
+pub fn move_entry<K: TableKey + Drop, V: Drop, H: Held<Stripe<K, V>>>(
     held: &mut H,
     from: usize,
     to: usize,
@@ -42,22 +44,26 @@ pub fn move_entry<K: TableKey + Drop, V: Drop, H: Held<K, V>>(
     ensures rest { ChangesContents (H.stripes held.old) (H.stripes held.new) }
     ensures stays { H.stays held.old held.new }
 {
-    if held.power(from) != hop.power {
+    if one_stripe::power(held, from) != hop.power {
         return false;
     }
     if !has_partial(held, from, hop) {
         return false;
     }
-    let Some(slot) = held.free(to, hop.target) else {
+    let Some(slot) = one_stripe::free(held, to, hop.target) else {
         return false;
     };
-    let (key, value) = held.remove(from, hop.bucket, hop.slot);
-    held.place(to, hop.target, slot, hop.partial, key, value);
+    let (key, value) = one_stripe::remove(held, from, hop.bucket, hop.slot);
+    one_stripe::place(held, to, hop.target, slot, hop.partial, key, value);
     true
 }
 
 /// Carries out a hop among held stripes of a table of 2^s, as `move_entry` does between two of them.
-pub fn make_hop<K: TableKey + Drop, V: Drop, H: Held<K, V>>(held: &mut H, s: u32, hop: Hop) -> bool
+pub fn make_hop<K: TableKey + Drop, V: Drop, H: Held<Stripe<K, V>>>(
+    held: &mut H,
+    s: u32,
+    hop: Hop,
+) -> bool
     requires held { AreHeld s (H.stripes held.old) }
     requires below { hop.bucket < 2 ^ hop.power }
     requires target { hop.target ≡ alternate_of hop.power hop.partial hop.bucket }
@@ -79,7 +85,11 @@ pub fn make_hop<K: TableKey + Drop, V: Drop, H: Held<K, V>>(held: &mut H, s: u32
 }
 
 // Whether the slot has an entry of the hop's partial.
-fn has_partial<K: TableKey, V, H: Held<K, V>>(held: &mut H, from: usize, hop: Hop) -> bool
+fn has_partial<K: TableKey + Drop, V: Drop, H: Held<Stripe<K, V>>>(
+    held: &mut H,
+    from: usize,
+    hop: Hop,
+) -> bool
     requires { IsInReach (H.stripes held.old) from hop.bucket }
     ensures value { MatchBool result
         (HasPartial K.hash (slot_in (H.stripes held.old) (source_in from hop)) hop.partial)
@@ -88,6 +98,6 @@ fn has_partial<K: TableKey, V, H: Held<K, V>>(held: &mut H, from: usize, hop: Ho
     ensures same { H.stripes held.new ≡ H.stripes held.old }
     ensures stays { H.stays held.old held.new }
 {
-    let sketch = held.sketch(from, hop.bucket);
+    let sketch = one_stripe::sketch(held, from, hop.bucket);
     sketch.get(hop.slot).copied().flatten() == Some(hop.partial)
 }

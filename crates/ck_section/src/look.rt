@@ -7,13 +7,15 @@ ghost use Rattle.ck_section.specs.Places.{AreHeld, HasStripe, HasBoth, IsPlaceOf
 ghost use Rattle.ck_section.specs.Entries.{IsOccupied};
 
 use crate::held::Held;
+use crate::one_stripe;
 use crate::place::{HeldBucket, HeldSlot, KeyPlace};
 use ck_key::{KeyHash, TableKey};
+use ck_stripe::Stripe;
 
 /// Where a key, whose hash the caller has at hand, may be among the held stripes of a table of 2^s.
 #[inline(always)]
 #[tactic(auto, unfolding(ck_model::specs::Arithmetic::second_of))]
-pub fn key_place<K: TableKey, V, H: Held<K, V>>(
+pub fn key_place<K: TableKey + Drop, V: Drop, H: Held<Stripe<K, V>>>(
     held: &mut H,
     s: u32,
     _key: &K,
@@ -28,25 +30,29 @@ pub fn key_place<K: TableKey, V, H: Held<K, V>>(
     ensures stays { H.stays held.old held.new }
 {
     let KeyHash { hash, partial } = hash;
-    let power = held.power(0);
+    let power = one_stripe::power(held, 0);
     let first = ck_key::index(power, hash);
     let alternate = ck_key::alternate(power, partial, first);
     KeyPlace {
         s,
         partial,
         first: HeldBucket {
-            index: held.position((first % (1 << s)) as u32),
+            index: one_stripe::position(held, (first % (1 << s)) as u32),
             bucket: first,
         },
         alternate: HeldBucket {
-            index: held.position((alternate % (1 << s)) as u32),
+            index: one_stripe::position(held, (alternate % (1 << s)) as u32),
             bucket: alternate,
         },
     }
 }
 
 /// The partials in a bucket of the held stripes of a table of 2^s.
-pub fn sketch<K: TableKey, V, H: Held<K, V>>(held: &mut H, s: u32, b: u64) -> [Option<u8>; 4]
+pub fn sketch<K: TableKey + Drop, V: Drop, H: Held<Stripe<K, V>>>(
+    held: &mut H,
+    s: u32,
+    b: u64,
+) -> [Option<u8>; 4]
     requires held { AreHeld s (H.stripes held.old) }
     requires below { b < 2 ^ (stripe_at (H.stripes held.old) 0).content.power }
     requires owned { HasStripe (H.stripes held.old) (b % 2 ^ s) }
@@ -56,11 +62,15 @@ pub fn sketch<K: TableKey, V, H: Held<K, V>>(held: &mut H, s: u32, b: u64) -> [O
     ensures stays { H.stays held.old held.new }
 {
     let i = bucket_index(held, s, b);
-    held.sketch(i, b)
+    one_stripe::sketch(held, i, b)
 }
 
 // The position of the stripe of bucket `b`, in a table of 2^s stripes.
-pub(crate) fn bucket_index<K: TableKey, V, H: Held<K, V>>(held: &mut H, s: u32, b: u64) -> usize
+pub(crate) fn bucket_index<K: TableKey + Drop, V: Drop, H: Held<Stripe<K, V>>>(
+    held: &mut H,
+    s: u32,
+    b: u64,
+) -> usize
     requires s { s ≤ 10 }
     requires owned { HasStripe (H.stripes held.old) (b % 2 ^ s) }
     ensures inside { result < length (H.stripes held.old) }
@@ -68,12 +78,12 @@ pub(crate) fn bucket_index<K: TableKey, V, H: Held<K, V>>(held: &mut H, s: u32, 
     ensures same { H.stripes held.new ≡ H.stripes held.old }
     ensures stays { H.stays held.old held.new }
 {
-    held.position((b % (1 << s)) as u32)
+    one_stripe::position(held, (b % (1 << s)) as u32)
 }
 
 /// The slot of the key.
 #[inline(always)]
-pub(crate) fn find_slot<K: TableKey, V, H: Held<K, V>>(
+pub(crate) fn find_slot<K: TableKey + Drop, V: Drop, H: Held<Stripe<K, V>>>(
     held: &mut H,
     place: KeyPlace,
     key: &K,
@@ -90,7 +100,7 @@ pub(crate) fn find_slot<K: TableKey, V, H: Held<K, V>>(
         first,
         alternate,
     } = place;
-    if let Some(slot) = held.look(first.index, first.bucket, key, partial) {
+    if let Some(slot) = one_stripe::look(held, first.index, first.bucket, key, partial) {
         return Some(HeldSlot {
             index: first.index,
             bucket: first.bucket,
@@ -100,7 +110,7 @@ pub(crate) fn find_slot<K: TableKey, V, H: Held<K, V>>(
     if alternate.bucket == first.bucket {
         return None;
     }
-    let slot = held.look(alternate.index, alternate.bucket, key, partial)?;
+    let slot = one_stripe::look(held, alternate.index, alternate.bucket, key, partial)?;
     Some(HeldSlot {
         index: alternate.index,
         bucket: alternate.bucket,
@@ -110,7 +120,7 @@ pub(crate) fn find_slot<K: TableKey, V, H: Held<K, V>>(
 
 /// The lowest free slot of the key's first bucket, else of its alternate one.
 #[inline(always)]
-pub(crate) fn find_free<K: TableKey, V, H: Held<K, V>>(
+pub(crate) fn find_free<K: TableKey + Drop, V: Drop, H: Held<Stripe<K, V>>>(
     held: &mut H,
     place: KeyPlace,
     key: &K,
@@ -128,7 +138,7 @@ pub(crate) fn find_free<K: TableKey, V, H: Held<K, V>>(
         first,
         alternate,
     } = place;
-    if let Some(slot) = held.free(first.index, first.bucket) {
+    if let Some(slot) = one_stripe::free(held, first.index, first.bucket) {
         return Some(HeldSlot {
             index: first.index,
             bucket: first.bucket,
@@ -138,7 +148,7 @@ pub(crate) fn find_free<K: TableKey, V, H: Held<K, V>>(
     if alternate.bucket == first.bucket {
         return None;
     }
-    let slot = held.free(alternate.index, alternate.bucket)?;
+    let slot = one_stripe::free(held, alternate.index, alternate.bucket)?;
     Some(HeldSlot {
         index: alternate.index,
         bucket: alternate.bucket,

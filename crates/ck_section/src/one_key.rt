@@ -14,12 +14,14 @@ ghost use Rattle.ck_section.specs.Calls.{effect, IsCall, ChangesContents};
 use crate::entry::Entry;
 use crate::held::Held;
 use crate::look::find_slot;
+use crate::one_stripe;
 use crate::place::{HeldSlot, KeyPlace};
 use ck_key::TableKey;
+use ck_stripe::Stripe;
 
 /// What the closure answers for the value of the key; `None` where the key is unbound, and then the closure is not
 /// called.
-pub fn find<K: TableKey, V, H: Held<K, V>, R, F: FnOnce(&V) -> R>(
+pub fn find<K: TableKey + Drop, V: Drop, H: Held<Stripe<K, V>>, R, F: FnOnce(&V) -> R>(
     held: &mut H,
     place: KeyPlace,
     key: &K,
@@ -39,13 +41,13 @@ where
     ensures stays { H.stays held.old held.new }
 {
     let at = find_slot(held, place, key)?;
-    Some(held.read(at.index, at.bucket, at.slot, f))
+    Some(one_stripe::read(held, at.index, at.bucket, at.slot, f))
 }
 
 /// Binds the key of the entry where it is unbound, and says whether it was. A bound key keeps its value, and the one that
 /// was passed is dropped.
 #[inline(always)]
-pub fn insert<K: TableKey + Drop, V: Drop, H: Held<K, V>>(
+pub fn insert<K: TableKey + Drop, V: Drop, H: Held<Stripe<K, V>>>(
     held: &mut H,
     place: KeyPlace,
     entry: Entry,
@@ -71,7 +73,7 @@ pub fn insert<K: TableKey + Drop, V: Drop, H: Held<K, V>>(
 
 /// Binds the key of the entry, and gives the value that it had.
 #[inline(always)]
-pub fn assign<K: TableKey + Drop, V: Drop, H: Held<K, V>>(
+pub fn assign<K: TableKey + Drop, V: Drop, H: Held<Stripe<K, V>>>(
     held: &mut H,
     place: KeyPlace,
     entry: Entry,
@@ -86,7 +88,9 @@ pub fn assign<K: TableKey + Drop, V: Drop, H: Held<K, V>>(
     ensures stays { H.stays held.old held.new }
 {
     match entry {
-        Entry::Occupied(old) => Some(held.replace(old.index, old.bucket, old.slot, value)),
+        Entry::Occupied(old) => Some(one_stripe::replace(
+            held, old.index, old.bucket, old.slot, value,
+        )),
         Entry::Vacant(at) => {
             fill(held, place, at, key, value);
             None
@@ -96,7 +100,7 @@ pub fn assign<K: TableKey + Drop, V: Drop, H: Held<K, V>>(
 
 /// Binds a bound key to another value, and gives the one that it had; `None` where the key is unbound, and then it stays
 /// so and the value is dropped.
-pub fn update<K: TableKey + Drop, V: Drop, H: Held<K, V>>(
+pub fn update<K: TableKey + Drop, V: Drop, H: Held<Stripe<K, V>>>(
     held: &mut H,
     place: KeyPlace,
     key: &K,
@@ -110,11 +114,11 @@ pub fn update<K: TableKey + Drop, V: Drop, H: Held<K, V>>(
     ensures stays { H.stays held.old held.new }
 {
     let at = find_slot(held, place, key)?;
-    Some(held.replace(at.index, at.bucket, at.slot, value))
+    Some(one_stripe::replace(held, at.index, at.bucket, at.slot, value))
 }
 
 /// Unbinds the key, and gives the value that it had; `None` where it is unbound.
-pub fn erase<K: TableKey + Drop, V: Drop, H: Held<K, V>>(
+pub fn erase<K: TableKey + Drop, V: Drop, H: Held<Stripe<K, V>>>(
     held: &mut H,
     place: KeyPlace,
     key: &K,
@@ -127,13 +131,13 @@ pub fn erase<K: TableKey + Drop, V: Drop, H: Held<K, V>>(
     ensures stays { H.stays held.old held.new }
 {
     let at = find_slot(held, place, key)?;
-    let (_, value) = held.remove(at.index, at.bucket, at.slot);
+    let (_, value) = one_stripe::remove(held, at.index, at.bucket, at.slot);
     Some(value)
 }
 
 /// Unbinds a bound key where the closure answers true for its value, and gives what the closure answers. Where the key is
 /// unbound, the closure is not called and comes back.
-pub fn erase_if<K: TableKey + Drop, V: Drop, H: Held<K, V>, F: FnOnce(&V) -> bool>(
+pub fn erase_if<K: TableKey + Drop, V: Drop, H: Held<Stripe<K, V>>, F: FnOnce(&V) -> bool>(
     held: &mut H,
     place: KeyPlace,
     key: &K,
@@ -155,16 +159,16 @@ pub fn erase_if<K: TableKey + Drop, V: Drop, H: Held<K, V>, F: FnOnce(&V) -> boo
     let Some(at) = find_slot(held, place, key) else {
         return Err(f);
     };
-    if !held.read(at.index, at.bucket, at.slot, f) {
+    if !one_stripe::read(held, at.index, at.bucket, at.slot, f) {
         return Ok(false);
     }
-    held.remove(at.index, at.bucket, at.slot);
+    one_stripe::remove(held, at.index, at.bucket, at.slot);
     Ok(true)
 }
 
 /// Binds a bound key to what the closure makes of its value, and says whether it was bound. Where it was not, the closure
 /// is not called.
-pub fn change<K: TableKey + Drop, V: Drop, H: Held<K, V>, F: FnOnce(V) -> V>(
+pub fn change<K: TableKey + Drop, V: Drop, H: Held<Stripe<K, V>>, F: FnOnce(V) -> V>(
     held: &mut H,
     place: KeyPlace,
     key: &K,
@@ -187,14 +191,14 @@ where
     let Some(at) = find_slot(held, place, key) else {
         return false;
     };
-    held.change(at.index, at.bucket, at.slot, f);
+    one_stripe::change(held, at.index, at.bucket, at.slot, f);
     true
 }
 
 /// Binds the key of the entry to the value where it is unbound, and else to what the closure makes of its value; says
 /// whether the key was unbound. Of closure and value the one that isn't used is dropped.
 #[inline(always)]
-pub fn upsert<K: TableKey + Drop, V: Drop, H: Held<K, V>, F: FnOnce(V) -> V>(
+pub fn upsert<K: TableKey + Drop, V: Drop, H: Held<Stripe<K, V>>, F: FnOnce(V) -> V>(
     held: &mut H,
     place: KeyPlace,
     entry: Entry,
@@ -217,7 +221,7 @@ where
 {
     match entry {
         Entry::Occupied(old) => {
-            held.change(old.index, old.bucket, old.slot, f);
+            one_stripe::change(held, old.index, old.bucket, old.slot, f);
             false
         }
         Entry::Vacant(at) => {
@@ -228,7 +232,7 @@ where
 }
 
 // Puts an unbound key into its slot.
-fn fill<K: TableKey + Drop, V: Drop, H: Held<K, V>>(
+fn fill<K: TableKey + Drop, V: Drop, H: Held<Stripe<K, V>>>(
     held: &mut H,
     place: KeyPlace,
     at: HeldSlot,
@@ -243,5 +247,5 @@ fn fill<K: TableKey + Drop, V: Drop, H: Held<K, V>>(
     ensures stays { H.stays held.old held.new }
 {
     let partial = place.partial;
-    held.place(at.index, at.bucket, at.slot, partial, key, value);
+    one_stripe::place(held, at.index, at.bucket, at.slot, partial, key, value);
 }

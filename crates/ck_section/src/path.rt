@@ -13,12 +13,14 @@ ghost use Rattle.ck_section.specs.Room.{HaveFour, power_in, sketch_of, IsPathFor
 
 use crate::held::Held;
 use crate::hop::{Hop, move_entry};
+use crate::one_stripe;
 use ck_key::{KeyHash, TableKey};
 use ck_path::{Path, Search};
+use ck_stripe::Stripe;
 
 /// A shortest displacement path that makes room for the key, whose hash the caller has at hand, in a table of 2^s stripes;
 /// `None` where there is none of at most four hops. With no hop, a bucket of the key has a free slot.
-pub fn find_path<K: TableKey, V, H: Held<K, V>>(
+pub fn find_path<K: TableKey + Drop, V: Drop, H: Held<Stripe<K, V>>>(
     held: &mut H,
     s: u32,
     _key: &K,
@@ -35,14 +37,14 @@ pub fn find_path<K: TableKey, V, H: Held<K, V>>(
     ensures same { H.stripes held.new ≡ H.stripes held.old }
     ensures stays { H.stays held.old held.new }
 {
-    let power = held.power(0);
+    let power = one_stripe::power(held, 0);
     let first = ck_key::index(power, hash.hash);
     let second = ck_key::alternate(power, hash.partial, first);
     search_from(held, s, power, first, second)
 }
 
 // The search from two buckets of a table of 2^power, of 2^s stripes.
-fn search_from<K: TableKey, V, H: Held<K, V>>(
+fn search_from<K: TableKey + Drop, V: Drop, H: Held<Stripe<K, V>>>(
     held: &mut H,
     s: u32,
     power: u32,
@@ -64,7 +66,7 @@ fn search_from<K: TableKey, V, H: Held<K, V>>(
 {
     let mut search = Search::start(power, first, second);
     while let Some(bucket) = search.next_bucket() {
-        let sketch = held.sketch((bucket % (1 << s)) as usize, bucket);
+        let sketch = one_stripe::sketch(held, (bucket % (1 << s)) as usize, bucket);
         if let Some(path) = search.feed(sketch) {
             return Some(path);
         }
@@ -74,7 +76,11 @@ fn search_from<K: TableKey, V, H: Held<K, V>>(
 
 /// Carries out the hops of a path among all stripes of a table of 2^s, from its end backwards. Then the bucket at which it
 /// begins has a free slot.
-pub fn follow_path<K: TableKey + Drop, V: Drop, H: Held<K, V>>(held: &mut H, s: u32, path: &Path)
+pub fn follow_path<K: TableKey + Drop, V: Drop, H: Held<Stripe<K, V>>>(
+    held: &mut H,
+    s: u32,
+    path: &Path,
+)
     requires held { AreAllHeld s (H.stripes held.old) }
     requires path { IsPathIn K.hash s (H.stripes held.old) path.now }
     ensures held { AreAllHeld s (H.stripes held.new) }
@@ -104,7 +110,7 @@ pub fn follow_path<K: TableKey + Drop, V: Drop, H: Held<K, V>>(held: &mut H, s: 
 }
 
 // Carries out a hop that can be done, among all stripes of a table of 2^s.
-fn carry_out<K: TableKey + Drop, V: Drop, H: Held<K, V>>(held: &mut H, s: u32, hop: Hop)
+fn carry_out<K: TableKey + Drop, V: Drop, H: Held<Stripe<K, V>>>(held: &mut H, s: u32, hop: Hop)
     requires held { AreAllHeld s (H.stripes held.old) }
     requires below { hop.bucket < 2 ^ hop.power }
     requires target { hop.target ≡ alternate_of hop.power hop.partial hop.bucket }

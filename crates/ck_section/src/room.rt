@@ -15,9 +15,11 @@ ghost use Rattle.ck_section.specs.Room.{power_in, settled_at, AreBothSettled, Is
 use crate::double::{double_all, len, settle_all};
 use crate::entry::find_entry;
 use crate::held::Held;
+use crate::one_stripe;
 use crate::path::{find_path, follow_path};
 use crate::place::{HeldBucket, KeyPlace};
 use ck_key::{KeyHash, TableKey};
+use ck_stripe::Stripe;
 
 /// What a table lacks to make room for a key.
 #[derive(Clone, Copy, Debug, PartialEq, Eq)]
@@ -36,7 +38,7 @@ pub enum Lack {
 /// Entries are displaced where that makes room. Else the table doubles, if it has fewer than 2^max buckets and at least
 /// `min_load` per cent of its slots are taken, and it is tried again. A refused request for memory leaves the table as it
 /// was.
-pub fn make_room<K: TableKey + Drop, V: Drop, H: Held<K, V>>(
+pub fn make_room<K: TableKey + Drop, V: Drop, H: Held<Stripe<K, V>>>(
     held: &mut H,
     s: u32,
     key: &K,
@@ -68,7 +70,7 @@ pub fn make_room<K: TableKey + Drop, V: Drop, H: Held<K, V>>(
 
 // Makes room for the key without growing, if that can be. The key's own stripes are settled and looked into first, and the
 // others only where that is not enough.
-fn room_by_hops<K: TableKey + Drop, V: Drop, H: Held<K, V>>(
+fn room_by_hops<K: TableKey + Drop, V: Drop, H: Held<Stripe<K, V>>>(
     held: &mut H,
     s: u32,
     key: &K,
@@ -98,7 +100,12 @@ fn room_by_hops<K: TableKey + Drop, V: Drop, H: Held<K, V>>(
 }
 
 // Whether there is room for the key as it is. Its two stripes are settled.
-fn has_room<K: TableKey, V, H: Held<K, V>>(held: &mut H, s: u32, key: &K, hash: KeyHash) -> bool
+fn has_room<K: TableKey + Drop, V: Drop, H: Held<Stripe<K, V>>>(
+    held: &mut H,
+    s: u32,
+    key: &K,
+    hash: KeyHash,
+) -> bool
     requires table { IsTable s (H.stripes held.old) }
     requires hash { IsHashOf K.hash (K.name key.now) hash }
     ensures table { IsTable s (H.stripes held.new) }
@@ -114,7 +121,7 @@ fn has_room<K: TableKey, V, H: Held<K, V>>(held: &mut H, s: u32, key: &K, hash: 
 }
 
 // Where the key may be. Its two stripes are settled.
-fn settled_place<K: TableKey, V, H: Held<K, V>>(
+fn settled_place<K: TableKey + Drop, V: Drop, H: Held<Stripe<K, V>>>(
     held: &mut H,
     s: u32,
     _key: &K,
@@ -130,7 +137,7 @@ fn settled_place<K: TableKey, V, H: Held<K, V>>(
     ensures settled { AreBothSettled K.hash s (H.stripes held.new) (K.name _key.now) }
     ensures stays { H.stays held.old held.new }
 {
-    let power = held.power(0);
+    let power = one_stripe::power(held, 0);
     let first = ck_key::index(power, hash.hash);
     let alternate = ck_key::alternate(power, hash.partial, first);
     KeyPlace {
@@ -142,7 +149,11 @@ fn settled_place<K: TableKey, V, H: Held<K, V>>(
 }
 
 // A bucket of a table of 2^s stripes. Its stripe is settled.
-fn settled_bucket<K: TableKey, V, H: Held<K, V>>(held: &mut H, s: u32, bucket: u64) -> HeldBucket
+fn settled_bucket<K: TableKey + Drop, V: Drop, H: Held<Stripe<K, V>>>(
+    held: &mut H,
+    s: u32,
+    bucket: u64,
+) -> HeldBucket
     requires table { IsTable s (H.stripes held.old) }
     requires below { bucket < 2 ^ power_in (H.stripes held.old) }
     ensures bucket { result ≡ record { index = bucket % 2 ^ s; bucket = bucket } }
@@ -150,12 +161,12 @@ fn settled_bucket<K: TableKey, V, H: Held<K, V>>(held: &mut H, s: u32, bucket: u
     ensures stays { H.stays held.old held.new }
 {
     let index = (bucket % (1 << s)) as usize;
-    held.settle(index);
+    one_stripe::settle(held, index);
     HeldBucket { index, bucket }
 }
 
 // Makes room for the key by a displacement, if there is one of at most four hops.
-fn displace<K: TableKey + Drop, V: Drop, H: Held<K, V>>(
+fn displace<K: TableKey + Drop, V: Drop, H: Held<Stripe<K, V>>>(
     held: &mut H,
     s: u32,
     key: &K,
@@ -182,7 +193,7 @@ fn displace<K: TableKey + Drop, V: Drop, H: Held<K, V>>(
 }
 
 // Doubles the table, if it may.
-fn grow<K: TableKey + Drop, V: Drop, H: Held<K, V>>(
+fn grow<K: TableKey + Drop, V: Drop, H: Held<Stripe<K, V>>>(
     held: &mut H,
     s: u32,
     max: u32,
@@ -202,7 +213,7 @@ fn grow<K: TableKey + Drop, V: Drop, H: Held<K, V>>(
         (power_in (H.stripes held.new) ≡ power_in (H.stripes held.old) + 1) }
     ensures stays { H.stays held.old held.new }
 {
-    let power = held.power(0);
+    let power = one_stripe::power(held, 0);
     if power >= max {
         return Err(Lack::Full);
     }
@@ -216,7 +227,7 @@ fn grow<K: TableKey + Drop, V: Drop, H: Held<K, V>>(
 }
 
 // Whether fewer than `min_load` per cent of the slots of a table of 2^power buckets are taken.
-fn is_too_empty<K: TableKey + Drop, V: Drop, H: Held<K, V>>(
+fn is_too_empty<K: TableKey + Drop, V: Drop, H: Held<Stripe<K, V>>>(
     held: &mut H,
     s: u32,
     power: u32,

@@ -8,12 +8,14 @@ ghost use Rattle.ck_section.specs.TwoNames.{IsChangeOfTwo};
 
 use crate::held::Held;
 use crate::look::find_slot;
+use crate::one_stripe;
 use crate::place::KeyPlace;
 use ck_key::TableKey;
+use ck_stripe::Stripe;
 
 /// Binds two different keys to what the closure makes of their two values, in order, and says whether both were bound.
 /// Where one was not, nothing changes and the closure is not called.
-pub fn update_two<K: TableKey + Drop, V: Drop, H: Held<K, V>, F: FnOnce(V, V) -> (V, V)>(
+pub fn update_two<K: TableKey + Drop, V: Drop, H: Held<Stripe<K, V>>, F: FnOnce(V, V) -> (V, V)>(
     held: &mut H,
     a: &K,
     place_a: KeyPlace,
@@ -43,10 +45,11 @@ where
     let Some(at_b) = find_slot(held, place_b, b) else {
         return false;
     };
-    let (key_a, value_a) = held.remove(at_a.index, at_a.bucket, at_a.slot);
-    let (key_b, value_b) = held.remove(at_b.index, at_b.bucket, at_b.slot);
+    let (key_a, value_a) = one_stripe::remove(held, at_a.index, at_a.bucket, at_a.slot);
+    let (key_b, value_b) = one_stripe::remove(held, at_b.index, at_b.bucket, at_b.slot);
     let (value_a, value_b) = f(value_a, value_b);
-    held.place(
+    one_stripe::place(
+        held,
         at_a.index,
         at_a.bucket,
         at_a.slot,
@@ -54,7 +57,8 @@ where
         key_a,
         value_a,
     );
-    held.place(
+    one_stripe::place(
+        held,
         at_b.index,
         at_b.bucket,
         at_b.slot,

@@ -13,8 +13,8 @@ pub record IsLeastPower (n power : ℕ) : Type 0 where
   pub least : (p : ℕ) → 1 ≤ p → n ≤ 4 * 2 ^ p → power ≤ p
 
 module _ {V : Type 0} where
-  -- A table of these settings was to have 2^power buckets at least. Answered, it has them, as the pass was told: as many as that where the call made it grow, and then
-  -- the pass had been told of fewer. Refused for want of memory, it has fewer.
+  -- A table of these settings was to have 2^power buckets at least. Answered, the pass was told that it has them: just so many where the call made it grow, and then
+  -- the pass had been told of fewer before. Refused for want of memory, the pass was told of fewer.
   pub record Rehashes (set : Settings) (power : ℕ) (result : Result Bool GrowFault) (p p2 : PassState V) : Type 0 where
     pub over_max : (result ≡ Err OverMax) ↔ (set.max < power)
     pub unchanged : result ≡ Err OverMax → p2 ≡ p

@@ -10,6 +10,7 @@ ghost use Rattle.ck_words.specs.Commits.{call_of};
 
 use ck_key::TableKey;
 use ck_section::{Entry, Held, KeyPlace, assign, insert, upsert};
+use ck_stripe::Stripe;
 use ck_words::Commit;
 use std::snapshot::Snapshot;
 
@@ -32,7 +33,7 @@ pub(crate) trait Insertion<K: TableKey, V>: Drop {
         ensures { call_of K.name result ≡ On (K.name key.now) (asks value.now) };
 
     // Makes it of the entry of the key.
-    fn make<H: Held<K, V>>(
+    fn make<H: Held<Stripe<K, V>>>(
         self,
         held: &mut H,
         place: KeyPlace,
@@ -72,7 +73,7 @@ impl<K: TableKey + Drop, V: Drop> Insertion<K, V> for Insert {
     }
 
     #[inline(always)]
-    fn make<H: Held<K, V>>(
+    fn make<H: Held<Stripe<K, V>>>(
         self,
         held: &mut H,
         place: KeyPlace,
@@ -107,7 +108,7 @@ impl<K: TableKey + Drop, V: Drop> Insertion<K, V> for Assign {
     }
 
     #[inline(always)]
-    fn make<H: Held<K, V>>(
+    fn make<H: Held<Stripe<K, V>>>(
         self,
         held: &mut H,
         place: KeyPlace,
@@ -146,7 +147,7 @@ where
     }
 
     #[inline(always)]
-    fn make<H: Held<K, V>>(
+    fn make<H: Held<Stripe<K, V>>>(
         self,
         held: &mut H,
         place: KeyPlace,

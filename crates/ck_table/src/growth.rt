@@ -13,6 +13,7 @@ use crate::table::Table;
 use ck_key::TableKey;
 use ck_model::settings::Settings;
 use ck_section::{Held, double_all, settle_all};
+use ck_stripe::Stripe;
 use ck_words::{Lent, Pass};
 use std::alloc::AllocError;
 
@@ -79,7 +80,7 @@ fn least_power(n: u64) -> u32
 
 // Doubles a table of 2^s stripes until it has 2^power buckets, and says whether it had fewer. The last doubling is left to be
 // carried out.
-fn double_to<K: TableKey + Drop, V: Drop, H: Held<K, V>>(
+fn double_to<K: TableKey + Drop, V: Drop, H: Held<Stripe<K, V>>>(
     held: &mut H,
     s: u32,
     power: u32,
@@ -96,7 +97,7 @@ fn double_to<K: TableKey + Drop, V: Drop, H: Held<K, V>>(
         × (power_in (H.stripes held.new) < power)) }
     ensures stays { H.stays held.old held.new }
 {
-    let before = held.power(0);
+    let before = ck_section::power(held, 0);
     'doublings: for _ in before..power {
         settle_all(held);
         double_all(held, s)?;

@@ -160,7 +160,7 @@ impl<K: TableKey + Drop, V: Drop> Table<K, V> {
         if let Some(entry) = find_entry(&mut lent, spot.place, key) {
             return Ok(Room { spot, entry });
         }
-        let power = lent.power(0);
+        let power = ck_section::power(&mut lent, 0);
         let Lent { pass, .. } = lent;
         self.words.refuse_full(pass, spot.stripes, key);
         Err(power)

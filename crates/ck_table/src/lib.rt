@@ -1,5 +1,5 @@
-//! A concurrent cuckoo hash map: any number of callers work on one table from their own threads, each with a pass of its
-//! own, and every answered call stands once in one legal history of a plain map.
+//! A concurrent cuckoo hash map: as many callers as a table is opened for work on it from their own threads, each with a
+//! pass of its own, and every answered call stands once in one legal history of a plain map.
 //!
 //! An entry is in one of the two buckets of its key (Pagh and Rodler 2004, "Cuckoo Hashing"), and a bucket has four
 //! slots (Dietzfelbinger and Weidling 2007). Striped locks guard the buckets (Li, Andersen, Kaminsky, Freedman 2014,

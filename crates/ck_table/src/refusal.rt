@@ -16,7 +16,8 @@ pub enum OpenFault {
     Memory,
 }
 
-/// This stripe of the call's keys was found held in as many tries in a row as the settings allow. The call changed nothing.
+/// This stripe was found held in as many tries in a row as the settings allow, and the call changed nothing. It is one of
+/// the call's keys; of a call that takes all stripes it is any, and of one that asks for the power the stripe 0.
 #[derive(Debug, Clone, Copy, PartialEq, Eq, Error)]
 #[error("stripe {0} is busy")]
 pub struct Busy(pub u32);

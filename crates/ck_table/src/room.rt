@@ -24,6 +24,7 @@ use crate::table::Table;
 use ck_key::{KeyHash, TableKey, alternate, index};
 use ck_model::settings::Settings;
 use ck_section::{Entry, Held, HeldBucket, KeyPlace, Lack, find_entry, make_room};
+use ck_stripe::Stripe;
 use ck_words::{Lent, Pass};
 
 // Where a key may be among the stripes that its pass holds, those of the key or all of the table, and its entry there.
@@ -96,7 +97,7 @@ impl<K: TableKey + Drop, V: Drop> Table<K, V> {
 
 // Makes room for the key, whose hash the caller has at hand, among all stripes of a table. Where it may be among them comes
 // back, and its entry there.
-fn make_entry<K: TableKey + Drop, V: Drop, H: Held<K, V>>(
+fn make_entry<K: TableKey + Drop, V: Drop, H: Held<Stripe<K, V>>>(
     held: &mut H,
     settings: Settings,
     key: &K,
@@ -132,7 +133,7 @@ fn make_entry<K: TableKey + Drop, V: Drop, H: Held<K, V>>(
 }
 
 // Where the key, whose hash the caller has at hand, may be among all stripes of a table of 2^s. Its own two are settled.
-fn place_in_table<K: TableKey, V, H: Held<K, V>>(
+fn place_in_table<K: TableKey + Drop, V: Drop, H: Held<Stripe<K, V>>>(
     held: &mut H,
     s: u32,
     _key: &K,
@@ -146,7 +147,7 @@ fn place_in_table<K: TableKey, V, H: Held<K, V>>(
     ensures same { H.stripes held.new ≡ H.stripes held.old }
     ensures stays { H.stays held.old held.new }
 {
-    let power = held.power(0);
+    let power = ck_section::power(held, 0);
     let first = index(power, hash.hash);
     KeyPlace {
         s,

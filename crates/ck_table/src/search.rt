@@ -73,7 +73,7 @@ impl<K: TableKey + Drop, V: Drop> Table<K, V> {
             pass,
             set: stripe,
         };
-        let seen = if lent.power(0) == power {
+        let seen = if ck_section::power(&mut lent, 0) == power {
             Some(sketch(&mut lent, s, bucket))
         } else {
             None

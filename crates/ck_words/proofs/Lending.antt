@@ -1,16 +1,18 @@
 -- The stripes of a pass are lent to calls.
 use Rattle.std.proofs.Common.{◌≡◌, ℕ, ◌%◌, ◌^◌, ◌<◌, List, [], ◌∷◌, zero, suc, length, get_or, reverse, sym, ap, ◌∙◌, subst, arith}
+use Rattle.std.specs.Prelude.{slice_set}
+use Rattle.std.proofs.lemmas.List.{get_or_default, length-set}
 use Rattle.ck_model.specs.Numbered.{IsIn, numbers}
 use Rattle.ck_stripe.specs.Stripe.{StripeState}
-use Rattle.ck_section.specs.Stripes.{stripe_at, contents_of, IsInReach}
+use Rattle.ck_section.specs.Stripes.{no_stripe, stripe_at, contents_of}
 use Rattle.ck_words.specs.Words.{WordsState}
-use Rattle.ck_words.specs.Passes.{PassState, EachOf, IsSeated, IsPassOf, stripes_in, state_of, numbers_of}
+use Rattle.ck_words.specs.Passes.{PassState, EachOf, IsSeated, IsPassOf, stripes_in, held_in, state_of, numbers_of}
 use Rattle.ck_words.specs.InPlace.{StripeSeat, HoldsAt, Puts}
 use Rattle.ck_words.proofs.Settling.{counts, named}
 use Rattle.ck_words.proofs.Reversed.{reverse-cons, map-reverse, in_of_reverse}
 use Rattle.ck_words.proofs.Seating.{each_append, numbers-contents}
 use Rattle.ck_words.proofs.Taking.{in_list}
-use Rattle.ck_words.proofs.Turning.{stands_at, same_numbers}
+use Rattle.ck_words.proofs.Turning.{stands_at, same_numbers, put_here}
 
 module _ {V : Type 0} where
   each_reverse : (n : ℕ) (ss : List (StripeState V)) → EachOf n ss → EachOf n (reverse ss)
@@ -29,15 +31,15 @@ module _ {V : Type 0} (old : StripeSeat V) (p : PassState V) (is : state_of old.
       let all = counts p ns numbered in
       stands_at old p view.table n i t s is (own.0 ∙ sym (ap (λ (x : WordsState). x.table) same)) (omega arith) (omega arith) (named p ns i numbered (omega arith) ∙ sym number)
 
-  -- stripe i of the pass is the one of a bucket that is in its reach
-  pub lends_own : (view : WordsState) (i n t b s : ℕ) → view ≡ w → IsSeated old.table_id old.me → n ≡ length ns → s ≡ w.settings.s → IsInReach p.stripes i b → t ≡ b % 2 ^ s → HoldsAt view.table n i t old
-  lends_own view i n t b s same seated count is_s reach number =
+  -- stripe i of the pass is the one that has this bucket
+  pub lends_own : (view : WordsState) (i n t b s : ℕ) → view ≡ w → IsSeated old.table_id old.me → n ≡ length ns → s ≡ w.settings.s → i < length p.stripes → (stripe_at p.stripes i).number ≡ b % 2 ^ (stripe_at p.stripes i).s → t ≡ b % 2 ^ s
+      → HoldsAt view.table n i t old
+  lends_own view i n t b s same seated count is_s inside has number =
       let all = counts p ns numbered in
-      let inside : i < length p.stripes = reach.inside in
       let each : EachOf old.me.0.settings.s p.stripes = subst (λ (q : PassState V). EachOf old.me.0.settings.s q.stripes) is (each_reverse old.me.0.settings.s (stripes_in old.me.1) seated.one_s) in
       let one : old.me.0.settings.s ≡ w.settings.s = ap (λ (q : PassState V). q.view.settings.s) is ∙ ap (λ set. set.s) own.1 in
       let of : (stripe_at p.stripes i).s ≡ s = each_at old.me.0.settings.s p.stripes each i inside ∙ (one ∙ sym is_s) in
-      stands_at old p view.table n i t seated is (own.0 ∙ sym (ap (λ (x : WordsState). x.table) same)) (omega arith) (omega arith) (sym reach.own.1 ∙ (ap (λ m. b % 2 ^ m) of ∙ sym number))
+      stands_at old p view.table n i t seated is (own.0 ∙ sym (ap (λ (x : WordsState). x.table) same)) (omega arith) (omega arith) (has ∙ (ap (λ m. b % 2 ^ m) of ∙ sym number))
 
   -- the numbers are below that of the slots
   pub lent_below : (i t : ℕ) → IsSeated old.table_id old.me → i < length ns → t ≡ get_or ns i 0 → t < old.table_id.slots
@@ -53,3 +55,17 @@ module _ {V : Type 0} (old : StripeSeat V) (p : PassState V) (is : state_of old.
 
     pub still_numbered : numbers_of (state_of new.table_id new.me).stripes ≡ ns
     still_numbered = same_numbers old new i stripe puts ∙ (ap (λ (q : PassState V). numbers_of q.stripes) is ∙ numbered)
+
+-- a visitor at stripe i left this one there
+module _ {V : Type 0} (old new : StripeSeat V) (p : PassState V) (is : state_of old.table_id old.me ≡ p) (i : ℕ) (inside : i < length p.stripes) (after : StripeState V) (puts : Puts i after old new) (d : StripeState V) where
+  pub found_there : stripe_at (held_in old.me.1) i ≡ get_or p.stripes i d
+  found_there = ap (λ (q : PassState V). stripe_at q.stripes i) is ∙ get_or_default p.stripes i no_stripe d inside
+
+  pub left_there : after ≡ get_or (held_in new.me.1) i d
+  left_there =
+      let before : i < length (held_in old.me.1) = subst (λ (q : PassState V). i < length q.stripes) (sym is) inside in
+      let count : length (held_in new.me.1) ≡ length (held_in old.me.1) = ap length puts.stripes ∙ length-set (held_in old.me.1) i after in
+      sym (put_here old new i after before puts) ∙ get_or_default (held_in new.me.1) i no_stripe d (omega arith)
+
+  pub only_there : held_in new.me.1 ≡ slice_set p.stripes i (get_or (held_in new.me.1) i d)
+  only_there = puts.stripes ∙ λ j. slice_set (is j).stripes i (left_there j)

@@ -8,8 +8,8 @@ use crate::slots;
 use crate::stripe_set::StripeSet;
 use crate::words::Words;
 use ck_key::TableKey;
-use ck_section::Held;
-use std::alloc::AllocError;
+use ck_section::{Held, Visitor};
+use ck_stripe::Stripe;
 
 /// The stripes that a pass holds, lent to calls that work on them in their slots.
 #[derive(Drop)]
@@ -22,7 +22,7 @@ pub struct Lent<'a, K: TableKey, V> {
     ghost of_table: { set.s ≡ words.now.settings.s },
 }
 
-impl<K: TableKey + Drop, V: Drop> Held<K, V> for Lent<'_, K, V> {
+impl<K: TableKey + Drop, V: Drop> Held<Stripe<K, V>> for Lent<'_, K, V> {
     ghost use Rattle.std.specs.Prelude.{◌≡◌};
 
     ghost stripes = { λ l. l.pass.now.stripes };
@@ -47,128 +47,26 @@ impl<K: TableKey + Drop, V: Drop> Held<K, V> for Lent<'_, K, V> {
     }
 
     #[inline(always)]
-    fn power(&mut self, i: usize) -> u32 {
+    fn visit<W: Visitor<Stripe<K, V>>>(&mut self, i: usize, visitor: W) -> W::Answer {
         let (words, set) = (self.words, self.set);
         let pass = &mut *self.pass;
         let shared = &words.table.shared;
-        slots::power_at(shared, &mut pass.seat, set.count(), i, set.at(i))
+        slots::visit_at(shared, &mut pass.seat, set.count(), i, set.at(i), visitor)
     }
 
-    fn len(&mut self, i: usize) -> u64 {
-        let (words, set) = (self.words, self.set);
-        let pass = &mut *self.pass;
-        let shared = &words.table.shared;
-        slots::len_at(shared, &mut pass.seat, set.count(), i, set.at(i))
-    }
-
+    // The number of the stripe is that of the bucket, so it needn't be chosen among those of the set.
     #[inline(always)]
-    fn look(&mut self, i: usize, b: u64, key: &K, partial: u8) -> Option<usize> {
+    fn visit_bucket<W: Visitor<Stripe<K, V>>>(
+        &mut self,
+        i: usize,
+        b: u64,
+        visitor: W,
+    ) -> W::Answer {
         let (words, set) = (self.words, self.set);
         let t = set.stripe_of(b);
         let pass = &mut *self.pass;
         let shared = &words.table.shared;
-        slots::look_at(shared, &mut pass.seat, set.count(), i, t, b, key, partial)
-    }
-
-    #[inline(always)]
-    fn free(&mut self, i: usize, b: u64) -> Option<usize> {
-        let (words, set) = (self.words, self.set);
-        let t = set.stripe_of(b);
-        let pass = &mut *self.pass;
-        let shared = &words.table.shared;
-        slots::free_at(shared, &mut pass.seat, set.count(), i, t, b)
-    }
-
-    fn sketch(&mut self, i: usize, b: u64) -> [Option<u8>; 4] {
-        let (words, set) = (self.words, self.set);
-        let t = set.stripe_of(b);
-        let pass = &mut *self.pass;
-        let shared = &words.table.shared;
-        slots::sketch_at(shared, &mut pass.seat, set.count(), i, t, b)
-    }
-
-    #[inline(always)]
-    fn read<R, F: FnOnce(&V) -> R>(&mut self, i: usize, b: u64, slot: usize, f: F) -> R {
-        let (words, set) = (self.words, self.set);
-        let t = set.stripe_of(b);
-        let pass = &mut *self.pass;
-        let shared = &words.table.shared;
-        slots::read_at(shared, &mut pass.seat, set.count(), i, t, b, slot, f)
-    }
-
-    #[inline(always)]
-    fn place(&mut self, i: usize, b: u64, slot: usize, partial: u8, key: K, value: V) {
-        let (words, set) = (self.words, self.set);
-        let t = set.stripe_of(b);
-        let pass = &mut *self.pass;
-        let shared = &words.table.shared;
-        slots::place_at(
-            shared,
-            &mut pass.seat,
-            set.count(),
-            i,
-            t,
-            b,
-            slot,
-            partial,
-            key,
-            value,
-        );
-    }
-
-    #[inline(always)]
-    fn remove(&mut self, i: usize, b: u64, slot: usize) -> (K, V) {
-        let (words, set) = (self.words, self.set);
-        let t = set.stripe_of(b);
-        let pass = &mut *self.pass;
-        let shared = &words.table.shared;
-        slots::remove_at(shared, &mut pass.seat, set.count(), i, t, b, slot)
-    }
-
-    #[inline(always)]
-    fn replace(&mut self, i: usize, b: u64, slot: usize, value: V) -> V {
-        let (words, set) = (self.words, self.set);
-        let t = set.stripe_of(b);
-        let pass = &mut *self.pass;
-        let shared = &words.table.shared;
-        slots::replace_at(shared, &mut pass.seat, set.count(), i, t, b, slot, value)
-    }
-
-    #[inline(always)]
-    fn change<F: FnOnce(V) -> V>(&mut self, i: usize, b: u64, slot: usize, f: F) {
-        let (words, set) = (self.words, self.set);
-        let t = set.stripe_of(b);
-        let pass = &mut *self.pass;
-        let shared = &words.table.shared;
-        slots::change_at(shared, &mut pass.seat, set.count(), i, t, b, slot, f);
-    }
-
-    fn settled(&mut self, i: usize) -> bool {
-        let (words, set) = (self.words, self.set);
-        let pass = &mut *self.pass;
-        let shared = &words.table.shared;
-        slots::settled_at(shared, &mut pass.seat, set.count(), i, set.at(i))
-    }
-
-    fn settle(&mut self, i: usize) {
-        let (words, set) = (self.words, self.set);
-        let pass = &mut *self.pass;
-        let shared = &words.table.shared;
-        slots::settle_at(shared, &mut pass.seat, set.count(), i, set.at(i));
-    }
-
-    fn reserve_double(&mut self, i: usize) -> Result<(), AllocError> {
-        let (words, set) = (self.words, self.set);
-        let pass = &mut *self.pass;
-        let shared = &words.table.shared;
-        slots::reserve_double_at(shared, &mut pass.seat, set.count(), i, set.at(i))
-    }
-
-    fn double(&mut self, i: usize) {
-        let (words, set) = (self.words, self.set);
-        let pass = &mut *self.pass;
-        let shared = &words.table.shared;
-        slots::double_at(shared, &mut pass.seat, set.count(), i, set.at(i));
+        slots::visit_at(shared, &mut pass.seat, set.count(), i, t, visitor)
     }
 
     ghost use Rattle.std.proofs.Common.{refl, ◌∙◌};

@@ -8,6 +8,7 @@ use crate::pass::Pass;
 use crate::slots;
 use crate::words::Words;
 use ck_key::TableKey;
+use ck_stripe::Stripe;
 
 impl<K: TableKey + Drop, V: Drop> Words<K, V> {
     /// The power, as stripe 0 has it: the table has 2^power buckets, and the pass has then been told of that power. Where
@@ -39,6 +40,13 @@ impl<K: TableKey + Drop, V: Drop> Words<K, V> {
         ensures value { result ≡ (stripe_at pass.old.stripes 0).content.power }
         ensures same { pass.new ≡ pass.old }
     {
-        slots::power_at(&self.table.shared, &mut pass.seat, 1, 0, 0)
+        slots::visit_at(
+            &self.table.shared,
+            &mut pass.seat,
+            1,
+            0,
+            0,
+            |stripe: &mut Stripe<K, V>| stripe.power(),
+        )
     }
 }

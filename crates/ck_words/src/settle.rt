@@ -13,6 +13,7 @@ use crate::slots;
 use crate::stripe_set::StripeSet;
 use crate::words::Words;
 use ck_key::TableKey;
+use ck_stripe::Stripe;
 
 impl<K: TableKey + Drop, V: Drop> Words<K, V> {
     /// Carries out the doublings that are left of the stripes of a set, which were just taken.
@@ -95,7 +96,14 @@ impl<K: TableKey + Drop, V: Drop> Words<K, V> {
         ensures value { result ≡ (stripe_at pass.old.stripes i).settled }
         ensures same { pass.new ≡ pass.old }
     {
-        slots::settled_at(&self.table.shared, &mut pass.seat, count, i, t)
+        slots::visit_at(
+            &self.table.shared,
+            &mut pass.seat,
+            count,
+            i,
+            t,
+            |stripe: &mut Stripe<K, V>| stripe.settled(),
+        )
     }
 
     // Carries out the doubling of stripe `i` of `count` that the pass holds, number `t`.
@@ -107,6 +115,13 @@ impl<K: TableKey + Drop, V: Drop> Words<K, V> {
         ensures own { IsPassOf self.now pass.new }
         ensures settled { pass.new ≡ record pass.old { stripes = settled_also i pass.old.stripes } }
     {
-        slots::settle_at(&self.table.shared, &mut pass.seat, count, i, t);
+        slots::visit_at(
+            &self.table.shared,
+            &mut pass.seat,
+            count,
+            i,
+            t,
+            |stripe: &mut Stripe<K, V>| stripe.settle(),
+        );
     }
 }

@@ -10,6 +10,7 @@ use crate::pass::Pass;
 use crate::slots;
 use crate::words::Words;
 use ck_key::TableKey;
+use ck_stripe::Stripe;
 
 impl<K: TableKey + Drop, V: Drop> Words<K, V> {
     /// The number of entries of all stripes.
@@ -37,6 +38,13 @@ impl<K: TableKey + Drop, V: Drop> Words<K, V> {
         ensures same { pass.new ≡ pass.old }
     {
         let count = self.table.slot_count();
-        slots::len_at(&self.table.shared, &mut pass.seat, count, t, t)
+        slots::visit_at(
+            &self.table.shared,
+            &mut pass.seat,
+            count,
+            t,
+            t,
+            |stripe: &mut Stripe<K, V>| stripe.len(),
+        )
     }
 }

@@ -13,10 +13,11 @@
 //! ```
 //!
 //! Each answered call takes effect once, at one moment, in one legal sequential history of a plain map, with the reply that
-//! the map gives there. A call that finds a stripe of its key held too often is refused as [`Busy`], and an insertion for
-//! which there is no room as [`Refused`]; either hands back what it was given, and changes no binding.
+//! the map gives there. A call that finds a stripe held too often is refused as [`Busy`], and an insertion for which there is
+//! no room as [`Refused`]. Neither changes a binding. A refused insertion hands back key and value, a refused update the
+//! value; a closure is dropped.
 //!
-//! Contracts cite the definitions of `specs/`, which has those of the crates below.
+//! Contracts cite definitions of `specs/`, which hands on those of the crates below that a caller needs.
 #![tactic(auto)]
 
 pub use ck_key::{KeyFault, NumKey, TableKey, TextKey};

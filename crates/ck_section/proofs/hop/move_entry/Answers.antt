@@ -28,7 +28,7 @@ place-requires-clause-reach g c =
     let stripes : List (StripeState V) = g.H.Held.stripes c.args.held.now in
     let power = sym c.power.ensures.value ∙ c.if-power-hop.false in
     let seen : g.H.Held.stripes c.has_partial.new.held ≡ stripes = c.has_partial.ensures.same ∙ c.power.ensures.same in
-    let same : g.H.Held.stripes c.free.new.self ≡ stripes = c.free.ensures.same ∙ seen in
+    let same : g.H.Held.stripes c.free.new.held ≡ stripes = c.free.ensures.same ∙ seen in
     let name : Name = g.K.TableKey.name c.remove-key.result.0 in
     let value : V = c.remove-key.result.1 in
     let from : HeldSlot = source_in c.args.from c.args.hop in
@@ -37,7 +37,7 @@ place-requires-clause-reach g c =
     let has : HasPartial g.K.TableKey.hash (slot_in stripes from) c.args.hop.partial = subst (λ (l : List (StripeState V)). HasPartial g.K.TableKey.hash (slot_in l from) c.args.hop.partial) c.power.ensures.same c.if-not-has_partial.ensures.value in
     let partial : partial_of (g.K.TableKey.hash name) ≡ c.args.hop.partial = ap (λ n. partial_of (g.K.TableKey.hash n)) (some_pair_parts _ _ _ _ (sym entry ∙ has.entry)).0 ∙ has.partial_is in
     let free : slot_in stripes to ≡ None = ap (λ (l : List (StripeState V)). slot_in l to) (sym seen) ∙ c.in-Some.ensures.found in
-    let mid : g.H.Held.stripes c.remove-key.new.self ≡ lifted stripes c.args.from c.args.hop = c.remove-key.ensures.content ∙ ap (λ (l : List (StripeState V)). lifted l c.args.from c.args.hop) same in
+    let mid : g.H.Held.stripes c.remove-key.new.held ≡ lifted stripes c.args.from c.args.hop = c.remove-key.ensures.content ∙ ap (λ (l : List (StripeState V)). lifted l c.args.from c.args.hop) same in
     subst (λ (l : List (StripeState V)). IsInReach l c.args.to c.args.hop.target) (sym mid) (still_reach g.K.TableKey.hash stripes c.args.from c.args.to c.args.hop c.requires power to refl refl c.in-Some.ensures.below c.if-not-has_partial.ensures.below name value entry partial free)
 
 pub place-requires-clause-free : goal.place-requires-clause-free
@@ -46,7 +46,7 @@ place-requires-clause-free g c =
     let stripes : List (StripeState V) = g.H.Held.stripes c.args.held.now in
     let power = sym c.power.ensures.value ∙ c.if-power-hop.false in
     let seen : g.H.Held.stripes c.has_partial.new.held ≡ stripes = c.has_partial.ensures.same ∙ c.power.ensures.same in
-    let same : g.H.Held.stripes c.free.new.self ≡ stripes = c.free.ensures.same ∙ seen in
+    let same : g.H.Held.stripes c.free.new.held ≡ stripes = c.free.ensures.same ∙ seen in
     let name : Name = g.K.TableKey.name c.remove-key.result.0 in
     let value : V = c.remove-key.result.1 in
     let from : HeldSlot = source_in c.args.from c.args.hop in
@@ -55,7 +55,7 @@ place-requires-clause-free g c =
     let has : HasPartial g.K.TableKey.hash (slot_in stripes from) c.args.hop.partial = subst (λ (l : List (StripeState V)). HasPartial g.K.TableKey.hash (slot_in l from) c.args.hop.partial) c.power.ensures.same c.if-not-has_partial.ensures.value in
     let partial : partial_of (g.K.TableKey.hash name) ≡ c.args.hop.partial = ap (λ n. partial_of (g.K.TableKey.hash n)) (some_pair_parts _ _ _ _ (sym entry ∙ has.entry)).0 ∙ has.partial_is in
     let free : slot_in stripes to ≡ None = ap (λ (l : List (StripeState V)). slot_in l to) (sym seen) ∙ c.in-Some.ensures.found in
-    let mid : g.H.Held.stripes c.remove-key.new.self ≡ lifted stripes c.args.from c.args.hop = c.remove-key.ensures.content ∙ ap (λ (l : List (StripeState V)). lifted l c.args.from c.args.hop) same in
+    let mid : g.H.Held.stripes c.remove-key.new.held ≡ lifted stripes c.args.from c.args.hop = c.remove-key.ensures.content ∙ ap (λ (l : List (StripeState V)). lifted l c.args.from c.args.hop) same in
     ap (λ (l : List (StripeState V)). slot_in l to) mid ∙ still_free g.K.TableKey.hash stripes c.args.from c.args.to c.args.hop c.requires power to refl refl c.in-Some.ensures.below c.if-not-has_partial.ensures.below name value entry partial free
 
 pub returns-clause-moved : goal.returns-clause-moved
@@ -64,7 +64,7 @@ returns-clause-moved g c =
     let stripes : List (StripeState V) = g.H.Held.stripes c.args.held.now in
     let power = sym c.power.ensures.value ∙ c.if-power-hop.false in
     let seen : g.H.Held.stripes c.has_partial.new.held ≡ stripes = c.has_partial.ensures.same ∙ c.power.ensures.same in
-    let same : g.H.Held.stripes c.free.new.self ≡ stripes = c.free.ensures.same ∙ seen in
+    let same : g.H.Held.stripes c.free.new.held ≡ stripes = c.free.ensures.same ∙ seen in
     let name : Name = g.K.TableKey.name c.remove-key.result.0 in
     let value : V = c.remove-key.result.1 in
     let from : HeldSlot = source_in c.args.from c.args.hop in
@@ -73,7 +73,7 @@ returns-clause-moved g c =
     let has : HasPartial g.K.TableKey.hash (slot_in stripes from) c.args.hop.partial = subst (λ (l : List (StripeState V)). HasPartial g.K.TableKey.hash (slot_in l from) c.args.hop.partial) c.power.ensures.same c.if-not-has_partial.ensures.value in
     let partial : partial_of (g.K.TableKey.hash name) ≡ c.args.hop.partial = ap (λ n. partial_of (g.K.TableKey.hash n)) (some_pair_parts _ _ _ _ (sym entry ∙ has.entry)).0 ∙ has.partial_is in
     let free : slot_in stripes to ≡ None = ap (λ (l : List (StripeState V)). slot_in l to) (sym seen) ∙ c.in-Some.ensures.found in
-    let mid : g.H.Held.stripes c.remove-key.new.self ≡ lifted stripes c.args.from c.args.hop = c.remove-key.ensures.content ∙ ap (λ (l : List (StripeState V)). lifted l c.args.from c.args.hop) same in
+    let mid : g.H.Held.stripes c.remove-key.new.held ≡ lifted stripes c.args.from c.args.hop = c.remove-key.ensures.content ∙ ap (λ (l : List (StripeState V)). lifted l c.args.from c.args.hop) same in
     record {
       name = name;
       value = value;
@@ -92,7 +92,7 @@ returns-clause-no_call g c =
     let stripes : List (StripeState V) = g.H.Held.stripes c.args.held.now in
     let power = sym c.power.ensures.value ∙ c.if-power-hop.false in
     let seen : g.H.Held.stripes c.has_partial.new.held ≡ stripes = c.has_partial.ensures.same ∙ c.power.ensures.same in
-    let same : g.H.Held.stripes c.free.new.self ≡ stripes = c.free.ensures.same ∙ seen in
+    let same : g.H.Held.stripes c.free.new.held ≡ stripes = c.free.ensures.same ∙ seen in
     let name : Name = g.K.TableKey.name c.remove-key.result.0 in
     let value : V = c.remove-key.result.1 in
     let from : HeldSlot = source_in c.args.from c.args.hop in
@@ -101,8 +101,8 @@ returns-clause-no_call g c =
     let has : HasPartial g.K.TableKey.hash (slot_in stripes from) c.args.hop.partial = subst (λ (l : List (StripeState V)). HasPartial g.K.TableKey.hash (slot_in l from) c.args.hop.partial) c.power.ensures.same c.if-not-has_partial.ensures.value in
     let partial : partial_of (g.K.TableKey.hash name) ≡ c.args.hop.partial = ap (λ n. partial_of (g.K.TableKey.hash n)) (some_pair_parts _ _ _ _ (sym entry ∙ has.entry)).0 ∙ has.partial_is in
     let free : slot_in stripes to ≡ None = ap (λ (l : List (StripeState V)). slot_in l to) (sym seen) ∙ c.in-Some.ensures.found in
-    let mid : g.H.Held.stripes c.remove-key.new.self ≡ lifted stripes c.args.from c.args.hop = c.remove-key.ensures.content ∙ ap (λ (l : List (StripeState V)). lifted l c.args.from c.args.hop) same in
-    no_call g.K.TableKey.hash stripes c.args.from c.args.to c.args.hop c.requires power to refl refl c.in-Some.ensures.below c.if-not-has_partial.ensures.below name value entry partial free (g.H.Held.stripes c.place.new.self)
+    let mid : g.H.Held.stripes c.remove-key.new.held ≡ lifted stripes c.args.from c.args.hop = c.remove-key.ensures.content ∙ ap (λ (l : List (StripeState V)). lifted l c.args.from c.args.hop) same in
+    no_call g.K.TableKey.hash stripes c.args.from c.args.to c.args.hop c.requires power to refl refl c.in-Some.ensures.below c.if-not-has_partial.ensures.below name value entry partial free (g.H.Held.stripes c.place.new.held)
     (c.place.ensures.content ∙ ap (λ (l : List (StripeState V)). set_slot l to (Some (name, value)) ((stripe_at l c.args.to).content.ledger + 1)) mid)
 
 pub returns-clause-stays : goal.returns-clause-stays
@@ -129,7 +129,7 @@ pub returns-then-power-hop-clause-stays : goal.returns-then-power-hop-clause-sta
 returns-then-power-hop-clause-stays g c = c.power.ensures.stays
 
 pub has_partial-requires : goal.has_partial-requires
-has_partial-requires g c = reach_still (g.H.Held.stripes c.args.held.now) (g.H.Held.stripes c.power.new.self) c.power.ensures.same c.args.from c.args.hop.bucket (source_reach g.K.TableKey.hash (g.H.Held.stripes c.args.held.now) c.args.from c.args.to c.args.hop c.requires (sym c.power.ensures.value ∙ c.if-power-hop.false))
+has_partial-requires g c = reach_still (g.H.Held.stripes c.args.held.now) (g.H.Held.stripes c.power.new.held) c.power.ensures.same c.args.from c.args.hop.bucket (source_reach g.K.TableKey.hash (g.H.Held.stripes c.args.held.now) c.args.from c.args.to c.args.hop c.requires (sym c.power.ensures.value ∙ c.if-power-hop.false))
 
 pub returns-then-not-has_partial-clause-exactly : goal.returns-then-not-has_partial-clause-exactly
 returns-then-not-has_partial-clause-exactly g c = λ can. c.if-not-has_partial.ensures.value (subst (λ (l : List (StripeState g.row.V.Denot)). HasPartial g.K.TableKey.hash (slot_in l (source_in c.args.from c.args.hop)) c.args.hop.partial) (sym c.power.ensures.same) can.entry)
@@ -165,7 +165,7 @@ pub returns-in_default-clause-stays : goal.returns-in_default-clause-stays
 returns-in_default-clause-stays g c = g.met.H.Held.stays_on _ _ _ c.power.ensures.stays (g.met.H.Held.stays_on _ _ _ c.has_partial.ensures.stays c.free.ensures.stays)
 
 pub remove-key-requires-clause-reach : goal.remove-key-requires-clause-reach
-remove-key-requires-clause-reach g c = reach_still (g.H.Held.stripes c.args.held.now) (g.H.Held.stripes c.free.new.self) (c.free.ensures.same ∙ c.has_partial.ensures.same ∙ c.power.ensures.same) c.args.from c.args.hop.bucket (source_reach g.K.TableKey.hash (g.H.Held.stripes c.args.held.now) c.args.from c.args.to c.args.hop c.requires (sym c.power.ensures.value ∙ c.if-power-hop.false))
+remove-key-requires-clause-reach g c = reach_still (g.H.Held.stripes c.args.held.now) (g.H.Held.stripes c.free.new.held) (c.free.ensures.same ∙ c.has_partial.ensures.same ∙ c.power.ensures.same) c.args.from c.args.hop.bucket (source_reach g.K.TableKey.hash (g.H.Held.stripes c.args.held.now) c.args.from c.args.to c.args.hop c.requires (sym c.power.ensures.value ∙ c.if-power-hop.false))
 
 pub remove-key-requires-clause-below : goal.remove-key-requires-clause-below
 remove-key-requires-clause-below g c = c.if-not-has_partial.ensures.below
@@ -173,7 +173,7 @@ remove-key-requires-clause-below g c = c.if-not-has_partial.ensures.below
 pub remove-key-requires-clause-full : goal.remove-key-requires-clause-full
 remove-key-requires-clause-full g c =
     let has = subst (λ (l : List (StripeState g.row.V.Denot)). HasPartial g.K.TableKey.hash (slot_in l (source_in c.args.from c.args.hop)) c.args.hop.partial) c.power.ensures.same c.if-not-has_partial.ensures.value in
-    full_still (g.H.Held.stripes c.args.held.now) (g.H.Held.stripes c.free.new.self) (c.free.ensures.same ∙ c.has_partial.ensures.same ∙ c.power.ensures.same) (source_in c.args.from c.args.hop) has.name (has.value, has.entry)
+    full_still (g.H.Held.stripes c.args.held.now) (g.H.Held.stripes c.free.new.held) (c.free.ensures.same ∙ c.has_partial.ensures.same ∙ c.power.ensures.same) (source_in c.args.from c.args.hop) has.name (has.value, has.entry)
 
 pub place-requires-clause-below : goal.place-requires-clause-below
 place-requires-clause-below g c = c.in-Some.ensures.below
@@ -188,5 +188,5 @@ returns-clause-exactly g c =
 
 pub returns-clause-rest : goal.returns-clause-rest
 returns-clause-rest g c =
-    hop_changes (g.H.Held.stripes c.args.held.now) (g.H.Held.stripes c.free.new.self) (g.H.Held.stripes c.remove-key.new.self) (g.H.Held.stripes c.place.new.self)
+    hop_changes (g.H.Held.stripes c.args.held.now) (g.H.Held.stripes c.free.new.held) (g.H.Held.stripes c.remove-key.new.held) (g.H.Held.stripes c.place.new.held)
     (source_in c.args.from c.args.hop) (record { index = c.args.to; bucket = c.args.hop.target; slot = c.in-Some.slot }) _ _ _ _ (c.free.ensures.same ∙ c.has_partial.ensures.same ∙ c.power.ensures.same) c.requires.first c.requires.second c.remove-key.ensures.content c.place.ensures.content

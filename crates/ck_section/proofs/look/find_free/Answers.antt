@@ -31,7 +31,7 @@ returns-then-alternate-first-clause-full g c =
 
 pub free-requires-2 : goal.free-requires-2
 free-requires-2 g c = record {
-  reach = reach_still (g.H.Held.stripes c.args.held.now) (g.H.Held.stripes c.free.new.self) c.free.ensures.same c.args.place.alternate.index c.args.place.alternate.bucket c.requires.alternate_reach;
+  reach = reach_still (g.H.Held.stripes c.args.held.now) (g.H.Held.stripes c.free.new.held) c.free.ensures.same c.args.place.alternate.index c.args.place.alternate.bucket c.requires.alternate_reach;
 }
 
 pub returns-in_err-slot-clause-full : goal.returns-in_err-slot-clause-full

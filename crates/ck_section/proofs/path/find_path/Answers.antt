@@ -18,7 +18,7 @@ given {V} s stripes cur h hash p first second same value partial power one two P
 
 pub returns-clause-path : goal.returns-clause-path
 returns-clause-path g c =
-    given c.args.s (g.H.Held.stripes c.args.held.now) (g.H.Held.stripes c.power-power.new.self) (g.K.TableKey.hash (g.K.TableKey.name c.args._key.now)) c.args.hash c.power-power.result c.index-first.result c.alternate-second.result
+    given c.args.s (g.H.Held.stripes c.args.held.now) (g.H.Held.stripes c.power-power.new.held) (g.K.TableKey.hash (g.K.TableKey.name c.args._key.now)) c.args.hash c.power-power.result c.index-first.result c.alternate-second.result
     c.power-power.ensures.same c.requires.hash.value c.requires.hash.partial c.power-power.ensures.value c.index-first.ensures.value c.alternate-second.ensures.value
     (λ (p : ℕ) (l : List (StripeState g.row.V.Denot)) (b1 b2 : ℕ). IfSome c.search_from.result (IsShortestPath p (sketch_of g.K.TableKey.hash c.args.s l) b1 b2)) c.search_from.ensures.path
 
@@ -28,6 +28,6 @@ returns-clause-none g c =
     let q = g.K.TableKey.name c.args._key.now in
     none_maps c.search_from.result _ (IsWithoutPath g.K.TableKey.hash c.args.s stripes q)
     (no_path_of c.args.s stripes c.requires.held.table g.K.TableKey.hash q (power_in stripes) refl)
-    (given c.args.s stripes (g.H.Held.stripes c.power-power.new.self) (g.K.TableKey.hash q) c.args.hash c.power-power.result c.index-first.result c.alternate-second.result
+    (given c.args.s stripes (g.H.Held.stripes c.power-power.new.held) (g.K.TableKey.hash q) c.args.hash c.power-power.result c.index-first.result c.alternate-second.result
     c.power-power.ensures.same c.requires.hash.value c.requires.hash.partial c.power-power.ensures.value c.index-first.ensures.value c.alternate-second.ensures.value
     (λ (p : ℕ) (l : List (StripeState g.row.V.Denot)) (b1 b2 : ℕ). IfNone c.search_from.result (HasNoSketchPath p (sketch_of g.K.TableKey.hash c.args.s l) b1 b2)) c.search_from.ensures.none)

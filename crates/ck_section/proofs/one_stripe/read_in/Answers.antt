@@ -1,0 +1,11 @@
+use Rattle.std.proofs.Common.{◌∙◌, ap, refl, sym}
+use Rattle.ck_model.specs.Slots.{slot_at}
+use Rattle.ck_section.proofs.one_stripe.read_in.Goals as goal
+
+pub returns : goal.returns
+returns g c = record {
+  name = _;
+  value = _;
+  there = ap (λ s. slot_at s c.args.slot) (sym c.bucket.ensures.value) ∙ sym c.in-Some.ensures.value;
+  says = (_, c.f.ensures, refl);
+}
