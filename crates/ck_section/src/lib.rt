@@ -1,6 +1,5 @@
 //! Decisions on stripes that a call holds: the calls on one key and on two, and one hop of a displacement; and of all
-//! stripes of a table, their doubling and how room for a key is made. They are written once, over anything that is `Held`:
-//! a slice of stripes, and any other way to hold them.
+//! stripes of a table, their doubling and how room for a key is made. They are written once, over anything that is `Held`.
 #![tactic(auto)]
 
 mod double;
@@ -14,7 +13,6 @@ mod one_stripe;
 mod path;
 mod place;
 mod room;
-mod slice;
 mod two_keys;
 mod whole;
 
@@ -28,6 +26,5 @@ pub use one_key::{assign, change, erase, erase_if, find, insert, update, upsert}
 pub use one_stripe::power;
 pub use place::{HeldBucket, HeldSlot, KeyPlace};
 pub use room::{Lack, make_room};
-pub use slice::Slice;
 pub use two_keys::update_two;
 pub use whole::{are_all, find_in_all, place_in_all};

@@ -50,15 +50,11 @@ same_list [] (y ∷ ys) e f = absurd (omega arith)
 same_list (x ∷ xs) [] e f = absurd (omega arith)
 same_list (x ∷ xs) (y ∷ ys) e f = λ j. f 0 (omega arith) j ∷ same_list xs ys (omega arith) (λ i l. f (suc i) (omega arith)) j
 
-first_of : {A : Type 0} (xs zs : List A) → take (length xs) (xs ++ zs) ≡ xs
-first_of [] zs = refl
-first_of (x ∷ xs) zs = ap (λ l. x ∷ l) (first_of xs zs)
-
--- what a vector has once as many items were written back into it
-pub written_back : {A : Type 0} (new items : List A) (n : ℕ) → length new ≡ n → take n (new ++ drop (length new) items) ≡ new
-written_back new items n count = ap (λ m. take m (new ++ drop (length new) items)) (sym count) ∙ first_of new (drop (length new) items)
-
 module _ {V : Type 0} where
+  -- nothing but what the stripes are has changed
+  pub only_stripes : (p q : PassState V) → (q.table ≡ p.table) × (q.view ≡ p.view) → q ≡ record p { stripes = q.stripes }
+  only_stripes p q same = λ j. record { table = same.0 j; view = same.1 j; stripes = q.stripes }
+
   pub numbered : (s : ℕ) (ss : List (StripeState V)) → IsTable s ss → numbers_of ss ≡ counting 0 (2 ^ s)
   numbered s ss t =
       let n = length-numbers ss in

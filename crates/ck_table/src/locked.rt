@@ -13,7 +13,6 @@ ghost use Rattle.ck_model.specs.Ranges.{AreInRange};
 ghost use Rattle.ck_section.specs.Stripes.{contents_of};
 ghost use Rattle.ck_section.specs.Places.{IsPlaceOf};
 ghost use Rattle.ck_section.specs.Whole.{AreAllHeld};
-ghost use Rattle.ck_section.specs.Entries.{IsEntryOf};
 ghost use Rattle.ck_section.specs.Calls.{effect, IsCall, IsWithoutRoom, ChangesContents};
 ghost use Rattle.ck_section.specs.Room.{KeepsBindings, MakesRoom, GivesReason};
 ghost use Rattle.ck_words.specs.Retries.{FindsAmong};
@@ -27,8 +26,8 @@ use crate::table::Table;
 use ck_key::{KeyHash, TableKey};
 use ck_model::settings::Settings;
 use ck_section::{
-    Entry, KeyPlace, Lack, Slice, erase, export, find_entry, find_in_all, insert, make_room,
-    place_in_all, settle_all,
+    KeyPlace, Lack, erase, export, find_entry, find_in_all, insert, make_room, place_in_all,
+    settle_all,
 };
 use ck_stripe::Stripe;
 use ck_words::{Pass, Whole};
@@ -149,7 +148,7 @@ impl<'t, K: TableKey + Drop, V: Drop> LockedTable<'t, K, V> {
         ensures { HasActed (K.name key.now) Erase (Was result) self.old self.new }
     {
         let place = self.place(key);
-        erase_in(&mut self.whole, place, key)
+        erase(&mut self.whole, place, key)
     }
 
     // Where the key may be among the stripes.
@@ -228,62 +227,10 @@ fn insert_in<K: TableKey + Drop, V: Drop>(
     ensures rest { ChangesContents whole.old.stripes whole.new.stripes }
     ensures same { whole.new ≡ record whole.old { stripes = whole.new.stripes } }
 {
-    insert_into(whole.stripes.as_mut_slice(), place, key, value)
-}
-
-// The same, of a slice of stripes.
-fn insert_into<K: TableKey + Drop, V: Drop>(
-    stripes: &mut [Stripe<K, V>],
-    place: KeyPlace,
-    key: K,
-    value: V,
-) -> Result<bool, (K, V)>
-    requires { IsPlaceOf K.hash stripes.old (K.name key) place }
-    ensures call { IfOk result (λ fresh.
-        IsCall (effect K.hash (λ stripes. stripes) place stripes.old stripes.new) (K.name key)
-        (Insert value) (if fresh then New else Old)) }
-    ensures full { IfErr result (λ back. (back.0 ≡ key) × (back.1 ≡ value)
-        × IsWithoutRoom K.hash place.s stripes.old (K.name key)) }
-    ensures left { OnErr result (stripes.new ≡ stripes.old) }
-    ensures rest { ChangesContents stripes.old stripes.new }
-{
-    match entry_among(stripes, place, &key) {
-        Some(entry) => Ok(fill_entry(stripes, place, entry, key, value)),
+    match find_entry(whole, place, &key) {
+        Some(entry) => Ok(insert(whole, place, entry, key, value)),
         None => Err((key, value)),
     }
-}
-
-// The entry of the key, which may be at this place; `None` where it is unbound and both its buckets are full.
-fn entry_among<K: TableKey + Drop, V: Drop>(
-    stripes: &mut [Stripe<K, V>],
-    place: KeyPlace,
-    key: &K,
-) -> Option<Entry>
-    requires { IsPlaceOf K.hash stripes.old (K.name key.now) place }
-    ensures entry { IfSome result (IsEntryOf K.hash stripes.old (K.name key.now) place) }
-    ensures none { IfNone result (IsWithoutRoom K.hash place.s stripes.old (K.name key.now)) }
-    ensures same { stripes.new ≡ stripes.old }
-{
-    let mut held = Slice { stripes };
-    find_entry(&mut held, place, key)
-}
-
-// Binds the key of the entry where it is unbound, and says whether it was.
-fn fill_entry<K: TableKey + Drop, V: Drop>(
-    stripes: &mut [Stripe<K, V>],
-    place: KeyPlace,
-    entry: Entry,
-    key: K,
-    value: V,
-) -> bool
-    requires place { IsPlaceOf K.hash stripes.old (K.name key) place }
-    requires entry { IsEntryOf K.hash stripes.old (K.name key) place entry }
-    ensures call { IsCall (effect K.hash (λ stripes. stripes) place stripes.old stripes.new)
-        (K.name key) (Insert value) (if result then New else Old) }
-    ensures rest { ChangesContents stripes.old stripes.new }
-{
-    let mut held = Slice { stripes };
-    insert(&mut held, place, entry, key, value)
 }
 
 // Makes room for the key among all stripes, which are then settled.
@@ -298,57 +245,13 @@ fn make_room_in<K: TableKey + Drop, V: Drop>(
         whole.old.stripes whole.new.stripes }
     ensures same { whole.new ≡ record whole.old { stripes = whole.new.stripes } }
 {
-    make_room_among(whole.stripes.as_mut_slice(), settings, key)
-}
-
-// The same, of a slice of stripes.
-fn make_room_among<K: TableKey + Drop, V: Drop>(
-    stripes: &mut [Stripe<K, V>],
-    settings: Settings,
-    key: &K,
-) -> Result<(), Lack>
-    requires held { AreAllHeld settings.s stripes.old }
-    requires range { AreInRange settings }
-    ensures { SeeksRoom K.hash settings (K.name key.now) result stripes.old stripes.new }
-{
     let Settings {
         s,
         max,
         min_load,
         ..
     } = settings;
-    let mut held = Slice { stripes };
-    let made = make_room(&mut held, s, key, KeyHash::of(key), max, min_load);
-    settle_all(&mut held);
+    let made = make_room(whole, s, key, KeyHash::of(key), max, min_load);
+    settle_all(whole);
     made
-}
-
-// Unbinds the key, which may be at this place, and gives the value that it had.
-fn erase_in<K: TableKey + Drop, V: Drop>(
-    whole: &mut Whole<K, V>,
-    place: KeyPlace,
-    key: &K,
-) -> Option<V>
-    requires { IsPlaceOf K.hash whole.old.stripes (K.name key.now) place }
-    ensures call { IsCall (effect K.hash (λ p. p.stripes) place whole.old whole.new)
-        (K.name key.now) Erase (Was result) }
-    ensures rest { ChangesContents whole.old.stripes whole.new.stripes }
-    ensures same { whole.new ≡ record whole.old { stripes = whole.new.stripes } }
-{
-    erase_from(whole.stripes.as_mut_slice(), place, key)
-}
-
-// The same, of a slice of stripes.
-fn erase_from<K: TableKey + Drop, V: Drop>(
-    stripes: &mut [Stripe<K, V>],
-    place: KeyPlace,
-    key: &K,
-) -> Option<V>
-    requires { IsPlaceOf K.hash stripes.old (K.name key.now) place }
-    ensures call { IsCall (effect K.hash (λ stripes. stripes) place stripes.old stripes.new)
-        (K.name key.now) Erase (Was result) }
-    ensures rest { ChangesContents stripes.old stripes.new }
-{
-    let mut held = Slice { stripes };
-    erase(&mut held, place, key)
 }

@@ -9,6 +9,7 @@ use crate::rule::{Board, StripeSeat};
 use crate::slots::turn_by;
 use crate::words::Words;
 use ck_key::TableKey;
+use ck_section::{Held, Visitor};
 use ck_stripe::Stripe;
 use std::marker::Model;
 
@@ -33,6 +34,32 @@ impl<K: TableKey, V> Model for Whole<K, V> {
     } };
 
     ghost invariant = { λ w. IsEmptied w.seat.table_id w.seat.me };
+}
+
+impl<K: TableKey + Drop, V: Drop> Held<Stripe<K, V>> for Whole<K, V> {
+    ghost use Rattle.std.specs.Prelude.{◌≡◌};
+
+    ghost stripes = { λ w. w.stripes };
+
+    ghost stays = { λ w u. (u.table ≡ w.table) × (u.view ≡ w.view) };
+
+    fn count(&self) -> usize {
+        self.stripes.len()
+    }
+
+    fn number(&mut self, i: usize) -> u32 {
+        self.stripes[i].number()
+    }
+
+    fn visit<W: Visitor<Stripe<K, V>>>(&mut self, i: usize, visitor: W) -> W::Answer {
+        visitor.visit(&mut self.stripes[i])
+    }
+
+    ghost use Rattle.std.proofs.Common.{refl, ◌∙◌};
+
+    ghost stays_same = { λ w. (refl, refl) };
+
+    ghost stays_on = { λ w u t e f. (f.0 ∙ e.0, f.1 ∙ e.1) };
 }
 
 impl<K: TableKey + Drop, V: Drop> Words<K, V> {
