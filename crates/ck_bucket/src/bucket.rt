@@ -42,7 +42,8 @@ impl<K: TableKey + Drop, V: Drop> Bucket<K, V> {
         }
     }
 
-    /// The slot with this key, whose partial the caller has at hand; `None` where no slot has the key.
+    /// The slot with this key, whose partial the caller has at hand; `None` where no slot has the
+    /// key.
     pub fn look(&self, key: &K, partial: u8) -> Option<usize>
         requires { partial ≡ partial_of (K.hash (K.name key.now)) }
         ensures below { IfSome result (λ i. i < 4) }
@@ -51,7 +52,8 @@ impl<K: TableKey + Drop, V: Drop> Bucket<K, V> {
         ensures four { length self.now ≡ 4 }
     {
         for i in 0..4 {
-            // Most slots without the key have another partial, and then neither slot nor key is read.
+            // Most slots without the key have another partial, and then neither slot nor key is
+            // read.
             if self.partials[i] == partial {
                 if let Some((other, _)) = self.slots.get(i) {
                     if other == key {
@@ -132,8 +134,8 @@ impl<K: TableKey + Drop, V: Drop> Bucket<K, V> {
         self.slots.change_value(slot, f);
     }
 
-    /// Splits bucket `b` where a table of 2^p buckets doubles: what stays in it is kept, what goes to the bucket 2^p
-    /// above it is given, and each entry keeps its slot.
+    /// Splits bucket `b` where a table of 2^p buckets doubles: what stays in it is kept, what goes
+    /// to the bucket 2^p above it is given, and each entry keeps its slot.
     pub fn split(&mut self, p: u32, b: u64) -> Self
         requires { p < 26 }
         ensures low { self.new ≡ low_row K.hash p b self.old }
@@ -147,7 +149,8 @@ impl<K: TableKey + Drop, V: Drop> Bucket<K, V> {
         high
     }
 
-    // Moves the entry of the slot to the bucket above where it rises. The partial goes along, so the key is hashed once.
+    // Moves the entry of the slot to the bucket above where it rises. The partial goes along, so
+    // the key is hashed once.
     fn split_slot(&mut self, high: &mut Self, slot: usize, p: u32, b: u64)
         requires below { slot < 4 }
         requires power { p < 26 }
@@ -207,8 +210,8 @@ impl<K: TableKey + Drop, V: Drop> Bucket<K, V> {
 }
 
 impl<K: TableKey + Clone, V: Clone> Bucket<K, V> {
-    /// Pushes clones of its pairs, in the order of their slots, into room that was reserved. Where there is no memory for
-    /// a clone, the pairs before it were pushed.
+    /// Pushes clones of its pairs, in the order of their slots, into room that was reserved. Where
+    /// there is no memory for a clone, the pairs before it were pushed.
     pub fn clone_reserved(&self, into: &mut Vec<(K, V)>) -> Result<(), AllocError>
         requires keys { ClonesAreEqual K.is_clone }
         requires values { ClonesAreEqual V.is_clone }

@@ -1,5 +1,5 @@
-//! Four places for a value. They are named fields, since an index into an array of a type parameter is not proved to
-//! fit.
+//! Four places for a value. They are named fields, since an index into an array of a type parameter
+//! is not proved to fit.
 ghost use Rattle.std.specs.Prelude.{◌≡◌, ◌+◌, ◌<◌, ◌≤◌, ◌++◌, vec_len, vec_capacity, None, Some, IsSome, IfSome, OnOk, length, replicate, slice_index_or, slice_set, option_copied};
 ghost use Rattle.std.specs.Option.{option_to_list};
 ghost use Rattle.ck_model.specs.Slots.{taken_in};

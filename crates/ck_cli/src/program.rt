@@ -66,9 +66,10 @@ pub fn refuse<E: Write + Drop>(mut errors: E, failure: Failure) -> u8 {
     failure.status()
 }
 
-/// Does what the words ask for, and gives the exit status: 0 after success, 1 after a fault of a script or a device or
-/// want of memory, 2 for words that are refused. What is wrong is one line on `errors`; on a fault of the script and
-/// where words are refused nothing is written to `output`. `words` are those after the program's name.
+/// Does what the words ask for, and gives the exit status: 0 after success, 1 after a fault of a
+/// script or a device or want of memory, 2 for words that are refused. What is wrong is one line on
+/// `errors`; on a fault of the script and where words are refused nothing is written to `output`.
+/// `words` are those after the program's name.
 pub fn program<R: Files + Threads + Sync, I: Read + Drop, O: Write + Drop, E: Write + Drop>(
     rt: &R,
     alloc: Global,

@@ -18,13 +18,15 @@ pub fn law_of_find_held<V>()
     ensures { (t : ℕ) → Keeps {V = V} (FindHeld t) }
 {}
 
-/// A step by which a caller gives back a stripe unchanged keeps the invariant, whatever it says of room.
+/// A step by which a caller gives back a stripe unchanged keeps the invariant, whatever it says of
+/// room.
 pub fn law_of_give<V>()
     ensures { (t : ℕ) (g : Option (Name × Reason)) → Keeps {V = V} (Give t g) }
 {}
 
-/// A step by which a caller gives back the first stripe after a section, and so decides a call, keeps the invariant: the
-/// entry joins the history, and its reply is the plain map's at that point.
+/// A step by which a caller gives back the first stripe after a section, and so decides a call,
+/// keeps the invariant: the entry joins the history, and its reply is the plain map's at that
+/// point.
 pub fn law_of_decide<V>()
     ensures kept { (t : ℕ) (ks : Stripes V) (e : Entry V) → Keeps (Decide t ks e) }
     ensures reply { LawOfReplies V }
@@ -35,8 +37,8 @@ pub fn law_of_give_rest<V>()
     ensures { (t : ℕ) → Keeps {V = V} (GiveRest t) }
 {}
 
-/// A step by which a caller gives back the first stripe after an identity section, as a displacement or a doubling is,
-/// keeps the invariant.
+/// A step by which a caller gives back the first stripe after an identity section, as a
+/// displacement or a doubling is, keeps the invariant.
 pub fn law_of_renew<V>()
     ensures { (t : ℕ) (ks : Stripes V) (g : Option (Name × Reason)) → Keeps (Renew t ks g) }
 {}
@@ -46,37 +48,41 @@ pub fn law_of_look<V>()
     ensures { (t p : ℕ) → Keeps {V = V} (Look t p) }
 {}
 
-/// The steps by which a new caller begins, by which a caller tells what it has seen, and by which a caller joins
-/// another view to its own keep the invariant.
+/// The steps by which a new caller begins, by which a caller tells what it has seen, and by which a
+/// caller joins another view to its own keep the invariant.
 pub fn law_of_splits<V>()
     ensures opening { Keeps {V = V} Open }
     ensures telling { Keeps {V = V} Tell }
     ensures joining { (other : ℕ) → Keeps {V = V} (Join other) }
 {}
 
-/// Whatever callers do from an opening state on, the invariant holds after each step, with the history of what was decided.
+/// Whatever callers do from an opening state on, the invariant holds after each step, with the
+/// history of what was decided.
 pub fn law_of_runs<V>()
     ensures { LawOfRuns V }
 {}
 
-/// What each view shows while the invariant holds: what was seen and heard are beginnings of one legal history, which has of
-/// its caller just the entries that are its own, all of them seen. The held stripes are lawful, their power is no less
-/// than what was told and heard, and where they are all stripes, the history leads to what they contain. Where a view
-/// keeps the numbers of all callers, the history is an interleaving of their entries.
+/// What each view shows while the invariant holds: what was seen and heard are beginnings of one
+/// legal history, which has of its caller just the entries that are its own, all of them seen. The
+/// held stripes are lawful, their power is no less than what was told and heard, and where they are
+/// all stripes, the history leads to what they contain. Where a view keeps the numbers of all
+/// callers, the history is an interleaving of their entries.
 pub fn law_of_views<V>()
     ensures { LawOfViews V }
 {}
 
-/// A step that decides a call leaves its caller with it answered: to what the caller had seen come some entries of
-/// others and then the call's own, all of that is legal, and the caller has this entry more. Every other step leaves
-/// its caller with the entries that it had, and with no less of the history seen.
+/// A step that decides a call leaves its caller with it answered: to what the caller had seen come
+/// some entries of others and then the call's own, all of that is legal, and the caller has this
+/// entry more. Every other step leaves its caller with the entries that it had, and with no less of
+/// the history seen.
 pub fn law_of_answers<V>()
     ensures decided { LawOfAnswers V }
     ensures other { LawOfOtherSteps V }
 {}
 
-/// Where from some point of a legal history on each entry is a find, a len, a session that changes nothing, or a
-/// change of two that keeps the sum of their values, every later session shows the sum of that point.
+/// Where from some point of a legal history on each entry is a find, a len, a session that changes
+/// nothing, or a change of two that keeps the sum of their values, every later session shows the
+/// sum of that point.
 pub fn law_of_sums()
     ensures { LawOfSums }
 {}

@@ -13,18 +13,20 @@ ghost use Rattle.ck_core.specs.Steps.Label.{Take, FindHeld, Give, Decide, GiveRe
 ghost use Rattle.ck_core.specs.Example.{two_stripes, settings, zero_name, insertion, look_up, empty_stripe, full_stripe, both, first, start, one_held, decided, both_held, alone, steps};
 ghost use Rattle.ck_core.specs.Refusals.{Reaches, IsForbidden, LeavesHome, LeavesView, one_number, one_kept};
 
-/// From the states of the example run after its first, fourth and eighth step, and from the opening, these steps aren't
-/// allowed: to take a stripe below a held one, or one that another caller holds; to find one's own stripe held; to give
-/// back a stripe that isn't held; to decide with a wrong reply, without all stripes of the name, for another caller, or
-/// for a number that no caller can have; to renew to contents that lack an entry; to say of a bound name that it found
-/// no room, by giving back or by renewing; to be told of a power above the table's; to begin a caller where no number is
-/// left; and to join a view that holds a stripe, or one's own.
+/// From the states of the example run after its first, fourth and eighth step, and from the
+/// opening, these steps aren't allowed: to take a stripe below a held one, or one that another
+/// caller holds; to find one's own stripe held; to give back a stripe that isn't held; to decide
+/// with a wrong reply, without all stripes of the name, for another caller, or for a number that no
+/// caller can have; to renew to contents that lack an entry; to say of a bound name that it found
+/// no room, by giving back or by renewing; to be told of a power above the table's; to begin a
+/// caller where no number is left; and to join a view that holds a stripe, or one's own.
 ///
-/// And no allowed step from these states leaves what it must not: a stripe that is given back goes home with the content
-/// that was held; a decision leaves its caller, which had no entry, with no two of its own, and with no two new ones in
-/// what it has seen; and a look tells no lower power. From the opening of one caller that keeps the number 1, a caller
-/// that begins has that number, and the first keeps none. There is no opening where two callers have one number, nor
-/// where one keeps the number that another has.
+/// And no allowed step from these states leaves what it must not: a stripe that is given back goes
+/// home with the content that was held; a decision leaves its caller, which had no entry, with no
+/// two of its own, and with no two new ones in what it has seen; and a look tells no lower power.
+/// From the opening of one caller that keeps the number 1, a caller that begins has that number,
+/// and the first keeps none. There is no opening where two callers have one number, nor where one
+/// keeps the number that another has.
 pub fn wrong_steps()
     ensures one_held_is_reached { Reaches (take 1 steps) [] one_held }
     ensures decided_is_reached { Reaches (take 4 steps) (insertion ∷ []) decided }

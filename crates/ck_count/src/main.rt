@@ -29,7 +29,8 @@ const WORDS: [&str; 6] = ["the", "cat", "dog", "bird", "sang", "mouse"];
 
 type Counter<'t> = Caller<'t, TextKey, u64>;
 
-/// Counts the words of the lines. A new word is bound to 1, and the count of another one goes up by 1.
+/// Counts the words of the lines. A new word is bound to 1, and the count of another one goes up by
+/// 1.
 fn count(alloc: Global, counter: &mut Counter<'_>, lines: &[&str]) -> Result<()> {
     for line in lines {
         for word in line.split_ascii_whitespace() {

@@ -3,8 +3,8 @@
 /// Keys with the numbers to which they are bound.
 pub type Pairs<K> = Vec<(K, u64)>;
 
-/// What a command line is answered; `L` is a list of keys with their numbers. The last four are refusals, and nothing changed
-/// then.
+/// What a command line is answered; `L` is a list of keys with their numbers. The last four are
+/// refusals, and nothing changed then.
 #[derive(Debug, PartialEq, Eq, Drop)]
 pub enum Answer<L> {
     /// The value that is bound to the key.

@@ -1,5 +1,5 @@
-//! The format of scripts and of what a run of one writes: the grammar, the devices that give and take bytes, the reader, the
-//! maker, and the text of the answers.
+//! The format of scripts and of what a run of one writes: the grammar, the devices that give and
+//! take bytes, the reader, the maker, and the text of the answers.
 #![tactic(auto)]
 
 mod answer;

@@ -85,8 +85,8 @@ fn header(workers: u32) -> &'static [u8]
     }
 }
 
-/// Adds the script of so many workers with so many command lines each, which the seed determines. Where memory is refused,
-/// a beginning of it may have been added.
+/// Adds the script of so many workers with so many command lines each, which the seed determines.
+/// Where memory is refused, a beginning of it may have been added.
 pub fn make_script(seed: u64, workers: u32, lines: u32, out: &mut Vec<u8>) -> Result<(), AllocError>
     requires some { 1 ≤ workers }
     requires most { workers ≤ 1024 }

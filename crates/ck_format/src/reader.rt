@@ -217,9 +217,9 @@ fn read_all<R: Source>(alloc: Global, source: &mut R) -> Result<Script, ScriptFa
 
 /// Reads a script to the end of the source, in blocks of 4096 bytes.
 ///
-/// An `Err` is the first fault of the text; or `Memory`, where the reader was refused memory before it came to a fault;
-/// or `Read`, where the source failed before. It holds the line in which that came up.
-/// The source may have given bytes behind the fault, which are lost.
+/// An `Err` is the first fault of the text; or `Memory`, where the reader was refused memory before
+/// it came to a fault; or `Read`, where the source failed before. It holds the line in which that
+/// came up. The source may have given bytes behind the fault, which are lost.
 pub fn read_script<R: Source>(alloc: Global, source: &mut R) -> Result<Script, ScriptFault>
     requires { R.has_failed source.old ≡ false }
     // What is read is in the grammar.

@@ -54,8 +54,8 @@ pub enum Command<K> {
     Assign(K, u64),
     /// `update K N`: binds the key to the number, where the key is bound.
     Update(K, u64),
-    /// `add K N`: adds the number to the one that is bound, up to 2^64 - 1, and binds the key to the
-    /// number where it is not bound.
+    /// `add K N`: adds the number to the one that is bound, up to 2^64 - 1, and binds the key to
+    /// the number where it is not bound.
     Add(K, u64),
     /// `erase K`: unbinds the key.
     Erase(K),
@@ -63,8 +63,9 @@ pub enum Command<K> {
     Len,
     /// `list`: all keys with their numbers.
     List,
-    /// `move J K N`: takes up to the number from that of `J`, and adds it to that of `K`, as far as that goes. No text has one key
-    /// twice here; a command that has is answered as busy, and changes nothing.
+    /// `move J K N`: takes up to the number from that of `J`, and adds it to that of `K`, as far as
+    /// that goes. No text has one key twice here; a command that has is answered as busy, and
+    /// changes nothing.
     Move(K, K, u64),
 }
 
@@ -94,8 +95,8 @@ pub enum What {
     /// Line 1 is complete and is neither `cuckoo 1` nor `cuckoo 2`.
     #[error("bad header")]
     Header,
-    /// A setting that stands twice, or whose value is out of its range; or, at the first line `worker`, settings that don't fit
-    /// together.
+    /// A setting that stands twice, or whose value is out of its range; or, at the first line
+    /// `worker`, settings that don't fit together.
     #[error("bad setting")]
     Setting,
     /// The words of the line are not those of a line that is allowed there.
@@ -105,7 +106,8 @@ pub enum What {
     /// zero, or stands for 2^64 or more.
     #[error("bad number")]
     Number,
-    /// More than 200 bytes in the line, or 64 in a text key; or one worker or one command line too many.
+    /// More than 200 bytes in the line, or 64 in a text key; or one worker or one command line too
+    /// many.
     #[error("too long")]
     TooLong,
     /// The input ends before the line feed of the line `end`, or within a line after it.

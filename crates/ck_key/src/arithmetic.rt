@@ -1,13 +1,15 @@
-//! The buckets of a hash, by partial-key cuckoo hashing: an entry's other bucket is found from the bucket
-//! where it is and a byte of its hash, with no look at the key (Fan, Andersen, Kaminsky, Mitzenmacher 2014, "Cuckoo
-//! Filter"; Li, Andersen, Kaminsky, Freedman 2014, "Algorithmic Improvements for Fast Concurrent Cuckoo Hashing").
+//! The buckets of a hash, by partial-key cuckoo hashing: an entry's other bucket is found from the
+//! bucket where it is and a byte of its hash, with no look at the key (Fan, Andersen, Kaminsky,
+//! Mitzenmacher 2014, "Cuckoo Filter"; Li, Andersen, Kaminsky, Freedman 2014, "Algorithmic
+//! Improvements for Fast Concurrent Cuckoo Hashing").
 #![tactic(auto, unfolding(ck_model::specs::Arithmetic::partial_of, ck_model::specs::Arithmetic::index_of, ck_model::specs::Arithmetic::spread_of, ck_model::specs::Arithmetic::alternate_of, ck_model::specs::Arithmetic::second_of, crate::specs::Doubling::grown_of, crate::specs::Doubling::rises_of))]
 
 ghost use Rattle.std.specs.Prelude.{◌≡◌, ℕ, ◌+◌, ◌^◌, ◌%◌, ◌<◌, ◌≤◌, ◌↔◌};
 ghost use Rattle.ck_model.specs.Arithmetic.{partial_of, index_of, alternate_of};
 ghost use Rattle.ck_key.specs.Doubling.{rises_of};
 
-/// Spreads a partial over all bits of a bucket's number: the odd factor of MurmurHash2 (Appleby 2008).
+/// Spreads a partial over all bits of a bucket's number: the odd factor of MurmurHash2 (Appleby
+/// 2008).
 const SPREAD: u64 = 0xc6a4_a793_5bd1_e995;
 
 /// The partial of a hash: the exclusive or of its eight bytes.
@@ -44,7 +46,8 @@ pub fn alternate(p: u32, t: u8, b: u64) -> u64
     (b ^ (t as u64 + 1).wrapping_mul(SPREAD)) % (1 << p)
 }
 
-/// Whether an entry with hash `h` leaves bucket `b` for the bucket 2^p above it, where a table of 2^p buckets doubles.
+/// Whether an entry with hash `h` leaves bucket `b` for the bucket 2^p above it, where a table of
+/// 2^p buckets doubles.
 pub fn rises(p: u32, b: u64, h: u64) -> bool
     requires { p < 26 }
     ensures { result ≡ rises_of p b h }

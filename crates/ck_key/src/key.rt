@@ -2,7 +2,8 @@
 ghost use Rattle.std.specs.Prelude.{◌≡◌, ℕ, ◌<◌, ◌^◌, ◌↔◌, IsTrue};
 ghost use Rattle.ck_model.specs.Map.{Name};
 
-/// A key of the table. Two keys are equal exactly where they have one name, and the hash depends on the name alone.
+/// A key of the table. Two keys are equal exactly where they have one name, and the hash depends on
+/// the name alone.
 pub trait TableKey: Ord {
     // What is seen of a key everywhere else.
     ghost name: { Self → Name };

@@ -50,8 +50,8 @@ impl Model for TextKey {
 }
 
 impl TextKey {
-    /// A key of these bytes, copied. It is refused as `TooLong` for more than 64 bytes, and otherwise only for want of
-    /// memory.
+    /// A key of these bytes, copied. It is refused as `TooLong` for more than 64 bytes, and
+    /// otherwise only for want of memory.
     pub fn new(alloc: Global, bytes: &[u8]) -> Result<TextKey, KeyFault>
         ensures ok { IfOk result (λ key. key ≡ bytes.now) }
         ensures too_long { (result ≡ Err KeyFault.TooLong) ↔ (64 < length bytes.now) }
@@ -126,7 +126,8 @@ impl TableKey for TextKey {
 
     ghost hash = { text_hash };
 
-    /// The 64-bit FNV-1a of the bytes (Fowler, Noll, Vo 1991): for each byte an exclusive or, and then the product.
+    /// The 64-bit FNV-1a of the bytes (Fowler, Noll, Vo 1991): for each byte an exclusive or, and
+    /// then the product.
     fn hash64(&self) -> u64 {
         self.bytes.iter().fold(
             FNV_BASIS,

@@ -1,4 +1,5 @@
-//! What stands in a history. The table makes no value of these types: contracts speak of them, and tests make some.
+//! What stands in a history. The table makes no value of these types: contracts speak of them, and
+//! tests make some.
 use std::collections::LinkedList;
 
 /// What a key is to every definition: a number key's own number, or a text key's bytes.

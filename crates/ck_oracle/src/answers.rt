@@ -1,4 +1,5 @@
-//! What a call leaves of the names that it speaks of, where the reply is one that the plain map gives.
+//! What a call leaves of the names that it speaks of, where the reply is one that the plain map
+//! gives.
 ghost use Rattle.std.specs.Prelude.{◌≡◌, ◌↔◌, ℕ, Option, Some, None, IsTrue, IsSome, IfSome, IfNone, MatchOption};
 ghost use Rattle.ck_model.specs.Map.{Answers, AnswersTwo};
 
@@ -70,7 +71,8 @@ pub fn after_act(act: &Act<u64>, bound: Option<u64>, reply: &Reply<u64>) -> Opti
     }
 }
 
-/// What a change of two names does to them: nothing, or it binds them to these values. None where this isn't the reply.
+/// What a change of two names does to them: nothing, or it binds them to these values. None where
+/// this isn't the reply.
 pub fn after_two(
     first: Option<u64>,
     second: Option<u64>,

@@ -1,5 +1,6 @@
-//! Slow programs that decide the definitions of `ck_model` on small inputs: a plain map that follows a history, and
-//! whether plain data of stripes is lawful. Tests show by them what the definitions say, and nothing else calls them.
+//! Slow programs that decide the definitions of `ck_model` on small inputs: a plain map that
+//! follows a history, and whether plain data of stripes is lawful. Tests show by them what the
+//! definitions say, and nothing else calls them.
 #![tactic(auto)]
 
 mod answers;

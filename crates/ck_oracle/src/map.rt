@@ -79,7 +79,8 @@ impl PlainMap {
         None
     }
 
-    /// Binds the name to the value. It takes memory for a name that isn't bound, and leaves the map as it was where there is none.
+    /// Binds the name to the value. It takes memory for a name that isn't bound, and leaves the map
+    /// as it was where there is none.
     pub fn insert(&mut self, name: &Name, value: u64) -> Result<(), AllocError>
         ensures ok { OnOk result (self.new ≡ map.insert self.old name.now value) }
         ensures err { OnErr result (self.new ≡ self.old) }
@@ -248,8 +249,8 @@ impl PlainMap {
         Ok(true)
     }
 
-    /// Takes the step of this entry, and is true, where the plain map has such a step. Else it is false, and the map
-    /// stays as it was; so it does where no memory is left.
+    /// Takes the step of this entry, and is true, where the plain map has such a step. Else it is
+    /// false, and the map stays as it was; so it does where no memory is left.
     pub fn follow(&mut self, entry: &Entry<u64>) -> Result<bool, AllocError>
         ensures legal { IfOk result (λ b.
             b ≡ true → Step self.old entry.now.call entry.now.reply self.new) }
@@ -269,7 +270,8 @@ impl PlainMap {
     }
 }
 
-/// The map after this history, or None where the history isn't legal. Refused where no memory is left.
+/// The map after this history, or None where the history isn't legal. Refused where no memory is
+/// left.
 pub fn run(alloc: Global, entries: &[Entry<u64>]) -> Result<Option<PlainMap>, AllocError>
     ensures legal { IfOk result (λ r. IfSome r (After entries.now)) }
     ensures illegal { IfOk result (λ r. IfNone r (¬ (IsLegal entries.now))) }

@@ -277,8 +277,8 @@ fn is_plain_lawful(s: u32, max: u32, stripes: &[PlainStripe]) -> bool
         && have_one_power(stripes)
 }
 
-/// Whether these are lawful contents of some of 2^s stripes with powers up to `max`, where the hash beside each name is
-/// that of the name. The time grows with the square of the number of entries.
+/// Whether these are lawful contents of some of 2^s stripes with powers up to `max`, where the hash
+/// beside each name is that of the name. The time grows with the square of the number of entries.
 pub fn is_lawful(s: u32, max: u32, stripes: &[PlainStripe]) -> bool
     requires stripes { s ≤ 10 }
     requires power { max ≤ 26 }

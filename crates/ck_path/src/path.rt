@@ -11,16 +11,18 @@ use std::marker::Model;
 /// The most hops of a path.
 pub const MAX_HOPS: usize = 4;
 
-/// A way to make room in a bucket of a key: hops from there, each from a full bucket to the other bucket of an entry, and
-/// at their end a bucket with a free slot. With no hop that is the key's bucket itself.
+/// A way to make room in a bucket of a key: hops from there, each from a full bucket to the other
+/// bucket of an entry, and at their end a bucket with a free slot. With no hop that is the key's
+/// bucket itself.
 ///
-/// It says what was seen. Where others may have changed the buckets since, each hop has to be looked at again when it is
-/// carried out.
+/// It says what was seen. Where others may have changed the buckets since, each hop has to be
+/// looked at again when it is carried out.
 #[derive(Drop)]
 pub struct Path {
     power: u32,
     end: u64,
-    // From the end backwards: so they are found, on the way up from the last node, and so they are carried out.
+    // From the end backwards: so they are found, on the way up from the last node, and so they are
+    // carried out.
     hops: ArrayVec<PathHop, MAX_HOPS>,
 }
 
@@ -74,16 +76,17 @@ impl Path {
         self.power
     }
 
-    /// The bucket at the end, in which a free slot was seen: the first hop to be carried out goes there.
+    /// The bucket at the end, in which a free slot was seen: the first hop to be carried out goes
+    /// there.
     pub fn end(&self) -> u64
         ensures { result ≡ self.now.end }
     {
         self.end
     }
 
-    /// The hops, at most four, in the order in which they are carried out: the last one of the path first, and each goes
-    /// to the bucket that the hop before it has left. So each finds a free slot, and no entry is without a bucket at any
-    /// moment.
+    /// The hops, at most four, in the order in which they are carried out: the last one of the path
+    /// first, and each goes to the bucket that the hop before it has left. So each finds a free
+    /// slot, and no entry is without a bucket at any moment.
     pub fn hops_from_end(&self) -> &[PathHop]
         ensures { result.now ≡ reverse self.now.hops }
     {

@@ -1,9 +1,9 @@
 //! The search.
 //!
-//! A random walk through the table, as cuckoo hashing first had, may move hundreds of entries. A breadth-first search finds
-//! a shortest path, which has at most four hops where it looks at 682 buckets of four slots, so that few entries move and
-//! few locks are taken (Li, Andersen, Kaminsky, Freedman 2014, "Algorithmic Improvements for Fast Concurrent Cuckoo
-//! Hashing").
+//! A random walk through the table, as cuckoo hashing first had, may move hundreds of entries. A
+//! breadth-first search finds a shortest path, which has at most four hops where it looks at 682
+//! buckets of four slots, so that few entries move and few locks are taken (Li, Andersen, Kaminsky,
+//! Freedman 2014, "Algorithmic Improvements for Fast Concurrent Cuckoo Hashing").
 ghost use Rattle.std.specs.Prelude.{◌≡◌, ℕ, ◌+◌, ◌^◌, ◌<◌, ◌≤◌, ◌↔◌, ◌++◌, List, Option, Bool, true, Some, None, IsTrue, IsSome, IfSome, IfNone, MatchOption, option_map, length};
 ghost use Rattle.arrayvec.specs.ArrayVec.{array_vec_len};
 ghost use Rattle.ck_model.specs.Sketches.{Sketch, has_free};
@@ -19,8 +19,8 @@ use std::marker::Model;
 /// The most nodes that a search queues: 2 * (1 + 4 + 16 + 64 + 256).
 const MAX_NODES: usize = 682;
 
-/// A breadth-first search from the two buckets of a key. The caller looks at the buckets: while one is wanted, it feeds the
-/// sketch of that bucket, until it gets a path or no bucket is wanted.
+/// A breadth-first search from the two buckets of a key. The caller looks at the buckets: while one
+/// is wanted, it feeds the sketch of that bucket, until it gets a path or no bucket is wanted.
 ///
 /// The queue is part of the value, 5.5 KB: nothing is allocated, and nothing is copied on the way.
 #[derive(Drop)]
@@ -46,11 +46,12 @@ impl Search {
     ghost use Rattle.ck_path.specs.Route.{IsLinked, IsSeen, IsShortestPath};
     ghost use Rattle.ck_model.specs.Sketches.{HasNoSketchPath};
 
-    /// A search in a table of 2^p buckets from the first bucket `b1` of a key and then its alternate `b2`, which may be the
-    /// same.
+    /// A search in a table of 2^p buckets from the first bucket `b1` of a key and then its
+    /// alternate `b2`, which may be the same.
     ///
-    /// What a caller is to know of the path later it carries through the search, as an invariant: `fed`, for sketches of
-    /// which each passes a test, or `over`, for those of one table that doesn't change.
+    /// What a caller is to know of the path later it carries through the search, as an invariant:
+    /// `fed`, for sketches of which each passes a test, or `over`, for those of one table that
+    /// doesn't change.
     pub fn start(p: u32, b1: u64, b2: u64) -> Search
         requires power { p ≤ 26 }
         requires first { b1 < 2 ^ p }
@@ -71,8 +72,8 @@ impl Search {
         }
     }
 
-    /// The bucket whose sketch is wanted next, or `None` where the search is over: a path was given, or all buckets that can
-    /// be reached by at most four hops were full.
+    /// The bucket whose sketch is wanted next, or `None` where the search is over: a path was
+    /// given, or all buckets that can be reached by at most four hops were full.
     pub fn next_bucket(&self) -> Option<u64>
         ensures value { result ≡ wanted self.now }
         ensures below { IfSome result (λ b. b < 2 ^ self.now.power) }
@@ -89,9 +90,9 @@ impl Search {
         }
     }
 
-    /// Takes the sketch of the wanted bucket. Where it has a free slot, the search is over and the path to that bucket is
-    /// given. Where it is full, the other buckets of its entries are queued, in the order of the slots, unless the path
-    /// would get more than four hops.
+    /// Takes the sketch of the wanted bucket. Where it has a free slot, the search is over and the
+    /// path to that bucket is given. Where it is full, the other buckets of its entries are queued,
+    /// in the order of the slots, unless the path would get more than four hops.
     pub fn feed(&mut self, sketch: [Option<u8>; 4]) -> Option<Path>
         requires { IsSome (wanted self.old) }
         ensures found { IsSome result ↔ IsTrue (has_free sketch) }
@@ -99,7 +100,8 @@ impl Search {
         ensures power { self.new.power ≡ self.old.power }
         ensures fewer { steps_left self.new < steps_left self.old }
 
-        // Whatever was fed, the path leads through buckets of the table, and each hop is as in a sketch that was fed.
+        // Whatever was fed, the path leads through buckets of the table, and each hop is as in a
+        // sketch that was fed.
         ensures linked { IfSome result IsLinked }
         ensures seen { (p b1 b2 : ℕ) (seen : ℕ → Sketch → Bool) → IsSearchFed seen p b1 b2 self.old
             → option_map (λ b. seen b sketch) (wanted self.old) ≡ Some true
@@ -144,8 +146,8 @@ fn has_free(sketch: &[Option<u8>; 4]) -> bool
     sketch[0].is_none() || sketch[1].is_none() || sketch[2].is_none() || sketch[3].is_none()
 }
 
-/// Queues the other buckets of the entries of `node`, which stands at `parent` in the queue. An entry whose other bucket is
-/// the same one leads nowhere.
+/// Queues the other buckets of the entries of `node`, which stands at `parent` in the queue. An
+/// entry whose other bucket is the same one leads nowhere.
 fn queue_others(
     nodes: &mut ArrayVec<Node, MAX_NODES>,
     power: u32,

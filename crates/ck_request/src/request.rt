@@ -49,7 +49,8 @@ fn made(make: &ArgMatches<'_>) -> Result<Recipe, RequestFault> {
     }
 }
 
-/// What these words ask for. Words that are refused are `Arguments` or `TooManyLines`, and want of memory is `Memory`.
+/// What these words ask for. Words that are refused are `Arguments` or `TooManyLines`, and want of
+/// memory is `Memory`.
 pub fn request_of<'a>(alloc: Global, words: &'a [String]) -> Result<Request<'a>, RequestFault> {
     let matches = command(alloc)?.try_get_matches_from(words)?;
     match matches.subcommand() {

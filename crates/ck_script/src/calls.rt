@@ -134,7 +134,8 @@ fn moved(amount: u64, from: u64, to: u64) -> (u64, u64)
     (from - share, to + share)
 }
 
-// Nothing goes from a key to itself. No script that was read says so, and no call of the table does it.
+// Nothing goes from a key to itself. No script that was read says so, and no call of the table does
+// it.
 fn transfer<K: TableKey + Drop>(
     caller: &mut Caller<'_, K, u64>,
     from: K,
@@ -164,7 +165,8 @@ fn listed<K: WrittenKey>(alloc: Global, locked: &LockedTable<'_, K, u64>) -> Ans
     }
 }
 
-// A session that changes nothing. Where there is no memory for the list, the table is unlocked all the same.
+// A session that changes nothing. Where there is no memory for the list, the table is unlocked all
+// the same.
 fn list<'t, K: WrittenKey>(
     alloc: Global,
     caller: Caller<'t, K, u64>,

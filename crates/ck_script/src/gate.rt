@@ -1,7 +1,7 @@
 //! Where the workers of a run pass by.
 
-/// What a run calls before and after each command, so that a test can hold workers back and note them. Workers and the command
-/// lines of a worker are counted from 1.
+/// What a run calls before and after each command, so that a test can hold workers back and note
+/// them. Workers and the command lines of a worker are counted from 1.
 ///
 /// It is called by the worker's own thread, which holds no stripe then.
 pub trait Gate: Sync {

@@ -2,7 +2,8 @@
 use ck_format::{Answer, Command, Pairs, WrittenKey};
 use ck_table::{Caller, Pass};
 
-/// What a worker is to do: its number, counted from 1, its caller, its commands, and room for their answers.
+/// What a worker is to do: its number, counted from 1, its caller, its commands, and room for their
+/// answers.
 #[derive(Drop)]
 pub struct Job<'t, K: WrittenKey> {
     pub worker: u32,

@@ -108,7 +108,8 @@ fn parted<K: WrittenKey>(
     Ok((answers, passes))
 }
 
-// Ends the table of workers who are done: the text of their answers and of the pairs that they left.
+// Ends the table of workers who are done: the text of their answers and of the pairs that they
+// left.
 fn text_at_end<K: WrittenKey>(
     alloc: Global,
     table: Table<K, u64>,
@@ -157,12 +158,13 @@ fn text_of_run<T: Threads + Sync, G: Gate>(
     }
 }
 
-/// Runs the script on a table of its own, and writes its text: the answers of each worker, and the pairs that the table holds at
-/// the end. Each worker is one caller, and works in a thread of its own; a single one works in this thread. Each passes the gate
-/// before and after each of its commands.
+/// Runs the script on a table of its own, and writes its text: the answers of each worker, and the
+/// pairs that the table holds at the end. Each worker is one caller, and works in a thread of its
+/// own; a single one works in this thread. Each passes the gate before and after each of its
+/// commands.
 ///
-/// All memory is taken before the first write, so a run that finds none has written nothing. A write that fails isn't tried
-/// again.
+/// All memory is taken before the first write, so a run that finds none has written nothing. A
+/// write that fails isn't tried again.
 pub fn run<T: Threads + Sync, W: Sink, G: Gate>(
     rt: &T,
     alloc: Global,

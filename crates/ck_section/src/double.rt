@@ -41,8 +41,9 @@ pub fn len<K: TableKey + Drop, V: Drop, H: Held<Stripe<K, V>>>(held: &mut H, s: 
     entries
 }
 
-/// Doubles a table of 2^s stripes. The memory for all is taken first, by one request a stripe at most, so a refused
-/// request leaves each stripe at its power, with the same entries in the same slots.
+/// Doubles a table of 2^s stripes. The memory for all is taken first, by one request a stripe at
+/// most, so a refused request leaves each stripe at its power, with the same entries in the same
+/// slots.
 pub fn double_all<K: TableKey + Drop, V: Drop, H: Held<Stripe<K, V>>>(
     held: &mut H,
     s: u32,

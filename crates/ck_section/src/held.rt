@@ -50,7 +50,8 @@ impl<T, R, F: FnOnce(&mut T) -> R> Visitor<T> for F {
     }
 }
 
-/// Stripes that a call holds, in rising order of their numbers. Stripe `i` is the one at position `i`.
+/// Stripes that a call holds, in rising order of their numbers. Stripe `i` is the one at position
+/// `i`.
 pub trait Held<T: Numbered> {
     ghost stripes: { Self → List T };
 

@@ -13,8 +13,8 @@ use crate::one_stripe;
 use ck_key::TableKey;
 use ck_stripe::Stripe;
 
-/// A hop, as a search of a table of 2^power buckets saw it: the entry of this partial in this slot of bucket `bucket`
-/// goes to its other bucket, `target`.
+/// A hop, as a search of a table of 2^power buckets saw it: the entry of this partial in this slot
+/// of bucket `bucket` goes to its other bucket, `target`.
 #[derive(Clone, Copy, Debug, PartialEq, Eq)]
 pub struct Hop {
     pub power: u32,
@@ -24,10 +24,11 @@ pub struct Hop {
     pub target: u64,
 }
 
-/// Carries out a hop from stripe `from` to stripe `to` of those that are held, and says whether it did.
+/// Carries out a hop from stripe `from` to stripe `to` of those that are held, and says whether it
+/// did.
 ///
-/// It doesn't where the table has another power by now, where the slot has no entry of the partial, or where the target
-/// has no free slot; then nothing has changed.
+/// It doesn't where the table has another power by now, where the slot has no entry of the partial,
+/// or where the target has no free slot; then nothing has changed.
 pub fn move_entry<K: TableKey + Drop, V: Drop, H: Held<Stripe<K, V>>>(
     held: &mut H,
     from: usize,
@@ -58,7 +59,8 @@ pub fn move_entry<K: TableKey + Drop, V: Drop, H: Held<Stripe<K, V>>>(
     true
 }
 
-/// Carries out a hop among held stripes of a table of 2^s, as `move_entry` does between two of them.
+/// Carries out a hop among held stripes of a table of 2^s, as `move_entry` does between two of
+/// them.
 pub fn make_hop<K: TableKey + Drop, V: Drop, H: Held<Stripe<K, V>>>(
     held: &mut H,
     s: u32,

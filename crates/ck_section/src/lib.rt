@@ -1,5 +1,6 @@
-//! Decisions on stripes that a call holds: the calls on one key and on two, and one hop of a displacement; and of all
-//! stripes of a table, their doubling and how room for a key is made. They are written once, over anything that is `Held`.
+//! Decisions on stripes that a call holds: the calls on one key and on two, and one hop of a
+//! displacement; and of all stripes of a table, their doubling and how room for a key is made. They
+//! are written once, over anything that is `Held`.
 #![tactic(auto)]
 
 mod double;

@@ -1,4 +1,5 @@
-//! Calls on one key, whose two buckets are held. Each looks into a bucket once, and compares keys of one partial alone.
+//! Calls on one key, whose two buckets are held. Each looks into a bucket once, and compares keys
+//! of one partial alone.
 ghost use Rattle.std.specs.Prelude.{◌≡◌, Some, None, IfSome, IfNone, IfOk, IfErr, MatchBool, if◌then◌else◌};
 ghost use Rattle.std.specs.Bool.{OnFalse};
 ghost use Rattle.std.specs.Fn.{FnOnceReturnsAt};
@@ -19,8 +20,8 @@ use crate::place::{HeldSlot, KeyPlace};
 use ck_key::TableKey;
 use ck_stripe::Stripe;
 
-/// What the closure answers for the value of the key; `None` where the key is unbound, and then the closure is not
-/// called.
+/// What the closure answers for the value of the key; `None` where the key is unbound, and then the
+/// closure is not called.
 pub fn find<K: TableKey + Drop, V: Drop, H: Held<Stripe<K, V>>, R, F: FnOnce(&V) -> R>(
     held: &mut H,
     place: KeyPlace,
@@ -44,8 +45,8 @@ where
     Some(one_stripe::read(held, at.index, at.bucket, at.slot, f))
 }
 
-/// Binds the key of the entry where it is unbound, and says whether it was. A bound key keeps its value, and the one that
-/// was passed is dropped.
+/// Binds the key of the entry where it is unbound, and says whether it was. A bound key keeps its
+/// value, and the one that was passed is dropped.
 #[inline(always)]
 pub fn insert<K: TableKey + Drop, V: Drop, H: Held<Stripe<K, V>>>(
     held: &mut H,
@@ -98,8 +99,8 @@ pub fn assign<K: TableKey + Drop, V: Drop, H: Held<Stripe<K, V>>>(
     }
 }
 
-/// Binds a bound key to another value, and gives the one that it had; `None` where the key is unbound, and then it stays
-/// so and the value is dropped.
+/// Binds a bound key to another value, and gives the one that it had; `None` where the key is
+/// unbound, and then it stays so and the value is dropped.
 pub fn update<K: TableKey + Drop, V: Drop, H: Held<Stripe<K, V>>>(
     held: &mut H,
     place: KeyPlace,
@@ -135,8 +136,8 @@ pub fn erase<K: TableKey + Drop, V: Drop, H: Held<Stripe<K, V>>>(
     Some(value)
 }
 
-/// Unbinds a bound key where the closure answers true for its value, and gives what the closure answers. Where the key is
-/// unbound, the closure is not called and comes back.
+/// Unbinds a bound key where the closure answers true for its value, and gives what the closure
+/// answers. Where the key is unbound, the closure is not called and comes back.
 pub fn erase_if<K: TableKey + Drop, V: Drop, H: Held<Stripe<K, V>>, F: FnOnce(&V) -> bool>(
     held: &mut H,
     place: KeyPlace,
@@ -166,8 +167,8 @@ pub fn erase_if<K: TableKey + Drop, V: Drop, H: Held<Stripe<K, V>>, F: FnOnce(&V
     Ok(true)
 }
 
-/// Binds a bound key to what the closure makes of its value, and says whether it was bound. Where it was not, the closure
-/// is not called.
+/// Binds a bound key to what the closure makes of its value, and says whether it was bound. Where
+/// it was not, the closure is not called.
 pub fn change<K: TableKey + Drop, V: Drop, H: Held<Stripe<K, V>>, F: FnOnce(V) -> V>(
     held: &mut H,
     place: KeyPlace,
@@ -195,8 +196,9 @@ where
     true
 }
 
-/// Binds the key of the entry to the value where it is unbound, and else to what the closure makes of its value; says
-/// whether the key was unbound. Of closure and value the one that isn't used is dropped.
+/// Binds the key of the entry to the value where it is unbound, and else to what the closure makes
+/// of its value; says whether the key was unbound. Of closure and value the one that isn't used is
+/// dropped.
 #[inline(always)]
 pub fn upsert<K: TableKey + Drop, V: Drop, H: Held<Stripe<K, V>>, F: FnOnce(V) -> V>(
     held: &mut H,

@@ -27,7 +27,8 @@ pub(crate) fn position<K: TableKey + Drop, V: Drop, H: Held<Stripe<K, V>>>(
     ensures same { H.stripes held.new ≡ H.stripes held.old }
     ensures stays { H.stays held.old held.new }
 {
-    // One or two are held for one key. Which of two it is is a matter of chance, so no branch asks for it.
+    // One or two are held for one key. Which of two it is is a matter of chance, so no branch asks
+    // for it.
     if held.count() <= 2 {
         return (held.number(0) != wanted) as usize;
     }
@@ -154,7 +155,8 @@ pub(crate) fn read<K: TableKey + Drop, V: Drop, H: Held<Stripe<K, V>>, R, F: FnO
     )
 }
 
-/// Puts a key and its value into a free slot of bucket `b` of stripe `i`. `partial` is that of the key.
+/// Puts a key and its value into a free slot of bucket `b` of stripe `i`. `partial` is that of the
+/// key.
 #[inline(always)]
 pub(crate) fn place<K: TableKey + Drop, V: Drop, H: Held<Stripe<K, V>>>(
     held: &mut H,
@@ -255,7 +257,8 @@ pub(crate) fn settle<K: TableKey + Drop, V: Drop, H: Held<Stripe<K, V>>>(held: &
     held.visit(i, |stripe: &mut Stripe<K, V>| stripe.settle());
 }
 
-/// Takes the memory for a doubling of stripe `i`, by one request at most. A refused request leaves all as it was.
+/// Takes the memory for a doubling of stripe `i`, by one request at most. A refused request leaves
+/// all as it was.
 pub(crate) fn reserve_double<K: TableKey + Drop, V: Drop, H: Held<Stripe<K, V>>>(
     held: &mut H,
     i: usize,

@@ -1,4 +1,5 @@
-//! Displacement among all stripes of a table, each held at the index of its number: the search for a path, and its hops.
+//! Displacement among all stripes of a table, each held at the index of its number: the search for
+//! a path, and its hops.
 ghost use Rattle.std.specs.Prelude.{◌≡◌, ◌%◌, ◌^◌, ◌<◌, ◌≤◌, IfSome, IfNone};
 ghost use Rattle.ck_key.specs.Hashes.{IsHashOf};
 ghost use Rattle.ck_model.specs.Arithmetic.{alternate_of};
@@ -18,8 +19,9 @@ use ck_key::{KeyHash, TableKey};
 use ck_path::{Path, Search};
 use ck_stripe::Stripe;
 
-/// A shortest displacement path that makes room for the key, whose hash the caller has at hand, in a table of 2^s stripes;
-/// `None` where there is none of at most four hops. With no hop, a bucket of the key has a free slot.
+/// A shortest displacement path that makes room for the key, whose hash the caller has at hand, in
+/// a table of 2^s stripes; `None` where there is none of at most four hops. With no hop, a bucket
+/// of the key has a free slot.
 pub fn find_path<K: TableKey + Drop, V: Drop, H: Held<Stripe<K, V>>>(
     held: &mut H,
     s: u32,
@@ -74,8 +76,8 @@ fn search_from<K: TableKey + Drop, V: Drop, H: Held<Stripe<K, V>>>(
     None
 }
 
-/// Carries out the hops of a path among all stripes of a table of 2^s, from its end backwards. Then the bucket at which it
-/// begins has a free slot.
+/// Carries out the hops of a path among all stripes of a table of 2^s, from its end backwards. Then
+/// the bucket at which it begins has a free slot.
 pub fn follow_path<K: TableKey + Drop, V: Drop, H: Held<Stripe<K, V>>>(
     held: &mut H,
     s: u32,

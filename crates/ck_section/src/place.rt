@@ -9,8 +9,8 @@ pub struct HeldBucket {
     pub bucket: u64,
 }
 
-/// Where a key may be among held stripes of a table of 2^s, and its partial. Where its two buckets are one, both are
-/// that.
+/// Where a key may be among held stripes of a table of 2^s, and its partial. Where its two buckets
+/// are one, both are that.
 #[derive(Clone, Copy, Debug, PartialEq, Eq)]
 pub struct KeyPlace {
     pub s: u32,

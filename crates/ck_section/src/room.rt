@@ -1,4 +1,5 @@
-//! Room for a key in a table whose stripes are all held: it is there, a displacement makes it, or the table doubles.
+//! Room for a key in a table whose stripes are all held: it is there, a displacement makes it, or
+//! the table doubles.
 ghost use Rattle.std.specs.Prelude.{◌≡◌, ◌<◌, ◌+◌, ◌*◌, ◌%◌, ◌^◌, ◌≤◌, IfOk, IfErr, OnOk, OnErr, MatchBool};
 ghost use Rattle.std.specs.Bool.{OnTrue, OnFalse};
 ghost use Rattle.ck_key.specs.Hashes.{IsHashOf};
@@ -32,12 +33,13 @@ pub enum Lack {
     LoadTooLow,
 }
 
-/// Makes room for the key, whose hash the caller has at hand, in a table of 2^s stripes: then the key is bound or one of
-/// its buckets has a free slot, and its two stripes are settled. No binding changes.
+/// Makes room for the key, whose hash the caller has at hand, in a table of 2^s stripes: then the
+/// key is bound or one of its buckets has a free slot, and its two stripes are settled. No binding
+/// changes.
 ///
-/// Entries are displaced where that makes room. Else the table doubles, if it has fewer than 2^max buckets and at least
-/// `min_load` per cent of its slots are taken, and it is tried again. A refused request for memory leaves the table as it
-/// was.
+/// Entries are displaced where that makes room. Else the table doubles, if it has fewer than 2^max
+/// buckets and at least `min_load` per cent of its slots are taken, and it is tried again. A
+/// refused request for memory leaves the table as it was.
 pub fn make_room<K: TableKey + Drop, V: Drop, H: Held<Stripe<K, V>>>(
     held: &mut H,
     s: u32,
@@ -68,8 +70,8 @@ pub fn make_room<K: TableKey + Drop, V: Drop, H: Held<Stripe<K, V>>>(
     Ok(())
 }
 
-// Makes room for the key without growing, if that can be. The key's own stripes are settled and looked into first, and the
-// others only where that is not enough.
+// Makes room for the key without growing, if that can be. The key's own stripes are settled and
+// looked into first, and the others only where that is not enough.
 fn room_by_hops<K: TableKey + Drop, V: Drop, H: Held<Stripe<K, V>>>(
     held: &mut H,
     s: u32,

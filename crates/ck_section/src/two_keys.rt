@@ -13,8 +13,8 @@ use crate::place::KeyPlace;
 use ck_key::TableKey;
 use ck_stripe::Stripe;
 
-/// Binds two different keys to what the closure makes of their two values, in order, and says whether both were bound.
-/// Where one was not, nothing changes and the closure is not called.
+/// Binds two different keys to what the closure makes of their two values, in order, and says
+/// whether both were bound. Where one was not, nothing changes and the closure is not called.
 pub fn update_two<K: TableKey + Drop, V: Drop, H: Held<Stripe<K, V>>, F: FnOnce(V, V) -> (V, V)>(
     held: &mut H,
     a: &K,

@@ -15,7 +15,8 @@ use crate::place::{HeldBucket, KeyPlace};
 use ck_key::TableKey;
 use ck_stripe::Stripe;
 
-/// Whether these are the 2^s stripes of a table in the order of their numbers, of one power and each settled.
+/// Whether these are the 2^s stripes of a table in the order of their numbers, of one power and
+/// each settled.
 pub fn are_all<K: TableKey + Drop, V: Drop>(stripes: &[Stripe<K, V>], s: u32) -> bool
     requires { s ≤ 10 }
     ensures { MatchBool result (AreAllHeld s stripes.now) (¬ (AreAllHeld s stripes.now)) }

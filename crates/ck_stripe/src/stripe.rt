@@ -1,5 +1,5 @@
-//! One stripe of the table. A doubling only raises the power, and the entries are moved by whoever looks into the stripe
-//! next, so that a table doubles without going through its entries.
+//! One stripe of the table. A doubling only raises the power, and the entries are moved by whoever
+//! looks into the stripe next, so that a table doubles without going through its entries.
 ghost use Rattle.std.specs.Prelude.{◌≡◌, ◌≤◌, ◌<◌, ◌+◌, ◌-◌, ◌*◌, ◌/◌, ◌^◌, ℕ, true, false, Some, None, IsSome, IfOk, OnOk, OnErr, ◌++◌, length, map, max, vec_len, vec_capacity};
 ghost use Rattle.std.specs.List.Sorted.{IsPermutation};
 ghost use Rattle.ck_model.specs.Arithmetic.{partial_of};
@@ -15,10 +15,11 @@ use ck_key::TableKey;
 use std::alloc::{AllocError, Global};
 use std::marker::Model;
 
-/// Stripe `number` of 2^s: the buckets `b` with `b mod 2^s` its number, in a table of 2^power buckets. Bucket `b` is row
-/// `b / 2^s`.
+/// Stripe `number` of 2^s: the buckets `b` with `b mod 2^s` its number, in a table of 2^power
+/// buckets. Bucket `b` is row `b / 2^s`.
 ///
-/// It has 56 bytes, so that an optional one is as long as a line of a cache, and what a look reads comes first.
+/// It has 56 bytes, so that an optional one is as long as a line of a cache, and what a look reads
+/// comes first.
 #[derive(Drop)]
 pub struct Stripe<K: TableKey, V> {
     power: u32,
@@ -200,8 +201,8 @@ impl<K: TableKey + Drop, V: Drop> Stripe<K, V> {
         self.ledger
     }
 
-    /// Takes the memory for a doubling, by one request at most, and by none where it has the memory. A refused request
-    /// leaves the stripe as it was.
+    /// Takes the memory for a doubling, by one request at most, and by none where it has the
+    /// memory. A refused request leaves the stripe as it was.
     pub fn reserve_double(&mut self) -> Result<(), AllocError>
         requires settled { self.old.settled ≡ true }
         ensures same { self.new ≡ record self.old { room = self.new.room } }
@@ -216,8 +217,9 @@ impl<K: TableKey + Drop, V: Drop> Stripe<K, V> {
         self.buckets.reserve_exact(more)
     }
 
-    /// Raises the power by one. The stripe then shows its entries where the doubling sends them: each keeps its slot, and
-    /// goes from its name's first bucket to the first, from the alternate one to the alternate one. `settle` moves them.
+    /// Raises the power by one. The stripe then shows its entries where the doubling sends them:
+    /// each keeps its slot, and goes from its name's first bucket to the first, from the alternate
+    /// one to the alternate one. `settle` moves them.
     pub fn double(&mut self)
         requires settled { self.old.settled ≡ true }
         requires reserved { IsReserved self.old }
@@ -241,7 +243,8 @@ impl<K: TableKey + Drop, V: Drop> Stripe<K, V> {
         self.settled
     }
 
-    /// Carries out a doubling, in the memory that was reserved for it; a settled stripe stays as it is.
+    /// Carries out a doubling, in the memory that was reserved for it; a settled stripe stays as it
+    /// is.
     pub fn settle(&mut self)
         ensures { self.new ≡ record self.old { settled = true } }
     {
@@ -251,7 +254,8 @@ impl<K: TableKey + Drop, V: Drop> Stripe<K, V> {
         }
     }
 
-    /// Pushes its pairs, in the order of rows and slots, into reserved room for them and for four more.
+    /// Pushes its pairs, in the order of rows and slots, into reserved room for them and for four
+    /// more.
     pub fn pour_reserved(self, pairs: &mut Vec<(K, V)>)
         requires settled { self.settled ≡ true }
         requires room { vec_len pairs.old + length (pairs_in self.content) + 4
@@ -276,8 +280,8 @@ impl<K: TableKey + Drop, V: Drop> Stripe<K, V> {
 }
 
 impl<K: TableKey + Clone, V: Clone> Stripe<K, V> {
-    /// Pushes clones of its pairs, in the order of rows and slots, into reserved room for them and for four more. Where
-    /// there is no memory for a clone, the pairs before it were pushed.
+    /// Pushes clones of its pairs, in the order of rows and slots, into reserved room for them and
+    /// for four more. Where there is no memory for a clone, the pairs before it were pushed.
     pub fn clone_reserved(&self, pairs: &mut Vec<(K, V)>) -> Result<(), AllocError>
         requires keys { ClonesAreEqual K.is_clone }
         requires values { ClonesAreEqual V.is_clone }
@@ -295,8 +299,8 @@ impl<K: TableKey + Clone, V: Clone> Stripe<K, V> {
     }
 }
 
-// Splits each bucket in place, and appends what leaves it: the rows of stripe `number` where a table of 2^p buckets
-// doubles. Few calls find a doubling, so the others don't make room for it.
+// Splits each bucket in place, and appends what leaves it: the rows of stripe `number` where a
+// table of 2^p buckets doubles. Few calls find a doubling, so the others don't make room for it.
 #[cold]
 #[inline(never)]
 fn split_all<K: TableKey + Drop, V: Drop>(

@@ -14,8 +14,8 @@ use std::marker::Model;
 
 /// A caller of a table: the table together with a pass of it, by which it makes its calls.
 ///
-/// That the pass is one of this table, and in no call, is known by the type. A caller may go to another thread, and can't
-/// be cloned. Contracts see the table and the pass.
+/// That the pass is one of this table, and in no call, is known by the type. A caller may go to
+/// another thread, and can't be cloned. Contracts see the table and the pass.
 #[derive(Drop)]
 pub struct Caller<'t, K: TableKey, V> {
     table: &'t Table<K, V>,
@@ -45,7 +45,8 @@ impl<K: TableKey + Drop, V: Drop> Table<K, V> {
         Caller { table: self, pass }
     }
 
-    /// A caller for each pass, in their order. Where there is no memory for the list, the passes are dropped.
+    /// A caller for each pass, in their order. Where there is no memory for the list, the passes
+    /// are dropped.
     pub fn callers<'t>(
         &'t self,
         alloc: Global,
@@ -87,8 +88,8 @@ impl<'t, K: TableKey + Drop, V: Drop> Caller<'t, K, V> {
         pass
     }
 
-    /// The value that is bound to the key; `None` where the key is unbound. Refused as busy, it changes nothing. It is
-    /// `Table::find`.
+    /// The value that is bound to the key; `None` where the key is unbound. Refused as busy, it
+    /// changes nothing. It is `Table::find`.
     ///
     /// ```
     /// let value: Option<u64> = caller.find(&NumKey(5))?;
@@ -105,8 +106,8 @@ impl<'t, K: TableKey + Drop, V: Drop> Caller<'t, K, V> {
         self.table.find(&mut self.pass, key)
     }
 
-    /// What the closure answers for the value of the key; `None` where the key is unbound. Refused as busy, it changes
-    /// nothing, and the closure is dropped. It is `Table::find_fn`.
+    /// What the closure answers for the value of the key; `None` where the key is unbound. Refused
+    /// as busy, it changes nothing, and the closure is dropped. It is `Table::find_fn`.
     ///
     /// ```
     /// let half: Option<u64> = caller.find_fn(&NumKey(5), |value: &u64| *value / 2)?;
@@ -140,8 +141,8 @@ impl<'t, K: TableKey + Drop, V: Drop> Caller<'t, K, V> {
         self.table.contains(&mut self.pass, key)
     }
 
-    /// Binds the key to the value where it is unbound, and says whether it was. The table may grow for it. Refused, it
-    /// changes no binding and hands key and value back. It is `Table::insert`.
+    /// Binds the key to the value where it is unbound, and says whether it was. The table may grow
+    /// for it. Refused, it changes no binding and hands key and value back. It is `Table::insert`.
     ///
     /// ```
     /// match caller.insert(NumKey(5), 50) {
@@ -159,8 +160,9 @@ impl<'t, K: TableKey + Drop, V: Drop> Caller<'t, K, V> {
         self.table.insert(&mut self.pass, key, value)
     }
 
-    /// Binds the key to the value, and gives the value that it had. The table may grow for it. Refused, it changes no
-    /// binding and hands key and value back. It is `Table::insert_or_assign`.
+    /// Binds the key to the value, and gives the value that it had. The table may grow for it.
+    /// Refused, it changes no binding and hands key and value back. It is
+    /// `Table::insert_or_assign`.
     ///
     /// ```
     /// let old: Option<u64> = caller.insert_or_assign(NumKey(5), 51)?;
@@ -175,9 +177,9 @@ impl<'t, K: TableKey + Drop, V: Drop> Caller<'t, K, V> {
         self.table.insert_or_assign(&mut self.pass, key, value)
     }
 
-    /// Binds an unbound key to the value, and a bound one to what the closure makes of its value; says whether the key was
-    /// unbound. The table may grow for it. Refused, it changes no binding, drops the closure and hands key and value back.
-    /// It is `Table::upsert`.
+    /// Binds an unbound key to the value, and a bound one to what the closure makes of its value;
+    /// says whether the key was unbound. The table may grow for it. Refused, it changes no binding,
+    /// drops the closure and hands key and value back. It is `Table::upsert`.
     ///
     /// ```
     /// let fresh = caller.upsert(NumKey(word), |count| count.saturating_add(1), 1)?;
@@ -200,8 +202,9 @@ impl<'t, K: TableKey + Drop, V: Drop> Caller<'t, K, V> {
         self.table.upsert(&mut self.pass, key, f, value)
     }
 
-    /// Binds a bound key to another value, and gives the one that it had; `None` where the key is unbound. Refused as busy,
-    /// it changes nothing and hands the value back. It is `Table::update`.
+    /// Binds a bound key to another value, and gives the one that it had; `None` where the key is
+    /// unbound. Refused as busy, it changes nothing and hands the value back. It is
+    /// `Table::update`.
     ///
     /// ```
     /// if let Err((value, busy)) = caller.update(&NumKey(5), 52) {
@@ -220,8 +223,8 @@ impl<'t, K: TableKey + Drop, V: Drop> Caller<'t, K, V> {
         self.table.update(&mut self.pass, key, value)
     }
 
-    /// Binds a bound key to what the closure makes of its value, and says whether the key is bound. Refused as busy, it
-    /// changes nothing, and the closure is dropped. It is `Table::update_fn`.
+    /// Binds a bound key to what the closure makes of its value, and says whether the key is bound.
+    /// Refused as busy, it changes nothing, and the closure is dropped. It is `Table::update_fn`.
     ///
     /// ```
     /// let bound = caller.update_fn(&NumKey(5), |value| value / 2)?;
@@ -239,11 +242,14 @@ impl<'t, K: TableKey + Drop, V: Drop> Caller<'t, K, V> {
         self.table.update_fn(&mut self.pass, key, f)
     }
 
-    /// Binds two different bound keys to what the closure makes of their two values in one step, and says whether both are
-    /// bound. Refused as busy, it changes nothing, and the closure is dropped. It is `Table::update_two`.
+    /// Binds two different bound keys to what the closure makes of their two values in one step,
+    /// and says whether both are bound. Refused as busy, it changes nothing, and the closure is
+    /// dropped. It is `Table::update_two`.
     ///
     /// ```
-    /// let paid = caller.update_two(&payer, &payee, |a, b| if 0 < a && b < u64::MAX { (a - 1, b + 1) } else { (a, b) })?;
+    /// let paid = caller.update_two(&payer, &payee, |a, b| {
+    ///     if 0 < a && b < u64::MAX { (a - 1, b + 1) } else { (a, b) }
+    /// })?;
     /// ```
     #[inline(always)]
     pub fn update_two<F: FnOnce(V, V) -> (V, V)>(
@@ -266,8 +272,8 @@ impl<'t, K: TableKey + Drop, V: Drop> Caller<'t, K, V> {
         self.table.update_two(&mut self.pass, a, b, f)
     }
 
-    /// Unbinds the key, and gives the value that it had; `None` where it is unbound. Refused as busy, it changes nothing. It
-    /// is `Table::erase`.
+    /// Unbinds the key, and gives the value that it had; `None` where it is unbound. Refused as
+    /// busy, it changes nothing. It is `Table::erase`.
     ///
     /// ```
     /// let value: Option<u64> = caller.erase(&NumKey(5))?;
@@ -282,8 +288,9 @@ impl<'t, K: TableKey + Drop, V: Drop> Caller<'t, K, V> {
         self.table.erase(&mut self.pass, key)
     }
 
-    /// Unbinds a bound key where the closure answers true for its value, and gives the closure's answer; `None` where the
-    /// key is unbound. Refused as busy, it changes nothing, and the closure is dropped. It is `Table::erase_fn`.
+    /// Unbinds a bound key where the closure answers true for its value, and gives the closure's
+    /// answer; `None` where the key is unbound. Refused as busy, it changes nothing, and the
+    /// closure is dropped. It is `Table::erase_fn`.
     ///
     /// ```
     /// let gone: Option<bool> = caller.erase_fn(&NumKey(5), |value: &u64| *value == 0)?;
@@ -302,7 +309,8 @@ impl<'t, K: TableKey + Drop, V: Drop> Caller<'t, K, V> {
         self.table.erase_fn(&mut self.pass, key, f)
     }
 
-    /// The power: the table has 2^power buckets of four slots. Refused as busy, it changes nothing. It is `Table::power`.
+    /// The power: the table has 2^power buckets of four slots. Refused as busy, it changes nothing.
+    /// It is `Table::power`.
     #[inline(always)]
     pub fn power(&mut self) -> Result<u32, Busy>
         ensures same { IsSameCaller self.old self.new }
@@ -324,8 +332,9 @@ impl<'t, K: TableKey + Drop, V: Drop> Caller<'t, K, V> {
         self.table.len(&mut self.pass)
     }
 
-    /// Doubles the table until it has 2^power buckets, and says whether it had fewer. Refused as busy or as `OverMax`, it
-    /// changes nothing; refused for want of memory, it may have doubled the table some times. It is `Table::rehash`.
+    /// Doubles the table until it has 2^power buckets, and says whether it had fewer. Refused as
+    /// busy or as `OverMax`, it changes nothing; refused for want of memory, it may have doubled
+    /// the table some times. It is `Table::rehash`.
     pub fn rehash(&mut self, power: u32) -> Result<bool, GrowFault>
         ensures same { IsSameCaller self.old self.new }
         ensures stays { Stays self.old.pass.view self.new.pass.view }
@@ -335,8 +344,8 @@ impl<'t, K: TableKey + Drop, V: Drop> Caller<'t, K, V> {
         self.table.rehash(&mut self.pass, power)
     }
 
-    /// Doubles the table until it has `n` slots, and says whether it had fewer. It is refused as `rehash` is. It is
-    /// `Table::reserve`.
+    /// Doubles the table until it has `n` slots, and says whether it had fewer. It is refused as
+    /// `rehash` is. It is `Table::reserve`.
     ///
     /// ```
     /// match caller.reserve(1_000_000) {
@@ -354,8 +363,9 @@ impl<'t, K: TableKey + Drop, V: Drop> Caller<'t, K, V> {
         self.table.reserve(&mut self.pass, n)
     }
 
-    /// Locks the table. Refused as busy, it changes nothing, and the caller comes back. It is `Table::lock_table`, and
-    /// `Table::caller` makes a caller again of the pass that `LockedTable::unlock` gives.
+    /// Locks the table. Refused as busy, it changes nothing, and the caller comes back. It is
+    /// `Table::lock_table`, and `Table::caller` makes a caller again of the pass that
+    /// `LockedTable::unlock` gives.
     pub fn lock(self) -> Result<LockedTable<'t, K, V>, (Caller<'t, K, V>, Busy)>
         ensures locked { IfOk result (HasLocked self.entry.table self.entry.pass) }
         ensures same { IfErr result (λ back. IsSameCaller self.entry back.0) }
@@ -369,8 +379,8 @@ impl<'t, K: TableKey + Drop, V: Drop> Caller<'t, K, V> {
         }
     }
 
-    /// Tells the other caller of this table what this one has seen: that is then a beginning of what the other has seen. It
-    /// is `Table::meet`.
+    /// Tells the other caller of this table what this one has seen: that is then a beginning of
+    /// what the other has seen. It is `Table::meet`.
     ///
     /// ```
     /// first.meet(&mut second);

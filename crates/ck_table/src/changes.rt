@@ -16,8 +16,8 @@ use ck_words::{Commit, Lent, Pass};
 use std::snapshot::Snapshot;
 
 impl<K: TableKey + Drop, V: Drop> Table<K, V> {
-    /// Binds a bound key to another value, and gives the one that it had; `None` where the key is unbound, and then it
-    /// stays so and the value is dropped.
+    /// Binds a bound key to another value, and gives the one that it had; `None` where the key is
+    /// unbound, and then it stays so and the value is dropped.
     ///
     /// Refused as busy, it changes nothing and hands the value back.
     pub fn update(&self, pass: &mut Pass<K, V>, key: &K, value: V) -> Result<Option<V>, (V, Busy)>
@@ -45,8 +45,9 @@ impl<K: TableKey + Drop, V: Drop> Table<K, V> {
         Ok(old)
     }
 
-    /// Binds a bound key to what the closure makes of its value, and says whether the key is bound; where it is not, the
-    /// closure is not called. The closure runs while the key's stripes are held.
+    /// Binds a bound key to what the closure makes of its value, and says whether the key is bound;
+    /// where it is not, the closure is not called. The closure runs while the key's stripes are
+    /// held.
     ///
     /// Refused as busy, it changes nothing, and the closure is dropped.
     pub fn update_fn<F: FnOnce(V) -> V>(
@@ -81,7 +82,8 @@ impl<K: TableKey + Drop, V: Drop> Table<K, V> {
         Ok(bound)
     }
 
-    /// Unbinds the key, and gives the value that it had; `None` where it is unbound. Refused as busy, it changes nothing.
+    /// Unbinds the key, and gives the value that it had; `None` where it is unbound. Refused as
+    /// busy, it changes nothing.
     pub fn erase(&self, pass: &mut Pass<K, V>, key: &K) -> Result<Option<V>, Busy>
         requires caller { IsCaller self.now pass.old }
         ensures caller { IsCaller self.now pass.new }
@@ -104,8 +106,9 @@ impl<K: TableKey + Drop, V: Drop> Table<K, V> {
         Ok(value)
     }
 
-    /// Unbinds a bound key where the closure answers true for its value, and gives the closure's answer; `None` where the
-    /// key is unbound, and then the closure is not called. The closure runs while the key's stripes are held.
+    /// Unbinds a bound key where the closure answers true for its value, and gives the closure's
+    /// answer; `None` where the key is unbound, and then the closure is not called. The closure
+    /// runs while the key's stripes are held.
     ///
     /// Refused as busy, it changes nothing, and the closure is dropped.
     pub fn erase_fn<F: FnOnce(&V) -> bool>(

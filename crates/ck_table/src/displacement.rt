@@ -1,4 +1,5 @@
-//! Making room for a key whose buckets are full: other entries go to their other buckets, or in the end the table grows.
+//! Making room for a key whose buckets are full: other entries go to their other buckets, or in the
+//! end the table grows.
 ghost use Rattle.std.specs.Prelude.{◌≡◌, ◌^◌, ◌<◌, ◌≤◌, OnErr, IfOk, IfErr};
 ghost use Rattle.ck_model.specs.Arithmetic.{alternate_of};
 ghost use Rattle.ck_words.specs.Passes.{IsPassOf, IsIdle, numbers_of};
@@ -18,8 +19,9 @@ use ck_words::{Lent, Pass, StripeSet};
 use std::snapshot::Snapshot;
 
 impl<K: TableKey + Drop, V: Drop> Table<K, V> {
-    // Makes room for an unbound key whose buckets were found full, in a table of 2^power buckets, and takes its stripes. It
-    // displaces entries in at most `rounds` tries, the last of which is one that finds no path. Then it takes all stripes.
+    // Makes room for an unbound key whose buckets were found full, in a table of 2^power buckets,
+    // and takes its stripes. It displaces entries in at most `rounds` tries, the last of which is
+    // one that finds no path. Then it takes all stripes.
     #[cold]
     #[inline(never)]
     pub(crate) fn make_room(&self, pass: &mut Pass<K, V>, key: &K, power: u32) -> Result<Room, Why>
@@ -59,8 +61,8 @@ impl<K: TableKey + Drop, V: Drop> Table<K, V> {
         self.make_room_in_all(pass, key)
     }
 
-    // One try to make room in a bucket of the hash: a search, and the hops of the path that it found. False where there was
-    // no path, so that another try is of no use.
+    // One try to make room in a bucket of the hash: a search, and the hops of the path that it
+    // found. False where there was no path, so that another try is of no use.
     fn displace(&self, pass: &mut Pass<K, V>, hash: KeyHash, power: u32) -> Result<bool, Busy>
         requires own { IsPassOf self.now pass.old }
         requires idle { IsIdle pass.old }

@@ -120,7 +120,8 @@ impl<K: TableKey + Drop, V: Drop> Insertion<K, V> for Assign {
     }
 }
 
-// Binds an unbound key, and a bound one to what the closure makes of its value; says whether the key was unbound.
+// Binds an unbound key, and a bound one to what the closure makes of its value; says whether the
+// key was unbound.
 #[derive(Drop)]
 pub(crate) struct Upsert<F>(pub(crate) F);
 

@@ -18,12 +18,13 @@ use ck_words::{Lent, Pass};
 use std::alloc::AllocError;
 
 impl<K: TableKey + Drop, V: Drop> Table<K, V> {
-    /// Doubles the table until it has 2^power buckets, and says whether it had fewer. It holds all stripes meanwhile, and
-    /// changes no binding. The load doesn't matter.
+    /// Doubles the table until it has 2^power buckets, and says whether it had fewer. It holds all
+    /// stripes meanwhile, and changes no binding. The load doesn't matter.
     ///
-    /// It is refused as `OverMax` exactly where `power` is above the greatest one that the table was opened with, before it
-    /// takes a stripe. Refused so or as busy, it changes nothing. Refused for want of memory, it may have doubled the table
-    /// some times, and the table has fewer buckets than it was to have.
+    /// It is refused as `OverMax` exactly where `power` is above the greatest one that the table
+    /// was opened with, before it takes a stripe. Refused so or as busy, it changes nothing.
+    /// Refused for want of memory, it may have doubled the table some times, and the table has
+    /// fewer buckets than it was to have.
     pub fn rehash(&self, pass: &mut Pass<K, V>, power: u32) -> Result<bool, GrowFault>
         requires caller { IsCaller self.now pass.old }
         ensures caller { IsCaller self.now pass.new }
@@ -53,8 +54,8 @@ impl<K: TableKey + Drop, V: Drop> Table<K, V> {
         }
     }
 
-    /// Doubles the table until it has `n` slots, four in each bucket, and says whether it had fewer. It is `rehash` to the
-    /// least power of at least 1 that is enough.
+    /// Doubles the table until it has `n` slots, four in each bucket, and says whether it had
+    /// fewer. It is `rehash` to the least power of at least 1 that is enough.
     pub fn reserve(&self, pass: &mut Pass<K, V>, n: u64) -> Result<bool, GrowFault>
         requires caller { IsCaller self.now pass.old }
         ensures caller { IsCaller self.now pass.new }
@@ -78,8 +79,8 @@ fn least_power(n: u64) -> u32
     62
 }
 
-// Doubles a table of 2^s stripes until it has 2^power buckets, and says whether it had fewer. The last doubling is left to be
-// carried out.
+// Doubles a table of 2^s stripes until it has 2^power buckets, and says whether it had fewer. The
+// last doubling is left to be carried out.
 fn double_to<K: TableKey + Drop, V: Drop, H: Held<Stripe<K, V>>>(
     held: &mut H,
     s: u32,

@@ -33,8 +33,8 @@ pub(crate) struct Spot {
 }
 
 impl<K: TableKey + Drop, V: Drop> Table<K, V> {
-    // Takes the stripes of the key, and carries out a doubling that is left to be. Where the key may be among them comes
-    // back.
+    // Takes the stripes of the key, and carries out a doubling that is left to be. Where the key
+    // may be among them comes back.
     #[inline(always)]
     pub(crate) fn hold_key(&self, pass: &mut Pass<K, V>, key: &K) -> Result<Spot, Busy>
         requires caller { IsCaller self.now pass.old }
@@ -51,7 +51,8 @@ impl<K: TableKey + Drop, V: Drop> Table<K, V> {
             IsBusyAt K.hash self.now.settings (K.name key.now) busy.0 pass.old pass.new) }
     {
         let home = self.home_of(key);
-        // What may wait is called right here: each function that it is inlined through would cost one more test.
+        // What may wait is called right here: each function that it is inlined through would cost
+        // one more test.
         if let Err(i) = self.words.lock_now(pass, home.stripes) {
             if let Err(stripe) = self.words.lock_later(pass, home.stripes, i) {
                 return Err(Busy(stripe));
@@ -70,8 +71,8 @@ impl<K: TableKey + Drop, V: Drop> Table<K, V> {
         Home { stripes, hash }
     }
 
-    // Carries out a doubling that is left of the key's stripes, which were just taken. Where the key may be among them comes
-    // back.
+    // Carries out a doubling that is left of the key's stripes, which were just taken. Where the
+    // key may be among them comes back.
     #[inline(always)]
     pub(crate) fn spot_in(&self, pass: &mut Pass<K, V>, key: &K, home: Home) -> Spot
         requires home { IsHomeOf K.hash self.now.settings (K.name key.now) home }
@@ -122,8 +123,9 @@ impl<K: TableKey + Drop, V: Drop> Table<K, V> {
         key_place(&mut lent, stripes.s, key, hash)
     }
 
-    // The entry of the key on its stripes, which the pass holds. Where the key is unbound and its buckets are full, it gives
-    // them back, and answers the power of the table. `since` is the pass before it took them.
+    // The entry of the key on its stripes, which the pass holds. Where the key is unbound and its
+    // buckets are full, it gives them back, and answers the power of the table. `since` is the pass
+    // before it took them.
     #[inline(always)]
     pub(crate) fn find_room(
         &self,

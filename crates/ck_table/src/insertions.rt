@@ -23,15 +23,16 @@ use ck_words::{Lent, Pass};
 use std::snapshot::Snapshot;
 
 impl<K: TableKey + Drop, V: Drop> Table<K, V> {
-    /// Binds the key to the value where it is unbound, and says whether it was. A bound key keeps its value, and the one
-    /// that was passed is dropped.
+    /// Binds the key to the value where it is unbound, and says whether it was. A bound key keeps
+    /// its value, and the one that was passed is dropped.
     ///
-    /// Where both buckets of an unbound key are full, other entries are displaced to make room, and where that is of no
-    /// avail the table doubles, under all stripes; neither changes a binding.
+    /// Where both buckets of an unbound key are full, other entries are displaced to make room, and
+    /// where that is of no avail the table doubles, under all stripes; neither changes a binding.
     ///
-    /// Refused, it changes no binding and hands key and value back: as `Busy`, or where no displacement makes room and the
-    /// table doesn't grow, as `Full` at its greatest power, as `LoadTooLow` where too few slots are taken, or as `Memory`.
-    /// The table may have grown all the same.
+    /// Refused, it changes no binding and hands key and value back: as `Busy`, or where no
+    /// displacement makes room and the table doesn't grow, as `Full` at its greatest power, as
+    /// `LoadTooLow` where too few slots are taken, or as `Memory`. The table may have grown all the
+    /// same.
     pub fn insert(&self, pass: &mut Pass<K, V>, key: K, value: V) -> Result<bool, Refused<K, V>>
         requires caller { IsCaller self.now pass.old }
         ensures caller { IsCaller self.now pass.new }
@@ -46,12 +47,13 @@ impl<K: TableKey + Drop, V: Drop> Table<K, V> {
 
     /// Binds the key to the value, and gives the value that it had.
     ///
-    /// Where both buckets of an unbound key are full, other entries are displaced to make room, and where that is of no
-    /// avail the table doubles, under all stripes; neither changes a binding.
+    /// Where both buckets of an unbound key are full, other entries are displaced to make room, and
+    /// where that is of no avail the table doubles, under all stripes; neither changes a binding.
     ///
-    /// Refused, it changes no binding and hands key and value back: as `Busy`, or where no displacement makes room and the
-    /// table doesn't grow, as `Full` at its greatest power, as `LoadTooLow` where too few slots are taken, or as `Memory`.
-    /// The table may have grown all the same.
+    /// Refused, it changes no binding and hands key and value back: as `Busy`, or where no
+    /// displacement makes room and the table doesn't grow, as `Full` at its greatest power, as
+    /// `LoadTooLow` where too few slots are taken, or as `Memory`. The table may have grown all the
+    /// same.
     pub fn insert_or_assign(
         &self,
         pass: &mut Pass<K, V>,
@@ -69,15 +71,17 @@ impl<K: TableKey + Drop, V: Drop> Table<K, V> {
         self.place(pass, key, value, entries::Assign)
     }
 
-    /// Binds an unbound key to the value, and a bound one to what the closure makes of its value; says whether the key was
-    /// unbound. Of closure and value the one that isn't used is dropped. The closure runs while the key's stripes are held.
+    /// Binds an unbound key to the value, and a bound one to what the closure makes of its value;
+    /// says whether the key was unbound. Of closure and value the one that isn't used is dropped.
+    /// The closure runs while the key's stripes are held.
     ///
-    /// Where both buckets of an unbound key are full, other entries are displaced to make room, and where that is of no
-    /// avail the table doubles, under all stripes; neither changes a binding.
+    /// Where both buckets of an unbound key are full, other entries are displaced to make room, and
+    /// where that is of no avail the table doubles, under all stripes; neither changes a binding.
     ///
-    /// Refused, it changes no binding, drops the closure and hands key and value back: as `Busy`, or where no displacement
-    /// makes room and the table doesn't grow, as `Full` at its greatest power, as `LoadTooLow` where too few slots are
-    /// taken, or as `Memory`. The table may have grown all the same.
+    /// Refused, it changes no binding, drops the closure and hands key and value back: as `Busy`,
+    /// or where no displacement makes room and the table doesn't grow, as `Full` at its greatest
+    /// power, as `LoadTooLow` where too few slots are taken, or as `Memory`. The table may have
+    /// grown all the same.
     pub fn upsert<F: FnOnce(V) -> V>(
         &self,
         pass: &mut Pass<K, V>,
@@ -103,8 +107,8 @@ impl<K: TableKey + Drop, V: Drop> Table<K, V> {
 }
 
 impl<K: TableKey + Drop, V: Drop> Table<K, V> {
-    // Makes the insertion of the entry of the key. What may wait, where a stripe is held or no entry was found, is a call of
-    // its own, so that nothing of it is in the way of the others.
+    // Makes the insertion of the entry of the key. What may wait, where a stripe is held or no
+    // entry was found, is a call of its own, so that nothing of it is in the way of the others.
     #[inline(always)]
     fn place<I: Insertion<K, V>>(
         &self,
@@ -130,8 +134,9 @@ impl<K: TableKey + Drop, V: Drop> Table<K, V> {
         }
     }
 
-    // The same where the stripe at position `missed` was found held, and those before it were taken. It computes the stripes
-    // anew, so that the call before it needs to keep nothing of them. `since` is the pass as the call began.
+    // The same where the stripe at position `missed` was found held, and those before it were
+    // taken. It computes the stripes anew, so that the call before it needs to keep nothing of
+    // them. `since` is the pass as the call began.
     #[cold]
     #[inline(never)]
     fn place_waiting<I: Insertion<K, V>>(
@@ -197,8 +202,8 @@ impl<K: TableKey + Drop, V: Drop> Table<K, V> {
         }
     }
 
-    // The same for a key whose buckets are full, in a table of 2^power buckets, and whose stripes have gone home: it makes
-    // room.
+    // The same for a key whose buckets are full, in a table of 2^power buckets, and whose stripes
+    // have gone home: it makes room.
     #[cold]
     #[inline(never)]
     fn place_later<I: Insertion<K, V>>(

@@ -1,10 +1,12 @@
-//! A concurrent cuckoo hash map: as many callers as a table is opened for work on it from their own threads, each with a
-//! pass of its own, and every answered call stands once in one legal history of a plain map.
+//! A concurrent cuckoo hash map: as many callers as a table is opened for work on it from their own
+//! threads, each with a pass of its own, and every answered call stands once in one legal history
+//! of a plain map.
 //!
-//! An entry is in one of the two buckets of its key (Pagh and Rodler 2004, "Cuckoo Hashing"), and a bucket has four
-//! slots (Dietzfelbinger and Weidling 2007). Striped locks guard the buckets (Li, Andersen, Kaminsky, Freedman 2014,
-//! "Algorithmic Improvements for Fast Concurrent Cuckoo Hashing"), and entries are displaced under two of them at a time.
-//! Where that makes no room, the number of buckets doubles, under all locks.
+//! An entry is in one of the two buckets of its key (Pagh and Rodler 2004, "Cuckoo Hashing"), and a
+//! bucket has four slots (Dietzfelbinger and Weidling 2007). Striped locks guard the buckets (Li,
+//! Andersen, Kaminsky, Freedman 2014, "Algorithmic Improvements for Fast Concurrent Cuckoo
+//! Hashing"), and entries are displaced under two of them at a time. Where that makes no room, the
+//! number of buckets doubles, under all locks.
 #![tactic(auto)]
 
 mod caller;

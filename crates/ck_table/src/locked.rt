@@ -34,11 +34,13 @@ use ck_words::{Pass, Whole};
 use std::alloc::{AllocError, Global};
 use std::marker::Model;
 
-/// A table under one caller: its calls find every stripe free, and no other caller is in a call. Until it is unlocked, all
-/// others find the stripes held. It can't be dropped, so a program that doesn't unlock it doesn't compile.
+/// A table under one caller: its calls find every stripe free, and no other caller is in a call.
+/// Until it is unlocked, all others find the stripes held. It can't be dropped, so a program that
+/// doesn't unlock it doesn't compile.
 ///
-/// What is done to it is one entry of its caller, a session, from the map as it was when the table was locked to the map
-/// when it is unlocked. Contracts see the table, and the caller's pass, which has all stripes.
+/// What is done to it is one entry of its caller, a session, from the map as it was when the table
+/// was locked to the map when it is unlocked. Contracts see the table, and the caller's pass, which
+/// has all stripes.
 pub struct LockedTable<'t, K: TableKey, V> {
     table: &'t Table<K, V>,
     whole: Whole<K, V>,
@@ -55,8 +57,8 @@ impl<'t, K: TableKey, V> Model for LockedTable<'t, K, V> {
 }
 
 impl<K: TableKey + Drop, V: Drop> Table<K, V> {
-    /// Locks the table: takes all stripes, in rising order of their numbers, and carries out the doublings that are left of
-    /// them. It takes no memory.
+    /// Locks the table: takes all stripes, in rising order of their numbers, and carries out the
+    /// doublings that are left of them. It takes no memory.
     ///
     /// Refused as busy, it changes nothing, and the pass comes back.
     pub fn lock_table<'t>(
@@ -90,14 +92,14 @@ impl<'t, K: TableKey + Drop, V: Drop> LockedTable<'t, K, V> {
         find_in_all(stripes_of(&self.whole), self.place(key), key)
     }
 
-    /// Binds the key to the value where it is unbound, and says whether it was. A bound key keeps its value, and the one
-    /// that was passed is dropped.
+    /// Binds the key to the value where it is unbound, and says whether it was. A bound key keeps
+    /// its value, and the one that was passed is dropped.
     ///
-    /// Where both buckets of an unbound key are full, other entries are displaced to make room, or the table grows, which
-    /// changes no binding.
+    /// Where both buckets of an unbound key are full, other entries are displaced to make room, or
+    /// the table grows, which changes no binding.
     ///
-    /// Refused, it changes no binding and hands key and value back: as `Memory`, `Full` or `LoadTooLow`, and never as
-    /// `Busy`. The table stays locked.
+    /// Refused, it changes no binding and hands key and value back: as `Memory`, `Full` or
+    /// `LoadTooLow`, and never as `Busy`. The table stays locked.
     pub fn insert(&mut self, key: K, value: V) -> Result<bool, Refused<K, V>>
         ensures answered { IfOk result (λ fresh. HasActed (K.name key) (Insert value)
             (if fresh then New else Old) self.old self.new) }
@@ -190,8 +192,8 @@ impl<'t, K: TableKey + Drop, V: Drop> LockedTable<'t, K, V> {
 }
 
 impl<'t, K: TableKey + Clone + Drop, V: Clone + Drop> LockedTable<'t, K, V> {
-    /// Clones of all keys with their values, in rising order of the keys. Refused for want of memory, it leaves the table
-    /// locked and as it was.
+    /// Clones of all keys with their values, in rising order of the keys. Refused for want of
+    /// memory, it leaves the table locked and as it was.
     pub fn export(&self, alloc: Global) -> Result<Vec<(K, V)>, AllocError>
         requires keys { ClonesAreEqual K.is_clone }
         requires values { ClonesAreEqual V.is_clone }
@@ -209,8 +211,8 @@ fn stripes_of<K: TableKey + Drop, V: Drop>(whole: &Whole<K, V>) -> &[Stripe<K, V
     whole.stripes.as_slice()
 }
 
-// Binds the key, which may be at this place, where it is unbound, and says whether it was. Where both its buckets are full,
-// key and value come back.
+// Binds the key, which may be at this place, where it is unbound, and says whether it was. Where
+// both its buckets are full, key and value come back.
 fn insert_in<K: TableKey + Drop, V: Drop>(
     whole: &mut Whole<K, V>,
     place: KeyPlace,

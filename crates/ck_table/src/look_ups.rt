@@ -16,8 +16,8 @@ use ck_words::{Commit, Lent, Pass};
 use std::snapshot::Snapshot;
 
 impl<K: TableKey + Drop, V: Drop> Table<K, V> {
-    /// What the closure answers for the value of the key; `None` where the key is unbound, and then the closure is not
-    /// called. The closure runs while the key's stripes are held.
+    /// What the closure answers for the value of the key; `None` where the key is unbound, and then
+    /// the closure is not called. The closure runs while the key's stripes are held.
     ///
     /// Refused as busy, it changes nothing, and the closure is dropped.
     pub fn find_fn<R, F: FnOnce(&V) -> R>(
@@ -52,7 +52,8 @@ impl<K: TableKey + Drop, V: Drop> Table<K, V> {
         Ok(found)
     }
 
-    /// The value that is bound to the key; `None` where the key is unbound. Refused as busy, it changes nothing.
+    /// The value that is bound to the key; `None` where the key is unbound. Refused as busy, it
+    /// changes nothing.
     pub fn find(&self, pass: &mut Pass<K, V>, key: &K) -> Result<Option<V>, Busy>
     where
         V: Copy,

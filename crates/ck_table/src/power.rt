@@ -10,8 +10,8 @@ use ck_key::TableKey;
 use ck_words::Pass;
 
 impl<K: TableKey + Drop, V: Drop> Table<K, V> {
-    /// The power: the table has 2^power buckets of four slots. It is that of stripe 0 while this call holds it, and the
-    /// pass has then been told of it. Refused as busy, it changes nothing.
+    /// The power: the table has 2^power buckets of four slots. It is that of stripe 0 while this
+    /// call holds it, and the pass has then been told of it. Refused as busy, it changes nothing.
     pub fn power(&self, pass: &mut Pass<K, V>) -> Result<u32, Busy>
         requires caller { IsCaller self.now pass.old }
         ensures caller { IsCaller self.now pass.new }

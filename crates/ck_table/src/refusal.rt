@@ -16,8 +16,9 @@ pub enum OpenFault {
     Memory,
 }
 
-/// This stripe was found held in as many tries in a row as the settings allow, and the call changed nothing. It is one of
-/// the call's keys; of a call that takes all stripes it is any, and of one that asks for the power the stripe 0.
+/// This stripe was found held in as many tries in a row as the settings allow, and the call changed
+/// nothing. It is one of the call's keys; of a call that takes all stripes it is any, and of one
+/// that asks for the power the stripe 0.
 #[derive(Debug, Clone, Copy, PartialEq, Eq, Error)]
 #[error("stripe {0} is busy")]
 pub struct Busy(pub u32);
@@ -25,7 +26,8 @@ pub struct Busy(pub u32);
 /// Why the table was not made to grow.
 #[derive(Debug, Clone, Copy, PartialEq, Eq, Error)]
 pub enum GrowFault {
-    /// This stripe was found held in as many tries in a row as the settings allow. The call changed nothing.
+    /// This stripe was found held in as many tries in a row as the settings allow. The call changed
+    /// nothing.
     #[error("stripe {0} is busy")]
     Busy(u32),
     /// There is no memory to grow. The table may have doubled before that.
@@ -36,17 +38,19 @@ pub enum GrowFault {
     OverMax,
 }
 
-/// Why an entry was refused. The table may have grown all the same. A locked table refuses nothing as `Busy`.
+/// Why an entry was refused. The table may have grown all the same. A locked table refuses nothing
+/// as `Busy`.
 #[derive(Debug, Clone, Copy, PartialEq, Eq, Error)]
 pub enum Why {
-    /// This stripe was found held in as many tries in a row as the settings allow. It is one of the key, but where the
-    /// key's buckets were found full.
+    /// This stripe was found held in as many tries in a row as the settings allow. It is one of the
+    /// key, but where the key's buckets were found full.
     #[error("stripe {0} is busy")]
     Busy(u32),
     /// No displacement makes room for the key, the table may grow, and there is no memory to.
     #[error("no memory to grow")]
     Memory,
-    /// No displacement makes room for the key, and the table may not grow beyond its greatest power.
+    /// No displacement makes room for the key, and the table may not grow beyond its greatest
+    /// power.
     #[error("no room for the key")]
     Full,
     /// No displacement makes room for the key, and too few slots are taken for the table to grow.

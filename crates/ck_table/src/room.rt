@@ -1,4 +1,5 @@
-//! Room for a key: its entry among the stripes that its pass holds, which are those of the key or all of the table.
+//! Room for a key: its entry among the stripes that its pass holds, which are those of the key or
+//! all of the table.
 ghost use Rattle.std.specs.Prelude.{◌≡◌, ◌≤◌, ◌^◌, ◌%◌, OnErr, IfOk, IfErr, reverse};
 ghost use Rattle.ck_key.specs.Hashes.{IsHashOf};
 ghost use Rattle.ck_model.specs.Contents.{layout_of, Lawful};
@@ -27,7 +28,8 @@ use ck_section::{Entry, Held, HeldBucket, KeyPlace, Lack, find_entry, make_room}
 use ck_stripe::Stripe;
 use ck_words::{Lent, Pass};
 
-// Where a key may be among the stripes that its pass holds, those of the key or all of the table, and its entry there.
+// Where a key may be among the stripes that its pass holds, those of the key or all of the table,
+// and its entry there.
 #[derive(Clone, Copy)]
 pub(crate) struct Room {
     pub(crate) spot: Spot,
@@ -35,8 +37,9 @@ pub(crate) struct Room {
 }
 
 impl<K: TableKey + Drop, V: Drop> Table<K, V> {
-    // Takes all stripes and makes room for the key there, by a displacement or by growing. It keeps them, with the entry of
-    // the key. Where it can't make room, all have gone home with what they contain then, and the pass has told the reason.
+    // Takes all stripes and makes room for the key there, by a displacement or by growing. It keeps
+    // them, with the entry of the key. Where it can't make room, all have gone home with what they
+    // contain then, and the pass has told the reason.
     pub(crate) fn make_room_in_all(&self, pass: &mut Pass<K, V>, key: &K) -> Result<Room, Why>
         requires caller { IsCaller self.now pass.old }
         ensures own { IsPassOf self.now pass.new }
@@ -95,8 +98,8 @@ impl<K: TableKey + Drop, V: Drop> Table<K, V> {
     }
 }
 
-// Makes room for the key, whose hash the caller has at hand, among all stripes of a table. Where it may be among them comes
-// back, and its entry there.
+// Makes room for the key, whose hash the caller has at hand, among all stripes of a table. Where it
+// may be among them comes back, and its entry there.
 fn make_entry<K: TableKey + Drop, V: Drop, H: Held<Stripe<K, V>>>(
     held: &mut H,
     settings: Settings,
@@ -132,7 +135,8 @@ fn make_entry<K: TableKey + Drop, V: Drop, H: Held<Stripe<K, V>>>(
     Ok((place, entry))
 }
 
-// Where the key, whose hash the caller has at hand, may be among all stripes of a table of 2^s. Its own two are settled.
+// Where the key, whose hash the caller has at hand, may be among all stripes of a table of 2^s. Its
+// own two are settled.
 fn place_in_table<K: TableKey + Drop, V: Drop, H: Held<Stripe<K, V>>>(
     held: &mut H,
     s: u32,

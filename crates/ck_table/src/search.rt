@@ -1,4 +1,5 @@
-//! The search for a displacement path. It looks at one bucket at a time, so it keeps no other caller from more than that.
+//! The search for a displacement path. It looks at one bucket at a time, so it keeps no other
+//! caller from more than that.
 ghost use Rattle.std.specs.Prelude.{◌^◌, ◌<◌, ◌≤◌, IfErr};
 ghost use Rattle.ck_words.specs.Passes.{IsPassOf, IsIdle};
 ghost use Rattle.ck_table.specs.Displacing.{IsBack, IsBusyAnywhere};
@@ -49,7 +50,8 @@ impl<K: TableKey + Drop, V: Drop> Table<K, V> {
         Ok(Searched::Nothing)
     }
 
-    // The partials in a bucket, where the table has 2^power buckets still. The bucket's stripe is held no longer than that.
+    // The partials in a bucket, where the table has 2^power buckets still. The bucket's stripe is
+    // held no longer than that.
     fn try_sketch(
         &self,
         pass: &mut Pass<K, V>,

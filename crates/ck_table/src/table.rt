@@ -15,7 +15,8 @@ use ck_words::{Pass, Words};
 use std::alloc::Global;
 use std::marker::Model;
 
-/// A map from keys to values in 2^power buckets, for many callers. It doubles where an entry finds no room.
+/// A map from keys to values in 2^power buckets, for many callers. It doubles where an entry finds
+/// no room.
 ///
 /// A caller makes each call with its own pass. Contracts see which table it is, and its settings.
 #[derive(Drop)]
@@ -32,9 +33,11 @@ impl<K: TableKey, V> Model for Table<K, V> {
 }
 
 impl<K: TableKey + Drop, V: Drop> Table<K, V> {
-    /// An empty table of 2^power buckets, and its passes, as many as the settings have callers, numbered from 0.
+    /// An empty table of 2^power buckets, and its passes, as many as the settings have callers,
+    /// numbered from 0.
     ///
-    /// It is refused as `Settings` where a setting is not in its range, and otherwise only for want of memory.
+    /// It is refused as `Settings` where a setting is not in its range, and otherwise only for want
+    /// of memory.
     pub fn open(
         alloc: Global,
         settings: Settings,
@@ -53,11 +56,11 @@ impl<K: TableKey + Drop, V: Drop> Table<K, V> {
         }
     }
 
-    /// Ends the table: all keys with their values, in rising order of the keys. They are the map after one legal history,
-    /// which has the entries of all passes, of each in its order.
+    /// Ends the table: all keys with their values, in rising order of the keys. They are the map
+    /// after one legal history, which has the entries of all passes, of each in its order.
     ///
-    /// Where a stripe is found held in as many tries as the settings allow, or there is no memory for the list, the table
-    /// and the passes come back, with the same entries.
+    /// Where a stripe is found held in as many tries as the settings allow, or there is no memory
+    /// for the list, the table and the passes come back, with the same entries.
     pub fn close(self, passes: Vec<Pass<K, V>>) -> Result<Vec<(K, V)>, (Self, Vec<Pass<K, V>>)>
         requires { AreAllPasses self passes.items }
         ensures pairs { IfOk result (λ pairs. (log : List (Entry V)) × (m : Map V)
@@ -77,8 +80,8 @@ impl<K: TableKey + Drop, V: Drop> Table<K, V> {
         }
     }
 
-    /// Tells `b` what `a` has seen: that is then a beginning of what `b` has seen, and `b` was told no lower power. What
-    /// `b` had seen is a beginning too.
+    /// Tells `b` what `a` has seen: that is then a beginning of what `b` has seen, and `b` was told
+    /// no lower power. What `b` had seen is a beginning too.
     pub fn meet(&self, a: &mut Pass<K, V>, b: &mut Pass<K, V>)
         requires own { IsCaller self.now a.old × IsCaller self.now b.old }
         ensures own { IsCaller self.now a.new × IsCaller self.now b.new }

@@ -29,8 +29,8 @@ fn wait(tries: u32) {
 }
 
 impl<K: TableKey + Drop, V: Drop> Words<K, V> {
-    /// Takes stripe `t`, which is above all that the pass holds, by at most `turns` swaps. False where each of them found
-    /// it held.
+    /// Takes stripe `t`, which is above all that the pass holds, by at most `turns` swaps. False
+    /// where each of them found it held.
     #[inline(always)]
     pub(crate) fn try_take(&self, pass: &mut Pass<K, V>, t: usize) -> bool
         requires own { IsPassOf self.now pass.old }
@@ -73,9 +73,9 @@ impl<K: TableKey + Drop, V: Drop> Words<K, V> {
         false
     }
 
-    /// Takes the stripes of a set, and carries out the doublings that are left of them. Where another pass holds one, it
-    /// gives back what it holds, unchanged, and answers the number of that stripe, which was found held `turns` times in a
-    /// row.
+    /// Takes the stripes of a set, and carries out the doublings that are left of them. Where
+    /// another pass holds one, it gives back what it holds, unchanged, and answers the number of
+    /// that stripe, which was found held `turns` times in a row.
     #[inline(always)]
     pub fn lock(&self, pass: &mut Pass<K, V>, set: StripeSet) -> Result<(), u32>
         requires own { IsPassOf self.now pass.old }
@@ -100,8 +100,8 @@ impl<K: TableKey + Drop, V: Drop> Words<K, V> {
         Ok(())
     }
 
-    /// Takes the stripes of a set by one swap each. Where another pass holds one, it keeps those before it, and answers its
-    /// position in the set.
+    /// Takes the stripes of a set by one swap each. Where another pass holds one, it keeps those
+    /// before it, and answers its position in the set.
     #[inline(always)]
     pub fn lock_now(&self, pass: &mut Pass<K, V>, set: StripeSet) -> Result<(), usize>
         requires own { IsPassOf self.now pass.old }
@@ -156,8 +156,9 @@ impl<K: TableKey + Drop, V: Drop> Words<K, V> {
         Ok(())
     }
 
-    /// Goes on where `lock_now` missed the stripe at position `i`, with the second of `turns` tries in all. Where each of
-    /// them found a stripe held, it gives back what it holds, unchanged, and answers the number of that stripe.
+    /// Goes on where `lock_now` missed the stripe at position `i`, with the second of `turns` tries
+    /// in all. Where each of them found a stripe held, it gives back what it holds, unchanged, and
+    /// answers the number of that stripe.
     #[inline(always)]
     pub fn lock_later(&self, pass: &mut Pass<K, V>, set: StripeSet, i: usize) -> Result<(), u32>
         requires own { IsPassOf self.now pass.old }
@@ -179,7 +180,8 @@ impl<K: TableKey + Drop, V: Drop> Words<K, V> {
         self.lock_set_later(pass, set, i)
     }
 
-    // Goes on so with the set of two stripes, which are handed on by their numbers: a set would be kept in memory.
+    // Goes on so with the set of two stripes, which are handed on by their numbers: a set would be
+    // kept in memory.
     #[cold]
     #[inline(never)]
     fn lock_pair_later(

@@ -15,11 +15,12 @@ use ck_key::TableKey;
 use std::alloc::Global;
 
 impl<K: TableKey + Drop, V: Drop> Words<K, V> {
-    /// Ends the table, given the passes of all callers, and gives its pairs, those of the highest stripe first. There is one
-    /// history of all that the callers have done, and these pairs are what it leaves.
+    /// Ends the table, given the passes of all callers, and gives its pairs, those of the highest
+    /// stripe first. There is one history of all that the callers have done, and these pairs are
+    /// what it leaves.
     ///
-    /// It is refused where a stripe was found held, and for want of memory. Then it gives words and passes back, and no
-    /// entry has changed.
+    /// It is refused where a stripe was found held, and for want of memory. Then it gives words and
+    /// passes back, and no entry has changed.
     pub fn close(
         self,
         passes: Vec<Pass<K, V>>,
@@ -46,8 +47,8 @@ impl<K: TableKey + Drop, V: Drop> Words<K, V> {
         Ok(self.pour(pass, pairs))
     }
 
-    // Takes all stripes, with no doubling left to carry out, and memory for their pairs. Where it is refused one of
-    // them, the pass holds none.
+    // Takes all stripes, with no doubling left to carry out, and memory for their pairs. Where it
+    // is refused one of them, the pass holds none.
     fn hold_with_room(&self, alloc: Global, pass: &mut Pass<K, V>) -> Option<Vec<(K, V)>>
         requires own { IsPassOf self.now pass.old }
         requires idle { IsIdle pass.old }
@@ -114,8 +115,8 @@ impl<K: TableKey + Drop, V: Drop> Words<K, V> {
     }
 }
 
-// Takes the stripes out of the slots of a seat that has all, which keeps the slots with nothing in them, and pours their
-// pairs.
+// Takes the stripes out of the slots of a seat that has all, which keeps the slots with nothing in
+// them, and pours their pairs.
 fn drain<K: TableKey + Drop, V: Drop>(
     shared: &Board<K, V>,
     seat: &mut StripeSeat<K, V>,

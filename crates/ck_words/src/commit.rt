@@ -14,7 +14,8 @@ use ck_key::TableKey;
 use std::marker::Brand;
 use std::snapshot::Snapshot;
 
-/// A call with its keys and its value, as contracts see them. Nothing of it is left when the program runs.
+/// A call with its keys and its value, as contracts see them. Nothing of it is left when the
+/// program runs.
 #[derive(Drop)]
 pub enum Commit<K, V> {
     Find(Snapshot<K>),
@@ -31,7 +32,8 @@ pub enum Commit<K, V> {
 impl<K: TableKey + Drop, V: Drop> Words<K, V> {
     /// Decides the call with what the stripes of a set contain now, and gives them back.
     ///
-    /// The first store decides, and the entry has the reply that what the stripes contained gives to the call.
+    /// The first store decides, and the entry has the reply that what the stripes contained gives
+    /// to the call.
     #[inline(always)]
     pub fn commit(&self, pass: &mut Pass<K, V>, set: StripeSet, call: Commit<K, V>)
         requires own { IsPassOf self.now pass.old }
@@ -47,8 +49,9 @@ impl<K: TableKey + Drop, V: Drop> Words<K, V> {
         self.release_first(pass, set, last);
     }
 
-    /// Decides a session with what the stripes of a set contain now, as `commit` does, and gives them back: from the pairs
-    /// that they contained when they were taken to those that they contain.
+    /// Decides a session with what the stripes of a set contain now, as `commit` does, and gives
+    /// them back: from the pairs that they contained when they were taken to those that they
+    /// contain.
     pub fn commit_session(&self, pass: &mut Pass<K, V>, set: StripeSet)
         requires own { IsPassOf self.now pass.old }
         requires numbered { numbers_of pass.old.stripes ≡ list_of set }

@@ -54,7 +54,8 @@ impl<K: TableKey + Drop, V: Drop> Held<Stripe<K, V>> for Lent<'_, K, V> {
         slots::visit_at(shared, &mut pass.seat, set.count(), i, set.at(i), visitor)
     }
 
-    // The number of the stripe is that of the bucket, so it needn't be chosen among those of the set.
+    // The number of the stripe is that of the bucket, so it needn't be chosen among those of the
+    // set.
     #[inline(always)]
     fn visit_bucket<W: Visitor<Stripe<K, V>>>(
         &mut self,

@@ -1,4 +1,5 @@
-//! Lock words, the stripes in their slots, and the passes of callers, under the invariant of the core.
+//! Lock words, the stripes in their slots, and the passes of callers, under the invariant of the
+//! core.
 #![tactic(auto)]
 
 mod acquire;

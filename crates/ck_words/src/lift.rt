@@ -13,8 +13,9 @@ use ck_section::{Held, Visitor};
 use ck_stripe::Stripe;
 use std::marker::Model;
 
-/// All stripes of a table, which one caller holds, in one list in rising order of their numbers. They stand out of their
-/// slots until `Words::lower` puts them back; it can't be dropped. Contracts see what they see of the caller's pass.
+/// All stripes of a table, which one caller holds, in one list in rising order of their numbers.
+/// They stand out of their slots until `Words::lower` puts them back; it can't be dropped.
+/// Contracts see what they see of the caller's pass.
 pub struct Whole<K: TableKey, V> {
     pub(crate) seat: StripeSeat<K, V>,
     /// The stripes.
@@ -63,7 +64,8 @@ impl<K: TableKey + Drop, V: Drop> Held<Stripe<K, V>> for Whole<K, V> {
 }
 
 impl<K: TableKey + Drop, V: Drop> Words<K, V> {
-    /// Moves all stripes, which the pass holds, out of their slots into one list. It takes no memory.
+    /// Moves all stripes, which the pass holds, out of their slots into one list. It takes no
+    /// memory.
     pub fn lift(&self, pass: Pass<K, V>) -> Whole<K, V>
         requires own { IsPassOf self.now pass }
         requires numbered { numbers_of pass.stripes ≡ counting 0 (2 ^ self.now.settings.s) }
@@ -98,8 +100,8 @@ impl<K: TableKey + Drop, V: Drop> Words<K, V> {
     }
 }
 
-// Takes the stripes out of the slots of a seat that has all, those of the lowest numbers first. The seat keeps the slots with
-// nothing in them.
+// Takes the stripes out of the slots of a seat that has all, those of the lowest numbers first. The
+// seat keeps the slots with nothing in them.
 fn take_out<K: TableKey + Drop, V: Drop>(
     shared: &Board<K, V>,
     seat: &mut StripeSeat<K, V>,

@@ -47,8 +47,8 @@ fn open_slots<K: TableKey + Drop, V: Drop>(
 }
 
 impl<K: TableKey + Drop, V: Drop> Words<K, V> {
-    /// A table of empty stripes, and its first pass. It has the number 0, and keeps the numbers of the other callers. It
-    /// is refused only for want of memory.
+    /// A table of empty stripes, and its first pass. It has the number 0, and keeps the numbers of
+    /// the other callers. It is refused only for want of memory.
     pub fn open(alloc: Global, settings: Settings) -> Result<(Words<K, V>, Pass<K, V>), AllocError>
         requires { AreInRange settings }
         ensures settings { IfOk result (λ r. r.0.settings ≡ settings) }
@@ -66,8 +66,8 @@ impl<K: TableKey + Drop, V: Drop> Words<K, V> {
         Ok((Words { table, settings }, Pass { seat, room }))
     }
 
-    /// A table of empty stripes, and the passes of all callers in the order of their numbers. They have seen nothing. It
-    /// is refused only for want of memory.
+    /// A table of empty stripes, and the passes of all callers in the order of their numbers. They
+    /// have seen nothing. It is refused only for want of memory.
     pub fn open_all(
         alloc: Global,
         settings: Settings,
@@ -88,8 +88,9 @@ impl<K: TableKey + Drop, V: Drop> Words<K, V> {
         Ok((words, passes))
     }
 
-    /// One more pass, with the first of the numbers that the pass `first` keeps. It has seen nothing, and was told the
-    /// power that `first` was told. It is refused only for want of memory, and then `first` is unchanged.
+    /// One more pass, with the first of the numbers that the pass `first` keeps. It has seen
+    /// nothing, and was told the power that `first` was told. It is refused only for want of
+    /// memory, and then `first` is unchanged.
     pub fn deal(&self, first: &mut Pass<K, V>) -> Result<Pass<K, V>, AllocError>
         requires own { IsPassOf self.now first.old }
         requires kept { (m : ℕ) × (others : List (ℕ × List (Entry V)))

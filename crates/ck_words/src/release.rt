@@ -1,4 +1,5 @@
-//! Giving stripes home by no call: as they were taken, with new contents, or where a key found no room in them.
+//! Giving stripes home by no call: as they were taken, with new contents, or where a key found no
+//! room in them.
 ghost use Rattle.std.specs.Prelude.{◌≡◌, ◌≤◌, length, reverse, take};
 ghost use Rattle.ck_model.specs.declared.history.Reason.TheVariants.{NoRoom};
 ghost use Rattle.ck_model.specs.Contents.{layout_of, Lawful};
@@ -64,8 +65,9 @@ impl<K: TableKey + Drop, V: Drop> Words<K, V> {
         }
     }
 
-    /// Gives the stripes of a set home with what they contain now, after an identity section, as a displacement or a doubling
-    /// is. It tells nothing of room. The pass has then been told of their power.
+    /// Gives the stripes of a set home with what they contain now, after an identity section, as a
+    /// displacement or a doubling is. It tells nothing of room. The pass has then been told of
+    /// their power.
     ///
     /// The first store tells what all contain.
     pub fn renew_set(&self, pass: &mut Pass<K, V>, set: StripeSet)
@@ -80,7 +82,8 @@ impl<K: TableKey + Drop, V: Drop> Words<K, V> {
         self.release_first(pass, set, last);
     }
 
-    /// Gives the stripes of a set back as they are, and tells that the key is unbound there and its buckets are full.
+    /// Gives the stripes of a set back as they are, and tells that the key is unbound there and its
+    /// buckets are full.
     ///
     /// The first store tells it.
     #[inline(always)]
@@ -99,8 +102,9 @@ impl<K: TableKey + Drop, V: Drop> Words<K, V> {
         self.release_first(pass, set, last);
     }
 
-    /// Gives the stripes of a set home with what they contain now, after an identity section, and tells that the key found no
-    /// room in them, for want of this. The pass has then been told of their power.
+    /// Gives the stripes of a set home with what they contain now, after an identity section, and
+    /// tells that the key found no room in them, for want of this. The pass has then been told of
+    /// their power.
     ///
     /// The first store tells what all contain, which gives the grounds.
     pub fn refuse(&self, pass: &mut Pass<K, V>, set: StripeSet, key: &K, lack: Lack)

@@ -56,8 +56,8 @@ impl<K: TableKey + Drop, V: Drop> Words<K, V> {
         self.settle_each(pass, set);
     }
 
-    // Carries out the doublings that are left of two stripes, which are handed on by their numbers: a set would be kept in
-    // memory.
+    // Carries out the doublings that are left of two stripes, which are handed on by their numbers:
+    // a set would be kept in memory.
     #[cold]
     #[inline(never)]
     fn settle_pair(&self, pass: &mut Pass<K, V>, low: usize, high: usize)

@@ -1,6 +1,7 @@
-//! A visit of one of the stripes that a seat holds, in its slot. A seat lends the slot that it has first, so its slots are
-//! turned until that is the one, and then on until they are in their old order. A seat has no bytes, so a turn costs nothing,
-//! and what finds the slot is the stripe's number.
+//! A visit of one of the stripes that a seat holds, in its slot. A seat lends the slot that it has
+//! first, so its slots are turned until that is the one, and then on until they are in their old
+//! order. A seat has no bytes, so a turn costs nothing, and what finds the slot is the stripe's
+//! number.
 ghost use Rattle.std.specs.Prelude.{◌≡◌};
 ghost use Rattle.atomic_table.specs.Seated.{TableId};
 ghost use Rattle.ck_stripe.specs.Stripe.{StripeState};

@@ -1,5 +1,6 @@
-//! The steps on the lock words, and what each tells. Each is one atomic operation on one word, and one step of the core. Nothing
-//! else but a split or a join changes what a pass knows, and nothing else which stripes it holds.
+//! The steps on the lock words, and what each tells. Each is one atomic operation on one word, and
+//! one step of the core. Nothing else but a split or a join changes what a pass knows, and nothing
+//! else which stripes it holds.
 ghost use Rattle.std.specs.Prelude.{◌≡◌, ◌<◌, ◌^◌, Some, None, reverse};
 ghost use Rattle.ck_model.specs.Numbered.{numbers};
 ghost use Rattle.ck_model.specs.Contents.{layout_of, Lawful};
@@ -81,7 +82,8 @@ impl<V> Says<V> for Brand {
     ghost entry = { no_entry };
 }
 
-/// A store of 0 after a section: the call is decided, and the stripe goes home with its new content.
+/// A store of 0 after a section: the call is decided, and the stripe goes home with its new
+/// content.
 pub struct Decide<J> {
     said: PhantomData<J>,
 }
@@ -108,7 +110,8 @@ impl<K: TableKey, V> Play<Option<Stripe<K, V>>, View<V>> for Look {
 impl<K: TableKey + Drop, V: Drop> Words<K, V> {
     /// Takes stripe `t`, which is above all that the pass holds. False where another pass holds it.
     ///
-    /// It is a swap for 1. Where it brings back 0 the pass has the stripe, and has seen the history so far.
+    /// It is a swap for 1. Where it brings back 0 the pass has the stripe, and has seen the history
+    /// so far.
     pub fn take(&self, pass: &mut Pass<K, V>, t: usize) -> bool
         requires own { IsPassOf self.now pass.old }
         requires inside { t < 2 ^ self.now.settings.s }
@@ -124,7 +127,8 @@ impl<K: TableKey + Drop, V: Drop> Words<K, V> {
         true
     }
 
-    /// Gives the highest stripe back, number `t`, as it was taken. `said` is for the pick of `J` alone.
+    /// Gives the highest stripe back, number `t`, as it was taken. `said` is for the pick of `J`
+    /// alone.
     ///
     /// It is a store of 0. Where the stripes show it, it may tell that a name found no room.
     pub fn give<J: Refuses, X>(&self, pass: &mut Pass<K, V>, t: usize, said: &X)
@@ -142,7 +146,8 @@ impl<K: TableKey + Drop, V: Drop> Words<K, V> {
         self.table.shared.store::<Give<J>>(&mut pass.seat, t * 8, 0);
     }
 
-    /// Gives the highest stripe back, number `t`, after a `decide` or a `renew`, which told what it contains.
+    /// Gives the highest stripe back, number `t`, after a `decide` or a `renew`, which told what it
+    /// contains.
     ///
     /// It is a store of 0.
     pub fn give_rest(&self, pass: &mut Pass<K, V>, t: usize)
@@ -156,10 +161,11 @@ impl<K: TableKey + Drop, V: Drop> Words<K, V> {
         self.give::<Brand, ()>(pass, t, &());
     }
 
-    /// Decides the call of `J` with what the stripes contain now, and gives the highest one back, number `t`. `said` is for the pick
-    /// of `J` alone.
+    /// Decides the call of `J` with what the stripes contain now, and gives the highest one back,
+    /// number `t`. `said` is for the pick of `J` alone.
     ///
-    /// It is a store of 0, by which the entry joins the history. The pass has then seen the history up to it.
+    /// It is a store of 0, by which the entry joins the history. The pass has then seen the history
+    /// up to it.
     pub fn decide<J: Says<V>, X>(&self, pass: &mut Pass<K, V>, t: usize, said: &X)
         requires own { IsPassOf self.now pass.old }
         requires highest { IsHighest t pass.old.stripes }
@@ -177,8 +183,8 @@ impl<K: TableKey + Drop, V: Drop> Words<K, V> {
             .store::<Decide<J>>(&mut pass.seat, t * 8, 0);
     }
 
-    /// Gives the highest stripe back, number `t`, after an identity section, as a displacement or a doubling is, with what the stripes
-    /// contain now. `said` is for the pick of `J` alone.
+    /// Gives the highest stripe back, number `t`, after an identity section, as a displacement or a
+    /// doubling is, with what the stripes contain now. `said` is for the pick of `J` alone.
     ///
     /// It is a store of 0. Where the stripes show it, it may tell that a name found no room.
     pub fn renew<J: Refuses, X>(&self, pass: &mut Pass<K, V>, t: usize, said: &X)

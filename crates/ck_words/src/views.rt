@@ -30,8 +30,8 @@ impl<V> Join<View<V>> for Tell {
 }
 
 impl<K: TableKey + Drop, V: Drop> Words<K, V> {
-    /// Tells `b` what `a` has seen: that is then a beginning of what `b` has seen, and `b` was told no lower power. What `b`
-    /// had seen is a beginning too.
+    /// Tells `b` what `a` has seen: that is then a beginning of what `b` has seen, and `b` was told
+    /// no lower power. What `b` had seen is a beginning too.
     pub fn meet(&self, a: &mut Pass<K, V>, b: &mut Pass<K, V>)
         requires own { IsPassOf self.now a.old × IsPassOf self.now b.old }
         ensures own { IsPassOf self.now b.new }
