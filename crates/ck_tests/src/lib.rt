@@ -1,4 +1,4 @@
-//! Tests that cross crates, and those of crates that are then proved without tests.
+//! Tests of the table of many callers, and of the lock words below it.
 #![tactic(auto)]
 
 #[cfg(test)]
@@ -12,12 +12,6 @@ mod growing;
 #[cfg(test)]
 mod growth;
 #[cfg(test)]
-mod histories;
-#[cfg(test)]
-mod keys;
-#[cfg(test)]
-mod lawful;
-#[cfg(test)]
 mod locks;
 #[cfg(test)]
 mod memory;
@@ -26,13 +20,7 @@ mod nested;
 #[cfg(test)]
 mod requests;
 #[cfg(test)]
-mod scripts;
-#[cfg(test)]
-mod search;
-#[cfg(test)]
 mod sessions;
-#[cfg(test)]
-mod stripes;
 #[cfg(test)]
 mod threads;
 #[cfg(test)]

@@ -7,22 +7,13 @@ ghost use Rattle.std.specs.Prelude.{◌≡◌, IfSome, IfOk};
 ghost use Rattle.ck_words.specs.Closing.{IsCaller, AreAllPasses};
 
 use crate::fixtures::{NumPass, NumTable, TWO_STRIPES};
+use ck_hoard::{End, Ends, ends_of, hoard};
 use ck_key::{KeyFault, NumKey, TextKey};
-use ck_script::{
-    FromRead, IntoWrite, OpenGate, RunFault, Script, ScriptFault, What, read_script, run,
-};
 use ck_table::{OpenFault, Settings};
 use ck_words::Words;
-use std::alloc::{AllocError, Global};
+use std::alloc::Global;
 use std::process::Abort;
 use std::test::Fail;
-use std::thread::Threads;
-
-/// How many blocks are taken at the most.
-const BLOCKS: usize = 200_000;
-
-/// More bytes than any of the calls takes.
-const MOST: usize = 65_000;
 
 /// For one caller.
 const SETTINGS: Settings = Settings {
@@ -35,60 +26,6 @@ const SETTINGS: Settings = Settings {
     min_load: 5,
 };
 
-/// All memory that is left, in blocks from large to small.
-pub fn hoard(alloc: Global) -> Result<Vec<Vec<u8>>, AllocError> {
-    let mut blocks = Vec::with_capacity(alloc, BLOCKS)?;
-    let mut size = 1usize << 46;
-    for _ in 0..43 {
-        take_all(alloc, size, &mut blocks)?;
-        size /= 2;
-    }
-    Ok(blocks)
-}
-
-/// Takes blocks of this size until there is none left.
-pub fn take_all(alloc: Global, size: usize, blocks: &mut Vec<Vec<u8>>) -> Result<(), AllocError> {
-    for _ in blocks.len()..BLOCKS {
-        let Ok(block) = Vec::with_capacity(alloc, size) else {
-            return Ok(());
-        };
-        blocks.push(block)?;
-    }
-    Ok(())
-}
-
-/// A block that leaves this many bytes of `MOST`.
-fn all_but(alloc: Global, free: usize) -> Result<Vec<u8>, AllocError> {
-    Vec::with_capacity(alloc, MOST.saturating_sub(free))
-}
-
-/// How far a call comes with the memory that is left.
-#[derive(Clone, Copy)]
-enum End {
-    /// There was none for what has to come before it.
-    Unbegun,
-    Refused,
-    Done,
-}
-
-/// Which ends came.
-#[derive(Clone, Copy, PartialEq, Eq)]
-struct Ends {
-    unbegun: bool,
-    refused: bool,
-    done: bool,
-}
-
-impl Ends {
-    fn add(&mut self, end: End) {
-        match end {
-            End::Unbegun => self.unbegun = true,
-            End::Refused => self.refused = true,
-            End::Done => self.done = true,
-        }
-    }
-}
-
 /// What is called.
 #[derive(Clone, Copy)]
 enum Subject {
@@ -96,7 +33,6 @@ enum Subject {
     Opening,
     Closing,
     WordsClosing,
-    Script,
 }
 
 fn make_key(rt: &impl Abort, alloc: Global) -> End {
@@ -196,87 +132,28 @@ const EIGHT_PAIRS: [(NumKey, u64); 8] = [
     (NumKey(15), 150),
 ];
 
-const SCRIPT: &[u8] =
-    b"cuckoo 1\nworker\ninsert 3 1\ninsert 7 2\nfind 3\nfind 4\ninsert 3 5\nend\n";
-
-const OUTPUT: &[u8; 42] = b"worker 1\nnew\nnew\nv 1\nnone\nold\nmap\n3 1\n7 2\n";
-
-fn read_and_run<R: Abort + Threads + Sync>(rt: &R, alloc: Global) -> End {
-    match read_script(alloc, &mut FromRead::new(SCRIPT)) {
-        Err(ScriptFault { line, what }) => {
-            assert!(rt; what == What::Memory);
-            assert!(rt; 1 <= line && line <= 8);
-            End::Unbegun
-        }
-        Ok(script) => run_script(rt, alloc, script),
-    }
-}
-
-fn run_script<R: Abort + Threads + Sync>(rt: &R, alloc: Global, script: Script) -> End {
-    let mut out = [0u8; 42];
-    let mut sink = IntoWrite::new(out.as_mut_slice());
-    let result = run(rt, alloc, script, &mut sink, &OpenGate);
-    match result {
-        Ok(()) => {
-            assert!(rt; out == *OUTPUT);
-            End::Done
-        }
-        Err(fault) => {
-            assert!(rt; fault == RunFault::Memory);
-            assert!(rt; out == [0; 42]);
-            End::Refused
-        }
-    }
-}
-
-fn call<R: Abort + Threads + Sync>(rt: &R, alloc: Global, subject: Subject) -> End {
+fn call(rt: &impl Abort, alloc: Global, subject: Subject) -> End {
     match subject {
         Subject::Key => make_key(rt, alloc),
         Subject::Opening => open(rt, alloc),
         Subject::Closing => close(rt, alloc),
         Subject::WordsClosing => close_words(rt, alloc),
-        Subject::Script => read_and_run(rt, alloc),
     }
-}
-
-/// Makes the call with 16 bytes more from step to step.
-fn ends_of<R: Abort + Threads + Sync>(
-    rt: &R,
-    alloc: Global,
-    subject: Subject,
-    steps: usize,
-) -> Result<Ends, AllocError> {
-    let mut ends = Ends {
-        unbegun: false,
-        refused: false,
-        done: false,
-    };
-    let mut block = all_but(alloc, 0)?;
-    let hoard = hoard(alloc)?;
-    for step in 0..steps {
-        drop(block);
-        block = all_but(alloc, step.saturating_mul(16))?;
-        ends.add(call(rt, alloc, subject));
-    }
-    drop(block);
-    drop(hoard);
-    Ok(ends)
 }
 
 /// Both are refused for want of memory, and then neither is; what has to come before needs memory
 /// too, or none.
-const ROWS: [(&str, Subject, usize, bool); 5] = [
+const ROWS: [(&str, Subject, usize, bool); 4] = [
     ("a text key", Subject::Key, 20, false),
     ("opening a table", Subject::Opening, 120, false),
     ("closing a table", Subject::Closing, 120, true),
     ("closing lock words", Subject::WordsClosing, 200, true),
-    ("a script", Subject::Script, 600, true),
 ];
 
 #[test]
 fn each_request_refused(rt: HostRuntime) -> Result<(), Fail> {
     for (what, subject, steps, unbegun) in ROWS {
-        let ends = ends_of(&rt, rt.alloc(), subject, steps)?;
+        let ends = ends_of(rt.alloc(), steps, || call(&rt, rt.alloc(), subject))?;
         let want = Ends {
             unbegun,
             refused: true,

@@ -5,7 +5,7 @@
 ghost use Rattle.std.specs.Prelude.{◌≡◌};
 
 use crate::fixtures::{NumCaller, NumLocked, NumTable, TWO_STRIPES};
-use crate::memory::{hoard, take_all};
+use ck_hoard::{hoard, take_all};
 use ck_key::NumKey;
 use ck_table::{GrowFault, Refused, Settings, Why};
 use std::alloc::{AllocError, Global};

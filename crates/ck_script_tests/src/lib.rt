@@ -1,0 +1,7 @@
+//! Tests of what runs scripts: sources, sinks and gates, and the want of memory.
+#![tactic(auto)]
+
+#[cfg(test)]
+mod memory;
+#[cfg(test)]
+mod scripts;
