@@ -2,7 +2,6 @@
 use Rattle.std.proofs.Common.{◌≡◌, ◌≢◌, inl, ℕ, zero, suc, ◌+◌, ◌-◌, ◌/◌, ◌^◌, ◌<◌, List, [], ◌∷◌, Option, Some, None, length, refl, sym, ◌∙◌, ap, subst}
 use Rattle.std.specs.Prelude.{slice_set}
 use Rattle.std.specs.FinMap.{get, find}
-use Rattle.std.proofs.lemmas.List.{length-set}
 use Rattle.ck_model.specs.declared.history.Act.{Act}
 use Rattle.ck_model.specs.declared.history.Call.TheVariants.{On}
 use Rattle.ck_model.specs.declared.history.Reply.{Reply}
@@ -14,10 +13,10 @@ use Rattle.ck_model.specs.Contents.{IsBucketOf, Layout, layout, Stripes, Binds, 
 use Rattle.ck_model.specs.Sections.{Section}
 use Rattle.ck_model.proofs.Local.{Change, section_in_one}
 use Rattle.ck_model.proofs.Writes.{Writes, written, stands, places, removes, replaces}
-use Rattle.ck_stripe.specs.Stripe.{StripeState, HasBucket, bucket_of, with_slot}
+use Rattle.ck_stripe.specs.Stripe.{StripeState, bucket_of, with_slot}
 use Rattle.ck_section.specs.declared.place.KeyPlace.{KeyPlace}
 use Rattle.ck_section.specs.declared.place.HeldSlot.{HeldSlot}
-use Rattle.ck_section.specs.Stripes.{stripe_at, set_content, contents_of, IsInReach}
+use Rattle.ck_section.specs.Stripes.{stripe_at, contents_of, IsInReach}
 use Rattle.ck_section.specs.Places.{IsPlaceOf, IsSlotOf, slot_in, set_slot, IsNowhere}
 use Rattle.ck_section.specs.Calls.{IsCall}
 use Rattle.ck_section.proofs.Found.{holds_at, contents_set, set_here, row_bucket, row_within, sound_at, nowhere, unbound, owns, bound_in}
@@ -40,17 +39,6 @@ module _ {V : Type 0} where
   module _ (stripes : List (StripeState V)) (at : HeldSlot) (reach : IsInReach stripes at.index at.bucket) where
     abbrev here : StripeState V
     here = stripe_at stripes at.index
-
-    -- a written stripe stays in reach
-    pub reach_set : (x : Slot V) (n : ℕ) → IsInReach (set_slot stripes at x n) at.index at.bucket
-    reach_set x n =
-        let c : Content V = with_slot here at.bucket at.slot x n in
-        let is : stripe_at (set_content stripes at.index c) at.index ≡ record here { content = c } = set_here stripes at.index c reach.inside in
-        record {
-          inside = subst (λ m. at.index < m) (sym (length-set stripes at.index (record here { content = c }))) reach.inside;
-          settled = ap (λ (t : StripeState V). t.settled) is ∙ reach.settled;
-          own = subst (λ (t : StripeState V). HasBucket t at.bucket) (sym is) reach.own;
-        }
 
     -- a slot that was freed is free
     pub freed : (n : ℕ) → slot_in (set_slot stripes at None n) at ≡ None

@@ -12,13 +12,13 @@ use Rattle.ck_model.specs.Arithmetic.{index_of, second_of}
 use Rattle.ck_model.specs.Map.{Name}
 use Rattle.ck_model.specs.Slots.{HasFree}
 use Rattle.ck_model.specs.Contents.{Stripes, IsBucketOf}
-use Rattle.ck_model.proofs.Buckets.{index_below, second_below, index_lower, second_lower}
+use Rattle.ck_model.proofs.Buckets.{index_below, second_below}
 use Rattle.ck_stripe.specs.Stripe.{StripeState}
 use Rattle.ck_section.specs.Stripes.{no_stripe, stripe_at, bucket_at, contents_of, settled_stripes, IsInReach}
 use Rattle.ck_section.specs.Places.{IsPlaceOf}
 use Rattle.ck_section.specs.Whole.{AreAllHeld, IsTable}
 use Rattle.ck_section.specs.Calls.{IsWithRoom}
-use Rattle.ck_section.specs.Room.{power_in, settled_at, AreBothSettled}
+use Rattle.ck_section.specs.Room.{power_in, settled_at}
 use Rattle.ck_section.specs.Doublings.{ChangesRoom}
 use Rattle.ck_section.proofs.Found.{has_room}
 use Rattle.ck_section.proofs.Tables.{stripe_inside}
@@ -133,13 +133,6 @@ module _ {V : Type 0} where
       one = λ e. ap (λ n. n % 2 ^ s) e;
     }
 
-    pub both_settled : (first second : ℕ) → first ≡ index_of (power_in old) (hash q) → second ≡ second_of (power_in old) (hash q)
-        → (stripe_at old (first % 2 ^ s)).settled ≡ true → (stripe_at old (second % 2 ^ s)).settled ≡ true → AreBothSettled hash s old q
-    both_settled first second one two one_settled two_settled = record {
-      first = subst (λ n. (stripe_at old n).settled ≡ true) (ap (λ n. n % 2 ^ s) one ∙ index_lower s (power_in old) (hash q) table.least) one_settled;
-      second = subst (λ n. (stripe_at old n).settled ≡ true) (ap (λ n. n % 2 ^ s) two ∙ second_lower s (power_in old) (hash q) table.least) two_settled;
-    }
-
     -- a bucket of the name with a free slot is room
     pub room_in : (b : ℕ) → IsBucketOf hash (power_in old) q b → (stripe_at old (b % 2 ^ s)).settled ≡ true → HasFree (bucket_at old (b % 2 ^ s) b) → IsWithRoom hash s old q
     room_in b of settled free max lawful =
@@ -202,9 +195,6 @@ module _ {V : Type 0} where
 
     pub both_place : IsPlaceOf hash both q (record { s = s; partial = h.partial; first = record { index = i; bucket = first }; alternate = record { index = j; bucket = second } })
     both_place = place_in s both both_table hash q h first second of first_of second_there first_flag second_flag
-
-    pub both_are : AreBothSettled hash s both q
-    both_are = both_settled s both both_table hash q first second first_of second_there first_flag second_flag
 
 -- what a test says
 pub test_says : (a b x y : ℕ) → a ≡ x → b ≡ y → MatchBool (ltb a b) (x < y) (¬ (x < y))

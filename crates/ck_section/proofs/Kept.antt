@@ -37,6 +37,3 @@ module _ {V : Type 0} (s : ℕ) (old : List (StripeState V)) where
 
   pub all_after : (new : List (StripeState V)) → AreAllHeld s old → ChangesContents old new → AreAllHeld s new
   all_after new all changes = record { table = table_after new all.table changes; settled = settled_after new all.settled changes }
-
-  pub all_same : (new : List (StripeState V)) → AreAllHeld s old → new ≡ old → AreAllHeld s new
-  all_same new all same = subst (λ (l : List (StripeState V)). AreAllHeld s l) (sym same) all

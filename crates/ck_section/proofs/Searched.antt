@@ -13,7 +13,7 @@ use Rattle.ck_path.specs.Queue.{Queue, wanted}
 use Rattle.ck_model.specs.Paths.{partial_in}
 use Rattle.ck_stripe.specs.Stripe.{StripeState}
 use Rattle.ck_section.specs.Stripes.{bucket_at}
-use Rattle.ck_section.specs.Room.{HaveFour, power_in, sketch_of, IsPathFor, IsPathIn}
+use Rattle.ck_section.specs.Room.{HaveFour, power_in, sketch_of, IsPathFor}
 use Rattle.ck_section.proofs.Tables.{mask}
 
 -- whether the bucket has four slots
@@ -52,19 +52,6 @@ begins p sketches b [] end path = path.0
 begins p sketches b (h ∷ hops) end path = sym path.0
 
 module _ {V : Type 0} (hash : Name → ℕ) (s : ℕ) (stripes : List (StripeState V)) (q : Name) (route : Route) (is : IsPathFor hash s stripes q route) where
-  -- a path that was found can be followed
-  pub path_in : HaveFour (sketch_of hash s stripes) route.hops route.end → IsPathIn hash s stripes route
-  path_in four =
-      let p : ℕ = power_in stripes in
-      let sketches : ℕ → Sketch = sketch_of hash s stripes in
-      let begun = λ (b : ℕ) (path : IsSketchPathFrom p sketches b route.hops route.end). subst (λ n. IsSketchPathFrom p sketches n route.hops route.end) (begins p sketches b route.hops route.end path) path in
-      record {
-        power = is.power;
-        path = ⊎_elim (begun (index_of p (hash q))) (begun (second_of p (hash q))) is.path;
-        once = is.once;
-        four = four;
-      }
-
   -- the bucket at which it begins is one of the name
   pub begins_home : IsBucketOf hash (power_in stripes) q (first_bucket route.hops route.end)
   begins_home =

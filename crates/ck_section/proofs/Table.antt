@@ -178,10 +178,9 @@ module _ {V : Type 0} where
   pairs-next zero (t ∷ ts) lt = append-nil (pairs_in t.content)
   pairs-next (suc i) (t ∷ ts) lt = ap (λ es. pairs_in t.content ++ es) (pairs-next i ts (omega arith)) ∙ sym (append_assoc (pairs_in t.content) (pairs_of (contents_of (take i ts))) (pairs_in (stripe_at ts i).content))
 
-  pub pairs_more : (i : ℕ) (stripes : List (StripeState V)) (t : StripeState V) → i < length stripes → t ≡ slice_index_or stripes i t → pairs_of (contents_of (take (i + 1) stripes)) ≡ pairs_of (contents_of (take i stripes)) ++ pairs_in t.content
-  pairs_more i stripes t lt is =
-      ap (λ n. pairs_of (contents_of (take n stripes))) (add-one i) ∙ pairs-next i stripes lt
-      ∙ ap (λ (u : StripeState V). pairs_of (contents_of (take i stripes)) ++ pairs_in u.content) (sym (stripe_read stripes i t lt is))
+  pub pairs_push : (ss : List (StripeState V)) (t : StripeState V) → pairs_of (contents_of ss) ++ pairs_in t.content ≡ pairs_of (contents_of (ss ++ t ∷ []))
+  pairs_push [] t = sym (append-nil (pairs_in t.content))
+  pairs_push (s ∷ ss) t = append_assoc (pairs_in s.content) (pairs_of (contents_of ss)) (pairs_in t.content) ∙ ap (λ es. pairs_in s.content ++ es) (pairs_push ss t)
 
   entries-next : (i : ℕ) (stripes : List (StripeState V)) → i < length stripes → entries_to (suc i) stripes ≡ entries_to i stripes + length (pairs_in (stripe_at stripes i).content)
   entries-next i stripes lt = ap length (pairs-next i stripes lt) ∙ length-append (pairs_of (contents_of (take i stripes))) (pairs_in (stripe_at stripes i).content)

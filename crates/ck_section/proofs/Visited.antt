@@ -1,5 +1,5 @@
 -- A visit that leaves the stripe as it was.
-use Rattle.std.proofs.Common.{◌≡◌, ◌∙◌, ℕ, List, set, ap}
+use Rattle.std.proofs.Common.{◌≡◌, ◌∙◌, ℕ, List, ap}
 use Rattle.std.specs.Prelude.{slice_set}
 use Rattle.std.proofs.lemmas.List.{set-get_or}
 use Rattle.ck_stripe.specs.Stripe.{StripeState}

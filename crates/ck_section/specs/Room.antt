@@ -56,11 +56,6 @@ module _ {V : Type 0} where
   abbrev pub settled_at : List (StripeState V) → ℕ → List (StripeState V)
   settled_at stripes i = slice_set stripes i (record (stripe_at stripes i) { settled = true })
 
-  -- Both stripes of the name are settled, in a table of 2^s.
-  pub record AreBothSettled (hash : Name → ℕ) (s : ℕ) (stripes : List (StripeState V)) (q : Name) : Type 0 where
-    pub first : (stripe_at stripes (index_of s (hash q))).settled ≡ true
-    pub second : (stripe_at stripes (second_of s (hash q))).settled ≡ true
-
   -- Why the stripes of a table don't grow: at the greatest power, with fewer per cent of the slots taken than they must have, or for want of memory alone.
   abbrev pub IsLack : ℕ → ℕ → List (StripeState V) → Lack → Type 0
   IsLack max min_load stripes Full = max ≤ power_in stripes

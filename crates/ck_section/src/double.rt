@@ -1,5 +1,5 @@
 //! All stripes of a table at once: how many entries they have, and their doubling.
-ghost use Rattle.std.specs.Prelude.{◌≡◌, ℕ, ◌≤◌, ◌<◌, OnOk, OnErr, length};
+ghost use Rattle.std.specs.Prelude.{◌≡◌, ℕ, ◌≤◌, ◌<◌, ◌^◌, OnOk, OnErr, length};
 ghost use Rattle.ck_model.specs.declared.history.Call.TheVariants.{Len};
 ghost use Rattle.ck_model.specs.declared.history.Reply.TheVariants.{Count};
 ghost use Rattle.ck_model.specs.Contents.{layout, Lawful, pairs_of};
@@ -28,6 +28,7 @@ pub fn settle_all<K: TableKey + Drop, V: Drop, H: Held<Stripe<K, V>>>(held: &mut
 pub fn len<K: TableKey + Drop, V: Drop, H: Held<Stripe<K, V>>>(held: &mut H, s: u32) -> u64
     requires { IsTable s (H.stripes held.old) }
     ensures value { result ≡ length (pairs_of (contents_of (H.stripes held.old))) }
+    ensures few { result ≤ 2 ^ 38 }
     ensures call { (max : ℕ) → Lawful (layout K.hash s max) (contents_of (H.stripes held.old))
         → Section (layout K.hash s max) (contents_of (H.stripes held.old)) Len (Count result)
         (contents_of (H.stripes held.new)) }

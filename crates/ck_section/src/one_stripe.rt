@@ -51,6 +51,20 @@ pub fn power<K: TableKey + Drop, V: Drop, H: Held<Stripe<K, V>>>(held: &mut H, i
     held.visit(i, |stripe: &mut Stripe<K, V>| stripe.power())
 }
 
+/// Whether no doubling is left of stripe `i`.
+#[inline(always)]
+pub fn is_settled<K: TableKey + Drop, V: Drop, H: Held<Stripe<K, V>>>(
+    held: &mut H,
+    i: usize,
+) -> bool
+    requires { i < length (H.stripes held.old) }
+    ensures value { result ≡ (stripe_at (H.stripes held.old) i).settled }
+    ensures same { H.stripes held.new ≡ H.stripes held.old }
+    ensures stays { H.stays held.old held.new }
+{
+    held.visit(i, |stripe: &mut Stripe<K, V>| stripe.settled())
+}
+
 /// The number of entries of stripe `i`.
 pub(crate) fn len<K: TableKey + Drop, V: Drop, H: Held<Stripe<K, V>>>(held: &mut H, i: usize) -> u64
     requires { i < length (H.stripes held.old) }

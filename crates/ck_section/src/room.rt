@@ -11,7 +11,7 @@ ghost use Rattle.ck_section.specs.Doublings.{Grows};
 ghost use Rattle.ck_section.specs.Places.{IsPlaceOf};
 ghost use Rattle.ck_section.specs.Hops.{IsNoCall};
 ghost use Rattle.ck_section.specs.Calls.{ChangesContents, IsWithRoom, IsWithoutRoom};
-ghost use Rattle.ck_section.specs.Room.{power_in, settled_at, AreBothSettled, IsWithoutPath, IsLack, KeepsBindings, MakesRoom, GivesReason, GrowsForRoom};
+ghost use Rattle.ck_section.specs.Room.{power_in, settled_at, IsWithoutPath, IsLack, KeepsBindings, MakesRoom, GivesReason, GrowsForRoom};
 
 use crate::double::{double_all, len, settle_all};
 use crate::entry::find_entry;
@@ -34,8 +34,7 @@ pub enum Lack {
 }
 
 /// Makes room for the key, whose hash the caller has at hand, in a table of 2^s stripes: then the
-/// key is bound or one of its buckets has a free slot, and its two stripes are settled. No binding
-/// changes.
+/// key is bound or one of its buckets has a free slot. No binding changes.
 ///
 /// Entries are displaced where that makes room. Else the table doubles, if it has fewer than 2^max
 /// buckets and at least `min_load` per cent of its slots are taken, and it is tried again. A
@@ -57,7 +56,6 @@ pub fn make_room<K: TableKey + Drop, V: Drop, H: Held<Stripe<K, V>>>(
         (H.stripes held.old) (H.stripes held.new) }
     ensures room { OnOk result (MakesRoom (layout K.hash s max)
         (H.stripes held.old) (H.stripes held.new) (K.name key.now)) }
-    ensures settled { OnOk result (AreBothSettled K.hash s (H.stripes held.new) (K.name key.now)) }
     ensures refused { IfErr result (GivesReason (layout K.hash s max) min_load
         (H.stripes held.old) (H.stripes held.new) (K.name key.now)) }
     ensures doubled { GrowsForRoom (layout K.hash s max) min_load
@@ -84,7 +82,6 @@ fn room_by_hops<K: TableKey + Drop, V: Drop, H: Held<Stripe<K, V>>>(
     ensures power { power_in (H.stripes held.new) ≡ power_in (H.stripes held.old) }
     ensures no_call { IsNoCall K.hash s (H.stripes held.old) (H.stripes held.new) }
     ensures room { OnTrue result (IsWithRoom K.hash s (H.stripes held.new) (K.name key.now)) }
-    ensures both { OnTrue result (AreBothSettled K.hash s (H.stripes held.new) (K.name key.now)) }
     ensures same { OnFalse result
         (contents_of (H.stripes held.new) ≡ contents_of (H.stripes held.old)) }
     ensures settled { OnFalse result (AreSettled (H.stripes held.new)) }
@@ -113,7 +110,6 @@ fn has_room<K: TableKey + Drop, V: Drop, H: Held<Stripe<K, V>>>(
     ensures table { IsTable s (H.stripes held.new) }
     ensures same { contents_of (H.stripes held.new) ≡ contents_of (H.stripes held.old) }
     ensures power { power_in (H.stripes held.new) ≡ power_in (H.stripes held.old) }
-    ensures settled { AreBothSettled K.hash s (H.stripes held.new) (K.name key.now) }
     ensures room { MatchBool result (IsWithRoom K.hash s (H.stripes held.new) (K.name key.now))
         (IsWithoutRoom K.hash s (H.stripes held.new) (K.name key.now)) }
     ensures stays { H.stays held.old held.new }
@@ -122,8 +118,9 @@ fn has_room<K: TableKey + Drop, V: Drop, H: Held<Stripe<K, V>>>(
     find_entry(held, place, key).is_some()
 }
 
-// Where the key may be. Its two stripes are settled.
-fn settled_place<K: TableKey + Drop, V: Drop, H: Held<Stripe<K, V>>>(
+/// Where the key, whose hash the caller has at hand, may be among all stripes of a table of 2^s. Its
+/// own two are settled.
+pub fn settled_place<K: TableKey + Drop, V: Drop, H: Held<Stripe<K, V>>>(
     held: &mut H,
     s: u32,
     _key: &K,
@@ -136,7 +133,6 @@ fn settled_place<K: TableKey + Drop, V: Drop, H: Held<Stripe<K, V>>>(
     ensures table { IsTable s (H.stripes held.new) }
     ensures same { contents_of (H.stripes held.new) ≡ contents_of (H.stripes held.old) }
     ensures power { power_in (H.stripes held.new) ≡ power_in (H.stripes held.old) }
-    ensures settled { AreBothSettled K.hash s (H.stripes held.new) (K.name _key.now) }
     ensures stays { H.stays held.old held.new }
 {
     let power = one_stripe::power(held, 0);

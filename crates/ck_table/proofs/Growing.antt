@@ -15,7 +15,6 @@ use Rattle.ck_section.specs.Whole.{AreAllHeld, AreSettled, IsTable}
 use Rattle.ck_section.specs.Doublings.{DoublesEach, Grows}
 use Rattle.ck_section.specs.Room.{power_in, KeepsBindings}
 use Rattle.ck_section.proofs.Found.{holds_at}
-use Rattle.ck_section.proofs.Rebinding.{identity_of_none}
 use Rattle.ck_section.proofs.Doublings.{identity_on}
 use Rattle.ck_section.proofs.Growing.{contents_settled, all_settled}
 use Rattle.ck_section.proofs.Tables.{power_same}
@@ -28,7 +27,7 @@ use Rattle.ck_words.specs.Renewing.{HasRenewed}
 use Rattle.ck_words.specs.Closing.{IsWhole}
 use Rattle.ck_words.proofs.Reversed.{of_reverse}
 use Rattle.ck_words.proofs.Staying.{stays_on}
-use Rattle.ck_table.specs.declared.refusal.GrowFault.TheVariants.{Busy, Memory, OverMax}
+use Rattle.ck_table.specs.declared.refusal.GrowFault.TheVariants.{Busy, Memory}
 use Rattle.ck_table.specs.Refusals.{IsStripeIn, IsBusyAmong}
 use Rattle.ck_table.specs.Growth.{Rehashes}
 
@@ -55,10 +54,6 @@ module _ {V : Type 0} (s : ℕ) where
     abbrev pub Keeps : List (StripeState V) → List (StripeState V) → Type 0
     Keeps old new = (max : ℕ) → power ≤ max → KeepsBindings (layout hash s max) old new
 
-    pub keeps_none : (old new : List (StripeState V)) → new ≡ old → Keeps old new
-    keeps_none old new same max le lawful =
-        subst (λ (l : List (StripeState V)). IdentitySection (layout hash s max) (contents_of old) (contents_of l)) (sym same) (identity_of_none (layout hash s max) (contents_of old) lawful)
-
     -- the stripes were settled, and doubled or not
     pub keeps_contents : (old cur new : List (StripeState V)) → Keeps old cur → contents_of new ≡ contents_of cur → Keeps old new
     keeps_contents old cur new before same max le lawful = subst (λ (hs : Stripes V). IdentitySection (layout hash s max) (contents_of old) hs) (sym same) (before max le lawful)
@@ -82,16 +77,6 @@ module _ {V : Type 0} (s : ℕ) where
 
 -- What a call that was to grow a table to a power says of it.
 module _ {V : Type 0} (set : Settings) (power : ℕ) (p z : PassState V) where
-  pub refused_over : set.max < power → Rehashes set power (Err OverMax) p p
-  refused_over over = record {
-    over_max = ((λ e. over), (λ l. refl));
-    unchanged = λ e. refl;
-    told = tt;
-    grown = λ e. absurd (cc);
-    short = λ e. absurd (cc);
-    busy = λ t e. absurd (cc);
-  }
-
   module _ (inside : power ≤ set.max) where
     pub refused_busy : (t : ℕ) → IsBusyAmong (IsStripeIn set) set.turns t p z → Rehashes set power (Err (Busy t)) p z
     refused_busy t busy = record {

@@ -1,25 +1,19 @@
 -- Room for a name: which stripes are held with it, and what is left of a pass that made it among all of the table.
-use Rattle.std.proofs.Common.{◌≡◌, ◌⊎◌, ℕ, ◌%◌, ◌^◌, List, [], ◌∷◌, reverse, true, refl, inr, sym, ap, ◌∙◌, subst, arith}
+use Rattle.std.proofs.Common.{◌≡◌, ◌⊎◌, ℕ, List, [], ◌∷◌, reverse, refl, inr, sym, ap, ◌∙◌, subst, arith}
 use Rattle.std.proofs.lemmas.List.Elements.{All-nil, All-cons}
-use Rattle.ck_key.specs.declared.key_hash.KeyHash.{KeyHash}
-use Rattle.ck_key.specs.Hashes.{IsHashOf}
 use Rattle.ck_model.specs.declared.history.Reason.{Reason}
 use Rattle.ck_model.specs.declared.history.Reason.TheVariants.{NoRoom}
 use Rattle.ck_model.specs.declared.settings.Settings.{Settings}
-use Rattle.ck_model.specs.Arithmetic.{index_of, second_of}
 use Rattle.ck_model.specs.Map.{Name}
-use Rattle.ck_model.specs.Contents.{Layout, layout_of, Lawful}
-use Rattle.ck_model.specs.Paths.{Grounds}
-use Rattle.ck_model.proofs.Buckets.{index_lower, second_lower}
+use Rattle.ck_model.specs.Contents.{Layout, layout, layout_of, Stripes, Lawful}
+use Rattle.ck_model.specs.Paths.{Grounds, HasNoRoom}
 use Rattle.ck_stripe.specs.Stripe.{StripeState}
 use Rattle.ck_section.specs.declared.room.Lack as lack
 use Rattle.ck_section.specs.declared.room.Lack.TheVariants.{Memory, Full, LoadTooLow}
-use Rattle.ck_section.specs.Stripes.{stripe_at, contents_of}
-use Rattle.ck_section.specs.Places.{IsPlaceOf}
+use Rattle.ck_section.specs.Stripes.{contents_of}
 use Rattle.ck_section.specs.Calls.{IsWithoutRoom}
 use Rattle.ck_section.specs.Whole.{AreAllHeld, AreSettled, IsTable}
-use Rattle.ck_section.specs.Room.{power_in, reason_of_lack, AreBothSettled, KeepsBindings, MakesRoom, GivesReason}
-use Rattle.ck_section.proofs.Growing.{place_in}
+use Rattle.ck_section.specs.Room.{reason_of_lack, KeepsBindings, MakesRoom, GivesReason}
 use Rattle.ck_core.specs.declared.view.View.{View}
 use Rattle.ck_words.specs.Words.{WordsState}
 use Rattle.ck_words.specs.Passes.{PassState}
@@ -27,7 +21,7 @@ use Rattle.ck_words.specs.Retries.{Stays}
 use Rattle.ck_words.specs.Renewing.{HasRenewed, HasRefused}
 use Rattle.ck_words.specs.Closing.{IsWhole}
 use Rattle.ck_words.proofs.Staying.{stays_then}
-use Rattle.ck_words.proofs.Totals.{lawful_held}
+use Rattle.ck_words.proofs.WholeTables.{lawful_held}
 use Rattle.ck_words.proofs.Renewals.{renewed_none, renewed_then}
 use Rattle.ck_table.specs.declared.room.Room.{Room}
 use Rattle.ck_table.specs.Refusals.{why_of}
@@ -40,22 +34,12 @@ reason_same Full = refl
 reason_same LoadTooLow = refl
 
 module _ {V : Type 0} where
-  -- where a name may be among all stripes, of which its own two are settled
-  pub placed : (s : ℕ) (stripes : List (StripeState V)) → IsTable s stripes → (hash : Name → ℕ) (q : Name) → AreBothSettled hash s stripes q → (h : KeyHash) → IsHashOf hash q h
-      → (first second : ℕ) → first ≡ index_of (power_in stripes) (hash q) → second ≡ second_of (power_in stripes) (hash q)
-      → IsPlaceOf hash stripes q (record { s = s; partial = h.partial; first = record { index = first % 2 ^ s; bucket = first }; alternate = record { index = second % 2 ^ s; bucket = second } })
-  placed s stripes table hash q both h of first second one two =
-      let p : ℕ = power_in stripes in
-      let low : first % 2 ^ s ≡ index_of s (hash q) = ap (λ n. n % 2 ^ s) one ∙ index_lower s p (hash q) table.least in
-      let high : second % 2 ^ s ≡ second_of s (hash q) = ap (λ n. n % 2 ^ s) two ∙ second_lower s p (hash q) table.least in
-      let S : ℕ → Type 0 = λ i. (stripe_at stripes i).settled ≡ true in
-      place_in s stripes table hash q h first second of one two (subst S (sym low) both.first) (subst S (sym high) both.second)
-
   -- lawful stripes in which room was made for a name have an entry of it
   pub has_entry : {hash : Name → ℕ} {q : Name} (set : Settings) (ss ss2 : List (StripeState V)) → Lawful (layout_of hash set) (contents_of ss) → KeepsBindings (layout_of hash set) ss ss2 → MakesRoom (layout_of hash set) ss ss2 q
-      → (s : ℕ) (stripes : List (StripeState V)) → s ≡ set.s → stripes ≡ ss2 → ¬ (IsWithoutRoom hash s stripes q)
+      → (s : ℕ) (stripes : List (StripeState V)) → s ≡ set.s → contents_of stripes ≡ contents_of ss2 → ¬ (IsWithoutRoom hash s stripes q)
   has_entry {hash} {q} set ss ss2 lawful keeps made s stripes of_table kept none =
-      let here : IsWithoutRoom hash set.s ss2 q = subst (λ (x : ℕ × List (StripeState V)). IsWithoutRoom hash x.0 x.1 q) (λ i. (of_table i, kept i)) none in
+      let Without : ℕ → Stripes V → Type 0 = λ n hs. (max : ℕ) → Lawful (layout hash n max) hs → HasNoRoom (layout hash n max) hs q in
+      let here : Without set.s (contents_of ss2) = subst (λ (x : ℕ × Stripes V). Without x.0 x.1) (λ i. (of_table i, kept i)) none in
       made lawful (here set.max (keeps lawful).renewed.lawful)
 
   shows_lack : (set : Settings) (q : Name) (l : lack.Lack) (p z : PassState V) → ShowsWhy set q (why_of l) ((q, reason_of_lack l) ∷ []) p z

@@ -1,5 +1,5 @@
 -- All stripes in one list, from the lock of a table to its end.
-use Rattle.std.proofs.Common.{◌≡◌, ℕ, suc, ◌^◌, ◌<◌, ◌≤◌, List, [], ◌∷◌, ◌++◌, length, take, drop, get_or, reverse, inr, ⊎_elim, refl, sym, ap, ◌∙◌, subst, arith, Some, None, Result, OnOk, IfErr}
+use Rattle.std.proofs.Common.{◌≡◌, ℕ, suc, ◌^◌, ◌<◌, ◌≤◌, List, [], ◌∷◌, length, get_or, reverse, inr, ⊎_elim, refl, sym, ap, ◌∙◌, subst, arith, Some, None, Result, OnOk, IfErr}
 use Rattle.std.proofs.lemmas.Result.{IfOk-weaker, IfErr-weaker}
 use Rattle.std.specs.Prelude.{Option}
 use Rattle.std.specs.FinMap.{get, len}
@@ -11,10 +11,9 @@ use Rattle.ck_model.specs.declared.history.Reply.{Reply}
 use Rattle.ck_model.specs.declared.history.Reply.TheVariants.{Was, Closed}
 use Rattle.ck_model.specs.declared.settings.Settings.{Settings}
 use Rattle.ck_model.specs.Map.{Name, Answers, Step}
-use Rattle.ck_model.specs.Ranges.{AreInRange}
 use Rattle.ck_model.specs.History.{After}
 use Rattle.ck_model.specs.Numbered.{IsIn, numbers, Holds}
-use Rattle.ck_model.specs.Contents.{Layout, layout, layout_of, Stripes, Lawful, bindings}
+use Rattle.ck_model.specs.Contents.{Layout, layout, layout_of, Stripes, Lawful, pairs_of, bindings}
 use Rattle.ck_model.specs.Paths.{HasNoRoom, Grounds}
 use Rattle.ck_model.specs.Sections.{HasAll, Renewed, Section, IdentitySection}
 use Rattle.ck_model.proofs.Numbered.{held_of_in, in_held}
@@ -39,7 +38,7 @@ use Rattle.ck_words.specs.Answering.{HasDone}
 use Rattle.ck_model.proofs.Counting.{length-counting, counting-at}
 use Rattle.ck_words.proofs.Reversed.{in_of_reverse, bindings-reverse}
 use Rattle.ck_words.proofs.Seating.{length-numbers, number_at}
-use Rattle.ck_words.proofs.Totals.{counted_to, counted_table, counted_small, lawful_held}
+use Rattle.ck_words.proofs.WholeTables.{lawful_held}
 use Rattle.ck_table.specs.Refusals.{IsStripeIn, why_of}
 use Rattle.ck_table.specs.Locking.{LockedState, map_of, IsLocked, HasLocked, HasActed, KeepsMap, LacksRoom, SeeksRoom}
 use Rattle.ck_table.proofs.Sizes.{renewed_same, has_all}
@@ -154,11 +153,8 @@ module _ {V : Type 0} where
         (none w.settings.max (subst (λ s. Lawful (layout hash s w.settings.max) (contents_of p.stripes)) (sym same) l.renewed.lawful)))
 
     -- the number of names that are bound
-    pub counts_locked : (n : ℕ) → n ≡ length p.stripes → counted_to n p.stripes ≡ len (bindings (contents_of p.stripes))
-    counts_locked n e = counted_table hash w.settings p.stripes l.renewed.lawful n e ∙ sym (len-bindings (layout_of hash w.settings) (contents_of p.stripes) l.renewed.lawful)
-
-    pub counts_few : AreInRange w.settings → (n : ℕ) → n ≤ length p.stripes → counted_to n p.stripes ≤ 2 ^ 38
-    counts_few range n lt = let count = l.table.count in counted_small hash w.settings p.stripes l.renewed.lawful range n (omega arith)
+    pub counts_locked : length (pairs_of (contents_of p.stripes)) ≡ len (bindings (contents_of p.stripes))
+    counts_locked = sym (len-bindings (layout_of hash w.settings) (contents_of p.stripes) l.renewed.lawful)
 
     -- what was done while it was locked
     pub session_done : (q : PassState V) → q ≡ p → HasDone hash w.settings (session_of q) Closed q

@@ -18,6 +18,10 @@ use Rattle.ck_model.proofs.Counting.{in_counting}
 use Rattle.ck_words.proofs.Seating.{numbers-contents}
 
 module _ {V : Type 0} where
+  -- a pass that knows and holds what another does is that one
+  pub as_before : (p q : PassState V) → q.table ≡ p.table → q.view ≡ p.view → q.stripes ≡ p.stripes → q ≡ p
+  as_before p q table view stripes = λ j. record { table = table j; view = view j; stripes = stripes j }
+
   -- contents are renewed by themselves
   pub renewed_same : (k : Layout) (hs : Stripes V) → Lawful k hs → Renewed k hs hs
   renewed_same k hs lawful = record { same = refl; lawful = lawful; power = inl (λ t u c d h g. sym (lawful.one_power t u c d h g)) }

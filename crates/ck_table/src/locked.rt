@@ -26,7 +26,7 @@ use crate::table::Table;
 use ck_key::{KeyHash, TableKey};
 use ck_model::settings::Settings;
 use ck_section::{
-    KeyPlace, Lack, erase, export, find_entry, find_in_all, insert, make_room, place_in_all,
+    KeyPlace, Lack, entries, erase, export, find_entry, find_in_all, insert, make_room, place_in_all,
     settle_all,
 };
 use ck_stripe::Stripe;
@@ -166,14 +166,7 @@ impl<'t, K: TableKey + Drop, V: Drop> LockedTable<'t, K, V> {
     pub fn len(&self) -> u64
         ensures { result ≡ len (map_of self.now) }
     {
-        let table = self.table;
-        let _ = table.words.settings();
-        let stripes = stripes_of(&self.whole);
-        let mut count = 0;
-        for stripe in stripes {
-            count += stripe.len();
-        }
-        count
+        entries(stripes_of(&self.whole)) as u64
     }
 
     /// Unlocks the table, by which all that was done to it becomes one entry of the history.

@@ -1,6 +1,6 @@
 //! Room for a key: its entry among the stripes that its pass holds, which are those of the key or
 //! all of the table.
-ghost use Rattle.std.specs.Prelude.{◌≡◌, ◌≤◌, ◌^◌, ◌%◌, OnErr, IfOk, IfErr, reverse};
+ghost use Rattle.std.specs.Prelude.{◌≡◌, ◌^◌, OnErr, IfOk, IfErr, reverse};
 ghost use Rattle.ck_key.specs.Hashes.{IsHashOf};
 ghost use Rattle.ck_model.specs.Contents.{layout_of, Lawful};
 ghost use Rattle.ck_model.specs.Paths.{Grounds};
@@ -10,7 +10,7 @@ ghost use Rattle.ck_section.specs.Stripes.{contents_of};
 ghost use Rattle.ck_section.specs.Places.{IsPlaceOf};
 ghost use Rattle.ck_section.specs.Entries.{IsEntryOf};
 ghost use Rattle.ck_section.specs.Whole.{IsTable, AreSettled, AreAllHeld};
-ghost use Rattle.ck_section.specs.Room.{AreBothSettled, KeepsBindings, GivesReason, reason_of_lack};
+ghost use Rattle.ck_section.specs.Room.{KeepsBindings, GivesReason, reason_of_lack};
 ghost use Rattle.ck_words.specs.Passes.{IsPassOf, IsIdle, numbers_of};
 ghost use Rattle.ck_words.specs.StripeSets.{list_of};
 ghost use Rattle.ck_words.specs.Retries.{FindsAmong};
@@ -22,9 +22,9 @@ ghost use Rattle.ck_table.specs.Insertions.{HoldsRoom, HasRoom, IsRefused};
 use crate::holding::Spot;
 use crate::refusal::{Busy, Why};
 use crate::table::Table;
-use ck_key::{KeyHash, TableKey, alternate, index};
+use ck_key::{KeyHash, TableKey};
 use ck_model::settings::Settings;
-use ck_section::{Entry, Held, HeldBucket, KeyPlace, Lack, find_entry, make_room};
+use ck_section::{Entry, Held, KeyPlace, Lack, find_entry, make_room, settled_place};
 use ck_stripe::Stripe;
 use ck_words::{Lent, Pass};
 
@@ -128,46 +128,9 @@ fn make_entry<K: TableKey + Drop, V: Drop, H: Held<Stripe<K, V>>>(
         ..
     } = settings;
     make_room(held, s, key, hash, max, min_load)?;
-    let place = place_in_table(held, s, key, hash);
+    let place = settled_place(held, s, key, hash);
     let Some(entry) = find_entry(held, place, key) else {
         unreachable!()
     };
     Ok((place, entry))
-}
-
-// Where the key, whose hash the caller has at hand, may be among all stripes of a table of 2^s. Its
-// own two are settled.
-fn place_in_table<K: TableKey + Drop, V: Drop, H: Held<Stripe<K, V>>>(
-    held: &mut H,
-    s: u32,
-    _key: &K,
-    hash: KeyHash,
-) -> KeyPlace
-    requires table { IsTable s (H.stripes held.old) }
-    requires hash { IsHashOf K.hash (K.name _key.now) hash }
-    requires settled { AreBothSettled K.hash s (H.stripes held.old) (K.name _key.now) }
-    ensures place { IsPlaceOf K.hash (H.stripes held.old) (K.name _key.now) result }
-    ensures s { result.s ≡ s }
-    ensures same { H.stripes held.new ≡ H.stripes held.old }
-    ensures stays { H.stays held.old held.new }
-{
-    let power = ck_section::power(held, 0);
-    let first = index(power, hash.hash);
-    KeyPlace {
-        s,
-        partial: hash.partial,
-        first: bucket_in_table(s, first),
-        alternate: bucket_in_table(s, alternate(power, hash.partial, first)),
-    }
-}
-
-// A bucket of a table of 2^s stripes that are all held, so that a stripe's position is its number.
-fn bucket_in_table(s: u32, bucket: u64) -> HeldBucket
-    requires { s ≤ 10 }
-    ensures { result ≡ record { index = bucket % 2 ^ s; bucket = bucket } }
-{
-    HeldBucket {
-        index: (bucket % (1 << s)) as usize,
-        bucket,
-    }
 }

@@ -12,7 +12,8 @@ ghost use Rattle.ck_table.specs.Refusals.{IsStripeIn, IsBusyAmong};
 use crate::refusal::Busy;
 use crate::table::Table;
 use ck_key::TableKey;
-use ck_words::{Commit, Pass};
+use ck_section::len;
+use ck_words::{Commit, Lent, Pass};
 
 impl<K: TableKey + Drop, V: Drop> Table<K, V> {
     /// How many keys are bound. It counts while it holds all stripes.
@@ -27,8 +28,15 @@ impl<K: TableKey + Drop, V: Drop> Table<K, V> {
         ensures found { FindsAmong (IsStripeIn self.now.settings) pass.old pass.new }
     {
         self.hold_table(pass)?;
-        let count = self.words.entries(pass) as u64;
-        self.words.commit(pass, self.words.all(), Commit::Len);
+        let all = self.words.all();
+        let mut lent = Lent {
+            words: &self.words,
+            pass,
+            set: all,
+        };
+        let count = len(&mut lent, self.words.settings().s);
+        let Lent { pass, .. } = lent;
+        self.words.commit(pass, all, Commit::Len);
         Ok(count)
     }
 

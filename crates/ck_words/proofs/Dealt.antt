@@ -1,5 +1,5 @@
 -- All passes are dealt.
-use Rattle.std.proofs.Common.{◌≡◌, ℕ, zero, suc, pred, ◌+◌, ◌-◌, ◌<◌, ◌≤◌, List, [], ◌∷◌, ◌++◌, map, get_or, refl, sym, ap, ◌∙◌, subst, arith}
+use Rattle.std.proofs.Common.{◌≡◌, ℕ, zero, suc, ◌+◌, ◌-◌, ◌<◌, ◌≤◌, List, [], ◌∷◌, ◌++◌, map, get_or, refl, sym, ap, ◌∙◌, subst, arith}
 use Rattle.std.specs.Prelude.{All}
 use Rattle.std.proofs.lemmas.List.Elements.{All-nil, All-cons}
 use Rattle.atomic_table.specs.Seated.{TableId}
@@ -8,7 +8,6 @@ use Rattle.ck_model.specs.declared.settings.Settings.{Settings}
 use Rattle.ck_model.specs.Numbered.{IsIn, numbers}
 use Rattle.ck_core.specs.declared.view.View.{View}
 use Rattle.ck_core.specs.Steps.{newcomer, initial_view}
-use Rattle.ck_words.specs.Rule.{first_view}
 use Rattle.ck_model.specs.Counting.{counting}
 use Rattle.ck_words.specs.Plays.{opened, begun}
 use Rattle.ck_words.specs.Words.{WordsState}
@@ -42,11 +41,6 @@ module _ {V : Type 0} where
 
   as_idle : (w : WordsState) (p : PassState V) (v : View V) → IsPassOf w p → IsIdle p → p.view ≡ v → p ≡ record { table = w.table; view = v; stripes = [] }
   as_idle w p v own idle e = λ i. record { table = own.0 i; view = e i; stripes = idle.0 i }
-
-  pub dealt_one : (w : WordsState) (set : Settings) (p : PassState V) → w.settings ≡ set → IsPassOf w p → IsIdle p → p.view ≡ first_view set → p ∷ [] ≡ dealt_to w.table set 1
-  dealt_one w set p same own idle e =
-      let less : pred set.callers ≡ set.callers - 1 = omega arith in
-      λ i. (as_idle w p (first_view set) own idle e ∙ λ j. record { table = w.table; view = initial_view set 0 set.power (counting 1 (less j)); stripes = [] }) i ∷ []
 
   others_first : (set : Settings) (n : ℕ) → n < set.callers → kept_for (counting n (set.callers - n)) ≡ (n, []) ∷ kept_for (counting (n + 1) (set.callers - (n + 1)))
   others_first set n l = ap kept_for (next_number n set.callers l)

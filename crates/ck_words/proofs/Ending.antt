@@ -2,20 +2,19 @@
 use Rattle.std.proofs.Common.{◌≡◌, ℕ, ◌^◌, ◌<◌, ◌≤◌, List, [], ◌∷◌, ◌++◌, length, reverse, refl, sym, ap, ◌∙◌, subst, arith, Some}
 use Rattle.std.specs.Option.{unwrap_or}
 use Rattle.std.specs.FinMap.{from_entries}
-use Rattle.std.proofs.lemmas.List.{reverse-reverse}
 use Rattle.std.proofs.lemmas.List.Elements.{All-push, All-pop, AllZip-push}
 use Rattle.ck_model.specs.declared.history.Entry.{Entry}
 use Rattle.ck_model.specs.Map.{Name}
 use Rattle.ck_model.specs.Numbered.{IsIn, numbers}
 use Rattle.ck_model.specs.History.{After, StartsWith}
-use Rattle.ck_model.specs.Contents.{Layout, layout_of, Stripes, pairs_of, bindings, NamesApart}
-use Rattle.ck_model.proofs.Counted.{names_apart}
+use Rattle.ck_model.specs.Contents.{Layout, layout_of, Stripes, Lawful, pairs_of, bindings, NamesApart}
+use Rattle.ck_model.proofs.Doubling.{pairs_apart}
 use Rattle.ck_section.specs.Stripes.{contents_of}
 use Rattle.ck_words.specs.Words.{WordsState}
 use Rattle.ck_words.specs.Passes.{PassState, IsPassOf, IsIdle}
 use Rattle.ck_words.specs.Retries.{Stays}
 use Rattle.ck_words.specs.Closing.{IsWhole, number_of, parts_of, IsCaller, AreAllPasses, EachStays, gathered, Gathered, Closes}
-use Rattle.ck_words.proofs.Reversed.{map-append, in_of_reverse}
+use Rattle.ck_words.proofs.Reversed.{map-append, in_of_reverse, lawful_reverse, bindings-reverse}
 use Rattle.ck_words.proofs.Staying.{starts_on, stays_same}
 use Rattle.ck_model.proofs.Counting.{in_counting}
 use Rattle.ck_words.proofs.Seating.{numbers-contents}
@@ -64,20 +63,15 @@ module _ {V : Type 0} (w : WordsState) (os : List (PassState V)) (p p1 : PassSta
         let there : IsIn t (numbers (contents_of p1.stripes)) = subst (IsIn t) (sym (numbers-contents p1.stripes ∙ whole.all)) (in_counting (2 ^ k.s) t l) in
         subst (λ (hs : Stripes V). IsIn t (numbers hs)) (sym g.held) (in_of_reverse p1.view.held t (subst (λ (hs : Stripes V). IsIn t (numbers hs)) whole.unchanged there))
 
-    turned : reverse (contents_of q.stripes) ≡ q.view.held
-    turned = ap reverse contents ∙ reverse-reverse q.view.held
+    lawful : Lawful k (contents_of q.stripes)
+    lawful = subst (Lawful k) (sym contents) (lawful_reverse k q.view.held g.shows.lawful)
 
-    leaves : After q.view.seen (from_entries (pairs_of (reverse (contents_of q.stripes))))
+    leaves : After q.view.seen (from_entries (pairs_of (contents_of q.stripes)))
     unfolding bindings
-    leaves = subst (λ (hs : Stripes V). After q.view.seen (from_entries (pairs_of hs))) (sym turned) (g.shows.all_held has_all)
-
-    no_name_twice : NamesApart (pairs_of (reverse (contents_of q.stripes)))
-    no_name_twice =
-        let m = g.shows.lawful in
-        subst (λ (hs : Stripes V). NamesApart (pairs_of hs)) (sym turned) (names_apart q.view.held m.distinct m.once (λ t c h. (m.sound t c h).apart))
+    leaves = subst (λ m. After q.view.seen m) (sym (ap bindings contents ∙ bindings-reverse k q.view.held g.shows.lawful)) (g.shows.all_held has_all)
 
     -- all passes were joined, and the pairs of all stripes were poured
-    pub closes : (pairs : List (Name × V)) → pairs ≡ pairs_of (reverse (contents_of q.stripes)) → Closes (os ++ p ∷ []) pairs
+    pub closes : (pairs : List (Name × V)) → pairs ≡ pairs_of (contents_of q.stripes) → Closes (os ++ p ∷ []) pairs
     closes pairs poured =
         let by = g.by ∙ stays.by in
         let mine = g.mine ∙ stays.mine in
@@ -87,5 +81,5 @@ module _ {V : Type 0} (w : WordsState) (os : List (PassState V)) (p p1 : PassSta
           interleaving = interleaved w os p all.callers q.view by mine others q.view.seen (g.shows.all_kept (λ m l. owned_numbers w os p all.callers q.view by mine others m (all.all m l)));
           saw = All-push (λ (x : PassState V). StartsWith q.view.seen x.view.seen) os p g.saw (starts_on p.view.seen p1.view.seen q.view.seen stays.seen g.seen);
           after = subst (λ (l : List (Name × V)). After q.view.seen (from_entries l)) (sym poured) leaves;
-          apart = subst NamesApart (sym poured) no_name_twice;
+          apart = subst NamesApart (sym poured) (pairs_apart k (contents_of q.stripes) lawful);
         }

@@ -17,8 +17,6 @@ pub mod Releasing
 pub mod Renewed
 pub mod Missing
 pub mod Joining
-pub mod Totals
-pub mod Draining
 pub mod Dealt
 pub mod Ending
 pub mod Replying

@@ -20,6 +20,14 @@ length-emptied : (V : Type 0) (t : ℕ) → length (emptied {V = V} (reverse (co
 length-emptied V t = let empty : ℕ → ℕ × StripeSlot V = λ n. (n, None) in length-map (reverse (counting 0 t)) empty ∙ (length-reverse (counting 0 t) ∙ length-counting t 0)
 
 module _ {V : Type 0} where
+  -- what was in the first slot
+  pub came_out : (ms : List (ℕ × StripeSlot V)) (t : ℕ) (s : StripeState V) (o : StripeSlot V) → ms ≡ (t, Some s) ∷ rest ms → ms ≡ (t, o) ∷ rest ms → o ≡ Some s
+  came_out ms t s o is found = ap first (sym found ∙ is)
+    where
+      first : List (ℕ × StripeSlot V) → StripeSlot V
+      first [] = None
+      first (x ∷ xs) = x.1
+
   -- the slots after the first t stripes left them: those are behind, and were turned to the front
   abbrev pub lifted_to : ℕ → List (StripeState V) → List (ℕ × StripeSlot V)
   lifted_to t rs = emptied (reverse (counting 0 t)) ++ map slot_of (reverse (drop t rs))
@@ -27,9 +35,6 @@ module _ {V : Type 0} where
   -- the slots of those that are left but for stripe t
   abbrev pub others_from : ℕ → List (StripeState V) → List (ℕ × StripeSlot V)
   others_from t rs = emptied (reverse (counting 0 t)) ++ map slot_of (reverse (drop (suc t) rs))
-
-  pub lifted_none : (slots : List (ℕ × StripeSlot V)) → slots ≡ map slot_of (stripes_in slots) → slots ≡ lifted_to 0 (held_in slots)
-  lifted_none slots full = full ∙ ap (map slot_of) (sym (reverse-reverse (stripes_in slots)))
 
   pub lifted_all : (n : ℕ) (rs : List (StripeState V)) → length rs ≤ n → lifted_to n rs ≡ emptied (reverse (counting 0 n))
   lifted_all n rs l = ap (λ (xs : List (StripeState V)). emptied (reverse (counting 0 n)) ++ map slot_of (reverse xs)) (none_left n rs l) ∙ append-nil (emptied (reverse (counting 0 n)))

@@ -13,7 +13,6 @@ use Rattle.ck_model.specs.declared.settings.Settings.{Settings}
 use Rattle.ck_model.specs.Map.{Name, Map, Answers, AnswersTwo, Step}
 use Rattle.ck_model.specs.History.{IsLegal}
 use Rattle.ck_model.specs.Contents.{layout_of, Stripes, Lawful, bindings}
-use Rattle.ck_model.specs.Sections.{Section}
 use Rattle.ck_section.specs.Stripes.{contents_of}
 use Rattle.ck_core.specs.declared.view.View.{View}
 use Rattle.ck_core.specs.Steps.{deciding}
@@ -100,10 +99,6 @@ module _ {V : Type 0} where
 
     reply_done : (r : Reply V) → HasDone hash set call r p → Lawful (layout_of hash set) (reverse p.view.held) → r ≡ (entry_for call p).reply
     reply_done r done l = reply_told (bindings (reverse p.view.held)) call r (bindings (contents_of p.stripes)) (done l).step
-
-    -- it may be decided
-    pub may_decide : (r : Reply V) × HasDone hash set call r p → HasDone hash set call (entry_for call p).reply p
-    may_decide d l = subst (λ r. Section (layout_of hash set) (reverse p.view.held) call r (contents_of p.stripes)) (reply_done d.0 d.1 l) (d.1 l)
 
     pub its_caller : (m : ℕ) → p.view.by ≡ Some m → p.view.by ≡ Some (entry_for call p).by
     its_caller m e = e ∙ ap Some (sym (ap (λ (o : Option ℕ). unwrap_or o 0) e))

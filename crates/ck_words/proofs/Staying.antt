@@ -1,14 +1,13 @@
 -- What stays as it is over steps that decide nothing.
-use Rattle.std.proofs.Common.{◌≡◌, ℕ, ◌<◌, List, [], ◌∷◌, ◌++◌, ◌⊎◌, ◌+◌, false, add-one, inl, inr, zero, suc, length, reverse, replicate, append-nil, append_assoc, length-append, sym, refl, ap, ◌∙◌, subst, ⊎_elim, arith, None}
+use Rattle.std.proofs.Common.{◌≡◌, ℕ, List, [], ◌∷◌, ◌++◌, ◌⊎◌, ◌+◌, false, add-one, inl, inr, zero, suc, reverse, replicate, append-nil, append_assoc, sym, refl, ap, ◌∙◌, subst, ⊎_elim, arith, None}
 use Rattle.ck_model.specs.declared.history.Entry.{Entry}
 use Rattle.ck_model.specs.declared.history.Reason.{Reason}
 use Rattle.ck_model.specs.declared.settings.Settings.{Settings}
 use Rattle.ck_model.specs.Map.{Name}
 use Rattle.ck_model.specs.History.{StartsWith}
-use Rattle.ck_model.specs.Numbered.{IsIn, numbers}
+use Rattle.ck_model.specs.Numbered.{IsIn}
 use Rattle.ck_model.specs.Contents.{layout_of}
 use Rattle.ck_model.proofs.Histories.{subhistory-append}
-use Rattle.ck_stripe.specs.Stripe.{StripeState}
 use Rattle.ck_core.specs.declared.view.View.{View}
 use Rattle.ck_core.specs.Steps.{giving}
 use Rattle.ck_core.specs.Steps.Label.{Take, GiveRest}
@@ -67,9 +66,6 @@ module _ {V : Type 0} where
     pub seen_giving : q.view.seen ≡ p.view.seen
     seen_giving = ap (λ (v : View V). v.seen) rest_view
 
-    pub fewer_giving : length q.stripes < length p.stripes
-    fewer_giving = let e = ap length g.1 in let l = length-append q.stripes (g.0 ∷ []) in omega arith
-
   -- a stripe was taken
   pub stays_taking : (hash : Name → ℕ) (set : Settings) (t : ℕ) (p q : PassState V) → TakesStripe hash set t p q → Stays p.view q.view
   stays_taking hash set t p q k =
@@ -96,15 +92,8 @@ module _ {V : Type 0} where
     pub found_within : q.view.found ≡ replicate k.0 t ++ p.view.found
     found_within = ap (λ (v : View V). v.found) within_view
 
-    pub held_within : numbers q.view.held ≡ t ∷ numbers p.view.held
-    held_within = ap (λ (v : View V). numbers v.held) within_view
-
     pub shows_taken : ShowsSeen hash set q
     shows_taken = subst (λ log. Shows (layout_of hash set) set.callers log q.view) (sym (ap (λ (v : View V). v.seen) within_view)) (shows_after hash set (Take t) (found_again k.0 t p).view q.view k.2.3)
-
-  pub no_stripes : (xs : List (StripeState V)) → ¬ (0 < length xs) → xs ≡ []
-  no_stripes [] h = refl
-  no_stripes (x ∷ xs) h = absurd (h (omega arith))
 
   pub idle_of : (p : PassState V) → p.stripes ≡ [] → IsUnchanged p → IsIdle p
   idle_of p none u = (none, sym (reverse-reverse p.view.held) ∙ ap reverse (sym u ∙ ap contents_of none))

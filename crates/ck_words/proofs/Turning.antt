@@ -1,14 +1,11 @@
 -- One of the slots is brought to the front, and back.
-use Rattle.std.proofs.Common.{◌≡◌, ℕ, suc, zero, ◌+◌, ◌-◌, ◌<◌, true, false, List, [], ◌∷◌, ◌++◌, map, length, set, reverse, append-nil, append_assoc, refl, sym, ap, ◌∙◌, subst, length-append, arith, Some}
+use Rattle.std.proofs.Common.{◌≡◌, ℕ, suc, zero, ◌+◌, ◌-◌, ◌<◌, List, [], ◌∷◌, ◌++◌, map, length, set, reverse, append-nil, append_assoc, refl, sym, ap, ◌∙◌, subst, length-append, arith, Some}
 use Rattle.atomic_table.specs.Table.{rest, turned}
 use Rattle.atomic_table.specs.Seated.{TableId}
-use Rattle.std.proofs.lemmas.List.{set-get_or, reverse-append, reverse-reverse, length-reverse}
-use Rattle.ck_model.specs.declared.contents.Content.{Content}
-use Rattle.ck_model.specs.Map.{Name}
+use Rattle.std.proofs.lemmas.List.{reverse-append, reverse-reverse, length-reverse}
 use Rattle.ck_core.specs.declared.view.View.{View}
-use Rattle.ck_stripe.specs.Doubling.{doubled_content}
 use Rattle.ck_stripe.specs.Stripe.{StripeState}
-use Rattle.ck_section.specs.Stripes.{stripe_at, no_stripe}
+use Rattle.ck_section.specs.Stripes.{stripe_at}
 use Rattle.ck_words.specs.Rule.{StripeSlot, Hand}
 use Rattle.ck_words.specs.Passes.{PassState, EachOf, IsSeated, rotated, slot_of, state_of, stripes_in, held_in, numbers_of}
 use Rattle.ck_words.specs.InPlace.{StripeSeat, HoldsAt, Brings, Puts}
@@ -134,10 +131,6 @@ module _ {V : Type 0} where
       let number : StripeState V → ℕ = λ s. s.number in
       map-reverse number (stripes_in new.me.1) ∙ (ap reverse p.numbered ∙ sym (map-reverse number (stripes_in old.me.1)))
 
-  -- nothing changed
-  pub puts-same : (old new : StripeSeat V) (i : ℕ) → Puts i (stripe_at (held_in old.me.1) i) old new → held_in new.me.1 ≡ held_in old.me.1
-  puts-same old new i p = p.stripes ∙ set-get_or (held_in old.me.1) i no_stripe
-
   -- stripe i of those that the pass has
   pub stands_at : (seat : StripeSeat V) (p : PassState V) (table : TableId) (n i t : ℕ) → IsSeated seat.table_id seat.me → state_of seat.table_id seat.me ≡ p → p.table ≡ table → length p.stripes ≡ n → i < n → (stripe_at p.stripes i).number ≡ t
       → HoldsAt table n i t seat
@@ -148,17 +141,6 @@ module _ {V : Type 0} where
     inside = inside;
     number = ap (λ (q : PassState V). (stripe_at q.stripes i).number) is ∙ number;
   }
-
-  -- what an act on a stripe made, where it is told of its content and of the rest
-  pub made_of : (old here new : StripeState V) (f : StripeState V → Content V) → old ≡ here → new ≡ record here { content = new.content } → new.content ≡ f here → new ≡ record old { content = f old }
-  made_of old here new f same rest_is content = rest_is ∙ ((λ j. record here { content = content j }) ∙ λ j. record (sym same j) { content = f (sym same j) })
-
-  pub settled_of : (old here new : StripeState V) → old ≡ here → new ≡ record here { settled = true } → new ≡ record old { settled = true }
-  settled_of old here new same is = is ∙ λ j. record (sym same j) { settled = true }
-
-  pub doubled_of : (hash : Name → ℕ) (old here new : StripeState V) → old ≡ here → new ≡ record here { content = new.content; settled = false } → new.content ≡ doubled_content hash here.s here.number here.content
-      → new ≡ record old { content = doubled_content hash old.s old.number old.content; settled = false }
-  doubled_of hash old here new same rest_is content = rest_is ∙ ((λ j. record here { content = content j; settled = false }) ∙ λ j. record (sym same j) { content = doubled_content hash (sym same j).s (sym same j).number (sym same j).content; settled = false })
 
   pub room_of : (old here new : StripeState V) → old ≡ here → new ≡ record here { room = new.room } → new ≡ record old { room = new.room }
   room_of old here new same is = is ∙ λ j. record (sym same j) { room = new.room }

@@ -1,11 +1,12 @@
 -- All stripes of a table, taken and settled.
-use Rattle.std.proofs.Common.{◌≡◌, ℕ, zero, suc, ◌^◌, ◌≤◌, true, List, [], ◌∷◌, length, get_or, refl, sym, ap, ◌∙◌, arith}
+use Rattle.std.proofs.Common.{◌≡◌, ℕ, zero, suc, ◌^◌, ◌≤◌, true, List, [], ◌∷◌, length, get_or, refl, sym, ap, ◌∙◌, subst, arith}
 use mathlib.Core.Logic.{dite}
 use native.Mathlib.Decide.{dec_le}
 use Rattle.ck_model.specs.declared.settings.Settings.{Settings}
 use Rattle.ck_model.specs.Map.{Name}
+use Rattle.ck_model.specs.Contents.{layout_of, Lawful}
 use Rattle.ck_stripe.specs.Stripe.{StripeState}
-use Rattle.ck_section.specs.Stripes.{stripe_at}
+use Rattle.ck_section.specs.Stripes.{stripe_at, contents_of}
 use Rattle.ck_section.specs.Places.{AreHeld}
 use Rattle.ck_section.specs.Whole.{IsTable}
 use Rattle.ck_model.specs.Counting.{counting}
@@ -14,6 +15,7 @@ use Rattle.ck_words.specs.declared.stripe_set.StripeSet.{StripeSet}
 use Rattle.ck_words.specs.StripeSets.{list_of}
 use Rattle.ck_words.specs.Closing.{IsWhole}
 use Rattle.ck_model.proofs.Counting.{length-counting, counting-at}
+use Rattle.ck_words.proofs.Reversed.{lawful_reverse}
 use Rattle.ck_words.proofs.Seating.{length-numbers, number_at}
 
 -- a set of all stripes of the table
@@ -48,3 +50,7 @@ module _ {V : Type 0} where
     settled = λ i. dite (dec_le (length p.stripes) i) (λ past. settled_past p.stripes i past) (λ inside. h.settled i (omega (arith, inside)));
     shows = shows;
   }
+
+  -- what the stripes contain is lawful
+  pub lawful_held : (hash : Name → ℕ) (set : Settings) (p : PassState V) → IsWhole hash set p → Lawful (layout_of hash set) (contents_of p.stripes)
+  lawful_held hash set p whole = subst (Lawful (layout_of hash set)) (sym whole.unchanged) (lawful_reverse (layout_of hash set) p.view.held whole.shows.lawful)

@@ -1,5 +1,5 @@
 -- All stripes at once, and the end of a table.
-use Rattle.std.specs.Prelude.{◌≡◌, ℕ, ◌<◌, ◌^◌, true, List, [], ◌∷◌, ◌++◌, map, slice_set, Some, All}
+use Rattle.std.specs.Prelude.{◌≡◌, ℕ, ◌<◌, ◌^◌, true, List, [], ◌∷◌, ◌++◌, map, Some, All}
 use Rattle.std.specs.List.{AllZip}
 use Rattle.std.specs.Option.{unwrap_or}
 use Rattle.std.specs.FinMap.{from_entries}
@@ -10,7 +10,6 @@ use Rattle.ck_model.specs.Map.{Name}
 use Rattle.ck_model.specs.Numbered.{IsIn, numbers}
 use Rattle.ck_model.specs.History.{After, StartsWith, IsInterleaving}
 use Rattle.ck_model.specs.Contents.{NamesApart}
-use Rattle.ck_stripe.specs.Stripe.{StripeState}
 use Rattle.ck_section.specs.Stripes.{stripe_at}
 use Rattle.ck_core.specs.State.{owned}
 use Rattle.ck_core.specs.Steps.{newcomer}
@@ -20,10 +19,6 @@ use Rattle.ck_words.specs.Passes.{PassState, IsPassOf, IsIdle, IsUnchanged, Show
 use Rattle.ck_words.specs.Retries.{Stays}
 
 module _ {V : Type 0} where
-  -- stripe i of these becomes settled
-  abbrev pub settled_also : ℕ → List (StripeState V) → List (StripeState V)
-  settled_also i stripes = slice_set stripes i (record (stripe_at stripes i) { settled = true })
-
   -- The pass holds all stripes as it took them, and no doubling of them is left to carry out.
   pub record IsWhole (hash : Name → ℕ) (set : Settings) (p : PassState V) : Type 0 where
     pub all : numbers_of p.stripes ≡ counting 0 (2 ^ set.s)

@@ -43,7 +43,7 @@ impl<K: TableKey + Drop, V: Drop> Words<K, V> {
             (pass.new ≡ found_again self.now.settings.turns t pass.old) }
         ensures unchanged { IsUnchanged pass.new }
     {
-        let _ = self.settings();
+        self.show_range();
         if self.take(pass, t) {
             return true;
         }
@@ -222,7 +222,7 @@ impl<K: TableKey + Drop, V: Drop> Words<K, V> {
             → Misses K.hash self.now (list_of set) i p pass.old
             → GivesUp self.now (λ u. IsIn u (list_of set)) t p pass.new) }
     {
-        let _ = self.settings();
+        self.show_range();
         let missed = set.at(i);
         if !self.try_again(pass, missed) {
             self.release_first(pass, set, i);

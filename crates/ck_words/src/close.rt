@@ -1,23 +1,24 @@
 //! The end of a table.
-ghost use Rattle.std.specs.Prelude.{◌≡◌, ℕ, ◌+◌, ◌^◌, ◌<◌, ◌≤◌, ◌++◌, [], true, All, IfNone, IfSome, IfOk, IfErr, length, map, reverse, vec_len, vec_capacity};
+ghost use Rattle.std.specs.Prelude.{◌≡◌, ℕ, ◌+◌, ◌^◌, ◌≤◌, [], true, All, IfNone, IfSome, IfOk, IfErr, length, map, vec_capacity};
 ghost use Rattle.ck_model.specs.Map.{named};
 ghost use Rattle.ck_model.specs.Contents.{pairs_of};
 ghost use Rattle.ck_section.specs.Stripes.{stripe_at, contents_of};
 ghost use Rattle.ck_model.specs.Counting.{counting};
-ghost use Rattle.ck_words.specs.Passes.{IsPassOf, IsIdle, ShowsSeen, slot_of, stripes_in, held_in, numbers_of};
+ghost use Rattle.ck_words.specs.Passes.{IsPassOf, IsIdle, ShowsSeen, numbers_of};
 ghost use Rattle.ck_words.specs.Retries.{Stays};
 ghost use Rattle.ck_words.specs.Closing.{IsWhole, IsCaller, AreAllPasses, EachStays, Gathers, Gathered, Closes};
 
+use crate::lent::Lent;
+use crate::lift::Whole;
 use crate::pass::Pass;
-use crate::rule::{Board, StripeSeat};
 use crate::words::Words;
 use ck_key::TableKey;
+use ck_section::{len, pour_all};
 use std::alloc::Global;
 
 impl<K: TableKey + Drop, V: Drop> Words<K, V> {
-    /// Ends the table, given the passes of all callers, and gives its pairs, those of the highest
-    /// stripe first. There is one history of all that the callers have done, and these pairs are
-    /// what it leaves.
+    /// Ends the table, given the passes of all callers, and gives its pairs. There is one history of
+    /// all that the callers have done, and these pairs are what it leaves.
     ///
     /// It is refused where a stripe was found held, and for want of memory. Then it gives words and
     /// passes back, and no entry has changed.
@@ -63,10 +64,18 @@ impl<K: TableKey + Drop, V: Drop> Words<K, V> {
         let Ok(()) = self.lock_all(pass) else {
             return None;
         };
+        let s = self.settings().s;
+        let set = self.all();
+        let mut lent = Lent {
+            words: self,
+            pass,
+            set,
+        };
         // A bucket is poured where there is room for four more.
-        let room = self.entries(pass) + 4;
+        let room = len(&mut lent, s) as usize + 4;
+        let Lent { pass, .. } = lent;
         let Ok(pairs) = Vec::with_capacity(alloc, room) else {
-            self.release(pass, self.all());
+            self.release(pass, set);
             return None;
         };
         Some(pairs)
@@ -95,49 +104,17 @@ impl<K: TableKey + Drop, V: Drop> Words<K, V> {
         }
     }
 
-    // Pours the pairs of all stripes, those of the highest one first.
+    // Pours the pairs of all stripes, which the pass holds.
     fn pour(&self, pass: Pass<K, V>, mut pairs: Vec<(K, V)>) -> Vec<(K, V)>
         requires own { IsPassOf self.now pass }
         requires numbered { numbers_of pass.stripes ≡ counting 0 (2 ^ self.now.settings.s) }
         requires settled { (i : ℕ) → (stripe_at pass.stripes i).settled ≡ true }
         requires empty { pairs.items ≡ [] }
         requires room { length (pairs_of (contents_of pass.stripes)) + 4 ≤ vec_capacity pairs }
-        ensures { map (named K.name) result.items ≡ pairs_of (reverse (contents_of pass.stripes)) }
+        ensures { map (named K.name) result.items ≡ pairs_of (contents_of pass.stripes) }
     {
-        let Pass { mut seat, room: _ } = pass;
-        drain(
-            &self.table.shared,
-            &mut seat,
-            self.table.slot_count(),
-            &mut pairs,
-        );
+        let Whole { seat: _, stripes } = self.lift(pass);
+        pour_all(stripes, &mut pairs);
         pairs
-    }
-}
-
-// Takes the stripes out of the slots of a seat that has all, which keeps the slots with nothing in
-// them, and pours their pairs.
-fn drain<K: TableKey + Drop, V: Drop>(
-    shared: &Board<K, V>,
-    seat: &mut StripeSeat<K, V>,
-    count: usize,
-    pairs: &mut Vec<(K, V)>,
-)
-    requires own { seat.old.table_id ≡ shared.now.table_id }
-    requires full { seat.old.me.1 ≡ map slot_of (stripes_in seat.old.me.1) }
-    requires numbered { numbers_of (held_in seat.old.me.1) ≡ counting 0 count }
-    requires settled { (i : ℕ) → i < count
-        → (stripe_at (stripes_in seat.old.me.1) i).settled ≡ true }
-    requires room { vec_len pairs.old + length
-        (pairs_of (contents_of (stripes_in seat.old.me.1))) + 4 ≤ vec_capacity pairs.old }
-    ensures { map (named K.name) pairs.new.items ≡ map (named K.name) pairs.old.items
-        ++ pairs_of (contents_of (stripes_in seat.old.me.1)) }
-{
-    for t in (0..count).rev() {
-        let Some(stripe) = shared.exchange(seat, t, None) else {
-            unreachable!()
-        };
-        seat.turn();
-        stripe.pour_reserved(pairs);
     }
 }

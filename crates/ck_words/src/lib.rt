@@ -13,7 +13,6 @@ mod power;
 mod release;
 mod rule;
 mod settle;
-mod size;
 mod slots;
 mod steps;
 mod stripe_set;

@@ -1,19 +1,18 @@
 //! Carrying out the doublings that are left of stripes that a pass holds.
-ghost use Rattle.std.specs.Prelude.{◌≡◌, ◌<◌, ◌≤◌, ◌^◌, length};
+ghost use Rattle.std.specs.Prelude.{◌≡◌, ◌<◌, ◌≤◌, ◌^◌};
 ghost use Rattle.ck_section.specs.Places.{AreHeld};
-ghost use Rattle.ck_section.specs.Stripes.{stripe_at, settled_stripes};
+ghost use Rattle.ck_section.specs.Stripes.{settled_stripes};
 ghost use Rattle.ck_words.specs.Passes.{IsPassOf, IsUnchanged, numbers_of, PassState};
 ghost use Rattle.ck_words.specs.StripeNumbers.{pair};
 ghost use Rattle.ck_words.specs.StripeSets.{list_of};
 ghost use Rattle.ck_words.specs.Holding.{HasTakenAll};
-ghost use Rattle.ck_words.specs.Closing.{settled_also};
 
+use crate::lent::Lent;
 use crate::pass::Pass;
-use crate::slots;
 use crate::stripe_set::StripeSet;
 use crate::words::Words;
 use ck_key::TableKey;
-use ck_stripe::Stripe;
+use ck_section::{is_settled, settle_all};
 
 impl<K: TableKey + Drop, V: Drop> Words<K, V> {
     /// Carries out the doublings that are left of the stripes of a set, which were just taken.
@@ -28,7 +27,7 @@ impl<K: TableKey + Drop, V: Drop> Words<K, V> {
         ensures numbers { numbers_of pass.new.stripes ≡ list_of set }
         ensures unchanged { IsUnchanged pass.new }
     {
-        let _ = self.settings();
+        self.show_range();
         self.settle(pass, set);
     }
 
@@ -44,9 +43,15 @@ impl<K: TableKey + Drop, V: Drop> Words<K, V> {
     {
         let count = set.count();
         if count <= 2 {
+            let mut lent = Lent {
+                words: self,
+                pass,
+                set,
+            };
             // One test for both, before anything is looked into.
-            let first = self.is_settled(pass, count, 0, set.at(0));
-            let last = self.is_settled(pass, count, count - 1, set.at(count - 1));
+            let first = is_settled(&mut lent, 0);
+            let last = is_settled(&mut lent, count - 1);
+            let Lent { pass, .. } = lent;
             if first && last {
                 return;
             }
@@ -76,52 +81,17 @@ impl<K: TableKey + Drop, V: Drop> Words<K, V> {
     // Carries out the doublings that are left of the stripes of a set, one after another.
     fn settle_each(&self, pass: &mut Pass<K, V>, set: StripeSet)
         requires own { IsPassOf self.now pass.old }
+        requires of_table { set.s ≡ self.now.settings.s }
         requires numbered { numbers_of pass.old.stripes ≡ list_of set }
         ensures own { IsPassOf self.now pass.new }
         ensures settled { pass.new
             ≡ record pass.old { stripes = settled_stripes pass.old.stripes } }
     {
-        for i in 0..set.count() {
-            self.settle_one(pass, set.count(), i, set.at(i));
-        }
-    }
-
-    // Whether no doubling is left of stripe `i` of `count` that the pass holds, number `t`.
-    #[inline(always)]
-    fn is_settled(&self, pass: &mut Pass<K, V>, count: usize, i: usize, t: usize) -> bool
-        requires own { IsPassOf self.now pass.old }
-        requires count { length pass.old.stripes ≡ count }
-        requires inside { i < count }
-        requires number { (stripe_at pass.old.stripes i).number ≡ t }
-        ensures value { result ≡ (stripe_at pass.old.stripes i).settled }
-        ensures same { pass.new ≡ pass.old }
-    {
-        slots::visit_at(
-            &self.table.shared,
-            &mut pass.seat,
-            count,
-            i,
-            t,
-            |stripe: &mut Stripe<K, V>| stripe.settled(),
-        )
-    }
-
-    // Carries out the doubling of stripe `i` of `count` that the pass holds, number `t`.
-    fn settle_one(&self, pass: &mut Pass<K, V>, count: usize, i: usize, t: usize)
-        requires own { IsPassOf self.now pass.old }
-        requires count { length pass.old.stripes ≡ count }
-        requires inside { i < count }
-        requires number { (stripe_at pass.old.stripes i).number ≡ t }
-        ensures own { IsPassOf self.now pass.new }
-        ensures settled { pass.new ≡ record pass.old { stripes = settled_also i pass.old.stripes } }
-    {
-        slots::visit_at(
-            &self.table.shared,
-            &mut pass.seat,
-            count,
-            i,
-            t,
-            |stripe: &mut Stripe<K, V>| stripe.settle(),
-        );
+        let mut lent = Lent {
+            words: self,
+            pass,
+            set,
+        };
+        settle_all(&mut lent);
     }
 }

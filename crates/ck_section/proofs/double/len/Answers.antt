@@ -41,6 +41,9 @@ returns-clause-value g c =
     let end : length stripes ≤ c.loop-i.i = omega (arith, c.requires.count) in
     c.loop-i.invariant.counted ∙ entries_all c.loop-i.i stripes end
 
+pub returns-clause-few : goal.returns-clause-few
+returns-clause-few g c = let all : 2 ^ c.args.s ≤ 2 ^ 10 = pow-le-pow_right {n = 2} (omega arith) c.requires.many in omega (arith, c.loop-i.invariant.few)
+
 pub returns-clause-call : goal.returns-clause-call
 returns-clause-call g c max lawful =
     let stripes : List (StripeState g.row.V.Denot) = g.H.Held.stripes c.args.held.now in

@@ -5,8 +5,7 @@ use Rattle.ck_stripe.specs.Stripe.{StripeState}
 use Rattle.ck_section.specs.Stripes.{stripe_at}
 use Rattle.ck_words.specs.Rule.{Hand}
 use Rattle.ck_words.specs.Passes.{held_in}
-use Rattle.ck_words.proofs.Draining.{came_out}
-use Rattle.ck_words.proofs.Lifting.{lifted_to, lifted_all, others_from, count_of, brought, in_front, lifted_more, listed_more}
+use Rattle.ck_words.proofs.Lifting.{came_out, lifted_to, lifted_all, others_from, count_of, brought, in_front, lifted_more, listed_more}
 use Rattle.ck_words.proofs.lift.take_out.Goals as goal
 
 pub exchange-requires : goal.exchange-requires

@@ -8,19 +8,19 @@ use Rattle.ck_words.proofs.words.Words.lock_set_later.Goals as goal
 
 pub try_again-requires-clause-above : goal.try_again-requires-clause-above
 try_again-requires-clause-above g c =
-    above_missed g.K.TableKey.hash c.args.self.now (list_of c.args.set) c.args.i c.at-missed.result c.at-missed.ensures.value c.requires.missed.0 c.args.pass.now c.args.set.rising c.settings.ensures.range.turns c.requires.missed.1
+    above_missed g.K.TableKey.hash c.args.self.now (list_of c.args.set) c.args.i c.at-missed.result c.at-missed.ensures.value c.requires.missed.0 c.args.pass.now c.args.set.rising c.show_range.ensures.turns c.requires.missed.1
 
 pub release_first-requires-clause-numbered : goal.release_first-requires-clause-numbered
 release_first-requires-clause-numbered g c =
-    later_first g.K.TableKey.hash c.args.self.now (list_of c.args.set) c.args.i c.at-missed.result c.at-missed.ensures.value c.requires.missed.0 c.args.pass.now c.args.set.rising c.settings.ensures.range.turns c.requires.missed.1 _ c.try_again.new.pass c.if-not-try_again.ensures.tries
+    later_first g.K.TableKey.hash c.args.self.now (list_of c.args.set) c.args.i c.at-missed.result c.at-missed.ensures.value c.requires.missed.0 c.args.pass.now c.args.set.rising c.show_range.ensures.turns c.requires.missed.1 _ c.try_again.new.pass c.if-not-try_again.ensures.tries
 
 pub returns-then-not-try_again-clause-refused : goal.returns-then-not-try_again-clause-refused
 returns-then-not-try_again-clause-refused g c p m =
-    later_refused g.K.TableKey.hash c.args.self.now (list_of c.args.set) c.args.i c.at-missed.result c.at-missed.ensures.value p c.args.pass.now c.args.set.rising c.settings.ensures.range.turns m c.try_again.new.pass c.release_first.new.pass c.if-not-try_again.ensures.tries c.release_first.ensures.released
+    later_refused g.K.TableKey.hash c.args.self.now (list_of c.args.set) c.args.i c.at-missed.result c.at-missed.ensures.value p c.args.pass.now c.args.set.rising c.show_range.ensures.turns m c.try_again.new.pass c.release_first.new.pass c.if-not-try_again.ensures.tries c.release_first.ensures.released
 
 pub loop-j-init : goal.loop-j-init
 loop-j-init g c p m =
-    later_taken g.K.TableKey.hash c.args.self.now (list_of c.args.set) c.args.i c.at-missed.result c.at-missed.ensures.value p c.args.pass.now c.args.set.rising c.settings.ensures.range.turns m c.try_again.new.pass c.if-not-try_again.ensures.tries c.try_again.ensures.own c.try_again.ensures.unchanged
+    later_taken g.K.TableKey.hash c.args.self.now (list_of c.args.set) c.args.i c.at-missed.result c.at-missed.ensures.value p c.args.pass.now c.args.set.rising c.show_range.ensures.turns m c.try_again.new.pass c.if-not-try_again.ensures.tries c.try_again.ensures.own c.try_again.ensures.unchanged
 
 pub try_take-requires-clause-own : goal.try_take-requires-clause-own
 try_take-requires-clause-own g c = let h = c.loop-j.invariant c.requires.missed.0 c.requires.missed.1 in h.own

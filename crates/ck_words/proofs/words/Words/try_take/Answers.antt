@@ -14,4 +14,4 @@ try_again-requires-clause-above g c =
 pub returns-clause-tries : goal.returns-clause-tries
 returns-clause-tries g c =
     let again = found_next g.K.TableKey.hash c.args.self.now 0 c.args.t c.args.pass.now c.args.pass.now c.take.new.pass refl c.requires.own c.take.ensures.own c.if-take.ensures.step in
-    tries_later g.K.TableKey.hash c.args.self.now.settings c.args.self.now.settings.turns c.args.t c.args.pass.now c.take.new.pass c.try_again.new.pass c.try_again.result c.settings.ensures.range.turns again c.try_again.ensures.tries
+    tries_later g.K.TableKey.hash c.args.self.now.settings c.args.self.now.settings.turns c.args.t c.args.pass.now c.take.new.pass c.try_again.new.pass c.try_again.result c.show_range.ensures.turns again c.try_again.ensures.tries
