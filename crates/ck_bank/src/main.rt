@@ -48,7 +48,8 @@ fn transfer(teller: &mut Teller<'_>, from: u64, to: u64, amount: u64) -> Result<
     Ok(())
 }
 
-/// The sum of all accounts, which is exact while nobody else transfers.
+/// The sum of all accounts, which are looked up one after another: a transfer in between may change
+/// it.
 fn total(teller: &mut Teller<'_>) -> Result<u64, Busy> {
     let mut sum = 0u64;
     for account in 0..ACCOUNTS {

@@ -2,10 +2,10 @@
 //! tells the words, so that what it prints doesn't depend on the machine.
 #![tactic(auto)]
 
-mod calls;
-mod growth;
-mod sessions;
-mod table;
+mod timed_calls;
+mod timed_growth;
+mod timed_sessions;
+mod timed_table;
 mod timing;
 
 use std::alloc::Global;
@@ -23,13 +23,13 @@ fn measure<R: Threads + Clock + Print + Sync>(
     word: &str,
 ) -> io::Result<bool> {
     match word {
-        "calls" => calls::run(rt, alloc)?,
-        "growth" => growth::run(rt, alloc)?,
-        "sessions" => sessions::run(rt, alloc)?,
+        "calls" => timed_calls::run(rt, alloc)?,
+        "growth" => timed_growth::run(rt, alloc)?,
+        "sessions" => timed_sessions::run(rt, alloc)?,
         "run" => {
-            calls::run(rt, alloc)?;
-            growth::run(rt, alloc)?;
-            sessions::run(rt, alloc)?;
+            timed_calls::run(rt, alloc)?;
+            timed_growth::run(rt, alloc)?;
+            timed_sessions::run(rt, alloc)?;
         }
         _ => return Ok(false),
     }

@@ -130,7 +130,7 @@ fn push_some_reserved<T>(into: &mut Vec<T>, value: Option<T>)
 
 impl<K, V> Slots<(K, V)> {
     /// Puts another value into the pair of place `i`, and gives the old one.
-    pub fn replace_value(&mut self, i: usize, value: V) -> V
+    pub(crate) fn replace_value(&mut self, i: usize, value: V) -> V
         requires below { i < 4 }
         requires full { IsSome (slice_index_or self.old i None) }
         ensures { IfSome (slice_index_or self.old i None)
@@ -146,7 +146,7 @@ impl<K, V> Slots<(K, V)> {
 
     /// Makes of the value in the pair of place `i` what the closure makes of it, in its place.
     #[inline(always)]
-    pub fn change_value<F: FnOnce(V) -> V>(&mut self, i: usize, f: F)
+    pub(crate) fn change_value<F: FnOnce(V) -> V>(&mut self, i: usize, f: F)
         requires below { i < 4 }
         requires full { IsSome (slice_index_or self.old i None) }
         requires call { F.IsAlwaysCallable f }

@@ -54,7 +54,7 @@ impl<K: ScriptKey> Body<K> {
     }
 
     /// Takes a command line.
-    pub fn take_command(&mut self, alloc: Global, line: &[u8]) -> Result<(), What>
+    pub(crate) fn take_command(&mut self, alloc: Global, line: &[u8]) -> Result<(), What>
         ensures ok { OnOk result (take_command (blocks_of K.kind K.name self.old) line.now
             ≡ Ok (blocks_of K.kind K.name self.new)) }
         ensures err { IfErr result (λ what. OnTextFault what
@@ -79,7 +79,7 @@ impl<K: ScriptKey> Body<K> {
     }
 
     /// Takes a further line `worker`.
-    pub fn take_worker(&mut self, alloc: Global) -> Result<(), What>
+    pub(crate) fn take_worker(&mut self, alloc: Global) -> Result<(), What>
         ensures ok { OnOk result (take_worker (blocks_of K.kind K.name self.old)
             ≡ Ok (blocks_of K.kind K.name self.new)) }
         ensures err { IfErr result (λ what. OnTextFault what

@@ -215,7 +215,7 @@ impl Given {
     }
 
     /// Whether there are no fewer buckets than stripes, and no more than there may be.
-    pub fn do_fit(&self) -> bool
+    pub(crate) fn do_fit(&self) -> bool
         ensures { result ≡ do_given_fit (found_of self.now) }
     {
         self.value(Setting::S) <= self.value(Setting::Power)

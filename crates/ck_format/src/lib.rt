@@ -4,8 +4,8 @@
 
 mod answer;
 mod body;
+mod format_laws;
 mod given;
-mod laws;
 mod line;
 mod made;
 mod reader;
@@ -19,7 +19,7 @@ mod tokens;
 mod written_key;
 
 pub use answer::{Answer, Pairs};
-pub use laws::law_of_scripts;
+pub use format_laws::law_of_scripts;
 pub use made::make_script;
 pub use reader::read_script;
 pub use script::{Command, Keys, Script, ScriptFault, Setting, Version, What, Work};

@@ -144,7 +144,7 @@ fn parse<'a, K: ScriptKey>(version: Version, line: &'a [u8]) -> Result<Command<&
 }
 
 /// The command that a line is, on the words in the places of its keys.
-pub fn command_of<'a, K: ScriptKey>(
+pub(crate) fn command_of<'a, K: ScriptKey>(
     version: Version,
     line: &'a [u8],
 ) -> Result<Command<&'a [u8]>, What>

@@ -34,7 +34,7 @@ fn append(out: &mut Vec<u8>, bytes: &[u8])
 }
 
 /// Adds the line `add K N`. Where memory is refused, nothing is added.
-pub fn add_line(k: u64, n: u64, out: &mut Vec<u8>) -> Result<(), AllocError>
+pub(crate) fn add_line(k: u64, n: u64, out: &mut Vec<u8>) -> Result<(), AllocError>
     ensures ok { OnOk result (out.new.items ≡ out.old.items ++ with_feed (add_text k n)) }
     ensures err { OnErr result (out.new.items ≡ out.old.items) }
 {

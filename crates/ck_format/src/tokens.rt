@@ -28,7 +28,7 @@ fn cut(line: &[u8]) -> (&[u8], Option<&[u8]>)
 }
 
 /// The tokens of a line.
-pub fn tokens_of(line: &[u8]) -> Tokens<'_>
+pub(crate) fn tokens_of(line: &[u8]) -> Tokens<'_>
     ensures { AreTokens result (tokens line.now) }
 {
     let (first, rest) = cut(line);

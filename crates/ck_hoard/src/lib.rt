@@ -1,4 +1,5 @@
-//! Takes all memory, so that each request of a call is refused in turn. For tests of the want of memory.
+//! Takes all memory, so that each request of a call is refused in turn. For tests of the want of
+//! memory.
 #![tactic(auto)]
 
 use std::alloc::{AllocError, Global};

@@ -1,6 +1,6 @@
 -- Displacement paths over sketches of buckets.
 use Rattle.std.specs.Prelude.{◌≡◌, ℕ, ◌≤◌, ◌⊎◌, Bool, true, false, IsTrue, List, [], ◌∷◌, length, Option, Some, None, slice_get}
-use Rattle.ck_model.specs.declared.hop.PathHop.{PathHop}
+use Rattle.ck_model.specs.declared.path_hop.PathHop.{PathHop}
 use Rattle.ck_model.specs.Arithmetic.{alternate_of}
 
 -- what a search sees of a bucket: the partial of each slot, or None where the slot is free

@@ -5,6 +5,6 @@
 
 pub mod contents;
 pub mod history;
-pub mod hop;
 pub mod laws;
+pub mod path_hop;
 pub mod settings;

@@ -4,7 +4,7 @@ use Rattle.std.specs.Prelude.{slice_get, IsTrue}
 use Rattle.std.proofs.lemmas.Bool.{cases_lt}
 use Rattle.std.proofs.lemmas.Option.{slice_get_within}
 use Rattle.ck_model.specs.Arithmetic.{alternate_of}
-use Rattle.ck_model.specs.declared.hop.PathHop.{PathHop}
+use Rattle.ck_model.specs.declared.path_hop.PathHop.{PathHop}
 use Rattle.ck_path.specs.declared.node.Node.{Node}
 use Rattle.ck_model.specs.Sketches.{Sketch, has_free, IsPathAlong, IsSketchPathFrom, IsSketchPath, HasNoSketchPath}
 use Rattle.ck_model.proofs.Sketches.{free_of, full_of}

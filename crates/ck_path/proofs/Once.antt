@@ -1,7 +1,7 @@
 -- A shortest path visits no bucket twice.
 use Rattle.std.proofs.Common.{ℕ, ◌<◌, ◌≤◌, List, [], ◌∷◌, length, sym, ◌∙◌, subst, arith}
 use Rattle.ck_model.specs.Arithmetic.{alternate_of}
-use Rattle.ck_model.specs.declared.hop.PathHop.{PathHop}
+use Rattle.ck_model.specs.declared.path_hop.PathHop.{PathHop}
 use Rattle.ck_model.specs.Sketches.{Sketch, IsSketchPathFrom}
 use Rattle.ck_path.specs.Route.{Avoids, VisitsOnce}
 

@@ -1,6 +1,6 @@
 -- A path over the contents of a lawful whole is one over the sketches of its buckets, and the other way round.
 use Rattle.std.proofs.Common.{◌≡◌, ℕ, suc, ◌^◌, ◌<◌, List, [], ◌∷◌, length, Some, refl, ap, subst, inl, inr, ⊎_elim, arith}
-use Rattle.ck_model.specs.declared.hop.PathHop.{PathHop}
+use Rattle.ck_model.specs.declared.path_hop.PathHop.{PathHop}
 use Rattle.ck_model.specs.Arithmetic.{partial_of, index_of, alternate_of, second_of}
 use Rattle.ck_model.specs.Map.{Name}
 use Rattle.ck_model.specs.Slots.{slot_at}

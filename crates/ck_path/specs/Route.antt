@@ -1,6 +1,6 @@
 -- What a found path is, in sketches that were seen and in those of one table.
 use Rattle.std.specs.Prelude.{◌≡◌, ◌≢◌, ℕ, ◌^◌, ◌<◌, ◌≤◌, ◌⊎◌, Bool, IsTrue, List, [], ◌∷◌, length}
-use Rattle.ck_model.specs.declared.hop.PathHop.{PathHop}
+use Rattle.ck_model.specs.declared.path_hop.PathHop.{PathHop}
 use Rattle.ck_model.specs.Arithmetic.{alternate_of}
 use Rattle.ck_model.specs.Sketches.{Sketch, IsPathAlong, IsSketchPath}
 

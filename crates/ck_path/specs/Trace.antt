@@ -1,6 +1,6 @@
 -- The way from a node up to its root, as the hops down it.
 use Rattle.std.specs.Prelude.{◌≡◌, ℕ, ◌<◌, List, [], ◌∷◌, Some, slice_get}
-use Rattle.ck_model.specs.declared.hop.PathHop.{PathHop}
+use Rattle.ck_model.specs.declared.path_hop.PathHop.{PathHop}
 use Rattle.ck_path.specs.declared.node.Node.{Node}
 
 -- a hop from the bucket of node n to that of a node c queued below it

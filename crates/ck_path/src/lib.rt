@@ -4,12 +4,12 @@
 //! 2014, "Algorithmic Improvements for Fast Concurrent Cuckoo Hashing").
 #![tactic(auto)]
 
-mod laws;
 mod node;
 mod path;
+mod path_laws;
 mod search;
 
-pub use ck_model::hop::PathHop;
-pub use laws::law_of_sketches;
+pub use ck_model::path_hop::PathHop;
 pub use path::Path;
+pub use path_laws::law_of_sketches;
 pub use search::Search;

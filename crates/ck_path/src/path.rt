@@ -5,7 +5,7 @@ ghost use Rattle.ck_path.specs.Trace.{IsTrace};
 
 use crate::node::Node;
 use arrayvec::ArrayVec;
-use ck_model::hop::PathHop;
+use ck_model::path_hop::PathHop;
 use std::marker::Model;
 
 /// The most hops of a path.

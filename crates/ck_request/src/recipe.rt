@@ -48,7 +48,7 @@ fn number_within(word: &str, least: u32, most: u32) -> Result<u32, RequestFault>
 }
 
 /// The recipe that these words say.
-pub fn recipe_of(seed: &str, workers: &str, lines: &str) -> Result<Recipe, RequestFault>
+pub(crate) fn recipe_of(seed: &str, workers: &str, lines: &str) -> Result<Recipe, RequestFault>
     ensures seed { IfOk result (λ recipe. number_at seed.now ≡ Some recipe.seed) }
     ensures workers { IfOk result (λ recipe. number_at workers.now ≡ Some recipe.workers) }
     ensures lines { IfOk result (λ recipe. number_at lines.now ≡ Some recipe.lines) }

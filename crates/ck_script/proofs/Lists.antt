@@ -8,8 +8,8 @@ use Rattle.ck_model.specs.Map.{Map}
 use Rattle.ck_model.proofs.Numbered.{Some-injective}
 use Rattle.ck_words.specs.Passes.{PassState}
 use Rattle.ck_words.specs.Answering.{IsAnswered}
-use Rattle.ck_table.specs.Callers.{CallerState}
-use Rattle.ck_table.specs.Locking.{LockedState, start_of, map_of, HasLocked}
+use Rattle.cuckoo_map.specs.Callers.{CallerState}
+use Rattle.cuckoo_map.specs.Locking.{LockedState, start_of, map_of, HasLocked}
 use Rattle.ck_format.specs.declared.script.Command.TheVariants as command
 use Rattle.ck_format.specs.declared.answer.Answer.{Answer}
 use Rattle.ck_format.specs.Text.{Pairs}

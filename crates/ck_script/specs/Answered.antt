@@ -4,7 +4,7 @@ use Rattle.ck_model.specs.declared.history.Call.TheVariants.{Session}
 use Rattle.ck_model.specs.declared.history.Reply.TheVariants.{Closed}
 use Rattle.ck_model.specs.declared.history.Entry.{Entry}
 use Rattle.ck_model.specs.Map.{Name}
-use Rattle.ck_table.specs.Callers.{CallerState, IsSameCaller}
+use Rattle.cuckoo_map.specs.Callers.{CallerState, IsSameCaller}
 use Rattle.ck_format.specs.declared.script.Command.{Command}
 use Rattle.ck_format.specs.declared.answer.Answer.{Answer}
 use Rattle.ck_format.specs.declared.answer.Answer.TheVariants.{Listed, Memory}

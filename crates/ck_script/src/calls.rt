@@ -4,13 +4,13 @@ ghost use Rattle.std.specs.FinMap.{entries};
 ghost use Rattle.ck_model.specs.Map.{Name};
 ghost use Rattle.ck_format.specs.Script.{on_names};
 ghost use Rattle.ck_script.specs.Output.{NeedsRoom, IsRefusal, share};
-ghost use Rattle.ck_table.specs.Locking.{map_of};
+ghost use Rattle.cuckoo_map.specs.Locking.{map_of};
 ghost use Rattle.ck_format.specs.Answers.{answer_on_names};
 ghost use Rattle.ck_script.specs.Answered.{IsAnsweredBy, IsListOf};
 
 use ck_format::{Answer, Command, Pairs, WrittenKey};
 use ck_key::TableKey;
-use ck_table::{Caller, LockedTable, Why};
+use cuckoo_map::{Caller, LockedTable, Why};
 use std::alloc::Global;
 
 // What a command that may need room is refused for.
@@ -185,7 +185,7 @@ fn list<'t, K: WrittenKey>(
 }
 
 /// Does what the command says.
-pub fn answer_of<'t, K: WrittenKey>(
+pub(crate) fn answer_of<'t, K: WrittenKey>(
     alloc: Global,
     caller: Caller<'t, K, u64>,
     command: Command<K>,

@@ -1,6 +1,6 @@
 //! What a worker is given, and what it hands back.
 use ck_format::{Answer, Command, Pairs, WrittenKey};
-use ck_table::{Caller, Pass};
+use cuckoo_map::{Caller, Pass};
 
 /// What a worker is to do: its number, counted from 1, its caller, its commands, and room for their
 /// answers.

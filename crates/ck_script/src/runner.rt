@@ -15,7 +15,7 @@ use crate::job::{Done, Job};
 use crate::worker::work_all;
 use ck_format::{Answer, Command, Pairs, Script, Sink, Work, WrittenKey, text_of, write_all};
 use ck_model::settings::Settings;
-use ck_table::{OpenFault, Pass, Table};
+use cuckoo_map::{OpenFault, Pass, Table};
 use std::alloc::{AllocError, Global};
 use std::thread::Threads;
 use thiserror::Error;

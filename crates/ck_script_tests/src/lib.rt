@@ -2,6 +2,6 @@
 #![tactic(auto)]
 
 #[cfg(test)]
-mod memory;
+mod script_memory;
 #[cfg(test)]
 mod scripts;

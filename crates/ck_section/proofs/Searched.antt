@@ -2,7 +2,7 @@
 use Rattle.std.proofs.Common.{◌≡◌, ℕ, ◌*◌, ◌%◌, ◌^◌, ◌≤◌, Bool, true, IsTrue, List, [], ◌∷◌, Some, length, map, option_map, eqb, sym, ◌∙◌, ap, subst, inl, inr, ⊎_elim}
 use Rattle.std.proofs.lemmas.Bool.{eqb-true, eq-eqb}
 use Rattle.std.proofs.lemmas.List.{length-map}
-use Rattle.ck_model.specs.declared.hop.PathHop.{PathHop}
+use Rattle.ck_model.specs.declared.path_hop.PathHop.{PathHop}
 use Rattle.ck_model.specs.Sketches.{Sketch, IsPathAlong, IsSketchPathFrom}
 use Rattle.ck_model.specs.Arithmetic.{alternate_of, index_of, second_of}
 use Rattle.ck_model.specs.Map.{Name}

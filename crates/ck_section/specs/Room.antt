@@ -2,7 +2,7 @@
 use Rattle.std.specs.Prelude.{◌≡◌, ℕ, true, ◌%◌, ◌^◌, ◌<◌, ◌≤◌, List, [], ◌∷◌, length, map, slice_set}
 use Rattle.ck_model.specs.declared.history.Reason.{Reason}
 use Rattle.ck_model.specs.declared.history.Reason.TheVariants as Reasons
-use Rattle.ck_model.specs.declared.hop.PathHop.{PathHop}
+use Rattle.ck_model.specs.declared.path_hop.PathHop.{PathHop}
 use Rattle.ck_model.specs.Arithmetic.{index_of, second_of}
 use Rattle.ck_model.specs.Map.{Name}
 use Rattle.ck_model.specs.Contents.{Layout, layout, Stripes, Lawful}

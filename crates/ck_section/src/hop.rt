@@ -29,7 +29,7 @@ pub struct Hop {
 ///
 /// It doesn't where the table has another power by now, where the slot has no entry of the partial,
 /// or where the target has no free slot; then nothing has changed.
-pub fn move_entry<K: TableKey + Drop, V: Drop, H: Held<Stripe<K, V>>>(
+pub(crate) fn move_entry<K: TableKey + Drop, V: Drop, H: Held<Stripe<K, V>>>(
     held: &mut H,
     from: usize,
     to: usize,

@@ -74,7 +74,7 @@ pub fn insert<K: TableKey + Drop, V: Drop, H: Held<Stripe<K, V>>>(
 
 /// Binds the key of the entry, and gives the value that it had.
 #[inline(always)]
-pub fn assign<K: TableKey + Drop, V: Drop, H: Held<Stripe<K, V>>>(
+pub fn insert_or_assign<K: TableKey + Drop, V: Drop, H: Held<Stripe<K, V>>>(
     held: &mut H,
     place: KeyPlace,
     entry: Entry,
@@ -138,7 +138,7 @@ pub fn erase<K: TableKey + Drop, V: Drop, H: Held<Stripe<K, V>>>(
 
 /// Unbinds a bound key where the closure answers true for its value, and gives what the closure
 /// answers. Where the key is unbound, the closure is not called and comes back.
-pub fn erase_if<K: TableKey + Drop, V: Drop, H: Held<Stripe<K, V>>, F: FnOnce(&V) -> bool>(
+pub fn erase_fn<K: TableKey + Drop, V: Drop, H: Held<Stripe<K, V>>, F: FnOnce(&V) -> bool>(
     held: &mut H,
     place: KeyPlace,
     key: &K,
@@ -169,7 +169,7 @@ pub fn erase_if<K: TableKey + Drop, V: Drop, H: Held<Stripe<K, V>>, F: FnOnce(&V
 
 /// Binds a bound key to what the closure makes of its value, and says whether it was bound. Where
 /// it was not, the closure is not called.
-pub fn change<K: TableKey + Drop, V: Drop, H: Held<Stripe<K, V>>, F: FnOnce(V) -> V>(
+pub fn update_fn<K: TableKey + Drop, V: Drop, H: Held<Stripe<K, V>>, F: FnOnce(V) -> V>(
     held: &mut H,
     place: KeyPlace,
     key: &K,

@@ -17,8 +17,8 @@ use crate::double::{double_all, len, settle_all};
 use crate::entry::find_entry;
 use crate::held::Held;
 use crate::one_stripe;
-use crate::path::{find_path, follow_path};
 use crate::place::{HeldBucket, KeyPlace};
+use crate::whole_path::{find_path, follow_path};
 use ck_key::{KeyHash, TableKey};
 use ck_stripe::Stripe;
 
@@ -118,8 +118,8 @@ fn has_room<K: TableKey + Drop, V: Drop, H: Held<Stripe<K, V>>>(
     find_entry(held, place, key).is_some()
 }
 
-/// Where the key, whose hash the caller has at hand, may be among all stripes of a table of 2^s. Its
-/// own two are settled.
+/// Where the key, whose hash the caller has at hand, may be among all stripes of a table of 2^s.
+/// Its own two are settled.
 pub fn settled_place<K: TableKey + Drop, V: Drop, H: Held<Stripe<K, V>>>(
     held: &mut H,
     s: u32,

@@ -1,5 +1,5 @@
 //! Where a key may be among all stripes of a table, held as one slice.
-ghost use Rattle.std.specs.Prelude.{◌≡◌, ◌≤◌, ◌<◌, ◌^◌, ℕ, true, Some, MatchBool, IfSome, IfNone};
+ghost use Rattle.std.specs.Prelude.{◌≡◌, ◌≤◌, ◌<◌, ◌^◌, ℕ, true, Some, IfSome, IfNone};
 ghost use Rattle.std.specs.Option.{option_copied};
 ghost use Rattle.ck_model.specs.declared.history.Act.TheVariants.{Find};
 ghost use Rattle.ck_model.specs.declared.history.Reply.TheVariants.{Was};
@@ -14,28 +14,6 @@ ghost use Rattle.ck_section.specs.Whole.{AreAllHeld};
 use crate::place::{HeldBucket, KeyPlace};
 use ck_key::TableKey;
 use ck_stripe::Stripe;
-
-/// Whether these are the 2^s stripes of a table in the order of their numbers, of one power and
-/// each settled.
-pub fn are_all<K: TableKey + Drop, V: Drop>(stripes: &[Stripe<K, V>], s: u32) -> bool
-    requires { s ≤ 10 }
-    ensures { MatchBool result (AreAllHeld s stripes.now) (¬ (AreAllHeld s stripes.now)) }
-{
-    if stripes.len() != 1 << s {
-        return false;
-    }
-    let power = stripes[0].power();
-    for (i, stripe) in stripes.iter().enumerate() {
-        if stripe.number() as usize != i
-            || stripe.s() != s
-            || stripe.power() != power
-            || !stripe.settled()
-        {
-            return false;
-        }
-    }
-    true
-}
 
 /// Where the key may be among all stripes of a table of 2^s.
 pub fn place_in_all<K: TableKey + Drop, V: Drop>(

@@ -2,8 +2,8 @@
 //! first and split late.
 #![tactic(auto)]
 
-mod laws;
 mod stripe;
+mod stripe_laws;
 
-pub use laws::law_of_doubling;
 pub use stripe::Stripe;
+pub use stripe_laws::law_of_doubling;

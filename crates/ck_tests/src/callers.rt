@@ -1,9 +1,9 @@
 //! Calls on a table and their replies, as data.
-ghost use Rattle.ck_table.specs.Callers.{IsSameCaller};
+ghost use Rattle.cuckoo_map.specs.Callers.{IsSameCaller};
 
 use crate::fixtures::NumCaller;
 use ck_key::NumKey;
-use ck_table::{Refused, Why};
+use cuckoo_map::{Refused, Why};
 
 /// A call on a key.
 #[derive(Clone, Copy)]

@@ -4,7 +4,7 @@ ghost use Rattle.ck_words.specs.Closing.{IsCaller};
 
 use ck_key::NumKey;
 use ck_model::history::Name;
-use ck_table::{Caller, LockedTable, Pass, Settings, Table};
+use cuckoo_map::{Caller, LockedTable, Pass, Settings, Table};
 use std::alloc::{AllocError, Global};
 use std::collections::LinkedList;
 use std::sync::atomic::{AtomicU64, Ordering};

@@ -3,7 +3,7 @@
 
 use crate::callers::{Call, Reply, answer};
 use crate::fixtures::{NumCaller, NumTable, Shape, count, counters, read, scattered};
-use ck_table::{Settings, Why};
+use cuckoo_map::{Settings, Why};
 use std::alloc::{AllocError, Global};
 use std::process::Abort;
 use std::sync::atomic::{AtomicU64, Ordering};

@@ -2,15 +2,17 @@
 #![tactic(auto)]
 
 #[cfg(test)]
-mod callers;
+mod call_rows;
 #[cfg(test)]
-mod calls;
+mod callers;
 #[cfg(test)]
 mod fixtures;
 #[cfg(test)]
 mod growing;
 #[cfg(test)]
-mod growth;
+mod growth_rows;
+#[cfg(test)]
+mod lock_words;
 #[cfg(test)]
 mod locks;
 #[cfg(test)]
@@ -23,5 +25,3 @@ mod requests;
 mod sessions;
 #[cfg(test)]
 mod threads;
-#[cfg(test)]
-mod words;

@@ -3,7 +3,7 @@ ghost use Rattle.std.specs.Prelude.{◌≡◌};
 
 use crate::fixtures::{NumCaller, SIXTEEN_BUCKETS, open_with};
 use ck_key::NumKey;
-use ck_table::{Busy, Refused, Settings, Why};
+use cuckoo_map::{Busy, Refused, Settings, Why};
 use std::process::Abort;
 use std::test::Fail;
 

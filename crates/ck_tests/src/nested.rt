@@ -8,7 +8,7 @@ ghost use Rattle.std.specs.Prelude.{◌≢◌};
 use crate::callers::{Call, Reply, answer};
 use crate::fixtures::{FOUR_BUCKETS, NumCaller, SIXTEEN_BUCKETS, Shape, open};
 use ck_key::NumKey;
-use ck_table::Why;
+use cuckoo_map::Why;
 use std::alloc::Global;
 use std::process::Abort;
 use std::test::Fail;

@@ -7,7 +7,7 @@ ghost use Rattle.std.specs.Prelude.{◌≡◌};
 use crate::fixtures::{NumCaller, NumLocked, NumTable, TWO_STRIPES};
 use ck_hoard::{hoard, take_all};
 use ck_key::NumKey;
-use ck_table::{GrowFault, Refused, Settings, Why};
+use cuckoo_map::{GrowFault, Refused, Settings, Why};
 use std::alloc::{AllocError, Global};
 use std::process::Abort;
 use std::test::Fail;

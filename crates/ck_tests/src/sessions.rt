@@ -1,13 +1,13 @@
 //! Sessions: a table under one caller, which may bind more keys than the table has room for when it
 //! is locked.
 ghost use Rattle.std.specs.Prelude.{◌≡◌};
-ghost use Rattle.ck_table.specs.Callers.{IsSameCaller};
+ghost use Rattle.cuckoo_map.specs.Callers.{IsSameCaller};
 
 use crate::fixtures::{FOUR_BUCKETS, NumCaller, NumLocked, Shape, name_of, open};
 use ck_key::NumKey;
 use ck_model::history::Name;
 use ck_oracle::map::PlainMap;
-use ck_table::{Refused, Why};
+use cuckoo_map::{Refused, Why};
 use rand_core::Rng;
 use rand_pcg::Lcg64Xsh32;
 use std::alloc::{AllocError, Global};

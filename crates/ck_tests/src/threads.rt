@@ -3,7 +3,7 @@
 
 use crate::fixtures::{NumCaller, NumTable, SIXTEEN_BUCKETS, count, counters, read};
 use ck_key::NumKey;
-use ck_table::Settings;
+use cuckoo_map::Settings;
 use std::alloc::Global;
 use std::process::Abort;
 use std::sync::atomic::{AtomicU64, Ordering};

@@ -8,6 +8,6 @@ mod keys;
 #[cfg(test)]
 mod lawful;
 #[cfg(test)]
-mod search;
+mod searches;
 #[cfg(test)]
-mod stripes;
+mod stripe_rows;

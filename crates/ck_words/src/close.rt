@@ -6,7 +6,7 @@ ghost use Rattle.ck_section.specs.Stripes.{stripe_at, contents_of};
 ghost use Rattle.ck_model.specs.Counting.{counting};
 ghost use Rattle.ck_words.specs.Passes.{IsPassOf, IsIdle, ShowsSeen, numbers_of};
 ghost use Rattle.ck_words.specs.Retries.{Stays};
-ghost use Rattle.ck_words.specs.Closing.{IsWhole, IsCaller, AreAllPasses, EachStays, Gathers, Gathered, Closes};
+ghost use Rattle.ck_words.specs.Closing.{IsWhole, IsCaller, AreAllPasses, EachStays, Gathered, Closes};
 
 use crate::lent::Lent;
 use crate::lift::Whole;
@@ -17,8 +17,8 @@ use ck_section::{len, pour_all};
 use std::alloc::Global;
 
 impl<K: TableKey + Drop, V: Drop> Words<K, V> {
-    /// Ends the table, given the passes of all callers, and gives its pairs. There is one history of
-    /// all that the callers have done, and these pairs are what it leaves.
+    /// Ends the table, given the passes of all callers, and gives its pairs. There is one history
+    /// of all that the callers have done, and these pairs are what it leaves.
     ///
     /// It is refused where a stripe was found held, and for want of memory. Then it gives words and
     /// passes back, and no entry has changed.
@@ -81,18 +81,7 @@ impl<K: TableKey + Drop, V: Drop> Words<K, V> {
         Some(pairs)
     }
 
-    // Joins an idle pass to another, which then sees the history.
-    fn gather(&self, first: &mut Pass<K, V>, other: Pass<K, V>)
-        requires own { IsPassOf self.now first.old × IsPassOf self.now other }
-        requires idle { IsIdle other }
-        ensures own { IsPassOf self.now first.new }
-        ensures step { Gathers K.hash self.now.settings first.old other first.new }
-    {
-        self.join(first, other);
-        self.look(first);
-    }
-
-    // Joins idle passes to another, one after another.
+    // Joins idle passes to another, one after another. After each it sees the history.
     fn gather_all(&self, first: &mut Pass<K, V>, others: Vec<Pass<K, V>>)
         requires own { IsPassOf self.now first.old }
         requires shows { ShowsSeen K.hash self.now.settings first.old }
@@ -100,7 +89,8 @@ impl<K: TableKey + Drop, V: Drop> Words<K, V> {
         ensures { Gathered K.hash self.now first.old others.items first.new }
     {
         for other in others {
-            self.gather(first, other);
+            self.join(first, other);
+            self.look(first);
         }
     }
 

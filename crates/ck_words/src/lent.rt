@@ -4,8 +4,8 @@ ghost use Rattle.ck_words.specs.StripeSets.{list_of};
 ghost use Rattle.ck_words.specs.Passes.{IsPassOf, numbers_of};
 
 use crate::pass::Pass;
-use crate::slots;
 use crate::stripe_set::StripeSet;
+use crate::visits;
 use crate::words::Words;
 use ck_key::TableKey;
 use ck_section::{Held, Visitor};
@@ -51,7 +51,7 @@ impl<K: TableKey + Drop, V: Drop> Held<Stripe<K, V>> for Lent<'_, K, V> {
         let (words, set) = (self.words, self.set);
         let pass = &mut *self.pass;
         let shared = &words.table.shared;
-        slots::visit_at(shared, &mut pass.seat, set.count(), i, set.at(i), visitor)
+        visits::visit_at(shared, &mut pass.seat, set.count(), i, set.at(i), visitor)
     }
 
     // The number of the stripe is that of the bucket, so it needn't be chosen among those of the
@@ -67,7 +67,7 @@ impl<K: TableKey + Drop, V: Drop> Held<Stripe<K, V>> for Lent<'_, K, V> {
         let t = set.stripe_of(b);
         let pass = &mut *self.pass;
         let shared = &words.table.shared;
-        slots::visit_at(shared, &mut pass.seat, set.count(), i, t, visitor)
+        visits::visit_at(shared, &mut pass.seat, set.count(), i, t, visitor)
     }
 
     ghost use Rattle.std.proofs.Common.{refl, ◌∙◌};

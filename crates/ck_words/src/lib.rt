@@ -13,10 +13,10 @@ mod power;
 mod release;
 mod rule;
 mod settle;
-mod slots;
 mod steps;
 mod stripe_set;
 mod views;
+mod visits;
 mod words;
 
 pub use commit::Commit;

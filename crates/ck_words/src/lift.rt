@@ -6,7 +6,7 @@ ghost use Rattle.ck_words.specs.Lifting.{emptied};
 
 use crate::pass::Pass;
 use crate::rule::{Board, StripeSeat};
-use crate::slots::turn_by;
+use crate::visits::turn_by;
 use crate::words::Words;
 use ck_key::TableKey;
 use ck_section::{Held, Visitor};

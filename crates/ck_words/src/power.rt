@@ -5,7 +5,7 @@ ghost use Rattle.ck_words.specs.Passes.{IsPassOf, IsIdle};
 ghost use Rattle.ck_words.specs.Retries.{Stays, FindsAmong, IsBusy};
 
 use crate::pass::Pass;
-use crate::slots;
+use crate::visits;
 use crate::words::Words;
 use ck_key::TableKey;
 use ck_stripe::Stripe;
@@ -41,7 +41,7 @@ impl<K: TableKey + Drop, V: Drop> Words<K, V> {
         ensures value { result ≡ (stripe_at pass.old.stripes 0).content.power }
         ensures same { pass.new ≡ pass.old }
     {
-        slots::visit_at(
+        visits::visit_at(
             &self.table.shared,
             &mut pass.seat,
             1,

@@ -150,7 +150,7 @@ impl<K: TableKey + Drop, V: Drop> Words<K, V> {
     /// contains.
     ///
     /// It is a store of 0.
-    pub fn give_rest(&self, pass: &mut Pass<K, V>, t: usize)
+    pub(crate) fn give_rest(&self, pass: &mut Pass<K, V>, t: usize)
         requires own { IsPassOf self.now pass.old }
         requires highest { IsHighest t pass.old.stripes }
         requires unchanged { IsUnchanged pass.old }

@@ -1,3 +1,10 @@
+pub mod Holding
+pub mod Refusals
+pub mod Insertions
+pub mod Displacing
+pub mod Growth
+pub mod Callers
+pub mod Locking
 pub use Rattle.ck_model.specs.Map
 pub use Rattle.ck_model.specs.History
 pub use Rattle.ck_model.specs.Ranges
@@ -7,8 +14,3 @@ pub use Rattle.ck_words.specs.Retries
 pub use Rattle.ck_words.specs.Answering
 pub use Rattle.ck_words.specs.Meeting
 pub use Rattle.ck_words.specs.Closing
-pub use Rattle.ck_table.specs.Refusals
-pub use Rattle.ck_table.specs.Insertions
-pub use Rattle.ck_table.specs.Growth
-pub use Rattle.ck_table.specs.Callers
-pub use Rattle.ck_table.specs.Locking

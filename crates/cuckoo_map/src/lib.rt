@@ -18,11 +18,36 @@
 //! a binding. A refused insertion hands back key and value, a refused update the value; a closure
 //! is dropped.
 //!
+//! An entry is in one of the two buckets of its key (Pagh and Rodler 2004, "Cuckoo Hashing"), and a
+//! bucket has four slots (Dietzfelbinger and Weidling 2007). Striped locks guard the buckets (Li,
+//! Andersen, Kaminsky, Freedman 2014, "Algorithmic Improvements for Fast Concurrent Cuckoo
+//! Hashing"), and entries are displaced under two of them at a time. Where that makes no room, the
+//! number of buckets doubles, under all locks.
+//!
 //! Contracts cite definitions of `specs/`, which hands on those of the crates below that a caller
 //! needs.
 #![tactic(auto)]
 
+mod caller;
+mod changes;
+mod displacement;
+mod entries;
+mod growth;
+mod holding;
+mod insertions;
+mod key_pairs;
+mod key_room;
+mod locked;
+mod look_ups;
+mod path_search;
+mod refusal;
+mod size;
+mod table;
+
+pub use caller::Caller;
 pub use ck_key::{KeyFault, NumKey, TableKey, TextKey};
-pub use ck_table::{
-    Busy, Caller, GrowFault, LockedTable, OpenFault, Pass, Refused, Settings, Table, Why,
-};
+pub use ck_model::settings::Settings;
+pub use ck_words::Pass;
+pub use locked::LockedTable;
+pub use refusal::{Busy, GrowFault, OpenFault, Refused, Why};
+pub use table::Table;

@@ -1,6 +1,6 @@
 use Rattle.std.proofs.Common.{inl, ap}
 use Rattle.ck_model.proofs.Entries.{entries_listed}
-use Rattle.ck_table.specs.Locking.{map_of}
+use Rattle.cuckoo_map.specs.Locking.{map_of}
 use Rattle.ck_format.specs.declared.answer.Answer.TheVariants.{Listed}
 use Rattle.ck_script.proofs.calls.listed.Goals as goal
 

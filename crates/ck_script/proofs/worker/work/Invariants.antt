@@ -1,5 +1,5 @@
 use Rattle.std.proofs.Common.{◌≡◌, ◌≤◌, ℕ, Some, length, map, vec_len, vec_capacity}
-use Rattle.ck_table.specs.Callers.{IsSameCaller}
+use Rattle.cuckoo_map.specs.Callers.{IsSameCaller}
 use Rattle.ck_format.specs.Script.{on_names}
 use Rattle.ck_format.specs.Answers.{answers_on_names}
 use Rattle.ck_script.specs.Answered.{HaveLeft}

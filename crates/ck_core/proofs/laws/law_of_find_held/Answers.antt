@@ -1,6 +1,0 @@
-use Rattle.ck_core.specs.Steps.Label.{FindHeld}
-use Rattle.ck_core.proofs.Statements.{law_of_step}
-use Rattle.ck_core.proofs.laws.law_of_find_held.Goals as goal
-
-pub returns : goal.returns
-returns g c = λ t. law_of_step (FindHeld t)

@@ -1,5 +1,0 @@
-use Rattle.ck_core.proofs.Statements as laws
-use Rattle.ck_core.proofs.laws.law_of_views.Goals as goal
-
-pub returns : goal.returns
-returns g c = laws.law_of_views

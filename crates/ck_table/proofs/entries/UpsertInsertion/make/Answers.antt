@@ -1,5 +1,0 @@
-use Rattle.ck_table.proofs.Calls.{done_or_new}
-use Rattle.ck_table.proofs.entries.UpsertInsertion.make.Goals as goal
-
-pub returns-clause-answered : goal.returns-clause-answered
-returns-clause-answered g c = done_or_new _ _ c.upsert.result c.upsert.ensures.call

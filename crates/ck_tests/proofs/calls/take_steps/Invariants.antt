@@ -1,8 +1,0 @@
-use Rattle.ck_table.specs.Callers.{IsSameCaller}
-use Rattle.ck_tests.proofs.calls.take_steps.Given as goal
-
-abbrev pub invariant-loop-number : goal.invariant-loop-number
-invariant-loop-number g l = record {
-  first : IsSameCaller l.fn.first l.first;
-  second : IsSameCaller l.fn.second l.second;
-}

@@ -1,0 +1,190 @@
+//! Calls on one key by two callers of a table, from one thread, and what the table has at its end.
+//! A third makes none.
+ghost use Rattle.std.specs.Prelude.{◌≡◌};
+ghost use Rattle.cuckoo_map.specs.Callers.{IsSameCaller};
+
+use crate::callers::{Call, Reply, answer};
+use crate::fixtures::{NumCaller, SIXTEEN_BUCKETS, Shape, close, open};
+use ck_key::NumKey;
+use cuckoo_map::Why;
+use std::alloc::Global;
+use std::process::Abort;
+use std::test::Fail;
+
+#[derive(Clone, Copy)]
+enum Step {
+    /// The first caller makes the call, and gets the reply.
+    First(Call, Reply),
+    /// The second caller makes the call, and gets the reply.
+    Second(Call, Reply),
+    /// The second caller meets the first.
+    Meet,
+    /// The table has 2^this buckets, by the second caller.
+    Power(u32),
+}
+
+/// A table of a shape, steps on it, and the pairs that it has at its end.
+#[derive(Clone, Copy)]
+struct Run {
+    what: &'static str,
+    shape: Shape,
+    steps: &'static [Step],
+    end: &'static [(NumKey, u64)],
+}
+
+/// Two stripes of two buckets each, which may grow.
+const GROWING: Shape = Shape {
+    s: 1,
+    power: 2,
+    max: 20,
+    rounds: 4,
+};
+
+/// Two to the 48th and two to the 40th: its multiples have partial 0, and end in as many zeros.
+const APART: u64 = 282_574_488_338_432;
+
+/// Keys whose partial is 0 and whose buckets are 0 and the last bits of one number, at each power.
+const ONE_PAIR_OF_BUCKETS: &[Step] = &[
+    Step::First(Call::Insert(APART, 1), Reply::Fresh(true)),
+    Step::First(Call::Insert(2 * APART, 2), Reply::Fresh(true)),
+    Step::First(Call::Insert(3 * APART, 3), Reply::Fresh(true)),
+    Step::First(Call::Insert(4 * APART, 4), Reply::Fresh(true)),
+    Step::First(Call::Insert(5 * APART, 5), Reply::Fresh(true)),
+    Step::First(Call::Insert(6 * APART, 6), Reply::Fresh(true)),
+    Step::First(Call::Insert(7 * APART, 7), Reply::Fresh(true)),
+    Step::First(Call::Insert(8 * APART, 8), Reply::Fresh(true)),
+    Step::Power(2),
+    // It grows until 8 entries are fewer than a twentieth of its slots.
+    Step::First(
+        Call::Insert(9 * APART, 9),
+        Reply::BothBack(9 * APART, 9, Why::LoadTooLow),
+    ),
+    Step::Power(6),
+    Step::Second(
+        Call::Upsert(9 * APART, 9),
+        Reply::BothBack(9 * APART, 9, Why::LoadTooLow),
+    ),
+];
+
+static RUNS: [Run; 5] = [
+    Run {
+        what: "after they met, one caller finds what the other has bound",
+        shape: SIXTEEN_BUCKETS,
+        steps: &[
+            Step::First(Call::Insert(1, 10), Reply::Fresh(true)),
+            Step::Meet,
+            Step::Second(Call::Insert(1, 20), Reply::Fresh(false)),
+            Step::Second(Call::Find(1), Reply::Was(Some(10))),
+        ],
+        end: &[(NumKey(1), 10)],
+    },
+    Run {
+        what: "closures on bound keys",
+        shape: SIXTEEN_BUCKETS,
+        steps: &[
+            Step::First(Call::Insert(5, 50), Reply::Fresh(true)),
+            Step::First(Call::FindTenth(5), Reply::Was(Some(5))),
+            Step::First(Call::UpdateFn(5), Reply::Updated(true, true)),
+            Step::First(Call::Upsert(5, 9), Reply::Fresh(false)),
+            Step::First(Call::Upsert(6, 9), Reply::Fresh(true)),
+            Step::First(Call::EraseWithin(5, 61, u64::MAX), Reply::Gone(Some(false))),
+            Step::First(Call::EraseWithin(5, 52, 52), Reply::Gone(Some(true))),
+            Step::First(Call::EraseWithin(5, 52, 52), Reply::Gone(None)),
+            Step::First(Call::Find(6), Reply::Was(Some(9))),
+        ],
+        end: &[(NumKey(6), 9)],
+    },
+    Run {
+        what: "no closure is called for an unbound key",
+        shape: SIXTEEN_BUCKETS,
+        steps: &[
+            Step::First(Call::UpdateFn(5), Reply::Updated(false, false)),
+            Step::First(Call::FindTenth(5), Reply::Was(None)),
+            Step::First(Call::EraseWithin(5, 1, u64::MAX), Reply::Gone(None)),
+            Step::First(Call::Contains(5), Reply::Bound(false)),
+        ],
+        end: &[],
+    },
+    Run {
+        what: "the table grows rather than that these keys share one bucket",
+        shape: GROWING,
+        steps: &[
+            Step::First(Call::Insert(3, 30), Reply::Fresh(true)),
+            Step::First(Call::InsertOrAssign(7, 70), Reply::Was(None)),
+            Step::First(Call::Upsert(11, 110), Reply::Fresh(true)),
+            Step::First(Call::Insert(15, 150), Reply::Fresh(true)),
+            Step::Power(2),
+            Step::First(Call::Insert(19, 190), Reply::Fresh(true)),
+            Step::Power(3),
+        ],
+        end: &[
+            (NumKey(3), 30),
+            (NumKey(7), 70),
+            (NumKey(11), 110),
+            (NumKey(15), 150),
+            (NumKey(19), 190),
+        ],
+    },
+    Run {
+        what: "growth that is of no avail ends with the load",
+        shape: GROWING,
+        steps: ONE_PAIR_OF_BUCKETS,
+        end: &[
+            (NumKey(APART), 1),
+            (NumKey(2 * APART), 2),
+            (NumKey(3 * APART), 3),
+            (NumKey(4 * APART), 4),
+            (NumKey(5 * APART), 5),
+            (NumKey(6 * APART), 6),
+            (NumKey(7 * APART), 7),
+            (NumKey(8 * APART), 8),
+        ],
+    },
+];
+
+/// Takes the step, and says whether the reply was the wanted one.
+fn take_step<'t>(first: &mut NumCaller<'t>, second: &mut NumCaller<'t>, step: Step) -> bool
+    requires { first.old.table ≡ second.old.table }
+    ensures first { IsSameCaller first.old first.new }
+    ensures second { IsSameCaller second.old second.new }
+{
+    match step {
+        Step::First(call, want) => answer(first, call) == want,
+        Step::Second(call, want) => answer(second, call) == want,
+        Step::Meet => {
+            first.meet(second);
+            true
+        }
+        Step::Power(power) => second.power() == Ok(power),
+    }
+}
+
+fn take_steps<'t>(rt: &impl Abort, first: &mut NumCaller<'t>, second: &mut NumCaller<'t>, run: &Run)
+    requires { first.old.table ≡ second.old.table }
+    ensures first { IsSameCaller first.old first.new }
+    ensures second { IsSameCaller second.old second.new }
+{
+    let what = run.what;
+    for (number, step) in run.steps.iter().enumerate() {
+        let as_wanted = take_step(first, second, *step);
+        assert!(rt; as_wanted, "{what}: step {number}");
+    }
+}
+
+/// The pairs at the end of the run.
+fn end_of(rt: &impl Abort, alloc: Global, run: &Run) -> Result<Vec<(NumKey, u64)>, Fail> {
+    let (table, first, second, third) = open(alloc, run.shape)?;
+    let (mut first, mut second) = (table.caller(first), table.caller(second));
+    take_steps(rt, &mut first, &mut second, run);
+    let (first, second) = (first.into_pass(), second.into_pass());
+    close(alloc, table, first, second, third)
+}
+
+#[test]
+fn runs(rt: HostRuntime) -> Result<(), Fail> {
+    for run in &RUNS {
+        let end = end_of(&rt, rt.alloc(), run)?;
+        assert!(rt; end.as_slice() == run.end, "{}", run.what);
+    }
+    Ok(())
+}

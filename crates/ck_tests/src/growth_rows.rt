@@ -1,0 +1,143 @@
+//! A table that grows where it is asked to.
+ghost use Rattle.std.specs.Prelude.{◌≡◌};
+
+use crate::fixtures::{NumCaller, TWO_STRIPES, open_with};
+use ck_key::NumKey;
+use cuckoo_map::{GrowFault, Settings};
+use std::process::Abort;
+use std::test::Fail;
+
+/// How much the table is to have.
+#[derive(Clone, Copy)]
+enum Size {
+    /// This power, by `rehash`.
+    Power(u32),
+    /// So many slots, by `reserve`.
+    Slots(u64),
+}
+
+use Size::{Power, Slots};
+
+/// What it is to have, what is answered, and the power that it has then.
+type Row = (Size, Result<bool, GrowFault>, u32);
+
+/// In a table of four buckets, which may have 2^20.
+static ROWS: [Row; 12] = [
+    (Slots(16), Ok(false), 2),
+    (Slots(17), Ok(true), 3),
+    (Power(3), Ok(false), 3),
+    (Power(21), Err(GrowFault::OverMax), 3),
+    (Power(u32::MAX), Err(GrowFault::OverMax), 3),
+    (Slots(4_194_305), Err(GrowFault::OverMax), 3),
+    (Slots(u64::MAX), Err(GrowFault::OverMax), 3),
+    (Power(0), Ok(false), 3),
+    (Slots(0), Ok(false), 3),
+    (Power(6), Ok(true), 6),
+    (Slots(257), Ok(true), 7),
+    (Slots(512), Ok(false), 7),
+];
+
+/// In a table of four buckets, which may have 2^26.
+static LARGE_ROWS: [Row; 4] = [
+    (Power(27), Err(GrowFault::OverMax), 2),
+    (Slots(268_435_457), Err(GrowFault::OverMax), 2),
+    (Slots(9), Ok(false), 2),
+    (Slots(33), Ok(true), 4),
+];
+
+fn grow(caller: &mut NumCaller<'_>, size: Size) -> Result<bool, GrowFault> {
+    match size {
+        Power(power) => caller.rehash(power),
+        Slots(n) => caller.reserve(n),
+    }
+}
+
+fn take_rows(rt: &impl Abort, caller: &mut NumCaller<'_>, rows: &[Row]) {
+    for (size, want, power) in rows {
+        let grown = grow(caller, *size);
+        assert!(rt; grown == *want);
+        let now = caller.power();
+        assert!(rt; now == Ok(*power));
+    }
+}
+
+#[test]
+fn powers_and_slots(rt: HostRuntime) -> Result<(), Fail> {
+    let (table, first, _, _) = open_with(rt.alloc(), TWO_STRIPES)?;
+    take_rows(&rt, &mut table.caller(first), &ROWS);
+    Ok(())
+}
+
+#[test]
+fn the_greatest_powers(rt: HostRuntime) -> Result<(), Fail> {
+    let settings = Settings {
+        max: 26,
+        ..TWO_STRIPES
+    };
+    let (table, first, _, _) = open_with(rt.alloc(), settings)?;
+    take_rows(&rt, &mut table.caller(first), &LARGE_ROWS);
+    Ok(())
+}
+
+/// Eight keys, each four in the bucket that they share.
+const KEYS: [u64; 8] = [3, 7, 11, 15, 12, 8, 4, 0];
+
+fn bind_all(rt: &impl Abort, caller: &mut NumCaller<'_>) {
+    for key in KEYS {
+        let fresh = caller.insert(NumKey(key), 10 * key);
+        assert!(rt; fresh.is_ok());
+    }
+}
+
+fn find_all(rt: &impl Abort, caller: &mut NumCaller<'_>) {
+    for key in KEYS {
+        let found = caller.find(&NumKey(key));
+        assert!(rt; found == Ok(Some(10 * key)));
+    }
+    let count = caller.len();
+    assert!(rt; count == Ok(8));
+}
+
+/// All keys stay, also where more than one doubling is made at once.
+#[test]
+fn keys_stay(rt: HostRuntime) -> Result<(), Fail> {
+    let (table, first, second, _) = open_with(rt.alloc(), TWO_STRIPES)?;
+    let mut first = table.caller(first);
+    let mut second = table.caller(second);
+    bind_all(&rt, &mut first);
+    for power in [3u32, 5, 9] {
+        let grown = first.rehash(power);
+        assert!(rt; grown == Ok(true));
+        find_all(&rt, &mut second);
+        find_all(&rt, &mut first);
+    }
+    Ok(())
+}
+
+/// Another caller can't make a locked table grow. What is above the greatest power is refused as
+/// such.
+fn refused_meanwhile(rt: &impl Abort, caller: &mut NumCaller<'_>) {
+    let rows = [
+        (Power(3), GrowFault::Busy(0)),
+        (Slots(17), GrowFault::Busy(0)),
+        (Power(21), GrowFault::OverMax),
+    ];
+    for (size, why) in rows {
+        let grown = grow(caller, size);
+        assert!(rt; grown == Err(why));
+    }
+}
+
+#[test]
+fn while_locked(rt: HostRuntime) -> Result<(), Fail> {
+    let (table, first, second, _) = open_with(rt.alloc(), TWO_STRIPES)?;
+    let mut second = table.caller(second);
+    let Ok(locked) = table.caller(first).lock() else {
+        return Err(Fail::from("a table that was not locked"));
+    };
+    refused_meanwhile(&rt, &mut second);
+    locked.unlock();
+    let grown = second.reserve(17);
+    assert!(rt; grown == Ok(true));
+    Ok(())
+}

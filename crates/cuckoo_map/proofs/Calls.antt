@@ -1,0 +1,173 @@
+-- What a call leaves of its pass, from what its parts leave.
+use Rattle.std.proofs.Common.{◌≡◌, Bool, true, false, MatchBool, MatchOption, if◌then◌else◌, ℕ, Option, None, IfSome, IfNone, Result, Ok, Err, IfOk, IfErr, List, [], ◌∷◌, ◌++◌, reverse, unwrap_or, append_assoc, append-nil, sym, refl, ap, ◌∙◌, subst, arith, Some}
+use Rattle.std.specs.Result.{result_ok}
+use Rattle.ck_model.specs.declared.history.Act.{Act}
+use Rattle.ck_model.specs.declared.history.Act.TheVariants.{Find, Erase}
+use Rattle.ck_model.specs.declared.history.Call.{Call}
+use Rattle.ck_model.specs.declared.history.Entry.{Entry}
+use Rattle.ck_model.specs.declared.history.Reply.{Reply}
+use Rattle.ck_model.specs.declared.history.Reply.TheVariants.{Was, New, Done}
+use Rattle.ck_model.specs.declared.history.Reason.{Reason}
+use Rattle.ck_model.specs.declared.settings.Settings.{Settings}
+use Rattle.ck_model.specs.Map.{Name}
+use Rattle.ck_model.specs.Contents.{layout, layout_of, Lawful}
+use Rattle.ck_model.specs.Sections.{Owns, Section}
+use Rattle.ck_model.proofs.Histories.{subhistory-append}
+use Rattle.ck_stripe.specs.Stripe.{StripeState}
+use Rattle.ck_section.specs.declared.place.KeyPlace.{KeyPlace}
+use Rattle.ck_section.specs.Stripes.{contents_of}
+use Rattle.ck_section.specs.Places.{HasBoth, IsPlaceOf}
+use Rattle.ck_core.specs.declared.view.View.{View}
+use Rattle.ck_core.specs.Laws.{Answered}
+use Rattle.ck_words.specs.Words.{WordsState}
+use Rattle.ck_words.specs.Passes.{PassState, IsUnchanged}
+use Rattle.ck_words.specs.Retries.{Stays, StaysBut}
+use Rattle.ck_words.specs.Answering.{HasDone, IsAnswered, IsAnsweredBut}
+use Rattle.ck_words.specs.Renewing.{HasRenewed}
+use Rattle.ck_words.proofs.Renewals.{renewed_none, done_then}
+use Rattle.cuckoo_map.specs.declared.key_room.Room.{Room}
+use Rattle.cuckoo_map.specs.Holding.{HoldsKeyBut, HoldsKey}
+use Rattle.cuckoo_map.specs.Insertions.{HasRoom}
+
+joined_on : {A : Type 0} (a b c d x : List A) → x ≡ a ++ b → x ++ c ++ d ≡ a ++ (b ++ c) ++ d
+joined_on a b c d x e = ap (λ l. l ++ d) (ap (λ l. l ++ c) e ∙ append_assoc a b c)
+
+pub ap2 : {A B C : Type 0} {a a2 : A} {b b2 : B} (f : A → B → C) → a ≡ a2 → b ≡ b2 → f a b ≡ f a2 b2
+ap2 f e h = λ j. f (e j) (h j)
+
+module _ {V : Type 0} where
+  -- Whatever the greatest power is, lawful stripes go from old to new by this call, with this reply.
+  abbrev pub IsStep : (Name → ℕ) → ℕ → List (StripeState V) → List (StripeState V) → Call V → Reply V → Type 0
+  IsStep hash s old new call reply = (max : ℕ) → Lawful (layout hash s max) (contents_of old) → Section (layout hash s max) (contents_of old) call reply (contents_of new)
+
+  -- the call was answered after the stripes were taken
+  pub answered_since : (more : List (Name × Reason)) (p p1 p2 z : PassState V) → StaysBut more p.view p1.view → p2.view ≡ p1.view → (call : Call V) (reply : Reply V) → IsAnswered call reply p2 z → IsAnsweredBut more call reply p z
+  answered_since more p p1 p2 z s same call reply a =
+      let e : Entry V = record { by = a.by; call = call; reply = reply } in
+      let told : Answered p1.view e z.view = subst (λ (v : View V). Answered v e z.view) same a.answered in
+      let rest : StaysBut [] (record p1.view { seen = z.view.seen; mine = z.view.mine }) z.view = subst (λ (v : View V). StaysBut [] (record v { seen = z.view.seen; mine = z.view.mine }) z.view) same a.stays in
+      let by : p.view.by ≡ Some a.by = sym s.by ∙ (ap (λ (v : View V). v.by) (sym same) ∙ a.caller) in
+      record {
+        by = a.by;
+        caller = by;
+        answered = record {
+          others = s.seen.0 ++ told.others;
+          seen = told.seen ∙ joined_on p.view.seen s.seen.0 told.others (e ∷ []) p1.view.seen s.seen.1;
+          by_others = subhistory-append a.by s.seen.0 told.others ∙ λ j. s.by_others a.by by j ++ told.by_others j;
+          legal = told.legal;
+          mine = told.mine ∙ ap (λ l. l ++ e ∷ []) s.mine;
+        };
+        stays = record {
+          settings = rest.settings ∙ s.settings;
+          by = rest.by ∙ s.by;
+          mine = refl;
+          others = rest.others ∙ s.others;
+          heard = (rest.heard.0 ∙ s.heard.0, rest.heard.1 ∙ s.heard.1);
+          noroom = rest.noroom ∙ s.noroom;
+          seen = ([], sym (append-nil z.view.seen));
+          by_others = λ n e. refl;
+          told = (let a = s.told in let b = rest.told in omega arith);
+        };
+      }
+
+-- how many stripes there are, where w and v are one table
+pub s_of : {w v : WordsState} {settings : Settings} → v ≡ w → settings ≡ v.settings → settings.s ≡ w.settings.s
+s_of is same = ap (λ (x : Settings). x.s) same ∙ ap (λ (x : WordsState). x.settings.s) is
+
+-- the stripes were held as p1, and are the same where their pass is p2
+pub holds_then : {V : Type 0} {hash : Name → ℕ} {set : Settings} {q : Name} {place : KeyPlace} (p p1 : PassState V) → Stays p.view p1.view → HasBoth hash set.s p1.stripes q → IsUnchanged p1 → IsPlaceOf hash p1.stripes q place → place.s ≡ set.s
+    → (p2 : PassState V) → p2.stripes ≡ p1.stripes → p2.view ≡ p1.view → HoldsKey hash set q place p p2
+holds_then {V} {hash} {set} {q} {place} p p1 stays both unchanged at s p2 stripes view = record {
+  stays = subst (Stays p.view) (sym view) stays;
+  both = subst (λ (ss : List (StripeState V)). Owns (layout_of hash set) (contents_of ss) q) (sym stripes) (both set.max);
+  at = subst (λ ss. IsPlaceOf hash ss q place) (sym stripes) at;
+  s = s;
+  unchanged = ap contents_of stripes ∙ (unchanged ∙ ap (λ (x : View V). reverse x.held) (sym view));
+}
+
+-- The pass held stripes as p1, which were renewed since they were taken, and was p2 after the call. w and v are one table.
+module _ {V : Type 0} {hash : Name → ℕ} {w v : WordsState} {s : ℕ} {more : List (Name × Reason)} (p p1 : PassState V)
+    (is : v ≡ w) (stays : StaysBut more p.view p1.view) (of_table : s ≡ w.settings.s) (renewed : HasRenewed hash w.settings p1) (p2 : PassState V) (same : p2.view ≡ p1.view) {call call1 : Call V} (named : call1 ≡ call) where
+  does_since : (reply : Reply V) → IsStep hash s p1.stripes p2.stripes call reply → HasDone hash v.settings call1 reply p2
+  does_since reply step =
+      let here = subst (λ n. Lawful (layout hash n w.settings.max) (contents_of p1.stripes) → Section (layout hash n w.settings.max) (contents_of p1.stripes) call reply (contents_of p2.stripes)) of_table (step w.settings.max) in
+      let done : HasDone hash w.settings call reply p2 = done_then hash w.settings p1 p2 (ap (λ (x : View V). x.held) same) renewed call reply here in
+      subst (λ (x : WordsState × Call V). HasDone hash x.0.settings x.1 reply p2) (λ i. (sym is i, sym named i)) done
+
+  says_since : {z : PassState V} → ((r : Reply V) → HasDone hash v.settings call1 r p2 → IsAnswered call1 r p2 z) → (reply : Reply V) → IsStep hash s p1.stripes p2.stripes call reply → IsAnsweredBut more call reply p z
+  says_since {z} told reply step = answered_since more p p1 p2 z stays same call reply (subst (λ (x : Call V). IsAnswered x reply p2 z) named (told reply (does_since reply step)))
+
+-- The pass held the stripes of a name.
+module _ {V : Type 0} {hash : Name → ℕ} {w v : WordsState} {q : Name} {place : KeyPlace} {more : List (Name × Reason)} {p p1 : PassState V}
+    (is : v ≡ w) (held : HoldsKeyBut more hash w.settings q place p p1) (p2 : PassState V) (same : p2.view ≡ p1.view) {call call1 : Call V} (named : call1 ≡ call) where
+  renewed : HasRenewed hash w.settings p1
+  renewed = renewed_none hash w.settings p1 held.unchanged
+
+  -- what the call did to the stripes is what their pass has done
+  pub does : (reply : Reply V) → IsStep hash place.s p1.stripes p2.stripes call reply → HasDone hash v.settings call1 reply p2
+  does = does_since p p1 is held.stays held.s renewed p2 same named
+
+  -- and is what the pass was answered by its commit
+  pub says : {z : PassState V} → ((r : Reply V) → HasDone hash v.settings call1 r p2 → IsAnswered call1 r p2 z) → (reply : Reply V) → IsStep hash place.s p1.stripes p2.stripes call reply → IsAnsweredBut more call reply p z
+  says = says_since p p1 is held.stays held.s renewed p2 same named
+
+-- The pass held stripes with room for a name. w and v are one table.
+module _ {V : Type 0} {hash : Name → ℕ} {w v : WordsState} {q : Name} {room : Room} {p p1 : PassState V} (is : v ≡ w) (has : HasRoom hash w.settings q room p p1)
+    (p2 : PassState V) (same : p2.view ≡ p1.view) {call call1 : Call V} (named : call1 ≡ call) where
+  pub does_there : (reply : Reply V) → IsStep hash room.spot.place.s p1.stripes p2.stripes call reply → HasDone hash v.settings call1 reply p2
+  does_there = does_since p p1 is has.stays has.held.s has.held.renewed p2 same named
+
+  pub says_there : {z : PassState V} → ((r : Reply V) → HasDone hash v.settings call1 r p2 → IsAnswered call1 r p2 z) → (reply : Reply V) → IsStep hash room.spot.place.s p1.stripes p2.stripes call reply → IsAnsweredBut has.more call reply p z
+  says_there = says_since p p1 is has.stays has.held.s has.held.renewed p2 same named
+
+-- what is said of a value, and of none
+pub by_option : {A : Type 0} (o : Option A) (P : A → Type 0) (Q C : Type 0) → IfSome o P → IfNone o Q → ((a : A) → P a → C) → (Q → C) → C
+by_option None P Q C p q f g = g q
+by_option (Some a) P Q C p q f g = f a p
+
+pub map_option : {A : Type 0} (o : Option A) (P R : A → Type 0) (Q S : Type 0) → IfSome o P → IfNone o Q → ((a : A) → P a → R a) → (Q → S) → MatchOption o S R
+map_option None P R Q S p q f g = g q
+map_option (Some a) P R Q S p q f g = f a p
+
+-- what is said of a value, and of an error
+pub by_result : {A E : Type 0} (r : Result A E) (P : A → Type 0) (Q : E → Type 0) (C : Type 0) → IfOk r P → IfErr r Q → ((a : A) → P a → C) → ((e : E) → Q e → C) → C
+by_result (Ok a) P Q C p q f g = f a p
+by_result (Err e) P Q C p q f g = g e q
+
+-- what is said of a success, and of a failure
+pub by_bool : (b : Bool) (P Q C : Type 0) → MatchBool b P Q → (P → C) → (Q → C) → C
+by_bool true P Q C h f g = f h
+by_bool false P Q C h f g = g h
+
+pub map_bool : (b : Bool) (P Q R S : Type 0) → MatchBool b P Q → (P → R) → (Q → S) → MatchBool b R S
+map_bool true P Q R S h f g = f h
+map_bool false P Q R S h f g = g h
+
+-- the reply that an upsert tells by its answer, where P holds with a reply, and R of a value and what it became
+module _ {V : Type 0} (P : Reply V → Type 0) (R : V → V → Type 0) where
+  pub done_or_new : (b : Bool) → MatchBool b (P New) ((v w : V) × R v w × P (Done v w)) → (r : Reply V) × MatchBool b (r ≡ New) ((v w : V) × R v w × (r ≡ Done v w)) × P r
+  done_or_new true h = (New, refl, h)
+  done_or_new false h = (Done h.0 h.1, (h.0, h.1, h.2, refl), h.3)
+
+  pub as_told : (b : Bool) (r : Reply V) → MatchBool b (r ≡ New) ((v w : V) × R v w × (r ≡ Done v w)) → P r → MatchBool b (P New) ((v w : V) × R v w × P (Done v w))
+  as_told true r e h = subst P e h
+  as_told false r e h = (e.0, e.1, e.2, subst P e.3 h)
+
+-- D is what a call with a reply has done, and R what the closure of `erase_fn` answers for a value
+module _ {V F : Type 0} (D : Act V → Reply V → Type 0) (R : V → Bool → Type 0) (X : F → Type 0) (Y : Type 0) where
+  -- the call that is committed where the closure answered so
+  abbrev pub erases : Bool → Act V
+  erases b = if b then Erase else Find
+
+  abbrev pub HasErased : Result Bool F → Type 0
+  HasErased o = IfOk o (λ gone. (v : V) × R v gone × D (erases gone) (Was (Some v))) × IfErr o (λ back. X back × D Find (Was None) × Y)
+
+  pub erased : (o : Result Bool F) (b : Bool) → b ≡ unwrap_or (result_ok o) false → HasErased o → (r : Reply V) × D (erases b) r
+  erased (Ok gone) b e h = subst (λ x. (r : Reply V) × D (erases x) r) (sym e) (Was (Some h.0.0), h.0.2)
+  erased (Err back) b e h = subst (λ x. (r : Reply V) × D (erases x) r) (sym e) (Was None, h.1.1)
+
+  pub erasing : (A : Act V → Reply V → Type 0) (o : Result Bool F) (b : Bool) → b ≡ unwrap_or (result_ok o) false → ((r : Reply V) → D (erases b) r → A (erases b) r) → HasErased o
+      → MatchOption (result_ok o) (A Find (Was None)) (λ b2. (v : V) × R v b2 × MatchBool b2 (A Erase (Was (Some v))) (A Find (Was (Some v))))
+  erasing A (Ok true) b e f h = (h.0.0, h.0.1, subst (λ x. (r : Reply V) → D (erases x) r → A (erases x) r) e f (Was (Some h.0.0)) h.0.2)
+  erasing A (Ok false) b e f h = (h.0.0, h.0.1, subst (λ x. (r : Reply V) → D (erases x) r → A (erases x) r) e f (Was (Some h.0.0)) h.0.2)
+  erasing A (Err back) b e f h = subst (λ x. (r : Reply V) → D (erases x) r → A (erases x) r) e f (Was None) h.1.1

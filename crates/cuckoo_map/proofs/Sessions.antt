@@ -1,0 +1,231 @@
+-- All stripes in one list, from the lock of a table to its end.
+use Rattle.std.proofs.Common.{◌≡◌, ℕ, suc, ◌^◌, ◌<◌, ◌≤◌, List, [], ◌∷◌, length, get_or, reverse, inr, ⊎_elim, refl, sym, ap, ◌∙◌, subst, arith, Some, None, Result, OnOk, IfErr}
+use Rattle.std.proofs.lemmas.Result.{IfOk-weaker, IfErr-weaker}
+use Rattle.std.specs.Prelude.{Option}
+use Rattle.std.specs.FinMap.{get, len}
+use Rattle.ck_model.specs.declared.contents.Content.{Content}
+use Rattle.ck_model.specs.declared.history.Act.{Act}
+use Rattle.ck_model.specs.declared.history.Act.TheVariants.{Find}
+use Rattle.ck_model.specs.declared.history.Call.TheVariants.{On}
+use Rattle.ck_model.specs.declared.history.Reply.{Reply}
+use Rattle.ck_model.specs.declared.history.Reply.TheVariants.{Was, Closed}
+use Rattle.ck_model.specs.declared.settings.Settings.{Settings}
+use Rattle.ck_model.specs.Map.{Name, Answers, Step}
+use Rattle.ck_model.specs.History.{After}
+use Rattle.ck_model.specs.Numbered.{IsIn, numbers, Holds}
+use Rattle.ck_model.specs.Contents.{Layout, layout, layout_of, Stripes, Lawful, pairs_of, bindings}
+use Rattle.ck_model.specs.Paths.{HasNoRoom, Grounds}
+use Rattle.ck_model.specs.Sections.{HasAll, Renewed, Section, IdentitySection}
+use Rattle.ck_model.proofs.Numbered.{held_of_in, in_held}
+use Rattle.ck_model.proofs.Counted.{len-bindings}
+use Rattle.ck_stripe.specs.Stripe.{StripeState}
+use Rattle.ck_section.specs.Stripes.{stripe_at, contents_of, settled_stripes}
+use Rattle.ck_section.specs.declared.place.KeyPlace.{KeyPlace}
+use Rattle.ck_section.specs.declared.room.Lack.{Lack}
+use Rattle.ck_section.specs.Room.{reason_of_lack, KeepsBindings, MakesRoom, GivesReason}
+use Rattle.ck_section.specs.Calls.{IsWithoutRoom, ChangesContents}
+use Rattle.ck_section.proofs.Decided.{IsCallOn}
+use Rattle.ck_section.proofs.Growing.{all_settled, contents_settled}
+use Rattle.ck_section.proofs.Kept.{table_after, settled_after}
+use Rattle.ck_section.specs.Whole.{AreAllHeld, AreSettled, IsTable}
+use Rattle.ck_model.specs.Counting.{counting}
+use Rattle.ck_words.specs.Words.{WordsState}
+use Rattle.ck_words.specs.Passes.{EachOf, PassState, IsPassOf, numbers_of}
+use Rattle.ck_words.specs.Retries.{Stays, FindsAmong}
+use Rattle.ck_words.specs.Closing.{IsWhole, IsCaller}
+use Rattle.ck_words.specs.Commits.{session_of}
+use Rattle.ck_words.specs.Answering.{HasDone}
+use Rattle.ck_model.proofs.Counting.{length-counting, counting-at}
+use Rattle.ck_words.proofs.Reversed.{in_of_reverse, bindings-reverse}
+use Rattle.ck_words.proofs.Seating.{length-numbers, number_at}
+use Rattle.ck_words.proofs.WholeTables.{lawful_held}
+use Rattle.cuckoo_map.specs.Refusals.{IsStripeIn, why_of}
+use Rattle.cuckoo_map.specs.Locking.{LockedState, map_of, IsLocked, HasLocked, HasActed, KeepsMap, LacksRoom, SeeksRoom}
+use Rattle.cuckoo_map.proofs.Sizes.{renewed_same, has_all}
+
+same_list : (xs ys : List ℕ) → length xs ≡ length ys → ((i : ℕ) → i < length xs → get_or xs i 0 ≡ get_or ys i 0) → xs ≡ ys
+same_list [] [] e f = refl
+same_list [] (y ∷ ys) e f = absurd (omega arith)
+same_list (x ∷ xs) [] e f = absurd (omega arith)
+same_list (x ∷ xs) (y ∷ ys) e f = λ j. f 0 (omega arith) j ∷ same_list xs ys (omega arith) (λ i l. f (suc i) (omega arith)) j
+
+module _ {V : Type 0} where
+  -- nothing but what the stripes are has changed
+  pub only_stripes : (p q : PassState V) → (q.table ≡ p.table) × (q.view ≡ p.view) → q ≡ record p { stripes = q.stripes }
+  only_stripes p q same = λ j. record { table = same.0 j; view = same.1 j; stripes = q.stripes }
+
+  pub numbered : (s : ℕ) (ss : List (StripeState V)) → IsTable s ss → numbers_of ss ≡ counting 0 (2 ^ s)
+  numbered s ss t =
+      let n = length-numbers ss in
+      let all = length-counting (2 ^ s) 0 in
+      let count = t.count in
+      same_list (numbers_of ss) (counting 0 (2 ^ s)) (omega arith) (λ i l. sym (number_at ss i (omega arith)) ∙ (t.number i (omega arith) ∙ sym (counting-at (2 ^ s) i (omega arith))))
+
+  each_s : (s : ℕ) (ss : List (StripeState V)) → ((i : ℕ) → i < length ss → (stripe_at ss i).s ≡ s) → EachOf s ss
+  each_s s [] f = tt
+  each_s s (x ∷ xs) f = (f 0 (omega arith), each_s s xs (λ i l. f (suc i) (omega arith)))
+
+  pub each_of : (s : ℕ) (ss : List (StripeState V)) → IsTable s ss → EachOf s ss
+  each_of s ss t = each_s s ss t.one_s
+
+  not_below : (k : Layout) (hs ks : Stripes V) → Renewed k hs ks → (t u : ℕ) (c d : Content V) → Holds hs t c → Holds ks u d → c.power ≤ d.power
+  not_below k hs ks r t u c d h g = ⊎_elim (λ same. let e = same t u c d h g in omega arith) (λ more. more.1 t u c d h g) r.power
+
+  -- all stripes were renewed, and again
+  pub renewed_on : (k : Layout) (hs ks ls : Stripes V) → HasAll k hs → Renewed k hs ks → Renewed k ks ls → Renewed k hs ls
+  renewed_on k hs ks ls all a b = record {
+    same = b.same ∙ a.same;
+    lawful = b.lawful;
+    power = inr (
+      all,
+      (λ t u c e h g.
+          let d = held_of_in ks u (subst (λ (ns : List ℕ). IsIn u ns) b.same (in_held ls u e g)) in
+          let x = not_below k hs ks a t u c d.0 h d.1 in
+          let y = not_below k ks ls b u u d.0 e d.1 g in
+          omega arith),
+    );
+  }
+
+  -- all stripes were held when they were taken
+  pub had_all : (hash : Name → ℕ) (w : WordsState) (p : PassState V) → IsLocked hash w p → HasAll (layout_of hash w.settings) (reverse p.view.held)
+  had_all hash w p l t lt = subst (λ (ns : List ℕ). IsIn t ns) l.renewed.same (has_all hash w.settings p (numbered w.settings.s p.stripes l.table) t lt)
+
+  -- the table is locked
+  module _ (hash : Name → ℕ) (w : WordsState) (p p1 : PassState V) (stays : Stays p.view p1.view) (whole : IsWhole hash w.settings p1) where
+    abbrev k : Layout
+    k = layout_of hash w.settings
+
+    pub locked_by : IsCaller w p → IsPassOf w p1 → IsTable w.settings.s p1.stripes → AreSettled p1.stripes → IsLocked hash w p1
+    locked_by caller own table settled = record {
+      own = own;
+      alone = stays.others ∙ caller.alone;
+      number = (caller.number.0, stays.by ∙ caller.number.1, caller.number.2);
+      table = table;
+      settled = settled;
+      shows = whole.shows;
+      renewed = subst (λ (hs : Stripes V). Renewed k hs (contents_of p1.stripes)) whole.unchanged (renewed_same k (contents_of p1.stripes) (lawful_held hash w.settings p1 whole));
+    }
+
+    pub after_all : After p1.view.seen (bindings (reverse p1.view.held))
+    after_all = subst (λ m. After p1.view.seen m) (sym (bindings-reverse k p1.view.held whole.shows.lawful))
+        (whole.shows.all_held (λ t l. in_of_reverse p1.view.held t (subst (λ (hs : Stripes V). IsIn t (numbers hs)) whole.unchanged (has_all hash w.settings p1 whole.all t l))))
+
+  -- all stripes of a locked table were renewed
+  pub locked_again : (hash : Name → ℕ) (w : WordsState) (p q : PassState V) → IsLocked hash w p → q ≡ record p { stripes = q.stripes } → IsTable w.settings.s q.stripes → AreSettled q.stripes
+      → Renewed (layout_of hash w.settings) (contents_of p.stripes) (contents_of q.stripes) → IsLocked hash w q
+  locked_again hash w p q l kept table settled renewed =
+      let new : IsLocked hash w (record p { stripes = q.stripes }) = record {
+        own = l.own;
+        alone = l.alone;
+        number = l.number;
+        table = table;
+        settled = settled;
+        shows = l.shows;
+        renewed = renewed_on (layout_of hash w.settings) (reverse p.view.held) (contents_of p.stripes) (contents_of q.stripes) (had_all hash w p l) l.renewed renewed;
+      } in
+      subst (λ (x : PassState V). IsLocked hash w x) (sym kept) new
+
+  -- a look-up replies with what the name is bound to
+  pub found_reply : (o p o2 : Option V) → Answers Find o (Was p) o2 → p ≡ o
+  found_reply (Some v) p o2 a = let e = a.0 in cc
+  found_reply None p o2 a = let e = a.0 in cc
+
+  module _ (hash : Name → ℕ) (w : WordsState) (p : PassState V) (l : IsLocked hash w p) where
+    -- a call on the stripes, whatever the greatest power
+    pub acted : (place : KeyPlace) → place.s ≡ w.settings.s → (q : Name) (act : Act V) (reply : Reply V) (new : List (StripeState V)) → IsCallOn hash place.s p.stripes q act reply new
+        → Section (layout_of hash w.settings) (contents_of p.stripes) (On q act) reply (contents_of new)
+    acted place same q act reply new call =
+        subst (λ s. Section (layout hash s w.settings.max) (contents_of p.stripes) (On q act) reply (contents_of new)) same
+        (call w.settings.max (subst (λ s. Lawful (layout hash s w.settings.max) (contents_of p.stripes)) (sym same) l.renewed.lawful))
+
+    -- a look-up tells what the map has
+    pub looked_up : (place : KeyPlace) → place.s ≡ w.settings.s → (q : Name) (o : Option V) → IsCallOn hash place.s p.stripes q Find (Was o) p.stripes → o ≡ get (bindings (contents_of p.stripes)) q
+    looked_up place same q o call =
+        let m = bindings (contents_of p.stripes) in
+        found_reply (get m q) o (get m q) (acted place same q Find (Was o) p.stripes call).step.0
+
+    -- where room was made, the name is not without it
+    pub not_without : (place : KeyPlace) → place.s ≡ w.settings.s → (q : Name) (s : LockedState V) → ◌≡◌ {A = LockedState V} (record { table = w; pass = p }) s
+        → ¬ (HasNoRoom (layout_of hash s.table.settings) (contents_of s.pass.stripes) q) → IsWithoutRoom hash place.s p.stripes q → ⊥
+    not_without place same q s is room none =
+        subst (λ (x : LockedState V). ¬ (HasNoRoom (layout_of hash x.table.settings) (contents_of x.pass.stripes) q)) (sym is) room
+        (subst (λ s. HasNoRoom (layout hash s w.settings.max) (contents_of p.stripes) q) same
+        (none w.settings.max (subst (λ s. Lawful (layout hash s w.settings.max) (contents_of p.stripes)) (sym same) l.renewed.lawful)))
+
+    -- the number of names that are bound
+    pub counts_locked : length (pairs_of (contents_of p.stripes)) ≡ len (bindings (contents_of p.stripes))
+    counts_locked = sym (len-bindings (layout_of hash w.settings) (contents_of p.stripes) l.renewed.lawful)
+
+    -- what was done while it was locked
+    pub session_done : (q : PassState V) → q ≡ p → HasDone hash w.settings (session_of q) Closed q
+    session_done q same = subst (λ (x : PassState V). HasDone hash w.settings (session_of x) Closed x) (sym same)
+        (λ lawful. record { renewed = l.renewed; owns = had_all hash w p l; step = (refl, refl, refl) })
+
+  pub has_locked : (hash : Name → ℕ) (w : WordsState) (p p1 : PassState V) → Stays p.view p1.view → IsWhole hash w.settings p1 → FindsAmong (IsStripeIn w.settings) p p1 → HasLocked w p (record { table = w; pass = p1 })
+  has_locked hash w p p1 stays whole found = record {
+    table = refl;
+    stays = stays;
+    found = found;
+    after = after_all hash w p p1 stays whole;
+    same = ap bindings whole.unchanged;
+  }
+
+  -- a call was made on the stripes of a locked table, and nothing else changed
+  module _ (hash : Name → ℕ) (w : WordsState) (p : PassState V) (l : IsLocked hash w p) (place : KeyPlace) (same : place.s ≡ w.settings.s) (name : Name) (act : Act V) (reply : Reply V) (q : PassState V) (kept : q ≡ record p { stripes = q.stripes }) where
+    pub acted_locked : ChangesContents p.stripes q.stripes → IsCallOn hash place.s p.stripes name act reply q.stripes → IsLocked hash w q
+    acted_locked changes call =
+        locked_again hash w p q l kept (table_after w.settings.s p.stripes q.stripes l.table changes) (settled_after w.settings.s p.stripes q.stripes l.settled changes)
+        (acted hash w p l place same name act reply q.stripes call).renewed
+
+    pub has_acted : (s : LockedState V) → ◌≡◌ {A = LockedState V} (record { table = w; pass = p }) s → IsCallOn hash place.s p.stripes name act reply q.stripes → HasActed name act reply s (record { table = w; pass = q })
+    has_acted s is call = record {
+      table = ap (λ (x : LockedState V). x.table) is;
+      view = ap (λ (x : PassState V). x.view) kept ∙ ap (λ (x : LockedState V). x.pass.view) is;
+      step = subst (λ (x : LockedState V). Step (map_of x) (On name act) reply (bindings (contents_of q.stripes))) is (acted hash w p l place same name act reply q.stripes call).step;
+    }
+
+  -- room was made or not, and then all stripes were settled
+  pub seeks_room : (hash : Name → ℕ) (set : Settings) (q : Name) (found : Result (Unit {0}) Lack) (old mid new : List (StripeState V)) → new ≡ settled_stripes mid → IsTable set.s mid
+      → KeepsBindings (layout_of hash set) old mid → OnOk found (MakesRoom (layout_of hash set) old mid q) → IfErr found (GivesReason (layout_of hash set) set.min_load old mid q) → SeeksRoom hash set q found old new
+  seeks_room hash set q found old mid new same table no_call room refused =
+      let k : Layout = layout_of hash set in
+      let kept : contents_of new ≡ contents_of mid = ap (λ (ss : List (StripeState V)). contents_of ss) same ∙ contents_settled mid in
+      record {
+        held = subst (λ (ss : List (StripeState V)). AreAllHeld set.s ss) (sym same) (all_settled set.s mid table);
+        no_call = λ lawful. subst (λ (hs : Stripes V). IdentitySection k (contents_of old) hs) (sym kept) (no_call lawful);
+        room = IfOk-weaker found _ _ (λ x makes lawful. subst (λ (hs : Stripes V). ¬ (HasNoRoom k hs q)) (sym kept) (makes lawful)) room;
+        refused = IfErr-weaker found _ _ (λ lack grounds lawful. subst (λ (hs : Stripes V). Grounds k set.min_load hs q (reason_of_lack lack)) (sym kept) (grounds lawful)) refused;
+      }
+
+  -- room was looked for in a locked table
+  module _ (hash : Name → ℕ) (w : WordsState) (p : PassState V) (l : IsLocked hash w p) (name : Name) (found : Result (Unit {0}) Lack) (q : PassState V) (kept : q ≡ record p { stripes = q.stripes })
+      (seeks : SeeksRoom hash w.settings name found p.stripes q.stripes) where
+    pub sought_locked : IsLocked hash w q
+    sought_locked = locked_again hash w p q l kept seeks.held.table seeks.held.settled (seeks.no_call l.renewed.lawful).renewed
+
+    pub keeps_map : (s : LockedState V) → ◌≡◌ {A = LockedState V} (record { table = w; pass = p }) s → KeepsMap s (record { table = w; pass = q })
+    keeps_map s is = record {
+      table = ap (λ (x : LockedState V). x.table) is;
+      view = ap (λ (x : PassState V). x.view) kept ∙ ap (λ (x : LockedState V). x.pass.view) is;
+      same = (seeks.no_call l.renewed.lawful).same_bindings ∙ ap map_of is;
+    }
+
+    pub has_room : OnOk found (¬ (HasNoRoom (layout_of hash w.settings) (contents_of q.stripes) name))
+    has_room = IfOk-weaker found _ _ (λ x room. room l.renewed.lawful) seeks.room
+
+    pub lacks_room : (s : LockedState V) → ◌≡◌ {A = LockedState V} (record { table = w; pass = p }) s → IfErr found (λ lack. LacksRoom hash name (why_of lack) s (record { table = w; pass = q }))
+    lacks_room s is = IfErr-weaker found _ _
+        (λ lack grounds. record {
+          kept = keeps_map s is;
+          lack = lack;
+          is = refl;
+          grounds = subst (λ (x : LockedState V). Grounds (layout_of hash x.table.settings) x.table.settings.min_load (contents_of q.stripes) name (reason_of_lack lack)) is (grounds l.renewed.lawful);
+        }) seeks.refused
+
+  -- what was done once room was made
+  pub acted_since : (q : Name) (act : Act V) (reply : Reply V) (l m n : LockedState V) → KeepsMap l m → HasActed q act reply m n → HasActed q act reply l n
+  acted_since q act reply l m n kept acts = record {
+    table = acts.table ∙ kept.table;
+    view = acts.view ∙ kept.view;
+    step = subst (λ x. Step x (On q act) reply (map_of n)) kept.same acts.step;
+  }

@@ -1,0 +1,112 @@
+-- What an insertion leaves of its pass that found its name without room and has tried since to make some.
+use Rattle.std.proofs.Common.{◌≡◌, ◌⊎◌, ℕ, List, [], ◌∷◌, ◌++◌, replicate, inl, inr, refl, ap, ◌∙◌}
+use Rattle.std.specs.Prelude.{All, Contains}
+use Rattle.std.proofs.lemmas.List.Elements.{All-nil, All-cons, All-append, Contains-push, Contains-append_left}
+use Rattle.ck_model.specs.declared.history.Reason.{Reason}
+use Rattle.ck_model.specs.declared.history.Reason.TheVariants as reason
+use Rattle.ck_model.specs.declared.history.Reason.TheVariants.{NoRoom}
+use Rattle.ck_model.specs.Map.{Name}
+use Rattle.ck_words.specs.Words.{WordsState}
+use Rattle.ck_words.specs.Passes.{PassState, IsPassOf, IsIdle}
+use Rattle.ck_words.specs.Retries.{StaysBut}
+use Rattle.ck_words.specs.Closing.{IsCaller}
+use Rattle.ck_words.proofs.Staying.{stays_then}
+use Rattle.cuckoo_map.specs.declared.key_room.Room.{Room}
+use Rattle.cuckoo_map.specs.declared.refusal.Why.{Why}
+use Rattle.cuckoo_map.specs.declared.refusal.Why.TheVariants.{Busy, Memory, Full, LoadTooLow}
+use Rattle.cuckoo_map.specs.Refusals.{FindsOwn}
+use Rattle.cuckoo_map.specs.Insertions.{reason_of, HasFoundNoRoom, HoldsRoom, HasRoom, ShowsWhy, IsRefused, FindsOwnUnlessFull}
+use Rattle.cuckoo_map.specs.Displacing.{FindsAny, IsBackBut, IsBack}
+use Rattle.cuckoo_map.proofs.Displacing.{any_on, back_same, back_then, found_before}
+
+module _ (q : Name) where
+  abbrev pub AllOwn : List (Name × Reason) → Type 0
+  AllOwn more = All (λ (x : Name × Reason). x ≡ (q, NoRoom)) more
+
+  one_own : AllOwn ((q, NoRoom) ∷ [])
+  one_own = All-cons (λ (x : Name × Reason). x ≡ (q, NoRoom)) (q, NoRoom) [] refl (All-nil _)
+
+  own_append : (xs ys : List (Name × Reason)) → AllOwn xs → AllOwn ys → AllOwn (xs ++ ys)
+  own_append xs ys a b = All-append (λ (x : Name × Reason). x ≡ (q, NoRoom)) xs ys a b
+
+module _ {V : Type 0} (q : Name) where
+  -- The pass is back, and has said nothing of room but that the name's buckets were full.
+  pub record HasTried (w : WordsState) (p p2 : PassState V) : Type 0 where
+    pub more : List (Name × Reason)
+    pub own : AllOwn q more
+    pub back : IsBackBut w more p p2
+
+  module _ (w : WordsState) where
+    pub tried_same : (p : PassState V) → IsPassOf w p → IsIdle p → HasTried w p p
+    tried_same p own idle = record { more = []; own = All-nil _; back = back_same w p own idle }
+
+    pub tried_on : (p r z : PassState V) → HasTried w p r → IsBack w r z → HasTried w p z
+    tried_on p r z h back = record { more = h.more; own = h.own; back = back_then w h.more [] p r z h.back back }
+
+    pub tried_full : (p r z : PassState V) → HasTried w p r → IsPassOf w z → IsIdle z → HasFoundNoRoom q r z → FindsAny r z → HasTried w p z
+    tried_full p r z h own idle full found = record {
+      more = (q, NoRoom) ∷ h.more;
+      own = own_append q ((q, NoRoom) ∷ []) h.more (one_own q) h.own;
+      back = back_then w h.more ((q, NoRoom) ∷ []) p r z h.back (record { own = own; idle = idle; stays = full; found = found });
+    }
+
+    pub still_caller : (p z : PassState V) → IsCaller w p → HasTried w p z → IsCaller w z
+    still_caller p z c h = record {
+      own = h.back.own;
+      idle = h.back.idle;
+      alone = h.back.stays.others ∙ c.alone;
+      number = (c.number.0, h.back.stays.by ∙ c.number.1, c.number.2);
+    }
+
+    -- since p the name's buckets were full, p1 tried to make room until r, and was then z
+    module _ (hash : Name → ℕ) (p p1 r z : PassState V) (full : HasFoundNoRoom q p p1) (own : FindsOwn hash w.settings q p p1) (h : HasTried w p1 r) (more : List (Name × Reason)) (stays : StaysBut more r.view z.view) where
+      abbrev said : List (Name × Reason)
+      said = (more ++ h.more) ++ (q, NoRoom) ∷ []
+
+      stays_since : StaysBut said p.view z.view
+      stays_since = stays_then ((q, NoRoom) ∷ []) (more ++ h.more) p.view p1.view z.view full (stays_then h.more more p1.view r.view z.view h.back.stays stays)
+
+      own_since : AllOwn q more → AllOwn q said
+      own_since a = own_append q (more ++ h.more) ((q, NoRoom) ∷ []) (own_append q more h.more a h.own) (one_own q)
+
+      says_full : Contains said (q, NoRoom)
+      says_full = Contains-push (more ++ h.more) (q, NoRoom)
+
+      any_since : FindsAny p r
+      any_since = any_on p p1 r (own.0, own.1) h.back.found
+
+      -- any stripe may have been found held
+      pub found_since_full : FindsAny r z → FindsOwnUnlessFull hash w.settings q p z
+      found_since_full f =
+          let all = any_on p r z any_since f in
+          (all.0, all.1, (λ t i. inr (said, stays_since.noroom, says_full)))
+
+      pub room_since : {room : Room} → AllOwn q more → HoldsRoom hash w.settings q room z → HasRoom hash w.settings q room p z
+      room_since a held = record { more = said; own = own_since a; stays = stays_since; held = held }
+
+      -- what was said of room since is said of it in all
+      says_since : (why : Reason) → Contains more (q, why) → Contains said (q, why)
+      says_since why c = Contains-append_left (more ++ h.more) ((q, NoRoom) ∷ []) (q, why) (Contains-append_left more h.more (q, why) c)
+
+      shows_since : (why : Why) → ShowsWhy w.settings q why more r z → ShowsWhy w.settings q why said p z
+      shows_since (Busy t) s =
+          let last : List ℕ = replicate w.settings.turns t in
+          (s.0, (s.1.0 ++ any_since.0, s.1.1 ∙ (ap (λ l. (last ++ s.1.0) ++ l) any_since.1 ∙ found_before last s.1.0 any_since.0 p.view.found)))
+      shows_since Memory s = says_since reason.Memory s
+      shows_since Full s = says_since reason.Full s
+      shows_since LoadTooLow s = says_since reason.LoadTooLow s
+
+      pub refused_since : (why : Why) → All (λ (x : Name × Reason). (x ≡ (q, NoRoom)) ⊎ (x ≡ (q, reason_of why))) more → ShowsWhy w.settings q why more r z → IsRefused w.settings q why p z
+      refused_since why a shown =
+          let Own : Name × Reason → Type 0 = λ x. (x ≡ (q, NoRoom)) ⊎ (x ≡ (q, reason_of why)) in
+          let one : AllOwn q ((q, NoRoom) ∷ []) = one_own q in
+          let before : All Own (more ++ h.more) = All-append Own more h.more a (λ i d l. inl (h.own i d l)) in
+          record { more = said; stays = stays_since; own = All-append Own (more ++ h.more) ((q, NoRoom) ∷ []) before (λ i d l. inl (one i d l)); shown = shows_since why shown }
+
+    -- the same of what was left since
+    module _ (hash : Name → ℕ) (p p1 r z : PassState V) (full : HasFoundNoRoom q p p1) (own : FindsOwn hash w.settings q p p1) (h : HasTried w p1 r) where
+      pub room_after : {room : Room} → HasRoom hash w.settings q room r z → HasRoom hash w.settings q room p z
+      room_after has = room_since hash p p1 r z full own h has.more has.stays has.own has.held
+
+      pub refused_after : (why : Why) → IsRefused w.settings q why r z → IsRefused w.settings q why p z
+      refused_after why said = refused_since hash p p1 r z full own h said.more said.stays why said.own said.shown

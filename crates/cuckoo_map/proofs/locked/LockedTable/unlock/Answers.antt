@@ -1,0 +1,37 @@
+use Rattle.std.proofs.Common.{◌^◌, ◌∙◌, sym, ap, subst}
+use Rattle.ck_model.specs.declared.history.Reply.TheVariants.{Closed}
+use Rattle.ck_model.specs.Counting.{counting}
+use Rattle.ck_words.specs.Words.{WordsState}
+use Rattle.ck_words.specs.Passes.{EachOf, PassState, numbers_of}
+use Rattle.ck_words.specs.Commits.{session_of}
+use Rattle.ck_words.specs.Answering.{HasDone, IsAnswered}
+use Rattle.cuckoo_map.specs.Locking.{LockedState}
+use Rattle.cuckoo_map.proofs.Sessions.{numbered, each_of, session_done}
+use Rattle.cuckoo_map.proofs.locked.LockedTable.unlock.Goals as goal
+
+pub lower-pass-requires-clause-numbered : goal.lower-pass-requires-clause-numbered
+lower-pass-requires-clause-numbered g c =
+    numbered c.self.inside.table.now.settings.s c.self.inside.whole.stripes c.self.invariant.table ∙ ap (λ (w : WordsState). counting 0 (2 ^ w.settings.s)) (sym c.table.view_is)
+
+pub lower-pass-requires-clause-of_table : goal.lower-pass-requires-clause-of_table
+lower-pass-requires-clause-of_table g c =
+    subst (λ (w : WordsState). EachOf w.settings.s c.self.inside.whole.stripes) (sym c.table.view_is) (each_of c.self.inside.table.now.settings.s c.self.inside.whole.stripes c.self.invariant.table)
+
+pub commit_session-requires-clause-numbered : goal.commit_session-requires-clause-numbered
+commit_session-requires-clause-numbered g c =
+    ap (λ (p : PassState g.row.V.Denot). numbers_of p.stripes) c.lower-pass.ensures
+    ∙ (numbered c.self.inside.table.now.settings.s c.self.inside.whole.stripes c.self.invariant.table ∙ (ap (λ (w : WordsState). counting 0 (2 ^ w.settings.s)) (sym c.table.view_is) ∙ sym c.all.ensures.all))
+
+pub commit_session-requires-clause-done : goal.commit_session-requires-clause-done
+commit_session-requires-clause-done g c =
+    let q = c.lower-pass.result in
+    subst (λ (w : WordsState). HasDone g.K.TableKey.hash w.settings (session_of q) Closed q) (sym c.table.view_is)
+    (session_done g.K.TableKey.hash c.self.inside.table.now c.self.inside.whole c.self.invariant q c.lower-pass.ensures)
+
+pub returns-clause-answered : goal.returns-clause-answered
+returns-clause-answered g c =
+    let q = c.lower-pass.result in
+    let done = subst (λ (w : WordsState). HasDone g.K.TableKey.hash w.settings (session_of q) Closed q) (sym c.table.view_is)
+    (session_done g.K.TableKey.hash c.self.inside.table.now c.self.inside.whole c.self.invariant q c.lower-pass.ensures) in
+    subst (λ (p : PassState g.row.V.Denot). IsAnswered (session_of p) Closed p c.commit_session.new.pass) (c.lower-pass.ensures ∙ ap (λ (l : LockedState g.row.V.Denot). l.pass) c.self.view_is)
+    (c.commit_session.ensures.answered Closed done)

@@ -1,0 +1,17 @@
+use Rattle.std.proofs.Common.{sym, subst}
+use Rattle.ck_words.specs.Passes.{PassState}
+use Rattle.cuckoo_map.specs.Locking.{IsLocked, HasLocked}
+use Rattle.cuckoo_map.proofs.Sessions.{locked_by, has_locked}
+use Rattle.cuckoo_map.proofs.table.Table.lock_table.Goals as goal
+
+pub invariant_of-result : goal.invariant_of-result
+invariant_of-result g c =
+    let h = c.in-Ok.ensures in
+    subst (λ (p : PassState g.row.V.Denot). IsLocked g.K.TableKey.hash c.args.self.now p) (sym c.lift.ensures)
+    (locked_by g.K.TableKey.hash c.args.self.now c.args.pass c.hold_table.new.pass h.stays h.whole c.requires h.own h.table h.settled)
+
+pub returns-in-Ok-clause-locked : goal.returns-in-Ok-clause-locked
+returns-in-Ok-clause-locked g c =
+    let h = c.in-Ok.ensures in
+    subst (λ (p : PassState g.row.V.Denot). HasLocked c.args.self.now c.args.pass (record { table = c.args.self.now; pass = p })) (sym c.lift.ensures)
+    (has_locked g.K.TableKey.hash c.args.self.now c.args.pass c.hold_table.new.pass h.stays h.whole h.found)

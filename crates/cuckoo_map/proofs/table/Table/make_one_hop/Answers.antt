@@ -1,0 +1,37 @@
+use Rattle.std.proofs.Common.{rules, ◌≡◌, ◌∙◌, refl, inl, inr, subst}
+use Rattle.ck_words.specs.Words.{WordsState}
+use Rattle.ck_words.specs.Retries.{IsBusy}
+use Rattle.ck_words.specs.StripeSets.{list_of}
+use Rattle.cuckoo_map.proofs.Calls.{s_of}
+use Rattle.cuckoo_map.proofs.Sets.{has_each, below_set}
+use Rattle.cuckoo_map.proofs.Displacing.{back_home, renewed}
+use Rattle.cuckoo_map.proofs.table.Table.make_one_hop.Goals as goal
+
+pub make_hop-hopped-requires-clause-source_owned : goal.make_hop-hopped-requires-clause-source_owned
+make_hop-hopped-requires-clause-source_owned g c = has_each (list_of c.of_buckets-stripes.result) c.of_buckets-stripes.ensures.exact c.lock.new.pass.stripes c.in_default.ensures.numbers _ (inl refl)
+
+pub make_hop-hopped-requires-clause-target_owned : goal.make_hop-hopped-requires-clause-target_owned
+make_hop-hopped-requires-clause-target_owned g c = has_each (list_of c.of_buckets-stripes.result) c.of_buckets-stripes.ensures.exact c.lock.new.pass.stripes c.in_default.ensures.numbers _ (inr refl)
+
+pub renew_set-requires-clause-renewed : goal.renew_set-requires-clause-renewed
+renew_set-requires-clause-renewed g c =
+    renewed c.self.view_is (s_of c.self.view_is c.settings-s.ensures.value) c.lock.new.pass c.make_hop-hopped.new.held.pass.now c.in_default.ensures.unchanged (c.make_hop-hopped.ensures.stays.1) c.make_hop-hopped.ensures.no_call
+
+pub returns-in-Err-clause-busy : goal.returns-in-Err-clause-busy
+returns-in-Err-clause-busy g c = record {
+  stays = c.lock.ensures.stays;
+  stripe = below_set c.of_buckets-stripes.result c.args.self.now.settings.s c.in-Err.stripe (c.of_buckets-stripes.ensures.s ∙ s_of c.self.view_is c.settings-s.ensures.value) c.in-Err.ensures.asked;
+  tried = (let busy = subst (λ (w : WordsState). IsBusy w.settings.turns c.in-Err.stripe c.args.pass.now c.lock.new.pass) c.self.view_is c.in-Err.ensures.busy in busy.1);
+}
+
+pub returns-then-hopped-clause-back : goal.returns-then-hopped-clause-back
+returns-then-hopped-clause-back g c =
+    let z = c.renew_set.new.pass in
+    let there : z ≡ c.pass-1.given.0 = search rules in
+    rw (← there) (back_home c.self.view_is _ c.args.pass.now c.lock.new.pass c.make_hop-hopped.new.held.pass.now z c.lock.ensures.stays c.lock.ensures.found (c.make_hop-hopped.ensures.stays.1) c.renew_set.ensures.released)
+
+pub returns-else-hopped-clause-back : goal.returns-else-hopped-clause-back
+returns-else-hopped-clause-back g c =
+    let z = c.release.new.pass in
+    let there : z ≡ c.pass-else-hopped-1.given.0 = search rules in
+    rw (← there) (back_home c.self.view_is _ c.args.pass.now c.lock.new.pass c.make_hop-hopped.new.held.pass.now z c.lock.ensures.stays c.lock.ensures.found (c.make_hop-hopped.ensures.stays.1) c.release.ensures)

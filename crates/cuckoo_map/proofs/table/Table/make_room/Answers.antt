@@ -1,0 +1,106 @@
+use Rattle.std.proofs.Common.{ℕ, ◌<◌, ◌^◌, [], sym, subst}
+use Rattle.std.proofs.lemmas.Result.{IfOk-weaker, IfErr-weaker}
+use Rattle.ck_words.specs.Passes.{PassState}
+use Rattle.cuckoo_map.specs.declared.refusal.Why.TheVariants.{Busy}
+use Rattle.cuckoo_map.proofs.Refusing.{refused_among, refused_busy}
+use Rattle.cuckoo_map.proofs.Calls.{by_result}
+use Rattle.cuckoo_map.proofs.Displacing.{any_among}
+use Rattle.cuckoo_map.proofs.Trying.{HasTried, tried_same, tried_on, tried_full, still_caller, found_since_full, room_after, refused_after}
+use Rattle.cuckoo_map.proofs.table.Table.make_room.Given.{Over}
+use Rattle.cuckoo_map.proofs.table.Table.make_room.Goals.{else-tries-test, then-tries-test+in-Ok-false}
+use Rattle.cuckoo_map.proofs.table.Table.make_room.Goals as goal
+
+pub tries-init : goal.tries-init
+tries-init g c = record {
+  caller = c.requires.caller;
+  tried = tried_same (g.K.TableKey.name c.args.key.now) c.args.self.now c.args.pass.now c.requires.caller.own c.requires.caller.idle;
+  power = c.requires.power;
+}
+
+-- the search or a hop found a stripe held
+pub returns-in-Err-clause-found : goal.returns-in-Err-clause-found
+returns-in-Err-clause-found g c = λ p full own.
+    found_since_full (g.K.TableKey.name c.args.key.now) c.args.self.now g.K.TableKey.hash p c.args.pass.now c.tries.pass c.displace.new.pass full own c.tries.invariant.tried [] c.displace.ensures.back.stays c.displace.ensures.back.found
+
+pub returns-in-Err-clause-refused : goal.returns-in-Err-clause-refused
+returns-in-Err-clause-refused g c = λ p full own.
+    let q = g.K.TableKey.name c.args.key.now in
+    let set = c.args.self.now.settings in
+    let busy = refused_among (λ (t : ℕ). t < 2 ^ set.s) set (λ t l. l) q c.in-Err.field-0.0 c.tries.pass c.displace.new.pass c.in-Err.ensures.busy in
+    refused_after q c.args.self.now g.K.TableKey.hash p c.args.pass.now c.tries.pass c.displace.new.pass full own c.tries.invariant.tried (Busy c.in-Err.field-0.0) busy
+
+-- a stripe of the key was found held
+pub returns-in-Err-hold_key-clause-found : goal.returns-in-Err-hold_key-clause-found
+returns-in-Err-hold_key-clause-found g c = λ p full own.
+    let q = g.K.TableKey.name c.args.key.now in
+    let tried = tried_on q c.args.self.now c.args.pass.now c.tries.pass c.displace.new.pass c.tries.invariant.tried c.displace.ensures.back in
+    found_since_full q c.args.self.now g.K.TableKey.hash p c.args.pass.now c.displace.new.pass c.hold_key.new.pass full own tried [] c.in-Err-hold_key.ensures.busy.stays (any_among _ c.displace.new.pass c.hold_key.new.pass c.hold_key.ensures.found)
+
+pub returns-in-Err-hold_key-clause-refused : goal.returns-in-Err-hold_key-clause-refused
+returns-in-Err-hold_key-clause-refused g c = λ p full own.
+    let q = g.K.TableKey.name c.args.key.now in
+    let tried = tried_on q c.args.self.now c.args.pass.now c.tries.pass c.displace.new.pass c.tries.invariant.tried c.displace.ensures.back in
+    let busy = refused_busy g.K.TableKey.hash c.args.self.now.settings q c.in-Err-hold_key.field-0.0 c.displace.new.pass c.hold_key.new.pass c.in-Err-hold_key.ensures.busy in
+    refused_after q c.args.self.now g.K.TableKey.hash p c.args.pass.now c.displace.new.pass c.hold_key.new.pass full own tried (Busy c.in-Err-hold_key.field-0.0) busy
+
+-- the key has an entry
+pub returns-in-Ok-find_room-clause-room : goal.returns-in-Ok-find_room-clause-room
+returns-in-Ok-find_room-clause-room g c = λ p full own.
+    let q = g.K.TableKey.name c.args.key.now in
+    let r = c.of-since.result.value in
+    let tried = subst (HasTried q c.args.self.now c.args.pass.now) (sym c.of-since.ensures) (tried_on q c.args.self.now c.args.pass.now c.tries.pass c.displace.new.pass c.tries.invariant.tried c.displace.ensures.back) in
+    room_after q c.args.self.now g.K.TableKey.hash p c.args.pass.now r c.find_room.new.pass full own tried c.in-Ok-find_room.ensures.room
+
+pub returns-in-Ok-find_room-clause-found : goal.returns-in-Ok-find_room-clause-found
+returns-in-Ok-find_room-clause-found g c = λ p full own.
+    let q = g.K.TableKey.name c.args.key.now in
+    let r = c.of-since.result.value in
+    let tried = subst (HasTried q c.args.self.now c.args.pass.now) (sym c.of-since.ensures) (tried_on q c.args.self.now c.args.pass.now c.tries.pass c.displace.new.pass c.tries.invariant.tried c.displace.ensures.back) in
+    let room = c.in-Ok-find_room.ensures.room in
+    found_since_full q c.args.self.now g.K.TableKey.hash p c.args.pass.now r c.find_room.new.pass full own tried room.more room.stays (any_among _ r c.find_room.new.pass c.find_room.ensures.found)
+
+-- its buckets were full again
+pub tries-preserved : goal.tries-preserved
+tries-preserved g c =
+    let q = g.K.TableKey.name c.args.key.now in
+    let w = c.args.self.now in
+    let p = c.args.pass.now in
+    let r = c.of-since.result.value in
+    let z = c.find_room.new.pass in
+    let back = subst (HasTried q w p) (sym c.of-since.ensures) (tried_on q w p c.tries.pass c.displace.new.pass c.tries.invariant.tried c.displace.ensures.back) in
+    let tried = tried_full q w p r z back c.find_room.ensures.own c.in-Err-find_room.ensures.idle c.in-Err-find_room.ensures.full (any_among _ r z c.find_room.ensures.found) in
+    record { caller = still_caller q w p z c.requires.caller tried; tried = tried; power = c.in-Err-find_room.ensures.power }
+
+-- all tries were made, and all stripes were taken
+over : (g : Over) (c : goal.After-make_room_in_all g) → HasTried (g.K.TableKey.name c.args.key.now) c.args.self.now c.args.pass.now c.tries-test.pass
+over g c =
+    let q = g.K.TableKey.name c.args.key.now in
+    let w = c.args.self.now in
+    let p = c.args.pass.now in
+    let Tried : PassState g.row.V.Denot → Type 0 = HasTried q w p in
+    elim c.tries-test.branch [
+      | else-tries-test x ↦ subst Tried (sym x.pass-is) c.tries.invariant.tried
+      | then-tries-test+in-Ok-false x ↦ subst Tried (sym x.pass-is) (tried_on q w p c.tries.pass x.displace.new.pass c.tries.invariant.tried x.displace.ensures.back)
+    ]
+
+pub returns-clause-room : goal.returns-clause-room
+returns-clause-room g c =
+    IfOk-weaker c.make_room_in_all.result _ _
+    (λ room has p full own. room_after (g.K.TableKey.name c.args.key.now) c.args.self.now g.K.TableKey.hash p c.args.pass.now c.tries-test.pass c.make_room_in_all.new.pass full own (over g c) has)
+    c.make_room_in_all.ensures.room
+
+pub returns-clause-found : goal.returns-clause-found
+returns-clause-found g c = λ p full own.
+    let q = g.K.TableKey.name c.args.key.now in
+    let r = c.tries-test.pass in
+    let z = c.make_room_in_all.new.pass in
+    let any = any_among _ r z c.make_room_in_all.ensures.found in
+    by_result c.make_room_in_all.result _ _ _ c.make_room_in_all.ensures.room c.make_room_in_all.ensures.refused
+    (λ room has. found_since_full q c.args.self.now g.K.TableKey.hash p c.args.pass.now r z full own (over g c) has.more has.stays any)
+    (λ why said. found_since_full q c.args.self.now g.K.TableKey.hash p c.args.pass.now r z full own (over g c) said.more said.stays any)
+
+pub returns-clause-refused : goal.returns-clause-refused
+returns-clause-refused g c =
+    IfErr-weaker c.make_room_in_all.result _ _
+    (λ why said p full own. refused_after (g.K.TableKey.name c.args.key.now) c.args.self.now g.K.TableKey.hash p c.args.pass.now c.tries-test.pass c.make_room_in_all.new.pass full own (over g c) why said)
+    c.make_room_in_all.ensures.refused

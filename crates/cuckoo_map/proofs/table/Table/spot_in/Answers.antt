@@ -1,0 +1,27 @@
+use Rattle.std.proofs.Common.{ℕ, ◌∙◌, ap, sym, subst}
+use Rattle.ck_section.specs.Places.{HasBoth}
+use Rattle.ck_words.specs.Passes.{PassState}
+use Rattle.ck_words.specs.StripeSets.{list_of}
+use Rattle.ck_words.specs.Retries.{Stays}
+use Rattle.cuckoo_map.proofs.Calls.{holds_then}
+use Rattle.cuckoo_map.proofs.Sets.{has_both, finds_such}
+use Rattle.cuckoo_map.proofs.table.Table.spot_in.Goals as goal
+
+pub place_of-place-requires-clause-both : goal.place_of-place-requires-clause-both
+place_of-place-requires-clause-both g c =
+    let h = c.requires.home in
+    let q = g.K.TableKey.name c.args.key.now in
+    subst (λ (s : ℕ). HasBoth g.K.TableKey.hash s c.settle_taken.new.pass.stripes q) (sym h.s)
+    (has_both g.K.TableKey.hash c.args.self.now.settings q (list_of c.args.home.stripes) h.exact c.settle_taken.new.pass.stripes c.settle_taken.ensures.numbers)
+
+pub returns-clause-held : goal.returns-clause-held
+returns-clause-held g c = λ p taken.
+    let h = c.requires.home in
+    let k = c.place_of-place in
+    let both = has_both g.K.TableKey.hash c.args.self.now.settings (g.K.TableKey.name c.args.key.now) (list_of c.args.home.stripes) h.exact c.settle_taken.new.pass.stripes c.settle_taken.ensures.numbers in
+    holds_then p c.settle_taken.new.pass (subst (Stays p.view) (sym c.settle_taken.ensures.view) taken.stays) both c.settle_taken.ensures.unchanged k.ensures.place (k.ensures.s ∙ h.s) k.new.pass (ap (λ (x : PassState g.row.V.Denot). x.stripes) k.ensures.same) (ap (λ (x : PassState g.row.V.Denot). x.view) k.ensures.same)
+
+pub returns-clause-found : goal.returns-clause-found
+returns-clause-found g c = λ p taken.
+    let found = finds_such (list_of c.args.home.stripes) c.requires.home.exact p c.args.pass.now taken.found in
+    (found.0, ap (λ (x : PassState g.row.V.Denot). x.view.found) c.place_of-place.ensures.same ∙ (ap (λ v. v.found) c.settle_taken.ensures.view ∙ found.1), found.2)

@@ -1,0 +1,35 @@
+-- What an insertion leaves of its pass while it makes room for its key.
+use Rattle.std.specs.Prelude.{◌≡◌, ℕ, ◌^◌, ◌<◌, List, [], ◌++◌}
+use Rattle.ck_model.specs.declared.history.Reason.{Reason}
+use Rattle.ck_model.specs.declared.settings.Settings.{Settings}
+use Rattle.ck_model.specs.Map.{Name}
+use Rattle.ck_words.specs.Words.{WordsState}
+use Rattle.ck_words.specs.Passes.{PassState, IsPassOf, IsIdle}
+use Rattle.ck_words.specs.Retries.{StaysBut}
+use Rattle.cuckoo_map.specs.Refusals.{FindsOwn, IsBusyAmong}
+use Rattle.cuckoo_map.specs.Insertions.{HasFoundNoRoom}
+
+module _ {V : Type 0} where
+  -- the pass may have found any stripe held
+  abbrev pub FindsAny : PassState V → PassState V → Type 0
+  FindsAny p p2 = (more : List ℕ) × (p2.view.found ≡ more ++ p.view.found)
+
+  -- The pass holds no stripe and has no entry more. It may have found any stripe held.
+  -- It has said of these names more that they found no room.
+  pub record IsBackBut (w : WordsState) (more : List (Name × Reason)) (p p2 : PassState V) : Type 0 where
+    pub own : IsPassOf w p2
+    pub idle : IsIdle p2
+    pub stays : StaysBut more p.view p2.view
+    pub found : FindsAny p p2
+
+  -- and it has said so of none more
+  abbrev pub IsBack : WordsState → PassState V → PassState V → Type 0
+  IsBack w = IsBackBut w []
+
+  -- its last tries all found this stripe of the table held
+  abbrev pub IsBusyAnywhere : Settings → ℕ → PassState V → PassState V → Type 0
+  IsBusyAnywhere set t p p2 = IsBusyAmong (λ u. u < 2 ^ set.s) set.turns t p p2
+
+  -- It is so since each p after which no stripe was found held but those of the name, and it was said that the name's buckets were full.
+  abbrev pub SinceFull : (Name → ℕ) → Settings → Name → PassState V → (PassState V → Type 0) → Type 0
+  SinceFull hash set q p1 P = (p : PassState V) → HasFoundNoRoom q p p1 → FindsOwn hash set q p p1 → P p

@@ -1,0 +1,28 @@
+-- What a call leaves that grows the table.
+use Rattle.std.specs.Prelude.{◌≡◌, ◌↔◌, ℕ, ◌*◌, ◌^◌, ◌<◌, ◌≤◌, Bool, true, Result, Ok, Err, OnOk}
+use Rattle.ck_model.specs.declared.settings.Settings.{Settings}
+use Rattle.ck_words.specs.Passes.{PassState}
+use Rattle.cuckoo_map.specs.declared.refusal.GrowFault.{GrowFault}
+use Rattle.cuckoo_map.specs.declared.refusal.GrowFault.TheVariants.{Busy, Memory, OverMax}
+use Rattle.cuckoo_map.specs.Refusals.{IsStripeIn, IsBusyAmong}
+
+-- The least power of at least 1 with which a table has n slots or more.
+pub record IsLeastPower (n power : ℕ) : Type 0 where
+  pub one : 1 ≤ power
+  pub enough : n ≤ 4 * 2 ^ power
+  pub least : (p : ℕ) → 1 ≤ p → n ≤ 4 * 2 ^ p → power ≤ p
+
+module _ {V : Type 0} where
+  -- A table of these settings was to have 2^power buckets at least. Answered, the pass was told that it has them: just so many where the call made it grow, and then
+  -- the pass had been told of fewer before. Refused for want of memory, the pass was told of fewer.
+  pub record Rehashes (set : Settings) (power : ℕ) (result : Result Bool GrowFault) (p p2 : PassState V) : Type 0 where
+    pub over_max : (result ≡ Err OverMax) ↔ (set.max < power)
+    pub unchanged : result ≡ Err OverMax → p2 ≡ p
+    pub told : OnOk result (power ≤ p2.view.told)
+    pub grown : result ≡ Ok true → (p2.view.told ≡ power) × (p.view.told < power)
+    pub short : result ≡ Err Memory → p2.view.told < power
+    pub busy : (t : ℕ) → result ≡ Err (Busy t) → IsBusyAmong (IsStripeIn set) set.turns t p p2
+
+  -- the same of the least power with which it has n slots
+  abbrev pub Reserves : Settings → ℕ → Result Bool GrowFault → PassState V → PassState V → Type 0
+  Reserves set n result p p2 = (power : ℕ) × IsLeastPower n power × Rehashes set power result p p2

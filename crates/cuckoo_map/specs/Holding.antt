@@ -1,0 +1,38 @@
+-- A pass while a call holds the stripes of its key.
+use Rattle.std.specs.Prelude.{◌≡◌, ◌↔◌, ℕ, List, []}
+use Rattle.ck_key.specs.Hashes.{IsHashOf}
+use Rattle.ck_model.specs.declared.history.Reason.{Reason}
+use Rattle.ck_model.specs.declared.settings.Settings.{Settings}
+use Rattle.ck_model.specs.Map.{Name}
+use Rattle.ck_model.specs.Numbered.{IsIn}
+use Rattle.ck_model.specs.Contents.{layout_of, IsStripeOf}
+use Rattle.ck_model.specs.Sections.{Owns}
+use Rattle.ck_section.specs.declared.place.KeyPlace.{KeyPlace}
+use Rattle.ck_section.specs.Stripes.{contents_of}
+use Rattle.ck_section.specs.Places.{IsPlaceOf}
+use Rattle.ck_words.specs.Passes.{PassState, IsUnchanged}
+use Rattle.ck_words.specs.StripeNumbers.{own_numbers}
+use Rattle.ck_words.specs.StripeSets.{list_of}
+use Rattle.ck_words.specs.Retries.{StaysBut}
+use Rattle.cuckoo_map.specs.declared.holding.Home.{Home}
+
+-- the hash of the name, and its stripes
+pub record IsHomeOf (hash : Name → ℕ) (set : Settings) (q : Name) (home : Home) : Type 0 where
+  pub s : home.stripes.s ≡ set.s
+  pub hashed : IsHashOf hash q home.hash
+  pub list : list_of home.stripes ≡ own_numbers set.s (hash q)
+  pub exact : (t : ℕ) → IsIn t (list_of home.stripes) ↔ IsStripeOf (layout_of hash set) q t
+
+module _ {V : Type 0} where
+  -- Since p the pass has taken the stripes of the name, and has settled them. The name may be at this place among them.
+  -- It has said of these names more that they found no room.
+  pub record HoldsKeyBut (more : List (Name × Reason)) (hash : Name → ℕ) (set : Settings) (q : Name) (place : KeyPlace) (p p2 : PassState V) : Type 0 where
+    pub stays : StaysBut more p.view p2.view
+    pub both : Owns (layout_of hash set) (contents_of p2.stripes) q
+    pub at : IsPlaceOf hash p2.stripes q place
+    pub s : place.s ≡ set.s
+    pub unchanged : IsUnchanged p2
+
+  -- and it has said so of none more
+  abbrev pub HoldsKey : (Name → ℕ) → Settings → Name → KeyPlace → PassState V → PassState V → Type 0
+  HoldsKey = HoldsKeyBut []

@@ -1,0 +1,397 @@
+//! A caller: the table, and a pass of its own.
+ghost use Rattle.std.specs.Prelude.{◌≡◌, ◌≢◌, All, map, OnOk, IfOk, IfErr};
+ghost use Rattle.std.specs.Fn.{FnOnceReturnsAt};
+ghost use Rattle.ck_words.specs.Closing.{IsCaller};
+ghost use Rattle.ck_words.specs.Meeting.{Meets};
+
+use crate::locked::LockedTable;
+use crate::refusal::{Busy, GrowFault, Refused};
+use crate::table::Table;
+use ck_key::TableKey;
+use ck_words::Pass;
+use std::alloc::{AllocError, Global};
+use std::marker::Model;
+
+/// A caller of a table: the table together with a pass of it, by which it makes its calls.
+///
+/// That the pass is one of this table, and in no call, is known by the type. A caller may go to
+/// another thread, and can't be cloned. Contracts see the table and the pass.
+#[derive(Drop)]
+pub struct Caller<'t, K: TableKey, V> {
+    table: &'t Table<K, V>,
+    pass: Pass<K, V>,
+}
+
+impl<'t, K: TableKey, V> Model for Caller<'t, K, V> {
+    ghost use Rattle.ck_words.specs.Closing.{IsCaller};
+    ghost use Rattle.cuckoo_map.specs.Callers.{CallerState};
+
+    ghost Value = { CallerState V };
+
+    ghost view = { λ c. record { table = c.table.now; pass = c.pass } };
+
+    ghost invariant = { λ c. IsCaller c.table.now c.pass };
+}
+
+impl<K: TableKey + Drop, V: Drop> Table<K, V> {
+    ghost use Rattle.cuckoo_map.specs.Callers.{callers_of};
+
+    /// The caller that makes its calls by this pass.
+    pub fn caller<'t>(&'t self, pass: Pass<K, V>) -> Caller<'t, K, V>
+        requires { IsCaller self.now pass }
+        ensures table { result.table ≡ self.now }
+        ensures pass { result.pass ≡ pass }
+    {
+        Caller { table: self, pass }
+    }
+
+    /// A caller for each pass, in their order. Where there is no memory for the list, the passes
+    /// are dropped.
+    pub fn callers<'t>(
+        &'t self,
+        alloc: Global,
+        passes: Vec<Pass<K, V>>,
+    ) -> Result<Vec<Caller<'t, K, V>>, AllocError>
+        requires { All (IsCaller self.now) passes.items }
+        ensures { IfOk result (λ callers. callers.items ≡ callers_of self.now passes.items) }
+    {
+        let mut callers = Vec::with_capacity(alloc, passes.len())?;
+        for pass in passes {
+            callers.push(self.caller(pass))?;
+        }
+        Ok(callers)
+    }
+}
+
+impl<'t, K: TableKey + Drop, V: Drop> Caller<'t, K, V> {
+    ghost use Rattle.cuckoo_map.specs.Callers.{IsSameCaller, Finds, FindsBound, FindsBy, Inserts, Assigns};
+    ghost use Rattle.cuckoo_map.specs.Callers.{Upserts, Updates, Changes, ChangesTwo, Erases, ErasesBy};
+    ghost use Rattle.cuckoo_map.specs.Callers.{FindsHeldOwn, FindsHeldUnlessFull, FindsHeldOfTwo};
+    ghost use Rattle.cuckoo_map.specs.Callers.{IsBusyOn, IsBusyOnTwo, IsBusyOnSome, FindsHeldAmong, ComesBack};
+    ghost use Rattle.ck_words.specs.Retries.{Stays};
+    ghost use Rattle.cuckoo_map.specs.Callers.{Counts, GrowsTo, GrowsFor, IsBusyOnAny, FindsHeldOfAny};
+    ghost use Rattle.cuckoo_map.specs.Locking.{HasLocked};
+
+    /// The table.
+    pub fn table(&self) -> &'t Table<K, V>
+        ensures { result.now ≡ self.now.table }
+    {
+        self.table
+    }
+
+    /// The pass. With the passes of all other callers it ends the table.
+    pub fn into_pass(self) -> Pass<K, V>
+        ensures caller { IsCaller self.entry.table result }
+        ensures pass { result ≡ self.entry.pass }
+    {
+        let Caller { table: _, pass } = self;
+        pass
+    }
+
+    /// The value that is bound to the key; `None` where the key is unbound. Refused as busy, it
+    /// changes nothing. It is `Table::find`.
+    ///
+    /// ```
+    /// let value: Option<u64> = caller.find(&NumKey(5))?;
+    /// ```
+    #[inline(always)]
+    pub fn find(&mut self, key: &K) -> Result<Option<V>, Busy>
+    where
+        V: Copy,
+        ensures same { IsSameCaller self.old self.new }
+        ensures answered { IfOk result (Finds (K.name key.now) self.old self.new) }
+        ensures busy { IfErr result (IsBusyOn K.hash (K.name key.now) self.old self.new) }
+        ensures found { FindsHeldOwn K.hash (K.name key.now) self.old self.new }
+    {
+        self.table.find(&mut self.pass, key)
+    }
+
+    /// What the closure answers for the value of the key; `None` where the key is unbound. Refused
+    /// as busy, it changes nothing, and the closure is dropped. It is `Table::find_fn`.
+    ///
+    /// ```
+    /// let half: Option<u64> = caller.find_fn(&NumKey(5), |value: &u64| *value / 2)?;
+    /// ```
+    #[inline(always)]
+    pub fn find_fn<R, F: FnOnce(&V) -> R>(&mut self, key: &K, f: F) -> Result<Option<R>, Busy>
+    where
+        F: Drop,
+        requires call { F.IsAlwaysCallable f }
+        ensures same { IsSameCaller self.old self.new }
+        ensures answered { IfOk result (
+            FindsBy (FnOnceReturnsAt F.FnOnce f) (K.name key.now) self.old self.new) }
+        ensures busy { IfErr result (IsBusyOn K.hash (K.name key.now) self.old self.new) }
+        ensures found { FindsHeldOwn K.hash (K.name key.now) self.old self.new }
+    {
+        self.table.find_fn(&mut self.pass, key, f)
+    }
+
+    /// Whether the key is bound. Refused as busy, it changes nothing. It is `Table::contains`.
+    ///
+    /// ```
+    /// let bound: bool = caller.contains(&NumKey(5))?;
+    /// ```
+    #[inline(always)]
+    pub fn contains(&mut self, key: &K) -> Result<bool, Busy>
+        ensures same { IsSameCaller self.old self.new }
+        ensures answered { IfOk result (FindsBound (K.name key.now) self.old self.new) }
+        ensures busy { IfErr result (IsBusyOn K.hash (K.name key.now) self.old self.new) }
+        ensures found { FindsHeldOwn K.hash (K.name key.now) self.old self.new }
+    {
+        self.table.contains(&mut self.pass, key)
+    }
+
+    /// Binds the key to the value where it is unbound, and says whether it was. The table may grow
+    /// for it. Refused, it changes no binding and hands key and value back. It is `Table::insert`.
+    ///
+    /// ```
+    /// match caller.insert(NumKey(5), 50) {
+    ///     Ok(fresh) => println!(rt; "{}", if fresh { "new" } else { "old" })?,
+    ///     Err(refused) => println!(rt; "{} comes back: {refused}", refused.value)?,
+    /// }
+    /// ```
+    #[inline(always)]
+    pub fn insert(&mut self, key: K, value: V) -> Result<bool, Refused<K, V>>
+        ensures same { IsSameCaller self.old self.new }
+        ensures answered { IfOk result (Inserts (K.name key) value self.old self.new) }
+        ensures refused { IfErr result (ComesBack (K.name key) key value self.old self.new) }
+        ensures found { FindsHeldUnlessFull K.hash (K.name key) self.old self.new }
+    {
+        self.table.insert(&mut self.pass, key, value)
+    }
+
+    /// Binds the key to the value, and gives the value that it had. The table may grow for it.
+    /// Refused, it changes no binding and hands key and value back. It is
+    /// `Table::insert_or_assign`.
+    ///
+    /// ```
+    /// let old: Option<u64> = caller.insert_or_assign(NumKey(5), 51)?;
+    /// ```
+    #[inline(always)]
+    pub fn insert_or_assign(&mut self, key: K, value: V) -> Result<Option<V>, Refused<K, V>>
+        ensures same { IsSameCaller self.old self.new }
+        ensures answered { IfOk result (Assigns (K.name key) value self.old self.new) }
+        ensures refused { IfErr result (ComesBack (K.name key) key value self.old self.new) }
+        ensures found { FindsHeldUnlessFull K.hash (K.name key) self.old self.new }
+    {
+        self.table.insert_or_assign(&mut self.pass, key, value)
+    }
+
+    /// Binds an unbound key to the value, and a bound one to what the closure makes of its value;
+    /// says whether the key was unbound. The table may grow for it. Refused, it changes no binding,
+    /// drops the closure and hands key and value back. It is `Table::upsert`.
+    ///
+    /// ```
+    /// let fresh = caller.upsert(NumKey(word), |count| count.saturating_add(1), 1)?;
+    /// ```
+    #[inline(always)]
+    pub fn upsert<F: FnOnce(V) -> V>(
+        &mut self,
+        key: K,
+        f: F,
+        value: V,
+    ) -> Result<bool, Refused<K, V>>
+    where
+        F: Drop,
+        requires call { F.IsAlwaysCallable f }
+        ensures same { IsSameCaller self.old self.new }
+        ensures answered { IfOk result (Upserts (F.post f) (K.name key) value self.old self.new) }
+        ensures refused { IfErr result (ComesBack (K.name key) key value self.old self.new) }
+        ensures found { FindsHeldUnlessFull K.hash (K.name key) self.old self.new }
+    {
+        self.table.upsert(&mut self.pass, key, f, value)
+    }
+
+    /// Binds a bound key to another value, and gives the one that it had; `None` where the key is
+    /// unbound. Refused as busy, it changes nothing and hands the value back. It is
+    /// `Table::update`.
+    ///
+    /// ```
+    /// if let Err((value, busy)) = caller.update(&NumKey(5), 52) {
+    ///     println!(rt; "{value} comes back: {busy}")?;
+    /// }
+    /// ```
+    #[inline(always)]
+    pub fn update(&mut self, key: &K, value: V) -> Result<Option<V>, (V, Busy)>
+        ensures same { IsSameCaller self.old self.new }
+        ensures answered { IfOk result (Updates (K.name key.now) value self.old self.new) }
+        ensures back { IfErr result (λ back. back.0 ≡ value) }
+        ensures busy { IfErr result (λ back.
+            IsBusyOn K.hash (K.name key.now) self.old self.new back.1) }
+        ensures found { FindsHeldOwn K.hash (K.name key.now) self.old self.new }
+    {
+        self.table.update(&mut self.pass, key, value)
+    }
+
+    /// Binds a bound key to what the closure makes of its value, and says whether the key is bound.
+    /// Refused as busy, it changes nothing, and the closure is dropped. It is `Table::update_fn`.
+    ///
+    /// ```
+    /// let bound = caller.update_fn(&NumKey(5), |value| value / 2)?;
+    /// ```
+    #[inline(always)]
+    pub fn update_fn<F: FnOnce(V) -> V>(&mut self, key: &K, f: F) -> Result<bool, Busy>
+    where
+        F: Drop,
+        requires call { F.IsAlwaysCallable f }
+        ensures same { IsSameCaller self.old self.new }
+        ensures answered { IfOk result (Changes (F.post f) (K.name key.now) self.old self.new) }
+        ensures busy { IfErr result (IsBusyOn K.hash (K.name key.now) self.old self.new) }
+        ensures found { FindsHeldOwn K.hash (K.name key.now) self.old self.new }
+    {
+        self.table.update_fn(&mut self.pass, key, f)
+    }
+
+    /// Binds two different bound keys to what the closure makes of their two values in one step,
+    /// and says whether both are bound. Refused as busy, it changes nothing, and the closure is
+    /// dropped. It is `Table::update_two`.
+    ///
+    /// ```
+    /// let paid = caller.update_two(&payer, &payee, |a, b| {
+    ///     if 0 < a && b < u64::MAX { (a - 1, b + 1) } else { (a, b) }
+    /// })?;
+    /// ```
+    #[inline(always)]
+    pub fn update_two<F: FnOnce(V, V) -> (V, V)>(
+        &mut self,
+        a: &K,
+        b: &K,
+        f: F,
+    ) -> Result<bool, Busy>
+    where
+        F: Drop,
+        requires different { K.name a.now ≢ K.name b.now }
+        requires call { F.IsAlwaysCallable f }
+        ensures same { IsSameCaller self.old self.new }
+        ensures answered { IfOk result (
+            ChangesTwo (F.post f) (K.name a.now) (K.name b.now) self.old self.new) }
+        ensures busy { IfErr result (
+            IsBusyOnTwo K.hash (K.name a.now) (K.name b.now) self.old self.new) }
+        ensures found { FindsHeldOfTwo K.hash (K.name a.now) (K.name b.now) self.old self.new }
+    {
+        self.table.update_two(&mut self.pass, a, b, f)
+    }
+
+    /// Unbinds the key, and gives the value that it had; `None` where it is unbound. Refused as
+    /// busy, it changes nothing. It is `Table::erase`.
+    ///
+    /// ```
+    /// let value: Option<u64> = caller.erase(&NumKey(5))?;
+    /// ```
+    #[inline(always)]
+    pub fn erase(&mut self, key: &K) -> Result<Option<V>, Busy>
+        ensures same { IsSameCaller self.old self.new }
+        ensures answered { IfOk result (Erases (K.name key.now) self.old self.new) }
+        ensures busy { IfErr result (IsBusyOn K.hash (K.name key.now) self.old self.new) }
+        ensures found { FindsHeldOwn K.hash (K.name key.now) self.old self.new }
+    {
+        self.table.erase(&mut self.pass, key)
+    }
+
+    /// Unbinds a bound key where the closure answers true for its value, and gives the closure's
+    /// answer; `None` where the key is unbound. Refused as busy, it changes nothing, and the
+    /// closure is dropped. It is `Table::erase_fn`.
+    ///
+    /// ```
+    /// let gone: Option<bool> = caller.erase_fn(&NumKey(5), |value: &u64| *value == 0)?;
+    /// ```
+    #[inline(always)]
+    pub fn erase_fn<F: FnOnce(&V) -> bool>(&mut self, key: &K, f: F) -> Result<Option<bool>, Busy>
+    where
+        F: Drop,
+        requires call { F.IsAlwaysCallable f }
+        ensures same { IsSameCaller self.old self.new }
+        ensures answered { IfOk result (
+            ErasesBy (FnOnceReturnsAt F.FnOnce f) (K.name key.now) self.old self.new) }
+        ensures busy { IfErr result (IsBusyOn K.hash (K.name key.now) self.old self.new) }
+        ensures found { FindsHeldOwn K.hash (K.name key.now) self.old self.new }
+    {
+        self.table.erase_fn(&mut self.pass, key, f)
+    }
+
+    /// The power: the table has 2^power buckets of four slots. Refused as busy, it changes nothing.
+    /// It is `Table::power`.
+    #[inline(always)]
+    pub fn power(&mut self) -> Result<u32, Busy>
+        ensures same { IsSameCaller self.old self.new }
+        ensures stays { OnOk result (Stays self.old.pass.view self.new.pass.view) }
+        ensures told { IfOk result (λ power. power ≡ self.new.pass.view.told) }
+        ensures busy { IfErr result (IsBusyOnSome (λ t. t ≡ 0) self.old self.new) }
+        ensures found { FindsHeldAmong (λ t. t ≡ 0) self.old self.new }
+    {
+        self.table.power(&mut self.pass)
+    }
+
+    /// How many keys are bound. Refused as busy, it changes nothing. It is `Table::len`.
+    pub fn len(&mut self) -> Result<u64, Busy>
+        ensures same { IsSameCaller self.old self.new }
+        ensures answered { IfOk result (Counts self.old self.new) }
+        ensures busy { IfErr result (IsBusyOnAny self.old self.new) }
+        ensures found { FindsHeldOfAny self.old self.new }
+    {
+        self.table.len(&mut self.pass)
+    }
+
+    /// Doubles the table until it has 2^power buckets, and says whether it had fewer. Refused as
+    /// busy or as `OverMax`, it changes nothing; refused for want of memory, it may have doubled
+    /// the table some times. It is `Table::rehash`.
+    pub fn rehash(&mut self, power: u32) -> Result<bool, GrowFault>
+        ensures same { IsSameCaller self.old self.new }
+        ensures stays { Stays self.old.pass.view self.new.pass.view }
+        ensures rehashed { GrowsTo power result self.old self.new }
+        ensures found { FindsHeldOfAny self.old self.new }
+    {
+        self.table.rehash(&mut self.pass, power)
+    }
+
+    /// Doubles the table until it has `n` slots, and says whether it had fewer. It is refused as
+    /// `rehash` is. It is `Table::reserve`.
+    ///
+    /// ```
+    /// match caller.reserve(1_000_000) {
+    ///     Ok(grown) => println!(rt; "{}", if grown { "grown" } else { "large enough" })?,
+    ///     Err(GrowFault::OverMax) => println!(rt; "the table may not have a million slots")?,
+    ///     Err(fault) => println!(rt; "not now: {fault}")?,
+    /// }
+    /// ```
+    pub fn reserve(&mut self, n: u64) -> Result<bool, GrowFault>
+        ensures same { IsSameCaller self.old self.new }
+        ensures stays { Stays self.old.pass.view self.new.pass.view }
+        ensures reserved { GrowsFor n result self.old self.new }
+        ensures found { FindsHeldOfAny self.old self.new }
+    {
+        self.table.reserve(&mut self.pass, n)
+    }
+
+    /// Locks the table. Refused as busy, it changes nothing, and the caller comes back. It is
+    /// `Table::lock_table`, and `Table::caller` makes a caller again of the pass that
+    /// `LockedTable::unlock` gives.
+    pub fn lock(self) -> Result<LockedTable<'t, K, V>, (Caller<'t, K, V>, Busy)>
+        ensures locked { IfOk result (HasLocked self.entry.table self.entry.pass) }
+        ensures same { IfErr result (λ back. IsSameCaller self.entry back.0) }
+        ensures busy { IfErr result (λ back. IsBusyOnAny self.entry back.0 back.1) }
+        ensures found { IfErr result (λ back. FindsHeldOfAny self.entry back.0) }
+    {
+        let Caller { table, pass } = self;
+        match table.lock_table(pass) {
+            Ok(locked) => Ok(locked),
+            Err((pass, busy)) => Err((table.caller(pass), busy)),
+        }
+    }
+
+    /// Tells the other caller of this table what this one has seen: that is then a beginning of
+    /// what the other has seen. It is `Table::meet`.
+    ///
+    /// ```
+    /// first.meet(&mut second);
+    /// ```
+    #[inline(always)]
+    pub fn meet(&mut self, other: &mut Caller<'t, K, V>)
+        requires { self.old.table ≡ other.old.table }
+        ensures left { self.new ≡ self.old }
+        ensures same { IsSameCaller other.old other.new }
+        ensures met { Meets self.old.pass other.old.pass other.new.pass }
+    {
+        self.table.meet(&mut self.pass, &mut other.pass);
+    }
+}

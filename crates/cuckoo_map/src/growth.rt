@@ -1,0 +1,107 @@
+//! Growing the table, under all stripes.
+ghost use Rattle.std.specs.Prelude.{◌≡◌, ℕ, ◌≤◌, ◌<◌, IfOk, OnErr, MatchBool};
+ghost use Rattle.ck_model.specs.Contents.{layout};
+ghost use Rattle.ck_section.specs.Whole.{IsTable};
+ghost use Rattle.ck_section.specs.Room.{power_in, KeepsBindings};
+ghost use Rattle.ck_words.specs.Retries.{Stays, FindsAmong};
+ghost use Rattle.ck_words.specs.Closing.{IsCaller};
+ghost use Rattle.cuckoo_map.specs.Refusals.{IsStripeIn};
+ghost use Rattle.cuckoo_map.specs.Growth.{IsLeastPower, Rehashes, Reserves};
+
+use crate::refusal::{Busy, GrowFault};
+use crate::table::Table;
+use ck_key::TableKey;
+use ck_model::settings::Settings;
+use ck_section::{Held, double_all, settle_all};
+use ck_stripe::Stripe;
+use ck_words::{Lent, Pass};
+use std::alloc::AllocError;
+
+impl<K: TableKey + Drop, V: Drop> Table<K, V> {
+    /// Doubles the table until it has 2^power buckets, and says whether it had fewer. It holds all
+    /// stripes meanwhile, and changes no binding. The load doesn't matter.
+    ///
+    /// It is refused as `OverMax` exactly where `power` is above the greatest one that the table
+    /// was opened with, before it takes a stripe. Refused so or as busy, it changes nothing.
+    /// Refused for want of memory, it may have doubled the table some times, and the table has
+    /// fewer buckets than it was to have.
+    pub fn rehash(&self, pass: &mut Pass<K, V>, power: u32) -> Result<bool, GrowFault>
+        requires caller { IsCaller self.now pass.old }
+        ensures caller { IsCaller self.now pass.new }
+        ensures stays { Stays pass.old.view pass.new.view }
+        ensures rehashed { Rehashes self.now.settings power result pass.old pass.new }
+        ensures found { FindsAmong (IsStripeIn self.now.settings) pass.old pass.new }
+    {
+        let Settings { s, max, .. } = self.words.settings();
+        if max < power {
+            return Err(GrowFault::OverMax);
+        }
+        if let Err(Busy(stripe)) = self.hold_table(pass) {
+            return Err(GrowFault::Busy(stripe));
+        }
+        let all = self.words.all();
+        let mut lent = Lent {
+            words: &self.words,
+            pass,
+            set: all,
+        };
+        let grown = double_to(&mut lent, s, power);
+        let Lent { pass, .. } = lent;
+        self.words.renew_set(pass, all);
+        match grown {
+            Ok(grown) => Ok(grown),
+            Err(_) => Err(GrowFault::Memory),
+        }
+    }
+
+    /// Doubles the table until it has `n` slots, four in each bucket, and says whether it had
+    /// fewer. It is `rehash` to the least power of at least 1 that is enough.
+    pub fn reserve(&self, pass: &mut Pass<K, V>, n: u64) -> Result<bool, GrowFault>
+        requires caller { IsCaller self.now pass.old }
+        ensures caller { IsCaller self.now pass.new }
+        ensures stays { Stays pass.old.view pass.new.view }
+        ensures reserved { Reserves self.now.settings n result pass.old pass.new }
+        ensures found { FindsAmong (IsStripeIn self.now.settings) pass.old pass.new }
+    {
+        self.rehash(pass, least_power(n))
+    }
+}
+
+// The least power of at least 1 with which a table has `n` slots.
+fn least_power(n: u64) -> u32
+    ensures { IsLeastPower n result }
+{
+    for power in 1..62 {
+        if n <= 4 << power {
+            return power;
+        }
+    }
+    62
+}
+
+// Doubles a table of 2^s stripes until it has 2^power buckets, and says whether it had fewer. The
+// last doubling is left to be carried out.
+fn double_to<K: TableKey + Drop, V: Drop, H: Held<Stripe<K, V>>>(
+    held: &mut H,
+    s: u32,
+    power: u32,
+) -> Result<bool, AllocError>
+    requires table { IsTable s (H.stripes held.old) }
+    requires power { power ≤ 26 }
+    ensures no_call { (max : ℕ) → power ≤ max
+        → KeepsBindings (layout K.hash s max) (H.stripes held.old) (H.stripes held.new) }
+    ensures reached { IfOk result (λ grown. MatchBool grown
+        ((power_in (H.stripes held.old) < power) × (power_in (H.stripes held.new) ≡ power))
+        ((power ≤ power_in (H.stripes held.old))
+        × (H.stripes held.new ≡ H.stripes held.old))) }
+    ensures short { OnErr result ((power_in (H.stripes held.old) < power)
+        × (power_in (H.stripes held.new) < power)) }
+    ensures stays { H.stays held.old held.new }
+{
+    let before = ck_section::power(held, 0);
+    'doublings: for _ in before..power {
+        settle_all(held);
+        double_all(held, s)?;
+    }
+    Ok(before < power)
+}

@@ -1,0 +1,170 @@
+//! Taking the stripes of a key, with room for it.
+ghost use Rattle.std.specs.Prelude.{◌≡◌, ◌≤◌, OnOk, OnErr, IfOk, IfErr};
+ghost use Rattle.ck_key.specs.Hashes.{IsHashOf};
+ghost use Rattle.ck_section.specs.Places.{AreHeld, HasBoth, IsPlaceOf};
+ghost use Rattle.ck_words.specs.Passes.{PassState, IsPassOf, IsIdle, numbers_of};
+ghost use Rattle.ck_words.specs.StripeSets.{list_of};
+ghost use Rattle.ck_words.specs.Holding.{HasTakenAll};
+ghost use Rattle.ck_words.specs.Closing.{IsCaller};
+ghost use Rattle.cuckoo_map.specs.Holding.{HoldsKey, IsHomeOf};
+ghost use Rattle.cuckoo_map.specs.Insertions.{HasFoundNoRoom, HasRoom};
+ghost use Rattle.cuckoo_map.specs.Refusals.{FindsOwn, IsBusyAt};
+
+use crate::key_room::Room;
+use crate::refusal::Busy;
+use crate::table::Table;
+use ck_key::{KeyHash, TableKey};
+use ck_section::{Held, KeyPlace, find_entry, key_place};
+use ck_words::{Lent, Pass, StripeSet};
+use std::snapshot::Snapshot;
+
+// The stripes of a key, and its hash.
+#[derive(Clone, Copy)]
+pub(crate) struct Home {
+    pub(crate) stripes: StripeSet,
+    pub(crate) hash: KeyHash,
+}
+
+// The stripes that a pass holds, and where its key may be among them.
+#[derive(Clone, Copy)]
+pub(crate) struct Spot {
+    pub(crate) stripes: StripeSet,
+    pub(crate) place: KeyPlace,
+}
+
+impl<K: TableKey + Drop, V: Drop> Table<K, V> {
+    // Takes the stripes of the key, and carries out a doubling that is left to be. Where the key
+    // may be among them comes back.
+    #[inline(always)]
+    pub(crate) fn hold_key(&self, pass: &mut Pass<K, V>, key: &K) -> Result<Spot, Busy>
+        requires caller { IsCaller self.now pass.old }
+        ensures own { IsPassOf self.now pass.new }
+        ensures held { IfOk result (λ spot.
+            HoldsKey K.hash self.now.settings (K.name key.now) spot.place pass.old pass.new) }
+        ensures s { IfOk result (λ spot. spot.stripes.s ≡ self.now.settings.s) }
+        ensures numbered { IfOk result (λ spot.
+            numbers_of pass.new.stripes ≡ list_of spot.stripes) }
+        ensures settled { OnOk result (AreHeld self.now.settings.s pass.new.stripes) }
+        ensures found { FindsOwn K.hash self.now.settings (K.name key.now) pass.old pass.new }
+        ensures idle { OnErr result (IsIdle pass.new) }
+        ensures busy { IfErr result (λ busy.
+            IsBusyAt K.hash self.now.settings (K.name key.now) busy.0 pass.old pass.new) }
+    {
+        let home = self.home_of(key);
+        // What may wait is called right here: each function that it is inlined through would cost
+        // one more test.
+        if let Err(i) = self.words.lock_now(pass, home.stripes) {
+            if let Err(stripe) = self.words.lock_later(pass, home.stripes, i) {
+                return Err(Busy(stripe));
+            }
+        }
+        Ok(self.spot_in(pass, key, home))
+    }
+
+    // The stripes of the key, and its hash.
+    #[inline(always)]
+    pub(crate) fn home_of(&self, key: &K) -> Home
+        ensures { IsHomeOf K.hash self.now.settings (K.name key.now) result }
+    {
+        let hash = KeyHash::of(key);
+        let stripes = StripeSet::of_key(self.words.settings().s, hash);
+        Home { stripes, hash }
+    }
+
+    // Carries out a doubling that is left of the key's stripes, which were just taken. Where the
+    // key may be among them comes back.
+    #[inline(always)]
+    pub(crate) fn spot_in(&self, pass: &mut Pass<K, V>, key: &K, home: Home) -> Spot
+        requires home { IsHomeOf K.hash self.now.settings (K.name key.now) home }
+        requires taken { (p : PassState V)
+            × HasTakenAll K.hash self.now (list_of home.stripes) p pass.old }
+        ensures own { IsPassOf self.now pass.new }
+        ensures held { (p : PassState V)
+            → HasTakenAll K.hash self.now (list_of home.stripes) p pass.old
+            → HoldsKey K.hash self.now.settings (K.name key.now) result.place p pass.new }
+        ensures found { (p : PassState V)
+            → HasTakenAll K.hash self.now (list_of home.stripes) p pass.old
+            → FindsOwn K.hash self.now.settings (K.name key.now) p pass.new }
+        ensures s { result.stripes.s ≡ self.now.settings.s }
+        ensures numbered { numbers_of pass.new.stripes ≡ list_of result.stripes }
+        ensures settled { AreHeld self.now.settings.s pass.new.stripes }
+    {
+        let Home { stripes, hash } = home;
+        self.words.settle_taken(pass, stripes);
+        let place = self.place_of(pass, stripes, key, hash);
+        Spot { stripes, place }
+    }
+
+    // Where the key may be among these stripes, which its pass holds.
+    #[inline(always)]
+    pub(crate) fn place_of(
+        &self,
+        pass: &mut Pass<K, V>,
+        stripes: StripeSet,
+        key: &K,
+        hash: KeyHash,
+    ) -> KeyPlace
+        requires own { IsPassOf self.now pass.old }
+        requires numbered { numbers_of pass.old.stripes ≡ list_of stripes }
+        requires s { stripes.s ≡ self.now.settings.s }
+        requires held { AreHeld stripes.s pass.old.stripes }
+        requires hash { IsHashOf K.hash (K.name key.now) hash }
+        requires both { HasBoth K.hash stripes.s pass.old.stripes (K.name key.now) }
+        ensures own { IsPassOf self.now pass.new }
+        ensures place { IsPlaceOf K.hash pass.old.stripes (K.name key.now) result }
+        ensures s { result.s ≡ stripes.s }
+        ensures same { pass.new ≡ pass.old }
+    {
+        let mut lent = Lent {
+            words: &self.words,
+            pass,
+            set: stripes,
+        };
+        key_place(&mut lent, stripes.s, key, hash)
+    }
+
+    // The entry of the key on its stripes, which the pass holds. Where the key is unbound and its
+    // buckets are full, it gives them back, and answers the power of the table. `since` is the pass
+    // before it took them.
+    #[inline(always)]
+    pub(crate) fn find_room(
+        &self,
+        pass: &mut Pass<K, V>,
+        key: &K,
+        spot: Spot,
+        since: &Snapshot<Pass<K, V>>,
+    ) -> Result<Room, u32>
+        requires since { IsCaller self.now since.now.value }
+        requires own { IsPassOf self.now pass.old }
+        requires held { HoldsKey K.hash self.now.settings (K.name key.now) spot.place
+            since.now.value pass.old }
+        requires s { spot.stripes.s ≡ self.now.settings.s }
+        requires numbered { numbers_of pass.old.stripes ≡ list_of spot.stripes }
+        requires settled { AreHeld self.now.settings.s pass.old.stripes }
+        requires found { FindsOwn K.hash self.now.settings (K.name key.now) since.now.value
+            pass.old }
+        ensures own { IsPassOf self.now pass.new }
+        ensures room { IfOk result (λ room.
+            HasRoom K.hash self.now.settings (K.name key.now) room since.now.value pass.new) }
+        ensures numbered { IfOk result (λ room.
+            numbers_of pass.new.stripes ≡ list_of room.spot.stripes) }
+        ensures found { FindsOwn K.hash self.now.settings (K.name key.now) since.now.value
+            pass.new }
+        ensures idle { OnErr result (IsIdle pass.new) }
+        ensures full { OnErr result (HasFoundNoRoom (K.name key.now) since.now.value pass.new) }
+        ensures power { IfErr result (λ power. power ≤ 26) }
+    {
+        let mut lent = Lent {
+            words: &self.words,
+            pass,
+            set: spot.stripes,
+        };
+        if let Some(entry) = find_entry(&mut lent, spot.place, key) {
+            return Ok(Room { spot, entry });
+        }
+        let power = ck_section::power(&mut lent, 0);
+        let Lent { pass, .. } = lent;
+        self.words.refuse_full(pass, spot.stripes, key);
+        Err(power)
+    }
+}

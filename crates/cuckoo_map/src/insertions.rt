@@ -1,0 +1,273 @@
+//! Calls that may bind an unbound key.
+ghost use Rattle.std.specs.Prelude.{◌≡◌, ◌≤◌, if◌then◌else◌, IfOk, IfErr, MatchBool};
+ghost use Rattle.ck_model.specs.declared.history.Act.TheVariants.{Insert, Assign, Upsert};
+ghost use Rattle.ck_model.specs.declared.history.Reply.{Reply};
+ghost use Rattle.ck_model.specs.declared.history.Reply.TheVariants.{Was, New, Old, Done};
+ghost use Rattle.ck_words.specs.Closing.{IsCaller};
+ghost use Rattle.ck_words.specs.Passes.{IsPassOf, IsUnchanged, numbers_of};
+ghost use Rattle.ck_words.specs.StripeNumbers.{own_numbers};
+ghost use Rattle.ck_words.specs.StripeSets.{list_of};
+ghost use Rattle.ck_words.specs.Holding.{HasTakenAll, Misses};
+ghost use Rattle.cuckoo_map.specs.Holding.{IsHomeOf};
+ghost use Rattle.cuckoo_map.specs.Insertions.{HasFoundNoRoom, HasRoom, IsInserted, IsRefused, FindsOwnUnlessFull};
+ghost use Rattle.cuckoo_map.specs.Refusals.{FindsOwn};
+
+use crate::entries;
+use crate::entries::Insertion;
+use crate::holding::Home;
+use crate::key_room::Room;
+use crate::refusal::{Refused, Why};
+use crate::table::Table;
+use ck_key::TableKey;
+use ck_words::{Lent, Pass};
+use std::snapshot::Snapshot;
+
+impl<K: TableKey + Drop, V: Drop> Table<K, V> {
+    /// Binds the key to the value where it is unbound, and says whether it was. A bound key keeps
+    /// its value, and the one that was passed is dropped.
+    ///
+    /// Where both buckets of an unbound key are full, other entries are displaced to make room, and
+    /// where that is of no avail the table doubles, under all stripes; neither changes a binding.
+    ///
+    /// Refused, it changes no binding and hands key and value back: as `Busy`, or where no
+    /// displacement makes room and the table doesn't grow, as `Full` at its greatest power, as
+    /// `LoadTooLow` where too few slots are taken, or as `Memory`. The table may have grown all the
+    /// same.
+    pub fn insert(&self, pass: &mut Pass<K, V>, key: K, value: V) -> Result<bool, Refused<K, V>>
+        requires caller { IsCaller self.now pass.old }
+        ensures caller { IsCaller self.now pass.new }
+        ensures answered { IfOk result (λ fresh.
+            IsInserted (K.name key) (Insert value) (if fresh then New else Old) pass.old pass.new) }
+        ensures refused { IfErr result (λ e. (e.key ≡ key) × (e.value ≡ value)
+            × IsRefused self.now.settings (K.name key) e.why pass.old pass.new) }
+        ensures found { FindsOwnUnlessFull K.hash self.now.settings (K.name key) pass.old pass.new }
+    {
+        self.place(pass, key, value, entries::Insert)
+    }
+
+    /// Binds the key to the value, and gives the value that it had.
+    ///
+    /// Where both buckets of an unbound key are full, other entries are displaced to make room, and
+    /// where that is of no avail the table doubles, under all stripes; neither changes a binding.
+    ///
+    /// Refused, it changes no binding and hands key and value back: as `Busy`, or where no
+    /// displacement makes room and the table doesn't grow, as `Full` at its greatest power, as
+    /// `LoadTooLow` where too few slots are taken, or as `Memory`. The table may have grown all the
+    /// same.
+    pub fn insert_or_assign(
+        &self,
+        pass: &mut Pass<K, V>,
+        key: K,
+        value: V,
+    ) -> Result<Option<V>, Refused<K, V>>
+        requires caller { IsCaller self.now pass.old }
+        ensures caller { IsCaller self.now pass.new }
+        ensures answered { IfOk result (λ old.
+            IsInserted (K.name key) (Assign value) (Was old) pass.old pass.new) }
+        ensures refused { IfErr result (λ e. (e.key ≡ key) × (e.value ≡ value)
+            × IsRefused self.now.settings (K.name key) e.why pass.old pass.new) }
+        ensures found { FindsOwnUnlessFull K.hash self.now.settings (K.name key) pass.old pass.new }
+    {
+        self.place(pass, key, value, entries::Assign)
+    }
+
+    /// Binds an unbound key to the value, and a bound one to what the closure makes of its value;
+    /// says whether the key was unbound. Of closure and value the one that isn't used is dropped.
+    /// The closure runs while the key's stripes are held.
+    ///
+    /// Where both buckets of an unbound key are full, other entries are displaced to make room, and
+    /// where that is of no avail the table doubles, under all stripes; neither changes a binding.
+    ///
+    /// Refused, it changes no binding, drops the closure and hands key and value back: as `Busy`,
+    /// or where no displacement makes room and the table doesn't grow, as `Full` at its greatest
+    /// power, as `LoadTooLow` where too few slots are taken, or as `Memory`. The table may have
+    /// grown all the same.
+    pub fn upsert<F: FnOnce(V) -> V>(
+        &self,
+        pass: &mut Pass<K, V>,
+        key: K,
+        f: F,
+        value: V,
+    ) -> Result<bool, Refused<K, V>>
+    where
+        F: Drop,
+        requires caller { IsCaller self.now pass.old }
+        requires call { F.IsAlwaysCallable f }
+        ensures caller { IsCaller self.now pass.new }
+        ensures answered { IfOk result (λ fresh. MatchBool fresh
+            (IsInserted (K.name key) (Upsert value) New pass.old pass.new)
+            ((v w : V) × F.post f v w
+            × IsInserted (K.name key) (Upsert value) (Done v w) pass.old pass.new)) }
+        ensures refused { IfErr result (λ e. (e.key ≡ key) × (e.value ≡ value)
+            × IsRefused self.now.settings (K.name key) e.why pass.old pass.new) }
+        ensures found { FindsOwnUnlessFull K.hash self.now.settings (K.name key) pass.old pass.new }
+    {
+        self.place(pass, key, value, entries::Upsert(f))
+    }
+}
+
+impl<K: TableKey + Drop, V: Drop> Table<K, V> {
+    // Makes the insertion of the entry of the key. What may wait, where a stripe is held or no
+    // entry was found, is a call of its own, so that nothing of it is in the way of the others.
+    #[inline(always)]
+    fn place<I: Insertion<K, V>>(
+        &self,
+        pass: &mut Pass<K, V>,
+        key: K,
+        value: V,
+        insertion: I,
+    ) -> Result<I::Answer, Refused<K, V>>
+        requires caller { IsCaller self.now pass.old }
+        requires call { I.can_make insertion }
+        ensures caller { IsCaller self.now pass.new }
+        ensures answered { IfOk result (λ answer. (reply : Reply V) × I.tells insertion answer reply
+            × IsInserted (K.name key) (I.asks value) reply pass.old pass.new) }
+        ensures refused { IfErr result (λ e. (e.key ≡ key) × (e.value ≡ value)
+            × IsRefused self.now.settings (K.name key) e.why pass.old pass.new) }
+        ensures found { FindsOwnUnlessFull K.hash self.now.settings (K.name key) pass.old pass.new }
+    {
+        let since = Snapshot::of(pass);
+        let home = self.home_of(&key);
+        match self.words.lock_now(pass, home.stripes) {
+            Ok(()) => self.place_taken(pass, home, key, value, insertion, since),
+            Err(missed) => self.place_waiting(pass, missed, key, value, insertion, since),
+        }
+    }
+
+    // The same where the stripe at position `missed` was found held, and those before it were
+    // taken. It computes the stripes anew, so that the call before it needs to keep nothing of
+    // them. `since` is the pass as the call began.
+    #[cold]
+    #[inline(never)]
+    fn place_waiting<I: Insertion<K, V>>(
+        &self,
+        pass: &mut Pass<K, V>,
+        missed: usize,
+        key: K,
+        value: V,
+        insertion: I,
+        since: Snapshot<Pass<K, V>>,
+    ) -> Result<I::Answer, Refused<K, V>>
+        requires since { IsCaller self.now since.value }
+        requires own { IsPassOf self.now pass.old }
+        requires unchanged { IsUnchanged pass.old }
+        requires missed { Misses K.hash self.now
+            (own_numbers self.now.settings.s (K.hash (K.name key))) missed since.value pass.old }
+        requires call { I.can_make insertion }
+        ensures caller { IsCaller self.now pass.new }
+        ensures answered { IfOk result (λ answer. (reply : Reply V) × I.tells insertion answer reply
+            × IsInserted (K.name key) (I.asks value) reply since.value pass.new) }
+        ensures refused { IfErr result (λ e. (e.key ≡ key) × (e.value ≡ value)
+            × IsRefused self.now.settings (K.name key) e.why since.value pass.new) }
+        ensures found { FindsOwnUnlessFull K.hash self.now.settings (K.name key)
+            since.value pass.new }
+    {
+        let home = self.home_of(&key);
+        match self.words.lock_later(pass, home.stripes, missed) {
+            Ok(()) => self.place_taken(pass, home, key, value, insertion, since),
+            Err(stripe) => {
+                let why = Why::Busy(stripe);
+                Err(Refused { key, value, why })
+            }
+        }
+    }
+
+    // The same for a key whose stripes were just taken.
+    #[inline(always)]
+    fn place_taken<I: Insertion<K, V>>(
+        &self,
+        pass: &mut Pass<K, V>,
+        home: Home,
+        key: K,
+        value: V,
+        insertion: I,
+        since: Snapshot<Pass<K, V>>,
+    ) -> Result<I::Answer, Refused<K, V>>
+        requires since { IsCaller self.now since.value }
+        requires home { IsHomeOf K.hash self.now.settings (K.name key) home }
+        requires taken { HasTakenAll K.hash self.now (list_of home.stripes) since.value pass.old }
+        requires call { I.can_make insertion }
+        ensures caller { IsCaller self.now pass.new }
+        ensures answered { IfOk result (λ answer. (reply : Reply V) × I.tells insertion answer reply
+            × IsInserted (K.name key) (I.asks value) reply since.value pass.new) }
+        ensures refused { IfErr result (λ e. (e.key ≡ key) × (e.value ≡ value)
+            × IsRefused self.now.settings (K.name key) e.why since.value pass.new) }
+        ensures found { FindsOwnUnlessFull K.hash self.now.settings (K.name key)
+            since.value pass.new }
+    {
+        let spot = self.spot_in(pass, &key, home);
+        match self.find_room(pass, &key, spot, &since) {
+            Ok(room) => Ok(self.place_in(pass, room, key, value, insertion, since)),
+            Err(power) => self.place_later(pass, power, key, value, insertion, since),
+        }
+    }
+
+    // The same for a key whose buckets are full, in a table of 2^power buckets, and whose stripes
+    // have gone home: it makes room.
+    #[cold]
+    #[inline(never)]
+    fn place_later<I: Insertion<K, V>>(
+        &self,
+        pass: &mut Pass<K, V>,
+        power: u32,
+        key: K,
+        value: V,
+        insertion: I,
+        since: Snapshot<Pass<K, V>>,
+    ) -> Result<I::Answer, Refused<K, V>>
+        requires since { IsCaller self.now since.value }
+        requires caller { IsCaller self.now pass.old }
+        requires full { HasFoundNoRoom (K.name key) since.value pass.old }
+        requires power { power ≤ 26 }
+        requires found { FindsOwn K.hash self.now.settings (K.name key) since.value pass.old }
+        requires call { I.can_make insertion }
+        ensures caller { IsCaller self.now pass.new }
+        ensures answered { IfOk result (λ answer. (reply : Reply V) × I.tells insertion answer reply
+            × IsInserted (K.name key) (I.asks value) reply since.value pass.new) }
+        ensures refused { IfErr result (λ e. (e.key ≡ key) × (e.value ≡ value)
+            × IsRefused self.now.settings (K.name key) e.why since.value pass.new) }
+        ensures found { FindsOwnUnlessFull K.hash self.now.settings (K.name key)
+            since.value pass.new }
+    {
+        match self.make_room(pass, &key, power) {
+            Ok(made) => Ok(self.place_in(pass, made, key, value, insertion, since)),
+            Err(why) => Err(Refused { key, value, why }),
+        }
+    }
+
+    // The same for a key that has this entry among the stripes that its pass holds, which go home.
+    #[inline(always)]
+    fn place_in<I: Insertion<K, V>>(
+        &self,
+        pass: &mut Pass<K, V>,
+        room: Room,
+        key: K,
+        value: V,
+        insertion: I,
+        since: Snapshot<Pass<K, V>>,
+    ) -> I::Answer
+        requires since { IsCaller self.now since.value }
+        requires own { IsPassOf self.now pass.old }
+        requires room { HasRoom K.hash self.now.settings (K.name key) room since.value pass.old }
+        requires numbered { numbers_of pass.old.stripes ≡ list_of room.spot.stripes }
+        requires found { FindsOwnUnlessFull K.hash self.now.settings (K.name key)
+            since.value pass.old }
+        requires call { I.can_make insertion }
+        ensures caller { IsCaller self.now pass.new }
+        ensures answered { (reply : Reply V) × I.tells insertion result reply
+            × IsInserted (K.name key) (I.asks value) reply since.value pass.new }
+        ensures found { FindsOwnUnlessFull K.hash self.now.settings (K.name key)
+            since.value pass.new }
+    {
+        let said = I::commit(&key, &value);
+        let mut lent = Lent {
+            words: &self.words,
+            pass,
+            set: room.spot.stripes,
+        };
+        let answer = insertion.make(&mut lent, room.spot.place, room.entry, key, value);
+        let Lent { pass, .. } = lent;
+        self.words.commit(pass, room.spot.stripes, said);
+        answer
+    }
+}

@@ -1,0 +1,104 @@
+//! Room for a key: its entry among the stripes that its pass holds, which are those of the key or
+//! all of the table.
+ghost use Rattle.std.specs.Prelude.{◌≡◌, ◌^◌, OnErr, IfOk, IfErr, reverse};
+ghost use Rattle.ck_model.specs.Contents.{layout_of, Lawful};
+ghost use Rattle.ck_model.specs.Paths.{Grounds};
+ghost use Rattle.ck_model.specs.Counting.{counting};
+ghost use Rattle.ck_section.specs.Stripes.{contents_of};
+ghost use Rattle.ck_section.specs.Whole.{IsTable, AreSettled};
+ghost use Rattle.ck_section.specs.Room.{reason_of_lack};
+ghost use Rattle.ck_words.specs.Passes.{IsPassOf, IsIdle, numbers_of};
+ghost use Rattle.ck_words.specs.StripeSets.{list_of};
+ghost use Rattle.ck_words.specs.Retries.{FindsAmong};
+ghost use Rattle.ck_words.specs.Renewing.{HasRenewed};
+ghost use Rattle.ck_words.specs.Closing.{IsCaller, IsWhole};
+ghost use Rattle.cuckoo_map.specs.Refusals.{IsStripeIn};
+ghost use Rattle.cuckoo_map.specs.Insertions.{HoldsRoom, HasRoom, IsRefused};
+
+use crate::holding::Spot;
+use crate::refusal::{Busy, Why};
+use crate::table::Table;
+use ck_key::{KeyHash, TableKey};
+use ck_model::settings::Settings;
+use ck_section::{Entry, Lack, find_entry, make_room, settled_place};
+use ck_words::{Lent, Pass};
+
+// Where a key may be among the stripes that its pass holds, those of the key or all of the table,
+// and its entry there.
+#[derive(Clone, Copy)]
+pub(crate) struct Room {
+    pub(crate) spot: Spot,
+    pub(crate) entry: Entry,
+}
+
+impl<K: TableKey + Drop, V: Drop> Table<K, V> {
+    // Takes all stripes and makes room for the key there, by a displacement or by growing. It keeps
+    // them, with the entry of the key. Where it can't make room, all have gone home with what they
+    // contain then, and the pass has told the reason.
+    pub(crate) fn make_room_in_all(&self, pass: &mut Pass<K, V>, key: &K) -> Result<Room, Why>
+        requires caller { IsCaller self.now pass.old }
+        ensures own { IsPassOf self.now pass.new }
+        ensures room { IfOk result (λ room.
+            HasRoom K.hash self.now.settings (K.name key.now) room pass.old pass.new) }
+        ensures numbered { IfOk result (λ room.
+            numbers_of pass.new.stripes ≡ list_of room.spot.stripes) }
+        ensures found { FindsAmong (IsStripeIn self.now.settings) pass.old pass.new }
+        ensures idle { OnErr result (IsIdle pass.new) }
+        ensures refused { IfErr result (λ why.
+            IsRefused self.now.settings (K.name key.now) why pass.old pass.new) }
+    {
+        if let Err(Busy(stripe)) = self.hold_table(pass) {
+            return Err(Why::Busy(stripe));
+        }
+        match self.make_room_held(pass, key) {
+            Ok(room) => Ok(room),
+            Err(lack) => {
+                self.words.refuse(pass, self.words.all(), key, lack);
+                Err(Why::of(lack))
+            }
+        }
+    }
+
+    // Makes room for the key among all stripes, which the pass has just taken.
+    fn make_room_held(&self, pass: &mut Pass<K, V>, key: &K) -> Result<Room, Lack>
+        requires own { IsPassOf self.now pass.old }
+        requires whole { IsWhole K.hash self.now.settings pass.old }
+        requires table { IsTable self.now.settings.s pass.old.stripes }
+        requires settled { AreSettled pass.old.stripes }
+        ensures own { IsPassOf self.now pass.new }
+        ensures view { pass.new.view ≡ pass.old.view }
+        ensures numbered { numbers_of pass.new.stripes ≡ counting 0 (2 ^ self.now.settings.s) }
+        ensures renewed { HasRenewed K.hash self.now.settings pass.new }
+        ensures all { IfOk result (λ room.
+            list_of room.spot.stripes ≡ counting 0 (2 ^ self.now.settings.s)) }
+        ensures room { IfOk result (λ room.
+            HoldsRoom K.hash self.now.settings (K.name key.now) room pass.new) }
+        ensures grounds { IfErr result (λ lack.
+            Lawful (layout_of K.hash self.now.settings) (reverse pass.new.view.held)
+            → Grounds (layout_of K.hash self.now.settings) self.now.settings.min_load
+            (contents_of pass.new.stripes) (K.name key.now) (reason_of_lack lack)) }
+    {
+        let Settings {
+            s,
+            max,
+            min_load,
+            ..
+        } = self.words.settings();
+        let hash = KeyHash::of(key);
+        let stripes = self.words.all();
+        let mut lent = Lent {
+            words: &self.words,
+            pass,
+            set: stripes,
+        };
+        make_room(&mut lent, s, key, hash, max, min_load)?;
+        let place = settled_place(&mut lent, s, key, hash);
+        let Some(entry) = find_entry(&mut lent, place, key) else {
+            unreachable!()
+        };
+        Ok(Room {
+            spot: Spot { stripes, place },
+            entry,
+        })
+    }
+}

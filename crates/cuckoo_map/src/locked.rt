@@ -1,0 +1,252 @@
+//! The whole table under one caller.
+ghost use Rattle.std.specs.Prelude.{◌≡◌, if◌then◌else◌, OnOk, OnErr, IfOk, IfErr, IfSome, IfNone};
+ghost use Rattle.std.specs.Option.{option_copied};
+ghost use Rattle.std.specs.FinMap.{get, len, entries};
+ghost use Rattle.ck_model.specs.declared.history.Act.TheVariants.{Insert, Erase};
+ghost use Rattle.ck_model.specs.declared.history.Call.TheVariants.{Session};
+ghost use Rattle.ck_model.specs.declared.history.Reply.TheVariants.{New, Old, Was, Closed};
+ghost use Rattle.ck_model.specs.Map.{ListsInOrder};
+ghost use Rattle.ck_model.specs.Contents.{layout_of};
+ghost use Rattle.ck_bucket.specs.Bucket.{ClonesAreEqual};
+ghost use Rattle.ck_model.specs.Paths.{HasNoRoom};
+ghost use Rattle.ck_model.specs.Ranges.{AreInRange};
+ghost use Rattle.ck_section.specs.Stripes.{contents_of};
+ghost use Rattle.ck_section.specs.Places.{IsPlaceOf};
+ghost use Rattle.ck_section.specs.Whole.{AreAllHeld};
+ghost use Rattle.ck_section.specs.Calls.{effect, IsCall, IsWithoutRoom, ChangesContents};
+ghost use Rattle.ck_section.specs.Room.{KeepsBindings, MakesRoom, GivesReason};
+ghost use Rattle.ck_words.specs.Retries.{FindsAmong};
+ghost use Rattle.ck_words.specs.Answering.{IsAnswered};
+ghost use Rattle.ck_words.specs.Closing.{IsCaller};
+ghost use Rattle.cuckoo_map.specs.Refusals.{IsStripeIn, IsBusyAmong, why_of};
+ghost use Rattle.cuckoo_map.specs.Locking.{start_of, map_of, HasLocked, HasActed, KeepsMap, LacksRoom, SeeksRoom};
+
+use crate::refusal::{Busy, Refused, Why};
+use crate::table::Table;
+use ck_key::{KeyHash, TableKey};
+use ck_model::settings::Settings;
+use ck_section::{
+    KeyPlace, Lack, entries, erase, export, find_entry, find_in_all, insert, make_room,
+    place_in_all, settle_all,
+};
+use ck_stripe::Stripe;
+use ck_words::{Pass, Whole};
+use std::alloc::{AllocError, Global};
+use std::marker::Model;
+
+/// A table under one caller: its calls find every stripe free, and no other caller is in a call.
+/// Until it is unlocked, all others find the stripes held. It can't be dropped, so a program that
+/// doesn't unlock it doesn't compile.
+///
+/// What is done to it is one entry of its caller, a session, from the map as it was when the table
+/// was locked to the map when it is unlocked. Contracts see the table, and the caller's pass, which
+/// has all stripes.
+pub struct LockedTable<'t, K: TableKey, V> {
+    table: &'t Table<K, V>,
+    whole: Whole<K, V>,
+}
+
+impl<'t, K: TableKey, V> Model for LockedTable<'t, K, V> {
+    ghost use Rattle.cuckoo_map.specs.Locking.{LockedState, IsLocked};
+
+    ghost Value = { LockedState V };
+
+    ghost view = { λ l. record { table = l.table.now; pass = l.whole } };
+
+    ghost invariant = { λ l. IsLocked K.hash l.table.now l.whole };
+}
+
+impl<K: TableKey + Drop, V: Drop> Table<K, V> {
+    /// Locks the table: takes all stripes, in rising order of their numbers, and carries out the
+    /// doublings that are left of them. It takes no memory.
+    ///
+    /// Refused as busy, it changes nothing, and the pass comes back.
+    pub fn lock_table<'t>(
+        &'t self,
+        pass: Pass<K, V>,
+    ) -> Result<LockedTable<'t, K, V>, (Pass<K, V>, Busy)>
+        requires { IsCaller self.now pass }
+        ensures locked { IfOk result (HasLocked self.now pass) }
+        ensures caller { IfErr result (λ back. IsCaller self.now back.0) }
+        ensures busy { IfErr result (λ back. IsBusyAmong (IsStripeIn self.now.settings)
+            self.now.settings.turns back.1.0 pass back.0) }
+        ensures found { IfErr result (λ back.
+            FindsAmong (IsStripeIn self.now.settings) pass back.0) }
+    {
+        let mut pass = pass;
+        match self.hold_table(&mut pass) {
+            Ok(()) => Ok(LockedTable {
+                table: self,
+                whole: self.words.lift(pass),
+            }),
+            Err(busy) => Err((pass, busy)),
+        }
+    }
+}
+
+impl<'t, K: TableKey + Drop, V: Drop> LockedTable<'t, K, V> {
+    /// The value of the key; `None` where the key is unbound.
+    pub fn find(&self, key: &K) -> Option<&V>
+        ensures { option_copied result ≡ get (map_of self.now) (K.name key.now) }
+    {
+        find_in_all(stripes_of(&self.whole), self.place(key), key)
+    }
+
+    /// Binds the key to the value where it is unbound, and says whether it was. A bound key keeps
+    /// its value, and the one that was passed is dropped.
+    ///
+    /// Where both buckets of an unbound key are full, other entries are displaced to make room, or
+    /// the table grows, which changes no binding.
+    ///
+    /// Refused, it changes no binding and hands key and value back: as `Memory`, `Full` or
+    /// `LoadTooLow`, and never as `Busy`. The table stays locked.
+    pub fn insert(&mut self, key: K, value: V) -> Result<bool, Refused<K, V>>
+        ensures answered { IfOk result (λ fresh. HasActed (K.name key) (Insert value)
+            (if fresh then New else Old) self.old self.new) }
+        ensures refused { IfErr result (λ e. (e.key ≡ key) × (e.value ≡ value)
+            × LacksRoom K.hash (K.name key) e.why self.old self.new) }
+    {
+        let place = self.place(&key);
+        match insert_in(&mut self.whole, place, key, value) {
+            Ok(fresh) => Ok(fresh),
+            Err((key, value)) => self.insert_with_room(key, value),
+        }
+    }
+
+    // The same, once room was made for the key.
+    #[cold]
+    #[inline(never)]
+    fn insert_with_room(&mut self, key: K, value: V) -> Result<bool, Refused<K, V>>
+        ensures answered { IfOk result (λ fresh. HasActed (K.name key) (Insert value)
+            (if fresh then New else Old) self.old self.new) }
+        ensures refused { IfErr result (λ e. (e.key ≡ key) × (e.value ≡ value)
+            × LacksRoom K.hash (K.name key) e.why self.old self.new) }
+    {
+        if let Err(lack) = self.make_room(&key) {
+            let why = Why::of(lack);
+            return Err(Refused { key, value, why });
+        }
+        let place = self.place(&key);
+        match insert_in(&mut self.whole, place, key, value) {
+            Ok(fresh) => Ok(fresh),
+            Err(_) => unreachable!(),
+        }
+    }
+
+    // Makes room for the key: entries are displaced, or the table grows.
+    fn make_room(&mut self, key: &K) -> Result<(), Lack>
+        ensures kept { KeepsMap self.old self.new }
+        ensures room { OnOk result (¬ (HasNoRoom (layout_of K.hash self.new.table.settings)
+            (contents_of self.new.pass.stripes) (K.name key.now))) }
+        ensures refused { IfErr result (λ lack.
+            LacksRoom K.hash (K.name key.now) (why_of lack) self.old self.new) }
+    {
+        let table = self.table;
+        make_room_in(&mut self.whole, table.words.settings(), key)
+    }
+
+    /// Unbinds the key, and gives the value that it had; `None` where it is unbound.
+    pub fn erase(&mut self, key: &K) -> Option<V>
+        ensures { HasActed (K.name key.now) Erase (Was result) self.old self.new }
+    {
+        let place = self.place(key);
+        erase(&mut self.whole, place, key)
+    }
+
+    // Where the key may be among the stripes.
+    fn place(&self, key: &K) -> KeyPlace
+        ensures place { IsPlaceOf K.hash self.now.pass.stripes (K.name key.now) result }
+        ensures s { result.s ≡ self.now.table.settings.s }
+    {
+        let table = self.table;
+        place_in_all(stripes_of(&self.whole), table.words.settings().s, key)
+    }
+
+    /// How many keys are bound.
+    pub fn len(&self) -> u64
+        ensures { result ≡ len (map_of self.now) }
+    {
+        entries(stripes_of(&self.whole)) as u64
+    }
+
+    /// Unlocks the table, by which all that was done to it becomes one entry of the history.
+    pub fn unlock(self) -> Pass<K, V>
+        ensures caller { IsCaller self.entry.table result }
+        ensures answered { IsAnswered
+            (Session (entries (start_of self.entry)) (entries (map_of self.entry))) Closed
+            self.entry.pass result }
+        ensures found { result.view.found ≡ self.entry.pass.view.found }
+    {
+        let LockedTable { table, whole } = self;
+        let mut pass = table.words.lower(whole);
+        table.words.commit_session(&mut pass, table.words.all());
+        pass
+    }
+}
+
+impl<'t, K: TableKey + Clone + Drop, V: Clone + Drop> LockedTable<'t, K, V> {
+    /// Clones of all keys with their values, in rising order of the keys. Refused for want of
+    /// memory, it leaves the table locked and as it was.
+    pub fn export(&self, alloc: Global) -> Result<Vec<(K, V)>, AllocError>
+        requires keys { ClonesAreEqual K.is_clone }
+        requires values { ClonesAreEqual V.is_clone }
+        ensures pairs { IfOk result (λ pairs.
+            ListsInOrder K.name K.cmp pairs.items (map_of self.now)) }
+    {
+        export(alloc, stripes_of(&self.whole))
+    }
+}
+
+// The stripes, in rising order of their numbers.
+fn stripes_of<K: TableKey + Drop, V: Drop>(whole: &Whole<K, V>) -> &[Stripe<K, V>]
+    ensures { result.now ≡ whole.now.stripes }
+{
+    whole.stripes.as_slice()
+}
+
+// Binds the key, which may be at this place, where it is unbound, and says whether it was. Where
+// both its buckets are full, key and value come back.
+fn insert_in<K: TableKey + Drop, V: Drop>(
+    whole: &mut Whole<K, V>,
+    place: KeyPlace,
+    key: K,
+    value: V,
+) -> Result<bool, (K, V)>
+    requires { IsPlaceOf K.hash whole.old.stripes (K.name key) place }
+    ensures call { IfOk result (λ fresh.
+        IsCall (effect K.hash (λ p. p.stripes) place whole.old whole.new) (K.name key)
+        (Insert value) (if fresh then New else Old)) }
+    ensures full { IfErr result (λ back. (back.0 ≡ key) × (back.1 ≡ value)
+        × IsWithoutRoom K.hash place.s whole.old.stripes (K.name key)) }
+    ensures left { OnErr result (whole.new ≡ whole.old) }
+    ensures rest { ChangesContents whole.old.stripes whole.new.stripes }
+    ensures same { whole.new ≡ record whole.old { stripes = whole.new.stripes } }
+{
+    match find_entry(whole, place, &key) {
+        Some(entry) => Ok(insert(whole, place, entry, key, value)),
+        None => Err((key, value)),
+    }
+}
+
+// Makes room for the key among all stripes, which are then settled.
+fn make_room_in<K: TableKey + Drop, V: Drop>(
+    whole: &mut Whole<K, V>,
+    settings: Settings,
+    key: &K,
+) -> Result<(), Lack>
+    requires held { AreAllHeld settings.s whole.old.stripes }
+    requires range { AreInRange settings }
+    ensures room { SeeksRoom K.hash settings (K.name key.now) result
+        whole.old.stripes whole.new.stripes }
+    ensures same { whole.new ≡ record whole.old { stripes = whole.new.stripes } }
+{
+    let Settings {
+        s,
+        max,
+        min_load,
+        ..
+    } = settings;
+    let made = make_room(whole, s, key, KeyHash::of(key), max, min_load);
+    settle_all(whole);
+    made
+}

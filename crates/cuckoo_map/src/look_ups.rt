@@ -1,0 +1,85 @@
+//! Calls that change nothing.
+ghost use Rattle.std.specs.Prelude.{Some, None, IfOk, IfErr, MatchOption, MatchBool};
+ghost use Rattle.std.specs.Fn.{FnOnceReturnsAt};
+ghost use Rattle.ck_model.specs.declared.history.Act.TheVariants.{Find};
+ghost use Rattle.ck_model.specs.declared.history.Call.TheVariants.{On};
+ghost use Rattle.ck_model.specs.declared.history.Reply.TheVariants.{Was};
+ghost use Rattle.ck_words.specs.Answering.{IsAnswered};
+ghost use Rattle.ck_words.specs.Closing.{IsCaller};
+ghost use Rattle.cuckoo_map.specs.Refusals.{FindsOwn, IsBusyAt};
+
+use crate::refusal::Busy;
+use crate::table::Table;
+use ck_key::TableKey;
+use ck_section::find;
+use ck_words::{Commit, Lent, Pass};
+use std::snapshot::Snapshot;
+
+impl<K: TableKey + Drop, V: Drop> Table<K, V> {
+    /// What the closure answers for the value of the key; `None` where the key is unbound, and then
+    /// the closure is not called. The closure runs while the key's stripes are held.
+    ///
+    /// Refused as busy, it changes nothing, and the closure is dropped.
+    pub fn find_fn<R, F: FnOnce(&V) -> R>(
+        &self,
+        pass: &mut Pass<K, V>,
+        key: &K,
+        f: F,
+    ) -> Result<Option<R>, Busy>
+    where
+        F: Drop,
+        requires caller { IsCaller self.now pass.old }
+        requires call { F.IsAlwaysCallable f }
+        ensures caller { IsCaller self.now pass.new }
+        ensures answered { IfOk result (λ answer. MatchOption answer
+            (IsAnswered (On (K.name key.now) Find) (Was None) pass.old pass.new)
+            (λ r. (v : V) × FnOnceReturnsAt F.FnOnce f v r
+            × IsAnswered (On (K.name key.now) Find) (Was (Some v)) pass.old pass.new)) }
+        ensures busy { IfErr result (λ busy.
+            IsBusyAt K.hash self.now.settings (K.name key.now) busy.0 pass.old pass.new) }
+        ensures found { FindsOwn K.hash self.now.settings (K.name key.now) pass.old pass.new }
+    {
+        let spot = self.hold_key(pass, key)?;
+        let mut lent = Lent {
+            words: &self.words,
+            pass,
+            set: spot.stripes,
+        };
+        let found = find(&mut lent, spot.place, key, f);
+        let Lent { pass, .. } = lent;
+        self.words
+            .commit(pass, spot.stripes, Commit::Find(Snapshot::of(key)));
+        Ok(found)
+    }
+
+    /// The value that is bound to the key; `None` where the key is unbound. Refused as busy, it
+    /// changes nothing.
+    pub fn find(&self, pass: &mut Pass<K, V>, key: &K) -> Result<Option<V>, Busy>
+    where
+        V: Copy,
+        requires caller { IsCaller self.now pass.old }
+        ensures caller { IsCaller self.now pass.new }
+        ensures answered { IfOk result (λ value.
+            IsAnswered (On (K.name key.now) Find) (Was value) pass.old pass.new) }
+        ensures busy { IfErr result (λ busy.
+            IsBusyAt K.hash self.now.settings (K.name key.now) busy.0 pass.old pass.new) }
+        ensures found { FindsOwn K.hash self.now.settings (K.name key.now) pass.old pass.new }
+    {
+        self.find_fn(pass, key, |value: &V| *value)
+    }
+
+    /// Whether the key is bound. Refused as busy, it changes nothing.
+    pub fn contains(&self, pass: &mut Pass<K, V>, key: &K) -> Result<bool, Busy>
+        requires caller { IsCaller self.now pass.old }
+        ensures caller { IsCaller self.now pass.new }
+        ensures answered { IfOk result (λ bound. MatchBool bound
+            ((v : V) × IsAnswered (On (K.name key.now) Find) (Was (Some v)) pass.old pass.new)
+            (IsAnswered (On (K.name key.now) Find) (Was None) pass.old pass.new)) }
+        ensures busy { IfErr result (λ busy.
+            IsBusyAt K.hash self.now.settings (K.name key.now) busy.0 pass.old pass.new) }
+        ensures found { FindsOwn K.hash self.now.settings (K.name key.now) pass.old pass.new }
+    {
+        let found = self.find_fn(pass, key, |_value: &V| ())?;
+        Ok(found.is_some())
+    }
+}

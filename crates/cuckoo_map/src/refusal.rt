@@ -1,0 +1,84 @@
+//! Why a table refuses.
+ghost use Rattle.std.specs.Prelude.{◌≡◌};
+ghost use Rattle.cuckoo_map.specs.Refusals.{why_of};
+
+use ck_section::Lack;
+use thiserror::Error;
+
+/// Why no table was opened.
+#[derive(Debug, Clone, Copy, PartialEq, Eq, Error)]
+pub enum OpenFault {
+    /// A setting is not in its range.
+    #[error("a setting is not in its range")]
+    Settings,
+    /// There is no memory for the table and its passes.
+    #[error("no memory for the table")]
+    Memory,
+}
+
+/// This stripe was found held in as many tries in a row as the settings allow, and the call changed
+/// nothing. It is one of the call's keys; of a call that takes all stripes it is any, and of one
+/// that asks for the power the stripe 0.
+#[derive(Debug, Clone, Copy, PartialEq, Eq, Error)]
+#[error("stripe {0} is busy")]
+pub struct Busy(pub u32);
+
+/// Why the table was not made to grow.
+#[derive(Debug, Clone, Copy, PartialEq, Eq, Error)]
+pub enum GrowFault {
+    /// This stripe was found held in as many tries in a row as the settings allow. The call changed
+    /// nothing.
+    #[error("stripe {0} is busy")]
+    Busy(u32),
+    /// There is no memory to grow. The table may have doubled before that.
+    #[error("no memory to grow")]
+    Memory,
+    /// The table may not have so many buckets. The call changed nothing.
+    #[error("the table may not have so many buckets")]
+    OverMax,
+}
+
+/// Why an entry was refused. The table may have grown all the same. A locked table refuses nothing
+/// as `Busy`.
+#[derive(Debug, Clone, Copy, PartialEq, Eq, Error)]
+pub enum Why {
+    /// This stripe was found held in as many tries in a row as the settings allow. It is one of the
+    /// key, but where the key's buckets were found full.
+    #[error("stripe {0} is busy")]
+    Busy(u32),
+    /// No displacement makes room for the key, the table may grow, and there is no memory to.
+    #[error("no memory to grow")]
+    Memory,
+    /// No displacement makes room for the key, and the table may not grow beyond its greatest
+    /// power.
+    #[error("no room for the key")]
+    Full,
+    /// No displacement makes room for the key, and too few slots are taken for the table to grow.
+    #[error("too few slots are taken to grow")]
+    LoadTooLow,
+}
+
+impl Why {
+    // Why a key is refused where the table lacks this to make room for it.
+    pub(crate) fn of(lack: Lack) -> Why
+        ensures { result ≡ why_of lack }
+    {
+        match lack {
+            Lack::Memory => Why::Memory,
+            Lack::Full => Why::Full,
+            Lack::LoadTooLow => Why::LoadTooLow,
+        }
+    }
+}
+
+/// A key and a value that were refused, given back.
+#[derive(Debug, Drop, Error)]
+#[error("{why}")]
+pub struct Refused<K, V> {
+    /// The key that was to be bound.
+    pub key: K,
+    /// The value that it was to be bound to.
+    pub value: V,
+    /// Why it was not.
+    pub why: Why,
+}

@@ -1,0 +1,78 @@
+//! How many keys are bound, how many buckets the table has, and what holds all stripes.
+ghost use Rattle.std.specs.Prelude.{◌≡◌, OnOk, OnErr, IfOk, IfErr};
+ghost use Rattle.ck_model.specs.declared.history.Call.TheVariants.{Len};
+ghost use Rattle.ck_model.specs.declared.history.Reply.TheVariants.{Count};
+ghost use Rattle.ck_section.specs.Whole.{IsTable, AreSettled};
+ghost use Rattle.ck_words.specs.Passes.{IsPassOf, IsIdle};
+ghost use Rattle.ck_words.specs.Retries.{Stays, FindsAmong};
+ghost use Rattle.ck_words.specs.Answering.{IsAnswered};
+ghost use Rattle.ck_words.specs.Closing.{IsCaller, IsWhole};
+ghost use Rattle.cuckoo_map.specs.Refusals.{IsStripeIn, IsBusyAmong};
+
+use crate::refusal::Busy;
+use crate::table::Table;
+use ck_key::TableKey;
+use ck_section::len;
+use ck_words::{Commit, Lent, Pass};
+
+impl<K: TableKey + Drop, V: Drop> Table<K, V> {
+    /// How many keys are bound. It counts while it holds all stripes.
+    ///
+    /// Refused as busy, it changes nothing.
+    pub fn len(&self, pass: &mut Pass<K, V>) -> Result<u64, Busy>
+        requires caller { IsCaller self.now pass.old }
+        ensures caller { IsCaller self.now pass.new }
+        ensures answered { IfOk result (λ count. IsAnswered Len (Count count) pass.old pass.new) }
+        ensures busy { IfErr result (λ busy. IsBusyAmong (IsStripeIn self.now.settings)
+            self.now.settings.turns busy.0 pass.old pass.new) }
+        ensures found { FindsAmong (IsStripeIn self.now.settings) pass.old pass.new }
+    {
+        self.hold_table(pass)?;
+        let all = self.words.all();
+        let mut lent = Lent {
+            words: &self.words,
+            pass,
+            set: all,
+        };
+        let count = len(&mut lent, self.words.settings().s);
+        let Lent { pass, .. } = lent;
+        self.words.commit(pass, all, Commit::Len);
+        Ok(count)
+    }
+
+    /// The power: the table has 2^power buckets of four slots. It is that of stripe 0 while this
+    /// call holds it, and the pass has then been told of it. Refused as busy, it changes nothing.
+    pub fn power(&self, pass: &mut Pass<K, V>) -> Result<u32, Busy>
+        requires caller { IsCaller self.now pass.old }
+        ensures caller { IsCaller self.now pass.new }
+        ensures stays { OnOk result (Stays pass.old.view pass.new.view) }
+        ensures told { IfOk result (λ power. power ≡ pass.new.view.told) }
+        ensures busy { IfErr result (λ busy. IsBusyAmong (λ t. t ≡ 0)
+            self.now.settings.turns busy.0 pass.old pass.new) }
+        ensures found { FindsAmong (λ t. t ≡ 0) pass.old pass.new }
+    {
+        match self.words.power(pass) {
+            Ok(power) => Ok(power),
+            Err(stripe) => Err(Busy(stripe as u32)),
+        }
+    }
+
+    // Takes all stripes, and carries out the doublings that are left of them.
+    pub(crate) fn hold_table(&self, pass: &mut Pass<K, V>) -> Result<(), Busy>
+        requires caller { IsCaller self.now pass.old }
+        ensures own { IsPassOf self.now pass.new }
+        ensures stays { Stays pass.old.view pass.new.view }
+        ensures whole { OnOk result (IsWhole K.hash self.now.settings pass.new) }
+        ensures table { OnOk result (IsTable self.now.settings.s pass.new.stripes) }
+        ensures settled { OnOk result (AreSettled pass.new.stripes) }
+        ensures found { FindsAmong (IsStripeIn self.now.settings) pass.old pass.new }
+        ensures idle { OnErr result (IsIdle pass.new) }
+        ensures busy { IfErr result (λ busy. IsBusyAmong (IsStripeIn self.now.settings)
+            self.now.settings.turns busy.0 pass.old pass.new) }
+    {
+        match self.words.lock_all(pass) {
+            Ok(()) => Ok(()),
+            Err(stripe) => Err(Busy(stripe)),
+        }
+    }
+}
