@@ -1,17 +1,20 @@
 -- What a step leaves its caller with.
-use Rattle.std.proofs.Common.{◌≡◌, ℕ, List, ◌++◌, [], ◌∷◌, set, sym, refl, ap, ◌∙◌, subst}
+use Rattle.std.proofs.Common.{◌≡◌, ℕ, List, ◌++◌, [], ◌∷◌, set, sym, refl, ap, ◌∙◌, subst, ⊎_elim, arith}
 use mathlib.Core.Option.{some, some-injective}
 use lib.ListN.{get_elem?}
 use Rattle.std.specs.FinMap.{empty}
 use Rattle.ck_model.specs.declared.history.Entry.{Entry}
 use Rattle.ck_model.specs.History.{StartsWith}
 use Rattle.ck_model.specs.Contents.{bindings, whole}
+use Rattle.ck_model.specs.Numbered.{IsIn, numbers}
 use Rattle.ck_model.proofs.Histories.{starts_itself, leads_to, leads_snoc}
+use Rattle.ck_model.proofs.Numbered.{in_held}
+use Rattle.ck_core.proofs.Callers.{own_held}
 use Rattle.ck_core.specs.declared.view.View.{View}
-use Rattle.ck_core.specs.State.{Configuration}
+use Rattle.ck_core.specs.State.{Configuration, HasNumber, owned}
 use Rattle.ck_core.specs.Steps.{deciding, joining, spent}
 use Rattle.ck_core.specs.Steps.Label.{Take, FindHeld, Give, Decide, GiveRest, Renew, Look, Open, Tell, Join}
-use Rattle.ck_core.specs.Laws.{Unanswered, LawOfReplies, LawOfAnswers, LawOfOtherSteps}
+use Rattle.ck_core.specs.Laws.{IsHeldByAnother, Unanswered, LawOfReplies, LawOfFindings, LawOfOneCaller, LawOfAnswers, LawOfFollowing, LawOfOtherSteps}
 use Rattle.ck_core.proofs.Lists.{set_there, set_else, at_longer}
 use Rattle.ck_core.proofs.Keeps.{step_keeps}
 use Rattle.ck_core.proofs.Shown.{shows, answered}
@@ -34,6 +37,44 @@ module _ {V : Type 0} where
       answered k callers log v w e (ap (λ (u : View V). u.by) (sym same) ∙ d.3) (shows k callers log s law id v at)
       (shows k callers (log ++ e ∷ []) s2 (step_keeps k min_load callers log id (Decide t ks e) s s2 law d) id w there)
       (ap (λ (u : View V). u.seen) (sym is)) (ap (λ (u : View V). u.mine) (sym is))
+
+  pub law_of_following : LawOfFollowing V
+  law_of_following k min_load callers id t ks e log s s2 v w law d at there which =
+      let same : d.0 ≡ v = some-injective d.0 v (sym d.2 ∙ at) in
+      let x : View V = deciding v t ks log e in
+      let is : x ≡ w = ap (λ u. deciding u t ks log e) (sym same) ∙ set_view s.views s2.views id d.0 (deciding d.0 t ks log e) w d.2 (ap (λ (u : Configuration V). u.views) d.6) there in
+      let shown = shows k callers log s law id v at in
+      let all : v.seen ≡ log = ⊎_elim (λ one. shown.alone e.by (ap (λ (u : View V). u.by) (sym same) ∙ d.3) one) (λ held. shown.all_seen held) which in
+      ap (λ (u : View V). u.seen) (sym is) ∙ ap (λ l. l ++ e ∷ []) (sym all)
+
+  pub law_of_findings : LawOfFindings V
+  law_of_findings k min_load callers id t log s s2 v law d at =
+      let same : d.0 ≡ v = some-injective d.0 v (sym d.1 ∙ at) in
+      let owner = law.places.owner t in
+      let z = law.places.is_held t d.2 d.3 in
+      let held : IsIn t (numbers z.0.held) = in_held z.0.held t (law.contents t) z.2 in
+      let m = subst (λ (u : View V). HasNumber u) same d.5 in
+      let n = law.holders owner z.0 z.1 t (law.contents t) z.2 in
+      let mine = in_held (owned v) m.0 v.mine (own_held v m.0 m.1) in
+      let its = in_held (owned z.0) n.0 z.0.mine (own_held z.0 n.0 n.1) in
+      record {
+        own = m.0;
+        other = n.0;
+        own_number = m.1;
+        holder = (owner, z.0, z.1, held, n.1);
+        apart = λ e.
+            let there : owner ≡ id = sym (law.callers_known.keeps owner z.0 z.1 n.0 its) ∙ (ap law.callers_known.keeper (sym e) ∙ law.callers_known.keeps id v at m.0 mine) in
+            let one : z.0 ≡ d.0 = some-injective z.0 d.0 (sym z.1 ∙ (ap (get_elem? s.views) there ∙ d.1)) in
+            d.4 (subst (λ (u : View V). IsIn t (numbers u.held)) one held);
+        within = ((law.callers_known.knows id v at).within m.0 mine, (law.callers_known.knows owner z.0 z.1).within n.0 its);
+      }
+
+  pub law_of_one_caller : LawOfOneCaller V
+  law_of_one_caller k min_load id t log s s2 law d =
+      let h = law_of_findings k min_load 1 id t log s s2 d.0 law d d.1 in
+      let a = h.within.0 in
+      let b = h.within.1 in
+      h.apart (omega arith)
 
   pub law_of_replies : LawOfReplies V
   law_of_replies k min_load callers id t ks e log s s2 law d =
@@ -59,8 +100,8 @@ module _ {V : Type 0} where
   views_of s s2 e = ap (λ (u : Configuration V). u.views) e
 
   pub law_of_other_steps : LawOfOtherSteps V
-  law_of_other_steps k min_load callers id (Take t) log s s2 v w no_entry law d at there = all_seen log v d.0 _ w (some-injective d.0 v (sym d.2 ∙ at)) (set_view s.views s2.views id d.0 _ w d.2 (views_of s2 _ d.7) there) refl refl (law.callers_known.knows id v at).seen
-  law_of_other_steps k min_load callers id (FindHeld t) log s s2 v w no_entry law d at there = same_seen v d.0 _ w (some-injective d.0 v (sym d.1 ∙ at)) (set_view s.views s2.views id d.0 _ w d.1 (views_of s2 _ d.5) there) refl refl
+  law_of_other_steps k min_load callers id (Take t) log s s2 v w no_entry law d at there = all_seen log v d.0 _ w (some-injective d.0 v (sym d.2 ∙ at)) (set_view s.views s2.views id d.0 _ w d.2 (views_of s2 _ d.8) there) refl refl (law.callers_known.knows id v at).seen
+  law_of_other_steps k min_load callers id (FindHeld t) log s s2 v w no_entry law d at there = same_seen v d.0 _ w (some-injective d.0 v (sym d.1 ∙ at)) (set_view s.views s2.views id d.0 _ w d.1 (views_of s2 _ d.6) there) refl refl
   law_of_other_steps k min_load callers id (Give t g) log s s2 v w no_entry law d at there = same_seen v d.0 _ w (some-injective d.0 v (sym d.2 ∙ at)) (set_view s.views s2.views id d.0 _ w d.2 (views_of s2 _ d.5) there) refl refl
   law_of_other_steps k min_load callers id (Decide t ks e) log s s2 v w no_entry law d at there = absurd (no_entry tt)
   law_of_other_steps k min_load callers id (GiveRest t) log s s2 v w no_entry law d at there = same_seen v d.0 _ w (some-injective d.0 v (sym d.2 ∙ at)) (set_view s.views s2.views id d.0 _ w d.2 (views_of s2 _ d.4) there) refl refl

@@ -161,15 +161,15 @@ runs_append {V} k min_load [] ns log log1 log2 s s1 s2 a b = subst (λ (x : List
 runs_append k min_load (m ∷ ms) ns log log1 log2 s s1 s2 a b = (a.0, a.1, runs_append k min_load ms ns (grown log m.1) log1 log2 a.0 s1 s2 a.2 b)
 
 pub to_one_held : Execution two_stripes 0 [] start (take 1 steps) [] one_held
-to_one_held = (_, (first, empty_stripe, refl, omega arith, refl, nothing_above 0, refl, refl), (refl, refl))
+to_one_held = (_, (first, empty_stripe, refl, omega arith, refl, nothing_above 0, refl, (0, refl), refl), (refl, refl))
 
 from_one_held : Execution two_stripes 0 [] one_held (take 3 (drop 1 steps)) (insertion ∷ []) decided
 from_one_held = (
   _,
-  (second, refl, omega arith, refl, (λ h. h), refl),
+  (second, refl, omega arith, refl, (λ h. h), (1, refl), refl),
   (
     _,
-    (_, empty_stripe, refl, omega arith, refl, above_zero, refl, refl),
+    (_, empty_stripe, refl, omega arith, refl, above_zero, refl, (0, refl), refl),
     (_, (_, full_stripe, refl, refl, inr (inl (refl, refl)), inserted, refl), (refl, refl)),
   ),
 )
@@ -180,14 +180,14 @@ to_decided = runs_append two_stripes 0 (take 1 steps) (take 3 (drop 1 steps)) []
 from_decided : Execution two_stripes 0 (insertion ∷ []) decided (take 4 (drop 4 steps)) (insertion ∷ []) both_held
 from_decided = (
   _,
-  (_, full_stripe, refl, omega arith, refl, nothing_above 0, refl, refl),
+  (_, full_stripe, refl, omega arith, refl, nothing_above 0, refl, (1, refl), refl),
   (
     _,
-    (_, refl, omega arith, refl, one_not_in, refl),
+    (_, refl, omega arith, refl, one_not_in, (1, refl), refl),
     (
       _,
       (_, empty_stripe, refl, inl (refl, refl), refl),
-      (_, (_, empty_stripe, refl, omega arith, refl, above_zero, refl, refl), (refl, refl)),
+      (_, (_, empty_stripe, refl, omega arith, refl, above_zero, refl, (1, refl), refl), (refl, refl)),
     ),
   ),
 )

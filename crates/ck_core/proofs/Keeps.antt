@@ -1,8 +1,9 @@
 -- Each step of the core keeps the invariant.
-use Rattle.std.proofs.Common.{◌≡◌, ◌⊎◌, ℕ, ◌^◌, zero, suc, ◌<◌, ◌≤◌, max, inl, inr, List, [], ◌∷◌, ◌++◌, set, get_or, sym, refl, ap, ◌∙◌, subst, ⊎_elim, arith, le_of_eq, le_trans, zero-le, Option, Some, None}
+use Rattle.std.proofs.Common.{◌≡◌, ◌≢◌, ◌⊎◌, ℕ, ◌^◌, zero, suc, ◌<◌, ◌≤◌, max, inl, inr, List, [], ◌∷◌, ◌++◌, set, get_or, sym, refl, ap, ◌∙◌, subst, ⊎_elim, arith, le_of_eq, le_trans, zero-le, Option, Some, None}
 use mathlib.Core.Option.{some, some-injective}
 use lib.ListN.{get_elem?}
 use Rattle.std.proofs.lemmas.Option.{none-some}
+use Rattle.std.proofs.Math.Nat.{one-le-pow}
 use Rattle.ck_model.specs.declared.history.Entry.{Entry}
 use Rattle.ck_model.specs.declared.history.Reason.{Reason}
 use Rattle.ck_core.specs.declared.view.View.{View}
@@ -11,32 +12,50 @@ use Rattle.ck_model.specs.History.{After, StartsWith}
 use Rattle.ck_model.specs.Numbered.{IsIn, AreDistinct, numbers, Holds, without, over}
 use Rattle.ck_model.specs.declared.contents.Content.{Content}
 use Rattle.ck_model.specs.Contents.{Layout, Stripes, bindings, Lawful, whole}
-use Rattle.ck_model.specs.Sections.{Renewed, Section, IdentitySection}
+use Rattle.ck_model.specs.Sections.{HasAll, Renewed, Section, IdentitySection}
 use Rattle.ck_model.specs.Laws.{ArePartOf}
-use Rattle.ck_model.proofs.Numbered.{Some-injective, in_held, held_of_in, held_either, held_first, held_second, in_either, in_first, in_second, distinct_between, distinct_cut, listed_at, over_miss, over_hit}
+use Rattle.ck_model.proofs.Numbered.{Some-injective, in_held, held_of_in, held_either, held_first, held_second, in_either, in_first, in_second, distinct_between, distinct_cut, listed_at, over_miss, over_hit, in_without}
 use Rattle.ck_model.proofs.Sections.{section_of_whole, identity_of_whole, power_after}
 use Rattle.ck_model.proofs.Histories.{leads_snoc}
-use Rattle.ck_core.specs.State.{Configuration, IsPart, own, owned, Places, Knows, HistoryInvariant}
+use Rattle.ck_core.specs.State.{Configuration, HasNumber, IsPart, own, owned, Places, Knows, HistoryInvariant}
 use Rattle.ck_core.specs.Steps.{Label, taken, seen_as, sent_home, giving, deciding, newcomer, message_of, spent, joining, split_as, joined, Transition, grown, Execution}
 use Rattle.ck_core.specs.Steps.Label.{Take, FindHeld, Give, Decide, GiveRest, Renew, Look, Open, Tell, Join}
 use Rattle.ck_core.proofs.Lists.{at_within, each_set, each_snoc, set_else}
 use Rattle.ck_core.proofs.Places.{places_keep, places_take, places_back, places_split}
 use Rattle.ck_core.proofs.Callers.{knows_all, knows_same, callers_set, callers_add, callers_split, callers_join}
 
+-- a stripe that went home isn't held
+gone_home : {A : Type 0} (t : ℕ) (hs : List (ℕ × A)) → ¬ (IsIn t (numbers (without t hs)))
+gone_home t hs i = let z = held_of_in (without t hs) t i in (in_without t hs t z.0 z.1).0 refl
+
 module _ {V : Type 0} (k : Layout) (callers : ℕ) (log : List (Entry V)) (s : Configuration V) (law : HistoryInvariant k callers log s) (id : ℕ) (v : View V) (at : get_elem? s.views id ≡ some v) where
   abbrev Told : (ℕ → Content V) → ℕ → View V → Type 0
   Told w j u = (t : ℕ) → t < 2 ^ k.s → (u.told ≤ (w t).power) × (u.heard_told ≤ (w t).power)
 
+  -- what is held is a caller's
+  abbrev IsHolder : ℕ → View V → Type 0
+  IsHolder _ u = (t : ℕ) (c : Content V) → Holds u.held t c → HasNumber u
+
+  -- all is seen where all stripes are held
+  abbrev HasSeen : List (Entry V) → ℕ → View V → Type 0
+  HasSeen l _ u = HasAll k u.held → u.seen ≡ l
+
+  -- where no stripe is held, not all are
+  not_all : (hs : Stripes V) → hs ≡ [] → ¬ (HasAll k hs)
+  not_all hs none all = let one : 1 ≤ 2 ^ k.s = one-le-pow k.s 2 (omega arith) in subst (λ (l : Stripes V). IsIn 0 (numbers l)) none (all 0 (omega arith))
+
   pub agrees : ArePartOf k law.contents v.held
   agrees t c h = let f = law.places.holds id v at t c h in (f.0, f.3)
 
-  pub take_keeps : (t : ℕ) (c : Content V) → t < 2 ^ k.s → get_or s.words t 0 ≡ 0 → get_elem? s.homes t ≡ some (Some c) → HistoryInvariant k callers log (taken s id v t c log)
-  take_keeps t c l free there =
+  pub take_keeps : (t : ℕ) (c : Content V) → t < 2 ^ k.s → get_or s.words t 0 ≡ 0 → get_elem? s.homes t ≡ some (Some c) → HasNumber v → HistoryInvariant k callers log (taken s id v t c log)
+  take_keeps t c l free there number =
       let e : law.contents t ≡ c = Some-injective (law.contents t) c (some-injective (Some (law.contents t)) (Some c) (sym (law.places.at_home t l free) ∙ there)) in
       let w : View V = record v { held = (t, c) ∷ v.held; seen = log } in
       record {
         contents = law.contents;
         places = places_take (2 ^ k.s) s law.contents law.places id v at t w l free (ap (λ (x : Content V). (t, x) ∷ v.held) (sym e));
+        holders = each_set IsHolder s.views id w (λ q d _. number) (λ j u _ a. law.holders j u a);
+        all_seen = each_set (HasSeen log) s.views id w (λ _. refl) (λ j u _ a. law.all_seen j u a);
         lawful = law.lawful;
         told = each_set (Told law.contents) s.views id w (law.told id v at) (λ j u _ a. law.told j u a);
         callers_known = callers_set callers log s.views id v w law.callers_known at refl (knows_all callers log v w (law.callers_known.knows id v at) refl refl refl refl refl);
@@ -44,10 +63,12 @@ module _ {V : Type 0} (k : Layout) (callers : ℕ) (log : List (Entry V)) (s : C
       }
 
   -- a step that changes what the view knows, and no word
-  pub seen_keeps : (w : View V) → w.held ≡ v.held → owned w ≡ owned v → Knows callers log w → Told law.contents id w → HistoryInvariant k callers log (seen_as s id w)
-  seen_keeps w held same kn told = record {
+  pub seen_keeps : (w : View V) → w.held ≡ v.held → w.by ≡ v.by → (HasAll k v.held → w.seen ≡ log) → owned w ≡ owned v → Knows callers log w → Told law.contents id w → HistoryInvariant k callers log (seen_as s id w)
+  seen_keeps w held by seen same kn told = record {
     contents = law.contents;
     places = places_keep (2 ^ k.s) s law.contents law.places id v at w held;
+    holders = each_set IsHolder s.views id w (λ q d h. let m = law.holders id v at q d (subst (λ (hs : Stripes V). Holds hs q d) held h) in (m.0, by ∙ m.1)) (λ j u _ a. law.holders j u a);
+    all_seen = each_set (HasSeen log) s.views id w (λ all. seen (subst (HasAll k) held all)) (λ j u _ a. law.all_seen j u a);
     lawful = law.lawful;
     told = each_set (Told law.contents) s.views id w told (λ j u _ a. law.told j u a);
     callers_known = callers_set callers log s.views id v w law.callers_known at same kn;
@@ -55,7 +76,7 @@ module _ {V : Type 0} (k : Layout) (callers : ℕ) (log : List (Entry V)) (s : C
   }
 
   pub find_keeps : (t : ℕ) → HistoryInvariant k callers log (seen_as s id (record v { found = t ∷ v.found }))
-  find_keeps t = let w : View V = record v { found = t ∷ v.found } in seen_keeps w refl refl (knows_same callers log v w (law.callers_known.knows id v at) refl refl refl refl refl) (law.told id v at)
+  find_keeps t = let w : View V = record v { found = t ∷ v.found } in seen_keeps w refl refl (law.all_seen id v at) refl (knows_same callers log v w (law.callers_known.knows id v at) refl refl refl refl refl) (law.told id v at)
 
   max_le : (a b c : ℕ) → a ≤ c → b ≤ c → max a b ≤ c
   max_le a b c h g = omega arith
@@ -87,7 +108,7 @@ module _ {V : Type 0} (k : Layout) (callers : ℕ) (log : List (Entry V)) (s : C
 
   pub look_keeps : (p : ℕ) → ((u : ℕ) (c : Content V) → IsPart s u c → p ≤ c.power) → HistoryInvariant k callers log (seen_as s id (record v { seen = log; told = p }))
   look_keeps p h = let w : View V = record v { seen = log; told = p } in
-      seen_keeps w refl refl (knows_all callers log v w (law.callers_known.knows id v at) refl refl refl refl refl) (λ t l. (h t (law.contents t) (whole_is_part t l), (law.told id v at t l).1))
+      seen_keeps w refl refl (λ _. refl) refl (knows_all callers log v w (law.callers_known.knows id v at) refl refl refl refl refl) (λ t l. (h t (law.contents t) (whole_is_part t l), (law.told id v at t l).1))
 
   same_power : (w : ℕ → Content V) → Lawful k (whole k w) → (t u : ℕ) (c : Content V) → t < 2 ^ k.s → u < 2 ^ k.s → w t ≡ c → c.power ≤ (w u).power
   same_power w lawful t u c l m e = le_of_eq (ap (λ (x : Content V). x.power) (sym e) ∙ lawful.one_power t u (w t) (w u) (listed_at (2 ^ k.s) w t l) (listed_at (2 ^ k.s) w u m))
@@ -99,6 +120,8 @@ module _ {V : Type 0} (k : Layout) (callers : ℕ) (log : List (Entry V)) (s : C
       record {
         contents = law.contents;
         places = places_back (2 ^ k.s) s law.contents law.places id v at v.held t c w law.contents refl h refl (λ q _. refl) (λ q d x. (law.places.holds id v at q d x).3);
+        holders = each_set IsHolder s.views id w (λ q d _. law.holders id v at t c h) (λ j u _ a. law.holders j u a);
+        all_seen = each_set (HasSeen log) s.views id w (λ all. absurd (gone_home t v.held (all t f.0))) (λ j u _ a. law.all_seen j u a);
         lawful = law.lawful;
         told = each_set (Told law.contents) s.views id w (λ u m. (max_le v.told (c.power) ((law.contents u).power) (law.told id v at u m).0 (same_power law.contents law.lawful t u c f.0 m f.3), (law.told id v at u m).1)) (λ j u _ a. law.told j u a);
         callers_known = callers_set callers log s.views id v w law.callers_known at refl (knows_same callers log v w (law.callers_known.knows id v at) refl refl refl refl refl);
@@ -121,6 +144,19 @@ module _ {V : Type 0} (k : Layout) (callers : ℕ) (log : List (Entry V)) (s : C
           let p = power_after k law.contents v.held ks agrees r q l in
           (le_trans (law.told j u a q l).0 p, le_trans (law.told j u a q l).1 p)
 
+      -- the stripe that goes home was held
+      was_held : (d : Content V) × Holds v.held t d
+      was_held = held_of_in v.held t (subst (IsIn t) r.same (in_held ks t c here))
+
+      below : t < 2 ^ k.s
+      below = (agrees t was_held.0 was_held.1).0
+
+      -- so that no other holds all
+      others_lack : (j : ℕ) (u : View V) → j ≢ id → get_elem? s.views j ≡ some u → ¬ (HasAll k u.held)
+      others_lack j u other a all =
+          let d = held_of_in u.held t (all t below) in
+          other (sym (law.places.holds j u a t d.0 d.1).2 ∙ (law.places.holds id v at t was_held.0 was_held.1).2)
+
     pub decide_keeps : (e : Entry V) → v.by ≡ Some e.by → Section k v.held e.call e.reply ks → HistoryInvariant k callers (log ++ e ∷ []) (sent_home s id t c (deciding v t ks log e))
     decide_keeps e by sec =
         let w : View V = deciding v t ks log e in
@@ -128,6 +164,8 @@ module _ {V : Type 0} (k : Layout) (callers : ℕ) (log : List (Entry V)) (s : C
         record {
           contents = contents2;
           places = placed sec.renewed w refl;
+          holders = each_set IsHolder s.views id w (λ q d _. (e.by, by)) (λ j u _ a. law.holders j u a);
+          all_seen = each_set (HasSeen (log ++ e ∷ [])) s.views id w (λ all. absurd (gone_home t ks (all t (below sec.renewed)))) (λ j u other a all. absurd (others_lack sec.renewed j u other a all));
           lawful = z.0;
           told = each_set (Told contents2) s.views id w (others_told sec.renewed id v at) (λ j u _ a. others_told sec.renewed j u a);
           callers_known = callers_add callers log s.views id v w e law.callers_known at by refl refl refl refl refl;
@@ -140,11 +178,13 @@ module _ {V : Type 0} (k : Layout) (callers : ℕ) (log : List (Entry V)) (s : C
         let z = identity_of_whole k law.contents v.held ks law.lawful agrees sec in
         let p = placed sec.renewed w refl in
         let at_t : contents2 t ≡ c = over_hit ks law.contents (apart sec.renewed) t c here in
-        let d = held_of_in v.held t (subst (IsIn t) sec.renewed.same (in_held ks t c here)) in
-        let l : t < 2 ^ k.s = (agrees t d.0 d.1).0 in
+        let d = was_held sec.renewed in
+        let l = below sec.renewed in
         record {
           contents = contents2;
           places = p;
+          holders = each_set IsHolder s.views id w (λ q x _. law.holders id v at t d.0 d.1) (λ j u _ a. law.holders j u a);
+          all_seen = each_set (HasSeen log) s.views id w (λ all. absurd (gone_home t ks (all t l))) (λ j u _ a. law.all_seen j u a);
           lawful = z.0;
           told = each_set (Told contents2) s.views id w (λ u m. (max_le v.told (c.power) ((contents2 u).power) (others_told sec.renewed id v at u m).0 (same_power contents2 z.0 t u c l m at_t), (others_told sec.renewed id v at u m).1)) (λ j u _ a. others_told sec.renewed j u a);
           callers_known = callers_set callers log s.views id v w law.callers_known at refl (knows_same callers log v w (law.callers_known.knows id v at) refl refl refl refl refl);
@@ -152,12 +192,18 @@ module _ {V : Type 0} (k : Layout) (callers : ℕ) (log : List (Entry V)) (s : C
         }
 
   -- splits and joins
-  split_keeps : (left right : View V) → left.held ≡ v.held → right.held ≡ [] → Told law.contents id left → Told law.contents id right
+  split_keeps : (left right : View V) → left.held ≡ v.held → left.by ≡ v.by → left.seen ≡ v.seen → right.held ≡ [] → Told law.contents id left → Told law.contents id right
       → ((m : ℕ) → IsIn m (numbers (owned left)) → IsIn m (numbers (owned v)) × ¬ (IsIn m (numbers (owned right)))) → ((m : ℕ) → IsIn m (numbers (owned right)) → IsIn m (numbers (owned v)))
       → Knows callers log left → Knows callers log right → HistoryInvariant k callers log (split_as s id left right)
-  split_keeps left right same none tl tr of_left of_right kl kr = record {
+  split_keeps left right same by seen none tl tr of_left of_right kl kr = record {
     contents = law.contents;
     places = places_split (2 ^ k.s) s law.contents law.places id v at left right same none;
+    holders = each_snoc IsHolder (set s.views id left) right
+        (each_set IsHolder s.views id left (λ q d h. let m = law.holders id v at q d (subst (λ (hs : Stripes V). Holds hs q d) same h) in (m.0, by ∙ m.1)) (λ j u _ a. law.holders j u a))
+        (λ q d h. absurd (subst (λ (hs : Stripes V). Holds hs q d) none h));
+    all_seen = each_snoc (HasSeen log) (set s.views id left) right
+        (each_set (HasSeen log) s.views id left (λ all. seen ∙ law.all_seen id v at (subst (HasAll k) same all)) (λ j u _ a. law.all_seen j u a))
+        (λ all. absurd (not_all right.held none all));
     lawful = law.lawful;
     told = each_snoc (Told law.contents) (set s.views id left) right (each_set (Told law.contents) s.views id left tl (λ j u _ a. law.told j u a)) tr;
     callers_known = callers_split callers log s.views id v left right law.callers_known at of_left of_right kl kr;
@@ -175,7 +221,7 @@ module _ {V : Type 0} (k : Layout) (callers : ℕ) (log : List (Entry V)) (s : C
       let m_there : Holds (owned v) m [] = subst (λ (o : List (ℕ × List (Entry V))). Holds o m []) (sym ow) (held_second (own v.by v.mine) ((m, []) ∷ rest) m [] (inl (refl, refl))) in
       let apart : AreDistinct (numbers (own v.by v.mine ++ ((m, []) ∷ rest))) = subst (λ (o : List (ℕ × List (Entry V))). AreDistinct (numbers o)) ow kn.distinct in
       let cut = distinct_cut (own v.by v.mine) (m, []) rest apart in
-      split_keeps left right refl refl (law.told id v at) (λ t l. ((law.told id v at t l).0, zero-le)) (λ x i. (there x i, λ h. ⊎_elim (λ e. cut.1 (subst (λ y. IsIn y (numbers (owned left))) (sym e) i)) (λ z. absurd z) h))
+      split_keeps left right refl refl refl refl (law.told id v at) (λ t l. ((law.told id v at t l).0, zero-le)) (λ x i. (there x i, λ h. ⊎_elim (λ e. cut.1 (subst (λ y. IsIn y (numbers (owned left))) (sym e) i)) (λ z. absurd z) h))
       (λ x h. ⊎_elim (λ e. subst (λ y. IsIn y (numbers (owned v))) e (in_held (owned v) m [] m_there)) (λ z. absurd z) h)
       (record {
         seen = kn.seen;
@@ -208,7 +254,7 @@ module _ {V : Type 0} (k : Layout) (callers : ℕ) (log : List (Entry V)) (s : C
   pub tell_keeps : HistoryInvariant k callers log (split_as s id v (message_of v))
   tell_keeps =
       let kn = law.callers_known.knows id v at in
-      split_keeps v (message_of v) refl refl (law.told id v at) (λ t l. ((law.told id v at t l).0, zero-le)) (λ m i. (i, λ h. h)) (λ m h. absurd h) kn (knows_nothing (message_of v) refl refl kn.seen refl)
+      split_keeps v (message_of v) refl refl refl refl (law.told id v at) (λ t l. ((law.told id v at t l).0, zero-le)) (λ m i. (i, λ h. h)) (λ m h. absurd h) kn (knows_nothing (message_of v) refl refl kn.seen refl)
 
   pub join_keeps : (other : ℕ) (w : View V) → get_elem? s.views other ≡ some w → ¬ (other ≡ id) → w.held ≡ [] → HistoryInvariant k callers log (joined s id (joining v w) other)
   join_keeps other w there apart empty_handed =
@@ -225,6 +271,10 @@ module _ {V : Type 0} (k : Layout) (callers : ℕ) (log : List (Entry V)) (s : C
       record {
         contents = law.contents;
         places = places_keep (2 ^ k.s) s1 law.contents (places_keep (2 ^ k.s) s law.contents law.places id v at both refl) other w there1 spent (sym empty_handed);
+        holders = each_set IsHolder (set s.views id both) other spent (λ q d h. absurd h)
+            (λ j u _ a. each_set IsHolder s.views id both (λ q d h. law.holders id v at q d h) (λ j u _ a. law.holders j u a) j u a);
+        all_seen = each_set (HasSeen log) (set s.views id both) other spent (λ all. absurd (not_all [] refl all))
+            (λ j u _ a. each_set (HasSeen log) s.views id both (λ all. law.all_seen id v at all) (λ j u _ a. law.all_seen j u a) j u a);
         lawful = law.lawful;
         told = each_set (Told law.contents) (set s.views id both) other spent (λ t l. (zero-le, zero-le))
             (λ j u _ a. each_set (Told law.contents) s.views id both (λ t l. ((law.told id v at t l).0, (law.told other w there t l).0)) (λ j u _ a. law.told j u a) j u a);
@@ -246,8 +296,8 @@ module _ {V : Type 0} (k : Layout) (callers : ℕ) (log : List (Entry V)) (s : C
 module _ {V : Type 0} (k : Layout) (min_load callers : ℕ) where
   -- a step of any kind
   pub step_keeps : (log : List (Entry V)) (id : ℕ) (m : Label V) (s s2 : Configuration V) → HistoryInvariant k callers log s → Transition k min_load log id m s s2 → HistoryInvariant k callers (grown log m) s2
-  step_keeps log id (Take t) s s2 law d = subst (HistoryInvariant k callers log) (sym d.7) (take_keeps k callers log s law id d.0 d.2 t d.1 d.3 d.4 d.6)
-  step_keeps log id (FindHeld t) s s2 law d = subst (HistoryInvariant k callers log) (sym d.5) (find_keeps k callers log s law id d.0 d.1 t)
+  step_keeps log id (Take t) s s2 law d = subst (HistoryInvariant k callers log) (sym d.8) (take_keeps k callers log s law id d.0 d.2 t d.1 d.3 d.4 d.6 d.7)
+  step_keeps log id (FindHeld t) s s2 law d = subst (HistoryInvariant k callers log) (sym d.6) (find_keeps k callers log s law id d.0 d.1 t)
   step_keeps log id (Give t g) s s2 law d = subst (HistoryInvariant k callers log) (sym d.5) (give_keeps k callers log s law id d.0 d.2 t d.1 g d.3)
   step_keeps log id (Decide t ks e) s s2 law d = subst (HistoryInvariant k callers (log ++ e ∷ [])) (sym d.6) (decide_keeps k callers log s law id d.0 d.2 ks t d.1 d.4 e d.3 d.5)
   step_keeps log id (GiveRest t) s s2 law d = subst (HistoryInvariant k callers log) (sym d.4) (give_keeps k callers log s law id d.0 d.2 t d.1 None d.3)

@@ -97,13 +97,13 @@ meeting_runs = (
   (_, 1, [], refl, refl, refl),
   (
     _,
-    (_, empty_stripe, refl, omega arith, refl, none_above 0, refl, refl),
+    (_, empty_stripe, refl, omega arith, refl, none_above 0, refl, (0, refl), refl),
     (
       _,
       (_, empty_stripe, refl, inl (refl, refl), unchanged, tt, refl),
       (
         _,
-        (_, empty_stripe, refl, omega arith, refl, none_above 1, refl, refl),
+        (_, empty_stripe, refl, omega arith, refl, none_above 1, refl, (0, refl), refl),
         (
           _,
           (_, empty_stripe, refl, inl (refl, refl), tt, refl),

@@ -8,7 +8,8 @@ use Rattle.ck_core.specs.declared.view.View.{View}
 use Rattle.ck_model.specs.Numbered.{IsIn, AreDistinct, numbers, Holds}
 use Rattle.ck_model.specs.declared.contents.Content.{Content}
 use Rattle.ck_model.specs.Contents.{Layout}
-use Rattle.ck_core.specs.State.{Configuration, owned, Knows, HistoryInvariant}
+use Rattle.ck_model.specs.Sections.{HasAll}
+use Rattle.ck_core.specs.State.{Configuration, HasNumber, owned, Knows, HistoryInvariant}
 use Rattle.ck_core.specs.Steps.{Label, Execution, initial_view, Opening}
 use Rattle.ck_core.proofs.Keeps.{run_keeps}
 
@@ -42,6 +43,8 @@ module _ {V : Type 0} (k : Layout) (set : Settings) (callers p : ℕ) (s : Confi
       holds = each_new (λ j v. (t : ℕ) (c : Content V) → Holds v.held t c → (t < 2 ^ k.s) × (get_or s.words t 0 ≡ 1) × (0 ≡ j) × (o.contents t ≡ c)) (λ j ms _ _ t c h. absurd h);
       distinct = each_new (λ _ v. AreDistinct (numbers v.held)) (λ j ms _ _. tt);
     };
+    holders = each_new (λ _ v. (t : ℕ) (c : Content V) → Holds v.held t c → HasNumber v) (λ j ms _ _ t c h. (j, refl));
+    all_seen = each_new (λ _ v. HasAll k v.held → v.seen ≡ []) (λ j ms _ _ _. refl);
     lawful = o.lawful;
     told = each_new (λ _ v. (t : ℕ) → t < 2 ^ k.s → (v.told ≤ (o.contents t).power) × (v.heard_told ≤ (o.contents t).power)) (λ j ms _ _ t l. (le_of_eq (sym (o.power t l)), zero-le));
     callers_known = record {

@@ -1,5 +1,6 @@
 -- What a caller's own view shows.
-use Rattle.std.proofs.Common.{◌≡◌, ℕ, ◌^◌, ◌<◌, ◌≤◌, List, [], ◌∷◌, ◌++◌, length, length-append, sym, refl, ap, ◌∙◌, subst, arith, lt_of_not-le, Some}
+use Rattle.std.proofs.Common.{◌≡◌, ℕ, ◌^◌, ◌<◌, ◌≤◌, List, [], ◌∷◌, ◌++◌, append-nil, length, length-append, sym, refl, ap, ◌∙◌, subst, arith, lt_of_not-le, Some}
+use Rattle.std.proofs.Math.Nat.{one-le-pow}
 use mathlib.Core.Option.{some}
 use mathlib.Core.Logic.{dite}
 use native.Mathlib.Decide.{dec_le}
@@ -10,7 +11,7 @@ use Rattle.ck_model.specs.Numbered.{IsIn, numbers, Holds}
 use Rattle.ck_model.specs.History.{After, subhistory}
 use Rattle.ck_model.specs.Contents.{Layout, bindings, whole}
 use Rattle.ck_model.specs.Sections.{HasAll}
-use Rattle.ck_model.proofs.Numbered.{held_of_in, listed_as}
+use Rattle.ck_model.proofs.Numbered.{if_same, in_held, held_of_in, listed_as}
 use Rattle.ck_model.proofs.Names.{maps_alike}
 use Rattle.ck_model.proofs.Belongs.{stripe_below}
 use Rattle.ck_model.proofs.Sections.{owned_binding}
@@ -24,6 +25,15 @@ use Rattle.ck_core.proofs.Callers.{own_held}
 no_items : {A : Type 0} (l : List A) → length l ≡ 0 → l ≡ []
 no_items [] e = refl
 no_items (x ∷ xs) e = absurd (omega arith)
+
+no_second : {A : Type 0} (xs ys : List A) → xs ++ ys ≡ [] → ys ≡ []
+no_second [] ys e = e
+no_second (x ∷ xs) ys e = let l = ap length e in absurd (omega arith)
+
+-- a history that has no caller's entries
+no_entries : {V : Type 0} (log : List (Entry V)) → ((n : ℕ) → subhistory n log ≡ []) → log ≡ []
+no_entries [] none = refl
+no_entries (x ∷ xs) none = let l = ap length (sym (if_same x.by x.by (x ∷ subhistory x.by xs) (subhistory x.by xs) refl) ∙ none x.by) in absurd (omega arith)
 
 none_after : {A : Type 0} (xs ys : List A) → xs ≡ xs ++ ys → ys ≡ []
 none_after xs ys e = let l = ap length e in let m = length-append xs ys in no_items ys (omega arith)
@@ -50,14 +60,31 @@ module _ {V : Type 0} (k : Layout) (callers : ℕ) (log : List (Entry V)) (s : C
   beyond : (m : ℕ) → ((m : ℕ) → m < callers → IsIn m (numbers (owned v))) → ¬ (IsIn m (numbers (owned v))) → callers ≤ m
   beyond m all out = dite (dec_le callers m) (λ l. l) (λ no_le. absurd (out (all m (lt_of_not-le no_le))))
 
+  unseen_none : (m : ℕ) → v.by ≡ Some m → (more : List (Entry V)) → log ≡ v.seen ++ more → subhistory m more ≡ []
+  unseen_none m e more is =
+      let kn = law.callers_known.knows j v at in
+      none_after v.mine (subhistory m more)
+      (sym (ap (λ l. l ++ subhistory m more) (sym (kn.own_seen m e)) ∙ (sym (subhistory-append m v.seen more) ∙ (ap (subhistory m) (sym is) ∙ kn.calls m v.mine (own_held v m e)))))
+
+  -- the only caller has seen all
+  all_of_one : (m : ℕ) → v.by ≡ Some m → callers ≡ 1 → v.seen ≡ log
+  all_of_one m e one =
+      let kn = law.callers_known.knows j v at in
+      let more = kn.seen.0 in
+      let low = kn.within m (in_held (owned v) m v.mine (own_held v m e)) in
+      let by_none : (n : ℕ) → subhistory n more ≡ [] = λ n. dite (dec_le callers n)
+      (λ l. no_second (subhistory n v.seen) (subhistory n more) (sym (subhistory-append n v.seen more) ∙ (ap (subhistory n) (sym kn.seen.1) ∙ law.callers_known.no_others n l)))
+      (λ no_le. let l = lt_of_not-le no_le in let same : n ≡ m = omega arith in ap (λ x. subhistory x more) same ∙ unseen_none m e more kn.seen.1) in
+      sym (kn.seen.1 ∙ (ap (λ l. v.seen ++ l) (no_entries more by_none) ∙ append-nil v.seen))
+
   pub shows : Shows k callers log v
   shows = let kn = law.callers_known.knows j v at in record {
     seen = kn.seen;
     heard = kn.heard;
     legal = (bindings (whole k law.contents), law.legal);
     own = λ m e. kn.calls m v.mine (own_held v m e);
-    unseen = λ m e more is. none_after v.mine (subhistory m more)
-        (sym (ap (λ l. l ++ subhistory m more) (sym (kn.own_seen m e)) ∙ (sym (subhistory-append m v.seen more) ∙ (ap (subhistory m) (sym is) ∙ kn.calls m v.mine (own_held v m e)))));
+    unseen = unseen_none;
+    alone = all_of_one;
     lawful = record {
       distinct = law.places.distinct j v at;
       sound = λ t c h. law.lawful.sound t c (there t c h);
@@ -66,6 +93,14 @@ module _ {V : Type 0} (k : Layout) (callers : ℕ) (log : List (Entry V)) (s : C
     };
     inside = λ t i. let c = held_of_in v.held t i in (agrees k callers log s law j v at t c.0 c.1).0;
     told = λ t c h. let a = agrees k callers log s law j v at t c h in subst (λ (x : Content V). (v.told ≤ x.power) × (v.heard_told ≤ x.power)) a.1 (law.told j v at t a.0);
+    most = (
+      let one : 1 ≤ 2 ^ k.s = one-le-pow k.s 2 (omega arith) in
+      let first : 0 < 2 ^ k.s = omega arith in
+      let told = (law.told j v at 0 first).0 in
+      let within = (law.lawful.sound 0 (law.contents 0) (listed_as (2 ^ k.s) law.contents 0 (law.contents 0) first refl)).most in
+      omega arith
+    );
+    all_seen = law.all_seen j v at;
     all_held = λ all. subst (After log) (whole_held all) law.legal;
     all_kept = λ all. record {
       each = kn.calls;

@@ -17,10 +17,11 @@ use Rattle.ck_model.specs.Arithmetic.{index_of, second_of, alternate_of, partial
 use Rattle.ck_model.specs.Contents.{Stripes, bindings, IsStripeOf}
 use Rattle.ck_model.specs.Sections.{Owns, Section, IdentitySection}
 use Rattle.ck_core.specs.declared.view.View.{View}
-use Rattle.ck_core.specs.Steps.{IsAbove, IsExcused, HasGrounds}
-use Rattle.ck_core.specs.Steps.Label.{Take, FindHeld, Give, Decide, GiveRest, Renew, Look, Open, Join}
-use Rattle.ck_core.specs.Example.{two_stripes, settings, zero_name, insertion, look_up, empty_stripe, full_stripe, both, start, one_held, decided, both_held}
-use Rattle.ck_core.specs.Refusals.{IsForbidden}
+use Rattle.ck_core.specs.State.{HasNumber}
+use Rattle.ck_core.specs.Steps.{IsAbove, IsExcused, HasGrounds, message_of}
+use Rattle.ck_core.specs.Steps.Label.{Take, FindHeld, Give, Decide, GiveRest, Renew, Look, Open, Tell, Join}
+use Rattle.ck_core.specs.Example.{two_stripes, settings, zero_name, insertion, look_up, empty_stripe, full_stripe, both, first, start, one_held, decided, both_held}
+use Rattle.ck_core.specs.Refusals.{Reaches, IsForbidden, one_told, told_and_held}
 use Rattle.ck_core.proofs.ExampleRun.{empty_at, full_at}
 
 -- the view that a step speaks of is the caller's
@@ -38,6 +39,22 @@ take_held min_load s2 d = let one : ◌≡◌ {A = ℕ} 1 0 = d.4 in omega arith
 
 pub find_own : IsForbidden [] one_held 0 (FindHeld 0)
 find_own min_load s2 d = let same = the_view one_held.views 0 _ d.0 refl d.1 in subst (λ (v : View ℕ). ¬ (IsIn 0 (numbers v.held))) same d.4 (inl refl)
+
+pub to_one_told : Reaches ((0, Tell) ∷ []) [] one_told
+to_one_told = (_, (first, refl, refl), (refl, refl))
+
+pub to_told_and_held : Reaches ((0, Tell) ∷ (0, Take 0) ∷ []) [] told_and_held
+to_told_and_held = (_, (first, refl, refl), (_, (first, empty_stripe, refl, omega arith, refl, (λ u h. absurd h), refl, (0, refl), refl), (refl, refl)))
+
+-- what was told has no number
+nameless : (v : View ℕ) → v ≡ message_of first → ¬ (HasNumber v)
+nameless v e m = none-some m.0 (sym (ap (λ (u : View ℕ). u.by) e) ∙ m.1)
+
+pub take_by_nobody : IsForbidden [] one_told 2 (Take 0)
+take_by_nobody min_load s2 d = nameless d.0 (the_view one_told.views 2 _ d.0 refl d.2) d.7
+
+pub find_by_nobody : IsForbidden [] told_and_held 2 (FindHeld 0)
+find_by_nobody min_load s2 d = nameless d.0 (the_view told_and_held.views 2 _ d.0 refl d.1) d.5
 
 pub give_not_held : (g : Option (Name × Reason)) → IsForbidden (insertion ∷ []) decided 0 (Give 0 g)
 give_not_held g min_load s2 d =

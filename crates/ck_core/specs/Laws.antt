@@ -1,5 +1,5 @@
 -- What is proved of the core.
-use Rattle.std.specs.Prelude.{◌≡◌, ℕ, ◌^◌, ◌<◌, ◌≤◌, List, [], ◌∷◌, ◌++◌, Some}
+use Rattle.std.specs.Prelude.{◌≡◌, ◌≢◌, ◌⊎◌, ℕ, ◌^◌, ◌<◌, ◌≤◌, List, [], ◌∷◌, ◌++◌, Some}
 use mathlib.Core.Option.{some}
 use lib.ListN.{get_elem?}
 use Rattle.ck_model.specs.declared.history.Entry.{Entry}
@@ -47,12 +47,17 @@ module _ {V : Type 0} where
     pub own : (m : ℕ) → v.by ≡ Some m → subhistory m log ≡ v.mine
     -- what the caller hasn't seen is by others
     pub unseen : (m : ℕ) → v.by ≡ Some m → (more : List (Entry V)) → log ≡ v.seen ++ more → subhistory m more ≡ []
+    -- the only caller has seen all
+    pub alone : (m : ℕ) → v.by ≡ Some m → callers ≡ 1 → v.seen ≡ log
     pub lawful : Lawful k v.held
     pub inside : (t : ℕ) → IsIn t (numbers v.held) → t < 2 ^ k.s
     -- it was told no power above that of a stripe that it holds
     pub told : (t : ℕ) (c : Content V) → Holds v.held t c → (v.told ≤ c.power) × (v.heard_told ≤ c.power)
-    -- all stripes are held: they contain what the history leaves
+    -- it was told a power that the table may have
+    pub most : v.told ≤ k.max
+    -- all stripes are held: they contain what the history leaves, all of which was seen
     pub all_held : HasAll k v.held → After log (bindings v.held)
+    pub all_seen : HasAll k v.held → v.seen ≡ log
     -- all numbers are kept: the history is an interleaving of their entries
     pub all_kept : ((m : ℕ) → m < callers → IsIn m (numbers (owned v))) → IsInterleaving log (owned v)
 
@@ -63,6 +68,19 @@ module _ {V : Type 0} where
     pub by_others : subhistory e.by others ≡ []
     pub legal : IsLegal w.seen
     pub mine : w.mine ≡ v.mine ++ e ∷ []
+
+  -- The entry follows what was seen, with none of others between.
+  abbrev pub Follows : View V → Entry V → View V → Type 0
+  Follows v e w = w.seen ≡ v.seen ++ e ∷ []
+
+  -- The caller finds a stripe held: another holds it, of another number.
+  pub record IsHeldByAnother (callers : ℕ) (s : Configuration V) (t : ℕ) (v : View V) : Type 0 where
+    pub own : ℕ
+    pub other : ℕ
+    pub own_number : v.by ≡ Some own
+    pub holder : (j : ℕ) × (w : View V) × (get_elem? s.views j ≡ some w) × IsIn t (numbers w.held) × (w.by ≡ Some other)
+    pub apart : own ≢ other
+    pub within : (own < callers) × (other < callers)
 
   -- A call that leaves no entry.
   pub record Unanswered (v w : View V) : Type 0 where
@@ -79,10 +97,24 @@ module _ (V : Type 0) where
   LawOfReplies = (k : Layout) (min_load callers id t : ℕ) (ks : Stripes V) (e : Entry V) (log : List (Entry V)) (s s2 : Configuration V) → HistoryInvariant k callers log s → Transition k min_load log id (Decide t ks e) s s2
       → (m : Map V) × (m2 : Map V) × After log m × Step m e.call e.reply m2 × After (log ++ e ∷ []) m2
 
+  -- under the invariant a stripe that is found held is held by another caller
+  abbrev pub LawOfFindings : Type 0
+  LawOfFindings = (k : Layout) (min_load callers id t : ℕ) (log : List (Entry V)) (s s2 : Configuration V) (v : View V) → HistoryInvariant k callers log s → Transition k min_load log id (FindHeld t) s s2
+      → get_elem? s.views id ≡ some v → IsHeldByAnother callers s t v
+
+  -- so that with one caller none is
+  abbrev pub LawOfOneCaller : Type 0
+  LawOfOneCaller = (k : Layout) (min_load id t : ℕ) (log : List (Entry V)) (s s2 : Configuration V) → HistoryInvariant k 1 log s → ¬ (Transition k min_load log id (FindHeld t) s s2)
+
   -- under the invariant a step that decides leaves its caller with an answered call
   abbrev pub LawOfAnswers : Type 0
   LawOfAnswers = (k : Layout) (min_load callers id t : ℕ) (ks : Stripes V) (e : Entry V) (log : List (Entry V)) (s s2 : Configuration V) (v w : View V) → HistoryInvariant k callers log s → Transition k min_load log id (Decide t ks e) s s2
       → get_elem? s.views id ≡ some v → get_elem? s2.views id ≡ some w → Answered v e w
+
+  -- which follows what its caller had seen where that is the only caller, or has held all stripes
+  abbrev pub LawOfFollowing : Type 0
+  LawOfFollowing = (k : Layout) (min_load callers id t : ℕ) (ks : Stripes V) (e : Entry V) (log : List (Entry V)) (s s2 : Configuration V) (v w : View V) → HistoryInvariant k callers log s → Transition k min_load log id (Decide t ks e) s s2
+      → get_elem? s.views id ≡ some v → get_elem? s2.views id ≡ some w → (callers ≡ 1) ⊎ HasAll k v.held → Follows v e w
 
   -- and each other step leaves its caller with no entry more
   abbrev pub LawOfOtherSteps : Type 0

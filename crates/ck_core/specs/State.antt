@@ -7,6 +7,7 @@ use Rattle.ck_model.specs.Numbered.{IsIn, AreDistinct, numbers, Holds}
 use Rattle.ck_model.specs.History.{After, StartsWith, subhistory}
 use Rattle.ck_model.specs.declared.contents.Content.{Content}
 use Rattle.ck_model.specs.Contents.{Layout, bindings, Lawful, whole}
+use Rattle.ck_model.specs.Sections.{HasAll}
 use Rattle.ck_core.specs.declared.view.View.{View}
 
 -- The words of the stripes, what lies in their places, and the views. A place is empty while its stripe is held.
@@ -24,6 +25,10 @@ module _ {V : Type 0} where
   -- the view's own number and those that it keeps for others, each with its entries
   abbrev pub owned : View V → List (ℕ × List (Entry V))
   owned v = own v.by v.mine ++ v.others
+
+  -- the view is a caller's
+  abbrev pub HasNumber : View V → Type 0
+  HasNumber v = (m : ℕ) × (v.by ≡ Some m)
 
   -- what the stripe t contains: at home, or in its holder's view
   abbrev pub IsPart : Configuration V → ℕ → Content V → Type 0
@@ -57,10 +62,12 @@ module _ {V : Type 0} where
     pub knows : (j : ℕ) (v : View V) → get_elem? views j ≡ some v → Knows callers log v
     pub no_others : (m : ℕ) → callers ≤ m → subhistory m log ≡ []
 
-  -- The history invariant: each stripe is in its place or with one holder, the whole is lawful, no view was told a power above the table's, each view knows a beginning of the history, and the history is legal and leads to the bindings of the whole.
+  -- The history invariant: each stripe is in its place or with one holder, a caller, who has seen the whole history where it holds all; the whole is lawful, no view was told a power above the table's, each view knows a beginning of the history, and the history is legal and leads to the bindings of the whole.
   pub record HistoryInvariant (k : Layout) (callers : ℕ) (log : List (Entry V)) (s : Configuration V) : Type 0 where
     pub contents : ℕ → Content V
     pub places : Places (2 ^ k.s) s contents
+    pub holders : (j : ℕ) (v : View V) → get_elem? s.views j ≡ some v → (t : ℕ) (c : Content V) → Holds v.held t c → HasNumber v
+    pub all_seen : (j : ℕ) (v : View V) → get_elem? s.views j ≡ some v → HasAll k v.held → v.seen ≡ log
     pub lawful : Lawful k (whole k contents)
     pub told : (j : ℕ) (v : View V) → get_elem? s.views j ≡ some v → (t : ℕ) → t < 2 ^ k.s → (v.told ≤ (contents t).power) × (v.heard_told ≤ (contents t).power)
     pub callers_known : Callers callers log s.views

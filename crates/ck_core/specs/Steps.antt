@@ -14,13 +14,13 @@ use Rattle.ck_model.specs.Contents.{Layout, Stripes, bindings, Lawful, whole}
 use Rattle.ck_model.specs.Sections.{Owns, Section, IdentitySection}
 use Rattle.ck_model.specs.Paths.{HasNoRoom, Grounds}
 use Rattle.ck_core.specs.declared.view.View.{View}
-use Rattle.ck_core.specs.State.{Configuration, IsPart, owned}
+use Rattle.ck_core.specs.State.{Configuration, HasNumber, IsPart, owned}
 
 -- One atomic operation on the word of a stripe.
 pub data Label (V : Type 0) : Type 0 where
-  -- a swap(1) that brings back 0
+  -- a swap(1) that brings back 0, by a caller
   Take : (t : ℕ) → Label V
-  -- a swap(1) that brings back 1
+  -- a swap(1) that brings back 1, by a caller
   FindHeld : (t : ℕ) → Label V
   -- a store(0) by which the content goes home unchanged; noroom may rise
   Give : (t : ℕ) → Option (Name × Reason) → Label V
@@ -108,8 +108,8 @@ module _ {V : Type 0} where
   -- With this history, the caller of the view `id` may go by this step from s to s2.
   abbrev pub Transition : Layout → ℕ → List (Entry V) → ℕ → Label V → Configuration V → Configuration V → Type 0
   Transition k min_load log id (Take t) s s2 = (v : View V) × (c : Content V) × (get_elem? s.views id ≡ some v) × (t < 2 ^ k.s) × (slice_index s.words t ≡ 0) × IsAbove t (numbers v.held)
-      × (get_elem? s.homes t ≡ some (Some c)) × (s2 ≡ taken s id v t c log)
-  Transition k min_load log id (FindHeld t) s s2 = (v : View V) × (get_elem? s.views id ≡ some v) × (t < 2 ^ k.s) × (slice_index s.words t ≡ 1) × ¬ (IsIn t (numbers v.held))
+      × (get_elem? s.homes t ≡ some (Some c)) × HasNumber v × (s2 ≡ taken s id v t c log)
+  Transition k min_load log id (FindHeld t) s s2 = (v : View V) × (get_elem? s.views id ≡ some v) × (t < 2 ^ k.s) × (slice_index s.words t ≡ 1) × ¬ (IsIn t (numbers v.held)) × HasNumber v
       × (s2 ≡ seen_as s id (record v { found = t ∷ v.found }))
   Transition k min_load log id (Give t g) s s2 = (v : View V) × (c : Content V) × (get_elem? s.views id ≡ some v) × Holds v.held t c × IsExcused k min_load v.held g
       × (s2 ≡ sent_home s id t c (giving v t c v.held g))

@@ -5,7 +5,7 @@ ghost use Rattle.ck_model.specs.declared.history.Reason.{Reason};
 ghost use Rattle.ck_model.specs.Map.{Name};
 ghost use Rattle.ck_model.specs.Contents.{Stripes};
 ghost use Rattle.ck_core.specs.Steps.Label.{Take, FindHeld, Give, Decide, GiveRest, Renew, Look, Open, Tell, Join};
-ghost use Rattle.ck_core.specs.Laws.{LawOfRuns, Keeps, LawOfViews, LawOfReplies, LawOfAnswers, LawOfOtherSteps};
+ghost use Rattle.ck_core.specs.Laws.{LawOfRuns, Keeps, LawOfViews, LawOfReplies, LawOfFindings, LawOfOneCaller, LawOfAnswers, LawOfFollowing, LawOfOtherSteps};
 ghost use Rattle.ck_core.specs.Sums.{LawOfSums};
 
 /// A step by which a caller takes a stripe that is at home keeps the invariant.
@@ -13,9 +13,12 @@ pub fn law_of_take<V>()
     ensures { (t : ℕ) → Keeps {V = V} (Take t) }
 {}
 
-/// A step by which a caller finds a stripe held keeps the invariant.
+/// A step by which a caller finds a stripe held keeps the invariant. Another caller holds the
+/// stripe, so that with one caller there is no such step.
 pub fn law_of_find_held<V>()
-    ensures { (t : ℕ) → Keeps {V = V} (FindHeld t) }
+    ensures kept { (t : ℕ) → Keeps {V = V} (FindHeld t) }
+    ensures another { LawOfFindings V }
+    ensures alone { LawOfOneCaller V }
 {}
 
 /// A step by which a caller gives back a stripe unchanged keeps the invariant, whatever it says of
@@ -65,18 +68,19 @@ pub fn law_of_runs<V>()
 /// What each view shows while the invariant holds: what was seen and heard are beginnings of one
 /// legal history, which has of its caller just the entries that are its own, all of them seen. The
 /// held stripes are lawful, their power is no less than what was told and heard, and where they are
-/// all stripes, the history leads to what they contain. Where a view keeps the numbers of all
-/// callers, the history is an interleaving of their entries.
+/// all stripes, the history leads to what they contain, and all of it was seen. Where a view keeps
+/// the numbers of all callers, the history is an interleaving of their entries.
 pub fn law_of_views<V>()
     ensures { LawOfViews V }
 {}
 
 /// A step that decides a call leaves its caller with it answered: to what the caller had seen come
 /// some entries of others and then the call's own, all of that is legal, and the caller has this
-/// entry more. Every other step leaves its caller with the entries that it had, and with no less of
-/// the history seen.
+/// entry more. There are none of others where it is the only caller, or held all stripes. Every
+/// other step leaves its caller with the entries that it had, and with no less of the history seen.
 pub fn law_of_answers<V>()
     ensures decided { LawOfAnswers V }
+    ensures follows { LawOfFollowing V }
     ensures other { LawOfOtherSteps V }
 {}
 

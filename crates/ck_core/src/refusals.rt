@@ -9,13 +9,14 @@ ghost use Rattle.ck_model.specs.declared.settings.Settings.{Settings};
 ghost use Rattle.ck_model.specs.Map.{Name};
 ghost use Rattle.ck_model.specs.Contents.{Stripes};
 ghost use Rattle.ck_core.specs.Steps.{Opening};
-ghost use Rattle.ck_core.specs.Steps.Label.{Take, FindHeld, Give, Decide, GiveRest, Renew, Look, Open, Join};
+ghost use Rattle.ck_core.specs.Steps.Label.{Take, FindHeld, Give, Decide, GiveRest, Renew, Look, Open, Tell, Join};
 ghost use Rattle.ck_core.specs.Example.{two_stripes, settings, zero_name, insertion, look_up, empty_stripe, full_stripe, both, first, start, one_held, decided, both_held, alone, steps};
-ghost use Rattle.ck_core.specs.Refusals.{Reaches, IsForbidden, LeavesHome, LeavesView, one_number, one_kept};
+ghost use Rattle.ck_core.specs.Refusals.{Reaches, IsForbidden, LeavesHome, LeavesView, one_told, told_and_held, one_number, one_kept};
 
 /// From the states of the example run after its first, fourth and eighth step, and from the
 /// opening, these steps aren't allowed: to take a stripe below a held one, or one that another
-/// caller holds; to find one's own stripe held; to give back a stripe that isn't held; to decide
+/// caller holds; to find one's own stripe held; to take a stripe, or find it held, by what another
+/// caller told; to give back a stripe that isn't held; to decide
 /// with a wrong reply, without all stripes of the name, for another caller, or for a number that no
 /// caller can have; to renew to contents that lack an entry; to say of a bound name that it found
 /// no room, by giving back or by renewing; to be told of a power above the table's; to begin a
@@ -34,6 +35,10 @@ pub fn wrong_steps()
     ensures take_below { IsForbidden (insertion ∷ []) decided 0 (Take 0) }
     ensures take_held { IsForbidden [] one_held 1 (Take 0) }
     ensures find_own { IsForbidden [] one_held 0 (FindHeld 0) }
+    ensures one_told_is_reached { Reaches ((0, Tell) ∷ []) [] one_told }
+    ensures told_and_held_is_reached { Reaches ((0, Tell) ∷ (0, Take 0) ∷ []) [] told_and_held }
+    ensures take_by_nobody { IsForbidden [] one_told 2 (Take 0) }
+    ensures find_by_nobody { IsForbidden [] told_and_held 2 (FindHeld 0) }
     ensures give_not_held { (g : Option (Name × Reason))
         → IsForbidden (insertion ∷ []) decided 0 (Give 0 g) }
     ensures give_of_another { IsForbidden [] one_held 1 (GiveRest 0) }

@@ -16,14 +16,14 @@ use Rattle.ck_format.specs.Text.{Pairs}
 use Rattle.ck_script.specs.Answered.{IsListOf, IsLeft, IsAnsweredBy}
 
 -- the entry of a session that changed nothing is that of a list, or of one that found no memory
-left_by_list : (by : ℕ) (a : Answer Pairs) (start now : Map ℕ) → now ≡ start → IsListOf (entries now) a
-    → IsLeft command.List a (record { by = by; call = Session (entries start) (entries now); reply = Closed })
-left_by_list by a start now same list =
+left_by_list : (n by : ℕ) (a : Answer Pairs) (start now : Map ℕ) → now ≡ start → IsListOf (entries now) a
+    → IsLeft n command.List a (record { by = by; call = Session (entries start) (entries now); reply = Closed })
+left_by_list n by a start now same list =
     let pairs = entries now in
     let idle = ap (λ (m : Map ℕ). Session (entries m) pairs) (sym same) in
     elim list [
-      | inl is ↦ subst (λ (a : Answer Pairs). IsLeft command.List a (record { by = by; call = Session (entries start) pairs; reply = Closed })) (sym is) (inl ((pairs, idle), (idle, refl)))
-      | inr is ↦ subst (λ (a : Answer Pairs). IsLeft command.List a (record { by = by; call = Session (entries start) pairs; reply = Closed })) (sym is) (inr (tt, record { pairs = pairs; call = idle; reply = refl }))
+      | inl is ↦ subst (λ (a : Answer Pairs). IsLeft n command.List a (record { by = by; call = Session (entries start) pairs; reply = Closed })) (sym is) (inl ((pairs, idle), (idle, refl)))
+      | inr is ↦ subst (λ (a : Answer Pairs). IsLeft n command.List a (record { by = by; call = Session (entries start) pairs; reply = Closed })) (sym is) (inr (tt, record { pairs = pairs; call = idle; reply = refl }))
     ]
 
 -- locked and unlocked, the table is left to the same caller
@@ -39,7 +39,7 @@ listed c back l p a locked list answered table pass =
           inr (
             entry,
             Some-injective answered.by by (sym answered.caller ∙ locked.stays.by ∙ is),
-            left_by_list answered.by a (start_of l) (map_of l) locked.same list,
+            left_by_list c.table.settings.callers answered.by a (start_of l) (map_of l) locked.same list,
             mine ∙ ap (λ (es : List (Entry ℕ)). es ++ entry ∷ []) locked.stays.mine,
           );
     }

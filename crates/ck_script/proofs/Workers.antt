@@ -8,6 +8,7 @@ use Rattle.std.specs.Global.{Vec}
 use Rattle.std.specs.List.{AllZip, zip, slice_index_or}
 use Rattle.std.specs.FinMap.{entries}
 use Rattle.std.specs.declared.cmp.Ordering.{Ordering}
+use Rattle.std.proofs.lemmas.List.{length-map}
 use Rattle.std.proofs.lemmas.List.Elements.{All-append}
 use Rattle.std.proofs.lemmas.Slice.Zip.{all_zipped_more, length-zip, get_or-zip}
 use Rattle.ck_model.specs.declared.history.Entry.{Entry}
@@ -36,36 +37,36 @@ use Rattle.ck_script.specs.Jobs.{IsNew, IsJob, HasWorked, IsTextAtEnd, answers_o
 use Rattle.ck_script.proofs.Idle.{Drops, DropsEach, kept_interleaving}
 
 -- the same of each worker, of which the first has the number by
-abbrev pub HaveParts : ℕ → List (List (Command Name)) → List (List (Answer Pairs)) → List (ℕ × List (Entry ℕ)) → Type 0
-HaveParts by [] [] parts = parts ≡ []
-HaveParts by (cs ∷ workers) (answers ∷ more) (part ∷ parts) = (part.0 ≡ by) × HaveLeft by cs answers part.1 × HaveParts (by + 1) workers more parts
-HaveParts by workers answers parts = ⊥
+abbrev pub HaveParts : (n by : ℕ) → List (List (Command Name)) → List (List (Answer Pairs)) → List (ℕ × List (Entry ℕ)) → Type 0
+HaveParts n by [] [] parts = parts ≡ []
+HaveParts n by (cs ∷ workers) (answers ∷ more) (part ∷ parts) = (part.0 ≡ by) × HaveLeft n by cs answers part.1 × HaveParts n (by + 1) workers more parts
+HaveParts n by workers answers parts = ⊥
 
 -- the entries of a caller without those of refused lists
-strictly : (by : ℕ) (cs : List (Command Name)) (answers : List (Answer Pairs)) (es : List (Entry ℕ)) → HaveLeft by cs answers es → (kept : List (Entry ℕ)) × AreEntriesOf by cs answers kept × Drops es kept
-strictly by [] [] es h = ([], refl, subst (λ (l : List (Entry ℕ)). Drops l []) (sym h) refl)
-strictly by [] (a ∷ answers) es h = absurd h
-strictly by (c ∷ cs) [] es h = absurd h
-strictly by (c ∷ cs) (a ∷ answers) es h =
+strictly : (n by : ℕ) (cs : List (Command Name)) (answers : List (Answer Pairs)) (es : List (Entry ℕ)) → HaveLeft n by cs answers es → (kept : List (Entry ℕ)) × AreEntriesOf n by cs answers kept × Drops es kept
+strictly n by [] [] es h = ([], refl, subst (λ (l : List (Entry ℕ)). Drops l []) (sym h) refl)
+strictly n by [] (a ∷ answers) es h = absurd h
+strictly n by (c ∷ cs) [] es h = absurd h
+strictly n by (c ∷ cs) (a ∷ answers) es h =
     elim h [
-      | inl h ↦ let rest = strictly by cs answers es h.1 in (rest.0, inl (h.0, rest.1), rest.2)
+      | inl h ↦ let rest = strictly n by cs answers es h.1 in (rest.0, inl (h.0, rest.1), rest.2)
       | inr h ↦
-          let rest = strictly by cs answers h.1 h.5 in
+          let rest = strictly n by cs answers h.1 h.5 in
           elim h.4 [
             | inl entry ↦ (h.0 ∷ rest.0, inr (h.0, rest.0, refl, h.3, entry, rest.1), subst (λ (l : List (Entry ℕ)). Drops l (h.0 ∷ rest.0)) (sym h.2) (inl (rest.0, refl, rest.2)))
             | inr idle ↦ (rest.0, inl (idle.0, rest.1), subst (λ (l : List (Entry ℕ)). Drops l rest.0) (sym h.2) (inr (idle.1, rest.2)))
           ]
     ]
 
-all_strictly : (by : ℕ) (workers : List (List (Command Name))) (answers : List (List (Answer Pairs))) (parts : List (ℕ × List (Entry ℕ)))
-    → HaveParts by workers answers parts → (kept : List (ℕ × List (Entry ℕ))) × ArePartsOf by workers answers kept × DropsEach parts kept
-all_strictly by [] [] parts h = ([], refl, subst (λ (l : List (ℕ × List (Entry ℕ))). DropsEach l []) (sym h) tt)
-all_strictly by [] (a ∷ answers) parts h = absurd h
-all_strictly by (cs ∷ workers) [] parts h = absurd h
-all_strictly by (cs ∷ workers) (a ∷ answers) [] h = absurd h
-all_strictly by (cs ∷ workers) (a ∷ answers) (part ∷ parts) h =
-    let first = strictly by cs a part.1 h.1 in
-    let rest = all_strictly (by + 1) workers answers parts h.2 in
+all_strictly : (n by : ℕ) (workers : List (List (Command Name))) (answers : List (List (Answer Pairs))) (parts : List (ℕ × List (Entry ℕ)))
+    → HaveParts n by workers answers parts → (kept : List (ℕ × List (Entry ℕ))) × ArePartsOf n by workers answers kept × DropsEach parts kept
+all_strictly n by [] [] parts h = ([], refl, subst (λ (l : List (ℕ × List (Entry ℕ))). DropsEach l []) (sym h) tt)
+all_strictly n by [] (a ∷ answers) parts h = absurd h
+all_strictly n by (cs ∷ workers) [] parts h = absurd h
+all_strictly n by (cs ∷ workers) (a ∷ answers) [] h = absurd h
+all_strictly n by (cs ∷ workers) (a ∷ answers) (part ∷ parts) h =
+    let first = strictly n by cs a part.1 h.1 in
+    let rest = all_strictly n (by + 1) workers answers parts h.2 in
     ((by, first.0) ∷ rest.0, (refl, first.1, rest.1), (sym h.0, first.2, rest.2))
 
 above : (a n m : ℕ) → IsIn m (counting a n) → a ≤ m
@@ -76,22 +77,22 @@ distinct_counting : (a n : ℕ) → AreDistinct (counting a n)
 distinct_counting a zero = tt
 distinct_counting a (suc n) = ((λ h. let z = above (suc a) n a h in absurd (omega arith)), distinct_counting (suc a) n)
 
-numbers_of_parts : (by : ℕ) (workers : List (List (Command Name))) (answers : List (List (Answer Pairs))) (kept : List (ℕ × List (Entry ℕ)))
-    → ArePartsOf by workers answers kept → numbers kept ≡ counting by (length workers)
-numbers_of_parts by [] [] kept h = ap numbers h
-numbers_of_parts by [] (a ∷ answers) kept h = absurd h
-numbers_of_parts by (cs ∷ workers) [] kept h = absurd h
-numbers_of_parts by (cs ∷ workers) (a ∷ answers) [] h = absurd h
-numbers_of_parts by (cs ∷ workers) (a ∷ answers) (part ∷ kept) h =
-    let rest = numbers_of_parts (by + 1) workers answers kept h.2 ∙ ap (λ n. counting n (length workers)) (add-one by) in
+numbers_of_parts : (n by : ℕ) (workers : List (List (Command Name))) (answers : List (List (Answer Pairs))) (kept : List (ℕ × List (Entry ℕ)))
+    → ArePartsOf n by workers answers kept → numbers kept ≡ counting by (length workers)
+numbers_of_parts n by [] [] kept h = ap numbers h
+numbers_of_parts n by [] (a ∷ answers) kept h = absurd h
+numbers_of_parts n by (cs ∷ workers) [] kept h = absurd h
+numbers_of_parts n by (cs ∷ workers) (a ∷ answers) [] h = absurd h
+numbers_of_parts n by (cs ∷ workers) (a ∷ answers) (part ∷ kept) h =
+    let rest = numbers_of_parts n (by + 1) workers answers kept h.2 ∙ ap (λ m. counting m (length workers)) (add-one by) in
     λ j. h.0 j ∷ rest j
 
 -- the text of the answers and of the pairs is an output
 pub output_of_parts : (said : Said) (answers : List (List (Answer Pairs))) (parts : List (ℕ × List (Entry ℕ))) (log : List (Entry ℕ)) (m : Map ℕ) (out : List ℕ)
-    → HaveParts 0 said.workers answers parts → IsInterleaving log parts → After log m → out ≡ output_text said.keys answers (entries m) → IsOutputOf said out
+    → HaveParts (length said.workers) 0 said.workers answers parts → IsInterleaving log parts → After log m → out ≡ output_text said.keys answers (entries m) → IsOutputOf said out
 output_of_parts said answers parts log m out have interleaving after text =
-    let strict = all_strictly 0 said.workers answers parts have in
-    let distinct = subst AreDistinct (sym (numbers_of_parts 0 said.workers answers strict.0 strict.1)) (distinct_counting 0 (length said.workers)) in
+    let strict = all_strictly (length said.workers) 0 said.workers answers parts have in
+    let distinct = subst AreDistinct (sym (numbers_of_parts (length said.workers) 0 said.workers answers strict.0 strict.1)) (distinct_counting 0 (length said.workers)) in
     let kept = kept_interleaving log m parts strict.0 interleaving after strict.2 distinct in
     record {
       answers = answers;
@@ -125,7 +126,7 @@ module _ {K : Type 0} (name : K → Name) (w : WordsState) (set : Settings) wher
 
   -- what the workers left, by their numbers
   pub done_parts : (a : ℕ) (workers : List (Vec (Command K))) (jobs : List (Job K)) (dones : List (Done K)) → Given a workers jobs → Worked jobs dones
-      → HaveParts a (workers_on_names name workers) (lists_on_names name (answers_of dones)) (parts_of (passes_of dones))
+      → HaveParts w.settings.callers a (workers_on_names name workers) (lists_on_names name (answers_of dones)) (parts_of (passes_of dones))
   done_parts a [] [] [] given worked = refl
   done_parts a [] [] (d ∷ dones) given worked = absurd worked
   done_parts a [] (j ∷ jobs) dones given worked = absurd given
@@ -134,8 +135,8 @@ module _ {K : Type 0} (name : K → Name) (w : WordsState) (set : Settings) wher
   done_parts a (cs ∷ workers) (j ∷ jobs) (d ∷ dones) given worked =
       let by = ap (λ (p : PassState ℕ). p.view.by) given.0.pass in (
         ap (λ (o : Option ℕ). unwrap_or o 0) (worked.0.by ∙ by),
-        subst (λ (c : Vec (Command K)). HaveLeft a (map (on_names name) c.items) (answers_on_names name d.answers.items) d.pass.view.mine) given.0.commands (worked.0.entries a by),
-        subst (λ n. HaveParts n (workers_on_names name workers) (lists_on_names name (answers_of dones)) (parts_of (passes_of dones))) (sym (add-one a)) (done_parts (suc a) workers jobs dones given.1 worked.1),
+        subst (λ (x : WordsState × Vec (Command K)). HaveLeft x.0.settings.callers a (map (on_names name) x.1.items) (answers_on_names name d.answers.items) d.pass.view.mine) (λ i. (given.0.table i, given.0.commands i)) (worked.0.entries a by),
+        subst (λ n. HaveParts w.settings.callers n (workers_on_names name workers) (lists_on_names name (answers_of dones)) (parts_of (passes_of dones))) (sym (add-one a)) (done_parts (suc a) workers jobs dones given.1 worked.1),
       )
 
   done_callers : (a : ℕ) (workers : List (Vec (Command K))) (jobs : List (Job K)) (dones : List (Done K)) → Given a workers jobs → Worked jobs dones → All (IsCaller w) (passes_of dones)
@@ -227,12 +228,15 @@ module _ {K : Type 0} (name : K → Name) (w : WordsState) (set : Settings) wher
 
   -- the text at the end is an output of the work
   pub output_of_run : {E : Type 0} (keys : Keys) (work : Work K) (jobs : List (Job K)) (dones : List (Done K)) (passes : List (PassState ℕ)) (answers : List (Vec (Answer (Vec (K × ℕ))))) (r : Result (Vec ℕ) E)
-      → Given name w set 0 work.workers.items jobs → Worked name w set jobs dones → passes ≡ passes_of dones → answers ≡ answers_of dones
+      → w.settings.callers ≡ length work.workers.items → Given name w set 0 work.workers.items jobs → Worked name w set jobs dones → passes ≡ passes_of dones → answers ≡ answers_of dones
       → IfOk r (λ text. IsTextAtEnd keys passes (lists_on_names name answers) text.items) → IfOk r (λ text. IsOutputOf (said_in keys name work) text.items)
-  output_of_run keys work jobs dones passes answers (Ok text) given worked same_passes same_answers end =
+  output_of_run keys work jobs dones passes answers (Ok text) count given worked same_passes same_answers end =
       let workers = work.workers.items in
-      let have : HaveParts 0 (workers_on_names name workers) (lists_on_names name answers) (parts_of passes) =
-      subst (λ (told : List (Vec (Answer (Vec (K × ℕ))))). HaveParts 0 (workers_on_names name workers) (lists_on_names name told) (parts_of passes)) (sym same_answers)
-      (subst (λ (ps : List (PassState ℕ)). HaveParts 0 (workers_on_names name workers) (lists_on_names name (answers_of dones)) (parts_of ps)) (sym same_passes) (done_parts name w set 0 workers jobs dones given worked)) in
+      let n : ℕ = length (workers_on_names name workers) in
+      let all : w.settings.callers ≡ n = count ∙ sym (length-map (λ (cs : Vec (Command K)). map (on_names name) cs.items) workers) in
+      let have : HaveParts n 0 (workers_on_names name workers) (lists_on_names name answers) (parts_of passes) =
+      subst (λ (told : List (Vec (Answer (Vec (K × ℕ))))). HaveParts n 0 (workers_on_names name workers) (lists_on_names name told) (parts_of passes)) (sym same_answers)
+      (subst (λ (ps : List (PassState ℕ)). HaveParts n 0 (workers_on_names name workers) (lists_on_names name (answers_of dones)) (parts_of ps)) (sym same_passes)
+      (subst (λ m. HaveParts m 0 (workers_on_names name workers) (lists_on_names name (answers_of dones)) (parts_of (passes_of dones))) all (done_parts name w set 0 workers jobs dones given worked))) in
       output_of_parts (said_in keys name work) (lists_on_names name answers) (parts_of passes) end.log end.map text.items have end.interleaving end.legal end.text_is
-  output_of_run keys work jobs dones passes answers (Err e) given worked same_passes same_answers end = tt
+  output_of_run keys work jobs dones passes answers (Err e) count given worked same_passes same_answers end = tt

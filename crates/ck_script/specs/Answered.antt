@@ -1,10 +1,12 @@
 -- What commands leave of their caller, and what the workers of a run are given and hand back. What a run promises stands in `Output`.
-use Rattle.std.specs.Prelude.{◌≡◌, ◌⊎◌, ℕ, List, [], ◌∷◌, ◌++◌, Some}
+use Rattle.std.specs.Prelude.{◌≡◌, ◌≢◌, ◌⊎◌, ℕ, List, [], ◌∷◌, ◌++◌, Some}
 use Rattle.ck_model.specs.declared.history.Call.TheVariants.{Session}
 use Rattle.ck_model.specs.declared.history.Reply.TheVariants.{Closed}
 use Rattle.ck_model.specs.declared.history.Entry.{Entry}
 use Rattle.ck_model.specs.Map.{Name}
 use Rattle.cuckoo_map.specs.Callers.{CallerState, IsSameCaller}
+use Rattle.cuckoo_map.specs.declared.refusal.Why.{Why}
+use Rattle.cuckoo_map.specs.declared.refusal.Why.TheVariants.{Busy}
 use Rattle.ck_format.specs.declared.script.Command.{Command}
 use Rattle.ck_format.specs.declared.answer.Answer.{Answer}
 use Rattle.ck_format.specs.declared.answer.Answer.TheVariants.{Listed, Memory}
@@ -21,25 +23,30 @@ pub record IsIdleSession (e : Entry ℕ) : Type 0 where
 abbrev pub IsListOf : Pairs → Answer Pairs → Type 0
 IsListOf pairs a = (a ≡ Listed pairs) ⊎ (a ≡ Memory)
 
+-- where a call was refused for this reason by a table of n callers, there are others if it was as busy
+abbrev pub HasOthers : ℕ → Why → Type 0
+HasOthers n (Busy t) = n ≢ 1
+HasOthers n why = Unit {0}
+
 -- the entry is that of the command with the answer, or of a session that changed nothing, where the command is refused
-abbrev pub IsLeft : Command Name → Answer Pairs → Entry ℕ → Type 0
-IsLeft c a e = StandsFor c a e.call e.reply ⊎ (IsRefusal c a × IsIdleSession e)
+abbrev pub IsLeft : ℕ → Command Name → Answer Pairs → Entry ℕ → Type 0
+IsLeft n c a e = StandsFor c a e.call e.reply ⊎ (IsRefusal n c a × IsIdleSession e)
 
 -- the command is refused and its caller's entries stay, or they grow by one
-abbrev pub StaysOrGrows : ℕ → Command Name → Answer Pairs → List (Entry ℕ) → List (Entry ℕ) → Type 0
-StaysOrGrows by c a old new =
-    (IsRefusal c a × (new ≡ old))
-    ⊎ ((e : Entry ℕ) × (e.by ≡ by) × IsLeft c a e × (new ≡ old ++ e ∷ []))
+abbrev pub StaysOrGrows : (n by : ℕ) → Command Name → Answer Pairs → List (Entry ℕ) → List (Entry ℕ) → Type 0
+StaysOrGrows n by c a old new =
+    (IsRefusal n c a × (new ≡ old))
+    ⊎ ((e : Entry ℕ) × (e.by ≡ by) × IsLeft n c a e × (new ≡ old ++ e ∷ []))
 
 -- the caller's command was answered by this answer
 pub record IsAnsweredBy (c : Command Name) (a : Answer Pairs) (p q : CallerState ℕ) : Type 0 where
   pub same : IsSameCaller p q
-  pub entries : (by : ℕ) → p.pass.view.by ≡ Some by → StaysOrGrows by c a p.pass.view.mine q.pass.view.mine
+  pub entries : (by : ℕ) → p.pass.view.by ≡ Some by → StaysOrGrows p.table.settings.callers by c a p.pass.view.mine q.pass.view.mine
 
 -- The entries that a caller's commands with their answers left, in order: one or none of a refused command, and one of each other.
-abbrev pub HaveLeft : ℕ → List (Command Name) → List (Answer Pairs) → List (Entry ℕ) → Type 0
-HaveLeft by [] [] es = es ≡ []
-HaveLeft by (c ∷ cs) (a ∷ answers) es =
-    (IsRefusal c a × HaveLeft by cs answers es)
-    ⊎ ((e : Entry ℕ) × (more : List (Entry ℕ)) × (es ≡ e ∷ more) × (e.by ≡ by) × IsLeft c a e × HaveLeft by cs answers more)
-HaveLeft by cs answers es = ⊥
+abbrev pub HaveLeft : (n by : ℕ) → List (Command Name) → List (Answer Pairs) → List (Entry ℕ) → Type 0
+HaveLeft n by [] [] es = es ≡ []
+HaveLeft n by (c ∷ cs) (a ∷ answers) es =
+    (IsRefusal n c a × HaveLeft n by cs answers es)
+    ⊎ ((e : Entry ℕ) × (more : List (Entry ℕ)) × (es ≡ e ∷ more) × (e.by ≡ by) × IsLeft n c a e × HaveLeft n by cs answers more)
+HaveLeft n by cs answers es = ⊥

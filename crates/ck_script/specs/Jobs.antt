@@ -48,7 +48,7 @@ module _ {K : Type 0} (name : K → Name) where
   pub record HasWorked (job : Job K) (done : Done K) : Type 0 where
     pub caller : IsCaller job.caller.table done.pass
     pub by : done.pass.view.by ≡ job.caller.pass.view.by
-    pub entries : (by : ℕ) → job.caller.pass.view.by ≡ Some by → HaveLeft by (map (on_names name) job.commands.items) (answers_on_names name done.answers.items) done.pass.view.mine
+    pub entries : (by : ℕ) → job.caller.pass.view.by ≡ Some by → HaveLeft job.caller.table.settings.callers by (map (on_names name) job.commands.items) (answers_on_names name done.answers.items) done.pass.view.mine
 
 -- The text is that of these answers and of the map after a legal history, which is an interleaving of the entries of the passes.
 pub record IsTextAtEnd (keys : Keys) (passes : List (PassState ℕ)) (answers : List (List (Answer Pairs))) (text : List ℕ) : Type 0 where

@@ -1,5 +1,5 @@
 -- What a run of a script may write.
-use Rattle.std.specs.Prelude.{◌≡◌, ◌⊎◌, ℕ, ◌+◌, ◌-◌, ◌^◌, min, List, [], ◌∷◌, Some, None}
+use Rattle.std.specs.Prelude.{◌≡◌, ◌≢◌, ◌⊎◌, ℕ, ◌+◌, ◌-◌, ◌^◌, min, List, [], ◌∷◌, length, Some, None}
 use Rattle.std.specs.FinMap.{entries}
 use Rattle.ck_model.specs.declared.history.Act.TheVariants as act
 use Rattle.ck_model.specs.declared.history.Call.{Call}
@@ -84,27 +84,32 @@ abbrev pub TakesMemory : Command Name → Type 0
 TakesMemory command.List = Unit {0}
 TakesMemory c = NeedsRoom c
 
--- the answer refuses the command: any may find a stripe busy
-abbrev pub IsRefusal : Command Name → Answer Pairs → Type 0
-IsRefusal c answer.Busy = Unit {0}
-IsRefusal c answer.Memory = TakesMemory c
-IsRefusal c answer.Full = NeedsRoom c
-IsRefusal c answer.Load = NeedsRoom c
-IsRefusal c a = ⊥
+-- a move from a key to itself, which no script that was read has
+abbrev pub MovesNothing : Command Name → Type 0
+MovesNothing (command.Move j k n) = j ≡ k
+MovesNothing c = ⊥
 
--- the entries of a caller's commands with their answers, in order: none of a refused command, and one of each other
-abbrev pub AreEntriesOf : ℕ → List (Command Name) → List (Answer Pairs) → List (Entry ℕ) → Type 0
-AreEntriesOf by [] [] es = es ≡ []
-AreEntriesOf by (c ∷ cs) (a ∷ answers) es =
-    (IsRefusal c a × AreEntriesOf by cs answers es)
-    ⊎ ((e : Entry ℕ) × (more : List (Entry ℕ)) × (es ≡ e ∷ more) × (e.by ≡ by) × StandsFor c a e.call e.reply × AreEntriesOf by cs answers more)
-AreEntriesOf by cs answers es = ⊥
+-- the answer refuses the command of one of n workers: where there are others, any may find a stripe busy
+abbrev pub IsRefusal : ℕ → Command Name → Answer Pairs → Type 0
+IsRefusal n c answer.Busy = (n ≢ 1) ⊎ MovesNothing c
+IsRefusal n c answer.Memory = TakesMemory c
+IsRefusal n c answer.Full = NeedsRoom c
+IsRefusal n c answer.Load = NeedsRoom c
+IsRefusal n c a = ⊥
+
+-- the entries of the commands of one of n workers with their answers, in order: none of a refused command, and one of each other
+abbrev pub AreEntriesOf : (n by : ℕ) → List (Command Name) → List (Answer Pairs) → List (Entry ℕ) → Type 0
+AreEntriesOf n by [] [] es = es ≡ []
+AreEntriesOf n by (c ∷ cs) (a ∷ answers) es =
+    (IsRefusal n c a × AreEntriesOf n by cs answers es)
+    ⊎ ((e : Entry ℕ) × (more : List (Entry ℕ)) × (es ≡ e ∷ more) × (e.by ≡ by) × StandsFor c a e.call e.reply × AreEntriesOf n by cs answers more)
+AreEntriesOf n by cs answers es = ⊥
 
 -- the same of each worker, of which the first has the number by
-abbrev pub ArePartsOf : ℕ → List (List (Command Name)) → List (List (Answer Pairs)) → List (ℕ × List (Entry ℕ)) → Type 0
-ArePartsOf by [] [] parts = parts ≡ []
-ArePartsOf by (cs ∷ workers) (answers ∷ more) (part ∷ parts) = (part.0 ≡ by) × AreEntriesOf by cs answers part.1 × ArePartsOf (by + 1) workers more parts
-ArePartsOf by workers answers parts = ⊥
+abbrev pub ArePartsOf : (n by : ℕ) → List (List (Command Name)) → List (List (Answer Pairs)) → List (ℕ × List (Entry ℕ)) → Type 0
+ArePartsOf n by [] [] parts = parts ≡ []
+ArePartsOf n by (cs ∷ workers) (answers ∷ more) (part ∷ parts) = (part.0 ≡ by) × AreEntriesOf n by cs answers part.1 × ArePartsOf n (by + 1) workers more parts
+ArePartsOf n by workers answers parts = ⊥
 
 -- The entries of the workers' commands have a legal interleaving, and the text is that of the answers and of the map after it.
 pub record IsOutputOf (said : Said) (out : List ℕ) : Type 0 where
@@ -112,7 +117,7 @@ pub record IsOutputOf (said : Said) (out : List ℕ) : Type 0 where
   pub parts : List (ℕ × List (Entry ℕ))
   pub log : List (Entry ℕ)
   pub map : Map ℕ
-  pub entries_of : ArePartsOf 0 said.workers answers parts
+  pub entries_of : ArePartsOf (length said.workers) 0 said.workers answers parts
   pub interleaving : IsInterleaving log parts
   pub legal : After log map
   pub text : out ≡ output_text said.keys answers (entries map)

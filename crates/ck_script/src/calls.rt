@@ -1,12 +1,12 @@
 //! One command on the table.
-ghost use Rattle.std.specs.Prelude.{◌≡◌, ◌-◌, ◌+◌};
+ghost use Rattle.std.specs.Prelude.{◌≡◌, ◌-◌, ◌+◌, ℕ};
 ghost use Rattle.std.specs.FinMap.{entries};
 ghost use Rattle.ck_model.specs.Map.{Name};
 ghost use Rattle.ck_format.specs.Script.{on_names};
 ghost use Rattle.ck_script.specs.Output.{NeedsRoom, IsRefusal, share};
 ghost use Rattle.cuckoo_map.specs.Locking.{map_of};
 ghost use Rattle.ck_format.specs.Answers.{answer_on_names};
-ghost use Rattle.ck_script.specs.Answered.{IsAnsweredBy, IsListOf};
+ghost use Rattle.ck_script.specs.Answered.{HasOthers, IsAnsweredBy, IsListOf};
 
 use ck_format::{Answer, Command, Pairs, WrittenKey};
 use ck_key::TableKey;
@@ -15,7 +15,8 @@ use std::alloc::Global;
 
 // What a command that may need room is refused for.
 fn refusal_of<K: TableKey + Drop>(why: Why) -> Answer<Pairs<K>>
-    ensures { (c : Command Name) → NeedsRoom c → IsRefusal c (answer_on_names K.name result) }
+    ensures { (n : ℕ) (c : Command Name) → HasOthers n why → NeedsRoom c
+        → IsRefusal n c (answer_on_names K.name result) }
 {
     match why {
         Why::Busy(_) => Answer::Busy,

@@ -18,7 +18,7 @@ use Rattle.ck_model.specs.Sections.{Section, IdentitySection}
 use Rattle.ck_model.proofs.Numbered.{Some-injective}
 use Rattle.ck_stripe.specs.Stripe.{StripeState}
 use Rattle.ck_core.specs.declared.view.View.{View}
-use Rattle.ck_core.specs.State.{Configuration, HistoryInvariant}
+use Rattle.ck_core.specs.State.{Configuration, HasNumber, HistoryInvariant}
 use Rattle.ck_core.specs.Steps.{Label, Transition, IsAbove, IsExcused, HasGrounds, taken, seen_as, sent_home, giving, deciding, newcomer, message_of, joining, spent}
 use Rattle.ck_core.specs.Steps.Label.{Take, FindHeld, Give, Decide, Renew, Look}
 use Rattle.ck_core.proofs.Lists.{at_set, set_else, set_there}
@@ -136,9 +136,9 @@ module _ (hash : Name → ℕ) (set : Settings) where
     lawful_now log s id v r at = (shows k set.callers log (world (2 ^ k.s) s) r.law id v at).lawful
 
     module _ (slots id : ℕ) (m : Hand V) where
-      take_by : (t : ℕ) → t < 2 ^ k.s → IsAbove t (numbers m.0.held) → (s : State (StripeSlot V) (View V)) (log : List (Entry V)) (r : IsKept k set.callers log s) → get_elem? s.views id ≡ some m.0 → (b : ℕ) → get_or s.words (t * 8) 0 ≡ b → b < 2
+      take_by : (t : ℕ) → t < 2 ^ k.s → IsAbove t (numbers m.0.held) → HasNumber m.0 → (s : State (StripeSlot V) (View V)) (log : List (Entry V)) (r : IsKept k set.callers log s) → get_elem? s.views id ≡ some m.0 → (b : ℕ) → get_or s.words (t * 8) 0 ≡ b → b < 2
           → (w : View V) × (a : Act (StripeSlot V)) × Valid s.homes m.1 a × RuleOf hash set (stepped s (t * 8) 1 id m.1 w a) × SeatTries hash set t m (get_or s.words (t * 8) 0) (w, carried_after m.1 a)
-      take_by t l above s log r at zero e h =
+      take_by t l above number s log r at zero e h =
           let free : get_or (spaced (2 ^ k.s) s.words) t 0 ≡ 0 = spaced-at (2 ^ k.s) t s.words l ∙ e in
           let c : Content V = r.law.contents t in
           let there = r.law.places.at_home t l free in
@@ -148,20 +148,20 @@ module _ (hash : Name → ℕ) (set : Settings) where
           let w : View V = record m.0 { held = (t, stripe.content) ∷ m.0.held; seen = log } in
           let after : Configuration V = taken (world (2 ^ k.s) s) id m.0 t stripe.content log in
           let kept : IsKept k set.callers log (stepped s (t * 8) 1 id m.1 w (takes t (Some stripe))) =
-          kept_at k set.callers log s t 1 none (slice_set s.views id w) l r.words_sized (take_keeps k set.callers log (world (2 ^ k.s) s) r.law id m.0 at t stripe.content l free there2) (numbered_out k.s s.homes t r.numbered) in
-          let steps : Steps hash set (Take t) m.0 w = steps_from (Take t) log s id m.0 w after r at (m.0, stripe.content, at, l, free, above, there2, refl) refl in
+          kept_at k set.callers log s t 1 none (slice_set s.views id w) l r.words_sized (take_keeps k set.callers log (world (2 ^ k.s) s) r.law id m.0 at t stripe.content l free there2 number) (numbered_out k.s s.homes t r.numbered) in
+          let steps : Steps hash set (Take t) m.0 w = steps_from (Take t) log s id m.0 w after r at (m.0, stripe.content, at, l, free, above, there2, number, refl) refl in
           (w, takes t (Some stripe), slot.1, (log, kept), ((λ _. (stripe, r.numbered t stripe slot.1, refl, inl (refl, refl), steps)), (λ ne. absurd (ne e))))
-      take_by t l above s log r at (suc zero) e h =
+      take_by t l above number s log r at (suc zero) e h =
           let w : View V = record m.0 { found = t ∷ m.0.found } in
           let held : get_or (spaced (2 ^ k.s) s.words) t 0 ≡ 1 = spaced-at (2 ^ k.s) t s.words l ∙ e in
           let own : ¬ (IsIn t (numbers m.0.held)) = λ i. let z = above t i in omega arith in
           let kept = unmoved k set.callers log s id (t * 8) 1 w m.1 (sym e) r (find_keeps k set.callers log (world (2 ^ k.s) s) r.law id m.0 at t) in
-          let steps : Steps hash set (FindHeld t) m.0 w = steps_from (FindHeld t) log s id m.0 w (seen_as (world (2 ^ k.s) s) id w) r at (m.0, at, l, held, own, refl) refl in
+          let steps : Steps hash set (FindHeld t) m.0 w = steps_from (FindHeld t) log s id m.0 w (seen_as (world (2 ^ k.s) s) id w) r at (m.0, at, l, held, own, number, refl) refl in
           (w, keeps, tt, (log, kept), ((λ z. absurd (omega arith)), (λ _. (refl, steps))))
-      take_by t l above s log r at (suc (suc b)) e h = absurd (omega arith)
+      take_by t l above number s log r at (suc (suc b)) e h = absurd (omega arith)
 
-      pub take_allowed : (t : ℕ) → t < 2 ^ k.s → IsAbove t (numbers m.0.held) → Allows (RuleOf hash set) slots id m (t * 8) (λ _. 1) (SeatTries hash set t m)
-      take_allowed t l above s r _ at _ = take_by t l above s r.0 r.1 at (get_or s.words (t * 8) 0) refl (subst (λ b. b < 2) (spaced-at (2 ^ k.s) t s.words l) (r.1.law.places.is_bit t l))
+      pub take_allowed : (t : ℕ) → t < 2 ^ k.s → IsAbove t (numbers m.0.held) → HasNumber m.0 → Allows (RuleOf hash set) slots id m (t * 8) (λ _. 1) (SeatTries hash set t m)
+      take_allowed t l above number s r _ at _ = take_by t l above number s r.0 r.1 at (get_or s.words (t * 8) 0) refl (subst (λ b. b < 2) (spaced-at (2 ^ k.s) t s.words l) (r.1.law.places.is_bit t l))
 
       module _ (t : ℕ) (stripe : StripeState V) (out : List (ℕ × StripeSlot V)) (is : m.1 ≡ (t, Some stripe) ∷ out) (l : t < 2 ^ k.s) (own : IsNumbered k.s t stripe) where
         pub give_allowed : (g : Option (Name × Reason)) → Holds m.0.held t stripe.content → (Lawful k m.0.held → IsExcused k set.min_load m.0.held g) → Allows (RuleOf hash set) slots id m (t * 8) (λ _. 0) (λ _. SeatGives hash set (Give t g) m)

@@ -1,6 +1,7 @@
 -- All passes are dealt.
 use Rattle.std.proofs.Common.{◌≡◌, ℕ, zero, suc, ◌+◌, ◌-◌, ◌<◌, ◌≤◌, List, [], ◌∷◌, ◌++◌, map, get_or, refl, sym, ap, ◌∙◌, subst, arith}
 use Rattle.std.specs.Prelude.{All}
+use Rattle.std.proofs.lemmas.Option.{none-some}
 use Rattle.std.proofs.lemmas.List.Elements.{All-nil, All-cons}
 use Rattle.atomic_table.specs.Seated.{TableId}
 use Rattle.ck_model.specs.declared.history.Entry.{Entry}
@@ -68,16 +69,16 @@ module _ {V : Type 0} where
       let all : suc (n - 1) ≡ set.callers = omega arith in
       is ∙ ((λ i. record { table = table; view = initial_view set 0 set.power (counting n (none i)); stripes = [] } ∷ dealt table set (counting 1 (n - 1))) ∙ ap (λ m. dealt table set (counting 0 m)) all)
 
-  dealt_callers : (w : WordsState) (n a : ℕ) → a + n ≤ w.settings.callers → All (IsCaller {V = V} w) (dealt w.table w.settings (counting a n))
-  dealt_callers w zero a l = All-nil (IsCaller w)
-  dealt_callers w (suc n) a l = All-cons (IsCaller w) (record { table = w.table; view = newcomer w.settings a w.settings.power; stripes = [] }) (dealt w.table w.settings (counting (suc a) n))
-      (record { own = (refl, refl); idle = (refl, refl); alone = refl; number = (a, refl, omega arith) }) (dealt_callers w n (suc a) (omega arith))
+  dealt_callers : (w : WordsState) (n a : ℕ) → w.settings.power ≤ w.settings.max → a + n ≤ w.settings.callers → All (IsCaller {V = V} w) (dealt w.table w.settings (counting a n))
+  dealt_callers w zero a most l = All-nil (IsCaller w)
+  dealt_callers w (suc n) a most l = All-cons (IsCaller w) (record { table = w.table; view = newcomer w.settings a w.settings.power; stripes = [] }) (dealt w.table w.settings (counting (suc a) n))
+      (record { own = (refl, refl, (λ none. none-some a (sym none)), (λ _. refl), omega arith, most); idle = (refl, refl); alone = refl; number = (a, refl, omega arith) }) (dealt_callers w n (suc a) most (omega arith))
 
-  pub dealt_all : (w : WordsState) (set : Settings) (ps : List (PassState V)) → w.settings ≡ set → ps ≡ dealt w.table set (counting 0 set.callers) → AreAllPasses w ps
-  dealt_all w set ps same is =
+  pub dealt_all : (w : WordsState) (set : Settings) (ps : List (PassState V)) → set.power ≤ set.max → w.settings ≡ set → ps ≡ dealt w.table set (counting 0 set.callers) → AreAllPasses w ps
+  dealt_all w set ps most same is =
       let n = w.settings.callers in
       let new : AreAllPasses w (dealt w.table w.settings (counting 0 n)) = record {
-        callers = dealt_callers w n 0 (omega arith);
+        callers = dealt_callers w n 0 (subst (λ (x : Settings). x.power ≤ x.max) (sym same) most) (omega arith);
         all = λ m l. subst (IsIn m) (sym (numbers-dealt V w.table w.settings (counting 0 n))) (in_counting n m l);
       } in
       subst (AreAllPasses w) (sym (is ∙ λ i. dealt w.table (sym same i) (counting 0 (sym same i).callers))) new

@@ -25,9 +25,9 @@ use Rattle.ck_words.specs.Passes.{PassState, IsSeated, IsPassOf, IsUnchanged, Se
 use Rattle.ck_words.proofs.Allowed.{give_allowed, renew_allowed, decide_allowed}
 use Rattle.ck_words.proofs.Reversed.{lawful_reverse, section_turned, identity_turned}
 use Rattle.ck_words.proofs.Excuses.{excused_reverse, has_grounds_reverse}
-use Rattle.ck_words.proofs.Rows.{give_row, renew_row, decide_row}
+use Rattle.ck_words.proofs.Rows.{shows_after, give_row, renew_row, decide_row}
 use Rattle.ck_words.proofs.Seating.{Last, last}
-use Rattle.ck_words.proofs.Takes.{Fits, same_settings, same_key, slots_are, own_after, below_key, settled, told}
+use Rattle.ck_words.proofs.Takes.{Fits, Lasts, same_settings, same_key, slots_are, own_after, below_key, settled, told}
 
 -- the highest of its stripes, at the fields of the pass
 pub last_of : {V : Type 0} (w : WordsState) (p : PassState V) (tz : TableId) (key set : Settings) (z : TableId) (me : Hand V) → Fits w p tz key set z me → (t : ℕ) → IsSeated z me → IsHighest t p.stripes → Last z me.0 me.1 t
@@ -70,6 +70,9 @@ module _ {V : Type 0} (hash : Name → ℕ) (w : WordsState) (p : PassState V) (
   abbrev pub now : Stripes V
   now = reverse (contents_of (held_in me.1))
 
+  lasts_by : (me2 : Hand V) {u : View V} → me2.0 ≡ u → u.settings ≡ me.0.settings → u.by ≡ me.0.by → u.found ≡ me.0.found → me.0.told ≤ u.told → me2.0.told ≤ w.settings.max → Lasts hash w p tz key set z me f me2
+  lasts_by me2 row settings by found told most = record { settings = ap (λ (v : View V). v.settings) row ∙ settings; by = ap (λ (v : View V). v.by) row ∙ by; found = ap (λ (v : View V). v.found) row ∙ found; told = subst (λ n. me.0.told ≤ n) (sym (ap (λ (v : View V). v.told) row)) told; most = most }
+
   -- the key's layout
   abbrev k : Layout
   k = layout_of hash key
@@ -101,17 +104,17 @@ module _ {V : Type 0} (hash : Name → ℕ) (w : WordsState) (p : PassState V) (
 
     -- the view tells of the others
     record Tells (me2 : Hand V) : Type 0 where
-      settings : me2.0.settings ≡ me.0.settings
+      lasts : Lasts hash w p tz key set z me f me2
       held : me2.0.held ≡ without t now
 
     gone_seated : (z2 : TableId) (me2 : Hand V) → Gone me2 → Tells me2 → z2 ≡ z → IsSeated z2 me2
-    gone_seated z2 me2 g v same = subst (λ (x : TableId × List (ℕ × StripeSlot V)). IsSeated x.0 (me2.0, x.1)) (λ i. (sym same i, sym g.slots_left i)) (l.left me2.0 v.settings (v.held ∙ l.others))
+    gone_seated z2 me2 g v same = subst (λ (x : TableId × List (ℕ × StripeSlot V)). IsSeated x.0 (me2.0, x.1)) (λ i. (sym same i, sym g.slots_left i)) (l.left me2.0 v.lasts.settings (v.held ∙ l.others))
 
     gone_unchanged : (z2 : TableId) (me2 : Hand V) → Gone me2 → Tells me2 → IsUnchanged (state_of z2 me2)
     gone_unchanged z2 me2 g v = ap (λ has. contents_of (held_in has)) g.slots_left ∙ sym (ap reverse (v.held ∙ l.others) ∙ reverse-reverse (contents_of (held_in l.out)))
 
     went : (z2 : TableId) (me2 : Hand V) → z2 ≡ z → (g : Gone me2) → Tells me2 → Went hash w move p z2 me2
-    went z2 me2 same g v = record { seated = gone_seated z2 me2 g v same; own = own_after hash w p tz key set z me f z2 me2 same v.settings; sends = sends z2 me2 g; unchanged = gone_unchanged z2 me2 g v }
+    went z2 me2 same g v = record { seated = gone_seated z2 me2 g v same; own = own_after hash w p tz key set z me f z2 me2 same v.lasts; sends = sends z2 me2 g; unchanged = gone_unchanged z2 me2 g v }
 
   module _ (g : Option (Name × Reason)) (u : IsUnchanged p) where
     abbrev pub give_move : ℕ → Stripes V → Label V
@@ -135,7 +138,7 @@ module _ {V : Type 0} (hash : Name → ℕ) (w : WordsState) (p : PassState V) (
     give_tells : (me2 : Hand V) → Gone give_move me2 → Tells give_move me2
     give_tells me2 gone =
         let row = give_row hash w.settings me.0 me2.0 t g gone.step in
-        record { settings = ap (λ (v : View V). v.settings) row; held = ap (λ (v : View V). v.held) row ∙ ap (without t) (held_now u) }
+        record { lasts = lasts_by me2 row refl refl refl (omega arith) (shows_after hash w.settings (Give t g) me.0 me2.0 gone.step).most; held = ap (λ (v : View V). v.held) row ∙ ap (without t) (held_now u) }
 
     pub give_went : (z2 : TableId) (me2 : Hand V) → z2 ≡ z → told_by give_move me.0.settings (t * 8 / 8) me2 → Went hash w give_move p z2 me2
     give_went z2 me2 same h = let g = gone give_move me2 h in went give_move z2 me2 same g (give_tells me2 g)
@@ -160,7 +163,7 @@ module _ {V : Type 0} (hash : Name → ℕ) (w : WordsState) (p : PassState V) (
         ready renew_move slots id (renew_allowed hash key slots id me t l.stripe l.out l.front inside_key own_key now_held g turned_sec turned_grounds)
 
     renew_tells : (me2 : Hand V) → Gone renew_move me2 → Tells renew_move me2
-    renew_tells me2 gone = let row = renew_row hash w.settings me.0 me2.0 t now g gone.step in record { settings = ap (λ (v : View V). v.settings) row; held = ap (λ (v : View V). v.held) row }
+    renew_tells me2 gone = let row = renew_row hash w.settings me.0 me2.0 t now g gone.step in record { lasts = lasts_by me2 row refl refl refl (omega arith) (shows_after hash w.settings (Renew t now g) me.0 me2.0 gone.step).most; held = ap (λ (v : View V). v.held) row }
 
     pub renew_went : (z2 : TableId) (me2 : Hand V) → z2 ≡ z → told_by renew_move me.0.settings (t * 8 / 8) me2 → Went hash w renew_move p z2 me2
     renew_went z2 me2 same h = let g = gone renew_move me2 h in went renew_move z2 me2 same g (renew_tells me2 g)
@@ -179,7 +182,7 @@ module _ {V : Type 0} (hash : Name → ℕ) (w : WordsState) (p : PassState V) (
         ready decide_move slots id (decide_allowed hash key slots id me t l.stripe l.out l.front inside_key own_key now_held e (ap (λ (q : PassState V). q.view.by) f.pass_is ∙ by) turned_sec)
 
     decide_tells : (me2 : Hand V) → Gone decide_move me2 → Tells decide_move me2
-    decide_tells me2 gone = let row = decide_row hash w.settings me.0 me2.0 t now e gone.step in record { settings = ap (λ (v : View V). v.settings) row; held = ap (λ (v : View V). v.held) row }
+    decide_tells me2 gone = let row = decide_row hash w.settings me.0 me2.0 t now e gone.step in record { lasts = lasts_by me2 row refl refl refl (omega arith) (shows_after hash w.settings (Decide t now e) me.0 me2.0 gone.step).most; held = ap (λ (v : View V). v.held) row }
 
     pub decide_went : (z2 : TableId) (me2 : Hand V) → z2 ≡ z → told_by decide_move me.0.settings (t * 8 / 8) me2 → Went hash w decide_move p z2 me2
     decide_went z2 me2 same h = let g = gone decide_move me2 h in went decide_move z2 me2 same g (decide_tells me2 g)

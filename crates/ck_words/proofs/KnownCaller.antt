@@ -1,5 +1,6 @@
 -- What a type keeps of a pass, known again.
-use Rattle.std.proofs.Common.{◌≡◌, ℕ, ◌<◌, List, [], ◌∷◌, length, refl, sym, ap, subst, arith, Some, None}
+use Rattle.std.proofs.Common.{◌≡◌, ℕ, ◌<◌, List, [], ◌∷◌, length, refl, sym, ap, ◌∙◌, subst, arith, Some, None}
+use Rattle.std.proofs.lemmas.Option.{none-some}
 use Rattle.std.specs.Prelude.{Option, unwrap_or}
 use Rattle.std.specs.Coded.{le_prop, Coded-set, coded_ℕ}
 use Rattle.std.proofs.Math.Logic.{∥∥₁_elim}
@@ -39,9 +40,9 @@ known_number n (Some m) t = (m, refl, ∥∥₁_elim t le_prop (λ k. subst (λ 
 
 -- a caller's pass is known to be one
 pub known_caller : {V : Type 0} → (w : WordsState) (p : PassState V) → ∥ IsCaller w p ∥₁ → IsCaller w p
-known_caller w p t = record {
-  own = (∥∥₁_elim t (Coded-set table_id_coded p.table w.table) (λ c. c.own.0), known_settings p.view.settings w.settings (∥∥₁_elim t squash₁ (λ c. ∣ c.own.1 ∣₁)));
+known_caller w p t = let number = known_number w.settings.callers p.view.by (∥∥₁_elim t squash₁ (λ c. ∣ c.number ∣₁)) in record {
+  own = (∥∥₁_elim t (Coded-set table_id_coded p.table w.table) (λ c. c.own.0), known_settings p.view.settings w.settings (∥∥₁_elim t squash₁ (λ c. ∣ c.own.1 ∣₁)), (λ none. none-some number.0 (sym none ∙ number.1)), λ one. known_empty p.view.found (∥∥₁_elim t squash₁ (λ c. ∣ c.own.3 one ∣₁)), ∥∥₁_elim t le_prop (λ c. c.own.4), ∥∥₁_elim t le_prop (λ c. c.own.5));
   idle = (known_empty p.stripes (∥∥₁_elim t squash₁ (λ c. ∣ c.idle.0 ∣₁)), known_empty p.view.held (∥∥₁_elim t squash₁ (λ c. ∣ c.idle.1 ∣₁)));
   alone = known_empty p.view.others (∥∥₁_elim t squash₁ (λ c. ∣ c.alone ∣₁));
-  number = known_number w.settings.callers p.view.by (∥∥₁_elim t squash₁ (λ c. ∣ c.number ∣₁));
+  number = number;
 }

@@ -51,7 +51,7 @@ module _ {V : Type 0} (old : StripeSeat V) (p : PassState V) (is : state_of old.
 
   module _ (new : StripeSeat V) (i : ℕ) (stripe : StripeState V) (puts : Puts i stripe old new) where
     pub still_own : IsPassOf w (state_of new.table_id new.me)
-    still_own = (puts.table ∙ (ap (λ (q : PassState V). q.table) is ∙ own.0), ap (λ v. v.settings) puts.view ∙ (ap (λ (q : PassState V). q.view.settings) is ∙ own.1))
+    still_own = subst (IsPassOf w) (sym (λ i. record { table = (puts.table ∙ ap (λ (q : PassState V). q.table) is) i; view = (puts.view ∙ ap (λ (q : PassState V). q.view) is) i; stripes = held_in new.me.1 })) own
 
     pub still_numbered : numbers_of (state_of new.table_id new.me).stripes ≡ ns
     still_numbered = same_numbers old new i stripe puts ∙ (ap (λ (q : PassState V). numbers_of q.stripes) is ∙ numbered)

@@ -26,7 +26,7 @@ module _ {V : Type 0} (hash : Name → ℕ) (w : WordsState) (p q : PassState V)
 
     stays_renewing : StaysBut (gaining [] why) p.view q.view
     stays_renewing = subst (StaysBut (gaining [] why) p.view) (sym renewed_view)
-        (record { settings = refl; by = refl; mine = refl; others = refl; heard = (refl, refl); noroom = gaining-append p.view.noroom why; seen = ([], sym (append-nil p.view.seen)); by_others = λ m e. refl; told = omega arith })
+        (record { settings = refl; by = refl; mine = refl; others = refl; heard = (refl, refl); noroom = gaining-append p.view.noroom why; seen = ([], sym (append-nil p.view.seen)); by_others = λ m e. refl; alone = λ _. refl; told = omega arith })
 
   pub leaves_renewed : Sends hash w (λ t ks. Renew t ks None) p q → (ns : List ℕ) (t : ℕ) → numbers_of p.stripes ≡ ns ++ t ∷ [] → IsPassOf w q → IsUnchanged q → Leaves w ns p q
   leaves_renewed g ns t numbered own unchanged = record {
@@ -55,7 +55,7 @@ module _ {V : Type 0} (hash : Name → ℕ) (w : WordsState) (p q : PassState V)
 
     stays_telling : StaysBut ((name, why) ∷ []) p.view q.view
     stays_telling = subst (StaysBut ((name, why) ∷ []) p.view) (sym given_view)
-        (record { settings = refl; by = refl; mine = refl; others = refl; heard = (refl, refl); noroom = refl; seen = ([], sym (append-nil p.view.seen)); by_others = λ m e. refl; told = omega arith })
+        (record { settings = refl; by = refl; mine = refl; others = refl; heard = (refl, refl); noroom = refl; seen = ([], sym (append-nil p.view.seen)); by_others = λ m e. refl; alone = λ _. refl; told = omega arith })
 
     pub refused_giving : (r : PassState V) → HasReleased w q r → HasRefused w name why p r
     refused_giving r rest = record {

@@ -1,5 +1,5 @@
 -- The reply of a call is what the bindings before and after it tell.
-use Rattle.std.proofs.Common.{◌≡◌, ℕ, [], append-nil, reverse, sym, refl, ap, ◌∙◌, subst, arith, Option, Some, None, IsSome, rules}
+use Rattle.std.proofs.Common.{◌≡◌, ◌⊎◌, ℕ, [], ◌∷◌, ◌++◌, inl, inr, append-nil, reverse, sym, refl, ap, ◌∙◌, subst, ⊎_elim, arith, Option, Some, None, IsSome, rules}
 use Rattle.std.specs.Option.{unwrap_or}
 use Rattle.std.specs.FinMap.{get, len}
 use Rattle.ck_model.specs.declared.history.Act.{Act}
@@ -13,11 +13,12 @@ use Rattle.ck_model.specs.declared.settings.Settings.{Settings}
 use Rattle.ck_model.specs.Map.{Name, Map, Answers, AnswersTwo, Step}
 use Rattle.ck_model.specs.History.{IsLegal}
 use Rattle.ck_model.specs.Contents.{layout_of, Stripes, Lawful, bindings}
+use Rattle.ck_model.specs.Sections.{HasAll}
 use Rattle.ck_section.specs.Stripes.{contents_of}
 use Rattle.ck_core.specs.declared.view.View.{View}
 use Rattle.ck_core.specs.Steps.{deciding}
 use Rattle.ck_core.specs.Steps.Label.{Decide}
-use Rattle.ck_core.specs.Laws.{Answered}
+use Rattle.ck_core.specs.Laws.{Answered, Follows}
 use Rattle.ck_core.proofs.Shown.{answered}
 use Rattle.ck_words.specs.Steps.{Steps}
 use Rattle.ck_words.specs.Words.{WordsState}
@@ -103,10 +104,22 @@ module _ {V : Type 0} where
     pub its_caller : (m : ℕ) → p.view.by ≡ Some m → p.view.by ≡ Some (entry_for call p).by
     its_caller m e = e ∙ ap Some (sym (ap (λ (o : Option ℕ). unwrap_or o 0) e))
 
+    -- an only caller has seen all before, and so has one that held all stripes
+    follows : (m : ℕ) → p.view.by ≡ Some m → (t : ℕ) (ks : Stripes V) (q1 q : PassState V) → Steps hash set (Decide t ks (entry_for call p)) p.view q1.view → q.view.seen ≡ q1.view.seen → (r : Reply V) → HasDone hash set call r p
+        → (set.callers ≡ 1) ⊎ HasAll (layout_of hash set) p.view.held → Follows p.view (record { by = m; call = call; reply = r }) q.view
+    follows m by t ks q1 q d seen r done which =
+        let e : Entry V = entry_for call p in
+        let before = shows_before hash set (Decide t ks e) p.view q1.view d in
+        let l = lawful_reverse (layout_of hash set) p.view.held before.lawful in
+        let all : p.view.seen ≡ d.log = ⊎_elim (λ one. before.alone m by one) (λ held. before.all_seen held) which in
+        let number : e.by ≡ m = ap (λ (o : Option ℕ). unwrap_or o 0) by in
+        let same : e ≡ record { by = m; call = call; reply = r } = (λ j. record { by = number j; call = call; reply = sym (reply_done r done l) j }) in
+        seen ∙ (ap (λ (v : View V). v.seen) (decide_row hash set p.view q1.view t ks e d) ∙ λ j. sym all j ++ same j ∷ [])
+
     -- it was decided, and nothing else happened since
-    pub is_answered : (m : ℕ) → p.view.by ≡ Some m → (t : ℕ) (ks : Stripes V) (q1 q : PassState V) → Steps hash set (Decide t ks (entry_for call p)) p.view q1.view → Stays q1.view q.view → q.view.seen ≡ q1.view.seen
+    pub is_answered : (m : ℕ) → p.view.by ≡ Some m → p.view.settings ≡ set → (t : ℕ) (ks : Stripes V) (q1 q : PassState V) → Steps hash set (Decide t ks (entry_for call p)) p.view q1.view → Stays q1.view q.view → q.view.seen ≡ q1.view.seen
         → (r : Reply V) → HasDone hash set call r p → IsAnswered call r p q
-    is_answered m by t ks q1 q d s seen r done =
+    is_answered m by of_table t ks q1 q d s seen r done =
         let row : q1.view ≡ deciding p.view t ks d.log (entry_for call p) = decide_row hash set p.view q1.view t ks (entry_for call p) d in
         let before = shows_before hash set (Decide t ks (entry_for call p)) p.view q1.view d in
         let after = shows_after hash set (Decide t ks (entry_for call p)) p.view q1.view d in
@@ -126,6 +139,7 @@ module _ {V : Type 0} where
             legal = subst (λ log. IsLegal log) (sym seen) told.legal;
             mine = s.mine ∙ told.mine;
           });
+          alone = λ one. follows m by t ks q1 q d seen r done (inl (ap (λ (x : Settings). x.callers) (sym of_table) ∙ one));
           stays = record {
             settings = s.settings ∙ ap (λ (v : View V). v.settings) row;
             by = s.by ∙ ap (λ (v : View V). v.by) row;
@@ -135,18 +149,20 @@ module _ {V : Type 0} where
             noroom = s.noroom ∙ ap (λ (v : View V). v.noroom) row;
             seen = ([], sym (append-nil q.view.seen));
             by_others = λ n e. refl;
+            alone = λ _. refl;
             told = (let a : q1.view.told ≡ p.view.told = ap (λ (v : View V). v.told) row in let b = s.told in omega arith);
           };
         }
 
-    pub has_committed : IsSome p.view.by → (q1 q : PassState V) → Sends hash w (λ t ks. Decide t ks (entry_for call p)) p q1 → HasReleased w q1 q → HasCommitted hash w call p q
-    has_committed some q1 q d r =
+    pub has_committed : IsSome p.view.by → p.view.settings ≡ set → (q1 q : PassState V) → Sends hash w (λ t ks. Decide t ks (entry_for call p)) p q1 → HasReleased w q1 q → HasCommitted hash w call p q
+    has_committed some of_table q1 q d r =
         let m = number_in p.view.by some in
         let row = decide_row hash set p.view q1.view d.0.number (reverse (contents_of p.stripes)) (entry_for call p) d.2 in
         record {
           own = r.own;
           idle = r.idle;
-          answered = is_answered m.0 m.1 d.0.number (reverse (contents_of p.stripes)) q1 q d.2 r.stays r.seen;
+          answered = is_answered m.0 m.1 of_table d.0.number (reverse (contents_of p.stripes)) q1 q d.2 r.stays r.seen;
+          follows = λ reply done all. (m.0, m.1, follows m.0 m.1 d.0.number (reverse (contents_of p.stripes)) q1 q d.2 r.seen reply done (inr all));
           by = r.stays.by ∙ ap (λ (v : View V). v.by) row;
           others = r.stays.others ∙ ap (λ (v : View V). v.others) row;
           found = r.found ∙ ap (λ (v : View V). v.found) row;

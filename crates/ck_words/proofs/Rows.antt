@@ -1,5 +1,5 @@
 -- What the rows of the core leave of a caller's view.
-use Rattle.std.proofs.Common.{◌≡◌, ℕ, ◌≤◌, ◌∷◌, sym, ap, ◌∙◌, subst, ⊎_elim, arith, Option, None}
+use Rattle.std.proofs.Common.{◌≡◌, ◌≢◌, ℕ, ◌≤◌, ◌∷◌, sym, ap, ◌∙◌, subst, ⊎_elim, arith, Option, None}
 use Rattle.std.specs.Prelude.{slice_set}
 use mathlib.Core.Option.{some, some-injective}
 use lib.ListN.{get_elem?}
@@ -12,10 +12,11 @@ use Rattle.ck_model.specs.Numbered.{numbers, Holds}
 use Rattle.ck_model.specs.Contents.{layout_of, Stripes}
 use Rattle.ck_model.proofs.Numbered.{in_held}
 use Rattle.ck_core.specs.declared.view.View.{View}
-use Rattle.ck_core.specs.State.{Configuration}
+use Rattle.ck_core.specs.State.{Configuration, HasNumber, HistoryInvariant}
 use Rattle.ck_core.specs.Steps.{Label, IsAbove, giving, deciding, grown}
 use Rattle.ck_core.specs.Steps.Label.{Take, FindHeld, Give, Decide, GiveRest, Renew, Look}
 use Rattle.ck_core.specs.Laws.{Shows}
+use Rattle.ck_core.proofs.Answered.{law_of_one_caller}
 use Rattle.ck_core.proofs.Lists.{set_there}
 use Rattle.ck_core.proofs.Keeps.{step_keeps}
 use Rattle.ck_core.proofs.Shown.{shows}
@@ -39,7 +40,10 @@ module _ {V : Type 0} (hash : Name → ℕ) (set : Settings) where
 
   module _ (v w : View V) where
     pub take_row : (t : ℕ) (r : Steps hash set (Take t) v w) → w ≡ record v { held = (t, r.does.1) ∷ v.held; seen = r.log }
-    take_row t r = new_view (Take t) v w r (λ u. record u { held = (t, r.does.1) ∷ u.held; seen = r.log }) r.does.0 r.does.2 (ap (λ (x : Configuration V). x.views) r.does.7)
+    take_row t r = new_view (Take t) v w r (λ u. record u { held = (t, r.does.1) ∷ u.held; seen = r.log }) r.does.0 r.does.2 (ap (λ (x : Configuration V). x.views) r.does.8)
+
+    pub take_number : (t : ℕ) → Steps hash set (Take t) v w → HasNumber v
+    take_number t r = subst (λ (u : View V). HasNumber u) (same_view (Take t) v w r r.does.0 r.does.2) r.does.7
 
     take_above : (t : ℕ) (r : Steps hash set (Take t) v w) → IsAbove t (numbers v.held)
     take_above t r = subst (λ (u : View V). IsAbove t (numbers u.held)) (same_view (Take t) v w r r.does.0 r.does.2) r.does.5
@@ -52,7 +56,11 @@ module _ {V : Type 0} (hash : Name → ℕ) (set : Settings) where
         held ∙ λ i. (t, same i) ∷ v.held
 
     pub find_row : (t : ℕ) → Steps hash set (FindHeld t) v w → w ≡ record v { found = t ∷ v.found }
-    find_row t r = new_view (FindHeld t) v w r (λ u. record u { found = t ∷ u.found }) r.does.0 r.does.1 (ap (λ (x : Configuration V). x.views) r.does.5)
+    find_row t r = new_view (FindHeld t) v w r (λ u. record u { found = t ∷ u.found }) r.does.0 r.does.1 (ap (λ (x : Configuration V). x.views) r.does.6)
+
+    -- and the caller isn't the only one
+    pub find_by_two : (t : ℕ) → Steps hash set (FindHeld t) v w → set.callers ≢ 1
+    find_by_two t r one = law_of_one_caller (layout_of hash set) set.min_load r.id t r.log r.before r.after (subst (λ n. HistoryInvariant (layout_of hash set) n r.log r.before) one r.law) r.does
 
     pub give_row : (t : ℕ) (g : Option (Name × Reason)) (r : Steps hash set (Give t g) v w) → w ≡ giving v t r.does.1 v.held g
     give_row t g r = new_view (Give t g) v w r (λ u. giving u t r.does.1 u.held g) r.does.0 r.does.2 (ap (λ (x : Configuration V). x.views) r.does.5)

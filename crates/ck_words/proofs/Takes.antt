@@ -1,5 +1,5 @@
 -- What a take asks and leaves, at the fields of words and pass.
-use Rattle.std.proofs.Common.{◌≡◌, ◌≢◌, ℕ, ◌*◌, ◌/◌, ◌^◌, ◌<◌, ◌≤◌, List, [], ◌∷◌, ◌++◌, reverse, sym, ap, ◌∙◌, subst, arith, false, Some}
+use Rattle.std.proofs.Common.{◌≡◌, ◌≢◌, ℕ, ◌*◌, ◌/◌, ◌^◌, ◌<◌, ◌≤◌, List, [], ◌∷◌, ◌++◌, reverse, sym, ap, ◌∙◌, subst, arith, le_of_eq, le_trans, false, refl, Option, Some, None}
 use Rattle.std.proofs.Math.Nat.{one-le-pow}
 use Rattle.atomic_table.specs.Table.{Allows}
 use Rattle.atomic_table.specs.Seated.{TableId}
@@ -9,8 +9,9 @@ use Rattle.ck_model.specs.Numbered.{numbers}
 use Rattle.ck_stripe.specs.Stripe.{StripeState}
 use Rattle.ck_section.specs.Stripes.{contents_of}
 use Rattle.ck_core.specs.declared.view.View.{View}
+use Rattle.ck_core.specs.State.{HasNumber}
 use Rattle.ck_core.specs.Steps.{IsAbove}
-use Rattle.ck_core.specs.Steps.Label.{Take, FindHeld}
+use Rattle.ck_core.specs.Steps.Label.{Take, FindHeld, Look}
 use Rattle.ck_words.specs.Rule.{StripeSlot, Hand, RuleOf, IsNumbered}
 use Rattle.ck_words.specs.Steps.{Steps}
 use Rattle.ck_words.specs.Plays.{SeatTries, SeatLooks}
@@ -18,12 +19,16 @@ use Rattle.ck_words.specs.Words.{WordsState, IsLaidOut}
 use Rattle.ck_words.specs.Passes.{PassState, IsSeated, IsPassOf, IsUnchanged, TakesStripe, TriesStripe, LooksUp, state_of, stripes_in, held_in}
 use Rattle.ck_words.proofs.Allowed.{take_allowed, look_allowed}
 use Rattle.ck_words.proofs.Reversed.{map-append, reverse-cons}
-use Rattle.ck_words.proofs.Rows.{take_row, take_held, find_row, look_row}
+use Rattle.ck_words.proofs.Rows.{shows_after, take_row, take_held, find_row, find_by_two, look_row, look_told}
 use Rattle.ck_words.proofs.Seating.{seated_take, seated_view}
 
 -- the number of the stripe whose word it is
 pub word_of : (t : ℕ) → t * 8 / 8 ≡ t
 word_of t = omega arith
+
+number_there : (o : Option ℕ) → o ≢ None → (m : ℕ) × (o ≡ Some m)
+number_there None some = absurd (some refl)
+number_there (Some m) some = (m, refl)
 
 -- the table of a pass and its words
 pub record Fits {V : Type 0} (w : WordsState) (p : PassState V) (tz : TableId) (key set : Settings) (z : TableId) (me : Hand V) : Type 0 where
@@ -57,8 +62,32 @@ module _ {V : Type 0} (hash : Name → ℕ) (w : WordsState) (p : PassState V) (
   pub word_inside : (t : ℕ) → t < 2 ^ w.settings.s → t * 8 < tz.words
   word_inside t l = let c = words_count in omega arith
 
-  pub own_after : (z2 : TableId) (me2 : Hand V) → z2 ≡ z → me2.0.settings ≡ me.0.settings → IsPassOf w (state_of z2 me2)
-  own_after z2 me2 same settings = (same ∙ (ap (λ (q : PassState V). q.table) f.pass_is ∙ f.own.0), settings ∙ same_settings)
+  has_number : me.0.by ≢ None
+  has_number = subst (λ (q : PassState V). q.view.by ≢ None) (sym f.pass_is) f.own.2
+
+  its_number : HasNumber me.0
+  its_number = number_there me.0.by has_number
+
+  -- what a step leaves of the view where it finds no stripe held
+  pub record Lasts (me2 : Hand V) : Type 0 where
+    pub settings : me2.0.settings ≡ me.0.settings
+    pub by : me2.0.by ≡ me.0.by
+    pub found : me2.0.found ≡ me.0.found
+    pub told : me.0.told ≤ me2.0.told
+    pub most : me2.0.told ≤ w.settings.max
+
+  told_before : (w.settings.power ≤ me.0.told) × (me.0.told ≤ w.settings.max)
+  told_before = subst (λ (q : PassState V). (w.settings.power ≤ q.view.told) × (q.view.told ≤ w.settings.max)) (sym f.pass_is) (f.own.4, f.own.5)
+
+  pub own_after : (z2 : TableId) (me2 : Hand V) → z2 ≡ z → Lasts me2 → IsPassOf w (state_of z2 me2)
+  own_after z2 me2 same k = (
+    same ∙ (ap (λ (q : PassState V). q.table) f.pass_is ∙ f.own.0),
+    k.settings ∙ same_settings,
+    (λ none. has_number (sym k.by ∙ none)),
+    λ one. k.found ∙ (ap (λ (q : PassState V). q.view.found) f.pass_is ∙ f.own.3 one),
+    le_trans told_before.0 k.told,
+    k.most,
+  )
 
   -- what holds at the settings of the words' key, and at this word, holds at those of the hand
   pub settled : (X : Settings → ℕ → Type 0) (t : ℕ) → X key t → X me.0.settings (t * 8 / 8)
@@ -79,7 +108,7 @@ module _ {V : Type 0} (hash : Name → ℕ) (w : WordsState) (p : PassState V) (
     above_mine = subst (λ (q : PassState V). IsAbove t (numbers q.view.held)) (sym f.pass_is) above
 
     pub take_ready : (slots id : ℕ) → Allows (RuleOf hash key) slots id me (t * 8) (λ _. 1) (SeatTries hash me.0.settings (t * 8 / 8) me)
-    take_ready slots id = settled (λ x n. Allows (RuleOf hash key) slots id me (t * 8) (λ _. 1) (SeatTries hash x n me)) t (take_allowed hash key slots id me t (below_key t inside) above_mine)
+    take_ready slots id = settled (λ x n. Allows (RuleOf hash key) slots id me (t * 8) (λ _. 1) (SeatTries hash x n me)) t (take_allowed hash key slots id me t (below_key t inside) above_mine its_number)
 
     told_now : (r : ℕ) (me2 : Hand V) → SeatTries hash me.0.settings (t * 8 / 8) me r me2 → SeatTries hash w.settings t me r me2
     told_now r me2 h = told (λ x n. SeatTries hash x n me r me2) t h
@@ -89,7 +118,7 @@ module _ {V : Type 0} (hash : Name → ℕ) (w : WordsState) (p : PassState V) (
       pub stripe : StripeState V
       pub own_number : IsNumbered w.settings.s t stripe
       pub slots : me3.1 ≡ (t, Some stripe) ∷ me.1
-      pub settings : me3.0.settings ≡ me.0.settings
+      pub lasts : Lasts me3
       pub held : me3.0.held ≡ (t, stripe.content) ∷ me.0.held
       pub step : Steps hash w.settings (Take t) me.0 me3.0
 
@@ -100,7 +129,7 @@ module _ {V : Type 0} (hash : Name → ℕ) (w : WordsState) (p : PassState V) (
           stripe = k.0;
           own_number = k.1;
           slots = k.2;
-          settings = ap (λ (v : View V). v.settings) (take_row hash w.settings me.0 me2.0 t k.4);
+          lasts = (let row = take_row hash w.settings me.0 me2.0 t k.4 in record { settings = ap (λ (v : View V). v.settings) row; by = ap (λ (v : View V). v.by) row; found = ap (λ (v : View V). v.found) row; told = le_of_eq (sym (ap (λ (v : View V). v.told) row)); most = (shows_after hash w.settings (Take t) me.0 me2.0 k.4).most });
           held = take_held hash w.settings me.0 me2.0 t k.0.content k.4 k.3;
           step = k.4;
         }
@@ -121,7 +150,7 @@ module _ {V : Type 0} (hash : Name → ℕ) (w : WordsState) (p : PassState V) (
 
     pub seated_after : (z2 : TableId) (me2 : Hand V) → IsSeated z me → Took me2 → z2 ≡ z → IsSeated z2 me2
     seated_after z2 me2 s k same =
-        let new = seated_take z me.0 me2.0 me.1 t k.stripe s above_mine (below_slots t inside) (subst (λ (x : Settings). IsNumbered x.s t k.stripe) (sym same_settings) k.own_number) k.settings (ap numbers k.held) in
+        let new = seated_take z me.0 me2.0 me.1 t k.stripe s above_mine (below_slots t inside) (subst (λ (x : Settings). IsNumbered x.s t k.stripe) (sym same_settings) k.own_number) k.lasts.settings (ap numbers k.held) in
         subst (λ (x : TableId × List (ℕ × StripeSlot V)). IsSeated x.0 (me2.0, x.1)) (λ i. (sym same i, sym k.slots i)) new
 
     -- the stripe was found held
@@ -136,6 +165,16 @@ module _ {V : Type 0} (hash : Name → ℕ) (w : WordsState) (p : PassState V) (
         let k = (told_now r me2 h).1 other in
         let row = find_row hash w.settings me.0 me2.0 t k.1 in
         record { slots = k.0; settings = ap (λ (v : View V). v.settings) row; held = ap (λ (v : View V). v.held) row; step = k.1 }
+
+    pub own_found : (z2 : TableId) (me2 : Hand V) → z2 ≡ z → Found me2 → IsPassOf w (state_of z2 me2)
+    own_found z2 me2 same k = (
+      same ∙ (ap (λ (q : PassState V). q.table) f.pass_is ∙ f.own.0),
+      k.settings ∙ same_settings,
+      (λ none. has_number (sym (ap (λ (v : View V). v.by) (find_row hash w.settings me.0 me2.0 t k.step)) ∙ none)),
+      λ one. absurd (find_by_two hash w.settings me.0 me2.0 t k.step one),
+      le_trans told_before.0 (le_of_eq (sym (ap (λ (v : View V). v.told) (find_row hash w.settings me.0 me2.0 t k.step)))),
+      (shows_after hash w.settings (FindHeld t) me.0 me2.0 k.step).most,
+    )
 
     pub finds : (z2 : TableId) (me2 : Hand V) → Found me2 → TriesStripe hash w t false p (state_of z2 me2)
     finds z2 me2 k = subst (λ (q : PassState V). TriesStripe hash w t false q (state_of z2 me2)) f.pass_is (ap held_in k.slots, k.step)
@@ -163,11 +202,11 @@ module _ {V : Type 0} (hash : Name → ℕ) (w : WordsState) (p : PassState V) (
     look_view : me2.0 ≡ record me.0 { seen = looks.1.2.log; told = looks.1.0 }
     look_view = look_row hash w.settings me.0 me2.0 0 looks.1.0 looks.1.2
 
-    pub look_settings : me2.0.settings ≡ me.0.settings
-    look_settings = ap (λ (v : View V). v.settings) look_view
+    pub look_lasts : Lasts me2
+    look_lasts = record { settings = ap (λ (v : View V). v.settings) look_view; by = ap (λ (v : View V). v.by) look_view; found = ap (λ (v : View V). v.found) look_view; told = subst (λ n. me.0.told ≤ n) (sym (ap (λ (v : View V). v.told) look_view)) (look_told hash w.settings me.0 me2.0 0 looks.1.0 looks.1.2); most = (shows_after hash w.settings (Look 0 looks.1.0) me.0 me2.0 looks.1.2).most }
 
     pub looked : (z2 : TableId) → LooksUp hash w p (state_of z2 me2)
     looked z2 = subst (λ (q : PassState V). LooksUp hash w q (state_of z2 me2)) f.pass_is (ap held_in looks.0, looks.1)
 
     pub looked_seated : (z2 : TableId) → IsSeated z me → z2 ≡ z → IsSeated z2 me2
-    looked_seated z2 s same = still_seated z2 me2 s same look_settings (ap (λ (v : View V). v.held) look_view) looks.0
+    looked_seated z2 s same = still_seated z2 me2 s same look_lasts.settings (ap (λ (v : View V). v.held) look_view) looks.0

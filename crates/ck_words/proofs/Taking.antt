@@ -1,5 +1,5 @@
 -- Stripes are taken, one after another.
-use Rattle.std.proofs.Common.{◌≡◌, ℕ, zero, suc, ◌+◌, ◌-◌, ◌<◌, ◌≤◌, Bool, true, false, List, [], ◌∷◌, ◌++◌, take, length, get_or, replicate, append_assoc, refl, sym, ap, ◌∙◌, subst, ⊎_elim, inl, inr, arith}
+use Rattle.std.proofs.Common.{◌≢◌, ◌≡◌, ℕ, zero, suc, ◌+◌, ◌-◌, ◌<◌, ◌≤◌, Bool, true, false, List, [], ◌∷◌, ◌++◌, take, length, get_or, replicate, append_assoc, refl, sym, ap, ◌∙◌, subst, ⊎_elim, inl, inr, arith}
 use Rattle.std.proofs.Math.Nat.{eq-or-lt_of_le}
 use Rattle.std.proofs.lemmas.List.{take_more}
 use Rattle.std.specs.Prelude.{MatchBool}
@@ -71,6 +71,11 @@ module _ {V : Type 0} where
   tries_later hash set turns t p q r true some again k = takes_later hash set turns t p q r some again k
   tries_later hash set turns t p q r false some again k = found_later turns t p q r some again k
 
+-- where a stripe was found held, the caller isn't the only one
+pub found_by_two : {V : Type 0} (w : WordsState) (turns t : ℕ) (p : PassState V) (more : List ℕ) → 1 ≤ turns → IsPassOf w p → p.view.found ≡ replicate turns t ++ more → w.settings.callers ≢ 1
+found_by_two w zero t p more some own found one = omega arith
+found_by_two w (suc n) t p more some own found one = let l = ap length (sym found ∙ own.3 one) in omega arith
+
 module _ {V : Type 0} (hash : Name → ℕ) (w : WordsState) (P : ℕ → Type 0) where
   pub none_taken : (p : PassState V) → IsPassOf w p → IsIdle p → HasTaken hash w P [] p p
   none_taken p own idle = record {
@@ -91,7 +96,7 @@ module _ {V : Type 0} (hash : Name → ℕ) (w : WordsState) (P : ℕ → Type 0
     one_taken turns r asked k own unchanged = record {
       own = own;
       unchanged = unchanged;
-      stays = stays_on p.view q.view r.view h.stays (stays_within hash w.settings turns t q r k);
+      stays = stays_on p.view q.view r.view h.stays (stays_within hash w.settings turns t q r k h.own.1);
       numbered = ap (λ (l : List (StripeState V)). numbers_of l) k.2.2 ∙ (map-append (λ (x : StripeState V). x.number) q.stripes (k.2.0 ∷ []) ∙ λ i. h.numbered i ++ k.2.1.0 i ∷ []);
       of_table = subst (λ (l : List (StripeState V)). EachOf w.settings.s l) (sym k.2.2) (each_append w.settings.s q.stripes k.2.0 h.of_table k.2.1.1);
       found = among_on P p q r h.found (among_within P hash w.settings turns t q r asked k);
@@ -99,8 +104,8 @@ module _ {V : Type 0} (hash : Name → ℕ) (w : WordsState) (P : ℕ → Type 0
     }
 
     -- the stripe was found held to the end, and the others went home
-    pub given_up : (r s : PassState V) → P t → r ≡ found_again w.settings.turns t q → HasReleased w r s → GivesUp w P t p s
-    given_up r s asked again released =
+    pub given_up : (r s : PassState V) → 1 ≤ w.settings.turns → P t → r ≡ found_again w.settings.turns t q → HasReleased w r s → GivesUp w P t p s
+    given_up r s some asked again released =
         let turns = w.settings.turns in
         let found : s.view.found ≡ replicate turns t ++ q.view.found = released.found ∙ ap (λ (x : PassState V). x.view.found) again in
         let tried : Stays q.view r.view = subst (λ (x : PassState V). Stays q.view x.view) (sym again) (stays_finding turns t q) in
@@ -108,6 +113,10 @@ module _ {V : Type 0} (hash : Name → ℕ) (w : WordsState) (P : ℕ → Type 0
           own = released.own;
           stays = stays_on p.view r.view s.view (stays_on p.view q.view r.view h.stays tried) released.stays;
           found = among_on P p r s (among_on P p q r h.found (among_held P turns t q r asked again)) (among_none P r s released.found);
-          busy = (released.idle, (h.found.0, found ∙ (ap (λ l. replicate turns t ++ l) h.found.1 ∙ sym (append_assoc (replicate turns t) h.found.0 p.view.found))));
+          busy = (
+            released.idle,
+            (h.found.0, found ∙ (ap (λ l. replicate turns t ++ l) h.found.1 ∙ sym (append_assoc (replicate turns t) h.found.0 p.view.found))),
+            found_by_two w turns t s q.view.found some released.own found,
+          );
           asked = asked;
         }

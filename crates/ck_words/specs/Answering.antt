@@ -6,9 +6,9 @@ use Rattle.ck_model.specs.declared.history.Reason.{Reason}
 use Rattle.ck_model.specs.declared.settings.Settings.{Settings}
 use Rattle.ck_model.specs.Map.{Name}
 use Rattle.ck_model.specs.Contents.{layout_of, Lawful}
-use Rattle.ck_model.specs.Sections.{Section}
+use Rattle.ck_model.specs.Sections.{HasAll, Section}
 use Rattle.ck_section.specs.Stripes.{contents_of}
-use Rattle.ck_core.specs.Laws.{Answered}
+use Rattle.ck_core.specs.Laws.{Answered, Follows}
 use Rattle.ck_words.specs.Words.{WordsState}
 use Rattle.ck_words.specs.Passes.{PassState, IsPassOf, IsIdle}
 use Rattle.ck_words.specs.Retries.{StaysBut}
@@ -18,22 +18,28 @@ module _ {V : Type 0} where
   abbrev pub HasDone : (Name → ℕ) → Settings → Call V → Reply V → PassState V → Type 0
   HasDone hash set call reply p = Lawful (layout_of hash set) (reverse p.view.held) → Section (layout_of hash set) (reverse p.view.held) call reply (contents_of p.stripes)
 
-  -- The pass has one entry more, this call with this reply, and has seen the history up to it. It has said of these names that they found no room; the rest is as it was.
+  -- the entry of this call stands right behind what the pass had seen
+  abbrev pub FollowsSeen : Call V → Reply V → PassState V → PassState V → Type 0
+  FollowsSeen call reply p q = (by : ℕ) × (p.view.by ≡ Some by) × Follows p.view (record { by = by; call = call; reply = reply }) q.view
+
+  -- The pass has one entry more, this call with this reply, and has seen the history up to it. The only caller has seen nothing else since. It has said of these names that they found no room; the rest is as it was.
   pub record IsAnsweredBut (more : List (Name × Reason)) (call : Call V) (reply : Reply V) (p q : PassState V) : Type 0 where
     pub by : ℕ
     pub caller : p.view.by ≡ Some by
     pub answered : Answered p.view (record { by = by; call = call; reply = reply }) q.view
+    pub alone : p.view.settings.callers ≡ 1 → Follows p.view (record { by = by; call = call; reply = reply }) q.view
     pub stays : StaysBut more (record p.view { seen = q.view.seen; mine = q.view.mine }) q.view
 
   -- and it has said so of none
   abbrev pub IsAnswered : Call V → Reply V → PassState V → PassState V → Type 0
   IsAnswered = IsAnsweredBut []
 
-  -- The call was decided with the reply that the stripes give it, and all stripes went home.
+  -- The call was decided with the reply that the stripes give it, and all stripes went home. Where all stripes of the table were held, nobody has come between.
   pub record HasCommitted (hash : Name → ℕ) (w : WordsState) (call : Call V) (p q : PassState V) : Type 0 where
     pub own : IsPassOf w q
     pub idle : IsIdle q
     pub answered : (reply : Reply V) → HasDone hash w.settings call reply p → IsAnswered call reply p q
+    pub follows : (reply : Reply V) → HasDone hash w.settings call reply p → HasAll (layout_of hash w.settings) p.view.held → FollowsSeen call reply p q
     pub by : q.view.by ≡ p.view.by
     pub others : q.view.others ≡ p.view.others
     pub found : q.view.found ≡ p.view.found

@@ -26,7 +26,7 @@ module _ {V : Type 0} where
     pub own : IsPassOf w q
     pub stays : Stays p.view q.view
     pub found : FindsAmong P p q
-    pub busy : IsBusy w.settings.turns t p q
+    pub busy : IsBusy w.settings t p q
     pub asked : P t
 
   -- These stripes were taken, and none but such ones were found held.

@@ -1,5 +1,5 @@
 -- What contracts see of a pass.
-use Rattle.std.specs.Prelude.{◌≡◌, ℕ, zero, suc, ◌≤◌, List, [], ◌∷◌, ◌++◌, map, reverse, Bool, MatchBool, Some}
+use Rattle.std.specs.Prelude.{◌≡◌, ◌≢◌, ℕ, zero, suc, ◌≤◌, List, [], ◌∷◌, ◌++◌, map, reverse, Bool, MatchBool, Some, None}
 use Rattle.atomic_table.specs.Seated.{TableId}
 use Rattle.atomic_table.specs.Table.{turned}
 use Rattle.ck_model.specs.declared.settings.Settings.{Settings}
@@ -75,9 +75,9 @@ module _ {V : Type 0} where
   abbrev pub state_of : TableId → Hand V → PassState V
   state_of table me = record { table = table; view = me.0; stripes = held_in me.1 }
 
-  -- a pass of this table
+  -- A pass of this table, of a caller. The only caller has found no stripe held. It was told a power that the table may have.
   abbrev pub IsPassOf : WordsState → PassState V → Type 0
-  IsPassOf w p = (p.table ≡ w.table) × (p.view.settings ≡ w.settings)
+  IsPassOf w p = (p.table ≡ w.table) × (p.view.settings ≡ w.settings) × (p.view.by ≢ None) × (w.settings.callers ≡ 1 → p.view.found ≡ []) × (w.settings.power ≤ p.view.told) × (p.view.told ≤ w.settings.max)
 
   -- the stripes contain what the view tells of them
   abbrev pub IsUnchanged : PassState V → Type 0

@@ -1,5 +1,5 @@
 -- What several tries to take stripes leave.
-use Rattle.std.specs.Prelude.{◌≡◌, ℕ, ◌<◌, ◌≤◌, List, [], ◌++◌, Some, replicate}
+use Rattle.std.specs.Prelude.{◌≡◌, ◌≢◌, ℕ, ◌<◌, ◌≤◌, List, [], ◌++◌, Some, replicate}
 use Rattle.ck_model.specs.declared.history.Reason.{Reason}
 use Rattle.ck_model.specs.declared.settings.Settings.{Settings}
 use Rattle.ck_model.specs.Map.{Name}
@@ -17,7 +17,7 @@ module _ {V : Type 0} where
   abbrev pub TakesWithin : (Name → ℕ) → Settings → ℕ → ℕ → PassState V → PassState V → Type 0
   TakesWithin hash set turns t p q = (n : ℕ) × (n < turns) × TakesStripe hash set t (found_again n t p) q
 
-  -- What no step changes but one that decides or meets: the caller's entries and what it heard, and it has seen and was told no less. What it sees more is by others.
+  -- What no step changes but one that decides or meets: the caller's entries and what it heard, and it has seen and was told no less. What it sees more is by others, so that the only caller sees nothing more.
   -- It has said of these names more that they found no room.
   pub record StaysBut (more : List (Name × Reason)) (v w : View V) : Type 0 where
     pub settings : w.settings ≡ v.settings
@@ -28,6 +28,7 @@ module _ {V : Type 0} where
     pub noroom : w.noroom ≡ more ++ v.noroom
     pub seen : StartsWith w.seen v.seen
     pub by_others : (m : ℕ) → v.by ≡ Some m → subhistory m seen.0 ≡ []
+    pub alone : v.settings.callers ≡ 1 → w.seen ≡ v.seen
     pub told : v.told ≤ w.told
 
   -- and it has said so of none more
@@ -42,6 +43,6 @@ module _ {V : Type 0} where
   abbrev pub FindsLast : ℕ → ℕ → PassState V → PassState V → Type 0
   FindsLast turns t p q = (before : List ℕ) × (q.view.found ≡ replicate turns t ++ before ++ p.view.found)
 
-  -- The pass holds no stripe. Its last tries all found the stripe t held.
-  abbrev pub IsBusy : ℕ → ℕ → PassState V → PassState V → Type 0
-  IsBusy turns t p q = IsIdle q × FindsLast turns t p q
+  -- The pass holds no stripe. Its last tries all found the stripe t held, and its caller isn't the only one.
+  abbrev pub IsBusy : Settings → ℕ → PassState V → PassState V → Type 0
+  IsBusy set t p q = IsIdle q × FindsLast set.turns t p q × (set.callers ≢ 1)

@@ -88,7 +88,7 @@ impl<K: TableKey + Drop, V: Drop> Words<K, V> {
         ensures unchanged { OnOk result (IsUnchanged pass.new) }
         ensures shows { OnOk result (ShowsSeen K.hash self.now.settings pass.new) }
         ensures found { FindsAmong (λ t. IsIn t (list_of set)) pass.old pass.new }
-        ensures busy { IfErr result (λ t. IsBusy self.now.settings.turns t pass.old pass.new) }
+        ensures busy { IfErr result (λ t. IsBusy self.now.settings t pass.old pass.new) }
         ensures asked { IfErr result (λ t. IsIn t (list_of set)) }
     {
         if let Err(i) = self.lock_now(pass, set) {
@@ -248,7 +248,7 @@ impl<K: TableKey + Drop, V: Drop> Words<K, V> {
         ensures table { OnOk result (IsTable self.now.settings.s pass.new.stripes) }
         ensures settled { OnOk result (AreSettled pass.new.stripes) }
         ensures found { FindsAmong (λ t. t < 2 ^ self.now.settings.s) pass.old pass.new }
-        ensures busy { IfErr result (λ t. IsBusy self.now.settings.turns t pass.old pass.new) }
+        ensures busy { IfErr result (λ t. IsBusy self.now.settings t pass.old pass.new) }
         ensures asked { IfErr result (λ t. t < 2 ^ self.now.settings.s) }
     {
         if let Err(t) = self.lock(pass, self.all()) {

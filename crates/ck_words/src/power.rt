@@ -23,8 +23,9 @@ impl<K: TableKey + Drop, V: Drop> Words<K, V> {
         ensures idle { OnOk result (IsIdle pass.new) }
         ensures found { FindsAmong (λ t. t ≡ 0) pass.old pass.new }
         ensures busy { IfErr result (λ t. (t ≡ 0)
-            × IsBusy self.now.settings.turns t pass.old pass.new) }
+            × IsBusy self.now.settings t pass.old pass.new) }
     {
+        self.show_range();
         if !self.try_take(pass, 0) {
             return Err(0);
         }

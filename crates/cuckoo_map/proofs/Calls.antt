@@ -18,7 +18,7 @@ use Rattle.ck_section.specs.declared.place.KeyPlace.{KeyPlace}
 use Rattle.ck_section.specs.Stripes.{contents_of}
 use Rattle.ck_section.specs.Places.{HasBoth, IsPlaceOf}
 use Rattle.ck_core.specs.declared.view.View.{View}
-use Rattle.ck_core.specs.Laws.{Answered}
+use Rattle.ck_core.specs.Laws.{Answered, Follows}
 use Rattle.ck_words.specs.Words.{WordsState}
 use Rattle.ck_words.specs.Passes.{PassState, IsUnchanged}
 use Rattle.ck_words.specs.Retries.{Stays, StaysBut}
@@ -57,6 +57,9 @@ module _ {V : Type 0} where
           legal = told.legal;
           mine = told.mine ∙ ap (λ l. l ++ e ∷ []) s.mine;
         };
+        alone = λ one.
+            let next : Follows p1.view e z.view = subst (λ (v : View V). v.settings.callers ≡ 1 → Follows v e z.view) same a.alone (ap (λ (x : Settings). x.callers) s.settings ∙ one) in
+            next ∙ ap (λ l. l ++ e ∷ []) (s.alone one);
         stays = record {
           settings = rest.settings ∙ s.settings;
           by = rest.by ∙ s.by;
@@ -66,6 +69,7 @@ module _ {V : Type 0} where
           noroom = rest.noroom ∙ s.noroom;
           seen = ([], sym (append-nil z.view.seen));
           by_others = λ n e. refl;
+          alone = λ _. refl;
           told = (let a = s.told in let b = rest.told in omega arith);
         };
       }

@@ -78,14 +78,14 @@ module _ {V : Type 0} (s : ℕ) where
 -- What a call that was to grow a table to a power says of it.
 module _ {V : Type 0} (set : Settings) (power : ℕ) (p z : PassState V) where
   module _ (inside : power ≤ set.max) where
-    pub refused_busy : (t : ℕ) → IsBusyAmong (IsStripeIn set) set.turns t p z → Rehashes set power (Err (Busy t)) p z
+    pub refused_busy : (t : ℕ) → IsBusyAmong (IsStripeIn set) set t p z → Rehashes set power (Err (Busy t)) p z
     refused_busy t busy = record {
       over_max = ((λ e. absurd (cc)), (λ l. absurd (omega arith)));
       unchanged = λ e. absurd (cc);
       told = tt;
       grown = λ e. absurd (cc);
       short = λ e. absurd (cc);
-      busy = λ u e. subst (λ n. IsBusyAmong (IsStripeIn set) set.turns n p z) (let same : t ≡ u = cc in same) busy;
+      busy = λ u e. subst (λ n. IsBusyAmong (IsStripeIn set) set n p z) (let same : t ≡ u = cc in same) busy;
     }
 
     pub refused_short : z.view.told < power → Rehashes set power (Err Memory) p z

@@ -38,16 +38,16 @@ module _ {V : Type 0} where
   told_since q p p1 p2 z s same h = stays_then [] ((q, NoRoom) ∷ []) p.view p1.view z.view s (subst (λ (v : View V). StaysBut ((q, NoRoom) ∷ []) v z.view) same h)
 
   -- a stripe of the table was found held
-  pub refused_among : (P : ℕ → Type 0) (set : Settings) → ((t : ℕ) → P t → t < 2 ^ set.s) → (q : Name) (t : ℕ) (p z : PassState V) → IsBusyAmong P set.turns t p z → IsRefused set q (Busy t) p z
-  refused_among P set below q t p z busy = record {
+  pub refused_among : (P : ℕ → Type 0) (hash : Name → ℕ) (set : Settings) → ((t : ℕ) → P t → t < 2 ^ set.s) → (q : Name) (t : ℕ) (p z : PassState V) → IsBusyAmong P set t p z → IsRefused hash set q (Busy t) p z
+  refused_among P hash set below q t p z busy = record {
     more = [];
     stays = busy.stays;
     own = All-nil _;
-    shown = (below t busy.stripe, busy.tried);
+    shown = (below t busy.stripe, busy.tried, busy.others);
   }
 
-  pub refused_busy : (hash : Name → ℕ) (set : Settings) (q : Name) (t : ℕ) (p z : PassState V) → IsBusyAt hash set q t p z → IsRefused set q (Busy t) p z
-  refused_busy hash set q = refused_among (IsStripeOf (layout_of hash set) q) set (own_below hash set.s q) q
+  pub refused_busy : (hash : Name → ℕ) (set : Settings) (q : Name) (t : ℕ) (p z : PassState V) → IsBusyAt hash set q t p z → IsRefused hash set q (Busy t) p z
+  refused_busy hash set q = refused_among (IsStripeOf (layout_of hash set) q) hash set (own_below hash set.s q) q
 
   -- what was found held is of the name, also where the pass has found no other since
   pub found_own : (hash : Name → ℕ) (set : Settings) (q : Name) (p p1 z : PassState V) → FindsOwn hash set q p p1 → z.view.found ≡ p1.view.found → FindsOwnUnlessFull hash set q p z

@@ -25,7 +25,7 @@ use Rattle.ck_words.proofs.WholeTables.{lawful_held}
 use Rattle.ck_words.proofs.Renewals.{renewed_none, renewed_then}
 use Rattle.cuckoo_map.specs.declared.key_room.Room.{Room}
 use Rattle.cuckoo_map.specs.Refusals.{why_of}
-use Rattle.cuckoo_map.specs.Insertions.{reason_of, HoldsRoom, HasRoom, ShowsWhy, IsRefused}
+use Rattle.cuckoo_map.specs.Insertions.{reason_of, HoldsRoom, HasRoom, GivesGrounds, ShowsWhy, IsRefused}
 
 -- the reason of a refusal for a lack is that of the lack
 reason_same : (l : lack.Lack) → reason_of (why_of l) ≡ reason_of_lack l
@@ -42,10 +42,10 @@ module _ {V : Type 0} where
       let here : Without set.s (contents_of ss2) = subst (λ (x : ℕ × Stripes V). Without x.0 x.1) (λ i. (of_table i, kept i)) none in
       made lawful (here set.max (keeps lawful).renewed.lawful)
 
-  shows_lack : (set : Settings) (q : Name) (l : lack.Lack) (p z : PassState V) → ShowsWhy set q (why_of l) ((q, reason_of_lack l) ∷ []) p z
-  shows_lack set q Memory p z = (0, omega arith, refl)
-  shows_lack set q Full p z = (0, omega arith, refl)
-  shows_lack set q LoadTooLow p z = (0, omega arith, refl)
+  shows_lack : (hash : Name → ℕ) (set : Settings) (q : Name) (l : lack.Lack) (p z : PassState V) → GivesGrounds hash set q (reason_of_lack l) z → ShowsWhy hash set q (why_of l) ((q, reason_of_lack l) ∷ []) p z
+  shows_lack hash set q Memory p z g = ((0, omega arith, refl), g)
+  shows_lack hash set q Full p z g = ((0, omega arith, refl), g)
+  shows_lack hash set q LoadTooLow p z g = ((0, omega arith, refl), g)
 
   -- All stripes were taken from p to p1, and are held as p2 since.
   module _ (p p1 p2 : PassState V) (stays : Stays p.view p1.view) (same : p2.view ≡ p1.view) where
@@ -57,15 +57,15 @@ module _ {V : Type 0} where
     room_there held = record { more = []; own = All-nil _; stays = stays_there; held = held }
 
     -- none could be made, and they went home
-    pub refused_there : (set : Settings) (q : Name) (w : WordsState) (l : lack.Lack) (z : PassState V) → HasRefused w q (reason_of_lack l) p2 z → IsRefused set q (why_of l) p z
-    refused_there set q w l z r =
+    pub refused_there : (hash : Name → ℕ) (set : Settings) (q : Name) (w : WordsState) (l : lack.Lack) (z : PassState V) → HasRefused w q (reason_of_lack l) p2 z → GivesGrounds hash set q (reason_of_lack l) z → IsRefused hash set q (why_of l) p z
+    refused_there hash set q w l z r grounds =
         let why : Reason = reason_of_lack l in
         let Own : Name × Reason → Type 0 = λ x. (x ≡ (q, NoRoom)) ⊎ (x ≡ (q, reason_of (why_of l))) in
         record {
           more = (q, why) ∷ [];
           stays = stays_then [] ((q, why) ∷ []) p.view p2.view z.view stays_there r.stays;
           own = All-cons Own (q, why) [] (inr (ap (λ (x : Reason). (q, x)) (sym (reason_same l)))) (All-nil Own);
-          shown = shows_lack set q l p z;
+          shown = shows_lack hash set q l p z grounds;
         }
 
   -- All stripes were taken as p1, where w and v are one table.

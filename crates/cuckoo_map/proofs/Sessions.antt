@@ -68,7 +68,7 @@ module _ {V : Type 0} where
   pub each_of : (s : ℕ) (ss : List (StripeState V)) → IsTable s ss → EachOf s ss
   each_of s ss t = each_s s ss t.one_s
 
-  not_below : (k : Layout) (hs ks : Stripes V) → Renewed k hs ks → (t u : ℕ) (c d : Content V) → Holds hs t c → Holds ks u d → c.power ≤ d.power
+  pub not_below : (k : Layout) (hs ks : Stripes V) → Renewed k hs ks → (t u : ℕ) (c d : Content V) → Holds hs t c → Holds ks u d → c.power ≤ d.power
   not_below k hs ks r t u c d h g = ⊎_elim (λ same. let e = same t u c d h g in omega arith) (λ more. more.1 t u c d h g) r.power
 
   -- all stripes were renewed, and again
@@ -89,6 +89,9 @@ module _ {V : Type 0} where
   -- all stripes were held when they were taken
   pub had_all : (hash : Name → ℕ) (w : WordsState) (p : PassState V) → IsLocked hash w p → HasAll (layout_of hash w.settings) (reverse p.view.held)
   had_all hash w p l t lt = subst (λ (ns : List ℕ). IsIn t ns) l.renewed.same (has_all hash w.settings p (numbered w.settings.s p.stripes l.table) t lt)
+
+  pub had_all_held : (hash : Name → ℕ) (w : WordsState) (p : PassState V) → IsLocked hash w p → HasAll (layout_of hash w.settings) p.view.held
+  had_all_held hash w p l t lt = in_of_reverse p.view.held t (had_all hash w p l t lt)
 
   -- the table is locked
   module _ (hash : Name → ℕ) (w : WordsState) (p p1 : PassState V) (stays : Stays p.view p1.view) (whole : IsWhole hash w.settings p1) where

@@ -88,15 +88,15 @@ module _ {V : Type 0} (q : Name) where
       says_since : (why : Reason) → Contains more (q, why) → Contains said (q, why)
       says_since why c = Contains-append_left (more ++ h.more) ((q, NoRoom) ∷ []) (q, why) (Contains-append_left more h.more (q, why) c)
 
-      shows_since : (why : Why) → ShowsWhy w.settings q why more r z → ShowsWhy w.settings q why said p z
+      shows_since : (why : Why) → ShowsWhy hash w.settings q why more r z → ShowsWhy hash w.settings q why said p z
       shows_since (Busy t) s =
           let last : List ℕ = replicate w.settings.turns t in
-          (s.0, (s.1.0 ++ any_since.0, s.1.1 ∙ (ap (λ l. (last ++ s.1.0) ++ l) any_since.1 ∙ found_before last s.1.0 any_since.0 p.view.found)))
-      shows_since Memory s = says_since reason.Memory s
-      shows_since Full s = says_since reason.Full s
-      shows_since LoadTooLow s = says_since reason.LoadTooLow s
+          (s.0, (s.1.0 ++ any_since.0, s.1.1 ∙ (ap (λ l. (last ++ s.1.0) ++ l) any_since.1 ∙ found_before last s.1.0 any_since.0 p.view.found)), s.2)
+      shows_since Memory s = (says_since reason.Memory s.0, s.1)
+      shows_since Full s = (says_since reason.Full s.0, s.1)
+      shows_since LoadTooLow s = (says_since reason.LoadTooLow s.0, s.1)
 
-      pub refused_since : (why : Why) → All (λ (x : Name × Reason). (x ≡ (q, NoRoom)) ⊎ (x ≡ (q, reason_of why))) more → ShowsWhy w.settings q why more r z → IsRefused w.settings q why p z
+      pub refused_since : (why : Why) → All (λ (x : Name × Reason). (x ≡ (q, NoRoom)) ⊎ (x ≡ (q, reason_of why))) more → ShowsWhy hash w.settings q why more r z → IsRefused hash w.settings q why p z
       refused_since why a shown =
           let Own : Name × Reason → Type 0 = λ x. (x ≡ (q, NoRoom)) ⊎ (x ≡ (q, reason_of why)) in
           let one : AllOwn q ((q, NoRoom) ∷ []) = one_own q in
@@ -108,5 +108,5 @@ module _ {V : Type 0} (q : Name) where
       pub room_after : {room : Room} → HasRoom hash w.settings q room r z → HasRoom hash w.settings q room p z
       room_after has = room_since hash p p1 r z full own h has.more has.stays has.own has.held
 
-      pub refused_after : (why : Why) → IsRefused w.settings q why r z → IsRefused w.settings q why p z
+      pub refused_after : (why : Why) → IsRefused hash w.settings q why r z → IsRefused hash w.settings q why p z
       refused_after why said = refused_since hash p p1 r z full own h said.more said.stays why said.own said.shown

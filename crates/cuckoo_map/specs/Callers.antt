@@ -129,21 +129,21 @@ module _ {V : Type 0} where
   -- the call on the two names was refused, since this stripe was busy
   abbrev pub IsBusyOnTwo : (Name → ℕ) → Name → Name → CallerState V → CallerState V → Busy → Type 0
   IsBusyOnTwo hash q r c d busy =
-      IsBusyAmong (IsStripeOfEither hash c.table.settings q r) c.table.settings.turns busy.0 c.pass d.pass
+      IsBusyAmong (IsStripeOfEither hash c.table.settings q r) c.table.settings busy.0 c.pass d.pass
 
   -- the call on all stripes was refused, since this one was busy
   abbrev pub IsBusyOnAny : CallerState V → CallerState V → Busy → Type 0
   IsBusyOnAny c d busy =
-      IsBusyAmong (IsStripeIn c.table.settings) c.table.settings.turns busy.0 c.pass d.pass
+      IsBusyAmong (IsStripeIn c.table.settings) c.table.settings busy.0 c.pass d.pass
 
   -- the insertion was refused, and key and value came back
-  abbrev pub ComesBack : {K : Type 0} → Name → K → V → CallerState V → CallerState V → Refused K V → Type 0
-  ComesBack q key value c d e =
-      (e.key ≡ key) × (e.value ≡ value) × IsRefused c.table.settings q e.why c.pass d.pass
+  abbrev pub ComesBack : {K : Type 0} → (Name → ℕ) → Name → K → V → CallerState V → CallerState V → Refused K V → Type 0
+  ComesBack hash q key value c d e =
+      (e.key ≡ key) × (e.value ≡ value) × IsRefused hash c.table.settings q e.why c.pass d.pass
 
   -- the call was refused, since it found this stripe held, which is such a one
   abbrev pub IsBusyOnSome : (ℕ → Type 0) → CallerState V → CallerState V → Busy → Type 0
-  IsBusyOnSome P c d busy = IsBusyAmong P c.table.settings.turns busy.0 c.pass d.pass
+  IsBusyOnSome P c d busy = IsBusyAmong P c.table.settings busy.0 c.pass d.pass
 
   -- no stripe was found held but such ones
   abbrev pub FindsHeldAmong : (ℕ → Type 0) → CallerState V → CallerState V → Type 0

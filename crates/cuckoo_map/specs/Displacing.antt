@@ -28,7 +28,7 @@ module _ {V : Type 0} where
 
   -- its last tries all found this stripe of the table held
   abbrev pub IsBusyAnywhere : Settings → ℕ → PassState V → PassState V → Type 0
-  IsBusyAnywhere set t p p2 = IsBusyAmong (λ u. u < 2 ^ set.s) set.turns t p p2
+  IsBusyAnywhere set t p p2 = IsBusyAmong (λ u. u < 2 ^ set.s) set t p p2
 
   -- It is so since each p after which no stripe was found held but those of the name, and it was said that the name's buckets were full.
   abbrev pub SinceFull : (Name → ℕ) → Settings → Name → PassState V → (PassState V → Type 0) → Type 0

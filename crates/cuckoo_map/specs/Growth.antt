@@ -21,7 +21,7 @@ module _ {V : Type 0} where
     pub told : OnOk result (power ≤ p2.view.told)
     pub grown : result ≡ Ok true → (p2.view.told ≡ power) × (p.view.told < power)
     pub short : result ≡ Err Memory → p2.view.told < power
-    pub busy : (t : ℕ) → result ≡ Err (Busy t) → IsBusyAmong (IsStripeIn set) set.turns t p p2
+    pub busy : (t : ℕ) → result ≡ Err (Busy t) → IsBusyAmong (IsStripeIn set) set t p p2
 
   -- the same of the least power with which it has n slots
   abbrev pub Reserves : Settings → ℕ → Result Bool GrowFault → PassState V → PassState V → Type 0

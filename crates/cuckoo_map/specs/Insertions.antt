@@ -1,5 +1,5 @@
 -- What an insertion leaves of its pass. Before it is answered or refused it may find its name without room, and say so.
-use Rattle.std.specs.Prelude.{◌≡◌, ◌⊎◌, ℕ, ◌<◌, ◌^◌, List, [], ◌∷◌, ◌++◌, All, Contains}
+use Rattle.std.specs.Prelude.{◌≡◌, ◌≢◌, ◌⊎◌, ℕ, ◌<◌, ◌^◌, List, [], ◌∷◌, ◌++◌, All, Contains}
 use Rattle.ck_model.specs.declared.history.Act.{Act}
 use Rattle.ck_model.specs.declared.history.Call.TheVariants.{On}
 use Rattle.ck_model.specs.declared.history.Reply.{Reply}
@@ -7,7 +7,9 @@ use Rattle.ck_model.specs.declared.history.Reason as history
 use Rattle.ck_model.specs.declared.history.Reason.TheVariants as reason
 use Rattle.ck_model.specs.declared.settings.Settings.{Settings}
 use Rattle.ck_model.specs.Map.{Name}
-use Rattle.ck_model.specs.Contents.{layout_of, IsStripeOf}
+use Rattle.ck_model.specs.History.{After}
+use Rattle.ck_model.specs.Contents.{layout_of, Stripes, IsStripeOf, bindings, power_of}
+use Rattle.ck_model.specs.Paths.{Grounds}
 use Rattle.ck_section.specs.Places.{IsPlaceOf}
 use Rattle.ck_section.specs.Entries.{IsEntryOf}
 use Rattle.cuckoo_map.specs.declared.key_room.Room.{Room}
@@ -58,16 +60,23 @@ module _ {V : Type 0} where
   abbrev pub FindsOwnUnlessFull : (Name → ℕ) → Settings → Name → PassState V → PassState V → Type 0
   FindsOwnUnlessFull hash set q p p2 = FindsAmong (λ t. IsStripeOf (layout_of hash set) q t ⊎ SaysNoRoom q p p2) p p2
 
-  -- what was found, or said of room, where an insertion is refused for this reason
-  abbrev pub ShowsWhy : Settings → Name → Why → List (Name × history.Reason) → PassState V → PassState V → Type 0
-  ShowsWhy set q (Busy t) more p p2 = (t < 2 ^ set.s) × FindsLast set.turns t p p2
-  ShowsWhy set q Memory more p p2 = Contains more (q, reason.Memory)
-  ShowsWhy set q Full more p p2 = Contains more (q, reason.Full)
-  ShowsWhy set q LoadTooLow more p p2 = Contains more (q, reason.LoadTooLow)
+  -- What all stripes contained gives the reason to refuse the name. It is what the history leaves, up to what the pass has seen, and the pass was told its power.
+  pub record GivesGrounds (hash : Name → ℕ) (set : Settings) (q : Name) (why : history.Reason) (p : PassState V) : Type 0 where
+    pub contents : Stripes V
+    pub grounds : Grounds (layout_of hash set) set.min_load contents q why
+    pub after : After p.view.seen (bindings contents)
+    pub power : p.view.told ≡ power_of contents
+
+  -- what was found, or said of room and why, where an insertion is refused for this reason
+  abbrev pub ShowsWhy : (Name → ℕ) → Settings → Name → Why → List (Name × history.Reason) → PassState V → PassState V → Type 0
+  ShowsWhy hash set q (Busy t) more p p2 = (t < 2 ^ set.s) × FindsLast set.turns t p p2 × (set.callers ≢ 1)
+  ShowsWhy hash set q Memory more p p2 = Contains more (q, reason.Memory) × GivesGrounds hash set q reason.Memory p2
+  ShowsWhy hash set q Full more p p2 = Contains more (q, reason.Full) × GivesGrounds hash set q reason.Full p2
+  ShowsWhy hash set q LoadTooLow more p p2 = Contains more (q, reason.LoadTooLow) × GivesGrounds hash set q reason.LoadTooLow p2
 
   -- The insertion was refused for this reason, and has no entry. It has said nothing of room but that its name's buckets were full, and the reason.
-  pub record IsRefused (set : Settings) (q : Name) (why : Why) (p p2 : PassState V) : Type 0 where
+  pub record IsRefused (hash : Name → ℕ) (set : Settings) (q : Name) (why : Why) (p p2 : PassState V) : Type 0 where
     pub more : List (Name × history.Reason)
     pub stays : StaysBut more p.view p2.view
     pub own : All (λ x. (x ≡ (q, reason.NoRoom)) ⊎ (x ≡ (q, reason_of why))) more
-    pub shown : ShowsWhy set q why more p p2
+    pub shown : ShowsWhy hash set q why more p p2

@@ -1,5 +1,5 @@
 -- What a call that is refused as busy leaves of its pass.
-use Rattle.std.specs.Prelude.{◌⊎◌, ℕ, ◌<◌, ◌^◌}
+use Rattle.std.specs.Prelude.{◌≢◌, ◌⊎◌, ℕ, ◌<◌, ◌^◌}
 use Rattle.ck_model.specs.declared.settings.Settings.{Settings}
 use Rattle.ck_model.specs.Map.{Name}
 use Rattle.ck_model.specs.Contents.{layout_of, IsStripeOf}
@@ -29,12 +29,13 @@ module _ {V : Type 0} where
   abbrev pub FindsOwn : (Name → ℕ) → Settings → Name → PassState V → PassState V → Type 0
   FindsOwn hash set q p p2 = FindsAmong (IsStripeOf (layout_of hash set) q) p p2
 
-  -- The call has no entry, and its last tries all found this stripe held, which is such a one.
-  pub record IsBusyAmong (P : ℕ → Type 0) (turns t : ℕ) (p p2 : PassState V) : Type 0 where
+  -- The call has no entry, and its last tries all found this stripe held, which is such a one. Its caller isn't the only one.
+  pub record IsBusyAmong (P : ℕ → Type 0) (set : Settings) (t : ℕ) (p p2 : PassState V) : Type 0 where
     pub stays : Stays p.view p2.view
     pub stripe : P t
-    pub tried : FindsLast turns t p p2
+    pub tried : FindsLast set.turns t p p2
+    pub others : set.callers ≢ 1
 
   -- it was a stripe of the name
   abbrev pub IsBusyAt : (Name → ℕ) → Settings → Name → ℕ → PassState V → PassState V → Type 0
-  IsBusyAt hash set q t p p2 = IsBusyAmong (IsStripeOf (layout_of hash set) q) set.turns t p p2
+  IsBusyAt hash set q t p p2 = IsBusyAmong (IsStripeOf (layout_of hash set) q) set t p p2

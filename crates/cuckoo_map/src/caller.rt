@@ -154,7 +154,7 @@ impl<'t, K: TableKey + Drop, V: Drop> Caller<'t, K, V> {
     pub fn insert(&mut self, key: K, value: V) -> Result<bool, Refused<K, V>>
         ensures same { IsSameCaller self.old self.new }
         ensures answered { IfOk result (Inserts (K.name key) value self.old self.new) }
-        ensures refused { IfErr result (ComesBack (K.name key) key value self.old self.new) }
+        ensures refused { IfErr result (ComesBack K.hash (K.name key) key value self.old self.new) }
         ensures found { FindsHeldUnlessFull K.hash (K.name key) self.old self.new }
     {
         self.table.insert(&mut self.pass, key, value)
@@ -171,7 +171,7 @@ impl<'t, K: TableKey + Drop, V: Drop> Caller<'t, K, V> {
     pub fn insert_or_assign(&mut self, key: K, value: V) -> Result<Option<V>, Refused<K, V>>
         ensures same { IsSameCaller self.old self.new }
         ensures answered { IfOk result (Assigns (K.name key) value self.old self.new) }
-        ensures refused { IfErr result (ComesBack (K.name key) key value self.old self.new) }
+        ensures refused { IfErr result (ComesBack K.hash (K.name key) key value self.old self.new) }
         ensures found { FindsHeldUnlessFull K.hash (K.name key) self.old self.new }
     {
         self.table.insert_or_assign(&mut self.pass, key, value)
@@ -196,7 +196,7 @@ impl<'t, K: TableKey + Drop, V: Drop> Caller<'t, K, V> {
         requires call { F.IsAlwaysCallable f }
         ensures same { IsSameCaller self.old self.new }
         ensures answered { IfOk result (Upserts (F.post f) (K.name key) value self.old self.new) }
-        ensures refused { IfErr result (ComesBack (K.name key) key value self.old self.new) }
+        ensures refused { IfErr result (ComesBack K.hash (K.name key) key value self.old self.new) }
         ensures found { FindsHeldUnlessFull K.hash (K.name key) self.old self.new }
     {
         self.table.upsert(&mut self.pass, key, f, value)

@@ -38,7 +38,7 @@ impl<K: TableKey + Drop, V: Drop> Table<K, V> {
         ensures idle { OnErr result (IsIdle pass.new) }
         ensures refused { IfErr result (λ why.
             SinceFull K.hash self.now.settings (K.name key.now) pass.old (λ p.
-            IsRefused self.now.settings (K.name key.now) why p pass.new)) }
+            IsRefused K.hash self.now.settings (K.name key.now) why p pass.new)) }
     {
         let hash = KeyHash::of(key);
         let mut power = power;

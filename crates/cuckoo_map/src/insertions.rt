@@ -39,7 +39,7 @@ impl<K: TableKey + Drop, V: Drop> Table<K, V> {
         ensures answered { IfOk result (λ fresh.
             IsInserted (K.name key) (Insert value) (if fresh then New else Old) pass.old pass.new) }
         ensures refused { IfErr result (λ e. (e.key ≡ key) × (e.value ≡ value)
-            × IsRefused self.now.settings (K.name key) e.why pass.old pass.new) }
+            × IsRefused K.hash self.now.settings (K.name key) e.why pass.old pass.new) }
         ensures found { FindsOwnUnlessFull K.hash self.now.settings (K.name key) pass.old pass.new }
     {
         self.place(pass, key, value, entries::Insert)
@@ -65,7 +65,7 @@ impl<K: TableKey + Drop, V: Drop> Table<K, V> {
         ensures answered { IfOk result (λ old.
             IsInserted (K.name key) (Assign value) (Was old) pass.old pass.new) }
         ensures refused { IfErr result (λ e. (e.key ≡ key) × (e.value ≡ value)
-            × IsRefused self.now.settings (K.name key) e.why pass.old pass.new) }
+            × IsRefused K.hash self.now.settings (K.name key) e.why pass.old pass.new) }
         ensures found { FindsOwnUnlessFull K.hash self.now.settings (K.name key) pass.old pass.new }
     {
         self.place(pass, key, value, entries::Assign)
@@ -99,7 +99,7 @@ impl<K: TableKey + Drop, V: Drop> Table<K, V> {
             ((v w : V) × F.post f v w
             × IsInserted (K.name key) (Upsert value) (Done v w) pass.old pass.new)) }
         ensures refused { IfErr result (λ e. (e.key ≡ key) × (e.value ≡ value)
-            × IsRefused self.now.settings (K.name key) e.why pass.old pass.new) }
+            × IsRefused K.hash self.now.settings (K.name key) e.why pass.old pass.new) }
         ensures found { FindsOwnUnlessFull K.hash self.now.settings (K.name key) pass.old pass.new }
     {
         self.place(pass, key, value, entries::Upsert(f))
@@ -123,7 +123,7 @@ impl<K: TableKey + Drop, V: Drop> Table<K, V> {
         ensures answered { IfOk result (λ answer. (reply : Reply V) × I.tells insertion answer reply
             × IsInserted (K.name key) (I.asks value) reply pass.old pass.new) }
         ensures refused { IfErr result (λ e. (e.key ≡ key) × (e.value ≡ value)
-            × IsRefused self.now.settings (K.name key) e.why pass.old pass.new) }
+            × IsRefused K.hash self.now.settings (K.name key) e.why pass.old pass.new) }
         ensures found { FindsOwnUnlessFull K.hash self.now.settings (K.name key) pass.old pass.new }
     {
         let since = Snapshot::of(pass);
@@ -158,7 +158,7 @@ impl<K: TableKey + Drop, V: Drop> Table<K, V> {
         ensures answered { IfOk result (λ answer. (reply : Reply V) × I.tells insertion answer reply
             × IsInserted (K.name key) (I.asks value) reply since.value pass.new) }
         ensures refused { IfErr result (λ e. (e.key ≡ key) × (e.value ≡ value)
-            × IsRefused self.now.settings (K.name key) e.why since.value pass.new) }
+            × IsRefused K.hash self.now.settings (K.name key) e.why since.value pass.new) }
         ensures found { FindsOwnUnlessFull K.hash self.now.settings (K.name key)
             since.value pass.new }
     {
@@ -191,7 +191,7 @@ impl<K: TableKey + Drop, V: Drop> Table<K, V> {
         ensures answered { IfOk result (λ answer. (reply : Reply V) × I.tells insertion answer reply
             × IsInserted (K.name key) (I.asks value) reply since.value pass.new) }
         ensures refused { IfErr result (λ e. (e.key ≡ key) × (e.value ≡ value)
-            × IsRefused self.now.settings (K.name key) e.why since.value pass.new) }
+            × IsRefused K.hash self.now.settings (K.name key) e.why since.value pass.new) }
         ensures found { FindsOwnUnlessFull K.hash self.now.settings (K.name key)
             since.value pass.new }
     {
@@ -225,7 +225,7 @@ impl<K: TableKey + Drop, V: Drop> Table<K, V> {
         ensures answered { IfOk result (λ answer. (reply : Reply V) × I.tells insertion answer reply
             × IsInserted (K.name key) (I.asks value) reply since.value pass.new) }
         ensures refused { IfErr result (λ e. (e.key ≡ key) × (e.value ≡ value)
-            × IsRefused self.now.settings (K.name key) e.why since.value pass.new) }
+            × IsRefused K.hash self.now.settings (K.name key) e.why since.value pass.new) }
         ensures found { FindsOwnUnlessFull K.hash self.now.settings (K.name key)
             since.value pass.new }
     {

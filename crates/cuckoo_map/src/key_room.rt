@@ -45,7 +45,7 @@ impl<K: TableKey + Drop, V: Drop> Table<K, V> {
         ensures found { FindsAmong (IsStripeIn self.now.settings) pass.old pass.new }
         ensures idle { OnErr result (IsIdle pass.new) }
         ensures refused { IfErr result (λ why.
-            IsRefused self.now.settings (K.name key.now) why pass.old pass.new) }
+            IsRefused K.hash self.now.settings (K.name key.now) why pass.old pass.new) }
     {
         if let Err(Busy(stripe)) = self.hold_table(pass) {
             return Err(Why::Busy(stripe));

@@ -16,7 +16,7 @@ ghost use Rattle.ck_section.specs.Whole.{AreAllHeld};
 ghost use Rattle.ck_section.specs.Calls.{effect, IsCall, IsWithoutRoom, ChangesContents};
 ghost use Rattle.ck_section.specs.Room.{KeepsBindings, MakesRoom, GivesReason};
 ghost use Rattle.ck_words.specs.Retries.{FindsAmong};
-ghost use Rattle.ck_words.specs.Answering.{IsAnswered};
+ghost use Rattle.ck_words.specs.Answering.{IsAnswered, FollowsSeen};
 ghost use Rattle.ck_words.specs.Closing.{IsCaller};
 ghost use Rattle.cuckoo_map.specs.Refusals.{IsStripeIn, IsBusyAmong, why_of};
 ghost use Rattle.cuckoo_map.specs.Locking.{start_of, map_of, HasLocked, HasActed, KeepsMap, LacksRoom, SeeksRoom};
@@ -69,7 +69,7 @@ impl<K: TableKey + Drop, V: Drop> Table<K, V> {
         ensures locked { IfOk result (HasLocked self.now pass) }
         ensures caller { IfErr result (λ back. IsCaller self.now back.0) }
         ensures busy { IfErr result (λ back. IsBusyAmong (IsStripeIn self.now.settings)
-            self.now.settings.turns back.1.0 pass back.0) }
+            self.now.settings back.1.0 pass back.0) }
         ensures found { IfErr result (λ back.
             FindsAmong (IsStripeIn self.now.settings) pass back.0) }
     {
@@ -169,10 +169,14 @@ impl<'t, K: TableKey + Drop, V: Drop> LockedTable<'t, K, V> {
         entries(stripes_of(&self.whole)) as u64
     }
 
-    /// Unlocks the table, by which all that was done to it becomes one entry of the history.
+    /// Unlocks the table, by which all that was done to it becomes one entry of the history. No
+    /// other stands between what was seen when the table was locked and this one.
     pub fn unlock(self) -> Pass<K, V>
         ensures caller { IsCaller self.entry.table result }
         ensures answered { IsAnswered
+            (Session (entries (start_of self.entry)) (entries (map_of self.entry))) Closed
+            self.entry.pass result }
+        ensures follows { FollowsSeen
             (Session (entries (start_of self.entry)) (entries (map_of self.entry))) Closed
             self.entry.pass result }
         ensures found { result.view.found ≡ self.entry.pass.view.found }

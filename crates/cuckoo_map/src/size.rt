@@ -24,7 +24,7 @@ impl<K: TableKey + Drop, V: Drop> Table<K, V> {
         ensures caller { IsCaller self.now pass.new }
         ensures answered { IfOk result (λ count. IsAnswered Len (Count count) pass.old pass.new) }
         ensures busy { IfErr result (λ busy. IsBusyAmong (IsStripeIn self.now.settings)
-            self.now.settings.turns busy.0 pass.old pass.new) }
+            self.now.settings busy.0 pass.old pass.new) }
         ensures found { FindsAmong (IsStripeIn self.now.settings) pass.old pass.new }
     {
         self.hold_table(pass)?;
@@ -48,7 +48,7 @@ impl<K: TableKey + Drop, V: Drop> Table<K, V> {
         ensures stays { OnOk result (Stays pass.old.view pass.new.view) }
         ensures told { IfOk result (λ power. power ≡ pass.new.view.told) }
         ensures busy { IfErr result (λ busy. IsBusyAmong (λ t. t ≡ 0)
-            self.now.settings.turns busy.0 pass.old pass.new) }
+            self.now.settings busy.0 pass.old pass.new) }
         ensures found { FindsAmong (λ t. t ≡ 0) pass.old pass.new }
     {
         match self.words.power(pass) {
@@ -68,7 +68,7 @@ impl<K: TableKey + Drop, V: Drop> Table<K, V> {
         ensures found { FindsAmong (IsStripeIn self.now.settings) pass.old pass.new }
         ensures idle { OnErr result (IsIdle pass.new) }
         ensures busy { IfErr result (λ busy. IsBusyAmong (IsStripeIn self.now.settings)
-            self.now.settings.turns busy.0 pass.old pass.new) }
+            self.now.settings busy.0 pass.old pass.new) }
     {
         match self.words.lock_all(pass) {
             Ok(()) => Ok(()),

@@ -26,4 +26,4 @@ returns g c =
     let jobs = c.in_ok-jobs.jobs.items in
     let given = given_dealt g.K.TableKey.name w set c.args.work.workers.items c.in_ok-table.passes.items jobs c.in_ok-table.ensures.dealt c.args.work.callers c.in_ok-jobs.ensures.jobs in
     output_of_run g.K.TableKey.name w set g.K.WrittenKey.keys c.args.work jobs c.in_ok-dones.dones.items c.in_ok-answers.passes.items c.in_ok-answers.answers.items c.text_at_end.result
-    given c.in_ok-dones.ensures c.in_ok-answers.ensures.passes c.in_ok-answers.ensures.answers (rw c.deref.ensures.value at c.text_at_end.ensures)
+    (ap (λ (s : Settings). s.callers) c.in_ok-table.ensures.settings ∙ c.args.work.callers) given c.in_ok-dones.ensures c.in_ok-answers.ensures.passes c.in_ok-answers.ensures.answers (rw c.deref.ensures.value at c.text_at_end.ensures)

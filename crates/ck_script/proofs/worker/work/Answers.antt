@@ -5,6 +5,9 @@ use Rattle.std.proofs.lemmas.Iterator.Adapters.{YieldsList-from_vec}
 use Rattle.ck_words.specs.Words.{WordsState}
 use Rattle.ck_words.specs.Passes.{PassState}
 use Rattle.ck_words.specs.Closing.{IsCaller}
+use Rattle.ck_format.specs.Script.{on_names}
+use Rattle.ck_format.specs.Answers.{answer_on_names}
+use Rattle.ck_script.specs.Answered.{StaysOrGrows}
 use Rattle.ck_script.proofs.Entries.{left_by_one, left_by_all}
 use Rattle.ck_script.proofs.worker.work.Goals as goal
 
@@ -18,8 +21,10 @@ loop-command-preserved g c =
       count = c.push_reserved.ensures.len ∙ ap (λ n. n + 1) before.count ∙ sym one_more;
       room = omega (arith, before.room, c.push_reserved.ensures.capacity);
       entries = λ by is.
-          left_by_one g.K.TableKey.name by c.loop-command.yielded c.in-Some.command c.loop-command.answers.items c.push_reserved.new.self.items c.answer_of-answer.result.0 c.loop-command.caller.pass.view.mine c.answer_of-answer.result.1.pass.view.mine
-          (before.entries by is) (now.entries by (before.same.by ∙ is)) c.push_reserved.ensures.items;
+          left_by_one g.K.TableKey.name c.args.job.caller.table.settings.callers by c.loop-command.yielded c.in-Some.command c.loop-command.answers.items c.push_reserved.new.self.items c.answer_of-answer.result.0 c.loop-command.caller.pass.view.mine c.answer_of-answer.result.1.pass.view.mine
+          (before.entries by is)
+          (subst (λ (w : WordsState). StaysOrGrows w.settings.callers by (on_names g.K.TableKey.name c.in-Some.command) (answer_on_names g.K.TableKey.name c.answer_of-answer.result.0) c.loop-command.caller.pass.view.mine c.answer_of-answer.result.1.pass.view.mine) before.same.table
+          (now.entries by (before.same.by ∙ is))) c.push_reserved.ensures.items;
     }
 
 pub returns : goal.returns
@@ -31,6 +36,6 @@ returns g c =
       caller = subst (λ (w : WordsState). IsCaller w c.into_pass.result) before.same.table c.into_pass.ensures.caller;
       by = ap (λ (p : PassState ℕ). p.view.by) c.into_pass.ensures.pass ∙ before.same.by;
       entries = λ by is.
-          left_by_all g.K.TableKey.name by c.loop-command.yielded c.args.job.commands.items c.loop-command.answers.items c.loop-command.caller.pass.view.mine c.into_pass.result.view.mine
+          left_by_all g.K.TableKey.name c.args.job.caller.table.settings.callers by c.loop-command.yielded c.args.job.commands.items c.loop-command.answers.items c.loop-command.caller.pass.view.mine c.into_pass.result.view.mine
           (before.entries by is) all (ap (λ (p : PassState ℕ). p.view.mine) c.into_pass.ensures.pass);
     }

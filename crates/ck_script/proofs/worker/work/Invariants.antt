@@ -10,5 +10,5 @@ invariant-loop-command g l = record {
   same : IsSameCaller l.initial.caller l.caller;
   count : vec_len l.answers ≡ length l.yielded;
   room : vec_capacity l.initial.answers ≤ vec_capacity l.answers;
-  entries : (by : ℕ) → l.initial.caller.pass.view.by ≡ Some by → HaveLeft by (map (on_names g.K.TableKey.name) l.yielded) (answers_on_names g.K.TableKey.name l.answers.items) l.caller.pass.view.mine;
+  entries : (by : ℕ) → l.initial.caller.pass.view.by ≡ Some by → HaveLeft l.initial.caller.table.settings.callers by (map (on_names g.K.TableKey.name) l.yielded) (answers_on_names g.K.TableKey.name l.answers.items) l.caller.pass.view.mine;
 }

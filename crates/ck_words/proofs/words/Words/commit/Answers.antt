@@ -24,4 +24,4 @@ returns g c =
     let p = c.args.pass.now in
     let q = c.release_first.new.pass in
     subst (λ (x : Commit g.row.K.Denot g.row.V.Denot). HasCommitted hash w (call_of name x) p q) c.of-said.ensures
-    (has_committed hash w (call_of name c.of-said.result.value) p c.requires.caller c.decide.new.pass q c.decide.ensures.step c.release_first.ensures.released)
+    (has_committed hash w (call_of name c.of-said.result.value) p c.requires.caller c.requires.own.1 c.decide.new.pass q c.decide.ensures.step c.release_first.ensures.released)

@@ -17,4 +17,4 @@ release_first-requires-clause-numbered g c = let ns = list_of c.args.set in
 pub returns : goal.returns
 returns g c =
     let p = c.args.pass.now in
-    has_committed g.K.TableKey.hash c.args.self.now (session_of p) p c.requires.caller c.decide.new.pass c.release_first.new.pass c.decide.ensures.step c.release_first.ensures.released
+    has_committed g.K.TableKey.hash c.args.self.now (session_of p) p c.requires.caller c.requires.own.1 c.decide.new.pass c.release_first.new.pass c.decide.ensures.step c.release_first.ensures.released

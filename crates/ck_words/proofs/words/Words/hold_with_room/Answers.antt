@@ -1,6 +1,8 @@
 use Rattle.std.proofs.Common.{rules, ◌≡◌, sym, subst}
 use Rattle.ck_core.specs.declared.view.View.{View}
+use Rattle.ck_words.specs.Passes.{PassState}
 use Rattle.ck_words.specs.Retries.{Stays}
+use Rattle.ck_words.specs.Closing.{IsWhole}
 use Rattle.ck_words.proofs.Staying.{stays_on}
 use Rattle.ck_words.proofs.words.Words.hold_with_room.Goals as goal
 
@@ -17,3 +19,11 @@ returns-clause-stays g c =
     let view : c.len.new.held.pass.now.view ≡ c.lock_all.new.pass.view = c.len.ensures.stays.1 in
     let there : c.len.new.held.pass.now ≡ c.in-Ok-with_capacity.pass-1-own.given.0 = search rules in
     rw (← there) (subst (λ (v : View g.row.V.Denot). Stays c.args.pass.now.view v) (sym view) c.lock_all.ensures.stays)
+
+pub returns-clause-whole : goal.returns-clause-whole
+returns-clause-whole g c =
+    let p : PassState g.row.V.Denot = c.lock_all.new.pass in
+    let q : PassState g.row.V.Denot = c.len.new.held.pass.now in
+    let same : p ≡ q = λ i. record { table = sym c.len.ensures.stays.2 i; view = sym c.len.ensures.stays.1 i; stripes = sym c.len.ensures.same i } in
+    let there : q ≡ c.in-Ok-with_capacity.pass-1-own.given.0 = search rules in
+    rw (← there) (subst (λ (x : PassState g.row.V.Denot). IsWhole g.K.TableKey.hash c.args.self.now.settings x) same c.in-Ok.ensures.whole)

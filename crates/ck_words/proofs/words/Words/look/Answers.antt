@@ -1,5 +1,5 @@
 use Rattle.ck_words.proofs.Seating.{ready_on}
-use Rattle.ck_words.proofs.Takes.{fits, same_table, some_word, own_after, look_ready, look_settings, looked, looked_seated}
+use Rattle.ck_words.proofs.Takes.{fits, same_table, some_word, own_after, look_ready, look_lasts, looked, looked_seated}
 use Rattle.ck_words.proofs.words.Words.look.Goals as goal
 
 pub load-requires : goal.load-requires
@@ -12,7 +12,7 @@ invariant_of-pass g c = ready_on c.pass.invariant c.load.ensures.0 (let f = fits
 
 pub returns-clause-own : goal.returns-clause-own
 returns-clause-own g c = let f = fits _ _ _ _ _ _ c.pass.inside.seat.me c.self.view_is c.self.invariant c.pass.view_is c.requires.own in let h = g.K.TableKey.hash in
-    own_after h _ _ _ _ _ _ _ f c.load.new.seat.table_id c.load.new.seat.me c.load.ensures.0 (look_settings h _ _ _ _ _ _ _ f _ c.load.ensures.2)
+    own_after h _ _ _ _ _ _ _ f c.load.new.seat.table_id c.load.new.seat.me c.load.ensures.0 (look_lasts h _ _ _ _ _ _ _ f _ c.load.ensures.2)
 
 pub returns-clause-step : goal.returns-clause-step
 returns-clause-step g c = let f = fits _ _ _ _ _ _ c.pass.inside.seat.me c.self.view_is c.self.invariant c.pass.view_is c.requires.own in let h = g.K.TableKey.hash in

@@ -1,4 +1,4 @@
-use Rattle.std.proofs.Common.{◌≡◌, ◌∙◌, ◌++◌, ◌∷◌, [], ap, sym, subst, refl, set, arith}
+use Rattle.std.proofs.Common.{◌≡◌, ◌≤◌, ◌∙◌, ◌++◌, ◌∷◌, [], ap, sym, subst, refl, set, arith}
 use Rattle.ck_model.specs.declared.settings.Settings.{Settings}
 use Rattle.ck_words.specs.Words.{WordsState}
 use Rattle.ck_words.specs.Passes.{IsPassOf}
@@ -29,4 +29,4 @@ returns-clause-all g c =
     let same : w.settings ≡ c.args.settings = ap (λ (x : WordsState). x.settings) c.words.view_is ∙ c.in_ok-words.ensures.settings in
     let callers = ap (λ (x : Settings). x.callers) same in
     subst (λ (x : WordsState). AreAllPasses x c.loop-i.passes.items) c.words.view_is
-    (dealt_all w w.settings c.loop-i.passes.items refl (dealt_whole w.table w.settings c.loop-i._i c.loop-i.passes.items (omega arith) (omega arith) c.loop-i.invariant))
+    (dealt_all w w.settings c.loop-i.passes.items (subst (λ (x : Settings). x.power ≤ x.max) (sym same) c.requires.growth) refl (dealt_whole w.table w.settings c.loop-i._i c.loop-i.passes.items (omega arith) (omega arith) c.loop-i.invariant))

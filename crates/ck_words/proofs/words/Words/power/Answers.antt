@@ -1,7 +1,8 @@
-use Rattle.std.proofs.Common.{◌≡◌, ◌∙◌, sym, refl, subst}
+use Rattle.std.proofs.Common.{◌≡◌, ◌∙◌, ◌++◌, [], ap, append-nil, replicate, sym, refl, subst}
 use Rattle.ck_words.specs.Passes.{PassState}
 use Rattle.ck_words.specs.Retries.{Stays}
 use Rattle.ck_words.proofs.Staying.{stays_finding, among_held}
+use Rattle.ck_words.proofs.Taking.{found_by_two}
 use Rattle.ck_words.proofs.Telling.{stays_home, found_home, told_there}
 use Rattle.ck_words.proofs.words.Words.power.Goals as goal
 
@@ -13,6 +14,22 @@ returns-then-not-try_take-clause-stays g c =
 pub returns-then-not-try_take-clause-found : goal.returns-then-not-try_take-clause-found
 returns-then-not-try_take-clause-found g c =
     among_held (λ t. t ≡ 0) c.args.self.now.settings.turns 0 c.args.pass.now c.try_take.new.pass refl c.if-not-try_take.ensures.tries
+
+-- the stripe was found held to the end
+pub returns-then-not-try_take-clause-busy : goal.returns-then-not-try_take-clause-busy
+returns-then-not-try_take-clause-busy g c =
+    let p = c.args.pass.now in
+    let z = c.try_take.new.pass in
+    let turns = c.args.self.now.settings.turns in
+    let again = c.if-not-try_take.ensures.tries in
+    let found = ap (λ (q : PassState g.row.V.Denot). q.view.found) again in (
+      refl,
+      (
+        (ap (λ (q : PassState g.row.V.Denot). q.stripes) again ∙ c.requires.idle.0, ap (λ (q : PassState g.row.V.Denot). q.view.held) again ∙ c.requires.idle.1),
+        ([], found ∙ ap (λ l. l ++ p.view.found) (sym (append-nil (replicate turns 0)))),
+        found_by_two c.args.self.now turns 0 z p.view.found c.show_range.ensures.turns c.try_take.ensures.own found,
+      ),
+    )
 
 pub returns-clause-stays : goal.returns-clause-stays
 returns-clause-stays g c =

@@ -4,9 +4,11 @@ use Rattle.ck_model.specs.Counting.{counting}
 use Rattle.ck_words.specs.Words.{WordsState}
 use Rattle.ck_words.specs.Passes.{EachOf, PassState, numbers_of}
 use Rattle.ck_words.specs.Commits.{session_of}
-use Rattle.ck_words.specs.Answering.{HasDone, IsAnswered}
+use Rattle.ck_model.specs.Contents.{layout_of}
+use Rattle.ck_model.specs.Sections.{HasAll}
+use Rattle.ck_words.specs.Answering.{HasDone, IsAnswered, FollowsSeen}
 use Rattle.cuckoo_map.specs.Locking.{LockedState}
-use Rattle.cuckoo_map.proofs.Sessions.{numbered, each_of, session_done}
+use Rattle.cuckoo_map.proofs.Sessions.{numbered, each_of, had_all_held, session_done}
 use Rattle.cuckoo_map.proofs.locked.LockedTable.unlock.Goals as goal
 
 pub lower-pass-requires-clause-numbered : goal.lower-pass-requires-clause-numbered
@@ -35,3 +37,12 @@ returns-clause-answered g c =
     (session_done g.K.TableKey.hash c.self.inside.table.now c.self.inside.whole c.self.invariant q c.lower-pass.ensures) in
     subst (λ (p : PassState g.row.V.Denot). IsAnswered (session_of p) Closed p c.commit_session.new.pass) (c.lower-pass.ensures ∙ ap (λ (l : LockedState g.row.V.Denot). l.pass) c.self.view_is)
     (c.commit_session.ensures.answered Closed done)
+
+pub returns-clause-follows : goal.returns-clause-follows
+returns-clause-follows g c =
+    let q = c.lower-pass.result in
+    let h = g.K.TableKey.hash in
+    let done = subst (λ (w : WordsState). HasDone h w.settings (session_of q) Closed q) (sym c.table.view_is) (session_done h c.self.inside.table.now c.self.inside.whole c.self.invariant q c.lower-pass.ensures) in
+    let all : HasAll (layout_of h c.self.inside.table.now.settings) q.view.held = subst (λ (p : PassState g.row.V.Denot). HasAll (layout_of h c.self.inside.table.now.settings) p.view.held) (sym c.lower-pass.ensures) (had_all_held h c.self.inside.table.now c.self.inside.whole c.self.invariant) in
+    subst (λ (p : PassState g.row.V.Denot). FollowsSeen (session_of p) Closed p c.commit_session.new.pass) (c.lower-pass.ensures ∙ ap (λ (l : LockedState g.row.V.Denot). l.pass) c.self.view_is)
+    (c.commit_session.ensures.follows Closed done (subst (λ (w : WordsState). HasAll (layout_of h w.settings) q.view.held) (sym c.table.view_is) all))

@@ -26,8 +26,8 @@ returns-in-Err-lock_later-clause-found g c =
 pub returns-in-Err-lock_later-clause-busy : goal.returns-in-Err-lock_later-clause-busy
 returns-in-Err-lock_later-clause-busy g c =
     let gave = c.in-Err-lock_later.ensures.refused c.args.pass.now c.in-Err.ensures.missed in
-    let busy = subst (λ (w : WordsState). IsBusy w.settings.turns c.in-Err-lock_later.stripe c.args.pass.now c.lock_later.new.pass) c.self.view_is gave.busy in
-    busy_such (list_of c.home_of-home.result.stripes) c.home_of-home.ensures.exact c.args.self.now.settings.turns c.args.pass.now c.lock_later.new.pass c.in-Err-lock_later.stripe gave.stays busy gave.asked
+    let busy = subst (λ (w : WordsState). IsBusy w.settings c.in-Err-lock_later.stripe c.args.pass.now c.lock_later.new.pass) c.self.view_is gave.busy in
+    busy_such (list_of c.home_of-home.result.stripes) c.home_of-home.ensures.exact c.args.self.now.settings c.args.pass.now c.lock_later.new.pass c.in-Err-lock_later.stripe gave.stays busy gave.asked
 
 -- the stripes were taken at once, or later
 pub spot_in-requires-clause-taken : goal.spot_in-requires-clause-taken

@@ -26,7 +26,7 @@ pub returns-in-Err-clause-refused : goal.returns-in-Err-clause-refused
 returns-in-Err-clause-refused g c = λ p full own.
     let q = g.K.TableKey.name c.args.key.now in
     let set = c.args.self.now.settings in
-    let busy = refused_among (λ (t : ℕ). t < 2 ^ set.s) set (λ t l. l) q c.in-Err.field-0.0 c.tries.pass c.displace.new.pass c.in-Err.ensures.busy in
+    let busy = refused_among (λ (t : ℕ). t < 2 ^ set.s) g.K.TableKey.hash set (λ t l. l) q c.in-Err.field-0.0 c.tries.pass c.displace.new.pass c.in-Err.ensures.busy in
     refused_after q c.args.self.now g.K.TableKey.hash p c.args.pass.now c.tries.pass c.displace.new.pass full own c.tries.invariant.tried (Busy c.in-Err.field-0.0) busy
 
 -- a stripe of the key was found held

@@ -1,13 +1,23 @@
 use Rattle.std.proofs.Common.{sym, subst}
 use Rattle.cuckoo_map.specs.declared.refusal.Why.{Why}
+use Rattle.ck_section.specs.Room.{reason_of_lack}
 use Rattle.cuckoo_map.specs.Insertions.{IsRefused}
+use Rattle.cuckoo_map.proofs.Grounding.{gives_grounds}
 use Rattle.cuckoo_map.proofs.Rooms.{refused_there}
 use Rattle.cuckoo_map.proofs.table.Table.make_room_in_all.Goals as goal
 
 pub returns-in-Err-make_room_held-clause-refused : goal.returns-in-Err-make_room_held-clause-refused
 returns-in-Err-make_room_held-clause-refused g c =
-    let set = c.args.self.now.settings in
+    let hash = g.K.TableKey.hash in
+    let w = c.args.self.now in
+    let set = w.settings in
     let q = g.K.TableKey.name c.args.key.now in
+    let p = c.args.pass.now in
+    let p1 = c.hold_table.new.pass in
+    let p2 = c.make_room_held.new.pass in
     let z = c.refuse.new.pass in
-    subst (λ (why : Why). IsRefused set q why c.args.pass.now z) (sym c.of.ensures)
-    (refused_there c.args.pass.now c.hold_table.new.pass c.make_room_held.new.pass c.hold_table.ensures.stays c.make_room_held.ensures.view set q _ c.in-Err-make_room_held.lack z c.refuse.ensures.refused)
+    let lack = c.in-Err-make_room_held.lack in
+    let grounds = gives_grounds hash w p p1 p2 z c.hold_table.ensures.stays c.in_default.ensures.whole c.make_room_held.ensures.view c.make_room_held.ensures.renewed
+    q (reason_of_lack lack) c.in-Err-make_room_held.ensures.grounds c.refuse.ensures.refused.seen c.refuse.ensures.told in
+    subst (λ (why : Why). IsRefused hash set q why p z) (sym c.of.ensures)
+    (refused_there p p1 p2 c.hold_table.ensures.stays c.make_room_held.ensures.view hash set q _ lack z c.refuse.ensures.refused grounds)

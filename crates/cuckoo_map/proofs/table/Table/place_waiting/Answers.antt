@@ -43,8 +43,8 @@ returns-in-Err-clause-refused g c =
     let t = c.in-Err.stripe in
     let missed = subst (λ (x : WordsState × List ℕ). Misses g.K.TableKey.hash x.0 x.1 c.args.missed p c.args.pass.now) (λ j. (sym c.self.view_is j, sym c.home_of-home.ensures.list j)) c.requires.missed in
     let gave = c.in-Err.ensures.refused p missed in
-    let busy = subst (λ (w : WordsState). IsBusy w.settings.turns t p z) c.self.view_is gave.busy in
-    (refl, refl, refused_busy g.K.TableKey.hash set (g.K.TableKey.name c.args.key) t p z (busy_such ns c.home_of-home.ensures.exact set.turns p z t gave.stays busy gave.asked))
+    let busy = subst (λ (w : WordsState). IsBusy w.settings t p z) c.self.view_is gave.busy in
+    (refl, refl, refused_busy g.K.TableKey.hash set (g.K.TableKey.name c.args.key) t p z (busy_such ns c.home_of-home.ensures.exact set p z t gave.stays busy gave.asked))
 
 pub returns-in-Err-clause-found : goal.returns-in-Err-clause-found
 returns-in-Err-clause-found g c =

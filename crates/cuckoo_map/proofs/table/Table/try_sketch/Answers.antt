@@ -19,7 +19,8 @@ pub returns-in-Err-clause-busy : goal.returns-in-Err-clause-busy
 returns-in-Err-clause-busy g c = record {
   stays = c.lock.ensures.stays;
   stripe = below_set c.of_buckets-stripe.result c.args.self.now.settings.s c.in-Err.stripe (c.of_buckets-stripe.ensures.s ∙ s_of c.self.view_is c.settings-s.ensures.value) c.in-Err.ensures.asked;
-  tried = (let busy = subst (λ (w : WordsState). IsBusy w.settings.turns c.in-Err.stripe c.args.pass.now c.lock.new.pass) c.self.view_is c.in-Err.ensures.busy in busy.1);
+  tried = (let busy = subst (λ (w : WordsState). IsBusy w.settings c.in-Err.stripe c.args.pass.now c.lock.new.pass) c.self.view_is c.in-Err.ensures.busy in busy.1);
+  others = (let busy = subst (λ (w : WordsState). IsBusy w.settings c.in-Err.stripe c.args.pass.now c.lock.new.pass) c.self.view_is c.in-Err.ensures.busy in busy.2);
 }
 
 pub returns-clause-back : goal.returns-clause-back
