@@ -233,7 +233,7 @@ module _ {K : Type 0} (name : K → Name) (w : WordsState) (set : Settings) wher
   output_of_run keys work jobs dones passes answers (Ok text) count given worked same_passes same_answers end =
       let workers = work.workers.items in
       let n : ℕ = length (workers_on_names name workers) in
-      let all : w.settings.callers ≡ n = count ∙ sym (length-map (λ (cs : Vec (Command K)). map (on_names name) cs.items) workers) in
+      let all : w.settings.callers ≡ n = count ∙ sym (length-map workers (λ (cs : Vec (Command K)). map (on_names name) cs.items)) in
       let have : HaveParts n 0 (workers_on_names name workers) (lists_on_names name answers) (parts_of passes) =
       subst (λ (told : List (Vec (Answer (Vec (K × ℕ))))). HaveParts n 0 (workers_on_names name workers) (lists_on_names name told) (parts_of passes)) (sym same_answers)
       (subst (λ (ps : List (PassState ℕ)). HaveParts n 0 (workers_on_names name workers) (lists_on_names name (answers_of dones)) (parts_of ps)) (sym same_passes)
