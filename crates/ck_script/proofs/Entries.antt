@@ -11,16 +11,13 @@ use Rattle.cuckoo_map.specs.declared.refusal.Why.TheVariants.{Busy, Memory, Full
 use Rattle.cuckoo_map.specs.Insertions.{IsRefused}
 use Rattle.cuckoo_map.specs.Callers.{CallerState, IsSameCaller}
 use Rattle.ck_format.specs.declared.script.Command.{Command}
+use Rattle.ck_format.specs.declared.script.Command.TheVariants as command
 use Rattle.ck_format.specs.declared.answer.Answer.{Answer}
 use Rattle.ck_format.specs.Script.{on_names}
 use Rattle.ck_format.specs.Text.{Pairs}
-use Rattle.ck_script.specs.Output.{IsRefusal}
+use Rattle.ck_script.specs.Output.{NeedsRoom, IsRefusal}
 use Rattle.ck_format.specs.Answers.{answer_on_names, answers_on_names}
-use Rattle.ck_script.specs.Answered.{HasOthers, StaysOrGrows, HaveLeft, IsAnsweredBy}
-
--- a refused call
-pub uncalled : (c : Command Name) (a : Answer Pairs) (p q : CallerState ℕ) → IsSameCaller p q → IsRefusal p.table.settings.callers c a → q.pass.view.mine ≡ p.pass.view.mine → IsAnsweredBy c a p q
-uncalled c a p q same refusal h = record { same = same; entries = λ by is. inl (refusal, h) }
+use Rattle.ck_script.specs.Answered.{printed, PrintsWhy, CommandPrintsWhy, HasOthers, StaysOrGrows, HaveLeft, IsAnsweredBy}
 
 -- what the last command left
 left_last : (n by : ℕ) (c : Command Name) (a : Answer Pairs) (new : List (Entry ℕ)) → StaysOrGrows n by c a [] new → HaveLeft n by (c ∷ []) (a ∷ []) new
@@ -70,8 +67,35 @@ left_by_all {K} name n by so_far commands answers mine es have all same =
     (subst (λ (cs : List (Command K)). HaveLeft n by (map (on_names name) cs) (answers_on_names name answers) mine) all have)
 
 -- what an insertion shows that was refused
-pub has_others : (hash : Name → ℕ) (set : Settings) (q : Name) (why : Why) (p p2 : PassState ℕ) → IsRefused hash set q why p p2 → HasOthers set.callers why
+has_others : (hash : Name → ℕ) (set : Settings) (q : Name) (why : Why) (p p2 : PassState ℕ) → IsRefused hash set q why p p2 → HasOthers set.callers why
 has_others hash set q (Busy t) p p2 r = r.shown.2
 has_others hash set q Memory p p2 r = tt
 has_others hash set q Full p p2 r = tt
 has_others hash set q LoadTooLow p p2 r = tt
+
+prints_why : (hash : Name → ℕ) (set : Settings) (q : Name) (why : Why) (p p2 : PassState ℕ) → IsRefused hash set q why p p2 → PrintsWhy q (printed why) p p2
+prints_why hash set q (Busy t) p p2 r = tt
+prints_why hash set q Memory p p2 r = (r.more, r.stays.noroom, r.shown.0)
+prints_why hash set q Full p p2 r = (r.more, r.stays.noroom, r.shown.0)
+prints_why hash set q LoadTooLow p p2 r = (r.more, r.stays.noroom, r.shown.0)
+
+-- what is printed for a reason refuses a command that may need room
+refuses : (n : ℕ) (c : Command Name) (why : Why) → NeedsRoom c → HasOthers n why → IsRefusal n c (printed why)
+refuses n c (Busy t) needs others = inl others
+refuses n (command.Insert k v) Memory needs others = tt
+refuses n (command.Assign k v) Memory needs others = tt
+refuses n (command.Add k v) Memory needs others = tt
+refuses n command.List Memory needs others = tt
+refuses n c Memory needs others = needs
+refuses n c Full needs others = needs
+refuses n c LoadTooLow needs others = needs
+
+-- a refused insertion
+pub uninserted : (hash : Name → ℕ) (c : Command Name) (k : Name) (a : Answer Pairs) (why : Why) (p q : CallerState ℕ) → NeedsRoom c → ((b : Answer Pairs) → PrintsWhy k b p.pass q.pass → CommandPrintsWhy c b p.pass q.pass) → IsSameCaller p q
+    → a ≡ printed why → IsRefused hash p.table.settings k why p.pass q.pass → IsAnsweredBy c a p q
+uninserted hash c k a why p q needs of same is r =
+    subst (λ (b : Answer Pairs). IsAnsweredBy c b p q) (sym is) (record {
+      same = same;
+      why = of (printed why) (prints_why hash p.table.settings k why p.pass q.pass r);
+      entries = λ by e. inl (refuses p.table.settings.callers c why needs (has_others hash p.table.settings k why p.pass q.pass r), r.stays.mine);
+    })

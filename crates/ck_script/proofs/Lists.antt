@@ -35,6 +35,7 @@ listed c back l p a locked list answered table pass =
     let entry : Entry ℕ = record { by = answered.by; call = Session (entries (start_of l)) (entries (map_of l)); reply = Closed } in
     record {
       same = record { table = table; by = by_kept };
+      why = tt;
       entries = λ by is.
           inr (
             entry,

@@ -1,12 +1,11 @@
 //! One command on the table.
-ghost use Rattle.std.specs.Prelude.{◌≡◌, ◌-◌, ◌+◌, ℕ};
+ghost use Rattle.std.specs.Prelude.{◌≡◌, ◌-◌, ◌+◌};
 ghost use Rattle.std.specs.FinMap.{entries};
-ghost use Rattle.ck_model.specs.Map.{Name};
 ghost use Rattle.ck_format.specs.Script.{on_names};
-ghost use Rattle.ck_script.specs.Output.{NeedsRoom, IsRefusal, share};
+ghost use Rattle.ck_script.specs.Output.{share};
 ghost use Rattle.cuckoo_map.specs.Locking.{map_of};
 ghost use Rattle.ck_format.specs.Answers.{answer_on_names};
-ghost use Rattle.ck_script.specs.Answered.{HasOthers, IsAnsweredBy, IsListOf};
+ghost use Rattle.ck_script.specs.Answered.{printed, IsAnsweredBy, IsListOf};
 
 use ck_format::{Answer, Command, Pairs, WrittenKey};
 use ck_key::TableKey;
@@ -15,8 +14,7 @@ use std::alloc::Global;
 
 // What a command that may need room is refused for.
 fn refusal_of<K: TableKey + Drop>(why: Why) -> Answer<Pairs<K>>
-    ensures { (n : ℕ) (c : Command Name) → HasOthers n why → NeedsRoom c
-        → IsRefusal n c (answer_on_names K.name result) }
+    ensures { answer_on_names K.name result ≡ printed why }
 {
     match why {
         Why::Busy(_) => Answer::Busy,

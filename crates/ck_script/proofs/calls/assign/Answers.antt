@@ -1,9 +1,9 @@
 use Rattle.ck_format.specs.declared.script.Command.TheVariants.{Assign}
 use Rattle.ck_format.specs.Answers.{answer_on_names}
-use Rattle.ck_script.proofs.Entries.{uncalled, has_others}
+use Rattle.ck_script.proofs.Entries.{uninserted}
 use Rattle.ck_script.proofs.calls.assign.Goals as goal
 
 pub returns-in-Err : goal.returns-in-Err
 returns-in-Err g c =
-    let command = Assign (g.K.TableKey.name c.args.key) c.args.value in
-    uncalled command (answer_on_names g.K.TableKey.name c.refusal_of.result) c.args.caller.now c.insert_or_assign.new.self c.insert_or_assign.ensures.same (c.refusal_of.ensures c.args.caller.now.table.settings.callers command (has_others g.K.TableKey.hash c.args.caller.now.table.settings (g.K.TableKey.name c.args.key) _ _ _ c.in-Err.ensures.refused.2) tt) c.in-Err.ensures.refused.2.stays.mine
+    let name = g.K.TableKey.name in
+    uninserted g.K.TableKey.hash (Assign (name c.args.key) c.args.value) (name c.args.key) (answer_on_names name c.refusal_of.result) c.in-Err.refused.why c.args.caller.now c.insert_or_assign.new.self tt (λ a h. h) c.insert_or_assign.ensures.same c.refusal_of.ensures c.in-Err.ensures.refused.2
