@@ -137,7 +137,26 @@ const TWO_FULL_BUCKETS: &[Row] = &[
     (Call::Insert(13, 8), Reply::Fresh(true)),
 ];
 
-static SCENES: [Scene; 6] = [
+/// Sixteen stripes of one bucket each: bucket 15 has key 15. Buckets 4 and 10, those of key 260, are
+/// full, and so is bucket 13, which is the other one of their keys. Bucket 11 has room for the keys
+/// of bucket 13, so that there is no path of one hop, and one of two.
+const THREE_FULL_BUCKETS: &[Row] = &[
+    (Call::Insert(15, 15), Reply::Fresh(true)),
+    (Call::Insert(13, 1), Reply::Fresh(true)),
+    (Call::Insert(29, 2), Reply::Fresh(true)),
+    (Call::Insert(45, 3), Reply::Fresh(true)),
+    (Call::Insert(61, 4), Reply::Fresh(true)),
+    (Call::Insert(4, 5), Reply::Fresh(true)),
+    (Call::Insert(20, 6), Reply::Fresh(true)),
+    (Call::Insert(36, 7), Reply::Fresh(true)),
+    (Call::Insert(52, 8), Reply::Fresh(true)),
+    (Call::Insert(10, 9), Reply::Fresh(true)),
+    (Call::Insert(26, 10), Reply::Fresh(true)),
+    (Call::Insert(42, 11), Reply::Fresh(true)),
+    (Call::Insert(58, 12), Reply::Fresh(true)),
+];
+
+static SCENES: [Scene; 7] = [
     // Stripe 3 is found held, whichever call wants it, and the others are free.
     Scene {
         what: "a held stripe",
@@ -298,6 +317,8 @@ static SCENES: [Scene; 6] = [
             seconds: &[
                 (Call::Insert(16, 9), Reply::Fresh(true)),
                 (Call::Find(16), Reply::Was(Some(9))),
+                (Call::Insert(20, 10), Reply::Fresh(true)),
+                (Call::Find(20), Reply::Was(Some(10))),
                 (Call::Find(258), Reply::Busy(2)),
             ],
             thirds: &[
@@ -306,6 +327,32 @@ static SCENES: [Scene; 6] = [
             ],
         }],
         seconds: &[(Call::Find(258), Reply::Was(Some(258)))],
+        thirds: &[],
+    },
+    // One try is enough for a path of two hops, both of which are carried out.
+    Scene {
+        what: "two hops beside a held stripe",
+        shape: Shape {
+            s: 4,
+            power: 4,
+            max: 4,
+            rounds: 1,
+        },
+        firsts: THREE_FULL_BUCKETS,
+        turns: &[Turn {
+            around: Around::Update(15, None),
+            seconds: &[
+                (Call::Insert(260, 13), Reply::Fresh(true)),
+                (Call::Find(260), Reply::Was(Some(13))),
+                (Call::Find(15), Reply::Busy(15)),
+            ],
+            thirds: &[
+                (Call::Find(260), Reply::Was(Some(13))),
+                (Call::Find(4), Reply::Was(Some(5))),
+                (Call::Find(13), Reply::Was(Some(1))),
+            ],
+        }],
+        seconds: &[(Call::Find(15), Reply::Was(Some(15)))],
         thirds: &[],
     },
     // Displacement is tried as often as the settings say, and then under all stripes, of which one
