@@ -56,5 +56,8 @@ pub returns-clause-shows : goal.returns-clause-shows
 returns-clause-shows g c =
     subst (λ (v : View g.row.V.Denot). Shows (layout_of g.K.TableKey.hash c.args.self.now.settings) c.args.self.now.settings.callers v.seen v) (sym c.settle_taken.ensures.view) ((taken g c).shows c.args.set.some)
 
+pub returns-clause-doublings : goal.returns-clause-doublings
+returns-clause-doublings g c = ap (λ (v : View g.row.V.Denot). v.doublings) c.settle_taken.ensures.view ∙ (taken g c).doublings
+
 pub returns-clause-found : goal.returns-clause-found
 returns-clause-found g c = let f = (taken g c).found in (f.0, ap (λ v. v.found) c.settle_taken.ensures.view ∙ f.1, f.2)
