@@ -106,8 +106,8 @@ module _ {V : Type 0} (hash : Name → ℕ) (w : WordsState) (P : ℕ → Type 0
     }
 
     -- the stripe was found held to the end, and the others went home
-    pub given_up : (r s : PassState V) → 1 ≤ w.settings.turns → P t → r ≡ found_again w.settings.turns t q → HasReleased w r s → GivesUp w P t p s
-    given_up r s some asked again released =
+    pub given_up : (r s : PassState V) → 1 ≤ w.settings.turns → P t → r ≡ found_again w.settings.turns t q → HasReleased w r s → s.view.doublings ≡ r.view.doublings → GivesUp w P t p s
+    given_up r s some asked again released doublings =
         let turns = w.settings.turns in
         let found : s.view.found ≡ replicate turns t ++ q.view.found = released.found ∙ ap (λ (x : PassState V). x.view.found) again in
         let tried : Stays q.view r.view = subst (λ (x : PassState V). Stays q.view x.view) (sym again) (stays_finding turns t q) in
@@ -121,4 +121,5 @@ module _ {V : Type 0} (hash : Name → ℕ) (w : WordsState) (P : ℕ → Type 0
             found_by_two w turns t s q.view.found some released.own found,
           );
           asked = asked;
+          doublings = doublings ∙ (ap (λ (x : PassState V). x.view.doublings) again ∙ h.doublings);
         }

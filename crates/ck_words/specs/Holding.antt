@@ -29,6 +29,7 @@ module _ {V : Type 0} where
     pub found : FindsAmong P p q
     pub busy : IsBusy w.settings t p q
     pub asked : P t
+    pub doublings : q.view.doublings ≡ p.view.doublings
 
   -- These stripes were taken, and none but such ones were found held.
   abbrev pub HasTakenAll : (Name → ℕ) → WordsState → List ℕ → PassState V → PassState V → Type 0

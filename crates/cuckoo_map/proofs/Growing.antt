@@ -79,35 +79,42 @@ module _ {V : Type 0} (s : ℕ) where
 -- What a call that was to grow a table to a power says of it.
 module _ {V : Type 0} (set : Settings) (power : ℕ) (p z : PassState V) where
   module _ (inside : power ≤ set.max) where
-    pub refused_busy : (t : ℕ) → IsBusyAmong (IsStripeIn set) set t p z → Rehashes set power (Err (Busy t)) p z
-    refused_busy t busy = record {
+    pub refused_busy : (t : ℕ) → IsBusyAmong (IsStripeIn set) set t p z → z.view.doublings ≡ p.view.doublings → Rehashes set power (Err (Busy t)) p z
+    refused_busy t busy same_count = record {
       over_max = ((λ e. absurd (cc)), (λ l. absurd (omega arith)));
       unchanged = λ e. absurd (cc);
       told = tt;
       grown = λ e. absurd (cc);
       kept = λ e. absurd (cc);
+      made = omega arith;
       short = λ e. absurd (cc);
       busy = λ u e. subst (λ n. IsBusyAmong (IsStripeIn set) set n p z) (let same : t ≡ u = cc in same) busy;
     }
 
-    pub refused_short : z.view.told < power → Rehashes set power (Err Memory) p z
-    refused_short short = record {
+    -- no more doublings than the power that the pass was told rose by
+    abbrev pub MakesFew : Type 0
+    MakesFew = z.view.doublings ≤ p.view.doublings + (z.view.told - p.view.told)
+
+    pub refused_short : z.view.told < power → MakesFew → Rehashes set power (Err Memory) p z
+    refused_short short made = record {
       over_max = ((λ e. absurd (cc)), (λ l. absurd (omega arith)));
       unchanged = λ e. absurd (cc);
       told = tt;
       grown = λ e. absurd (cc);
       kept = λ e. absurd (cc);
+      made = made;
       short = λ e. short;
       busy = λ t e. absurd (cc);
     }
 
-    pub answered_by : (b : Bool) → power ≤ z.view.told → (b ≡ true → (z.view.told ≡ power) × (p.view.told < power) × (p.view.doublings < z.view.doublings)) → (b ≡ false → z.view.doublings ≡ p.view.doublings) → Rehashes set power (Ok b) p z
-    answered_by b told grown kept = record {
+    pub answered_by : (b : Bool) → power ≤ z.view.told → (b ≡ true → (z.view.told ≡ power) × (p.view.told < power) × (p.view.doublings < z.view.doublings)) → (b ≡ false → z.view.doublings ≡ p.view.doublings) → MakesFew → Rehashes set power (Ok b) p z
+    answered_by b told grown kept made = record {
       over_max = ((λ e. absurd (cc)), (λ l. absurd (omega arith)));
       unchanged = λ e. absurd (cc);
       told = told;
       grown = λ e. grown (let same : b ≡ true = cc in same);
       kept = λ e. kept (let same : b ≡ false = cc in same);
+      made = made;
       short = λ e. absurd (cc);
       busy = λ t e. absurd (cc);
     }
@@ -166,6 +173,12 @@ module _ {V : Type 0} {hash : Name → ℕ} {set : Settings} {power : ℕ} (insi
       let same : p2.view.doublings ≡ p.view.doublings = ap (λ (u : View V). u.doublings) view ∙ before in
       doubled (power_in p1.stripes) (power_in p2.stripes) power_taken (power_home renewed) ∙ ap (λ n. n + (power_in p2.stripes - power_in p1.stripes)) same
 
+  few_since : HasRenewed hash set p2 → p1.view.doublings ≡ p.view.doublings → IsDoubledBy p2 z → z.view.doublings ≤ p.view.doublings + (z.view.told - p.view.told)
+  few_since renewed before doubled =
+      let since = told_since in
+      let counted = counted_since renewed before doubled in
+      omega arith
+
   pub answered_home : HasRenewed hash set p2 → p1.view.doublings ≡ p.view.doublings → IsDoubledBy p2 z → (b : Bool) → MatchBool b ((power_in p1.stripes < power) × (power_in p2.stripes ≡ power)) ((power ≤ power_in p1.stripes) × (p2.stripes ≡ p1.stripes))
       → Rehashes set power (Ok b) p z
   answered_home renewed before doubled true m =
@@ -177,10 +190,11 @@ module _ {V : Type 0} {hash : Name → ℕ} {set : Settings} {power : ℕ} (insi
         (let counted = counted_since renewed before doubled in let more : p.view.doublings < z.view.doublings = omega (arith, m.0, m.1) in more),
       ))
       (λ e. absurd (false≢true (sym e)))
+      (few_since renewed before doubled)
   answered_home renewed before doubled false m =
       let since = told_since in
       let level : power_in p2.stripes ≡ power_in p1.stripes = ap (λ (l : List (StripeState V)). power_in l) m.1 in
-      answered_by set power p z inside false (let high = m.0 in omega arith) (λ e. absurd (false≢true e)) (λ e. let counted = counted_since renewed before doubled in omega arith)
+      answered_by set power p z inside false (let high = m.0 in omega arith) (λ e. absurd (false≢true e)) (λ e. let counted = counted_since renewed before doubled in omega arith) (few_since renewed before doubled)
 
-  pub short_home : (power_in p1.stripes < power) × (power_in p2.stripes < power) → Rehashes set power (Err Memory) p z
-  short_home m = let since = told_since in refused_short set power p z inside (let low = m.0 in let short = m.1 in omega arith)
+  pub short_home : HasRenewed hash set p2 → p1.view.doublings ≡ p.view.doublings → IsDoubledBy p2 z → (power_in p1.stripes < power) × (power_in p2.stripes < power) → Rehashes set power (Err Memory) p z
+  short_home renewed before doubled m = let since = told_since in refused_short set power p z inside (let low = m.0 in let short = m.1 in omega arith) (few_since renewed before doubled)

@@ -26,6 +26,9 @@ returns-in-Err-lock_later-clause-busy g c = (c.in-Err-lock_later.ensures.refused
 pub returns-in-Err-lock_later-clause-asked : goal.returns-in-Err-lock_later-clause-asked
 returns-in-Err-lock_later-clause-asked g c = (c.in-Err-lock_later.ensures.refused c.args.pass.now c.in-Err.ensures.missed).asked
 
+pub returns-in-Err-lock_later-clause-kept : goal.returns-in-Err-lock_later-clause-kept
+returns-in-Err-lock_later-clause-kept g c = (c.in-Err-lock_later.ensures.refused c.args.pass.now c.in-Err.ensures.missed).doublings
+
 pub settle_taken-requires : goal.settle_taken-requires
 settle_taken-requires g c =
     let P : PassState g.row.V.Denot → Type 0 = λ q. HasTakenAll g.K.TableKey.hash c.args.self.now (list_of c.args.set) c.args.pass.now q in
