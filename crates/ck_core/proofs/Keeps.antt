@@ -18,7 +18,7 @@ use Rattle.ck_model.proofs.Numbered.{Some-injective, in_held, held_of_in, held_e
 use Rattle.ck_model.proofs.Sections.{section_of_whole, identity_of_whole, power_after}
 use Rattle.ck_model.proofs.Histories.{leads_snoc}
 use Rattle.ck_core.specs.State.{Configuration, HasNumber, IsPart, own, owned, Places, Knows, HistoryInvariant}
-use Rattle.ck_core.specs.Steps.{Label, taken, seen_as, sent_home, giving, deciding, newcomer, message_of, spent, joining, split_as, joined, Transition, grown, Execution}
+use Rattle.ck_core.specs.Steps.{Label, taken, seen_as, sent_home, giving, renewing, deciding, newcomer, message_of, spent, joining, split_as, joined, Transition, grown, Execution}
 use Rattle.ck_core.specs.Steps.Label.{Take, FindHeld, Give, Decide, GiveRest, Renew, Look, Open, Tell, Join}
 use Rattle.ck_core.proofs.Lists.{at_within, each_set, each_snoc, set_else}
 use Rattle.ck_core.proofs.Places.{places_keep, places_take, places_back, places_split}
@@ -172,9 +172,9 @@ module _ {V : Type 0} (k : Layout) (callers : ℕ) (log : List (Entry V)) (s : C
           legal = leads_snoc _ (bindings (whole k law.contents)) (bindings (whole k contents2)) log e law.legal z.1;
         }
 
-    pub renew_keeps : (g : Option (Name × Reason)) → IdentitySection k v.held ks → HistoryInvariant k callers log (sent_home s id t c (giving v t c ks g))
+    pub renew_keeps : (g : Option (Name × Reason)) → IdentitySection k v.held ks → HistoryInvariant k callers log (sent_home s id t c (renewing v t c ks g))
     renew_keeps g sec =
-        let w : View V = giving v t c ks g in
+        let w : View V = renewing v t c ks g in
         let z = identity_of_whole k law.contents v.held ks law.lawful agrees sec in
         let p = placed sec.renewed w refl in
         let at_t : contents2 t ≡ c = over_hit ks law.contents (apart sec.renewed) t c here in

@@ -94,12 +94,12 @@ module _ {V : Type 0} (k : Layout) (callers : ℕ) (log : List (Entry V)) (s : C
     inside = λ t i. let c = held_of_in v.held t i in (agrees k callers log s law j v at t c.0 c.1).0;
     told = λ t c h. let a = agrees k callers log s law j v at t c h in subst (λ (x : Content V). (v.told ≤ x.power) × (v.heard_told ≤ x.power)) a.1 (law.told j v at t a.0);
     most = (
-      let one : 1 ≤ 2 ^ k.s = one-le-pow k.s 2 (omega arith) in
-      let first : 0 < 2 ^ k.s = omega arith in
-      let told = (law.told j v at 0 first).0 in
-      let within = (law.lawful.sound 0 (law.contents 0) (listed_as (2 ^ k.s) law.contents 0 (law.contents 0) first refl)).most in
-      omega arith
-    );
+        let one : 1 ≤ 2 ^ k.s = one-le-pow k.s 2 (omega arith) in
+        let first : 0 < 2 ^ k.s = omega arith in
+        let told = (law.told j v at 0 first).0 in
+        let within = (law.lawful.sound 0 (law.contents 0) (listed_as (2 ^ k.s) law.contents 0 (law.contents 0) first refl)).most in
+        omega arith
+        );
     all_seen = law.all_seen j v at;
     all_held = λ all. subst (After log) (whole_held all) law.legal;
     all_kept = λ all. record {

@@ -1,5 +1,5 @@
 -- The steps of the core, and their runs.
-use Rattle.std.specs.Prelude.{◌≡◌, ℕ, ◌^◌, ◌<◌, ◌≤◌, max, List, [], ◌∷◌, ◌++◌, set, map, replicate, length, slice_index, Option, Some, None}
+use Rattle.std.specs.Prelude.{◌≡◌, ℕ, ◌+◌, ◌-◌, ◌^◌, ◌<◌, ◌≤◌, max, List, [], ◌∷◌, ◌++◌, set, map, replicate, length, slice_index, Option, Some, None}
 use mathlib.Core.Option.{some}
 use lib.ListN.{get_elem?}
 use Rattle.std.specs.FinMap.{empty}
@@ -10,7 +10,7 @@ use Rattle.ck_model.specs.declared.settings.Settings.{Settings}
 use Rattle.ck_model.specs.Map.{Name}
 use Rattle.ck_model.specs.Numbered.{IsIn, AreDistinct, numbers, Holds, without}
 use Rattle.ck_model.specs.declared.contents.Content.{Content}
-use Rattle.ck_model.specs.Contents.{Layout, Stripes, bindings, Lawful, whole}
+use Rattle.ck_model.specs.Contents.{Layout, Stripes, bindings, Lawful, whole, power_of}
 use Rattle.ck_model.specs.Sections.{Owns, Section, IdentitySection}
 use Rattle.ck_model.specs.Paths.{HasNoRoom, Grounds}
 use Rattle.ck_core.specs.declared.view.View.{View}
@@ -66,21 +66,25 @@ module _ {V : Type 0} where
   abbrev pub giving : View V → ℕ → Content V → Stripes V → Option (Name × Reason) → View V
   giving v t c hs g = record v { held = without t hs; told = max v.told c.power; noroom = gaining v.noroom g }
 
+  -- the same after the held stripes, which were v.held, became ks: the caller has made as many doublings as their power rose by
+  abbrev pub renewing : View V → ℕ → Content V → Stripes V → Option (Name × Reason) → View V
+  renewing v t c ks g = record (giving v t c ks g) { doublings = v.doublings + (power_of ks - power_of v.held) }
+
   -- the view v after the entry e was decided with the new contents ks, of which the stripe t went home
   abbrev pub deciding : View V → ℕ → Stripes V → List (Entry V) → Entry V → View V
-  deciding v t ks log e = record v { held = without t ks; seen = log ++ e ∷ []; mine = v.mine ++ e ∷ [] }
+  deciding v t ks log e = record v { held = without t ks; seen = log ++ e ∷ []; mine = v.mine ++ e ∷ []; doublings = v.doublings + (power_of ks - power_of v.held) }
 
   -- a caller at the opening
   abbrev pub newcomer : Settings → ℕ → ℕ → View V
-  newcomer set j p = record { settings = set; by = Some j; held = []; seen = []; mine = []; told = p; found = []; noroom = []; heard = []; heard_told = 0; others = [] }
+  newcomer set j p = record { settings = set; by = Some j; held = []; seen = []; mine = []; told = p; doublings = 0; found = []; noroom = []; heard = []; heard_told = 0; others = [] }
 
   -- what v has seen and was told
   abbrev pub message_of : View V → View V
-  message_of v = record { settings = v.settings; by = None; held = []; seen = v.seen; mine = []; told = v.told; found = []; noroom = []; heard = []; heard_told = 0; others = [] }
+  message_of v = record { settings = v.settings; by = None; held = []; seen = v.seen; mine = []; told = v.told; doublings = 0; found = []; noroom = []; heard = []; heard_told = 0; others = [] }
 
   -- what a join leaves of the other view
   abbrev pub spent : View V
-  spent = record { settings = no_settings; by = None; held = []; seen = []; mine = []; told = 0; found = []; noroom = []; heard = []; heard_told = 0; others = [] }
+  spent = record { settings = no_settings; by = None; held = []; seen = []; mine = []; told = 0; doublings = 0; found = []; noroom = []; heard = []; heard_told = 0; others = [] }
 
   -- the view v has heard what w had seen, and keeps its numbers
   abbrev pub joining : View V → View V → View V
@@ -118,7 +122,7 @@ module _ {V : Type 0} where
   Transition k min_load log id (GiveRest t) s s2 = (v : View V) × (c : Content V) × (get_elem? s.views id ≡ some v) × Holds v.held t c
       × (s2 ≡ sent_home s id t c (giving v t c v.held None))
   Transition k min_load log id (Renew t ks g) s s2 = (v : View V) × (c : Content V) × (get_elem? s.views id ≡ some v) × Holds ks t c × IdentitySection k v.held ks × HasGrounds k min_load ks g
-      × (s2 ≡ sent_home s id t c (giving v t c ks g))
+      × (s2 ≡ sent_home s id t c (renewing v t c ks g))
   Transition k min_load log id (Look t p) s s2 = (v : View V) × (get_elem? s.views id ≡ some v) × (t < 2 ^ k.s) × (v.told ≤ p) × ((u : ℕ) (c : Content V) → IsPart s u c → p ≤ c.power)
       × (s2 ≡ seen_as s id (record v { seen = log; told = p }))
   Transition k min_load log id Open s s2 = (v : View V) × (m : ℕ) × (rest : List (ℕ × List (Entry V))) × (get_elem? s.views id ≡ some v) × (v.others ≡ (m, []) ∷ rest)

@@ -18,6 +18,8 @@ pub struct View<V> {
     pub mine: LinkedList<Entry<V>>,
     /// A power that the table had, or a lower one.
     pub told: u64,
+    /// How many times the caller has made the table double.
+    pub doublings: u64,
     /// The stripes that were found held, once for each time.
     pub found: LinkedList<u64>,
     /// The names that found no room and why, once for each time.

@@ -19,7 +19,7 @@ use Rattle.ck_model.proofs.Numbered.{Some-injective}
 use Rattle.ck_stripe.specs.Stripe.{StripeState}
 use Rattle.ck_core.specs.declared.view.View.{View}
 use Rattle.ck_core.specs.State.{Configuration, HasNumber, HistoryInvariant}
-use Rattle.ck_core.specs.Steps.{Label, Transition, IsAbove, IsExcused, HasGrounds, taken, seen_as, sent_home, giving, deciding, newcomer, message_of, joining, spent}
+use Rattle.ck_core.specs.Steps.{Label, Transition, IsAbove, IsExcused, HasGrounds, taken, seen_as, sent_home, giving, renewing, deciding, newcomer, message_of, joining, spent}
 use Rattle.ck_core.specs.Steps.Label.{Take, FindHeld, Give, Decide, Renew, Look}
 use Rattle.ck_core.proofs.Lists.{at_set, set_else, set_there}
 use Rattle.ck_core.proofs.Shown.{shows}
@@ -174,7 +174,7 @@ module _ (hash : Name → ℕ) (set : Settings) where
           pub renew_allowed : (g : Option (Name × Reason)) → (Lawful k m.0.held → IdentitySection k m.0.held (contents_in m.1)) → (Lawful k m.0.held → Lawful k (contents_in m.1) → HasGrounds k set.min_load (contents_in m.1) g)
               → Allows (RuleOf hash set) slots id m (t * 8) (λ _. 0) (λ _. SeatGives hash set (Renew t (contents_in m.1) g) m)
           renew_allowed g section grounds s r _ at _ =
-              let w : View V = giving m.0 t stripe.content (contents_in m.1) g in
+              let w : View V = renewing m.0 t stripe.content (contents_in m.1) g in
               let lawful = lawful_now r.0 s id m.0 r.1 at in
               let sec = section lawful in
               let kept = gave k set.callers r.0 r.0 s id t stripe w m.1 out is l own r.1 (renew_keeps k set.callers r.0 (world (2 ^ k.s) s) r.1.law id m.0 at (contents_in m.1) t stripe.content h g sec) in

@@ -22,8 +22,8 @@ module _ {V : Type 0} (hash : Name → ℕ) (w : WordsState) (ns : List ℕ) (i 
     pub next_taken : (turns : ℕ) (r : PassState V) → TakesWithin hash w.settings turns t q r → IsPassOf w r → IsUnchanged r → HasTaken hash w (λ u. IsIn u ns) (take (i + 1) ns) p r
     next_taken turns r k own unchanged = subst (λ ms. HasTaken hash w (λ u. IsIn u ns) ms p r) (next_first ns i t inside is) (one_taken hash w (λ u. IsIn u ns) (take i ns) t p q taken turns r (asked inside) k own unchanged)
 
-    pub next_refused : (r s : PassState V) → 1 ≤ w.settings.turns → r ≡ found_again w.settings.turns t q → HasReleased w r s → GivesUp w (λ u. IsIn u ns) t p s
-    next_refused r s some again released = given_up hash w (λ u. IsIn u ns) (take i ns) t p q taken r s some (asked inside) again released
+    pub next_refused : (r s : PassState V) → 1 ≤ w.settings.turns → r ≡ found_again w.settings.turns t q → HasReleased w r s → s.view.doublings ≡ r.view.doublings → GivesUp w (λ u. IsIn u ns) t p s
+    next_refused r s some again released doublings = given_up hash w (λ u. IsIn u ns) (take i ns) t p q taken r s some (asked inside) again released doublings
 
     pub still_first : (n : ℕ) (r : PassState V) → r ≡ found_again n t q → numbers_of r.stripes ≡ take i ns
     still_first n r again = ap (λ (x : PassState V). numbers_of x.stripes) again ∙ taken.numbered
@@ -47,5 +47,5 @@ module _ {V : Type 0} (hash : Name → ℕ) (w : WordsState) (ns : List ℕ) (i 
     pub later_first : (n : ℕ) (r : PassState V) → r ≡ found_again n t q → numbers_of r.stripes ≡ take i ns
     later_first n r more = ap (λ (x : PassState V). numbers_of x.stripes) more ∙ (ap (λ (x : PassState V). numbers_of x.stripes) again ∙ missed.1.1.numbered)
 
-    pub later_refused : (r s : PassState V) → r ≡ found_again (w.settings.turns - 1) t q → HasReleased w r s → GivesUp w (λ u. IsIn u ns) t p s
-    later_refused r s more released = given_up hash w (λ u. IsIn u ns) (take i ns) t p missed.1.0 missed.1.1 r s some (asked missed.0) (found_later w.settings.turns t missed.1.0 q r some again more) released
+    pub later_refused : (r s : PassState V) → r ≡ found_again (w.settings.turns - 1) t q → HasReleased w r s → s.view.doublings ≡ r.view.doublings → GivesUp w (λ u. IsIn u ns) t p s
+    later_refused r s more released doublings = given_up hash w (λ u. IsIn u ns) (take i ns) t p missed.1.0 missed.1.1 r s some (asked missed.0) (found_later w.settings.turns t missed.1.0 q r some again more) released doublings

@@ -4,7 +4,7 @@ use Rattle.ck_model.specs.declared.history.Reason.{Reason}
 use Rattle.ck_model.specs.Map.{Name}
 use Rattle.ck_section.specs.Stripes.{contents_of}
 use Rattle.ck_core.specs.declared.view.View.{View}
-use Rattle.ck_core.specs.Steps.{giving, gaining}
+use Rattle.ck_core.specs.Steps.{giving, renewing, gaining}
 use Rattle.ck_core.specs.Steps.Label.{Give, Renew}
 use Rattle.ck_words.specs.Words.{WordsState}
 use Rattle.ck_words.specs.Passes.{PassState, IsPassOf, IsUnchanged, Sends, numbers_of}
@@ -21,7 +21,7 @@ gaining-append l (Some g) = refl
 
 module _ {V : Type 0} (hash : Name → ℕ) (w : WordsState) (p q : PassState V) where
   module _ (why : Option (Name × Reason)) (g : Sends hash w (λ t ks. Renew t ks why) p q) where
-    renewed_view : q.view ≡ giving p.view g.0.number g.2.does.1 (reverse (contents_of p.stripes)) why
+    renewed_view : q.view ≡ renewing p.view g.0.number g.2.does.1 (reverse (contents_of p.stripes)) why
     renewed_view = renew_row hash w.settings p.view q.view g.0.number (reverse (contents_of p.stripes)) why g.2
 
     stays_renewing : StaysBut (gaining [] why) p.view q.view

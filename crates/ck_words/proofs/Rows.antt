@@ -13,7 +13,7 @@ use Rattle.ck_model.specs.Contents.{layout_of, Stripes}
 use Rattle.ck_model.proofs.Numbered.{in_held}
 use Rattle.ck_core.specs.declared.view.View.{View}
 use Rattle.ck_core.specs.State.{Configuration, HasNumber, HistoryInvariant}
-use Rattle.ck_core.specs.Steps.{Label, IsAbove, giving, deciding, grown}
+use Rattle.ck_core.specs.Steps.{Label, IsAbove, giving, renewing, deciding, grown}
 use Rattle.ck_core.specs.Steps.Label.{Take, FindHeld, Give, Decide, GiveRest, Renew, Look}
 use Rattle.ck_core.specs.Laws.{Shows}
 use Rattle.ck_core.proofs.Answered.{law_of_one_caller}
@@ -75,8 +75,8 @@ module _ {V : Type 0} (hash : Name → ℕ) (set : Settings) where
     pub decide_row : (t : ℕ) (ks : Stripes V) (e : Entry V) (r : Steps hash set (Decide t ks e) v w) → w ≡ deciding v t ks r.log e
     decide_row t ks e r = new_view (Decide t ks e) v w r (λ u. deciding u t ks r.log e) r.does.0 r.does.2 (ap (λ (x : Configuration V). x.views) r.does.6)
 
-    pub renew_row : (t : ℕ) (ks : Stripes V) (g : Option (Name × Reason)) (r : Steps hash set (Renew t ks g) v w) → w ≡ giving v t r.does.1 ks g
-    renew_row t ks g r = new_view (Renew t ks g) v w r (λ u. giving u t r.does.1 ks g) r.does.0 r.does.2 (ap (λ (x : Configuration V). x.views) r.does.6)
+    pub renew_row : (t : ℕ) (ks : Stripes V) (g : Option (Name × Reason)) (r : Steps hash set (Renew t ks g) v w) → w ≡ renewing v t r.does.1 ks g
+    renew_row t ks g r = new_view (Renew t ks g) v w r (λ u. renewing u t r.does.1 ks g) r.does.0 r.does.2 (ap (λ (x : Configuration V). x.views) r.does.6)
 
     pub look_row : (t p : ℕ) (r : Steps hash set (Look t p) v w) → w ≡ record v { seen = r.log; told = p }
     look_row t p r = new_view (Look t p) v w r (λ u. record u { seen = r.log; told = p }) r.does.0 r.does.1 (ap (λ (x : Configuration V). x.views) r.does.5)

@@ -67,6 +67,9 @@ module _ {V : Type 0} where
     pub seen_giving : q.view.seen ≡ p.view.seen
     seen_giving = ap (λ (v : View V). v.seen) rest_view
 
+    pub doublings_giving : q.view.doublings ≡ p.view.doublings
+    doublings_giving = ap (λ (v : View V). v.doublings) rest_view
+
   -- a stripe was taken
   pub stays_taking : (hash : Name → ℕ) (set : Settings) (t : ℕ) (p q : PassState V) → p.view.settings ≡ set → TakesStripe hash set t p q → Stays p.view q.view
   stays_taking hash set t p q same k =
@@ -93,6 +96,9 @@ module _ {V : Type 0} where
 
     pub found_within : q.view.found ≡ replicate k.0 t ++ p.view.found
     found_within = ap (λ (v : View V). v.found) within_view
+
+    pub doublings_within : q.view.doublings ≡ p.view.doublings
+    doublings_within = ap (λ (v : View V). v.doublings) within_view
 
     pub shows_taken : ShowsSeen hash set q
     shows_taken = subst (λ log. Shows (layout_of hash set) set.callers log q.view) (sym (ap (λ (v : View V). v.seen) within_view)) (shows_after hash set (Take t) (found_again k.0 t p).view q.view k.2.3)

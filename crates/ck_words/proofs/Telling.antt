@@ -1,15 +1,15 @@
 -- What a caller is told of the power when its stripe goes home.
-use Rattle.std.proofs.Common.{◌≡◌, ℕ, ◌<◌, ◌≤◌, List, [], ◌∷◌, ◌++◌, length, length-append, reverse, refl, sym, ap, ◌∙◌, subst, arith, Option}
+use Rattle.std.proofs.Common.{◌≡◌, ℕ, ◌+◌, ◌-◌, ◌<◌, ◌≤◌, List, [], ◌∷◌, ◌++◌, length, length-append, reverse, inl, refl, sym, ap, ◌∙◌, subst, arith, Option}
 use Rattle.std.specs.Prelude.{max}
 use Rattle.std.proofs.lemmas.List.{reverse-reverse}
 use Rattle.ck_model.specs.declared.history.Reason.{Reason}
 use Rattle.ck_model.specs.Map.{Name}
-use Rattle.ck_model.specs.Numbered.{Holds}
+use Rattle.ck_model.specs.Numbered.{IsIn, numbers, Holds}
 use Rattle.ck_model.specs.declared.contents.Content.{Content}
 use Rattle.ck_model.specs.declared.settings.Settings.{Settings}
 use Rattle.ck_core.specs.declared.view.View.{View}
-use Rattle.ck_model.specs.Contents.{Layout, layout_of, Stripes, Lawful}
-use Rattle.ck_model.proofs.Numbered.{held_first}
+use Rattle.ck_model.specs.Contents.{Layout, layout_of, Stripes, Lawful, power_of}
+use Rattle.ck_model.proofs.Numbered.{held_first, in_held}
 use Rattle.ck_stripe.specs.Stripe.{StripeState}
 use Rattle.ck_core.specs.Steps.Label.{GiveRest, Renew}
 use Rattle.ck_section.specs.Stripes.{stripe_at, contents_of}
@@ -19,7 +19,7 @@ use Rattle.ck_words.specs.Steps.{Steps}
 use Rattle.ck_words.specs.Words.{WordsState}
 use Rattle.ck_words.specs.Passes.{PassState, IsPassOf, IsIdle, IsUnchanged, ShowsSeen, Sends}
 use Rattle.ck_words.specs.Retries.{Stays, FindsAmong, TakesWithin}
-use Rattle.ck_words.specs.Holding.{HasTaken, HasReleased, AreOfPower, IsToldNoMore, IsToldPower}
+use Rattle.ck_words.specs.Holding.{HasTaken, HasReleased, AreOfPower, IsToldNoMore, IsToldPower, IsDoubledBy}
 use Rattle.ck_words.proofs.Seating.{length-numbers}
 use Rattle.ck_words.proofs.Staying.{stays_giving, found_giving, among_none, among_on}
 use Rattle.ck_words.proofs.Taking.{none_taken, one_taken}
@@ -113,3 +113,20 @@ module _ {V : Type 0} where
       let lawful : Lawful k now = subst (Lawful k) (reverse-reverse now) (lawful_reverse k (reverse now) g.2.does.4.renewed.lawful) in
       let told : q.view.told ≡ max p.view.told c.power = ap (λ (v : View V). v.told) (renew_row hash w.settings p.view q.view t (reverse now) why g.2) in
       told_all k p q r g.0 g.1 lawful t c (of_reverse now t c g.2.does.3) told rest.stays.told within
+
+  -- the power of stripes that all have it, where there is one
+  power_is : (hs : Stripes V) (power t : ℕ) → IsIn t (numbers hs) → ((u : ℕ) (c : Content V) → Holds hs u c → c.power ≡ power) → power_of hs ≡ power
+  power_is [] power t i same = absurd i
+  power_is (h ∷ hs) power t i same = same h.0 h.1 (inl (refl, refl))
+
+  -- and the caller's doublings were counted
+  pub doubled_renewed : (hash : Name → ℕ) (w : WordsState) (why : Option (Name × Reason)) (p q r : PassState V) → Sends hash w (λ t ks. Renew t ks why) p q → r.view.doublings ≡ q.view.doublings → IsDoubledBy p r
+  doubled_renewed hash w why p q r g rest a b before after =
+      let t : ℕ = g.0.number in
+      let now : Stripes V = contents_of p.stripes in
+      let counted : q.view.doublings ≡ p.view.doublings + (power_of (reverse now) - power_of p.view.held) = ap (λ (v : View V). v.doublings) (renew_row hash w.settings p.view q.view t (reverse now) why g.2) in
+      let goes_home : IsIn t (numbers (reverse now)) = in_held (reverse now) t g.2.does.1 g.2.does.3 in
+      let was_held : IsIn t (numbers p.view.held) = subst (λ (v : View V). IsIn t (numbers v.held)) (same_view hash w.settings (Renew t (reverse now) why) p.view q.view g.2 g.2.does.0 g.2.does.2) (subst (IsIn t) g.2.does.4.renewed.same goes_home) in
+      let old : power_of p.view.held ≡ a = power_is p.view.held a t was_held before in
+      let new : power_of (reverse now) ≡ b = power_is (reverse now) b t goes_home (λ u c h. after u c (of_reverse now u c h)) in
+      rest ∙ (counted ∙ λ i. p.view.doublings + (new i - old i))

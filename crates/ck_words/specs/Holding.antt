@@ -1,5 +1,5 @@
 -- What it leaves to take several stripes, and to give them back.
-use Rattle.std.specs.Prelude.{◌≡◌, ℕ, ◌<◌, ◌≤◌, max, List, length, slice_index, take}
+use Rattle.std.specs.Prelude.{◌≡◌, ℕ, ◌+◌, ◌-◌, ◌<◌, ◌≤◌, max, List, length, slice_index, take}
 use Rattle.ck_model.specs.Map.{Name}
 use Rattle.ck_model.specs.Numbered.{Holds, IsIn}
 use Rattle.ck_model.specs.declared.contents.Content.{Content}
@@ -20,6 +20,7 @@ module _ {V : Type 0} where
     pub of_table : EachOf w.settings.s q.stripes
     pub found : FindsAmong P p q
     pub shows : 0 < length ns → ShowsSeen hash w.settings q
+    pub doublings : q.view.doublings ≡ p.view.doublings
 
   -- From p to q the last tries found the stripe t held, as many as the settings allow. What had been taken went home.
   pub record GivesUp (w : WordsState) (P : ℕ → Type 0) (t : ℕ) (p q : PassState V) : Type 0 where
@@ -28,6 +29,7 @@ module _ {V : Type 0} where
     pub found : FindsAmong P p q
     pub busy : IsBusy w.settings t p q
     pub asked : P t
+    pub doublings : q.view.doublings ≡ p.view.doublings
 
   -- These stripes were taken, and none but such ones were found held.
   abbrev pub HasTakenAll : (Name → ℕ) → WordsState → List ℕ → PassState V → PassState V → Type 0
@@ -57,3 +59,7 @@ module _ {V : Type 0} where
   -- From p to q all stripes went home, which have one power, and the pass was told of it.
   abbrev pub IsToldPower : PassState V → PassState V → Type 0
   IsToldPower p q = q.view.told ≡ max p.view.told (power_in p.stripes)
+
+  -- From p to q all stripes went home, and the caller has made as many doublings more as their power rose by since they were taken.
+  abbrev pub IsDoubledBy : PassState V → PassState V → Type 0
+  IsDoubledBy p q = (a b : ℕ) → ((t : ℕ) (c : Content V) → Holds p.view.held t c → c.power ≡ a) → AreOfPower b p.stripes → q.view.doublings ≡ p.view.doublings + (b - a)

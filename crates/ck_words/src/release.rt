@@ -9,7 +9,7 @@ ghost use Rattle.ck_section.specs.Stripes.{contents_of};
 ghost use Rattle.ck_section.specs.Room.{reason_of_lack};
 ghost use Rattle.ck_words.specs.Passes.{IsPassOf, IsUnchanged, numbers_of};
 ghost use Rattle.ck_words.specs.StripeSets.{list_of};
-ghost use Rattle.ck_words.specs.Holding.{HasReleased, IsToldNoMore, IsToldPower};
+ghost use Rattle.ck_words.specs.Holding.{HasReleased, IsToldNoMore, IsToldPower, IsDoubledBy};
 ghost use Rattle.ck_words.specs.Renewing.{HasRenewed, HasRefused};
 
 use crate::pass::Pass;
@@ -27,7 +27,8 @@ impl<K: TableKey + Drop, V: Drop> Words<K, V> {
         requires own { IsPassOf self.now pass.old }
         requires numbered { numbers_of pass.old.stripes ≡ list_of set }
         requires unchanged { IsUnchanged pass.old }
-        ensures { HasReleased self.now pass.old pass.new }
+        ensures released { HasReleased self.now pass.old pass.new }
+        ensures doublings { pass.new.view.doublings ≡ pass.old.view.doublings }
     {
         self.release_first(pass, set, set.count());
     }
@@ -41,6 +42,7 @@ impl<K: TableKey + Drop, V: Drop> Words<K, V> {
         requires unchanged { IsUnchanged pass.old }
         ensures released { HasReleased self.now pass.old pass.new }
         ensures told { IsToldNoMore pass.old pass.new }
+        ensures doublings { pass.new.view.doublings ≡ pass.old.view.doublings }
     {
         match n {
             0 => {}
@@ -59,6 +61,7 @@ impl<K: TableKey + Drop, V: Drop> Words<K, V> {
         requires unchanged { IsUnchanged pass.old }
         ensures released { HasReleased self.now pass.old pass.new }
         ensures told { IsToldNoMore pass.old pass.new }
+        ensures doublings { pass.new.view.doublings ≡ pass.old.view.doublings }
     {
         for i in (0..n).rev() {
             self.give_rest(pass, set.at(i));
@@ -67,7 +70,7 @@ impl<K: TableKey + Drop, V: Drop> Words<K, V> {
 
     /// Gives the stripes of a set home with what they contain now, after an identity section, as a
     /// displacement or a doubling is. It tells nothing of room. The pass has then been told of
-    /// their power.
+    /// their power, and its caller's doublings are counted.
     ///
     /// The first store tells what all contain.
     pub fn renew_set(&self, pass: &mut Pass<K, V>, set: StripeSet)
@@ -76,6 +79,7 @@ impl<K: TableKey + Drop, V: Drop> Words<K, V> {
         requires renewed { HasRenewed K.hash self.now.settings pass.old }
         ensures released { HasReleased self.now pass.old pass.new }
         ensures told { IsToldPower pass.old pass.new }
+        ensures doubled { IsDoubledBy pass.old pass.new }
     {
         let last = set.count() - 1;
         self.renew::<Brand, ()>(pass, set.at(last), &());

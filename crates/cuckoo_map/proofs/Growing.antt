@@ -1,5 +1,5 @@
 -- Doublings of all stripes, one after another, and what they leave of the pass that holds them.
-use Rattle.std.proofs.Common.{◌≡◌, ℕ, ◌+◌, ◌<◌, ◌≤◌, Bool, true, false, ltb, MatchBool, Ok, Err, List, length, reverse, max, refl, sym, ap, ◌∙◌, subst, arith}
+use Rattle.std.proofs.Common.{◌≡◌, ℕ, ◌+◌, ◌-◌, ◌<◌, ◌≤◌, Bool, true, false, ltb, MatchBool, Ok, Err, List, [], ◌∷◌, inl, length, reverse, max, refl, sym, ap, ◌∙◌, subst, arith}
 use mathlib.Core.Logic.{dite}
 use native.Mathlib.Decide.{dec_le}
 use Rattle.std.proofs.lemmas.Bool.{ltb-true, lt-ltb, false≢true}
@@ -7,6 +7,7 @@ use Rattle.std.proofs.lemmas.Nat.{pow_pos}
 use Rattle.ck_model.specs.declared.settings.Settings.{Settings}
 use Rattle.ck_model.specs.Map.{Name}
 use Rattle.ck_model.specs.Numbered.{Holds}
+use Rattle.ck_model.specs.declared.contents.Content.{Content}
 use Rattle.ck_model.specs.Contents.{Layout, layout, layout_of, Stripes, Lawful}
 use Rattle.ck_model.specs.Sections.{IdentitySection}
 use Rattle.ck_stripe.specs.Stripe.{StripeState}
@@ -22,10 +23,10 @@ use Rattle.ck_core.specs.declared.view.View.{View}
 use Rattle.ck_words.specs.Words.{WordsState}
 use Rattle.ck_words.specs.Passes.{PassState}
 use Rattle.ck_words.specs.Retries.{Stays}
-use Rattle.ck_words.specs.Holding.{HasReleased}
+use Rattle.ck_words.specs.Holding.{HasReleased, AreOfPower, IsDoubledBy}
 use Rattle.ck_words.specs.Renewing.{HasRenewed}
 use Rattle.ck_words.specs.Closing.{IsWhole}
-use Rattle.ck_words.proofs.Reversed.{of_reverse}
+use Rattle.ck_words.proofs.Reversed.{held_reverse, of_reverse, lawful_reverse}
 use Rattle.ck_words.proofs.Staying.{stays_on}
 use Rattle.cuckoo_map.specs.declared.refusal.GrowFault.TheVariants.{Busy, Memory}
 use Rattle.cuckoo_map.specs.Refusals.{IsStripeIn, IsBusyAmong}
@@ -78,32 +79,42 @@ module _ {V : Type 0} (s : ℕ) where
 -- What a call that was to grow a table to a power says of it.
 module _ {V : Type 0} (set : Settings) (power : ℕ) (p z : PassState V) where
   module _ (inside : power ≤ set.max) where
-    pub refused_busy : (t : ℕ) → IsBusyAmong (IsStripeIn set) set t p z → Rehashes set power (Err (Busy t)) p z
-    refused_busy t busy = record {
+    pub refused_busy : (t : ℕ) → IsBusyAmong (IsStripeIn set) set t p z → z.view.doublings ≡ p.view.doublings → Rehashes set power (Err (Busy t)) p z
+    refused_busy t busy same_count = record {
       over_max = ((λ e. absurd (cc)), (λ l. absurd (omega arith)));
       unchanged = λ e. absurd (cc);
       told = tt;
       grown = λ e. absurd (cc);
+      kept = λ e. absurd (cc);
+      made = omega arith;
       short = λ e. absurd (cc);
       busy = λ u e. subst (λ n. IsBusyAmong (IsStripeIn set) set n p z) (let same : t ≡ u = cc in same) busy;
     }
 
-    pub refused_short : z.view.told < power → Rehashes set power (Err Memory) p z
-    refused_short short = record {
+    -- no more doublings than the power that the pass was told rose by
+    abbrev pub MakesFew : Type 0
+    MakesFew = z.view.doublings ≤ p.view.doublings + (z.view.told - p.view.told)
+
+    pub refused_short : z.view.told < power → MakesFew → Rehashes set power (Err Memory) p z
+    refused_short short made = record {
       over_max = ((λ e. absurd (cc)), (λ l. absurd (omega arith)));
       unchanged = λ e. absurd (cc);
       told = tt;
       grown = λ e. absurd (cc);
+      kept = λ e. absurd (cc);
+      made = made;
       short = λ e. short;
       busy = λ t e. absurd (cc);
     }
 
-    pub answered_by : (b : Bool) → power ≤ z.view.told → (b ≡ true → (z.view.told ≡ power) × (p.view.told < power)) → Rehashes set power (Ok b) p z
-    answered_by b told grown = record {
+    pub answered_by : (b : Bool) → power ≤ z.view.told → (b ≡ true → (z.view.told ≡ power) × (p.view.told < power) × (p.view.doublings < z.view.doublings)) → (b ≡ false → z.view.doublings ≡ p.view.doublings) → MakesFew → Rehashes set power (Ok b) p z
+    answered_by b told grown kept made = record {
       over_max = ((λ e. absurd (cc)), (λ l. absurd (omega arith)));
       unchanged = λ e. absurd (cc);
       told = told;
       grown = λ e. grown (let same : b ≡ true = cc in same);
+      kept = λ e. kept (let same : b ≡ false = cc in same);
+      made = made;
       short = λ e. absurd (cc);
       busy = λ t e. absurd (cc);
     }
@@ -114,15 +125,22 @@ below_max {v} {w} {set} {power} is same le = subst (λ (x : Settings). power ≤
 
 -- The pass held all stripes as p1. They doubled, and it was p2 then. v and w are one table.
 module _ {V : Type 0} {v w : WordsState} (is : v ≡ w) (p1 p2 : PassState V) (view : p2.view ≡ p1.view) where
-  pub renewed_by : {hash : Name → ℕ} {s power : ℕ} → s ≡ w.settings.s → power ≤ w.settings.max → IsWhole hash w.settings p1 → Keeps s hash power p1.stripes p2.stripes → HasRenewed hash v.settings p2
-  renewed_by {hash} {s} {power} s_is inside whole keeps =
+  pub renewed_there : {hash : Name → ℕ} {s power : ℕ} → s ≡ w.settings.s → power ≤ w.settings.max → IsWhole hash w.settings p1 → Keeps s hash power p1.stripes p2.stripes → HasRenewed hash w.settings p2
+  renewed_there {hash} {s} {power} s_is inside whole keeps =
       let kept : KeepsBindings (layout_of hash w.settings) p1.stripes p2.stripes = subst (λ n. KeepsBindings (layout hash n w.settings.max) p1.stripes p2.stripes) s_is (keeps w.settings.max inside) in
       let old : contents_of p1.stripes ≡ reverse p2.view.held = whole.unchanged ∙ ap (λ (u : View V). reverse u.held) (sym view) in
-      let done : HasRenewed hash w.settings p2 = subst (λ (hs : Stripes V). Lawful (layout_of hash w.settings) hs → IdentitySection (layout_of hash w.settings) hs (contents_of p2.stripes)) old kept in
-      subst (λ (x : WordsState). HasRenewed hash x.settings p2) (sym is) done
+      subst (λ (hs : Stripes V). Lawful (layout_of hash w.settings) hs → IdentitySection (layout_of hash w.settings) hs (contents_of p2.stripes)) old kept
+
+  pub renewed_by : {hash : Name → ℕ} {s power : ℕ} → s ≡ w.settings.s → power ≤ w.settings.max → IsWhole hash w.settings p1 → Keeps s hash power p1.stripes p2.stripes → HasRenewed hash v.settings p2
+  renewed_by {hash} s_is inside whole keeps = subst (λ (x : WordsState). HasRenewed hash x.settings p2) (sym is) (renewed_there s_is inside whole keeps)
 
   pub stays_home : (p z : PassState V) → Stays p.view p1.view → HasReleased v p2 z → Stays p.view z.view
   stays_home p z stays home = stays_on p.view p1.view z.view stays (subst (λ (u : View V). Stays u z.view) view home.stays)
+
+-- stripes that are lawful have the power of the first
+one_of_power : {V : Type 0} (k : Layout) (ss : List (StripeState V)) → Lawful k (contents_of ss) → AreOfPower (power_in ss) ss
+one_of_power k [] lawful t c h = absurd h
+one_of_power k (s ∷ ss) lawful t c h = lawful.one_power t s.number c s.content h (inl (refl, refl))
 
 -- It was p before it took them, and z when they had gone home.
 module _ {V : Type 0} {hash : Name → ℕ} {set : Settings} {power : ℕ} (inside : power ≤ set.max) (p p1 p2 z : PassState V) (stays : Stays p.view p1.view) (whole : IsWhole hash set p1) (table : IsTable set.s p1.stripes)
@@ -135,15 +153,48 @@ module _ {V : Type 0} {hash : Name → ℕ} {set : Settings} {power : ℕ} (insi
       let held : Holds p1.view.held first.number first.content = of_reverse p1.view.held first.number first.content (subst (λ hs. Holds hs first.number first.content) whole.unchanged (holds_at p1.stripes 0 some)) in
       (stays.told, (whole.shows.told first.number first.content held).0, told ∙ ap (λ (u : View V). max u.told (power_in p2.stripes)) view)
 
-  pub answered_home : (b : Bool) → MatchBool b ((power_in p1.stripes < power) × (power_in p2.stripes ≡ power)) ((power ≤ power_in p1.stripes) × (p2.stripes ≡ p1.stripes)) → Rehashes set power (Ok b) p z
-  answered_home true m =
+  -- what they contain has one power, as they were taken and as they went home
+  power_taken : (t : ℕ) (c : Content V) → Holds p2.view.held t c → c.power ≡ power_in p1.stripes
+  power_taken t c h =
+      let k : Layout = layout_of hash set in
+      let taken : Lawful k (contents_of p1.stripes) = subst (λ (hs : Stripes V). Lawful k hs) (sym whole.unchanged) (lawful_reverse k p1.view.held whole.shows.lawful) in
+      let held : Holds p1.view.held t c = subst (λ (u : View V). Holds u.held t c) view h in
+      one_of_power k p1.stripes taken t c (subst (λ (hs : Stripes V). Holds hs t c) (sym whole.unchanged) (held_reverse p1.view.held t c held))
+
+  power_home : HasRenewed hash set p2 → AreOfPower (power_in p2.stripes) p2.stripes
+  power_home renewed =
+      let k : Layout = layout_of hash set in
+      let taken : Lawful k (reverse p2.view.held) = subst (λ (u : View V). Lawful k (reverse u.held)) (sym view) (lawful_reverse k p1.view.held whole.shows.lawful) in
+      one_of_power k p2.stripes (renewed taken).renewed.lawful
+
+  -- the doublings that were counted
+  counted_since : HasRenewed hash set p2 → p1.view.doublings ≡ p.view.doublings → IsDoubledBy p2 z → z.view.doublings ≡ p.view.doublings + (power_in p2.stripes - power_in p1.stripes)
+  counted_since renewed before doubled =
+      let same : p2.view.doublings ≡ p.view.doublings = ap (λ (u : View V). u.doublings) view ∙ before in
+      doubled (power_in p1.stripes) (power_in p2.stripes) power_taken (power_home renewed) ∙ ap (λ n. n + (power_in p2.stripes - power_in p1.stripes)) same
+
+  few_since : HasRenewed hash set p2 → p1.view.doublings ≡ p.view.doublings → IsDoubledBy p2 z → z.view.doublings ≤ p.view.doublings + (z.view.told - p.view.told)
+  few_since renewed before doubled =
+      let since = told_since in
+      let counted = counted_since renewed before doubled in
+      omega arith
+
+  pub answered_home : HasRenewed hash set p2 → p1.view.doublings ≡ p.view.doublings → IsDoubledBy p2 z → (b : Bool) → MatchBool b ((power_in p1.stripes < power) × (power_in p2.stripes ≡ power)) ((power ≤ power_in p1.stripes) × (p2.stripes ≡ p1.stripes))
+      → Rehashes set power (Ok b) p z
+  answered_home renewed before doubled true m =
       let since = told_since in
       answered_by set power p z inside true (let low = m.0 in let reached = m.1 in omega arith)
-      (λ e. ((let same : z.view.told ≡ power = omega (arith, m.0, m.1) in same), (let fewer : p.view.told < power = omega (arith, m.0) in fewer)))
-  answered_home false m =
+      (λ e. (
+        (let same : z.view.told ≡ power = omega (arith, m.0, m.1) in same),
+        (let fewer : p.view.told < power = omega (arith, m.0) in fewer),
+        (let counted = counted_since renewed before doubled in let more : p.view.doublings < z.view.doublings = omega (arith, m.0, m.1) in more),
+      ))
+      (λ e. absurd (false≢true (sym e)))
+      (few_since renewed before doubled)
+  answered_home renewed before doubled false m =
       let since = told_since in
       let level : power_in p2.stripes ≡ power_in p1.stripes = ap (λ (l : List (StripeState V)). power_in l) m.1 in
-      answered_by set power p z inside false (let high = m.0 in omega arith) (λ e. absurd (false≢true e))
+      answered_by set power p z inside false (let high = m.0 in omega arith) (λ e. absurd (false≢true e)) (λ e. let counted = counted_since renewed before doubled in omega arith) (few_since renewed before doubled)
 
-  pub short_home : (power_in p1.stripes < power) × (power_in p2.stripes < power) → Rehashes set power (Err Memory) p z
-  short_home m = let since = told_since in refused_short set power p z inside (let low = m.0 in let short = m.1 in omega arith)
+  pub short_home : HasRenewed hash set p2 → p1.view.doublings ≡ p.view.doublings → IsDoubledBy p2 z → (power_in p1.stripes < power) × (power_in p2.stripes < power) → Rehashes set power (Err Memory) p z
+  short_home renewed before doubled m = let since = told_since in refused_short set power p z inside (let low = m.0 in let short = m.1 in omega arith) (few_since renewed before doubled)

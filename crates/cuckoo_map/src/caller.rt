@@ -1,5 +1,5 @@
 //! A caller: the table, and a pass of its own.
-ghost use Rattle.std.specs.Prelude.{◌≡◌, ◌≢◌, All, map, OnOk, IfOk, IfErr};
+ghost use Rattle.std.specs.Prelude.{◌≡◌, ◌≢◌, ◌≤◌, All, map, OnOk, IfOk, IfErr};
 ghost use Rattle.std.specs.Fn.{FnOnceReturnsAt};
 ghost use Rattle.ck_words.specs.Closing.{IsCaller};
 ghost use Rattle.ck_words.specs.Meeting.{Meets};
@@ -316,6 +316,8 @@ impl<'t, K: TableKey + Drop, V: Drop> Caller<'t, K, V> {
         ensures same { IsSameCaller self.old self.new }
         ensures stays { OnOk result (Stays self.old.pass.view self.new.pass.view) }
         ensures told { IfOk result (λ power. power ≡ self.new.pass.view.told) }
+        ensures within { IfOk result (λ power. (self.old.table.settings.power ≤ power)
+            × (power ≤ self.old.table.settings.max)) }
         ensures busy { IfErr result (IsBusyOnSome (λ t. t ≡ 0) self.old self.new) }
         ensures found { FindsHeldAmong (λ t. t ≡ 0) self.old self.new }
     {

@@ -1,5 +1,5 @@
 //! How many keys are bound, how many buckets the table has, and what holds all stripes.
-ghost use Rattle.std.specs.Prelude.{◌≡◌, OnOk, OnErr, IfOk, IfErr};
+ghost use Rattle.std.specs.Prelude.{◌≡◌, ◌≤◌, OnOk, OnErr, IfOk, IfErr};
 ghost use Rattle.ck_model.specs.declared.history.Call.TheVariants.{Len};
 ghost use Rattle.ck_model.specs.declared.history.Reply.TheVariants.{Count};
 ghost use Rattle.ck_section.specs.Whole.{IsTable, AreSettled};
@@ -47,6 +47,8 @@ impl<K: TableKey + Drop, V: Drop> Table<K, V> {
         ensures caller { IsCaller self.now pass.new }
         ensures stays { OnOk result (Stays pass.old.view pass.new.view) }
         ensures told { IfOk result (λ power. power ≡ pass.new.view.told) }
+        ensures within { IfOk result (λ power. (self.now.settings.power ≤ power)
+            × (power ≤ self.now.settings.max)) }
         ensures busy { IfErr result (λ busy. IsBusyAmong (λ t. t ≡ 0)
             self.now.settings busy.0 pass.old pass.new) }
         ensures found { FindsAmong (λ t. t ≡ 0) pass.old pass.new }
@@ -62,6 +64,8 @@ impl<K: TableKey + Drop, V: Drop> Table<K, V> {
         requires caller { IsCaller self.now pass.old }
         ensures own { IsPassOf self.now pass.new }
         ensures stays { Stays pass.old.view pass.new.view }
+        ensures doublings { OnOk result (pass.new.view.doublings ≡ pass.old.view.doublings) }
+        ensures kept { OnErr result (pass.new.view.doublings ≡ pass.old.view.doublings) }
         ensures whole { OnOk result (IsWhole K.hash self.now.settings pass.new) }
         ensures table { OnOk result (IsTable self.now.settings.s pass.new.stripes) }
         ensures settled { OnOk result (AreSettled pass.new.stripes) }

@@ -12,7 +12,7 @@ returns-in_default-with_capacity-clause-stays g c =
     let r = c.release.new.pass in
     let view : c.len.new.held.pass.now.view ≡ h.view = c.len.ensures.stays.1 in
     let there : r ≡ c.pass-in_default-with_capacity-1.given.0 = search rules in
-    rw (← there) (stays_on c.args.pass.now.view h.view r.view c.lock_all.ensures.stays (subst (λ (v : View g.row.V.Denot). Stays v r.view) view c.release.ensures.stays))
+    rw (← there) (stays_on c.args.pass.now.view h.view r.view c.lock_all.ensures.stays (subst (λ (v : View g.row.V.Denot). Stays v r.view) view c.release.ensures.released.stays))
 
 pub returns-clause-stays : goal.returns-clause-stays
 returns-clause-stays g c =

@@ -26,6 +26,9 @@ returns-in-Err-lock_later-clause-busy g c = (c.in-Err-lock_later.ensures.refused
 pub returns-in-Err-lock_later-clause-asked : goal.returns-in-Err-lock_later-clause-asked
 returns-in-Err-lock_later-clause-asked g c = (c.in-Err-lock_later.ensures.refused c.args.pass.now c.in-Err.ensures.missed).asked
 
+pub returns-in-Err-lock_later-clause-kept : goal.returns-in-Err-lock_later-clause-kept
+returns-in-Err-lock_later-clause-kept g c = (c.in-Err-lock_later.ensures.refused c.args.pass.now c.in-Err.ensures.missed).doublings
+
 pub settle_taken-requires : goal.settle_taken-requires
 settle_taken-requires g c =
     let P : PassState g.row.V.Denot → Type 0 = λ q. HasTakenAll g.K.TableKey.hash c.args.self.now (list_of c.args.set) c.args.pass.now q in
@@ -55,6 +58,9 @@ returns-clause-stays g c = subst (Stays c.args.pass.now.view) (sym c.settle_take
 pub returns-clause-shows : goal.returns-clause-shows
 returns-clause-shows g c =
     subst (λ (v : View g.row.V.Denot). Shows (layout_of g.K.TableKey.hash c.args.self.now.settings) c.args.self.now.settings.callers v.seen v) (sym c.settle_taken.ensures.view) ((taken g c).shows c.args.set.some)
+
+pub returns-clause-doublings : goal.returns-clause-doublings
+returns-clause-doublings g c = ap (λ (v : View g.row.V.Denot). v.doublings) c.settle_taken.ensures.view ∙ (taken g c).doublings
 
 pub returns-clause-found : goal.returns-clause-found
 returns-clause-found g c = let f = (taken g c).found in (f.0, ap (λ v. v.found) c.settle_taken.ensures.view ∙ f.1, f.2)

@@ -1,4 +1,4 @@
-use Rattle.std.proofs.Common.{take}
+use Rattle.std.proofs.Common.{◌≡◌, take}
 use Rattle.ck_words.specs.StripeSets.{list_of}
 use Rattle.ck_words.proofs.Releasing.{Leaves}
 use Rattle.ck_words.proofs.Telling.{IsToldBelow}
@@ -8,4 +8,5 @@ abbrev pub invariant-loop-i : goal.invariant-loop-i
 invariant-loop-i g l = record {
   leaves : Leaves l.self (take l.i (list_of l.set)) l.initial.pass l.pass;
   told : IsToldBelow l.initial.pass l.pass;
+  doublings : l.pass.view.doublings ≡ l.initial.pass.view.doublings;
 }

@@ -3,7 +3,7 @@ use Rattle.ck_words.specs.StripeSets.{list_of}
 use Rattle.ck_words.proofs.Releasing.{last_of_all, numbers_left}
 use Rattle.ck_words.proofs.Releasing.{released_on}
 use Rattle.ck_words.proofs.Renewed.{leaves_renewed}
-use Rattle.ck_words.proofs.Telling.{told_renewed}
+use Rattle.ck_words.proofs.Telling.{told_renewed, doubled_renewed}
 use Rattle.ck_words.proofs.words.Words.renew_set.Goals as goal
 
 pub renew-requires-clause-highest : goal.renew-requires-clause-highest
@@ -33,3 +33,6 @@ pub returns-clause-told : goal.returns-clause-told
 returns-clause-told g c =
     let b = c.release_first.ensures in
     told_renewed g.K.TableKey.hash c.args.self.now None c.args.pass.now c.renew.new.pass c.release_first.new.pass c.renew.ensures.step b.released b.told
+
+pub returns-clause-doubled : goal.returns-clause-doubled
+returns-clause-doubled g c = doubled_renewed g.K.TableKey.hash c.args.self.now None c.args.pass.now c.renew.new.pass c.release_first.new.pass c.renew.ensures.step c.release_first.ensures.doublings

@@ -35,4 +35,4 @@ pub returns-else-hopped-clause-back : goal.returns-else-hopped-clause-back
 returns-else-hopped-clause-back g c =
     let z = c.release.new.pass in
     let there : z ≡ c.pass-else-hopped-1.given.0 = search rules in
-    rw (← there) (back_home c.self.view_is _ c.args.pass.now c.lock.new.pass c.make_hop-hopped.new.held.pass.now z c.lock.ensures.stays c.lock.ensures.found (c.make_hop-hopped.ensures.stays.1) c.release.ensures)
+    rw (← there) (back_home c.self.view_is _ c.args.pass.now c.lock.new.pass c.make_hop-hopped.new.held.pass.now z c.lock.ensures.stays c.lock.ensures.found (c.make_hop-hopped.ensures.stays.1) c.release.ensures.released)

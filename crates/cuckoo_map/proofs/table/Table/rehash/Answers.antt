@@ -1,7 +1,7 @@
 use Rattle.std.proofs.Common.{rules, ◌≡◌}
 use Rattle.ck_words.proofs.Staying.{stays_same}
 use Rattle.cuckoo_map.proofs.Calls.{s_of}
-use Rattle.cuckoo_map.proofs.Growing.{below_max, renewed_by, stays_home, answered_home, short_home}
+use Rattle.cuckoo_map.proofs.Growing.{below_max, renewed_there, renewed_by, stays_home, answered_home, short_home}
 use Rattle.cuckoo_map.proofs.table.Table.rehash.Goals as goal
 
 pub returns-then-max-power-clause-stays : goal.returns-then-max-power-clause-stays
@@ -26,10 +26,16 @@ pub returns-in-Ok-clause-rehashed : goal.returns-in-Ok-clause-rehashed
 returns-in-Ok-clause-rehashed g c =
     let there : c.renew_set.new.pass ≡ c.pass-1.given.0 = search rules in
     rw (← there) (answered_home (below_max c.self.view_is c.settings-s.ensures.value c.if-max-power.false) c.args.pass.now c.hold_table.new.pass c.double_to-grown.new.held.pass.now c.renew_set.new.pass
-    c.hold_table.ensures.stays c.in_default.ensures.whole c.in_default.ensures.table c.double_to-grown.ensures.stays.1 c.renew_set.ensures.told c.in-Ok.grown c.in-Ok.ensures.reached)
+    c.hold_table.ensures.stays c.in_default.ensures.whole c.in_default.ensures.table c.double_to-grown.ensures.stays.1 c.renew_set.ensures.told
+    (renewed_there c.self.view_is c.hold_table.new.pass c.double_to-grown.new.held.pass.now c.double_to-grown.ensures.stays.1 (s_of c.self.view_is c.settings-s.ensures.value)
+    (below_max c.self.view_is c.settings-s.ensures.value c.if-max-power.false) c.in_default.ensures.whole c.double_to-grown.ensures.no_call)
+    c.in_default.ensures.doublings c.renew_set.ensures.doubled c.in-Ok.grown c.in-Ok.ensures.reached)
 
 pub returns-in-Err-grown-clause-rehashed : goal.returns-in-Err-grown-clause-rehashed
 returns-in-Err-grown-clause-rehashed g c =
     let there : c.renew_set.new.pass ≡ c.pass-1.given.0 = search rules in
     rw (← there) (short_home (below_max c.self.view_is c.settings-s.ensures.value c.if-max-power.false) c.args.pass.now c.hold_table.new.pass c.double_to-grown.new.held.pass.now c.renew_set.new.pass
-    c.hold_table.ensures.stays c.in_default.ensures.whole c.in_default.ensures.table c.double_to-grown.ensures.stays.1 c.renew_set.ensures.told c.in-Err-grown.ensures.short)
+    c.hold_table.ensures.stays c.in_default.ensures.whole c.in_default.ensures.table c.double_to-grown.ensures.stays.1 c.renew_set.ensures.told
+    (renewed_there c.self.view_is c.hold_table.new.pass c.double_to-grown.new.held.pass.now c.double_to-grown.ensures.stays.1 (s_of c.self.view_is c.settings-s.ensures.value)
+    (below_max c.self.view_is c.settings-s.ensures.value c.if-max-power.false) c.in_default.ensures.whole c.double_to-grown.ensures.no_call)
+    c.in_default.ensures.doublings c.renew_set.ensures.doubled c.in-Err-grown.ensures.short)

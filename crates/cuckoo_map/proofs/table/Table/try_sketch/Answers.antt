@@ -29,4 +29,4 @@ returns-clause-back g c =
     let same : lent.pass.now.view ≡ c.lock.new.pass.view = elim c.if-power.branch [ then-power w ↦ ap (λ l. l.pass.now.view) w.lent-is ∙ (w.sketch.ensures.stays.1 ∙ c.power.ensures.stays.1) | else-power w ↦ ap (λ l. l.pass.now.view) w.lent-is ∙ c.power.ensures.stays.1 ] in
     let z = c.release.new.pass in
     let there : z ≡ c.pass-1.given.0 = search rules in
-    rw (← there) (back_home c.self.view_is _ c.args.pass.now c.lock.new.pass lent.pass.now z c.lock.ensures.stays c.lock.ensures.found same c.release.ensures)
+    rw (← there) (back_home c.self.view_is _ c.args.pass.now c.lock.new.pass lent.pass.now z c.lock.ensures.stays c.lock.ensures.found same c.release.ensures.released)
