@@ -126,6 +126,21 @@ def grow(workers, lines):
         own_keys(worker, lines, (worker + 1) % workers) for worker in range(workers)])
 
 
+def wide(workers, lines):
+    """The same in a table of as many stripes as there may be, which has to grow."""
+    return script(["s 10"], [
+        own_keys(worker, lines, (worker + 1) % workers) for worker in range(workers)])
+
+
+def listing(workers, lines):
+    """The first binds keys of its own in a table that has to grow, while the others list it and
+    count its keys.
+    """
+    block = [["insert %d %d" % (scattered(at), at) for at in range(lines)]]
+    return script(["s 2"], block + [
+        ["len" if at % 16 else "list" for at in range(lines // 8)] for _ in range(workers - 1)])
+
+
 def busy_block(first, lines, binders, bound):
     """Changes four keys of its own, and looks for those that others bind."""
     yield from ("insert %d 100" % (first + own) for own in range(4))
@@ -171,4 +186,4 @@ def mixed(seed, lines):
 
 
 CROWDS = {crowd.__name__: crowd for crowd in
-          (bind, add, renew, assign, transfer, sessions, fill, grow, crowd, mixed)}
+          (bind, add, renew, assign, transfer, sessions, fill, grow, wide, listing, crowd, mixed)}

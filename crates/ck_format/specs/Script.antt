@@ -3,6 +3,7 @@ use Rattle.std.specs.Prelude.{ℕ, List, [], ◌∷◌, map}
 use Rattle.std.specs.Global.{Vec}
 use Rattle.ck_model.specs.declared.settings.Settings.{Settings}
 use Rattle.ck_model.specs.Map.{Name}
+use Rattle.ck_key.specs.Hashes.{number_hash, text_hash}
 use Rattle.ck_key.specs.declared.num_key.NumKey.{NumKey}
 use Rattle.ck_format.specs.declared.script.Keys.{Keys}
 use Rattle.ck_format.specs.declared.script.Keys.TheVariants as keys
@@ -33,6 +34,11 @@ on_names name (Erase k) = Erase (name k)
 on_names name Len = Len
 on_names name Lists = Lists
 on_names name (Move j k n) = Move (name j) (name k) n
+
+-- the hash of the names of such keys
+abbrev pub hash_of : Keys → Name → ℕ
+hash_of keys.Num = number_hash
+hash_of keys.Text = text_hash
 
 -- the commands of each worker, on the names of their keys
 abbrev pub workers_on_names : {K : Type 0} → (K → Name) → List (Vec (Command K)) → List (List (Command Name))

@@ -4,6 +4,7 @@ ghost use Rattle.ck_model.specs.Map.{name_cmp};
 ghost use Rattle.ck_model.proofs.Entries.{alone};
 ghost use Rattle.ck_format.specs.declared.script.Keys.{Keys};
 ghost use Rattle.ck_format.specs.declared.script.Keys.TheVariants.{Num, Text};
+ghost use Rattle.ck_format.specs.Script.{hash_of};
 ghost use Rattle.ck_format.specs.Text.{name_text};
 
 use ck_key::{NumKey, TableKey, TextKey};
@@ -20,6 +21,8 @@ pub trait WrittenKey: TableKey + Clone + Drop {
         ensures { OnOk result (
             out.new.items ≡ out.old.items ++ name_text keys (Self.name self.now)) };
 
+    ghost hashed: { Self.hash ≡ hash_of keys };
+
     ghost in_order: { (a b : Self) → Self.cmp a b ≡ name_cmp (Self.name a) (Self.name b) };
 
     ghost clones: { (key copy : Self) → Self.is_clone key copy → copy ≡ key };
@@ -33,6 +36,8 @@ impl WrittenKey for NumKey {
         out.extend_from_slice(buffer.format(self.0).as_bytes())
     }
 
+    ghost hashed = { refl };
+
     ghost in_order = { λ a b. alone a.0 b.0 };
 
     ghost clones = { λ key copy same. same };
@@ -44,6 +49,8 @@ impl WrittenKey for TextKey {
     fn add_to(&self, out: &mut Vec<u8>) -> Result<(), AllocError> {
         out.extend_from_slice(self.as_bytes())
     }
+
+    ghost hashed = { refl };
 
     ghost in_order = { λ a b. refl };
 

@@ -1,23 +1,32 @@
--- The entries that a caller's commands left.
-use Rattle.std.proofs.Common.{◌≡◌, ℕ, List, [], ◌∷◌, ◌++◌, map, sym, refl, ap, subst, inl, inr, ◌∙◌}
+-- The entries that a caller's commands left, and the grounds of those that were refused.
+use Rattle.std.proofs.Common.{◌≡◌, ℕ, List, [], ◌∷◌, ◌++◌, map, sym, refl, ap, subst, inl, inr, ◌∙◌, append_assoc}
 use Rattle.std.specs.Global.{Vec}
 use Rattle.std.proofs.lemmas.List.{map-append}
+use Rattle.std.proofs.lemmas.Slice.Zip.{all_zipped_more}
+use Rattle.ck_model.specs.declared.history.Call.{Call}
+use Rattle.ck_model.specs.declared.history.Reply.{Reply}
 use Rattle.ck_model.specs.declared.history.Entry.{Entry}
-use Rattle.ck_model.specs.Map.{Name}
+use Rattle.ck_model.specs.declared.history.Reason.{Reason}
+use Rattle.ck_model.specs.declared.history.Reason.TheVariants as reason
 use Rattle.ck_model.specs.declared.settings.Settings.{Settings}
+use Rattle.ck_model.specs.Map.{Name}
+use Rattle.ck_model.specs.History.{StartsWith}
+use Rattle.ck_model.proofs.Histories.{starts_itself}
 use Rattle.ck_words.specs.Passes.{PassState}
+use Rattle.ck_words.specs.Answering.{IsAnsweredBut}
 use Rattle.cuckoo_map.specs.declared.refusal.Why.{Why}
 use Rattle.cuckoo_map.specs.declared.refusal.Why.TheVariants.{Busy, Memory, Full, LoadTooLow}
-use Rattle.cuckoo_map.specs.Insertions.{IsRefused}
+use Rattle.cuckoo_map.specs.Insertions.{IsRefused, GivesGrounds}
 use Rattle.cuckoo_map.specs.Callers.{CallerState, IsSameCaller}
 use Rattle.ck_format.specs.declared.script.Command.{Command}
 use Rattle.ck_format.specs.declared.script.Command.TheVariants as command
 use Rattle.ck_format.specs.declared.answer.Answer.{Answer}
 use Rattle.ck_format.specs.Script.{on_names}
 use Rattle.ck_format.specs.Text.{Pairs}
-use Rattle.ck_script.specs.Output.{NeedsRoom, IsRefusal}
 use Rattle.ck_format.specs.Answers.{answer_on_names, answers_on_names}
-use Rattle.ck_script.specs.Answered.{printed, PrintsWhy, CommandPrintsWhy, HasOthers, StaysOrGrows, HaveLeft, IsAnsweredBy}
+use Rattle.ck_script.specs.Output.{NeedsRoom, IsRefusal, WasStuck, HasGroundsFor, HasGrounds, HaveGrounds}
+use Rattle.ck_script.specs.Answered.{printed, HasOthers, StaysOrGrows, HaveLeft, IsAnsweredBy}
+use Rattle.ck_script.proofs.Grounds.{later_grounds}
 
 -- what the last command left
 left_last : (n by : ℕ) (c : Command Name) (a : Answer Pairs) (new : List (Entry ℕ)) → StaysOrGrows n by c a [] new → HaveLeft n by (c ∷ []) (a ∷ []) new
@@ -44,27 +53,48 @@ left_more n by (d ∷ cs) (x ∷ xs) old new c a h grows =
     ]
 
 -- a command that is another's name
-pub answered_as : (c d : Command Name) (a b : Answer Pairs) (p q r : CallerState ℕ) → IsAnsweredBy c a p q → d ≡ c → b ≡ a → r ≡ q → IsAnsweredBy d b p r
-answered_as c d a b p q r h same_command same_answer same_caller =
-    subst (λ (s : CallerState ℕ). IsAnsweredBy d b p s) (sym same_caller)
-    (subst (λ (x : Answer Pairs). IsAnsweredBy d x p q) (sym same_answer)
-    (subst (λ (x : Command Name). IsAnsweredBy x a p q) (sym same_command) h))
+pub answered_as : (hash : Name → ℕ) (c d : Command Name) (a b : Answer Pairs) (p q r : CallerState ℕ) → IsAnsweredBy hash c a p q → d ≡ c → b ≡ a → r ≡ q → IsAnsweredBy hash d b p r
+answered_as hash c d a b p q r h same_command same_answer same_caller =
+    subst (λ (s : CallerState ℕ). IsAnsweredBy hash d b p s) (sym same_caller)
+    (subst (λ (x : Answer Pairs). IsAnsweredBy hash d x p q) (sym same_answer)
+    (subst (λ (x : Command Name). IsAnsweredBy hash x a p q) (sym same_command) h))
+
+-- what holds of the names of a worker's commands and answers, with one more of each
+holds_by_one : {K : Type 0} (name : K → Name) (P : List (Command Name) → List (Answer Pairs) → Type 0) (commands : List (Command K)) (command : Command K) (answers items : List (Answer (Vec (K × ℕ)))) (answer : Answer (Vec (K × ℕ)))
+    → P (map (on_names name) commands ++ on_names name command ∷ []) (answers_on_names name answers ++ answer_on_names name answer ∷ []) → items ≡ answers ++ answer ∷ [] → P (map (on_names name) (commands ++ command ∷ [])) (answers_on_names name items)
+holds_by_one name P commands command answers items answer holds pushed =
+    subst (λ (cs : List (Command Name)). P cs (answers_on_names name items)) (sym (map-append (on_names name) commands (command ∷ [])))
+    (subst (λ (told : List (Answer Pairs)). P (map (on_names name) commands ++ on_names name command ∷ []) told) (sym (ap (answers_on_names name) pushed ∙ map-append (answer_on_names name) answers (answer ∷ []))) holds)
 
 -- a worker's command more
 pub left_by_one : {K : Type 0} (name : K → Name) (n by : ℕ) (commands : List (Command K)) (command : Command K) (answers items : List (Answer (Vec (K × ℕ)))) (answer : Answer (Vec (K × ℕ))) (old new : List (Entry ℕ))
     → HaveLeft n by (map (on_names name) commands) (answers_on_names name answers) old → StaysOrGrows n by (on_names name command) (answer_on_names name answer) old new → items ≡ answers ++ answer ∷ []
     → HaveLeft n by (map (on_names name) (commands ++ command ∷ [])) (answers_on_names name items) new
-left_by_one name n by commands command answers items answer old new have grows pushed =
-    subst (λ (cs : List (Command Name)). HaveLeft n by cs (answers_on_names name items) new) (sym (map-append (on_names name) commands (command ∷ [])))
-    (subst (λ (told : List (Answer Pairs)). HaveLeft n by (map (on_names name) commands ++ on_names name command ∷ []) told new) (sym (ap (answers_on_names name) pushed ∙ map-append (answer_on_names name) answers (answer ∷ [])))
-    (left_more n by (map (on_names name) commands) (answers_on_names name answers) old new (on_names name command) (answer_on_names name answer) have grows))
+left_by_one name n by commands command answers items answer old new have grows =
+    holds_by_one name (λ cs told. HaveLeft n by cs told new) commands command answers items answer
+    (left_more n by (map (on_names name) commands) (answers_on_names name answers) old new (on_names name command) (answer_on_names name answer) have grows)
 
--- all of a worker's commands
-pub left_by_all : {K : Type 0} (name : K → Name) (n by : ℕ) (so_far commands : List (Command K)) (answers : List (Answer (Vec (K × ℕ)))) (mine es : List (Entry ℕ))
-    → HaveLeft n by (map (on_names name) so_far) (answers_on_names name answers) mine → so_far ≡ commands → es ≡ mine → HaveLeft n by (map (on_names name) commands) (answers_on_names name answers) es
-left_by_all {K} name n by so_far commands answers mine es have all same =
-    subst (λ (l : List (Entry ℕ)). HaveLeft n by (map (on_names name) commands) (answers_on_names name answers) l) (sym same)
-    (subst (λ (cs : List (Command K)). HaveLeft n by (map (on_names name) cs) (answers_on_names name answers) mine) all have)
+-- the same of the grounds of what was refused
+pub grounds_by_one : {K : Type 0} (hash : Name → ℕ) (set : Settings) (name : K → Name) (commands : List (Command K)) (command : Command K) (answers items : List (Answer (Vec (K × ℕ)))) (answer : Answer (Vec (K × ℕ))) (old new : List (Entry ℕ))
+    → HaveGrounds hash set old (map (on_names name) commands) (answers_on_names name answers) → StartsWith new old → HasGrounds hash set new (on_names name command) (answer_on_names name answer) → items ≡ answers ++ answer ∷ []
+    → HaveGrounds hash set new (map (on_names name) (commands ++ command ∷ [])) (answers_on_names name items)
+grounds_by_one hash set name commands command answers items answer old new have saw grounds =
+    let cs = map (on_names name) commands in
+    let told = answers_on_names name answers in
+    holds_by_one name (HaveGrounds hash set new) commands command answers items answer
+    (all_zipped_more (HasGrounds hash set new) cs told (on_names name command) (answer_on_names name answer) (later_grounds hash set old new cs told saw have) grounds)
+
+-- what holds of all that was done so far, and of the pass then, holds of all commands
+pub holds_of_all : {K : Type 0} (name : K → Name) (P : List (Command Name) → PassState ℕ → Type 0) (so_far commands : List (Command K)) (p q : PassState ℕ) → P (map (on_names name) so_far) p → so_far ≡ commands → q ≡ p → P (map (on_names name) commands) q
+holds_of_all {K} name P so_far commands p q holds all same =
+    subst (λ (x : PassState ℕ). P (map (on_names name) commands) x) (sym same)
+    (subst (λ (cs : List (Command K)). P (map (on_names name) cs) p) all holds)
+
+-- a pass has seen no less once its call is answered
+pub answered_saw : (call : Call ℕ) (reply : Reply ℕ) (more : List (Name × Reason)) (p q : PassState ℕ) → IsAnsweredBut more call reply p q → StartsWith q.view.seen p.view.seen
+answered_saw call reply more p q is =
+    let entry : Entry ℕ = record { by = is.by; call = call; reply = reply } in
+    (is.answered.others ++ entry ∷ [], is.answered.seen ∙ append_assoc p.view.seen is.answered.others (entry ∷ []))
 
 -- what an insertion shows that was refused
 has_others : (hash : Name → ℕ) (set : Settings) (q : Name) (why : Why) (p p2 : PassState ℕ) → IsRefused hash set q why p p2 → HasOthers set.callers why
@@ -73,11 +103,21 @@ has_others hash set q Memory p p2 r = tt
 has_others hash set q Full p p2 r = tt
 has_others hash set q LoadTooLow p p2 r = tt
 
-prints_why : (hash : Name → ℕ) (set : Settings) (q : Name) (why : Why) (p p2 : PassState ℕ) → IsRefused hash set q why p p2 → PrintsWhy q (printed why) p p2
-prints_why hash set q (Busy t) p p2 r = tt
-prints_why hash set q Memory p p2 r = (r.more, r.stays.noroom, r.shown.0)
-prints_why hash set q Full p p2 r = (r.more, r.stays.noroom, r.shown.0)
-prints_why hash set q LoadTooLow p p2 r = (r.more, r.stays.noroom, r.shown.0)
+-- what gives grounds is what all stripes contained at the end of what the pass has seen
+was_stuck : (hash : Name → ℕ) (set : Settings) (q : Name) (why : Reason) (p : PassState ℕ) → GivesGrounds hash set q why p → WasStuck hash set p.view.seen q why
+was_stuck hash set q why p gives = record {
+  start = p.view.seen;
+  begins = starts_itself p.view.seen;
+  contents = gives.contents;
+  after = gives.after;
+  grounds = gives.grounds;
+}
+
+has_grounds : (hash : Name → ℕ) (set : Settings) (q : Name) (why : Why) (p p2 : PassState ℕ) → IsRefused hash set q why p p2 → HasGroundsFor hash set p2.view.seen q (printed why)
+has_grounds hash set q (Busy t) p p2 r = tt
+has_grounds hash set q Memory p p2 r = was_stuck hash set q reason.Memory p2 r.shown.1
+has_grounds hash set q Full p p2 r = was_stuck hash set q reason.Full p2 r.shown.1
+has_grounds hash set q LoadTooLow p p2 r = was_stuck hash set q reason.LoadTooLow p2 r.shown.1
 
 -- what is printed for a reason refuses a command that may need room
 refuses : (n : ℕ) (c : Command Name) (why : Why) → NeedsRoom c → HasOthers n why → IsRefusal n c (printed why)
@@ -91,11 +131,14 @@ refuses n c Full needs others = needs
 refuses n c LoadTooLow needs others = needs
 
 -- a refused insertion
-pub uninserted : (hash : Name → ℕ) (c : Command Name) (k : Name) (a : Answer Pairs) (why : Why) (p q : CallerState ℕ) → NeedsRoom c → ((b : Answer Pairs) → PrintsWhy k b p.pass q.pass → CommandPrintsWhy c b p.pass q.pass) → IsSameCaller p q
-    → a ≡ printed why → IsRefused hash p.table.settings k why p.pass q.pass → IsAnsweredBy c a p q
+pub uninserted : (hash : Name → ℕ) (c : Command Name) (k : Name) (a : Answer Pairs) (why : Why) (p q : CallerState ℕ) → NeedsRoom c
+    → ((b : Answer Pairs) → HasGroundsFor hash p.table.settings q.pass.view.seen k b → HasGrounds hash p.table.settings q.pass.view.seen c b) → IsSameCaller p q
+    → a ≡ printed why → IsRefused hash p.table.settings k why p.pass q.pass → IsAnsweredBy hash c a p q
 uninserted hash c k a why p q needs of same is r =
-    subst (λ (b : Answer Pairs). IsAnsweredBy c b p q) (sym is) (record {
+    subst (λ (b : Answer Pairs). IsAnsweredBy hash c b p q) (sym is)
+    (record {
       same = same;
-      why = of (printed why) (prints_why hash p.table.settings k why p.pass q.pass r);
+      saw = r.stays.seen;
+      grounds = of (printed why) (has_grounds hash p.table.settings k why p.pass q.pass r);
       entries = λ by e. inl (refuses p.table.settings.callers c why needs (has_others hash p.table.settings k why p.pass q.pass r), r.stays.mine);
     })

@@ -1,5 +1,5 @@
 -- A history without the sessions that changed nothing.
-use Rattle.std.proofs.Common.{◌≡◌, ◌≢◌, ◌⊎◌, ℕ, List, [], ◌∷◌, ⊎_elim, inl, inr, refl, sym, ap, ◌∙◌, subst}
+use Rattle.std.proofs.Common.{◌≡◌, ◌≢◌, ◌⊎◌, ℕ, List, [], ◌∷◌, ◌++◌, ⊎_elim, inl, inr, refl, sym, ap, ◌∙◌, subst}
 use Rattle.std.specs.Prelude.{if◌then◌else◌, ◌==◌}
 use Rattle.std.specs.FinMap.{same_entries_map}
 use mathlib.Core.Logic.{dite}
@@ -8,7 +8,7 @@ use Rattle.ck_model.specs.declared.history.Call.{Call}
 use Rattle.ck_model.specs.declared.history.Entry.{Entry}
 use Rattle.ck_model.specs.Map.{Map, Step}
 use Rattle.ck_model.specs.Numbered.{IsIn, AreDistinct, numbers, Holds, over}
-use Rattle.ck_model.specs.History.{Leads, After, IsInterleaving, subhistory}
+use Rattle.ck_model.specs.History.{Leads, StartsWith, IsInterleaving, subhistory}
 use Rattle.ck_model.proofs.Numbered.{if_same, if_else, dec_in, over_miss, over_hit}
 use Rattle.ck_script.specs.Answered.{IsIdleSession}
 
@@ -48,19 +48,40 @@ drops_other e es kept own drops k = dite (ℕ_discrete e.by k)
     (λ is. subst (λ (n : ℕ). Drops (subhistory n es) (kept n)) is own)
     (λ apart. subst (λ (l : List (Entry ℕ)). Drops l (kept k)) (other_first e es k apart) (drops k))
 
--- the history of what is kept of each caller leaves the same map
-without_idle : (log : List (Entry ℕ)) (m m2 : Map ℕ) (kept : ℕ → List (Entry ℕ)) → Leads m log m2 → ((k : ℕ) → Drops (subhistory k log) (kept k))
-    → (l : List (Entry ℕ)) × Leads m l m2 × ((k : ℕ) → subhistory k l ≡ kept k)
-without_idle [] m m2 kept leads drops = ([], leads, λ k. sym (drops k))
-without_idle (e ∷ es) m m2 kept leads drops =
+-- what is kept of each caller is kept of the history
+without_idle : (log : List (Entry ℕ)) (kept : ℕ → List (Entry ℕ)) → ((k : ℕ) → Drops (subhistory k log) (kept k)) → (l : List (Entry ℕ)) × Drops log l × ((k : ℕ) → subhistory k l ≡ kept k)
+without_idle [] kept drops = ([], refl, λ k. sym (drops k))
+without_idle (e ∷ es) kept drops =
     let own = subst (λ (l : List (Entry ℕ)). Drops l (kept e.by)) (own_first e es e.by refl) (drops e.by) in
     elim own [
       | inl h ↦
-          let rest = without_idle es leads.0 m2 (behind e h.0 kept) leads.2 (drops_behind e es h.0 kept h.2 drops) in
-          (e ∷ rest.0, (leads.0, leads.1, rest.1), kept_first e rest.0 h.0 kept h.1 rest.2)
+          let rest = without_idle es (behind e h.0 kept) (drops_behind e es h.0 kept h.2 drops) in
+          (e ∷ rest.0, inl (rest.0, refl, rest.1), kept_first e rest.0 h.0 kept h.1 rest.2)
       | inr h ↦
-          let rest = without_idle es leads.0 m2 kept leads.2 (drops_other e es kept h.1 drops) in
-          (rest.0, subst (λ (x : Map ℕ). Leads x rest.0 m2) (idle_step m leads.0 e h.0 leads.1) rest.1, rest.2)
+          let rest = without_idle es kept (drops_other e es kept h.1 drops) in
+          (rest.0, inr (h.0, rest.1), rest.2)
+    ]
+
+-- it leaves the same map
+pub kept_leads : (log l : List (Entry ℕ)) (m m2 : Map ℕ) → Drops log l → Leads m log m2 → Leads m l m2
+kept_leads [] l m m2 drops leads = subst (λ (es : List (Entry ℕ)). Leads m es m2) (sym drops) leads
+kept_leads (e ∷ es) l m m2 drops leads =
+    elim drops [
+      | inl h ↦ subst (λ (es : List (Entry ℕ)). Leads m es m2) (sym h.1) (leads.0, leads.1, kept_leads es h.0 leads.0 m2 h.2 leads.2)
+      | inr h ↦ subst (λ (x : Map ℕ). Leads x l m2) (idle_step m leads.0 e h.0 leads.1) (kept_leads es l leads.0 m2 h.1 leads.2)
+    ]
+
+-- what is kept of a beginning is a beginning of it
+pub kept_start : (start more l : List (Entry ℕ)) → Drops (start ++ more) l → (s : List (Entry ℕ)) × StartsWith l s × Drops start s
+kept_start [] more l drops = ([], (l, refl), refl)
+kept_start (e ∷ es) more l drops =
+    elim drops [
+      | inl h ↦
+          let rest = kept_start es more h.0 h.2 in
+          (e ∷ rest.0, (rest.1.0, h.1 ∙ ap (λ (x : List (Entry ℕ)). e ∷ x) rest.1.1), inl (rest.0, refl, rest.2))
+      | inr h ↦
+          let rest = kept_start es more l h.1 in
+          (rest.0, rest.1, inr (h.0, rest.2))
     ]
 
 -- of each caller of the one list the other has what is kept
@@ -92,15 +113,14 @@ drops_in log parts kept interleaving each k = dite (dec_in k (numbers parts))
     let none = over_miss kept (λ n. []) k (λ inside. outside (subst (IsIn k) (same_numbers parts kept each) inside)) in
     subst (λ (l : List (Entry ℕ)). Drops l (over kept (λ n. []) k)) (sym (interleaving.no_others k outside)) none)
 
--- what is kept of each caller has a legal interleaving too, with the same map after it
-pub kept_interleaving : (log : List (Entry ℕ)) (m : Map ℕ) (parts kept : List (ℕ × List (Entry ℕ))) → IsInterleaving log parts → After log m → DropsEach parts kept → AreDistinct (numbers kept)
-    → (l : List (Entry ℕ)) × IsInterleaving l kept × After l m
-kept_interleaving log m parts kept interleaving after each distinct =
-    let all = without_idle log _ m (over kept (λ n. [])) after (drops_in log parts kept interleaving each) in (
+-- what is kept of each caller has an interleaving too
+pub kept_interleaving : (log : List (Entry ℕ)) (parts kept : List (ℕ × List (Entry ℕ))) → IsInterleaving log parts → DropsEach parts kept → AreDistinct (numbers kept) → (l : List (Entry ℕ)) × Drops log l × IsInterleaving l kept
+kept_interleaving log parts kept interleaving each distinct =
+    let all = without_idle log (over kept (λ n. [])) (drops_in log parts kept interleaving each) in (
       all.0,
+      all.1,
       record {
         each = λ k l held. all.2 k ∙ over_hit kept (λ n. []) distinct k l held;
         no_others = λ k outside. all.2 k ∙ over_miss kept (λ n. []) k outside;
       },
-      all.1,
     )

@@ -1,4 +1,5 @@
-pub mod Entries
 pub mod Idle
+pub mod Grounds
+pub mod Entries
 pub mod Lists
 pub mod Workers

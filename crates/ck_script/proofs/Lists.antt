@@ -4,16 +4,19 @@ use Rattle.std.specs.FinMap.{entries}
 use Rattle.ck_model.specs.declared.history.Call.TheVariants.{Session}
 use Rattle.ck_model.specs.declared.history.Reply.TheVariants.{Closed}
 use Rattle.ck_model.specs.declared.history.Entry.{Entry}
-use Rattle.ck_model.specs.Map.{Map}
+use Rattle.ck_model.specs.Map.{Name, Map}
+use Rattle.ck_model.specs.History.{StartsWith}
 use Rattle.ck_model.proofs.Numbered.{Some-injective}
 use Rattle.ck_words.specs.Passes.{PassState}
 use Rattle.ck_words.specs.Answering.{IsAnswered}
+use Rattle.ck_words.proofs.Staying.{starts_on}
 use Rattle.cuckoo_map.specs.Callers.{CallerState}
 use Rattle.cuckoo_map.specs.Locking.{LockedState, start_of, map_of, HasLocked}
 use Rattle.ck_format.specs.declared.script.Command.TheVariants as command
 use Rattle.ck_format.specs.declared.answer.Answer.{Answer}
 use Rattle.ck_format.specs.Text.{Pairs}
 use Rattle.ck_script.specs.Answered.{IsListOf, IsLeft, IsAnsweredBy}
+use Rattle.ck_script.proofs.Entries.{answered_saw}
 
 -- the entry of a session that changed nothing is that of a list, or of one that found no memory
 left_by_list : (n by : ℕ) (a : Answer Pairs) (start now : Map ℕ) → now ≡ start → IsListOf (entries now) a
@@ -27,15 +30,17 @@ left_by_list n by a start now same list =
     ]
 
 -- locked and unlocked, the table is left to the same caller
-pub listed : (c back : CallerState ℕ) (l : LockedState ℕ) (p : PassState ℕ) (a : Answer Pairs) → HasLocked c.table c.pass l → IsListOf (entries (map_of l)) a
-    → IsAnswered (Session (entries (start_of l)) (entries (map_of l))) Closed l.pass p → back.table ≡ c.table → back.pass ≡ p → IsAnsweredBy command.List a c back
-listed c back l p a locked list answered table pass =
+pub listed : (hash : Name → ℕ) (c back : CallerState ℕ) (l : LockedState ℕ) (p : PassState ℕ) (a : Answer Pairs) → HasLocked c.table c.pass l → IsListOf (entries (map_of l)) a
+    → IsAnswered (Session (entries (start_of l)) (entries (map_of l))) Closed l.pass p → back.table ≡ c.table → back.pass ≡ p → IsAnsweredBy hash command.List a c back
+listed hash c back l p a locked list answered table pass =
     let by_kept = ap (λ (q : PassState ℕ). q.view.by) pass ∙ answered.stays.by ∙ locked.stays.by in
     let mine = ap (λ (q : PassState ℕ). q.view.mine) pass ∙ answered.answered.mine in
     let entry : Entry ℕ = record { by = answered.by; call = Session (entries (start_of l)) (entries (map_of l)); reply = Closed } in
     record {
       same = record { table = table; by = by_kept };
-      why = tt;
+      saw = subst (λ (q : PassState ℕ). StartsWith q.view.seen c.pass.view.seen) (sym pass)
+          (starts_on c.pass.view.seen l.pass.view.seen p.view.seen locked.stays.seen (answered_saw entry.call Closed [] l.pass p answered));
+      grounds = tt;
       entries = λ by is.
           inr (
             entry,

@@ -17,10 +17,11 @@ use Rattle.ck_model.specs.Map.{Name, Map, named, name_cmp, ListsInOrder}
 use Rattle.ck_model.proofs.Entries.{entries_listed}
 use Rattle.ck_model.specs.Numbered.{IsIn, AreDistinct, numbers}
 use Rattle.ck_model.specs.History.{After, IsInterleaving}
+use Rattle.ck_model.specs.Contents.{Stripes, bindings}
 use Rattle.ck_model.specs.Counting.{counting}
 use Rattle.ck_words.specs.Words.{WordsState}
 use Rattle.ck_words.specs.Passes.{PassState}
-use Rattle.ck_words.specs.Closing.{IsCaller, AreAllPasses, EachSaw, dealt, parts_of}
+use Rattle.ck_words.specs.Closing.{IsCaller, AreAllPasses, EachSaw, AreContentsOf, Closes, dealt, parts_of}
 use Rattle.ck_model.proofs.Counting.{in_counting}
 use Rattle.ck_format.specs.declared.script.Keys.{Keys}
 use Rattle.ck_format.specs.declared.script.Command.{Command}
@@ -28,13 +29,14 @@ use Rattle.ck_format.specs.declared.script.Work.{Work}
 use Rattle.ck_format.specs.declared.answer.Answer.{Answer}
 use Rattle.ck_script.specs.declared.job.Job.{Job}
 use Rattle.ck_script.specs.declared.job.Done.{Done}
-use Rattle.ck_format.specs.Script.{Said, on_names, said_in, workers_on_names}
+use Rattle.ck_format.specs.Script.{Said, on_names, hash_of, said_in, workers_on_names}
 use Rattle.ck_format.specs.Text.{Pairs, output_text}
-use Rattle.ck_script.specs.Output.{AreEntriesOf, ArePartsOf, IsOutputOf}
+use Rattle.ck_script.specs.Output.{AreEntriesOf, ArePartsOf, HaveGrounds, IsOutputOf}
 use Rattle.ck_format.specs.Answers.{answers_on_names, lists_on_names}
 use Rattle.ck_script.specs.Answered.{HaveLeft}
 use Rattle.ck_script.specs.Jobs.{IsNew, IsJob, HasWorked, IsTextAtEnd, answers_of, passes_of}
-use Rattle.ck_script.proofs.Idle.{Drops, DropsEach, kept_interleaving}
+use Rattle.ck_script.proofs.Idle.{Drops, DropsEach, kept_leads, kept_interleaving}
+use Rattle.ck_script.proofs.Grounds.{later_grounds, kept_grounds}
 
 -- the same of each worker, of which the first has the number by
 abbrev pub HaveParts : (n by : ℕ) → List (List (Command Name)) → List (List (Answer Pairs)) → List (ℕ × List (Entry ℕ)) → Type 0
@@ -88,20 +90,23 @@ numbers_of_parts n by (cs ∷ workers) (a ∷ answers) (part ∷ kept) h =
     λ j. h.0 j ∷ rest j
 
 -- the text of the answers and of the pairs is an output
-pub output_of_parts : (said : Said) (answers : List (List (Answer Pairs))) (parts : List (ℕ × List (Entry ℕ))) (log : List (Entry ℕ)) (m : Map ℕ) (out : List ℕ)
-    → HaveParts (length said.workers) 0 said.workers answers parts → IsInterleaving log parts → After log m → out ≡ output_text said.keys answers (entries m) → IsOutputOf said out
-output_of_parts said answers parts log m out have interleaving after text =
+pub output_of_parts : (said : Said) (answers : List (List (Answer Pairs))) (parts : List (ℕ × List (Entry ℕ))) (log : List (Entry ℕ)) (contents : Stripes ℕ) (out : List ℕ)
+    → HaveParts (length said.workers) 0 said.workers answers parts → IsInterleaving log parts → After log (bindings contents) → AreContentsOf (hash_of said.keys) said.settings contents
+    → AllZip (HaveGrounds (hash_of said.keys) said.settings log) said.workers answers → out ≡ output_text said.keys answers (entries (bindings contents)) → IsOutputOf said out
+output_of_parts said answers parts log contents out have interleaving after of_table grounds text =
     let strict = all_strictly (length said.workers) 0 said.workers answers parts have in
     let distinct = subst AreDistinct (sym (numbers_of_parts (length said.workers) 0 said.workers answers strict.0 strict.1)) (distinct_counting 0 (length said.workers)) in
-    let kept = kept_interleaving log m parts strict.0 interleaving after strict.2 distinct in
+    let kept = kept_interleaving log parts strict.0 interleaving strict.2 distinct in
     record {
       answers = answers;
       parts = strict.0;
       log = kept.0;
-      map = m;
+      contents = contents;
       entries_of = strict.1;
-      interleaving = kept.1;
-      legal = kept.2;
+      interleaving = kept.2;
+      legal = kept_leads log kept.0 _ _ kept.1 after;
+      of_table = of_table;
+      grounds = kept_grounds (hash_of said.keys) said.settings log kept.0 said.workers answers kept.1 grounds;
       text = text;
     }
 
@@ -117,12 +122,12 @@ dealt_new w set ms passes all is k d lt = record {
   no_entry = subst (All (λ (p : PassState ℕ). p.view.mine ≡ [])) (sym is) (no_entries w set ms) k d lt;
 }
 
-module _ {K : Type 0} (name : K → Name) (w : WordsState) (set : Settings) where
+module _ {K : Type 0} (hash : Name → ℕ) (name : K → Name) (w : WordsState) (set : Settings) where
   abbrev pub Given : ℕ → List (Vec (Command K)) → List (Job K) → Type 0
   Given a workers jobs = AllZip (IsJob w) (zip (dealt w.table set (counting a (length workers))) workers) jobs
 
   abbrev pub Worked : List (Job K) → List (Done K) → Type 0
-  Worked jobs dones = AllZip (HasWorked name) jobs dones
+  Worked jobs dones = AllZip (HasWorked hash name) jobs dones
 
   -- what the workers left, by their numbers
   pub done_parts : (a : ℕ) (workers : List (Vec (Command K))) (jobs : List (Job K)) (dones : List (Done K)) → Given a workers jobs → Worked jobs dones
@@ -138,6 +143,20 @@ module _ {K : Type 0} (name : K → Name) (w : WordsState) (set : Settings) wher
         subst (λ (x : WordsState × Vec (Command K)). HaveLeft x.0.settings.callers a (map (on_names name) x.1.items) (answers_on_names name d.answers.items) d.pass.view.mine) (λ i. (given.0.table i, given.0.commands i)) (worked.0.entries a by),
         subst (λ n. HaveParts w.settings.callers n (workers_on_names name workers) (lists_on_names name (answers_of dones)) (parts_of (passes_of dones))) (sym (add-one a)) (done_parts (suc a) workers jobs dones given.1 worked.1),
       )
+
+  -- what was refused had grounds in a history that begins with what each has seen
+  pub done_grounds : (log : List (Entry ℕ)) (a : ℕ) (workers : List (Vec (Command K))) (jobs : List (Job K)) (dones : List (Done K)) → EachSaw log (passes_of dones) → Given a workers jobs → Worked jobs dones
+      → AllZip (HaveGrounds hash w.settings log) (workers_on_names name workers) (lists_on_names name (answers_of dones))
+  done_grounds log a [] [] [] saw given worked = tt
+  done_grounds log a [] [] (d ∷ dones) saw given worked = absurd worked
+  done_grounds log a [] (j ∷ jobs) dones saw given worked = absurd given
+  done_grounds log a (cs ∷ workers) [] dones saw given worked = absurd given
+  done_grounds log a (cs ∷ workers) (j ∷ jobs) [] saw given worked = absurd worked
+  done_grounds log a (cs ∷ workers) (j ∷ jobs) (d ∷ dones) saw given worked = (
+    subst (λ (x : WordsState × Vec (Command K)). HaveGrounds hash x.0.settings log (map (on_names name) x.1.items) (answers_on_names name d.answers.items)) (λ i. (given.0.table i, given.0.commands i))
+        (later_grounds hash j.caller.table.settings d.pass.view.seen log (map (on_names name) j.commands.items) (answers_on_names name d.answers.items) (saw 0 d.pass (omega arith)) worked.0.grounds),
+    done_grounds log (suc a) workers jobs dones (λ k p lt. saw (suc k) p (omega arith)) given.1 worked.1,
+  )
 
   done_callers : (a : ℕ) (workers : List (Vec (Command K))) (jobs : List (Job K)) (dones : List (Done K)) → Given a workers jobs → Worked jobs dones → All (IsCaller w) (passes_of dones)
   done_callers a [] [] [] given worked k d lt = absurd (omega arith)
@@ -169,17 +188,17 @@ module _ {K : Type 0} (name : K → Name) (w : WordsState) (set : Settings) wher
   }
 
 -- what calls returned to their jobs, list by list
-module _ {K F : Type 0} (name : K → Name) (g : Shared F (Job K × Unit {0}) (Done K)) (f : F) where
-  worked_each : (jobs : List (Job K)) (dones : List (Done K)) → length dones ≡ length jobs → ((i : ℕ) (j : Job K) (d : Done K) → i < length jobs → HasWorked name (slice_index_or jobs i j) (slice_index_or dones i d)) → AllZip (HasWorked name) jobs dones
+module _ {K F : Type 0} (hash : Name → ℕ) (name : K → Name) (g : Shared F (Job K × Unit {0}) (Done K)) (f : F) where
+  worked_each : (jobs : List (Job K)) (dones : List (Done K)) → length dones ≡ length jobs → ((i : ℕ) (j : Job K) (d : Done K) → i < length jobs → HasWorked hash name (slice_index_or jobs i j) (slice_index_or dones i d)) → AllZip (HasWorked hash name) jobs dones
   worked_each [] [] e h = tt
   worked_each [] (d ∷ dones) e h = absurd (omega arith)
   worked_each (j ∷ jobs) [] e h = absurd (omega arith)
   worked_each (j ∷ jobs) (d ∷ dones) e h = (h 0 j d (omega arith), worked_each jobs dones (omega arith) (λ i a b lt. h (suc i) a b (omega arith)))
 
   pub all_worked : {E : Type 0} (jobs : Vec (Job K)) (r : Result (Vec (Done K)) E) → IfOk r (λ v. vec_len v ≡ vec_len jobs) → IfOk r (λ v. GivesJobs g f jobs.items v.items)
-      → ((j : Job K) (d : Done K) → FnReturns g f (j, tt) d → HasWorked name j d) → IfOk r (λ v. AllZip (HasWorked name) jobs.items v.items)
+      → ((j : Job K) (d : Done K) → FnReturns g f (j, tt) d → HasWorked hash name j d) → IfOk r (λ v. AllZip (HasWorked hash name) jobs.items v.items)
   all_worked jobs (Ok v) len gives returns =
-      worked_each jobs.items v.items (omega arith) (λ i j d lt. let one = (gives i d lt).1 in subst (λ (x : Job K). HasWorked name x (slice_index_or v.items i d)) (sym (one.job_is j)) (returns one.job (slice_index_or v.items i d) one.call))
+      worked_each jobs.items v.items (omega arith) (λ i j d lt. let one = (gives i d lt).1 in subst (λ (x : Job K). HasWorked hash name x (slice_index_or v.items i d)) (sym (one.job_is j)) (returns one.job (slice_index_or v.items i d) one.call))
   all_worked jobs (Err e) len gives returns = tt
 
 -- what holds of each of the first things holds of that of a pair
@@ -204,39 +223,45 @@ all_more {A} P xs items x all is pushed = subst (All P) (sym pushed) (All-append
     alone x is zero d lt = is
     alone x is (suc k) d lt = absurd (omega arith)
 
--- the table was closed, and these are its pairs
-abbrev pub Closed : {K : Type 0} → (K → Name) → (K → K → Ordering) → List (PassState ℕ) → List (K × ℕ) → Type 0
-Closed name cmp passes pairs = (log : List (Entry ℕ)) × (m : Map ℕ) × IsInterleaving log (parts_of passes) × EachSaw log passes × After log m × ListsInOrder name cmp pairs m
-
-pub text_at_end : {K E : Type 0} (name : K → Name) (cmp : K → K → Ordering) → ((a b : K) → cmp a b ≡ name_cmp (name a) (name b)) → (keys : Keys) (passes : List (PassState ℕ)) (answers : List (List (Answer Pairs)))
-    (pairs : List (K × ℕ)) (r : Result (Vec ℕ) E) → Closed name cmp passes pairs → IfOk r (λ text. text.items ≡ output_text keys answers (map (named name) pairs)) → IfOk r (λ text. IsTextAtEnd keys passes answers text.items)
-text_at_end name cmp in_order keys passes answers pairs (Ok text) closed is = record {
-  log = closed.0;
-  map = closed.1;
-  interleaving = closed.2;
-  legal = closed.4;
-  text_is = is ∙ ap (output_text keys answers) (entries_listed name cmp in_order pairs closed.1 closed.5);
+-- the text of the answers, and of the pairs that a closed table gave
+pub text_at_end : {K E : Type 0} (hash : Name → ℕ) (name : K → Name) (cmp : K → K → Ordering) → ((a b : K) → cmp a b ≡ name_cmp (name a) (name b)) → (keys : Keys) → hash ≡ hash_of keys
+    → (set : Settings) (passes : List (PassState ℕ)) (answers : List (List (Answer Pairs))) (pairs : List (K × ℕ)) (m : Map ℕ) (r : Result (Vec ℕ) E) → Closes hash set passes m → ListsInOrder name cmp pairs m
+    → IfOk r (λ text. text.items ≡ output_text keys answers (map (named name) pairs)) → IfOk r (λ text. IsTextAtEnd keys set passes answers text.items)
+text_at_end hash name cmp in_order keys hashed set passes answers pairs m (Ok text) closes lists is = record {
+  log = closes.log;
+  contents = closes.contents;
+  interleaving = closes.interleaving;
+  saw = closes.saw;
+  legal = subst (After closes.log) (sym closes.binds) closes.after;
+  of_table = subst (λ (h : Name → ℕ). AreContentsOf h set closes.contents) hashed closes.of_table;
+  text_is = is ∙ ap (output_text keys answers) (entries_listed name cmp in_order pairs m lists ∙ ap entries (sym closes.binds));
 }
-text_at_end name cmp in_order keys passes answers pairs (Err e) closed is = tt
+text_at_end hash name cmp in_order keys hashed set passes answers pairs m (Err e) closes lists is = tt
 
-module _ {K : Type 0} (name : K → Name) (w : WordsState) (set : Settings) where
+module _ {K : Type 0} (hash : Name → ℕ) (name : K → Name) (w : WordsState) (set : Settings) where
   -- the jobs are those of the passes that were dealt
   pub given_dealt : (workers : List (Vec (Command K))) (passes : List (PassState ℕ)) (jobs : List (Job K)) → passes ≡ dealt w.table set (counting 0 set.callers) → set.callers ≡ length workers
-      → AllZip (IsJob w) (zip passes workers) jobs → Given name w set 0 workers jobs
+      → AllZip (IsJob w) (zip passes workers) jobs → Given hash name w set 0 workers jobs
   given_dealt workers passes jobs is count given =
       subst (λ (ps : List (PassState ℕ)). AllZip (IsJob w) (zip ps workers) jobs) (is ∙ ap (λ n. dealt w.table set (counting 0 n)) count) given
 
   -- the text at the end is an output of the work
   pub output_of_run : {E : Type 0} (keys : Keys) (work : Work K) (jobs : List (Job K)) (dones : List (Done K)) (passes : List (PassState ℕ)) (answers : List (Vec (Answer (Vec (K × ℕ))))) (r : Result (Vec ℕ) E)
-      → w.settings.callers ≡ length work.workers.items → Given name w set 0 work.workers.items jobs → Worked name w set jobs dones → passes ≡ passes_of dones → answers ≡ answers_of dones
-      → IfOk r (λ text. IsTextAtEnd keys passes (lists_on_names name answers) text.items) → IfOk r (λ text. IsOutputOf (said_in keys name work) text.items)
-  output_of_run keys work jobs dones passes answers (Ok text) count given worked same_passes same_answers end =
+      → hash ≡ hash_of keys → w.settings ≡ work.settings → Given hash name w set 0 work.workers.items jobs → Worked hash name w set jobs dones → passes ≡ passes_of dones → answers ≡ answers_of dones
+      → IfOk r (λ text. IsTextAtEnd keys w.settings passes (lists_on_names name answers) text.items) → IfOk r (λ text. IsOutputOf (said_in keys name work) text.items)
+  output_of_run keys work jobs dones passes answers (Ok text) hashed settings given worked same_passes same_answers at_end =
       let workers = work.workers.items in
-      let n : ℕ = length (workers_on_names name workers) in
-      let all : w.settings.callers ≡ n = count ∙ sym (length-map workers (λ (cs : Vec (Command K)). map (on_names name) cs.items)) in
-      let have : HaveParts n 0 (workers_on_names name workers) (lists_on_names name answers) (parts_of passes) =
-      subst (λ (told : List (Vec (Answer (Vec (K × ℕ))))). HaveParts n 0 (workers_on_names name workers) (lists_on_names name told) (parts_of passes)) (sym same_answers)
-      (subst (λ (ps : List (PassState ℕ)). HaveParts n 0 (workers_on_names name workers) (lists_on_names name (answers_of dones)) (parts_of ps)) (sym same_passes)
-      (subst (λ m. HaveParts m 0 (workers_on_names name workers) (lists_on_names name (answers_of dones)) (parts_of (passes_of dones))) all (done_parts name w set 0 workers jobs dones given worked))) in
-      output_of_parts (said_in keys name work) (lists_on_names name answers) (parts_of passes) end.log end.map text.items have end.interleaving end.legal end.text_is
-  output_of_run keys work jobs dones passes answers (Err e) count given worked same_passes same_answers end = tt
+      let named_workers = workers_on_names name workers in
+      let told = lists_on_names name (answers_of dones) in
+      let end : IsTextAtEnd keys work.settings (passes_of dones) told text.items =
+      subst (λ (s : Settings). IsTextAtEnd keys s (passes_of dones) told text.items) settings
+      (subst (λ (ps : List (PassState ℕ)). IsTextAtEnd keys w.settings ps told text.items) same_passes
+      (subst (λ (lists : List (Vec (Answer (Vec (K × ℕ))))). IsTextAtEnd keys w.settings passes (lists_on_names name lists) text.items) same_answers at_end)) in
+      let count : w.settings.callers ≡ length named_workers =
+      ap (λ (s : Settings). s.callers) settings ∙ work.callers ∙ sym (length-map workers (λ (cs : Vec (Command K)). map (on_names name) cs.items)) in
+      let have : HaveParts (length named_workers) 0 named_workers told (parts_of (passes_of dones)) =
+      subst (λ n. HaveParts n 0 named_workers told (parts_of (passes_of dones))) count (done_parts hash name w set 0 workers jobs dones given worked) in
+      let grounds : AllZip (HaveGrounds (hash_of keys) work.settings end.log) named_workers told =
+      subst (λ (x : (Name → ℕ) × Settings). AllZip (HaveGrounds x.0 x.1 end.log) named_workers told) (λ i. (hashed i, settings i)) (done_grounds hash name w set end.log 0 workers jobs dones end.saw given worked) in
+      output_of_parts (said_in keys name work) told (parts_of (passes_of dones)) end.log end.contents text.items have end.interleaving end.legal end.of_table grounds end.text_is
+  output_of_run keys work jobs dones passes answers (Err e) hashed settings given worked same_passes same_answers at_end = tt

@@ -3,19 +3,22 @@ use Rattle.std.specs.Prelude.{◌≡◌, ℕ, ◌≤◌, List, [], length, map, 
 use Rattle.std.specs.Global.{Vec}
 use Rattle.std.specs.FinMap.{entries}
 use Rattle.ck_model.specs.declared.history.Entry.{Entry}
-use Rattle.ck_model.specs.Map.{Name, Map}
+use Rattle.ck_model.specs.declared.settings.Settings.{Settings}
+use Rattle.ck_model.specs.Map.{Name}
 use Rattle.ck_model.specs.History.{After, IsInterleaving}
+use Rattle.ck_model.specs.Contents.{Stripes, bindings}
 use Rattle.ck_words.specs.Words.{WordsState}
 use Rattle.ck_words.specs.Passes.{PassState}
-use Rattle.ck_words.specs.Closing.{IsCaller, parts_of}
+use Rattle.ck_words.specs.Closing.{IsCaller, EachSaw, AreContentsOf, parts_of}
 use Rattle.ck_format.specs.declared.script.Keys.{Keys}
 use Rattle.ck_format.specs.declared.script.Command.{Command}
 use Rattle.ck_format.specs.declared.answer.Answer.{Answer}
 use Rattle.ck_script.specs.declared.job.Job.{Job}
 use Rattle.ck_script.specs.declared.job.Done.{Done}
-use Rattle.ck_format.specs.Script.{on_names}
+use Rattle.ck_format.specs.Script.{on_names, hash_of}
 use Rattle.ck_format.specs.Text.{Pairs, output_text}
 use Rattle.ck_format.specs.Answers.{answers_on_names}
+use Rattle.ck_script.specs.Output.{HaveGrounds}
 use Rattle.ck_script.specs.Answered.{HaveLeft}
 
 -- The pass is one of this table's callers, and was in no call that left an entry.
@@ -43,17 +46,21 @@ module _ {K : Type 0} where
   abbrev pub passes_of : List (Done K) → List (PassState ℕ)
   passes_of dones = map (λ (d : Done K). d.pass) dones
 
-module _ {K : Type 0} (name : K → Name) where
-  -- The worker made its calls on the same table under the same number, and its entries are what its commands left.
+module _ {K : Type 0} (hash : Name → ℕ) (name : K → Name) where
+  -- The worker made its calls on the same table under the same number. Its entries are what its commands left, and what was refused for want of room had grounds in what it has seen.
   pub record HasWorked (job : Job K) (done : Done K) : Type 0 where
     pub caller : IsCaller job.caller.table done.pass
     pub by : done.pass.view.by ≡ job.caller.pass.view.by
+    pub grounds : HaveGrounds hash job.caller.table.settings done.pass.view.seen (map (on_names name) job.commands.items) (answers_on_names name done.answers.items)
     pub entries : (by : ℕ) → job.caller.pass.view.by ≡ Some by → HaveLeft job.caller.table.settings.callers by (map (on_names name) job.commands.items) (answers_on_names name done.answers.items) done.pass.view.mine
 
--- The text is that of these answers and of the map after a legal history, which is an interleaving of the entries of the passes.
-pub record IsTextAtEnd (keys : Keys) (passes : List (PassState ℕ)) (answers : List (List (Answer Pairs))) (text : List ℕ) : Type 0 where
+-- The text is that of these answers and of the map after a legal history, which is an interleaving of the entries of the passes, and begins with what each has seen.
+-- The map is what a table with these settings contains.
+pub record IsTextAtEnd (keys : Keys) (set : Settings) (passes : List (PassState ℕ)) (answers : List (List (Answer Pairs))) (text : List ℕ) : Type 0 where
   pub log : List (Entry ℕ)
-  pub map : Map ℕ
+  pub contents : Stripes ℕ
   pub interleaving : IsInterleaving log (parts_of passes)
-  pub legal : After log map
-  pub text_is : text ≡ output_text keys answers (entries map)
+  pub saw : EachSaw log passes
+  pub legal : After log (bindings contents)
+  pub of_table : AreContentsOf (hash_of keys) set contents
+  pub text_is : text ≡ output_text keys answers (entries (bindings contents))

@@ -1,5 +1,6 @@
 -- What a run of a script may write.
 use Rattle.std.specs.Prelude.{◌≡◌, ◌≢◌, ◌⊎◌, ℕ, ◌+◌, ◌-◌, ◌^◌, min, List, [], ◌∷◌, length, Some, None}
+use Rattle.std.specs.List.{AllZip}
 use Rattle.std.specs.FinMap.{entries}
 use Rattle.ck_model.specs.declared.history.Act.TheVariants as act
 use Rattle.ck_model.specs.declared.history.Call.{Call}
@@ -7,14 +8,19 @@ use Rattle.ck_model.specs.declared.history.Call.TheVariants as call
 use Rattle.ck_model.specs.declared.history.Reply.{Reply}
 use Rattle.ck_model.specs.declared.history.Reply.TheVariants as reply
 use Rattle.ck_model.specs.declared.history.Entry.{Entry}
-use Rattle.ck_model.specs.Map.{Name, Map}
-use Rattle.ck_model.specs.History.{After, IsInterleaving}
-use Rattle.ck_format.specs.declared.script.Keys.{Keys}
+use Rattle.ck_model.specs.declared.history.Reason.{Reason}
+use Rattle.ck_model.specs.declared.history.Reason.TheVariants as reason
+use Rattle.ck_model.specs.declared.settings.Settings.{Settings}
+use Rattle.ck_model.specs.Map.{Name}
+use Rattle.ck_model.specs.History.{After, StartsWith, IsInterleaving}
+use Rattle.ck_model.specs.Contents.{layout_of, Stripes, bindings}
+use Rattle.ck_model.specs.Paths.{Grounds}
+use Rattle.ck_words.specs.Closing.{AreContentsOf}
 use Rattle.ck_format.specs.declared.script.Command.{Command}
 use Rattle.ck_format.specs.declared.script.Command.TheVariants as command
 use Rattle.ck_format.specs.declared.answer.Answer.{Answer}
 use Rattle.ck_format.specs.declared.answer.Answer.TheVariants as answer
-use Rattle.ck_format.specs.Script.{Said}
+use Rattle.ck_format.specs.Script.{Said, hash_of}
 use Rattle.ck_format.specs.Text.{Pairs, output_text}
 
 -- The call that a command makes: a list is a session that changes nothing.
@@ -111,13 +117,42 @@ ArePartsOf n by [] [] parts = parts ≡ []
 ArePartsOf n by (cs ∷ workers) (answers ∷ more) (part ∷ parts) = (part.0 ≡ by) × AreEntriesOf n by cs answers part.1 × ArePartsOf n (by + 1) workers more parts
 ArePartsOf n by workers answers parts = ⊥
 
--- The entries of the workers' commands have a legal interleaving, and the text is that of the answers and of the map after it.
+-- At a beginning of the history all stripes of a table with these settings contained what gives this reason to refuse the name.
+pub record WasStuck (hash : Name → ℕ) (set : Settings) (log : List (Entry ℕ)) (k : Name) (why : Reason) : Type 0 where
+  pub start : List (Entry ℕ)
+  pub begins : StartsWith log start
+  pub contents : Stripes ℕ
+  pub after : After start (bindings contents)
+  pub grounds : Grounds (layout_of hash set) set.min_load contents k why
+
+-- where the answer refuses the name for want of room, it was so
+abbrev pub HasGroundsFor : (Name → ℕ) → Settings → List (Entry ℕ) → Name → Answer Pairs → Type 0
+HasGroundsFor hash set log k answer.Memory = WasStuck hash set log k reason.Memory
+HasGroundsFor hash set log k answer.Full = WasStuck hash set log k reason.Full
+HasGroundsFor hash set log k answer.Load = WasStuck hash set log k reason.LoadTooLow
+HasGroundsFor hash set log k a = Unit {0}
+
+-- the same of a command that may need room for its key
+abbrev pub HasGrounds : (Name → ℕ) → Settings → List (Entry ℕ) → Command Name → Answer Pairs → Type 0
+HasGrounds hash set log (command.Insert k n) a = HasGroundsFor hash set log k a
+HasGrounds hash set log (command.Assign k n) a = HasGroundsFor hash set log k a
+HasGrounds hash set log (command.Add k n) a = HasGroundsFor hash set log k a
+HasGrounds hash set log c a = Unit {0}
+
+-- each of these commands with its answer
+abbrev pub HaveGrounds : (Name → ℕ) → Settings → List (Entry ℕ) → List (Command Name) → List (Answer Pairs) → Type 0
+HaveGrounds hash set log cs answers = AllZip (HasGrounds hash set log) cs answers
+
+-- The entries of the workers' commands have a legal interleaving, and the text is that of the answers and of the map after it. All is on a table with the script's settings:
+-- the map is what such a table contains, and so is what refuses a command for want of room.
 pub record IsOutputOf (said : Said) (out : List ℕ) : Type 0 where
   pub answers : List (List (Answer Pairs))
   pub parts : List (ℕ × List (Entry ℕ))
   pub log : List (Entry ℕ)
-  pub map : Map ℕ
+  pub contents : Stripes ℕ
   pub entries_of : ArePartsOf (length said.workers) 0 said.workers answers parts
   pub interleaving : IsInterleaving log parts
-  pub legal : After log map
-  pub text : out ≡ output_text said.keys answers (entries map)
+  pub legal : After log (bindings contents)
+  pub of_table : AreContentsOf (hash_of said.keys) said.settings contents
+  pub grounds : AllZip (HaveGrounds (hash_of said.keys) said.settings log) said.workers answers
+  pub text : out ≡ output_text said.keys answers (entries (bindings contents))

@@ -27,7 +27,7 @@ fn refusal_of<K: TableKey + Drop>(why: Why) -> Answer<Pairs<K>>
 // A function for each command: it asks the table, and picks the word for the reply.
 
 fn find<K: TableKey + Drop>(caller: &mut Caller<'_, K, u64>, key: K) -> Answer<Pairs<K>>
-    ensures { IsAnsweredBy (Command.Find (K.name key)) (answer_on_names K.name result)
+    ensures { IsAnsweredBy K.hash (Command.Find (K.name key)) (answer_on_names K.name result)
         caller.old caller.new }
 {
     match caller.find(&key) {
@@ -38,7 +38,7 @@ fn find<K: TableKey + Drop>(caller: &mut Caller<'_, K, u64>, key: K) -> Answer<P
 }
 
 fn has<K: TableKey + Drop>(caller: &mut Caller<'_, K, u64>, key: K) -> Answer<Pairs<K>>
-    ensures { IsAnsweredBy (Command.Has (K.name key)) (answer_on_names K.name result)
+    ensures { IsAnsweredBy K.hash (Command.Has (K.name key)) (answer_on_names K.name result)
         caller.old caller.new }
 {
     match caller.contains(&key) {
@@ -53,7 +53,7 @@ fn insert<K: TableKey + Drop>(
     key: K,
     value: u64,
 ) -> Answer<Pairs<K>>
-    ensures { IsAnsweredBy (Command.Insert (K.name key) value) (answer_on_names K.name result)
+    ensures { IsAnsweredBy K.hash (Command.Insert (K.name key) value) (answer_on_names K.name result)
         caller.old caller.new }
 {
     match caller.insert(key, value) {
@@ -68,7 +68,7 @@ fn assign<K: TableKey + Drop>(
     key: K,
     value: u64,
 ) -> Answer<Pairs<K>>
-    ensures { IsAnsweredBy (Command.Assign (K.name key) value) (answer_on_names K.name result)
+    ensures { IsAnsweredBy K.hash (Command.Assign (K.name key) value) (answer_on_names K.name result)
         caller.old caller.new }
 {
     match caller.insert_or_assign(key, value) {
@@ -83,7 +83,7 @@ fn update<K: TableKey + Drop>(
     key: K,
     value: u64,
 ) -> Answer<Pairs<K>>
-    ensures { IsAnsweredBy (Command.Update (K.name key) value) (answer_on_names K.name result)
+    ensures { IsAnsweredBy K.hash (Command.Update (K.name key) value) (answer_on_names K.name result)
         caller.old caller.new }
 {
     match caller.update(&key, value) {
@@ -94,7 +94,7 @@ fn update<K: TableKey + Drop>(
 }
 
 fn add<K: TableKey + Drop>(caller: &mut Caller<'_, K, u64>, key: K, value: u64) -> Answer<Pairs<K>>
-    ensures { IsAnsweredBy (Command.Add (K.name key) value) (answer_on_names K.name result)
+    ensures { IsAnsweredBy K.hash (Command.Add (K.name key) value) (answer_on_names K.name result)
         caller.old caller.new }
 {
     match caller.upsert(key, |bound| bound.saturating_add(value), value) {
@@ -105,7 +105,7 @@ fn add<K: TableKey + Drop>(caller: &mut Caller<'_, K, u64>, key: K, value: u64) 
 }
 
 fn erase<K: TableKey + Drop>(caller: &mut Caller<'_, K, u64>, key: K) -> Answer<Pairs<K>>
-    ensures { IsAnsweredBy (Command.Erase (K.name key)) (answer_on_names K.name result)
+    ensures { IsAnsweredBy K.hash (Command.Erase (K.name key)) (answer_on_names K.name result)
         caller.old caller.new }
 {
     match caller.erase(&key) {
@@ -116,7 +116,7 @@ fn erase<K: TableKey + Drop>(caller: &mut Caller<'_, K, u64>, key: K) -> Answer<
 }
 
 fn len<K: TableKey + Drop>(caller: &mut Caller<'_, K, u64>) -> Answer<Pairs<K>>
-    ensures { IsAnsweredBy Command.Len (answer_on_names K.name result) caller.old caller.new }
+    ensures { IsAnsweredBy K.hash Command.Len (answer_on_names K.name result) caller.old caller.new }
 {
     match caller.len() {
         Ok(count) => Answer::Count(count),
@@ -141,7 +141,7 @@ fn transfer<K: TableKey + Drop>(
     to: K,
     amount: u64,
 ) -> Answer<Pairs<K>>
-    ensures { IsAnsweredBy (Command.Move (K.name from) (K.name to) amount)
+    ensures { IsAnsweredBy K.hash (Command.Move (K.name from) (K.name to) amount)
         (answer_on_names K.name result) caller.old caller.new }
 {
     if from == to {
@@ -170,7 +170,7 @@ fn list<'t, K: WrittenKey>(
     alloc: Global,
     caller: Caller<'t, K, u64>,
 ) -> (Answer<Pairs<K>>, Caller<'t, K, u64>)
-    ensures { IsAnsweredBy Command.List (answer_on_names K.name result.0)
+    ensures { IsAnsweredBy K.hash Command.List (answer_on_names K.name result.0)
         caller.entry result.1 }
 {
     let table = caller.table();
@@ -189,7 +189,7 @@ pub(crate) fn answer_of<'t, K: WrittenKey>(
     caller: Caller<'t, K, u64>,
     command: Command<K>,
 ) -> (Answer<Pairs<K>>, Caller<'t, K, u64>)
-    ensures { IsAnsweredBy (on_names K.name command) (answer_on_names K.name result.0)
+    ensures { IsAnsweredBy K.hash (on_names K.name command) (answer_on_names K.name result.0)
         caller.entry result.1 }
 {
     let mut caller = caller;

@@ -117,8 +117,8 @@ fn text_at_end<K: WrittenKey>(
     answers: &[Vec<Answer<Pairs<K>>>],
 ) -> Result<Vec<u8>, AllocError>
     requires { AreAllPasses table passes.items }
-    ensures { IfOk result (λ text.
-        IsTextAtEnd K.keys passes.items (lists_on_names K.name answers.now) text.items) }
+    ensures { IfOk result (λ text. IsTextAtEnd K.keys table.settings passes.items
+        (lists_on_names K.name answers.now) text.items) }
 {
     match table.close(passes) {
         Ok(pairs) => text_of(alloc, answers, &pairs),

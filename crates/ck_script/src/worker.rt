@@ -13,7 +13,7 @@ use std::thread::{Threads, map_vec};
 // Makes the calls of a worker, and notes their answers.
 fn work<K: WrittenKey, G: Gate>(alloc: Global, gate: &G, job: Job<'_, K>) -> Done<K>
     requires { IsReadyJob job }
-    ensures { HasWorked K.name job.entry result }
+    ensures { HasWorked K.hash K.name job.entry result }
 {
     let Job {
         worker,
@@ -43,11 +43,11 @@ pub fn work_all<T: Threads + Sync, K: WrittenKey + Send, G: Gate>(
     jobs: Vec<Job<'_, K>>,
 ) -> Result<Vec<Done<K>>, AllocError>
     requires { All IsReadyJob jobs.items }
-    ensures { IfOk result (λ dones. AllZip (HasWorked K.name) jobs.entry.items dones.items) }
+    ensures { IfOk result (λ dones. AllZip (HasWorked K.hash K.name) jobs.entry.items dones.items) }
 {
     let work_on = |job: Job<'_, K>| -> Done<K>
         requires { IsReadyJob job }
-        ensures { HasWorked K.name job.entry result }
+        ensures { HasWorked K.hash K.name job.entry result }
     { work(alloc, gate, job) };
     map_vec(rt, jobs, &work_on)
 }

@@ -46,7 +46,7 @@ few_taken [] = omega arith
 few_taken (None ∷ slots) = let again = few_taken slots in omega arith
 few_taken (Some x ∷ slots) = let again = few_taken slots in omega arith
 
-few_pairs : {X : Type 0} (rows : List (List (Option X))) → All (λ (row : List (Option X)). length row ≡ 4) rows → length (flat_map taken_in rows) ≤ 4 * length rows
+pub few_pairs : {X : Type 0} (rows : List (List (Option X))) → All (λ (row : List (Option X)). length row ≡ 4) rows → length (flat_map taken_in rows) ≤ 4 * length rows
 few_pairs [] four = omega arith
 few_pairs (row ∷ rows) four =
     let a = length-append (taken_in row) (flat_map taken_in rows) in

@@ -31,6 +31,7 @@ const SETTINGS: Settings = Settings {
 enum Subject {
     Key,
     Opening,
+    Callers,
     Closing,
     WordsClosing,
 }
@@ -53,6 +54,23 @@ fn open(rt: &impl Abort, alloc: Global) -> End {
         Ok(_) => End::Done,
         Err(fault) => {
             assert!(rt; fault == OpenFault::Memory);
+            End::Refused
+        }
+    }
+}
+
+/// Where there is no memory for the list of callers, all passes come back.
+fn make_callers(rt: &impl Abort, alloc: Global) -> End {
+    let Ok((table, passes)) = NumTable::open(alloc, TWO_STRIPES) else {
+        return End::Unbegun;
+    };
+    match table.callers(alloc, passes) {
+        Ok(callers) => {
+            assert!(rt; callers.len() == 3);
+            End::Done
+        }
+        Err(back) => {
+            assert!(rt; back.passes.len() == 3);
             End::Refused
         }
     }
@@ -136,6 +154,7 @@ fn call(rt: &impl Abort, alloc: Global, subject: Subject) -> End {
     match subject {
         Subject::Key => make_key(rt, alloc),
         Subject::Opening => open(rt, alloc),
+        Subject::Callers => make_callers(rt, alloc),
         Subject::Closing => close(rt, alloc),
         Subject::WordsClosing => close_words(rt, alloc),
     }
@@ -143,9 +162,10 @@ fn call(rt: &impl Abort, alloc: Global, subject: Subject) -> End {
 
 /// Both are refused for want of memory, and then neither is; what has to come before needs memory
 /// too, or none.
-const ROWS: [(&str, Subject, usize, bool); 4] = [
+const ROWS: [(&str, Subject, usize, bool); 5] = [
     ("a text key", Subject::Key, 20, false),
     ("opening a table", Subject::Opening, 120, false),
+    ("a list of callers", Subject::Callers, 200, true),
     ("closing a table", Subject::Closing, 120, true),
     ("closing lock words", Subject::WordsClosing, 200, true),
 ];

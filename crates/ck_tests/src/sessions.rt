@@ -18,9 +18,14 @@ use std::test::Fail;
 #[derive(Clone, Copy, PartialEq, Eq)]
 enum Call {
     Find(u64),
+    Contains(u64),
     Insert(u64, u64),
+    Update(u64, u64),
+    /// By `update_fn`.
+    Halve(u64),
     Erase(u64),
     Len,
+    IsEmpty,
 }
 
 /// What a call is answered.
@@ -29,6 +34,8 @@ enum Reply {
     Was(Option<u64>),
     /// The key was unbound, and is bound now.
     Fresh(bool),
+    /// Whether the key is bound, or no key is.
+    Is(bool),
     Count(u64),
     /// Key and value came back.
     Back(u64, u64, Why),
@@ -43,15 +50,25 @@ fn insert(locked: &mut NumLocked<'_>, key: u64, value: u64) -> Reply
     }
 }
 
+fn halve(locked: &mut NumLocked<'_>, key: u64) -> Reply
+    ensures { locked.new.table ≡ locked.old.table }
+{
+    Reply::Is(locked.update_fn(&NumKey(key), |value| value / 2))
+}
+
 /// Makes the call.
 fn answer(locked: &mut NumLocked<'_>, call: Call) -> Reply
     ensures { locked.new.table ≡ locked.old.table }
 {
     match call {
         Call::Find(key) => Reply::Was(locked.find(&NumKey(key)).copied()),
+        Call::Contains(key) => Reply::Is(locked.contains(&NumKey(key))),
         Call::Insert(key, value) => insert(locked, key, value),
+        Call::Update(key, value) => Reply::Was(locked.update(&NumKey(key), value)),
+        Call::Halve(key) => halve(locked, key),
         Call::Erase(key) => Reply::Was(locked.erase(&NumKey(key))),
         Call::Len => Reply::Count(locked.len()),
+        Call::IsEmpty => Reply::Is(locked.is_empty()),
     }
 }
 
@@ -78,7 +95,7 @@ const MAY_GROW: Shape = Shape {
 /// same two buckets.
 const APART: u64 = 282_574_488_338_432;
 
-static SESSIONS: [Session; 3] = [
+static SESSIONS: [Session; 4] = [
     Session {
         what: "a bound key keeps its value",
         shape: MAY_GROW,
@@ -94,6 +111,24 @@ static SESSIONS: [Session; 3] = [
             (Call::Insert(1, 12), Reply::Fresh(true)),
         ],
         end: &[(NumKey(1), 12), (NumKey(2), 20)],
+        power: 2,
+    },
+    Session {
+        what: "only a bound key is updated",
+        shape: MAY_GROW,
+        calls: &[
+            (Call::Update(1, 10), Reply::Was(None)),
+            (Call::Halve(1), Reply::Is(false)),
+            (Call::Contains(1), Reply::Is(false)),
+            (Call::IsEmpty, Reply::Is(true)),
+            (Call::Insert(1, 10), Reply::Fresh(true)),
+            (Call::IsEmpty, Reply::Is(false)),
+            (Call::Contains(1), Reply::Is(true)),
+            (Call::Update(1, 22), Reply::Was(Some(10))),
+            (Call::Halve(1), Reply::Is(true)),
+            (Call::Find(1), Reply::Was(Some(11))),
+        ],
+        end: &[(NumKey(1), 11)],
         power: 2,
     },
     Session {
@@ -231,10 +266,14 @@ fn any_key(random: &mut Lcg64Xsh32) -> u64 {
 
 fn any_call(random: &mut Lcg64Xsh32) -> Call {
     let key = any_key(random);
-    match random.next_u32() % 8 {
-        0 | 1 => Call::Find(key),
-        2 => Call::Erase(key),
-        3 => Call::Len,
+    match random.next_u32() % 16 {
+        0 => Call::Find(key),
+        1 => Call::Contains(key),
+        2 => Call::Update(key, random.next_u64()),
+        3 => Call::Halve(key),
+        4 | 5 => Call::Erase(key),
+        6 => Call::Len,
+        7 => Call::IsEmpty,
         _ => Call::Insert(key, random.next_u64()),
     }
 }
@@ -244,24 +283,43 @@ fn answer_plain(plain: &mut PlainMap, name: &Name, call: Call) -> Result<Reply, 
     let bound = plain.get(name);
     match call {
         Call::Find(_) => Ok(Reply::Was(bound)),
+        Call::Contains(_) => Ok(Reply::Is(bound.is_some())),
         Call::Insert(_, value) => {
             if bound.is_none() {
                 plain.insert(name, value)?;
             }
             Ok(Reply::Fresh(bound.is_none()))
         }
+        Call::Update(_, value) => {
+            if bound.is_some() {
+                plain.insert(name, value)?;
+            }
+            Ok(Reply::Was(bound))
+        }
+        Call::Halve(_) => {
+            if let Some(value) = bound {
+                plain.insert(name, value / 2)?;
+            }
+            Ok(Reply::Is(bound.is_some()))
+        }
         Call::Erase(_) => {
             plain.remove(name);
             Ok(Reply::Was(bound))
         }
         Call::Len => Ok(Reply::Count(plain.len() as u64)),
+        Call::IsEmpty => Ok(Reply::Is(plain.len() == 0)),
     }
 }
 
 fn key_of(call: Call) -> u64 {
     match call {
-        Call::Find(key) | Call::Insert(key, _) | Call::Erase(key) => key,
-        Call::Len => 0,
+        Call::Find(key)
+        | Call::Contains(key)
+        | Call::Insert(key, _)
+        | Call::Update(key, _)
+        | Call::Halve(key)
+        | Call::Erase(key) => key,
+        Call::Len | Call::IsEmpty => 0,
     }
 }
 

@@ -1,15 +1,15 @@
 -- All stripes at once, and the end of a table.
-use Rattle.std.specs.Prelude.{◌≡◌, ℕ, ◌<◌, ◌^◌, true, List, [], ◌∷◌, ◌++◌, map, Some, All}
+use Rattle.std.specs.Prelude.{◌≡◌, ℕ, ◌<◌, ◌≤◌, ◌^◌, true, List, [], ◌∷◌, ◌++◌, map, Some, All}
 use Rattle.std.specs.List.{AllZip}
 use Rattle.std.specs.Option.{unwrap_or}
-use Rattle.std.specs.FinMap.{from_entries}
 use Rattle.atomic_table.specs.Seated.{TableId}
 use Rattle.ck_model.specs.declared.history.Entry.{Entry}
 use Rattle.ck_model.specs.declared.settings.Settings.{Settings}
-use Rattle.ck_model.specs.Map.{Name}
+use Rattle.ck_model.specs.Map.{Name, Map}
 use Rattle.ck_model.specs.Numbered.{IsIn, numbers}
 use Rattle.ck_model.specs.History.{After, StartsWith, IsInterleaving}
-use Rattle.ck_model.specs.Contents.{NamesApart}
+use Rattle.ck_model.specs.Contents.{layout_of, Stripes, Lawful, bindings, power_of}
+use Rattle.ck_model.specs.Sections.{HasAll}
 use Rattle.ck_section.specs.Stripes.{stripe_at}
 use Rattle.ck_core.specs.State.{owned}
 use Rattle.ck_core.specs.Steps.{newcomer}
@@ -86,10 +86,18 @@ module _ {V : Type 0} where
     pub saw : EachSaw q.view.seen os
     pub shows : ShowsSeen hash w.settings q
 
-  -- A history of the passes' entries, of each in its order. It begins with what each has seen, and leaves these pairs.
-  pub record Closes (ps : List (PassState V)) (pairs : List (Name × V)) : Type 0 where
+  -- What all stripes of a table with these settings may contain: a lawful whole, of a power that the table may have.
+  pub record AreContentsOf (hash : Name → ℕ) (set : Settings) (hs : Stripes V) : Type 0 where
+    pub lawful : Lawful (layout_of hash set) hs
+    pub all : HasAll (layout_of hash set) hs
+    pub power : set.power ≤ power_of hs
+
+  -- A history of the passes' entries, of each in its order. It begins with what each has seen, and leaves this map, which is that of all stripes of a table with these settings.
+  pub record Closes (hash : Name → ℕ) (set : Settings) (ps : List (PassState V)) (m : Map V) : Type 0 where
     pub log : List (Entry V)
+    pub contents : Stripes V
     pub interleaving : IsInterleaving log (parts_of ps)
     pub saw : EachSaw log ps
-    pub after : After log (from_entries pairs)
-    pub apart : NamesApart pairs
+    pub after : After log m
+    pub of_table : AreContentsOf hash set contents
+    pub binds : bindings contents ≡ m

@@ -1,7 +1,8 @@
 //! The end of a table.
 ghost use Rattle.std.specs.Prelude.{◌≡◌, ℕ, ◌+◌, ◌^◌, ◌≤◌, [], true, All, IfNone, IfSome, IfOk, IfErr, length, map, vec_capacity};
 ghost use Rattle.ck_model.specs.Map.{named};
-ghost use Rattle.ck_model.specs.Contents.{pairs_of};
+ghost use Rattle.std.specs.FinMap.{from_entries};
+ghost use Rattle.ck_model.specs.Contents.{NamesApart, pairs_of};
 ghost use Rattle.ck_section.specs.Stripes.{stripe_at, contents_of};
 ghost use Rattle.ck_model.specs.Counting.{counting};
 ghost use Rattle.ck_words.specs.Passes.{IsPassOf, IsIdle, ShowsSeen, numbers_of};
@@ -18,7 +19,8 @@ use std::alloc::Global;
 
 impl<K: TableKey + Drop, V: Drop> Words<K, V> {
     /// Ends the table, given the passes of all callers, and gives its pairs. There is one history
-    /// of all that the callers have done, and these pairs are what it leaves.
+    /// of all that the callers have done, and these pairs are what it leaves: what all stripes of a
+    /// table with these settings contain.
     ///
     /// It is refused where a stripe was found held, and for want of memory. Then it gives words and
     /// passes back, and no entry has changed.
@@ -27,8 +29,9 @@ impl<K: TableKey + Drop, V: Drop> Words<K, V> {
         passes: Vec<Pass<K, V>>,
     ) -> Result<Vec<(K, V)>, (Words<K, V>, Vec<Pass<K, V>>)>
         requires { AreAllPasses self passes.items }
-        ensures closed { IfOk result (λ pairs.
-            Closes passes.items (map (named K.name) pairs.items)) }
+        ensures closed { IfOk result (λ pairs. Closes K.hash self.settings passes.items
+            (from_entries (map (named K.name) pairs.items))) }
+        ensures apart { IfOk result (λ pairs. NamesApart (map (named K.name) pairs.items)) }
         ensures words { IfErr result (λ r. r.0 ≡ self) }
         ensures passes { IfErr result (λ r. AreAllPasses self r.1.items) }
         ensures stays { IfErr result (λ r. EachStays passes.items r.1.items) }

@@ -171,7 +171,12 @@ module _ {V F : Type 0} (D : Act V → Reply V → Type 0) (R : V → Bool → T
   erased (Err back) b e h = subst (λ x. (r : Reply V) × D (erases x) r) (sym e) (Was None, h.1.1)
 
   pub erasing : (A : Act V → Reply V → Type 0) (o : Result Bool F) (b : Bool) → b ≡ unwrap_or (result_ok o) false → ((r : Reply V) → D (erases b) r → A (erases b) r) → HasErased o
-      → MatchOption (result_ok o) (A Find (Was None)) (λ b2. (v : V) × R v b2 × MatchBool b2 (A Erase (Was (Some v))) (A Find (Was (Some v))))
-  erasing A (Ok true) b e f h = (h.0.0, h.0.1, subst (λ x. (r : Reply V) → D (erases x) r → A (erases x) r) e f (Was (Some h.0.0)) h.0.2)
-  erasing A (Ok false) b e f h = (h.0.0, h.0.1, subst (λ x. (r : Reply V) → D (erases x) r → A (erases x) r) e f (Was (Some h.0.0)) h.0.2)
-  erasing A (Err back) b e f h = subst (λ x. (r : Reply V) → D (erases x) r → A (erases x) r) e f (Was None) h.1.1
+      → IfOk o (λ b2. (v : V) × R v b2 × MatchBool b2 (A Erase (Was (Some v))) (A Find (Was (Some v)))) × IfErr o (λ back. X back × A Find (Was None))
+  erasing A (Ok true) b e f h = ((h.0.0, h.0.1, subst (λ x. (r : Reply V) → D (erases x) r → A (erases x) r) e f (Was (Some h.0.0)) h.0.2), tt)
+  erasing A (Ok false) b e f h = ((h.0.0, h.0.1, subst (λ x. (r : Reply V) → D (erases x) r → A (erases x) r) e f (Was (Some h.0.0)) h.0.2), tt)
+  erasing A (Err back) b e f h = (tt, (h.1.0, subst (λ x. (r : Reply V) → D (erases x) r → A (erases x) r) e f (Was None) h.1.1))
+
+-- what is said of an answer, and of none
+pub by_answer : {F : Type 0} (o : Result Bool F) (P : Bool → Type 0) (X : F → Type 0) (Q : Type 0) → IfOk o P × IfErr o (λ back. X back × Q) → MatchOption (result_ok o) Q P
+by_answer (Ok b) P X Q h = h.0
+by_answer (Err back) P X Q h = h.1.1

@@ -22,6 +22,7 @@ use Rattle.ck_stripe.specs.Stripe.{StripeState}
 use Rattle.ck_section.specs.Stripes.{stripe_at, contents_of, settled_stripes}
 use Rattle.ck_section.specs.declared.place.KeyPlace.{KeyPlace}
 use Rattle.ck_section.specs.declared.room.Lack.{Lack}
+use Rattle.ck_section.specs.Places.{IsPlaceOf}
 use Rattle.ck_section.specs.Room.{reason_of_lack, KeepsBindings, MakesRoom, GivesReason}
 use Rattle.ck_section.specs.Calls.{IsWithoutRoom, ChangesContents}
 use Rattle.ck_section.proofs.Decided.{IsCallOn}
@@ -173,18 +174,28 @@ module _ {V : Type 0} where
     same = ap bindings whole.unchanged;
   }
 
-  -- a call was made on the stripes of a locked table, and nothing else changed
-  module _ (hash : Name → ℕ) (w : WordsState) (p : PassState V) (l : IsLocked hash w p) (place : KeyPlace) (same : place.s ≡ w.settings.s) (name : Name) (act : Act V) (reply : Reply V) (q : PassState V) (kept : q ≡ record p { stripes = q.stripes }) where
+  -- a place among the stripes that s shows is one among those that are held
+  pub place_held : {hash : Name → ℕ} {w : WordsState} {p : PassState V} {s : LockedState V} → ◌≡◌ {A = LockedState V} (record { table = w; pass = p }) s → (name : Name) (place : KeyPlace) → IsPlaceOf hash s.pass.stripes name place → IsPlaceOf hash p.stripes name place
+  place_held {hash} is name place at = subst (λ (x : LockedState V). IsPlaceOf hash x.pass.stripes name place) (sym is) at
+
+  -- The table is locked, as s shows it. A call was made on its stripes, and nothing else changed.
+  module _ {hash : Name → ℕ} {w : WordsState} {p : PassState V} {s : LockedState V} (l : IsLocked hash w p) (is : ◌≡◌ {A = LockedState V} (record { table = w; pass = p }) s) (place : KeyPlace) (same : place.s ≡ s.table.settings.s)
+      (name : Name) (q : PassState V) (kept : q ≡ record p { stripes = q.stripes }) (act : Act V) (reply : Reply V) where
+    of_table : place.s ≡ w.settings.s
+    of_table = same ∙ sym (ap (λ (x : LockedState V). x.table.settings.s) is)
+
+    -- it is still locked
     pub acted_locked : ChangesContents p.stripes q.stripes → IsCallOn hash place.s p.stripes name act reply q.stripes → IsLocked hash w q
     acted_locked changes call =
         locked_again hash w p q l kept (table_after w.settings.s p.stripes q.stripes l.table changes) (settled_after w.settings.s p.stripes q.stripes l.settled changes)
-        (acted hash w p l place same name act reply q.stripes call).renewed
+        (acted hash w p l place of_table name act reply q.stripes call).renewed
 
-    pub has_acted : (s : LockedState V) → ◌≡◌ {A = LockedState V} (record { table = w; pass = p }) s → IsCallOn hash place.s p.stripes name act reply q.stripes → HasActed name act reply s (record { table = w; pass = q })
-    has_acted s is call = record {
+    -- the call is what was done to its map
+    pub has_acted : IsCallOn hash place.s p.stripes name act reply q.stripes → HasActed name act reply s (record { table = w; pass = q })
+    has_acted call = record {
       table = ap (λ (x : LockedState V). x.table) is;
       view = ap (λ (x : PassState V). x.view) kept ∙ ap (λ (x : LockedState V). x.pass.view) is;
-      step = subst (λ (x : LockedState V). Step (map_of x) (On name act) reply (bindings (contents_of q.stripes))) is (acted hash w p l place same name act reply q.stripes call).step;
+      step = subst (λ (x : LockedState V). Step (map_of x) (On name act) reply (bindings (contents_of q.stripes))) is (acted hash w p l place of_table name act reply q.stripes call).step;
     }
 
   -- room was made or not, and then all stripes were settled

@@ -1,11 +1,14 @@
 -- The number of keys that all stripes bind.
-use Rattle.std.proofs.Common.{◌≡◌, ℕ, ◌^◌, length, inl, refl, sym, ap, ◌∙◌, subst}
+use Rattle.std.proofs.Common.{◌≡◌, ℕ, ◌-◌, ◌*◌, ◌^◌, ◌≤◌, List, [], ◌∷◌, length, inl, inr, refl, sym, ap, ◌∙◌, subst, arith}
+use Rattle.std.proofs.lemmas.List.{length-map, length-append}
+use Rattle.std.proofs.Math.Pow.{pow_mono}
+use Rattle.ck_model.specs.declared.contents.Content.{Content}
 use Rattle.ck_model.specs.declared.history.Call.TheVariants.{Len}
 use Rattle.ck_model.specs.declared.history.Reply.TheVariants.{Count}
 use Rattle.ck_model.specs.declared.settings.Settings.{Settings}
 use Rattle.ck_model.specs.Map.{Name}
-use Rattle.ck_model.specs.Numbered.{IsIn}
-use Rattle.ck_model.specs.Contents.{Layout, layout_of, Stripes, Lawful, pairs_of}
+use Rattle.ck_model.specs.Numbered.{IsIn, Holds}
+use Rattle.ck_model.specs.Contents.{Layout, layout_of, Stripes, Lawful, pairs_in, pairs_of}
 use Rattle.ck_model.specs.Sections.{HasAll, Renewed, Section}
 use Rattle.ck_model.proofs.Counted.{len-bindings}
 use Rattle.ck_section.specs.Stripes.{contents_of}
@@ -14,7 +17,10 @@ use Rattle.ck_words.specs.Words.{WordsState}
 use Rattle.ck_words.specs.Passes.{PassState, numbers_of}
 use Rattle.ck_words.specs.Answering.{HasDone}
 use Rattle.ck_words.specs.Closing.{IsWhole}
-use Rattle.ck_model.proofs.Counting.{in_counting}
+use Rattle.ck_model.proofs.Counting.{in_counting, length-counting}
+use Rattle.ck_stripe.proofs.Doubled.{all_buckets}
+use Rattle.ck_stripe.proofs.Writes.{few_pairs}
+use Rattle.ck_words.proofs.WholeTables.{lawful_held}
 use Rattle.ck_words.proofs.Seating.{numbers-contents}
 
 module _ {V : Type 0} where
@@ -46,3 +52,40 @@ module _ {V : Type 0} where
   pub counted : {hash : Name → ℕ} {w v : WordsState} {p q : PassState V} {n : ℕ} → v ≡ w → q ≡ p → IsWhole hash w.settings p → n ≡ length (pairs_of (contents_of p.stripes)) → HasDone hash v.settings Len (Count n) q
   counted {hash} {w} {v} {p} {q} {n} is same whole count =
       subst (λ (x : WordsState × PassState V). HasDone hash x.0.settings Len (Count n) x.1) (λ j. (sym is j, sym same j)) (counts_all hash w.settings p n whole count)
+
+  -- no more pairs than slots, where no stripe has more
+  few_of_each : (n : ℕ) (hs : Stripes V) → ((t : ℕ) (c : Content V) → Holds hs t c → length (pairs_in c) ≤ n) → length (pairs_of hs) ≤ length hs * n
+  few_of_each n [] each = omega arith
+  few_of_each n (h ∷ hs) each =
+      let here = each h.0 h.1 (inl (refl, refl)) in
+      let rest = few_of_each n hs (λ t c x. each t c (inr x)) in
+      let both = length-append (pairs_in h.1) (pairs_of hs) in
+      omega arith
+
+  slots_below : (k : Layout) (hs : Stripes V) → Lawful k hs → (t : ℕ) (c : Content V) → Holds hs t c → length (pairs_in c) ≤ 4 * 2 ^ (k.max - k.s)
+  slots_below k hs lawful t c held =
+      let sound = lawful.sound t c held in
+      let few = few_pairs c.rows sound.shaped.four in
+      let rows = sound.shaped.rows in
+      let most = sound.most in
+      let less : c.power - k.s ≤ k.max - k.s = omega arith in
+      let end : 2 ^ (c.power - k.s) ≤ 2 ^ (k.max - k.s) = pow_mono less in
+      omega arith
+
+  -- all stripes bind no more names than they have slots at the greatest power
+  most_pairs : (k : Layout) (hs : Stripes V) → Lawful k hs → length hs ≡ 2 ^ k.s → length (pairs_of hs) ≤ 4 * 2 ^ k.max
+  most_pairs k [] lawful all = omega arith
+  most_pairs k (h ∷ hs) lawful all =
+      let first = lawful.sound h.0 h.1 (inl (refl, refl)) in
+      let least = first.shaped.least in
+      let most = first.most in
+      let few = few_of_each (4 * 2 ^ (k.max - k.s)) (h ∷ hs) (slots_below k (h ∷ hs) lawful) in
+      let slots = all_buckets k.s k.max (2 ^ (k.max - k.s)) (omega arith) refl in
+      let each : length (h ∷ hs) * (4 * 2 ^ (k.max - k.s)) ≡ 2 ^ k.s * (4 * 2 ^ (k.max - k.s)) = ap (λ n. n * (4 * 2 ^ (k.max - k.s))) all in
+      omega arith
+
+  pub few_names : (hash : Name → ℕ) (set : Settings) (p : PassState V) (n : ℕ) → IsWhole hash set p → n ≡ length (pairs_of (contents_of p.stripes)) → n ≤ 4 * 2 ^ set.max
+  few_names hash set p n whole count =
+      let all : length (contents_of p.stripes) ≡ 2 ^ set.s = sym (length-map (contents_of p.stripes) (λ h. h.0)) ∙ (ap (λ (ns : List ℕ). length ns) (numbers-contents p.stripes ∙ whole.all) ∙ length-counting (2 ^ set.s) 0) in
+      let most = most_pairs (layout_of hash set) (contents_of p.stripes) (lawful_held hash set p whole) all in
+      omega arith

@@ -1,15 +1,15 @@
 //! A caller: the table, and a pass of its own.
-ghost use Rattle.std.specs.Prelude.{◌≡◌, ◌≢◌, ◌≤◌, All, map, OnOk, IfOk, IfErr};
+ghost use Rattle.std.specs.Prelude.{◌≡◌, ◌≢◌, ◌*◌, ◌^◌, ◌≤◌, All, map, OnOk, IfOk, IfErr};
 ghost use Rattle.std.specs.Fn.{FnOnceReturnsAt};
 ghost use Rattle.ck_words.specs.Closing.{IsCaller};
 ghost use Rattle.ck_words.specs.Meeting.{Meets};
 
 use crate::locked::LockedTable;
-use crate::refusal::{Busy, GrowFault, Refused};
+use crate::refusal::{Busy, GrowFault, NoCallers, Refused};
 use crate::table::Table;
 use ck_key::TableKey;
 use ck_words::Pass;
-use std::alloc::{AllocError, Global};
+use std::alloc::Global;
 use std::marker::Model;
 
 /// A caller of a table: the table together with a pass of it, by which it makes its calls.
@@ -46,18 +46,22 @@ impl<K: TableKey + Drop, V: Drop> Table<K, V> {
     }
 
     /// A caller for each pass, in their order. Where there is no memory for the list, the passes
-    /// are dropped.
+    /// come back.
     pub fn callers<'t>(
         &'t self,
         alloc: Global,
         passes: Vec<Pass<K, V>>,
-    ) -> Result<Vec<Caller<'t, K, V>>, AllocError>
+    ) -> Result<Vec<Caller<'t, K, V>>, NoCallers<K, V>>
         requires { All (IsCaller self.now) passes.items }
-        ensures { IfOk result (λ callers. callers.items ≡ callers_of self.now passes.items) }
+        ensures callers { IfOk result (λ callers.
+            callers.items ≡ callers_of self.now passes.items) }
+        ensures back { IfErr result (λ back. back.passes ≡ passes) }
     {
-        let mut callers = Vec::with_capacity(alloc, passes.len())?;
+        let Ok(mut callers) = Vec::with_capacity(alloc, passes.len()) else {
+            return Err(NoCallers { passes });
+        };
         for pass in passes {
-            callers.push(self.caller(pass))?;
+            callers.push_reserved(self.caller(pass));
         }
         Ok(callers)
     }
@@ -328,6 +332,7 @@ impl<'t, K: TableKey + Drop, V: Drop> Caller<'t, K, V> {
     pub fn len(&mut self) -> Result<u64, Busy>
         ensures same { IsSameCaller self.old self.new }
         ensures answered { IfOk result (Counts self.old self.new) }
+        ensures most { IfOk result (λ count. count ≤ 4 * 2 ^ self.old.table.settings.max) }
         ensures busy { IfErr result (IsBusyOnAny self.old self.new) }
         ensures found { FindsHeldOfAny self.old self.new }
     {

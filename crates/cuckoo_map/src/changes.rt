@@ -131,16 +131,46 @@ impl<K: TableKey + Drop, V: Drop> Table<K, V> {
             IsBusyAt K.hash self.now.settings (K.name key.now) busy.0 pass.old pass.new) }
         ensures found { FindsOwn K.hash self.now.settings (K.name key.now) pass.old pass.new }
     {
+        let gone = self.erase_bound(pass, key, f)?;
+        Ok(gone.ok())
+    }
+
+    // What `erase_fn` does. Where the key is unbound, the closure comes back.
+    #[inline(always)]
+    fn erase_bound<F: FnOnce(&V) -> bool>(
+        &self,
+        pass: &mut Pass<K, V>,
+        key: &K,
+        f: F,
+    ) -> Result<Result<bool, F>, Busy>
+    where
+        requires caller { IsCaller self.now pass.old }
+        requires call { F.IsAlwaysCallable f }
+        ensures caller { IsCaller self.now pass.new }
+        ensures answered { IfOk result (λ answer.
+            IfOk answer (λ gone. (v : V) × FnOnceReturnsAt F.FnOnce f v gone × MatchBool gone
+            (IsAnswered (On (K.name key.now) Erase) (Was (Some v)) pass.old pass.new)
+            (IsAnswered (On (K.name key.now) Find) (Was (Some v)) pass.old pass.new))
+            × IfErr answer (λ back. (back ≡ f)
+            × IsAnswered (On (K.name key.now) Find) (Was None) pass.old pass.new)) }
+        ensures busy { IfErr result (λ busy.
+            IsBusyAt K.hash self.now.settings (K.name key.now) busy.0 pass.old pass.new) }
+        ensures found { FindsOwn K.hash self.now.settings (K.name key.now) pass.old pass.new }
+    {
         let spot = self.hold_key(pass, key)?;
         let mut lent = Lent {
             words: &self.words,
             pass,
             set: spot.stripes,
         };
-        let gone = erase_fn(&mut lent, spot.place, key, f).ok();
+        let gone = erase_fn(&mut lent, spot.place, key, f);
         let Lent { pass, .. } = lent;
         let said = Snapshot::of(key);
-        if gone.unwrap_or(false) {
+        let unbound = match gone {
+            Ok(unbound) => unbound,
+            Err(_) => false,
+        };
+        if unbound {
             self.words.commit(pass, spot.stripes, Commit::Erase(said));
         } else {
             self.words.commit(pass, spot.stripes, Commit::Find(said));

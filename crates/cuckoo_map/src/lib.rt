@@ -49,5 +49,5 @@ pub use ck_key::{KeyFault, NumKey, TableKey, TextKey};
 pub use ck_model::settings::Settings;
 pub use ck_words::Pass;
 pub use locked::LockedTable;
-pub use refusal::{Busy, GrowFault, OpenFault, Refused, Why};
+pub use refusal::{Busy, GrowFault, NoCallers, OpenFault, Refused, Why};
 pub use table::Table;

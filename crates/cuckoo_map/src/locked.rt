@@ -1,10 +1,10 @@
 //! The whole table under one caller.
-ghost use Rattle.std.specs.Prelude.{◌≡◌, if◌then◌else◌, OnOk, OnErr, IfOk, IfErr, IfSome, IfNone};
+ghost use Rattle.std.specs.Prelude.{◌≡◌, if◌then◌else◌, OnOk, OnErr, IfOk, IfErr, IfSome, IfNone, MatchBool, nat_eq, is_some};
 ghost use Rattle.std.specs.Option.{option_copied};
 ghost use Rattle.std.specs.FinMap.{get, len, entries};
-ghost use Rattle.ck_model.specs.declared.history.Act.TheVariants.{Insert, Erase};
+ghost use Rattle.ck_model.specs.declared.history.Act.TheVariants.{Insert, Update, Change, Erase};
 ghost use Rattle.ck_model.specs.declared.history.Call.TheVariants.{Session};
-ghost use Rattle.ck_model.specs.declared.history.Reply.TheVariants.{New, Old, Was, Closed};
+ghost use Rattle.ck_model.specs.declared.history.Reply.TheVariants.{New, Old, Was, Done, Absent, Closed};
 ghost use Rattle.ck_model.specs.Map.{ListsInOrder};
 ghost use Rattle.ck_model.specs.Contents.{layout_of};
 ghost use Rattle.ck_bucket.specs.Bucket.{ClonesAreEqual};
@@ -27,7 +27,7 @@ use ck_key::{KeyHash, TableKey};
 use ck_model::settings::Settings;
 use ck_section::{
     KeyPlace, Lack, entries, erase, export, find_entry, find_in_all, insert, make_room,
-    place_in_all, settle_all,
+    place_in_all, settle_all, update, update_fn,
 };
 use ck_stripe::Stripe;
 use ck_words::{Pass, Whole};
@@ -92,6 +92,13 @@ impl<'t, K: TableKey + Drop, V: Drop> LockedTable<'t, K, V> {
         find_in_all(stripes_of(&self.whole), self.place(key), key)
     }
 
+    /// Whether the key is bound.
+    pub fn contains(&self, key: &K) -> bool
+        ensures { result ≡ is_some (get (map_of self.now) (K.name key.now)) }
+    {
+        self.find(key).is_some()
+    }
+
     /// Binds the key to the value where it is unbound, and says whether it was. A bound key keeps
     /// its value, and the one that was passed is dropped.
     ///
@@ -145,6 +152,38 @@ impl<'t, K: TableKey + Drop, V: Drop> LockedTable<'t, K, V> {
         make_room_in(&mut self.whole, table.words.settings(), key)
     }
 
+    /// Binds a bound key to another value, and gives the one that it had; `None` where the key is
+    /// unbound, and then it stays so and the value is dropped.
+    ///
+    /// ```
+    /// let old: Option<u64> = locked.update(&NumKey(5), 52);
+    /// ```
+    pub fn update(&mut self, key: &K, value: V) -> Option<V>
+        ensures { HasActed (K.name key.now) (Update value) (Was result) self.old self.new }
+    {
+        let place = self.place(key);
+        update(&mut self.whole, place, key, value)
+    }
+
+    /// Binds a bound key to what the closure makes of its value, and says whether the key is bound.
+    /// Where it is not, the closure is not called.
+    ///
+    /// ```
+    /// let bound: bool = locked.update_fn(&NumKey(5), |value| value / 2);
+    /// ```
+    pub fn update_fn<F: FnOnce(V) -> V>(&mut self, key: &K, f: F) -> bool
+    where
+        F: Drop,
+        requires call { F.IsAlwaysCallable f }
+        ensures { MatchBool result
+            ((v w : V) × F.post f v w
+            × HasActed (K.name key.now) Change (Done v w) self.old self.new)
+            (HasActed (K.name key.now) Change Absent self.old self.new) }
+    {
+        let place = self.place(key);
+        update_fn(&mut self.whole, place, key, f)
+    }
+
     /// Unbinds the key, and gives the value that it had; `None` where it is unbound.
     pub fn erase(&mut self, key: &K) -> Option<V>
         ensures { HasActed (K.name key.now) Erase (Was result) self.old self.new }
@@ -167,6 +206,13 @@ impl<'t, K: TableKey + Drop, V: Drop> LockedTable<'t, K, V> {
         ensures { result ≡ len (map_of self.now) }
     {
         entries(stripes_of(&self.whole)) as u64
+    }
+
+    /// Whether no key is bound.
+    pub fn is_empty(&self) -> bool
+        ensures { result ≡ nat_eq (len (map_of self.now)) 0 }
+    {
+        self.len() == 0
     }
 
     /// Unlocks the table, by which all that was done to it becomes one entry of the history. No

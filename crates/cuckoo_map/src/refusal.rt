@@ -2,7 +2,10 @@
 ghost use Rattle.std.specs.Prelude.{◌≡◌};
 ghost use Rattle.cuckoo_map.specs.Refusals.{why_of};
 
+use ck_key::TableKey;
 use ck_section::Lack;
+use ck_words::Pass;
+use std::fmt::{self, Debug, Formatter};
 use thiserror::Error;
 
 /// Why no table was opened.
@@ -81,4 +84,18 @@ pub struct Refused<K, V> {
     pub value: V,
     /// Why it was not.
     pub why: Why,
+}
+
+/// There is no memory for a list of callers; their passes come back.
+#[derive(Drop, Error)]
+#[error("no memory for the callers")]
+pub struct NoCallers<K: TableKey, V> {
+    /// The passes of which callers were to be made.
+    pub passes: Vec<Pass<K, V>>,
+}
+
+impl<K: TableKey, V> Debug for NoCallers<K, V> {
+    fn fmt<W: fmt::Write>(&self, f: &mut Formatter<W>) -> fmt::Result {
+        f.debug_struct("NoCallers").finish_non_exhaustive()
+    }
 }

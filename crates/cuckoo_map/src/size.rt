@@ -1,5 +1,5 @@
 //! How many keys are bound, how many buckets the table has, and what holds all stripes.
-ghost use Rattle.std.specs.Prelude.{◌≡◌, ◌≤◌, OnOk, OnErr, IfOk, IfErr};
+ghost use Rattle.std.specs.Prelude.{◌≡◌, ◌*◌, ◌^◌, ◌≤◌, OnOk, OnErr, IfOk, IfErr};
 ghost use Rattle.ck_model.specs.declared.history.Call.TheVariants.{Len};
 ghost use Rattle.ck_model.specs.declared.history.Reply.TheVariants.{Count};
 ghost use Rattle.ck_section.specs.Whole.{IsTable, AreSettled};
@@ -16,13 +16,15 @@ use ck_section::len;
 use ck_words::{Commit, Lent, Pass};
 
 impl<K: TableKey + Drop, V: Drop> Table<K, V> {
-    /// How many keys are bound. It counts while it holds all stripes.
+    /// How many keys are bound: never more than the table has slots at its greatest power. It counts
+    /// while it holds all stripes.
     ///
     /// Refused as busy, it changes nothing.
     pub fn len(&self, pass: &mut Pass<K, V>) -> Result<u64, Busy>
         requires caller { IsCaller self.now pass.old }
         ensures caller { IsCaller self.now pass.new }
         ensures answered { IfOk result (λ count. IsAnswered Len (Count count) pass.old pass.new) }
+        ensures most { IfOk result (λ count. count ≤ 4 * 2 ^ self.now.settings.max) }
         ensures busy { IfErr result (λ busy. IsBusyAmong (IsStripeIn self.now.settings)
             self.now.settings busy.0 pass.old pass.new) }
         ensures found { FindsAmong (IsStripeIn self.now.settings) pass.old pass.new }

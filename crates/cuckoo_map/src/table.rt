@@ -1,12 +1,10 @@
 //! The table, and how it begins and ends.
-ghost use Rattle.std.specs.Prelude.{◌≡◌, ◌↔◌, IfOk, IfErr, Err, List};
-ghost use Rattle.ck_model.specs.declared.history.Entry.{Entry};
+ghost use Rattle.std.specs.Prelude.{◌≡◌, ◌↔◌, IfOk, IfErr, Err};
 ghost use Rattle.ck_model.specs.Map.{Map, ListsInOrder};
-ghost use Rattle.ck_model.specs.History.{After, IsInterleaving};
 ghost use Rattle.ck_model.specs.Ranges.{AreInRange};
 ghost use Rattle.ck_words.specs.Meeting.{Meets};
 ghost use Rattle.ck_model.specs.Counting.{counting};
-ghost use Rattle.ck_words.specs.Closing.{IsCaller, AreAllPasses, EachSaw, EachStays, dealt, parts_of};
+ghost use Rattle.ck_words.specs.Closing.{IsCaller, AreAllPasses, EachStays, Closes, dealt};
 
 use crate::refusal::OpenFault;
 use ck_key::TableKey;
@@ -57,15 +55,15 @@ impl<K: TableKey + Drop, V: Drop> Table<K, V> {
     }
 
     /// Ends the table: all keys with their values, in rising order of the keys. They are the map
-    /// after one legal history, which has the entries of all passes, of each in its order.
+    /// after one legal history, which has the entries of all passes, of each in its order, and that
+    /// of what a table with these settings contains.
     ///
     /// Where a stripe is found held in as many tries as the settings allow, or there is no memory
     /// for the list, the table and the passes come back, with the same entries.
     pub fn close(self, passes: Vec<Pass<K, V>>) -> Result<Vec<(K, V)>, (Self, Vec<Pass<K, V>>)>
         requires { AreAllPasses self passes.items }
-        ensures pairs { IfOk result (λ pairs. (log : List (Entry V)) × (m : Map V)
-            × IsInterleaving log (parts_of passes.items) × EachSaw log passes.items
-            × After log m × ListsInOrder K.name K.cmp pairs.items m) }
+        ensures pairs { IfOk result (λ pairs. (m : Map V)
+            × Closes K.hash self.settings passes.items m × ListsInOrder K.name K.cmp pairs.items m) }
         ensures back { IfErr result (λ back. (back.0 ≡ self)
             × AreAllPasses back.0 back.1.items × EachStays passes.items back.1.items) }
     {

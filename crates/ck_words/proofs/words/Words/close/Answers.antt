@@ -1,11 +1,12 @@
 use Rattle.std.proofs.Common.{sym, ap, ◌∙◌, subst, List, map, arith, All, Some, refl, length, ◌++◌, ◌∷◌, [], true, ◌≡◌, ◌+◌, ◌≤◌, vec_capacity}
 use Rattle.std.proofs.lemmas.List.Elements.{All-pop}
+use Rattle.std.specs.FinMap.{from_entries}
 use Rattle.ck_model.specs.Map.{named}
 use Rattle.ck_model.specs.Ranges.{AreInRange}
 use Rattle.ck_words.specs.Words.{WordsState}
 use Rattle.ck_words.specs.Passes.{PassState, numbers_of}
 use Rattle.ck_words.specs.Closing.{IsCaller, AreAllPasses, EachStays, Closes}
-use Rattle.ck_words.proofs.Ending.{some_pass, all_back, each_stays, closes}
+use Rattle.ck_words.proofs.Ending.{some_pass, all_back, each_stays, pairs_distinct, closes}
 use Rattle.ck_section.specs.Stripes.{stripe_at, contents_of}
 use Rattle.ck_model.specs.Contents.{pairs_of}
 use Rattle.ck_stripe.specs.Stripe.{StripeState}
@@ -36,9 +37,15 @@ gather_all-requires-clause-callers g c = (All-pop (IsCaller c.args.self) c.args.
 pub returns-clause-closed : goal.returns-clause-closed
 returns-clause-closed g c =
     let all = subst (AreAllPasses c.args.self) c.in-Some.ensures.items c.requires in
-    subst (λ ps. Closes ps (map (named g.K.TableKey.name) c.pour.result.items)) (sym c.in-Some.ensures.items)
+    subst (λ ps. Closes g.K.TableKey.hash c.args.self.settings ps (from_entries (map (named g.K.TableKey.name) c.pour.result.items))) (sym c.in-Some.ensures.items)
     (closes c.args.self c.pop.new.self.items c.in-Some.pass c.hold_with_room.new.pass all c.hold_with_room.ensures.stays g.K.TableKey.hash c.gather_all.new.first c.in-Some-hold_with_room.ensures.whole c.gather_all.ensures
     (map (named g.K.TableKey.name) c.pour.result.items) c.pour.ensures)
+
+pub returns-clause-apart : goal.returns-clause-apart
+returns-clause-apart g c =
+    let all = subst (AreAllPasses c.args.self) c.in-Some.ensures.items c.requires in
+    pairs_distinct c.args.self c.pop.new.self.items c.in-Some.pass c.hold_with_room.new.pass all c.hold_with_room.ensures.stays g.K.TableKey.hash c.gather_all.new.first c.in-Some-hold_with_room.ensures.whole c.gather_all.ensures
+    (map (named g.K.TableKey.name) c.pour.result.items) c.pour.ensures
 
 pub hold_with_room-requires-clause-own : goal.hold_with_room-requires-clause-own
 hold_with_room-requires-clause-own g c =

@@ -14,15 +14,12 @@ unreachable-requires g c =
 
 pub invariant_of-self : goal.invariant_of-self
 invariant_of-self g c =
-    let same = c.place-place.ensures.s ∙ sym (ap (λ (l : LockedState g.row.V.Denot). l.table.settings.s) c.self.view_is) in
-    acted_locked g.K.TableKey.hash c.self.inside.table.now c.self.inside.whole c.self.invariant c.place-place.result same (g.K.TableKey.name c.args.key) (Insert c.args.value) (if c.in-Ok.fresh then New else Old) c.insert_in.new.whole
-    c.insert_in.ensures.same c.insert_in.ensures.rest c.in-Ok.ensures.call
+    acted_locked c.self.invariant c.self.view_is c.place-place.result c.place-place.ensures.s (g.K.TableKey.name c.args.key) c.insert_in.new.whole c.insert_in.ensures.same
+    (Insert c.args.value) (if c.in-Ok.fresh then New else Old) c.insert_in.ensures.rest c.in-Ok.ensures.call
 
 pub returns-clause-answered : goal.returns-clause-answered
 returns-clause-answered g c =
-    let same = c.place-place.ensures.s ∙ sym (ap (λ (l : LockedState g.row.V.Denot). l.table.settings.s) c.self.view_is) in
     let q = g.K.TableKey.name c.args.key in
     let reply = if c.in-Ok.fresh then New else Old in
     acted_since q (Insert c.args.value) reply c.args.self.now c.make_room.new.self _ c.make_room.ensures.kept
-    (has_acted g.K.TableKey.hash c.self.inside.table.now c.self.inside.whole c.self.invariant c.place-place.result same q (Insert c.args.value) reply c.insert_in.new.whole
-    c.insert_in.ensures.same c.make_room.new.self c.self.view_is c.in-Ok.ensures.call)
+    (has_acted c.self.invariant c.self.view_is c.place-place.result c.place-place.ensures.s q c.insert_in.new.whole c.insert_in.ensures.same (Insert c.args.value) reply c.in-Ok.ensures.call)

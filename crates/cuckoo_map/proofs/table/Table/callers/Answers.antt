@@ -11,7 +11,7 @@ caller-requires g c =
     let turn = YieldsList-turn (YieldsList-from_vec {s = c.into_iter-pass-iterator.result} c.args.passes.items (search rules) (search rules)) c.loop-pass.yielded c.loop-pass.pass-iterator c.loop-pass.yielded_by c.next.result c.next.new.self c.in-Some.pass c.in-Some.is c.next.ensures.steps in
     subst (IsCaller c.args.self.now) (sym turn.1) (c.requires (length c.loop-pass.yielded) c.in-Some.pass turn.0)
 
-pub returns : goal.returns
-returns g c =
+pub returns-clause-callers : goal.returns-clause-callers
+returns-clause-callers g c =
     let all = YieldsList-end (YieldsList-from_vec {s = c.into_iter-pass-iterator.result} c.args.passes.items (search rules) (search rules)) c.loop-pass.yielded c.loop-pass.pass-iterator c.loop-pass.yielded_by c.next.result c.next.new.self c.in-None.is c.next.ensures.steps in
-    c.loop-pass.invariant ∙ ap (callers_of c.args.self.now) (sym (map-id c.loop-pass.yielded) ∙ all.0)
+    c.loop-pass.invariant.made ∙ ap (callers_of c.args.self.now) (sym (map-id c.loop-pass.yielded) ∙ all.0)

@@ -2,7 +2,7 @@ use Rattle.std.proofs.Common.{rules, ◌≡◌, []}
 use Rattle.ck_model.specs.declared.history.Call.TheVariants.{Len}
 use Rattle.ck_model.specs.declared.history.Reply.TheVariants.{Count}
 use Rattle.cuckoo_map.proofs.Calls.{answered_since}
-use Rattle.cuckoo_map.proofs.Sizes.{as_before, counted}
+use Rattle.cuckoo_map.proofs.Sizes.{as_before, counted, few_names}
 use Rattle.cuckoo_map.proofs.table.Table.len.Goals as goal
 
 pub commit-requires-clause-done : goal.commit-requires-clause-done
@@ -17,3 +17,6 @@ returns-clause-answered g c =
     let there : c.commit.new.pass ≡ c.pass-1.given.0 = search rules in
     rw (← there) (answered_since [] c.args.pass.now c.hold_table.new.pass n.new.held.pass.now c.commit.new.pass c.hold_table.ensures.stays n.ensures.stays.1 Len (Count n.result)
     (c.commit.ensures.answered (Count n.result) (counted c.self.view_is same c.in_ok-hold_table.ensures.whole n.ensures.value)))
+
+pub returns-clause-most : goal.returns-clause-most
+returns-clause-most g c = few_names g.K.TableKey.hash c.args.self.now.settings c.hold_table.new.pass c.len-count.result c.in_ok-hold_table.ensures.whole c.len-count.ensures.value
