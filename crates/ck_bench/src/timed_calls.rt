@@ -91,7 +91,7 @@ fn run_with<R: Threads + Clock + Print + Sync>(rt: &R, workers: &mut [Worker]) -
 pub fn run<R: Threads + Clock + Print + Sync>(rt: &R, alloc: Global) -> io::Result<()> {
     let keys = random_keys(alloc, 2026, KEYS)?;
     let (table, passes) = open(alloc, settings(10, POWER, MOST as u32))?;
-    let mut workers = share(alloc, table.callers(alloc, passes)?, &keys)?;
+    let mut workers = share(alloc, &table, passes, &keys)?;
     for worker in &mut workers {
         worker.insert_all();
     }

@@ -27,7 +27,7 @@ fn measure<R: Threads + Clock + Sync>(
     least: &mut Least,
 ) -> io::Result<u64> {
     let (table, passes) = open(alloc, settings(2, 2, threads))?;
-    let mut workers = share(alloc, table.callers(alloc, passes)?, keys)?;
+    let mut workers = share(alloc, &table, passes, keys)?;
     let start = Instant::now(rt)?;
     let working = |_: usize, worker: &mut Worker<'_, '_>| worker.insert_all();
     thread::for_each_mut(
@@ -114,7 +114,7 @@ fn print_pauses(rt: &(impl Clock + Print), worker: &mut Worker) -> io::Result<()
 /// Measures and prints the pauses of a table of 2^s stripes.
 fn run_pauses(rt: &(impl Clock + Print), alloc: Global, s: u32, keys: &[u64]) -> io::Result<()> {
     let (table, passes) = open(alloc, settings(s, POWER, 1))?;
-    let mut workers = share(alloc, table.callers(alloc, passes)?, keys)?;
+    let mut workers = share(alloc, &table, passes, keys)?;
     println!(rt; "stripes: 2^{s}")?;
     for worker in &mut workers {
         print_pauses(rt, worker)?;

@@ -61,7 +61,7 @@ fn run_with(rt: &(impl Clock + Print), alloc: Global, mut caller: Caller) -> io:
 pub fn run(rt: &(impl Clock + Print), alloc: Global) -> io::Result<()> {
     let keys = random_keys(alloc, 2031, KEYS)?;
     let (table, passes) = open(alloc, settings(10, 10, 1))?;
-    for mut worker in share(alloc, table.callers(alloc, passes)?, &keys)? {
+    for mut worker in share(alloc, &table, passes, &keys)? {
         worker.insert_all();
         run_with(rt, alloc, worker.caller)?;
     }

@@ -1,6 +1,6 @@
 //! The tables that are measured, and random keys for them.
-ghost use Rattle.std.specs.Prelude.{IfOk};
-ghost use Rattle.ck_words.specs.Closing.{AreAllPasses};
+ghost use Rattle.std.specs.Prelude.{All, IfOk};
+ghost use Rattle.ck_words.specs.Closing.{IsCaller, AreAllPasses};
 
 use ck_key::NumKey;
 use cuckoo_map::{Busy, OpenFault, Settings, Table};
@@ -76,12 +76,18 @@ impl<'t, 'k> Worker<'t, 'k> {
     }
 }
 
-/// A worker for each caller. Each has as many keys, of its own.
+/// A worker for each pass of the table. Each has as many keys, of its own.
 pub fn share<'t, 'k>(
     alloc: Global,
-    callers: Vec<Caller<'t>>,
+    table: &'t NumTable,
+    passes: Vec<Pass>,
     keys: &'k [u64],
-) -> Result<Vec<Worker<'t, 'k>>, AllocError> {
+) -> Result<Vec<Worker<'t, 'k>>, AllocError>
+    requires { All (IsCaller table.now) passes.items }
+{
+    let Ok(callers) = table.callers(alloc, passes) else {
+        return Err(AllocError);
+    };
     let size = keys.len().div_ceil(callers.len().max(1)).max(1);
     let mut workers = Vec::with_capacity(alloc, callers.len())?;
     for (caller, keys) in callers.into_iter().zip(keys.chunks(size)) {
