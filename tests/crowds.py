@@ -128,7 +128,7 @@ def grow(workers, lines):
 
 def wide(workers, lines):
     """The same in a table of as many stripes as there may be, which has to grow."""
-    return script(["s 10"], [
+    return script(["s 10", "power 10"], [
         own_keys(worker, lines, (worker + 1) % workers) for worker in range(workers)])
 
 
