@@ -25,7 +25,7 @@ use Rattle.ck_format.specs.Script.{on_names}
 use Rattle.ck_format.specs.Text.{Pairs}
 use Rattle.ck_format.specs.Answers.{answer_on_names, answers_on_names}
 use Rattle.ck_script.specs.Output.{NeedsRoom, IsRefusal, WasStuck, HasGroundsFor, HasGrounds, HaveGrounds}
-use Rattle.ck_script.specs.Answered.{printed, HasOthers, StaysOrGrows, HaveLeft, IsAnsweredBy}
+use Rattle.ck_script.specs.Answered.{printed, PrintsWhy, CommandPrintsWhy, HasOthers, StaysOrGrows, HaveLeft, IsAnsweredBy}
 use Rattle.ck_script.proofs.Grounds.{later_grounds}
 
 -- what the last command left
@@ -103,6 +103,13 @@ has_others hash set q Memory p p2 r = tt
 has_others hash set q Full p p2 r = tt
 has_others hash set q LoadTooLow p p2 r = tt
 
+-- a refusal that is printed is what the pass said
+prints_why : (hash : Name → ℕ) (set : Settings) (q : Name) (why : Why) (p p2 : PassState ℕ) → IsRefused hash set q why p p2 → PrintsWhy q (printed why) p p2
+prints_why hash set q (Busy t) p p2 r = tt
+prints_why hash set q Memory p p2 r = (r.more, r.stays.noroom, r.shown.0)
+prints_why hash set q Full p p2 r = (r.more, r.stays.noroom, r.shown.0)
+prints_why hash set q LoadTooLow p p2 r = (r.more, r.stays.noroom, r.shown.0)
+
 -- what gives grounds is what all stripes contained at the end of what the pass has seen
 was_stuck : (hash : Name → ℕ) (set : Settings) (q : Name) (why : Reason) (p : PassState ℕ) → GivesGrounds hash set q why p → WasStuck hash set p.view.seen q why
 was_stuck hash set q why p gives = record {
@@ -132,13 +139,15 @@ refuses n c LoadTooLow needs others = needs
 
 -- a refused insertion
 pub uninserted : (hash : Name → ℕ) (c : Command Name) (k : Name) (a : Answer Pairs) (why : Why) (p q : CallerState ℕ) → NeedsRoom c
-    → ((b : Answer Pairs) → HasGroundsFor hash p.table.settings q.pass.view.seen k b → HasGrounds hash p.table.settings q.pass.view.seen c b) → IsSameCaller p q
+    → ((b : Answer Pairs) → PrintsWhy k b p.pass q.pass → HasGroundsFor hash p.table.settings q.pass.view.seen k b → CommandPrintsWhy c b p.pass q.pass × HasGrounds hash p.table.settings q.pass.view.seen c b) → IsSameCaller p q
     → a ≡ printed why → IsRefused hash p.table.settings k why p.pass q.pass → IsAnsweredBy hash c a p q
 uninserted hash c k a why p q needs of same is r =
+    let shows = of (printed why) (prints_why hash p.table.settings k why p.pass q.pass r) (has_grounds hash p.table.settings k why p.pass q.pass r) in
     subst (λ (b : Answer Pairs). IsAnsweredBy hash c b p q) (sym is)
     (record {
       same = same;
+      why = shows.0;
       saw = r.stays.seen;
-      grounds = of (printed why) (has_grounds hash p.table.settings k why p.pass q.pass r);
+      grounds = shows.1;
       entries = λ by e. inl (refuses p.table.settings.callers c why needs (has_others hash p.table.settings k why p.pass q.pass r), r.stays.mine);
     })

@@ -41,6 +41,7 @@ listed hash c back l p a locked list answered table pass =
       saw = subst (λ (q : PassState ℕ). StartsWith q.view.seen c.pass.view.seen) (sym pass)
           (starts_on c.pass.view.seen l.pass.view.seen p.view.seen locked.stays.seen (answered_saw entry.call Closed [] l.pass p answered));
       grounds = tt;
+      why = tt;
       entries = λ by is.
           inr (
             entry,

@@ -1,5 +1,5 @@
 -- What commands leave of their caller, and what the workers of a run are given and hand back. What a run promises stands in `Output`.
-use Rattle.std.specs.Prelude.{◌≡◌, ◌≢◌, ◌⊎◌, ℕ, List, [], ◌∷◌, ◌++◌, Some}
+use Rattle.std.specs.Prelude.{◌≡◌, ◌≢◌, ◌⊎◌, ℕ, List, [], ◌∷◌, ◌++◌, Contains, Some}
 use Rattle.ck_model.specs.declared.history.Call.TheVariants.{Session}
 use Rattle.ck_model.specs.declared.history.Reply.TheVariants.{Closed}
 use Rattle.ck_model.specs.declared.history.Entry.{Entry}
@@ -8,7 +8,11 @@ use Rattle.cuckoo_map.specs.Callers.{CallerState, IsSameCaller}
 use Rattle.cuckoo_map.specs.declared.refusal.Why.{Why}
 use Rattle.cuckoo_map.specs.declared.refusal.Why.TheVariants.{Busy, Full, LoadTooLow}
 use Rattle.cuckoo_map.specs.declared.refusal.Why.TheVariants as why
+use Rattle.ck_model.specs.declared.history.Reason.{Reason}
+use Rattle.ck_model.specs.declared.history.Reason.TheVariants as reason
 use Rattle.ck_model.specs.History.{StartsWith}
+use Rattle.ck_words.specs.Passes.{PassState}
+use Rattle.ck_format.specs.declared.script.Command.TheVariants as command
 use Rattle.ck_format.specs.declared.answer.Answer.TheVariants as answer
 use Rattle.ck_format.specs.declared.script.Command.{Command}
 use Rattle.ck_format.specs.declared.answer.Answer.{Answer}
@@ -33,6 +37,24 @@ printed why.Memory = answer.Memory
 printed Full = answer.Full
 printed LoadTooLow = answer.Load
 
+-- from p to q the pass has said for this reason that the name found no room
+abbrev pub HasSaid : Name → Reason → PassState ℕ → PassState ℕ → Type 0
+HasSaid k why p q = (more : List (Name × Reason)) × (q.view.noroom ≡ more ++ p.view.noroom) × Contains more (k, why)
+
+-- where the answer prints a want of room, the pass has said so of the name, for this reason
+abbrev pub PrintsWhy : Name → Answer Pairs → PassState ℕ → PassState ℕ → Type 0
+PrintsWhy k answer.Memory p q = HasSaid k reason.Memory p q
+PrintsWhy k answer.Full p q = HasSaid k reason.Full p q
+PrintsWhy k answer.Load p q = HasSaid k reason.LoadTooLow p q
+PrintsWhy k a p q = Unit {0}
+
+-- the same of a command that may need room for its key
+abbrev pub CommandPrintsWhy : Command Name → Answer Pairs → PassState ℕ → PassState ℕ → Type 0
+CommandPrintsWhy (command.Insert k n) a p q = PrintsWhy k a p q
+CommandPrintsWhy (command.Assign k n) a p q = PrintsWhy k a p q
+CommandPrintsWhy (command.Add k n) a p q = PrintsWhy k a p q
+CommandPrintsWhy c a p q = Unit {0}
+
 -- where a call was refused for this reason by a table of n callers, there are others if it was as busy
 abbrev pub HasOthers : ℕ → Why → Type 0
 HasOthers n (Busy t) = n ≢ 1
@@ -51,6 +73,7 @@ StaysOrGrows n by c a old new =
 -- the caller's command was answered by this answer
 pub record IsAnsweredBy (hash : Name → ℕ) (c : Command Name) (a : Answer Pairs) (p q : CallerState ℕ) : Type 0 where
   pub same : IsSameCaller p q
+  pub why : CommandPrintsWhy c a p.pass q.pass
   pub saw : StartsWith q.pass.view.seen p.pass.view.seen
   pub grounds : HasGrounds hash p.table.settings q.pass.view.seen c a
   pub entries : (by : ℕ) → p.pass.view.by ≡ Some by → StaysOrGrows p.table.settings.callers by c a p.pass.view.mine q.pass.view.mine
