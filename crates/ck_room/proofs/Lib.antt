@@ -1,0 +1,6 @@
+mod Crosses
+mod Memory
+mod Pairs
+mod Sharing
+mod Steps
+mod TwoSteps

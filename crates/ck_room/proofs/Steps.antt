@@ -1,0 +1,111 @@
+-- What a `Places` owns is taken apart and made, also behind a `&mut`, and what a `&` to one shows.
+-- The same of a lease.
+use mathlib.Core.Path.{◌≡◌, refl, sym, ap, subst, ◌∙◌}
+use Prim.Native.Nat.{ℕ, ◌+◌, ◌*◌, ◌<◌, ◌^◌}
+use mathlib.Core.List.{List, [], ◌∷◌, ◌++◌}
+use lib.ListN.{length}
+use seplogic.Ra.Ura.{Ura}
+use base.Fraction.{full_share}
+use mir.Val.{Val, vptr, vstruct, vcons, vnil, of_list}
+use base.Logic.{ent, emp, sep, never, id⊢}
+use base.Stored.{Gv}
+use base.Fml.{Lft, GName, Share, Fml, fsep, flft, fobs, fauth, fbor, fobor, fhide}
+use types.Logic.{Logic, sem}
+use types.Kit.{Goal, Soaks, Step, step, Seq, Item, ‵, ◌⊛◌, ◌$◌, ◌∵◌, !, qed, move, keep, drop, use1, split, rewrite, fsplit, fjoin, fpick, fpack, feq_l, feq_i, flt_l, flt_i, done}
+use types.SemTy.{Body}
+use denote.RattleType.{RattleType, Valss}
+use denote.Memory.{cell_at, mem, hidden_shr}
+use denote.Opens.{unhide}
+use denote.RawPtr.{Ptr, RawPtr, block_ptr, in_a_block}
+use denote.Shadow.{makes_shadow}
+use denote.Steps.{opens, closes, nothing}
+use denote.Struct.Lending.{lent_out}
+use denote.Struct.Struct.{Struct, within}
+use denote.Struct.Owning.{Owning, shape}
+use Rattle.core.proofs.mem.Param.{El, R, el_x}
+use Rattle.core.proofs.alloc.Calls.{Al, token}
+use Rattle.core.proofs.slots.Leases.{P}
+use Rattle.std_alloc.proofs.RcSteps.{word}
+use Rattle.ck_room.specs.Memory.{row, owned, lent, leased}
+use Rattle.ck_room.specs.declared.Places.{Places}
+use Rattle.ck_room.specs.contracts.Places as C
+use Rattle.ck_room.specs.contracts.Lease as L
+use Rattle.ck_room.proofs.Memory.{sz}
+
+module _ (E : El) where
+  abbrev pub owning : Owning
+  owning = C.the_type (R E)
+
+  abbrev pub Pr : RattleType
+  Pr = C.the_row (R E)
+
+  abbrev pub el_d : Type 0
+  el_d = Places (el_x E)
+
+  -- the one data field, as a plain struct
+  abbrev pub Words : RattleType
+  Words = Struct (shape owning)
+
+  abbrev pub values : el_d → ℕ → ℕ → Fml
+  values d b o = row (R E) b o d.items
+
+  abbrev pub Fits : el_d → Type 0
+  Fits d = length d.items * sz E < 2 ^ 63
+
+module _ (E : El) {M : Type 1} {𝓤 : Ura M} {𝓛 : Logic 𝓤} {K : Type 0} {Γ : List (Item 𝓤)} {G : Goal 𝓤 𝓛.H} where
+  pub had : K → (d : el_d E) (vs : List Val)
+      → ((b o : ℕ) → d.ptr ≡ block_ptr b o → vs ≡ word (block_ptr b o) ∷ [] → Fits E d → Seq K 𝓛 (‵ (values E d b o) ∷ Γ) G)
+      → Seq K 𝓛 (‵ ((Pr E).own_val d vs) ∷ Γ) G
+  had t d vs k =
+      fsplit t $ fpick t (λ vss. fsplit t $ feq_l t (λ all. fsplit t $ feq_l t (λ e₀. drop t $
+      in_a_block t d.ptr (λ p. owned (R E) p d.items) (id⊢ 𝓤 (never 𝓤)) (λ b o e. fsplit t $ flt_l t (λ fit.
+      k b o e (all ∙ ((λ i. vstruct (of_list (e₀ i ++ [])) ∷ []) ∙ ap (λ (p : Ptr). word p ∷ []) e)) fit)))))
+
+  pub made : K → (d : el_d E) (b o : ℕ) → d.ptr ≡ block_ptr b o → Fits E d
+      → Step K 𝓛 (‵ ((Pr E).own_val d (word (block_ptr b o) ∷ [])) ∷ Γ) G (‵ (values E d b o) ∷ Γ) G
+  made t d b o at fit = step (λ s.
+      flt_i t (length d.items * sz E) (2 ^ 63) fit $ fjoin t $
+      nothing t $
+      feq_i t (List Val) (vptr b o ∷ []) (vptr b o ∷ []) refl $ fjoin t $ feq_i t (List Val) (word (block_ptr b o) ∷ []) (word (block_ptr b o) ∷ []) refl $ fjoin t $
+      fpack t (Valss (shape (owning E)).fields) (within (shape (owning E)) (block_ptr b o, tt) (word (block_ptr b o) ∷ [])) (vptr b o ∷ [], tt) $ fjoin t $
+      rewrite t 0 (λ (p : Ptr). ‵ (fsep ((Words E).own_val (p, tt) (word (block_ptr b o) ∷ [])) (owned (R E) p d.items))) (sym at) refl $ s)
+
+module _ (E : El) {M : Type 1} {𝓤 : Ura M} {𝓛 : Logic 𝓤} {K : Type 0} {Γ : List (Item 𝓤)} {G : Goal 𝓤 𝓛.H} where
+  -- [the values; the word; the open borrow; obs; auth]
+  pub opened : K → Soaks G → {κ : Lft} {q : Share} {γ : GName} (d : el_d E) (rb ro : ℕ)
+      → ((b o : ℕ) → d.ptr ≡ block_ptr b o → Fits E d
+      → Seq K 𝓛 (‵ (values E d b o) ∷ ‵ (cell_at full_share (Pr E).mir (word (block_ptr b o) ∷ []) rb ro) ∷ ‵ (fobor κ q (Body (mem (Pr E)) rb ro γ)) ∷ ‵ (fobs γ ((Pr E).coded.code d)) ∷ ‵ (fauth γ ((Pr E).coded.code d)) ∷ Γ) G)
+      → Seq K 𝓛 (‵ (fobs γ ((Pr E).coded.code d)) ∷ ‵ (fbor κ (Body (mem (Pr E)) rb ro γ)) ∷ ‵ (flft κ q) ∷ Γ) G
+  opened t z d rb ro k =
+      opens t z (Pr E) {h = d} rb ro (λ vs. move t (1 ∷ []) $ had E t d vs (λ b o e is fit.
+      rewrite t 1 (λ (ws : List Val). ‵ (cell_at full_share (Pr E).mir ws rb ro)) is refl $ k b o e fit))
+
+  pub closed : K → Soaks G → {κ : Lft} {q : Share} {u v : Gv} {γ : GName} (d : el_d E) (b o rb ro : ℕ) → d.ptr ≡ block_ptr b o → Fits E d
+      → Step K 𝓛 (‵ (fobs γ ((Pr E).coded.code d)) ∷ ‵ (fbor κ (Body (mem (Pr E)) rb ro γ)) ∷ ‵ (flft κ q) ∷ Γ) G
+      (‵ (values E d b o) ∷ ‵ (cell_at full_share (Pr E).mir (word (block_ptr b o) ∷ []) rb ro) ∷ ‵ (fobor κ q (Body (mem (Pr E)) rb ro γ)) ∷ ‵ (fobs γ u) ∷ ‵ (fauth γ v) ∷ Γ) G
+  closed t z d b o rb ro at fit = step (λ s. made E t d b o at fit $ move t (1 ∷ 0 ∷ []) $ closes t z (Pr E) d (word (block_ptr b o) ∷ []) rb ro $ s)
+
+module _ (E : El) {M : Type 1} {𝓤 : Ura M} (𝓛 : Logic 𝓤) (κ : Lft) where
+  pub shown : (d : el_d E) (b o : ℕ) → ent 𝓤 (sem 𝓛 (hidden_shr (Pr E) κ d b o)) (sep 𝓤 (sem 𝓛 (hidden_shr RawPtr κ d.ptr b (o + 0))) (sem 𝓛 (lent (R E) d.ptr d.items κ)))
+  shown d b o = qed 𝓛 (‵ (hidden_shr (Pr E) κ d b o) ∷ []) ∵
+      use1 𝓛 (‵ (hidden_shr (Words E) κ (d.ptr, tt) b o) ⊛ ‵ (fhide (C.the_lent (R E) d d.ptr κ))) (lent_out 𝓛 (C.struct (R E)) (C.the_codes (el_x E) (R E).coded) (C.the_heap (R E)) (C.the_lent (R E)) κ d b o) $ split ! $
+      unhide ! $ fsplit ! $ fsplit ! $ keep ! (0 ∷ 3 ∷ []) $ done !
+
+abbrev pub mark : Val
+mark = vstruct (vcons (vstruct vnil) vnil)
+
+module _ (E : El) (Z : Al) where
+  abbrev pub Lr : RattleType
+  Lr = L.the_row (R E) (P E Z) Z.g
+
+  -- the one field of a lease, which takes no bytes
+  abbrev pub Mark : RattleType
+  Mark = Struct (shape (L.the_type (R E) (P E Z) Z.g))
+
+  pub marked : {M : Type 1} {𝓤 : Ura M} (𝓛 : Logic 𝓤) → ent 𝓤 (emp 𝓤) (sem 𝓛 (Mark.own_val (tt, tt) (mark ∷ [])))
+  marked 𝓛 = makes_shadow 𝓛 (Mark.own_val (tt, tt) (mark ∷ [])) (λ vss. (tt, ((λ uss. (tt, tt)), tt))) ((vstruct vnil ∷ [], tt), (refl, ((tt, (refl, tt)), tt)))
+
+module _ (E : El) (Z : Al) {M : Type 1} {𝓤 : Ura M} {𝓛 : Logic 𝓤} {K : Type 0} {Γ : List (Item 𝓤)} {G : Goal 𝓤 𝓛.H} where
+  pub lease_had : K → (d : (Lr E Z).Denot) (vs : List Val) → (vs ≡ mark ∷ [] → Seq K 𝓛 (‵ (leased (token Z d.alloc) (R E) d.ptr d.len) ∷ Γ) G) → Seq K 𝓛 (‵ ((Lr E Z).own_val d vs) ∷ Γ) G
+  lease_had t d vs k = fsplit t $ fpick t (λ vss. fsplit t $ feq_l t (λ ev. fsplit t $ fpick t (λ uss. fsplit t $ feq_l t (λ e. drop t $ drop t $
+      k (subst (λ (ws : List Val). vs ≡ vstruct (of_list (ws ++ [])) ∷ []) e ev)))))
