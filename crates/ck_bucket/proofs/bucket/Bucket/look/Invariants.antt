@@ -1,6 +1,0 @@
-use Rattle.std.proofs.Common.{◌≢◌, ℕ, ◌<◌, Some}
-use Rattle.ck_model.specs.Slots.{slot_at}
-use Rattle.ck_bucket.proofs.bucket.Bucket.look.Given as goal
-
-abbrev pub invariant-loop-i : goal.invariant-loop-i
-invariant-loop-i g l = (j : ℕ) → j < l.i → (v : g.row.V.Denot) → slot_at l.self j ≢ Some (g.K.TableKey.name l.key, v)
