@@ -18,3 +18,4 @@ pub mod Doubled
 pub mod Table
 pub mod Owned
 pub mod Visited
+pub mod Cleared

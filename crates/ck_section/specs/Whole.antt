@@ -1,7 +1,10 @@
 -- All stripes of a table.
 use Rattle.std.specs.Prelude.{◌≡◌, ℕ, true, ◌^◌, ◌<◌, ◌≤◌, List, length}
+use Rattle.std.specs.FinMap.{empty}
+use Rattle.ck_model.specs.Contents.{Layout, Lawful, bindings}
+use Rattle.ck_model.specs.Sections.{Renewed}
 use Rattle.ck_stripe.specs.Stripe.{StripeState}
-use Rattle.ck_section.specs.Stripes.{stripe_at}
+use Rattle.ck_section.specs.Stripes.{stripe_at, contents_of}
 
 module _ {V : Type 0} where
   -- The 2^s stripes of a table in the order of their numbers, of one power, settled or not.
@@ -22,3 +25,7 @@ module _ {V : Type 0} where
   pub record AreAllHeld (s : ℕ) (stripes : List (StripeState V)) : Type 0 where
     pub table : IsTable s stripes
     pub settled : AreSettled stripes
+
+  -- Lawful stripes go from old to new, and bind no name any more.
+  abbrev pub ClearsBindings : Layout → List (StripeState V) → List (StripeState V) → Type 0
+  ClearsBindings k old new = Lawful k (contents_of old) → Renewed k (contents_of old) (contents_of new) × (bindings (contents_of new) ≡ empty)

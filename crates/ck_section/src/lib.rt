@@ -28,4 +28,4 @@ pub use one_stripe::{is_settled, power};
 pub use place::{HeldBucket, HeldSlot, KeyPlace};
 pub use room::{Lack, make_room, settled_place};
 pub use two_keys::update_two;
-pub use whole::{find_in_all, place_in_all};
+pub use whole::{clear_all, find_in_all, place_in_all};

@@ -117,7 +117,7 @@ pub(crate) fn free<K: TableKey + Drop, V: Drop, H: Held<Stripe<K, V>>>(
     ensures same { H.stripes held.new ≡ H.stripes held.old }
     ensures stays { H.stays held.old held.new }
 {
-    held.visit_bucket(i, b, |stripe: &mut Stripe<K, V>| stripe.bucket(b).free())
+    held.visit_bucket(i, b, |stripe: &mut Stripe<K, V>| stripe.free(b))
 }
 
 /// The partials in bucket `b` of stripe `i`.
@@ -140,7 +140,7 @@ pub(crate) fn sketch<K: TableKey + Drop, V: Drop, H: Held<Stripe<K, V>>>(
             requires own { HasBucket stripe.old b }
             ensures value { result ≡ map (partial_in K.hash) (bucket_of stripe.old b) }
             ensures same { stripe.new ≡ stripe.old }
-        { stripe.bucket(b).sketch() },
+        { stripe.sketch(b) },
     )
 }
 
@@ -320,7 +320,7 @@ fn look_in<K: TableKey + Drop, V: Drop>(
     ensures found { IfSome result (HasName (bucket_of stripe.now b) (K.name key.now)) }
     ensures absent { IfNone result (LacksName (bucket_of stripe.now b) (K.name key.now)) }
 {
-    stripe.bucket(b).look(key, partial)
+    stripe.look(b, key, partial)
 }
 
 // What the closure makes of the value in a slot.
@@ -337,7 +337,7 @@ fn read_in<K: TableKey + Drop, V: Drop, R, F: FnOnce(&V) -> R>(
     requires call { F.IsAlwaysCallable f }
     ensures { ReadsSlot F.FnOnce f (slot_at (bucket_of stripe.now b) slot) result }
 {
-    match stripe.bucket(b).get(slot) {
+    match stripe.get(b, slot) {
         Some((_, value)) => f(value),
         None => unreachable!(),
     }

@@ -1,15 +1,17 @@
-//! Where a key may be among all stripes of a table, held as one slice.
+//! All stripes of a table, held as one slice: where a key may be among them, and how they are
+//! cleared.
 ghost use Rattle.std.specs.Prelude.{◌≡◌, ◌≤◌, ◌<◌, ◌^◌, ℕ, true, Some, IfSome, IfNone};
 ghost use Rattle.std.specs.Option.{option_copied};
 ghost use Rattle.ck_model.specs.declared.history.Act.TheVariants.{Find};
 ghost use Rattle.ck_model.specs.declared.history.Reply.TheVariants.{Was};
 ghost use Rattle.ck_model.specs.Arithmetic.{partial_of, second_of};
+ghost use Rattle.ck_model.specs.Contents.{layout};
 ghost use Rattle.ck_model.specs.Slots.{slot_at};
 ghost use Rattle.ck_bucket.specs.Bucket.{LacksName};
 ghost use Rattle.ck_stripe.specs.Stripe.{HasBucket, bucket_of};
 ghost use Rattle.ck_section.specs.Calls.{effect, IsCall};
 ghost use Rattle.ck_section.specs.Places.{IsPlaceOf};
-ghost use Rattle.ck_section.specs.Whole.{AreAllHeld};
+ghost use Rattle.ck_section.specs.Whole.{IsTable, AreSettled, AreAllHeld, ClearsBindings};
 
 use crate::place::{HeldBucket, KeyPlace};
 use ck_key::TableKey;
@@ -68,6 +70,18 @@ pub fn find_in_all<'s, K: TableKey + Drop, V: Drop>(
     value_in(&stripes[alternate.index], alternate.bucket, key, partial)
 }
 
+/// Drops all entries of all stripes of a table.
+pub fn clear_all<K: TableKey + Drop, V: Drop>(stripes: &mut [Stripe<K, V>])
+    requires settled { AreSettled stripes.old }
+    ensures held { (s : ℕ) → IsTable s stripes.old → AreAllHeld s stripes.new }
+    ensures cleared { (s max : ℕ) → IsTable s stripes.old
+        → ClearsBindings (layout K.hash s max) stripes.old stripes.new }
+{
+    for i in 0..stripes.len() {
+        stripes[i].clear();
+    }
+}
+
 // The value of the key in bucket `b` of the stripe.
 fn value_in<'s, K: TableKey + Drop, V: Drop>(
     stripe: &'s Stripe<K, V>,
@@ -82,9 +96,8 @@ fn value_in<'s, K: TableKey + Drop, V: Drop>(
         × (slot_at (bucket_of stripe.now b) slot ≡ Some (K.name key.now, value.now))) }
     ensures absent { IfNone result (LacksName (bucket_of stripe.now b) (K.name key.now)) }
 {
-    let bucket = stripe.bucket(b);
-    let slot = bucket.look(key, partial)?;
-    match bucket.get(slot) {
+    let slot = stripe.look(b, key, partial)?;
+    match stripe.get(b, slot) {
         Some((_, value)) => Some(value),
         None => unreachable!(),
     }

@@ -38,7 +38,7 @@ all_buckets s p n le is =
     let e : p ≡ (p - s) + s = omega arith in
     ap (λ x. 2 ^ x) e ∙ pow-add 2 (p - s) s ∙ ap (λ x. x * 2 ^ s) (sym is)
 
-twice_rows : (s p n : ℕ) → s ≤ p → n ≡ 2 ^ (p - s) → 2 * n ≡ 2 ^ (p + 1 - s)
+pub twice_rows : (s p n : ℕ) → s ≤ p → n ≡ 2 ^ (p - s) → 2 * n ≡ 2 ^ (p + 1 - s)
 twice_rows s p n le is =
     let up : p + 1 - s ≡ (p - s) + 1 = omega arith in
     ap (λ x. 2 * x) is ∙ mul_comm 2 (2 ^ (p - s)) ∙ sym (pow-add 2 (p - s) 1) ∙ ap (λ x. 2 ^ x) (sym up)

@@ -1,16 +1,9 @@
 -- What is stored of a stripe, and what is shown of it.
-use Rattle.std.proofs.Common.{◌≡◌, ℕ, Bool, true, false, cond, refl, sym, ◌∙◌, ap, subst, ◌+◌, ◌-◌, ◌*◌, ◌^◌, ◌<◌, ◌≤◌, List, length, arith}
-use Rattle.std.specs.Prelude.{flat_map, All}
-use Rattle.std.proofs.Math.Nat.{mul-le-mul_right}
-use Rattle.std.proofs.Math.Pow.{pow_mono}
-use Rattle.std.proofs.lemmas.Bool.{true≢false}
+use Rattle.std.proofs.Common.{◌≡◌, ℕ, Bool, true, false, cond, sym, ◌∙◌, ap, subst, ◌+◌, ◌-◌, ◌<◌, ◌≤◌, arith}
 use Rattle.ck_model.specs.Map.{Name}
-use Rattle.ck_model.specs.Slots.{Slot, taken_in}
-use Rattle.ck_model.specs.Contents.{IsShaped}
 use Rattle.ck_stripe.specs.Doubling.{split_rows, doubled_content}
 use Rattle.ck_stripe.specs.Stripe.{StripeState, state_from, shown, IsWellFormed, IsReserved, IsConsistent}
-use Rattle.ck_stripe.proofs.Splits.{length-split}
-use Rattle.ck_stripe.proofs.Doubled.{all_buckets, shaped_doubled}
+use Rattle.ck_stripe.proofs.Doubled.{shaped_doubled}
 
 module _ {V : Type 0} (hash : Name → ℕ) where
   -- a settled stripe shows what it stores
@@ -41,6 +34,9 @@ module _ {V : Type 0} (hash : Name → ℕ) where
       pub now_stored : now ≡ t
       now_stored = sym is ∙ shown_settled t stored_settled
 
+      pub stored_least : t.s ≤ t.content.power
+      stored_least = (subst IsWellFormed now_stored formed_now).shaped.least
+
       pub now_raised : shown hash (raised t) ≡ doubled now
       now_raised = shown_raised t ∙ ap doubled (sym now_stored)
 
@@ -57,40 +53,3 @@ module _ {V : Type 0} (hash : Name → ℕ) where
             });
             late = λ _. (omega (arith, formed.shaped.least), subst IsReserved now_stored reserved);
           }
-
-  pub consistent_room : (t : StripeState V) → IsConsistent hash t → (n : ℕ) → t.room ≤ n → IsConsistent hash (state_from t.number t.s t.content.power t.content.rows t.content.ledger t.settled n)
-  consistent_room t kept n le = record {
-    formed = record { many = kept.formed.many; number = kept.formed.number; most = kept.formed.most; shaped = kept.formed.shaped };
-    late = λ e. ((kept.late e).0, omega (arith, (kept.late e).1));
-  }
-
-  module _ (t : StripeState V) (kept : IsConsistent hash t) (late : t.settled ≡ false) where
-    -- what is shown before the split
-    shaped_late : IsShaped t.s (record { power = t.content.power; rows = split_rows hash t.s t.number (t.content.power - 1) t.content.rows; ledger = t.content.ledger })
-    shaped_late = subst (λ (b : Bool). IsShaped t.s (record { power = t.content.power; rows = cond b t.content.rows (split_rows hash t.s t.number (t.content.power - 1) t.content.rows); ledger = t.content.ledger })) late kept.formed.shaped
-
-    pub few_late : length t.content.rows * 2 ^ t.s ≤ 2 ^ 26
-    few_late =
-        let long = length-split hash t.s t.number (t.content.power - 1) t.content.rows in
-        let rows = shaped_late.rows in
-        let less : length t.content.rows ≤ 2 ^ (t.content.power - t.s) = omega arith in
-        let most = mul-le-mul_right (2 ^ t.s) less in
-        let all : 2 ^ t.content.power ≡ 2 ^ (t.content.power - t.s) * 2 ^ t.s = all_buckets t.s t.content.power (2 ^ (t.content.power - t.s)) shaped_late.least refl in
-        let end : 2 ^ t.content.power ≤ 2 ^ 26 = pow_mono kept.formed.most in
-        omega arith
-
-    pub consistent_settled : (rows : List (List (Slot V))) → rows ≡ split_rows hash t.s t.number (t.content.power - 1) t.content.rows → (n : ℕ) → IsConsistent hash (state_from t.number t.s t.content.power rows t.content.ledger true n)
-    consistent_settled rows is n = record {
-      formed = record {
-        many = kept.formed.many;
-        number = kept.formed.number;
-        most = kept.formed.most;
-        shaped = record {
-          least = shaped_late.least;
-          rows = ap length is ∙ shaped_late.rows;
-          four = subst (All (λ (row : List (Slot V)). length row ≡ 4)) (sym is) shaped_late.four;
-          ledger = shaped_late.ledger ∙ ap (λ (ys : List (List (Slot V))). length (flat_map taken_in ys)) (sym is);
-        };
-      };
-      late = λ e. absurd (true≢false e);
-    }

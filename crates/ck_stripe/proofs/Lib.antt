@@ -2,5 +2,6 @@ pub mod Splits
 pub mod Permuted
 pub mod Doubled
 pub mod Fields
+pub mod Stored
 pub mod Writes
 mod Pouring

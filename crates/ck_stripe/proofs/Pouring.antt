@@ -1,14 +1,14 @@
 -- Rows of slots are poured one after another into reserved room.
-use Rattle.std.proofs.Common.{◌≡◌, ℕ, ◌+◌, ◌<◌, ◌≤◌, List, [], ◌++◌, length, map, take, sym, ◌∙◌, ap, length-append, arith}
+use Rattle.std.proofs.Common.{◌≡◌, ℕ, ◌+◌, ◌<◌, ◌≤◌, List, [], ◌∷◌, ◌++◌, get_or, length, map, take, sym, ◌∙◌, ap, length-append, arith}
 use Rattle.std.specs.Prelude.{flat_map}
-use Rattle.std.proofs.lemmas.List.{length-map, length-take-le}
+use Rattle.std.proofs.lemmas.List.{length-map, length-take-le, take_more, flat_map_more}
 use Rattle.std.proofs.lemmas.List.Folds.{length-flat_map-take}
 use Rattle.ck_model.specs.Map.{Name, named}
 use Rattle.ck_model.specs.Slots.{Slot, taken_in}
 
 module _ {K V : Type 0} where
   -- there is room for four more
-  pub room_left : (name : K → Name) (pairs start : List (K × V)) (poured rows : List (List (Slot V))) (room : ℕ) → map (named name) pairs ≡ map (named name) start ++ flat_map taken_in poured → poured ≡ take (length poured) rows
+  room_left : (name : K → Name) (pairs start : List (K × V)) (poured rows : List (List (Slot V))) (room : ℕ) → map (named name) pairs ≡ map (named name) start ++ flat_map taken_in poured → poured ≡ take (length poured) rows
       → length poured < length rows → length start + length (flat_map taken_in rows) + 4 ≤ room → length pairs + 4 ≤ room
   room_left name pairs start poured rows room seen first more enough =
       let many : length pairs ≡ length start + length (flat_map taken_in poured) =
@@ -16,6 +16,15 @@ module _ {K V : Type 0} where
       let fewer = length-flat_map-take taken_in rows (length poured) [] more in
       let same = ap (λ (l : List (List (Slot V))). length (flat_map taken_in l)) first in
       omega arith
+
+  -- one row more is poured
+  pub pour_more : (name : K → Name) (pairs after start : List (K × V)) (n : ℕ) (rows : List (List (Slot V))) (row : List (Slot V)) → map (named name) pairs ≡ map (named name) start ++ flat_map taken_in (take n rows)
+      → n < length rows → row ≡ get_or rows n [] → map (named name) after ≡ map (named name) pairs ++ taken_in row
+      → map (named name) after ≡ map (named name) start ++ flat_map taken_in (take (n + 1) rows)
+  pour_more name pairs after start n rows row seen lt at wrote =
+      wrote ∙ ap (λ l. l ++ taken_in row) seen ∙ flat_map_more taken_in (map (named name) start) (take n rows) row
+      ∙ ap (λ r. map (named name) start ++ flat_map taken_in (take n rows ++ r ∷ [])) at
+      ∙ ap (λ l. map (named name) start ++ flat_map taken_in l) (sym (take_more rows n [] lt))
 
   -- the same where the first n rows were poured
   pub room_after : (name : K → Name) (pairs start : List (K × V)) (n : ℕ) (rows : List (List (Slot V))) (room : ℕ) → map (named name) pairs ≡ map (named name) start ++ flat_map taken_in (take n rows)

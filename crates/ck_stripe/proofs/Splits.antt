@@ -1,9 +1,9 @@
 -- The rows of a stripe, split.
-use Rattle.std.proofs.Common.{◌≡◌, ℕ, zero, suc, Bool, true, false, not, cond, refl, sym, ◌∙◌, ap, subst, ◌+◌, ◌*◌, ◌^◌, ◌<◌, ◌≤◌, List, [], ◌∷◌, ◌++◌, Some, None, length, map, get_or, take, drop, set, arith}
+use Rattle.std.proofs.Common.{◌≡◌, ℕ, zero, suc, Bool, true, false, not, cond, refl, sym, ◌∙◌, ap, subst, ◌+◌, ◌-◌, ◌*◌, ◌^◌, ◌<◌, ◌≤◌, List, [], ◌∷◌, ◌++◌, Some, None, length, map, get_or, take, drop, set, replicate, arith}
 use Rattle.std.specs.Prelude.{flat_map, All}
 use Rattle.std.specs.List.{enumerate_from}
 use Rattle.std.specs.List.Sorted.{IsPermutation}
-use Rattle.std.proofs.lemmas.List.{append_assoc, append-nil, length-append, length-map, length-take, length-drop, get_or-map, get_or_append_left, get_or_read, set-append_left, take_more, take_all, drop_all}
+use Rattle.std.proofs.lemmas.List.{append_assoc, append-nil, length-append, length-map, length-take, length-drop, length-replicate, replicate-append-replicate, get_or-map, get_or-replicate, get_or_append_left, get_or-append_right, set-append_left, set-append_right, take_all, drop_all}
 use Rattle.std.proofs.lemmas.List.FromFn.{length-enumerate_from, get_or-enumerate_from}
 use Rattle.std.proofs.lemmas.List.Concat.{flat_map-append}
 use Rattle.std.proofs.lemmas.List.Elements.{All-append, All-map}
@@ -100,78 +100,140 @@ module _ {V : Type 0} where
       All-append (λ (row : List (Slot V)). length row ≡ 4) (low_rows hash s t p 0 rows) (high_rows hash s t p 0 rows)
       (mapped_four _ (λ e. length-map e.1 _) rows four) (mapped_four _ (λ e. length-map e.1 _) rows four)
 
--- a split that is under way: the first r rows are split
-abbrev pub halfway : {X : Type 0} → List X → List X → List X → ℕ → List X
-halfway lows rows highs r = (take r lows ++ drop r rows) ++ take r highs
+-- the first r elements of one list, and then those of another
+abbrev pub front : {X : Type 0} → List X → List X → ℕ → List X
+front new old r = take r new ++ drop r old
 
 module _ {X : Type 0} where
-  front_step : (lows rows : List X) (r : ℕ) (d : X) → length lows ≡ length rows → r < length rows → set (take r lows ++ drop r rows) r (get_or lows r d) ≡ take (suc r) lows ++ drop (suc r) rows
-  front_step [] [] r d e lt = absurd (omega arith)
-  front_step [] (x ∷ xs) r d e lt = absurd (omega arith)
-  front_step (l ∷ ls) [] r d e lt = absurd (omega arith)
-  front_step (l ∷ ls) (x ∷ xs) zero d e lt = refl
-  front_step (l ∷ ls) (x ∷ xs) (suc r) d e lt = ap (λ ys. l ∷ ys) (front_step ls xs r d (omega arith) (omega arith))
+  front_next : (new old : List X) (r : ℕ) (d : X) → length new ≡ length old → r < length old → set (front new old r) r (get_or new r d) ≡ front new old (suc r)
+  front_next [] [] r d e lt = absurd (omega arith)
+  front_next [] (x ∷ xs) r d e lt = absurd (omega arith)
+  front_next (y ∷ ys) [] r d e lt = absurd (omega arith)
+  front_next (y ∷ ys) (x ∷ xs) zero d e lt = refl
+  front_next (y ∷ ys) (x ∷ xs) (suc r) d e lt = ap (λ zs. y ∷ zs) (front_next ys xs r d (omega arith) (omega arith))
 
-  length-front : (lows rows : List X) (r : ℕ) → length lows ≡ length rows → r ≤ length rows → length (take r lows ++ drop r rows) ≡ length rows
-  length-front lows rows r e le = let a = length-append (take r lows) (drop r rows) in let t = length-take r lows in let d = length-drop r rows in omega arith
+  pub front_step : (new old : List X) (r : ℕ) (d : X) → length new ≡ length old → r < length old → set (front new old r) r (get_or new r d) ≡ front new old (r + 1)
+  front_step new old r d e lt = let next : suc r ≡ r + 1 = omega arith in front_next new old r d e lt ∙ ap (front new old) next
 
-  pub half_step : (lows rows highs : List X) (r : ℕ) (d : X) → length lows ≡ length rows → length highs ≡ length rows → r < length rows
-      → set (halfway lows rows highs r) r (get_or lows r d) ++ get_or highs r d ∷ [] ≡ halfway lows rows highs (r + 1)
-  half_step lows rows highs r d el eh lt =
-      let next : suc r ≡ r + 1 = omega arith in
-      ap (λ ys. ys ++ get_or highs r d ∷ []) (set-append_left (take r lows ++ drop r rows) (take r highs) r (get_or lows r d) (subst (λ n. r < n) (sym (length-front lows rows r el (omega arith))) lt)
-      ∙ ap (λ ys. ys ++ take r highs) (front_step lows rows r d el lt ∙ ap (λ n. take n lows ++ drop n rows) next))
-      ∙ append_assoc (take (r + 1) lows ++ drop (r + 1) rows) (take r highs) (get_or highs r d ∷ [])
-      ∙ ap (λ ys. (take (r + 1) lows ++ drop (r + 1) rows) ++ ys) (sym (take_more highs r d (omega arith)))
+  pub length-front : (new old : List X) (r : ℕ) → length new ≡ length old → r ≤ length old → length (front new old r) ≡ length old
+  length-front new old r e le = let a = length-append (take r new) (drop r old) in let t = length-take r new in let d = length-drop r old in omega arith
 
-  -- row r is the old one
-  pub half_at : (lows rows highs : List X) (r : ℕ) (d : X) → length lows ≡ length rows → r < length rows → get_or (halfway lows rows highs r) r d ≡ get_or rows r d
-  half_at lows rows highs r d el lt =
-      get_or_append_left (take r lows ++ drop r rows) (take r highs) d r (subst (λ n. r < n) (sym (length-front lows rows r el (omega arith))) lt)
-      ∙ inner lows rows r d el lt
-    where
-      inner : (lows rows : List X) (r : ℕ) (d : X) → length lows ≡ length rows → r < length rows → get_or (take r lows ++ drop r rows) r d ≡ get_or rows r d
-      inner [] [] r d e lt = absurd (omega arith)
-      inner [] (x ∷ xs) r d e lt = absurd (omega arith)
-      inner (l ∷ ls) [] r d e lt = absurd (omega arith)
-      inner (l ∷ ls) (x ∷ xs) zero d e lt = refl
-      inner (l ∷ ls) (x ∷ xs) (suc r) d e lt = inner ls xs r d (omega arith) (omega arith)
+  -- element r is still the old one
+  pub front_at : (new old : List X) (r : ℕ) (d : X) → length new ≡ length old → r < length old → get_or (front new old r) r d ≡ get_or old r d
+  front_at [] [] r d e lt = absurd (omega arith)
+  front_at [] (x ∷ xs) r d e lt = absurd (omega arith)
+  front_at (y ∷ ys) [] r d e lt = absurd (omega arith)
+  front_at (y ∷ ys) (x ∷ xs) zero d e lt = refl
+  front_at (y ∷ ys) (x ∷ xs) (suc r) d e lt = front_at ys xs r d (omega arith) (omega arith)
 
-  pub length-half : (lows rows highs : List X) (r : ℕ) → length lows ≡ length rows → length highs ≡ length rows → r ≤ length rows → length (halfway lows rows highs r) ≡ length rows + r
-  length-half lows rows highs r el eh le =
-      let a = length-append (take r lows ++ drop r rows) (take r highs) in
-      let f = length-front lows rows r el le in
-      let t = length-take r highs in
-      omega arith
+  pub front_done : (new old : List X) (r : ℕ) → length new ≡ length old → r ≡ length old → front new old r ≡ new
+  front_done new old r e all = ap (λ ys. ys ++ drop r old) (take_all r new (omega arith)) ∙ ap (λ ys. new ++ ys) (drop_all r old (omega arith)) ∙ append-nil new
 
-  pub half_done : (lows rows highs : List X) (r : ℕ) → length lows ≡ length rows → length highs ≡ length rows → r ≡ length rows → halfway lows rows highs r ≡ lows ++ highs
-  half_done lows rows highs r el eh e =
-      ap (λ ys. (ys ++ drop r rows) ++ take r highs) (take_all r lows (omega arith))
-      ∙ ap (λ ys. (lows ++ ys) ++ take r highs) (drop_all r rows (omega arith))
-      ∙ ap (λ ys. ys ++ take r highs) (append-nil lows)
-      ∙ ap (λ ys. lows ++ ys) (take_all r highs (omega arith))
+module _ {V : Type 0} where
+  -- as many rows of free slots
+  abbrev pub free_rows : List (List (Slot V)) → List (List (Slot V))
+  free_rows rows = replicate (length rows) (replicate 4 None)
+
+  pub length-free : (rows : List (List (Slot V))) → length (free_rows rows) ≡ length rows
+  length-free rows = length-replicate (length rows) (replicate 4 None)
+
+  pub free_at : (rows : List (List (Slot V))) (r : ℕ) → r < length rows → get_or (free_rows rows) r [] ≡ replicate 4 None
+  free_at rows r lt = get_or-replicate (length rows) r (replicate 4 None) [] lt
+
+  -- the first r rows are emptied
+  abbrev pub emptied_to : List (List (Slot V)) → ℕ → List (List (Slot V))
+  emptied_to rows r = front (free_rows rows) rows r
+
+  module _ (rows now : List (List (Slot V))) (r : ℕ) (is : now ≡ emptied_to rows r) where
+    pub length-emptied : r ≤ length rows → length now ≡ length rows
+    length-emptied le = ap length is ∙ length-front (free_rows rows) rows r (length-free rows) le
+
+    -- row r is still full
+    pub emptied_at : r < length rows → get_or now r [] ≡ get_or rows r []
+    emptied_at lt = ap (λ ys. get_or ys r []) is ∙ front_at (free_rows rows) rows r [] (length-free rows) lt
+
+    pub emptied_step : (after : List (List (Slot V))) → r < length rows → after ≡ set now r (replicate 4 None) → after ≡ emptied_to rows (r + 1)
+    emptied_step after lt wrote =
+        wrote ∙ ap (λ ys. set ys r (replicate 4 None)) is ∙ ap (set (emptied_to rows r) r) (sym (free_at rows r lt))
+        ∙ front_step (free_rows rows) rows r [] (length-free rows) lt
+
+    pub emptied_done : r ≡ length rows → now ≡ free_rows rows
+    emptied_done all = is ∙ front_done (free_rows rows) rows r (length-free rows) all
 
 module _ {V : Type 0} (hash : Name → ℕ) (s t p : ℕ) (rows : List (List (Slot V))) where
+  abbrev lows : List (List (Slot V))
+  lows = low_rows hash s t p 0 rows
+
+  abbrev highs : List (List (Slot V))
+  highs = high_rows hash s t p 0 rows
+
+  low_long : length lows ≡ length (free_rows rows)
+  low_long = length-lows hash s t p rows ∙ sym (length-free rows)
+
+  high_long : length highs ≡ length (free_rows rows)
+  high_long = length-highs hash s t p rows ∙ sym (length-free rows)
+
+  -- the rows of the doubled stripe, once the first r rows were moved there
   abbrev pub split_to : ℕ → List (List (Slot V))
-  split_to r = halfway (low_rows hash s t p 0 rows) rows (high_rows hash s t p 0 rows) r
+  split_to r = front lows (free_rows rows) r ++ front highs (free_rows rows) r
 
-  pub length-split_to : (r : ℕ) → r ≤ length rows → length (split_to r) ≡ length rows + r
-  length-split_to r le = length-half (low_rows hash s t p 0 rows) rows (high_rows hash s t p 0 rows) r (length-lows hash s t p rows) (length-highs hash s t p rows) le
+  pub split_start : (now : List (List (Slot V))) → now ≡ replicate (2 * length rows) (replicate 4 None) → now ≡ split_to 0
+  split_start now free =
+      let twice : 2 * length rows ≡ length rows + length rows = omega arith in
+      free ∙ ap (λ n. replicate n (replicate 4 None)) twice ∙ sym (replicate-append-replicate (length rows) (length rows) (replicate 4 None))
 
-  pub length-under_way : (items : List (List (Slot V))) (r : ℕ) → items ≡ split_to r → r ≤ length rows → length items ≡ length rows + r
-  length-under_way items r is le = ap length is ∙ length-split_to r le
+  module _ (now : List (List (Slot V))) (r : ℕ) (is : now ≡ split_to r) where
+    low_front : r ≤ length rows → length (front lows (free_rows rows) r) ≡ length rows
+    low_front le = length-front lows (free_rows rows) r low_long (subst (λ n. r ≤ n) (sym (length-free rows)) le) ∙ length-free rows
 
-  -- one row more is split, and what leaves it is appended
-  pub split_step : (items after : List (List (Slot V))) (r b : ℕ) (x low high : List (Slot V)) → items ≡ split_to r → r < length rows → b ≡ r * 2 ^ s + t → x ≡ get_or items r x
-      → low ≡ low_row hash p b x → high ≡ high_row hash p b x → after ≡ set items r low ++ high ∷ [] → after ≡ split_to (r + 1)
-  split_step items after r b x low high is lt at read el eh wrote =
-      let within : r < length items = subst (λ n. r < n) (sym (ap length is ∙ length-split_to r (omega arith))) (omega arith) in
-      let old : x ≡ get_or rows r [] = get_or_read items r x within read [] ∙ ap (λ ys. get_or ys r []) is ∙ half_at (low_rows hash s t p 0 rows) rows (high_rows hash s t p 0 rows) r [] (length-lows hash s t p rows) lt in
-      let l : low ≡ get_or (low_rows hash s t p 0 rows) r [] = el ∙ ap (λ n. low_row hash p n x) at ∙ ap (low_row hash p (r * 2 ^ s + t)) old ∙ sym (low_at hash s t p rows r lt) in
-      let h : high ≡ get_or (high_rows hash s t p 0 rows) r [] = eh ∙ ap (λ n. high_row hash p n x) at ∙ ap (high_row hash p (r * 2 ^ s + t)) old ∙ sym (high_at hash s t p rows r lt) in
-      wrote ∙ ap (λ ys. set ys r low ++ high ∷ []) is ∙ ap (λ y. set (split_to r) r y ++ high ∷ []) l ∙ ap (λ y. set (split_to r) r (get_or (low_rows hash s t p 0 rows) r []) ++ y ∷ []) h
-      ∙ half_step (low_rows hash s t p 0 rows) rows (high_rows hash s t p 0 rows) r [] (length-lows hash s t p rows) (length-highs hash s t p rows) lt
+    high_front : r ≤ length rows → length (front highs (free_rows rows) r) ≡ length rows
+    high_front le = length-front highs (free_rows rows) r high_long (subst (λ n. r ≤ n) (sym (length-free rows)) le) ∙ length-free rows
 
-  pub split_done : (items : List (List (Slot V))) (r : ℕ) → items ≡ split_to r → r ≡ length rows → items ≡ split_rows hash s t p rows
-  unfolding split_rows
-  split_done items r is e = is ∙ half_done (low_rows hash s t p 0 rows) rows (high_rows hash s t p 0 rows) r (length-lows hash s t p rows) (length-highs hash s t p rows) e
+    pub length-split_to : r ≤ length rows → length now ≡ 2 * length rows
+    length-split_to le =
+        let both = ap length is ∙ length-append (front lows (free_rows rows) r) (front highs (free_rows rows) r) in
+        let low = low_front le in
+        let high = high_front le in
+        omega arith
+
+    module _ (lt : r < length rows) where
+      inside : r < length (free_rows rows)
+      inside = subst (λ n. r < n) (sym (length-free rows)) lt
+
+      -- the two rows that row r is moved to are free
+      pub low_free : get_or now r [] ≡ replicate 4 None
+      low_free =
+          ap (λ ys. get_or ys r []) is
+          ∙ get_or_append_left (front lows (free_rows rows) r) (front highs (free_rows rows) r) [] r (subst (λ n. r < n) (sym (low_front (omega arith))) lt)
+          ∙ front_at lows (free_rows rows) r [] low_long inside ∙ free_at rows r lt
+
+      pub high_free : get_or now (length rows + r) [] ≡ replicate 4 None
+      high_free =
+          let back : length rows + r - length rows ≡ r = omega arith in
+          ap (λ ys. get_or ys (length rows + r) []) is
+          ∙ get_or-append_right (front lows (free_rows rows) r) (front highs (free_rows rows) r) (length rows) (length rows + r) [] (low_front (omega arith)) (omega arith)
+          ∙ ap (λ n. get_or (front highs (free_rows rows) r) n []) back
+          ∙ front_at highs (free_rows rows) r [] high_long inside ∙ free_at rows r lt
+
+      -- row r is moved
+      pub split_step : (after : List (List (Slot V))) (b : ℕ) (row : List (Slot V)) → b ≡ r * 2 ^ s + t → row ≡ get_or rows r []
+          → after ≡ set (set now r (low_row hash p b row)) (length rows + r) (high_row hash p b row) → after ≡ split_to (r + 1)
+      split_step after b row at read wrote =
+          let low : low_row hash p b row ≡ get_or lows r [] = ap (λ n. low_row hash p n row) at ∙ ap (low_row hash p (r * 2 ^ s + t)) read ∙ sym (low_at hash s t p rows r lt) in
+          let high : high_row hash p b row ≡ get_or highs r [] = ap (λ n. high_row hash p n row) at ∙ ap (high_row hash p (r * 2 ^ s + t)) read ∙ sym (high_at hash s t p rows r lt) in
+          let back : length rows + r - length rows ≡ r = omega arith in
+          wrote
+          ∙ (λ j. set (set (is j) r (low j)) (length rows + r) (high j))
+          ∙ ap (λ ys. set ys (length rows + r) (get_or highs r []))
+          (set-append_left (front lows (free_rows rows) r) (front highs (free_rows rows) r) r (get_or lows r []) (subst (λ n. r < n) (sym (low_front (omega arith))) lt)
+          ∙ ap (λ ys. ys ++ front highs (free_rows rows) r) (front_step lows (free_rows rows) r [] low_long inside))
+          ∙ set-append_right (front lows (free_rows rows) (r + 1)) (front highs (free_rows rows) r) (length rows) (length rows + r) (get_or highs r [])
+          (length-front lows (free_rows rows) (r + 1) low_long (omega (arith, inside)) ∙ length-free rows) (omega arith)
+          ∙ ap (λ n. front lows (free_rows rows) (r + 1) ++ set (front highs (free_rows rows) r) n (get_or highs r [])) back
+          ∙ ap (λ ys. front lows (free_rows rows) (r + 1) ++ ys) (front_step highs (free_rows rows) r [] high_long inside)
+
+    pub split_done : r ≡ length rows → now ≡ split_rows hash s t p rows
+    unfolding split_rows
+    split_done all =
+        let end : r ≡ length (free_rows rows) = all ∙ sym (length-free rows) in
+        is ∙ (λ j. front_done lows (free_rows rows) r low_long end j ++ front_done highs (free_rows rows) r high_long end j)

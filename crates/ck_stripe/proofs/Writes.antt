@@ -6,7 +6,7 @@ use Rattle.std.proofs.Math.Pow.{pow_mono}
 use Rattle.std.proofs.lemmas.Nat.{pow_pos, div_below}
 use Rattle.std.proofs.lemmas.Bool.{true≢false}
 use Rattle.std.proofs.lemmas.Option.{none-some}
-use Rattle.std.proofs.lemmas.List.{length-append, length-set, length-replicate, get_or_read, get_or-set_same}
+use Rattle.std.proofs.lemmas.List.{length-append, length-set, length-replicate}
 use Rattle.std.proofs.lemmas.List.Elements.{All-set, All-replicate}
 use Rattle.ck_model.specs.declared.contents.Content.{Content}
 use Rattle.ck_model.specs.Map.{Name}
@@ -132,28 +132,17 @@ module _ {V : Type 0} where
     here : bucket_of now b ≡ row_at t.content.rows r
     here = ap (row_at now.content.rows) (sym at) ∙ ap (λ (w : StripeState V). row_at w.content.rows r) (now_stored hash t now kept is settled)
 
-    -- it reads the bucket
-    pub row_read : (row : List (Slot V)) → row ≡ get_or t.content.rows r row → row ≡ bucket_of now b
-    row_read row read = get_or_read t.content.rows r row below_stored read [] ∙ sym here
-
-    -- it writes the bucket
-    pub row_wrote : (row : List (Slot V)) → bucket_of (shown hash (state_from t.number t.s t.content.power (set t.content.rows r row) t.content.ledger t.settled t.room)) b ≡ row
-    row_wrote row =
-        let after : StripeState V = state_from t.number t.s t.content.power (set t.content.rows r row) t.content.ledger t.settled t.room in
-        let number : r ≡ b / 2 ^ t.s = at ∙ ap (λ (w : StripeState V). b / 2 ^ w.s) (now_stored hash t now kept is settled) in
-        ap (λ (w : StripeState V). bucket_of w b) (shown_settled hash after (stored_settled hash t now kept is settled))
-        ∙ ap (row_at after.content.rows) (sym number) ∙ get_or-set_same t.content.rows r row [] below_stored
-
     -- where it writes one slot, and follows it in the ledger, the fields stay consistent
-    pub slot_written : (i : ℕ) → i < 4 → (row after : List (Slot V)) → row ≡ get_or t.content.rows r row → (o : Slot V) → after ≡ set row i o
+    pub slot_written : (i : ℕ) → i < 4 → (o : Slot V) (row : List (Slot V)) → row ≡ set (row_at t.content.rows r) i o
         → (ledger : ℕ) → ledger + length (option_to_list (slot_at (bucket_of now b) i)) ≡ now.content.ledger + length (option_to_list o)
-        → IsConsistent hash (state_from t.number t.s t.content.power (set t.content.rows r after) ledger t.settled t.room)
-    slot_written i below row after read o wrote ledger counts =
+        → (rows : List (List (Slot V))) → rows ≡ set t.content.rows r row
+        → IsConsistent hash (state_from t.number t.s t.content.power rows ledger t.settled t.room)
+    slot_written i below o row wrote ledger counts rows all =
         let same : now ≡ t = now_stored hash t now kept is settled in
         let old = ap (λ (x : List (Slot V)). length (option_to_list (slot_at x i))) here in
         let entries = ap (λ (w : StripeState V). w.content.ledger) same in
-        consistent_written hash t (subst IsWellFormed same (formed_now hash t now kept is)) (stored_settled hash t now kept is settled) r i o after ledger below_stored below
-        (wrote ∙ ap (λ (x : List (Slot V)). set x i o) (row_read row read ∙ here)) (omega arith)
+        subst (λ (ys : List (List (Slot V))). IsConsistent hash (state_from t.number t.s t.content.power ys ledger t.settled t.room)) (sym all)
+        (consistent_written hash t (subst IsWellFormed same (formed_now hash t now kept is)) (stored_settled hash t now kept is settled) r i o row ledger below_stored below wrote (omega arith))
 
   shaped_empty : (s power : ℕ) → s ≤ power → IsShaped s (empty_content {V = V} s power)
   shaped_empty s power least = record {
@@ -170,11 +159,18 @@ module _ {V : Type 0} where
     late = λ f. absurd (true≢false f);
   }
 
-  -- fields that are as many free rows as there is memory for
-  pub opened : (number s power room : ℕ) (rows : List (List (Slot V))) → rows ≡ replicate (2 ^ (power - s)) (replicate 4 None) → room ≡ 2 ^ (power - s)
-      → state_from number s power rows 0 true room ≡ record { number = number; s = s; content = empty_content s power; settled = true; room = 2 ^ (power - s) }
-  opened number s power room rows free enough =
-      ap (λ (xs : List (List (Slot V))). state_from number s power xs 0 true room) free ∙ ap (λ n. state_from number s power (replicate (2 ^ (power - s)) (replicate 4 None)) 0 true n) enough
+  -- What a settled stripe stores once its rows are as many free ones.
+  module _ (hash : Name → ℕ) (t now : StripeState V) (kept : IsConsistent hash t) (is : shown hash t ≡ now) (settled : now.settled ≡ true)
+      (rows : List (List (Slot V))) (free : rows ≡ replicate (length t.content.rows) (replicate 4 None)) where
+    formed_stored : IsWellFormed t
+    formed_stored = subst IsWellFormed (now_stored hash t now kept is settled) (formed_now hash t now kept is)
+
+    emptied : (room : ℕ) → state_from t.number t.s t.content.power rows 0 t.settled room ≡ record { number = t.number; s = t.s; content = empty_content t.s t.content.power; settled = true; room = room }
+    emptied room = λ j. state_from t.number t.s t.content.power ((free ∙ ap (λ n. replicate n (replicate 4 None)) formed_stored.shaped.rows) j) 0 (stored_settled hash t now kept is settled j) room
+
+    pub consistent_emptied : (room : ℕ) → IsConsistent hash (state_from t.number t.s t.content.power rows 0 t.settled room)
+    consistent_emptied room = subst (IsConsistent hash) (sym (emptied room))
+        (consistent_empty hash t.s t.number t.content.power room formed_stored.many formed_stored.number formed_stored.shaped.least formed_stored.most)
 
   -- an empty content is sound
   pub sound_empty : (k : Layout) (t s power : ℕ) → k.s ≡ s → t < 2 ^ s → s ≤ power → power ≤ k.max → IsSound {V = V} k t (empty_content s power)

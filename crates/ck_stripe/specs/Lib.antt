@@ -1,3 +1,4 @@
 pub mod Doubling
 pub mod Stripe
+pub mod Next
 pub mod Laws

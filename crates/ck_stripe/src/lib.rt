@@ -2,6 +2,8 @@
 //! first and split late.
 #![tactic(auto)]
 
+mod crossings;
+mod next;
 mod stripe;
 mod stripe_laws;
 

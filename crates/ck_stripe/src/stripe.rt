@@ -1,49 +1,58 @@
 //! One stripe of the table. A doubling only raises the power, and the entries are moved by whoever
 //! looks into the stripe next, so that a table doubles without going through its entries.
-ghost use Rattle.std.specs.Prelude.{◌≡◌, ◌≤◌, ◌<◌, ◌+◌, ◌-◌, ◌*◌, ◌/◌, ◌^◌, ℕ, true, false, Some, None, IsSome, IfOk, OnOk, OnErr, ◌++◌, length, map, max, vec_len, vec_capacity};
+ghost use Rattle.std.specs.Prelude.{◌≡◌, ◌≤◌, ◌<◌, ◌+◌, ◌-◌, ◌*◌, ◌/◌, ◌^◌, ℕ, true, false, Some, None, IsSome, IfSome, IfNone, IfOk, OnOk, OnErr, ◌++◌, length, map, flat_map, max, replicate, option_map, option_copied, vec_len, vec_capacity};
 ghost use Rattle.std.specs.List.Sorted.{IsPermutation};
 ghost use Rattle.ck_model.specs.Arithmetic.{partial_of};
 ghost use Rattle.ck_model.specs.Map.{named};
-ghost use Rattle.ck_model.specs.Slots.{slot_at};
+ghost use Rattle.ck_model.specs.Slots.{slot_at, taken_in, IsFull};
 ghost use Rattle.ck_model.specs.Contents.{Layout, pairs_in, IsSound};
-ghost use Rattle.ck_bucket.specs.Bucket.{ReplacesValue, ChangesValue, ClonesAreEqual};
+ghost use Rattle.ck_model.specs.Paths.{partial_in};
+ghost use Rattle.ck_bucket.specs.Bucket.{HasName, LacksName, ReplacesValue, ChangesValue, ClonesAreEqual};
 ghost use Rattle.ck_stripe.specs.Doubling.{split_rows, doubled_content, SendsEach};
 ghost use Rattle.ck_stripe.specs.Stripe.{HasBucket, bucket_of, with_bucket, with_slot, empty_content, IsWellFormed, IsReserved};
 
-use ck_bucket::Bucket;
-use ck_key::TableKey;
+use crate::next::Next;
+use ck_bucket::Rows;
+use ck_key::{NumKey, TableKey};
 use std::alloc::{AllocError, Global};
 use std::marker::Model;
+use std::mem;
+
+// A stripe has at most so many buckets.
+const MOST_ROWS: usize = 1 << 26;
 
 /// Stripe `number` of 2^s: the buckets `b` with `b mod 2^s` its number, in a table of 2^power
 /// buckets. Bucket `b` is row `b / 2^s`.
 ///
-/// It has 56 bytes, so that an optional one is as long as a line of a cache, and what a look reads
-/// comes first.
-#[derive(Drop)]
+/// It has 56 bytes, so that an optional one is as long as a line of a cache.
 pub struct Stripe<K: TableKey, V> {
     power: u32,
     s: u32,
     number: u32,
-    settled: bool,
-    // Until a doubled stripe is settled, these are the buckets of the power below.
-    buckets: Vec<Bucket<K, V>>,
     // The number of entries.
-    ledger: u64,
-    padding: u64,
+    ledger: u32,
+    // Until a doubled stripe is settled, these are the buckets of the power below.
+    rows: Rows<K, V>,
+    next: Next<K, V>,
+    heap: Global,
 }
 
+const _: () = prove!(mem::size_of::<Stripe<NumKey, u64>>() == 56);
+
+const _: () = prove!(mem::size_of::<Option<Stripe<NumKey, u64>>>() == 64);
+
 impl<K: TableKey, V> Model for Stripe<K, V> {
-    ghost use Rattle.std.specs.Prelude.{vec_capacity};
-    ghost use Rattle.ck_stripe.specs.Stripe.{StripeState, state_from, shown, IsConsistent};
+    ghost use Rattle.std.specs.Prelude.{length};
+    ghost use Rattle.ck_stripe.specs.Stripe.{StripeState, shown, IsConsistent};
+    ghost use Rattle.ck_stripe.specs.Next.{stored_from, IsFree};
 
     ghost Value = { StripeState V };
 
-    ghost view = { λ t. shown K.hash (state_from t.number t.s t.power t.buckets.items t.ledger
-        t.settled (vec_capacity t.buckets)) };
+    ghost view = { λ t. shown K.hash (stored_from t.number t.s t.power t.rows t.ledger t.next) };
 
-    ghost invariant = { λ t. IsConsistent K.hash (state_from t.number t.s t.power t.buckets.items
-        t.ledger t.settled (vec_capacity t.buckets)) };
+    ghost invariant = { λ t. IsConsistent K.hash
+        (stored_from t.number t.s t.power t.rows t.ledger t.next)
+        × IsFree (length t.rows) t.next };
 }
 
 impl<K: TableKey + Drop, V: Drop> Stripe<K, V> {
@@ -64,31 +73,75 @@ impl<K: TableKey + Drop, V: Drop> Stripe<K, V> {
         ensures sound { IfOk result
             (λ stripe. (k : Layout) → k.s ≡ s → power ≤ k.max → IsSound k number stripe.content) }
     {
-        let rows = 1usize << (power - s);
-        let mut buckets = Vec::with_capacity(alloc, rows)?;
-        for _ in 0..rows {
-            buckets.push_reserved(Bucket::new());
-        }
+        let rows = Rows::open(alloc, 1 << (power - s))?;
         Ok(Stripe {
             power,
             s,
             number,
-            settled: true,
-            buckets,
             ledger: 0,
-            padding: 0,
+            rows,
+            next: Next::Absent,
+            heap: alloc,
         })
     }
 
-    /// Bucket `b` of the table.
-    pub fn bucket(&self, b: u64) -> &Bucket<K, V>
+    /// The slot of bucket `b` with this key, whose partial the caller has at hand; `None` where no
+    /// slot of it has the key.
+    #[inline(always)]
+    pub fn look(&self, b: u64, key: &K, partial: u8) -> Option<usize>
         requires settled { self.now.settled ≡ true }
         requires own { HasBucket self.now b }
-        ensures value { result.now ≡ bucket_of self.now b }
+        requires partial { partial ≡ partial_of (K.hash (K.name key.now)) }
+        ensures below { IfSome result (λ i. i < 4) }
+        ensures found { IfSome result (HasName (bucket_of self.now b) (K.name key.now)) }
+        ensures absent { IfNone result (LacksName (bucket_of self.now b) (K.name key.now)) }
         ensures formed { IsWellFormed self.now }
     {
         let row = self.row(b);
-        &self.buckets[row]
+        self.rows.look(row, key, partial)
+    }
+
+    /// The lowest free slot of bucket `b`; `None` where it is full.
+    #[inline(always)]
+    pub fn free(&self, b: u64) -> Option<usize>
+        requires settled { self.now.settled ≡ true }
+        requires own { HasBucket self.now b }
+        ensures below { IfSome result (λ i. i < 4) }
+        ensures found { IfSome result (λ i. slot_at (bucket_of self.now b) i ≡ None) }
+        ensures lowest { IfSome result (λ i. (j : ℕ) → j < i →
+            IsSome (slot_at (bucket_of self.now b) j)) }
+        ensures full { IfNone result (IsFull (bucket_of self.now b)) }
+        ensures formed { IsWellFormed self.now }
+    {
+        let row = self.row(b);
+        self.rows.free(row)
+    }
+
+    /// The partial of each slot of bucket `b` that is not free.
+    #[inline(always)]
+    pub fn sketch(&self, b: u64) -> [Option<u8>; 4]
+        requires settled { self.now.settled ≡ true }
+        requires own { HasBucket self.now b }
+        ensures value { result ≡ map (partial_in K.hash) (bucket_of self.now b) }
+        ensures four { length (bucket_of self.now b) ≡ 4 }
+        ensures formed { IsWellFormed self.now }
+    {
+        let row = self.row(b);
+        self.rows.sketch(row)
+    }
+
+    /// The key and value in a slot of bucket `b`; `None` where it is free.
+    #[inline(always)]
+    pub fn get(&self, b: u64, slot: usize) -> Option<&(K, V)>
+        requires settled { self.now.settled ≡ true }
+        requires own { HasBucket self.now b }
+        requires below { slot < 4 }
+        ensures value { option_map (named K.name) (option_copied result)
+            ≡ slot_at (bucket_of self.now b) slot }
+        ensures formed { IsWellFormed self.now }
+    {
+        let row = self.row(b);
+        self.rows.get(row, slot)
     }
 
     /// Puts a key and its value into a free slot of bucket `b`. `partial` is that of the key.
@@ -103,7 +156,7 @@ impl<K: TableKey + Drop, V: Drop> Stripe<K, V> {
         ensures rest { self.new ≡ record self.old { content = self.new.content } }
     {
         let row = self.row(b);
-        self.buckets[row].put(slot, partial, key, value);
+        self.rows.put(row, slot, partial, key, value);
         self.ledger += 1;
     }
 
@@ -119,7 +172,7 @@ impl<K: TableKey + Drop, V: Drop> Stripe<K, V> {
         ensures rest { self.new ≡ record self.old { content = self.new.content } }
     {
         let row = self.row(b);
-        let entry = self.buckets[row].take(slot);
+        let entry = self.rows.take(row, slot);
         self.ledger -= 1;
         entry
     }
@@ -137,7 +190,7 @@ impl<K: TableKey + Drop, V: Drop> Stripe<K, V> {
         ensures rest { self.new ≡ record self.old { content = self.new.content } }
     {
         let row = self.row(b);
-        self.buckets[row].replace(slot, value)
+        self.rows.replace(row, slot, value)
     }
 
     /// Makes of the value in a slot of bucket `b` what the closure makes of it, in its place.
@@ -154,10 +207,11 @@ impl<K: TableKey + Drop, V: Drop> Stripe<K, V> {
         ensures rest { self.new ≡ record self.old { content = self.new.content } }
     {
         let row = self.row(b);
-        self.buckets[row].change(slot, f);
+        self.rows.change(row, slot, f);
     }
 
     // The row of bucket `b`.
+    #[inline(always)]
     fn row(&self, b: u64) -> usize
         requires settled { self.now.settled ≡ true }
         requires own { HasBucket self.now b }
@@ -198,11 +252,12 @@ impl<K: TableKey + Drop, V: Drop> Stripe<K, V> {
         ensures pairs { result ≡ length (pairs_in self.now.content) }
         ensures formed { IsWellFormed self.now }
     {
-        self.ledger
+        self.ledger as u64
     }
 
-    /// Takes the memory for a doubling, by one request at most, and by none where it has the
-    /// memory. A refused request leaves the stripe as it was.
+    /// Takes the memory for a doubling, where the stripe has none yet. It is refused only for want
+    /// of memory, or where the stripe would have more than 2^26 buckets, and then the stripe stays
+    /// as it was.
     pub fn reserve_double(&mut self) -> Result<(), AllocError>
         requires settled { self.old.settled ≡ true }
         ensures same { self.new ≡ record self.old { room = self.new.room } }
@@ -213,8 +268,16 @@ impl<K: TableKey + Drop, V: Drop> Stripe<K, V> {
         ensures due { OnErr result (self.old.room < 2 * length self.old.content.rows) }
         ensures kept { OnErr result (self.new ≡ self.old) }
     {
-        let more = self.buckets.len();
-        self.buckets.reserve_exact(more)
+        if self.next.is_reserved() {
+            return Ok(());
+        }
+        let count = 2usize << (self.power - self.s);
+        if count > MOST_ROWS {
+            return Err(AllocError);
+        }
+        let rows = Rows::open(self.heap, count)?;
+        self.next.put(Next::Reserved(rows));
+        Ok(())
     }
 
     /// Raises the power by one. The stripe then shows its entries where the doubling sends them:
@@ -232,7 +295,8 @@ impl<K: TableKey + Drop, V: Drop> Stripe<K, V> {
             self.new.content }
     {
         self.power += 1;
-        self.settled = false;
+        let rows = self.next.take();
+        self.next.put(Next::Doubled(rows));
     }
 
     /// Whether no doubling is left to be carried out by `settle`.
@@ -240,7 +304,7 @@ impl<K: TableKey + Drop, V: Drop> Stripe<K, V> {
         ensures value { result ≡ self.now.settled }
         ensures formed { IsWellFormed self.now }
     {
-        self.settled
+        self.next.is_settled()
     }
 
     /// Carries out a doubling, in the memory that was reserved for it; a settled stripe stays as it
@@ -248,10 +312,21 @@ impl<K: TableKey + Drop, V: Drop> Stripe<K, V> {
     pub fn settle(&mut self)
         ensures { self.new ≡ record self.old { settled = true } }
     {
-        if !self.settled {
-            split_all(&mut self.buckets, self.s, self.number, self.power - 1);
-            self.settled = true;
+        if !self.next.is_settled() {
+            let doubled = self.next.take();
+            split_all(&mut self.rows, doubled, self.s, self.number, self.power - 1);
         }
+    }
+
+    /// Drops all its entries. It keeps its buckets and their memory.
+    pub fn clear(&mut self)
+        requires settled { self.old.settled ≡ true }
+        ensures content { self.new.content ≡ empty_content self.old.s self.old.content.power }
+        ensures rest { self.new ≡ record self.old { content = self.new.content } }
+    {
+        let count = self.next.count(self.s, self.power);
+        empty_all(&mut self.rows, count);
+        self.ledger = 0;
     }
 
     /// Pushes its pairs, in the order of rows and slots, into reserved room for them and for four
@@ -265,17 +340,36 @@ impl<K: TableKey + Drop, V: Drop> Stripe<K, V> {
         ensures capacity { vec_capacity pairs.new ≡ vec_capacity pairs.old }
     {
         let Stripe {
-            power: _,
-            s: _,
+            power,
+            s,
             number: _,
-            settled: _,
-            buckets,
             ledger: _,
-            padding: _,
+            mut rows,
+            next,
+            heap: _,
         } = self;
-        for bucket in buckets {
-            bucket.pour_reserved(pairs);
-        }
+        let count = next.count(s, power);
+        pour_all(&mut rows, count, pairs);
+        rows.close(count);
+        next.close(count);
+    }
+}
+
+impl<K: TableKey + Drop, V: Drop> Drop for Stripe<K, V> {
+    fn drop(self) {
+        let Stripe {
+            power,
+            s,
+            number: _,
+            ledger: _,
+            mut rows,
+            next,
+            heap: _,
+        } = self;
+        let count = next.count(s, power);
+        empty_all(&mut rows, count);
+        rows.close(count);
+        next.close(count);
     }
 }
 
@@ -292,36 +386,82 @@ impl<K: TableKey + Clone, V: Clone> Stripe<K, V> {
             ≡ map (named K.name) pairs.old.items ++ pairs_in self.now.content) }
         ensures capacity { vec_capacity pairs.new ≡ vec_capacity pairs.old }
     {
-        for bucket in &self.buckets {
-            bucket.clone_reserved(pairs)?;
-        }
-        Ok(())
+        let count = self.next.count(self.s, self.power);
+        clone_all(&self.rows, count, pairs)
     }
 }
 
-// Splits each bucket in place, and appends what leaves it: the rows of stripe `number` where a
-// table of 2^p buckets doubles. Few calls find a doubling, so the others don't make room for it.
+// Moves each row of stripe `number` to where it stands once a table of 2^p buckets has doubled, and
+// frees the memory of the old rows. Few calls find a doubling: the others don't make room for it.
 #[cold]
 #[inline(never)]
-fn split_all<K: TableKey + Drop, V: Drop>(
-    buckets: &mut Vec<Bucket<K, V>>,
+fn split_all<K: TableKey, V>(
+    rows: &mut Rows<K, V>,
+    mut doubled: Rows<K, V>,
     s: u32,
     number: u32,
     p: u32,
 )
     requires s { s ≤ 10 }
     requires number { number < 2 ^ s }
+    requires least { s ≤ p }
     requires power { p < 26 }
-    requires few { length buckets.old.items * 2 ^ s ≤ 2 ^ 26 }
-    requires room { 2 * length buckets.old.items ≤ vec_capacity buckets.old }
-    ensures rows { buckets.new.items ≡ split_rows K.hash s number p buckets.old.items }
-    ensures room { vec_capacity buckets.new ≡ vec_capacity buckets.old }
+    requires count { length rows.old ≡ 2 ^ (p - s) }
+    requires free { doubled ≡ replicate (2 * length rows.old) (replicate 4 None) }
+    ensures { rows.new ≡ split_rows K.hash s number p rows.old }
 {
-    let rows = buckets.len();
+    let count = 1usize << (p - s);
     let mut b = number as u64;
-    for r in 0..rows {
-        let high = buckets[r].split(p, b);
-        buckets.push_reserved(high);
+    for r in 0..count {
+        rows.split_row(&mut doubled, r, r, count + r, p, b);
         b += 1 << s;
     }
+    mem::replace(rows, doubled).close(count);
+}
+
+// Drops what is in each of so many rows.
+fn empty_all<K: TableKey + Drop, V: Drop>(rows: &mut Rows<K, V>, count: usize)
+    requires { count ≡ length rows.old }
+    ensures { rows.new ≡ replicate count (replicate 4 None) }
+{
+    for row in 0..count {
+        rows.clear_row(row);
+    }
+}
+
+// Pushes the pairs of so many rows, in their order, into reserved room for them and for four more.
+fn pour_all<K: TableKey, V>(rows: &mut Rows<K, V>, count: usize, pairs: &mut Vec<(K, V)>)
+    requires count { count ≡ length rows.old }
+    requires room { vec_len pairs.old + length (flat_map taken_in rows.old) + 4
+        ≤ vec_capacity pairs.old }
+    ensures rows { rows.new ≡ replicate count (replicate 4 None) }
+    ensures pairs { map (named K.name) pairs.new.items
+        ≡ map (named K.name) pairs.old.items ++ flat_map taken_in rows.old }
+    ensures capacity { vec_capacity pairs.new ≡ vec_capacity pairs.old }
+{
+    for row in 0..count {
+        rows.pour_row_reserved(row, pairs);
+    }
+}
+
+// Pushes clones of the pairs of so many rows, as `pour_all` does. Where there is no memory for a
+// clone, the pairs before it were pushed.
+fn clone_all<K: TableKey + Clone, V: Clone>(
+    rows: &Rows<K, V>,
+    count: usize,
+    pairs: &mut Vec<(K, V)>,
+) -> Result<(), AllocError>
+    requires keys { ClonesAreEqual K.is_clone }
+    requires values { ClonesAreEqual V.is_clone }
+    requires count { count ≡ length rows.now }
+    requires room { vec_len pairs.old + length (flat_map taken_in rows.now) + 4
+        ≤ vec_capacity pairs.old }
+    ensures pairs { OnOk result (map (named K.name) pairs.new.items
+        ≡ map (named K.name) pairs.old.items ++ flat_map taken_in rows.now) }
+    ensures capacity { vec_capacity pairs.new ≡ vec_capacity pairs.old }
+{
+    for row in 0..count {
+        rows.clone_row_reserved(row, pairs)?;
+    }
+    Ok(())
 }

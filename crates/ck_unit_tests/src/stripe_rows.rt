@@ -1,5 +1,4 @@
 //! Doublings that were worked out by hand.
-use ck_bucket::Bucket;
 use ck_key::{KeyHash, NumKey};
 use ck_stripe::Stripe;
 use std::alloc::Global;
@@ -27,7 +26,7 @@ fn place(rt: &impl Abort, stripe: &mut NumStripe, entry: Entry) {
     assert!(rt; stripe.settled());
     assert!(rt; stripe.s() == 1 && stripe.number() == 1 && stripe.power() == 2);
     assert!(rt; b < 4 && b % 2 == 1 && slot < 4);
-    assert!(rt; stripe.bucket(b).get(slot).is_none());
+    assert!(rt; stripe.get(b, slot).is_none());
     let partial = KeyHash::of(&NumKey(key)).partial;
     stripe.place(b, slot, partial, NumKey(key), key);
 }
@@ -46,11 +45,11 @@ fn double(rt: &impl Abort, stripe: &mut NumStripe) -> Result<(), Fail> {
     Ok(())
 }
 
-fn key_in(bucket: &Bucket<NumKey, u64>, slot: usize) -> Option<u64> {
-    if slot >= 4 {
-        return None;
-    }
-    match bucket.get(slot) {
+fn key_in(rt: &impl Abort, stripe: &NumStripe, b: u64, slot: usize) -> Option<u64> {
+    assert!(rt; stripe.settled());
+    assert!(rt; stripe.s() == 1 && stripe.number() == 1 && stripe.power() == 3);
+    assert!(rt; b < 8 && b % 2 == 1 && slot < 4);
+    match stripe.get(b, slot) {
         Some((key, _)) => Some(key.0),
         None => None,
     }
@@ -58,15 +57,11 @@ fn key_in(bucket: &Bucket<NumKey, u64>, slot: usize) -> Option<u64> {
 
 /// The keys in the slots of a bucket of the doubled stripe.
 fn keys(rt: &impl Abort, stripe: &NumStripe, b: u64) -> [Option<u64>; 4] {
-    assert!(rt; stripe.settled());
-    assert!(rt; stripe.s() == 1 && stripe.number() == 1 && stripe.power() == 3);
-    assert!(rt; b < 8 && b % 2 == 1);
-    let bucket = stripe.bucket(b);
     [
-        key_in(bucket, 0),
-        key_in(bucket, 1),
-        key_in(bucket, 2),
-        key_in(bucket, 3),
+        key_in(rt, stripe, b, 0),
+        key_in(rt, stripe, b, 1),
+        key_in(rt, stripe, b, 2),
+        key_in(rt, stripe, b, 3),
     ]
 }
 
@@ -74,7 +69,7 @@ fn keys(rt: &impl Abort, stripe: &NumStripe, b: u64) -> [Option<u64>; 4] {
 fn remove_last(rt: &impl Abort, stripe: &mut NumStripe) {
     assert!(rt; stripe.settled());
     assert!(rt; stripe.s() == 1 && stripe.number() == 1 && stripe.power() == 3);
-    assert!(rt; stripe.bucket(7).get(3).is_some());
+    assert!(rt; stripe.get(7, 3).is_some());
     let key = stripe.replace(7, 3, 10);
     assert!(rt; stripe.remove(7, 3) == (NumKey(key), 10));
     assert!(rt; stripe.len() == 4);

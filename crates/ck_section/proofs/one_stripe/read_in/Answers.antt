@@ -6,6 +6,6 @@ pub returns : goal.returns
 returns g c = record {
   name = _;
   value = _;
-  there = ap (λ s. slot_at s c.args.slot) (sym c.bucket.ensures.value) ∙ sym c.in-Some.ensures.value;
+  there = sym c.in-Some.ensures.value;
   says = (_, c.f.ensures, refl);
 }

@@ -1,23 +1,20 @@
-use Rattle.std.proofs.Common.{List, Some, sym, ap, subst, arith}
-use Rattle.std.specs.Prelude.{vec_capacity}
-use Rattle.ck_model.specs.Slots.{Slot, slot_at}
-use Rattle.ck_bucket.specs.Bucket.{ReplacesValue}
-use Rattle.ck_stripe.specs.Stripe.{StripeState, bucket_of, state_from}
-use Rattle.ck_stripe.proofs.Writes.{one_full, row_read, row_wrote, slot_written}
+use Rattle.std.proofs.Common.{Some, ap, ◌∙◌, length, arith}
+use Rattle.std.proofs.lemmas.List.{length-set}
+use Rattle.ck_model.specs.Slots.{slot_at}
+use Rattle.ck_model.specs.Contents.{row_at}
+use Rattle.ck_stripe.specs.Stripe.{StripeState, bucket_of}
+use Rattle.ck_stripe.specs.Next.{stored_from}
+use Rattle.ck_stripe.proofs.Stored.{free_kept}
+use Rattle.ck_stripe.proofs.Writes.{one_full, slot_written}
 use Rattle.ck_stripe.proofs.stripe.Stripe.replace.Goals as goal
 
 pub invariant_of-self : goal.invariant_of-self
 invariant_of-self g c =
-    let stored : StripeState g.row.V.Denot = state_from c.self.inside.number c.self.inside.s c.self.inside.power c.self.inside.buckets.items c.self.inside.ledger c.self.inside.settled (vec_capacity c.self.inside.buckets) in
+    let stored : StripeState g.row.V.Denot = stored_from c.self.inside.number c.self.inside.s c.self.inside.power c.self.inside.rows c.self.inside.ledger c.self.inside.next in
     let entries = ap (λ (w : StripeState g.row.V.Denot). w.content.ledger) c.self.view_is in
-    let one = one_full (slot_at (bucket_of c.args.self.now c.args.b) c.args.slot) c.requires.full in
-    slot_written g.K.TableKey.hash stored c.args.self.now c.self.invariant c.self.view_is c.requires.settled c.args.b c.row-row.result c.row-row.ensures.value c.row-row.ensures.below c.args.slot c.requires.below c.index_mut.result.now
-    c.replace.new.self c.index_mut.ensures.value (Some (c.replace.ensures.name, c.args.value)) c.replace.ensures.is c.self.inside.ledger (omega arith)
-
-pub returns-clause-entry : goal.returns-clause-entry
-returns-clause-entry g c =
-    let stored : StripeState g.row.V.Denot = state_from c.self.inside.number c.self.inside.s c.self.inside.power c.self.inside.buckets.items c.self.inside.ledger c.self.inside.settled (vec_capacity c.self.inside.buckets) in
-    let read = row_read g.K.TableKey.hash stored c.args.self.now c.self.invariant c.self.view_is c.requires.settled c.args.b c.row-row.result c.row-row.ensures.value c.row-row.ensures.below c.index_mut.result.now c.index_mut.ensures.value in
-    let wrote = row_wrote g.K.TableKey.hash stored c.args.self.now c.self.invariant c.self.view_is c.requires.settled c.args.b c.row-row.result c.row-row.ensures.value c.row-row.ensures.below c.replace.new.self in
-    subst (λ (row : List (Slot g.row.V.Denot)). ReplacesValue (bucket_of c.args.self.now c.args.b) row c.args.slot c.args.value c.replace.result) (sym wrote)
-    (subst (λ (row : List (Slot g.row.V.Denot)). ReplacesValue row c.replace.new.self c.args.slot c.args.value c.replace.result) read c.replace.ensures)
+    let one = one_full (slot_at (bucket_of c.args.self.now c.args.b) c.args.slot) c.requires.full in (
+      slot_written g.K.TableKey.hash stored c.args.self.now c.self.invariant.0 c.self.view_is c.requires.settled c.args.b c.row-row.result c.row-row.ensures.value c.row-row.ensures.below c.args.slot c.requires.below
+          (Some (c.replace.ensures.entry.name, c.args.value)) (row_at c.replace.new.self c.row-row.result) c.replace.ensures.entry.is
+          c.self.inside.ledger (omega arith) c.replace.new.self c.replace.ensures.rest,
+      free_kept c.self.inside.next (length c.self.inside.rows) (length c.replace.new.self) (ap length c.replace.ensures.rest ∙ length-set c.self.inside.rows c.row-row.result _) c.self.invariant.1,
+    )

@@ -1,0 +1,60 @@
+-- What a stripe stores beside its rows for the next doubling.
+use Rattle.std.proofs.Common.{◌≡◌, ℕ, true, false, refl, sym, ◌∙◌, ap, subst, ◌+◌, ◌-◌, ◌*◌, ◌^◌, ◌<◌, ◌≤◌, List, Some, length, arith}
+use Rattle.std.proofs.Math.Pow.{pow_mono}
+use Rattle.std.proofs.lemmas.Bool.{true≢false}
+use Rattle.std.proofs.lemmas.Option.{none-some, same_Some}
+use Rattle.ck_model.specs.Map.{Name}
+use Rattle.ck_model.specs.Slots.{Slot}
+use Rattle.ck_stripe.specs.declared.next.Next.{Next}
+use Rattle.ck_stripe.specs.declared.next.Next.TheVariants.{Absent, Reserved, Doubled}
+use Rattle.ck_stripe.specs.Stripe.{state_from, IsConsistent}
+use Rattle.ck_stripe.specs.Next.{is_settled, count_of, rows_of, IsFree, stored_from}
+use Rattle.ck_stripe.proofs.Splits.{length-split}
+use Rattle.ck_stripe.proofs.Doubled.{twice_rows}
+use Rattle.ck_stripe.proofs.Fields.{raised}
+
+module _ {K V : Type 0} where
+  -- as many rows as before
+  pub free_kept : (next : Next K V) (n m : ℕ) → m ≡ n → IsFree n next → IsFree m next
+  free_kept next n m same free = subst (λ k. IsFree k next) (sym same) free
+
+  -- how many rows are stored
+  pub count_stored : (hash : Name → ℕ) (number s power : ℕ) (rows : List (List (Slot V))) (ledger : ℕ) (next : Next K V)
+      → IsConsistent hash (stored_from number s power rows ledger next) → count_of s power next ≡ length rows
+  count_stored hash number s power rows ledger Absent kept = sym kept.formed.shaped.rows
+  count_stored hash number s power rows ledger (Reserved more) kept = sym kept.formed.shaped.rows
+  count_stored hash number s power rows ledger (Doubled more) kept =
+      let below : s < power = (kept.late refl).0 in
+      let back : power - 1 + 1 ≡ power = omega arith in
+      let half : 2 * 2 ^ (power - 1 - s) ≡ 2 ^ (power - s) = twice_rows s (power - 1) (2 ^ (power - 1 - s)) (omega arith) refl ∙ ap (λ n. 2 ^ (n - s)) back in
+      let all = kept.formed.shaped.rows in
+      let long = length-split hash s number (power - 1) rows in
+      omega arith
+
+  pub few_stored : (hash : Name → ℕ) (number s power : ℕ) (rows : List (List (Slot V))) (ledger : ℕ) (next : Next K V)
+      → IsConsistent hash (stored_from number s power rows ledger next) → count_of s power next ≤ 2 ^ 26
+  few_stored hash number s power rows ledger Absent kept = let most = kept.formed.most in let below : power - s ≤ 26 = omega (arith, most) in pow_mono below
+  few_stored hash number s power rows ledger (Reserved more) kept = let most = kept.formed.most in let below : power - s ≤ 26 = omega (arith, most) in pow_mono below
+  few_stored hash number s power rows ledger (Doubled more) kept = let most = kept.formed.most in let below : power - 1 - s ≤ 26 = omega (arith, most) in pow_mono below
+
+  -- a doubling is reserved, and then due
+  module _ (hash : Name → ℕ) (number s power : ℕ) (rows : List (List (Slot V))) (ledger : ℕ) (more : List (List (Slot V))) where
+    pub raised_as : (next after : Next K V) → s ≤ power → is_settled next ≡ true → rows_of next ≡ Some more → after ≡ Doubled more
+        → stored_from number s (power + 1) rows ledger after ≡ raised hash (stored_from number s power rows ledger next)
+    raised_as Absent after le settled there is = absurd (none-some _ there)
+    raised_as (Reserved was) after le settled there is =
+        ap (λ (a : Next K V). stored_from number s (power + 1) rows ledger a) is
+        ∙ ap (λ n. state_from number s (power + 1) rows ledger false n) (sym (twice_rows s power (2 ^ (power - s)) le refl))
+    raised_as (Doubled was) after le settled there is = absurd (true≢false (sym settled))
+
+    pub raised_free : (n : ℕ) (next after : Next K V) → rows_of next ≡ Some more → after ≡ Doubled more → IsFree n next → IsFree n after
+    raised_free n Absent after there is free = absurd (none-some _ there)
+    raised_free n (Reserved was) after there is free = subst (IsFree n) (sym is) (sym (same_Some was more there) ∙ free)
+    raised_free n (Doubled was) after there is free = subst (IsFree n) (sym is) (sym (same_Some was more there) ∙ free)
+
+  -- until a doubled stripe is settled, it stores the rows of the power below
+  pub count_late : (hash : Name → ℕ) (number s power : ℕ) (rows : List (List (Slot V))) (ledger : ℕ) (next : Next K V)
+      → IsConsistent hash (stored_from number s power rows ledger next) → is_settled next ≡ false → length rows ≡ 2 ^ (power - 1 - s)
+  count_late hash number s power rows ledger Absent kept late = absurd (true≢false late)
+  count_late hash number s power rows ledger (Reserved more) kept late = absurd (true≢false late)
+  count_late hash number s power rows ledger (Doubled more) kept late = sym (count_stored hash number s power rows ledger (Doubled more) kept)
