@@ -40,9 +40,9 @@ impl<K: TableKey + Drop, V: Drop> Words<K, V> {
         self.settings
     }
 
-    // Shows proofs that the settings are in their ranges. It does nothing when the program runs.
+    /// Shows proofs that the settings are in their ranges. It does nothing when the program runs.
     #[inline(always)]
-    pub(crate) fn show_range(&self)
+    pub fn show_range(&self)
         ensures { AreInRange self.now.settings }
     {
         let _ = &self.settings;
