@@ -25,12 +25,12 @@ const KEYS: [u64; 8] = [15, 31, 47, 63, 12, 8, 4, 0];
 /// A key that has that bucket alone too.
 const NEXT: NumKey = NumKey(79);
 
-/// Room for the sixteen buckets of a stripe at power 5, of 104 bytes each, and for no more than
+/// Room for the sixteen buckets of a stripe at power 5, of 72 bytes each, and for no more than
 /// these.
-const AT_FIVE: usize = 1680;
+const AT_FIVE: usize = 1168;
 
 /// The same at power 6.
-const AT_SIX: usize = 3344;
+const AT_SIX: usize = 2320;
 
 /// Room for a list of eight pairs.
 const LIST: usize = 2048;
@@ -203,7 +203,6 @@ fn call_locked<'t>(
     caller: NumCaller<'t>,
     subject: Subject,
 ) -> (NumCaller<'t>, bool) {
-    let table = caller.table();
     let Ok(mut locked) = caller.lock() else {
         panic!(rt; "a table that was not locked");
     };
@@ -215,7 +214,7 @@ fn call_locked<'t>(
         }
     };
     go_on(rt, &mut locked, bound);
-    (table.caller(locked.unlock()), done)
+    (locked.unlock_caller(), done)
 }
 
 /// Makes the call, and says whether there was memory for it.

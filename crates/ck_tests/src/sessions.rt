@@ -20,10 +20,15 @@ enum Call {
     Find(u64),
     Contains(u64),
     Insert(u64, u64),
+    Assign(u64, u64),
+    /// By `upsert`: half of what it is bound to, or this value.
+    HalveOr(u64, u64),
     Update(u64, u64),
     /// By `update_fn`.
     Halve(u64),
     Erase(u64),
+    /// Answered by how many keys are left.
+    Clear,
     Len,
     IsEmpty,
 }
@@ -50,10 +55,35 @@ fn insert(locked: &mut NumLocked<'_>, key: u64, value: u64) -> Reply
     }
 }
 
+fn assign(locked: &mut NumLocked<'_>, key: u64, value: u64) -> Reply
+    ensures { locked.new.table ≡ locked.old.table }
+{
+    match locked.insert_or_assign(NumKey(key), value) {
+        Ok(old) => Reply::Was(old),
+        Err(Refused { key, value, why }) => Reply::Back(key.0, value, why),
+    }
+}
+
+fn halve_or(locked: &mut NumLocked<'_>, key: u64, value: u64) -> Reply
+    ensures { locked.new.table ≡ locked.old.table }
+{
+    match locked.upsert(NumKey(key), |value| value / 2, value) {
+        Ok(fresh) => Reply::Fresh(fresh),
+        Err(Refused { key, value, why }) => Reply::Back(key.0, value, why),
+    }
+}
+
 fn halve(locked: &mut NumLocked<'_>, key: u64) -> Reply
     ensures { locked.new.table ≡ locked.old.table }
 {
     Reply::Is(locked.update_fn(&NumKey(key), |value| value / 2))
+}
+
+fn clear(locked: &mut NumLocked<'_>) -> Reply
+    ensures { locked.new.table ≡ locked.old.table }
+{
+    locked.clear();
+    Reply::Count(locked.len())
 }
 
 /// Makes the call.
@@ -64,9 +94,12 @@ fn answer(locked: &mut NumLocked<'_>, call: Call) -> Reply
         Call::Find(key) => Reply::Was(locked.find(&NumKey(key)).copied()),
         Call::Contains(key) => Reply::Is(locked.contains(&NumKey(key))),
         Call::Insert(key, value) => insert(locked, key, value),
+        Call::Assign(key, value) => assign(locked, key, value),
+        Call::HalveOr(key, value) => halve_or(locked, key, value),
         Call::Update(key, value) => Reply::Was(locked.update(&NumKey(key), value)),
         Call::Halve(key) => halve(locked, key),
         Call::Erase(key) => Reply::Was(locked.erase(&NumKey(key))),
+        Call::Clear => clear(locked),
         Call::Len => Reply::Count(locked.len()),
         Call::IsEmpty => Reply::Is(locked.is_empty()),
     }
@@ -95,7 +128,7 @@ const MAY_GROW: Shape = Shape {
 /// same two buckets.
 const APART: u64 = 282_574_488_338_432;
 
-static SESSIONS: [Session; 4] = [
+static SESSIONS: [Session; 6] = [
     Session {
         what: "a bound key keeps its value",
         shape: MAY_GROW,
@@ -111,6 +144,19 @@ static SESSIONS: [Session; 4] = [
             (Call::Insert(1, 12), Reply::Fresh(true)),
         ],
         end: &[(NumKey(1), 12), (NumKey(2), 20)],
+        power: 2,
+    },
+    Session {
+        what: "a bound key is assigned another value",
+        shape: MAY_GROW,
+        calls: &[
+            (Call::Assign(1, 10), Reply::Was(None)),
+            (Call::Assign(1, 11), Reply::Was(Some(10))),
+            (Call::HalveOr(2, 20), Reply::Fresh(true)),
+            (Call::HalveOr(2, 21), Reply::Fresh(false)),
+            (Call::Len, Reply::Count(2)),
+        ],
+        end: &[(NumKey(1), 11), (NumKey(2), 10)],
         power: 2,
     },
     Session {
@@ -132,6 +178,36 @@ static SESSIONS: [Session; 4] = [
         power: 2,
     },
     Session {
+        what: "a cleared table has room for as many keys again",
+        shape: FOUR_BUCKETS,
+        calls: &[
+            (Call::Clear, Reply::Count(0)),
+            (Call::Insert(3, 30), Reply::Fresh(true)),
+            (Call::Insert(7, 70), Reply::Fresh(true)),
+            (Call::Insert(11, 110), Reply::Fresh(true)),
+            (Call::Insert(15, 150), Reply::Fresh(true)),
+            (Call::Insert(19, 190), Reply::Back(19, 190, Why::Full)),
+            (Call::Clear, Reply::Count(0)),
+            (Call::IsEmpty, Reply::Is(true)),
+            (Call::Find(3), Reply::Was(None)),
+            (Call::Contains(15), Reply::Is(false)),
+            (Call::Erase(7), Reply::Was(None)),
+            (Call::Insert(15, 151), Reply::Fresh(true)),
+            (Call::Insert(19, 191), Reply::Fresh(true)),
+            (Call::Insert(23, 230), Reply::Fresh(true)),
+            (Call::Insert(27, 270), Reply::Fresh(true)),
+            (Call::Insert(31, 310), Reply::Back(31, 310, Why::Full)),
+            (Call::Len, Reply::Count(4)),
+        ],
+        end: &[
+            (NumKey(15), 151),
+            (NumKey(19), 191),
+            (NumKey(23), 230),
+            (NumKey(27), 270),
+        ],
+        power: 2,
+    },
+    Session {
         what: "the one bucket of these keys is full, and the table may not grow",
         shape: FOUR_BUCKETS,
         calls: &[
@@ -140,14 +216,18 @@ static SESSIONS: [Session; 4] = [
             (Call::Insert(11, 110), Reply::Fresh(true)),
             (Call::Insert(15, 150), Reply::Fresh(true)),
             (Call::Insert(19, 190), Reply::Back(19, 190, Why::Full)),
+            (Call::Assign(19, 192), Reply::Back(19, 192, Why::Full)),
+            (Call::HalveOr(19, 193), Reply::Back(19, 193, Why::Full)),
             (Call::Find(19), Reply::Was(None)),
             (Call::Insert(7, 71), Reply::Fresh(false)),
+            (Call::Assign(7, 72), Reply::Was(Some(70))),
+            (Call::HalveOr(7, 73), Reply::Fresh(false)),
             (Call::Len, Reply::Count(4)),
             (Call::Erase(3), Reply::Was(Some(30))),
             (Call::Insert(19, 191), Reply::Fresh(true)),
         ],
         end: &[
-            (NumKey(7), 70),
+            (NumKey(7), 36),
             (NumKey(11), 110),
             (NumKey(15), 150),
             (NumKey(19), 191),
@@ -208,7 +288,7 @@ fn pairs_of(
     };
     make_calls(rt, &mut locked, session);
     let pairs = locked.export(alloc);
-    locked.unlock();
+    let _caller = locked.unlock_caller();
     Ok(pairs?)
 }
 
@@ -221,6 +301,10 @@ fn check(rt: &impl Abort, alloc: Global, session: &Session) -> Result<(), Fail> 
     let mut second = table.caller(second);
     let power = second.power();
     assert!(rt; power == Ok(session.power), "{what}");
+    let capacity = second.capacity();
+    assert!(rt; capacity == power.map(|power| 4 << power), "{what}");
+    let is_empty = second.is_empty();
+    assert!(rt; is_empty == Ok(session.end.is_empty()), "{what}");
     finds_all(rt, &mut second, session);
     Ok(())
 }
@@ -264,7 +348,11 @@ fn any_key(random: &mut Lcg64Xsh32) -> u64 {
     }
 }
 
+/// Seldom a `Clear`, so that the table fills in between.
 fn any_call(random: &mut Lcg64Xsh32) -> Call {
+    if random.next_u32() % 2048 == 0 {
+        return Call::Clear;
+    }
     let key = any_key(random);
     match random.next_u32() % 16 {
         0 => Call::Find(key),
@@ -274,12 +362,19 @@ fn any_call(random: &mut Lcg64Xsh32) -> Call {
         4 | 5 => Call::Erase(key),
         6 => Call::Len,
         7 => Call::IsEmpty,
+        8 | 9 => Call::Assign(key, random.next_u64()),
+        10 | 11 => Call::HalveOr(key, random.next_u64()),
         _ => Call::Insert(key, random.next_u64()),
     }
 }
 
 /// Makes the call on the plain map.
-fn answer_plain(plain: &mut PlainMap, name: &Name, call: Call) -> Result<Reply, AllocError> {
+fn answer_plain(
+    alloc: Global,
+    plain: &mut PlainMap,
+    name: &Name,
+    call: Call,
+) -> Result<Reply, AllocError> {
     let bound = plain.get(name);
     match call {
         Call::Find(_) => Ok(Reply::Was(bound)),
@@ -288,6 +383,14 @@ fn answer_plain(plain: &mut PlainMap, name: &Name, call: Call) -> Result<Reply, 
             if bound.is_none() {
                 plain.insert(name, value)?;
             }
+            Ok(Reply::Fresh(bound.is_none()))
+        }
+        Call::Assign(_, value) => {
+            plain.insert(name, value)?;
+            Ok(Reply::Was(bound))
+        }
+        Call::HalveOr(_, value) => {
+            plain.insert(name, bound.map_or(value, |value| value / 2))?;
             Ok(Reply::Fresh(bound.is_none()))
         }
         Call::Update(_, value) => {
@@ -306,6 +409,10 @@ fn answer_plain(plain: &mut PlainMap, name: &Name, call: Call) -> Result<Reply, 
             plain.remove(name);
             Ok(Reply::Was(bound))
         }
+        Call::Clear => {
+            *plain = PlainMap::new(alloc);
+            Ok(Reply::Count(plain.len() as u64))
+        }
         Call::Len => Ok(Reply::Count(plain.len() as u64)),
         Call::IsEmpty => Ok(Reply::Is(plain.len() == 0)),
     }
@@ -316,11 +423,20 @@ fn key_of(call: Call) -> u64 {
         Call::Find(key)
         | Call::Contains(key)
         | Call::Insert(key, _)
+        | Call::Assign(key, _)
+        | Call::HalveOr(key, _)
         | Call::Update(key, _)
         | Call::Halve(key)
         | Call::Erase(key) => key,
-        Call::Len | Call::IsEmpty => 0,
+        Call::Clear | Call::Len | Call::IsEmpty => 0,
     }
+}
+
+/// Whether these are key and value of an insertion.
+fn hands_back(call: Call, key: u64, value: u64) -> bool {
+    call == Call::Insert(key, value)
+        || call == Call::Assign(key, value)
+        || call == Call::HalveOr(key, value)
 }
 
 /// Makes the call on both, and says whether the replies are the same. Where there is no room for a
@@ -337,9 +453,9 @@ fn agree(
     let name = name_of(alloc, key_of(call))?;
     match reply {
         Reply::Back(key, value, Why::Full | Why::LoadTooLow) => {
-            Ok(call == Call::Insert(key, value) && plain.get(&name).is_none())
+            Ok(hands_back(call, key, value) && plain.get(&name).is_none())
         }
-        _ => Ok(reply == answer_plain(plain, &name, call)?),
+        _ => Ok(reply == answer_plain(alloc, plain, &name, call)?),
     }
 }
 

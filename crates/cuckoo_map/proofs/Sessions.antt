@@ -28,7 +28,7 @@ use Rattle.ck_section.specs.Calls.{IsWithoutRoom, ChangesContents}
 use Rattle.ck_section.proofs.Decided.{IsCallOn}
 use Rattle.ck_section.proofs.Growing.{all_settled, contents_settled}
 use Rattle.ck_section.proofs.Kept.{table_after, settled_after}
-use Rattle.ck_section.specs.Whole.{AreAllHeld, AreSettled, IsTable}
+use Rattle.ck_section.specs.Whole.{AreAllHeld, AreSettled, IsTable, ClearsBindings}
 use Rattle.ck_model.specs.Counting.{counting}
 use Rattle.ck_words.specs.Words.{WordsState}
 use Rattle.ck_words.specs.Passes.{EachOf, PassState, IsPassOf, numbers_of}
@@ -41,7 +41,7 @@ use Rattle.ck_words.proofs.Reversed.{in_of_reverse, bindings-reverse}
 use Rattle.ck_words.proofs.Seating.{length-numbers, number_at}
 use Rattle.ck_words.proofs.WholeTables.{lawful_held}
 use Rattle.cuckoo_map.specs.Refusals.{IsStripeIn, why_of}
-use Rattle.cuckoo_map.specs.Locking.{LockedState, map_of, IsLocked, HasLocked, HasActed, KeepsMap, LacksRoom, SeeksRoom}
+use Rattle.cuckoo_map.specs.Locking.{LockedState, map_of, IsLocked, HasLocked, HasActed, Clears, KeepsMap, LacksRoom, SeeksRoom}
 use Rattle.cuckoo_map.proofs.Sizes.{renewed_same, has_all}
 
 same_list : (xs ys : List ℕ) → length xs ≡ length ys → ((i : ℕ) → i < length xs → get_or xs i 0 ≡ get_or ys i 0) → xs ≡ ys
@@ -196,6 +196,18 @@ module _ {V : Type 0} where
       table = ap (λ (x : LockedState V). x.table) is;
       view = ap (λ (x : PassState V). x.view) kept ∙ ap (λ (x : LockedState V). x.pass.view) is;
       step = subst (λ (x : LockedState V). Step (map_of x) (On name act) reply (bindings (contents_of q.stripes))) is (acted hash w p l place of_table name act reply q.stripes call).step;
+    }
+
+  -- all stripes of a locked table were cleared
+  module _ (hash : Name → ℕ) (w : WordsState) (p : PassState V) (l : IsLocked hash w p) (q : PassState V) (kept : q ≡ record p { stripes = q.stripes }) (clears : ClearsBindings (layout_of hash w.settings) p.stripes q.stripes) where
+    pub cleared_locked : AreAllHeld w.settings.s q.stripes → IsLocked hash w q
+    cleared_locked held = locked_again hash w p q l kept held.table held.settled (clears l.renewed.lawful).0
+
+    pub clears_map : (s : LockedState V) → ◌≡◌ {A = LockedState V} (record { table = w; pass = p }) s → Clears s (record { table = w; pass = q })
+    clears_map s is = record {
+      table = ap (λ (x : LockedState V). x.table) is;
+      view = ap (λ (x : PassState V). x.view) kept ∙ ap (λ (x : LockedState V). x.pass.view) is;
+      none = (clears l.renewed.lawful).1;
     }
 
   -- room was made or not, and then all stripes were settled

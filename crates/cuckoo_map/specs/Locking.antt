@@ -1,5 +1,6 @@
 -- The whole table under one caller.
 use Rattle.std.specs.Prelude.{◌≡◌, ℕ, ◌<◌, List, reverse, [], Some, Result, OnOk, IfErr}
+use Rattle.std.specs.FinMap.{empty}
 use Rattle.ck_model.specs.declared.history.Act.{Act}
 use Rattle.ck_model.specs.declared.history.Call.TheVariants.{On}
 use Rattle.ck_model.specs.declared.history.Reply.{Reply}
@@ -57,6 +58,12 @@ module _ {V : Type 0} where
     pub table : m.table ≡ l.table
     pub view : m.pass.view ≡ l.pass.view
     pub step : Step (map_of l) (On q act) reply (map_of m)
+
+  -- From l to m all names were unbound, and what the pass knows stayed.
+  pub record Clears (l m : LockedState V) : Type 0 where
+    pub table : m.table ≡ l.table
+    pub view : m.pass.view ≡ l.pass.view
+    pub none : map_of m ≡ empty
 
   -- From l to m the map stayed as it was. The power may have risen, and entries stand elsewhere.
   pub record KeepsMap (l m : LockedState V) : Type 0 where

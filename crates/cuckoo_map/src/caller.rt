@@ -1,5 +1,5 @@
 //! A caller: the table, and a pass of its own.
-ghost use Rattle.std.specs.Prelude.{◌≡◌, ◌≢◌, ◌*◌, ◌^◌, ◌≤◌, All, map, OnOk, IfOk, IfErr};
+ghost use Rattle.std.specs.Prelude.{◌≡◌, ◌≢◌, ◌*◌, ◌^◌, ◌≤◌, ℕ, All, map, OnOk, IfOk, IfErr, nat_eq};
 ghost use Rattle.std.specs.Fn.{FnOnceReturnsAt};
 ghost use Rattle.ck_words.specs.Closing.{IsCaller};
 ghost use Rattle.ck_words.specs.Meeting.{Meets};
@@ -328,6 +328,21 @@ impl<'t, K: TableKey + Drop, V: Drop> Caller<'t, K, V> {
         self.table.power(&mut self.pass)
     }
 
+    /// How many slots the table has. Refused as busy, it changes nothing. It is `Table::capacity`.
+    ///
+    /// ```
+    /// let slots: u64 = caller.capacity()?;
+    /// ```
+    pub fn capacity(&mut self) -> Result<u64, Busy>
+        ensures same { IsSameCaller self.old self.new }
+        ensures stays { OnOk result (Stays self.old.pass.view self.new.pass.view) }
+        ensures told { IfOk result (λ slots. slots ≡ 4 * 2 ^ self.new.pass.view.told) }
+        ensures busy { IfErr result (IsBusyOnSome (λ t. t ≡ 0) self.old self.new) }
+        ensures found { FindsHeldAmong (λ t. t ≡ 0) self.old self.new }
+    {
+        self.table.capacity(&mut self.pass)
+    }
+
     /// How many keys are bound. Refused as busy, it changes nothing. It is `Table::len`.
     pub fn len(&mut self) -> Result<u64, Busy>
         ensures same { IsSameCaller self.old self.new }
@@ -337,6 +352,21 @@ impl<'t, K: TableKey + Drop, V: Drop> Caller<'t, K, V> {
         ensures found { FindsHeldOfAny self.old self.new }
     {
         self.table.len(&mut self.pass)
+    }
+
+    /// Whether no key is bound. Refused as busy, it changes nothing. It is `Table::is_empty`.
+    ///
+    /// ```
+    /// let empty: bool = caller.is_empty()?;
+    /// ```
+    pub fn is_empty(&mut self) -> Result<bool, Busy>
+        ensures same { IsSameCaller self.old self.new }
+        ensures answered { IfOk result (λ empty. (count : ℕ) × (empty ≡ nat_eq count 0)
+            × Counts self.old self.new count) }
+        ensures busy { IfErr result (IsBusyOnAny self.old self.new) }
+        ensures found { FindsHeldOfAny self.old self.new }
+    {
+        self.table.is_empty(&mut self.pass)
     }
 
     /// Doubles the table until it has 2^power buckets, and says whether it had fewer. Refused as

@@ -5,7 +5,7 @@ ghost use Rattle.ck_model.specs.declared.history.Call.TheVariants.{On};
 ghost use Rattle.ck_model.specs.declared.history.Reply.{Reply};
 ghost use Rattle.ck_section.specs.Places.{IsPlaceOf};
 ghost use Rattle.ck_section.specs.Entries.{IsEntryOf};
-ghost use Rattle.ck_section.specs.Calls.{effect, IsCall};
+ghost use Rattle.ck_section.specs.Calls.{effect, IsCall, ChangesContents};
 ghost use Rattle.ck_words.specs.Commits.{call_of};
 
 use ck_key::TableKey;
@@ -47,6 +47,7 @@ pub(crate) trait Insertion<K: TableKey, V>: Drop {
         ensures answered { (reply : Reply V) × tells self result reply
             × IsCall (effect K.hash H.stripes place held.old held.new) (K.name key)
             (asks value) reply }
+        ensures rest { ChangesContents (H.stripes held.old) (H.stripes held.new) }
         ensures stays { H.stays held.old held.new };
 }
 

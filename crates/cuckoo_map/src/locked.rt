@@ -1,33 +1,37 @@
 //! The whole table under one caller.
-ghost use Rattle.std.specs.Prelude.{◌≡◌, if◌then◌else◌, OnOk, OnErr, IfOk, IfErr, IfSome, IfNone, MatchBool, nat_eq, is_some};
+ghost use Rattle.std.specs.Prelude.{◌≡◌, ℕ, if◌then◌else◌, OnOk, OnErr, IfOk, IfErr, IfSome, IfNone, MatchBool, nat_eq, is_some};
 ghost use Rattle.std.specs.Option.{option_copied};
 ghost use Rattle.std.specs.FinMap.{get, len, entries};
-ghost use Rattle.ck_model.specs.declared.history.Act.TheVariants.{Insert, Update, Change, Erase};
+ghost use Rattle.ck_model.specs.declared.history.Act.TheVariants.{Insert, Assign, Upsert, Update, Change, Erase};
 ghost use Rattle.ck_model.specs.declared.history.Call.TheVariants.{Session};
+ghost use Rattle.ck_model.specs.declared.history.Reply.{Reply};
 ghost use Rattle.ck_model.specs.declared.history.Reply.TheVariants.{New, Old, Was, Done, Absent, Closed};
 ghost use Rattle.ck_model.specs.Map.{ListsInOrder};
-ghost use Rattle.ck_model.specs.Contents.{layout_of};
+ghost use Rattle.ck_model.specs.Contents.{layout, layout_of};
 ghost use Rattle.ck_bucket.specs.Bucket.{ClonesAreEqual};
 ghost use Rattle.ck_model.specs.Paths.{HasNoRoom};
 ghost use Rattle.ck_model.specs.Ranges.{AreInRange};
 ghost use Rattle.ck_section.specs.Stripes.{contents_of};
 ghost use Rattle.ck_section.specs.Places.{IsPlaceOf};
-ghost use Rattle.ck_section.specs.Whole.{AreAllHeld};
+ghost use Rattle.ck_section.specs.Whole.{IsTable, AreSettled, AreAllHeld, ClearsBindings};
 ghost use Rattle.ck_section.specs.Calls.{effect, IsCall, IsWithoutRoom, ChangesContents};
 ghost use Rattle.ck_section.specs.Room.{KeepsBindings, MakesRoom, GivesReason};
 ghost use Rattle.ck_words.specs.Retries.{FindsAmong};
 ghost use Rattle.ck_words.specs.Answering.{IsAnswered, FollowsSeen};
 ghost use Rattle.ck_words.specs.Closing.{IsCaller};
 ghost use Rattle.cuckoo_map.specs.Refusals.{IsStripeIn, IsBusyAmong, why_of};
-ghost use Rattle.cuckoo_map.specs.Locking.{start_of, map_of, HasLocked, HasActed, KeepsMap, LacksRoom, SeeksRoom};
+ghost use Rattle.cuckoo_map.specs.Locking.{start_of, map_of, HasLocked, HasActed, Clears, KeepsMap, LacksRoom, SeeksRoom};
 
+use crate::caller::Caller;
+use crate::entries;
+use crate::entries::Insertion;
 use crate::refusal::{Busy, Refused, Why};
 use crate::table::Table;
 use ck_key::{KeyHash, TableKey};
 use ck_model::settings::Settings;
 use ck_section::{
-    KeyPlace, Lack, entries, erase, export, find_entry, find_in_all, insert, make_room,
-    place_in_all, settle_all, update, update_fn,
+    KeyPlace, Lack, clear_all, erase, export, find_entry, find_in_all, make_room, place_in_all,
+    settle_all, update, update_fn,
 };
 use ck_stripe::Stripe;
 use ck_words::{Pass, Whole};
@@ -113,19 +117,88 @@ impl<'t, K: TableKey + Drop, V: Drop> LockedTable<'t, K, V> {
         ensures refused { IfErr result (λ e. (e.key ≡ key) × (e.value ≡ value)
             × LacksRoom K.hash (K.name key) e.why self.old self.new) }
     {
+        self.put(key, value, entries::Insert)
+    }
+
+    /// Binds the key to the value, and gives the value that it had; `None` where it was unbound.
+    ///
+    /// Room for an unbound key is made as `insert` makes it. Refused, it changes no binding and
+    /// hands key and value back: as `Memory`, `Full` or `LoadTooLow`, and never as `Busy`. The
+    /// table stays locked.
+    ///
+    /// ```
+    /// let old: Option<u64> = locked.insert_or_assign(NumKey(5), 53)?;
+    /// ```
+    pub fn insert_or_assign(&mut self, key: K, value: V) -> Result<Option<V>, Refused<K, V>>
+        ensures answered { IfOk result (λ old. HasActed (K.name key) (Assign value) (Was old)
+            self.old self.new) }
+        ensures refused { IfErr result (λ e. (e.key ≡ key) × (e.value ≡ value)
+            × LacksRoom K.hash (K.name key) e.why self.old self.new) }
+    {
+        self.put(key, value, entries::Assign)
+    }
+
+    /// Binds an unbound key to the value, and a bound one to what the closure makes of its value;
+    /// says whether the key was unbound. Of closure and value the one that isn't used is dropped.
+    ///
+    /// Room for an unbound key is made as `insert` makes it. Refused, it changes no binding, drops
+    /// the closure and hands key and value back: as `Memory`, `Full` or `LoadTooLow`, and never as
+    /// `Busy`. The table stays locked.
+    ///
+    /// ```
+    /// let fresh: bool = locked.upsert(NumKey(5), |count| count.saturating_add(1), 1)?;
+    /// ```
+    pub fn upsert<F: FnOnce(V) -> V>(
+        &mut self,
+        key: K,
+        f: F,
+        value: V,
+    ) -> Result<bool, Refused<K, V>>
+    where
+        F: Drop,
+        requires call { F.IsAlwaysCallable f }
+        ensures answered { IfOk result (λ fresh. MatchBool fresh
+            (HasActed (K.name key) (Upsert value) New self.old self.new)
+            ((v w : V) × F.post f v w
+            × HasActed (K.name key) (Upsert value) (Done v w) self.old self.new)) }
+        ensures refused { IfErr result (λ e. (e.key ≡ key) × (e.value ≡ value)
+            × LacksRoom K.hash (K.name key) e.why self.old self.new) }
+    {
+        self.put(key, value, entries::Upsert(f))
+    }
+
+    // Makes the insertion of the entry of the key.
+    fn put<I: Insertion<K, V>>(
+        &mut self,
+        key: K,
+        value: V,
+        insertion: I,
+    ) -> Result<I::Answer, Refused<K, V>>
+        requires call { I.can_make insertion }
+        ensures answered { IfOk result (λ answer. (reply : Reply V) × I.tells insertion answer reply
+            × HasActed (K.name key) (I.asks value) reply self.old self.new) }
+        ensures refused { IfErr result (λ e. (e.key ≡ key) × (e.value ≡ value)
+            × LacksRoom K.hash (K.name key) e.why self.old self.new) }
+    {
         let place = self.place(&key);
-        match insert_in(&mut self.whole, place, key, value) {
-            Ok(fresh) => Ok(fresh),
-            Err((key, value)) => self.insert_with_room(key, value),
+        match put_in(&mut self.whole, place, key, value, insertion) {
+            Ok(answer) => Ok(answer),
+            Err((key, value, insertion)) => self.put_with_room(key, value, insertion),
         }
     }
 
     // The same, once room was made for the key.
     #[cold]
     #[inline(never)]
-    fn insert_with_room(&mut self, key: K, value: V) -> Result<bool, Refused<K, V>>
-        ensures answered { IfOk result (λ fresh. HasActed (K.name key) (Insert value)
-            (if fresh then New else Old) self.old self.new) }
+    fn put_with_room<I: Insertion<K, V>>(
+        &mut self,
+        key: K,
+        value: V,
+        insertion: I,
+    ) -> Result<I::Answer, Refused<K, V>>
+        requires call { I.can_make insertion }
+        ensures answered { IfOk result (λ answer. (reply : Reply V) × I.tells insertion answer reply
+            × HasActed (K.name key) (I.asks value) reply self.old self.new) }
         ensures refused { IfErr result (λ e. (e.key ≡ key) × (e.value ≡ value)
             × LacksRoom K.hash (K.name key) e.why self.old self.new) }
     {
@@ -134,8 +207,8 @@ impl<'t, K: TableKey + Drop, V: Drop> LockedTable<'t, K, V> {
             return Err(Refused { key, value, why });
         }
         let place = self.place(&key);
-        match insert_in(&mut self.whole, place, key, value) {
-            Ok(fresh) => Ok(fresh),
+        match put_in(&mut self.whole, place, key, value, insertion) {
+            Ok(answer) => Ok(answer),
             Err(_) => unreachable!(),
         }
     }
@@ -192,6 +265,17 @@ impl<'t, K: TableKey + Drop, V: Drop> LockedTable<'t, K, V> {
         erase(&mut self.whole, place, key)
     }
 
+    /// Unbinds all keys, and drops them with their values. The number of buckets stays.
+    ///
+    /// ```
+    /// locked.clear();
+    /// ```
+    pub fn clear(&mut self)
+        ensures { Clears self.old self.new }
+    {
+        clear_in(&mut self.whole);
+    }
+
     // Where the key may be among the stripes.
     fn place(&self, key: &K) -> KeyPlace
         ensures place { IsPlaceOf K.hash self.now.pass.stripes (K.name key.now) result }
@@ -205,7 +289,7 @@ impl<'t, K: TableKey + Drop, V: Drop> LockedTable<'t, K, V> {
     pub fn len(&self) -> u64
         ensures { result ≡ len (map_of self.now) }
     {
-        entries(stripes_of(&self.whole)) as u64
+        ck_section::entries(stripes_of(&self.whole)) as u64
     }
 
     /// Whether no key is bound.
@@ -232,6 +316,29 @@ impl<'t, K: TableKey + Drop, V: Drop> LockedTable<'t, K, V> {
         table.words.commit_session(&mut pass, table.words.all());
         pass
     }
+
+    /// Unlocks the table, as `unlock` does, and gives the caller. That its pass is one of this
+    /// table is known by the type, also where functions had the locked table in between.
+    ///
+    /// ```
+    /// let Ok(mut locked) = caller.lock() else { return Err(io::ErrorKind::ResourceBusy.into()) };
+    /// sweep(&mut locked);
+    /// let mut caller = locked.unlock_caller();
+    /// ```
+    pub fn unlock_caller(self) -> Caller<'t, K, V>
+        ensures table { result.table ≡ self.entry.table }
+        ensures answered { IsAnswered
+            (Session (entries (start_of self.entry)) (entries (map_of self.entry))) Closed
+            self.entry.pass result.pass }
+        ensures follows { FollowsSeen
+            (Session (entries (start_of self.entry)) (entries (map_of self.entry))) Closed
+            self.entry.pass result.pass }
+        ensures found { result.pass.view.found ≡ self.entry.pass.view.found }
+    {
+        let table = self.table;
+        let pass = self.unlock();
+        table.caller(pass)
+    }
 }
 
 impl<'t, K: TableKey + Clone + Drop, V: Clone + Drop> LockedTable<'t, K, V> {
@@ -254,27 +361,29 @@ fn stripes_of<K: TableKey + Drop, V: Drop>(whole: &Whole<K, V>) -> &[Stripe<K, V
     whole.stripes.as_slice()
 }
 
-// Binds the key, which may be at this place, where it is unbound, and says whether it was. Where
-// both its buckets are full, key and value come back.
-fn insert_in<K: TableKey + Drop, V: Drop>(
+// Makes the insertion of the entry of the key, which may be at this place. Where both its buckets
+// are full, all that was passed comes back.
+fn put_in<K: TableKey + Drop, V: Drop, I: Insertion<K, V>>(
     whole: &mut Whole<K, V>,
     place: KeyPlace,
     key: K,
     value: V,
-) -> Result<bool, (K, V)>
-    requires { IsPlaceOf K.hash whole.old.stripes (K.name key) place }
-    ensures call { IfOk result (λ fresh.
-        IsCall (effect K.hash (λ p. p.stripes) place whole.old whole.new) (K.name key)
-        (Insert value) (if fresh then New else Old)) }
-    ensures full { IfErr result (λ back. (back.0 ≡ key) × (back.1 ≡ value)
+    insertion: I,
+) -> Result<I::Answer, (K, V, I)>
+    requires place { IsPlaceOf K.hash whole.old.stripes (K.name key) place }
+    requires call { I.can_make insertion }
+    ensures call { IfOk result (λ answer. (reply : Reply V) × I.tells insertion answer reply
+        × IsCall (effect K.hash (λ p. p.stripes) place whole.old whole.new) (K.name key)
+        (I.asks value) reply) }
+    ensures full { IfErr result (λ back. (back.0 ≡ key) × (back.1 ≡ value) × (back.2 ≡ insertion)
         × IsWithoutRoom K.hash place.s whole.old.stripes (K.name key)) }
     ensures left { OnErr result (whole.new ≡ whole.old) }
     ensures rest { ChangesContents whole.old.stripes whole.new.stripes }
     ensures same { whole.new ≡ record whole.old { stripes = whole.new.stripes } }
 {
     match find_entry(whole, place, &key) {
-        Some(entry) => Ok(insert(whole, place, entry, key, value)),
-        None => Err((key, value)),
+        Some(entry) => Ok(insertion.make(whole, place, entry, key, value)),
+        None => Err((key, value, insertion)),
     }
 }
 
@@ -299,4 +408,15 @@ fn make_room_in<K: TableKey + Drop, V: Drop>(
     let made = make_room(whole, s, key, KeyHash::of(key), max, min_load);
     settle_all(whole);
     made
+}
+
+// Drops all entries of all stripes.
+fn clear_in<K: TableKey + Drop, V: Drop>(whole: &mut Whole<K, V>)
+    requires settled { AreSettled whole.old.stripes }
+    ensures held { (s : ℕ) → IsTable s whole.old.stripes → AreAllHeld s whole.new.stripes }
+    ensures cleared { (s max : ℕ) → IsTable s whole.old.stripes
+        → ClearsBindings (layout K.hash s max) whole.old.stripes whole.new.stripes }
+    ensures same { whole.new ≡ record whole.old { stripes = whole.new.stripes } }
+{
+    clear_all(&mut whole.stripes);
 }

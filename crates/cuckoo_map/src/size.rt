@@ -1,5 +1,5 @@
 //! How many keys are bound, how many buckets the table has, and what holds all stripes.
-ghost use Rattle.std.specs.Prelude.{◌≡◌, ◌*◌, ◌^◌, ◌≤◌, OnOk, OnErr, IfOk, IfErr};
+ghost use Rattle.std.specs.Prelude.{◌≡◌, ◌*◌, ◌^◌, ◌≤◌, ℕ, OnOk, OnErr, IfOk, IfErr, nat_eq};
 ghost use Rattle.ck_model.specs.declared.history.Call.TheVariants.{Len};
 ghost use Rattle.ck_model.specs.declared.history.Reply.TheVariants.{Count};
 ghost use Rattle.ck_section.specs.Whole.{IsTable, AreSettled};
@@ -40,6 +40,36 @@ impl<K: TableKey + Drop, V: Drop> Table<K, V> {
         let Lent { pass, .. } = lent;
         self.words.commit(pass, all, Commit::Len);
         Ok(count)
+    }
+
+    /// Whether no key is bound. It counts as `len` does. Refused as busy, it changes nothing.
+    pub fn is_empty(&self, pass: &mut Pass<K, V>) -> Result<bool, Busy>
+        requires caller { IsCaller self.now pass.old }
+        ensures caller { IsCaller self.now pass.new }
+        ensures answered { IfOk result (λ empty. (count : ℕ) × (empty ≡ nat_eq count 0)
+            × IsAnswered Len (Count count) pass.old pass.new) }
+        ensures busy { IfErr result (λ busy. IsBusyAmong (IsStripeIn self.now.settings)
+            self.now.settings busy.0 pass.old pass.new) }
+        ensures found { FindsAmong (IsStripeIn self.now.settings) pass.old pass.new }
+    {
+        let count = self.len(pass)?;
+        Ok(count == 0)
+    }
+
+    /// How many slots the table has at the power that `power` gives, and that the pass has then
+    /// been told of. Refused as busy, it changes nothing.
+    pub fn capacity(&self, pass: &mut Pass<K, V>) -> Result<u64, Busy>
+        requires caller { IsCaller self.now pass.old }
+        ensures caller { IsCaller self.now pass.new }
+        ensures stays { OnOk result (Stays pass.old.view pass.new.view) }
+        ensures told { IfOk result (λ slots. slots ≡ 4 * 2 ^ pass.new.view.told) }
+        ensures busy { IfErr result (λ busy. IsBusyAmong (λ t. t ≡ 0)
+            self.now.settings busy.0 pass.old pass.new) }
+        ensures found { FindsAmong (λ t. t ≡ 0) pass.old pass.new }
+    {
+        self.words.show_range();
+        let power = self.power(pass)?;
+        Ok(4 << power)
     }
 
     /// The power: the table has 2^power buckets of four slots. It is that of stripe 0 while this

@@ -1,0 +1,26 @@
+use Rattle.std.proofs.Common.{◌∙◌, sym, ap}
+use Rattle.cuckoo_map.specs.Locking.{LockedState}
+use Rattle.cuckoo_map.proofs.Sessions.{acted_locked, has_acted, acted_since, not_without}
+use Rattle.cuckoo_map.proofs.locked.LockedTable.put_with_room.Goals as goal
+
+pub unreachable-requires : goal.unreachable-requires
+unreachable-requires g c =
+    let same = c.place-place.ensures.s ∙ sym (ap (λ (l : LockedState g.row.V.Denot). l.table.settings.s) c.self.view_is) in
+    not_without g.K.TableKey.hash c.self.inside.table.now c.self.inside.whole c.self.invariant c.place-place.result same (g.K.TableKey.name c.args.key) c.make_room.new.self c.self.view_is
+    c.in_default.ensures.room c.in-Err-put_in.ensures.full.3
+
+pub invariant_of-self : goal.invariant_of-self
+invariant_of-self g c =
+    acted_locked c.self.invariant c.self.view_is c.place-place.result c.place-place.ensures.s (g.K.TableKey.name c.args.key) c.put_in.new.whole c.put_in.ensures.same
+    (g.I.Insertion.asks c.args.value) c.in-Ok.ensures.call.0 c.put_in.ensures.rest c.in-Ok.ensures.call.2
+
+pub returns-clause-answered : goal.returns-clause-answered
+returns-clause-answered g c =
+    let q = g.K.TableKey.name c.args.key in
+    let act = g.I.Insertion.asks c.args.value in
+    let call = c.in-Ok.ensures.call in (
+      call.0,
+      call.1,
+      acted_since q act call.0 c.args.self.now c.make_room.new.self _ c.make_room.ensures.kept
+          (has_acted c.self.invariant c.self.view_is c.place-place.result c.place-place.ensures.s q c.put_in.new.whole c.put_in.ensures.same act call.0 call.2),
+    )
