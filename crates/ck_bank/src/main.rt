@@ -5,16 +5,6 @@ use anyhow::{Context, Result};
 use cuckoo_map::{Busy, Caller, NumKey, Settings, Table};
 use std::thread::{self, Threads};
 
-const SETTINGS: Settings = Settings {
-    s: 4,
-    power: 6,
-    max: 20,
-    callers: 5, // a thread each, and the one that opens the accounts and adds them up
-    turns: u32::MAX, // so often may a stripe be found held: the threads wait for one another
-    rounds: 4,
-    min_load: 5,
-};
-
 /// The accounts are numbered from 0.
 const ACCOUNTS: u64 = 10;
 
@@ -78,7 +68,9 @@ fn work_all(rt: &(impl Threads + Sync), tellers: Vec<Teller<'_>>) -> Result<()> 
 }
 
 fn main(rt: HostRuntime) -> Result<()> {
-    let (table, passes) = Table::<NumKey, u64>::open(rt.alloc(), SETTINGS)?;
+    // A caller for each thread, and one that opens the accounts and adds them up.
+    let settings = Settings::for_keys(ACCOUNTS, 5);
+    let (table, passes) = Table::<NumKey, u64>::open(rt.alloc(), settings)?;
     let mut tellers = table.callers(rt.alloc(), passes)?;
     let mut auditor = tellers.pop().context("no caller")?;
     open(&mut auditor)?;

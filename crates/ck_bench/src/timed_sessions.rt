@@ -27,12 +27,11 @@ fn time_session<'t>(
     exports: bool,
     least: &mut Least,
 ) -> io::Result<Caller<'t>> {
-    let table = caller.table();
     let start = Instant::now(rt)?;
     match caller.lock() {
         Ok(locked) => {
             let missing = exports && locked.export(alloc).is_err();
-            let caller = table.caller(locked.unlock());
+            let caller = locked.unlock_caller();
             if missing {
                 return Err(io::ErrorKind::OutOfMemory.into());
             }

@@ -6,16 +6,6 @@ use cuckoo_map::{Caller, Settings, Table, TextKey};
 use std::alloc::Global;
 use std::thread::{self, Threads};
 
-const SETTINGS: Settings = Settings {
-    s: 4,
-    power: 8,
-    max: 20,
-    callers: 5, // a thread each, and the one that asks for the counts
-    turns: u32::MAX, // so often may a stripe be found held: the threads wait for one another
-    rounds: 4,
-    min_load: 5,
-};
-
 /// The text, in a part for each thread.
 const PARTS: [&[&str]; 4] = [
     &["the cat saw the dog", "the dog saw the cat"],
@@ -68,7 +58,9 @@ fn print_counts(rt: &HostRuntime, asker: &mut Counter<'_>) -> Result<()> {
 }
 
 fn main(rt: HostRuntime) -> Result<()> {
-    let (table, passes) = Table::<TextKey, u64>::open(rt.alloc(), SETTINGS)?;
+    // A caller for each thread, and one that asks for the counts.
+    let settings = Settings::for_keys(100, 5);
+    let (table, passes) = Table::<TextKey, u64>::open(rt.alloc(), settings)?;
     let mut counters = table.callers(rt.alloc(), passes)?;
     let mut asker = counters.pop().context("no caller")?;
     count_all(&rt, rt.alloc(), counters)?;

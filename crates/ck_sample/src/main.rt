@@ -4,16 +4,6 @@
 use anyhow::Result;
 use cuckoo_map::{Caller, NumKey, Settings, Table};
 
-const SETTINGS: Settings = Settings {
-    s: 4, // 2^4 stripes, each with a lock of its own
-    power: 10, // 2^10 buckets of four slots
-    max: 20,
-    callers: 2,
-    turns: 1000, // a call that finds a stripe held so often in a row is refused as busy
-    rounds: 4,
-    min_load: 5,
-};
-
 /// Counts the keys, while the table is the caller's alone.
 fn count(caller: Caller<'_, NumKey, u64>) -> Result<u64> {
     match caller.lock() {
@@ -27,7 +17,9 @@ fn count(caller: Caller<'_, NumKey, u64>) -> Result<u64> {
 }
 
 fn main(rt: HostRuntime) -> Result<()> {
-    let (table, passes) = Table::<NumKey, u64>::open(rt.alloc(), SETTINGS)?;
+    // Room for a thousand keys, and two callers.
+    let settings = Settings::for_keys(1000, 2);
+    let (table, passes) = Table::<NumKey, u64>::open(rt.alloc(), settings)?;
     // Each caller may go to another thread.
     let mut callers = table.callers(rt.alloc(), passes)?;
     for caller in &mut callers {

@@ -1,0 +1,97 @@
+//! Threads that do all that they can to one table at once, and a count of what it lost.
+//!
+//! `ck_stress SECONDS [THREADS [SEED]]` makes a round a second, each with a table of its own that
+//! grows from four buckets, and says after each what was done. The first wrong answer ends it, with
+//! status 1 and all that is needed to see it again. With no word it makes one short round.
+#![tactic(auto)]
+
+mod audit;
+mod calls;
+mod model;
+mod notes;
+mod round;
+mod tally;
+
+use crate::round::{Plan, Stop, run_round};
+use crate::tally::Tally;
+use std::alloc::Global;
+use std::process::ExitCode;
+use std::rt::Clock;
+use std::thread::Threads;
+use std::{env, io};
+
+const USAGE: &str = "ck_stress SECONDS [THREADS [SEED]]: up to 86400 seconds and 64 threads";
+
+/// What the words ask for; nothing where they are no such numbers.
+fn plan_of(words: &[String]) -> Option<(u64, Plan)> {
+    let mut numbers = [0, 4, 1];
+    if words.len() > numbers.len() {
+        return None;
+    }
+    for (number, word) in numbers.iter_mut().zip(words) {
+        *number = word.parse().ok()?;
+    }
+    let [seconds, threads, seed] = numbers;
+    if seconds > 86_400 || threads == 0 || threads > 64 || (seconds == 0 && !words.is_empty()) {
+        return None;
+    }
+    let stop = if words.is_empty() {
+        Stop::AfterCalls(2000)
+    } else {
+        Stop::AfterSecond
+    };
+    Some((
+        seconds.max(1),
+        Plan {
+            threads: threads as u32,
+            seed,
+            stop,
+        },
+    ))
+}
+
+/// Makes the rounds, and says whether all answers were right.
+fn run<R: Threads + Clock + Print + Sync>(
+    rt: &R,
+    alloc: Global,
+    rounds: u64,
+    plan: Plan,
+) -> io::Result<bool> {
+    let mut all = Tally::none();
+    for round in 0..rounds {
+        let plan = Plan {
+            seed: plan.seed.wrapping_add(round),
+            ..plan
+        };
+        match run_round(rt, alloc, plan)? {
+            Ok(tally) => {
+                if plan.stop == Stop::AfterSecond {
+                    tally.print(rt, "second", round.saturating_add(1))?;
+                }
+                all.add(tally);
+            }
+            Err(wrong) => {
+                wrong.print(rt, plan.seed)?;
+                return Ok(false);
+            }
+        }
+    }
+    if plan.stop == Stop::AfterSecond {
+        all.print(rt, "all of seed", plan.seed)?;
+    }
+    println!(rt; "nothing was lost, doubled or wrong")?;
+    Ok(true)
+}
+
+fn main(rt: HostRuntime) -> io::Result<ExitCode> {
+    let words = env::args(&rt)?.skip(1).collect::<Vec<String>>(rt.alloc())?;
+    let Some((rounds, plan)) = plan_of(words.as_slice()) else {
+        eprintln!(rt; "{USAGE}")?;
+        return Ok(ExitCode::from(2));
+    };
+    if run(&rt, rt.alloc(), rounds, plan)? {
+        Ok(ExitCode::SUCCESS)
+    } else {
+        Ok(ExitCode::FAILURE)
+    }
+}

@@ -1,0 +1,83 @@
+//! What a thread knows, what it did, and the first answer that was wrong.
+use crate::model::Model;
+use crate::tally::Tally;
+use ck_key::NumKey;
+use cuckoo_map::{Refused, Why};
+use std::io;
+
+/// An answer that no legal history has.
+#[derive(Clone, Copy)]
+pub struct Wrong {
+    what: &'static str,
+    thread: u32,
+    call: u64,
+    key: u64,
+    got: Option<u64>,
+    want: Option<u64>,
+}
+
+impl Wrong {
+    /// Prints all that is needed to see it again.
+    pub fn print(&self, rt: &impl Print, seed: u64) -> io::Result<()> {
+        let Wrong {
+            what,
+            thread,
+            call,
+            key,
+            got,
+            want,
+        } = *self;
+        println!(rt; "WRONG: {what}, key {key}: {got:?} where {want:?} is right")?;
+        println!(rt; "  seed {seed}, thread {thread}, its call {call}")
+    }
+}
+
+#[derive(Drop)]
+pub struct Notes {
+    pub model: Model,
+    pub tally: Tally,
+    pub wrong: Option<Wrong>,
+}
+
+impl Notes {
+    /// Counts an answer, and notes the first that isn't as wanted.
+    pub fn check(&mut self, what: &'static str, key: u64, got: Option<u64>, want: Option<u64>) {
+        self.tally.calls = self.tally.calls.saturating_add(1);
+        if got != want && self.wrong.is_none() {
+            self.wrong = Some(Wrong {
+                what,
+                thread: self.model.thread,
+                call: self.tally.calls,
+                key,
+                got,
+                want,
+            });
+        }
+    }
+
+    pub fn check_bool(&mut self, what: &'static str, key: u64, got: bool, want: bool) {
+        self.check(what, key, Some(u64::from(got)), Some(u64::from(want)));
+    }
+
+    /// Counts a call that was refused as busy.
+    pub fn busy(&mut self) {
+        self.tally.busy = self.tally.busy.saturating_add(1);
+    }
+
+    /// Counts a refused insertion of this key and value. Both come back.
+    pub fn refused(&mut self, refused: Refused<NumKey, u64>, key: u64, value: u64) {
+        let back = refused.key.0;
+        self.check("key that comes back", key, Some(back), Some(key));
+        self.check(
+            "value that comes back",
+            key,
+            Some(refused.value),
+            Some(value),
+        );
+        if let Why::Busy(_) = refused.why {
+            self.busy();
+        } else {
+            self.tally.without_room = self.tally.without_room.saturating_add(1);
+        }
+    }
+}
