@@ -13,7 +13,6 @@ use Rattle.core.specs.declared.alloc.Allocator.{Ghosts}
 use Rattle.std_alloc.proofs.SendSync.{FreesAnywhere, quiet}
 use Rattle.ck_room.specs.Memory.{row, row_lent, owned, lent}
 use Rattle.ck_room.specs.contracts.Places as Places
-use Rattle.ck_room.specs.contracts.Lease as Lease
 use Rattle.ck_room.specs.contracts.LeaseOfTwo as LeaseOfTwo
 
 module _ (R : RattleType) where
@@ -42,15 +41,6 @@ module _ (R : RattleType) where
 
   pub Places-sync : IsSync R → IsSync (Places.the_row R)
   Places-sync y = let O = Places.the_type R in record { shared = λ d b o κ. ((struct_sync (shape O) (search sendable, tt)).shared (to O d) b o κ, lent-Common y d.ptr d.items κ) }
-
-  module _ (A : RattleType) (g : Ghosts A.Denot) where
-    pub Lease-send : FreesAnywhere A.Denot g → IsSend (Lease.the_row R A g)
-    Lease-send f =
-        let O = Lease.the_type R A g in let all : AllSend (fields O) = (search sendable, tt) in
-        owning_send O all (λ d. f.frees d.alloc _ d.ptr) (λ k. quiet (to O) (exits_of k (fields O)) ((struct_send (shape O) all).leaving k))
-
-    pub Lease-sync : IsSync (Lease.the_row R A g)
-    Lease-sync = let O = Lease.the_type R A g in record { shared = λ d b o κ. ((struct_sync (shape O) (search sendable, tt)).shared (to O d) b o κ, tt) }
 
 room-Keyless : (τ : Ty) (p : Ptr) → Keyless (room_for τ p)
 room-Keyless τ (block_ptr b o) = tt

@@ -1,13 +1,12 @@
 -- What a `Places` owns is taken apart and made, also behind a `&mut`, and what a `&` to one shows.
--- The same of a lease.
-use mathlib.Core.Path.{◌≡◌, refl, sym, ap, subst, ◌∙◌}
+use mathlib.Core.Path.{◌≡◌, refl, sym, ap, ◌∙◌}
 use Prim.Native.Nat.{ℕ, ◌+◌, ◌*◌, ◌<◌, ◌^◌}
 use mathlib.Core.List.{List, [], ◌∷◌, ◌++◌}
 use lib.ListN.{length}
 use seplogic.Ra.Ura.{Ura}
 use base.Fraction.{full_share}
 use mir.Val.{Val, vptr, vstruct, vcons, vnil, of_list}
-use base.Logic.{ent, emp, sep, never, id⊢}
+use base.Logic.{ent, sep, never, id⊢}
 use base.Stored.{Gv}
 use base.Fml.{Lft, GName, Share, Fml, fsep, flft, fobs, fauth, fbor, fobor, fhide}
 use types.Logic.{Logic, sem}
@@ -17,19 +16,15 @@ use denote.RattleType.{RattleType, Valss}
 use denote.Memory.{cell_at, mem, hidden_shr}
 use denote.Opens.{unhide}
 use denote.RawPtr.{Ptr, RawPtr, block_ptr, in_a_block}
-use denote.Shadow.{makes_shadow}
 use denote.Steps.{opens, closes, nothing}
 use denote.Struct.Lending.{lent_out}
 use denote.Struct.Struct.{Struct, within}
 use denote.Struct.Owning.{Owning, shape}
 use Rattle.core.proofs.mem.Param.{El, R, el_x}
-use Rattle.core.proofs.alloc.Calls.{Al, token}
-use Rattle.core.proofs.slots.Leases.{P}
 use Rattle.std_alloc.proofs.RcSteps.{word}
-use Rattle.ck_room.specs.Memory.{row, owned, lent, leased}
+use Rattle.ck_room.specs.Memory.{row, owned, lent}
 use Rattle.ck_room.specs.declared.Places.{Places}
 use Rattle.ck_room.specs.contracts.Places as C
-use Rattle.ck_room.specs.contracts.Lease as L
 use Rattle.ck_room.proofs.Memory.{sz}
 
 module _ (E : El) where
@@ -93,19 +88,3 @@ module _ (E : El) {M : Type 1} {𝓤 : Ura M} (𝓛 : Logic 𝓤) (κ : Lft) whe
 
 abbrev pub mark : Val
 mark = vstruct (vcons (vstruct vnil) vnil)
-
-module _ (E : El) (Z : Al) where
-  abbrev pub Lr : RattleType
-  Lr = L.the_row (R E) (P E Z) Z.g
-
-  -- the one field of a lease, which takes no bytes
-  abbrev pub Mark : RattleType
-  Mark = Struct (shape (L.the_type (R E) (P E Z) Z.g))
-
-  pub marked : {M : Type 1} {𝓤 : Ura M} (𝓛 : Logic 𝓤) → ent 𝓤 (emp 𝓤) (sem 𝓛 (Mark.own_val (tt, tt) (mark ∷ [])))
-  marked 𝓛 = makes_shadow 𝓛 (Mark.own_val (tt, tt) (mark ∷ [])) (λ vss. (tt, ((λ uss. (tt, tt)), tt))) ((vstruct vnil ∷ [], tt), (refl, ((tt, (refl, tt)), tt)))
-
-module _ (E : El) (Z : Al) {M : Type 1} {𝓤 : Ura M} {𝓛 : Logic 𝓤} {K : Type 0} {Γ : List (Item 𝓤)} {G : Goal 𝓤 𝓛.H} where
-  pub lease_had : K → (d : (Lr E Z).Denot) (vs : List Val) → (vs ≡ mark ∷ [] → Seq K 𝓛 (‵ (leased (token Z d.alloc) (R E) d.ptr d.len) ∷ Γ) G) → Seq K 𝓛 (‵ ((Lr E Z).own_val d vs) ∷ Γ) G
-  lease_had t d vs k = fsplit t $ fpick t (λ vss. fsplit t $ feq_l t (λ ev. fsplit t $ fpick t (λ uss. fsplit t $ feq_l t (λ e. drop t $ drop t $
-      k (subst (λ (ws : List Val). vs ≡ vstruct (of_list (ws ++ [])) ∷ []) e ev)))))

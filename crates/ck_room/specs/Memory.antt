@@ -43,10 +43,6 @@ module _ (R : RattleType) where
   lent (block_ptr b o) cs = beside (said (fit cs)) (row_lent b o cs)
   lent null_ptr cs = said ffalse
 
--- an allocator's right to free the block of n places
-abbrev pub leased : (Ty → Ptr → Fml) → RattleType → Ptr → ℕ → Fml
-leased token R p n = token (raw (ty_array (lone R.mir) n)) p
-
 -- n places at values of R, and behind them in one block m at values of S
 module _ (R S : RattleType) (n m : ℕ) where
   abbrev pub pair_ty : Ty

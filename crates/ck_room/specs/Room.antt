@@ -2,7 +2,6 @@
 use Rattle.std.specs.Prelude.{◌≡◌, ℕ, List, Option, None, slice_index_or}
 use denote.RawPtr.{Ptr}
 use Rattle.ck_room.specs.declared.Places.{Places}
-use Rattle.ck_room.specs.declared.Lease.{Lease}
 use Rattle.ck_room.specs.declared.LeaseOfTwo.{LeaseOfTwo}
 
 -- a block: where it begins, and how many places it has
@@ -20,18 +19,6 @@ module _ {X : Type 0} where
 
   abbrev pub block_of : Places X → Block
   block_of it = (it.ptr, it.len)
-
-module _ {X Z : Type 0} where
-  abbrev pub leased_block : Lease X Z → Block
-  leased_block it = (it.ptr, it.len)
-
-  abbrev pub leased_by : Lease X Z → Z
-  leased_by it = it.alloc
-
-  -- the lease is of the block of these places, and of this allocator
-  pub record IsLeaseOf (lease : Lease X Z) (places : Places X) (alloc : Z) : Type 0 where
-    pub block : leased_block lease ≡ block_of places
-    pub allocator : leased_by lease ≡ alloc
 
 -- the lease is of the block of these two rows of places, and of this allocator
 pub record IsLeaseOfTwo {X Y Z : Type 0} (lease : LeaseOfTwo X Y Z) (places : Places X) (heads : Places Y) (alloc : Z) : Type 0 where

@@ -1,15 +1,10 @@
 //! That places and leases cross threads where their values and their allocator do.
-use crate::{Lease, LeaseOfTwo, Places};
+use crate::{LeaseOfTwo, Places};
 use std::alloc::Allocator;
 
-fn cross<T: Send + Sync, H, A: Allocator + Send>(
-    places: &Places<T>,
-    lease: &Lease<T, A>,
-    of_two: &LeaseOfTwo<T, H, A>,
-) {
+fn cross<T: Send + Sync, H, A: Allocator + Send>(places: &Places<T>, lease: &LeaseOfTwo<T, H, A>) {
     is_send_and_sync(places);
     is_send_and_sync(lease);
-    is_send_and_sync(of_two);
 }
 
 fn is_send_and_sync<X: Send + Sync>(_value: &X) {}

@@ -5,17 +5,15 @@
 ghost use Rattle.std.specs.Prelude.{◌≡◌, ℕ, List, Option, length};
 ghost use base.Fml.{ftrue};
 ghost use denote.RawPtr.{Ptr};
-ghost use Rattle.ck_room.specs.Memory.{owned, lent, leased, leased_two};
+ghost use Rattle.ck_room.specs.Memory.{owned, lent, leased_two};
 
 use std::alloc::Allocator;
 use std::marker::{Model, PhantomData, Send, Sync};
 
-mod blocks;
 mod crossings;
 mod two;
 mod values;
 
-pub use blocks::{open, release};
 pub use two::{open_two, release_two};
 
 /// A block of places, each empty or with a value. It doesn't know itself which are full: who uses
@@ -37,25 +35,6 @@ unsafe impl<T: Send> Send for Places<T> {}
 
 unsafe impl<T: Sync> Sync for Places<T> {}
 
-/// The right to free the block of some `Places`. It takes no space.
-pub struct Lease<T, A: Allocator> {
-    mark: PhantomData<*const (T, A)>,
-    ghost ptr: { Ptr },
-    ghost len: { ℕ },
-    ghost alloc: { A },
-}
-
-impl<T, A: Allocator> Model for Lease<T, A> {
-    ghost also_owns = { λ l. leased (A.dealloc_token l.alloc) T.row l.ptr l.len };
-
-    ghost also_shares = { λ _ _ _. ftrue };
-}
-
-unsafe impl<T, A: Allocator + Send> Send for Lease<T, A> {}
-
-// A `&` to it holds nothing.
-unsafe impl<T, A: Allocator> Sync for Lease<T, A> {}
-
 /// The right to free a block of two rows of places. It takes no space.
 pub struct LeaseOfTwo<T, H, A: Allocator> {
     mark: PhantomData<*const (T, H, A)>,
@@ -72,5 +51,5 @@ impl<T, H, A: Allocator> Model for LeaseOfTwo<T, H, A> {
 
 unsafe impl<T, H, A: Allocator + Send> Send for LeaseOfTwo<T, H, A> {}
 
-// As for a `Lease`.
+// A `&` to it holds nothing.
 unsafe impl<T, H, A: Allocator> Sync for LeaseOfTwo<T, H, A> {}

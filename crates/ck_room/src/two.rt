@@ -2,19 +2,23 @@
 ghost use Rattle.std.specs.Prelude.{◌≡◌, ◌^◌, ◌<◌, ◌≤◌, None, IfOk, length, replicate};
 ghost use Rattle.core.specs.Align.{type_align};
 ghost use Rattle.std.specs.Vec.Ownership.{FitsInBlock};
-ghost use prog.Memory.{up};
+ghost use Rattle.std.specs.Mem.{type_size};
+ghost use prog.Memory.{capped, up};
 ghost use Rattle.ck_room.specs.Memory.{pair_bytes, IsBlockSize};
 ghost use Rattle.ck_room.specs.Room.{items_of, IsLeaseOfTwo, AllNone};
 
-use crate::blocks::{MOST_BYTES, place_bytes};
 use crate::{LeaseOfTwo, Places};
 use std::alloc::{AllocError, Allocator};
 use std::marker::PhantomData;
 use std::mem::{align_of, size_of};
 
+// So large values, in fewer than 2^32 places, take fewer than 2^63 bytes.
+const MOST_BYTES: usize = 0x7fff_ffff;
+
 /// So many empty places, behind them in the same block so many for values of a second kind, and the
-/// right to free the block: by one request. It is refused where `open` refuses either kind, and
-/// where the second has an alignment above 1. There may be no places of either kind.
+/// right to free the block: by one request. It is refused for want of memory, where a value takes
+/// 2^31 bytes or more, and where the second kind has an alignment above 1. There may be no places
+/// of either kind.
 pub fn open_two<T, H, A: Allocator>(
     alloc: &A,
     len: usize,
@@ -33,6 +37,14 @@ pub fn open_two<T, H, A: Allocator>(
         return Err(AllocError);
     }
     allocate_two(alloc, len, heads, block_bytes::<T, H>(len, heads))
+}
+
+// The size of a value, or `usize::MAX` where it is more.
+#[inline(always)]
+fn place_bytes<T>() -> usize
+    ensures { result ≡ capped (type_size T.row) }
+{
+    size_of::<T>()
 }
 
 // The alignment of a value.

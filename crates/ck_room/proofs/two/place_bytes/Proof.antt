@@ -27,10 +27,10 @@ use denote.Triple.Entry.{on_entry}
 use denote.Triple.Spec.{Meets, triple_of}
 use denote.Triple.Table.{entered}
 use denote.Triple.Walked.{says, walk_of, ends_at, walked, walk_Meets}
-use Rattle.ck_room.specs.contracts.blocks.place_bytes as F
-use Rattle.ck_room.specs.contracts.blocks.place_bytes.Key.{name as #self}
-use Rattle.ck_room.proofs.blocks.place_bytes.Statement as stated
-use Rattle.ck_room.proofs.blocks.place_bytes.Code as code
+use Rattle.ck_room.specs.contracts.two.place_bytes as F
+use Rattle.ck_room.specs.contracts.two.place_bytes.Key.{name as #self}
+use Rattle.ck_room.proofs.two.place_bytes.Statement as stated
+use Rattle.ck_room.proofs.two.place_bytes.Code as code
 
 module _ (X : RattleType) where
   abbrev args : Args
