@@ -1,5 +1,5 @@
 -- The hashes of names.
-use Rattle.std.specs.Prelude.{◌≡◌, ℕ, ◌*◌, ◌^◌, ◌%◌, [], ◌∷◌, bit_xor, fold}
+use Rattle.std.specs.Prelude.{◌≡◌, ℕ, ◌*◌, ◌/◌, ◌^◌, ◌%◌, [], ◌∷◌, bit_xor, fold}
 use Rattle.ck_model.specs.Arithmetic.{partial_of}
 use Rattle.ck_model.specs.Map.{Name}
 use Rattle.ck_key.specs.declared.key_hash.KeyHash.{KeyHash}
@@ -8,6 +8,19 @@ use Rattle.ck_key.specs.declared.key_hash.KeyHash.{KeyHash}
 abbrev pub number_hash : Name → ℕ
 number_hash [] = 0
 number_hash (n ∷ ns) = n % 2 ^ 64
+
+-- the upper half on the lower one
+abbrev pub folded_of : ℕ → ℕ
+folded_of n = bit_xor n (n / 2 ^ 32)
+
+-- twice a product, and its upper half on its lower one
+abbrev pub mixed_of : ℕ → ℕ
+mixed_of n = folded_of (folded_of (n * 0xff51afd7ed558ccd % 2 ^ 64) * 0xc4ceb9fe1a85ec53 % 2 ^ 64)
+
+-- a number's name is the list of the number alone, and its hash is mixed
+abbrev pub mixed_hash : Name → ℕ
+mixed_hash [] = 0
+mixed_hash (n ∷ ns) = mixed_of n
 
 -- one byte more in the 64-bit FNV-1a
 abbrev pub fnv_step : ℕ → ℕ → ℕ

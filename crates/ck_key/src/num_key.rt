@@ -5,7 +5,9 @@ ghost use Rattle.ck_key.specs.KeyLaws.{number_names, number_hash_below};
 
 use crate::key::TableKey;
 
-/// A number as a key. It hashes to itself.
+/// A number as a key. It hashes to itself, and its lower bits choose the bucket. So it is quick for
+/// numbers that differ in these, and few numbers in steps of a large power of two find room: see
+/// `MixedKey`.
 #[derive(Clone, Copy, Debug, PartialEq, Eq, PartialOrd, Ord)]
 pub struct NumKey(pub u64);
 

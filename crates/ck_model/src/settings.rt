@@ -1,5 +1,5 @@
 //! What a table is opened with.
-ghost use Rattle.std.specs.Prelude.{◌≡◌, ◌↔◌, ◌⊎◌, ◌≤◌, ◌<◌, ◌-◌, ◌*◌, ◌^◌, IsTrue};
+ghost use Rattle.std.specs.Prelude.{◌≡◌, ◌↔◌, ◌⊎◌, ◌≤◌, ◌<◌, ◌-◌, ◌*◌, ◌^◌, IsTrue, min};
 
 /// What a table is opened with.
 #[derive(Clone, Copy, Debug, PartialEq, Eq)]
@@ -41,6 +41,9 @@ impl Settings {
         ensures room { (result.power ≡ 26) ⊎ (keys ≤ 3 * 2 ^ result.power) }
         ensures least { (result.power ≡ 1) ⊎ (3 * 2 ^ (result.power - 1) < keys) }
         ensures grows { result.max ≡ 26 }
+        ensures stripes { result.s ≡ min result.power 10 }
+        ensures waits { result.turns ≡ 2 ^ 32 - 1 }
+        ensures tries { (result.rounds ≡ 4) × (result.min_load ≡ 5) }
     {
         let power = power_for(keys);
         Settings {

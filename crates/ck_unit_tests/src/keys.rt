@@ -1,7 +1,9 @@
 //! Hashes, buckets and stripes that were worked out by hand, and what a text key may be.
 ghost use Rattle.std.specs.Prelude.{◌≤◌};
 
-use ck_key::{KeyFault, NumKey, TableKey, TextKey, alternate, index, partial, stripes_of};
+use ck_key::{
+    KeyFault, MixedKey, NumKey, TableKey, TextKey, alternate, index, partial, stripes_of,
+};
 use std::alloc::Global;
 use std::process::Abort;
 use std::test::Fail;
@@ -65,6 +67,20 @@ fn number_keys(rt: HostRuntime) {
         (u64::MAX, row_of(u64::MAX, 0, (3, 2), (7, 2), (0, 1))),
     ] {
         check(&rt, hash_of(&NumKey(number)), &row);
+    }
+}
+
+#[test]
+fn mixed_keys(rt: HostRuntime) {
+    for (number, hash) in [
+        (0u64, 0u64),
+        (1, 0x4c8b_acd9_c4be_f5b7),
+        (5, 0xf9a2_2804_4af7_be86),
+        (1 << 20, 0x991e_5035_960a_1bbd),
+        (1 << 63, 0x8d42_f629_0d42_f629),
+        (u64::MAX, 0x6a42_0d1a_c8f9_48db),
+    ] {
+        assert!(rt; hash_of(&MixedKey(number)) == hash);
     }
 }
 

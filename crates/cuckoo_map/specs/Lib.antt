@@ -14,3 +14,5 @@ pub use Rattle.ck_words.specs.Retries
 pub use Rattle.ck_words.specs.Answering
 pub use Rattle.ck_words.specs.Meeting
 pub use Rattle.ck_words.specs.Closing
+pub use Rattle.ck_key.specs.Hashes
+pub use Rattle.ck_key.specs.KeyLaws

@@ -2,7 +2,8 @@
 //!
 //! A [`Table`] is opened with its [`Settings`] and comes with a [`Pass`] for each caller. Table and
 //! pass together are a [`Caller`], which makes the calls, and which may go to another thread. Keys
-//! are numbers ([`NumKey`]) or short texts ([`TextKey`]), or a type with an `impl` of [`TableKey`].
+//! are numbers ([`NumKey`], or [`MixedKey`] for numbers in steps) or short texts ([`TextKey`]), or a
+//! type with an `impl` of [`TableKey`].
 //!
 //! ```
 //! let (table, passes) = Table::<NumKey, u64>::open(alloc, settings)?;
@@ -45,7 +46,7 @@ mod size;
 mod table;
 
 pub use caller::Caller;
-pub use ck_key::{KeyFault, NumKey, TableKey, TextKey};
+pub use ck_key::{KeyFault, MixedKey, NumKey, TableKey, TextKey};
 pub use ck_model::settings::Settings;
 pub use ck_words::Pass;
 pub use locked::LockedTable;
