@@ -38,7 +38,7 @@ pub fn open(alloc: Global, settings: Settings) -> io::Result<(NumTable, Vec<Pass
     match NumTable::open(alloc, settings) {
         Ok(opened) => Ok(opened),
         Err(OpenFault::Memory) => Err(io::ErrorKind::OutOfMemory.into()),
-        Err(OpenFault::Settings) => Err(io::ErrorKind::InvalidInput.into()),
+        Err(OpenFault::Settings(_)) => Err(io::ErrorKind::InvalidInput.into()),
     }
 }
 

@@ -1,6 +1,8 @@
 -- The limits of a table.
 use Rattle.std.specs.Prelude.{◌≤◌}
 use Rattle.ck_model.specs.declared.settings.Settings.{Settings}
+use Rattle.ck_model.specs.declared.settings.OutOfRange.{OutOfRange}
+use Rattle.ck_model.specs.declared.settings.OutOfRange.TheVariants.{Stripes, Power, Max, Callers, Turns, Rounds, MinLoad}
 
 -- each setting is in its range
 pub record AreInRange (set : Settings) : Type 0 where
@@ -14,3 +16,13 @@ pub record AreInRange (set : Settings) : Type 0 where
   pub turns : 1 ≤ set.turns
   pub rounds : set.rounds ≤ 64
   pub min_load : set.min_load ≤ 100
+
+-- this setting is not in its range
+abbrev pub IsOut : Settings → OutOfRange → Type 0
+IsOut set Stripes = ¬ ((set.s ≤ 10) × (set.s ≤ set.power))
+IsOut set Power = ¬ ((1 ≤ set.power) × (set.power ≤ set.max))
+IsOut set Max = ¬ (set.max ≤ 26)
+IsOut set Callers = ¬ ((1 ≤ set.callers) × (set.callers ≤ 1024))
+IsOut set Turns = ¬ (1 ≤ set.turns)
+IsOut set Rounds = ¬ (set.rounds ≤ 64)
+IsOut set MinLoad = ¬ (set.min_load ≤ 100)

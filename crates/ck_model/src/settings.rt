@@ -1,5 +1,7 @@
 //! What a table is opened with.
-ghost use Rattle.std.specs.Prelude.{◌≡◌, ◌↔◌, ◌⊎◌, ◌≤◌, ◌<◌, ◌-◌, ◌*◌, ◌^◌, IsTrue, min};
+ghost use Rattle.std.specs.Prelude.{◌≡◌, ◌↔◌, ◌⊎◌, ◌≤◌, ◌<◌, ◌-◌, ◌*◌, ◌^◌, IfSome, IfNone, min};
+
+use thiserror::Error;
 
 /// What a table is opened with.
 #[derive(Clone, Copy, Debug, PartialEq, Eq)]
@@ -20,8 +22,34 @@ pub struct Settings {
     pub min_load: u32,
 }
 
+/// The setting that is not in its range.
+#[derive(Clone, Copy, Debug, PartialEq, Eq, Error)]
+pub enum OutOfRange {
+    /// `s`.
+    #[error("s may be 0 to 10, and at most the power")]
+    Stripes,
+    /// `power`.
+    #[error("power may be 1 to max")]
+    Power,
+    /// `max`.
+    #[error("max may be 1 to 26")]
+    Max,
+    /// `callers`.
+    #[error("callers may be 1 to 1024")]
+    Callers,
+    /// `turns`.
+    #[error("turns may be 1 and more")]
+    Turns,
+    /// `rounds`.
+    #[error("rounds may be 0 to 64")]
+    Rounds,
+    /// `min_load`.
+    #[error("min_load may be 0 to 100")]
+    MinLoad,
+}
+
 impl Settings {
-    ghost use Rattle.ck_model.specs.Ranges.{AreInRange};
+    ghost use Rattle.ck_model.specs.Ranges.{AreInRange, IsOut};
 
     /// Settings for about so many keys, and for so many callers, of whom there may be 1,024.
     ///
@@ -57,20 +85,28 @@ impl Settings {
         }
     }
 
-    /// Whether each setting is in its range.
-    pub fn are_in_range(&self) -> bool
-        ensures { IsTrue result ↔ AreInRange self.now }
+    /// The first setting that is not in its range; `None` where all are.
+    pub fn out_of_range(&self) -> Option<OutOfRange>
+        ensures none { IfNone result (AreInRange self.now) }
+        ensures some { IfSome result (IsOut self.now) }
     {
-        self.s <= 10
-            && 1 <= self.power
-            && self.s <= self.power
-            && self.power <= self.max
-            && self.max <= 26
-            && 1 <= self.callers
-            && self.callers <= 1024
-            && 1 <= self.turns
-            && self.rounds <= 64
-            && self.min_load <= 100
+        if self.s > 10 || self.s > self.power {
+            Some(OutOfRange::Stripes)
+        } else if self.power < 1 || self.power > self.max {
+            Some(OutOfRange::Power)
+        } else if self.max > 26 {
+            Some(OutOfRange::Max)
+        } else if self.callers < 1 || self.callers > 1024 {
+            Some(OutOfRange::Callers)
+        } else if self.turns < 1 {
+            Some(OutOfRange::Turns)
+        } else if self.rounds > 64 {
+            Some(OutOfRange::Rounds)
+        } else if self.min_load > 100 {
+            Some(OutOfRange::MinLoad)
+        } else {
+            None
+        }
     }
 }
 

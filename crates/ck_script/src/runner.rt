@@ -45,7 +45,7 @@ fn open<K: WrittenKey>(
     match Table::open(alloc, settings) {
         Ok(opened) => Ok(opened),
         Err(OpenFault::Memory) => Err(AllocError),
-        Err(OpenFault::Settings) => unreachable!(),
+        Err(OpenFault::Settings(_)) => unreachable!(),
     }
 }
 

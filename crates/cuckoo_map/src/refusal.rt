@@ -3,6 +3,7 @@ ghost use Rattle.std.specs.Prelude.{◌≡◌};
 ghost use Rattle.cuckoo_map.specs.Refusals.{why_of};
 
 use ck_key::TableKey;
+use ck_model::settings::OutOfRange;
 use ck_section::Lack;
 use ck_words::Pass;
 use std::fmt::{self, Debug, Formatter};
@@ -11,9 +12,9 @@ use thiserror::Error;
 /// Why no table was opened.
 #[derive(Debug, Clone, Copy, PartialEq, Eq, Error)]
 pub enum OpenFault {
-    /// A setting is not in its range.
-    #[error("a setting is not in its range")]
-    Settings,
+    /// This setting is not in its range.
+    #[error("a setting is not in its range: {0}")]
+    Settings(OutOfRange),
     /// There is no memory for the table and its passes.
     #[error("no memory for the table")]
     Memory,
@@ -23,7 +24,7 @@ pub enum OpenFault {
 /// nothing. It is one of the call's keys; of a call that takes all stripes it is any, and of one
 /// that asks for the power the stripe 0.
 #[derive(Debug, Clone, Copy, PartialEq, Eq, Error)]
-#[error("stripe {0} is busy")]
+#[error("stripe {0} was held in all tries: try again, or open with more turns")]
 pub struct Busy(pub u32);
 
 /// Why the table was not made to grow.
@@ -31,13 +32,13 @@ pub struct Busy(pub u32);
 pub enum GrowFault {
     /// This stripe was found held in as many tries in a row as the settings allow. The call changed
     /// nothing.
-    #[error("stripe {0} is busy")]
+    #[error("stripe {0} was held in all tries: try again, or open with more turns")]
     Busy(u32),
     /// There is no memory to grow. The table may have doubled before that.
-    #[error("no memory to grow")]
+    #[error("no memory for the table to grow")]
     Memory,
     /// The table may not have so many buckets. The call changed nothing.
-    #[error("the table may not have so many buckets")]
+    #[error("the table may not have so many buckets: open it with a greater max")]
     OverMax,
 }
 
@@ -47,17 +48,17 @@ pub enum GrowFault {
 pub enum Why {
     /// This stripe was found held in as many tries in a row as the settings allow. It is one of the
     /// key, but where the key's buckets were found full.
-    #[error("stripe {0} is busy")]
+    #[error("stripe {0} was held in all tries: try again, or open with more turns")]
     Busy(u32),
     /// No displacement makes room for the key, the table may grow, and there is no memory to.
-    #[error("no memory to grow")]
+    #[error("no room for the key, and no memory for the table to grow")]
     Memory,
     /// No displacement makes room for the key, and the table may not grow beyond its greatest
     /// power.
-    #[error("no room for the key")]
+    #[error("no room for the key in a table of the greatest size: open it with a greater max")]
     Full,
     /// No displacement makes room for the key, and too few slots are taken for the table to grow.
-    #[error("too few slots are taken to grow")]
+    #[error("no room for the key, and too few slots are taken to grow: see MixedKey, min_load")]
     LoadTooLow,
 }
 

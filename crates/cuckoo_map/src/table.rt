@@ -1,7 +1,8 @@
 //! The table, and how it begins and ends.
-ghost use Rattle.std.specs.Prelude.{◌≡◌, ◌↔◌, IfOk, IfErr, Err};
+ghost use Rattle.std.specs.Prelude.{◌≡◌, IfOk, IfErr, Err};
 ghost use Rattle.ck_model.specs.Map.{Map, ListsInOrder};
-ghost use Rattle.ck_model.specs.Ranges.{AreInRange};
+ghost use Rattle.ck_model.specs.declared.settings.OutOfRange.{OutOfRange};
+ghost use Rattle.ck_model.specs.Ranges.{AreInRange, IsOut};
 ghost use Rattle.ck_words.specs.Meeting.{Meets};
 ghost use Rattle.ck_model.specs.Counting.{counting};
 ghost use Rattle.ck_words.specs.Closing.{IsCaller, AreAllPasses, EachStays, Closes, dealt};
@@ -34,8 +35,8 @@ impl<K: TableKey + Drop, V: Drop> Table<K, V> {
     /// An empty table of 2^power buckets, and its passes, as many as the settings have callers,
     /// numbered from 0.
     ///
-    /// It is refused as `Settings` where a setting is not in its range, and otherwise only for want
-    /// of memory.
+    /// It is refused as `Settings` where a setting is not in its range, which it names, and
+    /// otherwise only for want of memory.
     pub fn open(
         alloc: Global,
         settings: Settings,
@@ -43,10 +44,12 @@ impl<K: TableKey + Drop, V: Drop> Table<K, V> {
         ensures ok { IfOk result (λ r. (r.0.settings ≡ settings)
             × (r.1.items ≡ dealt r.0.table settings (counting 0 settings.callers))
             × AreAllPasses r.0 r.1.items) }
-        ensures settings { (result ≡ Err OpenFault.Settings) ↔ ¬ (AreInRange settings) }
+        ensures memory { AreInRange settings → IfErr result (λ fault. fault ≡ OpenFault.Memory) }
+        ensures settings { ¬ (AreInRange settings) → (which : OutOfRange)
+            × (result ≡ Err (OpenFault.Settings which)) × IsOut settings which }
     {
-        if !settings.are_in_range() {
-            return Err(OpenFault::Settings);
+        if let Some(which) = settings.out_of_range() {
+            return Err(OpenFault::Settings(which));
         }
         match Words::open_all(alloc, settings) {
             Ok((words, passes)) => Ok((Table { words }, passes)),
