@@ -16,37 +16,34 @@ use std::snapshot::Snapshot;
 
 // A call that may bind an unbound key.
 pub(crate) trait Insertion<K: TableKey, V>: Drop {
+    // What an unbound key is bound to, or what makes it. It comes back where the insertion is
+    // refused.
+    type Value: Drop;
+
     // What it answers its caller.
     type Answer;
 
-    // What it asks of a plain map, with the value that was passed.
-    ghost asks: { V → Act V };
+    // What it asks of a plain map, and the reply to it, where it answers this.
+    ghost tells: { Self → Self.Value → Self.Answer → Act V → Reply V → Type 0 };
 
-    // Which replies of a plain map an answer tells.
-    ghost tells: { Self → Self.Answer → Reply V → Type 0 };
+    // Its closures may be called.
+    ghost can_make: { Self → Self.Value → Type 0 };
 
-    // Its closure may be called, where it has one.
-    ghost can_make: { Self → Type 0 };
-
-    // The call, as it is committed.
-    fn commit(key: &K, value: &V) -> Commit<K, V>
-        ensures { call_of K.name result ≡ On (K.name key.now) (asks value.now) };
-
-    // Makes it of the entry of the key.
+    // Makes it of the entry of the key, and says which call it was, to be committed.
     fn make<H: Held<Stripe<K, V>>>(
         self,
         held: &mut H,
         place: KeyPlace,
         entry: Entry,
         key: K,
-        value: V,
-    ) -> Self::Answer
+        value: Self::Value,
+    ) -> (Self::Answer, Commit<K, V>)
         requires place { IsPlaceOf K.hash (H.stripes held.old) (K.name key) place }
         requires entry { IsEntryOf K.hash (H.stripes held.old) (K.name key) place entry }
-        requires call { can_make self }
-        ensures answered { (reply : Reply V) × tells self result reply
-            × IsCall (effect K.hash H.stripes place held.old held.new) (K.name key)
-            (asks value) reply }
+        requires call { can_make self value }
+        ensures answered { (act : Act V) × (reply : Reply V) × tells self value result.0 act reply
+            × (call_of K.name result.1 ≡ On (K.name key) act)
+            × IsCall (effect K.hash H.stripes place held.old held.new) (K.name key) act reply }
         ensures rest { ChangesContents (H.stripes held.old) (H.stripes held.new) }
         ensures stays { H.stays held.old held.new };
 }
@@ -60,18 +57,14 @@ impl<K: TableKey + Drop, V: Drop> Insertion<K, V> for Insert {
     ghost use Rattle.ck_model.specs.declared.history.Act.TheVariants.{Insert};
     ghost use Rattle.ck_model.specs.declared.history.Reply.TheVariants.{New, Old};
 
+    type Value = V;
+
     type Answer = bool;
 
-    ghost asks = { λ v. Insert v };
+    ghost tells = { λ _ v fresh act reply. (act ≡ Insert v)
+        × (reply ≡ (if fresh then New else Old)) };
 
-    ghost tells = { λ _ fresh reply. reply ≡ (if fresh then New else Old) };
-
-    ghost can_make = { λ _. ⊤ };
-
-    #[inline(always)]
-    fn commit(key: &K, value: &V) -> Commit<K, V> {
-        Commit::Insert(Snapshot::of(key), Snapshot::of(value))
-    }
+    ghost can_make = { λ _ _. ⊤ };
 
     #[inline(always)]
     fn make<H: Held<Stripe<K, V>>>(
@@ -81,8 +74,9 @@ impl<K: TableKey + Drop, V: Drop> Insertion<K, V> for Insert {
         entry: Entry,
         key: K,
         value: V,
-    ) -> bool {
-        insert(held, place, entry, key, value)
+    ) -> (bool, Commit<K, V>) {
+        let said = Commit::Insert(Snapshot::of(&key), Snapshot::of(&value));
+        (insert(held, place, entry, key, value), said)
     }
 }
 
@@ -95,18 +89,13 @@ impl<K: TableKey + Drop, V: Drop> Insertion<K, V> for Assign {
     ghost use Rattle.ck_model.specs.declared.history.Act.TheVariants.{Assign};
     ghost use Rattle.ck_model.specs.declared.history.Reply.TheVariants.{Was};
 
+    type Value = V;
+
     type Answer = Option<V>;
 
-    ghost asks = { λ v. Assign v };
+    ghost tells = { λ _ v old act reply. (act ≡ Assign v) × (reply ≡ Was old) };
 
-    ghost tells = { λ _ old reply. reply ≡ Was old };
-
-    ghost can_make = { λ _. ⊤ };
-
-    #[inline(always)]
-    fn commit(key: &K, value: &V) -> Commit<K, V> {
-        Commit::Assign(Snapshot::of(key), Snapshot::of(value))
-    }
+    ghost can_make = { λ _ _. ⊤ };
 
     #[inline(always)]
     fn make<H: Held<Stripe<K, V>>>(
@@ -116,8 +105,9 @@ impl<K: TableKey + Drop, V: Drop> Insertion<K, V> for Assign {
         entry: Entry,
         key: K,
         value: V,
-    ) -> Option<V> {
-        insert_or_assign(held, place, entry, key, value)
+    ) -> (Option<V>, Commit<K, V>) {
+        let said = Commit::Assign(Snapshot::of(&key), Snapshot::of(&value));
+        (insert_or_assign(held, place, entry, key, value), said)
     }
 }
 
@@ -134,19 +124,14 @@ where
     ghost use Rattle.ck_model.specs.declared.history.Act.TheVariants.{Upsert};
     ghost use Rattle.ck_model.specs.declared.history.Reply.TheVariants.{New, Done};
 
+    type Value = V;
+
     type Answer = bool;
 
-    ghost asks = { λ v. Upsert v };
+    ghost tells = { λ u value fresh act reply. (act ≡ Upsert value)
+        × MatchBool fresh (reply ≡ New) ((v w : V) × F.post u.0 v w × (reply ≡ Done v w)) };
 
-    ghost tells = { λ u fresh reply. MatchBool fresh (reply ≡ New)
-        ((v w : V) × F.post u.0 v w × (reply ≡ Done v w)) };
-
-    ghost can_make = { λ u. F.IsAlwaysCallable u.0 };
-
-    #[inline(always)]
-    fn commit(key: &K, value: &V) -> Commit<K, V> {
-        Commit::Upsert(Snapshot::of(key), Snapshot::of(value))
-    }
+    ghost can_make = { λ u _. F.IsAlwaysCallable u.0 };
 
     #[inline(always)]
     fn make<H: Held<Stripe<K, V>>>(
@@ -156,7 +141,8 @@ where
         entry: Entry,
         key: K,
         value: V,
-    ) -> bool {
-        upsert(held, place, entry, key, self.0, value)
+    ) -> (bool, Commit<K, V>) {
+        let said = Commit::Upsert(Snapshot::of(&key), Snapshot::of(&value));
+        (upsert(held, place, entry, key, self.0, value), said)
     }
 }

@@ -1,5 +1,6 @@
 //! Calls that may bind an unbound key.
 ghost use Rattle.std.specs.Prelude.{◌≡◌, ◌≤◌, if◌then◌else◌, IfOk, IfErr, MatchBool};
+ghost use Rattle.ck_model.specs.declared.history.Act.{Act};
 ghost use Rattle.ck_model.specs.declared.history.Act.TheVariants.{Insert, Assign, Upsert};
 ghost use Rattle.ck_model.specs.declared.history.Reply.{Reply};
 ghost use Rattle.ck_model.specs.declared.history.Reply.TheVariants.{Was, New, Old, Done};
@@ -114,14 +115,15 @@ impl<K: TableKey + Drop, V: Drop> Table<K, V> {
         &self,
         pass: &mut Pass<K, V>,
         key: K,
-        value: V,
+        value: I::Value,
         insertion: I,
-    ) -> Result<I::Answer, Refused<K, V>>
+    ) -> Result<I::Answer, Refused<K, I::Value>>
         requires caller { IsCaller self.now pass.old }
-        requires call { I.can_make insertion }
+        requires call { I.can_make insertion value }
         ensures caller { IsCaller self.now pass.new }
-        ensures answered { IfOk result (λ answer. (reply : Reply V) × I.tells insertion answer reply
-            × IsInserted (K.name key) (I.asks value) reply pass.old pass.new) }
+        ensures answered { IfOk result (λ answer. (act : Act V) × (reply : Reply V)
+            × I.tells insertion value answer act reply
+            × IsInserted (K.name key) act reply pass.old pass.new) }
         ensures refused { IfErr result (λ e. (e.key ≡ key) × (e.value ≡ value)
             × IsRefused K.hash self.now.settings (K.name key) e.why pass.old pass.new) }
         ensures found { FindsOwnUnlessFull K.hash self.now.settings (K.name key) pass.old pass.new }
@@ -144,19 +146,20 @@ impl<K: TableKey + Drop, V: Drop> Table<K, V> {
         pass: &mut Pass<K, V>,
         missed: usize,
         key: K,
-        value: V,
+        value: I::Value,
         insertion: I,
         since: Snapshot<Pass<K, V>>,
-    ) -> Result<I::Answer, Refused<K, V>>
+    ) -> Result<I::Answer, Refused<K, I::Value>>
         requires since { IsCaller self.now since.value }
         requires own { IsPassOf self.now pass.old }
         requires unchanged { IsUnchanged pass.old }
         requires missed { Misses K.hash self.now
             (own_numbers self.now.settings.s (K.hash (K.name key))) missed since.value pass.old }
-        requires call { I.can_make insertion }
+        requires call { I.can_make insertion value }
         ensures caller { IsCaller self.now pass.new }
-        ensures answered { IfOk result (λ answer. (reply : Reply V) × I.tells insertion answer reply
-            × IsInserted (K.name key) (I.asks value) reply since.value pass.new) }
+        ensures answered { IfOk result (λ answer. (act : Act V) × (reply : Reply V)
+            × I.tells insertion value answer act reply
+            × IsInserted (K.name key) act reply since.value pass.new) }
         ensures refused { IfErr result (λ e. (e.key ≡ key) × (e.value ≡ value)
             × IsRefused K.hash self.now.settings (K.name key) e.why since.value pass.new) }
         ensures found { FindsOwnUnlessFull K.hash self.now.settings (K.name key)
@@ -179,17 +182,18 @@ impl<K: TableKey + Drop, V: Drop> Table<K, V> {
         pass: &mut Pass<K, V>,
         home: Home,
         key: K,
-        value: V,
+        value: I::Value,
         insertion: I,
         since: Snapshot<Pass<K, V>>,
-    ) -> Result<I::Answer, Refused<K, V>>
+    ) -> Result<I::Answer, Refused<K, I::Value>>
         requires since { IsCaller self.now since.value }
         requires home { IsHomeOf K.hash self.now.settings (K.name key) home }
         requires taken { HasTakenAll K.hash self.now (list_of home.stripes) since.value pass.old }
-        requires call { I.can_make insertion }
+        requires call { I.can_make insertion value }
         ensures caller { IsCaller self.now pass.new }
-        ensures answered { IfOk result (λ answer. (reply : Reply V) × I.tells insertion answer reply
-            × IsInserted (K.name key) (I.asks value) reply since.value pass.new) }
+        ensures answered { IfOk result (λ answer. (act : Act V) × (reply : Reply V)
+            × I.tells insertion value answer act reply
+            × IsInserted (K.name key) act reply since.value pass.new) }
         ensures refused { IfErr result (λ e. (e.key ≡ key) × (e.value ≡ value)
             × IsRefused K.hash self.now.settings (K.name key) e.why since.value pass.new) }
         ensures found { FindsOwnUnlessFull K.hash self.now.settings (K.name key)
@@ -211,19 +215,20 @@ impl<K: TableKey + Drop, V: Drop> Table<K, V> {
         pass: &mut Pass<K, V>,
         power: u32,
         key: K,
-        value: V,
+        value: I::Value,
         insertion: I,
         since: Snapshot<Pass<K, V>>,
-    ) -> Result<I::Answer, Refused<K, V>>
+    ) -> Result<I::Answer, Refused<K, I::Value>>
         requires since { IsCaller self.now since.value }
         requires caller { IsCaller self.now pass.old }
         requires full { HasFoundNoRoom (K.name key) since.value pass.old }
         requires power { power ≤ 26 }
         requires found { FindsOwn K.hash self.now.settings (K.name key) since.value pass.old }
-        requires call { I.can_make insertion }
+        requires call { I.can_make insertion value }
         ensures caller { IsCaller self.now pass.new }
-        ensures answered { IfOk result (λ answer. (reply : Reply V) × I.tells insertion answer reply
-            × IsInserted (K.name key) (I.asks value) reply since.value pass.new) }
+        ensures answered { IfOk result (λ answer. (act : Act V) × (reply : Reply V)
+            × I.tells insertion value answer act reply
+            × IsInserted (K.name key) act reply since.value pass.new) }
         ensures refused { IfErr result (λ e. (e.key ≡ key) × (e.value ≡ value)
             × IsRefused K.hash self.now.settings (K.name key) e.why since.value pass.new) }
         ensures found { FindsOwnUnlessFull K.hash self.now.settings (K.name key)
@@ -242,7 +247,7 @@ impl<K: TableKey + Drop, V: Drop> Table<K, V> {
         pass: &mut Pass<K, V>,
         room: Room,
         key: K,
-        value: V,
+        value: I::Value,
         insertion: I,
         since: Snapshot<Pass<K, V>>,
     ) -> I::Answer
@@ -252,20 +257,20 @@ impl<K: TableKey + Drop, V: Drop> Table<K, V> {
         requires numbered { numbers_of pass.old.stripes ≡ list_of room.spot.stripes }
         requires found { FindsOwnUnlessFull K.hash self.now.settings (K.name key)
             since.value pass.old }
-        requires call { I.can_make insertion }
+        requires call { I.can_make insertion value }
         ensures caller { IsCaller self.now pass.new }
-        ensures answered { (reply : Reply V) × I.tells insertion result reply
-            × IsInserted (K.name key) (I.asks value) reply since.value pass.new }
+        ensures answered { (act : Act V) × (reply : Reply V)
+            × I.tells insertion value result act reply
+            × IsInserted (K.name key) act reply since.value pass.new }
         ensures found { FindsOwnUnlessFull K.hash self.now.settings (K.name key)
             since.value pass.new }
     {
-        let said = I::commit(&key, &value);
         let mut lent = Lent {
             words: &self.words,
             pass,
             set: room.spot.stripes,
         };
-        let answer = insertion.make(&mut lent, room.spot.place, room.entry, key, value);
+        let (answer, said) = insertion.make(&mut lent, room.spot.place, room.entry, key, value);
         let Lent { pass, .. } = lent;
         self.words.commit(pass, room.spot.stripes, said);
         answer

@@ -2,6 +2,7 @@
 ghost use Rattle.std.specs.Prelude.{◌≡◌, ℕ, if◌then◌else◌, OnOk, OnErr, IfOk, IfErr, IfSome, IfNone, MatchBool, nat_eq, is_some};
 ghost use Rattle.std.specs.Option.{option_copied};
 ghost use Rattle.std.specs.FinMap.{get, len, entries};
+ghost use Rattle.ck_model.specs.declared.history.Act.{Act};
 ghost use Rattle.ck_model.specs.declared.history.Act.TheVariants.{Insert, Assign, Upsert, Update, Change, Erase};
 ghost use Rattle.ck_model.specs.declared.history.Call.TheVariants.{Session};
 ghost use Rattle.ck_model.specs.declared.history.Reply.{Reply};
@@ -171,12 +172,13 @@ impl<'t, K: TableKey + Drop, V: Drop> LockedTable<'t, K, V> {
     fn put<I: Insertion<K, V>>(
         &mut self,
         key: K,
-        value: V,
+        value: I::Value,
         insertion: I,
-    ) -> Result<I::Answer, Refused<K, V>>
-        requires call { I.can_make insertion }
-        ensures answered { IfOk result (λ answer. (reply : Reply V) × I.tells insertion answer reply
-            × HasActed (K.name key) (I.asks value) reply self.old self.new) }
+    ) -> Result<I::Answer, Refused<K, I::Value>>
+        requires call { I.can_make insertion value }
+        ensures answered { IfOk result (λ answer. (act : Act V) × (reply : Reply V)
+            × I.tells insertion value answer act reply
+            × HasActed (K.name key) act reply self.old self.new) }
         ensures refused { IfErr result (λ e. (e.key ≡ key) × (e.value ≡ value)
             × LacksRoom K.hash (K.name key) e.why self.old self.new) }
     {
@@ -193,12 +195,13 @@ impl<'t, K: TableKey + Drop, V: Drop> LockedTable<'t, K, V> {
     fn put_with_room<I: Insertion<K, V>>(
         &mut self,
         key: K,
-        value: V,
+        value: I::Value,
         insertion: I,
-    ) -> Result<I::Answer, Refused<K, V>>
-        requires call { I.can_make insertion }
-        ensures answered { IfOk result (λ answer. (reply : Reply V) × I.tells insertion answer reply
-            × HasActed (K.name key) (I.asks value) reply self.old self.new) }
+    ) -> Result<I::Answer, Refused<K, I::Value>>
+        requires call { I.can_make insertion value }
+        ensures answered { IfOk result (λ answer. (act : Act V) × (reply : Reply V)
+            × I.tells insertion value answer act reply
+            × HasActed (K.name key) act reply self.old self.new) }
         ensures refused { IfErr result (λ e. (e.key ≡ key) × (e.value ≡ value)
             × LacksRoom K.hash (K.name key) e.why self.old self.new) }
     {
@@ -367,14 +370,15 @@ fn put_in<K: TableKey + Drop, V: Drop, I: Insertion<K, V>>(
     whole: &mut Whole<K, V>,
     place: KeyPlace,
     key: K,
-    value: V,
+    value: I::Value,
     insertion: I,
-) -> Result<I::Answer, (K, V, I)>
+) -> Result<I::Answer, (K, I::Value, I)>
     requires place { IsPlaceOf K.hash whole.old.stripes (K.name key) place }
-    requires call { I.can_make insertion }
-    ensures call { IfOk result (λ answer. (reply : Reply V) × I.tells insertion answer reply
+    requires call { I.can_make insertion value }
+    ensures call { IfOk result (λ answer. (act : Act V) × (reply : Reply V)
+        × I.tells insertion value answer act reply
         × IsCall (effect K.hash (λ p. p.stripes) place whole.old whole.new) (K.name key)
-        (I.asks value) reply) }
+        act reply) }
     ensures full { IfErr result (λ back. (back.0 ≡ key) × (back.1 ≡ value) × (back.2 ≡ insertion)
         × IsWithoutRoom K.hash place.s whole.old.stripes (K.name key)) }
     ensures left { OnErr result (whole.new ≡ whole.old) }
@@ -382,7 +386,10 @@ fn put_in<K: TableKey + Drop, V: Drop, I: Insertion<K, V>>(
     ensures same { whole.new ≡ record whole.old { stripes = whole.new.stripes } }
 {
     match find_entry(whole, place, &key) {
-        Some(entry) => Ok(insertion.make(whole, place, entry, key, value)),
+        Some(entry) => {
+            let (answer, _) = insertion.make(whole, place, entry, key, value);
+            Ok(answer)
+        }
         None => Err((key, value, insertion)),
     }
 }

@@ -5,9 +5,10 @@ use Rattle.cuckoo_map.proofs.locked.put_in.Goals as goal
 
 pub returns-in-Some-clause-call : goal.returns-in-Some-clause-call
 returns-in-Some-clause-call g c =
-    let made = c.make.ensures.answered in (
+    let made = c.make-answer.ensures.answered in (
       made.0,
       made.1,
-      subst (λ (ss : List (StripeState g.row.V.Denot)). IsCallOn g.K.TableKey.hash c.args.place.s ss (g.K.TableKey.name c.args.key) (g.I.Insertion.asks c.args.value) made.0 c.make.new.held.stripes)
-          c.find_entry.ensures.same made.2,
+      made.2,
+      subst (λ (ss : List (StripeState g.row.V.Denot)). IsCallOn g.K.TableKey.hash c.args.place.s ss (g.K.TableKey.name c.args.key) made.0 made.1 c.make-answer.new.held.stripes)
+          c.find_entry.ensures.same made.4,
     )

@@ -3,14 +3,16 @@ use Rattle.cuckoo_map.proofs.locked.LockedTable.put.Goals as goal
 
 pub invariant_of-self : goal.invariant_of-self
 invariant_of-self g c =
+    let call = c.in-Ok.ensures.call in
     acted_locked c.self.invariant c.self.view_is c.place-place.result c.place-place.ensures.s (g.K.TableKey.name c.args.key) c.put_in.new.whole c.put_in.ensures.same
-    (g.I.Insertion.asks c.args.value) c.in-Ok.ensures.call.0 c.put_in.ensures.rest c.in-Ok.ensures.call.2
+    call.0 call.1 c.put_in.ensures.rest call.3
 
 pub returns-in-Ok-clause-answered : goal.returns-in-Ok-clause-answered
 returns-in-Ok-clause-answered g c =
     let call = c.in-Ok.ensures.call in (
       call.0,
       call.1,
+      call.2,
       has_acted c.self.invariant c.self.view_is c.place-place.result c.place-place.ensures.s (g.K.TableKey.name c.args.key) c.put_in.new.whole c.put_in.ensures.same
-          (g.I.Insertion.asks c.args.value) call.0 call.2,
+          call.0 call.1 call.3,
     )

@@ -11,16 +11,17 @@ unreachable-requires g c =
 
 pub invariant_of-self : goal.invariant_of-self
 invariant_of-self g c =
+    let call = c.in-Ok.ensures.call in
     acted_locked c.self.invariant c.self.view_is c.place-place.result c.place-place.ensures.s (g.K.TableKey.name c.args.key) c.put_in.new.whole c.put_in.ensures.same
-    (g.I.Insertion.asks c.args.value) c.in-Ok.ensures.call.0 c.put_in.ensures.rest c.in-Ok.ensures.call.2
+    call.0 call.1 c.put_in.ensures.rest call.3
 
 pub returns-clause-answered : goal.returns-clause-answered
 returns-clause-answered g c =
     let q = g.K.TableKey.name c.args.key in
-    let act = g.I.Insertion.asks c.args.value in
     let call = c.in-Ok.ensures.call in (
       call.0,
       call.1,
-      acted_since q act call.0 c.args.self.now c.make_room.new.self _ c.make_room.ensures.kept
-          (has_acted c.self.invariant c.self.view_is c.place-place.result c.place-place.ensures.s q c.put_in.new.whole c.put_in.ensures.same act call.0 call.2),
+      call.2,
+      acted_since q call.0 call.1 c.args.self.now c.make_room.new.self _ c.make_room.ensures.kept
+          (has_acted c.self.invariant c.self.view_is c.place-place.result c.place-place.ensures.s q c.put_in.new.whole c.put_in.ensures.same call.0 call.1 call.3),
     )

@@ -1,12 +1,10 @@
-use Rattle.std.proofs.Common.{subst}
 use Rattle.std.proofs.lemmas.Result.{IfOk-weaker}
-use Rattle.ck_model.specs.declared.history.Act.TheVariants.{Insert}
-use Rattle.ck_model.specs.declared.history.Reply.{Reply}
 use Rattle.cuckoo_map.specs.Insertions.{IsInserted}
+use Rattle.cuckoo_map.proofs.Told.{as_said}
 use Rattle.cuckoo_map.proofs.table.Table.insert.Goals as goal
 
 pub returns-clause-answered : goal.returns-clause-answered
 returns-clause-answered g c =
     IfOk-weaker c.place.result _ _
-    (λ fresh told. subst (λ (r : Reply g.row.V.Denot). IsInserted (g.K.TableKey.name c.args.key) (Insert c.args.value) r c.args.pass.now c.place.new.pass) told.1 told.2)
+    (λ fresh told. as_said (λ a r. IsInserted (g.K.TableKey.name c.args.key) a r c.args.pass.now c.place.new.pass) told.2 told.3)
     c.place.ensures.answered

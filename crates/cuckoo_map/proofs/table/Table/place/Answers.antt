@@ -1,7 +1,15 @@
-use Rattle.std.proofs.Common.{subst}
+use Rattle.std.proofs.Common.{IfOk, subst}
+use Rattle.ck_model.specs.declared.history.Act.{Act}
+use Rattle.ck_model.specs.declared.history.Reply.{Reply}
 use Rattle.ck_words.specs.Passes.{PassState}
-use Rattle.cuckoo_map.specs.Insertions.{FindsOwnUnlessFull}
+use Rattle.cuckoo_map.specs.Insertions.{IsInserted, FindsOwnUnlessFull}
 use Rattle.cuckoo_map.proofs.table.Table.place.Goals as goal
+
+pub returns-in-Ok-clause-answered : goal.returns-in-Ok-clause-answered
+returns-in-Ok-clause-answered g c =
+    subst (λ (p : PassState g.row.V.Denot). IfOk c.place_taken.result (λ answer. (act : Act g.row.V.Denot) × (reply : Reply g.row.V.Denot)
+    × g.I.Insertion.tells c.args.insertion c.args.value answer act reply × IsInserted (g.K.TableKey.name c.args.key) act reply p c.place_taken.new.pass))
+    c.of-since.ensures c.place_taken.ensures.answered
 
 pub returns-in-Ok-clause-found : goal.returns-in-Ok-clause-found
 returns-in-Ok-clause-found g c =

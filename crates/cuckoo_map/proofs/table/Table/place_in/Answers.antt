@@ -6,18 +6,18 @@ use Rattle.cuckoo_map.proofs.table.Table.place_in.Goals as goal
 pub commit-requires-clause-done : goal.commit-requires-clause-done
 commit-requires-clause-done g c =
     let made = c.make-answer.ensures.answered in
-    (made.0, does_there c.self.view_is c.requires.room c.make-answer.new.held.pass.now c.make-answer.ensures.stays.1 c.commit-said.ensures made.0 made.2)
+    (made.1, does_there c.self.view_is c.requires.room c.make-answer.new.held.pass.now c.make-answer.ensures.stays.1 made.3 made.1 made.4)
 
 pub returns-clause-answered : goal.returns-clause-answered
 returns-clause-answered g c =
     let made = c.make-answer.ensures.answered in
-    let said = says_there c.self.view_is c.requires.room c.make-answer.new.held.pass.now c.make-answer.ensures.stays.1 c.commit-said.ensures c.commit.ensures.answered made.0 made.2 in
+    let said = says_there c.self.view_is c.requires.room c.make-answer.new.held.pass.now c.make-answer.ensures.stays.1 made.3 c.commit.ensures.answered made.1 made.4 in
     let there : c.commit.new.pass ≡ c.pass-1.given.0 = search rules in
-    rw (← there) ((made.0, made.1, (c.requires.room.more, c.requires.room.own, said)))
+    rw (← there) ((made.0, made.1, made.2, (c.requires.room.more, c.requires.room.own, said)))
 
 pub returns-clause-found : goal.returns-clause-found
 returns-clause-found g c =
     let made = c.make-answer.ensures.answered in
-    let said = (says_there c.self.view_is c.requires.room c.make-answer.new.held.pass.now c.make-answer.ensures.stays.1 c.commit-said.ensures c.commit.ensures.answered made.0 made.2).stays.noroom in
+    let said = (says_there c.self.view_is c.requires.room c.make-answer.new.held.pass.now c.make-answer.ensures.stays.1 made.3 c.commit.ensures.answered made.1 made.4).stays.noroom in
     let there : c.commit.new.pass ≡ c.pass-1.given.0 = search rules in
     rw (← there) (found_since g.K.TableKey.hash c.args.self.now.settings (g.K.TableKey.name c.args.key) c.args.since.value c.args.pass.now c.commit.new.pass c.requires.found (search rules) (said ∙ sym c.requires.room.stays.noroom))
