@@ -5,3 +5,4 @@ pub mod Fields
 pub mod Stored
 pub mod Writes
 mod Pouring
+mod Listed

@@ -1,4 +1,5 @@
 pub mod Doubling
 pub mod Stripe
 pub mod Next
+pub mod Iter
 pub mod Laws

@@ -3,9 +3,11 @@
 #![tactic(auto)]
 
 mod crossings;
+mod iter;
 mod next;
 mod stripe;
 mod stripe_laws;
 
+pub use iter::Iter;
 pub use stripe::Stripe;
 pub use stripe_laws::law_of_doubling;

@@ -11,6 +11,7 @@ ghost use Rattle.ck_bucket.specs.Bucket.{HasName, LacksName, ReplacesValue, Chan
 ghost use Rattle.ck_stripe.specs.Doubling.{split_rows, doubled_content, SendsEach};
 ghost use Rattle.ck_stripe.specs.Stripe.{HasBucket, bucket_of, with_bucket, with_slot, empty_content, IsWellFormed, IsReserved};
 
+use crate::iter::Iter;
 use crate::next::Next;
 use ck_bucket::Rows;
 use ck_key::{NumKey, TableKey};
@@ -253,6 +254,14 @@ impl<K: TableKey + Drop, V: Drop> Stripe<K, V> {
         ensures formed { IsWellFormed self.now }
     {
         self.ledger as u64
+    }
+
+    /// Its pairs, in the order of rows and slots.
+    pub fn iter(&self) -> Iter<'_, K, V>
+        requires { self.now.settled ≡ true }
+        ensures { result ≡ pairs_in self.now.content }
+    {
+        Iter::new(&self.rows, 4 * self.next.count(self.s, self.power))
     }
 
     /// Takes the memory for a doubling, where the stripe has none yet. It is refused only for want
