@@ -19,3 +19,4 @@ pub mod Table
 pub mod Owned
 pub mod Visited
 pub mod Cleared
+pub mod Listed
