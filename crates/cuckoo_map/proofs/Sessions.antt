@@ -1,8 +1,11 @@
 -- All stripes in one list, from the lock of a table to its end.
-use Rattle.std.proofs.Common.{◌≡◌, ℕ, suc, ◌^◌, ◌<◌, ◌≤◌, List, [], ◌∷◌, length, get_or, reverse, inr, ⊎_elim, refl, sym, ap, ◌∙◌, subst, arith, Some, None, Result, OnOk, IfErr}
+use Rattle.std.proofs.Common.{◌≡◌, ℕ, suc, ◌*◌, ◌^◌, ◌<◌, ◌≤◌, List, [], ◌∷◌, length, get_or, reverse, inr, ⊎_elim, refl, sym, ap, ◌∙◌, subst, arith, Some, None, Result, OnOk, IfErr}
+use Rattle.std.proofs.Math.Pow.{pow_mono}
+use Rattle.std.proofs.lemmas.List.{length-map}
+use Rattle.std.proofs.lemmas.Nat.{pow_pos}
 use Rattle.std.proofs.lemmas.Result.{IfOk-weaker, IfErr-weaker}
 use Rattle.std.specs.Prelude.{Option}
-use Rattle.std.specs.FinMap.{get, len}
+use Rattle.std.specs.FinMap.{get, len, from_entries}
 use Rattle.ck_model.specs.declared.contents.Content.{Content}
 use Rattle.ck_model.specs.declared.history.Act.{Act}
 use Rattle.ck_model.specs.declared.history.Act.TheVariants.{Find}
@@ -13,12 +16,14 @@ use Rattle.ck_model.specs.declared.settings.Settings.{Settings}
 use Rattle.ck_model.specs.Map.{Name, Answers, Step}
 use Rattle.ck_model.specs.History.{After}
 use Rattle.ck_model.specs.Numbered.{IsIn, numbers, Holds}
-use Rattle.ck_model.specs.Contents.{Layout, layout, layout_of, Stripes, Lawful, pairs_of, bindings}
+use Rattle.ck_model.specs.Contents.{Layout, layout, layout_of, Stripes, Lawful, pairs_in, pairs_of, bindings, NamesApart}
 use Rattle.ck_model.specs.Paths.{HasNoRoom, Grounds}
 use Rattle.ck_model.specs.Sections.{HasAll, Renewed, Section, IdentitySection}
 use Rattle.ck_model.proofs.Numbered.{held_of_in, in_held}
 use Rattle.ck_model.proofs.Counted.{len-bindings}
+use Rattle.ck_model.proofs.Doubling.{pairs_apart}
 use Rattle.ck_stripe.specs.Stripe.{StripeState}
+use Rattle.ck_stripe.proofs.Writes.{few_entries}
 use Rattle.ck_section.specs.Stripes.{stripe_at, contents_of, settled_stripes}
 use Rattle.ck_section.specs.declared.place.KeyPlace.{KeyPlace}
 use Rattle.ck_section.specs.declared.room.Lack.{Lack}
@@ -26,6 +31,7 @@ use Rattle.ck_section.specs.Places.{IsPlaceOf}
 use Rattle.ck_section.specs.Room.{reason_of_lack, KeepsBindings, MakesRoom, GivesReason}
 use Rattle.ck_section.specs.Calls.{IsWithoutRoom, ChangesContents}
 use Rattle.ck_section.proofs.Decided.{IsCallOn}
+use Rattle.ck_section.proofs.Found.{holds_at}
 use Rattle.ck_section.proofs.Growing.{all_settled, contents_settled}
 use Rattle.ck_section.proofs.Kept.{table_after, settled_after}
 use Rattle.ck_section.specs.Whole.{AreAllHeld, AreSettled, IsTable, ClearsBindings}
@@ -41,8 +47,8 @@ use Rattle.ck_words.proofs.Reversed.{in_of_reverse, bindings-reverse}
 use Rattle.ck_words.proofs.Seating.{length-numbers, number_at}
 use Rattle.ck_words.proofs.WholeTables.{lawful_held}
 use Rattle.cuckoo_map.specs.Refusals.{IsStripeIn, why_of}
-use Rattle.cuckoo_map.specs.Locking.{LockedState, map_of, IsLocked, HasLocked, HasActed, Clears, KeepsMap, LacksRoom, SeeksRoom}
-use Rattle.cuckoo_map.proofs.Sizes.{renewed_same, has_all}
+use Rattle.cuckoo_map.specs.Locking.{LockedState, map_of, IsLocked, HasLocked, HasActed, Clears, Lists, KeepsMap, LacksRoom, SeeksRoom}
+use Rattle.cuckoo_map.proofs.Sizes.{renewed_same, has_all, few_of_each}
 
 same_list : (xs ys : List ℕ) → length xs ≡ length ys → ((i : ℕ) → i < length xs → get_or xs i 0 ≡ get_or ys i 0) → xs ≡ ys
 same_list [] [] e f = refl
@@ -159,6 +165,32 @@ module _ {V : Type 0} where
     -- the number of names that are bound
     pub counts_locked : length (pairs_of (contents_of p.stripes)) ≡ len (bindings (contents_of p.stripes))
     counts_locked = sym (len-bindings (layout_of hash w.settings) (contents_of p.stripes) l.renewed.lawful)
+
+    -- all pairs in the slots
+    pub lists_locked : (pairs : List (Name × V)) → pairs ≡ pairs_of (contents_of p.stripes) → (s : LockedState V) → ◌≡◌ {A = LockedState V} (record { table = w; pass = p }) s → Lists pairs (map_of s)
+    unfolding bindings
+    lists_locked pairs all s is = record {
+      same = ap from_entries all ∙ ap map_of is;
+      once = subst NamesApart (sym all) (pairs_apart (layout_of hash w.settings) (contents_of p.stripes) l.renewed.lawful);
+    }
+
+    -- of which there are no more than slots
+    pub few_locked : length (pairs_of (contents_of p.stripes)) ≤ 2 ^ 38
+    few_locked =
+        let all = few_of_each (4 * 2 ^ 26) (contents_of p.stripes) few in
+        let count : length (contents_of p.stripes) ≡ 2 ^ w.settings.s = length-map p.stripes _ ∙ l.table.count in
+        let many : 2 ^ w.settings.s ≤ 2 ^ 10 = pow_mono l.table.many in
+        omega arith
+      where
+        first : StripeState V
+        first = stripe_at p.stripes 0
+
+        few : (t : ℕ) (c : Content V) → Holds (contents_of p.stripes) t c → length (pairs_in c) ≤ 4 * 2 ^ 26
+        few t c held =
+            let some : 0 < length p.stripes = subst (λ n. 0 < n) (sym l.table.count) (pow_pos w.settings.s) in
+            let shaped = (l.renewed.lawful.sound t c held).shaped in
+            let power : c.power ≡ first.content.power = l.renewed.lawful.one_power t first.number c first.content held (holds_at p.stripes 0 some) in
+            subst (λ n. n ≤ 4 * 2 ^ 26) shaped.ledger (few_entries w.settings.s c shaped (subst (λ n. n ≤ 26) (sym power) l.table.most))
 
     -- what was done while it was locked
     pub session_done : (q : PassState V) → q ≡ p → HasDone hash w.settings (session_of q) Closed q

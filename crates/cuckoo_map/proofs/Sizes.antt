@@ -54,7 +54,7 @@ module _ {V : Type 0} where
       subst (λ (x : WordsState × PassState V). HasDone hash x.0.settings Len (Count n) x.1) (λ j. (sym is j, sym same j)) (counts_all hash w.settings p n whole count)
 
   -- no more pairs than slots, where no stripe has more
-  few_of_each : (n : ℕ) (hs : Stripes V) → ((t : ℕ) (c : Content V) → Holds hs t c → length (pairs_in c) ≤ n) → length (pairs_of hs) ≤ length hs * n
+  pub few_of_each : (n : ℕ) (hs : Stripes V) → ((t : ℕ) (c : Content V) → Holds hs t c → length (pairs_in c) ≤ n) → length (pairs_of hs) ≤ length hs * n
   few_of_each n [] each = omega arith
   few_of_each n (h ∷ hs) each =
       let here = each h.0 h.1 (inl (refl, refl)) in

@@ -1,13 +1,13 @@
 -- The whole table under one caller.
 use Rattle.std.specs.Prelude.{◌≡◌, ℕ, ◌<◌, List, reverse, [], Some, Result, OnOk, IfErr}
-use Rattle.std.specs.FinMap.{empty}
+use Rattle.std.specs.FinMap.{empty, from_entries}
 use Rattle.ck_model.specs.declared.history.Act.{Act}
 use Rattle.ck_model.specs.declared.history.Call.TheVariants.{On}
 use Rattle.ck_model.specs.declared.history.Reply.{Reply}
 use Rattle.ck_model.specs.declared.settings.Settings.{Settings}
 use Rattle.ck_model.specs.Map.{Name, Map, Step}
 use Rattle.ck_model.specs.History.{After}
-use Rattle.ck_model.specs.Contents.{layout_of, bindings}
+use Rattle.ck_model.specs.Contents.{layout_of, bindings, NamesApart}
 use Rattle.ck_model.specs.Paths.{Grounds}
 use Rattle.ck_model.specs.Sections.{Renewed}
 use Rattle.ck_stripe.specs.Stripe.{StripeState}
@@ -64,6 +64,11 @@ module _ {V : Type 0} where
     pub table : m.table ≡ l.table
     pub view : m.pass.view ≡ l.pass.view
     pub none : map_of m ≡ empty
+
+  -- The pairs are those of the map, each name once, in any order.
+  pub record Lists (pairs : List (Name × V)) (m : Map V) : Type 0 where
+    pub same : from_entries pairs ≡ m
+    pub once : NamesApart pairs
 
   -- From l to m the map stayed as it was. The power may have risen, and entries stand elsewhere.
   pub record KeepsMap (l m : LockedState V) : Type 0 where

@@ -1,5 +1,5 @@
 //! The whole table under one caller.
-ghost use Rattle.std.specs.Prelude.{◌≡◌, ℕ, if◌then◌else◌, OnOk, OnErr, IfOk, IfErr, IfSome, IfNone, MatchBool, nat_eq, is_some};
+ghost use Rattle.std.specs.Prelude.{◌≡◌, ◌≤◌, ◌^◌, ℕ, length, if◌then◌else◌, OnOk, OnErr, IfOk, IfErr, IfSome, IfNone, MatchBool, nat_eq, is_some};
 ghost use Rattle.std.specs.Option.{option_copied};
 ghost use Rattle.std.specs.FinMap.{get, len, entries};
 ghost use Rattle.ck_model.specs.declared.history.Act.{Act};
@@ -21,7 +21,7 @@ ghost use Rattle.ck_words.specs.Retries.{FindsAmong};
 ghost use Rattle.ck_words.specs.Answering.{IsAnswered, FollowsSeen};
 ghost use Rattle.ck_words.specs.Closing.{IsCaller};
 ghost use Rattle.cuckoo_map.specs.Refusals.{IsStripeIn, IsBusyAmong, why_of};
-ghost use Rattle.cuckoo_map.specs.Locking.{start_of, map_of, HasLocked, HasActed, Clears, KeepsMap, LacksRoom, SeeksRoom};
+ghost use Rattle.cuckoo_map.specs.Locking.{start_of, map_of, HasLocked, HasActed, Clears, Lists, KeepsMap, LacksRoom, SeeksRoom};
 
 use crate::caller::Caller;
 use crate::entries;
@@ -31,8 +31,8 @@ use crate::table::Table;
 use ck_key::{KeyHash, TableKey};
 use ck_model::settings::Settings;
 use ck_section::{
-    KeyPlace, Lack, clear_all, erase, export, find_entry, find_in_all, make_room, place_in_all,
-    settle_all, update, update_fn,
+    Iter, KeyPlace, Lack, clear_all, erase, export, find_entry, find_in_all, make_room,
+    place_in_all, settle_all, update, update_fn,
 };
 use ck_stripe::Stripe;
 use ck_words::{Pass, Whole};
@@ -302,6 +302,21 @@ impl<'t, K: TableKey + Drop, V: Drop> LockedTable<'t, K, V> {
         self.len() == 0
     }
 
+    /// All keys with their values, each once, in no particular order. It takes no memory.
+    ///
+    /// ```
+    /// let mut sum: u64 = 0;
+    /// for (_, value) in locked.iter() {
+    ///     sum = sum.wrapping_add(*value);
+    /// }
+    /// ```
+    pub fn iter(&self) -> Iter<'_, K, V>
+        ensures pairs { Lists result (map_of self.now) }
+        ensures few { length result ≤ 2 ^ 38 }
+    {
+        Iter::new(stripes_of(&self.whole))
+    }
+
     /// Unlocks the table, by which all that was done to it becomes one entry of the history. No
     /// other stands between what was seen when the table was locked and this one.
     pub fn unlock(self) -> Pass<K, V>
@@ -354,6 +369,18 @@ impl<'t, K: TableKey + Clone + Drop, V: Clone + Drop> LockedTable<'t, K, V> {
             ListsInOrder K.name K.cmp pairs.items (map_of self.now)) }
     {
         export(alloc, stripes_of(&self.whole))
+    }
+}
+
+impl<'a, 't, K: TableKey + Drop, V: Drop> IntoIterator for &'a LockedTable<'t, K, V> {
+    type Item = (&'a K, &'a V);
+
+    type IntoIter = Iter<'a, K, V>;
+
+    ghost into_iter_gives = { λ locked it. Lists it (map_of locked.now) × (length it ≤ 2 ^ 38) };
+
+    fn into_iter(self) -> Iter<'a, K, V> {
+        self.iter()
     }
 }
 
