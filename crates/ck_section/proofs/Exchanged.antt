@@ -12,6 +12,7 @@ use Rattle.ck_section.specs.Places.{IsPlaceOf, slot_in}
 use Rattle.ck_section.specs.Entries.{IsOccupied}
 use Rattle.ck_section.specs.Calls.{ChangesContents}
 use Rattle.ck_section.specs.TwoNames.{IsChangeOfTwo}
+use Rattle.ck_section.proofs.PutBack.{name_taken, entry_taken, is_taken, partial_taken}
 use Rattle.ck_section.proofs.Rebound.{taken, given, reach1, full1, reach2, free2, reach3, free3, changed, section}
 
 -- Slot x has the name a and slot y the name b in stripes that stay as they are while both are looked for; then the entry of x is taken.
@@ -21,23 +22,20 @@ module _ {V : Type 0} (hash : Name → ℕ) (a b : Name) (p1 p2 : KeyPlace) (str
   in_y : IsOccupied hash stripes b y
   in_y = subst (λ (l : List (StripeState V)). IsOccupied hash l b y) first in_y_then
 
-  now : slot_in stripes x ≡ Some (n, v)
-  now = ap (λ (l : List (StripeState V)). slot_in l x) (sym (second ∙ first)) ∙ took
-
   name_a : n ≡ a
-  name_a = (some_pair_parts _ _ _ _ (sym now ∙ in_x.found.1)).0
+  name_a = name_taken hash stripes a p1 of1 cur (second ∙ first) x in_x one n v took is_one
 
   at_x : slot_in stripes x ≡ Some (a, v)
-  at_x = now ∙ ap (λ (m : Name). Some (m, v)) name_a
+  at_x = entry_taken hash stripes a p1 of1 cur (second ∙ first) x in_x one n v took is_one
 
   from_one : one ≡ taken stripes x
-  from_one = is_one ∙ ap (λ (l : List (StripeState V)). taken l x) (second ∙ first)
+  from_one = is_taken hash stripes a p1 of1 cur (second ∙ first) x in_x one n v took is_one
 
   full_after : slot_in one y ≡ Some (b, in_y.found.0)
   full_after = ap (λ (l : List (StripeState V)). slot_in l y) from_one ∙ full1 hash a b p1 p2 stripes of1 of2 different x in_x.slot v at_x y in_y.slot in_y.found.0 in_y.found.1 v v
 
   pub partial_first : p1.partial ≡ partial_of (hash n)
-  partial_first = of1.partial ∙ ap (λ (m : Name). partial_of (hash m)) (sym name_a)
+  partial_first = partial_taken hash stripes a p1 of1 cur (second ∙ first) x in_x one n v took is_one
 
   pub second_reach : IsInReach one y.index y.bucket
   second_reach = subst (λ (l : List (StripeState V)). IsInReach l y.index y.bucket) (sym from_one) (reach1 hash a b p1 p2 stripes of1 of2 different x in_x.slot v at_x y in_y.slot in_y.found.0 in_y.found.1 v v)

@@ -4,6 +4,7 @@ pub mod Steps
 pub mod Rebinding
 pub mod Hopped
 pub mod Rebound
+pub mod PutBack
 pub mod Exchanged
 pub mod Kept
 pub mod AllStripes

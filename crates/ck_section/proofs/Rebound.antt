@@ -28,7 +28,7 @@ module _ {V : Type 0} where
   abbrev pub given : List (StripeState V) → HeldSlot → Name → V → List (StripeState V)
   given stripes at q v = set_slot stripes at (Some (q, v)) ((stripe_at stripes at.index).content.ledger + 1)
 
-  changed_slot : (stripes : List (StripeState V)) (at : HeldSlot) (x : Slot V) (n : ℕ) → at.index < length stripes → ChangesContents stripes (set_slot stripes at x n)
+  pub changed_slot : (stripes : List (StripeState V)) (at : HeldSlot) (x : Slot V) (n : ℕ) → at.index < length stripes → ChangesContents stripes (set_slot stripes at x n)
   changed_slot stripes at x n lt = set_changes stripes at.index (with_slot (stripe_at stripes at.index) at.bucket at.slot x n) lt refl
 
   module _ (hash : Name → ℕ) (a b : Name) (p1 p2 : KeyPlace) (stripes : List (StripeState V)) (of1 : IsPlaceOf hash stripes a p1) (of2 : IsPlaceOf hash stripes b p2) (different : a ≢ b) where

@@ -25,7 +25,10 @@ pub use hop::{Hop, make_hop};
 pub use iter::Iter;
 pub use listing::{entries, export, pour_all};
 pub use look::{key_place, sketch};
-pub use one_key::{erase, erase_fn, find, insert, insert_or_assign, update, update_fn, upsert};
+pub use one_key::{
+    erase, erase_fn, find, insert, insert_or_assign, replace_if, try_update, update, update_fn,
+    upsert,
+};
 pub use one_stripe::{is_settled, power};
 pub use place::{HeldBucket, HeldSlot, KeyPlace};
 pub use room::{Lack, make_room, settled_place};

@@ -1,6 +1,6 @@
 //! Calls on one key, whose two buckets are held. Each looks into a bucket once, and compares keys
 //! of one partial alone.
-ghost use Rattle.std.specs.Prelude.{◌≡◌, Some, None, IfSome, IfNone, IfOk, IfErr, MatchBool, if◌then◌else◌};
+ghost use Rattle.std.specs.Prelude.{◌≡◌, Some, None, Ok, Err, IfSome, IfNone, IfOk, IfErr, OnErr, MatchBool, MatchResult, if◌then◌else◌};
 ghost use Rattle.std.specs.Bool.{OnFalse};
 ghost use Rattle.std.specs.Fn.{FnOnceReturnsAt};
 ghost use Rattle.ck_model.specs.declared.history.Act.{Act};
@@ -196,6 +196,86 @@ where
     true
 }
 
+/// Binds a bound key to what the closure makes of its value, where it makes one, and says whether
+/// it did. Where the key is unbound, the closure is not called and comes back.
+pub fn replace_if<K: TableKey + Drop, V: Drop, H: Held<Stripe<K, V>>, F: FnOnce(&V) -> Option<V>>(
+    held: &mut H,
+    place: KeyPlace,
+    key: &K,
+    f: F,
+) -> Result<bool, F>
+    requires place { IsPlaceOf K.hash (H.stripes held.old) (K.name key.now) place }
+    requires call { F.IsAlwaysCallable f }
+    ensures bound { IfOk result (λ replaced. (v : V) × MatchBool replaced
+        ((w : V) × FnOnceReturnsAt F.FnOnce f v (Some w)
+        × IsCall (effect K.hash H.stripes place held.old held.new) (K.name key.now)
+        Change (Done v w))
+        (FnOnceReturnsAt F.FnOnce f v None
+        × IsCall (effect K.hash H.stripes place held.old held.new) (K.name key.now)
+        Find (Was (Some v)))) }
+    ensures unbound { IfErr result (λ back. (back ≡ f)
+        × IsCall (effect K.hash H.stripes place held.old held.new) (K.name key.now)
+        Find (Was None)) }
+    ensures same { MatchResult result
+        (λ replaced. OnFalse replaced (H.stripes held.new ≡ H.stripes held.old))
+        (λ _. H.stripes held.new ≡ H.stripes held.old) }
+    ensures rest { ChangesContents (H.stripes held.old) (H.stripes held.new) }
+    ensures stays { H.stays held.old held.new }
+{
+    let at = match find_slot(held, place, key) {
+        Some(at) => at,
+        None => return Err(f),
+    };
+    match one_stripe::read(held, at.index, at.bucket, at.slot, f) {
+        Some(value) => {
+            one_stripe::replace(held, at.index, at.bucket, at.slot, value);
+            Ok(true)
+        }
+        None => Ok(false),
+    }
+}
+
+/// Binds a bound key to the value that the closure gives back for its value, whether it succeeds or
+/// fails, and gives the error of a failure. Where the key is unbound, the closure is not called and
+/// comes back.
+pub fn try_update<
+    K: TableKey + Drop,
+    V: Drop,
+    H: Held<Stripe<K, V>>,
+    E,
+    F: FnOnce(V) -> Result<V, (V, E)>,
+>(held: &mut H, place: KeyPlace, key: &K, f: F) -> Result<Result<(), E>, F>
+    requires place { IsPlaceOf K.hash (H.stripes held.old) (K.name key.now) place }
+    requires call { F.IsAlwaysCallable f }
+    ensures bound { IfOk result (λ outcome. (v w : V)
+        × MatchResult outcome (λ _. F.post f v (Ok w)) (λ e. F.post f v (Err (w, e)))
+        × IsCall (effect K.hash H.stripes place held.old held.new) (K.name key.now)
+        Change (Done v w)) }
+    ensures unbound { IfErr result (λ back. (back ≡ f)
+        × IsCall (effect K.hash H.stripes place held.old held.new) (K.name key.now)
+        Change Absent) }
+    ensures same { OnErr result (H.stripes held.new ≡ H.stripes held.old) }
+    ensures rest { ChangesContents (H.stripes held.old) (H.stripes held.new) }
+    ensures stays { H.stays held.old held.new }
+{
+    let at = match find_slot(held, place, key) {
+        Some(at) => at,
+        None => return Err(f),
+    };
+    let (own, old) = one_stripe::remove(held, at.index, at.bucket, at.slot);
+    let (value, outcome) = value_and_outcome(f(old));
+    one_stripe::place(
+        held,
+        at.index,
+        at.bucket,
+        at.slot,
+        place.partial,
+        own,
+        value,
+    );
+    Ok(outcome)
+}
+
 /// Binds the key of the entry to the value where it is unbound, and else to what the closure makes
 /// of its value; says whether the key was unbound. Of closure and value the one that isn't used is
 /// dropped.
@@ -250,4 +330,14 @@ fn fill<K: TableKey + Drop, V: Drop, H: Held<Stripe<K, V>>>(
 {
     let partial = place.partial;
     one_stripe::place(held, at.index, at.bucket, at.slot, partial, key, value);
+}
+
+// The value that a success or a failure gave back, and which of the two it was.
+fn value_and_outcome<V, E>(made: Result<V, (V, E)>) -> (V, Result<(), E>)
+    ensures { MatchResult result.1 (λ _. made ≡ Ok result.0) (λ e. made ≡ Err (result.0, e)) }
+{
+    match made {
+        Ok(value) => (value, Ok(())),
+        Err((value, error)) => (value, Err(error)),
+    }
 }
