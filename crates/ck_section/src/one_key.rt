@@ -9,7 +9,7 @@ ghost use Rattle.ck_model.specs.declared.history.Act.TheVariants.{Find, Insert, 
 ghost use Rattle.ck_model.specs.declared.history.Reply.TheVariants.{Was, New, Old, Done, Absent};
 ghost use Rattle.ck_model.specs.Map.{Answers};
 ghost use Rattle.ck_section.specs.Places.{IsPlaceOf};
-ghost use Rattle.ck_section.specs.Entries.{IsEntryOf, IsVacant};
+ghost use Rattle.ck_section.specs.Entries.{IsEntryOf, IsOccupied, IsVacant};
 ghost use Rattle.ck_section.specs.Calls.{effect, IsCall, ChangesContents};
 
 use crate::entry::Entry;
@@ -313,8 +313,8 @@ where
     }
 }
 
-// Puts an unbound key into its slot.
-fn fill<K: TableKey + Drop, V: Drop, H: Held<Stripe<K, V>>>(
+/// Puts an unbound key into the slot of its entry.
+pub fn fill<K: TableKey + Drop, V: Drop, H: Held<Stripe<K, V>>>(
     held: &mut H,
     place: KeyPlace,
     at: HeldSlot,
@@ -340,4 +340,25 @@ fn value_and_outcome<V, E>(made: Result<V, (V, E)>) -> (V, Result<(), E>)
         Ok(value) => (value, Ok(())),
         Err((value, error)) => (value, Err(error)),
     }
+}
+
+/// What the closure answers for the value of a bound key, which has this slot.
+#[inline(always)]
+pub fn read_entry<K: TableKey + Drop, V: Drop, H: Held<Stripe<K, V>>, R, F: FnOnce(&V) -> R>(
+    held: &mut H,
+    _place: KeyPlace,
+    at: HeldSlot,
+    _key: &K,
+    f: F,
+) -> R
+    requires place { IsPlaceOf K.hash (H.stripes held.old) (K.name _key.now) _place }
+    requires occupied { IsOccupied K.hash (H.stripes held.old) (K.name _key.now) at }
+    requires call { F.IsAlwaysCallable f }
+    ensures bound { (v : V) × FnOnceReturnsAt F.FnOnce f v result
+        × IsCall (effect K.hash H.stripes _place held.old held.new) (K.name _key.now)
+        Find (Was (Some v)) }
+    ensures same { H.stripes held.new ≡ H.stripes held.old }
+    ensures stays { H.stays held.old held.new }
+{
+    one_stripe::read(held, at.index, at.bucket, at.slot, f)
 }

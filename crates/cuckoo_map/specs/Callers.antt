@@ -68,6 +68,13 @@ module _ {V : Type 0} where
       (RepliesInserting q (Upsert value) New c d)
       ((v w : V) × makes v w × RepliesInserting q (Upsert value) (Done v w) c d)
 
+  -- the name was bound to what the closure made where it was unbound, and else was found bound
+  abbrev pub InsertsBy : (V → Type 0) → Name → CallerState V → CallerState V → Bool → Type 0
+  InsertsBy makes q c d fresh =
+      MatchBool fresh
+      ((w : V) × makes w × RepliesInserting q (Insert w) New c d)
+      ((v : V) × RepliesInserting q Find (Was (Some v)) c d)
+
   -- the name was bound to the value, in place of this, where it was bound
   abbrev pub Updates : Name → V → CallerState V → CallerState V → Option V → Type 0
   Updates q value c d old = Replies (On q (Update value)) (Was old) c d
@@ -140,6 +147,11 @@ module _ {V : Type 0} where
   abbrev pub ComesBack : {K : Type 0} → (Name → ℕ) → Name → K → V → CallerState V → CallerState V → Refused K V → Type 0
   ComesBack hash q key value c d e =
       (e.key ≡ key) × (e.value ≡ value) × IsRefused hash c.table.settings q e.why c.pass d.pass
+
+  -- the insertion was refused, and key and closure came back
+  abbrev pub ClosureComesBack : {K F : Type 0} → (Name → ℕ) → Name → K → F → CallerState V → CallerState V → Refused K F → Type 0
+  ClosureComesBack hash q key f c d e =
+      (e.key ≡ key) × (e.value ≡ f) × IsRefused hash c.table.settings q e.why c.pass d.pass
 
   -- the call was refused, since it found this stripe held, which is such a one
   abbrev pub IsBusyOnSome : (ℕ → Type 0) → CallerState V → CallerState V → Busy → Type 0

@@ -74,6 +74,7 @@ impl<'t, K: TableKey + Drop, V: Drop> Caller<'t, K, V> {
     ghost use Rattle.cuckoo_map.specs.Callers.{IsBusyOn, IsBusyOnTwo, IsBusyOnSome, FindsHeldAmong, ComesBack};
     ghost use Rattle.ck_words.specs.Retries.{Stays};
     ghost use Rattle.cuckoo_map.specs.Callers.{Counts, GrowsTo, GrowsFor, IsBusyOnAny, FindsHeldOfAny};
+    ghost use Rattle.cuckoo_map.specs.Callers.{InsertsBy, ClosureComesBack};
     ghost use Rattle.cuckoo_map.specs.Locking.{HasLocked};
 
     /// The table.
@@ -204,6 +205,30 @@ impl<'t, K: TableKey + Drop, V: Drop> Caller<'t, K, V> {
         ensures found { FindsHeldUnlessFull K.hash (K.name key) self.old self.new }
     {
         self.table.upsert(&mut self.pass, key, f, value)
+    }
+
+    /// Binds an unbound key to what the closure makes, and says whether it was unbound. Where the
+    /// key is bound, the closure is not called. The table may grow for it. Refused, it changes no
+    /// binding and hands key and closure back. It is `Table::insert_with`.
+    ///
+    /// ```
+    /// match caller.insert_with(NumKey(5), || 50) {
+    ///     Ok(fresh) => println!(rt; "{}", if fresh { "new" } else { "old" })?,
+    ///     Err(refused) => println!(rt; "{}", refused.why)?,
+    /// }
+    /// ```
+    #[inline(always)]
+    pub fn insert_with<F: FnOnce() -> V>(&mut self, key: K, f: F) -> Result<bool, Refused<K, F>>
+    where
+        F: Drop,
+        requires call { F.IsAlwaysCallable f }
+        ensures same { IsSameCaller self.old self.new }
+        ensures answered { IfOk result (InsertsBy (F.post f) (K.name key) self.old self.new) }
+        ensures refused { IfErr result (
+            ClosureComesBack K.hash (K.name key) key f self.old self.new) }
+        ensures found { FindsHeldUnlessFull K.hash (K.name key) self.old self.new }
+    {
+        self.table.insert_with(&mut self.pass, key, f)
     }
 
     /// Binds a bound key to another value, and gives the one that it had; `None` where the key is

@@ -9,9 +9,10 @@ ghost use Rattle.ck_section.specs.Calls.{effect, IsCall, ChangesContents};
 ghost use Rattle.ck_words.specs.Commits.{call_of};
 
 use ck_key::TableKey;
-use ck_section::{Entry, Held, KeyPlace, insert, insert_or_assign, upsert};
+use ck_section::{Entry, Held, KeyPlace, fill, insert, insert_or_assign, read_entry, upsert};
 use ck_stripe::Stripe;
 use ck_words::Commit;
+use std::marker::PhantomData;
 use std::snapshot::Snapshot;
 
 // A call that may bind an unbound key.
@@ -144,5 +145,52 @@ where
     ) -> (bool, Commit<K, V>) {
         let said = Commit::Upsert(Snapshot::of(&key), Snapshot::of(&value));
         (upsert(held, place, entry, key, self.0, value), said)
+    }
+}
+
+// Binds an unbound key to what the closure makes, and says whether it was unbound. Where it was
+// bound, the closure isn't called.
+#[derive(Drop)]
+pub(crate) struct InsertWith<F>(pub(crate) PhantomData<F>);
+
+impl<K: TableKey + Drop, V: Drop, F: FnOnce() -> V> Insertion<K, V> for InsertWith<F>
+where
+    F: Drop,
+{
+    ghost use Rattle.std.specs.Prelude.{◌≡◌, MatchBool, Some};
+    ghost use Rattle.ck_model.specs.declared.history.Act.TheVariants.{Find, Insert};
+    ghost use Rattle.ck_model.specs.declared.history.Reply.TheVariants.{New, Was};
+
+    type Value = F;
+
+    type Answer = bool;
+
+    ghost tells = { λ _ f fresh act reply. MatchBool fresh
+        ((w : V) × F.post f w × (act ≡ Insert w) × (reply ≡ New))
+        ((v : V) × (act ≡ Find) × (reply ≡ Was (Some v))) };
+
+    ghost can_make = { λ _ f. F.IsAlwaysCallable f };
+
+    #[inline(always)]
+    fn make<H: Held<Stripe<K, V>>>(
+        self,
+        held: &mut H,
+        place: KeyPlace,
+        entry: Entry,
+        key: K,
+        value: F,
+    ) -> (bool, Commit<K, V>) {
+        match entry {
+            Entry::Occupied(at) => {
+                read_entry(held, place, at, &key, |_value: &V| ());
+                (false, Commit::Find(Snapshot::of(&key)))
+            }
+            Entry::Vacant(at) => {
+                let made = value();
+                let said = Commit::Insert(Snapshot::of(&key), Snapshot::of(&made));
+                fill(held, place, at, key, made);
+                (true, said)
+            }
+        }
     }
 }

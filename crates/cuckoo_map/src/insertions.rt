@@ -1,7 +1,7 @@
 //! Calls that may bind an unbound key.
-ghost use Rattle.std.specs.Prelude.{◌≡◌, ◌≤◌, if◌then◌else◌, IfOk, IfErr, MatchBool};
+ghost use Rattle.std.specs.Prelude.{◌≡◌, ◌≤◌, Some, if◌then◌else◌, IfOk, IfErr, MatchBool};
 ghost use Rattle.ck_model.specs.declared.history.Act.{Act};
-ghost use Rattle.ck_model.specs.declared.history.Act.TheVariants.{Insert, Assign, Upsert};
+ghost use Rattle.ck_model.specs.declared.history.Act.TheVariants.{Find, Insert, Assign, Upsert};
 ghost use Rattle.ck_model.specs.declared.history.Reply.{Reply};
 ghost use Rattle.ck_model.specs.declared.history.Reply.TheVariants.{Was, New, Old, Done};
 ghost use Rattle.ck_words.specs.Closing.{IsCaller};
@@ -21,6 +21,7 @@ use crate::refusal::{Refused, Why};
 use crate::table::Table;
 use ck_key::TableKey;
 use ck_words::{Lent, Pass};
+use std::marker::PhantomData;
 use std::snapshot::Snapshot;
 
 impl<K: TableKey + Drop, V: Drop> Table<K, V> {
@@ -104,6 +105,44 @@ impl<K: TableKey + Drop, V: Drop> Table<K, V> {
         ensures found { FindsOwnUnlessFull K.hash self.now.settings (K.name key) pass.old pass.new }
     {
         self.place(pass, key, value, entries::Upsert(f))
+    }
+
+    /// Binds an unbound key to what the closure makes, and says whether it was unbound. A bound key
+    /// keeps its value, and then the closure is not called and is dropped. It runs while the key's
+    /// stripes are held.
+    ///
+    /// Where both buckets of an unbound key are full, other entries are displaced to make room, and
+    /// where that is of no avail the table doubles, under all stripes; neither changes a binding.
+    ///
+    /// Refused, it changes no binding and hands key and closure back, which was not called: as
+    /// `Busy`, or where no displacement makes room and the table doesn't grow, as `Full` at its
+    /// greatest power, as `LoadTooLow` where too few slots are taken, or as `Memory`. The table may
+    /// have grown all the same.
+    ///
+    /// ```
+    /// let fresh: bool = table
+    ///     .insert_with(&mut pass, NumKey(5), || 50)
+    ///     .map_err(|refused| refused.why)?;
+    /// ```
+    pub fn insert_with<F: FnOnce() -> V>(
+        &self,
+        pass: &mut Pass<K, V>,
+        key: K,
+        f: F,
+    ) -> Result<bool, Refused<K, F>>
+    where
+        F: Drop,
+        requires caller { IsCaller self.now pass.old }
+        requires call { F.IsAlwaysCallable f }
+        ensures caller { IsCaller self.now pass.new }
+        ensures answered { IfOk result (λ fresh. MatchBool fresh
+            ((w : V) × F.post f w × IsInserted (K.name key) (Insert w) New pass.old pass.new)
+            ((v : V) × IsInserted (K.name key) Find (Was (Some v)) pass.old pass.new)) }
+        ensures refused { IfErr result (λ e. (e.key ≡ key) × (e.value ≡ f)
+            × IsRefused K.hash self.now.settings (K.name key) e.why pass.old pass.new) }
+        ensures found { FindsOwnUnlessFull K.hash self.now.settings (K.name key) pass.old pass.new }
+    {
+        self.place(pass, key, f, entries::InsertWith(PhantomData))
     }
 }
 

@@ -16,8 +16,8 @@
 //! Each answered call takes effect once, at one moment, in one legal sequential history of a plain
 //! map, with the reply that the map gives there. A call that finds a stripe held too often is
 //! refused as [`Busy`], and an insertion for which there is no room as [`Refused`]. Neither changes
-//! a binding. A refused insertion hands back key and value, a refused update the value; a closure
-//! is dropped.
+//! a binding. A refused insertion hands back the key with the value or the closure that was to make
+//! it, a refused update the value; any other closure is dropped.
 //!
 //! An entry is in one of the two buckets of its key (Pagh and Rodler 2004, "Cuckoo Hashing"), and a
 //! bucket has four slots (Dietzfelbinger and Weidling 2007). Striped locks guard the buckets (Li,

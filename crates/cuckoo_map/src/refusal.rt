@@ -81,7 +81,7 @@ impl Why {
 pub struct Refused<K, V> {
     /// The key that was to be bound.
     pub key: K,
-    /// The value that it was to be bound to.
+    /// The value that it was to be bound to, or the closure that was to make it.
     pub value: V,
     /// Why it was not.
     pub why: Why,
