@@ -99,7 +99,23 @@ module _ {V : Type 0} where
       let is = shaped.ledger in
       omega arith
 
-  -- a slot of a settled stripe is written
+  -- a settled stripe has as many other rows of four slots
+  pub consistent_rows : (hash : Name → ℕ) (t : StripeState V) → IsWellFormed t → t.settled ≡ true → (rows : List (List (Slot V))) (ledger : ℕ)
+      → length rows ≡ length t.content.rows → All (λ (row : List (Slot V)). length row ≡ 4) rows → ledger ≡ length (flat_map taken_in rows)
+      → IsConsistent hash (state_from t.number t.s t.content.power rows ledger t.settled t.room)
+  consistent_rows hash t formed settled rows ledger long four counted =
+      let after : StripeState V = state_from t.number t.s t.content.power rows ledger t.settled t.room in
+      record {
+        formed = subst IsWellFormed (sym (shown_settled hash after settled)) (record {
+          many = formed.many;
+          number = formed.number;
+          most = formed.most;
+          shaped = record { least = formed.shaped.least; rows = long ∙ formed.shaped.rows; four = four; ledger = counted };
+        });
+        late = λ f. absurd (true≢false (sym settled ∙ f));
+      }
+
+  -- a slot of it is written
   consistent_written : (hash : Name → ℕ) (t : StripeState V) → IsWellFormed t → t.settled ≡ true → (r i : ℕ) (o : Slot V) (slots : List (Slot V)) (ledger : ℕ) → r < length t.content.rows → i < 4
       → slots ≡ set (row_at t.content.rows r) i o → ledger + length (option_to_list (slot_at (row_at t.content.rows r) i)) ≡ t.content.ledger + length (option_to_list o)
       → IsConsistent hash (state_from t.number t.s t.content.power (set t.content.rows r slots) ledger t.settled t.room)
@@ -108,21 +124,9 @@ module _ {V : Type 0} where
       let slot = count_slots (row_at t.content.rows r) i o (omega arith) in
       let same : length (taken_in slots) ≡ length (taken_in (set (row_at t.content.rows r) i o)) = ap (λ (xs : List (Slot V)). length (taken_in xs)) is in
       let long : length slots ≡ 4 = ap length is ∙ length-set (row_at t.content.rows r) i o ∙ four in
-      let after : StripeState V = state_from t.number t.s t.content.power (set t.content.rows r slots) ledger t.settled t.room in
-      record {
-        formed = subst IsWellFormed (sym (shown_settled hash after settled)) (record {
-          many = formed.many;
-          number = formed.number;
-          most = formed.most;
-          shaped = record {
-            least = formed.shaped.least;
-            rows = length-set t.content.rows r slots ∙ formed.shaped.rows;
-            four = All-set (λ (row : List (Slot V)). length row ≡ 4) t.content.rows r slots long formed.shaped.four;
-            ledger = let all = count_rows t.content.rows r slots lt in let was = formed.shaped.ledger in omega arith;
-          };
-        });
-        late = λ f. absurd (true≢false (sym settled ∙ f));
-      }
+      consistent_rows hash t formed settled (set t.content.rows r slots) ledger (length-set t.content.rows r slots)
+      (All-set (λ (row : List (Slot V)). length row ≡ 4) t.content.rows r slots long formed.shaped.four)
+      (let all = count_rows t.content.rows r slots lt in let was = formed.shaped.ledger in omega arith)
 
   -- What a function stores that reads row r of a settled stripe, which is bucket b.
   module _ (hash : Name → ℕ) (t now : StripeState V) (kept : IsConsistent hash t) (is : shown hash t ≡ now) (settled : now.settled ≡ true) (b r : ℕ) (at : r ≡ b / 2 ^ now.s) (lt : r < length now.content.rows) where
