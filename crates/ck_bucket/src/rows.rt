@@ -9,6 +9,7 @@ ghost use Rattle.ck_model.specs.Paths.{partial_in};
 ghost use Rattle.ck_room.specs.Room.{items_of, block_of, AllNone};
 ghost use Rattle.ck_bucket.specs.Bucket.{HasName, LacksName, ReplacesValue, ChangesValue, ClonesAreEqual, staying, rising, low_row, high_row};
 ghost use Rattle.ck_bucket.specs.Rows.{no_entry, with_slot_in};
+ghost use Rattle.ck_bucket.specs.Retaining.{AsksOfSlot, AsksOfRow};
 
 use crate::head::Head;
 use ck_key::TableKey;
@@ -358,6 +359,49 @@ impl<K: TableKey + Drop, V: Drop> Rows<K, V> {
         if self.is_taken(row, slot) {
             let _pair = self.take(row, slot);
         }
+    }
+
+    /// Asks the closure of each of the row's pairs, in the order of their slots, and drops those
+    /// for which it answers false. Gives how many stay.
+    pub fn retain_row<F: FnMut(&K, &V) -> bool>(&mut self, row: usize, f: &mut F) -> u32
+        requires row { row < length self.old }
+        requires call { F.IsAlwaysCallable f.old }
+        ensures asked { AsksOfRow F.FnMut K.name f.old (row_at self.old row) (row_at self.new row)
+            f.new }
+        ensures rest { self.new ≡ slice_set self.old row (row_at self.new row) }
+        ensures len { result ≡ length (taken_in (row_at self.new row)) }
+        ensures few { result ≤ 4 }
+        ensures call { F.IsAlwaysCallable f.new }
+    {
+        self.retain_slot(row, 0, f)
+            + self.retain_slot(row, 1, f)
+            + self.retain_slot(row, 2, f)
+            + self.retain_slot(row, 3, f)
+    }
+
+    // Asks the closure of the pair in the slot, and drops it where the answer is false. Gives how
+    // many pairs stay there.
+    fn retain_slot<F: FnMut(&K, &V) -> bool>(&mut self, row: usize, slot: usize, f: &mut F) -> u32
+        requires row { row < length self.old }
+        requires below { slot < 4 }
+        requires call { F.IsAlwaysCallable f.old }
+        ensures asked { AsksOfSlot F.FnMut K.name f.old (slot_at (row_at self.old row) slot)
+            (slot_at (row_at self.new row) slot) f.new }
+        ensures rest { self.new
+            ≡ with_slot_in self.old row slot (slot_at (row_at self.new row) slot) }
+        ensures len { result ≡ length (option_to_list (slot_at (row_at self.new row) slot)) }
+        ensures one { result ≤ 1 }
+        ensures four { length (row_at self.old row) ≡ 4 }
+        ensures call { F.IsAlwaysCallable f.new }
+    {
+        let Some((key, value)) = self.get(row, slot) else {
+            return 0;
+        };
+        if f(key, value) {
+            return 1;
+        }
+        let _pair = self.take(row, slot);
+        0
     }
 }
 
