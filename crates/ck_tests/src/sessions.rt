@@ -276,6 +276,29 @@ fn make_calls(rt: &impl Abort, locked: &mut NumLocked<'_>, session: &Session)
     }
 }
 
+/// How many pairs a `for` comes to, and what their keys and values sum to.
+fn count_and_sum(locked: &NumLocked<'_>) -> (u64, u64) {
+    let mut count: u64 = 0;
+    let mut sum: u64 = 0;
+    for (key, value) in locked.iter() {
+        count = count.wrapping_add(1);
+        sum = sum.wrapping_add(key.0).wrapping_add(*value);
+    }
+    (count, sum)
+}
+
+/// The pairs that the session leaves are those that a `for` comes to.
+fn sums_all(rt: &impl Abort, locked: &NumLocked<'_>, session: &Session) {
+    let what = session.what;
+    let (count, sum) = count_and_sum(locked);
+    assert!(rt; count == locked.len(), "{what}: pairs of an iterator");
+    let mut want: u64 = 0;
+    for (key, value) in session.end {
+        want = want.wrapping_add(key.0).wrapping_add(*value);
+    }
+    assert!(rt; sum == want, "{what}: sum of an iterator");
+}
+
 /// Makes the calls of the session, and gives the pairs that it leaves.
 fn pairs_of(
     rt: &impl Abort,
@@ -287,6 +310,7 @@ fn pairs_of(
         return Err(Fail::from("a table that was not locked"));
     };
     make_calls(rt, &mut locked, session);
+    sums_all(rt, &locked, session);
     let pairs = locked.export(alloc);
     let _caller = locked.unlock_caller();
     Ok(pairs?)
@@ -474,6 +498,25 @@ fn exports_same(
     Ok(pairs.len() == plain.len())
 }
 
+/// Whether a `for` comes to each pair of the plain map once.
+fn iterates_same(
+    alloc: Global,
+    locked: &NumLocked<'_>,
+    plain: &PlainMap,
+) -> Result<bool, AllocError> {
+    let mut seen = PlainMap::new(alloc);
+    let mut count: u64 = 0;
+    for (key, value) in locked {
+        let name = name_of(alloc, key.0)?;
+        if plain.get(&name) != Some(*value) {
+            return Ok(false);
+        }
+        seen.insert(&name, *value)?;
+        count = count.wrapping_add(1);
+    }
+    Ok(seen.len() == plain.len() && count == plain.len() as u64)
+}
+
 /// A thousand random calls on both, and then all pairs.
 fn make_random_calls(
     rt: &impl Abort,
@@ -490,6 +533,8 @@ fn make_random_calls(
     }
     let same = exports_same(alloc, locked, plain)?;
     assert!(rt; same, "pairs");
+    let same = iterates_same(alloc, locked, plain)?;
+    assert!(rt; same, "pairs of an iterator");
     Ok(())
 }
 
