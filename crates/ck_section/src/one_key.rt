@@ -11,6 +11,7 @@ ghost use Rattle.ck_model.specs.Map.{Answers};
 ghost use Rattle.ck_section.specs.Places.{IsPlaceOf};
 ghost use Rattle.ck_section.specs.Entries.{IsEntryOf, IsOccupied, IsVacant};
 ghost use Rattle.ck_section.specs.Calls.{effect, IsCall, ChangesContents};
+ghost use Rattle.ck_section.specs.Uprasing.{IsUprased};
 
 use crate::entry::Entry;
 use crate::held::Held;
@@ -361,4 +362,63 @@ pub fn read_entry<K: TableKey + Drop, V: Drop, H: Held<Stripe<K, V>>, R, F: FnOn
     ensures stays { H.stays held.old held.new }
 {
     one_stripe::read(held, at.index, at.bucket, at.slot, f)
+}
+
+/// What became of a key that was upserted or erased, as a closure decided.
+#[derive(Debug, Clone, Copy, PartialEq, Eq)]
+pub enum Uprased {
+    /// It was unbound, and is bound to the value.
+    New,
+    /// It was bound, and is bound to what the closure made of its value.
+    Changed,
+    /// It was bound, and is unbound: the closure made nothing of its value.
+    Erased,
+}
+
+/// Binds the key of the entry to the value where it is unbound. Else it is bound to what the
+/// closure makes of its value, or unbound where the closure makes nothing. Of closure and value the
+/// one that isn't used is dropped.
+#[inline(always)]
+pub fn uprase<K: TableKey + Drop, V: Drop, H: Held<Stripe<K, V>>, F: FnOnce(V) -> Option<V>>(
+    held: &mut H,
+    place: KeyPlace,
+    entry: Entry,
+    key: K,
+    f: F,
+    value: V,
+) -> Uprased
+where
+    F: Drop,
+    requires place { IsPlaceOf K.hash (H.stripes held.old) (K.name key) place }
+    requires entry { IsEntryOf K.hash (H.stripes held.old) (K.name key) place entry }
+    requires call { F.IsAlwaysCallable f }
+    ensures call { IsUprased (F.post f) value
+        (IsCall (effect K.hash H.stripes place held.old held.new) (K.name key)) result }
+    ensures rest { ChangesContents (H.stripes held.old) (H.stripes held.new) }
+    ensures stays { H.stays held.old held.new }
+{
+    match entry {
+        Entry::Occupied(at) => {
+            let (bound, old) = one_stripe::remove(held, at.index, at.bucket, at.slot);
+            match f(old) {
+                Some(new) => {
+                    one_stripe::place(
+                        held,
+                        at.index,
+                        at.bucket,
+                        at.slot,
+                        place.partial,
+                        bound,
+                        new,
+                    );
+                    Uprased::Changed
+                }
+                None => Uprased::Erased,
+            }
+        }
+        Entry::Vacant(at) => {
+            fill(held, place, at, key, value);
+            Uprased::New
+        }
+    }
 }

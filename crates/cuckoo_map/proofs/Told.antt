@@ -1,9 +1,18 @@
 -- Which act an insertion was, by what it answered.
-use Rattle.std.proofs.Common.{◌≡◌, Bool, true, false, MatchBool, Some, subst}
+use Rattle.std.proofs.Common.{◌≡◌, Bool, true, false, MatchBool, Option, Some, refl, subst}
 use Rattle.ck_model.specs.declared.history.Act.{Act}
-use Rattle.ck_model.specs.declared.history.Act.TheVariants.{Find, Insert}
+use Rattle.ck_model.specs.declared.history.Act.TheVariants.{Find, Insert, Upsert, Erase}
 use Rattle.ck_model.specs.declared.history.Reply.{Reply}
 use Rattle.ck_model.specs.declared.history.Reply.TheVariants as replies
+use Rattle.ck_section.specs.declared.one_key.Uprased.{Uprased}
+use Rattle.ck_section.specs.declared.one_key.Uprased.TheVariants.{New, Changed, Erased}
+use Rattle.ck_section.specs.Uprasing.{IsUprased}
+
+-- the act that is committed, where an uprase with this value answers so
+abbrev pub uprase_act : {V : Type 0} → V → Uprased → Act V
+uprase_act value New = Upsert value
+uprase_act value Changed = Upsert value
+uprase_act value Erased = Erase
 
 -- P holds of an act with its reply
 module _ {V : Type 0} (P : Act V → Reply V → Type 0) where
@@ -17,3 +26,18 @@ module _ {V : Type 0} (P : Act V → Reply V → Type 0) where
       → MatchBool fresh ((w : V) × makes w × P (Insert w) replies.New) ((v : V) × P Find (replies.Was (Some v)))
   as_inserted makes true act reply told h = (told.0, told.1, as_said (told.2, told.3) h)
   as_inserted makes false act reply told h = (told.0, as_said (told.1, told.2) h)
+
+  -- an uprase, whose closure makes so
+  module _ (makes : V → Option V → Type 0) (value : V) where
+    abbrev pub Tells : Uprased → Act V → Reply V → Type 0
+    Tells answer act reply = IsUprased makes value (λ a r. (act ≡ a) × (reply ≡ r)) answer
+
+    pub as_uprased : (answer : Uprased) (act : Act V) (reply : Reply V) → Tells answer act reply → P act reply → IsUprased makes value P answer
+    as_uprased New act reply told h = as_said told h
+    as_uprased Changed act reply told h = (told.0, told.1, told.2, as_said told.3 h)
+    as_uprased Erased act reply told h = (told.0, told.1, as_said told.2 h)
+
+    pub uprased : (answer : Uprased) → IsUprased makes value P answer → (reply : Reply V) × Tells answer (uprase_act value answer) reply × P (uprase_act value answer) reply
+    uprased New h = (replies.New, (refl, refl), h)
+    uprased Changed h = (replies.Done h.0 h.1, (h.0, h.1, h.2, (refl, refl)), h.3)
+    uprased Erased h = (replies.Was (Some h.0), (h.0, h.1, (refl, refl)), h.2)

@@ -7,6 +7,8 @@ use Rattle.ck_model.specs.declared.history.Call.TheVariants.{On, ChangeTwo, Len}
 use Rattle.ck_model.specs.declared.history.Reply.{Reply}
 use Rattle.ck_model.specs.declared.history.Reply.TheVariants.{Was, New, Old, Done, DoneTwo, Absent, Count}
 use Rattle.ck_model.specs.Map.{Name}
+use Rattle.ck_section.specs.declared.one_key.Uprased.{Uprased}
+use Rattle.ck_section.specs.Uprasing.{IsUprased}
 use Rattle.ck_words.specs.Words.{WordsState}
 use Rattle.ck_words.specs.Passes.{PassState}
 use Rattle.ck_words.specs.Retries.{FindsAmong}
@@ -74,6 +76,10 @@ module _ {V : Type 0} where
       MatchBool fresh
       ((w : V) × makes w × RepliesInserting q (Insert w) New c d)
       ((v : V) × RepliesInserting q Find (Was (Some v)) c d)
+
+  -- the name was bound to the value where it was unbound, and else to what the closure made of its value, or unbound where it made nothing
+  abbrev pub Uprases : (V → Option V → Type 0) → Name → V → CallerState V → CallerState V → Uprased → Type 0
+  Uprases makes q value c d = IsUprased makes value (λ act reply. RepliesInserting q act reply c d)
 
   -- the name was bound to the value, in place of this, where it was bound
   abbrev pub Updates : Name → V → CallerState V → CallerState V → Option V → Type 0

@@ -8,6 +8,7 @@ pub mod Locking
 pub use Rattle.ck_model.specs.Map
 pub use Rattle.ck_model.specs.History
 pub use Rattle.ck_model.specs.Ranges
+pub use Rattle.ck_section.specs.Uprasing
 pub use Rattle.ck_words.specs.Words
 pub use Rattle.ck_words.specs.Passes
 pub use Rattle.ck_words.specs.Retries

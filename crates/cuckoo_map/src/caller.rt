@@ -8,6 +8,7 @@ use crate::locked::LockedTable;
 use crate::refusal::{Busy, GrowFault, NoCallers, Refused};
 use crate::table::Table;
 use ck_key::TableKey;
+use ck_section::Uprased;
 use ck_words::Pass;
 use std::alloc::Global;
 use std::marker::Model;
@@ -74,7 +75,7 @@ impl<'t, K: TableKey + Drop, V: Drop> Caller<'t, K, V> {
     ghost use Rattle.cuckoo_map.specs.Callers.{IsBusyOn, IsBusyOnTwo, IsBusyOnSome, FindsHeldAmong, ComesBack};
     ghost use Rattle.ck_words.specs.Retries.{Stays};
     ghost use Rattle.cuckoo_map.specs.Callers.{Counts, GrowsTo, GrowsFor, IsBusyOnAny, FindsHeldOfAny};
-    ghost use Rattle.cuckoo_map.specs.Callers.{InsertsBy, ClosureComesBack};
+    ghost use Rattle.cuckoo_map.specs.Callers.{InsertsBy, ClosureComesBack, Uprases};
     ghost use Rattle.cuckoo_map.specs.Locking.{HasLocked};
 
     /// The table.
@@ -229,6 +230,35 @@ impl<'t, K: TableKey + Drop, V: Drop> Caller<'t, K, V> {
         ensures found { FindsHeldUnlessFull K.hash (K.name key) self.old self.new }
     {
         self.table.insert_with(&mut self.pass, key, f)
+    }
+
+    /// Binds an unbound key to the value. A bound one is bound to what the closure makes of its
+    /// value, or unbound where the closure makes nothing. The table may grow for it. Refused, it
+    /// changes no binding, drops the closure and hands key and value back. It is `Table::uprase`.
+    ///
+    /// ```
+    /// match caller.uprase(NumKey(5), |left| left.checked_sub(1), 50)? {
+    ///     Uprased::New => println!(rt; "from 50 on")?,
+    ///     Uprased::Changed => println!(rt; "one less")?,
+    ///     Uprased::Erased => println!(rt; "none was left")?,
+    /// }
+    /// ```
+    #[inline(always)]
+    pub fn uprase<F: FnOnce(V) -> Option<V>>(
+        &mut self,
+        key: K,
+        f: F,
+        value: V,
+    ) -> Result<Uprased, Refused<K, V>>
+    where
+        F: Drop,
+        requires call { F.IsAlwaysCallable f }
+        ensures same { IsSameCaller self.old self.new }
+        ensures answered { IfOk result (Uprases (F.post f) (K.name key) value self.old self.new) }
+        ensures refused { IfErr result (ComesBack K.hash (K.name key) key value self.old self.new) }
+        ensures found { FindsHeldUnlessFull K.hash (K.name key) self.old self.new }
+    {
+        self.table.uprase(&mut self.pass, key, f, value)
     }
 
     /// Binds a bound key to another value, and gives the one that it had; `None` where the key is

@@ -9,7 +9,9 @@ ghost use Rattle.ck_section.specs.Calls.{effect, IsCall, ChangesContents};
 ghost use Rattle.ck_words.specs.Commits.{call_of};
 
 use ck_key::TableKey;
-use ck_section::{Entry, Held, KeyPlace, fill, insert, insert_or_assign, read_entry, upsert};
+use ck_section::{
+    Entry, Held, KeyPlace, Uprased, fill, insert, insert_or_assign, read_entry, uprase, upsert,
+};
 use ck_stripe::Stripe;
 use ck_words::Commit;
 use std::marker::PhantomData;
@@ -191,6 +193,46 @@ where
                 fill(held, place, at, key, made);
                 (true, said)
             }
+        }
+    }
+}
+
+// Binds an unbound key to the value, and a bound one to what the closure makes of its value, or
+// unbinds it where the closure makes nothing.
+#[derive(Drop)]
+pub(crate) struct Uprase<F>(pub(crate) F);
+
+impl<K: TableKey + Drop, V: Drop, F: FnOnce(V) -> Option<V>> Insertion<K, V> for Uprase<F>
+where
+    F: Drop,
+{
+    ghost use Rattle.std.specs.Prelude.{◌≡◌};
+    ghost use Rattle.ck_section.specs.Uprasing.{IsUprased};
+
+    type Value = V;
+
+    type Answer = Uprased;
+
+    ghost tells = { λ u value answer act reply.
+        IsUprased (F.post u.0) value (λ a r. (act ≡ a) × (reply ≡ r)) answer };
+
+    ghost can_make = { λ u _. F.IsAlwaysCallable u.0 };
+
+    #[inline(always)]
+    fn make<H: Held<Stripe<K, V>>>(
+        self,
+        held: &mut H,
+        place: KeyPlace,
+        entry: Entry,
+        key: K,
+        value: V,
+    ) -> (Uprased, Commit<K, V>) {
+        let said_key = Snapshot::of(&key);
+        let said_value = Snapshot::of(&value);
+        let answer = uprase(held, place, entry, key, self.0, value);
+        match answer {
+            Uprased::Erased => (answer, Commit::Erase(said_key)),
+            Uprased::New | Uprased::Changed => (answer, Commit::Upsert(said_key, said_value)),
         }
     }
 }

@@ -4,6 +4,7 @@ ghost use Rattle.ck_model.specs.declared.history.Act.{Act};
 ghost use Rattle.ck_model.specs.declared.history.Act.TheVariants.{Find, Insert, Assign, Upsert};
 ghost use Rattle.ck_model.specs.declared.history.Reply.{Reply};
 ghost use Rattle.ck_model.specs.declared.history.Reply.TheVariants.{Was, New, Old, Done};
+ghost use Rattle.ck_section.specs.Uprasing.{IsUprased};
 ghost use Rattle.ck_words.specs.Closing.{IsCaller};
 ghost use Rattle.ck_words.specs.Passes.{IsPassOf, IsUnchanged, numbers_of};
 ghost use Rattle.ck_words.specs.StripeNumbers.{own_numbers};
@@ -20,6 +21,7 @@ use crate::key_room::Room;
 use crate::refusal::{Refused, Why};
 use crate::table::Table;
 use ck_key::TableKey;
+use ck_section::Uprased;
 use ck_words::{Lent, Pass};
 use std::marker::PhantomData;
 use std::snapshot::Snapshot;
@@ -143,6 +145,43 @@ impl<K: TableKey + Drop, V: Drop> Table<K, V> {
         ensures found { FindsOwnUnlessFull K.hash self.now.settings (K.name key) pass.old pass.new }
     {
         self.place(pass, key, f, entries::InsertWith(PhantomData))
+    }
+
+    /// Binds an unbound key to the value. A bound one is bound to what the closure makes of its
+    /// value, or unbound where the closure makes nothing. Of closure and value the one that isn't
+    /// used is dropped. The closure runs while the key's stripes are held.
+    ///
+    /// Where both buckets of an unbound key are full, other entries are displaced to make room, and
+    /// where that is of no avail the table doubles, under all stripes; neither changes a binding.
+    ///
+    /// Refused, it changes no binding, drops the closure and hands key and value back: as `Busy`,
+    /// or where no displacement makes room and the table doesn't grow, as `Full` at its greatest
+    /// power, as `LoadTooLow` where too few slots are taken, or as `Memory`. The table may have
+    /// grown all the same.
+    ///
+    /// ```
+    /// let count_down = |left: u64| left.checked_sub(1);
+    /// let uprased = table.uprase(&mut pass, NumKey(5), count_down, 50)?;
+    /// ```
+    pub fn uprase<F: FnOnce(V) -> Option<V>>(
+        &self,
+        pass: &mut Pass<K, V>,
+        key: K,
+        f: F,
+        value: V,
+    ) -> Result<Uprased, Refused<K, V>>
+    where
+        F: Drop,
+        requires caller { IsCaller self.now pass.old }
+        requires call { F.IsAlwaysCallable f }
+        ensures caller { IsCaller self.now pass.new }
+        ensures answered { IfOk result (IsUprased (F.post f) value
+            (λ act reply. IsInserted (K.name key) act reply pass.old pass.new)) }
+        ensures refused { IfErr result (λ e. (e.key ≡ key) × (e.value ≡ value)
+            × IsRefused K.hash self.now.settings (K.name key) e.why pass.old pass.new) }
+        ensures found { FindsOwnUnlessFull K.hash self.now.settings (K.name key) pass.old pass.new }
+    {
+        self.place(pass, key, value, entries::Uprase(f))
     }
 }
 

@@ -48,7 +48,7 @@ mod table;
 pub use caller::Caller;
 pub use ck_key::{KeyFault, MixedKey, NumKey, TableKey, TextKey};
 pub use ck_model::settings::{OutOfRange, Settings};
-pub use ck_section::Iter;
+pub use ck_section::{Iter, Uprased};
 pub use ck_words::Pass;
 pub use locked::LockedTable;
 pub use refusal::{Busy, GrowFault, NoCallers, OpenFault, Refused, Why};
