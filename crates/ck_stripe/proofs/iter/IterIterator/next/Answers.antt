@@ -1,31 +1,27 @@
-use Rattle.std.proofs.Common.{rules, ◌≡◌, ◌+◌, None, Some, ◌∷◌, sym, ◌∙◌}
-use Rattle.ck_model.specs.Map.{named}
-use Rattle.ck_stripe.specs.Iter.{pairs_from}
+use Rattle.std.proofs.Common.{rules, None, Some, sym, ◌∙◌, arith}
 use Rattle.ck_stripe.proofs.Listed.{none_left, next_left}
-use Rattle.ck_stripe.proofs.iter.IterIterator.next.Given.{Over}
 use Rattle.ck_stripe.proofs.iter.IterIterator.next.Goals as goal
 
--- the pair that was found is the first of those that were left
-found_first : (g : Over) (c : goal.In-Some g) → c.args.self.now ≡ named g.K.TableKey.name c.in-Some.pair.now ∷ pairs_from (c.loop-self.self-inside.slot + 1) c.loop-self.self-inside.rows.now
-found_first g c =
-    let it = c.loop-self.self-inside in
-    sym c.loop-self.invariant.left ∙ next_left it.rows.now it.count it.slot c.loop-self.invariant.has c.loop-self-test.true g.K.TableKey.name (Some c.in-Some.pair.now) c.in-Some.ensures.value
-
 pub returns-in-Some-clause-steps : goal.returns-in-Some-clause-steps
-returns-in-Some-clause-steps g c = found_first g c
+returns-in-Some-clause-steps g c =
+    let it = c.loop-self.self-inside in
+    sym c.loop-self.invariant.left ∙ next_left it.rows.now it.count it.slot c.loop-self.invariant.has (omega arith) g.K.TableKey.name (Some c.in-Some.pair.now) c.in-Some.ensures.value
 
 pub returns-in-Some-clause-goes : goal.returns-in-Some-clause-goes
-returns-in-Some-clause-goes g c = let first = found_first g c in search rules
+returns-in-Some-clause-goes g c =
+    let it = c.loop-self.self-inside in
+    let fewer = next_left it.rows.now it.count it.slot c.loop-self.invariant.has (omega arith) g.K.TableKey.name (Some c.in-Some.pair.now) c.in-Some.ensures.value in
+    search rules
 
 pub loop-self-preserved : goal.loop-self-preserved
 loop-self-preserved g c =
     let it = c.loop-self.self-inside in record {
       has = c.loop-self.invariant.has;
-      left = sym (next_left it.rows.now it.count it.slot c.loop-self.invariant.has c.loop-self-test.true g.K.TableKey.name None c.in_default.ensures.value) ∙ c.loop-self.invariant.left;
+      left = sym (next_left it.rows.now it.count it.slot c.loop-self.invariant.has (omega arith) g.K.TableKey.name None c.in_default.ensures.value) ∙ c.loop-self.invariant.left;
     }
 
 pub returns-clause-steps : goal.returns-clause-steps
 returns-clause-steps g c =
     let it = c.loop-self.self-inside in
-    let none = none_left it.rows.now it.count it.slot c.loop-self.invariant.has c.loop-self-test.false in
+    let none = none_left it.rows.now it.count it.slot c.loop-self.invariant.has (omega arith) in
     (sym c.loop-self.invariant.left ∙ none, none)
