@@ -1,5 +1,5 @@
 -- Which act an insertion was, by what it answered.
-use Rattle.std.proofs.Common.{◌≡◌, Bool, true, false, MatchBool, Option, Some, refl, subst}
+use Rattle.std.proofs.Common.{◌≡◌, ◌⊎◌, inl, inr, ⊎_elim, Bool, true, false, MatchBool, Option, Some, refl, subst}
 use Rattle.ck_model.specs.declared.history.Act.{Act}
 use Rattle.ck_model.specs.declared.history.Act.TheVariants.{Find, Insert, Upsert, Erase}
 use Rattle.ck_model.specs.declared.history.Reply.{Reply}
@@ -26,6 +26,11 @@ module _ {V : Type 0} (P : Act V → Reply V → Type 0) where
       → MatchBool fresh ((w : V) × makes w × P (Insert w) replies.New) ((v : V) × P Find (replies.Was (Some v)))
   as_inserted makes true act reply told h = (told.0, told.1, as_said (told.2, told.3) h)
   as_inserted makes false act reply told h = (told.0, as_said (told.1, told.2) h)
+
+  -- a look-up that inserts what the closure makes, which makes so
+  pub as_found : (made : Type 0) (v : V) (act : Act V) (reply : Reply V) → (made × (act ≡ Insert v) × (reply ≡ replies.New)) ⊎ ((act ≡ Find) × (reply ≡ replies.Was (Some v))) → P act reply
+      → (made × P (Insert v) replies.New) ⊎ P Find (replies.Was (Some v))
+  as_found made v act reply told h = ⊎_elim (λ new. inl (new.0, as_said (new.1, new.2) h)) (λ found. inr (as_said found h)) told
 
   -- an uprase, whose closure makes so
   module _ (makes : V → Option V → Type 0) (value : V) where

@@ -1,5 +1,5 @@
 -- What contracts see of a caller, and what its calls leave of it.
-use Rattle.std.specs.Prelude.{◌≡◌, ℕ, List, map, Option, Some, None, Result, Bool, MatchOption, MatchBool, if◌then◌else◌}
+use Rattle.std.specs.Prelude.{◌≡◌, ◌⊎◌, ℕ, List, map, Option, Some, None, Result, Bool, MatchOption, MatchBool, if◌then◌else◌}
 use Rattle.ck_model.specs.declared.history.Act.{Act}
 use Rattle.ck_model.specs.declared.history.Act.TheVariants.{Find, Insert, Assign, Upsert, Update, Change, Erase}
 use Rattle.ck_model.specs.declared.history.Call.{Call}
@@ -76,6 +76,11 @@ module _ {V : Type 0} where
       MatchBool fresh
       ((w : V) × makes w × RepliesInserting q (Insert w) New c d)
       ((v : V) × RepliesInserting q Find (Was (Some v)) c d)
+
+  -- the closure made this, to which the unbound name was bound, or the name was bound to it before
+  abbrev pub FindsOrInserts : (V → Type 0) → Name → CallerState V → CallerState V → V → Type 0
+  FindsOrInserts makes q c d v =
+      (makes v × RepliesInserting q (Insert v) New c d) ⊎ RepliesInserting q Find (Was (Some v)) c d
 
   -- the name was bound to the value where it was unbound, and else to what the closure made of its value, or unbound where it made nothing
   abbrev pub Uprases : (V → Option V → Type 0) → Name → V → CallerState V → CallerState V → Uprased → Type 0

@@ -75,7 +75,7 @@ impl<'t, K: TableKey + Drop, V: Drop> Caller<'t, K, V> {
     ghost use Rattle.cuckoo_map.specs.Callers.{IsBusyOn, IsBusyOnTwo, IsBusyOnSome, FindsHeldAmong, ComesBack};
     ghost use Rattle.ck_words.specs.Retries.{Stays};
     ghost use Rattle.cuckoo_map.specs.Callers.{Counts, GrowsTo, GrowsFor, IsBusyOnAny, FindsHeldOfAny};
-    ghost use Rattle.cuckoo_map.specs.Callers.{InsertsBy, ClosureComesBack, Uprases};
+    ghost use Rattle.cuckoo_map.specs.Callers.{InsertsBy, ClosureComesBack, Uprases, FindsOrInserts};
     ghost use Rattle.cuckoo_map.specs.Locking.{HasLocked};
 
     /// The table.
@@ -259,6 +259,32 @@ impl<'t, K: TableKey + Drop, V: Drop> Caller<'t, K, V> {
         ensures found { FindsHeldUnlessFull K.hash (K.name key) self.old self.new }
     {
         self.table.uprase(&mut self.pass, key, f, value)
+    }
+
+    /// The value of the key. An unbound one is bound to what the closure makes; for a bound one the
+    /// closure is not called. The table may grow for it. Refused, it changes no binding and hands
+    /// key and closure back. It is `Table::get_or_insert_with`.
+    ///
+    /// ```
+    /// match caller.get_or_insert_with(NumKey(5), || 50) {
+    ///     Ok(value) => println!(rt; "{value}")?,
+    ///     Err(refused) => println!(rt; "{}", refused.why)?,
+    /// }
+    /// ```
+    #[inline(always)]
+    pub fn get_or_insert_with<F: FnOnce() -> V>(&mut self, key: K, f: F) -> Result<V, Refused<K, F>>
+    where
+        V: Copy,
+        F: Drop,
+        requires call { F.IsAlwaysCallable f }
+        ensures same { IsSameCaller self.old self.new }
+        ensures answered { IfOk result (
+            FindsOrInserts (F.post f) (K.name key) self.old self.new) }
+        ensures refused { IfErr result (
+            ClosureComesBack K.hash (K.name key) key f self.old self.new) }
+        ensures found { FindsHeldUnlessFull K.hash (K.name key) self.old self.new }
+    {
+        self.table.get_or_insert_with(&mut self.pass, key, f)
     }
 
     /// Binds a bound key to another value, and gives the one that it had; `None` where the key is

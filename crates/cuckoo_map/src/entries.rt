@@ -236,3 +236,48 @@ where
         }
     }
 }
+
+// Gives the value of the key. An unbound one is bound to what the closure makes.
+#[derive(Drop)]
+pub(crate) struct GetOrInsertWith<F>(pub(crate) PhantomData<F>);
+
+impl<K: TableKey + Drop, V: Copy + Drop, F: FnOnce() -> V> Insertion<K, V> for GetOrInsertWith<F>
+where
+    F: Drop,
+{
+    ghost use Rattle.std.specs.Prelude.{◌≡◌, ◌⊎◌, Some};
+    ghost use Rattle.ck_model.specs.declared.history.Act.TheVariants.{Find, Insert};
+    ghost use Rattle.ck_model.specs.declared.history.Reply.TheVariants.{New, Was};
+
+    type Value = F;
+
+    type Answer = V;
+
+    ghost tells = { λ _ f v act reply. (F.post f v × (act ≡ Insert v) × (reply ≡ New))
+        ⊎ ((act ≡ Find) × (reply ≡ Was (Some v))) };
+
+    ghost can_make = { λ _ f. F.IsAlwaysCallable f };
+
+    #[inline(always)]
+    fn make<H: Held<Stripe<K, V>>>(
+        self,
+        held: &mut H,
+        place: KeyPlace,
+        entry: Entry,
+        key: K,
+        value: F,
+    ) -> (V, Commit<K, V>) {
+        match entry {
+            Entry::Occupied(at) => {
+                let found = read_entry(held, place, at, &key, |bound: &V| *bound);
+                (found, Commit::Find(Snapshot::of(&key)))
+            }
+            Entry::Vacant(at) => {
+                let made = value();
+                let said = Commit::Insert(Snapshot::of(&key), Snapshot::of(&made));
+                fill(held, place, at, key, made);
+                (made, said)
+            }
+        }
+    }
+}

@@ -1,5 +1,5 @@
 //! Calls that may bind an unbound key.
-ghost use Rattle.std.specs.Prelude.{◌≡◌, ◌≤◌, Some, if◌then◌else◌, IfOk, IfErr, MatchBool};
+ghost use Rattle.std.specs.Prelude.{◌≡◌, ◌⊎◌, ◌≤◌, Some, if◌then◌else◌, IfOk, IfErr, MatchBool};
 ghost use Rattle.ck_model.specs.declared.history.Act.{Act};
 ghost use Rattle.ck_model.specs.declared.history.Act.TheVariants.{Find, Insert, Assign, Upsert};
 ghost use Rattle.ck_model.specs.declared.history.Reply.{Reply};
@@ -182,6 +182,44 @@ impl<K: TableKey + Drop, V: Drop> Table<K, V> {
         ensures found { FindsOwnUnlessFull K.hash self.now.settings (K.name key) pass.old pass.new }
     {
         self.place(pass, key, value, entries::Uprase(f))
+    }
+
+    /// The value of the key. An unbound one is bound to what the closure makes; for a bound one the
+    /// closure is not called and is dropped. It runs while the key's stripes are held.
+    ///
+    /// Where both buckets of an unbound key are full, other entries are displaced to make room, and
+    /// where that is of no avail the table doubles, under all stripes; neither changes a binding.
+    ///
+    /// Refused, it changes no binding and hands key and closure back, which was not called: as
+    /// `Busy`, or where no displacement makes room and the table doesn't grow, as `Full` at its
+    /// greatest power, as `LoadTooLow` where too few slots are taken, or as `Memory`. The table may
+    /// have grown all the same.
+    ///
+    /// ```
+    /// let value: u64 = table
+    ///     .get_or_insert_with(&mut pass, NumKey(5), || 50)
+    ///     .map_err(|refused| refused.why)?;
+    /// ```
+    pub fn get_or_insert_with<F: FnOnce() -> V>(
+        &self,
+        pass: &mut Pass<K, V>,
+        key: K,
+        f: F,
+    ) -> Result<V, Refused<K, F>>
+    where
+        V: Copy,
+        F: Drop,
+        requires caller { IsCaller self.now pass.old }
+        requires call { F.IsAlwaysCallable f }
+        ensures caller { IsCaller self.now pass.new }
+        ensures answered { IfOk result (λ v.
+            (F.post f v × IsInserted (K.name key) (Insert v) New pass.old pass.new)
+            ⊎ (IsInserted (K.name key) Find (Was (Some v)) pass.old pass.new)) }
+        ensures refused { IfErr result (λ e. (e.key ≡ key) × (e.value ≡ f)
+            × IsRefused K.hash self.now.settings (K.name key) e.why pass.old pass.new) }
+        ensures found { FindsOwnUnlessFull K.hash self.now.settings (K.name key) pass.old pass.new }
+    {
+        self.place(pass, key, f, entries::GetOrInsertWith(PhantomData))
     }
 }
 

@@ -1,0 +1,10 @@
+use Rattle.std.proofs.lemmas.Result.{IfOk-weaker}
+use Rattle.cuckoo_map.specs.Insertions.{IsInserted}
+use Rattle.cuckoo_map.proofs.Told.{as_found}
+use Rattle.cuckoo_map.proofs.table.Table.get_or_insert_with.Goals as goal
+
+pub returns-clause-answered : goal.returns-clause-answered
+returns-clause-answered g c =
+    IfOk-weaker c.place.result _ _
+    (λ v told. as_found (λ a r. IsInserted (g.K.TableKey.name c.args.key) a r c.args.pass.now c.place.new.pass) _ v told.0 told.1 told.2 told.3)
+    c.place.ensures.answered
