@@ -1,9 +1,10 @@
 -- What a call leaves of its pass, from what its parts leave.
-use Rattle.std.proofs.Common.{◌≡◌, Bool, true, false, MatchBool, MatchOption, if◌then◌else◌, ℕ, Option, None, IfSome, IfNone, Result, Ok, Err, IfOk, IfErr, List, [], ◌∷◌, ◌++◌, reverse, unwrap_or, append_assoc, append-nil, sym, refl, ap, ◌∙◌, subst, arith, Some}
+use Rattle.std.proofs.Common.{◌≡◌, Bool, true, false, MatchBool, MatchOption, MatchResult, if◌then◌else◌, ℕ, Option, None, IfSome, IfNone, Result, Ok, Err, IfOk, IfErr, List, [], ◌∷◌, ◌++◌, reverse, append_assoc, append-nil, sym, refl, ap, ◌∙◌, subst, arith, Some}
 use Rattle.std.specs.Result.{result_ok}
 use Rattle.ck_model.specs.declared.history.Act.{Act}
-use Rattle.ck_model.specs.declared.history.Act.TheVariants.{Find, Erase}
+use Rattle.ck_model.specs.declared.history.Act.TheVariants.{Find, Change, Erase}
 use Rattle.ck_model.specs.declared.history.Call.{Call}
+use Rattle.ck_model.specs.declared.history.Call.TheVariants.{On}
 use Rattle.ck_model.specs.declared.history.Entry.{Entry}
 use Rattle.ck_model.specs.declared.history.Reply.{Reply}
 use Rattle.ck_model.specs.declared.history.Reply.TheVariants.{Was, New, Done}
@@ -157,26 +158,51 @@ module _ {V : Type 0} (P : Reply V → Type 0) (R : V → V → Type 0) where
   as_told true r e h = subst P e h
   as_told false r e h = (e.0, e.1, e.2, subst P e.3 h)
 
--- D is what a call with a reply has done, and R what the closure of `erase_fn` answers for a value
-module _ {V F : Type 0} (D : Act V → Reply V → Type 0) (R : V → Bool → Type 0) (X : F → Type 0) (Y : Type 0) where
-  -- the call that is committed where the closure answered so
-  abbrev pub erases : Bool → Act V
-  erases b = if b then Erase else Find
+-- a closure chose between an act and a find: C holds of the act where it answered true, and else of the find
+abbrev pub Chose : {V F : Type 0} → Act V → (Act V → Type 0) → Result Bool F → Type 0
+Chose act C (Ok so) = C (if so then act else Find)
+Chose act C (Err back) = C Find
 
-  abbrev pub HasErased : Result Bool F → Type 0
-  HasErased o = IfOk o (λ gone. (v : V) × R v gone × D (erases gone) (Was (Some v))) × IfErr o (λ back. X back × D Find (Was None) × Y)
+-- which act the call on a name has that was chosen
+pub chose : {V F : Type 0} (q : Name) (act : Act V) (made call : Call V) → made ≡ On q act → (o : Result Bool F)
+    → MatchResult o (λ so. call ≡ (if so then made else On q Find)) (λ _. call ≡ On q Find) → Chose act (λ a. call ≡ On q a) o
+chose q act made call named (Ok true) is = is ∙ named
+chose q act made call named (Ok false) is = is
+chose q act made call named (Err back) is = is
 
-  pub erased : (o : Result Bool F) (b : Bool) → b ≡ unwrap_or (result_ok o) false → HasErased o → (r : Reply V) × D (erases b) r
-  erased (Ok gone) b e h = subst (λ x. (r : Reply V) × D (erases x) r) (sym e) (Was (Some h.0.0), h.0.2)
-  erased (Err back) b e h = subst (λ x. (r : Reply V) × D (erases x) r) (sym e) (Was None, h.1.1)
+-- D is what an act with a reply has done, and C holds of the act that was chosen. X holds of a closure that was not called.
+module _ {V F : Type 0} (D : Act V → Reply V → Type 0) (C : Act V → Type 0) (X : F → Type 0) where
+  -- by `erase_fn`, whose closure answers R for a value
+  module _ (R : V → Bool → Type 0) (Y : Type 0) where
+    pub erased : (o : Result Bool F) → Chose Erase C o → IfOk o (λ gone. (v : V) × R v gone × D (if gone then Erase else Find) (Was (Some v))) → IfErr o (λ back. X back × D Find (Was None) × Y)
+        → (act : Act V) × (r : Reply V) × C act × D act r
+    erased (Ok gone) c b u = (if gone then Erase else Find, Was (Some b.0), c, b.2)
+    erased (Err back) c b u = (Find, Was None, c, u.1)
 
-  pub erasing : (A : Act V → Reply V → Type 0) (o : Result Bool F) (b : Bool) → b ≡ unwrap_or (result_ok o) false → ((r : Reply V) → D (erases b) r → A (erases b) r) → HasErased o
-      → IfOk o (λ b2. (v : V) × R v b2 × MatchBool b2 (A Erase (Was (Some v))) (A Find (Was (Some v)))) × IfErr o (λ back. X back × A Find (Was None))
-  erasing A (Ok true) b e f h = ((h.0.0, h.0.1, subst (λ x. (r : Reply V) → D (erases x) r → A (erases x) r) e f (Was (Some h.0.0)) h.0.2), tt)
-  erasing A (Ok false) b e f h = ((h.0.0, h.0.1, subst (λ x. (r : Reply V) → D (erases x) r → A (erases x) r) e f (Was (Some h.0.0)) h.0.2), tt)
-  erasing A (Err back) b e f h = (tt, (h.1.0, subst (λ x. (r : Reply V) → D (erases x) r → A (erases x) r) e f (Was None) h.1.1))
+    pub erasing : (A : Act V → Reply V → Type 0) → ((act : Act V) → C act → (r : Reply V) → D act r → A act r) → (o : Result Bool F) → Chose Erase C o
+        → IfOk o (λ gone. (v : V) × R v gone × D (if gone then Erase else Find) (Was (Some v))) → IfErr o (λ back. X back × D Find (Was None) × Y)
+        → IfOk o (λ gone. (v : V) × R v gone × MatchBool gone (A Erase (Was (Some v))) (A Find (Was (Some v)))) × IfErr o (λ back. X back × A Find (Was None))
+    erasing A told (Ok true) c b u = ((b.0, b.1, told Erase c (Was (Some b.0)) b.2), tt)
+    erasing A told (Ok false) c b u = ((b.0, b.1, told Find c (Was (Some b.0)) b.2), tt)
+    erasing A told (Err back) c b u = (tt, (u.0, told Find c (Was None) u.1))
+
+  -- by `replace_if`, whose closure makes R of a value
+  module _ (R : V → Option V → Type 0) where
+    pub replaced : (o : Result Bool F) → Chose Change C o
+        → IfOk o (λ b. (v : V) × MatchBool b ((w : V) × R v (Some w) × D Change (Done v w)) (R v None × D Find (Was (Some v)))) → IfErr o (λ back. X back × D Find (Was None))
+        → (act : Act V) × (r : Reply V) × C act × D act r
+    replaced (Ok true) c b u = (Change, Done b.0 b.1.0, c, b.1.2)
+    replaced (Ok false) c b u = (Find, Was (Some b.0), c, b.1.1)
+    replaced (Err back) c b u = (Find, Was None, c, u.1)
+
+    pub replacing : (A : Act V → Reply V → Type 0) → ((act : Act V) → C act → (r : Reply V) → D act r → A act r) → (o : Result Bool F) → Chose Change C o
+        → IfOk o (λ b. (v : V) × MatchBool b ((w : V) × R v (Some w) × D Change (Done v w)) (R v None × D Find (Was (Some v)))) → IfErr o (λ back. X back × D Find (Was None))
+        → IfOk o (λ b. (v : V) × MatchBool b ((w : V) × R v (Some w) × A Change (Done v w)) (R v None × A Find (Was (Some v)))) × IfErr o (λ back. X back × A Find (Was None))
+    replacing A told (Ok true) c b u = ((b.0, (b.1.0, b.1.1, told Change c (Done b.0 b.1.0) b.1.2)), tt)
+    replacing A told (Ok false) c b u = ((b.0, (b.1.0, told Find c (Was (Some b.0)) b.1.1)), tt)
+    replacing A told (Err back) c b u = (tt, (u.0, told Find c (Was None) u.1))
 
 -- what is said of an answer, and of none
-pub by_answer : {F : Type 0} (o : Result Bool F) (P : Bool → Type 0) (X : F → Type 0) (Q : Type 0) → IfOk o P × IfErr o (λ back. X back × Q) → MatchOption (result_ok o) Q P
-by_answer (Ok b) P X Q h = h.0
-by_answer (Err back) P X Q h = h.1.1
+pub map_answer : {A E : Type 0} (o : Result A E) (P R : A → Type 0) (Q : E → Type 0) (S : Type 0) → IfOk o P → IfErr o Q → ((a : A) → P a → R a) → ((e : E) → Q e → S) → MatchOption (result_ok o) S R
+map_answer (Ok a) P R Q S p q f g = f a p
+map_answer (Err e) P R Q S p q f g = g e q

@@ -1,5 +1,5 @@
 -- What contracts see of a caller, and what its calls leave of it.
-use Rattle.std.specs.Prelude.{◌≡◌, ◌⊎◌, ℕ, List, map, Option, Some, None, Result, Bool, MatchOption, MatchBool, if◌then◌else◌}
+use Rattle.std.specs.Prelude.{◌≡◌, ◌⊎◌, ℕ, List, map, Option, Some, None, Result, Ok, Err, Bool, MatchOption, MatchBool, MatchResult, if◌then◌else◌}
 use Rattle.ck_model.specs.declared.history.Act.{Act}
 use Rattle.ck_model.specs.declared.history.Act.TheVariants.{Find, Insert, Assign, Upsert, Update, Change, Erase}
 use Rattle.ck_model.specs.declared.history.Call.{Call}
@@ -111,6 +111,20 @@ module _ {V : Type 0} where
   ErasesBy returns q c d answer =
       MatchOption answer (Finds q c d None)
       (λ gone. (v : V) × returns v gone × MatchBool gone (Erases q c d (Some v)) (Finds q c d (Some v)))
+
+  -- the name was bound to what the closure made of its value, where it was bound and the closure made one
+  abbrev pub ReplacesIf : (V → Option V → Type 0) → Name → CallerState V → CallerState V → Option Bool → Type 0
+  ReplacesIf returns q c d answer =
+      MatchOption answer (Finds q c d None)
+      (λ replaced. (v : V) × MatchBool replaced
+      ((w : V) × returns v (Some w) × Replies (On q Change) (Done v w) c d)
+      (returns v None × Finds q c d (Some v)))
+
+  -- the name was bound to the value that the closure gave back, where it was bound, whether the closure succeeded or failed with this error
+  abbrev pub TriesChange : {E : Type 0} → (V → Result V (V × E) → Type 0) → Name → CallerState V → CallerState V → Option (Result (Unit {0}) E) → Type 0
+  TriesChange makes q c d answer =
+      MatchOption answer (Replies (On q Change) Absent c d)
+      (λ outcome. (v w : V) × MatchResult outcome (λ _. makes v (Ok w)) (λ e. makes v (Err (w, e))) × Replies (On q Change) (Done v w) c d)
 
   -- so many names were bound
   abbrev pub Counts : CallerState V → CallerState V → ℕ → Type 0

@@ -71,6 +71,7 @@ impl<K: TableKey + Drop, V: Drop> Table<K, V> {
 impl<'t, K: TableKey + Drop, V: Drop> Caller<'t, K, V> {
     ghost use Rattle.cuckoo_map.specs.Callers.{IsSameCaller, Finds, FindsBound, FindsBy, Inserts, Assigns};
     ghost use Rattle.cuckoo_map.specs.Callers.{Upserts, Updates, Changes, ChangesTwo, Erases, ErasesBy};
+    ghost use Rattle.cuckoo_map.specs.Callers.{ReplacesIf, TriesChange};
     ghost use Rattle.cuckoo_map.specs.Callers.{FindsHeldOwn, FindsHeldUnlessFull, FindsHeldOfTwo};
     ghost use Rattle.cuckoo_map.specs.Callers.{IsBusyOn, IsBusyOnTwo, IsBusyOnSome, FindsHeldAmong, ComesBack};
     ghost use Rattle.ck_words.specs.Retries.{Stays};
@@ -392,6 +393,67 @@ impl<'t, K: TableKey + Drop, V: Drop> Caller<'t, K, V> {
         ensures found { FindsHeldOwn K.hash (K.name key.now) self.old self.new }
     {
         self.table.erase_fn(&mut self.pass, key, f)
+    }
+
+    /// Binds a bound key to what the closure makes of its value, where it makes one, and says
+    /// whether it did; `None` where the key is unbound. Where the closure makes none, nothing
+    /// changes. Refused as busy, it changes nothing, and the closure is dropped. It is
+    /// `Table::replace_if`.
+    ///
+    /// ```
+    /// let taken: Option<bool> = caller.replace_if(&NumKey(5), |left: &u64| left.checked_sub(1))?;
+    /// ```
+    #[inline(always)]
+    pub fn replace_if<F: FnOnce(&V) -> Option<V>>(
+        &mut self,
+        key: &K,
+        f: F,
+    ) -> Result<Option<bool>, Busy>
+    where
+        F: Drop,
+        requires call { F.IsAlwaysCallable f }
+        ensures same { IsSameCaller self.old self.new }
+        ensures answered { IfOk result (
+            ReplacesIf (FnOnceReturnsAt F.FnOnce f) (K.name key.now) self.old self.new) }
+        ensures busy { IfErr result (IsBusyOn K.hash (K.name key.now) self.old self.new) }
+        ensures found { FindsHeldOwn K.hash (K.name key.now) self.old self.new }
+    {
+        self.table.replace_if(&mut self.pass, key, f)
+    }
+
+    /// Binds a bound key to the value that the closure gives back for its value, and gives the
+    /// closure's error, if it fails; `None` where the key is unbound. It is for values that own
+    /// memory: a closure that fails by giving back the value that it got changes nothing. Refused as
+    /// busy, it changes nothing, and the closure is dropped. It is `Table::try_update`.
+    ///
+    /// ```
+    /// // The values are of type `Vec<u64>`. Where there is no memory for one more number, the key
+    /// // keeps its list, and the number comes back.
+    /// let pushed = caller.try_update(&NumKey(5), |mut list| match list.push(51) {
+    ///     Ok(()) => Ok(list),
+    ///     Err(refused) => Err((list, refused.value)),
+    /// })?;
+    /// match pushed {
+    ///     Some(Ok(())) => println!(rt; "pushed")?,
+    ///     Some(Err(number)) => println!(rt; "no memory for {number}")?,
+    ///     None => println!(rt; "no list")?,
+    /// }
+    /// ```
+    #[inline(always)]
+    pub fn try_update<E, F: FnOnce(V) -> Result<V, (V, E)>>(
+        &mut self,
+        key: &K,
+        f: F,
+    ) -> Result<Option<Result<(), E>>, Busy>
+    where
+        F: Drop,
+        requires call { F.IsAlwaysCallable f }
+        ensures same { IsSameCaller self.old self.new }
+        ensures answered { IfOk result (TriesChange (F.post f) (K.name key.now) self.old self.new) }
+        ensures busy { IfErr result (IsBusyOn K.hash (K.name key.now) self.old self.new) }
+        ensures found { FindsHeldOwn K.hash (K.name key.now) self.old self.new }
+    {
+        self.table.try_update(&mut self.pass, key, f)
     }
 
     /// The power: the table has 2^power buckets of four slots. Refused as busy, it changes nothing.

@@ -1,17 +1,18 @@
 //! Calls that change or unbind a bound key.
-ghost use Rattle.std.specs.Prelude.{◌≡◌, Some, None, IfOk, IfErr, MatchOption, MatchBool};
+ghost use Rattle.std.specs.Prelude.{◌≡◌, Some, None, Ok, Err, IfOk, IfErr, MatchOption, MatchBool, MatchResult, if◌then◌else◌};
 ghost use Rattle.std.specs.Fn.{FnOnceReturnsAt};
 ghost use Rattle.ck_model.specs.declared.history.Act.TheVariants.{Find, Update, Change, Erase};
 ghost use Rattle.ck_model.specs.declared.history.Call.TheVariants.{On};
 ghost use Rattle.ck_model.specs.declared.history.Reply.TheVariants.{Was, Done, Absent};
 ghost use Rattle.ck_words.specs.Answering.{IsAnswered};
 ghost use Rattle.ck_words.specs.Closing.{IsCaller};
+ghost use Rattle.ck_words.specs.Commits.{call_of};
 ghost use Rattle.cuckoo_map.specs.Refusals.{FindsOwn, IsBusyAt};
 
 use crate::refusal::Busy;
 use crate::table::Table;
 use ck_key::TableKey;
-use ck_section::{erase, erase_fn, update, update_fn};
+use ck_section::{erase, erase_fn, replace_if, try_update, update, update_fn};
 use ck_words::{Commit, Lent, Pass};
 use std::snapshot::Snapshot;
 
@@ -165,16 +166,131 @@ impl<K: TableKey + Drop, V: Drop> Table<K, V> {
         };
         let gone = erase_fn(&mut lent, spot.place, key, f);
         let Lent { pass, .. } = lent;
-        let said = Snapshot::of(key);
-        let unbound = match gone {
-            Ok(unbound) => unbound,
-            Err(_) => false,
-        };
-        if unbound {
-            self.words.commit(pass, spot.stripes, Commit::Erase(said));
-        } else {
-            self.words.commit(pass, spot.stripes, Commit::Find(said));
-        }
+        let said = chosen(&gone, key, Commit::Erase(Snapshot::of(key)));
+        self.words.commit(pass, spot.stripes, said);
         Ok(gone)
+    }
+
+    /// Binds a bound key to what the closure makes of its value, where it makes one, and says
+    /// whether it did: `Some(false)` where it made none, and then nothing changes; `None` where the
+    /// key is unbound, and then the closure is not called. The closure runs while the key's stripes
+    /// are held.
+    ///
+    /// Refused as busy, it changes nothing, and the closure is dropped.
+    pub fn replace_if<F: FnOnce(&V) -> Option<V>>(
+        &self,
+        pass: &mut Pass<K, V>,
+        key: &K,
+        f: F,
+    ) -> Result<Option<bool>, Busy>
+    where
+        F: Drop,
+        requires caller { IsCaller self.now pass.old }
+        requires call { F.IsAlwaysCallable f }
+        ensures caller { IsCaller self.now pass.new }
+        ensures answered { IfOk result (λ answer. MatchOption answer
+            (IsAnswered (On (K.name key.now) Find) (Was None) pass.old pass.new)
+            (λ replaced. (v : V) × MatchBool replaced
+            ((w : V) × FnOnceReturnsAt F.FnOnce f v (Some w)
+            × IsAnswered (On (K.name key.now) Change) (Done v w) pass.old pass.new)
+            (FnOnceReturnsAt F.FnOnce f v None
+            × IsAnswered (On (K.name key.now) Find) (Was (Some v)) pass.old pass.new))) }
+        ensures busy { IfErr result (λ busy.
+            IsBusyAt K.hash self.now.settings (K.name key.now) busy.0 pass.old pass.new) }
+        ensures found { FindsOwn K.hash self.now.settings (K.name key.now) pass.old pass.new }
+    {
+        let replaced = self.replace_bound(pass, key, f)?;
+        Ok(replaced.ok())
+    }
+
+    // What `replace_if` does. Where the key is unbound, the closure comes back.
+    #[inline(always)]
+    fn replace_bound<F: FnOnce(&V) -> Option<V>>(
+        &self,
+        pass: &mut Pass<K, V>,
+        key: &K,
+        f: F,
+    ) -> Result<Result<bool, F>, Busy>
+    where
+        requires caller { IsCaller self.now pass.old }
+        requires call { F.IsAlwaysCallable f }
+        ensures caller { IsCaller self.now pass.new }
+        ensures answered { IfOk result (λ answer.
+            IfOk answer (λ replaced. (v : V) × MatchBool replaced
+            ((w : V) × FnOnceReturnsAt F.FnOnce f v (Some w)
+            × IsAnswered (On (K.name key.now) Change) (Done v w) pass.old pass.new)
+            (FnOnceReturnsAt F.FnOnce f v None
+            × IsAnswered (On (K.name key.now) Find) (Was (Some v)) pass.old pass.new))
+            × IfErr answer (λ back. (back ≡ f)
+            × IsAnswered (On (K.name key.now) Find) (Was None) pass.old pass.new)) }
+        ensures busy { IfErr result (λ busy.
+            IsBusyAt K.hash self.now.settings (K.name key.now) busy.0 pass.old pass.new) }
+        ensures found { FindsOwn K.hash self.now.settings (K.name key.now) pass.old pass.new }
+    {
+        let spot = self.hold_key(pass, key)?;
+        let mut lent = Lent {
+            words: &self.words,
+            pass,
+            set: spot.stripes,
+        };
+        let replaced = replace_if(&mut lent, spot.place, key, f);
+        let Lent { pass, .. } = lent;
+        let said = chosen(&replaced, key, Commit::Change(Snapshot::of(key)));
+        self.words.commit(pass, spot.stripes, said);
+        Ok(replaced)
+    }
+
+    /// Binds a bound key to the value that the closure gives back for its value, and gives the
+    /// closure's error, if it fails; `None` where the key is unbound, and then the closure is not
+    /// called. A closure that fails by giving back the value that it got changes nothing. The
+    /// closure runs while the key's stripes are held.
+    ///
+    /// Refused as busy, it changes nothing, and the closure is dropped.
+    pub fn try_update<E, F: FnOnce(V) -> Result<V, (V, E)>>(
+        &self,
+        pass: &mut Pass<K, V>,
+        key: &K,
+        f: F,
+    ) -> Result<Option<Result<(), E>>, Busy>
+    where
+        F: Drop,
+        requires caller { IsCaller self.now pass.old }
+        requires call { F.IsAlwaysCallable f }
+        ensures caller { IsCaller self.now pass.new }
+        ensures answered { IfOk result (λ answer. MatchOption answer
+            (IsAnswered (On (K.name key.now) Change) Absent pass.old pass.new)
+            (λ outcome. (v w : V)
+            × MatchResult outcome (λ _. F.post f v (Ok w)) (λ e. F.post f v (Err (w, e)))
+            × IsAnswered (On (K.name key.now) Change) (Done v w) pass.old pass.new)) }
+        ensures busy { IfErr result (λ busy.
+            IsBusyAt K.hash self.now.settings (K.name key.now) busy.0 pass.old pass.new) }
+        ensures found { FindsOwn K.hash self.now.settings (K.name key.now) pass.old pass.new }
+    {
+        let spot = self.hold_key(pass, key)?;
+        let mut lent = Lent {
+            words: &self.words,
+            pass,
+            set: spot.stripes,
+        };
+        let outcome = try_update(&mut lent, spot.place, key, f);
+        let Lent { pass, .. } = lent;
+        let said = Commit::Change(Snapshot::of(key));
+        self.words.commit(pass, spot.stripes, said);
+        // A closure that was not called is dropped only now, when no stripe is held.
+        Ok(outcome.ok())
+    }
+}
+
+// The call that a closure has chosen: `made` where it was called and answered true, and else a find
+// of the key.
+#[inline(always)]
+fn chosen<K: TableKey, V, F>(answer: &Result<bool, F>, key: &K, made: Commit<K, V>) -> Commit<K, V>
+    ensures { let find = On (K.name key.now) Find in MatchResult answer.now
+        (λ so. call_of K.name result ≡ (if so then call_of K.name made else find))
+        (λ _. call_of K.name result ≡ find) }
+{
+    match answer {
+        Ok(true) => made,
+        _ => Commit::Find(Snapshot::of(key)),
     }
 }
