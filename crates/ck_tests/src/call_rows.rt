@@ -66,7 +66,7 @@ const ONE_PAIR_OF_BUCKETS: &[Step] = &[
     ),
 ];
 
-static RUNS: [Run; 5] = [
+static RUNS: [Run; 7] = [
     Run {
         what: "after they met, one caller finds what the other has bound",
         shape: SIXTEEN_BUCKETS,
@@ -95,12 +95,36 @@ static RUNS: [Run; 5] = [
         end: &[(NumKey(6), 9)],
     },
     Run {
+        what: "a closure that may decline",
+        shape: SIXTEEN_BUCKETS,
+        steps: &[
+            Step::First(Call::Insert(5, 50), Reply::Fresh(true)),
+            Step::First(Call::TakeIf(5, 20), Reply::Replaced(Some(true))),
+            Step::First(Call::TakeIf(5, 31), Reply::Replaced(Some(false))),
+            Step::First(Call::Find(5), Reply::Was(Some(30))),
+        ],
+        end: &[(NumKey(5), 30)],
+    },
+    Run {
+        what: "a closure that may fail, and gives a value back nonetheless",
+        shape: SIXTEEN_BUCKETS,
+        steps: &[
+            Step::First(Call::Insert(5, 50), Reply::Fresh(true)),
+            Step::First(Call::TryTake(5, 20), Reply::Tried(Some(Ok(())))),
+            Step::First(Call::Find(5), Reply::Was(Some(30))),
+            Step::First(Call::TryTake(5, 31), Reply::Tried(Some(Err(1)))),
+        ],
+        end: &[(NumKey(5), 0)],
+    },
+    Run {
         what: "no closure is called for an unbound key",
         shape: SIXTEEN_BUCKETS,
         steps: &[
             Step::First(Call::UpdateFn(5), Reply::Updated(false, false)),
             Step::First(Call::FindTenth(5), Reply::Was(None)),
             Step::First(Call::EraseWithin(5, 1, u64::MAX), Reply::Gone(None)),
+            Step::First(Call::TakeIf(5, 0), Reply::Replaced(None)),
+            Step::First(Call::TryTake(5, 0), Reply::Tried(None)),
             Step::First(Call::Contains(5), Reply::Bound(false)),
         ],
         end: &[],

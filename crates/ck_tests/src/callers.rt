@@ -22,6 +22,11 @@ pub enum Call {
     Erase(u64),
     /// Erases a value from the first to the second.
     EraseWithin(u64, u64, u64),
+    /// Takes so many from the value, where it has as many.
+    TakeIf(u64, u64),
+    /// Takes so many from the value. Where it has fewer, it takes all and fails with how many it
+    /// lacks.
+    TryTake(u64, u64),
     /// Moves one from the value of a key to that of another, where both are bound and there is one.
     Transfer(u64, u64),
 }
@@ -37,6 +42,10 @@ pub enum Reply {
     Updated(bool, bool),
     /// What the closure answered for the value.
     Gone(Option<bool>),
+    /// Whether the closure made a value.
+    Replaced(Option<bool>),
+    /// How the closure ended.
+    Tried(Option<Result<(), u64>>),
     Busy(u32),
     /// The value came back, since a stripe was busy.
     ValueBack(u64, u32),
@@ -170,6 +179,39 @@ fn erase_within(caller: &mut NumCaller<'_>, key: u64, low: u64, high: u64) -> Re
     }
 }
 
+fn take_if(caller: &mut NumCaller<'_>, key: u64, count: u64) -> Reply
+    ensures { IsSameCaller caller.old caller.new }
+{
+    let mut called = false;
+    let take = |value: &u64| {
+        called = true;
+        value.checked_sub(count)
+    };
+    match caller.replace_if(&NumKey(key), take) {
+        Ok(Some(replaced)) => Reply::Replaced(Some(replaced)),
+        Ok(None) => uncalled(called, Reply::Replaced(None)),
+        Err(busy) => uncalled(called, Reply::Busy(busy.0)),
+    }
+}
+
+fn try_take(caller: &mut NumCaller<'_>, key: u64, count: u64) -> Reply
+    ensures { IsSameCaller caller.old caller.new }
+{
+    let mut called = false;
+    let take = |value: u64| {
+        called = true;
+        match value.checked_sub(count) {
+            Some(left) => Ok(left),
+            None => Err((0, count.saturating_sub(value))),
+        }
+    };
+    match caller.try_update(&NumKey(key), take) {
+        Ok(Some(outcome)) => Reply::Tried(Some(outcome)),
+        Ok(None) => uncalled(called, Reply::Tried(None)),
+        Err(busy) => uncalled(called, Reply::Busy(busy.0)),
+    }
+}
+
 fn transfer(caller: &mut NumCaller<'_>, from: u64, to: u64) -> Reply
     ensures { IsSameCaller caller.old caller.new }
 {
@@ -204,6 +246,8 @@ pub fn answer(caller: &mut NumCaller<'_>, call: Call) -> Reply
         Call::UpdateFn(key) => update_fn(caller, key),
         Call::Erase(key) => erase(caller, key),
         Call::EraseWithin(key, low, high) => erase_within(caller, key, low, high),
+        Call::TakeIf(key, count) => take_if(caller, key, count),
+        Call::TryTake(key, count) => try_take(caller, key, count),
         Call::Transfer(from, to) => transfer(caller, from, to),
     }
 }

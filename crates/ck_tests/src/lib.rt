@@ -12,6 +12,8 @@ mod growing;
 #[cfg(test)]
 mod growth_rows;
 #[cfg(test)]
+mod lists;
+#[cfg(test)]
 mod lock_words;
 #[cfg(test)]
 mod locks;
