@@ -6,7 +6,7 @@ ghost use Rattle.cuckoo_map.specs.Callers.{IsSameCaller};
 use crate::callers::{Call, Reply, answer};
 use crate::fixtures::{NumCaller, SIXTEEN_BUCKETS, Shape, close, open};
 use ck_key::NumKey;
-use cuckoo_map::Why;
+use cuckoo_map::{Uprased, Why};
 use std::alloc::Global;
 use std::process::Abort;
 use std::test::Fail;
@@ -64,9 +64,21 @@ const ONE_PAIR_OF_BUCKETS: &[Step] = &[
         Call::Upsert(9 * APART, 9),
         Reply::BothBack(9 * APART, 9, Why::LoadTooLow),
     ),
+    Step::First(
+        Call::InsertWith(9 * APART, 9),
+        Reply::KeyBack(9 * APART, Why::LoadTooLow),
+    ),
+    Step::First(
+        Call::GetOrInsertWith(9 * APART, 9),
+        Reply::KeyBack(9 * APART, Why::LoadTooLow),
+    ),
+    Step::First(
+        Call::Uprase(9 * APART, 9),
+        Reply::BothBack(9 * APART, 9, Why::LoadTooLow),
+    ),
 ];
 
-static RUNS: [Run; 7] = [
+static RUNS: [Run; 10] = [
     Run {
         what: "after they met, one caller finds what the other has bound",
         shape: SIXTEEN_BUCKETS,
@@ -128,6 +140,38 @@ static RUNS: [Run; 7] = [
             Step::First(Call::Contains(5), Reply::Bound(false)),
         ],
         end: &[],
+    },
+    Run {
+        what: "a closure makes the value of an unbound key alone",
+        shape: SIXTEEN_BUCKETS,
+        steps: &[
+            Step::First(Call::InsertWith(5, 50), Reply::Fresh(true)),
+            Step::First(Call::InsertWith(5, 60), Reply::Fresh(false)),
+            Step::First(Call::Find(5), Reply::Was(Some(50))),
+        ],
+        end: &[(NumKey(5), 50)],
+    },
+    Run {
+        what: "a closure changes a bound key or unbinds it",
+        shape: SIXTEEN_BUCKETS,
+        steps: &[
+            Step::First(Call::Uprase(5, 1), Reply::Uprased(Uprased::New)),
+            Step::First(Call::Uprase(5, 7), Reply::Uprased(Uprased::Changed)),
+            Step::First(Call::Find(5), Reply::Was(Some(0))),
+            Step::First(Call::Uprase(5, 7), Reply::Uprased(Uprased::Erased)),
+            Step::First(Call::Contains(5), Reply::Bound(false)),
+            Step::First(Call::Uprase(6, 7), Reply::Uprased(Uprased::New)),
+        ],
+        end: &[(NumKey(6), 7)],
+    },
+    Run {
+        what: "the value is what a closure makes where the key was unbound",
+        shape: SIXTEEN_BUCKETS,
+        steps: &[
+            Step::First(Call::GetOrInsertWith(5, 50), Reply::Got(50, true)),
+            Step::First(Call::GetOrInsertWith(5, 60), Reply::Got(50, false)),
+        ],
+        end: &[(NumKey(5), 50)],
     },
     Run {
         what: "the table grows rather than that these keys share one bucket",

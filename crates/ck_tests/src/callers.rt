@@ -3,7 +3,7 @@ ghost use Rattle.cuckoo_map.specs.Callers.{IsSameCaller};
 
 use crate::fixtures::NumCaller;
 use ck_key::NumKey;
-use cuckoo_map::{Refused, Why};
+use cuckoo_map::{Refused, Uprased, Why};
 
 /// A call on a key.
 #[derive(Clone, Copy)]
@@ -16,6 +16,12 @@ pub enum Call {
     InsertOrAssign(u64, u64),
     /// Adds one to the value of a bound key.
     Upsert(u64, u64),
+    /// Binds an unbound key to what a closure makes, which is the second.
+    InsertWith(u64, u64),
+    /// Takes one from the value of a bound key, and unbinds it where there is none.
+    Uprase(u64, u64),
+    /// Gives the value of the key, which is the second where it was unbound.
+    GetOrInsertWith(u64, u64),
     Update(u64, u64),
     /// Adds one to the value.
     UpdateFn(u64),
@@ -38,6 +44,9 @@ pub enum Reply {
     Bound(bool),
     /// The key was unbound, and is bound now.
     Fresh(bool),
+    Uprased(Uprased),
+    /// The value that is bound, and whether the closure was called.
+    Got(u64, bool),
     /// The key is bound, and the closure was called.
     Updated(bool, bool),
     /// What the closure answered for the value.
@@ -51,6 +60,8 @@ pub enum Reply {
     ValueBack(u64, u32),
     /// Key and value came back.
     BothBack(u64, u64, Why),
+    /// Key and closure came back.
+    KeyBack(u64, Why),
     /// The call was refused or its key is unbound, and its closure was called nonetheless.
     CalledInVain,
 }
@@ -128,6 +139,56 @@ fn upsert(caller: &mut NumCaller<'_>, key: u64, value: u64) -> Reply
         Ok(true) => uncalled(called, Reply::Fresh(true)),
         Ok(false) => Reply::Fresh(false),
         Err(refused) => uncalled(called, both_back(refused)),
+    }
+}
+
+fn insert_with(caller: &mut NumCaller<'_>, key: u64, value: u64) -> Reply
+    ensures { IsSameCaller caller.old caller.new }
+{
+    let mut called = false;
+    let make = || {
+        called = true;
+        value
+    };
+    match caller.insert_with(NumKey(key), make) {
+        Ok(true) => Reply::Fresh(true),
+        Ok(false) => uncalled(called, Reply::Fresh(false)),
+        Err(refused) => {
+            let Refused { key, why, .. } = refused;
+            uncalled(called, Reply::KeyBack(key.0, why))
+        }
+    }
+}
+
+fn uprase(caller: &mut NumCaller<'_>, key: u64, value: u64) -> Reply
+    ensures { IsSameCaller caller.old caller.new }
+{
+    let mut called = false;
+    let take = |old: u64| {
+        called = true;
+        old.checked_sub(1)
+    };
+    match caller.uprase(NumKey(key), take, value) {
+        Ok(Uprased::New) => uncalled(called, Reply::Uprased(Uprased::New)),
+        Ok(uprased) => Reply::Uprased(uprased),
+        Err(refused) => uncalled(called, both_back(refused)),
+    }
+}
+
+fn get_or_insert_with(caller: &mut NumCaller<'_>, key: u64, value: u64) -> Reply
+    ensures { IsSameCaller caller.old caller.new }
+{
+    let mut called = false;
+    let make = || {
+        called = true;
+        value
+    };
+    match caller.get_or_insert_with(NumKey(key), make) {
+        Ok(value) => Reply::Got(value, called),
+        Err(refused) => {
+            let Refused { key, why, .. } = refused;
+            uncalled(called, Reply::KeyBack(key.0, why))
+        }
     }
 }
 
@@ -242,6 +303,9 @@ pub fn answer(caller: &mut NumCaller<'_>, call: Call) -> Reply
         Call::Insert(key, value) => insert(caller, key, value),
         Call::InsertOrAssign(key, value) => insert_or_assign(caller, key, value),
         Call::Upsert(key, value) => upsert(caller, key, value),
+        Call::InsertWith(key, value) => insert_with(caller, key, value),
+        Call::Uprase(key, value) => uprase(caller, key, value),
+        Call::GetOrInsertWith(key, value) => get_or_insert_with(caller, key, value),
         Call::Update(key, value) => update(caller, key, value),
         Call::UpdateFn(key) => update_fn(caller, key),
         Call::Erase(key) => erase(caller, key),
