@@ -21,4 +21,3 @@ pub mod Owned
 pub mod Visited
 pub mod Cleared
 pub mod Listed
-pub mod Retaken

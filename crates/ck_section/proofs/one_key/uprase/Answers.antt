@@ -2,7 +2,7 @@ use Rattle.std.proofs.Common.{refl, Some}
 use Rattle.ck_model.specs.declared.history.Act.TheVariants.{Upsert, Erase}
 use Rattle.ck_model.specs.declared.history.Reply.TheVariants.{New, Done, Was}
 use Rattle.ck_section.proofs.Steps.{occupied_here, vacant_here, full_still, took, slot_changes}
-use Rattle.ck_section.proofs.Retaken.{partial_again, reach_again, free_again, put_back, put_back_changes}
+use Rattle.ck_section.proofs.PutBack.{partial_taken, reach_taken, free_taken, put_back, put_back_changes}
 use Rattle.ck_section.proofs.one_key.uprase.Goals as goal
 
 pub remove-bound-requires-clause-reach : goal.remove-bound-requires-clause-reach
@@ -15,30 +15,30 @@ pub remove-bound-requires-clause-full : goal.remove-bound-requires-clause-full
 remove-bound-requires-clause-full g c = full_still _ _ refl c.in-Occupied.at _ (occupied_here _ _ _ _ c.args.entry c.in-Occupied.at c.in-Occupied.is c.requires.entry).found
 
 pub place-requires-clause-reach : goal.place-requires-clause-reach
-place-requires-clause-reach g c = reach_again _ _ _ _ c.requires.place c.in-Occupied.at (occupied_here _ _ _ _ c.args.entry c.in-Occupied.at c.in-Occupied.is c.requires.entry) _ _ _ c.remove-bound.ensures.entry c.remove-bound.ensures.content
+place-requires-clause-reach g c = reach_taken _ _ _ _ c.requires.place _ refl c.in-Occupied.at (occupied_here _ _ _ _ c.args.entry c.in-Occupied.at c.in-Occupied.is c.requires.entry) _ _ _ c.remove-bound.ensures.entry c.remove-bound.ensures.content
 
 pub place-requires-clause-below : goal.place-requires-clause-below
 place-requires-clause-below g c = (occupied_here _ _ _ _ c.args.entry c.in-Occupied.at c.in-Occupied.is c.requires.entry).slot.below
 
 pub place-requires-clause-free : goal.place-requires-clause-free
-place-requires-clause-free g c = free_again _ _ _ _ c.requires.place c.in-Occupied.at (occupied_here _ _ _ _ c.args.entry c.in-Occupied.at c.in-Occupied.is c.requires.entry) _ _ _ c.remove-bound.ensures.entry c.remove-bound.ensures.content
+place-requires-clause-free g c = free_taken _ _ _ _ c.requires.place _ refl c.in-Occupied.at (occupied_here _ _ _ _ c.args.entry c.in-Occupied.at c.in-Occupied.is c.requires.entry) _ _ _ c.remove-bound.ensures.entry c.remove-bound.ensures.content
 
 pub place-requires-clause-partial : goal.place-requires-clause-partial
-place-requires-clause-partial g c = partial_again _ _ _ _ c.requires.place c.in-Occupied.at (occupied_here _ _ _ _ c.args.entry c.in-Occupied.at c.in-Occupied.is c.requires.entry) _ _ _ c.remove-bound.ensures.entry c.remove-bound.ensures.content
+place-requires-clause-partial g c = partial_taken _ _ _ _ c.requires.place _ refl c.in-Occupied.at (occupied_here _ _ _ _ c.args.entry c.in-Occupied.at c.in-Occupied.is c.requires.entry) _ _ _ c.remove-bound.ensures.entry c.remove-bound.ensures.content
 
 pub returns-in-Some-clause-call : goal.returns-in-Some-clause-call
 returns-in-Some-clause-call g c = (
   c.remove-bound.result.1,
   c.in-Some.new,
   c.in-Some.ensures,
-  put_back _ _ _ _ c.requires.place c.in-Occupied.at (occupied_here _ _ _ _ c.args.entry c.in-Occupied.at c.in-Occupied.is c.requires.entry) _ _ _ c.remove-bound.ensures.entry c.remove-bound.ensures.content
-      _ c.in-Some.new c.place.ensures.content (Upsert c.args.value) (Done c.remove-bound.result.1 c.in-Some.new) (c.in-Some.new, refl, refl),
+  put_back _ _ _ _ c.requires.place _ refl c.in-Occupied.at (occupied_here _ _ _ _ c.args.entry c.in-Occupied.at c.in-Occupied.is c.requires.entry) _ _ _ c.remove-bound.ensures.entry c.remove-bound.ensures.content
+      c.in-Some.new _ c.place.ensures.content (Upsert c.args.value) (Done c.remove-bound.result.1 c.in-Some.new) (c.in-Some.new, refl, refl),
 )
 
 pub returns-in-Some-clause-rest : goal.returns-in-Some-clause-rest
 returns-in-Some-clause-rest g c =
-    put_back_changes _ _ _ _ c.requires.place c.in-Occupied.at (occupied_here _ _ _ _ c.args.entry c.in-Occupied.at c.in-Occupied.is c.requires.entry) _ _ _ c.remove-bound.ensures.entry c.remove-bound.ensures.content
-    _ c.in-Some.new c.place.ensures.content
+    put_back_changes _ _ _ _ c.requires.place _ refl c.in-Occupied.at (occupied_here _ _ _ _ c.args.entry c.in-Occupied.at c.in-Occupied.is c.requires.entry) _ _ _ c.remove-bound.ensures.entry c.remove-bound.ensures.content
+    c.in-Some.new _ c.place.ensures.content
 
 -- the closure made nothing
 pub returns-in-Occupied-clause-call : goal.returns-in-Occupied-clause-call
