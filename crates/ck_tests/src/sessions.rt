@@ -29,6 +29,8 @@ enum Call {
     Erase(u64),
     /// Answered by how many keys are left.
     Clear,
+    /// By `retain`: the keys of even values stay. Answered by how many these are.
+    RetainEven,
     Len,
     IsEmpty,
 }
@@ -86,6 +88,13 @@ fn clear(locked: &mut NumLocked<'_>) -> Reply
     Reply::Count(locked.len())
 }
 
+fn retain_even(locked: &mut NumLocked<'_>) -> Reply
+    ensures { locked.new.table ≡ locked.old.table }
+{
+    locked.retain(|_key, value| value % 2 == 0);
+    Reply::Count(locked.len())
+}
+
 /// Makes the call.
 fn answer(locked: &mut NumLocked<'_>, call: Call) -> Reply
     ensures { locked.new.table ≡ locked.old.table }
@@ -100,6 +109,7 @@ fn answer(locked: &mut NumLocked<'_>, call: Call) -> Reply
         Call::Halve(key) => halve(locked, key),
         Call::Erase(key) => Reply::Was(locked.erase(&NumKey(key))),
         Call::Clear => clear(locked),
+        Call::RetainEven => retain_even(locked),
         Call::Len => Reply::Count(locked.len()),
         Call::IsEmpty => Reply::Is(locked.is_empty()),
     }
@@ -128,7 +138,7 @@ const MAY_GROW: Shape = Shape {
 /// same two buckets.
 const APART: u64 = 282_574_488_338_432;
 
-static SESSIONS: [Session; 6] = [
+static SESSIONS: [Session; 8] = [
     Session {
         what: "a bound key keeps its value",
         shape: MAY_GROW,
@@ -264,6 +274,53 @@ static SESSIONS: [Session; 6] = [
         ],
         power: 6,
     },
+    Session {
+        what: "the odd values of a bucket are gone, and two keys have room again",
+        shape: FOUR_BUCKETS,
+        calls: &[
+            (Call::RetainEven, Reply::Count(0)),
+            (Call::Insert(3, 31), Reply::Fresh(true)),
+            (Call::Insert(7, 70), Reply::Fresh(true)),
+            (Call::Insert(11, 110), Reply::Fresh(true)),
+            (Call::Insert(15, 151), Reply::Fresh(true)),
+            (Call::Insert(19, 190), Reply::Back(19, 190, Why::Full)),
+            (Call::RetainEven, Reply::Count(2)),
+            (Call::Len, Reply::Count(2)),
+            (Call::Find(3), Reply::Was(None)),
+            (Call::Find(7), Reply::Was(Some(70))),
+            (Call::Contains(15), Reply::Is(false)),
+            (Call::Insert(19, 191), Reply::Fresh(true)),
+            (Call::Insert(23, 230), Reply::Fresh(true)),
+            (Call::Insert(27, 270), Reply::Back(27, 270, Why::Full)),
+        ],
+        end: &[
+            (NumKey(7), 70),
+            (NumKey(11), 110),
+            (NumKey(19), 191),
+            (NumKey(23), 230),
+        ],
+        power: 2,
+    },
+    Session {
+        what: "each stripe keeps its even values, and a table of odd ones is empty",
+        shape: MAY_GROW,
+        calls: &[
+            (Call::Insert(0, 1), Reply::Fresh(true)),
+            (Call::Insert(1, 2), Reply::Fresh(true)),
+            (Call::Insert(2, 4), Reply::Fresh(true)),
+            (Call::Insert(3, 3), Reply::Fresh(true)),
+            (Call::RetainEven, Reply::Count(2)),
+            (Call::RetainEven, Reply::Count(2)),
+            (Call::Halve(1), Reply::Is(true)),
+            (Call::RetainEven, Reply::Count(1)),
+            (Call::Update(2, 5), Reply::Was(Some(4))),
+            (Call::RetainEven, Reply::Count(0)),
+            (Call::IsEmpty, Reply::Is(true)),
+            (Call::Insert(1, 6), Reply::Fresh(true)),
+        ],
+        end: &[(NumKey(1), 6)],
+        power: 2,
+    },
 ];
 
 fn make_calls(rt: &impl Abort, locked: &mut NumLocked<'_>, session: &Session)
@@ -372,10 +429,12 @@ fn any_key(random: &mut Lcg64Xsh32) -> u64 {
     }
 }
 
-/// Seldom a `Clear`, so that the table fills in between.
+/// Seldom a `Clear` or a `RetainEven`, so that the table fills in between.
 fn any_call(random: &mut Lcg64Xsh32) -> Call {
-    if random.next_u32() % 2048 == 0 {
-        return Call::Clear;
+    match random.next_u32() % 2048 {
+        0 => return Call::Clear,
+        1 => return Call::RetainEven,
+        _ => {}
     }
     let key = any_key(random);
     match random.next_u32() % 16 {
@@ -437,8 +496,32 @@ fn answer_plain(
             *plain = PlainMap::new(alloc);
             Ok(Reply::Count(plain.len() as u64))
         }
+        Call::RetainEven => {
+            remove_odd(alloc, plain)?;
+            Ok(Reply::Count(plain.len() as u64))
+        }
         Call::Len => Ok(Reply::Count(plain.len() as u64)),
         Call::IsEmpty => Ok(Reply::Is(plain.len() == 0)),
+    }
+}
+
+/// Unbinds the names of odd values.
+fn remove_odd(alloc: Global, plain: &mut PlainMap) -> Result<(), AllocError> {
+    for number in 0..KEYS + CROWD {
+        let name = name_of(alloc, key_at(number))?;
+        if plain.get(&name).is_some_and(|value| value % 2 == 1) {
+            plain.remove(&name);
+        }
+    }
+    Ok(())
+}
+
+/// The keys that random calls are about, by their numbers.
+fn key_at(number: u64) -> u64 {
+    if number < KEYS {
+        number
+    } else {
+        (number - KEYS).saturating_mul(APART)
     }
 }
 
@@ -452,7 +535,7 @@ fn key_of(call: Call) -> u64 {
         | Call::Update(key, _)
         | Call::Halve(key)
         | Call::Erase(key) => key,
-        Call::Clear | Call::Len | Call::IsEmpty => 0,
+        Call::Clear | Call::RetainEven | Call::Len | Call::IsEmpty => 0,
     }
 }
 
@@ -624,4 +707,89 @@ fn check_two(rt: &impl Abort, alloc: Global) -> Result<(), Fail> {
 #[test]
 fn random_sessions(rt: HostRuntime) -> Result<(), Fail> {
     check_two(&rt, rt.alloc())
+}
+
+/// Binds these keys, and drains the table, which is empty then and can be used.
+fn drain(
+    rt: &impl Abort,
+    alloc: Global,
+    locked: &mut NumLocked<'_>,
+    bound: &[(NumKey, u64)],
+) -> Result<Vec<(NumKey, u64)>, AllocError>
+    ensures { locked.new.table ≡ locked.old.table }
+{
+    for (key, value) in bound {
+        let fresh = locked.insert(*key, *value);
+        assert!(rt; matches!(fresh, Ok(true)), "key {}", key.0);
+    }
+    let pairs = locked.drain(alloc)?;
+    assert!(rt; locked.is_empty());
+    for (key, _) in bound {
+        assert!(rt; !locked.contains(key), "key {}", key.0);
+    }
+    Ok(pairs)
+}
+
+/// More keys than the table has slots when it is locked, in no order, and what they are bound to.
+static UNSORTED: [(NumKey, u64); 18] = [
+    (NumKey(9), 1),
+    (NumKey(40), 2),
+    (NumKey(3), 3),
+    (NumKey(700), 4),
+    (NumKey(0), 5),
+    (NumKey(8), 6),
+    (NumKey(1), 7),
+    (NumKey(31), 8),
+    (NumKey(2), 9),
+    (NumKey(16), 10),
+    (NumKey(25), 11),
+    (NumKey(5), 12),
+    (NumKey(64), 13),
+    (NumKey(4), 14),
+    (NumKey(90), 15),
+    (NumKey(7), 16),
+    (NumKey(12), 17),
+    (NumKey(6), 18),
+];
+
+/// Drains the table twice, and gives the pairs that came first.
+fn drain_twice(
+    rt: &impl Abort,
+    alloc: Global,
+    caller: NumCaller<'_>,
+) -> Result<Vec<(NumKey, u64)>, Fail> {
+    let Ok(mut locked) = caller.lock() else {
+        return Err(Fail::from("a table that was not locked"));
+    };
+    let first = drain(rt, alloc, &mut locked, &UNSORTED);
+    let second = drain(rt, alloc, &mut locked, &UNSORTED);
+    let fresh = locked.insert(NumKey(5), 50);
+    assert!(rt; matches!(fresh, Ok(true)));
+    let _caller = locked.unlock_caller();
+    let (first, second) = (first?, second?);
+    assert!(rt; first == second);
+    Ok(first)
+}
+
+/// What comes is sorted, and another caller finds what was bound afterwards. The table has grown
+/// once, and stays so.
+fn check_drained(rt: &impl Abort, alloc: Global) -> Result<(), Fail> {
+    let (table, first, second, _) = open(alloc, MAY_GROW)?;
+    let pairs = drain_twice(rt, alloc, table.caller(first))?;
+    let mut sorted = Vec::from_array(alloc, UNSORTED)?;
+    sorted.sort_unstable();
+    assert!(rt; pairs == sorted);
+    let mut second = table.caller(second);
+    let found = second.find(&NumKey(5));
+    assert!(rt; found == Ok(Some(50)));
+    let count = second.len();
+    assert!(rt; count == Ok(1));
+    let power = second.power();
+    assert!(rt; power == Ok(3));
+    Ok(())
+}
+
+#[test]
+fn drained(rt: HostRuntime) -> Result<(), Fail> {
+    check_drained(&rt, rt.alloc())
 }

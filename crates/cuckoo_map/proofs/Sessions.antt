@@ -1,11 +1,13 @@
 -- All stripes in one list, from the lock of a table to its end.
-use Rattle.std.proofs.Common.{◌≡◌, ℕ, suc, ◌*◌, ◌^◌, ◌<◌, ◌≤◌, List, [], ◌∷◌, length, get_or, reverse, inr, ⊎_elim, refl, sym, ap, ◌∙◌, subst, arith, Some, None, Result, OnOk, IfErr}
+use Rattle.std.proofs.Common.{◌≡◌, ℕ, suc, ◌*◌, ◌^◌, ◌<◌, ◌≤◌, List, [], ◌∷◌, length, get_or, reverse, inr, ⊎_elim, refl, sym, ap, ◌∙◌, subst, arith, Some, None, Result, OnOk, IfErr, ◌++◌, take, drop, Ok, Err, OnErr, IfOk}
 use Rattle.std.proofs.Math.Pow.{pow_mono}
-use Rattle.std.proofs.lemmas.List.{length-map}
+use Rattle.std.proofs.lemmas.List.{length-map, take-append-le, take_all}
 use Rattle.std.proofs.lemmas.Nat.{pow_pos}
 use Rattle.std.proofs.lemmas.Result.{IfOk-weaker, IfErr-weaker}
-use Rattle.std.specs.Prelude.{Option}
+use Rattle.std.specs.Prelude.{Option, Bool}
 use Rattle.std.specs.FinMap.{get, len, from_entries}
+use Rattle.std.specs.Borrow.{Bor}
+use Rattle.std.specs.Fn.{Mut}
 use Rattle.ck_model.specs.declared.contents.Content.{Content}
 use Rattle.ck_model.specs.declared.history.Act.{Act}
 use Rattle.ck_model.specs.declared.history.Act.TheVariants.{Find}
@@ -16,7 +18,7 @@ use Rattle.ck_model.specs.declared.settings.Settings.{Settings}
 use Rattle.ck_model.specs.Map.{Name, Answers, Step}
 use Rattle.ck_model.specs.History.{After}
 use Rattle.ck_model.specs.Numbered.{IsIn, numbers, Holds}
-use Rattle.ck_model.specs.Contents.{Layout, layout, layout_of, Stripes, Lawful, pairs_in, pairs_of, bindings, NamesApart}
+use Rattle.ck_model.specs.Contents.{Layout, layout, layout_of, Stripes, Lawful, pairs_in, pairs_of, bindings, NamesApart, power_of}
 use Rattle.ck_model.specs.Paths.{HasNoRoom, Grounds}
 use Rattle.ck_model.specs.Sections.{HasAll, Renewed, Section, IdentitySection}
 use Rattle.ck_model.proofs.Numbered.{held_of_in, in_held}
@@ -33,8 +35,9 @@ use Rattle.ck_section.specs.Calls.{IsWithoutRoom, ChangesContents}
 use Rattle.ck_section.proofs.Decided.{IsCallOn}
 use Rattle.ck_section.proofs.Found.{holds_at}
 use Rattle.ck_section.proofs.Growing.{all_settled, contents_settled}
-use Rattle.ck_section.proofs.Kept.{table_after, settled_after}
+use Rattle.ck_section.proofs.Kept.{table_after, settled_after, power_kept}
 use Rattle.ck_section.specs.Whole.{AreAllHeld, AreSettled, IsTable, ClearsBindings}
+use Rattle.ck_section.specs.Retaining.{RetainsMap, RetainsBindings}
 use Rattle.ck_model.specs.Counting.{counting}
 use Rattle.ck_words.specs.Words.{WordsState}
 use Rattle.ck_words.specs.Passes.{EachOf, PassState, IsPassOf, numbers_of}
@@ -47,7 +50,7 @@ use Rattle.ck_words.proofs.Reversed.{in_of_reverse, bindings-reverse}
 use Rattle.ck_words.proofs.Seating.{length-numbers, number_at}
 use Rattle.ck_words.proofs.WholeTables.{lawful_held}
 use Rattle.cuckoo_map.specs.Refusals.{IsStripeIn, why_of}
-use Rattle.cuckoo_map.specs.Locking.{LockedState, map_of, IsLocked, HasLocked, HasActed, Clears, Lists, KeepsMap, LacksRoom, SeeksRoom}
+use Rattle.cuckoo_map.specs.Locking.{LockedState, map_of, IsLocked, HasLocked, HasActed, Clears, Lists, KeepsMap, LacksRoom, SeeksRoom, Retains}
 use Rattle.cuckoo_map.proofs.Sizes.{renewed_same, has_all, few_of_each}
 
 same_list : (xs ys : List ℕ) → length xs ≡ length ys → ((i : ℕ) → i < length xs → get_or xs i 0 ≡ get_or ys i 0) → xs ≡ ys
@@ -55,6 +58,12 @@ same_list [] [] e f = refl
 same_list [] (y ∷ ys) e f = absurd (omega arith)
 same_list (x ∷ xs) [] e f = absurd (omega arith)
 same_list (x ∷ xs) (y ∷ ys) e f = λ j. f 0 (omega arith) j ∷ same_list xs ys (omega arith) (λ i l. f (suc i) (omega arith)) j
+
+-- What a call does to a slice of all of a list it does to the list.
+pub through_slice : {X : Type 0} (P : List X → List X → Type 0) (lent old : List X) → lent ≡ old → (n : ℕ) (items new : List X) → n ≡ length new → P lent new → P old (take n (new ++ drop (length new) items))
+through_slice {X} P lent old is n items new long done =
+    let whole : take n (new ++ drop (length new) items) ≡ new = take-append-le n new (drop (length new) items) (omega arith) ∙ take_all n new (omega arith) in
+    subst (λ (x : List X × List X). P x.0 x.1) (λ j. (is j, sym whole j)) done
 
 module _ {V : Type 0} where
   -- nothing but what the stripes are has changed
@@ -210,6 +219,44 @@ module _ {V : Type 0} where
   pub place_held : {hash : Name → ℕ} {w : WordsState} {p : PassState V} {s : LockedState V} → ◌≡◌ {A = LockedState V} (record { table = w; pass = p }) s → (name : Name) (place : KeyPlace) → IsPlaceOf hash s.pass.stripes name place → IsPlaceOf hash p.stripes name place
   place_held {hash} is name place at = subst (λ (x : LockedState V). IsPlaceOf hash x.pass.stripes name place) (sym is) at
 
+  -- the contents of all stripes of a locked table changed
+  module _ {hash : Name → ℕ} {w : WordsState} {p : PassState V} (l : IsLocked hash w p) (q : PassState V) (kept : q ≡ record p { stripes = q.stripes }) where
+    -- it is still locked where they were renewed
+    pub changed_locked : ChangesContents p.stripes q.stripes → Renewed (layout_of hash w.settings) (contents_of p.stripes) (contents_of q.stripes) → IsLocked hash w q
+    changed_locked changes renewed =
+        locked_again hash w p q l kept (table_after w.settings.s p.stripes q.stripes l.table changes) (settled_after w.settings.s p.stripes q.stripes l.settled changes) renewed
+
+    module _ {s : LockedState V} (is : ◌≡◌ {A = LockedState V} (record { table = w; pass = p }) s) where
+      -- all names were unbound
+      pub clears_map : ChangesContents p.stripes q.stripes → ClearsBindings (layout_of hash w.settings) p.stripes q.stripes → Clears s (record { table = w; pass = q })
+      clears_map changes clears = record {
+        table = ap (λ (x : LockedState V). x.table) is;
+        view = ap (λ (x : PassState V). x.view) kept ∙ ap (λ (x : LockedState V). x.pass.view) is;
+        power = power_kept p.stripes q.stripes changes ∙ ap (λ (x : LockedState V). power_of (contents_of x.pass.stripes)) is;
+        none = (clears l.renewed.lawful).1;
+      }
+
+      -- and they were what this says of their pairs
+      pub drains_map : {A E : Type 0} (P : A → Type 0) (r : Result A E) → OnOk r (ChangesContents p.stripes q.stripes) → OnOk r (ClearsBindings (layout_of hash w.settings) p.stripes q.stripes) → IfOk r P
+          → IfOk r (λ pairs. P pairs × Clears s (record { table = w; pass = q }))
+      drains_map P (Ok pairs) changes clears says = (says, clears_map changes clears)
+      drains_map P (Err e) changes clears says = tt
+
+      -- those pairs stayed for which a closure answered true
+      pub retains_map : {F K : Type 0} (g : Mut F (Bor K × (Bor V × Unit {0})) Bool) (name : K → Name) (f : F) → ChangesContents p.stripes q.stripes → RetainsBindings g name f (layout_of hash w.settings) p.stripes q.stripes
+          → Retains g name f s (record { table = w; pass = q })
+      retains_map g name f changes retains = record {
+        table = ap (λ (x : LockedState V). x.table) is;
+        view = ap (λ (x : PassState V). x.view) kept ∙ ap (λ (x : LockedState V). x.pass.view) is;
+        power = power_kept p.stripes q.stripes changes ∙ ap (λ (x : LockedState V). power_of (contents_of x.pass.stripes)) is;
+        pairs = subst (λ (x : LockedState V). RetainsMap g name f (map_of x) (bindings (contents_of q.stripes))) is (retains l.renewed.lawful).1;
+      }
+
+    -- it is still locked where all pairs were taken out, or nothing changed
+    pub drained_locked : {A E : Type 0} (r : Result A E) → OnOk r (ChangesContents p.stripes q.stripes) → OnOk r (ClearsBindings (layout_of hash w.settings) p.stripes q.stripes) → OnErr r (q ≡ p) → IsLocked hash w q
+    drained_locked (Ok pairs) changes clears same = changed_locked changes (clears l.renewed.lawful).0
+    drained_locked (Err e) changes clears same = subst (λ (x : PassState V). IsLocked hash w x) (sym same) l
+
   -- The table is locked, as s shows it. A call was made on its stripes, and nothing else changed.
   module _ {hash : Name → ℕ} {w : WordsState} {p : PassState V} {s : LockedState V} (l : IsLocked hash w p) (is : ◌≡◌ {A = LockedState V} (record { table = w; pass = p }) s) (place : KeyPlace) (same : place.s ≡ s.table.settings.s)
       (name : Name) (q : PassState V) (kept : q ≡ record p { stripes = q.stripes }) (act : Act V) (reply : Reply V) where
@@ -218,9 +265,7 @@ module _ {V : Type 0} where
 
     -- it is still locked
     pub acted_locked : ChangesContents p.stripes q.stripes → IsCallOn hash place.s p.stripes name act reply q.stripes → IsLocked hash w q
-    acted_locked changes call =
-        locked_again hash w p q l kept (table_after w.settings.s p.stripes q.stripes l.table changes) (settled_after w.settings.s p.stripes q.stripes l.settled changes)
-        (acted hash w p l place of_table name act reply q.stripes call).renewed
+    acted_locked changes call = changed_locked l q kept changes (acted hash w p l place of_table name act reply q.stripes call).renewed
 
     -- the call is what was done to its map
     pub has_acted : IsCallOn hash place.s p.stripes name act reply q.stripes → HasActed name act reply s (record { table = w; pass = q })
@@ -228,18 +273,6 @@ module _ {V : Type 0} where
       table = ap (λ (x : LockedState V). x.table) is;
       view = ap (λ (x : PassState V). x.view) kept ∙ ap (λ (x : LockedState V). x.pass.view) is;
       step = subst (λ (x : LockedState V). Step (map_of x) (On name act) reply (bindings (contents_of q.stripes))) is (acted hash w p l place of_table name act reply q.stripes call).step;
-    }
-
-  -- all stripes of a locked table were cleared
-  module _ (hash : Name → ℕ) (w : WordsState) (p : PassState V) (l : IsLocked hash w p) (q : PassState V) (kept : q ≡ record p { stripes = q.stripes }) (clears : ClearsBindings (layout_of hash w.settings) p.stripes q.stripes) where
-    pub cleared_locked : AreAllHeld w.settings.s q.stripes → IsLocked hash w q
-    cleared_locked held = locked_again hash w p q l kept held.table held.settled (clears l.renewed.lawful).0
-
-    pub clears_map : (s : LockedState V) → ◌≡◌ {A = LockedState V} (record { table = w; pass = p }) s → Clears s (record { table = w; pass = q })
-    clears_map s is = record {
-      table = ap (λ (x : LockedState V). x.table) is;
-      view = ap (λ (x : PassState V). x.view) kept ∙ ap (λ (x : LockedState V). x.pass.view) is;
-      none = (clears l.renewed.lawful).1;
     }
 
   -- room was made or not, and then all stripes were settled

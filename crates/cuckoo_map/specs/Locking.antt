@@ -1,19 +1,22 @@
 -- The whole table under one caller.
-use Rattle.std.specs.Prelude.{◌≡◌, ℕ, ◌<◌, List, reverse, [], Some, Result, OnOk, IfErr}
+use Rattle.std.specs.Prelude.{◌≡◌, ℕ, ◌<◌, List, reverse, [], Some, Result, OnOk, IfErr, Bool}
 use Rattle.std.specs.FinMap.{empty, from_entries}
+use Rattle.std.specs.Borrow.{Bor}
+use Rattle.std.specs.Fn.{Mut}
 use Rattle.ck_model.specs.declared.history.Act.{Act}
 use Rattle.ck_model.specs.declared.history.Call.TheVariants.{On}
 use Rattle.ck_model.specs.declared.history.Reply.{Reply}
 use Rattle.ck_model.specs.declared.settings.Settings.{Settings}
 use Rattle.ck_model.specs.Map.{Name, Map, Step}
 use Rattle.ck_model.specs.History.{After}
-use Rattle.ck_model.specs.Contents.{layout_of, bindings, NamesApart}
+use Rattle.ck_model.specs.Contents.{layout_of, bindings, NamesApart, power_of}
 use Rattle.ck_model.specs.Paths.{Grounds}
 use Rattle.ck_model.specs.Sections.{Renewed}
 use Rattle.ck_stripe.specs.Stripe.{StripeState}
 use Rattle.ck_section.specs.declared.room.Lack.{Lack}
 use Rattle.ck_section.specs.Stripes.{contents_of}
 use Rattle.ck_section.specs.Whole.{AreAllHeld, AreSettled, IsTable}
+use Rattle.ck_section.specs.Retaining.{RetainsMap}
 use Rattle.ck_section.specs.Room.{reason_of_lack, KeepsBindings, MakesRoom, GivesReason}
 use Rattle.ck_words.specs.Words.{WordsState}
 use Rattle.ck_words.specs.Passes.{PassState, IsPassOf, ShowsSeen}
@@ -59,10 +62,11 @@ module _ {V : Type 0} where
     pub view : m.pass.view ≡ l.pass.view
     pub step : Step (map_of l) (On q act) reply (map_of m)
 
-  -- From l to m all names were unbound, and what the pass knows stayed.
+  -- From l to m all names were unbound. The number of buckets and what the pass knows stayed.
   pub record Clears (l m : LockedState V) : Type 0 where
     pub table : m.table ≡ l.table
     pub view : m.pass.view ≡ l.pass.view
+    pub power : power_of (contents_of m.pass.stripes) ≡ power_of (contents_of l.pass.stripes)
     pub none : map_of m ≡ empty
 
   -- The pairs are those of the map, each name once, in any order.
@@ -89,3 +93,10 @@ module _ {V : Type 0} where
     pub no_call : KeepsBindings (layout_of hash set) old new
     pub room : OnOk found (MakesRoom (layout_of hash set) old new q)
     pub refused : IfErr found (GivesReason (layout_of hash set) set.min_load old new q)
+
+-- From l to m the closure f was asked of each pair once, and those were unbound for which it answered false. The number of buckets and what the pass knows stayed.
+pub record Retains {F K V : Type 0} (g : Mut F (Bor K × (Bor V × Unit {0})) Bool) (name : K → Name) (f : F) (l m : LockedState V) : Type 0 where
+  pub table : m.table ≡ l.table
+  pub view : m.pass.view ≡ l.pass.view
+  pub power : power_of (contents_of m.pass.stripes) ≡ power_of (contents_of l.pass.stripes)
+  pub pairs : RetainsMap g name f (map_of l) (map_of m)

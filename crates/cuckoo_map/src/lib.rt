@@ -40,6 +40,7 @@ mod key_pairs;
 mod key_room;
 mod locked;
 mod look_ups;
+mod pairs;
 mod path_search;
 mod refusal;
 mod size;

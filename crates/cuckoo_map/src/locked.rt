@@ -47,8 +47,8 @@ use std::marker::Model;
 /// was locked to the map when it is unlocked. Contracts see the table, and the caller's pass, which
 /// has all stripes.
 pub struct LockedTable<'t, K: TableKey, V> {
-    table: &'t Table<K, V>,
-    whole: Whole<K, V>,
+    pub(crate) table: &'t Table<K, V>,
+    pub(crate) whole: Whole<K, V>,
 }
 
 impl<'t, K: TableKey, V> Model for LockedTable<'t, K, V> {
@@ -450,6 +450,7 @@ fn clear_in<K: TableKey + Drop, V: Drop>(whole: &mut Whole<K, V>)
     ensures held { (s : ℕ) → IsTable s whole.old.stripes → AreAllHeld s whole.new.stripes }
     ensures cleared { (s max : ℕ) → IsTable s whole.old.stripes
         → ClearsBindings (layout K.hash s max) whole.old.stripes whole.new.stripes }
+    ensures changes { ChangesContents whole.old.stripes whole.new.stripes }
     ensures same { whole.new ≡ record whole.old { stripes = whole.new.stripes } }
 {
     clear_all(&mut whole.stripes);
