@@ -1,6 +1,6 @@
 -- Elements of a list that become others, one after the other.
 use Rattle.std.proofs.Common.{◌≡◌, ◌≢◌, ℕ, zero, suc, ◌+◌, ◌<◌, ◌≤◌, List, [], ◌∷◌, length, take, get_or, set, refl, sym, ◌∙◌, ap, subst, add-one, arith}
-use Rattle.std.proofs.lemmas.List.{length-set, get_or-set_other, take_all}
+use Rattle.std.proofs.lemmas.List.{length-set, get_or_default, get_or-set_other, take_all}
 use Rattle.ck_bucket.specs.Retaining.{EachInTurn}
 
 module _ {S A : Type 0} (R : S → A → A → S → Type 0) where
@@ -27,6 +27,10 @@ module _ {S A : Type 0} (R : S → A → A → S → Type 0) where
   one_more (suc n) s (a ∷ old) (b ∷ now) t x u d long lt first step = (first.0, first.1, one_more n first.0 old now t x u d (omega arith) (omega arith) first.2 step)
 
   module _ (s : S) (old now : List A) (n : ℕ) (t : S) (so_far : Begins s old now n t) where
+    -- the next one, as it is read
+    pub begins_read : (d e : A) → n < length old → get_or now n d ≡ get_or old n e
+    begins_read d e lt = so_far.rest n d (omega arith) ∙ get_or_default old n d e lt
+
     -- the next one became another
     pub begins_more : (x : A) (u : S) (d : A) → n < length old → R t (get_or old n d) x u → (after : List A) → after ≡ set now n x → Begins s old after (n + 1) u
     begins_more x u d lt step after is = subst (λ (l : List A). Begins s old l (n + 1) u) (sym is) (record {

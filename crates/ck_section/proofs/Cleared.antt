@@ -76,22 +76,23 @@ module _ {V : Type 0} where
       λ j. (t.number, empty_content (here j) t.content.power) ∷ rest j
 
   -- All stripes were cleared.
-  module _ (s : ℕ) (old new : List (StripeState V)) (table : IsTable s old) (is : new ≡ map cleared old) where
+  module _ (old new : List (StripeState V)) (is : new ≡ map cleared old) where
     cleared_at : (i : ℕ) → i < length old → stripe_at new i ≡ cleared (stripe_at old i)
     cleared_at i l = ap (λ (x : List (StripeState V)). stripe_at x i) is ∙ get_or-map cleared old i no_stripe no_stripe l
 
-    changes_cleared : ChangesContents old new
+    pub changes_cleared : ChangesContents old new
     changes_cleared = record {
       count = ap length is ∙ length-map old cleared;
       each = λ i l. cleared_at i l ∙ ap (λ (t : StripeState V). record (stripe_at old i) { content = t.content }) (sym (cleared_at i l));
       power = λ i l. ap (λ (t : StripeState V). t.content.power) (cleared_at i l);
     }
 
-    pub held_cleared : AreSettled old → AreAllHeld s new
-    held_cleared settled = all_after s old new (record { table = table; settled = settled }) changes_cleared
+    module _ (s : ℕ) (table : IsTable s old) where
+      pub held_cleared : AreSettled old → AreAllHeld s new
+      held_cleared settled = all_after s old new (record { table = table; settled = settled }) changes_cleared
 
-    pub clears : (hash : Name → ℕ) (max : ℕ) → ClearsBindings (layout hash s max) old new
-    clears hash max lawful =
-        let k : Layout = layout hash s max in
-        subst (λ (hs : Stripes V). Renewed k (contents_of old) hs × (bindings hs ≡ empty)) (sym (ap contents_of is ∙ contents_cleared k old table.one_s))
-        (renewed_emptied k (contents_of old) lawful, none_bound k (contents_of old))
+      pub clears : (hash : Name → ℕ) (max : ℕ) → ClearsBindings (layout hash s max) old new
+      clears hash max lawful =
+          let k : Layout = layout hash s max in
+          subst (λ (hs : Stripes V). Renewed k (contents_of old) hs × (bindings hs ≡ empty)) (sym (ap contents_of is ∙ contents_cleared k old table.one_s))
+          (renewed_emptied k (contents_of old) lawful, none_bound k (contents_of old))

@@ -1,9 +1,10 @@
 -- All stripes of a table stay so in a call, and have those of every name.
-use Rattle.std.proofs.Common.{◌≡◌, ℕ, ◌^◌, ◌<◌, ◌≤◌, List, length, sym, ◌∙◌, ap, subst}
+use Rattle.std.proofs.Common.{◌≡◌, ℕ, ◌^◌, ◌<◌, ◌≤◌, List, [], ◌∷◌, length, refl, sym, ◌∙◌, ap, subst, arith}
 use Rattle.std.proofs.lemmas.Nat.{pow_pos}
 use Rattle.ck_model.specs.Map.{Name}
+use Rattle.ck_model.specs.Contents.{power_of}
 use Rattle.ck_stripe.specs.Stripe.{StripeState}
-use Rattle.ck_section.specs.Stripes.{stripe_at}
+use Rattle.ck_section.specs.Stripes.{stripe_at, contents_of}
 use Rattle.ck_section.specs.Places.{HasStripe, HasBoth}
 use Rattle.ck_section.specs.Whole.{AreAllHeld, AreSettled, IsTable}
 use Rattle.ck_section.specs.Calls.{ChangesContents}
@@ -37,3 +38,10 @@ module _ {V : Type 0} (s : ℕ) (old : List (StripeState V)) where
 
   pub all_after : (new : List (StripeState V)) → AreAllHeld s old → ChangesContents old new → AreAllHeld s new
   all_after new all changes = record { table = table_after new all.table changes; settled = settled_after new all.settled changes }
+
+-- the power that contents show stays
+pub power_kept : {V : Type 0} (old new : List (StripeState V)) → ChangesContents old new → power_of (contents_of new) ≡ power_of (contents_of old)
+power_kept [] [] changes = refl
+power_kept [] (u ∷ us) changes = let count = changes.count in absurd (omega arith)
+power_kept (t ∷ ts) [] changes = let count = changes.count in absurd (omega arith)
+power_kept (t ∷ ts) (u ∷ us) changes = changes.power 0 (omega arith)

@@ -21,3 +21,4 @@ pub mod Owned
 pub mod Visited
 pub mod Cleared
 pub mod Listed
+pub mod Retained

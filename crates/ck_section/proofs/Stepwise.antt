@@ -1,6 +1,7 @@
 -- A list whose elements are changed one after another.
-use Rattle.std.proofs.Common.{◌≡◌, ℕ, zero, suc, ◌≤◌, List, [], ◌∷◌, length, map, refl, ap, arith}
+use Rattle.std.proofs.Common.{◌≡◌, ℕ, zero, suc, ◌+◌, ◌<◌, ◌≤◌, List, [], ◌∷◌, length, map, refl, sym, ◌∙◌, ap, add-one, arith}
 use Rattle.std.specs.Prelude.{slice_index_or, slice_set}
+use Rattle.std.proofs.lemmas.List.{get_or_default}
 
 module _ {A : Type 0} (f : A → A) where
   -- the first n are changed
@@ -31,3 +32,19 @@ module _ {A : Type 0} (f : A → A) where
   changed-past (suc n) i [] d le = refl
   changed-past (suc n) zero (x ∷ xs) d le = absurd (omega arith)
   changed-past (suc n) (suc i) (x ∷ xs) d le = changed-past n i xs d (omega arith)
+
+  -- The first n are changed in now.
+  module _ (n : ℕ) (xs now : List A) (is : now ≡ changed_to n xs) where
+    -- what is read of the next one is as before
+    pub changed-read : (t d : A) → n < length xs → slice_index_or now n t ≡ slice_index_or xs n d
+    changed-read t d lt = ap (λ l. slice_index_or l n t) is ∙ changed-past n n xs t (omega arith) ∙ get_or_default xs n t d lt
+
+    -- it is changed, too
+    pub changed-more : (t u : A) → u ≡ f (slice_index_or now n t) → slice_set now n u ≡ changed_to (n + 1) xs
+    changed-more t u made =
+        ap (λ v. slice_set now n v) made
+        ∙ ap (λ l. slice_set l n (f (slice_index_or l n t))) is
+        ∙ changed-next n xs t ∙ ap (λ m. changed_to m xs) (sym (add-one n))
+
+    pub changed-done : n ≡ length xs → now ≡ map f xs
+    changed-done end = is ∙ ap (λ m. changed_to m xs) end ∙ changed-all xs

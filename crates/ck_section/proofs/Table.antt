@@ -1,18 +1,22 @@
 -- All stripes of a table: their memory, their doubling and their entries.
-use Rattle.std.proofs.Common.{◌≡◌, ◌≢◌, ◌⊎◌, inl, inr, ℕ, zero, suc, ◌+◌, ◌<◌, ◌≤◌, List, [], ◌∷◌, ◌++◌, length, take, map, refl, sym, ◌∙◌, ap, subst, length-append, append-nil, append_assoc, add-one, arith}
+use Rattle.std.proofs.Common.{◌≡◌, ◌≢◌, ◌⊎◌, inl, inr, ℕ, zero, suc, ◌+◌, ◌^◌, ◌<◌, ◌≤◌, List, [], ◌∷◌, ◌++◌, length, take, map, refl, sym, ◌∙◌, ap, subst, length-append, append-nil, append_assoc, add-one, arith}
 use Rattle.std.specs.Prelude.{slice_set, slice_index_or}
+use Rattle.std.proofs.Math.Pow.{pow_mono}
+use Rattle.std.specs.FinMap.{from_entries}
+use Rattle.std.specs.declared.cmp.Ordering.{Ordering}
 use Rattle.std.proofs.lemmas.Bool.{cases_eq}
 use Rattle.std.proofs.lemmas.Nat.{pow_pos}
 use Rattle.std.proofs.lemmas.List.{length-set, length-map, get_or-map, get_or-set_same, get_or-set_other, take_all}
 use Rattle.ck_model.specs.declared.history.Call.TheVariants.{Len}
 use Rattle.ck_model.specs.declared.history.Reply.TheVariants.{Count}
-use Rattle.ck_model.specs.Map.{Name, named}
+use Rattle.ck_model.specs.Map.{Name, named, ListsInOrder}
 use Rattle.ck_model.specs.Numbered.{IsIn, numbers}
-use Rattle.ck_model.specs.Contents.{layout, Stripes, Lawful, pairs_in, pairs_of, power_of}
+use Rattle.ck_model.specs.Contents.{layout, Stripes, Lawful, NamesApart, pairs_in, pairs_of, bindings, power_of}
 use Rattle.ck_model.specs.Sections.{HasAll, Section, IdentitySection}
 use Rattle.ck_model.specs.Doubling.{IsDoubledTo}
 use Rattle.ck_model.proofs.Numbered.{in_held}
 use Rattle.ck_model.proofs.Counted.{len-bindings}
+use Rattle.ck_model.proofs.Doubling.{pairs_apart}
 use Rattle.ck_stripe.specs.Stripe.{StripeState, IsReserved}
 use Rattle.ck_section.specs.Stripes.{no_stripe, stripe_at, contents_of, doubled, doubled_stripes}
 use Rattle.ck_section.specs.Whole.{AreSettled, IsTable}
@@ -182,6 +186,16 @@ module _ {V : Type 0} where
   pairs_push [] t = sym (append-nil (pairs_in t.content))
   pairs_push (s ∷ ss) t = append_assoc (pairs_in s.content) (pairs_of (contents_of ss)) (pairs_in t.content) ∙ ap (λ es. pairs_in s.content ++ es) (pairs_push ss t)
 
+  -- the pairs of stripe i are pushed behind those of the stripes before it
+  pub pairs_more : {K : Type 0} (name : K → Name) (pairs after start : List (K × V)) (i : ℕ) (stripes : List (StripeState V)) (t : StripeState V) → i < length stripes → t ≡ stripe_at stripes i
+      → map (named name) pairs ≡ map (named name) start ++ pairs_of (contents_of (take i stripes)) → map (named name) after ≡ map (named name) pairs ++ pairs_in t.content
+      → map (named name) after ≡ map (named name) start ++ pairs_of (contents_of (take (i + 1) stripes))
+  pairs_more name pairs after start i stripes t lt is seen pushed =
+      pushed ∙ ap (λ es. es ++ pairs_in t.content) seen
+      ∙ append_assoc (map (named name) start) (pairs_of (contents_of (take i stripes))) (pairs_in t.content)
+      ∙ ap (λ es. map (named name) start ++ es)
+      (ap (λ (u : StripeState V). pairs_of (contents_of (take i stripes)) ++ pairs_in u.content) is ∙ sym (pairs-next i stripes lt) ∙ ap (λ n. pairs_of (contents_of (take n stripes))) (sym (add-one i)))
+
   entries-next : (i : ℕ) (stripes : List (StripeState V)) → i < length stripes → entries_to (suc i) stripes ≡ entries_to i stripes + length (pairs_in (stripe_at stripes i).content)
   entries-next i stripes lt = ap length (pairs-next i stripes lt) ∙ length-append (pairs_of (contents_of (take i stripes))) (pairs_in (stripe_at stripes i).content)
 
@@ -219,3 +233,16 @@ module _ {V : Type 0} where
     owns = has_all hash s max stripes table;
     step = (ap Count (is ∙ sym (len-bindings (layout hash s max) (contents_of stripes) lawful)), refl);
   })
+
+  pub few_stripes : (s : ℕ) (stripes : List (StripeState V)) → IsTable s stripes → length stripes ≤ 2 ^ 10
+  few_stripes s stripes table =
+      let few : 2 ^ s ≤ 2 ^ 10 = pow_mono table.many in
+      omega (arith, table.count)
+
+  -- the pairs of all stripes, once they are sorted, list the map
+  pub lists_bindings : {K : Type 0} (name : K → Name) (cmp : K → K → Ordering) (hash : Name → ℕ) (s max : ℕ) (stripes : List (StripeState V)) → Lawful (layout hash s max) (contents_of stripes)
+      → (before after : List (K × V)) → map (named name) before ≡ pairs_of (contents_of stripes) → (NamesApart (map (named name) before) → ListsInOrder name cmp after (from_entries (map (named name) before)))
+      → ListsInOrder name cmp after (bindings (contents_of stripes))
+  unfolding bindings
+  lists_bindings name cmp hash s max stripes lawful before after all sorted =
+      subst (λ es. ListsInOrder name cmp after (from_entries es)) all (sorted (subst NamesApart (sym all) (pairs_apart (layout hash s max) (contents_of stripes) lawful)))

@@ -4,6 +4,7 @@
 #![tactic(auto)]
 
 mod double;
+mod drain;
 mod entry;
 mod held;
 mod hop;
@@ -13,12 +14,14 @@ mod look;
 mod one_key;
 mod one_stripe;
 mod place;
+mod retain;
 mod room;
 mod two_keys;
 mod whole;
 mod whole_path;
 
 pub use double::{double_all, len, settle_all};
+pub use drain::drain_all;
 pub use entry::{Entry, find_entry};
 pub use held::{Held, Numbered, Visitor};
 pub use hop::{Hop, make_hop};
@@ -31,6 +34,7 @@ pub use one_key::{
 };
 pub use one_stripe::{is_settled, power};
 pub use place::{HeldBucket, HeldSlot, KeyPlace};
+pub use retain::retain_all;
 pub use room::{Lack, make_room, settled_place};
 pub use two_keys::update_two;
 pub use whole::{clear_all, find_in_all, place_in_all};

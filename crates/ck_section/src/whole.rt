@@ -9,7 +9,7 @@ ghost use Rattle.ck_model.specs.Contents.{layout};
 ghost use Rattle.ck_model.specs.Slots.{slot_at};
 ghost use Rattle.ck_bucket.specs.Bucket.{LacksName};
 ghost use Rattle.ck_stripe.specs.Stripe.{HasBucket, bucket_of};
-ghost use Rattle.ck_section.specs.Calls.{effect, IsCall};
+ghost use Rattle.ck_section.specs.Calls.{effect, IsCall, ChangesContents};
 ghost use Rattle.ck_section.specs.Places.{IsPlaceOf};
 ghost use Rattle.ck_section.specs.Whole.{IsTable, AreSettled, AreAllHeld, ClearsBindings};
 
@@ -76,6 +76,7 @@ pub fn clear_all<K: TableKey + Drop, V: Drop>(stripes: &mut [Stripe<K, V>])
     ensures held { (s : ℕ) → IsTable s stripes.old → AreAllHeld s stripes.new }
     ensures cleared { (s max : ℕ) → IsTable s stripes.old
         → ClearsBindings (layout K.hash s max) stripes.old stripes.new }
+    ensures changes { ChangesContents stripes.old stripes.new }
 {
     for i in 0..stripes.len() {
         stripes[i].clear();

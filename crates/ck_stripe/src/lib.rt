@@ -5,6 +5,7 @@
 mod crossings;
 mod iter;
 mod next;
+mod pairs;
 mod stripe;
 mod stripe_laws;
 

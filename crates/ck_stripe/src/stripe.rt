@@ -8,7 +8,6 @@ ghost use Rattle.ck_model.specs.Slots.{slot_at, taken_in, IsFull};
 ghost use Rattle.ck_model.specs.Contents.{Layout, pairs_in, IsSound};
 ghost use Rattle.ck_model.specs.Paths.{partial_in};
 ghost use Rattle.ck_bucket.specs.Bucket.{HasName, LacksName, ReplacesValue, ChangesValue, ClonesAreEqual};
-ghost use Rattle.ck_bucket.specs.Retaining.{AsksOfRows};
 ghost use Rattle.ck_stripe.specs.Doubling.{split_rows, doubled_content, SendsEach};
 ghost use Rattle.ck_stripe.specs.Stripe.{HasBucket, bucket_of, with_bucket, with_slot, empty_content, IsWellFormed, IsReserved};
 
@@ -28,14 +27,14 @@ const MOST_ROWS: usize = 1 << 26;
 ///
 /// It has 56 bytes, so that an optional one is as long as a line of a cache.
 pub struct Stripe<K: TableKey, V> {
-    power: u32,
-    s: u32,
+    pub(crate) power: u32,
+    pub(crate) s: u32,
     number: u32,
     // The number of entries.
-    ledger: u32,
+    pub(crate) ledger: u32,
     // Until a doubled stripe is settled, these are the buckets of the power below.
-    rows: Rows<K, V>,
-    next: Next<K, V>,
+    pub(crate) rows: Rows<K, V>,
+    pub(crate) next: Next<K, V>,
     heap: Global,
 }
 
@@ -339,40 +338,6 @@ impl<K: TableKey + Drop, V: Drop> Stripe<K, V> {
         self.ledger = 0;
     }
 
-    /// Moves its pairs, in the order of rows and slots, into reserved room for them and for four
-    /// more. It has no entry then, and keeps its buckets and their memory.
-    pub fn drain_reserved(&mut self, pairs: &mut Vec<(K, V)>)
-        requires settled { self.old.settled ≡ true }
-        requires room { vec_len pairs.old + length (pairs_in self.old.content) + 4
-            ≤ vec_capacity pairs.old }
-        ensures content { self.new.content ≡ empty_content self.old.s self.old.content.power }
-        ensures rest { self.new ≡ record self.old { content = self.new.content } }
-        ensures pairs { map (named K.name) pairs.new.items
-            ≡ map (named K.name) pairs.old.items ++ pairs_in self.old.content }
-        ensures capacity { vec_capacity pairs.new ≡ vec_capacity pairs.old }
-    {
-        let count = self.next.count(self.s, self.power);
-        pour_all(&mut self.rows, count, pairs);
-        self.ledger = 0;
-    }
-
-    /// Asks the closure of each of its pairs once, in the order of rows and slots, and drops those
-    /// for which it answers false. It keeps its buckets and their memory.
-    pub fn retain<F: FnMut(&K, &V) -> bool>(&mut self, f: &mut F)
-        requires settled { self.old.settled ≡ true }
-        requires call { F.IsAlwaysCallable f.old }
-        ensures asked { AsksOfRows F.FnMut K.name f.old self.old.content.rows
-            self.new.content.rows f.new }
-        ensures power { self.new.content.power ≡ self.old.content.power }
-        ensures rest { self.new ≡ record self.old { content = self.new.content } }
-        ensures formed { IsWellFormed self.new }
-        ensures call { F.IsAlwaysCallable f.new }
-    {
-        let count = self.next.count(self.s, self.power);
-        let ledger = retain_rows(&mut self.rows, count, f);
-        self.ledger = ledger;
-    }
-
     /// Pushes its pairs, in the order of rows and slots, into reserved room for them and for four
     /// more.
     pub fn pour_reserved(self, pairs: &mut Vec<(K, V)>)
@@ -473,29 +438,8 @@ fn empty_all<K: TableKey + Drop, V: Drop>(rows: &mut Rows<K, V>, count: usize)
     }
 }
 
-// Asks the closure of the pairs of so many rows, row by row, and drops those for which it answers
-// false. Gives how many stay.
-fn retain_rows<K: TableKey + Drop, V: Drop, F: FnMut(&K, &V) -> bool>(
-    rows: &mut Rows<K, V>,
-    count: usize,
-    f: &mut F,
-) -> u32
-    requires count { count ≡ length rows.old }
-    requires few { count ≤ 2 ^ 26 }
-    requires call { F.IsAlwaysCallable f.old }
-    ensures asked { AsksOfRows F.FnMut K.name f.old rows.old rows.new f.new }
-    ensures len { result ≡ length (flat_map taken_in rows.new) }
-    ensures call { F.IsAlwaysCallable f.new }
-{
-    let mut len = 0;
-    for row in 0..count {
-        len += rows.retain_row(row, f);
-    }
-    len
-}
-
 // Pushes the pairs of so many rows, in their order, into reserved room for them and for four more.
-fn pour_all<K: TableKey, V>(rows: &mut Rows<K, V>, count: usize, pairs: &mut Vec<(K, V)>)
+pub(crate) fn pour_all<K: TableKey, V>(rows: &mut Rows<K, V>, count: usize, pairs: &mut Vec<(K, V)>)
     requires count { count ≡ length rows.old }
     requires room { vec_len pairs.old + length (flat_map taken_in rows.old) + 4
         ≤ vec_capacity pairs.old }

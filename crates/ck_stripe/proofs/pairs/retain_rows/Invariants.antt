@@ -2,7 +2,7 @@ use Rattle.std.proofs.Common.{◌≡◌, ◌*◌, ◌≤◌, flat_map, length, t
 use Rattle.ck_model.specs.Slots.{taken_in}
 use Rattle.ck_bucket.specs.Retaining.{AsksOfRow}
 use Rattle.ck_bucket.proofs.InTurn.{Begins}
-use Rattle.ck_stripe.proofs.stripe.retain_rows.Given as goal
+use Rattle.ck_stripe.proofs.pairs.retain_rows.Given as goal
 
 abbrev pub invariant-loop-row : goal.invariant-loop-row
 invariant-loop-row g l = record {

@@ -1,11 +1,11 @@
-use Rattle.std.proofs.Common.{◌<◌, List, [], ◌∙◌, sym, ap, refl, subst, flat_map, get_or, length, arith}
+use Rattle.std.proofs.Common.{◌<◌, List, [], ◌∙◌, ap, refl, subst, flat_map, length, arith}
 use Rattle.std.proofs.lemmas.List.{take_all}
 use Rattle.ck_model.specs.Slots.{Slot, taken_in}
 use Rattle.ck_model.specs.Contents.{row_at}
 use Rattle.ck_bucket.specs.Retaining.{AsksOfRow}
 use Rattle.ck_bucket.proofs.InTurn.{begins, begins_more, begins_all}
 use Rattle.ck_stripe.proofs.Pouring.{count_more}
-use Rattle.ck_stripe.proofs.stripe.retain_rows.Goals as goal
+use Rattle.ck_stripe.proofs.pairs.retain_rows.Goals as goal
 
 pub loop-row-init : goal.loop-row-init
 loop-row-init g c = record { asked = begins (AsksOfRow g.F.FnMut g.K.TableKey.name) c.args.f.now c.args.rows.now; counted = refl; few = omega arith; call = c.requires.call }

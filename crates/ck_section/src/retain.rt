@@ -1,0 +1,25 @@
+//! Of the pairs of all stripes of a table, held as one slice, those stay that a closure keeps.
+ghost use Rattle.std.specs.Prelude.{ℕ};
+ghost use Rattle.ck_model.specs.Contents.{layout};
+ghost use Rattle.ck_section.specs.Calls.{ChangesContents};
+ghost use Rattle.ck_section.specs.Whole.{IsTable, AreSettled};
+ghost use Rattle.ck_section.specs.Retaining.{RetainsBindings};
+
+use ck_key::TableKey;
+use ck_stripe::Stripe;
+
+/// Asks the closure of each pair once, and drops those for which it answers false.
+pub fn retain_all<K: TableKey + Drop, V: Drop, F: FnMut(&K, &V) -> bool>(
+    stripes: &mut [Stripe<K, V>],
+    mut f: F,
+)
+    requires settled { AreSettled stripes.old }
+    requires call { F.IsAlwaysCallable f }
+    ensures retained { (s max : ℕ) → IsTable s stripes.old
+        → RetainsBindings F.FnMut K.name f (layout K.hash s max) stripes.old stripes.new }
+    ensures changes { ChangesContents stripes.old stripes.new }
+{
+    for i in 0..stripes.len() {
+        stripes[i].retain(&mut f);
+    }
+}
