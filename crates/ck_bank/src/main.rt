@@ -1,8 +1,10 @@
-//! Four threads transfer money between the accounts of one bank, and none is lost.
+//! Four threads transfer money between the accounts of one bank, while an auditor locks the table
+//! again and again, and finds all of it each time.
 #![tactic(auto)]
 
-use anyhow::{Context, Result};
-use cuckoo_map::{Busy, Caller, NumKey, Settings, Table};
+use anyhow::{Context, Result, ensure};
+use cuckoo_map::{Busy, Caller, LockedTable, NumKey, Settings, Table};
+use std::alloc::Global;
 use std::thread::{self, Threads};
 
 /// The accounts are numbered from 0.
@@ -13,6 +15,9 @@ const FUND: u64 = 100;
 
 /// How many transfers a thread makes.
 const TRANSFERS: u64 = 1000;
+
+/// How often the auditor adds up.
+const AUDITS: u64 = 20;
 
 /// Who works on the accounts.
 type Teller<'t> = Caller<'t, NumKey, u64>;
@@ -38,45 +43,74 @@ fn transfer(teller: &mut Teller<'_>, from: u64, to: u64, amount: u64) -> Result<
     Ok(())
 }
 
-/// The sum of all accounts, which are looked up one after another: a transfer in between may change
-/// it.
-fn total(teller: &mut Teller<'_>) -> Result<u64, Busy> {
-    let mut sum = 0u64;
-    for account in 0..ACCOUNTS {
-        let balance = teller.find(&NumKey(account))?;
-        sum = sum.saturating_add(balance.unwrap_or(0));
-    }
-    Ok(sum)
-}
-
 /// Makes the transfers of a thread, each between other accounts than the one before.
-fn work(teller: &mut Teller<'_>) -> Result<(), Busy> {
+fn work(mut teller: Teller<'_>) -> Result<Teller<'_>> {
     for step in 0..TRANSFERS {
         let from = step % ACCOUNTS;
         let to = (step * step + 1) % ACCOUNTS;
-        transfer(teller, from, to, step % 7)?;
+        transfer(&mut teller, from, to, step % 7)?;
     }
-    Ok(())
+    Ok(teller)
 }
 
-/// Lets each teller work in a thread of its own.
-fn work_all(rt: &(impl Threads + Sync), tellers: Vec<Teller<'_>>) -> Result<()> {
-    for done in thread::map_vec(rt, tellers, &|mut teller| work(&mut teller))? {
-        done?;
+/// The sum of all accounts of the locked table.
+fn total(bank: &LockedTable<'_, NumKey, u64>) -> u64 {
+    let mut sum = 0u64;
+    for (_, balance) in bank.iter() {
+        sum = sum.saturating_add(*balance);
     }
-    Ok(())
+    sum
+}
+
+/// Locks the table and adds up, again and again.
+fn audit(mut auditor: Teller<'_>) -> Result<Teller<'_>> {
+    for _ in 0..AUDITS {
+        let bank = match auditor.lock() {
+            Ok(bank) => bank,
+            Err((_, busy)) => return Err(busy.into()),
+        };
+        let sum = total(&bank);
+        auditor = bank.unlock_caller();
+        ensure!(sum == ACCOUNTS * FUND, "{sum} is left");
+    }
+    Ok(auditor)
+}
+
+/// Lets the first of them audit and the others work, each in a thread of its own.
+fn work_all<'t>(
+    rt: &(impl Threads + Sync),
+    alloc: Global,
+    tellers: Vec<Teller<'t>>,
+) -> Result<Vec<Teller<'t>>> {
+    let jobs: Vec<(Teller<'t>, usize)> = tellers.into_iter().zip(0..5usize).collect(alloc)?;
+    let run = |(teller, number): (Teller<'t>, usize)| {
+        if number == 0 {
+            audit(teller)
+        } else {
+            work(teller)
+        }
+    };
+    let mut back = Vec::new(alloc);
+    for done in thread::map_vec(rt, jobs, &run)? {
+        back.push(done?)?;
+    }
+    Ok(back)
 }
 
 fn main(rt: HostRuntime) -> Result<()> {
-    // A caller for each thread, and one that opens the accounts and adds them up.
+    let alloc = rt.alloc();
     let settings = Settings::for_keys(ACCOUNTS, 5);
-    let (table, passes) = Table::<NumKey, u64>::open(rt.alloc(), settings)?;
-    let mut tellers = table.callers(rt.alloc(), passes)?;
-    let mut auditor = tellers.pop().context("no caller")?;
-    open(&mut auditor)?;
-    let before = total(&mut auditor)?;
-    work_all(&rt, tellers)?;
-    let after = total(&mut auditor)?;
-    println!(rt; "{before} before, {after} after")?;
+    let (table, passes) = Table::<NumKey, u64>::open(alloc, settings)?;
+    let mut tellers = table.callers(alloc, passes)?;
+    open(tellers.first_mut().context("no caller")?)?;
+    let mut tellers = work_all(&rt, alloc, tellers)?;
+    let auditor = tellers.pop().context("no caller")?;
+    let Ok(mut bank) = auditor.lock() else {
+        return Ok(());
+    };
+    let left = total(&bank);
+    let accounts = bank.drain(alloc);
+    bank.unlock();
+    println!(rt; "{left} on {} accounts", accounts?.len())?;
     Ok(())
 }

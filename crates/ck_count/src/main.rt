@@ -1,68 +1,78 @@
-//! Four threads count the words of a text in one table.
+//! Counts the words of a text file by four threads, and prints the ten most frequent.
 #![tactic(auto)]
 
 use anyhow::{Context, Result};
 use cuckoo_map::{Caller, Settings, Table, TextKey};
 use std::alloc::Global;
+use std::cmp::Reverse;
 use std::thread::{self, Threads};
+use std::{env, fs};
 
-/// The text, in a part for each thread.
-const PARTS: [&[&str]; 4] = [
-    &["the cat saw the dog", "the dog saw the cat"],
-    &["a bird saw the cat and the dog", "and the cat saw the bird"],
-    &["the cat and the dog saw a bird", "the bird sang"],
-    &["and the cat slept", "and the dog slept"],
-];
+const THREADS: u32 = 4;
 
-/// The words whose counts are asked for at the end.
-const WORDS: [&str; 6] = ["the", "cat", "dog", "bird", "sang", "mouse"];
+/// How many words are printed.
+const MOST: usize = 10;
 
 type Counter<'t> = Caller<'t, TextKey, u64>;
 
 /// Counts the words of the lines. A new word is bound to 1, and the count of another one goes up by
-/// 1.
+/// 1. A word of more than 64 bytes is left out.
 fn count(alloc: Global, counter: &mut Counter<'_>, lines: &[&str]) -> Result<()> {
     for line in lines {
         for word in line.split_ascii_whitespace() {
-            let key = TextKey::new(alloc, word.as_bytes())?;
-            counter.upsert(key, |count| count.saturating_add(1), 1)?;
+            if let Ok(key) = TextKey::new(alloc, word.as_bytes()) {
+                counter.upsert(key, |count| count.saturating_add(1), 1)?;
+            }
         }
     }
     Ok(())
 }
 
-/// How often the word was counted.
-fn count_of(alloc: Global, counter: &mut Counter<'_>, word: &str) -> Result<u64> {
-    let key = TextKey::new(alloc, word.as_bytes())?;
-    let count = counter.find(&key)?;
-    Ok(count.unwrap_or(0))
-}
-
 /// Counts each part of the text in a thread of its own.
-fn count_all(rt: &(impl Threads + Sync), alloc: Global, counters: Vec<Counter<'_>>) -> Result<()> {
-    let jobs: Vec<(Counter<'_>, &[&str])> = counters.into_iter().zip(PARTS).collect(alloc)?;
-    let work = |(mut counter, lines): (Counter<'_>, &[&str])| count(alloc, &mut counter, lines);
+fn count_all(
+    rt: &(impl Threads + Sync),
+    alloc: Global,
+    counters: Vec<Counter<'_>>,
+    lines: &[&str],
+) -> Result<()> {
+    let size = lines.len() / THREADS as usize + 1;
+    let jobs: Vec<(Counter<'_>, &[&str])> = counters
+        .into_iter()
+        .zip(lines.chunks(size))
+        .collect(alloc)?;
+    let work = |(mut counter, part): (Counter<'_>, &[&str])| count(alloc, &mut counter, part);
     for done in thread::map_vec(rt, jobs, &work)? {
         done?;
     }
     Ok(())
 }
 
-/// Prints how often each of the words was counted.
-fn print_counts(rt: &HostRuntime, asker: &mut Counter<'_>) -> Result<()> {
-    for word in WORDS {
-        let count = count_of(rt.alloc(), asker, word)?;
-        println!(rt; "{word} {count}")?;
-    }
-    Ok(())
+/// All words with their counts, the most frequent first.
+fn ranking(alloc: Global, counter: Counter<'_>) -> Result<Vec<(TextKey, u64)>> {
+    let mut locked = match counter.lock() {
+        Ok(locked) => locked,
+        Err((_, busy)) => return Err(busy.into()),
+    };
+    let words = locked.drain(alloc);
+    locked.unlock();
+    let mut words = words?;
+    words.sort_by_key(|word| Reverse(word.1))?;
+    Ok(words)
 }
 
 fn main(rt: HostRuntime) -> Result<()> {
+    let path = env::args(&rt)?.nth(1).context("usage: ck_count FILE")?;
+    let text = fs::read_to_string(&rt, path)?;
+    let lines: Vec<&str> = text.lines().collect(rt.alloc())?;
     // A caller for each thread, and one that asks for the counts.
-    let settings = Settings::for_keys(100, 5);
+    let settings = Settings::for_keys(10_000, THREADS + 1);
     let (table, passes) = Table::<TextKey, u64>::open(rt.alloc(), settings)?;
     let mut counters = table.callers(rt.alloc(), passes)?;
-    let mut asker = counters.pop().context("no caller")?;
-    count_all(&rt, rt.alloc(), counters)?;
-    print_counts(&rt, &mut asker)
+    let asker = counters.pop().context("no caller")?;
+    count_all(&rt, rt.alloc(), counters, &lines)?;
+    for (word, count) in ranking(rt.alloc(), asker)?.iter().take(MOST) {
+        let word = String::from_utf8_lossy(rt.alloc(), word.as_bytes())?;
+        println!(rt; "{count} {word}")?;
+    }
+    Ok(())
 }
