@@ -423,8 +423,8 @@ impl<'t, K: TableKey + Drop, V: Drop> Caller<'t, K, V> {
 
     /// Binds a bound key to the value that the closure gives back for its value, and gives the
     /// closure's error, if it fails; `None` where the key is unbound. It is for values that own
-    /// memory: a closure that fails by giving back the value that it got changes nothing. Refused as
-    /// busy, it changes nothing, and the closure is dropped. It is `Table::try_update`.
+    /// memory: a closure that fails by giving back the value that it got changes nothing. Refused
+    /// as busy, it changes nothing, and the closure is dropped. It is `Table::try_update`.
     ///
     /// ```
     /// // The values are of type `Vec<u64>`. Where there is no memory for one more number, the key
