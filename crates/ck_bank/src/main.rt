@@ -76,22 +76,24 @@ fn audit(mut auditor: Teller<'_>) -> Result<Teller<'_>> {
     Ok(auditor)
 }
 
-/// Lets the first of them audit and the others work, each in a thread of its own.
-fn work_all<'t>(
+/// What the caller of this number does: the first one audits, and the others work.
+fn run(teller: Teller<'_>, number: usize) -> Result<Teller<'_>> {
+    if number == 0 {
+        audit(teller)
+    } else {
+        work(teller)
+    }
+}
+
+/// Lets each of them run in a thread of its own.
+fn run_all<'t>(
     rt: &(impl Threads + Sync),
     alloc: Global,
     tellers: Vec<Teller<'t>>,
 ) -> Result<Vec<Teller<'t>>> {
     let jobs: Vec<(Teller<'t>, usize)> = tellers.into_iter().zip(0..5usize).collect(alloc)?;
-    let run = |(teller, number): (Teller<'t>, usize)| {
-        if number == 0 {
-            audit(teller)
-        } else {
-            work(teller)
-        }
-    };
     let mut back = Vec::new(alloc);
-    for done in thread::map_vec(rt, jobs, &run)? {
+    for done in thread::map_vec(rt, jobs, &|(teller, number)| run(teller, number))? {
         back.push(done?)?;
     }
     Ok(back)
@@ -103,10 +105,11 @@ fn main(rt: HostRuntime) -> Result<()> {
     let (table, passes) = Table::<NumKey, u64>::open(alloc, settings)?;
     let mut tellers = table.callers(alloc, passes)?;
     open(tellers.first_mut().context("no caller")?)?;
-    let mut tellers = work_all(&rt, alloc, tellers)?;
+    let mut tellers = run_all(&rt, alloc, tellers)?;
     let auditor = tellers.pop().context("no caller")?;
-    let Ok(mut bank) = auditor.lock() else {
-        return Ok(());
+    let mut bank = match auditor.lock() {
+        Ok(bank) => bank,
+        Err((_, busy)) => return Err(busy.into()),
     };
     let left = total(&bank);
     let accounts = bank.drain(alloc);

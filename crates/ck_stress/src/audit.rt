@@ -1,6 +1,6 @@
 //! Sessions that see one moment of the whole table.
 use crate::calls::Worker;
-use crate::model::{ACCOUNTS, COUNTERS, FUND, OWN, account, counter, own};
+use crate::model::{ACCOUNTS, COUNTERS, FUND, OWN, counter, is_own, own};
 use crate::notes::Notes;
 use ck_key::NumKey;
 
@@ -9,11 +9,27 @@ pub type Locked<'t> = cuckoo_map::LockedTable<'t, NumKey, u64>;
 /// What all accounts have.
 fn total(locked: &Locked<'_>) -> u64 {
     let mut sum = 0u64;
-    for i in 0..ACCOUNTS {
-        let value = locked.find(&NumKey(account(i))).copied();
-        sum = sum.saturating_add(value.unwrap_or(0));
+    for (key, value) in locked {
+        if key.0 < ACCOUNTS {
+            sum = sum.saturating_add(*value);
+        }
     }
     sum
+}
+
+/// Whether a value is one of those that a sweep takes away.
+fn is_swept(value: u64) -> bool {
+    value % 8 == 5
+}
+
+/// Takes some of the thread's keys away, by `retain`.
+fn sweep(notes: &mut Notes, locked: &mut Locked<'_>) {
+    let thread = notes.model.thread;
+    locked.retain(|key: &NumKey, value: &u64| !is_own(thread, key.0) || !is_swept(*value));
+    for i in 0..OWN {
+        let value = notes.model.get(i);
+        notes.model.set(i, value.filter(|value| !is_swept(*value)));
+    }
 }
 
 /// Whether all keys of the thread are as it knows them, and no money is lost.
@@ -37,7 +53,9 @@ pub fn audit<'t>(worker: Worker<'t>) -> Worker<'t> {
         mut notes,
     } = worker;
     match caller.lock() {
-        Ok(locked) => {
+        Ok(mut locked) => {
+            check_locked(&mut notes, &locked);
+            sweep(&mut notes, &mut locked);
             check_locked(&mut notes, &locked);
             let caller = locked.unlock_caller();
             Worker {

@@ -2,6 +2,7 @@
 use crate::model::{ACCOUNTS, OWN, account, counter, own};
 use crate::notes::Notes;
 use ck_key::NumKey;
+use cuckoo_map::Uprased;
 
 pub type Caller<'t> = cuckoo_map::Caller<'t, NumKey, u64>;
 
@@ -110,6 +111,61 @@ impl<'t> Worker<'t> {
         }
     }
 
+    // Halves an even value, and erases an odd one.
+    fn uprase(&mut self, i: u64, key: u64, value: u64, want: Option<u64>) {
+        let halved = |old: u64| if old % 2 == 0 { Some(old / 2) } else { None };
+        match self.caller.uprase(NumKey(key), halved, value) {
+            Ok(did) => {
+                let right = match want.map(halved) {
+                    None => Uprased::New,
+                    Some(Some(_)) => Uprased::Changed,
+                    Some(None) => Uprased::Erased,
+                };
+                self.notes.check_bool("uprase", key, did == right, true);
+                self.notes.model.set(i, want.map_or(Some(value), halved));
+            }
+            Err(refused) => self.notes.refused(refused, key, value),
+        }
+    }
+
+    // Halves an even value, and leaves an odd one.
+    fn replace_if(&mut self, i: u64, key: u64, want: Option<u64>) {
+        let halved = |old: &u64| if *old % 2 == 0 { Some(*old / 2) } else { None };
+        let right = want.map(|old| halved(&old).is_some());
+        match self.caller.replace_if(&NumKey(key), halved) {
+            Ok(did) => {
+                self.notes.check("replace_if", key, did.map(u64::from), right.map(u64::from));
+                if right == Some(true) {
+                    self.notes.model.set(i, want.map(|old| old / 2));
+                }
+            }
+            Err(_) => self.notes.busy(),
+        }
+    }
+
+    fn insert_with(&mut self, i: u64, key: u64, value: u64, want: Option<u64>) {
+        match self.caller.insert_with(NumKey(key), || value) {
+            Ok(fresh) => {
+                self.notes
+                    .check_bool("insert_with", key, fresh, want.is_none());
+                self.notes.model.set(i, want.or(Some(value)));
+            }
+            Err(refused) => self.notes.key_back(refused.key, refused.why, key),
+        }
+    }
+
+    fn get_or_insert_with(&mut self, i: u64, key: u64, value: u64, want: Option<u64>) {
+        match self.caller.get_or_insert_with(NumKey(key), || value) {
+            Ok(got) => {
+                let right = want.or(Some(value));
+                self.notes
+                    .check("get_or_insert_with", key, Some(got), right);
+                self.notes.model.set(i, right);
+            }
+            Err(refused) => self.notes.key_back(refused.key, refused.why, key),
+        }
+    }
+
     // A call on a key of the thread's own.
     fn call_own(&mut self, kind: u64) {
         let i = self.notes.model.below(OWN);
@@ -125,7 +181,11 @@ impl<'t> Worker<'t> {
             7 => self.update(i, key, value, want),
             8 => self.update_fn(i, key, want),
             9 => self.erase(i, key, want),
-            _ => self.erase_fn(i, key, want),
+            10 => self.erase_fn(i, key, want),
+            16 => self.uprase(i, key, value, want),
+            17 => self.replace_if(i, key, want),
+            18 => self.insert_with(i, key, value, want),
+            _ => self.get_or_insert_with(i, key, value, want),
         }
     }
 
@@ -190,7 +250,7 @@ impl<'t> Worker<'t> {
 
     /// Makes a call of any kind but a session.
     pub fn make_call(&mut self) {
-        let kind = self.notes.model.below(16);
+        let kind = self.notes.model.below(20);
         match kind {
             11 | 12 => self.transfer(),
             13 => self.raise(),

@@ -30,6 +30,11 @@ pub fn own(thread: u32, i: u64) -> u64 {
     number * 32 + 31
 }
 
+/// Whether it is a key of the thread.
+pub fn is_own(thread: u32, key: u64) -> bool {
+    key % 32 == 31 && key / 32 % 64 == u64::from(thread) % 64
+}
+
 /// The values of a thread's keys, and how often it raised each counter.
 #[derive(Drop)]
 pub struct Model {

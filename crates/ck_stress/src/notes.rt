@@ -66,15 +66,19 @@ impl Notes {
 
     /// Counts a refused insertion of this key and value. Both come back.
     pub fn refused(&mut self, refused: Refused<NumKey, u64>, key: u64, value: u64) {
-        let back = refused.key.0;
-        self.check("key that comes back", key, Some(back), Some(key));
         self.check(
             "value that comes back",
             key,
             Some(refused.value),
             Some(value),
         );
-        if let Why::Busy(_) = refused.why {
+        self.key_back(refused.key, refused.why, key);
+    }
+
+    /// Counts an insertion of this key that was refused for this reason. The key comes back.
+    pub fn key_back(&mut self, back: NumKey, why: Why, key: u64) {
+        self.check("key that comes back", key, Some(back.0), Some(key));
+        if let Why::Busy(_) = why {
             self.busy();
         } else {
             self.tally.without_room = self.tally.without_room.saturating_add(1);
