@@ -68,7 +68,7 @@ fn log_in(client: &mut Client<'_>, id: u64) -> Result<()> {
 fn serve(client: &mut Client<'_>, worker: u64) -> Result<()> {
     for now in 0..100u64 {
         for step in 0..8u64 {
-            let id = (now * 7 + step * 3) * 4 + worker;
+            let id = (now * 7 + step * 3) * 4 + worker % 4;
             touch(client, id, now)?;
             if step == 0 {
                 log_in(client, id)?;
