@@ -400,7 +400,7 @@ impl<K: TableKey + Drop, V: Drop> Rows<K, V> {
         if f(key, value) {
             return 1;
         }
-        let _pair = self.take(row, slot);
+        let _dropped = self.take(row, slot);
         0
     }
 }

@@ -13,5 +13,5 @@ returns-then-f-clause-asked g c =
 pub returns-clause-asked : goal.returns-clause-asked
 returns-clause-asked g c =
     let rows = c.args.self.now in
-    asks_once g.F.FnMut g.K.TableKey.name c.args.f.now c.f.new.self _ _ c.f.result false (slot_at (row_at rows c.args.row) c.args.slot) (slot_at (row_at c.take-pair.new.self c.args.row) c.args.slot)
-    c.f.ensures c.if-f.false c.in-Some.ensures.value (slot-written rows c.take-pair.new.self c.args.row c.args.slot None c.requires.row c.get.ensures.four c.requires.below c.take-pair.ensures.rest)
+    asks_once g.F.FnMut g.K.TableKey.name c.args.f.now c.f.new.self _ _ c.f.result false (slot_at (row_at rows c.args.row) c.args.slot) (slot_at (row_at c.take-dropped.new.self c.args.row) c.args.slot)
+    c.f.ensures c.if-f.false c.in-Some.ensures.value (slot-written rows c.take-dropped.new.self c.args.row c.args.slot None c.requires.row c.get.ensures.four c.requires.below c.take-dropped.ensures.rest)
