@@ -1,4 +1,4 @@
--- What becomes of slots where a closure is asked which of their pairs stay.
+-- What becomes of slots where a closure is asked about each of their pairs whether it stays.
 use Rattle.std.specs.Prelude.{◌≡◌, Bool, if◌then◌else◌, List, [], ◌∷◌, Some, None}
 use Rattle.std.specs.Borrow.{Bor}
 use Rattle.std.specs.Fn.{Called, Mut}
@@ -22,15 +22,15 @@ module _ {F K V : Type 0} (g : Mut F (Bor K × (Bor V × Unit {0})) Bool) where
     pub stays : w ≡ v
 
   module _ (name : K → Name) where
-    -- f was asked of the pair in the slot, if there is one, which stays where the answer is true
-    abbrev pub AsksOfSlot : F → Slot V → Slot V → F → Type 0
-    AsksOfSlot f None after f' = (after ≡ None) × (f' ≡ f)
-    AsksOfSlot f (Some e) after f' = (k : K) × (b : Bool) × (name k ≡ e.0) × CalledAtPair f k e.1 b e.1 f' × (after ≡ (if b then Some e else None))
+    -- f was asked about the pair in the slot, if there is one, which stays where the answer is true
+    abbrev pub AsksAboutSlot : F → Slot V → Slot V → F → Type 0
+    AsksAboutSlot f None after f' = (after ≡ None) × (f' ≡ f)
+    AsksAboutSlot f (Some e) after f' = (k : K) × (b : Bool) × (name k ≡ e.0) × CalledAtPair f k e.1 b e.1 f' × (after ≡ (if b then Some e else None))
 
     -- and so slot by slot
-    abbrev pub AsksOfRow : F → List (Slot V) → List (Slot V) → F → Type 0
-    AsksOfRow = EachInTurn AsksOfSlot
+    abbrev pub AsksAboutRow : F → List (Slot V) → List (Slot V) → F → Type 0
+    AsksAboutRow = EachInTurn AsksAboutSlot
 
     -- and row by row
-    abbrev pub AsksOfRows : F → List (List (Slot V)) → List (List (Slot V)) → F → Type 0
-    AsksOfRows = EachInTurn AsksOfRow
+    abbrev pub AsksAboutRows : F → List (List (Slot V)) → List (List (Slot V)) → F → Type 0
+    AsksAboutRows = EachInTurn AsksAboutRow

@@ -9,7 +9,7 @@ ghost use Rattle.ck_model.specs.Paths.{partial_in};
 ghost use Rattle.ck_room.specs.Room.{items_of, block_of, AllNone};
 ghost use Rattle.ck_bucket.specs.Bucket.{HasName, LacksName, ReplacesValue, ChangesValue, ClonesAreEqual, staying, rising, low_row, high_row};
 ghost use Rattle.ck_bucket.specs.Rows.{no_entry, with_slot_in};
-ghost use Rattle.ck_bucket.specs.Retaining.{AsksOfSlot, AsksOfRow};
+ghost use Rattle.ck_bucket.specs.Retaining.{AsksAboutSlot, AsksAboutRow};
 
 use crate::head::Head;
 use ck_key::TableKey;
@@ -361,12 +361,12 @@ impl<K: TableKey + Drop, V: Drop> Rows<K, V> {
         }
     }
 
-    /// Asks the closure of each of the row's pairs, in the order of their slots, and drops those
+    /// Asks the closure about each of the row's pairs, in the order of their slots, and drops those
     /// for which it answers false. Gives how many stay.
     pub fn retain_row<F: FnMut(&K, &V) -> bool>(&mut self, row: usize, f: &mut F) -> u32
         requires row { row < length self.old }
         requires call { F.IsAlwaysCallable f.old }
-        ensures asked { AsksOfRow F.FnMut K.name f.old (row_at self.old row) (row_at self.new row)
+        ensures asked { AsksAboutRow F.FnMut K.name f.old (row_at self.old row) (row_at self.new row)
             f.new }
         ensures rest { self.new ≡ slice_set self.old row (row_at self.new row) }
         ensures len { result ≡ length (taken_in (row_at self.new row)) }
@@ -379,13 +379,13 @@ impl<K: TableKey + Drop, V: Drop> Rows<K, V> {
             + self.retain_slot(row, 3, f)
     }
 
-    // Asks the closure of the pair in the slot, and drops it where the answer is false. Gives how
-    // many pairs stay there.
+    // Asks the closure about the pair in the slot, and drops it where the answer is false. Gives
+    // how many pairs stay there.
     fn retain_slot<F: FnMut(&K, &V) -> bool>(&mut self, row: usize, slot: usize, f: &mut F) -> u32
         requires row { row < length self.old }
         requires below { slot < 4 }
         requires call { F.IsAlwaysCallable f.old }
-        ensures asked { AsksOfSlot F.FnMut K.name f.old (slot_at (row_at self.old row) slot)
+        ensures asked { AsksAboutSlot F.FnMut K.name f.old (slot_at (row_at self.old row) slot)
             (slot_at (row_at self.new row) slot) f.new }
         ensures rest { self.new
             ≡ with_slot_in self.old row slot (slot_at (row_at self.new row) slot) }

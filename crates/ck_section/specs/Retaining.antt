@@ -1,4 +1,4 @@
--- Which pairs stay where a closure is asked of each.
+-- Which pairs stay where a closure is asked about each.
 use Rattle.std.specs.Prelude.{◌≡◌, Bool, List, map}
 use Rattle.std.specs.Borrow.{Bor}
 use Rattle.std.specs.Fn.{Mut}
@@ -12,7 +12,7 @@ use Rattle.ck_stripe.specs.Stripe.{StripeState}
 use Rattle.ck_section.specs.Stripes.{contents_of}
 
 module _ {F K V : Type 0} (g : Mut F (Bor K × (Bor V × Unit {0})) Bool) (name : K → Name) (f : F) where
-  -- The closure f was asked of each pair of old once, one after the other, and new has those for which it answered true.
+  -- The closure f was asked about each pair of old once, one after the other, and new has those for which it answered true.
   pub record RetainsMap (old new : Map V) : Type 0 where
     pub all : List (K × V)
     pub lists : from_entries (map (named name) all) ≡ old
@@ -21,7 +21,7 @@ module _ {F K V : Type 0} (g : Mut F (Bor K × (Bor V × Unit {0})) Bool) (name 
     pub asked : RetainsPairs (CalledAtPair g) f all kept
     pub left : from_entries (map (named name) kept) ≡ new
 
-  -- Lawful stripes go from old to new, and the closure was asked so of the pairs that they bind.
+  -- Lawful stripes go from old to new, and the closure was asked so about the pairs that they bind.
   abbrev pub RetainsBindings : Layout → List (StripeState V) → List (StripeState V) → Type 0
   RetainsBindings k old new =
       Lawful k (contents_of old) → Renewed k (contents_of old) (contents_of new) × RetainsMap (bindings (contents_of old)) (bindings (contents_of new))

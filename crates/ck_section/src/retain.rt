@@ -8,7 +8,7 @@ ghost use Rattle.ck_section.specs.Retaining.{RetainsBindings};
 use ck_key::TableKey;
 use ck_stripe::Stripe;
 
-/// Asks the closure of each pair once, and drops those for which it answers false.
+/// Asks the closure about each pair once, and drops those for which it answers false.
 pub fn retain_all<K: TableKey + Drop, V: Drop, F: FnMut(&K, &V) -> bool>(
     stripes: &mut [Stripe<K, V>],
     mut f: F,

@@ -9,7 +9,7 @@ use Rattle.std.proofs.lemmas.Option.{none-some, same_Some}
 use Rattle.std.proofs.lemmas.List.{length-replicate}
 use Rattle.ck_model.specs.Map.{Name}
 use Rattle.ck_model.specs.Slots.{Slot, taken_in}
-use Rattle.ck_bucket.specs.Retaining.{AsksOfRow, AsksOfRows}
+use Rattle.ck_bucket.specs.Retaining.{AsksAboutRow, AsksAboutRows}
 use Rattle.ck_bucket.proofs.InTurn.{length-each}
 use Rattle.ck_bucket.proofs.Asked.{four_after}
 use Rattle.ck_stripe.specs.declared.next.Next.{Next}
@@ -51,15 +51,15 @@ module _ {K V : Type 0} where
         free_kept next (length rows) (length new) (ap length all ∙ length-replicate (length rows) (replicate 4 None)) free,
       )
 
-  -- So are other rows, of whose slots a closure was asked, and the number of their entries.
+  -- So are the rows that are left where a closure was asked about their pairs, and the number of their entries.
   pub retained_stored : {F : Type 0} (g : Mut F (Bor K × (Bor V × Unit {0})) Bool) (name : K → Name) (hash : Name → ℕ) (number s power : ℕ) (rows : List (List (Slot V))) (ledger : ℕ) (next : Next K V) (now : StripeState V)
       → IsConsistent hash (stored_from number s power rows ledger next) → shown hash (stored_from number s power rows ledger next) ≡ now → now.settled ≡ true → IsFree (length rows) next
-      → (f f' : F) (new : List (List (Slot V))) → AsksOfRows g name f rows new f' → (len : ℕ) → len ≡ length (flat_map taken_in new)
+      → (f f' : F) (new : List (List (Slot V))) → AsksAboutRows g name f rows new f' → (len : ℕ) → len ≡ length (flat_map taken_in new)
       → IsConsistent hash (stored_from number s power new len next) × IsFree (length new) next
   retained_stored g name hash number s power rows ledger next now kept is settled free f f' new asked len counted =
       let stored : StripeState V = stored_from number s power rows ledger next in
       let formed : IsWellFormed stored = subst IsWellFormed (now_stored hash stored now kept is settled) (formed_now hash stored now kept is) in
-      let long = length-each (AsksOfRow g name) f rows new f' asked in (
+      let long = length-each (AsksAboutRow g name) f rows new f' asked in (
         consistent_rows hash stored formed (stored_settled hash stored now kept is settled) new len long (four_after g name f rows new f' asked formed.shaped.four) counted,
         free_kept next (length rows) (length new) long free,
       )

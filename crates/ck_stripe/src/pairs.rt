@@ -3,7 +3,7 @@ ghost use Rattle.std.specs.Prelude.{◌≡◌, ◌≤◌, ◌+◌, ◌^◌, true
 ghost use Rattle.ck_model.specs.Map.{named};
 ghost use Rattle.ck_model.specs.Slots.{taken_in};
 ghost use Rattle.ck_model.specs.Contents.{pairs_in};
-ghost use Rattle.ck_bucket.specs.Retaining.{AsksOfRows};
+ghost use Rattle.ck_bucket.specs.Retaining.{AsksAboutRows};
 ghost use Rattle.ck_stripe.specs.Stripe.{empty_content, IsWellFormed};
 
 use crate::stripe::{Stripe, pour_all};
@@ -28,12 +28,12 @@ impl<K: TableKey + Drop, V: Drop> Stripe<K, V> {
         self.ledger = 0;
     }
 
-    /// Asks the closure of each of its pairs once, in the order of rows and slots, and drops those
-    /// for which it answers false. It keeps its buckets and their memory.
+    /// Asks the closure about each of its pairs once, in the order of rows and slots, and drops
+    /// those for which it answers false. It keeps its buckets and their memory.
     pub fn retain<F: FnMut(&K, &V) -> bool>(&mut self, f: &mut F)
         requires settled { self.old.settled ≡ true }
         requires call { F.IsAlwaysCallable f.old }
-        ensures asked { AsksOfRows F.FnMut K.name f.old self.old.content.rows
+        ensures asked { AsksAboutRows F.FnMut K.name f.old self.old.content.rows
             self.new.content.rows f.new }
         ensures power { self.new.content.power ≡ self.old.content.power }
         ensures rest { self.new ≡ record self.old { content = self.new.content } }
@@ -46,8 +46,8 @@ impl<K: TableKey + Drop, V: Drop> Stripe<K, V> {
     }
 }
 
-// Asks the closure of the pairs of so many rows, row by row, and drops those for which it answers
-// false. Gives how many stay.
+// Asks the closure about the pairs of so many rows, row by row, and drops those for which it
+// answers false. Gives how many stay.
 fn retain_rows<K: TableKey + Drop, V: Drop, F: FnMut(&K, &V) -> bool>(
     rows: &mut Rows<K, V>,
     count: usize,
@@ -56,7 +56,7 @@ fn retain_rows<K: TableKey + Drop, V: Drop, F: FnMut(&K, &V) -> bool>(
     requires count { count ≡ length rows.old }
     requires few { count ≤ 2 ^ 26 }
     requires call { F.IsAlwaysCallable f.old }
-    ensures asked { AsksOfRows F.FnMut K.name f.old rows.old rows.new f.new }
+    ensures asked { AsksAboutRows F.FnMut K.name f.old rows.old rows.new f.new }
     ensures len { result ≡ length (flat_map taken_in rows.new) }
     ensures call { F.IsAlwaysCallable f.new }
 {

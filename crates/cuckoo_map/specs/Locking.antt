@@ -94,7 +94,7 @@ module _ {V : Type 0} where
     pub room : OnOk found (MakesRoom (layout_of hash set) old new q)
     pub refused : IfErr found (GivesReason (layout_of hash set) set.min_load old new q)
 
--- From l to m the closure f was asked of each pair once, and those were unbound for which it answered false. The number of buckets and what the pass knows stayed.
+-- From l to m the closure f was asked about each pair once, and those were unbound for which it answered false. The number of buckets and what the pass knows stayed.
 pub record Retains {F K V : Type 0} (g : Mut F (Bor K × (Bor V × Unit {0})) Bool) (name : K → Name) (f : F) (l m : LockedState V) : Type 0 where
   pub table : m.table ≡ l.table
   pub view : m.pass.view ≡ l.pass.view

@@ -29,9 +29,9 @@ impl<'t, K: TableKey + Drop, V: Drop> LockedTable<'t, K, V> {
         drain_in(alloc, &mut self.whole)
     }
 
-    /// Asks the closure of each key with its value, once and in no order that is told, and unbinds
-    /// the keys for which it answers false. These are dropped with their values, and the number of
-    /// buckets stays.
+    /// Asks the closure about each key and its value once, in no order that is told, and unbinds the
+    /// keys for which it answers false. These are dropped with their values. The number of buckets
+    /// stays.
     ///
     /// ```
     /// locked.retain(|_key, count| *count > 1);
@@ -63,7 +63,7 @@ fn drain_in<K: TableKey + Drop, V: Drop>(
     drain_all(alloc, &mut whole.stripes)
 }
 
-// Asks the closure of each pair of all stripes, and drops those for which it answers false.
+// Asks the closure about each pair of all stripes, and drops those for which it answers false.
 fn retain_in<K: TableKey + Drop, V: Drop, F: FnMut(&K, &V) -> bool>(whole: &mut Whole<K, V>, f: F)
     requires settled { AreSettled whole.old.stripes }
     requires call { F.IsAlwaysCallable f }

@@ -2,24 +2,24 @@ use Rattle.std.proofs.Common.{◌<◌, ◌∙◌, List, refl, ap, length, subst,
 use Rattle.ck_stripe.specs.Stripe.{StripeState}
 use Rattle.ck_bucket.proofs.InTurn.{begins, begins_read, begins_more, begins_all}
 use Rattle.ck_section.specs.Stripes.{no_stripe}
-use Rattle.ck_section.proofs.Retained.{AsksOfStripe, AsksOfStripes, changes_retained, retains}
+use Rattle.ck_section.proofs.Retained.{AsksAboutStripe, AsksAboutStripes, changes_retained, retains}
 use Rattle.ck_section.proofs.retain.retain_all.Given.{Over}
 use Rattle.ck_section.proofs.retain.retain_all.Goals as goal
 
 pub loop-i-init : goal.loop-i-init
-loop-i-init g c = record { asked = begins (AsksOfStripe g.F.FnMut g.K.TableKey.name) c.args.f c.args.stripes.now; call = c.requires.call }
+loop-i-init g c = record { asked = begins (AsksAboutStripe g.F.FnMut g.K.TableKey.name) c.args.f c.args.stripes.now; call = c.requires.call }
 
 pub retain-requires-clause-settled : goal.retain-requires-clause-settled
 retain-requires-clause-settled g c =
     let old : List (StripeState g.row.V.Denot) = c.args.stripes.now in
     let i = c.loop-i.i in
     let within : i < length old = omega arith in
-    let read = begins_read (AsksOfStripe g.F.FnMut g.K.TableKey.name) c.args.f old c.loop-i.stripes i c.loop-i.f c.loop-i.invariant.asked c.index-stripes-i.result no_stripe within in
+    let read = begins_read (AsksAboutStripe g.F.FnMut g.K.TableKey.name) c.args.f old c.loop-i.stripes i c.loop-i.f c.loop-i.invariant.asked c.index-stripes-i.result no_stripe within in
     ap (λ (t : StripeState g.row.V.Denot). t.settled) read ∙ c.requires.settled i within
 
 pub loop-i-preserved : goal.loop-i-preserved
 loop-i-preserved g c =
-    let R = AsksOfStripe g.F.FnMut g.K.TableKey.name in
+    let R = AsksAboutStripe g.F.FnMut g.K.TableKey.name in
     let old : List (StripeState g.row.V.Denot) = c.args.stripes.now in
     let now : List (StripeState g.row.V.Denot) = c.loop-i.stripes in
     let i = c.loop-i.i in
@@ -33,8 +33,8 @@ loop-i-preserved g c =
       call = asks.call;
     }
 
-all_asked : (g : Over) (c : goal.After-drop-f g) → AsksOfStripes g.F.FnMut g.K.TableKey.name c.args.f c.args.stripes.now c.loop-i.stripes c.loop-i.f
-all_asked g c = begins_all (AsksOfStripe g.F.FnMut g.K.TableKey.name) c.args.f c.args.stripes.now c.loop-i.stripes c.loop-i.i c.loop-i.f c.loop-i.invariant.asked (omega arith)
+all_asked : (g : Over) (c : goal.After-drop-f g) → AsksAboutStripes g.F.FnMut g.K.TableKey.name c.args.f c.args.stripes.now c.loop-i.stripes c.loop-i.f
+all_asked g c = begins_all (AsksAboutStripe g.F.FnMut g.K.TableKey.name) c.args.f c.args.stripes.now c.loop-i.stripes c.loop-i.i c.loop-i.f c.loop-i.invariant.asked (omega arith)
 
 pub returns-clause-retained : goal.returns-clause-retained
 returns-clause-retained g c = λ s max table. retains g.F.FnMut g.K.TableKey.name c.args.f c.args.stripes.now c.loop-i.stripes c.loop-i.f (all_asked g c) s table g.K.TableKey.hash max

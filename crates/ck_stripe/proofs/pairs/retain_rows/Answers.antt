@@ -2,20 +2,20 @@ use Rattle.std.proofs.Common.{◌<◌, List, [], ◌∙◌, ap, refl, subst, fla
 use Rattle.std.proofs.lemmas.List.{take_all}
 use Rattle.ck_model.specs.Slots.{Slot, taken_in}
 use Rattle.ck_model.specs.Contents.{row_at}
-use Rattle.ck_bucket.specs.Retaining.{AsksOfRow}
+use Rattle.ck_bucket.specs.Retaining.{AsksAboutRow}
 use Rattle.ck_bucket.proofs.InTurn.{begins, begins_more, begins_all}
 use Rattle.ck_stripe.proofs.Pouring.{count_more}
 use Rattle.ck_stripe.proofs.pairs.retain_rows.Goals as goal
 
 pub loop-row-init : goal.loop-row-init
-loop-row-init g c = record { asked = begins (AsksOfRow g.F.FnMut g.K.TableKey.name) c.args.f.now c.args.rows.now; counted = refl; few = omega arith; call = c.requires.call }
+loop-row-init g c = record { asked = begins (AsksAboutRow g.F.FnMut g.K.TableKey.name) c.args.f.now c.args.rows.now; counted = refl; few = omega arith; call = c.requires.call }
 
 pub retain_row-len-requires-clause-row : goal.retain_row-len-requires-clause-row
 retain_row-len-requires-clause-row g c = omega (arith, c.loop-row.invariant.asked.long)
 
 pub loop-row-preserved : goal.loop-row-preserved
 loop-row-preserved g c =
-    let R = AsksOfRow g.F.FnMut g.K.TableKey.name in
+    let R = AsksAboutRow g.F.FnMut g.K.TableKey.name in
     let now = c.loop-row.rows in
     let row = c.loop-row.row in
     let so_far = c.loop-row.invariant.asked in
@@ -30,7 +30,7 @@ loop-row-preserved g c =
     }
 
 pub returns-clause-asked : goal.returns-clause-asked
-returns-clause-asked g c = begins_all (AsksOfRow g.F.FnMut g.K.TableKey.name) c.args.f.now c.args.rows.now c.loop-row.rows c.loop-row.row c.loop-row.f c.loop-row.invariant.asked (omega arith)
+returns-clause-asked g c = begins_all (AsksAboutRow g.F.FnMut g.K.TableKey.name) c.args.f.now c.args.rows.now c.loop-row.rows c.loop-row.row c.loop-row.f c.loop-row.invariant.asked (omega arith)
 
 pub returns-clause-len : goal.returns-clause-len
 returns-clause-len g c =
