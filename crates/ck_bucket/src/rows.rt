@@ -366,8 +366,8 @@ impl<K: TableKey + Drop, V: Drop> Rows<K, V> {
     pub fn retain_row<F: FnMut(&K, &V) -> bool>(&mut self, row: usize, f: &mut F) -> u32
         requires row { row < length self.old }
         requires call { F.IsAlwaysCallable f.old }
-        ensures asked { AsksAboutRow F.FnMut K.name f.old (row_at self.old row) (row_at self.new row)
-            f.new }
+        ensures asked { AsksAboutRow F.FnMut K.name f.old (row_at self.old row)
+            (row_at self.new row) f.new }
         ensures rest { self.new ≡ slice_set self.old row (row_at self.new row) }
         ensures len { result ≡ length (taken_in (row_at self.new row)) }
         ensures few { result ≤ 4 }

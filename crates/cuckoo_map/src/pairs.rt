@@ -29,9 +29,9 @@ impl<'t, K: TableKey + Drop, V: Drop> LockedTable<'t, K, V> {
         drain_in(alloc, &mut self.whole)
     }
 
-    /// Asks the closure about each key and its value once, in no order that is told, and unbinds the
-    /// keys for which it answers false. These are dropped with their values. The number of buckets
-    /// stays.
+    /// Asks the closure about each key and its value once, in no order that is told, and unbinds
+    /// the keys for which it answers false. These are dropped with their values. The number of
+    /// buckets stays.
     ///
     /// ```
     /// locked.retain(|_key, count| *count > 1);
