@@ -12,5 +12,5 @@ cell_names a b c d = grind (arith, common_steps)
 pub cell_hash_below : (name : Name) → cell_hash name < 2 ^ 64
 cell_hash_below [] = omega arith
 cell_hash_below (x ∷ []) = omega arith
-cell_hash_below (x ∷ y ∷ []) = mixed_hash_below (x * 2 ^ 32 + y ∷ [])
+cell_hash_below (x ∷ y ∷ []) = mixed_hash_below ((x * 2 ^ 32 + y) ∷ [])
 cell_hash_below (x ∷ y ∷ z ∷ name) = omega arith
