@@ -24,7 +24,6 @@ enum Role {
 #[derive(Clone, Copy, Debug)]
 struct Session {
     role: Role,
-    opened: u64,
     seen: u64,
     hits: u32,
 }
@@ -37,7 +36,6 @@ type Store<'t> = LockedTable<'t, NumKey, Session>;
 fn touch(client: &mut Client<'_>, id: u64, now: u64) -> Result<()> {
     let fresh = Session {
         role: Role::Guest,
-        opened: now,
         seen: now,
         hits: 1,
     };
