@@ -1,5 +1,5 @@
 //! What a table is opened with.
-ghost use Rattle.std.specs.Prelude.{◌≡◌, ◌↔◌, ◌⊎◌, ◌≤◌, ◌<◌, ◌-◌, ◌*◌, ◌^◌, IfSome, IfNone, min};
+ghost use Rattle.std.specs.Prelude.{IsTrue, ◌≡◌, ◌↔◌, ◌⊎◌, ◌≤◌, ◌<◌, ◌-◌, ◌*◌, ◌^◌, IfSome, IfNone, min};
 
 use thiserror::Error;
 
@@ -107,6 +107,13 @@ impl Settings {
         } else {
             None
         }
+    }
+
+    /// Whether each setting is in its range.
+    pub fn are_in_range(&self) -> bool
+        ensures { IsTrue result ↔ AreInRange self.now }
+    {
+        self.out_of_range().is_none()
     }
 }
 
