@@ -12,7 +12,7 @@ ghost use Rattle.ck_bucket.specs.Rows.{no_entry, with_slot_in};
 ghost use Rattle.ck_bucket.specs.Retaining.{AsksAboutSlot, AsksAboutRow};
 
 use crate::head::Head;
-use ck_key::TableKey;
+use ck_key::{Query, TableKey};
 use ck_room::{LeaseOfTwo, Places};
 use core::mem::replace_with;
 use std::alloc::{AllocError, Global};
@@ -79,12 +79,12 @@ impl<K: TableKey, V> Rows<K, V> {
     /// The slot of the row with this key, whose partial the caller has at hand; `None` where no
     /// slot has the key.
     #[inline(always)]
-    pub fn look(&self, row: usize, key: &K, partial: u8) -> Option<usize>
+    pub fn look<Q: Query<K>>(&self, row: usize, key: Q, partial: u8) -> Option<usize>
         requires row { row < length self.now }
-        requires partial { partial ≡ partial_of (K.hash (K.name key.now)) }
+        requires partial { partial ≡ partial_of (K.hash (Q.name key)) }
         ensures below { IfSome result (λ i. i < 4) }
-        ensures found { IfSome result (HasName (row_at self.now row) (K.name key.now)) }
-        ensures absent { IfNone result (LacksName (row_at self.now row) (K.name key.now)) }
+        ensures found { IfSome result (HasName (row_at self.now row) (Q.name key)) }
+        ensures absent { IfNone result (LacksName (row_at self.now row) (Q.name key)) }
         ensures four { length (row_at self.now row) ≡ 4 }
     {
         let head = self.heads.get(row);
@@ -92,7 +92,7 @@ impl<K: TableKey, V> Rows<K, V> {
             // Most slots without the key have another partial, and then no pair is read.
             if head.partials[i] == partial && head.taken[i] {
                 let (other, _) = self.pairs.get(row * 4 + i);
-                if other == key {
+                if key.is_name_of(other) {
                     return Some(i);
                 }
             }

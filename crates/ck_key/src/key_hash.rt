@@ -7,6 +7,7 @@ ghost use Rattle.ck_key.specs.Hashes.{IsHashOf};
 
 use crate::arithmetic::{alternate, index, partial};
 use crate::key::TableKey;
+use crate::query::Query;
 
 /// The hash of a key, and its partial. A call makes them once, and hands them to each step.
 #[derive(Clone, Copy, Debug, PartialEq, Eq)]
@@ -18,8 +19,8 @@ pub struct KeyHash {
 impl KeyHash {
     /// The hash of the key's name, and its partial.
     #[inline(always)]
-    pub fn of<K: TableKey>(key: &K) -> KeyHash
-        ensures { IsHashOf K.hash (K.name key.now) result }
+    pub fn of<K: TableKey, Q: Query<K>>(key: Q) -> KeyHash
+        ensures { IsHashOf K.hash (Q.name key) result }
     {
         let hash = key.hash64();
         KeyHash {

@@ -126,16 +126,23 @@ impl TableKey for TextKey {
 
     ghost hash = { text_hash };
 
-    /// The 64-bit FNV-1a of the bytes (Fowler, Noll, Vo 1991): for each byte an exclusive or, and
-    /// then the product.
     fn hash64(&self) -> u64 {
-        self.bytes.iter().fold(
-            FNV_BASIS,
-            |hash, byte| (hash ^ *byte as u64).wrapping_mul(FNV_PRIME),
-        )
+        fnv_of(self.as_bytes())
     }
 
     ghost equal_names = { text_names };
 
     ghost hash_below = { text_hash_below };
+}
+
+/// The 64-bit FNV-1a of the bytes (Fowler, Noll, Vo 1991): for each byte an exclusive or, and then
+/// the product.
+#[inline(always)]
+pub(crate) fn fnv_of(bytes: &[u8]) -> u64
+    ensures { result ≡ text_hash bytes.now }
+{
+    bytes.iter().fold(
+        FNV_BASIS,
+        |hash, byte| (hash ^ *byte as u64).wrapping_mul(FNV_PRIME),
+    )
 }

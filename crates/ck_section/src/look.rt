@@ -9,22 +9,22 @@ ghost use Rattle.ck_section.specs.Entries.{IsOccupied};
 use crate::held::Held;
 use crate::one_stripe;
 use crate::place::{HeldBucket, HeldSlot, KeyPlace};
-use ck_key::{KeyHash, TableKey};
+use ck_key::{KeyHash, Query, TableKey};
 use ck_stripe::Stripe;
 
 /// Where a key, whose hash the caller has at hand, may be among the held stripes of a table of 2^s.
 #[inline(always)]
 #[tactic(auto, unfolding(ck_model::specs::Arithmetic::second_of))]
-pub fn key_place<K: TableKey + Drop, V: Drop, H: Held<Stripe<K, V>>>(
+pub fn key_place<K: TableKey + Drop, V: Drop, Q: Query<K>, H: Held<Stripe<K, V>>>(
     held: &mut H,
     s: u32,
-    _key: &K,
+    _key: Q,
     hash: KeyHash,
 ) -> KeyPlace
     requires held { AreHeld s (H.stripes held.old) }
-    requires hash { IsHashOf K.hash (K.name _key.now) hash }
-    requires owned { HasBoth K.hash s (H.stripes held.old) (K.name _key.now) }
-    ensures place { IsPlaceOf K.hash (H.stripes held.old) (K.name _key.now) result }
+    requires hash { IsHashOf K.hash (Q.name _key) hash }
+    requires owned { HasBoth K.hash s (H.stripes held.old) (Q.name _key) }
+    ensures place { IsPlaceOf K.hash (H.stripes held.old) (Q.name _key) result }
     ensures s { result.s ≡ s }
     ensures same { H.stripes held.new ≡ H.stripes held.old }
     ensures stays { H.stays held.old held.new }
@@ -83,14 +83,14 @@ pub(crate) fn bucket_index<K: TableKey + Drop, V: Drop, H: Held<Stripe<K, V>>>(
 
 /// The slot of the key.
 #[inline(always)]
-pub(crate) fn find_slot<K: TableKey + Drop, V: Drop, H: Held<Stripe<K, V>>>(
+pub(crate) fn find_slot<K: TableKey + Drop, V: Drop, Q: Query<K>, H: Held<Stripe<K, V>>>(
     held: &mut H,
     place: KeyPlace,
-    key: &K,
+    key: Q,
 ) -> Option<HeldSlot>
-    requires { IsPlaceOf K.hash (H.stripes held.old) (K.name key.now) place }
-    ensures occupied { IfSome result (IsOccupied K.hash (H.stripes held.old) (K.name key.now)) }
-    ensures nowhere { IfNone result (IsNowhere (H.stripes held.old) (K.name key.now) place) }
+    requires { IsPlaceOf K.hash (H.stripes held.old) (Q.name key) place }
+    ensures occupied { IfSome result (IsOccupied K.hash (H.stripes held.old) (Q.name key)) }
+    ensures nowhere { IfNone result (IsNowhere (H.stripes held.old) (Q.name key) place) }
     ensures same { H.stripes held.new ≡ H.stripes held.old }
     ensures stays { H.stays held.old held.new }
 {

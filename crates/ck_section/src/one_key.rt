@@ -18,26 +18,26 @@ use crate::held::Held;
 use crate::look::find_slot;
 use crate::one_stripe;
 use crate::place::{HeldSlot, KeyPlace};
-use ck_key::TableKey;
+use ck_key::{Query, TableKey};
 use ck_stripe::Stripe;
 
 /// What the closure answers for the value of the key; `None` where the key is unbound, and then the
 /// closure is not called.
-pub fn find<K: TableKey + Drop, V: Drop, H: Held<Stripe<K, V>>, R, F: FnOnce(&V) -> R>(
+pub fn find<K: TableKey + Drop, V: Drop, Q: Query<K>, H: Held<Stripe<K, V>>, R, F: FnOnce(&V) -> R>(
     held: &mut H,
     place: KeyPlace,
-    key: &K,
+    key: Q,
     f: F,
 ) -> Option<R>
 where
     F: Drop,
-    requires place { IsPlaceOf K.hash (H.stripes held.old) (K.name key.now) place }
+    requires place { IsPlaceOf K.hash (H.stripes held.old) (Q.name key) place }
     requires call { F.IsAlwaysCallable f }
     ensures bound { IfSome result (λ r. (v : V) × FnOnceReturnsAt F.FnOnce f v r
-        × IsCall (effect K.hash H.stripes place held.old held.new) (K.name key.now)
+        × IsCall (effect K.hash H.stripes place held.old held.new) (Q.name key)
         Find (Was (Some v))) }
     ensures unbound { IfNone result
-        (IsCall (effect K.hash H.stripes place held.old held.new) (K.name key.now)
+        (IsCall (effect K.hash H.stripes place held.old held.new) (Q.name key)
         Find (Was None)) }
     ensures same { H.stripes held.new ≡ H.stripes held.old }
     ensures stays { H.stays held.old held.new }
@@ -102,14 +102,14 @@ pub fn insert_or_assign<K: TableKey + Drop, V: Drop, H: Held<Stripe<K, V>>>(
 
 /// Binds a bound key to another value, and gives the one that it had; `None` where the key is
 /// unbound, and then it stays so and the value is dropped.
-pub fn update<K: TableKey + Drop, V: Drop, H: Held<Stripe<K, V>>>(
+pub fn update<K: TableKey + Drop, V: Drop, Q: Query<K>, H: Held<Stripe<K, V>>>(
     held: &mut H,
     place: KeyPlace,
-    key: &K,
+    key: Q,
     value: V,
 ) -> Option<V>
-    requires { IsPlaceOf K.hash (H.stripes held.old) (K.name key.now) place }
-    ensures call { IsCall (effect K.hash H.stripes place held.old held.new) (K.name key.now)
+    requires { IsPlaceOf K.hash (H.stripes held.old) (Q.name key) place }
+    ensures call { IsCall (effect K.hash H.stripes place held.old held.new) (Q.name key)
         (Update value) (Was result) }
     ensures same { IfNone result (H.stripes held.new ≡ H.stripes held.old) }
     ensures rest { ChangesContents (H.stripes held.old) (H.stripes held.new) }
@@ -120,13 +120,13 @@ pub fn update<K: TableKey + Drop, V: Drop, H: Held<Stripe<K, V>>>(
 }
 
 /// Unbinds the key, and gives the value that it had; `None` where it is unbound.
-pub fn erase<K: TableKey + Drop, V: Drop, H: Held<Stripe<K, V>>>(
+pub fn erase<K: TableKey + Drop, V: Drop, Q: Query<K>, H: Held<Stripe<K, V>>>(
     held: &mut H,
     place: KeyPlace,
-    key: &K,
+    key: Q,
 ) -> Option<V>
-    requires { IsPlaceOf K.hash (H.stripes held.old) (K.name key.now) place }
-    ensures call { IsCall (effect K.hash H.stripes place held.old held.new) (K.name key.now)
+    requires { IsPlaceOf K.hash (H.stripes held.old) (Q.name key) place }
+    ensures call { IsCall (effect K.hash H.stripes place held.old held.new) (Q.name key)
         Erase (Was result) }
     ensures same { IfNone result (H.stripes held.new ≡ H.stripes held.old) }
     ensures rest { ChangesContents (H.stripes held.old) (H.stripes held.new) }
@@ -139,21 +139,22 @@ pub fn erase<K: TableKey + Drop, V: Drop, H: Held<Stripe<K, V>>>(
 
 /// Unbinds a bound key where the closure answers true for its value, and gives what the closure
 /// answers. Where the key is unbound, the closure is not called and comes back.
-pub fn erase_fn<K: TableKey + Drop, V: Drop, H: Held<Stripe<K, V>>, F: FnOnce(&V) -> bool>(
-    held: &mut H,
-    place: KeyPlace,
-    key: &K,
-    f: F,
-) -> Result<bool, F>
-    requires place { IsPlaceOf K.hash (H.stripes held.old) (K.name key.now) place }
+pub fn erase_fn<
+    K: TableKey + Drop,
+    V: Drop,
+    Q: Query<K>,
+    H: Held<Stripe<K, V>>,
+    F: FnOnce(&V) -> bool,
+>(held: &mut H, place: KeyPlace, key: Q, f: F) -> Result<bool, F>
+    requires place { IsPlaceOf K.hash (H.stripes held.old) (Q.name key) place }
     requires call { F.IsAlwaysCallable f }
     ensures bound { IfOk result (λ gone. (v : V) × FnOnceReturnsAt F.FnOnce f v gone
-        × IsCall (effect K.hash H.stripes place held.old held.new) (K.name key.now)
+        × IsCall (effect K.hash H.stripes place held.old held.new) (Q.name key)
         (if gone then Erase else Find) (Was (Some v))) }
     ensures same { IfOk result
         (λ gone. OnFalse gone (H.stripes held.new ≡ H.stripes held.old)) }
     ensures unbound { IfErr result (λ back. (back ≡ f)
-        × IsCall (effect K.hash H.stripes place held.old held.new) (K.name key.now)
+        × IsCall (effect K.hash H.stripes place held.old held.new) (Q.name key)
         Find (Was None) × (H.stripes held.new ≡ H.stripes held.old)) }
     ensures rest { ChangesContents (H.stripes held.old) (H.stripes held.new) }
     ensures stays { H.stays held.old held.new }
@@ -170,21 +171,22 @@ pub fn erase_fn<K: TableKey + Drop, V: Drop, H: Held<Stripe<K, V>>, F: FnOnce(&V
 
 /// Binds a bound key to what the closure makes of its value, and says whether it was bound. Where
 /// it was not, the closure is not called.
-pub fn update_fn<K: TableKey + Drop, V: Drop, H: Held<Stripe<K, V>>, F: FnOnce(V) -> V>(
-    held: &mut H,
-    place: KeyPlace,
-    key: &K,
-    f: F,
-) -> bool
+pub fn update_fn<
+    K: TableKey + Drop,
+    V: Drop,
+    Q: Query<K>,
+    H: Held<Stripe<K, V>>,
+    F: FnOnce(V) -> V,
+>(held: &mut H, place: KeyPlace, key: Q, f: F) -> bool
 where
     F: Drop,
-    requires place { IsPlaceOf K.hash (H.stripes held.old) (K.name key.now) place }
+    requires place { IsPlaceOf K.hash (H.stripes held.old) (Q.name key) place }
     requires call { F.IsAlwaysCallable f }
     ensures call { MatchBool result
         ((v w : V) × F.post f v w
-        × IsCall (effect K.hash H.stripes place held.old held.new) (K.name key.now)
+        × IsCall (effect K.hash H.stripes place held.old held.new) (Q.name key)
         Change (Done v w))
-        (IsCall (effect K.hash H.stripes place held.old held.new) (K.name key.now)
+        (IsCall (effect K.hash H.stripes place held.old held.new) (Q.name key)
         Change Absent) }
     ensures same { OnFalse result (H.stripes held.new ≡ H.stripes held.old) }
     ensures rest { ChangesContents (H.stripes held.old) (H.stripes held.new) }
@@ -199,23 +201,24 @@ where
 
 /// Binds a bound key to what the closure makes of its value, where it makes one, and says whether
 /// it did. Where the key is unbound, the closure is not called and comes back.
-pub fn replace_if<K: TableKey + Drop, V: Drop, H: Held<Stripe<K, V>>, F: FnOnce(&V) -> Option<V>>(
-    held: &mut H,
-    place: KeyPlace,
-    key: &K,
-    f: F,
-) -> Result<bool, F>
-    requires place { IsPlaceOf K.hash (H.stripes held.old) (K.name key.now) place }
+pub fn replace_if<
+    K: TableKey + Drop,
+    V: Drop,
+    Q: Query<K>,
+    H: Held<Stripe<K, V>>,
+    F: FnOnce(&V) -> Option<V>,
+>(held: &mut H, place: KeyPlace, key: Q, f: F) -> Result<bool, F>
+    requires place { IsPlaceOf K.hash (H.stripes held.old) (Q.name key) place }
     requires call { F.IsAlwaysCallable f }
     ensures bound { IfOk result (λ replaced. (v : V) × MatchBool replaced
         ((w : V) × FnOnceReturnsAt F.FnOnce f v (Some w)
-        × IsCall (effect K.hash H.stripes place held.old held.new) (K.name key.now)
+        × IsCall (effect K.hash H.stripes place held.old held.new) (Q.name key)
         Change (Done v w))
         (FnOnceReturnsAt F.FnOnce f v None
-        × IsCall (effect K.hash H.stripes place held.old held.new) (K.name key.now)
+        × IsCall (effect K.hash H.stripes place held.old held.new) (Q.name key)
         Find (Was (Some v)))) }
     ensures unbound { IfErr result (λ back. (back ≡ f)
-        × IsCall (effect K.hash H.stripes place held.old held.new) (K.name key.now)
+        × IsCall (effect K.hash H.stripes place held.old held.new) (Q.name key)
         Find (Was None)) }
     ensures same { MatchResult result
         (λ replaced. OnFalse replaced (H.stripes held.new ≡ H.stripes held.old))
@@ -242,18 +245,19 @@ pub fn replace_if<K: TableKey + Drop, V: Drop, H: Held<Stripe<K, V>>, F: FnOnce(
 pub fn try_update<
     K: TableKey + Drop,
     V: Drop,
+    Q: Query<K>,
     H: Held<Stripe<K, V>>,
     E,
     F: FnOnce(V) -> Result<V, (V, E)>,
->(held: &mut H, place: KeyPlace, key: &K, f: F) -> Result<Result<(), E>, F>
-    requires place { IsPlaceOf K.hash (H.stripes held.old) (K.name key.now) place }
+>(held: &mut H, place: KeyPlace, key: Q, f: F) -> Result<Result<(), E>, F>
+    requires place { IsPlaceOf K.hash (H.stripes held.old) (Q.name key) place }
     requires call { F.IsAlwaysCallable f }
     ensures bound { IfOk result (λ outcome. (v w : V)
         × MatchResult outcome (λ _. F.post f v (Ok w)) (λ e. F.post f v (Err (w, e)))
-        × IsCall (effect K.hash H.stripes place held.old held.new) (K.name key.now)
+        × IsCall (effect K.hash H.stripes place held.old held.new) (Q.name key)
         Change (Done v w)) }
     ensures unbound { IfErr result (λ back. (back ≡ f)
-        × IsCall (effect K.hash H.stripes place held.old held.new) (K.name key.now)
+        × IsCall (effect K.hash H.stripes place held.old held.new) (Q.name key)
         Change Absent) }
     ensures same { OnErr result (H.stripes held.new ≡ H.stripes held.old) }
     ensures rest { ChangesContents (H.stripes held.old) (H.stripes held.new) }

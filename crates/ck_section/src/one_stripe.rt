@@ -12,7 +12,7 @@ ghost use Rattle.ck_section.specs.Reading.{ReadsSlot};
 ghost use Rattle.ck_section.specs.Places.{HasStripe, at, slot_in, set_slot, IsLowest};
 
 use crate::held::Held;
-use ck_key::TableKey;
+use ck_key::{Query, TableKey};
 use ck_stripe::Stripe;
 use std::alloc::AllocError;
 
@@ -78,20 +78,20 @@ pub(crate) fn len<K: TableKey + Drop, V: Drop, H: Held<Stripe<K, V>>>(held: &mut
 
 /// The slot of the key in bucket `b` of stripe `i`. `partial` is that of the key.
 #[inline(always)]
-pub(crate) fn look<K: TableKey + Drop, V: Drop, H: Held<Stripe<K, V>>>(
+pub(crate) fn look<K: TableKey + Drop, V: Drop, Q: Query<K>, H: Held<Stripe<K, V>>>(
     held: &mut H,
     i: usize,
     b: u64,
-    key: &K,
+    key: Q,
     partial: u8,
 ) -> Option<usize>
     requires reach { IsInReach (H.stripes held.old) i b }
-    requires partial { partial ≡ partial_of (K.hash (K.name key.now)) }
+    requires partial { partial ≡ partial_of (K.hash (Q.name key)) }
     ensures below { IfSome result (λ slot. slot < 4) }
     ensures found { IfSome result
-        (HasName (bucket_at (H.stripes held.old) i b) (K.name key.now)) }
+        (HasName (bucket_at (H.stripes held.old) i b) (Q.name key)) }
     ensures absent { IfNone result
-        (LacksName (bucket_at (H.stripes held.old) i b) (K.name key.now)) }
+        (LacksName (bucket_at (H.stripes held.old) i b) (Q.name key)) }
     ensures same { H.stripes held.new ≡ H.stripes held.old }
     ensures stays { H.stays held.old held.new }
 {
@@ -307,18 +307,18 @@ pub(crate) fn double<K: TableKey + Drop, V: Drop, H: Held<Stripe<K, V>>>(held: &
 
 // A look into a bucket, which borrows nothing of the stripe afterwards.
 #[inline(always)]
-fn look_in<K: TableKey + Drop, V: Drop>(
+fn look_in<K: TableKey + Drop, V: Drop, Q: Query<K>>(
     stripe: &Stripe<K, V>,
     b: u64,
-    key: &K,
+    key: Q,
     partial: u8,
 ) -> Option<usize>
     requires settled { stripe.now.settled ≡ true }
     requires own { HasBucket stripe.now b }
-    requires partial { partial ≡ partial_of (K.hash (K.name key.now)) }
+    requires partial { partial ≡ partial_of (K.hash (Q.name key)) }
     ensures below { IfSome result (λ slot. slot < 4) }
-    ensures found { IfSome result (HasName (bucket_of stripe.now b) (K.name key.now)) }
-    ensures absent { IfNone result (LacksName (bucket_of stripe.now b) (K.name key.now)) }
+    ensures found { IfSome result (HasName (bucket_of stripe.now b) (Q.name key)) }
+    ensures absent { IfNone result (LacksName (bucket_of stripe.now b) (Q.name key)) }
 {
     stripe.look(b, key, partial)
 }

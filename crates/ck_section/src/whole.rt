@@ -14,17 +14,17 @@ ghost use Rattle.ck_section.specs.Places.{IsPlaceOf};
 ghost use Rattle.ck_section.specs.Whole.{IsTable, AreSettled, AreAllHeld, ClearsBindings};
 
 use crate::place::{HeldBucket, KeyPlace};
-use ck_key::TableKey;
+use ck_key::{Query, TableKey};
 use ck_stripe::Stripe;
 
 /// Where the key may be among all stripes of a table of 2^s.
-pub fn place_in_all<K: TableKey + Drop, V: Drop>(
+pub fn place_in_all<K: TableKey + Drop, V: Drop, Q: Query<K>>(
     stripes: &[Stripe<K, V>],
     s: u32,
-    key: &K,
+    key: Q,
 ) -> KeyPlace
     requires { AreAllHeld s stripes.now }
-    ensures place { IsPlaceOf K.hash stripes.now (K.name key.now) result }
+    ensures place { IsPlaceOf K.hash stripes.now (Q.name key) result }
     ensures s { result.s ≡ s }
 {
     let hash = key.hash64();
@@ -46,14 +46,14 @@ pub fn place_in_all<K: TableKey + Drop, V: Drop>(
 }
 
 /// The value of the key, which may be at this place among the stripes.
-pub fn find_in_all<'s, K: TableKey + Drop, V: Drop>(
+pub fn find_in_all<'s, K: TableKey + Drop, V: Drop, Q: Query<K>>(
     stripes: &'s [Stripe<K, V>],
     place: KeyPlace,
-    key: &K,
+    key: Q,
 ) -> Option<&'s V>
-    requires { IsPlaceOf K.hash stripes.now (K.name key.now) place }
+    requires { IsPlaceOf K.hash stripes.now (Q.name key) place }
     ensures { IsCall (effect K.hash (λ stripes. stripes) place stripes.now stripes.now)
-        (K.name key.now) Find (Was (option_copied result)) }
+        (Q.name key) Find (Was (option_copied result)) }
 {
     let KeyPlace {
         s: _,
@@ -84,18 +84,18 @@ pub fn clear_all<K: TableKey + Drop, V: Drop>(stripes: &mut [Stripe<K, V>])
 }
 
 // The value of the key in bucket `b` of the stripe.
-fn value_in<'s, K: TableKey + Drop, V: Drop>(
+fn value_in<'s, K: TableKey + Drop, V: Drop, Q: Query<K>>(
     stripe: &'s Stripe<K, V>,
     b: u64,
-    key: &K,
+    key: Q,
     partial: u8,
 ) -> Option<&'s V>
     requires settled { stripe.now.settled ≡ true }
     requires own { HasBucket stripe.now b }
-    requires partial { partial ≡ partial_of (K.hash (K.name key.now)) }
+    requires partial { partial ≡ partial_of (K.hash (Q.name key)) }
     ensures found { IfSome result (λ value. (slot : ℕ) × (slot < 4)
-        × (slot_at (bucket_of stripe.now b) slot ≡ Some (K.name key.now, value.now))) }
-    ensures absent { IfNone result (LacksName (bucket_of stripe.now b) (K.name key.now)) }
+        × (slot_at (bucket_of stripe.now b) slot ≡ Some (Q.name key, value.now))) }
+    ensures absent { IfNone result (LacksName (bucket_of stripe.now b) (Q.name key)) }
 {
     let slot = stripe.look(b, key, partial)?;
     match stripe.get(b, slot) {

@@ -14,7 +14,7 @@ ghost use Rattle.ck_stripe.specs.Stripe.{HasBucket, bucket_of, with_bucket, with
 use crate::iter::Iter;
 use crate::next::Next;
 use ck_bucket::Rows;
-use ck_key::{NumKey, TableKey};
+use ck_key::{NumKey, Query, TableKey};
 use std::alloc::{AllocError, Global};
 use std::marker::Model;
 use std::mem;
@@ -89,13 +89,13 @@ impl<K: TableKey + Drop, V: Drop> Stripe<K, V> {
     /// The slot of bucket `b` with this key, whose partial the caller has at hand; `None` where no
     /// slot of it has the key.
     #[inline(always)]
-    pub fn look(&self, b: u64, key: &K, partial: u8) -> Option<usize>
+    pub fn look<Q: Query<K>>(&self, b: u64, key: Q, partial: u8) -> Option<usize>
         requires settled { self.now.settled ≡ true }
         requires own { HasBucket self.now b }
-        requires partial { partial ≡ partial_of (K.hash (K.name key.now)) }
+        requires partial { partial ≡ partial_of (K.hash (Q.name key)) }
         ensures below { IfSome result (λ i. i < 4) }
-        ensures found { IfSome result (HasName (bucket_of self.now b) (K.name key.now)) }
-        ensures absent { IfNone result (LacksName (bucket_of self.now b) (K.name key.now)) }
+        ensures found { IfSome result (HasName (bucket_of self.now b) (Q.name key)) }
+        ensures absent { IfNone result (LacksName (bucket_of self.now b) (Q.name key)) }
         ensures formed { IsWellFormed self.now }
     {
         let row = self.row(b);

@@ -18,7 +18,7 @@ pub returns-then-alternate-first-clause-nowhere : goal.returns-then-alternate-fi
 returns-then-alternate-first-clause-nowhere g c =
     let place = c.args.place in
     let stripes : List (StripeState g.row.V.Denot) = g.H.Held.stripes c.args.held.now in
-    let name = g.K.TableKey.name c.args.key.now in
+    let name = g.Q.Query.name c.args.key in
     let first : LacksName (bucket_at stripes place.first.index place.first.bucket) name = c.in_default.ensures.absent in
     let one = sym c.if-alternate-first.true in
     record {
@@ -36,7 +36,7 @@ returns-in_err-slot-clause-nowhere g c =
     let alternate = c.args.place.alternate in
     none_anyway c.from_residual.result _ (record {
       first = c.in_default.ensures.absent;
-      alternate = subst (λ (l : List (StripeState g.row.V.Denot)). LacksName (bucket_at l alternate.index alternate.bucket) (g.K.TableKey.name c.args.key.now)) c.look.ensures.same c.in_err-slot.ensures.absent;
+      alternate = subst (λ (l : List (StripeState g.row.V.Denot)). LacksName (bucket_at l alternate.index alternate.bucket) (g.Q.Query.name c.args.key)) c.look.ensures.same c.in_err-slot.ensures.absent;
     })
 
 pub returns-in_err-slot-clause-same : goal.returns-in_err-slot-clause-same
@@ -50,7 +50,7 @@ returns-clause-occupied g c =
     let alternate = c.args.place.alternate in
     record {
       slot = record { reach = c.requires.alternate_reach; below = c.in_ok-slot.ensures.below; of_name = inr c.requires.alternate };
-      found = subst (λ (l : List (StripeState g.row.V.Denot)). HasName (bucket_at l alternate.index alternate.bucket) (g.K.TableKey.name c.args.key.now) c.in_ok-slot.slot) c.look.ensures.same c.in_ok-slot.ensures.found;
+      found = subst (λ (l : List (StripeState g.row.V.Denot)). HasName (bucket_at l alternate.index alternate.bucket) (g.Q.Query.name c.args.key) c.in_ok-slot.slot) c.look.ensures.same c.in_ok-slot.ensures.found;
     }
 
 pub returns-clause-same : goal.returns-clause-same

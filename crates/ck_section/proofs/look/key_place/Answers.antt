@@ -21,7 +21,7 @@ position-requires g c =
     let V : Type 0 = g.row.V.Denot in
     let stripes : List (StripeState V) = g.H.Held.stripes c.args.held.now in
     let p : ℕ = (stripe_at stripes 0).content.power in
-    let hash : ℕ = g.K.TableKey.hash (g.K.TableKey.name c.args._key.now) in
+    let hash : ℕ = g.K.TableKey.hash (g.Q.Query.name c.args._key) in
     let power : c.power-power.result ≡ p = c.power-power.ensures.value in
     let first : c.index-first.result ≡ index_of p hash = c.index-first.ensures.value ∙ (λ i. index_of (power i) (c.requires.hash.value i)) in
     subst (λ (z : List (StripeState V) × ℕ). HasStripe z.0 z.1)
@@ -33,7 +33,7 @@ position-requires-2 g c =
     let V : Type 0 = g.row.V.Denot in
     let stripes : List (StripeState V) = g.H.Held.stripes c.args.held.now in
     let p : ℕ = (stripe_at stripes 0).content.power in
-    let hash : ℕ = g.K.TableKey.hash (g.K.TableKey.name c.args._key.now) in
+    let hash : ℕ = g.K.TableKey.hash (g.Q.Query.name c.args._key) in
     let power : c.power-power.result ≡ p = c.power-power.ensures.value in
     let first : c.index-first.result ≡ index_of p hash = c.index-first.ensures.value ∙ (λ i. index_of (power i) (c.requires.hash.value i)) in
     let alternate : c.alternate-alternate.result ≡ alternate_of p (partial_of hash) (index_of p hash) = c.alternate-alternate.ensures.value ∙ (λ i. alternate_of (power i) (c.requires.hash.partial i) (first i)) in

@@ -8,12 +8,12 @@ pub returns-in-Some : goal.returns-in-Some
 returns-in-Some g c =
     let stripes : List (StripeState g.row.V.Denot) = c.args.stripes.now in
     let first = stripe_read stripes c.args.place.first.index c.index-stripes-first.result c.requires.first_reach.inside c.index-stripes-first.is in
-    found_first g.K.TableKey.hash stripes (g.K.TableKey.name c.args.key.now) c.args.place c.requires c.index-stripes-first.result first c.in-Some.value.now c.in-Some.ensures.found
+    found_first g.K.TableKey.hash stripes (g.Q.Query.name c.args.key) c.args.place c.requires c.index-stripes-first.result first c.in-Some.value.now c.in-Some.ensures.found
 
 pub returns-then-alternate-first : goal.returns-then-alternate-first
 returns-then-alternate-first g c =
     let stripes : List (StripeState g.row.V.Denot) = c.args.stripes.now in
-    let q = g.K.TableKey.name c.args.key.now in
+    let q = g.Q.Query.name c.args.key in
     let first = stripe_read stripes c.args.place.first.index c.index-stripes-first.result c.requires.first_reach.inside c.index-stripes-first.is in
     let lacks = subst (λ (t : StripeState g.row.V.Denot). LacksName (bucket_of t c.args.place.first.bucket) q) first c.in_default.ensures.absent in
     not_found_once g.K.TableKey.hash stripes q c.args.place c.requires lacks (sym c.if-alternate-first.true)
@@ -21,7 +21,7 @@ returns-then-alternate-first g c =
 pub returns : goal.returns
 returns g c =
     let stripes : List (StripeState g.row.V.Denot) = c.args.stripes.now in
-    let q = g.K.TableKey.name c.args.key.now in
+    let q = g.Q.Query.name c.args.key in
     let first = stripe_read stripes c.args.place.first.index c.index-stripes-first.result c.requires.first_reach.inside c.index-stripes-first.is in
     let lacks = subst (λ (t : StripeState g.row.V.Denot). LacksName (bucket_of t c.args.place.first.bucket) q) first c.in_default.ensures.absent in
     let second = stripe_read stripes c.args.place.alternate.index c.index-stripes-alternate.result c.requires.alternate_reach.inside c.index-stripes-alternate.is in

@@ -1,0 +1,61 @@
+//! What a look-up names a key by.
+ghost use Rattle.std.specs.Prelude.{◌≡◌, ◌↔◌, true};
+ghost use Rattle.ck_model.specs.Map.{Name};
+ghost use Rattle.ck_key.specs.Hashes.{text_hash};
+ghost use Rattle.ck_key.specs.KeyLaws.{text_names};
+
+use crate::key::TableKey;
+use crate::text_key::{TextKey, fnv_of};
+
+/// What a call may name a key by: the key, or what has its name without being one, as the bytes of
+/// a text. It stands where Rust has `K: Borrow<Q>`.
+pub trait Query<K: TableKey>: Copy {
+    // The name of the key that is meant.
+    ghost name: { Self → Name };
+
+    /// The hash that a key of this name has.
+    fn hash64(&self) -> u64
+        ensures { result ≡ K.hash (name self.now) };
+
+    /// Whether it is this key's name.
+    fn is_name_of(&self, key: &K) -> bool
+        ensures { (result ≡ true) ↔ (K.name key.now ≡ name self.now) };
+}
+
+impl<K: TableKey> Query<K> for &K {
+    ghost name = { λ q. K.name q.now };
+
+    #[inline(always)]
+    fn hash64(&self) -> u64 {
+        (*self).hash64()
+    }
+
+    #[inline(always)]
+    fn is_name_of(&self, key: &K) -> bool {
+        *key == **self
+    }
+}
+
+impl Query<TextKey> for &[u8] {
+    ghost name = { λ q. q.now };
+
+    fn hash64(&self) -> u64 {
+        fnv_of(*self)
+    }
+
+    fn is_name_of(&self, key: &TextKey) -> bool {
+        key.as_bytes() == *self
+    }
+}
+
+impl Query<TextKey> for &str {
+    ghost name = { λ q. q.now };
+
+    fn hash64(&self) -> u64 {
+        fnv_of(self.as_bytes())
+    }
+
+    fn is_name_of(&self, key: &TextKey) -> bool {
+        key.as_bytes() == self.as_bytes()
+    }
+}
