@@ -1,21 +1,27 @@
 //! The store that decides a call.
-ghost use Rattle.std.specs.Prelude.{◌≡◌, IsSome};
+ghost use Rattle.std.specs.Prelude.{◌≡◌, Some, IsSome, reverse};
 ghost use Rattle.ck_model.specs.declared.history.Reply.{Reply};
 ghost use Rattle.ck_model.specs.declared.history.Reply.TheVariants.{Closed};
-ghost use Rattle.ck_words.specs.Passes.{IsPassOf, numbers_of};
+ghost use Rattle.ck_model.specs.Contents.{layout_of, Lawful};
+ghost use Rattle.ck_model.specs.Sections.{Section};
+ghost use Rattle.ck_core.specs.Steps.{Label};
+ghost use Rattle.ck_section.specs.Stripes.{contents_of};
+ghost use Rattle.ck_words.specs.Passes.{PassState, IsPassOf, Sends, numbers_of};
+ghost use Rattle.ck_words.specs.Holding.{HasReleased};
 ghost use Rattle.ck_words.specs.StripeSets.{list_of};
 ghost use Rattle.ck_words.specs.Commits.{call_of, session_of};
 ghost use Rattle.ck_words.specs.Answering.{HasDone, HasCommitted};
 
 use crate::pass::Pass;
+use crate::steps::Says;
 use crate::stripe_set::StripeSet;
 use crate::words::Words;
-use ck_key::TableKey;
+use ck_key::{Query, TableKey};
 use std::marker::Brand;
 use std::snapshot::Snapshot;
 
-/// A call with its keys and its value, as contracts see them. Nothing of it is left when the
-/// program runs.
+/// A call with its value and its keys, or its query, as contracts see them. Nothing of it is left
+/// when the program runs.
 #[derive(Drop)]
 pub enum Commit<K, V> {
     Find(Snapshot<K>),
@@ -44,9 +50,26 @@ impl<K: TableKey + Drop, V: Drop> Words<K, V> {
         ensures { HasCommitted K.hash self.now (call_of K.name call) pass.old pass.new }
     {
         let said = Snapshot::of(&call);
-        let last = set.count() - 1;
-        self.decide::<Brand, Snapshot<Commit<K, V>>>(pass, set.at(last), &said);
-        self.release_first(pass, set, last);
+        self.decide_set::<Brand, Snapshot<Commit<K, V>>>(pass, set, &said);
+    }
+
+    /// Decides the call of a query, as `commit` does that of a key.
+    #[inline(always)]
+    pub fn commit_query<Q: Query<K>>(
+        &self,
+        pass: &mut Pass<K, V>,
+        set: StripeSet,
+        call: Commit<Q, V>,
+    )
+        requires own { IsPassOf self.now pass.old }
+        requires numbered { numbers_of pass.old.stripes ≡ list_of set }
+        requires caller { IsSome pass.old.view.by }
+        requires done { (reply : Reply V)
+            × HasDone K.hash self.now.settings (call_of Q.name call) reply pass.old }
+        ensures { HasCommitted K.hash self.now (call_of Q.name call) pass.old pass.new }
+    {
+        let said = Snapshot::of(&call);
+        self.decide_set::<Brand, Snapshot<Commit<Q, V>>>(pass, set, &said);
     }
 
     /// Decides a session with what the stripes of a set contain now, as `commit` does, and gives
@@ -59,8 +82,25 @@ impl<K: TableKey + Drop, V: Drop> Words<K, V> {
         requires done { HasDone K.hash self.now.settings (session_of pass.old) Closed pass.old }
         ensures { HasCommitted K.hash self.now (session_of pass.old) pass.old pass.new }
     {
+        self.decide_set::<Brand, ()>(pass, set, &());
+    }
+
+    // Decides the call of `J` with what the stripes of a set contain now, and gives them back: the
+    // highest by the store that decides, and then the others. `said` is for the pick of `J` alone.
+    #[inline(always)]
+    fn decide_set<J: Says<V>, X>(&self, pass: &mut Pass<K, V>, set: StripeSet, said: &X)
+        requires own { IsPassOf self.now pass.old }
+        requires numbered { numbers_of pass.old.stripes ≡ list_of set }
+        requires caller { pass.old.view.by ≡ Some J.entry.by }
+        requires section { Lawful (layout_of K.hash self.now.settings) (reverse pass.old.view.held)
+            → Section (layout_of K.hash self.now.settings) (reverse
+            pass.old.view.held) J.entry.call J.entry.reply (contents_of pass.old.stripes) }
+        ensures { (decided : PassState V)
+            × Sends K.hash self.now (λ t ks. Label.Decide t ks J.entry) pass.old decided
+            × HasReleased self.now decided pass.new }
+    {
         let last = set.count() - 1;
-        self.decide::<Brand, ()>(pass, set.at(last), &());
+        self.decide::<J, X>(pass, set.at(last), said);
         self.release_first(pass, set, last);
     }
 }

@@ -1,20 +1,9 @@
-use Rattle.std.proofs.Common.{◌∙◌, ◌-◌, take, arith}
 use Rattle.ck_words.specs.Commits.{session_of}
 use Rattle.ck_words.proofs.Replying.{has_committed}
-use Rattle.ck_words.specs.StripeSets.{list_of}
-use Rattle.ck_words.proofs.Releasing.{last_of_all, numbers_left}
 use Rattle.ck_words.proofs.words.Words.commit_session.Goals as goal
-
-pub decide-requires-clause-highest : goal.decide-requires-clause-highest
-decide-requires-clause-highest g c = let ns = list_of c.args.set in
-    (take (c.count-last.result - 1) ns, c.requires.numbered ∙ last_of_all ns (c.count-last.result - 1) c.at.result c.args.set.some (let n = c.count-last.ensures in omega arith) c.at.ensures.value)
-
-pub release_first-requires-clause-numbered : goal.release_first-requires-clause-numbered
-release_first-requires-clause-numbered g c = let ns = list_of c.args.set in
-    numbers_left (take (c.count-last.result - 1) ns) c.at.result c.args.pass.now c.decide.new.pass c.decide.ensures.step.0 c.decide.ensures.step.1
-    (c.requires.numbered ∙ last_of_all ns (c.count-last.result - 1) c.at.result c.args.set.some (let n = c.count-last.ensures in omega arith) c.at.ensures.value)
 
 pub returns : goal.returns
 returns g c =
     let p = c.args.pass.now in
-    has_committed g.K.TableKey.hash c.args.self.now (session_of p) p c.requires.caller c.requires.own.1 c.decide.new.pass c.release_first.new.pass c.decide.ensures.step c.release_first.ensures.released
+    let did = c.decide_set.ensures in
+    has_committed g.K.TableKey.hash c.args.self.now (session_of p) p c.requires.caller c.requires.own.1 did.0 c.decide_set.new.pass did.1 did.2
