@@ -7,7 +7,7 @@ ghost use Rattle.ck_words.specs.Meeting.{Meets};
 use crate::locked::LockedTable;
 use crate::refusal::{Busy, GrowFault, NoCallers, Refused};
 use crate::table::Table;
-use ck_key::TableKey;
+use ck_key::{Query, TableKey};
 use ck_section::Uprased;
 use ck_words::Pass;
 use std::alloc::Global;
@@ -102,13 +102,13 @@ impl<'t, K: TableKey + Drop, V: Drop> Caller<'t, K, V> {
     /// let value: Option<u64> = caller.find(&NumKey(5))?;
     /// ```
     #[inline(always)]
-    pub fn find(&mut self, key: &K) -> Result<Option<V>, Busy>
+    pub fn find<Q: Query<K>>(&mut self, key: Q) -> Result<Option<V>, Busy>
     where
         V: Copy,
         ensures same { IsSameCaller self.old self.new }
-        ensures answered { IfOk result (Finds (K.name key.now) self.old self.new) }
-        ensures busy { IfErr result (IsBusyOn K.hash (K.name key.now) self.old self.new) }
-        ensures found { FindsHeldOwn K.hash (K.name key.now) self.old self.new }
+        ensures answered { IfOk result (Finds (Q.name key) self.old self.new) }
+        ensures busy { IfErr result (IsBusyOn K.hash (Q.name key) self.old self.new) }
+        ensures found { FindsHeldOwn K.hash (Q.name key) self.old self.new }
     {
         self.table.find(&mut self.pass, key)
     }
@@ -120,15 +120,19 @@ impl<'t, K: TableKey + Drop, V: Drop> Caller<'t, K, V> {
     /// let half: Option<u64> = caller.find_fn(&NumKey(5), |value: &u64| *value / 2)?;
     /// ```
     #[inline(always)]
-    pub fn find_fn<R, F: FnOnce(&V) -> R>(&mut self, key: &K, f: F) -> Result<Option<R>, Busy>
+    pub fn find_fn<Q: Query<K>, R, F: FnOnce(&V) -> R>(
+        &mut self,
+        key: Q,
+        f: F,
+    ) -> Result<Option<R>, Busy>
     where
         F: Drop,
         requires call { F.IsAlwaysCallable f }
         ensures same { IsSameCaller self.old self.new }
         ensures answered { IfOk result (
-            FindsBy (FnOnceReturnsAt F.FnOnce f) (K.name key.now) self.old self.new) }
-        ensures busy { IfErr result (IsBusyOn K.hash (K.name key.now) self.old self.new) }
-        ensures found { FindsHeldOwn K.hash (K.name key.now) self.old self.new }
+            FindsBy (FnOnceReturnsAt F.FnOnce f) (Q.name key) self.old self.new) }
+        ensures busy { IfErr result (IsBusyOn K.hash (Q.name key) self.old self.new) }
+        ensures found { FindsHeldOwn K.hash (Q.name key) self.old self.new }
     {
         self.table.find_fn(&mut self.pass, key, f)
     }
@@ -139,11 +143,11 @@ impl<'t, K: TableKey + Drop, V: Drop> Caller<'t, K, V> {
     /// let bound: bool = caller.contains(&NumKey(5))?;
     /// ```
     #[inline(always)]
-    pub fn contains(&mut self, key: &K) -> Result<bool, Busy>
+    pub fn contains<Q: Query<K>>(&mut self, key: Q) -> Result<bool, Busy>
         ensures same { IsSameCaller self.old self.new }
-        ensures answered { IfOk result (FindsBound (K.name key.now) self.old self.new) }
-        ensures busy { IfErr result (IsBusyOn K.hash (K.name key.now) self.old self.new) }
-        ensures found { FindsHeldOwn K.hash (K.name key.now) self.old self.new }
+        ensures answered { IfOk result (FindsBound (Q.name key) self.old self.new) }
+        ensures busy { IfErr result (IsBusyOn K.hash (Q.name key) self.old self.new) }
+        ensures found { FindsHeldOwn K.hash (Q.name key) self.old self.new }
     {
         self.table.contains(&mut self.pass, key)
     }
@@ -298,13 +302,13 @@ impl<'t, K: TableKey + Drop, V: Drop> Caller<'t, K, V> {
     /// }
     /// ```
     #[inline(always)]
-    pub fn update(&mut self, key: &K, value: V) -> Result<Option<V>, (V, Busy)>
+    pub fn update<Q: Query<K>>(&mut self, key: Q, value: V) -> Result<Option<V>, (V, Busy)>
         ensures same { IsSameCaller self.old self.new }
-        ensures answered { IfOk result (Updates (K.name key.now) value self.old self.new) }
+        ensures answered { IfOk result (Updates (Q.name key) value self.old self.new) }
         ensures back { IfErr result (λ back. back.0 ≡ value) }
         ensures busy { IfErr result (λ back.
-            IsBusyOn K.hash (K.name key.now) self.old self.new back.1) }
-        ensures found { FindsHeldOwn K.hash (K.name key.now) self.old self.new }
+            IsBusyOn K.hash (Q.name key) self.old self.new back.1) }
+        ensures found { FindsHeldOwn K.hash (Q.name key) self.old self.new }
     {
         self.table.update(&mut self.pass, key, value)
     }
@@ -316,14 +320,14 @@ impl<'t, K: TableKey + Drop, V: Drop> Caller<'t, K, V> {
     /// let bound = caller.update_fn(&NumKey(5), |value| value / 2)?;
     /// ```
     #[inline(always)]
-    pub fn update_fn<F: FnOnce(V) -> V>(&mut self, key: &K, f: F) -> Result<bool, Busy>
+    pub fn update_fn<Q: Query<K>, F: FnOnce(V) -> V>(&mut self, key: Q, f: F) -> Result<bool, Busy>
     where
         F: Drop,
         requires call { F.IsAlwaysCallable f }
         ensures same { IsSameCaller self.old self.new }
-        ensures answered { IfOk result (Changes (F.post f) (K.name key.now) self.old self.new) }
-        ensures busy { IfErr result (IsBusyOn K.hash (K.name key.now) self.old self.new) }
-        ensures found { FindsHeldOwn K.hash (K.name key.now) self.old self.new }
+        ensures answered { IfOk result (Changes (F.post f) (Q.name key) self.old self.new) }
+        ensures busy { IfErr result (IsBusyOn K.hash (Q.name key) self.old self.new) }
+        ensures found { FindsHeldOwn K.hash (Q.name key) self.old self.new }
     {
         self.table.update_fn(&mut self.pass, key, f)
     }
@@ -365,11 +369,11 @@ impl<'t, K: TableKey + Drop, V: Drop> Caller<'t, K, V> {
     /// let value: Option<u64> = caller.erase(&NumKey(5))?;
     /// ```
     #[inline(always)]
-    pub fn erase(&mut self, key: &K) -> Result<Option<V>, Busy>
+    pub fn erase<Q: Query<K>>(&mut self, key: Q) -> Result<Option<V>, Busy>
         ensures same { IsSameCaller self.old self.new }
-        ensures answered { IfOk result (Erases (K.name key.now) self.old self.new) }
-        ensures busy { IfErr result (IsBusyOn K.hash (K.name key.now) self.old self.new) }
-        ensures found { FindsHeldOwn K.hash (K.name key.now) self.old self.new }
+        ensures answered { IfOk result (Erases (Q.name key) self.old self.new) }
+        ensures busy { IfErr result (IsBusyOn K.hash (Q.name key) self.old self.new) }
+        ensures found { FindsHeldOwn K.hash (Q.name key) self.old self.new }
     {
         self.table.erase(&mut self.pass, key)
     }
@@ -382,15 +386,19 @@ impl<'t, K: TableKey + Drop, V: Drop> Caller<'t, K, V> {
     /// let gone: Option<bool> = caller.erase_fn(&NumKey(5), |value: &u64| *value == 0)?;
     /// ```
     #[inline(always)]
-    pub fn erase_fn<F: FnOnce(&V) -> bool>(&mut self, key: &K, f: F) -> Result<Option<bool>, Busy>
+    pub fn erase_fn<Q: Query<K>, F: FnOnce(&V) -> bool>(
+        &mut self,
+        key: Q,
+        f: F,
+    ) -> Result<Option<bool>, Busy>
     where
         F: Drop,
         requires call { F.IsAlwaysCallable f }
         ensures same { IsSameCaller self.old self.new }
         ensures answered { IfOk result (
-            ErasesBy (FnOnceReturnsAt F.FnOnce f) (K.name key.now) self.old self.new) }
-        ensures busy { IfErr result (IsBusyOn K.hash (K.name key.now) self.old self.new) }
-        ensures found { FindsHeldOwn K.hash (K.name key.now) self.old self.new }
+            ErasesBy (FnOnceReturnsAt F.FnOnce f) (Q.name key) self.old self.new) }
+        ensures busy { IfErr result (IsBusyOn K.hash (Q.name key) self.old self.new) }
+        ensures found { FindsHeldOwn K.hash (Q.name key) self.old self.new }
     {
         self.table.erase_fn(&mut self.pass, key, f)
     }
@@ -404,9 +412,9 @@ impl<'t, K: TableKey + Drop, V: Drop> Caller<'t, K, V> {
     /// let taken: Option<bool> = caller.replace_if(&NumKey(5), |left: &u64| left.checked_sub(1))?;
     /// ```
     #[inline(always)]
-    pub fn replace_if<F: FnOnce(&V) -> Option<V>>(
+    pub fn replace_if<Q: Query<K>, F: FnOnce(&V) -> Option<V>>(
         &mut self,
-        key: &K,
+        key: Q,
         f: F,
     ) -> Result<Option<bool>, Busy>
     where
@@ -414,9 +422,9 @@ impl<'t, K: TableKey + Drop, V: Drop> Caller<'t, K, V> {
         requires call { F.IsAlwaysCallable f }
         ensures same { IsSameCaller self.old self.new }
         ensures answered { IfOk result (
-            ReplacesIf (FnOnceReturnsAt F.FnOnce f) (K.name key.now) self.old self.new) }
-        ensures busy { IfErr result (IsBusyOn K.hash (K.name key.now) self.old self.new) }
-        ensures found { FindsHeldOwn K.hash (K.name key.now) self.old self.new }
+            ReplacesIf (FnOnceReturnsAt F.FnOnce f) (Q.name key) self.old self.new) }
+        ensures busy { IfErr result (IsBusyOn K.hash (Q.name key) self.old self.new) }
+        ensures found { FindsHeldOwn K.hash (Q.name key) self.old self.new }
     {
         self.table.replace_if(&mut self.pass, key, f)
     }
@@ -440,18 +448,18 @@ impl<'t, K: TableKey + Drop, V: Drop> Caller<'t, K, V> {
     /// }
     /// ```
     #[inline(always)]
-    pub fn try_update<E, F: FnOnce(V) -> Result<V, (V, E)>>(
+    pub fn try_update<Q: Query<K>, E, F: FnOnce(V) -> Result<V, (V, E)>>(
         &mut self,
-        key: &K,
+        key: Q,
         f: F,
     ) -> Result<Option<Result<(), E>>, Busy>
     where
         F: Drop,
         requires call { F.IsAlwaysCallable f }
         ensures same { IsSameCaller self.old self.new }
-        ensures answered { IfOk result (TriesChange (F.post f) (K.name key.now) self.old self.new) }
-        ensures busy { IfErr result (IsBusyOn K.hash (K.name key.now) self.old self.new) }
-        ensures found { FindsHeldOwn K.hash (K.name key.now) self.old self.new }
+        ensures answered { IfOk result (TriesChange (F.post f) (Q.name key) self.old self.new) }
+        ensures busy { IfErr result (IsBusyOn K.hash (Q.name key) self.old self.new) }
+        ensures found { FindsHeldOwn K.hash (Q.name key) self.old self.new }
     {
         self.table.try_update(&mut self.pass, key, f)
     }

@@ -11,7 +11,7 @@ ghost use Rattle.cuckoo_map.specs.Refusals.{FindsOwn, IsBusyAt};
 
 use crate::refusal::Busy;
 use crate::table::Table;
-use ck_key::TableKey;
+use ck_key::{Query, TableKey};
 use ck_section::{erase, erase_fn, replace_if, try_update, update, update_fn};
 use ck_words::{Commit, Lent, Pass};
 use std::snapshot::Snapshot;
@@ -21,20 +21,25 @@ impl<K: TableKey + Drop, V: Drop> Table<K, V> {
     /// unbound, and then it stays so and the value is dropped.
     ///
     /// Refused as busy, it changes nothing and hands the value back.
-    pub fn update(&self, pass: &mut Pass<K, V>, key: &K, value: V) -> Result<Option<V>, (V, Busy)>
+    pub fn update<Q: Query<K>>(
+        &self,
+        pass: &mut Pass<K, V>,
+        key: Q,
+        value: V,
+    ) -> Result<Option<V>, (V, Busy)>
         requires caller { IsCaller self.now pass.old }
         ensures caller { IsCaller self.now pass.new }
         ensures answered { IfOk result (λ old.
-            IsAnswered (On (K.name key.now) (Update value)) (Was old) pass.old pass.new) }
+            IsAnswered (On (Q.name key) (Update value)) (Was old) pass.old pass.new) }
         ensures busy { IfErr result (λ back. (back.0 ≡ value)
-            × IsBusyAt K.hash self.now.settings (K.name key.now) back.1.0 pass.old pass.new) }
-        ensures found { FindsOwn K.hash self.now.settings (K.name key.now) pass.old pass.new }
+            × IsBusyAt K.hash self.now.settings (Q.name key) back.1.0 pass.old pass.new) }
+        ensures found { FindsOwn K.hash self.now.settings (Q.name key) pass.old pass.new }
     {
         let spot = match self.hold_key(pass, key) {
             Ok(spot) => spot,
             Err(busy) => return Err((value, busy)),
         };
-        let said = Commit::Update(Snapshot::of(key), Snapshot::of(&value));
+        let said = Commit::Update(Snapshot::of(&key), Snapshot::of(&value));
         let mut lent = Lent {
             words: &self.words,
             pass,
@@ -42,7 +47,7 @@ impl<K: TableKey + Drop, V: Drop> Table<K, V> {
         };
         let old = update(&mut lent, spot.place, key, value);
         let Lent { pass, .. } = lent;
-        self.words.commit(pass, spot.stripes, said);
+        self.words.commit_query(pass, spot.stripes, said);
         Ok(old)
     }
 
@@ -51,10 +56,10 @@ impl<K: TableKey + Drop, V: Drop> Table<K, V> {
     /// held.
     ///
     /// Refused as busy, it changes nothing, and the closure is dropped.
-    pub fn update_fn<F: FnOnce(V) -> V>(
+    pub fn update_fn<Q: Query<K>, F: FnOnce(V) -> V>(
         &self,
         pass: &mut Pass<K, V>,
-        key: &K,
+        key: Q,
         f: F,
     ) -> Result<bool, Busy>
     where
@@ -64,11 +69,11 @@ impl<K: TableKey + Drop, V: Drop> Table<K, V> {
         ensures caller { IsCaller self.now pass.new }
         ensures answered { IfOk result (λ bound. MatchBool bound
             ((v w : V) × F.post f v w
-            × IsAnswered (On (K.name key.now) Change) (Done v w) pass.old pass.new)
-            (IsAnswered (On (K.name key.now) Change) Absent pass.old pass.new)) }
+            × IsAnswered (On (Q.name key) Change) (Done v w) pass.old pass.new)
+            (IsAnswered (On (Q.name key) Change) Absent pass.old pass.new)) }
         ensures busy { IfErr result (λ busy.
-            IsBusyAt K.hash self.now.settings (K.name key.now) busy.0 pass.old pass.new) }
-        ensures found { FindsOwn K.hash self.now.settings (K.name key.now) pass.old pass.new }
+            IsBusyAt K.hash self.now.settings (Q.name key) busy.0 pass.old pass.new) }
+        ensures found { FindsOwn K.hash self.now.settings (Q.name key) pass.old pass.new }
     {
         let spot = self.hold_key(pass, key)?;
         let mut lent = Lent {
@@ -79,20 +84,20 @@ impl<K: TableKey + Drop, V: Drop> Table<K, V> {
         let bound = update_fn(&mut lent, spot.place, key, f);
         let Lent { pass, .. } = lent;
         self.words
-            .commit(pass, spot.stripes, Commit::Change(Snapshot::of(key)));
+            .commit_query(pass, spot.stripes, Commit::Change(Snapshot::of(&key)));
         Ok(bound)
     }
 
     /// Unbinds the key, and gives the value that it had; `None` where it is unbound. Refused as
     /// busy, it changes nothing.
-    pub fn erase(&self, pass: &mut Pass<K, V>, key: &K) -> Result<Option<V>, Busy>
+    pub fn erase<Q: Query<K>>(&self, pass: &mut Pass<K, V>, key: Q) -> Result<Option<V>, Busy>
         requires caller { IsCaller self.now pass.old }
         ensures caller { IsCaller self.now pass.new }
         ensures answered { IfOk result (λ old.
-            IsAnswered (On (K.name key.now) Erase) (Was old) pass.old pass.new) }
+            IsAnswered (On (Q.name key) Erase) (Was old) pass.old pass.new) }
         ensures busy { IfErr result (λ busy.
-            IsBusyAt K.hash self.now.settings (K.name key.now) busy.0 pass.old pass.new) }
-        ensures found { FindsOwn K.hash self.now.settings (K.name key.now) pass.old pass.new }
+            IsBusyAt K.hash self.now.settings (Q.name key) busy.0 pass.old pass.new) }
+        ensures found { FindsOwn K.hash self.now.settings (Q.name key) pass.old pass.new }
     {
         let spot = self.hold_key(pass, key)?;
         let mut lent = Lent {
@@ -103,7 +108,7 @@ impl<K: TableKey + Drop, V: Drop> Table<K, V> {
         let value = erase(&mut lent, spot.place, key);
         let Lent { pass, .. } = lent;
         self.words
-            .commit(pass, spot.stripes, Commit::Erase(Snapshot::of(key)));
+            .commit_query(pass, spot.stripes, Commit::Erase(Snapshot::of(&key)));
         Ok(value)
     }
 
@@ -112,10 +117,10 @@ impl<K: TableKey + Drop, V: Drop> Table<K, V> {
     /// runs while the key's stripes are held.
     ///
     /// Refused as busy, it changes nothing, and the closure is dropped.
-    pub fn erase_fn<F: FnOnce(&V) -> bool>(
+    pub fn erase_fn<Q: Query<K>, F: FnOnce(&V) -> bool>(
         &self,
         pass: &mut Pass<K, V>,
-        key: &K,
+        key: Q,
         f: F,
     ) -> Result<Option<bool>, Busy>
     where
@@ -124,13 +129,13 @@ impl<K: TableKey + Drop, V: Drop> Table<K, V> {
         requires call { F.IsAlwaysCallable f }
         ensures caller { IsCaller self.now pass.new }
         ensures answered { IfOk result (λ answer. MatchOption answer
-            (IsAnswered (On (K.name key.now) Find) (Was None) pass.old pass.new)
+            (IsAnswered (On (Q.name key) Find) (Was None) pass.old pass.new)
             (λ gone. (v : V) × FnOnceReturnsAt F.FnOnce f v gone × MatchBool gone
-            (IsAnswered (On (K.name key.now) Erase) (Was (Some v)) pass.old pass.new)
-            (IsAnswered (On (K.name key.now) Find) (Was (Some v)) pass.old pass.new))) }
+            (IsAnswered (On (Q.name key) Erase) (Was (Some v)) pass.old pass.new)
+            (IsAnswered (On (Q.name key) Find) (Was (Some v)) pass.old pass.new))) }
         ensures busy { IfErr result (λ busy.
-            IsBusyAt K.hash self.now.settings (K.name key.now) busy.0 pass.old pass.new) }
-        ensures found { FindsOwn K.hash self.now.settings (K.name key.now) pass.old pass.new }
+            IsBusyAt K.hash self.now.settings (Q.name key) busy.0 pass.old pass.new) }
+        ensures found { FindsOwn K.hash self.now.settings (Q.name key) pass.old pass.new }
     {
         let gone = self.erase_bound(pass, key, f)?;
         Ok(gone.ok())
@@ -138,10 +143,10 @@ impl<K: TableKey + Drop, V: Drop> Table<K, V> {
 
     // What `erase_fn` does. Where the key is unbound, the closure comes back.
     #[inline(always)]
-    fn erase_bound<F: FnOnce(&V) -> bool>(
+    fn erase_bound<Q: Query<K>, F: FnOnce(&V) -> bool>(
         &self,
         pass: &mut Pass<K, V>,
-        key: &K,
+        key: Q,
         f: F,
     ) -> Result<Result<bool, F>, Busy>
     where
@@ -150,13 +155,13 @@ impl<K: TableKey + Drop, V: Drop> Table<K, V> {
         ensures caller { IsCaller self.now pass.new }
         ensures answered { IfOk result (λ answer.
             IfOk answer (λ gone. (v : V) × FnOnceReturnsAt F.FnOnce f v gone × MatchBool gone
-            (IsAnswered (On (K.name key.now) Erase) (Was (Some v)) pass.old pass.new)
-            (IsAnswered (On (K.name key.now) Find) (Was (Some v)) pass.old pass.new))
+            (IsAnswered (On (Q.name key) Erase) (Was (Some v)) pass.old pass.new)
+            (IsAnswered (On (Q.name key) Find) (Was (Some v)) pass.old pass.new))
             × IfErr answer (λ back. (back ≡ f)
-            × IsAnswered (On (K.name key.now) Find) (Was None) pass.old pass.new)) }
+            × IsAnswered (On (Q.name key) Find) (Was None) pass.old pass.new)) }
         ensures busy { IfErr result (λ busy.
-            IsBusyAt K.hash self.now.settings (K.name key.now) busy.0 pass.old pass.new) }
-        ensures found { FindsOwn K.hash self.now.settings (K.name key.now) pass.old pass.new }
+            IsBusyAt K.hash self.now.settings (Q.name key) busy.0 pass.old pass.new) }
+        ensures found { FindsOwn K.hash self.now.settings (Q.name key) pass.old pass.new }
     {
         let spot = self.hold_key(pass, key)?;
         let mut lent = Lent {
@@ -166,8 +171,8 @@ impl<K: TableKey + Drop, V: Drop> Table<K, V> {
         };
         let gone = erase_fn(&mut lent, spot.place, key, f);
         let Lent { pass, .. } = lent;
-        let said = chosen(&gone, key, Commit::Erase(Snapshot::of(key)));
-        self.words.commit(pass, spot.stripes, said);
+        let said = chosen::<K, Q, V, F>(&gone, key, Commit::Erase(Snapshot::of(&key)));
+        self.words.commit_query(pass, spot.stripes, said);
         Ok(gone)
     }
 
@@ -177,10 +182,10 @@ impl<K: TableKey + Drop, V: Drop> Table<K, V> {
     /// are held.
     ///
     /// Refused as busy, it changes nothing, and the closure is dropped.
-    pub fn replace_if<F: FnOnce(&V) -> Option<V>>(
+    pub fn replace_if<Q: Query<K>, F: FnOnce(&V) -> Option<V>>(
         &self,
         pass: &mut Pass<K, V>,
-        key: &K,
+        key: Q,
         f: F,
     ) -> Result<Option<bool>, Busy>
     where
@@ -189,15 +194,15 @@ impl<K: TableKey + Drop, V: Drop> Table<K, V> {
         requires call { F.IsAlwaysCallable f }
         ensures caller { IsCaller self.now pass.new }
         ensures answered { IfOk result (λ answer. MatchOption answer
-            (IsAnswered (On (K.name key.now) Find) (Was None) pass.old pass.new)
+            (IsAnswered (On (Q.name key) Find) (Was None) pass.old pass.new)
             (λ replaced. (v : V) × MatchBool replaced
             ((w : V) × FnOnceReturnsAt F.FnOnce f v (Some w)
-            × IsAnswered (On (K.name key.now) Change) (Done v w) pass.old pass.new)
+            × IsAnswered (On (Q.name key) Change) (Done v w) pass.old pass.new)
             (FnOnceReturnsAt F.FnOnce f v None
-            × IsAnswered (On (K.name key.now) Find) (Was (Some v)) pass.old pass.new))) }
+            × IsAnswered (On (Q.name key) Find) (Was (Some v)) pass.old pass.new))) }
         ensures busy { IfErr result (λ busy.
-            IsBusyAt K.hash self.now.settings (K.name key.now) busy.0 pass.old pass.new) }
-        ensures found { FindsOwn K.hash self.now.settings (K.name key.now) pass.old pass.new }
+            IsBusyAt K.hash self.now.settings (Q.name key) busy.0 pass.old pass.new) }
+        ensures found { FindsOwn K.hash self.now.settings (Q.name key) pass.old pass.new }
     {
         let replaced = self.replace_bound(pass, key, f)?;
         Ok(replaced.ok())
@@ -205,10 +210,10 @@ impl<K: TableKey + Drop, V: Drop> Table<K, V> {
 
     // What `replace_if` does. Where the key is unbound, the closure comes back.
     #[inline(always)]
-    fn replace_bound<F: FnOnce(&V) -> Option<V>>(
+    fn replace_bound<Q: Query<K>, F: FnOnce(&V) -> Option<V>>(
         &self,
         pass: &mut Pass<K, V>,
-        key: &K,
+        key: Q,
         f: F,
     ) -> Result<Result<bool, F>, Busy>
     where
@@ -218,14 +223,14 @@ impl<K: TableKey + Drop, V: Drop> Table<K, V> {
         ensures answered { IfOk result (λ answer.
             IfOk answer (λ replaced. (v : V) × MatchBool replaced
             ((w : V) × FnOnceReturnsAt F.FnOnce f v (Some w)
-            × IsAnswered (On (K.name key.now) Change) (Done v w) pass.old pass.new)
+            × IsAnswered (On (Q.name key) Change) (Done v w) pass.old pass.new)
             (FnOnceReturnsAt F.FnOnce f v None
-            × IsAnswered (On (K.name key.now) Find) (Was (Some v)) pass.old pass.new))
+            × IsAnswered (On (Q.name key) Find) (Was (Some v)) pass.old pass.new))
             × IfErr answer (λ back. (back ≡ f)
-            × IsAnswered (On (K.name key.now) Find) (Was None) pass.old pass.new)) }
+            × IsAnswered (On (Q.name key) Find) (Was None) pass.old pass.new)) }
         ensures busy { IfErr result (λ busy.
-            IsBusyAt K.hash self.now.settings (K.name key.now) busy.0 pass.old pass.new) }
-        ensures found { FindsOwn K.hash self.now.settings (K.name key.now) pass.old pass.new }
+            IsBusyAt K.hash self.now.settings (Q.name key) busy.0 pass.old pass.new) }
+        ensures found { FindsOwn K.hash self.now.settings (Q.name key) pass.old pass.new }
     {
         let spot = self.hold_key(pass, key)?;
         let mut lent = Lent {
@@ -235,8 +240,8 @@ impl<K: TableKey + Drop, V: Drop> Table<K, V> {
         };
         let replaced = replace_if(&mut lent, spot.place, key, f);
         let Lent { pass, .. } = lent;
-        let said = chosen(&replaced, key, Commit::Change(Snapshot::of(key)));
-        self.words.commit(pass, spot.stripes, said);
+        let said = chosen::<K, Q, V, F>(&replaced, key, Commit::Change(Snapshot::of(&key)));
+        self.words.commit_query(pass, spot.stripes, said);
         Ok(replaced)
     }
 
@@ -246,10 +251,10 @@ impl<K: TableKey + Drop, V: Drop> Table<K, V> {
     /// closure runs while the key's stripes are held.
     ///
     /// Refused as busy, it changes nothing, and the closure is dropped.
-    pub fn try_update<E, F: FnOnce(V) -> Result<V, (V, E)>>(
+    pub fn try_update<Q: Query<K>, E, F: FnOnce(V) -> Result<V, (V, E)>>(
         &self,
         pass: &mut Pass<K, V>,
-        key: &K,
+        key: Q,
         f: F,
     ) -> Result<Option<Result<(), E>>, Busy>
     where
@@ -258,13 +263,13 @@ impl<K: TableKey + Drop, V: Drop> Table<K, V> {
         requires call { F.IsAlwaysCallable f }
         ensures caller { IsCaller self.now pass.new }
         ensures answered { IfOk result (λ answer. MatchOption answer
-            (IsAnswered (On (K.name key.now) Change) Absent pass.old pass.new)
+            (IsAnswered (On (Q.name key) Change) Absent pass.old pass.new)
             (λ outcome. (v w : V)
             × MatchResult outcome (λ _. F.post f v (Ok w)) (λ e. F.post f v (Err (w, e)))
-            × IsAnswered (On (K.name key.now) Change) (Done v w) pass.old pass.new)) }
+            × IsAnswered (On (Q.name key) Change) (Done v w) pass.old pass.new)) }
         ensures busy { IfErr result (λ busy.
-            IsBusyAt K.hash self.now.settings (K.name key.now) busy.0 pass.old pass.new) }
-        ensures found { FindsOwn K.hash self.now.settings (K.name key.now) pass.old pass.new }
+            IsBusyAt K.hash self.now.settings (Q.name key) busy.0 pass.old pass.new) }
+        ensures found { FindsOwn K.hash self.now.settings (Q.name key) pass.old pass.new }
     {
         let spot = self.hold_key(pass, key)?;
         let mut lent = Lent {
@@ -274,8 +279,8 @@ impl<K: TableKey + Drop, V: Drop> Table<K, V> {
         };
         let outcome = try_update(&mut lent, spot.place, key, f);
         let Lent { pass, .. } = lent;
-        let said = Commit::Change(Snapshot::of(key));
-        self.words.commit(pass, spot.stripes, said);
+        let said = Commit::Change(Snapshot::of(&key));
+        self.words.commit_query(pass, spot.stripes, said);
         // A closure that was not called is dropped only now, when no stripe is held.
         Ok(outcome.ok())
     }
@@ -284,13 +289,17 @@ impl<K: TableKey + Drop, V: Drop> Table<K, V> {
 // The call that a closure has chosen: `made` where it was called and answered true, and else a find
 // of the key.
 #[inline(always)]
-fn chosen<K: TableKey, V, F>(answer: &Result<bool, F>, key: &K, made: Commit<K, V>) -> Commit<K, V>
-    ensures { let find = On (K.name key.now) Find in MatchResult answer.now
-        (λ so. call_of K.name result ≡ (if so then call_of K.name made else find))
-        (λ _. call_of K.name result ≡ find) }
+fn chosen<K: TableKey, Q: Query<K>, V, F>(
+    answer: &Result<bool, F>,
+    key: Q,
+    made: Commit<Q, V>,
+) -> Commit<Q, V>
+    ensures { let find = On (Q.name key) Find in MatchResult answer.now
+        (λ so. call_of Q.name result ≡ (if so then call_of Q.name made else find))
+        (λ _. call_of Q.name result ≡ find) }
 {
     match answer {
         Ok(true) => made,
-        _ => Commit::Find(Snapshot::of(key)),
+        _ => Commit::Find(Snapshot::of(&key)),
     }
 }

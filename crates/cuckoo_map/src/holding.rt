@@ -13,7 +13,7 @@ ghost use Rattle.cuckoo_map.specs.Refusals.{FindsOwn, IsBusyAt};
 use crate::key_room::Room;
 use crate::refusal::Busy;
 use crate::table::Table;
-use ck_key::{KeyHash, TableKey};
+use ck_key::{KeyHash, Query, TableKey};
 use ck_section::{Held, KeyPlace, find_entry, key_place};
 use ck_words::{Lent, Pass, StripeSet};
 use std::snapshot::Snapshot;
@@ -36,19 +36,19 @@ impl<K: TableKey + Drop, V: Drop> Table<K, V> {
     // Takes the stripes of the key, and carries out a doubling that is left to be. Where the key
     // may be among them comes back.
     #[inline(always)]
-    pub(crate) fn hold_key(&self, pass: &mut Pass<K, V>, key: &K) -> Result<Spot, Busy>
+    pub(crate) fn hold_key<Q: Query<K>>(&self, pass: &mut Pass<K, V>, key: Q) -> Result<Spot, Busy>
         requires caller { IsCaller self.now pass.old }
         ensures own { IsPassOf self.now pass.new }
         ensures held { IfOk result (λ spot.
-            HoldsKey K.hash self.now.settings (K.name key.now) spot.place pass.old pass.new) }
+            HoldsKey K.hash self.now.settings (Q.name key) spot.place pass.old pass.new) }
         ensures s { IfOk result (λ spot. spot.stripes.s ≡ self.now.settings.s) }
         ensures numbered { IfOk result (λ spot.
             numbers_of pass.new.stripes ≡ list_of spot.stripes) }
         ensures settled { OnOk result (AreHeld self.now.settings.s pass.new.stripes) }
-        ensures found { FindsOwn K.hash self.now.settings (K.name key.now) pass.old pass.new }
+        ensures found { FindsOwn K.hash self.now.settings (Q.name key) pass.old pass.new }
         ensures idle { OnErr result (IsIdle pass.new) }
         ensures busy { IfErr result (λ busy.
-            IsBusyAt K.hash self.now.settings (K.name key.now) busy.0 pass.old pass.new) }
+            IsBusyAt K.hash self.now.settings (Q.name key) busy.0 pass.old pass.new) }
     {
         let home = self.home_of(key);
         // What may wait is called right here: each function that it is inlined through would cost
@@ -63,10 +63,10 @@ impl<K: TableKey + Drop, V: Drop> Table<K, V> {
 
     // The stripes of the key, and its hash.
     #[inline(always)]
-    pub(crate) fn home_of(&self, key: &K) -> Home
-        ensures { IsHomeOf K.hash self.now.settings (K.name key.now) result }
+    pub(crate) fn home_of<Q: Query<K>>(&self, key: Q) -> Home
+        ensures { IsHomeOf K.hash self.now.settings (Q.name key) result }
     {
-        let hash = KeyHash::of(key);
+        let hash = KeyHash::of::<K, Q>(key);
         let stripes = StripeSet::of_key(self.words.settings().s, hash);
         Home { stripes, hash }
     }
@@ -74,17 +74,17 @@ impl<K: TableKey + Drop, V: Drop> Table<K, V> {
     // Carries out a doubling that is left of the key's stripes, which were just taken. Where the
     // key may be among them comes back.
     #[inline(always)]
-    pub(crate) fn spot_in(&self, pass: &mut Pass<K, V>, key: &K, home: Home) -> Spot
-        requires home { IsHomeOf K.hash self.now.settings (K.name key.now) home }
+    pub(crate) fn spot_in<Q: Query<K>>(&self, pass: &mut Pass<K, V>, key: Q, home: Home) -> Spot
+        requires home { IsHomeOf K.hash self.now.settings (Q.name key) home }
         requires taken { (p : PassState V)
             × HasTakenAll K.hash self.now (list_of home.stripes) p pass.old }
         ensures own { IsPassOf self.now pass.new }
         ensures held { (p : PassState V)
             → HasTakenAll K.hash self.now (list_of home.stripes) p pass.old
-            → HoldsKey K.hash self.now.settings (K.name key.now) result.place p pass.new }
+            → HoldsKey K.hash self.now.settings (Q.name key) result.place p pass.new }
         ensures found { (p : PassState V)
             → HasTakenAll K.hash self.now (list_of home.stripes) p pass.old
-            → FindsOwn K.hash self.now.settings (K.name key.now) p pass.new }
+            → FindsOwn K.hash self.now.settings (Q.name key) p pass.new }
         ensures s { result.stripes.s ≡ self.now.settings.s }
         ensures numbered { numbers_of pass.new.stripes ≡ list_of result.stripes }
         ensures settled { AreHeld self.now.settings.s pass.new.stripes }
@@ -97,21 +97,21 @@ impl<K: TableKey + Drop, V: Drop> Table<K, V> {
 
     // Where the key may be among these stripes, which its pass holds.
     #[inline(always)]
-    pub(crate) fn place_of(
+    pub(crate) fn place_of<Q: Query<K>>(
         &self,
         pass: &mut Pass<K, V>,
         stripes: StripeSet,
-        key: &K,
+        key: Q,
         hash: KeyHash,
     ) -> KeyPlace
         requires own { IsPassOf self.now pass.old }
         requires numbered { numbers_of pass.old.stripes ≡ list_of stripes }
         requires s { stripes.s ≡ self.now.settings.s }
         requires held { AreHeld stripes.s pass.old.stripes }
-        requires hash { IsHashOf K.hash (K.name key.now) hash }
-        requires both { HasBoth K.hash stripes.s pass.old.stripes (K.name key.now) }
+        requires hash { IsHashOf K.hash (Q.name key) hash }
+        requires both { HasBoth K.hash stripes.s pass.old.stripes (Q.name key) }
         ensures own { IsPassOf self.now pass.new }
-        ensures place { IsPlaceOf K.hash pass.old.stripes (K.name key.now) result }
+        ensures place { IsPlaceOf K.hash pass.old.stripes (Q.name key) result }
         ensures s { result.s ≡ stripes.s }
         ensures same { pass.new ≡ pass.old }
     {

@@ -28,7 +28,7 @@ use crate::entries;
 use crate::entries::Insertion;
 use crate::refusal::{Busy, Refused, Why};
 use crate::table::Table;
-use ck_key::{KeyHash, TableKey};
+use ck_key::{KeyHash, Query, TableKey};
 use ck_model::settings::Settings;
 use ck_section::{
     Iter, KeyPlace, Lack, clear_all, erase, export, find_entry, find_in_all, make_room,
@@ -91,15 +91,15 @@ impl<K: TableKey + Drop, V: Drop> Table<K, V> {
 
 impl<'t, K: TableKey + Drop, V: Drop> LockedTable<'t, K, V> {
     /// The value of the key; `None` where the key is unbound.
-    pub fn find(&self, key: &K) -> Option<&V>
-        ensures { option_copied result ≡ get (map_of self.now) (K.name key.now) }
+    pub fn find<Q: Query<K>>(&self, key: Q) -> Option<&V>
+        ensures { option_copied result ≡ get (map_of self.now) (Q.name key) }
     {
         find_in_all(stripes_of(&self.whole), self.place(key), key)
     }
 
     /// Whether the key is bound.
-    pub fn contains(&self, key: &K) -> bool
-        ensures { result ≡ is_some (get (map_of self.now) (K.name key.now)) }
+    pub fn contains<Q: Query<K>>(&self, key: Q) -> bool
+        ensures { result ≡ is_some (get (map_of self.now) (Q.name key)) }
     {
         self.find(key).is_some()
     }
@@ -234,8 +234,8 @@ impl<'t, K: TableKey + Drop, V: Drop> LockedTable<'t, K, V> {
     /// ```
     /// let old: Option<u64> = locked.update(&NumKey(5), 52);
     /// ```
-    pub fn update(&mut self, key: &K, value: V) -> Option<V>
-        ensures { HasActed (K.name key.now) (Update value) (Was result) self.old self.new }
+    pub fn update<Q: Query<K>>(&mut self, key: Q, value: V) -> Option<V>
+        ensures { HasActed (Q.name key) (Update value) (Was result) self.old self.new }
     {
         let place = self.place(key);
         update(&mut self.whole, place, key, value)
@@ -247,22 +247,22 @@ impl<'t, K: TableKey + Drop, V: Drop> LockedTable<'t, K, V> {
     /// ```
     /// let bound: bool = locked.update_fn(&NumKey(5), |value| value / 2);
     /// ```
-    pub fn update_fn<F: FnOnce(V) -> V>(&mut self, key: &K, f: F) -> bool
+    pub fn update_fn<Q: Query<K>, F: FnOnce(V) -> V>(&mut self, key: Q, f: F) -> bool
     where
         F: Drop,
         requires call { F.IsAlwaysCallable f }
         ensures { MatchBool result
             ((v w : V) × F.post f v w
-            × HasActed (K.name key.now) Change (Done v w) self.old self.new)
-            (HasActed (K.name key.now) Change Absent self.old self.new) }
+            × HasActed (Q.name key) Change (Done v w) self.old self.new)
+            (HasActed (Q.name key) Change Absent self.old self.new) }
     {
         let place = self.place(key);
         update_fn(&mut self.whole, place, key, f)
     }
 
     /// Unbinds the key, and gives the value that it had; `None` where it is unbound.
-    pub fn erase(&mut self, key: &K) -> Option<V>
-        ensures { HasActed (K.name key.now) Erase (Was result) self.old self.new }
+    pub fn erase<Q: Query<K>>(&mut self, key: Q) -> Option<V>
+        ensures { HasActed (Q.name key) Erase (Was result) self.old self.new }
     {
         let place = self.place(key);
         erase(&mut self.whole, place, key)
@@ -280,8 +280,8 @@ impl<'t, K: TableKey + Drop, V: Drop> LockedTable<'t, K, V> {
     }
 
     // Where the key may be among the stripes.
-    fn place(&self, key: &K) -> KeyPlace
-        ensures place { IsPlaceOf K.hash self.now.pass.stripes (K.name key.now) result }
+    fn place<Q: Query<K>>(&self, key: Q) -> KeyPlace
+        ensures place { IsPlaceOf K.hash self.now.pass.stripes (Q.name key) result }
         ensures s { result.s ≡ self.now.table.settings.s }
     {
         let table = self.table;

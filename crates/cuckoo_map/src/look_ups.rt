@@ -10,7 +10,7 @@ ghost use Rattle.cuckoo_map.specs.Refusals.{FindsOwn, IsBusyAt};
 
 use crate::refusal::Busy;
 use crate::table::Table;
-use ck_key::TableKey;
+use ck_key::{Query, TableKey};
 use ck_section::find;
 use ck_words::{Commit, Lent, Pass};
 use std::snapshot::Snapshot;
@@ -20,10 +20,10 @@ impl<K: TableKey + Drop, V: Drop> Table<K, V> {
     /// the closure is not called. The closure runs while the key's stripes are held.
     ///
     /// Refused as busy, it changes nothing, and the closure is dropped.
-    pub fn find_fn<R, F: FnOnce(&V) -> R>(
+    pub fn find_fn<Q: Query<K>, R, F: FnOnce(&V) -> R>(
         &self,
         pass: &mut Pass<K, V>,
-        key: &K,
+        key: Q,
         f: F,
     ) -> Result<Option<R>, Busy>
     where
@@ -32,12 +32,12 @@ impl<K: TableKey + Drop, V: Drop> Table<K, V> {
         requires call { F.IsAlwaysCallable f }
         ensures caller { IsCaller self.now pass.new }
         ensures answered { IfOk result (λ answer. MatchOption answer
-            (IsAnswered (On (K.name key.now) Find) (Was None) pass.old pass.new)
+            (IsAnswered (On (Q.name key) Find) (Was None) pass.old pass.new)
             (λ r. (v : V) × FnOnceReturnsAt F.FnOnce f v r
-            × IsAnswered (On (K.name key.now) Find) (Was (Some v)) pass.old pass.new)) }
+            × IsAnswered (On (Q.name key) Find) (Was (Some v)) pass.old pass.new)) }
         ensures busy { IfErr result (λ busy.
-            IsBusyAt K.hash self.now.settings (K.name key.now) busy.0 pass.old pass.new) }
-        ensures found { FindsOwn K.hash self.now.settings (K.name key.now) pass.old pass.new }
+            IsBusyAt K.hash self.now.settings (Q.name key) busy.0 pass.old pass.new) }
+        ensures found { FindsOwn K.hash self.now.settings (Q.name key) pass.old pass.new }
     {
         let spot = self.hold_key(pass, key)?;
         let mut lent = Lent {
@@ -48,36 +48,36 @@ impl<K: TableKey + Drop, V: Drop> Table<K, V> {
         let found = find(&mut lent, spot.place, key, f);
         let Lent { pass, .. } = lent;
         self.words
-            .commit(pass, spot.stripes, Commit::Find(Snapshot::of(key)));
+            .commit_query(pass, spot.stripes, Commit::Find(Snapshot::of(&key)));
         Ok(found)
     }
 
     /// The value that is bound to the key; `None` where the key is unbound. Refused as busy, it
     /// changes nothing.
-    pub fn find(&self, pass: &mut Pass<K, V>, key: &K) -> Result<Option<V>, Busy>
+    pub fn find<Q: Query<K>>(&self, pass: &mut Pass<K, V>, key: Q) -> Result<Option<V>, Busy>
     where
         V: Copy,
         requires caller { IsCaller self.now pass.old }
         ensures caller { IsCaller self.now pass.new }
         ensures answered { IfOk result (λ value.
-            IsAnswered (On (K.name key.now) Find) (Was value) pass.old pass.new) }
+            IsAnswered (On (Q.name key) Find) (Was value) pass.old pass.new) }
         ensures busy { IfErr result (λ busy.
-            IsBusyAt K.hash self.now.settings (K.name key.now) busy.0 pass.old pass.new) }
-        ensures found { FindsOwn K.hash self.now.settings (K.name key.now) pass.old pass.new }
+            IsBusyAt K.hash self.now.settings (Q.name key) busy.0 pass.old pass.new) }
+        ensures found { FindsOwn K.hash self.now.settings (Q.name key) pass.old pass.new }
     {
         self.find_fn(pass, key, |value: &V| *value)
     }
 
     /// Whether the key is bound. Refused as busy, it changes nothing.
-    pub fn contains(&self, pass: &mut Pass<K, V>, key: &K) -> Result<bool, Busy>
+    pub fn contains<Q: Query<K>>(&self, pass: &mut Pass<K, V>, key: Q) -> Result<bool, Busy>
         requires caller { IsCaller self.now pass.old }
         ensures caller { IsCaller self.now pass.new }
         ensures answered { IfOk result (λ bound. MatchBool bound
-            ((v : V) × IsAnswered (On (K.name key.now) Find) (Was (Some v)) pass.old pass.new)
-            (IsAnswered (On (K.name key.now) Find) (Was None) pass.old pass.new)) }
+            ((v : V) × IsAnswered (On (Q.name key) Find) (Was (Some v)) pass.old pass.new)
+            (IsAnswered (On (Q.name key) Find) (Was None) pass.old pass.new)) }
         ensures busy { IfErr result (λ busy.
-            IsBusyAt K.hash self.now.settings (K.name key.now) busy.0 pass.old pass.new) }
-        ensures found { FindsOwn K.hash self.now.settings (K.name key.now) pass.old pass.new }
+            IsBusyAt K.hash self.now.settings (Q.name key) busy.0 pass.old pass.new) }
+        ensures found { FindsOwn K.hash self.now.settings (Q.name key) pass.old pass.new }
     {
         let found = self.find_fn(pass, key, |_value: &V| ())?;
         Ok(found.is_some())

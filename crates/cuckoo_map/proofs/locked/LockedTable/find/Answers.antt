@@ -12,7 +12,7 @@ use Rattle.cuckoo_map.proofs.locked.LockedTable.find.Goals as goal
 pub returns : goal.returns
 returns g c =
     let hash = g.K.TableKey.hash in
-    let q = g.K.TableKey.name c.args.key.now in
+    let q = g.Q.Query.name c.args.key in
     let place = c.place.result in
     let o = option_copied c.find_in_all.result in
     let same = c.place.ensures.s ∙ sym (ap (λ (l : LockedState g.row.V.Denot). l.table.settings.s) c.self.view_is) in

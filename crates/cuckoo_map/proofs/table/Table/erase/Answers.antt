@@ -5,10 +5,10 @@ use Rattle.ck_model.specs.declared.history.Reply.TheVariants.{Was}
 use Rattle.cuckoo_map.proofs.Calls.{does, says}
 use Rattle.cuckoo_map.proofs.table.Table.erase.Goals as goal
 
-pub commit-requires-clause-done : goal.commit-requires-clause-done
-commit-requires-clause-done g c = (Was c.erase-value.result, does c.self.view_is c.in_ok-spot.ensures.held c.erase-value.new.held.pass.now c.erase-value.ensures.stays.1 (ap (λ k. On (g.K.TableKey.name k) Erase) c.of.ensures) (Was c.erase-value.result) c.erase-value.ensures.call)
+pub commit_query-requires-clause-done : goal.commit_query-requires-clause-done
+commit_query-requires-clause-done g c = (Was c.erase-value.result, does c.self.view_is c.in_ok-spot.ensures.held c.erase-value.new.held.pass.now c.erase-value.ensures.stays.1 (ap (λ k. On (g.Q.Query.name k) Erase) c.of.ensures) (Was c.erase-value.result) c.erase-value.ensures.call)
 
 pub returns-clause-answered : goal.returns-clause-answered
 returns-clause-answered g c =
-    let there : c.commit.new.pass ≡ c.pass-1.given.0 = search rules in
-    rw (← there) (says c.self.view_is c.in_ok-spot.ensures.held c.erase-value.new.held.pass.now c.erase-value.ensures.stays.1 (ap (λ k. On (g.K.TableKey.name k) Erase) c.of.ensures) c.commit.ensures.answered (Was c.erase-value.result) c.erase-value.ensures.call)
+    let there : c.commit_query.new.pass ≡ c.pass-1.given.0 = search rules in
+    rw (← there) (says c.self.view_is c.in_ok-spot.ensures.held c.erase-value.new.held.pass.now c.erase-value.ensures.stays.1 (ap (λ k. On (g.Q.Query.name k) Erase) c.of.ensures) c.commit_query.ensures.answered (Was c.erase-value.result) c.erase-value.ensures.call)

@@ -7,22 +7,22 @@ use Rattle.ck_words.specs.Answering.{IsAnswered}
 use Rattle.cuckoo_map.proofs.Calls.{IsStep, chose, erased, erasing, does, says}
 use Rattle.cuckoo_map.proofs.table.Table.erase_bound.Goals as goal
 
-pub commit-requires-clause-done : goal.commit-requires-clause-done
-commit-requires-clause-done g c =
-    let q = g.K.TableKey.name c.args.key.now in
+pub commit_query-requires-clause-done : goal.commit_query-requires-clause-done
+commit_query-requires-clause-done g c =
+    let q = g.Q.Query.name c.args.key in
     let p = c.erase_fn-gone.new.held.pass.now in
-    let made = chose q Erase _ _ (ap (λ k. On (g.K.TableKey.name k) Erase) c.of.ensures) c.erase_fn-gone.result c.chosen-said.ensures in
-    let did = erased (λ act. IsStep g.K.TableKey.hash c.in_ok-spot.spot.place.s c.hold_key.new.pass.stripes p.stripes (On q act)) (λ act. call_of g.K.TableKey.name c.chosen-said.result ≡ On q act) (λ back. back ≡ c.args.f)
+    let made = chose q Erase _ _ (ap (λ k. On (g.Q.Query.name k) Erase) c.of.ensures) c.erase_fn-gone.result c.chosen-said.ensures in
+    let did = erased (λ act. IsStep g.K.TableKey.hash c.in_ok-spot.spot.place.s c.hold_key.new.pass.stripes p.stripes (On q act)) (λ act. call_of g.Q.Query.name c.chosen-said.result ≡ On q act) (λ back. back ≡ c.args.f)
     (FnOnceReturnsAt g.F.FnOnce c.args.f) _ c.erase_fn-gone.result made c.erase_fn-gone.ensures.bound c.erase_fn-gone.ensures.unbound in
     (did.1, does c.self.view_is c.in_ok-spot.ensures.held p c.erase_fn-gone.ensures.stays.1 did.2 did.1 did.3)
 
 pub returns-clause-answered : goal.returns-clause-answered
 returns-clause-answered g c =
-    let q = g.K.TableKey.name c.args.key.now in
+    let q = g.Q.Query.name c.args.key in
     let p = c.erase_fn-gone.new.held.pass.now in
-    let made = chose q Erase _ _ (ap (λ k. On (g.K.TableKey.name k) Erase) c.of.ensures) c.erase_fn-gone.result c.chosen-said.ensures in
-    let there : c.commit.new.pass ≡ c.pass-1.given.0 = search rules in
-    rw (← there) (erasing (λ act. IsStep g.K.TableKey.hash c.in_ok-spot.spot.place.s c.hold_key.new.pass.stripes p.stripes (On q act)) (λ act. call_of g.K.TableKey.name c.chosen-said.result ≡ On q act) (λ back. back ≡ c.args.f)
-    (FnOnceReturnsAt g.F.FnOnce c.args.f) _ (λ act r. IsAnswered (On q act) r c.args.pass.now c.commit.new.pass)
-    (λ act named r did. says c.self.view_is c.in_ok-spot.ensures.held p c.erase_fn-gone.ensures.stays.1 named c.commit.ensures.answered r did)
+    let made = chose q Erase _ _ (ap (λ k. On (g.Q.Query.name k) Erase) c.of.ensures) c.erase_fn-gone.result c.chosen-said.ensures in
+    let there : c.commit_query.new.pass ≡ c.pass-1.given.0 = search rules in
+    rw (← there) (erasing (λ act. IsStep g.K.TableKey.hash c.in_ok-spot.spot.place.s c.hold_key.new.pass.stripes p.stripes (On q act)) (λ act. call_of g.Q.Query.name c.chosen-said.result ≡ On q act) (λ back. back ≡ c.args.f)
+    (FnOnceReturnsAt g.F.FnOnce c.args.f) _ (λ act r. IsAnswered (On q act) r c.args.pass.now c.commit_query.new.pass)
+    (λ act named r did. says c.self.view_is c.in_ok-spot.ensures.held p c.erase_fn-gone.ensures.stays.1 named c.commit_query.ensures.answered r did)
     c.erase_fn-gone.result made c.erase_fn-gone.ensures.bound c.erase_fn-gone.ensures.unbound)

@@ -10,7 +10,7 @@ use Rattle.cuckoo_map.proofs.table.Table.spot_in.Goals as goal
 pub place_of-place-requires-clause-both : goal.place_of-place-requires-clause-both
 place_of-place-requires-clause-both g c =
     let h = c.requires.home in
-    let q = g.K.TableKey.name c.args.key.now in
+    let q = g.Q.Query.name c.args.key in
     subst (λ (s : ℕ). HasBoth g.K.TableKey.hash s c.settle_taken.new.pass.stripes q) (sym h.s)
     (has_both g.K.TableKey.hash c.args.self.now.settings q (list_of c.args.home.stripes) h.exact c.settle_taken.new.pass.stripes c.settle_taken.ensures.numbers)
 
@@ -18,7 +18,7 @@ pub returns-clause-held : goal.returns-clause-held
 returns-clause-held g c = λ p taken.
     let h = c.requires.home in
     let k = c.place_of-place in
-    let both = has_both g.K.TableKey.hash c.args.self.now.settings (g.K.TableKey.name c.args.key.now) (list_of c.args.home.stripes) h.exact c.settle_taken.new.pass.stripes c.settle_taken.ensures.numbers in
+    let both = has_both g.K.TableKey.hash c.args.self.now.settings (g.Q.Query.name c.args.key) (list_of c.args.home.stripes) h.exact c.settle_taken.new.pass.stripes c.settle_taken.ensures.numbers in
     holds_then p c.settle_taken.new.pass (subst (Stays p.view) (sym c.settle_taken.ensures.view) taken.stays) both c.settle_taken.ensures.unchanged k.ensures.place (k.ensures.s ∙ h.s) k.new.pass (ap (λ (x : PassState g.row.V.Denot). x.stripes) k.ensures.same) (ap (λ (x : PassState g.row.V.Denot). x.view) k.ensures.same)
 
 pub returns-clause-found : goal.returns-clause-found

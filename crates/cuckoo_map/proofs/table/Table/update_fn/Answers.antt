@@ -5,15 +5,15 @@ use Rattle.ck_model.specs.declared.history.Reply.TheVariants.{Done, Absent}
 use Rattle.cuckoo_map.proofs.Calls.{does, says, by_bool, map_bool}
 use Rattle.cuckoo_map.proofs.table.Table.update_fn.Goals as goal
 
-pub commit-requires-clause-done : goal.commit-requires-clause-done
-commit-requires-clause-done g c =
+pub commit_query-requires-clause-done : goal.commit_query-requires-clause-done
+commit_query-requires-clause-done g c =
     by_bool c.update_fn-bound.result _ _ _ c.update_fn-bound.ensures.call
-    (λ x. (Done x.0 x.1, does c.self.view_is c.in_ok-spot.ensures.held c.update_fn-bound.new.held.pass.now c.update_fn-bound.ensures.stays.1 (ap (λ k. On (g.K.TableKey.name k) Change) c.of.ensures) (Done x.0 x.1) x.3))
-    (λ x. (Absent, does c.self.view_is c.in_ok-spot.ensures.held c.update_fn-bound.new.held.pass.now c.update_fn-bound.ensures.stays.1 (ap (λ k. On (g.K.TableKey.name k) Change) c.of.ensures) Absent x))
+    (λ x. (Done x.0 x.1, does c.self.view_is c.in_ok-spot.ensures.held c.update_fn-bound.new.held.pass.now c.update_fn-bound.ensures.stays.1 (ap (λ k. On (g.Q.Query.name k) Change) c.of.ensures) (Done x.0 x.1) x.3))
+    (λ x. (Absent, does c.self.view_is c.in_ok-spot.ensures.held c.update_fn-bound.new.held.pass.now c.update_fn-bound.ensures.stays.1 (ap (λ k. On (g.Q.Query.name k) Change) c.of.ensures) Absent x))
 
 pub returns-clause-answered : goal.returns-clause-answered
 returns-clause-answered g c =
-    let there : c.commit.new.pass ≡ c.pass-1.given.0 = search rules in
+    let there : c.commit_query.new.pass ≡ c.pass-1.given.0 = search rules in
     rw (← there) (map_bool c.update_fn-bound.result _ _ _ _ c.update_fn-bound.ensures.call
-    (λ x. (x.0, x.1, x.2, says c.self.view_is c.in_ok-spot.ensures.held c.update_fn-bound.new.held.pass.now c.update_fn-bound.ensures.stays.1 (ap (λ k. On (g.K.TableKey.name k) Change) c.of.ensures) c.commit.ensures.answered (Done x.0 x.1) x.3))
-    (λ x. says c.self.view_is c.in_ok-spot.ensures.held c.update_fn-bound.new.held.pass.now c.update_fn-bound.ensures.stays.1 (ap (λ k. On (g.K.TableKey.name k) Change) c.of.ensures) c.commit.ensures.answered Absent x))
+    (λ x. (x.0, x.1, x.2, says c.self.view_is c.in_ok-spot.ensures.held c.update_fn-bound.new.held.pass.now c.update_fn-bound.ensures.stays.1 (ap (λ k. On (g.Q.Query.name k) Change) c.of.ensures) c.commit_query.ensures.answered (Done x.0 x.1) x.3))
+    (λ x. says c.self.view_is c.in_ok-spot.ensures.held c.update_fn-bound.new.held.pass.now c.update_fn-bound.ensures.stays.1 (ap (λ k. On (g.Q.Query.name k) Change) c.of.ensures) c.commit_query.ensures.answered Absent x))
