@@ -1,23 +1,28 @@
-//! What a look-up names a key by.
+//! What a call names a key by.
 ghost use Rattle.std.specs.Prelude.{◌≡◌, ◌↔◌, true};
 ghost use Rattle.ck_model.specs.Map.{Name};
-ghost use Rattle.ck_key.specs.Hashes.{text_hash};
-ghost use Rattle.ck_key.specs.KeyLaws.{text_names};
 
 use crate::key::TableKey;
 use crate::text_key::{TextKey, fnv_of};
 
 /// What a call may name a key by: the key, or what has its name without being one, as the bytes of
-/// a text. It stands where Rust has `K: Borrow<Q>`.
+/// a text. It stands where Rust has `K: Borrow<Q>`, and is passed by value.
+///
+/// A `&K` is a query for each type of keys. A `&str` and a `&[u8]` are queries for a [`TextKey`]; a
+/// text of more than 64 bytes is no key's name.
+///
+/// ```
+/// let count: Option<u64> = caller.find("word")?;
+/// ```
 pub trait Query<K: TableKey>: Copy {
-    // The name of the key that is meant.
+    // The name that is asked for.
     ghost name: { Self → Name };
 
-    /// The hash that a key of this name has.
+    /// The hash of a key of this name.
     fn hash64(&self) -> u64
         ensures { result ≡ K.hash (name self.now) };
 
-    /// Whether it is this key's name.
+    /// Whether the key has this name.
     fn is_name_of(&self, key: &K) -> bool
         ensures { (result ≡ true) ↔ (K.name key.now ≡ name self.now) };
 }
