@@ -38,6 +38,10 @@ module _ {V : Type 0} where
   abbrev pub map_of : LockedState V → Map V
   map_of l = bindings (contents_of l.pass.stripes)
 
+  -- the power as it is
+  abbrev pub locked_power : LockedState V → ℕ
+  locked_power l = power_of (contents_of l.pass.stripes)
+
   -- The pass of a caller holds all stripes, settled. What they contain is lawful, with a power not below that of when they were taken.
   pub record IsLocked (hash : Name → ℕ) (w : WordsState) (p : PassState V) : Type 0 where
     pub own : IsPassOf w p

@@ -68,7 +68,7 @@ impl<K: TableKey + Drop, V: Drop> Table<K, V> {
 }
 
 // The least power of at least 1 with which a table has `n` slots.
-fn least_power(n: u64) -> u32
+pub(crate) fn least_power(n: u64) -> u32
     ensures { IsLeastPower n result }
 {
     for power in 1..62 {
@@ -81,13 +81,14 @@ fn least_power(n: u64) -> u32
 
 // Doubles a table of 2^s stripes until it has 2^power buckets, and says whether it had fewer. The
 // last doubling is left to be carried out.
-fn double_to<K: TableKey + Drop, V: Drop, H: Held<Stripe<K, V>>>(
+pub(crate) fn double_to<K: TableKey + Drop, V: Drop, H: Held<Stripe<K, V>>>(
     held: &mut H,
     s: u32,
     power: u32,
 ) -> Result<bool, AllocError>
     requires table { IsTable s (H.stripes held.old) }
     requires power { power ≤ 26 }
+    ensures table { IsTable s (H.stripes held.new) }
     ensures no_call { (max : ℕ) → power ≤ max
         → KeepsBindings (layout K.hash s max) (H.stripes held.old) (H.stripes held.new) }
     ensures reached { IfOk result (λ grown. MatchBool grown

@@ -385,7 +385,7 @@ impl<'a, 't, K: TableKey + Drop, V: Drop> IntoIterator for &'a LockedTable<'t, K
 }
 
 // The stripes, in rising order of their numbers.
-fn stripes_of<K: TableKey + Drop, V: Drop>(whole: &Whole<K, V>) -> &[Stripe<K, V>]
+pub(crate) fn stripes_of<K: TableKey + Drop, V: Drop>(whole: &Whole<K, V>) -> &[Stripe<K, V>]
     ensures { result.now ≡ whole.now.stripes }
 {
     whole.stripes.as_slice()

@@ -1,0 +1,106 @@
+//! The size of a locked table, and how it grows.
+ghost use Rattle.std.specs.Prelude.{◌≡◌, ◌*◌, ◌^◌, ◌<◌, ◌≤◌, ℕ, IfOk, OnErr, MatchBool};
+ghost use Rattle.ck_model.specs.Contents.{layout};
+ghost use Rattle.ck_section.specs.Whole.{AreAllHeld};
+ghost use Rattle.ck_section.specs.Room.{power_in, KeepsBindings};
+ghost use Rattle.cuckoo_map.specs.Growth.{RehashesLocked, ReservesLocked};
+ghost use Rattle.cuckoo_map.specs.Locking.{locked_power};
+
+use crate::growth::{double_to, least_power};
+use crate::locked::{LockedTable, stripes_of};
+use crate::refusal::GrowFault;
+use ck_key::TableKey;
+use ck_model::settings::Settings;
+use ck_section::settle_all;
+use ck_words::Whole;
+use std::alloc::AllocError;
+
+impl<'t, K: TableKey + Drop, V: Drop> LockedTable<'t, K, V> {
+    /// The power: the table has 2^power buckets of four slots.
+    ///
+    /// ```
+    /// let power: u32 = locked.power();
+    /// ```
+    pub fn power(&self) -> u32
+        ensures value { result ≡ locked_power self.now }
+        ensures within { (self.now.table.settings.power ≤ result)
+            × (result ≤ self.now.table.settings.max) }
+    {
+        stripes_of(&self.whole)[0].power()
+    }
+
+    /// How many slots the table has, four in each bucket.
+    ///
+    /// ```
+    /// let free: u64 = locked.capacity() - locked.len();
+    /// ```
+    pub fn capacity(&self) -> u64
+        ensures { result ≡ 4 * 2 ^ locked_power self.now }
+    {
+        let table = self.table;
+        table.words.show_range();
+        4 << self.power()
+    }
+
+    /// Doubles the table until it has 2^power buckets, and says whether it had fewer. It changes no
+    /// binding. The load doesn't matter.
+    ///
+    /// It is refused as `OverMax` exactly where `power` is above the greatest one that the table
+    /// was opened with, and then nothing changes. Refused as `Memory`, it may have doubled the
+    /// table some times, and the table has fewer buckets than it was to have. It is never refused
+    /// as `Busy`, and the table stays locked.
+    ///
+    /// ```
+    /// let power: u32 = locked.power();
+    /// let grown: bool = locked.rehash(power + 1)?;
+    /// ```
+    pub fn rehash(&mut self, power: u32) -> Result<bool, GrowFault>
+        ensures { RehashesLocked power result self.old self.new }
+    {
+        let table = self.table;
+        let Settings { s, max, .. } = table.words.settings();
+        if max < power {
+            return Err(GrowFault::OverMax);
+        }
+        match double_in(&mut self.whole, s, power) {
+            Ok(grown) => Ok(grown),
+            Err(_) => Err(GrowFault::Memory),
+        }
+    }
+
+    /// Doubles the table until it has `n` slots, four in each bucket, and says whether it had
+    /// fewer. It is `rehash` to the least power of at least 1 that is enough.
+    ///
+    /// ```
+    /// let grown: bool = locked.reserve(1_000_000)?;
+    /// ```
+    pub fn reserve(&mut self, n: u64) -> Result<bool, GrowFault>
+        ensures { ReservesLocked n result self.old self.new }
+    {
+        self.rehash(least_power(n))
+    }
+}
+
+// Doubles a table of 2^s stripes until it has 2^power buckets, and says whether it had fewer. All
+// stripes are settled then.
+fn double_in<K: TableKey + Drop, V: Drop>(
+    whole: &mut Whole<K, V>,
+    s: u32,
+    power: u32,
+) -> Result<bool, AllocError>
+    requires held { AreAllHeld s whole.old.stripes }
+    requires power { power ≤ 26 }
+    ensures held { AreAllHeld s whole.new.stripes }
+    ensures no_call { (max : ℕ) → power ≤ max
+        → KeepsBindings (layout K.hash s max) whole.old.stripes whole.new.stripes }
+    ensures reached { IfOk result (λ grown. MatchBool grown
+        ((power_in whole.old.stripes < power) × (power_in whole.new.stripes ≡ power))
+        ((power ≤ power_in whole.old.stripes) × (whole.new.stripes ≡ whole.old.stripes))) }
+    ensures short { OnErr result ((power_in whole.old.stripes < power)
+        × (power_in whole.new.stripes < power)) }
+    ensures same { whole.new ≡ record whole.old { stripes = whole.new.stripes } }
+{
+    let grown = double_to(whole, s, power);
+    settle_all(whole);
+    grown
+}
