@@ -40,6 +40,7 @@ mod insertions;
 mod key_pairs;
 mod key_room;
 mod locked;
+mod locked_changes;
 mod locked_growth;
 mod look_ups;
 mod pairs;

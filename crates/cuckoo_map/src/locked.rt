@@ -169,7 +169,7 @@ impl<'t, K: TableKey + Drop, V: Drop> LockedTable<'t, K, V> {
     }
 
     // Makes the insertion of the entry of the key.
-    fn put<I: Insertion<K, V>>(
+    pub(crate) fn put<I: Insertion<K, V>>(
         &mut self,
         key: K,
         value: I::Value,
@@ -280,7 +280,7 @@ impl<'t, K: TableKey + Drop, V: Drop> LockedTable<'t, K, V> {
     }
 
     // Where the key may be among the stripes.
-    fn place<Q: Query<K>>(&self, key: Q) -> KeyPlace
+    pub(crate) fn place<Q: Query<K>>(&self, key: Q) -> KeyPlace
         ensures place { IsPlaceOf K.hash self.now.pass.stripes (Q.name key) result }
         ensures s { result.s ≡ self.now.table.settings.s }
     {

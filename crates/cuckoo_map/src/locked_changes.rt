@@ -1,0 +1,151 @@
+//! Calls of a locked table whose closure decides what becomes of the key.
+ghost use Rattle.std.specs.Prelude.{◌≡◌, ◌⊎◌, Some, None, Ok, Err, IfOk, IfErr, MatchOption, MatchBool, MatchResult};
+ghost use Rattle.std.specs.Fn.{FnOnceReturnsAt};
+ghost use Rattle.ck_model.specs.declared.history.Act.TheVariants.{Find, Insert, Change};
+ghost use Rattle.ck_model.specs.declared.history.Reply.TheVariants.{New, Was, Done, Absent};
+ghost use Rattle.ck_section.specs.Uprasing.{IsUprased};
+ghost use Rattle.cuckoo_map.specs.Locking.{HasActed, LacksRoom};
+
+use crate::entries;
+use crate::locked::LockedTable;
+use crate::refusal::Refused;
+use ck_key::TableKey;
+use ck_section::{Uprased, replace_if, try_update};
+use std::marker::PhantomData;
+
+impl<'t, K: TableKey + Drop, V: Drop> LockedTable<'t, K, V> {
+    /// Binds an unbound key to what the closure makes, and says whether it was unbound. A bound key
+    /// keeps its value, and then the closure is not called and is dropped.
+    ///
+    /// Room for an unbound key is made as `insert` makes it. Refused, it changes no binding and
+    /// hands key and closure back, which was not called: as `Memory`, `Full` or `LoadTooLow`, and
+    /// never as `Busy`. The table stays locked.
+    ///
+    /// ```
+    /// let fresh: bool = locked.insert_with(NumKey(5), || 50).map_err(|refused| refused.why)?;
+    /// ```
+    pub fn insert_with<F: FnOnce() -> V>(&mut self, key: K, f: F) -> Result<bool, Refused<K, F>>
+    where
+        F: Drop,
+        requires call { F.IsAlwaysCallable f }
+        ensures answered { IfOk result (λ fresh. MatchBool fresh
+            ((w : V) × F.post f w × HasActed (K.name key) (Insert w) New self.old self.new)
+            ((v : V) × HasActed (K.name key) Find (Was (Some v)) self.old self.new)) }
+        ensures refused { IfErr result (λ e. (e.key ≡ key) × (e.value ≡ f)
+            × LacksRoom K.hash (K.name key) e.why self.old self.new) }
+    {
+        self.put(key, f, entries::InsertWith(PhantomData))
+    }
+
+    /// The value of the key. An unbound one is bound to what the closure makes; for a bound one the
+    /// closure is not called and is dropped.
+    ///
+    /// Room for an unbound key is made as `insert` makes it. Refused, it changes no binding and
+    /// hands key and closure back, which was not called: as `Memory`, `Full` or `LoadTooLow`, and
+    /// never as `Busy`. The table stays locked.
+    ///
+    /// ```
+    /// let value: u64 = locked
+    ///     .get_or_insert_with(NumKey(5), || 50)
+    ///     .map_err(|refused| refused.why)?;
+    /// ```
+    pub fn get_or_insert_with<F: FnOnce() -> V>(&mut self, key: K, f: F) -> Result<V, Refused<K, F>>
+    where
+        V: Copy,
+        F: Drop,
+        requires call { F.IsAlwaysCallable f }
+        ensures answered { IfOk result (λ v.
+            (F.post f v × HasActed (K.name key) (Insert v) New self.old self.new)
+            ⊎ HasActed (K.name key) Find (Was (Some v)) self.old self.new) }
+        ensures refused { IfErr result (λ e. (e.key ≡ key) × (e.value ≡ f)
+            × LacksRoom K.hash (K.name key) e.why self.old self.new) }
+    {
+        self.put(key, f, entries::GetOrInsertWith(PhantomData))
+    }
+
+    /// Binds an unbound key to the value. A bound one is bound to what the closure makes of its
+    /// value, or unbound where the closure makes nothing. Of closure and value the one that isn't
+    /// used is dropped.
+    ///
+    /// Room for an unbound key is made as `insert` makes it. Refused, it changes no binding, drops
+    /// the closure and hands key and value back: as `Memory`, `Full` or `LoadTooLow`, and never as
+    /// `Busy`. The table stays locked.
+    ///
+    /// ```
+    /// let count_down = |left: u64| left.checked_sub(1);
+    /// let uprased: Uprased = locked.uprase(NumKey(5), count_down, 50)?;
+    /// ```
+    pub fn uprase<F: FnOnce(V) -> Option<V>>(
+        &mut self,
+        key: K,
+        f: F,
+        value: V,
+    ) -> Result<Uprased, Refused<K, V>>
+    where
+        F: Drop,
+        requires call { F.IsAlwaysCallable f }
+        ensures answered { IfOk result (IsUprased (F.post f) value
+            (λ act reply. HasActed (K.name key) act reply self.old self.new)) }
+        ensures refused { IfErr result (λ e. (e.key ≡ key) × (e.value ≡ value)
+            × LacksRoom K.hash (K.name key) e.why self.old self.new) }
+    {
+        self.put(key, value, entries::Uprase(f))
+    }
+
+    /// Binds a bound key to what the closure makes of its value, where it makes one, and says
+    /// whether it did: `Some(false)` where it made none, and then nothing changes; `None` where the
+    /// key is unbound, and then the closure is not called.
+    ///
+    /// ```
+    /// let taken: Option<bool> = locked.replace_if(&NumKey(5), |left: &u64| left.checked_sub(1));
+    /// ```
+    pub fn replace_if<F: FnOnce(&V) -> Option<V>>(&mut self, key: &K, f: F) -> Option<bool>
+    where
+        F: Drop,
+        requires call { F.IsAlwaysCallable f }
+        ensures { MatchOption result
+            (HasActed (K.name key.now) Find (Was None) self.old self.new)
+            (λ replaced. (v : V) × MatchBool replaced
+            ((w : V) × FnOnceReturnsAt F.FnOnce f v (Some w)
+            × HasActed (K.name key.now) Change (Done v w) self.old self.new)
+            (FnOnceReturnsAt F.FnOnce f v None
+            × HasActed (K.name key.now) Find (Was (Some v)) self.old self.new)) }
+    {
+        let place = self.place(key);
+        let replaced = replace_if(&mut self.whole, place, key, f);
+        replaced.ok()
+    }
+
+    /// Binds a bound key to the value that the closure gives back for its value, and gives the
+    /// closure's error, if it fails; `None` where the key is unbound, and then the closure is not
+    /// called. It is for values that own memory: a closure that fails by giving back the value that
+    /// it got changes nothing.
+    ///
+    /// ```
+    /// // The values are of type `Vec<u64>`. Where there is no memory for one more number, the key
+    /// // keeps its list, and the number comes back.
+    /// let pushed: Option<Result<(), u64>> =
+    ///     locked.try_update(&NumKey(5), |mut list| match list.push(51) {
+    ///         Ok(()) => Ok(list),
+    ///         Err(refused) => Err((list, refused.value)),
+    ///     });
+    /// ```
+    pub fn try_update<E, F: FnOnce(V) -> Result<V, (V, E)>>(
+        &mut self,
+        key: &K,
+        f: F,
+    ) -> Option<Result<(), E>>
+    where
+        F: Drop,
+        requires call { F.IsAlwaysCallable f }
+        ensures { MatchOption result
+            (HasActed (K.name key.now) Change Absent self.old self.new)
+            (λ outcome. (v w : V)
+            × MatchResult outcome (λ _. F.post f v (Ok w)) (λ e. F.post f v (Err (w, e)))
+            × HasActed (K.name key.now) Change (Done v w) self.old self.new) }
+    {
+        let place = self.place(key);
+        let outcome = try_update(&mut self.whole, place, key, f);
+        outcome.ok()
+    }
+}
