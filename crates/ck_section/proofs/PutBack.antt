@@ -1,10 +1,12 @@
 -- An entry is taken out of its slot, and put back with another value.
-use Rattle.std.proofs.Common.{◌≡◌, inl, ℕ, List, Option, Some, None, refl, sym, ◌∙◌, ap, subst}
+use Rattle.std.proofs.Common.{◌≡◌, inl, ℕ, List, Option, Some, None, Bool, false, Result, Ok, Err, MatchResult, refl, sym, ◌∙◌, ap, subst}
 use Rattle.std.proofs.lemmas.Option.{some_pair_parts}
 use Rattle.ck_model.specs.Arithmetic.{partial_of}
 use Rattle.ck_model.specs.declared.history.Act.{Act}
+use Rattle.ck_model.specs.declared.history.Act.TheVariants.{Upsert}
 use Rattle.ck_model.specs.declared.history.Call.TheVariants.{On}
 use Rattle.ck_model.specs.declared.history.Reply.{Reply}
+use Rattle.ck_model.specs.declared.history.Reply.TheVariants.{Done}
 use Rattle.ck_model.specs.Map.{Name, Answers}
 use Rattle.ck_model.specs.Contents.{Layout, layout, Lawful}
 use Rattle.ck_model.specs.Sections.{Section}
@@ -15,6 +17,7 @@ use Rattle.ck_section.specs.Stripes.{stripe_at, contents_of, IsInReach}
 use Rattle.ck_section.specs.Places.{IsPlaceOf, IsSlotOf, slot_in}
 use Rattle.ck_section.specs.Entries.{IsOccupied}
 use Rattle.ck_section.specs.Calls.{ChangesContents}
+use Rattle.ck_section.specs.Uprasing.{TriesUpsert}
 use Rattle.ck_section.proofs.Found.{owns, changes_on}
 use Rattle.ck_section.proofs.Decided.{IsCallOn, freed, s_at}
 use Rattle.ck_section.proofs.Rebinding.{Rebinding, power_on, keeps_s, keeps_reach, keeps_slot, removing, placing}
@@ -94,3 +97,9 @@ module _ {V : Type 0} (hash : Name → ℕ) (stripes : List (StripeState V)) (q 
 
       pub put_back : IsCallOn hash place.s stripes q act reply two
       put_back = subst (λ (l : List (StripeState V)). IsCallOn hash place.s stripes q act reply l) (sym from_two) section
+
+-- what an upsert of a bound name has done, by what its closure made and how that ended
+pub tried_upsert : {V E : Type 0} (makes : V → Result V (V × E) → Type 0) (value : V) (P : Act V → Reply V → Type 0) (v w : V) (made : Result V (V × E)) (outcome : Result (Unit {0}) E) (answer : Result Bool E)
+    → MatchResult outcome (λ _. made ≡ Ok w) (λ e. made ≡ Err (w, e)) → MatchResult outcome (λ _. answer ≡ Ok false) (λ e. answer ≡ Err e) → makes v made → P (Upsert value) (Done v w) → TriesUpsert makes value P answer
+tried_upsert makes value P v w made (Ok done) answer is said so h = subst (TriesUpsert makes value P) (sym said) (v, w, subst (makes v) is so, h)
+tried_upsert makes value P v w made (Err e) answer is said so h = subst (TriesUpsert makes value P) (sym said) (v, w, subst (makes v) is so, h)

@@ -30,7 +30,7 @@ pub use listing::{entries, export, pour_all};
 pub use look::{key_place, sketch};
 pub use one_key::{
     Uprased, erase, erase_fn, fill, find, insert, insert_or_assign, read_entry, replace_if,
-    try_update, update, update_fn, uprase, upsert,
+    try_update, try_upsert, update, update_fn, uprase, upsert,
 };
 pub use one_stripe::{is_settled, power};
 pub use place::{HeldBucket, HeldSlot, KeyPlace};

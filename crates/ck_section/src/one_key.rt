@@ -1,6 +1,6 @@
 //! Calls on one key, whose two buckets are held. Each looks into a bucket once, and compares keys
 //! of one partial alone.
-ghost use Rattle.std.specs.Prelude.{◌≡◌, Some, None, Ok, Err, IfSome, IfNone, IfOk, IfErr, OnErr, MatchBool, MatchResult, if◌then◌else◌};
+ghost use Rattle.std.specs.Prelude.{◌≡◌, false, Some, None, Ok, Err, IfSome, IfNone, IfOk, IfErr, OnErr, MatchBool, MatchResult, if◌then◌else◌};
 ghost use Rattle.std.specs.Bool.{OnFalse};
 ghost use Rattle.std.specs.Fn.{FnOnceReturnsAt};
 ghost use Rattle.ck_model.specs.declared.history.Act.{Act};
@@ -11,7 +11,7 @@ ghost use Rattle.ck_model.specs.Map.{Answers};
 ghost use Rattle.ck_section.specs.Places.{IsPlaceOf};
 ghost use Rattle.ck_section.specs.Entries.{IsEntryOf, IsOccupied, IsVacant};
 ghost use Rattle.ck_section.specs.Calls.{effect, IsCall, ChangesContents};
-ghost use Rattle.ck_section.specs.Uprasing.{IsUprased};
+ghost use Rattle.ck_section.specs.Uprasing.{IsUprased, TriesUpsert};
 
 use crate::entry::Entry;
 use crate::held::Held;
@@ -424,5 +424,52 @@ where
             fill(held, place, at, key, value);
             Uprased::New
         }
+    }
+}
+
+/// Binds the key of the entry to the value where it is unbound, and answers `Ok(true)`. Else it is
+/// bound to the value that the closure gives back for its value, whether it succeeds, and then the
+/// answer is `Ok(false)`, or fails with an error. Of closure and value the one that isn't used is
+/// dropped.
+#[inline(always)]
+pub fn try_upsert<
+    K: TableKey + Drop,
+    V: Drop,
+    H: Held<Stripe<K, V>>,
+    E,
+    F: FnOnce(V) -> Result<V, (V, E)>,
+>(held: &mut H, place: KeyPlace, entry: Entry, key: K, f: F, value: V) -> Result<bool, E>
+where
+    F: Drop,
+    requires place { IsPlaceOf K.hash (H.stripes held.old) (K.name key) place }
+    requires entry { IsEntryOf K.hash (H.stripes held.old) (K.name key) place entry }
+    requires call { F.IsAlwaysCallable f }
+    ensures call { TriesUpsert (F.post f) value
+        (IsCall (effect K.hash H.stripes place held.old held.new) (K.name key)) result }
+    ensures rest { ChangesContents (H.stripes held.old) (H.stripes held.new) }
+    ensures stays { H.stays held.old held.new }
+{
+    match entry {
+        Entry::Occupied(at) => {
+            let (own, old) = one_stripe::remove(held, at.index, at.bucket, at.slot);
+            let (bound, outcome) = value_and_outcome(f(old));
+            let partial = place.partial;
+            one_stripe::place(held, at.index, at.bucket, at.slot, partial, own, bound);
+            answer_of_bound(outcome)
+        }
+        Entry::Vacant(at) => {
+            fill(held, place, at, key, value);
+            Ok(true)
+        }
+    }
+}
+
+// What an upsert answers whose key was bound, and whose closure ended so.
+fn answer_of_bound<E>(outcome: Result<(), E>) -> Result<bool, E>
+    ensures { MatchResult outcome (λ _. result ≡ Ok false) (λ e. result ≡ Err e) }
+{
+    match outcome {
+        Ok(()) => Ok(false),
+        Err(error) => Err(error),
     }
 }

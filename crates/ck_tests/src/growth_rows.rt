@@ -1,7 +1,7 @@
 //! A table that grows where it is asked to.
 ghost use Rattle.std.specs.Prelude.{◌≡◌};
 
-use crate::fixtures::{NumCaller, TWO_STRIPES, open_with};
+use crate::fixtures::{NumCaller, NumLocked, TWO_STRIPES, open_with};
 use ck_key::NumKey;
 use cuckoo_map::{GrowFault, Settings};
 use std::process::Abort;
@@ -139,5 +139,37 @@ fn while_locked(rt: HostRuntime) -> Result<(), Fail> {
     locked.unlock();
     let grown = second.reserve(17);
     assert!(rt; grown == Ok(true));
+    Ok(())
+}
+
+fn grow_locked(locked: &mut NumLocked<'_>, size: Size) -> Result<bool, GrowFault> {
+    match size {
+        Power(power) => locked.rehash(power),
+        Slots(n) => locked.reserve(n),
+    }
+}
+
+/// A locked table grows as another does, and says its size.
+fn take_locked_rows(rt: &impl Abort, locked: &mut NumLocked<'_>, rows: &[Row]) {
+    for (size, want, power) in rows {
+        let grown = grow_locked(locked, *size);
+        assert!(rt; grown == *want);
+        let now = locked.power();
+        assert!(rt; now == *power);
+        let slots = locked.capacity();
+        assert!(rt; slots == 4 << now);
+    }
+}
+
+#[test]
+fn a_locked_table(rt: HostRuntime) -> Result<(), Fail> {
+    let (table, first, _, _) = open_with(rt.alloc(), TWO_STRIPES)?;
+    let mut first = table.caller(first);
+    bind_all(&rt, &mut first);
+    let Ok(mut locked) = first.lock() else {
+        return Err(Fail::from("a table that was not locked"));
+    };
+    take_locked_rows(&rt, &mut locked, &ROWS);
+    find_all(&rt, &mut locked.unlock_caller());
     Ok(())
 }

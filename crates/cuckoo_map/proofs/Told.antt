@@ -1,12 +1,12 @@
 -- Which act an insertion was, by what it answered.
-use Rattle.std.proofs.Common.{◌≡◌, ◌⊎◌, inl, inr, ⊎_elim, Bool, true, false, MatchBool, Option, Some, refl, subst}
+use Rattle.std.proofs.Common.{◌≡◌, ◌⊎◌, inl, inr, ⊎_elim, Bool, true, false, MatchBool, Option, Some, Result, Ok, Err, refl, subst}
 use Rattle.ck_model.specs.declared.history.Act.{Act}
 use Rattle.ck_model.specs.declared.history.Act.TheVariants.{Find, Insert, Upsert, Erase}
 use Rattle.ck_model.specs.declared.history.Reply.{Reply}
 use Rattle.ck_model.specs.declared.history.Reply.TheVariants as replies
 use Rattle.ck_section.specs.declared.one_key.Uprased.{Uprased}
 use Rattle.ck_section.specs.declared.one_key.Uprased.TheVariants.{New, Changed, Erased}
-use Rattle.ck_section.specs.Uprasing.{IsUprased}
+use Rattle.ck_section.specs.Uprasing.{IsUprased, TriesUpsert}
 
 -- the act that is committed, where an uprase with this value answers so
 abbrev pub uprase_act : {V : Type 0} → V → Uprased → Act V
@@ -46,3 +46,18 @@ module _ {V : Type 0} (P : Act V → Reply V → Type 0) where
     uprased New h = (replies.New, (refl, refl), h)
     uprased Changed h = (replies.Done h.0 h.1, (h.0, h.1, h.2, (refl, refl)), h.3)
     uprased Erased h = (replies.Was (Some h.0), (h.0, h.1, (refl, refl)), h.2)
+
+  -- an upsert whose closure may fail, and makes so
+  module _ {E : Type 0} (makes : V → Result V (V × E) → Type 0) (value : V) where
+    abbrev pub TellsTried : Result Bool E → Act V → Reply V → Type 0
+    TellsTried answer act reply = TriesUpsert makes value (λ a r. (act ≡ a) × (reply ≡ r)) answer
+
+    pub as_tried : (answer : Result Bool E) (act : Act V) (reply : Reply V) → TellsTried answer act reply → P act reply → TriesUpsert makes value P answer
+    as_tried (Ok true) act reply told h = as_said told h
+    as_tried (Ok false) act reply told h = (told.0, told.1, told.2, as_said told.3 h)
+    as_tried (Err e) act reply told h = (told.0, told.1, told.2, as_said told.3 h)
+
+    pub tried : (answer : Result Bool E) → TriesUpsert makes value P answer → (reply : Reply V) × TellsTried answer (Upsert value) reply × P (Upsert value) reply
+    tried (Ok true) h = (replies.New, (refl, refl), h)
+    tried (Ok false) h = (replies.Done h.0 h.1, (h.0, h.1, h.2, (refl, refl)), h.3)
+    tried (Err e) h = (replies.Done h.0 h.1, (h.0, h.1, h.2, (refl, refl)), h.3)

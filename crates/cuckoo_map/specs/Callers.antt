@@ -8,7 +8,7 @@ use Rattle.ck_model.specs.declared.history.Reply.{Reply}
 use Rattle.ck_model.specs.declared.history.Reply.TheVariants.{Was, New, Old, Done, DoneTwo, Absent, Count}
 use Rattle.ck_model.specs.Map.{Name}
 use Rattle.ck_section.specs.declared.one_key.Uprased.{Uprased}
-use Rattle.ck_section.specs.Uprasing.{IsUprased}
+use Rattle.ck_section.specs.Uprasing.{IsUprased, TriesUpsert}
 use Rattle.ck_words.specs.Words.{WordsState}
 use Rattle.ck_words.specs.Passes.{PassState}
 use Rattle.ck_words.specs.Retries.{FindsAmong}
@@ -85,6 +85,10 @@ module _ {V : Type 0} where
   -- the name was bound to the value where it was unbound, and else to what the closure made of its value, or unbound where it made nothing
   abbrev pub Uprases : (V → Option V → Type 0) → Name → V → CallerState V → CallerState V → Uprased → Type 0
   Uprases makes q value c d = IsUprased makes value (λ act reply. RepliesInserting q act reply c d)
+
+  -- the name was bound to the value where it was unbound, and else to the value that the closure gave back, whether the closure succeeded or failed with this error
+  abbrev pub TriesUpserting : {E : Type 0} → (V → Result V (V × E) → Type 0) → Name → V → CallerState V → CallerState V → Result Bool E → Type 0
+  TriesUpserting makes q value c d = TriesUpsert makes value (λ act reply. RepliesInserting q act reply c d)
 
   -- the name was bound to the value, in place of this, where it was bound
   abbrev pub Updates : Name → V → CallerState V → CallerState V → Option V → Type 0

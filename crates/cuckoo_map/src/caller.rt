@@ -76,7 +76,7 @@ impl<'t, K: TableKey + Drop, V: Drop> Caller<'t, K, V> {
     ghost use Rattle.cuckoo_map.specs.Callers.{IsBusyOn, IsBusyOnTwo, IsBusyOnSome, FindsHeldAmong, ComesBack};
     ghost use Rattle.ck_words.specs.Retries.{Stays};
     ghost use Rattle.cuckoo_map.specs.Callers.{Counts, GrowsTo, GrowsFor, IsBusyOnAny, FindsHeldOfAny};
-    ghost use Rattle.cuckoo_map.specs.Callers.{InsertsBy, ClosureComesBack, Uprases, FindsOrInserts};
+    ghost use Rattle.cuckoo_map.specs.Callers.{InsertsBy, ClosureComesBack, Uprases, FindsOrInserts, TriesUpserting};
     ghost use Rattle.cuckoo_map.specs.Locking.{HasLocked};
 
     /// The table.
@@ -211,6 +211,43 @@ impl<'t, K: TableKey + Drop, V: Drop> Caller<'t, K, V> {
         ensures found { FindsHeldUnlessFull K.hash (K.name key) self.old self.new }
     {
         self.table.upsert(&mut self.pass, key, f, value)
+    }
+
+    /// Binds an unbound key to the value, and answers `Ok(true)`. A bound one is bound to the value
+    /// that the closure gives back for its value: the answer is `Ok(false)` where it succeeds, and
+    /// its error where it fails. It is for values that own memory: a closure that fails by giving
+    /// back the value that it got changes nothing. The table may grow for it. Refused, it changes
+    /// no binding, drops the closure and hands key and value back. It is `Table::try_upsert`.
+    ///
+    /// ```
+    /// // The values are of type `Vec<u64>`. Where there is no memory for one more number, the key
+    /// // keeps its list, and the number comes back.
+    /// let push = |mut list: Vec<u64>| match list.push(51) {
+    ///     Ok(()) => Ok(list),
+    ///     Err(refused) => Err((list, refused.value)),
+    /// };
+    /// match caller.try_upsert(NumKey(5), push, vec![in alloc; 51]?)? {
+    ///     Ok(fresh) => println!(rt; "{}", if fresh { "a new list" } else { "pushed" })?,
+    ///     Err(number) => println!(rt; "no memory for {number}")?,
+    /// }
+    /// ```
+    #[inline(always)]
+    pub fn try_upsert<E, F: FnOnce(V) -> Result<V, (V, E)>>(
+        &mut self,
+        key: K,
+        f: F,
+        value: V,
+    ) -> Result<Result<bool, E>, Refused<K, V>>
+    where
+        F: Drop,
+        requires call { F.IsAlwaysCallable f }
+        ensures same { IsSameCaller self.old self.new }
+        ensures answered { IfOk result (
+            TriesUpserting (F.post f) (K.name key) value self.old self.new) }
+        ensures refused { IfErr result (ComesBack K.hash (K.name key) key value self.old self.new) }
+        ensures found { FindsHeldUnlessFull K.hash (K.name key) self.old self.new }
+    {
+        self.table.try_upsert(&mut self.pass, key, f, value)
     }
 
     /// Binds an unbound key to what the closure makes, and says whether it was unbound. Where the

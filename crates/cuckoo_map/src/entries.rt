@@ -10,7 +10,8 @@ ghost use Rattle.ck_words.specs.Commits.{call_of};
 
 use ck_key::TableKey;
 use ck_section::{
-    Entry, Held, KeyPlace, Uprased, fill, insert, insert_or_assign, read_entry, uprase, upsert,
+    Entry, Held, KeyPlace, Uprased, fill, insert, insert_or_assign, read_entry, try_upsert, uprase,
+    upsert,
 };
 use ck_stripe::Stripe;
 use ck_words::Commit;
@@ -147,6 +148,42 @@ where
     ) -> (bool, Commit<K, V>) {
         let said = Commit::Upsert(Snapshot::of(&key), Snapshot::of(&value));
         (upsert(held, place, entry, key, self.0, value), said)
+    }
+}
+
+// Binds an unbound key to the value, and a bound one to the value that the closure gives back for
+// its value, whether it succeeds or fails.
+#[derive(Drop)]
+pub(crate) struct TryUpsert<F>(pub(crate) F);
+
+impl<K: TableKey + Drop, V: Drop, E, F: FnOnce(V) -> Result<V, (V, E)>> Insertion<K, V>
+    for TryUpsert<F>
+where
+    F: Drop,
+{
+    ghost use Rattle.std.specs.Prelude.{◌≡◌};
+    ghost use Rattle.ck_section.specs.Uprasing.{TriesUpsert};
+
+    type Value = V;
+
+    type Answer = Result<bool, E>;
+
+    ghost tells = { λ u value answer act reply.
+        TriesUpsert (F.post u.0) value (λ a r. (act ≡ a) × (reply ≡ r)) answer };
+
+    ghost can_make = { λ u _. F.IsAlwaysCallable u.0 };
+
+    #[inline(always)]
+    fn make<H: Held<Stripe<K, V>>>(
+        self,
+        held: &mut H,
+        place: KeyPlace,
+        entry: Entry,
+        key: K,
+        value: V,
+    ) -> (Result<bool, E>, Commit<K, V>) {
+        let said = Commit::Upsert(Snapshot::of(&key), Snapshot::of(&value));
+        (try_upsert(held, place, entry, key, self.0, value), said)
     }
 }
 

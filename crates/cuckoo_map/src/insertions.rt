@@ -4,7 +4,7 @@ ghost use Rattle.ck_model.specs.declared.history.Act.{Act};
 ghost use Rattle.ck_model.specs.declared.history.Act.TheVariants.{Find, Insert, Assign, Upsert};
 ghost use Rattle.ck_model.specs.declared.history.Reply.{Reply};
 ghost use Rattle.ck_model.specs.declared.history.Reply.TheVariants.{Was, New, Old, Done};
-ghost use Rattle.ck_section.specs.Uprasing.{IsUprased};
+ghost use Rattle.ck_section.specs.Uprasing.{IsUprased, TriesUpsert};
 ghost use Rattle.ck_words.specs.Closing.{IsCaller};
 ghost use Rattle.ck_words.specs.Passes.{IsPassOf, IsUnchanged, numbers_of};
 ghost use Rattle.ck_words.specs.StripeNumbers.{own_numbers};
@@ -107,6 +107,45 @@ impl<K: TableKey + Drop, V: Drop> Table<K, V> {
         ensures found { FindsOwnUnlessFull K.hash self.now.settings (K.name key) pass.old pass.new }
     {
         self.place(pass, key, value, entries::Upsert(f))
+    }
+
+    /// Binds an unbound key to the value, and answers `Ok(true)`. A bound one is bound to the value
+    /// that the closure gives back for its value: the answer is `Ok(false)` where it succeeds, and
+    /// its error where it fails. A closure that fails by giving back the value that it got changes
+    /// nothing. Of closure and value the one that isn't used is dropped. The closure runs while the
+    /// key's stripes are held.
+    ///
+    /// Where both buckets of an unbound key are full, other entries are displaced to make room, and
+    /// where that is of no avail the table doubles, under all stripes; neither changes a binding.
+    ///
+    /// Refused, it changes no binding, drops the closure and hands key and value back: as `Busy`,
+    /// or where no displacement makes room and the table doesn't grow, as `Full` at its greatest
+    /// power, as `LoadTooLow` where too few slots are taken, or as `Memory`. The table may have
+    /// grown all the same.
+    ///
+    /// ```
+    /// let count_up = |count: u64| count.checked_add(1).ok_or((count, "too many"));
+    /// let counted = table.try_upsert(&mut pass, NumKey(5), count_up, 1)?;
+    /// ```
+    pub fn try_upsert<E, F: FnOnce(V) -> Result<V, (V, E)>>(
+        &self,
+        pass: &mut Pass<K, V>,
+        key: K,
+        f: F,
+        value: V,
+    ) -> Result<Result<bool, E>, Refused<K, V>>
+    where
+        F: Drop,
+        requires caller { IsCaller self.now pass.old }
+        requires call { F.IsAlwaysCallable f }
+        ensures caller { IsCaller self.now pass.new }
+        ensures answered { IfOk result (TriesUpsert (F.post f) value
+            (λ act reply. IsInserted (K.name key) act reply pass.old pass.new)) }
+        ensures refused { IfErr result (λ e. (e.key ≡ key) × (e.value ≡ value)
+            × IsRefused K.hash self.now.settings (K.name key) e.why pass.old pass.new) }
+        ensures found { FindsOwnUnlessFull K.hash self.now.settings (K.name key) pass.old pass.new }
+    {
+        self.place(pass, key, value, entries::TryUpsert(f))
     }
 
     /// Binds an unbound key to what the closure makes, and says whether it was unbound. A bound key

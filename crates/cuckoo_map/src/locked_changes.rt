@@ -3,7 +3,7 @@ ghost use Rattle.std.specs.Prelude.{◌≡◌, ◌⊎◌, Some, None, Ok, Err, I
 ghost use Rattle.std.specs.Fn.{FnOnceReturnsAt};
 ghost use Rattle.ck_model.specs.declared.history.Act.TheVariants.{Find, Insert, Change};
 ghost use Rattle.ck_model.specs.declared.history.Reply.TheVariants.{New, Was, Done, Absent};
-ghost use Rattle.ck_section.specs.Uprasing.{IsUprased};
+ghost use Rattle.ck_section.specs.Uprasing.{IsUprased, TriesUpsert};
 ghost use Rattle.cuckoo_map.specs.Locking.{HasActed, LacksRoom};
 
 use crate::entries;
@@ -90,6 +90,36 @@ impl<'t, K: TableKey + Drop, V: Drop> LockedTable<'t, K, V> {
             × LacksRoom K.hash (K.name key) e.why self.old self.new) }
     {
         self.put(key, value, entries::Uprase(f))
+    }
+
+    /// Binds an unbound key to the value, and answers `Ok(true)`. A bound one is bound to the value
+    /// that the closure gives back for its value: the answer is `Ok(false)` where it succeeds, and
+    /// its error where it fails. A closure that fails by giving back the value that it got changes
+    /// nothing. Of closure and value the one that isn't used is dropped.
+    ///
+    /// Room for an unbound key is made as `insert` makes it. Refused, it changes no binding, drops
+    /// the closure and hands key and value back: as `Memory`, `Full` or `LoadTooLow`, and never as
+    /// `Busy`. The table stays locked.
+    ///
+    /// ```
+    /// let count_up = |count: u64| count.checked_add(1).ok_or((count, "too many"));
+    /// let counted: Result<bool, &str> = locked.try_upsert(NumKey(5), count_up, 1)?;
+    /// ```
+    pub fn try_upsert<E, F: FnOnce(V) -> Result<V, (V, E)>>(
+        &mut self,
+        key: K,
+        f: F,
+        value: V,
+    ) -> Result<Result<bool, E>, Refused<K, V>>
+    where
+        F: Drop,
+        requires call { F.IsAlwaysCallable f }
+        ensures answered { IfOk result (TriesUpsert (F.post f) value
+            (λ act reply. HasActed (K.name key) act reply self.old self.new)) }
+        ensures refused { IfErr result (λ e. (e.key ≡ key) × (e.value ≡ value)
+            × LacksRoom K.hash (K.name key) e.why self.old self.new) }
+    {
+        self.put(key, value, entries::TryUpsert(f))
     }
 
     /// Binds a bound key to what the closure makes of its value, where it makes one, and says
