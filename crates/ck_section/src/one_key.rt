@@ -451,10 +451,17 @@ where
 {
     match entry {
         Entry::Occupied(at) => {
-            let (own, old) = one_stripe::remove(held, at.index, at.bucket, at.slot);
-            let (bound, outcome) = value_and_outcome(f(old));
-            let partial = place.partial;
-            one_stripe::place(held, at.index, at.bucket, at.slot, partial, own, bound);
+            let (own, was) = one_stripe::remove(held, at.index, at.bucket, at.slot);
+            let (bound, outcome) = value_and_outcome(f(was));
+            one_stripe::place(
+                held,
+                at.index,
+                at.bucket,
+                at.slot,
+                place.partial,
+                own,
+                bound,
+            );
             answer_of_bound(outcome)
         }
         Entry::Vacant(at) => {

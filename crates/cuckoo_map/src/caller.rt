@@ -620,3 +620,20 @@ impl<'t, K: TableKey + Drop, V: Drop> Caller<'t, K, V> {
         self.table.meet(&mut self.pass, &mut other.pass);
     }
 }
+
+/// Of a refused `Caller::lock` what it was busy with; the caller is dropped. So `?` hands it on
+/// where a function answers `Busy`, and `map_err` brings it to another error.
+///
+/// ```
+/// let locked = caller.lock().map_err(Busy::from)?;
+/// ```
+impl<'t, K: TableKey + Drop, V: Drop> From<(Caller<'t, K, V>, Busy)> for Busy {
+    ghost use Rattle.std.specs.Prelude.{◌≡◌};
+
+    ghost from_gives = { λ back busy. busy ≡ back.1 };
+
+    fn from(back: (Caller<'t, K, V>, Busy)) -> Busy {
+        let (_, busy) = back;
+        busy
+    }
+}

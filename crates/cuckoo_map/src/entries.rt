@@ -182,8 +182,8 @@ where
         key: K,
         value: V,
     ) -> (Result<bool, E>, Commit<K, V>) {
-        let said = Commit::Upsert(Snapshot::of(&key), Snapshot::of(&value));
-        (try_upsert(held, place, entry, key, self.0, value), said)
+        let commit = Commit::Upsert(Snapshot::of(&key), Snapshot::of(&value));
+        (try_upsert(held, place, entry, key, self.0, value), commit)
     }
 }
 
