@@ -9,7 +9,7 @@ ghost use Rattle.cuckoo_map.specs.Locking.{HasActed, LacksRoom};
 use crate::entries;
 use crate::locked::LockedTable;
 use crate::refusal::Refused;
-use ck_key::TableKey;
+use ck_key::{Query, TableKey};
 use ck_section::{Uprased, replace_if, try_update};
 use std::marker::PhantomData;
 
@@ -129,17 +129,21 @@ impl<'t, K: TableKey + Drop, V: Drop> LockedTable<'t, K, V> {
     /// ```
     /// let taken: Option<bool> = locked.replace_if(&NumKey(5), |left: &u64| left.checked_sub(1));
     /// ```
-    pub fn replace_if<F: FnOnce(&V) -> Option<V>>(&mut self, key: &K, f: F) -> Option<bool>
+    pub fn replace_if<Q: Query<K>, F: FnOnce(&V) -> Option<V>>(
+        &mut self,
+        key: Q,
+        f: F,
+    ) -> Option<bool>
     where
         F: Drop,
         requires call { F.IsAlwaysCallable f }
         ensures { MatchOption result
-            (HasActed (K.name key.now) Find (Was None) self.old self.new)
+            (HasActed (Q.name key) Find (Was None) self.old self.new)
             (λ replaced. (v : V) × MatchBool replaced
             ((w : V) × FnOnceReturnsAt F.FnOnce f v (Some w)
-            × HasActed (K.name key.now) Change (Done v w) self.old self.new)
+            × HasActed (Q.name key) Change (Done v w) self.old self.new)
             (FnOnceReturnsAt F.FnOnce f v None
-            × HasActed (K.name key.now) Find (Was (Some v)) self.old self.new)) }
+            × HasActed (Q.name key) Find (Was (Some v)) self.old self.new)) }
     {
         let place = self.place(key);
         let replaced = replace_if(&mut self.whole, place, key, f);
@@ -160,19 +164,19 @@ impl<'t, K: TableKey + Drop, V: Drop> LockedTable<'t, K, V> {
     ///         Err(refused) => Err((list, refused.value)),
     ///     });
     /// ```
-    pub fn try_update<E, F: FnOnce(V) -> Result<V, (V, E)>>(
+    pub fn try_update<Q: Query<K>, E, F: FnOnce(V) -> Result<V, (V, E)>>(
         &mut self,
-        key: &K,
+        key: Q,
         f: F,
     ) -> Option<Result<(), E>>
     where
         F: Drop,
         requires call { F.IsAlwaysCallable f }
         ensures { MatchOption result
-            (HasActed (K.name key.now) Change Absent self.old self.new)
+            (HasActed (Q.name key) Change Absent self.old self.new)
             (λ outcome. (v w : V)
             × MatchResult outcome (λ _. F.post f v (Ok w)) (λ e. F.post f v (Err (w, e)))
-            × HasActed (K.name key.now) Change (Done v w) self.old self.new) }
+            × HasActed (Q.name key) Change (Done v w) self.old self.new) }
     {
         let place = self.place(key);
         let outcome = try_update(&mut self.whole, place, key, f);
