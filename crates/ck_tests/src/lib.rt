@@ -22,6 +22,8 @@ mod memory;
 #[cfg(test)]
 mod nested;
 #[cfg(test)]
+mod pools;
+#[cfg(test)]
 mod requests;
 #[cfg(test)]
 mod sessions;

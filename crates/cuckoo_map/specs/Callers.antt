@@ -1,12 +1,14 @@
 -- What contracts see of a caller, and what its calls leave of it.
-use Rattle.std.specs.Prelude.{◌≡◌, ◌⊎◌, ℕ, List, map, Option, Some, None, Result, Ok, Err, Bool, MatchOption, MatchBool, MatchResult, if◌then◌else◌}
+use Rattle.std.specs.Prelude.{◌≡◌, ◌⊎◌, ℕ, List, [], map, Option, Some, None, Result, Ok, Err, Bool, MatchOption, MatchBool, MatchResult, if◌then◌else◌}
+use Rattle.std.specs.declared.cmp.Ordering.{Ordering}
+use Rattle.std.specs.FinMap.{entries}
 use Rattle.ck_model.specs.declared.history.Act.{Act}
 use Rattle.ck_model.specs.declared.history.Act.TheVariants.{Find, Insert, Assign, Upsert, Update, Change, Erase}
 use Rattle.ck_model.specs.declared.history.Call.{Call}
-use Rattle.ck_model.specs.declared.history.Call.TheVariants.{On, ChangeTwo, Len}
+use Rattle.ck_model.specs.declared.history.Call.TheVariants.{On, ChangeTwo, Len, Session}
 use Rattle.ck_model.specs.declared.history.Reply.{Reply}
-use Rattle.ck_model.specs.declared.history.Reply.TheVariants.{Was, New, Old, Done, DoneTwo, Absent, Count}
-use Rattle.ck_model.specs.Map.{Name}
+use Rattle.ck_model.specs.declared.history.Reply.TheVariants.{Was, New, Old, Done, DoneTwo, Absent, Count, Closed}
+use Rattle.ck_model.specs.Map.{Name, Map, ListsInOrder}
 use Rattle.ck_section.specs.declared.one_key.Uprased.{Uprased}
 use Rattle.ck_section.specs.Uprasing.{IsUprased, TriesUpsert}
 use Rattle.ck_words.specs.Words.{WordsState}
@@ -14,6 +16,8 @@ use Rattle.ck_words.specs.Passes.{PassState}
 use Rattle.ck_words.specs.Retries.{FindsAmong}
 use Rattle.ck_words.specs.Answering.{IsAnswered}
 use Rattle.cuckoo_map.specs.declared.refusal.Busy.{Busy}
+use Rattle.cuckoo_map.specs.declared.refusal.DrainFault.{DrainFault}
+use Rattle.cuckoo_map.specs.declared.refusal.DrainFault.TheVariants as drain
 use Rattle.cuckoo_map.specs.declared.refusal.GrowFault.{GrowFault}
 use Rattle.cuckoo_map.specs.declared.refusal.Refused.{Refused}
 use Rattle.cuckoo_map.specs.Refusals.{FindsOwn, IsBusyAt, IsBusyAmong, IsStripeIn, IsStripeOfEither}
@@ -171,6 +175,15 @@ module _ {V : Type 0} where
   abbrev pub IsBusyOnAny : CallerState V → CallerState V → Busy → Type 0
   IsBusyOnAny c d busy =
       IsBusyAmong (IsStripeIn c.table.settings) c.table.settings busy.0 c.pass d.pass
+
+  -- all names were unbound in one session, and these were the pairs
+  abbrev pub Drains : {K : Type 0} → (K → Name) → (K → K → Ordering) → CallerState V → CallerState V → List (K × V) → Type 0
+  Drains name cmp c d pairs = (m : Map V) × ListsInOrder name cmp pairs m × Replies (Session (entries m) []) Closed c d
+
+  -- the pairs were not taken out: this stripe was busy, or there was no memory, and then a session changed nothing
+  abbrev pub IsNotDrained : CallerState V → CallerState V → DrainFault → Type 0
+  IsNotDrained c d (drain.Busy t) = IsBusyAmong (IsStripeIn c.table.settings) c.table.settings t c.pass d.pass
+  IsNotDrained c d drain.Memory = (m : Map V) × Replies (Session (entries m) (entries m)) Closed c d
 
   -- the insertion was refused, and key and value came back
   abbrev pub ComesBack : {K : Type 0} → (Name → ℕ) → Name → K → V → CallerState V → CallerState V → Refused K V → Type 0

@@ -57,5 +57,5 @@ pub use ck_section::{Iter, Uprased};
 pub use ck_words::Pass;
 pub use locked::LockedTable;
 pub use pool::{AllLent, NoPool, Pool};
-pub use refusal::{Busy, GrowFault, NoCallers, OpenFault, Refused, Why};
+pub use refusal::{Busy, DrainFault, GrowFault, NoCallers, OpenFault, Refused, Why};
 pub use table::Table;

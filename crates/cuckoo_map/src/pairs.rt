@@ -1,5 +1,5 @@
-//! The pairs of a locked table: how they are taken out, and how those stay that a closure keeps.
-ghost use Rattle.std.specs.Prelude.{◌≡◌, ℕ, OnOk, OnErr, IfOk};
+//! The pairs of a table: how they are taken out, and how those stay that a closure keeps.
+ghost use Rattle.std.specs.Prelude.{◌≡◌, ℕ, OnOk, OnErr, IfOk, IfErr, MatchResult};
 ghost use Rattle.ck_model.specs.Map.{ListsInOrder};
 ghost use Rattle.ck_model.specs.Contents.{layout, Lawful, bindings};
 ghost use Rattle.ck_section.specs.Stripes.{contents_of};
@@ -8,7 +8,9 @@ ghost use Rattle.ck_section.specs.Whole.{IsTable, AreSettled, ClearsBindings};
 ghost use Rattle.ck_section.specs.Retaining.{RetainsBindings};
 ghost use Rattle.cuckoo_map.specs.Locking.{map_of, Clears, Retains};
 
+use crate::caller::Caller;
 use crate::locked::LockedTable;
+use crate::refusal::DrainFault;
 use ck_key::TableKey;
 use ck_section::{drain_all, retain_all};
 use ck_words::Whole;
@@ -41,6 +43,43 @@ impl<'t, K: TableKey + Drop, V: Drop> LockedTable<'t, K, V> {
         ensures { Retains F.FnMut K.name f self.old self.new }
     {
         retain_in(&mut self.whole, f);
+    }
+}
+
+impl<'t, K: TableKey + Drop, V: Drop> Caller<'t, K, V> {
+    ghost use Rattle.cuckoo_map.specs.Callers.{IsSameCaller, Drains, IsNotDrained, FindsHeldOfAny};
+
+    /// Unbinds all keys, and gives them with their values, in rising order of the keys. It locks the
+    /// table for that, and is one entry of the history. Refused as busy or for want of memory, it
+    /// changes no binding. The caller comes back in any case.
+    ///
+    /// ```
+    /// let (caller, pairs) = caller.drain(alloc).map_err(|(_, fault)| fault)?;
+    /// ```
+    pub fn drain(
+        self,
+        alloc: Global,
+    ) -> Result<(Caller<'t, K, V>, Vec<(K, V)>), (Caller<'t, K, V>, DrainFault)>
+        ensures same { MatchResult result
+            (λ back. IsSameCaller self.entry back.0)
+            (λ back. IsSameCaller self.entry back.0) }
+        ensures drained { IfOk result (λ back.
+            Drains K.name K.cmp self.entry back.0 back.1.items) }
+        ensures refused { IfErr result (λ back. IsNotDrained self.entry back.0 back.1) }
+        ensures found { MatchResult result
+            (λ back. FindsHeldOfAny self.entry back.0)
+            (λ back. FindsHeldOfAny self.entry back.0) }
+    {
+        let mut locked = match self.lock() {
+            Ok(locked) => locked,
+            Err((caller, busy)) => return Err((caller, DrainFault::Busy(busy.0))),
+        };
+        let pairs = locked.drain(alloc);
+        let caller = locked.unlock_caller();
+        match pairs {
+            Ok(pairs) => Ok((caller, pairs)),
+            Err(_) => Err((caller, DrainFault::Memory)),
+        }
     }
 }
 

@@ -42,6 +42,17 @@ pub enum GrowFault {
     OverMax,
 }
 
+/// Why the pairs of a table were not taken out. No binding was changed.
+#[derive(Debug, Clone, Copy, PartialEq, Eq, Error)]
+pub enum DrainFault {
+    /// This stripe was found held in as many tries in a row as the settings allow.
+    #[error("stripe {0} was held in all tries: try again, or open with more turns")]
+    Busy(u32),
+    /// There is no memory for the list of the pairs.
+    #[error("no memory for the pairs of the table")]
+    Memory,
+}
+
 /// Why an entry was refused. The table may have grown all the same. A locked table refuses nothing
 /// as `Busy`.
 #[derive(Debug, Clone, Copy, PartialEq, Eq, Error)]

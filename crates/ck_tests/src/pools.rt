@@ -1,0 +1,104 @@
+//! Threads that borrow callers of a pool.
+
+use crate::fixtures::{NumCaller, NumTable, SIXTEEN_BUCKETS};
+use ck_key::NumKey;
+use cuckoo_map::{AllLent, Pool, Settings};
+use std::alloc::Global;
+use std::process::Abort;
+use std::sync::Wait;
+use std::test::Fail;
+use std::thread;
+use std::thread::Threads;
+
+type NumPool<'t> = Pool<'t, NumKey, u64>;
+
+/// How many threads borrow callers.
+const THREADS: u64 = 16;
+
+/// How many keys they have.
+const KEYS: u64 = 5;
+
+/// How often each of them adds one.
+const CALLS: u64 = 300;
+
+/// Callers of an empty table, so many of them.
+fn settings(callers: u32) -> Settings {
+    Settings {
+        turns: u32::MAX,
+        ..SIXTEEN_BUCKETS.settings(callers)
+    }
+}
+
+/// Adds one to the key by whichever caller is free, once there is one.
+fn add<R: Wait>(rt: &R, pool: &NumPool<'_>, key: u64) -> bool {
+    for _ in rt.forever() {
+        match pool.lend() {
+            Ok(mut caller) => {
+                let added = caller.upsert(NumKey(key), |count| count.saturating_add(1), 1);
+                return added.is_ok();
+            }
+            Err(AllLent) => thread::yield_now(),
+        }
+    }
+    unreachable!()
+}
+
+/// What a thread does.
+fn work<R: Wait>(rt: &R, pool: &NumPool<'_>, thread: u64) -> bool {
+    for _ in 0..CALLS {
+        if !add(rt, pool, thread % KEYS) {
+            return false;
+        }
+    }
+    true
+}
+
+/// The keys with the numbers that were added to them.
+fn check_sums(rt: &impl Abort, alloc: Global, mut callers: Vec<NumCaller<'_>>) {
+    assert!(rt; callers.len() == 4);
+    let Some(caller) = callers.pop() else {
+        panic!(rt; "no caller");
+    };
+    let Ok((_, pairs)) = caller.drain(alloc) else {
+        panic!(rt; "the pairs were not taken out");
+    };
+    // One key has four threads, and the others have three.
+    let sums = [4, 3, 3, 3, 3];
+    assert!(rt; pairs.len() == 5);
+    for ((key, sum), threads) in pairs.iter().zip(sums) {
+        assert!(rt; *sum == threads * CALLS, "{} of {}", sum, key.0);
+    }
+}
+
+/// More threads than callers add to a few keys, and no addition and no caller is lost.
+#[test]
+fn more_threads_than_callers(rt: HostRuntime) -> Result<(), Fail> {
+    let alloc = rt.alloc();
+    let (table, passes) = NumTable::open(alloc, settings(4))?;
+    let pool = Pool::new(alloc, table.callers(alloc, passes)?)?;
+    let jobs: Vec<u64> = (0..THREADS).collect(alloc)?;
+    let done = thread::map_vec(&rt, jobs, &|thread: u64| work(&rt, &pool, thread))?;
+    for all in done {
+        assert!(rt; all);
+    }
+    check_sums(&rt, alloc, pool.into_callers());
+    Ok(())
+}
+
+/// While its only caller is lent, a pool lends none; then it lends it again.
+#[test]
+fn one_caller(rt: HostRuntime) -> Result<(), Fail> {
+    let alloc = rt.alloc();
+    let (table, passes) = NumTable::open(alloc, settings(1))?;
+    let pool = Pool::new(alloc, table.callers(alloc, passes)?)?;
+    assert!(rt; pool.len() == 1);
+    let mut first = pool.lend()?;
+    assert!(rt; pool.lend().is_err());
+    let fresh = first.insert(NumKey(5), 50);
+    assert!(rt; fresh.is_ok());
+    drop(first);
+    let mut second = pool.lend()?;
+    let found = second.find(&NumKey(5));
+    assert!(rt; found == Ok(Some(50)));
+    Ok(())
+}
