@@ -107,13 +107,10 @@ fn main(rt: HostRuntime) -> Result<()> {
     open(tellers.first_mut().context("no caller")?)?;
     let mut tellers = run_all(&rt, alloc, tellers)?;
     let auditor = tellers.pop().context("no caller")?;
-    let mut bank = match auditor.lock() {
-        Ok(bank) => bank,
-        Err((_, busy)) => return Err(busy.into()),
-    };
-    let left = total(&bank);
-    let accounts = bank.drain(alloc);
-    bank.unlock();
-    println!(rt; "{left} on {} accounts", accounts?.len())?;
+    let (_, accounts) = auditor.drain(alloc).map_err(|(_, fault)| fault)?;
+    let left = accounts
+        .iter()
+        .fold(0u64, |sum, account| sum.saturating_add(account.1));
+    println!(rt; "{left} on {} accounts", accounts.len())?;
     Ok(())
 }

@@ -66,13 +66,8 @@ fn main(rt: HostRuntime) -> Result<()> {
     let mut indexers = table.callers(alloc, passes)?;
     let reader = indexers.pop().context("no caller")?;
     index_all(&rt, alloc, indexers)?;
-    let mut locked = match reader.lock() {
-        Ok(locked) => locked,
-        Err((_, busy)) => return Err(busy.into()),
-    };
-    let words = locked.drain(alloc);
-    locked.unlock();
-    for (word, mut lines) in words? {
+    let (_, words) = reader.drain(alloc).map_err(|(_, fault)| fault)?;
+    for (word, mut lines) in words {
         lines.sort_unstable();
         lines.dedup();
         let word = String::from_utf8_lossy(alloc, word.as_bytes())?;
