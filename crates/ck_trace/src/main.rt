@@ -1,0 +1,85 @@
+//! Makes the calls of a trace on a table and times them. `bench/run` has it make those that other
+//! tables are measured by.
+//!
+//! `ck_trace FILE KEYS CALLERS` reads a trace (`trace`), opens a table for so many keys and callers,
+//! and says `ready`. Then it answers each line of standard input: `run FROM TO THREADS` makes the
+//! calls from one position to another by so many threads, and `time FROM TO` by one, with the time
+//! of each.
+#![tactic(auto)]
+
+mod latencies;
+mod requests;
+mod trace;
+mod workers;
+
+use crate::trace::Call;
+use cuckoo_map::{NumKey, OpenFault, Settings, Table};
+use std::alloc::Global;
+use std::process::ExitCode;
+use std::rt::Clock;
+use std::thread::Threads;
+use std::{env, fs, io};
+
+const USAGE: &str = "ck_trace FILE KEYS CALLERS";
+
+/// A table for so many keys; the smallest one where that is 0.
+fn settings_of(keys: u64, callers: u32) -> Settings {
+    let settings = Settings::for_keys(keys.max(1), callers);
+    // A table keeps its stripes, so one that is to grow far begins with as many as it may have.
+    Settings {
+        s: 10,
+        power: settings.power.max(10),
+        ..settings
+    }
+}
+
+fn fault_error(fault: OpenFault) -> io::Error {
+    match fault {
+        OpenFault::Memory => io::ErrorKind::OutOfMemory.into(),
+        OpenFault::Settings(_) => io::ErrorKind::InvalidInput.into(),
+    }
+}
+
+/// Opens a table, and answers requests on it.
+fn serve<R: Threads + Clock + Input + Print + Sync>(
+    rt: &R,
+    alloc: Global,
+    calls: &[Call],
+    settings: Settings,
+) -> io::Result<()> {
+    let (table, passes) = match Table::<NumKey, u64>::open(alloc, settings) {
+        Ok(opened) => opened,
+        Err(fault) => return Err(fault_error(fault)),
+    };
+    let Ok(callers) = table.callers(alloc, passes) else {
+        return Err(io::ErrorKind::OutOfMemory.into());
+    };
+    let mut workers = workers::of(alloc, callers, calls)?;
+    println!(rt; "ready")?;
+    requests::answer_all(rt, alloc, &mut workers, calls)
+}
+
+/// The settings that the words ask for.
+fn settings_in(keys: &str, callers: &str) -> Option<Settings> {
+    Some(settings_of(keys.parse().ok()?, callers.parse().ok()?))
+}
+
+fn main(rt: HostRuntime) -> io::Result<ExitCode> {
+    let words = env::args(&rt)?.skip(1).collect::<Vec<String>>(rt.alloc())?;
+    let [file, keys, callers] = words.as_slice() else {
+        println!(rt; "{USAGE}")?;
+        return Ok(ExitCode::SUCCESS);
+    };
+    let Some(settings) = settings_in(keys, callers) else {
+        eprintln!(rt; "{USAGE}")?;
+        return Ok(ExitCode::from(2));
+    };
+    let text = fs::read_to_string(&rt, file)?;
+    let Some(calls) = trace::read(rt.alloc(), &text)? else {
+        eprintln!(rt; "ck_trace: a line of the trace is no call")?;
+        return Ok(ExitCode::from(2));
+    };
+    drop(text);
+    serve(&rt, rt.alloc(), &calls, settings)?;
+    Ok(ExitCode::SUCCESS)
+}
