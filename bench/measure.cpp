@@ -1,0 +1,145 @@
+// Measures the proved table and its peers in turn, and writes lines of CSV:
+// measure,table,workload,threads,value,low,high
+//   calls    millions of calls a second: the median of the slices, the lowest and the highest tenth
+//   ratio    the time by that of libcuckoo, or of the first peer, in the same turn
+//   latency  nanoseconds of an insertion while the table grows; the workload says which
+//   memory   bytes an entry while the table grows; the workload is the number of entries
+#include "peers.h"
+#include "proved.h"
+#include <malloc.h>
+#include <map>
+
+struct Plan {
+  std::string program, folder;
+  uint64_t keys, grown;
+  size_t slice, rounds;
+};
+
+static void put(const char *measure, const std::string &table, const std::string &workload, unsigned threads, double value,
+                double low, double high) {
+  printf("%s,%s,%s,%u,%.4g,%.4g,%.4g\n", measure, table.c_str(), workload.c_str(), threads, value, low, high);
+  fflush(stdout);
+}
+
+static double at(std::vector<double> values, double part) {
+  std::sort(values.begin(), values.end());
+  return values[size_t(part * (values.size() - 1))];
+}
+
+static void put_all(const char *measure, const std::string &table, const std::string &workload, unsigned threads,
+                    const std::vector<double> &values) {
+  put(measure, table, workload, threads, at(values, 0.5), at(values, 0.1), at(values, 0.9));
+}
+
+// The contestants; the proved one reads the trace from a file.
+static std::vector<Contestant> contestants(const Plan &plan, const Trace &trace, const std::string &name) {
+  std::string file = plan.folder + "/" + name;
+  trace.write(file);
+  std::vector<Contestant> all = peers();
+  all.insert(all.begin(), {"proved", [=](const Trace &, uint64_t keys, unsigned threads) {
+                             return std::make_unique<Proved>(plan.program, file, keys, threads);
+                           }});
+  return all;
+}
+
+static void differ(const std::string &table, const std::string &workload) {
+  fprintf(stderr, "bench: %s answered otherwise than the proved table: %s\n", table.c_str(), workload.c_str());
+  exit(1);
+}
+
+// Makes the same slice on each table in turn, another one first in each round.
+static void measure_workload(const Plan &plan, const std::vector<Contestant> &all, std::vector<std::unique_ptr<Table>> &tables,
+                             const Workload &workload, unsigned threads) {
+  size_t calls = plan.slice * threads * workload.calls_each, count = all.size();
+  size_t slices = (workload.to - workload.from) / calls;
+  std::vector<std::vector<double>> times(count), rates(count);
+  for (size_t round = 0; round < plan.rounds; round++) {
+    size_t from = workload.from + round % slices * calls;
+    std::vector<uint64_t> sums(count);
+    for (size_t turn = 0; turn < count; turn++) {
+      size_t i = (turn + round) % count;
+      Timed timed = tables[i]->run(from, from + calls, threads);
+      sums[i] = timed.sum;
+      times[i].push_back(timed.nanos);
+      rates[i].push_back(calls / workload.calls_each / timed.nanos * 1e3);
+    }
+    for (size_t i = 1; i < count; i++)
+      if (sums[i] != sums[0] && !(workload.racy && threads > 1)) differ(all[i].name, workload.name);
+  }
+  for (size_t i = 0; i < count; i++) {
+    put_all("calls", all[i].name, workload.name, threads, rates[i]);
+    if (count < 2) continue;
+    std::vector<double> ratios;
+    for (size_t round = 0; round < plan.rounds; round++) ratios.push_back(times[i][round] / times[1][round]);
+    put_all("ratio", all[i].name, workload.name, threads, ratios);
+  }
+}
+
+static void measure_calls(const Plan &plan) {
+  Trace trace = all_workloads(plan.keys);
+  std::vector<Contestant> all = contestants(plan, trace, "workloads");
+  std::vector<std::unique_ptr<Table>> tables;
+  for (const Contestant &one : all) {
+    tables.push_back(one.open(trace, plan.keys, 4));
+    if (tables.back()->run(0, plan.keys, 1).sum != plan.keys) differ(one.name, "insert");
+  }
+  for (unsigned threads : {1, 2, 4})
+    for (const Workload &workload : trace.workloads)
+      if (workload.from != 0) measure_workload(plan, all, tables, workload, threads);
+}
+
+static void measure_growth(const Plan &plan, const std::vector<Contestant> &all, const Trace &trace) {
+  std::map<std::string, std::vector<double>> found;
+  size_t rounds = std::max<size_t>(3, plan.rounds / 10);
+  for (size_t round = 0; round < rounds; round++)
+    for (const Contestant &one : all) {
+      malloc_trim(0);
+      Latencies times = one.open(trace, 0, 1)->time_each(0, plan.grown);
+      if (times.sum != plan.grown) differ(one.name, "growth");
+      found[one.name + ",mean"].push_back(times.mean);
+      found[one.name + ",p50"].push_back(times.half);
+      found[one.name + ",p99"].push_back(times.p99);
+      found[one.name + ",p99.9"].push_back(times.p999);
+      found[one.name + ",longest"].push_back(times.longest);
+    }
+  for (const Contestant &one : all)
+    for (const char *which : {"mean", "p50", "p99", "p99.9", "longest"})
+      put_all("latency", one.name, which, 1, found[one.name + "," + which]);
+}
+
+// In a process of its own, whose memory is then the table's.
+static void measure_memory(const Plan &plan, const Contestant &one, const Trace &trace) {
+  fflush(stdout);
+  pid_t process = fork();
+  if (process == 0) {
+    malloc_trim(0);
+    auto empty = one.open(trace, 0, 1);
+    long before = empty->resident();
+    size_t steps = 40;
+    for (size_t step = 0; step < steps; step++) {
+      size_t from = plan.grown * step / steps, to = plan.grown * (step + 1) / steps;
+      empty->run(from, to, 1);
+      double bytes = double(empty->resident() - before) / to;
+      put("memory", one.name, std::to_string(to), 1, bytes, bytes, bytes);
+    }
+    empty.reset();
+    _exit(0);
+  }
+  int status = 1;
+  if (process < 0 || waitpid(process, &status, 0) < 0 || status != 0) perror("fork"), exit(1);
+}
+
+int main(int count, char **words) {
+  if (count != 7) {
+    fprintf(stderr, "measure PROGRAM FOLDER KEYS GROWN SLICE ROUNDS\n");
+    return 2;
+  }
+  Plan plan{words[1], words[2], strtoull(words[3], 0, 10), strtoull(words[4], 0, 10), strtoull(words[5], 0, 10),
+            strtoull(words[6], 0, 10)};
+  puts("measure,table,workload,threads,value,low,high");
+  Trace growth = insertions(plan.grown);
+  std::vector<Contestant> all = contestants(plan, growth, "growth");
+  for (const Contestant &one : all) measure_memory(plan, one, growth);
+  measure_growth(plan, all, growth);
+  measure_calls(plan);
+}

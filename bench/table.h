@@ -1,0 +1,115 @@
+// What is measured of a table, and how a C++ table does it.
+#pragma once
+#include "trace.h"
+#include <chrono>
+#include <functional>
+#include <memory>
+#include <thread>
+
+struct Timed {
+  double nanos;
+  uint64_t sum; // of the answers
+};
+
+// Nanoseconds of a call.
+struct Latencies {
+  uint64_t sum;
+  double mean, half, p99, p999, longest;
+};
+
+class Table {
+public:
+  virtual ~Table() = default;
+  // Makes the calls from one position to another by so many threads, each a part of them.
+  virtual Timed run(size_t from, size_t to, unsigned threads) = 0;
+  // Makes them by one thread, and times each.
+  virtual Latencies time_each(size_t from, size_t to) = 0;
+  // The memory that the table's process has.
+  virtual long resident() const = 0;
+};
+
+// Opens a table for so many keys, the smallest one for 0, and so many threads.
+using Open = std::function<std::unique_ptr<Table>(const Trace &, uint64_t keys, unsigned threads)>;
+
+struct Contestant {
+  std::string name;
+  Open open;
+};
+
+inline long resident_of(const std::string &process) {
+  long all = 0, resident = 0;
+  if (FILE *file = fopen(("/proc/" + process + "/statm").c_str(), "r")) {
+    if (fscanf(file, "%ld %ld", &all, &resident) != 2) resident = 0;
+    fclose(file);
+  }
+  return resident * 4096;
+}
+
+// A table of this process: a class with a constructor (keys), and find, insert, update, add, erase.
+template <class Map> class Own : public Table {
+  using Clock = std::chrono::steady_clock;
+  const std::vector<Call> &calls;
+  Map map;
+
+  static double nanos(Clock::duration time) { return std::chrono::duration<double, std::nano>(time).count(); }
+
+  // A number of the answer, as crates/ck_trace gives it.
+  uint64_t make(Call call) {
+    switch (call.letter) {
+    case 'f': { uint64_t value = 0; return map.find(call.key, value) ? value : 0; }
+    case 'i': return map.insert(call.key, call.key);
+    case 'u': return map.update(call.key, call.key);
+    case 'a': return map.add(call.key);
+    default: return map.erase(call.key);
+    }
+  }
+
+  uint64_t make_all(size_t from, size_t to) {
+    uint64_t sum = 0;
+    for (size_t i = from; i < to; i++) sum += make(calls[i]);
+    return sum;
+  }
+
+public:
+  Own(const Trace &trace, uint64_t keys) : calls(trace.calls), map(keys) {}
+
+  Timed run(size_t from, size_t to, unsigned threads) override {
+    size_t size = (to - from + threads - 1) / threads;
+    std::vector<uint64_t> sums(threads * 16); // 16: no two in one line of the cache
+    auto part = [&](unsigned i) {
+      sums[i * 16] = make_all(std::min(to, from + i * size), std::min(to, from + (i + 1) * size));
+    };
+    std::vector<std::thread> others;
+    auto start = Clock::now();
+    for (unsigned i = 1; i < threads; i++) others.emplace_back(part, i);
+    part(0);
+    for (auto &other : others) other.join();
+    double time = nanos(Clock::now() - start);
+    uint64_t sum = 0;
+    for (uint64_t one : sums) sum += one;
+    return {time, sum};
+  }
+
+  Latencies time_each(size_t from, size_t to) override {
+    std::vector<double> times(to - from);
+    uint64_t sum = 0;
+    auto last = Clock::now();
+    for (size_t i = from; i < to; i++) {
+      sum += make(calls[i]);
+      auto now = Clock::now();
+      times[i - from] = nanos(now - last);
+      last = now;
+    }
+    std::sort(times.begin(), times.end());
+    double all = 0;
+    for (double time : times) all += time;
+    auto within = [&](size_t calls) { return times[std::min(times.size() - 1, times.size() * calls / 1000)]; };
+    return {sum, all / times.size(), within(500), within(990), within(999), times.back()};
+  }
+
+  long resident() const override { return resident_of("self"); }
+};
+
+template <class Map> Contestant own(const char *name) {
+  return {name, [](const Trace &trace, uint64_t keys, unsigned) { return std::make_unique<Own<Map>>(trace, keys); }};
+}
