@@ -32,12 +32,13 @@ static void put_all(const char *measure, const std::string &table, const std::st
 }
 
 // The contestants; the proved one reads the trace from a file.
-static std::vector<Contestant> contestants(const Plan &plan, const Trace &trace, const std::string &name) {
-  std::string file = plan.folder + "/" + name;
+static std::vector<Contestant> contestants(const Plan &plan, const Trace &trace, const char *kind) {
+  std::string program = plan.program, file = plan.folder + "/" + std::to_string(trace.calls.size()) + kind;
   trace.write(file);
-  std::vector<Contestant> all = peers();
-  all.insert(all.begin(), {"proved", [=](const Trace &, uint64_t keys, unsigned threads) {
-                             return std::make_unique<Proved>(plan.program, file, keys, threads);
+  bool texts = kind == std::string("texts");
+  std::vector<Contestant> all = texts ? peers<std::string>(trace) : peers<uint64_t>(trace);
+  all.insert(all.begin(), {"proved", [=](uint64_t keys, unsigned threads) {
+                             return std::make_unique<Proved>(program, kind, file, keys, threads);
                            }});
   return all;
 }
@@ -49,9 +50,9 @@ static void differ(const std::string &table, const std::string &workload) {
 
 // Makes the same slice on each table in turn, another one first in each round.
 static void measure_workload(const Plan &plan, const std::vector<Contestant> &all, std::vector<std::unique_ptr<Table>> &tables,
-                             const Workload &workload, unsigned threads) {
-  size_t calls = plan.slice * threads * workload.calls_each, count = all.size();
-  size_t slices = (workload.to - workload.from) / calls;
+                             const Workload &workload, unsigned threads, const std::string &name) {
+  size_t parts = threads * workload.calls_each, length = workload.to - workload.from, count = all.size();
+  size_t calls = std::min(plan.slice, length / parts) * parts, slices = length / calls;
   std::vector<std::vector<double>> times(count), rates(count);
   for (size_t round = 0; round < plan.rounds; round++) {
     size_t from = workload.from + round % slices * calls;
@@ -67,34 +68,36 @@ static void measure_workload(const Plan &plan, const std::vector<Contestant> &al
       if (sums[i] != sums[0] && !(workload.racy && threads > 1)) differ(all[i].name, workload.name);
   }
   for (size_t i = 0; i < count; i++) {
-    put_all("calls", all[i].name, workload.name, threads, rates[i]);
+    put_all("calls", all[i].name, name, threads, rates[i]);
     if (count < 2) continue;
     std::vector<double> ratios;
     for (size_t round = 0; round < plan.rounds; round++) ratios.push_back(times[i][round] / times[1][round]);
-    put_all("ratio", all[i].name, workload.name, threads, ratios);
+    put_all("ratio", all[i].name, name, threads, ratios);
   }
 }
 
-static void measure_calls(const Plan &plan) {
-  Trace trace = all_workloads(plan.keys);
-  std::vector<Contestant> all = contestants(plan, trace, "workloads");
+static void measure_calls(const Plan &plan, const char *kind) {
+  bool texts = kind == std::string("texts");
+  uint64_t keys = texts ? plan.keys / 4 : plan.keys;
+  Trace trace = workloads(keys, !texts);
+  std::vector<Contestant> all = contestants(plan, trace, kind);
   std::vector<std::unique_ptr<Table>> tables;
   for (const Contestant &one : all) {
-    tables.push_back(one.open(trace, plan.keys, 4));
-    if (tables.back()->run(0, plan.keys, 1).sum != plan.keys) differ(one.name, "insert");
+    tables.push_back(one.open(keys, 4));
+    if (tables.back()->run(0, keys, 1).sum != keys) differ(one.name, "insert");
   }
   for (unsigned threads : {1, 2, 4})
     for (const Workload &workload : trace.workloads)
-      if (workload.from != 0) measure_workload(plan, all, tables, workload, threads);
+      if (workload.from != 0) measure_workload(plan, all, tables, workload, threads, texts ? "text " + workload.name : workload.name);
 }
 
-static void measure_growth(const Plan &plan, const std::vector<Contestant> &all, const Trace &trace) {
+static void measure_growth(const Plan &plan, const std::vector<Contestant> &all) {
   std::map<std::string, std::vector<double>> found;
   size_t rounds = std::max<size_t>(3, plan.rounds / 10);
   for (size_t round = 0; round < rounds; round++)
     for (const Contestant &one : all) {
       malloc_trim(0);
-      Latencies times = one.open(trace, 0, 1)->time_each(0, plan.grown);
+      Latencies times = one.open(0, 1)->time_each(0, plan.grown);
       if (times.sum != plan.grown) differ(one.name, "growth");
       found[one.name + ",mean"].push_back(times.mean);
       found[one.name + ",p50"].push_back(times.half);
@@ -108,12 +111,12 @@ static void measure_growth(const Plan &plan, const std::vector<Contestant> &all,
 }
 
 // In a process of its own, whose memory is then the table's.
-static void measure_memory(const Plan &plan, const Contestant &one, const Trace &trace) {
+static void measure_memory(const Plan &plan, const Contestant &one) {
   fflush(stdout);
   pid_t process = fork();
   if (process == 0) {
     malloc_trim(0);
-    auto empty = one.open(trace, 0, 1);
+    auto empty = one.open(0, 1);
     long before = empty->resident();
     size_t steps = 40;
     for (size_t step = 0; step < steps; step++) {
@@ -138,8 +141,9 @@ int main(int count, char **words) {
             strtoull(words[6], 0, 10)};
   puts("measure,table,workload,threads,value,low,high");
   Trace growth = insertions(plan.grown);
-  std::vector<Contestant> all = contestants(plan, growth, "growth");
-  for (const Contestant &one : all) measure_memory(plan, one, growth);
-  measure_growth(plan, all, growth);
-  measure_calls(plan);
+  std::vector<Contestant> all = contestants(plan, growth, "numbers");
+  for (const Contestant &one : all) measure_memory(plan, one);
+  measure_growth(plan, all);
+  measure_calls(plan, "numbers");
+  measure_calls(plan, "texts");
 }

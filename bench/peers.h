@@ -1,57 +1,58 @@
-// The C++ tables, where the machine has them. Keys are random numbers already, so their hash is
-// the number itself.
+// The C++ tables, where the machine has them.
 #pragma once
 #include "table.h"
 
-struct Identity {
+// The numbers are random already, so their hash is the number itself, as in the proved table.
+template <class Key> struct Hash : std::hash<Key> {};
+template <> struct Hash<uint64_t> {
   size_t operator()(uint64_t key) const { return key; }
 };
 
 #if __has_include(<libcuckoo/cuckoohash_map.hh>)
 #define HAS_LIBCUCKOO
 #include <libcuckoo/cuckoohash_map.hh>
-struct Libcuckoo {
-  libcuckoo::cuckoohash_map<uint64_t, uint64_t, Identity> map;
+template <class Key> struct Libcuckoo {
+  libcuckoo::cuckoohash_map<Key, uint64_t, Hash<Key>> map;
   explicit Libcuckoo(uint64_t keys) : map(keys ? keys : 4096) {}
-  bool find(uint64_t key, uint64_t &value) { return map.find(key, value); }
-  bool insert(uint64_t key, uint64_t value) { return map.insert(key, value); }
-  bool update(uint64_t key, uint64_t value) { return map.update(key, value); }
-  bool add(uint64_t key) { return map.upsert(key, [](uint64_t &value) { value++; }, 1); }
-  bool erase(uint64_t key) { return map.erase(key); }
+  bool find(const Key &key, uint64_t &value) { return map.find(key, value); }
+  bool insert(const Key &key, uint64_t value) { return map.insert(key, value); }
+  bool update(const Key &key, uint64_t value) { return map.update(key, value); }
+  bool add(const Key &key) { return map.upsert(key, [](uint64_t &value) { value++; }, 1); }
+  bool erase(const Key &key) { return map.erase(key); }
 };
 #endif
 
 #if __has_include(<tbb/concurrent_hash_map.h>)
 #define HAS_TBB
 #include <tbb/concurrent_hash_map.h>
-struct Tbb {
+template <class Key> struct Tbb {
   struct Compare {
-    size_t hash(uint64_t key) const { return key; }
-    bool equal(uint64_t a, uint64_t b) const { return a == b; }
+    size_t hash(const Key &key) const { return Hash<Key>()(key); }
+    bool equal(const Key &a, const Key &b) const { return a == b; }
   };
-  using Map = tbb::concurrent_hash_map<uint64_t, uint64_t, Compare>;
+  using Map = tbb::concurrent_hash_map<Key, uint64_t, Compare>;
   Map map;
   explicit Tbb(uint64_t keys) : map(keys ? keys : 4096) {}
-  bool find(uint64_t key, uint64_t &value) {
-    Map::const_accessor at;
+  bool find(const Key &key, uint64_t &value) {
+    typename Map::const_accessor at;
     if (!map.find(at, key)) return false;
     value = at->second;
     return true;
   }
-  bool insert(uint64_t key, uint64_t value) { return map.insert(Map::value_type(key, value)); }
-  bool update(uint64_t key, uint64_t value) {
-    Map::accessor at;
+  bool insert(const Key &key, uint64_t value) { return map.insert(typename Map::value_type(key, value)); }
+  bool update(const Key &key, uint64_t value) {
+    typename Map::accessor at;
     if (!map.find(at, key)) return false;
     at->second = value;
     return true;
   }
-  bool add(uint64_t key) {
-    Map::accessor at;
+  bool add(const Key &key) {
+    typename Map::accessor at;
     bool fresh = map.insert(at, key);
     at->second++;
     return fresh;
   }
-  bool erase(uint64_t key) { return map.erase(key); }
+  bool erase(const Key &key) { return map.erase(key); }
 };
 #endif
 
@@ -60,11 +61,11 @@ struct Tbb {
 #include <absl/container/flat_hash_map.h>
 #include <atomic>
 // absl's map, which is for one thread, in 1,024 parts with a spin lock each.
-class ShardedAbsl {
+template <class Key> class ShardedAbsl {
   static constexpr unsigned BITS = 10;
   struct alignas(64) Shard {
     std::atomic<uint32_t> held{0};
-    absl::flat_hash_map<uint64_t, uint64_t, Identity> map;
+    absl::flat_hash_map<Key, uint64_t, Hash<Key>> map;
   };
   struct Guard {
     Shard &shard;
@@ -75,53 +76,55 @@ class ShardedAbsl {
     ~Guard() { shard.held.store(0, std::memory_order_release); }
   };
   std::vector<Shard> shards{1u << BITS};
-  // By the upper bits: absl takes the lower ones.
-  Shard &of(uint64_t key) { return shards[key >> (64 - BITS)]; }
+  // By the upper bits of the hash: absl takes the lower ones.
+  Shard &of(const Key &key) { return shards[Hash<Key>()(key) >> (64 - BITS)]; }
 
 public:
   explicit ShardedAbsl(uint64_t keys) {
     for (Shard &shard : shards) shard.map.reserve(keys >> BITS);
   }
-  bool find(uint64_t key, uint64_t &value) {
+  bool find(const Key &key, uint64_t &value) {
     Guard guard(of(key));
     auto at = guard.shard.map.find(key);
     if (at == guard.shard.map.end()) return false;
     value = at->second;
     return true;
   }
-  bool insert(uint64_t key, uint64_t value) {
+  bool insert(const Key &key, uint64_t value) {
     Guard guard(of(key));
     return guard.shard.map.try_emplace(key, value).second;
   }
-  bool update(uint64_t key, uint64_t value) {
+  bool update(const Key &key, uint64_t value) {
     Guard guard(of(key));
     auto at = guard.shard.map.find(key);
     if (at == guard.shard.map.end()) return false;
     at->second = value;
     return true;
   }
-  bool add(uint64_t key) {
+  bool add(const Key &key) {
     Guard guard(of(key));
-    auto at = guard.shard.map.try_emplace(key, 0).first;
-    return at->second++ == 0;
+    auto [at, fresh] = guard.shard.map.try_emplace(key, 0);
+    at->second++;
+    return fresh;
   }
-  bool erase(uint64_t key) {
+  bool erase(const Key &key) {
     Guard guard(of(key));
     return guard.shard.map.erase(key);
   }
 };
 #endif
 
-inline std::vector<Contestant> peers() {
+template <class Key> std::vector<Contestant> peers(const Trace &trace) {
+  Calls<Key> calls = keyed<Key>(trace);
   std::vector<Contestant> all;
 #ifdef HAS_LIBCUCKOO
-  all.push_back(own<Libcuckoo>("libcuckoo"));
+  all.push_back(own<Libcuckoo<Key>>("libcuckoo", calls));
 #endif
 #ifdef HAS_TBB
-  all.push_back(own<Tbb>("TBB"));
+  all.push_back(own<Tbb<Key>>("TBB", calls));
 #endif
 #ifdef HAS_ABSL
-  all.push_back(own<ShardedAbsl>("sharded absl"));
+  all.push_back(own<ShardedAbsl<Key>>("sharded absl", calls));
 #endif
   return all;
 }

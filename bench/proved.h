@@ -28,16 +28,16 @@ class Proved : public Table {
   }
 
 public:
-  Proved(const std::string &program, const std::string &file, uint64_t keys, unsigned threads) {
+  Proved(const std::string &program, const char *kind, const std::string &file, uint64_t keys, unsigned threads) {
     int in[2], out[2];
     if (pipe(in) || pipe(out)) perror("pipe"), exit(1);
-    std::string words[] = {program, file, std::to_string(keys), std::to_string(threads)};
+    std::string room = std::to_string(keys), callers = std::to_string(threads);
     process = fork();
     if (process == 0) {
       dup2(in[0], 0), dup2(out[1], 1);
       for (int end : {in[0], in[1], out[0], out[1]}) close(end);
-      execl(words[0].c_str(), words[0].c_str(), words[1].c_str(), words[2].c_str(), words[3].c_str(), nullptr);
-      perror(words[0].c_str()), _exit(1);
+      execl(program.c_str(), program.c_str(), kind, file.c_str(), room.c_str(), callers.c_str(), nullptr);
+      perror(program.c_str()), _exit(1);
     }
     close(in[0]), close(out[1]);
     to = fdopen(in[1], "w"), from = fdopen(out[0], "r");

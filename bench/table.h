@@ -5,6 +5,7 @@
 #include <functional>
 #include <memory>
 #include <thread>
+#include <type_traits>
 
 struct Timed {
   double nanos;
@@ -28,12 +29,10 @@ public:
   virtual long resident() const = 0;
 };
 
-// Opens a table for so many keys, the smallest one for 0, and so many threads.
-using Open = std::function<std::unique_ptr<Table>(const Trace &, uint64_t keys, unsigned threads)>;
-
+// A kind of table for the calls of one trace. `open` opens one for so many keys, the smallest one for 0, and so many threads.
 struct Contestant {
   std::string name;
-  Open open;
+  std::function<std::unique_ptr<Table>(uint64_t keys, unsigned threads)> open;
 };
 
 inline long resident_of(const std::string &process) {
@@ -45,20 +44,44 @@ inline long resident_of(const std::string &process) {
   return resident * 4096;
 }
 
+// A call with its key, which is a number or a text, as in crates/ck_trace.
+template <class Key> struct KeyedCall {
+  char letter;
+  Key key;
+  uint64_t number;
+};
+
+template <class Key> using Calls = std::shared_ptr<const std::vector<KeyedCall<Key>>>;
+
+template <class Key> Calls<Key> keyed(const Trace &trace) {
+  auto calls = std::make_shared<std::vector<KeyedCall<Key>>>();
+  calls->reserve(trace.calls.size());
+  for (const Call &call : trace.calls) {
+    if constexpr (std::is_same_v<Key, uint64_t>)
+      calls->push_back({call.letter, call.number, call.number});
+    else
+      calls->push_back({call.letter, "key " + std::to_string(call.number), call.number});
+  }
+  return calls;
+}
+
 // A table of this process: a class with a constructor (keys), and find, insert, update, add, erase.
-template <class Map> class Own : public Table {
+template <class Key, class Map> class Own : public Table {
   using Clock = std::chrono::steady_clock;
-  const std::vector<Call> &calls;
+  Calls<Key> calls;
   Map map;
 
   static double nanos(Clock::duration time) { return std::chrono::duration<double, std::nano>(time).count(); }
 
   // A number of the answer, as crates/ck_trace gives it.
-  uint64_t make(Call call) {
+  uint64_t make(const KeyedCall<Key> &call) {
     switch (call.letter) {
-    case 'f': { uint64_t value = 0; return map.find(call.key, value) ? value : 0; }
-    case 'i': return map.insert(call.key, call.key);
-    case 'u': return map.update(call.key, call.key);
+    case 'f': {
+      uint64_t value = 0;
+      return map.find(call.key, value) ? value : 0;
+    }
+    case 'i': return map.insert(call.key, call.number);
+    case 'u': return map.update(call.key, call.number);
     case 'a': return map.add(call.key);
     default: return map.erase(call.key);
     }
@@ -66,12 +89,12 @@ template <class Map> class Own : public Table {
 
   uint64_t make_all(size_t from, size_t to) {
     uint64_t sum = 0;
-    for (size_t i = from; i < to; i++) sum += make(calls[i]);
+    for (const KeyedCall<Key> *call = calls->data() + from; call != calls->data() + to; call++) sum += make(*call);
     return sum;
   }
 
 public:
-  Own(const Trace &trace, uint64_t keys) : calls(trace.calls), map(keys) {}
+  Own(const Calls<Key> &calls, uint64_t keys) : calls(calls), map(keys) {}
 
   Timed run(size_t from, size_t to, unsigned threads) override {
     size_t size = (to - from + threads - 1) / threads;
@@ -95,7 +118,7 @@ public:
     uint64_t sum = 0;
     auto last = Clock::now();
     for (size_t i = from; i < to; i++) {
-      sum += make(calls[i]);
+      sum += make((*calls)[i]);
       auto now = Clock::now();
       times[i - from] = nanos(now - last);
       last = now;
@@ -110,6 +133,6 @@ public:
   long resident() const override { return resident_of("self"); }
 };
 
-template <class Map> Contestant own(const char *name) {
-  return {name, [](const Trace &trace, uint64_t keys, unsigned) { return std::make_unique<Own<Map>>(trace, keys); }};
+template <class Map, class Key> Contestant own(const char *name, Calls<Key> calls) {
+  return {name, [calls](uint64_t keys, unsigned) { return std::make_unique<Own<Key, Map>>(calls, keys); }};
 }

@@ -7,10 +7,10 @@
 #include <string>
 #include <vector>
 
-// As crates/ck_trace reads them: find, insert, update, add, erase.
+// As crates/ck_trace reads them: find, insert, update, add, erase, and what the key is made of.
 struct Call {
   char letter;
-  uint64_t key;
+  uint64_t number;
 };
 
 // A part of the trace that is one workload.
@@ -62,7 +62,7 @@ struct Trace {
   void write(const std::string &path) const {
     FILE *file = fopen(path.c_str(), "w");
     if (!file) perror(path.c_str()), exit(1);
-    for (const Call &call : calls) fprintf(file, "%c %llu\n", call.letter, (unsigned long long)call.key);
+    for (const Call &call : calls) fprintf(file, "%c %llu\n", call.letter, (unsigned long long)call.number);
     if (fclose(file)) perror(path.c_str()), exit(1);
   }
 };
@@ -75,13 +75,13 @@ inline Trace insertions(uint64_t keys) {
   return trace;
 }
 
-// The insertions, and then each workload, with as many calls as there are keys.
-inline Trace all_workloads(uint64_t keys) {
+// The insertions, and then each workload, with as many calls as there are keys. The mixes are those of YCSB.
+inline Trace workloads(uint64_t keys, bool mixes) {
   Trace trace = insertions(keys);
   auto &calls = trace.calls;
   Random random{uint64_t(1) << 40};
   std::vector<uint64_t> order(keys);
-  for (uint64_t i = 0; i < keys; i++) order[i] = calls[i].key;
+  for (uint64_t i = 0; i < keys; i++) order[i] = calls[i].number;
   auto shuffle = [&] {
     for (uint64_t i = keys; i > 1; i--) std::swap(order[i - 1], order[random.below(i)]);
   };
@@ -98,6 +98,7 @@ inline Trace all_workloads(uint64_t keys) {
     calls.push_back({'e', order[i]});
     calls.push_back({'i', order[i]});
   });
+  if (!mixes) return trace;
   Zipfian zipfian(keys);
   auto mixed = [&](unsigned updates) {
     return [&, updates](uint64_t) {

@@ -1,26 +1,27 @@
 //! Makes the calls of a trace on a table and times them. `bench/run` has it make those that other
 //! tables are measured by.
 //!
-//! `ck_trace FILE KEYS CALLERS` reads a trace (`trace`), opens a table for so many keys and callers,
-//! and says `ready`. Then it answers each line of standard input: `run FROM TO THREADS` makes the
+//! `ck_trace numbers FILE KEYS CALLERS` reads a trace (`trace`), opens a table for so many keys and
+//! callers, and says `ready`; with `texts` its keys are texts. Then it answers each line of standard input: `run FROM TO THREADS` makes the
 //! calls from one position to another by so many threads, and `time FROM TO` by one, with the time
 //! of each.
 #![tactic(auto)]
 
+mod keys;
 mod latencies;
 mod requests;
 mod trace;
 mod workers;
 
-use crate::trace::Call;
-use cuckoo_map::{NumKey, OpenFault, Settings, Table};
+use crate::keys::Numbered;
+use cuckoo_map::{NumKey, OpenFault, Settings, Table, TextKey};
 use std::alloc::Global;
 use std::process::ExitCode;
 use std::rt::Clock;
 use std::thread::Threads;
 use std::{env, fs, io};
 
-const USAGE: &str = "ck_trace FILE KEYS CALLERS";
+const USAGE: &str = "ck_trace numbers|texts FILE KEYS CALLERS";
 
 /// A table for so many keys; the smallest one where that is 0.
 fn settings_of(keys: u64, callers: u32) -> Settings {
@@ -40,23 +41,28 @@ fn fault_error(fault: OpenFault) -> io::Error {
     }
 }
 
-/// Opens a table, and answers requests on it.
-fn serve<R: Threads + Clock + Input + Print + Sync>(
+/// Reads a trace, opens a table and answers requests on it. False where the trace can't be read.
+fn serve<K: Numbered + Send + Sync, R: Threads + Clock + Input + Print + Sync>(
     rt: &R,
     alloc: Global,
-    calls: &[Call],
+    text: String,
     settings: Settings,
-) -> io::Result<()> {
-    let (table, passes) = match Table::<NumKey, u64>::open(alloc, settings) {
+) -> io::Result<bool> {
+    let Some(calls) = trace::read::<K>(alloc, &text)? else {
+        return Ok(false);
+    };
+    drop(text);
+    let (table, passes) = match Table::<K, u64>::open(alloc, settings) {
         Ok(opened) => opened,
         Err(fault) => return Err(fault_error(fault)),
     };
     let Ok(callers) = table.callers(alloc, passes) else {
         return Err(io::ErrorKind::OutOfMemory.into());
     };
-    let mut workers = workers::of(alloc, callers, calls)?;
+    let mut workers = workers::of(alloc, callers, &calls)?;
     println!(rt; "ready")?;
-    requests::answer_all(rt, alloc, &mut workers, calls)
+    requests::answer_all(rt, alloc, &mut workers, &calls)?;
+    Ok(true)
 }
 
 /// The settings that the words ask for.
@@ -66,7 +72,7 @@ fn settings_in(keys: &str, callers: &str) -> Option<Settings> {
 
 fn main(rt: HostRuntime) -> io::Result<ExitCode> {
     let words = env::args(&rt)?.skip(1).collect::<Vec<String>>(rt.alloc())?;
-    let [file, keys, callers] = words.as_slice() else {
+    let [kind, file, keys, callers] = words.as_slice() else {
         println!(rt; "{USAGE}")?;
         return Ok(ExitCode::SUCCESS);
     };
@@ -75,11 +81,14 @@ fn main(rt: HostRuntime) -> io::Result<ExitCode> {
         return Ok(ExitCode::from(2));
     };
     let text = fs::read_to_string(&rt, file)?;
-    let Some(calls) = trace::read(rt.alloc(), &text)? else {
-        eprintln!(rt; "ck_trace: a line of the trace is no call")?;
-        return Ok(ExitCode::from(2));
+    let read = if kind.as_str() == "texts" {
+        serve::<TextKey, HostRuntime>(&rt, rt.alloc(), text, settings)?
+    } else {
+        serve::<NumKey, HostRuntime>(&rt, rt.alloc(), text, settings)?
     };
-    drop(text);
-    serve(&rt, rt.alloc(), &calls, settings)?;
-    Ok(ExitCode::SUCCESS)
+    if read {
+        return Ok(ExitCode::SUCCESS);
+    }
+    eprintln!(rt; "ck_trace: a line of the trace is no call")?;
+    Ok(ExitCode::from(2))
 }

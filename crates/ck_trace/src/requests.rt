@@ -1,4 +1,5 @@
 //! What is asked, a line each, and the answers.
+use crate::keys::Numbered;
 use crate::latencies::{per_mille, time_each};
 use crate::trace::Call;
 use crate::workers::{self, Worker};
@@ -8,7 +9,7 @@ use std::rt::Clock;
 use std::thread::Threads;
 
 /// The calls from one position to another; none where there are no such positions.
-fn calls_of<'c>(calls: &'c [Call], from: &str, to: &str) -> &'c [Call] {
+fn calls_of<'c, K>(calls: &'c [Call<K>], from: &str, to: &str) -> &'c [Call<K>] {
     match (from.parse::<usize>(), to.parse::<usize>()) {
         (Ok(from), Ok(to)) => calls.get(from..to).unwrap_or(&[]),
         _ => &[],
@@ -16,10 +17,10 @@ fn calls_of<'c>(calls: &'c [Call], from: &str, to: &str) -> &'c [Call] {
 }
 
 /// Makes calls by so many threads, and prints the nanoseconds and the sum of the answers.
-fn answer_run<'c, R: Threads + Clock + Print + Sync>(
+fn answer_run<'c, R: Threads + Clock + Print + Sync, K: Numbered + Send + Sync>(
     rt: &R,
-    workers: &mut [Worker<'_, 'c>],
-    calls: &'c [Call],
+    workers: &mut [Worker<'_, 'c, K>],
+    calls: &'c [Call<K>],
     threads: &str,
 ) -> io::Result<()> {
     let threads = threads.parse::<usize>().unwrap_or(1).min(workers.len());
@@ -29,11 +30,11 @@ fn answer_run<'c, R: Threads + Clock + Print + Sync>(
 
 /// Makes calls by one thread, and prints their sum and how long they took: the mean, the times
 /// within which 500, 990 and 999 in a thousand ended, and the longest.
-fn answer_time(
+fn answer_time<K: Numbered>(
     rt: &(impl Clock + Print),
     alloc: Global,
-    workers: &mut [Worker],
-    calls: &[Call],
+    workers: &mut [Worker<'_, '_, K>],
+    calls: &[Call<K>],
 ) -> io::Result<()> {
     let [worker, ..] = workers else {
         return Ok(());
@@ -54,11 +55,11 @@ fn answer_time(
 }
 
 /// Answers each line of standard input.
-pub fn answer_all<'c, R: Threads + Clock + Input + Print + Sync>(
+pub fn answer_all<'c, R: Threads + Clock + Input + Print + Sync, K: Numbered + Send + Sync>(
     rt: &R,
     alloc: Global,
-    workers: &mut [Worker<'_, 'c>],
-    calls: &'c [Call],
+    workers: &mut [Worker<'_, 'c, K>],
+    calls: &'c [Call<K>],
 ) -> io::Result<()> {
     for line in rt.lines(alloc) {
         let line = line?;

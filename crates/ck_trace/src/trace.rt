@@ -1,4 +1,5 @@
-//! A trace: a call a line, a letter and a key.
+//! A trace: a call a line, a letter and the number that its key is made of.
+use crate::keys::Numbered;
 use std::alloc::{AllocError, Global};
 
 /// What is called with a key.
@@ -6,9 +7,9 @@ use std::alloc::{AllocError, Global};
 pub enum Kind {
     /// `f`: finds its value.
     Find,
-    /// `i`: binds it to itself where it is unbound.
+    /// `i`: binds it to its number where it is unbound.
     Insert,
-    /// `u`: binds it to itself where it is bound.
+    /// `u`: binds it to its number where it is bound.
     Update,
     /// `a`: adds 1 to its value, or binds it to 1.
     Add,
@@ -16,11 +17,12 @@ pub enum Kind {
     Erase,
 }
 
-/// A call with a key.
-#[derive(Clone, Copy)]
-pub struct Call {
+/// A call with a key and the number that it is made of.
+#[derive(Drop)]
+pub struct Call<K> {
     pub kind: Kind,
-    pub key: u64,
+    pub key: K,
+    pub number: u64,
 }
 
 fn kind_of(letter: &str) -> Option<Kind> {
@@ -34,18 +36,19 @@ fn kind_of(letter: &str) -> Option<Kind> {
     }
 }
 
-fn call_of(line: &str) -> Option<Call> {
-    let (letter, key) = line.split_once(' ')?;
+fn call_of<K: Numbered>(alloc: Global, line: &str) -> Option<Call<K>> {
+    let (letter, number) = line.split_once(' ')?;
     let kind = kind_of(letter)?;
-    let key = key.parse().ok()?;
-    Some(Call { kind, key })
+    let number = number.parse().ok()?;
+    let key = K::of(alloc, number)?;
+    Some(Call { kind, key, number })
 }
 
-/// The calls of the lines; `None` where one of them is no call.
-pub fn read(alloc: Global, text: &str) -> Result<Option<Vec<Call>>, AllocError> {
+/// The calls of the lines; `None` where one of them is no call, or there is no memory for its key.
+pub fn read<K: Numbered>(alloc: Global, text: &str) -> Result<Option<Vec<Call<K>>>, AllocError> {
     let mut calls = Vec::new(alloc);
     for line in text.lines() {
-        match call_of(line) {
+        match call_of(alloc, line) {
             Some(call) => calls.push(call)?,
             None => return Ok(None),
         }

@@ -1,6 +1,7 @@
 //! Callers that make the calls of a trace, each a part of them.
+use crate::keys::Numbered;
 use crate::trace::{Call, Kind};
-use cuckoo_map::{Caller, NumKey};
+use cuckoo_map::Caller;
 use std::alloc::{AllocError, Global};
 use std::rt::Clock;
 use std::thread::Threads;
@@ -10,18 +11,18 @@ use std::{io, thread};
 /// A caller, the calls that it is to make, and the sum of their answers: what shows that other
 /// tables answered the same.
 #[derive(Drop)]
-pub struct Worker<'t, 'c> {
-    caller: Caller<'t, NumKey, u64>,
-    calls: &'c [Call],
+pub struct Worker<'t, 'c, K: Numbered> {
+    caller: Caller<'t, K, u64>,
+    calls: &'c [Call<K>],
     sum: u64,
 }
 
 /// A worker for each caller.
-pub fn of<'t, 'c>(
+pub fn of<'t, 'c, K: Numbered>(
     alloc: Global,
-    callers: Vec<Caller<'t, NumKey, u64>>,
-    calls: &'c [Call],
-) -> Result<Vec<Worker<'t, 'c>>, AllocError> {
+    callers: Vec<Caller<'t, K, u64>>,
+    calls: &'c [Call<K>],
+) -> Result<Vec<Worker<'t, 'c, K>>, AllocError> {
     let mut workers = Vec::new(alloc);
     for caller in callers {
         workers.push(Worker {
@@ -33,38 +34,44 @@ pub fn of<'t, 'c>(
     Ok(workers)
 }
 
-impl<'t, 'c> Worker<'t, 'c> {
+impl<'t, 'c, K: Numbered> Worker<'t, 'c, K> {
     /// Makes a call, and gives a number of its answer: the value that is found, and otherwise
     /// whether the call changed what it is to change. A refused call gives 0.
     #[inline(always)]
-    pub fn make(&mut self, call: Call) -> u64 {
-        let (caller, key) = (&mut self.caller, call.key);
+    pub fn make(&mut self, call: &Call<K>) -> u64 {
+        let (caller, key, number) = (&mut self.caller, &call.key, call.number);
         match call.kind {
-            Kind::Find => caller.find(&NumKey(key)).unwrap_or(None).unwrap_or(0),
-            Kind::Insert => u64::from(caller.insert(NumKey(key), key).unwrap_or(false)),
+            Kind::Find => caller.find(key).unwrap_or(None).unwrap_or(0),
+            Kind::Insert => match key.clone() {
+                Ok(key) => u64::from(caller.insert(key, number).unwrap_or(false)),
+                Err(_) => 0,
+            },
             Kind::Update => {
-                let old = caller.update(&NumKey(key), key);
+                let old = caller.update(key, number);
                 u64::from(old.unwrap_or(None).is_some())
             }
-            Kind::Add => {
-                let new = caller.upsert(NumKey(key), |value| value.wrapping_add(1), 1);
-                u64::from(new.unwrap_or(false))
-            }
-            Kind::Erase => u64::from(caller.erase(&NumKey(key)).unwrap_or(None).is_some()),
+            Kind::Add => match key.clone() {
+                Ok(key) => {
+                    let new = caller.upsert(key, |value| value.wrapping_add(1), 1);
+                    u64::from(new.unwrap_or(false))
+                }
+                Err(_) => 0,
+            },
+            Kind::Erase => u64::from(caller.erase(key).unwrap_or(None).is_some()),
         }
     }
 
     fn make_all(&mut self) {
         let calls = self.calls;
         for call in calls {
-            let answer = self.make(*call);
+            let answer = self.make(call);
             self.sum = self.sum.wrapping_add(answer);
         }
     }
 }
 
 /// Gives each worker a part of the calls.
-fn share<'c>(workers: &mut [Worker<'_, 'c>], calls: &'c [Call]) {
+fn share<'c, K: Numbered>(workers: &mut [Worker<'_, 'c, K>], calls: &'c [Call<K>]) {
     let size = calls.len().div_ceil(workers.len().max(1)).max(1);
     for worker in workers.iter_mut() {
         worker.calls = &calls[..0];
@@ -77,15 +84,15 @@ fn share<'c>(workers: &mut [Worker<'_, 'c>], calls: &'c [Call]) {
 
 /// Makes the calls by all workers, each in a thread of its own. Gives the nanoseconds from the
 /// start of the first one to the end of the last, and the sum of all answers.
-pub fn run<'c, R: Threads + Clock + Sync>(
+pub fn run<'c, R: Threads + Clock + Sync, K: Numbered + Send + Sync>(
     rt: &R,
-    workers: &mut [Worker<'_, 'c>],
-    calls: &'c [Call],
+    workers: &mut [Worker<'_, 'c, K>],
+    calls: &'c [Call<K>],
 ) -> io::Result<(u128, u64)> {
     share(workers, calls);
     let threads = workers.len().max(1);
     let start = Instant::now(rt)?;
-    let working = |_: usize, worker: &mut Worker<'_, '_>| worker.make_all();
+    let working = |_: usize, worker: &mut Worker<'_, '_, K>| worker.make_all();
     thread::for_each_mut(rt, workers, threads, &working);
     let nanos = start.elapsed(rt)?.as_nanos();
     let mut sum = 0u64;
