@@ -1,16 +1,17 @@
 //! Sessions that see one moment of the whole table.
 use crate::calls::Worker;
+use crate::key::Key;
 use crate::model::{ACCOUNTS, COUNTERS, FUND, OWN, counter, is_own, own};
 use crate::notes::Notes;
-use ck_key::NumKey;
+use std::alloc::Global;
 
-pub type Locked<'t> = cuckoo_map::LockedTable<'t, NumKey, u64>;
+pub type Locked<'t, K> = cuckoo_map::LockedTable<'t, K, u64>;
 
 /// What all accounts have.
-fn total(locked: &Locked<'_>) -> u64 {
+fn total<K: Key>(locked: &Locked<'_, K>) -> u64 {
     let mut sum = 0u64;
     for (key, value) in locked {
-        if key.0 < ACCOUNTS {
+        if key.number() < ACCOUNTS {
             sum = sum.saturating_add(*value);
         }
     }
@@ -23,61 +24,66 @@ fn is_swept(value: u64) -> bool {
 }
 
 /// Takes some of the thread's keys away, by `retain`.
-fn sweep(notes: &mut Notes, locked: &mut Locked<'_>) {
+fn sweep<K: Key>(notes: &mut Notes, locked: &mut Locked<'_, K>) {
     let thread = notes.model.thread;
-    locked.retain(|key: &NumKey, value: &u64| !is_own(thread, key.0) || !is_swept(*value));
+    locked.retain(|key: &K, value: &u64| !is_own(thread, key.number()) || !is_swept(*value));
     for i in 0..OWN {
         let value = notes.model.get(i);
         notes.model.set(i, value.filter(|value| !is_swept(*value)));
     }
 }
 
+/// What the key of this number is bound to; nothing where there is no memory for the key.
+fn value_of<K: Key>(alloc: Global, locked: &Locked<'_, K>, number: u64) -> Option<Option<u64>> {
+    let key = K::of(alloc, number)?;
+    Some(locked.find(&key).copied())
+}
+
 /// Whether all keys of the thread are as it knows them, and no money is lost.
-fn check_locked(notes: &mut Notes, locked: &Locked<'_>) {
+fn check_locked<K: Key>(alloc: Global, notes: &mut Notes, locked: &Locked<'_, K>) {
     notes.tally.sessions = notes.tally.sessions.saturating_add(1);
     let sum = total(locked);
     notes.check("sum of all accounts", 0, Some(sum), Some(ACCOUNTS * FUND));
     for i in 0..OWN {
-        let key = own(notes.model.thread, i);
-        let got = locked.find(&NumKey(key)).copied();
-        let want = notes.model.get(i);
-        notes.check("key in a session", key, got, want);
+        let number = own(notes.model.thread, i);
+        if let Some(got) = value_of(alloc, locked, number) {
+            let want = notes.model.get(i);
+            notes.check("key in a session", number, got, want);
+        }
     }
 }
 
 /// Looks at all that the thread knows, with the table locked.
-pub fn audit<'t>(worker: Worker<'t>) -> Worker<'t> {
+pub fn audit<'t, K: Key>(worker: Worker<'t, K>) -> Worker<'t, K> {
     let Worker {
         caller,
         second,
         mut notes,
+        alloc,
     } = worker;
-    match caller.lock() {
+    let caller = match caller.lock() {
         Ok(mut locked) => {
-            check_locked(&mut notes, &locked);
+            check_locked(alloc, &mut notes, &locked);
             sweep(&mut notes, &mut locked);
-            check_locked(&mut notes, &locked);
-            let caller = locked.unlock_caller();
-            Worker {
-                caller,
-                second,
-                notes,
-            }
+            check_locked(alloc, &mut notes, &locked);
+            locked.unlock_caller()
         }
         Err((caller, _)) => {
             notes.busy();
-            Worker {
-                caller,
-                second,
-                notes,
-            }
+            caller
         }
+    };
+    Worker {
+        caller,
+        second,
+        notes,
+        alloc,
     }
 }
 
 /// How many keys are bound, as the threads know it: their own, the accounts, and each counter that
 /// was raised.
-fn bound(workers: &[Worker<'_>]) -> u64 {
+fn bound<K: Key>(workers: &[Worker<'_, K>]) -> u64 {
     let mut bound = ACCOUNTS;
     for worker in workers {
         bound = bound.saturating_add(worker.notes.model.bound());
@@ -89,7 +95,7 @@ fn bound(workers: &[Worker<'_>]) -> u64 {
 }
 
 /// How often all threads raised a counter.
-fn raised(workers: &[Worker<'_>], i: u64) -> u64 {
+fn raised<K: Key>(workers: &[Worker<'_, K>], i: u64) -> u64 {
     let mut raised = 0u64;
     for worker in workers {
         raised = raised.saturating_add(worker.notes.model.raised(i));
@@ -98,7 +104,12 @@ fn raised(workers: &[Worker<'_>], i: u64) -> u64 {
 }
 
 /// Whether the table has what all threads know together, and no more.
-pub fn check_end(notes: &mut Notes, locked: &Locked<'_>, workers: &[Worker<'_>]) {
+pub fn check_end<K: Key>(
+    alloc: Global,
+    notes: &mut Notes,
+    locked: &Locked<'_, K>,
+    workers: &[Worker<'_, K>],
+) {
     notes.check(
         "number of keys",
         0,
@@ -106,9 +117,15 @@ pub fn check_end(notes: &mut Notes, locked: &Locked<'_>, workers: &[Worker<'_>])
         Some(bound(workers)),
     );
     for i in 0..COUNTERS {
-        let key = counter(i);
-        let got = locked.find(&NumKey(key)).copied();
-        let want = raised(workers, i);
-        notes.check("sum of a counter", key, Some(got.unwrap_or(0)), Some(want));
+        let number = counter(i);
+        if let Some(got) = value_of(alloc, locked, number) {
+            let want = raised(workers, i);
+            notes.check(
+                "sum of a counter",
+                number,
+                Some(got.unwrap_or(0)),
+                Some(want),
+            );
+        }
     }
 }

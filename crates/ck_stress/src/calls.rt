@@ -1,96 +1,110 @@
 //! The calls of a thread, each compared with what the thread knows.
-use crate::model::{ACCOUNTS, OWN, account, counter, own};
+use crate::key::Key;
+use crate::model::{ACCOUNTS, COUNTERS, OWN, account, counter, own};
 use crate::notes::Notes;
-use ck_key::NumKey;
 use cuckoo_map::Uprased;
+use std::alloc::Global;
 
-pub type Caller<'t> = cuckoo_map::Caller<'t, NumKey, u64>;
+pub type Caller<'t, K> = cuckoo_map::Caller<'t, K, u64>;
 
 /// A thread's two callers, and its notes.
 #[derive(Drop)]
-pub struct Worker<'t> {
-    pub caller: Caller<'t>,
+pub struct Worker<'t, K: Key> {
+    pub caller: Caller<'t, K>,
     /// It makes calls while the other is in one.
-    pub second: Caller<'t>,
+    pub second: Caller<'t, K>,
     pub notes: Notes,
+    pub alloc: Global,
 }
 
-impl<'t> Worker<'t> {
-    fn find(&mut self, key: u64, want: Option<u64>) {
-        match self.caller.find(&NumKey(key)) {
-            Ok(got) => self.notes.check("find", key, got, want),
+impl<'t, K: Key> Worker<'t, K> {
+    fn find(&mut self, key: K, want: Option<u64>) {
+        let number = key.number();
+        match self.caller.find(&key) {
+            Ok(got) => self.notes.check("find", number, got, want),
             Err(_) => self.notes.busy(),
         }
     }
 
-    fn contains(&mut self, key: u64, want: Option<u64>) {
-        match self.caller.contains(&NumKey(key)) {
-            Ok(got) => self.notes.check_bool("contains", key, got, want.is_some()),
+    fn contains(&mut self, key: K, want: Option<u64>) {
+        let number = key.number();
+        match self.caller.contains(&key) {
+            Ok(got) => self
+                .notes
+                .check_bool("contains", number, got, want.is_some()),
             Err(_) => self.notes.busy(),
         }
     }
 
-    fn insert(&mut self, i: u64, key: u64, value: u64, want: Option<u64>) {
-        match self.caller.insert(NumKey(key), value) {
+    fn insert(&mut self, i: u64, key: K, value: u64, want: Option<u64>) {
+        let number = key.number();
+        match self.caller.insert(key, value) {
             Ok(fresh) => {
-                self.notes.check_bool("insert", key, fresh, want.is_none());
+                self.notes
+                    .check_bool("insert", number, fresh, want.is_none());
                 self.notes.model.set(i, want.or(Some(value)));
             }
-            Err(refused) => self.notes.refused(refused, key, value),
+            Err(refused) => self.notes.refused(refused, number, value),
         }
     }
 
-    fn assign(&mut self, i: u64, key: u64, value: u64, want: Option<u64>) {
-        match self.caller.insert_or_assign(NumKey(key), value) {
+    fn assign(&mut self, i: u64, key: K, value: u64, want: Option<u64>) {
+        let number = key.number();
+        match self.caller.insert_or_assign(key, value) {
             Ok(old) => {
-                self.notes.check("insert_or_assign", key, old, want);
+                self.notes.check("insert_or_assign", number, old, want);
                 self.notes.model.set(i, Some(value));
             }
-            Err(refused) => self.notes.refused(refused, key, value),
+            Err(refused) => self.notes.refused(refused, number, value),
         }
     }
 
-    fn upsert(&mut self, i: u64, key: u64, value: u64, want: Option<u64>) {
-        match self.caller.upsert(NumKey(key), |old| old / 2, value) {
+    fn upsert(&mut self, i: u64, key: K, value: u64, want: Option<u64>) {
+        let number = key.number();
+        match self.caller.upsert(key, |old| old / 2, value) {
             Ok(fresh) => {
-                self.notes.check_bool("upsert", key, fresh, want.is_none());
+                self.notes
+                    .check_bool("upsert", number, fresh, want.is_none());
                 self.notes
                     .model
                     .set(i, Some(want.map_or(value, |old| old / 2)));
             }
-            Err(refused) => self.notes.refused(refused, key, value),
+            Err(refused) => self.notes.refused(refused, number, value),
         }
     }
 
-    fn update(&mut self, i: u64, key: u64, value: u64, want: Option<u64>) {
-        match self.caller.update(&NumKey(key), value) {
+    fn update(&mut self, i: u64, key: K, value: u64, want: Option<u64>) {
+        let number = key.number();
+        match self.caller.update(&key, value) {
             Ok(old) => {
-                self.notes.check("update", key, old, want);
+                self.notes.check("update", number, old, want);
                 self.notes.model.set(i, want.map(|_| value));
             }
             Err((back, _)) => {
                 self.notes
-                    .check("value that comes back", key, Some(back), Some(value));
+                    .check("value that comes back", number, Some(back), Some(value));
                 self.notes.busy();
             }
         }
     }
 
-    fn update_fn(&mut self, i: u64, key: u64, want: Option<u64>) {
-        match self.caller.update_fn(&NumKey(key), |old| old / 3) {
+    fn update_fn(&mut self, i: u64, key: K, want: Option<u64>) {
+        let number = key.number();
+        match self.caller.update_fn(&key, |old| old / 3) {
             Ok(bound) => {
                 self.notes
-                    .check_bool("update_fn", key, bound, want.is_some());
+                    .check_bool("update_fn", number, bound, want.is_some());
                 self.notes.model.set(i, want.map(|old| old / 3));
             }
             Err(_) => self.notes.busy(),
         }
     }
 
-    fn erase(&mut self, i: u64, key: u64, want: Option<u64>) {
-        match self.caller.erase(&NumKey(key)) {
+    fn erase(&mut self, i: u64, key: K, want: Option<u64>) {
+        let number = key.number();
+        match self.caller.erase(&key) {
             Ok(old) => {
-                self.notes.check("erase", key, old, want);
+                self.notes.check("erase", number, old, want);
                 self.notes.model.set(i, None);
             }
             Err(_) => self.notes.busy(),
@@ -98,11 +112,17 @@ impl<'t> Worker<'t> {
     }
 
     // Erases an even value.
-    fn erase_fn(&mut self, i: u64, key: u64, want: Option<u64>) {
+    fn erase_fn(&mut self, i: u64, key: K, want: Option<u64>) {
+        let number = key.number();
         let even = want.map(|value| value % 2 == 0);
-        match self.caller.erase_fn(&NumKey(key), |value| *value % 2 == 0) {
+        match self.caller.erase_fn(&key, |value| *value % 2 == 0) {
             Ok(erased) => {
-                self.notes.check("erase_fn", key, erased.map(u64::from), even.map(u64::from));
+                self.notes.check(
+                    "erase_fn",
+                    number,
+                    erased.map(u64::from),
+                    even.map(u64::from),
+                );
                 if even == Some(true) {
                     self.notes.model.set(i, None);
                 }
@@ -112,29 +132,36 @@ impl<'t> Worker<'t> {
     }
 
     // Halves an even value, and erases an odd one.
-    fn uprase(&mut self, i: u64, key: u64, value: u64, want: Option<u64>) {
+    fn uprase(&mut self, i: u64, key: K, value: u64, want: Option<u64>) {
+        let number = key.number();
         let halved = |old: u64| if old % 2 == 0 { Some(old / 2) } else { None };
-        match self.caller.uprase(NumKey(key), halved, value) {
+        match self.caller.uprase(key, halved, value) {
             Ok(did) => {
                 let right = match want.map(halved) {
                     None => Uprased::New,
                     Some(Some(_)) => Uprased::Changed,
                     Some(None) => Uprased::Erased,
                 };
-                self.notes.check_bool("uprase", key, did == right, true);
+                self.notes.check_bool("uprase", number, did == right, true);
                 self.notes.model.set(i, want.map_or(Some(value), halved));
             }
-            Err(refused) => self.notes.refused(refused, key, value),
+            Err(refused) => self.notes.refused(refused, number, value),
         }
     }
 
     // Halves an even value, and leaves an odd one.
-    fn replace_if(&mut self, i: u64, key: u64, want: Option<u64>) {
+    fn replace_if(&mut self, i: u64, key: K, want: Option<u64>) {
+        let number = key.number();
         let halved = |old: &u64| if *old % 2 == 0 { Some(*old / 2) } else { None };
         let right = want.map(|old| halved(&old).is_some());
-        match self.caller.replace_if(&NumKey(key), halved) {
+        match self.caller.replace_if(&key, halved) {
             Ok(did) => {
-                self.notes.check("replace_if", key, did.map(u64::from), right.map(u64::from));
+                self.notes.check(
+                    "replace_if",
+                    number,
+                    did.map(u64::from),
+                    right.map(u64::from),
+                );
                 if right == Some(true) {
                     self.notes.model.set(i, want.map(|old| old / 2));
                 }
@@ -143,26 +170,28 @@ impl<'t> Worker<'t> {
         }
     }
 
-    fn insert_with(&mut self, i: u64, key: u64, value: u64, want: Option<u64>) {
-        match self.caller.insert_with(NumKey(key), || value) {
+    fn insert_with(&mut self, i: u64, key: K, value: u64, want: Option<u64>) {
+        let number = key.number();
+        match self.caller.insert_with(key, || value) {
             Ok(fresh) => {
                 self.notes
-                    .check_bool("insert_with", key, fresh, want.is_none());
+                    .check_bool("insert_with", number, fresh, want.is_none());
                 self.notes.model.set(i, want.or(Some(value)));
             }
-            Err(refused) => self.notes.key_back(refused.key, refused.why, key),
+            Err(refused) => self.notes.key_back(refused.key, refused.why, number),
         }
     }
 
-    fn get_or_insert_with(&mut self, i: u64, key: u64, value: u64, want: Option<u64>) {
-        match self.caller.get_or_insert_with(NumKey(key), || value) {
+    fn get_or_insert_with(&mut self, i: u64, key: K, value: u64, want: Option<u64>) {
+        let number = key.number();
+        match self.caller.get_or_insert_with(key, || value) {
             Ok(got) => {
                 let right = want.or(Some(value));
                 self.notes
-                    .check("get_or_insert_with", key, Some(got), right);
+                    .check("get_or_insert_with", number, Some(got), right);
                 self.notes.model.set(i, right);
             }
-            Err(refused) => self.notes.key_back(refused.key, refused.why, key),
+            Err(refused) => self.notes.key_back(refused.key, refused.why, number),
         }
     }
 
@@ -170,7 +199,9 @@ impl<'t> Worker<'t> {
     fn call_own(&mut self, kind: u64) {
         let i = self.notes.model.below(OWN);
         let value = self.notes.model.below(u64::MAX);
-        let key = own(self.notes.model.thread, i);
+        let Some(key) = K::of(self.alloc, own(self.notes.model.thread, i)) else {
+            return;
+        };
         let want = self.notes.model.get(i);
         match kind {
             0 => self.find(key, want),
@@ -194,7 +225,10 @@ impl<'t> Worker<'t> {
         let from = account(self.notes.model.below(ACCOUNTS));
         let to = account(self.notes.model.below(ACCOUNTS));
         let amount = self.notes.model.below(50);
-        if from == to {
+        let (Some(payer), Some(payee)) = (K::of(self.alloc, from), K::of(self.alloc, to)) else {
+            return;
+        };
+        if payer == payee {
             return;
         }
         let moved = |less: u64, more: u64| {
@@ -204,7 +238,7 @@ impl<'t> Worker<'t> {
                 (less, more)
             }
         };
-        match self.caller.update_two(&NumKey(from), &NumKey(to), moved) {
+        match self.caller.update_two(&payer, &payee, moved) {
             Ok(both) => self.notes.check_bool("update_two", from, both, true),
             Err(_) => self.notes.busy(),
         }
@@ -212,39 +246,43 @@ impl<'t> Worker<'t> {
 
     // Raises a counter that all threads share.
     fn raise(&mut self) {
-        let i = self.notes.model.below(u64::MAX);
-        let key = counter(i);
-        match self
-            .caller
-            .upsert(NumKey(key), |count| count.saturating_add(1), 1)
-        {
+        let i = self.notes.model.below(COUNTERS);
+        let number = counter(i);
+        let Some(key) = K::of(self.alloc, number) else {
+            return;
+        };
+        match self.caller.upsert(key, |count| count.saturating_add(1), 1) {
             Ok(_) => {
-                self.notes.check("counter", key, None, None);
-                self.notes.model.raise(key.saturating_sub(ACCOUNTS));
+                self.notes.check("counter", number, None, None);
+                self.notes.model.raise(i);
             }
-            Err(refused) => self.notes.refused(refused, key, 1),
+            Err(refused) => self.notes.refused(refused, number, 1),
         }
     }
 
     // The same by the second caller, while the first is in a call on an account.
     fn raise_within(&mut self) {
         let at = account(self.notes.model.below(ACCOUNTS));
-        let key = counter(self.notes.model.below(u64::MAX));
+        let i = self.notes.model.below(COUNTERS);
+        let (Some(at_key), Some(key)) = (K::of(self.alloc, at), K::of(self.alloc, counter(i)))
+        else {
+            return;
+        };
         let second = &mut self.second;
         let mut raised = false;
         let around = |value: u64| {
-            let fresh = second.upsert(NumKey(key), |count| count.saturating_add(1), 1);
+            let fresh = second.upsert(key, |count| count.saturating_add(1), 1);
             raised = fresh.is_ok();
             value
         };
-        match self.caller.update_fn(&NumKey(at), around) {
+        match self.caller.update_fn(&at_key, around) {
             Ok(bound) => self
                 .notes
                 .check_bool("update_fn around a call", at, bound, true),
             Err(_) => self.notes.busy(),
         }
         if raised {
-            self.notes.model.raise(key.saturating_sub(ACCOUNTS));
+            self.notes.model.raise(i);
         }
     }
 

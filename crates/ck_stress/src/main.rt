@@ -1,12 +1,13 @@
 //! Threads that do all that they can to one table at once, and a count of what it lost.
 //!
 //! `ck_stress SECONDS [THREADS [SEED]]` makes a round a second, each with a table of its own that
-//! grows from four buckets, and says after each what was done. The first wrong answer ends it, with
+//! grows from a few buckets, and says after each what was done. The first wrong answer ends it, with
 //! status 1 and all that is needed to see it again. With no word it makes one short round.
 #![tactic(auto)]
 
 mod audit;
 mod calls;
+mod key;
 mod model;
 mod notes;
 mod round;

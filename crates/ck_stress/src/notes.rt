@@ -1,7 +1,7 @@
 //! What a thread knows, what it did, and the first answer that was wrong.
+use crate::key::Key;
 use crate::model::Model;
 use crate::tally::Tally;
-use ck_key::NumKey;
 use cuckoo_map::{Refused, Why};
 use std::io;
 
@@ -65,7 +65,7 @@ impl Notes {
     }
 
     /// Counts a refused insertion of this key and value. Both come back.
-    pub fn refused(&mut self, refused: Refused<NumKey, u64>, key: u64, value: u64) {
+    pub fn refused<K: Key>(&mut self, refused: Refused<K, u64>, key: u64, value: u64) {
         self.check(
             "value that comes back",
             key,
@@ -76,12 +76,15 @@ impl Notes {
     }
 
     /// Counts an insertion of this key that was refused for this reason. The key comes back.
-    pub fn key_back(&mut self, back: NumKey, why: Why, key: u64) {
-        self.check("key that comes back", key, Some(back.0), Some(key));
-        if let Why::Busy(_) = why {
-            self.busy();
-        } else {
-            self.tally.without_room = self.tally.without_room.saturating_add(1);
-        }
+    pub fn key_back<K: Key>(&mut self, back: K, why: Why, key: u64) {
+        self.check("key that comes back", key, Some(back.number()), Some(key));
+        let tally = &mut self.tally;
+        let count = match why {
+            Why::Busy(_) => &mut tally.busy,
+            Why::Memory => &mut tally.memory,
+            Why::Full => &mut tally.full,
+            Why::LoadTooLow => &mut tally.load_too_low,
+        };
+        *count = count.saturating_add(1);
     }
 }

@@ -1,10 +1,11 @@
 //! A round: a new table, threads that call it, and a last look at what it has.
 use crate::audit::{audit, check_end};
 use crate::calls::{Caller, Worker};
+use crate::key::Key;
 use crate::model::{ACCOUNTS, FUND, Model, account};
 use crate::notes::{Notes, Wrong};
 use crate::tally::Tally;
-use ck_key::NumKey;
+use ck_key::{NumKey, TextKey};
 use cuckoo_map::{Settings, Table};
 use std::alloc::{AllocError, Global};
 use std::io;
@@ -27,15 +28,22 @@ pub struct Plan {
     pub stop: Stop,
 }
 
-/// A table of four stripes that grows from four buckets, and whose calls are soon busy. Each thread
-/// has two callers, and the last look has one.
-fn settings(threads: u32) -> Settings {
+/// A table that grows from two buckets, in two to sixteen stripes, and whose calls are soon busy, or
+/// at the first try. Each thread has two callers, and the last look has one.
+fn settings(plan: Plan) -> Settings {
+    let turns = match plan.seed % 4 {
+        0 => 1,
+        1 => 300,
+        2 => 20,
+        _ => 100_000,
+    };
+    let s = plan.seed % 5;
     Settings {
-        s: 2,
-        power: 2,
+        s: s as u32,
+        power: s.max(1) as u32,
         max: 16,
-        callers: threads.saturating_mul(2).saturating_add(1),
-        turns: 300,
+        callers: plan.threads.saturating_mul(2).saturating_add(1),
+        turns,
         rounds: 4,
         min_load: 5,
     }
@@ -56,7 +64,12 @@ fn goes_on(rt: &impl Clock, stop: Stop, start: Instant, calls: u64) -> bool {
 }
 
 /// Makes the calls of a thread.
-fn work<'t>(rt: &impl Clock, plan: Plan, start: Instant, worker: Worker<'t>) -> Worker<'t> {
+fn work<'t, K: Key>(
+    rt: &impl Clock,
+    plan: Plan,
+    start: Instant,
+    worker: Worker<'t, K>,
+) -> Worker<'t, K> {
     let mut worker = worker;
     for block in 0..u64::MAX / CALLS {
         if worker.notes.wrong.is_some() || !goes_on(rt, plan.stop, start, block * CALLS) {
@@ -71,19 +84,22 @@ fn work<'t>(rt: &impl Clock, plan: Plan, start: Instant, worker: Worker<'t>) -> 
 }
 
 /// Lets each worker call in a thread of its own.
-fn work_all<'t, R: Threads + Clock + Sync>(
+fn work_all<'t, K: Key + Send, R: Threads + Clock + Sync>(
     rt: &R,
     plan: Plan,
     start: Instant,
-    workers: Vec<Worker<'t>>,
-) -> Result<Vec<Worker<'t>>, AllocError> {
+    workers: Vec<Worker<'t, K>>,
+) -> Result<Vec<Worker<'t, K>>, AllocError> {
     thread::map_vec(rt, workers, &|worker| work(rt, plan, start, worker))
 }
 
 /// Opens the accounts.
-fn fund(caller: &mut Caller<'_>) -> io::Result<()> {
+fn fund<K: Key>(alloc: Global, caller: &mut Caller<'_, K>) -> io::Result<()> {
     for i in 0..ACCOUNTS {
-        if caller.insert(NumKey(account(i)), FUND).is_err() {
+        let Some(key) = K::of(alloc, account(i)) else {
+            return Err(io::ErrorKind::OutOfMemory.into());
+        };
+        if caller.insert(key, FUND).is_err() {
             return Err(io::ErrorKind::ResourceBusy.into());
         }
     }
@@ -91,7 +107,11 @@ fn fund(caller: &mut Caller<'_>) -> io::Result<()> {
 }
 
 /// A worker for each two callers.
-fn hire<'t>(alloc: Global, seed: u64, callers: Vec<Caller<'t>>) -> io::Result<Vec<Worker<'t>>> {
+fn hire<'t, K: Key>(
+    alloc: Global,
+    seed: u64,
+    callers: Vec<Caller<'t, K>>,
+) -> io::Result<Vec<Worker<'t, K>>> {
     let mut workers = Vec::new(alloc);
     let mut waiting = None;
     let mut thread = 0u32;
@@ -109,6 +129,7 @@ fn hire<'t>(alloc: Global, seed: u64, callers: Vec<Caller<'t>>) -> io::Result<Ve
                     caller,
                     second,
                     notes,
+                    alloc,
                 })?;
                 thread = thread.saturating_add(1);
             }
@@ -118,10 +139,10 @@ fn hire<'t>(alloc: Global, seed: u64, callers: Vec<Caller<'t>>) -> io::Result<Ve
 }
 
 /// The last look, when no thread is in a call: what all did, or what is wrong.
-fn look_at_end(
+fn look_at_end<K: Key>(
     alloc: Global,
-    auditor: Caller<'_>,
-    workers: &[Worker<'_>],
+    auditor: Caller<'_, K>,
+    workers: &[Worker<'_, K>],
 ) -> io::Result<Result<Tally, Wrong>> {
     let mut auditor = auditor;
     let power = auditor.power().unwrap_or(0);
@@ -136,7 +157,7 @@ fn look_at_end(
                 tally: Tally::none(),
                 wrong: None,
             };
-            check_end(&mut notes, &locked, workers);
+            check_end(alloc, &mut notes, &locked, workers);
             Ok(notes)
         }
         Err(error) => Err(error),
@@ -157,13 +178,13 @@ fn look_at_end(
     }
 }
 
-/// Makes a round, and says what was done in it, or what was wrong.
-pub fn run_round<R: Threads + Clock + Sync>(
+/// Makes a round with keys of this type, and says what was done in it, or what was wrong.
+fn run_with<K: Key + Send + Sync, R: Threads + Clock + Sync>(
     rt: &R,
     alloc: Global,
     plan: Plan,
 ) -> io::Result<Result<Tally, Wrong>> {
-    let Ok((table, passes)) = Table::<NumKey, u64>::open(alloc, settings(plan.threads)) else {
+    let Ok((table, passes)) = Table::<K, u64>::open(alloc, settings(plan)) else {
         return Err(io::ErrorKind::OutOfMemory.into());
     };
     let Ok(mut callers) = table.callers(alloc, passes) else {
@@ -172,9 +193,22 @@ pub fn run_round<R: Threads + Clock + Sync>(
     let Some(mut auditor) = callers.pop() else {
         return Err(io::ErrorKind::InvalidInput.into());
     };
-    fund(&mut auditor)?;
+    fund(alloc, &mut auditor)?;
     let workers = hire(alloc, plan.seed, callers)?;
     let start = Instant::now(rt)?;
     let workers = work_all(rt, plan, start, workers)?;
     look_at_end(alloc, auditor, &workers)
+}
+
+/// Makes a round, every third with text keys, and says what was done in it, or what was wrong.
+pub fn run_round<R: Threads + Clock + Sync>(
+    rt: &R,
+    alloc: Global,
+    plan: Plan,
+) -> io::Result<Result<Tally, Wrong>> {
+    if plan.seed % 3 == 2 {
+        run_with::<TextKey, R>(rt, alloc, plan)
+    } else {
+        run_with::<NumKey, R>(rt, alloc, plan)
+    }
 }

@@ -6,7 +6,9 @@ use std::io;
 pub struct Tally {
     pub calls: u64,
     pub busy: u64,
-    pub without_room: u64,
+    pub memory: u64,
+    pub full: u64,
+    pub load_too_low: u64,
     pub sessions: u64,
     pub power: u32,
 }
@@ -16,7 +18,9 @@ impl Tally {
         Tally {
             calls: 0,
             busy: 0,
-            without_room: 0,
+            memory: 0,
+            full: 0,
+            load_too_low: 0,
             sessions: 0,
             power: 0,
         }
@@ -26,7 +30,9 @@ impl Tally {
     pub fn add(&mut self, other: Tally) {
         self.calls = self.calls.saturating_add(other.calls);
         self.busy = self.busy.saturating_add(other.busy);
-        self.without_room = self.without_room.saturating_add(other.without_room);
+        self.memory = self.memory.saturating_add(other.memory);
+        self.full = self.full.saturating_add(other.full);
+        self.load_too_low = self.load_too_low.saturating_add(other.load_too_low);
         self.sessions = self.sessions.saturating_add(other.sessions);
         self.power = self.power.max(other.power);
     }
@@ -35,12 +41,14 @@ impl Tally {
         let Tally {
             calls,
             busy,
-            without_room,
+            memory,
+            full,
+            load_too_low,
             sessions,
             power,
         } = *self;
         println!(rt;
-            "{what} {number}: {calls} calls, {sessions} sessions, refused {busy} as busy and {without_room} for want of room, grown to power {power}"
+            "{what} {number}: {calls} calls, {sessions} sessions, grown to power {power}, refused {busy} as busy, {memory} for want of memory, {full} as full, {load_too_low} as too empty to grow"
         )
     }
 }
