@@ -15,9 +15,10 @@ struct Plan {
   size_t slice, rounds;
 };
 
-static void put(const char *measure, const std::string &table, const std::string &workload, unsigned threads, double value,
-                double low, double high) {
-  printf("%s,%s,%s,%u,%.4g,%.4g,%.4g\n", measure, table.c_str(), workload.c_str(), threads, value, low, high);
+static void put(const char *measure, const std::string &table, const std::string &workload,
+                unsigned threads, double value, double low, double high) {
+  printf("%s,%s,%s,%u,%.4g,%.4g,%.4g\n", measure, table.c_str(), workload.c_str(), threads, value,
+         low, high);
   fflush(stdout);
 }
 
@@ -26,14 +27,15 @@ static double at(std::vector<double> values, double part) {
   return values[size_t(part * (values.size() - 1))];
 }
 
-static void put_all(const char *measure, const std::string &table, const std::string &workload, unsigned threads,
-                    const std::vector<double> &values) {
+static void put_all(const char *measure, const std::string &table, const std::string &workload,
+                    unsigned threads, const std::vector<double> &values) {
   put(measure, table, workload, threads, at(values, 0.5), at(values, 0.1), at(values, 0.9));
 }
 
 // The contestants; the proved one reads the trace from a file.
 static std::vector<Contestant> contestants(const Plan &plan, const Trace &trace, const char *kind) {
-  std::string program = plan.program, file = plan.folder + "/" + std::to_string(trace.calls.size()) + kind;
+  std::string program = plan.program,
+              file = plan.folder + "/" + std::to_string(trace.calls.size()) + kind;
   trace.write(file);
   bool texts = kind == std::string("texts");
   std::vector<Contestant> all = texts ? peers<std::string>(trace) : peers<uint64_t>(trace);
@@ -44,14 +46,17 @@ static std::vector<Contestant> contestants(const Plan &plan, const Trace &trace,
 }
 
 static void differ(const std::string &table, const std::string &workload) {
-  fprintf(stderr, "bench: %s answered otherwise than the proved table: %s\n", table.c_str(), workload.c_str());
+  fprintf(stderr, "bench: %s answered otherwise than the proved table: %s\n", table.c_str(),
+          workload.c_str());
   exit(1);
 }
 
 // Makes the same slice on each table in turn, another one first in each round.
-static void measure_workload(const Plan &plan, const std::vector<Contestant> &all, std::vector<std::unique_ptr<Table>> &tables,
-                             const Workload &workload, unsigned threads, const std::string &name) {
-  size_t parts = threads * workload.calls_each, length = workload.to - workload.from, count = all.size();
+static void measure_workload(const Plan &plan, const std::vector<Contestant> &all,
+                             std::vector<std::unique_ptr<Table>> &tables, const Workload &workload,
+                             unsigned threads, const std::string &name) {
+  size_t parts = threads * workload.calls_each, length = workload.to - workload.from,
+         count = all.size();
   size_t calls = std::min(plan.slice, length / parts) * parts, slices = length / calls;
   std::vector<std::vector<double>> times(count), rates(count);
   for (size_t round = 0; round < plan.rounds; round++) {
@@ -71,7 +76,8 @@ static void measure_workload(const Plan &plan, const std::vector<Contestant> &al
     put_all("calls", all[i].name, name, threads, rates[i]);
     if (count < 2) continue;
     std::vector<double> ratios;
-    for (size_t round = 0; round < plan.rounds; round++) ratios.push_back(times[i][round] / times[1][round]);
+    for (size_t round = 0; round < plan.rounds; round++)
+      ratios.push_back(times[i][round] / times[1][round]);
     put_all("ratio", all[i].name, name, threads, ratios);
   }
 }
@@ -88,7 +94,9 @@ static void measure_calls(const Plan &plan, const char *kind) {
   }
   for (unsigned threads : {1, 2, 4})
     for (const Workload &workload : trace.workloads)
-      if (workload.from != 0) measure_workload(plan, all, tables, workload, threads, texts ? "text " + workload.name : workload.name);
+      if (workload.from != 0)
+        measure_workload(plan, all, tables, workload, threads,
+                         texts ? "text " + workload.name : workload.name);
 }
 
 static void measure_growth(const Plan &plan, const std::vector<Contestant> &all) {
@@ -137,7 +145,11 @@ int main(int count, char **words) {
     fprintf(stderr, "measure PROGRAM FOLDER KEYS GROWN SLICE ROUNDS\n");
     return 2;
   }
-  Plan plan{words[1], words[2], strtoull(words[3], 0, 10), strtoull(words[4], 0, 10), strtoull(words[5], 0, 10),
+  Plan plan{words[1],
+            words[2],
+            strtoull(words[3], 0, 10),
+            strtoull(words[4], 0, 10),
+            strtoull(words[5], 0, 10),
             strtoull(words[6], 0, 10)};
   puts("measure,table,workload,threads,value,low,high");
   Trace growth = insertions(plan.grown);

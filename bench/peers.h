@@ -17,7 +17,10 @@ template <class Key> struct Libcuckoo {
   bool find(const Key &key, uint64_t &value) { return map.find(key, value); }
   bool insert(const Key &key, uint64_t value) { return map.insert(key, value); }
   bool update(const Key &key, uint64_t value) { return map.update(key, value); }
-  bool add(const Key &key) { return map.upsert(key, [](uint64_t &value) { value++; }, 1); }
+  bool add(const Key &key) {
+    return map.upsert(
+        key, [](uint64_t &value) { value++; }, 1);
+  }
   bool erase(const Key &key) { return map.erase(key); }
 };
 #endif
@@ -39,7 +42,9 @@ template <class Key> struct Tbb {
     value = at->second;
     return true;
   }
-  bool insert(const Key &key, uint64_t value) { return map.insert(typename Map::value_type(key, value)); }
+  bool insert(const Key &key, uint64_t value) {
+    return map.insert(typename Map::value_type(key, value));
+  }
   bool update(const Key &key, uint64_t value) {
     typename Map::accessor at;
     if (!map.find(at, key)) return false;

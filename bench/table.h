@@ -29,7 +29,8 @@ public:
   virtual long resident() const = 0;
 };
 
-// A kind of table for the calls of one trace. `open` opens one for so many keys, the smallest one for 0, and so many threads.
+// A kind of table for the calls of one trace. `open` opens one for so many keys, the smallest one
+// for 0, and so many threads.
 struct Contestant {
   std::string name;
   std::function<std::unique_ptr<Table>(uint64_t keys, unsigned threads)> open;
@@ -71,7 +72,9 @@ template <class Key, class Map> class Own : public Table {
   Calls<Key> calls;
   Map map;
 
-  static double nanos(Clock::duration time) { return std::chrono::duration<double, std::nano>(time).count(); }
+  static double nanos(Clock::duration time) {
+    return std::chrono::duration<double, std::nano>(time).count();
+  }
 
   // A number of the answer, as crates/ck_trace gives it.
   uint64_t make(const KeyedCall<Key> &call) {
@@ -89,7 +92,8 @@ template <class Key, class Map> class Own : public Table {
 
   uint64_t make_all(size_t from, size_t to) {
     uint64_t sum = 0;
-    for (const KeyedCall<Key> *call = calls->data() + from; call != calls->data() + to; call++) sum += make(*call);
+    for (const KeyedCall<Key> *call = calls->data() + from; call != calls->data() + to; call++)
+      sum += make(*call);
     return sum;
   }
 
@@ -126,7 +130,9 @@ public:
     std::sort(times.begin(), times.end());
     double all = 0;
     for (double time : times) all += time;
-    auto within = [&](size_t calls) { return times[std::min(times.size() - 1, times.size() * calls / 1000)]; };
+    auto within = [&](size_t calls) {
+      return times[std::min(times.size() - 1, times.size() * calls / 1000)];
+    };
     return {sum, all / times.size(), within(500), within(990), within(999), times.back()};
   }
 
@@ -134,5 +140,7 @@ public:
 };
 
 template <class Map, class Key> Contestant own(const char *name, Calls<Key> calls) {
-  return {name, [calls](uint64_t keys, unsigned) { return std::make_unique<Own<Key, Map>>(calls, keys); }};
+  return {name, [calls](uint64_t keys, unsigned) {
+            return std::make_unique<Own<Key, Map>>(calls, keys);
+          }};
 }

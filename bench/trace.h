@@ -62,7 +62,8 @@ struct Trace {
   void write(const std::string &path) const {
     FILE *file = fopen(path.c_str(), "w");
     if (!file) perror(path.c_str()), exit(1);
-    for (const Call &call : calls) fprintf(file, "%c %llu\n", call.letter, (unsigned long long)call.number);
+    for (const Call &call : calls)
+      fprintf(file, "%c %llu\n", call.letter, (unsigned long long)call.number);
     if (fclose(file)) perror(path.c_str()), exit(1);
   }
 };
@@ -75,7 +76,8 @@ inline Trace insertions(uint64_t keys) {
   return trace;
 }
 
-// The insertions, and then each workload, with as many calls as there are keys. The mixes are those of YCSB.
+// The insertions, and then each workload, with as many calls as there are keys. The mixes are those
+// of YCSB.
 inline Trace workloads(uint64_t keys, bool mixes) {
   Trace trace = insertions(keys);
   auto &calls = trace.calls;
