@@ -4,7 +4,6 @@ ghost use Rattle.ck_format.specs.Tokens.{begins_as_number, number_at, tokens};
 ghost use Rattle.ck_format.specs.AreTokens.{AreTokens};
 
 use memchr::memchr;
-use std::str;
 
 /// The tokens of a line that has at most four.
 #[derive(Drop)]
@@ -68,8 +67,14 @@ pub fn number_of(word: &[u8]) -> Option<u64>
     if !is_begun(word) {
         return None;
     }
-    match str::from_utf8(word) {
-        Ok(text) => text.parse::<u64>().ok(),
-        Err(_) => None,
+    let mut number: u64 = 0;
+    for byte in word {
+        if !byte.is_ascii_digit() {
+            return None;
+        }
+        number = number
+            .checked_mul(10)?
+            .checked_add(u64::from(*byte - b'0'))?;
     }
+    Some(number)
 }
