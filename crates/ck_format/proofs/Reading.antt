@@ -54,27 +54,25 @@ on_text_fault-any is.Truncated h = h
 
 -- A line is taken.
 
-pub place_next : (p : Place) (old new : Stage) (line : List ℕ) → old ≡ p.stage → step (parse_state old) line ≡ Ok (parse_state new) → NoFeed line → length line ≤ 200
+pub place_next : (p : Place) (new : Stage) (line : List ℕ) → step (parse_state p.stage) line ≡ Ok (parse_state new) → NoFeed line → length line ≤ 200
     → (lines : List (List ℕ)) → StandsBehind p lines → StandsBehind (record { stage = new; number = p.number + 1 }) (lines ++ line ∷ [])
-place_next p old new line same e no_feed short lines stands =
-    let told : step (parse_state p.stage) line ≡ Ok (parse_state new) = ap (λ (s : Stage). step (parse_state s) line) (sym same) ∙ e in
+place_next p new line told no_feed short lines stands =
     let number = stands.number in
     record {
       read = read_next (parse_state p.stage) lines stands.read line (parse_state new) (record { no_feed = no_feed; short = short }) told;
       number = let more : length (lines ++ line ∷ []) ≡ length lines + 1 = length-append lines (line ∷ []) in omega arith;
     }
 
-pub place_limits : (p : Place) (old new : Stage) (line : List ℕ) → old ≡ p.stage → step (parse_state old) line ≡ Ok (parse_state new) → IsInScript p → IsInScript (record { stage = new; number = p.number + 1 })
-place_limits p old new line same e limits =
-    let told : step (parse_state p.stage) line ≡ Ok (parse_state new) = ap (λ (s : Stage). step (parse_state s) line) (sym same) ∙ e in
+pub place_limits : (p : Place) (new : Stage) (line : List ℕ) → step (parse_state p.stage) line ≡ Ok (parse_state new) → IsInScript p → IsInScript (record { stage = new; number = p.number + 1 })
+place_limits p new line told limits =
     let more = fuller (parse_state p.stage) (parse_state new) line limits.few told in
     let number = limits.number in
     record { number = let room = more.0 in omega arith; few = more.1 }
 
-pub place_fault : (p : Place) (old : Stage) (line : List ℕ) (what : What) (n : ℕ) → old ≡ p.stage → n ≡ p.number → OnTextFault what (step (parse_state old) line ≡ Err what) → length line ≤ 200
+pub place_fault : (p : Place) (line : List ℕ) (what : What) (n : ℕ) → n ≡ p.number → OnTextFault what (step (parse_state p.stage) line ≡ Err what) → length line ≤ 200
     → (lines more : List (List ℕ)) → StandsBehind p lines → 0 < length more → OnTextFault what (first_fault_behind lines (line ∷ more) ≡ Some (fault_at n what))
-place_fault p old line what n same here e short lines more stands some =
-    on_text_fault-map what (λ told. fault_next (parse_state p.stage) lines stands.read line what n short (ap (λ (s : Stage). step (parse_state s) line) (sym same) ∙ told) (here ∙ stands.number) more some) e
+place_fault p line what n here e short lines more stands some =
+    on_text_fault-map what (λ told. fault_next (parse_state p.stage) lines stands.read line what n short told (here ∙ stands.number) more some) e
 
 pub place_long : (p : Place) (line : List ℕ) (n : ℕ) → n ≡ p.number → 200 < length line → (lines more : List (List ℕ)) → StandsBehind p lines → 0 < length more
     → first_fault_behind lines (line ∷ more) ≡ Some (fault_at n is.TooLong)

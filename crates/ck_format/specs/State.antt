@@ -9,10 +9,7 @@ use Rattle.ck_format.specs.declared.script.What.{What}
 use Rattle.ck_format.specs.declared.script.What.TheVariants as is
 use Rattle.ck_format.specs.declared.stage.Stage.{Stage}
 use Rattle.ck_format.specs.declared.stage.Stage.TheVariants as stage
-use Rattle.ck_format.specs.declared.stage.Next.{Next}
-use Rattle.ck_format.specs.declared.stage.Next.TheVariants as next
-use Rattle.ck_format.specs.declared.script.Keys.{Keys}
-use Rattle.ck_format.specs.Script.{Said, said_of, said_in}
+use Rattle.ck_format.specs.Script.{Said, said_of}
 use Rattle.ck_format.specs.Tokens.{tokens}
 use Rattle.ck_format.specs.Formats.{header_of}
 use Rattle.ck_format.specs.FirstFault.{is_worker, is_end}
@@ -74,11 +71,6 @@ AreFew Header = Unit {0}
 AreFew (Setting g) = Unit {0}
 AreFew (Block b) = (b.settings.callers ≤ 1024) × (b.commands ≤ 1000000)
 AreFew (After said) = Unit {0}
-
--- the same of a line of a block
-abbrev pub next_of : {K : Type 0} → Keys → (K → Name) → Next K → State
-next_of keys name (next.Block body) = Block (blocks_of keys name body)
-next_of keys name (next.After work) = After (said_in keys name work)
 
 -- the script is whole
 abbrev pub has_ended : State → Bool

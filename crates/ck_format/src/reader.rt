@@ -7,10 +7,9 @@ ghost use Rattle.ck_format.specs.Lines.{is_feed};
 
 use crate::script::{Script, ScriptFault, What};
 use crate::source::Source;
-use crate::stage::{Stage, behind};
+use crate::stage::Stage;
 use memchr::memchr;
 use std::alloc::Global;
-use std::mem;
 
 const MOST_BYTES: usize = 200;
 
@@ -71,10 +70,8 @@ impl Place {
         if line.len() > MOST_BYTES {
             return Err(self.fault(What::TooLong));
         }
-        let stage = mem::replace(&mut self.stage, Stage::Header);
-        match behind(alloc, stage, line) {
-            Ok(stage) => {
-                self.stage = stage;
+        match self.stage.take(alloc, line) {
+            Ok(()) => {
                 self.number += 1;
                 Ok(())
             }

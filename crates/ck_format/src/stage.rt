@@ -1,9 +1,10 @@
 //! Where in a script a line stands, and what is known there.
-ghost use Rattle.std.specs.Prelude.{◌≡◌, ◌≢◌, Ok, Err, IfOk, IfErr, OnOk};
+ghost use Rattle.std.specs.Prelude.{◌≡◌, ◌≢◌, false, codes, Ok, Err, IfOk, IfErr, IfSome, IfNone, OnOk};
 ghost use Rattle.ck_format.specs.Script.{OnTextFault};
 ghost use Rattle.ck_format.specs.Blocks.{blocks_of};
+ghost use Rattle.ck_format.specs.FirstFault.{is_worker, is_end};
 ghost use Rattle.ck_format.specs.SettingLines.{found_of};
-ghost use Rattle.ck_format.specs.State.{parse_state, step, header_step, setting_step, first_worker, block_step, next_of};
+ghost use Rattle.ck_format.specs.State.{parse_state, step, header_step, first_worker, block_step, has_ended, Block};
 
 use crate::body::Body;
 use crate::given::Given;
@@ -11,6 +12,7 @@ use crate::script::{Keys, Script, Version, What, Work};
 use crate::script_key::ScriptKey;
 use ck_key::{NumKey, TextKey};
 use std::alloc::Global;
+use std::mem;
 
 /// What is known where a line begins.
 #[derive(Drop)]
@@ -25,32 +27,6 @@ pub enum Stage {
     Text(Body<TextKey>),
     /// Behind the line `end`.
     After(Script),
-}
-
-impl Stage {
-    ghost use Rattle.std.specs.Prelude.{◌≡◌, false, IfSome, IfNone};
-    ghost use Rattle.ck_format.specs.State.{parse_state, has_ended};
-
-    /// The script, behind the line `end`.
-    pub fn script(self) -> Option<Script>
-        ensures some { IfSome result (λ s. self ≡ Stage.After s) }
-        ensures none { IfNone result (has_ended (parse_state self) ≡ false) }
-    {
-        match self {
-            Stage::After(script) => Some(script),
-            Stage::Header => None,
-            Stage::Settings(_given) => None,
-            Stage::Num(_body) => None,
-            Stage::Text(_body) => None,
-        }
-    }
-}
-
-/// What a line of a block leaves.
-#[derive(Drop)]
-enum Next<K> {
-    Block(Body<K>),
-    After(Work<K>),
 }
 
 // Behind line 1.
@@ -84,57 +60,92 @@ fn behind_settings(alloc: Global, given: &Given) -> Result<Stage, What>
     })
 }
 
-// Behind a line where settings stand.
-fn behind_setting(alloc: Global, mut given: Given, line: &[u8]) -> Result<Stage, What>
-    ensures ok { IfOk result (λ s. setting_step (found_of given) line.now ≡ Ok (parse_state s)) }
-    ensures err { IfErr result (λ what.
-        OnTextFault what (setting_step (found_of given) line.now ≡ Err what)) }
-    ensures text { IfErr result (λ what. what ≢ What.Read) }
+// Whether a line is `worker`.
+fn is_worker(line: &[u8]) -> bool
+    ensures { result ≡ is_worker line.now }
 {
-    if line == b"worker".as_slice() {
-        return behind_settings(alloc, &given);
-    }
-    given.take(line)?;
-    Ok(Stage::Settings(given))
+    matches!(line, b"worker")
 }
 
-// Behind a line of a block.
-fn behind_line<K: ScriptKey>(alloc: Global, mut body: Body<K>, line: &[u8]) -> Result<Next<K>, What>
-    ensures ok { IfOk result (λ next.
-        block_step (blocks_of K.kind K.name body) line.now ≡ Ok (next_of K.kind K.name next)) }
-    ensures err { IfErr result (λ what.
-        OnTextFault what (block_step (blocks_of K.kind K.name body) line.now ≡ Err what)) }
-    ensures text { IfErr result (λ what. what ≢ What.Read) }
+// Whether a line is `end`.
+fn is_end(line: &[u8]) -> bool
+    ensures { result ≡ is_end line.now }
 {
-    if line == b"worker".as_slice() {
-        body.take_worker(alloc)?;
-        return Ok(Next::Block(body));
-    }
-    if line == b"end".as_slice() {
-        return Ok(Next::After(body.end()?));
-    }
-    body.take_command(alloc, line)?;
-    Ok(Next::Block(body))
+    matches!(line, b"end")
 }
 
-/// What is known behind a line, or what is wrong with it.
-pub fn behind(alloc: Global, stage: Stage, line: &[u8]) -> Result<Stage, What>
-    ensures ok { IfOk result (λ s. step (parse_state stage) line.now ≡ Ok (parse_state s)) }
+// Takes a line of a block, which is not `end`.
+fn take_line<K: ScriptKey>(alloc: Global, body: &mut Body<K>, line: &[u8]) -> Result<(), What>
+    requires { is_end line.now ≡ false }
+    ensures ok { OnOk result (block_step (blocks_of K.kind K.name body.old) line.now
+        ≡ Ok (Block (blocks_of K.kind K.name body.new))) }
     ensures err { IfErr result (λ what.
-        OnTextFault what (step (parse_state stage) line.now ≡ Err what)) }
+        OnTextFault what (block_step (blocks_of K.kind K.name body.old) line.now ≡ Err what)) }
     ensures text { IfErr result (λ what. what ≢ What.Read) }
 {
-    match stage {
-        Stage::Header => behind_header(line),
-        Stage::Settings(given) => behind_setting(alloc, given, line),
-        Stage::Num(body) => Ok(match behind_line(alloc, body, line)? {
-            Next::Block(body) => Stage::Num(body),
-            Next::After(work) => Stage::After(Script::Num(work)),
-        }),
-        Stage::Text(body) => Ok(match behind_line(alloc, body, line)? {
-            Next::Block(body) => Stage::Text(body),
-            Next::After(work) => Stage::After(Script::Text(work)),
-        }),
-        Stage::After(_) => Err(What::Command),
+    if is_worker(line) {
+        body.take_worker(alloc)
+    } else {
+        body.take_command(alloc, line)
+    }
+}
+
+impl Stage {
+    /// The script, behind the line `end`.
+    pub fn script(self) -> Option<Script>
+        ensures some { IfSome result (λ s. self ≡ Stage.After s) }
+        ensures none { IfNone result (has_ended (parse_state self) ≡ false) }
+    {
+        match self {
+            Stage::After(script) => Some(script),
+            Stage::Header => None,
+            Stage::Settings(_given) => None,
+            Stage::Num(_body) => None,
+            Stage::Text(_body) => None,
+        }
+    }
+
+    // Takes the line `end`.
+    fn end(&mut self) -> Result<(), What>
+        ensures ok { OnOk result
+            (step (parse_state self.old) (codes "end") ≡ Ok (parse_state self.new)) }
+        ensures err { IfErr result (λ what.
+            OnTextFault what (step (parse_state self.old) (codes "end") ≡ Err what)) }
+        ensures text { IfErr result (λ what. what ≢ What.Read) }
+    {
+        *self = match mem::replace(self, Stage::Header) {
+            Stage::Header => return Err(What::Header),
+            Stage::Settings(_) => return Err(What::Command),
+            Stage::Num(body) => Stage::After(Script::Num(body.end()?)),
+            Stage::Text(body) => Stage::After(Script::Text(body.end()?)),
+            Stage::After(_) => return Err(What::Command),
+        };
+        Ok(())
+    }
+
+    /// Takes a line. An `Err` is what is wrong with it; no further line can be taken then.
+    pub fn take(&mut self, alloc: Global, line: &[u8]) -> Result<(), What>
+        ensures ok { OnOk result (step (parse_state self.old) line.now ≡ Ok (parse_state self.new)) }
+        ensures err { IfErr result (λ what.
+            OnTextFault what (step (parse_state self.old) line.now ≡ Err what)) }
+        ensures text { IfErr result (λ what. what ≢ What.Read) }
+    {
+        if is_end(line) {
+            return self.end();
+        }
+        match self {
+            Stage::Header => {
+                *self = behind_header(line)?;
+                Ok(())
+            }
+            Stage::Settings(given) if is_worker(line) => {
+                *self = behind_settings(alloc, given)?;
+                Ok(())
+            }
+            Stage::Settings(given) => given.take(line),
+            Stage::Num(body) => take_line(alloc, body, line),
+            Stage::Text(body) => take_line(alloc, body, line),
+            Stage::After(_) => Err(What::Command),
+        }
     }
 }
