@@ -1,7 +1,6 @@
 -- What a command line says: the code's way, the first fault's and the grammar's.
 use Rattle.std.proofs.Common.{◌≡◌, ℕ, ◌^◌, ◌<◌, ◌≤◌, Bool, true, false, cond, ltb, eqb, List, [], ◌∷◌, length, Option, Some, None, Result, Ok, Err, refl, sym, ap, subst, ◌∙◌, inl, inr, arith}
-use Rattle.std.specs.Borrow.{Bor}
-use Rattle.std.specs.Prelude.{IfOk, IfErr, All, ◌⊎◌, ◌≢◌, ◌&&◌, ◌||◌, codes}
+use Rattle.std.specs.Prelude.{All, ◌⊎◌, ◌≢◌, ◌&&◌, ◌||◌, codes}
 use Rattle.std.specs.List.{list_any, list_all}
 use Rattle.std.specs.Option.{ok_or, is_some}
 use Rattle.std.specs.Result.{result_err}
@@ -24,9 +23,9 @@ use Rattle.ck_format.specs.declared.script.What.TheVariants as is
 use Rattle.ck_format.specs.Script.{on_names}
 use Rattle.ck_format.specs.Tokens.{tokens, number_at, begins_as_number, is_printed, IsNumber, IsText, IsKey}
 use Rattle.ck_format.specs.Spells.{AreNameAndKey, AreNameAndPair, AreMoveAndTwo, IsCommand}
-use Rattle.ck_format.specs.FirstFault.{option_or, is_empty, number_fault, key_fault, Operand, Key, Number, operands_of_move, operands_of, word_fault, words_fault, twice_fault, behind_fault, tokens_fault}
+use Rattle.ck_format.specs.FirstFault.{option_or, is_empty, number_fault, key_fault, Operand, Key, Number, operands_of_move, operands_of, behind_fault, tokens_fault}
 use Rattle.ck_format.proofs.Numbers.{written}
-use Rattle.ck_format.specs.Parse.{command_at, held, held_command, ◌>>=◌, unless, name_of, WordCommand, number_or_fault, alone_command, key_command, pair_command, with_key, with_pair, number_behind, moved, move_command, has_moves, command_in, HasKeys}
+use Rattle.ck_format.specs.Parse.{command_at, ◌>>=◌, unless, name_of, WordCommand, number_or_fault, alone_command, key_command, pair_command, with_key, with_pair, number_behind, moved, move_command, has_moves, command_in, SaysOnNames}
 
 -- Small facts.
 
@@ -350,7 +349,7 @@ same_fault v keys (name ∷ a ∷ b ∷ c ∷ d ∷ words) = sym (many_words v k
 -- What is read is in the grammar.
 
 abbrev pub Says : Version → Keys → List (List ℕ) → WordCommand → Type 0
-Says v keys ws c = IsCommand v keys ws (on_names (name_of keys) c) × HasKeys keys c
+Says v keys ws c = IsCommand v keys ws (on_names (name_of keys) c)
 
 -- what a table gives is its first line's, or another's
 first_or_later : {A : Type 0} (b : Bool) (x y : A) (later : Option A) → cond b (Some x) later ≡ Some y → ((b ≡ true) × (x ≡ y)) ⊎ (later ≡ Some y)
@@ -360,9 +359,9 @@ first_or_later false x y later e = inr e
 alone_law : (v : Version) (keys : Keys) (name : List ℕ) (c : WordCommand) → alone_command name ≡ Some c → Says v keys (name ∷ []) c
 alone_law v keys name c e =
     elim (first_or_later (bytes_eq name (codes "len")) Len c _ e) [
-      | inl h ↦ subst (Says v keys (name ∷ [])) h.1 (ap (λ (w : List ℕ). w ∷ []) (same_bytes name (codes "len") h.0), tt)
+      | inl h ↦ subst (Says v keys (name ∷ [])) h.1 (ap (λ (w : List ℕ). w ∷ []) (same_bytes name (codes "len") h.0))
       | inr e ↦ elim (first_or_later (bytes_eq name (codes "list")) Lists c None e) [
-        | inl h ↦ subst (Says v keys (name ∷ [])) h.1 (ap (λ (w : List ℕ). w ∷ []) (same_bytes name (codes "list") h.0), tt)
+        | inl h ↦ subst (Says v keys (name ∷ [])) h.1 (ap (λ (w : List ℕ). w ∷ []) (same_bytes name (codes "list") h.0))
         | inr e ↦ absurd cc
       ]
     ]
@@ -378,11 +377,11 @@ module _ (v : Version) (keys : Keys) (name key : List ℕ) (fine : key_fault key
   key_command_law f e =
       let P : (List ℕ → WordCommand) → Type 0 = λ f. Says v keys (name ∷ key ∷ []) (f key) in
       elim (first_or_later (bytes_eq name (codes "find")) Find f _ e) [
-        | inl h ↦ subst P h.1 (key_words (codes "find") h.0, fine)
+        | inl h ↦ subst P h.1 (key_words (codes "find") h.0)
         | inr e ↦ elim (first_or_later (bytes_eq name (codes "has")) Has f _ e) [
-          | inl h ↦ subst P h.1 (key_words (codes "has") h.0, fine)
+          | inl h ↦ subst P h.1 (key_words (codes "has") h.0)
           | inr e ↦ elim (first_or_later (bytes_eq name (codes "erase")) Erase f None e) [
-            | inl h ↦ subst P h.1 (key_words (codes "erase") h.0, fine)
+            | inl h ↦ subst P h.1 (key_words (codes "erase") h.0)
             | inr e ↦ absurd cc
           ]
         ]
@@ -396,13 +395,13 @@ module _ (v : Version) (keys : Keys) (name key : List ℕ) (fine : key_fault key
     pair_command_law f e =
         let P : (List ℕ → ℕ → WordCommand) → Type 0 = λ f. Says v keys (name ∷ key ∷ word ∷ []) (f key n) in
         elim (first_or_later (bytes_eq name (codes "insert")) Insert f _ e) [
-          | inl h ↦ subst P h.1 (pair_words (codes "insert") h.0, fine)
+          | inl h ↦ subst P h.1 (pair_words (codes "insert") h.0)
           | inr e ↦ elim (first_or_later (bytes_eq name (codes "assign")) Assign f _ e) [
-            | inl h ↦ subst P h.1 (pair_words (codes "assign") h.0, fine)
+            | inl h ↦ subst P h.1 (pair_words (codes "assign") h.0)
             | inr e ↦ elim (first_or_later (bytes_eq name (codes "update")) Update f _ e) [
-              | inl h ↦ subst P h.1 (pair_words (codes "update") h.0, fine)
+              | inl h ↦ subst P h.1 (pair_words (codes "update") h.0)
               | inr e ↦ elim (first_or_later (bytes_eq name (codes "add")) Add f None e) [
-                | inl h ↦ subst P h.1 (pair_words (codes "add") h.0, fine)
+                | inl h ↦ subst P h.1 (pair_words (codes "add") h.0)
                 | inr e ↦ absurd cc
               ]
             ]
@@ -454,20 +453,17 @@ move_says v keys name source target number c e =
           let m = guard_ok (bytes_eq source target) is.Command (ok_line (Move source target n.0)) c n.2 in
           let differ : name_of keys source ≢ name_of keys target = λ same. false≢true (sym m.0 ∙ bytes_eq-refl source target (names_differ keys source target u.0 t.0 some.0 some.1 same)) in
           subst (Says v keys ws) (ok_is (Move source target n.0) c m.1) (
+            moves_two v b.0,
             (
-              moves_two v b.0,
-              (
-                source,
-                target,
-                number,
-                ap (λ (w : List ℕ). w ∷ source ∷ target ∷ number ∷ []) (same_bytes name (codes "move") b.1),
-                key_law keys source u.0 some.0,
-                key_law keys target t.0 some.1,
-                differ,
-                number_law number n.0 t.1,
-              ),
+              source,
+              target,
+              number,
+              ap (λ (w : List ℕ). w ∷ source ∷ target ∷ number ∷ []) (same_bytes name (codes "move") b.1),
+              key_law keys source u.0 some.0,
+              key_law keys target t.0 some.1,
+              differ,
+              number_law number n.0 t.1,
             ),
-            (u.0, t.0),
           )
       | inr h ↦ absurd (let no = h.1 in cc)
     ]
@@ -527,84 +523,18 @@ module _ (v : Version) (keys : Keys) where
       let y = is_read ws b q in
       x.2 ∙ ap (on_names (name_of keys)) (ok_is x.0 y.0 (sym x.1 ∙ y.1)) ∙ sym y.2
 
--- The same of a line.
+-- the command of this name on a key and a number, and the same on the key's name
+pub says_pair : (keys : Keys) (command : Option (List ℕ → ℕ → WordCommand)) (make : List ℕ → ℕ → WordCommand) (key word : List ℕ) (n : ℕ) (c : Command Name) → command ≡ Some make → number_behind keys key word ≡ Ok n
+    → c ≡ on_names (name_of keys) (make key n) → SaysOnNames keys (with_pair command key (number_behind keys key word)) c
+says_pair keys command make key word n c named number same =
+    record { words = make key n; told = rw (named, number) refl; same = same }
 
-pub keys_of_line : (v : Version) (keys : Keys) (line : List ℕ) (c : WordCommand) → command_at v keys line ≡ Ok c → HasKeys keys c
-unfolding command_at
-keys_of_line v keys line c e = (says v keys (tokens line) c e).1
+-- The same of a line.
 
 pub line_says : (v : Version) (keys : Keys) (line : List ℕ) (c : WordCommand) → command_at v keys line ≡ Ok c → IsCommand v keys (tokens line) (on_names (name_of keys) c)
 unfolding command_at
-line_says v keys line c e = (says v keys (tokens line) c e).0
+line_says v keys line c e = says v keys (tokens line) c e
 
 pub line_fault-same : (v : Version) (keys : Keys) (line : List ℕ) → result_err (command_at v keys line) ≡ tokens_fault v keys (tokens line)
 unfolding command_at
 line_fault-same v keys line = same_fault v keys (tokens line)
-
--- No fault of words is a failed read.
-
-abbrev pub IsOfText : Option What → Type 0
-IsOfText o = (w : What) → o ≡ Some w → w ≢ is.Read
-
-none_text : IsOfText None
-none_text w e = absurd cc
-
-one_text : (x : What) → x ≢ is.Read → IsOfText (Some x)
-one_text x h w e = λ read. h (some_is x w e ∙ read)
-
-or_text : (a b : Option What) → IsOfText a → IsOfText b → IsOfText (option_or a b)
-or_text None b p q = q
-or_text (Some x) b p q = p
-
-cond_text : (c : Bool) (a b : Option What) → IsOfText a → IsOfText b → IsOfText (cond c a b)
-cond_text true a b p q = p
-cond_text false a b p q = q
-
-command_text : IsOfText (Some is.Command)
-command_text = one_text is.Command (λ e. cc)
-
-number_text : (word : List ℕ) → IsOfText (number_fault word)
-number_text word = cond_text (is_some (number_at word)) None (Some is.Number) none_text (one_text is.Number (λ e. cc))
-
-key_text : (keys : Keys) (word : List ℕ) → IsOfText (key_fault keys word)
-key_text Num word = number_text word
-key_text Text word = cond_text (list_all is_printed word) _ _ (cond_text (ltb 64 (length word)) _ _ (one_text is.TooLong (λ e. cc)) none_text) command_text
-
-word_text : (keys : Keys) (p : Operand) (word : List ℕ) → IsOfText (word_fault keys p word)
-word_text keys Key word = key_text keys word
-word_text keys Number word = number_text word
-
-words_text : (keys : Keys) (ps : List Operand) (words : List (List ℕ)) → IsOfText (words_fault keys ps words)
-words_text keys [] words = none_text
-words_text keys (p ∷ ps) [] = none_text
-words_text keys (p ∷ ps) (word ∷ words) = or_text (word_fault keys p word) (words_fault keys ps words) (word_text keys p word) (words_text keys ps words)
-
-twice_text : (ps : List Operand) (words : List (List ℕ)) → IsOfText (twice_fault ps words)
-twice_text [] words = none_text
-twice_text (Number ∷ ps) words = none_text
-twice_text (Key ∷ []) words = none_text
-twice_text (Key ∷ Number ∷ ps) words = none_text
-twice_text (Key ∷ Key ∷ ps) [] = none_text
-twice_text (Key ∷ Key ∷ ps) (a ∷ []) = none_text
-twice_text (Key ∷ Key ∷ ps) (a ∷ b ∷ words) = cond_text (bytes_eq a b) _ _ command_text none_text
-
-behind_text : (keys : Keys) (operands : Option (List Operand)) (words : List (List ℕ)) → IsOfText (behind_fault keys operands words)
-behind_text keys None words = command_text
-behind_text keys (Some ps) words = cond_text (eqb (length words) (length ps)) _ _ (or_text _ _ (words_text keys ps words) (twice_text ps words)) command_text
-
-tokens_text : (v : Version) (keys : Keys) (ws : List (List ℕ)) → IsOfText (tokens_fault v keys ws)
-tokens_text v keys [] = command_text
-tokens_text v keys (name ∷ words) = cond_text (list_any is_empty words) _ _ command_text (behind_text keys (operands_of v name) words)
-
-pub line_text : (v : Version) (keys : Keys) (line : List ℕ) (w : What) → command_at v keys line ≡ Err w → w ≢ is.Read
-line_text v keys line w e = tokens_text v keys (tokens line) w (sym (line_fault-same v keys line) ∙ ap result_err e)
-
--- The same of what the code returns.
-
-pub read_keys : (v : Version) (keys : Keys) (line : List ℕ) (r : Result (Command (Bor (List ℕ))) What) → held_command r ≡ command_at v keys line → IfOk r (λ c. HasKeys keys (held c))
-read_keys v keys line (Ok c) e = keys_of_line v keys line (held c) (sym e)
-read_keys v keys line (Err w) e = tt
-
-pub read_text : (v : Version) (keys : Keys) (line : List ℕ) (r : Result (Command (Bor (List ℕ))) What) → held_command r ≡ command_at v keys line → IfErr r (λ w. w ≢ is.Read)
-read_text v keys line (Ok c) e = tt
-read_text v keys line (Err w) e = line_text v keys line w (sym e)

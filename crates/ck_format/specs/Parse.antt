@@ -3,7 +3,6 @@ use Rattle.std.specs.Prelude.{◌≡◌, ℕ, List, [], ◌∷◌, Option, Some,
 use Rattle.std.specs.Option.{ok_or}
 use Rattle.std.specs.Str.{bytes_eq}
 use Rattle.std.specs.Str.Parse.{digits_value}
-use Rattle.std.specs.Borrow.{Bor}
 use Rattle.ck_model.specs.Map.{Name}
 use Rattle.ck_format.specs.Script.{on_names}
 use Rattle.ck_format.specs.declared.script.Version.{Version}
@@ -114,23 +113,8 @@ command_in v keys words = Err is.Command
 unfoldable pub command_at : Version → Keys → List ℕ → Result WordCommand What
 command_at v keys line = command_in v keys (tokens line)
 
--- a command on slices, in the words that they hold
-abbrev pub held : Command (Bor (List ℕ)) → WordCommand
-held c = on_names (λ (w : Bor (List ℕ)). w.now) c
-
-abbrev pub held_command : Result (Command (Bor (List ℕ))) What → Result WordCommand What
-held_command (Ok c) = Ok (held c)
-held_command (Err what) = Err what
-
--- nothing is wrong with the words in the places of keys
-abbrev pub HasKeys : Keys → WordCommand → Type 0
-HasKeys keys (Find k) = key_fault keys k ≡ None
-HasKeys keys (Has k) = key_fault keys k ≡ None
-HasKeys keys (Insert k n) = key_fault keys k ≡ None
-HasKeys keys (Assign k n) = key_fault keys k ≡ None
-HasKeys keys (Update k n) = key_fault keys k ≡ None
-HasKeys keys (Add k n) = key_fault keys k ≡ None
-HasKeys keys (Erase k) = key_fault keys k ≡ None
-HasKeys keys Len = Unit {0}
-HasKeys keys Lists = Unit {0}
-HasKeys keys (Move j k n) = (key_fault keys j ≡ None) × (key_fault keys k ≡ None)
+-- the words say a command, which is this one on the names of its keys
+pub record SaysOnNames (keys : Keys) (said : Result WordCommand What) (c : Command Name) : Type 0 where
+  pub words : WordCommand
+  pub told : said ≡ Ok words
+  pub same : c ≡ on_names (name_of keys) words

@@ -3,7 +3,7 @@ ghost use Rattle.std.specs.Prelude.{◌≡◌, ◌≢◌, ◌+◌, ◌≤◌, []
 ghost use Rattle.ck_model.specs.Ranges.{AreInRange};
 ghost use Rattle.ck_format.specs.Formats.{most_workers};
 
-use crate::line::{command_of, keep};
+use crate::line::command_of;
 use crate::script::{Command, Version, What, Work};
 use crate::script_key::ScriptKey;
 use ck_model::settings::Settings;
@@ -61,14 +61,10 @@ impl<K: ScriptKey> Body<K> {
             (take_command (blocks_of K.kind K.name self.old) line.now ≡ Err what)) }
         ensures text { IfErr result (λ what. what ≢ What.Read) }
     {
-        let command = command_of::<K>(self.version, line)?;
+        let command = command_of::<K>(alloc, self.version, line)?;
         if self.commands >= MOST_COMMANDS {
             return Err(What::TooLong);
         }
-        let command = match keep::<K>(alloc, command) {
-            Ok(command) => command,
-            Err(_) => return Err(What::Memory),
-        };
         match self.last.push(command) {
             Ok(()) => {
                 self.commands += 1;
