@@ -65,10 +65,7 @@ fn total(bank: &LockedTable<'_, NumKey, u64>) -> u64 {
 /// Locks the table and adds up, again and again.
 fn audit(mut auditor: Teller<'_>) -> Result<Teller<'_>> {
     for _ in 0..AUDITS {
-        let bank = match auditor.lock() {
-            Ok(bank) => bank,
-            Err((_, busy)) => return Err(busy.into()),
-        };
+        let bank = auditor.lock().map_err(Busy::from)?;
         let sum = total(&bank);
         auditor = bank.unlock_caller();
         ensure!(sum == ACCOUNTS * FUND, "{sum} is left");

@@ -3,7 +3,7 @@
 #![tactic(auto)]
 
 use anyhow::{Context, Result};
-use cuckoo_map::{Caller, LockedTable, NumKey, Settings, Table};
+use cuckoo_map::{Busy, Caller, LockedTable, NumKey, Settings, Table};
 use std::alloc::Global;
 use std::thread::{self, Threads};
 
@@ -103,10 +103,7 @@ fn main(rt: HostRuntime) -> Result<()> {
     let mut clients = table.callers(rt.alloc(), passes)?;
     let keeper = clients.pop().context("no caller")?;
     serve_all(&rt, rt.alloc(), clients)?;
-    let mut store = match keeper.lock() {
-        Ok(store) => store,
-        Err((_, busy)) => return Err(busy.into()),
-    };
+    let mut store = keeper.lock().map_err(Busy::from)?;
     let all = store.len();
     sweep(&mut store, 100);
     let fresh = store.len();
