@@ -1,12 +1,13 @@
 -- A locked table grows.
+use Rattle.std.specs.FinMap.{len}
 use Rattle.std.specs.Prelude.{slice_index_or}
-use Rattle.std.proofs.Common.{◌≡◌, ℕ, ◌<◌, ◌≤◌, List, [], ◌∷◌, length, reverse, suc, refl, sym, ap, ◌∙◌, subst, arith, Bool, true, false, MatchBool, Result, Ok, Err, IfOk}
+use Rattle.std.proofs.Common.{◌≡◌, ℕ, ◌^◌, ◌<◌, ◌≤◌, List, [], ◌∷◌, length, reverse, suc, refl, sym, ap, ◌∙◌, subst, arith, Bool, true, false, MatchBool, Result, Ok, Err, IfOk}
 use Rattle.std.proofs.lemmas.Nat.{pow_pos}
 use Rattle.std.proofs.lemmas.Bool.{false≢true}
 use Rattle.ck_model.specs.declared.settings.Settings.{Settings}
 use Rattle.ck_model.specs.Map.{Name}
 use Rattle.ck_model.specs.Numbered.{Holds}
-use Rattle.ck_model.specs.Contents.{Layout, layout, layout_of}
+use Rattle.ck_model.specs.Contents.{Layout, layout, layout_of, pairs_of}
 use Rattle.ck_model.proofs.Numbered.{held_of_in}
 use Rattle.ck_stripe.specs.Stripe.{StripeState}
 use Rattle.ck_section.specs.Stripes.{stripe_at, contents_of, settled_stripes}
@@ -20,10 +21,10 @@ use Rattle.ck_words.specs.Passes.{PassState}
 use Rattle.ck_words.proofs.Reversed.{of_reverse}
 use Rattle.cuckoo_map.specs.declared.refusal.GrowFault.{GrowFault}
 use Rattle.cuckoo_map.specs.declared.refusal.GrowFault.TheVariants.{Memory}
-use Rattle.cuckoo_map.specs.Locking.{LockedState, locked_power, IsLocked, KeepsMap}
+use Rattle.cuckoo_map.specs.Locking.{LockedState, map_of, locked_power, IsLocked, KeepsMap}
 use Rattle.cuckoo_map.specs.Growth.{RehashesLocked}
 use Rattle.cuckoo_map.proofs.Growing.{settles_table}
-use Rattle.cuckoo_map.proofs.Sessions.{locked_again, not_below, had_all}
+use Rattle.cuckoo_map.proofs.Sessions.{locked_again, not_below, had_all, counts_locked, few_locked}
 
 module _ {V : Type 0} where
   settled_one : (t : StripeState V) → t.settled ≡ true → record t { settled = true } ≡ t
@@ -163,3 +164,9 @@ first_power {V} {hash} {w} {p} l {s} is stripes same t read power shown =
     power_read stripes 0 t power inside read shown
     ∙ (ap (λ (ss : List (StripeState V)). power_in ss) same
     ∙ (power_shows l ∙ ap (λ (x : LockedState V). locked_power x) is))
+
+-- a locked table binds no more names than it has slots at any power
+pub few_keys : {V : Type 0} {hash : Name → ℕ} {w : WordsState} {p : PassState V} (l : IsLocked hash w p) {s : LockedState V} → ◌≡◌ {A = LockedState V} (record { table = w; pass = p }) s → (n : ℕ) → n ≡ len (map_of s) → n ≤ 2 ^ 38
+few_keys {V} {hash} {w} {p} l {s} is n shown =
+    let same : n ≡ length (pairs_of (contents_of p.stripes)) = shown ∙ (sym (ap (λ (x : LockedState V). len (map_of x)) is) ∙ sym (counts_locked hash w p l)) in
+    subst (λ x. x ≤ 2 ^ 38) (sym same) (few_locked hash w p l)

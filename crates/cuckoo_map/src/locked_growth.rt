@@ -1,10 +1,11 @@
 //! The size of a locked table, and how it grows.
-ghost use Rattle.std.specs.Prelude.{◌≡◌, ◌*◌, ◌^◌, ◌<◌, ◌≤◌, ℕ, IfOk, OnErr, MatchBool};
+ghost use Rattle.std.specs.Prelude.{◌≡◌, ◌*◌, ◌/◌, ◌^◌, ◌<◌, ◌≤◌, ℕ, IfOk, OnErr, MatchBool};
+ghost use Rattle.std.specs.FinMap.{len};
 ghost use Rattle.ck_model.specs.Contents.{layout};
 ghost use Rattle.ck_section.specs.Whole.{AreAllHeld};
 ghost use Rattle.ck_section.specs.Room.{power_in, KeepsBindings};
 ghost use Rattle.cuckoo_map.specs.Growth.{RehashesLocked, ReservesLocked};
-ghost use Rattle.cuckoo_map.specs.Locking.{locked_power};
+ghost use Rattle.cuckoo_map.specs.Locking.{locked_power, map_of};
 
 use crate::growth::{double_to, least_power};
 use crate::locked::{LockedTable, stripes_of};
@@ -40,6 +41,18 @@ impl<'t, K: TableKey + Drop, V: Drop> LockedTable<'t, K, V> {
         let table = self.table;
         table.words.show_range();
         4 << self.power()
+    }
+
+    /// How many of a hundred slots are taken, rounded down.
+    ///
+    /// ```
+    /// let is_crowded: bool = locked.load_factor() > 90;
+    /// ```
+    pub fn load_factor(&self) -> u64
+        ensures { result ≡ (100 * len (map_of self.now)) / (4 * 2 ^ locked_power self.now) }
+    {
+        let _ = &self.table;
+        100 * self.len() / self.capacity()
     }
 
     /// Doubles the table until it has 2^power buckets, and says whether it had fewer. It changes no
