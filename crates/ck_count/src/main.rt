@@ -2,7 +2,7 @@
 #![tactic(auto)]
 
 use anyhow::{Context, Result};
-use cuckoo_map::{Caller, Settings, Table, TextKey};
+use cuckoo_map::{Busy, Caller, Settings, Table, TextKey};
 use std::alloc::Global;
 use std::cmp::Reverse;
 use std::thread::{self, Threads};
@@ -18,7 +18,7 @@ fn count(alloc: Global, mut caller: Caller<'_, TextKey, u64>, words: &[&str]) ->
     Ok(())
 }
 
-/// The words that stand there twice or more, with their counts.
+/// All words with their counts. Four threads count, each a part.
 fn count_all(
     rt: &(impl Threads + Sync),
     alloc: Global,
@@ -34,8 +34,8 @@ fn count_all(
     for done in thread::map_vec(rt, jobs, &|(caller, part)| count(alloc, caller, part))? {
         done?;
     }
-    let mut locked = last.lock().map_err(|(_, busy)| busy)?;
-    locked.retain(|_, count| *count > 1);
+    let mut locked = last.lock().map_err(Busy::from)?;
+    // Others find the table held until it is unlocked, and then all that was done to it.
     let counts = locked.drain(alloc);
     locked.unlock();
     Ok(counts?)
