@@ -3,22 +3,31 @@ ghost use Rattle.std.specs.Prelude.{IsTrue, ◌≡◌, ◌↔◌, ◌⊎◌, ◌
 
 use thiserror::Error;
 
-/// What a table is opened with.
+/// What a table is opened with. All of it stays as it is, but for the power, which rises.
 #[derive(Clone, Copy, Debug, PartialEq, Eq)]
 pub struct Settings {
-    /// The table has 2^s stripes: 0..=10, and at most `power`.
+    /// The table has 2^s stripes: 0..=10, and at most `power`. Calls on keys of different stripes
+    /// don't wait for one another. With few stripes they do, and a doubling that was put off is long
+    /// for whoever carries it out; many cost 64 bytes each. So 10, but for small tables.
     pub s: u32,
-    /// The table opens with 2^power buckets: 1..=`max`.
+    /// The table opens with 2^power buckets of four slots: 1..=`max`. It grows where it is too
+    /// small, which costs insertions, and it never shrinks.
     pub power: u32,
-    /// It never has more than 2^max buckets: 1..=26.
+    /// It never has more than 2^max buckets: 1..=26. An entry without room is then refused as
+    /// `Full`. A smaller one bounds the memory.
     pub max: u32,
-    /// How many callers there are: 1..=1024.
+    /// How many callers there are: 1..=1024, one for each thread that makes calls at a time.
     pub callers: u32,
-    /// How often a call tries to take a stripe before it is refused: 1 at least.
+    /// How often a call tries to take a stripe before it is refused as busy: 1 at least. With
+    /// `u32::MAX` it waits as long as it takes. With few it comes back soon where another caller is
+    /// slow, or locks the table, and the program has to try again.
     pub turns: u32,
-    /// How many tries an insertion makes to displace entries without the whole table: 0..=64.
+    /// How many tries an insertion makes to displace entries without the whole table: 0..=64. With
+    /// none it takes the whole table for each displacement.
     pub rounds: u32,
-    /// The table grows only where this many per cent of its slots are taken: 0..=100.
+    /// The table grows only where this many per cent of its slots are taken: 0..=100. Else an entry
+    /// without room is refused as `LoadTooLow`, so that keys which share their buckets, as an
+    /// attacker may choose them, don't make it grow to `max`. Above 50 it refuses keys that are due.
     pub min_load: u32,
 }
 
@@ -51,6 +60,22 @@ pub enum OutOfRange {
 impl Settings {
     ghost use Rattle.ck_model.specs.Ranges.{AreInRange, IsOut};
 
+    /// Settings of a table for one caller that opens with 1,024 buckets and as many stripes: what
+    /// `for_keys` gives for up to 3,072 keys, from 1,537 on.
+    ///
+    /// ```
+    /// let settings = Settings { callers: 8, min_load: 0, ..Settings::DEFAULT };
+    /// ```
+    pub const DEFAULT: Settings = Settings {
+        s: 10,
+        power: 10,
+        max: 26,
+        callers: 1,
+        turns: u32::MAX,
+        rounds: 4,
+        min_load: 5,
+    };
+
     /// Settings for about so many keys, and for so many callers, of whom there may be 1,024.
     ///
     /// The table opens with so many buckets that the keys take at most three quarters of its slots,
@@ -63,7 +88,7 @@ impl Settings {
     /// let settings = Settings::for_keys(1_000_000, 4);
     /// let impatient = Settings { turns: 1000, ..Settings::for_keys(1_000_000, 4) };
     /// ```
-    pub fn for_keys(keys: u64, callers: u32) -> Settings
+    pub const fn for_keys(keys: u64, callers: u32) -> Settings
         ensures callers { result.callers ≡ callers }
         ensures range { AreInRange result ↔ ((1 ≤ callers) × (callers ≤ 1024)) }
         ensures room { (result.power ≡ 26) ⊎ (keys ≤ 3 * 2 ^ result.power) }
@@ -118,16 +143,15 @@ impl Settings {
 }
 
 // The least power from 1 on at which so many keys take three quarters of the slots at most, or 26.
-fn power_for(keys: u64) -> u32
+const fn power_for(keys: u64) -> u32
     ensures some { 1 ≤ result }
     ensures most { result ≤ 26 }
     ensures room { (result ≡ 26) ⊎ (keys ≤ 3 * 2 ^ result) }
     ensures least { (result ≡ 1) ⊎ (3 * 2 ^ (result - 1) < keys) }
 {
-    for power in 1..26 {
-        if keys <= 3 << power {
-            return power;
-        }
+    let mut power = 1;
+    while power < 26 && 3 << power < keys {
+        power += 1;
     }
-    26
+    power
 }
