@@ -157,7 +157,7 @@ fn take_locked_rows(rt: &impl Abort, locked: &mut NumLocked<'_>, rows: &[Row]) {
         let now = locked.power();
         assert!(rt; now == *power);
         let slots = locked.capacity();
-        assert!(rt; slots == 4 << now);
+        assert!(rt; Some(slots) == 4u64.checked_shl(now));
     }
 }
 
