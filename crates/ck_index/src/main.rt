@@ -28,12 +28,11 @@ fn note(alloc: Global, indexer: &mut Indexer<'_>, word: &str, line: u64) -> Resu
         Ok(()) => Ok(lines),
         Err(_) => Err((lines, AllocError)),
     };
-    let new = TextKey::new(alloc, word.as_bytes())?;
     indexer
-        .insert_with(new, || Vec::new(alloc))
+        .insert_with(key, || Vec::new(alloc))
         .map_err(|refused| refused.why)?;
     indexer
-        .try_update(&key, push)?
+        .try_update(word, push)?
         .context("the word is gone")??;
     Ok(())
 }

@@ -10,31 +10,30 @@ use crate::held::Held;
 use crate::look::find_slot;
 use crate::one_stripe;
 use crate::place::KeyPlace;
-use ck_key::TableKey;
+use ck_key::{Query, TableKey};
 use ck_stripe::Stripe;
 
 /// Binds two different keys to what the closure makes of their two values, in order, and says
 /// whether both were bound. Where one was not, nothing changes and the closure is not called.
-pub fn update_two<K: TableKey + Drop, V: Drop, H: Held<Stripe<K, V>>, F: FnOnce(V, V) -> (V, V)>(
-    held: &mut H,
-    a: &K,
-    place_a: KeyPlace,
-    b: &K,
-    place_b: KeyPlace,
-    f: F,
-) -> bool
+pub fn update_two<
+    K: TableKey + Drop,
+    V: Drop,
+    Q: Query<K>,
+    H: Held<Stripe<K, V>>,
+    F: FnOnce(V, V) -> (V, V),
+>(held: &mut H, a: Q, place_a: KeyPlace, b: Q, place_b: KeyPlace, f: F) -> bool
 where
     F: Drop,
-    requires first { IsPlaceOf K.hash (H.stripes held.old) (K.name a.now) place_a }
-    requires second { IsPlaceOf K.hash (H.stripes held.old) (K.name b.now) place_b }
-    requires different { K.name a.now ≢ K.name b.now }
+    requires first { IsPlaceOf K.hash (H.stripes held.old) (Q.name a) place_a }
+    requires second { IsPlaceOf K.hash (H.stripes held.old) (Q.name b) place_b }
+    requires different { Q.name a ≢ Q.name b }
     requires call { F.IsAlwaysCallable f }
     ensures call { MatchBool result
         ((v w v2 w2 : V) × F.post f v w (v2, w2)
         × IsChangeOfTwo (effect K.hash H.stripes place_a held.old held.new)
-        (K.name a.now) (K.name b.now) (DoneTwo v w v2 w2))
+        (Q.name a) (Q.name b) (DoneTwo v w v2 w2))
         (IsChangeOfTwo (effect K.hash H.stripes place_a held.old held.new)
-        (K.name a.now) (K.name b.now) Absent) }
+        (Q.name a) (Q.name b) Absent) }
     ensures same { OnFalse result (H.stripes held.new ≡ H.stripes held.old) }
     ensures rest { ChangesContents (H.stripes held.old) (H.stripes held.new) }
     ensures stays { H.stays held.old held.new }

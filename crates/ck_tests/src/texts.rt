@@ -59,17 +59,22 @@ static CALLS: [(Call, Option<u64>); 14] = [
 #[test]
 fn texts_are_found_by_their_bytes(rt: HostRuntime) -> Result<(), Fail> {
     let (table, passes) = TextTable::open(rt.alloc(), SIXTEEN_BUCKETS.settings(1))?;
-    let mut callers = table.callers(rt.alloc(), passes)?;
-    for caller in &mut callers {
+    for caller in table.callers(rt.alloc(), passes)? {
+        let mut caller = caller;
         for (value, text) in ["", "a", "ab"].iter().enumerate() {
             let key = TextKey::new(rt.alloc(), text.as_bytes())?;
             assert!(rt; caller.insert(key, value as u64).is_ok());
         }
         for (call, want) in &CALLS {
-            assert!(rt; answer(caller, *call) == Ok(*want));
+            assert!(rt; answer(&mut caller, *call) == Ok(*want));
         }
-        let key = TextKey::new(rt.alloc(), b"ab")?;
-        assert!(rt; caller.contains(&key) == Ok(true));
+        let Ok(mut locked) = caller.lock() else {
+            return Err(Fail::from("a stripe that nobody holds was found held"));
+        };
+        assert!(rt; locked.find("ab").copied() == Some(21));
+        assert!(rt; locked.erase(b"ab".as_slice()) == Some(21));
+        assert!(rt; !locked.contains("ab"));
+        locked.unlock();
     }
     Ok(())
 }

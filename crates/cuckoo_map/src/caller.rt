@@ -379,22 +379,22 @@ impl<'t, K: TableKey + Drop, V: Drop> Caller<'t, K, V> {
     /// })?;
     /// ```
     #[inline(always)]
-    pub fn update_two<F: FnOnce(V, V) -> (V, V)>(
+    pub fn update_two<Q: Query<K>, F: FnOnce(V, V) -> (V, V)>(
         &mut self,
-        a: &K,
-        b: &K,
+        a: Q,
+        b: Q,
         f: F,
     ) -> Result<bool, Busy>
     where
         F: Drop,
-        requires different { K.name a.now ≢ K.name b.now }
+        requires different { Q.name a ≢ Q.name b }
         requires call { F.IsAlwaysCallable f }
         ensures same { IsSameCaller self.old self.new }
         ensures answered { IfOk result (
-            ChangesTwo (F.post f) (K.name a.now) (K.name b.now) self.old self.new) }
+            ChangesTwo (F.post f) (Q.name a) (Q.name b) self.old self.new) }
         ensures busy { IfErr result (
-            IsBusyOnTwo K.hash (K.name a.now) (K.name b.now) self.old self.new) }
-        ensures found { FindsHeldOfTwo K.hash (K.name a.now) (K.name b.now) self.old self.new }
+            IsBusyOnTwo K.hash (Q.name a) (Q.name b) self.old self.new) }
+        ensures found { FindsHeldOfTwo K.hash (Q.name a) (Q.name b) self.old self.new }
     {
         self.table.update_two(&mut self.pass, a, b, f)
     }

@@ -14,7 +14,7 @@ pub returns-in_default-find_slot-clause-call : goal.returns-in_default-find_slot
 returns-in_default-find_slot-clause-call g c =
     let here = c.in-Some.ensures.occupied in
     second_lacks _ _ _ _ _ _ c.requires.first c.requires.second c.requires.different c.in-Some.at_a here.slot here.found.0 here.found.1 _ (c.find_slot-2.ensures.same ∙ c.find_slot.ensures.same)
-    (subst (λ (l : List (StripeState g.row.V.Denot)). IsNowhere l (g.K.TableKey.name c.args.b.now) c.args.place_b) c.find_slot.ensures.same c.in_default-find_slot.ensures.nowhere)
+    (subst (λ (l : List (StripeState g.row.V.Denot)). IsNowhere l (g.Q.Query.name c.args.b) c.args.place_b) c.find_slot.ensures.same c.in_default-find_slot.ensures.nowhere)
 
 pub remove-key_b-requires-clause-reach : goal.remove-key_b-requires-clause-reach
 remove-key_b-requires-clause-reach g c =
@@ -87,7 +87,7 @@ pub returns-in_default-clause-stays : goal.returns-in_default-clause-stays
 returns-in_default-clause-stays g c = c.find_slot.ensures.stays
 
 pub find_slot-requires-2 : goal.find_slot-requires-2
-find_slot-requires-2 g c = subst (λ (l : List (StripeState g.row.V.Denot)). IsPlaceOf g.K.TableKey.hash l (g.K.TableKey.name c.args.b.now) c.args.place_b) (sym c.find_slot.ensures.same) c.requires.second
+find_slot-requires-2 g c = subst (λ (l : List (StripeState g.row.V.Denot)). IsPlaceOf g.K.TableKey.hash l (g.Q.Query.name c.args.b) c.args.place_b) (sym c.find_slot.ensures.same) c.requires.second
 
 pub returns-in_default-find_slot-clause-rest : goal.returns-in_default-find_slot-clause-rest
 returns-in_default-find_slot-clause-rest g c = unchanged _ _ (c.find_slot-2.ensures.same ∙ c.find_slot.ensures.same)
@@ -102,7 +102,7 @@ pub remove-key_a-requires-clause-below : goal.remove-key_a-requires-clause-below
 remove-key_a-requires-clause-below g c = c.in-Some.ensures.occupied.slot.below
 
 pub remove-key_a-requires-clause-full : goal.remove-key_a-requires-clause-full
-remove-key_a-requires-clause-full g c = full_still (g.H.Held.stripes c.args.held.now) (g.H.Held.stripes c.find_slot-2.new.held) (c.find_slot-2.ensures.same ∙ c.find_slot.ensures.same) c.in-Some.at_a (g.K.TableKey.name c.args.a.now) c.in-Some.ensures.occupied.found
+remove-key_a-requires-clause-full g c = full_still (g.H.Held.stripes c.args.held.now) (g.H.Held.stripes c.find_slot-2.new.held) (c.find_slot-2.ensures.same ∙ c.find_slot.ensures.same) c.in-Some.at_a (g.Q.Query.name c.args.a) c.in-Some.ensures.occupied.found
 
 pub remove-key_b-requires-clause-below : goal.remove-key_b-requires-clause-below
 remove-key_b-requires-clause-below g c = c.in-Some-find_slot.ensures.occupied.slot.below
