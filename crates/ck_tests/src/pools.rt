@@ -53,7 +53,7 @@ fn work<R: Wait>(rt: &R, pool: &NumPool<'_>, thread: u64) -> bool {
     true
 }
 
-/// The keys with the numbers that were added to them.
+/// Finds all callers, and what was added to each key.
 fn check_sums(rt: &impl Abort, alloc: Global, mut callers: Vec<NumCaller<'_>>) {
     assert!(rt; callers.len() == 4);
     let Some(caller) = callers.pop() else {
@@ -62,12 +62,19 @@ fn check_sums(rt: &impl Abort, alloc: Global, mut callers: Vec<NumCaller<'_>>) {
     let Ok((_, pairs)) = caller.drain(alloc) else {
         panic!(rt; "the pairs were not taken out");
     };
-    // One key has four threads, and the others have three.
-    let sums = [4, 3, 3, 3, 3];
+    // Four threads add to one key, and three to each other one.
+    let sums = [1200, 900, 900, 900, 900];
     assert!(rt; pairs.len() == 5);
-    for ((key, sum), threads) in pairs.iter().zip(sums) {
-        assert!(rt; *sum == threads * CALLS, "{} of {}", sum, key.0);
+    for ((key, sum), wanted) in pairs.iter().zip(sums) {
+        assert!(rt; *sum == wanted, "{sum} of {}", key.0);
     }
+}
+
+/// Runs all threads over the pool.
+fn run<R: Threads + Wait + Sync>(rt: &R, alloc: Global, pool: &NumPool<'_>) -> Result<bool, Fail> {
+    let jobs: Vec<u64> = (0..THREADS).collect(alloc)?;
+    let done = thread::map_vec(rt, jobs, &|thread: u64| work(rt, pool, thread))?;
+    Ok(done.iter().all(|added| *added))
 }
 
 /// More threads than callers add to a few keys, and no addition and no caller is lost.
@@ -76,12 +83,12 @@ fn more_threads_than_callers(rt: HostRuntime) -> Result<(), Fail> {
     let alloc = rt.alloc();
     let (table, passes) = NumTable::open(alloc, settings(4))?;
     let pool = Pool::new(alloc, table.callers(alloc, passes)?)?;
-    let jobs: Vec<u64> = (0..THREADS).collect(alloc)?;
-    let done = thread::map_vec(&rt, jobs, &|thread: u64| work(&rt, &pool, thread))?;
-    for all in done {
-        assert!(rt; all);
-    }
-    check_sums(&rt, alloc, pool.into_callers());
+    let added = run(&rt, alloc, &pool)?;
+    assert!(rt; added);
+    let Ok(callers) = pool.into_callers(alloc) else {
+        return Err(Fail::from("no memory for the callers"));
+    };
+    check_sums(&rt, alloc, callers);
     Ok(())
 }
 

@@ -1,11 +1,9 @@
 //! Callers that threads share, for a program that doesn't know its threads when it opens the table.
-ghost use Rattle.std.specs.Prelude.{◌≡◌, IfOk, IfErr, vec_len, length};
-ghost use Rattle.std.specs.Fn.{FnOnceReturnsAtMut};
-ghost use Rattle.cuckoo_map.specs.Callers.{CallerState};
+ghost use Rattle.std.specs.Prelude.{◌≡◌, IfOk, IfErr, vec_len};
 
 use crate::caller::Caller;
 use ck_key::TableKey;
-use std::alloc::Global;
+use std::alloc::{AllocError, Global};
 use std::fmt::{self, Debug, Formatter};
 use std::marker::Model;
 use std::sync::{Mutex, MutexGuard};
@@ -13,23 +11,21 @@ use thiserror::Error;
 
 /// Callers of which each is lent to one thread at a time. Threads share it by reference.
 ///
-/// A caller that was lent is back when the closure returns, so the pool has as many as it was made
-/// of. Contracts see how many these are; of a caller that is lent they know what its type says.
+/// A caller that was lent is back when the guard that `lend` gave is dropped, so the pool has as
+/// many as it was made of. Contracts see how many these are; of a caller that is lent they know
+/// what its type says.
 #[derive(Drop)]
 pub struct Pool<'t, K: TableKey, V> {
+    // From the last caller to the first.
     places: Vec<Mutex<Caller<'t, K, V>>>,
-    // It is empty, and has room for all callers.
-    list: Vec<Caller<'t, K, V>>,
 }
 
 impl<'t, K: TableKey, V> Model for Pool<'t, K, V> {
-    ghost use Rattle.std.specs.Prelude.{ℕ, ◌≡◌, ◌≤◌, [], vec_len, vec_capacity};
+    ghost use Rattle.std.specs.Prelude.{ℕ, vec_len};
 
     ghost Value = { ℕ };
 
     ghost view = { λ p. vec_len p.places };
-
-    ghost invariant = { λ p. (p.list.items ≡ []) × (vec_len p.places ≤ vec_capacity p.list) };
 }
 
 impl<'t, K: TableKey + Drop, V: Drop> Pool<'t, K, V> {
@@ -52,7 +48,7 @@ impl<'t, K: TableKey + Drop, V: Drop> Pool<'t, K, V> {
         while let Some(caller) = list.pop() {
             places.push_reserved(Mutex::new(caller));
         }
-        Ok(Pool { places, list })
+        Ok(Pool { places })
     }
 
     /// How many callers the pool has.
@@ -62,7 +58,8 @@ impl<'t, K: TableKey + Drop, V: Drop> Pool<'t, K, V> {
         self.places.len()
     }
 
-    /// Lends a caller, until what it gives is dropped. Refused where each was found lent.
+    /// Lends a caller, until the guard is dropped. It waits for none: refused, it found each caller
+    /// lent.
     ///
     /// ```
     /// let mut caller = pool.lend()?;
@@ -77,17 +74,28 @@ impl<'t, K: TableKey + Drop, V: Drop> Pool<'t, K, V> {
         Err(AllLent)
     }
 
-    /// The callers, as many as the pool was made of, in the same order. It takes no memory.
-    pub fn into_callers(self) -> Vec<Caller<'t, K, V>>
-        ensures count { vec_len result ≡ self.entry }
+    /// The callers, as many as the pool was made of, in the same order. Where there is no memory for
+    /// the list, the pool comes back.
+    ///
+    /// ```
+    /// let callers = pool.into_callers(alloc).map_err(|(_, fault)| fault)?;
+    /// ```
+    pub fn into_callers(
+        self,
+        alloc: Global,
+    ) -> Result<Vec<Caller<'t, K, V>>, (Pool<'t, K, V>, AllocError)>
+        ensures count { IfOk result (λ callers. vec_len callers ≡ self.entry) }
+        ensures back { IfErr result (λ back. back.0 ≡ self.entry) }
     {
-        let Pool { places, list } = self;
+        let Ok(mut callers) = Vec::with_capacity(alloc, self.places.len()) else {
+            return Err((self, AllocError));
+        };
+        let Pool { places } = self;
         let mut places = places;
-        let mut list = list;
         while let Some(place) = places.pop() {
-            list.push_reserved(place.into_inner());
+            callers.push_reserved(place.into_inner());
         }
-        list
+        Ok(callers)
     }
 }
 

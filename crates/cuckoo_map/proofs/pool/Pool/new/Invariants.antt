@@ -5,7 +5,6 @@ abbrev pub invariant-loop-caller : goal.invariant-loop-caller
 invariant-loop-caller g l = record {
   all : vec_len l.places + vec_len l.list ≡ vec_len l.initial.list;
   room : vec_len l.initial.list ≤ vec_capacity l.places;
-  list_room : vec_len l.initial.list ≤ vec_capacity l.list;
 }
 
 abbrev pub decreases-loop-caller : goal.decreases-loop-caller
