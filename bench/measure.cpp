@@ -118,6 +118,29 @@ static void measure_growth(const Plan &plan, const std::vector<Contestant> &all)
       put_all("latency", one.name, which, 1, found[one.name + "," + which]);
 }
 
+// The insertions of keys by several threads into the smallest table.
+static void measure_growing(const Plan &plan, const std::vector<Contestant> &all,
+                            unsigned threads) {
+  size_t rounds = std::max<size_t>(3, plan.rounds / 20), count = all.size();
+  std::vector<std::vector<double>> rates(count), ratios(count);
+  for (size_t round = 0; round < rounds; round++) {
+    std::vector<double> times(count);
+    for (size_t turn = 0; turn < count; turn++) {
+      size_t i = (turn + round) % count;
+      malloc_trim(0);
+      Timed timed = all[i].open(0, threads)->run(0, plan.grown, threads);
+      if (timed.sum != plan.grown) differ(all[i].name, "growing");
+      times[i] = timed.nanos;
+      rates[i].push_back(plan.grown / timed.nanos * 1e3);
+    }
+    for (size_t i = 0; i < count && count > 1; i++) ratios[i].push_back(times[i] / times[1]);
+  }
+  for (size_t i = 0; i < count; i++) {
+    put_all("calls", all[i].name, "growing", threads, rates[i]);
+    if (count > 1) put_all("ratio", all[i].name, "growing", threads, ratios[i]);
+  }
+}
+
 // In a process of its own, whose memory is then the table's.
 static void measure_memory(const Plan &plan, const Contestant &one) {
   fflush(stdout);
@@ -157,5 +180,6 @@ int main(int count, char **words) {
   for (const Contestant &one : all) measure_memory(plan, one);
   measure_growth(plan, all);
   measure_calls(plan, "numbers");
+  for (unsigned threads : {1, 2, 4}) measure_growing(plan, all, threads);
   measure_calls(plan, "texts");
 }
