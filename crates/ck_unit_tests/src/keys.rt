@@ -2,7 +2,7 @@
 ghost use Rattle.std.specs.Prelude.{◌≤◌};
 
 use ck_key::{
-    KeyFault, MixedKey, NumKey, TableKey, TextKey, alternate, index, partial, stripes_of,
+    KeyFault, MixedKey, NumKey, Query, TableKey, TextKey, alternate, index, partial, stripes_of,
 };
 use std::alloc::Global;
 use std::process::Abort;
@@ -45,6 +45,11 @@ fn buckets(p: u32, t: u8, h: u64) -> (u64, u64)
 /// The hash, by the trait.
 fn hash_of<K: TableKey>(key: &K) -> u64 {
     key.hash64()
+}
+
+/// The hash, by a query.
+fn hash_asked<Q: Query<TextKey>>(query: Q) -> u64 {
+    query.hash64()
 }
 
 fn check(rt: &impl Abort, hash: u64, row: &Row) {
@@ -102,6 +107,9 @@ fn text_keys(rt: HostRuntime) -> Result<(), Fail> {
     ] {
         let key = TextKey::new(rt.alloc(), text.as_bytes())?;
         check(&rt, hash_of(&key), &row);
+        assert!(rt; hash_asked(&key) == row.hash);
+        assert!(rt; hash_asked(text) == row.hash);
+        assert!(rt; hash_asked(text.as_bytes()) == row.hash);
     }
     Ok(())
 }

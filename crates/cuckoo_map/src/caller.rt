@@ -101,6 +101,13 @@ impl<'t, K: TableKey + Drop, V: Drop> Caller<'t, K, V> {
     /// ```
     /// let value: Option<u64> = caller.find(&NumKey(5))?;
     /// ```
+    ///
+    /// Where keys are texts, a text is a query for its key, here and in all calls that bind no new
+    /// key.
+    ///
+    /// ```
+    /// let value: Option<u64> = caller.find("word")?;
+    /// ```
     #[inline(always)]
     pub fn find<Q: Query<K>>(&mut self, key: Q) -> Result<Option<V>, Busy>
     where
