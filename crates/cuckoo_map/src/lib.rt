@@ -14,6 +14,8 @@
 //! }
 //! ```
 //!
+//! Threads that aren't known when the table is opened borrow callers of a [`Pool`].
+//!
 //! Each answered call takes effect once, at one moment, in one legal sequential history of a plain
 //! map, with the reply that the map gives there. A call that finds a stripe held too often is
 //! refused as [`Busy`], and an insertion for which there is no room as [`Refused`]. Neither changes
