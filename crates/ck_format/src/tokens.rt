@@ -2,8 +2,7 @@
 ghost use Rattle.std.specs.Prelude.{◌≡◌, ◌∷◌, [], MatchOption};
 ghost use Rattle.ck_format.specs.Tokens.{begins_as_number, number_at, tokens};
 ghost use Rattle.ck_format.specs.AreTokens.{AreTokens};
-
-use memchr::memchr;
+ghost use Rattle.memchr.specs.Find.{IsFirstByte, is_byte};
 
 /// The tokens of a line that has at most four.
 #[derive(Drop)]
@@ -15,12 +14,19 @@ pub enum Tokens<'a> {
     More,
 }
 
+// Where the first space is. Words are short, so a look at each byte is faster than `memchr`.
+fn first_space(line: &[u8]) -> Option<usize>
+    ensures { IsFirstByte (is_byte 32) line.now result }
+{
+    line.iter().position(|b| *b == b' ')
+}
+
 // The first word, and what stands behind the space after it, where there is one.
 fn cut(line: &[u8]) -> (&[u8], Option<&[u8]>)
     ensures { MatchOption result.1 (tokens line.now ≡ result.0.now ∷ [])
         (λ rest. tokens line.now ≡ result.0.now ∷ tokens rest.now) }
 {
-    match memchr(b' ', line) {
+    match first_space(line) {
         None => (line, None),
         Some(at) => (&line[..at], Some(&line[at + 1..])),
     }
