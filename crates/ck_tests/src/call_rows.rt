@@ -76,9 +76,13 @@ const ONE_PAIR_OF_BUCKETS: &[Step] = &[
         Call::Uprase(9 * APART, 9),
         Reply::BothBack(9 * APART, 9, Why::LoadTooLow),
     ),
+    Step::First(
+        Call::TryUpsert(9 * APART, 9),
+        Reply::BothBack(9 * APART, 9, Why::LoadTooLow),
+    ),
 ];
 
-static RUNS: [Run; 10] = [
+static RUNS: [Run; 11] = [
     Run {
         what: "after they met, one caller finds what the other has bound",
         shape: SIXTEEN_BUCKETS,
@@ -163,6 +167,17 @@ static RUNS: [Run; 10] = [
             Step::First(Call::Uprase(6, 7), Reply::Uprased(Uprased::New)),
         ],
         end: &[(NumKey(6), 7)],
+    },
+    Run {
+        what: "a closure that fails gives back a value too",
+        shape: SIXTEEN_BUCKETS,
+        steps: &[
+            Step::First(Call::TryUpsert(5, 1), Reply::Ended(Ok(true))),
+            Step::First(Call::TryUpsert(5, 60), Reply::Ended(Ok(false))),
+            Step::First(Call::Find(5), Reply::Was(Some(0))),
+            Step::First(Call::TryUpsert(5, 60), Reply::Ended(Err(7))),
+        ],
+        end: &[(NumKey(5), 100)],
     },
     Run {
         what: "the value is what a closure makes where the key was unbound",

@@ -16,6 +16,9 @@ pub enum Call {
     InsertOrAssign(u64, u64),
     /// Adds one to the value of a bound key.
     Upsert(u64, u64),
+    /// Takes one from the value of a bound key. Where there is none, it fails with 7, and the key is
+    /// bound to 100.
+    TryUpsert(u64, u64),
     /// Binds an unbound key to what a closure makes, which is the second.
     InsertWith(u64, u64),
     /// Takes one from the value of a bound key, and unbinds it where there is none.
@@ -55,6 +58,8 @@ pub enum Reply {
     Replaced(Option<bool>),
     /// How the closure ended.
     Tried(Option<Result<(), u64>>),
+    /// Whether the key was unbound, or how the closure failed.
+    Ended(Result<bool, u64>),
     Busy(u32),
     /// The value came back, since a stripe was busy.
     ValueBack(u64, u32),
@@ -171,6 +176,21 @@ fn uprase(caller: &mut NumCaller<'_>, key: u64, value: u64) -> Reply
     match caller.uprase(NumKey(key), take, value) {
         Ok(Uprased::New) => uncalled(called, Reply::Uprased(Uprased::New)),
         Ok(uprased) => Reply::Uprased(uprased),
+        Err(refused) => uncalled(called, both_back(refused)),
+    }
+}
+
+fn try_upsert(caller: &mut NumCaller<'_>, key: u64, value: u64) -> Reply
+    ensures { IsSameCaller caller.old caller.new }
+{
+    let mut called = false;
+    let take_one = |left: u64| {
+        called = true;
+        left.checked_sub(1).ok_or((100, 7))
+    };
+    match caller.try_upsert(NumKey(key), take_one, value) {
+        Ok(Ok(true)) => uncalled(called, Reply::Ended(Ok(true))),
+        Ok(ended) => Reply::Ended(ended),
         Err(refused) => uncalled(called, both_back(refused)),
     }
 }
@@ -303,6 +323,7 @@ pub fn answer(caller: &mut NumCaller<'_>, call: Call) -> Reply
         Call::Insert(key, value) => insert(caller, key, value),
         Call::InsertOrAssign(key, value) => insert_or_assign(caller, key, value),
         Call::Upsert(key, value) => upsert(caller, key, value),
+        Call::TryUpsert(key, value) => try_upsert(caller, key, value),
         Call::InsertWith(key, value) => insert_with(caller, key, value),
         Call::Uprase(key, value) => uprase(caller, key, value),
         Call::GetOrInsertWith(key, value) => get_or_insert_with(caller, key, value),

@@ -16,6 +16,8 @@ mod lists;
 #[cfg(test)]
 mod lock_words;
 #[cfg(test)]
+mod locked_calls;
+#[cfg(test)]
 mod locks;
 #[cfg(test)]
 mod memory;

@@ -10,7 +10,7 @@ use crate::fixtures::{NumPass, NumTable, TWO_STRIPES};
 use ck_hoard::{End, Ends, ends_of, hoard};
 use ck_key::{KeyFault, NumKey, TextKey};
 use ck_words::Words;
-use cuckoo_map::{OpenFault, Settings};
+use cuckoo_map::{GrowFault, OpenFault, Settings};
 use std::alloc::Global;
 use std::process::Abort;
 use std::test::Fail;
@@ -32,6 +32,7 @@ enum Subject {
     Key,
     Opening,
     Callers,
+    LockedGrowth,
     Closing,
     WordsClosing,
 }
@@ -71,6 +72,29 @@ fn make_callers(rt: &impl Abort, alloc: Global) -> End {
         }
         Err(back) => {
             assert!(rt; back.passes.len() == 3);
+            End::Refused
+        }
+    }
+}
+
+/// A locked table that is refused memory to grow keeps its size and its pair.
+fn grow_locked(rt: &impl Abort, alloc: Global) -> End {
+    let Ok((table, mut passes)) = NumTable::open(alloc, SETTINGS) else {
+        return End::Unbegun;
+    };
+    let mut caller = table.caller(passes.remove(0));
+    assert!(rt; caller.insert(NumKey(3), 30).is_ok());
+    let Ok(mut locked) = caller.lock() else {
+        return End::Unbegun;
+    };
+    let grown = locked.rehash(3);
+    let (power, found) = (locked.power(), locked.find(&NumKey(3)).copied());
+    locked.unlock();
+    assert!(rt; found == Some(30));
+    match grown {
+        Ok(_) => End::Done,
+        Err(fault) => {
+            assert!(rt; fault == GrowFault::Memory && power == 2);
             End::Refused
         }
     }
@@ -155,6 +179,7 @@ fn call(rt: &impl Abort, alloc: Global, subject: Subject) -> End {
         Subject::Key => make_key(rt, alloc),
         Subject::Opening => open(rt, alloc),
         Subject::Callers => make_callers(rt, alloc),
+        Subject::LockedGrowth => grow_locked(rt, alloc),
         Subject::Closing => close(rt, alloc),
         Subject::WordsClosing => close_words(rt, alloc),
     }
@@ -162,10 +187,11 @@ fn call(rt: &impl Abort, alloc: Global, subject: Subject) -> End {
 
 /// Both are refused for want of memory, and then neither is; what has to come before needs memory
 /// too, or none.
-const ROWS: [(&str, Subject, usize, bool); 5] = [
+const ROWS: [(&str, Subject, usize, bool); 6] = [
     ("a text key", Subject::Key, 20, false),
     ("opening a table", Subject::Opening, 120, false),
     ("a list of callers", Subject::Callers, 200, true),
+    ("growth of a locked table", Subject::LockedGrowth, 200, true),
     ("closing a table", Subject::Closing, 120, true),
     ("closing lock words", Subject::WordsClosing, 200, true),
 ];
