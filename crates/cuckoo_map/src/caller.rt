@@ -598,6 +598,10 @@ impl<'t, K: TableKey + Drop, V: Drop> Caller<'t, K, V> {
     /// Locks the table. Refused as busy, it changes nothing, and the caller comes back. It is
     /// `Table::lock_table`, and `Table::caller` makes a caller again of the pass that
     /// `LockedTable::unlock` gives.
+    ///
+    /// ```
+    /// let mut locked = caller.lock().map_err(Busy::from)?;
+    /// ```
     pub fn lock(self) -> Result<LockedTable<'t, K, V>, (Caller<'t, K, V>, Busy)>
         ensures locked { IfOk result (HasLocked self.entry.table self.entry.pass) }
         ensures same { IfErr result (λ back. IsSameCaller self.entry back.0) }
