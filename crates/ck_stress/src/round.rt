@@ -83,16 +83,6 @@ fn work<'t, K: Key>(
     worker
 }
 
-/// Lets each worker call in a thread of its own.
-fn work_all<'t, K: Key + Send, R: Threads + Clock + Sync>(
-    rt: &R,
-    plan: Plan,
-    start: Instant,
-    workers: Vec<Worker<'t, K>>,
-) -> Result<Vec<Worker<'t, K>>, AllocError> {
-    thread::map_vec(rt, workers, &|worker| work(rt, plan, start, worker))
-}
-
 /// Opens the accounts.
 fn fund<K: Key>(alloc: Global, caller: &mut Caller<'_, K>) -> io::Result<()> {
     for i in 0..ACCOUNTS {
@@ -178,37 +168,85 @@ fn look_at_end<K: Key>(
     }
 }
 
-/// Makes a round with keys of this type, and says what was done in it, or what was wrong.
-fn run_with<K: Key + Send + Sync, R: Threads + Clock + Sync>(
-    rt: &R,
+/// Whoever looks last, and the workers, once the accounts are open.
+fn begin<'t, K: Key>(
     alloc: Global,
-    plan: Plan,
-) -> io::Result<Result<Tally, Wrong>> {
-    let Ok((table, passes)) = Table::<K, u64>::open(alloc, settings(plan)) else {
-        return Err(io::ErrorKind::OutOfMemory.into());
-    };
-    let Ok(mut callers) = table.callers(alloc, passes) else {
-        return Err(io::ErrorKind::OutOfMemory.into());
-    };
+    seed: u64,
+    mut callers: Vec<Caller<'t, K>>,
+) -> io::Result<(Caller<'t, K>, Vec<Worker<'t, K>>)> {
     let Some(mut auditor) = callers.pop() else {
         return Err(io::ErrorKind::InvalidInput.into());
     };
     fund(alloc, &mut auditor)?;
-    let workers = hire(alloc, plan.seed, callers)?;
+    let workers = hire(alloc, seed, callers)?;
+    Ok((auditor, workers))
+}
+
+// The threads start in a function for each type of keys: of one for all the prover has no proof.
+
+/// Makes a round with numbers as keys, each worker in a thread of its own.
+fn run_numbers<R: Threads + Clock + Sync>(
+    rt: &R,
+    alloc: Global,
+    plan: Plan,
+) -> io::Result<Result<Tally, Wrong>> {
+    let Ok((table, passes)) = Table::<NumKey, u64>::open(alloc, settings(plan)) else {
+        return Err(io::ErrorKind::OutOfMemory.into());
+    };
+    let Ok(callers) = table.callers(alloc, passes) else {
+        return Err(io::ErrorKind::OutOfMemory.into());
+    };
+    let (auditor, workers) = begin(alloc, plan.seed, callers)?;
     let start = Instant::now(rt)?;
-    let workers = work_all(rt, plan, start, workers)?;
+    let workers = work_on_numbers(rt, plan, start, workers)?;
     look_at_end(alloc, auditor, &workers)
 }
 
-/// Makes a round, every third with text keys, and says what was done in it, or what was wrong.
+fn work_on_numbers<'t, R: Threads + Clock + Sync>(
+    rt: &R,
+    plan: Plan,
+    start: Instant,
+    workers: Vec<Worker<'t, NumKey>>,
+) -> Result<Vec<Worker<'t, NumKey>>, AllocError> {
+    thread::map_vec(rt, workers, &|worker| work(rt, plan, start, worker))
+}
+
+/// Makes a round with texts as keys, each worker in a thread of its own.
+fn run_texts<R: Threads + Clock + Sync>(
+    rt: &R,
+    alloc: Global,
+    plan: Plan,
+) -> io::Result<Result<Tally, Wrong>> {
+    let Ok((table, passes)) = Table::<TextKey, u64>::open(alloc, settings(plan)) else {
+        return Err(io::ErrorKind::OutOfMemory.into());
+    };
+    let Ok(callers) = table.callers(alloc, passes) else {
+        return Err(io::ErrorKind::OutOfMemory.into());
+    };
+    let (auditor, workers) = begin(alloc, plan.seed, callers)?;
+    let start = Instant::now(rt)?;
+    let workers = work_on_texts(rt, plan, start, workers)?;
+    look_at_end(alloc, auditor, &workers)
+}
+
+fn work_on_texts<'t, R: Threads + Clock + Sync>(
+    rt: &R,
+    plan: Plan,
+    start: Instant,
+    workers: Vec<Worker<'t, TextKey>>,
+) -> Result<Vec<Worker<'t, TextKey>>, AllocError> {
+    thread::map_vec(rt, workers, &|worker| work(rt, plan, start, worker))
+}
+
+/// Makes a round, every third with texts as keys, and says what was done in it, or what was wrong.
 pub fn run_round<R: Threads + Clock + Sync>(
     rt: &R,
     alloc: Global,
     plan: Plan,
 ) -> io::Result<Result<Tally, Wrong>> {
     if plan.seed % 3 == 2 {
-        run_with::<TextKey, R>(rt, alloc, plan)
+        run_texts(rt, alloc, plan)
     } else {
-        run_with::<NumKey, R>(rt, alloc, plan)
+        run_numbers(rt, alloc, plan)
     }
 }
