@@ -61,12 +61,15 @@ impl<'t, 'c, K: Numbered> Worker<'t, 'c, K> {
         }
     }
 
+    // Its sum is written once: the sums of workers may lie in one cache line.
     fn make_all(&mut self) {
         let calls = self.calls;
+        let mut sum = 0u64;
         for call in calls {
             let answer = self.make(call);
-            self.sum = self.sum.wrapping_add(answer);
+            sum = sum.wrapping_add(answer);
         }
+        self.sum = sum;
     }
 }
 
