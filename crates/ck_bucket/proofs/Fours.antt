@@ -1,5 +1,5 @@
 -- Lemmas on a list that is seen four at a time.
-use Rattle.std.proofs.Common.{◌≡◌, ℕ, zero, suc, ◌+◌, ◌*◌, ◌<◌, List, [], ◌∷◌, Option, None, refl, sym, ap, map, option_map, replicate, set, length, arith}
+use Rattle.std.proofs.Common.{◌≡◌, ℕ, zero, suc, ◌+◌, ◌*◌, ◌<◌, List, [], ◌∷◌, None, refl, ap, map, option_map, replicate, set, length, arith}
 use Rattle.ck_model.specs.Slots.{Slot, slot_at}
 use Rattle.ck_model.specs.Contents.{row_at}
 use Rattle.ck_bucket.specs.Rows.{in_fours}

@@ -1,5 +1,6 @@
 -- Lemmas on rows whose slots are written one after the other.
-use Rattle.std.proofs.Common.{◌≡◌, ◌≢◌, ℕ, zero, suc, ◌+◌, ◌<◌, List, [], ◌∷◌, ◌++◌, Option, Some, None, refl, sym, ◌∙◌, ap, map, replicate, set, length, append_assoc, arith}
+use Rattle.std.proofs.Common.{◌≡◌, ◌≢◌, ℕ, zero, suc, ◌+◌, ◌<◌, List, [], ◌∷◌, ◌++◌, Option, Some, None, is_some, refl, sym, ◌∙◌, ap, map, replicate, set, length, append_assoc, arith}
+use mir.Val.{bool_byte}
 use Rattle.std.proofs.lemmas.List.{append-nil, length-append, get_or-set_same, get_or-set_other}
 use Rattle.std.specs.Option.{option_to_list}
 use Rattle.ck_model.specs.Map.{Name}
@@ -114,14 +115,14 @@ taken-cons (Some y) os = refl
 length-taken : {Y : Type 0} (o : Option Y) (os : List (Option Y)) → length (taken_in (o ∷ os)) ≡ length (option_to_list o) + length (taken_in os)
 length-taken o os = ap length (taken-cons o os) ∙ length-append (option_to_list o) (taken_in os)
 
--- how many of four slots are taken
-pub length-four : {Y : Type 0} (a b c d : Option Y) → length (taken_in (a ∷ b ∷ c ∷ d ∷ [])) ≡ length (option_to_list a) + length (option_to_list b) + length (option_to_list c) + length (option_to_list d)
-length-four {Y} a b c d =
-    let one = length-taken a (b ∷ c ∷ d ∷ []) in
-    let two = length-taken b (c ∷ d ∷ []) in
-    let three = length-taken c (d ∷ []) in
-    let four = length-taken d [] in
-    omega arith
+flag-length : {Y : Type 0} (o : Option Y) → bool_byte (is_some o) ≡ length (option_to_list o)
+flag-length None = refl
+flag-length (Some y) = refl
+
+-- the flags of four slots, added up
+pub flags-counted : {Y : Type 0} (a b c d : Option Y) → bool_byte (is_some a) + bool_byte (is_some b) + bool_byte (is_some c) + bool_byte (is_some d) ≡ length (taken_in (a ∷ b ∷ c ∷ d ∷ []))
+flags-counted a b c d =
+    omega (arith, flag-length a, flag-length b, flag-length c, flag-length d, length-taken a (b ∷ c ∷ d ∷ []), length-taken b (c ∷ d ∷ []), length-taken c (d ∷ []), length-taken d [])
 
 -- what is in a row's slots is pushed slot by slot
 pub row-pushed : {V : Type 0} {row : List (Slot V)} (a b c d : Slot V) (start : List (Name × V)) {one two three four : List (Name × V)} → row ≡ a ∷ b ∷ c ∷ d ∷ []

@@ -9,7 +9,7 @@ use Rattle.ck_model.specs.Slots.{Slot, slot_at}
 use Rattle.ck_model.specs.Contents.{row_at}
 use Rattle.ck_model.specs.Paths.{partial_in}
 use Rattle.ck_bucket.specs.declared.head.Head.{Head}
-use Rattle.ck_bucket.specs.Bucket.{seen_slots, KeepsPartials, ReplacesValue}
+use Rattle.ck_bucket.specs.Bucket.{seen_slots, ReplacesValue}
 use Rattle.ck_bucket.specs.Rows.{in_fours, no_entry, IsHeadOf, KeepsHeads}
 use Rattle.ck_bucket.proofs.Fours.{length-fours, fours-at, fours-set, fours-free, free-at}
 use Rattle.ck_bucket.proofs.SeenSlots.{seen-at, seen-set, partials-set, partials-clear, partials-replaced}

@@ -120,6 +120,21 @@ impl<K: TableKey, V> Rows<K, V> {
         None
     }
 
+    /// The number of the row's entries.
+    #[inline(always)]
+    pub fn len_of_row(&self, row: usize) -> usize
+        requires { row < length self.now }
+        ensures len { result ≡ length (taken_in (row_at self.now row)) }
+        ensures few { result ≤ 4 }
+    {
+        // The flags are added up, with no branch, since all rows of a table may be counted.
+        let head = self.heads.get(row);
+        head.taken[0] as usize
+            + head.taken[1] as usize
+            + head.taken[2] as usize
+            + head.taken[3] as usize
+    }
+
     /// The partial of each slot of the row that is not free.
     #[inline(always)]
     pub fn sketch(&self, row: usize) -> [Option<u8>; 4]
@@ -362,26 +377,23 @@ impl<K: TableKey + Drop, V: Drop> Rows<K, V> {
     }
 
     /// Asks the closure about each of the row's pairs, in the order of their slots, and drops those
-    /// for which it answers false. Gives how many stay.
-    pub fn retain_row<F: FnMut(&K, &V) -> bool>(&mut self, row: usize, f: &mut F) -> u32
+    /// for which it answers false.
+    pub fn retain_row<F: FnMut(&K, &V) -> bool>(&mut self, row: usize, f: &mut F)
         requires row { row < length self.old }
         requires call { F.IsAlwaysCallable f.old }
         ensures asked { AsksAboutRow F.FnMut K.name f.old (row_at self.old row)
             (row_at self.new row) f.new }
         ensures rest { self.new ≡ slice_set self.old row (row_at self.new row) }
-        ensures len { result ≡ length (taken_in (row_at self.new row)) }
-        ensures few { result ≤ 4 }
         ensures call { F.IsAlwaysCallable f.new }
     {
-        self.retain_slot(row, 0, f)
-            + self.retain_slot(row, 1, f)
-            + self.retain_slot(row, 2, f)
-            + self.retain_slot(row, 3, f)
+        self.retain_slot(row, 0, f);
+        self.retain_slot(row, 1, f);
+        self.retain_slot(row, 2, f);
+        self.retain_slot(row, 3, f);
     }
 
-    // Asks the closure about the pair in the slot, and drops it where the answer is false. Gives
-    // how many pairs stay there.
-    fn retain_slot<F: FnMut(&K, &V) -> bool>(&mut self, row: usize, slot: usize, f: &mut F) -> u32
+    // Asks the closure about the pair in the slot, and drops it where the answer is false.
+    fn retain_slot<F: FnMut(&K, &V) -> bool>(&mut self, row: usize, slot: usize, f: &mut F)
         requires row { row < length self.old }
         requires below { slot < 4 }
         requires call { F.IsAlwaysCallable f.old }
@@ -389,19 +401,16 @@ impl<K: TableKey + Drop, V: Drop> Rows<K, V> {
             (slot_at (row_at self.new row) slot) f.new }
         ensures rest { self.new
             ≡ with_slot_in self.old row slot (slot_at (row_at self.new row) slot) }
-        ensures len { result ≡ length (option_to_list (slot_at (row_at self.new row) slot)) }
-        ensures one { result ≤ 1 }
         ensures four { length (row_at self.old row) ≡ 4 }
         ensures call { F.IsAlwaysCallable f.new }
     {
         let Some((key, value)) = self.get(row, slot) else {
-            return 0;
+            return;
         };
         if f(key, value) {
-            return 1;
+            return;
         }
         let _dropped = self.take(row, slot);
-        0
     }
 }
 

@@ -1,7 +1,6 @@
 pub mod Splits
 pub mod Permuted
 pub mod Doubled
-pub mod Fields
 pub mod Stored
 pub mod Writes
 mod Pouring

@@ -1,20 +1,10 @@
 -- Rows of slots are poured one after another into reserved room.
-use Rattle.std.proofs.Common.{◌≡◌, ℕ, ◌+◌, ◌<◌, ◌≤◌, List, [], ◌∷◌, ◌++◌, Option, get_or, set, length, map, take, sym, ◌∙◌, ap, length-append, arith}
+use Rattle.std.proofs.Common.{◌≡◌, ℕ, ◌+◌, ◌<◌, ◌≤◌, List, [], ◌∷◌, ◌++◌, get_or, length, map, take, sym, ◌∙◌, ap, length-append, arith}
 use Rattle.std.specs.Prelude.{flat_map}
-use Rattle.std.proofs.lemmas.List.{length-map, length-take-le, take_more, take_more_set, flat_map_more}
-use Rattle.std.proofs.lemmas.List.Concat.{flat_map-append}
+use Rattle.std.proofs.lemmas.List.{length-map, length-take-le, take_more, flat_map_more}
 use Rattle.std.proofs.lemmas.List.Folds.{length-flat_map-take}
 use Rattle.ck_model.specs.Map.{Name, named}
 use Rattle.ck_model.specs.Slots.{Slot, taken_in}
-
--- one row more, and what is in it
-pub count_more : {X : Type 0} (now after : List (List (Option X))) (n m len : ℕ) (row : List (Option X)) → n < length now → after ≡ set now n row → m ≡ length (taken_in row) → len ≡ length (flat_map taken_in (take n now))
-    → len + m ≡ length (flat_map taken_in (take (n + 1) after))
-count_more now after n m len row lt is here before =
-    let more = ap (λ l. length (flat_map taken_in l)) (ap (take (n + 1)) is ∙ take_more_set now n row lt) in
-    let parts = ap length (flat_map-append taken_in (take n now) (row ∷ [])) ∙ length-append (flat_map taken_in (take n now)) (taken_in row ++ []) in
-    let last = length-append (taken_in row) [] in
-    omega arith
 
 module _ {K V : Type 0} where
   -- there is room for four more

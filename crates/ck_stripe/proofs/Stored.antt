@@ -1,93 +1,216 @@
--- What a stripe stores beside its rows for the next doubling.
-use Rattle.std.proofs.Common.{◌≡◌, ℕ, Bool, true, false, refl, sym, ◌∙◌, ap, subst, ◌+◌, ◌-◌, ◌*◌, ◌^◌, ◌<◌, ◌≤◌, List, Some, None, length, replicate, arith}
-use Rattle.std.specs.Prelude.{flat_map}
-use Rattle.std.specs.Borrow.{Bor}
-use Rattle.std.specs.Fn.{Mut}
+-- What is stored of a stripe, and what is shown of it.
+use Rattle.std.proofs.Common.{◌≡◌, ℕ, Bool, true, false, cond, refl, sym, ◌∙◌, ap, subst, ◌+◌, ◌-◌, ◌*◌, ◌/◌, ◌^◌, ◌<◌, ◌≤◌, List, [], Some, None, length, set, replicate, arith}
+use Rattle.std.specs.Prelude.{flat_map, All}
+use Rattle.std.specs.Option.{option_to_list}
 use Rattle.std.proofs.Math.Pow.{pow_mono}
 use Rattle.std.proofs.lemmas.Bool.{true≢false}
 use Rattle.std.proofs.lemmas.Option.{none-some, same_Some}
-use Rattle.std.proofs.lemmas.List.{length-replicate}
+use Rattle.std.proofs.lemmas.List.{get_or-set_same, length-set, length-replicate}
+use Rattle.std.proofs.lemmas.List.Elements.{All-set, All-replicate}
+use Rattle.std.proofs.lemmas.List.Sorted.{length_permutation}
 use Rattle.ck_model.specs.Map.{Name}
-use Rattle.ck_model.specs.Slots.{Slot, taken_in}
-use Rattle.ck_bucket.specs.Retaining.{AsksAboutRow, AsksAboutRows}
-use Rattle.ck_bucket.proofs.InTurn.{length-each}
-use Rattle.ck_bucket.proofs.Asked.{four_after}
+use Rattle.ck_model.specs.Slots.{Slot, slot_at, taken_in}
+use Rattle.ck_model.specs.Contents.{row_at}
+use Rattle.ck_model.specs.declared.contents.Content.{Content}
 use Rattle.ck_stripe.specs.declared.next.Next.{Next}
 use Rattle.ck_stripe.specs.declared.next.Next.TheVariants.{Absent, Reserved, Doubled}
-use Rattle.ck_stripe.specs.Stripe.{StripeState, state_from, shown, IsWellFormed, IsConsistent}
-use Rattle.ck_stripe.specs.Next.{is_settled, count_of, room_of, rows_of, IsFree, stored_from}
-use Rattle.ck_stripe.proofs.Splits.{length-split}
+use Rattle.ck_stripe.specs.declared.stripe.Stripe.TheInside.{Inside}
+use Rattle.ck_stripe.specs.Doubling.{split_rows, doubled_content}
+use Rattle.ck_stripe.specs.Stripe.{StripeState, IsWellFormed, bucket_of, with_bucket, with_slot, content_of, empty_content}
+use Rattle.ck_stripe.specs.Next.{is_settled, count_of, room_of, rows_of, IsFree}
+use Rattle.ck_stripe.specs.Stored.{shown_rows, shown, IsConsistent}
+use Rattle.ck_stripe.proofs.Splits.{length-split, four-split, split_moved}
 use Rattle.ck_stripe.proofs.Doubled.{twice_rows}
-use Rattle.ck_stripe.proofs.Fields.{formed_now, stored_settled, now_stored, raised}
-use Rattle.ck_stripe.proofs.Writes.{consistent_emptied, consistent_rows}
+use Rattle.ck_stripe.proofs.Writes.{count_rows, count_slots, no_pairs}
+
+abbrev IsFour : {X : Type 0} → List X → Type 0
+IsFour row = length row ≡ 4
+
+pub content_empty : {V : Type 0} (s power n : ℕ) (rows : List (List (Slot V))) → rows ≡ replicate n (replicate 4 None) → n ≡ 2 ^ (power - s) → content_of power rows ≡ empty_content s power
+content_empty {V} s power n rows free is =
+    ap (content_of power) (free ∙ ap (λ m. replicate m (replicate 4 None)) is)
+    ∙ ap (λ (es : List (Name × V)). record { power = power; rows = replicate (2 ^ (power - s)) (replicate 4 None); ledger = length es }) (no_pairs (Name × V) (2 ^ (power - s)))
 
 module _ {K V : Type 0} where
-  -- as many rows as before
-  pub free_kept : (next : Next K V) (n m : ℕ) → m ≡ n → IsFree n next → IsFree m next
-  free_kept next n m same free = subst (λ k. IsFree k next) (sym same) free
+  -- the fields with other rows
+  abbrev pub with_rows : Inside K V → List (List (Slot V)) → Inside K V
+  with_rows t rows = record t { rows = rows }
 
-  -- how many rows are stored
-  pub count_stored : (hash : Name → ℕ) (number s power : ℕ) (rows : List (List (Slot V))) (ledger : ℕ) (next : Next K V)
-      → IsConsistent hash (stored_from number s power rows ledger next) → count_of s power next ≡ length rows
-  count_stored hash number s power rows ledger Absent kept = sym kept.formed.shaped.rows
-  count_stored hash number s power rows ledger (Reserved more) kept = sym kept.formed.shaped.rows
-  count_stored hash number s power rows ledger (Doubled more) kept =
-      let below : s < power = (kept.late refl).0 in
-      let back : power - 1 + 1 ≡ power = omega arith in
-      let half : 2 * 2 ^ (power - 1 - s) ≡ 2 ^ (power - s) = twice_rows s (power - 1) (2 ^ (power - 1 - s)) (omega arith) refl ∙ ap (λ n. 2 ^ (n - s)) back in
-      let all = kept.formed.shaped.rows in
-      let long = length-split hash s number (power - 1) rows in
-      omega arith
+  module _ (t : Inside K V) (kept : IsConsistent t) where
+    pub few_stored : count_of t.s t.power t.next ≤ 2 ^ 26
+    few_stored = go (is_settled t.next)
+      where
+        go : (b : Bool) → cond b (2 ^ (t.power - t.s)) (2 ^ (t.power - 1 - t.s)) ≤ 2 ^ 26
+        go true = let below : t.power - t.s ≤ 26 = omega (arith, kept.most) in pow_mono below
+        go false = let below : t.power - 1 - t.s ≤ 26 = omega (arith, kept.most) in pow_mono below
 
-  -- Its rows, as they are stored once they are free, and no entry are what a settled stripe can store.
-  pub emptied_stored : (hash : Name → ℕ) (number s power : ℕ) (rows : List (List (Slot V))) (ledger : ℕ) (next : Next K V) (now : StripeState V)
-      → IsConsistent hash (stored_from number s power rows ledger next) → shown hash (stored_from number s power rows ledger next) ≡ now → now.settled ≡ true → IsFree (length rows) next
-      → (count : ℕ) → count ≡ count_of s power next → (new : List (List (Slot V))) → new ≡ replicate count (replicate 4 None)
-      → IsConsistent hash (stored_from number s power new 0 next) × IsFree (length new) next
-  emptied_stored hash number s power rows ledger next now kept is settled free count long new emptied =
-      let all : new ≡ replicate (length rows) (replicate 4 None) = emptied ∙ ap (λ n. replicate n (replicate 4 None)) (long ∙ count_stored hash number s power rows ledger next kept) in
-      let stored : StripeState V = stored_from number s power rows ledger next in (
-        consistent_emptied hash stored now kept is settled new all (room_of s power next),
-        free_kept next (length rows) (length new) (ap length all ∙ length-replicate (length rows) (replicate 4 None)) free,
-      )
+    -- as many other rows of four slots
+    pub kept_rows : (rows : List (List (Slot V))) → length rows ≡ length t.rows → All IsFour rows → IsConsistent (with_rows t rows)
+    kept_rows rows long four = record {
+      many = kept.many;
+      number = kept.number;
+      least = kept.least;
+      late = kept.late;
+      most = kept.most;
+      count = long ∙ kept.count;
+      four = four;
+      free = subst (λ n. IsFree n t.next) (sym long) kept.free;
+    }
 
-  -- So are the rows that are left where a closure was asked about their pairs, and the number of their entries.
-  pub retained_stored : {F : Type 0} (g : Mut F (Bor K × (Bor V × Unit {0})) Bool) (name : K → Name) (hash : Name → ℕ) (number s power : ℕ) (rows : List (List (Slot V))) (ledger : ℕ) (next : Next K V) (now : StripeState V)
-      → IsConsistent hash (stored_from number s power rows ledger next) → shown hash (stored_from number s power rows ledger next) ≡ now → now.settled ≡ true → IsFree (length rows) next
-      → (f f' : F) (new : List (List (Slot V))) → AsksAboutRows g name f rows new f' → (len : ℕ) → len ≡ length (flat_map taken_in new)
-      → IsConsistent hash (stored_from number s power new len next) × IsFree (length new) next
-  retained_stored g name hash number s power rows ledger next now kept is settled free f f' new asked len counted =
-      let stored : StripeState V = stored_from number s power rows ledger next in
-      let formed : IsWellFormed stored = subst IsWellFormed (now_stored hash stored now kept is settled) (formed_now hash stored now kept is) in
-      let long = length-each (AsksAboutRow g name) f rows new f' asked in (
-        consistent_rows hash stored formed (stored_settled hash stored now kept is settled) new len long (four_after g name f rows new f' asked formed.shaped.four) counted,
-        free_kept next (length rows) (length new) long free,
-      )
+    -- and as many free ones
+    pub kept_free : (rows : List (List (Slot V))) (n : ℕ) → rows ≡ replicate n (replicate 4 None) → n ≡ count_of t.s t.power t.next → IsConsistent (with_rows t rows)
+    kept_free rows n free is =
+        kept_rows rows (ap length free ∙ length-replicate n (replicate 4 None) ∙ is ∙ sym kept.count) (subst (All IsFour) (sym free) (All-replicate IsFour n (replicate 4 None) refl))
 
-  pub few_stored : (hash : Name → ℕ) (number s power : ℕ) (rows : List (List (Slot V))) (ledger : ℕ) (next : Next K V)
-      → IsConsistent hash (stored_from number s power rows ledger next) → count_of s power next ≤ 2 ^ 26
-  few_stored hash number s power rows ledger Absent kept = let most = kept.formed.most in let below : power - s ≤ 26 = omega (arith, most) in pow_mono below
-  few_stored hash number s power rows ledger (Reserved more) kept = let most = kept.formed.most in let below : power - s ≤ 26 = omega (arith, most) in pow_mono below
-  few_stored hash number s power rows ledger (Doubled more) kept = let most = kept.formed.most in let below : power - 1 - s ≤ 26 = omega (arith, most) in pow_mono below
+  module _ (hash : Name → ℕ) (t : Inside K V) (kept : IsConsistent t) where
+    -- twice the rows, once they are split
+    split_count : is_settled t.next ≡ false → length (split_rows hash t.s t.number (t.power - 1) t.rows) ≡ 2 ^ (t.power - t.s)
+    split_count late =
+        let below : t.s < t.power = kept.late late in
+        let back : t.power - 1 + 1 ≡ t.power = omega arith in
+        length-split hash t.s t.number (t.power - 1) t.rows
+        ∙ twice_rows t.s (t.power - 1) (length t.rows) (omega arith) (kept.count ∙ ap (λ b. cond b (2 ^ (t.power - t.s)) (2 ^ (t.power - 1 - t.s))) late)
+        ∙ ap (λ n. 2 ^ (n - t.s)) back
 
-  -- a doubling is reserved, and then due
-  module _ (hash : Name → ℕ) (number s power : ℕ) (rows : List (List (Slot V))) (ledger : ℕ) (more : List (List (Slot V))) where
-    pub raised_as : (next after : Next K V) → s ≤ power → is_settled next ≡ true → rows_of next ≡ Some more → after ≡ Doubled more
-        → stored_from number s (power + 1) rows ledger after ≡ raised hash (stored_from number s power rows ledger next)
-    raised_as Absent after le settled there is = absurd (none-some _ there)
-    raised_as (Reserved was) after le settled there is =
-        ap (λ (a : Next K V). stored_from number s (power + 1) rows ledger a) is
-        ∙ ap (λ n. state_from number s (power + 1) rows ledger false n) (sym (twice_rows s power (2 ^ (power - s)) le refl))
-    raised_as (Doubled was) after le settled there is = absurd (true≢false (sym settled))
+    pub kept_split : (rows : List (List (Slot V))) (after : Next K V) → is_settled t.next ≡ false → rows ≡ split_rows hash t.s t.number (t.power - 1) t.rows → after ≡ Absent → IsConsistent (record t { rows = rows; next = after })
+    kept_split rows after late is none = subst (λ next. IsConsistent (record t { rows = rows; next = next })) (sym none) (record {
+      many = kept.many;
+      number = kept.number;
+      least = kept.least;
+      late = λ settled. absurd (true≢false settled);
+      most = kept.most;
+      count = ap length is ∙ split_count late;
+      four = subst (All IsFour) (sym is) (four-split hash t.s t.number (t.power - 1) t.rows kept.four);
+      free = tt;
+    })
 
-    pub raised_free : (n : ℕ) (next after : Next K V) → rows_of next ≡ Some more → after ≡ Doubled more → IsFree n next → IsFree n after
-    raised_free n Absent after there is free = absurd (none-some _ there)
-    raised_free n (Reserved was) after there is free = subst (IsFree n) (sym is) (sym (same_Some was more there) ∙ free)
-    raised_free n (Doubled was) after there is free = subst (IsFree n) (sym is) (sym (same_Some was more there) ∙ free)
+    pub formed : IsWellFormed (shown hash t)
+    formed = record { many = kept.many; number = kept.number; most = kept.most; shaped = record { least = kept.least; rows = long (is_settled t.next) refl; four = four (is_settled t.next); ledger = refl } }
+      where
+        long : (b : Bool) → is_settled t.next ≡ b → length (cond b t.rows (split_rows hash t.s t.number (t.power - 1) t.rows)) ≡ 2 ^ (t.power - t.s)
+        long true settled = kept.count ∙ ap (λ b. cond b (2 ^ (t.power - t.s)) (2 ^ (t.power - 1 - t.s))) settled
+        long false late = split_count late
 
-  -- until a doubled stripe is settled, it stores the rows of the power below
-  pub count_late : (hash : Name → ℕ) (number s power : ℕ) (rows : List (List (Slot V))) (ledger : ℕ) (next : Next K V)
-      → IsConsistent hash (stored_from number s power rows ledger next) → is_settled next ≡ false → length rows ≡ 2 ^ (power - 1 - s)
-  count_late hash number s power rows ledger Absent kept late = absurd (true≢false late)
-  count_late hash number s power rows ledger (Reserved more) kept late = absurd (true≢false late)
-  count_late hash number s power rows ledger (Doubled more) kept late = sym (count_stored hash number s power rows ledger (Doubled more) kept)
+        four : (b : Bool) → All IsFour (cond b t.rows (split_rows hash t.s t.number (t.power - 1) t.rows))
+        four true = kept.four
+        four false = four-split hash t.s t.number (t.power - 1) t.rows kept.four
+
+    pub formed_now : (now : StripeState V) → shown hash t ≡ now → IsWellFormed now
+    formed_now now is = subst IsWellFormed is formed
+
+    -- the entries that are shown are those that are stored
+    pub entries_shown : length (flat_map taken_in t.rows) ≡ (shown hash t).content.ledger
+    entries_shown = go (is_settled t.next)
+      where
+        go : (b : Bool) → length (flat_map taken_in t.rows) ≡ length (flat_map taken_in (cond b t.rows (split_rows hash t.s t.number (t.power - 1) t.rows)))
+        go true = refl
+        go false = sym (length_permutation _ _ (split_moved hash t.s t.number (t.power - 1) t.rows))
+
+    -- A settled stripe shows what it stores.
+    module _ (now : StripeState V) (is : shown hash t ≡ now) (settled : now.settled ≡ true) where
+      pub stored_settled : is_settled t.next ≡ true
+      stored_settled = ap (λ (w : StripeState V). w.settled) is ∙ settled
+
+      pub now_stored : now ≡ record { number = t.number; s = t.s; content = content_of t.power t.rows; settled = true; room = room_of t.s t.power t.next }
+      now_stored = sym is ∙ ap (λ (b : Bool). record { number = t.number; s = t.s; content = content_of t.power (cond b t.rows (split_rows hash t.s t.number (t.power - 1) t.rows)); settled = b; room = room_of t.s t.power t.next }) stored_settled
+
+      pub content_rows : (rows : List (List (Slot V))) → (shown hash (with_rows t rows)).content ≡ content_of t.power rows
+      content_rows rows = ap (λ (b : Bool). content_of t.power (cond b rows (split_rows hash t.s t.number (t.power - 1) rows))) stored_settled
+
+      pub content_free : (rows : List (List (Slot V))) (n : ℕ) → rows ≡ replicate n (replicate 4 None) → n ≡ count_of t.s t.power t.next → (shown hash (with_rows t rows)).content ≡ empty_content now.s now.content.power
+      content_free rows n free all =
+          content_rows rows ∙ content_empty t.s t.power n rows free (all ∙ ap (λ b. cond b (2 ^ (t.power - t.s)) (2 ^ (t.power - 1 - t.s))) stored_settled)
+          ∙ ap (λ (w : StripeState V). empty_content w.s w.content.power) is
+
+      -- Slot i of bucket b is written, which is row r.
+      module _ (b r i : ℕ) (at : r ≡ b / 2 ^ now.s) (lt : r < length now.content.rows) (below : i < 4) (rows : List (List (Slot V))) (slots : List (Slot V)) (all : rows ≡ set t.rows r slots)
+          (o : Slot V) (wrote : slots ≡ set (row_at t.rows r) i o) where
+        inside : r < length t.rows
+        inside = subst (λ (w : StripeState V). r < length w.content.rows) now_stored lt
+
+        four : length (row_at t.rows r) ≡ 4
+        four = kept.four r [] inside
+
+        here : bucket_of now b ≡ row_at t.rows r
+        here = ap (row_at now.content.rows) (sym at) ∙ ap (λ (w : StripeState V). row_at w.content.rows r) now_stored
+
+        pub kept_written : IsConsistent (with_rows t rows)
+        kept_written =
+            kept_rows t kept rows (ap length all ∙ length-set t.rows r slots)
+            (subst (All IsFour) (sym all) (All-set IsFour t.rows r slots (ap length wrote ∙ length-set (row_at t.rows r) i o ∙ four) kept.four))
+
+        -- what the number of entries was and is
+        abbrev pub Counts : ℕ → Type 0
+        Counts n = n + length (option_to_list (slot_at (bucket_of now b) i)) ≡ now.content.ledger + length (option_to_list o)
+
+        entries : Counts (length (flat_map taken_in rows))
+        entries =
+            let was = ap (λ (x : List (Slot V)). length (option_to_list (slot_at x i))) here in
+            let before = ap (λ (w : StripeState V). w.content.ledger) now_stored in
+            let row = ap (λ (x : List (Slot V)). length (taken_in x)) wrote in
+            let slot = count_slots (row_at t.rows r) i o (omega (arith, four)) in
+            let more = count_rows t.rows r slots inside in
+            let new = ap (λ (x : List (List (Slot V))). length (flat_map taken_in x)) all in
+            omega arith
+
+        module _ (ledger : ℕ) (counted : (n : ℕ) → Counts n → n ≡ ledger) where
+          content_written : (shown hash (with_rows t rows)).content ≡ with_bucket now b slots ledger
+          content_written =
+              let power : t.power ≡ now.content.power = ap (λ (w : StripeState V). w.content.power) is in
+              let same : rows ≡ set now.content.rows (b / 2 ^ now.s) slots = all ∙ ap (λ (w : StripeState V). set w.content.rows r slots) (sym now_stored) ∙ ap (λ n. set now.content.rows n slots) at in
+              let many = counted (length (flat_map taken_in rows)) entries in
+              content_rows rows ∙ (λ j. record { power = power j; rows = same j; ledger = many j })
+
+          -- as it is said where the slot is written, and where the bucket is read again
+          pub content_set : (shown hash (with_rows t rows)).content ≡ with_slot now b i o ledger
+          content_set = content_written ∙ ap (λ (x : List (Slot V)). with_bucket now b x ledger) (wrote ∙ ap (λ (x : List (Slot V)). set x i o) (sym here))
+
+          pub content_read : (shown hash (with_rows t rows)).content ≡ with_bucket now b (bucket_of (shown hash (with_rows t rows)) b) ledger
+          content_read =
+              let again : slots ≡ row_at (shown_rows hash (with_rows t rows)) (b / 2 ^ t.s) =
+              sym (ap (λ (x : List (List (Slot V))). row_at x r) all ∙ get_or-set_same t.rows r slots [] inside) ∙ ap (row_at rows) (at ∙ ap (λ (w : StripeState V). b / 2 ^ w.s) (sym is)) ∙ ap (λ (c : Content V). row_at c.rows (b / 2 ^ t.s)) (sym (content_rows rows)) in
+              content_written ∙ ap (λ (x : List (Slot V)). with_bucket now b x ledger) again
+
+      -- A doubling that was reserved is due.
+      module _ (more : List (List (Slot V))) (there : rows_of t.next ≡ Some more) (after : Next K V) (due : after ≡ Doubled more) where
+        abbrev pub raised : Next K V → Inside K V
+        raised next = record t { power = t.power + 1; next = next }
+
+        twice : room_of t.s t.power t.next ≡ 2 ^ (t.power + 1 - t.s)
+        twice = go t.next there stored_settled
+          where
+            go : (next : Next K V) → rows_of next ≡ Some more → is_settled next ≡ true → room_of t.s t.power next ≡ 2 ^ (t.power + 1 - t.s)
+            go Absent some e = absurd (none-some _ some)
+            go (Reserved rows) some e = twice_rows t.s t.power (2 ^ (t.power - t.s)) kept.least refl
+            go (Doubled rows) some e = absurd (true≢false (sym e))
+
+        pub now_raised : shown hash (raised after) ≡ record { number = now.number; s = now.s; content = doubled_content hash now.s now.number now.content; settled = false; room = now.room }
+        now_raised =
+            let back : t.power + 1 - 1 ≡ t.power = omega arith in
+            let entries = length_permutation _ _ (split_moved hash t.s t.number t.power t.rows) in
+            ap (λ next. shown hash (raised next)) due
+            ∙ (λ j. record {
+              number = t.number;
+              s = t.s;
+              content = record { power = t.power + 1; rows = split_rows hash t.s t.number (back j) t.rows; ledger = (ap (λ n. length (flat_map taken_in (split_rows hash t.s t.number n t.rows))) back ∙ entries) j };
+              settled = false;
+              room = sym twice j;
+            })
+            ∙ ap (λ (w : StripeState V). record { number = w.number; s = w.s; content = doubled_content hash w.s w.number w.content; settled = false; room = w.room }) (sym now_stored)
+
+        pub kept_raised : t.power < 26 → IsConsistent (raised after)
+        kept_raised below = subst (λ next. IsConsistent (raised next)) (sym due) (record {
+          many = kept.many;
+          number = kept.number;
+          least = omega (arith, kept.least);
+          late = λ e. omega (arith, kept.least);
+          most = omega arith;
+          count = kept.count ∙ ap (λ b. cond b (2 ^ (t.power - t.s)) (2 ^ (t.power - 1 - t.s))) stored_settled ∙ (let back : t.power ≡ t.power + 1 - 1 = omega arith in ap (λ n. 2 ^ (n - t.s)) back);
+          four = kept.four;
+          free = go t.next there kept.free;
+        })
+          where
+            go : (next : Next K V) → rows_of next ≡ Some more → IsFree (length t.rows) next → more ≡ replicate (2 * length t.rows) (replicate 4 None)
+            go Absent some free = absurd (none-some _ some)
+            go (Reserved rows) some free = sym (same_Some rows more some) ∙ free
+            go (Doubled rows) some free = sym (same_Some rows more some) ∙ free

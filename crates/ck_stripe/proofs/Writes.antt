@@ -1,23 +1,22 @@
--- One row of a stripe written.
-use Rattle.std.proofs.Common.{◌≡◌, ℕ, zero, suc, true, refl, sym, ◌∙◌, ap, subst, ◌+◌, ◌-◌, ◌*◌, ◌/◌, ◌^◌, ◌<◌, ◌≤◌, List, [], ◌∷◌, Option, Some, None, IsSome, length, get_or, set, replicate, arith}
+-- How many entries rows have, and rows with none.
+use Rattle.std.proofs.Common.{◌≡◌, ℕ, zero, suc, refl, sym, ◌∙◌, ap, subst, ◌+◌, ◌-◌, ◌*◌, ◌/◌, ◌^◌, ◌<◌, ◌≤◌, List, [], ◌∷◌, Option, Some, None, IsSome, length, get_or, set, replicate, arith}
 use Rattle.std.specs.Prelude.{flat_map, All}
 use Rattle.std.specs.Option.{option_to_list}
 use Rattle.std.proofs.Math.Pow.{pow_mono}
 use Rattle.std.proofs.lemmas.Nat.{pow_pos, div_below}
 use Rattle.std.proofs.lemmas.Bool.{true≢false}
 use Rattle.std.proofs.lemmas.Option.{none-some}
-use Rattle.std.proofs.lemmas.List.{length-append, length-set, length-replicate}
-use Rattle.std.proofs.lemmas.List.Elements.{All-set, All-replicate}
+use Rattle.std.proofs.lemmas.List.{length-append, length-replicate}
+use Rattle.std.proofs.lemmas.List.Elements.{All-replicate}
 use Rattle.ck_model.specs.declared.contents.Content.{Content}
 use Rattle.ck_model.specs.Map.{Name}
 use Rattle.ck_model.specs.Slots.{Slot, slot_at, taken_in}
 use Rattle.ck_model.specs.Contents.{Layout, row_at, NamesApart, IsShaped, IsSound}
-use Rattle.ck_stripe.specs.Stripe.{StripeState, HasBucket, bucket_of, state_from, shown, empty_content, IsWellFormed, IsConsistent}
+use Rattle.ck_stripe.specs.Stripe.{StripeState, HasBucket, empty_content}
 use Rattle.ck_stripe.proofs.Doubled.{all_buckets}
-use Rattle.ck_stripe.proofs.Fields.{shown_settled, formed_now, stored_settled, now_stored}
 
 -- the number of pairs, where one row is written
-count_rows : {X : Type 0} (rows : List (List (Option X))) (r : ℕ) (row : List (Option X)) → r < length rows
+pub count_rows : {X : Type 0} (rows : List (List (Option X))) (r : ℕ) (row : List (Option X)) → r < length rows
     → length (flat_map taken_in (set rows r row)) + length (taken_in (get_or rows r [])) ≡ length (flat_map taken_in rows) + length (taken_in row)
 count_rows [] r row lt = absurd (omega arith)
 count_rows (x ∷ rows) zero row lt =
@@ -55,7 +54,7 @@ few_pairs (row ∷ rows) four =
     let again = few_pairs rows (λ i d lt. four (suc i) d (omega arith)) in
     omega arith
 
-no_pairs : (X : Type 0) (n : ℕ) → flat_map (taken_in {X = X}) (replicate n (replicate 4 None)) ≡ []
+pub no_pairs : (X : Type 0) (n : ℕ) → flat_map (taken_in {X = X}) (replicate n (replicate 4 None)) ≡ []
 no_pairs W zero = refl
 no_pairs W (suc n) = no_pairs W n
 
@@ -88,66 +87,6 @@ module _ {V : Type 0} where
       let is = shaped.ledger in
       omega arith
 
-  -- at least one entry where a slot is full
-  pub some_entry : (now : StripeState V) (b r i : ℕ) → IsShaped now.s now.content → r ≡ b / 2 ^ now.s → r < length now.content.rows → i < 4 → IsSome (slot_at (bucket_of now b) i) → 0 < now.content.ledger
-  some_entry now b r i shaped at lt below full =
-      let rows : List (List (Slot V)) = now.content.rows in
-      let gone = count_rows rows r (set (row_at rows r) i None) lt in
-      let four : length (row_at rows r) ≡ 4 = shaped.four r [] lt in
-      let slot = count_slots (row_at rows r) i None (omega arith) in
-      let one = one_full (slot_at (row_at rows r) i) (subst (λ n. IsSome (slot_at (row_at rows n) i)) (sym at) full) in
-      let is = shaped.ledger in
-      omega arith
-
-  -- a settled stripe has as many other rows of four slots
-  pub consistent_rows : (hash : Name → ℕ) (t : StripeState V) → IsWellFormed t → t.settled ≡ true → (rows : List (List (Slot V))) (ledger : ℕ)
-      → length rows ≡ length t.content.rows → All (λ (row : List (Slot V)). length row ≡ 4) rows → ledger ≡ length (flat_map taken_in rows)
-      → IsConsistent hash (state_from t.number t.s t.content.power rows ledger t.settled t.room)
-  consistent_rows hash t formed settled rows ledger long four counted =
-      let after : StripeState V = state_from t.number t.s t.content.power rows ledger t.settled t.room in
-      record {
-        formed = subst IsWellFormed (sym (shown_settled hash after settled)) (record {
-          many = formed.many;
-          number = formed.number;
-          most = formed.most;
-          shaped = record { least = formed.shaped.least; rows = long ∙ formed.shaped.rows; four = four; ledger = counted };
-        });
-        late = λ f. absurd (true≢false (sym settled ∙ f));
-      }
-
-  -- a slot of it is written
-  consistent_written : (hash : Name → ℕ) (t : StripeState V) → IsWellFormed t → t.settled ≡ true → (r i : ℕ) (o : Slot V) (slots : List (Slot V)) (ledger : ℕ) → r < length t.content.rows → i < 4
-      → slots ≡ set (row_at t.content.rows r) i o → ledger + length (option_to_list (slot_at (row_at t.content.rows r) i)) ≡ t.content.ledger + length (option_to_list o)
-      → IsConsistent hash (state_from t.number t.s t.content.power (set t.content.rows r slots) ledger t.settled t.room)
-  consistent_written hash t formed settled r i o slots ledger lt below is counts =
-      let four : length (row_at t.content.rows r) ≡ 4 = formed.shaped.four r [] lt in
-      let slot = count_slots (row_at t.content.rows r) i o (omega arith) in
-      let same : length (taken_in slots) ≡ length (taken_in (set (row_at t.content.rows r) i o)) = ap (λ (xs : List (Slot V)). length (taken_in xs)) is in
-      let long : length slots ≡ 4 = ap length is ∙ length-set (row_at t.content.rows r) i o ∙ four in
-      consistent_rows hash t formed settled (set t.content.rows r slots) ledger (length-set t.content.rows r slots)
-      (All-set (λ (row : List (Slot V)). length row ≡ 4) t.content.rows r slots long formed.shaped.four)
-      (let all = count_rows t.content.rows r slots lt in let was = formed.shaped.ledger in omega arith)
-
-  -- What a function stores that reads row r of a settled stripe, which is bucket b.
-  module _ (hash : Name → ℕ) (t now : StripeState V) (kept : IsConsistent hash t) (is : shown hash t ≡ now) (settled : now.settled ≡ true) (b r : ℕ) (at : r ≡ b / 2 ^ now.s) (lt : r < length now.content.rows) where
-    below_stored : r < length t.content.rows
-    below_stored = subst (λ (w : StripeState V). r < length w.content.rows) (now_stored hash t now kept is settled) lt
-
-    here : bucket_of now b ≡ row_at t.content.rows r
-    here = ap (row_at now.content.rows) (sym at) ∙ ap (λ (w : StripeState V). row_at w.content.rows r) (now_stored hash t now kept is settled)
-
-    -- where it writes one slot, and follows it in the ledger, the fields stay consistent
-    pub slot_written : (i : ℕ) → i < 4 → (o : Slot V) (row : List (Slot V)) → row ≡ set (row_at t.content.rows r) i o
-        → (ledger : ℕ) → ledger + length (option_to_list (slot_at (bucket_of now b) i)) ≡ now.content.ledger + length (option_to_list o)
-        → (rows : List (List (Slot V))) → rows ≡ set t.content.rows r row
-        → IsConsistent hash (state_from t.number t.s t.content.power rows ledger t.settled t.room)
-    slot_written i below o row wrote ledger counts rows all =
-        let same : now ≡ t = now_stored hash t now kept is settled in
-        let old = ap (λ (x : List (Slot V)). length (option_to_list (slot_at x i))) here in
-        let entries = ap (λ (w : StripeState V). w.content.ledger) same in
-        subst (λ (ys : List (List (Slot V))). IsConsistent hash (state_from t.number t.s t.content.power ys ledger t.settled t.room)) (sym all)
-        (consistent_written hash t (subst IsWellFormed same (formed_now hash t now kept is)) (stored_settled hash t now kept is settled) r i o row ledger below_stored below wrote (omega arith))
-
   shaped_empty : (s power : ℕ) → s ≤ power → IsShaped s (empty_content {V = V} s power)
   shaped_empty s power least = record {
     least = least;
@@ -155,26 +94,6 @@ module _ {V : Type 0} where
     four = All-replicate (λ (row : List (Slot V)). length row ≡ 4) (2 ^ (power - s)) (replicate 4 None) refl;
     ledger = sym (ap length (no_pairs (Name × V) (2 ^ (power - s))));
   }
-
-  pub consistent_empty : (hash : Name → ℕ) (s number power room : ℕ) → s ≤ 10 → number < 2 ^ s → s ≤ power → power ≤ 26
-      → IsConsistent {V = V} hash (record { number = number; s = s; content = empty_content s power; settled = true; room = room })
-  consistent_empty hash s number power room many below least most = record {
-    formed = record { many = many; number = below; most = most; shaped = shaped_empty s power least };
-    late = λ f. absurd (true≢false f);
-  }
-
-  -- What a settled stripe stores once its rows are as many free ones.
-  module _ (hash : Name → ℕ) (t now : StripeState V) (kept : IsConsistent hash t) (is : shown hash t ≡ now) (settled : now.settled ≡ true)
-      (rows : List (List (Slot V))) (free : rows ≡ replicate (length t.content.rows) (replicate 4 None)) where
-    formed_stored : IsWellFormed t
-    formed_stored = subst IsWellFormed (now_stored hash t now kept is settled) (formed_now hash t now kept is)
-
-    emptied : (room : ℕ) → state_from t.number t.s t.content.power rows 0 t.settled room ≡ record { number = t.number; s = t.s; content = empty_content t.s t.content.power; settled = true; room = room }
-    emptied room = λ j. state_from t.number t.s t.content.power ((free ∙ ap (λ n. replicate n (replicate 4 None)) formed_stored.shaped.rows) j) 0 (stored_settled hash t now kept is settled j) room
-
-    pub consistent_emptied : (room : ℕ) → IsConsistent hash (state_from t.number t.s t.content.power rows 0 t.settled room)
-    consistent_emptied room = subst (IsConsistent hash) (sym (emptied room))
-        (consistent_empty hash t.s t.number t.content.power room formed_stored.many formed_stored.number formed_stored.shaped.least formed_stored.most)
 
   -- an empty content is sound
   pub sound_empty : (k : Layout) (t s power : ℕ) → k.s ≡ s → t < 2 ^ s → s ≤ power → power ≤ k.max → IsSound {V = V} k t (empty_content s power)

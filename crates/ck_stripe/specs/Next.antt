@@ -1,7 +1,6 @@
 -- What a stripe has for its next doubling.
-use Rattle.std.specs.Prelude.{◌≡◌, ℕ, Bool, true, false, ◌-◌, ◌*◌, ◌^◌, List, Option, Some, None, replicate}
+use Rattle.std.specs.Prelude.{◌≡◌, ℕ, Bool, true, false, if◌then◌else◌, ◌-◌, ◌*◌, ◌^◌, List, Option, Some, None, replicate}
 use Rattle.ck_model.specs.Slots.{Slot}
-use Rattle.ck_stripe.specs.Stripe.{StripeState, state_from}
 use Rattle.ck_stripe.specs.declared.next.Next.{Next}
 use Rattle.ck_stripe.specs.declared.next.Next.TheVariants.{Absent, Reserved, Doubled}
 
@@ -14,9 +13,7 @@ module _ {K V : Type 0} where
 
   -- how many rows one of 2^s stripes of a table of 2^power buckets stores: until a doubled one is settled, those of the power below
   abbrev pub count_of : ℕ → ℕ → Next K V → ℕ
-  count_of s power Absent = 2 ^ (power - s)
-  count_of s power (Reserved rows) = 2 ^ (power - s)
-  count_of s power (Doubled rows) = 2 ^ (power - 1 - s)
+  count_of s power next = if is_settled next then 2 ^ (power - s) else 2 ^ (power - 1 - s)
 
   -- for how many rows it has memory: twice as many as it stores where there are rows for them
   abbrev pub room_of : ℕ → ℕ → Next K V → ℕ
@@ -35,7 +32,3 @@ module _ {K V : Type 0} where
   IsFree n Absent = Unit {0}
   IsFree n (Reserved rows) = rows ≡ replicate (2 * n) (replicate 4 None)
   IsFree n (Doubled rows) = rows ≡ replicate (2 * n) (replicate 4 None)
-
-  -- a stripe by its fields
-  abbrev pub stored_from : ℕ → ℕ → ℕ → List (List (Slot V)) → ℕ → Next K V → StripeState V
-  stored_from number s power rows ledger next = state_from number s power rows ledger (is_settled next) (room_of s power next)

@@ -1,10 +1,8 @@
 -- What contracts see of a stripe.
-use Rattle.std.specs.Prelude.{◌≡◌, ℕ, Bool, false, if◌then◌else◌, ◌-◌, ◌*◌, ◌/◌, ◌%◌, ◌^◌, ◌<◌, ◌≤◌, List, None, length, replicate, slice_set}
-use Rattle.ck_model.specs.Map.{Name}
-use Rattle.ck_model.specs.Slots.{Slot}
+use Rattle.std.specs.Prelude.{◌≡◌, ℕ, Bool, ◌-◌, ◌*◌, ◌/◌, ◌%◌, ◌^◌, ◌<◌, ◌≤◌, List, None, length, flat_map, replicate, slice_set}
+use Rattle.ck_model.specs.Slots.{Slot, taken_in}
 use Rattle.ck_model.specs.declared.contents.Content.{Content}
 use Rattle.ck_model.specs.Contents.{row_at, IsShaped}
-use Rattle.ck_stripe.specs.Doubling.{split_rows}
 
 -- A stripe: its number among 2^s, its content, whether its entries stand in the rows where the content shows them, and for how many rows it has memory.
 pub record StripeState (V : Type 0) : Type 0 where
@@ -46,19 +44,6 @@ module _ {V : Type 0} where
   abbrev pub IsReserved : StripeState V → Type 0
   IsReserved stripe = 2 * length stripe.content.rows ≤ stripe.room
 
-  -- a stripe by its fields
-  abbrev pub state_from : ℕ → ℕ → ℕ → List (List (Slot V)) → ℕ → Bool → ℕ → StripeState V
-  state_from number s power rows ledger settled room = record { number = number; s = s; content = record { power = power; rows = rows; ledger = ledger }; settled = settled; room = room }
-
-  -- The rows that are shown of those that are stored. Between a doubling and the split the rows of the power below are stored, and the split ones are shown.
-  abbrev pub shown_rows : (Name → ℕ) → ℕ → ℕ → ℕ → Bool → List (List (Slot V)) → List (List (Slot V))
-  shown_rows hash s t power settled rows = if settled then rows else split_rows hash s t (power - 1) rows
-
-  -- what is shown of what is stored
-  abbrev pub shown : (Name → ℕ) → StripeState V → StripeState V
-  shown hash stored = state_from stored.number stored.s stored.content.power (shown_rows hash stored.s stored.number stored.content.power stored.settled stored.content.rows) stored.content.ledger stored.settled stored.room
-
-  -- what is stored: what it shows is well formed, and before the split there is memory for it
-  pub record IsConsistent (hash : Name → ℕ) (stored : StripeState V) : Type 0 where
-    pub formed : IsWellFormed (shown hash stored)
-    pub late : stored.settled ≡ false → (stored.s < stored.content.power) × IsReserved stored
+  -- these rows at this power, and the number of their entries
+  abbrev pub content_of : ℕ → List (List (Slot V)) → Content V
+  content_of power rows = record { power = power; rows = rows; ledger = length (flat_map taken_in rows) }

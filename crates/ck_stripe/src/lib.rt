@@ -1,5 +1,4 @@
-//! The buckets of one stripe, the number of their entries, and its doubling, which is reserved
-//! first and split late.
+//! The buckets of one stripe, and its doubling, which is reserved first and split late.
 #![tactic(auto)]
 
 mod crossings;

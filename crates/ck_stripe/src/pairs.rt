@@ -25,7 +25,6 @@ impl<K: TableKey + Drop, V: Drop> Stripe<K, V> {
     {
         let count = self.next.count(self.s, self.power);
         pour_all(&mut self.rows, count, pairs);
-        self.ledger = 0;
     }
 
     /// Asks the closure about each of its pairs once, in the order of rows and slots, and drops
@@ -41,28 +40,23 @@ impl<K: TableKey + Drop, V: Drop> Stripe<K, V> {
         ensures call { F.IsAlwaysCallable f.new }
     {
         let count = self.next.count(self.s, self.power);
-        let ledger = retain_rows(&mut self.rows, count, f);
-        self.ledger = ledger;
+        retain_rows(&mut self.rows, count, f);
     }
 }
 
 // Asks the closure about the pairs of so many rows, row by row, and drops those for which it
-// answers false. Gives how many stay.
+// answers false.
 fn retain_rows<K: TableKey + Drop, V: Drop, F: FnMut(&K, &V) -> bool>(
     rows: &mut Rows<K, V>,
     count: usize,
     f: &mut F,
-) -> u32
+)
     requires count { count ≡ length rows.old }
-    requires few { count ≤ 2 ^ 26 }
     requires call { F.IsAlwaysCallable f.old }
     ensures asked { AsksAboutRows F.FnMut K.name f.old rows.old rows.new f.new }
-    ensures len { result ≡ length (flat_map taken_in rows.new) }
     ensures call { F.IsAlwaysCallable f.new }
 {
-    let mut len = 0;
     for row in 0..count {
-        len += rows.retain_row(row, f);
+        rows.retain_row(row, f);
     }
-    len
 }

@@ -30,8 +30,6 @@ pub struct Stripe<K: TableKey, V> {
     pub(crate) power: u32,
     pub(crate) s: u32,
     number: u32,
-    // The number of entries.
-    pub(crate) ledger: u32,
     // Until a doubled stripe is settled, these are the buckets of the power below.
     pub(crate) rows: Rows<K, V>,
     pub(crate) next: Next<K, V>,
@@ -43,17 +41,15 @@ const _: () = prove!(mem::size_of::<Stripe<NumKey, u64>>() == 56);
 const _: () = prove!(mem::size_of::<Option<Stripe<NumKey, u64>>>() == 64);
 
 impl<K: TableKey, V> Model for Stripe<K, V> {
-    ghost use Rattle.std.specs.Prelude.{length};
-    ghost use Rattle.ck_stripe.specs.Stripe.{StripeState, shown, IsConsistent};
-    ghost use Rattle.ck_stripe.specs.Next.{stored_from, IsFree};
+    ghost use Rattle.ck_stripe.specs.Stripe.{StripeState};
 
     ghost Value = { StripeState V };
 
-    ghost view = { λ t. shown K.hash (stored_from t.number t.s t.power t.rows t.ledger t.next) };
+    ghost use Rattle.ck_stripe.specs.Stored.{shown, IsConsistent};
 
-    ghost invariant = { λ t. IsConsistent K.hash
-        (stored_from t.number t.s t.power t.rows t.ledger t.next)
-        × IsFree (length t.rows) t.next };
+    ghost view = { shown K.hash };
+
+    ghost invariant = { IsConsistent };
 }
 
 impl<K: TableKey + Drop, V: Drop> Stripe<K, V> {
@@ -79,7 +75,6 @@ impl<K: TableKey + Drop, V: Drop> Stripe<K, V> {
             power,
             s,
             number,
-            ledger: 0,
             rows,
             next: Next::Absent,
             heap: alloc,
@@ -158,7 +153,6 @@ impl<K: TableKey + Drop, V: Drop> Stripe<K, V> {
     {
         let row = self.row(b);
         self.rows.put(row, slot, partial, key, value);
-        self.ledger += 1;
     }
 
     /// Frees a slot of bucket `b`, and gives what was in it.
@@ -173,9 +167,7 @@ impl<K: TableKey + Drop, V: Drop> Stripe<K, V> {
         ensures rest { self.new ≡ record self.old { content = self.new.content } }
     {
         let row = self.row(b);
-        let entry = self.rows.take(row, slot);
-        self.ledger -= 1;
-        entry
+        self.rows.take(row, slot)
     }
 
     /// Puts another value beside the key in a slot of bucket `b`, and gives the old one.
@@ -253,7 +245,8 @@ impl<K: TableKey + Drop, V: Drop> Stripe<K, V> {
         ensures pairs { result ≡ length (pairs_in self.now.content) }
         ensures formed { IsWellFormed self.now }
     {
-        self.ledger as u64
+        let count = self.next.count(self.s, self.power);
+        len_of_rows(&self.rows, count)
     }
 
     /// Its pairs, in the order of rows and slots.
@@ -335,7 +328,6 @@ impl<K: TableKey + Drop, V: Drop> Stripe<K, V> {
     {
         let count = self.next.count(self.s, self.power);
         empty_all(&mut self.rows, count);
-        self.ledger = 0;
     }
 
     /// Pushes its pairs, in the order of rows and slots, into reserved room for them and for four
@@ -352,7 +344,6 @@ impl<K: TableKey + Drop, V: Drop> Stripe<K, V> {
             power,
             s,
             number: _,
-            ledger: _,
             mut rows,
             next,
             heap: _,
@@ -370,7 +361,6 @@ impl<K: TableKey + Drop, V: Drop> Drop for Stripe<K, V> {
             power,
             s,
             number: _,
-            ledger: _,
             mut rows,
             next,
             heap: _,
@@ -426,6 +416,19 @@ fn split_all<K: TableKey, V>(
         b += 1 << s;
     }
     mem::replace(rows, doubled).close(count);
+}
+
+// The number of entries in so many rows.
+fn len_of_rows<K: TableKey, V>(rows: &Rows<K, V>, count: usize) -> u64
+    requires count { count ≡ length rows.now }
+    requires few { count ≤ 2 ^ 26 }
+    ensures { result ≡ length (flat_map taken_in rows.now) }
+{
+    let mut len = 0;
+    for row in 0..count {
+        len += rows.len_of_row(row);
+    }
+    len as u64
 }
 
 // Drops what is in each of so many rows.

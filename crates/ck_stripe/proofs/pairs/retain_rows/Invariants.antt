@@ -1,5 +1,3 @@
-use Rattle.std.proofs.Common.{◌≡◌, ◌*◌, ◌≤◌, flat_map, length, take}
-use Rattle.ck_model.specs.Slots.{taken_in}
 use Rattle.ck_bucket.specs.Retaining.{AsksAboutRow}
 use Rattle.ck_bucket.proofs.InTurn.{Begins}
 use Rattle.ck_stripe.proofs.pairs.retain_rows.Given as goal
@@ -7,7 +5,5 @@ use Rattle.ck_stripe.proofs.pairs.retain_rows.Given as goal
 abbrev pub invariant-loop-row : goal.invariant-loop-row
 invariant-loop-row g l = record {
   asked : Begins (AsksAboutRow g.F.FnMut g.K.TableKey.name) l.initial.f l.initial.rows l.rows l.row l.f;
-  counted : l.len ≡ length (flat_map taken_in (take l.row l.rows));
-  few : l.len ≤ 4 * l.row;
   call : goal.F-IsAlwaysCallable g l.f;
 }

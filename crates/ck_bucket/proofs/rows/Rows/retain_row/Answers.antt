@@ -1,7 +1,6 @@
-use Rattle.std.proofs.Common.{ap, length, arith}
-use Rattle.ck_model.specs.Slots.{slot_at, taken_in}
+use Rattle.ck_model.specs.Slots.{slot_at}
 use Rattle.ck_model.specs.Contents.{row_at}
-use Rattle.ck_bucket.proofs.RowSlots.{Rewrites, row-after, row-alone, length-four}
+use Rattle.ck_bucket.proofs.RowSlots.{Rewrites, row-alone}
 use Rattle.ck_bucket.proofs.Asked.{asks_four}
 use Rattle.ck_bucket.proofs.rows.Rows.retain_row.Given.{Over}
 use Rattle.ck_bucket.proofs.rows.Rows.retain_row.Goals as goal
@@ -24,9 +23,3 @@ returns-clause-asked g c =
 
 pub returns-clause-rest : goal.returns-clause-rest
 returns-clause-rest g c = row-alone (written g c) c.requires.row
-
-pub returns-clause-len : goal.returns-clause-len
-returns-clause-len g c =
-    let all = ap (λ slots. length (taken_in slots)) (row-after (written g c) c.requires.row) in
-    let four = length-four (slot_at (row_at c.retain_slot.new.self c.args.row) 0) (slot_at (row_at c.retain_slot-2.new.self c.args.row) 1) (slot_at (row_at c.retain_slot-3.new.self c.args.row) 2) (slot_at (row_at c.retain_slot-4.new.self c.args.row) 3) in
-    omega (arith, c.retain_slot.ensures.len, c.retain_slot-2.ensures.len, c.retain_slot-3.ensures.len, c.retain_slot-4.ensures.len)

@@ -1,31 +1,26 @@
-use Rattle.std.proofs.Common.{◌++◌, sym, ap, ◌∙◌, flat_map, length, map, arith}
+use Rattle.std.proofs.Common.{◌++◌, sym, ap, subst, ◌∙◌, flat_map, length, map, arith}
 use Rattle.ck_model.specs.Map.{named}
 use Rattle.ck_model.specs.Slots.{taken_in}
 use Rattle.ck_stripe.specs.Stripe.{StripeState}
-use Rattle.ck_stripe.specs.Next.{stored_from}
-use Rattle.ck_stripe.proofs.Fields.{now_stored}
-use Rattle.ck_stripe.proofs.Stored.{count_stored, few_stored, free_kept}
+use Rattle.ck_stripe.specs.Next.{IsFree}
+use Rattle.ck_stripe.proofs.Stored.{few_stored, now_stored}
 use Rattle.ck_stripe.proofs.stripe.Stripe.pour_reserved.Goals as goal
 
 pub pour_all-requires-clause-count : goal.pour_all-requires-clause-count
-pour_all-requires-clause-count g c = c.count-count.ensures ∙ count_stored g.K.TableKey.hash c.self.inside.number c.self.inside.s c.self.inside.power c.self.inside.rows c.self.inside.ledger c.self.inside.next c.self.invariant.0
+pour_all-requires-clause-count g c = c.count-count.ensures ∙ sym c.self.invariant.count
 
 pub pour_all-requires-clause-room : goal.pour_all-requires-clause-room
 pour_all-requires-clause-room g c =
-    let stored : StripeState g.row.V.Denot = stored_from c.self.inside.number c.self.inside.s c.self.inside.power c.self.inside.rows c.self.inside.ledger c.self.inside.next in
-    let now = now_stored g.K.TableKey.hash stored c.args.self c.self.invariant.0 c.self.view_is c.requires.settled in
-    let all = ap (λ (w : StripeState g.row.V.Denot). length (flat_map taken_in w.content.rows)) now in
+    let all = ap (λ (w : StripeState g.row.V.Denot). length (flat_map taken_in w.content.rows)) (now_stored g.K.TableKey.hash c.self.inside c.self.invariant c.args.self c.self.view_is c.requires.settled) in
     omega (arith, all, c.requires.room)
 
 pub close-requires-2-clause-few : goal.close-requires-2-clause-few
-close-requires-2-clause-few g c = omega (arith, c.count-count.ensures, few_stored g.K.TableKey.hash c.self.inside.number c.self.inside.s c.self.inside.power c.self.inside.rows c.self.inside.ledger c.self.inside.next c.self.invariant.0)
+close-requires-2-clause-few g c = omega (arith, c.count-count.ensures, few_stored c.self.inside c.self.invariant)
 
 pub close-requires-2-clause-free : goal.close-requires-2-clause-free
-close-requires-2-clause-free g c =
-    free_kept c.self.inside.next (length c.self.inside.rows) c.count-count.result (c.count-count.ensures ∙ count_stored g.K.TableKey.hash c.self.inside.number c.self.inside.s c.self.inside.power c.self.inside.rows c.self.inside.ledger c.self.inside.next c.self.invariant.0) c.self.invariant.1
+close-requires-2-clause-free g c = subst (λ n. IsFree n c.self.inside.next) (c.self.invariant.count ∙ sym c.count-count.ensures) c.self.invariant.free
 
 pub returns-clause-pairs : goal.returns-clause-pairs
 returns-clause-pairs g c =
-    let stored : StripeState g.row.V.Denot = stored_from c.self.inside.number c.self.inside.s c.self.inside.power c.self.inside.rows c.self.inside.ledger c.self.inside.next in
-    let now = now_stored g.K.TableKey.hash stored c.args.self c.self.invariant.0 c.self.view_is c.requires.settled in
-    c.pour_all.ensures.pairs ∙ ap (λ (w : StripeState g.row.V.Denot). map (named g.K.TableKey.name) c.args.pairs.now.items ++ flat_map taken_in w.content.rows) (sym now)
+    c.pour_all.ensures.pairs
+    ∙ ap (λ (w : StripeState g.row.V.Denot). map (named g.K.TableKey.name) c.args.pairs.now.items ++ flat_map taken_in w.content.rows) (sym (now_stored g.K.TableKey.hash c.self.inside c.self.invariant c.args.self c.self.view_is c.requires.settled))

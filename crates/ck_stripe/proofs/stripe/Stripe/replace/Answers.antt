@@ -1,20 +1,14 @@
-use Rattle.std.proofs.Common.{Some, ap, ◌∙◌, length, arith}
-use Rattle.std.proofs.lemmas.List.{length-set}
+use Rattle.std.proofs.Common.{arith}
 use Rattle.ck_model.specs.Slots.{slot_at}
-use Rattle.ck_model.specs.Contents.{row_at}
-use Rattle.ck_stripe.specs.Stripe.{StripeState, bucket_of}
-use Rattle.ck_stripe.specs.Next.{stored_from}
-use Rattle.ck_stripe.proofs.Stored.{free_kept}
-use Rattle.ck_stripe.proofs.Writes.{one_full, slot_written}
+use Rattle.ck_stripe.specs.Stripe.{bucket_of}
+use Rattle.ck_stripe.proofs.Writes.{one_full}
+use Rattle.ck_stripe.proofs.Stored.{kept_written, content_read}
 use Rattle.ck_stripe.proofs.stripe.Stripe.replace.Goals as goal
 
 pub invariant_of-self : goal.invariant_of-self
-invariant_of-self g c =
-    let stored : StripeState g.row.V.Denot = stored_from c.self.inside.number c.self.inside.s c.self.inside.power c.self.inside.rows c.self.inside.ledger c.self.inside.next in
-    let entries = ap (λ (w : StripeState g.row.V.Denot). w.content.ledger) c.self.view_is in
-    let one = one_full (slot_at (bucket_of c.args.self.now c.args.b) c.args.slot) c.requires.full in (
-      slot_written g.K.TableKey.hash stored c.args.self.now c.self.invariant.0 c.self.view_is c.requires.settled c.args.b c.row-row.result c.row-row.ensures.value c.row-row.ensures.below c.args.slot c.requires.below
-          (Some (c.replace.ensures.entry.name, c.args.value)) (row_at c.replace.new.self c.row-row.result) c.replace.ensures.entry.is
-          c.self.inside.ledger (omega arith) c.replace.new.self c.replace.ensures.rest,
-      free_kept c.self.inside.next (length c.self.inside.rows) (length c.replace.new.self) (ap length c.replace.ensures.rest ∙ length-set c.self.inside.rows c.row-row.result _) c.self.invariant.1,
-    )
+invariant_of-self g c = kept_written g.K.TableKey.hash c.self.inside c.self.invariant _ c.self.view_is c.requires.settled c.args.b _ c.args.slot c.row-row.ensures.value c.row-row.ensures.below c.requires.below _ _ c.replace.ensures.rest _ c.replace.ensures.entry.is
+
+pub returns-clause-content : goal.returns-clause-content
+returns-clause-content g c =
+    let one = one_full (slot_at (bucket_of c.args.self.now c.args.b) c.args.slot) c.requires.full in
+    content_read g.K.TableKey.hash c.self.inside c.self.invariant _ c.self.view_is c.requires.settled c.args.b _ c.args.slot c.row-row.ensures.value c.row-row.ensures.below c.requires.below _ _ c.replace.ensures.rest _ c.replace.ensures.entry.is _ (λ n counts. omega arith)
