@@ -30,3 +30,9 @@ pub record KeepsHeads {V : Type 0} (hash : Name → ℕ) (heads : List (Option H
   pub four : length slots ≡ 4 * length heads
   pub few : length heads ≤ 2 ^ 26
   pub head : (r : ℕ) → r < length heads → (h : Head) × (slice_index_or heads r None ≡ Some h) × IsHeadOf hash h (row_at (in_fours slots) r)
+
+-- so many heads and places, four for each, in which nothing was put yet
+pub record AreBlank {X Y : Type 0} (heads : List (Option X)) (places : List (Option Y)) : Type 0 where
+  pub few : length heads ≤ 2 ^ 26
+  pub no_head : heads ≡ replicate (length heads) None
+  pub no_pair : places ≡ replicate (length heads * 4) None

@@ -11,6 +11,7 @@ ghost use Rattle.ck_bucket.specs.Bucket.{HasName, LacksName, ReplacesValue, Chan
 ghost use Rattle.ck_bucket.specs.Rows.{no_entry, with_slot_in};
 ghost use Rattle.ck_bucket.specs.Retaining.{AsksAboutSlot, AsksAboutRow};
 
+use crate::blank::BlankRows;
 use crate::head::Head;
 use ck_key::{Query, TableKey};
 use ck_room::{LeaseOfTwo, Places};
@@ -23,10 +24,10 @@ use std::mem;
 /// four places a bucket, and behind all pairs their heads. Callers see rows of slots, with names in
 /// place of keys.
 pub struct Rows<K: TableKey, V> {
-    heads: Places<Head>,
-    pairs: Places<(K, V)>,
-    lease: LeaseOfTwo<(K, V), Head, Global>,
-    heap: Global,
+    pub(crate) heads: Places<Head>,
+    pub(crate) pairs: Places<(K, V)>,
+    pub(crate) lease: LeaseOfTwo<(K, V), Head, Global>,
+    pub(crate) heap: Global,
 }
 
 impl<K: TableKey, V> Model for Rows<K, V> {
@@ -51,14 +52,7 @@ impl<K: TableKey, V> Rows<K, V> {
         requires { count ≤ 2 ^ 26 }
         ensures { IfOk result (λ rows. rows ≡ replicate count (replicate 4 None)) }
     {
-        let (pairs, mut heads, lease) = ck_room::open_two(&alloc, count * 4, count)?;
-        fill(&mut heads, count);
-        Ok(Rows {
-            heads,
-            pairs,
-            lease,
-            heap: alloc,
-        })
+        Ok(BlankRows::open(alloc, count)?.fill(count))
     }
 
     /// Frees the memory of rows that have no entry. They don't keep how many they are.
@@ -465,20 +459,6 @@ fn change_second<K, V, F: FnOnce(V) -> V>(pair: &mut (K, V), f: F)
             requires { F.IsAlwaysCallable f }
         { (f(value), ()) },
     )
-}
-
-// Puts a head of free slots into each place.
-fn fill(heads: &mut Places<Head>, count: usize)
-    requires count { count ≡ length (items_of heads.old) }
-    requires empty { AllNone (items_of heads.old) }
-    ensures count { count ≡ length (items_of heads.new) }
-    ensures full { (r : ℕ) → r < count →
-        slice_index_or (items_of heads.new) r None ≡ Some no_entry }
-    ensures block { block_of heads.new ≡ block_of heads.old }
-{
-    for r in 0..count {
-        heads.put(r, Head::new());
-    }
 }
 
 // Empties each place.

@@ -17,7 +17,7 @@ use Rattle.ck_stripe.specs.declared.next.Next.TheVariants.{Absent, Reserved, Dou
 use Rattle.ck_stripe.specs.declared.stripe.Stripe.TheInside.{Inside}
 use Rattle.ck_stripe.specs.Doubling.{split_rows, doubled_content}
 use Rattle.ck_stripe.specs.Stripe.{StripeState, IsWellFormed, bucket_of, with_bucket, with_slot, content_of, empty_content}
-use Rattle.ck_stripe.specs.Next.{is_settled, count_of, room_of, rows_of, IsFree}
+use Rattle.ck_stripe.specs.Next.{is_settled, count_of, room_of, blank_of, IsTwice}
 use Rattle.ck_stripe.specs.Stored.{shown_rows, shown, IsConsistent}
 use Rattle.ck_stripe.proofs.Splits.{length-split, four-split, split_moved}
 use Rattle.ck_stripe.proofs.Doubled.{twice_rows}
@@ -54,7 +54,7 @@ module _ {K V : Type 0} where
       most = kept.most;
       count = long ∙ kept.count;
       four = four;
-      free = subst (λ n. IsFree n t.next) (sym long) kept.free;
+      twice = subst (λ n. IsTwice n t.next) (sym long) kept.twice;
     }
 
     -- and as many free ones
@@ -81,7 +81,7 @@ module _ {K V : Type 0} where
       most = kept.most;
       count = ap length is ∙ split_count late;
       four = subst (All IsFour) (sym is) (four-split hash t.s t.number (t.power - 1) t.rows kept.four);
-      free = tt;
+      twice = tt;
     })
 
     pub formed : IsWellFormed (shown hash t)
@@ -172,17 +172,17 @@ module _ {K V : Type 0} where
               content_written ∙ ap (λ (x : List (Slot V)). with_bucket now b x ledger) again
 
       -- A doubling that was reserved is due.
-      module _ (more : List (List (Slot V))) (there : rows_of t.next ≡ Some more) (after : Next K V) (due : after ≡ Doubled more) where
+      module _ (more : ℕ) (there : blank_of t.next ≡ Some more) (after : Next K V) (due : after ≡ Doubled more) where
         abbrev pub raised : Next K V → Inside K V
         raised next = record t { power = t.power + 1; next = next }
 
         twice : room_of t.s t.power t.next ≡ 2 ^ (t.power + 1 - t.s)
         twice = go t.next there stored_settled
           where
-            go : (next : Next K V) → rows_of next ≡ Some more → is_settled next ≡ true → room_of t.s t.power next ≡ 2 ^ (t.power + 1 - t.s)
+            go : (next : Next K V) → blank_of next ≡ Some more → is_settled next ≡ true → room_of t.s t.power next ≡ 2 ^ (t.power + 1 - t.s)
             go Absent some e = absurd (none-some _ some)
-            go (Reserved rows) some e = twice_rows t.s t.power (2 ^ (t.power - t.s)) kept.least refl
-            go (Doubled rows) some e = absurd (true≢false (sym e))
+            go (Reserved blank) some e = twice_rows t.s t.power (2 ^ (t.power - t.s)) kept.least refl
+            go (Doubled blank) some e = absurd (true≢false (sym e))
 
         pub now_raised : shown hash (raised after) ≡ record { number = now.number; s = now.s; content = doubled_content hash now.s now.number now.content; settled = false; room = now.room }
         now_raised =
@@ -207,10 +207,10 @@ module _ {K V : Type 0} where
           most = omega arith;
           count = kept.count ∙ ap (λ b. cond b (2 ^ (t.power - t.s)) (2 ^ (t.power - 1 - t.s))) stored_settled ∙ (let back : t.power ≡ t.power + 1 - 1 = omega arith in ap (λ n. 2 ^ (n - t.s)) back);
           four = kept.four;
-          free = go t.next there kept.free;
+          twice = go t.next there kept.twice;
         })
           where
-            go : (next : Next K V) → rows_of next ≡ Some more → IsFree (length t.rows) next → more ≡ replicate (2 * length t.rows) (replicate 4 None)
-            go Absent some free = absurd (none-some _ some)
-            go (Reserved rows) some free = sym (same_Some rows more some) ∙ free
-            go (Doubled rows) some free = sym (same_Some rows more some) ∙ free
+            go : (next : Next K V) → blank_of next ≡ Some more → IsTwice (length t.rows) next → more ≡ 2 * length t.rows
+            go Absent some twice = absurd (none-some _ some)
+            go (Reserved blank) some twice = sym (same_Some blank more some) ∙ twice
+            go (Doubled blank) some twice = sym (same_Some blank more some) ∙ twice

@@ -1,18 +1,19 @@
 //! What a stripe has for its next doubling.
 ghost use Rattle.std.specs.Prelude.{◌≡◌, ◌≤◌, ◌<◌, ◌*◌, ◌-◌, ◌^◌, Some, false, is_some, IsSome};
 ghost use Rattle.ck_stripe.specs.declared.next.Next.TheVariants.{Absent};
-ghost use Rattle.ck_stripe.specs.Next.{is_settled, count_of, rows_of, IsFree};
+ghost use Rattle.ck_stripe.specs.Next.{is_settled, count_of, blank_of, IsTwice};
 
-use ck_bucket::Rows;
+use ck_bucket::BlankRows;
 use ck_key::TableKey;
 use std::mem;
 
-/// Memory for twice the buckets.
+/// Memory for twice the buckets. Nothing is written there before `settle` needs it, since it is
+/// requested while all stripes are held.
 pub(crate) enum Next<K: TableKey, V> {
     Absent,
-    Reserved(Rows<K, V>),
+    Reserved(BlankRows<K, V>),
     // The power was raised, and `settle` has to move the entries there.
-    Doubled(Rows<K, V>),
+    Doubled(BlankRows<K, V>),
 }
 
 impl<K: TableKey, V> Next<K, V> {
@@ -26,9 +27,9 @@ impl<K: TableKey, V> Next<K, V> {
         }
     }
 
-    // Whether it has rows.
+    // Whether it has memory.
     pub(crate) fn is_reserved(&self) -> bool
-        ensures { result ≡ is_some (rows_of self.now) }
+        ensures { result ≡ is_some (blank_of self.now) }
     {
         match self {
             Next::Absent => false,
@@ -56,17 +57,17 @@ impl<K: TableKey, V> Next<K, V> {
     {
         match mem::replace(self, next) {
             Next::Absent => {}
-            Next::Reserved(_rows) | Next::Doubled(_rows) => unreachable!(),
+            Next::Reserved(_blank) | Next::Doubled(_blank) => unreachable!(),
         }
     }
 
-    pub(crate) fn take(&mut self) -> Rows<K, V>
-        requires { IsSome (rows_of self.old) }
-        ensures rows { rows_of self.old ≡ Some result }
+    pub(crate) fn take(&mut self) -> BlankRows<K, V>
+        requires { IsSome (blank_of self.old) }
+        ensures blank { blank_of self.old ≡ Some result }
         ensures left { self.new ≡ Absent }
     {
         match mem::replace(self, Next::Absent) {
-            Next::Reserved(rows) | Next::Doubled(rows) => rows,
+            Next::Reserved(blank) | Next::Doubled(blank) => blank,
             Next::Absent => unreachable!(),
         }
     }
@@ -74,10 +75,10 @@ impl<K: TableKey, V> Next<K, V> {
     // Frees what it has for a stripe of so many rows.
     pub(crate) fn close(self, count: usize)
         requires few { count ≤ 2 ^ 26 }
-        requires free { IsFree count self }
+        requires twice { IsTwice count self }
     {
         match self {
-            Next::Reserved(rows) | Next::Doubled(rows) => rows.close(2 * count),
+            Next::Reserved(blank) | Next::Doubled(blank) => blank.close(2 * count),
             Next::Absent => {}
         }
     }

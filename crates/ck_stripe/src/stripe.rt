@@ -13,7 +13,7 @@ ghost use Rattle.ck_stripe.specs.Stripe.{HasBucket, bucket_of, with_bucket, with
 
 use crate::iter::Iter;
 use crate::next::Next;
-use ck_bucket::Rows;
+use ck_bucket::{BlankRows, Rows};
 use ck_key::{NumKey, Query, TableKey};
 use std::alloc::{AllocError, Global};
 use std::marker::Model;
@@ -277,8 +277,8 @@ impl<K: TableKey + Drop, V: Drop> Stripe<K, V> {
         if count > MOST_ROWS {
             return Err(AllocError);
         }
-        let rows = Rows::open(self.heap, count)?;
-        self.next.put(Next::Reserved(rows));
+        let blank = BlankRows::open(self.heap, count)?;
+        self.next.put(Next::Reserved(blank));
         Ok(())
     }
 
@@ -297,8 +297,8 @@ impl<K: TableKey + Drop, V: Drop> Stripe<K, V> {
             self.new.content }
     {
         self.power += 1;
-        let rows = self.next.take();
-        self.next.put(Next::Doubled(rows));
+        let blank = self.next.take();
+        self.next.put(Next::Doubled(blank));
     }
 
     /// Whether no doubling is left to be carried out by `settle`.
@@ -315,8 +315,8 @@ impl<K: TableKey + Drop, V: Drop> Stripe<K, V> {
         ensures { self.new ≡ record self.old { settled = true } }
     {
         if !self.next.is_settled() {
-            let doubled = self.next.take();
-            split_all(&mut self.rows, doubled, self.s, self.number, self.power - 1);
+            let blank = self.next.take();
+            split_all(&mut self.rows, blank, self.s, self.number, self.power - 1);
         }
     }
 
@@ -390,13 +390,14 @@ impl<K: TableKey + Clone, V: Clone> Stripe<K, V> {
     }
 }
 
-// Moves each row of stripe `number` to where it stands once a table of 2^p buckets has doubled, and
-// frees the memory of the old rows. Few calls find a doubling: the others don't make room for it.
+// Moves each row of stripe `number` to where it stands once a table of 2^p buckets has doubled, in
+// the memory for twice the rows, and frees that of the old rows. Few calls find a doubling: the
+// others don't make room for it.
 #[cold]
 #[inline(never)]
 fn split_all<K: TableKey, V>(
     rows: &mut Rows<K, V>,
-    mut doubled: Rows<K, V>,
+    blank: BlankRows<K, V>,
     s: u32,
     number: u32,
     p: u32,
@@ -406,10 +407,11 @@ fn split_all<K: TableKey, V>(
     requires least { s ≤ p }
     requires power { p < 26 }
     requires count { length rows.old ≡ 2 ^ (p - s) }
-    requires free { doubled ≡ replicate (2 * length rows.old) (replicate 4 None) }
+    requires twice { blank ≡ 2 * length rows.old }
     ensures { rows.new ≡ split_rows K.hash s number p rows.old }
 {
     let count = 1usize << (p - s);
+    let mut doubled = blank.fill(2 * count);
     let mut b = number as u64;
     for r in 0..count {
         rows.split_row(&mut doubled, r, r, count + r, p, b);

@@ -10,17 +10,17 @@ use Rattle.ck_stripe.proofs.stripe.Stripe.double.Goals as goal
 
 pub invariant_of-self : goal.invariant_of-self
 invariant_of-self g c =
-    kept_raised g.K.TableKey.hash c.self.inside c.self.invariant c.args.self.now c.self.view_is c.requires.settled c.take-rows.result c.take-rows.ensures.rows c.put.new.self c.put.ensures
+    kept_raised g.K.TableKey.hash c.self.inside c.self.invariant c.args.self.now c.self.view_is c.requires.settled c.take-blank.result c.take-blank.ensures.blank c.put.new.self c.put.ensures
     (subst (λ n. n < 26) (sym (ap (λ (w : StripeState g.row.V.Denot). w.content.power) c.self.view_is)) c.requires.power)
 
 pub returns-clause-content : goal.returns-clause-content
 returns-clause-content g c =
-    ap (λ (w : StripeState g.row.V.Denot). w.content) (now_raised g.K.TableKey.hash c.self.inside c.self.invariant c.args.self.now c.self.view_is c.requires.settled c.take-rows.result c.take-rows.ensures.rows c.put.new.self c.put.ensures)
+    ap (λ (w : StripeState g.row.V.Denot). w.content) (now_raised g.K.TableKey.hash c.self.inside c.self.invariant c.args.self.now c.self.view_is c.requires.settled c.take-blank.result c.take-blank.ensures.blank c.put.new.self c.put.ensures)
 
 pub returns-clause-rest : goal.returns-clause-rest
 returns-clause-rest g c =
     let now : StripeState g.row.V.Denot = c.args.self.now in
-    now_raised g.K.TableKey.hash c.self.inside c.self.invariant c.args.self.now c.self.view_is c.requires.settled c.take-rows.result c.take-rows.ensures.rows c.put.new.self c.put.ensures
+    now_raised g.K.TableKey.hash c.self.inside c.self.invariant c.args.self.now c.self.view_is c.requires.settled c.take-blank.result c.take-blank.ensures.blank c.put.new.self c.put.ensures
     ∙ ap (λ (content : Content g.row.V.Denot). record { number = now.number; s = now.s; content = content; settled = false; room = now.room }) (sym (returns-clause-content g c))
 
 pub returns-clause-pairs : goal.returns-clause-pairs

@@ -2,7 +2,7 @@ use Rattle.std.proofs.Common.{◌++◌, sym, ap, subst, ◌∙◌, flat_map, len
 use Rattle.ck_model.specs.Map.{named}
 use Rattle.ck_model.specs.Slots.{taken_in}
 use Rattle.ck_stripe.specs.Stripe.{StripeState}
-use Rattle.ck_stripe.specs.Next.{IsFree}
+use Rattle.ck_stripe.specs.Next.{IsTwice}
 use Rattle.ck_stripe.proofs.Stored.{few_stored, now_stored}
 use Rattle.ck_stripe.proofs.stripe.Stripe.pour_reserved.Goals as goal
 
@@ -17,8 +17,8 @@ pour_all-requires-clause-room g c =
 pub close-requires-2-clause-few : goal.close-requires-2-clause-few
 close-requires-2-clause-few g c = omega (arith, c.count-count.ensures, few_stored c.self.inside c.self.invariant)
 
-pub close-requires-2-clause-free : goal.close-requires-2-clause-free
-close-requires-2-clause-free g c = subst (λ n. IsFree n c.self.inside.next) (c.self.invariant.count ∙ sym c.count-count.ensures) c.self.invariant.free
+pub close-requires-2-clause-twice : goal.close-requires-2-clause-twice
+close-requires-2-clause-twice g c = subst (λ n. IsTwice n c.self.inside.next) (c.self.invariant.count ∙ sym c.count-count.ensures) c.self.invariant.twice
 
 pub returns-clause-pairs : goal.returns-clause-pairs
 returns-clause-pairs g c =

@@ -1,7 +1,7 @@
 use Rattle.std.proofs.Common.{◌≡◌, ℕ, ◌<◌, ◌≤◌, Some, None, length, slice_index_or}
 use Rattle.ck_room.specs.Room.{items_of, block_of}
 use Rattle.ck_bucket.specs.Rows.{no_entry}
-use Rattle.ck_bucket.proofs.rows.fill.Given as goal
+use Rattle.ck_bucket.proofs.blank.fill.Given as goal
 
 abbrev pub invariant-loop-r : goal.invariant-loop-r
 invariant-loop-r l = record {
