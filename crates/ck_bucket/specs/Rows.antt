@@ -1,6 +1,6 @@
 -- What rows of four slots keep of their places and heads.
 use Rattle.std.specs.Prelude.{◌≡◌, ℕ, ◌*◌, ◌^◌, ◌<◌, ◌≤◌, List, [], ◌∷◌, Option, Some, None, is_some, false, length, map, replicate, slice_index_or, slice_set}
-use Rattle.ck_model.specs.Map.{Name}
+use Rattle.ck_model.specs.Promise.{Name}
 use Rattle.ck_model.specs.Slots.{Slot}
 use Rattle.ck_model.specs.Contents.{row_at}
 use Rattle.ck_bucket.specs.declared.head.Head.{Head}

@@ -4,7 +4,7 @@ use mathlib.Core.Option.{some, some-injective}
 use lib.ListN.{get_elem?}
 use Rattle.std.specs.FinMap.{empty}
 use Rattle.ck_model.specs.declared.history.Entry.{Entry}
-use Rattle.ck_model.specs.History.{StartsWith}
+use Rattle.ck_model.specs.Promise.{StartsWith}
 use Rattle.ck_model.specs.Contents.{bindings, whole}
 use Rattle.ck_model.specs.Numbered.{IsIn, numbers}
 use Rattle.ck_model.proofs.Histories.{starts_itself, leads_to, leads_snoc}

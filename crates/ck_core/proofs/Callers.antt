@@ -5,7 +5,7 @@ use mathlib.Core.Logic.{dite}
 use lib.ListN.{get_elem?}
 use Rattle.ck_model.specs.declared.history.Entry.{Entry}
 use Rattle.ck_model.specs.Numbered.{IsIn, AreDistinct, numbers, Holds}
-use Rattle.ck_model.specs.History.{StartsWith, subhistory}
+use Rattle.ck_model.specs.Promise.{StartsWith, subhistory}
 use Rattle.ck_model.proofs.Numbered.{in_held, dec_in, Some-injective}
 use Rattle.ck_model.proofs.Histories.{subhistory-own, subhistory-other, starts_more}
 use Rattle.ck_core.specs.declared.view.View.{View}

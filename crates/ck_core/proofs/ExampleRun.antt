@@ -8,7 +8,7 @@ use Rattle.ck_model.specs.declared.history.Act.TheVariants.{Find, Insert}
 use Rattle.ck_model.specs.declared.history.Reply.TheVariants.{Was, New}
 use Rattle.ck_model.specs.declared.history.Entry.{Entry}
 use Rattle.ck_model.specs.declared.contents.Content.{Content}
-use Rattle.ck_model.specs.Map.{Name, name_cmp, Answers}
+use Rattle.ck_model.specs.Promise.{Name, name_cmp, Answers}
 use Rattle.ck_model.specs.Numbered.{IsIn, AreDistinct, numbers, Holds}
 use Rattle.ck_model.specs.Slots.{Slot, slot_at}
 use Rattle.ck_model.specs.Contents.{Layout, Binds, bindings, row_at, IsSound, Lawful}

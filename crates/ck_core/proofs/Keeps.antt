@@ -7,8 +7,7 @@ use Rattle.std.proofs.Math.Nat.{one-le-pow}
 use Rattle.ck_model.specs.declared.history.Entry.{Entry}
 use Rattle.ck_model.specs.declared.history.Reason.{Reason}
 use Rattle.ck_core.specs.declared.view.View.{View}
-use Rattle.ck_model.specs.Map.{Name}
-use Rattle.ck_model.specs.History.{After, StartsWith}
+use Rattle.ck_model.specs.Promise.{Name, After, StartsWith}
 use Rattle.ck_model.specs.Numbered.{IsIn, AreDistinct, numbers, Holds, without, over}
 use Rattle.ck_model.specs.declared.contents.Content.{Content}
 use Rattle.ck_model.specs.Contents.{Layout, Stripes, bindings, Lawful, whole}

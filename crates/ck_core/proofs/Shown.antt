@@ -8,7 +8,7 @@ use lib.ListN.{get_elem?}
 use Rattle.ck_model.specs.declared.history.Entry.{Entry}
 use Rattle.ck_model.specs.declared.contents.Content.{Content}
 use Rattle.ck_model.specs.Numbered.{IsIn, numbers, Holds}
-use Rattle.ck_model.specs.History.{After, subhistory}
+use Rattle.ck_model.specs.Promise.{After, subhistory, Answered}
 use Rattle.ck_model.specs.Contents.{Layout, bindings, whole}
 use Rattle.ck_model.specs.Sections.{HasAll}
 use Rattle.ck_model.proofs.Numbered.{if_same, in_held, held_of_in, listed_as}
@@ -17,8 +17,8 @@ use Rattle.ck_model.proofs.Belongs.{stripe_below}
 use Rattle.ck_model.proofs.Sections.{owned_binding}
 use Rattle.ck_model.proofs.Histories.{subhistory-append}
 use Rattle.ck_core.specs.declared.view.View.{View}
-use Rattle.ck_core.specs.State.{Configuration, HistoryInvariant, owned}
-use Rattle.ck_core.specs.Laws.{Shows, Answered}
+use Rattle.ck_core.specs.State.{Configuration, HistoryInvariant, owned, client_of}
+use Rattle.ck_core.specs.Laws.{Shows}
 use Rattle.ck_core.proofs.Keeps.{agrees}
 use Rattle.ck_core.proofs.Callers.{own_held}
 
@@ -40,7 +40,7 @@ none_after xs ys e = let l = ap length e in let m = length-append xs ys in no_it
 
 module _ {V : Type 0} (k : Layout) (callers : ℕ) (log : List (Entry V)) (v w : View V) (e : Entry V) (by : v.by ≡ Some e.by) where
   -- what was decided, as a caller is told of it
-  pub answered : Shows k callers log v → Shows k callers (log ++ e ∷ []) w → w.seen ≡ log ++ e ∷ [] → w.mine ≡ v.mine ++ e ∷ [] → Answered v e w
+  pub answered : Shows k callers log v → Shows k callers (log ++ e ∷ []) w → w.seen ≡ log ++ e ∷ [] → w.mine ≡ v.mine ++ e ∷ [] → Answered (client_of v) e (client_of w)
   answered before after seen mine = record {
     others = before.seen.0;
     seen = seen ∙ ap (λ l. l ++ e ∷ []) before.seen.1;

@@ -10,8 +10,7 @@ use Rattle.ck_model.specs.declared.history.Call.TheVariants.{On, ChangeTwo, Len,
 use Rattle.ck_model.specs.declared.history.Reply.{Reply}
 use Rattle.ck_model.specs.declared.history.Reply.TheVariants.{DoneTwo, Absent}
 use Rattle.ck_model.specs.declared.history.Entry.{Entry}
-use Rattle.ck_model.specs.Map.{Name, name_cmp, Map, Answers, AnswersTwo, Step}
-use Rattle.ck_model.specs.History.{Leads}
+use Rattle.ck_model.specs.Promise.{Name, name_cmp, Map, Answers, AnswersTwo, Step, Leads}
 use Rattle.ck_core.specs.Sums.{total, KeepsTotal, EachKeepsTotal, SessionShows, EachSessionShows, LawOfSums}
 use Rattle.ck_model.proofs.Determined.{leads_one}
 use Rattle.ck_model.proofs.Histories.{leads_to}

@@ -11,7 +11,7 @@ use Rattle.ck_model.specs.declared.history.Reply.TheVariants.{Was, New, Old}
 use Rattle.ck_model.specs.declared.history.Reason.{Reason}
 use Rattle.ck_model.specs.declared.history.Reason.TheVariants.{NoRoom, Full, LoadTooLow, Memory}
 use Rattle.ck_model.specs.declared.history.Entry.{Entry}
-use Rattle.ck_model.specs.Map.{Name, Answers}
+use Rattle.ck_model.specs.Promise.{Name, Answers}
 use Rattle.ck_model.specs.Numbered.{IsIn, numbers, Holds}
 use Rattle.ck_model.specs.Arithmetic.{index_of, second_of, alternate_of, partial_of, spread_of}
 use Rattle.ck_model.specs.Contents.{Stripes, bindings, IsStripeOf}

@@ -6,7 +6,7 @@ use Rattle.ck_model.specs.declared.history.Reply.TheVariants.{Was, New}
 use Rattle.ck_model.specs.declared.history.Entry.{Entry}
 use Rattle.ck_model.specs.declared.settings.Settings.{Settings}
 use Rattle.ck_model.specs.declared.contents.Content.{Content}
-use Rattle.ck_model.specs.Map.{Name}
+use Rattle.ck_model.specs.Promise.{Name}
 use Rattle.ck_model.specs.Slots.{Slot}
 use Rattle.ck_model.specs.Contents.{Layout, Stripes}
 use Rattle.ck_core.specs.declared.view.View.{View}

@@ -4,14 +4,13 @@ use mathlib.Core.Option.{some}
 use lib.ListN.{get_elem?}
 use Rattle.ck_model.specs.declared.history.Entry.{Entry}
 use Rattle.ck_model.specs.declared.settings.Settings.{Settings}
-use Rattle.ck_model.specs.Map.{Map, Step}
+use Rattle.ck_model.specs.Promise.{Map, Step, After, IsLegal, StartsWith, subhistory, Answered, Follows, IsInterleaving}
 use Rattle.ck_model.specs.Numbered.{IsIn, numbers, Holds}
 use Rattle.ck_model.specs.declared.contents.Content.{Content}
-use Rattle.ck_model.specs.History.{After, IsLegal, StartsWith, subhistory, IsInterleaving}
 use Rattle.ck_model.specs.Contents.{Layout, Stripes, bindings, Lawful}
 use Rattle.ck_model.specs.Sections.{HasAll}
 use Rattle.ck_core.specs.declared.view.View.{View}
-use Rattle.ck_core.specs.State.{Configuration, HistoryInvariant, owned}
+use Rattle.ck_core.specs.State.{Configuration, HistoryInvariant, owned, client_of}
 use Rattle.ck_core.specs.Steps.{Label, Transition, grown, Execution, Opening}
 use Rattle.ck_core.specs.Steps.Label.{Take, FindHeld, Give, Decide, GiveRest, Renew, Look, Open, Tell, Join}
 
@@ -61,18 +60,6 @@ module _ {V : Type 0} where
     -- all numbers are kept: the history is an interleaving of their entries
     pub all_kept : ((m : ℕ) → m < callers → IsIn m (numbers (owned v))) → IsInterleaving log (owned v)
 
-  -- An answered call: to what was seen come some entries of others and then this one, all of it is legal, and the caller has one entry more.
-  pub record Answered (v : View V) (e : Entry V) (w : View V) : Type 0 where
-    pub others : List (Entry V)
-    pub seen : w.seen ≡ v.seen ++ others ++ e ∷ []
-    pub by_others : subhistory e.by others ≡ []
-    pub legal : IsLegal w.seen
-    pub mine : w.mine ≡ v.mine ++ e ∷ []
-
-  -- The entry follows what was seen, with none of others between.
-  abbrev pub Follows : View V → Entry V → View V → Type 0
-  Follows v e w = w.seen ≡ v.seen ++ e ∷ []
-
   -- The caller finds a stripe held: another holds it, of another number.
   pub record IsHeldByAnother (callers : ℕ) (s : Configuration V) (t : ℕ) (v : View V) : Type 0 where
     pub own : ℕ
@@ -109,12 +96,12 @@ module _ (V : Type 0) where
   -- under the invariant a step that decides leaves its caller with an answered call
   abbrev pub LawOfAnswers : Type 0
   LawOfAnswers = (k : Layout) (min_load callers id t : ℕ) (ks : Stripes V) (e : Entry V) (log : List (Entry V)) (s s2 : Configuration V) (v w : View V) → HistoryInvariant k callers log s → Transition k min_load log id (Decide t ks e) s s2
-      → get_elem? s.views id ≡ some v → get_elem? s2.views id ≡ some w → Answered v e w
+      → get_elem? s.views id ≡ some v → get_elem? s2.views id ≡ some w → Answered (client_of v) e (client_of w)
 
   -- which follows what its caller had seen where that is the only caller, or has held all stripes
   abbrev pub LawOfFollowing : Type 0
   LawOfFollowing = (k : Layout) (min_load callers id t : ℕ) (ks : Stripes V) (e : Entry V) (log : List (Entry V)) (s s2 : Configuration V) (v w : View V) → HistoryInvariant k callers log s → Transition k min_load log id (Decide t ks e) s s2
-      → get_elem? s.views id ≡ some v → get_elem? s2.views id ≡ some w → (callers ≡ 1) ⊎ HasAll k v.held → Follows v e w
+      → get_elem? s.views id ≡ some v → get_elem? s2.views id ≡ some w → (callers ≡ 1) ⊎ HasAll k v.held → Follows (client_of v) e (client_of w)
 
   -- and each other step leaves its caller with no entry more
   abbrev pub LawOfOtherSteps : Type 0

@@ -4,7 +4,7 @@ use mathlib.Core.Option.{some}
 use lib.ListN.{get_elem?}
 use Rattle.ck_model.specs.declared.history.Entry.{Entry}
 use Rattle.ck_model.specs.Numbered.{IsIn, AreDistinct, numbers, Holds}
-use Rattle.ck_model.specs.History.{After, StartsWith, subhistory}
+use Rattle.ck_model.specs.Promise.{Client, After, StartsWith, subhistory}
 use Rattle.ck_model.specs.declared.contents.Content.{Content}
 use Rattle.ck_model.specs.Contents.{Layout, bindings, Lawful, whole}
 use Rattle.ck_model.specs.Sections.{HasAll}
@@ -25,6 +25,10 @@ module _ {V : Type 0} where
   -- the view's own number and those that it keeps for others, each with its entries
   abbrev pub owned : View V → List (ℕ × List (Entry V))
   owned v = own v.by v.mine ++ v.others
+
+  -- what its client sees of a view
+  abbrev pub client_of : View V → Client V
+  client_of v = record { settings = v.settings; by = v.by; seen = v.seen; mine = v.mine }
 
   -- the view is a caller's
   abbrev pub HasNumber : View V → Type 0

@@ -7,8 +7,7 @@ use Rattle.ck_model.specs.declared.history.Call.TheVariants.{On, ChangeTwo, Len,
 use Rattle.ck_model.specs.declared.history.Reply.{Reply}
 use Rattle.ck_model.specs.declared.history.Reply.TheVariants.{DoneTwo, Absent}
 use Rattle.ck_model.specs.declared.history.Entry.{Entry}
-use Rattle.ck_model.specs.Map.{Name, Map}
-use Rattle.ck_model.specs.History.{After, IsLegal}
+use Rattle.ck_model.specs.Promise.{Name, Map, After, IsLegal}
 
 -- the sum of all values
 abbrev pub total : List (Name × ℕ) → ℕ

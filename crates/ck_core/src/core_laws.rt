@@ -2,7 +2,7 @@
 ghost use Rattle.std.specs.Prelude.{ℕ, Option};
 ghost use Rattle.ck_model.specs.declared.history.Entry.{Entry};
 ghost use Rattle.ck_model.specs.declared.history.Reason.{Reason};
-ghost use Rattle.ck_model.specs.Map.{Name};
+ghost use Rattle.ck_model.specs.Promise.{Name};
 ghost use Rattle.ck_model.specs.Contents.{Stripes};
 ghost use Rattle.ck_core.specs.Steps.Label.{Take, FindHeld, Give, Decide, GiveRest, Renew, Look, Open, Tell, Join};
 ghost use Rattle.ck_core.specs.Laws.{LawOfRuns, Keeps, LawOfViews, LawOfReplies, LawOfFindings, LawOfOneCaller, LawOfAnswers, LawOfFollowing, LawOfOtherSteps};

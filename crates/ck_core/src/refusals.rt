@@ -6,7 +6,7 @@ ghost use Rattle.ck_model.specs.declared.history.Reply.TheVariants.{Was, New};
 ghost use Rattle.ck_model.specs.declared.history.Reason.{Reason};
 ghost use Rattle.ck_model.specs.declared.history.Entry.{Entry};
 ghost use Rattle.ck_model.specs.declared.settings.Settings.{Settings};
-ghost use Rattle.ck_model.specs.Map.{Name};
+ghost use Rattle.ck_model.specs.Promise.{Name};
 ghost use Rattle.ck_model.specs.Contents.{Stripes};
 ghost use Rattle.ck_core.specs.Steps.{Opening};
 ghost use Rattle.ck_core.specs.Steps.Label.{Take, FindHeld, Give, Decide, GiveRest, Renew, Look, Open, Tell, Join};

@@ -1,7 +1,7 @@
 -- What the blocks of a script hold, as the reader finds it. Only private contracts and proofs need this file.
 use Rattle.std.specs.Prelude.{ℕ, ◌+◌, List, [], ◌∷◌, ◌++◌, map, Result, Ok, Err, nat_lt, if◌then◌else◌}
 use Rattle.ck_model.specs.declared.settings.Settings.{Settings}
-use Rattle.ck_model.specs.Map.{Name}
+use Rattle.ck_model.specs.Promise.{Name}
 use Rattle.ck_format.specs.declared.script.Version.{Version}
 use Rattle.ck_format.specs.declared.script.Keys.{Keys}
 use Rattle.ck_format.specs.declared.script.Command.{Command}

@@ -1,7 +1,7 @@
 -- The grammar of scripts: a script is a list of lines, each ended by a line feed.
 use Rattle.std.specs.Prelude.{All, length, ◌≤◌, ◌≡◌, ◌≢◌, ℕ, List, [], ◌∷◌, ◌++◌, codes, flat_map, sum_by}
 use Rattle.std.specs.List.{AllZip}
-use Rattle.ck_model.specs.Map.{Name}
+use Rattle.ck_model.specs.Promise.{Name}
 use Rattle.ck_format.specs.declared.script.Version.{Version}
 use Rattle.ck_format.specs.declared.script.Version.TheVariants.{Two}
 use Rattle.ck_format.specs.declared.script.Keys.{Keys}

@@ -2,7 +2,7 @@
 use Rattle.std.specs.Prelude.{All, AllPairs, ◌≡◌, ℕ, ◌+◌, ◌<◌, ◌≤◌, List, [], ◌∷◌, ◌++◌, length, Option, None, true, false, if◌then◌else◌, codes, flat_map, sum_by}
 use Rattle.std.specs.List.{AllZip, list_any}
 use Rattle.std.specs.Str.{bytes_eq}
-use Rattle.ck_model.specs.Map.{Name}
+use Rattle.ck_model.specs.Promise.{Name}
 use Rattle.ck_format.specs.declared.script.Keys.{Keys}
 use Rattle.ck_format.specs.declared.script.Setting.{Setting}
 use Rattle.ck_format.specs.declared.script.Command.{Command}

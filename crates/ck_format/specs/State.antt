@@ -1,7 +1,7 @@
 -- Where the reader stands. Only private contracts and proofs need this file.
 use Rattle.std.specs.Prelude.{ℕ, ◌+◌, ◌≤◌, List, [], ◌∷◌, Result, Ok, Err, Bool, true, false, if◌then◌else◌}
 use Rattle.std.specs.Str.{bytes_eq}
-use Rattle.ck_model.specs.Map.{Name}
+use Rattle.ck_model.specs.Promise.{Name}
 use Rattle.ck_key.specs.declared.num_key.NumKey.{NumKey}
 use Rattle.ck_format.specs.declared.script.Version.TheVariants.{One, Two}
 use Rattle.ck_format.specs.declared.script.Keys.TheVariants as keys

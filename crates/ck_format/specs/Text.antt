@@ -1,7 +1,7 @@
 -- The text that a run of a script writes.
 use Rattle.std.specs.Prelude.{ℕ, ◌+◌, List, [], ◌∷◌, ◌++◌, length, codes, flat_map}
 use Rattle.std.specs.Fmt.{decimal}
-use Rattle.ck_model.specs.Map.{Name}
+use Rattle.ck_model.specs.Promise.{Name}
 use Rattle.ck_format.specs.declared.script.Keys.{Keys}
 use Rattle.ck_format.specs.declared.script.Keys.TheVariants.{Num, Text}
 use Rattle.ck_format.specs.Lines.{with_feed}

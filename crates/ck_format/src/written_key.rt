@@ -1,6 +1,6 @@
 //! Keys that a run can write.
 ghost use Rattle.std.specs.Prelude.{◌≡◌, ◌++◌, OnOk, refl};
-ghost use Rattle.ck_model.specs.Map.{name_cmp};
+ghost use Rattle.ck_model.specs.Promise.{name_cmp};
 ghost use Rattle.ck_model.proofs.Entries.{alone};
 ghost use Rattle.ck_format.specs.declared.script.Keys.{Keys};
 ghost use Rattle.ck_format.specs.declared.script.Keys.TheVariants.{Num, Text};

@@ -2,7 +2,7 @@
 use Rattle.std.specs.Prelude.{◌≡◌, ℕ, ◌+◌, ◌*◌, ◌^◌, ◌<◌, ◌↔◌, ◌&&◌, [], ◌∷◌, IsTrue, nat_eq}
 use Rattle.std.proofs.Common.{arith}
 use Rattle.std.proofs.lemmas.Grind.{common_steps}
-use Rattle.cuckoo_map.specs.Map.{Name}
+use Rattle.cuckoo_map.specs.Promise.{Name}
 use Rattle.cuckoo_map.specs.KeyLaws.{mixed_hash_below}
 use Rattle.ck_grid.specs.Cells.{cell_hash}
 

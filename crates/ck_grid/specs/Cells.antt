@@ -1,6 +1,6 @@
 -- The hash of the names of cells.
 use Rattle.std.specs.Prelude.{ℕ, ◌+◌, ◌*◌, ◌^◌, [], ◌∷◌}
-use Rattle.cuckoo_map.specs.Map.{Name}
+use Rattle.cuckoo_map.specs.Promise.{Name}
 use Rattle.cuckoo_map.specs.Hashes.{mixed_of}
 
 -- the two numbers side by side, mixed

@@ -1,7 +1,7 @@
 -- The hashes of names.
 use Rattle.std.specs.Prelude.{◌≡◌, ℕ, ◌*◌, ◌/◌, ◌^◌, ◌%◌, [], ◌∷◌, bit_xor, fold}
 use Rattle.ck_model.specs.Arithmetic.{partial_of}
-use Rattle.ck_model.specs.Map.{Name}
+use Rattle.ck_model.specs.Promise.{Name}
 use Rattle.ck_key.specs.declared.key_hash.KeyHash.{KeyHash}
 
 -- a number's name is the list of the number alone, and it hashes to itself

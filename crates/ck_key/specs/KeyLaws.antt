@@ -4,7 +4,7 @@ use Rattle.std.specs.Cmp.Lexicographic.{pointwise, bytes_decides}
 use Rattle.std.proofs.Common.{arith, lit<}
 use Rattle.std.proofs.lemmas.Nat.{xor_lt}
 use Rattle.std.proofs.lemmas.Grind.{common_steps}
-use Rattle.ck_model.specs.Map.{Name}
+use Rattle.ck_model.specs.Promise.{Name}
 use Rattle.ck_key.specs.Hashes.{number_hash, folded_of, mixed_hash, fnv_step, text_hash}
 
 pub number_names : (a b : ℕ) → IsTrue (nat_eq a b) ↔ (a ∷ [] ≡ b ∷ [])

@@ -1,6 +1,6 @@
 //! What a key of the table is.
 ghost use Rattle.std.specs.Prelude.{◌≡◌, ℕ, ◌<◌, ◌^◌, ◌↔◌, IsTrue};
-ghost use Rattle.ck_model.specs.Map.{Name};
+ghost use Rattle.ck_model.specs.Promise.{Name};
 
 /// A key of the table. Two keys are equal exactly where they have one name, and the hash depends on
 /// the name alone.

@@ -1,6 +1,6 @@
 //! What a call names a key by.
 ghost use Rattle.std.specs.Prelude.{◌≡◌, ◌↔◌, true};
-ghost use Rattle.ck_model.specs.Map.{Name};
+ghost use Rattle.ck_model.specs.Promise.{Name};
 
 use crate::key::TableKey;
 use crate::text_key::{TextKey, fnv_of};

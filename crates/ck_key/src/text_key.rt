@@ -40,7 +40,7 @@ pub struct TextKey {
 
 impl Model for TextKey {
     ghost use Rattle.std.specs.Prelude.{length, ◌≤◌};
-    ghost use Rattle.ck_model.specs.Map.{Name};
+    ghost use Rattle.ck_model.specs.Promise.{Name};
 
     ghost Value = { Name };
 

@@ -5,7 +5,7 @@ use Rattle.std.specs.Ordering.{eq_by_cmp}
 use Rattle.std.specs.Cmp.Lexicographic.{nat_list_cmp_total}
 use Rattle.std.specs.FinMap.{find, get, len, entries, contains_key, from_entries, from_sorted, get-from_entries, get-from_sorted, entries-from_sorted, len-insert, len-empty}
 use Rattle.std.specs.FinMap.Entries.{is_sorted}
-use Rattle.ck_model.specs.Map.{Name, name_cmp, Map}
+use Rattle.ck_model.specs.Promise.{Name, name_cmp, Map}
 use Rattle.ck_model.specs.Numbered.{IsIn, AreDistinct, numbers, Holds}
 use Rattle.ck_model.specs.declared.contents.Content.{Content}
 use Rattle.ck_model.specs.Contents.{Layout, Stripes, pairs_in, pairs_of, bindings, NamesApart, Lawful}

@@ -9,8 +9,7 @@ use Rattle.ck_model.specs.declared.history.Call.TheVariants.{On, ChangeTwo, Len,
 use Rattle.ck_model.specs.declared.history.Reply.{Reply}
 use Rattle.ck_model.specs.declared.history.Reply.TheVariants.{Done, DoneTwo}
 use Rattle.ck_model.specs.declared.history.Entry.{Entry}
-use Rattle.ck_model.specs.Map.{Name, Map, Answers, AnswersTwo, Step}
-use Rattle.ck_model.specs.History.{Leads}
+use Rattle.ck_model.specs.Promise.{Name, Map, Answers, AnswersTwo, Step, Leads}
 use Rattle.ck_model.specs.Laws.{SpeaksOf}
 use Rattle.ck_model.proofs.Names.{dec_name, maps_alike}
 

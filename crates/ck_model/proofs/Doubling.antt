@@ -10,7 +10,7 @@ use Rattle.std.proofs.lemmas.List.Sums.{sum_by-append}
 use Rattle.std.proofs.lemmas.Nat.{pow-add, div-add-mod', div-mul-add, mod-mul-add}
 use Rattle.std.proofs.lemmas.Option.{none-some, same_Some}
 use Rattle.ck_model.specs.Arithmetic.{index_of, second_of}
-use Rattle.ck_model.specs.Map.{Name, Map, name_cmp}
+use Rattle.ck_model.specs.Promise.{Name, Map, name_cmp}
 use Rattle.ck_model.specs.Slots.{Slot, slot_at, taken_in}
 use Rattle.ck_model.specs.Numbered.{IsIn, AreDistinct, numbers, Holds}
 use Rattle.ck_model.specs.declared.contents.Content.{Content}

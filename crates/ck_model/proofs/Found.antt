@@ -4,7 +4,7 @@ use Rattle.std.proofs.lemmas.Option.{none-some}
 use Rattle.std.specs.Ordering.{eq_by_cmp}
 use Rattle.std.specs.Cmp.Lexicographic.{nat_list_cmp_total}
 use Rattle.std.specs.FinMap.{find, get, get-from_entries}
-use Rattle.ck_model.specs.Map.{Name, name_cmp}
+use Rattle.ck_model.specs.Promise.{Name, name_cmp}
 use Rattle.ck_model.specs.Numbered.{AreDistinct, numbers, Holds, listed}
 use Rattle.ck_model.specs.declared.contents.Content.{Content}
 use Rattle.ck_model.specs.Contents.{Stripes, Binds, pairs_in, pairs_of, bindings}

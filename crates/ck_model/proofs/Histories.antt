@@ -4,8 +4,7 @@ use mathlib.Core.Logic.{dite}
 use native.Mathlib.Decide.{ℕ_discrete}
 use Rattle.std.specs.FinMap.{empty}
 use Rattle.ck_model.specs.declared.history.Entry.{Entry}
-use Rattle.ck_model.specs.Map.{Map, Step}
-use Rattle.ck_model.specs.History.{Leads, IsLegal, StartsWith, subhistory}
+use Rattle.ck_model.specs.Promise.{Map, Step, Leads, IsLegal, StartsWith, subhistory}
 use Rattle.ck_model.proofs.Numbered.{if_same, if_else}
 
 module _ {V : Type 0} where

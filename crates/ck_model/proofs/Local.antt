@@ -6,7 +6,7 @@ use Rattle.std.specs.FinMap.{find, get}
 use Rattle.ck_model.specs.declared.history.Act.{Act}
 use Rattle.ck_model.specs.declared.history.Call.TheVariants.{On}
 use Rattle.ck_model.specs.declared.history.Reply.{Reply}
-use Rattle.ck_model.specs.Map.{Name, name_cmp, Answers}
+use Rattle.ck_model.specs.Promise.{Name, name_cmp, Answers}
 use Rattle.ck_model.specs.Numbered.{IsIn, AreDistinct, numbers, Holds, with_content}
 use Rattle.ck_model.specs.declared.contents.Content.{Content}
 use Rattle.ck_model.specs.Contents.{Layout, Stripes, Binds, pairs_in, bindings, IsSound, Lawful}

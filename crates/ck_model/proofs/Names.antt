@@ -7,7 +7,7 @@ use Rattle.std.specs.Ordering.{eq_by_cmp}
 use Rattle.std.specs.Cmp.{tied_itself}
 use Rattle.std.specs.Cmp.Lexicographic.{nat_list_cmp_total}
 use Rattle.std.specs.FinMap.{IsAntisymmetric, get, same_map, slice_cmp-IsAntisymmetric, nat_cmp-IsAntisymmetric}
-use Rattle.ck_model.specs.Map.{Name, name_cmp, Map}
+use Rattle.ck_model.specs.Promise.{Name, name_cmp, Map}
 
 pub dec_name : (p q : Name) → Dec (p ≡ q)
 dec_name = List-discrete ℕ_discrete

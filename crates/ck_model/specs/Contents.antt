@@ -4,7 +4,7 @@ use Rattle.std.specs.FinMap.{find, from_entries}
 use Rattle.ck_model.specs.declared.contents.Content.{Content}
 use Rattle.ck_model.specs.declared.settings.Settings.{Settings}
 use Rattle.ck_model.specs.Arithmetic.{index_of, second_of}
-use Rattle.ck_model.specs.Map.{Name, name_cmp, Map}
+use Rattle.ck_model.specs.Promise.{Name, name_cmp, Map}
 use Rattle.ck_model.specs.Numbered.{AreDistinct, numbers, Holds, listed}
 use Rattle.ck_model.specs.Slots.{Slot, slot_at, taken_in}
 

@@ -2,7 +2,7 @@
 use Rattle.std.specs.Prelude.{◌≡◌, ℕ, ◌^◌, ◌<◌, ◌==◌, if◌then◌else◌, Some}
 use Rattle.std.specs.List.Sorted.{IsPermutation}
 use Rattle.ck_model.specs.Arithmetic.{index_of, second_of}
-use Rattle.ck_model.specs.Map.{Name}
+use Rattle.ck_model.specs.Promise.{Name}
 use Rattle.ck_model.specs.Numbered.{numbers, Holds}
 use Rattle.ck_model.specs.Slots.{slot_at}
 use Rattle.ck_model.specs.declared.contents.Content.{Content}

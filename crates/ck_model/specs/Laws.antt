@@ -6,8 +6,7 @@ use Rattle.ck_model.specs.declared.history.Call.TheVariants.{On, ChangeTwo, Len,
 use Rattle.ck_model.specs.declared.history.Reply.{Reply}
 use Rattle.ck_model.specs.declared.history.Entry.{Entry}
 use Rattle.ck_model.specs.Arithmetic.{index_of, second_of, alternate_of}
-use Rattle.ck_model.specs.Map.{Name, Map, Step}
-use Rattle.ck_model.specs.History.{After, IsLegal, StartsWith}
+use Rattle.ck_model.specs.Promise.{Name, Map, Step, After, IsLegal, StartsWith}
 use Rattle.ck_model.specs.Numbered.{Holds, over}
 use Rattle.ck_model.specs.declared.contents.Content.{Content}
 use Rattle.ck_model.specs.Contents.{Layout, Stripes, bindings, IsShaped, Lawful, whole}

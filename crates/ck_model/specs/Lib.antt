@@ -1,8 +1,7 @@
 pub mod Arithmetic
 pub mod Numbered
 pub mod Counting
-pub mod Map
-pub mod History
+pub mod Promise
 pub mod Slots
 pub mod Contents
 pub mod Sections

@@ -3,7 +3,7 @@ use Rattle.std.specs.Prelude.{◌≡◌, ◌⊎◌, ℕ, ◌^◌, ◌<◌, ◌�
 use Rattle.ck_model.specs.declared.history.Call.{Call}
 use Rattle.ck_model.specs.declared.history.Call.TheVariants.{On, ChangeTwo, Len, Session}
 use Rattle.ck_model.specs.declared.history.Reply.{Reply}
-use Rattle.ck_model.specs.Map.{Name, Step}
+use Rattle.ck_model.specs.Promise.{Name, Step}
 use Rattle.ck_model.specs.Numbered.{IsIn, numbers, Holds}
 use Rattle.ck_model.specs.declared.contents.Content.{Content}
 use Rattle.ck_model.specs.Contents.{Layout, Stripes, IsStripeOf, Lawful, bindings}

@@ -1,6 +1,6 @@
 -- The slots of a bucket.
 use Rattle.std.specs.Prelude.{◌≡◌, ℕ, ◌<◌, List, Option, None, IsSome, slice_index_or, filter_map}
-use Rattle.ck_model.specs.Map.{Name}
+use Rattle.ck_model.specs.Promise.{Name}
 
 -- one slot: free, or a name and its value
 abbrev pub Slot : Type 0 → Type 0

@@ -15,7 +15,7 @@ use Rattle.std.specs.Cmp.Lexicographic.{nat_list_cmp_total}
 use Rattle.std.specs.FinMap as map
 use Rattle.std.specs.FinMap.{find, get, len, entries, entries_sorted, empty, from_sorted, same_entries_map, entries-from_sorted, get-from_sorted, len-entries, empty_of_len}
 use Rattle.std.specs.FinMap.Entries.{put, by_order, below_all, is_sorted-put, is_sorted-where_key, find-where_key}
-use Rattle.ck_model.specs.Map.{Name, name_cmp, Map}
+use Rattle.ck_model.specs.Promise.{Name, name_cmp, Map}
 use Rattle.ck_oracle.specs.PlainMap.{place_of, Stands, Rises}
 use Rattle.ck_model.proofs.Names.{maps_alike}
 

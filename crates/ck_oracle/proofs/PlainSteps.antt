@@ -11,8 +11,7 @@ use Rattle.ck_model.specs.declared.history.Act.{Act}
 use Rattle.ck_model.specs.declared.history.Call.TheVariants.{On, ChangeTwo}
 use Rattle.ck_model.specs.declared.history.Reply.{Reply}
 use Rattle.ck_model.specs.declared.history.Entry.{Entry}
-use Rattle.ck_model.specs.Map.{Name, Map, Answers, AnswersTwo, Step}
-use Rattle.ck_model.specs.History.{Leads, IsLegal}
+use Rattle.ck_model.specs.Promise.{Name, Map, Answers, AnswersTwo, Step, Leads, IsLegal}
 use Rattle.ck_oracle.specs.PlainMap.{with_binding, Rises}
 use Rattle.ck_model.proofs.Names.{is_name, no_name}
 use Rattle.ck_model.proofs.Determined.{leads_one}

@@ -3,7 +3,7 @@ use Rattle.std.specs.Prelude.{◌≡◌, ℕ, T, IsSomeAnd, slice_get, suc, zero
 use Rattle.std.specs.declared.cmp.Ordering.TheVariants.{Equal}
 use Rattle.std.specs.Ordering.{is_gt}
 use Rattle.std.specs.FinMap.{insert, remove, is_sorted}
-use Rattle.ck_model.specs.Map.{Name, name_cmp, Map}
+use Rattle.ck_model.specs.Promise.{Name, name_cmp, Map}
 
 -- how many of the names at the front are below this one
 abbrev pub place_of : Name → List (Name × ℕ) → ℕ

@@ -1,7 +1,7 @@
 //! What a call leaves of the names that it speaks of, where the reply is one that the plain map
 //! gives.
 ghost use Rattle.std.specs.Prelude.{◌≡◌, ◌↔◌, ℕ, Option, Some, None, IsTrue, IsSome, IfSome, IfNone, MatchOption};
-ghost use Rattle.ck_model.specs.Map.{Answers, AnswersTwo};
+ghost use Rattle.ck_model.specs.Promise.{Answers, AnswersTwo};
 
 use ck_model::history::{Act, Reply};
 

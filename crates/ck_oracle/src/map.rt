@@ -1,8 +1,7 @@
 //! A plain map that follows a history, and so decides which histories are legal.
 ghost use Rattle.std.specs.Prelude.{◌≡◌, ◌↔◌, ℕ, true, false, ◌<◌, ◌≤◌, length, slice_get, IsTrue, IfOk, IfSome, IfNone, IfErr, IsSome, IsOk, MatchResult, OnOk, OnErr, OnSome, List, ◌∷◌, [], ◌++◌, is_ok};
 ghost use Rattle.std.specs.FinMap as map;
-ghost use Rattle.ck_model.specs.Map.{Name, name_cmp, Map, Step};
-ghost use Rattle.ck_model.specs.History.{After, IsLegal};
+ghost use Rattle.ck_model.specs.Promise.{Name, name_cmp, Map, Step, After, IsLegal};
 ghost use Rattle.ck_oracle.specs.PlainMap.{place_of, with_binding, Stands, Rises};
 
 use crate::answers::{after_act, after_two};
@@ -22,7 +21,7 @@ impl Model for PlainMap {
     ghost use Rattle.std.specs.Prelude.{ℕ, T};
     ghost use Rattle.std.specs.Coded.{coded_ℕ, coded_list};
     ghost use Rattle.std.specs.FinMap as map;
-    ghost use Rattle.ck_model.specs.Map.{name_cmp, Map};
+    ghost use Rattle.ck_model.specs.Promise.{name_cmp, Map};
 
     ghost Value = { Map ℕ };
 

@@ -1,6 +1,6 @@
 //! Whether plain data of stripes has lawful contents.
 ghost use Rattle.std.specs.Prelude.{◌≡◌, ◌≢◌, ◌↔◌, ◌⊎◌, ℕ, ◌+◌, ◌*◌, ◌-◌, ◌^◌, ◌<◌, ◌≤◌, length, map, IsTrue, All, IfSome, None, List};
-ghost use Rattle.ck_model.specs.Map.{Name};
+ghost use Rattle.ck_model.specs.Promise.{Name};
 ghost use Rattle.ck_model.specs.Contents.{Lawful};
 ghost use Rattle.ck_model.specs.Slots.{taken_in};
 ghost use Rattle.ck_model.specs.Arithmetic.{index_of, second_of};

@@ -1,7 +1,7 @@
 -- What a search sees of a table is what stands in it.
 use Rattle.std.specs.Prelude.{◌↔◌}
 use Rattle.ck_model.specs.Arithmetic.{index_of, second_of}
-use Rattle.ck_model.specs.Map.{Name}
+use Rattle.ck_model.specs.Promise.{Name}
 use Rattle.ck_model.specs.Contents.{Layout, Stripes, Lawful, power_of}
 use Rattle.ck_model.specs.Sections.{HasAll}
 use Rattle.ck_model.specs.Paths.{sketch_in, HasNoPath}

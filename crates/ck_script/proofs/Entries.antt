@@ -9,14 +9,13 @@ use Rattle.ck_model.specs.declared.history.Entry.{Entry}
 use Rattle.ck_model.specs.declared.history.Reason.{Reason}
 use Rattle.ck_model.specs.declared.history.Reason.TheVariants as reason
 use Rattle.ck_model.specs.declared.settings.Settings.{Settings}
-use Rattle.ck_model.specs.Map.{Name}
-use Rattle.ck_model.specs.History.{StartsWith}
+use Rattle.ck_model.specs.Promise.{Name, StartsWith}
 use Rattle.ck_model.proofs.Histories.{starts_itself}
 use Rattle.ck_words.specs.Passes.{PassState}
 use Rattle.ck_words.specs.Answering.{IsAnsweredBut}
 use Rattle.cuckoo_map.specs.declared.refusal.Why.{Why}
 use Rattle.cuckoo_map.specs.declared.refusal.Why.TheVariants.{Busy, Memory, Full, LoadTooLow}
-use Rattle.cuckoo_map.specs.Insertions.{IsRefused, GivesGrounds}
+use Rattle.cuckoo_map.specs.Refusals.{GivesGrounds, IsRefused}
 use Rattle.cuckoo_map.specs.Callers.{CallerState, IsSameCaller}
 use Rattle.ck_format.specs.declared.script.Command.{Command}
 use Rattle.ck_format.specs.declared.script.Command.TheVariants as command
@@ -93,8 +92,8 @@ holds_of_all {K} name P so_far commands p q holds all same =
 -- a pass has seen no less once its call is answered
 pub answered_saw : (call : Call ℕ) (reply : Reply ℕ) (more : List (Name × Reason)) (p q : PassState ℕ) → IsAnsweredBut more call reply p q → StartsWith q.view.seen p.view.seen
 answered_saw call reply more p q is =
-    let entry : Entry ℕ = record { by = is.by; call = call; reply = reply } in
-    (is.answered.others ++ entry ∷ [], is.answered.seen ∙ append_assoc p.view.seen is.answered.others (entry ∷ []))
+    let entry : Entry ℕ = record { by = is.replied.by; call = call; reply = reply } in
+    (is.replied.answered.others ++ entry ∷ [], is.replied.answered.seen ∙ append_assoc p.view.seen is.replied.answered.others (entry ∷ []))
 
 -- what an insertion shows that was refused
 has_others : (hash : Name → ℕ) (set : Settings) (q : Name) (why : Why) (p p2 : PassState ℕ) → IsRefused hash set q why p p2 → HasOthers set.callers why

@@ -6,9 +6,8 @@ use mathlib.Core.Logic.{dite}
 use native.Mathlib.Decide.{ℕ_discrete}
 use Rattle.ck_model.specs.declared.history.Call.{Call}
 use Rattle.ck_model.specs.declared.history.Entry.{Entry}
-use Rattle.ck_model.specs.Map.{Map, Step}
+use Rattle.ck_model.specs.Promise.{Map, Step, Leads, StartsWith, IsInterleaving, subhistory}
 use Rattle.ck_model.specs.Numbered.{IsIn, AreDistinct, numbers, Holds, over}
-use Rattle.ck_model.specs.History.{Leads, StartsWith, IsInterleaving, subhistory}
 use Rattle.ck_model.proofs.Numbered.{if_same, if_else, dec_in, over_miss, over_hit}
 use Rattle.ck_script.specs.Answered.{IsIdleSession}
 

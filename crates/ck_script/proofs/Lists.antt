@@ -4,8 +4,7 @@ use Rattle.std.specs.FinMap.{entries}
 use Rattle.ck_model.specs.declared.history.Call.TheVariants.{Session}
 use Rattle.ck_model.specs.declared.history.Reply.TheVariants.{Closed}
 use Rattle.ck_model.specs.declared.history.Entry.{Entry}
-use Rattle.ck_model.specs.Map.{Name, Map}
-use Rattle.ck_model.specs.History.{StartsWith}
+use Rattle.ck_model.specs.Promise.{Name, Map, StartsWith}
 use Rattle.ck_model.proofs.Numbered.{Some-injective}
 use Rattle.ck_words.specs.Passes.{PassState}
 use Rattle.ck_words.specs.Answering.{IsAnswered}
@@ -34,8 +33,8 @@ pub listed : (hash : Name → ℕ) (c back : CallerState ℕ) (l : LockedState �
     → IsAnswered (Session (entries (start_of l)) (entries (map_of l))) Closed l.pass p → back.table ≡ c.table → back.pass ≡ p → IsAnsweredBy hash command.List a c back
 listed hash c back l p a locked list answered table pass =
     let by_kept = ap (λ (q : PassState ℕ). q.view.by) pass ∙ answered.stays.by ∙ locked.stays.by in
-    let mine = ap (λ (q : PassState ℕ). q.view.mine) pass ∙ answered.answered.mine in
-    let entry : Entry ℕ = record { by = answered.by; call = Session (entries (start_of l)) (entries (map_of l)); reply = Closed } in
+    let mine = ap (λ (q : PassState ℕ). q.view.mine) pass ∙ answered.replied.answered.mine in
+    let entry : Entry ℕ = record { by = answered.replied.by; call = Session (entries (start_of l)) (entries (map_of l)); reply = Closed } in
     record {
       same = record { table = table; by = by_kept };
       saw = subst (λ (q : PassState ℕ). StartsWith q.view.seen c.pass.view.seen) (sym pass)
@@ -45,8 +44,8 @@ listed hash c back l p a locked list answered table pass =
       entries = λ by is.
           inr (
             entry,
-            Some-injective answered.by by (sym answered.caller ∙ locked.stays.by ∙ is),
-            left_by_list c.table.settings.callers answered.by a (start_of l) (map_of l) locked.same list,
+            Some-injective answered.replied.by by (sym answered.replied.number ∙ locked.stays.by ∙ is),
+            left_by_list c.table.settings.callers answered.replied.by a (start_of l) (map_of l) locked.same list,
             mine ∙ ap (λ (es : List (Entry ℕ)). es ++ entry ∷ []) locked.stays.mine,
           );
     }

@@ -13,10 +13,9 @@ use Rattle.std.proofs.lemmas.List.Elements.{All-append}
 use Rattle.std.proofs.lemmas.Slice.Zip.{all_zipped_more, length-zip, get_or-zip}
 use Rattle.ck_model.specs.declared.history.Entry.{Entry}
 use Rattle.ck_model.specs.declared.settings.Settings.{Settings}
-use Rattle.ck_model.specs.Map.{Name, Map, named, name_cmp, ListsInOrder}
+use Rattle.ck_model.specs.Promise.{Name, Map, named, name_cmp, ListsInOrder, After, IsInterleaving}
 use Rattle.ck_model.proofs.Entries.{entries_listed}
 use Rattle.ck_model.specs.Numbered.{IsIn, AreDistinct, numbers}
-use Rattle.ck_model.specs.History.{After, IsInterleaving}
 use Rattle.ck_model.specs.Contents.{Stripes, bindings}
 use Rattle.ck_model.specs.Counting.{counting}
 use Rattle.ck_words.specs.Words.{WordsState}

@@ -3,14 +3,13 @@ use Rattle.std.specs.Prelude.{◌≡◌, ◌≢◌, ◌⊎◌, ℕ, List, [], �
 use Rattle.ck_model.specs.declared.history.Call.TheVariants.{Session}
 use Rattle.ck_model.specs.declared.history.Reply.TheVariants.{Closed}
 use Rattle.ck_model.specs.declared.history.Entry.{Entry}
-use Rattle.ck_model.specs.Map.{Name}
+use Rattle.ck_model.specs.Promise.{Name, StartsWith}
 use Rattle.cuckoo_map.specs.Callers.{CallerState, IsSameCaller}
 use Rattle.cuckoo_map.specs.declared.refusal.Why.{Why}
 use Rattle.cuckoo_map.specs.declared.refusal.Why.TheVariants.{Busy, Full, LoadTooLow}
 use Rattle.cuckoo_map.specs.declared.refusal.Why.TheVariants as why
 use Rattle.ck_model.specs.declared.history.Reason.{Reason}
 use Rattle.ck_model.specs.declared.history.Reason.TheVariants as reason
-use Rattle.ck_model.specs.History.{StartsWith}
 use Rattle.ck_words.specs.Passes.{PassState}
 use Rattle.ck_format.specs.declared.script.Command.TheVariants as command
 use Rattle.ck_format.specs.declared.answer.Answer.TheVariants as answer

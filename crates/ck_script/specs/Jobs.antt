@@ -4,8 +4,7 @@ use Rattle.std.specs.Global.{Vec}
 use Rattle.std.specs.FinMap.{entries}
 use Rattle.ck_model.specs.declared.history.Entry.{Entry}
 use Rattle.ck_model.specs.declared.settings.Settings.{Settings}
-use Rattle.ck_model.specs.Map.{Name}
-use Rattle.ck_model.specs.History.{After, IsInterleaving}
+use Rattle.ck_model.specs.Promise.{Name, After, IsInterleaving}
 use Rattle.ck_model.specs.Contents.{Stripes, bindings}
 use Rattle.ck_words.specs.Words.{WordsState}
 use Rattle.ck_words.specs.Passes.{PassState}

@@ -11,8 +11,7 @@ use Rattle.ck_model.specs.declared.history.Entry.{Entry}
 use Rattle.ck_model.specs.declared.history.Reason.{Reason}
 use Rattle.ck_model.specs.declared.history.Reason.TheVariants as reason
 use Rattle.ck_model.specs.declared.settings.Settings.{Settings}
-use Rattle.ck_model.specs.Map.{Name}
-use Rattle.ck_model.specs.History.{After, StartsWith, IsInterleaving}
+use Rattle.ck_model.specs.Promise.{Name, After, StartsWith, IsInterleaving}
 use Rattle.ck_model.specs.Contents.{layout_of, Stripes, bindings}
 use Rattle.ck_model.specs.Paths.{Grounds}
 use Rattle.ck_words.specs.Closing.{AreContentsOf}

@@ -5,7 +5,7 @@ use Rattle.std.specs.Option.{option_copied}
 use Rattle.std.proofs.lemmas.List.{get_or_default}
 use Rattle.ck_model.specs.declared.history.Act.TheVariants.{Find}
 use Rattle.ck_model.specs.declared.history.Reply.TheVariants.{Was}
-use Rattle.ck_model.specs.Map.{Name}
+use Rattle.ck_model.specs.Promise.{Name}
 use Rattle.ck_model.specs.Slots.{slot_at}
 use Rattle.ck_model.specs.Contents.{IsBucketOf}
 use Rattle.ck_bucket.specs.Bucket.{LacksName}

@@ -6,7 +6,7 @@ use Rattle.ck_model.specs.declared.history.Act.{Act}
 use Rattle.ck_model.specs.declared.history.Call.TheVariants.{On}
 use Rattle.ck_model.specs.declared.history.Reply.{Reply}
 use Rattle.ck_model.specs.declared.contents.Content.{Content}
-use Rattle.ck_model.specs.Map.{Name, name_cmp, Answers}
+use Rattle.ck_model.specs.Promise.{Name, name_cmp, Answers}
 use Rattle.ck_model.specs.Slots.{Slot, slot_at}
 use Rattle.ck_model.specs.Numbered.{Holds}
 use Rattle.ck_model.specs.Contents.{IsBucketOf, Layout, layout, Stripes, Binds, pairs_in, row_at, bindings, IsSound, Lawful}

@@ -6,7 +6,7 @@ use Rattle.std.proofs.Math.Nat.{add-mul-mod_self_right}
 use Rattle.std.proofs.lemmas.Nat.{div-add-mod'}
 use Rattle.std.proofs.lemmas.List.Sorted.{IsPermutation-refl, IsPermutation-append}
 use Rattle.ck_model.specs.Arithmetic.{index_of, second_of}
-use Rattle.ck_model.specs.Map.{Name, name_cmp}
+use Rattle.ck_model.specs.Promise.{Name, name_cmp}
 use Rattle.ck_model.specs.Slots.{Slot, slot_at}
 use Rattle.ck_model.specs.Numbered.{AreDistinct, numbers, Holds}
 use Rattle.ck_model.specs.declared.contents.Content.{Content}

@@ -10,7 +10,7 @@ use Rattle.std.proofs.lemmas.Nat.{div-add-mod'}
 use Rattle.ck_model.specs.declared.path_hop.PathHop.{PathHop}
 use Rattle.ck_model.specs.declared.contents.Content.{Content}
 use Rattle.ck_model.specs.Arithmetic.{alternate_of}
-use Rattle.ck_model.specs.Map.{Name}
+use Rattle.ck_model.specs.Promise.{Name}
 use Rattle.ck_model.specs.Slots.{Slot, HasFree}
 use Rattle.ck_model.specs.Contents.{row_at}
 use Rattle.ck_model.specs.Sketches.{Sketch, has_free, IsSketchPathFrom}

@@ -7,7 +7,7 @@ use Rattle.std.proofs.lemmas.List.{length-set, get_or-set_same, get_or-set_other
 use Rattle.std.proofs.lemmas.Nat.{pow-add, pow_pos, div-add-mod', div_below, div-mul-add, mod-mul-add}
 use Rattle.std.proofs.lemmas.Option.{none-some}
 use Rattle.ck_model.specs.Arithmetic.{index_of, second_of}
-use Rattle.ck_model.specs.Map.{Name}
+use Rattle.ck_model.specs.Promise.{Name}
 use Rattle.ck_model.specs.Slots.{Slot, slot_at, IsFull}
 use Rattle.ck_model.specs.Numbered.{IsIn, AreDistinct, numbers, Holds, with_content}
 use Rattle.ck_model.specs.declared.contents.Content.{Content}

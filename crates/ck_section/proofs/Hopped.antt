@@ -6,7 +6,7 @@ use Rattle.std.specs.Bool.{OnTrue}
 use Rattle.std.proofs.lemmas.Bool.{false≢true}
 use Rattle.std.proofs.lemmas.Option.{none-some, some_pair_parts}
 use Rattle.ck_model.specs.Arithmetic.{partial_of, index_of, second_of, alternate_of}
-use Rattle.ck_model.specs.Map.{Name}
+use Rattle.ck_model.specs.Promise.{Name}
 use Rattle.ck_model.specs.Slots.{Slot, slot_at, IsFull, HasFree}
 use Rattle.ck_model.specs.Contents.{layout, IsBucketOf, IsSound}
 use Rattle.ck_model.specs.Sections.{IdentitySection}

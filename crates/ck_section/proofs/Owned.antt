@@ -1,7 +1,7 @@
 -- Stripes that are held, by their numbers.
 use Rattle.std.proofs.Common.{ℕ, zero, suc, ◌^◌, ◌<◌, ⊎_elim, inl, inr, List, [], ◌∷◌, sym, subst, arith}
 use Rattle.ck_model.specs.Contents.{IsBucketOf}
-use Rattle.ck_model.specs.Map.{Name}
+use Rattle.ck_model.specs.Promise.{Name}
 use Rattle.ck_model.specs.Numbered.{IsIn, numbers}
 use Rattle.ck_model.proofs.Buckets.{index_below, second_below}
 use Rattle.ck_stripe.specs.Stripe.{StripeState}

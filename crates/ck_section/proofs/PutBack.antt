@@ -7,7 +7,7 @@ use Rattle.ck_model.specs.declared.history.Act.TheVariants.{Upsert}
 use Rattle.ck_model.specs.declared.history.Call.TheVariants.{On}
 use Rattle.ck_model.specs.declared.history.Reply.{Reply}
 use Rattle.ck_model.specs.declared.history.Reply.TheVariants.{Done}
-use Rattle.ck_model.specs.Map.{Name, Answers}
+use Rattle.ck_model.specs.Promise.{Name, Answers}
 use Rattle.ck_model.specs.Contents.{Layout, layout, Lawful}
 use Rattle.ck_model.specs.Sections.{Section}
 use Rattle.ck_stripe.specs.Stripe.{StripeState}

@@ -7,7 +7,7 @@ use Rattle.std.specs.FinMap.{get, find}
 use Rattle.std.proofs.lemmas.List.{length-set, get_or-set_other}
 use Rattle.std.proofs.lemmas.Option.{none-some}
 use Rattle.ck_model.specs.declared.contents.Content.{Content}
-use Rattle.ck_model.specs.Map.{Name, name_cmp}
+use Rattle.ck_model.specs.Promise.{Name, name_cmp}
 use Rattle.ck_model.specs.Slots.{Slot, slot_at}
 use Rattle.ck_model.specs.Numbered.{IsIn, numbers, Holds}
 use Rattle.ck_model.specs.Contents.{Layout, layout, Stripes, Binds, IsBucketOf, pairs_in, row_at, bindings, IsSound, Lawful}

@@ -4,7 +4,7 @@ use Rattle.std.specs.FinMap.{get}
 use Rattle.std.proofs.lemmas.Option.{some_pair_parts}
 use Rattle.ck_model.specs.declared.history.Call.TheVariants.{ChangeTwo}
 use Rattle.ck_model.specs.declared.history.Reply.TheVariants.{DoneTwo, Absent}
-use Rattle.ck_model.specs.Map.{Name, AnswersTwo, Step}
+use Rattle.ck_model.specs.Promise.{Name, AnswersTwo, Step}
 use Rattle.ck_model.specs.Slots.{Slot}
 use Rattle.ck_model.specs.Contents.{Layout, layout, bindings, Lawful}
 use Rattle.ck_model.specs.Sections.{Section}

@@ -4,7 +4,7 @@ use Rattle.std.specs.Borrow.{Bor}
 use Rattle.std.specs.Fn.{Mut}
 use Rattle.std.specs.FinMap.{find, from_entries}
 use Rattle.std.proofs.lemmas.Option.{none-some}
-use Rattle.ck_model.specs.Map.{Name, name_cmp}
+use Rattle.ck_model.specs.Promise.{Name, name_cmp}
 use Rattle.ck_model.specs.Numbered.{AreDistinct, numbers, Holds}
 use Rattle.ck_model.specs.Slots.{slot_at}
 use Rattle.ck_model.specs.declared.contents.Content.{Content}

@@ -4,7 +4,7 @@ use mathlib.Core.Logic.{dite}
 use native.Mathlib.Decide.{ℕ_discrete}
 use Rattle.std.proofs.lemmas.Nat.{pow_pos}
 use Rattle.ck_model.specs.declared.history.Reason.TheVariants as Reasons
-use Rattle.ck_model.specs.Map.{Name}
+use Rattle.ck_model.specs.Promise.{Name}
 use Rattle.ck_model.specs.Contents.{layout, Stripes, Lawful, power_of}
 use Rattle.ck_model.specs.Doubling.{IsDoubledTo}
 use Rattle.ck_model.specs.Paths.{IsStuck, Grounds}

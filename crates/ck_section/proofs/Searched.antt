@@ -5,7 +5,7 @@ use Rattle.std.proofs.lemmas.List.{length-map}
 use Rattle.ck_model.specs.declared.path_hop.PathHop.{PathHop}
 use Rattle.ck_model.specs.Sketches.{Sketch, IsPathAlong, IsSketchPathFrom}
 use Rattle.ck_model.specs.Arithmetic.{alternate_of, index_of, second_of}
-use Rattle.ck_model.specs.Map.{Name}
+use Rattle.ck_model.specs.Promise.{Name}
 use Rattle.ck_model.specs.Slots.{Slot}
 use Rattle.ck_model.specs.Contents.{IsBucketOf}
 use Rattle.ck_path.specs.Route.{Route, first_bucket, IsSeen}

@@ -4,7 +4,7 @@ use Rattle.std.proofs.lemmas.Option.{some_pair_parts}
 use Rattle.ck_model.specs.declared.history.Act.{Act}
 use Rattle.ck_model.specs.declared.history.Reply.{Reply}
 use Rattle.ck_model.specs.declared.history.Reply.TheVariants.{Was, Done}
-use Rattle.ck_model.specs.Map.{Name, Answers}
+use Rattle.ck_model.specs.Promise.{Name, Answers}
 use Rattle.ck_model.specs.Slots.{Slot}
 use Rattle.ck_stripe.specs.Stripe.{StripeState, with_slot}
 use Rattle.ck_section.specs.declared.entry.Entry.{Entry}

@@ -9,7 +9,7 @@ use Rattle.std.proofs.lemmas.Nat.{pow_pos}
 use Rattle.std.proofs.lemmas.List.{length-set, length-map, get_or-map, get_or-set_same, get_or-set_other, take_all}
 use Rattle.ck_model.specs.declared.history.Call.TheVariants.{Len}
 use Rattle.ck_model.specs.declared.history.Reply.TheVariants.{Count}
-use Rattle.ck_model.specs.Map.{Name, named, ListsInOrder}
+use Rattle.ck_model.specs.Promise.{Name, named, ListsInOrder}
 use Rattle.ck_model.specs.Numbered.{IsIn, numbers}
 use Rattle.ck_model.specs.Contents.{layout, Stripes, Lawful, NamesApart, pairs_in, pairs_of, bindings, power_of}
 use Rattle.ck_model.specs.Sections.{HasAll, Section, IdentitySection}

@@ -1,6 +1,6 @@
 -- What a doubling of all stripes of a table leaves.
 use Rattle.std.specs.Prelude.{◌≡◌, ℕ, ◌+◌, ◌<◌, List, length}
-use Rattle.ck_model.specs.Map.{Name}
+use Rattle.ck_model.specs.Promise.{Name}
 use Rattle.ck_model.specs.Contents.{layout, Lawful}
 use Rattle.ck_model.specs.Sections.{IdentitySection}
 use Rattle.ck_model.specs.Doubling.{IsDoubledTo}

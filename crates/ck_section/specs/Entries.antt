@@ -1,6 +1,6 @@
 -- The entry of a name among held stripes.
 use Rattle.std.specs.Prelude.{◌≡◌, ℕ, List, Some}
-use Rattle.ck_model.specs.Map.{Name}
+use Rattle.ck_model.specs.Promise.{Name}
 use Rattle.ck_stripe.specs.Stripe.{StripeState}
 use Rattle.ck_section.specs.declared.entry.Entry.{Entry}
 use Rattle.ck_section.specs.declared.entry.Entry.TheVariants.{Occupied, Vacant}

@@ -1,7 +1,7 @@
 -- One hop of a displacement over held stripes.
 use Rattle.std.specs.Prelude.{◌≡◌, ℕ, ◌+◌, ◌-◌, ◌%◌, ◌^◌, ◌<◌, true, List, Some, None, length}
 use Rattle.ck_model.specs.Arithmetic.{partial_of, alternate_of}
-use Rattle.ck_model.specs.Map.{Name}
+use Rattle.ck_model.specs.Promise.{Name}
 use Rattle.ck_model.specs.Slots.{Slot, HasFree}
 use Rattle.ck_model.specs.Contents.{layout, Lawful}
 use Rattle.ck_model.specs.Sections.{IdentitySection}

@@ -1,7 +1,7 @@
 -- Where a name is looked for among held stripes, and where its entry is.
 use Rattle.std.specs.Prelude.{◌≡◌, ◌⊎◌, ℕ, ◌<◌, ◌≤◌, true, List, None, IsSome, length}
 use Rattle.ck_model.specs.Arithmetic.{partial_of, index_of, second_of}
-use Rattle.ck_model.specs.Map.{Name}
+use Rattle.ck_model.specs.Promise.{Name}
 use Rattle.ck_model.specs.Slots.{Slot, slot_at, IsFull}
 use Rattle.ck_model.specs.Contents.{layout, IsBucketOf}
 use Rattle.ck_model.specs.Sections.{Owns}

@@ -4,7 +4,7 @@ use Rattle.std.specs.Borrow.{Bor}
 use Rattle.std.specs.Fn.{Mut}
 use Rattle.std.specs.FinMap.{from_entries}
 use Rattle.std.specs.Map.Calls.{RetainsPairs}
-use Rattle.ck_model.specs.Map.{Name, Map, named}
+use Rattle.ck_model.specs.Promise.{Name, Map, named}
 use Rattle.ck_model.specs.Contents.{Layout, Lawful, NamesApart, bindings}
 use Rattle.ck_model.specs.Sections.{Renewed}
 use Rattle.ck_bucket.specs.Retaining.{CalledAtPair}

@@ -1,7 +1,7 @@
 -- Stripes that a call holds, as a list.
 use Rattle.std.specs.Prelude.{◌≡◌, ℕ, true, false, ◌<◌, List, [], length, map, slice_index_or, slice_set}
 use Rattle.ck_model.specs.Contents.{Stripes}
-use Rattle.ck_model.specs.Map.{Name}
+use Rattle.ck_model.specs.Promise.{Name}
 use Rattle.ck_model.specs.Slots.{Slot}
 use Rattle.ck_model.specs.declared.contents.Content.{Content}
 use Rattle.ck_stripe.specs.Doubling.{doubled_content}

@@ -28,7 +28,7 @@ pub struct Iter<'a, K: TableKey, V> {
 
 impl<'a, K: TableKey, V> Model for Iter<'a, K, V> {
     ghost use Rattle.std.specs.Prelude.{List, ◌++◌};
-    ghost use Rattle.ck_model.specs.Map.{Name};
+    ghost use Rattle.ck_model.specs.Promise.{Name};
     ghost use Rattle.ck_model.specs.Contents.{pairs_of};
     ghost use Rattle.ck_section.specs.Stripes.{contents_of};
     ghost use Rattle.ck_section.specs.Whole.{AreSettled};

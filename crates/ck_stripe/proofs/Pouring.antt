@@ -3,7 +3,7 @@ use Rattle.std.proofs.Common.{◌≡◌, ℕ, ◌+◌, ◌<◌, ◌≤◌, List,
 use Rattle.std.specs.Prelude.{flat_map}
 use Rattle.std.proofs.lemmas.List.{length-map, length-take-le, take_more, flat_map_more}
 use Rattle.std.proofs.lemmas.List.Folds.{length-flat_map-take}
-use Rattle.ck_model.specs.Map.{Name, named}
+use Rattle.ck_model.specs.Promise.{Name, named}
 use Rattle.ck_model.specs.Slots.{Slot, taken_in}
 
 module _ {K V : Type 0} where

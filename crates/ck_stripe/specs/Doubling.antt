@@ -1,7 +1,7 @@
 -- What a doubling of the table makes of the content of stripe t, one of 2^s. Row r of it is the bucket r * 2^s + t.
 use Rattle.std.specs.Prelude.{◌≡◌, ℕ, ◌+◌, ◌*◌, ◌/◌, ◌%◌, ◌^◌, ◌<◌, List, ◌++◌, Some, map}
 use Rattle.std.specs.List.{enumerate_from}
-use Rattle.ck_model.specs.Map.{Name}
+use Rattle.ck_model.specs.Promise.{Name}
 use Rattle.ck_model.specs.Slots.{Slot, slot_at}
 use Rattle.ck_model.specs.declared.contents.Content.{Content}
 use Rattle.ck_model.specs.Contents.{row_at, IsBucketOf}

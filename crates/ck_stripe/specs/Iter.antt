@@ -1,6 +1,6 @@
 -- What an iterator over a stripe has left.
 use Rattle.std.specs.Prelude.{◌≡◌, ℕ, ◌*◌, ◌^◌, ◌≤◌, List, length, drop, flat_map, All}
-use Rattle.ck_model.specs.Map.{Name}
+use Rattle.ck_model.specs.Promise.{Name}
 use Rattle.ck_model.specs.Slots.{Slot, taken_in}
 
 module _ {V : Type 0} where

@@ -2,7 +2,7 @@
 use Rattle.std.specs.Prelude.{◌≡◌, ℕ, ◌<◌}
 use Rattle.std.specs.List.Sorted.{IsPermutation}
 use Rattle.std.specs.FinMap.{find}
-use Rattle.ck_model.specs.Map.{Name, name_cmp}
+use Rattle.ck_model.specs.Promise.{Name, name_cmp}
 use Rattle.ck_model.specs.declared.contents.Content.{Content}
 use Rattle.ck_model.specs.Contents.{Layout, pairs_in, IsSound}
 use Rattle.ck_stripe.specs.Doubling.{doubled_content, SendsEach}

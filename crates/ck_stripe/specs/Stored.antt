@@ -1,6 +1,6 @@
 -- What is stored of a stripe, and what contracts see of it.
 use Rattle.std.specs.Prelude.{◌≡◌, ℕ, false, if◌then◌else◌, ◌-◌, ◌^◌, ◌<◌, ◌≤◌, List, length, All}
-use Rattle.ck_model.specs.Map.{Name}
+use Rattle.ck_model.specs.Promise.{Name}
 use Rattle.ck_model.specs.Slots.{Slot}
 use Rattle.ck_stripe.specs.Doubling.{split_rows}
 use Rattle.ck_stripe.specs.Stripe.{StripeState, content_of}

@@ -1,7 +1,7 @@
 //! An iterator over the pairs of one stripe.
 ghost use Rattle.std.specs.Prelude.{◌≡◌, ◌*◌, flat_map};
 ghost use Rattle.std.specs.Iterator.{YieldsFirstBy, item_count};
-ghost use Rattle.ck_model.specs.Map.{named};
+ghost use Rattle.ck_model.specs.Promise.{named};
 ghost use Rattle.ck_model.specs.Slots.{taken_in};
 ghost use Rattle.ck_stripe.specs.Iter.{HasSlots};
 
@@ -23,7 +23,7 @@ pub struct Iter<'a, K: TableKey, V> {
 
 impl<'a, K: TableKey, V> Model for Iter<'a, K, V> {
     ghost use Rattle.std.specs.Prelude.{List};
-    ghost use Rattle.ck_model.specs.Map.{Name};
+    ghost use Rattle.ck_model.specs.Promise.{Name};
     ghost use Rattle.ck_stripe.specs.Iter.{pairs_from, HasSlots};
 
     ghost Value = { List (Name × V) };

@@ -6,7 +6,7 @@
 ghost use Rattle.std.specs.Prelude.{◌≡◌, IfSome, IfOk};
 ghost use Rattle.ck_words.specs.Closing.{IsCaller, AreAllPasses};
 
-use crate::fixtures::{NumPass, NumTable, TWO_STRIPES};
+use crate::fixtures::{NumCaller, NumLocked, NumPass, NumTable, TWO_STRIPES};
 use ck_hoard::{End, Ends, ends_of, hoard};
 use ck_key::{KeyFault, NumKey, TextKey};
 use ck_words::Words;
@@ -235,5 +235,71 @@ fn closing_again(rt: HostRuntime) -> Result<(), Fail> {
         return Err(Fail::from("refused with ample memory"));
     };
     assert!(rt; pairs.as_slice() == EIGHT_PAIRS.as_slice());
+    Ok(())
+}
+
+/// A block that is free while calls are made: what takes memory of it and keeps it shows.
+const SPARE: usize = 4000;
+
+/// Makes the calls that find or change what is bound to a key. What was bound is bound again.
+fn change_pairs(rt: &impl Abort, caller: &mut NumCaller<'_>) {
+    let key = NumKey(3);
+    assert!(rt; caller.find(&key) == Ok(Some(30)));
+    assert!(rt; caller.find_fn(&key, |value: &u64| *value / 2) == Ok(Some(15)));
+    assert!(rt; caller.contains(&NumKey(5)) == Ok(false));
+    assert!(rt; caller.update(&key, 31) == Ok(Some(30)));
+    assert!(rt; caller.update_fn(&key, |value: u64| value / 31) == Ok(true));
+    assert!(rt; caller.replace_if(&key, |_value: &u64| Some(30)) == Ok(Some(true)));
+    assert!(rt; caller.erase_fn(&key, |value: &u64| *value == 30) == Ok(Some(true)));
+    assert!(rt; matches!(caller.insert(NumKey(3), 30), Ok(true)));
+    assert!(rt; matches!(caller.upsert(NumKey(3), |value: u64| value, 0), Ok(false)));
+    assert!(rt; caller.erase(&key) == Ok(Some(30)));
+    assert!(rt; matches!(caller.insert_or_assign(NumKey(3), 30), Ok(None)));
+}
+
+/// Makes the calls on two keys and on all stripes, as far as they need no memory.
+fn ask_all(rt: &impl Abort, caller: &mut NumCaller<'_>) {
+    let swap = |less: u64, more: u64| (less, more);
+    assert!(rt; caller.update_two(&NumKey(3), &NumKey(7), swap) == Ok(true));
+    assert!(rt; caller.len() == Ok(8));
+    assert!(rt; caller.power() == Ok(2));
+    assert!(rt; caller.rehash(2) == Ok(false));
+    assert!(rt; caller.reserve(16) == Ok(false));
+}
+
+/// Makes those of a locked table.
+fn ask_locked(rt: &impl Abort, locked: &mut NumLocked<'_>) {
+    assert!(rt; locked.len() == 8);
+    assert!(rt; locked.find(&NumKey(3)).copied() == Some(30));
+    assert!(rt; locked.erase(&NumKey(3)) == Some(30));
+    assert!(rt; matches!(locked.insert(NumKey(3), 30), Ok(true)));
+    locked.retain(|_key, _value| true);
+    assert!(rt; locked.iter().count() == 8);
+    assert!(rt; locked.rehash(2) == Ok(false));
+}
+
+/// Makes all calls that take no memory, where there is none, and again with a spare block, of which
+/// none of them keeps anything.
+#[test]
+fn calls_take_no_memory(rt: HostRuntime) -> Result<(), Fail> {
+    let Some((table, mut passes)) = table_of(rt.alloc()) else {
+        return Err(Fail::from("no memory at the start"));
+    };
+    let mut caller = table.caller(passes.remove(0));
+    let spare = Vec::<u8>::with_capacity(rt.alloc(), SPARE)?;
+    let hoard = hoard(rt.alloc())?;
+    change_pairs(&rt, &mut caller);
+    ask_all(&rt, &mut caller);
+    drop(spare);
+    change_pairs(&rt, &mut caller);
+    ask_all(&rt, &mut caller);
+    let Ok(mut locked) = caller.lock() else {
+        return Err(Fail::from("an only caller was busy"));
+    };
+    ask_locked(&rt, &mut locked);
+    locked.unlock();
+    let again = Vec::<u8>::with_capacity(rt.alloc(), SPARE);
+    drop(hoard);
+    assert!(rt; again.is_ok());
     Ok(())
 }

@@ -6,9 +6,8 @@ use Rattle.std.proofs.lemmas.List.Elements.{All-push, All-pop, AllZip-push}
 use Rattle.std.proofs.Math.Nat.{one-le-pow}
 use Rattle.ck_model.specs.declared.contents.Content.{Content}
 use Rattle.ck_model.specs.declared.history.Entry.{Entry}
-use Rattle.ck_model.specs.Map.{Name}
+use Rattle.ck_model.specs.Promise.{Name, After, StartsWith}
 use Rattle.ck_model.specs.Numbered.{IsIn, numbers, Holds}
-use Rattle.ck_model.specs.History.{After, StartsWith}
 use Rattle.ck_model.specs.Contents.{Layout, layout_of, Stripes, Lawful, pairs_of, bindings, power_of, NamesApart}
 use Rattle.ck_model.proofs.Doubling.{pairs_apart}
 use Rattle.ck_section.specs.Stripes.{contents_of}

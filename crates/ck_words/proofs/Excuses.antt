@@ -7,7 +7,7 @@ use Rattle.ck_model.specs.declared.history.Reason.{Reason}
 use Rattle.ck_model.specs.declared.history.Reason.TheVariants.{NoRoom, Full, LoadTooLow, Memory}
 use Rattle.ck_model.specs.declared.contents.Content.{Content}
 use Rattle.ck_model.specs.Arithmetic.{alternate_of, partial_of}
-use Rattle.ck_model.specs.Map.{Name, Map}
+use Rattle.ck_model.specs.Promise.{Name, Map}
 use Rattle.ck_model.specs.Slots.{Slot, slot_at, IsFull, HasFree}
 use Rattle.ck_model.specs.Numbered.{IsIn, numbers, Holds}
 use Rattle.ck_model.specs.Contents.{Layout, Stripes, IsBucketOf, Lawful, pairs_in, pairs_of, power_of, row_at, rows_of, bucket_in}

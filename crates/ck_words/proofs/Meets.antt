@@ -1,6 +1,6 @@
 -- What a meeting and a joined pass leave, from what their steps tell.
 use Rattle.std.proofs.Common.{◌≡◌, ℕ, sym, ap, refl, subst}
-use Rattle.ck_model.specs.Map.{Name}
+use Rattle.ck_model.specs.Promise.{Name}
 use Rattle.ck_model.specs.Contents.{layout_of}
 use Rattle.ck_core.specs.declared.view.View.{View}
 use Rattle.ck_core.specs.Laws.{Shows}

@@ -1,7 +1,7 @@
 -- A stripe of a set was found held, and is tried again.
 use Rattle.std.proofs.Common.{◌≡◌, ℕ, ◌+◌, ◌-◌, ◌<◌, ◌≤◌, List, take, length, get_or, sym, ap, ◌∙◌, subst}
 use Rattle.std.specs.List.Sorted.{IsStrictlyIncreasing}
-use Rattle.ck_model.specs.Map.{Name}
+use Rattle.ck_model.specs.Promise.{Name}
 use Rattle.ck_model.specs.Numbered.{IsIn, numbers}
 use Rattle.ck_core.specs.Steps.{IsAbove}
 use Rattle.ck_words.specs.Words.{WordsState}

@@ -5,7 +5,7 @@ use Rattle.ck_model.specs.declared.history.Call.{Call}
 use Rattle.ck_model.specs.declared.history.Call.TheVariants.{On, ChangeTwo, Len, Session}
 use Rattle.ck_model.specs.declared.history.Reply.{Reply}
 use Rattle.ck_model.specs.declared.settings.Settings.{Settings}
-use Rattle.ck_model.specs.Map.{Name, Step}
+use Rattle.ck_model.specs.Promise.{Name, Step}
 use Rattle.ck_model.specs.Numbered.{IsIn, numbers, Holds}
 use Rattle.ck_model.specs.Contents.{Layout, layout_of, Stripes, bindings, Lawful}
 use Rattle.ck_model.specs.Sections.{HasAll, OwnsCall, Renewed, Section, IdentitySection}

@@ -10,15 +10,14 @@ use Rattle.ck_model.specs.declared.history.Reply.{Reply}
 use Rattle.ck_model.specs.declared.history.Reply.TheVariants.{Was, New, Old, Done, DoneTwo, Absent, Count, Closed}
 use Rattle.ck_model.specs.declared.history.Entry.{Entry}
 use Rattle.ck_model.specs.declared.settings.Settings.{Settings}
-use Rattle.ck_model.specs.Map.{Name, Map, Answers, AnswersTwo, Step}
-use Rattle.ck_model.specs.History.{IsLegal}
+use Rattle.ck_model.specs.Promise.{Name, Map, Answers, AnswersTwo, Step, IsLegal, Answered, Follows}
 use Rattle.ck_model.specs.Contents.{layout_of, Stripes, Lawful, bindings}
 use Rattle.ck_model.specs.Sections.{HasAll}
 use Rattle.ck_section.specs.Stripes.{contents_of}
 use Rattle.ck_core.specs.declared.view.View.{View}
 use Rattle.ck_core.specs.Steps.{deciding}
 use Rattle.ck_core.specs.Steps.Label.{Decide}
-use Rattle.ck_core.specs.Laws.{Answered, Follows}
+use Rattle.ck_core.specs.State.{client_of}
 use Rattle.ck_core.proofs.Shown.{answered}
 use Rattle.ck_words.specs.Steps.{Steps}
 use Rattle.ck_words.specs.Words.{WordsState}
@@ -106,7 +105,7 @@ module _ {V : Type 0} where
 
     -- an only caller has seen all before, and so has one that held all stripes
     follows : (m : ℕ) → p.view.by ≡ Some m → (t : ℕ) (ks : Stripes V) (q1 q : PassState V) → Steps hash set (Decide t ks (entry_for call p)) p.view q1.view → q.view.seen ≡ q1.view.seen → (r : Reply V) → HasDone hash set call r p
-        → (set.callers ≡ 1) ⊎ HasAll (layout_of hash set) p.view.held → Follows p.view (record { by = m; call = call; reply = r }) q.view
+        → (set.callers ≡ 1) ⊎ HasAll (layout_of hash set) p.view.held → Follows (client_of p.view) (record { by = m; call = call; reply = r }) (client_of q.view)
     follows m by t ks q1 q d seen r done which =
         let e : Entry V = entry_for call p in
         let before = shows_before hash set (Decide t ks e) p.view q1.view d in
@@ -128,18 +127,20 @@ module _ {V : Type 0} where
         let number : e.by ≡ m = ap (λ (o : Option ℕ). unwrap_or o 0) by in
         let own : Entry V = record { by = m; call = call; reply = r } in
         let same : e ≡ own = (λ j. record { by = number j; call = call; reply = sym (reply_done r done l) j }) in
-        let told : Answered p.view e q1.view = answered (layout_of hash set) set.callers d.log p.view q1.view e (its_caller m by) before after (ap (λ (v : View V). v.seen) row) (ap (λ (v : View V). v.mine) row) in
+        let told : Answered (client_of p.view) e (client_of q1.view) = answered (layout_of hash set) set.callers d.log p.view q1.view e (its_caller m by) before after (ap (λ (v : View V). v.seen) row) (ap (λ (v : View V). v.mine) row) in
         record {
-          by = m;
-          caller = by;
-          answered = subst (λ x. Answered p.view x q.view) same (record {
-            others = told.others;
-            seen = seen ∙ told.seen;
-            by_others = told.by_others;
-            legal = subst (λ log. IsLegal log) (sym seen) told.legal;
-            mine = s.mine ∙ told.mine;
-          });
-          alone = λ one. follows m by t ks q1 q d seen r done (inl (ap (λ (x : Settings). x.callers) (sym of_table) ∙ one));
+          replied = record {
+            by = m;
+            number = by;
+            answered = subst (λ x. Answered (client_of p.view) x (client_of q.view)) same (record {
+              others = told.others;
+              seen = seen ∙ told.seen;
+              by_others = told.by_others;
+              legal = subst (λ log. IsLegal log) (sym seen) told.legal;
+              mine = s.mine ∙ told.mine;
+            });
+            alone = λ one. follows m by t ks q1 q d seen r done (inl (ap (λ (x : Settings). x.callers) (sym of_table) ∙ one));
+          };
           stays = record {
             settings = s.settings ∙ ap (λ (v : View V). v.settings) row;
             by = s.by ∙ ap (λ (v : View V). v.by) row;

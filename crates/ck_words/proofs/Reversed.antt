@@ -6,7 +6,7 @@ use Rattle.std.specs.FinMap.{get}
 use Rattle.ck_model.specs.declared.history.Call.{Call}
 use Rattle.ck_model.specs.declared.history.Call.TheVariants.{On, ChangeTwo, Len, Session}
 use Rattle.ck_model.specs.declared.history.Reply.{Reply}
-use Rattle.ck_model.specs.Map.{Step}
+use Rattle.ck_model.specs.Promise.{Step}
 use Rattle.ck_model.specs.Numbered.{IsIn, AreDistinct, numbers, Holds}
 use Rattle.ck_model.specs.Contents.{Layout, Stripes, bindings, Lawful}
 use Rattle.ck_model.specs.Sections.{OwnsCall, Renewed, Section, IdentitySection}

@@ -4,11 +4,11 @@ use Rattle.ck_model.specs.declared.history.Call.{Call}
 use Rattle.ck_model.specs.declared.history.Reply.{Reply}
 use Rattle.ck_model.specs.declared.history.Reason.{Reason}
 use Rattle.ck_model.specs.declared.settings.Settings.{Settings}
-use Rattle.ck_model.specs.Map.{Name}
+use Rattle.ck_model.specs.Promise.{Name, Follows, Replied}
 use Rattle.ck_model.specs.Contents.{layout_of, Lawful}
 use Rattle.ck_model.specs.Sections.{HasAll, Section}
 use Rattle.ck_section.specs.Stripes.{contents_of}
-use Rattle.ck_core.specs.Laws.{Answered, Follows}
+use Rattle.ck_core.specs.State.{client_of}
 use Rattle.ck_words.specs.Words.{WordsState}
 use Rattle.ck_words.specs.Passes.{PassState, IsPassOf, IsIdle}
 use Rattle.ck_words.specs.Retries.{StaysBut}
@@ -20,14 +20,11 @@ module _ {V : Type 0} where
 
   -- the entry of this call stands right behind what the pass had seen
   abbrev pub FollowsSeen : Call V → Reply V → PassState V → PassState V → Type 0
-  FollowsSeen call reply p q = (by : ℕ) × (p.view.by ≡ Some by) × Follows p.view (record { by = by; call = call; reply = reply }) q.view
+  FollowsSeen call reply p q = (by : ℕ) × (p.view.by ≡ Some by) × Follows (client_of p.view) (record { by = by; call = call; reply = reply }) (client_of q.view)
 
-  -- The pass has one entry more, this call with this reply, and has seen the history up to it. The only caller has seen nothing else since. It has said of these names that they found no room; the rest is as it was.
+  -- The call was answered by this reply. The pass has said of these names that they found no room; the rest is as it was.
   pub record IsAnsweredBut (more : List (Name × Reason)) (call : Call V) (reply : Reply V) (p q : PassState V) : Type 0 where
-    pub by : ℕ
-    pub caller : p.view.by ≡ Some by
-    pub answered : Answered p.view (record { by = by; call = call; reply = reply }) q.view
-    pub alone : p.view.settings.callers ≡ 1 → Follows p.view (record { by = by; call = call; reply = reply }) q.view
+    pub replied : Replied call reply (client_of p.view) (client_of q.view)
     pub stays : StaysBut more (record p.view { seen = q.view.seen; mine = q.view.mine }) q.view
 
   -- and it has said so of none

@@ -5,9 +5,8 @@ use Rattle.std.specs.Option.{unwrap_or}
 use Rattle.atomic_table.specs.Seated.{TableId}
 use Rattle.ck_model.specs.declared.history.Entry.{Entry}
 use Rattle.ck_model.specs.declared.settings.Settings.{Settings}
-use Rattle.ck_model.specs.Map.{Name, Map}
+use Rattle.ck_model.specs.Promise.{Name, Map, After, StartsWith, IsInterleaving}
 use Rattle.ck_model.specs.Numbered.{IsIn, numbers}
-use Rattle.ck_model.specs.History.{After, StartsWith, IsInterleaving}
 use Rattle.ck_model.specs.Contents.{layout_of, Stripes, Lawful, bindings, power_of}
 use Rattle.ck_model.specs.Sections.{HasAll}
 use Rattle.ck_section.specs.Stripes.{stripe_at}

@@ -4,7 +4,7 @@ use Rattle.std.specs.FinMap.{entries}
 use Rattle.ck_model.specs.declared.history.Act.TheVariants as act
 use Rattle.ck_model.specs.declared.history.Call as calls
 use Rattle.ck_model.specs.declared.history.Call.TheVariants.{On, Session}
-use Rattle.ck_model.specs.Map.{Name}
+use Rattle.ck_model.specs.Promise.{Name}
 use Rattle.ck_model.specs.Contents.{bindings}
 use Rattle.ck_section.specs.Stripes.{contents_of}
 use Rattle.ck_words.specs.declared.commit.Commit.{Commit}

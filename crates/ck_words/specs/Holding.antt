@@ -1,6 +1,6 @@
 -- What it leaves to take several stripes, and to give them back.
 use Rattle.std.specs.Prelude.{◌≡◌, ℕ, ◌+◌, ◌-◌, ◌<◌, ◌≤◌, max, List, length, slice_index, take}
-use Rattle.ck_model.specs.Map.{Name}
+use Rattle.ck_model.specs.Promise.{Name}
 use Rattle.ck_model.specs.Numbered.{Holds, IsIn}
 use Rattle.ck_model.specs.declared.contents.Content.{Content}
 use Rattle.ck_stripe.specs.Stripe.{StripeState}

@@ -1,6 +1,6 @@
 -- What a meeting leaves.
 use Rattle.std.specs.Prelude.{◌≡◌, ◌≤◌}
-use Rattle.ck_model.specs.History.{StartsWith}
+use Rattle.ck_model.specs.Promise.{StartsWith}
 use Rattle.ck_words.specs.Passes.{PassState}
 
 -- b has met a

@@ -2,9 +2,8 @@
 use Rattle.std.specs.Prelude.{◌≡◌, ◌≢◌, ℕ, ◌<◌, ◌≤◌, List, [], ◌++◌, Some, replicate}
 use Rattle.ck_model.specs.declared.history.Reason.{Reason}
 use Rattle.ck_model.specs.declared.settings.Settings.{Settings}
-use Rattle.ck_model.specs.Map.{Name}
+use Rattle.ck_model.specs.Promise.{Name, StartsWith, subhistory}
 use Rattle.ck_model.specs.Numbered.{IsIn}
-use Rattle.ck_model.specs.History.{StartsWith, subhistory}
 use Rattle.ck_core.specs.declared.view.View.{View}
 use Rattle.ck_words.specs.Passes.{PassState, TakesStripe, IsIdle}
 

@@ -7,7 +7,7 @@ use Rattle.atomic_table.specs.Table.{State, Me}
 use Rattle.ck_model.specs.declared.history.Entry.{Entry}
 use Rattle.ck_model.specs.declared.settings.Settings.{Settings}
 use Rattle.ck_model.specs.declared.contents.Content.{Content}
-use Rattle.ck_model.specs.Map.{Name}
+use Rattle.ck_model.specs.Promise.{Name}
 use Rattle.ck_model.specs.Counting.{counting}
 use Rattle.ck_model.specs.Contents.{Layout, layout_of}
 use Rattle.ck_stripe.specs.Stripe.{StripeState}

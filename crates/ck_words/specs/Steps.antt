@@ -4,7 +4,7 @@ use mathlib.Core.Option.{some}
 use lib.ListN.{get_elem?}
 use Rattle.ck_model.specs.declared.history.Entry.{Entry}
 use Rattle.ck_model.specs.declared.settings.Settings.{Settings}
-use Rattle.ck_model.specs.Map.{Name}
+use Rattle.ck_model.specs.Promise.{Name}
 use Rattle.ck_model.specs.Contents.{layout_of}
 use Rattle.ck_core.specs.declared.view.View.{View}
 use Rattle.ck_core.specs.State.{Configuration, HistoryInvariant}

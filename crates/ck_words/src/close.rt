@@ -1,6 +1,6 @@
 //! The end of a table.
 ghost use Rattle.std.specs.Prelude.{◌≡◌, ℕ, ◌+◌, ◌^◌, ◌≤◌, [], true, All, IfNone, IfSome, IfOk, IfErr, length, map, vec_capacity};
-ghost use Rattle.ck_model.specs.Map.{named};
+ghost use Rattle.ck_model.specs.Promise.{named};
 ghost use Rattle.std.specs.FinMap.{from_entries};
 ghost use Rattle.ck_model.specs.Contents.{NamesApart, pairs_of};
 ghost use Rattle.ck_section.specs.Stripes.{stripe_at, contents_of};

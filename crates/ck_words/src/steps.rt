@@ -31,7 +31,7 @@ impl<K: TableKey, V> Play<Option<Stripe<K, V>>, View<V>> for Take {
 pub trait Refuses {
     ghost use Rattle.std.specs.Prelude.{Option};
     ghost use Rattle.ck_model.specs.declared.history.Reason.{Reason};
-    ghost use Rattle.ck_model.specs.Map.{Name};
+    ghost use Rattle.ck_model.specs.Promise.{Name};
 
     ghost refused: { Option (Name × Reason) };
 }

@@ -1,7 +1,7 @@
 -- What a caller leaves of its pass while it displaces entries.
 use Rattle.std.proofs.Common.{◌≡◌, ℕ, List, [], ◌++◌, replicate, reverse, append_assoc, refl, sym, ap, ◌∙◌, subst}
 use Rattle.ck_model.specs.declared.history.Reason.{Reason}
-use Rattle.ck_model.specs.Map.{Name}
+use Rattle.ck_model.specs.Promise.{Name}
 use Rattle.ck_model.specs.Contents.{layout, Stripes, Lawful}
 use Rattle.ck_model.specs.Sections.{IdentitySection}
 use Rattle.ck_section.specs.Stripes.{contents_of}

@@ -3,7 +3,7 @@ use Rattle.std.proofs.Common.{◌≡◌, List, [], ◌∷◌, length, reverse, r
 use Rattle.std.specs.FinMap.{empty, entries, len-entries, len-empty}
 use Rattle.ck_model.specs.declared.history.Call.TheVariants.{Session}
 use Rattle.ck_model.specs.declared.history.Reply.TheVariants.{Closed}
-use Rattle.ck_model.specs.Map.{Name, Map, name_cmp}
+use Rattle.ck_model.specs.Promise.{Name, Map, name_cmp}
 use Rattle.ck_model.specs.Contents.{bindings}
 use Rattle.ck_core.specs.declared.view.View.{View}
 use Rattle.ck_words.specs.Words.{WordsState}

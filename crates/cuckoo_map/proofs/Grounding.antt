@@ -4,9 +4,8 @@ use Rattle.std.specs.Prelude.{max}
 use Rattle.std.proofs.Math.Nat.{one-le-pow}
 use Rattle.ck_model.specs.declared.contents.Content.{Content}
 use Rattle.ck_model.specs.declared.history.Reason.{Reason}
-use Rattle.ck_model.specs.Map.{Name}
+use Rattle.ck_model.specs.Promise.{Name, After}
 use Rattle.ck_model.specs.Numbered.{IsIn, numbers, Holds}
-use Rattle.ck_model.specs.History.{After}
 use Rattle.ck_model.specs.Contents.{Layout, layout_of, Stripes, Lawful, bindings, power_of}
 use Rattle.ck_model.specs.Paths.{Grounds}
 use Rattle.ck_model.specs.Sections.{IdentitySection}
@@ -23,7 +22,7 @@ use Rattle.ck_words.specs.Renewing.{HasRenewed}
 use Rattle.ck_words.specs.Closing.{IsWhole}
 use Rattle.ck_words.proofs.Reversed.{of_reverse}
 use Rattle.ck_words.proofs.WholeTables.{lawful_held}
-use Rattle.cuckoo_map.specs.Insertions.{GivesGrounds}
+use Rattle.cuckoo_map.specs.Refusals.{GivesGrounds}
 use Rattle.cuckoo_map.proofs.Sizes.{has_all}
 use Rattle.cuckoo_map.proofs.Sessions.{not_below, after_all}
 

@@ -4,7 +4,7 @@ use Rattle.std.proofs.lemmas.List.Elements.{All-nil}
 use Rattle.ck_model.specs.declared.history.Reason.{Reason}
 use Rattle.ck_model.specs.declared.history.Reason.TheVariants.{NoRoom}
 use Rattle.ck_model.specs.declared.settings.Settings.{Settings}
-use Rattle.ck_model.specs.Map.{Name}
+use Rattle.ck_model.specs.Promise.{Name}
 use Rattle.ck_model.specs.Contents.{layout_of, IsStripeOf, Lawful}
 use Rattle.ck_model.specs.Sections.{Owns}
 use Rattle.ck_model.specs.Paths.{HasNoRoom}
@@ -20,8 +20,8 @@ use Rattle.ck_words.specs.Retries.{Stays, StaysBut}
 use Rattle.ck_words.proofs.Staying.{stays_then}
 use Rattle.cuckoo_map.specs.declared.refusal.Why.TheVariants.{Busy}
 use Rattle.cuckoo_map.specs.Holding.{HoldsKeyBut}
-use Rattle.cuckoo_map.specs.Refusals.{FindsOwn, IsBusyAmong, IsBusyAt}
-use Rattle.cuckoo_map.specs.Insertions.{HasFoundNoRoom, IsRefused, FindsOwnUnlessFull}
+use Rattle.cuckoo_map.specs.Refusals.{FindsOwn, FindsOwnUnlessFull, IsBusyAmong, IsBusyAt, IsRefused}
+use Rattle.cuckoo_map.specs.Insertions.{HasFoundNoRoom}
 
 module _ {V : Type 0} where
   -- where the name has no room among the stripes that its pass holds, the pass may say so

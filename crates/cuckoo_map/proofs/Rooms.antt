@@ -4,7 +4,7 @@ use Rattle.std.proofs.lemmas.List.Elements.{All-nil, All-cons}
 use Rattle.ck_model.specs.declared.history.Reason.{Reason}
 use Rattle.ck_model.specs.declared.history.Reason.TheVariants.{NoRoom}
 use Rattle.ck_model.specs.declared.settings.Settings.{Settings}
-use Rattle.ck_model.specs.Map.{Name}
+use Rattle.ck_model.specs.Promise.{Name}
 use Rattle.ck_model.specs.Contents.{Layout, layout, layout_of, Stripes, Lawful}
 use Rattle.ck_model.specs.Paths.{Grounds, HasNoRoom}
 use Rattle.ck_stripe.specs.Stripe.{StripeState}
@@ -24,8 +24,8 @@ use Rattle.ck_words.proofs.Staying.{stays_then}
 use Rattle.ck_words.proofs.WholeTables.{lawful_held}
 use Rattle.ck_words.proofs.Renewals.{renewed_none, renewed_then}
 use Rattle.cuckoo_map.specs.declared.key_room.Room.{Room}
-use Rattle.cuckoo_map.specs.Refusals.{why_of}
-use Rattle.cuckoo_map.specs.Insertions.{reason_of, HoldsRoom, HasRoom, GivesGrounds, ShowsWhy, IsRefused}
+use Rattle.cuckoo_map.specs.Refusals.{reason_of, why_of, GivesGrounds, ShowsWhy, IsRefused}
+use Rattle.cuckoo_map.specs.Insertions.{HoldsRoom, HasRoom}
 
 -- the reason of a refusal for a lack is that of the lack
 reason_same : (l : lack.Lack) → reason_of (why_of l) ≡ reason_of_lack l

@@ -5,7 +5,7 @@ use Rattle.std.proofs.lemmas.List.Elements.{All-nil, All-cons, All-append, Conta
 use Rattle.ck_model.specs.declared.history.Reason.{Reason}
 use Rattle.ck_model.specs.declared.history.Reason.TheVariants as reason
 use Rattle.ck_model.specs.declared.history.Reason.TheVariants.{NoRoom}
-use Rattle.ck_model.specs.Map.{Name}
+use Rattle.ck_model.specs.Promise.{Name}
 use Rattle.ck_words.specs.Words.{WordsState}
 use Rattle.ck_words.specs.Passes.{PassState, IsPassOf, IsIdle}
 use Rattle.ck_words.specs.Retries.{StaysBut}
@@ -14,8 +14,8 @@ use Rattle.ck_words.proofs.Staying.{stays_then}
 use Rattle.cuckoo_map.specs.declared.key_room.Room.{Room}
 use Rattle.cuckoo_map.specs.declared.refusal.Why.{Why}
 use Rattle.cuckoo_map.specs.declared.refusal.Why.TheVariants.{Busy, Memory, Full, LoadTooLow}
-use Rattle.cuckoo_map.specs.Refusals.{FindsOwn}
-use Rattle.cuckoo_map.specs.Insertions.{reason_of, HasFoundNoRoom, HoldsRoom, HasRoom, ShowsWhy, IsRefused, FindsOwnUnlessFull}
+use Rattle.cuckoo_map.specs.Refusals.{reason_of, FindsOwn, FindsOwnUnlessFull, ShowsWhy, IsRefused}
+use Rattle.cuckoo_map.specs.Insertions.{HasFoundNoRoom, HoldsRoom, HasRoom}
 use Rattle.cuckoo_map.specs.Displacing.{FindsAny, IsBackBut, IsBack}
 use Rattle.cuckoo_map.proofs.Displacing.{any_on, back_same, back_then, found_before}
 

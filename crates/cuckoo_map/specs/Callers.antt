@@ -8,7 +8,7 @@ use Rattle.ck_model.specs.declared.history.Call.{Call}
 use Rattle.ck_model.specs.declared.history.Call.TheVariants.{On, ChangeTwo, Len, Session}
 use Rattle.ck_model.specs.declared.history.Reply.{Reply}
 use Rattle.ck_model.specs.declared.history.Reply.TheVariants.{Was, New, Old, Done, DoneTwo, Absent, Count, Closed}
-use Rattle.ck_model.specs.Map.{Name, Map, ListsInOrder}
+use Rattle.ck_model.specs.Promise.{Name, Map, ListsInOrder}
 use Rattle.ck_section.specs.declared.one_key.Uprased.{Uprased}
 use Rattle.ck_section.specs.Uprasing.{IsUprased, TriesUpsert}
 use Rattle.ck_words.specs.Words.{WordsState}
@@ -20,8 +20,8 @@ use Rattle.cuckoo_map.specs.declared.refusal.DrainFault.{DrainFault}
 use Rattle.cuckoo_map.specs.declared.refusal.DrainFault.TheVariants as drain
 use Rattle.cuckoo_map.specs.declared.refusal.GrowFault.{GrowFault}
 use Rattle.cuckoo_map.specs.declared.refusal.Refused.{Refused}
-use Rattle.cuckoo_map.specs.Refusals.{FindsOwn, IsBusyAt, IsBusyAmong, IsStripeIn, IsStripeOfEither}
-use Rattle.cuckoo_map.specs.Insertions.{IsInserted, IsRefused, FindsOwnUnlessFull}
+use Rattle.cuckoo_map.specs.Refusals.{IsStripeIn, IsStripeOfEither, FindsOwn, FindsOwnUnlessFull, IsBusyAmong, IsBusyAt, IsRefused}
+use Rattle.cuckoo_map.specs.Insertions.{IsInserted}
 use Rattle.cuckoo_map.specs.Growth.{Rehashes, Reserves}
 
 -- Its table, and its pass.
@@ -185,15 +185,10 @@ module _ {V : Type 0} where
   IsNotDrained c d (drain.Busy t) = IsBusyAmong (IsStripeIn c.table.settings) c.table.settings t c.pass d.pass
   IsNotDrained c d drain.Memory = (m : Map V) × Replies (Session (entries m) (entries m)) Closed c d
 
-  -- the insertion was refused, and key and value came back
-  abbrev pub ComesBack : {K : Type 0} → (Name → ℕ) → Name → K → V → CallerState V → CallerState V → Refused K V → Type 0
-  ComesBack hash q key value c d e =
-      (e.key ≡ key) × (e.value ≡ value) × IsRefused hash c.table.settings q e.why c.pass d.pass
-
-  -- the insertion was refused, and key and closure came back
-  abbrev pub ClosureComesBack : {K F : Type 0} → (Name → ℕ) → Name → K → F → CallerState V → CallerState V → Refused K F → Type 0
-  ClosureComesBack hash q key f c d e =
-      (e.key ≡ key) × (e.value ≡ f) × IsRefused hash c.table.settings q e.why c.pass d.pass
+  -- the insertion was refused, and the key came back with the value, or with what was to make one
+  abbrev pub ComesBack : {K X : Type 0} → (Name → ℕ) → Name → K → X → CallerState V → CallerState V → Refused K X → Type 0
+  ComesBack hash q key x c d e =
+      (e.key ≡ key) × (e.value ≡ x) × IsRefused hash c.table.settings q e.why c.pass d.pass
 
   -- the call was refused, since it found this stripe held, which is such a one
   abbrev pub IsBusyOnSome : (ℕ → Type 0) → CallerState V → CallerState V → Busy → Type 0

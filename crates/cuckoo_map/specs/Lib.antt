@@ -5,8 +5,7 @@ pub mod Displacing
 pub mod Growth
 pub mod Callers
 pub mod Locking
-pub use Rattle.ck_model.specs.Map
-pub use Rattle.ck_model.specs.History
+pub use Rattle.ck_model.specs.Promise
 pub use Rattle.ck_model.specs.Ranges
 pub use Rattle.ck_section.specs.Uprasing
 pub use Rattle.ck_words.specs.Words

@@ -7,8 +7,7 @@ use Rattle.ck_model.specs.declared.history.Act.{Act}
 use Rattle.ck_model.specs.declared.history.Call.TheVariants.{On}
 use Rattle.ck_model.specs.declared.history.Reply.{Reply}
 use Rattle.ck_model.specs.declared.settings.Settings.{Settings}
-use Rattle.ck_model.specs.Map.{Name, Map, Step}
-use Rattle.ck_model.specs.History.{After}
+use Rattle.ck_model.specs.Promise.{Name, Map, Step, After}
 use Rattle.ck_model.specs.Contents.{layout_of, bindings, NamesApart, power_of}
 use Rattle.ck_model.specs.Paths.{Grounds}
 use Rattle.ck_model.specs.Sections.{Renewed}

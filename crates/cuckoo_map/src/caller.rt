@@ -76,7 +76,7 @@ impl<'t, K: TableKey + Drop, V: Drop> Caller<'t, K, V> {
     ghost use Rattle.cuckoo_map.specs.Callers.{IsBusyOn, IsBusyOnTwo, IsBusyOnSome, FindsHeldAmong, ComesBack};
     ghost use Rattle.ck_words.specs.Retries.{Stays};
     ghost use Rattle.cuckoo_map.specs.Callers.{Counts, GrowsTo, GrowsFor, IsBusyOnAny, FindsHeldOfAny};
-    ghost use Rattle.cuckoo_map.specs.Callers.{InsertsBy, ClosureComesBack, Uprases, FindsOrInserts, TriesUpserting};
+    ghost use Rattle.cuckoo_map.specs.Callers.{InsertsBy, Uprases, FindsOrInserts, TriesUpserting};
     ghost use Rattle.cuckoo_map.specs.Locking.{HasLocked};
 
     /// The table.
@@ -275,7 +275,7 @@ impl<'t, K: TableKey + Drop, V: Drop> Caller<'t, K, V> {
         ensures same { IsSameCaller self.old self.new }
         ensures answered { IfOk result (InsertsBy (F.post f) (K.name key) self.old self.new) }
         ensures refused { IfErr result (
-            ClosureComesBack K.hash (K.name key) key f self.old self.new) }
+            ComesBack K.hash (K.name key) key f self.old self.new) }
         ensures found { FindsHeldUnlessFull K.hash (K.name key) self.old self.new }
     {
         self.table.insert_with(&mut self.pass, key, f)
@@ -330,7 +330,7 @@ impl<'t, K: TableKey + Drop, V: Drop> Caller<'t, K, V> {
         ensures answered { IfOk result (
             FindsOrInserts (F.post f) (K.name key) self.old self.new) }
         ensures refused { IfErr result (
-            ClosureComesBack K.hash (K.name key) key f self.old self.new) }
+            ComesBack K.hash (K.name key) key f self.old self.new) }
         ensures found { FindsHeldUnlessFull K.hash (K.name key) self.old self.new }
     {
         self.table.get_or_insert_with(&mut self.pass, key, f)

@@ -5,7 +5,8 @@ ghost use Rattle.ck_model.specs.Arithmetic.{alternate_of};
 ghost use Rattle.ck_words.specs.Passes.{IsPassOf, IsIdle, numbers_of};
 ghost use Rattle.ck_words.specs.StripeSets.{list_of};
 ghost use Rattle.ck_words.specs.Closing.{IsCaller};
-ghost use Rattle.cuckoo_map.specs.Insertions.{HasRoom, IsRefused, FindsOwnUnlessFull};
+ghost use Rattle.cuckoo_map.specs.Insertions.{HasRoom};
+ghost use Rattle.cuckoo_map.specs.Refusals.{FindsOwnUnlessFull, IsRefused};
 ghost use Rattle.cuckoo_map.specs.Displacing.{IsBack, IsBusyAnywhere, SinceFull};
 
 use crate::key_room::Room;

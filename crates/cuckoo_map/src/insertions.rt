@@ -11,8 +11,8 @@ ghost use Rattle.ck_words.specs.StripeNumbers.{own_numbers};
 ghost use Rattle.ck_words.specs.StripeSets.{list_of};
 ghost use Rattle.ck_words.specs.Holding.{HasTakenAll, Misses};
 ghost use Rattle.cuckoo_map.specs.Holding.{IsHomeOf};
-ghost use Rattle.cuckoo_map.specs.Insertions.{HasFoundNoRoom, HasRoom, IsInserted, IsRefused, FindsOwnUnlessFull};
-ghost use Rattle.cuckoo_map.specs.Refusals.{FindsOwn};
+ghost use Rattle.cuckoo_map.specs.Insertions.{HasFoundNoRoom, HasRoom, IsInserted};
+ghost use Rattle.cuckoo_map.specs.Refusals.{FindsOwn, FindsOwnUnlessFull, IsRefused};
 
 use crate::entries;
 use crate::entries::Insertion;

@@ -12,8 +12,8 @@ ghost use Rattle.ck_words.specs.StripeSets.{list_of};
 ghost use Rattle.ck_words.specs.Retries.{FindsAmong};
 ghost use Rattle.ck_words.specs.Renewing.{HasRenewed};
 ghost use Rattle.ck_words.specs.Closing.{IsCaller, IsWhole};
-ghost use Rattle.cuckoo_map.specs.Refusals.{IsStripeIn};
-ghost use Rattle.cuckoo_map.specs.Insertions.{HoldsRoom, HasRoom, IsRefused};
+ghost use Rattle.cuckoo_map.specs.Refusals.{IsStripeIn, IsRefused};
+ghost use Rattle.cuckoo_map.specs.Insertions.{HoldsRoom, HasRoom};
 
 use crate::holding::Spot;
 use crate::refusal::{Busy, Why};

@@ -7,7 +7,7 @@ ghost use Rattle.ck_model.specs.declared.history.Act.TheVariants.{Insert, Assign
 ghost use Rattle.ck_model.specs.declared.history.Call.TheVariants.{Session};
 ghost use Rattle.ck_model.specs.declared.history.Reply.{Reply};
 ghost use Rattle.ck_model.specs.declared.history.Reply.TheVariants.{New, Old, Was, Done, Absent, Closed};
-ghost use Rattle.ck_model.specs.Map.{ListsInOrder};
+ghost use Rattle.ck_model.specs.Promise.{ListsInOrder};
 ghost use Rattle.ck_model.specs.Contents.{layout, layout_of};
 ghost use Rattle.ck_bucket.specs.Bucket.{ClonesAreEqual};
 ghost use Rattle.ck_model.specs.Paths.{HasNoRoom};

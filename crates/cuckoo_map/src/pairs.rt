@@ -1,6 +1,6 @@
 //! The pairs of a table: how they are taken out, and how those stay that a closure keeps.
 ghost use Rattle.std.specs.Prelude.{◌≡◌, ℕ, OnOk, OnErr, IfOk, IfErr, MatchResult};
-ghost use Rattle.ck_model.specs.Map.{ListsInOrder};
+ghost use Rattle.ck_model.specs.Promise.{ListsInOrder};
 ghost use Rattle.ck_model.specs.Contents.{layout, Lawful, bindings};
 ghost use Rattle.ck_section.specs.Stripes.{contents_of};
 ghost use Rattle.ck_section.specs.Calls.{ChangesContents};

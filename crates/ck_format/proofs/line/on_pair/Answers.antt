@@ -1,7 +1,7 @@
 use Rattle.std.proofs.Common.{◌≡◌, None, rules, ap, arith}
 use Rattle.std.specs.Prelude.{codes}
 use Rattle.std.proofs.lemmas.Slice.Eq.{text_from_reads}
-use Rattle.ck_model.specs.Map.{Name}
+use Rattle.ck_model.specs.Promise.{Name}
 use Rattle.ck_format.specs.declared.script.Command.TheVariants.{Insert, Assign, Update}
 use Rattle.ck_format.specs.Parse.{pair_command, with_pair, number_behind}
 use Rattle.ck_format.proofs.Commands.{says_pair}

@@ -1,6 +1,6 @@
 use Rattle.std.proofs.Common.{take}
 use Rattle.std.specs.FinMap.{empty}
-use Rattle.ck_model.specs.History.{Leads}
+use Rattle.ck_model.specs.Promise.{Leads}
 use Rattle.ck_oracle.proofs.map.run.Given as goal
 
 abbrev pub invariant-loop-entry : goal.invariant-loop-entry

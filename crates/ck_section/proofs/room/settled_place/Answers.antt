@@ -1,6 +1,6 @@
 use Rattle.std.proofs.Common.{◌≡◌, ℕ, ◌%◌, ◌^◌, List, sym, ◌∙◌, ap, subst}
 use Rattle.ck_model.specs.Arithmetic.{index_of, alternate_of, second_of}
-use Rattle.ck_model.specs.Map.{Name}
+use Rattle.ck_model.specs.Promise.{Name}
 use Rattle.ck_stripe.specs.Stripe.{StripeState}
 use Rattle.ck_section.specs.declared.place.HeldBucket.{HeldBucket}
 use Rattle.ck_section.specs.Stripes.{contents_of}

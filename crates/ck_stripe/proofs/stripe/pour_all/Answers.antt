@@ -1,7 +1,7 @@
 use Rattle.std.proofs.Common.{None, ◌+◌, ◌<◌, ◌≤◌, ◌++◌, List, [], ◌∙◌, sym, ap, refl, flat_map, get_or, length, map, replicate, arith}
 use Rattle.std.specs.Prelude.{vec_capacity}
 use Rattle.std.proofs.lemmas.List.{take_all, append-nil}
-use Rattle.ck_model.specs.Map.{named}
+use Rattle.ck_model.specs.Promise.{named}
 use Rattle.ck_model.specs.Slots.{Slot, taken_in}
 use Rattle.ck_stripe.proofs.Splits.{length-emptied, emptied_at, emptied_step, emptied_done}
 use Rattle.ck_stripe.proofs.Pouring.{room_after, pour_more}

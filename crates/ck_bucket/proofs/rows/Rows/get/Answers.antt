@@ -1,5 +1,5 @@
 use Rattle.std.proofs.Common.{sym, ◌∙◌, ap, option_map}
-use Rattle.ck_model.specs.Map.{named}
+use Rattle.ck_model.specs.Promise.{named}
 use Rattle.ck_bucket.proofs.SeenRows.{read_row, head-there, row-four, slot-taken, slot-free, slot-seen, place-full}
 use Rattle.ck_bucket.proofs.rows.Rows.get.Goals as goal
 

@@ -1,6 +1,6 @@
 use Rattle.std.proofs.Common.{◌∙◌, ap, ◌++◌, ℕ}
 use Rattle.std.specs.FinMap.{entries}
-use Rattle.ck_model.specs.Map.{Map}
+use Rattle.ck_model.specs.Promise.{Map}
 use Rattle.ck_oracle.proofs.PlainPairs.{Pairs, falls_on, entries-none}
 use Rattle.ck_oracle.proofs.map.PlainMap.from_pairs.Goals as goal
 

@@ -1,6 +1,6 @@
 use Rattle.std.proofs.Common.{ap, sym, ◌∙◌}
 use Rattle.std.specs.FinMap.{get, find, get-from_sorted}
-use Rattle.ck_model.specs.Map.{name_cmp}
+use Rattle.ck_model.specs.Promise.{name_cmp}
 use Rattle.ck_oracle.proofs.map.PlainMap.get.Goals as goal
 
 pub loop-other-init : goal.loop-other-init

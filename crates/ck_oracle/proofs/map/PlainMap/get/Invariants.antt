@@ -1,6 +1,6 @@
 use Rattle.std.proofs.Common.{◌≡◌, drop}
 use Rattle.std.specs.FinMap.{get, find}
-use Rattle.ck_model.specs.Map.{name_cmp}
+use Rattle.ck_model.specs.Promise.{name_cmp}
 use Rattle.ck_oracle.proofs.map.PlainMap.get.Given as goal
 
 abbrev pub invariant-loop-other : goal.invariant-loop-other

@@ -2,7 +2,7 @@ use Rattle.std.proofs.Common.{◌≡◌, ◌∙◌, not, ap, subst, sym, rules, 
 use Rattle.std.specs.Ordering.{eq_by_cmp}
 use Rattle.std.specs.FinMap.{remove}
 use Rattle.std.proofs.lemmas.Fn.{filter_same}
-use Rattle.ck_model.specs.Map.{Name, name_cmp, Map}
+use Rattle.ck_model.specs.Promise.{Name, name_cmp, Map}
 use Rattle.ck_oracle.specs.PlainMap.{Rises}
 use Rattle.ck_oracle.proofs.PlainPairs.{map_of, others, remove-others}
 use Rattle.ck_oracle.proofs.map.PlainMap.remove.Goals as goal

@@ -1,5 +1,5 @@
 use Rattle.std.proofs.Common.{◌++◌, sym, ap, subst, ◌∙◌, flat_map, length, map, arith}
-use Rattle.ck_model.specs.Map.{named}
+use Rattle.ck_model.specs.Promise.{named}
 use Rattle.ck_model.specs.Slots.{taken_in}
 use Rattle.ck_stripe.specs.Stripe.{StripeState}
 use Rattle.ck_stripe.specs.Next.{IsTwice}

@@ -1,5 +1,5 @@
 use Rattle.std.proofs.Common.{◌^◌, ◌≤◌, ◌∙◌, List, length, sym, ap, subst}
-use Rattle.ck_model.specs.Map.{Name}
+use Rattle.ck_model.specs.Promise.{Name}
 use Rattle.ck_model.specs.Contents.{pairs_of}
 use Rattle.ck_stripe.specs.Stripe.{StripeState}
 use Rattle.ck_section.specs.Stripes.{contents_of}

@@ -1,7 +1,7 @@
 use Rattle.std.proofs.Common.{sym, subst}
 use Rattle.cuckoo_map.specs.declared.refusal.Why.{Why}
 use Rattle.ck_section.specs.Room.{reason_of_lack}
-use Rattle.cuckoo_map.specs.Insertions.{IsRefused}
+use Rattle.cuckoo_map.specs.Refusals.{IsRefused}
 use Rattle.cuckoo_map.proofs.Grounding.{gives_grounds}
 use Rattle.cuckoo_map.proofs.Rooms.{refused_there}
 use Rattle.cuckoo_map.proofs.table.Table.make_room_in_all.Goals as goal

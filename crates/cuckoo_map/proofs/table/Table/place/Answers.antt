@@ -2,7 +2,8 @@ use Rattle.std.proofs.Common.{IfOk, subst}
 use Rattle.ck_model.specs.declared.history.Act.{Act}
 use Rattle.ck_model.specs.declared.history.Reply.{Reply}
 use Rattle.ck_words.specs.Passes.{PassState}
-use Rattle.cuckoo_map.specs.Insertions.{IsInserted, FindsOwnUnlessFull}
+use Rattle.cuckoo_map.specs.Insertions.{IsInserted}
+use Rattle.cuckoo_map.specs.Refusals.{FindsOwnUnlessFull}
 use Rattle.cuckoo_map.proofs.table.Table.place.Goals as goal
 
 pub returns-in-Ok-clause-answered : goal.returns-in-Ok-clause-answered
