@@ -1,5 +1,5 @@
 -- What is stored of a stripe, and what is shown of it.
-use Rattle.std.proofs.Common.{◌≡◌, ℕ, Bool, true, false, cond, refl, sym, ◌∙◌, ap, subst, ◌+◌, ◌-◌, ◌*◌, ◌/◌, ◌^◌, ◌<◌, ◌≤◌, List, [], Some, None, length, set, replicate, arith}
+use Rattle.std.proofs.Common.{◌≡◌, ℕ, Bool, true, false, cond, refl, sym, ◌∙◌, ap, subst, ◌+◌, ◌-◌, ◌/◌, ◌^◌, ◌<◌, ◌≤◌, List, [], Some, None, length, set, replicate, arith}
 use Rattle.std.specs.Prelude.{flat_map, All}
 use Rattle.std.specs.Option.{option_to_list}
 use Rattle.std.proofs.Math.Pow.{pow_mono}
@@ -37,6 +37,9 @@ module _ {K V : Type 0} where
   with_rows t rows = record t { rows = rows }
 
   module _ (t : Inside K V) (kept : IsConsistent t) where
+    stored_count : (settled : Bool) → is_settled t.next ≡ settled → length t.rows ≡ cond settled (2 ^ (t.power - t.s)) (2 ^ (t.power - 1 - t.s))
+    stored_count settled is = kept.count ∙ ap (λ b. cond b (2 ^ (t.power - t.s)) (2 ^ (t.power - 1 - t.s))) is
+
     pub few_stored : count_of t.s t.power t.next ≤ 2 ^ 26
     few_stored = go (is_settled t.next)
       where
@@ -69,7 +72,7 @@ module _ {K V : Type 0} where
         let below : t.s < t.power = kept.late late in
         let back : t.power - 1 + 1 ≡ t.power = omega arith in
         length-split hash t.s t.number (t.power - 1) t.rows
-        ∙ twice_rows t.s (t.power - 1) (length t.rows) (omega arith) (kept.count ∙ ap (λ b. cond b (2 ^ (t.power - t.s)) (2 ^ (t.power - 1 - t.s))) late)
+        ∙ twice_rows t.s (t.power - 1) (length t.rows) (omega arith) (stored_count t kept false late)
         ∙ ap (λ n. 2 ^ (n - t.s)) back
 
     pub kept_split : (rows : List (List (Slot V))) (after : Next K V) → is_settled t.next ≡ false → rows ≡ split_rows hash t.s t.number (t.power - 1) t.rows → after ≡ Absent → IsConsistent (record t { rows = rows; next = after })
@@ -88,7 +91,7 @@ module _ {K V : Type 0} where
     formed = record { many = kept.many; number = kept.number; most = kept.most; shaped = record { least = kept.least; rows = long (is_settled t.next) refl; four = four (is_settled t.next); ledger = refl } }
       where
         long : (b : Bool) → is_settled t.next ≡ b → length (cond b t.rows (split_rows hash t.s t.number (t.power - 1) t.rows)) ≡ 2 ^ (t.power - t.s)
-        long true settled = kept.count ∙ ap (λ b. cond b (2 ^ (t.power - t.s)) (2 ^ (t.power - 1 - t.s))) settled
+        long true settled = stored_count t kept true settled
         long false late = split_count late
 
         four : (b : Bool) → All IsFour (cond b t.rows (split_rows hash t.s t.number (t.power - 1) t.rows))
@@ -119,7 +122,7 @@ module _ {K V : Type 0} where
 
       pub content_free : (rows : List (List (Slot V))) (n : ℕ) → rows ≡ replicate n (replicate 4 None) → n ≡ count_of t.s t.power t.next → (shown hash (with_rows t rows)).content ≡ empty_content now.s now.content.power
       content_free rows n free all =
-          content_rows rows ∙ content_empty t.s t.power n rows free (all ∙ ap (λ b. cond b (2 ^ (t.power - t.s)) (2 ^ (t.power - 1 - t.s))) stored_settled)
+          content_rows rows ∙ content_empty t.s t.power n rows free (all ∙ sym kept.count ∙ stored_count t kept true stored_settled)
           ∙ ap (λ (w : StripeState V). empty_content w.s w.content.power) is
 
       -- Slot i of bucket b is written, which is row r.
@@ -176,13 +179,16 @@ module _ {K V : Type 0} where
         abbrev pub raised : Next K V → Inside K V
         raised next = record t { power = t.power + 1; next = next }
 
-        twice : room_of t.s t.power t.next ≡ 2 ^ (t.power + 1 - t.s)
-        twice = go t.next there stored_settled
+        reserved : t.next ≡ Reserved more
+        reserved = go t.next there stored_settled
           where
-            go : (next : Next K V) → blank_of next ≡ Some more → is_settled next ≡ true → room_of t.s t.power next ≡ 2 ^ (t.power + 1 - t.s)
+            go : (next : Next K V) → blank_of next ≡ Some more → is_settled next ≡ true → next ≡ Reserved more
             go Absent some e = absurd (none-some _ some)
-            go (Reserved blank) some e = twice_rows t.s t.power (2 ^ (t.power - t.s)) kept.least refl
+            go (Reserved blank) some e = ap Reserved (same_Some blank more some)
             go (Doubled blank) some e = absurd (true≢false (sym e))
+
+        twice : room_of t.s t.power t.next ≡ 2 ^ (t.power + 1 - t.s)
+        twice = ap (room_of t.s t.power) reserved ∙ twice_rows t.s t.power (2 ^ (t.power - t.s)) kept.least refl
 
         pub now_raised : shown hash (raised after) ≡ record { number = now.number; s = now.s; content = doubled_content hash now.s now.number now.content; settled = false; room = now.room }
         now_raised =
@@ -205,12 +211,7 @@ module _ {K V : Type 0} where
           least = omega (arith, kept.least);
           late = λ e. omega (arith, kept.least);
           most = omega arith;
-          count = kept.count ∙ ap (λ b. cond b (2 ^ (t.power - t.s)) (2 ^ (t.power - 1 - t.s))) stored_settled ∙ (let back : t.power ≡ t.power + 1 - 1 = omega arith in ap (λ n. 2 ^ (n - t.s)) back);
+          count = stored_count t kept true stored_settled ∙ (let back : t.power ≡ t.power + 1 - 1 = omega arith in ap (λ n. 2 ^ (n - t.s)) back);
           four = kept.four;
-          twice = go t.next there kept.twice;
+          twice = subst (IsTwice (length t.rows)) reserved kept.twice;
         })
-          where
-            go : (next : Next K V) → blank_of next ≡ Some more → IsTwice (length t.rows) next → more ≡ 2 * length t.rows
-            go Absent some twice = absurd (none-some _ some)
-            go (Reserved blank) some twice = sym (same_Some blank more some) ∙ twice
-            go (Doubled blank) some twice = sym (same_Some blank more some) ∙ twice

@@ -14,7 +14,7 @@ module _ {K V : Type 0} where
   abbrev pub count_of : ℕ → ℕ → Next K V → ℕ
   count_of s power next = if is_settled next then 2 ^ (power - s) else 2 ^ (power - 1 - s)
 
-  -- for how many rows it has memory: twice as many as it stores where there are rows for them
+  -- for how many rows it has memory in all: twice as many as it stores where there is memory for a doubling
   abbrev pub room_of : ℕ → ℕ → Next K V → ℕ
   room_of s power Absent = 2 ^ (power - s)
   room_of s power (Reserved blank) = 2 * 2 ^ (power - s)

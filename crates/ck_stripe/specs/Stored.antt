@@ -12,6 +12,7 @@ module _ {K V : Type 0} where
   abbrev pub shown_rows : (Name → ℕ) → Inside K V → List (List (Slot V))
   shown_rows hash t = if is_settled t.next then t.rows else split_rows hash t.s t.number (t.power - 1) t.rows
 
+  -- what is shown of the fields, where the ledger is the number of entries
   abbrev pub shown : (Name → ℕ) → Inside K V → StripeState V
   shown hash t = record { number = t.number; s = t.s; content = content_of t.power (shown_rows hash t); settled = is_settled t.next; room = room_of t.s t.power t.next }
 
