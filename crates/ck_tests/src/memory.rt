@@ -10,7 +10,7 @@ use crate::fixtures::{NumCaller, NumLocked, NumPass, NumTable, TWO_STRIPES};
 use ck_hoard::{End, Ends, ends_of, hoard};
 use ck_key::{KeyFault, NumKey, TextKey};
 use ck_words::Words;
-use cuckoo_map::{GrowFault, OpenFault, Settings};
+use cuckoo_map::{DrainFault, GrowFault, OpenFault, Pool, Settings};
 use std::alloc::Global;
 use std::process::Abort;
 use std::test::Fail;
@@ -32,7 +32,9 @@ enum Subject {
     Key,
     Opening,
     Callers,
+    Pooling,
     LockedGrowth,
+    Draining,
     Closing,
     WordsClosing,
 }
@@ -72,6 +74,26 @@ fn make_callers(rt: &impl Abort, alloc: Global) -> End {
         }
         Err(back) => {
             assert!(rt; back.passes.len() == 3);
+            End::Refused
+        }
+    }
+}
+
+/// Where there is no memory for a pool, all callers come back.
+fn make_pool(rt: &impl Abort, alloc: Global) -> End {
+    let Ok((table, passes)) = NumTable::open(alloc, TWO_STRIPES) else {
+        return End::Unbegun;
+    };
+    let Ok(callers) = table.callers(alloc, passes) else {
+        return End::Unbegun;
+    };
+    match Pool::new(alloc, callers) {
+        Ok(pool) => {
+            assert!(rt; pool.len() == 3);
+            End::Done
+        }
+        Err(back) => {
+            assert!(rt; back.callers.len() == 3);
             End::Refused
         }
     }
@@ -132,6 +154,24 @@ fn table_of(alloc: Global) -> Option<(NumTable, Vec<NumPass>)>
     }
 }
 
+/// A table that is refused the memory for the list of its pairs keeps them.
+fn drain(rt: &impl Abort, alloc: Global) -> End {
+    let Some((table, mut passes)) = table_of(alloc) else {
+        return End::Unbegun;
+    };
+    match table.caller(passes.remove(0)).drain(alloc) {
+        Ok((_, pairs)) => {
+            assert!(rt; pairs.len() == 8);
+            End::Done
+        }
+        Err((mut caller, fault)) => {
+            assert!(rt; fault == DrainFault::Memory);
+            assert!(rt; caller.len() == Ok(8));
+            End::Refused
+        }
+    }
+}
+
 fn close(rt: &impl Abort, alloc: Global) -> End {
     let Some((table, passes)) = table_of(alloc) else {
         return End::Unbegun;
@@ -179,7 +219,9 @@ fn call(rt: &impl Abort, alloc: Global, subject: Subject) -> End {
         Subject::Key => make_key(rt, alloc),
         Subject::Opening => open(rt, alloc),
         Subject::Callers => make_callers(rt, alloc),
+        Subject::Pooling => make_pool(rt, alloc),
         Subject::LockedGrowth => grow_locked(rt, alloc),
+        Subject::Draining => drain(rt, alloc),
         Subject::Closing => close(rt, alloc),
         Subject::WordsClosing => close_words(rt, alloc),
     }
@@ -187,11 +229,13 @@ fn call(rt: &impl Abort, alloc: Global, subject: Subject) -> End {
 
 /// Both are refused for want of memory, and then neither is; what has to come before needs memory
 /// too, or none.
-const ROWS: [(&str, Subject, usize, bool); 6] = [
+const ROWS: [(&str, Subject, usize, bool); 8] = [
     ("a text key", Subject::Key, 20, false),
     ("opening a table", Subject::Opening, 120, false),
     ("a list of callers", Subject::Callers, 200, true),
+    ("a pool", Subject::Pooling, 300, true),
     ("growth of a locked table", Subject::LockedGrowth, 200, true),
+    ("draining a table", Subject::Draining, 120, true),
     ("closing a table", Subject::Closing, 120, true),
     ("closing lock words", Subject::WordsClosing, 200, true),
 ];

@@ -2,7 +2,7 @@
 
 use crate::fixtures::{NumCaller, NumTable, SIXTEEN_BUCKETS};
 use ck_key::NumKey;
-use cuckoo_map::{AllLent, Pool, Settings};
+use cuckoo_map::{AllLent, DrainFault, Pool, Settings};
 use std::alloc::Global;
 use std::process::Abort;
 use std::sync::Wait;
@@ -107,5 +107,29 @@ fn one_caller(rt: HostRuntime) -> Result<(), Fail> {
     let mut second = pool.lend()?;
     let found = second.find(&NumKey(5));
     assert!(rt; found == Ok(Some(50)));
+    Ok(())
+}
+
+/// While another caller has locked the table, it isn't drained; then it is.
+#[test]
+fn drain_beside_a_lock(rt: HostRuntime) -> Result<(), Fail> {
+    let alloc = rt.alloc();
+    let (table, mut passes) = NumTable::open(alloc, SIXTEEN_BUCKETS.settings(2))?;
+    let other = table.caller(passes.remove(1));
+    let Ok(mut locked) = other.lock() else {
+        return Err(Fail::from("the first call was busy"));
+    };
+    let bound = locked.insert(NumKey(5), 50);
+    let refused = table.caller(passes.remove(0)).drain(alloc);
+    locked.unlock();
+    assert!(rt; bound.is_ok());
+    let Err((caller, fault)) = refused else {
+        return Err(Fail::from("drained a table that another caller has locked"));
+    };
+    assert!(rt; matches!(fault, DrainFault::Busy(_)));
+    let Ok((_, pairs)) = caller.drain(alloc) else {
+        return Err(Fail::from("refused once the table was unlocked"));
+    };
+    assert!(rt; pairs.as_slice() == [(NumKey(5), 50)].as_slice());
     Ok(())
 }
