@@ -1,5 +1,7 @@
 //! One stripe of the table. A doubling only raises the power, and the entries are moved by whoever
 //! looks into the stripe next, so that a table doubles without going through its entries.
+#![tactic(auto, using(crate::proofs::Stored::formed_now))]
+
 ghost use Rattle.std.specs.Prelude.{◌≡◌, ◌≤◌, ◌<◌, ◌+◌, ◌-◌, ◌*◌, ◌/◌, ◌^◌, ℕ, true, false, Some, None, IsSome, IfSome, IfNone, IfOk, OnOk, OnErr, ◌++◌, length, map, flat_map, max, replicate, option_map, option_copied, vec_len, vec_capacity};
 ghost use Rattle.std.specs.List.Sorted.{IsPermutation};
 ghost use Rattle.ck_model.specs.Arithmetic.{partial_of};

@@ -3,9 +3,6 @@ use Rattle.ck_stripe.specs.Stripe.{StripeState}
 use Rattle.ck_stripe.proofs.Stored.{few_stored, formed_now, entries_shown}
 use Rattle.ck_stripe.proofs.stripe.Stripe.len.Goals as goal
 
-pub returns-clause-formed : goal.returns-clause-formed
-returns-clause-formed g c = formed_now g.K.TableKey.hash c.self.inside c.self.invariant c.args.self.now c.self.view_is
-
 pub len_of_rows-requires-clause-count : goal.len_of_rows-requires-clause-count
 len_of_rows-requires-clause-count g c = c.count-count.ensures ∙ sym c.self.invariant.count
 
@@ -17,4 +14,4 @@ returns-clause-value g c =
     c.len_of_rows.ensures ∙ entries_shown g.K.TableKey.hash c.self.inside c.self.invariant ∙ ap (λ (w : StripeState g.row.V.Denot). w.content.ledger) c.self.view_is
 
 pub returns-clause-pairs : goal.returns-clause-pairs
-returns-clause-pairs g c = returns-clause-value g c ∙ (returns-clause-formed g c).shaped.ledger
+returns-clause-pairs g c = returns-clause-value g c ∙ (formed_now g.K.TableKey.hash c.self.inside c.self.invariant c.args.self.now c.self.view_is).shaped.ledger

@@ -4,10 +4,7 @@ use Rattle.ck_stripe.proofs.Stored.{formed_now}
 use Rattle.ck_stripe.proofs.Writes.{row_below}
 use Rattle.ck_stripe.proofs.stripe.Stripe.row.Goals as goal
 
-pub returns-clause-formed : goal.returns-clause-formed
-returns-clause-formed g c = formed_now g.K.TableKey.hash c.self.inside c.self.invariant c.args.self.now c.self.view_is
-
 pub returns-clause-below : goal.returns-clause-below
 returns-clause-below g c =
     subst (λ s. c.args.b / 2 ^ s < length c.args.self.now.content.rows) (sym (ap (λ (w : StripeState g.row.V.Denot). w.s) c.self.view_is))
-    (row_below c.args.self.now c.args.b (returns-clause-formed g c).shaped c.requires.own)
+    (row_below c.args.self.now c.args.b (formed_now g.K.TableKey.hash c.self.inside c.self.invariant c.args.self.now c.self.view_is).shaped c.requires.own)
