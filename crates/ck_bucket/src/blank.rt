@@ -10,8 +10,8 @@ use ck_room::{LeaseOfTwo, Places};
 use std::alloc::{AllocError, Global};
 use std::marker::Model;
 
-/// A block for rows whose heads are not written yet, so that none of its pages has been touched. No
-/// row can be read before `fill` has made rows of it. Contracts see how many they will be.
+/// A block for rows in which nothing is written yet, not even their heads. No row can be read before
+/// `fill` has made rows of it. Contracts see how many they will be.
 pub struct BlankRows<K, V> {
     heads: Places<Head>,
     pairs: Places<(K, V)>,
@@ -48,7 +48,7 @@ impl<K: TableKey, V> BlankRows<K, V> {
         })
     }
 
-    /// The rows, of free slots. It doesn't keep how many they are.
+    /// So many rows of free slots. The block itself doesn't keep how many they are.
     pub fn fill(self, count: usize) -> Rows<K, V>
         requires { count ≡ self }
         ensures { result ≡ replicate count (replicate 4 None) }

@@ -241,7 +241,7 @@ impl<K: TableKey + Drop, V: Drop> Stripe<K, V> {
         self.power
     }
 
-    /// The number of entries.
+    /// The number of entries, which are counted row by row.
     pub fn len(&self) -> u64
         ensures value { result ≡ self.now.content.ledger }
         ensures pairs { result ≡ length (pairs_in self.now.content) }
