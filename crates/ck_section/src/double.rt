@@ -24,7 +24,7 @@ pub fn settle_all<K: TableKey + Drop, V: Drop, H: Held<Stripe<K, V>>>(held: &mut
     }
 }
 
-/// The number of entries of a table of 2^s stripes, by their ledgers.
+/// The number of entries of a table of 2^s stripes, which are counted.
 pub fn len<K: TableKey + Drop, V: Drop, H: Held<Stripe<K, V>>>(held: &mut H, s: u32) -> u64
     requires { IsTable s (H.stripes held.old) }
     ensures value { result ≡ length (pairs_of (contents_of (H.stripes held.old))) }
