@@ -227,29 +227,51 @@ fn call(rt: &impl Abort, alloc: Global, subject: Subject) -> End {
     }
 }
 
-/// Both are refused for want of memory, and then neither is; what has to come before needs memory
-/// too, or none.
-const ROWS: [(&str, Subject, usize, bool); 8] = [
+/// What is called, how many steps it gets, and whether what has to come before it needs memory too.
+type Row = (&'static str, Subject, usize, bool);
+
+const ROWS: [Row; 6] = [
+    ("a text key", Subject::Key, 20, false),
+    ("opening a table", Subject::Opening, 120, false),
+    ("a list of callers", Subject::Callers, 200, true),
+    ("growth of a locked table", Subject::LockedGrowth, 200, true),
+    ("closing a table", Subject::Closing, 120, true),
+    ("closing lock words", Subject::WordsClosing, 200, true),
+];
+
+/// Each row finds the free blocks that those before it have left.
+const ROWS_OF_CALLERS: [Row; 6] = [
     ("a text key", Subject::Key, 20, false),
     ("opening a table", Subject::Opening, 120, false),
     ("a list of callers", Subject::Callers, 200, true),
     ("a pool", Subject::Pooling, 300, true),
     ("growth of a locked table", Subject::LockedGrowth, 200, true),
     ("draining a table", Subject::Draining, 120, true),
-    ("closing a table", Subject::Closing, 120, true),
-    ("closing lock words", Subject::WordsClosing, 200, true),
 ];
+
+/// Each call is refused for want of memory, and then it is not.
+fn wanted(unbegun: bool) -> Ends {
+    Ends {
+        unbegun,
+        refused: true,
+        done: true,
+    }
+}
 
 #[test]
 fn each_request_refused(rt: HostRuntime) -> Result<(), Fail> {
     for (what, subject, steps, unbegun) in ROWS {
         let ends = ends_of(rt.alloc(), steps, || call(&rt, rt.alloc(), subject))?;
-        let want = Ends {
-            unbegun,
-            refused: true,
-            done: true,
-        };
-        assert!(rt; ends == want, "{what}");
+        assert!(rt; ends == wanted(unbegun), "{what}");
+    }
+    Ok(())
+}
+
+#[test]
+fn each_request_of_callers_refused(rt: HostRuntime) -> Result<(), Fail> {
+    for (what, subject, steps, unbegun) in ROWS_OF_CALLERS {
+        let ends = ends_of(rt.alloc(), steps, || call(&rt, rt.alloc(), subject))?;
+        assert!(rt; ends == wanted(unbegun), "{what}");
     }
     Ok(())
 }
