@@ -17,7 +17,7 @@ use Rattle.ck_section.specs.Stripes.{stripe_at, contents_of, IsInReach}
 use Rattle.ck_section.specs.Places.{IsPlaceOf, IsSlotOf, slot_in}
 use Rattle.ck_section.specs.Entries.{IsOccupied}
 use Rattle.ck_section.specs.Calls.{ChangesContents}
-use Rattle.ck_section.specs.Uprasing.{TriesUpsert}
+use Rattle.ck_section.specs.Acts.{TriesUpsert}
 use Rattle.ck_section.proofs.Found.{owns, changes_on}
 use Rattle.ck_section.proofs.Decided.{IsCallOn, freed, s_at}
 use Rattle.ck_section.proofs.Rebinding.{Rebinding, power_on, keeps_s, keeps_reach, keeps_slot, removing, placing}

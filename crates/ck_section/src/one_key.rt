@@ -5,13 +5,13 @@ ghost use Rattle.std.specs.Bool.{OnFalse};
 ghost use Rattle.std.specs.Fn.{FnOnceReturnsAt};
 ghost use Rattle.ck_model.specs.declared.history.Act.{Act};
 ghost use Rattle.ck_model.specs.declared.history.Reply.{Reply};
-ghost use Rattle.ck_model.specs.declared.history.Act.TheVariants.{Find, Insert, Assign, Update, Change, Upsert, Erase};
-ghost use Rattle.ck_model.specs.declared.history.Reply.TheVariants.{Was, New, Old, Done, Absent};
+ghost use Rattle.ck_model.specs.declared.history.Act.TheVariants.{Find, Change, Erase};
+ghost use Rattle.ck_model.specs.declared.history.Reply.TheVariants.{Was, Done, Absent};
 ghost use Rattle.ck_model.specs.Promise.{Answers};
 ghost use Rattle.ck_section.specs.Places.{IsPlaceOf};
 ghost use Rattle.ck_section.specs.Entries.{IsEntryOf, IsOccupied, IsVacant};
 ghost use Rattle.ck_section.specs.Calls.{effect, IsCall, ChangesContents};
-ghost use Rattle.ck_section.specs.Uprasing.{IsUprased, TriesUpsert};
+ghost use Rattle.ck_section.specs.Acts.{Inserts, Assigns, Updates, Erases, Changes, Upserts, Uprases, TriesUpsert};
 
 use crate::entry::Entry;
 use crate::held::Held;
@@ -58,8 +58,8 @@ pub fn insert<K: TableKey + Drop, V: Drop, H: Held<Stripe<K, V>>>(
 ) -> bool
     requires place { IsPlaceOf K.hash (H.stripes held.old) (K.name key) place }
     requires entry { IsEntryOf K.hash (H.stripes held.old) (K.name key) place entry }
-    ensures call { IsCall (effect K.hash H.stripes place held.old held.new) (K.name key)
-        (Insert value) (if result then New else Old) }
+    ensures call { Inserts value
+        (IsCall (effect K.hash H.stripes place held.old held.new) (K.name key)) result }
     ensures same { OnFalse result (H.stripes held.new ≡ H.stripes held.old) }
     ensures rest { ChangesContents (H.stripes held.old) (H.stripes held.new) }
     ensures stays { H.stays held.old held.new }
@@ -84,8 +84,8 @@ pub fn insert_or_assign<K: TableKey + Drop, V: Drop, H: Held<Stripe<K, V>>>(
 ) -> Option<V>
     requires place { IsPlaceOf K.hash (H.stripes held.old) (K.name key) place }
     requires entry { IsEntryOf K.hash (H.stripes held.old) (K.name key) place entry }
-    ensures call { IsCall (effect K.hash H.stripes place held.old held.new) (K.name key)
-        (Assign value) (Was result) }
+    ensures call { Assigns value
+        (IsCall (effect K.hash H.stripes place held.old held.new) (K.name key)) result }
     ensures rest { ChangesContents (H.stripes held.old) (H.stripes held.new) }
     ensures stays { H.stays held.old held.new }
 {
@@ -109,8 +109,8 @@ pub fn update<K: TableKey + Drop, V: Drop, Q: Query<K>, H: Held<Stripe<K, V>>>(
     value: V,
 ) -> Option<V>
     requires { IsPlaceOf K.hash (H.stripes held.old) (Q.name key) place }
-    ensures call { IsCall (effect K.hash H.stripes place held.old held.new) (Q.name key)
-        (Update value) (Was result) }
+    ensures call { Updates value
+        (IsCall (effect K.hash H.stripes place held.old held.new) (Q.name key)) result }
     ensures same { IfNone result (H.stripes held.new ≡ H.stripes held.old) }
     ensures rest { ChangesContents (H.stripes held.old) (H.stripes held.new) }
     ensures stays { H.stays held.old held.new }
@@ -126,8 +126,8 @@ pub fn erase<K: TableKey + Drop, V: Drop, Q: Query<K>, H: Held<Stripe<K, V>>>(
     key: Q,
 ) -> Option<V>
     requires { IsPlaceOf K.hash (H.stripes held.old) (Q.name key) place }
-    ensures call { IsCall (effect K.hash H.stripes place held.old held.new) (Q.name key)
-        Erase (Was result) }
+    ensures call { Erases
+        (IsCall (effect K.hash H.stripes place held.old held.new) (Q.name key)) result }
     ensures same { IfNone result (H.stripes held.new ≡ H.stripes held.old) }
     ensures rest { ChangesContents (H.stripes held.old) (H.stripes held.new) }
     ensures stays { H.stays held.old held.new }
@@ -182,12 +182,8 @@ where
     F: Drop,
     requires place { IsPlaceOf K.hash (H.stripes held.old) (Q.name key) place }
     requires call { F.IsAlwaysCallable f }
-    ensures call { MatchBool result
-        ((v w : V) × F.post f v w
-        × IsCall (effect K.hash H.stripes place held.old held.new) (Q.name key)
-        Change (Done v w))
-        (IsCall (effect K.hash H.stripes place held.old held.new) (Q.name key)
-        Change Absent) }
+    ensures call { Changes (F.post f)
+        (IsCall (effect K.hash H.stripes place held.old held.new) (Q.name key)) result }
     ensures same { OnFalse result (H.stripes held.new ≡ H.stripes held.old) }
     ensures rest { ChangesContents (H.stripes held.old) (H.stripes held.new) }
     ensures stays { H.stays held.old held.new }
@@ -298,11 +294,8 @@ where
     requires place { IsPlaceOf K.hash (H.stripes held.old) (K.name key) place }
     requires entry { IsEntryOf K.hash (H.stripes held.old) (K.name key) place entry }
     requires call { F.IsAlwaysCallable f }
-    ensures call { MatchBool result
-        (IsCall (effect K.hash H.stripes place held.old held.new) (K.name key)
-        (Upsert value) New)
-        ((v w : V) × F.post f v w × IsCall (effect K.hash H.stripes place held.old held.new)
-        (K.name key) (Upsert value) (Done v w)) }
+    ensures call { Upserts (F.post f) value
+        (IsCall (effect K.hash H.stripes place held.old held.new) (K.name key)) result }
     ensures rest { ChangesContents (H.stripes held.old) (H.stripes held.new) }
     ensures stays { H.stays held.old held.new }
 {
@@ -396,7 +389,7 @@ where
     requires place { IsPlaceOf K.hash (H.stripes held.old) (K.name key) place }
     requires entry { IsEntryOf K.hash (H.stripes held.old) (K.name key) place entry }
     requires call { F.IsAlwaysCallable f }
-    ensures call { IsUprased (F.post f) value
+    ensures call { Uprases (F.post f) value
         (IsCall (effect K.hash H.stripes place held.old held.new) (K.name key)) result }
     ensures rest { ChangesContents (H.stripes held.old) (H.stripes held.new) }
     ensures stays { H.stays held.old held.new }

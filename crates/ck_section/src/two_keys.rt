@@ -1,7 +1,7 @@
 //! A call on two keys at once.
-ghost use Rattle.std.specs.Prelude.{◌≡◌, ◌≢◌, MatchBool};
+ghost use Rattle.std.specs.Prelude.{◌≡◌, ◌≢◌};
 ghost use Rattle.std.specs.Bool.{OnFalse};
-ghost use Rattle.ck_model.specs.declared.history.Reply.TheVariants.{DoneTwo, Absent};
+ghost use Rattle.ck_section.specs.Acts.{ChangesTwo};
 ghost use Rattle.ck_section.specs.Places.{IsPlaceOf};
 ghost use Rattle.ck_section.specs.Calls.{effect, ChangesContents};
 ghost use Rattle.ck_section.specs.TwoNames.{IsChangeOfTwo};
@@ -28,12 +28,9 @@ where
     requires second { IsPlaceOf K.hash (H.stripes held.old) (Q.name b) place_b }
     requires different { Q.name a ≢ Q.name b }
     requires call { F.IsAlwaysCallable f }
-    ensures call { MatchBool result
-        ((v w v2 w2 : V) × F.post f v w (v2, w2)
-        × IsChangeOfTwo (effect K.hash H.stripes place_a held.old held.new)
-        (Q.name a) (Q.name b) (DoneTwo v w v2 w2))
-        (IsChangeOfTwo (effect K.hash H.stripes place_a held.old held.new)
-        (Q.name a) (Q.name b) Absent) }
+    ensures call { ChangesTwo (F.post f)
+        (IsChangeOfTwo (effect K.hash H.stripes place_a held.old held.new) (Q.name a) (Q.name b))
+        result }
     ensures same { OnFalse result (H.stripes held.new ≡ H.stripes held.old) }
     ensures rest { ChangesContents (H.stripes held.old) (H.stripes held.new) }
     ensures stays { H.stays held.old held.new }
