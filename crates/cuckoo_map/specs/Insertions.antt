@@ -28,8 +28,8 @@ module _ {V : Type 0} where
       (more : List (Name × history.Reason)) × All (λ x. x ≡ (q, reason.NoRoom)) more × IsAnsweredBut more (On q act) reply p p2
 
   -- The answer tells of an act with a reply that was done.
-  abbrev pub Tells : {A : Type 0} → (A → Act V → Reply V → Type 0) → (Act V → Reply V → Type 0) → A → Type 0
-  Tells tells P answer = (act : Act V) × (reply : Reply V) × tells answer act reply × P act reply
+  abbrev pub TellsOf : {A : Type 0} → (A → Act V → Reply V → Type 0) → (Act V → Reply V → Type 0) → A → Type 0
+  TellsOf tells P answer = (act : Act V) × (reply : Reply V) × tells answer act reply × P act reply
 
   -- The stripes that the pass holds were renewed since they were taken. The name may be at this place among them, and has this entry there.
   pub record HoldsRoom (hash : Name → ℕ) (set : Settings) (q : Name) (room : Room) (p : PassState V) : Type 0 where
@@ -52,6 +52,6 @@ module _ {V : Type 0} where
 
   -- Since p an insertion came to an answer, which tells what it did, or was refused. It found no stripe held but its own, or any once its name's buckets were full.
   pub record HasPlaced {K X A : Type 0} (tells : A → Act V → Reply V → Type 0) (hash : Name → ℕ) (set : Settings) (q : Name) (key : K) (x : X) (result : Result A (Refused K X)) (p p2 : PassState V) : Type 0 where
-    pub answered : IfOk result (Tells tells (IsInserted q p p2))
+    pub answered : IfOk result (TellsOf tells (IsInserted q p p2))
     pub refused : IfErr result (HandsBack hash set q key x p p2)
     pub found : FindsOwnUnlessFull hash set q p p2

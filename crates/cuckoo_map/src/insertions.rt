@@ -7,7 +7,7 @@ ghost use Rattle.ck_words.specs.StripeNumbers.{own_numbers};
 ghost use Rattle.ck_words.specs.StripeSets.{list_of};
 ghost use Rattle.ck_words.specs.Holding.{HasTakenAll, Misses};
 ghost use Rattle.cuckoo_map.specs.Holding.{IsHomeOf};
-ghost use Rattle.cuckoo_map.specs.Insertions.{HasFoundNoRoom, HasRoom, HasPlaced, IsInserted, HandsBack, Tells};
+ghost use Rattle.cuckoo_map.specs.Insertions.{HasFoundNoRoom, HasRoom, HasPlaced, IsInserted, HandsBack, TellsOf};
 ghost use Rattle.cuckoo_map.specs.Refusals.{FindsOwn, FindsOwnUnlessFull};
 
 use crate::entries;
@@ -385,7 +385,7 @@ impl<K: TableKey + Drop, V: Drop> Table<K, V> {
             since.value pass.old }
         requires call { I.can_make insertion value }
         ensures caller { IsCaller self.now pass.new }
-        ensures answered { Tells (I.tells insertion value)
+        ensures answered { TellsOf (I.tells insertion value)
             (IsInserted (K.name key) since.value pass.new) result }
         ensures found { FindsOwnUnlessFull K.hash self.now.settings (K.name key)
             since.value pass.new }

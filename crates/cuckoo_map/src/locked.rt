@@ -20,7 +20,7 @@ ghost use Rattle.ck_words.specs.Answering.{IsAnswered, FollowsSeen};
 ghost use Rattle.ck_words.specs.Closing.{IsCaller};
 ghost use Rattle.cuckoo_map.specs.Refusals.{IsStripeIn, IsBusyAmong, why_of};
 ghost use Rattle.cuckoo_map.specs.Locking.{start_of, map_of, HasLocked, HasActed, GivesBack, Clears, Lists, KeepsMap, LacksRoom, SeeksRoom};
-ghost use Rattle.cuckoo_map.specs.Insertions.{Tells};
+ghost use Rattle.cuckoo_map.specs.Insertions.{TellsOf};
 
 use crate::caller::Caller;
 use crate::entries;
@@ -167,7 +167,7 @@ impl<'t, K: TableKey + Drop, V: Drop> LockedTable<'t, K, V> {
         insertion: I,
     ) -> Result<I::Answer, Refused<K, I::Value>>
         requires call { I.can_make insertion value }
-        ensures answered { IfOk result (Tells (I.tells insertion value)
+        ensures answered { IfOk result (TellsOf (I.tells insertion value)
             (HasActed (K.name key) self.old self.new)) }
         ensures refused { IfErr result (GivesBack K.hash (K.name key) key value self.old self.new) }
     {
@@ -188,7 +188,7 @@ impl<'t, K: TableKey + Drop, V: Drop> LockedTable<'t, K, V> {
         insertion: I,
     ) -> Result<I::Answer, Refused<K, I::Value>>
         requires call { I.can_make insertion value }
-        ensures answered { IfOk result (Tells (I.tells insertion value)
+        ensures answered { IfOk result (TellsOf (I.tells insertion value)
             (HasActed (K.name key) self.old self.new)) }
         ensures refused { IfErr result (GivesBack K.hash (K.name key) key value self.old self.new) }
     {
@@ -386,7 +386,7 @@ fn put_in<K: TableKey + Drop, V: Drop, I: Insertion<K, V>>(
 ) -> Result<I::Answer, (K, I::Value, I)>
     requires place { IsPlaceOf K.hash whole.old.stripes (K.name key) place }
     requires call { I.can_make insertion value }
-    ensures call { IfOk result (Tells (I.tells insertion value)
+    ensures call { IfOk result (TellsOf (I.tells insertion value)
         (IsCall (effect K.hash (λ p. p.stripes) place whole.old whole.new) (K.name key))) }
     ensures full { IfErr result (λ back. (back.0 ≡ key) × (back.1 ≡ value) × (back.2 ≡ insertion)
         × IsWithoutRoom K.hash place.s whole.old.stripes (K.name key)) }
