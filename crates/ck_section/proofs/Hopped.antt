@@ -1,5 +1,5 @@
 -- What a hop finds and does.
-use Rattle.std.proofs.Common.{◌≡◌, ◌⊎◌, inl, inr, ⊎_elim, ℕ, zero, suc, ◌+◌, ◌/◌, ◌^◌, ◌<◌, Bool, true, false, is_some, List, [], ◌∷◌, Option, Some, None, Bor, MatchBool, length, get_or, map, refl, sym, ◌∙◌, ap, subst, arith, eqb, option_map}
+use Rattle.std.proofs.Common.{◌≡◌, ◌⊎◌, inl, inr, ⊎_elim, ℕ, zero, suc, ◌+◌, ◌/◌, ◌%◌, ◌^◌, ◌<◌, Bool, true, false, is_some, List, [], ◌∷◌, Option, Some, None, Bor, MatchBool, length, get_or, map, refl, sym, ◌∙◌, ap, subst, arith, eqb, option_map}
 use Rattle.std.specs.Prelude.{unwrap_or, option_copied}
 use Rattle.std.specs.Option.{option_flatten, option_eq}
 use Rattle.std.specs.Bool.{OnTrue}
@@ -18,6 +18,7 @@ use Rattle.ck_section.specs.declared.place.HeldSlot.{HeldSlot}
 use Rattle.ck_section.specs.Stripes.{stripe_at, contents_of, IsInReach}
 use Rattle.ck_section.specs.Places.{IsSlotOf, IsLowest, at, slot_in, set_slot}
 use Rattle.ck_section.specs.Hops.{source_in, IsHopIn, HasPartial, CanHop, lifted, Hops, IsNoCall}
+use Rattle.ck_section.specs.Whole.{AreSettled}
 use Rattle.ck_section.specs.Calls.{ChangesContents}
 use Rattle.ck_section.proofs.Found.{row_bucket, sound_at}
 use Rattle.ck_section.proofs.Steps.{unchanged, hop_changes}
@@ -38,6 +39,23 @@ other_bucket p h b t which e = ⊎_elim
     (λ f. inr (subst (λ (x : ℕ × ℕ). alternate_of p x.0 x.1 ≡ alternate_of p (partial_of h) (index_of p h)) (λ i. (e i, sym f i)) refl))
     (λ f. inl (subst (λ (x : ℕ × ℕ). alternate_of p x.0 x.1 ≡ index_of p h) (λ i. (e i, sym f i)) (alternate_twice p (partial_of h) (index_of p h) (index_below p h))))
     which
+
+-- The two buckets of a hop are in settled stripes of one power, of one table, that have their numbers.
+pub hop_between : {V : Type 0} (s : ℕ) (stripes : List (StripeState V)) (i j : ℕ) (hop : Hop) → i < length stripes → j < length stripes → AreSettled stripes → ((n : ℕ) → n < length stripes → (stripe_at stripes n).s ≡ s)
+    → ((n : ℕ) → n < length stripes → (stripe_at stripes n).content.power ≡ (stripe_at stripes 0).content.power) → hop.bucket < 2 ^ hop.power → hop.target ≡ alternate_of hop.power hop.partial hop.bucket
+    → (stripe_at stripes i).number ≡ hop.bucket % 2 ^ s → (stripe_at stripes j).number ≡ hop.target % 2 ^ s → IsHopIn stripes i j hop
+hop_between s stripes i j hop first second settled one_s one_power below target number_i number_j = record {
+  first = first;
+  second = second;
+  first_settled = settled i first;
+  second_settled = settled j second;
+  one_s = one_s j second ∙ sym (one_s i first);
+  one_power = one_power j second ∙ sym (one_power i first);
+  below = below;
+  target = target;
+  first_own = ap (λ n. hop.bucket % 2 ^ n) (one_s i first) ∙ sym number_i;
+  second_own = ap (λ n. hop.target % 2 ^ n) (one_s j second) ∙ sym number_j;
+}
 
 module _ {V : Type 0} (hash : Name → ℕ) where
   same_partial : (e : Name × V) (t : ℕ) (b : Bool) → eqb (partial_of (hash e.0)) t ≡ b → MatchBool b (HasPartial hash (Some e) t) (¬ (HasPartial hash (Some e) t))
