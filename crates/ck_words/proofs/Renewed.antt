@@ -32,7 +32,7 @@ module _ {V : Type 0} (hash : Name → ℕ) (w : WordsState) (p q : PassState V)
   leaves_renewed g ns t numbered own unchanged = record {
     own = own;
     unchanged = unchanged;
-    numbered = numbers_left ns t p q g.0 g.1 numbered;
+    numbered = numbers_left ns t p.stripes q.stripes g.0 g.1 numbered;
     stays = stays_renewing None g;
     found = ap (λ (v : View V). v.found) (renewed_view None g);
     seen = ap (λ (v : View V). v.seen) (renewed_view None g);
