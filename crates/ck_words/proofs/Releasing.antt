@@ -9,7 +9,7 @@ use Rattle.ck_words.specs.Passes.{PassState, IsPassOf, IsIdle, IsUnchanged, IsHi
 use Rattle.ck_words.specs.Retries.{Stays}
 use Rattle.ck_words.specs.Holding.{HasReleased}
 use Rattle.ck_words.proofs.Reversed.{map-append}
-use Rattle.ck_words.proofs.Staying.{stays_same, stays_on, stays_giving, found_giving, seen_giving, idle_of}
+use Rattle.ck_words.proofs.Staying.{stays_same, stays_giving, found_giving, seen_giving, idle_of}
 
 front : (ns : List ℕ) (t : ℕ) → reverse (drop 1 (reverse (ns ++ t ∷ []))) ≡ ns
 front ns t = ap (λ (l : List ℕ). reverse (drop 1 l)) (reverse-append ns (t ∷ [])) ∙ reverse-reverse ns
@@ -32,14 +32,14 @@ module _ {V : Type 0} where
     cons_nil n ns e = let l = ap length e in omega arith
 
   -- the numbers that are left after the highest stripe went home
-  pub numbers_left : (ns : List ℕ) (t : ℕ) (ss rest : List (StripeState V)) (stripe : StripeState V) → ss ≡ rest ++ stripe ∷ [] → numbers_of ss ≡ ns ++ t ∷ [] → numbers_of rest ≡ ns
+  numbers_left : (ns : List ℕ) (t : ℕ) (ss rest : List (StripeState V)) (stripe : StripeState V) → ss ≡ rest ++ stripe ∷ [] → numbers_of ss ≡ ns ++ t ∷ [] → numbers_of rest ≡ ns
   numbers_left ns t ss rest stripe split e =
       let numbered : numbers_of rest ++ stripe.number ∷ [] ≡ ns ++ t ∷ [] = sym (map-append (λ (x : StripeState V). x.number) rest (stripe ∷ [])) ∙ (ap (λ (l : List (StripeState V)). numbers_of l) (sym split) ∙ e) in
       sym (front (numbers_of rest) stripe.number) ∙ (ap (λ (l : List ℕ). reverse (drop 1 (reverse l))) numbered ∙ front ns t)
 
   -- The stripes have these numbers, of which t is the last.
   module _ (ns : List ℕ) (n t : ℕ) (ss : List (StripeState V)) (some : 0 < length ns) (count : n ≡ length ns) (is : t ≡ get_or ns (n - 1) 0) (numbered : numbers_of ss ≡ ns) where
-    pub last_apart : numbers_of ss ≡ take (n - 1) ns ++ t ∷ []
+    last_apart : numbers_of ss ≡ take (n - 1) ns ++ t ∷ []
     last_apart = numbered ∙ last_of_all ns (n - 1) t some (omega arith) is
 
     pub last_highest : IsHighest t ss
@@ -77,9 +77,6 @@ module _ {V : Type 0} where
 
     pub leaves_none : (p q : PassState V) → Leaves w [] p q → HasReleased w p q
     leaves_none p q h = record { own = h.own; idle = idle_of q (no_numbers q.stripes h.numbered) h.unchanged; stays = h.stays; found = h.found; seen = h.seen }
-
-    pub released_on : (ns : List ℕ) (p q r : PassState V) → Leaves w ns p q → HasReleased w q r → HasReleased w p r
-    released_on ns p q r h g = record { own = g.own; idle = g.idle; stays = stays_on p.view q.view r.view h.stays g.stays; found = g.found ∙ h.found; seen = g.seen ∙ h.seen }
 
     pub released_idle : (p : PassState V) → IsPassOf w p → IsIdle p → HasReleased w p p
     released_idle p own idle = record { own = own; idle = idle; stays = stays_same p.view; found = refl; seen = refl }

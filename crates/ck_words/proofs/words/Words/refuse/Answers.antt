@@ -1,4 +1,4 @@
-use Rattle.std.proofs.Common.{◌∙◌, ◌-◌, take, subst, Some, rules}
+use Rattle.std.proofs.Common.{subst, Some, rules}
 use Rattle.ck_section.specs.Room.{reason_of_lack}
 use Rattle.ck_words.specs.Renewing.{HasRefused}
 use Rattle.ck_words.specs.StripeSets.{list_of}
@@ -15,13 +15,8 @@ release_first-requires-clause-numbered g c = others_left (list_of c.args.set) _ 
 
 pub returns-clause-refused : goal.returns-clause-refused
 returns-clause-refused g c =
-    let name = g.K.TableKey.name in
-    let w = c.args.self.now in
-    let p = c.args.pass.now in
-    let r = c.release_first.new.pass in
-    let why = reason_of_lack c.args.lack in
-    subst (λ (x : g.row.K.Denot). HasRefused w (name x) why p r) c.of.ensures
-    (refused_on g.K.TableKey.hash w p c.renew.new.pass (name c.of.result.value) why c.renew.ensures.step r c.release_first.ensures.released)
+    subst (λ (x : g.row.K.Denot). HasRefused c.args.self.now (g.K.TableKey.name x) (reason_of_lack c.args.lack) c.args.pass.now c.release_first.new.pass) c.of.ensures
+    (refused_on g.K.TableKey.hash c.args.self.now c.args.pass.now c.renew.new.pass _ _ c.renew.ensures.step _ c.release_first.ensures.released)
 
 pub returns-clause-told : goal.returns-clause-told
 returns-clause-told g c =

@@ -1,4 +1,3 @@
-use Rattle.std.proofs.Common.{◌∙◌, ◌-◌, take, arith}
 use Rattle.ck_model.specs.declared.history.Reason.TheVariants.{NoRoom}
 use Rattle.ck_words.specs.StripeSets.{list_of}
 use Rattle.ck_words.proofs.Releasing.{last_highest, others_left}

@@ -1,8 +1,7 @@
-use Rattle.std.proofs.Common.{◌∙◌, ◌-◌, take, arith, None}
+use Rattle.std.proofs.Common.{None}
 use Rattle.ck_words.specs.StripeSets.{list_of}
-use Rattle.ck_words.proofs.Releasing.{last_apart, last_highest, others_left}
-use Rattle.ck_words.proofs.Releasing.{released_on}
-use Rattle.ck_words.proofs.Renewed.{leaves_renewed}
+use Rattle.ck_words.proofs.Releasing.{last_highest, others_left}
+use Rattle.ck_words.proofs.Renewed.{released_renewed}
 use Rattle.ck_words.proofs.Telling.{told_renewed, doubled_renewed}
 use Rattle.ck_words.proofs.words.Words.renew_set.Goals as goal
 
@@ -13,13 +12,7 @@ pub release_first-requires-clause-numbered : goal.release_first-requires-clause-
 release_first-requires-clause-numbered g c = others_left (list_of c.args.set) _ _ _ c.args.set.some c.count-last.ensures c.at.ensures.value c.requires.numbered _ _ c.renew.ensures.step.1
 
 pub returns-clause-released : goal.returns-clause-released
-returns-clause-released g c =
-    let w = c.args.self.now in
-    let p = c.args.pass.now in
-    let q = c.renew.new.pass in
-    let e = c.renew.ensures in
-    let l = leaves_renewed g.K.TableKey.hash w p q e.step _ _ (last_apart (list_of c.args.set) _ _ _ c.args.set.some c.count-last.ensures c.at.ensures.value c.requires.numbered) e.own e.unchanged in
-    released_on w _ p q c.release_first.new.pass l c.release_first.ensures.released
+returns-clause-released g c = released_renewed g.K.TableKey.hash c.args.self.now c.args.pass.now c.renew.new.pass c.renew.ensures.step _ c.release_first.ensures.released
 
 pub returns-clause-told : goal.returns-clause-told
 returns-clause-told g c =
