@@ -109,7 +109,7 @@ module _ {V : Type 0} (hash : Name → ℕ) where
       pub free : slot_in stripes (at j hop.target slot) ≡ None
       pub lowest : IsLowest stripes (at j hop.target slot)
 
-    -- as calls found that leave the stripes as they are
+    -- as calls tell that leave the stripes as they are
     pub moving : (powered seen cur : List (StripeState V)) → powered ≡ stripes → seen ≡ stripes → cur ≡ stripes → (name : Name) (value : V) (slot : ℕ) → hop.slot < 4 → slot < 4
         → HasPartial hash (slot_in powered from) hop.partial → slot_in cur from ≡ Some (name, value) → slot_in seen (at j hop.target slot) ≡ None → IsLowest seen (at j hop.target slot) → Moving name value slot
     moving powered seen cur is_powered is_seen is_cur name value slot source_below below has took free lowest =
@@ -162,7 +162,7 @@ module _ {V : Type 0} (hash : Name → ℕ) where
             let two = placing hash s max mid one.lawful name to free_slot (keeps_s stripes from of.first None _ j ∙ of.one_s) value still_free one.is in
             identity_of_two (layout hash s max) (contents_of stripes) (contents_of mid) _ name value one two
 
-        -- The entry is taken out.
+        -- The entry was taken out.
         module _ (mid : List (StripeState V)) (is_mid : mid ≡ lifted stripes i hop) where
           -- what is asked of its new slot
           pub ready_to : record { reach : IsInReach mid j hop.target; below : slot < 4; free : slot_in mid to ≡ None; partial : hop.partial ≡ partial_of (hash name) }
@@ -173,7 +173,7 @@ module _ {V : Type 0} (hash : Name → ℕ) where
             partial = sym m.partial;
           }
 
-          -- and put there
+          -- what the hop has done, once it is there
           pub hopped : {S : Type 0} (new : List (StripeState V)) → new ≡ set_slot mid to (Some (name, value)) ((stripe_at mid j).content.ledger + 1) → S
               → record { exactly : CanHop hash stripes i j hop; moved : Hops stripes i j hop new; no_call : IsNoCall hash (stripe_at stripes i).s stripes new; rest : ChangesContents stripes new; stays : S }
           hopped new put stays =

@@ -37,6 +37,7 @@ pub record Went {V : Type 0} (hash : Name → ℕ) (w : WordsState) (move : ℕ 
   pub unchanged : IsUnchanged (state_of z me)
 
 module _ {V : Type 0} (hash : Name → ℕ) (w : WordsState) (p : PassState V) (tz : TableId) (key set : Settings) (z : TableId) (me : Hand V) (f : Fits w p tz key set z me) (t : ℕ) (seated : IsSeated z me) (highest : IsHighest t p.stripes) where
+  -- it is the highest that the seat has
   l : Last z me.0 me.1 t
   l = last z me.0 me.1 t seated (subst (λ (q : PassState V). IsHighest t q.stripes) (sym f.pass_is) highest)
 

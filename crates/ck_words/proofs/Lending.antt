@@ -61,7 +61,7 @@ module _ {V : Type 0} (old : StripeSeat V) (p : PassState V) (is : state_of old.
     pub still_lent : {T : Type 0} → T → record { own : IsPassOf w (state_of new.table_id new.me); numbered : numbers_of (state_of new.table_id new.me).stripes ≡ ns; of_table : T }
     still_lent of_table = record { own = still_own; numbered = still_numbered; of_table = of_table }
 
--- a visitor that may come to stripe i of the pass, and keeps its number
+-- what is asked of a visitor that comes to stripe i of the pass: it may come, and the stripe keeps its number
 module _ {V R : Type 0} (may : StripeState V → Type 0) (does : StripeState V → R → StripeState V → Type 0) where
   abbrev Keeps : StripeState V → Type 0
   Keeps t = (r : R) (after : StripeState V) → does t r after → IsSame (λ (x : StripeState V). x.number) (λ (x : StripeState V). x.s) t after
@@ -83,6 +83,7 @@ module _ {V : Type 0} (old new : StripeSeat V) (p : PassState V) (is : state_of 
       let count : length (held_in new.me.1) ≡ length (held_in old.me.1) = ap length puts.stripes ∙ length-set (held_in old.me.1) i after in
       sym (put_here old new i after before puts) ∙ get_or_default (held_in new.me.1) i no_stripe d (omega arith)
 
+  -- what the visit leaves; x and y are not of the seat
   pub visited_there : {X Y : Type 0} (x : X) (y : Y) (does : StripeState V → StripeState V → Type 0) → does (stripe_at (held_in old.me.1) i) after → record {
     visited : (d : StripeState V) → does (get_or p.stripes i d) (get_or (held_in new.me.1) i d);
     others : (d : StripeState V) → held_in new.me.1 ≡ slice_set p.stripes i (get_or (held_in new.me.1) i d);

@@ -27,10 +27,11 @@ module _ {V : Type 0} (hash : Name → ℕ) (w : WordsState) (ns : List ℕ) (i 
     pub ready_next : (s : ℕ) → s ≡ w.settings.s → t < 2 ^ s → record { own : IsPassOf w q; inside : t < 2 ^ w.settings.s; above : IsAbove t (numbers q.view.held); unchanged : IsUnchanged q }
     ready_next s of_table below = record { own = taken.own; inside = subst (λ n. t < 2 ^ n) of_table below; above = above_next; unchanged = taken.unchanged }
 
-    -- one swap took it, or found it held
+    -- one swap took it,
     pub next_swapped : (r : PassState V) → TakesStripe hash w.settings t q r → IsPassOf w r → IsUnchanged r → HasTaken hash w (λ u. IsIn u ns) (take (i + 1) ns) p r
     next_swapped r k own unchanged = next_taken 1 r (0, omega arith, k) own unchanged
 
+    -- or found it held
     pub next_missed : (r : PassState V) → TriesStripe hash w t false q r → IsPassOf w r → Misses hash w ns i p r
     next_missed r k own = (inside, (q, taken, found_next hash w 0 t q q r refl taken.own own k ∙ ap (λ u. found_again 1 u q) is))
 

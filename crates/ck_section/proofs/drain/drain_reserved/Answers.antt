@@ -16,9 +16,9 @@ use Rattle.ck_section.proofs.drain.drain_reserved.Goals as goal
 pub loop-i-init : goal.loop-i-init
 loop-i-init g c = record { drained = refl; seen = sym (append-nil _); room = refl }
 
--- a stripe that was not drained yet is as it was
-unread : (g : Over) (c : After-index-stripes-i g) → (c.loop-i.i < length c.args.stripes.now) × (slice_index_or c.loop-i.stripes c.loop-i.i c.index-stripes-i.result ≡ stripe_at c.args.stripes.now c.loop-i.i)
-unread g c =
+-- the next stripe is as it was
+undrained : (g : Over) (c : After-index-stripes-i g) → (c.loop-i.i < length c.args.stripes.now) × (slice_index_or c.loop-i.stripes c.loop-i.i c.index-stripes-i.result ≡ stripe_at c.args.stripes.now c.loop-i.i)
+undrained g c =
     let old : List (StripeState g.row.V.Denot) = c.args.stripes.now in
     let long = changed-long cleared c.loop-i.i old _ c.loop-i.invariant.drained in
     let within : c.loop-i.i < length old = omega arith in
@@ -28,7 +28,7 @@ pub drain_reserved-requires : goal.drain_reserved-requires
 drain_reserved-requires g c =
     let old : List (StripeState g.row.V.Denot) = c.args.stripes.now in
     let i = c.loop-i.i in
-    let read = unread g (goal.at.drain_reserved-requires g c).After-index-stripes-i in
+    let read = undrained g (goal.at.drain_reserved-requires g c).After-index-stripes-i in
     let same = ap (λ (x : StripeState g.row.V.Denot). length (pairs_in x.content)) read.1 in
     let start = c.args.pairs.now.ok.0 in
     let now = c.loop-i.pairs.ok.0 in
@@ -40,7 +40,7 @@ pub loop-i-preserved : goal.loop-i-preserved
 loop-i-preserved g c =
     let old : List (StripeState g.row.V.Denot) = c.args.stripes.now in
     let i = c.loop-i.i in
-    let read = unread g (goal.at.loop-i-preserved g c).After-index-stripes-i in
+    let read = undrained g (goal.at.loop-i-preserved g c).After-index-stripes-i in
     let was : StripeState g.row.V.Denot = slice_index_or c.loop-i.stripes i c.index-stripes-i.result in
     let emptied : c.drain_reserved.new.self ≡ cleared was = c.drain_reserved.ensures.rest ∙ ap (λ (x : Content g.row.V.Denot). record was { content = x }) c.drain_reserved.ensures.content in
     record {

@@ -18,11 +18,11 @@ second_number : (s p h n : ℕ) → s ≤ 10 → s ≤ p → n ≡ alternate_of 
 unfolding second_of
 second_number s p h n few le e = (λ i. e i % mask s few i) ∙ second_lower s p h le
 
--- a stripe is held still
+-- a stripe that was held is held still
 held_still : {V : Type 0} (old new : List (StripeState V)) → new ≡ old → (t u : ℕ) → u ≡ t → HasStripe old t → HasStripe new u
 held_still old new same t u is = subst (λ (z : List (StripeState _) × ℕ). HasStripe z.0 z.1) (λ i. (sym same i, sym is i))
 
--- the first bucket is the hash's
+-- the first bucket is that of the hash
 first : (g : Over) (c : After-index-first g) → c.index-first.result ≡ index_of (stripe_at (g.H.Held.stripes c.args.held.now) 0).content.power (g.K.TableKey.hash (g.Q.Query.name c.args._key))
 first g c = c.index-first.ensures.value ∙ (λ i. index_of (c.power-power.ensures.value i) (c.requires.hash.value i))
 
