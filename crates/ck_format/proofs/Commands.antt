@@ -210,44 +210,30 @@ other_more Two keys false false false true words h = let no : eqb (length words)
 abbrev IsNamed : {A : Type 0} → Version → List ℕ → Option A → List Operand → Type 0
 IsNamed {A} v name command operands = (c : A) × (command ≡ Some c) × (operands_of v name ≡ Some operands)
 
+-- the name is this word, for which the table has the command, or another, of which this is known
+named : {A Other : Type 0} (v : Version) (name word : List ℕ) (command : List ℕ → Option A) (c : A) (operands : List Operand) → command word ≡ Some c → operands_of v word ≡ Some operands
+    → (bytes_eq name word ≡ false → IsNamed v name (command name) operands ⊎ Other) → IsNamed v name (command name) operands ⊎ Other
+named v name word command c operands is behind other =
+    elim (cases_Bool (bytes_eq name word)) [
+      | inl h ↦ let e = same_bytes name word h in inl (c, ap command e ∙ is, ap (operands_of v) e ∙ behind)
+      | inr h ↦ other h
+    ]
+
 alone_named : (v : Version) (name : List ℕ) → IsNamed v name (alone_command name) [] ⊎ ((alone_command name ≡ None) × ((keys : Keys) → behind_fault keys (operands_of v name) [] ≡ Some is.Command))
 alone_named v name =
-    elim (cases_Bool (bytes_eq name (codes "len"))) [
-      | inl h ↦ let e = same_bytes name (codes "len") h in inl (Len, ap alone_command e, ap (operands_of v) e)
-      | inr a ↦ elim (cases_Bool (bytes_eq name (codes "list"))) [
-        | inl h ↦ let e = same_bytes name (codes "list") h in inl (Lists, ap alone_command e, ap (operands_of v) e)
-        | inr b ↦ inr (rw (a, b) refl, λ keys. rw (a, b) (other_alone v keys _ _ _))
-      ]
-    ]
+    named v name (codes "len") alone_command Len [] refl refl (λ a. named v name (codes "list") alone_command Lists [] refl refl (λ b.
+    inr (rw (a, b) refl, λ keys. rw (a, b) (other_alone v keys _ _ _))))
 
 key_named : (v : Version) (name : List ℕ) → IsNamed v name (key_command name) (Key ∷ []) ⊎ ((key_command name ≡ None) × ((keys : Keys) (x : List ℕ) → behind_fault keys (operands_of v name) (x ∷ []) ≡ Some is.Command))
 key_named v name =
-    elim (cases_Bool (bytes_eq name (codes "find"))) [
-      | inl h ↦ let e = same_bytes name (codes "find") h in inl (Find, ap key_command e, ap (operands_of v) e)
-      | inr a ↦ elim (cases_Bool (bytes_eq name (codes "has"))) [
-        | inl h ↦ let e = same_bytes name (codes "has") h in inl (Has, ap key_command e, ap (operands_of v) e)
-        | inr b ↦ elim (cases_Bool (bytes_eq name (codes "erase"))) [
-          | inl h ↦ let e = same_bytes name (codes "erase") h in inl (Erase, ap key_command e, ap (operands_of v) e)
-          | inr d ↦ inr (rw (a, b, d) refl, λ keys x. rw (a, b, d) (other_key v keys _ _ _ x))
-        ]
-      ]
-    ]
+    named v name (codes "find") key_command Find (Key ∷ []) refl refl (λ a. named v name (codes "has") key_command Has (Key ∷ []) refl refl (λ b. named v name (codes "erase") key_command Erase (Key ∷ []) refl refl (λ d.
+    inr (rw (a, b, d) refl, λ keys x. rw (a, b, d) (other_key v keys _ _ _ x)))))
 
 pair_named : (v : Version) (name : List ℕ) → IsNamed v name (pair_command name) (Key ∷ Number ∷ []) ⊎ ((pair_command name ≡ None) × ((keys : Keys) (x y : List ℕ) → behind_fault keys (operands_of v name) (x ∷ y ∷ []) ≡ Some is.Command))
 pair_named v name =
-    elim (cases_Bool (bytes_eq name (codes "insert"))) [
-      | inl h ↦ let e = same_bytes name (codes "insert") h in inl (Insert, ap pair_command e, ap (operands_of v) e)
-      | inr a ↦ elim (cases_Bool (bytes_eq name (codes "assign"))) [
-        | inl h ↦ let e = same_bytes name (codes "assign") h in inl (Assign, ap pair_command e, ap (operands_of v) e)
-        | inr b ↦ elim (cases_Bool (bytes_eq name (codes "update"))) [
-          | inl h ↦ let e = same_bytes name (codes "update") h in inl (Update, ap pair_command e, ap (operands_of v) e)
-          | inr d ↦ elim (cases_Bool (bytes_eq name (codes "add"))) [
-            | inl h ↦ let e = same_bytes name (codes "add") h in inl (Add, ap pair_command e, ap (operands_of v) e)
-            | inr f ↦ inr (rw (a, b, d, f) refl, λ keys x y. rw (a, b, d, f) (other_pair v keys _ _ _ x y))
-          ]
-        ]
-      ]
-    ]
+    named v name (codes "insert") pair_command Insert (Key ∷ Number ∷ []) refl refl (λ a. named v name (codes "assign") pair_command Assign (Key ∷ Number ∷ []) refl refl (λ b.
+    named v name (codes "update") pair_command Update (Key ∷ Number ∷ []) refl refl (λ d. named v name (codes "add") pair_command Add (Key ∷ Number ∷ []) refl refl (λ f.
+    inr (rw (a, b, d, f) refl, λ keys x y. rw (a, b, d, f) (other_pair v keys _ _ _ x y))))))
 
 -- Faults: those of the code are the first ones.
 
