@@ -16,7 +16,7 @@ use denote.Memory.{hidden_shr}
 use denote.Plain.{uint_vals, uint_Tells}
 use denote.RawPtr.{RawPtr, in_a_block}
 use denote.Ref.{shr_vals, shr_Tells}
-use Rattle.core.proofs.mem.Param.{El, R, args, el_x}
+use Rattle.core.proofs.mem.Param.{El, R, args}
 use Rattle.std_alloc.proofs.VecSteps.Shapes.{after}
 use Rattle.core.proofs.slots.Lent.{pointer_in, pointer_out}
 use mathlib.Core.Path.{refl}

@@ -13,7 +13,7 @@ use types.ByLocal.{alloc_all, pass_all, free_all, look_at, get, through, sets, e
 use denote.Exit.{yes, no}
 use denote.Builtin.{usize}
 use denote.Triple.Entry.{Vals}
-use Rattle.core.proofs.mem.Param.{El, R, args, el_x, elτ, Good, lawful, one}
+use Rattle.core.proofs.mem.Param.{El, R, args, el_x, elτ, lawful, one}
 use Rattle.core.proofs.mem.Facts.{says_two}
 use Rattle.std_alloc.proofs.RawLayout.{as_written}
 use Rattle.std_alloc.proofs.VecSteps.Shapes.{after}

@@ -17,7 +17,7 @@ use denote.Plain.{uint_vals, uint_Tells}
 use denote.Ref.{mut_vals, mut_Tells}
 use denote.Builtin.{usize}
 use denote.Signature.{plain, types_at}
-use Rattle.core.proofs.mem.Param.{El, R, args, el_x, elτ, Good}
+use Rattle.core.proofs.mem.Param.{El, args, elτ, Good}
 use Rattle.core.proofs.mem.Facts.{says_three}
 use Rattle.std_alloc.proofs.RawLayout.{as_raw}
 use Rattle.std_alloc.proofs.VecSteps.Shapes.{after}

@@ -11,9 +11,9 @@ use mir.Syntax.{Ty, Fn, Body, w64, named, ty_array}
 use mir.Val.{Val, vint, vptr, vstruct, vcons, vnil, WT}
 use base.Logic.{sep, SProp, ent}
 use base.Fml.{ftrue, froom, flft, Incl-trans}
-use prog.Memory.{align, capped, Memory}
+use prog.Memory.{align, capped}
 use prog.Capped.{capped_fits}
-use prog.Wp.{Wp, after_seq, at_return, Env, WpFn, Tables}
+use prog.Wp.{Wp, after_seq, at_return, Env}
 use mir.MapTy.{inst_fn}
 use contract.BorrowLft.{◌⊑◌}
 use denote.RattleType.{RattleType, Valss, owns}
@@ -40,7 +40,7 @@ use Rattle.std.specs.Vec.Ownership.{FitsInBlock}
 use Rattle.core.specs.contracts.result.Result as RES
 use Rattle.core.specs.contracts.alloc.AllocError as AE
 use Rattle.core.proofs.mem.Param.{El, R, elτ}
-use Rattle.core.proofs.alloc.Calls.{Al, Answer-typed, takes_key, Takes, at_takes, Answered, Takes-goes, Takes-gives, answers}
+use Rattle.core.proofs.alloc.Calls.{Al, Answer-typed, Takes, at_takes, Answered, Takes-goes, Takes-gives, answers}
 use Rattle.core.proofs.slots.Leases.{uncapped}
 use Rattle.std_alloc.proofs.RcSteps.{word}
 use Rattle.std_alloc.proofs.ResultValues.{ok_of, err_of}

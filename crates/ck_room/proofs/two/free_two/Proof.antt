@@ -10,10 +10,10 @@ use mir.Raw.{raw as bare_of}
 use mir.Val.{Val, vunit, vint, vptr, has_ty, WT}
 use base.Logic.{id⊢, SProp, ent, apply∗}
 use base.Fml.{ftrue, froom, flft, Incl-trans}
-use prog.Memory.{align, capped, Memory}
+use prog.Memory.{align, capped}
 use prog.Capped.{capped_fits}
 use mir.MapTy.{inst_fn}
-use prog.Wp.{Env, WpFn, Tables}
+use prog.Wp.{Env, WpFn}
 use contract.BorrowLft.{◌⊑◌}
 use denote.RattleType.{RattleType, owns}
 use denote.Signature.{plain, types_at}
@@ -27,7 +27,7 @@ use denote.Builtin.{usize, RefOf}
 use denote.RawPtr.{Ptr, block_ptr}
 use denote.Triple.Call.{calls_at_last}
 use Rattle.core.proofs.mem.Param.{El, R, elτ}
-use Rattle.core.proofs.alloc.Calls.{Al, token, gives_key, Gives, at_gives, Gives-goes, Gives-Gives}
+use Rattle.core.proofs.alloc.Calls.{Al, token, Gives, at_gives, Gives-goes, Gives-Gives}
 use Rattle.std_alloc.proofs.RcSteps.{word}
 use Rattle.std_alloc.proofs.VecSteps.Shapes.{after}
 use Rattle.ck_room.specs.Memory.{row, pair_ty, pair_bytes, IsBlockSize, both_rooms, leased_two}

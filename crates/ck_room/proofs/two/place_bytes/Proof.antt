@@ -16,7 +16,7 @@ use denote.Builtin.{usize}
 use denote.Param.{layout, layouts}
 use denote.Plain.{uint_Makes}
 use denote.Steps.{nothing, owned}
-use denote.Triple.Walked.{says, walk_of, ends_at}
+use denote.Triple.Walked.{says, ends_at}
 use Rattle.std.proofs.raw_atomic.Walks.{proved}
 use Rattle.ck_room.specs.contracts.two.place_bytes as F
 use Rattle.ck_room.specs.contracts.two.place_bytes.Key.{name as #self}

@@ -1,8 +1,5 @@
-use Rattle.std.proofs.Common.{◌+◌, ◌≤◌, ◌++◌, List, [], ◌∙◌, sym, ap, refl, flat_map, get_or, length, map, arith}
-use Rattle.std.specs.Prelude.{vec_capacity}
-use Rattle.std.proofs.lemmas.List.{take_all, append-nil}
-use Rattle.ck_model.specs.Promise.{named}
-use Rattle.ck_model.specs.Slots.{Slot, taken_in}
+use Rattle.std.proofs.Common.{[], ◌∙◌, sym, refl, get_or, arith}
+use Rattle.std.proofs.lemmas.List.{append-nil}
 use Rattle.ck_stripe.proofs.Pouring.{room_for_row, pour_more, poured_all}
 use Rattle.ck_stripe.proofs.stripe.clone_all.Goals as goal
 

@@ -1,8 +1,5 @@
-use Rattle.std.proofs.Common.{None, ◌+◌, ◌<◌, ◌≤◌, ◌++◌, List, [], ◌∙◌, sym, ap, refl, flat_map, get_or, length, map, replicate, arith}
-use Rattle.std.specs.Prelude.{vec_capacity}
-use Rattle.std.proofs.lemmas.List.{take_all, append-nil}
-use Rattle.ck_model.specs.Promise.{named}
-use Rattle.ck_model.specs.Slots.{Slot, taken_in}
+use Rattle.std.proofs.Common.{None, ◌<◌, [], ◌∙◌, sym, ap, refl, get_or, length, replicate, arith}
+use Rattle.std.proofs.lemmas.List.{append-nil}
 use Rattle.ck_stripe.proofs.Splits.{length-emptied, emptied_at, emptied_step, emptied_done}
 use Rattle.ck_stripe.proofs.Pouring.{room_for_row, pour_more, poured_all}
 use Rattle.ck_stripe.proofs.stripe.pour_all.Goals as goal

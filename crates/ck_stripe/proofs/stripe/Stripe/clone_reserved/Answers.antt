@@ -1,8 +1,6 @@
-use Rattle.std.proofs.Common.{◌++◌, sym, ap, ◌∙◌, flat_map, length, map, arith}
+use Rattle.std.proofs.Common.{◌++◌, sym, ap, ◌∙◌, length, map, arith}
 use Rattle.std.proofs.lemmas.Result.{on_ok_weaker}
 use Rattle.ck_model.specs.Promise.{named}
-use Rattle.ck_model.specs.Slots.{taken_in}
-use Rattle.ck_stripe.specs.Stripe.{StripeState}
 use Rattle.ck_stripe.proofs.Stored.{pairs_stored}
 use Rattle.ck_stripe.proofs.stripe.Stripe.clone_reserved.Goals as goal
 

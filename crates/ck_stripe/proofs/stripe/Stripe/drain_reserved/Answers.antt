@@ -1,7 +1,5 @@
-use Rattle.std.proofs.Common.{◌++◌, sym, ap, ◌∙◌, flat_map, length, map, arith}
+use Rattle.std.proofs.Common.{◌++◌, sym, ap, ◌∙◌, length, map, arith}
 use Rattle.ck_model.specs.Promise.{named}
-use Rattle.ck_model.specs.Slots.{taken_in}
-use Rattle.ck_stripe.specs.Stripe.{StripeState}
 use Rattle.ck_stripe.proofs.Stored.{pairs_stored, kept_free, content_free}
 use Rattle.ck_stripe.proofs.stripe.Stripe.drain_reserved.Goals as goal
 
