@@ -43,7 +43,7 @@ where
     ensures stays { H.stays held.old held.new }
 {
     let at = find_slot(held, place, key)?;
-    Some(one_stripe::read(held, at.index, at.bucket, at.slot, f))
+    Some(one_stripe::read(held, at, f))
 }
 
 /// Binds the key of the entry where it is unbound, and says whether it was. A bound key keeps its
@@ -90,9 +90,7 @@ pub fn insert_or_assign<K: TableKey + Drop, V: Drop, H: Held<Stripe<K, V>>>(
     ensures stays { H.stays held.old held.new }
 {
     match entry {
-        Entry::Occupied(old) => Some(one_stripe::replace(
-            held, old.index, old.bucket, old.slot, value,
-        )),
+        Entry::Occupied(old) => Some(one_stripe::replace(held, old, value)),
         Entry::Vacant(at) => {
             fill(held, place, at, key, value);
             None
@@ -116,7 +114,7 @@ pub fn update<K: TableKey + Drop, V: Drop, Q: Query<K>, H: Held<Stripe<K, V>>>(
     ensures stays { H.stays held.old held.new }
 {
     let at = find_slot(held, place, key)?;
-    Some(one_stripe::replace(held, at.index, at.bucket, at.slot, value))
+    Some(one_stripe::replace(held, at, value))
 }
 
 /// Unbinds the key, and gives the value that it had; `None` where it is unbound.
@@ -133,7 +131,7 @@ pub fn erase<K: TableKey + Drop, V: Drop, Q: Query<K>, H: Held<Stripe<K, V>>>(
     ensures stays { H.stays held.old held.new }
 {
     let at = find_slot(held, place, key)?;
-    let (_, value) = one_stripe::remove(held, at.index, at.bucket, at.slot);
+    let (_, value) = one_stripe::remove(held, at);
     Some(value)
 }
 
@@ -162,10 +160,10 @@ pub fn erase_fn<
     let Some(at) = find_slot(held, place, key) else {
         return Err(f);
     };
-    if !one_stripe::read(held, at.index, at.bucket, at.slot, f) {
+    if !one_stripe::read(held, at, f) {
         return Ok(false);
     }
-    one_stripe::remove(held, at.index, at.bucket, at.slot);
+    one_stripe::remove(held, at);
     Ok(true)
 }
 
@@ -191,7 +189,7 @@ where
     let Some(at) = find_slot(held, place, key) else {
         return false;
     };
-    one_stripe::change(held, at.index, at.bucket, at.slot, f);
+    one_stripe::change(held, at, f);
     true
 }
 
@@ -226,9 +224,9 @@ pub fn replace_if<
         Some(at) => at,
         None => return Err(f),
     };
-    match one_stripe::read(held, at.index, at.bucket, at.slot, f) {
+    match one_stripe::read(held, at, f) {
         Some(value) => {
-            one_stripe::replace(held, at.index, at.bucket, at.slot, value);
+            one_stripe::replace(held, at, value);
             Ok(true)
         }
         None => Ok(false),
@@ -263,17 +261,9 @@ pub fn try_update<
         Some(at) => at,
         None => return Err(f),
     };
-    let (own, old) = one_stripe::remove(held, at.index, at.bucket, at.slot);
+    let (own, old) = one_stripe::remove(held, at);
     let (value, outcome) = value_and_outcome(f(old));
-    one_stripe::place(
-        held,
-        at.index,
-        at.bucket,
-        at.slot,
-        place.partial,
-        own,
-        value,
-    );
+    one_stripe::place(held, at, place.partial, own, value);
     Ok(outcome)
 }
 
@@ -301,7 +291,7 @@ where
 {
     match entry {
         Entry::Occupied(old) => {
-            one_stripe::change(held, old.index, old.bucket, old.slot, f);
+            one_stripe::change(held, old, f);
             false
         }
         Entry::Vacant(at) => {
@@ -327,7 +317,7 @@ pub fn fill<K: TableKey + Drop, V: Drop, H: Held<Stripe<K, V>>>(
     ensures stays { H.stays held.old held.new }
 {
     let partial = place.partial;
-    one_stripe::place(held, at.index, at.bucket, at.slot, partial, key, value);
+    one_stripe::place(held, at, partial, key, value);
 }
 
 // The value that a success or a failure gave back, and which of the two it was.
@@ -358,7 +348,7 @@ pub fn read_entry<K: TableKey + Drop, V: Drop, H: Held<Stripe<K, V>>, R, F: FnOn
     ensures same { H.stripes held.new ≡ H.stripes held.old }
     ensures stays { H.stays held.old held.new }
 {
-    one_stripe::read(held, at.index, at.bucket, at.slot, f)
+    one_stripe::read(held, at, f)
 }
 
 /// What became of a key that was upserted or erased, as a closure decided.
@@ -396,18 +386,10 @@ where
 {
     match entry {
         Entry::Occupied(at) => {
-            let (bound, old) = one_stripe::remove(held, at.index, at.bucket, at.slot);
+            let (bound, old) = one_stripe::remove(held, at);
             match f(old) {
                 Some(new) => {
-                    one_stripe::place(
-                        held,
-                        at.index,
-                        at.bucket,
-                        at.slot,
-                        place.partial,
-                        bound,
-                        new,
-                    );
+                    one_stripe::place(held, at, place.partial, bound, new);
                     Uprased::Changed
                 }
                 None => Uprased::Erased,
@@ -444,17 +426,9 @@ where
 {
     match entry {
         Entry::Occupied(at) => {
-            let (own, was) = one_stripe::remove(held, at.index, at.bucket, at.slot);
+            let (own, was) = one_stripe::remove(held, at);
             let (bound, outcome) = value_and_outcome(f(was));
-            one_stripe::place(
-                held,
-                at.index,
-                at.bucket,
-                at.slot,
-                place.partial,
-                own,
-                bound,
-            );
+            one_stripe::place(held, at, place.partial, own, bound);
             answer_of_bound(outcome)
         }
         Entry::Vacant(at) => {

@@ -41,26 +41,10 @@ where
     let Some(at_b) = find_slot(held, place_b, b) else {
         return false;
     };
-    let (key_a, value_a) = one_stripe::remove(held, at_a.index, at_a.bucket, at_a.slot);
-    let (key_b, value_b) = one_stripe::remove(held, at_b.index, at_b.bucket, at_b.slot);
+    let (key_a, value_a) = one_stripe::remove(held, at_a);
+    let (key_b, value_b) = one_stripe::remove(held, at_b);
     let (value_a, value_b) = f(value_a, value_b);
-    one_stripe::place(
-        held,
-        at_a.index,
-        at_a.bucket,
-        at_a.slot,
-        place_a.partial,
-        key_a,
-        value_a,
-    );
-    one_stripe::place(
-        held,
-        at_b.index,
-        at_b.bucket,
-        at_b.slot,
-        place_b.partial,
-        key_b,
-        value_b,
-    );
+    one_stripe::place(held, at_a, place_a.partial, key_a, value_a);
+    one_stripe::place(held, at_b, place_b.partial, key_b, value_b);
     true
 }
