@@ -61,6 +61,10 @@ pub record Rewrites {V : Type 0} (r : ℕ) (before first second third after : Li
   pub to_third : third ≡ with_slot_in second r 2 c
   pub to_after : after ≡ with_slot_in third r 3 d
 
+pub rewrites : {V : Type 0} {r : ℕ} {before first second third after : List (List (Slot V))} {a b c d : Slot V} → length (row_at before r) ≡ 4
+    → first ≡ with_slot_in before r 0 a → second ≡ with_slot_in first r 1 b → third ≡ with_slot_in second r 2 c → after ≡ with_slot_in third r 3 d → Rewrites r before first second third after a b c d
+rewrites four one two three last = record { four = four; to_first = one; to_second = two; to_third = three; to_after = last }
+
 -- they are freed
 abbrev pub Clears : {V : Type 0} → ℕ → List (List (Slot V)) → List (List (Slot V)) → List (List (Slot V)) → List (List (Slot V)) → List (List (Slot V)) → Type 0
 Clears r before first second third after = Rewrites r before first second third after None None None None

@@ -12,7 +12,7 @@ use Rattle.ck_model.specs.Promise.{Name, name_cmp, Answers}
 use Rattle.ck_model.specs.Numbered.{IsIn, AreDistinct, numbers, Holds}
 use Rattle.ck_model.specs.Slots.{Slot, slot_at}
 use Rattle.ck_model.specs.Contents.{Layout, Binds, bindings, row_at, IsSound, Lawful}
-use Rattle.ck_model.specs.Sections.{Section}
+use Rattle.ck_model.specs.Sections.{Renewed, Section}
 use Rattle.ck_model.specs.Arithmetic.{index_of}
 use Rattle.ck_model.proofs.Names.{maps_alike, no_name}
 use Rattle.ck_model.proofs.Found.{get-bindings}
@@ -94,13 +94,17 @@ has_both c zero l = inr (inl refl)
 has_both c (suc zero) l = inl refl
 has_both c (suc (suc t)) l = absurd (omega arith)
 
+-- the held stripes become those with this content, of the same power
+renewed : (c d : Content ℕ) → IsSound two_stripes 0 d → c.power ≡ 1 → d.power ≡ 1 → Renewed two_stripes (both c) (both d)
+renewed c d sound before after = record {
+  same = refl;
+  lawful = both_lawful d sound after;
+  power = inl (λ t u e f h g. powers d after u f g ∙ sym (powers c before t e h));
+}
+
 pub inserted : Section two_stripes (both empty_stripe) insertion.call insertion.reply (both full_stripe)
 inserted = record {
-  renewed = record {
-    same = refl;
-    lawful = both_lawful full_stripe full_sound refl;
-    power = inl (λ t u c d h g. powers full_stripe refl u d g ∙ sym (powers empty_stripe refl t c h));
-  };
+  renewed = renewed empty_stripe full_stripe full_sound refl refl;
   owns = λ t h. has_both empty_stripe t (stripe_below two_stripes zero_name t h);
   step = (
     subst (λ (o : Option ℕ × Option ℕ). Answers (Insert 5) o.0 New o.1) (λ i. (sym (empty_at zero_name) i, sym (full_at zero_name) i)) (refl, refl),
@@ -110,11 +114,7 @@ inserted = record {
 
 pub found : Section two_stripes (both full_stripe) look_up.call look_up.reply (both full_stripe)
 found = record {
-  renewed = record {
-    same = refl;
-    lawful = both_lawful full_stripe full_sound refl;
-    power = inl (λ t u c d h g. powers full_stripe refl u d g ∙ sym (powers full_stripe refl t c h));
-  };
+  renewed = renewed full_stripe full_stripe full_sound refl refl;
   owns = λ t h. has_both full_stripe t (stripe_below two_stripes zero_name t h);
   step = (subst (λ (o : Option ℕ × Option ℕ). Answers Find o.0 (Was (Some 5)) o.1) (λ i. (sym (full_at zero_name) i, sym (full_at zero_name) i)) (refl, refl), λ q ne. refl);
 }

@@ -1,5 +1,5 @@
 -- A change of two that keeps the sum of their values keeps the sum of all.
-use Rattle.std.proofs.Common.{◌≡◌, ◌≢◌, ℕ, ◌+◌, Bool, true, false, cond, T, ◌&&◌, List, [], ◌∷◌, sym, refl, ap, ◌∙◌, subst, ⊎_elim, arith, Less, Equal, Greater, Ordering, is_lt, is_eq, Option, Some, None}
+use Rattle.std.proofs.Common.{◌≡◌, ◌≢◌, ℕ, ◌+◌, cond, T, List, [], ◌∷◌, sym, refl, ap, ◌∙◌, subst, ⊎_elim, arith, Less, Equal, Greater, is_lt, is_eq, Option, Some, None}
 use mathlib.Core.Logic.{dite}
 use Rattle.std.specs.Cmp.Lexicographic.{nat_list_cmp_total}
 use Rattle.std.specs.FinMap.{find, get, empty, insert, entries, entries_sorted, entries-insert, get-insert, get-entries}
@@ -13,27 +13,15 @@ use Rattle.ck_model.specs.declared.history.Entry.{Entry}
 use Rattle.ck_model.specs.Promise.{Name, name_cmp, Map, Answers, AnswersTwo, Step, Leads}
 use Rattle.ck_core.specs.Sums.{total, KeepsTotal, EachKeepsTotal, SessionShows, EachSessionShows, LawOfSums}
 use Rattle.ck_model.proofs.Determined.{leads_one}
+use Rattle.ck_model.proofs.Entries.{first, second, is_less}
 use Rattle.ck_model.proofs.Histories.{leads_to}
 use Rattle.ck_model.proofs.Names.{dec_name, maps_alike, is_name, no_name}
-
-first : (a b : Bool) → T (a && b) → T a
-first true b p = tt
-first false b p = p
-
-second : (a b : Bool) → T (a && b) → T b
-second true b p = p
-second false b p = absurd p
-
-less : (o : Ordering) → T (is_lt o) → o ≡ Less
-less Less p = refl
-less Equal p = absurd p
-less Greater p = absurd p
 
 -- a name below all others isn't found
 less_none : (k y : Name) (es : List (Name × ℕ)) → name_cmp k y ≡ Less → T (below_all name_cmp y es) → find name_cmp k es ≡ None
 less_none k y [] e h = refl
 less_none k y (x ∷ xs) e h =
-    let l : name_cmp k x.0 ≡ Less = nat_list_cmp_total.trans k y x.0 e (less (name_cmp y x.0) (first (is_lt (name_cmp y x.0)) (below_all name_cmp y xs) h)) in
+    let l : name_cmp k x.0 ≡ Less = nat_list_cmp_total.trans k y x.0 e (is_less (name_cmp y x.0) (first (is_lt (name_cmp y x.0)) (below_all name_cmp y xs) h)) in
     ap (λ r. cond (is_eq r) (Some x.1) (find name_cmp k xs)) l ∙ less_none k y xs e (second (is_lt (name_cmp y x.0)) (below_all name_cmp y xs) h)
 
 not_found : (o : ℕ) (b : Option ℕ) → b ≡ None → b ≡ Some o → ⊥

@@ -210,44 +210,30 @@ other_more Two keys false false false true words h = let no : eqb (length words)
 abbrev IsNamed : {A : Type 0} → Version → List ℕ → Option A → List Operand → Type 0
 IsNamed {A} v name command operands = (c : A) × (command ≡ Some c) × (operands_of v name ≡ Some operands)
 
+-- the name is this word, for which the table has the command, or another, of which this is known
+named : {A Other : Type 0} (v : Version) (name word : List ℕ) (command : List ℕ → Option A) (c : A) (operands : List Operand) → command word ≡ Some c → operands_of v word ≡ Some operands
+    → (bytes_eq name word ≡ false → IsNamed v name (command name) operands ⊎ Other) → IsNamed v name (command name) operands ⊎ Other
+named v name word command c operands is behind other =
+    elim (cases_Bool (bytes_eq name word)) [
+      | inl h ↦ let e = same_bytes name word h in inl (c, ap command e ∙ is, ap (operands_of v) e ∙ behind)
+      | inr h ↦ other h
+    ]
+
 alone_named : (v : Version) (name : List ℕ) → IsNamed v name (alone_command name) [] ⊎ ((alone_command name ≡ None) × ((keys : Keys) → behind_fault keys (operands_of v name) [] ≡ Some is.Command))
 alone_named v name =
-    elim (cases_Bool (bytes_eq name (codes "len"))) [
-      | inl h ↦ let e = same_bytes name (codes "len") h in inl (Len, ap alone_command e, ap (operands_of v) e)
-      | inr a ↦ elim (cases_Bool (bytes_eq name (codes "list"))) [
-        | inl h ↦ let e = same_bytes name (codes "list") h in inl (Lists, ap alone_command e, ap (operands_of v) e)
-        | inr b ↦ inr (rw (a, b) refl, λ keys. rw (a, b) (other_alone v keys _ _ _))
-      ]
-    ]
+    named v name (codes "len") alone_command Len [] refl refl (λ a. named v name (codes "list") alone_command Lists [] refl refl (λ b.
+    inr (rw (a, b) refl, λ keys. rw (a, b) (other_alone v keys _ _ _))))
 
 key_named : (v : Version) (name : List ℕ) → IsNamed v name (key_command name) (Key ∷ []) ⊎ ((key_command name ≡ None) × ((keys : Keys) (x : List ℕ) → behind_fault keys (operands_of v name) (x ∷ []) ≡ Some is.Command))
 key_named v name =
-    elim (cases_Bool (bytes_eq name (codes "find"))) [
-      | inl h ↦ let e = same_bytes name (codes "find") h in inl (Find, ap key_command e, ap (operands_of v) e)
-      | inr a ↦ elim (cases_Bool (bytes_eq name (codes "has"))) [
-        | inl h ↦ let e = same_bytes name (codes "has") h in inl (Has, ap key_command e, ap (operands_of v) e)
-        | inr b ↦ elim (cases_Bool (bytes_eq name (codes "erase"))) [
-          | inl h ↦ let e = same_bytes name (codes "erase") h in inl (Erase, ap key_command e, ap (operands_of v) e)
-          | inr d ↦ inr (rw (a, b, d) refl, λ keys x. rw (a, b, d) (other_key v keys _ _ _ x))
-        ]
-      ]
-    ]
+    named v name (codes "find") key_command Find (Key ∷ []) refl refl (λ a. named v name (codes "has") key_command Has (Key ∷ []) refl refl (λ b. named v name (codes "erase") key_command Erase (Key ∷ []) refl refl (λ d.
+    inr (rw (a, b, d) refl, λ keys x. rw (a, b, d) (other_key v keys _ _ _ x)))))
 
 pair_named : (v : Version) (name : List ℕ) → IsNamed v name (pair_command name) (Key ∷ Number ∷ []) ⊎ ((pair_command name ≡ None) × ((keys : Keys) (x y : List ℕ) → behind_fault keys (operands_of v name) (x ∷ y ∷ []) ≡ Some is.Command))
 pair_named v name =
-    elim (cases_Bool (bytes_eq name (codes "insert"))) [
-      | inl h ↦ let e = same_bytes name (codes "insert") h in inl (Insert, ap pair_command e, ap (operands_of v) e)
-      | inr a ↦ elim (cases_Bool (bytes_eq name (codes "assign"))) [
-        | inl h ↦ let e = same_bytes name (codes "assign") h in inl (Assign, ap pair_command e, ap (operands_of v) e)
-        | inr b ↦ elim (cases_Bool (bytes_eq name (codes "update"))) [
-          | inl h ↦ let e = same_bytes name (codes "update") h in inl (Update, ap pair_command e, ap (operands_of v) e)
-          | inr d ↦ elim (cases_Bool (bytes_eq name (codes "add"))) [
-            | inl h ↦ let e = same_bytes name (codes "add") h in inl (Add, ap pair_command e, ap (operands_of v) e)
-            | inr f ↦ inr (rw (a, b, d, f) refl, λ keys x y. rw (a, b, d, f) (other_pair v keys _ _ _ x y))
-          ]
-        ]
-      ]
-    ]
+    named v name (codes "insert") pair_command Insert (Key ∷ Number ∷ []) refl refl (λ a. named v name (codes "assign") pair_command Assign (Key ∷ Number ∷ []) refl refl (λ b.
+    named v name (codes "update") pair_command Update (Key ∷ Number ∷ []) refl refl (λ d. named v name (codes "add") pair_command Add (Key ∷ Number ∷ []) refl refl (λ f.
+    inr (rw (a, b, d, f) refl, λ keys x y. rw (a, b, d, f) (other_pair v keys _ _ _ x y))))))
 
 -- Faults: those of the code are the first ones.
 
@@ -351,20 +337,16 @@ same_fault v keys (name ∷ a ∷ b ∷ c ∷ d ∷ words) = sym (many_words v k
 abbrev pub Says : Version → Keys → List (List ℕ) → WordCommand → Type 0
 Says v keys ws c = IsCommand v keys ws (on_names (name_of keys) c)
 
--- what a table gives is its first line's, or another's
-first_or_later : {A : Type 0} (b : Bool) (x y : A) (later : Option A) → cond b (Some x) later ≡ Some y → ((b ≡ true) × (x ≡ y)) ⊎ (later ≡ Some y)
-first_or_later true x y later e = inl (refl, cc)
-first_or_later false x y later e = inr e
+-- what a table gives has this where its first line's has it, and where another line's has it
+told : {X : Type 0} (P : X → Type 0) (b : Bool) (x y : X) (rest : Option X) → cond b (Some x) rest ≡ Some y → (b ≡ true → P x) → (rest ≡ Some y → P y) → P y
+told P true x y rest e here later = subst P (some_is x y e) (here refl)
+told P false x y rest e here later = later e
 
 alone_law : (v : Version) (keys : Keys) (name : List ℕ) (c : WordCommand) → alone_command name ≡ Some c → Says v keys (name ∷ []) c
 alone_law v keys name c e =
-    elim (first_or_later (bytes_eq name (codes "len")) Len c _ e) [
-      | inl h ↦ subst (Says v keys (name ∷ [])) h.1 (ap (λ (w : List ℕ). w ∷ []) (same_bytes name (codes "len") h.0))
-      | inr e ↦ elim (first_or_later (bytes_eq name (codes "list")) Lists c None e) [
-        | inl h ↦ subst (Says v keys (name ∷ [])) h.1 (ap (λ (w : List ℕ). w ∷ []) (same_bytes name (codes "list") h.0))
-        | inr e ↦ absurd cc
-      ]
-    ]
+    let alone = λ (known : List ℕ) (h : bytes_eq name known ≡ true). ap (λ (w : List ℕ). w ∷ []) (same_bytes name known h) in
+    told (Says v keys (name ∷ [])) (bytes_eq name (codes "len")) Len c _ e (alone (codes "len")) (λ e.
+    told (Says v keys (name ∷ [])) (bytes_eq name (codes "list")) Lists c None e (alone (codes "list")) (λ e. absurd cc))
 
 module _ (v : Version) (keys : Keys) (name key : List ℕ) (fine : key_fault keys key ≡ None) (some : is_empty key ≡ false) where
   abbrev is_key : IsKey keys key (name_of keys key)
@@ -376,16 +358,8 @@ module _ (v : Version) (keys : Keys) (name key : List ℕ) (fine : key_fault key
   key_command_law : (f : List ℕ → WordCommand) → key_command name ≡ Some f → Says v keys (name ∷ key ∷ []) (f key)
   key_command_law f e =
       let P : (List ℕ → WordCommand) → Type 0 = λ f. Says v keys (name ∷ key ∷ []) (f key) in
-      elim (first_or_later (bytes_eq name (codes "find")) Find f _ e) [
-        | inl h ↦ subst P h.1 (key_words (codes "find") h.0)
-        | inr e ↦ elim (first_or_later (bytes_eq name (codes "has")) Has f _ e) [
-          | inl h ↦ subst P h.1 (key_words (codes "has") h.0)
-          | inr e ↦ elim (first_or_later (bytes_eq name (codes "erase")) Erase f None e) [
-            | inl h ↦ subst P h.1 (key_words (codes "erase") h.0)
-            | inr e ↦ absurd cc
-          ]
-        ]
-      ]
+      told P (bytes_eq name (codes "find")) Find f _ e (key_words (codes "find")) (λ e. told P (bytes_eq name (codes "has")) Has f _ e (key_words (codes "has")) (λ e.
+      told P (bytes_eq name (codes "erase")) Erase f None e (key_words (codes "erase")) (λ e. absurd cc)))
 
   module _ (word : List ℕ) (n : ℕ) (number : IsNumber word n) where
     pair_words : (known : List ℕ) → bytes_eq name known ≡ true → AreNameAndPair keys known (name ∷ key ∷ word ∷ []) (name_of keys key) n
@@ -394,19 +368,8 @@ module _ (v : Version) (keys : Keys) (name key : List ℕ) (fine : key_fault key
     pair_command_law : (f : List ℕ → ℕ → WordCommand) → pair_command name ≡ Some f → Says v keys (name ∷ key ∷ word ∷ []) (f key n)
     pair_command_law f e =
         let P : (List ℕ → ℕ → WordCommand) → Type 0 = λ f. Says v keys (name ∷ key ∷ word ∷ []) (f key n) in
-        elim (first_or_later (bytes_eq name (codes "insert")) Insert f _ e) [
-          | inl h ↦ subst P h.1 (pair_words (codes "insert") h.0)
-          | inr e ↦ elim (first_or_later (bytes_eq name (codes "assign")) Assign f _ e) [
-            | inl h ↦ subst P h.1 (pair_words (codes "assign") h.0)
-            | inr e ↦ elim (first_or_later (bytes_eq name (codes "update")) Update f _ e) [
-              | inl h ↦ subst P h.1 (pair_words (codes "update") h.0)
-              | inr e ↦ elim (first_or_later (bytes_eq name (codes "add")) Add f None e) [
-                | inl h ↦ subst P h.1 (pair_words (codes "add") h.0)
-                | inr e ↦ absurd cc
-              ]
-            ]
-          ]
-        ]
+        told P (bytes_eq name (codes "insert")) Insert f _ e (pair_words (codes "insert")) (λ e. told P (bytes_eq name (codes "assign")) Assign f _ e (pair_words (codes "assign")) (λ e.
+        told P (bytes_eq name (codes "update")) Update f _ e (pair_words (codes "update")) (λ e. told P (bytes_eq name (codes "add")) Add f None e (pair_words (codes "add")) (λ e. absurd cc))))
 
 key_says : (v : Version) (keys : Keys) (name key : List ℕ) (c : WordCommand) → command_in v keys (name ∷ key ∷ []) ≡ Ok c → Says v keys (name ∷ key ∷ []) c
 key_says v keys name key c e =

@@ -32,7 +32,7 @@ use Rattle.ck_format.specs.Blocks.{Blocks, first_block, with_command, with_worke
 use Rattle.ck_format.specs.State.{State, Header, Setting as Settings_, Block, After, step}
 use Rattle.ck_format.specs.Stands.{number_found, keys_given, keys_found, AreGiven, AreCommands, block_lines, AreRead}
 use Rattle.ck_format.proofs.Commands.{bytes_eq-refl, bytes_eq-no, ok_is, bind_ok, number_at-of, no_empty_number, is_read}
-use Rattle.ck_format.proofs.SettingLaws.{given_line, keys_of_line, header_name, header_keys, given_some, given_keys, given_next, given_first, no_worker, not_keys, line_name, line_keys, no_option}
+use Rattle.ck_format.proofs.SettingLaws.{by_setting, given_line, keys_of_line, header_name, header_keys, given_some, given_keys, given_next, given_first, no_worker, not_keys, line_name, line_keys, no_option}
 use Rattle.ck_format.proofs.Steps.{read_next}
 
 -- The lines, one behind another.
@@ -68,12 +68,7 @@ run_read s t lines (line ∷ more) read each e =
 -- A line of settings.
 
 word_setting : (t : Setting) → setting_at (word_of t) ≡ Some t
-word_setting S = refl
-word_setting Power = refl
-word_setting Max = refl
-word_setting Turns = refl
-word_setting Rounds = refl
-word_setting Load = refl
+word_setting = by_setting (λ t. setting_at (word_of t) ≡ Some t) refl refl refl refl refl refl
 
 take_line_keys : (g : Found) (k : Keys) → is_some g.keys ≡ false → take_words g (tokens (keys_line k)) ≡ Ok (with_keys g k)
 take_line_keys g Num e = rw e refl

@@ -26,6 +26,15 @@ use Rattle.ck_format.proofs.Commands.{same_bytes, bytes_eq-refl, bytes_eq-no, ch
 
 -- A line of settings.
 
+-- what holds at each setting holds at all
+pub by_setting : (P : Setting → Type 0) → P S → P Power → P Max → P Turns → P Rounds → P Load → (t : Setting) → P t
+by_setting P s power max turns rounds load S = s
+by_setting P s power max turns rounds load Power = power
+by_setting P s power max turns rounds load Max = max
+by_setting P s power max turns rounds load Turns = turns
+by_setting P s power max turns rounds load Rounds = rounds
+by_setting P s power max turns rounds load Load = load
+
 -- a line is its words and the spaces between them
 pub line_of_words : (line : List ℕ) (ws : List (List ℕ)) → tokens line ≡ ws → line ≡ join_with_byte 32 ws
 line_of_words line ws e = sym (join_with_byte-slice_split 32 line) ∙ ap (join_with_byte 32) e
@@ -34,18 +43,8 @@ abbrev gives_number : Setting → List ℕ → Bool
 gives_number setting line = is_some (number_given setting (tokens line))
 
 keys_given_none : (k : Keys) (t : Setting) → bytes_eq (first_word (keys_line k)) (word_of t) ≡ gives_number t (keys_line k)
-keys_given_none Num S = refl
-keys_given_none Num Power = refl
-keys_given_none Num Max = refl
-keys_given_none Num Turns = refl
-keys_given_none Num Rounds = refl
-keys_given_none Num Load = refl
-keys_given_none Text S = refl
-keys_given_none Text Power = refl
-keys_given_none Text Max = refl
-keys_given_none Text Turns = refl
-keys_given_none Text Rounds = refl
-keys_given_none Text Load = refl
+keys_given_none Num = by_setting (λ t. bytes_eq (first_word (keys_line Num)) (word_of t) ≡ gives_number t (keys_line Num)) refl refl refl refl refl refl
+keys_given_none Text = by_setting (λ t. bytes_eq (first_word (keys_line Text)) (word_of t) ≡ gives_number t (keys_line Text)) refl refl refl refl refl refl
 
 some_if : (b : Bool) (n : ℕ) → b ≡ is_some (cond b (Some n) None)
 some_if true n = refl
@@ -61,13 +60,11 @@ given_line v line t (inr h) =
 abbrev gives_keys : List ℕ → Bool
 gives_keys line = is_some (keys_given (tokens line))
 
-no_keys : (t : Setting) (word : List ℕ) → bytes_eq (word_of t) (codes "keys") ≡ is_some (keys_given (word_of t ∷ word ∷ []))
-no_keys S word = refl
-no_keys Power word = refl
-no_keys Max word = refl
-no_keys Turns word = refl
-no_keys Rounds word = refl
-no_keys Load word = refl
+pub not_keys : (t : Setting) → bytes_eq (word_of t) (codes "keys") ≡ false
+not_keys = by_setting (λ t. bytes_eq (word_of t) (codes "keys") ≡ false) refl refl refl refl refl refl
+
+no_keys_word : (t : Setting) (word : List ℕ) → keys_given (word_of t ∷ word ∷ []) ≡ None
+no_keys_word t word = by_setting (λ u. keys_given (word_of u ∷ word ∷ []) ≡ None) refl refl refl refl refl refl t
 
 own_keys : (k : Keys) → bytes_eq (first_word (keys_line k)) (codes "keys") ≡ gives_keys (keys_line k)
 own_keys Num = refl
@@ -75,7 +72,7 @@ own_keys Text = refl
 
 pub keys_of_line : (v : Version) (line : List ℕ) → IsSetting v line → bytes_eq (first_word line) (codes "keys") ≡ gives_keys line
 keys_of_line v line (inl h) = ap (λ (l : List ℕ). bytes_eq (first_word l) (codes "keys")) h.1 ∙ own_keys h.0 ∙ ap gives_keys (sym h.1)
-keys_of_line v line (inr h) = let gives = h.2 in rw gives.1 (no_keys h.0 gives.0)
+keys_of_line v line (inr h) = let gives = h.2 in rw gives.1 (not_keys h.0 ∙ sym (ap is_some (no_keys_word h.0 gives.0)))
 
 abbrev second_of : List (List ℕ) → Bool
 second_of (a ∷ b ∷ ws) = true
@@ -138,32 +135,12 @@ number_in-found t (line ∷ lines) = ap (unwrap_or (number_given t (tokens line)
 -- The first line.
 
 header_gives : (v : Version) (t : Setting) → number_given t (tokens (header_of v)) ≡ None
-header_gives One S = refl
-header_gives One Power = refl
-header_gives One Max = refl
-header_gives One Turns = refl
-header_gives One Rounds = refl
-header_gives One Load = refl
-header_gives Two S = refl
-header_gives Two Power = refl
-header_gives Two Max = refl
-header_gives Two Turns = refl
-header_gives Two Rounds = refl
-header_gives Two Load = refl
+header_gives One = by_setting (λ t. number_given t (tokens (header_of One)) ≡ None) refl refl refl refl refl refl
+header_gives Two = by_setting (λ t. number_given t (tokens (header_of Two)) ≡ None) refl refl refl refl refl refl
 
 pub header_name : (v : Version) (t : Setting) → bytes_eq (first_word (header_of v)) (word_of t) ≡ false
-header_name One S = refl
-header_name One Power = refl
-header_name One Max = refl
-header_name One Turns = refl
-header_name One Rounds = refl
-header_name One Load = refl
-header_name Two S = refl
-header_name Two Power = refl
-header_name Two Max = refl
-header_name Two Turns = refl
-header_name Two Rounds = refl
-header_name Two Load = refl
+header_name One = by_setting (λ t. bytes_eq (first_word (header_of One)) (word_of t) ≡ false) refl refl refl refl refl refl
+header_name Two = by_setting (λ t. bytes_eq (first_word (header_of Two)) (word_of t) ≡ false) refl refl refl refl refl refl
 
 pub header_keys : (v : Version) → bytes_eq (first_word (header_of v)) (codes "keys") ≡ false
 header_keys One = refl
@@ -258,20 +235,10 @@ abbrev has_text : List (List ℕ) → Bool
 has_text lines = list_any (λ line. bytes_eq line (keys_line Text)) lines
 
 number_version : (g : Found) (t : Setting) (n : ℕ) → (with_number g t n).version ≡ g.version
-number_version g S n = refl
-number_version g Power n = refl
-number_version g Max n = refl
-number_version g Turns n = refl
-number_version g Rounds n = refl
-number_version g Load n = refl
+number_version g t n = by_setting (λ u. (with_number g u n).version ≡ g.version) refl refl refl refl refl refl t
 
 number_keys : (g : Found) (t : Setting) (n : ℕ) → (with_number g t n).keys ≡ g.keys
-number_keys g S n = refl
-number_keys g Power n = refl
-number_keys g Max n = refl
-number_keys g Turns n = refl
-number_keys g Rounds n = refl
-number_keys g Load n = refl
+number_keys g t n = by_setting (λ u. (with_number g u n).keys ≡ g.keys) refl refl refl refl refl refl t
 
 number_put : (g : Found) (t : Setting) (n : ℕ) (u : Setting) → given_to (with_number g t n) u ≡ cond (bytes_eq (word_of t) (word_of u)) (Some n) (given_to g u)
 number_put g S n S = refl
@@ -294,22 +261,6 @@ same_word t u e = absurd (false≢true e)
 pub no_option : {X : Type 0} (o : Option X) → is_some o ≡ false → o ≡ None
 no_option None e = refl
 no_option (Some x) e = absurd (false≢true (sym e))
-
-no_keys_word : (t : Setting) (word : List ℕ) → keys_given (word_of t ∷ word ∷ []) ≡ None
-no_keys_word S word = refl
-no_keys_word Power word = refl
-no_keys_word Max word = refl
-no_keys_word Turns word = refl
-no_keys_word Rounds word = refl
-no_keys_word Load word = refl
-
-pub not_keys : (t : Setting) → bytes_eq (word_of t) (codes "keys") ≡ false
-not_keys S = refl
-not_keys Power = refl
-not_keys Max = refl
-not_keys Turns = refl
-not_keys Rounds = refl
-not_keys Load = refl
 
 or_false : (b : Bool) → (b || (false || false)) ≡ b
 or_false true = refl
@@ -368,12 +319,7 @@ line_name Num = refl
 line_name Text = refl
 
 keys_no : (u : Setting) → bytes_eq (codes "keys") (word_of u) ≡ false
-keys_no S = refl
-keys_no Power = refl
-keys_no Max = refl
-keys_no Turns = refl
-keys_no Rounds = refl
-keys_no Load = refl
+keys_no = by_setting (λ u. bytes_eq (codes "keys") (word_of u) ≡ false) refl refl refl refl refl refl
 
 line_names : (k : Keys) (u : Setting) → bytes_eq (first_word (keys_line k)) (word_of u) ≡ false
 line_names k u = ap (λ (w : List ℕ). bytes_eq w (word_of u)) (line_name k) ∙ keys_no u

@@ -30,6 +30,7 @@ use Rattle.ck_section.specs.Hops.{source_in, IsHopIn, CanHop, Hops, lifted}
 use Rattle.ck_section.specs.Room.{HaveFour, sketch_of}
 use Rattle.ck_section.proofs.Found.{set_here}
 use Rattle.ck_section.proofs.Rebinding.{keeps_s}
+use Rattle.ck_section.proofs.Hopped.{hop_between}
 
 -- the hop of a table of 2^p buckets
 abbrev pub hop_of : ℕ → PathHop → ℕ → Hop
@@ -188,21 +189,8 @@ module _ {V : Type 0} where
   pub hop_in : (s : ℕ) (stripes : List (StripeState V)) → AreAllHeld s stripes → (hop : Hop) → hop.bucket % 2 ^ s < length stripes → hop.target % 2 ^ s < length stripes → hop.bucket < 2 ^ hop.power
       → hop.target ≡ alternate_of hop.power hop.partial hop.bucket → IsHopIn stripes (hop.bucket % 2 ^ s) (hop.target % 2 ^ s) hop
   hop_in s stripes all hop first second below target =
-      let i : ℕ = hop.bucket % 2 ^ s in
-      let j : ℕ = hop.target % 2 ^ s in
       let table = all.table in
-      record {
-        first = first;
-        second = second;
-        first_settled = all.settled i first;
-        second_settled = all.settled j second;
-        one_s = table.one_s j second ∙ sym (table.one_s i first);
-        one_power = table.one_power j second ∙ sym (table.one_power i first);
-        below = below;
-        target = target;
-        first_own = ap (λ n. hop.bucket % 2 ^ n) (table.one_s i first) ∙ sym (table.number i first);
-        second_own = ap (λ n. hop.target % 2 ^ n) (table.one_s j second) ∙ sym (table.number j second);
-      }
+      hop_between s stripes _ _ hop first second all.settled table.one_s table.one_power below target (table.number _ first) (table.number _ second)
 
 -- the hop that is next, from the end backwards
 pub next_left : (p : ℕ) (sketches : ℕ → Sketch) (b : ℕ) (todo : List PathHop) (i t : ℕ) (d : PathHop) → i < length todo → IsLeft p sketches b (reverse (drop i todo)) t

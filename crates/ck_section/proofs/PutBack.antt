@@ -1,5 +1,5 @@
 -- An entry is taken out of its slot, and put back with another value.
-use Rattle.std.proofs.Common.{◌≡◌, inl, ℕ, List, Option, Some, None, Bool, false, Result, Ok, Err, MatchResult, refl, sym, ◌∙◌, ap, subst}
+use Rattle.std.proofs.Common.{◌≡◌, ◌<◌, inl, ℕ, List, Option, Some, None, Bool, false, Result, Ok, Err, MatchResult, refl, sym, ◌∙◌, ap, subst}
 use Rattle.std.proofs.lemmas.Option.{some_pair_parts}
 use Rattle.ck_model.specs.Arithmetic.{partial_of}
 use Rattle.ck_model.specs.declared.history.Act.{Act}
@@ -17,7 +17,7 @@ use Rattle.ck_section.specs.Stripes.{stripe_at, contents_of, IsInReach}
 use Rattle.ck_section.specs.Places.{IsPlaceOf, IsSlotOf, slot_in}
 use Rattle.ck_section.specs.Entries.{IsOccupied}
 use Rattle.ck_section.specs.Calls.{ChangesContents}
-use Rattle.ck_section.specs.Uprasing.{TriesUpsert}
+use Rattle.ck_section.specs.Acts.{TriesUpsert}
 use Rattle.ck_section.proofs.Found.{owns, changes_on}
 use Rattle.ck_section.proofs.Decided.{IsCallOn, freed, s_at}
 use Rattle.ck_section.proofs.Rebinding.{Rebinding, power_on, keeps_s, keeps_reach, keeps_slot, removing, placing}
@@ -44,14 +44,17 @@ module _ {V : Type 0} (hash : Name → ℕ) (stripes : List (StripeState V)) (q 
   still_reach : IsInReach (taken stripes at) at.index at.bucket
   still_reach = keeps_reach stripes at here.slot.reach.inside None _ at.index at.bucket here.slot.reach
 
-  pub reach_taken : IsInReach one at.index at.bucket
-  reach_taken = subst (λ (l : List (StripeState V)). IsInReach l at.index at.bucket) (sym is_taken) still_reach
-
   now_free : slot_in (taken stripes at) at ≡ None
   now_free = freed stripes at here.slot.reach _
 
-  pub free_taken : slot_in one at ≡ None
-  free_taken = ap (λ (l : List (StripeState V)). slot_in l at) is_taken ∙ now_free
+  -- what is asked of the slot where an entry is put into it
+  pub ready_again : record { reach : IsInReach one at.index at.bucket; below : at.slot < 4; free : slot_in one at ≡ None; partial : place.partial ≡ partial_of (hash n) }
+  ready_again = record {
+    reach = subst (λ (l : List (StripeState V)). IsInReach l at.index at.bucket) (sym is_taken) still_reach;
+    below = here.slot.below;
+    free = ap (λ (l : List (StripeState V)). slot_in l at) is_taken ∙ now_free;
+    partial = partial_taken;
+  }
 
   -- it gets an entry again
   module _ (w : V) (two : List (StripeState V)) (is_two : two ≡ given one at n w) where

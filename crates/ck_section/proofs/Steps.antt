@@ -2,6 +2,7 @@
 use Rattle.std.proofs.Common.{◌≡◌, ℕ, ◌+◌, ◌-◌, ◌<◌, List, Option, Some, None, IsSome, IfNone, is_some, length, refl, sym, ◌∙◌, ap, subst}
 use Rattle.std.proofs.lemmas.Option.{some_pair_parts}
 use Rattle.ck_model.specs.declared.history.Act.{Act}
+use Rattle.ck_model.specs.declared.history.Act.TheVariants.{Find}
 use Rattle.ck_model.specs.declared.history.Reply.{Reply}
 use Rattle.ck_model.specs.declared.history.Reply.TheVariants.{Was, Done}
 use Rattle.ck_model.specs.Promise.{Name, Answers}
@@ -87,12 +88,28 @@ module _ {V : Type 0} where
       pub found_in : slot_in cur at ≡ Some (q, here.found.0)
       found_in = ap (λ (l : List (StripeState V)). slot_in l at) same ∙ here.found.1
 
+      -- what is asked of a slot that is changed,
+      pub ready : record { reach : IsInReach cur at.index at.bucket; below : at.slot < 4; full : IsSome (slot_in cur at) }
+      ready = record { reach = reach_still stripes cur same at.index at.bucket here.slot.reach; below = here.slot.below; full = full_still stripes cur same at q here.found }
+
+      -- and where a closure is called on its value
+      pub ready_for : {C : Type 0} → C → record { reach : IsInReach cur at.index at.bucket; below : at.slot < 4; full : IsSome (slot_in cur at); call : C }
+      ready_for call = record { reach = ready.reach; below = ready.below; full = ready.full; call = call }
+
       pub bound_with_room : IsWithRoom hash place.s stripes q
       bound_with_room max lawful = bound_room hash place.s max stripes lawful q here.found.0 at here.slot.reach here.found.1
 
       pub kept : (act : Act V) (reply : Reply V) → Answers act (Some here.found.0) reply (Some here.found.0) → IsCallOn hash place.s stripes q act reply cur
       kept act reply answers =
           subst (λ (l : List (StripeState V)). IsCallOn hash place.s stripes q act reply l) (sym same) (keeps_bound hash stripes q place of act reply at here.found.0 here.slot here.found.1 answers)
+
+      -- a call that reads the value
+      pub read_kept : (P : V → Type 0) → ((n : Name) (v : V) → slot_in cur at ≡ Some (n, v) → P v) → (new : List (StripeState V)) → new ≡ cur → (v : V) × P v × IsCallOn hash place.s stripes q Find (Was (Some v)) new
+      read_kept P read new still = (
+        here.found.0,
+        read q here.found.0 found_in,
+        subst (λ (l : List (StripeState V)). IsCallOn hash place.s stripes q Find (Was (Some here.found.0)) l) (sym still) (kept Find (Was (Some here.found.0)) (refl, refl)),
+      )
 
       wrote : (act : Act V) (reply : Reply V) (w : V) (new : List (StripeState V)) → Answers act (Some here.found.0) reply (Some w)
           → new ≡ set_slot cur at (Some (q, w)) (stripe_at cur at.index).content.ledger → IsCallOn hash place.s stripes q act reply new

@@ -11,23 +11,23 @@ module _ {A : Type 0} (f : A → A) where
   changed_to (suc n) (x ∷ xs) = f x ∷ changed_to n xs
 
   -- the next one is changed
-  pub changed-next : (n : ℕ) (xs : List A) (d : A) → slice_set (changed_to n xs) n (f (slice_index_or (changed_to n xs) n d)) ≡ changed_to (suc n) xs
+  changed-next : (n : ℕ) (xs : List A) (d : A) → slice_set (changed_to n xs) n (f (slice_index_or (changed_to n xs) n d)) ≡ changed_to (suc n) xs
   changed-next zero [] d = refl
   changed-next zero (x ∷ xs) d = refl
   changed-next (suc n) [] d = refl
   changed-next (suc n) (x ∷ xs) d = ap {B = List A} (λ l. f x ∷ l) (changed-next n xs d)
 
-  pub changed-all : (xs : List A) → changed_to (length xs) xs ≡ map f xs
+  changed-all : (xs : List A) → changed_to (length xs) xs ≡ map f xs
   changed-all [] = refl
   changed-all (x ∷ xs) = ap {B = List A} (λ l. f x ∷ l) (changed-all xs)
 
-  pub length-changed : (n : ℕ) (xs : List A) → length (changed_to n xs) ≡ length xs
+  length-changed : (n : ℕ) (xs : List A) → length (changed_to n xs) ≡ length xs
   length-changed zero xs = refl
   length-changed (suc n) [] = refl
   length-changed (suc n) (x ∷ xs) = ap suc (length-changed n xs)
 
   -- the others are as before
-  pub changed-past : (n i : ℕ) (xs : List A) (d : A) → n ≤ i → slice_index_or (changed_to n xs) i d ≡ slice_index_or xs i d
+  changed-past : (n i : ℕ) (xs : List A) (d : A) → n ≤ i → slice_index_or (changed_to n xs) i d ≡ slice_index_or xs i d
   changed-past zero i xs d le = refl
   changed-past (suc n) i [] d le = refl
   changed-past (suc n) zero (x ∷ xs) d le = absurd (omega arith)
@@ -35,6 +35,9 @@ module _ {A : Type 0} (f : A → A) where
 
   -- The first n are changed in now.
   module _ (n : ℕ) (xs now : List A) (is : now ≡ changed_to n xs) where
+    pub changed-long : length now ≡ length xs
+    changed-long = ap length is ∙ length-changed n xs
+
     -- what is read of the next one is as before
     pub changed-read : (t d : A) → n < length xs → slice_index_or now n t ≡ slice_index_or xs n d
     changed-read t d lt = ap (λ l. slice_index_or l n t) is ∙ changed-past n n xs t (omega arith) ∙ get_or_default xs n t d lt

@@ -10,6 +10,7 @@ ghost use Rattle.ck_section.specs.Calls.{ChangesContents};
 use crate::held::Held;
 use crate::look::bucket_index;
 use crate::one_stripe;
+use crate::place::HeldSlot;
 use ck_key::TableKey;
 use ck_stripe::Stripe;
 
@@ -54,8 +55,18 @@ pub(crate) fn move_entry<K: TableKey + Drop, V: Drop, H: Held<Stripe<K, V>>>(
     let Some(slot) = one_stripe::free(held, to, hop.target) else {
         return false;
     };
-    let (key, value) = one_stripe::remove(held, from, hop.bucket, hop.slot);
-    one_stripe::place(held, to, hop.target, slot, hop.partial, key, value);
+    let source = HeldSlot {
+        index: from,
+        bucket: hop.bucket,
+        slot: hop.slot,
+    };
+    let target = HeldSlot {
+        index: to,
+        bucket: hop.target,
+        slot,
+    };
+    let (key, value) = one_stripe::remove(held, source);
+    one_stripe::place(held, target, hop.partial, key, value);
     true
 }
 

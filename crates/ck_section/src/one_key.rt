@@ -5,13 +5,13 @@ ghost use Rattle.std.specs.Bool.{OnFalse};
 ghost use Rattle.std.specs.Fn.{FnOnceReturnsAt};
 ghost use Rattle.ck_model.specs.declared.history.Act.{Act};
 ghost use Rattle.ck_model.specs.declared.history.Reply.{Reply};
-ghost use Rattle.ck_model.specs.declared.history.Act.TheVariants.{Find, Insert, Assign, Update, Change, Upsert, Erase};
-ghost use Rattle.ck_model.specs.declared.history.Reply.TheVariants.{Was, New, Old, Done, Absent};
+ghost use Rattle.ck_model.specs.declared.history.Act.TheVariants.{Find, Change, Erase};
+ghost use Rattle.ck_model.specs.declared.history.Reply.TheVariants.{Was, Done, Absent};
 ghost use Rattle.ck_model.specs.Promise.{Answers};
 ghost use Rattle.ck_section.specs.Places.{IsPlaceOf};
 ghost use Rattle.ck_section.specs.Entries.{IsEntryOf, IsOccupied, IsVacant};
 ghost use Rattle.ck_section.specs.Calls.{effect, IsCall, ChangesContents};
-ghost use Rattle.ck_section.specs.Uprasing.{IsUprased, TriesUpsert};
+ghost use Rattle.ck_section.specs.Acts.{Inserts, Assigns, Updates, Erases, Changes, Upserts, Uprases, TriesUpsert};
 
 use crate::entry::Entry;
 use crate::held::Held;
@@ -43,7 +43,7 @@ where
     ensures stays { H.stays held.old held.new }
 {
     let at = find_slot(held, place, key)?;
-    Some(one_stripe::read(held, at.index, at.bucket, at.slot, f))
+    Some(one_stripe::read(held, at, f))
 }
 
 /// Binds the key of the entry where it is unbound, and says whether it was. A bound key keeps its
@@ -58,8 +58,8 @@ pub fn insert<K: TableKey + Drop, V: Drop, H: Held<Stripe<K, V>>>(
 ) -> bool
     requires place { IsPlaceOf K.hash (H.stripes held.old) (K.name key) place }
     requires entry { IsEntryOf K.hash (H.stripes held.old) (K.name key) place entry }
-    ensures call { IsCall (effect K.hash H.stripes place held.old held.new) (K.name key)
-        (Insert value) (if result then New else Old) }
+    ensures call { Inserts value
+        (IsCall (effect K.hash H.stripes place held.old held.new) (K.name key)) result }
     ensures same { OnFalse result (H.stripes held.new ≡ H.stripes held.old) }
     ensures rest { ChangesContents (H.stripes held.old) (H.stripes held.new) }
     ensures stays { H.stays held.old held.new }
@@ -84,15 +84,13 @@ pub fn insert_or_assign<K: TableKey + Drop, V: Drop, H: Held<Stripe<K, V>>>(
 ) -> Option<V>
     requires place { IsPlaceOf K.hash (H.stripes held.old) (K.name key) place }
     requires entry { IsEntryOf K.hash (H.stripes held.old) (K.name key) place entry }
-    ensures call { IsCall (effect K.hash H.stripes place held.old held.new) (K.name key)
-        (Assign value) (Was result) }
+    ensures call { Assigns value
+        (IsCall (effect K.hash H.stripes place held.old held.new) (K.name key)) result }
     ensures rest { ChangesContents (H.stripes held.old) (H.stripes held.new) }
     ensures stays { H.stays held.old held.new }
 {
     match entry {
-        Entry::Occupied(old) => Some(one_stripe::replace(
-            held, old.index, old.bucket, old.slot, value,
-        )),
+        Entry::Occupied(old) => Some(one_stripe::replace(held, old, value)),
         Entry::Vacant(at) => {
             fill(held, place, at, key, value);
             None
@@ -109,14 +107,14 @@ pub fn update<K: TableKey + Drop, V: Drop, Q: Query<K>, H: Held<Stripe<K, V>>>(
     value: V,
 ) -> Option<V>
     requires { IsPlaceOf K.hash (H.stripes held.old) (Q.name key) place }
-    ensures call { IsCall (effect K.hash H.stripes place held.old held.new) (Q.name key)
-        (Update value) (Was result) }
+    ensures call { Updates value
+        (IsCall (effect K.hash H.stripes place held.old held.new) (Q.name key)) result }
     ensures same { IfNone result (H.stripes held.new ≡ H.stripes held.old) }
     ensures rest { ChangesContents (H.stripes held.old) (H.stripes held.new) }
     ensures stays { H.stays held.old held.new }
 {
     let at = find_slot(held, place, key)?;
-    Some(one_stripe::replace(held, at.index, at.bucket, at.slot, value))
+    Some(one_stripe::replace(held, at, value))
 }
 
 /// Unbinds the key, and gives the value that it had; `None` where it is unbound.
@@ -126,14 +124,14 @@ pub fn erase<K: TableKey + Drop, V: Drop, Q: Query<K>, H: Held<Stripe<K, V>>>(
     key: Q,
 ) -> Option<V>
     requires { IsPlaceOf K.hash (H.stripes held.old) (Q.name key) place }
-    ensures call { IsCall (effect K.hash H.stripes place held.old held.new) (Q.name key)
-        Erase (Was result) }
+    ensures call { Erases
+        (IsCall (effect K.hash H.stripes place held.old held.new) (Q.name key)) result }
     ensures same { IfNone result (H.stripes held.new ≡ H.stripes held.old) }
     ensures rest { ChangesContents (H.stripes held.old) (H.stripes held.new) }
     ensures stays { H.stays held.old held.new }
 {
     let at = find_slot(held, place, key)?;
-    let (_, value) = one_stripe::remove(held, at.index, at.bucket, at.slot);
+    let (_, value) = one_stripe::remove(held, at);
     Some(value)
 }
 
@@ -162,10 +160,10 @@ pub fn erase_fn<
     let Some(at) = find_slot(held, place, key) else {
         return Err(f);
     };
-    if !one_stripe::read(held, at.index, at.bucket, at.slot, f) {
+    if !one_stripe::read(held, at, f) {
         return Ok(false);
     }
-    one_stripe::remove(held, at.index, at.bucket, at.slot);
+    one_stripe::remove(held, at);
     Ok(true)
 }
 
@@ -182,12 +180,8 @@ where
     F: Drop,
     requires place { IsPlaceOf K.hash (H.stripes held.old) (Q.name key) place }
     requires call { F.IsAlwaysCallable f }
-    ensures call { MatchBool result
-        ((v w : V) × F.post f v w
-        × IsCall (effect K.hash H.stripes place held.old held.new) (Q.name key)
-        Change (Done v w))
-        (IsCall (effect K.hash H.stripes place held.old held.new) (Q.name key)
-        Change Absent) }
+    ensures call { Changes (F.post f)
+        (IsCall (effect K.hash H.stripes place held.old held.new) (Q.name key)) result }
     ensures same { OnFalse result (H.stripes held.new ≡ H.stripes held.old) }
     ensures rest { ChangesContents (H.stripes held.old) (H.stripes held.new) }
     ensures stays { H.stays held.old held.new }
@@ -195,7 +189,7 @@ where
     let Some(at) = find_slot(held, place, key) else {
         return false;
     };
-    one_stripe::change(held, at.index, at.bucket, at.slot, f);
+    one_stripe::change(held, at, f);
     true
 }
 
@@ -230,9 +224,9 @@ pub fn replace_if<
         Some(at) => at,
         None => return Err(f),
     };
-    match one_stripe::read(held, at.index, at.bucket, at.slot, f) {
+    match one_stripe::read(held, at, f) {
         Some(value) => {
-            one_stripe::replace(held, at.index, at.bucket, at.slot, value);
+            one_stripe::replace(held, at, value);
             Ok(true)
         }
         None => Ok(false),
@@ -267,17 +261,9 @@ pub fn try_update<
         Some(at) => at,
         None => return Err(f),
     };
-    let (own, old) = one_stripe::remove(held, at.index, at.bucket, at.slot);
+    let (own, old) = one_stripe::remove(held, at);
     let (value, outcome) = value_and_outcome(f(old));
-    one_stripe::place(
-        held,
-        at.index,
-        at.bucket,
-        at.slot,
-        place.partial,
-        own,
-        value,
-    );
+    one_stripe::place(held, at, place.partial, own, value);
     Ok(outcome)
 }
 
@@ -298,17 +284,14 @@ where
     requires place { IsPlaceOf K.hash (H.stripes held.old) (K.name key) place }
     requires entry { IsEntryOf K.hash (H.stripes held.old) (K.name key) place entry }
     requires call { F.IsAlwaysCallable f }
-    ensures call { MatchBool result
-        (IsCall (effect K.hash H.stripes place held.old held.new) (K.name key)
-        (Upsert value) New)
-        ((v w : V) × F.post f v w × IsCall (effect K.hash H.stripes place held.old held.new)
-        (K.name key) (Upsert value) (Done v w)) }
+    ensures call { Upserts (F.post f) value
+        (IsCall (effect K.hash H.stripes place held.old held.new) (K.name key)) result }
     ensures rest { ChangesContents (H.stripes held.old) (H.stripes held.new) }
     ensures stays { H.stays held.old held.new }
 {
     match entry {
         Entry::Occupied(old) => {
-            one_stripe::change(held, old.index, old.bucket, old.slot, f);
+            one_stripe::change(held, old, f);
             false
         }
         Entry::Vacant(at) => {
@@ -334,7 +317,7 @@ pub fn fill<K: TableKey + Drop, V: Drop, H: Held<Stripe<K, V>>>(
     ensures stays { H.stays held.old held.new }
 {
     let partial = place.partial;
-    one_stripe::place(held, at.index, at.bucket, at.slot, partial, key, value);
+    one_stripe::place(held, at, partial, key, value);
 }
 
 // The value that a success or a failure gave back, and which of the two it was.
@@ -365,7 +348,7 @@ pub fn read_entry<K: TableKey + Drop, V: Drop, H: Held<Stripe<K, V>>, R, F: FnOn
     ensures same { H.stripes held.new ≡ H.stripes held.old }
     ensures stays { H.stays held.old held.new }
 {
-    one_stripe::read(held, at.index, at.bucket, at.slot, f)
+    one_stripe::read(held, at, f)
 }
 
 /// What became of a key that was upserted or erased, as a closure decided.
@@ -396,25 +379,17 @@ where
     requires place { IsPlaceOf K.hash (H.stripes held.old) (K.name key) place }
     requires entry { IsEntryOf K.hash (H.stripes held.old) (K.name key) place entry }
     requires call { F.IsAlwaysCallable f }
-    ensures call { IsUprased (F.post f) value
+    ensures call { Uprases (F.post f) value
         (IsCall (effect K.hash H.stripes place held.old held.new) (K.name key)) result }
     ensures rest { ChangesContents (H.stripes held.old) (H.stripes held.new) }
     ensures stays { H.stays held.old held.new }
 {
     match entry {
         Entry::Occupied(at) => {
-            let (bound, old) = one_stripe::remove(held, at.index, at.bucket, at.slot);
+            let (bound, old) = one_stripe::remove(held, at);
             match f(old) {
                 Some(new) => {
-                    one_stripe::place(
-                        held,
-                        at.index,
-                        at.bucket,
-                        at.slot,
-                        place.partial,
-                        bound,
-                        new,
-                    );
+                    one_stripe::place(held, at, place.partial, bound, new);
                     Uprased::Changed
                 }
                 None => Uprased::Erased,
@@ -451,17 +426,9 @@ where
 {
     match entry {
         Entry::Occupied(at) => {
-            let (own, was) = one_stripe::remove(held, at.index, at.bucket, at.slot);
+            let (own, was) = one_stripe::remove(held, at);
             let (bound, outcome) = value_and_outcome(f(was));
-            one_stripe::place(
-                held,
-                at.index,
-                at.bucket,
-                at.slot,
-                place.partial,
-                own,
-                bound,
-            );
+            one_stripe::place(held, at, place.partial, own, bound);
             answer_of_bound(outcome)
         }
         Entry::Vacant(at) => {

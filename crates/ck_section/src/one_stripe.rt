@@ -12,6 +12,7 @@ ghost use Rattle.ck_section.specs.Reading.{ReadsSlot};
 ghost use Rattle.ck_section.specs.Places.{HasStripe, at, slot_in, set_slot, IsLowest};
 
 use crate::held::Held;
+use crate::place::HeldSlot;
 use ck_key::{Query, TableKey};
 use ck_stripe::Stripe;
 use std::alloc::AllocError;
@@ -148,95 +149,90 @@ pub(crate) fn sketch<K: TableKey + Drop, V: Drop, H: Held<Stripe<K, V>>>(
 #[inline(always)]
 pub(crate) fn read<K: TableKey + Drop, V: Drop, H: Held<Stripe<K, V>>, R, F: FnOnce(&V) -> R>(
     held: &mut H,
-    i: usize,
-    b: u64,
-    slot: usize,
+    at: HeldSlot,
     f: F,
 ) -> R
-    requires reach { IsInReach (H.stripes held.old) i b }
-    requires below { slot < 4 }
-    requires full { IsSome (slot_in (H.stripes held.old) (at i b slot)) }
+    requires reach { IsInReach (H.stripes held.old) at.index at.bucket }
+    requires below { at.slot < 4 }
+    requires full { IsSome (slot_in (H.stripes held.old) at) }
     requires call { F.IsAlwaysCallable f }
-    ensures read { (n : _) (v : V) → slot_in (H.stripes held.old) (at i b slot) ≡ Some (n, v)
+    ensures read { (n : _) (v : V) → slot_in (H.stripes held.old) at ≡ Some (n, v)
         → FnOnceReturnsAt F.FnOnce f v result }
     ensures same { H.stripes held.new ≡ H.stripes held.old }
     ensures stays { H.stays held.old held.new }
 {
     held.visit_bucket(
-        i,
-        b,
-        |stripe: &mut Stripe<K, V>| read_in(stripe, b, slot, f),
+        at.index,
+        at.bucket,
+        |stripe: &mut Stripe<K, V>| read_in(stripe, at.bucket, at.slot, f),
     )
 }
 
-/// Puts a key and its value into a free slot of bucket `b` of stripe `i`. `partial` is that of the
-/// key.
+/// Puts a key and its value into a free slot. `partial` is that of the key.
 #[inline(always)]
 pub(crate) fn place<K: TableKey + Drop, V: Drop, H: Held<Stripe<K, V>>>(
     held: &mut H,
-    i: usize,
-    b: u64,
-    slot: usize,
+    at: HeldSlot,
     partial: u8,
     key: K,
     value: V,
 )
-    requires reach { IsInReach (H.stripes held.old) i b }
-    requires below { slot < 4 }
-    requires free { slot_in (H.stripes held.old) (at i b slot) ≡ None }
+    requires reach { IsInReach (H.stripes held.old) at.index at.bucket }
+    requires below { at.slot < 4 }
+    requires free { slot_in (H.stripes held.old) at ≡ None }
     requires partial { partial ≡ partial_of (K.hash (K.name key)) }
-    ensures content { H.stripes held.new ≡ set_slot (H.stripes held.old) (at i b slot)
-        (Some (K.name key, value)) (len_at (H.stripes held.old) i + 1) }
+    ensures content { H.stripes held.new ≡ set_slot (H.stripes held.old) at
+        (Some (K.name key, value)) (len_at (H.stripes held.old) at.index + 1) }
     ensures stays { H.stays held.old held.new }
 {
     held.visit_bucket(
-        i,
-        b,
-        |stripe: &mut Stripe<K, V>| stripe.place(b, slot, partial, key, value),
+        at.index,
+        at.bucket,
+        |stripe: &mut Stripe<K, V>| stripe.place(at.bucket, at.slot, partial, key, value),
     );
 }
 
-/// Frees a slot of bucket `b` of stripe `i`, and gives what was in it.
+/// Frees a slot, and gives what was in it.
 #[inline(always)]
 pub(crate) fn remove<K: TableKey + Drop, V: Drop, H: Held<Stripe<K, V>>>(
     held: &mut H,
-    i: usize,
-    b: u64,
-    slot: usize,
+    at: HeldSlot,
 ) -> (K, V)
-    requires reach { IsInReach (H.stripes held.old) i b }
-    requires below { slot < 4 }
-    requires full { IsSome (slot_in (H.stripes held.old) (at i b slot)) }
-    ensures entry { slot_in (H.stripes held.old) (at i b slot)
+    requires reach { IsInReach (H.stripes held.old) at.index at.bucket }
+    requires below { at.slot < 4 }
+    requires full { IsSome (slot_in (H.stripes held.old) at) }
+    ensures entry { slot_in (H.stripes held.old) at
         ≡ Some (K.name result.0, result.1) }
-    ensures content { H.stripes held.new ≡ set_slot (H.stripes held.old) (at i b slot)
-        None (len_at (H.stripes held.old) i - 1) }
+    ensures content { H.stripes held.new ≡ set_slot (H.stripes held.old) at
+        None (len_at (H.stripes held.old) at.index - 1) }
     ensures stays { H.stays held.old held.new }
 {
-    held.visit_bucket(i, b, |stripe: &mut Stripe<K, V>| stripe.remove(b, slot))
+    held.visit_bucket(
+        at.index,
+        at.bucket,
+        |stripe: &mut Stripe<K, V>| stripe.remove(at.bucket, at.slot),
+    )
 }
 
 /// Puts another value beside the key in a slot, and gives the old one.
 #[inline(always)]
 pub(crate) fn replace<K: TableKey + Drop, V: Drop, H: Held<Stripe<K, V>>>(
     held: &mut H,
-    i: usize,
-    b: u64,
-    slot: usize,
+    at: HeldSlot,
     value: V,
 ) -> V
-    requires reach { IsInReach (H.stripes held.old) i b }
-    requires below { slot < 4 }
-    requires full { IsSome (slot_in (H.stripes held.old) (at i b slot)) }
-    ensures content { (n : _) (v : V) → slot_in (H.stripes held.old) (at i b slot) ≡ Some (n, v)
-        → (result ≡ v) × (H.stripes held.new ≡ set_slot (H.stripes held.old) (at i b slot)
-        (Some (n, value)) (len_at (H.stripes held.old) i)) }
+    requires reach { IsInReach (H.stripes held.old) at.index at.bucket }
+    requires below { at.slot < 4 }
+    requires full { IsSome (slot_in (H.stripes held.old) at) }
+    ensures content { (n : _) (v : V) → slot_in (H.stripes held.old) at ≡ Some (n, v)
+        → (result ≡ v) × (H.stripes held.new ≡ set_slot (H.stripes held.old) at
+        (Some (n, value)) (len_at (H.stripes held.old) at.index)) }
     ensures stays { H.stays held.old held.new }
 {
     held.visit_bucket(
-        i,
-        b,
-        |stripe: &mut Stripe<K, V>| stripe.replace(b, slot, value),
+        at.index,
+        at.bucket,
+        |stripe: &mut Stripe<K, V>| stripe.replace(at.bucket, at.slot, value),
     )
 }
 
@@ -244,21 +240,23 @@ pub(crate) fn replace<K: TableKey + Drop, V: Drop, H: Held<Stripe<K, V>>>(
 #[inline(always)]
 pub(crate) fn change<K: TableKey + Drop, V: Drop, H: Held<Stripe<K, V>>, F: FnOnce(V) -> V>(
     held: &mut H,
-    i: usize,
-    b: u64,
-    slot: usize,
+    at: HeldSlot,
     f: F,
 )
-    requires reach { IsInReach (H.stripes held.old) i b }
-    requires below { slot < 4 }
-    requires full { IsSome (slot_in (H.stripes held.old) (at i b slot)) }
+    requires reach { IsInReach (H.stripes held.old) at.index at.bucket }
+    requires below { at.slot < 4 }
+    requires full { IsSome (slot_in (H.stripes held.old) at) }
     requires call { F.IsAlwaysCallable f }
-    ensures content { (n : _) (v : V) → slot_in (H.stripes held.old) (at i b slot) ≡ Some (n, v)
-        → (w : V) × F.post f v w × (H.stripes held.new ≡ set_slot (H.stripes held.old) (at i b slot)
-        (Some (n, w)) (len_at (H.stripes held.old) i)) }
+    ensures content { (n : _) (v : V) → slot_in (H.stripes held.old) at ≡ Some (n, v)
+        → (w : V) × F.post f v w × (H.stripes held.new ≡ set_slot (H.stripes held.old) at
+        (Some (n, w)) (len_at (H.stripes held.old) at.index)) }
     ensures stays { H.stays held.old held.new }
 {
-    held.visit_bucket(i, b, |stripe: &mut Stripe<K, V>| stripe.change(b, slot, f));
+    held.visit_bucket(
+        at.index,
+        at.bucket,
+        |stripe: &mut Stripe<K, V>| stripe.change(at.bucket, at.slot, f),
+    );
 }
 
 /// Carries out a doubling of stripe `i`; a settled one stays as it is.

@@ -1,7 +1,7 @@
 //! A call on two keys at once.
-ghost use Rattle.std.specs.Prelude.{◌≡◌, ◌≢◌, MatchBool};
+ghost use Rattle.std.specs.Prelude.{◌≡◌, ◌≢◌};
 ghost use Rattle.std.specs.Bool.{OnFalse};
-ghost use Rattle.ck_model.specs.declared.history.Reply.TheVariants.{DoneTwo, Absent};
+ghost use Rattle.ck_section.specs.Acts.{ChangesTwo};
 ghost use Rattle.ck_section.specs.Places.{IsPlaceOf};
 ghost use Rattle.ck_section.specs.Calls.{effect, ChangesContents};
 ghost use Rattle.ck_section.specs.TwoNames.{IsChangeOfTwo};
@@ -28,12 +28,9 @@ where
     requires second { IsPlaceOf K.hash (H.stripes held.old) (Q.name b) place_b }
     requires different { Q.name a ≢ Q.name b }
     requires call { F.IsAlwaysCallable f }
-    ensures call { MatchBool result
-        ((v w v2 w2 : V) × F.post f v w (v2, w2)
-        × IsChangeOfTwo (effect K.hash H.stripes place_a held.old held.new)
-        (Q.name a) (Q.name b) (DoneTwo v w v2 w2))
-        (IsChangeOfTwo (effect K.hash H.stripes place_a held.old held.new)
-        (Q.name a) (Q.name b) Absent) }
+    ensures call { ChangesTwo (F.post f)
+        (IsChangeOfTwo (effect K.hash H.stripes place_a held.old held.new) (Q.name a) (Q.name b))
+        result }
     ensures same { OnFalse result (H.stripes held.new ≡ H.stripes held.old) }
     ensures rest { ChangesContents (H.stripes held.old) (H.stripes held.new) }
     ensures stays { H.stays held.old held.new }
@@ -44,26 +41,10 @@ where
     let Some(at_b) = find_slot(held, place_b, b) else {
         return false;
     };
-    let (key_a, value_a) = one_stripe::remove(held, at_a.index, at_a.bucket, at_a.slot);
-    let (key_b, value_b) = one_stripe::remove(held, at_b.index, at_b.bucket, at_b.slot);
+    let (key_a, value_a) = one_stripe::remove(held, at_a);
+    let (key_b, value_b) = one_stripe::remove(held, at_b);
     let (value_a, value_b) = f(value_a, value_b);
-    one_stripe::place(
-        held,
-        at_a.index,
-        at_a.bucket,
-        at_a.slot,
-        place_a.partial,
-        key_a,
-        value_a,
-    );
-    one_stripe::place(
-        held,
-        at_b.index,
-        at_b.bucket,
-        at_b.slot,
-        place_b.partial,
-        key_b,
-        value_b,
-    );
+    one_stripe::place(held, at_a, place_a.partial, key_a, value_a);
+    one_stripe::place(held, at_b, place_b.partial, key_b, value_b);
     true
 }

@@ -18,7 +18,7 @@ use Rattle.ck_key.proofs.Doubling.{grown_own, stays_at, rises_to}
 use Rattle.ck_bucket.specs.Bucket.{kept_if, low_row, high_row}
 use Rattle.ck_stripe.specs.Doubling.{low_rows, high_rows, split_rows, doubled_content, SendsEach}
 use Rattle.ck_stripe.proofs.Splits.{split_moved, length-lows, length-highs, length-split, low_at, high_at, four-split}
-use Rattle.ck_stripe.proofs.Permuted.{apart_permuted, find_permuted}
+use Rattle.ck_model.proofs.Pairs.{apart-permuted, find-permuted}
 
 own_at : (p b h target : ℕ) → grown_of p b h ≡ target → (target ≡ index_of (p + 1) h) ⊎ (target ≡ second_of (p + 1) h)
 own_at p b h target e = go (grown_own p b h)
@@ -165,9 +165,9 @@ module _ {V : Type 0} where
     most = omega arith;
     shaped = shaped_doubled k.hash k.s t c sound.shaped;
     placed = placed_doubled k.hash k.s t c sound.shaped.least sound.shaped.rows sound.placed;
-    apart = apart_permuted (pairs_in c) (pairs_in (doubled_content k.hash k.s t c)) sound.apart (pairs_doubled k.hash k.s t c);
+    apart = apart-permuted (pairs_in c) (pairs_in (doubled_content k.hash k.s t c)) (pairs_doubled k.hash k.s t c) sound.apart;
   }
 
   -- it has the same of each name
   pub found_doubled : (k : Layout) (t : ℕ) (c : Content V) → IsSound k t c → (q : Name) → find name_cmp q (pairs_in (doubled_content k.hash k.s t c)) ≡ find name_cmp q (pairs_in c)
-  found_doubled k t c sound q = find_permuted (pairs_in c) (pairs_in (doubled_content k.hash k.s t c)) sound.apart (pairs_doubled k.hash k.s t c) q
+  found_doubled k t c sound q = find-permuted (pairs_in c) (pairs_in (doubled_content k.hash k.s t c)) sound.apart (pairs_doubled k.hash k.s t c) q

@@ -1,5 +1,4 @@
 pub mod Splits
-pub mod Permuted
 pub mod Doubled
 pub mod Stored
 pub mod Writes

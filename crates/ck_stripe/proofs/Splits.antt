@@ -1,9 +1,10 @@
 -- The rows of a stripe, split.
-use Rattle.std.proofs.Common.{◌≡◌, ℕ, zero, suc, Bool, true, false, not, cond, refl, sym, ◌∙◌, ap, subst, ◌+◌, ◌-◌, ◌*◌, ◌^◌, ◌<◌, ◌≤◌, List, [], ◌∷◌, ◌++◌, Some, None, length, map, get_or, take, drop, set, replicate, arith}
+use Rattle.std.proofs.Common.{◌≡◌, ℕ, zero, suc, Bool, true, false, not, cond, refl, sym, ◌∙◌, ap, subst, ◌+◌, ◌-◌, ◌*◌, ◌^◌, ◌%◌, ◌<◌, ◌≤◌, List, [], ◌∷◌, ◌++◌, Some, None, length, map, get_or, take, drop, set, replicate, arith}
 use Rattle.std.specs.Prelude.{flat_map, All}
 use Rattle.std.specs.List.{enumerate_from}
 use Rattle.std.specs.List.Sorted.{IsPermutation}
 use Rattle.std.proofs.lemmas.List.{append_assoc, append-nil, length-append, length-map, length-take, length-drop, length-replicate, replicate-append-replicate, get_or-map, get_or-replicate, get_or_append_left, get_or-append_right, set-append_left, set-append_right, take_all, drop_all}
+use Rattle.std.proofs.lemmas.Nat.{one_shl}
 use Rattle.std.proofs.lemmas.List.FromFn.{length-enumerate_from, get_or-enumerate_from}
 use Rattle.std.proofs.lemmas.List.Concat.{flat_map-append}
 use Rattle.std.proofs.lemmas.List.Elements.{All-append, All-map}
@@ -12,6 +13,10 @@ use Rattle.ck_model.specs.Promise.{Name}
 use Rattle.ck_model.specs.Slots.{Slot, taken_in}
 use Rattle.ck_bucket.specs.Bucket.{kept_if, low_row, high_row}
 use Rattle.ck_stripe.specs.Doubling.{low_rows, high_rows, split_rows}
+
+-- a shift counts the rows
+pub rows_counted : (s p n : ℕ) → n ≡ 2 ^ (p - s) → p < 26 → 1 * 2 ^ (p - s) % 2 ^ 64 ≡ n
+rows_counted s p n count low = one_shl (p - s) 64 (omega arith) ∙ sym count
 
 swapped : {X : Type 0} (a b c d : List X) → IsPermutation ((a ++ b) ++ (c ++ d)) ((a ++ c) ++ (b ++ d))
 swapped a b c d =
@@ -189,7 +194,7 @@ module _ {V : Type 0} (hash : Name → ℕ) (s t p : ℕ) (rows : List (List (Sl
     high_front : r ≤ length rows → length (front highs (free_rows rows) r) ≡ length rows
     high_front le = length-front highs (free_rows rows) r high_long (subst (λ n. r ≤ n) (sym (length-free rows)) le) ∙ length-free rows
 
-    pub length-split_to : r ≤ length rows → length now ≡ 2 * length rows
+    length-split_to : r ≤ length rows → length now ≡ 2 * length rows
     length-split_to le =
         let both = ap length is ∙ length-append (front lows (free_rows rows) r) (front highs (free_rows rows) r) in
         let low = low_front le in
@@ -197,6 +202,10 @@ module _ {V : Type 0} (hash : Name → ℕ) (s t p : ℕ) (rows : List (List (Sl
         omega arith
 
     module _ (lt : r < length rows) where
+      -- the two rows that row r is moved to are there
+      pub both_below : (r < length now) × (length rows + r < length now)
+      both_below = let long = length-split_to (omega arith) in (omega arith, omega arith)
+
       inside : r < length (free_rows rows)
       inside = subst (λ n. r < n) (sym (length-free rows)) lt
 

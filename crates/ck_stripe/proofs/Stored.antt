@@ -117,6 +117,9 @@ module _ {K V : Type 0} where
       pub now_stored : now ≡ record { number = t.number; s = t.s; content = content_of t.power t.rows; settled = true; room = room_of t.s t.power t.next }
       now_stored = sym is ∙ ap (λ (b : Bool). record { number = t.number; s = t.s; content = content_of t.power (cond b t.rows (split_rows hash t.s t.number (t.power - 1) t.rows)); settled = b; room = room_of t.s t.power t.next }) stored_settled
 
+      pub pairs_stored : flat_map taken_in now.content.rows ≡ flat_map taken_in t.rows
+      pairs_stored = ap (λ (w : StripeState V). flat_map taken_in w.content.rows) now_stored
+
       pub content_rows : (rows : List (List (Slot V))) → (shown hash (with_rows t rows)).content ≡ content_of t.power rows
       content_rows rows = ap (λ (b : Bool). content_of t.power (cond b rows (split_rows hash t.s t.number (t.power - 1) rows))) stored_settled
 

@@ -4,7 +4,7 @@ ghost use Rattle.std.specs.Prelude.{◌≡◌};
 ghost use Rattle.cuckoo_map.specs.Callers.{IsSameCaller};
 
 use crate::callers::{Call, Reply, answer};
-use crate::fixtures::{NumCaller, SIXTEEN_BUCKETS, Shape, close, open};
+use ck_fixtures::{APART, GROWING, NumCaller, SIXTEEN_BUCKETS, Shape, close, open};
 use ck_key::NumKey;
 use cuckoo_map::{Uprased, Why};
 use std::alloc::Global;
@@ -31,17 +31,6 @@ struct Run {
     steps: &'static [Step],
     end: &'static [(NumKey, u64)],
 }
-
-/// Two stripes of two buckets each, which may grow.
-const GROWING: Shape = Shape {
-    s: 1,
-    power: 2,
-    max: 20,
-    rounds: 4,
-};
-
-/// Two to the 48th and two to the 40th: its multiples have partial 0, and end in as many zeros.
-const APART: u64 = 282_574_488_338_432;
 
 /// Keys whose partial is 0 and whose buckets are 0 and the last bits of one number, at each power.
 const ONE_PAIR_OF_BUCKETS: &[Step] = &[

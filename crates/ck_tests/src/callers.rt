@@ -1,7 +1,7 @@
 //! Calls on a table and their replies, as data.
 ghost use Rattle.cuckoo_map.specs.Callers.{IsSameCaller};
 
-use crate::fixtures::NumCaller;
+use ck_fixtures::NumCaller;
 use ck_key::NumKey;
 use cuckoo_map::{Refused, Uprased, Why};
 

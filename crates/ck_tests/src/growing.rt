@@ -2,7 +2,7 @@
 //! while others look for these keys.
 
 use crate::callers::{Call, Reply, answer};
-use crate::fixtures::{NumCaller, NumTable, Shape, count, counters, read, scattered};
+use ck_fixtures::{NumCaller, NumTable, Shape, count, counters, read, scattered};
 use cuckoo_map::{Settings, Why};
 use std::alloc::{AllocError, Global};
 use std::process::Abort;

@@ -1,5 +1,5 @@
 //! A table whose values own memory.
-use crate::fixtures::SIXTEEN_BUCKETS;
+use ck_fixtures::SIXTEEN_BUCKETS;
 use ck_key::NumKey;
 use cuckoo_map::{Busy, Caller, Table};
 use std::test::Fail;

@@ -6,7 +6,7 @@
 ghost use Rattle.std.specs.Prelude.{◌≡◌, IfSome, IfOk};
 ghost use Rattle.ck_words.specs.Closing.{IsCaller, AreAllPasses};
 
-use crate::fixtures::{NumCaller, NumLocked, NumPass, NumTable, TWO_STRIPES};
+use ck_fixtures::{NumCaller, NumLocked, NumPass, NumTable, TWO_STRIPES};
 use ck_hoard::{End, Ends, ends_of, hoard};
 use ck_key::{KeyFault, NumKey, TextKey};
 use ck_words::Words;

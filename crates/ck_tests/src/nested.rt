@@ -6,7 +6,7 @@
 ghost use Rattle.std.specs.Prelude.{◌≢◌};
 
 use crate::callers::{Call, Reply, answer};
-use crate::fixtures::{FOUR_BUCKETS, NumCaller, SIXTEEN_BUCKETS, Shape, open};
+use ck_fixtures::{FOUR_BUCKETS, NumCaller, SIXTEEN_BUCKETS, Shape, open};
 use ck_key::NumKey;
 use cuckoo_map::Why;
 use std::alloc::Global;

@@ -1,6 +1,6 @@
 //! Threads that borrow callers of a pool.
 
-use crate::fixtures::{NumCaller, NumTable, SIXTEEN_BUCKETS};
+use ck_fixtures::{NumCaller, NumTable, SIXTEEN_BUCKETS};
 use ck_key::NumKey;
 use cuckoo_map::{AllLent, DrainFault, Pool, Settings};
 use std::alloc::Global;

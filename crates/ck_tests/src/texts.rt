@@ -1,5 +1,5 @@
 //! Text keys, which calls name by a `&str` or by bytes.
-use crate::fixtures::SIXTEEN_BUCKETS;
+use ck_fixtures::SIXTEEN_BUCKETS;
 use ck_key::TextKey;
 use cuckoo_map::{Busy, Caller, Table};
 use std::test::Fail;

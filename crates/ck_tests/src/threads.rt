@@ -1,7 +1,7 @@
 //! Threads that bind one key again and again, each time to another value, each with a caller of its
 //! own.
 
-use crate::fixtures::{NumCaller, NumTable, SIXTEEN_BUCKETS, count, counters, read};
+use ck_fixtures::{NumCaller, NumTable, SIXTEEN_BUCKETS, count, counters, read};
 use ck_key::NumKey;
 use cuckoo_map::Settings;
 use std::alloc::Global;

@@ -27,11 +27,7 @@ use Rattle.ck_words.proofs.Reversed.{lawful_reverse, section_turned, identity_tu
 use Rattle.ck_words.proofs.Excuses.{excused_reverse, has_grounds_reverse}
 use Rattle.ck_words.proofs.Rows.{shows_after, give_row, renew_row, decide_row}
 use Rattle.ck_words.proofs.Seating.{Last, last}
-use Rattle.ck_words.proofs.Takes.{Fits, Lasts, same_settings, same_key, slots_are, own_after, below_key, settled, told}
-
--- the highest of its stripes, at the fields of the pass
-pub last_of : {V : Type 0} (w : WordsState) (p : PassState V) (tz : TableId) (key set : Settings) (z : TableId) (me : Hand V) → Fits w p tz key set z me → (t : ℕ) → IsSeated z me → IsHighest t p.stripes → Last z me.0 me.1 t
-last_of w p tz key set z me f t s h = last z me.0 me.1 t s (subst (λ (q : PassState _). IsHighest t q.stripes) (sym f.pass_is) h)
+use Rattle.ck_words.proofs.Takes.{Fits, Lasts, same_table, word_inside, same_settings, same_key, slots_are, own_after, below_key, settled, told}
 
 -- the highest stripe went home by this move, and the pass has the others as they were
 pub record Went {V : Type 0} (hash : Name → ℕ) (w : WordsState) (move : ℕ → Stripes V → Label V) (p : PassState V) (z : TableId) (me : Hand V) : Type 0 where
@@ -40,8 +36,12 @@ pub record Went {V : Type 0} (hash : Name → ℕ) (w : WordsState) (move : ℕ 
   pub sends : Sends hash w move p (state_of z me)
   pub unchanged : IsUnchanged (state_of z me)
 
-module _ {V : Type 0} (hash : Name → ℕ) (w : WordsState) (p : PassState V) (tz : TableId) (key set : Settings) (z : TableId) (me : Hand V) (f : Fits w p tz key set z me) (t : ℕ) (l : Last z me.0 me.1 t) where
-  pub inside : t < 2 ^ w.settings.s
+module _ {V : Type 0} (hash : Name → ℕ) (w : WordsState) (p : PassState V) (tz : TableId) (key set : Settings) (z : TableId) (me : Hand V) (f : Fits w p tz key set z me) (t : ℕ) (seated : IsSeated z me) (highest : IsHighest t p.stripes) where
+  -- it is the highest that the seat has
+  l : Last z me.0 me.1 t
+  l = last z me.0 me.1 t seated (subst (λ (q : PassState V). IsHighest t q.stripes) (sym f.pass_is) highest)
+
+  inside : t < 2 ^ w.settings.s
   inside = subst (λ n. t < n) (ap (λ (x : TableId). x.slots) (ap (λ (q : PassState V). q.table) f.pass_is ∙ (f.own.0 ∙ sym (ap (λ (x : WordsState). x.table) f.words_are))) ∙ slots_are hash w p tz key set z me f) l.inside
 
   abbrev pub unchanged_held : Type 0
@@ -82,8 +82,13 @@ module _ {V : Type 0} (hash : Name → ℕ) (w : WordsState) (p : PassState V) (
     abbrev pub told_by : Settings → ℕ → Hand V → Type 0
     told_by x n m2 = SeatGives hash x (move n (contents_in me.1)) me m2
 
-    ready : (slots id : ℕ) → Allows (RuleOf hash key) slots id me (t * 8) (λ _. 0) (λ _. told_by key t) → Allows (RuleOf hash key) slots id me (t * 8) (λ _. 0) (λ _. told_by me.0.settings (t * 8 / 8))
-    ready slots id h = settled hash w p tz key set z me f (λ x n. Allows (RuleOf hash key) slots id me (t * 8) (λ _. 0) (λ _. told_by x n)) t h
+    -- what is asked of its store
+    abbrev pub IsReady : ℕ → ℕ → Type 0
+    IsReady slots id = (z ≡ tz) × (t * 8 < tz.words) × Allows (RuleOf hash key) slots id me (t * 8) (λ _. 0) (λ _. told_by me.0.settings (t * 8 / 8))
+
+    ready : (slots id : ℕ) → Allows (RuleOf hash key) slots id me (t * 8) (λ _. 0) (λ _. told_by key t) → IsReady slots id
+    ready slots id h =
+        (same_table hash w p tz key set z me f, word_inside hash w p tz key set z me f t inside, settled hash w p tz key set z me f (λ x n. Allows (RuleOf hash key) slots id me (t * 8) (λ _. 0) (λ _. told_by x n)) t h)
 
     -- it went home, and the others are still held
     record Gone (me2 : Hand V) : Type 0 where
@@ -130,7 +135,7 @@ module _ {V : Type 0} (hash : Name → ℕ) (w : WordsState) (p : PassState V) (
         subst (λ hs. IsExcused k key.min_load hs g) (sym (held_now u)) (excused_reverse k (contents_of (held_in me.1)) back key.min_load g (here back))
 
     pub give_ready : (slots id : ℕ) → (Lawful (layout_of hash w.settings) (contents_of p.stripes) → IsExcused (layout_of hash w.settings) w.settings.min_load (contents_of p.stripes) g)
-        → Allows (RuleOf hash key) slots id me (t * 8) (λ _. 0) (λ _. told_by give_move me.0.settings (t * 8 / 8))
+        → IsReady give_move slots id
     give_ready slots id excused =
         let holds : Holds me.0.held t l.stripe.content = subst (λ (hs : Stripes V). Holds hs t l.stripe.content) (sym (held_now u ∙ l.first)) (inl (refl, refl)) in
         ready give_move slots id (give_allowed hash key slots id me t l.stripe l.out l.front inside_key own_key g holds (excused_held excused))
@@ -149,7 +154,7 @@ module _ {V : Type 0} (hash : Name → ℕ) (w : WordsState) (p : PassState V) (
 
     pub renew_ready : (slots id : ℕ) → (Lawful (layout_of hash w.settings) (reverse p.view.held) → IdentitySection (layout_of hash w.settings) (reverse p.view.held) (contents_of p.stripes))
         → (Lawful (layout_of hash w.settings) (reverse p.view.held) → HasGrounds (layout_of hash w.settings) w.settings.min_load (contents_of p.stripes) g)
-        → Allows (RuleOf hash key) slots id me (t * 8) (λ _. 0) (λ _. told_by renew_move me.0.settings (t * 8 / 8))
+        → IsReady renew_move slots id
     renew_ready slots id sec grounds =
         let here : Lawful k (reverse me.0.held) → IdentitySection k (reverse me.0.held) (contents_of (held_in me.1)) =
         subst (λ (x : Settings × PassState V). Lawful (layout_of hash x.0) (reverse x.1.view.held) → IdentitySection (layout_of hash x.0) (reverse x.1.view.held) (contents_of x.1.stripes)) (λ i. (same_key hash w p tz key set z me f i, sym f.pass_is i)) sec in
@@ -173,7 +178,7 @@ module _ {V : Type 0} (hash : Name → ℕ) (w : WordsState) (p : PassState V) (
     decide_move n ks = Decide n ks e
 
     pub decide_ready : (slots id : ℕ) → p.view.by ≡ Some e.by → (Lawful (layout_of hash w.settings) (reverse p.view.held) → Section (layout_of hash w.settings) (reverse p.view.held) e.call e.reply (contents_of p.stripes))
-        → Allows (RuleOf hash key) slots id me (t * 8) (λ _. 0) (λ _. told_by decide_move me.0.settings (t * 8 / 8))
+        → IsReady decide_move slots id
     decide_ready slots id by sec =
         let here : Lawful k (reverse me.0.held) → Section k (reverse me.0.held) e.call e.reply (contents_of (held_in me.1)) =
         subst (λ (x : Settings × PassState V). Lawful (layout_of hash x.0) (reverse x.1.view.held) → Section (layout_of hash x.0) (reverse x.1.view.held) e.call e.reply (contents_of x.1.stripes)) (λ i. (same_key hash w p tz key set z me f i, sym f.pass_is i)) sec in

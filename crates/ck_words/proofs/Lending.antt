@@ -1,10 +1,11 @@
 -- The stripes of a pass are lent to calls.
-use Rattle.std.proofs.Common.{◌≡◌, ℕ, ◌%◌, ◌^◌, ◌<◌, List, [], ◌∷◌, zero, suc, length, get_or, reverse, sym, ap, ◌∙◌, subst, arith}
+use Rattle.std.proofs.Common.{◌≡◌, ℕ, ◌%◌, ◌^◌, ◌<◌, List, [], ◌∷◌, zero, suc, length, get_or, reverse, refl, sym, ap, ◌∙◌, subst, arith}
 use Rattle.std.specs.Prelude.{slice_set}
 use Rattle.std.proofs.lemmas.List.{get_or_default, length-set}
 use Rattle.ck_model.specs.Numbered.{IsIn, numbers}
 use Rattle.ck_stripe.specs.Stripe.{StripeState}
 use Rattle.ck_section.specs.Stripes.{no_stripe, stripe_at, contents_of}
+use Rattle.ck_section.specs.Numbered.{IsSame}
 use Rattle.ck_words.specs.Words.{WordsState}
 use Rattle.ck_words.specs.Passes.{PassState, EachOf, IsSeated, IsPassOf, stripes_in, held_in, state_of, numbers_of}
 use Rattle.ck_words.specs.InPlace.{StripeSeat, HoldsAt, Puts}
@@ -56,16 +57,40 @@ module _ {V : Type 0} (old : StripeSeat V) (p : PassState V) (is : state_of old.
     pub still_numbered : numbers_of (state_of new.table_id new.me).stripes ≡ ns
     still_numbered = same_numbers old new i stripe puts ∙ (ap (λ (q : PassState V). numbers_of q.stripes) is ∙ numbered)
 
--- a visitor at stripe i left this one there
-module _ {V : Type 0} (old new : StripeSeat V) (p : PassState V) (is : state_of old.table_id old.me ≡ p) (i : ℕ) (inside : i < length p.stripes) (after : StripeState V) (puts : Puts i after old new) (d : StripeState V) where
-  pub found_there : stripe_at (held_in old.me.1) i ≡ get_or p.stripes i d
-  found_there = ap (λ (q : PassState V). stripe_at q.stripes i) is ∙ get_or_default p.stripes i no_stripe d inside
+    -- what is known of stripes that are lent
+    pub still_lent : {T : Type 0} → T → record { own : IsPassOf w (state_of new.table_id new.me); numbered : numbers_of (state_of new.table_id new.me).stripes ≡ ns; of_table : T }
+    still_lent of_table = record { own = still_own; numbered = still_numbered; of_table = of_table }
 
-  pub left_there : after ≡ get_or (held_in new.me.1) i d
-  left_there =
+-- what is asked of a visitor that comes to stripe i of the pass: it may come, and the stripe keeps its number
+module _ {V R : Type 0} (may : StripeState V → Type 0) (does : StripeState V → R → StripeState V → Type 0) where
+  abbrev Keeps : StripeState V → Type 0
+  Keeps t = (r : R) (after : StripeState V) → does t r after → IsSame (λ (x : StripeState V). x.number) (λ (x : StripeState V). x.s) t after
+
+  pub may_visit : {S : Type 0} → S → (old : StripeSeat V) (p : PassState V) → state_of old.table_id old.me ≡ p → (i : ℕ) → may (stripe_at p.stripes i) → Keeps (stripe_at p.stripes i)
+      → record { seat : S; may : may (stripe_at (held_in old.me.1) i); keeps : Keeps (stripe_at (held_in old.me.1) i) }
+  may_visit seat old p is i comes keeps =
+      let there : stripe_at p.stripes i ≡ stripe_at (held_in old.me.1) i = ap (λ (q : PassState V). stripe_at q.stripes i) (sym is) in
+      record { seat = seat; may = subst may there comes; keeps = subst Keeps there keeps }
+
+-- a visitor at stripe i left this one there
+module _ {V : Type 0} (old new : StripeSeat V) (p : PassState V) (is : state_of old.table_id old.me ≡ p) (i : ℕ) (inside : i < length p.stripes) (after : StripeState V) (puts : Puts i after old new) where
+  found_there : (d : StripeState V) → stripe_at (held_in old.me.1) i ≡ get_or p.stripes i d
+  found_there d = ap (λ (q : PassState V). stripe_at q.stripes i) is ∙ get_or_default p.stripes i no_stripe d inside
+
+  left_there : (d : StripeState V) → after ≡ get_or (held_in new.me.1) i d
+  left_there d =
       let before : i < length (held_in old.me.1) = subst (λ (q : PassState V). i < length q.stripes) (sym is) inside in
       let count : length (held_in new.me.1) ≡ length (held_in old.me.1) = ap length puts.stripes ∙ length-set (held_in old.me.1) i after in
       sym (put_here old new i after before puts) ∙ get_or_default (held_in new.me.1) i no_stripe d (omega arith)
 
-  pub only_there : held_in new.me.1 ≡ slice_set p.stripes i (get_or (held_in new.me.1) i d)
-  only_there = puts.stripes ∙ λ j. slice_set (is j).stripes i (left_there j)
+  -- what the visit leaves; x and y are not of the seat
+  pub visited_there : {X Y : Type 0} (x : X) (y : Y) (does : StripeState V → StripeState V → Type 0) → does (stripe_at (held_in old.me.1) i) after → record {
+    visited : (d : StripeState V) → does (get_or p.stripes i d) (get_or (held_in new.me.1) i d);
+    others : (d : StripeState V) → held_in new.me.1 ≡ slice_set p.stripes i (get_or (held_in new.me.1) i d);
+    stays : (x ≡ x) × (new.me.0 ≡ p.view) × (new.table_id ≡ p.table) × (y ≡ y);
+  }
+  visited_there x y does did = record {
+    visited = λ d. subst (λ (z : StripeState V × StripeState V). does z.0 z.1) (λ j. (found_there d j, left_there d j)) did;
+    others = λ d. puts.stripes ∙ λ j. slice_set (is j).stripes i (left_there d j);
+    stays = (refl, puts.view ∙ ap (λ (q : PassState V). q.view) is, puts.table ∙ ap (λ (q : PassState V). q.table) is, refl);
+  }

@@ -1,13 +1,14 @@
 -- A stripe of a set was found held, and is tried again.
-use Rattle.std.proofs.Common.{◌≡◌, ℕ, ◌+◌, ◌-◌, ◌<◌, ◌≤◌, List, take, length, get_or, sym, ap, ◌∙◌, subst}
+use Rattle.std.proofs.Common.{◌≡◌, ℕ, ◌+◌, ◌-◌, ◌^◌, ◌<◌, ◌≤◌, false, List, take, length, get_or, refl, sym, ap, ◌∙◌, subst, arith}
 use Rattle.std.specs.List.Sorted.{IsStrictlyIncreasing}
 use Rattle.ck_model.specs.Promise.{Name}
 use Rattle.ck_model.specs.Numbered.{IsIn, numbers}
 use Rattle.ck_core.specs.Steps.{IsAbove}
 use Rattle.ck_words.specs.Words.{WordsState}
-use Rattle.ck_words.specs.Passes.{PassState, IsPassOf, IsUnchanged, numbers_of}
+use Rattle.ck_words.specs.Passes.{PassState, IsPassOf, IsUnchanged, TakesStripe, TriesStripe, numbers_of}
 use Rattle.ck_words.specs.Retries.{TakesWithin, found_again}
 use Rattle.ck_words.specs.Holding.{HasTaken, GivesUp, HasReleased, Misses}
+use Rattle.ck_words.proofs.Staying.{found_next}
 use Rattle.ck_words.proofs.Taking.{in_list, above_first, above_taken, next_first, one_taken, given_up, takes_later, found_later}
 
 module _ {V : Type 0} (hash : Name → ℕ) (w : WordsState) (ns : List ℕ) (i t : ℕ) (is : t ≡ get_or ns i 0) (p q : PassState V) where
@@ -21,6 +22,18 @@ module _ {V : Type 0} (hash : Name → ℕ) (w : WordsState) (ns : List ℕ) (i 
 
     pub next_taken : (turns : ℕ) (r : PassState V) → TakesWithin hash w.settings turns t q r → IsPassOf w r → IsUnchanged r → HasTaken hash w (λ u. IsIn u ns) (take (i + 1) ns) p r
     next_taken turns r k own unchanged = subst (λ ms. HasTaken hash w (λ u. IsIn u ns) ms p r) (next_first ns i t inside is) (one_taken hash w (λ u. IsIn u ns) (take i ns) t p q taken turns r (asked inside) k own unchanged)
+
+    -- what is asked of a take of the next
+    pub ready_next : (s : ℕ) → s ≡ w.settings.s → t < 2 ^ s → record { own : IsPassOf w q; inside : t < 2 ^ w.settings.s; above : IsAbove t (numbers q.view.held); unchanged : IsUnchanged q }
+    ready_next s of_table below = record { own = taken.own; inside = subst (λ n. t < 2 ^ n) of_table below; above = above_next; unchanged = taken.unchanged }
+
+    -- one swap took it,
+    pub next_swapped : (r : PassState V) → TakesStripe hash w.settings t q r → IsPassOf w r → IsUnchanged r → HasTaken hash w (λ u. IsIn u ns) (take (i + 1) ns) p r
+    next_swapped r k own unchanged = next_taken 1 r (0, omega arith, k) own unchanged
+
+    -- or found it held
+    pub next_missed : (r : PassState V) → TriesStripe hash w t false q r → IsPassOf w r → Misses hash w ns i p r
+    next_missed r k own = (inside, (q, taken, found_next hash w 0 t q q r refl taken.own own k ∙ ap (λ u. found_again 1 u q) is))
 
     pub next_refused : (r s : PassState V) → 1 ≤ w.settings.turns → r ≡ found_again w.settings.turns t q → HasReleased w r s → s.view.doublings ≡ r.view.doublings → GivesUp w (λ u. IsIn u ns) t p s
     next_refused r s some again released doublings = given_up hash w (λ u. IsIn u ns) (take i ns) t p q taken r s some (asked inside) again released doublings

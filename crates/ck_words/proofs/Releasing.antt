@@ -5,11 +5,11 @@ use Rattle.ck_model.specs.Promise.{Name}
 use Rattle.ck_stripe.specs.Stripe.{StripeState}
 use Rattle.ck_core.specs.Steps.Label.{GiveRest}
 use Rattle.ck_words.specs.Words.{WordsState}
-use Rattle.ck_words.specs.Passes.{PassState, IsPassOf, IsIdle, IsUnchanged, Sends, numbers_of}
+use Rattle.ck_words.specs.Passes.{PassState, IsPassOf, IsIdle, IsUnchanged, IsHighest, Sends, numbers_of}
 use Rattle.ck_words.specs.Retries.{Stays}
 use Rattle.ck_words.specs.Holding.{HasReleased}
 use Rattle.ck_words.proofs.Reversed.{map-append}
-use Rattle.ck_words.proofs.Staying.{stays_same, stays_on, stays_giving, found_giving, seen_giving, idle_of}
+use Rattle.ck_words.proofs.Staying.{stays_same, stays_giving, found_giving, seen_giving, idle_of}
 
 front : (ns : List ℕ) (t : ℕ) → reverse (drop 1 (reverse (ns ++ t ∷ []))) ≡ ns
 front ns t = ap (λ (l : List ℕ). reverse (drop 1 l)) (reverse-append ns (t ∷ [])) ∙ reverse-reverse ns
@@ -19,7 +19,7 @@ pub last_taken : (ns : List ℕ) (i : ℕ) → 0 < i → i ≤ length ns → tak
 last_taken ns i some inside = ap (λ k. take k ns) (let e : i ≡ i - 1 + 1 = omega arith in e) ∙ take_more ns (i - 1) 0 (omega arith)
 
 -- all numbers, with the last apart
-pub last_of_all : (ns : List ℕ) (i t : ℕ) → 0 < length ns → i ≡ length ns - 1 → t ≡ get_or ns i 0 → ns ≡ take i ns ++ t ∷ []
+last_of_all : (ns : List ℕ) (i t : ℕ) → 0 < length ns → i ≡ length ns - 1 → t ≡ get_or ns i 0 → ns ≡ take i ns ++ t ∷ []
 last_of_all ns i t some last is =
     let all : take (i + 1) ns ≡ ns = take_all (i + 1) ns (omega arith) in
     sym all ∙ (take_more ns i 0 (omega arith) ∙ ap (λ u. take i ns ++ u ∷ []) (sym is))
@@ -32,10 +32,22 @@ module _ {V : Type 0} where
     cons_nil n ns e = let l = ap length e in omega arith
 
   -- the numbers that are left after the highest stripe went home
-  pub numbers_left : (ns : List ℕ) (t : ℕ) (p q : PassState V) (stripe : StripeState V) → p.stripes ≡ q.stripes ++ stripe ∷ [] → numbers_of p.stripes ≡ ns ++ t ∷ [] → numbers_of q.stripes ≡ ns
-  numbers_left ns t p q stripe split e =
-      let numbered : numbers_of q.stripes ++ stripe.number ∷ [] ≡ ns ++ t ∷ [] = sym (map-append (λ (x : StripeState V). x.number) q.stripes (stripe ∷ [])) ∙ (ap (λ (l : List (StripeState V)). numbers_of l) (sym split) ∙ e) in
-      sym (front (numbers_of q.stripes) stripe.number) ∙ (ap (λ (l : List ℕ). reverse (drop 1 (reverse l))) numbered ∙ front ns t)
+  numbers_left : (ns : List ℕ) (t : ℕ) (ss rest : List (StripeState V)) (stripe : StripeState V) → ss ≡ rest ++ stripe ∷ [] → numbers_of ss ≡ ns ++ t ∷ [] → numbers_of rest ≡ ns
+  numbers_left ns t ss rest stripe split e =
+      let numbered : numbers_of rest ++ stripe.number ∷ [] ≡ ns ++ t ∷ [] = sym (map-append (λ (x : StripeState V). x.number) rest (stripe ∷ [])) ∙ (ap (λ (l : List (StripeState V)). numbers_of l) (sym split) ∙ e) in
+      sym (front (numbers_of rest) stripe.number) ∙ (ap (λ (l : List ℕ). reverse (drop 1 (reverse l))) numbered ∙ front ns t)
+
+  -- The stripes have these numbers, of which t is the last.
+  module _ (ns : List ℕ) (n t : ℕ) (ss : List (StripeState V)) (some : 0 < length ns) (count : n ≡ length ns) (is : t ≡ get_or ns (n - 1) 0) (numbered : numbers_of ss ≡ ns) where
+    last_apart : numbers_of ss ≡ take (n - 1) ns ++ t ∷ []
+    last_apart = numbered ∙ last_of_all ns (n - 1) t some (omega arith) is
+
+    pub last_highest : IsHighest t ss
+    last_highest = (take (n - 1) ns, last_apart)
+
+    -- once it went home
+    pub others_left : (rest : List (StripeState V)) (stripe : StripeState V) → ss ≡ rest ++ stripe ∷ [] → numbers_of rest ≡ take (n - 1) ns
+    others_left rest stripe split = numbers_left (take (n - 1) ns) t ss rest stripe split last_apart
 
   -- From p to q some went home as they were. Those of these numbers are left.
   pub record Leaves (w : WordsState) (ns : List ℕ) (p q : PassState V) : Type 0 where
@@ -54,7 +66,7 @@ module _ {V : Type 0} where
     leaves_fewer hash ns t p q r h own unchanged g = record {
       own = own;
       unchanged = unchanged;
-      numbered = numbers_left ns t q r g.0 g.1 h.numbered;
+      numbered = numbers_left ns t q.stripes r.stripes g.0 g.1 h.numbered;
       stays = stays_giving hash w q r g p.view h.stays;
       found = found_giving hash w q r g ∙ h.found;
       seen = seen_giving hash w q r g ∙ h.seen;
@@ -65,9 +77,6 @@ module _ {V : Type 0} where
 
     pub leaves_none : (p q : PassState V) → Leaves w [] p q → HasReleased w p q
     leaves_none p q h = record { own = h.own; idle = idle_of q (no_numbers q.stripes h.numbered) h.unchanged; stays = h.stays; found = h.found; seen = h.seen }
-
-    pub released_on : (ns : List ℕ) (p q r : PassState V) → Leaves w ns p q → HasReleased w q r → HasReleased w p r
-    released_on ns p q r h g = record { own = g.own; idle = g.idle; stays = stays_on p.view q.view r.view h.stays g.stays; found = g.found ∙ h.found; seen = g.seen ∙ h.seen }
 
     pub released_idle : (p : PassState V) → IsPassOf w p → IsIdle p → HasReleased w p p
     released_idle p own idle = record { own = own; idle = idle; stays = stays_same p.view; found = refl; seen = refl }

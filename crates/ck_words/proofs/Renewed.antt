@@ -7,13 +7,12 @@ use Rattle.ck_core.specs.declared.view.View.{View}
 use Rattle.ck_core.specs.Steps.{giving, renewing, gaining}
 use Rattle.ck_core.specs.Steps.Label.{Give, Renew}
 use Rattle.ck_words.specs.Words.{WordsState}
-use Rattle.ck_words.specs.Passes.{PassState, IsPassOf, IsUnchanged, Sends, numbers_of}
+use Rattle.ck_words.specs.Passes.{PassState, Sends}
 use Rattle.ck_words.specs.Retries.{StaysBut}
 use Rattle.ck_words.specs.Holding.{HasReleased}
 use Rattle.ck_words.specs.Renewing.{HasRefused}
 use Rattle.ck_words.proofs.Rows.{give_row, renew_row}
-use Rattle.ck_words.proofs.Staying.{stays_then}
-use Rattle.ck_words.proofs.Releasing.{Leaves, numbers_left}
+use Rattle.ck_words.proofs.Staying.{stays_on, stays_then}
 
 gaining-append : (l : List (Name × Reason)) (why : Option (Name × Reason)) → gaining l why ≡ gaining [] why ++ l
 gaining-append l None = refl
@@ -28,14 +27,13 @@ module _ {V : Type 0} (hash : Name → ℕ) (w : WordsState) (p q : PassState V)
     stays_renewing = subst (StaysBut (gaining [] why) p.view) (sym renewed_view)
         (record { settings = refl; by = refl; mine = refl; others = refl; heard = (refl, refl); noroom = gaining-append p.view.noroom why; seen = ([], sym (append-nil p.view.seen)); by_others = λ m e. refl; alone = λ _. refl; told = omega arith })
 
-  pub leaves_renewed : Sends hash w (λ t ks. Renew t ks None) p q → (ns : List ℕ) (t : ℕ) → numbers_of p.stripes ≡ ns ++ t ∷ [] → IsPassOf w q → IsUnchanged q → Leaves w ns p q
-  leaves_renewed g ns t numbered own unchanged = record {
-    own = own;
-    unchanged = unchanged;
-    numbered = numbers_left ns t p q g.0 g.1 numbered;
-    stays = stays_renewing None g;
-    found = ap (λ (v : View V). v.found) (renewed_view None g);
-    seen = ap (λ (v : View V). v.seen) (renewed_view None g);
+  pub released_renewed : Sends hash w (λ t ks. Renew t ks None) p q → (r : PassState V) → HasReleased w q r → HasReleased w p r
+  released_renewed g r rest = record {
+    own = rest.own;
+    idle = rest.idle;
+    stays = stays_on p.view q.view r.view (stays_renewing None g) rest.stays;
+    found = rest.found ∙ ap (λ (v : View V). v.found) (renewed_view None g);
+    seen = rest.seen ∙ ap (λ (v : View V). v.seen) (renewed_view None g);
   }
 
   -- it told that a name found no room

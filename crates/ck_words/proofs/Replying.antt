@@ -19,6 +19,8 @@ use Rattle.ck_core.specs.Steps.{deciding}
 use Rattle.ck_core.specs.Steps.Label.{Decide}
 use Rattle.ck_core.specs.State.{client_of}
 use Rattle.ck_core.proofs.Shown.{answered}
+use Rattle.ck_words.specs.declared.commit.Commit.{Commit}
+use Rattle.ck_words.specs.Commits.{call_of}
 use Rattle.ck_words.specs.Steps.{Steps}
 use Rattle.ck_words.specs.Words.{WordsState}
 use Rattle.ck_words.specs.Passes.{PassState, Sends}
@@ -168,3 +170,9 @@ module _ {V : Type 0} where
           others = r.stays.others ∙ ap (λ (v : View V). v.others) row;
           found = r.found ∙ ap (λ (v : View V). v.found) row;
         }
+
+-- the call of what was said of a commit
+pub has_committed_said : {K V : Type 0} (hash : Name → ℕ) (name : K → Name) (w : WordsState) (said call : Commit K V) → said ≡ call → (p : PassState V) → IsSome p.view.by → p.view.settings ≡ w.settings → (q : PassState V)
+    → (q1 : PassState V) × Sends hash w (λ t ks. Decide t ks (entry_for (call_of name said) p)) p q1 × HasReleased w q1 q → HasCommitted hash w (call_of name call) p q
+has_committed_said {K} {V} hash name w said call is p some of_table q did =
+    subst (λ (x : Commit K V). HasCommitted hash w (call_of name x) p q) is (has_committed hash w (call_of name said) p some of_table did.0 q did.1 did.2)

@@ -1,6 +1,8 @@
 -- What an answered call leaves of its pass.
 use Rattle.std.specs.Prelude.{◌≡◌, ℕ, List, [], Some, reverse}
+use Rattle.ck_model.specs.declared.history.Act.{Act}
 use Rattle.ck_model.specs.declared.history.Call.{Call}
+use Rattle.ck_model.specs.declared.history.Call.TheVariants.{On}
 use Rattle.ck_model.specs.declared.history.Reply.{Reply}
 use Rattle.ck_model.specs.declared.history.Reason.{Reason}
 use Rattle.ck_model.specs.declared.settings.Settings.{Settings}
@@ -30,6 +32,10 @@ module _ {V : Type 0} where
   -- and it has said so of none
   abbrev pub IsAnswered : Call V → Reply V → PassState V → PassState V → Type 0
   IsAnswered = IsAnsweredBut []
+
+  -- the call was this act on the name
+  abbrev pub IsAnsweredOn : Name → PassState V → PassState V → Act V → Reply V → Type 0
+  IsAnsweredOn name p q act reply = IsAnswered (On name act) reply p q
 
   -- The call was decided with the reply that the stripes give it, and all stripes went home. Where all stripes of the table were held, nobody has come between.
   pub record HasCommitted (hash : Name → ℕ) (w : WordsState) (call : Call V) (p q : PassState V) : Type 0 where

@@ -7,7 +7,7 @@ use Rattle.ck_model.specs.declared.history.Call.{Call}
 use Rattle.ck_model.specs.declared.history.Call.TheVariants.{On}
 use Rattle.ck_model.specs.declared.history.Entry.{Entry}
 use Rattle.ck_model.specs.declared.history.Reply.{Reply}
-use Rattle.ck_model.specs.declared.history.Reply.TheVariants.{Was, New, Done}
+use Rattle.ck_model.specs.declared.history.Reply.TheVariants.{Was, Done}
 use Rattle.ck_model.specs.declared.history.Reason.{Reason}
 use Rattle.ck_model.specs.declared.settings.Settings.{Settings}
 use Rattle.ck_model.specs.Promise.{Name, Answered, Follows}
@@ -16,6 +16,7 @@ use Rattle.ck_model.specs.Sections.{Owns, Section}
 use Rattle.ck_model.proofs.Histories.{subhistory-append}
 use Rattle.ck_stripe.specs.Stripe.{StripeState}
 use Rattle.ck_section.specs.declared.place.KeyPlace.{KeyPlace}
+use Rattle.ck_section.specs.Acts.{ErasesBy, ReplacesIf}
 use Rattle.ck_section.specs.Stripes.{contents_of}
 use Rattle.ck_section.specs.Places.{HasBoth, IsPlaceOf}
 use Rattle.ck_core.specs.declared.view.View.{View}
@@ -150,16 +151,6 @@ pub map_bool : (b : Bool) (P Q R S : Type 0) → MatchBool b P Q → (P → R) �
 map_bool true P Q R S h f g = f h
 map_bool false P Q R S h f g = g h
 
--- the reply that an upsert tells by its answer, where P holds with a reply, and R of a value and what it became
-module _ {V : Type 0} (P : Reply V → Type 0) (R : V → V → Type 0) where
-  pub done_or_new : (b : Bool) → MatchBool b (P New) ((v w : V) × R v w × P (Done v w)) → (r : Reply V) × MatchBool b (r ≡ New) ((v w : V) × R v w × (r ≡ Done v w)) × P r
-  done_or_new true h = (New, refl, h)
-  done_or_new false h = (Done h.0 h.1, (h.0, h.1, h.2, refl), h.3)
-
-  pub as_told : (b : Bool) (r : Reply V) → MatchBool b (r ≡ New) ((v w : V) × R v w × (r ≡ Done v w)) → P r → MatchBool b (P New) ((v w : V) × R v w × P (Done v w))
-  as_told true r e h = subst P e h
-  as_told false r e h = (e.0, e.1, e.2, subst P e.3 h)
-
 -- a closure chose between an act and a find: C holds of the act where it answered true, and else of the find
 abbrev pub Chose : {V F : Type 0} → Act V → (Act V → Type 0) → Result Bool F → Type 0
 Chose act C (Ok so) = C (if so then act else Find)
@@ -182,11 +173,10 @@ module _ {V F : Type 0} (D : Act V → Reply V → Type 0) (C : Act V → Type 0
     erased (Err back) c b u = (Find, Was None, c, u.1)
 
     pub erasing : (A : Act V → Reply V → Type 0) → ((act : Act V) → C act → (r : Reply V) → D act r → A act r) → (o : Result Bool F) → Chose Erase C o
-        → IfOk o (λ gone. (v : V) × R v gone × D (if gone then Erase else Find) (Was (Some v))) → IfErr o (λ back. X back × D Find (Was None) × Y)
-        → IfOk o (λ gone. (v : V) × R v gone × MatchBool gone (A Erase (Was (Some v))) (A Find (Was (Some v)))) × IfErr o (λ back. X back × A Find (Was None))
-    erasing A told (Ok true) c b u = ((b.0, b.1, told Erase c (Was (Some b.0)) b.2), tt)
-    erasing A told (Ok false) c b u = ((b.0, b.1, told Find c (Was (Some b.0)) b.2), tt)
-    erasing A told (Err back) c b u = (tt, (u.0, told Find c (Was None) u.1))
+        → IfOk o (λ gone. (v : V) × R v gone × D (if gone then Erase else Find) (Was (Some v))) → IfErr o (λ back. X back × D Find (Was None) × Y) → IfErr o X × ErasesBy R A (result_ok o)
+    erasing A told (Ok true) c b u = (tt, (b.0, b.1, told Erase c (Was (Some b.0)) b.2))
+    erasing A told (Ok false) c b u = (tt, (b.0, b.1, told Find c (Was (Some b.0)) b.2))
+    erasing A told (Err back) c b u = (u.0, told Find c (Was None) u.1)
 
   -- by `replace_if`, whose closure makes R of a value
   module _ (R : V → Option V → Type 0) where
@@ -199,10 +189,10 @@ module _ {V F : Type 0} (D : Act V → Reply V → Type 0) (C : Act V → Type 0
 
     pub replacing : (A : Act V → Reply V → Type 0) → ((act : Act V) → C act → (r : Reply V) → D act r → A act r) → (o : Result Bool F) → Chose Change C o
         → IfOk o (λ b. (v : V) × MatchBool b ((w : V) × R v (Some w) × D Change (Done v w)) (R v None × D Find (Was (Some v)))) → IfErr o (λ back. X back × D Find (Was None))
-        → IfOk o (λ b. (v : V) × MatchBool b ((w : V) × R v (Some w) × A Change (Done v w)) (R v None × A Find (Was (Some v)))) × IfErr o (λ back. X back × A Find (Was None))
-    replacing A told (Ok true) c b u = ((b.0, (b.1.0, b.1.1, told Change c (Done b.0 b.1.0) b.1.2)), tt)
-    replacing A told (Ok false) c b u = ((b.0, (b.1.0, told Find c (Was (Some b.0)) b.1.1)), tt)
-    replacing A told (Err back) c b u = (tt, (u.0, told Find c (Was None) u.1))
+        → IfErr o X × ReplacesIf R A (result_ok o)
+    replacing A told (Ok true) c b u = (tt, (b.0, (b.1.0, b.1.1, told Change c (Done b.0 b.1.0) b.1.2)))
+    replacing A told (Ok false) c b u = (tt, (b.0, (b.1.0, told Find c (Was (Some b.0)) b.1.1)))
+    replacing A told (Err back) c b u = (u.0, told Find c (Was None) u.1)
 
 -- what is said of an answer, and of none
 pub map_answer : {A E : Type 0} (o : Result A E) (P R : A → Type 0) (Q : E → Type 0) (S : Type 0) → IfOk o P → IfErr o Q → ((a : A) → P a → R a) → ((e : E) → Q e → S) → MatchOption (result_ok o) S R

@@ -267,7 +267,7 @@ module _ {V : Type 0} where
     acted_locked changes call = changed_locked l q kept changes (acted hash w p l place of_table name act reply q.stripes call).renewed
 
     -- the call is what was done to its map
-    pub has_acted : IsCallOn hash place.s p.stripes name act reply q.stripes → HasActed name act reply s (record { table = w; pass = q })
+    pub has_acted : IsCallOn hash place.s p.stripes name act reply q.stripes → HasActed name s (record { table = w; pass = q }) act reply
     has_acted call = record {
       table = ap (λ (x : LockedState V). x.table) is;
       view = ap (λ (x : PassState V). x.view) kept ∙ ap (λ (x : LockedState V). x.pass.view) is;
@@ -313,7 +313,7 @@ module _ {V : Type 0} where
         }) seeks.refused
 
   -- what was done once room was made
-  pub acted_since : (q : Name) (act : Act V) (reply : Reply V) (l m n : LockedState V) → KeepsMap l m → HasActed q act reply m n → HasActed q act reply l n
+  pub acted_since : (q : Name) (act : Act V) (reply : Reply V) (l m n : LockedState V) → KeepsMap l m → HasActed q m n act reply → HasActed q l n act reply
   acted_since q act reply l m n kept acts = record {
     table = acts.table ∙ kept.table;
     view = acts.view ∙ kept.view;

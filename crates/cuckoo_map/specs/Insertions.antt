@@ -1,5 +1,5 @@
 -- What an insertion leaves of its pass. Before it is answered it may find its name without room, and say so.
-use Rattle.std.specs.Prelude.{◌≡◌, ℕ, List, [], ◌∷◌, All}
+use Rattle.std.specs.Prelude.{◌≡◌, ℕ, List, [], ◌∷◌, All, Result, IfOk, IfErr}
 use Rattle.ck_model.specs.declared.history.Act.{Act}
 use Rattle.ck_model.specs.declared.history.Call.TheVariants.{On}
 use Rattle.ck_model.specs.declared.history.Reply.{Reply}
@@ -14,16 +14,22 @@ use Rattle.ck_words.specs.Passes.{PassState}
 use Rattle.ck_words.specs.Retries.{StaysBut}
 use Rattle.ck_words.specs.Answering.{IsAnsweredBut}
 use Rattle.ck_words.specs.Renewing.{HasRenewed}
+use Rattle.cuckoo_map.specs.declared.refusal.Refused.{Refused}
+use Rattle.cuckoo_map.specs.Refusals.{FindsOwnUnlessFull, IsRefused}
 
 module _ {V : Type 0} where
   -- the pass has said that the name was unbound and its buckets were full
   abbrev pub HasFoundNoRoom : Name → PassState V → PassState V → Type 0
   HasFoundNoRoom q p p2 = StaysBut ((q, reason.NoRoom) ∷ []) p.view p2.view
 
-  -- The insertion is answered. It has said nothing of room but that its name's buckets were full.
-  abbrev pub IsInserted : Name → Act V → Reply V → PassState V → PassState V → Type 0
-  IsInserted q act reply p p2 =
+  -- The insertion is answered: it was this act on the name, with this reply. It has said nothing of room but that its name's buckets were full.
+  abbrev pub IsInserted : Name → PassState V → PassState V → Act V → Reply V → Type 0
+  IsInserted q p p2 act reply =
       (more : List (Name × history.Reason)) × All (λ x. x ≡ (q, reason.NoRoom)) more × IsAnsweredBut more (On q act) reply p p2
+
+  -- The answer tells of an act with a reply that was done.
+  abbrev pub TellsOf : {A : Type 0} → (A → Act V → Reply V → Type 0) → (Act V → Reply V → Type 0) → A → Type 0
+  TellsOf tells P answer = (act : Act V) × (reply : Reply V) × tells answer act reply × P act reply
 
   -- The stripes that the pass holds were renewed since they were taken. The name may be at this place among them, and has this entry there.
   pub record HoldsRoom (hash : Name → ℕ) (set : Settings) (q : Name) (room : Room) (p : PassState V) : Type 0 where
@@ -39,3 +45,13 @@ module _ {V : Type 0} where
     pub own : All (λ x. x ≡ (q, reason.NoRoom)) more
     pub stays : StaysBut more p.view p2.view
     pub held : HoldsRoom hash set q room p2
+
+  -- The insertion was refused for this reason, and the key came back with the value, or with what was to make one.
+  abbrev pub HandsBack : {K X : Type 0} → (Name → ℕ) → Settings → Name → K → X → PassState V → PassState V → Refused K X → Type 0
+  HandsBack hash set q key x p p2 e = (e.key ≡ key) × (e.value ≡ x) × IsRefused hash set q e.why p p2
+
+  -- Since p an insertion came to an answer, which tells what it did, or was refused. It found no stripe held but its own, or any once its name's buckets were full.
+  pub record HasPlaced {K X A : Type 0} (tells : A → Act V → Reply V → Type 0) (hash : Name → ℕ) (set : Settings) (q : Name) (key : K) (x : X) (result : Result A (Refused K X)) (p p2 : PassState V) : Type 0 where
+    pub answered : IfOk result (TellsOf tells (IsInserted q p p2))
+    pub refused : IfErr result (HandsBack hash set q key x p p2)
+    pub found : FindsOwnUnlessFull hash set q p p2

@@ -7,7 +7,7 @@ pub mod Callers
 pub mod Locking
 pub use Rattle.ck_model.specs.Promise
 pub use Rattle.ck_model.specs.Ranges
-pub use Rattle.ck_section.specs.Uprasing
+pub use Rattle.ck_section.specs.Acts
 pub use Rattle.ck_words.specs.Words
 pub use Rattle.ck_words.specs.Passes
 pub use Rattle.ck_words.specs.Retries

@@ -21,6 +21,7 @@ use Rattle.ck_words.specs.Words.{WordsState}
 use Rattle.ck_words.specs.Passes.{PassState, IsPassOf, ShowsSeen}
 use Rattle.ck_words.specs.Retries.{Stays, FindsAmong}
 use Rattle.cuckoo_map.specs.declared.refusal.Why.{Why}
+use Rattle.cuckoo_map.specs.declared.refusal.Refused.{Refused}
 use Rattle.cuckoo_map.specs.Refusals.{IsStripeIn, why_of}
 
 -- The table, and the pass of its caller.
@@ -60,7 +61,7 @@ module _ {V : Type 0} where
     pub same : map_of l ≡ start_of l
 
   -- From l to m the map went by a call on a name with this reply, and what the pass knows stayed.
-  pub record HasActed (q : Name) (act : Act V) (reply : Reply V) (l m : LockedState V) : Type 0 where
+  pub record HasActed (q : Name) (l m : LockedState V) (act : Act V) (reply : Reply V) : Type 0 where
     pub table : m.table ≡ l.table
     pub view : m.pass.view ≡ l.pass.view
     pub step : Step (map_of l) (On q act) reply (map_of m)
@@ -89,6 +90,10 @@ module _ {V : Type 0} where
     pub lack : Lack
     pub is : why ≡ why_of lack
     pub grounds : Grounds (layout_of hash l.table.settings) l.table.settings.min_load (contents_of m.pass.stripes) q (reason_of_lack lack)
+
+  -- The key came back with the value, or with what was to make one, for want of room.
+  abbrev pub GivesBack : {K X : Type 0} → (Name → ℕ) → Name → K → X → LockedState V → LockedState V → Refused K X → Type 0
+  GivesBack hash q key x l m e = (e.key ≡ key) × (e.value ≡ x) × LacksRoom hash q e.why l m
 
   -- Room for the name was looked for among all stripes, which went from old to new: they are settled, and there is room, or a lack of it that was found.
   pub record SeeksRoom (hash : Name → ℕ) (set : Settings) (q : Name) (found : Result (Unit {0}) Lack) (old new : List (StripeState V)) : Type 0 where

@@ -1,6 +1,7 @@
 //! A caller: the table, and a pass of its own.
 ghost use Rattle.std.specs.Prelude.{◌≡◌, ◌≢◌, ◌*◌, ◌^◌, ◌≤◌, ℕ, All, map, OnOk, IfOk, IfErr, nat_eq};
 ghost use Rattle.std.specs.Fn.{FnOnceReturnsAt};
+ghost use Rattle.ck_model.specs.declared.history.Call.TheVariants.{ChangeTwo};
 ghost use Rattle.ck_words.specs.Closing.{IsCaller};
 ghost use Rattle.ck_words.specs.Meeting.{Meets};
 
@@ -69,14 +70,14 @@ impl<K: TableKey + Drop, V: Drop> Table<K, V> {
 }
 
 impl<'t, K: TableKey + Drop, V: Drop> Caller<'t, K, V> {
-    ghost use Rattle.cuckoo_map.specs.Callers.{IsSameCaller, Finds, FindsBound, FindsBy, Inserts, Assigns};
-    ghost use Rattle.cuckoo_map.specs.Callers.{Upserts, Updates, Changes, ChangesTwo, Erases, ErasesBy};
-    ghost use Rattle.cuckoo_map.specs.Callers.{ReplacesIf, TriesChange};
-    ghost use Rattle.cuckoo_map.specs.Callers.{FindsHeldOwn, FindsHeldUnlessFull, FindsHeldOfTwo};
-    ghost use Rattle.cuckoo_map.specs.Callers.{IsBusyOn, IsBusyOnTwo, IsBusyOnSome, FindsHeldAmong, ComesBack};
+    ghost use Rattle.ck_section.specs.Acts.{Finds, FindsBound, FindsBy, Inserts, InsertsBy, FindsOrInserts};
+    ghost use Rattle.ck_section.specs.Acts.{Assigns, Upserts, Uprases, TriesUpsert, Updates, Changes};
+    ghost use Rattle.ck_section.specs.Acts.{ReplacesIf, TriesChange, Erases, ErasesBy, ChangesTwo};
     ghost use Rattle.ck_words.specs.Retries.{Stays};
-    ghost use Rattle.cuckoo_map.specs.Callers.{Counts, GrowsTo, GrowsFor, IsBusyOnAny, FindsHeldOfAny};
-    ghost use Rattle.cuckoo_map.specs.Callers.{InsertsBy, Uprases, FindsOrInserts, TriesUpserting};
+    ghost use Rattle.cuckoo_map.specs.Callers.{IsSameCaller, Replies, RepliesOn, RepliesInserting};
+    ghost use Rattle.cuckoo_map.specs.Callers.{Counts, GrowsTo, GrowsFor, ComesBack, IsBusyOn, IsBusyOnTwo};
+    ghost use Rattle.cuckoo_map.specs.Callers.{IsBusyOnSome, IsBusyOnAny, FindsHeldOwn, FindsHeldUnlessFull};
+    ghost use Rattle.cuckoo_map.specs.Callers.{FindsHeldOfTwo, FindsHeldAmong, FindsHeldOfAny};
     ghost use Rattle.cuckoo_map.specs.Locking.{HasLocked};
 
     /// The table.
@@ -113,7 +114,7 @@ impl<'t, K: TableKey + Drop, V: Drop> Caller<'t, K, V> {
     where
         V: Copy,
         ensures same { IsSameCaller self.old self.new }
-        ensures answered { IfOk result (Finds (Q.name key) self.old self.new) }
+        ensures answered { IfOk result (Finds (RepliesOn (Q.name key) self.old self.new)) }
         ensures busy { IfErr result (IsBusyOn K.hash (Q.name key) self.old self.new) }
         ensures found { FindsHeldOwn K.hash (Q.name key) self.old self.new }
     {
@@ -137,7 +138,7 @@ impl<'t, K: TableKey + Drop, V: Drop> Caller<'t, K, V> {
         requires call { F.IsAlwaysCallable f }
         ensures same { IsSameCaller self.old self.new }
         ensures answered { IfOk result (
-            FindsBy (FnOnceReturnsAt F.FnOnce f) (Q.name key) self.old self.new) }
+            FindsBy (FnOnceReturnsAt F.FnOnce f) (RepliesOn (Q.name key) self.old self.new)) }
         ensures busy { IfErr result (IsBusyOn K.hash (Q.name key) self.old self.new) }
         ensures found { FindsHeldOwn K.hash (Q.name key) self.old self.new }
     {
@@ -152,7 +153,7 @@ impl<'t, K: TableKey + Drop, V: Drop> Caller<'t, K, V> {
     #[inline(always)]
     pub fn contains<Q: Query<K>>(&mut self, key: Q) -> Result<bool, Busy>
         ensures same { IsSameCaller self.old self.new }
-        ensures answered { IfOk result (FindsBound (Q.name key) self.old self.new) }
+        ensures answered { IfOk result (FindsBound (RepliesOn (Q.name key) self.old self.new)) }
         ensures busy { IfErr result (IsBusyOn K.hash (Q.name key) self.old self.new) }
         ensures found { FindsHeldOwn K.hash (Q.name key) self.old self.new }
     {
@@ -171,7 +172,7 @@ impl<'t, K: TableKey + Drop, V: Drop> Caller<'t, K, V> {
     #[inline(always)]
     pub fn insert(&mut self, key: K, value: V) -> Result<bool, Refused<K, V>>
         ensures same { IsSameCaller self.old self.new }
-        ensures answered { IfOk result (Inserts (K.name key) value self.old self.new) }
+        ensures answered { IfOk result (Inserts value (RepliesInserting (K.name key) self.old self.new)) }
         ensures refused { IfErr result (ComesBack K.hash (K.name key) key value self.old self.new) }
         ensures found { FindsHeldUnlessFull K.hash (K.name key) self.old self.new }
     {
@@ -188,7 +189,7 @@ impl<'t, K: TableKey + Drop, V: Drop> Caller<'t, K, V> {
     #[inline(always)]
     pub fn insert_or_assign(&mut self, key: K, value: V) -> Result<Option<V>, Refused<K, V>>
         ensures same { IsSameCaller self.old self.new }
-        ensures answered { IfOk result (Assigns (K.name key) value self.old self.new) }
+        ensures answered { IfOk result (Assigns value (RepliesInserting (K.name key) self.old self.new)) }
         ensures refused { IfErr result (ComesBack K.hash (K.name key) key value self.old self.new) }
         ensures found { FindsHeldUnlessFull K.hash (K.name key) self.old self.new }
     {
@@ -213,7 +214,8 @@ impl<'t, K: TableKey + Drop, V: Drop> Caller<'t, K, V> {
         F: Drop,
         requires call { F.IsAlwaysCallable f }
         ensures same { IsSameCaller self.old self.new }
-        ensures answered { IfOk result (Upserts (F.post f) (K.name key) value self.old self.new) }
+        ensures answered { IfOk result (
+            Upserts (F.post f) value (RepliesInserting (K.name key) self.old self.new)) }
         ensures refused { IfErr result (ComesBack K.hash (K.name key) key value self.old self.new) }
         ensures found { FindsHeldUnlessFull K.hash (K.name key) self.old self.new }
     {
@@ -250,7 +252,7 @@ impl<'t, K: TableKey + Drop, V: Drop> Caller<'t, K, V> {
         requires call { F.IsAlwaysCallable f }
         ensures same { IsSameCaller self.old self.new }
         ensures answered { IfOk result (
-            TriesUpserting (F.post f) (K.name key) value self.old self.new) }
+            TriesUpsert (F.post f) value (RepliesInserting (K.name key) self.old self.new)) }
         ensures refused { IfErr result (ComesBack K.hash (K.name key) key value self.old self.new) }
         ensures found { FindsHeldUnlessFull K.hash (K.name key) self.old self.new }
     {
@@ -273,7 +275,8 @@ impl<'t, K: TableKey + Drop, V: Drop> Caller<'t, K, V> {
         F: Drop,
         requires call { F.IsAlwaysCallable f }
         ensures same { IsSameCaller self.old self.new }
-        ensures answered { IfOk result (InsertsBy (F.post f) (K.name key) self.old self.new) }
+        ensures answered { IfOk result (
+            InsertsBy (F.post f) (RepliesInserting (K.name key) self.old self.new)) }
         ensures refused { IfErr result (
             ComesBack K.hash (K.name key) key f self.old self.new) }
         ensures found { FindsHeldUnlessFull K.hash (K.name key) self.old self.new }
@@ -303,7 +306,8 @@ impl<'t, K: TableKey + Drop, V: Drop> Caller<'t, K, V> {
         F: Drop,
         requires call { F.IsAlwaysCallable f }
         ensures same { IsSameCaller self.old self.new }
-        ensures answered { IfOk result (Uprases (F.post f) (K.name key) value self.old self.new) }
+        ensures answered { IfOk result (
+            Uprases (F.post f) value (RepliesInserting (K.name key) self.old self.new)) }
         ensures refused { IfErr result (ComesBack K.hash (K.name key) key value self.old self.new) }
         ensures found { FindsHeldUnlessFull K.hash (K.name key) self.old self.new }
     {
@@ -328,7 +332,7 @@ impl<'t, K: TableKey + Drop, V: Drop> Caller<'t, K, V> {
         requires call { F.IsAlwaysCallable f }
         ensures same { IsSameCaller self.old self.new }
         ensures answered { IfOk result (
-            FindsOrInserts (F.post f) (K.name key) self.old self.new) }
+            FindsOrInserts (F.post f) (RepliesInserting (K.name key) self.old self.new)) }
         ensures refused { IfErr result (
             ComesBack K.hash (K.name key) key f self.old self.new) }
         ensures found { FindsHeldUnlessFull K.hash (K.name key) self.old self.new }
@@ -348,7 +352,7 @@ impl<'t, K: TableKey + Drop, V: Drop> Caller<'t, K, V> {
     #[inline(always)]
     pub fn update<Q: Query<K>>(&mut self, key: Q, value: V) -> Result<Option<V>, (V, Busy)>
         ensures same { IsSameCaller self.old self.new }
-        ensures answered { IfOk result (Updates (Q.name key) value self.old self.new) }
+        ensures answered { IfOk result (Updates value (RepliesOn (Q.name key) self.old self.new)) }
         ensures back { IfErr result (λ back. back.0 ≡ value) }
         ensures busy { IfErr result (λ back.
             IsBusyOn K.hash (Q.name key) self.old self.new back.1) }
@@ -369,7 +373,8 @@ impl<'t, K: TableKey + Drop, V: Drop> Caller<'t, K, V> {
         F: Drop,
         requires call { F.IsAlwaysCallable f }
         ensures same { IsSameCaller self.old self.new }
-        ensures answered { IfOk result (Changes (F.post f) (Q.name key) self.old self.new) }
+        ensures answered { IfOk result (
+            Changes (F.post f) (RepliesOn (Q.name key) self.old self.new)) }
         ensures busy { IfErr result (IsBusyOn K.hash (Q.name key) self.old self.new) }
         ensures found { FindsHeldOwn K.hash (Q.name key) self.old self.new }
     {
@@ -398,7 +403,8 @@ impl<'t, K: TableKey + Drop, V: Drop> Caller<'t, K, V> {
         requires call { F.IsAlwaysCallable f }
         ensures same { IsSameCaller self.old self.new }
         ensures answered { IfOk result (
-            ChangesTwo (F.post f) (Q.name a) (Q.name b) self.old self.new) }
+            ChangesTwo (F.post f)
+            (Replies (ChangeTwo (Q.name a) (Q.name b)) self.old self.new)) }
         ensures busy { IfErr result (
             IsBusyOnTwo K.hash (Q.name a) (Q.name b) self.old self.new) }
         ensures found { FindsHeldOfTwo K.hash (Q.name a) (Q.name b) self.old self.new }
@@ -415,7 +421,7 @@ impl<'t, K: TableKey + Drop, V: Drop> Caller<'t, K, V> {
     #[inline(always)]
     pub fn erase<Q: Query<K>>(&mut self, key: Q) -> Result<Option<V>, Busy>
         ensures same { IsSameCaller self.old self.new }
-        ensures answered { IfOk result (Erases (Q.name key) self.old self.new) }
+        ensures answered { IfOk result (Erases (RepliesOn (Q.name key) self.old self.new)) }
         ensures busy { IfErr result (IsBusyOn K.hash (Q.name key) self.old self.new) }
         ensures found { FindsHeldOwn K.hash (Q.name key) self.old self.new }
     {
@@ -440,7 +446,7 @@ impl<'t, K: TableKey + Drop, V: Drop> Caller<'t, K, V> {
         requires call { F.IsAlwaysCallable f }
         ensures same { IsSameCaller self.old self.new }
         ensures answered { IfOk result (
-            ErasesBy (FnOnceReturnsAt F.FnOnce f) (Q.name key) self.old self.new) }
+            ErasesBy (FnOnceReturnsAt F.FnOnce f) (RepliesOn (Q.name key) self.old self.new)) }
         ensures busy { IfErr result (IsBusyOn K.hash (Q.name key) self.old self.new) }
         ensures found { FindsHeldOwn K.hash (Q.name key) self.old self.new }
     {
@@ -466,7 +472,7 @@ impl<'t, K: TableKey + Drop, V: Drop> Caller<'t, K, V> {
         requires call { F.IsAlwaysCallable f }
         ensures same { IsSameCaller self.old self.new }
         ensures answered { IfOk result (
-            ReplacesIf (FnOnceReturnsAt F.FnOnce f) (Q.name key) self.old self.new) }
+            ReplacesIf (FnOnceReturnsAt F.FnOnce f) (RepliesOn (Q.name key) self.old self.new)) }
         ensures busy { IfErr result (IsBusyOn K.hash (Q.name key) self.old self.new) }
         ensures found { FindsHeldOwn K.hash (Q.name key) self.old self.new }
     {
@@ -501,7 +507,8 @@ impl<'t, K: TableKey + Drop, V: Drop> Caller<'t, K, V> {
         F: Drop,
         requires call { F.IsAlwaysCallable f }
         ensures same { IsSameCaller self.old self.new }
-        ensures answered { IfOk result (TriesChange (F.post f) (Q.name key) self.old self.new) }
+        ensures answered { IfOk result (
+            TriesChange (F.post f) (RepliesOn (Q.name key) self.old self.new)) }
         ensures busy { IfErr result (IsBusyOn K.hash (Q.name key) self.old self.new) }
         ensures found { FindsHeldOwn K.hash (Q.name key) self.old self.new }
     {

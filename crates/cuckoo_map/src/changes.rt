@@ -1,10 +1,11 @@
 //! Calls that change or unbind a bound key.
-ghost use Rattle.std.specs.Prelude.{◌≡◌, Some, None, Ok, Err, IfOk, IfErr, MatchOption, MatchBool, MatchResult, if◌then◌else◌};
+ghost use Rattle.std.specs.Prelude.{◌≡◌, IfOk, IfErr, MatchResult, if◌then◌else◌};
 ghost use Rattle.std.specs.Fn.{FnOnceReturnsAt};
-ghost use Rattle.ck_model.specs.declared.history.Act.TheVariants.{Find, Update, Change, Erase};
+ghost use Rattle.std.specs.Result.{result_ok};
+ghost use Rattle.ck_model.specs.declared.history.Act.TheVariants.{Find};
 ghost use Rattle.ck_model.specs.declared.history.Call.TheVariants.{On};
-ghost use Rattle.ck_model.specs.declared.history.Reply.TheVariants.{Was, Done, Absent};
-ghost use Rattle.ck_words.specs.Answering.{IsAnswered};
+ghost use Rattle.ck_section.specs.Acts.{Updates, Changes, Erases, ErasesBy, ReplacesIf, TriesChange};
+ghost use Rattle.ck_words.specs.Answering.{IsAnsweredOn};
 ghost use Rattle.ck_words.specs.Closing.{IsCaller};
 ghost use Rattle.ck_words.specs.Commits.{call_of};
 ghost use Rattle.cuckoo_map.specs.Refusals.{FindsOwn, IsBusyAt};
@@ -29,8 +30,7 @@ impl<K: TableKey + Drop, V: Drop> Table<K, V> {
     ) -> Result<Option<V>, (V, Busy)>
         requires caller { IsCaller self.now pass.old }
         ensures caller { IsCaller self.now pass.new }
-        ensures answered { IfOk result (λ old.
-            IsAnswered (On (Q.name key) (Update value)) (Was old) pass.old pass.new) }
+        ensures answered { IfOk result (Updates value (IsAnsweredOn (Q.name key) pass.old pass.new)) }
         ensures busy { IfErr result (λ back. (back.0 ≡ value)
             × IsBusyAt K.hash self.now.settings (Q.name key) back.1.0 pass.old pass.new) }
         ensures found { FindsOwn K.hash self.now.settings (Q.name key) pass.old pass.new }
@@ -67,10 +67,8 @@ impl<K: TableKey + Drop, V: Drop> Table<K, V> {
         requires caller { IsCaller self.now pass.old }
         requires call { F.IsAlwaysCallable f }
         ensures caller { IsCaller self.now pass.new }
-        ensures answered { IfOk result (λ bound. MatchBool bound
-            ((v w : V) × F.post f v w
-            × IsAnswered (On (Q.name key) Change) (Done v w) pass.old pass.new)
-            (IsAnswered (On (Q.name key) Change) Absent pass.old pass.new)) }
+        ensures answered { IfOk result (
+            Changes (F.post f) (IsAnsweredOn (Q.name key) pass.old pass.new)) }
         ensures busy { IfErr result (λ busy.
             IsBusyAt K.hash self.now.settings (Q.name key) busy.0 pass.old pass.new) }
         ensures found { FindsOwn K.hash self.now.settings (Q.name key) pass.old pass.new }
@@ -93,8 +91,7 @@ impl<K: TableKey + Drop, V: Drop> Table<K, V> {
     pub fn erase<Q: Query<K>>(&self, pass: &mut Pass<K, V>, key: Q) -> Result<Option<V>, Busy>
         requires caller { IsCaller self.now pass.old }
         ensures caller { IsCaller self.now pass.new }
-        ensures answered { IfOk result (λ old.
-            IsAnswered (On (Q.name key) Erase) (Was old) pass.old pass.new) }
+        ensures answered { IfOk result (Erases (IsAnsweredOn (Q.name key) pass.old pass.new)) }
         ensures busy { IfErr result (λ busy.
             IsBusyAt K.hash self.now.settings (Q.name key) busy.0 pass.old pass.new) }
         ensures found { FindsOwn K.hash self.now.settings (Q.name key) pass.old pass.new }
@@ -128,11 +125,8 @@ impl<K: TableKey + Drop, V: Drop> Table<K, V> {
         requires caller { IsCaller self.now pass.old }
         requires call { F.IsAlwaysCallable f }
         ensures caller { IsCaller self.now pass.new }
-        ensures answered { IfOk result (λ answer. MatchOption answer
-            (IsAnswered (On (Q.name key) Find) (Was None) pass.old pass.new)
-            (λ gone. (v : V) × FnOnceReturnsAt F.FnOnce f v gone × MatchBool gone
-            (IsAnswered (On (Q.name key) Erase) (Was (Some v)) pass.old pass.new)
-            (IsAnswered (On (Q.name key) Find) (Was (Some v)) pass.old pass.new))) }
+        ensures answered { IfOk result (
+            ErasesBy (FnOnceReturnsAt F.FnOnce f) (IsAnsweredOn (Q.name key) pass.old pass.new)) }
         ensures busy { IfErr result (λ busy.
             IsBusyAt K.hash self.now.settings (Q.name key) busy.0 pass.old pass.new) }
         ensures found { FindsOwn K.hash self.now.settings (Q.name key) pass.old pass.new }
@@ -153,12 +147,9 @@ impl<K: TableKey + Drop, V: Drop> Table<K, V> {
         requires caller { IsCaller self.now pass.old }
         requires call { F.IsAlwaysCallable f }
         ensures caller { IsCaller self.now pass.new }
-        ensures answered { IfOk result (λ answer.
-            IfOk answer (λ gone. (v : V) × FnOnceReturnsAt F.FnOnce f v gone × MatchBool gone
-            (IsAnswered (On (Q.name key) Erase) (Was (Some v)) pass.old pass.new)
-            (IsAnswered (On (Q.name key) Find) (Was (Some v)) pass.old pass.new))
-            × IfErr answer (λ back. (back ≡ f)
-            × IsAnswered (On (Q.name key) Find) (Was None) pass.old pass.new)) }
+        ensures answered { IfOk result (λ answer. IfErr answer (λ back. back ≡ f)
+            × ErasesBy (FnOnceReturnsAt F.FnOnce f) (IsAnsweredOn (Q.name key) pass.old pass.new)
+            (result_ok answer)) }
         ensures busy { IfErr result (λ busy.
             IsBusyAt K.hash self.now.settings (Q.name key) busy.0 pass.old pass.new) }
         ensures found { FindsOwn K.hash self.now.settings (Q.name key) pass.old pass.new }
@@ -193,13 +184,8 @@ impl<K: TableKey + Drop, V: Drop> Table<K, V> {
         requires caller { IsCaller self.now pass.old }
         requires call { F.IsAlwaysCallable f }
         ensures caller { IsCaller self.now pass.new }
-        ensures answered { IfOk result (λ answer. MatchOption answer
-            (IsAnswered (On (Q.name key) Find) (Was None) pass.old pass.new)
-            (λ replaced. (v : V) × MatchBool replaced
-            ((w : V) × FnOnceReturnsAt F.FnOnce f v (Some w)
-            × IsAnswered (On (Q.name key) Change) (Done v w) pass.old pass.new)
-            (FnOnceReturnsAt F.FnOnce f v None
-            × IsAnswered (On (Q.name key) Find) (Was (Some v)) pass.old pass.new))) }
+        ensures answered { IfOk result (
+            ReplacesIf (FnOnceReturnsAt F.FnOnce f) (IsAnsweredOn (Q.name key) pass.old pass.new)) }
         ensures busy { IfErr result (λ busy.
             IsBusyAt K.hash self.now.settings (Q.name key) busy.0 pass.old pass.new) }
         ensures found { FindsOwn K.hash self.now.settings (Q.name key) pass.old pass.new }
@@ -220,14 +206,9 @@ impl<K: TableKey + Drop, V: Drop> Table<K, V> {
         requires caller { IsCaller self.now pass.old }
         requires call { F.IsAlwaysCallable f }
         ensures caller { IsCaller self.now pass.new }
-        ensures answered { IfOk result (λ answer.
-            IfOk answer (λ replaced. (v : V) × MatchBool replaced
-            ((w : V) × FnOnceReturnsAt F.FnOnce f v (Some w)
-            × IsAnswered (On (Q.name key) Change) (Done v w) pass.old pass.new)
-            (FnOnceReturnsAt F.FnOnce f v None
-            × IsAnswered (On (Q.name key) Find) (Was (Some v)) pass.old pass.new))
-            × IfErr answer (λ back. (back ≡ f)
-            × IsAnswered (On (Q.name key) Find) (Was None) pass.old pass.new)) }
+        ensures answered { IfOk result (λ answer. IfErr answer (λ back. back ≡ f)
+            × ReplacesIf (FnOnceReturnsAt F.FnOnce f) (IsAnsweredOn (Q.name key) pass.old pass.new)
+            (result_ok answer)) }
         ensures busy { IfErr result (λ busy.
             IsBusyAt K.hash self.now.settings (Q.name key) busy.0 pass.old pass.new) }
         ensures found { FindsOwn K.hash self.now.settings (Q.name key) pass.old pass.new }
@@ -262,11 +243,8 @@ impl<K: TableKey + Drop, V: Drop> Table<K, V> {
         requires caller { IsCaller self.now pass.old }
         requires call { F.IsAlwaysCallable f }
         ensures caller { IsCaller self.now pass.new }
-        ensures answered { IfOk result (λ answer. MatchOption answer
-            (IsAnswered (On (Q.name key) Change) Absent pass.old pass.new)
-            (λ outcome. (v w : V)
-            × MatchResult outcome (λ _. F.post f v (Ok w)) (λ e. F.post f v (Err (w, e)))
-            × IsAnswered (On (Q.name key) Change) (Done v w) pass.old pass.new)) }
+        ensures answered { IfOk result (
+            TriesChange (F.post f) (IsAnsweredOn (Q.name key) pass.old pass.new)) }
         ensures busy { IfErr result (λ busy.
             IsBusyAt K.hash self.now.settings (Q.name key) busy.0 pass.old pass.new) }
         ensures found { FindsOwn K.hash self.now.settings (Q.name key) pass.old pass.new }

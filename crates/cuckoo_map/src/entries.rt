@@ -57,16 +57,14 @@ pub(crate) trait Insertion<K: TableKey, V>: Drop {
 pub(crate) struct Insert;
 
 impl<K: TableKey + Drop, V: Drop> Insertion<K, V> for Insert {
-    ghost use Rattle.std.specs.Prelude.{◌≡◌, if◌then◌else◌, ⊤};
-    ghost use Rattle.ck_model.specs.declared.history.Act.TheVariants.{Insert};
-    ghost use Rattle.ck_model.specs.declared.history.Reply.TheVariants.{New, Old};
+    ghost use Rattle.std.specs.Prelude.{⊤};
+    ghost use Rattle.ck_section.specs.Acts.{Inserts, IsAct};
 
     type Value = V;
 
     type Answer = bool;
 
-    ghost tells = { λ _ v fresh act reply. (act ≡ Insert v)
-        × (reply ≡ (if fresh then New else Old)) };
+    ghost tells = { λ _ v fresh act reply. Inserts v (IsAct act reply) fresh };
 
     ghost can_make = { λ _ _. ⊤ };
 
@@ -89,15 +87,14 @@ impl<K: TableKey + Drop, V: Drop> Insertion<K, V> for Insert {
 pub(crate) struct Assign;
 
 impl<K: TableKey + Drop, V: Drop> Insertion<K, V> for Assign {
-    ghost use Rattle.std.specs.Prelude.{◌≡◌, ⊤};
-    ghost use Rattle.ck_model.specs.declared.history.Act.TheVariants.{Assign};
-    ghost use Rattle.ck_model.specs.declared.history.Reply.TheVariants.{Was};
+    ghost use Rattle.std.specs.Prelude.{⊤};
+    ghost use Rattle.ck_section.specs.Acts.{Assigns, IsAct};
 
     type Value = V;
 
     type Answer = Option<V>;
 
-    ghost tells = { λ _ v old act reply. (act ≡ Assign v) × (reply ≡ Was old) };
+    ghost tells = { λ _ v old act reply. Assigns v (IsAct act reply) old };
 
     ghost can_make = { λ _ _. ⊤ };
 
@@ -124,16 +121,13 @@ impl<K: TableKey + Drop, V: Drop, F: FnOnce(V) -> V> Insertion<K, V> for Upsert<
 where
     F: Drop,
 {
-    ghost use Rattle.std.specs.Prelude.{◌≡◌, MatchBool};
-    ghost use Rattle.ck_model.specs.declared.history.Act.TheVariants.{Upsert};
-    ghost use Rattle.ck_model.specs.declared.history.Reply.TheVariants.{New, Done};
+    ghost use Rattle.ck_section.specs.Acts.{Upserts, IsAct};
 
     type Value = V;
 
     type Answer = bool;
 
-    ghost tells = { λ u value fresh act reply. (act ≡ Upsert value)
-        × MatchBool fresh (reply ≡ New) ((v w : V) × F.post u.0 v w × (reply ≡ Done v w)) };
+    ghost tells = { λ u v fresh act reply. Upserts (F.post u.0) v (IsAct act reply) fresh };
 
     ghost can_make = { λ u _. F.IsAlwaysCallable u.0 };
 
@@ -161,15 +155,13 @@ impl<K: TableKey + Drop, V: Drop, E, F: FnOnce(V) -> Result<V, (V, E)>> Insertio
 where
     F: Drop,
 {
-    ghost use Rattle.std.specs.Prelude.{◌≡◌};
-    ghost use Rattle.ck_section.specs.Uprasing.{TriesUpsert};
+    ghost use Rattle.ck_section.specs.Acts.{TriesUpsert, IsAct};
 
     type Value = V;
 
     type Answer = Result<bool, E>;
 
-    ghost tells = { λ u value answer act reply.
-        TriesUpsert (F.post u.0) value (λ a r. (act ≡ a) × (reply ≡ r)) answer };
+    ghost tells = { λ u v answer act reply. TriesUpsert (F.post u.0) v (IsAct act reply) answer };
 
     ghost can_make = { λ u _. F.IsAlwaysCallable u.0 };
 
@@ -196,17 +188,13 @@ impl<K: TableKey + Drop, V: Drop, F: FnOnce() -> V> Insertion<K, V> for InsertWi
 where
     F: Drop,
 {
-    ghost use Rattle.std.specs.Prelude.{◌≡◌, MatchBool, Some};
-    ghost use Rattle.ck_model.specs.declared.history.Act.TheVariants.{Find, Insert};
-    ghost use Rattle.ck_model.specs.declared.history.Reply.TheVariants.{New, Was};
+    ghost use Rattle.ck_section.specs.Acts.{InsertsBy, IsAct};
 
     type Value = F;
 
     type Answer = bool;
 
-    ghost tells = { λ _ f fresh act reply. MatchBool fresh
-        ((w : V) × F.post f w × (act ≡ Insert w) × (reply ≡ New))
-        ((v : V) × (act ≡ Find) × (reply ≡ Was (Some v))) };
+    ghost tells = { λ _ f fresh act reply. InsertsBy (F.post f) (IsAct act reply) fresh };
 
     ghost can_make = { λ _ f. F.IsAlwaysCallable f };
 
@@ -243,15 +231,13 @@ impl<K: TableKey + Drop, V: Drop, F: FnOnce(V) -> Option<V>> Insertion<K, V> for
 where
     F: Drop,
 {
-    ghost use Rattle.std.specs.Prelude.{◌≡◌};
-    ghost use Rattle.ck_section.specs.Uprasing.{IsUprased};
+    ghost use Rattle.ck_section.specs.Acts.{Uprases, IsAct};
 
     type Value = V;
 
     type Answer = Uprased;
 
-    ghost tells = { λ u value answer act reply.
-        IsUprased (F.post u.0) value (λ a r. (act ≡ a) × (reply ≡ r)) answer };
+    ghost tells = { λ u v answer act reply. Uprases (F.post u.0) v (IsAct act reply) answer };
 
     ghost can_make = { λ u _. F.IsAlwaysCallable u.0 };
 
@@ -282,16 +268,13 @@ impl<K: TableKey + Drop, V: Copy + Drop, F: FnOnce() -> V> Insertion<K, V> for G
 where
     F: Drop,
 {
-    ghost use Rattle.std.specs.Prelude.{◌≡◌, ◌⊎◌, Some};
-    ghost use Rattle.ck_model.specs.declared.history.Act.TheVariants.{Find, Insert};
-    ghost use Rattle.ck_model.specs.declared.history.Reply.TheVariants.{New, Was};
+    ghost use Rattle.ck_section.specs.Acts.{FindsOrInserts, IsAct};
 
     type Value = F;
 
     type Answer = V;
 
-    ghost tells = { λ _ f v act reply. (F.post f v × (act ≡ Insert v) × (reply ≡ New))
-        ⊎ ((act ≡ Find) × (reply ≡ Was (Some v))) };
+    ghost tells = { λ _ f v act reply. FindsOrInserts (F.post f) (IsAct act reply) v };
 
     ghost can_make = { λ _ f. F.IsAlwaysCallable f };
 

@@ -1,18 +1,14 @@
 //! Calls that may bind an unbound key.
-ghost use Rattle.std.specs.Prelude.{◌≡◌, ◌⊎◌, ◌≤◌, Some, if◌then◌else◌, IfOk, IfErr, MatchBool};
-ghost use Rattle.ck_model.specs.declared.history.Act.{Act};
-ghost use Rattle.ck_model.specs.declared.history.Act.TheVariants.{Find, Insert, Assign, Upsert};
-ghost use Rattle.ck_model.specs.declared.history.Reply.{Reply};
-ghost use Rattle.ck_model.specs.declared.history.Reply.TheVariants.{Was, New, Old, Done};
-ghost use Rattle.ck_section.specs.Uprasing.{IsUprased, TriesUpsert};
+ghost use Rattle.std.specs.Prelude.{◌≡◌, ◌≤◌, IfOk, IfErr};
+ghost use Rattle.ck_section.specs.Acts.{Inserts, InsertsBy, FindsOrInserts, Assigns, Upserts, Uprases, TriesUpsert};
 ghost use Rattle.ck_words.specs.Closing.{IsCaller};
 ghost use Rattle.ck_words.specs.Passes.{IsPassOf, IsUnchanged, numbers_of};
 ghost use Rattle.ck_words.specs.StripeNumbers.{own_numbers};
 ghost use Rattle.ck_words.specs.StripeSets.{list_of};
 ghost use Rattle.ck_words.specs.Holding.{HasTakenAll, Misses};
 ghost use Rattle.cuckoo_map.specs.Holding.{IsHomeOf};
-ghost use Rattle.cuckoo_map.specs.Insertions.{HasFoundNoRoom, HasRoom, IsInserted};
-ghost use Rattle.cuckoo_map.specs.Refusals.{FindsOwn, FindsOwnUnlessFull, IsRefused};
+ghost use Rattle.cuckoo_map.specs.Insertions.{HasFoundNoRoom, HasRoom, HasPlaced, IsInserted, HandsBack, TellsOf};
+ghost use Rattle.cuckoo_map.specs.Refusals.{FindsOwn, FindsOwnUnlessFull};
 
 use crate::entries;
 use crate::entries::Insertion;
@@ -40,10 +36,9 @@ impl<K: TableKey + Drop, V: Drop> Table<K, V> {
     pub fn insert(&self, pass: &mut Pass<K, V>, key: K, value: V) -> Result<bool, Refused<K, V>>
         requires caller { IsCaller self.now pass.old }
         ensures caller { IsCaller self.now pass.new }
-        ensures answered { IfOk result (λ fresh.
-            IsInserted (K.name key) (Insert value) (if fresh then New else Old) pass.old pass.new) }
-        ensures refused { IfErr result (λ e. (e.key ≡ key) × (e.value ≡ value)
-            × IsRefused K.hash self.now.settings (K.name key) e.why pass.old pass.new) }
+        ensures answered { IfOk result (Inserts value (IsInserted (K.name key) pass.old pass.new)) }
+        ensures refused { IfErr result (HandsBack K.hash self.now.settings (K.name key)
+            key value pass.old pass.new) }
         ensures found { FindsOwnUnlessFull K.hash self.now.settings (K.name key) pass.old pass.new }
     {
         self.place(pass, key, value, entries::Insert)
@@ -66,10 +61,9 @@ impl<K: TableKey + Drop, V: Drop> Table<K, V> {
     ) -> Result<Option<V>, Refused<K, V>>
         requires caller { IsCaller self.now pass.old }
         ensures caller { IsCaller self.now pass.new }
-        ensures answered { IfOk result (λ old.
-            IsInserted (K.name key) (Assign value) (Was old) pass.old pass.new) }
-        ensures refused { IfErr result (λ e. (e.key ≡ key) × (e.value ≡ value)
-            × IsRefused K.hash self.now.settings (K.name key) e.why pass.old pass.new) }
+        ensures answered { IfOk result (Assigns value (IsInserted (K.name key) pass.old pass.new)) }
+        ensures refused { IfErr result (HandsBack K.hash self.now.settings (K.name key)
+            key value pass.old pass.new) }
         ensures found { FindsOwnUnlessFull K.hash self.now.settings (K.name key) pass.old pass.new }
     {
         self.place(pass, key, value, entries::Assign)
@@ -98,12 +92,10 @@ impl<K: TableKey + Drop, V: Drop> Table<K, V> {
         requires caller { IsCaller self.now pass.old }
         requires call { F.IsAlwaysCallable f }
         ensures caller { IsCaller self.now pass.new }
-        ensures answered { IfOk result (λ fresh. MatchBool fresh
-            (IsInserted (K.name key) (Upsert value) New pass.old pass.new)
-            ((v w : V) × F.post f v w
-            × IsInserted (K.name key) (Upsert value) (Done v w) pass.old pass.new)) }
-        ensures refused { IfErr result (λ e. (e.key ≡ key) × (e.value ≡ value)
-            × IsRefused K.hash self.now.settings (K.name key) e.why pass.old pass.new) }
+        ensures answered { IfOk result (
+            Upserts (F.post f) value (IsInserted (K.name key) pass.old pass.new)) }
+        ensures refused { IfErr result (HandsBack K.hash self.now.settings (K.name key)
+            key value pass.old pass.new) }
         ensures found { FindsOwnUnlessFull K.hash self.now.settings (K.name key) pass.old pass.new }
     {
         self.place(pass, key, value, entries::Upsert(f))
@@ -139,10 +131,10 @@ impl<K: TableKey + Drop, V: Drop> Table<K, V> {
         requires caller { IsCaller self.now pass.old }
         requires call { F.IsAlwaysCallable f }
         ensures caller { IsCaller self.now pass.new }
-        ensures answered { IfOk result (TriesUpsert (F.post f) value
-            (λ act reply. IsInserted (K.name key) act reply pass.old pass.new)) }
-        ensures refused { IfErr result (λ e. (e.key ≡ key) × (e.value ≡ value)
-            × IsRefused K.hash self.now.settings (K.name key) e.why pass.old pass.new) }
+        ensures answered { IfOk result (
+            TriesUpsert (F.post f) value (IsInserted (K.name key) pass.old pass.new)) }
+        ensures refused { IfErr result (HandsBack K.hash self.now.settings (K.name key)
+            key value pass.old pass.new) }
         ensures found { FindsOwnUnlessFull K.hash self.now.settings (K.name key) pass.old pass.new }
     {
         self.place(pass, key, value, entries::TryUpsert(f))
@@ -176,11 +168,10 @@ impl<K: TableKey + Drop, V: Drop> Table<K, V> {
         requires caller { IsCaller self.now pass.old }
         requires call { F.IsAlwaysCallable f }
         ensures caller { IsCaller self.now pass.new }
-        ensures answered { IfOk result (λ fresh. MatchBool fresh
-            ((w : V) × F.post f w × IsInserted (K.name key) (Insert w) New pass.old pass.new)
-            ((v : V) × IsInserted (K.name key) Find (Was (Some v)) pass.old pass.new)) }
-        ensures refused { IfErr result (λ e. (e.key ≡ key) × (e.value ≡ f)
-            × IsRefused K.hash self.now.settings (K.name key) e.why pass.old pass.new) }
+        ensures answered { IfOk result (
+            InsertsBy (F.post f) (IsInserted (K.name key) pass.old pass.new)) }
+        ensures refused { IfErr result (HandsBack K.hash self.now.settings (K.name key)
+            key f pass.old pass.new) }
         ensures found { FindsOwnUnlessFull K.hash self.now.settings (K.name key) pass.old pass.new }
     {
         self.place(pass, key, f, entries::InsertWith(PhantomData))
@@ -214,10 +205,10 @@ impl<K: TableKey + Drop, V: Drop> Table<K, V> {
         requires caller { IsCaller self.now pass.old }
         requires call { F.IsAlwaysCallable f }
         ensures caller { IsCaller self.now pass.new }
-        ensures answered { IfOk result (IsUprased (F.post f) value
-            (λ act reply. IsInserted (K.name key) act reply pass.old pass.new)) }
-        ensures refused { IfErr result (λ e. (e.key ≡ key) × (e.value ≡ value)
-            × IsRefused K.hash self.now.settings (K.name key) e.why pass.old pass.new) }
+        ensures answered { IfOk result (
+            Uprases (F.post f) value (IsInserted (K.name key) pass.old pass.new)) }
+        ensures refused { IfErr result (HandsBack K.hash self.now.settings (K.name key)
+            key value pass.old pass.new) }
         ensures found { FindsOwnUnlessFull K.hash self.now.settings (K.name key) pass.old pass.new }
     {
         self.place(pass, key, value, entries::Uprase(f))
@@ -251,11 +242,10 @@ impl<K: TableKey + Drop, V: Drop> Table<K, V> {
         requires caller { IsCaller self.now pass.old }
         requires call { F.IsAlwaysCallable f }
         ensures caller { IsCaller self.now pass.new }
-        ensures answered { IfOk result (λ v.
-            (F.post f v × IsInserted (K.name key) (Insert v) New pass.old pass.new)
-            ⊎ (IsInserted (K.name key) Find (Was (Some v)) pass.old pass.new)) }
-        ensures refused { IfErr result (λ e. (e.key ≡ key) × (e.value ≡ f)
-            × IsRefused K.hash self.now.settings (K.name key) e.why pass.old pass.new) }
+        ensures answered { IfOk result (
+            FindsOrInserts (F.post f) (IsInserted (K.name key) pass.old pass.new)) }
+        ensures refused { IfErr result (HandsBack K.hash self.now.settings (K.name key)
+            key f pass.old pass.new) }
         ensures found { FindsOwnUnlessFull K.hash self.now.settings (K.name key) pass.old pass.new }
     {
         self.place(pass, key, f, entries::GetOrInsertWith(PhantomData))
@@ -276,12 +266,8 @@ impl<K: TableKey + Drop, V: Drop> Table<K, V> {
         requires caller { IsCaller self.now pass.old }
         requires call { I.can_make insertion value }
         ensures caller { IsCaller self.now pass.new }
-        ensures answered { IfOk result (λ answer. (act : Act V) × (reply : Reply V)
-            × I.tells insertion value answer act reply
-            × IsInserted (K.name key) act reply pass.old pass.new) }
-        ensures refused { IfErr result (λ e. (e.key ≡ key) × (e.value ≡ value)
-            × IsRefused K.hash self.now.settings (K.name key) e.why pass.old pass.new) }
-        ensures found { FindsOwnUnlessFull K.hash self.now.settings (K.name key) pass.old pass.new }
+        ensures placed { HasPlaced (I.tells insertion value) K.hash self.now.settings
+            (K.name key) key value result pass.old pass.new }
     {
         let since = Snapshot::of(pass);
         let home = self.home_of(&key);
@@ -312,13 +298,8 @@ impl<K: TableKey + Drop, V: Drop> Table<K, V> {
             (own_numbers self.now.settings.s (K.hash (K.name key))) missed since.value pass.old }
         requires call { I.can_make insertion value }
         ensures caller { IsCaller self.now pass.new }
-        ensures answered { IfOk result (λ answer. (act : Act V) × (reply : Reply V)
-            × I.tells insertion value answer act reply
-            × IsInserted (K.name key) act reply since.value pass.new) }
-        ensures refused { IfErr result (λ e. (e.key ≡ key) × (e.value ≡ value)
-            × IsRefused K.hash self.now.settings (K.name key) e.why since.value pass.new) }
-        ensures found { FindsOwnUnlessFull K.hash self.now.settings (K.name key)
-            since.value pass.new }
+        ensures placed { HasPlaced (I.tells insertion value) K.hash self.now.settings
+            (K.name key) key value result since.value pass.new }
     {
         let home = self.home_of(&key);
         match self.words.lock_later(pass, home.stripes, missed) {
@@ -346,13 +327,8 @@ impl<K: TableKey + Drop, V: Drop> Table<K, V> {
         requires taken { HasTakenAll K.hash self.now (list_of home.stripes) since.value pass.old }
         requires call { I.can_make insertion value }
         ensures caller { IsCaller self.now pass.new }
-        ensures answered { IfOk result (λ answer. (act : Act V) × (reply : Reply V)
-            × I.tells insertion value answer act reply
-            × IsInserted (K.name key) act reply since.value pass.new) }
-        ensures refused { IfErr result (λ e. (e.key ≡ key) × (e.value ≡ value)
-            × IsRefused K.hash self.now.settings (K.name key) e.why since.value pass.new) }
-        ensures found { FindsOwnUnlessFull K.hash self.now.settings (K.name key)
-            since.value pass.new }
+        ensures placed { HasPlaced (I.tells insertion value) K.hash self.now.settings
+            (K.name key) key value result since.value pass.new }
     {
         let spot = self.spot_in(pass, &key, home);
         match self.find_room(pass, &key, spot, &since) {
@@ -381,13 +357,8 @@ impl<K: TableKey + Drop, V: Drop> Table<K, V> {
         requires found { FindsOwn K.hash self.now.settings (K.name key) since.value pass.old }
         requires call { I.can_make insertion value }
         ensures caller { IsCaller self.now pass.new }
-        ensures answered { IfOk result (λ answer. (act : Act V) × (reply : Reply V)
-            × I.tells insertion value answer act reply
-            × IsInserted (K.name key) act reply since.value pass.new) }
-        ensures refused { IfErr result (λ e. (e.key ≡ key) × (e.value ≡ value)
-            × IsRefused K.hash self.now.settings (K.name key) e.why since.value pass.new) }
-        ensures found { FindsOwnUnlessFull K.hash self.now.settings (K.name key)
-            since.value pass.new }
+        ensures placed { HasPlaced (I.tells insertion value) K.hash self.now.settings
+            (K.name key) key value result since.value pass.new }
     {
         match self.make_room(pass, &key, power) {
             Ok(made) => Ok(self.place_in(pass, made, key, value, insertion, since)),
@@ -414,9 +385,8 @@ impl<K: TableKey + Drop, V: Drop> Table<K, V> {
             since.value pass.old }
         requires call { I.can_make insertion value }
         ensures caller { IsCaller self.now pass.new }
-        ensures answered { (act : Act V) × (reply : Reply V)
-            × I.tells insertion value result act reply
-            × IsInserted (K.name key) act reply since.value pass.new }
+        ensures answered { TellsOf (I.tells insertion value)
+            (IsInserted (K.name key) since.value pass.new) result }
         ensures found { FindsOwnUnlessFull K.hash self.now.settings (K.name key)
             since.value pass.new }
     {

@@ -1,17 +1,15 @@
 //! The whole table under one caller.
-ghost use Rattle.std.specs.Prelude.{◌≡◌, ◌≤◌, ◌^◌, ℕ, length, if◌then◌else◌, OnOk, OnErr, IfOk, IfErr, IfSome, IfNone, MatchBool, nat_eq, is_some};
+ghost use Rattle.std.specs.Prelude.{◌≡◌, ◌≤◌, ◌^◌, ℕ, length, OnOk, OnErr, IfOk, IfErr, nat_eq, is_some};
 ghost use Rattle.std.specs.Option.{option_copied};
 ghost use Rattle.std.specs.FinMap.{get, len, entries};
-ghost use Rattle.ck_model.specs.declared.history.Act.{Act};
-ghost use Rattle.ck_model.specs.declared.history.Act.TheVariants.{Insert, Assign, Upsert, Update, Change, Erase};
 ghost use Rattle.ck_model.specs.declared.history.Call.TheVariants.{Session};
-ghost use Rattle.ck_model.specs.declared.history.Reply.{Reply};
-ghost use Rattle.ck_model.specs.declared.history.Reply.TheVariants.{New, Old, Was, Done, Absent, Closed};
+ghost use Rattle.ck_model.specs.declared.history.Reply.TheVariants.{Closed};
 ghost use Rattle.ck_model.specs.Promise.{ListsInOrder};
 ghost use Rattle.ck_model.specs.Contents.{layout, layout_of};
 ghost use Rattle.ck_bucket.specs.Bucket.{ClonesAreEqual};
 ghost use Rattle.ck_model.specs.Paths.{HasNoRoom};
 ghost use Rattle.ck_model.specs.Ranges.{AreInRange};
+ghost use Rattle.ck_section.specs.Acts.{Inserts, Assigns, Upserts, Updates, Changes, Erases};
 ghost use Rattle.ck_section.specs.Stripes.{contents_of};
 ghost use Rattle.ck_section.specs.Places.{IsPlaceOf};
 ghost use Rattle.ck_section.specs.Whole.{IsTable, AreSettled, AreAllHeld, ClearsBindings};
@@ -21,7 +19,8 @@ ghost use Rattle.ck_words.specs.Retries.{FindsAmong};
 ghost use Rattle.ck_words.specs.Answering.{IsAnswered, FollowsSeen};
 ghost use Rattle.ck_words.specs.Closing.{IsCaller};
 ghost use Rattle.cuckoo_map.specs.Refusals.{IsStripeIn, IsBusyAmong, why_of};
-ghost use Rattle.cuckoo_map.specs.Locking.{start_of, map_of, HasLocked, HasActed, Clears, Lists, KeepsMap, LacksRoom, SeeksRoom};
+ghost use Rattle.cuckoo_map.specs.Locking.{start_of, map_of, HasLocked, HasActed, GivesBack, Clears, Lists, KeepsMap, LacksRoom, SeeksRoom};
+ghost use Rattle.cuckoo_map.specs.Insertions.{TellsOf};
 
 use crate::caller::Caller;
 use crate::entries;
@@ -113,10 +112,8 @@ impl<'t, K: TableKey + Drop, V: Drop> LockedTable<'t, K, V> {
     /// Refused, it changes no binding and hands key and value back: as `Memory`, `Full` or
     /// `LoadTooLow`, and never as `Busy`. The table stays locked.
     pub fn insert(&mut self, key: K, value: V) -> Result<bool, Refused<K, V>>
-        ensures answered { IfOk result (λ fresh. HasActed (K.name key) (Insert value)
-            (if fresh then New else Old) self.old self.new) }
-        ensures refused { IfErr result (λ e. (e.key ≡ key) × (e.value ≡ value)
-            × LacksRoom K.hash (K.name key) e.why self.old self.new) }
+        ensures answered { IfOk result (Inserts value (HasActed (K.name key) self.old self.new)) }
+        ensures refused { IfErr result (GivesBack K.hash (K.name key) key value self.old self.new) }
     {
         self.put(key, value, entries::Insert)
     }
@@ -131,10 +128,8 @@ impl<'t, K: TableKey + Drop, V: Drop> LockedTable<'t, K, V> {
     /// let old: Option<u64> = locked.insert_or_assign(NumKey(5), 53)?;
     /// ```
     pub fn insert_or_assign(&mut self, key: K, value: V) -> Result<Option<V>, Refused<K, V>>
-        ensures answered { IfOk result (λ old. HasActed (K.name key) (Assign value) (Was old)
-            self.old self.new) }
-        ensures refused { IfErr result (λ e. (e.key ≡ key) × (e.value ≡ value)
-            × LacksRoom K.hash (K.name key) e.why self.old self.new) }
+        ensures answered { IfOk result (Assigns value (HasActed (K.name key) self.old self.new)) }
+        ensures refused { IfErr result (GivesBack K.hash (K.name key) key value self.old self.new) }
     {
         self.put(key, value, entries::Assign)
     }
@@ -158,12 +153,8 @@ impl<'t, K: TableKey + Drop, V: Drop> LockedTable<'t, K, V> {
     where
         F: Drop,
         requires call { F.IsAlwaysCallable f }
-        ensures answered { IfOk result (λ fresh. MatchBool fresh
-            (HasActed (K.name key) (Upsert value) New self.old self.new)
-            ((v w : V) × F.post f v w
-            × HasActed (K.name key) (Upsert value) (Done v w) self.old self.new)) }
-        ensures refused { IfErr result (λ e. (e.key ≡ key) × (e.value ≡ value)
-            × LacksRoom K.hash (K.name key) e.why self.old self.new) }
+        ensures answered { IfOk result (Upserts (F.post f) value (HasActed (K.name key) self.old self.new)) }
+        ensures refused { IfErr result (GivesBack K.hash (K.name key) key value self.old self.new) }
     {
         self.put(key, value, entries::Upsert(f))
     }
@@ -176,11 +167,9 @@ impl<'t, K: TableKey + Drop, V: Drop> LockedTable<'t, K, V> {
         insertion: I,
     ) -> Result<I::Answer, Refused<K, I::Value>>
         requires call { I.can_make insertion value }
-        ensures answered { IfOk result (λ answer. (act : Act V) × (reply : Reply V)
-            × I.tells insertion value answer act reply
-            × HasActed (K.name key) act reply self.old self.new) }
-        ensures refused { IfErr result (λ e. (e.key ≡ key) × (e.value ≡ value)
-            × LacksRoom K.hash (K.name key) e.why self.old self.new) }
+        ensures answered { IfOk result (TellsOf (I.tells insertion value)
+            (HasActed (K.name key) self.old self.new)) }
+        ensures refused { IfErr result (GivesBack K.hash (K.name key) key value self.old self.new) }
     {
         let place = self.place(&key);
         match put_in(&mut self.whole, place, key, value, insertion) {
@@ -199,11 +188,9 @@ impl<'t, K: TableKey + Drop, V: Drop> LockedTable<'t, K, V> {
         insertion: I,
     ) -> Result<I::Answer, Refused<K, I::Value>>
         requires call { I.can_make insertion value }
-        ensures answered { IfOk result (λ answer. (act : Act V) × (reply : Reply V)
-            × I.tells insertion value answer act reply
-            × HasActed (K.name key) act reply self.old self.new) }
-        ensures refused { IfErr result (λ e. (e.key ≡ key) × (e.value ≡ value)
-            × LacksRoom K.hash (K.name key) e.why self.old self.new) }
+        ensures answered { IfOk result (TellsOf (I.tells insertion value)
+            (HasActed (K.name key) self.old self.new)) }
+        ensures refused { IfErr result (GivesBack K.hash (K.name key) key value self.old self.new) }
     {
         if let Err(lack) = self.make_room(&key) {
             let why = Why::of(lack);
@@ -235,7 +222,7 @@ impl<'t, K: TableKey + Drop, V: Drop> LockedTable<'t, K, V> {
     /// let old: Option<u64> = locked.update(&NumKey(5), 52);
     /// ```
     pub fn update<Q: Query<K>>(&mut self, key: Q, value: V) -> Option<V>
-        ensures { HasActed (Q.name key) (Update value) (Was result) self.old self.new }
+        ensures { Updates value (HasActed (Q.name key) self.old self.new) result }
     {
         let place = self.place(key);
         update(&mut self.whole, place, key, value)
@@ -251,10 +238,7 @@ impl<'t, K: TableKey + Drop, V: Drop> LockedTable<'t, K, V> {
     where
         F: Drop,
         requires call { F.IsAlwaysCallable f }
-        ensures { MatchBool result
-            ((v w : V) × F.post f v w
-            × HasActed (Q.name key) Change (Done v w) self.old self.new)
-            (HasActed (Q.name key) Change Absent self.old self.new) }
+        ensures { Changes (F.post f) (HasActed (Q.name key) self.old self.new) result }
     {
         let place = self.place(key);
         update_fn(&mut self.whole, place, key, f)
@@ -262,7 +246,7 @@ impl<'t, K: TableKey + Drop, V: Drop> LockedTable<'t, K, V> {
 
     /// Unbinds the key, and gives the value that it had; `None` where it is unbound.
     pub fn erase<Q: Query<K>>(&mut self, key: Q) -> Option<V>
-        ensures { HasActed (Q.name key) Erase (Was result) self.old self.new }
+        ensures { Erases (HasActed (Q.name key) self.old self.new) result }
     {
         let place = self.place(key);
         erase(&mut self.whole, place, key)
@@ -402,10 +386,8 @@ fn put_in<K: TableKey + Drop, V: Drop, I: Insertion<K, V>>(
 ) -> Result<I::Answer, (K, I::Value, I)>
     requires place { IsPlaceOf K.hash whole.old.stripes (K.name key) place }
     requires call { I.can_make insertion value }
-    ensures call { IfOk result (λ answer. (act : Act V) × (reply : Reply V)
-        × I.tells insertion value answer act reply
-        × IsCall (effect K.hash (λ p. p.stripes) place whole.old whole.new) (K.name key)
-        act reply) }
+    ensures call { IfOk result (TellsOf (I.tells insertion value)
+        (IsCall (effect K.hash (λ p. p.stripes) place whole.old whole.new) (K.name key))) }
     ensures full { IfErr result (λ back. (back.0 ≡ key) × (back.1 ≡ value) × (back.2 ≡ insertion)
         × IsWithoutRoom K.hash place.s whole.old.stripes (K.name key)) }
     ensures left { OnErr result (whole.new ≡ whole.old) }

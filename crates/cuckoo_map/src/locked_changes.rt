@@ -1,10 +1,8 @@
 //! Calls of a locked table whose closure decides what becomes of the key.
-ghost use Rattle.std.specs.Prelude.{◌≡◌, ◌⊎◌, Some, None, Ok, Err, IfOk, IfErr, MatchOption, MatchBool, MatchResult};
+ghost use Rattle.std.specs.Prelude.{IfOk, IfErr};
 ghost use Rattle.std.specs.Fn.{FnOnceReturnsAt};
-ghost use Rattle.ck_model.specs.declared.history.Act.TheVariants.{Find, Insert, Change};
-ghost use Rattle.ck_model.specs.declared.history.Reply.TheVariants.{New, Was, Done, Absent};
-ghost use Rattle.ck_section.specs.Uprasing.{IsUprased, TriesUpsert};
-ghost use Rattle.cuckoo_map.specs.Locking.{HasActed, LacksRoom};
+ghost use Rattle.ck_section.specs.Acts.{InsertsBy, FindsOrInserts, Uprases, TriesUpsert, ReplacesIf, TriesChange};
+ghost use Rattle.cuckoo_map.specs.Locking.{HasActed, GivesBack};
 
 use crate::entries;
 use crate::locked::LockedTable;
@@ -28,11 +26,8 @@ impl<'t, K: TableKey + Drop, V: Drop> LockedTable<'t, K, V> {
     where
         F: Drop,
         requires call { F.IsAlwaysCallable f }
-        ensures answered { IfOk result (λ fresh. MatchBool fresh
-            ((w : V) × F.post f w × HasActed (K.name key) (Insert w) New self.old self.new)
-            ((v : V) × HasActed (K.name key) Find (Was (Some v)) self.old self.new)) }
-        ensures refused { IfErr result (λ e. (e.key ≡ key) × (e.value ≡ f)
-            × LacksRoom K.hash (K.name key) e.why self.old self.new) }
+        ensures answered { IfOk result (InsertsBy (F.post f) (HasActed (K.name key) self.old self.new)) }
+        ensures refused { IfErr result (GivesBack K.hash (K.name key) key f self.old self.new) }
     {
         self.put(key, f, entries::InsertWith(PhantomData))
     }
@@ -54,11 +49,9 @@ impl<'t, K: TableKey + Drop, V: Drop> LockedTable<'t, K, V> {
         V: Copy,
         F: Drop,
         requires call { F.IsAlwaysCallable f }
-        ensures answered { IfOk result (λ v.
-            (F.post f v × HasActed (K.name key) (Insert v) New self.old self.new)
-            ⊎ HasActed (K.name key) Find (Was (Some v)) self.old self.new) }
-        ensures refused { IfErr result (λ e. (e.key ≡ key) × (e.value ≡ f)
-            × LacksRoom K.hash (K.name key) e.why self.old self.new) }
+        ensures answered { IfOk result (
+            FindsOrInserts (F.post f) (HasActed (K.name key) self.old self.new)) }
+        ensures refused { IfErr result (GivesBack K.hash (K.name key) key f self.old self.new) }
     {
         self.put(key, f, entries::GetOrInsertWith(PhantomData))
     }
@@ -84,10 +77,8 @@ impl<'t, K: TableKey + Drop, V: Drop> LockedTable<'t, K, V> {
     where
         F: Drop,
         requires call { F.IsAlwaysCallable f }
-        ensures answered { IfOk result (IsUprased (F.post f) value
-            (λ act reply. HasActed (K.name key) act reply self.old self.new)) }
-        ensures refused { IfErr result (λ e. (e.key ≡ key) × (e.value ≡ value)
-            × LacksRoom K.hash (K.name key) e.why self.old self.new) }
+        ensures answered { IfOk result (Uprases (F.post f) value (HasActed (K.name key) self.old self.new)) }
+        ensures refused { IfErr result (GivesBack K.hash (K.name key) key value self.old self.new) }
     {
         self.put(key, value, entries::Uprase(f))
     }
@@ -114,10 +105,9 @@ impl<'t, K: TableKey + Drop, V: Drop> LockedTable<'t, K, V> {
     where
         F: Drop,
         requires call { F.IsAlwaysCallable f }
-        ensures answered { IfOk result (TriesUpsert (F.post f) value
-            (λ act reply. HasActed (K.name key) act reply self.old self.new)) }
-        ensures refused { IfErr result (λ e. (e.key ≡ key) × (e.value ≡ value)
-            × LacksRoom K.hash (K.name key) e.why self.old self.new) }
+        ensures answered { IfOk result (
+            TriesUpsert (F.post f) value (HasActed (K.name key) self.old self.new)) }
+        ensures refused { IfErr result (GivesBack K.hash (K.name key) key value self.old self.new) }
     {
         self.put(key, value, entries::TryUpsert(f))
     }
@@ -137,13 +127,7 @@ impl<'t, K: TableKey + Drop, V: Drop> LockedTable<'t, K, V> {
     where
         F: Drop,
         requires call { F.IsAlwaysCallable f }
-        ensures { MatchOption result
-            (HasActed (Q.name key) Find (Was None) self.old self.new)
-            (λ replaced. (v : V) × MatchBool replaced
-            ((w : V) × FnOnceReturnsAt F.FnOnce f v (Some w)
-            × HasActed (Q.name key) Change (Done v w) self.old self.new)
-            (FnOnceReturnsAt F.FnOnce f v None
-            × HasActed (Q.name key) Find (Was (Some v)) self.old self.new)) }
+        ensures { ReplacesIf (FnOnceReturnsAt F.FnOnce f) (HasActed (Q.name key) self.old self.new) result }
     {
         let place = self.place(key);
         let replaced = replace_if(&mut self.whole, place, key, f);
@@ -172,11 +156,7 @@ impl<'t, K: TableKey + Drop, V: Drop> LockedTable<'t, K, V> {
     where
         F: Drop,
         requires call { F.IsAlwaysCallable f }
-        ensures { MatchOption result
-            (HasActed (Q.name key) Change Absent self.old self.new)
-            (λ outcome. (v w : V)
-            × MatchResult outcome (λ _. F.post f v (Ok w)) (λ e. F.post f v (Err (w, e)))
-            × HasActed (Q.name key) Change (Done v w) self.old self.new) }
+        ensures { TriesChange (F.post f) (HasActed (Q.name key) self.old self.new) result }
     {
         let place = self.place(key);
         let outcome = try_update(&mut self.whole, place, key, f);

@@ -1,10 +1,8 @@
 //! Calls that change nothing.
-ghost use Rattle.std.specs.Prelude.{Some, None, IfOk, IfErr, MatchOption, MatchBool};
+ghost use Rattle.std.specs.Prelude.{IfOk, IfErr};
 ghost use Rattle.std.specs.Fn.{FnOnceReturnsAt};
-ghost use Rattle.ck_model.specs.declared.history.Act.TheVariants.{Find};
-ghost use Rattle.ck_model.specs.declared.history.Call.TheVariants.{On};
-ghost use Rattle.ck_model.specs.declared.history.Reply.TheVariants.{Was};
-ghost use Rattle.ck_words.specs.Answering.{IsAnswered};
+ghost use Rattle.ck_section.specs.Acts.{Finds, FindsBound, FindsBy};
+ghost use Rattle.ck_words.specs.Answering.{IsAnsweredOn};
 ghost use Rattle.ck_words.specs.Closing.{IsCaller};
 ghost use Rattle.cuckoo_map.specs.Refusals.{FindsOwn, IsBusyAt};
 
@@ -31,10 +29,8 @@ impl<K: TableKey + Drop, V: Drop> Table<K, V> {
         requires caller { IsCaller self.now pass.old }
         requires call { F.IsAlwaysCallable f }
         ensures caller { IsCaller self.now pass.new }
-        ensures answered { IfOk result (λ answer. MatchOption answer
-            (IsAnswered (On (Q.name key) Find) (Was None) pass.old pass.new)
-            (λ r. (v : V) × FnOnceReturnsAt F.FnOnce f v r
-            × IsAnswered (On (Q.name key) Find) (Was (Some v)) pass.old pass.new)) }
+        ensures answered { IfOk result (
+            FindsBy (FnOnceReturnsAt F.FnOnce f) (IsAnsweredOn (Q.name key) pass.old pass.new)) }
         ensures busy { IfErr result (λ busy.
             IsBusyAt K.hash self.now.settings (Q.name key) busy.0 pass.old pass.new) }
         ensures found { FindsOwn K.hash self.now.settings (Q.name key) pass.old pass.new }
@@ -59,8 +55,7 @@ impl<K: TableKey + Drop, V: Drop> Table<K, V> {
         V: Copy,
         requires caller { IsCaller self.now pass.old }
         ensures caller { IsCaller self.now pass.new }
-        ensures answered { IfOk result (λ value.
-            IsAnswered (On (Q.name key) Find) (Was value) pass.old pass.new) }
+        ensures answered { IfOk result (Finds (IsAnsweredOn (Q.name key) pass.old pass.new)) }
         ensures busy { IfErr result (λ busy.
             IsBusyAt K.hash self.now.settings (Q.name key) busy.0 pass.old pass.new) }
         ensures found { FindsOwn K.hash self.now.settings (Q.name key) pass.old pass.new }
@@ -72,9 +67,7 @@ impl<K: TableKey + Drop, V: Drop> Table<K, V> {
     pub fn contains<Q: Query<K>>(&self, pass: &mut Pass<K, V>, key: Q) -> Result<bool, Busy>
         requires caller { IsCaller self.now pass.old }
         ensures caller { IsCaller self.now pass.new }
-        ensures answered { IfOk result (λ bound. MatchBool bound
-            ((v : V) × IsAnswered (On (Q.name key) Find) (Was (Some v)) pass.old pass.new)
-            (IsAnswered (On (Q.name key) Find) (Was None) pass.old pass.new)) }
+        ensures answered { IfOk result (FindsBound (IsAnsweredOn (Q.name key) pass.old pass.new)) }
         ensures busy { IfErr result (λ busy.
             IsBusyAt K.hash self.now.settings (Q.name key) busy.0 pass.old pass.new) }
         ensures found { FindsOwn K.hash self.now.settings (Q.name key) pass.old pass.new }

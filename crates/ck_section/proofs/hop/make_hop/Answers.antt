@@ -2,8 +2,9 @@ use Rattle.std.proofs.Common.{◌≡◌, ℕ, ◌<◌, ◌%◌, ◌^◌, List, l
 use Rattle.ck_stripe.specs.Stripe.{StripeState}
 use Rattle.ck_section.specs.Stripes.{stripe_at}
 use Rattle.ck_section.specs.Places.{HasStripe}
-use Rattle.ck_section.specs.Hops.{IsHopIn, IsNoCall}
+use Rattle.ck_section.specs.Hops.{IsNoCall}
 use Rattle.ck_section.specs.Calls.{ChangesContents}
+use Rattle.ck_section.proofs.Hopped.{hop_between}
 use Rattle.ck_section.proofs.hop.make_hop.Goals as goal
 
 pub returns-clause-hopped : goal.returns-clause-hopped
@@ -15,21 +16,9 @@ returns-clause-hopped g c =
     let j : ℕ = c.bucket_index-to.result in
     let first : (g.H.Held.stripes c.bucket_index-from.new.held) ≡ stripes = c.bucket_index-from.ensures.same in
     let same : (g.H.Held.stripes c.bucket_index-to.new.held) ≡ stripes = c.bucket_index-to.ensures.same ∙ first in
-    let inside_i : i < length stripes = c.bucket_index-from.ensures.inside in
     let inside_j : j < length stripes = subst (λ (l : List (StripeState V)). j < length l) first c.bucket_index-to.ensures.inside in
     let number_j : (stripe_at stripes j).number ≡ c.args.hop.target % 2 ^ c.args.s = ap (λ (l : List (StripeState V)). (stripe_at l j).number) (sym first) ∙ c.bucket_index-to.ensures.number in
-    let is : IsHopIn stripes i j c.args.hop = record {
-      first = inside_i;
-      second = inside_j;
-      first_settled = held.settled i inside_i;
-      second_settled = held.settled j inside_j;
-      one_s = held.one_s j inside_j ∙ sym (held.one_s i inside_i);
-      one_power = held.one_power j inside_j ∙ sym (held.one_power i inside_i);
-      below = c.requires.below;
-      target = c.requires.target;
-      first_own = ap (λ n. c.args.hop.bucket % 2 ^ n) (held.one_s i inside_i) ∙ sym c.bucket_index-from.ensures.number;
-      second_own = ap (λ n. c.args.hop.target % 2 ^ n) (held.one_s j inside_j) ∙ sym number_j;
-    } in
+    let is = hop_between c.args.s stripes i j c.args.hop c.bucket_index-from.ensures.inside inside_j held.settled held.one_s held.one_power c.requires.below c.requires.target c.bucket_index-from.ensures.number number_j in
     (i, j, is, rw same at c.move_entry.ensures.exactly, rw same at c.move_entry.ensures.moved)
 
 pub returns-clause-no_call : goal.returns-clause-no_call

@@ -1,33 +1,27 @@
 use Rattle.std.proofs.Common.{refl, None, Some}
 use Rattle.ck_model.specs.declared.history.Act.TheVariants.{Erase}
 use Rattle.ck_model.specs.declared.history.Reply.TheVariants.{Was}
-use Rattle.ck_section.proofs.Steps.{replied_none, lacked, took, unchanged, reach_still, full_still, slot_changes}
+use Rattle.ck_section.proofs.Steps.{replied_none, lacked, took, unchanged, ready, slot_changes}
 use Rattle.ck_section.proofs.one_key.erase.Goals as goal
-
-pub returns-in_err-at-clause-call : goal.returns-in_err-at-clause-call
-returns-in_err-at-clause-call g c = replied_none _ _ _ _ _ _ _ c.from_residual.ensures (lacked _ _ _ _ c.requires _ c.find_slot.ensures.same Erase (Was None) c.in_err-at.ensures.nowhere (refl, refl))
-
-pub returns-clause-call : goal.returns-clause-call
-returns-clause-call g c =
-    took _ _ _ _ c.requires _ c.find_slot.ensures.same c.in_ok-at.at c.in_ok-at.ensures.occupied Erase (λ (v : g.row.V.Denot). Was (Some v)) _ c.remove-value.result.1 _ (λ w. (refl, refl)) c.remove-value.ensures.entry c.remove-value.ensures.content
 
 pub find_slot-requires : goal.find_slot-requires
 find_slot-requires g c = c.requires
 
-pub remove-value-requires-clause-reach : goal.remove-value-requires-clause-reach
-remove-value-requires-clause-reach g c = reach_still _ _ c.find_slot.ensures.same c.in_ok-at.at.index c.in_ok-at.at.bucket c.in_ok-at.ensures.occupied.slot.reach
-
-pub remove-value-requires-clause-below : goal.remove-value-requires-clause-below
-remove-value-requires-clause-below g c = c.in_ok-at.ensures.occupied.slot.below
-
-pub remove-value-requires-clause-full : goal.remove-value-requires-clause-full
-remove-value-requires-clause-full g c = full_still _ _ c.find_slot.ensures.same c.in_ok-at.at _ c.in_ok-at.ensures.occupied.found
+pub returns-in_err-at-clause-call : goal.returns-in_err-at-clause-call
+returns-in_err-at-clause-call g c = replied_none _ _ _ _ _ _ _ c.from_residual.ensures (lacked _ _ _ _ c.requires _ c.find_slot.ensures.same Erase (Was None) c.in_err-at.ensures.nowhere (refl, refl))
 
 pub returns-in_err-at-clause-rest : goal.returns-in_err-at-clause-rest
 returns-in_err-at-clause-rest g c = unchanged _ _ c.find_slot.ensures.same
 
 pub returns-in_err-at-clause-stays : goal.returns-in_err-at-clause-stays
 returns-in_err-at-clause-stays g c = c.find_slot.ensures.stays
+
+pub remove-value-requires : goal.remove-value-requires
+remove-value-requires g c = ready _ _ _ _ c.requires _ c.find_slot.ensures.same c.in_ok-at.at c.in_ok-at.ensures.occupied
+
+pub returns-clause-call : goal.returns-clause-call
+returns-clause-call g c =
+    took _ _ _ _ c.requires _ c.find_slot.ensures.same c.in_ok-at.at c.in_ok-at.ensures.occupied Erase (λ (v : g.row.V.Denot). Was (Some v)) _ c.remove-value.result.1 _ (λ w. (refl, refl)) c.remove-value.ensures.entry c.remove-value.ensures.content
 
 pub returns-clause-rest : goal.returns-clause-rest
 returns-clause-rest g c = slot_changes _ _ _ c.in_ok-at.at _ _ c.find_slot.ensures.same c.in_ok-at.ensures.occupied.slot.reach c.remove-value.ensures.content

@@ -17,8 +17,5 @@ returns-in-Occupied-clause-rest g c = unchanged _ _ refl
 pub returns-in-Occupied-clause-stays : goal.returns-in-Occupied-clause-stays
 returns-in-Occupied-clause-stays g c = g.met.H.Held.stays_same _
 
-pub fill-requires-clause-place : goal.fill-requires-clause-place
-fill-requires-clause-place g c = c.requires.place
-
-pub fill-requires-clause-vacant : goal.fill-requires-clause-vacant
-fill-requires-clause-vacant g c = vacant_here _ _ _ _ c.args.entry c.in-Vacant.at c.in-Vacant.is c.requires.entry
+pub fill-requires : goal.fill-requires
+fill-requires g c = record { place = c.requires.place; vacant = vacant_here _ _ _ _ c.args.entry c.in-Vacant.at c.in-Vacant.is c.requires.entry }

@@ -1,8 +1,8 @@
 use Rattle.std.proofs.Common.{◌≡◌, refl, subst, Result, Ok, Err, MatchResult}
 use Rattle.ck_model.specs.declared.history.Act.TheVariants.{Change}
 use Rattle.ck_model.specs.declared.history.Reply.TheVariants.{Done, Absent}
-use Rattle.ck_section.proofs.Steps.{lacked, unchanged, reach_still, full_still}
-use Rattle.ck_section.proofs.PutBack.{partial_taken, reach_taken, free_taken, put_back, put_back_changes}
+use Rattle.ck_section.proofs.Steps.{lacked, unchanged, ready}
+use Rattle.ck_section.proofs.PutBack.{ready_again, put_back, put_back_changes}
 use Rattle.ck_section.proofs.one_key.try_update.Goals as goal
 
 -- what is said of what the closure made, by the value that it gave back and how it ended
@@ -11,8 +11,23 @@ by_outcome : {V E : Type 0} (P : Result V (V × E) → Type 0) (made : Result V 
 by_outcome P made w (Ok done) is p = subst P is p
 by_outcome P made w (Err e) is p = subst P is p
 
+pub find_slot-requires : goal.find_slot-requires
+find_slot-requires g c = c.requires.place
+
 pub returns-in-None-clause-unbound : goal.returns-in-None-clause-unbound
 returns-in-None-clause-unbound g c = (refl, lacked _ _ _ _ c.requires.place _ c.find_slot.ensures.same Change Absent c.in-None.ensures.nowhere (refl, refl))
+
+pub returns-in-None-clause-rest : goal.returns-in-None-clause-rest
+returns-in-None-clause-rest g c = unchanged _ _ c.find_slot.ensures.same
+
+pub returns-in-None-clause-stays : goal.returns-in-None-clause-stays
+returns-in-None-clause-stays g c = c.find_slot.ensures.stays
+
+pub remove-own-requires : goal.remove-own-requires
+remove-own-requires g c = ready _ _ _ _ c.requires.place _ c.find_slot.ensures.same c.in-Some.at c.in-Some.ensures.occupied
+
+pub place-requires : goal.place-requires
+place-requires g c = ready_again _ _ _ _ c.requires.place _ c.find_slot.ensures.same c.in-Some.at c.in-Some.ensures.occupied _ _ c.remove-own.result.1 c.remove-own.ensures.entry c.remove-own.ensures.content
 
 pub returns-clause-bound : goal.returns-clause-bound
 returns-clause-bound g c =
@@ -30,36 +45,3 @@ returns-clause-rest g c =
 
 pub returns-clause-stays : goal.returns-clause-stays
 returns-clause-stays g c = g.met.H.Held.stays_on _ _ _ c.find_slot.ensures.stays (g.met.H.Held.stays_on _ _ _ c.remove-own.ensures.stays c.place.ensures.stays)
-
-pub find_slot-requires : goal.find_slot-requires
-find_slot-requires g c = c.requires.place
-
-pub remove-own-requires-clause-reach : goal.remove-own-requires-clause-reach
-remove-own-requires-clause-reach g c = reach_still _ _ c.find_slot.ensures.same c.in-Some.at.index c.in-Some.at.bucket c.in-Some.ensures.occupied.slot.reach
-
-pub remove-own-requires-clause-below : goal.remove-own-requires-clause-below
-remove-own-requires-clause-below g c = c.in-Some.ensures.occupied.slot.below
-
-pub remove-own-requires-clause-full : goal.remove-own-requires-clause-full
-remove-own-requires-clause-full g c = full_still _ _ c.find_slot.ensures.same c.in-Some.at _ c.in-Some.ensures.occupied.found
-
-pub place-requires-clause-reach : goal.place-requires-clause-reach
-place-requires-clause-reach g c =
-    reach_taken _ _ _ _ c.requires.place _ c.find_slot.ensures.same c.in-Some.at c.in-Some.ensures.occupied _ _ c.remove-own.result.1 c.remove-own.ensures.entry c.remove-own.ensures.content
-
-pub place-requires-clause-below : goal.place-requires-clause-below
-place-requires-clause-below g c = c.in-Some.ensures.occupied.slot.below
-
-pub place-requires-clause-free : goal.place-requires-clause-free
-place-requires-clause-free g c =
-    free_taken _ _ _ _ c.requires.place _ c.find_slot.ensures.same c.in-Some.at c.in-Some.ensures.occupied _ _ c.remove-own.result.1 c.remove-own.ensures.entry c.remove-own.ensures.content
-
-pub place-requires-clause-partial : goal.place-requires-clause-partial
-place-requires-clause-partial g c =
-    partial_taken _ _ _ _ c.requires.place _ c.find_slot.ensures.same c.in-Some.at c.in-Some.ensures.occupied _ _ c.remove-own.result.1 c.remove-own.ensures.entry c.remove-own.ensures.content
-
-pub returns-in-None-clause-rest : goal.returns-in-None-clause-rest
-returns-in-None-clause-rest g c = unchanged _ _ c.find_slot.ensures.same
-
-pub returns-in-None-clause-stays : goal.returns-in-None-clause-stays
-returns-in-None-clause-stays g c = c.find_slot.ensures.stays

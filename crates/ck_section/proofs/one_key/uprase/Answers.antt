@@ -1,30 +1,15 @@
 use Rattle.std.proofs.Common.{refl, Some}
 use Rattle.ck_model.specs.declared.history.Act.TheVariants.{Upsert, Erase}
 use Rattle.ck_model.specs.declared.history.Reply.TheVariants.{New, Done, Was}
-use Rattle.ck_section.proofs.Steps.{occupied_here, vacant_here, full_still, took, slot_changes}
-use Rattle.ck_section.proofs.PutBack.{partial_taken, reach_taken, free_taken, put_back, put_back_changes}
+use Rattle.ck_section.proofs.Steps.{occupied_here, vacant_here, ready, took, slot_changes}
+use Rattle.ck_section.proofs.PutBack.{ready_again, put_back, put_back_changes}
 use Rattle.ck_section.proofs.one_key.uprase.Goals as goal
 
-pub remove-bound-requires-clause-reach : goal.remove-bound-requires-clause-reach
-remove-bound-requires-clause-reach g c = (occupied_here _ _ _ _ c.args.entry c.in-Occupied.at c.in-Occupied.is c.requires.entry).slot.reach
+pub remove-bound-requires : goal.remove-bound-requires
+remove-bound-requires g c = ready _ _ _ _ c.requires.place _ refl c.in-Occupied.at (occupied_here _ _ _ _ c.args.entry c.in-Occupied.at c.in-Occupied.is c.requires.entry)
 
-pub remove-bound-requires-clause-below : goal.remove-bound-requires-clause-below
-remove-bound-requires-clause-below g c = (occupied_here _ _ _ _ c.args.entry c.in-Occupied.at c.in-Occupied.is c.requires.entry).slot.below
-
-pub remove-bound-requires-clause-full : goal.remove-bound-requires-clause-full
-remove-bound-requires-clause-full g c = full_still _ _ refl c.in-Occupied.at _ (occupied_here _ _ _ _ c.args.entry c.in-Occupied.at c.in-Occupied.is c.requires.entry).found
-
-pub place-requires-clause-reach : goal.place-requires-clause-reach
-place-requires-clause-reach g c = reach_taken _ _ _ _ c.requires.place _ refl c.in-Occupied.at (occupied_here _ _ _ _ c.args.entry c.in-Occupied.at c.in-Occupied.is c.requires.entry) _ _ _ c.remove-bound.ensures.entry c.remove-bound.ensures.content
-
-pub place-requires-clause-below : goal.place-requires-clause-below
-place-requires-clause-below g c = (occupied_here _ _ _ _ c.args.entry c.in-Occupied.at c.in-Occupied.is c.requires.entry).slot.below
-
-pub place-requires-clause-free : goal.place-requires-clause-free
-place-requires-clause-free g c = free_taken _ _ _ _ c.requires.place _ refl c.in-Occupied.at (occupied_here _ _ _ _ c.args.entry c.in-Occupied.at c.in-Occupied.is c.requires.entry) _ _ _ c.remove-bound.ensures.entry c.remove-bound.ensures.content
-
-pub place-requires-clause-partial : goal.place-requires-clause-partial
-place-requires-clause-partial g c = partial_taken _ _ _ _ c.requires.place _ refl c.in-Occupied.at (occupied_here _ _ _ _ c.args.entry c.in-Occupied.at c.in-Occupied.is c.requires.entry) _ _ _ c.remove-bound.ensures.entry c.remove-bound.ensures.content
+pub place-requires : goal.place-requires
+place-requires g c = ready_again _ _ _ _ c.requires.place _ refl c.in-Occupied.at (occupied_here _ _ _ _ c.args.entry c.in-Occupied.at c.in-Occupied.is c.requires.entry) _ _ _ c.remove-bound.ensures.entry c.remove-bound.ensures.content
 
 pub returns-in-Some-clause-call : goal.returns-in-Some-clause-call
 returns-in-Some-clause-call g c = (
@@ -56,8 +41,5 @@ returns-in-Occupied-clause-rest g c = slot_changes _ _ _ c.in-Occupied.at _ _ re
 pub returns-clause-call : goal.returns-clause-call
 returns-clause-call g c = c.fill.ensures.call (Upsert c.args.value) New (refl, refl)
 
-pub fill-requires-clause-place : goal.fill-requires-clause-place
-fill-requires-clause-place g c = c.requires.place
-
-pub fill-requires-clause-vacant : goal.fill-requires-clause-vacant
-fill-requires-clause-vacant g c = vacant_here _ _ _ _ c.args.entry c.in-Vacant.at c.in-Vacant.is c.requires.entry
+pub fill-requires : goal.fill-requires
+fill-requires g c = record { place = c.requires.place; vacant = vacant_here _ _ _ _ c.args.entry c.in-Vacant.at c.in-Vacant.is c.requires.entry }

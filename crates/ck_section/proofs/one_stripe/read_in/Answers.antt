@@ -1,5 +1,4 @@
-use Rattle.std.proofs.Common.{◌∙◌, ap, refl, sym}
-use Rattle.ck_model.specs.Slots.{slot_at}
+use Rattle.std.proofs.Common.{refl, sym}
 use Rattle.ck_section.proofs.one_stripe.read_in.Goals as goal
 
 pub returns : goal.returns

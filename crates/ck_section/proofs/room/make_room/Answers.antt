@@ -65,12 +65,8 @@ returns-in_err-grow-clause-refused g c =
 
 pub returns-in_err-grow-clause-doubled : goal.returns-in_err-grow-clause-doubled
 returns-in_err-grow-clause-doubled g c =
-    let V : Type 0 = g.row.V.Denot in
-    let mid : List (StripeState V) = g.H.Held.stripes c.room_by_hops.new.held in
-    let new : List (StripeState V) = g.H.Held.stripes c.grow.new.held in
     let stuck = c.loop-hash-test.ensures in
-    grows_for_room g.K.TableKey.hash c.args.s c.args.max c.args.min_load (g.K.TableKey.name c.args.key.now) (g.H.Held.stripes c.args.held.now) (g.H.Held.stripes c.loop-hash.held) new c.loop-hash.invariant.grown
-    (power_same c.args.s mid new stuck.table c.grow.ensures.table c.in_err-grow.ensures.same ∙ stuck.power)
+    grows_for_room g.K.TableKey.hash c.args.s c.args.max c.args.min_load (g.K.TableKey.name c.args.key.now) _ _ (g.H.Held.stripes c.grow.new.held) c.loop-hash.invariant.grown (power_same c.args.s _ _ stuck.table c.grow.ensures.table c.in_err-grow.ensures.same ∙ stuck.power)
 
 pub returns-clause-no_call : goal.returns-clause-no_call
 returns-clause-no_call g c =
@@ -86,6 +82,4 @@ pub returns-clause-room : goal.returns-clause-room
 returns-clause-room g c = λ lawful. c.loop-hash-test.ensures.room c.args.max (c.room_by_hops.ensures.no_call c.args.max (c.loop-hash.invariant.grown lawful).no_call.renewed.lawful).renewed.lawful
 
 pub returns-clause-doubled : goal.returns-clause-doubled
-returns-clause-doubled g c =
-    grows_for_room g.K.TableKey.hash c.args.s c.args.max c.args.min_load (g.K.TableKey.name c.args.key.now) (g.H.Held.stripes c.args.held.now) (g.H.Held.stripes c.loop-hash.held) (g.H.Held.stripes c.room_by_hops.new.held)
-    c.loop-hash.invariant.grown c.room_by_hops.ensures.power
+returns-clause-doubled g c = grows_for_room g.K.TableKey.hash c.args.s c.args.max c.args.min_load (g.K.TableKey.name c.args.key.now) _ _ (g.H.Held.stripes c.room_by_hops.new.held) c.loop-hash.invariant.grown c.room_by_hops.ensures.power

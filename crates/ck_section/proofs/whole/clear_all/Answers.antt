@@ -4,14 +4,14 @@ use Rattle.ck_model.specs.declared.contents.Content.{Content}
 use Rattle.ck_stripe.specs.Stripe.{StripeState}
 use Rattle.ck_section.specs.Stripes.{no_stripe}
 use Rattle.ck_section.proofs.Cleared.{cleared, changes_cleared, held_cleared, clears}
-use Rattle.ck_section.proofs.Stepwise.{changed-read, changed-more, changed-done, length-changed}
+use Rattle.ck_section.proofs.Stepwise.{changed-long, changed-read, changed-more, changed-done}
 use Rattle.ck_section.proofs.whole.clear_all.Given.{Over}
 use Rattle.ck_section.proofs.whole.clear_all.Goals as goal
 
 pub clear-requires : goal.clear-requires
 clear-requires g c =
     let old : List (StripeState g.row.V.Denot) = c.args.stripes.now in
-    let long = ap length c.loop-i.invariant ∙ length-changed cleared c.loop-i.i old in
+    let long = changed-long cleared c.loop-i.i old _ c.loop-i.invariant in
     let within : c.loop-i.i < length old = omega arith in
     let read = changed-read cleared c.loop-i.i old c.loop-i.stripes c.loop-i.invariant c.index-stripes-i.result no_stripe within in
     record { settled = ap (λ (x : StripeState g.row.V.Denot). x.settled) read ∙ c.requires.settled c.loop-i.i within }

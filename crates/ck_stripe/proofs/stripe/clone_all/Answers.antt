@@ -1,9 +1,6 @@
-use Rattle.std.proofs.Common.{◌+◌, ◌≤◌, ◌++◌, List, [], ◌∙◌, sym, ap, refl, flat_map, get_or, length, map, arith}
-use Rattle.std.specs.Prelude.{vec_capacity}
-use Rattle.std.proofs.lemmas.List.{take_all, append-nil}
-use Rattle.ck_model.specs.Promise.{named}
-use Rattle.ck_model.specs.Slots.{Slot, taken_in}
-use Rattle.ck_stripe.proofs.Pouring.{room_after, pour_more}
+use Rattle.std.proofs.Common.{[], ◌∙◌, sym, refl, get_or, arith}
+use Rattle.std.proofs.lemmas.List.{append-nil}
+use Rattle.ck_stripe.proofs.Pouring.{room_for_row, pour_more, poured_all}
 use Rattle.ck_stripe.proofs.stripe.clone_all.Goals as goal
 
 pub loop-row-init : goal.loop-row-init
@@ -11,11 +8,7 @@ loop-row-init g c = record { seen = sym (append-nil _); room = refl }
 
 pub clone_row_reserved-requires-clause-room : goal.clone_row_reserved-requires-clause-room
 clone_row_reserved-requires-clause-room g c =
-    let start = c.args.pairs.now.ok.0 in
-    let now_long = c.loop-row.pairs.ok.0 in
-    let enough : length c.args.pairs.now.items + length (flat_map taken_in c.args.rows.now) + 4 ≤ vec_capacity c.loop-row.pairs = omega (arith, c.requires.room, c.loop-row.invariant.room) in
-    let left = room_after g.K.TableKey.name c.loop-row.pairs.items c.args.pairs.now.items c.loop-row.row c.args.rows.now (vec_capacity c.loop-row.pairs) c.loop-row.invariant.seen (omega arith) enough in
-    omega arith
+    room_for_row g.K.TableKey.name c.loop-row.pairs c.args.pairs.now c.loop-row.row c.args.rows.now c.loop-row.invariant.seen c.loop-row.invariant.room (omega arith) c.requires.room
 
 pub loop-row-preserved : goal.loop-row-preserved
 loop-row-preserved g c = record {
@@ -25,6 +18,4 @@ loop-row-preserved g c = record {
 }
 
 pub returns-clause-pairs : goal.returns-clause-pairs
-returns-clause-pairs g c =
-    c.loop-row.invariant.seen
-    ∙ ap (λ (l : List (List (Slot g.row.V.Denot))). map (named g.K.TableKey.name) c.args.pairs.now.items ++ flat_map taken_in l) (take_all c.loop-row.row c.args.rows.now (omega arith))
+returns-clause-pairs g c = poured_all g.K.TableKey.name c.loop-row.pairs.items c.args.pairs.now.items c.loop-row.row c.args.rows.now c.loop-row.invariant.seen (omega arith)

@@ -1,6 +1,6 @@
 use Rattle.ck_model.specs.Slots.{slot_at}
 use Rattle.ck_model.specs.Contents.{row_at}
-use Rattle.ck_bucket.proofs.RowSlots.{Rewrites, row-alone}
+use Rattle.ck_bucket.proofs.RowSlots.{Rewrites, rewrites, row-alone}
 use Rattle.ck_bucket.proofs.Asked.{asks_four}
 use Rattle.ck_bucket.proofs.rows.Rows.retain_row.Given.{Over}
 use Rattle.ck_bucket.proofs.rows.Rows.retain_row.Goals as goal
@@ -8,13 +8,7 @@ use Rattle.ck_bucket.proofs.rows.Rows.retain_row.Goals as goal
 written : (g : Over) (c : goal.After-retain_slot-4 g)
     → Rewrites c.args.row c.args.self.now c.retain_slot.new.self c.retain_slot-2.new.self c.retain_slot-3.new.self c.retain_slot-4.new.self
     (slot_at (row_at c.retain_slot.new.self c.args.row) 0) (slot_at (row_at c.retain_slot-2.new.self c.args.row) 1) (slot_at (row_at c.retain_slot-3.new.self c.args.row) 2) (slot_at (row_at c.retain_slot-4.new.self c.args.row) 3)
-written g c = record {
-  four = c.retain_slot.ensures.four;
-  to_first = c.retain_slot.ensures.rest;
-  to_second = c.retain_slot-2.ensures.rest;
-  to_third = c.retain_slot-3.ensures.rest;
-  to_after = c.retain_slot-4.ensures.rest;
-}
+written g c = rewrites c.retain_slot.ensures.four c.retain_slot.ensures.rest c.retain_slot-2.ensures.rest c.retain_slot-3.ensures.rest c.retain_slot-4.ensures.rest
 
 pub returns-clause-asked : goal.returns-clause-asked
 returns-clause-asked g c =

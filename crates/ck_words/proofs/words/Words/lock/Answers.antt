@@ -11,23 +11,10 @@ use Rattle.ck_words.proofs.words.Words.lock.Goals.{in-Err+in_default-lock_later,
 use Rattle.ck_words.proofs.words.Words.lock.Goals as goal
 
 -- a stripe was found held to the end
-pub returns-in-Err-lock_later-clause-own : goal.returns-in-Err-lock_later-clause-own
-returns-in-Err-lock_later-clause-own g c = (c.in-Err-lock_later.ensures.refused c.args.pass.now c.in-Err.ensures.missed).own
-
-pub returns-in-Err-lock_later-clause-stays : goal.returns-in-Err-lock_later-clause-stays
-returns-in-Err-lock_later-clause-stays g c = (c.in-Err-lock_later.ensures.refused c.args.pass.now c.in-Err.ensures.missed).stays
-
-pub returns-in-Err-lock_later-clause-found : goal.returns-in-Err-lock_later-clause-found
-returns-in-Err-lock_later-clause-found g c = (c.in-Err-lock_later.ensures.refused c.args.pass.now c.in-Err.ensures.missed).found
-
-pub returns-in-Err-lock_later-clause-busy : goal.returns-in-Err-lock_later-clause-busy
-returns-in-Err-lock_later-clause-busy g c = (c.in-Err-lock_later.ensures.refused c.args.pass.now c.in-Err.ensures.missed).busy
-
-pub returns-in-Err-lock_later-clause-asked : goal.returns-in-Err-lock_later-clause-asked
-returns-in-Err-lock_later-clause-asked g c = (c.in-Err-lock_later.ensures.refused c.args.pass.now c.in-Err.ensures.missed).asked
-
-pub returns-in-Err-lock_later-clause-kept : goal.returns-in-Err-lock_later-clause-kept
-returns-in-Err-lock_later-clause-kept g c = (c.in-Err-lock_later.ensures.refused c.args.pass.now c.in-Err.ensures.missed).doublings
+pub returns-in-Err-lock_later : goal.returns-in-Err-lock_later
+returns-in-Err-lock_later g c =
+    let r = c.in-Err-lock_later.ensures.refused c.args.pass.now c.in-Err.ensures.missed in
+    record { own = r.own; stays = r.stays; held = tt; numbers = tt; unchanged = tt; shows = tt; doublings = tt; kept = r.doublings; found = r.found; busy = r.busy; asked = r.asked }
 
 pub settle_taken-requires : goal.settle_taken-requires
 settle_taken-requires g c =

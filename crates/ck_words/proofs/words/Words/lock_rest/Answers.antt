@@ -1,35 +1,23 @@
-use Rattle.std.proofs.Common.{◌∙◌, ap, refl, subst, arith}
+use Rattle.std.proofs.Common.{subst, arith}
 use Rattle.std.proofs.lemmas.List.{take_all}
 use Rattle.ck_model.specs.Numbered.{IsIn}
-use Rattle.ck_words.specs.Retries.{found_again}
 use Rattle.ck_words.specs.Holding.{HasTaken}
 use Rattle.ck_words.specs.StripeSets.{list_of}
-use Rattle.ck_words.proofs.Staying.{found_next}
-use Rattle.ck_words.proofs.Missing.{above_next, next_taken}
+use Rattle.ck_words.proofs.Missing.{ready_next, next_swapped, next_missed}
 use Rattle.ck_words.proofs.words.Words.lock_rest.Goals as goal
 
 pub loop-i-init : goal.loop-i-init
 loop-i-init g c p h = h
 
-pub take-requires-clause-own : goal.take-requires-clause-own
-take-requires-clause-own g c = let h = c.loop-i.invariant c.requires.taken.0 c.requires.taken.1 in h.own
-
-pub take-requires-clause-unchanged : goal.take-requires-clause-unchanged
-take-requires-clause-unchanged g c = let h = c.loop-i.invariant c.requires.taken.0 c.requires.taken.1 in h.unchanged
-
-pub take-requires-clause-above : goal.take-requires-clause-above
-take-requires-clause-above g c =
-    above_next g.K.TableKey.hash c.args.self.now (list_of c.args.set) c.loop-i.i c.at.result c.at.ensures.value c.requires.taken.0 c.loop-i.pass c.args.set.rising (omega arith) (c.loop-i.invariant c.requires.taken.0 c.requires.taken.1)
+pub take-requires : goal.take-requires
+take-requires g c =
+    ready_next g.K.TableKey.hash c.args.self.now (list_of c.args.set) c.loop-i.i c.at.result c.at.ensures.value c.requires.taken.0 c.loop-i.pass c.args.set.rising (omega arith) (c.loop-i.invariant c.requires.taken.0 c.requires.taken.1) c.args.set.s c.requires.of_table c.at.ensures.inside
 
 pub loop-i-preserved : goal.loop-i-preserved
-loop-i-preserved g c p h =
-    next_taken g.K.TableKey.hash c.args.self.now (list_of c.args.set) c.loop-i.i c.at.result c.at.ensures.value p c.loop-i.pass c.args.set.rising (omega arith) (c.loop-i.invariant p h) 1 c.take.new.pass (0, omega arith, c.if-not-take.ensures.step) c.take.ensures.own c.take.ensures.unchanged
+loop-i-preserved g c p h = next_swapped g.K.TableKey.hash c.args.self.now (list_of c.args.set) c.loop-i.i c.at.result c.at.ensures.value p c.loop-i.pass c.args.set.rising (omega arith) (c.loop-i.invariant p h) c.take.new.pass c.if-not-take.ensures.step c.take.ensures.own c.take.ensures.unchanged
 
 pub returns-then-not-take-clause-missed : goal.returns-then-not-take-clause-missed
-returns-then-not-take-clause-missed g c p h =
-    let q = c.loop-i.pass in
-    let all = c.loop-i.invariant p h in
-    (omega arith, (q, all, found_next g.K.TableKey.hash c.args.self.now 0 _ q q c.take.new.pass refl all.own c.take.ensures.own c.if-not-take.ensures.step ∙ ap (λ t. found_again 1 t q) c.at.ensures.value))
+returns-then-not-take-clause-missed g c p h = next_missed g.K.TableKey.hash c.args.self.now (list_of c.args.set) c.loop-i.i c.at.result c.at.ensures.value p c.loop-i.pass c.args.set.rising (omega arith) (c.loop-i.invariant p h) c.take.new.pass c.if-not-take.ensures.step c.take.ensures.own
 
 pub returns-clause-own : goal.returns-clause-own
 returns-clause-own g c = let h = c.loop-i.invariant c.requires.taken.0 c.requires.taken.1 in h.own

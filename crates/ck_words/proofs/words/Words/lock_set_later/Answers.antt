@@ -3,7 +3,7 @@ use Rattle.std.proofs.lemmas.List.{take_all}
 use Rattle.ck_model.specs.Numbered.{IsIn}
 use Rattle.ck_words.specs.Holding.{HasTaken}
 use Rattle.ck_words.specs.StripeSets.{list_of}
-use Rattle.ck_words.proofs.Missing.{above_next, next_taken, next_refused, still_first, above_missed, later_taken, later_first, later_refused}
+use Rattle.ck_words.proofs.Missing.{ready_next, next_taken, next_refused, still_first, above_missed, later_taken, later_first, later_refused}
 use Rattle.ck_words.proofs.words.Words.lock_set_later.Goals as goal
 
 pub try_again-requires-clause-above : goal.try_again-requires-clause-above
@@ -23,15 +23,9 @@ pub loop-j-init : goal.loop-j-init
 loop-j-init g c p m =
     later_taken g.K.TableKey.hash c.args.self.now (list_of c.args.set) c.args.i c.at-missed.result c.at-missed.ensures.value p c.args.pass.now c.args.set.rising c.show_range.ensures.turns m c.try_again.new.pass c.if-not-try_again.ensures.tries c.try_again.ensures.own c.try_again.ensures.unchanged
 
-pub try_take-requires-clause-own : goal.try_take-requires-clause-own
-try_take-requires-clause-own g c = let h = c.loop-j.invariant c.requires.missed.0 c.requires.missed.1 in h.own
-
-pub try_take-requires-clause-unchanged : goal.try_take-requires-clause-unchanged
-try_take-requires-clause-unchanged g c = let h = c.loop-j.invariant c.requires.missed.0 c.requires.missed.1 in h.unchanged
-
-pub try_take-requires-clause-above : goal.try_take-requires-clause-above
-try_take-requires-clause-above g c =
-    above_next g.K.TableKey.hash c.args.self.now (list_of c.args.set) c.loop-j.j c.at-t.result c.at-t.ensures.value c.requires.missed.0 c.loop-j.pass c.args.set.rising (omega arith) (c.loop-j.invariant c.requires.missed.0 c.requires.missed.1)
+pub try_take-requires : goal.try_take-requires
+try_take-requires g c =
+    ready_next g.K.TableKey.hash c.args.self.now (list_of c.args.set) c.loop-j.j c.at-t.result c.at-t.ensures.value c.requires.missed.0 c.loop-j.pass c.args.set.rising (omega arith) (c.loop-j.invariant c.requires.missed.0 c.requires.missed.1) c.args.set.s c.requires.of_table c.at-t.ensures.inside
 
 pub loop-j-preserved : goal.loop-j-preserved
 loop-j-preserved g c p m =

@@ -8,7 +8,7 @@ pub returns-clause-same : goal.returns-clause-same
 returns-clause-same g c =
     same_caller c.args.self.now c.self.inside.table.now c.self.inside.pass c.uprase.new.pass c.self.view_is
     (by_result c.uprase.result c.uprase.ensures.answered c.uprase.ensures.refused
-    (λ answer h. (uprased (λ a r. IsInserted (g.K.TableKey.name c.args.key) a r c.self.inside.pass c.uprase.new.pass)
+    (λ answer h. (uprased (IsInserted (g.K.TableKey.name c.args.key) c.self.inside.pass c.uprase.new.pass)
     (λ (v : g.row.V.Denot) (o : Option g.row.V.Denot). g.F.FnOnce.post c.args.f (v, tt) o) c.args.value answer h).2.2.stays.by)
     (λ e h. h.2.stays.by))
 

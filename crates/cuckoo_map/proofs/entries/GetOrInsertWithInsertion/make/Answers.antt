@@ -24,4 +24,4 @@ returns-in-Occupied-clause-answered g c =
 pub returns-in-Vacant-clause-answered : goal.returns-in-Vacant-clause-answered
 returns-in-Vacant-clause-answered g c =
     let w = c.value-made.result in
-    (Insert w, New, inl (c.value-made.ensures, refl, refl), λ i. On (g.K.TableKey.name (c.of-in-Vacant.ensures i)) (Insert (c.of-in-Vacant-2.ensures i)), c.fill.ensures.call (Insert w) New (refl, refl))
+    (Insert w, New, inl (c.value-made.ensures, (refl, refl)), λ i. On (g.K.TableKey.name (c.of-in-Vacant.ensures i)) (Insert (c.of-in-Vacant-2.ensures i)), c.fill.ensures.call (Insert w) New (refl, refl))

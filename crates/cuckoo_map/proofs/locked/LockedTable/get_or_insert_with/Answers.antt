@@ -6,5 +6,5 @@ use Rattle.cuckoo_map.proofs.locked.LockedTable.get_or_insert_with.Goals as goal
 pub returns-clause-answered : goal.returns-clause-answered
 returns-clause-answered g c =
     IfOk-weaker c.put.result _ _
-    (λ v told. as_found (λ a r. HasActed (g.K.TableKey.name c.args.key) a r c.args.self.now c.put.new.self) _ v told.0 told.1 told.2 told.3)
+    (λ v told. as_found (HasActed (g.K.TableKey.name c.args.key) c.args.self.now c.put.new.self) (λ (w : g.row.V.Denot). g.F.FnOnce.post c.args.f tt w) v told.0 told.1 told.2 told.3)
     c.put.ensures.answered

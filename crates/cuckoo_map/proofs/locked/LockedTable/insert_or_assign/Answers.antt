@@ -6,5 +6,5 @@ use Rattle.cuckoo_map.proofs.locked.LockedTable.insert_or_assign.Goals as goal
 pub returns-clause-answered : goal.returns-clause-answered
 returns-clause-answered g c =
     IfOk-weaker c.put.result _ _
-    (λ old told. as_said (λ a r. HasActed (g.K.TableKey.name c.args.key) a r c.args.self.now c.put.new.self) told.2 told.3)
+    (λ old told. as_said (HasActed (g.K.TableKey.name c.args.key) c.args.self.now c.put.new.self) told.2 told.3)
     c.put.ensures.answered

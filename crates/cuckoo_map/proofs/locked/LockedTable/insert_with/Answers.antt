@@ -6,5 +6,5 @@ use Rattle.cuckoo_map.proofs.locked.LockedTable.insert_with.Goals as goal
 pub returns-clause-answered : goal.returns-clause-answered
 returns-clause-answered g c =
     IfOk-weaker c.put.result _ _
-    (λ fresh told. as_inserted (λ a r. HasActed (g.K.TableKey.name c.args.key) a r c.args.self.now c.put.new.self) _ fresh told.0 told.1 told.2 told.3)
+    (λ fresh told. as_inserted (HasActed (g.K.TableKey.name c.args.key) c.args.self.now c.put.new.self) _ fresh told.0 told.1 told.2 told.3)
     c.put.ensures.answered

@@ -3,7 +3,7 @@ use Rattle.std.specs.Fn.{FnOnceReturnsAt}
 use Rattle.ck_model.specs.declared.history.Act.TheVariants.{Erase}
 use Rattle.ck_model.specs.declared.history.Call.TheVariants.{On}
 use Rattle.ck_words.specs.Commits.{call_of}
-use Rattle.ck_words.specs.Answering.{IsAnswered}
+use Rattle.ck_words.specs.Answering.{IsAnsweredOn}
 use Rattle.cuckoo_map.proofs.Calls.{IsStep, chose, erased, erasing, does, says}
 use Rattle.cuckoo_map.proofs.table.Table.erase_bound.Goals as goal
 
@@ -23,6 +23,6 @@ returns-clause-answered g c =
     let made = chose q Erase _ _ (ap (λ k. On (g.Q.Query.name k) Erase) c.of.ensures) c.erase_fn-gone.result c.chosen-said.ensures in
     let there : c.commit_query.new.pass ≡ c.pass-1.given.0 = search rules in
     rw (← there) (erasing (λ act. IsStep g.K.TableKey.hash c.in_ok-spot.spot.place.s c.hold_key.new.pass.stripes p.stripes (On q act)) (λ act. call_of g.Q.Query.name c.chosen-said.result ≡ On q act) (λ back. back ≡ c.args.f)
-    (FnOnceReturnsAt g.F.FnOnce c.args.f) _ (λ act r. IsAnswered (On q act) r c.args.pass.now c.commit_query.new.pass)
+    (FnOnceReturnsAt g.F.FnOnce c.args.f) _ (IsAnsweredOn q c.args.pass.now c.commit_query.new.pass)
     (λ act named r did. says c.self.view_is c.in_ok-spot.ensures.held p c.erase_fn-gone.ensures.stays.1 named c.commit_query.ensures.answered r did)
     c.erase_fn-gone.result made c.erase_fn-gone.ensures.bound c.erase_fn-gone.ensures.unbound)

@@ -34,9 +34,10 @@ returns-in-Err-clause-caller g c =
       number = (c.requires.since.number.0, gave.stays.by ∙ c.requires.since.number.1, c.requires.since.number.2);
     }
 
-pub returns-in-Err-clause-refused : goal.returns-in-Err-clause-refused
-returns-in-Err-clause-refused g c =
+pub returns-in-Err-clause-placed : goal.returns-in-Err-clause-placed
+returns-in-Err-clause-placed g c =
     let set = c.args.self.now.settings in
+    let q = g.K.TableKey.name c.args.key in
     let p = c.args.since.value in
     let z = c.lock_later.new.pass in
     let ns = list_of c.home_of-home.result.stripes in
@@ -44,13 +45,8 @@ returns-in-Err-clause-refused g c =
     let missed = subst (λ (x : WordsState × List ℕ). Misses g.K.TableKey.hash x.0 x.1 c.args.missed p c.args.pass.now) (λ j. (sym c.self.view_is j, sym c.home_of-home.ensures.list j)) c.requires.missed in
     let gave = c.in-Err.ensures.refused p missed in
     let busy = subst (λ (w : WordsState). IsBusy w.settings t p z) c.self.view_is gave.busy in
-    (refl, refl, refused_busy g.K.TableKey.hash set (g.K.TableKey.name c.args.key) t p z (busy_such ns c.home_of-home.ensures.exact set p z t gave.stays busy gave.asked))
-
-pub returns-in-Err-clause-found : goal.returns-in-Err-clause-found
-returns-in-Err-clause-found g c =
-    let p = c.args.since.value in
-    let z = c.lock_later.new.pass in
-    let ns = list_of c.home_of-home.result.stripes in
-    let missed = subst (λ (x : WordsState × List ℕ). Misses g.K.TableKey.hash x.0 x.1 c.args.missed p c.args.pass.now) (λ j. (sym c.self.view_is j, sym c.home_of-home.ensures.list j)) c.requires.missed in
-    let gave = c.in-Err.ensures.refused p missed in
-    found_own g.K.TableKey.hash c.args.self.now.settings (g.K.TableKey.name c.args.key) p z z (finds_such ns c.home_of-home.ensures.exact p z gave.found) refl
+    record {
+      answered = tt;
+      refused = (refl, refl, refused_busy g.K.TableKey.hash set q t p z (busy_such ns c.home_of-home.ensures.exact set p z t gave.stays busy gave.asked));
+      found = found_own g.K.TableKey.hash set q p z z (finds_such ns c.home_of-home.ensures.exact p z gave.found) refl;
+    }

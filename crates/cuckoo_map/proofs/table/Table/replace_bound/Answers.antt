@@ -3,7 +3,7 @@ use Rattle.std.specs.Fn.{FnOnceReturnsAt}
 use Rattle.ck_model.specs.declared.history.Act.TheVariants.{Change}
 use Rattle.ck_model.specs.declared.history.Call.TheVariants.{On}
 use Rattle.ck_words.specs.Commits.{call_of}
-use Rattle.ck_words.specs.Answering.{IsAnswered}
+use Rattle.ck_words.specs.Answering.{IsAnsweredOn}
 use Rattle.cuckoo_map.proofs.Calls.{IsStep, chose, replaced, replacing, does, says}
 use Rattle.cuckoo_map.proofs.table.Table.replace_bound.Goals as goal
 
@@ -23,6 +23,6 @@ returns-clause-answered g c =
     let made = chose q Change _ _ (ap (λ k. On (g.Q.Query.name k) Change) c.of.ensures) c.replace_if-replaced.result c.chosen-said.ensures in
     let there : c.commit_query.new.pass ≡ c.pass-1.given.0 = search rules in
     rw (← there) (replacing (λ act. IsStep g.K.TableKey.hash c.in_ok-spot.spot.place.s c.hold_key.new.pass.stripes p.stripes (On q act)) (λ act. call_of g.Q.Query.name c.chosen-said.result ≡ On q act) (λ back. back ≡ c.args.f)
-    (FnOnceReturnsAt g.F.FnOnce c.args.f) (λ act r. IsAnswered (On q act) r c.args.pass.now c.commit_query.new.pass)
+    (FnOnceReturnsAt g.F.FnOnce c.args.f) (IsAnsweredOn q c.args.pass.now c.commit_query.new.pass)
     (λ act named r did. says c.self.view_is c.in_ok-spot.ensures.held p c.replace_if-replaced.ensures.stays.1 named c.commit_query.ensures.answered r did)
     c.replace_if-replaced.result made c.replace_if-replaced.ensures.bound c.replace_if-replaced.ensures.unbound)

@@ -1,5 +1,4 @@
-use Rattle.cuckoo_map.proofs.Calls.{map_answer}
 use Rattle.cuckoo_map.proofs.table.Table.replace_if.Goals as goal
 
 pub returns-clause-answered : goal.returns-clause-answered
-returns-clause-answered g c = rw (c.ok.ensures.value) (map_answer c.in_ok-replaced.replaced _ _ _ _ c.in_ok-replaced.ensures.answered.0 c.in_ok-replaced.ensures.answered.1 (λ b h. h) (λ back h. h.1))
+returns-clause-answered g c = rw (c.ok.ensures.value) c.in_ok-replaced.ensures.answered.1

@@ -1,21 +1,25 @@
-//! What tests share: small tables, their passes, and names.
+//! What the tests of the table share: small tables and their passes.
+#![tactic(auto)]
+
 ghost use Rattle.std.specs.Prelude.{◌≡◌, Some, IfOk};
 ghost use Rattle.ck_words.specs.Closing.{IsCaller};
 
 use ck_key::NumKey;
-use ck_model::history::Name;
 use cuckoo_map::{Caller, LockedTable, Pass, Settings, Table};
 use std::alloc::{AllocError, Global};
-use std::collections::LinkedList;
 use std::sync::atomic::{AtomicU64, Ordering};
 use std::test::Fail;
 
+/// A table with number keys and values.
 pub type NumTable = Table<NumKey, u64>;
 
+/// A pass of such a table.
 pub type NumPass = Pass<NumKey, u64>;
 
+/// A caller of such a table.
 pub type NumCaller<'t> = Caller<'t, NumKey, u64>;
 
+/// Such a table, locked.
 pub type NumLocked<'t> = LockedTable<'t, NumKey, u64>;
 
 /// Two stripes of two buckets each, for three callers.
@@ -46,6 +50,18 @@ pub const SIXTEEN_BUCKETS: Shape = Shape {
     rounds: 4,
 };
 
+/// Two stripes of two buckets each, which may grow.
+pub const GROWING: Shape = Shape {
+    s: 1,
+    power: 2,
+    max: 20,
+    rounds: 4,
+};
+
+/// Keys `b` times this have partial 0 and the bucket 0 at each power up to 40, so they all have the
+/// same two buckets.
+pub const APART: u64 = 282_574_488_338_432;
+
 /// Four stripes of one bucket each, which stay so.
 pub const FOUR_BUCKETS: Shape = Shape {
     s: 2,
@@ -75,13 +91,6 @@ impl Shape {
             min_load: 5,
         }
     }
-}
-
-/// The name of a number key.
-pub fn name_of(alloc: Global, key: u64) -> Result<Name, AllocError> {
-    let mut name = LinkedList::new(alloc);
-    name.push_back(key)?;
-    Ok(name)
 }
 
 /// An empty table of this shape, and the passes of its three callers.
@@ -144,6 +153,7 @@ pub fn count(counter: &AtomicU64) -> u64 {
     counter.fetch_add(1, Ordering::SeqCst)
 }
 
+/// What a counter has come to.
 pub fn read(counter: &AtomicU64) -> u64 {
     counter.load(Ordering::SeqCst)
 }

@@ -1,5 +1,5 @@
 //! Calls of a locked table whose closure decides what becomes of the key.
-use crate::fixtures::{NumLocked, SIXTEEN_BUCKETS, open};
+use ck_fixtures::{NumLocked, SIXTEEN_BUCKETS, open};
 use ck_key::NumKey;
 use cuckoo_map::Uprased;
 use std::process::Abort;

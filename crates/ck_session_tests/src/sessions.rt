@@ -3,7 +3,7 @@
 ghost use Rattle.std.specs.Prelude.{◌≡◌};
 ghost use Rattle.cuckoo_map.specs.Callers.{IsSameCaller};
 
-use crate::fixtures::{FOUR_BUCKETS, NumCaller, NumLocked, Shape, name_of, open};
+use ck_fixtures::{APART, FOUR_BUCKETS, GROWING, NumCaller, NumLocked, Shape, open};
 use ck_key::NumKey;
 use ck_model::history::Name;
 use ck_oracle::map::PlainMap;
@@ -11,6 +11,7 @@ use cuckoo_map::{Refused, Why};
 use rand_core::Rng;
 use rand_pcg::Lcg64Xsh32;
 use std::alloc::{AllocError, Global};
+use std::collections::LinkedList;
 use std::process::Abort;
 use std::test::Fail;
 
@@ -126,22 +127,10 @@ struct Session {
     power: u32,
 }
 
-/// As `TWO_STRIPES`.
-const MAY_GROW: Shape = Shape {
-    s: 1,
-    power: 2,
-    max: 20,
-    rounds: 4,
-};
-
-/// Keys `b` times this have partial 0 and the bucket 0 at each power up to 40, so they all have the
-/// same two buckets.
-const APART: u64 = 282_574_488_338_432;
-
 static SESSIONS: [Session; 8] = [
     Session {
         what: "a bound key keeps its value",
-        shape: MAY_GROW,
+        shape: GROWING,
         calls: &[
             (Call::Insert(1, 10), Reply::Fresh(true)),
             (Call::Insert(1, 11), Reply::Fresh(false)),
@@ -158,7 +147,7 @@ static SESSIONS: [Session; 8] = [
     },
     Session {
         what: "a bound key is assigned another value",
-        shape: MAY_GROW,
+        shape: GROWING,
         calls: &[
             (Call::Assign(1, 10), Reply::Was(None)),
             (Call::Assign(1, 11), Reply::Was(Some(10))),
@@ -171,7 +160,7 @@ static SESSIONS: [Session; 8] = [
     },
     Session {
         what: "only a bound key is updated",
-        shape: MAY_GROW,
+        shape: GROWING,
         calls: &[
             (Call::Update(1, 10), Reply::Was(None)),
             (Call::Halve(1), Reply::Is(false)),
@@ -246,7 +235,7 @@ static SESSIONS: [Session; 8] = [
     },
     Session {
         what: "nine keys of the same two buckets, until too few slots are taken",
-        shape: MAY_GROW,
+        shape: GROWING,
         calls: &[
             (Call::Insert(APART, 1), Reply::Fresh(true)),
             (Call::Insert(2 * APART, 2), Reply::Fresh(true)),
@@ -303,7 +292,7 @@ static SESSIONS: [Session; 8] = [
     },
     Session {
         what: "each stripe keeps its even values, and a table of odd ones is empty",
-        shape: MAY_GROW,
+        shape: GROWING,
         calls: &[
             (Call::Insert(0, 1), Reply::Fresh(true)),
             (Call::Insert(1, 2), Reply::Fresh(true)),
@@ -503,6 +492,13 @@ fn answer_plain(
         Call::Len => Ok(Reply::Count(plain.len() as u64)),
         Call::IsEmpty => Ok(Reply::Is(plain.len() == 0)),
     }
+}
+
+/// The name of a number key.
+fn name_of(alloc: Global, key: u64) -> Result<Name, AllocError> {
+    let mut name = LinkedList::new(alloc);
+    name.push_back(key)?;
+    Ok(name)
 }
 
 /// Unbinds the names of odd values.
@@ -774,7 +770,7 @@ fn drain_twice(
 /// What comes is sorted, and another caller finds what was bound afterwards. The table has grown
 /// once, and stays so.
 fn check_drained(rt: &impl Abort, alloc: Global) -> Result<(), Fail> {
-    let (table, first, second, _) = open(alloc, MAY_GROW)?;
+    let (table, first, second, _) = open(alloc, GROWING)?;
     let pairs = drain_twice(rt, alloc, table.caller(first))?;
     let mut sorted = Vec::from_array(alloc, UNSORTED)?;
     sorted.sort_unstable();

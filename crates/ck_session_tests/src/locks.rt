@@ -1,7 +1,7 @@
 //! A table under one caller, and the calls of others meanwhile.
 ghost use Rattle.std.specs.Prelude.{◌≡◌};
 
-use crate::fixtures::{NumCaller, SIXTEEN_BUCKETS, open_with};
+use ck_fixtures::{NumCaller, SIXTEEN_BUCKETS, open_with};
 use ck_key::NumKey;
 use cuckoo_map::{Busy, Refused, Settings, Why};
 use std::process::Abort;

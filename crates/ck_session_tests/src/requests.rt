@@ -4,7 +4,7 @@
 //! call, which is as large as the next request of the call.
 ghost use Rattle.std.specs.Prelude.{◌≡◌};
 
-use crate::fixtures::{NumCaller, NumLocked, NumTable, TWO_STRIPES};
+use ck_fixtures::{NumCaller, NumLocked, NumTable, TWO_STRIPES};
 use ck_hoard::{hoard, take_all};
 use ck_key::NumKey;
 use cuckoo_map::{GrowFault, Refused, Settings, Why};

@@ -1,5 +1,5 @@
 //! Two passes on the lock words of one table, from one thread.
-use crate::fixtures::TWO_STRIPES;
+use ck_fixtures::TWO_STRIPES;
 use ck_key::NumKey;
 use ck_words::{StripeSet, Words};
 use std::test::Fail;

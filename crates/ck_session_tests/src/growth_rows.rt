@@ -1,7 +1,7 @@
 //! A table that grows where it is asked to.
 ghost use Rattle.std.specs.Prelude.{◌≡◌};
 
-use crate::fixtures::{NumCaller, NumLocked, TWO_STRIPES, open_with};
+use ck_fixtures::{NumCaller, NumLocked, TWO_STRIPES, open_with};
 use ck_key::NumKey;
 use cuckoo_map::{GrowFault, Settings};
 use std::process::Abort;
