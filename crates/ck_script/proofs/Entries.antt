@@ -9,14 +9,13 @@ use Rattle.ck_model.specs.declared.history.Entry.{Entry}
 use Rattle.ck_model.specs.declared.history.Reason.{Reason}
 use Rattle.ck_model.specs.declared.history.Reason.TheVariants as reason
 use Rattle.ck_model.specs.declared.settings.Settings.{Settings}
-use Rattle.ck_model.specs.Promise.{Name, StartsWith}
+use Rattle.ck_model.specs.Promise.{Name, Client, Replied, StartsWith}
 use Rattle.ck_model.proofs.Histories.{starts_itself}
 use Rattle.ck_words.specs.Passes.{PassState}
-use Rattle.ck_words.specs.Answering.{IsAnsweredBut}
 use Rattle.cuckoo_map.specs.declared.refusal.Why.{Why}
 use Rattle.cuckoo_map.specs.declared.refusal.Why.TheVariants.{Busy, Memory, Full, LoadTooLow}
 use Rattle.cuckoo_map.specs.Refusals.{GivesGrounds, IsRefused}
-use Rattle.cuckoo_map.specs.Callers.{CallerState, IsSameCaller}
+use Rattle.cuckoo_map.specs.Callers.{CallerState, pass_of, IsSameCaller}
 use Rattle.ck_format.specs.declared.script.Command.{Command}
 use Rattle.ck_format.specs.declared.script.Command.TheVariants as command
 use Rattle.ck_format.specs.declared.answer.Answer.{Answer}
@@ -83,17 +82,17 @@ grounds_by_one hash set name commands command answers items answer old new have 
     holds_by_one name (HaveGrounds hash set new) commands command answers items answer
     (all_zipped_more (HasGrounds hash set new) cs told (on_names name command) (answer_on_names name answer) (later_grounds hash set old new cs told saw have) grounds)
 
--- what holds of all that was done so far, and of the pass then, holds of all commands
-pub holds_of_all : {K : Type 0} (name : K → Name) (P : List (Command Name) → PassState ℕ → Type 0) (so_far commands : List (Command K)) (p q : PassState ℕ) → P (map (on_names name) so_far) p → so_far ≡ commands → q ≡ p → P (map (on_names name) commands) q
-holds_of_all {K} name P so_far commands p q holds all same =
+-- what holds of all that was done so far, and of the caller then, holds of all commands
+pub holds_of_all : {K : Type 0} (name : K → Name) (P : List (Command Name) → PassState ℕ → Type 0) (so_far commands : List (Command K)) (c : CallerState ℕ) (q : PassState ℕ) → P (map (on_names name) so_far) (pass_of c) → so_far ≡ commands → q ≡ pass_of c → P (map (on_names name) commands) q
+holds_of_all {K} name P so_far commands c q holds all same =
     subst (λ (x : PassState ℕ). P (map (on_names name) commands) x) (sym same)
-    (subst (λ (cs : List (Command K)). P (map (on_names name) cs) p) all holds)
+    (subst (λ (cs : List (Command K)). P (map (on_names name) cs) (pass_of c)) all holds)
 
--- a pass has seen no less once its call is answered
-pub answered_saw : (call : Call ℕ) (reply : Reply ℕ) (more : List (Name × Reason)) (p q : PassState ℕ) → IsAnsweredBut more call reply p q → StartsWith q.view.seen p.view.seen
-answered_saw call reply more p q is =
-    let entry : Entry ℕ = record { by = is.replied.by; call = call; reply = reply } in
-    (is.replied.answered.others ++ entry ∷ [], is.replied.answered.seen ∙ append_assoc p.view.seen is.replied.answered.others (entry ∷ []))
+-- a client has seen no less once its call is answered
+pub answered_saw : (call : Call ℕ) (reply : Reply ℕ) (c d : Client ℕ) → Replied call reply c d → StartsWith d.seen c.seen
+answered_saw call reply c d is =
+    let entry : Entry ℕ = record { by = is.by; call = call; reply = reply } in
+    (is.answered.others ++ entry ∷ [], is.answered.seen ∙ append_assoc c.seen is.answered.others (entry ∷ []))
 
 -- what an insertion shows that was refused
 has_others : (hash : Name → ℕ) (set : Settings) (q : Name) (why : Why) (p p2 : PassState ℕ) → IsRefused hash set q why p p2 → HasOthers set.callers why
@@ -102,12 +101,12 @@ has_others hash set q Memory p p2 r = tt
 has_others hash set q Full p p2 r = tt
 has_others hash set q LoadTooLow p p2 r = tt
 
--- a refusal that is printed is what the pass said
-prints_why : (hash : Name → ℕ) (set : Settings) (q : Name) (why : Why) (p p2 : PassState ℕ) → IsRefused hash set q why p p2 → PrintsWhy q (printed why) p p2
-prints_why hash set q (Busy t) p p2 r = tt
-prints_why hash set q Memory p p2 r = (r.more, r.stays.noroom, r.shown.0)
-prints_why hash set q Full p p2 r = (r.more, r.stays.noroom, r.shown.0)
-prints_why hash set q LoadTooLow p p2 r = (r.more, r.stays.noroom, r.shown.0)
+-- a refusal that is printed is what the caller said
+prints_why : (hash : Name → ℕ) (set : Settings) (q : Name) (why : Why) (c d : CallerState ℕ) → IsRefused hash set q why (pass_of c) (pass_of d) → PrintsWhy q (printed why) c d
+prints_why hash set q (Busy t) c d r = tt
+prints_why hash set q Memory c d r = (r.more, r.stays.noroom, r.shown.0)
+prints_why hash set q Full c d r = (r.more, r.stays.noroom, r.shown.0)
+prints_why hash set q LoadTooLow c d r = (r.more, r.stays.noroom, r.shown.0)
 
 -- what gives grounds is what all stripes contained at the end of what the pass has seen
 was_stuck : (hash : Name → ℕ) (set : Settings) (q : Name) (why : Reason) (p : PassState ℕ) → GivesGrounds hash set q why p → WasStuck hash set p.view.seen q why
@@ -138,15 +137,15 @@ refuses n c LoadTooLow needs others = needs
 
 -- a refused insertion
 pub uninserted : (hash : Name → ℕ) (c : Command Name) (k : Name) (a : Answer Pairs) (why : Why) (p q : CallerState ℕ) → NeedsRoom c
-    → ((b : Answer Pairs) → PrintsWhy k b p.pass q.pass → HasGroundsFor hash p.table.settings q.pass.view.seen k b → CommandPrintsWhy c b p.pass q.pass × HasGrounds hash p.table.settings q.pass.view.seen c b) → IsSameCaller p q
-    → a ≡ printed why → IsRefused hash p.table.settings k why p.pass q.pass → IsAnsweredBy hash c a p q
+    → ((b : Answer Pairs) → PrintsWhy k b p q → HasGroundsFor hash p.table.settings q.client.seen k b → CommandPrintsWhy c b p q × HasGrounds hash p.table.settings q.client.seen c b) → IsSameCaller p q
+    → a ≡ printed why → IsRefused hash p.table.settings k why (pass_of p) (pass_of q) → IsAnsweredBy hash c a p q
 uninserted hash c k a why p q needs of same is r =
-    let shows = of (printed why) (prints_why hash p.table.settings k why p.pass q.pass r) (has_grounds hash p.table.settings k why p.pass q.pass r) in
+    let shows = of (printed why) (prints_why hash p.table.settings k why p q r) (has_grounds hash p.table.settings k why (pass_of p) (pass_of q) r) in
     subst (λ (b : Answer Pairs). IsAnsweredBy hash c b p q) (sym is)
     (record {
       same = same;
       why = shows.0;
       saw = r.stays.seen;
       grounds = shows.1;
-      entries = λ by e. inl (refuses p.table.settings.callers c why needs (has_others hash p.table.settings k why p.pass q.pass r), r.stays.mine);
+      entries = λ by e. inl (refuses p.table.settings.callers c why needs (has_others hash p.table.settings k why (pass_of p) (pass_of q) r), r.stays.mine);
     })

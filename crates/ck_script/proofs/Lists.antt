@@ -4,13 +4,11 @@ use Rattle.std.specs.FinMap.{entries}
 use Rattle.ck_model.specs.declared.history.Call.TheVariants.{Session}
 use Rattle.ck_model.specs.declared.history.Reply.TheVariants.{Closed}
 use Rattle.ck_model.specs.declared.history.Entry.{Entry}
-use Rattle.ck_model.specs.Promise.{Name, Map, StartsWith}
+use Rattle.ck_model.specs.Promise.{Name, Map}
 use Rattle.ck_model.proofs.Numbered.{Some-injective}
-use Rattle.ck_words.specs.Passes.{PassState}
-use Rattle.ck_words.specs.Answering.{IsAnswered}
 use Rattle.ck_words.proofs.Staying.{starts_on}
-use Rattle.cuckoo_map.specs.Callers.{CallerState}
-use Rattle.cuckoo_map.specs.Locking.{LockedState, start_of, map_of, HasLocked}
+use Rattle.cuckoo_map.specs.Callers.{CallerState, pass_of, IsSameCaller, Replies}
+use Rattle.cuckoo_map.specs.Locking.{LockedState, start_of, map_of, session_call, HasLocked}
 use Rattle.ck_format.specs.declared.script.Command.TheVariants as command
 use Rattle.ck_format.specs.declared.answer.Answer.{Answer}
 use Rattle.ck_format.specs.Text.{Pairs}
@@ -29,23 +27,20 @@ left_by_list n by a start now same list =
     ]
 
 -- locked and unlocked, the table is left to the same caller
-pub listed : (hash : Name → ℕ) (c back : CallerState ℕ) (l : LockedState ℕ) (p : PassState ℕ) (a : Answer Pairs) → HasLocked c.table c.pass l → IsListOf (entries (map_of l)) a
-    → IsAnswered (Session (entries (start_of l)) (entries (map_of l))) Closed l.pass p → back.table ≡ c.table → back.pass ≡ p → IsAnsweredBy hash command.List a c back
-listed hash c back l p a locked list answered table pass =
-    let by_kept = ap (λ (q : PassState ℕ). q.view.by) pass ∙ answered.stays.by ∙ locked.stays.by in
-    let mine = ap (λ (q : PassState ℕ). q.view.mine) pass ∙ answered.replied.answered.mine in
-    let entry : Entry ℕ = record { by = answered.replied.by; call = Session (entries (start_of l)) (entries (map_of l)); reply = Closed } in
+pub listed : (hash : Name → ℕ) (c back : CallerState ℕ) (l : LockedState ℕ) (a : Answer Pairs) → HasLocked c.table (pass_of c) l → IsListOf (entries (map_of l)) a
+    → IsSameCaller l.caller back → Replies (session_call l) l.caller back Closed → IsAnsweredBy hash command.List a c back
+listed hash c back l a locked list same answered =
+    let entry : Entry ℕ = record { by = answered.by; call = session_call l; reply = Closed } in
     record {
-      same = record { table = table; by = by_kept };
-      saw = subst (λ (q : PassState ℕ). StartsWith q.view.seen c.pass.view.seen) (sym pass)
-          (starts_on c.pass.view.seen l.pass.view.seen p.view.seen locked.stays.seen (answered_saw entry.call Closed [] l.pass p answered));
+      same = record { table = same.table ∙ locked.table; by = same.by ∙ locked.stays.by };
+      saw = starts_on c.client.seen l.caller.client.seen back.client.seen locked.stays.seen (answered_saw entry.call Closed l.caller.client back.client answered);
       grounds = tt;
       why = tt;
       entries = λ by is.
           inr (
             entry,
-            Some-injective answered.replied.by by (sym answered.replied.number ∙ locked.stays.by ∙ is),
-            left_by_list c.table.settings.callers answered.replied.by a (start_of l) (map_of l) locked.same list,
-            mine ∙ ap (λ (es : List (Entry ℕ)). es ++ entry ∷ []) locked.stays.mine,
+            Some-injective answered.by by (sym answered.number ∙ locked.stays.by ∙ is),
+            left_by_list c.table.settings.callers answered.by a (start_of l) (map_of l) locked.same list,
+            answered.answered.mine ∙ ap (λ (es : List (Entry ℕ)). es ++ entry ∷ []) locked.stays.mine,
           );
     }

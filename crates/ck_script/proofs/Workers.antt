@@ -22,6 +22,7 @@ use Rattle.ck_words.specs.Words.{WordsState}
 use Rattle.ck_words.specs.Passes.{PassState}
 use Rattle.ck_words.specs.Closing.{IsCaller, AreAllPasses, EachSaw, AreContentsOf, Closes, dealt, parts_of}
 use Rattle.ck_model.proofs.Counting.{in_counting}
+use Rattle.cuckoo_map.specs.Callers.{CallerState}
 use Rattle.ck_format.specs.declared.script.Keys.{Keys}
 use Rattle.ck_format.specs.declared.script.Command.{Command}
 use Rattle.ck_format.specs.declared.script.Work.{Work}
@@ -137,9 +138,9 @@ module _ {K : Type 0} (hash : Name → ℕ) (name : K → Name) (w : WordsState)
   done_parts a (cs ∷ workers) [] dones given worked = absurd given
   done_parts a (cs ∷ workers) (j ∷ jobs) [] given worked = absurd worked
   done_parts a (cs ∷ workers) (j ∷ jobs) (d ∷ dones) given worked =
-      let by = ap (λ (p : PassState ℕ). p.view.by) given.0.pass in (
+      let by = ap (λ (c : CallerState ℕ). c.client.by) given.0.caller in (
         ap (λ (o : Option ℕ). unwrap_or o 0) (worked.0.by ∙ by),
-        subst (λ (x : WordsState × Vec (Command K)). HaveLeft x.0.settings.callers a (map (on_names name) x.1.items) (answers_on_names name d.answers.items) d.pass.view.mine) (λ i. (given.0.table i, given.0.commands i)) (worked.0.entries a by),
+        subst (λ (x : WordsState × Vec (Command K)). HaveLeft x.0.settings.callers a (map (on_names name) x.1.items) (answers_on_names name d.answers.items) d.pass.view.mine) (λ i. ((given.0.caller i).table, given.0.commands i)) (worked.0.entries a by),
         subst (λ n. HaveParts w.settings.callers n (workers_on_names name workers) (lists_on_names name (answers_of dones)) (parts_of (passes_of dones))) (sym (add-one a)) (done_parts (suc a) workers jobs dones given.1 worked.1),
       )
 
@@ -152,7 +153,7 @@ module _ {K : Type 0} (hash : Name → ℕ) (name : K → Name) (w : WordsState)
   done_grounds log a (cs ∷ workers) [] dones saw given worked = absurd given
   done_grounds log a (cs ∷ workers) (j ∷ jobs) [] saw given worked = absurd worked
   done_grounds log a (cs ∷ workers) (j ∷ jobs) (d ∷ dones) saw given worked = (
-    subst (λ (x : WordsState × Vec (Command K)). HaveGrounds hash x.0.settings log (map (on_names name) x.1.items) (answers_on_names name d.answers.items)) (λ i. (given.0.table i, given.0.commands i))
+    subst (λ (x : WordsState × Vec (Command K)). HaveGrounds hash x.0.settings log (map (on_names name) x.1.items) (answers_on_names name d.answers.items)) (λ i. ((given.0.caller i).table, given.0.commands i))
         (later_grounds hash j.caller.table.settings d.pass.view.seen log (map (on_names name) j.commands.items) (answers_on_names name d.answers.items) (saw 0 d.pass (omega arith)) worked.0.grounds),
     done_grounds log (suc a) workers jobs dones (λ k p lt. saw (suc k) p (omega arith)) given.1 worked.1,
   )
@@ -163,7 +164,7 @@ module _ {K : Type 0} (hash : Name → ℕ) (name : K → Name) (w : WordsState)
   done_callers a [] (j ∷ jobs) dones given worked k d lt = absurd given
   done_callers a (cs ∷ workers) [] dones given worked k d lt = absurd given
   done_callers a (cs ∷ workers) (j ∷ jobs) [] given worked k d lt = absurd worked
-  done_callers a (cs ∷ workers) (j ∷ jobs) (e ∷ dones) given worked zero d lt = subst (λ (x : WordsState). IsCaller x e.pass) given.0.table worked.0.caller
+  done_callers a (cs ∷ workers) (j ∷ jobs) (e ∷ dones) given worked zero d lt = subst (λ (x : CallerState ℕ). IsCaller x.table e.pass) given.0.caller worked.0.caller
   done_callers a (cs ∷ workers) (j ∷ jobs) (e ∷ dones) given worked (suc k) d lt = done_callers (suc a) workers jobs dones given.1 worked.1 k d (omega arith)
 
   done_numbers : (a : ℕ) (workers : List (Vec (Command K))) (jobs : List (Job K)) (dones : List (Done K)) → Given a workers jobs → Worked jobs dones
@@ -174,7 +175,7 @@ module _ {K : Type 0} (hash : Name → ℕ) (name : K → Name) (w : WordsState)
   done_numbers a (cs ∷ workers) [] dones given worked = absurd given
   done_numbers a (cs ∷ workers) (j ∷ jobs) [] given worked = absurd worked
   done_numbers a (cs ∷ workers) (j ∷ jobs) (d ∷ dones) given worked =
-      let first = ap (λ (o : Option ℕ). unwrap_or o 0) (worked.0.by ∙ ap (λ (p : PassState ℕ). p.view.by) given.0.pass) in
+      let first = ap (λ (o : Option ℕ). unwrap_or o 0) (worked.0.by ∙ ap (λ (c : CallerState ℕ). c.client.by) given.0.caller) in
       let rest = done_numbers (suc a) workers jobs dones given.1 worked.1 in
       λ i. first i ∷ rest i
 

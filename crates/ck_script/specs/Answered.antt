@@ -10,7 +10,6 @@ use Rattle.cuckoo_map.specs.declared.refusal.Why.TheVariants.{Busy, Full, LoadTo
 use Rattle.cuckoo_map.specs.declared.refusal.Why.TheVariants as why
 use Rattle.ck_model.specs.declared.history.Reason.{Reason}
 use Rattle.ck_model.specs.declared.history.Reason.TheVariants as reason
-use Rattle.ck_words.specs.Passes.{PassState}
 use Rattle.ck_format.specs.declared.script.Command.TheVariants as command
 use Rattle.ck_format.specs.declared.answer.Answer.TheVariants as answer
 use Rattle.ck_format.specs.declared.script.Command.{Command}
@@ -36,19 +35,19 @@ printed why.Memory = answer.Memory
 printed Full = answer.Full
 printed LoadTooLow = answer.Load
 
--- from p to q the pass has said for this reason that the name found no room
-abbrev pub HasSaid : Name → Reason → PassState ℕ → PassState ℕ → Type 0
-HasSaid k why p q = (more : List (Name × Reason)) × (q.view.noroom ≡ more ++ p.view.noroom) × Contains more (k, why)
+-- from p to q the caller has said for this reason that the name found no room
+abbrev pub HasSaid : Name → Reason → CallerState ℕ → CallerState ℕ → Type 0
+HasSaid k why p q = (more : List (Name × Reason)) × (q.notes.noroom ≡ more ++ p.notes.noroom) × Contains more (k, why)
 
--- where the answer prints a want of room, the pass has said so of the name, for this reason
-abbrev pub PrintsWhy : Name → Answer Pairs → PassState ℕ → PassState ℕ → Type 0
+-- where the answer prints a want of room, the caller has said so of the name, for this reason
+abbrev pub PrintsWhy : Name → Answer Pairs → CallerState ℕ → CallerState ℕ → Type 0
 PrintsWhy k answer.Memory p q = HasSaid k reason.Memory p q
 PrintsWhy k answer.Full p q = HasSaid k reason.Full p q
 PrintsWhy k answer.Load p q = HasSaid k reason.LoadTooLow p q
 PrintsWhy k a p q = Unit {0}
 
 -- the same of a command that may need room for its key
-abbrev pub CommandPrintsWhy : Command Name → Answer Pairs → PassState ℕ → PassState ℕ → Type 0
+abbrev pub CommandPrintsWhy : Command Name → Answer Pairs → CallerState ℕ → CallerState ℕ → Type 0
 CommandPrintsWhy (command.Insert k n) a p q = PrintsWhy k a p q
 CommandPrintsWhy (command.Assign k n) a p q = PrintsWhy k a p q
 CommandPrintsWhy (command.Add k n) a p q = PrintsWhy k a p q
@@ -72,10 +71,10 @@ StaysOrGrows n by c a old new =
 -- the caller's command was answered by this answer
 pub record IsAnsweredBy (hash : Name → ℕ) (c : Command Name) (a : Answer Pairs) (p q : CallerState ℕ) : Type 0 where
   pub same : IsSameCaller p q
-  pub why : CommandPrintsWhy c a p.pass q.pass
-  pub saw : StartsWith q.pass.view.seen p.pass.view.seen
-  pub grounds : HasGrounds hash p.table.settings q.pass.view.seen c a
-  pub entries : (by : ℕ) → p.pass.view.by ≡ Some by → StaysOrGrows p.table.settings.callers by c a p.pass.view.mine q.pass.view.mine
+  pub why : CommandPrintsWhy c a p q
+  pub saw : StartsWith q.client.seen p.client.seen
+  pub grounds : HasGrounds hash p.table.settings q.client.seen c a
+  pub entries : (by : ℕ) → p.client.by ≡ Some by → StaysOrGrows p.table.settings.callers by c a p.client.mine q.client.mine
 
 -- The entries that a caller's commands with their answers left, in order: one or none of a refused command, and one of each other.
 abbrev pub HaveLeft : (n by : ℕ) → List (Command Name) → List (Answer Pairs) → List (Entry ℕ) → Type 0

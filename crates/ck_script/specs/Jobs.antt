@@ -9,6 +9,7 @@ use Rattle.ck_model.specs.Contents.{Stripes, bindings}
 use Rattle.ck_words.specs.Words.{WordsState}
 use Rattle.ck_words.specs.Passes.{PassState}
 use Rattle.ck_words.specs.Closing.{IsCaller, EachSaw, AreContentsOf, parts_of}
+use Rattle.cuckoo_map.specs.Callers.{caller_of}
 use Rattle.ck_format.specs.declared.script.Keys.{Keys}
 use Rattle.ck_format.specs.declared.script.Command.{Command}
 use Rattle.ck_format.specs.declared.answer.Answer.{Answer}
@@ -28,14 +29,13 @@ pub record IsNew (w : WordsState) (p : PassState ℕ) : Type 0 where
 module _ {K : Type 0} where
   -- The worker has made no call, and has room for all of its answers.
   pub record IsReadyJob (job : Job K) : Type 0 where
-    pub fresh : job.caller.pass.view.mine ≡ []
+    pub fresh : job.caller.client.mine ≡ []
     pub empty : job.answers.items ≡ []
     pub room : length job.commands.items ≤ vec_capacity job.answers
 
-  -- the job makes these commands on the table by this pass
+  -- the job is to make these commands as the caller with this pass
   pub record IsJob (w : WordsState) (given : PassState ℕ × Vec (Command K)) (job : Job K) : Type 0 where
-    pub table : job.caller.table ≡ w
-    pub pass : job.caller.pass ≡ given.0
+    pub caller : job.caller ≡ caller_of w given.0
     pub commands : job.commands ≡ given.1
 
   -- the answers and the passes of those who are done
@@ -49,9 +49,9 @@ module _ {K : Type 0} (hash : Name → ℕ) (name : K → Name) where
   -- The worker made its calls on the same table under the same number. Its entries are what its commands left, and what was refused for want of room had grounds in what it has seen.
   pub record HasWorked (job : Job K) (done : Done K) : Type 0 where
     pub caller : IsCaller job.caller.table done.pass
-    pub by : done.pass.view.by ≡ job.caller.pass.view.by
+    pub by : done.pass.view.by ≡ job.caller.client.by
     pub grounds : HaveGrounds hash job.caller.table.settings done.pass.view.seen (map (on_names name) job.commands.items) (answers_on_names name done.answers.items)
-    pub entries : (by : ℕ) → job.caller.pass.view.by ≡ Some by → HaveLeft job.caller.table.settings.callers by (map (on_names name) job.commands.items) (answers_on_names name done.answers.items) done.pass.view.mine
+    pub entries : (by : ℕ) → job.caller.client.by ≡ Some by → HaveLeft job.caller.table.settings.callers by (map (on_names name) job.commands.items) (answers_on_names name done.answers.items) done.pass.view.mine
 
 -- The text is that of these answers and of the map after a legal history, which is an interleaving of the entries of the passes, and begins with what each has seen.
 -- The map is what a table with these settings contains.

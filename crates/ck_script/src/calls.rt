@@ -173,11 +173,10 @@ fn list<'t, K: WrittenKey>(
     ensures { IsAnsweredBy K.hash Command.List (answer_on_names K.name result.0)
         caller.entry result.1 }
 {
-    let table = caller.table();
     match caller.lock() {
         Ok(locked) => {
             let answer = listed(alloc, &locked);
-            (answer, table.caller(locked.unlock()))
+            (answer, locked.unlock_caller())
         }
         Err((caller, _)) => (Answer::Busy, caller),
     }

@@ -156,7 +156,7 @@ fn insert(rt: &impl Abort, caller: &mut NumCaller<'_>) -> bool {
 }
 
 fn insert_locked(rt: &impl Abort, locked: &mut NumLocked<'_>) -> bool
-    ensures { locked.new.table ≡ locked.old.table }
+    ensures { locked.new.caller ≡ locked.old.caller }
 {
     match locked.insert(NEXT, 190) {
         Ok(fresh) => {
@@ -183,7 +183,7 @@ fn export(rt: &impl Abort, alloc: Global, locked: &NumLocked<'_>) -> bool {
 /// A session goes on, whatever was refused: each key has its value, and one is erased and bound
 /// again.
 fn go_on(rt: &impl Abort, locked: &mut NumLocked<'_>, bound: bool)
-    ensures { locked.new.table ≡ locked.old.table }
+    ensures { locked.new.caller ≡ locked.old.caller }
 {
     for key in KEYS {
         assert!(rt; locked.find(&NumKey(key)) == Some(&(10 * key)));

@@ -50,7 +50,7 @@ enum Reply {
 }
 
 fn insert(locked: &mut NumLocked<'_>, key: u64, value: u64) -> Reply
-    ensures { locked.new.table ≡ locked.old.table }
+    ensures { locked.new.caller ≡ locked.old.caller }
 {
     match locked.insert(NumKey(key), value) {
         Ok(fresh) => Reply::Fresh(fresh),
@@ -59,7 +59,7 @@ fn insert(locked: &mut NumLocked<'_>, key: u64, value: u64) -> Reply
 }
 
 fn assign(locked: &mut NumLocked<'_>, key: u64, value: u64) -> Reply
-    ensures { locked.new.table ≡ locked.old.table }
+    ensures { locked.new.caller ≡ locked.old.caller }
 {
     match locked.insert_or_assign(NumKey(key), value) {
         Ok(old) => Reply::Was(old),
@@ -68,7 +68,7 @@ fn assign(locked: &mut NumLocked<'_>, key: u64, value: u64) -> Reply
 }
 
 fn halve_or(locked: &mut NumLocked<'_>, key: u64, value: u64) -> Reply
-    ensures { locked.new.table ≡ locked.old.table }
+    ensures { locked.new.caller ≡ locked.old.caller }
 {
     match locked.upsert(NumKey(key), |value| value / 2, value) {
         Ok(fresh) => Reply::Fresh(fresh),
@@ -77,20 +77,20 @@ fn halve_or(locked: &mut NumLocked<'_>, key: u64, value: u64) -> Reply
 }
 
 fn halve(locked: &mut NumLocked<'_>, key: u64) -> Reply
-    ensures { locked.new.table ≡ locked.old.table }
+    ensures { locked.new.caller ≡ locked.old.caller }
 {
     Reply::Is(locked.update_fn(&NumKey(key), |value| value / 2))
 }
 
 fn clear(locked: &mut NumLocked<'_>) -> Reply
-    ensures { locked.new.table ≡ locked.old.table }
+    ensures { locked.new.caller ≡ locked.old.caller }
 {
     locked.clear();
     Reply::Count(locked.len())
 }
 
 fn retain_even(locked: &mut NumLocked<'_>) -> Reply
-    ensures { locked.new.table ≡ locked.old.table }
+    ensures { locked.new.caller ≡ locked.old.caller }
 {
     locked.retain(|_key, value| value % 2 == 0);
     Reply::Count(locked.len())
@@ -98,7 +98,7 @@ fn retain_even(locked: &mut NumLocked<'_>) -> Reply
 
 /// Makes the call.
 fn answer(locked: &mut NumLocked<'_>, call: Call) -> Reply
-    ensures { locked.new.table ≡ locked.old.table }
+    ensures { locked.new.caller ≡ locked.old.caller }
 {
     match call {
         Call::Find(key) => Reply::Was(locked.find(&NumKey(key)).copied()),
@@ -313,7 +313,7 @@ static SESSIONS: [Session; 8] = [
 ];
 
 fn make_calls(rt: &impl Abort, locked: &mut NumLocked<'_>, session: &Session)
-    ensures { locked.new.table ≡ locked.old.table }
+    ensures { locked.new.caller ≡ locked.old.caller }
 {
     let what = session.what;
     for (number, (call, want)) in session.calls.iter().enumerate() {
@@ -550,7 +550,7 @@ fn agree(
     plain: &mut PlainMap,
     call: Call,
 ) -> Result<bool, AllocError>
-    ensures { locked.new.table ≡ locked.old.table }
+    ensures { locked.new.caller ≡ locked.old.caller }
 {
     let reply = answer(locked, call);
     let name = name_of(alloc, key_of(call))?;
@@ -604,7 +604,7 @@ fn make_random_calls(
     locked: &mut NumLocked<'_>,
     plain: &mut PlainMap,
 ) -> Result<(), AllocError>
-    ensures { locked.new.table ≡ locked.old.table }
+    ensures { locked.new.caller ≡ locked.old.caller }
 {
     for number in 0..1000u32 {
         let same = agree(alloc, locked, plain, any_call(random))?;
@@ -712,7 +712,7 @@ fn drain(
     locked: &mut NumLocked<'_>,
     bound: &[(NumKey, u64)],
 ) -> Result<Vec<(NumKey, u64)>, AllocError>
-    ensures { locked.new.table ≡ locked.old.table }
+    ensures { locked.new.caller ≡ locked.old.caller }
 {
     for (key, value) in bound {
         let fresh = locked.insert(*key, *value);

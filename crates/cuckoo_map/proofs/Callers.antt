@@ -1,28 +1,106 @@
--- A call leaves its caller the table and the number.
-use Rattle.std.proofs.Common.{◌≡◌, Result, Ok, Err, Some, None, Bool, true, false, ap, ◌∙◌}
-use Rattle.std.specs.Prelude.{Option, IfOk, IfErr, MatchOption, MatchBool}
+-- What a call of the table leaves of the caller whose pass it had.
+use Rattle.std.proofs.Common.{◌≡◌, ℕ, ◌≤◌, List, ◌++◌, Result, Ok, Err, IfOk, IfErr, OnOk, sym, ap, ◌∙◌, subst}
+use Rattle.std.proofs.lemmas.Result.{IfOk-weaker}
+use Rattle.ck_model.specs.declared.history.Act.{Act}
+use Rattle.ck_model.specs.declared.history.Call.{Call}
+use Rattle.ck_model.specs.declared.history.Call.TheVariants.{On}
+use Rattle.ck_model.specs.declared.history.Reply.{Reply}
+use Rattle.ck_model.specs.declared.history.Reason.{Reason}
+use Rattle.ck_model.specs.Promise.{Name, Replied}
+use Rattle.ck_model.specs.Contents.{layout_of, IsStripeOf}
 use Rattle.ck_words.specs.Words.{WordsState}
 use Rattle.ck_words.specs.Passes.{PassState}
-use Rattle.cuckoo_map.specs.Callers.{CallerState, IsSameCaller}
+use Rattle.ck_words.specs.Retries.{StaysBut, FindsAmong}
+use Rattle.ck_words.specs.Answering.{IsAnswered, IsAnsweredBut, IsAnsweredOn}
+use Rattle.ck_words.specs.Closing.{IsCaller}
+use Rattle.ck_core.specs.State.{client_of}
+use Rattle.cuckoo_map.specs.declared.refusal.Refused.{Refused}
+use Rattle.cuckoo_map.specs.Refusals.{IsBusyAmong, FindsOwnUnlessFull}
+use Rattle.cuckoo_map.specs.Insertions.{IsInserted, HandsBack}
+use Rattle.cuckoo_map.specs.Callers.{CallerState, caller_of, pass_of, IsSameCaller, Replies, RepliesOn, KeepsNotesBut, KeepsNotes, NotesFull, ComesBack, FindsHeldUnlessFull}
 
-module _ {V : Type 0} where
-  pub same_caller : (c : CallerState V) (w : WordsState) (p q : PassState V) → ◌≡◌ {A = CallerState V} (record { table = w; pass = p }) c → q.view.by ≡ p.view.by
-      → IsSameCaller c (record { table = w; pass = q })
-  same_caller c w p q is by = record {
-    table = ap (λ (c : CallerState V). c.table) is;
-    by = by ∙ ap (λ (c : CallerState V). c.pass.view.by) is;
-  }
+-- a stripe of the name
+abbrev pub OfName : (Name → ℕ) → Name → WordsState → ℕ → Type 0
+OfName hash q w t = IsStripeOf (layout_of hash w.settings) q t
 
 -- a fact that holds in both cases
-module _ {Z : Type 0} where
-  pub by_result : {A E : Type 0} {P : A → Type 0} {Q : E → Type 0} (r : Result A E) → IfOk r P → IfErr r Q → ((a : A) → P a → Z) → ((e : E) → Q e → Z) → Z
-  by_result (Ok a) p q f g = f a p
-  by_result (Err e) p q f g = g e q
+pub by_result : {A E Z : Type 0} {P : A → Type 0} {Q : E → Type 0} (r : Result A E) → IfOk r P → IfErr r Q → ((a : A) → P a → Z) → ((e : E) → Q e → Z) → Z
+by_result (Ok a) p q f g = f a p
+by_result (Err e) p q f g = g e q
 
-  pub by_option : {A : Type 0} {X : Type 0} {Y : A → Type 0} (o : Option A) → MatchOption o X Y → (X → Z) → ((a : A) → Y a → Z) → Z
-  by_option None m f g = f m
-  by_option (Some a) m f g = g a m
+module _ {V : Type 0} where
+  -- the pass of a caller is its own
+  pub as_pass : {w : WordsState} {p : PassState V} → IsCaller w p → pass_of (caller_of w p) ≡ p
+  as_pass {w} {p} caller = λ j. record p { table = sym caller.own.0 j; view = record p.view { held = sym caller.idle.1 j; others = sym caller.alone j }; stripes = sym caller.idle.0 j }
 
-  pub by_bool : {X Y : Type 0} (b : Bool) → MatchBool b X Y → (X → Z) → (Y → Z) → Z
-  by_bool true m f g = f m
-  by_bool false m f g = g m
+  -- What a look-up or a change leaves of its caller: it is answered, or found a stripe of these busy.
+  pub record QueryLeaves {A E : Type 0} (T : A → Type 0) (P : WordsState → ℕ → Type 0) (stripe : E → ℕ) (r : Result A E) (c d : CallerState V) : Type 0 where
+    pub same : IsSameCaller c d
+    pub answered : IfOk r T
+    pub notes : OnOk r (KeepsNotes c d)
+    pub busy : IfErr r (λ e. IsBusyAmong (P c.table) c.table.settings (stripe e) (pass_of c) (pass_of d))
+    pub found : FindsAmong (P c.table) (pass_of c) (pass_of d)
+
+  -- What an insertion leaves of its caller: it is answered, or handed back.
+  pub record InsertionLeaves {A K X : Type 0} (T : A → Type 0) (hash : Name → ℕ) (name : Name) (key : K) (x : X) (r : Result A (Refused K X)) (c d : CallerState V) : Type 0 where
+    pub same : IsSameCaller c d
+    pub answered : IfOk r T
+    pub notes : OnOk r (NotesFull name c d)
+    pub refused : IfErr r (ComesBack hash name key x c d)
+    pub found : FindsHeldUnlessFull hash name c d
+
+  -- the call had the pass p of the caller c, and left q
+  module _ {w : WordsState} {c : CallerState V} (p q : PassState V) (is : caller_of w p ≡ c) where
+    pub same_caller : q.view.by ≡ p.view.by → IsSameCaller c (caller_of w q)
+    same_caller by = record {
+      table = ap (λ (x : CallerState V). x.table) is;
+      by = by ∙ ap (λ (x : CallerState V). x.client.by) is;
+    }
+
+    pub keeps_notes : {more : List (Name × Reason)} → StaysBut more (record p.view { seen = q.view.seen; mine = q.view.mine }) q.view → KeepsNotesBut more c (caller_of w q)
+    keeps_notes {more} s = record {
+      settings = s.settings ∙ ap (λ (x : CallerState V). x.client.settings) is;
+      told = subst (λ (x : CallerState V). x.notes.told ≤ q.view.told) is s.told;
+      heard = (s.heard.0 ∙ ap (λ (x : CallerState V). x.notes.heard) is, s.heard.1 ∙ ap (λ (x : CallerState V). x.notes.heard_told) is);
+      noroom = s.noroom ∙ ap (λ (x : CallerState V). more ++ x.notes.noroom) is;
+    }
+
+    -- it was answered
+    pub replied : (call : Call V) {more : List (Name × Reason)} {reply : Reply V} → IsAnsweredBut more call reply p q → Replied call reply c.client (client_of q.view)
+    replied call {more} {reply} a = subst (λ (x : CallerState V). Replied call reply x.client (client_of q.view)) is a.replied
+
+    pub replies : (call : Call V) (reply : Reply V) → IsAnswered call reply p q → Replies call c (caller_of w q) reply × (IsSameCaller c (caller_of w q) × KeepsNotes c (caller_of w q))
+    replies call reply a = (replied call a, (same_caller a.stays.by, keeps_notes a.stays))
+
+    pub replies_on : (name : Name) (act : Act V) (reply : Reply V) → IsAnsweredOn name p q act reply → RepliesOn name c (caller_of w q) act reply × (IsSameCaller c (caller_of w q) × KeepsNotes c (caller_of w q))
+    replies_on name act reply a = replies (On name act) reply a
+
+    pub replies_inserting : (name : Name) (act : Act V) (reply : Reply V) → IsInserted name p q act reply → RepliesOn name c (caller_of w q) act reply × (IsSameCaller c (caller_of w q) × NotesFull name c (caller_of w q))
+    replies_inserting name act reply a = (replied (On name act) a.2, (same_caller a.2.stays.by, (a.0, a.1, keeps_notes a.2.stays)))
+
+    module _ (before : IsCaller w p) (after : IsCaller w q) where
+      -- what holds of the passes holds of those of the callers
+      pub over : (P : WordsState → PassState V → PassState V → Type 0) → P w p q → P c.table (pass_of c) (pass_of (caller_of w q))
+      over P h =
+          subst (λ (x : CallerState V). P x.table (pass_of x) (pass_of (caller_of w q))) is
+          (subst (λ (x : PassState V × PassState V). P w x.0 x.1) (λ j. (sym (as_pass before) j, sym (as_pass after) j)) h)
+
+      pub query : {A E : Type 0} {T : A → Type 0} (P : WordsState → ℕ → Type 0) (stripe : E → ℕ) (r : Result A E) → IfOk r (λ a. T a × (IsSameCaller c (caller_of w q) × KeepsNotes c (caller_of w q)))
+          → IfErr r (λ e. IsBusyAmong (P w) w.settings (stripe e) p q) → FindsAmong (P w) p q → QueryLeaves T P stripe r c (caller_of w q)
+      query {A} {E} {T} P stripe r told busy found = record {
+        same = by_result r told busy (λ a h. h.1.0) (λ e h. same_caller h.stays.by);
+        answered = IfOk-weaker r _ _ (λ a h. h.0) told;
+        notes = IfOk-weaker r _ _ (λ a h. h.1.1) told;
+        busy = over (λ v a b. IfErr r (λ e. IsBusyAmong (P v) v.settings (stripe e) a b)) busy;
+        found = over (λ v a b. FindsAmong (P v) a b) found;
+      }
+
+      pub insertion : {A K X : Type 0} {T : A → Type 0} (hash : Name → ℕ) (name : Name) (key : K) (x : X) (r : Result A (Refused K X)) → IfOk r (λ a. T a × (IsSameCaller c (caller_of w q) × NotesFull name c (caller_of w q)))
+          → IfErr r (HandsBack hash w.settings name key x p q) → FindsOwnUnlessFull hash w.settings name p q → InsertionLeaves T hash name key x r c (caller_of w q)
+      insertion hash name key x r told refused found = record {
+        same = by_result r told refused (λ a h. h.1.0) (λ e h. same_caller h.2.stays.by);
+        answered = IfOk-weaker r _ _ (λ a h. h.0) told;
+        notes = IfOk-weaker r _ _ (λ a h. h.1.1) told;
+        refused = over (λ v a b. IfErr r (HandsBack hash v.settings name key x a b)) refused;
+        found = over (λ v a b. FindsOwnUnlessFull hash v.settings name a b) found;
+      }

@@ -10,7 +10,7 @@ use Rattle.ck_model.specs.declared.history.Reply.{Reply}
 use Rattle.ck_model.specs.declared.history.Reply.TheVariants.{Was, Done}
 use Rattle.ck_model.specs.declared.history.Reason.{Reason}
 use Rattle.ck_model.specs.declared.settings.Settings.{Settings}
-use Rattle.ck_model.specs.Promise.{Name, Answered, Follows}
+use Rattle.ck_model.specs.Promise.{Name, Client, Replied}
 use Rattle.ck_model.specs.Contents.{layout, layout_of, Lawful}
 use Rattle.ck_model.specs.Sections.{Owns, Section}
 use Rattle.ck_model.proofs.Histories.{subhistory-append}
@@ -42,28 +42,30 @@ module _ {V : Type 0} where
   abbrev pub IsStep : (Name → ℕ) → ℕ → List (StripeState V) → List (StripeState V) → Call V → Reply V → Type 0
   IsStep hash s old new call reply = (max : ℕ) → Lawful (layout hash s max) (contents_of old) → Section (layout hash s max) (contents_of old) call reply (contents_of new)
 
+  -- to what a caller had seen came entries of others, and then the call was answered
+  pub replied_since : {more : List (Name × Reason)} {v w : View V} → StaysBut more v w → (call : Call V) (reply : Reply V) (d : Client V) → Replied call reply (client_of w) d → Replied call reply (client_of v) d
+  replied_since {more} {v} {w} s call reply d a =
+      let e : Entry V = record { by = a.by; call = call; reply = reply } in
+      let by : v.by ≡ Some a.by = sym s.by ∙ a.number in
+      record {
+        by = a.by;
+        number = by;
+        answered = record {
+          others = s.seen.0 ++ a.answered.others;
+          seen = a.answered.seen ∙ joined_on v.seen s.seen.0 a.answered.others (e ∷ []) w.seen s.seen.1;
+          by_others = subhistory-append a.by s.seen.0 a.answered.others ∙ λ j. s.by_others a.by by j ++ a.answered.by_others j;
+          legal = a.answered.legal;
+          mine = a.answered.mine ∙ ap (λ l. l ++ e ∷ []) s.mine;
+        };
+        alone = λ one. a.alone (ap (λ (x : Settings). x.callers) s.settings ∙ one) ∙ ap (λ l. l ++ e ∷ []) (s.alone one);
+      }
+
   -- the call was answered after the stripes were taken
   pub answered_since : (more : List (Name × Reason)) (p p1 p2 z : PassState V) → StaysBut more p.view p1.view → p2.view ≡ p1.view → (call : Call V) (reply : Reply V) → IsAnswered call reply p2 z → IsAnsweredBut more call reply p z
   answered_since more p p1 p2 z s same call reply a =
-      let e : Entry V = record { by = a.replied.by; call = call; reply = reply } in
-      let told : Answered (client_of p1.view) e (client_of z.view) = subst (λ (v : View V). Answered (client_of v) e (client_of z.view)) same a.replied.answered in
       let rest : StaysBut [] (record p1.view { seen = z.view.seen; mine = z.view.mine }) z.view = subst (λ (v : View V). StaysBut [] (record v { seen = z.view.seen; mine = z.view.mine }) z.view) same a.stays in
-      let by : p.view.by ≡ Some a.replied.by = sym s.by ∙ (ap (λ (v : View V). v.by) (sym same) ∙ a.replied.number) in
       record {
-        replied = record {
-          by = a.replied.by;
-          number = by;
-          answered = record {
-            others = s.seen.0 ++ told.others;
-            seen = told.seen ∙ joined_on p.view.seen s.seen.0 told.others (e ∷ []) p1.view.seen s.seen.1;
-            by_others = subhistory-append a.replied.by s.seen.0 told.others ∙ λ j. s.by_others a.replied.by by j ++ told.by_others j;
-            legal = told.legal;
-            mine = told.mine ∙ ap (λ l. l ++ e ∷ []) s.mine;
-          };
-          alone = λ one.
-              let next : Follows (client_of p1.view) e (client_of z.view) = subst (λ (v : View V). v.settings.callers ≡ 1 → Follows (client_of v) e (client_of z.view)) same a.replied.alone (ap (λ (x : Settings). x.callers) s.settings ∙ one) in
-              next ∙ ap (λ l. l ++ e ∷ []) (s.alone one);
-        };
+        replied = replied_since s call reply (client_of z.view) (subst (λ (v : View V). Replied call reply (client_of v) (client_of z.view)) same a.replied);
         stays = record {
           settings = rest.settings ∙ s.settings;
           by = rest.by ∙ s.by;

@@ -21,8 +21,7 @@ use Rattle.ck_words.specs.Passes.{PassState}
 use Rattle.ck_words.proofs.Reversed.{of_reverse}
 use Rattle.cuckoo_map.specs.declared.refusal.GrowFault.{GrowFault}
 use Rattle.cuckoo_map.specs.declared.refusal.GrowFault.TheVariants.{Memory}
-use Rattle.cuckoo_map.specs.Locking.{LockedState, map_of, locked_power, IsLocked, KeepsMap}
-use Rattle.cuckoo_map.specs.Growth.{RehashesLocked}
+use Rattle.cuckoo_map.specs.Locking.{LockedState, locked_of, map_of, locked_power, IsLocked, KeepsMap, RehashesLocked}
 use Rattle.cuckoo_map.proofs.Growing.{settles_table}
 use Rattle.cuckoo_map.proofs.Sessions.{locked_again, not_below, had_all, counts_locked, few_locked}
 
@@ -53,7 +52,7 @@ module _ {V : Type 0} where
     some : 0 < length p.stripes
     some = subst (λ n. 0 < n) (sym l.table.count) (pow_pos w.settings.s)
 
-    pub power_shows : power_in p.stripes ≡ locked_power (record { table = w; pass = p })
+    pub power_shows : power_in p.stripes ≡ locked_power (locked_of w p)
     power_shows = sym (power_shown p.stripes some)
 
     -- is one that the table may have
@@ -70,8 +69,8 @@ module _ {V : Type 0} where
         let least : w.settings.power ≤ p.view.told = l.own.4 in
         ((let low : w.settings.power ≤ first.content.power = omega arith in low), most)
 
-    pub power_within : (s : LockedState V) → ◌≡◌ {A = LockedState V} (record { table = w; pass = p }) s → (s.table.settings.power ≤ locked_power s) × (locked_power s ≤ s.table.settings.max)
-    power_within s is = subst (λ (x : LockedState V). (x.table.settings.power ≤ locked_power x) × (locked_power x ≤ x.table.settings.max)) is
+    pub power_within : (s : LockedState V) → locked_of w p ≡ s → (s.caller.table.settings.power ≤ locked_power s) × (locked_power s ≤ s.caller.table.settings.max)
+    power_within s is = subst (λ (x : LockedState V). (x.caller.table.settings.power ≤ locked_power x) × (locked_power x ≤ x.caller.table.settings.max)) is
         (subst (λ n. (w.settings.power ≤ n) × (n ≤ w.settings.max)) power_shows within)
 
   -- Stripes of a locked table doubled up to a power, and were settled.
@@ -87,15 +86,14 @@ module _ {V : Type 0} where
         locked_again hash w p q l kept there.table there.settled (keeps l.renewed.lawful).renewed
 
     abbrev old : LockedState V
-    old = record { table = w; pass = p }
+    old = locked_of w p
 
     abbrev new : LockedState V
-    new = record { table = w; pass = q }
+    new = locked_of w q
 
     keeps_map_so : KeepsMap old new
     keeps_map_so = record {
-      table = refl;
-      view = ap (λ (x : PassState V). x.view) kept;
+      session = ap (λ (x : PassState V). record (locked_of w x) { stripes = q.stripes }) kept;
       same = (keeps l.renewed.lawful).same_bindings;
     }
 
@@ -128,7 +126,7 @@ module _ {V : Type 0} where
       grown = λ e. absurd (false≢true (let is : false ≡ true = cc in is));
       enough = λ e. (
         (let a = before in let high : power ≤ locked_power old = omega (arith, m.0) in high),
-        (λ j. record { table = w; pass = (kept ∙ (λ i. record p { stripes = m.1 i })) j }),
+        ap (λ (x : PassState V). locked_of w x) (kept ∙ (λ i. record p { stripes = m.1 i })),
       );
       short = λ e. absurd (cc);
       busy = λ t e. absurd (cc);
@@ -157,7 +155,7 @@ module _ {V : Type 0} where
       refused e m = subst (λ (x : Result Bool GrowFault × LockedState V). RehashesLocked power x.0 x.1 new) (λ j. (sym e j, is j)) (falls_short m)
 
 -- the power that the first of all stripes has, as code read it
-pub first_power : {V : Type 0} {hash : Name → ℕ} {w : WordsState} {p : PassState V} (l : IsLocked hash w p) {s : LockedState V} → ◌≡◌ {A = LockedState V} (record { table = w; pass = p }) s → (stripes : List (StripeState V)) → stripes ≡ p.stripes
+pub first_power : {V : Type 0} {hash : Name → ℕ} {w : WordsState} {p : PassState V} (l : IsLocked hash w p) {s : LockedState V} → locked_of w p ≡ s → (stripes : List (StripeState V)) → stripes ≡ p.stripes
     → (t : StripeState V) → t ≡ slice_index_or stripes 0 t → (power : ℕ) → power ≡ t.content.power → power ≡ locked_power s
 first_power {V} {hash} {w} {p} l {s} is stripes same t read power shown =
     let inside : 0 < length stripes = subst (λ (ss : List (StripeState V)). 0 < length ss) (sym same) (subst (λ n. 0 < n) (sym l.table.count) (pow_pos w.settings.s)) in
@@ -166,7 +164,7 @@ first_power {V} {hash} {w} {p} l {s} is stripes same t read power shown =
     ∙ (power_shows l ∙ ap (λ (x : LockedState V). locked_power x) is))
 
 -- a locked table binds no more names than it has slots at any power
-pub few_keys : {V : Type 0} {hash : Name → ℕ} {w : WordsState} {p : PassState V} (l : IsLocked hash w p) {s : LockedState V} → ◌≡◌ {A = LockedState V} (record { table = w; pass = p }) s → (n : ℕ) → n ≡ len (map_of s) → n ≤ 2 ^ 38
+pub few_keys : {V : Type 0} {hash : Name → ℕ} {w : WordsState} {p : PassState V} (l : IsLocked hash w p) {s : LockedState V} → locked_of w p ≡ s → (n : ℕ) → n ≡ len (map_of s) → n ≤ 2 ^ 38
 few_keys {V} {hash} {w} {p} l {s} is n shown =
     let same : n ≡ length (pairs_of (contents_of p.stripes)) = shown ∙ (sym (ap (λ (x : LockedState V). len (map_of x)) is) ∙ sym (counts_locked hash w p l)) in
     subst (λ x. x ≤ 2 ^ 38) (sym same) (few_locked hash w p l)

@@ -49,7 +49,7 @@ use Rattle.ck_words.proofs.Reversed.{in_of_reverse, bindings-reverse}
 use Rattle.ck_words.proofs.Seating.{length-numbers, number_at}
 use Rattle.ck_words.proofs.WholeTables.{lawful_held}
 use Rattle.cuckoo_map.specs.Refusals.{IsStripeIn, why_of}
-use Rattle.cuckoo_map.specs.Locking.{LockedState, map_of, IsLocked, HasLocked, HasActed, Clears, Lists, KeepsMap, LacksRoom, SeeksRoom, Retains}
+use Rattle.cuckoo_map.specs.Locking.{LockedState, locked_of, map_of, IsSameSession, IsLocked, HasLocked, HasActed, Clears, Lists, KeepsMap, LacksRoom, SeeksRoom, Retains}
 use Rattle.cuckoo_map.proofs.Sizes.{renewed_same, has_all, few_of_each}
 
 same_list : (xs ys : List ℕ) → length xs ≡ length ys → ((i : ℕ) → i < length xs → get_or xs i 0 ≡ get_or ys i 0) → xs ≡ ys
@@ -68,6 +68,10 @@ module _ {V : Type 0} where
   -- nothing but what the stripes are has changed
   pub only_stripes : (p q : PassState V) → (q.table ≡ p.table) × (q.view ≡ p.view) → q ≡ record p { stripes = q.stripes }
   only_stripes p q same = λ j. record { table = same.0 j; view = same.1 j; stripes = q.stripes }
+
+  -- and so a locked table is still in one session
+  pub same_session : (w : WordsState) (p q : PassState V) → q ≡ record p { stripes = q.stripes } → (s : LockedState V) → locked_of w p ≡ s → IsSameSession s (locked_of w q)
+  same_session w p q kept s is = ap (λ (x : PassState V). record (locked_of w x) { stripes = q.stripes }) kept ∙ ap (λ (x : LockedState V). record x { stripes = q.stripes }) is
 
   pub numbered : (s : ℕ) (ss : List (StripeState V)) → IsTable s ss → numbers_of ss ≡ counting 0 (2 ^ s)
   numbered s ss t =
@@ -163,10 +167,10 @@ module _ {V : Type 0} where
         found_reply (get m q) o (get m q) (acted place same q Find (Was o) p.stripes call).step.0
 
     -- where room was made, the name is not without it
-    pub not_without : (place : KeyPlace) → place.s ≡ w.settings.s → (q : Name) (s : LockedState V) → ◌≡◌ {A = LockedState V} (record { table = w; pass = p }) s
-        → ¬ (HasNoRoom (layout_of hash s.table.settings) (contents_of s.pass.stripes) q) → IsWithoutRoom hash place.s p.stripes q → ⊥
+    pub not_without : (place : KeyPlace) → place.s ≡ w.settings.s → (q : Name) (s : LockedState V) → locked_of w p ≡ s
+        → ¬ (HasNoRoom (layout_of hash s.caller.table.settings) (contents_of s.stripes) q) → IsWithoutRoom hash place.s p.stripes q → ⊥
     not_without place same q s is room none =
-        subst (λ (x : LockedState V). ¬ (HasNoRoom (layout_of hash x.table.settings) (contents_of x.pass.stripes) q)) (sym is) room
+        subst (λ (x : LockedState V). ¬ (HasNoRoom (layout_of hash x.caller.table.settings) (contents_of x.stripes) q)) (sym is) room
         (subst (λ s. HasNoRoom (layout hash s w.settings.max) (contents_of p.stripes) q) same
         (none w.settings.max (subst (λ s. Lawful (layout hash s w.settings.max) (contents_of p.stripes)) (sym same) l.renewed.lawful)))
 
@@ -175,7 +179,7 @@ module _ {V : Type 0} where
     counts_locked = sym (len-bindings (layout_of hash w.settings) (contents_of p.stripes) l.renewed.lawful)
 
     -- all pairs in the slots
-    pub lists_locked : (pairs : List (Name × V)) → pairs ≡ pairs_of (contents_of p.stripes) → (s : LockedState V) → ◌≡◌ {A = LockedState V} (record { table = w; pass = p }) s → Lists pairs (map_of s)
+    pub lists_locked : (pairs : List (Name × V)) → pairs ≡ pairs_of (contents_of p.stripes) → (s : LockedState V) → locked_of w p ≡ s → Lists pairs (map_of s)
     unfolding bindings
     lists_locked pairs all s is = record {
       same = ap from_entries all ∙ ap map_of is;
@@ -205,18 +209,29 @@ module _ {V : Type 0} where
     session_done q same = subst (λ (x : PassState V). HasDone hash w.settings (session_of x) Closed x) (sym same)
         (λ lawful. record { renewed = l.renewed; owns = had_all hash w p l; step = (refl, refl, refl) })
 
-  pub has_locked : (hash : Name → ℕ) (w : WordsState) (p p1 : PassState V) → Stays p.view p1.view → IsWhole hash w.settings p1 → FindsAmong (IsStripeIn w.settings) p p1 → HasLocked w p (record { table = w; pass = p1 })
-  has_locked hash w p p1 stays whole found = record {
+  pub has_locked : (hash : Name → ℕ) (w : WordsState) (p p1 : PassState V) → IsCaller w p → Stays p.view p1.view → IsWhole hash w.settings p1 → FindsAmong (IsStripeIn w.settings) p p1 → HasLocked w p (locked_of w p1)
+  has_locked hash w p p1 caller stays whole found = record {
     table = refl;
-    stays = stays;
+    stays = record {
+      settings = stays.settings;
+      by = stays.by;
+      mine = stays.mine;
+      others = sym caller.alone;
+      heard = stays.heard;
+      noroom = stays.noroom;
+      seen = stays.seen;
+      by_others = stays.by_others;
+      alone = stays.alone;
+      told = stays.told;
+    };
     found = found;
     after = after_all hash w p p1 stays whole;
     same = ap bindings whole.unchanged;
   }
 
   -- a place among the stripes that s shows is one among those that are held
-  pub place_held : {hash : Name → ℕ} {w : WordsState} {p : PassState V} {s : LockedState V} → ◌≡◌ {A = LockedState V} (record { table = w; pass = p }) s → (name : Name) (place : KeyPlace) → IsPlaceOf hash s.pass.stripes name place → IsPlaceOf hash p.stripes name place
-  place_held {hash} is name place at = subst (λ (x : LockedState V). IsPlaceOf hash x.pass.stripes name place) (sym is) at
+  pub place_held : {hash : Name → ℕ} {w : WordsState} (p : PassState V) {s : LockedState V} → locked_of w p ≡ s → (name : Name) (place : KeyPlace) → IsPlaceOf hash s.stripes name place → IsPlaceOf hash p.stripes name place
+  place_held {hash} p is name place at = subst (λ (x : LockedState V). IsPlaceOf hash x.stripes name place) (sym is) at
 
   -- the contents of all stripes of a locked table changed
   module _ {hash : Name → ℕ} {w : WordsState} {p : PassState V} (l : IsLocked hash w p) (q : PassState V) (kept : q ≡ record p { stripes = q.stripes }) where
@@ -225,29 +240,27 @@ module _ {V : Type 0} where
     changed_locked changes renewed =
         locked_again hash w p q l kept (table_after w.settings.s p.stripes q.stripes l.table changes) (settled_after w.settings.s p.stripes q.stripes l.settled changes) renewed
 
-    module _ {s : LockedState V} (is : ◌≡◌ {A = LockedState V} (record { table = w; pass = p }) s) where
+    module _ {s : LockedState V} (is : locked_of w p ≡ s) where
       -- all names were unbound
-      pub clears_map : ChangesContents p.stripes q.stripes → ClearsBindings (layout_of hash w.settings) p.stripes q.stripes → Clears s (record { table = w; pass = q })
+      pub clears_map : ChangesContents p.stripes q.stripes → ClearsBindings (layout_of hash w.settings) p.stripes q.stripes → Clears s (locked_of w q)
       clears_map changes clears = record {
-        table = ap (λ (x : LockedState V). x.table) is;
-        view = ap (λ (x : PassState V). x.view) kept ∙ ap (λ (x : LockedState V). x.pass.view) is;
-        power = power_kept p.stripes q.stripes changes ∙ ap (λ (x : LockedState V). power_of (contents_of x.pass.stripes)) is;
+        session = same_session w p q kept s is;
+        power = power_kept p.stripes q.stripes changes ∙ ap (λ (x : LockedState V). power_of (contents_of x.stripes)) is;
         none = (clears l.renewed.lawful).1;
       }
 
       -- and they were what this says of their pairs
       pub drains_map : {A E : Type 0} (P : A → Type 0) (r : Result A E) → OnOk r (ChangesContents p.stripes q.stripes) → OnOk r (ClearsBindings (layout_of hash w.settings) p.stripes q.stripes) → IfOk r P
-          → IfOk r (λ pairs. P pairs × Clears s (record { table = w; pass = q }))
+          → IfOk r (λ pairs. P pairs × Clears s (locked_of w q))
       drains_map P (Ok pairs) changes clears says = (says, clears_map changes clears)
       drains_map P (Err e) changes clears says = tt
 
       -- those pairs stayed for which a closure answered true
       pub retains_map : {F K : Type 0} (g : Mut F (Bor K × (Bor V × Unit {0})) Bool) (name : K → Name) (f : F) → ChangesContents p.stripes q.stripes → RetainsBindings g name f (layout_of hash w.settings) p.stripes q.stripes
-          → Retains g name f s (record { table = w; pass = q })
+          → Retains g name f s (locked_of w q)
       retains_map g name f changes retains = record {
-        table = ap (λ (x : LockedState V). x.table) is;
-        view = ap (λ (x : PassState V). x.view) kept ∙ ap (λ (x : LockedState V). x.pass.view) is;
-        power = power_kept p.stripes q.stripes changes ∙ ap (λ (x : LockedState V). power_of (contents_of x.pass.stripes)) is;
+        session = same_session w p q kept s is;
+        power = power_kept p.stripes q.stripes changes ∙ ap (λ (x : LockedState V). power_of (contents_of x.stripes)) is;
         pairs = subst (λ (x : LockedState V). RetainsMap g name f (map_of x) (bindings (contents_of q.stripes))) is (retains l.renewed.lawful).1;
       }
 
@@ -257,20 +270,19 @@ module _ {V : Type 0} where
     drained_locked (Err e) changes clears same = subst (λ (x : PassState V). IsLocked hash w x) (sym same) l
 
   -- The table is locked, as s shows it. A call was made on its stripes, and nothing else changed.
-  module _ {hash : Name → ℕ} {w : WordsState} {p : PassState V} {s : LockedState V} (l : IsLocked hash w p) (is : ◌≡◌ {A = LockedState V} (record { table = w; pass = p }) s) (place : KeyPlace) (same : place.s ≡ s.table.settings.s)
+  module _ {hash : Name → ℕ} {w : WordsState} {p : PassState V} {s : LockedState V} (l : IsLocked hash w p) (is : locked_of w p ≡ s) (place : KeyPlace) (same : place.s ≡ s.caller.table.settings.s)
       (name : Name) (q : PassState V) (kept : q ≡ record p { stripes = q.stripes }) (act : Act V) (reply : Reply V) where
     of_table : place.s ≡ w.settings.s
-    of_table = same ∙ sym (ap (λ (x : LockedState V). x.table.settings.s) is)
+    of_table = same ∙ sym (ap (λ (x : LockedState V). x.caller.table.settings.s) is)
 
     -- it is still locked
     pub acted_locked : ChangesContents p.stripes q.stripes → IsCallOn hash place.s p.stripes name act reply q.stripes → IsLocked hash w q
     acted_locked changes call = changed_locked l q kept changes (acted hash w p l place of_table name act reply q.stripes call).renewed
 
     -- the call is what was done to its map
-    pub has_acted : IsCallOn hash place.s p.stripes name act reply q.stripes → HasActed name s (record { table = w; pass = q }) act reply
+    pub has_acted : IsCallOn hash place.s p.stripes name act reply q.stripes → HasActed name s (locked_of w q) act reply
     has_acted call = record {
-      table = ap (λ (x : LockedState V). x.table) is;
-      view = ap (λ (x : PassState V). x.view) kept ∙ ap (λ (x : LockedState V). x.pass.view) is;
+      session = same_session w p q kept s is;
       step = subst (λ (x : LockedState V). Step (map_of x) (On name act) reply (bindings (contents_of q.stripes))) is (acted hash w p l place of_table name act reply q.stripes call).step;
     }
 
@@ -293,29 +305,27 @@ module _ {V : Type 0} where
     pub sought_locked : IsLocked hash w q
     sought_locked = locked_again hash w p q l kept seeks.held.table seeks.held.settled (seeks.no_call l.renewed.lawful).renewed
 
-    pub keeps_map : (s : LockedState V) → ◌≡◌ {A = LockedState V} (record { table = w; pass = p }) s → KeepsMap s (record { table = w; pass = q })
+    pub keeps_map : (s : LockedState V) → locked_of w p ≡ s → KeepsMap s (locked_of w q)
     keeps_map s is = record {
-      table = ap (λ (x : LockedState V). x.table) is;
-      view = ap (λ (x : PassState V). x.view) kept ∙ ap (λ (x : LockedState V). x.pass.view) is;
+      session = same_session w p q kept s is;
       same = (seeks.no_call l.renewed.lawful).same_bindings ∙ ap map_of is;
     }
 
     pub has_room : OnOk found (¬ (HasNoRoom (layout_of hash w.settings) (contents_of q.stripes) name))
     has_room = IfOk-weaker found _ _ (λ x room. room l.renewed.lawful) seeks.room
 
-    pub lacks_room : (s : LockedState V) → ◌≡◌ {A = LockedState V} (record { table = w; pass = p }) s → IfErr found (λ lack. LacksRoom hash name (why_of lack) s (record { table = w; pass = q }))
+    pub lacks_room : (s : LockedState V) → locked_of w p ≡ s → IfErr found (λ lack. LacksRoom hash name (why_of lack) s (locked_of w q))
     lacks_room s is = IfErr-weaker found _ _
         (λ lack grounds. record {
           kept = keeps_map s is;
           lack = lack;
           is = refl;
-          grounds = subst (λ (x : LockedState V). Grounds (layout_of hash x.table.settings) x.table.settings.min_load (contents_of q.stripes) name (reason_of_lack lack)) is (grounds l.renewed.lawful);
+          grounds = subst (λ (x : LockedState V). Grounds (layout_of hash x.caller.table.settings) x.caller.table.settings.min_load (contents_of q.stripes) name (reason_of_lack lack)) is (grounds l.renewed.lawful);
         }) seeks.refused
 
   -- what was done once room was made
   pub acted_since : (q : Name) (act : Act V) (reply : Reply V) (l m n : LockedState V) → KeepsMap l m → HasActed q m n act reply → HasActed q l n act reply
   acted_since q act reply l m n kept acts = record {
-    table = acts.table ∙ kept.table;
-    view = acts.view ∙ kept.view;
+    session = acts.session ∙ ap (λ (x : LockedState V). record x { stripes = n.stripes }) kept.session;
     step = subst (λ x. Step x (On q act) reply (map_of n)) kept.same acts.step;
   }

@@ -1,12 +1,13 @@
--- Which act an insertion was, by what it answered.
-use Rattle.std.proofs.Common.{inl, inr, ⊎_elim, Bool, true, false, Option, Some, Result, Ok, Err, refl, subst}
+-- Which act a call was, by what it answered.
+use Rattle.std.proofs.Common.{inl, inr, ⊎_elim, Bool, true, false, Option, Some, None, Result, Ok, Err, refl, subst}
 use Rattle.ck_model.specs.declared.history.Act.{Act}
 use Rattle.ck_model.specs.declared.history.Act.TheVariants.{Upsert, Erase}
 use Rattle.ck_model.specs.declared.history.Reply.{Reply}
 use Rattle.ck_model.specs.declared.history.Reply.TheVariants as replies
 use Rattle.ck_section.specs.declared.one_key.Uprased.{Uprased}
 use Rattle.ck_section.specs.declared.one_key.Uprased.TheVariants.{New, Changed, Erased}
-use Rattle.ck_section.specs.Acts.{IsAct, InsertsBy, FindsOrInserts, Upserts, Uprases, TriesUpsert}
+use Rattle.ck_section.specs.Acts.{IsAct, Finds, FindsBound, FindsBy, Inserts, InsertsBy, FindsOrInserts, Assigns, Upserts, Uprases, TriesUpsert}
+use Rattle.ck_section.specs.Acts.{Updates, Changes, ReplacesIf, TriesChange, Erases, ErasesBy, ChangesTwo}
 
 -- the act that is committed, where an uprase with this value answers so
 abbrev pub uprase_act : {V : Type 0} → V → Uprased → Act V
@@ -14,26 +15,92 @@ uprase_act value New = Upsert value
 uprase_act value Changed = Upsert value
 uprase_act value Erased = Erase
 
+-- P gives Q of an act with its reply, and this besides
+module _ {V Z : Type 0} {P Q : Act V → Reply V → Type 0} (f : (act : Act V) (reply : Reply V) → P act reply → Q act reply × Z) where
+  -- and so of those that an answer tells of
+  pub told_found : (value : Option V) → Finds P value → Finds Q value × Z
+  told_found value h = f _ _ h
+
+  pub told_bound : (bound : Bool) → FindsBound P bound → FindsBound Q bound × Z
+  told_bound true h = let x = f _ _ h.1 in ((h.0, x.0), x.1)
+  told_bound false h = f _ _ h
+
+  pub told_found_by : {R : Type 0} (answers : V → R → Type 0) (answer : Option R) → FindsBy answers P answer → FindsBy answers Q answer × Z
+  told_found_by answers None h = f _ _ h
+  told_found_by answers (Some r) h = let x = f _ _ h.2 in ((h.0, h.1, x.0), x.1)
+
+  pub told_inserted : (value : V) (fresh : Bool) → Inserts value P fresh → Inserts value Q fresh × Z
+  told_inserted value fresh h = f _ _ h
+
+  pub told_inserted_by : (makes : V → Type 0) (fresh : Bool) → InsertsBy makes P fresh → InsertsBy makes Q fresh × Z
+  told_inserted_by makes true h = let x = f _ _ h.2 in ((h.0, h.1, x.0), x.1)
+  told_inserted_by makes false h = let x = f _ _ h.1 in ((h.0, x.0), x.1)
+
+  pub told_found_or_inserted : (makes : V → Type 0) (v : V) → FindsOrInserts makes P v → FindsOrInserts makes Q v × Z
+  told_found_or_inserted makes v h = ⊎_elim (λ new. let x = f _ _ new.1 in (inl (new.0, x.0), x.1)) (λ found. let x = f _ _ found in (inr x.0, x.1)) h
+
+  pub told_assigned : (value : V) (old : Option V) → Assigns value P old → Assigns value Q old × Z
+  told_assigned value old h = f _ _ h
+
+  pub told_upserted : (makes : V → V → Type 0) (value : V) (fresh : Bool) → Upserts makes value P fresh → Upserts makes value Q fresh × Z
+  told_upserted makes value true h = f _ _ h
+  told_upserted makes value false h = let x = f _ _ h.3 in ((h.0, h.1, h.2, x.0), x.1)
+
+  pub told_uprased : (makes : V → Option V → Type 0) (value : V) (answer : Uprased) → Uprases makes value P answer → Uprases makes value Q answer × Z
+  told_uprased makes value New h = f _ _ h
+  told_uprased makes value Changed h = let x = f _ _ h.3 in ((h.0, h.1, h.2, x.0), x.1)
+  told_uprased makes value Erased h = let x = f _ _ h.2 in ((h.0, h.1, x.0), x.1)
+
+  pub told_tried : {E : Type 0} (makes : V → Result V (V × E) → Type 0) (value : V) (answer : Result Bool E) → TriesUpsert makes value P answer → TriesUpsert makes value Q answer × Z
+  told_tried makes value (Ok true) h = f _ _ h
+  told_tried makes value (Ok false) h = let x = f _ _ h.3 in ((h.0, h.1, h.2, x.0), x.1)
+  told_tried makes value (Err e) h = let x = f _ _ h.3 in ((h.0, h.1, h.2, x.0), x.1)
+
+  pub told_updated : (value : V) (old : Option V) → Updates value P old → Updates value Q old × Z
+  told_updated value old h = f _ _ h
+
+  pub told_changed : (makes : V → V → Type 0) (bound : Bool) → Changes makes P bound → Changes makes Q bound × Z
+  told_changed makes true h = let x = f _ _ h.3 in ((h.0, h.1, h.2, x.0), x.1)
+  told_changed makes false h = f _ _ h
+
+  pub told_replaced : (answers : V → Option V → Type 0) (answer : Option Bool) → ReplacesIf answers P answer → ReplacesIf answers Q answer × Z
+  told_replaced answers None h = f _ _ h
+  told_replaced answers (Some true) h = let x = f _ _ h.1.2 in ((h.0, (h.1.0, h.1.1, x.0)), x.1)
+  told_replaced answers (Some false) h = let x = f _ _ h.1.1 in ((h.0, (h.1.0, x.0)), x.1)
+
+  pub told_tried_change : {E : Type 0} (makes : V → Result V (V × E) → Type 0) (answer : Option (Result (Unit {0}) E)) → TriesChange makes P answer → TriesChange makes Q answer × Z
+  told_tried_change makes None h = f _ _ h
+  told_tried_change makes (Some outcome) h = let x = f _ _ h.3 in ((h.0, h.1, h.2, x.0), x.1)
+
+  pub told_erased : (old : Option V) → Erases P old → Erases Q old × Z
+  told_erased old h = f _ _ h
+
+  pub told_erased_by : (answers : V → Bool → Type 0) (answer : Option Bool) → ErasesBy answers P answer → ErasesBy answers Q answer × Z
+  told_erased_by answers None h = f _ _ h
+  told_erased_by answers (Some true) h = let x = f _ _ h.2 in ((h.0, h.1, x.0), x.1)
+  told_erased_by answers (Some false) h = let x = f _ _ h.2 in ((h.0, h.1, x.0), x.1)
+
 -- P holds of an act with its reply
 module _ {V : Type 0} (P : Act V → Reply V → Type 0) where
   -- and so of those that they are
   pub as_said : {act a : Act V} {reply r : Reply V} → IsAct act reply a r → P act reply → P a r
   as_said is h = subst (λ (x : Act V × Reply V). P x.0 x.1) (λ i. (is.0 i, is.1 i)) h
 
+  by_act : {act : Act V} {reply : Reply V} → P act reply → (a : Act V) (r : Reply V) → IsAct act reply a r → P a r × Unit {0}
+  by_act h a r is = (as_said is h, tt)
+
   -- an insertion of what the closure makes
   pub as_inserted : (makes : V → Type 0) (fresh : Bool) (act : Act V) (reply : Reply V) → InsertsBy makes (IsAct act reply) fresh → P act reply → InsertsBy makes P fresh
-  as_inserted makes true act reply told h = (told.0, told.1, as_said told.2 h)
-  as_inserted makes false act reply told h = (told.0, as_said told.1 h)
+  as_inserted makes fresh act reply told h = (told_inserted_by (by_act h) makes fresh told).0
 
   -- a look-up that inserts what the closure makes
   pub as_found : (makes : V → Type 0) (v : V) (act : Act V) (reply : Reply V) → FindsOrInserts makes (IsAct act reply) v → P act reply → FindsOrInserts makes P v
-  as_found makes v act reply told h = ⊎_elim (λ new. inl (new.0, as_said new.1 h)) (λ found. inr (as_said found h)) told
+  as_found makes v act reply told h = (told_found_or_inserted (by_act h) makes v told).0
 
   -- an upsert
   module _ (makes : V → V → Type 0) (value : V) where
     pub as_upserted : (fresh : Bool) (act : Act V) (reply : Reply V) → Upserts makes value (IsAct act reply) fresh → P act reply → Upserts makes value P fresh
-    as_upserted true act reply told h = as_said told h
-    as_upserted false act reply told h = (told.0, told.1, told.2, as_said told.3 h)
+    as_upserted fresh act reply told h = (told_upserted (by_act h) makes value fresh told).0
 
     pub upserted : (fresh : Bool) → Upserts makes value P fresh → (reply : Reply V) × Upserts makes value (IsAct (Upsert value) reply) fresh × P (Upsert value) reply
     upserted true h = (replies.New, (refl, refl), h)
@@ -42,9 +109,7 @@ module _ {V : Type 0} (P : Act V → Reply V → Type 0) where
   -- an uprase
   module _ (makes : V → Option V → Type 0) (value : V) where
     pub as_uprased : (answer : Uprased) (act : Act V) (reply : Reply V) → Uprases makes value (IsAct act reply) answer → P act reply → Uprases makes value P answer
-    as_uprased New act reply told h = as_said told h
-    as_uprased Changed act reply told h = (told.0, told.1, told.2, as_said told.3 h)
-    as_uprased Erased act reply told h = (told.0, told.1, as_said told.2 h)
+    as_uprased answer act reply told h = (told_uprased (by_act h) makes value answer told).0
 
     pub uprased : (answer : Uprased) → Uprases makes value P answer → (reply : Reply V) × Uprases makes value (IsAct (uprase_act value answer) reply) answer × P (uprase_act value answer) reply
     uprased New h = (replies.New, (refl, refl), h)
@@ -54,11 +119,14 @@ module _ {V : Type 0} (P : Act V → Reply V → Type 0) where
   -- an upsert whose closure may fail
   module _ {E : Type 0} (makes : V → Result V (V × E) → Type 0) (value : V) where
     pub as_tried : (answer : Result Bool E) (act : Act V) (reply : Reply V) → TriesUpsert makes value (IsAct act reply) answer → P act reply → TriesUpsert makes value P answer
-    as_tried (Ok true) act reply told h = as_said told h
-    as_tried (Ok false) act reply told h = (told.0, told.1, told.2, as_said told.3 h)
-    as_tried (Err e) act reply told h = (told.0, told.1, told.2, as_said told.3 h)
+    as_tried answer act reply told h = (told_tried (by_act h) makes value answer told).0
 
     pub tried : (answer : Result Bool E) → TriesUpsert makes value P answer → (reply : Reply V) × TriesUpsert makes value (IsAct (Upsert value) reply) answer × P (Upsert value) reply
     tried (Ok true) h = (replies.New, (refl, refl), h)
     tried (Ok false) h = (replies.Done h.0 h.1, (h.0, h.1, h.2, (refl, refl)), h.3)
     tried (Err e) h = (replies.Done h.0 h.1, (h.0, h.1, h.2, (refl, refl)), h.3)
+
+-- the same of a change of two keys
+pub told_changed_two : {V Z : Type 0} {P Q : Reply V → Type 0} (f : (reply : Reply V) → P reply → Q reply × Z) (makes : V → V → V × V → Type 0) (bound : Bool) → ChangesTwo makes P bound → ChangesTwo makes Q bound × Z
+told_changed_two f makes true h = let x = f _ h.5 in ((h.0, h.1, h.2, h.3, h.4, x.0), x.1)
+told_changed_two f makes false h = f _ h

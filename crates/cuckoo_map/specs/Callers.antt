@@ -1,94 +1,126 @@
 -- What contracts see of a caller, and what its calls leave of it.
-use Rattle.std.specs.Prelude.{◌≡◌, ℕ, List, [], map, Result, Bool}
+use Rattle.std.specs.Prelude.{◌≡◌, ℕ, ◌≤◌, List, [], ◌++◌, All, map, Result, Bool}
 use Rattle.std.specs.declared.cmp.Ordering.{Ordering}
 use Rattle.std.specs.FinMap.{entries}
 use Rattle.ck_model.specs.declared.history.Act.{Act}
 use Rattle.ck_model.specs.declared.history.Call.{Call}
-use Rattle.ck_model.specs.declared.history.Call.TheVariants.{Len, Session}
+use Rattle.ck_model.specs.declared.history.Call.TheVariants.{On, Len, Session}
 use Rattle.ck_model.specs.declared.history.Reply.{Reply}
 use Rattle.ck_model.specs.declared.history.Reply.TheVariants.{Count, Closed}
-use Rattle.ck_model.specs.Promise.{Name, Map, ListsInOrder}
+use Rattle.ck_model.specs.declared.history.Reason.{Reason}
+use Rattle.ck_model.specs.declared.history.Reason.TheVariants.{NoRoom}
+use Rattle.ck_model.specs.Promise.{Name, Map, Client, Replied, ListsInOrder}
+use Rattle.ck_core.specs.State.{client_of}
 use Rattle.ck_words.specs.Words.{WordsState}
 use Rattle.ck_words.specs.Passes.{PassState}
-use Rattle.ck_words.specs.Retries.{FindsAmong}
-use Rattle.ck_words.specs.Answering.{IsAnswered, IsAnsweredOn}
+use Rattle.ck_words.specs.Retries.{Stays, FindsAmong}
+use Rattle.ck_words.specs.Meeting.{Meets}
 use Rattle.cuckoo_map.specs.declared.refusal.Busy.{Busy}
 use Rattle.cuckoo_map.specs.declared.refusal.DrainFault.{DrainFault}
 use Rattle.cuckoo_map.specs.declared.refusal.DrainFault.TheVariants as drain
 use Rattle.cuckoo_map.specs.declared.refusal.GrowFault.{GrowFault}
 use Rattle.cuckoo_map.specs.declared.refusal.Refused.{Refused}
 use Rattle.cuckoo_map.specs.Refusals.{IsStripeIn, IsStripeOfEither, FindsOwn, FindsOwnUnlessFull, IsBusyAmong, IsBusyAt}
-use Rattle.cuckoo_map.specs.Insertions.{IsInserted, HandsBack}
+use Rattle.cuckoo_map.specs.Notes.{Notes, notes_of, idle_pass}
+use Rattle.cuckoo_map.specs.Insertions.{HandsBack}
 use Rattle.cuckoo_map.specs.Growth.{Rehashes, Reserves}
 
--- Its table, and its pass.
+-- Its table, what its client sees, and what else it knows.
 pub record CallerState (V : Type 0) : Type 0 where
   pub table : WordsState
-  pub pass : PassState V
+  pub client : Client V
+  pub notes : Notes V
 
 module _ {V : Type 0} where
-  -- The caller d is c after calls: it has the same table and the same number.
-  pub record IsSameCaller (c d : CallerState V) : Type 0 where
-    pub table : d.table ≡ c.table
-    pub by : d.pass.view.by ≡ c.pass.view.by
+  -- the caller of the table that has this pass
+  abbrev pub caller_of : WordsState → PassState V → CallerState V
+  caller_of w p = record { table = w; client = client_of p.view; notes = notes_of p.view }
 
   -- the callers of the table that have these passes
   abbrev pub callers_of : WordsState → List (PassState V) → List (CallerState V)
-  callers_of table passes = map (λ (p : PassState V). record { table = table; pass = p }) passes
+  callers_of w passes = map (λ (p : PassState V). caller_of w p) passes
 
-  -- the call was answered by this reply
+  -- its pass
+  abbrev pub pass_of : CallerState V → PassState V
+  pass_of c = idle_pass c.table.table c.client c.notes
+
+  -- The caller d is c after calls: it has the same table and the same number.
+  pub record IsSameCaller (c d : CallerState V) : Type 0 where
+    pub table : d.table ≡ c.table
+    pub by : d.client.by ≡ c.client.by
+
+  -- The client's call was answered by this reply.
   abbrev pub Replies : Call V → CallerState V → CallerState V → Reply V → Type 0
-  Replies call c d reply = IsAnswered call reply c.pass d.pass
+  Replies call c d reply = Replied call reply c.client d.client
 
   -- the call was this act on the name, and was answered by this reply
   abbrev pub RepliesOn : Name → CallerState V → CallerState V → Act V → Reply V → Type 0
-  RepliesOn q c d = IsAnsweredOn q c.pass d.pass
-
-  -- the same of an insertion
-  abbrev pub RepliesInserting : Name → CallerState V → CallerState V → Act V → Reply V → Type 0
-  RepliesInserting q c d = IsInserted q c.pass d.pass
+  RepliesOn q c d act reply = Replied (On q act) reply c.client d.client
 
   -- so many names were bound
   abbrev pub Counts : CallerState V → CallerState V → ℕ → Type 0
   Counts c d count = Replies Len c d (Count count)
 
+  -- From c to d it was told no lower power and met nobody. It has said of these names more that they found no room.
+  pub record KeepsNotesBut (more : List (Name × Reason)) (c d : CallerState V) : Type 0 where
+    pub settings : d.client.settings ≡ c.client.settings
+    pub told : c.notes.told ≤ d.notes.told
+    pub heard : (d.notes.heard ≡ c.notes.heard) × (d.notes.heard_told ≡ c.notes.heard_told)
+    pub noroom : d.notes.noroom ≡ more ++ c.notes.noroom
+
+  -- and it has said so of none more
+  abbrev pub KeepsNotes : CallerState V → CallerState V → Type 0
+  KeepsNotes = KeepsNotesBut []
+
+  -- and it has said nothing but that the buckets of this name were full
+  abbrev pub NotesFull : Name → CallerState V → CallerState V → Type 0
+  NotesFull q c d = (more : List (Name × Reason)) × All (λ x. x ≡ (q, NoRoom)) more × KeepsNotesBut more c d
+
+  -- nothing changed but what it was told, found and saw of others
+  abbrev pub StaysAsIs : CallerState V → CallerState V → Type 0
+  StaysAsIs c d = Stays (pass_of c).view (pass_of d).view
+
+  -- d has met a
+  abbrev pub MeetsCaller : CallerState V → CallerState V → CallerState V → Type 0
+  MeetsCaller a c d = Meets (pass_of a) (pass_of c) (pass_of d)
+
   -- the table was to have 2^power buckets at least
   abbrev pub GrowsTo : ℕ → Result Bool GrowFault → CallerState V → CallerState V → Type 0
-  GrowsTo power result c d = Rehashes c.table.settings power result c.pass d.pass
+  GrowsTo power result c d = Rehashes c.table.settings power result (pass_of c) (pass_of d)
 
   -- the table was to have n slots at least
   abbrev pub GrowsFor : ℕ → Result Bool GrowFault → CallerState V → CallerState V → Type 0
-  GrowsFor n result c d = Reserves c.table.settings n result c.pass d.pass
+  GrowsFor n result c d = Reserves c.table.settings n result (pass_of c) (pass_of d)
 
   -- no stripe was found held but those of the name
   abbrev pub FindsHeldOwn : (Name → ℕ) → Name → CallerState V → CallerState V → Type 0
-  FindsHeldOwn hash q c d = FindsOwn hash c.table.settings q c.pass d.pass
+  FindsHeldOwn hash q c d = FindsOwn hash c.table.settings q (pass_of c) (pass_of d)
 
   -- no stripe was found held but those of the name, or any once the name's buckets were full
   abbrev pub FindsHeldUnlessFull : (Name → ℕ) → Name → CallerState V → CallerState V → Type 0
-  FindsHeldUnlessFull hash q c d = FindsOwnUnlessFull hash c.table.settings q c.pass d.pass
+  FindsHeldUnlessFull hash q c d = FindsOwnUnlessFull hash c.table.settings q (pass_of c) (pass_of d)
 
   -- no stripe was found held but those of the two names
   abbrev pub FindsHeldOfTwo : (Name → ℕ) → Name → Name → CallerState V → CallerState V → Type 0
-  FindsHeldOfTwo hash q r c d = FindsAmong (IsStripeOfEither hash c.table.settings q r) c.pass d.pass
+  FindsHeldOfTwo hash q r c d = FindsAmong (IsStripeOfEither hash c.table.settings q r) (pass_of c) (pass_of d)
 
   -- no stripe was found held but those of the table
   abbrev pub FindsHeldOfAny : CallerState V → CallerState V → Type 0
-  FindsHeldOfAny c d = FindsAmong (IsStripeIn c.table.settings) c.pass d.pass
+  FindsHeldOfAny c d = FindsAmong (IsStripeIn c.table.settings) (pass_of c) (pass_of d)
 
   -- the call on the name was refused, since this stripe was busy
   abbrev pub IsBusyOn : (Name → ℕ) → Name → CallerState V → CallerState V → Busy → Type 0
-  IsBusyOn hash q c d busy = IsBusyAt hash c.table.settings q busy.0 c.pass d.pass
+  IsBusyOn hash q c d busy = IsBusyAt hash c.table.settings q busy.0 (pass_of c) (pass_of d)
 
   -- the call on the two names was refused, since this stripe was busy
   abbrev pub IsBusyOnTwo : (Name → ℕ) → Name → Name → CallerState V → CallerState V → Busy → Type 0
   IsBusyOnTwo hash q r c d busy =
-      IsBusyAmong (IsStripeOfEither hash c.table.settings q r) c.table.settings busy.0 c.pass d.pass
+      IsBusyAmong (IsStripeOfEither hash c.table.settings q r) c.table.settings busy.0 (pass_of c) (pass_of d)
 
   -- the call on all stripes was refused, since this one was busy
   abbrev pub IsBusyOnAny : CallerState V → CallerState V → Busy → Type 0
   IsBusyOnAny c d busy =
-      IsBusyAmong (IsStripeIn c.table.settings) c.table.settings busy.0 c.pass d.pass
+      IsBusyAmong (IsStripeIn c.table.settings) c.table.settings busy.0 (pass_of c) (pass_of d)
 
   -- all names were unbound in one session, and these were the pairs
   abbrev pub Drains : {K : Type 0} → (K → Name) → (K → K → Ordering) → CallerState V → CallerState V → List (K × V) → Type 0
@@ -96,17 +128,17 @@ module _ {V : Type 0} where
 
   -- the pairs were not taken out: this stripe was busy, or there was no memory, and then a session changed nothing
   abbrev pub IsNotDrained : CallerState V → CallerState V → DrainFault → Type 0
-  IsNotDrained c d (drain.Busy t) = IsBusyAmong (IsStripeIn c.table.settings) c.table.settings t c.pass d.pass
+  IsNotDrained c d (drain.Busy t) = IsBusyAmong (IsStripeIn c.table.settings) c.table.settings t (pass_of c) (pass_of d)
   IsNotDrained c d drain.Memory = (m : Map V) × Replies (Session (entries m) (entries m)) c d Closed
 
   -- the insertion was refused, and the key came back with the value, or with what was to make one
   abbrev pub ComesBack : {K X : Type 0} → (Name → ℕ) → Name → K → X → CallerState V → CallerState V → Refused K X → Type 0
-  ComesBack hash q key x c d = HandsBack hash c.table.settings q key x c.pass d.pass
+  ComesBack hash q key x c d = HandsBack hash c.table.settings q key x (pass_of c) (pass_of d)
 
   -- the call was refused, since it found this stripe held, which is such a one
   abbrev pub IsBusyOnSome : (ℕ → Type 0) → CallerState V → CallerState V → Busy → Type 0
-  IsBusyOnSome P c d busy = IsBusyAmong P c.table.settings busy.0 c.pass d.pass
+  IsBusyOnSome P c d busy = IsBusyAmong P c.table.settings busy.0 (pass_of c) (pass_of d)
 
   -- no stripe was found held but such ones
   abbrev pub FindsHeldAmong : (ℕ → Type 0) → CallerState V → CallerState V → Type 0
-  FindsHeldAmong P c d = FindsAmong P c.pass d.pass
+  FindsHeldAmong P c d = FindsAmong P (pass_of c) (pass_of d)

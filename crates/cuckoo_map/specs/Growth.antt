@@ -5,7 +5,6 @@ use Rattle.ck_words.specs.Passes.{PassState}
 use Rattle.cuckoo_map.specs.declared.refusal.GrowFault.{GrowFault}
 use Rattle.cuckoo_map.specs.declared.refusal.GrowFault.TheVariants.{Busy, Memory, OverMax}
 use Rattle.cuckoo_map.specs.Refusals.{IsStripeIn, IsBusyAmong}
-use Rattle.cuckoo_map.specs.Locking.{LockedState, locked_power, KeepsMap}
 
 -- The least power of at least 1 with which a table has n slots or more.
 pub record IsLeastPower (n power : ℕ) : Type 0 where
@@ -30,18 +29,3 @@ module _ {V : Type 0} where
   -- the same of the least power with which it has n slots
   abbrev pub Reserves : Settings → ℕ → Result Bool GrowFault → PassState V → PassState V → Type 0
   Reserves set n result p p2 = (power : ℕ) × IsLeastPower n power × Rehashes set power result p p2
-
-  -- A locked table was to have 2^power buckets at least, and went from l to m. No binding changed. It says whether it had fewer: if so, it has just so many; if not, nothing changed.
-  -- Refused for want of memory, it had fewer, and has fewer still.
-  pub record RehashesLocked (power : ℕ) (result : Result Bool GrowFault) (l m : LockedState V) : Type 0 where
-    pub kept : KeepsMap l m
-    pub over_max : (result ≡ Err OverMax) ↔ (l.table.settings.max < power)
-    pub unchanged : result ≡ Err OverMax → m ≡ l
-    pub grown : result ≡ Ok true → (locked_power l < power) × (locked_power m ≡ power)
-    pub enough : result ≡ Ok false → (power ≤ locked_power l) × (m ≡ l)
-    pub short : result ≡ Err Memory → (locked_power l < power) × (locked_power m < power)
-    pub busy : (t : ℕ) → ¬ (result ≡ Err (Busy t))
-
-  -- the same of the least power with which it has n slots
-  abbrev pub ReservesLocked : ℕ → Result Bool GrowFault → LockedState V → LockedState V → Type 0
-  ReservesLocked n result l m = (power : ℕ) × IsLeastPower n power × RehashesLocked power result l m

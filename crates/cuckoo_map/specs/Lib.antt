@@ -1,3 +1,4 @@
+pub mod Notes
 pub mod Holding
 pub mod Refusals
 pub mod Insertions

@@ -3,7 +3,6 @@ ghost use Rattle.std.specs.Prelude.{◌≡◌, ◌≢◌, ◌*◌, ◌^◌, ◌�
 ghost use Rattle.std.specs.Fn.{FnOnceReturnsAt};
 ghost use Rattle.ck_model.specs.declared.history.Call.TheVariants.{ChangeTwo};
 ghost use Rattle.ck_words.specs.Closing.{IsCaller};
-ghost use Rattle.ck_words.specs.Meeting.{Meets};
 
 use crate::locked::LockedTable;
 use crate::refusal::{Busy, GrowFault, NoCallers, Refused};
@@ -17,7 +16,8 @@ use std::marker::Model;
 /// A caller of a table: the table together with a pass of it, by which it makes its calls.
 ///
 /// That the pass is one of this table, and in no call, is known by the type. A caller may go to
-/// another thread, and can't be cloned. Contracts see the table and the pass.
+/// another thread, and can't be cloned. Contracts see the table, what a client sees, and notes of
+/// what else the caller was told, found and said.
 #[derive(Drop)]
 pub struct Caller<'t, K: TableKey, V> {
     table: &'t Table<K, V>,
@@ -26,23 +26,22 @@ pub struct Caller<'t, K: TableKey, V> {
 
 impl<'t, K: TableKey, V> Model for Caller<'t, K, V> {
     ghost use Rattle.ck_words.specs.Closing.{IsCaller};
-    ghost use Rattle.cuckoo_map.specs.Callers.{CallerState};
+    ghost use Rattle.cuckoo_map.specs.Callers.{CallerState, caller_of};
 
     ghost Value = { CallerState V };
 
-    ghost view = { λ c. record { table = c.table.now; pass = c.pass } };
+    ghost view = { λ c. caller_of c.table.now c.pass };
 
     ghost invariant = { λ c. IsCaller c.table.now c.pass };
 }
 
 impl<K: TableKey + Drop, V: Drop> Table<K, V> {
-    ghost use Rattle.cuckoo_map.specs.Callers.{callers_of};
+    ghost use Rattle.cuckoo_map.specs.Callers.{caller_of, callers_of};
 
     /// The caller that makes its calls by this pass.
     pub fn caller<'t>(&'t self, pass: Pass<K, V>) -> Caller<'t, K, V>
         requires { IsCaller self.now pass }
-        ensures table { result.table ≡ self.now }
-        ensures pass { result.pass ≡ pass }
+        ensures { result ≡ caller_of self.now pass }
     {
         Caller { table: self, pass }
     }
@@ -73,8 +72,7 @@ impl<'t, K: TableKey + Drop, V: Drop> Caller<'t, K, V> {
     ghost use Rattle.ck_section.specs.Acts.{Finds, FindsBound, FindsBy, Inserts, InsertsBy, FindsOrInserts};
     ghost use Rattle.ck_section.specs.Acts.{Assigns, Upserts, Uprases, TriesUpsert, Updates, Changes};
     ghost use Rattle.ck_section.specs.Acts.{ReplacesIf, TriesChange, Erases, ErasesBy, ChangesTwo};
-    ghost use Rattle.ck_words.specs.Retries.{Stays};
-    ghost use Rattle.cuckoo_map.specs.Callers.{IsSameCaller, Replies, RepliesOn, RepliesInserting};
+    ghost use Rattle.cuckoo_map.specs.Callers.{pass_of, IsSameCaller, Replies, RepliesOn, KeepsNotes, NotesFull, StaysAsIs, MeetsCaller};
     ghost use Rattle.cuckoo_map.specs.Callers.{Counts, GrowsTo, GrowsFor, ComesBack, IsBusyOn, IsBusyOnTwo};
     ghost use Rattle.cuckoo_map.specs.Callers.{IsBusyOnSome, IsBusyOnAny, FindsHeldOwn, FindsHeldUnlessFull};
     ghost use Rattle.cuckoo_map.specs.Callers.{FindsHeldOfTwo, FindsHeldAmong, FindsHeldOfAny};
@@ -90,7 +88,7 @@ impl<'t, K: TableKey + Drop, V: Drop> Caller<'t, K, V> {
     /// The pass. With the passes of all other callers it ends the table.
     pub fn into_pass(self) -> Pass<K, V>
         ensures caller { IsCaller self.entry.table result }
-        ensures pass { result ≡ self.entry.pass }
+        ensures pass { result ≡ pass_of self.entry }
     {
         let Caller { table: _, pass } = self;
         pass
@@ -115,6 +113,7 @@ impl<'t, K: TableKey + Drop, V: Drop> Caller<'t, K, V> {
         V: Copy,
         ensures same { IsSameCaller self.old self.new }
         ensures answered { IfOk result (Finds (RepliesOn (Q.name key) self.old self.new)) }
+        ensures notes { OnOk result (KeepsNotes self.old self.new) }
         ensures busy { IfErr result (IsBusyOn K.hash (Q.name key) self.old self.new) }
         ensures found { FindsHeldOwn K.hash (Q.name key) self.old self.new }
     {
@@ -139,6 +138,7 @@ impl<'t, K: TableKey + Drop, V: Drop> Caller<'t, K, V> {
         ensures same { IsSameCaller self.old self.new }
         ensures answered { IfOk result (
             FindsBy (FnOnceReturnsAt F.FnOnce f) (RepliesOn (Q.name key) self.old self.new)) }
+        ensures notes { OnOk result (KeepsNotes self.old self.new) }
         ensures busy { IfErr result (IsBusyOn K.hash (Q.name key) self.old self.new) }
         ensures found { FindsHeldOwn K.hash (Q.name key) self.old self.new }
     {
@@ -154,6 +154,7 @@ impl<'t, K: TableKey + Drop, V: Drop> Caller<'t, K, V> {
     pub fn contains<Q: Query<K>>(&mut self, key: Q) -> Result<bool, Busy>
         ensures same { IsSameCaller self.old self.new }
         ensures answered { IfOk result (FindsBound (RepliesOn (Q.name key) self.old self.new)) }
+        ensures notes { OnOk result (KeepsNotes self.old self.new) }
         ensures busy { IfErr result (IsBusyOn K.hash (Q.name key) self.old self.new) }
         ensures found { FindsHeldOwn K.hash (Q.name key) self.old self.new }
     {
@@ -172,7 +173,8 @@ impl<'t, K: TableKey + Drop, V: Drop> Caller<'t, K, V> {
     #[inline(always)]
     pub fn insert(&mut self, key: K, value: V) -> Result<bool, Refused<K, V>>
         ensures same { IsSameCaller self.old self.new }
-        ensures answered { IfOk result (Inserts value (RepliesInserting (K.name key) self.old self.new)) }
+        ensures answered { IfOk result (Inserts value (RepliesOn (K.name key) self.old self.new)) }
+        ensures notes { OnOk result (NotesFull (K.name key) self.old self.new) }
         ensures refused { IfErr result (ComesBack K.hash (K.name key) key value self.old self.new) }
         ensures found { FindsHeldUnlessFull K.hash (K.name key) self.old self.new }
     {
@@ -189,7 +191,8 @@ impl<'t, K: TableKey + Drop, V: Drop> Caller<'t, K, V> {
     #[inline(always)]
     pub fn insert_or_assign(&mut self, key: K, value: V) -> Result<Option<V>, Refused<K, V>>
         ensures same { IsSameCaller self.old self.new }
-        ensures answered { IfOk result (Assigns value (RepliesInserting (K.name key) self.old self.new)) }
+        ensures answered { IfOk result (Assigns value (RepliesOn (K.name key) self.old self.new)) }
+        ensures notes { OnOk result (NotesFull (K.name key) self.old self.new) }
         ensures refused { IfErr result (ComesBack K.hash (K.name key) key value self.old self.new) }
         ensures found { FindsHeldUnlessFull K.hash (K.name key) self.old self.new }
     {
@@ -215,7 +218,8 @@ impl<'t, K: TableKey + Drop, V: Drop> Caller<'t, K, V> {
         requires call { F.IsAlwaysCallable f }
         ensures same { IsSameCaller self.old self.new }
         ensures answered { IfOk result (
-            Upserts (F.post f) value (RepliesInserting (K.name key) self.old self.new)) }
+            Upserts (F.post f) value (RepliesOn (K.name key) self.old self.new)) }
+        ensures notes { OnOk result (NotesFull (K.name key) self.old self.new) }
         ensures refused { IfErr result (ComesBack K.hash (K.name key) key value self.old self.new) }
         ensures found { FindsHeldUnlessFull K.hash (K.name key) self.old self.new }
     {
@@ -252,7 +256,8 @@ impl<'t, K: TableKey + Drop, V: Drop> Caller<'t, K, V> {
         requires call { F.IsAlwaysCallable f }
         ensures same { IsSameCaller self.old self.new }
         ensures answered { IfOk result (
-            TriesUpsert (F.post f) value (RepliesInserting (K.name key) self.old self.new)) }
+            TriesUpsert (F.post f) value (RepliesOn (K.name key) self.old self.new)) }
+        ensures notes { OnOk result (NotesFull (K.name key) self.old self.new) }
         ensures refused { IfErr result (ComesBack K.hash (K.name key) key value self.old self.new) }
         ensures found { FindsHeldUnlessFull K.hash (K.name key) self.old self.new }
     {
@@ -276,7 +281,8 @@ impl<'t, K: TableKey + Drop, V: Drop> Caller<'t, K, V> {
         requires call { F.IsAlwaysCallable f }
         ensures same { IsSameCaller self.old self.new }
         ensures answered { IfOk result (
-            InsertsBy (F.post f) (RepliesInserting (K.name key) self.old self.new)) }
+            InsertsBy (F.post f) (RepliesOn (K.name key) self.old self.new)) }
+        ensures notes { OnOk result (NotesFull (K.name key) self.old self.new) }
         ensures refused { IfErr result (
             ComesBack K.hash (K.name key) key f self.old self.new) }
         ensures found { FindsHeldUnlessFull K.hash (K.name key) self.old self.new }
@@ -307,7 +313,8 @@ impl<'t, K: TableKey + Drop, V: Drop> Caller<'t, K, V> {
         requires call { F.IsAlwaysCallable f }
         ensures same { IsSameCaller self.old self.new }
         ensures answered { IfOk result (
-            Uprases (F.post f) value (RepliesInserting (K.name key) self.old self.new)) }
+            Uprases (F.post f) value (RepliesOn (K.name key) self.old self.new)) }
+        ensures notes { OnOk result (NotesFull (K.name key) self.old self.new) }
         ensures refused { IfErr result (ComesBack K.hash (K.name key) key value self.old self.new) }
         ensures found { FindsHeldUnlessFull K.hash (K.name key) self.old self.new }
     {
@@ -332,7 +339,8 @@ impl<'t, K: TableKey + Drop, V: Drop> Caller<'t, K, V> {
         requires call { F.IsAlwaysCallable f }
         ensures same { IsSameCaller self.old self.new }
         ensures answered { IfOk result (
-            FindsOrInserts (F.post f) (RepliesInserting (K.name key) self.old self.new)) }
+            FindsOrInserts (F.post f) (RepliesOn (K.name key) self.old self.new)) }
+        ensures notes { OnOk result (NotesFull (K.name key) self.old self.new) }
         ensures refused { IfErr result (
             ComesBack K.hash (K.name key) key f self.old self.new) }
         ensures found { FindsHeldUnlessFull K.hash (K.name key) self.old self.new }
@@ -353,6 +361,7 @@ impl<'t, K: TableKey + Drop, V: Drop> Caller<'t, K, V> {
     pub fn update<Q: Query<K>>(&mut self, key: Q, value: V) -> Result<Option<V>, (V, Busy)>
         ensures same { IsSameCaller self.old self.new }
         ensures answered { IfOk result (Updates value (RepliesOn (Q.name key) self.old self.new)) }
+        ensures notes { OnOk result (KeepsNotes self.old self.new) }
         ensures back { IfErr result (λ back. back.0 ≡ value) }
         ensures busy { IfErr result (λ back.
             IsBusyOn K.hash (Q.name key) self.old self.new back.1) }
@@ -375,6 +384,7 @@ impl<'t, K: TableKey + Drop, V: Drop> Caller<'t, K, V> {
         ensures same { IsSameCaller self.old self.new }
         ensures answered { IfOk result (
             Changes (F.post f) (RepliesOn (Q.name key) self.old self.new)) }
+        ensures notes { OnOk result (KeepsNotes self.old self.new) }
         ensures busy { IfErr result (IsBusyOn K.hash (Q.name key) self.old self.new) }
         ensures found { FindsHeldOwn K.hash (Q.name key) self.old self.new }
     {
@@ -405,6 +415,7 @@ impl<'t, K: TableKey + Drop, V: Drop> Caller<'t, K, V> {
         ensures answered { IfOk result (
             ChangesTwo (F.post f)
             (Replies (ChangeTwo (Q.name a) (Q.name b)) self.old self.new)) }
+        ensures notes { OnOk result (KeepsNotes self.old self.new) }
         ensures busy { IfErr result (
             IsBusyOnTwo K.hash (Q.name a) (Q.name b) self.old self.new) }
         ensures found { FindsHeldOfTwo K.hash (Q.name a) (Q.name b) self.old self.new }
@@ -422,6 +433,7 @@ impl<'t, K: TableKey + Drop, V: Drop> Caller<'t, K, V> {
     pub fn erase<Q: Query<K>>(&mut self, key: Q) -> Result<Option<V>, Busy>
         ensures same { IsSameCaller self.old self.new }
         ensures answered { IfOk result (Erases (RepliesOn (Q.name key) self.old self.new)) }
+        ensures notes { OnOk result (KeepsNotes self.old self.new) }
         ensures busy { IfErr result (IsBusyOn K.hash (Q.name key) self.old self.new) }
         ensures found { FindsHeldOwn K.hash (Q.name key) self.old self.new }
     {
@@ -447,6 +459,7 @@ impl<'t, K: TableKey + Drop, V: Drop> Caller<'t, K, V> {
         ensures same { IsSameCaller self.old self.new }
         ensures answered { IfOk result (
             ErasesBy (FnOnceReturnsAt F.FnOnce f) (RepliesOn (Q.name key) self.old self.new)) }
+        ensures notes { OnOk result (KeepsNotes self.old self.new) }
         ensures busy { IfErr result (IsBusyOn K.hash (Q.name key) self.old self.new) }
         ensures found { FindsHeldOwn K.hash (Q.name key) self.old self.new }
     {
@@ -473,6 +486,7 @@ impl<'t, K: TableKey + Drop, V: Drop> Caller<'t, K, V> {
         ensures same { IsSameCaller self.old self.new }
         ensures answered { IfOk result (
             ReplacesIf (FnOnceReturnsAt F.FnOnce f) (RepliesOn (Q.name key) self.old self.new)) }
+        ensures notes { OnOk result (KeepsNotes self.old self.new) }
         ensures busy { IfErr result (IsBusyOn K.hash (Q.name key) self.old self.new) }
         ensures found { FindsHeldOwn K.hash (Q.name key) self.old self.new }
     {
@@ -509,6 +523,7 @@ impl<'t, K: TableKey + Drop, V: Drop> Caller<'t, K, V> {
         ensures same { IsSameCaller self.old self.new }
         ensures answered { IfOk result (
             TriesChange (F.post f) (RepliesOn (Q.name key) self.old self.new)) }
+        ensures notes { OnOk result (KeepsNotes self.old self.new) }
         ensures busy { IfErr result (IsBusyOn K.hash (Q.name key) self.old self.new) }
         ensures found { FindsHeldOwn K.hash (Q.name key) self.old self.new }
     {
@@ -520,8 +535,8 @@ impl<'t, K: TableKey + Drop, V: Drop> Caller<'t, K, V> {
     #[inline(always)]
     pub fn power(&mut self) -> Result<u32, Busy>
         ensures same { IsSameCaller self.old self.new }
-        ensures stays { OnOk result (Stays self.old.pass.view self.new.pass.view) }
-        ensures told { IfOk result (λ power. power ≡ self.new.pass.view.told) }
+        ensures stays { OnOk result (StaysAsIs self.old self.new) }
+        ensures told { IfOk result (λ power. power ≡ self.new.notes.told) }
         ensures within { IfOk result (λ power. (self.old.table.settings.power ≤ power)
             × (power ≤ self.old.table.settings.max)) }
         ensures busy { IfErr result (IsBusyOnSome (λ t. t ≡ 0) self.old self.new) }
@@ -537,8 +552,8 @@ impl<'t, K: TableKey + Drop, V: Drop> Caller<'t, K, V> {
     /// ```
     pub fn capacity(&mut self) -> Result<u64, Busy>
         ensures same { IsSameCaller self.old self.new }
-        ensures stays { OnOk result (Stays self.old.pass.view self.new.pass.view) }
-        ensures told { IfOk result (λ slots. slots ≡ 4 * 2 ^ self.new.pass.view.told) }
+        ensures stays { OnOk result (StaysAsIs self.old self.new) }
+        ensures told { IfOk result (λ slots. slots ≡ 4 * 2 ^ self.new.notes.told) }
         ensures busy { IfErr result (IsBusyOnSome (λ t. t ≡ 0) self.old self.new) }
         ensures found { FindsHeldAmong (λ t. t ≡ 0) self.old self.new }
     {
@@ -549,6 +564,7 @@ impl<'t, K: TableKey + Drop, V: Drop> Caller<'t, K, V> {
     pub fn len(&mut self) -> Result<u64, Busy>
         ensures same { IsSameCaller self.old self.new }
         ensures answered { IfOk result (Counts self.old self.new) }
+        ensures notes { OnOk result (KeepsNotes self.old self.new) }
         ensures most { IfOk result (λ count. count ≤ 4 * 2 ^ self.old.table.settings.max) }
         ensures busy { IfErr result (IsBusyOnAny self.old self.new) }
         ensures found { FindsHeldOfAny self.old self.new }
@@ -565,6 +581,7 @@ impl<'t, K: TableKey + Drop, V: Drop> Caller<'t, K, V> {
         ensures same { IsSameCaller self.old self.new }
         ensures answered { IfOk result (λ empty. (count : ℕ) × (empty ≡ nat_eq count 0)
             × Counts self.old self.new count) }
+        ensures notes { OnOk result (KeepsNotes self.old self.new) }
         ensures busy { IfErr result (IsBusyOnAny self.old self.new) }
         ensures found { FindsHeldOfAny self.old self.new }
     {
@@ -576,7 +593,7 @@ impl<'t, K: TableKey + Drop, V: Drop> Caller<'t, K, V> {
     /// the table some times. It is `Table::rehash`.
     pub fn rehash(&mut self, power: u32) -> Result<bool, GrowFault>
         ensures same { IsSameCaller self.old self.new }
-        ensures stays { Stays self.old.pass.view self.new.pass.view }
+        ensures stays { StaysAsIs self.old self.new }
         ensures rehashed { GrowsTo power result self.old self.new }
         ensures found { FindsHeldOfAny self.old self.new }
     {
@@ -595,7 +612,7 @@ impl<'t, K: TableKey + Drop, V: Drop> Caller<'t, K, V> {
     /// ```
     pub fn reserve(&mut self, n: u64) -> Result<bool, GrowFault>
         ensures same { IsSameCaller self.old self.new }
-        ensures stays { Stays self.old.pass.view self.new.pass.view }
+        ensures stays { StaysAsIs self.old self.new }
         ensures reserved { GrowsFor n result self.old self.new }
         ensures found { FindsHeldOfAny self.old self.new }
     {
@@ -610,7 +627,7 @@ impl<'t, K: TableKey + Drop, V: Drop> Caller<'t, K, V> {
     /// let mut locked = caller.lock().map_err(Busy::from)?;
     /// ```
     pub fn lock(self) -> Result<LockedTable<'t, K, V>, (Caller<'t, K, V>, Busy)>
-        ensures locked { IfOk result (HasLocked self.entry.table self.entry.pass) }
+        ensures locked { IfOk result (HasLocked self.entry.table (pass_of self.entry)) }
         ensures same { IfErr result (λ back. IsSameCaller self.entry back.0) }
         ensures busy { IfErr result (λ back. IsBusyOnAny self.entry back.0 back.1) }
         ensures found { IfErr result (λ back. FindsHeldOfAny self.entry back.0) }
@@ -633,7 +650,7 @@ impl<'t, K: TableKey + Drop, V: Drop> Caller<'t, K, V> {
         requires { self.old.table ≡ other.old.table }
         ensures left { self.new ≡ self.old }
         ensures same { IsSameCaller other.old other.new }
-        ensures met { Meets self.old.pass other.old.pass other.new.pass }
+        ensures met { MeetsCaller self.old other.old other.new }
     {
         self.table.meet(&mut self.pass, &mut other.pass);
     }

@@ -1,10 +1,9 @@
 //! The whole table under one caller.
 ghost use Rattle.std.specs.Prelude.{◌≡◌, ◌≤◌, ◌^◌, ℕ, length, OnOk, OnErr, IfOk, IfErr, nat_eq, is_some};
 ghost use Rattle.std.specs.Option.{option_copied};
-ghost use Rattle.std.specs.FinMap.{get, len, entries};
-ghost use Rattle.ck_model.specs.declared.history.Call.TheVariants.{Session};
+ghost use Rattle.std.specs.FinMap.{get, len};
 ghost use Rattle.ck_model.specs.declared.history.Reply.TheVariants.{Closed};
-ghost use Rattle.ck_model.specs.Promise.{ListsInOrder};
+ghost use Rattle.ck_model.specs.Promise.{Replied, ListsInOrder};
 ghost use Rattle.ck_model.specs.Contents.{layout, layout_of};
 ghost use Rattle.ck_bucket.specs.Bucket.{ClonesAreEqual};
 ghost use Rattle.ck_model.specs.Paths.{HasNoRoom};
@@ -15,11 +14,12 @@ ghost use Rattle.ck_section.specs.Places.{IsPlaceOf};
 ghost use Rattle.ck_section.specs.Whole.{IsTable, AreSettled, AreAllHeld, ClearsBindings};
 ghost use Rattle.ck_section.specs.Calls.{effect, IsCall, IsWithoutRoom, ChangesContents};
 ghost use Rattle.ck_section.specs.Room.{KeepsBindings, MakesRoom, GivesReason};
+ghost use Rattle.ck_core.specs.State.{client_of};
 ghost use Rattle.ck_words.specs.Retries.{FindsAmong};
-ghost use Rattle.ck_words.specs.Answering.{IsAnswered, FollowsSeen};
 ghost use Rattle.ck_words.specs.Closing.{IsCaller};
 ghost use Rattle.cuckoo_map.specs.Refusals.{IsStripeIn, IsBusyAmong, why_of};
-ghost use Rattle.cuckoo_map.specs.Locking.{start_of, map_of, HasLocked, HasActed, GivesBack, Clears, Lists, KeepsMap, LacksRoom, SeeksRoom};
+ghost use Rattle.cuckoo_map.specs.Callers.{caller_of, IsSameCaller, KeepsNotes};
+ghost use Rattle.cuckoo_map.specs.Locking.{map_of, session_call, EndsSession, HasLocked, HasActed, GivesBack, Clears, Lists, KeepsMap, LacksRoom, SeeksRoom};
 ghost use Rattle.cuckoo_map.specs.Insertions.{TellsOf};
 
 use crate::caller::Caller;
@@ -43,19 +43,19 @@ use std::marker::Model;
 /// doesn't unlock it doesn't compile.
 ///
 /// What is done to it is one entry of its caller, a session, from the map as it was when the table
-/// was locked to the map when it is unlocked. Contracts see the table, and the caller's pass, which
-/// has all stripes.
+/// was locked to the map when it is unlocked. Contracts see the caller, what all stripes contained
+/// when it locked the table, and the stripes as they are.
 pub struct LockedTable<'t, K: TableKey, V> {
     pub(crate) table: &'t Table<K, V>,
     pub(crate) whole: Whole<K, V>,
 }
 
 impl<'t, K: TableKey, V> Model for LockedTable<'t, K, V> {
-    ghost use Rattle.cuckoo_map.specs.Locking.{LockedState, IsLocked};
+    ghost use Rattle.cuckoo_map.specs.Locking.{LockedState, IsLocked, locked_of};
 
     ghost Value = { LockedState V };
 
-    ghost view = { λ l. record { table = l.table.now; pass = l.whole } };
+    ghost view = { λ l. locked_of l.table.now l.whole };
 
     ghost invariant = { λ l. IsLocked K.hash l.table.now l.whole };
 }
@@ -206,8 +206,8 @@ impl<'t, K: TableKey + Drop, V: Drop> LockedTable<'t, K, V> {
     // Makes room for the key: entries are displaced, or the table grows.
     fn make_room(&mut self, key: &K) -> Result<(), Lack>
         ensures kept { KeepsMap self.old self.new }
-        ensures room { OnOk result (¬ (HasNoRoom (layout_of K.hash self.new.table.settings)
-            (contents_of self.new.pass.stripes) (K.name key.now))) }
+        ensures room { OnOk result (¬ (HasNoRoom (layout_of K.hash self.new.caller.table.settings)
+            (contents_of self.new.stripes) (K.name key.now))) }
         ensures refused { IfErr result (λ lack.
             LacksRoom K.hash (K.name key.now) (why_of lack) self.old self.new) }
     {
@@ -265,8 +265,8 @@ impl<'t, K: TableKey + Drop, V: Drop> LockedTable<'t, K, V> {
 
     // Where the key may be among the stripes.
     pub(crate) fn place<Q: Query<K>>(&self, key: Q) -> KeyPlace
-        ensures place { IsPlaceOf K.hash self.now.pass.stripes (Q.name key) result }
-        ensures s { result.s ≡ self.now.table.settings.s }
+        ensures place { IsPlaceOf K.hash self.now.stripes (Q.name key) result }
+        ensures s { result.s ≡ self.now.caller.table.settings.s }
     {
         let table = self.table;
         place_in_all(stripes_of(&self.whole), table.words.settings().s, key)
@@ -304,14 +304,13 @@ impl<'t, K: TableKey + Drop, V: Drop> LockedTable<'t, K, V> {
     /// Unlocks the table, by which all that was done to it becomes one entry of the history. No
     /// other stands between what was seen when the table was locked and this one.
     pub fn unlock(self) -> Pass<K, V>
-        ensures caller { IsCaller self.entry.table result }
-        ensures answered { IsAnswered
-            (Session (entries (start_of self.entry)) (entries (map_of self.entry))) Closed
-            self.entry.pass result }
-        ensures follows { FollowsSeen
-            (Session (entries (start_of self.entry)) (entries (map_of self.entry))) Closed
-            self.entry.pass result }
-        ensures found { result.view.found ≡ self.entry.pass.view.found }
+        ensures caller { IsCaller self.entry.caller.table result }
+        ensures same { IsSameCaller self.entry.caller (caller_of self.entry.caller.table result) }
+        ensures answered { Replied (session_call self.entry) Closed
+            self.entry.caller.client (client_of result.view) }
+        ensures follows { EndsSession self.entry (client_of result.view) }
+        ensures notes { KeepsNotes self.entry.caller (caller_of self.entry.caller.table result) }
+        ensures found { result.view.found ≡ self.entry.caller.notes.found }
     {
         let LockedTable { table, whole } = self;
         let mut pass = table.words.lower(whole);
@@ -328,14 +327,12 @@ impl<'t, K: TableKey + Drop, V: Drop> LockedTable<'t, K, V> {
     /// let mut caller = locked.unlock_caller();
     /// ```
     pub fn unlock_caller(self) -> Caller<'t, K, V>
-        ensures table { result.table ≡ self.entry.table }
-        ensures answered { IsAnswered
-            (Session (entries (start_of self.entry)) (entries (map_of self.entry))) Closed
-            self.entry.pass result.pass }
-        ensures follows { FollowsSeen
-            (Session (entries (start_of self.entry)) (entries (map_of self.entry))) Closed
-            self.entry.pass result.pass }
-        ensures found { result.pass.view.found ≡ self.entry.pass.view.found }
+        ensures same { IsSameCaller self.entry.caller result }
+        ensures answered { Replied (session_call self.entry) Closed
+            self.entry.caller.client result.client }
+        ensures follows { EndsSession self.entry result.client }
+        ensures notes { KeepsNotes self.entry.caller result }
+        ensures found { result.notes.found ≡ self.entry.caller.notes.found }
     {
         let table = self.table;
         let pass = self.unlock();

@@ -4,8 +4,7 @@ ghost use Rattle.std.specs.FinMap.{len};
 ghost use Rattle.ck_model.specs.Contents.{layout};
 ghost use Rattle.ck_section.specs.Whole.{AreAllHeld};
 ghost use Rattle.ck_section.specs.Room.{power_in, KeepsBindings};
-ghost use Rattle.cuckoo_map.specs.Growth.{RehashesLocked, ReservesLocked};
-ghost use Rattle.cuckoo_map.specs.Locking.{locked_power, map_of};
+ghost use Rattle.cuckoo_map.specs.Locking.{locked_power, map_of, RehashesLocked, ReservesLocked};
 
 use crate::growth::{double_to, least_power};
 use crate::locked::{LockedTable, stripes_of};
@@ -24,8 +23,8 @@ impl<'t, K: TableKey + Drop, V: Drop> LockedTable<'t, K, V> {
     /// ```
     pub fn power(&self) -> u32
         ensures value { result ≡ locked_power self.now }
-        ensures within { (self.now.table.settings.power ≤ result)
-            × (result ≤ self.now.table.settings.max) }
+        ensures within { (self.now.caller.table.settings.power ≤ result)
+            × (result ≤ self.now.caller.table.settings.max) }
     {
         stripes_of(&self.whole)[0].power()
     }

@@ -47,7 +47,7 @@ impl<'t, K: TableKey + Drop, V: Drop> LockedTable<'t, K, V> {
 }
 
 impl<'t, K: TableKey + Drop, V: Drop> Caller<'t, K, V> {
-    ghost use Rattle.cuckoo_map.specs.Callers.{IsSameCaller, Drains, IsNotDrained, FindsHeldOfAny};
+    ghost use Rattle.cuckoo_map.specs.Callers.{IsSameCaller, KeepsNotes, Drains, IsNotDrained, FindsHeldOfAny};
 
     /// Unbinds all keys, and gives them with their values, in rising order of the keys. It locks the
     /// table for that, and is one entry of the history. Refused as busy or for want of memory, it
@@ -66,6 +66,9 @@ impl<'t, K: TableKey + Drop, V: Drop> Caller<'t, K, V> {
         ensures drained { IfOk result (λ back.
             Drains K.name K.cmp self.entry back.0 back.1.items) }
         ensures refused { IfErr result (λ back. IsNotDrained self.entry back.0 back.1) }
+        ensures notes { MatchResult result
+            (λ back. KeepsNotes self.entry back.0)
+            (λ back. KeepsNotes self.entry back.0) }
         ensures found { MatchResult result
             (λ back. FindsHeldOfAny self.entry back.0)
             (λ back. FindsHeldOfAny self.entry back.0) }

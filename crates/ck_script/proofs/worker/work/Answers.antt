@@ -22,8 +22,8 @@ loop-command-preserved g c =
     let command = c.in-Some.command in
     let answer = c.answer_of-answer.result.0 in
     let first = c.args.job.caller.table in
-    let old = c.loop-command.caller.pass.view in
-    let new = c.answer_of-answer.result.1.pass.view in
+    let old = c.loop-command.caller.client in
+    let new = c.answer_of-answer.result.1.client in
     record {
       same = record { table = now.same.table ∙ before.same.table; by = now.same.by ∙ before.same.by };
       count = c.push_reserved.ensures.len ∙ ap (λ n. n + 1) before.count ∙ sym one_more;
@@ -47,9 +47,9 @@ returns g c =
       caller = subst (λ (w : WordsState). IsCaller w c.into_pass.result) before.same.table c.into_pass.ensures.caller;
       by = ap (λ (p : PassState ℕ). p.view.by) c.into_pass.ensures.pass ∙ before.same.by;
       grounds =
-          holds_of_all g.K.TableKey.name (λ cs p. HaveGrounds g.K.TableKey.hash set p.view.seen cs told) c.loop-command.yielded c.args.job.commands.items c.loop-command.caller.pass c.into_pass.result
+          holds_of_all g.K.TableKey.name (λ cs p. HaveGrounds g.K.TableKey.hash set p.view.seen cs told) c.loop-command.yielded c.args.job.commands.items c.loop-command.caller c.into_pass.result
           before.grounds all c.into_pass.ensures.pass;
       entries = λ by is.
-          holds_of_all g.K.TableKey.name (λ cs p. HaveLeft set.callers by cs told p.view.mine) c.loop-command.yielded c.args.job.commands.items c.loop-command.caller.pass c.into_pass.result
+          holds_of_all g.K.TableKey.name (λ cs p. HaveLeft set.callers by cs told p.view.mine) c.loop-command.yielded c.args.job.commands.items c.loop-command.caller c.into_pass.result
           (before.entries by is) all c.into_pass.ensures.pass;
     }

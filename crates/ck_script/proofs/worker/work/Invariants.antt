@@ -11,6 +11,6 @@ invariant-loop-command g l = record {
   same : IsSameCaller l.initial.caller l.caller;
   count : vec_len l.answers ≡ length l.yielded;
   room : vec_capacity l.initial.answers ≤ vec_capacity l.answers;
-  grounds : HaveGrounds g.K.TableKey.hash l.initial.caller.table.settings l.caller.pass.view.seen (map (on_names g.K.TableKey.name) l.yielded) (answers_on_names g.K.TableKey.name l.answers.items);
-  entries : (by : ℕ) → l.initial.caller.pass.view.by ≡ Some by → HaveLeft l.initial.caller.table.settings.callers by (map (on_names g.K.TableKey.name) l.yielded) (answers_on_names g.K.TableKey.name l.answers.items) l.caller.pass.view.mine;
+  grounds : HaveGrounds g.K.TableKey.hash l.initial.caller.table.settings l.caller.client.seen (map (on_names g.K.TableKey.name) l.yielded) (answers_on_names g.K.TableKey.name l.answers.items);
+  entries : (by : ℕ) → l.initial.caller.client.by ≡ Some by → HaveLeft l.initial.caller.table.settings.callers by (map (on_names g.K.TableKey.name) l.yielded) (answers_on_names g.K.TableKey.name l.answers.items) l.caller.client.mine;
 }

@@ -2,4 +2,4 @@ use Rattle.std.proofs.Common.{◌≡◌}
 use Rattle.ck_session_tests.proofs.sessions.drain.Given as goal
 
 abbrev pub invariant-loop-key : goal.invariant-loop-key
-invariant-loop-key g l = l.locked.table ≡ l.fn.locked.table
+invariant-loop-key g l = l.locked.caller ≡ l.fn.locked.caller

@@ -1,10 +1,12 @@
-use Rattle.cuckoo_map.proofs.Callers.{same_caller, by_result}
+use Rattle.std.proofs.lemmas.Result.{IfOk-weaker}
+use Rattle.cuckoo_map.proofs.Callers.{OfName, replies_on, query}
+use Rattle.cuckoo_map.proofs.Told.{told_erased}
 use Rattle.cuckoo_map.proofs.caller.Caller.erase.Goals as goal
 
-pub returns-clause-same : goal.returns-clause-same
-returns-clause-same g c =
-    same_caller c.args.self.now c.self.inside.table.now c.self.inside.pass c.erase.new.pass c.self.view_is
-    (by_result c.erase.result c.erase.ensures.answered c.erase.ensures.busy (λ r h. h.stays.by) (λ r h. h.stays.by))
-
-pub returns-clause-found : goal.returns-clause-found
-returns-clause-found g c = rw (← c.self.view_is) c.erase.ensures.found
+pub returns : goal.returns
+returns g c =
+    let name = g.Q.Query.name c.args.key in
+    let q = c.erase.new.pass in
+    let told = IfOk-weaker c.erase.result _ _ (told_erased (replies_on c.self.inside.pass q c.self.view_is name)) c.erase.ensures.answered in
+    let left = query c.self.inside.pass q c.self.view_is c.self.invariant c.erase.ensures.caller (OfName g.K.TableKey.hash name) (λ busy. busy.0) c.erase.result told c.erase.ensures.busy c.erase.ensures.found in
+    record { same = left.same; answered = left.answered; notes = left.notes; busy = left.busy; found = left.found }

@@ -1,10 +1,12 @@
-use Rattle.cuckoo_map.proofs.Callers.{same_caller, by_result}
+use Rattle.std.proofs.lemmas.Result.{IfOk-weaker}
+use Rattle.cuckoo_map.proofs.Callers.{OfName, replies_on, query}
+use Rattle.cuckoo_map.proofs.Told.{told_found}
 use Rattle.cuckoo_map.proofs.caller.Caller.find.Goals as goal
 
-pub returns-clause-same : goal.returns-clause-same
-returns-clause-same g c =
-    same_caller c.args.self.now c.self.inside.table.now c.self.inside.pass c.find.new.pass c.self.view_is
-    (by_result c.find.result c.find.ensures.answered c.find.ensures.busy (λ r h. h.stays.by) (λ r h. h.stays.by))
-
-pub returns-clause-found : goal.returns-clause-found
-returns-clause-found g c = rw (← c.self.view_is) c.find.ensures.found
+pub returns : goal.returns
+returns g c =
+    let name = g.Q.Query.name c.args.key in
+    let q = c.find.new.pass in
+    let told = IfOk-weaker c.find.result _ _ (told_found (replies_on c.self.inside.pass q c.self.view_is name)) c.find.ensures.answered in
+    let left = query c.self.inside.pass q c.self.view_is c.self.invariant c.find.ensures.caller (OfName g.K.TableKey.hash name) (λ busy. busy.0) c.find.result told c.find.ensures.busy c.find.ensures.found in
+    record { same = left.same; answered = left.answered; notes = left.notes; busy = left.busy; found = left.found }

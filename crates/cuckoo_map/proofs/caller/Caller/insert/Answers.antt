@@ -1,10 +1,12 @@
-use Rattle.cuckoo_map.proofs.Callers.{same_caller, by_result}
+use Rattle.std.proofs.lemmas.Result.{IfOk-weaker}
+use Rattle.cuckoo_map.proofs.Callers.{replies_inserting, insertion}
+use Rattle.cuckoo_map.proofs.Told.{told_inserted}
 use Rattle.cuckoo_map.proofs.caller.Caller.insert.Goals as goal
 
-pub returns-clause-same : goal.returns-clause-same
-returns-clause-same g c =
-    same_caller c.args.self.now c.self.inside.table.now c.self.inside.pass c.insert.new.pass c.self.view_is
-    (by_result c.insert.result c.insert.ensures.answered c.insert.ensures.refused (λ r h. h.2.stays.by) (λ e h. h.2.stays.by))
-
-pub returns-clause-found : goal.returns-clause-found
-returns-clause-found g c = rw (← c.self.view_is) c.insert.ensures.found
+pub returns : goal.returns
+returns g c =
+    let name = g.K.TableKey.name c.args.key in
+    let q = c.insert.new.pass in
+    let told = IfOk-weaker c.insert.result _ _ (told_inserted (replies_inserting c.self.inside.pass q c.self.view_is name) c.args.value) c.insert.ensures.answered in
+    let left = insertion c.self.inside.pass q c.self.view_is c.self.invariant c.insert.ensures.caller g.K.TableKey.hash name c.args.key c.args.value c.insert.result told c.insert.ensures.refused c.insert.ensures.found in
+    record { same = left.same; answered = left.answered; notes = left.notes; refused = left.refused; found = left.found }

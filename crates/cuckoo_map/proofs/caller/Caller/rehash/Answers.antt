@@ -1,8 +1,18 @@
-use Rattle.cuckoo_map.proofs.Callers.{same_caller}
+use Rattle.ck_words.specs.Words.{WordsState}
+use Rattle.ck_words.specs.Passes.{PassState}
+use Rattle.ck_words.specs.Retries.{Stays, FindsAmong}
+use Rattle.cuckoo_map.specs.Refusals.{IsStripeIn}
+use Rattle.cuckoo_map.specs.Growth.{Rehashes}
+use Rattle.cuckoo_map.proofs.Callers.{same_caller, over}
 use Rattle.cuckoo_map.proofs.caller.Caller.rehash.Goals as goal
 
-pub returns-clause-same : goal.returns-clause-same
-returns-clause-same g c = same_caller c.args.self.now c.self.inside.table.now c.self.inside.pass c.rehash.new.pass c.self.view_is c.rehash.ensures.stays.by
-
-pub returns-clause-found : goal.returns-clause-found
-returns-clause-found g c = rw (← c.self.view_is) c.rehash.ensures.found
+pub returns : goal.returns
+returns g c =
+    let q = c.rehash.new.pass in
+    let caller = c.rehash.ensures.caller in
+    record {
+      same = same_caller c.self.inside.pass q c.self.view_is c.rehash.ensures.stays.by;
+      stays = over c.self.inside.pass q c.self.view_is c.self.invariant caller (λ (w : WordsState) (a b : PassState g.row.V.Denot). Stays a.view b.view) c.rehash.ensures.stays;
+      rehashed = over c.self.inside.pass q c.self.view_is c.self.invariant caller (λ (w : WordsState) (a b : PassState g.row.V.Denot). Rehashes w.settings c.args.power c.rehash.result a b) c.rehash.ensures.rehashed;
+      found = over c.self.inside.pass q c.self.view_is c.self.invariant caller (λ (w : WordsState) (a b : PassState g.row.V.Denot). FindsAmong (IsStripeIn w.settings) a b) c.rehash.ensures.found;
+    }

@@ -1,10 +1,13 @@
-use Rattle.cuckoo_map.proofs.Callers.{same_caller, by_result, by_option, by_bool}
+use Rattle.std.specs.Fn.{FnOnceReturnsAt}
+use Rattle.std.proofs.lemmas.Result.{IfOk-weaker}
+use Rattle.cuckoo_map.proofs.Callers.{OfName, replies_on, query}
+use Rattle.cuckoo_map.proofs.Told.{told_replaced}
 use Rattle.cuckoo_map.proofs.caller.Caller.replace_if.Goals as goal
 
-pub returns-clause-same : goal.returns-clause-same
-returns-clause-same g c =
-    same_caller c.args.self.now c.self.inside.table.now c.self.inside.pass c.replace_if.new.pass c.self.view_is
-    (by_result c.replace_if.result c.replace_if.ensures.answered c.replace_if.ensures.busy (λ o h. by_option o h (λ none. none.stays.by) (λ b some. by_bool b some.1 (λ made. made.2.stays.by) (λ kept. kept.1.stays.by))) (λ r h. h.stays.by))
-
-pub returns-clause-found : goal.returns-clause-found
-returns-clause-found g c = rw (← c.self.view_is) c.replace_if.ensures.found
+pub returns : goal.returns
+returns g c =
+    let name = g.Q.Query.name c.args.key in
+    let q = c.replace_if.new.pass in
+    let told = IfOk-weaker c.replace_if.result _ _ (told_replaced (replies_on c.self.inside.pass q c.self.view_is name) (FnOnceReturnsAt g.F.FnOnce c.args.f)) c.replace_if.ensures.answered in
+    let left = query c.self.inside.pass q c.self.view_is c.self.invariant c.replace_if.ensures.caller (OfName g.K.TableKey.hash name) (λ busy. busy.0) c.replace_if.result told c.replace_if.ensures.busy c.replace_if.ensures.found in
+    record { same = left.same; answered = left.answered; notes = left.notes; busy = left.busy; found = left.found }

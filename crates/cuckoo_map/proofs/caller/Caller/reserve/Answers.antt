@@ -1,8 +1,18 @@
-use Rattle.cuckoo_map.proofs.Callers.{same_caller}
+use Rattle.ck_words.specs.Words.{WordsState}
+use Rattle.ck_words.specs.Passes.{PassState}
+use Rattle.ck_words.specs.Retries.{Stays, FindsAmong}
+use Rattle.cuckoo_map.specs.Refusals.{IsStripeIn}
+use Rattle.cuckoo_map.specs.Growth.{Reserves}
+use Rattle.cuckoo_map.proofs.Callers.{same_caller, over}
 use Rattle.cuckoo_map.proofs.caller.Caller.reserve.Goals as goal
 
-pub returns-clause-same : goal.returns-clause-same
-returns-clause-same g c = same_caller c.args.self.now c.self.inside.table.now c.self.inside.pass c.reserve.new.pass c.self.view_is c.reserve.ensures.stays.by
-
-pub returns-clause-found : goal.returns-clause-found
-returns-clause-found g c = rw (← c.self.view_is) c.reserve.ensures.found
+pub returns : goal.returns
+returns g c =
+    let q = c.reserve.new.pass in
+    let caller = c.reserve.ensures.caller in
+    record {
+      same = same_caller c.self.inside.pass q c.self.view_is c.reserve.ensures.stays.by;
+      stays = over c.self.inside.pass q c.self.view_is c.self.invariant caller (λ (w : WordsState) (a b : PassState g.row.V.Denot). Stays a.view b.view) c.reserve.ensures.stays;
+      reserved = over c.self.inside.pass q c.self.view_is c.self.invariant caller (λ (w : WordsState) (a b : PassState g.row.V.Denot). Reserves w.settings c.args.n c.reserve.result a b) c.reserve.ensures.reserved;
+      found = over c.self.inside.pass q c.self.view_is c.self.invariant caller (λ (w : WordsState) (a b : PassState g.row.V.Denot). FindsAmong (IsStripeIn w.settings) a b) c.reserve.ensures.found;
+    }

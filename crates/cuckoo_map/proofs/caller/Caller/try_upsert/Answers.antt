@@ -1,16 +1,13 @@
 use Rattle.std.proofs.Common.{Result}
-use Rattle.cuckoo_map.specs.Insertions.{IsInserted}
-use Rattle.cuckoo_map.proofs.Callers.{same_caller, by_result}
-use Rattle.cuckoo_map.proofs.Told.{tried}
+use Rattle.std.proofs.lemmas.Result.{IfOk-weaker}
+use Rattle.cuckoo_map.proofs.Callers.{replies_inserting, insertion}
+use Rattle.cuckoo_map.proofs.Told.{told_tried}
 use Rattle.cuckoo_map.proofs.caller.Caller.try_upsert.Goals as goal
 
-pub returns-clause-same : goal.returns-clause-same
-returns-clause-same g c =
-    same_caller c.args.self.now c.self.inside.table.now c.self.inside.pass c.try_upsert.new.pass c.self.view_is
-    (by_result c.try_upsert.result c.try_upsert.ensures.answered c.try_upsert.ensures.refused
-    (λ answer h. (tried (IsInserted (g.K.TableKey.name c.args.key) c.self.inside.pass c.try_upsert.new.pass)
-    (λ (v : g.row.V.Denot) (r : Result g.row.V.Denot (g.row.V.Denot × g.row.E.Denot)). g.F.FnOnce.post c.args.f (v, tt) r) c.args.value answer h).2.2.stays.by)
-    (λ e h. h.2.stays.by))
-
-pub returns-clause-found : goal.returns-clause-found
-returns-clause-found g c = rw (← c.self.view_is) c.try_upsert.ensures.found
+pub returns : goal.returns
+returns g c =
+    let name = g.K.TableKey.name c.args.key in
+    let q = c.try_upsert.new.pass in
+    let told = IfOk-weaker c.try_upsert.result _ _ (told_tried (replies_inserting c.self.inside.pass q c.self.view_is name) (λ (v : g.row.V.Denot) (r : Result g.row.V.Denot (g.row.V.Denot × g.row.E.Denot)). g.F.FnOnce.post c.args.f (v, tt) r) c.args.value) c.try_upsert.ensures.answered in
+    let left = insertion c.self.inside.pass q c.self.view_is c.self.invariant c.try_upsert.ensures.caller g.K.TableKey.hash name c.args.key c.args.value c.try_upsert.result told c.try_upsert.ensures.refused c.try_upsert.ensures.found in
+    record { same = left.same; answered = left.answered; notes = left.notes; refused = left.refused; found = left.found }

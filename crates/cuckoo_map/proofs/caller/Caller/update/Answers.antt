@@ -1,10 +1,12 @@
-use Rattle.cuckoo_map.proofs.Callers.{same_caller, by_result}
+use Rattle.std.proofs.lemmas.Result.{IfOk-weaker, IfErr-weaker}
+use Rattle.cuckoo_map.proofs.Callers.{OfName, replies_on, query}
+use Rattle.cuckoo_map.proofs.Told.{told_updated}
 use Rattle.cuckoo_map.proofs.caller.Caller.update.Goals as goal
 
-pub returns-clause-same : goal.returns-clause-same
-returns-clause-same g c =
-    same_caller c.args.self.now c.self.inside.table.now c.self.inside.pass c.update.new.pass c.self.view_is
-    (by_result c.update.result c.update.ensures.answered c.update.ensures.busy (λ r h. h.stays.by) (λ back h. h.1.stays.by))
-
-pub returns-clause-found : goal.returns-clause-found
-returns-clause-found g c = rw (← c.self.view_is) c.update.ensures.found
+pub returns : goal.returns
+returns g c =
+    let name = g.Q.Query.name c.args.key in
+    let q = c.update.new.pass in
+    let told = IfOk-weaker c.update.result _ _ (told_updated (replies_on c.self.inside.pass q c.self.view_is name) c.args.value) c.update.ensures.answered in
+    let left = query c.self.inside.pass q c.self.view_is c.self.invariant c.update.ensures.caller (OfName g.K.TableKey.hash name) (λ back. back.1.0) c.update.result told (IfErr-weaker c.update.result _ _ (λ back h. h.1) c.update.ensures.busy) c.update.ensures.found in
+    record { same = left.same; answered = left.answered; notes = left.notes; back = IfErr-weaker c.update.result _ _ (λ back h. h.0) c.update.ensures.busy; busy = left.busy; found = left.found }

@@ -1,10 +1,12 @@
-use Rattle.cuckoo_map.proofs.Callers.{same_caller, by_result, by_bool}
+use Rattle.std.proofs.lemmas.Result.{IfOk-weaker}
+use Rattle.cuckoo_map.proofs.Callers.{OfName, replies_on, query}
+use Rattle.cuckoo_map.proofs.Told.{told_changed}
 use Rattle.cuckoo_map.proofs.caller.Caller.update_fn.Goals as goal
 
-pub returns-clause-same : goal.returns-clause-same
-returns-clause-same g c =
-    same_caller c.args.self.now c.self.inside.table.now c.self.inside.pass c.update_fn.new.pass c.self.view_is
-    (by_result c.update_fn.result c.update_fn.ensures.answered c.update_fn.ensures.busy (λ b h. by_bool b h (λ bound. bound.3.stays.by) (λ unbound. unbound.stays.by)) (λ r h. h.stays.by))
-
-pub returns-clause-found : goal.returns-clause-found
-returns-clause-found g c = rw (← c.self.view_is) c.update_fn.ensures.found
+pub returns : goal.returns
+returns g c =
+    let name = g.Q.Query.name c.args.key in
+    let q = c.update_fn.new.pass in
+    let told = IfOk-weaker c.update_fn.result _ _ (told_changed (replies_on c.self.inside.pass q c.self.view_is name) _) c.update_fn.ensures.answered in
+    let left = query c.self.inside.pass q c.self.view_is c.self.invariant c.update_fn.ensures.caller (OfName g.K.TableKey.hash name) (λ busy. busy.0) c.update_fn.result told c.update_fn.ensures.busy c.update_fn.ensures.found in
+    record { same = left.same; answered = left.answered; notes = left.notes; busy = left.busy; found = left.found }

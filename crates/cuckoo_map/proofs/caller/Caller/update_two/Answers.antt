@@ -1,10 +1,16 @@
-use Rattle.cuckoo_map.proofs.Callers.{same_caller, by_result, by_bool}
+use Rattle.std.proofs.lemmas.Result.{IfOk-weaker}
+use Rattle.ck_model.specs.declared.history.Call.TheVariants.{ChangeTwo}
+use Rattle.ck_words.specs.Words.{WordsState}
+use Rattle.cuckoo_map.specs.Refusals.{IsStripeOfEither}
+use Rattle.cuckoo_map.proofs.Callers.{replies, query}
+use Rattle.cuckoo_map.proofs.Told.{told_changed_two}
 use Rattle.cuckoo_map.proofs.caller.Caller.update_two.Goals as goal
 
-pub returns-clause-same : goal.returns-clause-same
-returns-clause-same g c =
-    same_caller c.args.self.now c.self.inside.table.now c.self.inside.pass c.update_two.new.pass c.self.view_is
-    (by_result c.update_two.result c.update_two.ensures.answered c.update_two.ensures.busy (λ b h. by_bool b h (λ bound. bound.5.stays.by) (λ unbound. unbound.stays.by)) (λ r h. h.stays.by))
-
-pub returns-clause-found : goal.returns-clause-found
-returns-clause-found g c = rw (← c.self.view_is) c.update_two.ensures.found
+pub returns : goal.returns
+returns g c =
+    let a = g.Q.Query.name c.args.a in
+    let b = g.Q.Query.name c.args.b in
+    let q = c.update_two.new.pass in
+    let told = IfOk-weaker c.update_two.result _ _ (told_changed_two (replies c.self.inside.pass q c.self.view_is (ChangeTwo a b)) (λ (v w : g.row.V.Denot) (new : g.row.V.Denot × g.row.V.Denot). g.F.FnOnce.post c.args.f (v, (w, tt)) new)) c.update_two.ensures.answered in
+    let left = query c.self.inside.pass q c.self.view_is c.self.invariant c.update_two.ensures.caller (λ (w : WordsState). IsStripeOfEither g.K.TableKey.hash w.settings a b) (λ busy. busy.0) c.update_two.result told c.update_two.ensures.busy c.update_two.ensures.found in
+    record { same = left.same; answered = left.answered; notes = left.notes; busy = left.busy; found = left.found }

@@ -1,10 +1,12 @@
-use Rattle.cuckoo_map.proofs.Callers.{same_caller, by_result, by_bool}
+use Rattle.std.proofs.lemmas.Result.{IfOk-weaker}
+use Rattle.cuckoo_map.proofs.Callers.{replies_inserting, insertion}
+use Rattle.cuckoo_map.proofs.Told.{told_upserted}
 use Rattle.cuckoo_map.proofs.caller.Caller.upsert.Goals as goal
 
-pub returns-clause-same : goal.returns-clause-same
-returns-clause-same g c =
-    same_caller c.args.self.now c.self.inside.table.now c.self.inside.pass c.upsert.new.pass c.self.view_is
-    (by_result c.upsert.result c.upsert.ensures.answered c.upsert.ensures.refused (λ b h. by_bool b h (λ new. new.2.stays.by) (λ old. old.3.2.stays.by)) (λ e h. h.2.stays.by))
-
-pub returns-clause-found : goal.returns-clause-found
-returns-clause-found g c = rw (← c.self.view_is) c.upsert.ensures.found
+pub returns : goal.returns
+returns g c =
+    let name = g.K.TableKey.name c.args.key in
+    let q = c.upsert.new.pass in
+    let told = IfOk-weaker c.upsert.result _ _ (told_upserted (replies_inserting c.self.inside.pass q c.self.view_is name) _ c.args.value) c.upsert.ensures.answered in
+    let left = insertion c.self.inside.pass q c.self.view_is c.self.invariant c.upsert.ensures.caller g.K.TableKey.hash name c.args.key c.args.value c.upsert.result told c.upsert.ensures.refused c.upsert.ensures.found in
+    record { same = left.same; answered = left.answered; notes = left.notes; refused = left.refused; found = left.found }

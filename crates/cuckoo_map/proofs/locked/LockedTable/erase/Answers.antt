@@ -4,7 +4,7 @@ use Rattle.cuckoo_map.proofs.Sessions.{only_stripes, place_held, acted_locked, h
 use Rattle.cuckoo_map.proofs.locked.LockedTable.erase.Goals as goal
 
 pub erase-requires : goal.erase-requires
-erase-requires g c = place_held c.self.view_is (g.Q.Query.name c.args.key) c.place-place.result c.place-place.ensures.place
+erase-requires g c = place_held c.self.inside.whole c.self.view_is (g.Q.Query.name c.args.key) c.place-place.result c.place-place.ensures.place
 
 pub invariant_of-self : goal.invariant_of-self
 invariant_of-self g c =

@@ -21,7 +21,7 @@ returns g c =
     let hash = g.K.TableKey.hash in
     let set = c.self.inside.table.now.settings in
     let lawful = subst (λ (ss : List (StripeState V)). Lawful (layout_of hash set) (contents_of ss)) (sym c.stripes_of.ensures) c.self.invariant.renewed.lawful in
-    let same = c.stripes_of.ensures ∙ ap (λ (l : LockedState V). l.pass.stripes) c.self.view_is in
+    let same = c.stripes_of.ensures ∙ ap (λ (l : LockedState V). l.stripes) c.self.view_is in
     record {
       pairs = IfOk-weaker c.export.result _ _
           (λ pairs lists. subst (λ (ss : List (StripeState V)). ListsInOrder g.K.TableKey.name g.K.Ord.cmp pairs.items (bindings (contents_of ss))) same (lists set.s set.max lawful))

@@ -5,7 +5,7 @@ use Rattle.cuckoo_map.proofs.locked.LockedTable.put_with_room.Goals as goal
 
 pub unreachable-requires : goal.unreachable-requires
 unreachable-requires g c =
-    let same = c.place-place.ensures.s ∙ sym (ap (λ (l : LockedState g.row.V.Denot). l.table.settings.s) c.self.view_is) in
+    let same = c.place-place.ensures.s ∙ sym (ap (λ (l : LockedState g.row.V.Denot). l.caller.table.settings.s) c.self.view_is) in
     not_without g.K.TableKey.hash c.self.inside.table.now c.self.inside.whole c.self.invariant c.place-place.result same (g.K.TableKey.name c.args.key) c.make_room.new.self c.self.view_is
     c.in_default.ensures.room c.in-Err-put_in.ensures.full.3
 

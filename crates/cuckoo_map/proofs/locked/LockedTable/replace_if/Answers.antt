@@ -6,7 +6,7 @@ use Rattle.cuckoo_map.proofs.Sessions.{only_stripes, place_held, acted_locked, h
 use Rattle.cuckoo_map.proofs.locked.LockedTable.replace_if.Goals as goal
 
 pub replace_if-replaced-requires-clause-place : goal.replace_if-replaced-requires-clause-place
-replace_if-replaced-requires-clause-place g c = place_held c.self.view_is (g.Q.Query.name c.args.key) c.place-place.result c.place-place.ensures.place
+replace_if-replaced-requires-clause-place g c = place_held c.self.inside.whole c.self.view_is (g.Q.Query.name c.args.key) c.place-place.result c.place-place.ensures.place
 
 pub invariant_of-self : goal.invariant_of-self
 invariant_of-self g c =

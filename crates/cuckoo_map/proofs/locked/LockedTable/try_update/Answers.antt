@@ -5,7 +5,7 @@ use Rattle.cuckoo_map.proofs.Sessions.{only_stripes, place_held, acted_locked, h
 use Rattle.cuckoo_map.proofs.locked.LockedTable.try_update.Goals as goal
 
 pub try_update-outcome-requires-clause-place : goal.try_update-outcome-requires-clause-place
-try_update-outcome-requires-clause-place g c = place_held c.self.view_is (g.Q.Query.name c.args.key) c.place-place.result c.place-place.ensures.place
+try_update-outcome-requires-clause-place g c = place_held c.self.inside.whole c.self.view_is (g.Q.Query.name c.args.key) c.place-place.result c.place-place.ensures.place
 
 pub invariant_of-self : goal.invariant_of-self
 invariant_of-self g c =

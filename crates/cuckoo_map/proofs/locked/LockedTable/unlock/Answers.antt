@@ -1,4 +1,4 @@
-use Rattle.std.proofs.Common.{◌^◌, ◌∙◌, sym, ap, subst}
+use Rattle.std.proofs.Common.{◌^◌, ◌∙◌, refl, sym, ap, subst}
 use Rattle.ck_model.specs.declared.history.Reply.TheVariants.{Closed}
 use Rattle.ck_model.specs.Counting.{counting}
 use Rattle.ck_words.specs.Words.{WordsState}
@@ -7,8 +7,13 @@ use Rattle.ck_words.specs.Commits.{session_of}
 use Rattle.ck_model.specs.Contents.{layout_of}
 use Rattle.ck_model.specs.Sections.{HasAll}
 use Rattle.ck_words.specs.Answering.{HasDone, IsAnswered, FollowsSeen}
-use Rattle.cuckoo_map.specs.Locking.{LockedState}
+use Rattle.ck_model.specs.Promise.{Replied}
+use Rattle.ck_core.specs.State.{client_of}
+use Rattle.cuckoo_map.specs.Callers.{caller_of, IsSameCaller, KeepsNotes}
+use Rattle.cuckoo_map.specs.Locking.{LockedState, session_call, EndsSession}
+use Rattle.cuckoo_map.proofs.Callers.{same_caller, keeps_notes}
 use Rattle.cuckoo_map.proofs.Sessions.{numbered, each_of, had_all_held, session_done}
+use Rattle.cuckoo_map.proofs.locked.LockedTable.unlock.Given.{Over}
 use Rattle.cuckoo_map.proofs.locked.LockedTable.unlock.Goals as goal
 
 pub lower-pass-requires-clause-numbered : goal.lower-pass-requires-clause-numbered
@@ -30,13 +35,21 @@ commit_session-requires-clause-done g c =
     subst (λ (w : WordsState). HasDone g.K.TableKey.hash w.settings (session_of q) Closed q) (sym c.table.view_is)
     (session_done g.K.TableKey.hash c.self.inside.table.now c.self.inside.whole c.self.invariant q c.lower-pass.ensures)
 
-pub returns-clause-answered : goal.returns-clause-answered
-returns-clause-answered g c =
+answered : (g : Over) (c : goal.After-commit_session g) → IsAnswered (session_of c.self.inside.whole) Closed c.self.inside.whole c.commit_session.new.pass
+answered g c =
     let q = c.lower-pass.result in
     let done = subst (λ (w : WordsState). HasDone g.K.TableKey.hash w.settings (session_of q) Closed q) (sym c.table.view_is)
     (session_done g.K.TableKey.hash c.self.inside.table.now c.self.inside.whole c.self.invariant q c.lower-pass.ensures) in
-    subst (λ (p : PassState g.row.V.Denot). IsAnswered (session_of p) Closed p c.commit_session.new.pass) (c.lower-pass.ensures ∙ ap (λ (l : LockedState g.row.V.Denot). l.pass) c.self.view_is)
-    (c.commit_session.ensures.answered Closed done)
+    subst (λ (p : PassState g.row.V.Denot). IsAnswered (session_of p) Closed p c.commit_session.new.pass) c.lower-pass.ensures (c.commit_session.ensures.answered Closed done)
+
+pub returns-clause-same : goal.returns-clause-same
+returns-clause-same g c =
+    let new = c.commit_session.new.pass in
+    subst (λ (x : LockedState g.row.V.Denot). IsSameCaller x.caller (caller_of x.caller.table new)) c.self.view_is (same_caller c.self.inside.whole new refl (answered g c).stays.by)
+
+pub returns-clause-answered : goal.returns-clause-answered
+returns-clause-answered g c =
+    subst (λ (x : LockedState g.row.V.Denot). Replied (session_call x) Closed x.caller.client (client_of c.commit_session.new.pass.view)) c.self.view_is (answered g c).replied
 
 pub returns-clause-follows : goal.returns-clause-follows
 returns-clause-follows g c =
@@ -44,5 +57,11 @@ returns-clause-follows g c =
     let h = g.K.TableKey.hash in
     let done = subst (λ (w : WordsState). HasDone h w.settings (session_of q) Closed q) (sym c.table.view_is) (session_done h c.self.inside.table.now c.self.inside.whole c.self.invariant q c.lower-pass.ensures) in
     let all : HasAll (layout_of h c.self.inside.table.now.settings) q.view.held = subst (λ (p : PassState g.row.V.Denot). HasAll (layout_of h c.self.inside.table.now.settings) p.view.held) (sym c.lower-pass.ensures) (had_all_held h c.self.inside.table.now c.self.inside.whole c.self.invariant) in
-    subst (λ (p : PassState g.row.V.Denot). FollowsSeen (session_of p) Closed p c.commit_session.new.pass) (c.lower-pass.ensures ∙ ap (λ (l : LockedState g.row.V.Denot). l.pass) c.self.view_is)
-    (c.commit_session.ensures.follows Closed done (subst (λ (w : WordsState). HasAll (layout_of h w.settings) q.view.held) (sym c.table.view_is) all))
+    let follows = c.commit_session.ensures.follows Closed done (subst (λ (w : WordsState). HasAll (layout_of h w.settings) q.view.held) (sym c.table.view_is) all) in
+    subst (λ (x : LockedState g.row.V.Denot). EndsSession x (client_of c.commit_session.new.pass.view)) c.self.view_is
+    (subst (λ (p : PassState g.row.V.Denot). FollowsSeen (session_of p) Closed p c.commit_session.new.pass) c.lower-pass.ensures follows)
+
+pub returns-clause-notes : goal.returns-clause-notes
+returns-clause-notes g c =
+    let new = c.commit_session.new.pass in
+    subst (λ (x : LockedState g.row.V.Denot). KeepsNotes x.caller (caller_of x.caller.table new)) c.self.view_is (keeps_notes c.self.inside.whole new refl (answered g c).stays)

@@ -1,6 +1,6 @@
 use Rattle.std.proofs.Common.{sym, subst}
 use Rattle.ck_words.specs.Passes.{PassState}
-use Rattle.cuckoo_map.specs.Locking.{IsLocked, HasLocked}
+use Rattle.cuckoo_map.specs.Locking.{IsLocked, HasLocked, locked_of}
 use Rattle.cuckoo_map.proofs.Sessions.{locked_by, has_locked}
 use Rattle.cuckoo_map.proofs.table.Table.lock_table.Goals as goal
 
@@ -13,5 +13,5 @@ invariant_of-result g c =
 pub returns-in-Ok-clause-locked : goal.returns-in-Ok-clause-locked
 returns-in-Ok-clause-locked g c =
     let h = c.in-Ok.ensures in
-    subst (λ (p : PassState g.row.V.Denot). HasLocked c.args.self.now c.args.pass (record { table = c.args.self.now; pass = p })) (sym c.lift.ensures)
-    (has_locked g.K.TableKey.hash c.args.self.now c.args.pass c.hold_table.new.pass h.stays h.whole h.found)
+    subst (λ (p : PassState g.row.V.Denot). HasLocked c.args.self.now c.args.pass (locked_of c.args.self.now p)) (sym c.lift.ensures)
+    (has_locked g.K.TableKey.hash c.args.self.now c.args.pass c.hold_table.new.pass c.requires h.stays h.whole h.found)

@@ -1,0 +1,30 @@
+-- What a caller knows besides what its client sees: what it was told, found and said.
+use Rattle.std.specs.Prelude.{ℕ, List, []}
+use Rattle.atomic_table.specs.Seated.{TableId}
+use Rattle.ck_model.specs.declared.history.Entry.{Entry}
+use Rattle.ck_model.specs.declared.history.Reason.{Reason}
+use Rattle.ck_model.specs.Promise.{Name, Client}
+use Rattle.ck_core.specs.declared.view.View.{View}
+use Rattle.ck_words.specs.Passes.{PassState}
+
+-- The power that it was told, how often it made the table double, the stripes that it found held, the names that it said found no room and why, and what another caller had seen and was told when it was last met.
+pub record Notes (V : Type 0) : Type 0 where
+  pub told : ℕ
+  pub doublings : ℕ
+  pub found : List ℕ
+  pub noroom : List (Name × Reason)
+  pub heard : List (Entry V)
+  pub heard_told : ℕ
+
+module _ {V : Type 0} where
+  -- the notes of a view
+  abbrev pub notes_of : View V → Notes V
+  notes_of v = record { told = v.told; doublings = v.doublings; found = v.found; noroom = v.noroom; heard = v.heard; heard_told = v.heard_told }
+
+  -- the view of a caller that holds no stripe and keeps no other's number
+  abbrev pub view_of : Client V → Notes V → View V
+  view_of c n = record { settings = c.settings; by = c.by; held = []; seen = c.seen; mine = c.mine; told = n.told; doublings = n.doublings; found = n.found; noroom = n.noroom; heard = n.heard; heard_told = n.heard_told; others = [] }
+
+  -- its pass
+  abbrev pub idle_pass : TableId → Client V → Notes V → PassState V
+  idle_pass table c n = record { table = table; view = view_of c n; stripes = [] }
