@@ -7,8 +7,10 @@ use Rattle.ck_core.specs.Laws.{Shows}
 use Rattle.ck_core.specs.Steps.{joining, message_of}
 use Rattle.ck_core.specs.Steps.Label.{Look}
 use Rattle.ck_words.specs.Words.{WordsState}
+use Rattle.atomic_table.specs.Seated.{TableId}
+use Rattle.ck_words.specs.Rule.{Hand}
 use Rattle.ck_words.specs.Passes.{PassState, LooksUp}
-use Rattle.ck_words.specs.Meeting.{Meets}
+use Rattle.ck_words.specs.Meeting.{Hears, told_by}
 use Rattle.ck_words.specs.Closing.{Gathers}
 use Rattle.ck_words.proofs.Rows.{shows_before, shows_after, look_row, look_told}
 
@@ -39,18 +41,20 @@ module _ {V : Type 0} where
         subst (Gathers hash w.settings b o) (sym (is_looked hash w b q o.view k))
         (record { by = refl; mine = refl; others = refl; held = refl; stripes = refl; seen = early.seen; heard = early.heard; shows = after hash w b q o.view k })
 
-    pub meets : (a b : PassState V) → p ≡ heard b (message_of a.view) → LooksUp hash w p q → Meets a b q
-    meets a b is l =
-        let k : LooksUp hash w (heard b (message_of a.view)) q = subst (λ x. LooksUp hash w x q) is l in
-        let early = before hash w b q (message_of a.view) k in
-        subst (Meets a b) (sym (is_looked hash w b q (message_of a.view) k)) (record {
+    pub hears : (b : PassState V) (table : TableId) (me : Hand V) → p ≡ heard b (message_of me.0) → LooksUp hash w p q → Hears (told_by table me) b q
+    hears b table me is l =
+        let u : View V = message_of me.0 in
+        let k : LooksUp hash w (heard b u) q = subst (λ x. LooksUp hash w x q) is l in
+        let early = before hash w b q u k in
+        subst (Hears (told_by table me) b) (sym (is_looked hash w b q u k)) (record {
           seen = early.seen;
           heard = early.heard;
-          told = look_told hash w.settings (joining b.view (message_of a.view)) q.view 0 k.1.0 k.1.2;
+          told = look_told hash w.settings (joining b.view u) q.view 0 k.1.0 k.1.2;
           heard_told = k.1.1;
           by = refl;
           mine = refl;
           others = refl;
+          doublings = refl;
           found = refl;
           noroom = refl;
           held = refl;

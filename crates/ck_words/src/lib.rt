@@ -24,4 +24,5 @@ pub use lent::Lent;
 pub use lift::Whole;
 pub use pass::Pass;
 pub use stripe_set::StripeSet;
+pub use views::Message;
 pub use words::Words;

@@ -2,13 +2,15 @@
 ghost use Rattle.std.specs.Prelude.{◌≡◌};
 ghost use Rattle.ck_core.specs.Steps.{joining};
 ghost use Rattle.ck_words.specs.Passes.{IsPassOf, IsIdle};
-ghost use Rattle.ck_words.specs.Meeting.{Meets};
+ghost use Rattle.ck_words.specs.Meeting.{message_from, Hears, Meets};
 
 use crate::pass::Pass;
+use crate::rule::StripeSeat;
 use crate::words::Words;
 use atomic_table::{Join, Split};
 use ck_core::view::View;
 use ck_key::TableKey;
+use std::marker::Model;
 
 /// What a caller has seen is split off, and joined to another caller's view.
 pub struct Tell;
@@ -29,7 +31,47 @@ impl<V> Join<View<V>> for Tell {
     ghost spent = { spent };
 }
 
+/// What a caller had seen and was told, for another caller of its table to hear. It may go to
+/// another thread.
+#[derive(Drop)]
+pub struct Message<K: TableKey, V> {
+    pub(crate) seat: StripeSeat<K, V>,
+}
+
+impl<K: TableKey, V> Model for Message<K, V> {
+    ghost use Rattle.ck_words.specs.Meeting.{MessageState, told_by, IsMessage};
+
+    ghost Value = { MessageState V };
+
+    ghost view = { λ m. told_by m.seat.table_id m.seat.me };
+
+    ghost invariant = { λ m. IsMessage m.seat.me };
+}
+
 impl<K: TableKey + Drop, V: Drop> Words<K, V> {
+    /// What `a` has seen and was told, for another to hear.
+    pub fn tell(&self, a: &mut Pass<K, V>) -> Message<K, V>
+        requires own { IsPassOf self.now a.old }
+        ensures left { a.new ≡ a.old }
+        ensures told { result ≡ message_from a.old }
+    {
+        let seat = self.table.shared.split_seat::<Tell>(&mut a.seat);
+        Message { seat }
+    }
+
+    /// Lets `b` hear what another caller told: what that one had seen is then a beginning of what
+    /// `b` has seen, and `b` was told no lower power. What `b` had seen is a beginning too.
+    pub fn hear(&self, b: &mut Pass<K, V>, message: Message<K, V>)
+        requires own { IsPassOf self.now b.old }
+        requires of_table { message.table ≡ self.now.table }
+        ensures own { IsPassOf self.now b.new }
+        ensures heard { Hears message b.old b.new }
+    {
+        let Message { seat } = message;
+        self.table.shared.join_seat::<Tell>(&mut b.seat, seat);
+        self.look(b);
+    }
+
     /// Tells `b` what `a` has seen: that is then a beginning of what `b` has seen, and `b` was told
     /// no lower power. What `b` had seen is a beginning too.
     pub fn meet(&self, a: &mut Pass<K, V>, b: &mut Pass<K, V>)
@@ -38,9 +80,8 @@ impl<K: TableKey + Drop, V: Drop> Words<K, V> {
         ensures left { a.new ≡ a.old }
         ensures met { Meets a.old b.old b.new }
     {
-        let told = self.table.shared.split_seat::<Tell>(&mut a.seat);
-        self.table.shared.join_seat::<Tell>(&mut b.seat, told);
-        self.look(b);
+        let message = self.tell(a);
+        self.hear(b, message);
     }
 
     /// Joins an idle pass to another, which has then heard what it has seen, and keeps its numbers.
