@@ -14,7 +14,7 @@ use Rattle.ck_core.specs.State.{client_of}
 use Rattle.ck_words.specs.Words.{WordsState}
 use Rattle.ck_words.specs.Passes.{PassState}
 use Rattle.ck_words.specs.Retries.{Stays, FindsAmong}
-use Rattle.ck_words.specs.Meeting.{Meets}
+use Rattle.ck_words.specs.Meeting.{MessageState, Hears}
 use Rattle.cuckoo_map.specs.declared.refusal.Busy.{Busy}
 use Rattle.cuckoo_map.specs.declared.refusal.DrainFault.{DrainFault}
 use Rattle.cuckoo_map.specs.declared.refusal.DrainFault.TheVariants as drain
@@ -80,9 +80,17 @@ module _ {V : Type 0} where
   abbrev pub StaysAsIs : CallerState V → CallerState V → Type 0
   StaysAsIs c d = Stays (pass_of c).view (pass_of d).view
 
+  -- what it tells others
+  abbrev pub message_of_caller : CallerState V → MessageState V
+  message_of_caller c = record { table = c.table.table; seen = c.client.seen; told = c.notes.told }
+
+  -- d has heard the message
+  abbrev pub HearsMessage : MessageState V → CallerState V → CallerState V → Type 0
+  HearsMessage message c d = Hears message (pass_of c) (pass_of d)
+
   -- d has met a
   abbrev pub MeetsCaller : CallerState V → CallerState V → CallerState V → Type 0
-  MeetsCaller a c d = Meets (pass_of a) (pass_of c) (pass_of d)
+  MeetsCaller a c d = HearsMessage (message_of_caller a) c d
 
   -- the table was to have 2^power buckets at least
   abbrev pub GrowsTo : ℕ → Result Bool GrowFault → CallerState V → CallerState V → Type 0

@@ -9,7 +9,7 @@ use crate::refusal::{Busy, GrowFault, NoCallers, Refused};
 use crate::table::Table;
 use ck_key::{Query, TableKey};
 use ck_section::Uprased;
-use ck_words::Pass;
+use ck_words::{Message, Pass};
 use std::alloc::Global;
 use std::marker::Model;
 
@@ -72,7 +72,7 @@ impl<'t, K: TableKey + Drop, V: Drop> Caller<'t, K, V> {
     ghost use Rattle.ck_section.specs.Acts.{Finds, FindsBound, FindsBy, Inserts, InsertsBy, FindsOrInserts};
     ghost use Rattle.ck_section.specs.Acts.{Assigns, Upserts, Uprases, TriesUpsert, Updates, Changes};
     ghost use Rattle.ck_section.specs.Acts.{ReplacesIf, TriesChange, Erases, ErasesBy, ChangesTwo};
-    ghost use Rattle.cuckoo_map.specs.Callers.{pass_of, IsSameCaller, Replies, RepliesOn, KeepsNotes, NotesFull, StaysAsIs, MeetsCaller};
+    ghost use Rattle.cuckoo_map.specs.Callers.{pass_of, IsSameCaller, Replies, RepliesOn, KeepsNotes, NotesFull, StaysAsIs, MeetsCaller, HearsMessage, message_of_caller};
     ghost use Rattle.cuckoo_map.specs.Callers.{Counts, GrowsTo, GrowsFor, ComesBack, IsBusyOn, IsBusyOnTwo};
     ghost use Rattle.cuckoo_map.specs.Callers.{IsBusyOnSome, IsBusyOnAny, FindsHeldOwn, FindsHeldUnlessFull};
     ghost use Rattle.cuckoo_map.specs.Callers.{FindsHeldOfTwo, FindsHeldAmong, FindsHeldOfAny};
@@ -637,6 +637,30 @@ impl<'t, K: TableKey + Drop, V: Drop> Caller<'t, K, V> {
             Ok(locked) => Ok(locked),
             Err((pass, busy)) => Err((table.caller(pass), busy)),
         }
+    }
+
+    /// What this caller has seen, for another caller of the table to hear. It can go to another
+    /// thread, through a channel or as what a thread returns. It is `Table::tell`.
+    ///
+    /// ```
+    /// let message = teller.tell();
+    /// auditor.hear(message);
+    /// ```
+    pub fn tell(&mut self) -> Message<K, V>
+        ensures left { self.new ≡ self.old }
+        ensures told { result ≡ message_of_caller self.old }
+    {
+        self.table.tell(&mut self.pass)
+    }
+
+    /// Hears what another caller of the table told: what that one had seen is then a beginning of
+    /// what this one has seen, and so is what this one had seen. It is `Table::hear`.
+    pub fn hear(&mut self, message: Message<K, V>)
+        requires { message.table ≡ self.old.table.table }
+        ensures same { IsSameCaller self.old self.new }
+        ensures heard { HearsMessage message self.old self.new }
+    {
+        self.table.hear(&mut self.pass, message);
     }
 
     /// Tells the other caller of this table what this one has seen: that is then a beginning of

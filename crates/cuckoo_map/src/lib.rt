@@ -56,7 +56,7 @@ pub use caller::Caller;
 pub use ck_key::{KeyFault, MixedKey, NumKey, Query, TableKey, TextKey};
 pub use ck_model::settings::{OutOfRange, Settings};
 pub use ck_section::{Iter, Uprased};
-pub use ck_words::Pass;
+pub use ck_words::{Message, Pass};
 pub use locked::LockedTable;
 pub use pool::{AllLent, NoPool, Pool};
 pub use refusal::{Busy, DrainFault, GrowFault, NoCallers, OpenFault, Refused, Why};

@@ -3,14 +3,14 @@ ghost use Rattle.std.specs.Prelude.{◌≡◌, IfOk, IfErr, Err};
 ghost use Rattle.ck_model.specs.Promise.{Map, ListsInOrder};
 ghost use Rattle.ck_model.specs.declared.settings.OutOfRange.{OutOfRange};
 ghost use Rattle.ck_model.specs.Ranges.{AreInRange, IsOut};
-ghost use Rattle.ck_words.specs.Meeting.{Meets};
+ghost use Rattle.ck_words.specs.Meeting.{message_from, Hears, Meets};
 ghost use Rattle.ck_model.specs.Counting.{counting};
 ghost use Rattle.ck_words.specs.Closing.{IsCaller, AreAllPasses, EachStays, Closes, dealt};
 
 use crate::refusal::OpenFault;
 use ck_key::TableKey;
 use ck_model::settings::Settings;
-use ck_words::{Pass, Words};
+use ck_words::{Message, Pass, Words};
 use std::alloc::Global;
 use std::marker::Model;
 
@@ -79,6 +79,29 @@ impl<K: TableKey + Drop, V: Drop> Table<K, V> {
             }
             Err((words, passes)) => Err((Table { words }, passes)),
         }
+    }
+
+    /// What `a` has seen and was told, for another caller of the table to hear. It can go to another
+    /// thread, through a channel or as what a thread returns.
+    pub fn tell(&self, a: &mut Pass<K, V>) -> Message<K, V>
+        requires { IsCaller self.now a.old }
+        ensures own { IsCaller self.now a.new }
+        ensures left { a.new ≡ a.old }
+        ensures told { result ≡ message_from a.old }
+    {
+        self.words.tell(a)
+    }
+
+    /// Lets `b` hear what another caller of the table told: what that one had seen is then a
+    /// beginning of what `b` has seen, and `b` was told no lower power. What `b` had seen is a
+    /// beginning too.
+    pub fn hear(&self, b: &mut Pass<K, V>, message: Message<K, V>)
+        requires own { IsCaller self.now b.old }
+        requires of_table { message.table ≡ self.now.table }
+        ensures own { IsCaller self.now b.new }
+        ensures heard { Hears message b.old b.new }
+    {
+        self.words.hear(b, message);
     }
 
     /// Tells `b` what `a` has seen: that is then a beginning of what `b` has seen, and `b` was told
