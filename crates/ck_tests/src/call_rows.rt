@@ -19,6 +19,8 @@ enum Step {
     Second(Call, Reply),
     /// The second caller meets the first.
     Meet,
+    /// The second caller hears what the first one tells.
+    Tell,
     /// The table has 2^this buckets, by the second caller.
     Power(u32),
 }
@@ -78,6 +80,7 @@ static RUNS: [Run; 11] = [
         steps: &[
             Step::First(Call::Insert(1, 10), Reply::Fresh(true)),
             Step::Meet,
+            Step::Tell,
             Step::Second(Call::Insert(1, 20), Reply::Fresh(false)),
             Step::Second(Call::Find(1), Reply::Was(Some(10))),
         ],
@@ -225,6 +228,11 @@ fn take_step<'t>(first: &mut NumCaller<'t>, second: &mut NumCaller<'t>, step: St
         Step::Second(call, want) => answer(second, call) == want,
         Step::Meet => {
             first.meet(second);
+            true
+        }
+        Step::Tell => {
+            let message = first.tell();
+            second.hear(message);
             true
         }
         Step::Power(power) => second.power() == Ok(power),

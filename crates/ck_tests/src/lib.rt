@@ -12,6 +12,8 @@ mod lists;
 #[cfg(test)]
 mod memory;
 #[cfg(test)]
+mod messages;
+#[cfg(test)]
 mod nested;
 #[cfg(test)]
 mod pools;
