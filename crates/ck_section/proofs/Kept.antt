@@ -1,10 +1,10 @@
 -- All stripes of a table stay so in a call, and have those of every name.
-use Rattle.std.proofs.Common.{◌≡◌, ℕ, ◌^◌, ◌<◌, ◌≤◌, List, [], ◌∷◌, length, refl, sym, ◌∙◌, ap, subst, arith}
+use Rattle.std.proofs.Common.{◌≡◌, ℕ, ◌-◌, ◌^◌, ◌<◌, ◌≤◌, List, [], ◌∷◌, length, refl, sym, ◌∙◌, ap, subst, arith}
 use Rattle.std.proofs.lemmas.Nat.{pow_pos}
 use Rattle.ck_model.specs.Promise.{Name}
 use Rattle.ck_model.specs.Contents.{power_of}
 use Rattle.ck_stripe.specs.Stripe.{StripeState}
-use Rattle.ck_section.specs.Stripes.{stripe_at, contents_of}
+use Rattle.ck_section.specs.Stripes.{stripe_at, contents_of, HaveNoSpare}
 use Rattle.ck_section.specs.Places.{HasStripe, HasBoth}
 use Rattle.ck_section.specs.Whole.{AreAllHeld, AreSettled, IsTable}
 use Rattle.ck_section.specs.Calls.{ChangesContents}
@@ -16,6 +16,12 @@ module _ {V : Type 0} (s : ℕ) (old : List (StripeState V)) where
 
   pub has_both : AreAllHeld s old → (hash : Name → ℕ) (q : Name) → HasBoth hash s old q
   has_both all hash q max t of = in_contents old t (has_number all t (own_below hash s q t of))
+
+  pub no_spare_after : (new : List (StripeState V)) → HaveNoSpare old → ChangesContents old new → HaveNoSpare new
+  no_spare_after new spare changes i l =
+      let inside : i < length old = subst (λ n. i < n) changes.count l in
+      ap (λ (t : StripeState V). t.room) (changes.each i inside) ∙ spare i inside
+      ∙ (λ z. 2 ^ (sym (changes.power i inside) z - sym (ap (λ (t : StripeState V). t.s) (changes.each i inside)) z))
 
   pub table_after : (new : List (StripeState V)) → IsTable s old → ChangesContents old new → IsTable s new
   table_after new table changes =
@@ -29,6 +35,7 @@ module _ {V : Type 0} (s : ℕ) (old : List (StripeState V)) where
         one_power = λ i l. changes.power i (inside i l) ∙ table.one_power i (inside i l) ∙ sym first;
         least = subst (λ n. s ≤ n) (sym first) table.least;
         most = subst (λ n. n ≤ 26) (sym first) table.most;
+        no_spare = no_spare_after new table.no_spare changes;
       }
 
   pub settled_after : (new : List (StripeState V)) → AreSettled old → ChangesContents old new → AreSettled new

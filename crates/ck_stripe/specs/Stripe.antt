@@ -48,6 +48,13 @@ module _ {V : Type 0} where
   abbrev pub IsReserved : StripeState V → Type 0
   IsReserved stripe = stripe.room ≡ 2 ^ (stripe.content.power + 1 - stripe.s)
 
+  -- the stripe with so much memory
+  abbrev pub shrunk : StripeState V → StripeState V
+  shrunk stripe = record stripe { room = 2 ^ (stripe.content.power - stripe.s) }
+
+  abbrev pub reserved : StripeState V → StripeState V
+  reserved stripe = record stripe { room = 2 ^ (stripe.content.power + 1 - stripe.s) }
+
   -- these rows at this power, and the number of their entries
   abbrev pub content_of : ℕ → List (List (Slot V)) → Content V
   content_of power rows = record { power = power; rows = rows; ledger = length (flat_map taken_in rows) }

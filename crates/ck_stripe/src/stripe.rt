@@ -11,7 +11,7 @@ ghost use Rattle.ck_model.specs.Contents.{Layout, pairs_in, IsSound};
 ghost use Rattle.ck_model.specs.Paths.{partial_in};
 ghost use Rattle.ck_bucket.specs.Bucket.{HasName, LacksName, ReplacesValue, ChangesValue, ClonesAreEqual};
 ghost use Rattle.ck_stripe.specs.Doubling.{split_rows, doubled_content, SendsEach};
-ghost use Rattle.ck_stripe.specs.Stripe.{HasBucket, bucket_of, with_bucket, with_slot, empty_content, IsWellFormed, HasNoSpare, IsReserved};
+ghost use Rattle.ck_stripe.specs.Stripe.{HasBucket, bucket_of, with_bucket, with_slot, empty_content, IsWellFormed, HasNoSpare, IsReserved, shrunk, reserved};
 
 use crate::iter::Iter;
 use crate::next::Next;
@@ -264,9 +264,8 @@ impl<K: TableKey + Drop, V: Drop> Stripe<K, V> {
     /// as it was.
     pub fn reserve_double(&mut self) -> Result<(), AllocError>
         requires settled { self.old.settled ≡ true }
-        ensures same { self.new ≡ record self.old { room = self.new.room } }
         ensures room { self.old.room ≤ self.new.room }
-        ensures ok { OnOk result (IsReserved self.new) }
+        ensures ok { OnOk result (self.new ≡ reserved self.old) }
         ensures due { OnErr result (HasNoSpare self.old) }
         ensures kept { OnErr result (self.new ≡ self.old) }
     {
@@ -285,8 +284,7 @@ impl<K: TableKey + Drop, V: Drop> Stripe<K, V> {
     /// Gives back the memory that was reserved for a doubling.
     pub fn shrink_to_fit(&mut self)
         requires settled { self.old.settled ≡ true }
-        ensures { self.new
-            ≡ record self.old { room = 2 ^ (self.old.content.power - self.old.s) } }
+        ensures { self.new ≡ shrunk self.old }
     {
         let count = self.next.count(self.s, self.power);
         mem::replace(&mut self.next, Next::Absent).close(count);
