@@ -6,7 +6,7 @@ ghost use Rattle.ck_model.specs.Numbered.{numbers};
 ghost use Rattle.ck_model.specs.Contents.{layout_of, Lawful};
 ghost use Rattle.ck_model.specs.Sections.{Section, IdentitySection};
 ghost use Rattle.ck_core.specs.Steps.{Label, IsAbove, IsExcused, HasGrounds};
-ghost use Rattle.ck_section.specs.Stripes.{contents_of};
+ghost use Rattle.ck_section.specs.Stripes.{contents_of, HaveNoSpare};
 ghost use Rattle.ck_words.specs.Passes.{IsPassOf, IsHighest, IsUnchanged, TriesStripe, Sends, LooksUp};
 
 use crate::pass::Pass;
@@ -134,6 +134,7 @@ impl<K: TableKey + Drop, V: Drop> Words<K, V> {
     pub fn give<J: Refuses, X>(&self, pass: &mut Pass<K, V>, t: usize, said: &X)
         requires own { IsPassOf self.now pass.old }
         requires highest { IsHighest t pass.old.stripes }
+        requires no_spare { HaveNoSpare pass.old.stripes }
         requires unchanged { IsUnchanged pass.old }
         requires excused { Lawful (layout_of K.hash self.now.settings)
             (contents_of pass.old.stripes) → IsExcused (layout_of K.hash
@@ -141,6 +142,7 @@ impl<K: TableKey + Drop, V: Drop> Words<K, V> {
         ensures own { IsPassOf self.now pass.new }
         ensures step { Sends K.hash self.now (λ t _. Label.Give t J.refused) pass.old pass.new }
         ensures unchanged { IsUnchanged pass.new }
+        ensures no_spare { HaveNoSpare pass.new.stripes }
     {
         let _ = said;
         self.table.shared.store::<Give<J>>(&mut pass.seat, t * 8, 0);
@@ -153,10 +155,12 @@ impl<K: TableKey + Drop, V: Drop> Words<K, V> {
     pub(crate) fn give_rest(&self, pass: &mut Pass<K, V>, t: usize)
         requires own { IsPassOf self.now pass.old }
         requires highest { IsHighest t pass.old.stripes }
+        requires no_spare { HaveNoSpare pass.old.stripes }
         requires unchanged { IsUnchanged pass.old }
         ensures own { IsPassOf self.now pass.new }
         ensures step { Sends K.hash self.now (λ t _. Label.GiveRest t) pass.old pass.new }
         ensures unchanged { IsUnchanged pass.new }
+        ensures no_spare { HaveNoSpare pass.new.stripes }
     {
         self.give::<Brand, ()>(pass, t, &());
     }
@@ -169,6 +173,7 @@ impl<K: TableKey + Drop, V: Drop> Words<K, V> {
     pub fn decide<J: Says<V>, X>(&self, pass: &mut Pass<K, V>, t: usize, said: &X)
         requires own { IsPassOf self.now pass.old }
         requires highest { IsHighest t pass.old.stripes }
+        requires no_spare { HaveNoSpare pass.old.stripes }
         requires caller { pass.old.view.by ≡ Some J.entry.by }
         requires section { Lawful (layout_of K.hash self.now.settings) (reverse pass.old.view.held)
             → Section (layout_of K.hash self.now.settings) (reverse
@@ -176,6 +181,7 @@ impl<K: TableKey + Drop, V: Drop> Words<K, V> {
         ensures own { IsPassOf self.now pass.new }
         ensures step { Sends K.hash self.now (λ t ks. Label.Decide t ks J.entry) pass.old pass.new }
         ensures unchanged { IsUnchanged pass.new }
+        ensures no_spare { HaveNoSpare pass.new.stripes }
     {
         let _ = said;
         self.table
@@ -190,6 +196,7 @@ impl<K: TableKey + Drop, V: Drop> Words<K, V> {
     pub fn renew<J: Refuses, X>(&self, pass: &mut Pass<K, V>, t: usize, said: &X)
         requires own { IsPassOf self.now pass.old }
         requires highest { IsHighest t pass.old.stripes }
+        requires no_spare { HaveNoSpare pass.old.stripes }
         requires section { Lawful (layout_of K.hash self.now.settings) (reverse pass.old.view.held)
             → IdentitySection (layout_of K.hash self.now.settings) (reverse
             pass.old.view.held) (contents_of pass.old.stripes) }
@@ -200,6 +207,7 @@ impl<K: TableKey + Drop, V: Drop> Words<K, V> {
         ensures step { Sends K.hash self.now
             (λ t ks. Label.Renew t ks J.refused) pass.old pass.new }
         ensures unchanged { IsUnchanged pass.new }
+        ensures no_spare { HaveNoSpare pass.new.stripes }
     {
         let _ = said;
         self.table
