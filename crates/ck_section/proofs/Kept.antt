@@ -10,18 +10,19 @@ use Rattle.ck_section.specs.Whole.{AreAllHeld, AreSettled, IsTable}
 use Rattle.ck_section.specs.Calls.{ChangesContents}
 use Rattle.ck_section.proofs.Owned.{own_below, in_contents}
 
+-- what had no memory to spare has none after it
+pub no_spare_after : {V : Type 0} (old new : List (StripeState V)) → HaveNoSpare old → ChangesContents old new → HaveNoSpare new
+no_spare_after {V} old new spare changes i l =
+    let inside : i < length old = subst (λ n. i < n) changes.count l in
+    ap (λ (t : StripeState V). t.room) (changes.each i inside) ∙ spare i inside
+    ∙ (λ z. 2 ^ (sym (changes.power i inside) z - sym (ap (λ (t : StripeState V). t.s) (changes.each i inside)) z))
+
 module _ {V : Type 0} (s : ℕ) (old : List (StripeState V)) where
   has_number : AreAllHeld s old → (t : ℕ) → t < 2 ^ s → HasStripe old t
   has_number all t lt = let inside : t < length old = subst (λ n. t < n) (sym all.table.count) lt in (t, inside, all.table.number t inside)
 
   pub has_both : AreAllHeld s old → (hash : Name → ℕ) (q : Name) → HasBoth hash s old q
   has_both all hash q max t of = in_contents old t (has_number all t (own_below hash s q t of))
-
-  pub no_spare_after : (new : List (StripeState V)) → HaveNoSpare old → ChangesContents old new → HaveNoSpare new
-  no_spare_after new spare changes i l =
-      let inside : i < length old = subst (λ n. i < n) changes.count l in
-      ap (λ (t : StripeState V). t.room) (changes.each i inside) ∙ spare i inside
-      ∙ (λ z. 2 ^ (sym (changes.power i inside) z - sym (ap (λ (t : StripeState V). t.s) (changes.each i inside)) z))
 
   pub table_after : (new : List (StripeState V)) → IsTable s old → ChangesContents old new → IsTable s new
   table_after new table changes =
@@ -35,7 +36,7 @@ module _ {V : Type 0} (s : ℕ) (old : List (StripeState V)) where
         one_power = λ i l. changes.power i (inside i l) ∙ table.one_power i (inside i l) ∙ sym first;
         least = subst (λ n. s ≤ n) (sym first) table.least;
         most = subst (λ n. n ≤ 26) (sym first) table.most;
-        no_spare = no_spare_after new table.no_spare changes;
+        no_spare = no_spare_after old new table.no_spare changes;
       }
 
   pub settled_after : (new : List (StripeState V)) → AreSettled old → ChangesContents old new → AreSettled new

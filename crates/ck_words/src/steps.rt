@@ -1,6 +1,7 @@
 //! The steps on the lock words, and what each tells. Each is one atomic operation on one word, and
 //! one step of the core. Nothing else but a split or a join changes what a pass knows, and nothing
-//! else which stripes it holds.
+//! else which stripes it holds. A stripe goes home with memory for its rows alone, and so a pass
+//! finds it there.
 ghost use Rattle.std.specs.Prelude.{◌≡◌, ◌<◌, ◌^◌, Some, None, reverse};
 ghost use Rattle.ck_model.specs.Numbered.{numbers};
 ghost use Rattle.ck_model.specs.Contents.{layout_of, Lawful};
