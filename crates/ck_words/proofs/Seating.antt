@@ -11,7 +11,7 @@ use Rattle.ck_stripe.specs.Stripe.{StripeState}
 use Rattle.ck_section.specs.Stripes.{stripe_at, contents_of}
 use Rattle.ck_core.specs.declared.view.View.{View}
 use Rattle.ck_core.specs.Steps.{IsAbove}
-use Rattle.ck_words.specs.Rule.{StripeSlot, Hand, IsNumbered, IsAtHome}
+use Rattle.ck_words.specs.Rule.{StripeSlot, Hand, IsAtHome}
 use Rattle.ck_words.specs.Plays.{stripe_in, contents_in}
 use Rattle.ck_words.specs.Passes.{Falls, stripes_in, held_in, slot_of, numbers_of, EachOf, IsSeated, IsReady, IsHighest}
 use Rattle.ck_words.proofs.Reversed.{map-reverse, reverse-cons}
@@ -75,7 +75,7 @@ module _ {V : Type 0} where
     pub stripe : StripeState V
     pub out : List (ℕ × StripeSlot V)
     pub split : held_in has ≡ held_in out ++ stripe ∷ []
-    pub own : IsNumbered v.settings.s t stripe
+    pub own : (stripe.number ≡ t) × (stripe.s ≡ v.settings.s)
     pub front : has ≡ (t, Some stripe) ∷ out
     pub now : contents_in has ≡ reverse (contents_of (held_in has))
     pub first : reverse (contents_of (held_in has)) ≡ (t, stripe.content) ∷ reverse (contents_of (held_in out))

@@ -42,11 +42,7 @@ module _ {V : Type 0} where
   abbrev pub world : ℕ → State (StripeSlot V) (View V) → Configuration V
   world n s = record { words = spaced n s.words; homes = map lying s.homes; views = s.views }
 
-  -- stripe t of 2^s
-  abbrev pub IsNumbered : ℕ → ℕ → StripeState V → Type 0
-  IsNumbered s t stripe = (stripe.number ≡ t) × (stripe.s ≡ s)
-
-  -- as it lies in its slot: with memory for its rows, and for none besides
+  -- stripe t of 2^s as it lies in its slot: with memory for its rows, and for none besides
   abbrev pub IsAtHome : ℕ → ℕ → StripeState V → Type 0
   IsAtHome s t stripe = (stripe.number ≡ t) × (stripe.s ≡ s) × HasNoSpare stripe
 
