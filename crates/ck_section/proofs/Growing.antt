@@ -1,5 +1,5 @@
 -- What settles, displaces and doubles all stripes of a table, and what is known of room for a name then.
-use Rattle.std.proofs.Common.{◌≡◌, ⊎_elim, ℕ, zero, suc, ◌%◌, ◌^◌, ◌<◌, ◌≤◌, Bool, true, false, ltb, MatchBool, List, [], ◌∷◌, Option, Some, None, IfSome, IfNone, is_some, length, refl, sym, ◌∙◌, ap, subst, arith}
+use Rattle.std.proofs.Common.{◌≡◌, ⊎_elim, ℕ, zero, suc, ◌-◌, ◌%◌, ◌^◌, ◌<◌, ◌≤◌, Bool, true, false, ltb, MatchBool, List, [], ◌∷◌, Option, Some, None, IfSome, IfNone, is_some, length, refl, sym, ◌∙◌, ap, subst, arith}
 use mathlib.Core.Logic.{dite}
 use native.Mathlib.Decide.{ℕ_discrete}
 use Rattle.std.proofs.Math.Nat.{mod-lt}
@@ -19,16 +19,15 @@ use Rattle.ck_section.specs.Places.{IsPlaceOf}
 use Rattle.ck_section.specs.Whole.{AreAllHeld, IsTable}
 use Rattle.ck_section.specs.Calls.{IsWithRoom}
 use Rattle.ck_section.specs.Room.{power_in, settled_at}
-use Rattle.ck_section.specs.Doublings.{ChangesRoom}
 use Rattle.ck_section.proofs.Found.{has_room}
 use Rattle.ck_section.proofs.Tables.{stripe_inside}
 
 module _ {V : Type 0} where
-  -- the stripe by what places it in a table
-  abbrev form : StripeState V → ℕ × ℕ × ℕ
-  form t = (t.number, t.s, t.content.power)
+  -- the stripe by what places it in a table, and its memory
+  abbrev form : StripeState V → ℕ × ℕ × ℕ × ℕ
+  form t = (t.number, t.s, t.content.power, t.room)
 
-  -- as many stripes, each of the number, the table and the power that it had
+  -- as many stripes, each of the number, the table, the power and the memory that it had
   pub record AreAlike (old new : List (StripeState V)) : Type 0 where
     pub count : length new ≡ length old
     pub each : (i : ℕ) → i < length old → form (stripe_at new i) ≡ form (stripe_at old i)
@@ -36,15 +35,16 @@ module _ {V : Type 0} where
   pub table_alike : (s : ℕ) (old new : List (StripeState V)) → AreAlike old new → IsTable s old → IsTable s new
   table_alike s old new alike table =
       let inside : (i : ℕ) → i < length new → i < length old = λ i l. subst (λ n. i < n) alike.count l in
-      let first : (stripe_at new 0).content.power ≡ (stripe_at old 0).content.power = ap (λ (x : ℕ × ℕ × ℕ). x.2) (alike.each 0 (subst (λ n. 0 < n) (sym table.count) (pow_pos s))) in
+      let first : (stripe_at new 0).content.power ≡ (stripe_at old 0).content.power = ap (λ (x : ℕ × ℕ × ℕ × ℕ). x.2) (alike.each 0 (subst (λ n. 0 < n) (sym table.count) (pow_pos s))) in
       record {
         many = table.many;
         count = alike.count ∙ table.count;
-        number = λ i l. ap (λ (x : ℕ × ℕ × ℕ). x.0) (alike.each i (inside i l)) ∙ table.number i (inside i l);
-        one_s = λ i l. ap (λ (x : ℕ × ℕ × ℕ). x.1) (alike.each i (inside i l)) ∙ table.one_s i (inside i l);
-        one_power = λ i l. ap (λ (x : ℕ × ℕ × ℕ). x.2) (alike.each i (inside i l)) ∙ table.one_power i (inside i l) ∙ sym first;
+        number = λ i l. ap (λ (x : ℕ × ℕ × ℕ × ℕ). x.0) (alike.each i (inside i l)) ∙ table.number i (inside i l);
+        one_s = λ i l. ap (λ (x : ℕ × ℕ × ℕ × ℕ). x.1) (alike.each i (inside i l)) ∙ table.one_s i (inside i l);
+        one_power = λ i l. ap (λ (x : ℕ × ℕ × ℕ × ℕ). x.2) (alike.each i (inside i l)) ∙ table.one_power i (inside i l) ∙ sym first;
         least = subst (λ n. s ≤ n) (sym first) table.least;
         most = subst (λ n. n ≤ 26) (sym first) table.most;
+        no_spare = λ i l. subst (λ (x : ℕ × ℕ × ℕ × ℕ). x.3 ≡ 2 ^ (x.2 - x.1)) (sym (alike.each i (inside i l))) (table.no_spare i (inside i l));
       }
 
   -- One stripe is settled.
@@ -88,17 +88,6 @@ module _ {V : Type 0} where
   contents_settled_at [] i = refl
   contents_settled_at (t ∷ ts) zero = refl
   contents_settled_at (t ∷ ts) (suc i) = ap (λ (hs : Stripes V). (t.number, t.content) ∷ hs) (contents_settled_at ts i)
-
-  -- Stripes with the same numbers and contents, one by one, have the same contents.
-  pub contents_same : (old new : List (StripeState V)) → length new ≡ length old → ((i : ℕ) → i < length old → ((stripe_at new i).number ≡ (stripe_at old i).number) × ((stripe_at new i).content ≡ (stripe_at old i).content))
-      → contents_of new ≡ contents_of old
-  contents_same [] [] e each = refl
-  contents_same [] (u ∷ us) e each = absurd (omega arith)
-  contents_same (t ∷ ts) [] e each = absurd (omega arith)
-  contents_same (t ∷ ts) (u ∷ us) e each = λ z. ((each 0 (omega arith)).0 z, (each 0 (omega arith)).1 z) ∷ contents_same ts us (omega arith) (λ i l. each (suc i) (omega arith)) z
-
-  pub contents_roomy : (old new : List (StripeState V)) → ChangesRoom old new → contents_of new ≡ contents_of old
-  contents_roomy old new changes = contents_same old new changes.count (λ i l. (ap (λ (t : StripeState V). t.number) (changes.each i l), ap (λ (t : StripeState V). t.content) (changes.each i l)))
 
   module _ (s : ℕ) (old : List (StripeState V)) (table : IsTable s old) (hash : Name → ℕ) (q : Name) where
     power_at : (i : ℕ) → i < length old → (stripe_at old i).content.power ≡ power_in old
@@ -176,10 +165,10 @@ module _ {V : Type 0} where
     some : 0 < length old
     some = subst (λ n. 0 < n) (sym table.count) (pow_pos s)
 
-    both_power : power_in both ≡ power_in old
+    pub both_power : power_in both ≡ power_in old
     both_power =
-        ap (λ (x : ℕ × ℕ × ℕ). x.2) ((alike_settled_at mid j in_mid).each 0 (subst (λ n. 0 < n) (sym (alike_settled_at old i (stripe_inside s old table first)).count) some))
-        ∙ ap (λ (x : ℕ × ℕ × ℕ). x.2) ((alike_settled_at old i (stripe_inside s old table first)).each 0 some)
+        ap (λ (x : ℕ × ℕ × ℕ × ℕ). x.2) ((alike_settled_at mid j in_mid).each 0 (subst (λ n. 0 < n) (sym (alike_settled_at old i (stripe_inside s old table first)).count) some))
+        ∙ ap (λ (x : ℕ × ℕ × ℕ × ℕ). x.2) ((alike_settled_at old i (stripe_inside s old table first)).each 0 some)
 
     first_flag : (stripe_at both i).settled ≡ true
     first_flag = settled_still mid j in_mid i (settled_flag old i (stripe_inside s old table first))

@@ -1,14 +1,21 @@
 -- All stripes of a table stay so in a call, and have those of every name.
-use Rattle.std.proofs.Common.{◌≡◌, ℕ, ◌^◌, ◌<◌, ◌≤◌, List, [], ◌∷◌, length, refl, sym, ◌∙◌, ap, subst, arith}
+use Rattle.std.proofs.Common.{◌≡◌, ℕ, ◌-◌, ◌^◌, ◌<◌, ◌≤◌, List, [], ◌∷◌, length, refl, sym, ◌∙◌, ap, subst, arith}
 use Rattle.std.proofs.lemmas.Nat.{pow_pos}
 use Rattle.ck_model.specs.Promise.{Name}
 use Rattle.ck_model.specs.Contents.{power_of}
 use Rattle.ck_stripe.specs.Stripe.{StripeState}
-use Rattle.ck_section.specs.Stripes.{stripe_at, contents_of}
+use Rattle.ck_section.specs.Stripes.{stripe_at, contents_of, HaveNoSpare}
 use Rattle.ck_section.specs.Places.{HasStripe, HasBoth}
 use Rattle.ck_section.specs.Whole.{AreAllHeld, AreSettled, IsTable}
 use Rattle.ck_section.specs.Calls.{ChangesContents}
 use Rattle.ck_section.proofs.Owned.{own_below, in_contents}
+
+-- what had no memory to spare has none after it
+pub no_spare_after : {V : Type 0} (old new : List (StripeState V)) → HaveNoSpare old → ChangesContents old new → HaveNoSpare new
+no_spare_after {V} old new spare changes i l =
+    let inside : i < length old = subst (λ n. i < n) changes.count l in
+    ap (λ (t : StripeState V). t.room) (changes.each i inside) ∙ spare i inside
+    ∙ (λ z. 2 ^ (sym (changes.power i inside) z - sym (ap (λ (t : StripeState V). t.s) (changes.each i inside)) z))
 
 module _ {V : Type 0} (s : ℕ) (old : List (StripeState V)) where
   has_number : AreAllHeld s old → (t : ℕ) → t < 2 ^ s → HasStripe old t
@@ -29,6 +36,7 @@ module _ {V : Type 0} (s : ℕ) (old : List (StripeState V)) where
         one_power = λ i l. changes.power i (inside i l) ∙ table.one_power i (inside i l) ∙ sym first;
         least = subst (λ n. s ≤ n) (sym first) table.least;
         most = subst (λ n. n ≤ 26) (sym first) table.most;
+        no_spare = no_spare_after old new table.no_spare changes;
       }
 
   pub settled_after : (new : List (StripeState V)) → AreSettled old → ChangesContents old new → AreSettled new

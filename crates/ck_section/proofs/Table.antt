@@ -1,12 +1,11 @@
 -- All stripes of a table: their memory, their doubling and their entries.
-use Rattle.std.proofs.Common.{◌≡◌, ◌≢◌, ◌⊎◌, inl, inr, ℕ, zero, suc, ◌+◌, ◌^◌, ◌<◌, ◌≤◌, List, [], ◌∷◌, ◌++◌, length, take, map, refl, sym, ◌∙◌, ap, subst, length-append, append-nil, append_assoc, add-one, arith}
-use Rattle.std.specs.Prelude.{slice_set, slice_index_or}
+use Rattle.std.proofs.Common.{◌≡◌, inl, ℕ, zero, suc, ◌+◌, ◌^◌, ◌<◌, ◌≤◌, List, [], ◌∷◌, ◌++◌, length, take, map, refl, sym, ◌∙◌, ap, subst, length-append, append-nil, append_assoc, add-one, arith}
+use Rattle.std.specs.Prelude.{slice_index_or}
 use Rattle.std.proofs.Math.Pow.{pow_mono}
 use Rattle.std.specs.FinMap.{from_entries}
 use Rattle.std.specs.declared.cmp.Ordering.{Ordering}
-use Rattle.std.proofs.lemmas.Bool.{cases_eq}
 use Rattle.std.proofs.lemmas.Nat.{pow_pos}
-use Rattle.std.proofs.lemmas.List.{length-set, length-map, get_or-map, get_or-set_same, get_or-set_other, take_all}
+use Rattle.std.proofs.lemmas.List.{length-map, get_or-map, take_all}
 use Rattle.ck_model.specs.declared.history.Call.TheVariants.{Len}
 use Rattle.ck_model.specs.declared.history.Reply.TheVariants.{Count}
 use Rattle.ck_model.specs.Promise.{Name, named, ListsInOrder}
@@ -17,95 +16,52 @@ use Rattle.ck_model.specs.Doubling.{IsDoubledTo}
 use Rattle.ck_model.proofs.Numbered.{in_held}
 use Rattle.ck_model.proofs.Counted.{len-bindings}
 use Rattle.ck_model.proofs.Doubling.{pairs_apart}
-use Rattle.ck_stripe.specs.Stripe.{StripeState, IsReserved}
-use Rattle.ck_section.specs.Stripes.{no_stripe, stripe_at, contents_of, doubled, doubled_stripes}
+use Rattle.ck_stripe.specs.Stripe.{StripeState, HasNoSpare, IsReserved, reserved}
+use Rattle.ck_section.specs.Stripes.{no_stripe, stripe_at, contents_of, HaveNoSpare, shrunk_stripes, reserved_stripes, doubled, doubled_stripes}
 use Rattle.ck_section.specs.Whole.{AreSettled, IsTable}
-use Rattle.ck_section.specs.Doublings.{ChangesRoom, DoublesEach, Grows}
+use Rattle.ck_section.specs.Doublings.{AreReserved, DoublesEach, Grows}
 use Rattle.ck_section.proofs.AllStripes.{stripe_read}
 use Rattle.ck_section.proofs.Found.{holds_at}
+use Rattle.ck_section.proofs.Stepwise.{changed_to}
 use Rattle.ck_section.proofs.Doubled.{doubled_all, section_doubled, is_doubled}
 
 module _ {V : Type 0} where
-  pub room_none : (a : List (StripeState V)) → ChangesRoom a a
-  room_none a = record { count = refl; each = λ i l. refl }
-
-  pub room_on : (a b c : List (StripeState V)) → ChangesRoom a b → ChangesRoom b c → ChangesRoom a c
-  room_on a b c one two = record {
-    count = two.count ∙ one.count;
-    each = λ i l. two.each i (subst (λ n. i < n) (sym one.count) l) ∙ ap (λ (t : StripeState V). record t { room = (stripe_at c i).room }) (one.each i l);
-  }
-
-  -- one stripe has another room
-  room_set : (a b : List (StripeState V)) (i n : ℕ) → i < length a → b ≡ slice_set a i (record (stripe_at a i) { room = n }) → ChangesRoom a b
-  room_set a b i n lt is = subst (ChangesRoom a) (sym is) (record {
-    count = length-set a i (record (stripe_at a i) { room = n });
-    each = λ j l. go j (cases_eq j i);
-  })
+  -- Memory for a doubling of the first n stripes is reserved.
+  pub settled_partly : (n : ℕ) (stripes now : List (StripeState V)) → now ≡ changed_to reserved n stripes → AreSettled stripes → AreSettled now
+  settled_partly n stripes now is settled = subst AreSettled (sym is) (go n stripes settled)
     where
-      go : (j : ℕ) → (j ≡ i) ⊎ (j ≢ i) → stripe_at (slice_set a i (record (stripe_at a i) { room = n })) j ≡ record (stripe_at a j) { room = (stripe_at (slice_set a i (record (stripe_at a i) { room = n })) j).room }
-      go j (inl e) =
-          let here : stripe_at (slice_set a i (record (stripe_at a i) { room = n })) i ≡ record (stripe_at a i) { room = n } = get_or-set_same a i (record (stripe_at a i) { room = n }) no_stripe lt in
-          let S : ℕ → Type 0 = λ m. stripe_at (slice_set a i (record (stripe_at a i) { room = n })) m ≡ record (stripe_at a m) { room = (stripe_at (slice_set a i (record (stripe_at a i) { room = n })) m).room } in
-          subst S (sym e) (here ∙ ap (λ (t : StripeState V). record (stripe_at a i) { room = t.room }) (sym here))
-      go j (inr ne) =
-          let same : stripe_at (slice_set a i (record (stripe_at a i) { room = n })) j ≡ stripe_at a j = get_or-set_other a i j (record (stripe_at a i) { room = n }) no_stripe ne in
-          same ∙ ap (λ (t : StripeState V). record (stripe_at a j) { room = t.room }) (sym same)
+      go : (n : ℕ) (stripes : List (StripeState V)) → AreSettled stripes → AreSettled (changed_to reserved n stripes)
+      go zero ts settled i l = settled i l
+      go (suc n) [] settled i l = settled i l
+      go (suc n) (t ∷ ts) settled zero l = settled 0 (omega arith)
+      go (suc n) (t ∷ ts) settled (suc i) l = go n ts (λ j k. settled (suc j) (omega arith)) i (omega arith)
 
-  -- one more stripe took its memory, or was refused it
-  pub room_more : (a b c : List (StripeState V)) (i n : ℕ) → ChangesRoom a b → i < length a → c ≡ slice_set b i (record (stripe_at b i) { room = n }) → ChangesRoom a c
-  room_more a b c i n before lt is = room_on a b c before (room_set b c i n (subst (λ m. i < m) (sym before.count) lt) is)
-
-  -- where the first i had theirs, and stripe i has it now
-  pub reserved_more : (b c : List (StripeState V)) (i : ℕ) (t : StripeState V) → ((j : ℕ) → j < i → IsReserved (stripe_at b j)) → c ≡ slice_set b i t → IsReserved (stripe_at c i) → (j : ℕ) → j < i + 1 → IsReserved (stripe_at c j)
-  reserved_more b c i t before is here j lt = go (cases_eq j i)
+  -- and is given back
+  pub given_back : (n : ℕ) (stripes now : List (StripeState V)) → now ≡ changed_to reserved n stripes → HaveNoSpare stripes → shrunk_stripes now ≡ stripes
+  given_back n stripes now is spare = ap shrunk_stripes is ∙ go n stripes spare
     where
-      go : (j ≡ i) ⊎ (j ≢ i) → IsReserved (stripe_at c j)
-      go (inl e) = subst (λ n. IsReserved (stripe_at c n)) (sym e) here
-      go (inr ne) =
-          let same : stripe_at c j ≡ stripe_at b j = ap (λ (l : List (StripeState V)). stripe_at l j) is ∙ get_or-set_other b i j t no_stripe ne in
-          subst IsReserved (sym same) (before j (omega arith))
+      go : (n : ℕ) (stripes : List (StripeState V)) → HaveNoSpare stripes → shrunk_stripes (changed_to reserved n stripes) ≡ stripes
+      go zero [] spare = refl
+      go zero (t ∷ ts) spare = λ j. record t { room = sym (spare 0 (omega arith)) j } ∷ go zero ts (λ i l. spare (suc i) (omega arith)) j
+      go (suc n) [] spare = refl
+      go (suc n) (t ∷ ts) spare = λ j. record t { room = sym (spare 0 (omega arith)) j } ∷ go n ts (λ i l. spare (suc i) (omega arith)) j
 
-  pub settled_still : (a b : List (StripeState V)) → ChangesRoom a b → AreSettled a → AreSettled b
-  settled_still a b change settled i lt =
-      let l : i < length a = subst (λ n. i < n) change.count lt in
-      ap (λ (t : StripeState V). t.settled) (change.each i l) ∙ settled i l
+  -- There is memory for a doubling of each.
+  module _ (old mid : List (StripeState V)) (is : mid ≡ reserved_stripes old) where
+    pub count_reserved : length mid ≡ length old
+    count_reserved = ap length is ∙ length-map old reserved
 
-  pub table_still : (s : ℕ) (a b : List (StripeState V)) → ChangesRoom a b → IsTable s a → IsTable s b
-  table_still s a b change table = record {
-    many = table.many;
-    count = change.count ∙ table.count;
-    number = λ i l. ap (λ (t : StripeState V). t.number) (at i l) ∙ table.number i (inside i l);
-    one_s = λ i l. ap (λ (t : StripeState V). t.s) (at i l) ∙ table.one_s i (inside i l);
-    one_power = λ i l. power i l ∙ table.one_power i (inside i l) ∙ sym first;
-    least = subst (λ n. s ≤ n) (sym first) table.least;
-    most = subst (λ n. n ≤ 26) (sym first) table.most;
-  }
-    where
-      inside : (i : ℕ) → i < length b → i < length a
-      inside i l = subst (λ n. i < n) change.count l
+    pub reserved_at : (i : ℕ) → i < length mid → stripe_at mid i ≡ reserved (stripe_at old i)
+    reserved_at i l = ap (λ (x : List (StripeState V)). stripe_at x i) is ∙ get_or-map reserved old i no_stripe no_stripe (subst (λ n. i < n) count_reserved l)
 
-      at : (i : ℕ) (l : i < length b) → stripe_at b i ≡ record (stripe_at a i) { room = (stripe_at b i).room }
-      at i l = change.each i (inside i l)
+    pub settled_reserved : AreSettled old → AreSettled mid
+    settled_reserved settled i l = ap (λ (t : StripeState V). t.settled) (reserved_at i l) ∙ settled i (subst (λ n. i < n) count_reserved l)
 
-      power : (i : ℕ) → i < length b → (stripe_at b i).content.power ≡ (stripe_at a i).content.power
-      power i l = ap (λ (t : StripeState V). t.content.power) (at i l)
-
-      first : (stripe_at b 0).content.power ≡ (stripe_at a 0).content.power
-      first = ap (λ (t : StripeState V). t.content.power) (change.each 0 (subst (λ n. 0 < n) (sym table.count) (pow_pos s)))
-
-  -- contents are as before
-  contents_room : (a b : List (StripeState V)) → ChangesRoom a b → contents_of b ≡ contents_of a
-  contents_room [] [] ch = refl
-  contents_room [] (y ∷ ys) ch = let e = ch.count in absurd (omega arith)
-  contents_room (x ∷ xs) [] ch = let e = ch.count in absurd (omega arith)
-  contents_room (x ∷ xs) (y ∷ ys) ch =
-      let first : y ≡ record x { room = y.room } = ch.each 0 (omega arith) in
-      let count : length ys ≡ length xs = (let e = ch.count in omega arith) in
-      let rest : contents_of ys ≡ contents_of xs = contents_room xs ys (record { count = count; each = λ i l. ch.each (suc i) (omega arith) }) in
-      λ j. ((first j).number, (first j).content) ∷ rest j
+    pub are_reserved : AreReserved mid
+    are_reserved i l = subst IsReserved (sym (reserved_at i l)) refl
 
   contents_doubled : (hash : Name → ℕ) (s max : ℕ) (stripes : List (StripeState V)) → ((i : ℕ) → i < length stripes → (stripe_at stripes i).s ≡ s)
-      → contents_of (doubled_stripes hash stripes) ≡ doubled_all (layout hash s max) (contents_of stripes)
+      → contents_of (doubled_stripes hash (reserved_stripes stripes)) ≡ doubled_all (layout hash s max) (contents_of stripes)
   contents_doubled hash s max [] of = refl
   contents_doubled hash s max (t ∷ ts) of =
       let here : t.s ≡ s = of 0 (omega arith) in
@@ -122,22 +78,20 @@ module _ {V : Type 0} where
       let inside : t < length stripes = subst (λ n. t < n) (sym table.count) lt in
       subst (λ n. IsIn n (numbers (contents_of stripes))) (table.number t inside) (in_held (contents_of stripes) (stripe_at stripes t).number (stripe_at stripes t).content (holds_at stripes t inside))
 
-  module _ (hash : Name → ℕ) (s : ℕ) (old mid new : List (StripeState V)) (change : ChangesRoom old mid) (is : new ≡ doubled_stripes hash mid) where
+  module _ (hash : Name → ℕ) (s : ℕ) (old mid new : List (StripeState V)) (before : mid ≡ reserved_stripes old) (after : new ≡ doubled_stripes hash mid) where
+    is : new ≡ doubled_stripes hash (reserved_stripes old)
+    is = after ∙ ap (doubled_stripes hash) before
+
     count_new : length new ≡ length old
-    count_new = ap length is ∙ length-map mid (doubled hash) ∙ change.count
+    count_new = ap length is ∙ length-map (reserved_stripes old) (doubled hash) ∙ length-map old reserved
 
-    raised : (i : ℕ) → i < length old → stripe_at new i ≡ doubled hash (stripe_at mid i)
-    raised i l = ap (λ (x : List (StripeState V)). stripe_at x i) is ∙ get_or-map (doubled hash) mid i no_stripe no_stripe (subst (λ n. i < n) (sym change.count) l)
-
-    roomy : (i : ℕ) → i < length old → stripe_at new i ≡ record (doubled hash (stripe_at old i)) { room = (stripe_at mid i).room }
-    roomy i l = raised i l ∙ ap (doubled hash) (change.each i l)
+    raised : (i : ℕ) → i < length old → stripe_at new i ≡ doubled hash (reserved (stripe_at old i))
+    raised i l =
+        ap (λ (x : List (StripeState V)). stripe_at x i) after ∙ get_or-map (doubled hash) mid i no_stripe no_stripe (subst (λ n. i < n) (sym (count_reserved old mid before)) l)
+        ∙ ap (doubled hash) (reserved_at old mid before i (subst (λ n. i < n) (sym (count_reserved old mid before)) l))
 
     pub doubles : DoublesEach hash old new
-    doubles = record {
-      count = count_new;
-      each = λ i l. roomy i l ∙ ap (λ (t : StripeState V). record (doubled hash (stripe_at old i)) { room = t.room }) (sym (roomy i l));
-      power = λ i l. ap (λ (t : StripeState V). t.content.power) (roomy i l);
-    }
+    doubles = record { count = count_new; each = raised; power = λ i l. ap (λ (t : StripeState V). t.content.power) (raised i l) }
 
     module _ (table : IsTable s old) where
       some : 0 < length old
@@ -147,21 +101,19 @@ module _ {V : Type 0} where
       table_doubled below = record {
         many = table.many;
         count = count_new ∙ table.count;
-        number = λ i l. ap (λ (t : StripeState V). t.number) (roomy i (inside i l)) ∙ table.number i (inside i l);
-        one_s = λ i l. ap (λ (t : StripeState V). t.s) (roomy i (inside i l)) ∙ table.one_s i (inside i l);
+        number = λ i l. ap (λ (t : StripeState V). t.number) (raised i (inside i l)) ∙ table.number i (inside i l);
+        one_s = λ i l. ap (λ (t : StripeState V). t.s) (raised i (inside i l)) ∙ table.one_s i (inside i l);
         one_power = λ i l. doubles.power i (inside i l) ∙ ap (λ n. n + 1) (table.one_power i (inside i l)) ∙ sym (doubles.power 0 some);
         least = subst (λ n. s ≤ n) (sym (doubles.power 0 some)) (omega (arith, table.least));
         most = subst (λ n. n ≤ 26) (sym (doubles.power 0 some)) (omega arith);
+        no_spare = λ i l. subst HasNoSpare (sym (raised i (inside i l))) refl;
       }
         where
           inside : (i : ℕ) → i < length new → i < length old
           inside i l = subst (λ n. i < n) count_new l
 
       contents_new : (max : ℕ) → contents_of new ≡ doubled_all (layout hash s max) (contents_of old)
-      contents_new max =
-          ap contents_of is
-          ∙ contents_doubled hash s max mid (λ i l. (table_still s old mid change table).one_s i l)
-          ∙ ap (doubled_all (layout hash s max)) (contents_room old mid change)
+      contents_new max = ap contents_of is ∙ contents_doubled hash s max old (λ i l. table.one_s i l)
 
       pub grows : Grows hash s old new
       grows = record {

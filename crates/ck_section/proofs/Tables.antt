@@ -64,6 +64,7 @@ module _ {V : Type 0} (s : ℕ) (stripes : List (StripeState V)) where
     one_power = all.table.one_power;
     least = all.table.least;
     most = all.table.most;
+    no_spare = all.table.no_spare;
     rising = λ i j lt inside. rises i j lt inside;
   }
     where

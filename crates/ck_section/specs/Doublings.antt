@@ -4,23 +4,18 @@ use Rattle.ck_model.specs.Promise.{Name}
 use Rattle.ck_model.specs.Contents.{layout, Lawful}
 use Rattle.ck_model.specs.Sections.{IdentitySection}
 use Rattle.ck_model.specs.Doubling.{IsDoubledTo}
-use Rattle.ck_stripe.specs.Stripe.{StripeState, IsReserved}
+use Rattle.ck_stripe.specs.Stripe.{StripeState, IsReserved, reserved}
 use Rattle.ck_section.specs.Stripes.{stripe_at, contents_of, doubled}
 
 module _ {V : Type 0} where
-  -- nothing but for how many rows the stripes have memory differs
-  pub record ChangesRoom (old new : List (StripeState V)) : Type 0 where
-    pub count : length new ≡ length old
-    pub each : (i : ℕ) → i < length old → stripe_at new i ≡ record (stripe_at old i) { room = (stripe_at new i).room }
-
   -- there is memory for a doubling of each
   abbrev pub AreReserved : List (StripeState V) → Type 0
   AreReserved stripes = (i : ℕ) → i < length stripes → IsReserved (stripe_at stripes i)
 
-  -- Each stripe is at the next power and not yet settled; it may have memory for more rows.
+  -- Each stripe is at the next power and not yet settled, with memory for so many rows.
   pub record DoublesEach (hash : Name → ℕ) (old new : List (StripeState V)) : Type 0 where
     pub count : length new ≡ length old
-    pub each : (i : ℕ) → i < length old → stripe_at new i ≡ record (doubled hash (stripe_at old i)) { room = (stripe_at new i).room }
+    pub each : (i : ℕ) → i < length old → stripe_at new i ≡ doubled hash (reserved (stripe_at old i))
     pub power : (i : ℕ) → i < length old → (stripe_at new i).content.power ≡ (stripe_at old i).content.power + 1
 
   -- Whatever greatest power above theirs there is, lawful stripes of a table of 2^s have doubled once, by no call.

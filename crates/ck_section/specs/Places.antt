@@ -9,14 +9,14 @@ use Rattle.ck_bucket.specs.Bucket.{LacksName}
 use Rattle.ck_stripe.specs.Stripe.{StripeState, with_slot}
 use Rattle.ck_section.specs.declared.place.KeyPlace.{KeyPlace}
 use Rattle.ck_section.specs.declared.place.HeldSlot.{HeldSlot}
-use Rattle.ck_section.specs.Stripes.{stripe_at, bucket_at, set_content, contents_of, IsInReach}
+use Rattle.ck_section.specs.Stripes.{stripe_at, bucket_at, set_content, contents_of, HaveNoSpare, IsInReach}
 
 -- this slot of bucket b of stripe i
 abbrev pub at : ℕ → ℕ → ℕ → HeldSlot
 at i b slot = record { index = i; bucket = b; slot = slot }
 
 module _ {V : Type 0} where
-  -- Settled stripes of one table of 2^s stripes, of one power, in rising order of their numbers.
+  -- Settled stripes of one table of 2^s stripes, of one power, in rising order of their numbers, with no memory to spare.
   pub record AreHeld (s : ℕ) (stripes : List (StripeState V)) : Type 0 where
     pub some : 0 < length stripes
     pub many : s ≤ 10
@@ -25,6 +25,7 @@ module _ {V : Type 0} where
     pub one_power : (i : ℕ) → i < length stripes → (stripe_at stripes i).content.power ≡ (stripe_at stripes 0).content.power
     pub least : s ≤ (stripe_at stripes 0).content.power
     pub most : (stripe_at stripes 0).content.power ≤ 26
+    pub no_spare : HaveNoSpare stripes
     pub rising : (i j : ℕ) → i < j → j < length stripes → (stripe_at stripes i).number < (stripe_at stripes j).number
 
   -- the stripe of this number is held

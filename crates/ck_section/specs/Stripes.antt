@@ -5,7 +5,7 @@ use Rattle.ck_model.specs.Promise.{Name}
 use Rattle.ck_model.specs.Slots.{Slot}
 use Rattle.ck_model.specs.declared.contents.Content.{Content}
 use Rattle.ck_stripe.specs.Doubling.{doubled_content}
-use Rattle.ck_stripe.specs.Stripe.{StripeState, HasBucket, bucket_of}
+use Rattle.ck_stripe.specs.Stripe.{StripeState, HasBucket, bucket_of, HasNoSpare, shrunk, reserved}
 
 module _ {V : Type 0} where
   -- what stands for a stripe past the end
@@ -30,6 +30,18 @@ module _ {V : Type 0} where
   -- the stripes with no doubling left to carry out
   abbrev pub settled_stripes : List (StripeState V) → List (StripeState V)
   settled_stripes stripes = map (λ (stripe : StripeState V). record stripe { settled = true }) stripes
+
+  -- each has memory for its rows, and for none besides
+  abbrev pub HaveNoSpare : List (StripeState V) → Type 0
+  HaveNoSpare stripes = (i : ℕ) → i < length stripes → HasNoSpare (stripe_at stripes i)
+
+  -- the stripes with memory for their rows alone
+  abbrev pub shrunk_stripes : List (StripeState V) → List (StripeState V)
+  shrunk_stripes stripes = map shrunk stripes
+
+  -- the stripes with memory for a doubling of each
+  abbrev pub reserved_stripes : List (StripeState V) → List (StripeState V)
+  reserved_stripes stripes = map reserved stripes
 
   -- the stripe at the next power, not yet settled
   abbrev pub doubled : (Name → ℕ) → StripeState V → StripeState V

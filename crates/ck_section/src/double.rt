@@ -4,9 +4,9 @@ ghost use Rattle.ck_model.specs.declared.history.Call.TheVariants.{Len};
 ghost use Rattle.ck_model.specs.declared.history.Reply.TheVariants.{Count};
 ghost use Rattle.ck_model.specs.Contents.{layout, Lawful, pairs_of};
 ghost use Rattle.ck_model.specs.Sections.{Section};
-ghost use Rattle.ck_section.specs.Stripes.{stripe_at, contents_of, settled_stripes, doubled_stripes};
+ghost use Rattle.ck_section.specs.Stripes.{stripe_at, contents_of, HaveNoSpare, shrunk_stripes, reserved_stripes, settled_stripes, doubled_stripes};
 ghost use Rattle.ck_section.specs.Whole.{AreSettled, IsTable};
-ghost use Rattle.ck_section.specs.Doublings.{ChangesRoom, AreReserved, DoublesEach, Grows};
+ghost use Rattle.ck_section.specs.Doublings.{AreReserved, DoublesEach, Grows};
 
 use crate::held::Held;
 use crate::one_stripe;
@@ -42,9 +42,8 @@ pub fn len<K: TableKey + Drop, V: Drop, H: Held<Stripe<K, V>>>(held: &mut H, s: 
     entries
 }
 
-/// Doubles a table of 2^s stripes. The memory for all is taken first, by one request a stripe at
-/// most, so a refused request leaves each stripe at its power, with the same entries in the same
-/// slots.
+/// Doubles a table of 2^s stripes. The memory for all is taken first, by one request a stripe, and
+/// where one is refused, what was taken is given back. So a refused request leaves all as it was.
 pub fn double_all<K: TableKey + Drop, V: Drop, H: Held<Stripe<K, V>>>(
     held: &mut H,
     s: u32,
@@ -53,7 +52,7 @@ pub fn double_all<K: TableKey + Drop, V: Drop, H: Held<Stripe<K, V>>>(
     requires settled { AreSettled (H.stripes held.old) }
     requires below { (stripe_at (H.stripes held.old) 0).content.power < 26 }
     ensures table { IsTable s (H.stripes held.new) }
-    ensures kept { OnErr result (ChangesRoom (H.stripes held.old) (H.stripes held.new)) }
+    ensures kept { OnErr result (H.stripes held.new ≡ H.stripes held.old) }
     ensures doubled { OnOk result (DoublesEach K.hash (H.stripes held.old) (H.stripes held.new)) }
     ensures grown { OnOk result (Grows K.hash s (H.stripes held.old) (H.stripes held.new)) }
     ensures stays { H.stays held.old held.new }
@@ -64,21 +63,37 @@ pub fn double_all<K: TableKey + Drop, V: Drop, H: Held<Stripe<K, V>>>(
     Ok(())
 }
 
-// Takes the memory for a doubling of each of the `count` stripes that are held.
+// Takes the memory for a doubling of each of the `count` stripes that are held, or of none.
 fn reserve_all<K: TableKey + Drop, V: Drop, H: Held<Stripe<K, V>>>(
     held: &mut H,
     count: usize,
 ) -> Result<(), AllocError>
     requires count { length (H.stripes held.old) ≡ count }
     requires settled { AreSettled (H.stripes held.old) }
-    ensures room { ChangesRoom (H.stripes held.old) (H.stripes held.new) }
-    ensures reserved { OnOk result (AreReserved (H.stripes held.new)) }
+    requires no_spare { HaveNoSpare (H.stripes held.old) }
+    ensures reserved { OnOk result
+        (H.stripes held.new ≡ reserved_stripes (H.stripes held.old)) }
+    ensures kept { OnErr result (H.stripes held.new ≡ H.stripes held.old) }
     ensures stays { H.stays held.old held.new }
 {
     for i in 0..count {
-        one_stripe::reserve_double(held, i)?;
+        if let Err(refused) = one_stripe::reserve_double(held, i) {
+            shrink_all(held);
+            return Err(refused);
+        }
     }
     Ok(())
+}
+
+// Gives back what the held stripes have reserved.
+fn shrink_all<K: TableKey + Drop, V: Drop, H: Held<Stripe<K, V>>>(held: &mut H)
+    requires { AreSettled (H.stripes held.old) }
+    ensures shrunk { H.stripes held.new ≡ shrunk_stripes (H.stripes held.old) }
+    ensures stays { H.stays held.old held.new }
+{
+    for t in 0..held.count() {
+        one_stripe::shrink_to_fit(held, t);
+    }
 }
 
 // Raises the power of each of the `count` stripes that are held by one.

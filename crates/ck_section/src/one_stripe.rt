@@ -6,7 +6,7 @@ ghost use Rattle.ck_model.specs.Slots.{slot_at, IsFull};
 ghost use Rattle.ck_model.specs.Paths.{partial_in};
 ghost use Rattle.ck_bucket.specs.Bucket.{HasName, LacksName};
 ghost use Rattle.ck_stripe.specs.Doubling.{SendsEach};
-ghost use Rattle.ck_stripe.specs.Stripe.{HasBucket, bucket_of, IsWellFormed, IsReserved};
+ghost use Rattle.ck_stripe.specs.Stripe.{HasBucket, bucket_of, IsWellFormed, IsReserved, shrunk, reserved};
 ghost use Rattle.ck_section.specs.Stripes.{stripe_at, bucket_at, len_at, doubled, IsInReach};
 ghost use Rattle.ck_section.specs.Reading.{ReadsSlot};
 ghost use Rattle.ck_section.specs.Places.{HasStripe, at, slot_in, set_slot, IsLowest};
@@ -277,14 +277,26 @@ pub(crate) fn reserve_double<K: TableKey + Drop, V: Drop, H: Held<Stripe<K, V>>>
 ) -> Result<(), AllocError>
     requires inside { i < length (H.stripes held.old) }
     requires settled { (stripe_at (H.stripes held.old) i).settled ≡ true }
-    ensures room { H.stripes held.new ≡ slice_set (H.stripes held.old) i
-        (record (stripe_at (H.stripes held.old) i)
-        { room = (stripe_at (H.stripes held.new) i).room }) }
-    ensures ok { OnOk result (IsReserved (stripe_at (H.stripes held.new) i)) }
+    ensures ok { OnOk result (H.stripes held.new ≡ slice_set (H.stripes held.old) i
+        (reserved (stripe_at (H.stripes held.old) i))) }
     ensures kept { OnErr result (H.stripes held.new ≡ H.stripes held.old) }
     ensures stays { H.stays held.old held.new }
 {
     held.visit(i, |stripe: &mut Stripe<K, V>| stripe.reserve_double())
+}
+
+/// Gives back the memory that stripe `i` reserved for a doubling.
+pub(crate) fn shrink_to_fit<K: TableKey + Drop, V: Drop, H: Held<Stripe<K, V>>>(
+    held: &mut H,
+    i: usize,
+)
+    requires inside { i < length (H.stripes held.old) }
+    requires settled { (stripe_at (H.stripes held.old) i).settled ≡ true }
+    ensures shrunk { H.stripes held.new ≡ slice_set (H.stripes held.old) i
+        (shrunk (stripe_at (H.stripes held.old) i)) }
+    ensures stays { H.stays held.old held.new }
+{
+    held.visit(i, |stripe: &mut Stripe<K, V>| stripe.shrink_to_fit());
 }
 
 /// Raises the power of stripe `i` by one, and leaves it to be settled.

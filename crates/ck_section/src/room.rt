@@ -203,8 +203,7 @@ fn grow<K: TableKey + Drop, V: Drop, H: Held<Stripe<K, V>>>(
     requires min_load { min_load ≤ 100 }
     ensures table { IsTable s (H.stripes held.new) }
     ensures lack { IfErr result (IsLack max min_load (H.stripes held.old)) }
-    ensures same { OnErr result
-        (contents_of (H.stripes held.new) ≡ contents_of (H.stripes held.old)) }
+    ensures same { OnErr result (H.stripes held.new ≡ H.stripes held.old) }
     ensures may { OnOk result (IsLack max min_load (H.stripes held.old) Lack.Memory) }
     ensures grown { OnOk result (Grows K.hash s (H.stripes held.old) (H.stripes held.new)) }
     ensures power { OnOk result

@@ -1,9 +1,10 @@
 -- What is stored of a stripe, and what is shown of it.
-use Rattle.std.proofs.Common.{◌≡◌, ℕ, Bool, true, false, cond, refl, sym, ◌∙◌, ap, subst, ◌+◌, ◌-◌, ◌/◌, ◌^◌, ◌<◌, ◌≤◌, List, [], Some, None, length, set, replicate, arith}
+use Rattle.std.proofs.Common.{◌≡◌, ℕ, Bool, true, false, cond, refl, sym, ◌∙◌, ap, subst, ◌+◌, ◌-◌, ◌/◌, ◌^◌, ◌<◌, ◌≤◌, List, [], Some, None, IsSome, is_some, length, set, replicate, arith}
 use Rattle.std.specs.Prelude.{flat_map, All}
 use Rattle.std.specs.Option.{option_to_list}
 use Rattle.std.proofs.Math.Pow.{pow_mono}
 use Rattle.std.proofs.lemmas.Bool.{true≢false}
+use Rattle.std.proofs.lemmas.Nat.{pow_pos}
 use Rattle.std.proofs.lemmas.Option.{none-some, same_Some}
 use Rattle.std.proofs.lemmas.List.{get_or-set_same, length-set, length-replicate}
 use Rattle.std.proofs.lemmas.List.Elements.{All-set, All-replicate}
@@ -46,6 +47,26 @@ module _ {K V : Type 0} where
         go : (b : Bool) → cond b (2 ^ (t.power - t.s)) (2 ^ (t.power - 1 - t.s)) ≤ 2 ^ 26
         go true = let below : t.power - t.s ≤ 26 = omega (arith, kept.most) in pow_mono below
         go false = let below : t.power - 1 - t.s ≤ 26 = omega (arith, kept.most) in pow_mono below
+
+    -- memory for a doubling is more than for the rows alone
+    more_room : 2 ^ (t.power - t.s) < 2 ^ (t.power + 1 - t.s)
+    more_room = let some = pow_pos (t.power - t.s) in let twice = twice_rows t.s t.power _ kept.least refl in omega arith
+
+    pub reserved_blank : room_of t.s t.power t.next ≡ 2 ^ (t.power + 1 - t.s) → IsSome (blank_of t.next)
+    reserved_blank = go t.next
+      where
+        go : (next : Next K V) → room_of t.s t.power next ≡ 2 ^ (t.power + 1 - t.s) → IsSome (blank_of next)
+        go Absent is = absurd (omega (arith, is, more_room))
+        go (Reserved blank) is = refl
+        go (Doubled blank) is = refl
+
+    pub room_rises : (after : Next K V) (blank : ℕ) → is_some (blank_of t.next) ≡ false → after ≡ Reserved blank → room_of t.s t.power t.next ≤ room_of t.s t.power after
+    room_rises after blank none is = subst (λ next. room_of t.s t.power t.next ≤ room_of t.s t.power next) (sym is) (go t.next none)
+      where
+        go : (next : Next K V) → is_some (blank_of next) ≡ false → room_of t.s t.power next ≤ 2 ^ (t.power + 1 - t.s)
+        go Absent e = omega (arith, more_room)
+        go (Reserved b) e = absurd (true≢false e)
+        go (Doubled b) e = absurd (true≢false e)
 
     -- as many other rows of four slots
     pub kept_rows : (rows : List (List (Slot V))) → length rows ≡ length t.rows → All IsFour rows → IsConsistent (with_rows t rows)
@@ -191,7 +212,7 @@ module _ {K V : Type 0} where
             go (Doubled blank) some e = absurd (true≢false (sym e))
 
         twice : room_of t.s t.power t.next ≡ 2 ^ (t.power + 1 - t.s)
-        twice = ap (room_of t.s t.power) reserved ∙ twice_rows t.s t.power (2 ^ (t.power - t.s)) kept.least refl
+        twice = ap (room_of t.s t.power) reserved
 
         pub now_raised : shown hash (raised after) ≡ record { number = now.number; s = now.s; content = doubled_content hash now.s now.number now.content; settled = false; room = now.room }
         now_raised =

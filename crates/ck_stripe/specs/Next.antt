@@ -1,5 +1,5 @@
 -- What a stripe has for its next doubling.
-use Rattle.std.specs.Prelude.{◌≡◌, ℕ, Bool, true, false, if◌then◌else◌, ◌-◌, ◌*◌, ◌^◌, Option, Some, None}
+use Rattle.std.specs.Prelude.{◌≡◌, ℕ, Bool, true, false, if◌then◌else◌, ◌+◌, ◌-◌, ◌*◌, ◌^◌, Option, Some, None}
 use Rattle.ck_stripe.specs.declared.next.Next.{Next}
 use Rattle.ck_stripe.specs.declared.next.Next.TheVariants.{Absent, Reserved, Doubled}
 
@@ -17,7 +17,7 @@ module _ {K V : Type 0} where
   -- for how many rows it has memory in all: twice as many as it stores where there is memory for a doubling
   abbrev pub room_of : ℕ → ℕ → Next K V → ℕ
   room_of s power Absent = 2 ^ (power - s)
-  room_of s power (Reserved blank) = 2 * 2 ^ (power - s)
+  room_of s power (Reserved blank) = 2 ^ (power + 1 - s)
   room_of s power (Doubled blank) = 2 ^ (power - s)
 
   -- for how many rows it has memory beside those that are stored

@@ -1,5 +1,5 @@
 -- What contracts see of a stripe.
-use Rattle.std.specs.Prelude.{◌≡◌, ℕ, Bool, ◌-◌, ◌*◌, ◌/◌, ◌%◌, ◌^◌, ◌<◌, ◌≤◌, List, None, length, flat_map, replicate, slice_set}
+use Rattle.std.specs.Prelude.{◌≡◌, ℕ, Bool, ◌+◌, ◌-◌, ◌/◌, ◌%◌, ◌^◌, ◌<◌, ◌≤◌, List, None, length, flat_map, replicate, slice_set}
 use Rattle.ck_model.specs.Slots.{Slot, taken_in}
 use Rattle.ck_model.specs.declared.contents.Content.{Content}
 use Rattle.ck_model.specs.Contents.{row_at, IsShaped}
@@ -40,9 +40,20 @@ module _ {V : Type 0} where
   abbrev pub with_slot : StripeState V → ℕ → ℕ → Slot V → ℕ → Content V
   with_slot stripe b i slot ledger = with_bucket stripe b (slice_set (bucket_of stripe b) i slot) ledger
 
-  -- there is memory for a doubling
+  -- it has memory for its rows, and for none besides
+  abbrev pub HasNoSpare : StripeState V → Type 0
+  HasNoSpare stripe = stripe.room ≡ 2 ^ (stripe.content.power - stripe.s)
+
+  -- it has memory for twice as many rows, which a doubling wants
   abbrev pub IsReserved : StripeState V → Type 0
-  IsReserved stripe = 2 * length stripe.content.rows ≤ stripe.room
+  IsReserved stripe = stripe.room ≡ 2 ^ (stripe.content.power + 1 - stripe.s)
+
+  -- the stripe with so much memory
+  abbrev pub shrunk : StripeState V → StripeState V
+  shrunk stripe = record stripe { room = 2 ^ (stripe.content.power - stripe.s) }
+
+  abbrev pub reserved : StripeState V → StripeState V
+  reserved stripe = record stripe { room = 2 ^ (stripe.content.power + 1 - stripe.s) }
 
   -- these rows at this power, and the number of their entries
   abbrev pub content_of : ℕ → List (List (Slot V)) → Content V

@@ -2,7 +2,7 @@
 //! looks into the stripe next, so that a table doubles without going through its entries.
 #![tactic(auto, using(crate::proofs::Stored::formed_now))]
 
-ghost use Rattle.std.specs.Prelude.{◌≡◌, ◌≤◌, ◌<◌, ◌+◌, ◌-◌, ◌*◌, ◌/◌, ◌^◌, ℕ, true, false, Some, None, IsSome, IfSome, IfNone, IfOk, OnOk, OnErr, ◌++◌, length, map, flat_map, max, replicate, option_map, option_copied, vec_len, vec_capacity};
+ghost use Rattle.std.specs.Prelude.{◌≡◌, ◌≤◌, ◌<◌, ◌+◌, ◌-◌, ◌*◌, ◌/◌, ◌^◌, ℕ, true, false, Some, None, IsSome, IfSome, IfNone, IfOk, OnOk, OnErr, ◌++◌, length, map, flat_map, replicate, option_map, option_copied, vec_len, vec_capacity};
 ghost use Rattle.std.specs.List.Sorted.{IsPermutation};
 ghost use Rattle.ck_model.specs.Arithmetic.{partial_of};
 ghost use Rattle.ck_model.specs.Promise.{named};
@@ -11,7 +11,7 @@ ghost use Rattle.ck_model.specs.Contents.{Layout, pairs_in, IsSound};
 ghost use Rattle.ck_model.specs.Paths.{partial_in};
 ghost use Rattle.ck_bucket.specs.Bucket.{HasName, LacksName, ReplacesValue, ChangesValue, ClonesAreEqual};
 ghost use Rattle.ck_stripe.specs.Doubling.{split_rows, doubled_content, SendsEach};
-ghost use Rattle.ck_stripe.specs.Stripe.{HasBucket, bucket_of, with_bucket, with_slot, empty_content, IsWellFormed, IsReserved};
+ghost use Rattle.ck_stripe.specs.Stripe.{HasBucket, bucket_of, with_bucket, with_slot, empty_content, IsWellFormed, HasNoSpare, IsReserved, shrunk, reserved};
 
 use crate::iter::Iter;
 use crate::next::Next;
@@ -264,12 +264,9 @@ impl<K: TableKey + Drop, V: Drop> Stripe<K, V> {
     /// as it was.
     pub fn reserve_double(&mut self) -> Result<(), AllocError>
         requires settled { self.old.settled ≡ true }
-        ensures same { self.new ≡ record self.old { room = self.new.room } }
         ensures room { self.old.room ≤ self.new.room }
-        ensures ok { OnOk result (IsReserved self.new) }
-        ensures exact { OnOk result
-            (self.new.room ≡ max self.old.room (2 * length self.old.content.rows)) }
-        ensures due { OnErr result (self.old.room < 2 * length self.old.content.rows) }
+        ensures ok { OnOk result (self.new ≡ reserved self.old) }
+        ensures due { OnErr result (HasNoSpare self.old) }
         ensures kept { OnErr result (self.new ≡ self.old) }
     {
         if self.next.is_reserved() {
@@ -282,6 +279,15 @@ impl<K: TableKey + Drop, V: Drop> Stripe<K, V> {
         let blank = BlankRows::open(self.heap, count)?;
         self.next.put(Next::Reserved(blank));
         Ok(())
+    }
+
+    /// Gives back the memory that was reserved for a doubling.
+    pub fn shrink_to_fit(&mut self)
+        requires settled { self.old.settled ≡ true }
+        ensures { self.new ≡ shrunk self.old }
+    {
+        let count = self.next.count(self.s, self.power);
+        mem::replace(&mut self.next, Next::Absent).close(count);
     }
 
     /// Raises the power by one. The stripe then shows its entries where the doubling sends them:

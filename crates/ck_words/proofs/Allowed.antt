@@ -24,7 +24,7 @@ use Rattle.ck_core.specs.Steps.Label.{Take, FindHeld, Give, Decide, Renew, Look}
 use Rattle.ck_core.proofs.Lists.{at_set, set_else, set_there}
 use Rattle.ck_core.proofs.Shown.{shows}
 use Rattle.ck_core.proofs.Keeps.{take_keeps, find_keeps, give_keeps, decide_keeps, renew_keeps, look_keeps, told_below, open_keeps, tell_keeps, join_keeps}
-use Rattle.ck_words.specs.Rule.{StripeSlot, Hand, lying, spaced, world, IsNumbered, IsKept, Rule, RuleOf}
+use Rattle.ck_words.specs.Rule.{StripeSlot, Hand, lying, spaced, world, IsAtHome, IsKept, Rule, RuleOf}
 use Rattle.ck_words.specs.Steps.{Steps}
 use Rattle.ck_words.specs.Plays.{contents_in, SeatTries, SeatGives, SeatLooks, first_kept, opened, begun}
 use Rattle.ck_words.proofs.Spacing.{spaced-at, spaced-set}
@@ -45,29 +45,29 @@ module _ {V : Type 0} where
   lies_there (h ∷ hs) zero c e = let f = full h c (some-injective (lying h) (Some c) e) in (f.0, ap some f.1, f.2)
   lies_there (h ∷ hs) (suc i) c e = lies_there hs i c e
 
-  -- slots with the stripes of their numbers
-  abbrev pub AreNumbered : ℕ → List (maybe.Option (StripeSlot V)) → Type 0
-  AreNumbered s hs = (t : ℕ) (stripe : StripeState V) → get_elem? hs t ≡ some (some (Some stripe)) → IsNumbered s t stripe
+  -- slots with the stripes of their numbers, with no memory to spare
+  abbrev pub AreAtHome : ℕ → List (maybe.Option (StripeSlot V)) → Type 0
+  AreAtHome s hs = (t : ℕ) (stripe : StripeState V) → get_elem? hs t ≡ some (some (Some stripe)) → IsAtHome s t stripe
 
-  numbered_out : (s : ℕ) (hs : List (maybe.Option (StripeSlot V))) (t : ℕ) → AreNumbered s hs → AreNumbered s (set hs t none)
-  numbered_out s hs t old u stripe e = ⊎_elim (λ (h : (u ≡ t) × (none ≡ some (Some stripe))). absurd (some-ne-none (Some stripe) (sym h.1))) (λ (h : (u ≢ t) × (get_elem? hs u ≡ some (some (Some stripe)))). old u stripe h.1)
+  home_out : (s : ℕ) (hs : List (maybe.Option (StripeSlot V))) (t : ℕ) → AreAtHome s hs → AreAtHome s (set hs t none)
+  home_out s hs t old u stripe e = ⊎_elim (λ (h : (u ≡ t) × (none ≡ some (Some stripe))). absurd (some-ne-none (Some stripe) (sym h.1))) (λ (h : (u ≢ t) × (get_elem? hs u ≡ some (some (Some stripe)))). old u stripe h.1)
       (at_set hs t u none (some (Some stripe)) e)
 
-  numbered_back : (s : ℕ) (hs : List (maybe.Option (StripeSlot V))) (t : ℕ) (new : StripeState V) → IsNumbered s t new → AreNumbered s hs → AreNumbered s (set hs t (some (Some new)))
-  numbered_back s hs t new own old u stripe e = ⊎_elim
-      (λ (h : (u ≡ t) × (some (Some new) ≡ some (Some stripe))). subst (λ (x : ℕ × StripeState V). IsNumbered s x.0 x.1) (λ i. (sym h.0 i, Some-injective new stripe (some-injective (Some new) (Some stripe) h.1) i)) own)
+  home_back : (s : ℕ) (hs : List (maybe.Option (StripeSlot V))) (t : ℕ) (new : StripeState V) → IsAtHome s t new → AreAtHome s hs → AreAtHome s (set hs t (some (Some new)))
+  home_back s hs t new own old u stripe e = ⊎_elim
+      (λ (h : (u ≡ t) × (some (Some new) ≡ some (Some stripe))). subst (λ (x : ℕ × StripeState V). IsAtHome s x.0 x.1) (λ i. (sym h.0 i, Some-injective new stripe (some-injective (Some new) (Some stripe) h.1) i)) own)
       (λ (h : (u ≢ t) × (get_elem? hs u ≡ some (some (Some stripe)))). old u stripe h.1)
       (at_set hs t u (some (Some new)) (some (Some stripe)) e)
 
 module _ {V : Type 0} (k : Layout) (callers : ℕ) where
   -- the word of stripe t became x, and its slot h
   kept_at : (log : List (Entry V)) (s : State (StripeSlot V) (View V)) (t x : ℕ) (h : maybe.Option (StripeSlot V)) (views : List (View V)) → t < 2 ^ k.s → length s.words ≡ 2 ^ k.s * 8
-      → HistoryInvariant k callers log (record { words = set (spaced (2 ^ k.s) s.words) t x; homes = set (map lying s.homes) t (lying h); views = views }) → AreNumbered k.s (set s.homes t h)
+      → HistoryInvariant k callers log (record { words = set (spaced (2 ^ k.s) s.words) t x; homes = set (map lying s.homes) t (lying h); views = views }) → AreAtHome k.s (set s.homes t h)
       → IsKept k callers log (record { words = set s.words (t * 8) x; homes = set s.homes t h; views = views })
   kept_at log s t x h views l sized law own = record {
     law = subst (λ (w : Configuration V). HistoryInvariant k callers log w) (λ i. record { words = sym (spaced-set (2 ^ k.s) t x s.words l sized) i; homes = map_set s.homes t h i; views = views }) law;
     words_sized = length-set s.words (t * 8) x ∙ sized;
-    numbered = own;
+    at_home = own;
   }
 
   -- a step that leaves words and slots as they were
@@ -78,15 +78,15 @@ module _ {V : Type 0} (k : Layout) (callers : ℕ) where
       record {
         law = subst (λ ws. HistoryInvariant k callers log (record { words = spaced (2 ^ k.s) ws; homes = map lying s.homes; views = set s.views id w })) same law;
         words_sized = length-set s.words t x ∙ old.words_sized;
-        numbered = old.numbered;
+        at_home = old.at_home;
       }
 
   -- a seat gives back the slot that it has first
-  gave : (log log2 : List (Entry V)) (s : State (StripeSlot V) (View V)) (id t : ℕ) (stripe : StripeState V) (w : View V) (has out : List (ℕ × StripeSlot V)) → has ≡ (t, Some stripe) ∷ out → t < 2 ^ k.s → IsNumbered k.s t stripe → IsKept k callers log s
+  gave : (log log2 : List (Entry V)) (s : State (StripeSlot V) (View V)) (id t : ℕ) (stripe : StripeState V) (w : View V) (has out : List (ℕ × StripeSlot V)) → has ≡ (t, Some stripe) ∷ out → t < 2 ^ k.s → IsAtHome k.s t stripe → IsKept k callers log s
       → HistoryInvariant k callers log2 (sent_home (world (2 ^ k.s) s) id t stripe.content w)
       → IsKept k callers log2 (stepped s (t * 8) 0 id has w gives)
   gave log log2 s id t stripe w has out is l own old law = subst (λ (xs : List (ℕ × StripeSlot V)). IsKept k callers log2 (stepped s (t * 8) 0 id xs w gives)) (sym is)
-      (kept_at log2 s t 0 (some (Some stripe)) (set s.views id w) l old.words_sized law (numbered_back k.s s.homes t stripe own old.numbered))
+      (kept_at log2 s t 0 (some (Some stripe)) (set s.views id w) l old.words_sized law (home_back k.s s.homes t stripe own old.at_home))
 
   module _ (id : ℕ) (v : View V) where
     pub open_allowed : (j : ℕ) (others : List (ℕ × List (Entry V))) → v.others ≡ (j, []) ∷ others → Splits (Rule k callers) id v (opened v) (begun v)
@@ -96,12 +96,12 @@ module _ {V : Type 0} (k : Layout) (callers : ℕ) where
           record {
             law = subst (λ (o : List (ℕ × List (Entry V))). HistoryInvariant k callers r.0 (record { words = spaced (2 ^ k.s) s.words; homes = map lying s.homes; views = set s.views id (record v { others = drop 1 o }) ++ newcomer v.settings (first_kept o) v.told ∷ [] })) (sym is) law;
             words_sized = r.1.words_sized;
-            numbered = r.1.numbered;
+            at_home = r.1.at_home;
           },
         )
 
     pub tell_allowed : Splits (Rule k callers) id v v (message_of v)
-    tell_allowed s r at = (r.0, record { law = tell_keeps k callers r.0 (world (2 ^ k.s) s) r.1.law id v at; words_sized = r.1.words_sized; numbered = r.1.numbered })
+    tell_allowed s r at = (r.0, record { law = tell_keeps k callers r.0 (world (2 ^ k.s) s) r.1.law id v at; words_sized = r.1.words_sized; at_home = r.1.at_home })
 
     pub join_allowed : (other : ℕ) (w : View V) → w.held ≡ [] → Joins (Rule k callers) id v other w (joining v w) spent
     join_allowed other w empty s r at apart there = (
@@ -109,7 +109,7 @@ module _ {V : Type 0} (k : Layout) (callers : ℕ) where
       record {
         law = join_keeps k callers r.0 (world (2 ^ k.s) s) r.1.law id v at other w (sym (set_else s.views id other (joining v w) apart) ∙ there) apart empty;
         words_sized = r.1.words_sized;
-        numbered = r.1.numbered;
+        at_home = r.1.at_home;
       },
     )
 
@@ -148,9 +148,9 @@ module _ (hash : Name → ℕ) (set : Settings) where
           let w : View V = record m.0 { held = (t, stripe.content) ∷ m.0.held; seen = log } in
           let after : Configuration V = taken (world (2 ^ k.s) s) id m.0 t stripe.content log in
           let kept : IsKept k set.callers log (stepped s (t * 8) 1 id m.1 w (takes t (Some stripe))) =
-          kept_at k set.callers log s t 1 none (slice_set s.views id w) l r.words_sized (take_keeps k set.callers log (world (2 ^ k.s) s) r.law id m.0 at t stripe.content l free there2 number) (numbered_out k.s s.homes t r.numbered) in
+          kept_at k set.callers log s t 1 none (slice_set s.views id w) l r.words_sized (take_keeps k set.callers log (world (2 ^ k.s) s) r.law id m.0 at t stripe.content l free there2 number) (home_out k.s s.homes t r.at_home) in
           let steps : Steps hash set (Take t) m.0 w = steps_from (Take t) log s id m.0 w after r at (m.0, stripe.content, at, l, free, above, there2, number, refl) refl in
-          (w, takes t (Some stripe), slot.1, (log, kept), ((λ _. (stripe, r.numbered t stripe slot.1, refl, inl (refl, refl), steps)), (λ ne. absurd (ne e))))
+          (w, takes t (Some stripe), slot.1, (log, kept), ((λ _. (stripe, r.at_home t stripe slot.1, refl, inl (refl, refl), steps)), (λ ne. absurd (ne e))))
       take_by t l above number s log r at (suc zero) e h =
           let w : View V = record m.0 { found = t ∷ m.0.found } in
           let held : get_or (spaced (2 ^ k.s) s.words) t 0 ≡ 1 = spaced-at (2 ^ k.s) t s.words l ∙ e in
@@ -163,7 +163,7 @@ module _ (hash : Name → ℕ) (set : Settings) where
       pub take_allowed : (t : ℕ) → t < 2 ^ k.s → IsAbove t (numbers m.0.held) → HasNumber m.0 → Allows (RuleOf hash set) slots id m (t * 8) (λ _. 1) (SeatTries hash set t m)
       take_allowed t l above number s r _ at _ = take_by t l above number s r.0 r.1 at (get_or s.words (t * 8) 0) refl (subst (λ b. b < 2) (spaced-at (2 ^ k.s) t s.words l) (r.1.law.places.is_bit t l))
 
-      module _ (t : ℕ) (stripe : StripeState V) (out : List (ℕ × StripeSlot V)) (is : m.1 ≡ (t, Some stripe) ∷ out) (l : t < 2 ^ k.s) (own : IsNumbered k.s t stripe) where
+      module _ (t : ℕ) (stripe : StripeState V) (out : List (ℕ × StripeSlot V)) (is : m.1 ≡ (t, Some stripe) ∷ out) (l : t < 2 ^ k.s) (own : IsAtHome k.s t stripe) where
         pub give_allowed : (g : Option (Name × Reason)) → Holds m.0.held t stripe.content → (Lawful k m.0.held → IsExcused k set.min_load m.0.held g) → Allows (RuleOf hash set) slots id m (t * 8) (λ _. 0) (λ _. SeatGives hash set (Give t g) m)
         give_allowed g h excused s r _ at _ =
             let w : View V = giving m.0 t stripe.content m.0.held g in

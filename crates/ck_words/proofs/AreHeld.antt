@@ -5,13 +5,14 @@ use Rattle.ck_model.specs.Promise.{Name}
 use Rattle.ck_model.specs.Ranges.{AreInRange}
 use Rattle.ck_model.specs.Contents.{layout_of, Stripes, Lawful}
 use Rattle.ck_stripe.specs.Stripe.{StripeState}
-use Rattle.ck_section.specs.Stripes.{stripe_at, contents_of, settled_stripes}
+use Rattle.ck_section.specs.Stripes.{stripe_at, contents_of, HaveNoSpare, settled_stripes}
 use Rattle.ck_section.specs.Places.{AreHeld}
 use Rattle.ck_section.proofs.Found.{holds_at}
 use Rattle.ck_words.specs.Passes.{EachOf, PassState, IsUnchanged, ShowsSeen, numbers_of}
 use Rattle.ck_words.proofs.Lending.{each_at}
 use Rattle.ck_words.proofs.Seating.{length-numbers, number_at}
 use Rattle.ck_words.proofs.Reversed.{lawful_reverse}
+use Rattle.ck_words.proofs.Spare.{spare_settled}
 
 -- the numbers of the list rise
 abbrev pub Rise : List ℕ → Type 0
@@ -40,9 +41,9 @@ module _ {V : Type 0} where
   contents_settled [] = refl
   contents_settled (s ∷ ss) = ap {B = Stripes V} (λ l. (s.number, s.content) ∷ l) (contents_settled ss)
 
-  pub are_held : (hash : Name → ℕ) (set : Settings) → AreInRange set → (p : PassState V) (ns : List ℕ) → numbers_of p.stripes ≡ ns → Rise ns → 0 < length ns → EachOf set.s p.stripes → IsUnchanged p → ShowsSeen hash set p
+  pub are_held : (hash : Name → ℕ) (set : Settings) → AreInRange set → (p : PassState V) (ns : List ℕ) → numbers_of p.stripes ≡ ns → Rise ns → 0 < length ns → EachOf set.s p.stripes → HaveNoSpare p.stripes → IsUnchanged p → ShowsSeen hash set p
       → AreHeld set.s (settled_stripes p.stripes)
-  are_held hash set range p ns numbered rise some each unchanged shows =
+  are_held hash set range p ns numbered rise some each spare unchanged shows =
       let ss : List (StripeState V) = settled_stripes p.stripes in
       let named : numbers_of ss ≡ ns = numbers_settled p.stripes ∙ numbered in
       let count : length ss ≡ length ns = sym (length-numbers ss) ∙ ap length named in
@@ -57,6 +58,7 @@ module _ {V : Type 0} where
         one_power = λ i h. lawful.one_power (stripe_at ss i).number (stripe_at ss 0).number (stripe_at ss i).content (stripe_at ss 0).content (holds_at ss i h) (holds_at ss 0 first);
         least = sound.shaped.least;
         most = (let a = sound.most in let b = range.max in omega arith);
+        no_spare = spare_settled p.stripes spare;
         rising = λ i j a b. let l = rise i j a (omega arith) in let x = number_at ss i (omega arith) in let y = number_at ss j b in let e = ap (λ ms. get_or ms i 0) named in let f = ap (λ ms. get_or ms j 0) named in omega arith;
       }
 

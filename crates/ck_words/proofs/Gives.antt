@@ -13,11 +13,11 @@ use Rattle.ck_model.specs.Promise.{Name}
 use Rattle.ck_model.specs.Numbered.{Holds, without}
 use Rattle.ck_model.specs.Contents.{Layout, layout_of, Stripes, Lawful}
 use Rattle.ck_model.specs.Sections.{Section, IdentitySection}
-use Rattle.ck_section.specs.Stripes.{contents_of}
+use Rattle.ck_section.specs.Stripes.{contents_of, HaveNoSpare}
 use Rattle.ck_core.specs.declared.view.View.{View}
 use Rattle.ck_core.specs.Steps.{Label, IsExcused, HasGrounds}
 use Rattle.ck_core.specs.Steps.Label.{Give, Decide, Renew}
-use Rattle.ck_words.specs.Rule.{StripeSlot, Hand, RuleOf}
+use Rattle.ck_words.specs.Rule.{StripeSlot, Hand, RuleOf, IsAtHome}
 use Rattle.ck_words.specs.Steps.{Steps}
 use Rattle.ck_words.specs.Plays.{SeatGives, contents_in}
 use Rattle.ck_words.specs.Words.{WordsState}
@@ -27,6 +27,7 @@ use Rattle.ck_words.proofs.Reversed.{lawful_reverse, section_turned, identity_tu
 use Rattle.ck_words.proofs.Excuses.{excused_reverse, has_grounds_reverse}
 use Rattle.ck_words.proofs.Rows.{shows_after, give_row, renew_row, decide_row}
 use Rattle.ck_words.proofs.Seating.{Last, last}
+use Rattle.ck_words.proofs.Spare.{spare_last, spare_rest}
 use Rattle.ck_words.proofs.Takes.{Fits, Lasts, same_table, word_inside, same_settings, same_key, slots_are, own_after, below_key, settled, told}
 
 -- the highest stripe went home by this move, and the pass has the others as they were
@@ -35,8 +36,9 @@ pub record Went {V : Type 0} (hash : Name → ℕ) (w : WordsState) (move : ℕ 
   pub own : IsPassOf w (state_of z me)
   pub sends : Sends hash w move p (state_of z me)
   pub unchanged : IsUnchanged (state_of z me)
+  pub no_spare : HaveNoSpare (held_in me.1)
 
-module _ {V : Type 0} (hash : Name → ℕ) (w : WordsState) (p : PassState V) (tz : TableId) (key set : Settings) (z : TableId) (me : Hand V) (f : Fits w p tz key set z me) (t : ℕ) (seated : IsSeated z me) (highest : IsHighest t p.stripes) where
+module _ {V : Type 0} (hash : Name → ℕ) (w : WordsState) (p : PassState V) (tz : TableId) (key set : Settings) (z : TableId) (me : Hand V) (f : Fits w p tz key set z me) (t : ℕ) (seated : IsSeated z me) (highest : IsHighest t p.stripes) (spare : HaveNoSpare p.stripes) where
   -- it is the highest that the seat has
   l : Last z me.0 me.1 t
   l = last z me.0 me.1 t seated (subst (λ (q : PassState V). IsHighest t q.stripes) (sym f.pass_is) highest)
@@ -60,8 +62,11 @@ module _ {V : Type 0} (hash : Name → ℕ) (w : WordsState) (p : PassState V) (
   abbrev inside_key : t < 2 ^ key.s
   inside_key = below_key hash w p tz key set z me f t inside
 
-  own_key : (l.stripe.number ≡ t) × (l.stripe.s ≡ key.s)
-  own_key = (l.own.0, l.own.1 ∙ ap (λ (x : Settings). x.s) (same_settings hash w p tz key set z me f ∙ same_key hash w p tz key set z me f))
+  split : p.stripes ≡ held_in l.out ++ l.stripe ∷ []
+  split = ap (λ (q : PassState V). q.stripes) (sym f.pass_is) ∙ l.split
+
+  own_key : IsAtHome key.s t l.stripe
+  own_key = (l.own.0, l.own.1 ∙ ap (λ (x : Settings). x.s) (same_settings hash w p tz key set z me f ∙ same_key hash w p tz key set z me f), spare_last p.stripes (held_in l.out) l.stripe split spare)
 
   now_held : Holds (contents_in me.1) t l.stripe.content
   now_held = subst (λ slots. Holds (contents_in slots) t l.stripe.content) (sym l.front) (inl (refl, refl))
@@ -119,7 +124,7 @@ module _ {V : Type 0} (hash : Name → ℕ) (w : WordsState) (p : PassState V) (
     gone_unchanged z2 me2 g v = ap (λ has. contents_of (held_in has)) g.slots_left ∙ sym (ap reverse (v.held ∙ l.others) ∙ reverse-reverse (contents_of (held_in l.out)))
 
     went : (z2 : TableId) (me2 : Hand V) → z2 ≡ z → (g : Gone me2) → Tells me2 → Went hash w move p z2 me2
-    went z2 me2 same g v = record { seated = gone_seated z2 me2 g v same; own = own_after hash w p tz key set z me f z2 me2 same v.lasts; sends = sends z2 me2 g; unchanged = gone_unchanged z2 me2 g v }
+    went z2 me2 same g v = record { seated = gone_seated z2 me2 g v same; own = own_after hash w p tz key set z me f z2 me2 same v.lasts; sends = sends z2 me2 g; unchanged = gone_unchanged z2 me2 g v; no_spare = subst (λ slots. HaveNoSpare (held_in slots)) (sym g.slots_left) (spare_rest p.stripes (held_in l.out) l.stripe split spare) }
 
   module _ (g : Option (Name × Reason)) (u : IsUnchanged p) where
     abbrev pub give_move : ℕ → Stripes V → Label V

@@ -12,6 +12,7 @@ pub mod Lending
 pub mod Starting
 pub mod Meets
 pub mod Settling
+pub mod Spare
 pub mod Taking
 pub mod Releasing
 pub mod Renewed

@@ -3,6 +3,7 @@ use Rattle.std.proofs.Common.{◌≡◌, ℕ, ◌+◌, ◌-◌, ◌^◌, ◌<◌
 use Rattle.std.specs.List.Sorted.{IsStrictlyIncreasing}
 use Rattle.ck_model.specs.Promise.{Name}
 use Rattle.ck_model.specs.Numbered.{IsIn, numbers}
+use Rattle.ck_section.specs.Stripes.{HaveNoSpare}
 use Rattle.ck_core.specs.Steps.{IsAbove}
 use Rattle.ck_words.specs.Words.{WordsState}
 use Rattle.ck_words.specs.Passes.{PassState, IsPassOf, IsUnchanged, TakesStripe, TriesStripe, numbers_of}
@@ -41,6 +42,9 @@ module _ {V : Type 0} (hash : Name → ℕ) (w : WordsState) (ns : List ℕ) (i 
     pub still_first : (n : ℕ) (r : PassState V) → r ≡ found_again n t q → numbers_of r.stripes ≡ take i ns
     still_first n r again = ap (λ (x : PassState V). numbers_of x.stripes) again ∙ taken.numbered
 
+    pub still_spare : (n : ℕ) (r : PassState V) → r ≡ found_again n t q → HaveNoSpare r.stripes
+    still_spare n r again = subst (λ (x : PassState V). HaveNoSpare x.stripes) (sym again) taken.no_spare
+
   -- and the next was found held once
   module _ (rising : IsStrictlyIncreasing ns) (some : 1 ≤ w.settings.turns) (missed : Misses hash w ns i p q) where
     before : PassState V
@@ -59,6 +63,9 @@ module _ {V : Type 0} (hash : Name → ℕ) (w : WordsState) (ns : List ℕ) (i 
 
     pub later_first : (n : ℕ) (r : PassState V) → r ≡ found_again n t q → numbers_of r.stripes ≡ take i ns
     later_first n r more = ap (λ (x : PassState V). numbers_of x.stripes) more ∙ (ap (λ (x : PassState V). numbers_of x.stripes) again ∙ missed.1.1.numbered)
+
+    pub later_spare : (n : ℕ) (r : PassState V) → r ≡ found_again n t q → HaveNoSpare r.stripes
+    later_spare n r more = subst (λ (x : PassState V). HaveNoSpare x.stripes) (sym (more ∙ ap (λ (x : PassState V). found_again n t x) again)) missed.1.1.no_spare
 
     pub later_refused : (r s : PassState V) → r ≡ found_again (w.settings.turns - 1) t q → HasReleased w r s → s.view.doublings ≡ r.view.doublings → GivesUp w (λ u. IsIn u ns) t p s
     later_refused r s more released doublings = given_up hash w (λ u. IsIn u ns) (take i ns) t p missed.1.0 missed.1.1 r s some (asked missed.0) (found_later w.settings.turns t missed.1.0 q r some again more) released doublings

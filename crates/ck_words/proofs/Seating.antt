@@ -11,7 +11,7 @@ use Rattle.ck_stripe.specs.Stripe.{StripeState}
 use Rattle.ck_section.specs.Stripes.{stripe_at, contents_of}
 use Rattle.ck_core.specs.declared.view.View.{View}
 use Rattle.ck_core.specs.Steps.{IsAbove}
-use Rattle.ck_words.specs.Rule.{StripeSlot, Hand, IsNumbered}
+use Rattle.ck_words.specs.Rule.{StripeSlot, Hand, IsAtHome}
 use Rattle.ck_words.specs.Plays.{stripe_in, contents_in}
 use Rattle.ck_words.specs.Passes.{Falls, stripes_in, held_in, slot_of, numbers_of, EachOf, IsSeated, IsReady, IsHighest}
 use Rattle.ck_words.proofs.Reversed.{map-reverse, reverse-cons}
@@ -44,7 +44,7 @@ module _ {V : Type 0} where
   each_append n (x ∷ xs) y a p = (a.0, each_append n xs y a.1 p)
 
   -- a stripe was taken: it is before the others
-  pub seated_take : (z : TableId) (v w : View V) (has : List (ℕ × StripeSlot V)) (t : ℕ) (stripe : StripeState V) → IsSeated z (v, has) → IsAbove t (numbers v.held) → t < z.slots → IsNumbered v.settings.s t stripe
+  pub seated_take : (z : TableId) (v w : View V) (has : List (ℕ × StripeSlot V)) (t : ℕ) (stripe : StripeState V) → IsSeated z (v, has) → IsAbove t (numbers v.held) → t < z.slots → IsAtHome v.settings.s t stripe
       → w.settings ≡ v.settings → numbers w.held ≡ t ∷ numbers v.held → IsSeated z (w, (t, Some stripe) ∷ has)
   seated_take z v w has t stripe s above inside own settings held =
       let same : v.settings.s ≡ w.settings.s = sym (ap (λ (x : Settings). x.s) settings) in
@@ -75,7 +75,7 @@ module _ {V : Type 0} where
     pub stripe : StripeState V
     pub out : List (ℕ × StripeSlot V)
     pub split : held_in has ≡ held_in out ++ stripe ∷ []
-    pub own : IsNumbered v.settings.s t stripe
+    pub own : (stripe.number ≡ t) × (stripe.s ≡ v.settings.s)
     pub front : has ≡ (t, Some stripe) ∷ out
     pub now : contents_in has ≡ reverse (contents_of (held_in has))
     pub first : reverse (contents_of (held_in has)) ≡ (t, stripe.content) ∷ reverse (contents_of (held_in out))

@@ -27,7 +27,7 @@ use Rattle.ck_core.specs.State.{Configuration, HistoryInvariant}
 use Rattle.ck_core.specs.Steps.{Opening, initial_view}
 use Rattle.ck_core.proofs.Lists.{at_snoc, at_longer}
 use Rattle.ck_core.proofs.Openings.{opens}
-use Rattle.ck_words.specs.Rule.{StripeSlot, IsNumbered, IsKept, RuleOf, lying, first_view}
+use Rattle.ck_words.specs.Rule.{StripeSlot, IsAtHome, IsKept, RuleOf, lying, first_view}
 use Rattle.ck_model.specs.Counting.{counting}
 use Rattle.ck_words.specs.Opening.{fresh, fresh_slots}
 use Rattle.ck_words.proofs.Spacing.{spaced-zeros}
@@ -70,11 +70,11 @@ module _ (V : Type 0) (hash : Name → ℕ) (set : Settings) (range : AreInRange
   length-map [] = refl
   length-map (h ∷ hs) = ap suc (length-map hs)
 
-  numbered_all : (n t : ℕ) (stripe : StripeState V) → get_elem? (slots_of n) t ≡ some (some (Some stripe)) → IsNumbered set.s t stripe
-  numbered_all zero t stripe e = absurd (some-ne-none (some (Some stripe)) (sym e))
-  numbered_all (suc n) t stripe e = ⊎_elim
-      (λ (h : (t ≡ length (slots_of n)) × (some (Some (fresh set n)) ≡ some (Some stripe))). subst (λ (x : ℕ × StripeState V). IsNumbered set.s x.0 x.1) (λ i. ((sym (length-slots_of n) ∙ sym h.0) i, Some-injective (fresh set n) stripe (some-injective (Some (fresh set n)) (Some stripe) h.1) i)) (refl, refl))
-      (λ (h : get_elem? (slots_of n) t ≡ some (some (Some stripe))). numbered_all n t stripe h)
+  home_all : (n t : ℕ) (stripe : StripeState V) → get_elem? (slots_of n) t ≡ some (some (Some stripe)) → IsAtHome set.s t stripe
+  home_all zero t stripe e = absurd (some-ne-none (some (Some stripe)) (sym e))
+  home_all (suc n) t stripe e = ⊎_elim
+      (λ (h : (t ≡ length (slots_of n)) × (some (Some (fresh set n)) ≡ some (Some stripe))). subst (λ (x : ℕ × StripeState V). IsAtHome set.s x.0 x.1) (λ i. ((sym (length-slots_of n) ∙ sym h.0) i, Some-injective (fresh set n) stripe (some-injective (Some (fresh set n)) (Some stripe) h.1) i)) (refl, refl, refl))
+      (λ (h : get_elem? (slots_of n) t ≡ some (some (Some stripe))). home_all n t stripe h)
       (at_snoc (slots_of n) (some (Some (fresh set n))) (some (Some stripe)) t (ap (λ (hs : List (maybe.Option (StripeSlot V))). get_elem? hs t) (sym (slots-next n)) ∙ e))
 
   abbrev k : Layout
@@ -132,7 +132,7 @@ module _ (V : Type 0) (hash : Name → ℕ) (set : Settings) (range : AreInRange
       let kept : IsKept k set.callers [] (opening (replicate (2 ^ set.s * 8) 0) (fresh_slots set (2 ^ set.s)) (first_view set)) = record {
         law = subst (λ l. HistoryInvariant k set.callers [] (begun_world l)) (sym (spaced-zeros (2 ^ set.s))) (opens k set set.callers set.power (begun_world (replicate (2 ^ set.s) 0)) begins);
         words_sized = length-replicate (2 ^ set.s * 8) 0;
-        numbered = numbered_all (2 ^ set.s);
+        at_home = home_all (2 ^ set.s);
       } in
       ([], subst (λ (x : List ℕ × List (StripeSlot V)). IsKept k set.callers [] (opening x.0 x.1 (first_view set))) (λ i. (sym zeros i, sym is i)) kept)
 

@@ -12,7 +12,7 @@ use Rattle.ck_core.specs.declared.view.View.{View}
 use Rattle.ck_core.specs.State.{HasNumber}
 use Rattle.ck_core.specs.Steps.{IsAbove}
 use Rattle.ck_core.specs.Steps.Label.{Take, FindHeld, Look}
-use Rattle.ck_words.specs.Rule.{StripeSlot, Hand, RuleOf, IsNumbered}
+use Rattle.ck_words.specs.Rule.{StripeSlot, Hand, RuleOf, IsAtHome}
 use Rattle.ck_words.specs.Steps.{Steps}
 use Rattle.ck_words.specs.Plays.{SeatTries, SeatLooks}
 use Rattle.ck_words.specs.Words.{WordsState, IsLaidOut}
@@ -116,7 +116,7 @@ module _ {V : Type 0} (hash : Name → ℕ) (w : WordsState) (p : PassState V) (
     -- the stripe was taken
     pub record Took (me3 : Hand V) : Type 0 where
       pub stripe : StripeState V
-      pub own_number : IsNumbered w.settings.s t stripe
+      pub own_number : IsAtHome w.settings.s t stripe
       pub slots : me3.1 ≡ (t, Some stripe) ∷ me.1
       pub lasts : Lasts me3
       pub held : me3.0.held ≡ (t, stripe.content) ∷ me.0.held
@@ -150,7 +150,7 @@ module _ {V : Type 0} (hash : Name → ℕ) (w : WordsState) (p : PassState V) (
 
     pub seated_after : (z2 : TableId) (me2 : Hand V) → IsSeated z me → Took me2 → z2 ≡ z → IsSeated z2 me2
     seated_after z2 me2 s k same =
-        let new = seated_take z me.0 me2.0 me.1 t k.stripe s above_mine (below_slots t inside) (subst (λ (x : Settings). IsNumbered x.s t k.stripe) (sym same_settings) k.own_number) k.lasts.settings (ap numbers k.held) in
+        let new = seated_take z me.0 me2.0 me.1 t k.stripe s above_mine (below_slots t inside) (subst (λ (x : Settings). IsAtHome x.s t k.stripe) (sym same_settings) k.own_number) k.lasts.settings (ap numbers k.held) in
         subst (λ (x : TableId × List (ℕ × StripeSlot V)). IsSeated x.0 (me2.0, x.1)) (λ i. (sym same i, sym k.slots i)) new
 
     -- the stripe was found held

@@ -15,6 +15,7 @@ use Rattle.ck_words.specs.Retries.{Stays, TakesWithin, found_again}
 use Rattle.ck_words.specs.Holding.{HasTaken, GivesUp, HasReleased}
 use Rattle.ck_words.proofs.Reversed.{map-append, in_reverse}
 use Rattle.ck_words.proofs.Seating.{each_append, numbers-contents}
+use Rattle.ck_words.proofs.Spare.{spare_none, spare_push}
 use Rattle.ck_words.proofs.Staying.{stays_same, stays_on, stays_within, doublings_within, stays_finding, shows_taken, unchanged_idle, among_none, among_on, among_within, among_held}
 
 -- a number of the list stands in it
@@ -84,6 +85,7 @@ module _ {V : Type 0} (hash : Name → ℕ) (w : WordsState) (P : ℕ → Type 0
     stays = stays_same p.view;
     numbered = ap (λ (l : List (StripeState V)). numbers_of l) idle.0;
     of_table = subst (λ (l : List (StripeState V)). EachOf w.settings.s l) (sym idle.0) tt;
+    no_spare = spare_none p.stripes idle.0;
     found = among_none P p p refl;
     shows = λ l. absurd (omega arith);
     doublings = refl;
@@ -100,6 +102,7 @@ module _ {V : Type 0} (hash : Name → ℕ) (w : WordsState) (P : ℕ → Type 0
       stays = stays_on p.view q.view r.view h.stays (stays_within hash w.settings turns t q r k h.own.1);
       numbered = ap (λ (l : List (StripeState V)). numbers_of l) k.2.2 ∙ (map-append (λ (x : StripeState V). x.number) q.stripes (k.2.0 ∷ []) ∙ λ i. h.numbered i ++ k.2.1.0 i ∷ []);
       of_table = subst (λ (l : List (StripeState V)). EachOf w.settings.s l) (sym k.2.2) (each_append w.settings.s q.stripes k.2.0 h.of_table k.2.1.1);
+      no_spare = spare_push q.stripes r.stripes k.2.0 k.2.2 h.no_spare k.2.1.2;
       found = among_on P p q r h.found (among_within P hash w.settings turns t q r asked k);
       shows = λ _. shows_taken hash w.settings turns t q r k;
       doublings = doublings_within hash w.settings turns t q r k ∙ h.doublings;

@@ -41,6 +41,7 @@ module _ {V : Type 0} where
         one_power = h.one_power;
         least = h.least;
         most = h.most;
+        no_spare = h.no_spare;
       }
 
   pub is_whole : (hash : Name → ℕ) (set : Settings) (p : PassState V) → AreHeld set.s p.stripes → numbers_of p.stripes ≡ counting 0 (2 ^ set.s) → IsUnchanged p → ShowsSeen hash set p → IsWhole hash set p

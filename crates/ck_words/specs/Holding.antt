@@ -4,20 +4,21 @@ use Rattle.ck_model.specs.Promise.{Name}
 use Rattle.ck_model.specs.Numbered.{Holds, IsIn}
 use Rattle.ck_model.specs.declared.contents.Content.{Content}
 use Rattle.ck_stripe.specs.Stripe.{StripeState}
-use Rattle.ck_section.specs.Stripes.{contents_of}
+use Rattle.ck_section.specs.Stripes.{contents_of, HaveNoSpare}
 use Rattle.ck_section.specs.Room.{power_in}
 use Rattle.ck_words.specs.Words.{WordsState}
 use Rattle.ck_words.specs.Passes.{PassState, EachOf, IsPassOf, IsIdle, IsUnchanged, ShowsSeen, numbers_of}
 use Rattle.ck_words.specs.Retries.{Stays, FindsAmong, IsBusy, found_again}
 
 module _ {V : Type 0} where
-  -- From p to q the stripes of these numbers were taken, in this order. The pass found none held but such ones.
+  -- From p to q the stripes of these numbers were taken, in this order, with no memory to spare. The pass found none held but such ones.
   pub record HasTaken (hash : Name → ℕ) (w : WordsState) (P : ℕ → Type 0) (ns : List ℕ) (p q : PassState V) : Type 0 where
     pub own : IsPassOf w q
     pub unchanged : IsUnchanged q
     pub stays : Stays p.view q.view
     pub numbered : numbers_of q.stripes ≡ ns
     pub of_table : EachOf w.settings.s q.stripes
+    pub no_spare : HaveNoSpare q.stripes
     pub found : FindsAmong P p q
     pub shows : 0 < length ns → ShowsSeen hash w.settings q
     pub doublings : q.view.doublings ≡ p.view.doublings

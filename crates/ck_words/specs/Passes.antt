@@ -12,7 +12,7 @@ use Rattle.ck_core.specs.declared.view.View.{View}
 use Rattle.ck_core.specs.Steps.{Label, IsAbove}
 use Rattle.ck_core.specs.Steps.Label.{Take, FindHeld, Look}
 use Rattle.ck_core.specs.Laws.{Shows}
-use Rattle.ck_words.specs.Rule.{StripeSlot, Hand, IsNumbered}
+use Rattle.ck_words.specs.Rule.{StripeSlot, Hand, IsAtHome}
 use Rattle.ck_words.specs.Steps.{Steps}
 use Rattle.ck_words.specs.Plays.{stripe_in}
 use Rattle.ck_words.specs.Words.{WordsState}
@@ -91,9 +91,9 @@ module _ {V : Type 0} where
   abbrev pub ShowsSeen : (Name → ℕ) → Settings → PassState V → Type 0
   ShowsSeen hash set p = Shows (layout_of hash set) set.callers p.view.seen p.view
 
-  -- It took the stripe t, which stands behind the others.
+  -- It took the stripe t, which stands behind the others, with no memory to spare.
   abbrev pub TakesStripe : (Name → ℕ) → Settings → ℕ → PassState V → PassState V → Type 0
-  TakesStripe hash set t p q = (stripe : StripeState V) × IsNumbered set.s t stripe × (q.stripes ≡ p.stripes ++ stripe ∷ []) × Steps hash set (Take t) p.view q.view
+  TakesStripe hash set t p q = (stripe : StripeState V) × IsAtHome set.s t stripe × (q.stripes ≡ p.stripes ++ stripe ∷ []) × Steps hash set (Take t) p.view q.view
 
   -- It took the stripe t, or found it held.
   abbrev pub TriesStripe : (Name → ℕ) → WordsState → ℕ → Bool → PassState V → PassState V → Type 0

@@ -14,7 +14,7 @@ use Rattle.ck_section.specs.Stripes.{no_stripe}
 use Rattle.ck_core.specs.declared.view.View.{View}
 use Rattle.ck_core.specs.Steps.{Label, newcomer}
 use Rattle.ck_core.specs.Steps.Label.{Take, FindHeld, Look}
-use Rattle.ck_words.specs.Rule.{StripeSlot, Hand, IsNumbered}
+use Rattle.ck_words.specs.Rule.{StripeSlot, Hand, IsAtHome}
 use Rattle.ck_words.specs.Steps.{Steps}
 
 -- what stands where no entry was picked
@@ -32,10 +32,10 @@ module _ {V : Type 0} where
   contents_in ((t, Some stripe) ∷ xs) = (t, stripe.content) ∷ contents_in xs
   contents_in ((t, None) ∷ xs) = contents_in xs
 
-  -- The seat took the stripe t, which it has first then, or found it held.
+  -- The seat took the stripe t, which it has first then, with no memory to spare, or found it held.
   abbrev pub SeatTries : (Name → ℕ) → Settings → ℕ → Hand V → ℕ → Hand V → Type 0
   SeatTries hash set t m r m2 =
-      (r ≡ 0 → (stripe : StripeState V) × IsNumbered set.s t stripe × (m2.1 ≡ (t, Some stripe) ∷ m.1) × Holds m2.0.held t stripe.content × Steps hash set (Take t) m.0 m2.0)
+      (r ≡ 0 → (stripe : StripeState V) × IsAtHome set.s t stripe × (m2.1 ≡ (t, Some stripe) ∷ m.1) × Holds m2.0.held t stripe.content × Steps hash set (Take t) m.0 m2.0)
       × (r ≢ 0 → (m2.1 ≡ m.1) × Steps hash set (FindHeld t) m.0 m2.0)
 
   -- the stripe that the seat had first went home by this step

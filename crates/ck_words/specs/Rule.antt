@@ -10,7 +10,7 @@ use Rattle.ck_model.specs.declared.contents.Content.{Content}
 use Rattle.ck_model.specs.Promise.{Name}
 use Rattle.ck_model.specs.Counting.{counting}
 use Rattle.ck_model.specs.Contents.{Layout, layout_of}
-use Rattle.ck_stripe.specs.Stripe.{StripeState}
+use Rattle.ck_stripe.specs.Stripe.{StripeState, HasNoSpare}
 use Rattle.ck_core.specs.declared.view.View.{View}
 use Rattle.ck_core.specs.State.{Configuration, HistoryInvariant}
 use Rattle.ck_core.specs.Steps.{initial_view}
@@ -42,15 +42,15 @@ module _ {V : Type 0} where
   abbrev pub world : ℕ → State (StripeSlot V) (View V) → Configuration V
   world n s = record { words = spaced n s.words; homes = map lying s.homes; views = s.views }
 
-  -- stripe t of 2^s
-  abbrev pub IsNumbered : ℕ → ℕ → StripeState V → Type 0
-  IsNumbered s t stripe = (stripe.number ≡ t) × (stripe.s ≡ s)
+  -- stripe t of 2^s as it lies in its slot: with memory for its rows, and for none besides
+  abbrev pub IsAtHome : ℕ → ℕ → StripeState V → Type 0
+  IsAtHome s t stripe = (stripe.number ≡ t) × (stripe.s ≡ s) × HasNoSpare stripe
 
-  -- The invariant of the core with this history; eight words for each stripe; and each slot has the stripe of its number.
+  -- The invariant of the core with this history; eight words for each stripe; and each slot has the stripe of its number, with no memory to spare.
   pub record IsKept (k : Layout) (callers : ℕ) (log : List (Entry V)) (s : State (StripeSlot V) (View V)) : Type 0 where
     pub law : HistoryInvariant k callers log (world (2 ^ k.s) s)
     pub words_sized : length s.words ≡ 2 ^ k.s * 8
-    pub numbered : (t : ℕ) (stripe : StripeState V) → get_elem? s.homes t ≡ some (some (Some stripe)) → IsNumbered k.s t stripe
+    pub at_home : (t : ℕ) (stripe : StripeState V) → get_elem? s.homes t ≡ some (some (Some stripe)) → IsAtHome k.s t stripe
 
   -- there is a history with which the invariant holds
   abbrev pub Rule : Layout → ℕ → State (StripeSlot V) (View V) → Type 0

@@ -5,7 +5,7 @@ ghost use Rattle.ck_model.specs.declared.history.Reply.TheVariants.{Closed};
 ghost use Rattle.ck_model.specs.Contents.{layout_of, Lawful};
 ghost use Rattle.ck_model.specs.Sections.{Section};
 ghost use Rattle.ck_core.specs.Steps.{Label};
-ghost use Rattle.ck_section.specs.Stripes.{contents_of};
+ghost use Rattle.ck_section.specs.Stripes.{contents_of, HaveNoSpare};
 ghost use Rattle.ck_words.specs.Passes.{PassState, IsPassOf, Sends, numbers_of};
 ghost use Rattle.ck_words.specs.Holding.{HasReleased};
 ghost use Rattle.ck_words.specs.StripeSets.{list_of};
@@ -44,6 +44,7 @@ impl<K: TableKey + Drop, V: Drop> Words<K, V> {
     pub fn commit(&self, pass: &mut Pass<K, V>, set: StripeSet, call: Commit<K, V>)
         requires own { IsPassOf self.now pass.old }
         requires numbered { numbers_of pass.old.stripes ≡ list_of set }
+        requires no_spare { HaveNoSpare pass.old.stripes }
         requires caller { IsSome pass.old.view.by }
         requires done { (reply : Reply V)
             × HasDone K.hash self.now.settings (call_of K.name call) reply pass.old }
@@ -63,6 +64,7 @@ impl<K: TableKey + Drop, V: Drop> Words<K, V> {
     )
         requires own { IsPassOf self.now pass.old }
         requires numbered { numbers_of pass.old.stripes ≡ list_of set }
+        requires no_spare { HaveNoSpare pass.old.stripes }
         requires caller { IsSome pass.old.view.by }
         requires done { (reply : Reply V)
             × HasDone K.hash self.now.settings (call_of Q.name call) reply pass.old }
@@ -78,6 +80,7 @@ impl<K: TableKey + Drop, V: Drop> Words<K, V> {
     pub fn commit_session(&self, pass: &mut Pass<K, V>, set: StripeSet)
         requires own { IsPassOf self.now pass.old }
         requires numbered { numbers_of pass.old.stripes ≡ list_of set }
+        requires no_spare { HaveNoSpare pass.old.stripes }
         requires caller { IsSome pass.old.view.by }
         requires done { HasDone K.hash self.now.settings (session_of pass.old) Closed pass.old }
         ensures { HasCommitted K.hash self.now (session_of pass.old) pass.old pass.new }
@@ -91,6 +94,7 @@ impl<K: TableKey + Drop, V: Drop> Words<K, V> {
     fn decide_set<J: Says<V>, X>(&self, pass: &mut Pass<K, V>, set: StripeSet, said: &X)
         requires own { IsPassOf self.now pass.old }
         requires numbered { numbers_of pass.old.stripes ≡ list_of set }
+        requires no_spare { HaveNoSpare pass.old.stripes }
         requires caller { pass.old.view.by ≡ Some J.entry.by }
         requires section { Lawful (layout_of K.hash self.now.settings) (reverse pass.old.view.held)
             → Section (layout_of K.hash self.now.settings) (reverse

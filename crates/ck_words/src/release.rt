@@ -5,7 +5,7 @@ ghost use Rattle.ck_model.specs.declared.history.Reason.TheVariants.{NoRoom};
 ghost use Rattle.ck_model.specs.Contents.{layout_of, Lawful};
 ghost use Rattle.ck_model.specs.Paths.{Grounds, HasNoRoom};
 ghost use Rattle.ck_model.specs.Sections.{Owns};
-ghost use Rattle.ck_section.specs.Stripes.{contents_of};
+ghost use Rattle.ck_section.specs.Stripes.{contents_of, HaveNoSpare};
 ghost use Rattle.ck_section.specs.Room.{reason_of_lack};
 ghost use Rattle.ck_words.specs.Passes.{IsPassOf, IsUnchanged, numbers_of};
 ghost use Rattle.ck_words.specs.StripeSets.{list_of};
@@ -26,6 +26,7 @@ impl<K: TableKey + Drop, V: Drop> Words<K, V> {
     pub fn release(&self, pass: &mut Pass<K, V>, set: StripeSet)
         requires own { IsPassOf self.now pass.old }
         requires numbered { numbers_of pass.old.stripes ≡ list_of set }
+        requires no_spare { HaveNoSpare pass.old.stripes }
         requires unchanged { IsUnchanged pass.old }
         ensures released { HasReleased self.now pass.old pass.new }
         ensures doublings { pass.new.view.doublings ≡ pass.old.view.doublings }
@@ -39,6 +40,7 @@ impl<K: TableKey + Drop, V: Drop> Words<K, V> {
         requires own { IsPassOf self.now pass.old }
         requires inside { n ≤ length (list_of set) }
         requires numbered { numbers_of pass.old.stripes ≡ take n (list_of set) }
+        requires no_spare { HaveNoSpare pass.old.stripes }
         requires unchanged { IsUnchanged pass.old }
         ensures released { HasReleased self.now pass.old pass.new }
         ensures told { IsToldNoMore pass.old pass.new }
@@ -58,6 +60,7 @@ impl<K: TableKey + Drop, V: Drop> Words<K, V> {
         requires own { IsPassOf self.now pass.old }
         requires inside { n ≤ length (list_of set) }
         requires numbered { numbers_of pass.old.stripes ≡ take n (list_of set) }
+        requires no_spare { HaveNoSpare pass.old.stripes }
         requires unchanged { IsUnchanged pass.old }
         ensures released { HasReleased self.now pass.old pass.new }
         ensures told { IsToldNoMore pass.old pass.new }
@@ -76,6 +79,7 @@ impl<K: TableKey + Drop, V: Drop> Words<K, V> {
     pub fn renew_set(&self, pass: &mut Pass<K, V>, set: StripeSet)
         requires own { IsPassOf self.now pass.old }
         requires numbered { numbers_of pass.old.stripes ≡ list_of set }
+        requires no_spare { HaveNoSpare pass.old.stripes }
         requires renewed { HasRenewed K.hash self.now.settings pass.old }
         ensures released { HasReleased self.now pass.old pass.new }
         ensures told { IsToldPower pass.old pass.new }
@@ -94,6 +98,7 @@ impl<K: TableKey + Drop, V: Drop> Words<K, V> {
     pub fn refuse_full(&self, pass: &mut Pass<K, V>, set: StripeSet, key: &K)
         requires own { IsPassOf self.now pass.old }
         requires numbered { numbers_of pass.old.stripes ≡ list_of set }
+        requires no_spare { HaveNoSpare pass.old.stripes }
         requires unchanged { IsUnchanged pass.old }
         requires full { Lawful (layout_of K.hash self.now.settings) (contents_of pass.old.stripes)
             → Owns (layout_of K.hash self.now.settings) (contents_of pass.old.stripes)
@@ -114,6 +119,7 @@ impl<K: TableKey + Drop, V: Drop> Words<K, V> {
     pub fn refuse(&self, pass: &mut Pass<K, V>, set: StripeSet, key: &K, lack: Lack)
         requires own { IsPassOf self.now pass.old }
         requires numbered { numbers_of pass.old.stripes ≡ list_of set }
+        requires no_spare { HaveNoSpare pass.old.stripes }
         requires renewed { HasRenewed K.hash self.now.settings pass.old }
         requires grounds { Lawful (layout_of K.hash self.now.settings) (reverse pass.old.view.held)
             → Grounds (layout_of K.hash self.now.settings) self.now.settings.min_load

@@ -1,12 +1,13 @@
 //! The steps on the lock words, and what each tells. Each is one atomic operation on one word, and
 //! one step of the core. Nothing else but a split or a join changes what a pass knows, and nothing
-//! else which stripes it holds.
+//! else which stripes it holds. A stripe goes home with memory for its rows alone, and so a pass
+//! finds it there.
 ghost use Rattle.std.specs.Prelude.{◌≡◌, ◌<◌, ◌^◌, Some, None, reverse};
 ghost use Rattle.ck_model.specs.Numbered.{numbers};
 ghost use Rattle.ck_model.specs.Contents.{layout_of, Lawful};
 ghost use Rattle.ck_model.specs.Sections.{Section, IdentitySection};
 ghost use Rattle.ck_core.specs.Steps.{Label, IsAbove, IsExcused, HasGrounds};
-ghost use Rattle.ck_section.specs.Stripes.{contents_of};
+ghost use Rattle.ck_section.specs.Stripes.{contents_of, HaveNoSpare};
 ghost use Rattle.ck_words.specs.Passes.{IsPassOf, IsHighest, IsUnchanged, TriesStripe, Sends, LooksUp};
 
 use crate::pass::Pass;
@@ -134,6 +135,7 @@ impl<K: TableKey + Drop, V: Drop> Words<K, V> {
     pub fn give<J: Refuses, X>(&self, pass: &mut Pass<K, V>, t: usize, said: &X)
         requires own { IsPassOf self.now pass.old }
         requires highest { IsHighest t pass.old.stripes }
+        requires no_spare { HaveNoSpare pass.old.stripes }
         requires unchanged { IsUnchanged pass.old }
         requires excused { Lawful (layout_of K.hash self.now.settings)
             (contents_of pass.old.stripes) → IsExcused (layout_of K.hash
@@ -141,6 +143,7 @@ impl<K: TableKey + Drop, V: Drop> Words<K, V> {
         ensures own { IsPassOf self.now pass.new }
         ensures step { Sends K.hash self.now (λ t _. Label.Give t J.refused) pass.old pass.new }
         ensures unchanged { IsUnchanged pass.new }
+        ensures no_spare { HaveNoSpare pass.new.stripes }
     {
         let _ = said;
         self.table.shared.store::<Give<J>>(&mut pass.seat, t * 8, 0);
@@ -153,10 +156,12 @@ impl<K: TableKey + Drop, V: Drop> Words<K, V> {
     pub(crate) fn give_rest(&self, pass: &mut Pass<K, V>, t: usize)
         requires own { IsPassOf self.now pass.old }
         requires highest { IsHighest t pass.old.stripes }
+        requires no_spare { HaveNoSpare pass.old.stripes }
         requires unchanged { IsUnchanged pass.old }
         ensures own { IsPassOf self.now pass.new }
         ensures step { Sends K.hash self.now (λ t _. Label.GiveRest t) pass.old pass.new }
         ensures unchanged { IsUnchanged pass.new }
+        ensures no_spare { HaveNoSpare pass.new.stripes }
     {
         self.give::<Brand, ()>(pass, t, &());
     }
@@ -169,6 +174,7 @@ impl<K: TableKey + Drop, V: Drop> Words<K, V> {
     pub fn decide<J: Says<V>, X>(&self, pass: &mut Pass<K, V>, t: usize, said: &X)
         requires own { IsPassOf self.now pass.old }
         requires highest { IsHighest t pass.old.stripes }
+        requires no_spare { HaveNoSpare pass.old.stripes }
         requires caller { pass.old.view.by ≡ Some J.entry.by }
         requires section { Lawful (layout_of K.hash self.now.settings) (reverse pass.old.view.held)
             → Section (layout_of K.hash self.now.settings) (reverse
@@ -176,6 +182,7 @@ impl<K: TableKey + Drop, V: Drop> Words<K, V> {
         ensures own { IsPassOf self.now pass.new }
         ensures step { Sends K.hash self.now (λ t ks. Label.Decide t ks J.entry) pass.old pass.new }
         ensures unchanged { IsUnchanged pass.new }
+        ensures no_spare { HaveNoSpare pass.new.stripes }
     {
         let _ = said;
         self.table
@@ -190,6 +197,7 @@ impl<K: TableKey + Drop, V: Drop> Words<K, V> {
     pub fn renew<J: Refuses, X>(&self, pass: &mut Pass<K, V>, t: usize, said: &X)
         requires own { IsPassOf self.now pass.old }
         requires highest { IsHighest t pass.old.stripes }
+        requires no_spare { HaveNoSpare pass.old.stripes }
         requires section { Lawful (layout_of K.hash self.now.settings) (reverse pass.old.view.held)
             → IdentitySection (layout_of K.hash self.now.settings) (reverse
             pass.old.view.held) (contents_of pass.old.stripes) }
@@ -200,6 +208,7 @@ impl<K: TableKey + Drop, V: Drop> Words<K, V> {
         ensures step { Sends K.hash self.now
             (λ t ks. Label.Renew t ks J.refused) pass.old pass.new }
         ensures unchanged { IsUnchanged pass.new }
+        ensures no_spare { HaveNoSpare pass.new.stripes }
     {
         let _ = said;
         self.table

@@ -7,6 +7,7 @@ use Rattle.ck_model.specs.declared.history.Reason as history
 use Rattle.ck_model.specs.declared.history.Reason.TheVariants as reason
 use Rattle.ck_model.specs.declared.settings.Settings.{Settings}
 use Rattle.ck_model.specs.Promise.{Name}
+use Rattle.ck_section.specs.Stripes.{HaveNoSpare}
 use Rattle.ck_section.specs.Places.{IsPlaceOf}
 use Rattle.ck_section.specs.Entries.{IsEntryOf}
 use Rattle.cuckoo_map.specs.declared.key_room.Room.{Room}
@@ -31,12 +32,13 @@ module _ {V : Type 0} where
   abbrev pub TellsOf : {A : Type 0} → (A → Act V → Reply V → Type 0) → (Act V → Reply V → Type 0) → A → Type 0
   TellsOf tells P answer = (act : Act V) × (reply : Reply V) × tells answer act reply × P act reply
 
-  -- The stripes that the pass holds were renewed since they were taken. The name may be at this place among them, and has this entry there.
+  -- The stripes that the pass holds were renewed since they were taken, and have no memory to spare. The name may be at this place among them, and has this entry there.
   pub record HoldsRoom (hash : Name → ℕ) (set : Settings) (q : Name) (room : Room) (p : PassState V) : Type 0 where
     pub at : IsPlaceOf hash p.stripes q room.spot.place
     pub s : room.spot.place.s ≡ set.s
     pub of_table : room.spot.stripes.s ≡ set.s
     pub entry : IsEntryOf hash p.stripes q room.spot.place room.entry
+    pub no_spare : HaveNoSpare p.stripes
     pub renewed : HasRenewed hash set p
 
   -- Since p the pass has taken stripes, with an entry of the name among them. It has said nothing of room but that its name's buckets were full.

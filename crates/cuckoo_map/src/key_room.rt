@@ -4,7 +4,7 @@ ghost use Rattle.std.specs.Prelude.{◌≡◌, ◌^◌, OnErr, IfOk, IfErr, reve
 ghost use Rattle.ck_model.specs.Contents.{layout_of, Lawful};
 ghost use Rattle.ck_model.specs.Paths.{Grounds};
 ghost use Rattle.ck_model.specs.Counting.{counting};
-ghost use Rattle.ck_section.specs.Stripes.{contents_of};
+ghost use Rattle.ck_section.specs.Stripes.{contents_of, HaveNoSpare};
 ghost use Rattle.ck_section.specs.Whole.{IsTable, AreSettled};
 ghost use Rattle.ck_section.specs.Room.{reason_of_lack};
 ghost use Rattle.ck_words.specs.Passes.{IsPassOf, IsIdle, numbers_of};
@@ -69,6 +69,7 @@ impl<K: TableKey + Drop, V: Drop> Table<K, V> {
         ensures view { pass.new.view ≡ pass.old.view }
         ensures numbered { numbers_of pass.new.stripes ≡ counting 0 (2 ^ self.now.settings.s) }
         ensures renewed { HasRenewed K.hash self.now.settings pass.new }
+        ensures no_spare { HaveNoSpare pass.new.stripes }
         ensures all { IfOk result (λ room.
             list_of room.spot.stripes ≡ counting 0 (2 ^ self.now.settings.s)) }
         ensures room { IfOk result (λ room.

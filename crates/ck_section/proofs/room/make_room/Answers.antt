@@ -1,4 +1,4 @@
-use Rattle.std.proofs.Common.{◌≡◌, ℕ, ◌+◌, ◌≤◌, List, sym, ◌∙◌, subst, arith}
+use Rattle.std.proofs.Common.{◌≡◌, ℕ, ◌+◌, ◌≤◌, List, sym, ap, ◌∙◌, subst, arith}
 use Rattle.ck_model.specs.Contents.{layout, Stripes}
 use Rattle.ck_model.specs.Sections.{IdentitySection}
 use Rattle.ck_stripe.specs.Stripe.{StripeState}
@@ -7,7 +7,7 @@ use Rattle.ck_section.specs.declared.room.Lack.{Lack}
 use Rattle.ck_section.specs.Room.{power_in, GivesReason}
 use Rattle.ck_section.proofs.Doublings.{identity_on}
 use Rattle.ck_section.proofs.RoomMade.{grown_none, grown_more, grows_for_room, stuck_in, refused_in}
-use Rattle.ck_section.proofs.Tables.{power_same, err_maps}
+use Rattle.ck_section.proofs.Tables.{err_maps}
 use Rattle.ck_section.proofs.room.make_room.Goals as goal
 
 pub loop-hash-init : goal.loop-hash-init
@@ -50,7 +50,7 @@ loop-hash-preserved g c =
 pub returns-in_err-grow-clause-no_call : goal.returns-in_err-grow-clause-no_call
 returns-in_err-grow-clause-no_call g c =
     let old : List (StripeState g.row.V.Denot) = g.H.Held.stripes c.args.held.now in
-    λ lawful. subst (λ (hs : Stripes g.row.V.Denot). IdentitySection (layout g.K.TableKey.hash c.args.s c.args.max) (contents_of old) hs) (sym (c.in_err-grow.ensures.same ∙ c.loop-hash-test.ensures.same)) (c.loop-hash.invariant.grown lawful).no_call
+    λ lawful. subst (λ (hs : Stripes g.row.V.Denot). IdentitySection (layout g.K.TableKey.hash c.args.s c.args.max) (contents_of old) hs) (sym (ap contents_of c.in_err-grow.ensures.same ∙ c.loop-hash-test.ensures.same)) (c.loop-hash.invariant.grown lawful).no_call
 
 pub returns-in_err-grow-clause-refused : goal.returns-in_err-grow-clause-refused
 returns-in_err-grow-clause-refused g c =
@@ -59,14 +59,14 @@ returns-in_err-grow-clause-refused g c =
     let new : List (StripeState V) = g.H.Held.stripes c.grow.new.held in
     let stuck = c.loop-hash-test.ensures in
     let said = refused_in g.K.TableKey.hash c.args.s c.args.max c.args.min_load (g.K.TableKey.name c.args.key.now) old (g.H.Held.stripes c.loop-hash.held) (g.H.Held.stripes c.room_by_hops.new.held) new c.loop-hash.invariant.grown
-    stuck.same c.in_err-grow.ensures.same stuck.table stuck.no_room stuck.no_path in
+    stuck.same (ap contents_of c.in_err-grow.ensures.same) stuck.table stuck.no_room stuck.no_path in
     let R : Lack → Type 0 = GivesReason (layout g.K.TableKey.hash c.args.s c.args.max) c.args.min_load old new (g.K.TableKey.name c.args.key.now) in
     err_maps c.from_residual.result _ R (λ why is. subst R (sym is) (said c.in_err-grow.field-0.0 c.in_err-grow.ensures.lack)) c.from_residual.ensures.1
 
 pub returns-in_err-grow-clause-doubled : goal.returns-in_err-grow-clause-doubled
 returns-in_err-grow-clause-doubled g c =
     let stuck = c.loop-hash-test.ensures in
-    grows_for_room g.K.TableKey.hash c.args.s c.args.max c.args.min_load (g.K.TableKey.name c.args.key.now) _ _ (g.H.Held.stripes c.grow.new.held) c.loop-hash.invariant.grown (power_same c.args.s _ _ stuck.table c.grow.ensures.table c.in_err-grow.ensures.same ∙ stuck.power)
+    grows_for_room g.K.TableKey.hash c.args.s c.args.max c.args.min_load (g.K.TableKey.name c.args.key.now) _ _ (g.H.Held.stripes c.grow.new.held) c.loop-hash.invariant.grown (ap (λ (l : List (StripeState g.row.V.Denot)). power_in l) c.in_err-grow.ensures.same ∙ stuck.power)
 
 pub returns-clause-no_call : goal.returns-clause-no_call
 returns-clause-no_call g c =

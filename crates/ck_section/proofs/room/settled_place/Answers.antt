@@ -7,7 +7,7 @@ use Rattle.ck_section.specs.Stripes.{contents_of}
 use Rattle.ck_section.specs.Places.{IsPlaceOf}
 use Rattle.ck_section.specs.Whole.{IsTable}
 use Rattle.ck_section.specs.Room.{power_in, settled_at}
-use Rattle.ck_section.proofs.Growing.{table_alike, alike_settled_at, both_table, both_contents, both_place}
+use Rattle.ck_section.proofs.Growing.{table_alike, alike_settled_at, both_table, both_contents, both_power, both_place}
 use Rattle.ck_section.proofs.Tables.{second_by, stripe_inside}
 use Rattle.ck_section.proofs.room.settled_place.Given.{Over}
 use Rattle.ck_section.proofs.room.settled_place.Goals as goal
@@ -56,3 +56,13 @@ pub returns-clause-same : goal.returns-clause-same
 returns-clause-same g c =
     ap (λ (l : List (StripeState g.row.V.Denot)). contents_of l) (new g c)
     ∙ both_contents c.args.s (g.H.Held.stripes c.args.held.now) c.requires.table g.K.TableKey.hash (g.K.TableKey.name c.args._key.now) c.args.hash c.requires.hash c.index-first.result c.alternate-alternate.result (first g c) (second g c)
+
+pub returns-clause-power : goal.returns-clause-power
+returns-clause-power g c =
+    ap (λ (l : List (StripeState g.row.V.Denot)). power_in l) (new g c)
+    ∙ both_power c.args.s (g.H.Held.stripes c.args.held.now) c.requires.table g.K.TableKey.hash (g.K.TableKey.name c.args._key.now) c.args.hash c.requires.hash c.index-first.result c.alternate-alternate.result (first g c) (second g c)
+
+pub returns-clause-stays : goal.returns-clause-stays
+returns-clause-stays g c =
+    let on = g.met.H.Held.stays_on in
+    on _ _ _ c.power-power.ensures.stays (on _ _ _ c.settled_bucket.ensures.stays c.settled_bucket-2.ensures.stays)

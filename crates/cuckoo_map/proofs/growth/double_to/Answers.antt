@@ -1,7 +1,7 @@
-use Rattle.std.proofs.Common.{◌≡◌, ℕ, ◌+◌, ◌<◌, List, ◌∙◌, arith}
+use Rattle.std.proofs.Common.{◌≡◌, ℕ, ◌+◌, ◌<◌, List, ◌∙◌, ap, arith}
 use Rattle.ck_stripe.specs.Stripe.{StripeState}
 use Rattle.ck_section.specs.Room.{power_in}
-use Rattle.ck_section.proofs.Growing.{contents_roomy}
+use Rattle.ck_section.specs.Stripes.{contents_of}
 use Rattle.cuckoo_map.proofs.Growing.{settles_table, power_next, keeps_contents, keeps_more, reached_by}
 use Rattle.cuckoo_map.proofs.growth.double_to.Goals as goal
 
@@ -40,7 +40,7 @@ returns-in_err-double_all-clause-no_call g c =
     let mid : List (StripeState g.row.V.Denot) = g.H.Held.stripes c.settle_all.new.held in
     let new : List (StripeState g.row.V.Denot) = g.H.Held.stripes c.double_all.new.held in
     let was = settles_table c.args.s cur mid c.doublings.invariant.table c.settle_all.ensures.settled in
-    keeps_contents c.args.s hash c.args.power old cur new c.doublings.invariant.no_call (contents_roomy mid new c.in_err-double_all.ensures.kept ∙ was.contents)
+    keeps_contents c.args.s hash c.args.power old cur new c.doublings.invariant.no_call (ap contents_of c.in_err-double_all.ensures.kept ∙ was.contents)
 
 pub returns-clause-reached : goal.returns-clause-reached
 returns-clause-reached g c =

@@ -1,12 +1,17 @@
-use Rattle.std.proofs.Common.{◌<◌, false, ◌∙◌, sym, ap, subst}
+use Rattle.std.proofs.Common.{◌≡◌, ◌+◌, ◌-◌, ◌^◌, ◌<◌, false, ◌∙◌, sym, ap, subst}
 use Rattle.std.specs.List.Sorted.{IsPermutation}
 use Rattle.ck_model.specs.declared.contents.Content.{Content}
 use Rattle.ck_model.specs.Contents.{pairs_in}
 use Rattle.ck_stripe.specs.Doubling.{SendsEach}
 use Rattle.ck_stripe.specs.Stripe.{StripeState}
 use Rattle.ck_stripe.proofs.Doubled.{pairs_doubled, sends_doubled}
-use Rattle.ck_stripe.proofs.Stored.{formed_now, now_raised, kept_raised}
+use Rattle.ck_stripe.proofs.Stored.{formed_now, reserved_blank, now_raised, kept_raised}
 use Rattle.ck_stripe.proofs.stripe.Stripe.double.Goals as goal
+
+pub take-blank-requires : goal.take-blank-requires
+take-blank-requires g c =
+    reserved_blank c.self.inside c.self.invariant
+    (subst (λ (w : StripeState g.row.V.Denot). w.room ≡ 2 ^ (w.content.power + 1 - w.s)) (sym c.self.view_is) c.requires.reserved)
 
 pub invariant_of-self : goal.invariant_of-self
 invariant_of-self g c =

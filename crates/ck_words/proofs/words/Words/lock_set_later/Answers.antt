@@ -3,7 +3,7 @@ use Rattle.std.proofs.lemmas.List.{take_all}
 use Rattle.ck_model.specs.Numbered.{IsIn}
 use Rattle.ck_words.specs.Holding.{HasTaken}
 use Rattle.ck_words.specs.StripeSets.{list_of}
-use Rattle.ck_words.proofs.Missing.{ready_next, next_taken, next_refused, still_first, above_missed, later_taken, later_first, later_refused}
+use Rattle.ck_words.proofs.Missing.{ready_next, next_taken, next_refused, still_first, still_spare, above_missed, later_taken, later_first, later_spare, later_refused}
 use Rattle.ck_words.proofs.words.Words.lock_set_later.Goals as goal
 
 pub try_again-requires-clause-above : goal.try_again-requires-clause-above
@@ -13,6 +13,10 @@ try_again-requires-clause-above g c =
 pub release_first-requires-clause-numbered : goal.release_first-requires-clause-numbered
 release_first-requires-clause-numbered g c =
     later_first g.K.TableKey.hash c.args.self.now (list_of c.args.set) c.args.i c.at-missed.result c.at-missed.ensures.value c.requires.missed.0 c.args.pass.now c.args.set.rising c.show_range.ensures.turns c.requires.missed.1 _ c.try_again.new.pass c.if-not-try_again.ensures.tries
+
+pub release_first-requires-clause-no_spare : goal.release_first-requires-clause-no_spare
+release_first-requires-clause-no_spare g c =
+    later_spare g.K.TableKey.hash c.args.self.now (list_of c.args.set) c.args.i c.at-missed.result c.at-missed.ensures.value c.requires.missed.0 c.args.pass.now c.args.set.rising c.show_range.ensures.turns c.requires.missed.1 _ c.try_again.new.pass c.if-not-try_again.ensures.tries
 
 pub returns-then-not-try_again-clause-refused : goal.returns-then-not-try_again-clause-refused
 returns-then-not-try_again-clause-refused g c p m =
@@ -34,6 +38,10 @@ loop-j-preserved g c p m =
 pub release_first-requires-then-not-try_take-clause-numbered : goal.release_first-requires-then-not-try_take-clause-numbered
 release_first-requires-then-not-try_take-clause-numbered g c =
     still_first g.K.TableKey.hash c.args.self.now (list_of c.args.set) c.loop-j.j c.at-t.result c.at-t.ensures.value c.requires.missed.0 c.loop-j.pass c.args.set.rising (omega arith) (c.loop-j.invariant c.requires.missed.0 c.requires.missed.1) _ c.try_take.new.pass c.if-not-try_take.ensures.tries
+
+pub release_first-requires-then-not-try_take-clause-no_spare : goal.release_first-requires-then-not-try_take-clause-no_spare
+release_first-requires-then-not-try_take-clause-no_spare g c =
+    still_spare g.K.TableKey.hash c.args.self.now (list_of c.args.set) c.loop-j.j c.at-t.result c.at-t.ensures.value c.requires.missed.0 c.loop-j.pass c.args.set.rising (omega arith) (c.loop-j.invariant c.requires.missed.0 c.requires.missed.1) _ c.try_take.new.pass c.if-not-try_take.ensures.tries
 
 pub returns-then-not-try_take-clause-refused : goal.returns-then-not-try_take-clause-refused
 returns-then-not-try_take-clause-refused g c p m =

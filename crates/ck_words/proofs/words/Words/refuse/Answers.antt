@@ -8,7 +8,7 @@ use Rattle.ck_words.proofs.Telling.{told_renewed}
 use Rattle.ck_words.proofs.words.Words.refuse.Goals as goal
 
 pub renew-requires : goal.renew-requires
-renew-requires g c = record { own = c.requires.own; highest = last_highest (list_of c.args.set) _ _ _ c.args.set.some c.count-last.ensures c.at.ensures.value c.requires.numbered; section = c.requires.renewed; grounds = search rules }
+renew-requires g c = record { own = c.requires.own; highest = last_highest (list_of c.args.set) _ _ _ c.args.set.some c.count-last.ensures c.at.ensures.value c.requires.numbered; no_spare = c.requires.no_spare; section = c.requires.renewed; grounds = search rules }
 
 pub release_first-requires-clause-numbered : goal.release_first-requires-clause-numbered
 release_first-requires-clause-numbered g c = others_left (list_of c.args.set) _ _ _ c.args.set.some c.count-last.ensures c.at.ensures.value c.requires.numbered _ _ c.renew.ensures.step.1

@@ -1,4 +1,5 @@
 use Rattle.std.proofs.Common.{◌≡◌, take}
+use Rattle.ck_section.specs.Stripes.{HaveNoSpare}
 use Rattle.ck_words.specs.StripeSets.{list_of}
 use Rattle.ck_words.proofs.Releasing.{Leaves}
 use Rattle.ck_words.proofs.Telling.{IsToldBelow}
@@ -7,6 +8,7 @@ use Rattle.ck_words.proofs.words.Words.release_each.Given as goal
 abbrev pub invariant-loop-i : goal.invariant-loop-i
 invariant-loop-i g l = record {
   leaves : Leaves l.self (take l.i (list_of l.set)) l.initial.pass l.pass;
+  no_spare : HaveNoSpare l.pass.stripes;
   told : IsToldBelow l.initial.pass l.pass;
   doublings : l.pass.view.doublings ≡ l.initial.pass.view.doublings;
 }

@@ -11,7 +11,7 @@ returns-clause-held g c =
     let p = c.args.pass.now in
     let e = c.requires.taken.1 in
     let x = c.args.set in
-    held_then h set p c.settle.new.pass c.settle.ensures.settled (are_held h set c.show_range.ensures p (list_of x) e.numbered (rises (list_of x) x.rising) x.some e.of_table e.unchanged (e.shows x.some))
+    held_then h set p c.settle.new.pass c.settle.ensures.settled (are_held h set c.show_range.ensures p (list_of x) e.numbered (rises (list_of x) x.rising) x.some e.of_table e.no_spare e.unchanged (e.shows x.some))
 
 pub returns-clause-numbers : goal.returns-clause-numbers
 returns-clause-numbers g c = numbers_then g.K.TableKey.hash c.args.self.now.settings c.args.pass.now c.settle.new.pass c.settle.ensures.settled ∙ c.requires.taken.1.numbered

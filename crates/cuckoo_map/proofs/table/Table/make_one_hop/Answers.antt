@@ -1,4 +1,5 @@
 use Rattle.std.proofs.Common.{rules, ◌≡◌, ◌∙◌, refl, inl, inr, subst}
+use Rattle.ck_section.proofs.Kept.{no_spare_after}
 use Rattle.ck_words.specs.Words.{WordsState}
 use Rattle.ck_words.specs.Retries.{IsBusy}
 use Rattle.ck_words.specs.StripeSets.{list_of}
@@ -16,6 +17,9 @@ make_hop-hopped-requires-clause-target_owned g c = has_each (list_of c.of_bucket
 pub renew_set-requires-clause-renewed : goal.renew_set-requires-clause-renewed
 renew_set-requires-clause-renewed g c =
     renewed c.self.view_is (s_of c.self.view_is c.settings-s.ensures.value) c.lock.new.pass c.make_hop-hopped.new.held.pass.now c.in_default.ensures.unchanged (c.make_hop-hopped.ensures.stays.1) c.make_hop-hopped.ensures.no_call
+
+pub renew_set-requires-clause-no_spare : goal.renew_set-requires-clause-no_spare
+renew_set-requires-clause-no_spare g c = no_spare_after _ _ c.in_default.ensures.held.no_spare c.make_hop-hopped.ensures.rest
 
 pub returns-in-Err-clause-busy : goal.returns-in-Err-clause-busy
 returns-in-Err-clause-busy g c = record {

@@ -1,4 +1,7 @@
-use Rattle.std.proofs.Common.{rules, ◌≡◌, ◌∙◌, sym}
+use Rattle.std.proofs.Common.{rules, ◌≡◌, ◌∙◌, ap, sym, subst}
+use Rattle.ck_core.specs.declared.view.View.{View}
+use Rattle.ck_words.specs.Words.{WordsState}
+use Rattle.ck_words.specs.Passes.{IsPassOf}
 use Rattle.cuckoo_map.proofs.Calls.{does_there, says_there}
 use Rattle.cuckoo_map.proofs.Refusing.{found_since}
 use Rattle.cuckoo_map.proofs.table.Table.place_in.Goals as goal
@@ -7,6 +10,20 @@ pub commit-requires-clause-done : goal.commit-requires-clause-done
 commit-requires-clause-done g c =
     let made = c.make-answer.ensures.answered in
     (made.1, does_there c.self.view_is c.requires.room c.make-answer.new.held.pass.now c.make-answer.ensures.stays.1 made.3 made.1 made.4)
+
+pub returns-clause-caller : goal.returns-clause-caller
+returns-clause-caller g c =
+    let z = c.commit.new.pass in
+    let view = c.make-answer.ensures.stays.1 in
+    let since = c.requires.since in
+    let stays = c.requires.room.stays in
+    let there : z ≡ c.pass-1.given.0 = search rules in
+    rw (← there) (record {
+      own = subst (λ (w : WordsState). IsPassOf w z) c.self.view_is c.commit.ensures.own;
+      idle = c.commit.ensures.idle;
+      alone = c.commit.ensures.others ∙ (ap (λ (v : View g.row.V.Denot). v.others) view ∙ (stays.others ∙ since.alone));
+      number = (since.number.0, c.commit.ensures.by ∙ (ap (λ (v : View g.row.V.Denot). v.by) view ∙ (stays.by ∙ since.number.1)), since.number.2);
+    })
 
 pub returns-clause-answered : goal.returns-clause-answered
 returns-clause-answered g c =

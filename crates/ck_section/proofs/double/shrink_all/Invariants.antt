@@ -1,0 +1,10 @@
+use Rattle.std.proofs.Common.{◌≡◌}
+use Rattle.ck_stripe.specs.Stripe.{shrunk}
+use Rattle.ck_section.proofs.Stepwise.{changed_to}
+use Rattle.ck_section.proofs.double.shrink_all.Given as goal
+
+abbrev pub invariant-loop-t : goal.invariant-loop-t
+invariant-loop-t g l = record {
+  stays : g.H.Held.stays l.initial.held l.held;
+  shrunk : g.H.Held.stripes l.held ≡ changed_to shrunk l.t (g.H.Held.stripes l.initial.held);
+}
