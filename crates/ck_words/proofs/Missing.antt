@@ -36,8 +36,8 @@ module _ {V : Type 0} (hash : Name → ℕ) (w : WordsState) (ns : List ℕ) (i 
     pub next_missed : (r : PassState V) → TriesStripe hash w t false q r → IsPassOf w r → Misses hash w ns i p r
     next_missed r k own = (inside, (q, taken, found_next hash w 0 t q q r refl taken.own own k ∙ ap (λ u. found_again 1 u q) is))
 
-    pub next_refused : (r s : PassState V) → 1 ≤ w.settings.turns → r ≡ found_again w.settings.turns t q → HasReleased w r s → s.view.doublings ≡ r.view.doublings → GivesUp w (λ u. IsIn u ns) t p s
-    next_refused r s some again released doublings = given_up hash w (λ u. IsIn u ns) (take i ns) t p q taken r s some (asked inside) again released doublings
+    pub next_refused : (r s : PassState V) → 1 ≤ w.settings.turns → r ≡ found_again w.settings.turns t q → HasReleased w r s → GivesUp w (λ u. IsIn u ns) t p s
+    next_refused r s some again released = given_up hash w (λ u. IsIn u ns) (take i ns) t p q taken r s some (asked inside) again released
 
     pub still_first : (n : ℕ) (r : PassState V) → r ≡ found_again n t q → numbers_of r.stripes ≡ take i ns
     still_first n r again = ap (λ (x : PassState V). numbers_of x.stripes) again ∙ taken.numbered
@@ -67,5 +67,5 @@ module _ {V : Type 0} (hash : Name → ℕ) (w : WordsState) (ns : List ℕ) (i 
     pub later_spare : (n : ℕ) (r : PassState V) → r ≡ found_again n t q → HaveNoSpare r.stripes
     later_spare n r more = subst (λ (x : PassState V). HaveNoSpare x.stripes) (sym (more ∙ ap (λ (x : PassState V). found_again n t x) again)) missed.1.1.no_spare
 
-    pub later_refused : (r s : PassState V) → r ≡ found_again (w.settings.turns - 1) t q → HasReleased w r s → s.view.doublings ≡ r.view.doublings → GivesUp w (λ u. IsIn u ns) t p s
-    later_refused r s more released doublings = given_up hash w (λ u. IsIn u ns) (take i ns) t p missed.1.0 missed.1.1 r s some (asked missed.0) (found_later w.settings.turns t missed.1.0 q r some again more) released doublings
+    pub later_refused : (r s : PassState V) → r ≡ found_again (w.settings.turns - 1) t q → HasReleased w r s → GivesUp w (λ u. IsIn u ns) t p s
+    later_refused r s more released = given_up hash w (λ u. IsIn u ns) (take i ns) t p missed.1.0 missed.1.1 r s some (asked missed.0) (found_later w.settings.turns t missed.1.0 q r some again more) released

@@ -8,7 +8,7 @@ use Rattle.ck_core.specs.Steps.{giving, renewing, gaining}
 use Rattle.ck_core.specs.Steps.Label.{Give, Renew}
 use Rattle.ck_words.specs.Words.{WordsState}
 use Rattle.ck_words.specs.Passes.{PassState, Sends}
-use Rattle.ck_words.specs.Retries.{StaysBut}
+use Rattle.ck_words.specs.Retries.{StaysBut, as_doubled}
 use Rattle.ck_words.specs.Holding.{HasReleased}
 use Rattle.ck_words.specs.Renewing.{HasRefused}
 use Rattle.ck_words.proofs.Rows.{give_row, renew_row}
@@ -23,25 +23,26 @@ module _ {V : Type 0} (hash : Name → ℕ) (w : WordsState) (p q : PassState V)
     renewed_view : q.view ≡ renewing p.view g.0.number g.2.does.1 (reverse (contents_of p.stripes)) why
     renewed_view = renew_row hash w.settings p.view q.view g.0.number (reverse (contents_of p.stripes)) why g.2
 
-    stays_renewing : StaysBut (gaining [] why) p.view q.view
-    stays_renewing = subst (StaysBut (gaining [] why) p.view) (sym renewed_view)
-        (record { settings = refl; by = refl; mine = refl; others = refl; heard = (refl, refl); noroom = gaining-append p.view.noroom why; seen = ([], sym (append-nil p.view.seen)); by_others = λ m e. refl; alone = λ _. refl; told = omega arith })
+    -- also where more went home since, as it was
+    stays_renewing : (r : View V) → r.doublings ≡ q.view.doublings → StaysBut (gaining [] why) (record p.view { doublings = r.doublings }) q.view
+    stays_renewing r same = subst (λ (n : ℕ). StaysBut (gaining [] why) (record p.view { doublings = n }) q.view) (sym same) (subst (λ (v : View V). StaysBut (gaining [] why) (record p.view { doublings = v.doublings }) v) (sym renewed_view)
+        (record { settings = refl; by = refl; mine = refl; others = refl; heard = (refl, refl); noroom = gaining-append p.view.noroom why; seen = ([], sym (append-nil p.view.seen)); by_others = λ m e. refl; alone = λ _. refl; told = omega arith; doublings = refl }))
 
-  pub released_renewed : Sends hash w (λ t ks. Renew t ks None) p q → (r : PassState V) → HasReleased w q r → HasReleased w p r
+  pub released_renewed : Sends hash w (λ t ks. Renew t ks None) p q → (r : PassState V) → HasReleased w q r → HasReleased w (as_doubled p r) r
   released_renewed g r rest = record {
     own = rest.own;
     idle = rest.idle;
-    stays = stays_on p.view q.view r.view (stays_renewing None g) rest.stays;
+    stays = stays_on (as_doubled p r).view q.view r.view (stays_renewing None g r.view rest.stays.doublings) rest.stays;
     found = rest.found ∙ ap (λ (v : View V). v.found) (renewed_view None g);
     seen = rest.seen ∙ ap (λ (v : View V). v.seen) (renewed_view None g);
   }
 
   -- it told that a name found no room
-  pub refused_on : (name : Name) (why : Reason) → Sends hash w (λ t ks. Renew t ks (Some (name, why))) p q → (r : PassState V) → HasReleased w q r → HasRefused w name why p r
+  pub refused_on : (name : Name) (why : Reason) → Sends hash w (λ t ks. Renew t ks (Some (name, why))) p q → (r : PassState V) → HasReleased w q r → HasRefused w name why (as_doubled p r) r
   refused_on name why g r rest = record {
     own = rest.own;
     idle = rest.idle;
-    stays = stays_then ((name, why) ∷ []) [] p.view q.view r.view (stays_renewing (Some (name, why)) g) rest.stays;
+    stays = stays_then ((name, why) ∷ []) [] (as_doubled p r).view q.view r.view (stays_renewing (Some (name, why)) g r.view rest.stays.doublings) rest.stays;
     found = rest.found ∙ ap (λ (v : View V). v.found) (renewed_view (Some (name, why)) g);
     seen = rest.seen ∙ ap (λ (v : View V). v.seen) (renewed_view (Some (name, why)) g);
   }
@@ -53,7 +54,7 @@ module _ {V : Type 0} (hash : Name → ℕ) (w : WordsState) (p q : PassState V)
 
     stays_telling : StaysBut ((name, why) ∷ []) p.view q.view
     stays_telling = subst (StaysBut ((name, why) ∷ []) p.view) (sym given_view)
-        (record { settings = refl; by = refl; mine = refl; others = refl; heard = (refl, refl); noroom = refl; seen = ([], sym (append-nil p.view.seen)); by_others = λ m e. refl; alone = λ _. refl; told = omega arith })
+        (record { settings = refl; by = refl; mine = refl; others = refl; heard = (refl, refl); noroom = refl; seen = ([], sym (append-nil p.view.seen)); by_others = λ m e. refl; alone = λ _. refl; told = omega arith; doublings = refl })
 
     pub refused_giving : (r : PassState V) → HasReleased w q r → HasRefused w name why p r
     refused_giving r rest = record {

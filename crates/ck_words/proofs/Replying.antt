@@ -24,10 +24,11 @@ use Rattle.ck_words.specs.Commits.{call_of}
 use Rattle.ck_words.specs.Steps.{Steps}
 use Rattle.ck_words.specs.Words.{WordsState}
 use Rattle.ck_words.specs.Passes.{PassState, Sends}
-use Rattle.ck_words.specs.Retries.{Stays}
+use Rattle.ck_words.specs.Retries.{Stays, as_doubled}
 use Rattle.ck_words.specs.Answering.{HasDone, IsAnswered, HasCommitted}
 use Rattle.ck_words.specs.Holding.{HasReleased}
 use Rattle.ck_words.proofs.Reversed.{lawful_reverse}
+use Rattle.ck_words.proofs.Telling.{doubled_decided}
 use Rattle.ck_words.proofs.Rows.{shows_before, shows_after, decide_row}
 
 pub number_in : (o : Option ℕ) → IsSome o → (m : ℕ) × (o ≡ Some m)
@@ -119,7 +120,7 @@ module _ {V : Type 0} where
 
     -- it was decided, and nothing else happened since
     pub is_answered : (m : ℕ) → p.view.by ≡ Some m → p.view.settings ≡ set → (t : ℕ) (ks : Stripes V) (q1 q : PassState V) → Steps hash set (Decide t ks (entry_for call p)) p.view q1.view → Stays q1.view q.view → q.view.seen ≡ q1.view.seen
-        → (r : Reply V) → HasDone hash set call r p → IsAnswered call r p q
+        → (r : Reply V) → HasDone hash set call r p → IsAnswered call r (as_doubled p q) q
     is_answered m by of_table t ks q1 q d s seen r done =
         let row : q1.view ≡ deciding p.view t ks d.log (entry_for call p) = decide_row hash set p.view q1.view t ks (entry_for call p) d in
         let before = shows_before hash set (Decide t ks (entry_for call p)) p.view q1.view d in
@@ -154,6 +155,7 @@ module _ {V : Type 0} where
             by_others = λ n e. refl;
             alone = λ _. refl;
             told = (let a : q1.view.told ≡ p.view.told = ap (λ (v : View V). v.told) row in let b = s.told in omega arith);
+            doublings = refl;
           };
         }
 
@@ -169,6 +171,7 @@ module _ {V : Type 0} where
           by = r.stays.by ∙ ap (λ (v : View V). v.by) row;
           others = r.stays.others ∙ ap (λ (v : View V). v.others) row;
           found = r.found ∙ ap (λ (v : View V). v.found) row;
+          doubled = doubled_decided hash w (entry_for call p) p q1 q d r.stays.doublings;
         }
 
 -- the call of what was said of a commit

@@ -16,7 +16,7 @@ use Rattle.ck_words.specs.Holding.{HasTaken, GivesUp, HasReleased}
 use Rattle.ck_words.proofs.Reversed.{map-append, in_reverse}
 use Rattle.ck_words.proofs.Seating.{each_append, numbers-contents}
 use Rattle.ck_words.proofs.Spare.{spare_none, spare_push}
-use Rattle.ck_words.proofs.Staying.{stays_same, stays_on, stays_within, doublings_within, stays_finding, shows_taken, unchanged_idle, among_none, among_on, among_within, among_held}
+use Rattle.ck_words.proofs.Staying.{stays_same, stays_on, stays_within, stays_finding, shows_taken, unchanged_idle, among_none, among_on, among_within, among_held}
 
 -- a number of the list stands in it
 pub in_list : (ts : List ℕ) (i : ℕ) → i < length ts → IsIn (get_or ts i 0) ts
@@ -88,7 +88,6 @@ module _ {V : Type 0} (hash : Name → ℕ) (w : WordsState) (P : ℕ → Type 0
     no_spare = spare_none p.stripes idle.0;
     found = among_none P p p refl;
     shows = λ l. absurd (omega arith);
-    doublings = refl;
   }
 
   module _ (ns : List ℕ) (t : ℕ) (p q : PassState V) (h : HasTaken hash w P ns p q) where
@@ -105,12 +104,11 @@ module _ {V : Type 0} (hash : Name → ℕ) (w : WordsState) (P : ℕ → Type 0
       no_spare = spare_push q.stripes r.stripes k.2.0 k.2.2 h.no_spare k.2.1.2;
       found = among_on P p q r h.found (among_within P hash w.settings turns t q r asked k);
       shows = λ _. shows_taken hash w.settings turns t q r k;
-      doublings = doublings_within hash w.settings turns t q r k ∙ h.doublings;
     }
 
     -- the stripe was found held to the end, and the others went home
-    pub given_up : (r s : PassState V) → 1 ≤ w.settings.turns → P t → r ≡ found_again w.settings.turns t q → HasReleased w r s → s.view.doublings ≡ r.view.doublings → GivesUp w P t p s
-    given_up r s some asked again released doublings =
+    pub given_up : (r s : PassState V) → 1 ≤ w.settings.turns → P t → r ≡ found_again w.settings.turns t q → HasReleased w r s → GivesUp w P t p s
+    given_up r s some asked again released =
         let turns = w.settings.turns in
         let found : s.view.found ≡ replicate turns t ++ q.view.found = released.found ∙ ap (λ (x : PassState V). x.view.found) again in
         let tried : Stays q.view r.view = subst (λ (x : PassState V). Stays q.view x.view) (sym again) (stays_finding turns t q) in
@@ -124,5 +122,4 @@ module _ {V : Type 0} (hash : Name → ℕ) (w : WordsState) (P : ℕ → Type 0
             found_by_two w turns t s q.view.found some released.own found,
           );
           asked = asked;
-          doublings = doublings ∙ (ap (λ (x : PassState V). x.view.doublings) again ∙ h.doublings);
         }

@@ -13,7 +13,8 @@ use Rattle.ck_section.specs.Stripes.{contents_of}
 use Rattle.ck_core.specs.State.{client_of}
 use Rattle.ck_words.specs.Words.{WordsState}
 use Rattle.ck_words.specs.Passes.{PassState, IsPassOf, IsIdle}
-use Rattle.ck_words.specs.Retries.{StaysBut}
+use Rattle.ck_words.specs.Retries.{StaysBut, as_doubled}
+use Rattle.ck_words.specs.Holding.{IsDoubledBy}
 
 module _ {V : Type 0} where
   -- From what they contained when they were taken, the held stripes went to what they contain now by this call with this reply.
@@ -37,12 +38,13 @@ module _ {V : Type 0} where
   abbrev pub IsAnsweredOn : Name → PassState V → PassState V → Act V → Reply V → Type 0
   IsAnsweredOn name p q act reply = IsAnswered (On name act) reply p q
 
-  -- The call was decided with the reply that the stripes give it, and all stripes went home. Where all stripes of the table were held, nobody has come between.
+  -- The call was decided with the reply that the stripes give it, and all stripes went home. Where all stripes of the table were held, nobody has come between. The caller's doublings are counted.
   pub record HasCommitted (hash : Name → ℕ) (w : WordsState) (call : Call V) (p q : PassState V) : Type 0 where
     pub own : IsPassOf w q
     pub idle : IsIdle q
-    pub answered : (reply : Reply V) → HasDone hash w.settings call reply p → IsAnswered call reply p q
+    pub answered : (reply : Reply V) → HasDone hash w.settings call reply p → IsAnswered call reply (as_doubled p q) q
     pub follows : (reply : Reply V) → HasDone hash w.settings call reply p → HasAll (layout_of hash w.settings) p.view.held → FollowsSeen call reply p q
     pub by : q.view.by ≡ p.view.by
     pub others : q.view.others ≡ p.view.others
     pub found : q.view.found ≡ p.view.found
+    pub doubled : IsDoubledBy p q

@@ -21,7 +21,6 @@ module _ {V : Type 0} where
     pub no_spare : HaveNoSpare q.stripes
     pub found : FindsAmong P p q
     pub shows : 0 < length ns → ShowsSeen hash w.settings q
-    pub doublings : q.view.doublings ≡ p.view.doublings
 
   -- From p to q the last tries found the stripe t held, as many as the settings allow. What had been taken went home.
   pub record GivesUp (w : WordsState) (P : ℕ → Type 0) (t : ℕ) (p q : PassState V) : Type 0 where
@@ -30,7 +29,6 @@ module _ {V : Type 0} where
     pub found : FindsAmong P p q
     pub busy : IsBusy w.settings t p q
     pub asked : P t
-    pub doublings : q.view.doublings ≡ p.view.doublings
 
   -- These stripes were taken, and none but such ones were found held.
   abbrev pub HasTakenAll : (Name → ℕ) → WordsState → List ℕ → PassState V → PassState V → Type 0

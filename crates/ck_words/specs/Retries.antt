@@ -16,7 +16,7 @@ module _ {V : Type 0} where
   abbrev pub TakesWithin : (Name → ℕ) → Settings → ℕ → ℕ → PassState V → PassState V → Type 0
   TakesWithin hash set turns t p q = (n : ℕ) × (n < turns) × TakesStripe hash set t (found_again n t p) q
 
-  -- What no step changes but one that decides or meets: the caller's entries and what it heard, and it has seen and was told no less. What it sees more is by others, so that the only caller sees nothing more.
+  -- What no step changes but one that decides, doubles or meets: the caller's entries, its doublings and what it heard, and it has seen and was told no less. What it sees more is by others, so that the only caller sees nothing more.
   -- It has said of these names more that they found no room.
   pub record StaysBut (more : List (Name × Reason)) (v w : View V) : Type 0 where
     pub settings : w.settings ≡ v.settings
@@ -29,10 +29,15 @@ module _ {V : Type 0} where
     pub by_others : (m : ℕ) → v.by ≡ Some m → subhistory m seen.0 ≡ []
     pub alone : v.settings.callers ≡ 1 → w.seen ≡ v.seen
     pub told : v.told ≤ w.told
+    pub doublings : w.doublings ≡ v.doublings
 
   -- and it has said so of none more
   abbrev pub Stays : View V → View V → Type 0
   Stays = StaysBut []
+
+  -- the pass p, as if its caller had made as many doublings as that of q
+  abbrev pub as_doubled : PassState V → PassState V → PassState V
+  as_doubled p q = record p { view = record p.view { doublings = q.view.doublings } }
 
   -- Of all stripes, the pass found such ones held.
   abbrev pub FindsAmong : (ℕ → Type 0) → PassState V → PassState V → Type 0

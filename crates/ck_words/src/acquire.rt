@@ -1,5 +1,5 @@
 //! Taking stripes in rising order of their numbers, each with a bound on the tries.
-ghost use Rattle.std.specs.Prelude.{◌≡◌, ◌<◌, ◌≤◌, ◌-◌, ◌^◌, MatchBool, OnOk, OnErr, IfErr, length, take};
+ghost use Rattle.std.specs.Prelude.{◌≡◌, ◌<◌, ◌≤◌, ◌-◌, ◌^◌, MatchBool, OnOk, IfErr, length, take};
 ghost use Rattle.ck_model.specs.Numbered.{numbers, IsIn};
 ghost use Rattle.ck_core.specs.Steps.{IsAbove};
 ghost use Rattle.ck_section.specs.Places.{AreHeld};
@@ -87,8 +87,6 @@ impl<K: TableKey + Drop, V: Drop> Words<K, V> {
         ensures numbers { OnOk result (numbers_of pass.new.stripes ≡ list_of set) }
         ensures unchanged { OnOk result (IsUnchanged pass.new) }
         ensures shows { OnOk result (ShowsSeen K.hash self.now.settings pass.new) }
-        ensures doublings { OnOk result (pass.new.view.doublings ≡ pass.old.view.doublings) }
-        ensures kept { OnErr result (pass.new.view.doublings ≡ pass.old.view.doublings) }
         ensures found { FindsAmong (λ t. IsIn t (list_of set)) pass.old pass.new }
         ensures busy { IfErr result (λ t. IsBusy self.now.settings t pass.old pass.new) }
         ensures asked { IfErr result (λ t. IsIn t (list_of set)) }
@@ -249,8 +247,6 @@ impl<K: TableKey + Drop, V: Drop> Words<K, V> {
         ensures whole { OnOk result (IsWhole K.hash self.now.settings pass.new) }
         ensures table { OnOk result (IsTable self.now.settings.s pass.new.stripes) }
         ensures settled { OnOk result (AreSettled pass.new.stripes) }
-        ensures doublings { OnOk result (pass.new.view.doublings ≡ pass.old.view.doublings) }
-        ensures kept { OnErr result (pass.new.view.doublings ≡ pass.old.view.doublings) }
         ensures found { FindsAmong (λ t. t < 2 ^ self.now.settings.s) pass.old pass.new }
         ensures busy { IfErr result (λ t. IsBusy self.now.settings t pass.old pass.new) }
         ensures asked { IfErr result (λ t. t < 2 ^ self.now.settings.s) }

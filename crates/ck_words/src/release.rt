@@ -9,6 +9,7 @@ ghost use Rattle.ck_section.specs.Stripes.{contents_of, HaveNoSpare};
 ghost use Rattle.ck_section.specs.Room.{reason_of_lack};
 ghost use Rattle.ck_words.specs.Passes.{IsPassOf, IsUnchanged, numbers_of};
 ghost use Rattle.ck_words.specs.StripeSets.{list_of};
+ghost use Rattle.ck_words.specs.Retries.{as_doubled};
 ghost use Rattle.ck_words.specs.Holding.{HasReleased, IsToldNoMore, IsToldPower, IsDoubledBy};
 ghost use Rattle.ck_words.specs.Renewing.{HasRenewed, HasRefused};
 
@@ -29,7 +30,6 @@ impl<K: TableKey + Drop, V: Drop> Words<K, V> {
         requires no_spare { HaveNoSpare pass.old.stripes }
         requires unchanged { IsUnchanged pass.old }
         ensures released { HasReleased self.now pass.old pass.new }
-        ensures doublings { pass.new.view.doublings ≡ pass.old.view.doublings }
     {
         self.release_first(pass, set, set.count());
     }
@@ -44,7 +44,6 @@ impl<K: TableKey + Drop, V: Drop> Words<K, V> {
         requires unchanged { IsUnchanged pass.old }
         ensures released { HasReleased self.now pass.old pass.new }
         ensures told { IsToldNoMore pass.old pass.new }
-        ensures doublings { pass.new.view.doublings ≡ pass.old.view.doublings }
     {
         match n {
             0 => {}
@@ -64,7 +63,6 @@ impl<K: TableKey + Drop, V: Drop> Words<K, V> {
         requires unchanged { IsUnchanged pass.old }
         ensures released { HasReleased self.now pass.old pass.new }
         ensures told { IsToldNoMore pass.old pass.new }
-        ensures doublings { pass.new.view.doublings ≡ pass.old.view.doublings }
     {
         for i in (0..n).rev() {
             self.give_rest(pass, set.at(i));
@@ -81,7 +79,7 @@ impl<K: TableKey + Drop, V: Drop> Words<K, V> {
         requires numbered { numbers_of pass.old.stripes ≡ list_of set }
         requires no_spare { HaveNoSpare pass.old.stripes }
         requires renewed { HasRenewed K.hash self.now.settings pass.old }
-        ensures released { HasReleased self.now pass.old pass.new }
+        ensures released { HasReleased self.now (as_doubled pass.old pass.new) pass.new }
         ensures told { IsToldPower pass.old pass.new }
         ensures doubled { IsDoubledBy pass.old pass.new }
     {
@@ -113,7 +111,7 @@ impl<K: TableKey + Drop, V: Drop> Words<K, V> {
 
     /// Gives the stripes of a set home with what they contain now, after an identity section, and
     /// tells that the key found no room in them, for want of this. The pass has then been told of
-    /// their power.
+    /// their power, and its caller's doublings are counted.
     ///
     /// The first store tells what all contain, which gives the grounds.
     pub fn refuse(&self, pass: &mut Pass<K, V>, set: StripeSet, key: &K, lack: Lack)
@@ -124,9 +122,10 @@ impl<K: TableKey + Drop, V: Drop> Words<K, V> {
         requires grounds { Lawful (layout_of K.hash self.now.settings) (reverse pass.old.view.held)
             → Grounds (layout_of K.hash self.now.settings) self.now.settings.min_load
             (contents_of pass.old.stripes) (K.name key.now) (reason_of_lack lack) }
-        ensures refused { HasRefused self.now (K.name key.now) (reason_of_lack lack) pass.old
-            pass.new }
+        ensures refused { HasRefused self.now (K.name key.now) (reason_of_lack lack)
+            (as_doubled pass.old pass.new) pass.new }
         ensures told { IsToldPower pass.old pass.new }
+        ensures doubled { IsDoubledBy pass.old pass.new }
     {
         let said = (Snapshot::of(key), lack);
         let last = set.count() - 1;

@@ -2,8 +2,8 @@ use Rattle.std.proofs.Common.{◌≡◌, ◌∙◌, sym, ap, refl}
 use Rattle.ck_model.specs.Contents.{layout_of}
 use Rattle.ck_core.specs.Steps.{message_of}
 use Rattle.ck_words.specs.Rule.{Hand}
-use Rattle.ck_words.specs.Passes.{PassState, state_of}
-use Rattle.ck_words.specs.Meeting.{MessageState, Hears, told_by}
+use Rattle.ck_words.specs.Passes.{state_of}
+use Rattle.ck_words.specs.Meeting.{MessageState, Hears}
 use Rattle.ck_words.proofs.Meets.{heard, hears}
 use Rattle.ck_words.proofs.Allowed.{join_allowed}
 use Rattle.ck_words.proofs.Seating.{ready_on, seated_view}

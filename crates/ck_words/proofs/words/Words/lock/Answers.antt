@@ -14,7 +14,7 @@ use Rattle.ck_words.proofs.words.Words.lock.Goals as goal
 pub returns-in-Err-lock_later : goal.returns-in-Err-lock_later
 returns-in-Err-lock_later g c =
     let r = c.in-Err-lock_later.ensures.refused c.args.pass.now c.in-Err.ensures.missed in
-    record { own = r.own; stays = r.stays; held = tt; numbers = tt; unchanged = tt; shows = tt; doublings = tt; kept = r.doublings; found = r.found; busy = r.busy; asked = r.asked }
+    record { own = r.own; stays = r.stays; held = tt; numbers = tt; unchanged = tt; shows = tt; found = r.found; busy = r.busy; asked = r.asked }
 
 pub settle_taken-requires : goal.settle_taken-requires
 settle_taken-requires g c =
@@ -45,9 +45,6 @@ returns-clause-stays g c = subst (Stays c.args.pass.now.view) (sym c.settle_take
 pub returns-clause-shows : goal.returns-clause-shows
 returns-clause-shows g c =
     subst (λ (v : View g.row.V.Denot). Shows (layout_of g.K.TableKey.hash c.args.self.now.settings) c.args.self.now.settings.callers v.seen v) (sym c.settle_taken.ensures.view) ((taken g c).shows c.args.set.some)
-
-pub returns-clause-doublings : goal.returns-clause-doublings
-returns-clause-doublings g c = ap (λ (v : View g.row.V.Denot). v.doublings) c.settle_taken.ensures.view ∙ (taken g c).doublings
 
 pub returns-clause-found : goal.returns-clause-found
 returns-clause-found g c = let f = (taken g c).found in (f.0, ap (λ v. v.found) c.settle_taken.ensures.view ∙ f.1, f.2)

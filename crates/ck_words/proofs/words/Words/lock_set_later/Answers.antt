@@ -21,7 +21,6 @@ release_first-requires-clause-no_spare g c =
 pub returns-then-not-try_again-clause-refused : goal.returns-then-not-try_again-clause-refused
 returns-then-not-try_again-clause-refused g c p m =
     later_refused g.K.TableKey.hash c.args.self.now (list_of c.args.set) c.args.i c.at-missed.result c.at-missed.ensures.value p c.args.pass.now c.args.set.rising c.show_range.ensures.turns m c.try_again.new.pass c.release_first.new.pass c.if-not-try_again.ensures.tries c.release_first.ensures.released
-    c.release_first.ensures.doublings
 
 pub loop-j-init : goal.loop-j-init
 loop-j-init g c p m =
@@ -46,7 +45,6 @@ release_first-requires-then-not-try_take-clause-no_spare g c =
 pub returns-then-not-try_take-clause-refused : goal.returns-then-not-try_take-clause-refused
 returns-then-not-try_take-clause-refused g c p m =
     next_refused g.K.TableKey.hash c.args.self.now (list_of c.args.set) c.loop-j.j c.at-t.result c.at-t.ensures.value p c.loop-j.pass c.args.set.rising (omega arith) (c.loop-j.invariant p m) c.try_take.new.pass c.release_first-then-not-try_take.new.pass c.show_range.ensures.turns c.if-not-try_take.ensures.tries c.release_first-then-not-try_take.ensures.released
-    c.release_first-then-not-try_take.ensures.doublings
 
 pub returns-clause-taken : goal.returns-clause-taken
 returns-clause-taken g c p m =

@@ -4,7 +4,8 @@ use Rattle.ck_words.specs.Renewing.{HasRefused}
 use Rattle.ck_words.specs.StripeSets.{list_of}
 use Rattle.ck_words.proofs.Releasing.{last_highest, others_left}
 use Rattle.ck_words.proofs.Renewed.{refused_on}
-use Rattle.ck_words.proofs.Telling.{told_renewed}
+use Rattle.ck_words.specs.Retries.{as_doubled}
+use Rattle.ck_words.proofs.Telling.{told_renewed, doubled_renewed}
 use Rattle.ck_words.proofs.words.Words.refuse.Goals as goal
 
 pub renew-requires : goal.renew-requires
@@ -15,10 +16,14 @@ release_first-requires-clause-numbered g c = others_left (list_of c.args.set) _ 
 
 pub returns-clause-refused : goal.returns-clause-refused
 returns-clause-refused g c =
-    subst (λ (x : g.row.K.Denot). HasRefused c.args.self.now (g.K.TableKey.name x) (reason_of_lack c.args.lack) c.args.pass.now c.release_first.new.pass) c.of.ensures
+    subst (λ (x : g.row.K.Denot). HasRefused c.args.self.now (g.K.TableKey.name x) (reason_of_lack c.args.lack) (as_doubled c.args.pass.now c.release_first.new.pass) c.release_first.new.pass) c.of.ensures
     (refused_on g.K.TableKey.hash c.args.self.now c.args.pass.now c.renew.new.pass _ _ c.renew.ensures.step _ c.release_first.ensures.released)
 
 pub returns-clause-told : goal.returns-clause-told
 returns-clause-told g c =
     let b = c.release_first.ensures in
     told_renewed g.K.TableKey.hash c.args.self.now (Some (g.K.TableKey.name c.of.result.value, reason_of_lack c.args.lack)) c.args.pass.now c.renew.new.pass c.release_first.new.pass c.renew.ensures.step b.released b.told
+
+pub returns-clause-doubled : goal.returns-clause-doubled
+returns-clause-doubled g c =
+    doubled_renewed g.K.TableKey.hash c.args.self.now (Some (g.K.TableKey.name c.of.result.value, reason_of_lack c.args.lack)) c.args.pass.now c.renew.new.pass c.release_first.new.pass c.renew.ensures.step c.release_first.ensures.released.stays.doublings

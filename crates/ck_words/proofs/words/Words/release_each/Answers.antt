@@ -1,7 +1,6 @@
-use Rattle.std.proofs.Common.{◌≡◌, ◌∙◌, ◌-◌, ◌++◌, [], ◌∷◌, take, get_or, ap, sym, refl, subst, arith}
+use Rattle.std.proofs.Common.{◌≡◌, ◌∙◌, ◌-◌, ◌++◌, [], ◌∷◌, take, get_or, ap, sym, subst, arith}
 use Rattle.ck_words.specs.StripeSets.{list_of}
 use Rattle.ck_words.proofs.Releasing.{Leaves, last_taken, leaves_all, leaves_fewer, leaves_none}
-use Rattle.ck_words.proofs.Staying.{doublings_giving}
 use Rattle.ck_words.proofs.Telling.{told_none, told_fewer}
 use Rattle.ck_words.proofs.words.Words.release_each.Goals as goal
 
@@ -10,7 +9,6 @@ loop-i-init g c = record {
   leaves = leaves_all c.args.self.now (take c.args.n (list_of c.args.set)) c.args.pass.now c.requires.own c.requires.unchanged c.requires.numbered;
   no_spare = c.requires.no_spare;
   told = told_none c.args.pass.now;
-  doublings = refl;
 }
 
 pub give_rest-requires-clause-highest : goal.give_rest-requires-clause-highest
@@ -24,7 +22,6 @@ loop-i-preserved g c =
     record {
       leaves = leaves_fewer w g.K.TableKey.hash (take (i - 1) ns) (get_or ns (i - 1) 0) p q c.give_rest.new.pass (subst (λ l. Leaves w l p q) (last_taken ns i c.loop-i-test.true (omega arith)) c.loop-i.invariant.leaves) c.give_rest.ensures.own c.give_rest.ensures.unchanged c.give_rest.ensures.step;
       no_spare = c.give_rest.ensures.no_spare;
-      doublings = doublings_giving g.K.TableKey.hash w q c.give_rest.new.pass c.give_rest.ensures.step ∙ c.loop-i.invariant.doublings;
       told = told_fewer g.K.TableKey.hash w p q c.give_rest.new.pass c.loop-i.invariant.told c.loop-i.invariant.leaves.unchanged c.give_rest.ensures.step;
     }
 

@@ -1,4 +1,4 @@
-use Rattle.std.proofs.Common.{◌≡◌, take}
+use Rattle.std.proofs.Common.{take}
 use Rattle.ck_section.specs.Stripes.{HaveNoSpare}
 use Rattle.ck_words.specs.StripeSets.{list_of}
 use Rattle.ck_words.proofs.Releasing.{Leaves}
@@ -10,5 +10,4 @@ invariant-loop-i g l = record {
   leaves : Leaves l.self (take l.i (list_of l.set)) l.initial.pass l.pass;
   no_spare : HaveNoSpare l.pass.stripes;
   told : IsToldBelow l.initial.pass l.pass;
-  doublings : l.pass.view.doublings ≡ l.initial.pass.view.doublings;
 }

@@ -1,7 +1,6 @@
 use Rattle.std.proofs.Common.{◌∙◌, ℕ, [], ◌∷◌, take, ap, sym, arith}
 use Rattle.ck_words.specs.StripeSets.{list_of}
 use Rattle.ck_words.proofs.Releasing.{last_taken, leaves_all, leaves_after, leaves_none}
-use Rattle.ck_words.proofs.Staying.{doublings_giving}
 use Rattle.ck_words.proofs.Telling.{told_none, told_fewer}
 use Rattle.ck_words.proofs.words.Words.release_first.Goals as goal
 
@@ -30,6 +29,3 @@ returns-in-1-clause-released g c =
 pub returns-in-1-clause-told : goal.returns-in-1-clause-told
 returns-in-1-clause-told g c power same =
     (told_fewer g.K.TableKey.hash c.args.self.now c.args.pass.now c.args.pass.now c.give_rest.new.pass (told_none c.args.pass.now) c.requires.unchanged c.give_rest.ensures.step power same).1
-
-pub returns-in-1-clause-doublings : goal.returns-in-1-clause-doublings
-returns-in-1-clause-doublings g c = doublings_giving g.K.TableKey.hash c.args.self.now c.args.pass.now c.give_rest.new.pass c.give_rest.ensures.step
