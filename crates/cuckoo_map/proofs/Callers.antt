@@ -1,5 +1,5 @@
 -- What a call of the table leaves of the caller whose pass it had.
-use Rattle.std.proofs.Common.{◌≡◌, ℕ, ◌≤◌, List, ◌++◌, Result, Ok, Err, IfOk, IfErr, OnOk, sym, ap, ◌∙◌, subst}
+use Rattle.std.proofs.Common.{◌≡◌, ℕ, ◌≤◌, List, ◌++◌, Result, Ok, Err, IfOk, IfErr, OnOk, refl, sym, ap, ◌∙◌, subst}
 use Rattle.std.proofs.lemmas.Result.{IfOk-weaker}
 use Rattle.ck_model.specs.declared.history.Act.{Act}
 use Rattle.ck_model.specs.declared.history.Call.{Call}
@@ -16,7 +16,9 @@ use Rattle.ck_words.specs.Closing.{IsCaller}
 use Rattle.ck_core.specs.State.{client_of}
 use Rattle.cuckoo_map.specs.declared.refusal.Refused.{Refused}
 use Rattle.cuckoo_map.specs.Refusals.{IsBusyAmong, FindsOwnUnlessFull}
+use Rattle.cuckoo_map.specs.Needed.{HasGrownFor}
 use Rattle.cuckoo_map.specs.Insertions.{IsInserted, HandsBack}
+use Rattle.cuckoo_map.proofs.Counted.{grown_alike}
 use Rattle.cuckoo_map.specs.Callers.{CallerState, caller_of, pass_of, IsSameCaller, Replies, RepliesOn, KeepsNotesBut, KeepsNotes, NotesFull, ComesBack, FindsHeldUnlessFull}
 
 -- a stripe of the name
@@ -45,7 +47,7 @@ module _ {V : Type 0} where
   pub record InsertionLeaves {A K X : Type 0} (T : A → Type 0) (hash : Name → ℕ) (name : Name) (key : K) (x : X) (r : Result A (Refused K X)) (c d : CallerState V) : Type 0 where
     pub same : IsSameCaller c d
     pub answered : IfOk r T
-    pub notes : OnOk r (NotesFull name c d)
+    pub notes : OnOk r (NotesFull hash name c d)
     pub refused : IfErr r (ComesBack hash name key x c d)
     pub found : FindsHeldUnlessFull hash name c d
 
@@ -57,7 +59,7 @@ module _ {V : Type 0} where
       by = by ∙ ap (λ (x : CallerState V). x.client.by) is;
     }
 
-    pub keeps_notes : {more : List (Name × Reason)} → StaysBut more (record p.view { seen = q.view.seen; mine = q.view.mine }) q.view → KeepsNotesBut more c (caller_of w q)
+    pub keeps_notes : {more : List (Name × Reason)} {n : ℕ} → StaysBut more (record p.view { seen = q.view.seen; mine = q.view.mine; doublings = n }) q.view → KeepsNotesBut more c (caller_of w q)
     keeps_notes {more} s = record {
       settings = s.settings ∙ ap (λ (x : CallerState V). x.client.settings) is;
       told = subst (λ (x : CallerState V). x.notes.told ≤ q.view.told) is s.told;
@@ -70,13 +72,21 @@ module _ {V : Type 0} where
     replied call {more} {reply} a = subst (λ (x : CallerState V). Replied call reply x.client (client_of q.view)) is a.replied
 
     pub replies : (call : Call V) (reply : Reply V) → IsAnswered call reply p q → Replies call c (caller_of w q) reply × (IsSameCaller c (caller_of w q) × KeepsNotes c (caller_of w q))
-    replies call reply a = (replied call a, (same_caller a.stays.by, keeps_notes a.stays))
+    replies call reply a = (replied call a, (same_caller a.stays.by, (keeps_notes a.stays, a.stays.doublings ∙ ap (λ (x : CallerState V). x.notes.doublings) is)))
 
     pub replies_on : (name : Name) (act : Act V) (reply : Reply V) → IsAnsweredOn name p q act reply → RepliesOn name c (caller_of w q) act reply × (IsSameCaller c (caller_of w q) × KeepsNotes c (caller_of w q))
     replies_on name act reply a = replies (On name act) reply a
 
-    pub replies_inserting : (name : Name) (act : Act V) (reply : Reply V) → IsInserted name p q act reply → RepliesOn name c (caller_of w q) act reply × (IsSameCaller c (caller_of w q) × NotesFull name c (caller_of w q))
-    replies_inserting name act reply a = (replied (On name act) a.2, (same_caller a.2.stays.by, (a.0, a.1, keeps_notes a.2.stays)))
+    -- what was made of doublings is what the caller has made
+    grown_caller : {hash : Name → ℕ} {name : Name} → HasGrownFor hash w.settings name p q → HasGrownFor hash c.table.settings name (pass_of c) (pass_of (caller_of w q))
+    grown_caller {hash} {name} g =
+        subst (λ (x : CallerState V). HasGrownFor hash x.table.settings name (pass_of x) (pass_of (caller_of w q))) is (grown_alike p q (pass_of (caller_of w p)) (pass_of (caller_of w q)) refl refl refl refl g)
+
+    pub replies_inserting : (hash : Name → ℕ) (name : Name) (act : Act V) (reply : Reply V) → IsInserted hash w.settings name p q act reply → RepliesOn name c (caller_of w q) act reply × (IsSameCaller c (caller_of w q) × NotesFull hash name c (caller_of w q))
+    replies_inserting hash name act reply a = (replied_grown a.2, (same_caller a.2.stays.by, (a.0, a.1, keeps_notes a.2.stays, grown_caller a.3)))
+      where
+        replied_grown : {more : List (Name × Reason)} {n : ℕ} → IsAnsweredBut more (On name act) reply (record p { view = record p.view { doublings = n } }) q → RepliesOn name c (caller_of w q) act reply
+        replied_grown b = subst (λ (x : CallerState V). Replied (On name act) reply x.client (client_of q.view)) is b.replied
 
     module _ (before : IsCaller w p) (after : IsCaller w q) where
       -- what holds of the passes holds of those of the callers
@@ -95,7 +105,7 @@ module _ {V : Type 0} where
         found = over (λ v a b. FindsAmong (P v) a b) found;
       }
 
-      pub insertion : {A K X : Type 0} {T : A → Type 0} (hash : Name → ℕ) (name : Name) (key : K) (x : X) (r : Result A (Refused K X)) → IfOk r (λ a. T a × (IsSameCaller c (caller_of w q) × NotesFull name c (caller_of w q)))
+      pub insertion : {A K X : Type 0} {T : A → Type 0} (hash : Name → ℕ) (name : Name) (key : K) (x : X) (r : Result A (Refused K X)) → IfOk r (λ a. T a × (IsSameCaller c (caller_of w q) × NotesFull hash name c (caller_of w q)))
           → IfErr r (HandsBack hash w.settings name key x p q) → FindsOwnUnlessFull hash w.settings name p q → InsertionLeaves T hash name key x r c (caller_of w q)
       insertion hash name key x r told refused found = record {
         same = by_result r told refused (λ a h. h.1.0) (λ e h. same_caller h.2.stays.by);

@@ -10,7 +10,7 @@ use Rattle.ck_model.specs.declared.history.Reply.{Reply}
 use Rattle.ck_model.specs.declared.history.Reply.TheVariants.{Was, Done}
 use Rattle.ck_model.specs.declared.history.Reason.{Reason}
 use Rattle.ck_model.specs.declared.settings.Settings.{Settings}
-use Rattle.ck_model.specs.Promise.{Name, Client, Replied}
+use Rattle.ck_model.specs.Promise.{Name, Client, StartsWith, Replied}
 use Rattle.ck_model.specs.Contents.{layout, layout_of, Lawful}
 use Rattle.ck_model.specs.Sections.{Owns, Section}
 use Rattle.ck_model.proofs.Histories.{subhistory-append}
@@ -19,17 +19,21 @@ use Rattle.ck_section.specs.declared.place.KeyPlace.{KeyPlace}
 use Rattle.ck_section.specs.Acts.{ErasesBy, ReplacesIf}
 use Rattle.ck_section.specs.Stripes.{contents_of}
 use Rattle.ck_section.specs.Places.{HasBoth, IsPlaceOf}
+use Rattle.ck_section.specs.Calls.{ChangesContents}
 use Rattle.ck_core.specs.declared.view.View.{View}
 use Rattle.ck_core.specs.State.{client_of}
 use Rattle.ck_words.specs.Words.{WordsState}
 use Rattle.ck_words.specs.Passes.{PassState, IsUnchanged}
-use Rattle.ck_words.specs.Retries.{Stays, StaysBut}
+use Rattle.ck_words.specs.Retries.{Stays, StaysBut, as_doubled}
+use Rattle.ck_words.specs.Holding.{IsDoubledBy}
 use Rattle.ck_words.specs.Answering.{HasDone, IsAnswered, IsAnsweredBut}
 use Rattle.ck_words.specs.Renewing.{HasRenewed}
 use Rattle.ck_words.proofs.Renewals.{renewed_none, done_then}
 use Rattle.cuckoo_map.specs.declared.key_room.Room.{Room}
 use Rattle.cuckoo_map.specs.Holding.{HoldsKeyBut, HoldsKey}
 use Rattle.cuckoo_map.specs.Insertions.{HasRoom}
+use Rattle.cuckoo_map.specs.Needed.{HaveOnePower}
+use Rattle.cuckoo_map.proofs.Counted.{none_made}
 
 joined_on : {A : Type 0} (a b c d x : List A) → x ≡ a ++ b → x ++ c ++ d ≡ a ++ (b ++ c) ++ d
 joined_on a b c d x e = ap (λ l. l ++ d) (ap (λ l. l ++ c) e ∙ append_assoc a b c)
@@ -41,6 +45,10 @@ module _ {V : Type 0} where
   -- Whatever the greatest power is, lawful stripes go from old to new by this call, with this reply.
   abbrev pub IsStep : (Name → ℕ) → ℕ → List (StripeState V) → List (StripeState V) → Call V → Reply V → Type 0
   IsStep hash s old new call reply = (max : ℕ) → Lawful (layout hash s max) (contents_of old) → Section (layout hash s max) (contents_of old) call reply (contents_of new)
+
+  -- what a caller has seen begins with what it had seen
+  pub replied_seen : {call : Call V} {reply : Reply V} {c d : Client V} → Replied call reply c d → StartsWith d.seen c.seen
+  replied_seen {call} {reply} a = (a.answered.others ++ record { by = a.by; call = call; reply = reply } ∷ [], a.answered.seen)
 
   -- to what a caller had seen came entries of others, and then the call was answered
   pub replied_since : {more : List (Name × Reason)} {v w : View V} → StaysBut more v w → (call : Call V) (reply : Reply V) (d : Client V) → Replied call reply (client_of w) d → Replied call reply (client_of v) d
@@ -61,9 +69,9 @@ module _ {V : Type 0} where
       }
 
   -- the call was answered after the stripes were taken
-  pub answered_since : (more : List (Name × Reason)) (p p1 p2 z : PassState V) → StaysBut more p.view p1.view → p2.view ≡ p1.view → (call : Call V) (reply : Reply V) → IsAnswered call reply p2 z → IsAnsweredBut more call reply p z
+  pub answered_since : (more : List (Name × Reason)) (p p1 p2 z : PassState V) → StaysBut more p.view p1.view → p2.view ≡ p1.view → (call : Call V) (reply : Reply V) → IsAnswered call reply (as_doubled p2 z) z → IsAnsweredBut more call reply (as_doubled p z) z
   answered_since more p p1 p2 z s same call reply a =
-      let rest : StaysBut [] (record p1.view { seen = z.view.seen; mine = z.view.mine }) z.view = subst (λ (v : View V). StaysBut [] (record v { seen = z.view.seen; mine = z.view.mine }) z.view) same a.stays in
+      let rest : StaysBut [] (record p1.view { seen = z.view.seen; mine = z.view.mine; doublings = z.view.doublings }) z.view = subst (λ (v : View V). StaysBut [] (record v { seen = z.view.seen; mine = z.view.mine; doublings = z.view.doublings }) z.view) same a.stays in
       record {
         replied = replied_since s call reply (client_of z.view) (subst (λ (v : View V). Replied call reply (client_of v) (client_of z.view)) same a.replied);
         stays = record {
@@ -77,22 +85,28 @@ module _ {V : Type 0} where
           by_others = λ n e. refl;
           alone = λ _. refl;
           told = (let a = s.told in let b = rest.told in omega arith);
+          doublings = refl;
         };
       }
+
+  -- and made no doubling
+  pub answered_level : {more : List (Name × Reason)} {call : Call V} {reply : Reply V} (p z : PassState V) → z.view.doublings ≡ p.view.doublings → IsAnsweredBut more call reply (as_doubled p z) z → IsAnsweredBut more call reply p z
+  answered_level {more} {call} {reply} p z same a = subst (λ (n : ℕ). IsAnsweredBut more call reply (record p { view = record p.view { doublings = n } }) z) same a
 
 -- how many stripes there are, where w and v are one table
 pub s_of : {w v : WordsState} {settings : Settings} → v ≡ w → settings ≡ v.settings → settings.s ≡ w.settings.s
 s_of is same = ap (λ (x : Settings). x.s) same ∙ ap (λ (x : WordsState). x.settings.s) is
 
 -- the stripes were held as p1, and are the same where their pass is p2
-pub holds_then : {V : Type 0} {hash : Name → ℕ} {set : Settings} {q : Name} {place : KeyPlace} (p p1 : PassState V) → Stays p.view p1.view → HasBoth hash set.s p1.stripes q → IsUnchanged p1 → IsPlaceOf hash p1.stripes q place → place.s ≡ set.s
+pub holds_then : {V : Type 0} {hash : Name → ℕ} {set : Settings} {q : Name} {place : KeyPlace} (p p1 : PassState V) → Stays p.view p1.view → HasBoth hash set.s p1.stripes q → IsUnchanged p1 → HaveOnePower p1.stripes → IsPlaceOf hash p1.stripes q place → place.s ≡ set.s
     → (p2 : PassState V) → p2.stripes ≡ p1.stripes → p2.view ≡ p1.view → HoldsKey hash set q place p p2
-holds_then {V} {hash} {set} {q} {place} p p1 stays both unchanged at s p2 stripes view = record {
+holds_then {V} {hash} {set} {q} {place} p p1 stays both unchanged one at s p2 stripes view = record {
   stays = subst (Stays p.view) (sym view) stays;
   both = subst (λ (ss : List (StripeState V)). Owns (layout_of hash set) (contents_of ss) q) (sym stripes) (both set.max);
   at = subst (λ ss. IsPlaceOf hash ss q place) (sym stripes) at;
   s = s;
   unchanged = ap contents_of stripes ∙ (unchanged ∙ ap (λ (x : View V). reverse x.held) (sym view));
+  one_power = subst (λ (ss : List (StripeState V)). HaveOnePower ss) (sym stripes) one;
 }
 
 -- The pass held stripes as p1, which were renewed since they were taken, and was p2 after the call. w and v are one table.
@@ -104,8 +118,8 @@ module _ {V : Type 0} {hash : Name → ℕ} {w v : WordsState} {s : ℕ} {more :
       let done : HasDone hash w.settings call reply p2 = done_then hash w.settings p1 p2 (ap (λ (x : View V). x.held) same) renewed call reply here in
       subst (λ (x : WordsState × Call V). HasDone hash x.0.settings x.1 reply p2) (λ i. (sym is i, sym named i)) done
 
-  says_since : {z : PassState V} → ((r : Reply V) → HasDone hash v.settings call1 r p2 → IsAnswered call1 r p2 z) → (reply : Reply V) → IsStep hash s p1.stripes p2.stripes call reply → IsAnsweredBut more call reply p z
-  says_since {z} told reply step = answered_since more p p1 p2 z stays same call reply (subst (λ (x : Call V). IsAnswered x reply p2 z) named (told reply (does_since reply step)))
+  says_since : {z : PassState V} → ((r : Reply V) → HasDone hash v.settings call1 r p2 → IsAnswered call1 r (as_doubled p2 z) z) → (reply : Reply V) → IsStep hash s p1.stripes p2.stripes call reply → IsAnsweredBut more call reply (as_doubled p z) z
+  says_since {z} told reply step = answered_since more p p1 p2 z stays same call reply (subst (λ (x : Call V). IsAnswered x reply (as_doubled p2 z) z) named (told reply (does_since reply step)))
 
 -- The pass held the stripes of a name.
 module _ {V : Type 0} {hash : Name → ℕ} {w v : WordsState} {q : Name} {place : KeyPlace} {more : List (Name × Reason)} {p p1 : PassState V}
@@ -117,9 +131,12 @@ module _ {V : Type 0} {hash : Name → ℕ} {w v : WordsState} {q : Name} {place
   pub does : (reply : Reply V) → IsStep hash place.s p1.stripes p2.stripes call reply → HasDone hash v.settings call1 reply p2
   does = does_since p p1 is held.stays held.s renewed p2 same named
 
-  -- and is what the pass was answered by its commit
-  pub says : {z : PassState V} → ((r : Reply V) → HasDone hash v.settings call1 r p2 → IsAnswered call1 r p2 z) → (reply : Reply V) → IsStep hash place.s p1.stripes p2.stripes call reply → IsAnsweredBut more call reply p z
-  says = says_since p p1 is held.stays held.s renewed p2 same named
+  -- and is what the pass was answered by its commit, with no doubling where contents alone changed
+  pub says : {z : PassState V} → ChangesContents p1.stripes p2.stripes → IsDoubledBy p2 z → ((r : Reply V) → HasDone hash v.settings call1 r p2 → IsAnswered call1 r (as_doubled p2 z) z) → (reply : Reply V) → IsStep hash place.s p1.stripes p2.stripes call reply
+      → IsAnsweredBut more call reply p z
+  says {z} rest doubled told reply step =
+      let made : z.view.doublings ≡ p2.view.doublings = none_made p1 p2 z same rest doubled held.unchanged held.one_power in
+      answered_level p z (made ∙ (ap (λ (x : View V). x.doublings) same ∙ held.stays.doublings)) (says_since p p1 is held.stays held.s renewed p2 same named told reply step)
 
 -- The pass held stripes with room for a name. w and v are one table.
 module _ {V : Type 0} {hash : Name → ℕ} {w v : WordsState} {q : Name} {room : Room} {p p1 : PassState V} (is : v ≡ w) (has : HasRoom hash w.settings q room p p1)
@@ -127,7 +144,7 @@ module _ {V : Type 0} {hash : Name → ℕ} {w v : WordsState} {q : Name} {room 
   pub does_there : (reply : Reply V) → IsStep hash room.spot.place.s p1.stripes p2.stripes call reply → HasDone hash v.settings call1 reply p2
   does_there = does_since p p1 is has.stays has.held.s has.held.renewed p2 same named
 
-  pub says_there : {z : PassState V} → ((r : Reply V) → HasDone hash v.settings call1 r p2 → IsAnswered call1 r p2 z) → (reply : Reply V) → IsStep hash room.spot.place.s p1.stripes p2.stripes call reply → IsAnsweredBut has.more call reply p z
+  pub says_there : {z : PassState V} → ((r : Reply V) → HasDone hash v.settings call1 r p2 → IsAnswered call1 r (as_doubled p2 z) z) → (reply : Reply V) → IsStep hash room.spot.place.s p1.stripes p2.stripes call reply → IsAnsweredBut has.more call reply (as_doubled p z) z
   says_there = says_since p p1 is has.stays has.held.s has.held.renewed p2 same named
 
 -- what is said of a value, and of none

@@ -22,7 +22,7 @@ use Rattle.ck_section.proofs.Tables.{power_same}
 use Rattle.ck_core.specs.declared.view.View.{View}
 use Rattle.ck_words.specs.Words.{WordsState}
 use Rattle.ck_words.specs.Passes.{PassState}
-use Rattle.ck_words.specs.Retries.{Stays}
+use Rattle.ck_words.specs.Retries.{Stays, as_doubled}
 use Rattle.ck_words.specs.Holding.{HasReleased, AreOfPower, IsDoubledBy}
 use Rattle.ck_words.specs.Renewing.{HasRenewed}
 use Rattle.ck_words.specs.Closing.{IsWhole}
@@ -31,6 +31,7 @@ use Rattle.ck_words.proofs.Staying.{stays_on}
 use Rattle.cuckoo_map.specs.declared.refusal.GrowFault.TheVariants.{Busy, Memory}
 use Rattle.cuckoo_map.specs.Refusals.{IsStripeIn, IsBusyAmong}
 use Rattle.cuckoo_map.specs.Growth.{Rehashes}
+use Rattle.cuckoo_map.proofs.Counted.{stays_counting}
 
 module _ {V : Type 0} (s : ℕ) where
   -- All stripes of a table were settled.
@@ -79,8 +80,8 @@ module _ {V : Type 0} (s : ℕ) where
 -- What a call that was to grow a table to a power says of it.
 module _ {V : Type 0} (set : Settings) (power : ℕ) (p z : PassState V) where
   module _ (inside : power ≤ set.max) where
-    pub refused_busy : (t : ℕ) → IsBusyAmong (IsStripeIn set) set t p z → z.view.doublings ≡ p.view.doublings → Rehashes set power (Err (Busy t)) p z
-    refused_busy t busy same_count = record {
+    pub refused_busy : (t : ℕ) → IsBusyAmong (IsStripeIn set) set t p z → Rehashes set power (Err (Busy t)) p z
+    refused_busy t busy = let same_count = busy.stays.doublings in record {
       over_max = ((λ e. absurd (cc)), (λ l. absurd (omega arith)));
       unchanged = λ e. absurd (cc);
       told = tt;
@@ -134,8 +135,9 @@ module _ {V : Type 0} {v w : WordsState} (is : v ≡ w) (p1 p2 : PassState V) (v
   pub renewed_by : {hash : Name → ℕ} {s power : ℕ} → s ≡ w.settings.s → power ≤ w.settings.max → IsWhole hash w.settings p1 → Keeps s hash power p1.stripes p2.stripes → HasRenewed hash v.settings p2
   renewed_by {hash} s_is inside whole keeps = subst (λ (x : WordsState). HasRenewed hash x.settings p2) (sym is) (renewed_there s_is inside whole keeps)
 
-  pub stays_home : (p z : PassState V) → Stays p.view p1.view → HasReleased v p2 z → Stays p.view z.view
-  stays_home p z stays home = stays_on p.view p1.view z.view stays (subst (λ (u : View V). Stays u z.view) view home.stays)
+  pub stays_home : (p z : PassState V) → Stays p.view p1.view → HasReleased v (as_doubled p2 z) z → Stays (as_doubled p z).view z.view
+  stays_home p z stays home =
+      stays_on (as_doubled p z).view (as_doubled p1 z).view z.view (stays_counting z.view.doublings stays) (subst (λ (u : View V). Stays (record u { doublings = z.view.doublings }) z.view) view home.stays)
 
 -- stripes that are lawful have the power of the first
 one_of_power : {V : Type 0} (k : Layout) (ss : List (StripeState V)) → Lawful k (contents_of ss) → AreOfPower (power_in ss) ss

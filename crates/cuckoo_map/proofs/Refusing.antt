@@ -22,6 +22,7 @@ use Rattle.cuckoo_map.specs.declared.refusal.Why.TheVariants.{Busy}
 use Rattle.cuckoo_map.specs.Holding.{HoldsKeyBut}
 use Rattle.cuckoo_map.specs.Refusals.{FindsOwn, FindsOwnUnlessFull, IsBusyAmong, IsBusyAt, IsRefused}
 use Rattle.cuckoo_map.specs.Insertions.{HasFoundNoRoom}
+use Rattle.cuckoo_map.proofs.Counted.{loosely, grown_none}
 
 module _ {V : Type 0} where
   -- where the name has no room among the stripes that its pass holds, the pass may say so
@@ -41,9 +42,10 @@ module _ {V : Type 0} where
   pub refused_among : (P : ℕ → Type 0) (hash : Name → ℕ) (set : Settings) → ((t : ℕ) → P t → t < 2 ^ set.s) → (q : Name) (t : ℕ) (p z : PassState V) → IsBusyAmong P set t p z → IsRefused hash set q (Busy t) p z
   refused_among P hash set below q t p z busy = record {
     more = [];
-    stays = busy.stays;
+    stays = loosely busy.stays;
     own = All-nil _;
-    shown = (below t busy.stripe, busy.tried, busy.others);
+    shown = (below t busy.stripe, busy.tried, busy.others, busy.stays.doublings);
+    grown = grown_none p z busy.stays.doublings;
   }
 
   pub refused_busy : (hash : Name → ℕ) (set : Settings) (q : Name) (t : ℕ) (p z : PassState V) → IsBusyAt hash set q t p z → IsRefused hash set q (Busy t) p z

@@ -1,11 +1,12 @@
 -- Room for a name: which stripes are held with it, and what is left of a pass that made it among all of the table.
-use Rattle.std.proofs.Common.{◌≡◌, ◌⊎◌, ℕ, List, [], ◌∷◌, reverse, refl, inr, sym, ap, ◌∙◌, subst, arith}
+use Rattle.std.proofs.Common.{◌≡◌, ◌⊎◌, ℕ, ◌<◌, ◌≤◌, List, [], ◌∷◌, reverse, refl, inr, sym, ap, ◌∙◌, subst, arith}
 use Rattle.std.proofs.lemmas.List.Elements.{All-nil, All-cons}
+use Rattle.std.proofs.lemmas.Nat.{pow_pos}
 use Rattle.ck_model.specs.declared.history.Reason.{Reason}
 use Rattle.ck_model.specs.declared.history.Reason.TheVariants.{NoRoom}
 use Rattle.ck_model.specs.declared.settings.Settings.{Settings}
-use Rattle.ck_model.specs.Promise.{Name}
-use Rattle.ck_model.specs.Contents.{Layout, layout, layout_of, Stripes, Lawful}
+use Rattle.ck_model.specs.Promise.{Name, After}
+use Rattle.ck_model.specs.Contents.{Layout, layout, layout_of, Stripes, Lawful, bindings, power_of}
 use Rattle.ck_model.specs.Paths.{Grounds, HasNoRoom}
 use Rattle.ck_stripe.specs.Stripe.{StripeState}
 use Rattle.ck_section.specs.declared.room.Lack as lack
@@ -13,19 +14,23 @@ use Rattle.ck_section.specs.declared.room.Lack.TheVariants.{Memory, Full, LoadTo
 use Rattle.ck_section.specs.Stripes.{contents_of}
 use Rattle.ck_section.specs.Calls.{IsWithoutRoom}
 use Rattle.ck_section.specs.Whole.{AreAllHeld, AreSettled, IsTable}
-use Rattle.ck_section.specs.Room.{reason_of_lack, KeepsBindings, MakesRoom, GivesReason}
+use Rattle.ck_section.specs.Room.{reason_of_lack, power_in, KeepsBindings, MakesRoom, GivesReason, GrowsForRoom}
 use Rattle.ck_core.specs.declared.view.View.{View}
 use Rattle.ck_words.specs.Words.{WordsState}
 use Rattle.ck_words.specs.Passes.{PassState}
-use Rattle.ck_words.specs.Retries.{Stays}
+use Rattle.ck_words.specs.Retries.{Stays, as_doubled}
 use Rattle.ck_words.specs.Renewing.{HasRenewed, HasRefused}
 use Rattle.ck_words.specs.Closing.{IsWhole}
-use Rattle.ck_words.proofs.Staying.{stays_then}
+use Rattle.ck_words.proofs.Staying.{stays_same, stays_then}
+use Rattle.ck_words.proofs.Reversed.{held_reverse}
 use Rattle.ck_words.proofs.WholeTables.{lawful_held}
 use Rattle.ck_words.proofs.Renewals.{renewed_none, renewed_then}
 use Rattle.cuckoo_map.specs.declared.key_room.Room.{Room}
 use Rattle.cuckoo_map.specs.Refusals.{reason_of, why_of, GivesGrounds, ShowsWhy, IsRefused}
+use Rattle.cuckoo_map.specs.Needed.{NeedsToGrow, HasGrownFor, HoldsGrown}
 use Rattle.cuckoo_map.specs.Insertions.{HoldsRoom, HasRoom}
+use Rattle.cuckoo_map.proofs.Counted.{power_first, one_of_lawful, stays_counting, grown_since}
+use Rattle.cuckoo_map.proofs.Sessions.{after_all}
 
 -- the reason of a refusal for a lack is that of the lack
 reason_same : (l : lack.Lack) → reason_of (why_of l) ≡ reason_of_lack l
@@ -57,15 +62,16 @@ module _ {V : Type 0} where
     room_there held = record { more = []; own = All-nil _; stays = stays_there; held = held }
 
     -- none could be made, and they went home
-    pub refused_there : (hash : Name → ℕ) (set : Settings) (q : Name) (w : WordsState) (l : lack.Lack) (z : PassState V) → HasRefused w q (reason_of_lack l) p2 z → GivesGrounds hash set q (reason_of_lack l) z → IsRefused hash set q (why_of l) p z
-    refused_there hash set q w l z r grounds =
+    pub refused_there : (hash : Name → ℕ) (set : Settings) (q : Name) (w : WordsState) (l : lack.Lack) (z : PassState V) → HasRefused w q (reason_of_lack l) (as_doubled p2 z) z → GivesGrounds hash set q (reason_of_lack l) z → HasGrownFor hash set q p2 z → IsRefused hash set q (why_of l) p z
+    refused_there hash set q w l z r grounds grown =
         let why : Reason = reason_of_lack l in
         let Own : Name × Reason → Type 0 = λ x. (x ≡ (q, NoRoom)) ⊎ (x ≡ (q, reason_of (why_of l))) in
         record {
           more = (q, why) ∷ [];
-          stays = stays_then [] ((q, why) ∷ []) p.view p2.view z.view stays_there r.stays;
+          stays = stays_then [] ((q, why) ∷ []) (as_doubled p z).view (as_doubled p2 z).view z.view (stays_counting z.view.doublings stays_there) r.stays;
           own = All-cons Own (q, why) [] (inr (ap (λ (x : Reason). (q, x)) (sym (reason_same l)))) (All-nil Own);
           shown = shows_lack hash set q l p z grounds;
+          grown = grown_since p p2 z stays_there grown;
         }
 
   -- All stripes were taken as p1, where w and v are one table.
@@ -92,3 +98,20 @@ module _ {V : Type 0} where
       pub grounds_there : (l : lack.Lack) → GivesReason k set.min_load p1.stripes p2.stripes q l
           → Lawful (layout_of hash w.settings) (reverse p2.view.held) → Grounds (layout_of hash w.settings) w.settings.min_load (contents_of p2.stripes) q (reason_of_lack l)
       grounds_there l refused held = subst (λ (x : Settings). Grounds (layout_of hash x) x.min_load (contents_of p2.stripes) q (reason_of_lack l)) set_is (refused lawful_taken)
+
+      -- they doubled for want of room for the name alone
+      pub grown_there : IsTable w.settings.s p1.stripes → IsTable set.s p2.stripes → GrowsForRoom k set.min_load p1.stripes p2.stripes q → HoldsGrown hash w.settings q p2
+      grown_there table table2 grows =
+          let as_taken : contents_of p1.stripes ≡ reverse p2.view.held = whole.unchanged ∙ ap (λ (v : View V). reverse v.held) (sym same) in
+          let first : power_of (contents_of p1.stripes) ≡ power_in p1.stripes = power_first p1.stripes (subst (λ n. 0 < n) (sym table.count) (pow_pos w.settings.s)) in
+          let last : power_of (contents_of p2.stripes) ≡ power_in p2.stripes = power_first p2.stripes (subst (λ n. 0 < n) (sym table2.count) (pow_pos set.s)) in
+          let taken : power_of (reverse p2.view.held) ≡ power_in p1.stripes = ap (λ (hs : Stripes V). power_of hs) (sym as_taken) ∙ first in
+          let old : Lawful k (reverse p2.view.held) = subst (λ (hs : Stripes V). Lawful k hs) as_taken lawful_taken in
+          record {
+            before = λ t c h. one_of_lawful k (reverse p2.view.held) old t c (held_reverse p2.view.held t c h);
+            now = one_of_lawful k (contents_of p2.stripes) (keeps lawful_taken).renewed.lawful;
+            after = λ l. subst (λ (v : View V). After v.seen (bindings (reverse v.held))) (sym same) (after_all hash w p1 p1 (stays_same p1.view) whole);
+            needed = λ power least below.
+                subst (λ (x : Settings × Stripes V). NeedsToGrow hash x.0 q x.1 power) (λ j. (set_is j, as_taken j))
+                (grows lawful_taken power (let l : power_in p1.stripes ≤ power = omega arith in l) (let l : power < power_in p2.stripes = omega arith in l));
+          }

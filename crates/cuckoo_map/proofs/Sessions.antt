@@ -1,5 +1,5 @@
 -- All stripes in one list, from the lock of a table to its end.
-use Rattle.std.proofs.Common.{◌≡◌, ℕ, suc, ◌*◌, ◌^◌, ◌<◌, ◌≤◌, List, [], ◌∷◌, length, get_or, reverse, inr, ⊎_elim, refl, sym, ap, ◌∙◌, subst, arith, Some, None, Result, OnOk, IfErr, ◌++◌, take, drop, Ok, Err, OnErr, IfOk}
+use Rattle.std.proofs.Common.{◌≡◌, ℕ, suc, ◌+◌, ◌-◌, ◌*◌, ◌^◌, ◌<◌, ◌≤◌, List, [], ◌∷◌, length, get_or, reverse, inr, ⊎_elim, refl, sym, ap, ◌∙◌, subst, arith, Some, None, Result, OnOk, IfErr, ◌++◌, take, drop, Ok, Err, OnErr, IfOk}
 use Rattle.std.proofs.Math.Pow.{pow_mono}
 use Rattle.std.proofs.lemmas.List.{length-map, take-append-le, take_all}
 use Rattle.std.proofs.lemmas.Nat.{pow_pos}
@@ -42,15 +42,17 @@ use Rattle.ck_words.specs.Words.{WordsState}
 use Rattle.ck_words.specs.Passes.{EachOf, PassState, IsPassOf, numbers_of}
 use Rattle.ck_words.specs.Retries.{Stays, FindsAmong}
 use Rattle.ck_words.specs.Closing.{IsWhole, IsCaller}
+use Rattle.ck_words.specs.Holding.{IsDoubledBy}
 use Rattle.ck_words.specs.Commits.{session_of}
 use Rattle.ck_words.specs.Answering.{HasDone}
 use Rattle.ck_model.proofs.Counting.{length-counting, counting-at}
-use Rattle.ck_words.proofs.Reversed.{in_of_reverse, bindings-reverse}
+use Rattle.ck_words.proofs.Reversed.{in_of_reverse, bindings-reverse, lawful_reverse, held_reverse}
 use Rattle.ck_words.proofs.Seating.{length-numbers, number_at}
 use Rattle.ck_words.proofs.WholeTables.{lawful_held}
 use Rattle.cuckoo_map.specs.Refusals.{IsStripeIn, why_of}
 use Rattle.cuckoo_map.specs.Locking.{LockedState, locked_of, map_of, IsSameSession, IsLocked, HasLocked, HasActed, Clears, Lists, KeepsMap, LacksRoom, SeeksRoom, Retains}
 use Rattle.cuckoo_map.proofs.Sizes.{renewed_same, has_all, few_of_each}
+use Rattle.cuckoo_map.proofs.Counted.{one_of_lawful}
 
 same_list : (xs ys : List ℕ) → length xs ≡ length ys → ((i : ℕ) → i < length xs → get_or xs i 0 ≡ get_or ys i 0) → xs ≡ ys
 same_list [] [] e f = refl
@@ -209,6 +211,13 @@ module _ {V : Type 0} where
     session_done q same = subst (λ (x : PassState V). HasDone hash w.settings (session_of x) Closed x) (sym same)
         (λ lawful. record { renewed = l.renewed; owns = had_all hash w p l; step = (refl, refl, refl) })
 
+    -- the doublings that were made meanwhile
+    pub session_counted : (z : PassState V) → IsDoubledBy p z → z.view.doublings ≡ p.view.doublings + (power_of (contents_of p.stripes) - power_of (reverse p.view.held))
+    session_counted z doubled =
+        let k : Layout = layout_of hash w.settings in
+        doubled (power_of (reverse p.view.held)) (power_of (contents_of p.stripes))
+        (λ t c h. one_of_lawful k (reverse p.view.held) (lawful_reverse k p.view.held l.shows.lawful) t c (held_reverse p.view.held t c h)) (one_of_lawful k (contents_of p.stripes) l.renewed.lawful)
+
   pub has_locked : (hash : Name → ℕ) (w : WordsState) (p p1 : PassState V) → IsCaller w p → Stays p.view p1.view → IsWhole hash w.settings p1 → FindsAmong (IsStripeIn w.settings) p p1 → HasLocked w p (locked_of w p1)
   has_locked hash w p p1 caller stays whole found = record {
     table = refl;
@@ -223,10 +232,12 @@ module _ {V : Type 0} where
       by_others = stays.by_others;
       alone = stays.alone;
       told = stays.told;
+      doublings = stays.doublings;
     };
     found = found;
     after = after_all hash w p p1 stays whole;
     same = ap bindings whole.unchanged;
+    power = ap power_of whole.unchanged;
   }
 
   -- a place among the stripes that s shows is one among those that are held

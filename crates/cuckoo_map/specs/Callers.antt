@@ -13,7 +13,7 @@ use Rattle.ck_model.specs.Promise.{Name, Map, Client, Replied, ListsInOrder}
 use Rattle.ck_core.specs.State.{client_of}
 use Rattle.ck_words.specs.Words.{WordsState}
 use Rattle.ck_words.specs.Passes.{PassState}
-use Rattle.ck_words.specs.Retries.{Stays, FindsAmong}
+use Rattle.ck_words.specs.Retries.{Stays, as_doubled, FindsAmong}
 use Rattle.ck_words.specs.Meeting.{MessageState, Hears}
 use Rattle.cuckoo_map.specs.declared.refusal.Busy.{Busy}
 use Rattle.cuckoo_map.specs.declared.refusal.DrainFault.{DrainFault}
@@ -22,6 +22,7 @@ use Rattle.cuckoo_map.specs.declared.refusal.GrowFault.{GrowFault}
 use Rattle.cuckoo_map.specs.declared.refusal.Refused.{Refused}
 use Rattle.cuckoo_map.specs.Refusals.{IsStripeIn, IsStripeOfEither, FindsOwn, FindsOwnUnlessFull, IsBusyAmong, IsBusyAt}
 use Rattle.cuckoo_map.specs.Notes.{Notes, notes_of, idle_pass}
+use Rattle.cuckoo_map.specs.Needed.{HasGrownFor}
 use Rattle.cuckoo_map.specs.Insertions.{HandsBack}
 use Rattle.cuckoo_map.specs.Growth.{Rehashes, Reserves}
 
@@ -68,17 +69,22 @@ module _ {V : Type 0} where
     pub heard : (d.notes.heard ≡ c.notes.heard) × (d.notes.heard_told ≡ c.notes.heard_told)
     pub noroom : d.notes.noroom ≡ more ++ c.notes.noroom
 
-  -- and it has said so of none more
+  -- and it has said so of none more, and made no doubling
   abbrev pub KeepsNotes : CallerState V → CallerState V → Type 0
-  KeepsNotes = KeepsNotesBut []
+  KeepsNotes c d = KeepsNotesBut [] c d × (d.notes.doublings ≡ c.notes.doublings)
 
-  -- and it has said nothing but that the buckets of this name were full
-  abbrev pub NotesFull : Name → CallerState V → CallerState V → Type 0
-  NotesFull q c d = (more : List (Name × Reason)) × All (λ x. x ≡ (q, NoRoom)) more × KeepsNotesBut more c d
+  -- and it has said nothing but that the buckets of this name were full, and made no doubling that the name didn't need
+  abbrev pub NotesFull : (Name → ℕ) → Name → CallerState V → CallerState V → Type 0
+  NotesFull hash q c d =
+      (more : List (Name × Reason)) × All (λ x. x ≡ (q, NoRoom)) more × KeepsNotesBut more c d × HasGrownFor hash c.table.settings q (pass_of c) (pass_of d)
 
   -- nothing changed but what it was told, found and saw of others
   abbrev pub StaysAsIs : CallerState V → CallerState V → Type 0
   StaysAsIs c d = Stays (pass_of c).view (pass_of d).view
+
+  -- and how often it made the table double
+  abbrev pub StaysDoubled : CallerState V → CallerState V → Type 0
+  StaysDoubled c d = Stays (as_doubled (pass_of c) (pass_of d)).view (pass_of d).view
 
   -- what it tells others
   abbrev pub message_of_caller : CallerState V → MessageState V

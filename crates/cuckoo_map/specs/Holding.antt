@@ -15,6 +15,7 @@ use Rattle.ck_words.specs.StripeNumbers.{own_numbers}
 use Rattle.ck_words.specs.StripeSets.{list_of}
 use Rattle.ck_words.specs.Retries.{StaysBut}
 use Rattle.cuckoo_map.specs.declared.holding.Home.{Home}
+use Rattle.cuckoo_map.specs.Needed.{HaveOnePower}
 
 -- the hash of the name, and its stripes
 pub record IsHomeOf (hash : Name → ℕ) (set : Settings) (q : Name) (home : Home) : Type 0 where
@@ -32,6 +33,7 @@ module _ {V : Type 0} where
     pub at : IsPlaceOf hash p2.stripes q place
     pub s : place.s ≡ set.s
     pub unchanged : IsUnchanged p2
+    pub one_power : HaveOnePower p2.stripes
 
   -- and it has said so of none more
   abbrev pub HoldsKey : (Name → ℕ) → Settings → Name → KeyPlace → PassState V → PassState V → Type 0

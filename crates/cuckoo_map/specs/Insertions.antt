@@ -12,10 +12,11 @@ use Rattle.ck_section.specs.Places.{IsPlaceOf}
 use Rattle.ck_section.specs.Entries.{IsEntryOf}
 use Rattle.cuckoo_map.specs.declared.key_room.Room.{Room}
 use Rattle.ck_words.specs.Passes.{PassState}
-use Rattle.ck_words.specs.Retries.{StaysBut}
+use Rattle.ck_words.specs.Retries.{StaysBut, as_doubled}
 use Rattle.ck_words.specs.Answering.{IsAnsweredBut}
 use Rattle.ck_words.specs.Renewing.{HasRenewed}
 use Rattle.cuckoo_map.specs.declared.refusal.Refused.{Refused}
+use Rattle.cuckoo_map.specs.Needed.{HasGrownFor, HoldsGrown}
 use Rattle.cuckoo_map.specs.Refusals.{FindsOwnUnlessFull, IsRefused}
 
 module _ {V : Type 0} where
@@ -23,10 +24,10 @@ module _ {V : Type 0} where
   abbrev pub HasFoundNoRoom : Name → PassState V → PassState V → Type 0
   HasFoundNoRoom q p p2 = StaysBut ((q, reason.NoRoom) ∷ []) p.view p2.view
 
-  -- The insertion is answered: it was this act on the name, with this reply. It has said nothing of room but that its name's buckets were full.
-  abbrev pub IsInserted : Name → PassState V → PassState V → Act V → Reply V → Type 0
-  IsInserted q p p2 act reply =
-      (more : List (Name × history.Reason)) × All (λ x. x ≡ (q, reason.NoRoom)) more × IsAnsweredBut more (On q act) reply p p2
+  -- The insertion is answered: it was this act on the name, with this reply. It has said nothing of room but that its name's buckets were full, and has made no doubling that its name didn't need.
+  abbrev pub IsInserted : (Name → ℕ) → Settings → Name → PassState V → PassState V → Act V → Reply V → Type 0
+  IsInserted hash set q p p2 act reply =
+      (more : List (Name × history.Reason)) × All (λ x. x ≡ (q, reason.NoRoom)) more × IsAnsweredBut more (On q act) reply (as_doubled p p2) p2 × HasGrownFor hash set q p p2
 
   -- The answer tells of an act with a reply that was done.
   abbrev pub TellsOf : {A : Type 0} → (A → Act V → Reply V → Type 0) → (Act V → Reply V → Type 0) → A → Type 0
@@ -40,6 +41,7 @@ module _ {V : Type 0} where
     pub entry : IsEntryOf hash p.stripes q room.spot.place room.entry
     pub no_spare : HaveNoSpare p.stripes
     pub renewed : HasRenewed hash set p
+    pub grown : HoldsGrown hash set q p
 
   -- Since p the pass has taken stripes, with an entry of the name among them. It has said nothing of room but that its name's buckets were full.
   pub record HasRoom (hash : Name → ℕ) (set : Settings) (q : Name) (room : Room) (p p2 : PassState V) : Type 0 where
@@ -54,6 +56,6 @@ module _ {V : Type 0} where
 
   -- Since p an insertion came to an answer, which tells what it did, or was refused. It found no stripe held but its own, or any once its name's buckets were full.
   pub record HasPlaced {K X A : Type 0} (tells : A → Act V → Reply V → Type 0) (hash : Name → ℕ) (set : Settings) (q : Name) (key : K) (x : X) (result : Result A (Refused K X)) (p p2 : PassState V) : Type 0 where
-    pub answered : IfOk result (TellsOf tells (IsInserted q p p2))
+    pub answered : IfOk result (TellsOf tells (IsInserted hash set q p p2))
     pub refused : IfErr result (HandsBack hash set q key x p p2)
     pub found : FindsOwnUnlessFull hash set q p p2

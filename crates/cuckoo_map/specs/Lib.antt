@@ -6,6 +6,7 @@ pub mod Displacing
 pub mod Growth
 pub mod Callers
 pub mod Locking
+pub mod Needed
 pub use Rattle.ck_model.specs.Promise
 pub use Rattle.ck_model.specs.Ranges
 pub use Rattle.ck_section.specs.Acts

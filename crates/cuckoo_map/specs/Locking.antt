@@ -1,5 +1,5 @@
 -- The whole table under one caller.
-use Rattle.std.specs.Prelude.{◌≡◌, ◌↔◌, ℕ, ◌<◌, ◌≤◌, List, reverse, [], Some, Bool, true, false, Result, Ok, Err, OnOk, IfErr}
+use Rattle.std.specs.Prelude.{◌≡◌, ◌↔◌, ℕ, ◌+◌, ◌-◌, ◌<◌, ◌≤◌, List, reverse, [], Some, Bool, true, false, Result, Ok, Err, OnOk, IfErr}
 use Rattle.std.specs.FinMap.{empty, entries, from_entries}
 use Rattle.std.specs.Borrow.{Bor}
 use Rattle.std.specs.Fn.{Mut}
@@ -28,7 +28,7 @@ use Rattle.cuckoo_map.specs.declared.refusal.Why.{Why}
 use Rattle.cuckoo_map.specs.declared.refusal.Refused.{Refused}
 use Rattle.cuckoo_map.specs.Refusals.{IsStripeIn, why_of}
 use Rattle.cuckoo_map.specs.Growth.{IsLeastPower}
-use Rattle.cuckoo_map.specs.Callers.{CallerState, caller_of, pass_of}
+use Rattle.cuckoo_map.specs.Callers.{CallerState, caller_of, pass_of, KeepsNotesBut}
 
 -- Its caller, what all stripes contained when it locked the table, and the stripes.
 pub record LockedState (V : Type 0) : Type 0 where
@@ -61,6 +61,10 @@ module _ {V : Type 0} where
   abbrev pub EndsSession : LockedState V → Client V → Type 0
   EndsSession l d = (by : ℕ) × (l.caller.client.by ≡ Some by) × Follows l.caller.client (record { by = by; call = session_call l; reply = Closed }) d
 
+  -- it keeps its notes, and the doublings of the session are counted
+  abbrev pub EndsNotes : LockedState V → CallerState V → Type 0
+  EndsNotes l d = KeepsNotesBut [] l.caller d × (d.notes.doublings ≡ l.caller.notes.doublings + (locked_power l - power_of l.before))
+
   -- from l to m nothing but the stripes may have changed
   abbrev pub IsSameSession : LockedState V → LockedState V → Type 0
   IsSameSession l m = m ≡ record l { stripes = m.stripes }
@@ -82,6 +86,7 @@ module _ {V : Type 0} where
     pub found : FindsAmong (IsStripeIn w.settings) p (pass_of l.caller)
     pub after : After l.caller.client.seen (start_of l)
     pub same : map_of l ≡ start_of l
+    pub power : locked_power l ≡ power_of l.before
 
   -- From l to m the map went by a call on a name with this reply.
   pub record HasActed (q : Name) (l m : LockedState V) (act : Act V) (reply : Reply V) : Type 0 where

@@ -11,7 +11,8 @@ use Rattle.ck_section.specs.declared.room.Lack.TheVariants as lack
 use Rattle.cuckoo_map.specs.declared.refusal.Why.{Why}
 use Rattle.cuckoo_map.specs.declared.refusal.Why.TheVariants.{Busy, Memory, Full, LoadTooLow}
 use Rattle.ck_words.specs.Passes.{PassState}
-use Rattle.ck_words.specs.Retries.{StaysBut, Stays, FindsAmong, FindsLast}
+use Rattle.ck_words.specs.Retries.{StaysBut, Stays, as_doubled, FindsAmong, FindsLast}
+use Rattle.cuckoo_map.specs.Needed.{HasGrownFor}
 
 -- a stripe of the table
 abbrev pub IsStripeIn : Settings → ℕ → Type 0
@@ -65,9 +66,9 @@ module _ {V : Type 0} where
     pub after : After p.view.seen (bindings contents)
     pub power : p.view.told ≡ power_of contents
 
-  -- what was found, or said of room and why, where an insertion is refused for this reason
+  -- what was found, or said of room and why, where an insertion is refused for this reason; a busy one has made no doubling
   abbrev pub ShowsWhy : (Name → ℕ) → Settings → Name → Why → List (Name × history.Reason) → PassState V → PassState V → Type 0
-  ShowsWhy hash set q (Busy t) more p p2 = (t < 2 ^ set.s) × FindsLast set.turns t p p2 × (set.callers ≢ 1)
+  ShowsWhy hash set q (Busy t) more p p2 = (t < 2 ^ set.s) × FindsLast set.turns t p p2 × (set.callers ≢ 1) × (p2.view.doublings ≡ p.view.doublings)
   ShowsWhy hash set q Memory more p p2 = Contains more (q, reason.Memory) × GivesGrounds hash set q reason.Memory p2
   ShowsWhy hash set q Full more p p2 = Contains more (q, reason.Full) × GivesGrounds hash set q reason.Full p2
   ShowsWhy hash set q LoadTooLow more p p2 = Contains more (q, reason.LoadTooLow) × GivesGrounds hash set q reason.LoadTooLow p2
@@ -75,6 +76,7 @@ module _ {V : Type 0} where
   -- The insertion was refused for this reason, and has no entry. It has said nothing of room but that its name's buckets were full, and the reason.
   pub record IsRefused (hash : Name → ℕ) (set : Settings) (q : Name) (why : Why) (p p2 : PassState V) : Type 0 where
     pub more : List (Name × history.Reason)
-    pub stays : StaysBut more p.view p2.view
+    pub stays : StaysBut more (as_doubled p p2).view p2.view
     pub own : All (λ x. (x ≡ (q, reason.NoRoom)) ⊎ (x ≡ (q, reason_of why))) more
     pub shown : ShowsWhy hash set q why more p p2
+    pub grown : HasGrownFor hash set q p p2

@@ -72,7 +72,7 @@ impl<'t, K: TableKey + Drop, V: Drop> Caller<'t, K, V> {
     ghost use Rattle.ck_section.specs.Acts.{Finds, FindsBound, FindsBy, Inserts, InsertsBy, FindsOrInserts};
     ghost use Rattle.ck_section.specs.Acts.{Assigns, Upserts, Uprases, TriesUpsert, Updates, Changes};
     ghost use Rattle.ck_section.specs.Acts.{ReplacesIf, TriesChange, Erases, ErasesBy, ChangesTwo};
-    ghost use Rattle.cuckoo_map.specs.Callers.{pass_of, IsSameCaller, Replies, RepliesOn, KeepsNotes, NotesFull, StaysAsIs, MeetsCaller, HearsMessage, message_of_caller};
+    ghost use Rattle.cuckoo_map.specs.Callers.{pass_of, IsSameCaller, Replies, RepliesOn, KeepsNotes, NotesFull, StaysAsIs, StaysDoubled, MeetsCaller, HearsMessage, message_of_caller};
     ghost use Rattle.cuckoo_map.specs.Callers.{Counts, GrowsTo, GrowsFor, ComesBack, IsBusyOn, IsBusyOnTwo};
     ghost use Rattle.cuckoo_map.specs.Callers.{IsBusyOnSome, IsBusyOnAny, FindsHeldOwn, FindsHeldUnlessFull};
     ghost use Rattle.cuckoo_map.specs.Callers.{FindsHeldOfTwo, FindsHeldAmong, FindsHeldOfAny};
@@ -174,7 +174,7 @@ impl<'t, K: TableKey + Drop, V: Drop> Caller<'t, K, V> {
     pub fn insert(&mut self, key: K, value: V) -> Result<bool, Refused<K, V>>
         ensures same { IsSameCaller self.old self.new }
         ensures answered { IfOk result (Inserts value (RepliesOn (K.name key) self.old self.new)) }
-        ensures notes { OnOk result (NotesFull (K.name key) self.old self.new) }
+        ensures notes { OnOk result (NotesFull K.hash (K.name key) self.old self.new) }
         ensures refused { IfErr result (ComesBack K.hash (K.name key) key value self.old self.new) }
         ensures found { FindsHeldUnlessFull K.hash (K.name key) self.old self.new }
     {
@@ -192,7 +192,7 @@ impl<'t, K: TableKey + Drop, V: Drop> Caller<'t, K, V> {
     pub fn insert_or_assign(&mut self, key: K, value: V) -> Result<Option<V>, Refused<K, V>>
         ensures same { IsSameCaller self.old self.new }
         ensures answered { IfOk result (Assigns value (RepliesOn (K.name key) self.old self.new)) }
-        ensures notes { OnOk result (NotesFull (K.name key) self.old self.new) }
+        ensures notes { OnOk result (NotesFull K.hash (K.name key) self.old self.new) }
         ensures refused { IfErr result (ComesBack K.hash (K.name key) key value self.old self.new) }
         ensures found { FindsHeldUnlessFull K.hash (K.name key) self.old self.new }
     {
@@ -219,7 +219,7 @@ impl<'t, K: TableKey + Drop, V: Drop> Caller<'t, K, V> {
         ensures same { IsSameCaller self.old self.new }
         ensures answered { IfOk result (
             Upserts (F.post f) value (RepliesOn (K.name key) self.old self.new)) }
-        ensures notes { OnOk result (NotesFull (K.name key) self.old self.new) }
+        ensures notes { OnOk result (NotesFull K.hash (K.name key) self.old self.new) }
         ensures refused { IfErr result (ComesBack K.hash (K.name key) key value self.old self.new) }
         ensures found { FindsHeldUnlessFull K.hash (K.name key) self.old self.new }
     {
@@ -257,7 +257,7 @@ impl<'t, K: TableKey + Drop, V: Drop> Caller<'t, K, V> {
         ensures same { IsSameCaller self.old self.new }
         ensures answered { IfOk result (
             TriesUpsert (F.post f) value (RepliesOn (K.name key) self.old self.new)) }
-        ensures notes { OnOk result (NotesFull (K.name key) self.old self.new) }
+        ensures notes { OnOk result (NotesFull K.hash (K.name key) self.old self.new) }
         ensures refused { IfErr result (ComesBack K.hash (K.name key) key value self.old self.new) }
         ensures found { FindsHeldUnlessFull K.hash (K.name key) self.old self.new }
     {
@@ -282,7 +282,7 @@ impl<'t, K: TableKey + Drop, V: Drop> Caller<'t, K, V> {
         ensures same { IsSameCaller self.old self.new }
         ensures answered { IfOk result (
             InsertsBy (F.post f) (RepliesOn (K.name key) self.old self.new)) }
-        ensures notes { OnOk result (NotesFull (K.name key) self.old self.new) }
+        ensures notes { OnOk result (NotesFull K.hash (K.name key) self.old self.new) }
         ensures refused { IfErr result (
             ComesBack K.hash (K.name key) key f self.old self.new) }
         ensures found { FindsHeldUnlessFull K.hash (K.name key) self.old self.new }
@@ -314,7 +314,7 @@ impl<'t, K: TableKey + Drop, V: Drop> Caller<'t, K, V> {
         ensures same { IsSameCaller self.old self.new }
         ensures answered { IfOk result (
             Uprases (F.post f) value (RepliesOn (K.name key) self.old self.new)) }
-        ensures notes { OnOk result (NotesFull (K.name key) self.old self.new) }
+        ensures notes { OnOk result (NotesFull K.hash (K.name key) self.old self.new) }
         ensures refused { IfErr result (ComesBack K.hash (K.name key) key value self.old self.new) }
         ensures found { FindsHeldUnlessFull K.hash (K.name key) self.old self.new }
     {
@@ -340,7 +340,7 @@ impl<'t, K: TableKey + Drop, V: Drop> Caller<'t, K, V> {
         ensures same { IsSameCaller self.old self.new }
         ensures answered { IfOk result (
             FindsOrInserts (F.post f) (RepliesOn (K.name key) self.old self.new)) }
-        ensures notes { OnOk result (NotesFull (K.name key) self.old self.new) }
+        ensures notes { OnOk result (NotesFull K.hash (K.name key) self.old self.new) }
         ensures refused { IfErr result (
             ComesBack K.hash (K.name key) key f self.old self.new) }
         ensures found { FindsHeldUnlessFull K.hash (K.name key) self.old self.new }
@@ -593,7 +593,7 @@ impl<'t, K: TableKey + Drop, V: Drop> Caller<'t, K, V> {
     /// the table some times. It is `Table::rehash`.
     pub fn rehash(&mut self, power: u32) -> Result<bool, GrowFault>
         ensures same { IsSameCaller self.old self.new }
-        ensures stays { StaysAsIs self.old self.new }
+        ensures stays { StaysDoubled self.old self.new }
         ensures rehashed { GrowsTo power result self.old self.new }
         ensures found { FindsHeldOfAny self.old self.new }
     {
@@ -612,7 +612,7 @@ impl<'t, K: TableKey + Drop, V: Drop> Caller<'t, K, V> {
     /// ```
     pub fn reserve(&mut self, n: u64) -> Result<bool, GrowFault>
         ensures same { IsSameCaller self.old self.new }
-        ensures stays { StaysAsIs self.old self.new }
+        ensures stays { StaysDoubled self.old self.new }
         ensures reserved { GrowsFor n result self.old self.new }
         ensures found { FindsHeldOfAny self.old self.new }
     {

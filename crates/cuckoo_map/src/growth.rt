@@ -3,7 +3,7 @@ ghost use Rattle.std.specs.Prelude.{◌≡◌, ℕ, ◌≤◌, ◌<◌, IfOk, On
 ghost use Rattle.ck_model.specs.Contents.{layout};
 ghost use Rattle.ck_section.specs.Whole.{IsTable};
 ghost use Rattle.ck_section.specs.Room.{power_in, KeepsBindings};
-ghost use Rattle.ck_words.specs.Retries.{Stays, FindsAmong};
+ghost use Rattle.ck_words.specs.Retries.{Stays, as_doubled, FindsAmong};
 ghost use Rattle.ck_words.specs.Closing.{IsCaller};
 ghost use Rattle.cuckoo_map.specs.Refusals.{IsStripeIn};
 ghost use Rattle.cuckoo_map.specs.Growth.{IsLeastPower, Rehashes, Reserves};
@@ -28,7 +28,7 @@ impl<K: TableKey + Drop, V: Drop> Table<K, V> {
     pub fn rehash(&self, pass: &mut Pass<K, V>, power: u32) -> Result<bool, GrowFault>
         requires caller { IsCaller self.now pass.old }
         ensures caller { IsCaller self.now pass.new }
-        ensures stays { Stays pass.old.view pass.new.view }
+        ensures stays { Stays (as_doubled pass.old pass.new).view pass.new.view }
         ensures rehashed { Rehashes self.now.settings power result pass.old pass.new }
         ensures found { FindsAmong (IsStripeIn self.now.settings) pass.old pass.new }
     {
@@ -59,7 +59,7 @@ impl<K: TableKey + Drop, V: Drop> Table<K, V> {
     pub fn reserve(&self, pass: &mut Pass<K, V>, n: u64) -> Result<bool, GrowFault>
         requires caller { IsCaller self.now pass.old }
         ensures caller { IsCaller self.now pass.new }
-        ensures stays { Stays pass.old.view pass.new.view }
+        ensures stays { Stays (as_doubled pass.old pass.new).view pass.new.view }
         ensures reserved { Reserves self.now.settings n result pass.old pass.new }
         ensures found { FindsAmong (IsStripeIn self.now.settings) pass.old pass.new }
     {

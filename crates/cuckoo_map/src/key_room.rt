@@ -14,6 +14,7 @@ ghost use Rattle.ck_words.specs.Renewing.{HasRenewed};
 ghost use Rattle.ck_words.specs.Closing.{IsCaller, IsWhole};
 ghost use Rattle.cuckoo_map.specs.Refusals.{IsStripeIn, IsRefused};
 ghost use Rattle.cuckoo_map.specs.Insertions.{HoldsRoom, HasRoom};
+ghost use Rattle.cuckoo_map.specs.Needed.{HoldsGrown};
 
 use crate::holding::Spot;
 use crate::refusal::{Busy, Why};
@@ -69,6 +70,7 @@ impl<K: TableKey + Drop, V: Drop> Table<K, V> {
         ensures view { pass.new.view ≡ pass.old.view }
         ensures numbered { numbers_of pass.new.stripes ≡ counting 0 (2 ^ self.now.settings.s) }
         ensures renewed { HasRenewed K.hash self.now.settings pass.new }
+        ensures grown { HoldsGrown K.hash self.now.settings (K.name key.now) pass.new }
         ensures no_spare { HaveNoSpare pass.new.stripes }
         ensures all { IfOk result (λ room.
             list_of room.spot.stripes ≡ counting 0 (2 ^ self.now.settings.s)) }

@@ -18,8 +18,8 @@ ghost use Rattle.ck_core.specs.State.{client_of};
 ghost use Rattle.ck_words.specs.Retries.{FindsAmong};
 ghost use Rattle.ck_words.specs.Closing.{IsCaller};
 ghost use Rattle.cuckoo_map.specs.Refusals.{IsStripeIn, IsBusyAmong, why_of};
-ghost use Rattle.cuckoo_map.specs.Callers.{caller_of, IsSameCaller, KeepsNotes};
-ghost use Rattle.cuckoo_map.specs.Locking.{map_of, session_call, EndsSession, HasLocked, HasActed, GivesBack, Clears, Lists, KeepsMap, LacksRoom, SeeksRoom};
+ghost use Rattle.cuckoo_map.specs.Callers.{caller_of, IsSameCaller};
+ghost use Rattle.cuckoo_map.specs.Locking.{map_of, session_call, EndsSession, EndsNotes, HasLocked, HasActed, GivesBack, Clears, Lists, KeepsMap, LacksRoom, SeeksRoom};
 ghost use Rattle.cuckoo_map.specs.Insertions.{TellsOf};
 
 use crate::caller::Caller;
@@ -309,7 +309,7 @@ impl<'t, K: TableKey + Drop, V: Drop> LockedTable<'t, K, V> {
         ensures answered { Replied (session_call self.entry) Closed
             self.entry.caller.client (client_of result.view) }
         ensures follows { EndsSession self.entry (client_of result.view) }
-        ensures notes { KeepsNotes self.entry.caller (caller_of self.entry.caller.table result) }
+        ensures notes { EndsNotes self.entry (caller_of self.entry.caller.table result) }
         ensures found { result.view.found ≡ self.entry.caller.notes.found }
     {
         let LockedTable { table, whole } = self;
@@ -331,7 +331,7 @@ impl<'t, K: TableKey + Drop, V: Drop> LockedTable<'t, K, V> {
         ensures answered { Replied (session_call self.entry) Closed
             self.entry.caller.client result.client }
         ensures follows { EndsSession self.entry result.client }
-        ensures notes { KeepsNotes self.entry.caller result }
+        ensures notes { EndsNotes self.entry result }
         ensures found { result.notes.found ≡ self.entry.caller.notes.found }
     {
         let table = self.table;

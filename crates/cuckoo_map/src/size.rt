@@ -96,8 +96,6 @@ impl<K: TableKey + Drop, V: Drop> Table<K, V> {
         requires caller { IsCaller self.now pass.old }
         ensures own { IsPassOf self.now pass.new }
         ensures stays { Stays pass.old.view pass.new.view }
-        ensures doublings { OnOk result (pass.new.view.doublings ≡ pass.old.view.doublings) }
-        ensures kept { OnErr result (pass.new.view.doublings ≡ pass.old.view.doublings) }
         ensures whole { OnOk result (IsWhole K.hash self.now.settings pass.new) }
         ensures table { OnOk result (IsTable self.now.settings.s pass.new.stripes) }
         ensures settled { OnOk result (AreSettled pass.new.stripes) }

@@ -7,6 +7,6 @@ pub returns : goal.returns
 returns g c =
     let name = g.K.TableKey.name c.args.key in
     let q = c.insert_with.new.pass in
-    let told = IfOk-weaker c.insert_with.result _ _ (told_inserted_by (replies_inserting c.self.inside.pass q c.self.view_is name) _) c.insert_with.ensures.answered in
+    let told = IfOk-weaker c.insert_with.result _ _ (told_inserted_by (replies_inserting c.self.inside.pass q c.self.view_is g.K.TableKey.hash name) _) c.insert_with.ensures.answered in
     let left = insertion c.self.inside.pass q c.self.view_is c.self.invariant c.insert_with.ensures.caller g.K.TableKey.hash name c.args.key c.args.f c.insert_with.result told c.insert_with.ensures.refused c.insert_with.ensures.found in
     record { same = left.same; answered = left.answered; notes = left.notes; refused = left.refused; found = left.found }

@@ -3,16 +3,18 @@ use Rattle.ck_model.specs.declared.history.Reply.TheVariants.{Closed}
 use Rattle.ck_model.specs.Counting.{counting}
 use Rattle.ck_words.specs.Words.{WordsState}
 use Rattle.ck_words.specs.Passes.{EachOf, PassState, numbers_of}
+use Rattle.ck_words.specs.Retries.{as_doubled}
+use Rattle.ck_words.specs.Holding.{IsDoubledBy}
 use Rattle.ck_words.specs.Commits.{session_of}
 use Rattle.ck_model.specs.Contents.{layout_of}
 use Rattle.ck_model.specs.Sections.{HasAll}
 use Rattle.ck_words.specs.Answering.{HasDone, IsAnswered, FollowsSeen}
 use Rattle.ck_model.specs.Promise.{Replied}
 use Rattle.ck_core.specs.State.{client_of}
-use Rattle.cuckoo_map.specs.Callers.{caller_of, IsSameCaller, KeepsNotes}
-use Rattle.cuckoo_map.specs.Locking.{LockedState, session_call, EndsSession}
+use Rattle.cuckoo_map.specs.Callers.{caller_of, IsSameCaller}
+use Rattle.cuckoo_map.specs.Locking.{LockedState, session_call, EndsSession, EndsNotes}
 use Rattle.cuckoo_map.proofs.Callers.{same_caller, keeps_notes}
-use Rattle.cuckoo_map.proofs.Sessions.{numbered, each_of, had_all_held, session_done}
+use Rattle.cuckoo_map.proofs.Sessions.{numbered, each_of, had_all_held, session_done, session_counted}
 use Rattle.cuckoo_map.proofs.locked.LockedTable.unlock.Given.{Over}
 use Rattle.cuckoo_map.proofs.locked.LockedTable.unlock.Goals as goal
 
@@ -35,12 +37,12 @@ commit_session-requires-clause-done g c =
     subst (λ (w : WordsState). HasDone g.K.TableKey.hash w.settings (session_of q) Closed q) (sym c.table.view_is)
     (session_done g.K.TableKey.hash c.self.inside.table.now c.self.inside.whole c.self.invariant q c.lower-pass.ensures)
 
-answered : (g : Over) (c : goal.After-commit_session g) → IsAnswered (session_of c.self.inside.whole) Closed c.self.inside.whole c.commit_session.new.pass
+answered : (g : Over) (c : goal.After-commit_session g) → IsAnswered (session_of c.self.inside.whole) Closed (as_doubled c.self.inside.whole c.commit_session.new.pass) c.commit_session.new.pass
 answered g c =
     let q = c.lower-pass.result in
     let done = subst (λ (w : WordsState). HasDone g.K.TableKey.hash w.settings (session_of q) Closed q) (sym c.table.view_is)
     (session_done g.K.TableKey.hash c.self.inside.table.now c.self.inside.whole c.self.invariant q c.lower-pass.ensures) in
-    subst (λ (p : PassState g.row.V.Denot). IsAnswered (session_of p) Closed p c.commit_session.new.pass) c.lower-pass.ensures (c.commit_session.ensures.answered Closed done)
+    subst (λ (p : PassState g.row.V.Denot). IsAnswered (session_of p) Closed (as_doubled p c.commit_session.new.pass) c.commit_session.new.pass) c.lower-pass.ensures (c.commit_session.ensures.answered Closed done)
 
 pub returns-clause-same : goal.returns-clause-same
 returns-clause-same g c =
@@ -64,4 +66,6 @@ returns-clause-follows g c =
 pub returns-clause-notes : goal.returns-clause-notes
 returns-clause-notes g c =
     let new = c.commit_session.new.pass in
-    subst (λ (x : LockedState g.row.V.Denot). KeepsNotes x.caller (caller_of x.caller.table new)) c.self.view_is (keeps_notes c.self.inside.whole new refl (answered g c).stays)
+    let doubled = subst (λ (p : PassState g.row.V.Denot). IsDoubledBy p new) c.lower-pass.ensures c.commit_session.ensures.doubled in
+    subst (λ (x : LockedState g.row.V.Denot). EndsNotes x (caller_of x.caller.table new)) c.self.view_is
+    (keeps_notes c.self.inside.whole new refl (answered g c).stays, session_counted g.K.TableKey.hash c.self.inside.table.now c.self.inside.whole c.self.invariant new doubled)

@@ -11,4 +11,4 @@ commit_query-requires-clause-done g c = (Was c.erase-value.result, does c.self.v
 pub returns-clause-answered : goal.returns-clause-answered
 returns-clause-answered g c =
     let there : c.commit_query.new.pass ≡ c.pass-1.given.0 = search rules in
-    rw (← there) (says c.self.view_is c.in_ok-spot.ensures.held c.erase-value.new.held.pass.now c.erase-value.ensures.stays.1 (ap (λ k. On (g.Q.Query.name k) Erase) c.of.ensures) c.commit_query.ensures.answered (Was c.erase-value.result) c.erase-value.ensures.call)
+    rw (← there) (says c.self.view_is c.in_ok-spot.ensures.held c.erase-value.new.held.pass.now c.erase-value.ensures.stays.1 (ap (λ k. On (g.Q.Query.name k) Erase) c.of.ensures) c.erase-value.ensures.rest c.commit_query.ensures.doubled c.commit_query.ensures.answered (Was c.erase-value.result) c.erase-value.ensures.call)

@@ -24,5 +24,5 @@ returns-clause-answered g c =
     let there : c.commit_query.new.pass ≡ c.pass-1.given.0 = search rules in
     rw (← there) (erasing (λ act. IsStep g.K.TableKey.hash c.in_ok-spot.spot.place.s c.hold_key.new.pass.stripes p.stripes (On q act)) (λ act. call_of g.Q.Query.name c.chosen-said.result ≡ On q act) (λ back. back ≡ c.args.f)
     (FnOnceReturnsAt g.F.FnOnce c.args.f) _ (IsAnsweredOn q c.args.pass.now c.commit_query.new.pass)
-    (λ act named r did. says c.self.view_is c.in_ok-spot.ensures.held p c.erase_fn-gone.ensures.stays.1 named c.commit_query.ensures.answered r did)
+    (λ act named r did. says c.self.view_is c.in_ok-spot.ensures.held p c.erase_fn-gone.ensures.stays.1 named c.erase_fn-gone.ensures.rest c.commit_query.ensures.doubled c.commit_query.ensures.answered r did)
     c.erase_fn-gone.result made c.erase_fn-gone.ensures.bound c.erase_fn-gone.ensures.unbound)

@@ -2,6 +2,7 @@ use Rattle.std.proofs.Common.{rules, ◌≡◌, None, Some, ap}
 use Rattle.ck_model.specs.declared.history.Act.TheVariants.{Find}
 use Rattle.ck_model.specs.declared.history.Call.TheVariants.{On}
 use Rattle.ck_model.specs.declared.history.Reply.TheVariants.{Was}
+use Rattle.cuckoo_map.proofs.Counted.{changes_none}
 use Rattle.cuckoo_map.proofs.Calls.{does, says, by_option, map_option}
 use Rattle.cuckoo_map.proofs.table.Table.find_fn.Goals as goal
 
@@ -15,5 +16,5 @@ pub returns-clause-answered : goal.returns-clause-answered
 returns-clause-answered g c =
     let there : c.commit_query.new.pass ≡ c.pass-1.given.0 = search rules in
     rw (← there) (map_option c.find-found.result _ _ _ _ c.find-found.ensures.bound c.find-found.ensures.unbound
-    (λ r x. (x.0, x.1, says c.self.view_is c.in_ok-spot.ensures.held c.find-found.new.held.pass.now c.find-found.ensures.stays.1 (ap (λ k. On (g.Q.Query.name k) Find) c.of.ensures) c.commit_query.ensures.answered (Was (Some x.0)) x.2))
-    (λ x. says c.self.view_is c.in_ok-spot.ensures.held c.find-found.new.held.pass.now c.find-found.ensures.stays.1 (ap (λ k. On (g.Q.Query.name k) Find) c.of.ensures) c.commit_query.ensures.answered (Was None) x))
+    (λ r x. (x.0, x.1, says c.self.view_is c.in_ok-spot.ensures.held c.find-found.new.held.pass.now c.find-found.ensures.stays.1 (ap (λ k. On (g.Q.Query.name k) Find) c.of.ensures) (changes_none _ _ c.find-found.ensures.same) c.commit_query.ensures.doubled c.commit_query.ensures.answered (Was (Some x.0)) x.2))
+    (λ x. says c.self.view_is c.in_ok-spot.ensures.held c.find-found.new.held.pass.now c.find-found.ensures.stays.1 (ap (λ k. On (g.Q.Query.name k) Find) c.of.ensures) (changes_none _ _ c.find-found.ensures.same) c.commit_query.ensures.doubled c.commit_query.ensures.answered (Was None) x))

@@ -6,5 +6,5 @@ use Rattle.cuckoo_map.proofs.table.Table.get_or_insert_with.Goals as goal
 pub returns-clause-answered : goal.returns-clause-answered
 returns-clause-answered g c =
     IfOk-weaker c.place.result _ _
-    (λ v told. as_found (IsInserted (g.K.TableKey.name c.args.key) c.args.pass.now c.place.new.pass) (λ (w : g.row.V.Denot). g.F.FnOnce.post c.args.f tt w) v told.0 told.1 told.2 told.3)
+    (λ v told. as_found (IsInserted g.K.TableKey.hash c.args.self.now.settings (g.K.TableKey.name c.args.key) c.args.pass.now c.place.new.pass) (λ (w : g.row.V.Denot). g.F.FnOnce.post c.args.f tt w) v told.0 told.1 told.2 told.3)
     c.place.ensures.placed.answered

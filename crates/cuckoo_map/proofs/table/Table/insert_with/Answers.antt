@@ -6,5 +6,5 @@ use Rattle.cuckoo_map.proofs.table.Table.insert_with.Goals as goal
 pub returns-clause-answered : goal.returns-clause-answered
 returns-clause-answered g c =
     IfOk-weaker c.place.result _ _
-    (λ fresh told. as_inserted (IsInserted (g.K.TableKey.name c.args.key) c.args.pass.now c.place.new.pass) _ fresh told.0 told.1 told.2 told.3)
+    (λ fresh told. as_inserted (IsInserted g.K.TableKey.hash c.args.self.now.settings (g.K.TableKey.name c.args.key) c.args.pass.now c.place.new.pass) _ fresh told.0 told.1 told.2 told.3)
     c.place.ensures.placed.answered

@@ -1,7 +1,9 @@
-use Rattle.std.proofs.Common.{rules, ◌≡◌, []}
+use Rattle.std.proofs.Common.{rules, ◌≡◌, ◌∙◌, [], ap}
+use Rattle.ck_core.specs.declared.view.View.{View}
 use Rattle.ck_model.specs.declared.history.Call.TheVariants.{Len}
 use Rattle.ck_model.specs.declared.history.Reply.TheVariants.{Count}
-use Rattle.cuckoo_map.proofs.Calls.{answered_since}
+use Rattle.cuckoo_map.proofs.Calls.{answered_since, answered_level}
+use Rattle.cuckoo_map.proofs.Counted.{changes_none, none_made, one_power_table}
 use Rattle.cuckoo_map.proofs.Sizes.{as_before, counted, few_names}
 use Rattle.cuckoo_map.proofs.table.Table.len.Goals as goal
 
@@ -15,8 +17,12 @@ returns-clause-answered g c =
     let n = c.len-count in
     let same = as_before c.hold_table.new.pass n.new.held.pass.now n.ensures.stays.2 n.ensures.stays.1 n.ensures.same in
     let there : c.commit.new.pass ≡ c.pass-1.given.0 = search rules in
-    rw (← there) (answered_since [] c.args.pass.now c.hold_table.new.pass n.new.held.pass.now c.commit.new.pass c.hold_table.ensures.stays n.ensures.stays.1 Len (Count n.result)
-    (c.commit.ensures.answered (Count n.result) (counted c.self.view_is same c.in_ok-hold_table.ensures.whole n.ensures.value)))
+    let z = c.commit.new.pass in
+    let whole = c.in_ok-hold_table.ensures.whole in
+    let made = none_made c.hold_table.new.pass n.new.held.pass.now z n.ensures.stays.1 (changes_none _ _ n.ensures.same) c.commit.ensures.doubled whole.unchanged (one_power_table g.K.TableKey.hash c.args.self.now.settings c.hold_table.new.pass whole) in
+    rw (← there) (answered_level c.args.pass.now z (made ∙ (ap (λ (v : View g.row.V.Denot). v.doublings) n.ensures.stays.1 ∙ c.hold_table.ensures.stays.doublings))
+    (answered_since [] c.args.pass.now c.hold_table.new.pass n.new.held.pass.now z c.hold_table.ensures.stays n.ensures.stays.1 Len (Count n.result)
+    (c.commit.ensures.answered (Count n.result) (counted c.self.view_is same whole n.ensures.value))))
 
 pub returns-clause-most : goal.returns-clause-most
 returns-clause-most g c = few_names g.K.TableKey.hash c.args.self.now.settings c.hold_table.new.pass c.len-count.result c.in_ok-hold_table.ensures.whole c.len-count.ensures.value

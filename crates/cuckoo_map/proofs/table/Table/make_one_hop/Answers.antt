@@ -4,6 +4,7 @@ use Rattle.ck_words.specs.Words.{WordsState}
 use Rattle.ck_words.specs.Retries.{IsBusy}
 use Rattle.ck_words.specs.StripeSets.{list_of}
 use Rattle.cuckoo_map.proofs.Calls.{s_of}
+use Rattle.cuckoo_map.proofs.Counted.{one_power_held, none_made, released_alike}
 use Rattle.cuckoo_map.proofs.Sets.{has_each, below_set}
 use Rattle.cuckoo_map.proofs.Displacing.{back_home, renewed}
 use Rattle.cuckoo_map.proofs.table.Table.make_one_hop.Goals as goal
@@ -32,8 +33,11 @@ returns-in-Err-clause-busy g c = record {
 pub returns-then-hopped-clause-back : goal.returns-then-hopped-clause-back
 returns-then-hopped-clause-back g c =
     let z = c.renew_set.new.pass in
+    let p1 = c.lock.new.pass in
+    let p2 = c.make_hop-hopped.new.held.pass.now in
+    let made = none_made p1 p2 z c.make_hop-hopped.ensures.stays.1 c.make_hop-hopped.ensures.rest c.renew_set.ensures.doubled c.in_default.ensures.unchanged (one_power_held _ p1.stripes c.in_default.ensures.held) in
     let there : z ≡ c.pass-1.given.0 = search rules in
-    rw (← there) (back_home c.self.view_is _ c.args.pass.now c.lock.new.pass c.make_hop-hopped.new.held.pass.now z c.lock.ensures.stays c.lock.ensures.found (c.make_hop-hopped.ensures.stays.1) c.renew_set.ensures.released)
+    rw (← there) (back_home c.self.view_is _ c.args.pass.now p1 p2 z c.lock.ensures.stays c.lock.ensures.found (c.make_hop-hopped.ensures.stays.1) (released_alike p2 z c.renew_set.ensures.released made))
 
 pub returns-else-hopped-clause-back : goal.returns-else-hopped-clause-back
 returns-else-hopped-clause-back g c =

@@ -4,6 +4,7 @@ use Rattle.ck_words.specs.Passes.{PassState}
 use Rattle.cuckoo_map.specs.declared.refusal.Why.TheVariants.{Busy}
 use Rattle.cuckoo_map.proofs.Refusing.{refused_among, refused_busy}
 use Rattle.cuckoo_map.proofs.Calls.{by_result}
+use Rattle.cuckoo_map.proofs.Counted.{loosely}
 use Rattle.cuckoo_map.proofs.Displacing.{any_among}
 use Rattle.cuckoo_map.proofs.Trying.{HasTried, tried_same, tried_on, tried_full, still_caller, found_since_full, room_after, refused_after}
 use Rattle.cuckoo_map.proofs.table.Table.make_room.Given.{Over}
@@ -20,7 +21,7 @@ tries-init g c = record {
 -- the search or a hop found a stripe held
 pub returns-in-Err-clause-found : goal.returns-in-Err-clause-found
 returns-in-Err-clause-found g c = λ p full own.
-    found_since_full (g.K.TableKey.name c.args.key.now) c.args.self.now g.K.TableKey.hash p c.args.pass.now c.tries.pass c.displace.new.pass full own c.tries.invariant.tried [] c.displace.ensures.back.stays c.displace.ensures.back.found
+    found_since_full (g.K.TableKey.name c.args.key.now) c.args.self.now g.K.TableKey.hash p c.args.pass.now c.tries.pass c.displace.new.pass full own c.tries.invariant.tried [] (loosely c.displace.ensures.back.stays) c.displace.ensures.back.found
 
 pub returns-in-Err-clause-refused : goal.returns-in-Err-clause-refused
 returns-in-Err-clause-refused g c = λ p full own.
@@ -34,7 +35,7 @@ pub returns-in-Err-hold_key-clause-found : goal.returns-in-Err-hold_key-clause-f
 returns-in-Err-hold_key-clause-found g c = λ p full own.
     let q = g.K.TableKey.name c.args.key.now in
     let tried = tried_on q c.args.self.now c.args.pass.now c.tries.pass c.displace.new.pass c.tries.invariant.tried c.displace.ensures.back in
-    found_since_full q c.args.self.now g.K.TableKey.hash p c.args.pass.now c.displace.new.pass c.hold_key.new.pass full own tried [] c.in-Err-hold_key.ensures.busy.stays (any_among _ c.displace.new.pass c.hold_key.new.pass c.hold_key.ensures.found)
+    found_since_full q c.args.self.now g.K.TableKey.hash p c.args.pass.now c.displace.new.pass c.hold_key.new.pass full own tried [] (loosely c.in-Err-hold_key.ensures.busy.stays) (any_among _ c.displace.new.pass c.hold_key.new.pass c.hold_key.ensures.found)
 
 pub returns-in-Err-hold_key-clause-refused : goal.returns-in-Err-hold_key-clause-refused
 returns-in-Err-hold_key-clause-refused g c = λ p full own.
@@ -57,7 +58,7 @@ returns-in-Ok-find_room-clause-found g c = λ p full own.
     let r = c.of-since.result.value in
     let tried = subst (HasTried q c.args.self.now c.args.pass.now) (sym c.of-since.ensures) (tried_on q c.args.self.now c.args.pass.now c.tries.pass c.displace.new.pass c.tries.invariant.tried c.displace.ensures.back) in
     let room = c.in-Ok-find_room.ensures.room in
-    found_since_full q c.args.self.now g.K.TableKey.hash p c.args.pass.now r c.find_room.new.pass full own tried room.more room.stays (any_among _ r c.find_room.new.pass c.find_room.ensures.found)
+    found_since_full q c.args.self.now g.K.TableKey.hash p c.args.pass.now r c.find_room.new.pass full own tried room.more (loosely room.stays) (any_among _ r c.find_room.new.pass c.find_room.ensures.found)
 
 -- its buckets were full again
 pub tries-preserved : goal.tries-preserved
@@ -96,7 +97,7 @@ returns-clause-found g c = λ p full own.
     let z = c.make_room_in_all.new.pass in
     let any = any_among _ r z c.make_room_in_all.ensures.found in
     by_result c.make_room_in_all.result _ _ _ c.make_room_in_all.ensures.room c.make_room_in_all.ensures.refused
-    (λ room has. found_since_full q c.args.self.now g.K.TableKey.hash p c.args.pass.now r z full own (over g c) has.more has.stays any)
+    (λ room has. found_since_full q c.args.self.now g.K.TableKey.hash p c.args.pass.now r z full own (over g c) has.more (loosely has.stays) any)
     (λ why said. found_since_full q c.args.self.now g.K.TableKey.hash p c.args.pass.now r z full own (over g c) said.more said.stays any)
 
 pub returns-clause-refused : goal.returns-clause-refused

@@ -2,7 +2,8 @@ use Rattle.std.proofs.Common.{rules, ◌≡◌, ◌∙◌, ap, sym, subst}
 use Rattle.ck_core.specs.declared.view.View.{View}
 use Rattle.ck_words.specs.Words.{WordsState}
 use Rattle.ck_words.specs.Passes.{IsPassOf}
-use Rattle.cuckoo_map.proofs.Calls.{does_there, says_there}
+use Rattle.cuckoo_map.proofs.Calls.{replied_seen, does_there, says_there}
+use Rattle.cuckoo_map.proofs.Counted.{grown_by}
 use Rattle.cuckoo_map.proofs.Refusing.{found_since}
 use Rattle.cuckoo_map.proofs.table.Table.place_in.Goals as goal
 
@@ -30,7 +31,11 @@ returns-clause-answered g c =
     let made = c.make-answer.ensures.answered in
     let said = says_there c.self.view_is c.requires.room c.make-answer.new.held.pass.now c.make-answer.ensures.stays.1 made.3 c.commit.ensures.answered made.1 made.4 in
     let there : c.commit.new.pass ≡ c.pass-1.given.0 = search rules in
-    rw (← there) ((made.0, made.1, made.2, (c.requires.room.more, c.requires.room.own, said)))
+    let z = c.commit.new.pass in
+    let lent = c.make-answer.new.held.pass.now in
+    let direct = c.commit.ensures.answered made.1 (does_there c.self.view_is c.requires.room lent c.make-answer.ensures.stays.1 made.3 made.1 made.4) in
+    let grown = grown_by c.args.pass.now lent z c.make-answer.ensures.stays.1 c.make-answer.ensures.rest c.commit.ensures.doubled c.args.since.value c.requires.room.held.grown c.requires.room.stays (replied_seen direct.replied) in
+    rw (← there) ((made.0, made.1, made.2, (c.requires.room.more, c.requires.room.own, said, grown)))
 
 pub returns-clause-found : goal.returns-clause-found
 returns-clause-found g c =

@@ -29,7 +29,7 @@ returns-in-Ok-clause-rehashed g c =
     c.hold_table.ensures.stays c.in_default.ensures.whole c.in_default.ensures.table c.double_to-grown.ensures.stays.1 c.renew_set.ensures.told
     (renewed_there c.self.view_is c.hold_table.new.pass c.double_to-grown.new.held.pass.now c.double_to-grown.ensures.stays.1 (s_of c.self.view_is c.settings-s.ensures.value)
     (below_max c.self.view_is c.settings-s.ensures.value c.if-max-power.false) c.in_default.ensures.whole c.double_to-grown.ensures.no_call)
-    c.in_default.ensures.doublings c.renew_set.ensures.doubled c.in-Ok.grown c.in-Ok.ensures.reached)
+    c.hold_table.ensures.stays.doublings c.renew_set.ensures.doubled c.in-Ok.grown c.in-Ok.ensures.reached)
 
 pub returns-in-Err-grown-clause-rehashed : goal.returns-in-Err-grown-clause-rehashed
 returns-in-Err-grown-clause-rehashed g c =
@@ -38,4 +38,4 @@ returns-in-Err-grown-clause-rehashed g c =
     c.hold_table.ensures.stays c.in_default.ensures.whole c.in_default.ensures.table c.double_to-grown.ensures.stays.1 c.renew_set.ensures.told
     (renewed_there c.self.view_is c.hold_table.new.pass c.double_to-grown.new.held.pass.now c.double_to-grown.ensures.stays.1 (s_of c.self.view_is c.settings-s.ensures.value)
     (below_max c.self.view_is c.settings-s.ensures.value c.if-max-power.false) c.in_default.ensures.whole c.double_to-grown.ensures.no_call)
-    c.in_default.ensures.doublings c.renew_set.ensures.doubled c.in-Err-grown.ensures.short)
+    c.hold_table.ensures.stays.doublings c.renew_set.ensures.doubled c.in-Err-grown.ensures.short)

@@ -24,5 +24,5 @@ returns-clause-answered g c =
     let there : c.commit_query.new.pass ≡ c.pass-1.given.0 = search rules in
     rw (← there) (replacing (λ act. IsStep g.K.TableKey.hash c.in_ok-spot.spot.place.s c.hold_key.new.pass.stripes p.stripes (On q act)) (λ act. call_of g.Q.Query.name c.chosen-said.result ≡ On q act) (λ back. back ≡ c.args.f)
     (FnOnceReturnsAt g.F.FnOnce c.args.f) (IsAnsweredOn q c.args.pass.now c.commit_query.new.pass)
-    (λ act named r did. says c.self.view_is c.in_ok-spot.ensures.held p c.replace_if-replaced.ensures.stays.1 named c.commit_query.ensures.answered r did)
+    (λ act named r did. says c.self.view_is c.in_ok-spot.ensures.held p c.replace_if-replaced.ensures.stays.1 named c.replace_if-replaced.ensures.rest c.commit_query.ensures.doubled c.commit_query.ensures.answered r did)
     c.replace_if-replaced.result made c.replace_if-replaced.ensures.bound c.replace_if-replaced.ensures.unbound)

@@ -4,6 +4,7 @@ use Rattle.ck_words.specs.Passes.{PassState}
 use Rattle.ck_words.specs.StripeSets.{list_of}
 use Rattle.ck_words.specs.Retries.{Stays}
 use Rattle.cuckoo_map.proofs.Calls.{holds_then}
+use Rattle.cuckoo_map.proofs.Counted.{one_power_held}
 use Rattle.cuckoo_map.proofs.Sets.{has_both, finds_such}
 use Rattle.cuckoo_map.proofs.table.Table.spot_in.Goals as goal
 
@@ -19,7 +20,7 @@ returns-clause-held g c = λ p taken.
     let h = c.requires.home in
     let k = c.place_of-place in
     let both = has_both g.K.TableKey.hash c.args.self.now.settings (g.Q.Query.name c.args.key) (list_of c.args.home.stripes) h.exact c.settle_taken.new.pass.stripes c.settle_taken.ensures.numbers in
-    holds_then p c.settle_taken.new.pass (subst (Stays p.view) (sym c.settle_taken.ensures.view) taken.stays) both c.settle_taken.ensures.unchanged k.ensures.place (k.ensures.s ∙ h.s) k.new.pass (ap (λ (x : PassState g.row.V.Denot). x.stripes) k.ensures.same) (ap (λ (x : PassState g.row.V.Denot). x.view) k.ensures.same)
+    holds_then p c.settle_taken.new.pass (subst (Stays p.view) (sym c.settle_taken.ensures.view) taken.stays) both c.settle_taken.ensures.unchanged (one_power_held _ c.settle_taken.new.pass.stripes c.settle_taken.ensures.held) k.ensures.place (k.ensures.s ∙ h.s) k.new.pass (ap (λ (x : PassState g.row.V.Denot). x.stripes) k.ensures.same) (ap (λ (x : PassState g.row.V.Denot). x.view) k.ensures.same)
 
 pub returns-clause-found : goal.returns-clause-found
 returns-clause-found g c = λ p taken.

@@ -15,5 +15,5 @@ pub returns-clause-answered : goal.returns-clause-answered
 returns-clause-answered g c =
     let there : c.commit_query.new.pass ≡ c.pass-1.given.0 = search rules in
     rw (c.ok.ensures.value, ← there) (map_answer c.try_update-outcome.result _ _ _ _ c.try_update-outcome.ensures.bound c.try_update-outcome.ensures.unbound
-    (λ outcome x. (x.0, x.1, x.2, says c.self.view_is c.in_ok-spot.ensures.held c.try_update-outcome.new.held.pass.now c.try_update-outcome.ensures.stays.1 (ap (λ k. On (g.Q.Query.name k) Change) c.of.ensures) c.commit_query.ensures.answered (Done x.0 x.1) x.3))
-    (λ back x. says c.self.view_is c.in_ok-spot.ensures.held c.try_update-outcome.new.held.pass.now c.try_update-outcome.ensures.stays.1 (ap (λ k. On (g.Q.Query.name k) Change) c.of.ensures) c.commit_query.ensures.answered Absent x.1))
+    (λ outcome x. (x.0, x.1, x.2, says c.self.view_is c.in_ok-spot.ensures.held c.try_update-outcome.new.held.pass.now c.try_update-outcome.ensures.stays.1 (ap (λ k. On (g.Q.Query.name k) Change) c.of.ensures) c.try_update-outcome.ensures.rest c.commit_query.ensures.doubled c.commit_query.ensures.answered (Done x.0 x.1) x.3))
+    (λ back x. says c.self.view_is c.in_ok-spot.ensures.held c.try_update-outcome.new.held.pass.now c.try_update-outcome.ensures.stays.1 (ap (λ k. On (g.Q.Query.name k) Change) c.of.ensures) c.try_update-outcome.ensures.rest c.commit_query.ensures.doubled c.commit_query.ensures.answered Absent x.1))

@@ -11,4 +11,4 @@ commit_query-requires-clause-done g c = (Was c.update-old.result, does c.self.vi
 pub returns-clause-answered : goal.returns-clause-answered
 returns-clause-answered g c =
     let there : c.commit_query.new.pass ≡ c.pass-1.given.0 = search rules in
-    rw (← there) (says c.self.view_is c.in-Ok.ensures.held c.update-old.new.held.pass.now c.update-old.ensures.stays.1 (ap2 (λ k v. On (g.Q.Query.name k) (Update v)) c.of.ensures c.of-2.ensures) c.commit_query.ensures.answered (Was c.update-old.result) c.update-old.ensures.call)
+    rw (← there) (says c.self.view_is c.in-Ok.ensures.held c.update-old.new.held.pass.now c.update-old.ensures.stays.1 (ap2 (λ k v. On (g.Q.Query.name k) (Update v)) c.of.ensures c.of-2.ensures) c.update-old.ensures.rest c.commit_query.ensures.doubled c.commit_query.ensures.answered (Was c.update-old.result) c.update-old.ensures.call)

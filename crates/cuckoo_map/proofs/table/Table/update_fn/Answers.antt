@@ -15,5 +15,5 @@ pub returns-clause-answered : goal.returns-clause-answered
 returns-clause-answered g c =
     let there : c.commit_query.new.pass ≡ c.pass-1.given.0 = search rules in
     rw (← there) (map_bool c.update_fn-bound.result _ _ _ _ c.update_fn-bound.ensures.call
-    (λ x. (x.0, x.1, x.2, says c.self.view_is c.in_ok-spot.ensures.held c.update_fn-bound.new.held.pass.now c.update_fn-bound.ensures.stays.1 (ap (λ k. On (g.Q.Query.name k) Change) c.of.ensures) c.commit_query.ensures.answered (Done x.0 x.1) x.3))
-    (λ x. says c.self.view_is c.in_ok-spot.ensures.held c.update_fn-bound.new.held.pass.now c.update_fn-bound.ensures.stays.1 (ap (λ k. On (g.Q.Query.name k) Change) c.of.ensures) c.commit_query.ensures.answered Absent x))
+    (λ x. (x.0, x.1, x.2, says c.self.view_is c.in_ok-spot.ensures.held c.update_fn-bound.new.held.pass.now c.update_fn-bound.ensures.stays.1 (ap (λ k. On (g.Q.Query.name k) Change) c.of.ensures) c.update_fn-bound.ensures.rest c.commit_query.ensures.doubled c.commit_query.ensures.answered (Done x.0 x.1) x.3))
+    (λ x. says c.self.view_is c.in_ok-spot.ensures.held c.update_fn-bound.new.held.pass.now c.update_fn-bound.ensures.stays.1 (ap (λ k. On (g.Q.Query.name k) Change) c.of.ensures) c.update_fn-bound.ensures.rest c.commit_query.ensures.doubled c.commit_query.ensures.answered Absent x))

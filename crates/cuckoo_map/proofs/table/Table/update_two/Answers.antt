@@ -14,5 +14,5 @@ pub returns-clause-answered : goal.returns-clause-answered
 returns-clause-answered g c =
     let there : c.commit_query.new.pass ≡ c.pass-1.given.0 = search rules in
     rw (← there) (map_bool c.update_two-bound.result _ _ _ _ c.update_two-bound.ensures.call
-    (λ x. (x.0, x.1, x.2, x.3, x.4, says c.self.view_is c.in_ok-spots.ensures.first c.update_two-bound.new.held.pass.now c.update_two-bound.ensures.stays.1 (ap2 (λ j k. ChangeTwo (g.Q.Query.name j) (g.Q.Query.name k)) c.of.ensures c.of-2.ensures) c.commit_query.ensures.answered (DoneTwo x.0 x.1 x.2 x.3) x.5))
-    (λ x. says c.self.view_is c.in_ok-spots.ensures.first c.update_two-bound.new.held.pass.now c.update_two-bound.ensures.stays.1 (ap2 (λ j k. ChangeTwo (g.Q.Query.name j) (g.Q.Query.name k)) c.of.ensures c.of-2.ensures) c.commit_query.ensures.answered Absent x))
+    (λ x. (x.0, x.1, x.2, x.3, x.4, says c.self.view_is c.in_ok-spots.ensures.first c.update_two-bound.new.held.pass.now c.update_two-bound.ensures.stays.1 (ap2 (λ j k. ChangeTwo (g.Q.Query.name j) (g.Q.Query.name k)) c.of.ensures c.of-2.ensures) c.update_two-bound.ensures.rest c.commit_query.ensures.doubled c.commit_query.ensures.answered (DoneTwo x.0 x.1 x.2 x.3) x.5))
+    (λ x. says c.self.view_is c.in_ok-spots.ensures.first c.update_two-bound.new.held.pass.now c.update_two-bound.ensures.stays.1 (ap2 (λ j k. ChangeTwo (g.Q.Query.name j) (g.Q.Query.name k)) c.of.ensures c.of-2.ensures) c.update_two-bound.ensures.rest c.commit_query.ensures.doubled c.commit_query.ensures.answered Absent x))

@@ -7,6 +7,6 @@ use Rattle.cuckoo_map.proofs.table.Table.uprase.Goals as goal
 pub returns-clause-answered : goal.returns-clause-answered
 returns-clause-answered g c =
     IfOk-weaker c.place.result _ _
-    (λ answer told. as_uprased (IsInserted (g.K.TableKey.name c.args.key) c.args.pass.now c.place.new.pass)
+    (λ answer told. as_uprased (IsInserted g.K.TableKey.hash c.args.self.now.settings (g.K.TableKey.name c.args.key) c.args.pass.now c.place.new.pass)
     (λ (v : g.row.V.Denot) (o : Option g.row.V.Denot). g.F.FnOnce.post c.args.f (v, tt) o) c.args.value answer told.0 told.1 told.2 told.3)
     c.place.ensures.placed.answered
