@@ -48,7 +48,7 @@ module _ {V : Type 0} where
 
   -- what a caller has seen begins with what it had seen
   pub replied_seen : {call : Call V} {reply : Reply V} {c d : Client V} → Replied call reply c d → StartsWith d.seen c.seen
-  replied_seen {call} {reply} a = (a.answered.others ++ record { by = a.by; call = call; reply = reply } ∷ [], a.answered.seen)
+  replied_seen {call} {reply} {c} a = let e : Entry V = record { by = a.by; call = call; reply = reply } in (a.answered.others ++ e ∷ [], a.answered.seen ∙ append_assoc c.seen a.answered.others (e ∷ []))
 
   -- to what a caller had seen came entries of others, and then the call was answered
   pub replied_since : {more : List (Name × Reason)} {v w : View V} → StaysBut more v w → (call : Call V) (reply : Reply V) (d : Client V) → Replied call reply (client_of w) d → Replied call reply (client_of v) d

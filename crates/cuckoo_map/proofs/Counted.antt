@@ -78,7 +78,7 @@ module _ {V : Type 0} where
     none_made unchanged one =
         let power : ℕ = power_of (contents_of p1.stripes) in
         let taken : (t : ℕ) (c : Content V) → Holds p2.view.held t c → c.power ≡ power = λ t c h.
-            one t c (subst (λ (hs : Stripes V). Holds hs t c) (sym unchanged) (held_reverse p1.view.held t c (subst (λ (v : View V). Holds v.held t c) view h))) in
+        one t c (subst (λ (hs : Stripes V). Holds hs t c) (sym unchanged) (held_reverse p1.view.held t c (subst (λ (v : View V). Holds v.held t c) view h))) in
         let e = doubled power power taken (level_after power p1.stripes p2.stripes rest one) in
         omega arith
 

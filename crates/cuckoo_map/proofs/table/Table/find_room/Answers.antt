@@ -1,6 +1,13 @@
 use Rattle.std.proofs.Common.{rules, ◌≡◌, ◌∙◌, ap}
 use Rattle.cuckoo_map.proofs.Refusing.{told_since, excused}
+use Rattle.cuckoo_map.proofs.Rooms.{room_as_taken}
 use Rattle.cuckoo_map.proofs.table.Table.find_room.Goals as goal
+
+pub returns-in-Some-clause-room : goal.returns-in-Some-clause-room
+returns-in-Some-clause-room g c =
+    let z = c.find_entry.new.held.pass.now in
+    let there : z ≡ c.in-Some.pass-1-own.given.0 = search rules in
+    rw (← there) (room_as_taken c.args.since.now.value c.args.pass.now z c.requires.held c.requires.s c.requires.settled.no_spare c.in-Some.entry c.in-Some.ensures.entry c.find_entry.ensures.same c.find_entry.ensures.stays.1)
 
 pub returns-in-Some-clause-found : goal.returns-in-Some-clause-found
 returns-in-Some-clause-found g c =

@@ -1,12 +1,19 @@
 use Rattle.std.proofs.Common.{◌∙◌, [], append-nil, refl, sym, subst}
 use Rattle.cuckoo_map.specs.declared.refusal.Why.{Why}
 use Rattle.ck_section.specs.Room.{reason_of_lack}
-use Rattle.cuckoo_map.specs.Refusals.{IsRefused}
+use Rattle.cuckoo_map.specs.Refusals.{IsStripeIn, IsRefused}
+use Rattle.cuckoo_map.proofs.Refusing.{refused_among}
 use Rattle.cuckoo_map.proofs.Grounding.{gives_grounds}
 use Rattle.ck_words.proofs.Staying.{stays_same}
 use Rattle.cuckoo_map.proofs.Counted.{changes_none, grown_by}
 use Rattle.cuckoo_map.proofs.Rooms.{refused_there}
 use Rattle.cuckoo_map.proofs.table.Table.make_room_in_all.Goals as goal
+
+-- a stripe was found held
+pub returns-in-Err-clause-refused : goal.returns-in-Err-clause-refused
+returns-in-Err-clause-refused g c =
+    let set = c.args.self.now.settings in
+    refused_among (IsStripeIn set) g.K.TableKey.hash set (λ t l. l) (g.K.TableKey.name c.args.key.now) c.in-Err.field-0.0 c.args.pass.now c.hold_table.new.pass c.in-Err.ensures.busy
 
 pub returns-in-Err-make_room_held-clause-refused : goal.returns-in-Err-make_room_held-clause-refused
 returns-in-Err-make_room_held-clause-refused g c =

@@ -28,11 +28,11 @@ returns-clause-caller g c =
 
 pub returns-clause-answered : goal.returns-clause-answered
 returns-clause-answered g c =
-    let made = c.make-answer.ensures.answered in
-    let said = says_there c.self.view_is c.requires.room c.make-answer.new.held.pass.now c.make-answer.ensures.stays.1 made.3 c.commit.ensures.answered made.1 made.4 in
     let there : c.commit.new.pass ≡ c.pass-1.given.0 = search rules in
     let z = c.commit.new.pass in
     let lent = c.make-answer.new.held.pass.now in
+    let made = c.make-answer.ensures.answered in
+    let said = says_there c.self.view_is c.requires.room lent c.make-answer.ensures.stays.1 made.3 c.commit.ensures.answered made.1 made.4 in
     let direct = c.commit.ensures.answered made.1 (does_there c.self.view_is c.requires.room lent c.make-answer.ensures.stays.1 made.3 made.1 made.4) in
     let grown = grown_by c.args.pass.now lent z c.make-answer.ensures.stays.1 c.make-answer.ensures.rest c.commit.ensures.doubled c.args.since.value c.requires.room.held.grown c.requires.room.stays (replied_seen direct.replied) in
     rw (← there) ((made.0, made.1, made.2, (c.requires.room.more, c.requires.room.own, said, grown)))

@@ -1,11 +1,15 @@
 use Rattle.std.proofs.Common.{rules, ◌≡◌}
 use Rattle.ck_words.proofs.Staying.{stays_same}
 use Rattle.cuckoo_map.proofs.Calls.{s_of}
+use Rattle.cuckoo_map.proofs.Counted.{loosely}
 use Rattle.cuckoo_map.proofs.Growing.{below_max, renewed_there, renewed_by, stays_home, answered_home, short_home}
 use Rattle.cuckoo_map.proofs.table.Table.rehash.Goals as goal
 
 pub returns-then-max-power-clause-stays : goal.returns-then-max-power-clause-stays
 returns-then-max-power-clause-stays g c = stays_same c.args.pass.now.view
+
+pub returns-in-Err-clause-stays : goal.returns-in-Err-clause-stays
+returns-in-Err-clause-stays g c = loosely c.hold_table.ensures.stays
 
 pub renew_set-requires-clause-renewed : goal.renew_set-requires-clause-renewed
 renew_set-requires-clause-renewed g c =
