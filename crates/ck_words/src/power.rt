@@ -11,8 +11,8 @@ use ck_key::TableKey;
 use ck_stripe::Stripe;
 
 impl<K: TableKey + Drop, V: Drop> Words<K, V> {
-    /// The power, as stripe 0 has it: the table has 2^power buckets, and the pass has then been
-    /// told of that power. Where another pass holds the stripe, it answers the number of that
+    /// The power, as stripe 0 has it, of which the pass has then been told: the table has 2^power
+    /// buckets, or more by now. Where another pass holds the stripe, it answers the number of that
     /// stripe, 0, which was found held `turns` times in a row.
     pub fn power(&self, pass: &mut Pass<K, V>) -> Result<u32, usize>
         requires own { IsPassOf self.now pass.old }

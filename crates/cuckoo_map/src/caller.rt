@@ -530,8 +530,8 @@ impl<'t, K: TableKey + Drop, V: Drop> Caller<'t, K, V> {
         self.table.try_update(&mut self.pass, key, f)
     }
 
-    /// The power: the table has 2^power buckets of four slots. Refused as busy, it changes nothing.
-    /// It is `Table::power`.
+    /// The power, of which the caller has then been told: the table has 2^power buckets of four
+    /// slots, or more by now. Refused as busy, it changes nothing. It is `Table::power`.
     #[inline(always)]
     pub fn power(&mut self) -> Result<u32, Busy>
         ensures same { IsSameCaller self.old self.new }

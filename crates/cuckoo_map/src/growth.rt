@@ -23,8 +23,8 @@ impl<K: TableKey + Drop, V: Drop> Table<K, V> {
     ///
     /// It is refused as `OverMax` exactly where `power` is above the greatest one that the table
     /// was opened with, before it takes a stripe. Refused so or as busy, it changes nothing.
-    /// Refused for want of memory, it may have doubled the table some times, and the table has
-    /// fewer buckets than it was to have.
+    /// Refused for want of memory, it may have doubled the table some times, and the pass was told
+    /// of fewer buckets than the table was to have.
     pub fn rehash(&self, pass: &mut Pass<K, V>, power: u32) -> Result<bool, GrowFault>
         requires caller { IsCaller self.now pass.old }
         ensures caller { IsCaller self.now pass.new }

@@ -72,8 +72,9 @@ impl<K: TableKey + Drop, V: Drop> Table<K, V> {
         Ok(4 << power)
     }
 
-    /// The power: the table has 2^power buckets of four slots. It is that of stripe 0 while this
-    /// call holds it, and the pass has then been told of it. Refused as busy, it changes nothing.
+    /// The power, as stripe 0 has it while this call holds it, of which the pass has then been
+    /// told: the table has 2^power buckets of four slots, or more by now. Refused as busy, it
+    /// changes nothing.
     pub fn power(&self, pass: &mut Pass<K, V>) -> Result<u32, Busy>
         requires caller { IsCaller self.now pass.old }
         ensures caller { IsCaller self.now pass.new }
