@@ -17,7 +17,7 @@ use Rattle.ck_model.specs.declared.history.Reply.TheVariants.{Was, Closed}
 use Rattle.ck_model.specs.declared.settings.Settings.{Settings}
 use Rattle.ck_model.specs.Promise.{Name, Answers, Step, After}
 use Rattle.ck_model.specs.Numbered.{IsIn, numbers, Holds}
-use Rattle.ck_model.specs.Contents.{Layout, layout, layout_of, Stripes, Lawful, pairs_in, pairs_of, bindings, NamesApart, power_of}
+use Rattle.ck_model.specs.Contents.{Layout, layout, layout_of, Stripes, Lawful, pairs_in, pairs_of, bindings, NamesApart}
 use Rattle.ck_model.specs.Paths.{HasNoRoom, Grounds}
 use Rattle.ck_model.specs.Sections.{HasAll, Renewed, Section, IdentitySection}
 use Rattle.ck_model.proofs.Numbered.{held_of_in, in_held}
