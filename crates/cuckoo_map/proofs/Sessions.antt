@@ -17,7 +17,7 @@ use Rattle.ck_model.specs.declared.history.Reply.TheVariants.{Was, Closed}
 use Rattle.ck_model.specs.declared.settings.Settings.{Settings}
 use Rattle.ck_model.specs.Promise.{Name, Answers, Step, After}
 use Rattle.ck_model.specs.Numbered.{IsIn, numbers, Holds}
-use Rattle.ck_model.specs.Contents.{Layout, layout, layout_of, Stripes, Lawful, pairs_in, pairs_of, bindings, NamesApart, power_of}
+use Rattle.ck_model.specs.Contents.{Layout, layout, layout_of, Stripes, Lawful, pairs_in, pairs_of, bindings, NamesApart}
 use Rattle.ck_model.specs.Paths.{HasNoRoom, Grounds}
 use Rattle.ck_model.specs.Sections.{HasAll, Renewed, Section, IdentitySection}
 use Rattle.ck_model.proofs.Numbered.{held_of_in, in_held}
@@ -29,12 +29,13 @@ use Rattle.ck_section.specs.Stripes.{stripe_at, contents_of, settled_stripes}
 use Rattle.ck_section.specs.declared.place.KeyPlace.{KeyPlace}
 use Rattle.ck_section.specs.declared.room.Lack.{Lack}
 use Rattle.ck_section.specs.Places.{IsPlaceOf}
-use Rattle.ck_section.specs.Room.{reason_of_lack, KeepsBindings, MakesRoom, GivesReason}
+use Rattle.ck_section.specs.Room.{power_in, reason_of_lack, KeepsBindings, MakesRoom, GivesReason, GrowsForRoom}
 use Rattle.ck_section.specs.Calls.{IsWithoutRoom, ChangesContents}
 use Rattle.ck_section.proofs.Decided.{IsCallOn}
 use Rattle.ck_section.proofs.Found.{holds_at}
 use Rattle.ck_section.proofs.Growing.{all_settled, contents_settled}
 use Rattle.ck_section.proofs.Kept.{table_after, settled_after, power_kept}
+use Rattle.ck_section.proofs.Tables.{power_shown, power_same}
 use Rattle.ck_section.specs.Whole.{AreAllHeld, AreSettled, IsTable, ClearsBindings}
 use Rattle.ck_section.specs.Retaining.{RetainsMap, RetainsBindings}
 use Rattle.ck_model.specs.Counting.{counting}
@@ -50,7 +51,7 @@ use Rattle.ck_words.proofs.Reversed.{in_of_reverse, bindings-reverse, lawful_rev
 use Rattle.ck_words.proofs.Seating.{length-numbers, number_at}
 use Rattle.ck_words.proofs.WholeTables.{lawful_held}
 use Rattle.cuckoo_map.specs.Refusals.{IsStripeIn, why_of}
-use Rattle.cuckoo_map.specs.Locking.{LockedState, locked_of, map_of, IsSameSession, IsLocked, HasLocked, HasActed, Clears, Lists, KeepsMap, LacksRoom, SeeksRoom, Retains}
+use Rattle.cuckoo_map.specs.Locking.{LockedState, locked_of, map_of, locked_power, IsSameSession, IsLocked, HasLocked, HasActed, HasChanged, GrowsFor, Clears, Lists, KeepsMap, LacksRoom, SeeksRoom, Retains}
 use Rattle.cuckoo_map.proofs.Sizes.{renewed_same, has_all, few_of_each}
 use Rattle.cuckoo_map.proofs.Counted.{one_of_lawful}
 
@@ -252,11 +253,15 @@ module _ {V : Type 0} where
         locked_again hash w p q l kept (table_after w.settings.s p.stripes q.stripes l.table changes) (settled_after w.settings.s p.stripes q.stripes l.settled changes) renewed
 
     module _ {s : LockedState V} (is : locked_of w p ≡ s) where
+      -- the number of buckets stayed
+      pub keeps_power : ChangesContents p.stripes q.stripes → locked_power (locked_of w q) ≡ locked_power s
+      keeps_power changes = power_kept p.stripes q.stripes changes ∙ ap (λ (x : LockedState V). locked_power x) is
+
       -- all names were unbound
       pub clears_map : ChangesContents p.stripes q.stripes → ClearsBindings (layout_of hash w.settings) p.stripes q.stripes → Clears s (locked_of w q)
       clears_map changes clears = record {
         session = same_session w p q kept s is;
-        power = power_kept p.stripes q.stripes changes ∙ ap (λ (x : LockedState V). power_of (contents_of x.stripes)) is;
+        power = keeps_power changes;
         none = (clears l.renewed.lawful).1;
       }
 
@@ -271,7 +276,7 @@ module _ {V : Type 0} where
           → Retains g name f s (locked_of w q)
       retains_map g name f changes retains = record {
         session = same_session w p q kept s is;
-        power = power_kept p.stripes q.stripes changes ∙ ap (λ (x : LockedState V). power_of (contents_of x.stripes)) is;
+        power = keeps_power changes;
         pairs = subst (λ (x : LockedState V). RetainsMap g name f (map_of x) (bindings (contents_of q.stripes))) is (retains l.renewed.lawful).1;
       }
 
@@ -297,17 +302,29 @@ module _ {V : Type 0} where
       step = subst (λ (x : LockedState V). Step (map_of x) (On name act) reply (bindings (contents_of q.stripes))) is (acted hash w p l place of_table name act reply q.stripes call).step;
     }
 
+    -- and the number of buckets stayed
+    pub has_changed : ChangesContents p.stripes q.stripes → IsCallOn hash place.s p.stripes name act reply q.stripes → HasChanged name s (locked_of w q) act reply
+    has_changed changes call = record { acted = has_acted call; power = keeps_power l q kept is changes }
+
+  -- a locked table whose number of buckets stayed has not grown
+  pub grows_not : (hash : Name → ℕ) (q : Name) (l m : LockedState V) → locked_power m ≡ locked_power l → GrowsFor hash q l m
+  grows_not hash q l m same power from below = absurd (omega arith)
+
   -- room was made or not, and then all stripes were settled
   pub seeks_room : (hash : Name → ℕ) (set : Settings) (q : Name) (found : Result (Unit {0}) Lack) (old mid new : List (StripeState V)) → new ≡ settled_stripes mid → IsTable set.s mid
-      → KeepsBindings (layout_of hash set) old mid → OnOk found (MakesRoom (layout_of hash set) old mid q) → IfErr found (GivesReason (layout_of hash set) set.min_load old mid q) → SeeksRoom hash set q found old new
-  seeks_room hash set q found old mid new same table no_call room refused =
+      → KeepsBindings (layout_of hash set) old mid → OnOk found (MakesRoom (layout_of hash set) old mid q) → IfErr found (GivesReason (layout_of hash set) set.min_load old mid q)
+      → GrowsForRoom (layout_of hash set) set.min_load old mid q → SeeksRoom hash set q found old new
+  seeks_room hash set q found old mid new same table no_call room refused grows =
       let k : Layout = layout_of hash set in
       let kept : contents_of new ≡ contents_of mid = ap (λ (ss : List (StripeState V)). contents_of ss) same ∙ contents_settled mid in
+      let held : AreAllHeld set.s new = subst (λ (ss : List (StripeState V)). AreAllHeld set.s ss) (sym same) (all_settled set.s mid table) in
+      let power : power_in new ≡ power_in mid = power_same set.s mid new table held.table kept in
       record {
-        held = subst (λ (ss : List (StripeState V)). AreAllHeld set.s ss) (sym same) (all_settled set.s mid table);
+        held = held;
         no_call = λ lawful. subst (λ (hs : Stripes V). IdentitySection k (contents_of old) hs) (sym kept) (no_call lawful);
         room = IfOk-weaker found _ _ (λ x makes lawful. subst (λ (hs : Stripes V). ¬ (HasNoRoom k hs q)) (sym kept) (makes lawful)) room;
         refused = IfErr-weaker found _ _ (λ lack grounds lawful. subst (λ (hs : Stripes V). Grounds k set.min_load hs q (reason_of_lack lack)) (sym kept) (grounds lawful)) refused;
+        grows = λ lawful p from below. grows lawful p from (subst (λ n. p < n) power below);
       }
 
   -- room was looked for in a locked table
@@ -334,9 +351,23 @@ module _ {V : Type 0} where
           grounds = subst (λ (x : LockedState V). Grounds (layout_of hash x.caller.table.settings) x.caller.table.settings.min_load (contents_of q.stripes) name (reason_of_lack lack)) is (grounds l.renewed.lawful);
         }) seeks.refused
 
+    pub grows_for : (s : LockedState V) → locked_of w p ≡ s → GrowsFor hash name s (locked_of w q)
+    grows_for s is =
+        let before : locked_power (locked_of w p) ≡ power_in p.stripes = power_shown p.stripes (some p.stripes l.table) in
+        let after : locked_power (locked_of w q) ≡ power_in q.stripes = power_shown q.stripes (some q.stripes seeks.held.table) in
+        subst (λ (x : LockedState V). GrowsFor hash name x (locked_of w q)) is
+        (λ power from below. seeks.grows l.renewed.lawful power (subst (λ n. n ≤ power) before from) (subst (λ n. power < n) after below))
+      where
+        some : (ss : List (StripeState V)) → IsTable w.settings.s ss → 0 < length ss
+        some ss table = subst (λ n. 0 < n) (sym table.count) (pow_pos w.settings.s)
+
   -- what was done once room was made
   pub acted_since : (q : Name) (act : Act V) (reply : Reply V) (l m n : LockedState V) → KeepsMap l m → HasActed q m n act reply → HasActed q l n act reply
   acted_since q act reply l m n kept acts = record {
     session = acts.session ∙ ap (λ (x : LockedState V). record x { stripes = n.stripes }) kept.session;
     step = subst (λ x. Step x (On q act) reply (map_of n)) kept.same acts.step;
   }
+
+  -- what it has grown once room was made, where the number of buckets then stayed
+  pub grows_since : (hash : Name → ℕ) (q : Name) (l m n : LockedState V) → GrowsFor hash q l m → locked_power n ≡ locked_power m → GrowsFor hash q l n
+  grows_since hash q l m n grows same power from below = grows power from (subst (λ x. power < x) same below)

@@ -6,11 +6,13 @@ use Rattle.std.specs.Fn.{Mut}
 use Rattle.ck_model.specs.declared.history.Act.{Act}
 use Rattle.ck_model.specs.declared.history.Call.{Call}
 use Rattle.ck_model.specs.declared.history.Call.TheVariants.{On, Session}
+use Rattle.ck_model.specs.declared.history.Reason.TheVariants as reason
 use Rattle.ck_model.specs.declared.history.Reply.{Reply}
 use Rattle.ck_model.specs.declared.history.Reply.TheVariants.{Closed}
 use Rattle.ck_model.specs.declared.settings.Settings.{Settings}
 use Rattle.ck_model.specs.Promise.{Name, Map, Client, Step, After, Follows}
 use Rattle.ck_model.specs.Contents.{layout_of, Stripes, bindings, NamesApart, power_of}
+use Rattle.ck_model.specs.Doubling.{IsDoubledTo}
 use Rattle.ck_model.specs.Paths.{Grounds}
 use Rattle.ck_model.specs.Sections.{Renewed}
 use Rattle.ck_stripe.specs.Stripe.{StripeState}
@@ -18,7 +20,7 @@ use Rattle.ck_section.specs.declared.room.Lack.{Lack}
 use Rattle.ck_section.specs.Stripes.{contents_of}
 use Rattle.ck_section.specs.Whole.{AreAllHeld, AreSettled, IsTable}
 use Rattle.ck_section.specs.Retaining.{RetainsMap}
-use Rattle.ck_section.specs.Room.{reason_of_lack, KeepsBindings, MakesRoom, GivesReason}
+use Rattle.ck_section.specs.Room.{reason_of_lack, KeepsBindings, MakesRoom, GivesReason, GrowsForRoom}
 use Rattle.ck_words.specs.Words.{WordsState}
 use Rattle.ck_words.specs.Passes.{PassState, IsPassOf, ShowsSeen}
 use Rattle.ck_words.specs.Retries.{Stays, FindsAmong}
@@ -93,6 +95,16 @@ module _ {V : Type 0} where
     pub session : IsSameSession l m
     pub step : Step (map_of l) (On q act) reply (map_of m)
 
+  -- From l to m the map went by a call on a name with this reply, and the number of buckets stayed.
+  pub record HasChanged (q : Name) (l m : LockedState V) (act : Act V) (reply : Reply V) : Type 0 where
+    pub acted : HasActed q l m act reply
+    pub power : locked_power m ≡ locked_power l
+
+  -- From l to m the table has doubled, if at all, for want of room for the name alone: at each power from that of l on, below that of m, no displacement made room for it, and enough slots were taken to grow.
+  abbrev pub GrowsFor : (Name → ℕ) → Name → LockedState V → LockedState V → Type 0
+  GrowsFor hash q l m = (power : ℕ) → locked_power l ≤ power → power < locked_power m
+      → (ks : Stripes V) × IsDoubledTo (layout_of hash l.caller.table.settings) power (contents_of l.stripes) ks × Grounds (layout_of hash l.caller.table.settings) l.caller.table.settings.min_load ks q reason.Memory
+
   -- From l to m all names were unbound. The number of buckets stayed.
   pub record Clears (l m : LockedState V) : Type 0 where
     pub session : IsSameSession l m
@@ -135,12 +147,13 @@ module _ {V : Type 0} where
   abbrev pub ReservesLocked : ℕ → Result Bool GrowFault → LockedState V → LockedState V → Type 0
   ReservesLocked n result l m = (power : ℕ) × IsLeastPower n power × RehashesLocked power result l m
 
-  -- Room for the name was looked for among all stripes, which went from old to new: they are settled, and there is room, or a lack of it that was found.
+  -- Room for the name was looked for among all stripes, which went from old to new: they are settled, and there is room, or a lack of it that was found. They doubled only where nothing else made room.
   pub record SeeksRoom (hash : Name → ℕ) (set : Settings) (q : Name) (found : Result (Unit {0}) Lack) (old new : List (StripeState V)) : Type 0 where
     pub held : AreAllHeld set.s new
     pub no_call : KeepsBindings (layout_of hash set) old new
     pub room : OnOk found (MakesRoom (layout_of hash set) old new q)
     pub refused : IfErr found (GivesReason (layout_of hash set) set.min_load old new q)
+    pub grows : GrowsForRoom (layout_of hash set) set.min_load old new q
 
 -- From l to m the closure f was asked about each pair once, and those were unbound for which it answered false. The number of buckets stayed.
 pub record Retains {F K V : Type 0} (g : Mut F (Bor K × (Bor V × Unit {0})) Bool) (name : K → Name) (f : F) (l m : LockedState V) : Type 0 where

@@ -19,7 +19,7 @@ ghost use Rattle.ck_words.specs.Retries.{FindsAmong};
 ghost use Rattle.ck_words.specs.Closing.{IsCaller};
 ghost use Rattle.cuckoo_map.specs.Refusals.{IsStripeIn, IsBusyAmong, why_of};
 ghost use Rattle.cuckoo_map.specs.Callers.{caller_of, IsSameCaller};
-ghost use Rattle.cuckoo_map.specs.Locking.{map_of, session_call, EndsSession, EndsNotes, HasLocked, HasActed, GivesBack, Clears, Lists, KeepsMap, LacksRoom, SeeksRoom};
+ghost use Rattle.cuckoo_map.specs.Locking.{map_of, session_call, EndsSession, EndsNotes, HasLocked, HasActed, HasChanged, GrowsFor, GivesBack, Clears, Lists, KeepsMap, LacksRoom, SeeksRoom};
 ghost use Rattle.cuckoo_map.specs.Insertions.{TellsOf};
 
 use crate::caller::Caller;
@@ -106,14 +106,15 @@ impl<'t, K: TableKey + Drop, V: Drop> LockedTable<'t, K, V> {
     /// Binds the key to the value where it is unbound, and says whether it was. A bound key keeps
     /// its value, and the one that was passed is dropped.
     ///
-    /// Where both buckets of an unbound key are full, other entries are displaced to make room, or
-    /// the table grows, which changes no binding.
+    /// Where both buckets of an unbound key are full, other entries are displaced to make room. The
+    /// table doubles only where no displacement makes room. Neither changes a binding.
     ///
     /// Refused, it changes no binding and hands key and value back: as `Memory`, `Full` or
     /// `LoadTooLow`, and never as `Busy`. The table stays locked.
     pub fn insert(&mut self, key: K, value: V) -> Result<bool, Refused<K, V>>
         ensures answered { IfOk result (Inserts value (HasActed (K.name key) self.old self.new)) }
         ensures refused { IfErr result (GivesBack K.hash (K.name key) key value self.old self.new) }
+        ensures grows { GrowsFor K.hash (K.name key) self.old self.new }
     {
         self.put(key, value, entries::Insert)
     }
@@ -130,6 +131,7 @@ impl<'t, K: TableKey + Drop, V: Drop> LockedTable<'t, K, V> {
     pub fn insert_or_assign(&mut self, key: K, value: V) -> Result<Option<V>, Refused<K, V>>
         ensures answered { IfOk result (Assigns value (HasActed (K.name key) self.old self.new)) }
         ensures refused { IfErr result (GivesBack K.hash (K.name key) key value self.old self.new) }
+        ensures grows { GrowsFor K.hash (K.name key) self.old self.new }
     {
         self.put(key, value, entries::Assign)
     }
@@ -155,6 +157,7 @@ impl<'t, K: TableKey + Drop, V: Drop> LockedTable<'t, K, V> {
         requires call { F.IsAlwaysCallable f }
         ensures answered { IfOk result (Upserts (F.post f) value (HasActed (K.name key) self.old self.new)) }
         ensures refused { IfErr result (GivesBack K.hash (K.name key) key value self.old self.new) }
+        ensures grows { GrowsFor K.hash (K.name key) self.old self.new }
     {
         self.put(key, value, entries::Upsert(f))
     }
@@ -170,6 +173,7 @@ impl<'t, K: TableKey + Drop, V: Drop> LockedTable<'t, K, V> {
         ensures answered { IfOk result (TellsOf (I.tells insertion value)
             (HasActed (K.name key) self.old self.new)) }
         ensures refused { IfErr result (GivesBack K.hash (K.name key) key value self.old self.new) }
+        ensures grows { GrowsFor K.hash (K.name key) self.old self.new }
     {
         let place = self.place(&key);
         match put_in(&mut self.whole, place, key, value, insertion) {
@@ -191,6 +195,7 @@ impl<'t, K: TableKey + Drop, V: Drop> LockedTable<'t, K, V> {
         ensures answered { IfOk result (TellsOf (I.tells insertion value)
             (HasActed (K.name key) self.old self.new)) }
         ensures refused { IfErr result (GivesBack K.hash (K.name key) key value self.old self.new) }
+        ensures grows { GrowsFor K.hash (K.name key) self.old self.new }
     {
         if let Err(lack) = self.make_room(&key) {
             let why = Why::of(lack);
@@ -203,33 +208,35 @@ impl<'t, K: TableKey + Drop, V: Drop> LockedTable<'t, K, V> {
         }
     }
 
-    // Makes room for the key: entries are displaced, or the table grows.
+    // Makes room for the key: entries are displaced, and the table doubles only where that is not
+    // enough.
     fn make_room(&mut self, key: &K) -> Result<(), Lack>
         ensures kept { KeepsMap self.old self.new }
         ensures room { OnOk result (¬ (HasNoRoom (layout_of K.hash self.new.caller.table.settings)
             (contents_of self.new.stripes) (K.name key.now))) }
         ensures refused { IfErr result (λ lack.
             LacksRoom K.hash (K.name key.now) (why_of lack) self.old self.new) }
+        ensures grows { GrowsFor K.hash (K.name key.now) self.old self.new }
     {
         let table = self.table;
         make_room_in(&mut self.whole, table.words.settings(), key)
     }
 
     /// Binds a bound key to another value, and gives the one that it had; `None` where the key is
-    /// unbound, and then it stays so and the value is dropped.
+    /// unbound, and then it stays so and the value is dropped. The number of buckets stays.
     ///
     /// ```
     /// let old: Option<u64> = locked.update(&NumKey(5), 52);
     /// ```
     pub fn update<Q: Query<K>>(&mut self, key: Q, value: V) -> Option<V>
-        ensures { Updates value (HasActed (Q.name key) self.old self.new) result }
+        ensures { Updates value (HasChanged (Q.name key) self.old self.new) result }
     {
         let place = self.place(key);
         update(&mut self.whole, place, key, value)
     }
 
     /// Binds a bound key to what the closure makes of its value, and says whether the key is bound.
-    /// Where it is not, the closure is not called.
+    /// Where it is not, the closure is not called. The number of buckets stays.
     ///
     /// ```
     /// let bound: bool = locked.update_fn(&NumKey(5), |value| value / 2);
@@ -238,15 +245,16 @@ impl<'t, K: TableKey + Drop, V: Drop> LockedTable<'t, K, V> {
     where
         F: Drop,
         requires call { F.IsAlwaysCallable f }
-        ensures { Changes (F.post f) (HasActed (Q.name key) self.old self.new) result }
+        ensures { Changes (F.post f) (HasChanged (Q.name key) self.old self.new) result }
     {
         let place = self.place(key);
         update_fn(&mut self.whole, place, key, f)
     }
 
-    /// Unbinds the key, and gives the value that it had; `None` where it is unbound.
+    /// Unbinds the key, and gives the value that it had; `None` where it is unbound. The number of
+    /// buckets stays.
     pub fn erase<Q: Query<K>>(&mut self, key: Q) -> Option<V>
-        ensures { Erases (HasActed (Q.name key) self.old self.new) result }
+        ensures { Erases (HasChanged (Q.name key) self.old self.new) result }
     {
         let place = self.place(key);
         erase(&mut self.whole, place, key)

@@ -2,7 +2,7 @@
 ghost use Rattle.std.specs.Prelude.{IfOk, IfErr};
 ghost use Rattle.std.specs.Fn.{FnOnceReturnsAt};
 ghost use Rattle.ck_section.specs.Acts.{InsertsBy, FindsOrInserts, Uprases, TriesUpsert, ReplacesIf, TriesChange};
-ghost use Rattle.cuckoo_map.specs.Locking.{HasActed, GivesBack};
+ghost use Rattle.cuckoo_map.specs.Locking.{HasActed, HasChanged, GrowsFor, GivesBack};
 
 use crate::entries;
 use crate::locked::LockedTable;
@@ -28,6 +28,7 @@ impl<'t, K: TableKey + Drop, V: Drop> LockedTable<'t, K, V> {
         requires call { F.IsAlwaysCallable f }
         ensures answered { IfOk result (InsertsBy (F.post f) (HasActed (K.name key) self.old self.new)) }
         ensures refused { IfErr result (GivesBack K.hash (K.name key) key f self.old self.new) }
+        ensures grows { GrowsFor K.hash (K.name key) self.old self.new }
     {
         self.put(key, f, entries::InsertWith(PhantomData))
     }
@@ -52,6 +53,7 @@ impl<'t, K: TableKey + Drop, V: Drop> LockedTable<'t, K, V> {
         ensures answered { IfOk result (
             FindsOrInserts (F.post f) (HasActed (K.name key) self.old self.new)) }
         ensures refused { IfErr result (GivesBack K.hash (K.name key) key f self.old self.new) }
+        ensures grows { GrowsFor K.hash (K.name key) self.old self.new }
     {
         self.put(key, f, entries::GetOrInsertWith(PhantomData))
     }
@@ -79,6 +81,7 @@ impl<'t, K: TableKey + Drop, V: Drop> LockedTable<'t, K, V> {
         requires call { F.IsAlwaysCallable f }
         ensures answered { IfOk result (Uprases (F.post f) value (HasActed (K.name key) self.old self.new)) }
         ensures refused { IfErr result (GivesBack K.hash (K.name key) key value self.old self.new) }
+        ensures grows { GrowsFor K.hash (K.name key) self.old self.new }
     {
         self.put(key, value, entries::Uprase(f))
     }
@@ -108,13 +111,14 @@ impl<'t, K: TableKey + Drop, V: Drop> LockedTable<'t, K, V> {
         ensures answered { IfOk result (
             TriesUpsert (F.post f) value (HasActed (K.name key) self.old self.new)) }
         ensures refused { IfErr result (GivesBack K.hash (K.name key) key value self.old self.new) }
+        ensures grows { GrowsFor K.hash (K.name key) self.old self.new }
     {
         self.put(key, value, entries::TryUpsert(f))
     }
 
     /// Binds a bound key to what the closure makes of its value, where it makes one, and says
     /// whether it did: `Some(false)` where it made none, and then nothing changes; `None` where the
-    /// key is unbound, and then the closure is not called.
+    /// key is unbound, and then the closure is not called. The number of buckets stays.
     ///
     /// ```
     /// let taken: Option<bool> = locked.replace_if(&NumKey(5), |left: &u64| left.checked_sub(1));
@@ -127,7 +131,8 @@ impl<'t, K: TableKey + Drop, V: Drop> LockedTable<'t, K, V> {
     where
         F: Drop,
         requires call { F.IsAlwaysCallable f }
-        ensures { ReplacesIf (FnOnceReturnsAt F.FnOnce f) (HasActed (Q.name key) self.old self.new) result }
+        ensures { ReplacesIf (FnOnceReturnsAt F.FnOnce f)
+            (HasChanged (Q.name key) self.old self.new) result }
     {
         let place = self.place(key);
         let replaced = replace_if(&mut self.whole, place, key, f);
@@ -136,8 +141,8 @@ impl<'t, K: TableKey + Drop, V: Drop> LockedTable<'t, K, V> {
 
     /// Binds a bound key to the value that the closure gives back for its value, and gives the
     /// closure's error, if it fails; `None` where the key is unbound, and then the closure is not
-    /// called. It is for values that own memory: a closure that fails by giving back the value that
-    /// it got changes nothing.
+    /// called. The number of buckets stays. The call is for values that own memory: a closure that
+    /// fails by giving back the value that it got changes nothing.
     ///
     /// ```
     /// // The values are of type `Vec<u64>`. Where there is no memory for one more number, the key
@@ -156,7 +161,7 @@ impl<'t, K: TableKey + Drop, V: Drop> LockedTable<'t, K, V> {
     where
         F: Drop,
         requires call { F.IsAlwaysCallable f }
-        ensures { TriesChange (F.post f) (HasActed (Q.name key) self.old self.new) result }
+        ensures { TriesChange (F.post f) (HasChanged (Q.name key) self.old self.new) result }
     {
         let place = self.place(key);
         let outcome = try_update(&mut self.whole, place, key, f);

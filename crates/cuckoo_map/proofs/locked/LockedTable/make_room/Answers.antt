@@ -2,7 +2,7 @@ use Rattle.std.proofs.Common.{◌∙◌, ap, subst}
 use Rattle.ck_model.specs.declared.settings.Settings.{Settings}
 use Rattle.ck_words.specs.Words.{WordsState}
 use Rattle.cuckoo_map.specs.Locking.{SeeksRoom}
-use Rattle.cuckoo_map.proofs.Sessions.{sought_locked, keeps_map, has_room, lacks_room}
+use Rattle.cuckoo_map.proofs.Sessions.{sought_locked, keeps_map, has_room, lacks_room, grows_for}
 use Rattle.cuckoo_map.proofs.locked.LockedTable.make_room.Given.{Over}
 use Rattle.cuckoo_map.proofs.locked.LockedTable.make_room.Goals as goal
 
@@ -26,3 +26,7 @@ returns-clause-room g c =
 pub returns-clause-refused : goal.returns-clause-refused
 returns-clause-refused g c =
     lacks_room g.K.TableKey.hash c.self.inside.table.now c.self.inside.whole c.self.invariant (g.K.TableKey.name c.args.key.now) c.make_room_in.result c.make_room_in.new.whole c.make_room_in.ensures.same (sought g c) c.args.self.now c.self.view_is
+
+pub returns-clause-grows : goal.returns-clause-grows
+returns-clause-grows g c =
+    grows_for g.K.TableKey.hash c.self.inside.table.now c.self.inside.whole c.self.invariant (g.K.TableKey.name c.args.key.now) c.make_room_in.result c.make_room_in.new.whole c.make_room_in.ensures.same (sought g c) c.args.self.now c.self.view_is

@@ -1,6 +1,6 @@
 use Rattle.std.proofs.Common.{◌∙◌, sym, ap}
-use Rattle.cuckoo_map.specs.Locking.{LockedState}
-use Rattle.cuckoo_map.proofs.Sessions.{acted_locked, has_acted, acted_since, not_without}
+use Rattle.cuckoo_map.specs.Locking.{LockedState, locked_of}
+use Rattle.cuckoo_map.proofs.Sessions.{acted_locked, has_acted, acted_since, not_without, keeps_power, grows_since}
 use Rattle.cuckoo_map.proofs.locked.LockedTable.put_with_room.Goals as goal
 
 pub unreachable-requires : goal.unreachable-requires
@@ -25,3 +25,8 @@ returns-clause-answered g c =
       acted_since q call.0 call.1 c.args.self.now c.make_room.new.self _ c.make_room.ensures.kept
           (has_acted c.self.invariant c.self.view_is c.place-place.result c.place-place.ensures.s q c.put_in.new.whole c.put_in.ensures.same call.0 call.1 call.3),
     )
+
+pub returns-clause-grows : goal.returns-clause-grows
+returns-clause-grows g c =
+    grows_since g.K.TableKey.hash (g.K.TableKey.name c.args.key) c.args.self.now c.make_room.new.self (locked_of c.self.inside.table.now c.put_in.new.whole) c.make_room.ensures.grows
+    (keeps_power c.self.invariant c.put_in.new.whole c.put_in.ensures.same c.self.view_is c.put_in.ensures.rest)

@@ -1,7 +1,7 @@
 use Rattle.ck_model.specs.declared.history.Act.TheVariants.{Change}
 use Rattle.ck_model.specs.declared.history.Reply.TheVariants.{Done, Absent}
 use Rattle.cuckoo_map.proofs.Calls.{by_result, map_answer}
-use Rattle.cuckoo_map.proofs.Sessions.{only_stripes, place_held, acted_locked, has_acted}
+use Rattle.cuckoo_map.proofs.Sessions.{only_stripes, place_held, acted_locked, has_changed}
 use Rattle.cuckoo_map.proofs.locked.LockedTable.try_update.Goals as goal
 
 pub try_update-outcome-requires-clause-place : goal.try_update-outcome-requires-clause-place
@@ -17,8 +17,8 @@ invariant_of-self g c =
 
 pub returns : goal.returns
 returns g c =
-    let acted = has_acted c.self.invariant c.self.view_is c.place-place.result c.place-place.ensures.s (g.Q.Query.name c.args.key) c.try_update-outcome.new.held
+    let changed = has_changed c.self.invariant c.self.view_is c.place-place.result c.place-place.ensures.s (g.Q.Query.name c.args.key) c.try_update-outcome.new.held
     (only_stripes c.self.inside.whole c.try_update-outcome.new.held c.try_update-outcome.ensures.stays) in
     rw (c.ok.ensures.value) (map_answer c.try_update-outcome.result _ _ _ _ c.try_update-outcome.ensures.bound c.try_update-outcome.ensures.unbound
-    (λ outcome x. (x.0, x.1, x.2, acted Change (Done x.0 x.1) x.3))
-    (λ back x. acted Change Absent x.1))
+    (λ outcome x. (x.0, x.1, x.2, changed Change (Done x.0 x.1) c.try_update-outcome.ensures.rest x.3))
+    (λ back x. changed Change Absent c.try_update-outcome.ensures.rest x.1))

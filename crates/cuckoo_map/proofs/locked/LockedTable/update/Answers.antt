@@ -1,6 +1,6 @@
 use Rattle.ck_model.specs.declared.history.Act.TheVariants.{Update}
 use Rattle.ck_model.specs.declared.history.Reply.TheVariants.{Was}
-use Rattle.cuckoo_map.proofs.Sessions.{only_stripes, place_held, acted_locked, has_acted}
+use Rattle.cuckoo_map.proofs.Sessions.{only_stripes, place_held, acted_locked, has_changed}
 use Rattle.cuckoo_map.proofs.locked.LockedTable.update.Goals as goal
 
 pub update-requires : goal.update-requires
@@ -13,5 +13,6 @@ invariant_of-self g c =
 
 pub returns : goal.returns
 returns g c =
-    has_acted c.self.invariant c.self.view_is c.place-place.result c.place-place.ensures.s (g.Q.Query.name c.args.key) c.update.new.held
-    (only_stripes c.self.inside.whole c.update.new.held c.update.ensures.stays) (Update c.args.value) (Was c.update.result) c.update.ensures.call
+    let changed = has_changed c.self.invariant c.self.view_is c.place-place.result c.place-place.ensures.s (g.Q.Query.name c.args.key) c.update.new.held
+    (only_stripes c.self.inside.whole c.update.new.held c.update.ensures.stays) in
+    changed (Update c.args.value) (Was c.update.result) c.update.ensures.rest c.update.ensures.call

@@ -1,7 +1,7 @@
 use Rattle.ck_model.specs.declared.history.Act.TheVariants.{Change}
 use Rattle.ck_model.specs.declared.history.Reply.TheVariants.{Done, Absent}
 use Rattle.cuckoo_map.proofs.Calls.{by_bool, map_bool}
-use Rattle.cuckoo_map.proofs.Sessions.{only_stripes, place_held, acted_locked, has_acted}
+use Rattle.cuckoo_map.proofs.Sessions.{only_stripes, place_held, acted_locked, has_changed}
 use Rattle.cuckoo_map.proofs.locked.LockedTable.update_fn.Goals as goal
 
 pub update_fn-requires-clause-place : goal.update_fn-requires-clause-place
@@ -17,8 +17,8 @@ invariant_of-self g c =
 
 pub returns : goal.returns
 returns g c =
-    let acted = has_acted c.self.invariant c.self.view_is c.place-place.result c.place-place.ensures.s (g.Q.Query.name c.args.key) c.update_fn.new.held
+    let changed = has_changed c.self.invariant c.self.view_is c.place-place.result c.place-place.ensures.s (g.Q.Query.name c.args.key) c.update_fn.new.held
     (only_stripes c.self.inside.whole c.update_fn.new.held c.update_fn.ensures.stays) in
     map_bool c.update_fn.result _ _ _ _ c.update_fn.ensures.call
-    (λ x. (x.0, x.1, x.2, acted Change (Done x.0 x.1) x.3))
-    (λ x. acted Change Absent x)
+    (λ x. (x.0, x.1, x.2, changed Change (Done x.0 x.1) c.update_fn.ensures.rest x.3))
+    (λ x. changed Change Absent c.update_fn.ensures.rest x)
