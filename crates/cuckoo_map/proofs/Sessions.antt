@@ -17,7 +17,7 @@ use Rattle.ck_model.specs.declared.history.Reply.TheVariants.{Was, Closed}
 use Rattle.ck_model.specs.declared.settings.Settings.{Settings}
 use Rattle.ck_model.specs.Promise.{Name, Answers, Step, After}
 use Rattle.ck_model.specs.Numbered.{IsIn, numbers, Holds}
-use Rattle.ck_model.specs.Contents.{Layout, layout, layout_of, Stripes, Lawful, pairs_in, pairs_of, bindings, NamesApart}
+use Rattle.ck_model.specs.Contents.{Layout, layout, layout_of, Stripes, Lawful, pairs_in, pairs_of, bindings, NamesApart, power_of}
 use Rattle.ck_model.specs.Paths.{HasNoRoom, Grounds}
 use Rattle.ck_model.specs.Sections.{HasAll, Renewed, Section, IdentitySection}
 use Rattle.ck_model.proofs.Numbered.{held_of_in, in_held}
@@ -51,7 +51,7 @@ use Rattle.ck_words.proofs.Reversed.{in_of_reverse, bindings-reverse, lawful_rev
 use Rattle.ck_words.proofs.Seating.{length-numbers, number_at}
 use Rattle.ck_words.proofs.WholeTables.{lawful_held}
 use Rattle.cuckoo_map.specs.Refusals.{IsStripeIn, why_of}
-use Rattle.cuckoo_map.specs.Locking.{LockedState, locked_of, map_of, locked_power, IsSameSession, IsLocked, HasLocked, HasActed, HasChanged, GrowsFor, Clears, Lists, KeepsMap, LacksRoom, SeeksRoom, Retains}
+use Rattle.cuckoo_map.specs.Locking.{LockedState, locked_of, map_of, locked_power, IsSameSession, IsLocked, HasLocked, HasActed, HasChanged, DoublesFor, Clears, Lists, KeepsMap, LacksRoom, SeeksRoom, Retains}
 use Rattle.cuckoo_map.proofs.Sizes.{renewed_same, has_all, few_of_each}
 use Rattle.cuckoo_map.proofs.Counted.{one_of_lawful}
 
@@ -307,7 +307,7 @@ module _ {V : Type 0} where
     has_changed changes call = record { acted = has_acted call; power = keeps_power l q kept is changes }
 
   -- a locked table whose number of buckets stayed has not grown
-  pub grows_not : (hash : Name → ℕ) (q : Name) (l m : LockedState V) → locked_power m ≡ locked_power l → GrowsFor hash q l m
+  pub grows_not : (hash : Name → ℕ) (q : Name) (l m : LockedState V) → locked_power m ≡ locked_power l → DoublesFor hash q l m
   grows_not hash q l m same power from below = absurd (omega arith)
 
   -- room was made or not, and then all stripes were settled
@@ -351,11 +351,11 @@ module _ {V : Type 0} where
           grounds = subst (λ (x : LockedState V). Grounds (layout_of hash x.caller.table.settings) x.caller.table.settings.min_load (contents_of q.stripes) name (reason_of_lack lack)) is (grounds l.renewed.lawful);
         }) seeks.refused
 
-    pub grows_for : (s : LockedState V) → locked_of w p ≡ s → GrowsFor hash name s (locked_of w q)
+    pub grows_for : (s : LockedState V) → locked_of w p ≡ s → DoublesFor hash name s (locked_of w q)
     grows_for s is =
         let before : locked_power (locked_of w p) ≡ power_in p.stripes = power_shown p.stripes (some p.stripes l.table) in
         let after : locked_power (locked_of w q) ≡ power_in q.stripes = power_shown q.stripes (some q.stripes seeks.held.table) in
-        subst (λ (x : LockedState V). GrowsFor hash name x (locked_of w q)) is
+        subst (λ (x : LockedState V). DoublesFor hash name x (locked_of w q)) is
         (λ power from below. seeks.grows l.renewed.lawful power (subst (λ n. n ≤ power) before from) (subst (λ n. power < n) after below))
       where
         some : (ss : List (StripeState V)) → IsTable w.settings.s ss → 0 < length ss
@@ -369,5 +369,5 @@ module _ {V : Type 0} where
   }
 
   -- what it has grown once room was made, where the number of buckets then stayed
-  pub grows_since : (hash : Name → ℕ) (q : Name) (l m n : LockedState V) → GrowsFor hash q l m → locked_power n ≡ locked_power m → GrowsFor hash q l n
+  pub grows_since : (hash : Name → ℕ) (q : Name) (l m n : LockedState V) → DoublesFor hash q l m → locked_power n ≡ locked_power m → DoublesFor hash q l n
   grows_since hash q l m n grows same power from below = grows power from (subst (λ x. power < x) same below)

@@ -6,13 +6,11 @@ use Rattle.std.specs.Fn.{Mut}
 use Rattle.ck_model.specs.declared.history.Act.{Act}
 use Rattle.ck_model.specs.declared.history.Call.{Call}
 use Rattle.ck_model.specs.declared.history.Call.TheVariants.{On, Session}
-use Rattle.ck_model.specs.declared.history.Reason.TheVariants as reason
 use Rattle.ck_model.specs.declared.history.Reply.{Reply}
 use Rattle.ck_model.specs.declared.history.Reply.TheVariants.{Closed}
 use Rattle.ck_model.specs.declared.settings.Settings.{Settings}
 use Rattle.ck_model.specs.Promise.{Name, Map, Client, Step, After, Follows}
 use Rattle.ck_model.specs.Contents.{layout_of, Stripes, bindings, NamesApart, power_of}
-use Rattle.ck_model.specs.Doubling.{IsDoubledTo}
 use Rattle.ck_model.specs.Paths.{Grounds}
 use Rattle.ck_model.specs.Sections.{Renewed}
 use Rattle.ck_stripe.specs.Stripe.{StripeState}
@@ -30,6 +28,7 @@ use Rattle.cuckoo_map.specs.declared.refusal.Why.{Why}
 use Rattle.cuckoo_map.specs.declared.refusal.Refused.{Refused}
 use Rattle.cuckoo_map.specs.Refusals.{IsStripeIn, why_of}
 use Rattle.cuckoo_map.specs.Growth.{IsLeastPower}
+use Rattle.cuckoo_map.specs.Needed.{NeedsToGrow}
 use Rattle.cuckoo_map.specs.Callers.{CallerState, caller_of, pass_of, KeepsNotesBut}
 
 -- Its caller, what all stripes contained when it locked the table, and the stripes.
@@ -101,9 +100,8 @@ module _ {V : Type 0} where
     pub power : locked_power m ≡ locked_power l
 
   -- From l to m the table has doubled, if at all, for want of room for the name alone: at each power from that of l on, below that of m, no displacement made room for it, and enough slots were taken to grow.
-  abbrev pub GrowsFor : (Name → ℕ) → Name → LockedState V → LockedState V → Type 0
-  GrowsFor hash q l m = (power : ℕ) → locked_power l ≤ power → power < locked_power m
-      → (ks : Stripes V) × IsDoubledTo (layout_of hash l.caller.table.settings) power (contents_of l.stripes) ks × Grounds (layout_of hash l.caller.table.settings) l.caller.table.settings.min_load ks q reason.Memory
+  abbrev pub DoublesFor : (Name → ℕ) → Name → LockedState V → LockedState V → Type 0
+  DoublesFor hash q l m = (power : ℕ) → locked_power l ≤ power → power < locked_power m → NeedsToGrow hash l.caller.table.settings q (contents_of l.stripes) power
 
   -- From l to m all names were unbound. The number of buckets stayed.
   pub record Clears (l m : LockedState V) : Type 0 where

@@ -19,7 +19,7 @@ ghost use Rattle.ck_words.specs.Retries.{FindsAmong};
 ghost use Rattle.ck_words.specs.Closing.{IsCaller};
 ghost use Rattle.cuckoo_map.specs.Refusals.{IsStripeIn, IsBusyAmong, why_of};
 ghost use Rattle.cuckoo_map.specs.Callers.{caller_of, IsSameCaller};
-ghost use Rattle.cuckoo_map.specs.Locking.{map_of, session_call, EndsSession, EndsNotes, HasLocked, HasActed, HasChanged, GrowsFor, GivesBack, Clears, Lists, KeepsMap, LacksRoom, SeeksRoom};
+ghost use Rattle.cuckoo_map.specs.Locking.{map_of, session_call, EndsSession, EndsNotes, HasLocked, HasActed, HasChanged, DoublesFor, GivesBack, Clears, Lists, KeepsMap, LacksRoom, SeeksRoom};
 ghost use Rattle.cuckoo_map.specs.Insertions.{TellsOf};
 
 use crate::caller::Caller;
@@ -114,7 +114,7 @@ impl<'t, K: TableKey + Drop, V: Drop> LockedTable<'t, K, V> {
     pub fn insert(&mut self, key: K, value: V) -> Result<bool, Refused<K, V>>
         ensures answered { IfOk result (Inserts value (HasActed (K.name key) self.old self.new)) }
         ensures refused { IfErr result (GivesBack K.hash (K.name key) key value self.old self.new) }
-        ensures grows { GrowsFor K.hash (K.name key) self.old self.new }
+        ensures grows { DoublesFor K.hash (K.name key) self.old self.new }
     {
         self.put(key, value, entries::Insert)
     }
@@ -131,7 +131,7 @@ impl<'t, K: TableKey + Drop, V: Drop> LockedTable<'t, K, V> {
     pub fn insert_or_assign(&mut self, key: K, value: V) -> Result<Option<V>, Refused<K, V>>
         ensures answered { IfOk result (Assigns value (HasActed (K.name key) self.old self.new)) }
         ensures refused { IfErr result (GivesBack K.hash (K.name key) key value self.old self.new) }
-        ensures grows { GrowsFor K.hash (K.name key) self.old self.new }
+        ensures grows { DoublesFor K.hash (K.name key) self.old self.new }
     {
         self.put(key, value, entries::Assign)
     }
@@ -157,7 +157,7 @@ impl<'t, K: TableKey + Drop, V: Drop> LockedTable<'t, K, V> {
         requires call { F.IsAlwaysCallable f }
         ensures answered { IfOk result (Upserts (F.post f) value (HasActed (K.name key) self.old self.new)) }
         ensures refused { IfErr result (GivesBack K.hash (K.name key) key value self.old self.new) }
-        ensures grows { GrowsFor K.hash (K.name key) self.old self.new }
+        ensures grows { DoublesFor K.hash (K.name key) self.old self.new }
     {
         self.put(key, value, entries::Upsert(f))
     }
@@ -173,7 +173,7 @@ impl<'t, K: TableKey + Drop, V: Drop> LockedTable<'t, K, V> {
         ensures answered { IfOk result (TellsOf (I.tells insertion value)
             (HasActed (K.name key) self.old self.new)) }
         ensures refused { IfErr result (GivesBack K.hash (K.name key) key value self.old self.new) }
-        ensures grows { GrowsFor K.hash (K.name key) self.old self.new }
+        ensures grows { DoublesFor K.hash (K.name key) self.old self.new }
     {
         let place = self.place(&key);
         match put_in(&mut self.whole, place, key, value, insertion) {
@@ -195,7 +195,7 @@ impl<'t, K: TableKey + Drop, V: Drop> LockedTable<'t, K, V> {
         ensures answered { IfOk result (TellsOf (I.tells insertion value)
             (HasActed (K.name key) self.old self.new)) }
         ensures refused { IfErr result (GivesBack K.hash (K.name key) key value self.old self.new) }
-        ensures grows { GrowsFor K.hash (K.name key) self.old self.new }
+        ensures grows { DoublesFor K.hash (K.name key) self.old self.new }
     {
         if let Err(lack) = self.make_room(&key) {
             let why = Why::of(lack);
@@ -216,7 +216,7 @@ impl<'t, K: TableKey + Drop, V: Drop> LockedTable<'t, K, V> {
             (contents_of self.new.stripes) (K.name key.now))) }
         ensures refused { IfErr result (λ lack.
             LacksRoom K.hash (K.name key.now) (why_of lack) self.old self.new) }
-        ensures grows { GrowsFor K.hash (K.name key.now) self.old self.new }
+        ensures grows { DoublesFor K.hash (K.name key.now) self.old self.new }
     {
         let table = self.table;
         make_room_in(&mut self.whole, table.words.settings(), key)

@@ -2,7 +2,7 @@
 ghost use Rattle.std.specs.Prelude.{IfOk, IfErr};
 ghost use Rattle.std.specs.Fn.{FnOnceReturnsAt};
 ghost use Rattle.ck_section.specs.Acts.{InsertsBy, FindsOrInserts, Uprases, TriesUpsert, ReplacesIf, TriesChange};
-ghost use Rattle.cuckoo_map.specs.Locking.{HasActed, HasChanged, GrowsFor, GivesBack};
+ghost use Rattle.cuckoo_map.specs.Locking.{HasActed, HasChanged, DoublesFor, GivesBack};
 
 use crate::entries;
 use crate::locked::LockedTable;
@@ -28,7 +28,7 @@ impl<'t, K: TableKey + Drop, V: Drop> LockedTable<'t, K, V> {
         requires call { F.IsAlwaysCallable f }
         ensures answered { IfOk result (InsertsBy (F.post f) (HasActed (K.name key) self.old self.new)) }
         ensures refused { IfErr result (GivesBack K.hash (K.name key) key f self.old self.new) }
-        ensures grows { GrowsFor K.hash (K.name key) self.old self.new }
+        ensures grows { DoublesFor K.hash (K.name key) self.old self.new }
     {
         self.put(key, f, entries::InsertWith(PhantomData))
     }
@@ -53,7 +53,7 @@ impl<'t, K: TableKey + Drop, V: Drop> LockedTable<'t, K, V> {
         ensures answered { IfOk result (
             FindsOrInserts (F.post f) (HasActed (K.name key) self.old self.new)) }
         ensures refused { IfErr result (GivesBack K.hash (K.name key) key f self.old self.new) }
-        ensures grows { GrowsFor K.hash (K.name key) self.old self.new }
+        ensures grows { DoublesFor K.hash (K.name key) self.old self.new }
     {
         self.put(key, f, entries::GetOrInsertWith(PhantomData))
     }
@@ -81,7 +81,7 @@ impl<'t, K: TableKey + Drop, V: Drop> LockedTable<'t, K, V> {
         requires call { F.IsAlwaysCallable f }
         ensures answered { IfOk result (Uprases (F.post f) value (HasActed (K.name key) self.old self.new)) }
         ensures refused { IfErr result (GivesBack K.hash (K.name key) key value self.old self.new) }
-        ensures grows { GrowsFor K.hash (K.name key) self.old self.new }
+        ensures grows { DoublesFor K.hash (K.name key) self.old self.new }
     {
         self.put(key, value, entries::Uprase(f))
     }
@@ -111,7 +111,7 @@ impl<'t, K: TableKey + Drop, V: Drop> LockedTable<'t, K, V> {
         ensures answered { IfOk result (
             TriesUpsert (F.post f) value (HasActed (K.name key) self.old self.new)) }
         ensures refused { IfErr result (GivesBack K.hash (K.name key) key value self.old self.new) }
-        ensures grows { GrowsFor K.hash (K.name key) self.old self.new }
+        ensures grows { DoublesFor K.hash (K.name key) self.old self.new }
     {
         self.put(key, value, entries::TryUpsert(f))
     }

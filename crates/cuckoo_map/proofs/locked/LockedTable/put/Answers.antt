@@ -1,7 +1,7 @@
 use Rattle.std.proofs.Common.{◌∙◌, ap, subst}
 use Rattle.ck_model.specs.Promise.{Name}
 use Rattle.ck_words.specs.Passes.{PassState}
-use Rattle.cuckoo_map.specs.Locking.{LockedState, locked_of, GrowsFor}
+use Rattle.cuckoo_map.specs.Locking.{LockedState, locked_of, DoublesFor}
 use Rattle.cuckoo_map.proofs.Sessions.{acted_locked, has_acted, keeps_power, grows_not}
 use Rattle.cuckoo_map.proofs.locked.LockedTable.put.Goals as goal
 
@@ -30,4 +30,4 @@ pub returns-in-Err-clause-grows : goal.returns-in-Err-clause-grows
 returns-in-Err-clause-grows g c =
     let same = ap (λ (p : PassState g.row.V.Denot). locked_of c.self.inside.table.now p) c.in-Err.ensures.left ∙ c.self.view_is in
     let name = ap (λ (k : g.row.K.Denot). g.K.TableKey.name k) c.in-Err.ensures.full.0 in
-    subst (λ (x : Name × LockedState g.row.V.Denot). GrowsFor g.K.TableKey.hash x.0 x.1 c.put_with_room.new.self) (λ j. (name j, same j)) c.put_with_room.ensures.grows
+    subst (λ (x : Name × LockedState g.row.V.Denot). DoublesFor g.K.TableKey.hash x.0 x.1 c.put_with_room.new.self) (λ j. (name j, same j)) c.put_with_room.ensures.grows
