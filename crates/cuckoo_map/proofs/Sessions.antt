@@ -351,6 +351,7 @@ module _ {V : Type 0} where
           grounds = subst (λ (x : LockedState V). Grounds (layout_of hash x.caller.table.settings) x.caller.table.settings.min_load (contents_of q.stripes) name (reason_of_lack lack)) is (grounds l.renewed.lawful);
         }) seeks.refused
 
+    -- and the table grew for want of it alone
     pub grows_for : (s : LockedState V) → locked_of w p ≡ s → DoublesFor hash name s (locked_of w q)
     grows_for s is =
         let before : locked_power (locked_of w p) ≡ power_in p.stripes = power_shown p.stripes (some p.stripes l.table) in
