@@ -98,6 +98,7 @@ module _ {V : Type 0} where
             since = stays.seen;
             seen = subst (λ (v : View V). StartsWith z.view.seen v.seen) view seen;
             after = grown.after (let l : a < b = omega arith in l);
+            told = (let before = stays.told in let there = grown.told (let l : a < b = omega arith in l) in omega arith);
             each = λ i l. grown.needed (a + i) (omega arith) (let below : a + i < b = omega arith in below);
           };
         }
@@ -110,6 +111,7 @@ module _ {V : Type 0} where
         before = λ t c h. one t c (subst (λ (hs : Stripes V). Holds hs t c) (sym unchanged) (held_reverse p.view.held t c h)) ∙ sym same;
         now = one;
         after = λ l. absurd (omega arith);
+        told = λ l. absurd (omega arith);
         needed = λ power least below. absurd (omega arith);
       }
 
@@ -121,6 +123,7 @@ module _ {V : Type 0} where
         before = subst (λ (v : View V). (t : ℕ) (c : Content V) → Holds v.held t c → c.power ≡ power_of (reverse v.held)) (sym view) grown.before;
         now = one;
         after = subst (λ (x : View V × Stripes V). power_of (reverse x.0.held) < power_of x.1 → After x.0.seen (bindings (reverse x.0.held))) (λ j. (sym view j, sym same j)) grown.after;
+        told = subst (λ (x : View V × Stripes V). power_of (reverse x.0.held) < power_of x.1 → x.0.told ≤ power_of (reverse x.0.held)) (λ j. (sym view j, sym same j)) grown.told;
         needed = subst (λ (x : View V × Stripes V). (power : ℕ) → power_of (reverse x.0.held) ≤ power → power < power_of x.1 → NeedsToGrow hash set q (reverse x.0.held) power) (λ j. (sym view j, sym same j)) grown.needed;
       }
 
@@ -133,13 +136,13 @@ module _ {V : Type 0} where
   grown_since p r z stays grown = record {
     doublings = grown.doublings;
     made = grown.made ∙ ap (λ n. n + grown.doublings) stays.doublings;
-    needed = λ some. let n = grown.needed some in record { log = n.log; contents = n.contents; since = starts_on p.view.seen r.view.seen n.log stays.seen n.since; seen = n.seen; after = n.after; each = n.each };
+    needed = λ some. let n = grown.needed some in record { log = n.log; contents = n.contents; since = starts_on p.view.seen r.view.seen n.log stays.seen n.since; seen = n.seen; after = n.after; told = (let before = stays.told in let there = n.told in omega arith); each = n.each };
   }
 
-  -- it counts what passes have seen and made alone
-  pub grown_alike : {hash : Name → ℕ} {set : Settings} {q : Name} (p z p2 z2 : PassState V) → p2.view.seen ≡ p.view.seen → p2.view.doublings ≡ p.view.doublings → z2.view.seen ≡ z.view.seen → z2.view.doublings ≡ z.view.doublings
+  -- it counts what passes have seen, were told and made alone
+  pub grown_alike : {hash : Name → ℕ} {set : Settings} {q : Name} (p z p2 z2 : PassState V) → p2.view.seen ≡ p.view.seen → p2.view.told ≡ p.view.told → p2.view.doublings ≡ p.view.doublings → z2.view.seen ≡ z.view.seen → z2.view.doublings ≡ z.view.doublings
       → HasGrownFor hash set q p z → HasGrownFor hash set q p2 z2
-  grown_alike p z p2 z2 seen made seen2 made2 grown = record {
+  grown_alike p z p2 z2 seen told made seen2 made2 grown = record {
     doublings = grown.doublings;
     made = made2 ∙ (grown.made ∙ ap (λ n. n + grown.doublings) (sym made));
     needed = λ some. let n = grown.needed some in record {
@@ -148,6 +151,7 @@ module _ {V : Type 0} where
       since = subst (λ l. StartsWith n.log l) (sym seen) n.since;
       seen = subst (λ l. StartsWith l n.log) (sym seen2) n.seen;
       after = n.after;
+      told = subst (λ m. m ≤ power_of n.contents) (sym told) n.told;
       each = n.each;
     };
   }

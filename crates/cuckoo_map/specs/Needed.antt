@@ -19,13 +19,14 @@ module _ {V : Type 0} where
   abbrev pub NeedsToGrow : (Name → ℕ) → Settings → Name → Stripes V → ℕ → Type 0
   NeedsToGrow hash set q hs power = (ks : Stripes V) × IsDoubledTo (layout_of hash set) power hs ks × Grounds (layout_of hash set) set.min_load ks q Memory
 
-  -- At a moment since p, up to which p2 has seen the history, all stripes contained what it leaves. From then on the table needed so many doublings to have room for the name.
+  -- At a moment since p, up to which p2 has seen the history, all stripes contained what it leaves, at no lower power than p was told. From then on the table needed so many doublings to have room for the name.
   pub record NeedsDoublings (hash : Name → ℕ) (set : Settings) (q : Name) (doublings : ℕ) (p p2 : PassState V) : Type 0 where
     pub log : List (Entry V)
     pub contents : Stripes V
     pub since : StartsWith log p.view.seen
     pub seen : StartsWith p2.view.seen log
     pub after : After log (bindings contents)
+    pub told : p.view.told ≤ power_of contents
     pub each : (i : ℕ) → i < doublings → NeedsToGrow hash set q contents (power_of contents + i)
 
   -- From p to p2 the caller made the table double no more often than it had to for the name.
@@ -38,9 +39,10 @@ module _ {V : Type 0} where
   abbrev pub HaveOnePower : List (StripeState V) → Type 0
   HaveOnePower stripes = AreOfPower (power_of (contents_of stripes)) stripes
 
-  -- The stripes that the pass holds had one power when it took them, and have one. If they have doubled since, they are all stripes, which contained what the history leaves, and each doubling was needed for the name.
+  -- The stripes that the pass holds had one power when it took them, and have one. If they have doubled since, they are all stripes, which contained what the history leaves, at no lower power than the pass was told, and each doubling was needed for the name.
   pub record HoldsGrown (hash : Name → ℕ) (set : Settings) (q : Name) (p : PassState V) : Type 0 where
     pub before : (t : ℕ) (c : Content V) → Holds p.view.held t c → c.power ≡ power_of (reverse p.view.held)
     pub now : HaveOnePower p.stripes
     pub after : power_of (reverse p.view.held) < power_of (contents_of p.stripes) → After p.view.seen (bindings (reverse p.view.held))
+    pub told : power_of (reverse p.view.held) < power_of (contents_of p.stripes) → p.view.told ≤ power_of (reverse p.view.held)
     pub needed : (power : ℕ) → power_of (reverse p.view.held) ≤ power → power < power_of (contents_of p.stripes) → NeedsToGrow hash set q (reverse p.view.held) power
