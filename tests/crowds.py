@@ -141,6 +141,13 @@ def listing(workers, lines):
         ["len" if at % 16 else "list" for at in range(lines // 8)] for _ in range(workers - 1)])
 
 
+def lists(workers, lines):
+    """Each binds keys of its own, and lists the table then."""
+    return script(["s 2"], [
+        ["insert %d %d" % (scattered(worker * lines + at), at) for at in range(lines)] + ["list"]
+        for worker in range(workers)])
+
+
 def busy_block(first, lines, binders, bound):
     """Changes four keys of its own, and looks for those that others bind."""
     yield from ("insert %d 100" % (first + own) for own in range(4))
@@ -186,4 +193,5 @@ def mixed(seed, lines):
 
 
 CROWDS = {crowd.__name__: crowd for crowd in
-          (bind, add, renew, assign, transfer, sessions, fill, grow, wide, listing, crowd, mixed)}
+          (bind, add, renew, assign, transfer, sessions, fill, grow, wide, listing, lists, crowd,
+           mixed)}
