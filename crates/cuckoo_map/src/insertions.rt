@@ -36,7 +36,8 @@ impl<K: TableKey + Drop, V: Drop> Table<K, V> {
     pub fn insert(&self, pass: &mut Pass<K, V>, key: K, value: V) -> Result<bool, Refused<K, V>>
         requires caller { IsCaller self.now pass.old }
         ensures caller { IsCaller self.now pass.new }
-        ensures answered { IfOk result (Inserts value (IsInserted K.hash self.now.settings (K.name key) pass.old pass.new)) }
+        ensures answered { IfOk result (Inserts value
+            (IsInserted K.hash self.now.settings (K.name key) pass.old pass.new)) }
         ensures refused { IfErr result (HandsBack K.hash self.now.settings (K.name key)
             key value pass.old pass.new) }
         ensures found { FindsOwnUnlessFull K.hash self.now.settings (K.name key) pass.old pass.new }
@@ -61,7 +62,8 @@ impl<K: TableKey + Drop, V: Drop> Table<K, V> {
     ) -> Result<Option<V>, Refused<K, V>>
         requires caller { IsCaller self.now pass.old }
         ensures caller { IsCaller self.now pass.new }
-        ensures answered { IfOk result (Assigns value (IsInserted K.hash self.now.settings (K.name key) pass.old pass.new)) }
+        ensures answered { IfOk result (Assigns value
+            (IsInserted K.hash self.now.settings (K.name key) pass.old pass.new)) }
         ensures refused { IfErr result (HandsBack K.hash self.now.settings (K.name key)
             key value pass.old pass.new) }
         ensures found { FindsOwnUnlessFull K.hash self.now.settings (K.name key) pass.old pass.new }
@@ -93,7 +95,8 @@ impl<K: TableKey + Drop, V: Drop> Table<K, V> {
         requires call { F.IsAlwaysCallable f }
         ensures caller { IsCaller self.now pass.new }
         ensures answered { IfOk result (
-            Upserts (F.post f) value (IsInserted K.hash self.now.settings (K.name key) pass.old pass.new)) }
+            Upserts (F.post f) value
+            (IsInserted K.hash self.now.settings (K.name key) pass.old pass.new)) }
         ensures refused { IfErr result (HandsBack K.hash self.now.settings (K.name key)
             key value pass.old pass.new) }
         ensures found { FindsOwnUnlessFull K.hash self.now.settings (K.name key) pass.old pass.new }
@@ -132,7 +135,8 @@ impl<K: TableKey + Drop, V: Drop> Table<K, V> {
         requires call { F.IsAlwaysCallable f }
         ensures caller { IsCaller self.now pass.new }
         ensures answered { IfOk result (
-            TriesUpsert (F.post f) value (IsInserted K.hash self.now.settings (K.name key) pass.old pass.new)) }
+            TriesUpsert (F.post f) value
+            (IsInserted K.hash self.now.settings (K.name key) pass.old pass.new)) }
         ensures refused { IfErr result (HandsBack K.hash self.now.settings (K.name key)
             key value pass.old pass.new) }
         ensures found { FindsOwnUnlessFull K.hash self.now.settings (K.name key) pass.old pass.new }
@@ -169,7 +173,8 @@ impl<K: TableKey + Drop, V: Drop> Table<K, V> {
         requires call { F.IsAlwaysCallable f }
         ensures caller { IsCaller self.now pass.new }
         ensures answered { IfOk result (
-            InsertsBy (F.post f) (IsInserted K.hash self.now.settings (K.name key) pass.old pass.new)) }
+            InsertsBy (F.post f)
+            (IsInserted K.hash self.now.settings (K.name key) pass.old pass.new)) }
         ensures refused { IfErr result (HandsBack K.hash self.now.settings (K.name key)
             key f pass.old pass.new) }
         ensures found { FindsOwnUnlessFull K.hash self.now.settings (K.name key) pass.old pass.new }
@@ -206,7 +211,8 @@ impl<K: TableKey + Drop, V: Drop> Table<K, V> {
         requires call { F.IsAlwaysCallable f }
         ensures caller { IsCaller self.now pass.new }
         ensures answered { IfOk result (
-            Uprases (F.post f) value (IsInserted K.hash self.now.settings (K.name key) pass.old pass.new)) }
+            Uprases (F.post f) value
+            (IsInserted K.hash self.now.settings (K.name key) pass.old pass.new)) }
         ensures refused { IfErr result (HandsBack K.hash self.now.settings (K.name key)
             key value pass.old pass.new) }
         ensures found { FindsOwnUnlessFull K.hash self.now.settings (K.name key) pass.old pass.new }
@@ -243,7 +249,8 @@ impl<K: TableKey + Drop, V: Drop> Table<K, V> {
         requires call { F.IsAlwaysCallable f }
         ensures caller { IsCaller self.now pass.new }
         ensures answered { IfOk result (
-            FindsOrInserts (F.post f) (IsInserted K.hash self.now.settings (K.name key) pass.old pass.new)) }
+            FindsOrInserts (F.post f)
+            (IsInserted K.hash self.now.settings (K.name key) pass.old pass.new)) }
         ensures refused { IfErr result (HandsBack K.hash self.now.settings (K.name key)
             key f pass.old pass.new) }
         ensures found { FindsOwnUnlessFull K.hash self.now.settings (K.name key) pass.old pass.new }
