@@ -16,6 +16,8 @@ mod messages;
 #[cfg(test)]
 mod nested;
 #[cfg(test)]
+mod overtaken;
+#[cfg(test)]
 mod pools;
 #[cfg(test)]
 mod texts;
