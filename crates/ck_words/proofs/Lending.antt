@@ -83,14 +83,14 @@ module _ {V : Type 0} (old new : StripeSeat V) (p : PassState V) (is : state_of 
       let count : length (held_in new.me.1) ≡ length (held_in old.me.1) = ap length puts.stripes ∙ length-set (held_in old.me.1) i after in
       sym (put_here old new i after before puts) ∙ get_or_default (held_in new.me.1) i no_stripe d (omega arith)
 
-  -- what the visit leaves; x and y are not of the seat
-  pub visited_there : {X Y : Type 0} (x : X) (y : Y) (does : StripeState V → StripeState V → Type 0) → does (stripe_at (held_in old.me.1) i) after → record {
+  -- what the visit leaves; x, y, z and w are not of the seat
+  pub visited_there : {X Y Z W : Type 0} (x : X) (y : Y) (z : Z) (w : W) (does : StripeState V → StripeState V → Type 0) → does (stripe_at (held_in old.me.1) i) after → record {
     visited : (d : StripeState V) → does (get_or p.stripes i d) (get_or (held_in new.me.1) i d);
     others : (d : StripeState V) → held_in new.me.1 ≡ slice_set p.stripes i (get_or (held_in new.me.1) i d);
-    stays : (x ≡ x) × (new.me.0 ≡ p.view) × (new.table_id ≡ p.table) × (y ≡ y);
+    stays : (x ≡ x) × (new.me.0 ≡ p.view) × (new.table_id ≡ p.table) × (y ≡ y) × (z ≡ z) × (w ≡ w);
   }
-  visited_there x y does did = record {
+  visited_there x y z w does did = record {
     visited = λ d. subst (λ (z : StripeState V × StripeState V). does z.0 z.1) (λ j. (found_there d j, left_there d j)) did;
     others = λ d. puts.stripes ∙ λ j. slice_set (is j).stripes i (left_there d j);
-    stays = (refl, puts.view ∙ ap (λ (q : PassState V). q.view) is, puts.table ∙ ap (λ (q : PassState V). q.table) is, refl);
+    stays = (refl, puts.view ∙ ap (λ (q : PassState V). q.view) is, puts.table ∙ ap (λ (q : PassState V). q.table) is, refl, refl, refl);
   }

@@ -6,6 +6,7 @@ pub mod Excuses
 pub mod Seating
 pub mod Takes
 pub mod Gives
+pub mod Guarding
 pub mod Staying
 pub mod Turning
 pub mod Lending

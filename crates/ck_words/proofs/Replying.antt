@@ -1,5 +1,5 @@
 -- The reply of a call is what the bindings before and after it tell.
-use Rattle.std.proofs.Common.{◌≡◌, ◌⊎◌, ℕ, [], ◌∷◌, ◌++◌, inl, inr, append-nil, reverse, sym, refl, ap, ◌∙◌, subst, ⊎_elim, arith, Option, Some, None, IsSome, rules}
+use Rattle.std.proofs.Common.{◌≡◌, ◌≢◌, ◌⊎◌, ℕ, [], ◌∷◌, ◌++◌, inl, inr, append-nil, reverse, sym, refl, ap, ◌∙◌, subst, ⊎_elim, arith, Option, Some, None}
 use Rattle.std.specs.Option.{unwrap_or}
 use Rattle.std.specs.FinMap.{get, len}
 use Rattle.ck_model.specs.declared.history.Act.{Act}
@@ -23,7 +23,7 @@ use Rattle.ck_words.specs.declared.commit.Commit.{Commit}
 use Rattle.ck_words.specs.Commits.{call_of}
 use Rattle.ck_words.specs.Steps.{Steps}
 use Rattle.ck_words.specs.Words.{WordsState}
-use Rattle.ck_words.specs.Passes.{PassState, Sends}
+use Rattle.ck_words.specs.Passes.{PassState, IsPassOf, Sends}
 use Rattle.ck_words.specs.Retries.{Stays, as_doubled}
 use Rattle.ck_words.specs.Answering.{HasDone, IsAnswered, HasCommitted}
 use Rattle.ck_words.specs.Holding.{HasReleased}
@@ -31,9 +31,10 @@ use Rattle.ck_words.proofs.Reversed.{lawful_reverse}
 use Rattle.ck_words.proofs.Telling.{doubled_decided}
 use Rattle.ck_words.proofs.Rows.{shows_before, shows_after, decide_row}
 
-pub number_in : (o : Option ℕ) → IsSome o → (m : ℕ) × (o ≡ Some m)
-number_in None h = absurd (search rules)
-number_in (Some m) h = (m, refl)
+-- a number that is there is the one that is read
+pub read_there : (o : Option ℕ) → o ≢ None → o ≡ Some (unwrap_or o 0)
+read_there None h = absurd (h refl)
+read_there (Some m) h = refl
 
 module _ {V : Type 0} where
   -- from what the name was bound to before, and after
@@ -159,15 +160,16 @@ module _ {V : Type 0} where
           };
         }
 
-    pub has_committed : IsSome p.view.by → p.view.settings ≡ set → (q1 q : PassState V) → Sends hash w (λ t ks. Decide t ks (entry_for call p)) p q1 → HasReleased w q1 q → HasCommitted hash w call p q
-    has_committed some of_table q1 q d r =
-        let m = number_in p.view.by some in
+    pub has_committed : IsPassOf w p → (q1 q : PassState V) → Sends hash w (λ t ks. Decide t ks (entry_for call p)) p q1 → HasReleased w q1 q → HasCommitted hash w call p q
+    has_committed own q1 q d r =
+        let m = unwrap_or p.view.by 0 in
+        let by : p.view.by ≡ Some m = read_there p.view.by own.2 in
         let row = decide_row hash set p.view q1.view d.0.number (reverse (contents_of p.stripes)) (entry_for call p) d.2 in
         record {
           own = r.own;
           idle = r.idle;
-          answered = is_answered m.0 m.1 of_table d.0.number (reverse (contents_of p.stripes)) q1 q d.2 r.stays r.seen;
-          follows = λ reply done all. (m.0, m.1, follows m.0 m.1 d.0.number (reverse (contents_of p.stripes)) q1 q d.2 r.seen reply done (inr all));
+          answered = is_answered m by own.1 d.0.number (reverse (contents_of p.stripes)) q1 q d.2 r.stays r.seen;
+          follows = λ reply done all. (m, by, follows m by d.0.number (reverse (contents_of p.stripes)) q1 q d.2 r.seen reply done (inr all));
           by = r.stays.by ∙ ap (λ (v : View V). v.by) row;
           others = r.stays.others ∙ ap (λ (v : View V). v.others) row;
           found = r.found ∙ ap (λ (v : View V). v.found) row;
@@ -175,7 +177,7 @@ module _ {V : Type 0} where
         }
 
 -- the call of what was said of a commit
-pub has_committed_said : {K V : Type 0} (hash : Name → ℕ) (name : K → Name) (w : WordsState) (said call : Commit K V) → said ≡ call → (p : PassState V) → IsSome p.view.by → p.view.settings ≡ w.settings → (q : PassState V)
+pub has_committed_said : {K V : Type 0} (hash : Name → ℕ) (name : K → Name) (w : WordsState) (said call : Commit K V) → said ≡ call → (p : PassState V) → IsPassOf w p → (q : PassState V)
     → (q1 : PassState V) × Sends hash w (λ t ks. Decide t ks (entry_for (call_of name said) p)) p q1 × HasReleased w q1 q → HasCommitted hash w (call_of name call) p q
-has_committed_said {K} {V} hash name w said call is p some of_table q did =
-    subst (λ (x : Commit K V). HasCommitted hash w (call_of name x) p q) is (has_committed hash w (call_of name said) p some of_table did.0 q did.1 did.2)
+has_committed_said {K} {V} hash name w said call is p own q did =
+    subst (λ (x : Commit K V). HasCommitted hash w (call_of name x) p q) is (has_committed hash w (call_of name said) p own did.0 q did.1 did.2)

@@ -9,7 +9,7 @@ ghost use Rattle.ck_words.specs.Passes.{IsPassOf, IsIdle, ShowsSeen, numbers_of}
 ghost use Rattle.ck_words.specs.Retries.{Stays};
 ghost use Rattle.ck_words.specs.Closing.{IsWhole, IsCaller, AreAllPasses, EachStays, Gathered, Closes};
 
-use crate::lent::Lent;
+use crate::guard::Guard;
 use crate::lift::Whole;
 use crate::pass::Pass;
 use crate::words::Words;
@@ -68,17 +68,16 @@ impl<K: TableKey + Drop, V: Drop> Words<K, V> {
             return None;
         };
         let s = self.settings().s;
-        let set = self.all();
-        let mut lent = Lent {
+        let mut guard = Guard {
             words: self,
             pass,
-            set,
+            set: self.all(),
+            is_locked: true,
         };
         // A bucket is poured where there is room for four more.
-        let room = len(&mut lent, s) as usize + 4;
-        let Lent { pass, .. } = lent;
+        let room = len(&mut guard, s) as usize + 4;
         let Ok(pairs) = Vec::with_capacity(alloc, room) else {
-            self.release(pass, set);
+            guard.release();
             return None;
         };
         Some(pairs)

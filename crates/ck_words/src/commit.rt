@@ -1,21 +1,18 @@
 //! The store that decides a call.
-ghost use Rattle.std.specs.Prelude.{◌≡◌, Some, IsSome, reverse};
+ghost use Rattle.std.specs.Prelude.{◌≡◌, Some, true, reverse};
 ghost use Rattle.ck_model.specs.declared.history.Reply.{Reply};
 ghost use Rattle.ck_model.specs.declared.history.Reply.TheVariants.{Closed};
 ghost use Rattle.ck_model.specs.Contents.{layout_of, Lawful};
 ghost use Rattle.ck_model.specs.Sections.{Section};
 ghost use Rattle.ck_core.specs.Steps.{Label};
 ghost use Rattle.ck_section.specs.Stripes.{contents_of, HaveNoSpare};
-ghost use Rattle.ck_words.specs.Passes.{PassState, IsPassOf, Sends, numbers_of};
+ghost use Rattle.ck_words.specs.Passes.{PassState, Sends};
 ghost use Rattle.ck_words.specs.Holding.{HasReleased};
-ghost use Rattle.ck_words.specs.StripeSets.{list_of};
 ghost use Rattle.ck_words.specs.Commits.{call_of, session_of};
 ghost use Rattle.ck_words.specs.Answering.{HasDone, HasCommitted};
 
-use crate::pass::Pass;
+use crate::guard::Guard;
 use crate::steps::Says;
-use crate::stripe_set::StripeSet;
-use crate::words::Words;
 use ck_key::{Query, TableKey};
 use std::marker::Brand;
 use std::snapshot::Snapshot;
@@ -35,76 +32,76 @@ pub enum Commit<K, V> {
     Len,
 }
 
-impl<K: TableKey + Drop, V: Drop> Words<K, V> {
-    /// Decides the call with what the stripes of a set contain now, and gives them back.
+impl<K: TableKey + Drop, V: Drop> Guard<'_, K, V> {
+    /// Decides the call with what the stripes contain now, and gives them back.
     ///
     /// The first store decides, and the entry has the reply that what the stripes contained gives
     /// to the call.
     #[inline(always)]
-    pub fn commit(&self, pass: &mut Pass<K, V>, set: StripeSet, call: Commit<K, V>)
-        requires own { IsPassOf self.now pass.old }
-        requires numbered { numbers_of pass.old.stripes ≡ list_of set }
-        requires no_spare { HaveNoSpare pass.old.stripes }
-        requires caller { IsSome pass.old.view.by }
-        requires done { (reply : Reply V)
-            × HasDone K.hash self.now.settings (call_of K.name call) reply pass.old }
-        ensures { HasCommitted K.hash self.now (call_of K.name call) pass.old pass.new }
+    pub fn commit(&mut self, call: Commit<K, V>)
+        requires locked { self.old.is_locked ≡ true }
+        requires no_spare { HaveNoSpare self.old.pass.now.stripes }
+        requires done { (reply : Reply V) × HasDone K.hash self.old.words.now.settings
+            (call_of K.name call) reply self.old.pass.now }
+        ensures same { self.new.pass.ghost_name ≡ self.old.pass.ghost_name }
+        ensures committed { HasCommitted K.hash self.old.words.now (call_of K.name call)
+            self.old.pass.now self.new.pass.now }
     {
         let said = Snapshot::of(&call);
-        self.decide_set::<Brand, Snapshot<Commit<K, V>>>(pass, set, &said);
+        self.decide::<Brand, Snapshot<Commit<K, V>>>(&said);
     }
 
     /// Decides the call of a query, as `commit` does that of a key.
     #[inline(always)]
-    pub fn commit_query<Q: Query<K>>(
-        &self,
-        pass: &mut Pass<K, V>,
-        set: StripeSet,
-        call: Commit<Q, V>,
-    )
-        requires own { IsPassOf self.now pass.old }
-        requires numbered { numbers_of pass.old.stripes ≡ list_of set }
-        requires no_spare { HaveNoSpare pass.old.stripes }
-        requires caller { IsSome pass.old.view.by }
-        requires done { (reply : Reply V)
-            × HasDone K.hash self.now.settings (call_of Q.name call) reply pass.old }
-        ensures { HasCommitted K.hash self.now (call_of Q.name call) pass.old pass.new }
+    pub fn commit_query<Q: Query<K>>(&mut self, call: Commit<Q, V>)
+        requires locked { self.old.is_locked ≡ true }
+        requires no_spare { HaveNoSpare self.old.pass.now.stripes }
+        requires done { (reply : Reply V) × HasDone K.hash self.old.words.now.settings
+            (call_of Q.name call) reply self.old.pass.now }
+        ensures same { self.new.pass.ghost_name ≡ self.old.pass.ghost_name }
+        ensures committed { HasCommitted K.hash self.old.words.now (call_of Q.name call)
+            self.old.pass.now self.new.pass.now }
     {
         let said = Snapshot::of(&call);
-        self.decide_set::<Brand, Snapshot<Commit<Q, V>>>(pass, set, &said);
+        self.decide::<Brand, Snapshot<Commit<Q, V>>>(&said);
     }
 
-    /// Decides a session with what the stripes of a set contain now, as `commit` does, and gives
-    /// them back: from the pairs that they contained when they were taken to those that they
-    /// contain.
-    pub fn commit_session(&self, pass: &mut Pass<K, V>, set: StripeSet)
-        requires own { IsPassOf self.now pass.old }
-        requires numbered { numbers_of pass.old.stripes ≡ list_of set }
-        requires no_spare { HaveNoSpare pass.old.stripes }
-        requires caller { IsSome pass.old.view.by }
-        requires done { HasDone K.hash self.now.settings (session_of pass.old) Closed pass.old }
-        ensures { HasCommitted K.hash self.now (session_of pass.old) pass.old pass.new }
+    /// Decides a session with what the stripes contain now, as `commit` does, and gives them back:
+    /// from the pairs that they contained when they were taken to those that they contain.
+    pub fn commit_session(&mut self)
+        requires locked { self.old.is_locked ≡ true }
+        requires no_spare { HaveNoSpare self.old.pass.now.stripes }
+        requires done { HasDone K.hash self.old.words.now.settings
+            (session_of self.old.pass.now) Closed self.old.pass.now }
+        ensures same { self.new.pass.ghost_name ≡ self.old.pass.ghost_name }
+        ensures committed { HasCommitted K.hash self.old.words.now (session_of self.old.pass.now)
+            self.old.pass.now self.new.pass.now }
     {
-        self.decide_set::<Brand, ()>(pass, set, &());
+        self.decide::<Brand, ()>(&());
     }
 
-    // Decides the call of `J` with what the stripes of a set contain now, and gives them back: the
-    // highest by the store that decides, and then the others. `said` is for the pick of `J` alone.
+    // Decides the call of `J` with what the stripes contain now, and gives them back: the highest
+    // by the store that decides, and then the others. `said` is for the pick of `J` alone.
     #[inline(always)]
-    fn decide_set<J: Says<V>, X>(&self, pass: &mut Pass<K, V>, set: StripeSet, said: &X)
-        requires own { IsPassOf self.now pass.old }
-        requires numbered { numbers_of pass.old.stripes ≡ list_of set }
-        requires no_spare { HaveNoSpare pass.old.stripes }
-        requires caller { pass.old.view.by ≡ Some J.entry.by }
-        requires section { Lawful (layout_of K.hash self.now.settings) (reverse pass.old.view.held)
-            → Section (layout_of K.hash self.now.settings) (reverse
-            pass.old.view.held) J.entry.call J.entry.reply (contents_of pass.old.stripes) }
-        ensures { (decided : PassState V)
-            × Sends K.hash self.now (λ t ks. Label.Decide t ks J.entry) pass.old decided
-            × HasReleased self.now decided pass.new }
+    fn decide<J: Says<V>, X>(&mut self, said: &X)
+        requires locked { self.old.is_locked ≡ true }
+        requires no_spare { HaveNoSpare self.old.pass.now.stripes }
+        requires caller { self.old.pass.now.view.by ≡ Some J.entry.by }
+        requires section { let p = self.old.pass.now in
+            let layout = layout_of K.hash self.old.words.now.settings in
+            Lawful layout (reverse p.view.held) → Section layout (reverse p.view.held)
+            J.entry.call J.entry.reply (contents_of p.stripes) }
+        ensures same { self.new.pass.ghost_name ≡ self.old.pass.ghost_name }
+        ensures decided { (decided : PassState V)
+            × Sends K.hash self.old.words.now (λ t ks. Label.Decide t ks J.entry)
+            self.old.pass.now decided
+            × HasReleased self.old.words.now decided self.new.pass.now }
     {
-        let last = set.count() - 1;
-        self.decide::<J, X>(pass, set.at(last), said);
-        self.release_first(pass, set, last);
+        let last = self.set.count() - 1;
+        let (words, set) = (&mut self.words, self.set);
+        let pass = &mut *self.pass;
+        words.decide::<J, X>(pass, set.at(last), said);
+        words.release_first(pass, set, last);
+        self.is_locked = false;
     }
 }

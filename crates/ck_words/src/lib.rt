@@ -5,7 +5,7 @@
 mod acquire;
 mod close;
 mod commit;
-mod lent;
+mod guard;
 mod lift;
 mod open;
 mod pass;
@@ -20,7 +20,7 @@ mod visits;
 mod words;
 
 pub use commit::Commit;
-pub use lent::Lent;
+pub use guard::Guard;
 pub use lift::Whole;
 pub use pass::Pass;
 pub use stripe_set::StripeSet;

@@ -7,7 +7,7 @@ ghost use Rattle.ck_words.specs.StripeNumbers.{pair};
 ghost use Rattle.ck_words.specs.StripeSets.{list_of};
 ghost use Rattle.ck_words.specs.Holding.{HasTakenAll};
 
-use crate::lent::Lent;
+use crate::guard::Guard;
 use crate::pass::Pass;
 use crate::stripe_set::StripeSet;
 use crate::words::Words;
@@ -43,15 +43,16 @@ impl<K: TableKey + Drop, V: Drop> Words<K, V> {
     {
         let count = set.count();
         if count <= 2 {
-            let mut lent = Lent {
+            let mut guard = Guard {
                 words: self,
                 pass,
                 set,
+                is_locked: true,
             };
             // One test for both, before anything is looked into.
-            let first = is_settled(&mut lent, 0);
-            let last = is_settled(&mut lent, count - 1);
-            let Lent { pass, .. } = lent;
+            let first = is_settled(&mut guard, 0);
+            let last = is_settled(&mut guard, count - 1);
+            let Guard { pass, .. } = guard;
             if first && last {
                 return;
             }
@@ -87,11 +88,12 @@ impl<K: TableKey + Drop, V: Drop> Words<K, V> {
         ensures settled { pass.new
             ≡ record pass.old { stripes = settled_stripes pass.old.stripes } }
     {
-        let mut lent = Lent {
+        let mut guard = Guard {
             words: self,
             pass,
             set,
+            is_locked: true,
         };
-        settle_all(&mut lent);
+        settle_all(&mut guard);
     }
 }

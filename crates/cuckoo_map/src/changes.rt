@@ -14,7 +14,7 @@ use crate::refusal::Busy;
 use crate::table::Table;
 use ck_key::{Query, TableKey};
 use ck_section::{erase, erase_fn, replace_if, try_update, update, update_fn};
-use ck_words::{Commit, Lent, Pass};
+use ck_words::{Commit, Guard, Pass};
 use std::snapshot::Snapshot;
 
 impl<K: TableKey + Drop, V: Drop> Table<K, V> {
@@ -40,14 +40,14 @@ impl<K: TableKey + Drop, V: Drop> Table<K, V> {
             Err(busy) => return Err((value, busy)),
         };
         let said = Commit::Update(Snapshot::of(&key), Snapshot::of(&value));
-        let mut lent = Lent {
+        let mut guard = Guard {
             words: &self.words,
             pass,
             set: spot.stripes,
+            is_locked: true,
         };
-        let old = update(&mut lent, spot.place, key, value);
-        let Lent { pass, .. } = lent;
-        self.words.commit_query(pass, spot.stripes, said);
+        let old = update(&mut guard, spot.place, key, value);
+        guard.commit_query(said);
         Ok(old)
     }
 
@@ -74,15 +74,14 @@ impl<K: TableKey + Drop, V: Drop> Table<K, V> {
         ensures found { FindsOwn K.hash self.now.settings (Q.name key) pass.old pass.new }
     {
         let spot = self.hold_key(pass, key)?;
-        let mut lent = Lent {
+        let mut guard = Guard {
             words: &self.words,
             pass,
             set: spot.stripes,
+            is_locked: true,
         };
-        let bound = update_fn(&mut lent, spot.place, key, f);
-        let Lent { pass, .. } = lent;
-        self.words
-            .commit_query(pass, spot.stripes, Commit::Change(Snapshot::of(&key)));
+        let bound = update_fn(&mut guard, spot.place, key, f);
+        guard.commit_query(Commit::Change(Snapshot::of(&key)));
         Ok(bound)
     }
 
@@ -97,15 +96,14 @@ impl<K: TableKey + Drop, V: Drop> Table<K, V> {
         ensures found { FindsOwn K.hash self.now.settings (Q.name key) pass.old pass.new }
     {
         let spot = self.hold_key(pass, key)?;
-        let mut lent = Lent {
+        let mut guard = Guard {
             words: &self.words,
             pass,
             set: spot.stripes,
+            is_locked: true,
         };
-        let value = erase(&mut lent, spot.place, key);
-        let Lent { pass, .. } = lent;
-        self.words
-            .commit_query(pass, spot.stripes, Commit::Erase(Snapshot::of(&key)));
+        let value = erase(&mut guard, spot.place, key);
+        guard.commit_query(Commit::Erase(Snapshot::of(&key)));
         Ok(value)
     }
 
@@ -155,15 +153,15 @@ impl<K: TableKey + Drop, V: Drop> Table<K, V> {
         ensures found { FindsOwn K.hash self.now.settings (Q.name key) pass.old pass.new }
     {
         let spot = self.hold_key(pass, key)?;
-        let mut lent = Lent {
+        let mut guard = Guard {
             words: &self.words,
             pass,
             set: spot.stripes,
+            is_locked: true,
         };
-        let gone = erase_fn(&mut lent, spot.place, key, f);
-        let Lent { pass, .. } = lent;
+        let gone = erase_fn(&mut guard, spot.place, key, f);
         let said = chosen::<K, Q, V, F>(&gone, key, Commit::Erase(Snapshot::of(&key)));
-        self.words.commit_query(pass, spot.stripes, said);
+        guard.commit_query(said);
         Ok(gone)
     }
 
@@ -214,15 +212,15 @@ impl<K: TableKey + Drop, V: Drop> Table<K, V> {
         ensures found { FindsOwn K.hash self.now.settings (Q.name key) pass.old pass.new }
     {
         let spot = self.hold_key(pass, key)?;
-        let mut lent = Lent {
+        let mut guard = Guard {
             words: &self.words,
             pass,
             set: spot.stripes,
+            is_locked: true,
         };
-        let replaced = replace_if(&mut lent, spot.place, key, f);
-        let Lent { pass, .. } = lent;
+        let replaced = replace_if(&mut guard, spot.place, key, f);
         let said = chosen::<K, Q, V, F>(&replaced, key, Commit::Change(Snapshot::of(&key)));
-        self.words.commit_query(pass, spot.stripes, said);
+        guard.commit_query(said);
         Ok(replaced)
     }
 
@@ -250,15 +248,15 @@ impl<K: TableKey + Drop, V: Drop> Table<K, V> {
         ensures found { FindsOwn K.hash self.now.settings (Q.name key) pass.old pass.new }
     {
         let spot = self.hold_key(pass, key)?;
-        let mut lent = Lent {
+        let mut guard = Guard {
             words: &self.words,
             pass,
             set: spot.stripes,
+            is_locked: true,
         };
-        let outcome = try_update(&mut lent, spot.place, key, f);
-        let Lent { pass, .. } = lent;
+        let outcome = try_update(&mut guard, spot.place, key, f);
         let said = Commit::Change(Snapshot::of(&key));
-        self.words.commit_query(pass, spot.stripes, said);
+        guard.commit_query(said);
         // A closure that was not called is dropped only now, when no stripe is held.
         Ok(outcome.ok())
     }

@@ -16,7 +16,7 @@ use crate::table::Table;
 use ck_key::{KeyHash, TableKey};
 use ck_path::Path;
 use ck_section::{Hop, make_hop};
-use ck_words::{Lent, Pass, StripeSet};
+use ck_words::{Guard, Pass, StripeSet};
 use std::snapshot::Snapshot;
 
 impl<K: TableKey + Drop, V: Drop> Table<K, V> {
@@ -121,17 +121,17 @@ impl<K: TableKey + Drop, V: Drop> Table<K, V> {
         if let Err(stripe) = self.words.lock(pass, stripes) {
             return Err(Busy(stripe));
         }
-        let mut lent = Lent {
+        let mut guard = Guard {
             words: &self.words,
             pass,
             set: stripes,
+            is_locked: true,
         };
-        let hopped = make_hop(&mut lent, s, hop);
-        let Lent { pass, .. } = lent;
+        let hopped = make_hop(&mut guard, s, hop);
         if hopped {
-            self.words.renew_set(pass, stripes);
+            guard.renew();
         } else {
-            self.words.release(pass, stripes);
+            guard.release();
         }
         Ok(hopped)
     }

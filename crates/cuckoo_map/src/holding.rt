@@ -15,7 +15,7 @@ use crate::refusal::Busy;
 use crate::table::Table;
 use ck_key::{KeyHash, Query, TableKey};
 use ck_section::{Held, KeyPlace, find_entry, key_place};
-use ck_words::{Lent, Pass, StripeSet};
+use ck_words::{Guard, Pass, StripeSet};
 use std::snapshot::Snapshot;
 
 // The stripes of a key, and its hash.
@@ -115,12 +115,13 @@ impl<K: TableKey + Drop, V: Drop> Table<K, V> {
         ensures s { result.s ≡ stripes.s }
         ensures same { pass.new ≡ pass.old }
     {
-        let mut lent = Lent {
+        let mut guard = Guard {
             words: &self.words,
             pass,
             set: stripes,
+            is_locked: true,
         };
-        key_place(&mut lent, stripes.s, key, hash)
+        key_place(&mut guard, stripes.s, key, hash)
     }
 
     // The entry of the key on its stripes, which the pass holds. Where the key is unbound and its
@@ -154,17 +155,17 @@ impl<K: TableKey + Drop, V: Drop> Table<K, V> {
         ensures full { OnErr result (HasFoundNoRoom (K.name key.now) since.now.value pass.new) }
         ensures power { IfErr result (λ power. power ≤ 26) }
     {
-        let mut lent = Lent {
+        let mut guard = Guard {
             words: &self.words,
             pass,
             set: spot.stripes,
+            is_locked: true,
         };
-        if let Some(entry) = find_entry(&mut lent, spot.place, key) {
+        if let Some(entry) = find_entry(&mut guard, spot.place, key) {
             return Ok(Room { spot, entry });
         }
-        let power = ck_section::power(&mut lent, 0);
-        let Lent { pass, .. } = lent;
-        self.words.refuse_full(pass, spot.stripes, key);
+        let power = ck_section::power(&mut guard, 0);
+        guard.refuse_full(key);
         Err(power)
     }
 }

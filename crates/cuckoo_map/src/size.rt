@@ -13,7 +13,7 @@ use crate::refusal::Busy;
 use crate::table::Table;
 use ck_key::TableKey;
 use ck_section::len;
-use ck_words::{Commit, Lent, Pass};
+use ck_words::{Commit, Guard, Pass};
 
 impl<K: TableKey + Drop, V: Drop> Table<K, V> {
     /// How many keys are bound: never more than the table has slots at its greatest power. It counts
@@ -31,14 +31,14 @@ impl<K: TableKey + Drop, V: Drop> Table<K, V> {
     {
         self.hold_table(pass)?;
         let all = self.words.all();
-        let mut lent = Lent {
+        let mut guard = Guard {
             words: &self.words,
             pass,
             set: all,
+            is_locked: true,
         };
-        let count = len(&mut lent, self.words.settings().s);
-        let Lent { pass, .. } = lent;
-        self.words.commit(pass, all, Commit::Len);
+        let count = len(&mut guard, self.words.settings().s);
+        guard.commit(Commit::Len);
         Ok(count)
     }
 

@@ -9,7 +9,7 @@ use Rattle.ck_words.proofs.words.Words.hold_with_room.Goals as goal
 pub returns-in_default-with_capacity-clause-stays : goal.returns-in_default-with_capacity-clause-stays
 returns-in_default-with_capacity-clause-stays g c =
     let h = c.lock_all.new.pass in
-    let r = c.release.new.pass in
+    let r = c.release.new.self.pass.now in
     let view : c.len.new.held.pass.now.view ≡ h.view = c.len.ensures.stays.1 in
     let there : r ≡ c.pass-in_default-with_capacity-1.given.0 = search rules in
     rw (← there) (stays_on c.args.pass.now.view h.view r.view c.lock_all.ensures.stays (subst (λ (v : View g.row.V.Denot). Stays v r.view) view c.release.ensures.released.stays))

@@ -1,4 +1,4 @@
-use Rattle.std.proofs.Common.{◌^◌, ◌∙◌, refl, sym, ap, subst}
+use Rattle.std.proofs.Common.{rules, ◌≡◌, ◌^◌, ◌∙◌, refl, sym, ap, subst}
 use Rattle.ck_model.specs.declared.history.Reply.TheVariants.{Closed}
 use Rattle.ck_model.specs.Counting.{counting}
 use Rattle.ck_words.specs.Words.{WordsState}
@@ -26,8 +26,8 @@ pub lower-pass-requires-clause-of_table : goal.lower-pass-requires-clause-of_tab
 lower-pass-requires-clause-of_table g c =
     subst (λ (w : WordsState). EachOf w.settings.s c.self.inside.whole.stripes) (sym c.table.view_is) (each_of c.self.inside.table.now.settings.s c.self.inside.whole.stripes c.self.invariant.table)
 
-pub commit_session-requires-clause-numbered : goal.commit_session-requires-clause-numbered
-commit_session-requires-clause-numbered g c =
+pub invariant_of-guard-clause-numbered : goal.invariant_of-guard-clause-numbered
+invariant_of-guard-clause-numbered g c =
     ap (λ (p : PassState g.row.V.Denot). numbers_of p.stripes) c.lower-pass.ensures
     ∙ (numbered c.self.inside.table.now.settings.s c.self.inside.whole.stripes c.self.invariant.table ∙ (ap (λ (w : WordsState). counting 0 (2 ^ w.settings.s)) (sym c.table.view_is) ∙ sym c.all.ensures.all))
 
@@ -37,21 +37,23 @@ commit_session-requires-clause-done g c =
     subst (λ (w : WordsState). HasDone g.K.TableKey.hash w.settings (session_of q) Closed q) (sym c.table.view_is)
     (session_done g.K.TableKey.hash c.self.inside.table.now c.self.inside.whole c.self.invariant q c.lower-pass.ensures)
 
-answered : (g : Over) (c : goal.After-commit_session g) → IsAnswered (session_of c.self.inside.whole) Closed (as_doubled c.self.inside.whole c.commit_session.new.pass) c.commit_session.new.pass
+answered : (g : Over) (c : goal.After-pass-2-1 g) → IsAnswered (session_of c.self.inside.whole) Closed (as_doubled c.self.inside.whole c.commit_session.new.self.pass.now) c.commit_session.new.self.pass.now
 answered g c =
     let q = c.lower-pass.result in
     let done = subst (λ (w : WordsState). HasDone g.K.TableKey.hash w.settings (session_of q) Closed q) (sym c.table.view_is)
     (session_done g.K.TableKey.hash c.self.inside.table.now c.self.inside.whole c.self.invariant q c.lower-pass.ensures) in
-    subst (λ (p : PassState g.row.V.Denot). IsAnswered (session_of p) Closed (as_doubled p c.commit_session.new.pass) c.commit_session.new.pass) c.lower-pass.ensures (c.commit_session.ensures.answered Closed done)
+    subst (λ (p : PassState g.row.V.Denot). IsAnswered (session_of p) Closed (as_doubled p c.commit_session.new.self.pass.now) c.commit_session.new.self.pass.now) c.lower-pass.ensures (c.commit_session.ensures.committed.answered Closed done)
 
 pub returns-clause-same : goal.returns-clause-same
 returns-clause-same g c =
-    let new = c.commit_session.new.pass in
-    subst (λ (x : LockedState g.row.V.Denot). IsSameCaller x.caller (caller_of x.caller.table new)) c.self.view_is (same_caller c.self.inside.whole new refl (answered g c).stays.by)
+    let new = c.commit_session.new.self.pass.now in
+    let there : c.commit_session.new.self.pass.now ≡ c.pass-2-1.given.0 = search rules in
+    rw (← there) (subst (λ (x : LockedState g.row.V.Denot). IsSameCaller x.caller (caller_of x.caller.table new)) c.self.view_is (same_caller c.self.inside.whole new refl (answered g c).stays.by))
 
 pub returns-clause-answered : goal.returns-clause-answered
 returns-clause-answered g c =
-    subst (λ (x : LockedState g.row.V.Denot). Replied (session_call x) Closed x.caller.client (client_of c.commit_session.new.pass.view)) c.self.view_is (answered g c).replied
+    let there : c.commit_session.new.self.pass.now ≡ c.pass-2-1.given.0 = search rules in
+    rw (← there) (subst (λ (x : LockedState g.row.V.Denot). Replied (session_call x) Closed x.caller.client (client_of c.commit_session.new.self.pass.now.view)) c.self.view_is (answered g c).replied)
 
 pub returns-clause-follows : goal.returns-clause-follows
 returns-clause-follows g c =
@@ -59,13 +61,15 @@ returns-clause-follows g c =
     let h = g.K.TableKey.hash in
     let done = subst (λ (w : WordsState). HasDone h w.settings (session_of q) Closed q) (sym c.table.view_is) (session_done h c.self.inside.table.now c.self.inside.whole c.self.invariant q c.lower-pass.ensures) in
     let all : HasAll (layout_of h c.self.inside.table.now.settings) q.view.held = subst (λ (p : PassState g.row.V.Denot). HasAll (layout_of h c.self.inside.table.now.settings) p.view.held) (sym c.lower-pass.ensures) (had_all_held h c.self.inside.table.now c.self.inside.whole c.self.invariant) in
-    let follows = c.commit_session.ensures.follows Closed done (subst (λ (w : WordsState). HasAll (layout_of h w.settings) q.view.held) (sym c.table.view_is) all) in
-    subst (λ (x : LockedState g.row.V.Denot). EndsSession x (client_of c.commit_session.new.pass.view)) c.self.view_is
-    (subst (λ (p : PassState g.row.V.Denot). FollowsSeen (session_of p) Closed p c.commit_session.new.pass) c.lower-pass.ensures follows)
+    let follows = c.commit_session.ensures.committed.follows Closed done (subst (λ (w : WordsState). HasAll (layout_of h w.settings) q.view.held) (sym c.table.view_is) all) in
+    let there : c.commit_session.new.self.pass.now ≡ c.pass-2-1.given.0 = search rules in
+    rw (← there) (subst (λ (x : LockedState g.row.V.Denot). EndsSession x (client_of c.commit_session.new.self.pass.now.view)) c.self.view_is
+    (subst (λ (p : PassState g.row.V.Denot). FollowsSeen (session_of p) Closed p c.commit_session.new.self.pass.now) c.lower-pass.ensures follows))
 
 pub returns-clause-notes : goal.returns-clause-notes
 returns-clause-notes g c =
-    let new = c.commit_session.new.pass in
-    let doubled = subst (λ (p : PassState g.row.V.Denot). IsDoubledBy p new) c.lower-pass.ensures c.commit_session.ensures.doubled in
-    subst (λ (x : LockedState g.row.V.Denot). EndsNotes x (caller_of x.caller.table new)) c.self.view_is
-    (keeps_notes c.self.inside.whole new refl (answered g c).stays, session_counted g.K.TableKey.hash c.self.inside.table.now c.self.inside.whole c.self.invariant new doubled)
+    let new = c.commit_session.new.self.pass.now in
+    let doubled = subst (λ (p : PassState g.row.V.Denot). IsDoubledBy p new) c.lower-pass.ensures c.commit_session.ensures.committed.doubled in
+    let there : c.commit_session.new.self.pass.now ≡ c.pass-2-1.given.0 = search rules in
+    rw (← there) (subst (λ (x : LockedState g.row.V.Denot). EndsNotes x (caller_of x.caller.table new)) c.self.view_is
+    (keeps_notes c.self.inside.whole new refl (answered g c).stays, session_counted g.K.TableKey.hash c.self.inside.table.now c.self.inside.whole c.self.invariant new doubled))

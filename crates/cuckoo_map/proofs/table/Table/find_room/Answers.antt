@@ -18,19 +18,19 @@ returns-in-Some-clause-found g c =
 
 pub refuse_full-requires-clause-full : goal.refuse_full-requires-clause-full
 refuse_full-requires-clause-full g c =
-    excused c.self.view_is c.requires.held c.power-power.new.held.pass.now (c.power-power.ensures.same ∙ c.find_entry.ensures.same) c.in_default.ensures.no_room
+    excused (c.power-power.ensures.stays.5 ∙ (c.find_entry.ensures.stays.5 ∙ c.self.view_is)) c.requires.held c.power-power.new.held.pass.now (c.power-power.ensures.same ∙ c.find_entry.ensures.same) c.in_default.ensures.no_room
 
 pub returns-clause-found : goal.returns-clause-found
 returns-clause-found g c =
-    let z = c.refuse_full.new.pass in
+    let z = c.refuse_full.new.self.pass.now in
     let f = c.requires.found in
     let there : z ≡ c.pass-2-1.given.0 = search rules in
-    rw (← there) (f.0, c.refuse_full.ensures.found ∙ (ap (λ x. x.found) (c.power-power.ensures.stays.1 ∙ c.find_entry.ensures.stays.1) ∙ f.1), f.2)
+    rw (← there) (f.0, c.refuse_full.ensures.refused.found ∙ (ap (λ x. x.found) (c.power-power.ensures.stays.1 ∙ c.find_entry.ensures.stays.1) ∙ f.1), f.2)
 
 pub returns-clause-full : goal.returns-clause-full
 returns-clause-full g c =
     let q = g.K.TableKey.name c.args.key.now in
     let lent = c.power-power.new.held.pass.now in
-    let z = c.refuse_full.new.pass in
+    let z = c.refuse_full.new.self.pass.now in
     let there : z ≡ c.pass-2-1.given.0 = search rules in
-    rw (← there) (told_since q c.args.since.now.value c.args.pass.now lent z c.requires.held.stays (c.power-power.ensures.stays.1 ∙ c.find_entry.ensures.stays.1) c.refuse_full.ensures.stays)
+    rw (← there) (told_since q c.args.since.now.value c.args.pass.now lent z c.requires.held.stays (c.power-power.ensures.stays.1 ∙ c.find_entry.ensures.stays.1) c.refuse_full.ensures.refused.stays)

@@ -15,12 +15,12 @@ make_hop-hopped-requires-clause-source_owned g c = has_each (list_of c.of_bucket
 pub make_hop-hopped-requires-clause-target_owned : goal.make_hop-hopped-requires-clause-target_owned
 make_hop-hopped-requires-clause-target_owned g c = has_each (list_of c.of_buckets-stripes.result) c.of_buckets-stripes.ensures.exact c.lock.new.pass.stripes c.in_default.ensures.numbers _ (inr refl)
 
-pub renew_set-requires-clause-renewed : goal.renew_set-requires-clause-renewed
-renew_set-requires-clause-renewed g c =
-    renewed c.self.view_is (s_of c.self.view_is c.settings-s.ensures.value) c.lock.new.pass c.make_hop-hopped.new.held.pass.now c.in_default.ensures.unchanged (c.make_hop-hopped.ensures.stays.1) c.make_hop-hopped.ensures.no_call
+pub renew-requires-clause-renewed : goal.renew-requires-clause-renewed
+renew-requires-clause-renewed g c =
+    renewed (c.make_hop-hopped.ensures.stays.5 ∙ c.self.view_is) (s_of c.self.view_is c.settings-s.ensures.value) c.lock.new.pass c.make_hop-hopped.new.held.pass.now c.in_default.ensures.unchanged (c.make_hop-hopped.ensures.stays.1) c.make_hop-hopped.ensures.no_call
 
-pub renew_set-requires-clause-no_spare : goal.renew_set-requires-clause-no_spare
-renew_set-requires-clause-no_spare g c = no_spare_after _ _ c.in_default.ensures.held.no_spare c.make_hop-hopped.ensures.rest
+pub renew-requires-clause-no_spare : goal.renew-requires-clause-no_spare
+renew-requires-clause-no_spare g c = no_spare_after _ _ c.in_default.ensures.held.no_spare c.make_hop-hopped.ensures.rest
 
 pub returns-in-Err-clause-busy : goal.returns-in-Err-clause-busy
 returns-in-Err-clause-busy g c = record {
@@ -32,15 +32,15 @@ returns-in-Err-clause-busy g c = record {
 
 pub returns-then-hopped-clause-back : goal.returns-then-hopped-clause-back
 returns-then-hopped-clause-back g c =
-    let z = c.renew_set.new.pass in
+    let z = c.renew.new.self.pass.now in
     let p1 = c.lock.new.pass in
     let p2 = c.make_hop-hopped.new.held.pass.now in
-    let made = none_made p1 p2 z c.make_hop-hopped.ensures.stays.1 c.make_hop-hopped.ensures.rest c.renew_set.ensures.doubled c.in_default.ensures.unchanged (one_power_held _ p1.stripes c.in_default.ensures.held) in
+    let made = none_made p1 p2 z c.make_hop-hopped.ensures.stays.1 c.make_hop-hopped.ensures.rest c.renew.ensures.doubled c.in_default.ensures.unchanged (one_power_held _ p1.stripes c.in_default.ensures.held) in
     let there : z ≡ c.pass-1.given.0 = search rules in
-    rw (← there) (back_home c.self.view_is _ c.args.pass.now p1 p2 z c.lock.ensures.stays c.lock.ensures.found (c.make_hop-hopped.ensures.stays.1) (released_alike p2 z c.renew_set.ensures.released made))
+    rw (← there) (back_home (c.make_hop-hopped.ensures.stays.5 ∙ c.self.view_is) _ c.args.pass.now p1 p2 z c.lock.ensures.stays c.lock.ensures.found (c.make_hop-hopped.ensures.stays.1) (released_alike p2 z c.renew.ensures.released made))
 
 pub returns-else-hopped-clause-back : goal.returns-else-hopped-clause-back
 returns-else-hopped-clause-back g c =
-    let z = c.release.new.pass in
+    let z = c.release.new.self.pass.now in
     let there : z ≡ c.pass-else-hopped-1.given.0 = search rules in
-    rw (← there) (back_home c.self.view_is _ c.args.pass.now c.lock.new.pass c.make_hop-hopped.new.held.pass.now z c.lock.ensures.stays c.lock.ensures.found (c.make_hop-hopped.ensures.stays.1) c.release.ensures.released)
+    rw (← there) (back_home (c.make_hop-hopped.ensures.stays.5 ∙ c.self.view_is) _ c.args.pass.now c.lock.new.pass c.make_hop-hopped.new.held.pass.now z c.lock.ensures.stays c.lock.ensures.found (c.make_hop-hopped.ensures.stays.1) c.release.ensures.released)

@@ -1,4 +1,4 @@
-use Rattle.std.proofs.Common.{◌∙◌, [], append-nil, refl, sym, subst}
+use Rattle.std.proofs.Common.{rules, ◌≡◌, ◌∙◌, [], append-nil, refl, sym, subst}
 use Rattle.cuckoo_map.specs.declared.refusal.Why.{Why}
 use Rattle.ck_section.specs.Room.{reason_of_lack}
 use Rattle.cuckoo_map.specs.Refusals.{IsStripeIn, IsRefused}
@@ -24,10 +24,11 @@ returns-in-Err-make_room_held-clause-refused g c =
     let p = c.args.pass.now in
     let p1 = c.hold_table.new.pass in
     let p2 = c.make_room_held.new.pass in
-    let z = c.refuse.new.pass in
+    let z = c.refuse.new.self.pass.now in
     let lack = c.in-Err-make_room_held.lack in
     let grounds = gives_grounds hash w p p1 p2 z c.hold_table.ensures.stays c.in_default.ensures.whole c.make_room_held.ensures.view c.make_room_held.ensures.renewed
     q (reason_of_lack lack) c.in-Err-make_room_held.ensures.grounds c.refuse.ensures.refused.seen c.refuse.ensures.told in
-    subst (λ (why : Why). IsRefused hash set q why p z) (sym c.of.ensures)
+    let there : z ≡ c.pass-1.given.0 = search rules in
+    rw (← there) (subst (λ (why : Why). IsRefused hash set q why p z) (sym c.of.ensures)
     (refused_there p p1 p2 c.hold_table.ensures.stays c.make_room_held.ensures.view hash set q _ lack z c.refuse.ensures.refused grounds
-    (grown_by p2 p2 z refl (changes_none _ _ refl) c.refuse.ensures.doubled p2 c.make_room_held.ensures.grown (stays_same p2.view) ([], c.refuse.ensures.refused.seen ∙ sym (append-nil p2.view.seen))))
+    (grown_by p2 p2 z refl (changes_none _ _ refl) c.refuse.ensures.doubled p2 c.make_room_held.ensures.grown (stays_same p2.view) ([], c.refuse.ensures.refused.seen ∙ sym (append-nil p2.view.seen)))))

@@ -25,8 +25,9 @@ returns-in-Err-clause-busy g c = record {
 
 pub returns-clause-back : goal.returns-clause-back
 returns-clause-back g c =
-    let lent = c.if-power.lent in
-    let same : lent.pass.now.view ≡ c.lock.new.pass.view = elim c.if-power.branch [ then-power w ↦ ap (λ l. l.pass.now.view) w.lent-is ∙ (w.sketch.ensures.stays.1 ∙ c.power.ensures.stays.1) | else-power w ↦ ap (λ l. l.pass.now.view) w.lent-is ∙ c.power.ensures.stays.1 ] in
-    let z = c.release.new.pass in
+    let guard = c.if-power.guard in
+    let same : guard.pass.now.view ≡ c.lock.new.pass.view = elim c.if-power.branch [ then-power w ↦ ap (λ l. l.pass.now.view) w.guard-is ∙ (w.sketch.ensures.stays.1 ∙ c.power.ensures.stays.1) | else-power w ↦ ap (λ l. l.pass.now.view) w.guard-is ∙ c.power.ensures.stays.1 ] in
+    let z = c.release.new.self.pass.now in
     let there : z ≡ c.pass-1.given.0 = search rules in
-    rw (← there) (back_home c.self.view_is _ c.args.pass.now c.lock.new.pass lent.pass.now z c.lock.ensures.stays c.lock.ensures.found same c.release.ensures.released)
+    let words : guard.words.now ≡ c.self.inside.words = elim c.if-power.branch [ then-power w ↦ ap (λ l. l.words.now) w.guard-is ∙ (w.sketch.ensures.stays.5 ∙ c.power.ensures.stays.5) | else-power w ↦ ap (λ l. l.words.now) w.guard-is ∙ c.power.ensures.stays.5 ] in
+    rw (← there) (back_home (words ∙ c.self.view_is) _ c.args.pass.now c.lock.new.pass guard.pass.now z c.lock.ensures.stays c.lock.ensures.found same c.release.ensures.released)

@@ -1,5 +1,5 @@
-//! The stripes that a pass holds, as held ones.
-ghost use Rattle.std.specs.Prelude.{◌≡◌};
+//! The stripes that a pass holds, as a guard.
+ghost use Rattle.std.specs.Prelude.{◌≡◌, [], if◌then◌else◌};
 ghost use Rattle.ck_words.specs.StripeSets.{list_of};
 ghost use Rattle.ck_words.specs.Passes.{IsPassOf, numbers_of};
 
@@ -11,18 +11,26 @@ use ck_key::TableKey;
 use ck_section::{Held, Visitor};
 use ck_stripe::Stripe;
 
-/// The stripes that a pass holds, lent to calls that work on them in their slots.
+/// The stripes of a set, which a pass holds, to be worked on in their slots. They are given back by
+/// one of these: `commit`, `commit_query` or `commit_session`, where a call is answered; `renew`
+/// after an identity section; `refuse_full` or `refuse`, where a key found no room in them; and
+/// `release`, where they contain what they did.
+///
+/// A guard that is dropped gives nothing back. The pass has its stripes still, which no contract of
+/// a call on a table allows.
 #[derive(Drop)]
-pub struct Lent<'a, K: TableKey, V> {
+pub struct Guard<'a, K: TableKey, V> {
     pub words: &'a Words<K, V>,
     pub pass: &'a mut Pass<K, V>,
     pub set: StripeSet,
+    /// Whether the pass holds them still.
+    pub is_locked: bool,
     ghost own: { IsPassOf words.now pass.now },
-    ghost numbered: { numbers_of pass.now.stripes ≡ list_of set },
+    ghost numbered: { numbers_of pass.now.stripes ≡ (if is_locked then list_of set else []) },
     ghost of_table: { set.s ≡ words.now.settings.s },
 }
 
-impl<K: TableKey + Drop, V: Drop> Held<Stripe<K, V>> for Lent<'_, K, V> {
+impl<K: TableKey + Drop, V: Drop> Held<Stripe<K, V>> for Guard<'_, K, V> {
     ghost use Rattle.std.specs.Prelude.{◌≡◌};
 
     ghost stripes = { λ l. l.pass.now.stripes };
@@ -30,10 +38,12 @@ impl<K: TableKey + Drop, V: Drop> Held<Stripe<K, V>> for Lent<'_, K, V> {
     ghost stays = { λ l m. (m.pass.ghost_name ≡ l.pass.ghost_name)
         × (m.pass.now.view ≡ l.pass.now.view)
         × (m.pass.now.table ≡ l.pass.now.table)
-        × (m.set ≡ l.set) };
+        × (m.set ≡ l.set)
+        × (m.is_locked ≡ l.is_locked)
+        × (m.words.now ≡ l.words.now) };
 
     fn count(&self) -> usize {
-        self.set.count()
+        if self.is_locked { self.set.count() } else { 0 }
     }
 
     #[inline(always)]
@@ -72,7 +82,8 @@ impl<K: TableKey + Drop, V: Drop> Held<Stripe<K, V>> for Lent<'_, K, V> {
 
     ghost use Rattle.std.proofs.Common.{refl, ◌∙◌};
 
-    ghost stays_same = { λ l. (refl, refl, refl, refl) };
+    ghost stays_same = { λ l. (refl, refl, refl, refl, refl, refl) };
 
-    ghost stays_on = { λ l m n e f. (f.0 ∙ e.0, f.1 ∙ e.1, f.2 ∙ e.2, f.3 ∙ e.3) };
+    ghost stays_on = { λ l m n e f.
+        (f.0 ∙ e.0, f.1 ∙ e.1, f.2 ∙ e.2, f.3 ∙ e.3, f.4 ∙ e.4, f.5 ∙ e.5) };
 }

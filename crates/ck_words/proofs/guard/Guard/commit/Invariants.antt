@@ -1,0 +1,6 @@
+use Rattle.ck_words.specs.Commits.{call_of}
+use Rattle.ck_words.proofs.Replying.{entry_for}
+use Rattle.ck_words.proofs.guard.Guard.commit.Given as goal
+
+abbrev pub ghosts-decide : goal.ghosts-decide
+ghosts-decide g a = record { entry = entry_for (call_of g.K.TableKey.name a.said.now.value) a.self.now.pass.now }

@@ -1,0 +1,18 @@
+use Rattle.ck_model.specs.declared.history.Reason.TheVariants.{NoRoom}
+use Rattle.ck_words.specs.StripeSets.{list_of}
+use Rattle.ck_words.proofs.Guarding.{its_numbers}
+use Rattle.ck_words.proofs.Releasing.{last_highest, others_left}
+use Rattle.ck_words.proofs.Renewed.{refused_giving}
+use Rattle.ck_words.proofs.guard.Guard.refuse_full.Goals as goal
+
+pub give-requires-clause-highest : goal.give-requires-clause-highest
+give-requires-clause-highest g c = last_highest (list_of c.args.self.now.set) _ _ _ c.args.self.now.set.some c.count-last.ensures c.at.ensures.value (its_numbers c.args.self.now.pass.now.stripes c.args.self.now.numbered c.requires.locked)
+
+pub give-requires-clause-excused : goal.give-requires-clause-excused
+give-requires-clause-excused g c = c.requires.full
+
+pub release_first-requires-clause-numbered : goal.release_first-requires-clause-numbered
+release_first-requires-clause-numbered g c = others_left (list_of c.args.self.now.set) _ _ _ c.args.self.now.set.some c.count-last.ensures c.at.ensures.value (its_numbers c.args.self.now.pass.now.stripes c.args.self.now.numbered c.requires.locked) _ _ c.give.ensures.step.1
+
+pub returns-clause-refused : goal.returns-clause-refused
+returns-clause-refused g c = refused_giving g.K.TableKey.hash c.args.self.now.words.now c.args.self.now.pass.now c.give.new.pass (g.K.TableKey.name c.args.key.now) NoRoom c.give.ensures.step c.release_first.new.pass c.release_first.ensures.released

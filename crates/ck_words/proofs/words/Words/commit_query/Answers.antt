@@ -1,5 +1,0 @@
-use Rattle.ck_words.proofs.Replying.{has_committed_said}
-use Rattle.ck_words.proofs.words.Words.commit_query.Goals as goal
-
-pub returns : goal.returns
-returns g c = has_committed_said g.K.TableKey.hash g.Q.Query.name c.args.self.now _ _ c.of-said.ensures c.args.pass.now c.requires.caller c.requires.own.1 _ c.decide_set.ensures
