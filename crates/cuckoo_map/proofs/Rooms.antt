@@ -22,7 +22,7 @@ use Rattle.ck_section.specs.Whole.{AreAllHeld, AreSettled, IsTable}
 use Rattle.ck_section.specs.Room.{reason_of_lack, power_in, KeepsBindings, MakesRoom, GivesReason, GrowsForRoom}
 use Rattle.ck_core.specs.declared.view.View.{View}
 use Rattle.ck_words.specs.Words.{WordsState}
-use Rattle.ck_words.specs.Passes.{PassState, IsUnchanged}
+use Rattle.ck_words.specs.Passes.{PassState, IsUnchanged, numbers_of}
 use Rattle.ck_words.specs.Retries.{Stays, as_doubled}
 use Rattle.ck_words.specs.Renewing.{HasRenewed, HasRefused}
 use Rattle.ck_words.specs.Closing.{IsWhole}
@@ -32,7 +32,7 @@ use Rattle.ck_words.proofs.WholeTables.{lawful_held}
 use Rattle.ck_words.proofs.Renewals.{renewed_none, renewed_then}
 use Rattle.cuckoo_map.specs.declared.holding.Spot.{Spot}
 use Rattle.cuckoo_map.specs.declared.key_room.Room.{Room}
-use Rattle.cuckoo_map.specs.Holding.{HoldsKey}
+use Rattle.cuckoo_map.specs.Holding.{HasSpot}
 use Rattle.cuckoo_map.specs.Refusals.{reason_of, why_of, GivesGrounds, ShowsWhy, IsRefused}
 use Rattle.cuckoo_map.specs.Needed.{NeedsToGrow, HasGrownFor, HaveOnePower, HoldsGrown}
 use Rattle.cuckoo_map.specs.Insertions.{HoldsRoom, HasRoom}
@@ -60,9 +60,10 @@ module _ {V : Type 0} where
   shows_lack hash set q LoadTooLow p z g = ((0, omega arith, refl), g)
 
   -- The name has an entry among its stripes, which were taken as p1, and are as they were in z.
-  pub room_as_taken : {hash : Name → ℕ} {set : Settings} {q : Name} {spot : Spot} (p p1 z : PassState V) → HoldsKey hash set q spot.place p p1 → spot.stripes.s ≡ set.s → HaveNoSpare p1.stripes
+  pub room_as_taken : {hash : Name → ℕ} {set : Settings} {q : Name} {spot : Spot} (p p1 z : PassState V) → HasSpot hash set q spot p p1
       → (entry : Entry) → IsEntryOf hash p1.stripes q spot.place entry → z.stripes ≡ p1.stripes → z.view ≡ p1.view → HasRoom hash set q (record { spot = spot; entry = entry }) p z
-  room_as_taken {hash} {set} {q} {spot} p p1 z held of_table spare entry is same view =
+  room_as_taken {hash} {set} {q} {spot} p p1 z has entry is same view =
+      let held = has.holds in
       let Held : View V → List (StripeState V) → Type 0 = λ v ss. contents_of ss ≡ reverse v.held in
       let unchanged : IsUnchanged z = subst (λ (x : View V × List (StripeState V)). Held x.0 x.1) (λ j. (sym view j, sym same j)) held.unchanged in
       record {
@@ -72,9 +73,10 @@ module _ {V : Type 0} where
         held = record {
           at = subst (λ (ss : List (StripeState V)). IsPlaceOf hash ss q spot.place) (sym same) held.at;
           s = held.s;
-          of_table = of_table;
+          of_table = has.of_table;
+          numbered = ap (λ (ss : List (StripeState V)). numbers_of ss) same ∙ has.numbered;
           entry = subst (λ (ss : List (StripeState V)). IsEntryOf hash ss q spot.place entry) (sym same) is;
-          no_spare = subst (λ (ss : List (StripeState V)). HaveNoSpare ss) (sym same) spare;
+          no_spare = subst (λ (ss : List (StripeState V)). HaveNoSpare ss) (sym same) has.settled.no_spare;
           renewed = renewed_none hash set z unchanged;
           grown = holds_alike z unchanged (subst (λ (ss : List (StripeState V)). HaveOnePower ss) (sym same) held.one_power);
         };

@@ -9,12 +9,13 @@ use Rattle.ck_model.specs.Contents.{layout_of, IsStripeOf}
 use Rattle.ck_model.specs.Sections.{Owns}
 use Rattle.ck_section.specs.declared.place.KeyPlace.{KeyPlace}
 use Rattle.ck_section.specs.Stripes.{contents_of}
-use Rattle.ck_section.specs.Places.{IsPlaceOf}
-use Rattle.ck_words.specs.Passes.{PassState, IsUnchanged}
+use Rattle.ck_section.specs.Places.{AreHeld, IsPlaceOf}
+use Rattle.ck_words.specs.Passes.{PassState, IsUnchanged, numbers_of}
 use Rattle.ck_words.specs.StripeNumbers.{own_numbers}
 use Rattle.ck_words.specs.StripeSets.{list_of}
 use Rattle.ck_words.specs.Retries.{StaysBut}
 use Rattle.cuckoo_map.specs.declared.holding.Home.{Home}
+use Rattle.cuckoo_map.specs.declared.holding.Spot.{Spot}
 use Rattle.cuckoo_map.specs.Needed.{HaveOnePower}
 
 -- the hash of the name, and its stripes
@@ -38,3 +39,10 @@ module _ {V : Type 0} where
   -- and it has said so of none more
   abbrev pub HoldsKey : (Name → ℕ) → Settings → Name → KeyPlace → PassState V → PassState V → Type 0
   HoldsKey = HoldsKeyBut []
+
+  -- Since p the pass has taken these stripes, which are those of the name. It may be at this place among them.
+  pub record HasSpot (hash : Name → ℕ) (set : Settings) (q : Name) (spot : Spot) (p p2 : PassState V) : Type 0 where
+    pub holds : HoldsKey hash set q spot.place p p2
+    pub of_table : spot.stripes.s ≡ set.s
+    pub numbered : numbers_of p2.stripes ≡ list_of spot.stripes
+    pub settled : AreHeld set.s p2.stripes

@@ -11,7 +11,8 @@ use Rattle.ck_section.specs.Stripes.{HaveNoSpare}
 use Rattle.ck_section.specs.Places.{IsPlaceOf}
 use Rattle.ck_section.specs.Entries.{IsEntryOf}
 use Rattle.cuckoo_map.specs.declared.key_room.Room.{Room}
-use Rattle.ck_words.specs.Passes.{PassState}
+use Rattle.ck_words.specs.Passes.{PassState, numbers_of}
+use Rattle.ck_words.specs.StripeSets.{list_of}
 use Rattle.ck_words.specs.Retries.{StaysBut, as_doubled}
 use Rattle.ck_words.specs.Answering.{IsAnsweredBut}
 use Rattle.ck_words.specs.Renewing.{HasRenewed}
@@ -33,8 +34,9 @@ module _ {V : Type 0} where
   abbrev pub TellsOf : {A : Type 0} → (A → Act V → Reply V → Type 0) → (Act V → Reply V → Type 0) → A → Type 0
   TellsOf tells P answer = (act : Act V) × (reply : Reply V) × tells answer act reply × P act reply
 
-  -- The stripes that the pass holds were renewed since they were taken, and have no memory to spare. The name may be at this place among them, and has this entry there.
+  -- The pass holds these stripes. They were renewed since they were taken, and have no memory to spare. The name may be at this place among them, and has this entry there.
   pub record HoldsRoom (hash : Name → ℕ) (set : Settings) (q : Name) (room : Room) (p : PassState V) : Type 0 where
+    pub numbered : numbers_of p.stripes ≡ list_of room.spot.stripes
     pub at : IsPlaceOf hash p.stripes q room.spot.place
     pub s : room.spot.place.s ≡ set.s
     pub of_table : room.spot.stripes.s ≡ set.s

@@ -2,8 +2,7 @@
 //! end the table grows.
 ghost use Rattle.std.specs.Prelude.{◌≡◌, ◌^◌, ◌<◌, ◌≤◌, OnErr, IfOk, IfErr};
 ghost use Rattle.ck_model.specs.Arithmetic.{alternate_of};
-ghost use Rattle.ck_words.specs.Passes.{IsPassOf, IsIdle, numbers_of};
-ghost use Rattle.ck_words.specs.StripeSets.{list_of};
+ghost use Rattle.ck_words.specs.Passes.{IsPassOf, IsIdle};
 ghost use Rattle.ck_words.specs.Closing.{IsCaller};
 ghost use Rattle.cuckoo_map.specs.Insertions.{HasRoom};
 ghost use Rattle.cuckoo_map.specs.Refusals.{FindsOwnUnlessFull, IsRefused};
@@ -32,8 +31,6 @@ impl<K: TableKey + Drop, V: Drop> Table<K, V> {
         ensures room { IfOk result (λ room.
             SinceFull K.hash self.now.settings (K.name key.now) pass.old (λ p.
             HasRoom K.hash self.now.settings (K.name key.now) room p pass.new)) }
-        ensures numbered { IfOk result (λ room.
-            numbers_of pass.new.stripes ≡ list_of room.spot.stripes) }
         ensures found { SinceFull K.hash self.now.settings (K.name key.now) pass.old (λ p.
             FindsOwnUnlessFull K.hash self.now.settings (K.name key.now) p pass.new) }
         ensures idle { OnErr result (IsIdle pass.new) }

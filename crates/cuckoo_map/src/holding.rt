@@ -6,7 +6,7 @@ ghost use Rattle.ck_words.specs.Passes.{PassState, IsPassOf, IsIdle, numbers_of}
 ghost use Rattle.ck_words.specs.StripeSets.{list_of};
 ghost use Rattle.ck_words.specs.Holding.{HasTakenAll};
 ghost use Rattle.ck_words.specs.Closing.{IsCaller};
-ghost use Rattle.cuckoo_map.specs.Holding.{HoldsKey, IsHomeOf};
+ghost use Rattle.cuckoo_map.specs.Holding.{HasSpot, IsHomeOf};
 ghost use Rattle.cuckoo_map.specs.Insertions.{HasFoundNoRoom, HasRoom};
 ghost use Rattle.cuckoo_map.specs.Refusals.{FindsOwn, IsBusyAt};
 
@@ -39,12 +39,8 @@ impl<K: TableKey + Drop, V: Drop> Table<K, V> {
     pub(crate) fn hold_key<Q: Query<K>>(&self, pass: &mut Pass<K, V>, key: Q) -> Result<Spot, Busy>
         requires caller { IsCaller self.now pass.old }
         ensures own { IsPassOf self.now pass.new }
-        ensures held { IfOk result (λ spot.
-            HoldsKey K.hash self.now.settings (Q.name key) spot.place pass.old pass.new) }
-        ensures s { IfOk result (λ spot. spot.stripes.s ≡ self.now.settings.s) }
-        ensures numbered { IfOk result (λ spot.
-            numbers_of pass.new.stripes ≡ list_of spot.stripes) }
-        ensures settled { OnOk result (AreHeld self.now.settings.s pass.new.stripes) }
+        ensures spot { IfOk result (λ spot.
+            HasSpot K.hash self.now.settings (Q.name key) spot pass.old pass.new) }
         ensures found { FindsOwn K.hash self.now.settings (Q.name key) pass.old pass.new }
         ensures idle { OnErr result (IsIdle pass.new) }
         ensures busy { IfErr result (λ busy.
@@ -79,15 +75,12 @@ impl<K: TableKey + Drop, V: Drop> Table<K, V> {
         requires taken { (p : PassState V)
             × HasTakenAll K.hash self.now (list_of home.stripes) p pass.old }
         ensures own { IsPassOf self.now pass.new }
-        ensures held { (p : PassState V)
+        ensures spot { (p : PassState V)
             → HasTakenAll K.hash self.now (list_of home.stripes) p pass.old
-            → HoldsKey K.hash self.now.settings (Q.name key) result.place p pass.new }
+            → HasSpot K.hash self.now.settings (Q.name key) result p pass.new }
         ensures found { (p : PassState V)
             → HasTakenAll K.hash self.now (list_of home.stripes) p pass.old
             → FindsOwn K.hash self.now.settings (Q.name key) p pass.new }
-        ensures s { result.stripes.s ≡ self.now.settings.s }
-        ensures numbered { numbers_of pass.new.stripes ≡ list_of result.stripes }
-        ensures settled { AreHeld self.now.settings.s pass.new.stripes }
     {
         let Home { stripes, hash } = home;
         self.words.settle_taken(pass, stripes);
@@ -137,18 +130,13 @@ impl<K: TableKey + Drop, V: Drop> Table<K, V> {
     ) -> Result<Room, u32>
         requires since { IsCaller self.now since.now.value }
         requires own { IsPassOf self.now pass.old }
-        requires held { HoldsKey K.hash self.now.settings (K.name key.now) spot.place
+        requires spot { HasSpot K.hash self.now.settings (K.name key.now) spot
             since.now.value pass.old }
-        requires s { spot.stripes.s ≡ self.now.settings.s }
-        requires numbered { numbers_of pass.old.stripes ≡ list_of spot.stripes }
-        requires settled { AreHeld self.now.settings.s pass.old.stripes }
         requires found { FindsOwn K.hash self.now.settings (K.name key.now) since.now.value
             pass.old }
         ensures own { IsPassOf self.now pass.new }
         ensures room { IfOk result (λ room.
             HasRoom K.hash self.now.settings (K.name key.now) room since.now.value pass.new) }
-        ensures numbered { IfOk result (λ room.
-            numbers_of pass.new.stripes ≡ list_of room.spot.stripes) }
         ensures found { FindsOwn K.hash self.now.settings (K.name key.now) since.now.value
             pass.new }
         ensures idle { OnErr result (IsIdle pass.new) }

@@ -2,7 +2,7 @@
 ghost use Rattle.std.specs.Prelude.{◌≡◌, ◌≤◌, IfOk, IfErr};
 ghost use Rattle.ck_section.specs.Acts.{Inserts, InsertsBy, FindsOrInserts, Assigns, Upserts, Uprases, TriesUpsert};
 ghost use Rattle.ck_words.specs.Closing.{IsCaller};
-ghost use Rattle.ck_words.specs.Passes.{IsPassOf, IsUnchanged, numbers_of};
+ghost use Rattle.ck_words.specs.Passes.{IsPassOf, IsUnchanged};
 ghost use Rattle.ck_words.specs.StripeNumbers.{own_numbers};
 ghost use Rattle.ck_words.specs.StripeSets.{list_of};
 ghost use Rattle.ck_words.specs.Holding.{HasTakenAll, Misses};
@@ -387,7 +387,6 @@ impl<K: TableKey + Drop, V: Drop> Table<K, V> {
         requires since { IsCaller self.now since.value }
         requires own { IsPassOf self.now pass.old }
         requires room { HasRoom K.hash self.now.settings (K.name key) room since.value pass.old }
-        requires numbered { numbers_of pass.old.stripes ≡ list_of room.spot.stripes }
         requires found { FindsOwnUnlessFull K.hash self.now.settings (K.name key)
             since.value pass.old }
         requires call { I.can_make insertion value }

@@ -8,7 +8,6 @@ ghost use Rattle.ck_section.specs.Stripes.{contents_of, HaveNoSpare};
 ghost use Rattle.ck_section.specs.Whole.{IsTable, AreSettled};
 ghost use Rattle.ck_section.specs.Room.{reason_of_lack};
 ghost use Rattle.ck_words.specs.Passes.{IsPassOf, IsIdle, numbers_of};
-ghost use Rattle.ck_words.specs.StripeSets.{list_of};
 ghost use Rattle.ck_words.specs.Retries.{FindsAmong};
 ghost use Rattle.ck_words.specs.Renewing.{HasRenewed};
 ghost use Rattle.ck_words.specs.Closing.{IsCaller, IsWhole};
@@ -41,8 +40,6 @@ impl<K: TableKey + Drop, V: Drop> Table<K, V> {
         ensures own { IsPassOf self.now pass.new }
         ensures room { IfOk result (λ room.
             HasRoom K.hash self.now.settings (K.name key.now) room pass.old pass.new) }
-        ensures numbered { IfOk result (λ room.
-            numbers_of pass.new.stripes ≡ list_of room.spot.stripes) }
         ensures found { FindsAmong (IsStripeIn self.now.settings) pass.old pass.new }
         ensures idle { OnErr result (IsIdle pass.new) }
         ensures refused { IfErr result (λ why.
@@ -78,8 +75,6 @@ impl<K: TableKey + Drop, V: Drop> Table<K, V> {
         ensures renewed { HasRenewed K.hash self.now.settings pass.new }
         ensures grown { HoldsGrown K.hash self.now.settings (K.name key.now) pass.new }
         ensures no_spare { HaveNoSpare pass.new.stripes }
-        ensures all { IfOk result (λ room.
-            list_of room.spot.stripes ≡ counting 0 (2 ^ self.now.settings.s)) }
         ensures room { IfOk result (λ room.
             HoldsRoom K.hash self.now.settings (K.name key.now) room pass.new) }
         ensures grounds { IfErr result (λ lack.

@@ -7,7 +7,7 @@ pub returns-in-Some-clause-room : goal.returns-in-Some-clause-room
 returns-in-Some-clause-room g c =
     let z = c.find_entry.new.held.pass.now in
     let there : z ≡ c.in-Some.pass-1-own.given.0 = search rules in
-    rw (← there) (room_as_taken c.args.since.now.value c.args.pass.now z c.requires.held c.requires.s c.requires.settled.no_spare c.in-Some.entry c.in-Some.ensures.entry c.find_entry.ensures.same c.find_entry.ensures.stays.1)
+    rw (← there) (room_as_taken c.args.since.now.value c.args.pass.now z c.requires.spot c.in-Some.entry c.in-Some.ensures.entry c.find_entry.ensures.same c.find_entry.ensures.stays.1)
 
 pub returns-in-Some-clause-found : goal.returns-in-Some-clause-found
 returns-in-Some-clause-found g c =
@@ -18,7 +18,7 @@ returns-in-Some-clause-found g c =
 
 pub refuse_full-requires-clause-full : goal.refuse_full-requires-clause-full
 refuse_full-requires-clause-full g c =
-    excused (c.power-power.ensures.stays.5 ∙ (c.find_entry.ensures.stays.5 ∙ c.self.view_is)) c.requires.held c.power-power.new.held.pass.now (c.power-power.ensures.same ∙ c.find_entry.ensures.same) c.in_default.ensures.no_room
+    excused (c.power-power.ensures.stays.5 ∙ (c.find_entry.ensures.stays.5 ∙ c.self.view_is)) c.requires.spot.holds c.power-power.new.held.pass.now (c.power-power.ensures.same ∙ c.find_entry.ensures.same) c.in_default.ensures.no_room
 
 pub returns-clause-found : goal.returns-clause-found
 returns-clause-found g c =
@@ -33,4 +33,4 @@ returns-clause-full g c =
     let lent = c.power-power.new.held.pass.now in
     let z = c.refuse_full.new.self.pass.now in
     let there : z ≡ c.pass-2-1.given.0 = search rules in
-    rw (← there) (told_since q c.args.since.now.value c.args.pass.now lent z c.requires.held.stays (c.power-power.ensures.stays.1 ∙ c.find_entry.ensures.stays.1) c.refuse_full.ensures.refused.stays)
+    rw (← there) (told_since q c.args.since.now.value c.args.pass.now lent z c.requires.spot.holds.stays (c.power-power.ensures.stays.1 ∙ c.find_entry.ensures.stays.1) c.refuse_full.ensures.refused.stays)

@@ -48,8 +48,8 @@ taken g c =
       | in_default w ↦ subst Taken (λ j. (c.self.view_is j, sym w.pass-is j)) w.in_default.ensures.taken
     ]
 
-pub returns-clause-held : goal.returns-clause-held
-returns-clause-held g c = c.spot_in.ensures.held c.args.pass.now (taken g c)
+pub returns-clause-spot : goal.returns-clause-spot
+returns-clause-spot g c = c.spot_in.ensures.spot c.args.pass.now (taken g c)
 
 pub returns-clause-found : goal.returns-clause-found
 returns-clause-found g c = c.spot_in.ensures.found c.args.pass.now (taken g c)

@@ -55,4 +55,4 @@ returns-clause-grown g c =
 pub returns-clause-room : goal.returns-clause-room
 returns-clause-room g c =
     let there : c.find_entry.new.held.pass.now ≡ c.pass-2-1.given.0 = search rules in
-    rw (← there) (record { at = search rules; s = search rules; of_table = search rules; entry = search rules; no_spare = search rules; renewed = search rules; grown = grown g c })
+    rw (← there) (record { numbered = search rules; at = search rules; s = search rules; of_table = search rules; entry = search rules; no_spare = search rules; renewed = search rules; grown = grown g c })

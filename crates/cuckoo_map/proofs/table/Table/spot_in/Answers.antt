@@ -1,6 +1,8 @@
-use Rattle.std.proofs.Common.{ℕ, ◌∙◌, ap, sym, subst}
-use Rattle.ck_section.specs.Places.{HasBoth}
-use Rattle.ck_words.specs.Passes.{PassState}
+use Rattle.std.proofs.Common.{ℕ, List, ◌∙◌, ap, sym, subst}
+use Rattle.ck_stripe.specs.Stripe.{StripeState}
+use Rattle.ck_section.specs.Places.{AreHeld, HasBoth}
+use Rattle.ck_words.specs.Passes.{PassState, numbers_of}
+use Rattle.ck_words.specs.Words.{WordsState}
 use Rattle.ck_words.specs.StripeSets.{list_of}
 use Rattle.ck_words.specs.Retries.{Stays}
 use Rattle.cuckoo_map.proofs.Calls.{holds_then}
@@ -15,12 +17,19 @@ place_of-place-requires-clause-both g c =
     subst (λ (s : ℕ). HasBoth g.K.TableKey.hash s c.settle_taken.new.pass.stripes q) (sym h.s)
     (has_both g.K.TableKey.hash c.args.self.now.settings q (list_of c.args.home.stripes) h.exact c.settle_taken.new.pass.stripes c.settle_taken.ensures.numbers)
 
-pub returns-clause-held : goal.returns-clause-held
-returns-clause-held g c = λ p taken.
+pub returns-clause-spot : goal.returns-clause-spot
+returns-clause-spot g c = λ p taken.
     let h = c.requires.home in
     let k = c.place_of-place in
+    let stripes = ap (λ (x : PassState g.row.V.Denot). x.stripes) k.ensures.same in
     let both = has_both g.K.TableKey.hash c.args.self.now.settings (g.Q.Query.name c.args.key) (list_of c.args.home.stripes) h.exact c.settle_taken.new.pass.stripes c.settle_taken.ensures.numbers in
-    holds_then p c.settle_taken.new.pass (subst (Stays p.view) (sym c.settle_taken.ensures.view) taken.stays) both c.settle_taken.ensures.unchanged (one_power_held _ c.settle_taken.new.pass.stripes c.settle_taken.ensures.held) k.ensures.place (k.ensures.s ∙ h.s) k.new.pass (ap (λ (x : PassState g.row.V.Denot). x.stripes) k.ensures.same) (ap (λ (x : PassState g.row.V.Denot). x.view) k.ensures.same)
+    record {
+      holds = holds_then p c.settle_taken.new.pass (subst (Stays p.view) (sym c.settle_taken.ensures.view) taken.stays) both c.settle_taken.ensures.unchanged (one_power_held _ c.settle_taken.new.pass.stripes c.settle_taken.ensures.held) k.ensures.place (k.ensures.s ∙ h.s)
+        k.new.pass stripes (ap (λ (x : PassState g.row.V.Denot). x.view) k.ensures.same);
+      of_table = h.s;
+      numbered = ap (λ (ss : List (StripeState g.row.V.Denot)). numbers_of ss) stripes ∙ c.settle_taken.ensures.numbers;
+      settled = subst (λ (x : WordsState × List (StripeState g.row.V.Denot)). AreHeld x.0.settings.s x.1) (λ j. (c.self.view_is j, sym stripes j)) c.settle_taken.ensures.held;
+    }
 
 pub returns-clause-found : goal.returns-clause-found
 returns-clause-found g c = λ p taken.
