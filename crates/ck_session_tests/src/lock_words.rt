@@ -1,7 +1,7 @@
 //! Two passes on the lock words of one table, from one thread.
 use ck_fixtures::TWO_STRIPES;
 use ck_key::NumKey;
-use ck_words::{Guard, StripeSet, Words};
+use ck_words::{StripeSet, Words, guard};
 use std::test::Fail;
 
 #[test]
@@ -16,23 +16,13 @@ fn a_held_stripe(rt: HostRuntime) -> Result<(), Fail> {
     assert!(rt; taken.is_ok());
     let refused = words.lock(&mut second, both);
     assert!(rt; refused == Err(1));
-    let mut guard = Guard {
-        words: &words,
-        pass: &mut first,
-        set: one,
-        is_locked: true,
-    };
+    let mut guard = guard!(&words, &mut first, one);
     guard.release();
     let held = words.lock(&mut second, both);
     assert!(rt; held.is_ok());
     words.meet(&mut second, &mut first);
     assert!(rt; !words.take(&mut first, 0));
-    let mut guard = Guard {
-        words: &words,
-        pass: &mut second,
-        set: both,
-        is_locked: true,
-    };
+    let mut guard = guard!(&words, &mut second, both);
     guard.release();
     Ok(())
 }

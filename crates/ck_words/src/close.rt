@@ -9,7 +9,7 @@ ghost use Rattle.ck_words.specs.Passes.{IsPassOf, IsIdle, ShowsSeen, numbers_of}
 ghost use Rattle.ck_words.specs.Retries.{Stays};
 ghost use Rattle.ck_words.specs.Closing.{IsWhole, IsCaller, AreAllPasses, EachStays, Gathered, Closes};
 
-use crate::guard::Guard;
+use crate::guard;
 use crate::lift::Whole;
 use crate::pass::Pass;
 use crate::words::Words;
@@ -68,12 +68,7 @@ impl<K: TableKey + Drop, V: Drop> Words<K, V> {
             return None;
         };
         let s = self.settings().s;
-        let mut guard = Guard {
-            words: self,
-            pass,
-            set: self.all(),
-            is_locked: true,
-        };
+        let mut guard = guard!(self, pass, self.all());
         // A bucket is poured where there is room for four more.
         let room = len(&mut guard, s) as usize + 4;
         let Ok(pairs) = Vec::with_capacity(alloc, room) else {

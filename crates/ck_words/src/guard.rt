@@ -30,6 +30,20 @@ pub struct Guard<'a, K: TableKey, V> {
     ghost of_table: { set.s ≡ words.now.settings.s },
 }
 
+/// The guard of the stripes of a set, which the pass has taken. It is no function, since the prover
+/// knows each field of a struct that is written out, and of one that comes back only what is said.
+#[macro_export]
+macro_rules! guard {
+    ($words:expr, $pass:expr, $set:expr) => {
+        $crate::Guard {
+            words: $words,
+            pass: $pass,
+            set: $set,
+            is_locked: true,
+        }
+    };
+}
+
 impl<K: TableKey + Drop, V: Drop> Held<Stripe<K, V>> for Guard<'_, K, V> {
     ghost use Rattle.std.specs.Prelude.{◌≡◌};
 

@@ -7,6 +7,7 @@ ghost use Rattle.ck_words.specs.StripeNumbers.{pair};
 ghost use Rattle.ck_words.specs.StripeSets.{list_of};
 ghost use Rattle.ck_words.specs.Holding.{HasTakenAll};
 
+use crate::guard;
 use crate::guard::Guard;
 use crate::pass::Pass;
 use crate::stripe_set::StripeSet;
@@ -43,12 +44,7 @@ impl<K: TableKey + Drop, V: Drop> Words<K, V> {
     {
         let count = set.count();
         if count <= 2 {
-            let mut guard = Guard {
-                words: self,
-                pass,
-                set,
-                is_locked: true,
-            };
+            let mut guard = guard!(self, pass, set);
             // One test for both, before anything is looked into.
             let first = is_settled(&mut guard, 0);
             let last = is_settled(&mut guard, count - 1);
@@ -88,12 +84,7 @@ impl<K: TableKey + Drop, V: Drop> Words<K, V> {
         ensures settled { pass.new
             ≡ record pass.old { stripes = settled_stripes pass.old.stripes } }
     {
-        let mut guard = Guard {
-            words: self,
-            pass,
-            set,
-            is_locked: true,
-        };
+        let mut guard = guard!(self, pass, set);
         settle_all(&mut guard);
     }
 }

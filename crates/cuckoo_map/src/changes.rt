@@ -14,7 +14,7 @@ use crate::refusal::Busy;
 use crate::table::Table;
 use ck_key::{Query, TableKey};
 use ck_section::{erase, erase_fn, replace_if, try_update, update, update_fn};
-use ck_words::{Commit, Guard, Pass};
+use ck_words::{Commit, Pass, guard};
 use std::snapshot::Snapshot;
 
 impl<K: TableKey + Drop, V: Drop> Table<K, V> {
@@ -40,12 +40,7 @@ impl<K: TableKey + Drop, V: Drop> Table<K, V> {
             Err(busy) => return Err((value, busy)),
         };
         let said = Commit::Update(Snapshot::of(&key), Snapshot::of(&value));
-        let mut guard = Guard {
-            words: &self.words,
-            pass,
-            set: spot.stripes,
-            is_locked: true,
-        };
+        let mut guard = guard!(&self.words, pass, spot.stripes);
         let old = update(&mut guard, spot.place, key, value);
         guard.commit_query(said);
         Ok(old)
@@ -74,12 +69,7 @@ impl<K: TableKey + Drop, V: Drop> Table<K, V> {
         ensures found { FindsOwn K.hash self.now.settings (Q.name key) pass.old pass.new }
     {
         let spot = self.hold_key(pass, key)?;
-        let mut guard = Guard {
-            words: &self.words,
-            pass,
-            set: spot.stripes,
-            is_locked: true,
-        };
+        let mut guard = guard!(&self.words, pass, spot.stripes);
         let bound = update_fn(&mut guard, spot.place, key, f);
         guard.commit_query(Commit::Change(Snapshot::of(&key)));
         Ok(bound)
@@ -96,12 +86,7 @@ impl<K: TableKey + Drop, V: Drop> Table<K, V> {
         ensures found { FindsOwn K.hash self.now.settings (Q.name key) pass.old pass.new }
     {
         let spot = self.hold_key(pass, key)?;
-        let mut guard = Guard {
-            words: &self.words,
-            pass,
-            set: spot.stripes,
-            is_locked: true,
-        };
+        let mut guard = guard!(&self.words, pass, spot.stripes);
         let value = erase(&mut guard, spot.place, key);
         guard.commit_query(Commit::Erase(Snapshot::of(&key)));
         Ok(value)
@@ -153,12 +138,7 @@ impl<K: TableKey + Drop, V: Drop> Table<K, V> {
         ensures found { FindsOwn K.hash self.now.settings (Q.name key) pass.old pass.new }
     {
         let spot = self.hold_key(pass, key)?;
-        let mut guard = Guard {
-            words: &self.words,
-            pass,
-            set: spot.stripes,
-            is_locked: true,
-        };
+        let mut guard = guard!(&self.words, pass, spot.stripes);
         let gone = erase_fn(&mut guard, spot.place, key, f);
         let said = chosen::<K, Q, V, F>(&gone, key, Commit::Erase(Snapshot::of(&key)));
         guard.commit_query(said);
@@ -212,12 +192,7 @@ impl<K: TableKey + Drop, V: Drop> Table<K, V> {
         ensures found { FindsOwn K.hash self.now.settings (Q.name key) pass.old pass.new }
     {
         let spot = self.hold_key(pass, key)?;
-        let mut guard = Guard {
-            words: &self.words,
-            pass,
-            set: spot.stripes,
-            is_locked: true,
-        };
+        let mut guard = guard!(&self.words, pass, spot.stripes);
         let replaced = replace_if(&mut guard, spot.place, key, f);
         let said = chosen::<K, Q, V, F>(&replaced, key, Commit::Change(Snapshot::of(&key)));
         guard.commit_query(said);
@@ -248,12 +223,7 @@ impl<K: TableKey + Drop, V: Drop> Table<K, V> {
         ensures found { FindsOwn K.hash self.now.settings (Q.name key) pass.old pass.new }
     {
         let spot = self.hold_key(pass, key)?;
-        let mut guard = Guard {
-            words: &self.words,
-            pass,
-            set: spot.stripes,
-            is_locked: true,
-        };
+        let mut guard = guard!(&self.words, pass, spot.stripes);
         let outcome = try_update(&mut guard, spot.place, key, f);
         let said = Commit::Change(Snapshot::of(&key));
         guard.commit_query(said);

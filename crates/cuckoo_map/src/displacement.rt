@@ -15,7 +15,7 @@ use crate::table::Table;
 use ck_key::{KeyHash, TableKey};
 use ck_path::Path;
 use ck_section::{Hop, make_hop};
-use ck_words::{Guard, Pass, StripeSet};
+use ck_words::{Pass, StripeSet, guard};
 use std::snapshot::Snapshot;
 
 impl<K: TableKey + Drop, V: Drop> Table<K, V> {
@@ -118,12 +118,7 @@ impl<K: TableKey + Drop, V: Drop> Table<K, V> {
         if let Err(stripe) = self.words.lock(pass, stripes) {
             return Err(Busy(stripe));
         }
-        let mut guard = Guard {
-            words: &self.words,
-            pass,
-            set: stripes,
-            is_locked: true,
-        };
+        let mut guard = guard!(&self.words, pass, stripes);
         let hopped = make_hop(&mut guard, s, hop);
         if hopped {
             guard.renew();

@@ -14,7 +14,7 @@ use ck_key::TableKey;
 use ck_model::settings::Settings;
 use ck_section::{Held, double_all, settle_all};
 use ck_stripe::Stripe;
-use ck_words::{Guard, Pass};
+use ck_words::{Pass, guard};
 use std::alloc::AllocError;
 
 impl<K: TableKey + Drop, V: Drop> Table<K, V> {
@@ -40,12 +40,7 @@ impl<K: TableKey + Drop, V: Drop> Table<K, V> {
             return Err(GrowFault::Busy(stripe));
         }
         let all = self.words.all();
-        let mut guard = Guard {
-            words: &self.words,
-            pass,
-            set: all,
-            is_locked: true,
-        };
+        let mut guard = guard!(&self.words, pass, all);
         let grown = double_to(&mut guard, s, power);
         guard.renew();
         match grown {

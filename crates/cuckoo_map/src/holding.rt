@@ -15,7 +15,7 @@ use crate::refusal::Busy;
 use crate::table::Table;
 use ck_key::{KeyHash, Query, TableKey};
 use ck_section::{Held, KeyPlace, find_entry, key_place};
-use ck_words::{Guard, Pass, StripeSet};
+use ck_words::{Pass, StripeSet, guard};
 use std::snapshot::Snapshot;
 
 // The stripes of a key, and its hash.
@@ -108,12 +108,7 @@ impl<K: TableKey + Drop, V: Drop> Table<K, V> {
         ensures s { result.s ≡ stripes.s }
         ensures same { pass.new ≡ pass.old }
     {
-        let mut guard = Guard {
-            words: &self.words,
-            pass,
-            set: stripes,
-            is_locked: true,
-        };
+        let mut guard = guard!(&self.words, pass, stripes);
         key_place(&mut guard, stripes.s, key, hash)
     }
 
@@ -143,12 +138,7 @@ impl<K: TableKey + Drop, V: Drop> Table<K, V> {
         ensures full { OnErr result (HasFoundNoRoom (K.name key.now) since.now.value pass.new) }
         ensures power { IfErr result (λ power. power ≤ 26) }
     {
-        let mut guard = Guard {
-            words: &self.words,
-            pass,
-            set: spot.stripes,
-            is_locked: true,
-        };
+        let mut guard = guard!(&self.words, pass, spot.stripes);
         if let Some(entry) = find_entry(&mut guard, spot.place, key) {
             return Ok(Room { spot, entry });
         }

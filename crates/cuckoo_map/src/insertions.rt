@@ -18,7 +18,7 @@ use crate::refusal::{Refused, Why};
 use crate::table::Table;
 use ck_key::TableKey;
 use ck_section::Uprased;
-use ck_words::{Guard, Pass};
+use ck_words::{Pass, guard};
 use std::marker::PhantomData;
 use std::snapshot::Snapshot;
 
@@ -396,12 +396,7 @@ impl<K: TableKey + Drop, V: Drop> Table<K, V> {
         ensures found { FindsOwnUnlessFull K.hash self.now.settings (K.name key)
             since.value pass.new }
     {
-        let mut guard = Guard {
-            words: &self.words,
-            pass,
-            set: room.spot.stripes,
-            is_locked: true,
-        };
+        let mut guard = guard!(&self.words, pass, room.spot.stripes);
         let (answer, said) = insertion.make(&mut guard, room.spot.place, room.entry, key, value);
         guard.commit(said);
         answer

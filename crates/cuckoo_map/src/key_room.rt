@@ -21,7 +21,7 @@ use crate::table::Table;
 use ck_key::{KeyHash, TableKey};
 use ck_model::settings::Settings;
 use ck_section::{Entry, Lack, find_entry, make_room, settled_place};
-use ck_words::{Guard, Pass};
+use ck_words::{Pass, guard};
 
 // Where a key may be among the stripes that its pass holds, those of the key or all of the table,
 // and its entry there.
@@ -51,12 +51,7 @@ impl<K: TableKey + Drop, V: Drop> Table<K, V> {
         match self.make_room_held(pass, key) {
             Ok(room) => Ok(room),
             Err(lack) => {
-                let mut guard = Guard {
-                    words: &self.words,
-                    pass,
-                    set: self.words.all(),
-                    is_locked: true,
-                };
+                let mut guard = guard!(&self.words, pass, self.words.all());
                 guard.refuse(key, lack);
                 Err(Why::of(lack))
             }
@@ -90,12 +85,7 @@ impl<K: TableKey + Drop, V: Drop> Table<K, V> {
         } = self.words.settings();
         let hash = KeyHash::of(key);
         let stripes = self.words.all();
-        let mut guard = Guard {
-            words: &self.words,
-            pass,
-            set: stripes,
-            is_locked: true,
-        };
+        let mut guard = guard!(&self.words, pass, stripes);
         make_room(&mut guard, s, key, hash, max, min_load)?;
         let place = settled_place(&mut guard, s, key, hash);
         let Some(entry) = find_entry(&mut guard, place, key) else {

@@ -34,7 +34,7 @@ use ck_section::{
     place_in_all, settle_all, update, update_fn,
 };
 use ck_stripe::Stripe;
-use ck_words::{Guard, Pass, Whole};
+use ck_words::{Pass, Whole, guard};
 use std::alloc::{AllocError, Global};
 use std::marker::Model;
 
@@ -322,12 +322,7 @@ impl<'t, K: TableKey + Drop, V: Drop> LockedTable<'t, K, V> {
     {
         let LockedTable { table, whole } = self;
         let mut pass = table.words.lower(whole);
-        let mut guard = Guard {
-            words: &table.words,
-            pass: &mut pass,
-            set: table.words.all(),
-            is_locked: true,
-        };
+        let mut guard = guard!(&table.words, &mut pass, table.words.all());
         guard.commit_session();
         pass
     }

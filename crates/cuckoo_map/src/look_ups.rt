@@ -10,7 +10,7 @@ use crate::refusal::Busy;
 use crate::table::Table;
 use ck_key::{Query, TableKey};
 use ck_section::find;
-use ck_words::{Commit, Guard, Pass};
+use ck_words::{Commit, Pass, guard};
 use std::snapshot::Snapshot;
 
 impl<K: TableKey + Drop, V: Drop> Table<K, V> {
@@ -36,12 +36,7 @@ impl<K: TableKey + Drop, V: Drop> Table<K, V> {
         ensures found { FindsOwn K.hash self.now.settings (Q.name key) pass.old pass.new }
     {
         let spot = self.hold_key(pass, key)?;
-        let mut guard = Guard {
-            words: &self.words,
-            pass,
-            set: spot.stripes,
-            is_locked: true,
-        };
+        let mut guard = guard!(&self.words, pass, spot.stripes);
         let found = find(&mut guard, spot.place, key, f);
         guard.commit_query(Commit::Find(Snapshot::of(&key)));
         Ok(found)

@@ -9,7 +9,7 @@ use crate::table::Table;
 use ck_key::{KeyHash, TableKey, alternate, index};
 use ck_path::{Path, Search};
 use ck_section::{Held, sketch};
-use ck_words::{Guard, Pass, StripeSet};
+use ck_words::{Pass, StripeSet, guard};
 
 // What a search came to.
 #[derive(Drop)]
@@ -70,12 +70,7 @@ impl<K: TableKey + Drop, V: Drop> Table<K, V> {
         if let Err(stripe) = self.words.lock(pass, stripe) {
             return Err(Busy(stripe));
         }
-        let mut guard = Guard {
-            words: &self.words,
-            pass,
-            set: stripe,
-            is_locked: true,
-        };
+        let mut guard = guard!(&self.words, pass, stripe);
         let seen = if ck_section::power(&mut guard, 0) == power {
             Some(sketch(&mut guard, s, bucket))
         } else {

@@ -13,7 +13,7 @@ use crate::refusal::Busy;
 use crate::table::Table;
 use ck_key::TableKey;
 use ck_section::len;
-use ck_words::{Commit, Guard, Pass};
+use ck_words::{Commit, Pass, guard};
 
 impl<K: TableKey + Drop, V: Drop> Table<K, V> {
     /// How many keys are bound: never more than the table has slots at its greatest power. It counts
@@ -31,12 +31,7 @@ impl<K: TableKey + Drop, V: Drop> Table<K, V> {
     {
         self.hold_table(pass)?;
         let all = self.words.all();
-        let mut guard = Guard {
-            words: &self.words,
-            pass,
-            set: all,
-            is_locked: true,
-        };
+        let mut guard = guard!(&self.words, pass, all);
         let count = len(&mut guard, self.words.settings().s);
         guard.commit(Commit::Len);
         Ok(count)

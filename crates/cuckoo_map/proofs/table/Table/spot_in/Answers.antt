@@ -25,7 +25,7 @@ returns-clause-spot g c = λ p taken.
     let both = has_both g.K.TableKey.hash c.args.self.now.settings (g.Q.Query.name c.args.key) (list_of c.args.home.stripes) h.exact c.settle_taken.new.pass.stripes c.settle_taken.ensures.numbers in
     record {
       holds = holds_then p c.settle_taken.new.pass (subst (Stays p.view) (sym c.settle_taken.ensures.view) taken.stays) both c.settle_taken.ensures.unchanged (one_power_held _ c.settle_taken.new.pass.stripes c.settle_taken.ensures.held) k.ensures.place (k.ensures.s ∙ h.s)
-        k.new.pass stripes (ap (λ (x : PassState g.row.V.Denot). x.view) k.ensures.same);
+          k.new.pass stripes (ap (λ (x : PassState g.row.V.Denot). x.view) k.ensures.same);
       of_table = h.s;
       numbered = ap (λ (ss : List (StripeState g.row.V.Denot)). numbers_of ss) stripes ∙ c.settle_taken.ensures.numbers;
       settled = subst (λ (x : WordsState × List (StripeState g.row.V.Denot)). AreHeld x.0.settings.s x.1) (λ j. (c.self.view_is j, sym stripes j)) c.settle_taken.ensures.held;
