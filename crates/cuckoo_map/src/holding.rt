@@ -1,7 +1,5 @@
 //! Taking the stripes of a key, with room for it.
 ghost use Rattle.std.specs.Prelude.{◌≡◌, ◌≤◌, OnOk, OnErr, IfOk, IfErr};
-ghost use Rattle.ck_key.specs.Hashes.{IsHashOf};
-ghost use Rattle.ck_section.specs.Places.{AreHeld, HasBoth, IsPlaceOf};
 ghost use Rattle.ck_words.specs.Passes.{PassState, IsPassOf, IsIdle, numbers_of};
 ghost use Rattle.ck_words.specs.StripeSets.{list_of};
 ghost use Rattle.ck_words.specs.Holding.{HasTakenAll};
@@ -84,32 +82,9 @@ impl<K: TableKey + Drop, V: Drop> Table<K, V> {
     {
         let Home { stripes, hash } = home;
         self.words.settle_taken(pass, stripes);
-        let place = self.place_of(pass, stripes, key, hash);
-        Spot { stripes, place }
-    }
-
-    // Where the key may be among these stripes, which its pass holds.
-    #[inline(always)]
-    pub(crate) fn place_of<Q: Query<K>>(
-        &self,
-        pass: &mut Pass<K, V>,
-        stripes: StripeSet,
-        key: Q,
-        hash: KeyHash,
-    ) -> KeyPlace
-        requires own { IsPassOf self.now pass.old }
-        requires numbered { numbers_of pass.old.stripes ≡ list_of stripes }
-        requires s { stripes.s ≡ self.now.settings.s }
-        requires held { AreHeld stripes.s pass.old.stripes }
-        requires hash { IsHashOf K.hash (Q.name key) hash }
-        requires both { HasBoth K.hash stripes.s pass.old.stripes (Q.name key) }
-        ensures own { IsPassOf self.now pass.new }
-        ensures place { IsPlaceOf K.hash pass.old.stripes (Q.name key) result }
-        ensures s { result.s ≡ stripes.s }
-        ensures same { pass.new ≡ pass.old }
-    {
         let mut guard = guard!(&self.words, pass, stripes);
-        key_place(&mut guard, stripes.s, key, hash)
+        let place = key_place(&mut guard, stripes.s, key, hash);
+        Spot { stripes, place }
     }
 
     // The entry of the key on its stripes, which the pass holds. Where the key is unbound and its

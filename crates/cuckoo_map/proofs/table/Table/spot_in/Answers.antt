@@ -1,7 +1,7 @@
-use Rattle.std.proofs.Common.{ℕ, List, ◌∙◌, ap, sym, subst}
+use Rattle.std.proofs.Common.{rules, ◌≡◌, ℕ, List, ◌∙◌, ap, sym, subst}
 use Rattle.ck_stripe.specs.Stripe.{StripeState}
 use Rattle.ck_section.specs.Places.{AreHeld, HasBoth}
-use Rattle.ck_words.specs.Passes.{PassState, numbers_of}
+use Rattle.ck_words.specs.Passes.{numbers_of}
 use Rattle.ck_words.specs.Words.{WordsState}
 use Rattle.ck_words.specs.StripeSets.{list_of}
 use Rattle.ck_words.specs.Retries.{Stays}
@@ -10,8 +10,8 @@ use Rattle.cuckoo_map.proofs.Counted.{one_power_held}
 use Rattle.cuckoo_map.proofs.Sets.{has_both, finds_such}
 use Rattle.cuckoo_map.proofs.table.Table.spot_in.Goals as goal
 
-pub place_of-place-requires-clause-both : goal.place_of-place-requires-clause-both
-place_of-place-requires-clause-both g c =
+pub key_place-place-requires-clause-owned : goal.key_place-place-requires-clause-owned
+key_place-place-requires-clause-owned g c =
     let h = c.requires.home in
     let q = g.Q.Query.name c.args.key in
     subst (λ (s : ℕ). HasBoth g.K.TableKey.hash s c.settle_taken.new.pass.stripes q) (sym h.s)
@@ -20,18 +20,20 @@ place_of-place-requires-clause-both g c =
 pub returns-clause-spot : goal.returns-clause-spot
 returns-clause-spot g c = λ p taken.
     let h = c.requires.home in
-    let k = c.place_of-place in
-    let stripes = ap (λ (x : PassState g.row.V.Denot). x.stripes) k.ensures.same in
+    let k = c.key_place-place in
+    let stripes = k.ensures.same in
+    let there : k.new.held.pass.now ≡ c.pass-1.given.0 = search rules in
     let both = has_both g.K.TableKey.hash c.args.self.now.settings (g.Q.Query.name c.args.key) (list_of c.args.home.stripes) h.exact c.settle_taken.new.pass.stripes c.settle_taken.ensures.numbers in
-    record {
+    rw (← there) (record {
       holds = holds_then p c.settle_taken.new.pass (subst (Stays p.view) (sym c.settle_taken.ensures.view) taken.stays) both c.settle_taken.ensures.unchanged (one_power_held _ c.settle_taken.new.pass.stripes c.settle_taken.ensures.held) k.ensures.place (k.ensures.s ∙ h.s)
-          k.new.pass stripes (ap (λ (x : PassState g.row.V.Denot). x.view) k.ensures.same);
+          k.new.held.pass.now stripes k.ensures.stays.1;
       of_table = h.s;
       numbered = ap (λ (ss : List (StripeState g.row.V.Denot)). numbers_of ss) stripes ∙ c.settle_taken.ensures.numbers;
       settled = subst (λ (x : WordsState × List (StripeState g.row.V.Denot)). AreHeld x.0.settings.s x.1) (λ j. (c.self.view_is j, sym stripes j)) c.settle_taken.ensures.held;
-    }
+    })
 
 pub returns-clause-found : goal.returns-clause-found
 returns-clause-found g c = λ p taken.
     let found = finds_such (list_of c.args.home.stripes) c.requires.home.exact p c.args.pass.now taken.found in
-    (found.0, ap (λ (x : PassState g.row.V.Denot). x.view.found) c.place_of-place.ensures.same ∙ (ap (λ v. v.found) c.settle_taken.ensures.view ∙ found.1), found.2)
+    let there : c.key_place-place.new.held.pass.now ≡ c.pass-1.given.0 = search rules in
+    rw (← there) (found.0, ap (λ v. v.found) (c.key_place-place.ensures.stays.1 ∙ c.settle_taken.ensures.view) ∙ found.1, found.2)
