@@ -68,8 +68,8 @@ module _ {V : Type 0} where
     }
 
     -- it was answered
-    pub replied : (call : Call V) {more : List (Name × Reason)} {reply : Reply V} → IsAnsweredBut more call reply p q → Replied call reply c.client (client_of q.view)
-    replied call {more} {reply} a = subst (λ (x : CallerState V). Replied call reply x.client (client_of q.view)) is a.replied
+    pub replied : (call : Call V) {more : List (Name × Reason)} {reply : Reply V} {n : ℕ} → IsAnsweredBut more call reply (record p { view = record p.view { doublings = n } }) q → Replied call reply c.client (client_of q.view)
+    replied call {more} {reply} {n} a = subst (λ (x : CallerState V). Replied call reply x.client (client_of q.view)) is a.replied
 
     pub replies : (call : Call V) (reply : Reply V) → IsAnswered call reply p q → Replies call c (caller_of w q) reply × (IsSameCaller c (caller_of w q) × KeepsNotes c (caller_of w q))
     replies call reply a = (replied call a, (same_caller a.stays.by, (keeps_notes a.stays, a.stays.doublings ∙ ap (λ (x : CallerState V). x.notes.doublings) is)))
@@ -83,10 +83,7 @@ module _ {V : Type 0} where
         subst (λ (x : CallerState V). HasGrownFor hash x.table.settings name (pass_of x) (pass_of (caller_of w q))) is (grown_alike p q (pass_of (caller_of w p)) (pass_of (caller_of w q)) refl refl refl refl refl g)
 
     pub replies_inserting : (hash : Name → ℕ) (name : Name) (act : Act V) (reply : Reply V) → IsInserted hash w.settings name p q act reply → RepliesOn name c (caller_of w q) act reply × (IsSameCaller c (caller_of w q) × NotesFull hash name c (caller_of w q))
-    replies_inserting hash name act reply a = (replied_grown a.2, (same_caller a.2.stays.by, (a.0, a.1, keeps_notes a.2.stays, grown_caller a.3)))
-      where
-        replied_grown : {more : List (Name × Reason)} {n : ℕ} → IsAnsweredBut more (On name act) reply (record p { view = record p.view { doublings = n } }) q → RepliesOn name c (caller_of w q) act reply
-        replied_grown b = subst (λ (x : CallerState V). Replied (On name act) reply x.client (client_of q.view)) is b.replied
+    replies_inserting hash name act reply a = (replied (On name act) a.2, (same_caller a.2.stays.by, (a.0, a.1, keeps_notes a.2.stays, grown_caller a.3)))
 
     module _ (before : IsCaller w p) (after : IsCaller w q) where
       -- what holds of the passes holds of those of the callers

@@ -12,6 +12,7 @@ use Rattle.ck_section.specs.Places.{AreHeld}
 use Rattle.ck_section.specs.Calls.{ChangesContents}
 use Rattle.ck_section.specs.Room.{power_in}
 use Rattle.ck_section.proofs.Found.{holds_at}
+use Rattle.ck_section.proofs.Tables.{power_shown}
 use Rattle.ck_core.specs.declared.view.View.{View}
 use Rattle.ck_words.specs.Words.{WordsState}
 use Rattle.ck_words.specs.Passes.{PassState, IsUnchanged}
@@ -19,7 +20,7 @@ use Rattle.ck_words.specs.Retries.{StaysBut, as_doubled}
 use Rattle.ck_words.specs.Holding.{AreOfPower, IsDoubledBy, HasReleased}
 use Rattle.ck_words.specs.Closing.{IsWhole}
 use Rattle.ck_words.proofs.WholeTables.{lawful_held}
-use Rattle.ck_words.proofs.Reversed.{held_reverse}
+use Rattle.ck_words.proofs.Reversed.{held_reverse, of_reverse}
 use Rattle.ck_words.proofs.Staying.{starts_on}
 use Rattle.cuckoo_map.specs.Needed.{NeedsToGrow, HasGrownFor, HaveOnePower, HoldsGrown}
 
@@ -39,18 +40,20 @@ module _ {V : Type 0} where
   level_after power old new changes all =
       of_level power new (λ i l. let inside : i < length old = subst (λ n. i < n) changes.count l in changes.power i inside ∙ level_of power old all i inside)
 
-  -- the power that contents show is that of the first stripe
-  pub power_first : (ss : List (StripeState V)) → 0 < length ss → power_of (contents_of ss) ≡ power_in ss
-  power_first [] none = absurd (omega arith)
-  power_first (s ∷ ss) some = refl
-
   pub one_power_held : (s : ℕ) (ss : List (StripeState V)) → AreHeld s ss → HaveOnePower ss
-  one_power_held s ss held = of_level (power_of (contents_of ss)) ss (λ i l. held.one_power i l ∙ sym (power_first ss held.some))
+  one_power_held s ss held = of_level (power_of (contents_of ss)) ss (λ i l. held.one_power i l ∙ sym (power_shown ss held.some))
 
   -- lawful contents have the power of the first
   pub one_of_lawful : (k : Layout) (hs : Stripes V) → Lawful k hs → (t : ℕ) (c : Content V) → Holds hs t c → c.power ≡ power_of hs
   one_of_lawful k [] lawful t c h = absurd h
   one_of_lawful k (x ∷ hs) lawful t c h = lawful.one_power t x.0 c x.1 h (inl (refl, refl))
+
+  -- a pass that has just taken all stripes was told no power above theirs
+  pub told_first : {hash : Name → ℕ} {set : Settings} (p : PassState V) → IsWhole hash set p → 0 < length p.stripes → p.view.told ≤ power_in p.stripes
+  told_first p whole some =
+      let first : StripeState V = stripe_at p.stripes 0 in
+      let held : Holds p.view.held first.number first.content = of_reverse p.view.held first.number first.content (subst (λ (hs : Stripes V). Holds hs first.number first.content) whole.unchanged (holds_at p.stripes 0 some)) in
+      (whole.shows.told first.number first.content held).0
 
   pub one_power_table : (hash : Name → ℕ) (set : Settings) (p : PassState V) → IsWhole hash set p → HaveOnePower p.stripes
   one_power_table hash set p whole = one_of_lawful (layout_of hash set) (contents_of p.stripes) (lawful_held hash set p whole)

@@ -1,5 +1,5 @@
 -- Doublings of all stripes, one after another, and what they leave of the pass that holds them.
-use Rattle.std.proofs.Common.{◌≡◌, ℕ, ◌+◌, ◌-◌, ◌<◌, ◌≤◌, Bool, true, false, ltb, MatchBool, Ok, Err, List, [], ◌∷◌, inl, length, reverse, max, refl, sym, ap, ◌∙◌, subst, arith}
+use Rattle.std.proofs.Common.{◌≡◌, ℕ, ◌+◌, ◌-◌, ◌<◌, ◌≤◌, Bool, true, false, ltb, MatchBool, Ok, Err, List, [], ◌∷◌, length, reverse, max, refl, sym, ap, ◌∙◌, subst, arith}
 use mathlib.Core.Logic.{dite}
 use native.Mathlib.Decide.{dec_le}
 use Rattle.std.proofs.lemmas.Bool.{ltb-true, lt-ltb, false≢true}
@@ -11,11 +11,10 @@ use Rattle.ck_model.specs.declared.contents.Content.{Content}
 use Rattle.ck_model.specs.Contents.{Layout, layout, layout_of, Stripes, Lawful}
 use Rattle.ck_model.specs.Sections.{IdentitySection}
 use Rattle.ck_stripe.specs.Stripe.{StripeState}
-use Rattle.ck_section.specs.Stripes.{stripe_at, contents_of, settled_stripes}
+use Rattle.ck_section.specs.Stripes.{contents_of, settled_stripes}
 use Rattle.ck_section.specs.Whole.{AreAllHeld, AreSettled, IsTable}
 use Rattle.ck_section.specs.Doublings.{DoublesEach, Grows}
 use Rattle.ck_section.specs.Room.{power_in, KeepsBindings}
-use Rattle.ck_section.proofs.Found.{holds_at}
 use Rattle.ck_section.proofs.Doublings.{identity_on}
 use Rattle.ck_section.proofs.Growing.{contents_settled, all_settled}
 use Rattle.ck_section.proofs.Tables.{power_same}
@@ -26,12 +25,12 @@ use Rattle.ck_words.specs.Retries.{Stays, as_doubled}
 use Rattle.ck_words.specs.Holding.{HasReleased, AreOfPower, IsDoubledBy}
 use Rattle.ck_words.specs.Renewing.{HasRenewed}
 use Rattle.ck_words.specs.Closing.{IsWhole}
-use Rattle.ck_words.proofs.Reversed.{held_reverse, of_reverse, lawful_reverse}
+use Rattle.ck_words.proofs.Reversed.{held_reverse, lawful_reverse}
 use Rattle.ck_words.proofs.Staying.{stays_on}
 use Rattle.cuckoo_map.specs.declared.refusal.GrowFault.TheVariants.{Busy, Memory}
 use Rattle.cuckoo_map.specs.Refusals.{IsStripeIn, IsBusyAmong}
 use Rattle.cuckoo_map.specs.Growth.{Rehashes}
-use Rattle.cuckoo_map.proofs.Counted.{stays_counting}
+use Rattle.cuckoo_map.proofs.Counted.{one_of_lawful, told_first, stays_counting}
 
 module _ {V : Type 0} (s : ℕ) where
   -- All stripes of a table were settled.
@@ -142,7 +141,7 @@ module _ {V : Type 0} {v w : WordsState} (is : v ≡ w) (p1 p2 : PassState V) (v
 -- stripes that are lawful have the power of the first
 one_of_power : {V : Type 0} (k : Layout) (ss : List (StripeState V)) → Lawful k (contents_of ss) → AreOfPower (power_in ss) ss
 one_of_power k [] lawful t c h = absurd h
-one_of_power k (s ∷ ss) lawful t c h = lawful.one_power t s.number c s.content h (inl (refl, refl))
+one_of_power k (s ∷ ss) lawful t c h = one_of_lawful k (contents_of (s ∷ ss)) lawful t c h
 
 -- It was p before it took them, and z when they had gone home.
 module _ {V : Type 0} {hash : Name → ℕ} {set : Settings} {power : ℕ} (inside : power ≤ set.max) (p p1 p2 z : PassState V) (stays : Stays p.view p1.view) (whole : IsWhole hash set p1) (table : IsTable set.s p1.stripes)
@@ -150,10 +149,8 @@ module _ {V : Type 0} {hash : Name → ℕ} {set : Settings} {power : ℕ} (insi
   -- it had been told no power above theirs
   told_since : (p.view.told ≤ p1.view.told) × (p1.view.told ≤ power_in p1.stripes) × (z.view.told ≡ max p1.view.told (power_in p2.stripes))
   told_since =
-      let first : StripeState V = stripe_at p1.stripes 0 in
       let some : 0 < length p1.stripes = subst (λ n. 0 < n) (sym table.count) (pow_pos set.s) in
-      let held : Holds p1.view.held first.number first.content = of_reverse p1.view.held first.number first.content (subst (λ hs. Holds hs first.number first.content) whole.unchanged (holds_at p1.stripes 0 some)) in
-      (stays.told, (whole.shows.told first.number first.content held).0, told ∙ ap (λ (u : View V). max u.told (power_in p2.stripes)) view)
+      (stays.told, told_first p1 whole some, told ∙ ap (λ (u : View V). max u.told (power_in p2.stripes)) view)
 
   -- what they contain has one power, as they were taken and as they went home
   power_taken : (t : ℕ) (c : Content V) → Holds p2.view.held t c → c.power ≡ power_in p1.stripes

@@ -11,9 +11,8 @@ use Rattle.ck_model.specs.Paths.{Grounds, HasNoRoom}
 use Rattle.ck_stripe.specs.Stripe.{StripeState}
 use Rattle.ck_section.specs.declared.room.Lack as lack
 use Rattle.ck_section.specs.declared.room.Lack.TheVariants.{Memory, Full, LoadTooLow}
-use Rattle.ck_model.specs.Numbered.{Holds}
-use Rattle.ck_section.specs.Stripes.{stripe_at, contents_of, HaveNoSpare}
-use Rattle.ck_section.proofs.Found.{holds_at}
+use Rattle.ck_section.specs.Stripes.{contents_of, HaveNoSpare}
+use Rattle.ck_section.proofs.Tables.{power_shown}
 use Rattle.ck_section.specs.declared.entry.Entry.{Entry}
 use Rattle.ck_section.specs.Places.{IsPlaceOf}
 use Rattle.ck_section.specs.Entries.{IsEntryOf}
@@ -27,7 +26,7 @@ use Rattle.ck_words.specs.Retries.{Stays, as_doubled}
 use Rattle.ck_words.specs.Renewing.{HasRenewed, HasRefused}
 use Rattle.ck_words.specs.Closing.{IsWhole}
 use Rattle.ck_words.proofs.Staying.{stays_same, stays_then}
-use Rattle.ck_words.proofs.Reversed.{held_reverse, of_reverse}
+use Rattle.ck_words.proofs.Reversed.{held_reverse}
 use Rattle.ck_words.proofs.WholeTables.{lawful_held}
 use Rattle.ck_words.proofs.Renewals.{renewed_none, renewed_then}
 use Rattle.cuckoo_map.specs.declared.holding.Spot.{Spot}
@@ -36,7 +35,7 @@ use Rattle.cuckoo_map.specs.Holding.{HasSpot}
 use Rattle.cuckoo_map.specs.Refusals.{reason_of, why_of, GivesGrounds, ShowsWhy, IsRefused}
 use Rattle.cuckoo_map.specs.Needed.{NeedsToGrow, HasGrownFor, HaveOnePower, HoldsGrown}
 use Rattle.cuckoo_map.specs.Insertions.{HoldsRoom, HasRoom}
-use Rattle.cuckoo_map.proofs.Counted.{power_first, one_of_lawful, stays_counting, holds_alike, grown_since}
+use Rattle.cuckoo_map.proofs.Counted.{one_of_lawful, told_first, stays_counting, holds_alike, grown_since}
 use Rattle.cuckoo_map.proofs.Sessions.{after_all}
 
 -- the reason of a refusal for a lack is that of the lack
@@ -129,27 +128,20 @@ module _ {V : Type 0} where
           → Lawful (layout_of hash w.settings) (reverse p2.view.held) → Grounds (layout_of hash w.settings) w.settings.min_load (contents_of p2.stripes) q (reason_of_lack l)
       grounds_there l refused held = subst (λ (x : Settings). Grounds (layout_of hash x) x.min_load (contents_of p2.stripes) q (reason_of_lack l)) set_is (refused lawful_taken)
 
-      -- the pass was told no power above theirs
-      told_first : 0 < length p1.stripes → p1.view.told ≤ power_in p1.stripes
-      told_first some =
-          let one : StripeState V = stripe_at p1.stripes 0 in
-          let held : Holds p1.view.held one.number one.content = of_reverse p1.view.held one.number one.content (subst (λ (hs : Stripes V). Holds hs one.number one.content) whole.unchanged (holds_at p1.stripes 0 some)) in
-          (whole.shows.told one.number one.content held).0
-
       -- they doubled for want of room for the name alone
       pub grown_there : IsTable w.settings.s p1.stripes → IsTable set.s p2.stripes → GrowsForRoom k set.min_load p1.stripes p2.stripes q → HoldsGrown hash w.settings q p2
       grown_there table table2 grows =
           let as_taken : contents_of p1.stripes ≡ reverse p2.view.held = whole.unchanged ∙ ap (λ (v : View V). reverse v.held) (sym same) in
           let some : 0 < length p1.stripes = subst (λ n. 0 < n) (sym table.count) (pow_pos w.settings.s) in
-          let first : power_of (contents_of p1.stripes) ≡ power_in p1.stripes = power_first p1.stripes some in
-          let last : power_of (contents_of p2.stripes) ≡ power_in p2.stripes = power_first p2.stripes (subst (λ n. 0 < n) (sym table2.count) (pow_pos set.s)) in
+          let first : power_of (contents_of p1.stripes) ≡ power_in p1.stripes = power_shown p1.stripes some in
+          let last : power_of (contents_of p2.stripes) ≡ power_in p2.stripes = power_shown p2.stripes (subst (λ n. 0 < n) (sym table2.count) (pow_pos set.s)) in
           let taken : power_of (reverse p2.view.held) ≡ power_in p1.stripes = ap (λ (hs : Stripes V). power_of hs) (sym as_taken) ∙ first in
           let old : Lawful k (reverse p2.view.held) = subst (λ (hs : Stripes V). Lawful k hs) as_taken lawful_taken in
           record {
             before = λ t c h. one_of_lawful k (reverse p2.view.held) old t c (held_reverse p2.view.held t c h);
             now = one_of_lawful k (contents_of p2.stripes) (keeps lawful_taken).renewed.lawful;
             after = λ l. subst (λ (v : View V). After v.seen (bindings (reverse v.held))) (sym same) (after_all hash w p1 p1 (stays_same p1.view) whole);
-            told = λ l. (let here = told_first some in let same_told : p2.view.told ≡ p1.view.told = ap (λ (v : View V). v.told) same in omega arith);
+            told = λ l. (let here = told_first p1 whole some in let same_told : p2.view.told ≡ p1.view.told = ap (λ (v : View V). v.told) same in omega arith);
             needed = λ power least below.
                 subst (λ (x : Settings × Stripes V). NeedsToGrow hash x.0 q x.1 power) (λ j. (set_is j, as_taken j))
                 (grows lawful_taken power (let l : power_in p1.stripes ≤ power = omega arith in l) (let l : power < power_in p2.stripes = omega arith in l));

@@ -83,8 +83,8 @@ module _ {V : Type 0} where
   StaysAsIs c d = Stays (pass_of c).view (pass_of d).view
 
   -- and how often it made the table double
-  abbrev pub StaysDoubled : CallerState V → CallerState V → Type 0
-  StaysDoubled c d = Stays (as_doubled (pass_of c) (pass_of d)).view (pass_of d).view
+  abbrev pub StaysButDoublings : CallerState V → CallerState V → Type 0
+  StaysButDoublings c d = Stays (as_doubled (pass_of c) (pass_of d)).view (pass_of d).view
 
   -- what it tells others
   abbrev pub message_of_caller : CallerState V → MessageState V

@@ -19,7 +19,7 @@ module _ {V : Type 0} where
   abbrev pub NeedsToGrow : (Name → ℕ) → Settings → Name → Stripes V → ℕ → Type 0
   NeedsToGrow hash set q hs power = (ks : Stripes V) × IsDoubledTo (layout_of hash set) power hs ks × Grounds (layout_of hash set) set.min_load ks q Memory
 
-  -- At a moment since p, up to which p2 has seen the history, all stripes contained what it leaves, at no lower power than p was told. From then on the table needed so many doublings to have room for the name.
+  -- Contents of all stripes that bind what the history leaves at a moment since p, up to which p2 has seen it, at no lower power than p was told. From them on the table needed so many doublings to have room for the name.
   pub record NeedsDoublings (hash : Name → ℕ) (set : Settings) (q : Name) (doublings : ℕ) (p p2 : PassState V) : Type 0 where
     pub log : List (Entry V)
     pub contents : Stripes V

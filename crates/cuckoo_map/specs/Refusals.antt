@@ -59,7 +59,7 @@ module _ {V : Type 0} where
   abbrev pub FindsOwnUnlessFull : (Name → ℕ) → Settings → Name → PassState V → PassState V → Type 0
   FindsOwnUnlessFull hash set q p p2 = FindsAmong (λ t. IsStripeOf (layout_of hash set) q t ⊎ SaysNoRoom q p p2) p p2
 
-  -- What all stripes contained gives the reason to refuse the name. It is what the history leaves, up to what the pass has seen, and the pass was told its power.
+  -- Contents of all stripes that give the reason to refuse the name. They bind what the history leaves, up to what the pass has seen, and the pass was told their power.
   pub record GivesGrounds (hash : Name → ℕ) (set : Settings) (q : Name) (why : history.Reason) (p : PassState V) : Type 0 where
     pub contents : Stripes V
     pub grounds : Grounds (layout_of hash set) set.min_load contents q why

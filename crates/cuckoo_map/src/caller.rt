@@ -72,7 +72,7 @@ impl<'t, K: TableKey + Drop, V: Drop> Caller<'t, K, V> {
     ghost use Rattle.ck_section.specs.Acts.{Finds, FindsBound, FindsBy, Inserts, InsertsBy, FindsOrInserts};
     ghost use Rattle.ck_section.specs.Acts.{Assigns, Upserts, Uprases, TriesUpsert, Updates, Changes};
     ghost use Rattle.ck_section.specs.Acts.{ReplacesIf, TriesChange, Erases, ErasesBy, ChangesTwo};
-    ghost use Rattle.cuckoo_map.specs.Callers.{pass_of, IsSameCaller, Replies, RepliesOn, KeepsNotes, NotesFull, StaysAsIs, StaysDoubled, MeetsCaller, HearsMessage, message_of_caller};
+    ghost use Rattle.cuckoo_map.specs.Callers.{pass_of, IsSameCaller, Replies, RepliesOn, KeepsNotes, NotesFull, StaysAsIs, StaysButDoublings, MeetsCaller, HearsMessage, message_of_caller};
     ghost use Rattle.cuckoo_map.specs.Callers.{Counts, GrowsTo, GrowsFor, ComesBack, IsBusyOn, IsBusyOnTwo};
     ghost use Rattle.cuckoo_map.specs.Callers.{IsBusyOnSome, IsBusyOnAny, FindsHeldOwn, FindsHeldUnlessFull};
     ghost use Rattle.cuckoo_map.specs.Callers.{FindsHeldOfTwo, FindsHeldAmong, FindsHeldOfAny};
@@ -593,7 +593,7 @@ impl<'t, K: TableKey + Drop, V: Drop> Caller<'t, K, V> {
     /// the table some times. It is `Table::rehash`.
     pub fn rehash(&mut self, power: u32) -> Result<bool, GrowFault>
         ensures same { IsSameCaller self.old self.new }
-        ensures stays { StaysDoubled self.old self.new }
+        ensures stays { StaysButDoublings self.old self.new }
         ensures rehashed { GrowsTo power result self.old self.new }
         ensures found { FindsHeldOfAny self.old self.new }
     {
@@ -612,7 +612,7 @@ impl<'t, K: TableKey + Drop, V: Drop> Caller<'t, K, V> {
     /// ```
     pub fn reserve(&mut self, n: u64) -> Result<bool, GrowFault>
         ensures same { IsSameCaller self.old self.new }
-        ensures stays { StaysDoubled self.old self.new }
+        ensures stays { StaysButDoublings self.old self.new }
         ensures reserved { GrowsFor n result self.old self.new }
         ensures found { FindsHeldOfAny self.old self.new }
     {
