@@ -14,12 +14,14 @@ use Rattle.ck_words.specs.Retries.{StaysBut, FindsAmong}
 use Rattle.ck_words.specs.Answering.{IsAnswered, IsAnsweredBut, IsAnsweredOn}
 use Rattle.ck_words.specs.Closing.{IsCaller}
 use Rattle.ck_core.specs.State.{client_of}
+use Rattle.cuckoo_map.specs.declared.refusal.Busy.{Busy}
 use Rattle.cuckoo_map.specs.declared.refusal.Refused.{Refused}
 use Rattle.cuckoo_map.specs.Refusals.{IsBusyAmong, FindsOwnUnlessFull}
 use Rattle.cuckoo_map.specs.Needed.{HasGrownFor}
-use Rattle.cuckoo_map.specs.Insertions.{IsInserted, HandsBack}
+use Rattle.cuckoo_map.specs.Queries.{HasQueried}
+use Rattle.cuckoo_map.specs.Insertions.{IsInserted, HasInserted, HandsBack}
 use Rattle.cuckoo_map.proofs.Counted.{grown_alike}
-use Rattle.cuckoo_map.specs.Callers.{CallerState, caller_of, pass_of, IsSameCaller, Replies, RepliesOn, KeepsNotesBut, KeepsNotes, NotesFull, ComesBack, FindsHeldUnlessFull}
+use Rattle.cuckoo_map.specs.Callers.{CallerState, caller_of, pass_of, IsSameCaller, Replies, RepliesOn, KeepsNotesBut, KeepsNotes, NotesFull, QueryLeaves, InsertionLeaves}
 
 -- a stripe of the name
 abbrev pub OfName : (Name → ℕ) → Name → WordsState → ℕ → Type 0
@@ -35,21 +37,13 @@ module _ {V : Type 0} where
   pub as_pass : {w : WordsState} {p : PassState V} → IsCaller w p → pass_of (caller_of w p) ≡ p
   as_pass {w} {p} caller = λ j. record p { table = sym caller.own.0 j; view = record p.view { held = sym caller.idle.1 j; others = sym caller.alone j }; stripes = sym caller.idle.0 j }
 
-  -- What a look-up or a change leaves of its caller: it is answered, or found a stripe of these busy.
-  pub record QueryLeaves {A E : Type 0} (T : A → Type 0) (P : WordsState → ℕ → Type 0) (stripe : E → ℕ) (r : Result A E) (c d : CallerState V) : Type 0 where
+  -- What a call leaves of its caller that binds no new key: it was answered, or found a stripe of these busy.
+  pub record CallLeaves {A E : Type 0} (T : A → Type 0) (P : WordsState → ℕ → Type 0) (stripe : E → ℕ) (r : Result A E) (c d : CallerState V) : Type 0 where
     pub same : IsSameCaller c d
     pub answered : IfOk r T
     pub notes : OnOk r (KeepsNotes c d)
     pub busy : IfErr r (λ e. IsBusyAmong (P c.table) c.table.settings (stripe e) (pass_of c) (pass_of d))
     pub found : FindsAmong (P c.table) (pass_of c) (pass_of d)
-
-  -- What an insertion leaves of its caller: it is answered, or handed back.
-  pub record InsertionLeaves {A K X : Type 0} (T : A → Type 0) (hash : Name → ℕ) (name : Name) (key : K) (x : X) (r : Result A (Refused K X)) (c d : CallerState V) : Type 0 where
-    pub same : IsSameCaller c d
-    pub answered : IfOk r T
-    pub notes : OnOk r (NotesFull hash name c d)
-    pub refused : IfErr r (ComesBack hash name key x c d)
-    pub found : FindsHeldUnlessFull hash name c d
 
   -- the call had the pass p of the caller c, and left q
   module _ {w : WordsState} {c : CallerState V} (p q : PassState V) (is : caller_of w p ≡ c) where
@@ -93,7 +87,7 @@ module _ {V : Type 0} where
           (subst (λ (x : PassState V × PassState V). P w x.0 x.1) (λ j. (sym (as_pass before) j, sym (as_pass after) j)) h)
 
       pub query : {A E : Type 0} {T : A → Type 0} (P : WordsState → ℕ → Type 0) (stripe : E → ℕ) (r : Result A E) → IfOk r (λ a. T a × (IsSameCaller c (caller_of w q) × KeepsNotes c (caller_of w q)))
-          → IfErr r (λ e. IsBusyAmong (P w) w.settings (stripe e) p q) → FindsAmong (P w) p q → QueryLeaves T P stripe r c (caller_of w q)
+          → IfErr r (λ e. IsBusyAmong (P w) w.settings (stripe e) p q) → FindsAmong (P w) p q → CallLeaves T P stripe r c (caller_of w q)
       query {A} {E} {T} P stripe r told busy found = record {
         same = by_result r told busy (λ a h. h.1.0) (λ e h. same_caller h.stays.by);
         answered = IfOk-weaker r _ _ (λ a h. h.0) told;
@@ -102,12 +96,23 @@ module _ {V : Type 0} where
         found = over (λ v a b. FindsAmong (P v) a b) found;
       }
 
-      pub insertion : {A K X : Type 0} {T : A → Type 0} (hash : Name → ℕ) (name : Name) (key : K) (x : X) (r : Result A (Refused K X)) → IfOk r (λ a. T a × (IsSameCaller c (caller_of w q) × NotesFull hash name c (caller_of w q)))
-          → IfErr r (HandsBack hash w.settings name key x p q) → FindsOwnUnlessFull hash w.settings name p q → InsertionLeaves T hash name key x r c (caller_of w q)
-      insertion hash name key x r told refused found = record {
-        same = by_result r told refused (λ a h. h.1.0) (λ e h. same_caller h.2.stays.by);
-        answered = IfOk-weaker r _ _ (λ a h. h.0) told;
-        notes = IfOk-weaker r _ _ (λ a h. h.1.1) told;
-        refused = over (λ v a b. IfErr r (HandsBack hash v.settings name key x a b)) refused;
-        found = over (λ v a b. FindsOwnUnlessFull hash v.settings name a b) found;
-      }
+      -- where it was a query of one name
+      pub query_on : {A : Type 0} {answers : (Act V → Reply V → Type 0) → A → Type 0} (hash : Name → ℕ) (name : Name) (r : Result A Busy)
+          → ((a : A) → answers (IsAnsweredOn name p q) a → answers (RepliesOn name c (caller_of w q)) a × (IsSameCaller c (caller_of w q) × KeepsNotes c (caller_of w q)))
+          → HasQueried answers hash w.settings name r p q → QueryLeaves answers hash name r c (caller_of w q)
+      query_on {A} {answers} hash name r told did =
+          let left = query {T = answers (RepliesOn name c (caller_of w q))} (OfName hash name) (λ busy. busy.0) r (IfOk-weaker r _ _ told did.answered) did.busy did.found in
+          record { same = left.same; answered = left.answered; notes = left.notes; busy = left.busy; found = left.found }
+
+      pub insertion : {A K X : Type 0} {answers : (Act V → Reply V → Type 0) → A → Type 0} (hash : Name → ℕ) (name : Name) (key : K) (x : X) (r : Result A (Refused K X))
+          → ((a : A) → answers (IsInserted hash w.settings name p q) a → answers (RepliesOn name c (caller_of w q)) a × (IsSameCaller c (caller_of w q) × NotesFull hash name c (caller_of w q)))
+          → HasInserted answers hash w.settings name key x r p q → InsertionLeaves answers hash name key x r c (caller_of w q)
+      insertion {A} {K} {X} {answers} hash name key x r told did =
+          let said = IfOk-weaker r _ (λ a. answers (RepliesOn name c (caller_of w q)) a × (IsSameCaller c (caller_of w q) × NotesFull hash name c (caller_of w q))) told did.answered in
+          record {
+            same = by_result r said did.refused (λ a h. h.1.0) (λ e h. same_caller h.2.stays.by);
+            answered = IfOk-weaker r _ _ (λ a h. h.0) said;
+            notes = IfOk-weaker r _ _ (λ a h. h.1.1) said;
+            refused = over (λ v a b. IfErr r (HandsBack hash v.settings name key x a b)) did.refused;
+            found = over (λ v a b. FindsOwnUnlessFull hash v.settings name a b) did.found;
+          }

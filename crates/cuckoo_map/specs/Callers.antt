@@ -1,5 +1,5 @@
 -- What contracts see of a caller, and what its calls leave of it.
-use Rattle.std.specs.Prelude.{◌≡◌, ℕ, ◌≤◌, List, [], ◌++◌, All, map, Result, Bool}
+use Rattle.std.specs.Prelude.{◌≡◌, ℕ, ◌≤◌, List, [], ◌++◌, All, map, Result, Bool, IfOk, IfErr, OnOk}
 use Rattle.std.specs.declared.cmp.Ordering.{Ordering}
 use Rattle.std.specs.FinMap.{entries}
 use Rattle.ck_model.specs.declared.history.Act.{Act}
@@ -156,3 +156,19 @@ module _ {V : Type 0} where
   -- no stripe was found held but such ones
   abbrev pub FindsHeldAmong : (ℕ → Type 0) → CallerState V → CallerState V → Type 0
   FindsHeldAmong P c d = FindsAmong P (pass_of c) (pass_of d)
+
+  -- What a look-up or a change of one name leaves of its caller: it was answered so, or was refused, since a stripe of the name was busy.
+  pub record QueryLeaves {A : Type 0} (answers : (Act V → Reply V → Type 0) → A → Type 0) (hash : Name → ℕ) (q : Name) (result : Result A Busy) (c d : CallerState V) : Type 0 where
+    pub same : IsSameCaller c d
+    pub answered : IfOk result (answers (RepliesOn q c d))
+    pub notes : OnOk result (KeepsNotes c d)
+    pub busy : IfErr result (IsBusyOn hash q c d)
+    pub found : FindsHeldOwn hash q c d
+
+  -- What an insertion leaves of its caller: it was answered so, or was refused, and key and value came back.
+  pub record InsertionLeaves {A K X : Type 0} (answers : (Act V → Reply V → Type 0) → A → Type 0) (hash : Name → ℕ) (q : Name) (key : K) (x : X) (result : Result A (Refused K X)) (c d : CallerState V) : Type 0 where
+    pub same : IsSameCaller c d
+    pub answered : IfOk result (answers (RepliesOn q c d))
+    pub notes : OnOk result (NotesFull hash q c d)
+    pub refused : IfErr result (ComesBack hash q key x c d)
+    pub found : FindsHeldUnlessFull hash q c d

@@ -56,8 +56,8 @@ module _ {V : Type 0} where
   abbrev pub HandsBack : {K X : Type 0} → (Name → ℕ) → Settings → Name → K → X → PassState V → PassState V → Refused K X → Type 0
   HandsBack hash set q key x p p2 e = (e.key ≡ key) × (e.value ≡ x) × IsRefused hash set q e.why p p2
 
-  -- Since p an insertion came to an answer, which tells what it did, or was refused. It found no stripe held but its own, or any once its name's buckets were full.
-  pub record HasPlaced {K X A : Type 0} (tells : A → Act V → Reply V → Type 0) (hash : Name → ℕ) (set : Settings) (q : Name) (key : K) (x : X) (result : Result A (Refused K X)) (p p2 : PassState V) : Type 0 where
-    pub answered : IfOk result (TellsOf tells (IsInserted hash set q p p2))
+  -- Since p an insertion came to an answer, which says so of an act on the name that was done, or was refused. It found no stripe held but those of its name, or any once its name's buckets were full.
+  pub record HasInserted {K X A : Type 0} (answers : (Act V → Reply V → Type 0) → A → Type 0) (hash : Name → ℕ) (set : Settings) (q : Name) (key : K) (x : X) (result : Result A (Refused K X)) (p p2 : PassState V) : Type 0 where
+    pub answered : IfOk result (answers (IsInserted hash set q p p2))
     pub refused : IfErr result (HandsBack hash set q key x p p2)
     pub found : FindsOwnUnlessFull hash set q p p2

@@ -72,9 +72,9 @@ impl<'t, K: TableKey + Drop, V: Drop> Caller<'t, K, V> {
     ghost use Rattle.ck_section.specs.Acts.{Finds, FindsBound, FindsBy, Inserts, InsertsBy, FindsOrInserts};
     ghost use Rattle.ck_section.specs.Acts.{Assigns, Upserts, Uprases, TriesUpsert, Updates, Changes};
     ghost use Rattle.ck_section.specs.Acts.{ReplacesIf, TriesChange, Erases, ErasesBy, ChangesTwo};
-    ghost use Rattle.cuckoo_map.specs.Callers.{pass_of, IsSameCaller, Replies, RepliesOn, KeepsNotes, NotesFull, StaysAsIs, StaysButDoublings, MeetsCaller, HearsMessage, message_of_caller};
-    ghost use Rattle.cuckoo_map.specs.Callers.{Counts, GrowsTo, GrowsFor, ComesBack, IsBusyOn, IsBusyOnTwo};
-    ghost use Rattle.cuckoo_map.specs.Callers.{IsBusyOnSome, IsBusyOnAny, FindsHeldOwn, FindsHeldUnlessFull};
+    ghost use Rattle.cuckoo_map.specs.Callers.{pass_of, IsSameCaller, Replies, RepliesOn, KeepsNotes, StaysAsIs, StaysButDoublings, MeetsCaller, HearsMessage, message_of_caller};
+    ghost use Rattle.cuckoo_map.specs.Callers.{QueryLeaves, InsertionLeaves, Counts, GrowsTo, GrowsFor, IsBusyOn};
+    ghost use Rattle.cuckoo_map.specs.Callers.{IsBusyOnSome, IsBusyOnAny, IsBusyOnTwo, FindsHeldOwn};
     ghost use Rattle.cuckoo_map.specs.Callers.{FindsHeldOfTwo, FindsHeldAmong, FindsHeldOfAny};
     ghost use Rattle.cuckoo_map.specs.Locking.{HasLocked};
 
@@ -111,11 +111,7 @@ impl<'t, K: TableKey + Drop, V: Drop> Caller<'t, K, V> {
     pub fn find<Q: Query<K>>(&mut self, key: Q) -> Result<Option<V>, Busy>
     where
         V: Copy,
-        ensures same { IsSameCaller self.old self.new }
-        ensures answered { IfOk result (Finds (RepliesOn (Q.name key) self.old self.new)) }
-        ensures notes { OnOk result (KeepsNotes self.old self.new) }
-        ensures busy { IfErr result (IsBusyOn K.hash (Q.name key) self.old self.new) }
-        ensures found { FindsHeldOwn K.hash (Q.name key) self.old self.new }
+        ensures { QueryLeaves Finds K.hash (Q.name key) result self.old self.new }
     {
         self.table.find(&mut self.pass, key)
     }
@@ -135,12 +131,8 @@ impl<'t, K: TableKey + Drop, V: Drop> Caller<'t, K, V> {
     where
         F: Drop,
         requires call { F.IsAlwaysCallable f }
-        ensures same { IsSameCaller self.old self.new }
-        ensures answered { IfOk result (
-            FindsBy (FnOnceReturnsAt F.FnOnce f) (RepliesOn (Q.name key) self.old self.new)) }
-        ensures notes { OnOk result (KeepsNotes self.old self.new) }
-        ensures busy { IfErr result (IsBusyOn K.hash (Q.name key) self.old self.new) }
-        ensures found { FindsHeldOwn K.hash (Q.name key) self.old self.new }
+        ensures { QueryLeaves (FindsBy (FnOnceReturnsAt F.FnOnce f))
+            K.hash (Q.name key) result self.old self.new }
     {
         self.table.find_fn(&mut self.pass, key, f)
     }
@@ -152,11 +144,7 @@ impl<'t, K: TableKey + Drop, V: Drop> Caller<'t, K, V> {
     /// ```
     #[inline(always)]
     pub fn contains<Q: Query<K>>(&mut self, key: Q) -> Result<bool, Busy>
-        ensures same { IsSameCaller self.old self.new }
-        ensures answered { IfOk result (FindsBound (RepliesOn (Q.name key) self.old self.new)) }
-        ensures notes { OnOk result (KeepsNotes self.old self.new) }
-        ensures busy { IfErr result (IsBusyOn K.hash (Q.name key) self.old self.new) }
-        ensures found { FindsHeldOwn K.hash (Q.name key) self.old self.new }
+        ensures { QueryLeaves FindsBound K.hash (Q.name key) result self.old self.new }
     {
         self.table.contains(&mut self.pass, key)
     }
@@ -172,11 +160,8 @@ impl<'t, K: TableKey + Drop, V: Drop> Caller<'t, K, V> {
     /// ```
     #[inline(always)]
     pub fn insert(&mut self, key: K, value: V) -> Result<bool, Refused<K, V>>
-        ensures same { IsSameCaller self.old self.new }
-        ensures answered { IfOk result (Inserts value (RepliesOn (K.name key) self.old self.new)) }
-        ensures notes { OnOk result (NotesFull K.hash (K.name key) self.old self.new) }
-        ensures refused { IfErr result (ComesBack K.hash (K.name key) key value self.old self.new) }
-        ensures found { FindsHeldUnlessFull K.hash (K.name key) self.old self.new }
+        ensures { InsertionLeaves (Inserts value)
+            K.hash (K.name key) key value result self.old self.new }
     {
         self.table.insert(&mut self.pass, key, value)
     }
@@ -190,11 +175,8 @@ impl<'t, K: TableKey + Drop, V: Drop> Caller<'t, K, V> {
     /// ```
     #[inline(always)]
     pub fn insert_or_assign(&mut self, key: K, value: V) -> Result<Option<V>, Refused<K, V>>
-        ensures same { IsSameCaller self.old self.new }
-        ensures answered { IfOk result (Assigns value (RepliesOn (K.name key) self.old self.new)) }
-        ensures notes { OnOk result (NotesFull K.hash (K.name key) self.old self.new) }
-        ensures refused { IfErr result (ComesBack K.hash (K.name key) key value self.old self.new) }
-        ensures found { FindsHeldUnlessFull K.hash (K.name key) self.old self.new }
+        ensures { InsertionLeaves (Assigns value)
+            K.hash (K.name key) key value result self.old self.new }
     {
         self.table.insert_or_assign(&mut self.pass, key, value)
     }
@@ -216,12 +198,8 @@ impl<'t, K: TableKey + Drop, V: Drop> Caller<'t, K, V> {
     where
         F: Drop,
         requires call { F.IsAlwaysCallable f }
-        ensures same { IsSameCaller self.old self.new }
-        ensures answered { IfOk result (
-            Upserts (F.post f) value (RepliesOn (K.name key) self.old self.new)) }
-        ensures notes { OnOk result (NotesFull K.hash (K.name key) self.old self.new) }
-        ensures refused { IfErr result (ComesBack K.hash (K.name key) key value self.old self.new) }
-        ensures found { FindsHeldUnlessFull K.hash (K.name key) self.old self.new }
+        ensures { InsertionLeaves (Upserts (F.post f) value)
+            K.hash (K.name key) key value result self.old self.new }
     {
         self.table.upsert(&mut self.pass, key, f, value)
     }
@@ -254,12 +232,8 @@ impl<'t, K: TableKey + Drop, V: Drop> Caller<'t, K, V> {
     where
         F: Drop,
         requires call { F.IsAlwaysCallable f }
-        ensures same { IsSameCaller self.old self.new }
-        ensures answered { IfOk result (
-            TriesUpsert (F.post f) value (RepliesOn (K.name key) self.old self.new)) }
-        ensures notes { OnOk result (NotesFull K.hash (K.name key) self.old self.new) }
-        ensures refused { IfErr result (ComesBack K.hash (K.name key) key value self.old self.new) }
-        ensures found { FindsHeldUnlessFull K.hash (K.name key) self.old self.new }
+        ensures { InsertionLeaves (TriesUpsert (F.post f) value)
+            K.hash (K.name key) key value result self.old self.new }
     {
         self.table.try_upsert(&mut self.pass, key, f, value)
     }
@@ -279,13 +253,8 @@ impl<'t, K: TableKey + Drop, V: Drop> Caller<'t, K, V> {
     where
         F: Drop,
         requires call { F.IsAlwaysCallable f }
-        ensures same { IsSameCaller self.old self.new }
-        ensures answered { IfOk result (
-            InsertsBy (F.post f) (RepliesOn (K.name key) self.old self.new)) }
-        ensures notes { OnOk result (NotesFull K.hash (K.name key) self.old self.new) }
-        ensures refused { IfErr result (
-            ComesBack K.hash (K.name key) key f self.old self.new) }
-        ensures found { FindsHeldUnlessFull K.hash (K.name key) self.old self.new }
+        ensures { InsertionLeaves (InsertsBy (F.post f))
+            K.hash (K.name key) key f result self.old self.new }
     {
         self.table.insert_with(&mut self.pass, key, f)
     }
@@ -311,12 +280,8 @@ impl<'t, K: TableKey + Drop, V: Drop> Caller<'t, K, V> {
     where
         F: Drop,
         requires call { F.IsAlwaysCallable f }
-        ensures same { IsSameCaller self.old self.new }
-        ensures answered { IfOk result (
-            Uprases (F.post f) value (RepliesOn (K.name key) self.old self.new)) }
-        ensures notes { OnOk result (NotesFull K.hash (K.name key) self.old self.new) }
-        ensures refused { IfErr result (ComesBack K.hash (K.name key) key value self.old self.new) }
-        ensures found { FindsHeldUnlessFull K.hash (K.name key) self.old self.new }
+        ensures { InsertionLeaves (Uprases (F.post f) value)
+            K.hash (K.name key) key value result self.old self.new }
     {
         self.table.uprase(&mut self.pass, key, f, value)
     }
@@ -337,13 +302,8 @@ impl<'t, K: TableKey + Drop, V: Drop> Caller<'t, K, V> {
         V: Copy,
         F: Drop,
         requires call { F.IsAlwaysCallable f }
-        ensures same { IsSameCaller self.old self.new }
-        ensures answered { IfOk result (
-            FindsOrInserts (F.post f) (RepliesOn (K.name key) self.old self.new)) }
-        ensures notes { OnOk result (NotesFull K.hash (K.name key) self.old self.new) }
-        ensures refused { IfErr result (
-            ComesBack K.hash (K.name key) key f self.old self.new) }
-        ensures found { FindsHeldUnlessFull K.hash (K.name key) self.old self.new }
+        ensures { InsertionLeaves (FindsOrInserts (F.post f))
+            K.hash (K.name key) key f result self.old self.new }
     {
         self.table.get_or_insert_with(&mut self.pass, key, f)
     }
@@ -381,12 +341,7 @@ impl<'t, K: TableKey + Drop, V: Drop> Caller<'t, K, V> {
     where
         F: Drop,
         requires call { F.IsAlwaysCallable f }
-        ensures same { IsSameCaller self.old self.new }
-        ensures answered { IfOk result (
-            Changes (F.post f) (RepliesOn (Q.name key) self.old self.new)) }
-        ensures notes { OnOk result (KeepsNotes self.old self.new) }
-        ensures busy { IfErr result (IsBusyOn K.hash (Q.name key) self.old self.new) }
-        ensures found { FindsHeldOwn K.hash (Q.name key) self.old self.new }
+        ensures { QueryLeaves (Changes (F.post f)) K.hash (Q.name key) result self.old self.new }
     {
         self.table.update_fn(&mut self.pass, key, f)
     }
@@ -431,11 +386,7 @@ impl<'t, K: TableKey + Drop, V: Drop> Caller<'t, K, V> {
     /// ```
     #[inline(always)]
     pub fn erase<Q: Query<K>>(&mut self, key: Q) -> Result<Option<V>, Busy>
-        ensures same { IsSameCaller self.old self.new }
-        ensures answered { IfOk result (Erases (RepliesOn (Q.name key) self.old self.new)) }
-        ensures notes { OnOk result (KeepsNotes self.old self.new) }
-        ensures busy { IfErr result (IsBusyOn K.hash (Q.name key) self.old self.new) }
-        ensures found { FindsHeldOwn K.hash (Q.name key) self.old self.new }
+        ensures { QueryLeaves Erases K.hash (Q.name key) result self.old self.new }
     {
         self.table.erase(&mut self.pass, key)
     }
@@ -456,12 +407,8 @@ impl<'t, K: TableKey + Drop, V: Drop> Caller<'t, K, V> {
     where
         F: Drop,
         requires call { F.IsAlwaysCallable f }
-        ensures same { IsSameCaller self.old self.new }
-        ensures answered { IfOk result (
-            ErasesBy (FnOnceReturnsAt F.FnOnce f) (RepliesOn (Q.name key) self.old self.new)) }
-        ensures notes { OnOk result (KeepsNotes self.old self.new) }
-        ensures busy { IfErr result (IsBusyOn K.hash (Q.name key) self.old self.new) }
-        ensures found { FindsHeldOwn K.hash (Q.name key) self.old self.new }
+        ensures { QueryLeaves (ErasesBy (FnOnceReturnsAt F.FnOnce f))
+            K.hash (Q.name key) result self.old self.new }
     {
         self.table.erase_fn(&mut self.pass, key, f)
     }
@@ -483,12 +430,8 @@ impl<'t, K: TableKey + Drop, V: Drop> Caller<'t, K, V> {
     where
         F: Drop,
         requires call { F.IsAlwaysCallable f }
-        ensures same { IsSameCaller self.old self.new }
-        ensures answered { IfOk result (
-            ReplacesIf (FnOnceReturnsAt F.FnOnce f) (RepliesOn (Q.name key) self.old self.new)) }
-        ensures notes { OnOk result (KeepsNotes self.old self.new) }
-        ensures busy { IfErr result (IsBusyOn K.hash (Q.name key) self.old self.new) }
-        ensures found { FindsHeldOwn K.hash (Q.name key) self.old self.new }
+        ensures { QueryLeaves (ReplacesIf (FnOnceReturnsAt F.FnOnce f))
+            K.hash (Q.name key) result self.old self.new }
     {
         self.table.replace_if(&mut self.pass, key, f)
     }
@@ -520,12 +463,8 @@ impl<'t, K: TableKey + Drop, V: Drop> Caller<'t, K, V> {
     where
         F: Drop,
         requires call { F.IsAlwaysCallable f }
-        ensures same { IsSameCaller self.old self.new }
-        ensures answered { IfOk result (
-            TriesChange (F.post f) (RepliesOn (Q.name key) self.old self.new)) }
-        ensures notes { OnOk result (KeepsNotes self.old self.new) }
-        ensures busy { IfErr result (IsBusyOn K.hash (Q.name key) self.old self.new) }
-        ensures found { FindsHeldOwn K.hash (Q.name key) self.old self.new }
+        ensures { QueryLeaves (TriesChange (F.post f))
+            K.hash (Q.name key) result self.old self.new }
     {
         self.table.try_update(&mut self.pass, key, f)
     }

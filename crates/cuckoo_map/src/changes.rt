@@ -9,6 +9,7 @@ ghost use Rattle.ck_words.specs.Answering.{IsAnsweredOn};
 ghost use Rattle.ck_words.specs.Closing.{IsCaller};
 ghost use Rattle.ck_words.specs.Commits.{call_of};
 ghost use Rattle.cuckoo_map.specs.Refusals.{FindsOwn, IsBusyAt};
+ghost use Rattle.cuckoo_map.specs.Queries.{HasQueried};
 
 use crate::refusal::Busy;
 use crate::table::Table;
@@ -62,11 +63,8 @@ impl<K: TableKey + Drop, V: Drop> Table<K, V> {
         requires caller { IsCaller self.now pass.old }
         requires call { F.IsAlwaysCallable f }
         ensures caller { IsCaller self.now pass.new }
-        ensures answered { IfOk result (
-            Changes (F.post f) (IsAnsweredOn (Q.name key) pass.old pass.new)) }
-        ensures busy { IfErr result (λ busy.
-            IsBusyAt K.hash self.now.settings (Q.name key) busy.0 pass.old pass.new) }
-        ensures found { FindsOwn K.hash self.now.settings (Q.name key) pass.old pass.new }
+        ensures queried { HasQueried (Changes (F.post f))
+            K.hash self.now.settings (Q.name key) result pass.old pass.new }
     {
         let spot = self.hold_key(pass, key)?;
         let mut guard = guard!(&self.words, pass, spot.stripes);
@@ -80,10 +78,8 @@ impl<K: TableKey + Drop, V: Drop> Table<K, V> {
     pub fn erase<Q: Query<K>>(&self, pass: &mut Pass<K, V>, key: Q) -> Result<Option<V>, Busy>
         requires caller { IsCaller self.now pass.old }
         ensures caller { IsCaller self.now pass.new }
-        ensures answered { IfOk result (Erases (IsAnsweredOn (Q.name key) pass.old pass.new)) }
-        ensures busy { IfErr result (λ busy.
-            IsBusyAt K.hash self.now.settings (Q.name key) busy.0 pass.old pass.new) }
-        ensures found { FindsOwn K.hash self.now.settings (Q.name key) pass.old pass.new }
+        ensures queried { HasQueried Erases
+            K.hash self.now.settings (Q.name key) result pass.old pass.new }
     {
         let spot = self.hold_key(pass, key)?;
         let mut guard = guard!(&self.words, pass, spot.stripes);
@@ -108,11 +104,8 @@ impl<K: TableKey + Drop, V: Drop> Table<K, V> {
         requires caller { IsCaller self.now pass.old }
         requires call { F.IsAlwaysCallable f }
         ensures caller { IsCaller self.now pass.new }
-        ensures answered { IfOk result (
-            ErasesBy (FnOnceReturnsAt F.FnOnce f) (IsAnsweredOn (Q.name key) pass.old pass.new)) }
-        ensures busy { IfErr result (λ busy.
-            IsBusyAt K.hash self.now.settings (Q.name key) busy.0 pass.old pass.new) }
-        ensures found { FindsOwn K.hash self.now.settings (Q.name key) pass.old pass.new }
+        ensures queried { HasQueried (ErasesBy (FnOnceReturnsAt F.FnOnce f))
+            K.hash self.now.settings (Q.name key) result pass.old pass.new }
     {
         let gone = self.erase_bound(pass, key, f)?;
         Ok(gone.ok())
@@ -130,12 +123,9 @@ impl<K: TableKey + Drop, V: Drop> Table<K, V> {
         requires caller { IsCaller self.now pass.old }
         requires call { F.IsAlwaysCallable f }
         ensures caller { IsCaller self.now pass.new }
-        ensures answered { IfOk result (λ answer. IfErr answer (λ back. back ≡ f)
-            × ErasesBy (FnOnceReturnsAt F.FnOnce f) (IsAnsweredOn (Q.name key) pass.old pass.new)
-            (result_ok answer)) }
-        ensures busy { IfErr result (λ busy.
-            IsBusyAt K.hash self.now.settings (Q.name key) busy.0 pass.old pass.new) }
-        ensures found { FindsOwn K.hash self.now.settings (Q.name key) pass.old pass.new }
+        ensures queried { HasQueried (λ P answer. IfErr answer (λ back. back ≡ f)
+            × ErasesBy (FnOnceReturnsAt F.FnOnce f) P (result_ok answer))
+            K.hash self.now.settings (Q.name key) result pass.old pass.new }
     {
         let spot = self.hold_key(pass, key)?;
         let mut guard = guard!(&self.words, pass, spot.stripes);
@@ -162,11 +152,8 @@ impl<K: TableKey + Drop, V: Drop> Table<K, V> {
         requires caller { IsCaller self.now pass.old }
         requires call { F.IsAlwaysCallable f }
         ensures caller { IsCaller self.now pass.new }
-        ensures answered { IfOk result (
-            ReplacesIf (FnOnceReturnsAt F.FnOnce f) (IsAnsweredOn (Q.name key) pass.old pass.new)) }
-        ensures busy { IfErr result (λ busy.
-            IsBusyAt K.hash self.now.settings (Q.name key) busy.0 pass.old pass.new) }
-        ensures found { FindsOwn K.hash self.now.settings (Q.name key) pass.old pass.new }
+        ensures queried { HasQueried (ReplacesIf (FnOnceReturnsAt F.FnOnce f))
+            K.hash self.now.settings (Q.name key) result pass.old pass.new }
     {
         let replaced = self.replace_bound(pass, key, f)?;
         Ok(replaced.ok())
@@ -184,12 +171,9 @@ impl<K: TableKey + Drop, V: Drop> Table<K, V> {
         requires caller { IsCaller self.now pass.old }
         requires call { F.IsAlwaysCallable f }
         ensures caller { IsCaller self.now pass.new }
-        ensures answered { IfOk result (λ answer. IfErr answer (λ back. back ≡ f)
-            × ReplacesIf (FnOnceReturnsAt F.FnOnce f) (IsAnsweredOn (Q.name key) pass.old pass.new)
-            (result_ok answer)) }
-        ensures busy { IfErr result (λ busy.
-            IsBusyAt K.hash self.now.settings (Q.name key) busy.0 pass.old pass.new) }
-        ensures found { FindsOwn K.hash self.now.settings (Q.name key) pass.old pass.new }
+        ensures queried { HasQueried (λ P answer. IfErr answer (λ back. back ≡ f)
+            × ReplacesIf (FnOnceReturnsAt F.FnOnce f) P (result_ok answer))
+            K.hash self.now.settings (Q.name key) result pass.old pass.new }
     {
         let spot = self.hold_key(pass, key)?;
         let mut guard = guard!(&self.words, pass, spot.stripes);
@@ -216,11 +200,8 @@ impl<K: TableKey + Drop, V: Drop> Table<K, V> {
         requires caller { IsCaller self.now pass.old }
         requires call { F.IsAlwaysCallable f }
         ensures caller { IsCaller self.now pass.new }
-        ensures answered { IfOk result (
-            TriesChange (F.post f) (IsAnsweredOn (Q.name key) pass.old pass.new)) }
-        ensures busy { IfErr result (λ busy.
-            IsBusyAt K.hash self.now.settings (Q.name key) busy.0 pass.old pass.new) }
-        ensures found { FindsOwn K.hash self.now.settings (Q.name key) pass.old pass.new }
+        ensures queried { HasQueried (TriesChange (F.post f))
+            K.hash self.now.settings (Q.name key) result pass.old pass.new }
     {
         let spot = self.hold_key(pass, key)?;
         let mut guard = guard!(&self.words, pass, spot.stripes);

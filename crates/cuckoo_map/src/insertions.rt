@@ -1,5 +1,5 @@
 //! Calls that may bind an unbound key.
-ghost use Rattle.std.specs.Prelude.{◌≡◌, ◌≤◌, IfOk, IfErr};
+ghost use Rattle.std.specs.Prelude.{◌≤◌};
 ghost use Rattle.ck_section.specs.Acts.{Inserts, InsertsBy, FindsOrInserts, Assigns, Upserts, Uprases, TriesUpsert};
 ghost use Rattle.ck_words.specs.Closing.{IsCaller};
 ghost use Rattle.ck_words.specs.Passes.{IsPassOf, IsUnchanged};
@@ -7,7 +7,7 @@ ghost use Rattle.ck_words.specs.StripeNumbers.{own_numbers};
 ghost use Rattle.ck_words.specs.StripeSets.{list_of};
 ghost use Rattle.ck_words.specs.Holding.{HasTakenAll, Misses};
 ghost use Rattle.cuckoo_map.specs.Holding.{IsHomeOf};
-ghost use Rattle.cuckoo_map.specs.Insertions.{HasFoundNoRoom, HasRoom, HasPlaced, IsInserted, HandsBack, TellsOf};
+ghost use Rattle.cuckoo_map.specs.Insertions.{HasFoundNoRoom, HasRoom, HasInserted, IsInserted, TellsOf};
 ghost use Rattle.cuckoo_map.specs.Refusals.{FindsOwn, FindsOwnUnlessFull};
 
 use crate::entries;
@@ -36,11 +36,8 @@ impl<K: TableKey + Drop, V: Drop> Table<K, V> {
     pub fn insert(&self, pass: &mut Pass<K, V>, key: K, value: V) -> Result<bool, Refused<K, V>>
         requires caller { IsCaller self.now pass.old }
         ensures caller { IsCaller self.now pass.new }
-        ensures answered { IfOk result (Inserts value
-            (IsInserted K.hash self.now.settings (K.name key) pass.old pass.new)) }
-        ensures refused { IfErr result (HandsBack K.hash self.now.settings (K.name key)
-            key value pass.old pass.new) }
-        ensures found { FindsOwnUnlessFull K.hash self.now.settings (K.name key) pass.old pass.new }
+        ensures inserted { HasInserted (Inserts value)
+            K.hash self.now.settings (K.name key) key value result pass.old pass.new }
     {
         self.place(pass, key, value, entries::Insert)
     }
@@ -62,11 +59,8 @@ impl<K: TableKey + Drop, V: Drop> Table<K, V> {
     ) -> Result<Option<V>, Refused<K, V>>
         requires caller { IsCaller self.now pass.old }
         ensures caller { IsCaller self.now pass.new }
-        ensures answered { IfOk result (Assigns value
-            (IsInserted K.hash self.now.settings (K.name key) pass.old pass.new)) }
-        ensures refused { IfErr result (HandsBack K.hash self.now.settings (K.name key)
-            key value pass.old pass.new) }
-        ensures found { FindsOwnUnlessFull K.hash self.now.settings (K.name key) pass.old pass.new }
+        ensures inserted { HasInserted (Assigns value)
+            K.hash self.now.settings (K.name key) key value result pass.old pass.new }
     {
         self.place(pass, key, value, entries::Assign)
     }
@@ -94,12 +88,8 @@ impl<K: TableKey + Drop, V: Drop> Table<K, V> {
         requires caller { IsCaller self.now pass.old }
         requires call { F.IsAlwaysCallable f }
         ensures caller { IsCaller self.now pass.new }
-        ensures answered { IfOk result (
-            Upserts (F.post f) value
-            (IsInserted K.hash self.now.settings (K.name key) pass.old pass.new)) }
-        ensures refused { IfErr result (HandsBack K.hash self.now.settings (K.name key)
-            key value pass.old pass.new) }
-        ensures found { FindsOwnUnlessFull K.hash self.now.settings (K.name key) pass.old pass.new }
+        ensures inserted { HasInserted (Upserts (F.post f) value)
+            K.hash self.now.settings (K.name key) key value result pass.old pass.new }
     {
         self.place(pass, key, value, entries::Upsert(f))
     }
@@ -134,12 +124,8 @@ impl<K: TableKey + Drop, V: Drop> Table<K, V> {
         requires caller { IsCaller self.now pass.old }
         requires call { F.IsAlwaysCallable f }
         ensures caller { IsCaller self.now pass.new }
-        ensures answered { IfOk result (
-            TriesUpsert (F.post f) value
-            (IsInserted K.hash self.now.settings (K.name key) pass.old pass.new)) }
-        ensures refused { IfErr result (HandsBack K.hash self.now.settings (K.name key)
-            key value pass.old pass.new) }
-        ensures found { FindsOwnUnlessFull K.hash self.now.settings (K.name key) pass.old pass.new }
+        ensures inserted { HasInserted (TriesUpsert (F.post f) value)
+            K.hash self.now.settings (K.name key) key value result pass.old pass.new }
     {
         self.place(pass, key, value, entries::TryUpsert(f))
     }
@@ -172,12 +158,8 @@ impl<K: TableKey + Drop, V: Drop> Table<K, V> {
         requires caller { IsCaller self.now pass.old }
         requires call { F.IsAlwaysCallable f }
         ensures caller { IsCaller self.now pass.new }
-        ensures answered { IfOk result (
-            InsertsBy (F.post f)
-            (IsInserted K.hash self.now.settings (K.name key) pass.old pass.new)) }
-        ensures refused { IfErr result (HandsBack K.hash self.now.settings (K.name key)
-            key f pass.old pass.new) }
-        ensures found { FindsOwnUnlessFull K.hash self.now.settings (K.name key) pass.old pass.new }
+        ensures inserted { HasInserted (InsertsBy (F.post f))
+            K.hash self.now.settings (K.name key) key f result pass.old pass.new }
     {
         self.place(pass, key, f, entries::InsertWith(PhantomData))
     }
@@ -210,12 +192,8 @@ impl<K: TableKey + Drop, V: Drop> Table<K, V> {
         requires caller { IsCaller self.now pass.old }
         requires call { F.IsAlwaysCallable f }
         ensures caller { IsCaller self.now pass.new }
-        ensures answered { IfOk result (
-            Uprases (F.post f) value
-            (IsInserted K.hash self.now.settings (K.name key) pass.old pass.new)) }
-        ensures refused { IfErr result (HandsBack K.hash self.now.settings (K.name key)
-            key value pass.old pass.new) }
-        ensures found { FindsOwnUnlessFull K.hash self.now.settings (K.name key) pass.old pass.new }
+        ensures inserted { HasInserted (Uprases (F.post f) value)
+            K.hash self.now.settings (K.name key) key value result pass.old pass.new }
     {
         self.place(pass, key, value, entries::Uprase(f))
     }
@@ -248,12 +226,8 @@ impl<K: TableKey + Drop, V: Drop> Table<K, V> {
         requires caller { IsCaller self.now pass.old }
         requires call { F.IsAlwaysCallable f }
         ensures caller { IsCaller self.now pass.new }
-        ensures answered { IfOk result (
-            FindsOrInserts (F.post f)
-            (IsInserted K.hash self.now.settings (K.name key) pass.old pass.new)) }
-        ensures refused { IfErr result (HandsBack K.hash self.now.settings (K.name key)
-            key f pass.old pass.new) }
-        ensures found { FindsOwnUnlessFull K.hash self.now.settings (K.name key) pass.old pass.new }
+        ensures inserted { HasInserted (FindsOrInserts (F.post f))
+            K.hash self.now.settings (K.name key) key f result pass.old pass.new }
     {
         self.place(pass, key, f, entries::GetOrInsertWith(PhantomData))
     }
@@ -273,8 +247,8 @@ impl<K: TableKey + Drop, V: Drop> Table<K, V> {
         requires caller { IsCaller self.now pass.old }
         requires call { I.can_make insertion value }
         ensures caller { IsCaller self.now pass.new }
-        ensures placed { HasPlaced (I.tells insertion value) K.hash self.now.settings
-            (K.name key) key value result pass.old pass.new }
+        ensures placed { HasInserted (TellsOf (I.tells insertion value))
+            K.hash self.now.settings (K.name key) key value result pass.old pass.new }
     {
         let since = Snapshot::of(pass);
         let home = self.home_of(&key);
@@ -305,8 +279,8 @@ impl<K: TableKey + Drop, V: Drop> Table<K, V> {
             (own_numbers self.now.settings.s (K.hash (K.name key))) missed since.value pass.old }
         requires call { I.can_make insertion value }
         ensures caller { IsCaller self.now pass.new }
-        ensures placed { HasPlaced (I.tells insertion value) K.hash self.now.settings
-            (K.name key) key value result since.value pass.new }
+        ensures placed { HasInserted (TellsOf (I.tells insertion value))
+            K.hash self.now.settings (K.name key) key value result since.value pass.new }
     {
         let home = self.home_of(&key);
         match self.words.lock_later(pass, home.stripes, missed) {
@@ -334,8 +308,8 @@ impl<K: TableKey + Drop, V: Drop> Table<K, V> {
         requires taken { HasTakenAll K.hash self.now (list_of home.stripes) since.value pass.old }
         requires call { I.can_make insertion value }
         ensures caller { IsCaller self.now pass.new }
-        ensures placed { HasPlaced (I.tells insertion value) K.hash self.now.settings
-            (K.name key) key value result since.value pass.new }
+        ensures placed { HasInserted (TellsOf (I.tells insertion value))
+            K.hash self.now.settings (K.name key) key value result since.value pass.new }
     {
         let spot = self.spot_in(pass, &key, home);
         match self.find_room(pass, &key, spot, &since) {
@@ -364,8 +338,8 @@ impl<K: TableKey + Drop, V: Drop> Table<K, V> {
         requires found { FindsOwn K.hash self.now.settings (K.name key) since.value pass.old }
         requires call { I.can_make insertion value }
         ensures caller { IsCaller self.now pass.new }
-        ensures placed { HasPlaced (I.tells insertion value) K.hash self.now.settings
-            (K.name key) key value result since.value pass.new }
+        ensures placed { HasInserted (TellsOf (I.tells insertion value))
+            K.hash self.now.settings (K.name key) key value result since.value pass.new }
     {
         match self.make_room(pass, &key, power) {
             Ok(made) => Ok(self.place_in(pass, made, key, value, insertion, since)),

@@ -1,10 +1,8 @@
 //! Calls that change nothing.
-ghost use Rattle.std.specs.Prelude.{IfOk, IfErr};
 ghost use Rattle.std.specs.Fn.{FnOnceReturnsAt};
 ghost use Rattle.ck_section.specs.Acts.{Finds, FindsBound, FindsBy};
-ghost use Rattle.ck_words.specs.Answering.{IsAnsweredOn};
 ghost use Rattle.ck_words.specs.Closing.{IsCaller};
-ghost use Rattle.cuckoo_map.specs.Refusals.{FindsOwn, IsBusyAt};
+ghost use Rattle.cuckoo_map.specs.Queries.{HasQueried};
 
 use crate::refusal::Busy;
 use crate::table::Table;
@@ -29,11 +27,8 @@ impl<K: TableKey + Drop, V: Drop> Table<K, V> {
         requires caller { IsCaller self.now pass.old }
         requires call { F.IsAlwaysCallable f }
         ensures caller { IsCaller self.now pass.new }
-        ensures answered { IfOk result (
-            FindsBy (FnOnceReturnsAt F.FnOnce f) (IsAnsweredOn (Q.name key) pass.old pass.new)) }
-        ensures busy { IfErr result (λ busy.
-            IsBusyAt K.hash self.now.settings (Q.name key) busy.0 pass.old pass.new) }
-        ensures found { FindsOwn K.hash self.now.settings (Q.name key) pass.old pass.new }
+        ensures queried { HasQueried (FindsBy (FnOnceReturnsAt F.FnOnce f))
+            K.hash self.now.settings (Q.name key) result pass.old pass.new }
     {
         let spot = self.hold_key(pass, key)?;
         let mut guard = guard!(&self.words, pass, spot.stripes);
@@ -49,10 +44,8 @@ impl<K: TableKey + Drop, V: Drop> Table<K, V> {
         V: Copy,
         requires caller { IsCaller self.now pass.old }
         ensures caller { IsCaller self.now pass.new }
-        ensures answered { IfOk result (Finds (IsAnsweredOn (Q.name key) pass.old pass.new)) }
-        ensures busy { IfErr result (λ busy.
-            IsBusyAt K.hash self.now.settings (Q.name key) busy.0 pass.old pass.new) }
-        ensures found { FindsOwn K.hash self.now.settings (Q.name key) pass.old pass.new }
+        ensures queried { HasQueried Finds
+            K.hash self.now.settings (Q.name key) result pass.old pass.new }
     {
         self.find_fn(pass, key, |value: &V| *value)
     }
@@ -61,10 +54,8 @@ impl<K: TableKey + Drop, V: Drop> Table<K, V> {
     pub fn contains<Q: Query<K>>(&self, pass: &mut Pass<K, V>, key: Q) -> Result<bool, Busy>
         requires caller { IsCaller self.now pass.old }
         ensures caller { IsCaller self.now pass.new }
-        ensures answered { IfOk result (FindsBound (IsAnsweredOn (Q.name key) pass.old pass.new)) }
-        ensures busy { IfErr result (λ busy.
-            IsBusyAt K.hash self.now.settings (Q.name key) busy.0 pass.old pass.new) }
-        ensures found { FindsOwn K.hash self.now.settings (Q.name key) pass.old pass.new }
+        ensures queried { HasQueried FindsBound
+            K.hash self.now.settings (Q.name key) result pass.old pass.new }
     {
         let found = self.find_fn(pass, key, |_value: &V| ())?;
         Ok(found.is_some())

@@ -1,4 +1,3 @@
-use Rattle.std.proofs.lemmas.Result.{IfOk-weaker}
 use Rattle.cuckoo_map.proofs.Callers.{replies_inserting, insertion}
 use Rattle.cuckoo_map.proofs.Told.{told_inserted}
 use Rattle.cuckoo_map.proofs.caller.Caller.insert.Goals as goal
@@ -6,7 +5,8 @@ use Rattle.cuckoo_map.proofs.caller.Caller.insert.Goals as goal
 pub returns : goal.returns
 returns g c =
     let name = g.K.TableKey.name c.args.key in
+    let p = c.self.inside.pass in
     let q = c.insert.new.pass in
-    let told = IfOk-weaker c.insert.result _ _ (told_inserted (replies_inserting c.self.inside.pass q c.self.view_is g.K.TableKey.hash name) c.args.value) c.insert.ensures.answered in
-    let left = insertion c.self.inside.pass q c.self.view_is c.self.invariant c.insert.ensures.caller g.K.TableKey.hash name c.args.key c.args.value c.insert.result told c.insert.ensures.refused c.insert.ensures.found in
-    record { same = left.same; answered = left.answered; notes = left.notes; refused = left.refused; found = left.found }
+    let is = c.self.view_is in
+    let did = c.insert.ensures in
+    insertion p q is c.self.invariant did.caller g.K.TableKey.hash name c.args.key c.args.value c.insert.result (told_inserted (replies_inserting p q is g.K.TableKey.hash name) c.args.value) did.inserted

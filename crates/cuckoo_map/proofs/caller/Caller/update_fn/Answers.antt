@@ -1,12 +1,12 @@
-use Rattle.std.proofs.lemmas.Result.{IfOk-weaker}
-use Rattle.cuckoo_map.proofs.Callers.{OfName, replies_on, query}
+use Rattle.cuckoo_map.proofs.Callers.{replies_on, query_on}
 use Rattle.cuckoo_map.proofs.Told.{told_changed}
 use Rattle.cuckoo_map.proofs.caller.Caller.update_fn.Goals as goal
 
 pub returns : goal.returns
 returns g c =
     let name = g.Q.Query.name c.args.key in
+    let p = c.self.inside.pass in
     let q = c.update_fn.new.pass in
-    let told = IfOk-weaker c.update_fn.result _ _ (told_changed (replies_on c.self.inside.pass q c.self.view_is name) _) c.update_fn.ensures.answered in
-    let left = query c.self.inside.pass q c.self.view_is c.self.invariant c.update_fn.ensures.caller (OfName g.K.TableKey.hash name) (λ busy. busy.0) c.update_fn.result told c.update_fn.ensures.busy c.update_fn.ensures.found in
-    record { same = left.same; answered = left.answered; notes = left.notes; busy = left.busy; found = left.found }
+    let is = c.self.view_is in
+    let did = c.update_fn.ensures in
+    query_on p q is c.self.invariant did.caller g.K.TableKey.hash name c.update_fn.result (told_changed (replies_on p q is name) _) did.queried

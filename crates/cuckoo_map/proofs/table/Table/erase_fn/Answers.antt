@@ -1,4 +1,4 @@
 use Rattle.cuckoo_map.proofs.table.Table.erase_fn.Goals as goal
 
-pub returns-clause-answered : goal.returns-clause-answered
-returns-clause-answered g c = rw (c.ok.ensures.value) c.in_ok-gone.ensures.answered.1
+pub returns-clause-queried : goal.returns-clause-queried
+returns-clause-queried g c = let did = c.in_ok-gone.ensures.queried in rw (c.ok.ensures.value) (record { answered = did.answered.1; busy = tt; found = did.found })

@@ -3,8 +3,12 @@ use Rattle.cuckoo_map.specs.Insertions.{IsInserted}
 use Rattle.cuckoo_map.proofs.Told.{as_said}
 use Rattle.cuckoo_map.proofs.table.Table.insert_or_assign.Goals as goal
 
-pub returns-clause-answered : goal.returns-clause-answered
-returns-clause-answered g c =
-    IfOk-weaker c.place.result _ _
-    (λ old told. as_said (IsInserted g.K.TableKey.hash c.args.self.now.settings (g.K.TableKey.name c.args.key) c.args.pass.now c.place.new.pass) told.2 told.3)
-    c.place.ensures.placed.answered
+pub returns-clause-inserted : goal.returns-clause-inserted
+returns-clause-inserted g c =
+    record {
+      answered = IfOk-weaker c.place.result _ _
+          (λ old told. as_said (IsInserted g.K.TableKey.hash c.args.self.now.settings (g.K.TableKey.name c.args.key) c.args.pass.now c.place.new.pass) told.2 told.3)
+          c.place.ensures.placed.answered;
+      refused = c.place.ensures.placed.refused;
+      found = c.place.ensures.placed.found;
+    }

@@ -11,9 +11,13 @@ commit_query-requires-clause-done g c =
     (λ outcome x. (Done x.0 x.1, does (c.try_update-outcome.ensures.stays.5 ∙ c.self.view_is) c.in_ok-spot.ensures.spot.holds c.try_update-outcome.new.held.pass.now c.try_update-outcome.ensures.stays.1 (ap (λ k. On (g.Q.Query.name k) Change) c.of.ensures) (Done x.0 x.1) x.3))
     (λ back x. (Absent, does (c.try_update-outcome.ensures.stays.5 ∙ c.self.view_is) c.in_ok-spot.ensures.spot.holds c.try_update-outcome.new.held.pass.now c.try_update-outcome.ensures.stays.1 (ap (λ k. On (g.Q.Query.name k) Change) c.of.ensures) Absent x.1))
 
-pub returns-clause-answered : goal.returns-clause-answered
-returns-clause-answered g c =
+pub returns-clause-queried : goal.returns-clause-queried
+returns-clause-queried g c =
     let there : c.commit_query.new.self.pass.now ≡ c.pass-1.given.0 = search rules in
-    rw (c.ok.ensures.value, ← there) (map_answer c.try_update-outcome.result _ _ _ _ c.try_update-outcome.ensures.bound c.try_update-outcome.ensures.unbound
-    (λ outcome x. (x.0, x.1, x.2, says (c.try_update-outcome.ensures.stays.5 ∙ c.self.view_is) c.in_ok-spot.ensures.spot.holds c.try_update-outcome.new.held.pass.now c.try_update-outcome.ensures.stays.1 (ap (λ k. On (g.Q.Query.name k) Change) c.of.ensures) c.try_update-outcome.ensures.rest c.commit_query.ensures.committed.doubled c.commit_query.ensures.committed.answered (Done x.0 x.1) x.3))
-    (λ back x. says (c.try_update-outcome.ensures.stays.5 ∙ c.self.view_is) c.in_ok-spot.ensures.spot.holds c.try_update-outcome.new.held.pass.now c.try_update-outcome.ensures.stays.1 (ap (λ k. On (g.Q.Query.name k) Change) c.of.ensures) c.try_update-outcome.ensures.rest c.commit_query.ensures.committed.doubled c.commit_query.ensures.committed.answered Absent x.1))
+    rw (c.ok.ensures.value, ← there) (record {
+      answered = map_answer c.try_update-outcome.result _ _ _ _ c.try_update-outcome.ensures.bound c.try_update-outcome.ensures.unbound
+          (λ outcome x. (x.0, x.1, x.2, says (c.try_update-outcome.ensures.stays.5 ∙ c.self.view_is) c.in_ok-spot.ensures.spot.holds c.try_update-outcome.new.held.pass.now c.try_update-outcome.ensures.stays.1 (ap (λ k. On (g.Q.Query.name k) Change) c.of.ensures) c.try_update-outcome.ensures.rest c.commit_query.ensures.committed.doubled c.commit_query.ensures.committed.answered (Done x.0 x.1) x.3))
+          (λ back x. says (c.try_update-outcome.ensures.stays.5 ∙ c.self.view_is) c.in_ok-spot.ensures.spot.holds c.try_update-outcome.new.held.pass.now c.try_update-outcome.ensures.stays.1 (ap (λ k. On (g.Q.Query.name k) Change) c.of.ensures) c.try_update-outcome.ensures.rest c.commit_query.ensures.committed.doubled c.commit_query.ensures.committed.answered Absent x.1);
+      busy = tt;
+      found = search rules;
+    })

@@ -11,9 +11,13 @@ commit_query-requires-clause-done g c =
     (λ x. (Done x.0 x.1, does (c.update_fn-bound.ensures.stays.5 ∙ c.self.view_is) c.in_ok-spot.ensures.spot.holds c.update_fn-bound.new.held.pass.now c.update_fn-bound.ensures.stays.1 (ap (λ k. On (g.Q.Query.name k) Change) c.of.ensures) (Done x.0 x.1) x.3))
     (λ x. (Absent, does (c.update_fn-bound.ensures.stays.5 ∙ c.self.view_is) c.in_ok-spot.ensures.spot.holds c.update_fn-bound.new.held.pass.now c.update_fn-bound.ensures.stays.1 (ap (λ k. On (g.Q.Query.name k) Change) c.of.ensures) Absent x))
 
-pub returns-clause-answered : goal.returns-clause-answered
-returns-clause-answered g c =
+pub returns-clause-queried : goal.returns-clause-queried
+returns-clause-queried g c =
     let there : c.commit_query.new.self.pass.now ≡ c.pass-1.given.0 = search rules in
-    rw (← there) (map_bool c.update_fn-bound.result _ _ _ _ c.update_fn-bound.ensures.call
-    (λ x. (x.0, x.1, x.2, says (c.update_fn-bound.ensures.stays.5 ∙ c.self.view_is) c.in_ok-spot.ensures.spot.holds c.update_fn-bound.new.held.pass.now c.update_fn-bound.ensures.stays.1 (ap (λ k. On (g.Q.Query.name k) Change) c.of.ensures) c.update_fn-bound.ensures.rest c.commit_query.ensures.committed.doubled c.commit_query.ensures.committed.answered (Done x.0 x.1) x.3))
-    (λ x. says (c.update_fn-bound.ensures.stays.5 ∙ c.self.view_is) c.in_ok-spot.ensures.spot.holds c.update_fn-bound.new.held.pass.now c.update_fn-bound.ensures.stays.1 (ap (λ k. On (g.Q.Query.name k) Change) c.of.ensures) c.update_fn-bound.ensures.rest c.commit_query.ensures.committed.doubled c.commit_query.ensures.committed.answered Absent x))
+    rw (← there) (record {
+      answered = map_bool c.update_fn-bound.result _ _ _ _ c.update_fn-bound.ensures.call
+          (λ x. (x.0, x.1, x.2, says (c.update_fn-bound.ensures.stays.5 ∙ c.self.view_is) c.in_ok-spot.ensures.spot.holds c.update_fn-bound.new.held.pass.now c.update_fn-bound.ensures.stays.1 (ap (λ k. On (g.Q.Query.name k) Change) c.of.ensures) c.update_fn-bound.ensures.rest c.commit_query.ensures.committed.doubled c.commit_query.ensures.committed.answered (Done x.0 x.1) x.3))
+          (λ x. says (c.update_fn-bound.ensures.stays.5 ∙ c.self.view_is) c.in_ok-spot.ensures.spot.holds c.update_fn-bound.new.held.pass.now c.update_fn-bound.ensures.stays.1 (ap (λ k. On (g.Q.Query.name k) Change) c.of.ensures) c.update_fn-bound.ensures.rest c.commit_query.ensures.committed.doubled c.commit_query.ensures.committed.answered Absent x);
+      busy = tt;
+      found = search rules;
+    })
