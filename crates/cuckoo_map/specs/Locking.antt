@@ -1,5 +1,5 @@
 -- The whole table under one caller.
-use Rattle.std.specs.Prelude.{◌≡◌, ◌↔◌, ℕ, ◌+◌, ◌-◌, ◌<◌, ◌≤◌, List, reverse, [], Some, Bool, true, false, Result, Ok, Err, OnOk, IfErr}
+use Rattle.std.specs.Prelude.{◌≡◌, ◌↔◌, ℕ, ◌+◌, ◌-◌, ◌<◌, ◌≤◌, List, reverse, [], Some, Bool, true, false, Result, Ok, Err, OnOk, IfOk, IfErr}
 use Rattle.std.specs.FinMap.{empty, entries, from_entries}
 use Rattle.std.specs.Borrow.{Bor}
 use Rattle.std.specs.Fn.{Mut}
@@ -129,6 +129,12 @@ module _ {V : Type 0} where
   -- The key came back with the value, or with what was to make one, for want of room.
   abbrev pub GivesBack : {K X : Type 0} → (Name → ℕ) → Name → K → X → LockedState V → LockedState V → Refused K X → Type 0
   GivesBack hash q key x l m e = (e.key ≡ key) × (e.value ≡ x) × LacksRoom hash q e.why l m
+
+  -- What an insertion leaves of the locked table: it was answered so, or was refused, and key and value came back. The table grew for want of room for the name alone.
+  pub record LockedInsertionLeaves {A K X : Type 0} (answers : (Act V → Reply V → Type 0) → A → Type 0) (hash : Name → ℕ) (q : Name) (key : K) (x : X) (result : Result A (Refused K X)) (l m : LockedState V) : Type 0 where
+    pub answered : IfOk result (answers (HasActed q l m))
+    pub refused : IfErr result (GivesBack hash q key x l m)
+    pub grows : DoublesFor hash q l m
 
   -- A locked table was to have 2^power buckets at least, and went from l to m. No binding changed. It says whether it had fewer: if so, it has just so many; if not, nothing changed.
   -- Refused for want of memory, it had fewer, and has fewer still.

@@ -19,7 +19,7 @@ ghost use Rattle.ck_words.specs.Retries.{FindsAmong};
 ghost use Rattle.ck_words.specs.Closing.{IsCaller};
 ghost use Rattle.cuckoo_map.specs.Refusals.{IsStripeIn, IsBusyAmong, why_of};
 ghost use Rattle.cuckoo_map.specs.Callers.{caller_of, IsSameCaller};
-ghost use Rattle.cuckoo_map.specs.Locking.{map_of, session_call, EndsSession, EndsNotes, HasLocked, HasActed, HasChanged, DoublesFor, GivesBack, Clears, Lists, KeepsMap, LacksRoom, SeeksRoom};
+ghost use Rattle.cuckoo_map.specs.Locking.{map_of, session_call, EndsSession, EndsNotes, HasLocked, HasActed, HasChanged, DoublesFor, GivesBack, LockedInsertionLeaves, Clears, Lists, KeepsMap, LacksRoom, SeeksRoom};
 ghost use Rattle.cuckoo_map.specs.Insertions.{TellsOf};
 
 use crate::caller::Caller;
@@ -112,9 +112,8 @@ impl<'t, K: TableKey + Drop, V: Drop> LockedTable<'t, K, V> {
     /// Refused, it changes no binding and hands key and value back: as `Memory`, `Full` or
     /// `LoadTooLow`, and never as `Busy`. The table stays locked.
     pub fn insert(&mut self, key: K, value: V) -> Result<bool, Refused<K, V>>
-        ensures answered { IfOk result (Inserts value (HasActed (K.name key) self.old self.new)) }
-        ensures refused { IfErr result (GivesBack K.hash (K.name key) key value self.old self.new) }
-        ensures grows { DoublesFor K.hash (K.name key) self.old self.new }
+        ensures { LockedInsertionLeaves (Inserts value)
+            K.hash (K.name key) key value result self.old self.new }
     {
         self.put(key, value, entries::Insert)
     }
@@ -129,9 +128,8 @@ impl<'t, K: TableKey + Drop, V: Drop> LockedTable<'t, K, V> {
     /// let old: Option<u64> = locked.insert_or_assign(NumKey(5), 53)?;
     /// ```
     pub fn insert_or_assign(&mut self, key: K, value: V) -> Result<Option<V>, Refused<K, V>>
-        ensures answered { IfOk result (Assigns value (HasActed (K.name key) self.old self.new)) }
-        ensures refused { IfErr result (GivesBack K.hash (K.name key) key value self.old self.new) }
-        ensures grows { DoublesFor K.hash (K.name key) self.old self.new }
+        ensures { LockedInsertionLeaves (Assigns value)
+            K.hash (K.name key) key value result self.old self.new }
     {
         self.put(key, value, entries::Assign)
     }
@@ -155,9 +153,8 @@ impl<'t, K: TableKey + Drop, V: Drop> LockedTable<'t, K, V> {
     where
         F: Drop,
         requires call { F.IsAlwaysCallable f }
-        ensures answered { IfOk result (Upserts (F.post f) value (HasActed (K.name key) self.old self.new)) }
-        ensures refused { IfErr result (GivesBack K.hash (K.name key) key value self.old self.new) }
-        ensures grows { DoublesFor K.hash (K.name key) self.old self.new }
+        ensures { LockedInsertionLeaves (Upserts (F.post f) value)
+            K.hash (K.name key) key value result self.old self.new }
     {
         self.put(key, value, entries::Upsert(f))
     }

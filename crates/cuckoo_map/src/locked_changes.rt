@@ -1,8 +1,7 @@
 //! Calls of a locked table whose closure decides what becomes of the key.
-ghost use Rattle.std.specs.Prelude.{IfOk, IfErr};
 ghost use Rattle.std.specs.Fn.{FnOnceReturnsAt};
 ghost use Rattle.ck_section.specs.Acts.{InsertsBy, FindsOrInserts, Uprases, TriesUpsert, ReplacesIf, TriesChange};
-ghost use Rattle.cuckoo_map.specs.Locking.{HasActed, HasChanged, DoublesFor, GivesBack};
+ghost use Rattle.cuckoo_map.specs.Locking.{HasChanged, LockedInsertionLeaves};
 
 use crate::entries;
 use crate::locked::LockedTable;
@@ -26,9 +25,8 @@ impl<'t, K: TableKey + Drop, V: Drop> LockedTable<'t, K, V> {
     where
         F: Drop,
         requires call { F.IsAlwaysCallable f }
-        ensures answered { IfOk result (InsertsBy (F.post f) (HasActed (K.name key) self.old self.new)) }
-        ensures refused { IfErr result (GivesBack K.hash (K.name key) key f self.old self.new) }
-        ensures grows { DoublesFor K.hash (K.name key) self.old self.new }
+        ensures { LockedInsertionLeaves (InsertsBy (F.post f))
+            K.hash (K.name key) key f result self.old self.new }
     {
         self.put(key, f, entries::InsertWith(PhantomData))
     }
@@ -50,10 +48,8 @@ impl<'t, K: TableKey + Drop, V: Drop> LockedTable<'t, K, V> {
         V: Copy,
         F: Drop,
         requires call { F.IsAlwaysCallable f }
-        ensures answered { IfOk result (
-            FindsOrInserts (F.post f) (HasActed (K.name key) self.old self.new)) }
-        ensures refused { IfErr result (GivesBack K.hash (K.name key) key f self.old self.new) }
-        ensures grows { DoublesFor K.hash (K.name key) self.old self.new }
+        ensures { LockedInsertionLeaves (FindsOrInserts (F.post f))
+            K.hash (K.name key) key f result self.old self.new }
     {
         self.put(key, f, entries::GetOrInsertWith(PhantomData))
     }
@@ -79,9 +75,8 @@ impl<'t, K: TableKey + Drop, V: Drop> LockedTable<'t, K, V> {
     where
         F: Drop,
         requires call { F.IsAlwaysCallable f }
-        ensures answered { IfOk result (Uprases (F.post f) value (HasActed (K.name key) self.old self.new)) }
-        ensures refused { IfErr result (GivesBack K.hash (K.name key) key value self.old self.new) }
-        ensures grows { DoublesFor K.hash (K.name key) self.old self.new }
+        ensures { LockedInsertionLeaves (Uprases (F.post f) value)
+            K.hash (K.name key) key value result self.old self.new }
     {
         self.put(key, value, entries::Uprase(f))
     }
@@ -108,10 +103,8 @@ impl<'t, K: TableKey + Drop, V: Drop> LockedTable<'t, K, V> {
     where
         F: Drop,
         requires call { F.IsAlwaysCallable f }
-        ensures answered { IfOk result (
-            TriesUpsert (F.post f) value (HasActed (K.name key) self.old self.new)) }
-        ensures refused { IfErr result (GivesBack K.hash (K.name key) key value self.old self.new) }
-        ensures grows { DoublesFor K.hash (K.name key) self.old self.new }
+        ensures { LockedInsertionLeaves (TriesUpsert (F.post f) value)
+            K.hash (K.name key) key value result self.old self.new }
     {
         self.put(key, value, entries::TryUpsert(f))
     }

@@ -3,8 +3,12 @@ use Rattle.cuckoo_map.specs.Locking.{HasActed}
 use Rattle.cuckoo_map.proofs.Told.{as_inserted}
 use Rattle.cuckoo_map.proofs.locked.LockedTable.insert_with.Goals as goal
 
-pub returns-clause-answered : goal.returns-clause-answered
-returns-clause-answered g c =
-    IfOk-weaker c.put.result _ _
-    (λ fresh told. as_inserted (HasActed (g.K.TableKey.name c.args.key) c.args.self.now c.put.new.self) _ fresh told.0 told.1 told.2 told.3)
-    c.put.ensures.answered
+pub returns : goal.returns
+returns g c =
+    record {
+      answered = IfOk-weaker c.put.result _ _
+      (λ fresh told. as_inserted (HasActed (g.K.TableKey.name c.args.key) c.args.self.now c.put.new.self) _ fresh told.0 told.1 told.2 told.3)
+      c.put.ensures.answered;
+      refused = c.put.ensures.refused;
+      grows = c.put.ensures.grows;
+    }
