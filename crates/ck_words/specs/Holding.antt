@@ -1,5 +1,5 @@
 -- What it leaves to take several stripes, and to give them back.
-use Rattle.std.specs.Prelude.{◌≡◌, ℕ, ◌+◌, ◌-◌, ◌<◌, ◌≤◌, max, List, length, slice_index, take}
+use Rattle.std.specs.Prelude.{◌≡◌, ℕ, ◌+◌, ◌-◌, ◌<◌, ◌≤◌, max, List, length, slice_index, take, Result, OnOk, IfErr}
 use Rattle.ck_model.specs.Promise.{Name}
 use Rattle.ck_model.specs.Numbered.{Holds, IsIn}
 use Rattle.ck_model.specs.declared.contents.Content.{Content}
@@ -38,6 +38,11 @@ module _ {V : Type 0} where
   abbrev pub Misses : (Name → ℕ) → WordsState → List ℕ → ℕ → PassState V → PassState V → Type 0
   Misses hash w ns i p q =
       (i < length ns) × ((r : PassState V) × HasTaken hash w (λ t. IsIn t ns) (take i ns) p r × (q ≡ found_again 1 (slice_index ns i) r))
+
+  -- From q to r, where the i-th of these stripes had been missed since some p: all were taken since p, or the last tries found one held, and what had been taken went home.
+  pub record TakesRest {A : Type 0} (hash : Name → ℕ) (w : WordsState) (ns : List ℕ) (i : ℕ) (result : Result A ℕ) (q r : PassState V) : Type 0 where
+    pub taken : OnOk result ((p : PassState V) → Misses hash w ns i p q → HasTakenAll hash w ns p r)
+    pub refused : IfErr result (λ t. (p : PassState V) → Misses hash w ns i p q → GivesUp w (λ u. IsIn u ns) t p r)
 
   -- From p to q all stripes went home.
   pub record HasReleased (w : WordsState) (p q : PassState V) : Type 0 where

@@ -8,7 +8,7 @@ ghost use Rattle.ck_words.specs.Passes.{IsPassOf, IsUnchanged, numbers_of, PassS
 ghost use Rattle.ck_words.specs.StripeNumbers.{pair};
 ghost use Rattle.ck_words.specs.StripeSets.{list_of};
 ghost use Rattle.ck_words.specs.Retries.{TakesWithin, found_again, Stays, FindsAmong, IsBusy};
-ghost use Rattle.ck_words.specs.Holding.{HasTaken, HasTakenAll, Misses, GivesUp};
+ghost use Rattle.ck_words.specs.Holding.{HasTaken, HasTakenAll, Misses, TakesRest};
 ghost use Rattle.ck_words.specs.Closing.{IsWhole};
 
 use crate::pass::Pass;
@@ -166,12 +166,7 @@ impl<K: TableKey + Drop, V: Drop> Words<K, V> {
         requires of_table { set.s ≡ self.now.settings.s }
         requires missed { (p : PassState V)
             × Misses K.hash self.now (list_of set) i p pass.old }
-        ensures taken { OnOk result ((p : PassState V)
-            → Misses K.hash self.now (list_of set) i p pass.old
-            → HasTakenAll K.hash self.now (list_of set) p pass.new) }
-        ensures refused { IfErr result (λ t. (p : PassState V)
-            → Misses K.hash self.now (list_of set) i p pass.old
-            → GivesUp self.now (λ u. IsIn u (list_of set)) t p pass.new) }
+        ensures { TakesRest K.hash self.now (list_of set) i result pass.old pass.new }
     {
         if set.count() <= 2 {
             let (low, high) = set.two();
@@ -197,12 +192,7 @@ impl<K: TableKey + Drop, V: Drop> Words<K, V> {
         requires inside { high < 2 ^ self.now.settings.s }
         requires missed { (p : PassState V)
             × Misses K.hash self.now (pair low high) i p pass.old }
-        ensures taken { OnOk result ((p : PassState V)
-            → Misses K.hash self.now (pair low high) i p pass.old
-            → HasTakenAll K.hash self.now (pair low high) p pass.new) }
-        ensures refused { IfErr result (λ t. (p : PassState V)
-            → Misses K.hash self.now (pair low high) i p pass.old
-            → GivesUp self.now (λ u. IsIn u (pair low high)) t p pass.new) }
+        ensures { TakesRest K.hash self.now (pair low high) i result pass.old pass.new }
     {
         let set = StripeSet::of_pair(self.settings().s, low, high);
         self.lock_set_later(pass, set, i)
@@ -215,12 +205,7 @@ impl<K: TableKey + Drop, V: Drop> Words<K, V> {
         requires of_table { set.s ≡ self.now.settings.s }
         requires missed { (p : PassState V)
             × Misses K.hash self.now (list_of set) i p pass.old }
-        ensures taken { OnOk result ((p : PassState V)
-            → Misses K.hash self.now (list_of set) i p pass.old
-            → HasTakenAll K.hash self.now (list_of set) p pass.new) }
-        ensures refused { IfErr result (λ t. (p : PassState V)
-            → Misses K.hash self.now (list_of set) i p pass.old
-            → GivesUp self.now (λ u. IsIn u (list_of set)) t p pass.new) }
+        ensures { TakesRest K.hash self.now (list_of set) i result pass.old pass.new }
     {
         self.show_range();
         let missed = set.at(i);

@@ -1,11 +1,12 @@
 -- What an insertion leaves of its pass while it makes room for its key.
-use Rattle.std.specs.Prelude.{◌≡◌, ℕ, ◌^◌, ◌<◌, List, [], ◌++◌}
+use Rattle.std.specs.Prelude.{◌≡◌, ℕ, ◌^◌, ◌<◌, List, [], ◌++◌, Result, IfErr}
 use Rattle.ck_model.specs.declared.history.Reason.{Reason}
 use Rattle.ck_model.specs.declared.settings.Settings.{Settings}
 use Rattle.ck_model.specs.Promise.{Name}
 use Rattle.ck_words.specs.Words.{WordsState}
 use Rattle.ck_words.specs.Passes.{PassState, IsPassOf, IsIdle}
 use Rattle.ck_words.specs.Retries.{StaysBut}
+use Rattle.cuckoo_map.specs.declared.refusal.Busy.{Busy}
 use Rattle.cuckoo_map.specs.Refusals.{FindsOwn, IsBusyAmong}
 use Rattle.cuckoo_map.specs.Insertions.{HasFoundNoRoom}
 
@@ -29,6 +30,11 @@ module _ {V : Type 0} where
   -- its last tries all found this stripe of the table held
   abbrev pub IsBusyAnywhere : Settings → ℕ → PassState V → PassState V → Type 0
   IsBusyAnywhere set t p p2 = IsBusyAmong (λ u. u < 2 ^ set.s) set t p p2
+
+  -- What came of a part of it: the pass is back, and where it was refused, it found a stripe busy.
+  pub record EndsBack {A : Type 0} (w : WordsState) (result : Result A Busy) (p p2 : PassState V) : Type 0 where
+    pub back : IsBack w p p2
+    pub busy : IfErr result (λ busy. IsBusyAnywhere w.settings busy.0 p p2)
 
   -- It is so since each p after which no stripe was found held but those of the name, and it was said that the name's buckets were full.
   abbrev pub SinceFull : (Name → ℕ) → Settings → Name → PassState V → (PassState V → Type 0) → Type 0

@@ -6,7 +6,7 @@ ghost use Rattle.ck_words.specs.Passes.{IsPassOf, IsIdle};
 ghost use Rattle.ck_words.specs.Closing.{IsCaller};
 ghost use Rattle.cuckoo_map.specs.Insertions.{HasRoom};
 ghost use Rattle.cuckoo_map.specs.Refusals.{FindsOwnUnlessFull, IsRefused};
-ghost use Rattle.cuckoo_map.specs.Displacing.{IsBack, IsBusyAnywhere, SinceFull};
+ghost use Rattle.cuckoo_map.specs.Displacing.{EndsBack, SinceFull};
 
 use crate::key_room::Room;
 use crate::path_search::Searched;
@@ -65,9 +65,7 @@ impl<K: TableKey + Drop, V: Drop> Table<K, V> {
         requires own { IsPassOf self.now pass.old }
         requires idle { IsIdle pass.old }
         requires power { power ≤ 26 }
-        ensures back { IsBack self.now pass.old pass.new }
-        ensures busy { IfErr result (λ busy.
-            IsBusyAnywhere self.now.settings busy.0 pass.old pass.new) }
+        ensures { EndsBack self.now result pass.old pass.new }
     {
         match self.search_path(pass, hash, power)? {
             Searched::Path(path) => self.follow(pass, &path)?,
@@ -81,9 +79,7 @@ impl<K: TableKey + Drop, V: Drop> Table<K, V> {
     fn follow(&self, pass: &mut Pass<K, V>, path: &Path) -> Result<(), Busy>
         requires own { IsPassOf self.now pass.old }
         requires idle { IsIdle pass.old }
-        ensures back { IsBack self.now pass.old pass.new }
-        ensures busy { IfErr result (λ busy.
-            IsBusyAnywhere self.now.settings busy.0 pass.old pass.new) }
+        ensures { EndsBack self.now result pass.old pass.new }
     {
         let power = path.power();
         let mut target = path.end();
@@ -109,9 +105,7 @@ impl<K: TableKey + Drop, V: Drop> Table<K, V> {
         requires idle { IsIdle pass.old }
         requires below { hop.bucket < 2 ^ hop.power }
         requires target { hop.target ≡ alternate_of hop.power hop.partial hop.bucket }
-        ensures back { IsBack self.now pass.old pass.new }
-        ensures busy { IfErr result (λ busy.
-            IsBusyAnywhere self.now.settings busy.0 pass.old pass.new) }
+        ensures { EndsBack self.now result pass.old pass.new }
     {
         let s = self.words.settings().s;
         let stripes = StripeSet::of_buckets(s, hop.bucket, hop.target);

@@ -2,7 +2,7 @@
 //! caller from more than that.
 ghost use Rattle.std.specs.Prelude.{◌^◌, ◌<◌, ◌≤◌, IfErr};
 ghost use Rattle.ck_words.specs.Passes.{IsPassOf, IsIdle};
-ghost use Rattle.cuckoo_map.specs.Displacing.{IsBack, IsBusyAnywhere};
+ghost use Rattle.cuckoo_map.specs.Displacing.{EndsBack};
 
 use crate::refusal::Busy;
 use crate::table::Table;
@@ -33,9 +33,7 @@ impl<K: TableKey + Drop, V: Drop> Table<K, V> {
         requires own { IsPassOf self.now pass.old }
         requires idle { IsIdle pass.old }
         requires power { power ≤ 26 }
-        ensures back { IsBack self.now pass.old pass.new }
-        ensures busy { IfErr result (λ busy.
-            IsBusyAnywhere self.now.settings busy.0 pass.old pass.new) }
+        ensures { EndsBack self.now result pass.old pass.new }
     {
         let first = index(power, hash.hash);
         let mut search = Search::start(power, first, alternate(power, hash.partial, first));
@@ -61,9 +59,7 @@ impl<K: TableKey + Drop, V: Drop> Table<K, V> {
         requires own { IsPassOf self.now pass.old }
         requires idle { IsIdle pass.old }
         requires below { bucket < 2 ^ power }
-        ensures back { IsBack self.now pass.old pass.new }
-        ensures busy { IfErr result (λ busy.
-            IsBusyAnywhere self.now.settings busy.0 pass.old pass.new) }
+        ensures { EndsBack self.now result pass.old pass.new }
     {
         let s = self.words.settings().s;
         let stripe = StripeSet::of_buckets(s, bucket, bucket);

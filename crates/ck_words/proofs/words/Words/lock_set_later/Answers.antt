@@ -18,9 +18,12 @@ pub release_first-requires-clause-no_spare : goal.release_first-requires-clause-
 release_first-requires-clause-no_spare g c =
     later_spare g.K.TableKey.hash c.args.self.now (list_of c.args.set) c.args.i c.at-missed.result c.at-missed.ensures.value c.requires.missed.0 c.args.pass.now c.args.set.rising c.show_range.ensures.turns c.requires.missed.1 _ c.try_again.new.pass c.if-not-try_again.ensures.tries
 
-pub returns-then-not-try_again-clause-refused : goal.returns-then-not-try_again-clause-refused
-returns-then-not-try_again-clause-refused g c p m =
-    later_refused g.K.TableKey.hash c.args.self.now (list_of c.args.set) c.args.i c.at-missed.result c.at-missed.ensures.value p c.args.pass.now c.args.set.rising c.show_range.ensures.turns m c.try_again.new.pass c.release_first.new.pass c.if-not-try_again.ensures.tries c.release_first.ensures.released
+pub returns-then-not-try_again : goal.returns-then-not-try_again
+returns-then-not-try_again g c = record {
+  taken = tt;
+  refused = λ p m.
+      later_refused g.K.TableKey.hash c.args.self.now (list_of c.args.set) c.args.i c.at-missed.result c.at-missed.ensures.value p c.args.pass.now c.args.set.rising c.show_range.ensures.turns m c.try_again.new.pass c.release_first.new.pass c.if-not-try_again.ensures.tries c.release_first.ensures.released;
+}
 
 pub loop-j-init : goal.loop-j-init
 loop-j-init g c p m =
@@ -42,10 +45,16 @@ pub release_first-requires-then-not-try_take-clause-no_spare : goal.release_firs
 release_first-requires-then-not-try_take-clause-no_spare g c =
     still_spare g.K.TableKey.hash c.args.self.now (list_of c.args.set) c.loop-j.j c.at-t.result c.at-t.ensures.value c.requires.missed.0 c.loop-j.pass c.args.set.rising (omega arith) (c.loop-j.invariant c.requires.missed.0 c.requires.missed.1) _ c.try_take.new.pass c.if-not-try_take.ensures.tries
 
-pub returns-then-not-try_take-clause-refused : goal.returns-then-not-try_take-clause-refused
-returns-then-not-try_take-clause-refused g c p m =
-    next_refused g.K.TableKey.hash c.args.self.now (list_of c.args.set) c.loop-j.j c.at-t.result c.at-t.ensures.value p c.loop-j.pass c.args.set.rising (omega arith) (c.loop-j.invariant p m) c.try_take.new.pass c.release_first-then-not-try_take.new.pass c.show_range.ensures.turns c.if-not-try_take.ensures.tries c.release_first-then-not-try_take.ensures.released
+pub returns-then-not-try_take : goal.returns-then-not-try_take
+returns-then-not-try_take g c = record {
+  taken = tt;
+  refused = λ p m.
+      next_refused g.K.TableKey.hash c.args.self.now (list_of c.args.set) c.loop-j.j c.at-t.result c.at-t.ensures.value p c.loop-j.pass c.args.set.rising (omega arith) (c.loop-j.invariant p m) c.try_take.new.pass c.release_first-then-not-try_take.new.pass c.show_range.ensures.turns c.if-not-try_take.ensures.tries c.release_first-then-not-try_take.ensures.released;
+}
 
-pub returns-clause-taken : goal.returns-clause-taken
-returns-clause-taken g c p m =
-    subst (λ ns. HasTaken g.K.TableKey.hash c.args.self.now (λ t. IsIn t (list_of c.args.set)) ns p c.loop-j.pass) (take_all c.loop-j.j (list_of c.args.set) (omega arith)) (c.loop-j.invariant p m)
+pub returns : goal.returns
+returns g c = record {
+  taken = λ p m.
+      subst (λ ns. HasTaken g.K.TableKey.hash c.args.self.now (λ t. IsIn t (list_of c.args.set)) ns p c.loop-j.pass) (take_all c.loop-j.j (list_of c.args.set) (omega arith)) (c.loop-j.invariant p m);
+  refused = tt;
+}

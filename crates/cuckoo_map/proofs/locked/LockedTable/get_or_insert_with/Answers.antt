@@ -7,8 +7,8 @@ pub returns : goal.returns
 returns g c =
     record {
       answered = IfOk-weaker c.put.result _ _
-      (λ v told. as_found (HasActed (g.K.TableKey.name c.args.key) c.args.self.now c.put.new.self) (λ (w : g.row.V.Denot). g.F.FnOnce.post c.args.f tt w) v told.0 told.1 told.2 told.3)
-      c.put.ensures.answered;
+          (λ v told. as_found (HasActed (g.K.TableKey.name c.args.key) c.args.self.now c.put.new.self) (λ (w : g.row.V.Denot). g.F.FnOnce.post c.args.f tt w) v told.0 told.1 told.2 told.3)
+          c.put.ensures.answered;
       refused = c.put.ensures.refused;
       grows = c.put.ensures.grows;
     }

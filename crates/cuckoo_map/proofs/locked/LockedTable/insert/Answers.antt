@@ -7,8 +7,8 @@ pub returns : goal.returns
 returns g c =
     record {
       answered = IfOk-weaker c.put.result _ _
-      (λ fresh told. as_said (HasActed (g.K.TableKey.name c.args.key) c.args.self.now c.put.new.self) told.2 told.3)
-      c.put.ensures.answered;
+          (λ fresh told. as_said (HasActed (g.K.TableKey.name c.args.key) c.args.self.now c.put.new.self) told.2 told.3)
+          c.put.ensures.answered;
       refused = c.put.ensures.refused;
       grows = c.put.ensures.grows;
     }

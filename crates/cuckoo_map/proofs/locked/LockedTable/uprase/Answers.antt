@@ -8,9 +8,9 @@ pub returns : goal.returns
 returns g c =
     record {
       answered = IfOk-weaker c.put.result _ _
-      (λ answer told. as_uprased (HasActed (g.K.TableKey.name c.args.key) c.args.self.now c.put.new.self)
-      (λ (v : g.row.V.Denot) (o : Option g.row.V.Denot). g.F.FnOnce.post c.args.f (v, tt) o) c.args.value answer told.0 told.1 told.2 told.3)
-      c.put.ensures.answered;
+          (λ answer told. as_uprased (HasActed (g.K.TableKey.name c.args.key) c.args.self.now c.put.new.self)
+          (λ (v : g.row.V.Denot) (o : Option g.row.V.Denot). g.F.FnOnce.post c.args.f (v, tt) o) c.args.value answer told.0 told.1 told.2 told.3)
+          c.put.ensures.answered;
       refused = c.put.ensures.refused;
       grows = c.put.ensures.grows;
     }

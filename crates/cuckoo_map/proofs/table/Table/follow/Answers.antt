@@ -26,13 +26,12 @@ make_one_hop-requires-clause-target g c =
     let linked = hop_linked path.power path.hops items path.end c.hops_from_end-step-items.ensures c.loop-step.step-index c.loop-step-test.true none c.power-power.ensures.linked.linked in
     rw c.power-power.ensures.value (c.loop-step.invariant.target ∙ (ap (λ (l : List PathHop). first_bucket (reverse (take c.loop-step.step-index l)) path.end) (sym c.hops_from_end-step-items.ensures) ∙ sym linked.1))
 
-pub returns-in_err-make_one_hop-clause-back : goal.returns-in_err-make_one_hop-clause-back
-returns-in_err-make_one_hop-clause-back g c = back_on c.args.self.now c.args.pass.now c.loop-step.pass c.make_one_hop.new.pass c.loop-step.invariant.back c.make_one_hop.ensures.back
-
-pub returns-in_err-make_one_hop-clause-busy : goal.returns-in_err-make_one_hop-clause-busy
-returns-in_err-make_one_hop-clause-busy g c =
-    let e = err_from_is_err_and c.from_residual.result c.from_residual.ensures.1 in
-    rw (e.1, e.2) (busy_on c.args.self.now _ c.args.pass.now c.loop-step.pass c.make_one_hop.new.pass c.loop-step.invariant.back c.in_err-make_one_hop.ensures.busy)
+pub returns-in_err-make_one_hop : goal.returns-in_err-make_one_hop
+returns-in_err-make_one_hop g c = record {
+  back = back_on c.args.self.now c.args.pass.now c.loop-step.pass c.make_one_hop.new.pass c.loop-step.invariant.back c.make_one_hop.ensures.back;
+  busy = (let e = err_from_is_err_and c.from_residual.result c.from_residual.ensures.1 in
+      rw (e.1, e.2) (busy_on c.args.self.now _ c.args.pass.now c.loop-step.pass c.make_one_hop.new.pass c.loop-step.invariant.back c.in_err-make_one_hop.ensures.busy));
+}
 
 pub loop-step-preserved : goal.loop-step-preserved
 loop-step-preserved g c = record {
@@ -45,5 +44,8 @@ loop-step-preserved g c = record {
       );
 }
 
-pub returns-then-not-branch-clause-back : goal.returns-then-not-branch-clause-back
-returns-then-not-branch-clause-back g c = back_on c.args.self.now c.args.pass.now c.loop-step.pass c.make_one_hop.new.pass c.loop-step.invariant.back c.make_one_hop.ensures.back
+pub returns-then-not-branch : goal.returns-then-not-branch
+returns-then-not-branch g c = record {
+  back = back_on c.args.self.now c.args.pass.now c.loop-step.pass c.make_one_hop.new.pass c.loop-step.invariant.back c.make_one_hop.ensures.back;
+  busy = tt;
+}

@@ -22,25 +22,32 @@ renew-requires-clause-renewed g c =
 pub renew-requires-clause-no_spare : goal.renew-requires-clause-no_spare
 renew-requires-clause-no_spare g c = no_spare_after _ _ c.in_default.ensures.held.no_spare c.make_hop-hopped.ensures.rest
 
-pub returns-in-Err-clause-busy : goal.returns-in-Err-clause-busy
-returns-in-Err-clause-busy g c = record {
-  stays = c.lock.ensures.stays;
-  stripe = below_set c.of_buckets-stripes.result c.args.self.now.settings.s c.in-Err.stripe (c.of_buckets-stripes.ensures.s ∙ s_of c.self.view_is c.settings-s.ensures.value) c.in-Err.ensures.asked;
-  tried = (let busy = subst (λ (w : WordsState). IsBusy w.settings c.in-Err.stripe c.args.pass.now c.lock.new.pass) c.self.view_is c.in-Err.ensures.busy in busy.1);
-  others = (let busy = subst (λ (w : WordsState). IsBusy w.settings c.in-Err.stripe c.args.pass.now c.lock.new.pass) c.self.view_is c.in-Err.ensures.busy in busy.2);
+pub returns-in-Err : goal.returns-in-Err
+returns-in-Err g c = record {
+  back = search rules;
+  busy = record {
+    stays = c.lock.ensures.stays;
+    stripe = below_set c.of_buckets-stripes.result c.args.self.now.settings.s c.in-Err.stripe (c.of_buckets-stripes.ensures.s ∙ s_of c.self.view_is c.settings-s.ensures.value) c.in-Err.ensures.asked;
+    tried = (let busy = subst (λ (w : WordsState). IsBusy w.settings c.in-Err.stripe c.args.pass.now c.lock.new.pass) c.self.view_is c.in-Err.ensures.busy in busy.1);
+    others = (let busy = subst (λ (w : WordsState). IsBusy w.settings c.in-Err.stripe c.args.pass.now c.lock.new.pass) c.self.view_is c.in-Err.ensures.busy in busy.2);
+  };
 }
 
-pub returns-then-hopped-clause-back : goal.returns-then-hopped-clause-back
-returns-then-hopped-clause-back g c =
-    let z = c.renew.new.self.pass.now in
-    let p1 = c.lock.new.pass in
-    let p2 = c.make_hop-hopped.new.held.pass.now in
-    let made = none_made p1 p2 z c.make_hop-hopped.ensures.stays.1 c.make_hop-hopped.ensures.rest c.renew.ensures.doubled c.in_default.ensures.unchanged (one_power_held _ p1.stripes c.in_default.ensures.held) in
-    let there : z ≡ c.pass-1.given.0 = search rules in
-    rw (← there) (back_home (c.make_hop-hopped.ensures.stays.5 ∙ c.self.view_is) _ c.args.pass.now p1 p2 z c.lock.ensures.stays c.lock.ensures.found (c.make_hop-hopped.ensures.stays.1) (released_alike p2 z c.renew.ensures.released made))
+pub returns-then-hopped : goal.returns-then-hopped
+returns-then-hopped g c = record {
+  back = (let z = c.renew.new.self.pass.now in
+      let p1 = c.lock.new.pass in
+      let p2 = c.make_hop-hopped.new.held.pass.now in
+      let made = none_made p1 p2 z c.make_hop-hopped.ensures.stays.1 c.make_hop-hopped.ensures.rest c.renew.ensures.doubled c.in_default.ensures.unchanged (one_power_held _ p1.stripes c.in_default.ensures.held) in
+      let there : z ≡ c.pass-1.given.0 = search rules in
+      rw (← there) (back_home (c.make_hop-hopped.ensures.stays.5 ∙ c.self.view_is) _ c.args.pass.now p1 p2 z c.lock.ensures.stays c.lock.ensures.found (c.make_hop-hopped.ensures.stays.1) (released_alike p2 z c.renew.ensures.released made)));
+  busy = tt;
+}
 
-pub returns-else-hopped-clause-back : goal.returns-else-hopped-clause-back
-returns-else-hopped-clause-back g c =
-    let z = c.release.new.self.pass.now in
-    let there : z ≡ c.pass-else-hopped-1.given.0 = search rules in
-    rw (← there) (back_home (c.make_hop-hopped.ensures.stays.5 ∙ c.self.view_is) _ c.args.pass.now c.lock.new.pass c.make_hop-hopped.new.held.pass.now z c.lock.ensures.stays c.lock.ensures.found (c.make_hop-hopped.ensures.stays.1) c.release.ensures.released)
+pub returns-else-hopped : goal.returns-else-hopped
+returns-else-hopped g c = record {
+  back = (let z = c.release.new.self.pass.now in
+      let there : z ≡ c.pass-else-hopped-1.given.0 = search rules in
+      rw (← there) (back_home (c.make_hop-hopped.ensures.stays.5 ∙ c.self.view_is) _ c.args.pass.now c.lock.new.pass c.make_hop-hopped.new.held.pass.now z c.lock.ensures.stays c.lock.ensures.found (c.make_hop-hopped.ensures.stays.1) c.release.ensures.released));
+  busy = tt;
+}
