@@ -3,10 +3,12 @@
 
 ghost use Rattle.std.specs.Prelude.{◌≡◌, Some, IfOk};
 ghost use Rattle.ck_words.specs.Closing.{IsCaller};
+ghost use Rattle.cuckoo_map.specs.Callers.{IsSameCaller};
 
 use ck_key::NumKey;
 use cuckoo_map::{Caller, LockedTable, Pass, Settings, Table};
 use std::alloc::{AllocError, Global};
+use std::process::Abort;
 use std::sync::atomic::{AtomicU64, Ordering};
 use std::test::Fail;
 
@@ -61,6 +63,18 @@ pub const GROWING: Shape = Shape {
 /// Keys `b` times this have partial 0 and the bucket 0 at each power up to 40, so they all have the
 /// same two buckets.
 pub const APART: u64 = 282_574_488_338_432;
+
+/// As many such keys as two buckets have room for, and a value for each.
+pub const EIGHT_APART: &[(u64, u64)] = &[
+    (APART, 1),
+    (2 * APART, 2),
+    (3 * APART, 3),
+    (4 * APART, 4),
+    (5 * APART, 5),
+    (6 * APART, 6),
+    (7 * APART, 7),
+    (8 * APART, 8),
+];
 
 /// Four stripes of one bucket each, which stay so.
 pub const FOUR_BUCKETS: Shape = Shape {
@@ -146,6 +160,22 @@ pub fn close(
         Ok(pairs) => Ok(pairs),
         Err(_) => Err(Fail::from("a table that was not closed")),
     }
+}
+
+/// Binds these keys to these values. None of them is bound yet, and there is room for all.
+pub fn bind_all(rt: &impl Abort, caller: &mut NumCaller<'_>, pairs: &[(u64, u64)])
+    ensures { IsSameCaller caller.old caller.new }
+{
+    for (key, value) in pairs {
+        let fresh = caller.insert(NumKey(*key), *value);
+        assert!(rt; matches!(fresh, Ok(true)), "key {key}");
+    }
+}
+
+/// Whether the pairs are these, each key by its number.
+pub fn are_pairs(pairs: &[(NumKey, u64)], wanted: &[(u64, u64)]) -> bool {
+    let numbers = pairs.iter().map(|(key, value)| (key.0, *value));
+    numbers.eq(wanted.iter().copied())
 }
 
 /// Adds one, and gives what there was before.

@@ -10,6 +10,9 @@ use crate::script_key::ScriptKey;
 use crate::tokens::{Tokens, number_of, tokens_of};
 use std::alloc::Global;
 
+// A command, or what is wrong with the words.
+type Reading<K> = Result<Command<K>, What>;
+
 // The number that a word is.
 fn number(word: &[u8]) -> Result<u64, What>
     ensures { result ≡ number_or_fault word.now }
@@ -33,7 +36,7 @@ fn key_and_number<K: ScriptKey>(alloc: Global, key: &[u8], word: &[u8]) -> Resul
 }
 
 // The command of this name.
-fn alone<K: ScriptKey>(name: &[u8]) -> Result<Command<K>, What>
+fn alone<K: ScriptKey>(name: &[u8]) -> Reading<K>
     ensures ok { IfOk result (λ c.
         SaysOnNames K.kind (ok_or (alone_command name.now) What.Command) (on_names K.name c)) }
     ensures err { IfErr result (λ what. ok_or (alone_command name.now) What.Command ≡ Err what) }
@@ -47,7 +50,7 @@ fn alone<K: ScriptKey>(name: &[u8]) -> Result<Command<K>, What>
 }
 
 // The command of this name on a key. A wrong name is told before a wrong key.
-fn on_key<K: ScriptKey>(alloc: Global, name: &[u8], word: &[u8]) -> Result<Command<K>, What>
+fn on_key<K: ScriptKey>(alloc: Global, name: &[u8], word: &[u8]) -> Reading<K>
     ensures ok { IfOk result (λ c. SaysOnNames K.kind
         (with_key (key_command name.now) word.now (key_fault K.kind word.now)) (on_names K.name c)) }
     ensures err { IfErr result (λ what. OnTextFault what
@@ -63,12 +66,7 @@ fn on_key<K: ScriptKey>(alloc: Global, name: &[u8], word: &[u8]) -> Result<Comma
 }
 
 // The command of this name on a key and a number. A wrong name is told before a wrong word.
-fn on_pair<K: ScriptKey>(
-    alloc: Global,
-    name: &[u8],
-    key: &[u8],
-    word: &[u8],
-) -> Result<Command<K>, What>
+fn on_pair<K: ScriptKey>(alloc: Global, name: &[u8], key: &[u8], word: &[u8]) -> Reading<K>
     ensures ok { IfOk result (λ c. SaysOnNames K.kind
         (with_pair (pair_command name.now) key.now (number_behind K.kind key.now word.now))
         (on_names K.name c)) }
@@ -78,33 +76,16 @@ fn on_pair<K: ScriptKey>(
     ensures text { IfErr result (λ what. what ≢ What.Read) }
 {
     match name {
-        b"insert" => {
-            let (key, n) = key_and_number(alloc, key, word)?;
-            Ok(Command::Insert(key, n))
-        }
-        b"assign" => {
-            let (key, n) = key_and_number(alloc, key, word)?;
-            Ok(Command::Assign(key, n))
-        }
-        b"update" => {
-            let (key, n) = key_and_number(alloc, key, word)?;
-            Ok(Command::Update(key, n))
-        }
-        b"add" => {
-            let (key, n) = key_and_number(alloc, key, word)?;
-            Ok(Command::Add(key, n))
-        }
+        b"insert" => key_and_number(alloc, key, word).map(|(key, n)| Command::Insert(key, n)),
+        b"assign" => key_and_number(alloc, key, word).map(|(key, n)| Command::Assign(key, n)),
+        b"update" => key_and_number(alloc, key, word).map(|(key, n)| Command::Update(key, n)),
+        b"add" => key_and_number(alloc, key, word).map(|(key, n)| Command::Add(key, n)),
         _ => Err(What::Command),
     }
 }
 
 // The command `move` on two keys and a number. That the keys are one is told last.
-fn on_two<K: ScriptKey>(
-    alloc: Global,
-    source: &[u8],
-    target: &[u8],
-    word: &[u8],
-) -> Result<Command<K>, What>
+fn on_two<K: ScriptKey>(alloc: Global, source: &[u8], target: &[u8], word: &[u8]) -> Reading<K>
     ensures ok { IfOk result (λ c. SaysOnNames K.kind
         (move_command K.kind source.now target.now word.now) (on_names K.name c)) }
     ensures err { IfErr result (λ what. OnTextFault what
@@ -131,11 +112,7 @@ fn has_moves(version: Version) -> bool
 
 /// The command that a line is.
 #[tactic(auto, unfolding(crate::specs::Parse::command_at))]
-pub(crate) fn command_of<K: ScriptKey>(
-    alloc: Global,
-    version: Version,
-    line: &[u8],
-) -> Result<Command<K>, What>
+pub(crate) fn command_of<K: ScriptKey>(alloc: Global, version: Version, line: &[u8]) -> Reading<K>
     ensures ok { IfOk result (λ c.
         SaysOnNames K.kind (command_at version K.kind line.now) (on_names K.name c)) }
     ensures err { IfErr result (λ what.

@@ -1,8 +1,8 @@
 //! A plain map that follows a history, and so decides which histories are legal.
 ghost use Rattle.std.specs.Prelude.{◌≡◌, ◌↔◌, ℕ, true, false, ◌<◌, ◌≤◌, length, slice_get, IsTrue, IfOk, IfSome, IfNone, IfErr, IsSome, IsOk, MatchResult, OnOk, OnErr, OnSome, List, ◌∷◌, [], ◌++◌, is_ok};
 ghost use Rattle.std.specs.FinMap as map;
-ghost use Rattle.ck_model.specs.Promise.{Name, name_cmp, Map, Step, After, IsLegal};
-ghost use Rattle.ck_oracle.specs.PlainMap.{place_of, with_binding, Stands, Rises};
+ghost use Rattle.ck_model.specs.Promise.{Name, name_cmp, Map, After, IsLegal};
+ghost use Rattle.ck_oracle.specs.PlainMap.{place_of, with_binding, Stands, Rises, Follows};
 
 use crate::answers::{after_act, after_two};
 use ck_model::history::{Act, Call, Entry, Name, Reply};
@@ -159,12 +159,8 @@ impl PlainMap {
         act: &Act<u64>,
         reply: &Reply<u64>,
     ) -> Result<bool, AllocError>
-        ensures legal { IfOk result (λ b.
-            b ≡ true → Step self.old (Call.On name.now act.now) reply.now self.new) }
-        ensures refused { IfOk result (λ b.
-            b ≡ false
-            → (self.new ≡ self.old)
-            × ((m2 : Map ℕ) → ¬ (Step self.old (Call.On name.now act.now) reply.now m2))) }
+        ensures follows { IfOk result
+            (Follows self.old (Call.On name.now act.now) reply.now self.new) }
         ensures err { OnErr result (self.new ≡ self.old) }
     {
         match after_act(act, self.get(name), reply) {
@@ -183,13 +179,8 @@ impl PlainMap {
         second: &Name,
         reply: &Reply<u64>,
     ) -> Result<bool, AllocError>
-        ensures legal { IfOk result (λ b.
-            b ≡ true → Step self.old (Call.ChangeTwo first.now second.now) reply.now self.new) }
-        ensures refused { IfOk result (λ b.
-            b ≡ false
-            → (self.new ≡ self.old)
-            × ((m2 : Map ℕ)
-            → ¬ (Step self.old (Call.ChangeTwo first.now second.now) reply.now m2))) }
+        ensures follows { IfOk result
+            (Follows self.old (Call.ChangeTwo first.now second.now) reply.now self.new) }
         ensures err { OnErr result (self.new ≡ self.old) }
     {
         if first == second {
@@ -223,12 +214,8 @@ impl PlainMap {
         after: &LinkedList<(Name, u64)>,
         reply: &Reply<u64>,
     ) -> Result<bool, AllocError>
-        ensures legal { IfOk result (λ b.
-            b ≡ true → Step self.old (Call.Session before.now after.now) reply.now self.new) }
-        ensures refused { IfOk result (λ b.
-            b ≡ false
-            → (self.new ≡ self.old)
-            × ((m2 : Map ℕ) → ¬ (Step self.old (Call.Session before.now after.now) reply.now m2))) }
+        ensures follows { IfOk result
+            (Follows self.old (Call.Session before.now after.now) reply.now self.new) }
         ensures err { OnErr result (self.new ≡ self.old) }
     {
         if !matches!(reply, Reply::Closed) {
@@ -251,12 +238,8 @@ impl PlainMap {
     /// Takes the step of this entry, and is true, where the plain map has such a step. Else it is
     /// false, and the map stays as it was; so it does where no memory is left.
     pub fn follow(&mut self, entry: &Entry<u64>) -> Result<bool, AllocError>
-        ensures legal { IfOk result (λ b.
-            b ≡ true → Step self.old entry.now.call entry.now.reply self.new) }
-        ensures refused { IfOk result (λ b.
-            b ≡ false
-            → (self.new ≡ self.old)
-            × ((m2 : Map ℕ) → ¬ (Step self.old entry.now.call entry.now.reply m2))) }
+        ensures follows { IfOk result
+            (Follows self.old entry.now.call entry.now.reply self.new) }
         ensures err { OnErr result (self.new ≡ self.old) }
     {
         let reply = &entry.reply;

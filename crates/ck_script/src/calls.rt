@@ -7,13 +7,14 @@ ghost use Rattle.cuckoo_map.specs.Locking.{map_of};
 ghost use Rattle.ck_format.specs.Answers.{answer_on_names};
 ghost use Rattle.ck_script.specs.Answered.{printed, IsAnsweredBy, IsListOf};
 
-use ck_format::{Answer, Command, Pairs, WrittenKey};
+use crate::job::Told;
+use ck_format::{Answer, Command, WrittenKey};
 use ck_key::TableKey;
 use cuckoo_map::{Caller, LockedTable, Why};
 use std::alloc::Global;
 
 // What a command that may need room is refused for.
-fn refusal_of<K: TableKey + Drop>(why: Why) -> Answer<Pairs<K>>
+fn refusal_of<K: TableKey + Drop>(why: Why) -> Told<K>
     ensures { answer_on_names K.name result ≡ printed why }
 {
     match why {
@@ -26,7 +27,7 @@ fn refusal_of<K: TableKey + Drop>(why: Why) -> Answer<Pairs<K>>
 
 // A function for each command: it asks the table, and picks the word for the reply.
 
-fn find<K: TableKey + Drop>(caller: &mut Caller<'_, K, u64>, key: K) -> Answer<Pairs<K>>
+fn find<K: TableKey + Drop>(caller: &mut Caller<'_, K, u64>, key: K) -> Told<K>
     ensures { IsAnsweredBy K.hash (Command.Find (K.name key)) (answer_on_names K.name result)
         caller.old caller.new }
 {
@@ -37,7 +38,7 @@ fn find<K: TableKey + Drop>(caller: &mut Caller<'_, K, u64>, key: K) -> Answer<P
     }
 }
 
-fn has<K: TableKey + Drop>(caller: &mut Caller<'_, K, u64>, key: K) -> Answer<Pairs<K>>
+fn has<K: TableKey + Drop>(caller: &mut Caller<'_, K, u64>, key: K) -> Told<K>
     ensures { IsAnsweredBy K.hash (Command.Has (K.name key)) (answer_on_names K.name result)
         caller.old caller.new }
 {
@@ -48,11 +49,7 @@ fn has<K: TableKey + Drop>(caller: &mut Caller<'_, K, u64>, key: K) -> Answer<Pa
     }
 }
 
-fn insert<K: TableKey + Drop>(
-    caller: &mut Caller<'_, K, u64>,
-    key: K,
-    value: u64,
-) -> Answer<Pairs<K>>
+fn insert<K: TableKey + Drop>(caller: &mut Caller<'_, K, u64>, key: K, value: u64) -> Told<K>
     ensures { IsAnsweredBy K.hash (Command.Insert (K.name key) value) (answer_on_names K.name result)
         caller.old caller.new }
 {
@@ -63,11 +60,7 @@ fn insert<K: TableKey + Drop>(
     }
 }
 
-fn assign<K: TableKey + Drop>(
-    caller: &mut Caller<'_, K, u64>,
-    key: K,
-    value: u64,
-) -> Answer<Pairs<K>>
+fn assign<K: TableKey + Drop>(caller: &mut Caller<'_, K, u64>, key: K, value: u64) -> Told<K>
     ensures { IsAnsweredBy K.hash (Command.Assign (K.name key) value) (answer_on_names K.name result)
         caller.old caller.new }
 {
@@ -78,11 +71,7 @@ fn assign<K: TableKey + Drop>(
     }
 }
 
-fn update<K: TableKey + Drop>(
-    caller: &mut Caller<'_, K, u64>,
-    key: K,
-    value: u64,
-) -> Answer<Pairs<K>>
+fn update<K: TableKey + Drop>(caller: &mut Caller<'_, K, u64>, key: K, value: u64) -> Told<K>
     ensures { IsAnsweredBy K.hash (Command.Update (K.name key) value) (answer_on_names K.name result)
         caller.old caller.new }
 {
@@ -93,7 +82,7 @@ fn update<K: TableKey + Drop>(
     }
 }
 
-fn add<K: TableKey + Drop>(caller: &mut Caller<'_, K, u64>, key: K, value: u64) -> Answer<Pairs<K>>
+fn add<K: TableKey + Drop>(caller: &mut Caller<'_, K, u64>, key: K, value: u64) -> Told<K>
     ensures { IsAnsweredBy K.hash (Command.Add (K.name key) value) (answer_on_names K.name result)
         caller.old caller.new }
 {
@@ -104,7 +93,7 @@ fn add<K: TableKey + Drop>(caller: &mut Caller<'_, K, u64>, key: K, value: u64) 
     }
 }
 
-fn erase<K: TableKey + Drop>(caller: &mut Caller<'_, K, u64>, key: K) -> Answer<Pairs<K>>
+fn erase<K: TableKey + Drop>(caller: &mut Caller<'_, K, u64>, key: K) -> Told<K>
     ensures { IsAnsweredBy K.hash (Command.Erase (K.name key)) (answer_on_names K.name result)
         caller.old caller.new }
 {
@@ -115,7 +104,7 @@ fn erase<K: TableKey + Drop>(caller: &mut Caller<'_, K, u64>, key: K) -> Answer<
     }
 }
 
-fn len<K: TableKey + Drop>(caller: &mut Caller<'_, K, u64>) -> Answer<Pairs<K>>
+fn len<K: TableKey + Drop>(caller: &mut Caller<'_, K, u64>) -> Told<K>
     ensures { IsAnsweredBy K.hash Command.Len (answer_on_names K.name result) caller.old caller.new }
 {
     match caller.len() {
@@ -140,7 +129,7 @@ fn transfer<K: TableKey + Drop>(
     from: K,
     to: K,
     amount: u64,
-) -> Answer<Pairs<K>>
+) -> Told<K>
     ensures { IsAnsweredBy K.hash (Command.Move (K.name from) (K.name to) amount)
         (answer_on_names K.name result) caller.old caller.new }
 {
@@ -155,7 +144,7 @@ fn transfer<K: TableKey + Drop>(
 }
 
 // The list of a locked table, where there is memory for it.
-fn listed<K: WrittenKey>(alloc: Global, locked: &LockedTable<'_, K, u64>) -> Answer<Pairs<K>>
+fn listed<K: WrittenKey>(alloc: Global, locked: &LockedTable<'_, K, u64>) -> Told<K>
     ensures { IsListOf (entries (map_of locked.now)) (answer_on_names K.name result) }
 {
     match locked.export(alloc) {
@@ -169,7 +158,7 @@ fn listed<K: WrittenKey>(alloc: Global, locked: &LockedTable<'_, K, u64>) -> Ans
 fn list<'t, K: WrittenKey>(
     alloc: Global,
     caller: Caller<'t, K, u64>,
-) -> (Answer<Pairs<K>>, Caller<'t, K, u64>)
+) -> (Told<K>, Caller<'t, K, u64>)
     ensures { IsAnsweredBy K.hash Command.List (answer_on_names K.name result.0)
         caller.entry result.1 }
 {
@@ -187,7 +176,7 @@ pub(crate) fn answer_of<'t, K: WrittenKey>(
     alloc: Global,
     caller: Caller<'t, K, u64>,
     command: Command<K>,
-) -> (Answer<Pairs<K>>, Caller<'t, K, u64>)
+) -> (Told<K>, Caller<'t, K, u64>)
     ensures { IsAnsweredBy K.hash (on_names K.name command) (answer_on_names K.name result.0)
         caller.entry result.1 }
 {

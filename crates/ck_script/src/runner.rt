@@ -11,9 +11,9 @@ ghost use Rattle.ck_script.specs.Jobs.{IsJob, IsNew, IsReadyJob, IsTextAtEnd, an
 ghost use Rattle.ck_script.specs.Run.{TakesOutput, StopsBy};
 
 use crate::gate::Gate;
-use crate::job::{Done, Job};
+use crate::job::{Done, Job, Told};
 use crate::worker::work_all;
-use ck_format::{Answer, Command, Pairs, Script, Sink, Work, WrittenKey, text_of, write_all};
+use ck_format::{Command, Script, Sink, Work, WrittenKey, text_of, write_all};
 use ck_model::settings::Settings;
 use cuckoo_map::{OpenFault, Pass, Table};
 use std::alloc::{AllocError, Global};
@@ -95,7 +95,7 @@ fn jobs_of<'t, K: WrittenKey>(
 fn parted<K: WrittenKey>(
     alloc: Global,
     dones: Vec<Done<K>>,
-) -> Result<(Vec<Vec<Answer<Pairs<K>>>>, Vec<Pass<K, u64>>), AllocError>
+) -> Result<(Vec<Vec<Told<K>>>, Vec<Pass<K, u64>>), AllocError>
     ensures answers { IfOk result (λ r. r.0.items ≡ answers_of dones.items) }
     ensures passes { IfOk result (λ r. r.1.items ≡ passes_of dones.items) }
 {
@@ -114,7 +114,7 @@ fn text_at_end<K: WrittenKey>(
     alloc: Global,
     table: Table<K, u64>,
     passes: Vec<Pass<K, u64>>,
-    answers: &[Vec<Answer<Pairs<K>>>],
+    answers: &[Vec<Told<K>>],
 ) -> Result<Vec<u8>, AllocError>
     requires { AreAllPasses table passes.items }
     ensures { IfOk result (λ text. IsTextAtEnd K.keys table.settings passes.items

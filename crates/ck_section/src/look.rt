@@ -94,28 +94,15 @@ pub(crate) fn find_slot<K: TableKey + Drop, V: Drop, Q: Query<K>, H: Held<Stripe
     ensures same { H.stripes held.new ≡ H.stripes held.old }
     ensures stays { H.stays held.old held.new }
 {
-    let KeyPlace {
-        s: _,
-        partial,
-        first,
-        alternate,
-    } = place;
+    let (first, alternate, partial) = (place.first, place.alternate, place.partial);
     if let Some(slot) = one_stripe::look(held, first.index, first.bucket, key, partial) {
-        return Some(HeldSlot {
-            index: first.index,
-            bucket: first.bucket,
-            slot,
-        });
+        return Some(first.with_slot(slot));
     }
     if alternate.bucket == first.bucket {
         return None;
     }
     let slot = one_stripe::look(held, alternate.index, alternate.bucket, key, partial)?;
-    Some(HeldSlot {
-        index: alternate.index,
-        bucket: alternate.bucket,
-        slot,
-    })
+    Some(alternate.with_slot(slot))
 }
 
 /// The lowest free slot of the key's first bucket, else of its alternate one.
@@ -132,26 +119,13 @@ pub(crate) fn find_free<K: TableKey + Drop, V: Drop, H: Held<Stripe<K, V>>>(
     ensures same { H.stripes held.new ≡ H.stripes held.old }
     ensures stays { H.stays held.old held.new }
 {
-    let KeyPlace {
-        s: _,
-        partial: _,
-        first,
-        alternate,
-    } = place;
+    let (first, alternate) = (place.first, place.alternate);
     if let Some(slot) = one_stripe::free(held, first.index, first.bucket) {
-        return Some(HeldSlot {
-            index: first.index,
-            bucket: first.bucket,
-            slot,
-        });
+        return Some(first.with_slot(slot));
     }
     if alternate.bucket == first.bucket {
         return None;
     }
     let slot = one_stripe::free(held, alternate.index, alternate.bucket)?;
-    Some(HeldSlot {
-        index: alternate.index,
-        bucket: alternate.bucket,
-        slot,
-    })
+    Some(alternate.with_slot(slot))
 }

@@ -1,4 +1,5 @@
 //! Where a key may be among held stripes.
+ghost use Rattle.std.specs.Prelude.{◌≡◌};
 
 /// A bucket of a held stripe.
 #[derive(Clone, Copy, Debug, PartialEq, Eq)]
@@ -25,4 +26,18 @@ pub struct HeldSlot {
     pub index: usize,
     pub bucket: u64,
     pub slot: usize,
+}
+
+impl HeldBucket {
+    // The slot of this number in the bucket.
+    #[inline(always)]
+    pub(crate) fn with_slot(self, slot: usize) -> HeldSlot
+        ensures { result ≡ record { index = self.index; bucket = self.bucket; slot = slot } }
+    {
+        HeldSlot {
+            index: self.index,
+            bucket: self.bucket,
+            slot,
+        }
+    }
 }

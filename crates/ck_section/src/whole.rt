@@ -55,12 +55,7 @@ pub fn find_in_all<'s, K: TableKey + Drop, V: Drop, Q: Query<K>>(
     ensures { IsCall (effect K.hash (λ stripes. stripes) place stripes.now stripes.now)
         (Q.name key) Find (Was (option_copied result)) }
 {
-    let KeyPlace {
-        s: _,
-        partial,
-        first,
-        alternate,
-    } = place;
+    let (first, alternate, partial) = (place.first, place.alternate, place.partial);
     if let Some(value) = value_in(&stripes[first.index], first.bucket, key, partial) {
         return Some(value);
     }

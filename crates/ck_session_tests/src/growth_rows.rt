@@ -45,6 +45,9 @@ static LARGE_ROWS: [Row; 4] = [
     (Slots(33), Ok(true), 4),
 ];
 
+/// What is answered, and the power then.
+type Grown = (Result<bool, GrowFault>, Option<u32>);
+
 fn grow(caller: &mut NumCaller<'_>, size: Size) -> Result<bool, GrowFault> {
     match size {
         Power(power) => caller.rehash(power),
@@ -52,19 +55,35 @@ fn grow(caller: &mut NumCaller<'_>, size: Size) -> Result<bool, GrowFault> {
     }
 }
 
-fn take_rows(rt: &impl Abort, caller: &mut NumCaller<'_>, rows: &[Row]) {
+fn grow_caller(caller: &mut NumCaller<'_>, size: Size) -> Grown {
+    (grow(caller, size), caller.power().ok())
+}
+
+/// The capacity is that of the power.
+fn grow_locked(rt: &impl Abort, locked: &mut NumLocked<'_>, size: Size) -> Grown {
+    let grown = match size {
+        Power(power) => locked.rehash(power),
+        Slots(n) => locked.reserve(n),
+    };
+    let power = locked.power();
+    assert!(rt; Some(locked.capacity()) == 4u64.checked_shl(power));
+    (grown, Some(power))
+}
+
+fn take_rows<F: FnMut(Size) -> Grown + Drop>(rt: &impl Abort, rows: &[Row], mut grow: F)
+    requires { F.IsAlwaysCallable grow }
+{
     for (size, want, power) in rows {
-        let grown = grow(caller, *size);
-        assert!(rt; grown == *want);
-        let now = caller.power();
-        assert!(rt; now == Ok(*power));
+        let grown = grow(*size);
+        assert!(rt; grown == (*want, Some(*power)));
     }
 }
 
 #[test]
 fn powers_and_slots(rt: HostRuntime) -> Result<(), Fail> {
     let (table, first, _, _) = open_with(rt.alloc(), TWO_STRIPES)?;
-    take_rows(&rt, &mut table.caller(first), &ROWS);
+    let mut first = table.caller(first);
+    take_rows(&rt, &ROWS, |size| grow_caller(&mut first, size));
     Ok(())
 }
 
@@ -75,7 +94,8 @@ fn the_greatest_powers(rt: HostRuntime) -> Result<(), Fail> {
         ..TWO_STRIPES
     };
     let (table, first, _, _) = open_with(rt.alloc(), settings)?;
-    take_rows(&rt, &mut table.caller(first), &LARGE_ROWS);
+    let mut first = table.caller(first);
+    take_rows(&rt, &LARGE_ROWS, |size| grow_caller(&mut first, size));
     Ok(())
 }
 
@@ -142,25 +162,7 @@ fn while_locked(rt: HostRuntime) -> Result<(), Fail> {
     Ok(())
 }
 
-fn grow_locked(locked: &mut NumLocked<'_>, size: Size) -> Result<bool, GrowFault> {
-    match size {
-        Power(power) => locked.rehash(power),
-        Slots(n) => locked.reserve(n),
-    }
-}
-
-/// A locked table grows as another does, and says its size.
-fn take_locked_rows(rt: &impl Abort, locked: &mut NumLocked<'_>, rows: &[Row]) {
-    for (size, want, power) in rows {
-        let grown = grow_locked(locked, *size);
-        assert!(rt; grown == *want);
-        let now = locked.power();
-        assert!(rt; now == *power);
-        let slots = locked.capacity();
-        assert!(rt; Some(slots) == 4u64.checked_shl(now));
-    }
-}
-
+/// A locked table grows as another does.
 #[test]
 fn a_locked_table(rt: HostRuntime) -> Result<(), Fail> {
     let (table, first, _, _) = open_with(rt.alloc(), TWO_STRIPES)?;
@@ -169,7 +171,7 @@ fn a_locked_table(rt: HostRuntime) -> Result<(), Fail> {
     let Ok(mut locked) = first.lock() else {
         return Err(Fail::from("a table that was not locked"));
     };
-    take_locked_rows(&rt, &mut locked, &ROWS);
+    take_rows(&rt, &ROWS, |size| grow_locked(&rt, &mut locked, size));
     find_all(&rt, &mut locked.unlock_caller());
     Ok(())
 }

@@ -61,6 +61,15 @@ struct Row {
     done: u32,
 }
 
+/// An insertion for which two stripes double.
+const TWO_DOUBLINGS: Row = Row {
+    what: "an insertion for which two stripes double",
+    subject: Subject::Insert,
+    refused: &[4, 4],
+    blocks: &[AT_FIVE, AT_FIVE],
+    done: 5,
+};
+
 static ROWS: [Row; 5] = [
     Row {
         what: "two doublings of two stripes",
@@ -69,19 +78,11 @@ static ROWS: [Row; 5] = [
         blocks: &[AT_FIVE, AT_FIVE, AT_SIX, AT_SIX],
         done: 6,
     },
-    Row {
-        what: "an insertion for which two stripes double",
-        subject: Subject::Insert,
-        refused: &[4, 4],
-        blocks: &[AT_FIVE, AT_FIVE],
-        done: 5,
-    },
+    TWO_DOUBLINGS,
     Row {
         what: "the same in a session",
         subject: Subject::InsertLocked,
-        refused: &[4, 4],
-        blocks: &[AT_FIVE, AT_FIVE],
-        done: 5,
+        ..TWO_DOUBLINGS
     },
     Row {
         what: "an insertion in a session, and again with ample memory",
@@ -129,10 +130,18 @@ fn bind_all(rt: &impl Abort, caller: &mut NumCaller<'_>) {
     }
 }
 
-/// Whether key and value came back for want of memory.
-fn is_back(refused: Refused<NumKey, u64>) -> bool {
-    let Refused { key, value, why } = refused;
-    key == NEXT && value == 190 && why == Why::Memory
+/// Whether the key was bound. Else key and value came back for want of memory.
+fn is_bound(rt: &impl Abort, inserted: Result<bool, Refused<NumKey, u64>>) -> bool {
+    match inserted {
+        Ok(fresh) => {
+            assert!(rt; fresh);
+            true
+        }
+        Err(Refused { key, value, why }) => {
+            assert!(rt; key == NEXT && value == 190 && why == Why::Memory);
+            false
+        }
+    }
 }
 
 /// Whether the table was made to grow. Refused, it wanted memory.
@@ -140,34 +149,6 @@ fn rehash(rt: &impl Abort, caller: &mut NumCaller<'_>) -> bool {
     let grown = caller.rehash(6);
     assert!(rt; grown == Ok(true) || grown == Err(GrowFault::Memory));
     grown.is_ok()
-}
-
-fn insert(rt: &impl Abort, caller: &mut NumCaller<'_>) -> bool {
-    match caller.insert(NEXT, 190) {
-        Ok(fresh) => {
-            assert!(rt; fresh);
-            true
-        }
-        Err(refused) => {
-            assert!(rt; is_back(refused));
-            false
-        }
-    }
-}
-
-fn insert_locked(rt: &impl Abort, locked: &mut NumLocked<'_>) -> bool
-    ensures { locked.new.caller ≡ locked.old.caller }
-{
-    match locked.insert(NEXT, 190) {
-        Ok(fresh) => {
-            assert!(rt; fresh);
-            true
-        }
-        Err(refused) => {
-            assert!(rt; is_back(refused));
-            false
-        }
-    }
 }
 
 fn export(rt: &impl Abort, alloc: Global, locked: &NumLocked<'_>) -> bool {
@@ -196,20 +177,23 @@ fn go_on(rt: &impl Abort, locked: &mut NumLocked<'_>, bound: bool)
     assert!(rt; matches!(fresh, Ok(true)));
 }
 
-/// Makes a call in a session, and says whether there was memory for it.
+/// A caller, and whether there was memory for its call.
+type Called<'t> = (NumCaller<'t>, bool);
+
+/// Makes a call in a session.
 fn call_locked<'t>(
     rt: &impl Abort,
     alloc: Global,
     caller: NumCaller<'t>,
     subject: Subject,
-) -> (NumCaller<'t>, bool) {
+) -> Called<'t> {
     let Ok(mut locked) = caller.lock() else {
         panic!(rt; "a table that was not locked");
     };
     let (done, bound) = match subject {
         Subject::Export => (export(rt, alloc, &locked), false),
         _ => {
-            let done = insert_locked(rt, &mut locked);
+            let done = is_bound(rt, locked.insert(NEXT, 190));
             (done, done)
         }
     };
@@ -217,21 +201,19 @@ fn call_locked<'t>(
     (locked.unlock_caller(), done)
 }
 
-/// Makes the call, and says whether there was memory for it.
 fn call<'t>(
     rt: &impl Abort,
     alloc: Global,
-    caller: NumCaller<'t>,
+    mut caller: NumCaller<'t>,
     subject: Subject,
-) -> (NumCaller<'t>, bool) {
-    let mut caller = caller;
+) -> Called<'t> {
     match subject {
         Subject::Rehash => {
             let done = rehash(rt, &mut caller);
             (caller, done)
         }
         Subject::Insert => {
-            let done = insert(rt, &mut caller);
+            let done = is_bound(rt, caller.insert(NEXT, 190));
             (caller, done)
         }
         Subject::InsertLocked | Subject::Export => call_locked(rt, alloc, caller, subject),
@@ -285,8 +267,5 @@ fn check(rt: &impl Abort, alloc: Global, row: &Row) -> Result<(), Fail> {
 
 #[test]
 fn refused_in_turn(rt: HostRuntime) -> Result<(), Fail> {
-    for row in &ROWS {
-        check(&rt, rt.alloc(), row)?;
-    }
-    Ok(())
+    ROWS.iter().try_for_each(|row| check(&rt, rt.alloc(), row))
 }

@@ -3,7 +3,9 @@
 ghost use Rattle.std.specs.Prelude.{◌≡◌};
 ghost use Rattle.cuckoo_map.specs.Callers.{IsSameCaller};
 
-use ck_fixtures::{APART, FOUR_BUCKETS, GROWING, NumCaller, NumLocked, Shape, open};
+use ck_fixtures::{
+    APART, EIGHT_APART, FOUR_BUCKETS, GROWING, NumCaller, NumLocked, Shape, are_pairs, open,
+};
 use ck_key::NumKey;
 use ck_model::history::Name;
 use ck_oracle::map::PlainMap;
@@ -116,21 +118,26 @@ fn answer(locked: &mut NumLocked<'_>, call: Call) -> Reply
     }
 }
 
-/// A session from the empty table on, with calls and their replies, and the pairs and the power
-/// that it leaves.
+/// A session from the empty table on, with the pairs that it binds first, calls and their replies,
+/// and the pairs and the power that it leaves.
 #[derive(Clone, Copy)]
 struct Session {
     what: &'static str,
     shape: Shape,
+    bound: &'static [(u64, u64)],
     calls: &'static [(Call, Reply)],
-    end: &'static [(NumKey, u64)],
+    end: &'static [(u64, u64)],
     power: u32,
 }
+
+/// Keys that have one bucket of four alone, as many as it has room for.
+const FULL_BUCKET: &[(u64, u64)] = &[(3, 30), (7, 70), (11, 110), (15, 150)];
 
 static SESSIONS: [Session; 8] = [
     Session {
         what: "a bound key keeps its value",
         shape: GROWING,
+        bound: &[],
         calls: &[
             (Call::Insert(1, 10), Reply::Fresh(true)),
             (Call::Insert(1, 11), Reply::Fresh(false)),
@@ -142,12 +149,13 @@ static SESSIONS: [Session; 8] = [
             (Call::Erase(1), Reply::Was(None)),
             (Call::Insert(1, 12), Reply::Fresh(true)),
         ],
-        end: &[(NumKey(1), 12), (NumKey(2), 20)],
+        end: &[(1, 12), (2, 20)],
         power: 2,
     },
     Session {
         what: "a bound key is assigned another value",
         shape: GROWING,
+        bound: &[],
         calls: &[
             (Call::Assign(1, 10), Reply::Was(None)),
             (Call::Assign(1, 11), Reply::Was(Some(10))),
@@ -155,13 +163,16 @@ static SESSIONS: [Session; 8] = [
             (Call::HalveOr(2, 21), Reply::Fresh(false)),
             (Call::Len, Reply::Count(2)),
         ],
-        end: &[(NumKey(1), 11), (NumKey(2), 10)],
+        end: &[(1, 11), (2, 10)],
         power: 2,
     },
     Session {
         what: "only a bound key is updated",
         shape: GROWING,
+        bound: &[],
         calls: &[
+            (Call::Clear, Reply::Count(0)),
+            (Call::RetainEven, Reply::Count(0)),
             (Call::Update(1, 10), Reply::Was(None)),
             (Call::Halve(1), Reply::Is(false)),
             (Call::Contains(1), Reply::Is(false)),
@@ -173,18 +184,14 @@ static SESSIONS: [Session; 8] = [
             (Call::Halve(1), Reply::Is(true)),
             (Call::Find(1), Reply::Was(Some(11))),
         ],
-        end: &[(NumKey(1), 11)],
+        end: &[(1, 11)],
         power: 2,
     },
     Session {
         what: "a cleared table has room for as many keys again",
         shape: FOUR_BUCKETS,
+        bound: FULL_BUCKET,
         calls: &[
-            (Call::Clear, Reply::Count(0)),
-            (Call::Insert(3, 30), Reply::Fresh(true)),
-            (Call::Insert(7, 70), Reply::Fresh(true)),
-            (Call::Insert(11, 110), Reply::Fresh(true)),
-            (Call::Insert(15, 150), Reply::Fresh(true)),
             (Call::Insert(19, 190), Reply::Back(19, 190, Why::Full)),
             (Call::Clear, Reply::Count(0)),
             (Call::IsEmpty, Reply::Is(true)),
@@ -198,22 +205,14 @@ static SESSIONS: [Session; 8] = [
             (Call::Insert(31, 310), Reply::Back(31, 310, Why::Full)),
             (Call::Len, Reply::Count(4)),
         ],
-        end: &[
-            (NumKey(15), 151),
-            (NumKey(19), 191),
-            (NumKey(23), 230),
-            (NumKey(27), 270),
-        ],
+        end: &[(15, 151), (19, 191), (23, 230), (27, 270)],
         power: 2,
     },
     Session {
         what: "the one bucket of these keys is full, and the table may not grow",
         shape: FOUR_BUCKETS,
+        bound: FULL_BUCKET,
         calls: &[
-            (Call::Insert(3, 30), Reply::Fresh(true)),
-            (Call::Insert(7, 70), Reply::Fresh(true)),
-            (Call::Insert(11, 110), Reply::Fresh(true)),
-            (Call::Insert(15, 150), Reply::Fresh(true)),
             (Call::Insert(19, 190), Reply::Back(19, 190, Why::Full)),
             (Call::Assign(19, 192), Reply::Back(19, 192, Why::Full)),
             (Call::HalveOr(19, 193), Reply::Back(19, 193, Why::Full)),
@@ -225,53 +224,28 @@ static SESSIONS: [Session; 8] = [
             (Call::Erase(3), Reply::Was(Some(30))),
             (Call::Insert(19, 191), Reply::Fresh(true)),
         ],
-        end: &[
-            (NumKey(7), 36),
-            (NumKey(11), 110),
-            (NumKey(15), 150),
-            (NumKey(19), 191),
-        ],
+        end: &[(7, 36), (11, 110), (15, 150), (19, 191)],
         power: 2,
     },
     Session {
         what: "nine keys of the same two buckets, until too few slots are taken",
         shape: GROWING,
+        bound: EIGHT_APART,
         calls: &[
-            (Call::Insert(APART, 1), Reply::Fresh(true)),
-            (Call::Insert(2 * APART, 2), Reply::Fresh(true)),
-            (Call::Insert(3 * APART, 3), Reply::Fresh(true)),
-            (Call::Insert(4 * APART, 4), Reply::Fresh(true)),
-            (Call::Insert(5 * APART, 5), Reply::Fresh(true)),
-            (Call::Insert(6 * APART, 6), Reply::Fresh(true)),
-            (Call::Insert(7 * APART, 7), Reply::Fresh(true)),
-            (Call::Insert(8 * APART, 8), Reply::Fresh(true)),
             (
                 Call::Insert(9 * APART, 9),
                 Reply::Back(9 * APART, 9, Why::LoadTooLow),
             ),
             (Call::Len, Reply::Count(8)),
         ],
-        end: &[
-            (NumKey(APART), 1),
-            (NumKey(2 * APART), 2),
-            (NumKey(3 * APART), 3),
-            (NumKey(4 * APART), 4),
-            (NumKey(5 * APART), 5),
-            (NumKey(6 * APART), 6),
-            (NumKey(7 * APART), 7),
-            (NumKey(8 * APART), 8),
-        ],
+        end: EIGHT_APART,
         power: 6,
     },
     Session {
         what: "the odd values of a bucket are gone, and two keys have room again",
         shape: FOUR_BUCKETS,
+        bound: &[(3, 31), (7, 70), (11, 110), (15, 151)],
         calls: &[
-            (Call::RetainEven, Reply::Count(0)),
-            (Call::Insert(3, 31), Reply::Fresh(true)),
-            (Call::Insert(7, 70), Reply::Fresh(true)),
-            (Call::Insert(11, 110), Reply::Fresh(true)),
-            (Call::Insert(15, 151), Reply::Fresh(true)),
             (Call::Insert(19, 190), Reply::Back(19, 190, Why::Full)),
             (Call::RetainEven, Reply::Count(2)),
             (Call::Len, Reply::Count(2)),
@@ -282,22 +256,14 @@ static SESSIONS: [Session; 8] = [
             (Call::Insert(23, 230), Reply::Fresh(true)),
             (Call::Insert(27, 270), Reply::Back(27, 270, Why::Full)),
         ],
-        end: &[
-            (NumKey(7), 70),
-            (NumKey(11), 110),
-            (NumKey(19), 191),
-            (NumKey(23), 230),
-        ],
+        end: &[(7, 70), (11, 110), (19, 191), (23, 230)],
         power: 2,
     },
     Session {
         what: "each stripe keeps its even values, and a table of odd ones is empty",
         shape: GROWING,
+        bound: &[(0, 1), (1, 2), (2, 4), (3, 3)],
         calls: &[
-            (Call::Insert(0, 1), Reply::Fresh(true)),
-            (Call::Insert(1, 2), Reply::Fresh(true)),
-            (Call::Insert(2, 4), Reply::Fresh(true)),
-            (Call::Insert(3, 3), Reply::Fresh(true)),
             (Call::RetainEven, Reply::Count(2)),
             (Call::RetainEven, Reply::Count(2)),
             (Call::Halve(1), Reply::Is(true)),
@@ -307,10 +273,20 @@ static SESSIONS: [Session; 8] = [
             (Call::IsEmpty, Reply::Is(true)),
             (Call::Insert(1, 6), Reply::Fresh(true)),
         ],
-        end: &[(NumKey(1), 6)],
+        end: &[(1, 6)],
         power: 2,
     },
 ];
+
+/// Binds these keys to these values. None of them is bound yet, and there is room for all.
+fn bind_all(rt: &impl Abort, locked: &mut NumLocked<'_>, pairs: &[(u64, u64)])
+    ensures { locked.new.caller ≡ locked.old.caller }
+{
+    for (key, value) in pairs {
+        let fresh = locked.insert(NumKey(*key), *value);
+        assert!(rt; matches!(fresh, Ok(true)), "key {key}");
+    }
+}
 
 fn make_calls(rt: &impl Abort, locked: &mut NumLocked<'_>, session: &Session)
     ensures { locked.new.caller ≡ locked.old.caller }
@@ -340,7 +316,7 @@ fn sums_all(rt: &impl Abort, locked: &NumLocked<'_>, session: &Session) {
     assert!(rt; count == locked.len(), "{what}: pairs of an iterator");
     let mut want: u64 = 0;
     for (key, value) in session.end {
-        want = want.wrapping_add(key.0).wrapping_add(*value);
+        want = want.wrapping_add(*key).wrapping_add(*value);
     }
     assert!(rt; sum == want, "{what}: sum of an iterator");
 }
@@ -355,6 +331,7 @@ fn pairs_of(
     let Ok(mut locked) = caller.lock() else {
         return Err(Fail::from("a table that was not locked"));
     };
+    bind_all(rt, &mut locked, session.bound);
     make_calls(rt, &mut locked, session);
     sums_all(rt, &locked, session);
     let pairs = locked.export(alloc);
@@ -367,7 +344,7 @@ fn check(rt: &impl Abort, alloc: Global, session: &Session) -> Result<(), Fail> 
     let what = session.what;
     let (table, first, second, _) = open(alloc, session.shape)?;
     let pairs = pairs_of(rt, alloc, table.caller(first), session)?;
-    assert!(rt; pairs.as_slice() == session.end, "{what}");
+    assert!(rt; are_pairs(&pairs, session.end), "{what}");
     let mut second = table.caller(second);
     let power = second.power();
     assert!(rt; power == Ok(session.power), "{what}");
@@ -381,17 +358,16 @@ fn check(rt: &impl Abort, alloc: Global, session: &Session) -> Result<(), Fail> 
 
 #[test]
 fn sessions(rt: HostRuntime) -> Result<(), Fail> {
-    for session in &SESSIONS {
-        check(&rt, rt.alloc(), session)?;
-    }
-    Ok(())
+    SESSIONS
+        .iter()
+        .try_for_each(|session| check(&rt, rt.alloc(), session))
 }
 
 fn finds_all(rt: &impl Abort, caller: &mut NumCaller<'_>, session: &Session) {
     let what = session.what;
     for (key, value) in session.end {
-        let found = caller.find(key);
-        assert!(rt; found == Ok(Some(*value)), "{what}: key {}", key.0);
+        let found = caller.find(&NumKey(*key));
+        assert!(rt; found == Ok(Some(*value)), "{what}: key {key}");
     }
 }
 
@@ -710,55 +686,31 @@ fn drain(
     rt: &impl Abort,
     alloc: Global,
     locked: &mut NumLocked<'_>,
-    bound: &[(NumKey, u64)],
+    bound: &[(u64, u64)],
 ) -> Result<Vec<(NumKey, u64)>, AllocError>
     ensures { locked.new.caller ≡ locked.old.caller }
 {
-    for (key, value) in bound {
-        let fresh = locked.insert(*key, *value);
-        assert!(rt; matches!(fresh, Ok(true)), "key {}", key.0);
-    }
+    bind_all(rt, locked, bound);
     let pairs = locked.drain(alloc)?;
     assert!(rt; locked.is_empty());
     for (key, _) in bound {
-        assert!(rt; !locked.contains(key), "key {}", key.0);
+        assert!(rt; !locked.contains(&NumKey(*key)), "key {key}");
     }
     Ok(pairs)
 }
-
-/// More keys than the table has slots when it is locked, in no order, and what they are bound to.
-static UNSORTED: [(NumKey, u64); 18] = [
-    (NumKey(9), 1),
-    (NumKey(40), 2),
-    (NumKey(3), 3),
-    (NumKey(700), 4),
-    (NumKey(0), 5),
-    (NumKey(8), 6),
-    (NumKey(1), 7),
-    (NumKey(31), 8),
-    (NumKey(2), 9),
-    (NumKey(16), 10),
-    (NumKey(25), 11),
-    (NumKey(5), 12),
-    (NumKey(64), 13),
-    (NumKey(4), 14),
-    (NumKey(90), 15),
-    (NumKey(7), 16),
-    (NumKey(12), 17),
-    (NumKey(6), 18),
-];
 
 /// Drains the table twice, and gives the pairs that came first.
 fn drain_twice(
     rt: &impl Abort,
     alloc: Global,
     caller: NumCaller<'_>,
+    bound: &[(u64, u64)],
 ) -> Result<Vec<(NumKey, u64)>, Fail> {
     let Ok(mut locked) = caller.lock() else {
         return Err(Fail::from("a table that was not locked"));
     };
-    let first = drain(rt, alloc, &mut locked, &UNSORTED);
-    let second = drain(rt, alloc, &mut locked, &UNSORTED);
+    let first = drain(rt, alloc, &mut locked, bound);
+    let second = drain(rt, alloc, &mut locked, bound);
     let fresh = locked.insert(NumKey(5), 50);
     assert!(rt; matches!(fresh, Ok(true)));
     let _caller = locked.unlock_caller();
@@ -767,14 +719,20 @@ fn drain_twice(
     Ok(first)
 }
 
+/// More keys than the table has slots when it is locked, in no order.
+static UNSORTED: [u64; 18] = [
+    9, 40, 3, 700, 0, 8, 1, 31, 2, 16, 25, 5, 64, 4, 90, 7, 12, 6,
+];
+
 /// What comes is sorted, and another caller finds what was bound afterwards. The table has grown
 /// once, and stays so.
 fn check_drained(rt: &impl Abort, alloc: Global) -> Result<(), Fail> {
     let (table, first, second, _) = open(alloc, GROWING)?;
-    let pairs = drain_twice(rt, alloc, table.caller(first))?;
-    let mut sorted = Vec::from_array(alloc, UNSORTED)?;
+    let bound = UNSORTED.map(|key| (key, 1000u64.saturating_sub(key)));
+    let pairs = drain_twice(rt, alloc, table.caller(first), &bound)?;
+    let mut sorted = Vec::from_array(alloc, bound)?;
     sorted.sort_unstable();
-    assert!(rt; pairs == sorted);
+    assert!(rt; are_pairs(&pairs, &sorted));
     let mut second = table.caller(second);
     let found = second.find(&NumKey(5));
     assert!(rt; found == Ok(Some(50)));

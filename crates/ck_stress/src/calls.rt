@@ -117,12 +117,7 @@ impl<'t, K: Key> Worker<'t, K> {
         let even = want.map(|value| value % 2 == 0);
         match self.caller.erase_fn(&key, |value| *value % 2 == 0) {
             Ok(erased) => {
-                self.notes.check(
-                    "erase_fn",
-                    number,
-                    erased.map(u64::from),
-                    even.map(u64::from),
-                );
+                self.notes.check_if_bound("erase_fn", number, erased, even);
                 if even == Some(true) {
                     self.notes.model.set(i, None);
                 }
@@ -156,12 +151,7 @@ impl<'t, K: Key> Worker<'t, K> {
         let right = want.map(|old| halved(&old).is_some());
         match self.caller.replace_if(&key, halved) {
             Ok(did) => {
-                self.notes.check(
-                    "replace_if",
-                    number,
-                    did.map(u64::from),
-                    right.map(u64::from),
-                );
+                self.notes.check_if_bound("replace_if", number, did, right);
                 if right == Some(true) {
                     self.notes.model.set(i, want.map(|old| old / 2));
                 }

@@ -59,6 +59,17 @@ impl Notes {
         self.check(what, key, Some(u64::from(got)), Some(u64::from(want)));
     }
 
+    /// The same of an answer that there is for a bound key alone.
+    pub fn check_if_bound(
+        &mut self,
+        what: &'static str,
+        key: u64,
+        got: Option<bool>,
+        want: Option<bool>,
+    ) {
+        self.check(what, key, got.map(u64::from), want.map(u64::from));
+    }
+
     /// Counts a call that was refused as busy.
     pub fn busy(&mut self) {
         self.tally.busy = self.tally.busy.saturating_add(1);

@@ -1,4 +1,7 @@
 //! A round: a new table, threads that call it, and a last look at what it has.
+ghost use Rattle.std.specs.Prelude.{IfOk};
+ghost use Rattle.cuckoo_map.specs.Closing.{AreAllPasses};
+
 use crate::audit::{audit, check_end};
 use crate::calls::{Caller, Worker};
 use crate::key::Key;
@@ -6,7 +9,7 @@ use crate::model::{ACCOUNTS, FUND, Model, account};
 use crate::notes::{Notes, Wrong};
 use crate::tally::Tally;
 use ck_key::{NumKey, TextKey};
-use cuckoo_map::{Settings, Table};
+use cuckoo_map::{Pass, Settings, Table};
 use std::alloc::{AllocError, Global};
 use std::io;
 use std::rt::Clock;
@@ -52,27 +55,31 @@ fn settings(plan: Plan) -> Settings {
 /// So many calls a thread makes between two looks at the clock, and between two sessions.
 const CALLS: u64 = 1024;
 
-/// Whether the thread goes on after so many calls.
-fn goes_on(rt: &impl Clock, stop: Stop, start: Instant, calls: u64) -> bool {
-    match stop {
-        Stop::AfterCalls(most) => calls < most,
-        Stop::AfterSecond => match start.elapsed(rt) {
-            Ok(time) => time.as_millis() < 1000,
-            Err(_) => false,
-        },
+/// When the threads of a round began, and when they end.
+#[derive(Clone, Copy)]
+struct Shift {
+    start: Instant,
+    stop: Stop,
+}
+
+impl Shift {
+    /// Whether a thread goes on after so many calls.
+    fn goes_on(self, rt: &impl Clock, calls: u64) -> bool {
+        match self.stop {
+            Stop::AfterCalls(most) => calls < most,
+            Stop::AfterSecond => match self.start.elapsed(rt) {
+                Ok(time) => time.as_millis() < 1000,
+                Err(_) => false,
+            },
+        }
     }
 }
 
 /// Makes the calls of a thread.
-fn work<'t, K: Key>(
-    rt: &impl Clock,
-    plan: Plan,
-    start: Instant,
-    worker: Worker<'t, K>,
-) -> Worker<'t, K> {
+fn work<'t, K: Key>(rt: &impl Clock, shift: Shift, worker: Worker<'t, K>) -> Worker<'t, K> {
     let mut worker = worker;
     for block in 0..u64::MAX / CALLS {
-        if worker.notes.wrong.is_some() || !goes_on(rt, plan.stop, start, block * CALLS) {
+        if worker.notes.wrong.is_some() || !shift.goes_on(rt, block * CALLS) {
             return worker;
         }
         for _ in 0..CALLS {
@@ -128,12 +135,15 @@ fn hire<'t, K: Key>(
     Ok(workers)
 }
 
+/// What all did in a round, or what was wrong in it.
+pub type Outcome = io::Result<Result<Tally, Wrong>>;
+
 /// The last look, when no thread is in a call: what all did, or what is wrong.
 fn look_at_end<K: Key>(
     alloc: Global,
     auditor: Caller<'_, K>,
     workers: &[Worker<'_, K>],
-) -> io::Result<Result<Tally, Wrong>> {
+) -> Outcome {
     let mut auditor = auditor;
     let power = auditor.power().unwrap_or(0);
     let Ok(locked) = auditor.lock() else {
@@ -168,82 +178,86 @@ fn look_at_end<K: Key>(
     }
 }
 
+/// Workers, and how long they work.
+struct Crew<'t, K: Key> {
+    shift: Shift,
+    workers: Vec<Worker<'t, K>>,
+}
+
+/// The workers at the end, where there was memory for their list.
+type Worked<'t, K> = Result<Vec<Worker<'t, K>>, AllocError>;
+
+/// The table of a round, and the passes of all its callers.
+fn open<K: Key>(alloc: Global, plan: Plan) -> io::Result<(Table<K, u64>, Vec<Pass<K, u64>>)>
+    ensures { IfOk result (λ r. AreAllPasses r.0 r.1.items) }
+{
+    match Table::open(alloc, settings(plan)) {
+        Ok(opened) => Ok(opened),
+        Err(_) => Err(io::ErrorKind::OutOfMemory.into()),
+    }
+}
+
 /// Whoever looks last, and the workers, once the accounts are open.
 fn begin<'t, K: Key>(
+    rt: &impl Clock,
     alloc: Global,
-    seed: u64,
-    mut callers: Vec<Caller<'t, K>>,
-) -> io::Result<(Caller<'t, K>, Vec<Worker<'t, K>>)> {
+    plan: Plan,
+    table: &'t Table<K, u64>,
+    passes: Vec<Pass<K, u64>>,
+) -> io::Result<(Caller<'t, K>, Crew<'t, K>)>
+    requires { AreAllPasses table.now passes.items }
+{
+    let Ok(mut callers) = table.callers(alloc, passes) else {
+        return Err(io::ErrorKind::OutOfMemory.into());
+    };
     let Some(mut auditor) = callers.pop() else {
         return Err(io::ErrorKind::InvalidInput.into());
     };
     fund(alloc, &mut auditor)?;
-    let workers = hire(alloc, seed, callers)?;
-    Ok((auditor, workers))
+    let workers = hire(alloc, plan.seed, callers)?;
+    let shift = Shift {
+        start: Instant::now(rt)?,
+        stop: plan.stop,
+    };
+    Ok((auditor, Crew { shift, workers }))
 }
 
 // The threads start in a function for each type of keys: of one for all the prover has no proof.
 
 /// Makes a round with numbers as keys, each worker in a thread of its own.
-fn run_numbers<R: Threads + Clock + Sync>(
-    rt: &R,
-    alloc: Global,
-    plan: Plan,
-) -> io::Result<Result<Tally, Wrong>> {
-    let Ok((table, passes)) = Table::<NumKey, u64>::open(alloc, settings(plan)) else {
-        return Err(io::ErrorKind::OutOfMemory.into());
-    };
-    let Ok(callers) = table.callers(alloc, passes) else {
-        return Err(io::ErrorKind::OutOfMemory.into());
-    };
-    let (auditor, workers) = begin(alloc, plan.seed, callers)?;
-    let start = Instant::now(rt)?;
-    let workers = work_on_numbers(rt, plan, start, workers)?;
+fn run_numbers<R: Threads + Clock + Sync>(rt: &R, alloc: Global, plan: Plan) -> Outcome {
+    let (table, passes) = open::<NumKey>(alloc, plan)?;
+    let (auditor, crew) = begin(rt, alloc, plan, &table, passes)?;
+    let workers = work_on_numbers(rt, crew)?;
     look_at_end(alloc, auditor, &workers)
 }
 
-fn work_on_numbers<'t, R: Threads + Clock + Sync>(
-    rt: &R,
-    plan: Plan,
-    start: Instant,
-    workers: Vec<Worker<'t, NumKey>>,
-) -> Result<Vec<Worker<'t, NumKey>>, AllocError> {
-    thread::map_vec(rt, workers, &|worker| work(rt, plan, start, worker))
-}
-
-/// Makes a round with texts as keys, each worker in a thread of its own.
-fn run_texts<R: Threads + Clock + Sync>(
-    rt: &R,
-    alloc: Global,
-    plan: Plan,
-) -> io::Result<Result<Tally, Wrong>> {
-    let Ok((table, passes)) = Table::<TextKey, u64>::open(alloc, settings(plan)) else {
-        return Err(io::ErrorKind::OutOfMemory.into());
-    };
-    let Ok(callers) = table.callers(alloc, passes) else {
-        return Err(io::ErrorKind::OutOfMemory.into());
-    };
-    let (auditor, workers) = begin(alloc, plan.seed, callers)?;
-    let start = Instant::now(rt)?;
-    let workers = work_on_texts(rt, plan, start, workers)?;
+/// The same with texts as keys.
+fn run_texts<R: Threads + Clock + Sync>(rt: &R, alloc: Global, plan: Plan) -> Outcome {
+    let (table, passes) = open::<TextKey>(alloc, plan)?;
+    let (auditor, crew) = begin(rt, alloc, plan, &table, passes)?;
+    let workers = work_on_texts(rt, crew)?;
     look_at_end(alloc, auditor, &workers)
 }
 
-fn work_on_texts<'t, R: Threads + Clock + Sync>(
-    rt: &R,
-    plan: Plan,
-    start: Instant,
-    workers: Vec<Worker<'t, TextKey>>,
-) -> Result<Vec<Worker<'t, TextKey>>, AllocError> {
-    thread::map_vec(rt, workers, &|worker| work(rt, plan, start, worker))
+fn work_on_numbers<'t, R>(rt: &R, crew: Crew<'t, NumKey>) -> Worked<'t, NumKey>
+where
+    R: Clock + Threads + Sync,
+{
+    let Crew { shift, workers } = crew;
+    thread::map_vec(rt, workers, &|worker| work(rt, shift, worker))
+}
+
+fn work_on_texts<'t, R>(rt: &R, crew: Crew<'t, TextKey>) -> Worked<'t, TextKey>
+where
+    R: Clock + Threads + Sync,
+{
+    let Crew { shift, workers } = crew;
+    thread::map_vec(rt, workers, &|worker| work(rt, shift, worker))
 }
 
 /// Makes a round, every third with texts as keys, and says what was done in it, or what was wrong.
-pub fn run_round<R: Threads + Clock + Sync>(
-    rt: &R,
-    alloc: Global,
-    plan: Plan,
-) -> io::Result<Result<Tally, Wrong>> {
+pub fn run_round<R: Threads + Clock + Sync>(rt: &R, alloc: Global, plan: Plan) -> Outcome {
     if plan.seed % 3 == 2 {
         run_texts(rt, alloc, plan)
     } else {

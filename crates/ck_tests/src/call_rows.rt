@@ -4,7 +4,10 @@ ghost use Rattle.std.specs.Prelude.{◌≡◌};
 ghost use Rattle.cuckoo_map.specs.Callers.{IsSameCaller};
 
 use crate::callers::{Call, Reply, answer};
-use ck_fixtures::{APART, GROWING, NumCaller, SIXTEEN_BUCKETS, Shape, close, open};
+use ck_fixtures::{
+    APART, EIGHT_APART, GROWING, NumCaller, SIXTEEN_BUCKETS, Shape, are_pairs, bind_all, close,
+    open,
+};
 use ck_key::NumKey;
 use cuckoo_map::{Uprased, Why};
 use std::alloc::Global;
@@ -13,6 +16,8 @@ use std::test::Fail;
 
 #[derive(Clone, Copy)]
 enum Step {
+    /// The first caller binds these keys to these values.
+    Bind(&'static [(u64, u64)]),
     /// The first caller makes the call, and gets the reply.
     First(Call, Reply),
     /// The second caller makes the call, and gets the reply.
@@ -25,25 +30,17 @@ enum Step {
     Power(u32),
 }
 
-/// A table of a shape, steps on it, and the pairs that it has at its end.
+/// Steps on a table, and the pairs that it has at its end.
 #[derive(Clone, Copy)]
 struct Run {
     what: &'static str,
-    shape: Shape,
     steps: &'static [Step],
-    end: &'static [(NumKey, u64)],
+    end: &'static [(u64, u64)],
 }
 
 /// Keys whose partial is 0 and whose buckets are 0 and the last bits of one number, at each power.
 const ONE_PAIR_OF_BUCKETS: &[Step] = &[
-    Step::First(Call::Insert(APART, 1), Reply::Fresh(true)),
-    Step::First(Call::Insert(2 * APART, 2), Reply::Fresh(true)),
-    Step::First(Call::Insert(3 * APART, 3), Reply::Fresh(true)),
-    Step::First(Call::Insert(4 * APART, 4), Reply::Fresh(true)),
-    Step::First(Call::Insert(5 * APART, 5), Reply::Fresh(true)),
-    Step::First(Call::Insert(6 * APART, 6), Reply::Fresh(true)),
-    Step::First(Call::Insert(7 * APART, 7), Reply::Fresh(true)),
-    Step::First(Call::Insert(8 * APART, 8), Reply::Fresh(true)),
+    Step::Bind(EIGHT_APART),
     Step::Power(2),
     // It grows until 8 entries are fewer than a twentieth of its slots.
     Step::First(
@@ -73,10 +70,10 @@ const ONE_PAIR_OF_BUCKETS: &[Step] = &[
     ),
 ];
 
-static RUNS: [Run; 11] = [
+/// On a table of sixteen buckets.
+static RUNS: [Run; 6] = [
     Run {
         what: "after they met, one caller finds what the other has bound",
-        shape: SIXTEEN_BUCKETS,
         steps: &[
             Step::First(Call::Insert(1, 10), Reply::Fresh(true)),
             Step::Meet,
@@ -84,11 +81,10 @@ static RUNS: [Run; 11] = [
             Step::Second(Call::Insert(1, 20), Reply::Fresh(false)),
             Step::Second(Call::Find(1), Reply::Was(Some(10))),
         ],
-        end: &[(NumKey(1), 10)],
+        end: &[(1, 10)],
     },
     Run {
         what: "closures on bound keys",
-        shape: SIXTEEN_BUCKETS,
         steps: &[
             Step::First(Call::Insert(5, 50), Reply::Fresh(true)),
             Step::First(Call::FindTenth(5), Reply::Was(Some(5))),
@@ -99,34 +95,19 @@ static RUNS: [Run; 11] = [
             Step::First(Call::EraseWithin(5, 52, 52), Reply::Gone(Some(true))),
             Step::First(Call::EraseWithin(5, 52, 52), Reply::Gone(None)),
             Step::First(Call::Find(6), Reply::Was(Some(9))),
+            // One may decline.
+            Step::First(Call::TakeIf(6, 4), Reply::Replaced(Some(true))),
+            Step::First(Call::TakeIf(6, 6), Reply::Replaced(Some(false))),
+            Step::First(Call::Find(6), Reply::Was(Some(5))),
+            // One may fail, and gives a value back nonetheless.
+            Step::First(Call::TryTake(6, 2), Reply::Tried(Some(Ok(())))),
+            Step::First(Call::Find(6), Reply::Was(Some(3))),
+            Step::First(Call::TryTake(6, 4), Reply::Tried(Some(Err(1)))),
         ],
-        end: &[(NumKey(6), 9)],
-    },
-    Run {
-        what: "a closure that may decline",
-        shape: SIXTEEN_BUCKETS,
-        steps: &[
-            Step::First(Call::Insert(5, 50), Reply::Fresh(true)),
-            Step::First(Call::TakeIf(5, 20), Reply::Replaced(Some(true))),
-            Step::First(Call::TakeIf(5, 31), Reply::Replaced(Some(false))),
-            Step::First(Call::Find(5), Reply::Was(Some(30))),
-        ],
-        end: &[(NumKey(5), 30)],
-    },
-    Run {
-        what: "a closure that may fail, and gives a value back nonetheless",
-        shape: SIXTEEN_BUCKETS,
-        steps: &[
-            Step::First(Call::Insert(5, 50), Reply::Fresh(true)),
-            Step::First(Call::TryTake(5, 20), Reply::Tried(Some(Ok(())))),
-            Step::First(Call::Find(5), Reply::Was(Some(30))),
-            Step::First(Call::TryTake(5, 31), Reply::Tried(Some(Err(1)))),
-        ],
-        end: &[(NumKey(5), 0)],
+        end: &[(6, 0)],
     },
     Run {
         what: "no closure is called for an unbound key",
-        shape: SIXTEEN_BUCKETS,
         steps: &[
             Step::First(Call::UpdateFn(5), Reply::Updated(false, false)),
             Step::First(Call::FindTenth(5), Reply::Was(None)),
@@ -139,17 +120,18 @@ static RUNS: [Run; 11] = [
     },
     Run {
         what: "a closure makes the value of an unbound key alone",
-        shape: SIXTEEN_BUCKETS,
         steps: &[
             Step::First(Call::InsertWith(5, 50), Reply::Fresh(true)),
             Step::First(Call::InsertWith(5, 60), Reply::Fresh(false)),
             Step::First(Call::Find(5), Reply::Was(Some(50))),
+            // One tells which value is bound then.
+            Step::First(Call::GetOrInsertWith(6, 60), Reply::Got(60, true)),
+            Step::First(Call::GetOrInsertWith(6, 70), Reply::Got(60, false)),
         ],
-        end: &[(NumKey(5), 50)],
+        end: &[(5, 50), (6, 60)],
     },
     Run {
         what: "a closure changes a bound key or unbinds it",
-        shape: SIXTEEN_BUCKETS,
         steps: &[
             Step::First(Call::Uprase(5, 1), Reply::Uprased(Uprased::New)),
             Step::First(Call::Uprase(5, 7), Reply::Uprased(Uprased::Changed)),
@@ -158,31 +140,24 @@ static RUNS: [Run; 11] = [
             Step::First(Call::Contains(5), Reply::Bound(false)),
             Step::First(Call::Uprase(6, 7), Reply::Uprased(Uprased::New)),
         ],
-        end: &[(NumKey(6), 7)],
+        end: &[(6, 7)],
     },
     Run {
         what: "a closure that fails gives back a value too",
-        shape: SIXTEEN_BUCKETS,
         steps: &[
             Step::First(Call::TryUpsert(5, 1), Reply::Ended(Ok(true))),
             Step::First(Call::TryUpsert(5, 60), Reply::Ended(Ok(false))),
             Step::First(Call::Find(5), Reply::Was(Some(0))),
             Step::First(Call::TryUpsert(5, 60), Reply::Ended(Err(7))),
         ],
-        end: &[(NumKey(5), 100)],
+        end: &[(5, 100)],
     },
-    Run {
-        what: "the value is what a closure makes where the key was unbound",
-        shape: SIXTEEN_BUCKETS,
-        steps: &[
-            Step::First(Call::GetOrInsertWith(5, 50), Reply::Got(50, true)),
-            Step::First(Call::GetOrInsertWith(5, 60), Reply::Got(50, false)),
-        ],
-        end: &[(NumKey(5), 50)],
-    },
+];
+
+/// The same on a table of four buckets, which may grow.
+static RUNS_THAT_GROW: [Run; 2] = [
     Run {
         what: "the table grows rather than that these keys share one bucket",
-        shape: GROWING,
         steps: &[
             Step::First(Call::Insert(3, 30), Reply::Fresh(true)),
             Step::First(Call::InsertOrAssign(7, 70), Reply::Was(None)),
@@ -192,38 +167,31 @@ static RUNS: [Run; 11] = [
             Step::First(Call::Insert(19, 190), Reply::Fresh(true)),
             Step::Power(3),
         ],
-        end: &[
-            (NumKey(3), 30),
-            (NumKey(7), 70),
-            (NumKey(11), 110),
-            (NumKey(15), 150),
-            (NumKey(19), 190),
-        ],
+        end: &[(3, 30), (7, 70), (11, 110), (15, 150), (19, 190)],
     },
     Run {
         what: "growth that is of no avail ends with the load",
-        shape: GROWING,
         steps: ONE_PAIR_OF_BUCKETS,
-        end: &[
-            (NumKey(APART), 1),
-            (NumKey(2 * APART), 2),
-            (NumKey(3 * APART), 3),
-            (NumKey(4 * APART), 4),
-            (NumKey(5 * APART), 5),
-            (NumKey(6 * APART), 6),
-            (NumKey(7 * APART), 7),
-            (NumKey(8 * APART), 8),
-        ],
+        end: EIGHT_APART,
     },
 ];
 
 /// Takes the step, and says whether the reply was the wanted one.
-fn take_step<'t>(first: &mut NumCaller<'t>, second: &mut NumCaller<'t>, step: Step) -> bool
+fn take_step<'t>(
+    rt: &impl Abort,
+    first: &mut NumCaller<'t>,
+    second: &mut NumCaller<'t>,
+    step: Step,
+) -> bool
     requires { first.old.table ≡ second.old.table }
     ensures first { IsSameCaller first.old first.new }
     ensures second { IsSameCaller second.old second.new }
 {
     match step {
+        Step::Bind(pairs) => {
+            bind_all(rt, first, pairs);
+            true
+        }
         Step::First(call, want) => answer(first, call) == want,
         Step::Second(call, want) => answer(second, call) == want,
         Step::Meet => {
@@ -246,25 +214,39 @@ fn take_steps<'t>(rt: &impl Abort, first: &mut NumCaller<'t>, second: &mut NumCa
 {
     let what = run.what;
     for (number, step) in run.steps.iter().enumerate() {
-        let as_wanted = take_step(first, second, *step);
+        let as_wanted = take_step(rt, first, second, *step);
         assert!(rt; as_wanted, "{what}: step {number}");
     }
 }
 
-/// The pairs at the end of the run.
-fn end_of(rt: &impl Abort, alloc: Global, run: &Run) -> Result<Vec<(NumKey, u64)>, Fail> {
-    let (table, first, second, third) = open(alloc, run.shape)?;
+/// The pairs at the end of the run on a table of this shape.
+fn end_of(
+    rt: &impl Abort,
+    alloc: Global,
+    shape: Shape,
+    run: &Run,
+) -> Result<Vec<(NumKey, u64)>, Fail> {
+    let (table, first, second, third) = open(alloc, shape)?;
     let (mut first, mut second) = (table.caller(first), table.caller(second));
     take_steps(rt, &mut first, &mut second, run);
     let (first, second) = (first.into_pass(), second.into_pass());
     close(alloc, table, first, second, third)
 }
 
-#[test]
-fn runs(rt: HostRuntime) -> Result<(), Fail> {
-    for run in &RUNS {
-        let end = end_of(&rt, rt.alloc(), run)?;
-        assert!(rt; end.as_slice() == run.end, "{}", run.what);
+fn check_runs(rt: &impl Abort, alloc: Global, shape: Shape, runs: &[Run]) -> Result<(), Fail> {
+    for run in runs {
+        let end = end_of(rt, alloc, shape, run)?;
+        assert!(rt; are_pairs(&end, run.end), "{}", run.what);
     }
     Ok(())
+}
+
+#[test]
+fn runs(rt: HostRuntime) -> Result<(), Fail> {
+    check_runs(&rt, rt.alloc(), SIXTEEN_BUCKETS, &RUNS)
+}
+
+#[test]
+fn runs_that_grow(rt: HostRuntime) -> Result<(), Fail> {
+    check_runs(&rt, rt.alloc(), GROWING, &RUNS_THAT_GROW)
 }

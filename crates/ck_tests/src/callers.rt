@@ -1,9 +1,10 @@
 //! Calls on a table and their replies, as data.
 ghost use Rattle.cuckoo_map.specs.Callers.{IsSameCaller};
 
-use ck_fixtures::NumCaller;
+use ck_fixtures::{NumCaller, count, read};
 use ck_key::NumKey;
-use cuckoo_map::{Refused, Uprased, Why};
+use cuckoo_map::{Busy, Refused, Uprased, Why};
+use std::sync::atomic::AtomicU64;
 
 /// A call on a key.
 #[derive(Clone, Copy)]
@@ -71,145 +72,124 @@ pub enum Reply {
     CalledInVain,
 }
 
-// The reply of a call that has no use for its closure.
-fn uncalled(called: bool, reply: Reply) -> Reply {
-    if called { Reply::CalledInVain } else { reply }
+/// How often a closure was called.
+#[derive(Drop)]
+struct Watch {
+    calls: AtomicU64,
 }
 
-fn both_back(refused: Refused<NumKey, u64>) -> Reply {
-    Reply::BothBack(refused.key.0, refused.value, refused.why)
+impl Watch {
+    fn new() -> Self {
+        Watch {
+            calls: AtomicU64::new(0),
+        }
+    }
+
+    /// What the closure answers when it is called.
+    fn note<T>(&self, answer: T) -> T {
+        count(&self.calls);
+        answer
+    }
+
+    /// The reply of a call that has a use for its closure, or has none.
+    fn reply(&self, has_use: bool, reply: Reply) -> Reply {
+        if read(&self.calls) == 0 || has_use {
+            reply
+        } else {
+            Reply::CalledInVain
+        }
+    }
 }
 
-fn find(caller: &mut NumCaller<'_>, key: u64) -> Reply
-    ensures { IsSameCaller caller.old caller.new }
+/// The reply of a call that may be refused for a stripe alone.
+fn answered<T, F: FnOnce(T) -> Reply + Drop>(outcome: Result<T, Busy>, reply: F) -> Reply
+    requires { F.IsAlwaysCallable reply }
 {
-    match caller.find(&NumKey(key)) {
-        Ok(value) => Reply::Was(value),
+    match outcome {
+        Ok(answer) => reply(answer),
         Err(busy) => Reply::Busy(busy.0),
+    }
+}
+
+/// The reply of a call that may bind the key to this value.
+fn placed<T, F: FnOnce(T) -> Reply + Drop>(
+    outcome: Result<T, Refused<NumKey, u64>>,
+    reply: F,
+) -> Reply
+    requires { F.IsAlwaysCallable reply }
+{
+    match outcome {
+        Ok(answer) => reply(answer),
+        Err(Refused { key, value, why }) => Reply::BothBack(key.0, value, why),
+    }
+}
+
+/// The reply of a call that may bind the key to what its closure makes.
+fn placed_with<T, V: Drop, F: FnOnce(T) -> Reply + Drop>(
+    outcome: Result<T, Refused<NumKey, V>>,
+    reply: F,
+) -> Reply
+    requires { F.IsAlwaysCallable reply }
+{
+    match outcome {
+        Ok(answer) => reply(answer),
+        Err(Refused { key, why, .. }) => Reply::KeyBack(key.0, why),
     }
 }
 
 fn find_tenth(caller: &mut NumCaller<'_>, key: u64) -> Reply
     ensures { IsSameCaller caller.old caller.new }
 {
-    let mut called = false;
-    let tenth = |value: &u64| {
-        called = true;
-        *value / 10
-    };
-    match caller.find_fn(&NumKey(key), tenth) {
-        Ok(Some(tenth)) => Reply::Was(Some(tenth)),
-        Ok(None) => uncalled(called, Reply::Was(None)),
-        Err(busy) => uncalled(called, Reply::Busy(busy.0)),
-    }
-}
-
-fn contains(caller: &mut NumCaller<'_>, key: u64) -> Reply
-    ensures { IsSameCaller caller.old caller.new }
-{
-    match caller.contains(&NumKey(key)) {
-        Ok(true) => Reply::Bound(true),
-        Ok(false) => Reply::Bound(false),
-        Err(busy) => Reply::Busy(busy.0),
-    }
-}
-
-fn insert(caller: &mut NumCaller<'_>, key: u64, value: u64) -> Reply
-    ensures { IsSameCaller caller.old caller.new }
-{
-    match caller.insert(NumKey(key), value) {
-        Ok(fresh) => Reply::Fresh(fresh),
-        Err(refused) => both_back(refused),
-    }
-}
-
-fn insert_or_assign(caller: &mut NumCaller<'_>, key: u64, value: u64) -> Reply
-    ensures { IsSameCaller caller.old caller.new }
-{
-    match caller.insert_or_assign(NumKey(key), value) {
-        Ok(old) => Reply::Was(old),
-        Err(refused) => both_back(refused),
-    }
+    let watch = Watch::new();
+    let tenth = caller.find_fn(&NumKey(key), |value| watch.note(*value / 10));
+    watch.reply(matches!(tenth, Ok(Some(_))), answered(tenth, Reply::Was))
 }
 
 fn upsert(caller: &mut NumCaller<'_>, key: u64, value: u64) -> Reply
     ensures { IsSameCaller caller.old caller.new }
 {
-    let mut called = false;
-    let add = |old: u64| {
-        called = true;
-        old.saturating_add(1)
-    };
-    match caller.upsert(NumKey(key), add, value) {
-        Ok(true) => uncalled(called, Reply::Fresh(true)),
-        Ok(false) => Reply::Fresh(false),
-        Err(refused) => uncalled(called, both_back(refused)),
-    }
+    let watch = Watch::new();
+    let add = |old: u64| watch.note(old.saturating_add(1));
+    let fresh = caller.upsert(NumKey(key), add, value);
+    watch.reply(matches!(fresh, Ok(false)), placed(fresh, Reply::Fresh))
 }
 
 fn insert_with(caller: &mut NumCaller<'_>, key: u64, value: u64) -> Reply
     ensures { IsSameCaller caller.old caller.new }
 {
-    let mut called = false;
-    let make = || {
-        called = true;
-        value
-    };
-    match caller.insert_with(NumKey(key), make) {
-        Ok(true) => Reply::Fresh(true),
-        Ok(false) => uncalled(called, Reply::Fresh(false)),
-        Err(refused) => {
-            let Refused { key, why, .. } = refused;
-            uncalled(called, Reply::KeyBack(key.0, why))
-        }
-    }
+    let watch = Watch::new();
+    let fresh = caller.insert_with(NumKey(key), || watch.note(value));
+    watch.reply(matches!(fresh, Ok(true)), placed_with(fresh, Reply::Fresh))
 }
 
 fn uprase(caller: &mut NumCaller<'_>, key: u64, value: u64) -> Reply
     ensures { IsSameCaller caller.old caller.new }
 {
-    let mut called = false;
-    let take = |old: u64| {
-        called = true;
-        old.checked_sub(1)
-    };
-    match caller.uprase(NumKey(key), take, value) {
-        Ok(Uprased::New) => uncalled(called, Reply::Uprased(Uprased::New)),
-        Ok(uprased) => Reply::Uprased(uprased),
-        Err(refused) => uncalled(called, both_back(refused)),
-    }
+    let watch = Watch::new();
+    let take = |old: u64| watch.note(old.checked_sub(1));
+    let uprased = caller.uprase(NumKey(key), take, value);
+    let was_bound = matches!(uprased, Ok(Uprased::Changed | Uprased::Erased));
+    watch.reply(was_bound, placed(uprased, Reply::Uprased))
 }
 
 fn try_upsert(caller: &mut NumCaller<'_>, key: u64, value: u64) -> Reply
     ensures { IsSameCaller caller.old caller.new }
 {
-    let mut called = false;
-    let take_one = |left: u64| {
-        called = true;
-        left.checked_sub(1).ok_or((100, 7))
-    };
-    match caller.try_upsert(NumKey(key), take_one, value) {
-        Ok(Ok(true)) => uncalled(called, Reply::Ended(Ok(true))),
-        Ok(ended) => Reply::Ended(ended),
-        Err(refused) => uncalled(called, both_back(refused)),
-    }
+    let watch = Watch::new();
+    let take_one = |left: u64| watch.note(left.checked_sub(1).ok_or((100, 7)));
+    let ended = caller.try_upsert(NumKey(key), take_one, value);
+    let was_bound = matches!(ended, Ok(Ok(false) | Err(_)));
+    watch.reply(was_bound, placed(ended, Reply::Ended))
 }
 
 fn get_or_insert_with(caller: &mut NumCaller<'_>, key: u64, value: u64) -> Reply
     ensures { IsSameCaller caller.old caller.new }
 {
-    let mut called = false;
-    let make = || {
-        called = true;
-        value
-    };
-    match caller.get_or_insert_with(NumKey(key), make) {
-        Ok(value) => Reply::Got(value, called),
-        Err(refused) => {
-            let Refused { key, why, .. } = refused;
-            uncalled(called, Reply::KeyBack(key.0, why))
-        }
-    }
+    let watch = Watch::new();
+    let got = caller.get_or_insert_with(NumKey(key), || watch.note(value));
+    let is_answered = got.is_ok();
+    let reply = placed_with(got, |value| Reply::Got(value, read(&watch.calls) > 0));
+    watch.reply(is_answered, reply)
 }
 
 fn update(caller: &mut NumCaller<'_>, key: u64, value: u64) -> Reply
@@ -224,73 +204,48 @@ fn update(caller: &mut NumCaller<'_>, key: u64, value: u64) -> Reply
 fn update_fn(caller: &mut NumCaller<'_>, key: u64) -> Reply
     ensures { IsSameCaller caller.old caller.new }
 {
-    let mut called = false;
-    let add = |old: u64| {
-        called = true;
-        old.saturating_add(1)
-    };
-    match caller.update_fn(&NumKey(key), add) {
-        Ok(true) => Reply::Updated(true, called),
-        Ok(false) => Reply::Updated(false, called),
-        Err(busy) => uncalled(called, Reply::Busy(busy.0)),
-    }
-}
-
-fn erase(caller: &mut NumCaller<'_>, key: u64) -> Reply
-    ensures { IsSameCaller caller.old caller.new }
-{
-    match caller.erase(&NumKey(key)) {
-        Ok(old) => Reply::Was(old),
-        Err(busy) => Reply::Busy(busy.0),
-    }
+    let watch = Watch::new();
+    let add = |old: u64| watch.note(old.saturating_add(1));
+    let bound = caller.update_fn(&NumKey(key), add);
+    let is_answered = bound.is_ok();
+    let reply = answered(bound, |bound| Reply::Updated(bound, read(&watch.calls) > 0));
+    watch.reply(is_answered, reply)
 }
 
 fn erase_within(caller: &mut NumCaller<'_>, key: u64, low: u64, high: u64) -> Reply
     ensures { IsSameCaller caller.old caller.new }
 {
-    let mut called = false;
-    let within = |value: &u64| {
-        called = true;
-        low <= *value && *value <= high
-    };
-    match caller.erase_fn(&NumKey(key), within) {
-        Ok(Some(gone)) => Reply::Gone(Some(gone)),
-        Ok(None) => uncalled(called, Reply::Gone(None)),
-        Err(busy) => uncalled(called, Reply::Busy(busy.0)),
-    }
+    let watch = Watch::new();
+    let within = |value: &u64| watch.note(low <= *value && *value <= high);
+    let gone = caller.erase_fn(&NumKey(key), within);
+    watch.reply(matches!(gone, Ok(Some(_))), answered(gone, Reply::Gone))
 }
 
 fn take_if(caller: &mut NumCaller<'_>, key: u64, count: u64) -> Reply
     ensures { IsSameCaller caller.old caller.new }
 {
-    let mut called = false;
-    let take = |value: &u64| {
-        called = true;
-        value.checked_sub(count)
-    };
-    match caller.replace_if(&NumKey(key), take) {
-        Ok(Some(replaced)) => Reply::Replaced(Some(replaced)),
-        Ok(None) => uncalled(called, Reply::Replaced(None)),
-        Err(busy) => uncalled(called, Reply::Busy(busy.0)),
-    }
+    let watch = Watch::new();
+    let take = |value: &u64| watch.note(value.checked_sub(count));
+    let replaced = caller.replace_if(&NumKey(key), take);
+    watch.reply(
+        matches!(replaced, Ok(Some(_))),
+        answered(replaced, Reply::Replaced),
+    )
+}
+
+/// So much less, or nothing and how much is lacking.
+fn less(value: u64, count: u64) -> Result<u64, (u64, u64)> {
+    value
+        .checked_sub(count)
+        .ok_or((0, count.saturating_sub(value)))
 }
 
 fn try_take(caller: &mut NumCaller<'_>, key: u64, count: u64) -> Reply
     ensures { IsSameCaller caller.old caller.new }
 {
-    let mut called = false;
-    let take = |value: u64| {
-        called = true;
-        match value.checked_sub(count) {
-            Some(left) => Ok(left),
-            None => Err((0, count.saturating_sub(value))),
-        }
-    };
-    match caller.try_update(&NumKey(key), take) {
-        Ok(Some(outcome)) => Reply::Tried(Some(outcome)),
-        Ok(None) => uncalled(called, Reply::Tried(None)),
-        Err(busy) => uncalled(called, Reply::Busy(busy.0)),
-    }
+    let watch = Watch::new();
+    let tried = caller.try_update(&NumKey(key), |value| watch.note(less(value, count)));
+    watch.reply(matches!(tried, Ok(Some(_))), answered(tried, Reply::Tried))
 }
 
 fn transfer(caller: &mut NumCaller<'_>, from: u64, to: u64) -> Reply
@@ -299,17 +254,13 @@ fn transfer(caller: &mut NumCaller<'_>, from: u64, to: u64) -> Reply
     if from == to {
         return Reply::Bound(false);
     }
-    let mut called = false;
+    let watch = Watch::new();
     let move_one = |less: u64, more: u64| {
-        called = true;
         let moved = less.min(1);
-        (less - moved, more.saturating_add(moved))
+        watch.note((less - moved, more.saturating_add(moved)))
     };
-    match caller.update_two(&NumKey(from), &NumKey(to), move_one) {
-        Ok(true) => Reply::Bound(true),
-        Ok(false) => uncalled(called, Reply::Bound(false)),
-        Err(busy) => uncalled(called, Reply::Busy(busy.0)),
-    }
+    let both = caller.update_two(&NumKey(from), &NumKey(to), move_one);
+    watch.reply(both == Ok(true), answered(both, Reply::Bound))
 }
 
 /// Makes the call.
@@ -317,11 +268,13 @@ pub fn answer(caller: &mut NumCaller<'_>, call: Call) -> Reply
     ensures { IsSameCaller caller.old caller.new }
 {
     match call {
-        Call::Find(key) => find(caller, key),
+        Call::Find(key) => answered(caller.find(&NumKey(key)), Reply::Was),
         Call::FindTenth(key) => find_tenth(caller, key),
-        Call::Contains(key) => contains(caller, key),
-        Call::Insert(key, value) => insert(caller, key, value),
-        Call::InsertOrAssign(key, value) => insert_or_assign(caller, key, value),
+        Call::Contains(key) => answered(caller.contains(&NumKey(key)), Reply::Bound),
+        Call::Insert(key, value) => placed(caller.insert(NumKey(key), value), Reply::Fresh),
+        Call::InsertOrAssign(key, value) => {
+            placed(caller.insert_or_assign(NumKey(key), value), Reply::Was)
+        }
         Call::Upsert(key, value) => upsert(caller, key, value),
         Call::TryUpsert(key, value) => try_upsert(caller, key, value),
         Call::InsertWith(key, value) => insert_with(caller, key, value),
@@ -329,7 +282,7 @@ pub fn answer(caller: &mut NumCaller<'_>, call: Call) -> Reply
         Call::GetOrInsertWith(key, value) => get_or_insert_with(caller, key, value),
         Call::Update(key, value) => update(caller, key, value),
         Call::UpdateFn(key) => update_fn(caller, key),
-        Call::Erase(key) => erase(caller, key),
+        Call::Erase(key) => answered(caller.erase(&NumKey(key)), Reply::Was),
         Call::EraseWithin(key, low, high) => erase_within(caller, key, low, high),
         Call::TakeIf(key, count) => take_if(caller, key, count),
         Call::TryTake(key, count) => try_take(caller, key, count),

@@ -39,27 +39,38 @@ enum Subject {
     WordsClosing,
 }
 
-fn make_key(rt: &impl Abort, alloc: Global) -> End {
-    match TextKey::new(
-        alloc,
-        b"0123456789012345678901234567890123456789012345678901234567891234",
-    ) {
+/// How a call ended that is refused only for want of memory, which is this fault.
+fn end_of<T: Drop, F: PartialEq + Drop>(rt: &impl Abort, outcome: Result<T, F>, memory: F) -> End {
+    match outcome {
         Ok(_) => End::Done,
         Err(fault) => {
-            assert!(rt; fault == KeyFault::Memory);
+            assert!(rt; fault == memory);
             End::Refused
         }
     }
 }
 
-fn open(rt: &impl Abort, alloc: Global) -> End {
-    match NumTable::open(alloc, SETTINGS) {
-        Ok(_) => End::Done,
-        Err(fault) => {
-            assert!(rt; fault == OpenFault::Memory);
+/// How a call ended that gives so many when it is done, and so many back when it is refused.
+fn counted(rt: &impl Abort, outcome: Result<usize, usize>, given: usize, back: usize) -> End {
+    match outcome {
+        Ok(count) => {
+            assert!(rt; count == given);
+            End::Done
+        }
+        Err(count) => {
+            assert!(rt; count == back);
             End::Refused
         }
     }
+}
+
+fn make_key(rt: &impl Abort, alloc: Global) -> End {
+    let text = b"0123456789012345678901234567890123456789012345678901234567891234";
+    end_of(rt, TextKey::new(alloc, text), KeyFault::Memory)
+}
+
+fn open(rt: &impl Abort, alloc: Global) -> End {
+    end_of(rt, NumTable::open(alloc, SETTINGS), OpenFault::Memory)
 }
 
 /// Where there is no memory for the list of callers, all passes come back.
@@ -67,16 +78,8 @@ fn make_callers(rt: &impl Abort, alloc: Global) -> End {
     let Ok((table, passes)) = NumTable::open(alloc, TWO_STRIPES) else {
         return End::Unbegun;
     };
-    match table.callers(alloc, passes) {
-        Ok(callers) => {
-            assert!(rt; callers.len() == 3);
-            End::Done
-        }
-        Err(back) => {
-            assert!(rt; back.passes.len() == 3);
-            End::Refused
-        }
-    }
+    let counts = table.callers(alloc, passes).map(|callers| callers.len());
+    counted(rt, counts.map_err(|back| back.passes.len()), 3, 3)
 }
 
 /// Where there is no memory for a pool, all callers come back.
@@ -87,16 +90,8 @@ fn make_pool(rt: &impl Abort, alloc: Global) -> End {
     let Ok(callers) = table.callers(alloc, passes) else {
         return End::Unbegun;
     };
-    match Pool::new(alloc, callers) {
-        Ok(pool) => {
-            assert!(rt; pool.len() == 3);
-            End::Done
-        }
-        Err(back) => {
-            assert!(rt; back.callers.len() == 3);
-            End::Refused
-        }
-    }
+    let counts = Pool::new(alloc, callers).map(|pool| pool.len());
+    counted(rt, counts.map_err(|back| back.callers.len()), 3, 3)
 }
 
 /// A locked table that is refused memory to grow keeps its size and its pair.
@@ -113,13 +108,8 @@ fn grow_locked(rt: &impl Abort, alloc: Global) -> End {
     let (power, found) = (locked.power(), locked.find(&NumKey(3)).copied());
     locked.unlock();
     assert!(rt; found == Some(30));
-    match grown {
-        Ok(_) => End::Done,
-        Err(fault) => {
-            assert!(rt; fault == GrowFault::Memory && power == 2);
-            End::Refused
-        }
-    }
+    assert!(rt; grown.is_ok() || power == 2);
+    end_of(rt, grown, GrowFault::Memory)
 }
 
 /// Eight keys, each four in the bucket that they share.
@@ -190,16 +180,8 @@ fn close_words(rt: &impl Abort, alloc: Global) -> End {
     let Ok((words, passes)) = Words::<NumKey, u64>::open_all(alloc, TWO_STRIPES) else {
         return End::Unbegun;
     };
-    match words.close(passes) {
-        Ok(pairs) => {
-            assert!(rt; pairs.len() == 0);
-            End::Done
-        }
-        Err((_, passes)) => {
-            assert!(rt; passes.len() == 3);
-            End::Refused
-        }
-    }
+    let counts = words.close(passes).map(|pairs| pairs.len());
+    counted(rt, counts.map_err(|(_, passes)| passes.len()), 0, 3)
 }
 
 /// What `fill` binds.
@@ -230,24 +212,26 @@ fn call(rt: &impl Abort, alloc: Global, subject: Subject) -> End {
 /// What is called, how many steps it gets, and whether what has to come before it needs memory too.
 type Row = (&'static str, Subject, usize, bool);
 
-const ROWS: [Row; 6] = [
-    ("a text key", Subject::Key, 20, false),
-    ("opening a table", Subject::Opening, 120, false),
-    ("a list of callers", Subject::Callers, 200, true),
-    ("growth of a locked table", Subject::LockedGrowth, 200, true),
-    ("closing a table", Subject::Closing, 120, true),
-    ("closing lock words", Subject::WordsClosing, 200, true),
-];
+const TEXT_KEY: Row = ("a text key", Subject::Key, 20, false);
+
+const OPENING: Row = ("opening a table", Subject::Opening, 120, false);
+
+const CALLERS: Row = ("a list of callers", Subject::Callers, 200, true);
+
+const POOL: Row = ("a pool", Subject::Pooling, 300, true);
+
+const GROWTH: Row = ("growth of a locked table", Subject::LockedGrowth, 200, true);
+
+const DRAINING: Row = ("draining a table", Subject::Draining, 120, true);
+
+const CLOSING: Row = ("closing a table", Subject::Closing, 120, true);
+
+const CLOSING_WORDS: Row = ("closing lock words", Subject::WordsClosing, 200, true);
+
+static ROWS: [Row; 6] = [TEXT_KEY, OPENING, CALLERS, GROWTH, CLOSING, CLOSING_WORDS];
 
 /// Each row finds the free blocks that those before it have left.
-const ROWS_OF_CALLERS: [Row; 6] = [
-    ("a text key", Subject::Key, 20, false),
-    ("opening a table", Subject::Opening, 120, false),
-    ("a list of callers", Subject::Callers, 200, true),
-    ("a pool", Subject::Pooling, 300, true),
-    ("growth of a locked table", Subject::LockedGrowth, 200, true),
-    ("draining a table", Subject::Draining, 120, true),
-];
+static ROWS_OF_CALLERS: [Row; 6] = [TEXT_KEY, OPENING, CALLERS, POOL, GROWTH, DRAINING];
 
 /// Each call is refused for want of memory, and then it is not.
 fn wanted(unbegun: bool) -> Ends {
@@ -258,22 +242,22 @@ fn wanted(unbegun: bool) -> Ends {
     }
 }
 
-#[test]
-fn each_request_refused(rt: HostRuntime) -> Result<(), Fail> {
-    for (what, subject, steps, unbegun) in ROWS {
-        let ends = ends_of(rt.alloc(), steps, || call(&rt, rt.alloc(), subject))?;
-        assert!(rt; ends == wanted(unbegun), "{what}");
+fn check_rows(rt: &impl Abort, alloc: Global, rows: &[Row]) -> Result<(), Fail> {
+    for (what, subject, steps, unbegun) in rows {
+        let ends = ends_of(alloc, *steps, || call(rt, alloc, *subject))?;
+        assert!(rt; ends == wanted(*unbegun), "{what}");
     }
     Ok(())
 }
 
 #[test]
+fn each_request_refused(rt: HostRuntime) -> Result<(), Fail> {
+    check_rows(&rt, rt.alloc(), &ROWS)
+}
+
+#[test]
 fn each_request_of_callers_refused(rt: HostRuntime) -> Result<(), Fail> {
-    for (what, subject, steps, unbegun) in ROWS_OF_CALLERS {
-        let ends = ends_of(rt.alloc(), steps, || call(&rt, rt.alloc(), subject))?;
-        assert!(rt; ends == wanted(unbegun), "{what}");
-    }
-    Ok(())
+    check_rows(&rt, rt.alloc(), &ROWS_OF_CALLERS)
 }
 
 /// A table that was not closed for want of memory, and its pass.

@@ -6,7 +6,7 @@
 ghost use Rattle.std.specs.Prelude.{◌≢◌};
 
 use crate::callers::{Call, Reply, answer};
-use ck_fixtures::{FOUR_BUCKETS, NumCaller, SIXTEEN_BUCKETS, Shape, open};
+use ck_fixtures::{FOUR_BUCKETS, NumCaller, SIXTEEN_BUCKETS, Shape, bind_all, open};
 use ck_key::NumKey;
 use cuckoo_map::Why;
 use std::alloc::Global;
@@ -99,23 +99,19 @@ struct Turn {
     thirds: &'static [Row],
 }
 
-/// The first caller makes its calls, then those in which the others make theirs, and then the
-/// others make their last ones.
+/// The first caller binds keys, and makes the call in which the others make theirs. Then the others
+/// make their last ones.
 #[derive(Clone, Copy)]
 struct Scene {
     what: &'static str,
     shape: Shape,
-    firsts: &'static [Row],
-    turns: &'static [Turn],
+    bound: &'static [(u64, u64)],
+    turn: Turn,
     seconds: &'static [Row],
     thirds: &'static [Row],
 }
 
-const BOUND: &[Row] = &[
-    (Call::Insert(3, 30), Reply::Fresh(true)),
-    (Call::Insert(0, 5), Reply::Fresh(true)),
-    (Call::Insert(1, 7), Reply::Fresh(true)),
-];
+const BOUND: &[(u64, u64)] = &[(3, 30), (0, 5), (1, 7)];
 
 const AFTER: &[Row] = &[
     (Call::Find(1), Reply::Was(Some(7))),
@@ -125,44 +121,44 @@ const AFTER: &[Row] = &[
 
 /// Four stripes of one bucket each: bucket 2 has key 258, and buckets 0 and 1, those of key 16, are
 /// full. Bucket 3 has room for the keys of bucket 1.
-const TWO_FULL_BUCKETS: &[Row] = &[
-    (Call::Insert(258, 258), Reply::Fresh(true)),
-    (Call::Insert(0, 1), Reply::Fresh(true)),
-    (Call::Insert(4, 2), Reply::Fresh(true)),
-    (Call::Insert(8, 3), Reply::Fresh(true)),
-    (Call::Insert(12, 4), Reply::Fresh(true)),
-    (Call::Insert(1, 5), Reply::Fresh(true)),
-    (Call::Insert(5, 6), Reply::Fresh(true)),
-    (Call::Insert(9, 7), Reply::Fresh(true)),
-    (Call::Insert(13, 8), Reply::Fresh(true)),
+const TWO_FULL_BUCKETS: &[(u64, u64)] = &[
+    (258, 258),
+    (0, 1),
+    (4, 2),
+    (8, 3),
+    (12, 4),
+    (1, 5),
+    (5, 6),
+    (9, 7),
+    (13, 8),
 ];
 
 /// Sixteen stripes of one bucket each: bucket 15 has key 15. Buckets 4 and 10, those of key 260, are
 /// full, and so is bucket 13, which is the other one of their keys. Bucket 11 has room for the keys
 /// of bucket 13, so that there is no path of one hop, and one of two.
-const THREE_FULL_BUCKETS: &[Row] = &[
-    (Call::Insert(15, 15), Reply::Fresh(true)),
-    (Call::Insert(13, 1), Reply::Fresh(true)),
-    (Call::Insert(29, 2), Reply::Fresh(true)),
-    (Call::Insert(45, 3), Reply::Fresh(true)),
-    (Call::Insert(61, 4), Reply::Fresh(true)),
-    (Call::Insert(4, 5), Reply::Fresh(true)),
-    (Call::Insert(20, 6), Reply::Fresh(true)),
-    (Call::Insert(36, 7), Reply::Fresh(true)),
-    (Call::Insert(52, 8), Reply::Fresh(true)),
-    (Call::Insert(10, 9), Reply::Fresh(true)),
-    (Call::Insert(26, 10), Reply::Fresh(true)),
-    (Call::Insert(42, 11), Reply::Fresh(true)),
-    (Call::Insert(58, 12), Reply::Fresh(true)),
+const THREE_FULL_BUCKETS: &[(u64, u64)] = &[
+    (15, 15),
+    (13, 1),
+    (29, 2),
+    (45, 3),
+    (61, 4),
+    (4, 5),
+    (20, 6),
+    (36, 7),
+    (52, 8),
+    (10, 9),
+    (26, 10),
+    (42, 11),
+    (58, 12),
 ];
 
-static SCENES: [Scene; 7] = [
+static SCENES: [Scene; 6] = [
     // Stripe 3 is found held, whichever call wants it, and the others are free.
     Scene {
         what: "a held stripe",
         shape: SIXTEEN_BUCKETS,
-        firsts: BOUND,
-        turns: &[Turn {
+        bound: BOUND,
+        turn: Turn {
             around: Around::Update(3, Some(31)),
             seconds: &[
                 (Call::Find(0), Reply::Was(Some(5))),
@@ -182,7 +178,7 @@ static SCENES: [Scene; 7] = [
                 (Call::Update(0, 6), Reply::Was(Some(5))),
             ],
             thirds: &[],
-        }],
+        },
         seconds: AFTER,
         thirds: AFTER,
     },
@@ -190,8 +186,8 @@ static SCENES: [Scene; 7] = [
     Scene {
         what: "the first stripe back",
         shape: SIXTEEN_BUCKETS,
-        firsts: BOUND,
-        turns: &[Turn {
+        bound: BOUND,
+        turn: Turn {
             around: Around::Update(3, Some(31)),
             seconds: &[(Call::Find(1), Reply::Busy(3))],
             thirds: &[
@@ -199,7 +195,7 @@ static SCENES: [Scene; 7] = [
                 (Call::Find(0), Reply::Was(Some(5))),
                 (Call::Find(1), Reply::Busy(3)),
             ],
-        }],
+        },
         seconds: &[(Call::Find(513), Reply::Was(Some(9)))],
         thirds: &[],
     },
@@ -207,12 +203,8 @@ static SCENES: [Scene; 7] = [
     Scene {
         what: "three held stripes",
         shape: SIXTEEN_BUCKETS,
-        firsts: &[
-            (Call::Insert(0, 5), Reply::Fresh(true)),
-            (Call::Insert(258, 7), Reply::Fresh(true)),
-            (Call::Insert(3, 30), Reply::Fresh(true)),
-        ],
-        turns: &[Turn {
+        bound: &[(0, 5), (258, 7), (3, 30)],
+        turn: Turn {
             around: Around::Transfer(0, 258),
             seconds: &[
                 (Call::Find(3), Reply::Was(Some(30))),
@@ -223,7 +215,7 @@ static SCENES: [Scene; 7] = [
                 (Call::Transfer(3, 0), Reply::Busy(0)),
             ],
             thirds: &[],
-        }],
+        },
         seconds: &[
             (Call::Find(0), Reply::Was(Some(4))),
             (Call::Find(258), Reply::Was(Some(8))),
@@ -238,81 +230,12 @@ static SCENES: [Scene; 7] = [
         ],
         thirds: &[],
     },
-    // A call is refused for a stripe of its own key, and for no other. Keys 772, 513, 258 and 3
-    // have stripes 0, 1, 2 and 3, each one alone.
-    Scene {
-        what: "each stripe in turn",
-        shape: SIXTEEN_BUCKETS,
-        firsts: &[
-            (Call::Insert(772, 772), Reply::Fresh(true)),
-            (Call::Insert(513, 513), Reply::Fresh(true)),
-            (Call::Insert(258, 258), Reply::Fresh(true)),
-            (Call::Insert(3, 3), Reply::Fresh(true)),
-        ],
-        turns: &[
-            Turn {
-                around: Around::Update(772, None),
-                seconds: &[
-                    (Call::Find(772), Reply::Busy(0)),
-                    (Call::Find(513), Reply::Was(Some(513))),
-                    (Call::Find(258), Reply::Was(Some(258))),
-                    (Call::Find(3), Reply::Was(Some(3))),
-                    (Call::Find(0), Reply::Busy(0)),
-                    (Call::Insert(1, 1), Reply::Fresh(true)),
-                ],
-                thirds: &[],
-            },
-            Turn {
-                around: Around::Update(513, None),
-                seconds: &[
-                    (Call::Find(772), Reply::Was(Some(772))),
-                    (Call::Find(513), Reply::Busy(1)),
-                    (Call::Find(258), Reply::Was(Some(258))),
-                    (Call::Find(3), Reply::Was(Some(3))),
-                    (Call::Find(0), Reply::Busy(1)),
-                    (Call::Insert(1, 1), Reply::BothBack(1, 1, Why::Busy(1))),
-                ],
-                thirds: &[],
-            },
-            Turn {
-                around: Around::Update(258, None),
-                seconds: &[
-                    (Call::Find(772), Reply::Was(Some(772))),
-                    (Call::Find(513), Reply::Was(Some(513))),
-                    (Call::Find(258), Reply::Busy(2)),
-                    (Call::Find(3), Reply::Was(Some(3))),
-                    (Call::Find(0), Reply::Was(None)),
-                    (Call::Insert(1, 1), Reply::Fresh(false)),
-                ],
-                thirds: &[],
-            },
-            Turn {
-                around: Around::Update(3, None),
-                seconds: &[
-                    (Call::Find(772), Reply::Was(Some(772))),
-                    (Call::Find(513), Reply::Was(Some(513))),
-                    (Call::Find(258), Reply::Was(Some(258))),
-                    (Call::Find(3), Reply::Busy(3)),
-                    (Call::Find(0), Reply::Was(None)),
-                    (Call::Insert(1, 1), Reply::BothBack(1, 1, Why::Busy(3))),
-                ],
-                thirds: &[],
-            },
-        ],
-        seconds: &[
-            (Call::Find(772), Reply::Was(Some(772))),
-            (Call::Find(513), Reply::Was(Some(513))),
-            (Call::Find(258), Reply::Was(Some(258))),
-            (Call::Find(3), Reply::Was(Some(3))),
-        ],
-        thirds: &[],
-    },
     // An insertion that displaces entries needs no other stripes than theirs.
     Scene {
         what: "room beside a held stripe",
         shape: FOUR_BUCKETS,
-        firsts: TWO_FULL_BUCKETS,
-        turns: &[Turn {
+        bound: TWO_FULL_BUCKETS,
+        turn: Turn {
             around: Around::Update(258, None),
             seconds: &[
                 (Call::Insert(16, 9), Reply::Fresh(true)),
@@ -325,7 +248,7 @@ static SCENES: [Scene; 7] = [
                 (Call::Find(1), Reply::Was(Some(5))),
                 (Call::Find(16), Reply::Was(Some(9))),
             ],
-        }],
+        },
         seconds: &[(Call::Find(258), Reply::Was(Some(258)))],
         thirds: &[],
     },
@@ -338,8 +261,8 @@ static SCENES: [Scene; 7] = [
             max: 4,
             rounds: 1,
         },
-        firsts: THREE_FULL_BUCKETS,
-        turns: &[Turn {
+        bound: THREE_FULL_BUCKETS,
+        turn: Turn {
             around: Around::Update(15, None),
             seconds: &[
                 (Call::Insert(260, 13), Reply::Fresh(true)),
@@ -351,7 +274,7 @@ static SCENES: [Scene; 7] = [
                 (Call::Find(4), Reply::Was(Some(5))),
                 (Call::Find(13), Reply::Was(Some(1))),
             ],
-        }],
+        },
         seconds: &[(Call::Find(15), Reply::Was(Some(15)))],
         thirds: &[],
     },
@@ -365,25 +288,23 @@ static SCENES: [Scene; 7] = [
             max: 2,
             rounds: 0,
         },
-        firsts: TWO_FULL_BUCKETS,
-        turns: &[Turn {
+        bound: TWO_FULL_BUCKETS,
+        turn: Turn {
             around: Around::Update(258, None),
             seconds: &[
                 (Call::Insert(16, 9), Reply::BothBack(16, 9, Why::Busy(2))),
                 (Call::Find(16), Reply::Was(None)),
             ],
             thirds: &[],
-        }],
+        },
         seconds: &[],
         thirds: &[],
     },
 ];
 
 fn play(rt: &impl Abort, first: &mut NumCaller<'_>, others: &mut Others, scene: &Scene) {
-    check_rows(rt, first, scene.what, scene.firsts);
-    for turn in scene.turns {
-        take_turn(rt, first, others, turn);
-    }
+    bind_all(rt, first, scene.bound);
+    take_turn(rt, first, others, &scene.turn);
     check_rows(rt, &mut others.second, scene.what, scene.seconds);
     check_rows(rt, &mut others.third, scene.what, scene.thirds);
 }
@@ -404,5 +325,49 @@ fn scenes(rt: HostRuntime) -> Result<(), Fail> {
     for scene in &SCENES {
         check(&rt, rt.alloc(), scene)?;
     }
+    Ok(())
+}
+
+/// A stripe, a key that has it alone, and what is answered while it is held where key 0 is looked
+/// for, and where key 1 is inserted then.
+type Held = (u32, u64, Reply, Reply);
+
+static HELD: [Held; 4] = [
+    (0, 772, Reply::Busy(0), Reply::Fresh(true)),
+    (1, 513, Reply::Busy(1), Reply::BothBack(1, 1, Why::Busy(1))),
+    (2, 258, Reply::Was(None), Reply::Fresh(false)),
+    (3, 3, Reply::Was(None), Reply::BothBack(1, 1, Why::Busy(3))),
+];
+
+/// Finds each of these keys, which are bound to themselves, but for that of a held stripe.
+fn find_all_but(rt: &impl Abort, caller: &mut NumCaller<'_>, held: Option<u32>) {
+    for (t, key, _, _) in &HELD {
+        let found = answer(caller, Call::Find(*key));
+        let want = if held == Some(*t) {
+            Reply::Busy(*t)
+        } else {
+            Reply::Was(Some(*key))
+        };
+        assert!(rt; found == want, "key {key} while {held:?} is held");
+    }
+}
+
+/// A call is refused for a stripe of its own key, and for no other.
+#[test]
+fn each_stripe_in_turn(rt: HostRuntime) -> Result<(), Fail> {
+    let (table, first, second, _) = open(rt.alloc(), SIXTEEN_BUCKETS)?;
+    let (mut first, mut second) = (table.caller(first), table.caller(second));
+    bind_all(&rt, &mut first, &HELD.map(|(_, key, _, _)| (key, key)));
+    for (t, key, looked, inserted) in &HELD {
+        let around = |value: u64| {
+            find_all_but(&rt, &mut second, Some(*t));
+            let rows = [(Call::Find(0), *looked), (Call::Insert(1, 1), *inserted)];
+            check_rows(&rt, &mut second, "beside a held stripe", &rows);
+            value
+        };
+        let bound = first.update_fn(&NumKey(*key), around);
+        assert!(rt; bound == Ok(true));
+    }
+    find_all_but(&rt, &mut second, None);
     Ok(())
 }

@@ -256,33 +256,30 @@ fn step(alloc: Global, said: (Ask, Answer)) -> Result<(bool, Values), AllocError
     Ok((is_taken, bound(alloc, &map)?))
 }
 
-fn take_steps(rt: &impl Abort, alloc: Global, steps: &[Step]) -> Result<(), Fail> {
+fn take_steps(rt: &impl Abort, alloc: Global, what: &str, steps: &[Step]) -> Result<(), Fail> {
     for (at, (ask, answer, after)) in steps.iter().enumerate() {
         let left = after.unwrap_or((Some(5), Some(7), None));
         let wanted = (after.is_some(), left);
-        assert!(rt; step(alloc, (*ask, *answer))? == wanted, "step {at}");
+        assert!(rt;
+            step(alloc, (*ask, *answer))? == wanted,
+            "{what}: step {at}"
+        );
     }
     Ok(())
 }
 
 #[test]
-fn steps_on_a_bound_name(rt: HostRuntime) -> Result<(), Fail> {
-    take_steps(&rt, rt.alloc(), &ON_BOUND)
-}
-
-#[test]
-fn steps_on_an_unbound_name(rt: HostRuntime) -> Result<(), Fail> {
-    take_steps(&rt, rt.alloc(), &ON_UNBOUND)
-}
-
-#[test]
-fn steps_on_two_names(rt: HostRuntime) -> Result<(), Fail> {
-    take_steps(&rt, rt.alloc(), &ON_TWO)
-}
-
-#[test]
-fn steps_on_all_names(rt: HostRuntime) -> Result<(), Fail> {
-    take_steps(&rt, rt.alloc(), &ON_ALL)
+fn steps(rt: HostRuntime) -> Result<(), Fail> {
+    let tables = [
+        ("a bound name", ON_BOUND.as_slice()),
+        ("an unbound name", ON_UNBOUND.as_slice()),
+        ("two names", ON_TWO.as_slice()),
+        ("all names", ON_ALL.as_slice()),
+    ];
+    for (what, steps) in tables {
+        take_steps(&rt, rt.alloc(), what, steps)?;
+    }
+    Ok(())
 }
 
 fn value(alloc: Global, map: &PlainMap, key: u64) -> Result<Option<u64>, AllocError> {

@@ -3,8 +3,10 @@ use Rattle.ck_oracle.proofs.map.run.Goals as goal
 
 pub returns-then-not-branch-clause-illegal : goal.returns-then-not-branch-clause-illegal
 returns-then-not-branch-clause-illegal c =
-    refused_illegal c.args.entries.now c.loop-entry.entry-index c.entry-item.result c.loop-entry.map c.loop-entry-test.true c.entry-item.is c.loop-entry.invariant (c.in_ok-follow.ensures.refused c.if-not-branch.true).1
+    let refused = rw c.if-not-branch.true at c.in_ok-follow.ensures.follows in
+    refused_illegal c.args.entries.now c.loop-entry.entry-index c.entry-item.result c.loop-entry.map c.loop-entry-test.true c.entry-item.is c.loop-entry.invariant refused.1
 
 pub loop-entry-preserved : goal.loop-entry-preserved
 loop-entry-preserved c =
-    leads_more c.args.entries.now c.loop-entry.entry-index c.entry-item.result c.loop-entry.map c.follow.new.self c.loop-entry-test.true c.entry-item.is c.loop-entry.invariant (c.in_ok-follow.ensures.legal c.if-not-branch.false)
+    let step = rw c.if-not-branch.false at c.in_ok-follow.ensures.follows in
+    leads_more c.args.entries.now c.loop-entry.entry-index c.entry-item.result c.loop-entry.map c.follow.new.self c.loop-entry-test.true c.entry-item.is c.loop-entry.invariant step

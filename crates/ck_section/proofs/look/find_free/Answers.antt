@@ -9,14 +9,14 @@ pub free-requires : goal.free-requires
 free-requires g c = record { reach = c.requires.first_reach }
 
 pub returns-in-Some-clause-slot : goal.returns-in-Some-clause-slot
-returns-in-Some-clause-slot g c = record {
+returns-in-Some-clause-slot g c = rw c.with_slot.ensures (record {
   reach = c.requires.first_reach;
   below = c.in-Some.ensures.below;
   of_name = inl c.requires.first;
-}
+})
 
 pub returns-in-Some-clause-next : goal.returns-in-Some-clause-next
-returns-in-Some-clause-next g c = (c.in-Some.ensures.found, c.in-Some.ensures.lowest, inl (refl, refl))
+returns-in-Some-clause-next g c = rw c.with_slot.ensures (c.in-Some.ensures.found, c.in-Some.ensures.lowest, inl (refl, refl))
 
 pub returns-then-alternate-first-clause-full : goal.returns-then-alternate-first-clause-full
 returns-then-alternate-first-clause-full g c =
@@ -49,16 +49,16 @@ pub returns-in_err-slot-clause-stays : goal.returns-in_err-slot-clause-stays
 returns-in_err-slot-clause-stays g c = g.met.H.Held.stays_on _ _ _ c.free.ensures.stays c.free-2.ensures.stays
 
 pub returns-clause-slot : goal.returns-clause-slot
-returns-clause-slot g c = record {
+returns-clause-slot g c = rw c.with_slot-2.ensures (record {
   reach = c.requires.alternate_reach;
   below = c.in_ok-slot.ensures.below;
   of_name = inr c.requires.alternate;
-}
+})
 
 pub returns-clause-next : goal.returns-clause-next
 returns-clause-next g c =
     let alternate = c.args.place.alternate in
-    let slot = c.in_ok-slot.slot in (
+    let slot = c.in_ok-slot.slot in rw c.with_slot-2.ensures (
       subst (λ (l : List (StripeState g.row.V.Denot)). slot_at (bucket_at l alternate.index alternate.bucket) slot ≡ None) c.free.ensures.same c.in_ok-slot.ensures.found,
       subst (λ (l : List (StripeState g.row.V.Denot)). (j : _) → j < slot → IsSome (slot_at (bucket_at l alternate.index alternate.bucket) j)) c.free.ensures.same c.in_ok-slot.ensures.lowest,
       inr (c.in_default.ensures.full, refl, refl),

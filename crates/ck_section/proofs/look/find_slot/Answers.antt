@@ -9,10 +9,10 @@ pub look-requires-clause-reach : goal.look-requires-clause-reach
 look-requires-clause-reach g c = c.requires.first_reach
 
 pub returns-in-Some-clause-occupied : goal.returns-in-Some-clause-occupied
-returns-in-Some-clause-occupied g c = record {
+returns-in-Some-clause-occupied g c = rw c.with_slot.ensures (record {
   slot = record { reach = c.requires.first_reach; below = c.in-Some.ensures.below; of_name = inl c.requires.first };
   found = c.in-Some.ensures.found;
-}
+})
 
 pub returns-then-alternate-first-clause-nowhere : goal.returns-then-alternate-first-clause-nowhere
 returns-then-alternate-first-clause-nowhere g c =
@@ -48,10 +48,10 @@ returns-in_err-slot-clause-stays g c = g.met.H.Held.stays_on _ _ _ c.look.ensure
 pub returns-clause-occupied : goal.returns-clause-occupied
 returns-clause-occupied g c =
     let alternate = c.args.place.alternate in
-    record {
+    rw c.with_slot-2.ensures (record {
       slot = record { reach = c.requires.alternate_reach; below = c.in_ok-slot.ensures.below; of_name = inr c.requires.alternate };
       found = subst (λ (l : List (StripeState g.row.V.Denot)). HasName (bucket_at l alternate.index alternate.bucket) (g.Q.Query.name c.args.key) c.in_ok-slot.slot) c.look.ensures.same c.in_ok-slot.ensures.found;
-    }
+    })
 
 pub returns-clause-same : goal.returns-clause-same
 returns-clause-same g c = c.look-2.ensures.same ∙ c.look.ensures.same
