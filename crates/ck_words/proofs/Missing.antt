@@ -6,7 +6,7 @@ use Rattle.ck_model.specs.Numbered.{IsIn, numbers}
 use Rattle.ck_section.specs.Stripes.{HaveNoSpare}
 use Rattle.ck_core.specs.Steps.{IsAbove}
 use Rattle.ck_words.specs.Words.{WordsState}
-use Rattle.ck_words.specs.Passes.{PassState, IsPassOf, IsUnchanged, TakesStripe, TriesStripe, numbers_of}
+use Rattle.ck_words.specs.Passes.{MayTake, PassState, IsPassOf, IsUnchanged, TakesStripe, TriesStripe, numbers_of}
 use Rattle.ck_words.specs.Retries.{TakesWithin, found_again}
 use Rattle.ck_words.specs.Holding.{HasTaken, GivesUp, HasReleased, Misses}
 use Rattle.ck_words.proofs.Staying.{found_next}
@@ -25,7 +25,7 @@ module _ {V : Type 0} (hash : Name → ℕ) (w : WordsState) (ns : List ℕ) (i 
     next_taken turns r k own unchanged = subst (λ ms. HasTaken hash w (λ u. IsIn u ns) ms p r) (next_first ns i t inside is) (one_taken hash w (λ u. IsIn u ns) (take i ns) t p q taken turns r (asked inside) k own unchanged)
 
     -- what is asked of a take of the next
-    pub ready_next : (s : ℕ) → s ≡ w.settings.s → t < 2 ^ s → record { own : IsPassOf w q; inside : t < 2 ^ w.settings.s; above : IsAbove t (numbers q.view.held); unchanged : IsUnchanged q }
+    pub ready_next : (s : ℕ) → s ≡ w.settings.s → t < 2 ^ s → MayTake w t q
     ready_next s of_table below = record { own = taken.own; inside = subst (λ n. t < 2 ^ n) of_table below; above = above_next; unchanged = taken.unchanged }
 
     -- one swap took it,

@@ -1,5 +1,5 @@
 -- What contracts see of a pass.
-use Rattle.std.specs.Prelude.{◌≡◌, ◌≢◌, ℕ, zero, suc, ◌≤◌, List, [], ◌∷◌, ◌++◌, map, reverse, Bool, MatchBool, Some, None}
+use Rattle.std.specs.Prelude.{◌≡◌, ◌≢◌, ℕ, zero, suc, ◌<◌, ◌≤◌, ◌^◌, List, [], ◌∷◌, ◌++◌, map, reverse, Bool, MatchBool, Some, None}
 use Rattle.atomic_table.specs.Seated.{TableId}
 use Rattle.atomic_table.specs.Table.{turned}
 use Rattle.ck_model.specs.declared.settings.Settings.{Settings}
@@ -86,6 +86,13 @@ module _ {V : Type 0} where
   -- it holds no stripe
   abbrev pub IsIdle : PassState V → Type 0
   IsIdle p = (p.stripes ≡ []) × (p.view.held ≡ [])
+
+  -- The pass may take the stripe t of this table, which is above all that it holds unchanged.
+  pub record MayTake (w : WordsState) (t : ℕ) (p : PassState V) : Type 0 where
+    pub own : IsPassOf w p
+    pub inside : t < 2 ^ w.settings.s
+    pub above : IsAbove t (numbers p.view.held)
+    pub unchanged : IsUnchanged p
 
   -- what the view shows, with the history that it has seen
   abbrev pub ShowsSeen : (Name → ℕ) → Settings → PassState V → Type 0

@@ -4,7 +4,7 @@ ghost use Rattle.ck_model.specs.Numbered.{numbers, IsIn};
 ghost use Rattle.ck_core.specs.Steps.{IsAbove};
 ghost use Rattle.ck_section.specs.Places.{AreHeld};
 ghost use Rattle.ck_section.specs.Whole.{IsTable, AreSettled};
-ghost use Rattle.ck_words.specs.Passes.{IsPassOf, IsUnchanged, numbers_of, PassState, IsIdle, ShowsSeen};
+ghost use Rattle.ck_words.specs.Passes.{MayTake, IsPassOf, IsUnchanged, numbers_of, PassState, IsIdle, ShowsSeen};
 ghost use Rattle.ck_words.specs.StripeNumbers.{pair};
 ghost use Rattle.ck_words.specs.StripeSets.{list_of};
 ghost use Rattle.ck_words.specs.Retries.{TakesWithin, found_again, Stays, FindsAmong, IsBusy};
@@ -33,10 +33,7 @@ impl<K: TableKey + Drop, V: Drop> Words<K, V> {
     /// where each of them found it held.
     #[inline(always)]
     pub(crate) fn try_take(&self, pass: &mut Pass<K, V>, t: usize) -> bool
-        requires own { IsPassOf self.now pass.old }
-        requires inside { t < 2 ^ self.now.settings.s }
-        requires above { IsAbove t (numbers pass.old.view.held) }
-        requires unchanged { IsUnchanged pass.old }
+        requires { MayTake self.now t pass.old }
         ensures own { IsPassOf self.now pass.new }
         ensures tries { MatchBool result
             (TakesWithin K.hash self.now.settings self.now.settings.turns t pass.old pass.new)
@@ -54,10 +51,7 @@ impl<K: TableKey + Drop, V: Drop> Words<K, V> {
     #[cold]
     #[inline(never)]
     pub(crate) fn try_again(&self, pass: &mut Pass<K, V>, t: usize) -> bool
-        requires own { IsPassOf self.now pass.old }
-        requires inside { t < 2 ^ self.now.settings.s }
-        requires above { IsAbove t (numbers pass.old.view.held) }
-        requires unchanged { IsUnchanged pass.old }
+        requires { MayTake self.now t pass.old }
         ensures own { IsPassOf self.now pass.new }
         ensures tries { MatchBool result
             (TakesWithin K.hash self.now.settings (self.now.settings.turns - 1) t pass.old pass.new)

@@ -98,7 +98,7 @@ impl<K: TableKey + Drop, V: Drop> Guard<'_, K, V> {
             × HasReleased self.old.words.now decided self.new.pass.now }
     {
         let last = self.set.count() - 1;
-        let (words, set) = (&mut self.words, self.set);
+        let (words, set) = (self.words, self.set);
         let pass = &mut *self.pass;
         words.decide::<J, X>(pass, set.at(last), said);
         words.release_first(pass, set, last);

@@ -32,7 +32,7 @@ impl<K: TableKey + Drop, V: Drop> Guard<'_, K, V> {
         ensures same { self.new.pass.ghost_name ≡ self.old.pass.ghost_name }
         ensures released { HasReleased self.old.words.now self.old.pass.now self.new.pass.now }
     {
-        let (words, set) = (&mut self.words, self.set);
+        let (words, set) = (self.words, self.set);
         words.release_first(&mut *self.pass, set, set.count());
         self.is_locked = false;
     }
@@ -52,7 +52,7 @@ impl<K: TableKey + Drop, V: Drop> Guard<'_, K, V> {
         ensures told { IsToldPower self.old.pass.now self.new.pass.now }
         ensures doubled { IsDoubledBy self.old.pass.now self.new.pass.now }
     {
-        let (words, set) = (&mut self.words, self.set);
+        let (words, set) = (self.words, self.set);
         let pass = &mut *self.pass;
         let last = set.count() - 1;
         words.renew::<Brand, ()>(pass, set.at(last), &());
@@ -77,7 +77,7 @@ impl<K: TableKey + Drop, V: Drop> Guard<'_, K, V> {
         ensures refused { HasRefused self.old.words.now (K.name key.now) NoRoom
             self.old.pass.now self.new.pass.now }
     {
-        let (words, set) = (&mut self.words, self.set);
+        let (words, set) = (self.words, self.set);
         let pass = &mut *self.pass;
         let last = set.count() - 1;
         words.give::<Brand, K>(pass, set.at(last), key);
@@ -106,7 +106,7 @@ impl<K: TableKey + Drop, V: Drop> Guard<'_, K, V> {
         ensures doubled { IsDoubledBy self.old.pass.now self.new.pass.now }
     {
         let said = (Snapshot::of(key), lack);
-        let (words, set) = (&mut self.words, self.set);
+        let (words, set) = (self.words, self.set);
         let pass = &mut *self.pass;
         let last = set.count() - 1;
         words.renew::<Brand, (Snapshot<K>, Lack)>(pass, set.at(last), &said);

@@ -8,7 +8,7 @@ ghost use Rattle.ck_model.specs.Contents.{layout_of, Lawful};
 ghost use Rattle.ck_model.specs.Sections.{Section, IdentitySection};
 ghost use Rattle.ck_core.specs.Steps.{Label, IsAbove, IsExcused, HasGrounds};
 ghost use Rattle.ck_section.specs.Stripes.{contents_of, HaveNoSpare};
-ghost use Rattle.ck_words.specs.Passes.{IsPassOf, IsHighest, IsUnchanged, TriesStripe, Sends, LooksUp};
+ghost use Rattle.ck_words.specs.Passes.{MayTake, IsPassOf, IsHighest, IsUnchanged, TriesStripe, Sends, LooksUp};
 
 use crate::pass::Pass;
 use crate::words::Words;
@@ -114,10 +114,7 @@ impl<K: TableKey + Drop, V: Drop> Words<K, V> {
     /// It is a swap for 1. Where it brings back 0 the pass has the stripe, and has seen the history
     /// so far.
     pub fn take(&self, pass: &mut Pass<K, V>, t: usize) -> bool
-        requires own { IsPassOf self.now pass.old }
-        requires inside { t < 2 ^ self.now.settings.s }
-        requires above { IsAbove t (numbers pass.old.view.held) }
-        requires unchanged { IsUnchanged pass.old }
+        requires { MayTake self.now t pass.old }
         ensures own { IsPassOf self.now pass.new }
         ensures step { TriesStripe K.hash self.now t result pass.old pass.new }
         ensures unchanged { IsUnchanged pass.new }

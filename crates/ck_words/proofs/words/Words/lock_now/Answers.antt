@@ -1,4 +1,4 @@
-use Rattle.std.proofs.Common.{◌<◌, take, length, subst, arith}
+use Rattle.std.proofs.Common.{rules, ◌<◌, take, length, subst, arith}
 use Rattle.std.proofs.lemmas.List.{take_all}
 use Rattle.std.proofs.lemmas.Result.{on_ok_weaker, IfErr-weaker}
 use Rattle.ck_model.specs.Numbered.{IsIn}
@@ -10,10 +10,13 @@ use Rattle.ck_words.proofs.words.Words.lock_now.Given.{Over}
 use Rattle.ck_words.proofs.words.Words.lock_now.Goals.{After-count, After-count-2}
 use Rattle.ck_words.proofs.words.Words.lock_now.Goals as goal
 
-pub take-requires-clause-above : goal.take-requires-clause-above
-take-requires-clause-above g c =
-    let p = c.args.pass.now in
-    above_next g.K.TableKey.hash c.args.self.now (list_of c.args.set) 0 c.at.result c.at.ensures.value p p c.args.set.rising c.args.set.some (none_taken g.K.TableKey.hash c.args.self.now _ p c.requires.own c.requires.idle)
+pub take-requires : goal.take-requires
+take-requires g c = record {
+  own = search rules;
+  inside = search rules;
+  above = (let p = c.args.pass.now in above_next g.K.TableKey.hash c.args.self.now (list_of c.args.set) 0 c.at.result c.at.ensures.value p p c.args.set.rising c.args.set.some (none_taken g.K.TableKey.hash c.args.self.now _ p c.requires.own c.requires.idle));
+  unchanged = search rules;
+}
 
 -- the first was found held
 pub returns-then-not-take-clause-missed : goal.returns-then-not-take-clause-missed
@@ -34,11 +37,13 @@ returns-then-count-eq1-clause-taken g c =
     let n = c.if-count-eq1.true in
     subst (λ ns. HasTaken g.K.TableKey.hash c.args.self.now (λ t. IsIn t (list_of c.args.set)) ns c.args.pass.now c.take.new.pass) (take_all 1 (list_of c.args.set) (omega arith)) (one g (goal.at.returns-then-count-eq1-clause-taken g c).After-count)
 
-pub take-requires-2-clause-above : goal.take-requires-2-clause-above
-take-requires-2-clause-above g c =
-    let p = c.args.pass.now in
-    let more : 1 < length (list_of c.args.set) = let s = c.args.set.some in let e = c.count.ensures in let n = c.if-count-eq1.false in omega arith in
-    above_next g.K.TableKey.hash c.args.self.now (list_of c.args.set) 1 c.at-2.result c.at-2.ensures.value p c.take.new.pass c.args.set.rising more (one g (goal.at.take-requires-2-clause-above g c).After-count)
+pub take-requires-2 : goal.take-requires-2
+take-requires-2 g c = record {
+  own = search rules;
+  inside = search rules;
+  above = (let p = c.args.pass.now in let more : 1 < length (list_of c.args.set) = let s = c.args.set.some in let e = c.count.ensures in let n = c.if-count-eq1.false in omega arith in above_next g.K.TableKey.hash c.args.self.now (list_of c.args.set) 1 c.at-2.result c.at-2.ensures.value p c.take.new.pass c.args.set.rising more (one g (goal.at.take-requires-2 g c).After-count));
+  unchanged = search rules;
+}
 
 -- the second was found held
 pub returns-then-not-take-2-clause-missed : goal.returns-then-not-take-2-clause-missed

@@ -1,4 +1,4 @@
-use Rattle.std.proofs.Common.{subst, arith}
+use Rattle.std.proofs.Common.{rules, subst, arith}
 use Rattle.std.proofs.lemmas.List.{take_all}
 use Rattle.ck_model.specs.Numbered.{IsIn}
 use Rattle.ck_words.specs.Holding.{HasTaken}
@@ -6,9 +6,13 @@ use Rattle.ck_words.specs.StripeSets.{list_of}
 use Rattle.ck_words.proofs.Missing.{ready_next, next_taken, next_refused, still_first, still_spare, above_missed, later_taken, later_first, later_spare, later_refused}
 use Rattle.ck_words.proofs.words.Words.lock_set_later.Goals as goal
 
-pub try_again-requires-clause-above : goal.try_again-requires-clause-above
-try_again-requires-clause-above g c =
-    above_missed g.K.TableKey.hash c.args.self.now (list_of c.args.set) c.args.i c.at-missed.result c.at-missed.ensures.value c.requires.missed.0 c.args.pass.now c.args.set.rising c.show_range.ensures.turns c.requires.missed.1
+pub try_again-requires : goal.try_again-requires
+try_again-requires g c = record {
+  own = search rules;
+  inside = search rules;
+  above = above_missed g.K.TableKey.hash c.args.self.now (list_of c.args.set) c.args.i c.at-missed.result c.at-missed.ensures.value c.requires.missed.0 c.args.pass.now c.args.set.rising c.show_range.ensures.turns c.requires.missed.1;
+  unchanged = search rules;
+}
 
 pub release_first-requires-clause-numbered : goal.release_first-requires-clause-numbered
 release_first-requires-clause-numbered g c =

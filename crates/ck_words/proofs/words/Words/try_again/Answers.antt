@@ -1,4 +1,4 @@
-use Rattle.std.proofs.Common.{◌≡◌, ◌+◌, ◌-◌, sym, subst, ap, ◌∙◌, arith}
+use Rattle.std.proofs.Common.{rules, ◌≡◌, ◌+◌, ◌-◌, sym, subst, ap, ◌∙◌, arith}
 use Rattle.ck_model.specs.Numbered.{numbers}
 use Rattle.ck_core.specs.Steps.{IsAbove}
 use Rattle.ck_words.specs.Passes.{PassState}
@@ -6,8 +6,13 @@ use Rattle.ck_words.specs.Retries.{found_again}
 use Rattle.ck_words.proofs.Staying.{found_next}
 use Rattle.ck_words.proofs.words.Words.try_again.Goals as goal
 
-pub take-requires-clause-above : goal.take-requires-clause-above
-take-requires-clause-above g c = subst (λ (q : PassState g.row.V.Denot). IsAbove c.args.t (numbers q.view.held)) (sym c.loop-tries.invariant.tried) c.requires.above
+pub take-requires : goal.take-requires
+take-requires g c = record {
+  own = search rules;
+  inside = search rules;
+  above = subst (λ (q : PassState g.row.V.Denot). IsAbove c.args.t (numbers q.view.held)) (sym c.loop-tries.invariant.tried) c.requires.above;
+  unchanged = search rules;
+}
 
 pub loop-tries-preserved : goal.loop-tries-preserved
 loop-tries-preserved g c =

@@ -1,4 +1,4 @@
-use Rattle.std.proofs.Common.{refl, sym, subst}
+use Rattle.std.proofs.Common.{rules, refl, sym, subst}
 use Rattle.ck_model.specs.Numbered.{numbers}
 use Rattle.ck_core.specs.Steps.{IsAbove}
 use Rattle.ck_words.specs.Passes.{PassState}
@@ -6,10 +6,13 @@ use Rattle.ck_words.proofs.Staying.{found_next}
 use Rattle.ck_words.proofs.Taking.{tries_later}
 use Rattle.ck_words.proofs.words.Words.try_take.Goals as goal
 
-pub try_again-requires-clause-above : goal.try_again-requires-clause-above
-try_again-requires-clause-above g c =
-    let again = found_next g.K.TableKey.hash c.args.self.now 0 c.args.t c.args.pass.now c.args.pass.now c.take.new.pass refl c.requires.own c.take.ensures.own c.if-take.ensures.step in
-    subst (λ (q : PassState g.row.V.Denot). IsAbove c.args.t (numbers q.view.held)) (sym again) c.requires.above
+pub try_again-requires : goal.try_again-requires
+try_again-requires g c = record {
+  own = search rules;
+  inside = search rules;
+  above = (let again = found_next g.K.TableKey.hash c.args.self.now 0 c.args.t c.args.pass.now c.args.pass.now c.take.new.pass refl c.requires.own c.take.ensures.own c.if-take.ensures.step in subst (λ (q : PassState g.row.V.Denot). IsAbove c.args.t (numbers q.view.held)) (sym again) c.requires.above);
+  unchanged = search rules;
+}
 
 pub returns-clause-tries : goal.returns-clause-tries
 returns-clause-tries g c =
