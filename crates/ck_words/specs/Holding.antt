@@ -44,6 +44,14 @@ module _ {V : Type 0} where
     pub taken : OnOk result ((p : PassState V) → Misses hash w ns i p q → HasTakenAll hash w ns p r)
     pub refused : IfErr result (λ t. (p : PassState V) → Misses hash w ns i p q → GivesUp w (λ u. IsIn u ns) t p r)
 
+  -- The pass holds the first n of these stripes of the table as they were taken, and no other.
+  pub record HoldsFirst (w : WordsState) (ns : List ℕ) (n : ℕ) (p : PassState V) : Type 0 where
+    pub own : IsPassOf w p
+    pub inside : n ≤ length ns
+    pub numbered : numbers_of p.stripes ≡ take n ns
+    pub no_spare : HaveNoSpare p.stripes
+    pub unchanged : IsUnchanged p
+
   -- From p to q all stripes went home.
   pub record HasReleased (w : WordsState) (p q : PassState V) : Type 0 where
     pub own : IsPassOf w q

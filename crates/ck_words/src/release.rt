@@ -1,16 +1,16 @@
 //! Giving stripes home by no call: as they were taken, with new contents, or where a key found no
 //! room in them.
-ghost use Rattle.std.specs.Prelude.{◌≡◌, ◌≤◌, true, length, reverse, take};
+ghost use Rattle.std.specs.Prelude.{◌≡◌, true, reverse};
 ghost use Rattle.ck_model.specs.declared.history.Reason.TheVariants.{NoRoom};
 ghost use Rattle.ck_model.specs.Contents.{layout_of, Lawful};
 ghost use Rattle.ck_model.specs.Paths.{Grounds, HasNoRoom};
 ghost use Rattle.ck_model.specs.Sections.{Owns};
 ghost use Rattle.ck_section.specs.Stripes.{contents_of, HaveNoSpare};
 ghost use Rattle.ck_section.specs.Room.{reason_of_lack};
-ghost use Rattle.ck_words.specs.Passes.{IsPassOf, IsUnchanged, numbers_of};
+ghost use Rattle.ck_words.specs.Passes.{IsUnchanged};
 ghost use Rattle.ck_words.specs.StripeSets.{list_of};
 ghost use Rattle.ck_words.specs.Retries.{as_doubled};
-ghost use Rattle.ck_words.specs.Holding.{HasReleased, IsToldNoMore, IsToldPower, IsDoubledBy};
+ghost use Rattle.ck_words.specs.Holding.{HoldsFirst, HasReleased, IsToldNoMore, IsToldPower, IsDoubledBy};
 ghost use Rattle.ck_words.specs.Renewing.{HasRenewed, HasRefused};
 
 use crate::guard::Guard;
@@ -119,11 +119,7 @@ impl<K: TableKey + Drop, V: Drop> Words<K, V> {
     // Gives the first `n` stripes of a set back as they are, where the pass holds no other.
     #[inline(always)]
     pub(crate) fn release_first(&self, pass: &mut Pass<K, V>, set: StripeSet, n: usize)
-        requires own { IsPassOf self.now pass.old }
-        requires inside { n ≤ length (list_of set) }
-        requires numbered { numbers_of pass.old.stripes ≡ take n (list_of set) }
-        requires no_spare { HaveNoSpare pass.old.stripes }
-        requires unchanged { IsUnchanged pass.old }
+        requires { HoldsFirst self.now (list_of set) n pass.old }
         ensures released { HasReleased self.now pass.old pass.new }
         ensures told { IsToldNoMore pass.old pass.new }
     {
@@ -138,11 +134,7 @@ impl<K: TableKey + Drop, V: Drop> Words<K, V> {
     #[cold]
     #[inline(never)]
     fn release_each(&self, pass: &mut Pass<K, V>, set: StripeSet, n: usize)
-        requires own { IsPassOf self.now pass.old }
-        requires inside { n ≤ length (list_of set) }
-        requires numbered { numbers_of pass.old.stripes ≡ take n (list_of set) }
-        requires no_spare { HaveNoSpare pass.old.stripes }
-        requires unchanged { IsUnchanged pass.old }
+        requires { HoldsFirst self.now (list_of set) n pass.old }
         ensures released { HasReleased self.now pass.old pass.new }
         ensures told { IsToldNoMore pass.old pass.new }
     {

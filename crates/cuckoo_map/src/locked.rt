@@ -19,7 +19,7 @@ ghost use Rattle.ck_words.specs.Retries.{FindsAmong};
 ghost use Rattle.ck_words.specs.Closing.{IsCaller};
 ghost use Rattle.cuckoo_map.specs.Refusals.{IsStripeIn, IsBusyAmong, why_of};
 ghost use Rattle.cuckoo_map.specs.Callers.{caller_of, IsSameCaller};
-ghost use Rattle.cuckoo_map.specs.Locking.{map_of, session_call, EndsSession, EndsNotes, HasLocked, HasActed, HasChanged, DoublesFor, GivesBack, LockedInsertionLeaves, Clears, Lists, KeepsMap, LacksRoom, SeeksRoom};
+ghost use Rattle.cuckoo_map.specs.Locking.{map_of, session_call, EndsSession, EndsNotes, HasLocked, HasActed, HasChanged, DoublesFor, LockedInsertionLeaves, Clears, Lists, KeepsMap, LacksRoom, SeeksRoom};
 ghost use Rattle.cuckoo_map.specs.Insertions.{TellsOf};
 
 use crate::caller::Caller;
@@ -167,10 +167,8 @@ impl<'t, K: TableKey + Drop, V: Drop> LockedTable<'t, K, V> {
         insertion: I,
     ) -> Result<I::Answer, Refused<K, I::Value>>
         requires call { I.can_make insertion value }
-        ensures answered { IfOk result (TellsOf (I.tells insertion value)
-            (HasActed (K.name key) self.old self.new)) }
-        ensures refused { IfErr result (GivesBack K.hash (K.name key) key value self.old self.new) }
-        ensures grows { DoublesFor K.hash (K.name key) self.old self.new }
+        ensures { LockedInsertionLeaves (TellsOf (I.tells insertion value))
+            K.hash (K.name key) key value result self.old self.new }
     {
         let place = self.place(&key);
         match put_in(&mut self.whole, place, key, value, insertion) {
@@ -189,10 +187,8 @@ impl<'t, K: TableKey + Drop, V: Drop> LockedTable<'t, K, V> {
         insertion: I,
     ) -> Result<I::Answer, Refused<K, I::Value>>
         requires call { I.can_make insertion value }
-        ensures answered { IfOk result (TellsOf (I.tells insertion value)
-            (HasActed (K.name key) self.old self.new)) }
-        ensures refused { IfErr result (GivesBack K.hash (K.name key) key value self.old self.new) }
-        ensures grows { DoublesFor K.hash (K.name key) self.old self.new }
+        ensures { LockedInsertionLeaves (TellsOf (I.tells insertion value))
+            K.hash (K.name key) key value result self.old self.new }
     {
         if let Err(lack) = self.make_room(&key) {
             let why = Why::of(lack);

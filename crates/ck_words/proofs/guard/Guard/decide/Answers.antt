@@ -1,3 +1,4 @@
+use Rattle.std.proofs.Common.{rules}
 use Rattle.ck_words.specs.StripeSets.{list_of}
 use Rattle.ck_words.proofs.Guarding.{its_numbers}
 use Rattle.ck_words.proofs.Releasing.{last_highest, others_left}
@@ -6,8 +7,14 @@ use Rattle.ck_words.proofs.guard.Guard.decide.Goals as goal
 pub decide-requires-clause-highest : goal.decide-requires-clause-highest
 decide-requires-clause-highest g c = last_highest (list_of c.args.self.now.set) _ _ _ c.args.self.now.set.some c.count-last.ensures c.at.ensures.value (its_numbers c.args.self.now.pass.now.stripes c.args.self.now.numbered c.requires.locked)
 
-pub release_first-requires-clause-numbered : goal.release_first-requires-clause-numbered
-release_first-requires-clause-numbered g c = others_left (list_of c.args.self.now.set) _ _ _ c.args.self.now.set.some c.count-last.ensures c.at.ensures.value (its_numbers c.args.self.now.pass.now.stripes c.args.self.now.numbered c.requires.locked) _ _ c.decide.ensures.step.1
+pub release_first-requires : goal.release_first-requires
+release_first-requires g c = record {
+  own = search rules;
+  inside = search rules;
+  numbered = others_left (list_of c.args.self.now.set) _ _ _ c.args.self.now.set.some c.count-last.ensures c.at.ensures.value (its_numbers c.args.self.now.pass.now.stripes c.args.self.now.numbered c.requires.locked) _ _ c.decide.ensures.step.1;
+  no_spare = search rules;
+  unchanged = search rules;
+}
 
 pub returns-clause-decided : goal.returns-clause-decided
 returns-clause-decided g c = (c.decide.new.pass, c.decide.ensures.step, c.release_first.ensures.released)

@@ -12,8 +12,14 @@ use Rattle.ck_words.proofs.guard.Guard.refuse.Goals as goal
 pub renew-requires : goal.renew-requires
 renew-requires g c = record { own = c.args.self.now.own; highest = last_highest (list_of c.args.self.now.set) _ _ _ c.args.self.now.set.some c.count-last.ensures c.at.ensures.value (its_numbers c.args.self.now.pass.now.stripes c.args.self.now.numbered c.requires.locked); no_spare = c.requires.no_spare; section = c.requires.renewed; grounds = search rules }
 
-pub release_first-requires-clause-numbered : goal.release_first-requires-clause-numbered
-release_first-requires-clause-numbered g c = others_left (list_of c.args.self.now.set) _ _ _ c.args.self.now.set.some c.count-last.ensures c.at.ensures.value (its_numbers c.args.self.now.pass.now.stripes c.args.self.now.numbered c.requires.locked) _ _ c.renew.ensures.step.1
+pub release_first-requires : goal.release_first-requires
+release_first-requires g c = record {
+  own = search rules;
+  inside = search rules;
+  numbered = others_left (list_of c.args.self.now.set) _ _ _ c.args.self.now.set.some c.count-last.ensures c.at.ensures.value (its_numbers c.args.self.now.pass.now.stripes c.args.self.now.numbered c.requires.locked) _ _ c.renew.ensures.step.1;
+  no_spare = search rules;
+  unchanged = search rules;
+}
 
 pub returns-clause-refused : goal.returns-clause-refused
 returns-clause-refused g c =

@@ -14,13 +14,14 @@ try_again-requires g c = record {
   unchanged = search rules;
 }
 
-pub release_first-requires-clause-numbered : goal.release_first-requires-clause-numbered
-release_first-requires-clause-numbered g c =
-    later_first g.K.TableKey.hash c.args.self.now (list_of c.args.set) c.args.i c.at-missed.result c.at-missed.ensures.value c.requires.missed.0 c.args.pass.now c.args.set.rising c.show_range.ensures.turns c.requires.missed.1 _ c.try_again.new.pass c.if-not-try_again.ensures.tries
-
-pub release_first-requires-clause-no_spare : goal.release_first-requires-clause-no_spare
-release_first-requires-clause-no_spare g c =
-    later_spare g.K.TableKey.hash c.args.self.now (list_of c.args.set) c.args.i c.at-missed.result c.at-missed.ensures.value c.requires.missed.0 c.args.pass.now c.args.set.rising c.show_range.ensures.turns c.requires.missed.1 _ c.try_again.new.pass c.if-not-try_again.ensures.tries
+pub release_first-requires : goal.release_first-requires
+release_first-requires g c = record {
+  own = search rules;
+  inside = search rules;
+  numbered = later_first g.K.TableKey.hash c.args.self.now (list_of c.args.set) c.args.i c.at-missed.result c.at-missed.ensures.value c.requires.missed.0 c.args.pass.now c.args.set.rising c.show_range.ensures.turns c.requires.missed.1 _ c.try_again.new.pass c.if-not-try_again.ensures.tries;
+  no_spare = later_spare g.K.TableKey.hash c.args.self.now (list_of c.args.set) c.args.i c.at-missed.result c.at-missed.ensures.value c.requires.missed.0 c.args.pass.now c.args.set.rising c.show_range.ensures.turns c.requires.missed.1 _ c.try_again.new.pass c.if-not-try_again.ensures.tries;
+  unchanged = search rules;
+}
 
 pub returns-then-not-try_again : goal.returns-then-not-try_again
 returns-then-not-try_again g c = record {
@@ -41,13 +42,14 @@ pub loop-j-preserved : goal.loop-j-preserved
 loop-j-preserved g c p m =
     next_taken g.K.TableKey.hash c.args.self.now (list_of c.args.set) c.loop-j.j c.at-t.result c.at-t.ensures.value p c.loop-j.pass c.args.set.rising (omega arith) (c.loop-j.invariant p m) c.args.self.now.settings.turns c.try_take.new.pass c.if-not-try_take.ensures.tries c.try_take.ensures.own c.try_take.ensures.unchanged
 
-pub release_first-requires-then-not-try_take-clause-numbered : goal.release_first-requires-then-not-try_take-clause-numbered
-release_first-requires-then-not-try_take-clause-numbered g c =
-    still_first g.K.TableKey.hash c.args.self.now (list_of c.args.set) c.loop-j.j c.at-t.result c.at-t.ensures.value c.requires.missed.0 c.loop-j.pass c.args.set.rising (omega arith) (c.loop-j.invariant c.requires.missed.0 c.requires.missed.1) _ c.try_take.new.pass c.if-not-try_take.ensures.tries
-
-pub release_first-requires-then-not-try_take-clause-no_spare : goal.release_first-requires-then-not-try_take-clause-no_spare
-release_first-requires-then-not-try_take-clause-no_spare g c =
-    still_spare g.K.TableKey.hash c.args.self.now (list_of c.args.set) c.loop-j.j c.at-t.result c.at-t.ensures.value c.requires.missed.0 c.loop-j.pass c.args.set.rising (omega arith) (c.loop-j.invariant c.requires.missed.0 c.requires.missed.1) _ c.try_take.new.pass c.if-not-try_take.ensures.tries
+pub release_first-requires-then-not-try_take : goal.release_first-requires-then-not-try_take
+release_first-requires-then-not-try_take g c = record {
+  own = search rules;
+  inside = search rules;
+  numbered = still_first g.K.TableKey.hash c.args.self.now (list_of c.args.set) c.loop-j.j c.at-t.result c.at-t.ensures.value c.requires.missed.0 c.loop-j.pass c.args.set.rising (omega arith) (c.loop-j.invariant c.requires.missed.0 c.requires.missed.1) _ c.try_take.new.pass c.if-not-try_take.ensures.tries;
+  no_spare = still_spare g.K.TableKey.hash c.args.self.now (list_of c.args.set) c.loop-j.j c.at-t.result c.at-t.ensures.value c.requires.missed.0 c.loop-j.pass c.args.set.rising (omega arith) (c.loop-j.invariant c.requires.missed.0 c.requires.missed.1) _ c.try_take.new.pass c.if-not-try_take.ensures.tries;
+  unchanged = search rules;
+}
 
 pub returns-then-not-try_take : goal.returns-then-not-try_take
 returns-then-not-try_take g c = record {

@@ -1,4 +1,4 @@
-use Rattle.std.proofs.Common.{◌∙◌, ap, subst}
+use Rattle.std.proofs.Common.{rules, ◌∙◌, ap, subst}
 use Rattle.ck_model.specs.Promise.{Name}
 use Rattle.ck_words.specs.Passes.{PassState}
 use Rattle.cuckoo_map.specs.Locking.{LockedState, locked_of, DoublesFor}
@@ -11,23 +11,28 @@ invariant_of-self g c =
     acted_locked c.self.invariant c.self.view_is c.place-place.result c.place-place.ensures.s (g.K.TableKey.name c.args.key) c.put_in.new.whole c.put_in.ensures.same
     call.0 call.1 c.put_in.ensures.rest call.3
 
-pub returns-in-Ok-clause-answered : goal.returns-in-Ok-clause-answered
-returns-in-Ok-clause-answered g c =
-    let call = c.in-Ok.ensures.call in (
-      call.0,
-      call.1,
-      call.2,
-      has_acted c.self.invariant c.self.view_is c.place-place.result c.place-place.ensures.s (g.K.TableKey.name c.args.key) c.put_in.new.whole c.put_in.ensures.same
-          call.0 call.1 call.3,
-    )
+pub returns-in-Ok : goal.returns-in-Ok
+returns-in-Ok g c =
+    let call = c.in-Ok.ensures.call in
+    record {
+      answered = (
+        call.0,
+        call.1,
+        call.2,
+        has_acted c.self.invariant c.self.view_is c.place-place.result c.place-place.ensures.s (g.K.TableKey.name c.args.key) c.put_in.new.whole c.put_in.ensures.same
+            call.0 call.1 call.3,
+      );
+      refused = tt;
+      grows = grows_not g.K.TableKey.hash (g.K.TableKey.name c.args.key) c.args.self.now (locked_of c.self.inside.table.now c.put_in.new.whole)
+          (keeps_power c.self.invariant c.put_in.new.whole c.put_in.ensures.same c.self.view_is c.put_in.ensures.rest);
+    }
 
-pub returns-in-Ok-clause-grows : goal.returns-in-Ok-clause-grows
-returns-in-Ok-clause-grows g c =
-    grows_not g.K.TableKey.hash (g.K.TableKey.name c.args.key) c.args.self.now (locked_of c.self.inside.table.now c.put_in.new.whole)
-    (keeps_power c.self.invariant c.put_in.new.whole c.put_in.ensures.same c.self.view_is c.put_in.ensures.rest)
-
-pub returns-in-Err-clause-grows : goal.returns-in-Err-clause-grows
-returns-in-Err-clause-grows g c =
+pub returns-in-Err : goal.returns-in-Err
+returns-in-Err g c =
     let same = ap (λ (p : PassState g.row.V.Denot). locked_of c.self.inside.table.now p) c.in-Err.ensures.left ∙ c.self.view_is in
     let name = ap (λ (k : g.row.K.Denot). g.K.TableKey.name k) c.in-Err.ensures.full.0 in
-    subst (λ (x : Name × LockedState g.row.V.Denot). DoublesFor g.K.TableKey.hash x.0 x.1 c.put_with_room.new.self) (λ j. (name j, same j)) c.put_with_room.ensures.grows
+    record {
+      answered = search rules;
+      refused = search rules;
+      grows = subst (λ (x : Name × LockedState g.row.V.Denot). DoublesFor g.K.TableKey.hash x.0 x.1 c.put_with_room.new.self) (λ j. (name j, same j)) c.put_with_room.ensures.grows;
+    }

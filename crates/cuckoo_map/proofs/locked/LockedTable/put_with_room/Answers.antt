@@ -15,18 +15,19 @@ invariant_of-self g c =
     acted_locked c.self.invariant c.self.view_is c.place-place.result c.place-place.ensures.s (g.K.TableKey.name c.args.key) c.put_in.new.whole c.put_in.ensures.same
     call.0 call.1 c.put_in.ensures.rest call.3
 
-pub returns-clause-answered : goal.returns-clause-answered
-returns-clause-answered g c =
+pub returns : goal.returns
+returns g c =
     let q = g.K.TableKey.name c.args.key in
-    let call = c.in-Ok.ensures.call in (
-      call.0,
-      call.1,
-      call.2,
-      acted_since q call.0 call.1 c.args.self.now c.make_room.new.self _ c.make_room.ensures.kept
-          (has_acted c.self.invariant c.self.view_is c.place-place.result c.place-place.ensures.s q c.put_in.new.whole c.put_in.ensures.same call.0 call.1 call.3),
-    )
-
-pub returns-clause-grows : goal.returns-clause-grows
-returns-clause-grows g c =
-    grows_since g.K.TableKey.hash (g.K.TableKey.name c.args.key) c.args.self.now c.make_room.new.self (locked_of c.self.inside.table.now c.put_in.new.whole) c.make_room.ensures.grows
-    (keeps_power c.self.invariant c.put_in.new.whole c.put_in.ensures.same c.self.view_is c.put_in.ensures.rest)
+    let call = c.in-Ok.ensures.call in
+    record {
+      answered = (
+        call.0,
+        call.1,
+        call.2,
+        acted_since q call.0 call.1 c.args.self.now c.make_room.new.self _ c.make_room.ensures.kept
+            (has_acted c.self.invariant c.self.view_is c.place-place.result c.place-place.ensures.s q c.put_in.new.whole c.put_in.ensures.same call.0 call.1 call.3),
+      );
+      refused = tt;
+      grows = grows_since g.K.TableKey.hash q c.args.self.now c.make_room.new.self (locked_of c.self.inside.table.now c.put_in.new.whole) c.make_room.ensures.grows
+          (keeps_power c.self.invariant c.put_in.new.whole c.put_in.ensures.same c.self.view_is c.put_in.ensures.rest);
+    }
