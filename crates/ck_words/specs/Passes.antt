@@ -7,7 +7,7 @@ use Rattle.ck_model.specs.Promise.{Name}
 use Rattle.ck_model.specs.Numbered.{numbers}
 use Rattle.ck_model.specs.Contents.{layout_of, Stripes}
 use Rattle.ck_stripe.specs.Stripe.{StripeState}
-use Rattle.ck_section.specs.Stripes.{contents_of}
+use Rattle.ck_section.specs.Stripes.{contents_of, HaveNoSpare}
 use Rattle.ck_core.specs.declared.view.View.{View}
 use Rattle.ck_core.specs.Steps.{Label, IsAbove}
 use Rattle.ck_core.specs.Steps.Label.{Take, FindHeld, Look}
@@ -93,6 +93,12 @@ module _ {V : Type 0} where
     pub inside : t < 2 ^ w.settings.s
     pub above : IsAbove t (numbers p.view.held)
     pub unchanged : IsUnchanged p
+
+  -- The pass of this table holds the stripe t, the highest of its stripes, and these have no memory to spare.
+  pub record MayGive (w : WordsState) (t : ℕ) (p : PassState V) : Type 0 where
+    pub own : IsPassOf w p
+    pub highest : IsHighest t p.stripes
+    pub no_spare : HaveNoSpare p.stripes
 
   -- what the view shows, with the history that it has seen
   abbrev pub ShowsSeen : (Name → ℕ) → Settings → PassState V → Type 0

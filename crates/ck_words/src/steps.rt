@@ -8,7 +8,7 @@ ghost use Rattle.ck_model.specs.Contents.{layout_of, Lawful};
 ghost use Rattle.ck_model.specs.Sections.{Section, IdentitySection};
 ghost use Rattle.ck_core.specs.Steps.{Label, IsAbove, IsExcused, HasGrounds};
 ghost use Rattle.ck_section.specs.Stripes.{contents_of, HaveNoSpare};
-ghost use Rattle.ck_words.specs.Passes.{MayTake, IsPassOf, IsHighest, IsUnchanged, TriesStripe, Sends, LooksUp};
+ghost use Rattle.ck_words.specs.Passes.{MayTake, MayGive, IsPassOf, IsUnchanged, TriesStripe, Sends, LooksUp};
 
 use crate::pass::Pass;
 use crate::words::Words;
@@ -130,9 +130,7 @@ impl<K: TableKey + Drop, V: Drop> Words<K, V> {
     ///
     /// It is a store of 0. Where the stripes show it, it may tell that a name found no room.
     pub fn give<J: Refuses, X>(&self, pass: &mut Pass<K, V>, t: usize, said: &X)
-        requires own { IsPassOf self.now pass.old }
-        requires highest { IsHighest t pass.old.stripes }
-        requires no_spare { HaveNoSpare pass.old.stripes }
+        requires holds { MayGive self.now t pass.old }
         requires unchanged { IsUnchanged pass.old }
         requires excused { Lawful (layout_of K.hash self.now.settings)
             (contents_of pass.old.stripes) → IsExcused (layout_of K.hash
@@ -151,9 +149,7 @@ impl<K: TableKey + Drop, V: Drop> Words<K, V> {
     ///
     /// It is a store of 0.
     pub(crate) fn give_rest(&self, pass: &mut Pass<K, V>, t: usize)
-        requires own { IsPassOf self.now pass.old }
-        requires highest { IsHighest t pass.old.stripes }
-        requires no_spare { HaveNoSpare pass.old.stripes }
+        requires holds { MayGive self.now t pass.old }
         requires unchanged { IsUnchanged pass.old }
         ensures own { IsPassOf self.now pass.new }
         ensures step { Sends K.hash self.now (λ t _. Label.GiveRest t) pass.old pass.new }
@@ -169,9 +165,7 @@ impl<K: TableKey + Drop, V: Drop> Words<K, V> {
     /// It is a store of 0, by which the entry joins the history. The pass has then seen the history
     /// up to it.
     pub fn decide<J: Says<V>, X>(&self, pass: &mut Pass<K, V>, t: usize, said: &X)
-        requires own { IsPassOf self.now pass.old }
-        requires highest { IsHighest t pass.old.stripes }
-        requires no_spare { HaveNoSpare pass.old.stripes }
+        requires holds { MayGive self.now t pass.old }
         requires caller { pass.old.view.by ≡ Some J.entry.by }
         requires section { Lawful (layout_of K.hash self.now.settings) (reverse pass.old.view.held)
             → Section (layout_of K.hash self.now.settings) (reverse
@@ -192,9 +186,7 @@ impl<K: TableKey + Drop, V: Drop> Words<K, V> {
     ///
     /// It is a store of 0. Where the stripes show it, it may tell that a name found no room.
     pub fn renew<J: Refuses, X>(&self, pass: &mut Pass<K, V>, t: usize, said: &X)
-        requires own { IsPassOf self.now pass.old }
-        requires highest { IsHighest t pass.old.stripes }
-        requires no_spare { HaveNoSpare pass.old.stripes }
+        requires holds { MayGive self.now t pass.old }
         requires section { Lawful (layout_of K.hash self.now.settings) (reverse pass.old.view.held)
             → IdentitySection (layout_of K.hash self.now.settings) (reverse
             pass.old.view.held) (contents_of pass.old.stripes) }

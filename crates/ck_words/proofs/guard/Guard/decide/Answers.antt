@@ -4,8 +4,8 @@ use Rattle.ck_words.proofs.Guarding.{its_numbers}
 use Rattle.ck_words.proofs.Releasing.{last_highest, others_left}
 use Rattle.ck_words.proofs.guard.Guard.decide.Goals as goal
 
-pub decide-requires-clause-highest : goal.decide-requires-clause-highest
-decide-requires-clause-highest g c = last_highest (list_of c.args.self.now.set) _ _ _ c.args.self.now.set.some c.count-last.ensures c.at.ensures.value (its_numbers c.args.self.now.pass.now.stripes c.args.self.now.numbered c.requires.locked)
+pub decide-requires-clause-holds : goal.decide-requires-clause-holds
+decide-requires-clause-holds g c = record { own = search rules; highest = last_highest (list_of c.args.self.now.set) _ _ _ c.args.self.now.set.some c.count-last.ensures c.at.ensures.value (its_numbers c.args.self.now.pass.now.stripes c.args.self.now.numbered c.requires.locked); no_spare = search rules }
 
 pub release_first-requires : goal.release_first-requires
 release_first-requires g c = record {

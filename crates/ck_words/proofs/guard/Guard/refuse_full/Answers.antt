@@ -6,8 +6,8 @@ use Rattle.ck_words.proofs.Releasing.{last_highest, others_left}
 use Rattle.ck_words.proofs.Renewed.{refused_giving}
 use Rattle.ck_words.proofs.guard.Guard.refuse_full.Goals as goal
 
-pub give-requires-clause-highest : goal.give-requires-clause-highest
-give-requires-clause-highest g c = last_highest (list_of c.args.self.now.set) _ _ _ c.args.self.now.set.some c.count-last.ensures c.at.ensures.value (its_numbers c.args.self.now.pass.now.stripes c.args.self.now.numbered c.requires.locked)
+pub give-requires-clause-holds : goal.give-requires-clause-holds
+give-requires-clause-holds g c = record { own = search rules; highest = last_highest (list_of c.args.self.now.set) _ _ _ c.args.self.now.set.some c.count-last.ensures c.at.ensures.value (its_numbers c.args.self.now.pass.now.stripes c.args.self.now.numbered c.requires.locked); no_spare = search rules }
 
 pub give-requires-clause-excused : goal.give-requires-clause-excused
 give-requires-clause-excused g c = c.requires.full

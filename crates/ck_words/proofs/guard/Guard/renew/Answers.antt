@@ -7,7 +7,7 @@ use Rattle.ck_words.proofs.Telling.{told_renewed, doubled_renewed}
 use Rattle.ck_words.proofs.guard.Guard.renew.Goals as goal
 
 pub renew-requires : goal.renew-requires
-renew-requires g c = record { own = c.args.self.now.own; highest = last_highest (list_of c.args.self.now.set) _ _ _ c.args.self.now.set.some c.count-last.ensures c.at.ensures.value (its_numbers c.args.self.now.pass.now.stripes c.args.self.now.numbered c.requires.locked); no_spare = c.requires.no_spare; section = c.requires.renewed; grounds = λ _. tt }
+renew-requires g c = record { holds = record { own = c.args.self.now.own; highest = last_highest (list_of c.args.self.now.set) _ _ _ c.args.self.now.set.some c.count-last.ensures c.at.ensures.value (its_numbers c.args.self.now.pass.now.stripes c.args.self.now.numbered c.requires.locked); no_spare = c.requires.no_spare }; section = c.requires.renewed; grounds = λ _. tt }
 
 pub release_first-requires : goal.release_first-requires
 release_first-requires g c = record {

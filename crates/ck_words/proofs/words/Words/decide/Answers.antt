@@ -6,14 +6,14 @@ use Rattle.ck_words.proofs.words.Words.decide.Given.{Over}
 use Rattle.ck_words.proofs.words.Words.decide.Goals as goal
 
 pub overflow_mul-t : goal.overflow_mul-t
-overflow_mul-t g c = word_fits g.K.TableKey.hash _ _ _ _ _ _ _ (fits _ _ _ _ _ _ c.pass.inside.seat.me c.self.view_is c.self.invariant c.pass.view_is c.requires.own) c.args.t c.pass.invariant.seated c.requires.highest c.requires.no_spare
+overflow_mul-t g c = word_fits g.K.TableKey.hash _ _ _ _ _ _ _ (fits _ _ _ _ _ _ c.pass.inside.seat.me c.self.view_is c.self.invariant c.pass.view_is c.requires.holds.own) c.args.t c.pass.invariant.seated c.requires.holds.highest c.requires.holds.no_spare
 
 pub store-requires : goal.store-requires
-store-requires g c = decide_ready g.K.TableKey.hash _ _ _ _ _ _ _ (fits _ _ _ _ _ _ c.pass.inside.seat.me c.self.view_is c.self.invariant c.pass.view_is c.requires.own) c.args.t c.pass.invariant.seated c.requires.highest c.requires.no_spare g.J.Says.entry _ _ c.requires.caller c.requires.section
+store-requires g c = decide_ready g.K.TableKey.hash _ _ _ _ _ _ _ (fits _ _ _ _ _ _ c.pass.inside.seat.me c.self.view_is c.self.invariant c.pass.view_is c.requires.holds.own) c.args.t c.pass.invariant.seated c.requires.holds.highest c.requires.holds.no_spare g.J.Says.entry _ _ c.requires.caller c.requires.section
 
 -- the stripe went home
 went : (g : Over) (c : goal.After-store g) → Went g.K.TableKey.hash c.args.self.now (λ n ks. Decide n ks g.J.Says.entry) c.args.pass.now c.store.new.seat.table_id c.store.new.seat.me
-went g c = decide_went g.K.TableKey.hash _ _ _ _ _ _ _ (fits _ _ _ _ _ _ c.pass.inside.seat.me c.self.view_is c.self.invariant c.pass.view_is c.requires.own) c.args.t c.pass.invariant.seated c.requires.highest c.requires.no_spare g.J.Says.entry _ _ c.store.ensures.0 c.store.ensures.2
+went g c = decide_went g.K.TableKey.hash _ _ _ _ _ _ _ (fits _ _ _ _ _ _ c.pass.inside.seat.me c.self.view_is c.self.invariant c.pass.view_is c.requires.holds.own) c.args.t c.pass.invariant.seated c.requires.holds.highest c.requires.holds.no_spare g.J.Says.entry _ _ c.store.ensures.0 c.store.ensures.2
 
 pub invariant_of-pass : goal.invariant_of-pass
 invariant_of-pass g c = ready_on c.pass.invariant c.store.ensures.0 (went g c).seated

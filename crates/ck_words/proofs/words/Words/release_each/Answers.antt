@@ -1,4 +1,4 @@
-use Rattle.std.proofs.Common.{◌≡◌, ◌∙◌, ◌-◌, ◌++◌, [], ◌∷◌, take, get_or, ap, sym, subst, arith}
+use Rattle.std.proofs.Common.{rules, ◌≡◌, ◌∙◌, ◌-◌, ◌++◌, [], ◌∷◌, take, get_or, ap, sym, subst, arith}
 use Rattle.ck_words.specs.StripeSets.{list_of}
 use Rattle.ck_words.proofs.Releasing.{Leaves, last_taken, leaves_all, leaves_fewer, leaves_none}
 use Rattle.ck_words.proofs.Telling.{told_none, told_fewer}
@@ -11,10 +11,8 @@ loop-i-init g c = record {
   told = told_none c.args.pass.now;
 }
 
-pub give_rest-requires-clause-highest : goal.give_rest-requires-clause-highest
-give_rest-requires-clause-highest g c =
-    let ns = list_of c.args.set in let i = c.loop-i.i in
-    (take (i - 1) ns, c.loop-i.invariant.leaves.numbered ∙ (last_taken ns i c.loop-i-test.true (omega arith) ∙ ap (λ u. take (i - 1) ns ++ u ∷ []) (sym c.at.ensures.value)))
+pub give_rest-requires-clause-holds : goal.give_rest-requires-clause-holds
+give_rest-requires-clause-holds g c = record { own = search rules; highest = (let ns = list_of c.args.set in let i = c.loop-i.i in (take (i - 1) ns, c.loop-i.invariant.leaves.numbered ∙ (last_taken ns i c.loop-i-test.true (omega arith) ∙ ap (λ u. take (i - 1) ns ++ u ∷ []) (sym c.at.ensures.value)))); no_spare = search rules }
 
 pub loop-i-preserved : goal.loop-i-preserved
 loop-i-preserved g c =

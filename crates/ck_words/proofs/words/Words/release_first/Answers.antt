@@ -1,4 +1,4 @@
-use Rattle.std.proofs.Common.{◌∙◌, ℕ, [], ◌∷◌, take, ap, sym, arith}
+use Rattle.std.proofs.Common.{rules, ◌∙◌, ℕ, [], ◌∷◌, take, ap, sym, arith}
 use Rattle.ck_words.specs.StripeSets.{list_of}
 use Rattle.ck_words.proofs.Releasing.{last_taken, leaves_all, leaves_after, leaves_none}
 use Rattle.ck_words.proofs.Telling.{told_none, told_fewer}
@@ -10,10 +10,8 @@ returns-in-0-clause-released g c =
     let p = c.args.pass.now in
     leaves_none w p p (leaves_all w [] p c.requires.own c.requires.unchanged (c.requires.numbered ∙ ap (λ n. take n (list_of c.args.set)) c.in-0.is))
 
-pub give_rest-requires-clause-highest : goal.give_rest-requires-clause-highest
-give_rest-requires-clause-highest g c =
-    let ns = list_of c.args.set in
-    ([], c.requires.numbered ∙ (ap (λ n. take n ns) c.in-1.is ∙ (last_taken ns 1 (omega arith) c.args.set.some ∙ ap (λ (u : ℕ). u ∷ []) (sym c.at.ensures.value))))
+pub give_rest-requires-clause-holds : goal.give_rest-requires-clause-holds
+give_rest-requires-clause-holds g c = record { own = search rules; highest = (let ns = list_of c.args.set in ([], c.requires.numbered ∙ (ap (λ n. take n ns) c.in-1.is ∙ (last_taken ns 1 (omega arith) c.args.set.some ∙ ap (λ (u : ℕ). u ∷ []) (sym c.at.ensures.value))))); no_spare = search rules }
 
 pub returns-in-1-clause-released : goal.returns-in-1-clause-released
 returns-in-1-clause-released g c =
