@@ -8,6 +8,8 @@ use Rattle.ck_section.specs.Stripes.{contents_of, HaveNoSpare}
 use Rattle.ck_section.specs.Room.{power_in}
 use Rattle.ck_words.specs.Words.{WordsState}
 use Rattle.ck_words.specs.Passes.{PassState, EachOf, IsPassOf, IsIdle, IsUnchanged, ShowsSeen, numbers_of}
+use Rattle.ck_words.specs.declared.stripe_set.StripeSet.{StripeSet}
+use Rattle.ck_words.specs.StripeSets.{list_of}
 use Rattle.ck_words.specs.Retries.{Stays, FindsAmong, IsBusy, found_again}
 
 module _ {V : Type 0} where
@@ -43,6 +45,18 @@ module _ {V : Type 0} where
   pub record TakesRest {A : Type 0} (hash : Name → ℕ) (w : WordsState) (ns : List ℕ) (i : ℕ) (result : Result A ℕ) (q r : PassState V) : Type 0 where
     pub taken : OnOk result ((p : PassState V) → Misses hash w ns i p q → HasTakenAll hash w ns p r)
     pub refused : IfErr result (λ t. (p : PassState V) → Misses hash w ns i p q → GivesUp w (λ u. IsIn u ns) t p r)
+
+  -- The pass is of this table, holds no stripe, and may lock these.
+  pub record MayLock (w : WordsState) (set : StripeSet) (p : PassState V) : Type 0 where
+    pub own : IsPassOf w p
+    pub idle : IsIdle p
+    pub of_table : set.s ≡ w.settings.s
+
+  -- The pass holds these stripes of its table.
+  pub record HoldsSet (w : WordsState) (set : StripeSet) (p : PassState V) : Type 0 where
+    pub own : IsPassOf w p
+    pub of_table : set.s ≡ w.settings.s
+    pub numbered : numbers_of p.stripes ≡ list_of set
 
   -- The pass holds the first n of these stripes of the table as they were taken, and no other.
   pub record HoldsFirst (w : WordsState) (ns : List ℕ) (n : ℕ) (p : PassState V) : Type 0 where

@@ -8,7 +8,7 @@ ghost use Rattle.ck_words.specs.Passes.{MayTake, IsPassOf, IsUnchanged, numbers_
 ghost use Rattle.ck_words.specs.StripeNumbers.{pair};
 ghost use Rattle.ck_words.specs.StripeSets.{list_of};
 ghost use Rattle.ck_words.specs.Retries.{TakesWithin, found_again, Stays, FindsAmong, IsBusy};
-ghost use Rattle.ck_words.specs.Holding.{HasTaken, HasTakenAll, Misses, TakesRest};
+ghost use Rattle.ck_words.specs.Holding.{MayLock, HasTaken, HasTakenAll, Misses, TakesRest};
 ghost use Rattle.ck_words.specs.Closing.{IsWhole};
 
 use crate::pass::Pass;
@@ -72,9 +72,7 @@ impl<K: TableKey + Drop, V: Drop> Words<K, V> {
     /// that stripe, which was found held `turns` times in a row.
     #[inline(always)]
     pub fn lock(&self, pass: &mut Pass<K, V>, set: StripeSet) -> Result<(), u32>
-        requires own { IsPassOf self.now pass.old }
-        requires idle { IsIdle pass.old }
-        requires of_table { set.s ≡ self.now.settings.s }
+        requires { MayLock self.now set pass.old }
         ensures own { IsPassOf self.now pass.new }
         ensures stays { Stays pass.old.view pass.new.view }
         ensures held { OnOk result (AreHeld self.now.settings.s pass.new.stripes) }
@@ -98,9 +96,7 @@ impl<K: TableKey + Drop, V: Drop> Words<K, V> {
     /// before it, and answers its position in the set.
     #[inline(always)]
     pub fn lock_now(&self, pass: &mut Pass<K, V>, set: StripeSet) -> Result<(), usize>
-        requires own { IsPassOf self.now pass.old }
-        requires idle { IsIdle pass.old }
-        requires of_table { set.s ≡ self.now.settings.s }
+        requires { MayLock self.now set pass.old }
         ensures own { IsPassOf self.now pass.new }
         ensures unchanged { IsUnchanged pass.new }
         ensures taken { OnOk result

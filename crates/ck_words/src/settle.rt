@@ -5,7 +5,7 @@ ghost use Rattle.ck_section.specs.Stripes.{settled_stripes};
 ghost use Rattle.ck_words.specs.Passes.{IsPassOf, IsUnchanged, numbers_of, PassState};
 ghost use Rattle.ck_words.specs.StripeNumbers.{pair};
 ghost use Rattle.ck_words.specs.StripeSets.{list_of};
-ghost use Rattle.ck_words.specs.Holding.{HasTakenAll};
+ghost use Rattle.ck_words.specs.Holding.{HoldsSet, HasTakenAll};
 
 use crate::guard;
 use crate::guard::Guard;
@@ -35,9 +35,7 @@ impl<K: TableKey + Drop, V: Drop> Words<K, V> {
     // Carries out the doublings that are left of the stripes of a set. Mostly there is none.
     #[inline(always)]
     fn settle(&self, pass: &mut Pass<K, V>, set: StripeSet)
-        requires own { IsPassOf self.now pass.old }
-        requires of_table { set.s ≡ self.now.settings.s }
-        requires numbered { numbers_of pass.old.stripes ≡ list_of set }
+        requires { HoldsSet self.now set pass.old }
         ensures own { IsPassOf self.now pass.new }
         ensures settled { pass.new
             ≡ record pass.old { stripes = settled_stripes pass.old.stripes } }
@@ -77,9 +75,7 @@ impl<K: TableKey + Drop, V: Drop> Words<K, V> {
 
     // Carries out the doublings that are left of the stripes of a set, one after another.
     fn settle_each(&self, pass: &mut Pass<K, V>, set: StripeSet)
-        requires own { IsPassOf self.now pass.old }
-        requires of_table { set.s ≡ self.now.settings.s }
-        requires numbered { numbers_of pass.old.stripes ≡ list_of set }
+        requires { HoldsSet self.now set pass.old }
         ensures own { IsPassOf self.now pass.new }
         ensures settled { pass.new
             ≡ record pass.old { stripes = settled_stripes pass.old.stripes } }
