@@ -8,7 +8,6 @@ ghost use Rattle.cuckoo_map.specs.Callers.{IsSameCaller};
 use ck_key::NumKey;
 use cuckoo_map::{Caller, LockedTable, Pass, Settings, Table};
 use std::alloc::{AllocError, Global};
-use std::process::Abort;
 use std::sync::atomic::{AtomicU64, Ordering};
 use std::test::Fail;
 
@@ -162,14 +161,17 @@ pub fn close(
     }
 }
 
-/// Binds these keys to these values. None of them is bound yet, and there is room for all.
-pub fn bind_all(rt: &impl Abort, caller: &mut NumCaller<'_>, pairs: &[(u64, u64)])
+/// Binds these keys to these values, and says whether each was unbound before. It stops at one that
+/// wasn't, or that was refused.
+pub fn bind_all(caller: &mut NumCaller<'_>, pairs: &[(u64, u64)]) -> bool
     ensures { IsSameCaller caller.old caller.new }
 {
     for (key, value) in pairs {
-        let fresh = caller.insert(NumKey(*key), *value);
-        assert!(rt; matches!(fresh, Ok(true)), "key {key}");
+        if !matches!(caller.insert(NumKey(*key), *value), Ok(true)) {
+            return false;
+        }
     }
+    true
 }
 
 /// Whether the pairs are these, each key by its number.

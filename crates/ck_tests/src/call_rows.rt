@@ -177,21 +177,13 @@ static RUNS_THAT_GROW: [Run; 2] = [
 ];
 
 /// Takes the step, and says whether the reply was the wanted one.
-fn take_step<'t>(
-    rt: &impl Abort,
-    first: &mut NumCaller<'t>,
-    second: &mut NumCaller<'t>,
-    step: Step,
-) -> bool
+fn take_step<'t>(first: &mut NumCaller<'t>, second: &mut NumCaller<'t>, step: Step) -> bool
     requires { first.old.table ≡ second.old.table }
     ensures first { IsSameCaller first.old first.new }
     ensures second { IsSameCaller second.old second.new }
 {
     match step {
-        Step::Bind(pairs) => {
-            bind_all(rt, first, pairs);
-            true
-        }
+        Step::Bind(pairs) => bind_all(first, pairs),
         Step::First(call, want) => answer(first, call) == want,
         Step::Second(call, want) => answer(second, call) == want,
         Step::Meet => {
@@ -214,7 +206,7 @@ fn take_steps<'t>(rt: &impl Abort, first: &mut NumCaller<'t>, second: &mut NumCa
 {
     let what = run.what;
     for (number, step) in run.steps.iter().enumerate() {
-        let as_wanted = take_step(rt, first, second, *step);
+        let as_wanted = take_step(first, second, *step);
         assert!(rt; as_wanted, "{what}: step {number}");
     }
 }

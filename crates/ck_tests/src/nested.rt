@@ -303,7 +303,8 @@ static SCENES: [Scene; 6] = [
 ];
 
 fn play(rt: &impl Abort, first: &mut NumCaller<'_>, others: &mut Others, scene: &Scene) {
-    bind_all(rt, first, scene.bound);
+    let fresh = bind_all(first, scene.bound);
+    assert!(rt; fresh, "{}", scene.what);
     take_turn(rt, first, others, &scene.turn);
     check_rows(rt, &mut others.second, scene.what, scene.seconds);
     check_rows(rt, &mut others.third, scene.what, scene.thirds);
@@ -357,7 +358,8 @@ fn find_all_but(rt: &impl Abort, caller: &mut NumCaller<'_>, held: Option<u32>) 
 fn each_stripe_in_turn(rt: HostRuntime) -> Result<(), Fail> {
     let (table, first, second, _) = open(rt.alloc(), SIXTEEN_BUCKETS)?;
     let (mut first, mut second) = (table.caller(first), table.caller(second));
-    bind_all(&rt, &mut first, &HELD.map(|(_, key, _, _)| (key, key)));
+    let fresh = bind_all(&mut first, &HELD.map(|(_, key, _, _)| (key, key)));
+    assert!(rt; fresh);
     for (t, key, looked, inserted) in &HELD {
         let around = |value: u64| {
             find_all_but(&rt, &mut second, Some(*t));
