@@ -3,12 +3,20 @@ use Rattle.std.specs.Prelude.{◌≡◌, ◌≢◌, ℕ, ◌*◌, ◌^◌, ◌<�
 use Rattle.std.specs.FinMap.{get}
 use Rattle.ck_model.specs.declared.history.Reason.{Reason}
 use Rattle.ck_model.specs.declared.history.Reason.TheVariants.{NoRoom, Full, LoadTooLow, Memory}
+use Rattle.ck_model.specs.declared.lack.Lack.{Lack}
+use Rattle.ck_model.specs.declared.lack.Lack.TheVariants as lacks
 use Rattle.ck_model.specs.Arithmetic.{alternate_of, partial_of}
 use Rattle.ck_model.specs.Promise.{Name}
 use Rattle.ck_model.specs.Slots.{Slot, slot_at, IsFull, HasFree}
 use Rattle.ck_model.specs.Sketches.{Sketch}
 use Rattle.ck_model.specs.Contents.{Layout, Stripes, IsBucketOf, Lawful, bindings, pairs_of, power_of, bucket_in}
 use Rattle.ck_model.specs.Sections.{HasAll}
+
+-- the reason why a table that lacks this makes no room
+abbrev pub reason_of_lack : Lack → Reason
+reason_of_lack lacks.Memory = Memory
+reason_of_lack lacks.Full = Full
+reason_of_lack lacks.LoadTooLow = LoadTooLow
 
 module _ {V : Type 0} where
   -- the name is unbound and its buckets are full

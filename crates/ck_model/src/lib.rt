@@ -5,6 +5,7 @@
 
 pub mod contents;
 pub mod history;
+pub mod lack;
 pub mod laws;
 pub mod path_hop;
 pub mod settings;

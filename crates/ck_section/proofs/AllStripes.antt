@@ -11,18 +11,16 @@ use Rattle.ck_model.specs.Contents.{IsBucketOf}
 use Rattle.ck_bucket.specs.Bucket.{LacksName}
 use Rattle.ck_stripe.specs.Stripe.{StripeState, bucket_of}
 use Rattle.ck_section.specs.declared.place.KeyPlace.{KeyPlace}
-use Rattle.ck_section.specs.Stripes.{no_stripe, stripe_at, bucket_at, IsInReach}
-use Rattle.ck_section.specs.Places.{IsPlaceOf, at}
+use Rattle.ck_stripe.specs.Stripes.{no_stripe, stripe_at, bucket_at, IsInReach}
+use Rattle.ck_section.specs.Places.{IsPlaceOf}
+use Rattle.ck_stripe.specs.HeldSlots.{at}
 use Rattle.ck_section.specs.Entries.{IsOccupied}
-use Rattle.ck_section.specs.Whole.{AreAllHeld}
+use Rattle.ck_stripe.specs.Tables.{AreAllHeld}
+use Rattle.ck_stripe.proofs.Tables.{stripe_read}
 use Rattle.ck_section.proofs.Decided.{IsCallOn}
 use Rattle.ck_section.proofs.Steps.{lacked, kept}
 
 module _ {V : Type 0} where
-  -- a stripe that was read
-  pub stripe_read : (stripes : List (StripeState V)) (i : ℕ) (t : StripeState V) → i < length stripes → t ≡ slice_index_or stripes i t → t ≡ stripe_at stripes i
-  stripe_read stripes i t lt is = is ∙ get_or_default stripes i t no_stripe lt
-
   -- its power, as it was read
   pub power_read : (stripes : List (StripeState V)) (i : ℕ) (t : StripeState V) (p : ℕ) → i < length stripes → t ≡ slice_index_or stripes i t → p ≡ t.content.power → p ≡ (stripe_at stripes i).content.power
   power_read stripes i t p lt is e = e ∙ ap (λ (u : StripeState V). u.content.power) (stripe_read stripes i t lt is)

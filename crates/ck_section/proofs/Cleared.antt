@@ -10,8 +10,9 @@ use Rattle.ck_model.specs.Contents.{Layout, layout, Stripes, pairs_of, bindings,
 use Rattle.ck_model.specs.Sections.{Renewed}
 use Rattle.ck_model.proofs.Fresh.{no_pairs, sound-fresh}
 use Rattle.ck_stripe.specs.Stripe.{StripeState, empty_content}
-use Rattle.ck_section.specs.Stripes.{no_stripe, stripe_at, contents_of}
-use Rattle.ck_section.specs.Whole.{AreAllHeld, AreSettled, IsTable, ClearsBindings}
+use Rattle.ck_stripe.specs.Stripes.{no_stripe, stripe_at, contents_of}
+use Rattle.ck_stripe.specs.Tables.{AreAllHeld, AreSettled, IsTable}
+use Rattle.ck_section.specs.Clearing.{ClearsBindings}
 use Rattle.ck_section.specs.Calls.{ChangesContents}
 use Rattle.ck_section.proofs.Kept.{all_after}
 

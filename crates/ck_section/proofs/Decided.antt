@@ -15,11 +15,13 @@ use Rattle.ck_model.proofs.Local.{Change, section_in_one}
 use Rattle.ck_model.proofs.Writes.{Writes, written, stands, places, removes, replaces}
 use Rattle.ck_stripe.specs.Stripe.{StripeState, bucket_of, with_slot}
 use Rattle.ck_section.specs.declared.place.KeyPlace.{KeyPlace}
-use Rattle.ck_section.specs.declared.place.HeldSlot.{HeldSlot}
-use Rattle.ck_section.specs.Stripes.{stripe_at, contents_of, IsInReach}
-use Rattle.ck_section.specs.Places.{IsPlaceOf, IsSlotOf, slot_in, set_slot, IsNowhere}
+use Rattle.ck_stripe.specs.declared.held_slot.HeldSlot.{HeldSlot}
+use Rattle.ck_stripe.specs.Stripes.{stripe_at, contents_of, IsInReach}
+use Rattle.ck_section.specs.Places.{IsPlaceOf, IsSlotOf, IsNowhere}
+use Rattle.ck_stripe.specs.HeldSlots.{slot_in, set_slot}
 use Rattle.ck_section.specs.Calls.{IsCall}
-use Rattle.ck_section.proofs.Found.{holds_at, contents_set, set_here, row_bucket, row_within, sound_at, nowhere, unbound, owns, bound_in}
+use Rattle.ck_stripe.proofs.Tables.{holds_at}
+use Rattle.ck_section.proofs.Found.{contents_set, set_here, row_bucket, row_within, sound_at, nowhere, unbound, owns, bound_in}
 
 module _ {V : Type 0} where
   -- a call, by the parts of its effect

@@ -1,4 +1,4 @@
--- Sections of no call, and doublings, one after another.
+-- Doublings, one after another.
 use Rattle.std.proofs.Common.{◌≡◌, ◌≢◌, ◌⊎◌, inl, inr, ⊎_elim, ℕ, ◌/◌, ◌%◌, ◌^◌, ◌<◌, ◌≤◌, List, Some, refl, sym, ◌∙◌, ap, subst, arith}
 use mathlib.Core.Logic.{dite}
 use native.Mathlib.Decide.{ℕ_discrete}
@@ -16,7 +16,6 @@ use Rattle.ck_model.specs.Doubling.{bucket_after, IsDoubledTo}
 use Rattle.ck_model.proofs.Buckets.{index_below, second_below, index_lower, second_lower}
 use Rattle.ck_model.proofs.Numbered.{if_same, if_else, in_held, held_of_in}
 use Rattle.ck_model.proofs.Rows.{rows_held, power_held}
-use Rattle.ck_section.proofs.Rebinding.{power_on}
 
 module _ (hash : Name → ℕ) (q : Name) where
   after_first : (p p2 b : ℕ) → b ≡ index_of p (hash q) → bucket_after hash p p2 q b ≡ index_of p2 (hash q)
@@ -49,40 +48,6 @@ module _ (hash : Name → ℕ) (q : Name) where
       ∙ sym (after_second p p3 b ne))
 
 module _ {V : Type 0} (k : Layout) where
-  -- each stripe has the power that it had
-  abbrev Same : Stripes V → Stripes V → Type 0
-  Same hs ks = (t u : ℕ) (c d : Content V) → Holds hs t c → Holds ks u d → d.power ≡ c.power
-
-  -- or a greater one
-  abbrev Rises : Stripes V → Stripes V → Type 0
-  Rises hs ks = (t u : ℕ) (c d : Content V) → Holds hs t c → Holds ks u d → c.power ≤ d.power
-
-  -- no call after no call
-  pub identity_on : (hs ks ls : Stripes V) → IdentitySection k hs ks → IdentitySection k ks ls → IdentitySection k hs ls
-  identity_on hs ks ls one two = record {
-    renewed = record {
-      same = two.renewed.same ∙ one.renewed.same;
-      lawful = two.renewed.lawful;
-      power = powers one.renewed.power two.renewed.power;
-    };
-    same_bindings = two.same_bindings ∙ one.same_bindings;
-  }
-    where
-      between : (t : ℕ) (c : Content V) → Holds hs t c → (e : Content V) × Holds ks t e
-      between t c h = held_of_in ks t (subst (IsIn t) (sym one.renewed.same) (in_held hs t c h))
-
-      through : (a b c : ℕ) → a ≤ b → b ≤ c → a ≤ c
-      through a b c x y = omega arith
-
-      powers : Same hs ks ⊎ (HasAll k hs × Rises hs ks) → Same ks ls ⊎ (HasAll k ks × Rises ks ls) → Same hs ls ⊎ (HasAll k hs × Rises hs ls)
-      powers (inl a) (inl b) = inl (power_on hs ks ls one.renewed.same a b)
-      powers (inl a) (inr b) = inr (
-        λ t lt. subst (IsIn t) one.renewed.same (b.0 t lt),
-        λ t u c d h g. let m = between t c h in subst (λ n. n ≤ d.power) (a t t c m.0 h m.1) (b.1 t u m.0 d m.1 g),
-      )
-      powers (inr a) (inl b) = inr (a.0, λ t u c d h g. let m = between t c h in subst (λ n. c.power ≤ n) (sym (b t u m.0 d m.1 g)) (a.1 t t c m.0 h m.1))
-      powers (inr a) (inr b) = inr (a.0, λ t u c d h g. let m = between t c h in through c.power m.0.power d.power (a.1 t t c m.0 h m.1) (b.1 t u m.0 d m.1 g))
-
   module _ (hs : Stripes V) (lawful : Lawful k hs) (all : HasAll k hs) where
     -- an entry of a lawful whole stands in a bucket of its name
     home : (b i : ℕ) (q : Name) (v : V) → slot_at (bucket_in k hs b) i ≡ Some (q, v) → IsBucketOf k.hash (power_of hs) q b

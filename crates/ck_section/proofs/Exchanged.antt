@@ -6,9 +6,10 @@ use Rattle.ck_model.specs.declared.history.Reply.TheVariants.{DoneTwo}
 use Rattle.ck_model.specs.Promise.{Name}
 use Rattle.ck_stripe.specs.Stripe.{StripeState}
 use Rattle.ck_section.specs.declared.place.KeyPlace.{KeyPlace}
-use Rattle.ck_section.specs.declared.place.HeldSlot.{HeldSlot}
-use Rattle.ck_section.specs.Stripes.{IsInReach}
-use Rattle.ck_section.specs.Places.{IsPlaceOf, slot_in}
+use Rattle.ck_stripe.specs.declared.held_slot.HeldSlot.{HeldSlot}
+use Rattle.ck_stripe.specs.Stripes.{IsInReach}
+use Rattle.ck_section.specs.Places.{IsPlaceOf}
+use Rattle.ck_stripe.specs.HeldSlots.{slot_in}
 use Rattle.ck_section.specs.Entries.{IsOccupied}
 use Rattle.ck_section.specs.Calls.{ChangesContents}
 use Rattle.ck_section.specs.TwoNames.{IsChangeOfTwo}

@@ -22,10 +22,10 @@ use Rattle.ck_path.specs.Route.{Route, first_bucket, AreLinked, IsLinked, Avoids
 use Rattle.ck_path.proofs.Shown.{free_shown, free_there, entry_there}
 use Rattle.ck_stripe.specs.Stripe.{StripeState, bucket_of, with_slot}
 use Rattle.ck_section.specs.declared.hop.Hop.{Hop}
-use Rattle.ck_section.specs.declared.place.HeldSlot.{HeldSlot}
-use Rattle.ck_section.specs.Stripes.{no_stripe, stripe_at, bucket_at}
-use Rattle.ck_section.specs.Places.{slot_in, set_slot}
-use Rattle.ck_section.specs.Whole.{AreAllHeld}
+use Rattle.ck_stripe.specs.declared.held_slot.HeldSlot.{HeldSlot}
+use Rattle.ck_stripe.specs.Stripes.{no_stripe, stripe_at, bucket_at}
+use Rattle.ck_stripe.specs.HeldSlots.{slot_in, set_slot}
+use Rattle.ck_stripe.specs.Tables.{AreAllHeld}
 use Rattle.ck_section.specs.Hops.{source_in, IsHopIn, CanHop, Hops, lifted}
 use Rattle.ck_section.specs.Room.{HaveFour, sketch_of}
 use Rattle.ck_section.proofs.Found.{set_here}

@@ -18,22 +18,18 @@ use Rattle.ck_model.proofs.Buckets.{index_lower, second_lower}
 use Rattle.ck_model.proofs.Numbered.{in_held, one_content, if_same, if_else}
 use Rattle.ck_model.proofs.Belongs.{found_entry}
 use Rattle.ck_model.proofs.Found.{bound_where, bound_from}
-pub use Rattle.ck_model.proofs.Rows.{rows_held, power_held}
+use Rattle.ck_model.proofs.Rows.{rows_held, power_held}
 use Rattle.ck_model.proofs.Writes.{stands}
 use Rattle.ck_stripe.specs.Stripe.{StripeState, HasBucket}
 use Rattle.ck_section.specs.declared.place.KeyPlace.{KeyPlace}
-use Rattle.ck_section.specs.declared.place.HeldSlot.{HeldSlot}
-use Rattle.ck_section.specs.Stripes.{no_stripe, stripe_at, bucket_at, set_content, contents_of, IsInReach}
-use Rattle.ck_section.specs.Places.{IsPlaceOf, IsSlotOf, slot_in, IsNowhere, AreFull}
+use Rattle.ck_stripe.specs.declared.held_slot.HeldSlot.{HeldSlot}
+use Rattle.ck_stripe.specs.Stripes.{no_stripe, stripe_at, bucket_at, set_content, contents_of, IsInReach}
+use Rattle.ck_section.specs.Places.{IsPlaceOf, IsSlotOf, IsNowhere, AreFull}
+use Rattle.ck_stripe.specs.HeldSlots.{slot_in}
 use Rattle.ck_section.specs.Calls.{ChangesContents}
+use Rattle.ck_stripe.proofs.Tables.{holds_at}
 
 module _ {V : Type 0} where
-  -- a held stripe is among the contents
-  pub holds_at : (stripes : List (StripeState V)) (i : ℕ) → i < length stripes → Holds (contents_of stripes) (stripe_at stripes i).number (stripe_at stripes i).content
-  holds_at [] i lt = absurd (omega arith)
-  holds_at (t ∷ ts) zero lt = inl (refl, refl)
-  holds_at (t ∷ ts) (suc i) lt = inr (holds_at ts i (omega arith))
-
   with_miss : (t : ℕ) (c : Content V) (hs : Stripes V) → ¬ (IsIn t (numbers hs)) → with_content t c hs ≡ hs
   with_miss t c [] out = refl
   with_miss t c (h ∷ hs) out =

@@ -14,11 +14,11 @@ use Rattle.ck_model.specs.Slots.{HasFree}
 use Rattle.ck_model.specs.Contents.{Stripes, IsBucketOf}
 use Rattle.ck_model.proofs.Buckets.{index_below, second_below}
 use Rattle.ck_stripe.specs.Stripe.{StripeState}
-use Rattle.ck_section.specs.Stripes.{no_stripe, stripe_at, bucket_at, contents_of, settled_stripes, IsInReach}
+use Rattle.ck_stripe.specs.Stripes.{no_stripe, stripe_at, bucket_at, contents_of, settled_stripes, IsInReach}
 use Rattle.ck_section.specs.Places.{IsPlaceOf}
-use Rattle.ck_section.specs.Whole.{AreAllHeld, IsTable}
+use Rattle.ck_stripe.specs.Tables.{AreAllHeld, IsTable, power_in}
 use Rattle.ck_section.specs.Calls.{IsWithRoom}
-use Rattle.ck_section.specs.Room.{power_in, settled_at}
+use Rattle.ck_section.specs.Room.{settled_at}
 use Rattle.ck_section.proofs.Found.{has_room}
 use Rattle.ck_section.proofs.Tables.{stripe_inside}
 

@@ -14,11 +14,12 @@ use Rattle.ck_model.proofs.Buckets.{index_below, alternate_twice, alternate_belo
 use Rattle.ck_model.specs.Paths.{partial_in}
 use Rattle.ck_stripe.specs.Stripe.{StripeState}
 use Rattle.ck_section.specs.declared.hop.Hop.{Hop}
-use Rattle.ck_section.specs.declared.place.HeldSlot.{HeldSlot}
-use Rattle.ck_section.specs.Stripes.{stripe_at, contents_of, IsInReach}
-use Rattle.ck_section.specs.Places.{IsSlotOf, IsLowest, at, slot_in, set_slot}
+use Rattle.ck_stripe.specs.declared.held_slot.HeldSlot.{HeldSlot}
+use Rattle.ck_stripe.specs.Stripes.{stripe_at, contents_of, IsInReach}
+use Rattle.ck_section.specs.Places.{IsSlotOf}
+use Rattle.ck_stripe.specs.HeldSlots.{IsLowest, at, slot_in, set_slot}
 use Rattle.ck_section.specs.Hops.{source_in, IsHopIn, HasPartial, CanHop, lifted, Hops, IsNoCall}
-use Rattle.ck_section.specs.Whole.{AreSettled}
+use Rattle.ck_stripe.specs.Tables.{AreSettled}
 use Rattle.ck_section.specs.Calls.{ChangesContents}
 use Rattle.ck_section.proofs.Found.{row_bucket, sound_at}
 use Rattle.ck_section.proofs.Steps.{unchanged, hop_changes}

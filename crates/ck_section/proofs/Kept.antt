@@ -4,9 +4,9 @@ use Rattle.std.proofs.lemmas.Nat.{pow_pos}
 use Rattle.ck_model.specs.Promise.{Name}
 use Rattle.ck_model.specs.Contents.{power_of}
 use Rattle.ck_stripe.specs.Stripe.{StripeState}
-use Rattle.ck_section.specs.Stripes.{stripe_at, contents_of, HaveNoSpare}
-use Rattle.ck_section.specs.Places.{HasStripe, HasBoth}
-use Rattle.ck_section.specs.Whole.{AreAllHeld, AreSettled, IsTable}
+use Rattle.ck_stripe.specs.Stripes.{stripe_at, contents_of, HaveNoSpare}
+use Rattle.ck_stripe.specs.Tables.{HasStripe, AreAllHeld, AreSettled, IsTable}
+use Rattle.ck_section.specs.Places.{HasBoth}
 use Rattle.ck_section.specs.Calls.{ChangesContents}
 use Rattle.ck_section.proofs.Owned.{own_below, in_contents}
 

@@ -14,11 +14,9 @@ pub mod Growing
 pub mod RoomMade
 pub mod Tables
 pub mod Searched
-pub mod Stepwise
 pub mod Doubled
 pub mod Table
 pub mod Owned
-pub mod Visited
 pub mod Cleared
 pub mod Listed
 pub mod Retained

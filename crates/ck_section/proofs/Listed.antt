@@ -2,8 +2,8 @@
 use Rattle.std.proofs.Common.{◌≡◌, suc, List, ◌∷◌, ◌++◌, ap, subst, arith}
 use Rattle.ck_model.specs.Contents.{pairs_in, pairs_of}
 use Rattle.ck_stripe.specs.Stripe.{StripeState}
-use Rattle.ck_section.specs.Stripes.{contents_of}
-use Rattle.ck_section.specs.Whole.{AreSettled}
+use Rattle.ck_stripe.specs.Stripes.{contents_of}
+use Rattle.ck_stripe.specs.Tables.{AreSettled}
 
 module _ {V : Type 0} {stripes rest : List (StripeState V)} {first : StripeState V} (is : stripes ≡ first ∷ rest) where
   pub rest_settled : AreSettled stripes → AreSettled rest

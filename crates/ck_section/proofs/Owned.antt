@@ -5,8 +5,8 @@ use Rattle.ck_model.specs.Promise.{Name}
 use Rattle.ck_model.specs.Numbered.{IsIn, numbers}
 use Rattle.ck_model.proofs.Buckets.{index_below, second_below}
 use Rattle.ck_stripe.specs.Stripe.{StripeState}
-use Rattle.ck_section.specs.Stripes.{contents_of}
-use Rattle.ck_section.specs.Places.{HasStripe}
+use Rattle.ck_stripe.specs.Stripes.{contents_of}
+use Rattle.ck_stripe.specs.Tables.{HasStripe}
 
 -- a bucket of the name at this power is one of the table's, and a stripe of it one of 2^s
 pub own_below : (hash : Name → ℕ) (p : ℕ) (q : Name) (b : ℕ) → IsBucketOf hash p q b → b < 2 ^ p

@@ -12,15 +12,17 @@ use Rattle.ck_model.specs.Contents.{Layout, layout, Lawful}
 use Rattle.ck_model.specs.Sections.{Section}
 use Rattle.ck_stripe.specs.Stripe.{StripeState}
 use Rattle.ck_section.specs.declared.place.KeyPlace.{KeyPlace}
-use Rattle.ck_section.specs.declared.place.HeldSlot.{HeldSlot}
-use Rattle.ck_section.specs.Stripes.{stripe_at, contents_of, IsInReach}
-use Rattle.ck_section.specs.Places.{IsPlaceOf, IsSlotOf, slot_in}
+use Rattle.ck_stripe.specs.declared.held_slot.HeldSlot.{HeldSlot}
+use Rattle.ck_stripe.specs.Stripes.{stripe_at, contents_of, IsInReach}
+use Rattle.ck_section.specs.Places.{IsPlaceOf, IsSlotOf}
+use Rattle.ck_stripe.specs.HeldSlots.{slot_in}
 use Rattle.ck_section.specs.Entries.{IsOccupied}
 use Rattle.ck_section.specs.Calls.{ChangesContents}
 use Rattle.ck_section.specs.Acts.{TriesUpsert}
 use Rattle.ck_section.proofs.Found.{owns, changes_on}
 use Rattle.ck_section.proofs.Decided.{IsCallOn, freed, s_at}
-use Rattle.ck_section.proofs.Rebinding.{Rebinding, power_on, keeps_s, keeps_reach, keeps_slot, removing, placing}
+use Rattle.ck_section.proofs.Rebinding.{Rebinding, keeps_s, keeps_reach, keeps_slot, removing, placing}
+use Rattle.ck_model.proofs.Identities.{power_on}
 use Rattle.ck_section.proofs.Rebound.{taken, given, changed_slot}
 
 -- The slot has the name in stripes that stay as they are while it is looked for; then its entry is taken.

@@ -15,13 +15,16 @@ use Rattle.ck_model.specs.Sections.{IdentitySection}
 use Rattle.ck_model.proofs.Numbered.{in_held, held_of_in, numbers-with, holds_with}
 use Rattle.ck_model.proofs.Names.{dec_name, maps_alike}
 use Rattle.ck_model.proofs.Found.{bound_from}
+use Rattle.ck_model.proofs.Identities.{power_on}
 use Rattle.ck_model.proofs.Local.{Change, after_lawful, before_at, after_at, else_at}
 use Rattle.ck_model.proofs.Writes.{Writes, written, stands, places, removes}
 use Rattle.ck_stripe.specs.Stripe.{StripeState, bucket_of, with_slot}
-use Rattle.ck_section.specs.declared.place.HeldSlot.{HeldSlot}
-use Rattle.ck_section.specs.Stripes.{no_stripe, stripe_at, bucket_at, set_content, contents_of, IsInReach}
-use Rattle.ck_section.specs.Places.{IsSlotOf, slot_in, set_slot}
-use Rattle.ck_section.proofs.Found.{holds_at, contents_set, set_here, row_bucket, row_within, sound_at}
+use Rattle.ck_stripe.specs.declared.held_slot.HeldSlot.{HeldSlot}
+use Rattle.ck_stripe.specs.Stripes.{no_stripe, stripe_at, bucket_at, set_content, contents_of, IsInReach}
+use Rattle.ck_section.specs.Places.{IsSlotOf}
+use Rattle.ck_stripe.specs.HeldSlots.{slot_in, set_slot}
+use Rattle.ck_stripe.proofs.Tables.{holds_at}
+use Rattle.ck_section.proofs.Found.{contents_set, set_here, row_bucket, row_within, sound_at}
 
 module _ {V : Type 0} where
   -- Lawful stripes become others of their numbers and power, in which the name q is bound otherwise and each other name as before.
@@ -32,13 +35,6 @@ module _ {V : Type 0} where
     pub was : get (bindings hs) q ≡ o
     pub is : get (bindings ks) q ≡ o2
     pub others : (x : Name) → x ≢ q → get (bindings ks) x ≡ get (bindings hs) x
-
-  -- One power after another.
-  pub power_on : (hs ks ls : Stripes V) → numbers ks ≡ numbers hs → ((t u : ℕ) (c d : Content V) → Holds hs t c → Holds ks u d → d.power ≡ c.power) → ((t u : ℕ) (c d : Content V) → Holds ks t c → Holds ls u d → d.power ≡ c.power)
-      → (t u : ℕ) (c d : Content V) → Holds hs t c → Holds ls u d → d.power ≡ c.power
-  power_on hs ks ls same one two t u c d h g =
-      let m = held_of_in ks t (subst (IsIn t) (sym same) (in_held hs t c h)) in
-      two t u m.0 d m.1 g ∙ one t t c m.0 h m.1
 
   -- what a stripe keeps where another one, or this one, gets another content
   pub keeps_of : {A : Type 0} (f : StripeState V → A) (stripes : List (StripeState V)) (i : ℕ) (c : Content V) → i < length stripes → f (record (stripe_at stripes i) { content = c }) ≡ f (stripe_at stripes i)
@@ -165,11 +161,4 @@ module _ {V : Type 0} where
     same_bindings = maps_alike (bindings ls) (bindings hs) (λ x. dite (dec_name x q)
         (λ f. let B : Name → Type 0 = λ y. get (bindings ls) y ≡ get (bindings hs) y in subst B (sym f) (two.is ∙ sym one.was))
         (λ ne. two.others x ne ∙ one.others x ne));
-  }
-
-  -- nothing changes
-  pub identity_of_none : (k : Layout) (hs : Stripes V) → Lawful k hs → IdentitySection k hs hs
-  identity_of_none k hs lawful = record {
-    renewed = record { same = refl; lawful = lawful; power = inl (λ t u c d h g. sym (lawful.one_power t u c d h g)) };
-    same_bindings = refl;
   }

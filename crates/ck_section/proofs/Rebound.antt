@@ -10,14 +10,16 @@ use Rattle.ck_model.specs.Contents.{Layout, layout, bindings, Lawful}
 use Rattle.ck_model.specs.Sections.{Section}
 use Rattle.ck_stripe.specs.Stripe.{StripeState, with_slot}
 use Rattle.ck_section.specs.declared.place.KeyPlace.{KeyPlace}
-use Rattle.ck_section.specs.declared.place.HeldSlot.{HeldSlot}
-use Rattle.ck_section.specs.Stripes.{stripe_at, contents_of, IsInReach}
-use Rattle.ck_section.specs.Places.{IsPlaceOf, IsSlotOf, IsNowhere, slot_in, set_slot}
+use Rattle.ck_stripe.specs.declared.held_slot.HeldSlot.{HeldSlot}
+use Rattle.ck_stripe.specs.Stripes.{stripe_at, contents_of, IsInReach}
+use Rattle.ck_section.specs.Places.{IsPlaceOf, IsSlotOf, IsNowhere}
+use Rattle.ck_stripe.specs.HeldSlots.{slot_in, set_slot}
 use Rattle.ck_section.specs.Calls.{ChangesContents}
 use Rattle.ck_section.specs.TwoNames.{IsChangeOfTwo}
 use Rattle.ck_section.proofs.Found.{unbound, owns, bound_in, set_changes, changes_on}
 use Rattle.ck_section.proofs.Decided.{freed}
-use Rattle.ck_section.proofs.Rebinding.{Rebinding, power_on, keeps_s, keeps_reach, keeps_slot, slot_other, apart_from, removing, placing}
+use Rattle.ck_section.proofs.Rebinding.{Rebinding, keeps_s, keeps_reach, keeps_slot, slot_other, apart_from, removing, placing}
+use Rattle.ck_model.proofs.Identities.{power_on}
 
 module _ {V : Type 0} where
   -- without the entry of a slot

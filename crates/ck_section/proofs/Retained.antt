@@ -15,8 +15,8 @@ use Rattle.ck_bucket.specs.Retaining.{EachInTurn, AsksAboutRows}
 use Rattle.ck_bucket.proofs.InTurn.{length-each}
 use Rattle.ck_bucket.proofs.Asked.{AsksAbout, retains_pairs, asks-none, asks-append, asks-rows, was_in_rows, absent_after, apart_after}
 use Rattle.ck_stripe.specs.Stripe.{StripeState}
-use Rattle.ck_section.specs.Stripes.{stripe_at, contents_of}
-use Rattle.ck_section.specs.Whole.{IsTable}
+use Rattle.ck_stripe.specs.Stripes.{stripe_at, contents_of}
+use Rattle.ck_stripe.specs.Tables.{IsTable}
 use Rattle.ck_section.specs.Calls.{ChangesContents}
 use Rattle.ck_section.specs.Retaining.{RetainsBindings}
 

@@ -7,20 +7,21 @@ use Rattle.ck_model.specs.declared.history.Reason.TheVariants as Reasons
 use Rattle.ck_model.specs.Promise.{Name}
 use Rattle.ck_model.specs.Contents.{layout, Stripes, Lawful, power_of}
 use Rattle.ck_model.specs.Doubling.{IsDoubledTo}
-use Rattle.ck_model.specs.Paths.{IsStuck, Grounds}
+use Rattle.ck_model.specs.Paths.{IsStuck, Grounds, reason_of_lack}
 use Rattle.ck_model.specs.Sections.{IdentitySection}
 use Rattle.ck_stripe.specs.Stripe.{StripeState}
-use Rattle.ck_section.specs.declared.room.Lack.{Lack}
-use Rattle.ck_section.specs.declared.room.Lack.TheVariants.{Memory, Full, LoadTooLow}
-use Rattle.ck_section.specs.Stripes.{contents_of}
-use Rattle.ck_section.specs.Whole.{IsTable}
+use Rattle.ck_model.specs.declared.lack.Lack.{Lack}
+use Rattle.ck_model.specs.declared.lack.Lack.TheVariants.{Memory, Full, LoadTooLow}
+use Rattle.ck_stripe.specs.Stripes.{contents_of}
+use Rattle.ck_stripe.specs.Tables.{IsTable, power_in}
 use Rattle.ck_section.specs.Doublings.{Grows}
 use Rattle.ck_section.specs.Calls.{IsWithoutRoom}
-use Rattle.ck_section.specs.Room.{power_in, reason_of_lack, IsLack, IsWithoutPath, GivesReason, GrowsForRoom}
+use Rattle.ck_section.specs.Room.{IsLack, IsWithoutPath, GivesReason, GrowsForRoom}
 use Rattle.ck_section.proofs.Found.{sound_at}
-use Rattle.ck_section.proofs.Rebinding.{identity_of_none}
-use Rattle.ck_section.proofs.Doublings.{identity_on, doubled_none, doubled_on}
-use Rattle.ck_section.proofs.Tables.{has_all, power_is}
+use Rattle.ck_model.proofs.Identities.{identity_of_none, identity_on}
+use Rattle.ck_section.proofs.Doublings.{doubled_none, doubled_on}
+use Rattle.ck_stripe.proofs.Tables.{has_all}
+use Rattle.ck_section.proofs.Tables.{power_is}
 
 module _ {V : Type 0} (hash : Name → ℕ) (s max min_load : ℕ) (q : Name) where
   -- What is known of lawful stripes that have doubled for want of room for the name, and done nothing else.
@@ -32,14 +33,14 @@ module _ {V : Type 0} (hash : Name → ℕ) (s max min_load : ℕ) (q : Name) wh
   pub grown_none : (old : List (StripeState V)) → IsTable s old → Lawful (layout hash s max) (contents_of old) → Grown old old
   grown_none old table lawful = record {
     no_call = identity_of_none (layout hash s max) (contents_of old) lawful;
-    doubled = subst (λ p. IsDoubledTo (layout hash s max) p (contents_of old) (contents_of old)) (power_is s old table hash max lawful) (doubled_none (layout hash s max) (contents_of old) lawful (has_all s old table hash max lawful));
+    doubled = subst (λ p. IsDoubledTo (layout hash s max) p (contents_of old) (contents_of old)) (power_is s old table hash max lawful) (doubled_none (layout hash s max) (contents_of old) lawful (has_all hash s max old table));
     each = λ p lo hi. absurd (omega arith);
   }
 
   pub stuck_in : (cur : List (StripeState V)) → IsTable s cur → IsWithoutRoom hash s cur q → IsWithoutPath hash s cur q → Lawful (layout hash s max) (contents_of cur) → IsStuck (layout hash s max) (contents_of cur) q
   stuck_in cur table no_room no_path lawful = record {
     lawful = lawful;
-    all = has_all s cur table hash max lawful;
+    all = has_all hash s max cur table;
     unbound = (no_room max lawful).unbound;
     no_path = no_path max lawful;
   }
@@ -73,7 +74,7 @@ module _ {V : Type 0} (hash : Name → ℕ) (s max min_load : ℕ) (q : Name) wh
       let old_is : power_of (contents_of old) ≡ power_in old = power_is s old old_table hash max lawful in
       record {
         no_call = identity_on (layout hash s max) (contents_of old) (contents_of cur) (contents_of new) grown.no_call one;
-        doubled = doubled_on (layout hash s max) (contents_of old) lawful (has_all s old old_table hash max lawful) (power_in cur) (power_in new) (contents_of cur) (contents_of new)
+        doubled = doubled_on (layout hash s max) (contents_of old) lawful (has_all hash s max old old_table) (power_in cur) (power_in new) (contents_of cur) (contents_of new)
             (subst (λ n. n ≤ power_in cur) (sym old_is) rising) is grown.doubled twice;
         each = λ p lo hi. dite (ℕ_discrete p (power_in cur))
             (λ e. (

@@ -12,8 +12,9 @@ use Rattle.ck_path.specs.Route.{Route, first_bucket, IsSeen}
 use Rattle.ck_path.specs.Queue.{Queue, wanted}
 use Rattle.ck_model.specs.Paths.{partial_in}
 use Rattle.ck_stripe.specs.Stripe.{StripeState}
-use Rattle.ck_section.specs.Stripes.{bucket_at}
-use Rattle.ck_section.specs.Room.{HaveFour, power_in, sketch_of, IsPathFor}
+use Rattle.ck_stripe.specs.Stripes.{bucket_at}
+use Rattle.ck_section.specs.Room.{HaveFour, sketch_of, IsPathFor}
+use Rattle.ck_stripe.specs.Tables.{power_in}
 use Rattle.ck_section.proofs.Tables.{mask}
 
 -- whether the bucket has four slots

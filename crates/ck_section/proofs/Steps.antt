@@ -11,9 +11,10 @@ use Rattle.ck_stripe.specs.Stripe.{StripeState, with_slot}
 use Rattle.ck_section.specs.declared.entry.Entry.{Entry}
 use Rattle.ck_section.specs.declared.entry.Entry.TheVariants.{Occupied, Vacant}
 use Rattle.ck_section.specs.declared.place.KeyPlace.{KeyPlace}
-use Rattle.ck_section.specs.declared.place.HeldSlot.{HeldSlot}
-use Rattle.ck_section.specs.Stripes.{stripe_at, len_at, IsInReach}
-use Rattle.ck_section.specs.Places.{IsPlaceOf, slot_in, set_slot, IsNowhere, AreFull}
+use Rattle.ck_stripe.specs.declared.held_slot.HeldSlot.{HeldSlot}
+use Rattle.ck_stripe.specs.Stripes.{stripe_at, len_at, IsInReach}
+use Rattle.ck_section.specs.Places.{IsPlaceOf, IsNowhere, AreFull}
+use Rattle.ck_stripe.specs.HeldSlots.{slot_in, set_slot}
 use Rattle.ck_section.specs.Entries.{IsOccupied, IsVacant, IsEntryOf}
 use Rattle.ck_section.specs.Calls.{IsWithRoom, IsWithoutRoom, ChangesContents}
 use Rattle.ck_section.proofs.Found.{no_room, has_room, bound_room, set_changes, changes_none, changes_on}

@@ -17,12 +17,12 @@ use Rattle.ck_model.proofs.Numbered.{in_held}
 use Rattle.ck_model.proofs.Counted.{len-bindings}
 use Rattle.ck_model.proofs.Doubling.{pairs_apart}
 use Rattle.ck_stripe.specs.Stripe.{StripeState, HasNoSpare, IsReserved, reserved}
-use Rattle.ck_section.specs.Stripes.{no_stripe, stripe_at, contents_of, HaveNoSpare, shrunk_stripes, reserved_stripes, doubled, doubled_stripes}
-use Rattle.ck_section.specs.Whole.{AreSettled, IsTable}
+use Rattle.ck_stripe.specs.Stripes.{no_stripe, stripe_at, contents_of, HaveNoSpare, shrunk_stripes, reserved_stripes, doubled, doubled_stripes}
+use Rattle.ck_stripe.specs.Tables.{AreSettled, IsTable}
 use Rattle.ck_section.specs.Doublings.{AreReserved, DoublesEach, Grows}
-use Rattle.ck_section.proofs.AllStripes.{stripe_read}
-use Rattle.ck_section.proofs.Found.{holds_at}
-use Rattle.ck_section.proofs.Stepwise.{changed_to}
+use Rattle.ck_stripe.proofs.Totals.{pairs-next}
+use Rattle.ck_stripe.proofs.Tables.{has_all}
+use Rattle.ck_stripe.proofs.Stepwise.{changed_to}
 use Rattle.ck_section.proofs.Doubled.{doubled_all, section_doubled, is_doubled}
 
 module _ {V : Type 0} where
@@ -72,12 +72,6 @@ module _ {V : Type 0} where
   power_first [] = refl
   power_first (t ∷ ts) = refl
 
-  -- all stripes of a table are held
-  pub has_all : (hash : Name → ℕ) (s max : ℕ) (stripes : List (StripeState V)) → IsTable s stripes → HasAll (layout hash s max) (contents_of stripes)
-  has_all hash s max stripes table t lt =
-      let inside : t < length stripes = subst (λ n. t < n) (sym table.count) lt in
-      subst (λ n. IsIn n (numbers (contents_of stripes))) (table.number t inside) (in_held (contents_of stripes) (stripe_at stripes t).number (stripe_at stripes t).content (holds_at stripes t inside))
-
   module _ (hash : Name → ℕ) (s : ℕ) (old mid new : List (StripeState V)) (before : mid ≡ reserved_stripes old) (after : new ≡ doubled_stripes hash mid) where
     is : new ≡ doubled_stripes hash (reserved_stripes old)
     is = after ∙ ap (doubled_stripes hash) before
@@ -124,20 +118,6 @@ module _ {V : Type 0} where
       }
 
 module _ {V : Type 0} where
-  -- the number of entries of the first n stripes
-  abbrev pub entries_to : ℕ → List (StripeState V) → ℕ
-  entries_to n stripes = length (pairs_of (contents_of (take n stripes)))
-
-  -- the pairs of one stripe more
-  pub pairs-next : (i : ℕ) (stripes : List (StripeState V)) → i < length stripes → pairs_of (contents_of (take (suc i) stripes)) ≡ pairs_of (contents_of (take i stripes)) ++ pairs_in (stripe_at stripes i).content
-  pairs-next i [] lt = absurd (omega arith)
-  pairs-next zero (t ∷ ts) lt = append-nil (pairs_in t.content)
-  pairs-next (suc i) (t ∷ ts) lt = ap (λ es. pairs_in t.content ++ es) (pairs-next i ts (omega arith)) ∙ sym (append_assoc (pairs_in t.content) (pairs_of (contents_of (take i ts))) (pairs_in (stripe_at ts i).content))
-
-  pub pairs_push : (ss : List (StripeState V)) (t : StripeState V) → pairs_of (contents_of ss) ++ pairs_in t.content ≡ pairs_of (contents_of (ss ++ t ∷ []))
-  pairs_push [] t = sym (append-nil (pairs_in t.content))
-  pairs_push (s ∷ ss) t = append_assoc (pairs_in s.content) (pairs_of (contents_of ss)) (pairs_in t.content) ∙ ap (λ es. pairs_in s.content ++ es) (pairs_push ss t)
-
   -- the pairs of stripe i are pushed behind those of the stripes before it
   pub pairs_more : {K : Type 0} (name : K → Name) (pairs after start : List (K × V)) (i : ℕ) (stripes : List (StripeState V)) (t : StripeState V) → i < length stripes → t ≡ stripe_at stripes i
       → map (named name) pairs ≡ map (named name) start ++ pairs_of (contents_of (take i stripes)) → map (named name) after ≡ map (named name) pairs ++ pairs_in t.content
@@ -147,44 +127,6 @@ module _ {V : Type 0} where
       ∙ append_assoc (map (named name) start) (pairs_of (contents_of (take i stripes))) (pairs_in t.content)
       ∙ ap (λ es. map (named name) start ++ es)
       (ap (λ (u : StripeState V). pairs_of (contents_of (take i stripes)) ++ pairs_in u.content) is ∙ sym (pairs-next i stripes lt) ∙ ap (λ n. pairs_of (contents_of (take n stripes))) (sym (add-one i)))
-
-  entries-next : (i : ℕ) (stripes : List (StripeState V)) → i < length stripes → entries_to (suc i) stripes ≡ entries_to i stripes + length (pairs_in (stripe_at stripes i).content)
-  entries-next i stripes lt = ap length (pairs-next i stripes lt) ∙ length-append (pairs_of (contents_of (take i stripes))) (pairs_in (stripe_at stripes i).content)
-
-  entries-below : (i : ℕ) (stripes : List (StripeState V)) → entries_to i stripes ≤ length (pairs_of (contents_of stripes))
-  entries-below zero stripes = omega arith
-  entries-below (suc i) [] = omega arith
-  entries-below (suc i) (t ∷ ts) =
-      let again = entries-below i ts in
-      let less = length-append (pairs_in t.content) (pairs_of (contents_of (take i ts))) in
-      let all = length-append (pairs_in t.content) (pairs_of (contents_of ts)) in
-      omega arith
-
-  -- there is room for the pairs of stripe i, and for four more
-  pub room_for_stripe : {K : Type 0} (name : K → Name) (pairs start : List (K × V)) (i room : ℕ) (stripes : List (StripeState V)) (t : StripeState V) → i < length stripes → t ≡ slice_index_or stripes i t
-      → map (named name) pairs ≡ map (named name) start ++ pairs_of (contents_of (take i stripes)) → length start + length (pairs_of (contents_of stripes)) + 4 ≤ room → length pairs + length (pairs_in t.content) + 4 ≤ room
-  room_for_stripe name pairs start i room stripes t lt is seen enough =
-      let many : length pairs ≡ length start + entries_to i stripes =
-      sym (length-map pairs (named name)) ∙ (ap length seen ∙ (length-append (map (named name) start) (pairs_of (contents_of (take i stripes))) ∙ ap (λ n. n + entries_to i stripes) (length-map start (named name)))) in
-      let next = entries-next i stripes lt in
-      let most = entries-below (suc i) stripes in
-      let same = ap (λ (u : StripeState V). length (pairs_in u.content)) (stripe_read stripes i t lt is) in
-      omega arith
-
-  pub entries_more : (i n : ℕ) (stripes : List (StripeState V)) → i < length stripes → n ≡ length (pairs_in (stripe_at stripes i).content) → entries_to (i + 1) stripes ≡ entries_to i stripes + n
-  entries_more i n stripes lt is = ap (λ m. entries_to m stripes) (add-one i) ∙ entries-next i stripes lt ∙ ap (λ m. entries_to i stripes + m) (sym is)
-
-  pub entries_all : (n : ℕ) (stripes : List (StripeState V)) → length stripes ≤ n → entries_to n stripes ≡ length (pairs_of (contents_of stripes))
-  entries_all n stripes le = ap (λ (l : List (StripeState V)). length (pairs_of (contents_of l))) (take_all n stripes le)
-
-  -- the number of entries of all stripes is that of the bound names
-  pub counts_all : (hash : Name → ℕ) (s max : ℕ) (stripes new : List (StripeState V)) (n : ℕ) → IsTable s stripes → new ≡ stripes → n ≡ length (pairs_of (contents_of stripes))
-      → Lawful (layout hash s max) (contents_of stripes) → Section (layout hash s max) (contents_of stripes) Len (Count n) (contents_of new)
-  counts_all hash s max stripes new n table same is lawful = subst (λ (l : List (StripeState V)). Section (layout hash s max) (contents_of stripes) Len (Count n) (contents_of l)) (sym same) (record {
-    renewed = record { same = refl; lawful = lawful; power = inl (λ t u c d h g. lawful.one_power u t d c g h) };
-    owns = has_all hash s max stripes table;
-    step = (ap Count (is ∙ sym (len-bindings (layout hash s max) (contents_of stripes) lawful)), refl);
-  })
 
   pub few_stripes : (s : ℕ) (stripes : List (StripeState V)) → IsTable s stripes → length stripes ≤ 2 ^ 10
   few_stripes s stripes table =

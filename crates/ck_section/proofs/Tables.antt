@@ -16,12 +16,11 @@ use Rattle.ck_model.specs.Sketches.{Sketch, HasNoSketchPath}
 use Rattle.ck_model.proofs.Numbered.{in_held}
 use Rattle.ck_path.proofs.ShownPaths.{sketches_show_paths}
 use Rattle.ck_stripe.specs.Stripe.{StripeState}
-use Rattle.ck_section.specs.Stripes.{stripe_at, bucket_at, contents_of}
-use Rattle.ck_section.specs.Places.{AreHeld}
-use Rattle.ck_section.specs.Whole.{AreAllHeld, IsTable}
-use Rattle.ck_section.specs.Room.{power_in, sketch_of, IsWithoutPath}
+use Rattle.ck_stripe.specs.Stripes.{stripe_at, bucket_at, contents_of}
+use Rattle.ck_stripe.specs.Tables.{AreHeld, AreAllHeld, IsTable, power_in}
+use Rattle.ck_section.specs.Room.{sketch_of, IsWithoutPath}
 use Rattle.ck_model.proofs.Rows.{rows_held, power_held}
-use Rattle.ck_section.proofs.Found.{holds_at}
+use Rattle.ck_stripe.proofs.Tables.{holds_at, has_all}
 
 -- a bucket's stripe, as code finds it
 pub mask : (s : ℕ) → s ≤ 10 → 1 * 2 ^ s % 18446744073709551616 ≡ 2 ^ s
@@ -86,11 +85,6 @@ module _ {V : Type 0} (s : ℕ) (stripes : List (StripeState V)) where
       abbrev hs : Stripes V
       hs = contents_of stripes
 
-      pub has_all : HasAll k hs
-      has_all t lt =
-          let inside : t < length stripes = subst (λ n. t < n) (sym table.count) lt in
-          subst (λ n. IsIn n (numbers hs)) (table.number t inside) (in_held hs (stripe_at stripes t).number (stripe_at stripes t).content (holds_at stripes t inside))
-
       pub power_is : power_of hs ≡ power_in stripes
       power_is = power_held k hs (stripe_at stripes 0).number (stripe_at stripes 0).content lawful (holds_at stripes 0 (subst (λ n. 0 < n) (sym table.count) (pow_pos s)))
 
@@ -112,5 +106,5 @@ module _ {V : Type 0} (s : ℕ) (stripes : List (StripeState V)) where
   no_path_of table hash q p power none max lawful =
       let k : Layout = layout hash s max in
       let e : p ≡ power_of (contents_of stripes) = power ∙ sym (power_is table hash max lawful) in
-      (sketches_show_paths V k (contents_of stripes) q lawful (has_all table hash max lawful)).0
+      (sketches_show_paths V k (contents_of stripes) q lawful (has_all hash s max stripes table)).0
       (subst (λ (x : ℕ × (ℕ → Sketch)). HasNoSketchPath x.0 x.1 (index_of x.0 (hash q)) (second_of x.0 (hash q))) (λ z. (e z, sketches_are table hash max lawful z)) none)

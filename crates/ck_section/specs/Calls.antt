@@ -9,7 +9,7 @@ use Rattle.ck_model.specs.Sections.{Section}
 use Rattle.ck_model.specs.Paths.{HasNoRoom}
 use Rattle.ck_stripe.specs.Stripe.{StripeState}
 use Rattle.ck_section.specs.declared.place.KeyPlace.{KeyPlace}
-use Rattle.ck_section.specs.Stripes.{stripe_at, contents_of}
+use Rattle.ck_stripe.specs.Stripes.{stripe_at, contents_of}
 
 -- The stripes of a table of 2^s that a call held, before and after it, where names have these hashes.
 pub record Effect (V : Type 0) : Type 0 where

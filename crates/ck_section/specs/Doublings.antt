@@ -5,7 +5,7 @@ use Rattle.ck_model.specs.Contents.{layout, Lawful}
 use Rattle.ck_model.specs.Sections.{IdentitySection}
 use Rattle.ck_model.specs.Doubling.{IsDoubledTo}
 use Rattle.ck_stripe.specs.Stripe.{StripeState, IsReserved, reserved}
-use Rattle.ck_section.specs.Stripes.{stripe_at, contents_of, doubled}
+use Rattle.ck_stripe.specs.Stripes.{stripe_at, contents_of, doubled}
 
 module _ {V : Type 0} where
   -- there is memory for a doubling of each

@@ -5,8 +5,9 @@ use Rattle.ck_stripe.specs.Stripe.{StripeState}
 use Rattle.ck_section.specs.declared.entry.Entry.{Entry}
 use Rattle.ck_section.specs.declared.entry.Entry.TheVariants.{Occupied, Vacant}
 use Rattle.ck_section.specs.declared.place.KeyPlace.{KeyPlace}
-use Rattle.ck_section.specs.declared.place.HeldSlot.{HeldSlot}
-use Rattle.ck_section.specs.Places.{IsSlotOf, IsNowhere, IsNext, slot_in}
+use Rattle.ck_stripe.specs.declared.held_slot.HeldSlot.{HeldSlot}
+use Rattle.ck_section.specs.Places.{IsSlotOf, IsNowhere, IsNext}
+use Rattle.ck_stripe.specs.HeldSlots.{slot_in}
 
 module _ {V : Type 0} where
   -- the slot has the name

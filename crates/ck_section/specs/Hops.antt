@@ -7,9 +7,9 @@ use Rattle.ck_model.specs.Contents.{layout, Lawful}
 use Rattle.ck_model.specs.Sections.{IdentitySection}
 use Rattle.ck_stripe.specs.Stripe.{StripeState}
 use Rattle.ck_section.specs.declared.hop.Hop.{Hop}
-use Rattle.ck_section.specs.declared.place.HeldSlot.{HeldSlot}
-use Rattle.ck_section.specs.Stripes.{stripe_at, bucket_at, contents_of}
-use Rattle.ck_section.specs.Places.{slot_in, set_slot, IsLowest}
+use Rattle.ck_stripe.specs.declared.held_slot.HeldSlot.{HeldSlot}
+use Rattle.ck_stripe.specs.Stripes.{stripe_at, bucket_at, contents_of}
+use Rattle.ck_stripe.specs.HeldSlots.{slot_in, set_slot, IsLowest}
 
 -- the slot that the hop empties, in stripe i
 abbrev pub source_in : ℕ → Hop → HeldSlot

@@ -9,7 +9,7 @@ use Rattle.ck_model.specs.Contents.{Layout, Lawful, NamesApart, bindings}
 use Rattle.ck_model.specs.Sections.{Renewed}
 use Rattle.ck_bucket.specs.Retaining.{CalledAtPair}
 use Rattle.ck_stripe.specs.Stripe.{StripeState}
-use Rattle.ck_section.specs.Stripes.{contents_of}
+use Rattle.ck_stripe.specs.Stripes.{contents_of}
 
 module _ {F K V : Type 0} (g : Mut F (Bor K × (Bor V × Unit {0})) Bool) (name : K → Name) (f : F) where
   -- The closure f was asked about each pair of old once, one after the other, and new has those for which it answered true.

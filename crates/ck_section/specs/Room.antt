@@ -1,37 +1,26 @@
 -- Displacement paths among all stripes of a table, and what makes room for a name in it.
 use Rattle.std.specs.Prelude.{◌≡◌, ℕ, true, ◌%◌, ◌^◌, ◌<◌, ◌≤◌, List, [], ◌∷◌, length, map, slice_set}
-use Rattle.ck_model.specs.declared.history.Reason.{Reason}
 use Rattle.ck_model.specs.declared.history.Reason.TheVariants as Reasons
 use Rattle.ck_model.specs.declared.path_hop.PathHop.{PathHop}
 use Rattle.ck_model.specs.Arithmetic.{index_of, second_of}
 use Rattle.ck_model.specs.Promise.{Name}
 use Rattle.ck_model.specs.Contents.{Layout, layout, Stripes, Lawful}
 use Rattle.ck_model.specs.Doubling.{IsDoubledTo}
-use Rattle.ck_model.specs.Paths.{HasNoRoom, HasNoPath, IsTooEmpty, Grounds, partial_in}
-use Rattle.ck_model.specs.Sections.{IdentitySection}
+use Rattle.ck_model.specs.Paths.{HasNoRoom, HasNoPath, IsTooEmpty, Grounds, partial_in, reason_of_lack}
 use Rattle.ck_model.specs.Sketches.{Sketch, IsSketchPathFrom}
 use Rattle.ck_path.specs.Route.{Route, first_bucket, VisitsOnce, IsShortestPath}
 use Rattle.ck_stripe.specs.Stripe.{StripeState}
-use Rattle.ck_section.specs.declared.room.Lack.{Lack}
-use Rattle.ck_section.specs.declared.room.Lack.TheVariants.{Memory, Full, LoadTooLow}
-use Rattle.ck_section.specs.Stripes.{stripe_at, bucket_at, contents_of}
+use Rattle.ck_model.specs.declared.lack.Lack.{Lack}
+use Rattle.ck_model.specs.declared.lack.Lack.TheVariants.{Memory, Full, LoadTooLow}
+use Rattle.ck_stripe.specs.Stripes.{stripe_at, bucket_at, contents_of}
+use Rattle.ck_stripe.specs.Tables.{power_in}
 
 -- each bucket of the hops and their end has four slots
 abbrev pub HaveFour : (ℕ → Sketch) → List PathHop → ℕ → Type 0
 HaveFour sketches [] end = length (sketches end) ≡ 4
 HaveFour sketches (h ∷ hops) end = (length (sketches h.bucket) ≡ 4) × HaveFour sketches hops end
 
--- the reason why a table that lacks this makes no room
-abbrev pub reason_of_lack : Lack → Reason
-reason_of_lack Memory = Reasons.Memory
-reason_of_lack Full = Reasons.Full
-reason_of_lack LoadTooLow = Reasons.LoadTooLow
-
 module _ {V : Type 0} where
-  -- the power of stripes that have one
-  abbrev pub power_in : List (StripeState V) → ℕ
-  power_in stripes = (stripe_at stripes 0).content.power
-
   -- what a search sees of bucket b of a table of 2^s stripes, each held at the index of its number
   abbrev pub sketch_of : (Name → ℕ) → ℕ → List (StripeState V) → ℕ → Sketch
   sketch_of hash s stripes b = map (partial_in hash) (bucket_at stripes (b % 2 ^ s) b)
@@ -61,10 +50,6 @@ module _ {V : Type 0} where
   IsLack max min_load stripes Full = max ≤ power_in stripes
   IsLack max min_load stripes LoadTooLow = (power_in stripes < max) × IsTooEmpty min_load (contents_of stripes)
   IsLack max min_load stripes Memory = (power_in stripes < max) × ¬ (IsTooEmpty min_load (contents_of stripes))
-
-  -- Lawful stripes go from old to new by no call.
-  abbrev pub KeepsBindings : Layout → List (StripeState V) → List (StripeState V) → Type 0
-  KeepsBindings k old new = Lawful k (contents_of old) → IdentitySection k (contents_of old) (contents_of new)
 
   -- What was lawful has room for the name: it is bound or one of its buckets has a free slot.
   abbrev pub MakesRoom : Layout → List (StripeState V) → List (StripeState V) → Name → Type 0

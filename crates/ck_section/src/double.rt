@@ -1,46 +1,12 @@
-//! All stripes of a table at once: how many entries they have, and their doubling.
-ghost use Rattle.std.specs.Prelude.{◌≡◌, ℕ, ◌≤◌, ◌<◌, ◌^◌, OnOk, OnErr, length};
-ghost use Rattle.ck_model.specs.declared.history.Call.TheVariants.{Len};
-ghost use Rattle.ck_model.specs.declared.history.Reply.TheVariants.{Count};
-ghost use Rattle.ck_model.specs.Contents.{layout, Lawful, pairs_of};
-ghost use Rattle.ck_model.specs.Sections.{Section};
-ghost use Rattle.ck_section.specs.Stripes.{stripe_at, contents_of, HaveNoSpare, shrunk_stripes, reserved_stripes, settled_stripes, doubled_stripes};
-ghost use Rattle.ck_section.specs.Whole.{AreSettled, IsTable};
+//! The doubling of all stripes of a table.
+ghost use Rattle.std.specs.Prelude.{◌≡◌, ℕ, ◌<◌, OnOk, OnErr, length};
+ghost use Rattle.ck_stripe.specs.Stripes.{stripe_at, HaveNoSpare, shrunk_stripes, reserved_stripes, doubled_stripes};
+ghost use Rattle.ck_stripe.specs.Tables.{AreSettled, IsTable};
 ghost use Rattle.ck_section.specs.Doublings.{AreReserved, DoublesEach, Grows};
 
-use crate::held::Held;
-use crate::one_stripe;
 use ck_key::TableKey;
-use ck_stripe::Stripe;
+use ck_stripe::{Held, Stripe, one_stripe};
 use std::alloc::AllocError;
-
-/// Carries out the doublings that are left of the held stripes.
-pub fn settle_all<K: TableKey + Drop, V: Drop, H: Held<Stripe<K, V>>>(held: &mut H)
-    ensures settled { H.stripes held.new ≡ settled_stripes (H.stripes held.old) }
-    ensures stays { H.stays held.old held.new }
-{
-    for i in 0..held.count() {
-        one_stripe::settle(held, i);
-    }
-}
-
-/// The number of entries of a table of 2^s stripes, which are counted.
-pub fn len<K: TableKey + Drop, V: Drop, H: Held<Stripe<K, V>>>(held: &mut H, s: u32) -> u64
-    requires { IsTable s (H.stripes held.old) }
-    ensures value { result ≡ length (pairs_of (contents_of (H.stripes held.old))) }
-    ensures few { result ≤ 2 ^ 38 }
-    ensures call { (max : ℕ) → Lawful (layout K.hash s max) (contents_of (H.stripes held.old))
-        → Section (layout K.hash s max) (contents_of (H.stripes held.old)) Len (Count result)
-        (contents_of (H.stripes held.new)) }
-    ensures same { H.stripes held.new ≡ H.stripes held.old }
-    ensures stays { H.stays held.old held.new }
-{
-    let mut entries = 0;
-    for i in 0..1usize << s {
-        entries += one_stripe::len(held, i);
-    }
-    entries
-}
 
 /// Doubles a table of 2^s stripes. The memory for all is taken first, by one request a stripe, and
 /// where one is refused, what was taken is given back. So a refused request leaves all as it was.

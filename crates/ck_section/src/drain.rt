@@ -2,13 +2,14 @@
 ghost use Rattle.std.specs.Prelude.{◌≡◌, ℕ, ◌+◌, ◌≤◌, ◌++◌, OnOk, OnErr, IfOk, length, map, vec_len, vec_capacity};
 ghost use Rattle.ck_model.specs.Promise.{named, ListsInOrder};
 ghost use Rattle.ck_model.specs.Contents.{layout, Lawful, pairs_of, bindings};
-ghost use Rattle.ck_section.specs.Stripes.{contents_of};
+ghost use Rattle.ck_stripe.specs.Stripes.{contents_of};
 ghost use Rattle.ck_section.specs.Calls.{ChangesContents};
-ghost use Rattle.ck_section.specs.Whole.{IsTable, AreSettled, ClearsBindings};
+ghost use Rattle.ck_stripe.specs.Tables.{IsTable, AreSettled};
+ghost use Rattle.ck_section.specs.Clearing.{ClearsBindings};
 
-use crate::listing::{entries, sort_pairs};
+use crate::listing::sort_pairs;
 use ck_key::TableKey;
-use ck_stripe::Stripe;
+use ck_stripe::{Stripe, entries};
 use std::alloc::{AllocError, Global};
 
 /// Takes out all keys with their values, in rising order of the keys. It makes one request for

@@ -4,11 +4,10 @@ ghost use Rattle.ck_section.specs.Places.{IsPlaceOf};
 ghost use Rattle.ck_section.specs.Entries.{IsEntryOf};
 ghost use Rattle.ck_section.specs.Calls.{IsWithRoom, IsWithoutRoom};
 
-use crate::held::Held;
 use crate::look::{find_free, find_slot};
-use crate::place::{HeldSlot, KeyPlace};
+use crate::place::KeyPlace;
 use ck_key::TableKey;
-use ck_stripe::Stripe;
+use ck_stripe::{Held, HeldSlot, Stripe};
 
 /// The slot of a bound key, or the one that an unbound key would get.
 #[derive(Clone, Copy, Debug, PartialEq, Eq)]

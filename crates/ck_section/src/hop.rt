@@ -1,18 +1,16 @@
 //! One hop of a displacement: an entry goes to its other bucket, and no binding changes.
 ghost use Rattle.std.specs.Prelude.{◌≡◌, ◌%◌, ◌^◌, ◌<◌, MatchBool};
 ghost use Rattle.std.specs.Bool.{OnTrue};
-ghost use Rattle.ck_section.specs.Stripes.{stripe_at, IsInReach};
+ghost use Rattle.ck_stripe.specs.Stripes.{stripe_at, IsInReach};
 ghost use Rattle.ck_model.specs.Arithmetic.{alternate_of};
-ghost use Rattle.ck_section.specs.Places.{AreHeld, HasStripe, slot_in};
+ghost use Rattle.ck_stripe.specs.Tables.{AreHeld, HasStripe};
+ghost use Rattle.ck_stripe.specs.HeldSlots.{slot_in};
 ghost use Rattle.ck_section.specs.Hops.{IsHopIn, HasPartial, CanHop, source_in, Hops, IsNoCall};
 ghost use Rattle.ck_section.specs.Calls.{ChangesContents};
 
-use crate::held::Held;
 use crate::look::bucket_index;
-use crate::one_stripe;
-use crate::place::HeldSlot;
 use ck_key::TableKey;
-use ck_stripe::Stripe;
+use ck_stripe::{Held, HeldSlot, Stripe, one_stripe};
 
 /// A hop, as a search of a table of 2^power buckets saw it: the entry of this partial in this slot
 /// of bucket `bucket` goes to its other bucket, `target`.

@@ -2,8 +2,8 @@
 ghost use Rattle.std.specs.Prelude.{◌≡◌, ◌<◌, length};
 ghost use Rattle.std.specs.Iterator.{YieldsFirstBy, item_count};
 ghost use Rattle.ck_model.specs.Contents.{pairs_of};
-ghost use Rattle.ck_section.specs.Stripes.{contents_of};
-ghost use Rattle.ck_section.specs.Whole.{AreSettled};
+ghost use Rattle.ck_stripe.specs.Stripes.{contents_of};
+ghost use Rattle.ck_stripe.specs.Tables.{AreSettled};
 
 use ck_key::TableKey;
 use ck_stripe::Stripe;
@@ -30,8 +30,8 @@ impl<'a, K: TableKey, V> Model for Iter<'a, K, V> {
     ghost use Rattle.std.specs.Prelude.{List, ◌++◌};
     ghost use Rattle.ck_model.specs.Promise.{Name};
     ghost use Rattle.ck_model.specs.Contents.{pairs_of};
-    ghost use Rattle.ck_section.specs.Stripes.{contents_of};
-    ghost use Rattle.ck_section.specs.Whole.{AreSettled};
+    ghost use Rattle.ck_stripe.specs.Stripes.{contents_of};
+    ghost use Rattle.ck_stripe.specs.Tables.{AreSettled};
 
     ghost Value = { List (Name × V) };
 

@@ -6,13 +6,11 @@
 mod double;
 mod drain;
 mod entry;
-mod held;
 mod hop;
 mod iter;
 mod listing;
 mod look;
 mod one_key;
-mod one_stripe;
 mod place;
 mod retain;
 mod room;
@@ -20,21 +18,19 @@ mod two_keys;
 mod whole;
 mod whole_path;
 
-pub use double::{double_all, len, settle_all};
+pub use double::double_all;
 pub use drain::drain_all;
 pub use entry::{Entry, find_entry};
-pub use held::{Held, Numbered, Visitor};
 pub use hop::{Hop, make_hop};
 pub use iter::Iter;
-pub use listing::{entries, export, pour_all};
+pub use listing::export;
 pub use look::{key_place, sketch};
 pub use one_key::{
     Uprased, erase, erase_fn, fill, find, insert, insert_or_assign, read_entry, replace_if,
     try_update, try_upsert, update, update_fn, uprase, upsert,
 };
-pub use one_stripe::{is_settled, power};
-pub use place::{HeldBucket, HeldSlot, KeyPlace};
+pub use place::{HeldBucket, KeyPlace};
 pub use retain::retain_all;
-pub use room::{Lack, make_room, settled_place};
+pub use room::{make_room, settled_place};
 pub use two_keys::update_two;
 pub use whole::{clear_all, find_in_all, place_in_all};

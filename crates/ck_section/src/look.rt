@@ -2,15 +2,14 @@
 ghost use Rattle.std.specs.Prelude.{◌≡◌, ◌≤◌, ◌<◌, ◌%◌, ◌^◌, IfSome, IfNone, length, map};
 ghost use Rattle.ck_model.specs.Paths.{partial_in};
 ghost use Rattle.ck_key.specs.Hashes.{IsHashOf};
-ghost use Rattle.ck_section.specs.Stripes.{stripe_at, bucket_at, IsInReach};
-ghost use Rattle.ck_section.specs.Places.{AreHeld, HasStripe, HasBoth, IsPlaceOf, IsSlotOf, IsNowhere, AreFull, IsNext};
+ghost use Rattle.ck_stripe.specs.Stripes.{stripe_at, bucket_at, IsInReach};
+ghost use Rattle.ck_stripe.specs.Tables.{AreHeld, HasStripe};
+ghost use Rattle.ck_section.specs.Places.{HasBoth, IsPlaceOf, IsSlotOf, IsNowhere, AreFull, IsNext};
 ghost use Rattle.ck_section.specs.Entries.{IsOccupied};
 
-use crate::held::Held;
-use crate::one_stripe;
-use crate::place::{HeldBucket, HeldSlot, KeyPlace};
+use crate::place::{HeldBucket, KeyPlace};
 use ck_key::{KeyHash, Query, TableKey};
-use ck_stripe::Stripe;
+use ck_stripe::{Held, HeldSlot, Stripe, one_stripe};
 
 /// Where a key, whose hash the caller has at hand, may be among the held stripes of a table of 2^s.
 #[inline(always)]

@@ -14,12 +14,10 @@ ghost use Rattle.ck_section.specs.Calls.{effect, IsCall, ChangesContents};
 ghost use Rattle.ck_section.specs.Acts.{Inserts, Assigns, Updates, Erases, Changes, Upserts, Uprases, TriesUpsert};
 
 use crate::entry::Entry;
-use crate::held::Held;
 use crate::look::find_slot;
-use crate::one_stripe;
-use crate::place::{HeldSlot, KeyPlace};
+use crate::place::KeyPlace;
 use ck_key::{Query, TableKey};
-use ck_stripe::Stripe;
+use ck_stripe::{Held, HeldSlot, Stripe, one_stripe};
 
 /// What the closure answers for the value of the key; `None` where the key is unbound, and then the
 /// closure is not called.

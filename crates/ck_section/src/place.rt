@@ -1,6 +1,8 @@
 //! Where a key may be among held stripes.
 ghost use Rattle.std.specs.Prelude.{◌≡◌};
 
+use ck_stripe::HeldSlot;
+
 /// A bucket of a held stripe.
 #[derive(Clone, Copy, Debug, PartialEq, Eq)]
 pub struct HeldBucket {
@@ -18,14 +20,6 @@ pub struct KeyPlace {
     pub partial: u8,
     pub first: HeldBucket,
     pub alternate: HeldBucket,
-}
-
-/// A slot of a held stripe.
-#[derive(Clone, Copy, Debug, PartialEq, Eq)]
-pub struct HeldSlot {
-    pub index: usize,
-    pub bucket: u64,
-    pub slot: usize,
 }
 
 impl HeldBucket {

@@ -2,7 +2,7 @@
 ghost use Rattle.std.specs.Prelude.{ℕ};
 ghost use Rattle.ck_model.specs.Contents.{layout};
 ghost use Rattle.ck_section.specs.Calls.{ChangesContents};
-ghost use Rattle.ck_section.specs.Whole.{IsTable, AreSettled};
+ghost use Rattle.ck_stripe.specs.Tables.{IsTable, AreSettled};
 ghost use Rattle.ck_section.specs.Retaining.{RetainsBindings};
 
 use ck_key::TableKey;

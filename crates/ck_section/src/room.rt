@@ -5,33 +5,21 @@ ghost use Rattle.std.specs.Bool.{OnTrue, OnFalse};
 ghost use Rattle.ck_key.specs.Hashes.{IsHashOf};
 ghost use Rattle.ck_model.specs.Contents.{layout};
 ghost use Rattle.ck_model.specs.Paths.{IsTooEmpty};
-ghost use Rattle.ck_section.specs.Stripes.{contents_of, IsInReach};
-ghost use Rattle.ck_section.specs.Whole.{AreAllHeld, AreSettled, IsTable};
+ghost use Rattle.ck_stripe.specs.Stripes.{contents_of, IsInReach};
+ghost use Rattle.ck_stripe.specs.Tables.{AreAllHeld, AreSettled, IsTable, power_in, KeepsBindings};
 ghost use Rattle.ck_section.specs.Doublings.{Grows};
 ghost use Rattle.ck_section.specs.Places.{IsPlaceOf};
 ghost use Rattle.ck_section.specs.Hops.{IsNoCall};
 ghost use Rattle.ck_section.specs.Calls.{ChangesContents, IsWithRoom, IsWithoutRoom};
-ghost use Rattle.ck_section.specs.Room.{power_in, settled_at, IsWithoutPath, IsLack, KeepsBindings, MakesRoom, GivesReason, GrowsForRoom};
+ghost use Rattle.ck_section.specs.Room.{settled_at, IsWithoutPath, IsLack, MakesRoom, GivesReason, GrowsForRoom};
 
-use crate::double::{double_all, len, settle_all};
+use crate::double::double_all;
 use crate::entry::find_entry;
-use crate::held::Held;
-use crate::one_stripe;
 use crate::place::{HeldBucket, KeyPlace};
 use crate::whole_path::{find_path, follow_path};
 use ck_key::{KeyHash, TableKey};
-use ck_stripe::Stripe;
-
-/// What a table lacks to make room for a key.
-#[derive(Clone, Copy, Debug, PartialEq, Eq)]
-pub enum Lack {
-    /// The memory to double.
-    Memory,
-    /// A greater power: it may not grow.
-    Full,
-    /// The load with which it may grow.
-    LoadTooLow,
-}
+use ck_model::lack::Lack;
+use ck_stripe::{Held, Stripe, len, one_stripe, settle_all};
 
 /// Makes room for the key, whose hash the caller has at hand, in a table of 2^s stripes: then the
 /// key is bound or one of its buckets has a free slot. No binding changes.

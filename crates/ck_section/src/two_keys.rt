@@ -6,12 +6,10 @@ ghost use Rattle.ck_section.specs.Places.{IsPlaceOf};
 ghost use Rattle.ck_section.specs.Calls.{effect, ChangesContents};
 ghost use Rattle.ck_section.specs.TwoNames.{IsChangeOfTwo};
 
-use crate::held::Held;
 use crate::look::find_slot;
-use crate::one_stripe;
 use crate::place::KeyPlace;
 use ck_key::{Query, TableKey};
-use ck_stripe::Stripe;
+use ck_stripe::{Held, Stripe, one_stripe};
 
 /// Binds two different keys to what the closure makes of their two values, in order, and says
 /// whether both were bound. Where one was not, nothing changes and the closure is not called.

@@ -11,7 +11,8 @@ ghost use Rattle.ck_bucket.specs.Bucket.{LacksName};
 ghost use Rattle.ck_stripe.specs.Stripe.{HasBucket, bucket_of};
 ghost use Rattle.ck_section.specs.Calls.{effect, IsCall, ChangesContents};
 ghost use Rattle.ck_section.specs.Places.{IsPlaceOf};
-ghost use Rattle.ck_section.specs.Whole.{IsTable, AreSettled, AreAllHeld, ClearsBindings};
+ghost use Rattle.ck_stripe.specs.Tables.{IsTable, AreSettled, AreAllHeld};
+ghost use Rattle.ck_section.specs.Clearing.{ClearsBindings};
 
 use crate::place::{HeldBucket, KeyPlace};
 use ck_key::{Query, TableKey};

@@ -6,18 +6,16 @@ ghost use Rattle.ck_model.specs.Arithmetic.{alternate_of};
 ghost use Rattle.ck_model.specs.Slots.{HasFree};
 ghost use Rattle.ck_model.specs.Sketches.{HasNoSketchPath};
 ghost use Rattle.ck_path.specs.Route.{first_bucket, IsShortestPath};
-ghost use Rattle.ck_section.specs.Stripes.{bucket_at};
-ghost use Rattle.ck_section.specs.Whole.{AreAllHeld};
+ghost use Rattle.ck_stripe.specs.Stripes.{bucket_at};
+ghost use Rattle.ck_stripe.specs.Tables.{AreAllHeld, power_in};
 ghost use Rattle.ck_section.specs.Hops.{CanHop, Hops, IsNoCall};
 ghost use Rattle.ck_section.specs.Calls.{ChangesContents};
-ghost use Rattle.ck_section.specs.Room.{HaveFour, power_in, sketch_of, IsPathFor, IsWithoutPath, IsPathIn};
+ghost use Rattle.ck_section.specs.Room.{HaveFour, sketch_of, IsPathFor, IsWithoutPath, IsPathIn};
 
-use crate::held::Held;
 use crate::hop::{Hop, move_entry};
-use crate::one_stripe;
 use ck_key::{KeyHash, TableKey};
 use ck_path::{Path, Search};
-use ck_stripe::Stripe;
+use ck_stripe::{Held, Stripe, one_stripe};
 
 /// A shortest displacement path that makes room for the key, whose hash the caller has at hand, in
 /// a table of 2^s stripes; `None` where there is none of at most four hops. With no hop, a bucket

@@ -4,3 +4,7 @@ pub mod Stored
 pub mod Writes
 mod Pouring
 mod Listed
+pub mod Visited
+pub mod Stepwise
+pub mod Tables
+pub mod Totals

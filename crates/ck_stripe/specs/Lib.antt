@@ -4,3 +4,8 @@ pub mod Next
 pub mod Stored
 pub mod Iter
 pub mod Laws
+pub mod Numbered
+pub mod Stripes
+pub mod HeldSlots
+pub mod Tables
+pub mod Reading

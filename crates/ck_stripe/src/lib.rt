@@ -1,13 +1,28 @@
-//! The buckets of one stripe, and its doubling, which is reserved first and split late.
+//! Stripes, one and several: the buckets of one stripe and its doubling, which is reserved first and
+//! split late; and calls on stripes that are held, written once, over anything that is `Held`.
 #![tactic(auto)]
 
+// One stripe: the rows of its buckets, and what a doubling has left to be moved.
 mod crossings;
-mod iter;
 mod next;
-mod pairs;
 mod stripe;
+
+// All its pairs.
+mod iter;
+mod pairs;
+
+// Its law.
 mod stripe_laws;
 
+// Stripes that are held: how they are visited, one of them, and several.
+mod held;
+mod held_slot;
+pub mod one_stripe;
+mod several;
+
+pub use held::{Held, Numbered, Visitor};
+pub use held_slot::HeldSlot;
 pub use iter::Iter;
+pub use several::{entries, len, pour_all, settle_all};
 pub use stripe::Stripe;
 pub use stripe_laws::law_of_doubling;

@@ -5,9 +5,9 @@ use Rattle.ck_model.specs.Promise.{Name}
 use Rattle.ck_model.specs.Ranges.{AreInRange}
 use Rattle.ck_model.specs.Contents.{layout_of, Stripes, Lawful}
 use Rattle.ck_stripe.specs.Stripe.{StripeState}
-use Rattle.ck_section.specs.Stripes.{stripe_at, contents_of, HaveNoSpare, settled_stripes}
-use Rattle.ck_section.specs.Places.{AreHeld}
-use Rattle.ck_section.proofs.Found.{holds_at}
+use Rattle.ck_stripe.specs.Stripes.{stripe_at, contents_of, HaveNoSpare, settled_stripes}
+use Rattle.ck_stripe.specs.Tables.{AreHeld}
+use Rattle.ck_stripe.proofs.Tables.{holds_at}
 use Rattle.ck_words.specs.Passes.{EachOf, PassState, IsUnchanged, ShowsSeen, numbers_of}
 use Rattle.ck_words.proofs.Lending.{each_at}
 use Rattle.ck_words.proofs.Seating.{length-numbers, number_at}

@@ -10,7 +10,7 @@ use Rattle.ck_model.specs.Promise.{Name, After, StartsWith}
 use Rattle.ck_model.specs.Numbered.{IsIn, numbers, Holds}
 use Rattle.ck_model.specs.Contents.{Layout, layout_of, Stripes, Lawful, pairs_of, bindings, power_of, NamesApart}
 use Rattle.ck_model.proofs.Doubling.{pairs_apart}
-use Rattle.ck_section.specs.Stripes.{contents_of}
+use Rattle.ck_stripe.specs.Stripes.{contents_of}
 use Rattle.ck_words.specs.Words.{WordsState}
 use Rattle.ck_words.specs.Passes.{PassState, IsPassOf, IsIdle}
 use Rattle.ck_words.specs.Retries.{Stays}

@@ -14,7 +14,7 @@ use Rattle.ck_model.specs.Contents.{Layout, Stripes, IsBucketOf, Lawful, pairs_i
 use Rattle.ck_model.specs.Paths.{HasNoRoom, IsPathFrom, IsStuck, IsTooEmpty, Grounds}
 use Rattle.ck_model.proofs.Numbered.{if_else}
 use Rattle.ck_core.specs.Steps.{HasGrounds, IsExcused}
-use Rattle.ck_section.proofs.Found.{rows_held, power_held}
+use Rattle.ck_model.proofs.Rows.{rows_held, power_held}
 use Rattle.ck_words.proofs.Reversed.{reverse-cons, held_reverse, in_reverse, in_of_reverse, distinct_reverse, lawful_reverse, bindings-reverse}
 
 module _ {V : Type 0} where

@@ -1,6 +1,5 @@
 -- What the steps ask and leave by which the highest stripe goes home, at the fields of words and pass.
-use Rattle.std.proofs.Common.{◌≡◌, ℕ, ◌*◌, ◌/◌, ◌^◌, ◌<◌, ◌≤◌, List, [], ◌∷◌, ◌++◌, reverse, sym, refl, ap, ◌∙◌, subst, inl, arith, Option, Some}
-use Rattle.std.proofs.Common.{Fits as Fits64, w64}
+use Rattle.std.proofs.Common.{◌≡◌, ℕ, ◌*◌, ◌/◌, ◌^◌, ◌<◌, ◌≤◌, List, [], ◌∷◌, ◌++◌, reverse, sym, refl, ap, ◌∙◌, subst, inl, arith, Option, Some, Fits as Fits64, w64}
 use Rattle.std.proofs.Math.Nat.{pow-le-pow_right}
 use Rattle.std.proofs.Math.Facts.{Fits-bits}
 use Rattle.std.proofs.lemmas.List.{reverse-reverse}
@@ -13,7 +12,7 @@ use Rattle.ck_model.specs.Promise.{Name}
 use Rattle.ck_model.specs.Numbered.{Holds, without}
 use Rattle.ck_model.specs.Contents.{Layout, layout_of, Stripes, Lawful}
 use Rattle.ck_model.specs.Sections.{Section, IdentitySection}
-use Rattle.ck_section.specs.Stripes.{contents_of, HaveNoSpare}
+use Rattle.ck_stripe.specs.Stripes.{contents_of, HaveNoSpare}
 use Rattle.ck_core.specs.declared.view.View.{View}
 use Rattle.ck_core.specs.Steps.{Label, IsExcused, HasGrounds}
 use Rattle.ck_core.specs.Steps.Label.{Give, Decide, Renew}

@@ -4,8 +4,8 @@ use Rattle.std.specs.Prelude.{slice_set}
 use Rattle.std.proofs.lemmas.List.{get_or_default, length-set}
 use Rattle.ck_model.specs.Numbered.{IsIn, numbers}
 use Rattle.ck_stripe.specs.Stripe.{StripeState}
-use Rattle.ck_section.specs.Stripes.{no_stripe, stripe_at, contents_of}
-use Rattle.ck_section.specs.Numbered.{IsSame}
+use Rattle.ck_stripe.specs.Stripes.{no_stripe, stripe_at, contents_of}
+use Rattle.ck_stripe.specs.Numbered.{IsSame}
 use Rattle.ck_words.specs.Words.{WordsState}
 use Rattle.ck_words.specs.Passes.{PassState, EachOf, IsSeated, IsPassOf, stripes_in, held_in, state_of, numbers_of}
 use Rattle.ck_words.specs.InPlace.{StripeSeat, HoldsAt, Puts}

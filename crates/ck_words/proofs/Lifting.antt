@@ -5,7 +5,7 @@ use Rattle.atomic_table.specs.Table.{rest, turned}
 use Rattle.atomic_table.specs.Seated.{TableId}
 use Rattle.ck_model.specs.Numbered.{numbers}
 use Rattle.ck_stripe.specs.Stripe.{StripeState}
-use Rattle.ck_section.specs.Stripes.{no_stripe, stripe_at}
+use Rattle.ck_stripe.specs.Stripes.{no_stripe, stripe_at}
 use Rattle.ck_words.specs.Rule.{StripeSlot, Hand}
 use Rattle.ck_model.specs.Counting.{counting}
 use Rattle.ck_core.specs.Steps.{IsAbove}

@@ -3,7 +3,7 @@ use Rattle.std.proofs.Common.{◌≡◌, ℕ, ◌+◌, ◌-◌, ◌^◌, ◌<◌
 use Rattle.std.specs.List.Sorted.{IsStrictlyIncreasing}
 use Rattle.ck_model.specs.Promise.{Name}
 use Rattle.ck_model.specs.Numbered.{IsIn, numbers}
-use Rattle.ck_section.specs.Stripes.{HaveNoSpare}
+use Rattle.ck_stripe.specs.Stripes.{HaveNoSpare}
 use Rattle.ck_core.specs.Steps.{IsAbove}
 use Rattle.ck_words.specs.Words.{WordsState}
 use Rattle.ck_words.specs.Passes.{MayTake, PassState, IsPassOf, IsUnchanged, TakesStripe, TriesStripe, numbers_of}

@@ -10,10 +10,9 @@ use Rattle.ck_model.specs.Numbered.{IsIn, numbers, Holds}
 use Rattle.ck_model.specs.Contents.{Layout, layout_of, Stripes, bindings, Lawful}
 use Rattle.ck_model.specs.Sections.{HasAll, OwnsCall, Renewed, Section, IdentitySection}
 use Rattle.ck_model.proofs.Numbered.{in_held, held_of_in}
-use Rattle.ck_section.specs.Stripes.{contents_of}
-use Rattle.ck_section.specs.Room.{KeepsBindings}
-use Rattle.ck_section.proofs.Rebinding.{power_on, identity_of_none}
-use Rattle.ck_section.proofs.Doublings.{identity_on}
+use Rattle.ck_stripe.specs.Stripes.{contents_of}
+use Rattle.ck_stripe.specs.Tables.{KeepsBindings}
+use Rattle.ck_model.proofs.Identities.{power_on, identity_of_none, identity_on}
 use Rattle.ck_words.specs.Passes.{PassState, IsUnchanged}
 use Rattle.ck_words.specs.Answering.{HasDone}
 use Rattle.ck_words.specs.Renewing.{HasRenewed}

@@ -13,7 +13,7 @@ use Rattle.ck_model.specs.declared.settings.Settings.{Settings}
 use Rattle.ck_model.specs.Promise.{Name, Map, Answers, AnswersTwo, Step, IsLegal, Answered, Follows}
 use Rattle.ck_model.specs.Contents.{layout_of, Stripes, Lawful, bindings}
 use Rattle.ck_model.specs.Sections.{HasAll}
-use Rattle.ck_section.specs.Stripes.{contents_of}
+use Rattle.ck_stripe.specs.Stripes.{contents_of}
 use Rattle.ck_core.specs.declared.view.View.{View}
 use Rattle.ck_core.specs.Steps.{deciding}
 use Rattle.ck_core.specs.Steps.Label.{Decide}

@@ -8,7 +8,7 @@ use Rattle.ck_model.specs.declared.settings.Settings.{Settings}
 use Rattle.ck_model.specs.Contents.{Stripes}
 use Rattle.ck_model.proofs.Numbered.{if_same, if_else}
 use Rattle.ck_stripe.specs.Stripe.{StripeState}
-use Rattle.ck_section.specs.Stripes.{stripe_at, contents_of}
+use Rattle.ck_stripe.specs.Stripes.{stripe_at, contents_of}
 use Rattle.ck_core.specs.declared.view.View.{View}
 use Rattle.ck_core.specs.Steps.{IsAbove}
 use Rattle.ck_words.specs.Rule.{StripeSlot, Hand, IsAtHome}

@@ -1,6 +1,6 @@
 -- The stripes of a pass by their numbers.
 use Rattle.std.proofs.Common.{◌≡◌, ℕ, ◌<◌, List, length, get_or, sym, ap, ◌∙◌, arith}
-use Rattle.ck_section.specs.Stripes.{stripe_at}
+use Rattle.ck_stripe.specs.Stripes.{stripe_at}
 use Rattle.ck_words.specs.Passes.{PassState, numbers_of}
 use Rattle.ck_words.proofs.Seating.{length-numbers, number_at}
 

@@ -3,7 +3,7 @@ use Rattle.std.proofs.Common.{◌≡◌, zero, suc, ◌<◌, List, [], ◌∷◌
 use Rattle.std.specs.Prelude.{All}
 use Rattle.std.proofs.lemmas.List.Elements.{All-from_get_or, All-push, All-pop}
 use Rattle.ck_stripe.specs.Stripe.{StripeState, HasNoSpare}
-use Rattle.ck_section.specs.Stripes.{no_stripe, HaveNoSpare, settled_stripes}
+use Rattle.ck_stripe.specs.Stripes.{no_stripe, HaveNoSpare, settled_stripes}
 
 module _ {V : Type 0} where
   all_spare : (ss : List (StripeState V)) → HaveNoSpare ss → All HasNoSpare ss

@@ -11,7 +11,7 @@ use Rattle.ck_core.specs.declared.view.View.{View}
 use Rattle.ck_core.specs.Steps.{giving}
 use Rattle.ck_core.specs.Steps.Label.{Take, GiveRest}
 use Rattle.ck_core.specs.Laws.{Shows}
-use Rattle.ck_section.specs.Stripes.{contents_of}
+use Rattle.ck_stripe.specs.Stripes.{contents_of}
 use Rattle.std.proofs.lemmas.List.{reverse-reverse}
 use Rattle.ck_words.specs.Passes.{PassState, IsPassOf, TakesStripe, TriesStripe, Sends, IsIdle, IsUnchanged, ShowsSeen}
 use Rattle.ck_words.specs.Words.{WordsState}

@@ -13,9 +13,9 @@ use Rattle.ck_model.proofs.Numbered.{held_first, in_held}
 use Rattle.ck_stripe.specs.Stripe.{StripeState}
 use Rattle.ck_model.specs.declared.history.Entry.{Entry}
 use Rattle.ck_core.specs.Steps.Label.{GiveRest, Renew, Decide}
-use Rattle.ck_section.specs.Stripes.{stripe_at, contents_of}
-use Rattle.ck_section.specs.Room.{power_in}
-use Rattle.ck_section.proofs.Found.{holds_at}
+use Rattle.ck_stripe.specs.Stripes.{stripe_at, contents_of}
+use Rattle.ck_stripe.specs.Tables.{power_in}
+use Rattle.ck_stripe.proofs.Tables.{holds_at}
 use Rattle.ck_words.specs.Steps.{Steps}
 use Rattle.ck_words.specs.Words.{WordsState}
 use Rattle.ck_words.specs.Passes.{PassState, IsPassOf, IsIdle, IsUnchanged, ShowsSeen, Sends}

@@ -5,7 +5,7 @@ use Rattle.atomic_table.specs.Seated.{TableId}
 use Rattle.std.proofs.lemmas.List.{reverse-append, reverse-reverse, length-reverse}
 use Rattle.ck_core.specs.declared.view.View.{View}
 use Rattle.ck_stripe.specs.Stripe.{StripeState}
-use Rattle.ck_section.specs.Stripes.{stripe_at}
+use Rattle.ck_stripe.specs.Stripes.{stripe_at}
 use Rattle.ck_words.specs.Rule.{StripeSlot, Hand}
 use Rattle.ck_words.specs.Passes.{PassState, EachOf, IsSeated, rotated, slot_of, state_of, stripes_in, held_in, numbers_of}
 use Rattle.ck_words.specs.InPlace.{StripeSeat, HoldsAt, Brings, Puts}

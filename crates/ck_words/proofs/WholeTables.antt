@@ -6,9 +6,8 @@ use Rattle.ck_model.specs.declared.settings.Settings.{Settings}
 use Rattle.ck_model.specs.Promise.{Name}
 use Rattle.ck_model.specs.Contents.{layout_of, Lawful}
 use Rattle.ck_stripe.specs.Stripe.{StripeState}
-use Rattle.ck_section.specs.Stripes.{stripe_at, contents_of}
-use Rattle.ck_section.specs.Places.{AreHeld}
-use Rattle.ck_section.specs.Whole.{IsTable}
+use Rattle.ck_stripe.specs.Stripes.{stripe_at, contents_of}
+use Rattle.ck_stripe.specs.Tables.{AreHeld, IsTable}
 use Rattle.ck_model.specs.Counting.{counting}
 use Rattle.ck_words.specs.Passes.{PassState, IsUnchanged, ShowsSeen, numbers_of}
 use Rattle.ck_words.specs.declared.stripe_set.StripeSet.{StripeSet}

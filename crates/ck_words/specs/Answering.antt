@@ -9,7 +9,7 @@ use Rattle.ck_model.specs.declared.settings.Settings.{Settings}
 use Rattle.ck_model.specs.Promise.{Name, Follows, Replied}
 use Rattle.ck_model.specs.Contents.{layout_of, Lawful}
 use Rattle.ck_model.specs.Sections.{HasAll, Section}
-use Rattle.ck_section.specs.Stripes.{contents_of}
+use Rattle.ck_stripe.specs.Stripes.{contents_of}
 use Rattle.ck_core.specs.State.{client_of}
 use Rattle.ck_words.specs.Words.{WordsState}
 use Rattle.ck_words.specs.Passes.{PassState, IsPassOf, IsIdle}

@@ -9,7 +9,7 @@ use Rattle.ck_model.specs.Promise.{Name, Map, After, StartsWith, IsInterleaving}
 use Rattle.ck_model.specs.Numbered.{IsIn, numbers}
 use Rattle.ck_model.specs.Contents.{layout_of, Stripes, Lawful, bindings, power_of}
 use Rattle.ck_model.specs.Sections.{HasAll}
-use Rattle.ck_section.specs.Stripes.{stripe_at}
+use Rattle.ck_stripe.specs.Stripes.{stripe_at}
 use Rattle.ck_core.specs.State.{owned}
 use Rattle.ck_core.specs.Steps.{newcomer}
 use Rattle.ck_model.specs.Counting.{counting}

@@ -6,7 +6,7 @@ use Rattle.ck_model.specs.declared.history.Call as calls
 use Rattle.ck_model.specs.declared.history.Call.TheVariants.{On, Session}
 use Rattle.ck_model.specs.Promise.{Name}
 use Rattle.ck_model.specs.Contents.{bindings}
-use Rattle.ck_section.specs.Stripes.{contents_of}
+use Rattle.ck_stripe.specs.Stripes.{contents_of}
 use Rattle.ck_words.specs.declared.commit.Commit.{Commit}
 use Rattle.ck_words.specs.Passes.{PassState}
 use Rattle.ck_words.specs.declared.commit.Commit.TheVariants.{Find, Insert, Assign, Update, Change, Upsert, Erase, ChangeTwo, Len}

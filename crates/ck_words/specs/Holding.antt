@@ -4,8 +4,8 @@ use Rattle.ck_model.specs.Promise.{Name}
 use Rattle.ck_model.specs.Numbered.{Holds, IsIn}
 use Rattle.ck_model.specs.declared.contents.Content.{Content}
 use Rattle.ck_stripe.specs.Stripe.{StripeState}
-use Rattle.ck_section.specs.Stripes.{contents_of, HaveNoSpare}
-use Rattle.ck_section.specs.Room.{power_in}
+use Rattle.ck_stripe.specs.Stripes.{contents_of, HaveNoSpare}
+use Rattle.ck_stripe.specs.Tables.{power_in}
 use Rattle.ck_words.specs.Words.{WordsState}
 use Rattle.ck_words.specs.Passes.{PassState, EachOf, IsPassOf, IsIdle, IsUnchanged, ShowsSeen, numbers_of}
 use Rattle.ck_words.specs.declared.stripe_set.StripeSet.{StripeSet}

@@ -10,7 +10,7 @@ use Rattle.ck_model.specs.Promise.{Name}
 use Rattle.ck_model.specs.Numbered.{Holds}
 use Rattle.ck_model.specs.Contents.{Stripes}
 use Rattle.ck_stripe.specs.Stripe.{StripeState}
-use Rattle.ck_section.specs.Stripes.{no_stripe}
+use Rattle.ck_stripe.specs.Stripes.{no_stripe}
 use Rattle.ck_core.specs.declared.view.View.{View}
 use Rattle.ck_core.specs.Steps.{Label, newcomer}
 use Rattle.ck_core.specs.Steps.Label.{Take, FindHeld, Look}

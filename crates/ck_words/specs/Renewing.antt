@@ -5,7 +5,7 @@ use Rattle.ck_model.specs.declared.settings.Settings.{Settings}
 use Rattle.ck_model.specs.Promise.{Name}
 use Rattle.ck_model.specs.Contents.{layout_of, Lawful}
 use Rattle.ck_model.specs.Sections.{IdentitySection}
-use Rattle.ck_section.specs.Stripes.{contents_of}
+use Rattle.ck_stripe.specs.Stripes.{contents_of}
 use Rattle.ck_words.specs.Words.{WordsState}
 use Rattle.ck_words.specs.Passes.{PassState, IsPassOf, IsIdle}
 use Rattle.ck_words.specs.Retries.{StaysBut}

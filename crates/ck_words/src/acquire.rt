@@ -2,8 +2,7 @@
 ghost use Rattle.std.specs.Prelude.{◌≡◌, ◌<◌, ◌≤◌, ◌-◌, ◌^◌, MatchBool, OnOk, IfErr, length, take};
 ghost use Rattle.ck_model.specs.Numbered.{numbers, IsIn};
 ghost use Rattle.ck_core.specs.Steps.{IsAbove};
-ghost use Rattle.ck_section.specs.Places.{AreHeld};
-ghost use Rattle.ck_section.specs.Whole.{IsTable, AreSettled};
+ghost use Rattle.ck_stripe.specs.Tables.{AreHeld, IsTable, AreSettled};
 ghost use Rattle.ck_words.specs.Passes.{MayTake, IsPassOf, IsUnchanged, numbers_of, PassState, IsIdle, ShowsSeen};
 ghost use Rattle.ck_words.specs.StripeNumbers.{pair};
 ghost use Rattle.ck_words.specs.StripeSets.{list_of};

@@ -3,7 +3,7 @@ ghost use Rattle.std.specs.Prelude.{◌≡◌, ℕ, ◌+◌, ◌^◌, ◌≤◌,
 ghost use Rattle.ck_model.specs.Promise.{named};
 ghost use Rattle.std.specs.FinMap.{from_entries};
 ghost use Rattle.ck_model.specs.Contents.{NamesApart, pairs_of};
-ghost use Rattle.ck_section.specs.Stripes.{stripe_at, contents_of};
+ghost use Rattle.ck_stripe.specs.Stripes.{stripe_at, contents_of};
 ghost use Rattle.ck_model.specs.Counting.{counting};
 ghost use Rattle.ck_words.specs.Passes.{IsPassOf, IsIdle, ShowsSeen, numbers_of};
 ghost use Rattle.ck_words.specs.Retries.{Stays};
@@ -14,7 +14,7 @@ use crate::lift::Whole;
 use crate::pass::Pass;
 use crate::words::Words;
 use ck_key::TableKey;
-use ck_section::{len, pour_all};
+use ck_stripe::{len, pour_all};
 use std::alloc::Global;
 
 impl<K: TableKey + Drop, V: Drop> Words<K, V> {

@@ -5,7 +5,7 @@ ghost use Rattle.ck_model.specs.declared.history.Reply.TheVariants.{Closed};
 ghost use Rattle.ck_model.specs.Contents.{layout_of, Lawful};
 ghost use Rattle.ck_model.specs.Sections.{Section};
 ghost use Rattle.ck_core.specs.Steps.{Label};
-ghost use Rattle.ck_section.specs.Stripes.{contents_of, HaveNoSpare};
+ghost use Rattle.ck_stripe.specs.Stripes.{contents_of, HaveNoSpare};
 ghost use Rattle.ck_words.specs.Passes.{PassState, Sends};
 ghost use Rattle.ck_words.specs.Holding.{HasReleased};
 ghost use Rattle.ck_words.specs.Commits.{call_of, session_of};

@@ -8,8 +8,7 @@ use crate::stripe_set::StripeSet;
 use crate::visits;
 use crate::words::Words;
 use ck_key::TableKey;
-use ck_section::{Held, Visitor};
-use ck_stripe::Stripe;
+use ck_stripe::{Held, Stripe, Visitor};
 
 /// The stripes of a set, which a pass holds, to be worked on in their slots. They are given back by
 /// one of these: `commit`, `commit_query` or `commit_session`, where a call is answered; `renew`

@@ -9,8 +9,7 @@ use crate::rule::{Board, StripeSeat};
 use crate::visits::turn_by;
 use crate::words::Words;
 use ck_key::TableKey;
-use ck_section::{Held, Visitor};
-use ck_stripe::Stripe;
+use ck_stripe::{Held, Stripe, Visitor};
 use std::marker::Model;
 
 /// All stripes of a table, which one caller holds, in one list in rising order of their numbers.

@@ -1,6 +1,6 @@
 //! Reading the power of the table.
 ghost use Rattle.std.specs.Prelude.{◌≡◌, ◌<◌, length, OnOk, IfOk, IfErr};
-ghost use Rattle.ck_section.specs.Stripes.{stripe_at};
+ghost use Rattle.ck_stripe.specs.Stripes.{stripe_at};
 ghost use Rattle.ck_words.specs.Passes.{IsPassOf, IsIdle};
 ghost use Rattle.ck_words.specs.Retries.{Stays, FindsAmong, IsBusy};
 

@@ -3,10 +3,9 @@
 ghost use Rattle.std.specs.Prelude.{◌≡◌, true, reverse};
 ghost use Rattle.ck_model.specs.declared.history.Reason.TheVariants.{NoRoom};
 ghost use Rattle.ck_model.specs.Contents.{layout_of, Lawful};
-ghost use Rattle.ck_model.specs.Paths.{Grounds, HasNoRoom};
+ghost use Rattle.ck_model.specs.Paths.{Grounds, HasNoRoom, reason_of_lack};
 ghost use Rattle.ck_model.specs.Sections.{Owns};
-ghost use Rattle.ck_section.specs.Stripes.{contents_of, HaveNoSpare};
-ghost use Rattle.ck_section.specs.Room.{reason_of_lack};
+ghost use Rattle.ck_stripe.specs.Stripes.{contents_of, HaveNoSpare};
 ghost use Rattle.ck_words.specs.Passes.{IsUnchanged};
 ghost use Rattle.ck_words.specs.StripeSets.{list_of};
 ghost use Rattle.ck_words.specs.Retries.{as_doubled};
@@ -18,7 +17,7 @@ use crate::pass::Pass;
 use crate::stripe_set::StripeSet;
 use crate::words::Words;
 use ck_key::TableKey;
-use ck_section::Lack;
+use ck_model::lack::Lack;
 use std::marker::Brand;
 use std::snapshot::Snapshot;
 

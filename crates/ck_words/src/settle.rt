@@ -1,7 +1,7 @@
 //! Carrying out the doublings that are left of stripes that a pass holds.
 ghost use Rattle.std.specs.Prelude.{◌≡◌, ◌<◌, ◌≤◌, ◌^◌};
-ghost use Rattle.ck_section.specs.Places.{AreHeld};
-ghost use Rattle.ck_section.specs.Stripes.{settled_stripes};
+ghost use Rattle.ck_stripe.specs.Tables.{AreHeld};
+ghost use Rattle.ck_stripe.specs.Stripes.{settled_stripes};
 ghost use Rattle.ck_words.specs.Passes.{IsPassOf, IsUnchanged, numbers_of, PassState};
 ghost use Rattle.ck_words.specs.StripeNumbers.{pair};
 ghost use Rattle.ck_words.specs.StripeSets.{list_of};
@@ -13,7 +13,7 @@ use crate::pass::Pass;
 use crate::stripe_set::StripeSet;
 use crate::words::Words;
 use ck_key::TableKey;
-use ck_section::{is_settled, settle_all};
+use ck_stripe::{one_stripe, settle_all};
 
 impl<K: TableKey + Drop, V: Drop> Words<K, V> {
     /// Carries out the doublings that are left of the stripes of a set, which were just taken.
@@ -44,8 +44,8 @@ impl<K: TableKey + Drop, V: Drop> Words<K, V> {
         if count <= 2 {
             let mut guard = guard!(self, pass, set);
             // One test for both, before anything is looked into.
-            let first = is_settled(&mut guard, 0);
-            let last = is_settled(&mut guard, count - 1);
+            let first = one_stripe::is_settled(&mut guard, 0);
+            let last = one_stripe::is_settled(&mut guard, count - 1);
             let Guard { pass, .. } = guard;
             if first && last {
                 return;

@@ -7,7 +7,7 @@ ghost use Rattle.ck_model.specs.Numbered.{numbers};
 ghost use Rattle.ck_model.specs.Contents.{layout_of, Lawful};
 ghost use Rattle.ck_model.specs.Sections.{Section, IdentitySection};
 ghost use Rattle.ck_core.specs.Steps.{Label, IsAbove, IsExcused, HasGrounds};
-ghost use Rattle.ck_section.specs.Stripes.{contents_of, HaveNoSpare};
+ghost use Rattle.ck_stripe.specs.Stripes.{contents_of, HaveNoSpare};
 ghost use Rattle.ck_words.specs.Passes.{MayTake, MayGive, IsPassOf, IsUnchanged, TriesStripe, Sends, LooksUp};
 
 use crate::pass::Pass;

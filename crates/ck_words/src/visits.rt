@@ -5,15 +5,14 @@
 ghost use Rattle.std.specs.Prelude.{◌≡◌};
 ghost use Rattle.atomic_table.specs.Seated.{TableId};
 ghost use Rattle.ck_stripe.specs.Stripe.{StripeState};
-ghost use Rattle.ck_section.specs.Numbered.{IsSame};
-ghost use Rattle.ck_section.specs.Stripes.{stripe_at};
+ghost use Rattle.ck_stripe.specs.Numbered.{IsSame};
+ghost use Rattle.ck_stripe.specs.Stripes.{stripe_at};
 ghost use Rattle.ck_words.specs.Passes.{rotated, held_in};
 ghost use Rattle.ck_words.specs.InPlace.{HoldsAt, Brings, Puts};
 
 use crate::rule::{Board, StripeSeat};
 use ck_key::TableKey;
-use ck_section::Visitor;
-use ck_stripe::Stripe;
+use ck_stripe::{Stripe, Visitor};
 
 // The first `n` slots go behind the others.
 #[inline(always)]

@@ -17,7 +17,7 @@ use Rattle.ck_model.proofs.Histories.{subhistory-append}
 use Rattle.ck_stripe.specs.Stripe.{StripeState}
 use Rattle.ck_section.specs.declared.place.KeyPlace.{KeyPlace}
 use Rattle.ck_section.specs.Acts.{ErasesBy, ReplacesIf}
-use Rattle.ck_section.specs.Stripes.{contents_of}
+use Rattle.ck_stripe.specs.Stripes.{contents_of}
 use Rattle.ck_section.specs.Places.{HasBoth, IsPlaceOf}
 use Rattle.ck_section.specs.Calls.{ChangesContents}
 use Rattle.ck_core.specs.declared.view.View.{View}

@@ -7,11 +7,10 @@ use Rattle.ck_model.specs.Promise.{Name, After, StartsWith}
 use Rattle.ck_model.specs.Numbered.{Holds}
 use Rattle.ck_model.specs.Contents.{Layout, layout_of, Stripes, Lawful, bindings, power_of}
 use Rattle.ck_stripe.specs.Stripe.{StripeState}
-use Rattle.ck_section.specs.Stripes.{stripe_at, contents_of}
-use Rattle.ck_section.specs.Places.{AreHeld}
+use Rattle.ck_stripe.specs.Stripes.{stripe_at, contents_of}
+use Rattle.ck_stripe.specs.Tables.{AreHeld, power_in}
 use Rattle.ck_section.specs.Calls.{ChangesContents}
-use Rattle.ck_section.specs.Room.{power_in}
-use Rattle.ck_section.proofs.Found.{holds_at}
+use Rattle.ck_stripe.proofs.Tables.{holds_at}
 use Rattle.ck_section.proofs.Tables.{power_shown}
 use Rattle.ck_core.specs.declared.view.View.{View}
 use Rattle.ck_words.specs.Words.{WordsState}

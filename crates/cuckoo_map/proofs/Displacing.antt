@@ -4,7 +4,7 @@ use Rattle.ck_model.specs.declared.history.Reason.{Reason}
 use Rattle.ck_model.specs.Promise.{Name}
 use Rattle.ck_model.specs.Contents.{layout, Stripes, Lawful}
 use Rattle.ck_model.specs.Sections.{IdentitySection}
-use Rattle.ck_section.specs.Stripes.{contents_of}
+use Rattle.ck_stripe.specs.Stripes.{contents_of}
 use Rattle.ck_section.specs.Hops.{IsNoCall}
 use Rattle.ck_core.specs.declared.view.View.{View}
 use Rattle.ck_words.specs.Words.{WordsState}

@@ -11,8 +11,8 @@ use Rattle.ck_model.specs.Paths.{Grounds}
 use Rattle.ck_model.specs.Sections.{IdentitySection}
 use Rattle.ck_model.proofs.Numbered.{held_of_in}
 use Rattle.ck_stripe.specs.Stripe.{StripeState}
-use Rattle.ck_section.specs.Stripes.{contents_of}
-use Rattle.ck_section.specs.Room.{power_in}
+use Rattle.ck_stripe.specs.Stripes.{contents_of}
+use Rattle.ck_stripe.specs.Tables.{power_in}
 use Rattle.ck_core.specs.declared.view.View.{View}
 use Rattle.ck_words.specs.Words.{WordsState}
 use Rattle.ck_words.specs.Passes.{PassState}

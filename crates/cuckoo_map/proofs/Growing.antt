@@ -11,11 +11,10 @@ use Rattle.ck_model.specs.declared.contents.Content.{Content}
 use Rattle.ck_model.specs.Contents.{Layout, layout, layout_of, Stripes, Lawful}
 use Rattle.ck_model.specs.Sections.{IdentitySection}
 use Rattle.ck_stripe.specs.Stripe.{StripeState}
-use Rattle.ck_section.specs.Stripes.{contents_of, settled_stripes}
-use Rattle.ck_section.specs.Whole.{AreAllHeld, AreSettled, IsTable}
+use Rattle.ck_stripe.specs.Stripes.{contents_of, settled_stripes}
+use Rattle.ck_stripe.specs.Tables.{AreAllHeld, AreSettled, IsTable, power_in, KeepsBindings}
 use Rattle.ck_section.specs.Doublings.{DoublesEach, Grows}
-use Rattle.ck_section.specs.Room.{power_in, KeepsBindings}
-use Rattle.ck_section.proofs.Doublings.{identity_on}
+use Rattle.ck_model.proofs.Identities.{identity_on}
 use Rattle.ck_section.proofs.Growing.{contents_settled, all_settled}
 use Rattle.ck_section.proofs.Tables.{power_same}
 use Rattle.ck_core.specs.declared.view.View.{View}

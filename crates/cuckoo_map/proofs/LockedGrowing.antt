@@ -10,10 +10,9 @@ use Rattle.ck_model.specs.Numbered.{Holds}
 use Rattle.ck_model.specs.Contents.{Layout, layout, layout_of, pairs_of}
 use Rattle.ck_model.proofs.Numbered.{held_of_in}
 use Rattle.ck_stripe.specs.Stripe.{StripeState}
-use Rattle.ck_section.specs.Stripes.{stripe_at, contents_of, settled_stripes}
-use Rattle.ck_section.specs.Whole.{AreAllHeld, AreSettled, IsTable}
-use Rattle.ck_section.specs.Room.{power_in, KeepsBindings}
-use Rattle.ck_section.proofs.Found.{holds_at}
+use Rattle.ck_stripe.specs.Stripes.{stripe_at, contents_of, settled_stripes}
+use Rattle.ck_stripe.specs.Tables.{AreAllHeld, AreSettled, IsTable, power_in, KeepsBindings}
+use Rattle.ck_stripe.proofs.Tables.{holds_at}
 use Rattle.ck_section.proofs.AllStripes.{power_read}
 use Rattle.ck_section.proofs.Tables.{power_shown}
 use Rattle.ck_words.specs.Words.{WordsState}

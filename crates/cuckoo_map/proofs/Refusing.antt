@@ -9,7 +9,7 @@ use Rattle.ck_model.specs.Contents.{layout_of, IsStripeOf, Lawful}
 use Rattle.ck_model.specs.Sections.{Owns}
 use Rattle.ck_model.specs.Paths.{HasNoRoom}
 use Rattle.ck_stripe.specs.Stripe.{StripeState}
-use Rattle.ck_section.specs.Stripes.{contents_of}
+use Rattle.ck_stripe.specs.Stripes.{contents_of}
 use Rattle.ck_section.specs.declared.place.KeyPlace.{KeyPlace}
 use Rattle.ck_section.specs.Calls.{IsWithoutRoom}
 use Rattle.ck_section.proofs.Owned.{own_below}

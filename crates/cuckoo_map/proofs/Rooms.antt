@@ -7,18 +7,18 @@ use Rattle.ck_model.specs.declared.history.Reason.TheVariants.{NoRoom}
 use Rattle.ck_model.specs.declared.settings.Settings.{Settings}
 use Rattle.ck_model.specs.Promise.{Name, After}
 use Rattle.ck_model.specs.Contents.{Layout, layout, layout_of, Stripes, Lawful, bindings, power_of}
-use Rattle.ck_model.specs.Paths.{Grounds, HasNoRoom}
+use Rattle.ck_model.specs.Paths.{Grounds, HasNoRoom, reason_of_lack}
 use Rattle.ck_stripe.specs.Stripe.{StripeState}
-use Rattle.ck_section.specs.declared.room.Lack as lack
-use Rattle.ck_section.specs.declared.room.Lack.TheVariants.{Memory, Full, LoadTooLow}
-use Rattle.ck_section.specs.Stripes.{contents_of, HaveNoSpare}
+use Rattle.ck_model.specs.declared.lack.Lack as lack
+use Rattle.ck_model.specs.declared.lack.Lack.TheVariants.{Memory, Full, LoadTooLow}
+use Rattle.ck_stripe.specs.Stripes.{contents_of, HaveNoSpare}
 use Rattle.ck_section.proofs.Tables.{power_shown}
 use Rattle.ck_section.specs.declared.entry.Entry.{Entry}
 use Rattle.ck_section.specs.Places.{IsPlaceOf}
 use Rattle.ck_section.specs.Entries.{IsEntryOf}
 use Rattle.ck_section.specs.Calls.{IsWithoutRoom}
-use Rattle.ck_section.specs.Whole.{AreAllHeld, AreSettled, IsTable}
-use Rattle.ck_section.specs.Room.{reason_of_lack, power_in, KeepsBindings, MakesRoom, GivesReason, GrowsForRoom}
+use Rattle.ck_stripe.specs.Tables.{AreAllHeld, AreSettled, IsTable, power_in, KeepsBindings}
+use Rattle.ck_section.specs.Room.{MakesRoom, GivesReason, GrowsForRoom}
 use Rattle.ck_core.specs.declared.view.View.{View}
 use Rattle.ck_words.specs.Words.{WordsState}
 use Rattle.ck_words.specs.Passes.{PassState, IsUnchanged, numbers_of}

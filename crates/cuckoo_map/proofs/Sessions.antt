@@ -18,25 +18,26 @@ use Rattle.ck_model.specs.declared.settings.Settings.{Settings}
 use Rattle.ck_model.specs.Promise.{Name, Answers, Step, After}
 use Rattle.ck_model.specs.Numbered.{IsIn, numbers, Holds}
 use Rattle.ck_model.specs.Contents.{Layout, layout, layout_of, Stripes, Lawful, pairs_in, pairs_of, bindings, NamesApart, power_of}
-use Rattle.ck_model.specs.Paths.{HasNoRoom, Grounds}
+use Rattle.ck_model.specs.Paths.{HasNoRoom, Grounds, reason_of_lack}
 use Rattle.ck_model.specs.Sections.{HasAll, Renewed, Section, IdentitySection}
 use Rattle.ck_model.proofs.Numbered.{held_of_in, in_held}
 use Rattle.ck_model.proofs.Counted.{len-bindings}
 use Rattle.ck_model.proofs.Doubling.{pairs_apart}
 use Rattle.ck_stripe.specs.Stripe.{StripeState}
 use Rattle.ck_stripe.proofs.Writes.{few_entries}
-use Rattle.ck_section.specs.Stripes.{stripe_at, contents_of, settled_stripes}
+use Rattle.ck_stripe.specs.Stripes.{stripe_at, contents_of, settled_stripes}
 use Rattle.ck_section.specs.declared.place.KeyPlace.{KeyPlace}
-use Rattle.ck_section.specs.declared.room.Lack.{Lack}
+use Rattle.ck_model.specs.declared.lack.Lack.{Lack}
 use Rattle.ck_section.specs.Places.{IsPlaceOf}
-use Rattle.ck_section.specs.Room.{power_in, reason_of_lack, KeepsBindings, MakesRoom, GivesReason, GrowsForRoom}
+use Rattle.ck_stripe.specs.Tables.{power_in, KeepsBindings, AreAllHeld, AreSettled, IsTable}
+use Rattle.ck_section.specs.Room.{MakesRoom, GivesReason, GrowsForRoom}
 use Rattle.ck_section.specs.Calls.{IsWithoutRoom, ChangesContents}
 use Rattle.ck_section.proofs.Decided.{IsCallOn}
-use Rattle.ck_section.proofs.Found.{holds_at}
+use Rattle.ck_stripe.proofs.Tables.{holds_at}
 use Rattle.ck_section.proofs.Growing.{all_settled, contents_settled}
 use Rattle.ck_section.proofs.Kept.{table_after, settled_after, power_kept}
 use Rattle.ck_section.proofs.Tables.{power_shown, power_same}
-use Rattle.ck_section.specs.Whole.{AreAllHeld, AreSettled, IsTable, ClearsBindings}
+use Rattle.ck_section.specs.Clearing.{ClearsBindings}
 use Rattle.ck_section.specs.Retaining.{RetainsMap, RetainsBindings}
 use Rattle.ck_model.specs.Counting.{counting}
 use Rattle.ck_words.specs.Words.{WordsState}

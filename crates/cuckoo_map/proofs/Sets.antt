@@ -8,8 +8,9 @@ use Rattle.ck_model.specs.declared.settings.Settings.{Settings}
 use Rattle.ck_model.specs.Promise.{Name}
 use Rattle.ck_model.specs.Contents.{layout_of, IsStripeOf}
 use Rattle.ck_stripe.specs.Stripe.{StripeState}
-use Rattle.ck_section.specs.Stripes.{contents_of}
-use Rattle.ck_section.specs.Places.{HasStripe, HasBoth}
+use Rattle.ck_stripe.specs.Stripes.{contents_of}
+use Rattle.ck_stripe.specs.Tables.{HasStripe}
+use Rattle.ck_section.specs.Places.{HasBoth}
 use Rattle.ck_section.proofs.Owned.{has_stripe}
 use Rattle.ck_words.specs.Passes.{PassState, numbers_of}
 use Rattle.ck_words.specs.Retries.{Stays, FindsAmong, IsBusy}

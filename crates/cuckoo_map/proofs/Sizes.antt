@@ -11,7 +11,7 @@ use Rattle.ck_model.specs.Numbered.{IsIn, Holds}
 use Rattle.ck_model.specs.Contents.{Layout, layout_of, Stripes, Lawful, pairs_in, pairs_of}
 use Rattle.ck_model.specs.Sections.{HasAll, Renewed, Section}
 use Rattle.ck_model.proofs.Counted.{len-bindings}
-use Rattle.ck_section.specs.Stripes.{contents_of}
+use Rattle.ck_stripe.specs.Stripes.{contents_of}
 use Rattle.ck_model.specs.Counting.{counting}
 use Rattle.ck_words.specs.Words.{WordsState}
 use Rattle.ck_words.specs.Passes.{PassState, numbers_of}

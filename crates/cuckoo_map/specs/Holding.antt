@@ -8,8 +8,9 @@ use Rattle.ck_model.specs.Numbered.{IsIn}
 use Rattle.ck_model.specs.Contents.{layout_of, IsStripeOf}
 use Rattle.ck_model.specs.Sections.{Owns}
 use Rattle.ck_section.specs.declared.place.KeyPlace.{KeyPlace}
-use Rattle.ck_section.specs.Stripes.{contents_of}
-use Rattle.ck_section.specs.Places.{AreHeld, IsPlaceOf}
+use Rattle.ck_stripe.specs.Stripes.{contents_of}
+use Rattle.ck_stripe.specs.Tables.{AreHeld}
+use Rattle.ck_section.specs.Places.{IsPlaceOf}
 use Rattle.ck_words.specs.Passes.{PassState, IsUnchanged, numbers_of}
 use Rattle.ck_words.specs.StripeNumbers.{own_numbers}
 use Rattle.ck_words.specs.StripeSets.{list_of}

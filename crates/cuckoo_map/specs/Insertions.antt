@@ -7,7 +7,7 @@ use Rattle.ck_model.specs.declared.history.Reason as history
 use Rattle.ck_model.specs.declared.history.Reason.TheVariants as reason
 use Rattle.ck_model.specs.declared.settings.Settings.{Settings}
 use Rattle.ck_model.specs.Promise.{Name}
-use Rattle.ck_section.specs.Stripes.{HaveNoSpare}
+use Rattle.ck_stripe.specs.Stripes.{HaveNoSpare}
 use Rattle.ck_section.specs.Places.{IsPlaceOf}
 use Rattle.ck_section.specs.Entries.{IsEntryOf}
 use Rattle.cuckoo_map.specs.declared.key_room.Room.{Room}

@@ -11,14 +11,14 @@ use Rattle.ck_model.specs.declared.history.Reply.TheVariants.{Closed}
 use Rattle.ck_model.specs.declared.settings.Settings.{Settings}
 use Rattle.ck_model.specs.Promise.{Name, Map, Client, Step, After, Follows}
 use Rattle.ck_model.specs.Contents.{layout_of, Stripes, bindings, NamesApart, power_of}
-use Rattle.ck_model.specs.Paths.{Grounds}
+use Rattle.ck_model.specs.Paths.{Grounds, reason_of_lack}
 use Rattle.ck_model.specs.Sections.{Renewed}
 use Rattle.ck_stripe.specs.Stripe.{StripeState}
-use Rattle.ck_section.specs.declared.room.Lack.{Lack}
-use Rattle.ck_section.specs.Stripes.{contents_of}
-use Rattle.ck_section.specs.Whole.{AreAllHeld, AreSettled, IsTable}
+use Rattle.ck_model.specs.declared.lack.Lack.{Lack}
+use Rattle.ck_stripe.specs.Stripes.{contents_of}
+use Rattle.ck_stripe.specs.Tables.{AreAllHeld, AreSettled, IsTable, KeepsBindings}
 use Rattle.ck_section.specs.Retaining.{RetainsMap}
-use Rattle.ck_section.specs.Room.{reason_of_lack, KeepsBindings, MakesRoom, GivesReason, GrowsForRoom}
+use Rattle.ck_section.specs.Room.{MakesRoom, GivesReason, GrowsForRoom}
 use Rattle.ck_words.specs.Words.{WordsState}
 use Rattle.ck_words.specs.Passes.{PassState, IsPassOf, ShowsSeen}
 use Rattle.ck_words.specs.Retries.{Stays, FindsAmong}

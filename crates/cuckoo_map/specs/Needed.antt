@@ -10,7 +10,7 @@ use Rattle.ck_model.specs.Contents.{layout_of, Stripes, bindings, power_of}
 use Rattle.ck_model.specs.Doubling.{IsDoubledTo}
 use Rattle.ck_model.specs.Paths.{Grounds}
 use Rattle.ck_stripe.specs.Stripe.{StripeState}
-use Rattle.ck_section.specs.Stripes.{contents_of}
+use Rattle.ck_stripe.specs.Stripes.{contents_of}
 use Rattle.ck_words.specs.Passes.{PassState}
 use Rattle.ck_words.specs.Holding.{AreOfPower}
 

@@ -6,8 +6,8 @@ use Rattle.ck_model.specs.declared.settings.Settings.{Settings}
 use Rattle.ck_model.specs.Promise.{Name, After}
 use Rattle.ck_model.specs.Contents.{layout_of, Stripes, IsStripeOf, bindings, power_of}
 use Rattle.ck_model.specs.Paths.{Grounds}
-use Rattle.ck_section.specs.declared.room.Lack.{Lack}
-use Rattle.ck_section.specs.declared.room.Lack.TheVariants as lack
+use Rattle.ck_model.specs.declared.lack.Lack.{Lack}
+use Rattle.ck_model.specs.declared.lack.Lack.TheVariants as lack
 use Rattle.cuckoo_map.specs.declared.refusal.Why.{Why}
 use Rattle.cuckoo_map.specs.declared.refusal.Why.TheVariants.{Busy, Memory, Full, LoadTooLow}
 use Rattle.ck_words.specs.Passes.{PassState}

@@ -10,10 +10,10 @@ ghost use Rattle.ck_words.specs.Commits.{call_of};
 
 use ck_key::TableKey;
 use ck_section::{
-    Entry, Held, KeyPlace, Uprased, fill, insert, insert_or_assign, read_entry, try_upsert, uprase,
+    Entry, KeyPlace, Uprased, fill, insert, insert_or_assign, read_entry, try_upsert, uprase,
     upsert,
 };
-use ck_stripe::Stripe;
+use ck_stripe::{Held, Stripe};
 use ck_words::Commit;
 use std::marker::PhantomData;
 use std::snapshot::Snapshot;

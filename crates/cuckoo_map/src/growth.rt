@@ -1,8 +1,7 @@
 //! Growing the table, under all stripes.
 ghost use Rattle.std.specs.Prelude.{◌≡◌, ℕ, ◌≤◌, ◌<◌, IfOk, OnErr, MatchBool};
 ghost use Rattle.ck_model.specs.Contents.{layout};
-ghost use Rattle.ck_section.specs.Whole.{IsTable};
-ghost use Rattle.ck_section.specs.Room.{power_in, KeepsBindings};
+ghost use Rattle.ck_stripe.specs.Tables.{IsTable, power_in, KeepsBindings};
 ghost use Rattle.ck_words.specs.Retries.{Stays, as_doubled, FindsAmong};
 ghost use Rattle.ck_words.specs.Closing.{IsCaller};
 ghost use Rattle.cuckoo_map.specs.Refusals.{IsStripeIn};
@@ -12,8 +11,8 @@ use crate::refusal::{Busy, GrowFault};
 use crate::table::Table;
 use ck_key::TableKey;
 use ck_model::settings::Settings;
-use ck_section::{Held, double_all, settle_all};
-use ck_stripe::Stripe;
+use ck_section::double_all;
+use ck_stripe::{Held, Stripe, one_stripe, settle_all};
 use ck_words::{Pass, guard};
 use std::alloc::AllocError;
 
@@ -94,7 +93,7 @@ pub(crate) fn double_to<K: TableKey + Drop, V: Drop, H: Held<Stripe<K, V>>>(
         × (power_in (H.stripes held.new) < power)) }
     ensures stays { H.stays held.old held.new }
 {
-    let before = ck_section::power(held, 0);
+    let before = one_stripe::power(held, 0);
     'doublings: for _ in before..power {
         settle_all(held);
         double_all(held, s)?;

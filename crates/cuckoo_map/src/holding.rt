@@ -12,7 +12,8 @@ use crate::key_room::Room;
 use crate::refusal::Busy;
 use crate::table::Table;
 use ck_key::{KeyHash, Query, TableKey};
-use ck_section::{Held, KeyPlace, find_entry, key_place};
+use ck_section::{KeyPlace, find_entry, key_place};
+use ck_stripe::{Held, one_stripe};
 use ck_words::{Pass, StripeSet, guard};
 use std::snapshot::Snapshot;
 
@@ -117,7 +118,7 @@ impl<K: TableKey + Drop, V: Drop> Table<K, V> {
         if let Some(entry) = find_entry(&mut guard, spot.place, key) {
             return Ok(Room { spot, entry });
         }
-        let power = ck_section::power(&mut guard, 0);
+        let power = one_stripe::power(&mut guard, 0);
         guard.refuse_full(key);
         Err(power)
     }

@@ -2,11 +2,10 @@
 //! all of the table.
 ghost use Rattle.std.specs.Prelude.{◌≡◌, ◌^◌, OnErr, IfOk, IfErr, reverse};
 ghost use Rattle.ck_model.specs.Contents.{layout_of, Lawful};
-ghost use Rattle.ck_model.specs.Paths.{Grounds};
+ghost use Rattle.ck_model.specs.Paths.{Grounds, reason_of_lack};
 ghost use Rattle.ck_model.specs.Counting.{counting};
-ghost use Rattle.ck_section.specs.Stripes.{contents_of, HaveNoSpare};
-ghost use Rattle.ck_section.specs.Whole.{IsTable, AreSettled};
-ghost use Rattle.ck_section.specs.Room.{reason_of_lack};
+ghost use Rattle.ck_stripe.specs.Stripes.{contents_of, HaveNoSpare};
+ghost use Rattle.ck_stripe.specs.Tables.{IsTable, AreSettled};
 ghost use Rattle.ck_words.specs.Passes.{IsPassOf, IsIdle, numbers_of};
 ghost use Rattle.ck_words.specs.Retries.{FindsAmong};
 ghost use Rattle.ck_words.specs.Renewing.{HasRenewed};
@@ -19,8 +18,9 @@ use crate::holding::Spot;
 use crate::refusal::{Busy, Why};
 use crate::table::Table;
 use ck_key::{KeyHash, TableKey};
+use ck_model::lack::Lack;
 use ck_model::settings::Settings;
-use ck_section::{Entry, Lack, find_entry, make_room, settled_place};
+use ck_section::{Entry, find_entry, make_room, settled_place};
 use ck_words::{Pass, guard};
 
 // Where a key may be among the stripes that its pass holds, those of the key or all of the table,

@@ -9,11 +9,12 @@ ghost use Rattle.ck_bucket.specs.Bucket.{ClonesAreEqual};
 ghost use Rattle.ck_model.specs.Paths.{HasNoRoom};
 ghost use Rattle.ck_model.specs.Ranges.{AreInRange};
 ghost use Rattle.ck_section.specs.Acts.{Inserts, Assigns, Upserts, Updates, Changes, Erases};
-ghost use Rattle.ck_section.specs.Stripes.{contents_of};
+ghost use Rattle.ck_stripe.specs.Stripes.{contents_of};
 ghost use Rattle.ck_section.specs.Places.{IsPlaceOf};
-ghost use Rattle.ck_section.specs.Whole.{IsTable, AreSettled, AreAllHeld, ClearsBindings};
+ghost use Rattle.ck_stripe.specs.Tables.{IsTable, AreSettled, AreAllHeld, KeepsBindings};
+ghost use Rattle.ck_section.specs.Clearing.{ClearsBindings};
 ghost use Rattle.ck_section.specs.Calls.{effect, IsCall, IsWithoutRoom, ChangesContents};
-ghost use Rattle.ck_section.specs.Room.{KeepsBindings, MakesRoom, GivesReason};
+ghost use Rattle.ck_section.specs.Room.{MakesRoom, GivesReason};
 ghost use Rattle.ck_core.specs.State.{client_of};
 ghost use Rattle.ck_words.specs.Retries.{FindsAmong};
 ghost use Rattle.ck_words.specs.Closing.{IsCaller};
@@ -28,12 +29,13 @@ use crate::entries::Insertion;
 use crate::refusal::{Busy, Refused, Why};
 use crate::table::Table;
 use ck_key::{KeyHash, Query, TableKey};
+use ck_model::lack::Lack;
 use ck_model::settings::Settings;
 use ck_section::{
-    Iter, KeyPlace, Lack, clear_all, erase, export, find_entry, find_in_all, make_room,
-    place_in_all, settle_all, update, update_fn,
+    Iter, KeyPlace, clear_all, erase, export, find_entry, find_in_all, make_room,
+    place_in_all, update, update_fn,
 };
-use ck_stripe::Stripe;
+use ck_stripe::{Stripe, settle_all};
 use ck_words::{Pass, Whole, guard};
 use std::alloc::{AllocError, Global};
 use std::marker::Model;
@@ -277,7 +279,7 @@ impl<'t, K: TableKey + Drop, V: Drop> LockedTable<'t, K, V> {
     pub fn len(&self) -> u64
         ensures { result ≡ len (map_of self.now) }
     {
-        ck_section::entries(stripes_of(&self.whole)) as u64
+        ck_stripe::entries(stripes_of(&self.whole)) as u64
     }
 
     /// Whether no key is bound.

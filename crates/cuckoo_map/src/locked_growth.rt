@@ -2,8 +2,7 @@
 ghost use Rattle.std.specs.Prelude.{◌≡◌, ◌*◌, ◌/◌, ◌^◌, ◌<◌, ◌≤◌, ℕ, IfOk, OnErr, MatchBool};
 ghost use Rattle.std.specs.FinMap.{len};
 ghost use Rattle.ck_model.specs.Contents.{layout};
-ghost use Rattle.ck_section.specs.Whole.{AreAllHeld};
-ghost use Rattle.ck_section.specs.Room.{power_in, KeepsBindings};
+ghost use Rattle.ck_stripe.specs.Tables.{AreAllHeld, power_in, KeepsBindings};
 ghost use Rattle.cuckoo_map.specs.Locking.{locked_power, map_of, RehashesLocked, ReservesLocked};
 
 use crate::growth::{double_to, least_power};
@@ -11,7 +10,7 @@ use crate::locked::{LockedTable, stripes_of};
 use crate::refusal::GrowFault;
 use ck_key::TableKey;
 use ck_model::settings::Settings;
-use ck_section::settle_all;
+use ck_stripe::settle_all;
 use ck_words::Whole;
 use std::alloc::AllocError;
 

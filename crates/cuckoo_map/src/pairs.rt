@@ -2,9 +2,10 @@
 ghost use Rattle.std.specs.Prelude.{◌≡◌, ℕ, OnOk, OnErr, IfOk, IfErr, MatchResult};
 ghost use Rattle.ck_model.specs.Promise.{ListsInOrder};
 ghost use Rattle.ck_model.specs.Contents.{layout, Lawful, bindings};
-ghost use Rattle.ck_section.specs.Stripes.{contents_of};
+ghost use Rattle.ck_stripe.specs.Stripes.{contents_of};
 ghost use Rattle.ck_section.specs.Calls.{ChangesContents};
-ghost use Rattle.ck_section.specs.Whole.{IsTable, AreSettled, ClearsBindings};
+ghost use Rattle.ck_stripe.specs.Tables.{IsTable, AreSettled};
+ghost use Rattle.ck_section.specs.Clearing.{ClearsBindings};
 ghost use Rattle.ck_section.specs.Retaining.{RetainsBindings};
 ghost use Rattle.cuckoo_map.specs.Locking.{map_of, Clears, Retains};
 

@@ -8,7 +8,8 @@ use crate::refusal::Busy;
 use crate::table::Table;
 use ck_key::{KeyHash, TableKey, alternate, index};
 use ck_path::{Path, Search};
-use ck_section::{Held, sketch};
+use ck_section::sketch;
+use ck_stripe::{Held, one_stripe};
 use ck_words::{Pass, StripeSet, guard};
 
 // What a search came to.
@@ -67,7 +68,7 @@ impl<K: TableKey + Drop, V: Drop> Table<K, V> {
             return Err(Busy(stripe));
         }
         let mut guard = guard!(&self.words, pass, stripe);
-        let seen = if ck_section::power(&mut guard, 0) == power {
+        let seen = if one_stripe::power(&mut guard, 0) == power {
             Some(sketch(&mut guard, s, bucket))
         } else {
             None

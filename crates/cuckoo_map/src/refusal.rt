@@ -3,8 +3,8 @@ ghost use Rattle.std.specs.Prelude.{◌≡◌};
 ghost use Rattle.cuckoo_map.specs.Refusals.{why_of};
 
 use ck_key::TableKey;
+use ck_model::lack::Lack;
 use ck_model::settings::OutOfRange;
-use ck_section::Lack;
 use ck_words::Pass;
 use std::fmt::{self, Debug, Formatter};
 use thiserror::Error;

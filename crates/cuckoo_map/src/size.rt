@@ -2,7 +2,7 @@
 ghost use Rattle.std.specs.Prelude.{◌≡◌, ◌*◌, ◌^◌, ◌≤◌, ℕ, OnOk, OnErr, IfOk, IfErr, nat_eq};
 ghost use Rattle.ck_model.specs.declared.history.Call.TheVariants.{Len};
 ghost use Rattle.ck_model.specs.declared.history.Reply.TheVariants.{Count};
-ghost use Rattle.ck_section.specs.Whole.{IsTable, AreSettled};
+ghost use Rattle.ck_stripe.specs.Tables.{IsTable, AreSettled};
 ghost use Rattle.ck_words.specs.Passes.{IsPassOf, IsIdle};
 ghost use Rattle.ck_words.specs.Retries.{Stays, FindsAmong};
 ghost use Rattle.ck_words.specs.Answering.{IsAnswered};
@@ -12,7 +12,7 @@ ghost use Rattle.cuckoo_map.specs.Refusals.{IsStripeIn, IsBusyAmong};
 use crate::refusal::Busy;
 use crate::table::Table;
 use ck_key::TableKey;
-use ck_section::len;
+use ck_stripe::len;
 use ck_words::{Commit, Pass, guard};
 
 impl<K: TableKey + Drop, V: Drop> Table<K, V> {

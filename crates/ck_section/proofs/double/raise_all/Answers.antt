@@ -1,7 +1,7 @@
 use Rattle.std.proofs.Common.{◌≡◌, ◌<◌, ◌∙◌, List, ap, length, sym, refl, subst, arith}
 use Rattle.ck_stripe.specs.Stripe.{StripeState, IsReserved}
-use Rattle.ck_section.specs.Stripes.{no_stripe, stripe_at, doubled}
-use Rattle.ck_section.proofs.Stepwise.{changed-long, changed-read, changed-more, changed-done}
+use Rattle.ck_stripe.specs.Stripes.{no_stripe, stripe_at, doubled}
+use Rattle.ck_stripe.proofs.Stepwise.{changed-long, changed-read, changed-more, changed-done}
 use Rattle.ck_section.proofs.double.raise_all.Goals as goal
 
 pub double-requires : goal.double-requires

@@ -1,6 +1,6 @@
 use Rattle.std.proofs.Common.{◌≡◌}
-use Rattle.ck_section.specs.Stripes.{doubled}
-use Rattle.ck_section.proofs.Stepwise.{changed_to}
+use Rattle.ck_stripe.specs.Stripes.{doubled}
+use Rattle.ck_stripe.proofs.Stepwise.{changed_to}
 use Rattle.ck_section.proofs.double.raise_all.Given as goal
 
 abbrev pub invariant-loop-t : goal.invariant-loop-t

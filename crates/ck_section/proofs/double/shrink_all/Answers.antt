@@ -1,7 +1,7 @@
 use Rattle.std.proofs.Common.{◌≡◌, ◌<◌, ◌∙◌, List, ap, length, refl, arith}
 use Rattle.ck_stripe.specs.Stripe.{StripeState, shrunk}
-use Rattle.ck_section.specs.Stripes.{no_stripe, stripe_at}
-use Rattle.ck_section.proofs.Stepwise.{changed-long, changed-read, changed-more, changed-done}
+use Rattle.ck_stripe.specs.Stripes.{no_stripe, stripe_at}
+use Rattle.ck_stripe.proofs.Stepwise.{changed-long, changed-read, changed-more, changed-done}
 use Rattle.ck_section.proofs.double.shrink_all.Goals as goal
 
 pub shrink_to_fit-requires : goal.shrink_to_fit-requires

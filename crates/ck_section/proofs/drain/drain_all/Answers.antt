@@ -1,7 +1,7 @@
 use Rattle.std.proofs.Common.{◌≡◌, ◌++◌, ◌∙◌, List, ap, map}
 use Rattle.ck_model.specs.Promise.{named}
 use Rattle.ck_model.specs.Contents.{pairs_of}
-use Rattle.ck_section.specs.Stripes.{contents_of}
+use Rattle.ck_stripe.specs.Stripes.{contents_of}
 use Rattle.ck_section.proofs.Table.{few_stripes, lists_bindings}
 use Rattle.ck_section.proofs.drain.drain_all.Goals as goal
 

@@ -5,10 +5,11 @@ use Rattle.ck_model.specs.declared.contents.Content.{Content}
 use Rattle.ck_model.specs.Promise.{named}
 use Rattle.ck_model.specs.Contents.{pairs_in, pairs_of}
 use Rattle.ck_stripe.specs.Stripe.{StripeState}
-use Rattle.ck_section.specs.Stripes.{no_stripe, stripe_at, contents_of}
+use Rattle.ck_stripe.specs.Stripes.{no_stripe, stripe_at, contents_of}
 use Rattle.ck_section.proofs.Cleared.{cleared, changes_cleared, clears}
-use Rattle.ck_section.proofs.Stepwise.{changed-long, changed-read, changed-more, changed-done}
-use Rattle.ck_section.proofs.Table.{room_for_stripe, pairs_more}
+use Rattle.ck_stripe.proofs.Stepwise.{changed-long, changed-read, changed-more, changed-done}
+use Rattle.ck_stripe.proofs.Totals.{room_for_stripe}
+use Rattle.ck_section.proofs.Table.{pairs_more}
 use Rattle.ck_section.proofs.drain.drain_reserved.Given.{Over}
 use Rattle.ck_section.proofs.drain.drain_reserved.Goals.{After-index-stripes-i}
 use Rattle.ck_section.proofs.drain.drain_reserved.Goals as goal

@@ -2,9 +2,9 @@ use Rattle.std.proofs.Common.{◌≡◌, ◌++◌, map, take}
 use Rattle.std.specs.Prelude.{vec_capacity}
 use Rattle.ck_model.specs.Promise.{named}
 use Rattle.ck_model.specs.Contents.{pairs_of}
-use Rattle.ck_section.specs.Stripes.{contents_of}
+use Rattle.ck_stripe.specs.Stripes.{contents_of}
 use Rattle.ck_section.proofs.Cleared.{cleared}
-use Rattle.ck_section.proofs.Stepwise.{changed_to}
+use Rattle.ck_stripe.proofs.Stepwise.{changed_to}
 use Rattle.ck_section.proofs.drain.drain_reserved.Given as goal
 
 abbrev pub invariant-loop-i : goal.invariant-loop-i

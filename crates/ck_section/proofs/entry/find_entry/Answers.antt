@@ -2,7 +2,7 @@ use Rattle.std.proofs.Common.{◌≡◌, ℕ, refl, List, subst}
 use Rattle.ck_model.specs.Promise.{Name}
 use Rattle.ck_stripe.specs.Stripe.{StripeState}
 use Rattle.ck_section.specs.declared.place.KeyPlace.{KeyPlace}
-use Rattle.ck_section.specs.declared.place.HeldSlot.{HeldSlot}
+use Rattle.ck_stripe.specs.declared.held_slot.HeldSlot.{HeldSlot}
 use Rattle.ck_section.specs.Places.{IsSlotOf, IsNowhere, IsNext, AreFull}
 use Rattle.ck_section.specs.Entries.{IsVacant}
 use Rattle.ck_section.proofs.Steps.{none_anyway, bound_with_room, with_room, without_room}

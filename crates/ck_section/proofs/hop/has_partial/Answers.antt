@@ -1,11 +1,10 @@
-use Rattle.std.proofs.Common.{◌≡◌, ℕ, ◌<◌, Bool, MatchBool, None, Some, Option, List, sym, ◌∙◌, ap, subst, get_or, eqb, map}
+use Rattle.std.proofs.Common.{◌≡◌, ℕ, ◌<◌, Bool, MatchBool, None, Some, Option, List, sym, ◌∙◌, ap, subst, get_or, eqb, map, arith, ◌≤◌}
 use Rattle.std.specs.Option.{option_eq, option_flatten}
 use Rattle.std.specs.Bool.{OnTrue}
-use Rattle.std.proofs.Common.{arith, ◌≤◌}
 use Rattle.ck_model.specs.Slots.{Slot}
 use Rattle.ck_model.specs.Paths.{partial_in}
-use Rattle.ck_section.specs.Stripes.{bucket_at}
-use Rattle.ck_section.specs.Places.{slot_in}
+use Rattle.ck_stripe.specs.Stripes.{bucket_at}
+use Rattle.ck_stripe.specs.HeldSlots.{slot_in}
 use Rattle.ck_section.specs.Hops.{HasPartial, source_in}
 use Rattle.ck_section.proofs.Hopped.{flat, test_says, test_inside}
 use Rattle.ck_section.proofs.hop.has_partial.Given.{Over}

@@ -1,7 +1,7 @@
 use Rattle.std.proofs.Common.{◌≡◌, ℕ, ◌<◌, ◌%◌, ◌^◌, List, length, sym, ◌∙◌, ap, subst}
 use Rattle.ck_stripe.specs.Stripe.{StripeState}
-use Rattle.ck_section.specs.Stripes.{stripe_at}
-use Rattle.ck_section.specs.Places.{HasStripe}
+use Rattle.ck_stripe.specs.Stripes.{stripe_at}
+use Rattle.ck_stripe.specs.Tables.{HasStripe}
 use Rattle.ck_section.specs.Hops.{IsNoCall}
 use Rattle.ck_section.specs.Calls.{ChangesContents}
 use Rattle.ck_section.proofs.Hopped.{hop_between}

@@ -1,8 +1,8 @@
 use Rattle.std.proofs.Common.{◌≡◌, List, sym, ◌∙◌, ap, subst}
 use Rattle.ck_model.specs.Slots.{HasFree}
 use Rattle.ck_stripe.specs.Stripe.{StripeState}
-use Rattle.ck_section.specs.Stripes.{bucket_at}
-use Rattle.ck_section.specs.Places.{slot_in}
+use Rattle.ck_stripe.specs.Stripes.{bucket_at}
+use Rattle.ck_stripe.specs.HeldSlots.{slot_in}
 use Rattle.ck_section.specs.Hops.{source_in, HasPartial, lifted}
 use Rattle.ck_section.proofs.Hopped.{Moving, moving, source_reach, target_reach, ready_to, hopped, not_hopped, not_free}
 use Rattle.ck_section.proofs.Steps.{reach_still, full_still}

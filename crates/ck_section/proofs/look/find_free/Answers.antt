@@ -1,7 +1,7 @@
 use Rattle.std.proofs.Common.{◌≡◌, ◌<◌, inl, inr, List, None, IsSome, refl, sym, ◌∙◌, subst}
 use Rattle.ck_model.specs.Slots.{slot_at, IsFull}
 use Rattle.ck_stripe.specs.Stripe.{StripeState}
-use Rattle.ck_section.specs.Stripes.{bucket_at}
+use Rattle.ck_stripe.specs.Stripes.{bucket_at}
 use Rattle.ck_section.proofs.Steps.{none_anyway, reach_still}
 use Rattle.ck_section.proofs.look.find_free.Goals as goal
 

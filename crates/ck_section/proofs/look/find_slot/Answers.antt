@@ -1,7 +1,7 @@
 use Rattle.std.proofs.Common.{inl, inr, List, sym, ◌∙◌, subst}
 use Rattle.ck_bucket.specs.Bucket.{HasName, LacksName}
 use Rattle.ck_stripe.specs.Stripe.{StripeState}
-use Rattle.ck_section.specs.Stripes.{bucket_at, IsInReach}
+use Rattle.ck_stripe.specs.Stripes.{bucket_at, IsInReach}
 use Rattle.ck_section.proofs.Steps.{none_anyway}
 use Rattle.ck_section.proofs.look.find_slot.Goals as goal
 

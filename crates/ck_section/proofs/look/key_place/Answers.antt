@@ -2,8 +2,8 @@ use Rattle.std.proofs.Common.{◌≡◌, ℕ, ◌*◌, ◌^◌, ◌%◌, ◌≤�
 use Rattle.ck_model.specs.Arithmetic.{partial_of, index_of, second_of, alternate_of}
 use Rattle.ck_model.proofs.Buckets.{index_lower, second_lower}
 use Rattle.ck_stripe.specs.Stripe.{StripeState}
-use Rattle.ck_section.specs.Stripes.{stripe_at}
-use Rattle.ck_section.specs.Places.{HasStripe}
+use Rattle.ck_stripe.specs.Stripes.{stripe_at}
+use Rattle.ck_stripe.specs.Tables.{HasStripe}
 use Rattle.ck_section.proofs.Owned.{has_stripe}
 use Rattle.ck_section.proofs.Tables.{mask}
 use Rattle.ck_section.proofs.look.key_place.Given.{Over}

@@ -2,7 +2,7 @@ use Rattle.std.proofs.Common.{refl, sym, ap, List, None, Some, ◌∙◌}
 use Rattle.ck_model.specs.declared.history.Act.TheVariants.{Find, Erase}
 use Rattle.ck_model.specs.declared.history.Reply.TheVariants.{Was}
 use Rattle.ck_stripe.specs.Stripe.{StripeState}
-use Rattle.ck_section.specs.Places.{slot_in}
+use Rattle.ck_stripe.specs.HeldSlots.{slot_in}
 use Rattle.ck_section.proofs.Steps.{lacked, read_kept, took, unchanged, ready, ready_for, slot_changes}
 use Rattle.ck_section.proofs.one_key.erase_fn.Goals as goal
 

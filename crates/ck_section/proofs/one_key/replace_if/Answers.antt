@@ -3,7 +3,7 @@ use Rattle.std.specs.Fn.{FnOnceReturnsAt}
 use Rattle.ck_model.specs.declared.history.Act.TheVariants.{Find, Change}
 use Rattle.ck_model.specs.declared.history.Reply.TheVariants.{Was}
 use Rattle.ck_stripe.specs.Stripe.{StripeState}
-use Rattle.ck_section.specs.Places.{slot_in}
+use Rattle.ck_stripe.specs.HeldSlots.{slot_in}
 use Rattle.ck_section.proofs.Steps.{lacked, read_kept, remade, unchanged, ready, ready_for}
 use Rattle.ck_section.proofs.one_key.replace_if.Goals as goal
 

@@ -1,7 +1,7 @@
 use Rattle.std.proofs.Common.{◌<◌, ◌∙◌, List, refl, ap, length, subst, arith}
 use Rattle.ck_stripe.specs.Stripe.{StripeState}
 use Rattle.ck_bucket.proofs.InTurn.{begins, begins_read, begins_more, begins_all}
-use Rattle.ck_section.specs.Stripes.{no_stripe}
+use Rattle.ck_stripe.specs.Stripes.{no_stripe}
 use Rattle.ck_section.proofs.Retained.{AsksAboutStripe, AsksAboutStripes, changes_retained, retains}
 use Rattle.ck_section.proofs.retain.retain_all.Given.{Over}
 use Rattle.ck_section.proofs.retain.retain_all.Goals as goal

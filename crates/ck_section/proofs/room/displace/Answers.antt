@@ -3,7 +3,7 @@ use Rattle.ck_model.specs.Contents.{IsBucketOf}
 use Rattle.ck_path.specs.Route.{first_bucket}
 use Rattle.ck_stripe.specs.Stripe.{StripeState}
 use Rattle.ck_section.specs.Hops.{IsNoCall}
-use Rattle.ck_section.specs.Room.{power_in}
+use Rattle.ck_stripe.specs.Tables.{power_in}
 use Rattle.ck_section.proofs.Growing.{room_in}
 use Rattle.ck_section.proofs.Searched.{begins_home}
 use Rattle.ck_section.proofs.Tables.{held_of, stripe_inside}

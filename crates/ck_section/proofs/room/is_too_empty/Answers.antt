@@ -4,7 +4,7 @@ use Rattle.std.proofs.Math.Pow.{pow_mono}
 use Rattle.std.proofs.lemmas.Nat.{pow_pos}
 use Rattle.ck_model.specs.Contents.{pairs_of, power_of}
 use Rattle.ck_stripe.specs.Stripe.{StripeState}
-use Rattle.ck_section.specs.Stripes.{contents_of}
+use Rattle.ck_stripe.specs.Stripes.{contents_of}
 use Rattle.ck_section.proofs.Growing.{test_says}
 use Rattle.ck_section.proofs.Tables.{power_shown}
 use Rattle.ck_section.proofs.room.is_too_empty.Goals as goal

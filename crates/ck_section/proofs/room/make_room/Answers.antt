@@ -2,10 +2,11 @@ use Rattle.std.proofs.Common.{◌≡◌, ℕ, ◌+◌, ◌≤◌, List, sym, ap,
 use Rattle.ck_model.specs.Contents.{layout, Stripes}
 use Rattle.ck_model.specs.Sections.{IdentitySection}
 use Rattle.ck_stripe.specs.Stripe.{StripeState}
-use Rattle.ck_section.specs.Stripes.{contents_of}
-use Rattle.ck_section.specs.declared.room.Lack.{Lack}
-use Rattle.ck_section.specs.Room.{power_in, GivesReason}
-use Rattle.ck_section.proofs.Doublings.{identity_on}
+use Rattle.ck_stripe.specs.Stripes.{contents_of}
+use Rattle.ck_model.specs.declared.lack.Lack.{Lack}
+use Rattle.ck_stripe.specs.Tables.{power_in}
+use Rattle.ck_section.specs.Room.{GivesReason}
+use Rattle.ck_model.proofs.Identities.{identity_on}
 use Rattle.ck_section.proofs.RoomMade.{grown_none, grown_more, grows_for_room, stuck_in, refused_in}
 use Rattle.ck_section.proofs.Tables.{err_maps}
 use Rattle.ck_section.proofs.room.make_room.Goals as goal

@@ -1,8 +1,7 @@
 use Rattle.std.proofs.Common.{◌-◌, ◌≤◌}
 use Rattle.ck_model.specs.Contents.{layout, Lawful}
-use Rattle.ck_section.specs.Stripes.{contents_of}
-use Rattle.ck_section.specs.Whole.{IsTable}
-use Rattle.ck_section.specs.Room.{power_in}
+use Rattle.ck_stripe.specs.Stripes.{contents_of}
+use Rattle.ck_stripe.specs.Tables.{IsTable, power_in}
 use Rattle.ck_section.proofs.RoomMade.{Grown}
 use Rattle.ck_section.proofs.room.make_room.Given as goal
 

@@ -3,8 +3,8 @@ use Rattle.ck_model.specs.Contents.{layout, Stripes, Lawful}
 use Rattle.ck_model.specs.Paths.{HasNoRoom}
 use Rattle.ck_model.specs.Sections.{IdentitySection}
 use Rattle.ck_stripe.specs.Stripe.{StripeState}
-use Rattle.ck_section.specs.Stripes.{contents_of}
-use Rattle.ck_section.specs.Whole.{AreAllHeld}
+use Rattle.ck_stripe.specs.Stripes.{contents_of}
+use Rattle.ck_stripe.specs.Tables.{AreAllHeld}
 use Rattle.ck_section.proofs.Growing.{all_settled, contents_settled}
 use Rattle.ck_section.proofs.Tables.{false_maps}
 use Rattle.ck_section.proofs.room.room_by_hops.Given.{Over}

@@ -3,10 +3,10 @@ use Rattle.ck_model.specs.Arithmetic.{index_of, alternate_of, second_of}
 use Rattle.ck_model.specs.Promise.{Name}
 use Rattle.ck_stripe.specs.Stripe.{StripeState}
 use Rattle.ck_section.specs.declared.place.HeldBucket.{HeldBucket}
-use Rattle.ck_section.specs.Stripes.{contents_of}
+use Rattle.ck_stripe.specs.Stripes.{contents_of}
 use Rattle.ck_section.specs.Places.{IsPlaceOf}
-use Rattle.ck_section.specs.Whole.{IsTable}
-use Rattle.ck_section.specs.Room.{power_in, settled_at}
+use Rattle.ck_stripe.specs.Tables.{IsTable, power_in}
+use Rattle.ck_section.specs.Room.{settled_at}
 use Rattle.ck_section.proofs.Growing.{table_alike, alike_settled_at, both_table, both_contents, both_power, both_place}
 use Rattle.ck_section.proofs.Tables.{second_by, stripe_inside}
 use Rattle.ck_section.proofs.room.settled_place.Given.{Over}

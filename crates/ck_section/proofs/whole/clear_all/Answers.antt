@@ -2,9 +2,9 @@ use Rattle.std.proofs.Common.{◌≡◌, ◌<◌, ◌∙◌, List, ap, length, m
 use Rattle.std.specs.Prelude.{slice_index_or}
 use Rattle.ck_model.specs.declared.contents.Content.{Content}
 use Rattle.ck_stripe.specs.Stripe.{StripeState}
-use Rattle.ck_section.specs.Stripes.{no_stripe}
+use Rattle.ck_stripe.specs.Stripes.{no_stripe}
 use Rattle.ck_section.proofs.Cleared.{cleared, changes_cleared, held_cleared, clears}
-use Rattle.ck_section.proofs.Stepwise.{changed-long, changed-read, changed-more, changed-done}
+use Rattle.ck_stripe.proofs.Stepwise.{changed-long, changed-read, changed-more, changed-done}
 use Rattle.ck_section.proofs.whole.clear_all.Given.{Over}
 use Rattle.ck_section.proofs.whole.clear_all.Goals as goal
 

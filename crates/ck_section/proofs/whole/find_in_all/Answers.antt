@@ -1,7 +1,8 @@
 use Rattle.std.proofs.Common.{List, sym, subst}
 use Rattle.ck_bucket.specs.Bucket.{LacksName}
 use Rattle.ck_stripe.specs.Stripe.{StripeState, bucket_of}
-use Rattle.ck_section.proofs.AllStripes.{stripe_read, found_first, not_found_once, found_then}
+use Rattle.ck_stripe.proofs.Tables.{stripe_read}
+use Rattle.ck_section.proofs.AllStripes.{found_first, not_found_once, found_then}
 use Rattle.ck_section.proofs.whole.find_in_all.Goals as goal
 
 pub returns-in-Some : goal.returns-in-Some

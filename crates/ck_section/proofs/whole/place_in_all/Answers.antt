@@ -1,7 +1,7 @@
 use Rattle.std.proofs.Common.{◌≡◌, ◌%◌, ◌^◌, ◌<◌, ◌∙◌, length, sym, ap, subst}
 use Rattle.ck_model.specs.Arithmetic.{partial_of, index_of, second_of}
 use Rattle.ck_model.proofs.Buckets.{index_lower, second_lower}
-use Rattle.ck_section.specs.Stripes.{stripe_at}
+use Rattle.ck_stripe.specs.Stripes.{stripe_at}
 use Rattle.ck_section.proofs.AllStripes.{power_read, least_read, reach_of_all}
 use Rattle.ck_section.proofs.whole.place_in_all.Goals as goal
 

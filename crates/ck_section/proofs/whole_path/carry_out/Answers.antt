@@ -1,6 +1,6 @@
 use Rattle.std.proofs.Common.{◌≡◌, ℕ, ◌%◌, ◌^◌, List, sym, ◌∙◌, ap, subst}
 use Rattle.ck_stripe.specs.Stripe.{StripeState}
-use Rattle.ck_section.specs.Stripes.{stripe_at}
+use Rattle.ck_stripe.specs.Stripes.{stripe_at}
 use Rattle.ck_section.specs.Hops.{IsHopIn, IsNoCall}
 use Rattle.ck_section.proofs.Followed.{hop_in}
 use Rattle.ck_section.proofs.Tables.{mask, stripe_inside}

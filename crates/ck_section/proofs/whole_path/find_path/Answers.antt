@@ -4,7 +4,8 @@ use Rattle.ck_model.specs.Arithmetic.{partial_of, index_of, alternate_of, second
 use Rattle.ck_model.specs.Sketches.{HasNoSketchPath}
 use Rattle.ck_path.specs.Route.{IsShortestPath}
 use Rattle.ck_stripe.specs.Stripe.{StripeState}
-use Rattle.ck_section.specs.Room.{power_in, sketch_of, IsWithoutPath}
+use Rattle.ck_stripe.specs.Tables.{power_in}
+use Rattle.ck_section.specs.Room.{sketch_of, IsWithoutPath}
 use Rattle.ck_section.proofs.Tables.{second_by, none_maps, no_path_of}
 use Rattle.ck_section.proofs.whole_path.find_path.Goals as goal
 

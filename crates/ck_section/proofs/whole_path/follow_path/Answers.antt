@@ -3,10 +3,10 @@ use Rattle.ck_model.specs.declared.path_hop.PathHop.{PathHop}
 use Rattle.ck_model.specs.Contents.{layout}
 use Rattle.ck_path.specs.Route.{first_bucket}
 use Rattle.ck_stripe.specs.Stripe.{StripeState}
-use Rattle.ck_section.specs.Stripes.{contents_of}
-use Rattle.ck_section.specs.Whole.{AreAllHeld}
+use Rattle.ck_stripe.specs.Stripes.{contents_of}
+use Rattle.ck_stripe.specs.Tables.{AreAllHeld}
 use Rattle.ck_section.specs.Room.{sketch_of}
-use Rattle.ck_section.proofs.Doublings.{identity_on}
+use Rattle.ck_model.proofs.Identities.{identity_on}
 use Rattle.ck_section.proofs.Followed.{IsLastHop, hop_of, next_left, last_now, can_hop, hop_left, others_stay, source_free, source_four, end_free}
 use Rattle.ck_section.proofs.Found.{changes_on}
 use Rattle.ck_section.proofs.Kept.{all_after}

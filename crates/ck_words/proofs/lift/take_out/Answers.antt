@@ -2,7 +2,7 @@ use Rattle.std.proofs.Common.{◌≡◌, ◌∙◌, List, sym, ap, arith, Some}
 use Rattle.std.proofs.lemmas.List.{take_all}
 use Rattle.ck_model.proofs.Numbered.{Some-injective}
 use Rattle.ck_stripe.specs.Stripe.{StripeState}
-use Rattle.ck_section.specs.Stripes.{stripe_at}
+use Rattle.ck_stripe.specs.Stripes.{stripe_at}
 use Rattle.ck_words.specs.Rule.{Hand}
 use Rattle.ck_words.specs.Passes.{held_in}
 use Rattle.ck_words.proofs.Lifting.{came_out, lifted_to, lifted_all, others_from, count_of, brought, in_front, lifted_more, listed_more}

@@ -1,6 +1,6 @@
 use Rattle.std.proofs.Common.{rules, ◌≡◌, refl, sym, subst}
 use Rattle.ck_stripe.specs.Stripe.{StripeState}
-use Rattle.ck_section.specs.Stripes.{stripe_at}
+use Rattle.ck_stripe.specs.Stripes.{stripe_at}
 use Rattle.ck_words.specs.Passes.{held_in}
 use Rattle.ck_words.proofs.Turning.{puts}
 use Rattle.ck_words.proofs.visits.visit_at.Goals as goal

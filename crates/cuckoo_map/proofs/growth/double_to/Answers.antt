@@ -1,7 +1,7 @@
 use Rattle.std.proofs.Common.{◌≡◌, ℕ, ◌+◌, ◌<◌, List, ◌∙◌, ap, arith}
 use Rattle.ck_stripe.specs.Stripe.{StripeState}
-use Rattle.ck_section.specs.Room.{power_in}
-use Rattle.ck_section.specs.Stripes.{contents_of}
+use Rattle.ck_stripe.specs.Tables.{power_in}
+use Rattle.ck_stripe.specs.Stripes.{contents_of}
 use Rattle.cuckoo_map.proofs.Growing.{settles_table, power_next, keeps_contents, keeps_more, reached_by}
 use Rattle.cuckoo_map.proofs.growth.double_to.Goals as goal
 

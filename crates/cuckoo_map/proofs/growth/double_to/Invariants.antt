@@ -1,6 +1,5 @@
 use Rattle.std.proofs.Common.{◌≡◌, ◌≤◌}
-use Rattle.ck_section.specs.Whole.{IsTable}
-use Rattle.ck_section.specs.Room.{power_in}
+use Rattle.ck_stripe.specs.Tables.{IsTable, power_in}
 use Rattle.cuckoo_map.proofs.Growing.{Keeps}
 use Rattle.cuckoo_map.proofs.growth.double_to.Given as goal
 

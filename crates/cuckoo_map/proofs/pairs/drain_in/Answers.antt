@@ -3,9 +3,10 @@ use Rattle.std.proofs.lemmas.Result.{IfOk-weaker, on_ok_weaker}
 use Rattle.ck_model.specs.Contents.{layout, Lawful, bindings}
 use Rattle.ck_model.specs.Promise.{ListsInOrder}
 use Rattle.ck_stripe.specs.Stripe.{StripeState}
-use Rattle.ck_section.specs.Stripes.{contents_of}
+use Rattle.ck_stripe.specs.Stripes.{contents_of}
 use Rattle.ck_section.specs.Calls.{ChangesContents}
-use Rattle.ck_section.specs.Whole.{IsTable, ClearsBindings}
+use Rattle.ck_stripe.specs.Tables.{IsTable}
+use Rattle.ck_section.specs.Clearing.{ClearsBindings}
 use Rattle.ck_words.specs.Passes.{PassState}
 use Rattle.cuckoo_map.proofs.Sessions.{through_slice}
 use Rattle.cuckoo_map.proofs.pairs.drain_in.Goals as goal

@@ -2,7 +2,7 @@ use Rattle.std.proofs.Common.{◌∙◌, List, sym, ap, subst, arith}
 use Rattle.ck_model.specs.Contents.{layout}
 use Rattle.ck_stripe.specs.Stripe.{StripeState}
 use Rattle.ck_section.specs.Calls.{ChangesContents}
-use Rattle.ck_section.specs.Whole.{IsTable}
+use Rattle.ck_stripe.specs.Tables.{IsTable}
 use Rattle.ck_section.specs.Retaining.{RetainsBindings}
 use Rattle.ck_words.specs.Passes.{PassState}
 use Rattle.cuckoo_map.proofs.Sessions.{through_slice}

@@ -1,6 +1,6 @@
 use Rattle.std.proofs.Common.{◌++◌, sym, ◌∙◌, ap}
 use Rattle.ck_model.specs.Contents.{pairs_of}
-use Rattle.ck_section.specs.Stripes.{contents_of}
+use Rattle.ck_stripe.specs.Stripes.{contents_of}
 use Rattle.ck_section.proofs.Listed.{rest_settled, pairs_first}
 use Rattle.ck_section.proofs.iter.IterIterator.next.Goals as goal
 

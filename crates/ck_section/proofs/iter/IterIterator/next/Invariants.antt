@@ -1,7 +1,7 @@
 use Rattle.std.proofs.Common.{◌≡◌, ◌++◌, length}
 use Rattle.ck_model.specs.Contents.{pairs_of}
-use Rattle.ck_section.specs.Stripes.{contents_of}
-use Rattle.ck_section.specs.Whole.{AreSettled}
+use Rattle.ck_stripe.specs.Stripes.{contents_of}
+use Rattle.ck_stripe.specs.Tables.{AreSettled}
 use Rattle.ck_section.proofs.iter.IterIterator.next.Given as goal
 
 -- only stripes with no pair left were passed over

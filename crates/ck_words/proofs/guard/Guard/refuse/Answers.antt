@@ -1,5 +1,5 @@
 use Rattle.std.proofs.Common.{subst, Some, rules}
-use Rattle.ck_section.specs.Room.{reason_of_lack}
+use Rattle.ck_model.specs.Paths.{reason_of_lack}
 use Rattle.ck_words.specs.Renewing.{HasRefused}
 use Rattle.ck_words.specs.StripeSets.{list_of}
 use Rattle.ck_words.proofs.Guarding.{its_numbers}

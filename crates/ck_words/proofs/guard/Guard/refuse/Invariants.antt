@@ -1,5 +1,5 @@
 use Rattle.std.specs.Prelude.{Some}
-use Rattle.ck_section.specs.Room.{reason_of_lack}
+use Rattle.ck_model.specs.Paths.{reason_of_lack}
 use Rattle.ck_words.proofs.guard.Guard.refuse.Given as goal
 
 abbrev pub ghosts-renew : goal.ghosts-renew

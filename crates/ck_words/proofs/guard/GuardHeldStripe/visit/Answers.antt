@@ -1,5 +1,5 @@
 use Rattle.std.specs.Prelude.{[], if◌then◌else◌}
-use Rattle.ck_section.specs.Stripes.{no_stripe}
+use Rattle.ck_stripe.specs.Stripes.{no_stripe}
 use Rattle.ck_words.specs.StripeSets.{list_of}
 use Rattle.ck_words.proofs.Guarding.{numbers_with}
 use Rattle.ck_words.proofs.Seating.{ready_on}

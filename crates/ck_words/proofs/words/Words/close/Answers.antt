@@ -7,7 +7,7 @@ use Rattle.ck_words.specs.Words.{WordsState}
 use Rattle.ck_words.specs.Passes.{PassState, numbers_of}
 use Rattle.ck_words.specs.Closing.{IsCaller, AreAllPasses, EachStays, Closes}
 use Rattle.ck_words.proofs.Ending.{some_pass, all_back, each_stays, pairs_distinct, closes}
-use Rattle.ck_section.specs.Stripes.{stripe_at, contents_of}
+use Rattle.ck_stripe.specs.Stripes.{stripe_at, contents_of}
 use Rattle.ck_model.specs.Contents.{pairs_of}
 use Rattle.ck_stripe.specs.Stripe.{StripeState}
 use Rattle.ck_words.proofs.words.Words.close.Goals as goal

@@ -1,5 +1,5 @@
 use Rattle.std.proofs.Common.{take}
-use Rattle.ck_section.specs.Stripes.{HaveNoSpare}
+use Rattle.ck_stripe.specs.Stripes.{HaveNoSpare}
 use Rattle.ck_words.specs.StripeSets.{list_of}
 use Rattle.ck_words.proofs.Releasing.{Leaves}
 use Rattle.ck_words.proofs.Telling.{IsToldBelow}

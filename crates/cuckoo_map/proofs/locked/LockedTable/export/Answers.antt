@@ -3,8 +3,8 @@ use Rattle.std.proofs.lemmas.Result.{IfOk-weaker}
 use Rattle.ck_model.specs.Contents.{layout_of, Lawful, bindings}
 use Rattle.ck_model.specs.Promise.{ListsInOrder}
 use Rattle.ck_stripe.specs.Stripe.{StripeState}
-use Rattle.ck_section.specs.Stripes.{contents_of}
-use Rattle.ck_section.specs.Whole.{IsTable, AreSettled}
+use Rattle.ck_stripe.specs.Stripes.{contents_of}
+use Rattle.ck_stripe.specs.Tables.{IsTable, AreSettled}
 use Rattle.cuckoo_map.specs.Locking.{LockedState}
 use Rattle.cuckoo_map.proofs.locked.LockedTable.export.Goals as goal
 

@@ -2,7 +2,7 @@ use Rattle.std.proofs.Common.{◌^◌, ◌≤◌, ◌∙◌, List, length, sym, 
 use Rattle.ck_model.specs.Promise.{Name}
 use Rattle.ck_model.specs.Contents.{pairs_of}
 use Rattle.ck_stripe.specs.Stripe.{StripeState}
-use Rattle.ck_section.specs.Stripes.{contents_of}
+use Rattle.ck_stripe.specs.Stripes.{contents_of}
 use Rattle.cuckoo_map.proofs.Sessions.{lists_locked, few_locked}
 use Rattle.cuckoo_map.proofs.locked.LockedTable.iter.Goals as goal
 

@@ -3,7 +3,7 @@ use Rattle.std.proofs.Math.Nat.{pow-le-pow_right}
 use Rattle.std.specs.FinMap.{len}
 use Rattle.ck_model.specs.Contents.{pairs_of}
 use Rattle.ck_stripe.specs.Stripe.{StripeState}
-use Rattle.ck_section.specs.Stripes.{contents_of}
+use Rattle.ck_stripe.specs.Stripes.{contents_of}
 use Rattle.cuckoo_map.specs.Locking.{LockedState, map_of}
 use Rattle.cuckoo_map.proofs.Sessions.{counts_locked}
 use Rattle.cuckoo_map.proofs.locked.LockedTable.len.Goals as goal

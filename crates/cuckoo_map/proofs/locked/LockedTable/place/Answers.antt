@@ -1,6 +1,6 @@
 use Rattle.std.proofs.Common.{List, ℕ, ◌∙◌, sym, ap, subst}
 use Rattle.ck_stripe.specs.Stripe.{StripeState}
-use Rattle.ck_section.specs.Whole.{AreAllHeld}
+use Rattle.ck_stripe.specs.Tables.{AreAllHeld}
 use Rattle.ck_words.specs.Words.{WordsState}
 use Rattle.cuckoo_map.proofs.locked.LockedTable.place.Goals as goal
 

@@ -1,9 +1,8 @@
 use Rattle.std.proofs.Common.{rules, ◌≡◌, ◌∙◌, List, reverse, sym, ap, subst}
 use Rattle.ck_model.specs.Contents.{layout_of, Lawful}
-use Rattle.ck_model.specs.Paths.{Grounds}
-use Rattle.ck_section.specs.declared.room.Lack.{Lack}
-use Rattle.ck_section.specs.Stripes.{contents_of}
-use Rattle.ck_section.specs.Room.{reason_of_lack}
+use Rattle.ck_model.specs.Paths.{Grounds, reason_of_lack}
+use Rattle.ck_model.specs.declared.lack.Lack.{Lack}
+use Rattle.ck_stripe.specs.Stripes.{contents_of}
 use Rattle.ck_section.proofs.Tables.{err_maps}
 use Rattle.ck_stripe.specs.Stripe.{StripeState}
 use Rattle.cuckoo_map.specs.Needed.{HoldsGrown}

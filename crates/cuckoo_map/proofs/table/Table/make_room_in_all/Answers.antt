@@ -1,6 +1,6 @@
 use Rattle.std.proofs.Common.{rules, ◌≡◌, ◌∙◌, [], append-nil, refl, sym, subst}
 use Rattle.cuckoo_map.specs.declared.refusal.Why.{Why}
-use Rattle.ck_section.specs.Room.{reason_of_lack}
+use Rattle.ck_model.specs.Paths.{reason_of_lack}
 use Rattle.cuckoo_map.specs.Refusals.{IsStripeIn, IsRefused}
 use Rattle.cuckoo_map.proofs.Refusing.{refused_among}
 use Rattle.cuckoo_map.proofs.Grounding.{gives_grounds}

@@ -1,6 +1,7 @@
 use Rattle.std.proofs.Common.{rules, ◌≡◌, ℕ, List, ◌∙◌, ap, sym, subst}
 use Rattle.ck_stripe.specs.Stripe.{StripeState}
-use Rattle.ck_section.specs.Places.{AreHeld, HasBoth}
+use Rattle.ck_stripe.specs.Tables.{AreHeld}
+use Rattle.ck_section.specs.Places.{HasBoth}
 use Rattle.ck_words.specs.Passes.{numbers_of}
 use Rattle.ck_words.specs.Words.{WordsState}
 use Rattle.ck_words.specs.StripeSets.{list_of}

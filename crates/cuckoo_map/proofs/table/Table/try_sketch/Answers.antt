@@ -1,6 +1,6 @@
 use Rattle.std.proofs.Common.{rules, ◌≡◌, ◌∙◌, ◌%◌, ◌^◌, List, ap, refl, inl, sym, subst}
 use Rattle.ck_stripe.specs.Stripe.{StripeState}
-use Rattle.ck_section.specs.Places.{HasStripe}
+use Rattle.ck_stripe.specs.Tables.{HasStripe}
 use Rattle.ck_words.specs.Words.{WordsState}
 use Rattle.ck_words.specs.Retries.{IsBusy}
 use Rattle.ck_words.specs.StripeSets.{list_of}

@@ -1,7 +1,0 @@
-use Rattle.std.proofs.Common.{rules}
-use Rattle.ck_section.specs.Stripes.{no_stripe}
-use Rattle.ck_section.proofs.Visited.{none_changed}
-use Rattle.ck_section.proofs.one_stripe.len.Goals as goal
-
-pub returns-clause-same : goal.returns-clause-same
-returns-clause-same g c = none_changed _ _ c.args.i (c.visit.ensures.others no_stripe) (search rules)
