@@ -10,3 +10,4 @@ pub mod Paths
 pub mod Doubling
 pub mod Ranges
 pub mod Laws
+pub mod Commits

@@ -3,6 +3,7 @@
 //! `specs`, and their laws are the contracts of the functions of `laws`, which do nothing.
 #![tactic(auto)]
 
+pub mod commit;
 pub mod contents;
 pub mod history;
 pub mod lack;

@@ -5,8 +5,8 @@ use Rattle.ck_model.specs.declared.history.Act.TheVariants.{Find, Insert, Assign
 use Rattle.ck_model.specs.declared.history.Reply.{Reply}
 use Rattle.ck_model.specs.declared.history.Reply.TheVariants as replies
 use Rattle.ck_model.specs.declared.history.Reply.TheVariants.{Was, Old, Done, DoneTwo, Absent}
-use Rattle.ck_section.specs.declared.one_key.Uprased.{Uprased}
-use Rattle.ck_section.specs.declared.one_key.Uprased.TheVariants.{New, Changed, Erased}
+use Rattle.ck_section.specs.declared.insertion.Uprased.{Uprased}
+use Rattle.ck_section.specs.declared.insertion.Uprased.TheVariants.{New, Changed, Erased}
 
 module _ {V : Type 0} where
   -- this act, with this reply

@@ -7,6 +7,7 @@ mod double;
 mod drain;
 mod entry;
 mod hop;
+pub mod insertion;
 mod iter;
 mod listing;
 mod look;
@@ -25,10 +26,8 @@ pub use hop::{Hop, make_hop};
 pub use iter::Iter;
 pub use listing::export;
 pub use look::{key_place, sketch};
-pub use one_key::{
-    Uprased, erase, erase_fn, fill, find, insert, insert_or_assign, read_entry, replace_if,
-    try_update, try_upsert, update, update_fn, uprase, upsert,
-};
+pub use insertion::{Insertion, Uprased};
+pub use one_key::{erase, erase_fn, find, replace_if, try_update, update, update_fn};
 pub use place::{HeldBucket, KeyPlace};
 pub use retain::retain_all;
 pub use room::{make_room, settled_place};

@@ -1,5 +1,5 @@
-//! Calls on one key, whose two buckets are held. Each looks into a bucket once, and compares keys
-//! of one partial alone.
+//! Calls on one key, whose two buckets are held, but those that may bind it. Each looks into a bucket
+//! once, and compares keys of one partial alone.
 ghost use Rattle.std.specs.Prelude.{◌≡◌, false, Some, None, Ok, Err, IfSome, IfNone, IfOk, IfErr, OnErr, MatchBool, MatchResult, if◌then◌else◌};
 ghost use Rattle.std.specs.Bool.{OnFalse};
 ghost use Rattle.std.specs.Fn.{FnOnceReturnsAt};
@@ -9,11 +9,10 @@ ghost use Rattle.ck_model.specs.declared.history.Act.TheVariants.{Find, Change, 
 ghost use Rattle.ck_model.specs.declared.history.Reply.TheVariants.{Was, Done, Absent};
 ghost use Rattle.ck_model.specs.Promise.{Answers};
 ghost use Rattle.ck_section.specs.Places.{IsPlaceOf};
-ghost use Rattle.ck_section.specs.Entries.{IsEntryOf, IsOccupied, IsVacant};
+ghost use Rattle.ck_section.specs.Entries.{IsOccupied, IsVacant};
 ghost use Rattle.ck_section.specs.Calls.{effect, IsCall, ChangesContents};
-ghost use Rattle.ck_section.specs.Acts.{Inserts, Assigns, Updates, Erases, Changes, Upserts, Uprases, TriesUpsert};
+ghost use Rattle.ck_section.specs.Acts.{Updates, Erases, Changes};
 
-use crate::entry::Entry;
 use crate::look::find_slot;
 use crate::place::KeyPlace;
 use ck_key::{Query, TableKey};
@@ -42,58 +41,6 @@ where
 {
     let at = find_slot(held, place, key)?;
     Some(one_stripe::read(held, at, f))
-}
-
-/// Binds the key of the entry where it is unbound, and says whether it was. A bound key keeps its
-/// value, and the one that was passed is dropped.
-#[inline(always)]
-pub fn insert<K: TableKey + Drop, V: Drop, H: Held<Stripe<K, V>>>(
-    held: &mut H,
-    place: KeyPlace,
-    entry: Entry,
-    key: K,
-    value: V,
-) -> bool
-    requires place { IsPlaceOf K.hash (H.stripes held.old) (K.name key) place }
-    requires entry { IsEntryOf K.hash (H.stripes held.old) (K.name key) place entry }
-    ensures call { Inserts value
-        (IsCall (effect K.hash H.stripes place held.old held.new) (K.name key)) result }
-    ensures same { OnFalse result (H.stripes held.new ≡ H.stripes held.old) }
-    ensures rest { ChangesContents (H.stripes held.old) (H.stripes held.new) }
-    ensures stays { H.stays held.old held.new }
-{
-    match entry {
-        Entry::Occupied(_) => false,
-        Entry::Vacant(at) => {
-            fill(held, place, at, key, value);
-            true
-        }
-    }
-}
-
-/// Binds the key of the entry, and gives the value that it had.
-#[inline(always)]
-pub fn insert_or_assign<K: TableKey + Drop, V: Drop, H: Held<Stripe<K, V>>>(
-    held: &mut H,
-    place: KeyPlace,
-    entry: Entry,
-    key: K,
-    value: V,
-) -> Option<V>
-    requires place { IsPlaceOf K.hash (H.stripes held.old) (K.name key) place }
-    requires entry { IsEntryOf K.hash (H.stripes held.old) (K.name key) place entry }
-    ensures call { Assigns value
-        (IsCall (effect K.hash H.stripes place held.old held.new) (K.name key)) result }
-    ensures rest { ChangesContents (H.stripes held.old) (H.stripes held.new) }
-    ensures stays { H.stays held.old held.new }
-{
-    match entry {
-        Entry::Occupied(old) => Some(one_stripe::replace(held, old, value)),
-        Entry::Vacant(at) => {
-            fill(held, place, at, key, value);
-            None
-        }
-    }
 }
 
 /// Binds a bound key to another value, and gives the one that it had; `None` where the key is
@@ -265,42 +212,8 @@ pub fn try_update<
     Ok(outcome)
 }
 
-/// Binds the key of the entry to the value where it is unbound, and else to what the closure makes
-/// of its value; says whether the key was unbound. Of closure and value the one that isn't used is
-/// dropped.
-#[inline(always)]
-pub fn upsert<K: TableKey + Drop, V: Drop, H: Held<Stripe<K, V>>, F: FnOnce(V) -> V>(
-    held: &mut H,
-    place: KeyPlace,
-    entry: Entry,
-    key: K,
-    f: F,
-    value: V,
-) -> bool
-where
-    F: Drop,
-    requires place { IsPlaceOf K.hash (H.stripes held.old) (K.name key) place }
-    requires entry { IsEntryOf K.hash (H.stripes held.old) (K.name key) place entry }
-    requires call { F.IsAlwaysCallable f }
-    ensures call { Upserts (F.post f) value
-        (IsCall (effect K.hash H.stripes place held.old held.new) (K.name key)) result }
-    ensures rest { ChangesContents (H.stripes held.old) (H.stripes held.new) }
-    ensures stays { H.stays held.old held.new }
-{
-    match entry {
-        Entry::Occupied(old) => {
-            one_stripe::change(held, old, f);
-            false
-        }
-        Entry::Vacant(at) => {
-            fill(held, place, at, key, value);
-            true
-        }
-    }
-}
-
-/// Puts an unbound key into the slot of its entry.
-pub fn fill<K: TableKey + Drop, V: Drop, H: Held<Stripe<K, V>>>(
+// Puts an unbound key into the slot of its entry.
+pub(crate) fn fill<K: TableKey + Drop, V: Drop, H: Held<Stripe<K, V>>>(
     held: &mut H,
     place: KeyPlace,
     at: HeldSlot,
@@ -319,7 +232,7 @@ pub fn fill<K: TableKey + Drop, V: Drop, H: Held<Stripe<K, V>>>(
 }
 
 // The value that a success or a failure gave back, and which of the two it was.
-fn value_and_outcome<V, E>(made: Result<V, (V, E)>) -> (V, Result<(), E>)
+pub(crate) fn value_and_outcome<V, E>(made: Result<V, (V, E)>) -> (V, Result<(), E>)
     ensures { MatchResult result.1 (λ _. made ≡ Ok result.0) (λ e. made ≡ Err (result.0, e)) }
 {
     match made {
@@ -328,9 +241,9 @@ fn value_and_outcome<V, E>(made: Result<V, (V, E)>) -> (V, Result<(), E>)
     }
 }
 
-/// What the closure answers for the value of a bound key, which has this slot.
+// What the closure answers for the value of a bound key, which has this slot.
 #[inline(always)]
-pub fn read_entry<K: TableKey + Drop, V: Drop, H: Held<Stripe<K, V>>, R, F: FnOnce(&V) -> R>(
+pub(crate) fn read_entry<K: TableKey + Drop, V: Drop, H: Held<Stripe<K, V>>, R, F: FnOnce(&V) -> R>(
     held: &mut H,
     _place: KeyPlace,
     at: HeldSlot,
@@ -347,101 +260,4 @@ pub fn read_entry<K: TableKey + Drop, V: Drop, H: Held<Stripe<K, V>>, R, F: FnOn
     ensures stays { H.stays held.old held.new }
 {
     one_stripe::read(held, at, f)
-}
-
-/// What became of a key that was upserted or erased, as a closure decided.
-#[derive(Debug, Clone, Copy, PartialEq, Eq)]
-pub enum Uprased {
-    /// It was unbound, and is bound to the value.
-    New,
-    /// It was bound, and is bound to what the closure made of its value.
-    Changed,
-    /// It was bound, and is unbound: the closure made nothing of its value.
-    Erased,
-}
-
-/// Binds the key of the entry to the value where it is unbound. Else it is bound to what the
-/// closure makes of its value, or unbound where the closure makes nothing. Of closure and value the
-/// one that isn't used is dropped.
-#[inline(always)]
-pub fn uprase<K: TableKey + Drop, V: Drop, H: Held<Stripe<K, V>>, F: FnOnce(V) -> Option<V>>(
-    held: &mut H,
-    place: KeyPlace,
-    entry: Entry,
-    key: K,
-    f: F,
-    value: V,
-) -> Uprased
-where
-    F: Drop,
-    requires place { IsPlaceOf K.hash (H.stripes held.old) (K.name key) place }
-    requires entry { IsEntryOf K.hash (H.stripes held.old) (K.name key) place entry }
-    requires call { F.IsAlwaysCallable f }
-    ensures call { Uprases (F.post f) value
-        (IsCall (effect K.hash H.stripes place held.old held.new) (K.name key)) result }
-    ensures rest { ChangesContents (H.stripes held.old) (H.stripes held.new) }
-    ensures stays { H.stays held.old held.new }
-{
-    match entry {
-        Entry::Occupied(at) => {
-            let (bound, old) = one_stripe::remove(held, at);
-            match f(old) {
-                Some(new) => {
-                    one_stripe::place(held, at, place.partial, bound, new);
-                    Uprased::Changed
-                }
-                None => Uprased::Erased,
-            }
-        }
-        Entry::Vacant(at) => {
-            fill(held, place, at, key, value);
-            Uprased::New
-        }
-    }
-}
-
-/// Binds the key of the entry to the value where it is unbound, and answers `Ok(true)`. Else it is
-/// bound to the value that the closure gives back for its value, whether it succeeds, and then the
-/// answer is `Ok(false)`, or fails with an error. Of closure and value the one that isn't used is
-/// dropped.
-#[inline(always)]
-pub fn try_upsert<
-    K: TableKey + Drop,
-    V: Drop,
-    H: Held<Stripe<K, V>>,
-    E,
-    F: FnOnce(V) -> Result<V, (V, E)>,
->(held: &mut H, place: KeyPlace, entry: Entry, key: K, f: F, value: V) -> Result<bool, E>
-where
-    F: Drop,
-    requires place { IsPlaceOf K.hash (H.stripes held.old) (K.name key) place }
-    requires entry { IsEntryOf K.hash (H.stripes held.old) (K.name key) place entry }
-    requires call { F.IsAlwaysCallable f }
-    ensures call { TriesUpsert (F.post f) value
-        (IsCall (effect K.hash H.stripes place held.old held.new) (K.name key)) result }
-    ensures rest { ChangesContents (H.stripes held.old) (H.stripes held.new) }
-    ensures stays { H.stays held.old held.new }
-{
-    match entry {
-        Entry::Occupied(at) => {
-            let (own, was) = one_stripe::remove(held, at);
-            let (bound, outcome) = value_and_outcome(f(was));
-            one_stripe::place(held, at, place.partial, own, bound);
-            answer_of_bound(outcome)
-        }
-        Entry::Vacant(at) => {
-            fill(held, place, at, key, value);
-            Ok(true)
-        }
-    }
-}
-
-// What an upsert answers whose key was bound, and whose closure ended so.
-fn answer_of_bound<E>(outcome: Result<(), E>) -> Result<bool, E>
-    ensures { MatchResult outcome (λ _. result ≡ Ok false) (λ e. result ≡ Err e) }
-{
-    match outcome {
-        Ok(()) => Ok(false),
-        Err(error) => Err(error),
-    }
 }

@@ -19,8 +19,8 @@ use Rattle.ck_core.specs.Steps.{deciding}
 use Rattle.ck_core.specs.Steps.Label.{Decide}
 use Rattle.ck_core.specs.State.{client_of}
 use Rattle.ck_core.proofs.Shown.{answered}
-use Rattle.ck_words.specs.declared.commit.Commit.{Commit}
-use Rattle.ck_words.specs.Commits.{call_of}
+use Rattle.ck_model.specs.declared.commit.Commit.{Commit}
+use Rattle.ck_model.specs.Commits.{call_of}
 use Rattle.ck_words.specs.Steps.{Steps}
 use Rattle.ck_words.specs.Words.{WordsState}
 use Rattle.ck_words.specs.Passes.{PassState, IsPassOf, Sends}

@@ -1,13 +1,14 @@
 -- What an answered call leaves of its pass.
 use Rattle.std.specs.Prelude.{◌≡◌, ℕ, List, [], Some, reverse}
+use Rattle.std.specs.FinMap.{entries}
 use Rattle.ck_model.specs.declared.history.Act.{Act}
 use Rattle.ck_model.specs.declared.history.Call.{Call}
-use Rattle.ck_model.specs.declared.history.Call.TheVariants.{On}
+use Rattle.ck_model.specs.declared.history.Call.TheVariants.{On, Session}
 use Rattle.ck_model.specs.declared.history.Reply.{Reply}
 use Rattle.ck_model.specs.declared.history.Reason.{Reason}
 use Rattle.ck_model.specs.declared.settings.Settings.{Settings}
 use Rattle.ck_model.specs.Promise.{Name, Follows, Replied}
-use Rattle.ck_model.specs.Contents.{layout_of, Lawful}
+use Rattle.ck_model.specs.Contents.{layout_of, Lawful, bindings}
 use Rattle.ck_model.specs.Sections.{HasAll, Section}
 use Rattle.ck_stripe.specs.Stripes.{contents_of}
 use Rattle.ck_core.specs.State.{client_of}
@@ -20,6 +21,10 @@ module _ {V : Type 0} where
   -- From what they contained when they were taken, the held stripes went to what they contain now by this call with this reply.
   abbrev pub HasDone : (Name → ℕ) → Settings → Call V → Reply V → PassState V → Type 0
   HasDone hash set call reply p = Lawful (layout_of hash set) (reverse p.view.held) → Section (layout_of hash set) (reverse p.view.held) call reply (contents_of p.stripes)
+
+  -- the session of a pass that holds all stripes: from the pairs that they contained when they were taken to those that they contain now
+  abbrev pub session_of : PassState V → Call V
+  session_of p = Session (entries (bindings (reverse p.view.held))) (entries (bindings (contents_of p.stripes)))
 
   -- the entry of this call stands right behind what the pass had seen
   abbrev pub FollowsSeen : Call V → Reply V → PassState V → PassState V → Type 0

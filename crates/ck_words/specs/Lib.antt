@@ -13,5 +13,4 @@ pub mod InPlace
 pub mod Opening
 pub mod Meeting
 pub mod Closing
-pub mod Commits
 pub mod Answering

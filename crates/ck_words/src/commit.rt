@@ -8,29 +8,15 @@ ghost use Rattle.ck_core.specs.Steps.{Label};
 ghost use Rattle.ck_stripe.specs.Stripes.{contents_of, HaveNoSpare};
 ghost use Rattle.ck_words.specs.Passes.{PassState, Sends};
 ghost use Rattle.ck_words.specs.Holding.{HasReleased};
-ghost use Rattle.ck_words.specs.Commits.{call_of, session_of};
-ghost use Rattle.ck_words.specs.Answering.{HasDone, HasCommitted};
+ghost use Rattle.ck_model.specs.Commits.{call_of};
+ghost use Rattle.ck_words.specs.Answering.{session_of, HasDone, HasCommitted};
 
 use crate::guard::Guard;
 use crate::steps::Says;
 use ck_key::{Query, TableKey};
+use ck_model::commit::Commit;
 use std::marker::Brand;
 use std::snapshot::Snapshot;
-
-/// A call with its value and its keys, or its query, as contracts see them. Nothing of it is left
-/// when the program runs.
-#[derive(Drop)]
-pub enum Commit<K, V> {
-    Find(Snapshot<K>),
-    Insert(Snapshot<K>, Snapshot<V>),
-    Assign(Snapshot<K>, Snapshot<V>),
-    Update(Snapshot<K>, Snapshot<V>),
-    Change(Snapshot<K>),
-    Upsert(Snapshot<K>, Snapshot<V>),
-    Erase(Snapshot<K>),
-    ChangeTwo(Snapshot<K>, Snapshot<K>),
-    Len,
-}
 
 impl<K: TableKey + Drop, V: Drop> Guard<'_, K, V> {
     /// Decides the call with what the stripes contain now, and gives them back.

@@ -19,7 +19,6 @@ mod views;
 mod visits;
 mod words;
 
-pub use commit::Commit;
 pub use guard::Guard;
 pub use lift::Whole;
 pub use pass::Pass;

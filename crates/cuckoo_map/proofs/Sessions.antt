@@ -45,7 +45,7 @@ use Rattle.ck_words.specs.Passes.{EachOf, PassState, IsPassOf, numbers_of}
 use Rattle.ck_words.specs.Retries.{Stays, FindsAmong}
 use Rattle.ck_words.specs.Closing.{IsWhole, IsCaller}
 use Rattle.ck_words.specs.Holding.{IsDoubledBy}
-use Rattle.ck_words.specs.Commits.{session_of}
+use Rattle.ck_words.specs.Answering.{session_of}
 use Rattle.ck_words.specs.Answering.{HasDone}
 use Rattle.ck_model.proofs.Counting.{length-counting, counting-at}
 use Rattle.ck_words.proofs.Reversed.{in_of_reverse, bindings-reverse, lawful_reverse, held_reverse}

@@ -4,16 +4,10 @@ use Rattle.ck_model.specs.declared.history.Act.{Act}
 use Rattle.ck_model.specs.declared.history.Act.TheVariants.{Upsert, Erase}
 use Rattle.ck_model.specs.declared.history.Reply.{Reply}
 use Rattle.ck_model.specs.declared.history.Reply.TheVariants as replies
-use Rattle.ck_section.specs.declared.one_key.Uprased.{Uprased}
-use Rattle.ck_section.specs.declared.one_key.Uprased.TheVariants.{New, Changed, Erased}
+use Rattle.ck_section.specs.declared.insertion.Uprased.{Uprased}
+use Rattle.ck_section.specs.declared.insertion.Uprased.TheVariants.{New, Changed, Erased}
 use Rattle.ck_section.specs.Acts.{IsAct, Finds, FindsBound, FindsBy, Inserts, InsertsBy, FindsOrInserts, Assigns, Upserts, Uprases, TriesUpsert}
 use Rattle.ck_section.specs.Acts.{Updates, Changes, ReplacesIf, TriesChange, Erases, ErasesBy, ChangesTwo}
-
--- the act that is committed, where an uprase with this value answers so
-abbrev pub uprase_act : {V : Type 0} → V → Uprased → Act V
-uprase_act value New = Upsert value
-uprase_act value Changed = Upsert value
-uprase_act value Erased = Erase
 
 -- P gives Q of an act with its reply, and this besides
 module _ {V Z : Type 0} {P Q : Act V → Reply V → Type 0} (f : (act : Act V) (reply : Reply V) → P act reply → Q act reply × Z) where
@@ -102,29 +96,15 @@ module _ {V : Type 0} (P : Act V → Reply V → Type 0) where
     pub as_upserted : (fresh : Bool) (act : Act V) (reply : Reply V) → Upserts makes value (IsAct act reply) fresh → P act reply → Upserts makes value P fresh
     as_upserted fresh act reply told h = (told_upserted (by_act h) makes value fresh told).0
 
-    pub upserted : (fresh : Bool) → Upserts makes value P fresh → (reply : Reply V) × Upserts makes value (IsAct (Upsert value) reply) fresh × P (Upsert value) reply
-    upserted true h = (replies.New, (refl, refl), h)
-    upserted false h = (replies.Done h.0 h.1, (h.0, h.1, h.2, (refl, refl)), h.3)
-
   -- an uprase
   module _ (makes : V → Option V → Type 0) (value : V) where
     pub as_uprased : (answer : Uprased) (act : Act V) (reply : Reply V) → Uprases makes value (IsAct act reply) answer → P act reply → Uprases makes value P answer
     as_uprased answer act reply told h = (told_uprased (by_act h) makes value answer told).0
 
-    pub uprased : (answer : Uprased) → Uprases makes value P answer → (reply : Reply V) × Uprases makes value (IsAct (uprase_act value answer) reply) answer × P (uprase_act value answer) reply
-    uprased New h = (replies.New, (refl, refl), h)
-    uprased Changed h = (replies.Done h.0 h.1, (h.0, h.1, h.2, (refl, refl)), h.3)
-    uprased Erased h = (replies.Was (Some h.0), (h.0, h.1, (refl, refl)), h.2)
-
   -- an upsert whose closure may fail
   module _ {E : Type 0} (makes : V → Result V (V × E) → Type 0) (value : V) where
     pub as_tried : (answer : Result Bool E) (act : Act V) (reply : Reply V) → TriesUpsert makes value (IsAct act reply) answer → P act reply → TriesUpsert makes value P answer
     as_tried answer act reply told h = (told_tried (by_act h) makes value answer told).0
-
-    pub tried : (answer : Result Bool E) → TriesUpsert makes value P answer → (reply : Reply V) × TriesUpsert makes value (IsAct (Upsert value) reply) answer × P (Upsert value) reply
-    tried (Ok true) h = (replies.New, (refl, refl), h)
-    tried (Ok false) h = (replies.Done h.0 h.1, (h.0, h.1, h.2, (refl, refl)), h.3)
-    tried (Err e) h = (replies.Done h.0 h.1, (h.0, h.1, h.2, (refl, refl)), h.3)
 
 -- the same of a change of two keys
 pub told_changed_two : {V Z : Type 0} {P Q : Reply V → Type 0} (f : (reply : Reply V) → P reply → Q reply × Z) (makes : V → V → V × V → Type 0) (bound : Bool) → ChangesTwo makes P bound → ChangesTwo makes Q bound × Z

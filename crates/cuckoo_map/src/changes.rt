@@ -7,15 +7,16 @@ ghost use Rattle.ck_model.specs.declared.history.Call.TheVariants.{On};
 ghost use Rattle.ck_section.specs.Acts.{Updates, Changes, Erases, ErasesBy, ReplacesIf, TriesChange};
 ghost use Rattle.ck_words.specs.Answering.{IsAnsweredOn};
 ghost use Rattle.ck_words.specs.Closing.{IsCaller};
-ghost use Rattle.ck_words.specs.Commits.{call_of};
+ghost use Rattle.ck_model.specs.Commits.{call_of};
 ghost use Rattle.cuckoo_map.specs.Refusals.{FindsOwn, IsBusyAt};
 ghost use Rattle.cuckoo_map.specs.Queries.{HasQueried};
 
 use crate::refusal::Busy;
 use crate::table::Table;
 use ck_key::{Query, TableKey};
+use ck_model::commit::Commit;
 use ck_section::{erase, erase_fn, replace_if, try_update, update, update_fn};
-use ck_words::{Commit, Pass, guard};
+use ck_words::{Pass, guard};
 use std::snapshot::Snapshot;
 
 impl<K: TableKey + Drop, V: Drop> Table<K, V> {

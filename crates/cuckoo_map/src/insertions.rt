@@ -10,14 +10,12 @@ ghost use Rattle.cuckoo_map.specs.Holding.{IsHomeOf};
 ghost use Rattle.cuckoo_map.specs.Insertions.{HasFoundNoRoom, HasRoom, HasInserted, IsInserted, TellsOf};
 ghost use Rattle.cuckoo_map.specs.Refusals.{FindsOwn, FindsOwnUnlessFull};
 
-use crate::entries;
-use crate::entries::Insertion;
 use crate::holding::Home;
 use crate::key_room::Room;
 use crate::refusal::{Refused, Why};
 use crate::table::Table;
 use ck_key::TableKey;
-use ck_section::Uprased;
+use ck_section::{Insertion, Uprased, insertion};
 use ck_words::{Pass, guard};
 use std::marker::PhantomData;
 use std::snapshot::Snapshot;
@@ -39,7 +37,7 @@ impl<K: TableKey + Drop, V: Drop> Table<K, V> {
         ensures inserted { HasInserted (Inserts value)
             K.hash self.now.settings (K.name key) key value result pass.old pass.new }
     {
-        self.place(pass, key, value, entries::Insert)
+        self.place(pass, key, value, insertion::Insert)
     }
 
     /// Binds the key to the value, and gives the value that it had.
@@ -62,7 +60,7 @@ impl<K: TableKey + Drop, V: Drop> Table<K, V> {
         ensures inserted { HasInserted (Assigns value)
             K.hash self.now.settings (K.name key) key value result pass.old pass.new }
     {
-        self.place(pass, key, value, entries::Assign)
+        self.place(pass, key, value, insertion::Assign)
     }
 
     /// Binds an unbound key to the value, and a bound one to what the closure makes of its value;
@@ -91,7 +89,7 @@ impl<K: TableKey + Drop, V: Drop> Table<K, V> {
         ensures inserted { HasInserted (Upserts (F.post f) value)
             K.hash self.now.settings (K.name key) key value result pass.old pass.new }
     {
-        self.place(pass, key, value, entries::Upsert(f))
+        self.place(pass, key, value, insertion::Upsert(f))
     }
 
     /// Binds an unbound key to the value, and answers `Ok(true)`. A bound one is bound to the value
@@ -127,7 +125,7 @@ impl<K: TableKey + Drop, V: Drop> Table<K, V> {
         ensures inserted { HasInserted (TriesUpsert (F.post f) value)
             K.hash self.now.settings (K.name key) key value result pass.old pass.new }
     {
-        self.place(pass, key, value, entries::TryUpsert(f))
+        self.place(pass, key, value, insertion::TryUpsert(f))
     }
 
     /// Binds an unbound key to what the closure makes, and says whether it was unbound. A bound key
@@ -161,7 +159,7 @@ impl<K: TableKey + Drop, V: Drop> Table<K, V> {
         ensures inserted { HasInserted (InsertsBy (F.post f))
             K.hash self.now.settings (K.name key) key f result pass.old pass.new }
     {
-        self.place(pass, key, f, entries::InsertWith(PhantomData))
+        self.place(pass, key, f, insertion::InsertWith(PhantomData))
     }
 
     /// Binds an unbound key to the value. A bound one is bound to what the closure makes of its
@@ -195,7 +193,7 @@ impl<K: TableKey + Drop, V: Drop> Table<K, V> {
         ensures inserted { HasInserted (Uprases (F.post f) value)
             K.hash self.now.settings (K.name key) key value result pass.old pass.new }
     {
-        self.place(pass, key, value, entries::Uprase(f))
+        self.place(pass, key, value, insertion::Uprase(f))
     }
 
     /// The value of the key. An unbound one is bound to what the closure makes; for a bound one the
@@ -229,7 +227,7 @@ impl<K: TableKey + Drop, V: Drop> Table<K, V> {
         ensures inserted { HasInserted (FindsOrInserts (F.post f))
             K.hash self.now.settings (K.name key) key f result pass.old pass.new }
     {
-        self.place(pass, key, f, entries::GetOrInsertWith(PhantomData))
+        self.place(pass, key, f, insertion::GetOrInsertWith(PhantomData))
     }
 }
 

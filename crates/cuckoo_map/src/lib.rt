@@ -35,7 +35,6 @@
 mod caller;
 mod changes;
 mod displacement;
-mod entries;
 mod growth;
 mod holding;
 mod insertions;

@@ -24,16 +24,14 @@ ghost use Rattle.cuckoo_map.specs.Locking.{map_of, session_call, EndsSession, En
 ghost use Rattle.cuckoo_map.specs.Insertions.{TellsOf};
 
 use crate::caller::Caller;
-use crate::entries;
-use crate::entries::Insertion;
 use crate::refusal::{Busy, Refused, Why};
 use crate::table::Table;
 use ck_key::{KeyHash, Query, TableKey};
 use ck_model::lack::Lack;
 use ck_model::settings::Settings;
 use ck_section::{
-    Iter, KeyPlace, clear_all, erase, export, find_entry, find_in_all, make_room,
-    place_in_all, update, update_fn,
+    Insertion, Iter, KeyPlace, clear_all, erase, export, find_entry, find_in_all, insertion,
+    make_room, place_in_all, update, update_fn,
 };
 use ck_stripe::{Stripe, settle_all};
 use ck_words::{Pass, Whole, guard};
@@ -117,7 +115,7 @@ impl<'t, K: TableKey + Drop, V: Drop> LockedTable<'t, K, V> {
         ensures { LockedInsertionLeaves (Inserts value)
             K.hash (K.name key) key value result self.old self.new }
     {
-        self.put(key, value, entries::Insert)
+        self.put(key, value, insertion::Insert)
     }
 
     /// Binds the key to the value, and gives the value that it had; `None` where it was unbound.
@@ -133,7 +131,7 @@ impl<'t, K: TableKey + Drop, V: Drop> LockedTable<'t, K, V> {
         ensures { LockedInsertionLeaves (Assigns value)
             K.hash (K.name key) key value result self.old self.new }
     {
-        self.put(key, value, entries::Assign)
+        self.put(key, value, insertion::Assign)
     }
 
     /// Binds an unbound key to the value, and a bound one to what the closure makes of its value;
@@ -158,7 +156,7 @@ impl<'t, K: TableKey + Drop, V: Drop> LockedTable<'t, K, V> {
         ensures { LockedInsertionLeaves (Upserts (F.post f) value)
             K.hash (K.name key) key value result self.old self.new }
     {
-        self.put(key, value, entries::Upsert(f))
+        self.put(key, value, insertion::Upsert(f))
     }
 
     // Makes the insertion of the entry of the key.

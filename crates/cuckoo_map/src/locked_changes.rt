@@ -3,11 +3,10 @@ ghost use Rattle.std.specs.Fn.{FnOnceReturnsAt};
 ghost use Rattle.ck_section.specs.Acts.{InsertsBy, FindsOrInserts, Uprases, TriesUpsert, ReplacesIf, TriesChange};
 ghost use Rattle.cuckoo_map.specs.Locking.{HasChanged, LockedInsertionLeaves};
 
-use crate::entries;
 use crate::locked::LockedTable;
 use crate::refusal::Refused;
 use ck_key::{Query, TableKey};
-use ck_section::{Uprased, replace_if, try_update};
+use ck_section::{Uprased, insertion, replace_if, try_update};
 use std::marker::PhantomData;
 
 impl<'t, K: TableKey + Drop, V: Drop> LockedTable<'t, K, V> {
@@ -28,7 +27,7 @@ impl<'t, K: TableKey + Drop, V: Drop> LockedTable<'t, K, V> {
         ensures { LockedInsertionLeaves (InsertsBy (F.post f))
             K.hash (K.name key) key f result self.old self.new }
     {
-        self.put(key, f, entries::InsertWith(PhantomData))
+        self.put(key, f, insertion::InsertWith(PhantomData))
     }
 
     /// The value of the key. An unbound one is bound to what the closure makes; for a bound one the
@@ -51,7 +50,7 @@ impl<'t, K: TableKey + Drop, V: Drop> LockedTable<'t, K, V> {
         ensures { LockedInsertionLeaves (FindsOrInserts (F.post f))
             K.hash (K.name key) key f result self.old self.new }
     {
-        self.put(key, f, entries::GetOrInsertWith(PhantomData))
+        self.put(key, f, insertion::GetOrInsertWith(PhantomData))
     }
 
     /// Binds an unbound key to the value. A bound one is bound to what the closure makes of its
@@ -78,7 +77,7 @@ impl<'t, K: TableKey + Drop, V: Drop> LockedTable<'t, K, V> {
         ensures { LockedInsertionLeaves (Uprases (F.post f) value)
             K.hash (K.name key) key value result self.old self.new }
     {
-        self.put(key, value, entries::Uprase(f))
+        self.put(key, value, insertion::Uprase(f))
     }
 
     /// Binds an unbound key to the value, and answers `Ok(true)`. A bound one is bound to the value
@@ -106,7 +105,7 @@ impl<'t, K: TableKey + Drop, V: Drop> LockedTable<'t, K, V> {
         ensures { LockedInsertionLeaves (TriesUpsert (F.post f) value)
             K.hash (K.name key) key value result self.old self.new }
     {
-        self.put(key, value, entries::TryUpsert(f))
+        self.put(key, value, insertion::TryUpsert(f))
     }
 
     /// Binds a bound key to what the closure makes of its value, where it makes one, and says

@@ -7,8 +7,9 @@ ghost use Rattle.cuckoo_map.specs.Queries.{HasQueried};
 use crate::refusal::Busy;
 use crate::table::Table;
 use ck_key::{Query, TableKey};
+use ck_model::commit::Commit;
 use ck_section::find;
-use ck_words::{Commit, Pass, guard};
+use ck_words::{Pass, guard};
 use std::snapshot::Snapshot;
 
 impl<K: TableKey + Drop, V: Drop> Table<K, V> {

@@ -12,8 +12,9 @@ ghost use Rattle.cuckoo_map.specs.Refusals.{IsStripeIn, IsBusyAmong};
 use crate::refusal::Busy;
 use crate::table::Table;
 use ck_key::TableKey;
+use ck_model::commit::Commit;
 use ck_stripe::len;
-use ck_words::{Commit, Pass, guard};
+use ck_words::{Pass, guard};
 
 impl<K: TableKey + Drop, V: Drop> Table<K, V> {
     /// How many keys are bound: never more than the table has slots at its greatest power. It counts

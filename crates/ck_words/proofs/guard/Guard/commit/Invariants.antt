@@ -1,4 +1,4 @@
-use Rattle.ck_words.specs.Commits.{call_of}
+use Rattle.ck_model.specs.Commits.{call_of}
 use Rattle.ck_words.proofs.Replying.{entry_for}
 use Rattle.ck_words.proofs.guard.Guard.commit.Given as goal
 

@@ -1,4 +1,4 @@
-use Rattle.ck_words.specs.Commits.{session_of}
+use Rattle.ck_words.specs.Answering.{session_of}
 use Rattle.ck_words.proofs.Replying.{has_committed}
 use Rattle.ck_words.proofs.guard.Guard.commit_session.Goals as goal
 

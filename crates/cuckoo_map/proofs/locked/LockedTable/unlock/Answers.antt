@@ -5,7 +5,7 @@ use Rattle.ck_words.specs.Words.{WordsState}
 use Rattle.ck_words.specs.Passes.{EachOf, PassState, numbers_of}
 use Rattle.ck_words.specs.Retries.{as_doubled}
 use Rattle.ck_words.specs.Holding.{IsDoubledBy}
-use Rattle.ck_words.specs.Commits.{session_of}
+use Rattle.ck_words.specs.Answering.{session_of}
 use Rattle.ck_model.specs.Contents.{layout_of}
 use Rattle.ck_model.specs.Sections.{HasAll}
 use Rattle.ck_words.specs.Answering.{HasDone, IsAnswered, FollowsSeen}

@@ -2,7 +2,7 @@ use Rattle.std.proofs.Common.{rules, ◌≡◌, ◌∙◌, ap}
 use Rattle.std.specs.Fn.{FnOnceReturnsAt}
 use Rattle.ck_model.specs.declared.history.Act.TheVariants.{Erase}
 use Rattle.ck_model.specs.declared.history.Call.TheVariants.{On}
-use Rattle.ck_words.specs.Commits.{call_of}
+use Rattle.ck_model.specs.Commits.{call_of}
 use Rattle.ck_words.specs.Answering.{IsAnsweredOn}
 use Rattle.cuckoo_map.proofs.Calls.{IsStep, chose, erased, erasing, does, says}
 use Rattle.cuckoo_map.proofs.table.Table.erase_bound.Goals as goal
