@@ -3,33 +3,42 @@
 //! are written once, over anything that is `Held`.
 #![tactic(auto)]
 
-mod double;
-mod drain;
+// Where a key may be among held stripes, and its entry.
 mod entry;
-mod hop;
-pub mod insertion;
-mod iter;
-mod listing;
 mod look;
-mod one_key;
 mod place;
-mod retain;
-mod room;
+
+// Calls on one key, those that may bind it, and the call on two.
+pub mod insertion;
+mod one_key;
 mod two_keys;
+
+// One hop of a displacement.
+mod hop;
+
+// All stripes of a table: a key among them, room for it, and their doubling.
+mod double;
+mod room;
 mod whole;
 mod whole_path;
+
+// All their pairs.
+mod drain;
+mod iter;
+mod listing;
+mod retain;
 
 pub use double::double_all;
 pub use drain::drain_all;
 pub use entry::{Entry, find_entry};
 pub use hop::{Hop, make_hop};
+pub use insertion::{Insertion, Uprased};
 pub use iter::Iter;
 pub use listing::export;
 pub use look::{key_place, sketch};
-pub use insertion::{Insertion, Uprased};
 pub use one_key::{erase, erase_fn, find, replace_if, try_update, update, update_fn};
 pub use place::{HeldBucket, KeyPlace};
 pub use retain::retain_all;
 pub use room::{make_room, settled_place};
 pub use two_keys::update_two;
-pub use whole::{clear_all, find_in_all, place_in_all};
+pub use whole::{clear_all, find_in_all, key_place_in_all};

@@ -19,7 +19,7 @@ use ck_key::{Query, TableKey};
 use ck_stripe::Stripe;
 
 /// Where the key may be among all stripes of a table of 2^s.
-pub fn place_in_all<K: TableKey + Drop, V: Drop, Q: Query<K>>(
+pub fn key_place_in_all<K: TableKey + Drop, V: Drop, Q: Query<K>>(
     stripes: &[Stripe<K, V>],
     s: u32,
     key: Q,

@@ -2,22 +2,33 @@
 //! core.
 #![tactic(auto)]
 
+// The words and the slots, the passes, and the rule that they keep.
+mod pass;
+mod rule;
+mod views;
+mod words;
+
+// The steps on a word, each one of the core.
+mod steps;
+
+// Sets of stripes, and how they are taken: a call takes its set by `Words::lock`.
 mod acquire;
-mod close;
+mod settle;
+mod stripe_set;
+
+// Those that a pass holds: how they are visited, and how a call gives them back.
 mod commit;
 mod guard;
-mod lift;
-mod open;
-mod pass;
-mod power;
 mod release;
-mod rule;
-mod settle;
-mod steps;
-mod stripe_set;
-mod views;
 mod visits;
-mod words;
+
+// All of them in one list, and the power of one.
+mod lift;
+mod power;
+
+// The beginning and the end of a table.
+mod close;
+mod open;
 
 pub use guard::Guard;
 pub use lift::Whole;

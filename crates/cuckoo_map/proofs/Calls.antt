@@ -29,7 +29,7 @@ use Rattle.ck_words.specs.Holding.{IsDoubledBy}
 use Rattle.ck_words.specs.Answering.{HasDone, IsAnswered, IsAnsweredBut}
 use Rattle.ck_words.specs.Renewing.{HasRenewed}
 use Rattle.ck_words.proofs.Renewals.{renewed_none, done_then}
-use Rattle.cuckoo_map.specs.declared.key_room.Room.{Room}
+use Rattle.cuckoo_map.specs.declared.room.Room.{Room}
 use Rattle.cuckoo_map.specs.Holding.{HoldsKeyBut, HoldsKey}
 use Rattle.cuckoo_map.specs.Insertions.{HasRoom}
 use Rattle.cuckoo_map.specs.Needed.{HaveOnePower}

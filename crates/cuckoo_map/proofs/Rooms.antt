@@ -29,8 +29,8 @@ use Rattle.ck_words.proofs.Staying.{stays_same, stays_then}
 use Rattle.ck_words.proofs.Reversed.{held_reverse}
 use Rattle.ck_words.proofs.WholeTables.{lawful_held}
 use Rattle.ck_words.proofs.Renewals.{renewed_none, renewed_then}
-use Rattle.cuckoo_map.specs.declared.holding.Spot.{Spot}
-use Rattle.cuckoo_map.specs.declared.key_room.Room.{Room}
+use Rattle.cuckoo_map.specs.declared.locking.Spot.{Spot}
+use Rattle.cuckoo_map.specs.declared.room.Room.{Room}
 use Rattle.cuckoo_map.specs.Holding.{HasSpot}
 use Rattle.cuckoo_map.specs.Refusals.{reason_of, why_of, GivesGrounds, ShowsWhy, IsRefused}
 use Rattle.cuckoo_map.specs.Needed.{NeedsToGrow, HasGrownFor, HaveOnePower, HoldsGrown}

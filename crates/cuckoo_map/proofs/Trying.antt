@@ -11,7 +11,7 @@ use Rattle.ck_words.specs.Passes.{PassState, IsPassOf, IsIdle}
 use Rattle.ck_words.specs.Retries.{StaysBut, as_doubled}
 use Rattle.ck_words.specs.Closing.{IsCaller}
 use Rattle.ck_words.proofs.Staying.{stays_then}
-use Rattle.cuckoo_map.specs.declared.key_room.Room.{Room}
+use Rattle.cuckoo_map.specs.declared.room.Room.{Room}
 use Rattle.cuckoo_map.specs.declared.refusal.Why.{Why}
 use Rattle.cuckoo_map.specs.declared.refusal.Why.TheVariants.{Busy, Memory, Full, LoadTooLow}
 use Rattle.cuckoo_map.specs.Refusals.{reason_of, FindsOwn, FindsOwnUnlessFull, ShowsWhy, IsRefused}

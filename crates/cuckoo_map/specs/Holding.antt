@@ -15,8 +15,8 @@ use Rattle.ck_words.specs.Passes.{PassState, IsUnchanged, numbers_of}
 use Rattle.ck_words.specs.StripeNumbers.{own_numbers}
 use Rattle.ck_words.specs.StripeSets.{list_of}
 use Rattle.ck_words.specs.Retries.{StaysBut}
-use Rattle.cuckoo_map.specs.declared.holding.Home.{Home}
-use Rattle.cuckoo_map.specs.declared.holding.Spot.{Spot}
+use Rattle.cuckoo_map.specs.declared.locking.Home.{Home}
+use Rattle.cuckoo_map.specs.declared.locking.Spot.{Spot}
 use Rattle.cuckoo_map.specs.Needed.{HaveOnePower}
 
 -- the hash of the name, and its stripes

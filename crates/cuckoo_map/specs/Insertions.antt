@@ -10,7 +10,7 @@ use Rattle.ck_model.specs.Promise.{Name}
 use Rattle.ck_stripe.specs.Stripes.{HaveNoSpare}
 use Rattle.ck_section.specs.Places.{IsPlaceOf}
 use Rattle.ck_section.specs.Entries.{IsEntryOf}
-use Rattle.cuckoo_map.specs.declared.key_room.Room.{Room}
+use Rattle.cuckoo_map.specs.declared.room.Room.{Room}
 use Rattle.ck_words.specs.Passes.{PassState, numbers_of}
 use Rattle.ck_words.specs.StripeSets.{list_of}
 use Rattle.ck_words.specs.Retries.{StaysBut, as_doubled}

@@ -1,11 +1,11 @@
 //! A caller: the table, and a pass of its own.
-ghost use Rattle.std.specs.Prelude.{◌≡◌, ◌≢◌, ◌*◌, ◌^◌, ◌≤◌, ℕ, All, map, OnOk, IfOk, IfErr, nat_eq};
+ghost use Rattle.std.specs.Prelude.{◌≡◌, ◌≢◌, ◌*◌, ◌^◌, ◌≤◌, ℕ, All, map, OnOk, IfOk, IfErr, MatchResult, nat_eq};
 ghost use Rattle.std.specs.Fn.{FnOnceReturnsAt};
 ghost use Rattle.ck_model.specs.declared.history.Call.TheVariants.{ChangeTwo};
 ghost use Rattle.ck_words.specs.Closing.{IsCaller};
 
 use crate::locked::LockedTable;
-use crate::refusal::{Busy, GrowFault, NoCallers, Refused};
+use crate::refusal::{Busy, DrainFault, GrowFault, NoCallers, Refused};
 use crate::table::Table;
 use ck_key::{Query, TableKey};
 use ck_section::Uprased;
@@ -72,7 +72,7 @@ impl<'t, K: TableKey + Drop, V: Drop> Caller<'t, K, V> {
     ghost use Rattle.ck_section.specs.Acts.{Finds, FindsBound, FindsBy, Inserts, InsertsBy, FindsOrInserts};
     ghost use Rattle.ck_section.specs.Acts.{Assigns, Upserts, Uprases, TriesUpsert, Updates, Changes};
     ghost use Rattle.ck_section.specs.Acts.{ReplacesIf, TriesChange, Erases, ErasesBy, ChangesTwo};
-    ghost use Rattle.cuckoo_map.specs.Callers.{pass_of, IsSameCaller, Replies, RepliesOn, KeepsNotes, StaysAsIs, StaysButDoublings, MeetsCaller, HearsMessage, message_of_caller};
+    ghost use Rattle.cuckoo_map.specs.Callers.{pass_of, IsSameCaller, Replies, RepliesOn, KeepsNotes, StaysAsIs, StaysButDoublings, MeetsCaller, HearsMessage, message_of_caller, Drains, IsNotDrained, FindsHeldOfAny};
     ghost use Rattle.cuckoo_map.specs.Callers.{QueryLeaves, InsertionLeaves, Counts, GrowsTo, GrowsFor, IsBusyOn};
     ghost use Rattle.cuckoo_map.specs.Callers.{IsBusyOnSome, IsBusyOnAny, IsBusyOnTwo, FindsHeldOwn};
     ghost use Rattle.cuckoo_map.specs.Callers.{FindsHeldOfTwo, FindsHeldAmong, FindsHeldOfAny};
@@ -616,6 +616,42 @@ impl<'t, K: TableKey + Drop, V: Drop> Caller<'t, K, V> {
         ensures met { MeetsCaller self.old other.old other.new }
     {
         self.table.meet(&mut self.pass, &mut other.pass);
+    }
+
+    /// Unbinds all keys, and gives them with their values, in rising order of the keys. It locks the
+    /// table for that, and is one entry of the history. Refused as busy or for want of memory, it
+    /// changes no binding. The caller comes back in any case.
+    ///
+    /// ```
+    /// let (caller, pairs) = caller.drain(alloc).map_err(|(_, fault)| fault)?;
+    /// ```
+    pub fn drain(
+        self,
+        alloc: Global,
+    ) -> Result<(Caller<'t, K, V>, Vec<(K, V)>), (Caller<'t, K, V>, DrainFault)>
+        ensures same { MatchResult result
+            (λ back. IsSameCaller self.entry back.0)
+            (λ back. IsSameCaller self.entry back.0) }
+        ensures drained { IfOk result (λ back.
+            Drains K.name K.cmp self.entry back.0 back.1.items) }
+        ensures refused { IfErr result (λ back. IsNotDrained self.entry back.0 back.1) }
+        ensures notes { MatchResult result
+            (λ back. KeepsNotes self.entry back.0)
+            (λ back. KeepsNotes self.entry back.0) }
+        ensures found { MatchResult result
+            (λ back. FindsHeldOfAny self.entry back.0)
+            (λ back. FindsHeldOfAny self.entry back.0) }
+    {
+        let mut locked = match self.lock() {
+            Ok(locked) => locked,
+            Err((caller, busy)) => return Err((caller, DrainFault::Busy(busy.0))),
+        };
+        let pairs = locked.drain(alloc);
+        let caller = locked.unlock_caller();
+        match pairs {
+            Ok(pairs) => Ok((caller, pairs)),
+            Err(_) => Err((caller, DrainFault::Memory)),
+        }
     }
 }
 

@@ -37,7 +37,7 @@ impl<K: TableKey + Drop, V: Drop> Table<K, V> {
             × IsBusyAt K.hash self.now.settings (Q.name key) back.1.0 pass.old pass.new) }
         ensures found { FindsOwn K.hash self.now.settings (Q.name key) pass.old pass.new }
     {
-        let spot = match self.hold_key(pass, key) {
+        let spot = match self.lock_key(pass, key) {
             Ok(spot) => spot,
             Err(busy) => return Err((value, busy)),
         };
@@ -67,7 +67,7 @@ impl<K: TableKey + Drop, V: Drop> Table<K, V> {
         ensures queried { HasQueried (Changes (F.post f))
             K.hash self.now.settings (Q.name key) result pass.old pass.new }
     {
-        let spot = self.hold_key(pass, key)?;
+        let spot = self.lock_key(pass, key)?;
         let mut guard = guard!(&self.words, pass, spot.stripes);
         let bound = update_fn(&mut guard, spot.place, key, f);
         guard.commit_query(Commit::Change(Snapshot::of(&key)));
@@ -82,7 +82,7 @@ impl<K: TableKey + Drop, V: Drop> Table<K, V> {
         ensures queried { HasQueried Erases
             K.hash self.now.settings (Q.name key) result pass.old pass.new }
     {
-        let spot = self.hold_key(pass, key)?;
+        let spot = self.lock_key(pass, key)?;
         let mut guard = guard!(&self.words, pass, spot.stripes);
         let value = erase(&mut guard, spot.place, key);
         guard.commit_query(Commit::Erase(Snapshot::of(&key)));
@@ -128,7 +128,7 @@ impl<K: TableKey + Drop, V: Drop> Table<K, V> {
             × ErasesBy (FnOnceReturnsAt F.FnOnce f) P (result_ok answer))
             K.hash self.now.settings (Q.name key) result pass.old pass.new }
     {
-        let spot = self.hold_key(pass, key)?;
+        let spot = self.lock_key(pass, key)?;
         let mut guard = guard!(&self.words, pass, spot.stripes);
         let gone = erase_fn(&mut guard, spot.place, key, f);
         let said = chosen::<K, Q, V, F>(&gone, key, Commit::Erase(Snapshot::of(&key)));
@@ -176,7 +176,7 @@ impl<K: TableKey + Drop, V: Drop> Table<K, V> {
             × ReplacesIf (FnOnceReturnsAt F.FnOnce f) P (result_ok answer))
             K.hash self.now.settings (Q.name key) result pass.old pass.new }
     {
-        let spot = self.hold_key(pass, key)?;
+        let spot = self.lock_key(pass, key)?;
         let mut guard = guard!(&self.words, pass, spot.stripes);
         let replaced = replace_if(&mut guard, spot.place, key, f);
         let said = chosen::<K, Q, V, F>(&replaced, key, Commit::Change(Snapshot::of(&key)));
@@ -204,7 +204,7 @@ impl<K: TableKey + Drop, V: Drop> Table<K, V> {
         ensures queried { HasQueried (TriesChange (F.post f))
             K.hash self.now.settings (Q.name key) result pass.old pass.new }
     {
-        let spot = self.hold_key(pass, key)?;
+        let spot = self.lock_key(pass, key)?;
         let mut guard = guard!(&self.words, pass, spot.stripes);
         let outcome = try_update(&mut guard, spot.place, key, f);
         let said = Commit::Change(Snapshot::of(&key));

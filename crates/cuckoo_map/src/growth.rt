@@ -35,7 +35,7 @@ impl<K: TableKey + Drop, V: Drop> Table<K, V> {
         if max < power {
             return Err(GrowFault::OverMax);
         }
-        if let Err(Busy(stripe)) = self.hold_table(pass) {
+        if let Err(Busy(stripe)) = self.lock_all(pass) {
             return Err(GrowFault::Busy(stripe));
         }
         let all = self.words.all();

@@ -10,9 +10,9 @@ ghost use Rattle.cuckoo_map.specs.Holding.{IsHomeOf};
 ghost use Rattle.cuckoo_map.specs.Insertions.{HasFoundNoRoom, HasRoom, HasInserted, IsInserted, TellsOf};
 ghost use Rattle.cuckoo_map.specs.Refusals.{FindsOwn, FindsOwnUnlessFull};
 
-use crate::holding::Home;
-use crate::key_room::Room;
+use crate::locking::Home;
 use crate::refusal::{Refused, Why};
+use crate::room::Room;
 use crate::table::Table;
 use ck_key::TableKey;
 use ck_section::{Insertion, Uprased, insertion};
@@ -37,7 +37,7 @@ impl<K: TableKey + Drop, V: Drop> Table<K, V> {
         ensures inserted { HasInserted (Inserts value)
             K.hash self.now.settings (K.name key) key value result pass.old pass.new }
     {
-        self.place(pass, key, value, insertion::Insert)
+        self.make(pass, key, value, insertion::Insert)
     }
 
     /// Binds the key to the value, and gives the value that it had.
@@ -60,7 +60,7 @@ impl<K: TableKey + Drop, V: Drop> Table<K, V> {
         ensures inserted { HasInserted (Assigns value)
             K.hash self.now.settings (K.name key) key value result pass.old pass.new }
     {
-        self.place(pass, key, value, insertion::Assign)
+        self.make(pass, key, value, insertion::Assign)
     }
 
     /// Binds an unbound key to the value, and a bound one to what the closure makes of its value;
@@ -89,7 +89,7 @@ impl<K: TableKey + Drop, V: Drop> Table<K, V> {
         ensures inserted { HasInserted (Upserts (F.post f) value)
             K.hash self.now.settings (K.name key) key value result pass.old pass.new }
     {
-        self.place(pass, key, value, insertion::Upsert(f))
+        self.make(pass, key, value, insertion::Upsert(f))
     }
 
     /// Binds an unbound key to the value, and answers `Ok(true)`. A bound one is bound to the value
@@ -125,7 +125,7 @@ impl<K: TableKey + Drop, V: Drop> Table<K, V> {
         ensures inserted { HasInserted (TriesUpsert (F.post f) value)
             K.hash self.now.settings (K.name key) key value result pass.old pass.new }
     {
-        self.place(pass, key, value, insertion::TryUpsert(f))
+        self.make(pass, key, value, insertion::TryUpsert(f))
     }
 
     /// Binds an unbound key to what the closure makes, and says whether it was unbound. A bound key
@@ -159,7 +159,7 @@ impl<K: TableKey + Drop, V: Drop> Table<K, V> {
         ensures inserted { HasInserted (InsertsBy (F.post f))
             K.hash self.now.settings (K.name key) key f result pass.old pass.new }
     {
-        self.place(pass, key, f, insertion::InsertWith(PhantomData))
+        self.make(pass, key, f, insertion::InsertWith(PhantomData))
     }
 
     /// Binds an unbound key to the value. A bound one is bound to what the closure makes of its
@@ -193,7 +193,7 @@ impl<K: TableKey + Drop, V: Drop> Table<K, V> {
         ensures inserted { HasInserted (Uprases (F.post f) value)
             K.hash self.now.settings (K.name key) key value result pass.old pass.new }
     {
-        self.place(pass, key, value, insertion::Uprase(f))
+        self.make(pass, key, value, insertion::Uprase(f))
     }
 
     /// The value of the key. An unbound one is bound to what the closure makes; for a bound one the
@@ -227,7 +227,7 @@ impl<K: TableKey + Drop, V: Drop> Table<K, V> {
         ensures inserted { HasInserted (FindsOrInserts (F.post f))
             K.hash self.now.settings (K.name key) key f result pass.old pass.new }
     {
-        self.place(pass, key, f, insertion::GetOrInsertWith(PhantomData))
+        self.make(pass, key, f, insertion::GetOrInsertWith(PhantomData))
     }
 }
 
@@ -235,7 +235,7 @@ impl<K: TableKey + Drop, V: Drop> Table<K, V> {
     // Makes the insertion of the entry of the key. What may wait, where a stripe is held or no
     // entry was found, is a call of its own, so that nothing of it is in the way of the others.
     #[inline(always)]
-    fn place<I: Insertion<K, V>>(
+    fn make<I: Insertion<K, V>>(
         &self,
         pass: &mut Pass<K, V>,
         key: K,
@@ -245,14 +245,14 @@ impl<K: TableKey + Drop, V: Drop> Table<K, V> {
         requires caller { IsCaller self.now pass.old }
         requires call { I.can_make insertion value }
         ensures caller { IsCaller self.now pass.new }
-        ensures placed { HasInserted (TellsOf (I.tells insertion value))
+        ensures inserted { HasInserted (TellsOf (I.tells insertion value))
             K.hash self.now.settings (K.name key) key value result pass.old pass.new }
     {
         let since = Snapshot::of(pass);
         let home = self.home_of(&key);
         match self.words.lock_now(pass, home.stripes) {
-            Ok(()) => self.place_taken(pass, home, key, value, insertion, since),
-            Err(missed) => self.place_waiting(pass, missed, key, value, insertion, since),
+            Ok(()) => self.make_locked(pass, home, key, value, insertion, since),
+            Err(missed) => self.make_waiting(pass, missed, key, value, insertion, since),
         }
     }
 
@@ -261,7 +261,7 @@ impl<K: TableKey + Drop, V: Drop> Table<K, V> {
     // them. `since` is the pass as the call began.
     #[cold]
     #[inline(never)]
-    fn place_waiting<I: Insertion<K, V>>(
+    fn make_waiting<I: Insertion<K, V>>(
         &self,
         pass: &mut Pass<K, V>,
         missed: usize,
@@ -277,12 +277,12 @@ impl<K: TableKey + Drop, V: Drop> Table<K, V> {
             (own_numbers self.now.settings.s (K.hash (K.name key))) missed since.value pass.old }
         requires call { I.can_make insertion value }
         ensures caller { IsCaller self.now pass.new }
-        ensures placed { HasInserted (TellsOf (I.tells insertion value))
+        ensures inserted { HasInserted (TellsOf (I.tells insertion value))
             K.hash self.now.settings (K.name key) key value result since.value pass.new }
     {
         let home = self.home_of(&key);
         match self.words.lock_later(pass, home.stripes, missed) {
-            Ok(()) => self.place_taken(pass, home, key, value, insertion, since),
+            Ok(()) => self.make_locked(pass, home, key, value, insertion, since),
             Err(stripe) => {
                 let why = Why::Busy(stripe);
                 Err(Refused { key, value, why })
@@ -292,7 +292,7 @@ impl<K: TableKey + Drop, V: Drop> Table<K, V> {
 
     // The same for a key whose stripes were just taken.
     #[inline(always)]
-    fn place_taken<I: Insertion<K, V>>(
+    fn make_locked<I: Insertion<K, V>>(
         &self,
         pass: &mut Pass<K, V>,
         home: Home,
@@ -306,13 +306,13 @@ impl<K: TableKey + Drop, V: Drop> Table<K, V> {
         requires taken { HasTakenAll K.hash self.now (list_of home.stripes) since.value pass.old }
         requires call { I.can_make insertion value }
         ensures caller { IsCaller self.now pass.new }
-        ensures placed { HasInserted (TellsOf (I.tells insertion value))
+        ensures inserted { HasInserted (TellsOf (I.tells insertion value))
             K.hash self.now.settings (K.name key) key value result since.value pass.new }
     {
         let spot = self.spot_in(pass, &key, home);
         match self.find_room(pass, &key, spot, &since) {
-            Ok(room) => Ok(self.place_in(pass, room, key, value, insertion, since)),
-            Err(power) => self.place_later(pass, power, key, value, insertion, since),
+            Ok(room) => Ok(self.make_in(pass, room, key, value, insertion, since)),
+            Err(power) => self.make_with_room(pass, power, key, value, insertion, since),
         }
     }
 
@@ -320,7 +320,7 @@ impl<K: TableKey + Drop, V: Drop> Table<K, V> {
     // have gone home: it makes room.
     #[cold]
     #[inline(never)]
-    fn place_later<I: Insertion<K, V>>(
+    fn make_with_room<I: Insertion<K, V>>(
         &self,
         pass: &mut Pass<K, V>,
         power: u32,
@@ -336,18 +336,18 @@ impl<K: TableKey + Drop, V: Drop> Table<K, V> {
         requires found { FindsOwn K.hash self.now.settings (K.name key) since.value pass.old }
         requires call { I.can_make insertion value }
         ensures caller { IsCaller self.now pass.new }
-        ensures placed { HasInserted (TellsOf (I.tells insertion value))
+        ensures inserted { HasInserted (TellsOf (I.tells insertion value))
             K.hash self.now.settings (K.name key) key value result since.value pass.new }
     {
         match self.make_room(pass, &key, power) {
-            Ok(made) => Ok(self.place_in(pass, made, key, value, insertion, since)),
+            Ok(made) => Ok(self.make_in(pass, made, key, value, insertion, since)),
             Err(why) => Err(Refused { key, value, why }),
         }
     }
 
     // The same for a key that has this entry among the stripes that its pass holds, which go home.
     #[inline(always)]
-    fn place_in<I: Insertion<K, V>>(
+    fn make_in<I: Insertion<K, V>>(
         &self,
         pass: &mut Pass<K, V>,
         room: Room,

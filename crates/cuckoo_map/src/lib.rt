@@ -32,24 +32,28 @@
 //! needs.
 #![tactic(auto)]
 
+// The table, and who calls it.
 mod caller;
-mod changes;
-mod displacement;
-mod growth;
-mod holding;
-mod insertions;
-mod key_pairs;
-mod key_room;
-mod locked;
-mod locked_changes;
-mod locked_growth;
-mod look_ups;
-mod pairs;
-mod path_search;
 mod pool;
 mod refusal;
-mod size;
 mod table;
+
+// How each call locks its stripes.
+mod locking;
+
+// Calls on a key, on two, and on none.
+mod changes;
+mod growth;
+mod insertions;
+mod key_pairs;
+mod look_ups;
+mod size;
+
+// How an insertion comes to a slot for its key.
+mod room;
+
+// The table under one caller.
+mod locked;
 
 pub use caller::Caller;
 pub use ck_key::{KeyFault, MixedKey, NumKey, Query, TableKey, TextKey};

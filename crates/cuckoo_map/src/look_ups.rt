@@ -31,7 +31,7 @@ impl<K: TableKey + Drop, V: Drop> Table<K, V> {
         ensures queried { HasQueried (FindsBy (FnOnceReturnsAt F.FnOnce f))
             K.hash self.now.settings (Q.name key) result pass.old pass.new }
     {
-        let spot = self.hold_key(pass, key)?;
+        let spot = self.lock_key(pass, key)?;
         let mut guard = guard!(&self.words, pass, spot.stripes);
         let found = find(&mut guard, spot.place, key, f);
         guard.commit_query(Commit::Find(Snapshot::of(&key)));

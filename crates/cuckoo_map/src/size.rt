@@ -1,12 +1,10 @@
 //! How many keys are bound, how many buckets the table has, and what holds all stripes.
-ghost use Rattle.std.specs.Prelude.{◌≡◌, ◌*◌, ◌^◌, ◌≤◌, ℕ, OnOk, OnErr, IfOk, IfErr, nat_eq};
+ghost use Rattle.std.specs.Prelude.{◌≡◌, ◌*◌, ◌^◌, ◌≤◌, ℕ, OnOk, IfOk, IfErr, nat_eq};
 ghost use Rattle.ck_model.specs.declared.history.Call.TheVariants.{Len};
 ghost use Rattle.ck_model.specs.declared.history.Reply.TheVariants.{Count};
-ghost use Rattle.ck_stripe.specs.Tables.{IsTable, AreSettled};
-ghost use Rattle.ck_words.specs.Passes.{IsPassOf, IsIdle};
 ghost use Rattle.ck_words.specs.Retries.{Stays, FindsAmong};
 ghost use Rattle.ck_words.specs.Answering.{IsAnswered};
-ghost use Rattle.ck_words.specs.Closing.{IsCaller, IsWhole};
+ghost use Rattle.ck_words.specs.Closing.{IsCaller};
 ghost use Rattle.cuckoo_map.specs.Refusals.{IsStripeIn, IsBusyAmong};
 
 use crate::refusal::Busy;
@@ -30,7 +28,7 @@ impl<K: TableKey + Drop, V: Drop> Table<K, V> {
             self.now.settings busy.0 pass.old pass.new) }
         ensures found { FindsAmong (IsStripeIn self.now.settings) pass.old pass.new }
     {
-        self.hold_table(pass)?;
+        self.lock_all(pass)?;
         let all = self.words.all();
         let mut guard = guard!(&self.words, pass, all);
         let count = len(&mut guard, self.words.settings().s);
@@ -85,25 +83,6 @@ impl<K: TableKey + Drop, V: Drop> Table<K, V> {
         match self.words.power(pass) {
             Ok(power) => Ok(power),
             Err(stripe) => Err(Busy(stripe as u32)),
-        }
-    }
-
-    // Takes all stripes, and carries out the doublings that are left of them.
-    pub(crate) fn hold_table(&self, pass: &mut Pass<K, V>) -> Result<(), Busy>
-        requires caller { IsCaller self.now pass.old }
-        ensures own { IsPassOf self.now pass.new }
-        ensures stays { Stays pass.old.view pass.new.view }
-        ensures whole { OnOk result (IsWhole K.hash self.now.settings pass.new) }
-        ensures table { OnOk result (IsTable self.now.settings.s pass.new.stripes) }
-        ensures settled { OnOk result (AreSettled pass.new.stripes) }
-        ensures found { FindsAmong (IsStripeIn self.now.settings) pass.old pass.new }
-        ensures idle { OnErr result (IsIdle pass.new) }
-        ensures busy { IfErr result (λ busy. IsBusyAmong (IsStripeIn self.now.settings)
-            self.now.settings busy.0 pass.old pass.new) }
-    {
-        match self.words.lock_all(pass) {
-            Ok(()) => Ok(()),
-            Err(stripe) => Err(Busy(stripe)),
         }
     }
 }

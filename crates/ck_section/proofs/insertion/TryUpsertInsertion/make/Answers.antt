@@ -16,8 +16,7 @@ place-requires g c = ready_again _ _ _ _ c.requires.place _ refl c.in-Occupied.a
 pub returns-in-Occupied-clause-answered : goal.returns-in-Occupied-clause-answered
 returns-in-Occupied-clause-answered g c =
     let v = c.remove-own.result.1 in
-    let w = c.value_and_outcome-bound.result.0 in
-    (
+    let w = c.value_and_outcome-bound.result.0 in (
       Upsert c.args.value,
       Done v w,
       tried_upsert (goal.F-post g c.args.self.0) c.args.value (IsAct (Upsert c.args.value) (Done v w)) v w c.f.result c.value_and_outcome-bound.result.1 c.answer_of_bound.result c.value_and_outcome-bound.ensures c.answer_of_bound.ensures c.f.ensures (refl, refl),

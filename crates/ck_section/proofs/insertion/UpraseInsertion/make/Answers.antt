@@ -15,8 +15,7 @@ place-requires g c = ready_again _ _ _ _ c.requires.place _ refl c.in-Occupied.a
 pub returns-in-Some-clause-answered : goal.returns-in-Some-clause-answered
 returns-in-Some-clause-answered g c =
     let v = c.remove-own.result.1 in
-    let w = c.in-Some.new in
-    (
+    let w = c.in-Some.new in (
       Upsert c.args.value,
       Done v w,
       (v, w, c.in-Some.ensures, (refl, refl)),
@@ -30,8 +29,7 @@ returns-in-Some-clause-rest g c = put_back_changes _ _ _ _ c.requires.place _ re
 -- the closure made nothing
 pub returns-in-Occupied-clause-answered : goal.returns-in-Occupied-clause-answered
 returns-in-Occupied-clause-answered g c =
-    let v = c.remove-own.result.1 in
-    (
+    let v = c.remove-own.result.1 in (
       Erase,
       Was (Some v),
       (v, c.in-None.ensures, (refl, refl)),

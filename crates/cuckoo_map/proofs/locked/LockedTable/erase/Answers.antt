@@ -4,15 +4,15 @@ use Rattle.cuckoo_map.proofs.Sessions.{only_stripes, place_held, acted_locked, h
 use Rattle.cuckoo_map.proofs.locked.LockedTable.erase.Goals as goal
 
 pub erase-requires : goal.erase-requires
-erase-requires g c = place_held c.self.inside.whole c.self.view_is (g.Q.Query.name c.args.key) c.place-place.result c.place-place.ensures.place
+erase-requires g c = place_held c.self.inside.whole c.self.view_is (g.Q.Query.name c.args.key) c.key_place-place.result c.key_place-place.ensures.place
 
 pub invariant_of-self : goal.invariant_of-self
 invariant_of-self g c =
-    acted_locked c.self.invariant c.self.view_is c.place-place.result c.place-place.ensures.s (g.Q.Query.name c.args.key) c.erase.new.held
+    acted_locked c.self.invariant c.self.view_is c.key_place-place.result c.key_place-place.ensures.s (g.Q.Query.name c.args.key) c.erase.new.held
     (only_stripes c.self.inside.whole c.erase.new.held c.erase.ensures.stays) Erase (Was c.erase.result) c.erase.ensures.rest c.erase.ensures.call
 
 pub returns : goal.returns
 returns g c =
-    let changed = has_changed c.self.invariant c.self.view_is c.place-place.result c.place-place.ensures.s (g.Q.Query.name c.args.key) c.erase.new.held
+    let changed = has_changed c.self.invariant c.self.view_is c.key_place-place.result c.key_place-place.ensures.s (g.Q.Query.name c.args.key) c.erase.new.held
     (only_stripes c.self.inside.whole c.erase.new.held c.erase.ensures.stays) in
     changed Erase (Was c.erase.result) c.erase.ensures.rest c.erase.ensures.call

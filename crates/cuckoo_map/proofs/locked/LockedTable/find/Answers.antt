@@ -13,8 +13,8 @@ pub returns : goal.returns
 returns g c =
     let hash = g.K.TableKey.hash in
     let q = g.Q.Query.name c.args.key in
-    let place = c.place.result in
+    let place = c.key_place.result in
     let o = option_copied c.find_in_all.result in
-    let same = c.place.ensures.s ∙ sym (ap (λ (l : LockedState g.row.V.Denot). l.caller.table.settings.s) c.self.view_is) in
+    let same = c.key_place.ensures.s ∙ sym (ap (λ (l : LockedState g.row.V.Denot). l.caller.table.settings.s) c.self.view_is) in
     let call = subst (λ (ss : List (StripeState g.row.V.Denot)). IsCallOn hash place.s ss q Find (Was o) ss) c.stripes_of.ensures c.find_in_all.ensures in
     looked_up hash c.self.inside.table.now c.self.inside.whole c.self.invariant place same q o call ∙ ap (λ (l : LockedState g.row.V.Denot). get (map_of l) q) c.self.view_is

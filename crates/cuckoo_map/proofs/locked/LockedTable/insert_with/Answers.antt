@@ -6,9 +6,9 @@ use Rattle.cuckoo_map.proofs.locked.LockedTable.insert_with.Goals as goal
 pub returns : goal.returns
 returns g c =
     record {
-      answered = IfOk-weaker c.put.result _ _
-          (λ fresh told. as_inserted (HasActed (g.K.TableKey.name c.args.key) c.args.self.now c.put.new.self) _ fresh told.0 told.1 told.2 told.3)
-          c.put.ensures.answered;
-      refused = c.put.ensures.refused;
-      grows = c.put.ensures.grows;
+      answered = IfOk-weaker c.make.result _ _
+          (λ fresh told. as_inserted (HasActed (g.K.TableKey.name c.args.key) c.args.self.now c.make.new.self) _ fresh told.0 told.1 told.2 told.3)
+          c.make.ensures.answered;
+      refused = c.make.ensures.refused;
+      grows = c.make.ensures.grows;
     }

@@ -6,11 +6,11 @@ use Rattle.cuckoo_map.proofs.Sessions.{only_stripes, place_held, acted_locked, h
 use Rattle.cuckoo_map.proofs.locked.LockedTable.replace_if.Goals as goal
 
 pub replace_if-replaced-requires-clause-place : goal.replace_if-replaced-requires-clause-place
-replace_if-replaced-requires-clause-place g c = place_held c.self.inside.whole c.self.view_is (g.Q.Query.name c.args.key) c.place-place.result c.place-place.ensures.place
+replace_if-replaced-requires-clause-place g c = place_held c.self.inside.whole c.self.view_is (g.Q.Query.name c.args.key) c.key_place-place.result c.key_place-place.ensures.place
 
 pub invariant_of-self : goal.invariant_of-self
 invariant_of-self g c =
-    let still = acted_locked c.self.invariant c.self.view_is c.place-place.result c.place-place.ensures.s (g.Q.Query.name c.args.key) c.replace_if-replaced.new.held
+    let still = acted_locked c.self.invariant c.self.view_is c.key_place-place.result c.key_place-place.ensures.s (g.Q.Query.name c.args.key) c.replace_if-replaced.new.held
     (only_stripes c.self.inside.whole c.replace_if-replaced.new.held c.replace_if-replaced.ensures.stays) in
     by_result c.replace_if-replaced.result _ _ _ c.replace_if-replaced.ensures.bound c.replace_if-replaced.ensures.unbound
     (λ replaced x. by_bool replaced _ _ _ x.1
@@ -20,7 +20,7 @@ invariant_of-self g c =
 
 pub returns : goal.returns
 returns g c =
-    let changed = has_changed c.self.invariant c.self.view_is c.place-place.result c.place-place.ensures.s (g.Q.Query.name c.args.key) c.replace_if-replaced.new.held
+    let changed = has_changed c.self.invariant c.self.view_is c.key_place-place.result c.key_place-place.ensures.s (g.Q.Query.name c.args.key) c.replace_if-replaced.new.held
     (only_stripes c.self.inside.whole c.replace_if-replaced.new.held c.replace_if-replaced.ensures.stays) in
     rw (c.ok.ensures.value) (map_answer c.replace_if-replaced.result _ _ _ _ c.replace_if-replaced.ensures.bound c.replace_if-replaced.ensures.unbound
     (λ replaced x. (

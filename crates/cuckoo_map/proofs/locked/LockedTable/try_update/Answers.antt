@@ -5,11 +5,11 @@ use Rattle.cuckoo_map.proofs.Sessions.{only_stripes, place_held, acted_locked, h
 use Rattle.cuckoo_map.proofs.locked.LockedTable.try_update.Goals as goal
 
 pub try_update-outcome-requires-clause-place : goal.try_update-outcome-requires-clause-place
-try_update-outcome-requires-clause-place g c = place_held c.self.inside.whole c.self.view_is (g.Q.Query.name c.args.key) c.place-place.result c.place-place.ensures.place
+try_update-outcome-requires-clause-place g c = place_held c.self.inside.whole c.self.view_is (g.Q.Query.name c.args.key) c.key_place-place.result c.key_place-place.ensures.place
 
 pub invariant_of-self : goal.invariant_of-self
 invariant_of-self g c =
-    let still = acted_locked c.self.invariant c.self.view_is c.place-place.result c.place-place.ensures.s (g.Q.Query.name c.args.key) c.try_update-outcome.new.held
+    let still = acted_locked c.self.invariant c.self.view_is c.key_place-place.result c.key_place-place.ensures.s (g.Q.Query.name c.args.key) c.try_update-outcome.new.held
     (only_stripes c.self.inside.whole c.try_update-outcome.new.held c.try_update-outcome.ensures.stays) in
     by_result c.try_update-outcome.result _ _ _ c.try_update-outcome.ensures.bound c.try_update-outcome.ensures.unbound
     (λ outcome x. still Change (Done x.0 x.1) c.try_update-outcome.ensures.rest x.3)
@@ -17,7 +17,7 @@ invariant_of-self g c =
 
 pub returns : goal.returns
 returns g c =
-    let changed = has_changed c.self.invariant c.self.view_is c.place-place.result c.place-place.ensures.s (g.Q.Query.name c.args.key) c.try_update-outcome.new.held
+    let changed = has_changed c.self.invariant c.self.view_is c.key_place-place.result c.key_place-place.ensures.s (g.Q.Query.name c.args.key) c.try_update-outcome.new.held
     (only_stripes c.self.inside.whole c.try_update-outcome.new.held c.try_update-outcome.ensures.stays) in
     rw (c.ok.ensures.value) (map_answer c.try_update-outcome.result _ _ _ _ c.try_update-outcome.ensures.bound c.try_update-outcome.ensures.unbound
     (λ outcome x. (x.0, x.1, x.2, changed Change (Done x.0 x.1) c.try_update-outcome.ensures.rest x.3))

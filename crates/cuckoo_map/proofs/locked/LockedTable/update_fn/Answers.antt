@@ -5,11 +5,11 @@ use Rattle.cuckoo_map.proofs.Sessions.{only_stripes, place_held, acted_locked, h
 use Rattle.cuckoo_map.proofs.locked.LockedTable.update_fn.Goals as goal
 
 pub update_fn-requires-clause-place : goal.update_fn-requires-clause-place
-update_fn-requires-clause-place g c = place_held c.self.inside.whole c.self.view_is (g.Q.Query.name c.args.key) c.place-place.result c.place-place.ensures.place
+update_fn-requires-clause-place g c = place_held c.self.inside.whole c.self.view_is (g.Q.Query.name c.args.key) c.key_place-place.result c.key_place-place.ensures.place
 
 pub invariant_of-self : goal.invariant_of-self
 invariant_of-self g c =
-    let still = acted_locked c.self.invariant c.self.view_is c.place-place.result c.place-place.ensures.s (g.Q.Query.name c.args.key) c.update_fn.new.held
+    let still = acted_locked c.self.invariant c.self.view_is c.key_place-place.result c.key_place-place.ensures.s (g.Q.Query.name c.args.key) c.update_fn.new.held
     (only_stripes c.self.inside.whole c.update_fn.new.held c.update_fn.ensures.stays) in
     by_bool c.update_fn.result _ _ _ c.update_fn.ensures.call
     (λ x. still Change (Done x.0 x.1) c.update_fn.ensures.rest x.3)
@@ -17,7 +17,7 @@ invariant_of-self g c =
 
 pub returns : goal.returns
 returns g c =
-    let changed = has_changed c.self.invariant c.self.view_is c.place-place.result c.place-place.ensures.s (g.Q.Query.name c.args.key) c.update_fn.new.held
+    let changed = has_changed c.self.invariant c.self.view_is c.key_place-place.result c.key_place-place.ensures.s (g.Q.Query.name c.args.key) c.update_fn.new.held
     (only_stripes c.self.inside.whole c.update_fn.new.held c.update_fn.ensures.stays) in
     map_bool c.update_fn.result _ _ _ _ c.update_fn.ensures.call
     (λ x. (x.0, x.1, x.2, changed Change (Done x.0 x.1) c.update_fn.ensures.rest x.3))

@@ -7,10 +7,10 @@ use Rattle.cuckoo_map.proofs.locked.LockedTable.uprase.Goals as goal
 pub returns : goal.returns
 returns g c =
     record {
-      answered = IfOk-weaker c.put.result _ _
-          (λ answer told. as_uprased (HasActed (g.K.TableKey.name c.args.key) c.args.self.now c.put.new.self)
+      answered = IfOk-weaker c.make.result _ _
+          (λ answer told. as_uprased (HasActed (g.K.TableKey.name c.args.key) c.args.self.now c.make.new.self)
           (λ (v : g.row.V.Denot) (o : Option g.row.V.Denot). g.F.FnOnce.post c.args.f (v, tt) o) c.args.value answer told.0 told.1 told.2 told.3)
-          c.put.ensures.answered;
-      refused = c.put.ensures.refused;
-      grows = c.put.ensures.grows;
+          c.make.ensures.answered;
+      refused = c.make.ensures.refused;
+      grows = c.make.ensures.grows;
     }

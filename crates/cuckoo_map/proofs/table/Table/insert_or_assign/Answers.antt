@@ -6,9 +6,9 @@ use Rattle.cuckoo_map.proofs.table.Table.insert_or_assign.Goals as goal
 pub returns-clause-inserted : goal.returns-clause-inserted
 returns-clause-inserted g c =
     record {
-      answered = IfOk-weaker c.place.result _ _
-          (λ old told. as_said (IsInserted g.K.TableKey.hash c.args.self.now.settings (g.K.TableKey.name c.args.key) c.args.pass.now c.place.new.pass) told.2 told.3)
-          c.place.ensures.placed.answered;
-      refused = c.place.ensures.placed.refused;
-      found = c.place.ensures.placed.found;
+      answered = IfOk-weaker c.make.result _ _
+          (λ old told. as_said (IsInserted g.K.TableKey.hash c.args.self.now.settings (g.K.TableKey.name c.args.key) c.args.pass.now c.make.new.pass) told.2 told.3)
+          c.make.ensures.inserted.answered;
+      refused = c.make.ensures.inserted.refused;
+      found = c.make.ensures.inserted.found;
     }

@@ -8,10 +8,10 @@ pub invariant_of-result : goal.invariant_of-result
 invariant_of-result g c =
     let h = c.in-Ok.ensures in
     subst (λ (p : PassState g.row.V.Denot). IsLocked g.K.TableKey.hash c.args.self.now p) (sym c.lift.ensures)
-    (locked_by g.K.TableKey.hash c.args.self.now c.args.pass c.hold_table.new.pass h.stays h.whole c.requires h.own h.table h.settled)
+    (locked_by g.K.TableKey.hash c.args.self.now c.args.pass c.lock_all.new.pass h.stays h.whole c.requires h.own h.table h.settled)
 
 pub returns-in-Ok-clause-locked : goal.returns-in-Ok-clause-locked
 returns-in-Ok-clause-locked g c =
     let h = c.in-Ok.ensures in
     subst (λ (p : PassState g.row.V.Denot). HasLocked c.args.self.now c.args.pass (locked_of c.args.self.now p)) (sym c.lift.ensures)
-    (has_locked g.K.TableKey.hash c.args.self.now c.args.pass c.hold_table.new.pass c.requires h.stays h.whole h.found)
+    (has_locked g.K.TableKey.hash c.args.self.now c.args.pass c.lock_all.new.pass c.requires h.stays h.whole h.found)

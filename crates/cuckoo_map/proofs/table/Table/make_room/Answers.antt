@@ -31,18 +31,18 @@ returns-in-Err-clause-refused g c = λ p full own.
     refused_after q c.args.self.now g.K.TableKey.hash p c.args.pass.now c.tries.pass c.displace.new.pass full own c.tries.invariant.tried (Busy c.in-Err.field-0.0) busy
 
 -- a stripe of the key was found held
-pub returns-in-Err-hold_key-clause-found : goal.returns-in-Err-hold_key-clause-found
-returns-in-Err-hold_key-clause-found g c = λ p full own.
+pub returns-in-Err-lock_key-clause-found : goal.returns-in-Err-lock_key-clause-found
+returns-in-Err-lock_key-clause-found g c = λ p full own.
     let q = g.K.TableKey.name c.args.key.now in
     let tried = tried_on q c.args.self.now c.args.pass.now c.tries.pass c.displace.new.pass c.tries.invariant.tried c.displace.ensures.back in
-    found_since_full q c.args.self.now g.K.TableKey.hash p c.args.pass.now c.displace.new.pass c.hold_key.new.pass full own tried [] (loosely c.in-Err-hold_key.ensures.busy.stays) (any_among _ c.displace.new.pass c.hold_key.new.pass c.hold_key.ensures.found)
+    found_since_full q c.args.self.now g.K.TableKey.hash p c.args.pass.now c.displace.new.pass c.lock_key.new.pass full own tried [] (loosely c.in-Err-lock_key.ensures.busy.stays) (any_among _ c.displace.new.pass c.lock_key.new.pass c.lock_key.ensures.found)
 
-pub returns-in-Err-hold_key-clause-refused : goal.returns-in-Err-hold_key-clause-refused
-returns-in-Err-hold_key-clause-refused g c = λ p full own.
+pub returns-in-Err-lock_key-clause-refused : goal.returns-in-Err-lock_key-clause-refused
+returns-in-Err-lock_key-clause-refused g c = λ p full own.
     let q = g.K.TableKey.name c.args.key.now in
     let tried = tried_on q c.args.self.now c.args.pass.now c.tries.pass c.displace.new.pass c.tries.invariant.tried c.displace.ensures.back in
-    let busy = refused_busy g.K.TableKey.hash c.args.self.now.settings q c.in-Err-hold_key.field-0.0 c.displace.new.pass c.hold_key.new.pass c.in-Err-hold_key.ensures.busy in
-    refused_after q c.args.self.now g.K.TableKey.hash p c.args.pass.now c.displace.new.pass c.hold_key.new.pass full own tried (Busy c.in-Err-hold_key.field-0.0) busy
+    let busy = refused_busy g.K.TableKey.hash c.args.self.now.settings q c.in-Err-lock_key.field-0.0 c.displace.new.pass c.lock_key.new.pass c.in-Err-lock_key.ensures.busy in
+    refused_after q c.args.self.now g.K.TableKey.hash p c.args.pass.now c.displace.new.pass c.lock_key.new.pass full own tried (Busy c.in-Err-lock_key.field-0.0) busy
 
 -- the key has an entry
 pub returns-in-Ok-find_room-clause-room : goal.returns-in-Ok-find_room-clause-room

@@ -13,7 +13,7 @@ use Rattle.cuckoo_map.proofs.table.Table.make_room_in_all.Goals as goal
 pub returns-in-Err-clause-refused : goal.returns-in-Err-clause-refused
 returns-in-Err-clause-refused g c =
     let set = c.args.self.now.settings in
-    refused_among (IsStripeIn set) g.K.TableKey.hash set (λ t l. l) (g.K.TableKey.name c.args.key.now) c.in-Err.field-0.0 c.args.pass.now c.hold_table.new.pass c.in-Err.ensures.busy
+    refused_among (IsStripeIn set) g.K.TableKey.hash set (λ t l. l) (g.K.TableKey.name c.args.key.now) c.in-Err.field-0.0 c.args.pass.now c.lock_all.new.pass c.in-Err.ensures.busy
 
 pub returns-in-Err-make_room_held-clause-refused : goal.returns-in-Err-make_room_held-clause-refused
 returns-in-Err-make_room_held-clause-refused g c =
@@ -22,13 +22,13 @@ returns-in-Err-make_room_held-clause-refused g c =
     let set = w.settings in
     let q = g.K.TableKey.name c.args.key.now in
     let p = c.args.pass.now in
-    let p1 = c.hold_table.new.pass in
+    let p1 = c.lock_all.new.pass in
     let p2 = c.make_room_held.new.pass in
     let z = c.refuse.new.self.pass.now in
     let lack = c.in-Err-make_room_held.lack in
-    let grounds = gives_grounds hash w p p1 p2 z c.hold_table.ensures.stays c.in_default.ensures.whole c.make_room_held.ensures.view c.make_room_held.ensures.renewed
+    let grounds = gives_grounds hash w p p1 p2 z c.lock_all.ensures.stays c.in_default.ensures.whole c.make_room_held.ensures.view c.make_room_held.ensures.renewed
     q (reason_of_lack lack) c.in-Err-make_room_held.ensures.grounds c.refuse.ensures.refused.seen c.refuse.ensures.told in
     let there : z ≡ c.pass-1.given.0 = search rules in
     rw (← there) (subst (λ (why : Why). IsRefused hash set q why p z) (sym c.of.ensures)
-    (refused_there p p1 p2 c.hold_table.ensures.stays c.make_room_held.ensures.view hash set q _ lack z c.refuse.ensures.refused grounds
+    (refused_there p p1 p2 c.lock_all.ensures.stays c.make_room_held.ensures.view hash set q _ lack z c.refuse.ensures.refused grounds
     (grown_by p2 p2 z refl (changes_none _ _ refl) c.refuse.ensures.doubled p2 c.make_room_held.ensures.grown (stays_same p2.view) ([], c.refuse.ensures.refused.seen ∙ sym (append-nil p2.view.seen)))))

@@ -1,0 +1,14 @@
+use Rattle.std.proofs.Common.{List, subst}
+use Rattle.ck_stripe.specs.Stripe.{StripeState}
+use Rattle.ck_section.proofs.Decided.{IsCallOn}
+use Rattle.cuckoo_map.proofs.locked.insertions.make_in.Goals as goal
+
+pub returns-in-Some-clause-call : goal.returns-in-Some-clause-call
+returns-in-Some-clause-call g c =
+    let made = c.make-answer.ensures.answered in (
+      made.0,
+      made.1,
+      made.2,
+      subst (λ (ss : List (StripeState g.row.V.Denot)). IsCallOn g.K.TableKey.hash c.args.place.s ss (g.K.TableKey.name c.args.key) made.0 made.1 c.make-answer.new.held.stripes)
+          c.find_entry.ensures.same made.4,
+    )

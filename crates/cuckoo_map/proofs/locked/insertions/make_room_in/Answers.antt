@@ -1,0 +1,8 @@
+use Rattle.cuckoo_map.proofs.Sessions.{seeks_room}
+use Rattle.cuckoo_map.proofs.locked.insertions.make_room_in.Goals as goal
+
+pub returns-clause-room : goal.returns-clause-room
+returns-clause-room g c =
+    let made = c.make_room-made in
+    seeks_room g.K.TableKey.hash c.args.settings (g.K.TableKey.name c.args.key.now) made.result c.args.whole.now.stripes made.new.held.stripes c.settle_all.new.held.stripes c.settle_all.ensures.settled
+    made.ensures.table made.ensures.no_call made.ensures.room made.ensures.refused made.ensures.doubled

@@ -1,0 +1,158 @@
+//! Locking stripes: those of a key, of two keys, or all.
+ghost use Rattle.std.specs.Prelude.{◌≡◌, OnOk, OnErr, IfOk, IfErr};
+ghost use Rattle.ck_stripe.specs.Tables.{AreHeld, IsTable, AreSettled};
+ghost use Rattle.ck_words.specs.Passes.{PassState, IsPassOf, IsIdle, numbers_of};
+ghost use Rattle.ck_words.specs.StripeSets.{list_of};
+ghost use Rattle.ck_words.specs.Holding.{HasTakenAll};
+ghost use Rattle.ck_words.specs.Closing.{IsCaller, IsWhole};
+ghost use Rattle.ck_words.specs.Retries.{FindsAmong, Stays};
+ghost use Rattle.cuckoo_map.specs.Holding.{HasSpot, IsHomeOf, HoldsKey};
+ghost use Rattle.cuckoo_map.specs.Refusals.{FindsOwn, IsBusyAt, IsBusyAmong, IsStripeOfEither, IsStripeIn};
+
+use crate::refusal::Busy;
+use crate::table::Table;
+use ck_key::{KeyHash, Query, TableKey};
+use ck_section::{KeyPlace, key_place};
+use ck_words::{Pass, StripeSet, guard};
+
+// The stripes of a key, and its hash.
+#[derive(Clone, Copy)]
+pub(crate) struct Home {
+    pub(crate) stripes: StripeSet,
+    pub(crate) hash: KeyHash,
+}
+
+// The stripes that a pass holds, and where its key may be among them.
+#[derive(Clone, Copy)]
+pub(crate) struct Spot {
+    pub(crate) stripes: StripeSet,
+    pub(crate) place: KeyPlace,
+}
+
+// The stripes of two keys, which their pass holds, and where each key may be among them.
+#[derive(Clone, Copy)]
+pub(crate) struct Spots {
+    pub(crate) stripes: StripeSet,
+    pub(crate) first: KeyPlace,
+    pub(crate) second: KeyPlace,
+}
+
+impl<K: TableKey + Drop, V: Drop> Table<K, V> {
+    // Takes the stripes of the key, and carries out a doubling that is left to be. Where the key
+    // may be among them comes back.
+    #[inline(always)]
+    pub(crate) fn lock_key<Q: Query<K>>(&self, pass: &mut Pass<K, V>, key: Q) -> Result<Spot, Busy>
+        requires caller { IsCaller self.now pass.old }
+        ensures own { IsPassOf self.now pass.new }
+        ensures spot { IfOk result (λ spot.
+            HasSpot K.hash self.now.settings (Q.name key) spot pass.old pass.new) }
+        ensures found { FindsOwn K.hash self.now.settings (Q.name key) pass.old pass.new }
+        ensures idle { OnErr result (IsIdle pass.new) }
+        ensures busy { IfErr result (λ busy.
+            IsBusyAt K.hash self.now.settings (Q.name key) busy.0 pass.old pass.new) }
+    {
+        let home = self.home_of(key);
+        // What may wait is called right here: each function that it is inlined through would cost
+        // one more test.
+        if let Err(i) = self.words.lock_now(pass, home.stripes) {
+            if let Err(stripe) = self.words.lock_later(pass, home.stripes, i) {
+                return Err(Busy(stripe));
+            }
+        }
+        Ok(self.spot_in(pass, key, home))
+    }
+
+    // The stripes of the key, and its hash.
+    #[inline(always)]
+    pub(crate) fn home_of<Q: Query<K>>(&self, key: Q) -> Home
+        ensures { IsHomeOf K.hash self.now.settings (Q.name key) result }
+    {
+        let hash = KeyHash::of::<K, Q>(key);
+        let stripes = StripeSet::of_key(self.words.settings().s, hash);
+        Home { stripes, hash }
+    }
+
+    // Carries out a doubling that is left of the key's stripes, which were just taken. Where the
+    // key may be among them comes back.
+    #[inline(always)]
+    pub(crate) fn spot_in<Q: Query<K>>(&self, pass: &mut Pass<K, V>, key: Q, home: Home) -> Spot
+        requires home { IsHomeOf K.hash self.now.settings (Q.name key) home }
+        requires taken { (p : PassState V)
+            × HasTakenAll K.hash self.now (list_of home.stripes) p pass.old }
+        ensures own { IsPassOf self.now pass.new }
+        ensures spot { (p : PassState V)
+            → HasTakenAll K.hash self.now (list_of home.stripes) p pass.old
+            → HasSpot K.hash self.now.settings (Q.name key) result p pass.new }
+        ensures found { (p : PassState V)
+            → HasTakenAll K.hash self.now (list_of home.stripes) p pass.old
+            → FindsOwn K.hash self.now.settings (Q.name key) p pass.new }
+    {
+        let Home { stripes, hash } = home;
+        self.words.settle_taken(pass, stripes);
+        let mut guard = guard!(&self.words, pass, stripes);
+        let place = key_place(&mut guard, stripes.s, key, hash);
+        Spot { stripes, place }
+    }
+
+    // Takes the stripes of both keys, and carries out the doublings that are left to be. Where the
+    // keys may be among them comes back.
+    pub(crate) fn lock_keys<Q: Query<K>>(
+        &self,
+        pass: &mut Pass<K, V>,
+        a: Q,
+        b: Q,
+    ) -> Result<Spots, Busy>
+        requires caller { IsCaller self.now pass.old }
+        ensures own { IsPassOf self.now pass.new }
+        ensures first { IfOk result (λ spots.
+            HoldsKey K.hash self.now.settings (Q.name a) spots.first pass.old pass.new) }
+        ensures second { IfOk result (λ spots.
+            HoldsKey K.hash self.now.settings (Q.name b) spots.second pass.old pass.new) }
+        ensures s { IfOk result (λ spots. spots.stripes.s ≡ self.now.settings.s) }
+        ensures numbered { IfOk result (λ spots.
+            numbers_of pass.new.stripes ≡ list_of spots.stripes) }
+        ensures settled { OnOk result (AreHeld self.now.settings.s pass.new.stripes) }
+        ensures found { FindsAmong
+            (IsStripeOfEither K.hash self.now.settings (Q.name a) (Q.name b))
+            pass.old pass.new }
+        ensures idle { OnErr result (IsIdle pass.new) }
+        ensures busy { IfErr result (λ busy. IsBusyAmong
+            (IsStripeOfEither K.hash self.now.settings (Q.name a) (Q.name b))
+            self.now.settings busy.0 pass.old pass.new) }
+    {
+        let s = self.words.settings().s;
+        let hash_a = KeyHash::of::<K, Q>(a);
+        let hash_b = KeyHash::of::<K, Q>(b);
+        let stripes = StripeSet::of_two_keys(s, hash_a, hash_b);
+        if let Err(stripe) = self.words.lock(pass, stripes) {
+            return Err(Busy(stripe));
+        }
+        let mut guard = guard!(&self.words, pass, stripes);
+        let first = key_place(&mut guard, stripes.s, a, hash_a);
+        let second = key_place(&mut guard, stripes.s, b, hash_b);
+        Ok(Spots {
+            stripes,
+            first,
+            second,
+        })
+    }
+
+    // Takes all stripes, and carries out the doublings that are left of them.
+    pub(crate) fn lock_all(&self, pass: &mut Pass<K, V>) -> Result<(), Busy>
+        requires caller { IsCaller self.now pass.old }
+        ensures own { IsPassOf self.now pass.new }
+        ensures stays { Stays pass.old.view pass.new.view }
+        ensures whole { OnOk result (IsWhole K.hash self.now.settings pass.new) }
+        ensures table { OnOk result (IsTable self.now.settings.s pass.new.stripes) }
+        ensures settled { OnOk result (AreSettled pass.new.stripes) }
+        ensures found { FindsAmong (IsStripeIn self.now.settings) pass.old pass.new }
+        ensures idle { OnErr result (IsIdle pass.new) }
+        ensures busy { IfErr result (λ busy. IsBusyAmong (IsStripeIn self.now.settings)
+            self.now.settings busy.0 pass.old pass.new) }
+    {
+        match self.words.lock_all(pass) {
+            Ok(()) => Ok(()),
+            Err(stripe) => Err(Busy(stripe)),
+        }
+    }
+}

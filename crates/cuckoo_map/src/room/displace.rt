@@ -1,0 +1,124 @@
+//! Making room for a key whose buckets are full: other entries go to their other buckets, or in the
+//! end the table grows.
+ghost use Rattle.std.specs.Prelude.{◌≡◌, ◌^◌, ◌<◌, ◌≤◌, OnErr, IfOk, IfErr};
+ghost use Rattle.ck_model.specs.Arithmetic.{alternate_of};
+ghost use Rattle.ck_words.specs.Passes.{IsPassOf, IsIdle};
+ghost use Rattle.ck_words.specs.Closing.{IsCaller};
+ghost use Rattle.cuckoo_map.specs.Insertions.{HasRoom};
+ghost use Rattle.cuckoo_map.specs.Refusals.{FindsOwnUnlessFull, IsRefused};
+ghost use Rattle.cuckoo_map.specs.Displacing.{EndsBack, SinceFull};
+
+use crate::refusal::{Busy, Why};
+use crate::room::Room;
+use crate::room::search::Searched;
+use crate::table::Table;
+use ck_key::{KeyHash, TableKey};
+use ck_path::Path;
+use ck_section::{Hop, make_hop};
+use ck_words::{Pass, StripeSet, guard};
+use std::snapshot::Snapshot;
+
+impl<K: TableKey + Drop, V: Drop> Table<K, V> {
+    // Makes room for an unbound key whose buckets were found full, in a table of 2^power buckets,
+    // and takes its stripes. It displaces entries in at most `rounds` tries, the last of which is
+    // one that finds no path. Then it takes all stripes.
+    #[cold]
+    #[inline(never)]
+    pub(crate) fn make_room(&self, pass: &mut Pass<K, V>, key: &K, power: u32) -> Result<Room, Why>
+        requires caller { IsCaller self.now pass.old }
+        requires power { power ≤ 26 }
+        ensures own { IsPassOf self.now pass.new }
+        ensures room { IfOk result (λ room.
+            SinceFull K.hash self.now.settings (K.name key.now) pass.old (λ p.
+            HasRoom K.hash self.now.settings (K.name key.now) room p pass.new)) }
+        ensures found { SinceFull K.hash self.now.settings (K.name key.now) pass.old (λ p.
+            FindsOwnUnlessFull K.hash self.now.settings (K.name key.now) p pass.new) }
+        ensures idle { OnErr result (IsIdle pass.new) }
+        ensures refused { IfErr result (λ why.
+            SinceFull K.hash self.now.settings (K.name key.now) pass.old (λ p.
+            IsRefused K.hash self.now.settings (K.name key.now) why p pass.new)) }
+    {
+        let hash = KeyHash::of(key);
+        let mut power = power;
+        'tries: for _ in 0..self.words.settings().rounds {
+            match self.displace(pass, hash, power) {
+                Ok(true) => {}
+                Ok(false) => break,
+                Err(Busy(stripe)) => return Err(Why::Busy(stripe)),
+            }
+            let since = Snapshot::of(pass);
+            let spot = match self.lock_key(pass, key) {
+                Ok(spot) => spot,
+                Err(Busy(stripe)) => return Err(Why::Busy(stripe)),
+            };
+            match self.find_room(pass, key, spot, &since) {
+                Ok(room) => return Ok(room),
+                Err(seen) => power = seen,
+            }
+        }
+        self.make_room_in_all(pass, key)
+    }
+
+    // One try to make room in a bucket of the hash: a search, and the hops of the path that it
+    // found. False where there was no path, so that another try is of no use.
+    fn displace(&self, pass: &mut Pass<K, V>, hash: KeyHash, power: u32) -> Result<bool, Busy>
+        requires own { IsPassOf self.now pass.old }
+        requires idle { IsIdle pass.old }
+        requires power { power ≤ 26 }
+        ensures { EndsBack self.now result pass.old pass.new }
+    {
+        match self.search_path(pass, hash, power)? {
+            Searched::Path(path) => self.follow(pass, &path)?,
+            Searched::OutOfDate => {}
+            Searched::Nothing => return Ok(false),
+        }
+        Ok(true)
+    }
+
+    // Carries out the hops of a path from its end on, until one finds its buckets changed.
+    fn follow(&self, pass: &mut Pass<K, V>, path: &Path) -> Result<(), Busy>
+        requires own { IsPassOf self.now pass.old }
+        requires idle { IsIdle pass.old }
+        ensures { EndsBack self.now result pass.old pass.new }
+    {
+        let power = path.power();
+        let mut target = path.end();
+        for step in path.hops_from_end() {
+            let hop = Hop {
+                power,
+                bucket: step.bucket,
+                slot: step.slot,
+                partial: step.partial,
+                target,
+            };
+            if !self.make_one_hop(pass, hop)? {
+                break;
+            }
+            target = step.bucket;
+        }
+        Ok(())
+    }
+
+    // Carries out one hop, under the stripes of its two buckets, and says whether it could.
+    fn make_one_hop(&self, pass: &mut Pass<K, V>, hop: Hop) -> Result<bool, Busy>
+        requires own { IsPassOf self.now pass.old }
+        requires idle { IsIdle pass.old }
+        requires below { hop.bucket < 2 ^ hop.power }
+        requires target { hop.target ≡ alternate_of hop.power hop.partial hop.bucket }
+        ensures { EndsBack self.now result pass.old pass.new }
+    {
+        let s = self.words.settings().s;
+        let stripes = StripeSet::of_buckets(s, hop.bucket, hop.target);
+        if let Err(stripe) = self.words.lock(pass, stripes) {
+            return Err(Busy(stripe));
+        }
+        let mut guard = guard!(&self.words, pass, stripes);
+        let hopped = make_hop(&mut guard, s, hop);
+        if hopped {
+            guard.renew();
+        } else {
+            guard.release();
+        }
+        Ok(hopped)
+    }
+}
