@@ -7,7 +7,7 @@ ghost use Rattle.ck_words.specs.Closing.{IsCaller};
 ghost use Rattle.cuckoo_map.specs.Refusals.{IsStripeIn};
 ghost use Rattle.cuckoo_map.specs.Growth.{IsLeastPower, Rehashes, Reserves};
 
-use crate::refusal::{Busy, GrowFault};
+use crate::refusal::GrowFault;
 use crate::table::Table;
 use ck_key::TableKey;
 use ck_model::settings::Settings;
@@ -35,9 +35,7 @@ impl<K: TableKey + Drop, V: Drop> Table<K, V> {
         if max < power {
             return Err(GrowFault::OverMax);
         }
-        if let Err(Busy(stripe)) = self.lock_all(pass) {
-            return Err(GrowFault::Busy(stripe));
-        }
+        self.lock_all(pass)?;
         let all = self.words.all();
         let mut guard = guard!(&self.words, pass, all);
         let grown = double_to(&mut guard, s, power);

@@ -42,6 +42,17 @@ pub enum GrowFault {
     OverMax,
 }
 
+impl From<Busy> for GrowFault {
+    ghost use Rattle.std.specs.Prelude.{◌≡◌};
+    ghost use Rattle.cuckoo_map.specs.declared.refusal.GrowFault.TheVariants as faults;
+
+    ghost from_gives = { λ busy fault. fault ≡ faults.Busy busy.0 };
+
+    fn from(busy: Busy) -> GrowFault {
+        GrowFault::Busy(busy.0)
+    }
+}
+
 /// Why the pairs of a table were not taken out. No binding was changed.
 #[derive(Debug, Clone, Copy, PartialEq, Eq, Error)]
 pub enum DrainFault {
@@ -71,6 +82,17 @@ pub enum Why {
     /// No displacement makes room for the key, and too few slots are taken for the table to grow.
     #[error("no room for the key, and too few slots are taken to grow: see MixedKey, min_load")]
     LoadTooLow,
+}
+
+impl From<Busy> for Why {
+    ghost use Rattle.std.specs.Prelude.{◌≡◌};
+    ghost use Rattle.cuckoo_map.specs.declared.refusal.Why.TheVariants as whys;
+
+    ghost from_gives = { λ busy why. why ≡ whys.Busy busy.0 };
+
+    fn from(busy: Busy) -> Why {
+        Why::Busy(busy.0)
+    }
 }
 
 impl Why {

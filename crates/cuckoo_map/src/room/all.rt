@@ -14,7 +14,7 @@ ghost use Rattle.cuckoo_map.specs.Insertions.{HoldsRoom, HasRoom};
 ghost use Rattle.cuckoo_map.specs.Needed.{HoldsGrown};
 
 use crate::locking::Spot;
-use crate::refusal::{Busy, Why};
+use crate::refusal::Why;
 use crate::room::Room;
 use crate::table::Table;
 use ck_key::{KeyHash, TableKey};
@@ -37,9 +37,7 @@ impl<K: TableKey + Drop, V: Drop> Table<K, V> {
         ensures refused { IfErr result (λ why.
             IsRefused K.hash self.now.settings (K.name key.now) why pass.old pass.new) }
     {
-        if let Err(Busy(stripe)) = self.lock_all(pass) {
-            return Err(Why::Busy(stripe));
-        }
+        self.lock_all(pass)?;
         match self.make_room_held(pass, key) {
             Ok(room) => Ok(room),
             Err(lack) => {

@@ -41,16 +41,11 @@ impl<K: TableKey + Drop, V: Drop> Table<K, V> {
         let hash = KeyHash::of(key);
         let mut power = power;
         'tries: for _ in 0..self.words.settings().rounds {
-            match self.displace(pass, hash, power) {
-                Ok(true) => {}
-                Ok(false) => break,
-                Err(Busy(stripe)) => return Err(Why::Busy(stripe)),
+            if !self.displace(pass, hash, power)? {
+                break;
             }
             let since = Snapshot::of(pass);
-            let spot = match self.lock_key(pass, key) {
-                Ok(spot) => spot,
-                Err(Busy(stripe)) => return Err(Why::Busy(stripe)),
-            };
+            let spot = self.lock_key(pass, key)?;
             match self.find_room(pass, key, spot, &since) {
                 Ok(room) => return Ok(room),
                 Err(seen) => power = seen,

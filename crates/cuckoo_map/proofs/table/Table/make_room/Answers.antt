@@ -1,5 +1,5 @@
 use Rattle.std.proofs.Common.{ℕ, ◌<◌, ◌^◌, [], sym, subst}
-use Rattle.std.proofs.lemmas.Result.{IfOk-weaker, IfErr-weaker}
+use Rattle.std.proofs.lemmas.Result.{IfOk-weaker, IfErr-weaker, err_from_is_err_and}
 use Rattle.ck_words.specs.Passes.{PassState}
 use Rattle.cuckoo_map.specs.declared.refusal.Why.TheVariants.{Busy}
 use Rattle.cuckoo_map.proofs.Refusing.{refused_among, refused_busy}
@@ -8,7 +8,7 @@ use Rattle.cuckoo_map.proofs.Counted.{loosely}
 use Rattle.cuckoo_map.proofs.Displacing.{any_among}
 use Rattle.cuckoo_map.proofs.Trying.{HasTried, tried_same, tried_on, tried_full, still_caller, found_since_full, room_after, refused_after}
 use Rattle.cuckoo_map.proofs.table.Table.make_room.Given.{Over}
-use Rattle.cuckoo_map.proofs.table.Table.make_room.Goals.{else-tries-test, then-tries-test+in-Ok-false}
+use Rattle.cuckoo_map.proofs.table.Table.make_room.Goals.{else-tries-test, then-tries-test+in_ok-displace+then-not-branch}
 use Rattle.cuckoo_map.proofs.table.Table.make_room.Goals as goal
 
 pub tries-init : goal.tries-init
@@ -19,45 +19,49 @@ tries-init g c = record {
 }
 
 -- the search or a hop found a stripe held
-pub returns-in-Err-clause-found : goal.returns-in-Err-clause-found
-returns-in-Err-clause-found g c = λ p full own.
+pub returns-in_err-displace-clause-found : goal.returns-in_err-displace-clause-found
+returns-in_err-displace-clause-found g c = λ p full own.
     found_since_full (g.K.TableKey.name c.args.key.now) c.args.self.now g.K.TableKey.hash p c.args.pass.now c.tries.pass c.displace.new.pass full own c.tries.invariant.tried [] (loosely c.displace.ensures.back.stays) c.displace.ensures.back.found
 
-pub returns-in-Err-clause-refused : goal.returns-in-Err-clause-refused
-returns-in-Err-clause-refused g c = λ p full own.
+pub returns-in_err-displace-clause-refused : goal.returns-in_err-displace-clause-refused
+returns-in_err-displace-clause-refused g c =
     let q = g.K.TableKey.name c.args.key.now in
     let set = c.args.self.now.settings in
-    let busy = refused_among (λ (t : ℕ). t < 2 ^ set.s) g.K.TableKey.hash set (λ t l. l) q c.in-Err.field-0.0 c.tries.pass c.displace.new.pass c.in-Err.ensures.busy in
-    refused_after q c.args.self.now g.K.TableKey.hash p c.args.pass.now c.tries.pass c.displace.new.pass full own c.tries.invariant.tried (Busy c.in-Err.field-0.0) busy
+    let t = c.in_err-displace.field-0.0.0 in
+    let e = err_from_is_err_and c.from_residual.result c.from_residual.ensures.1 in
+    let busy = refused_among (λ (u : ℕ). u < 2 ^ set.s) g.K.TableKey.hash set (λ u l. l) q t c.tries.pass c.displace.new.pass c.in_err-displace.ensures.busy in
+    rw (e.1, e.2) (λ p full own. refused_after q c.args.self.now g.K.TableKey.hash p c.args.pass.now c.tries.pass c.displace.new.pass full own c.tries.invariant.tried (Busy t) busy)
 
 -- a stripe of the key was found held
-pub returns-in-Err-lock_key-clause-found : goal.returns-in-Err-lock_key-clause-found
-returns-in-Err-lock_key-clause-found g c = λ p full own.
+pub returns-in_err-spot-clause-found : goal.returns-in_err-spot-clause-found
+returns-in_err-spot-clause-found g c = λ p full own.
     let q = g.K.TableKey.name c.args.key.now in
     let tried = tried_on q c.args.self.now c.args.pass.now c.tries.pass c.displace.new.pass c.tries.invariant.tried c.displace.ensures.back in
-    found_since_full q c.args.self.now g.K.TableKey.hash p c.args.pass.now c.displace.new.pass c.lock_key.new.pass full own tried [] (loosely c.in-Err-lock_key.ensures.busy.stays) (any_among _ c.displace.new.pass c.lock_key.new.pass c.lock_key.ensures.found)
+    found_since_full q c.args.self.now g.K.TableKey.hash p c.args.pass.now c.displace.new.pass c.lock_key.new.pass full own tried [] (loosely c.in_err-spot.ensures.busy.stays) (any_among _ c.displace.new.pass c.lock_key.new.pass c.lock_key.ensures.found)
 
-pub returns-in-Err-lock_key-clause-refused : goal.returns-in-Err-lock_key-clause-refused
-returns-in-Err-lock_key-clause-refused g c = λ p full own.
+pub returns-in_err-spot-clause-refused : goal.returns-in_err-spot-clause-refused
+returns-in_err-spot-clause-refused g c =
     let q = g.K.TableKey.name c.args.key.now in
+    let t = c.in_err-spot.field-0.0.0 in
+    let e = err_from_is_err_and c.from_residual-in_err-spot.result c.from_residual-in_err-spot.ensures.1 in
     let tried = tried_on q c.args.self.now c.args.pass.now c.tries.pass c.displace.new.pass c.tries.invariant.tried c.displace.ensures.back in
-    let busy = refused_busy g.K.TableKey.hash c.args.self.now.settings q c.in-Err-lock_key.field-0.0 c.displace.new.pass c.lock_key.new.pass c.in-Err-lock_key.ensures.busy in
-    refused_after q c.args.self.now g.K.TableKey.hash p c.args.pass.now c.displace.new.pass c.lock_key.new.pass full own tried (Busy c.in-Err-lock_key.field-0.0) busy
+    let busy = refused_busy g.K.TableKey.hash c.args.self.now.settings q t c.displace.new.pass c.lock_key.new.pass c.in_err-spot.ensures.busy in
+    rw (e.1, e.2) (λ p full own. refused_after q c.args.self.now g.K.TableKey.hash p c.args.pass.now c.displace.new.pass c.lock_key.new.pass full own tried (Busy t) busy)
 
 -- the key has an entry
-pub returns-in-Ok-find_room-clause-room : goal.returns-in-Ok-find_room-clause-room
-returns-in-Ok-find_room-clause-room g c = λ p full own.
+pub returns-in-Ok-clause-room : goal.returns-in-Ok-clause-room
+returns-in-Ok-clause-room g c = λ p full own.
     let q = g.K.TableKey.name c.args.key.now in
     let r = c.of-since.result.value in
     let tried = subst (HasTried q c.args.self.now c.args.pass.now) (sym c.of-since.ensures) (tried_on q c.args.self.now c.args.pass.now c.tries.pass c.displace.new.pass c.tries.invariant.tried c.displace.ensures.back) in
-    room_after q c.args.self.now g.K.TableKey.hash p c.args.pass.now r c.find_room.new.pass full own tried c.in-Ok-find_room.ensures.room
+    room_after q c.args.self.now g.K.TableKey.hash p c.args.pass.now r c.find_room.new.pass full own tried c.in-Ok.ensures.room
 
-pub returns-in-Ok-find_room-clause-found : goal.returns-in-Ok-find_room-clause-found
-returns-in-Ok-find_room-clause-found g c = λ p full own.
+pub returns-in-Ok-clause-found : goal.returns-in-Ok-clause-found
+returns-in-Ok-clause-found g c = λ p full own.
     let q = g.K.TableKey.name c.args.key.now in
     let r = c.of-since.result.value in
     let tried = subst (HasTried q c.args.self.now c.args.pass.now) (sym c.of-since.ensures) (tried_on q c.args.self.now c.args.pass.now c.tries.pass c.displace.new.pass c.tries.invariant.tried c.displace.ensures.back) in
-    let room = c.in-Ok-find_room.ensures.room in
+    let room = c.in-Ok.ensures.room in
     found_since_full q c.args.self.now g.K.TableKey.hash p c.args.pass.now r c.find_room.new.pass full own tried room.more (loosely room.stays) (any_among _ r c.find_room.new.pass c.find_room.ensures.found)
 
 -- its buckets were full again
@@ -69,8 +73,8 @@ tries-preserved g c =
     let r = c.of-since.result.value in
     let z = c.find_room.new.pass in
     let back = subst (HasTried q w p) (sym c.of-since.ensures) (tried_on q w p c.tries.pass c.displace.new.pass c.tries.invariant.tried c.displace.ensures.back) in
-    let tried = tried_full q w p r z back c.find_room.ensures.own c.in-Err-find_room.ensures.idle c.in-Err-find_room.ensures.full (any_among _ r z c.find_room.ensures.found) in
-    record { caller = still_caller q w p z c.requires.caller tried; tried = tried; power = c.in-Err-find_room.ensures.power }
+    let tried = tried_full q w p r z back c.find_room.ensures.own c.in-Err.ensures.idle c.in-Err.ensures.full (any_among _ r z c.find_room.ensures.found) in
+    record { caller = still_caller q w p z c.requires.caller tried; tried = tried; power = c.in-Err.ensures.power }
 
 -- all tries were made, and all stripes were taken
 over : (g : Over) (c : goal.After-make_room_in_all g) → HasTried (g.K.TableKey.name c.args.key.now) c.args.self.now c.args.pass.now c.tries-test.pass
@@ -81,7 +85,7 @@ over g c =
     let Tried : PassState g.row.V.Denot → Type 0 = HasTried q w p in
     elim c.tries-test.branch [
       | else-tries-test x ↦ subst Tried (sym x.pass-is) c.tries.invariant.tried
-      | then-tries-test+in-Ok-false x ↦ subst Tried (sym x.pass-is) (tried_on q w p c.tries.pass x.displace.new.pass c.tries.invariant.tried x.displace.ensures.back)
+      | then-tries-test+in_ok-displace+then-not-branch x ↦ subst Tried (sym x.pass-is) (tried_on q w p c.tries.pass x.displace.new.pass c.tries.invariant.tried x.displace.ensures.back)
     ]
 
 pub returns-clause-room : goal.returns-clause-room

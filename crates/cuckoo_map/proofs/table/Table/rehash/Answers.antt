@@ -8,21 +8,21 @@ use Rattle.cuckoo_map.proofs.table.Table.rehash.Goals as goal
 pub returns-then-max-power-clause-stays : goal.returns-then-max-power-clause-stays
 returns-then-max-power-clause-stays g c = stays_same c.args.pass.now.view
 
-pub returns-in-Err-clause-stays : goal.returns-in-Err-clause-stays
-returns-in-Err-clause-stays g c = loosely c.lock_all.ensures.stays
+pub returns-in_err-lock_all-clause-stays : goal.returns-in_err-lock_all-clause-stays
+returns-in_err-lock_all-clause-stays g c = loosely c.lock_all.ensures.stays
 
 pub renew-requires-clause-renewed : goal.renew-requires-clause-renewed
 renew-requires-clause-renewed g c =
     renewed_by (c.double_to-grown.ensures.stays.5 ∙ c.self.view_is) c.lock_all.new.pass c.double_to-grown.new.held.pass.now c.double_to-grown.ensures.stays.1 (s_of c.self.view_is c.settings-s.ensures.value)
-    (below_max c.self.view_is c.settings-s.ensures.value c.if-max-power.false) c.in_default.ensures.whole c.double_to-grown.ensures.no_call
+    (below_max c.self.view_is c.settings-s.ensures.value c.if-max-power.false) c.in_ok-lock_all.ensures.whole c.double_to-grown.ensures.no_call
 
 pub returns-in-Ok-clause-stays : goal.returns-in-Ok-clause-stays
 returns-in-Ok-clause-stays g c =
     let there : c.renew.new.self.pass.now ≡ c.pass-1.given.0 = search rules in
     rw (← there) (stays_home (c.double_to-grown.ensures.stays.5 ∙ c.self.view_is) c.lock_all.new.pass c.double_to-grown.new.held.pass.now c.double_to-grown.ensures.stays.1 c.args.pass.now c.renew.new.self.pass.now c.lock_all.ensures.stays c.renew.ensures.released)
 
-pub returns-in-Err-grown-clause-stays : goal.returns-in-Err-grown-clause-stays
-returns-in-Err-grown-clause-stays g c =
+pub returns-in-Err-clause-stays : goal.returns-in-Err-clause-stays
+returns-in-Err-clause-stays g c =
     let there : c.renew.new.self.pass.now ≡ c.pass-1.given.0 = search rules in
     rw (← there) (stays_home (c.double_to-grown.ensures.stays.5 ∙ c.self.view_is) c.lock_all.new.pass c.double_to-grown.new.held.pass.now c.double_to-grown.ensures.stays.1 c.args.pass.now c.renew.new.self.pass.now c.lock_all.ensures.stays c.renew.ensures.released)
 
@@ -30,16 +30,16 @@ pub returns-in-Ok-clause-rehashed : goal.returns-in-Ok-clause-rehashed
 returns-in-Ok-clause-rehashed g c =
     let there : c.renew.new.self.pass.now ≡ c.pass-1.given.0 = search rules in
     rw (← there) (answered_home (below_max c.self.view_is c.settings-s.ensures.value c.if-max-power.false) c.args.pass.now c.lock_all.new.pass c.double_to-grown.new.held.pass.now c.renew.new.self.pass.now
-    c.lock_all.ensures.stays c.in_default.ensures.whole c.in_default.ensures.table c.double_to-grown.ensures.stays.1 c.renew.ensures.told
+    c.lock_all.ensures.stays c.in_ok-lock_all.ensures.whole c.in_ok-lock_all.ensures.table c.double_to-grown.ensures.stays.1 c.renew.ensures.told
     (renewed_there c.self.view_is c.lock_all.new.pass c.double_to-grown.new.held.pass.now c.double_to-grown.ensures.stays.1 (s_of c.self.view_is c.settings-s.ensures.value)
-    (below_max c.self.view_is c.settings-s.ensures.value c.if-max-power.false) c.in_default.ensures.whole c.double_to-grown.ensures.no_call)
+    (below_max c.self.view_is c.settings-s.ensures.value c.if-max-power.false) c.in_ok-lock_all.ensures.whole c.double_to-grown.ensures.no_call)
     c.lock_all.ensures.stays.doublings c.renew.ensures.doubled c.in-Ok.grown c.in-Ok.ensures.reached)
 
-pub returns-in-Err-grown-clause-rehashed : goal.returns-in-Err-grown-clause-rehashed
-returns-in-Err-grown-clause-rehashed g c =
+pub returns-in-Err-clause-rehashed : goal.returns-in-Err-clause-rehashed
+returns-in-Err-clause-rehashed g c =
     let there : c.renew.new.self.pass.now ≡ c.pass-1.given.0 = search rules in
     rw (← there) (short_home (below_max c.self.view_is c.settings-s.ensures.value c.if-max-power.false) c.args.pass.now c.lock_all.new.pass c.double_to-grown.new.held.pass.now c.renew.new.self.pass.now
-    c.lock_all.ensures.stays c.in_default.ensures.whole c.in_default.ensures.table c.double_to-grown.ensures.stays.1 c.renew.ensures.told
+    c.lock_all.ensures.stays c.in_ok-lock_all.ensures.whole c.in_ok-lock_all.ensures.table c.double_to-grown.ensures.stays.1 c.renew.ensures.told
     (renewed_there c.self.view_is c.lock_all.new.pass c.double_to-grown.new.held.pass.now c.double_to-grown.ensures.stays.1 (s_of c.self.view_is c.settings-s.ensures.value)
-    (below_max c.self.view_is c.settings-s.ensures.value c.if-max-power.false) c.in_default.ensures.whole c.double_to-grown.ensures.no_call)
-    c.lock_all.ensures.stays.doublings c.renew.ensures.doubled c.in-Err-grown.ensures.short)
+    (below_max c.self.view_is c.settings-s.ensures.value c.if-max-power.false) c.in_ok-lock_all.ensures.whole c.double_to-grown.ensures.no_call)
+    c.lock_all.ensures.stays.doublings c.renew.ensures.doubled c.in-Err.ensures.short)
