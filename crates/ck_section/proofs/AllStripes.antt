@@ -2,7 +2,6 @@
 use Rattle.std.proofs.Common.{◌≡◌, ℕ, ◌%◌, ◌^◌, ◌<◌, ◌≤◌, List, length, inl, inr, refl, sym, ◌∙◌, ap, subst, Bor, Option, Some, None, IfNone}
 use Rattle.std.specs.Prelude.{slice_index_or, IfSome}
 use Rattle.std.specs.Option.{option_copied}
-use Rattle.std.proofs.lemmas.List.{get_or_default}
 use Rattle.ck_model.specs.declared.history.Act.TheVariants.{Find}
 use Rattle.ck_model.specs.declared.history.Reply.TheVariants.{Was}
 use Rattle.ck_model.specs.Promise.{Name}
@@ -11,7 +10,7 @@ use Rattle.ck_model.specs.Contents.{IsBucketOf}
 use Rattle.ck_bucket.specs.Bucket.{LacksName}
 use Rattle.ck_stripe.specs.Stripe.{StripeState, bucket_of}
 use Rattle.ck_section.specs.declared.place.KeyPlace.{KeyPlace}
-use Rattle.ck_stripe.specs.Stripes.{no_stripe, stripe_at, bucket_at, IsInReach}
+use Rattle.ck_stripe.specs.Stripes.{stripe_at, bucket_at, IsInReach}
 use Rattle.ck_section.specs.Places.{IsPlaceOf}
 use Rattle.ck_stripe.specs.HeldSlots.{at}
 use Rattle.ck_section.specs.Entries.{IsOccupied}

@@ -1,5 +1,5 @@
 -- Doublings, one after another.
-use Rattle.std.proofs.Common.{◌≡◌, ◌≢◌, ◌⊎◌, inl, inr, ⊎_elim, ℕ, ◌/◌, ◌%◌, ◌^◌, ◌<◌, ◌≤◌, List, Some, refl, sym, ◌∙◌, ap, subst, arith}
+use Rattle.std.proofs.Common.{◌≡◌, ◌≢◌, ⊎_elim, ℕ, ◌/◌, ◌%◌, ◌^◌, ◌<◌, ◌≤◌, List, Some, refl, sym, ◌∙◌, ap, subst}
 use mathlib.Core.Logic.{dite}
 use native.Mathlib.Decide.{ℕ_discrete}
 use Rattle.std.proofs.Math.Nat.{mod-lt}
@@ -7,14 +7,14 @@ use Rattle.std.proofs.lemmas.Nat.{pow_pos, div-add-mod'}
 use Rattle.std.proofs.lemmas.List.Sorted.{IsPermutation-refl, IsPermutation-trans}
 use Rattle.ck_model.specs.Arithmetic.{index_of, second_of}
 use Rattle.ck_model.specs.Promise.{Name}
-use Rattle.ck_model.specs.Numbered.{IsIn, Holds}
+use Rattle.ck_model.specs.Numbered.{Holds}
 use Rattle.ck_model.specs.Slots.{Slot, slot_at}
 use Rattle.ck_model.specs.declared.contents.Content.{Content}
 use Rattle.ck_model.specs.Contents.{Layout, Stripes, Lawful, IsBucketOf, power_of, row_at, bucket_in}
-use Rattle.ck_model.specs.Sections.{HasAll, IdentitySection}
+use Rattle.ck_model.specs.Sections.{HasAll}
 use Rattle.ck_model.specs.Doubling.{bucket_after, IsDoubledTo}
 use Rattle.ck_model.proofs.Buckets.{index_below, second_below, index_lower, second_lower}
-use Rattle.ck_model.proofs.Numbered.{if_same, if_else, in_held, held_of_in}
+use Rattle.ck_model.proofs.Numbered.{if_same, if_else, held_of_in}
 use Rattle.ck_model.proofs.Rows.{rows_held, power_held}
 
 module _ (hash : Name → ℕ) (q : Name) where

@@ -9,10 +9,10 @@ use Rattle.std.proofs.lemmas.Option.{none-some}
 use Rattle.ck_model.specs.declared.contents.Content.{Content}
 use Rattle.ck_model.specs.Promise.{Name, name_cmp}
 use Rattle.ck_model.specs.Slots.{Slot, slot_at}
-use Rattle.ck_model.specs.Numbered.{IsIn, numbers, Holds}
+use Rattle.ck_model.specs.Numbered.{numbers, Holds}
 use Rattle.ck_model.specs.Contents.{Layout, layout, Stripes, Binds, IsBucketOf, pairs_in, row_at, bindings, IsSound, Lawful}
 use Rattle.ck_model.specs.Sections.{IdentitySection}
-use Rattle.ck_model.proofs.Numbered.{in_held, held_of_in, numbers-with, holds_with}
+use Rattle.ck_model.proofs.Numbered.{numbers-with, holds_with}
 use Rattle.ck_model.proofs.Names.{dec_name, maps_alike}
 use Rattle.ck_model.proofs.Found.{bound_from}
 use Rattle.ck_model.proofs.Identities.{power_on}

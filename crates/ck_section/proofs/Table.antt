@@ -1,20 +1,14 @@
 -- All stripes of a table: their memory, their doubling and their entries.
-use Rattle.std.proofs.Common.{◌≡◌, inl, ℕ, zero, suc, ◌+◌, ◌^◌, ◌<◌, ◌≤◌, List, [], ◌∷◌, ◌++◌, length, take, map, refl, sym, ◌∙◌, ap, subst, length-append, append-nil, append_assoc, add-one, arith}
-use Rattle.std.specs.Prelude.{slice_index_or}
+use Rattle.std.proofs.Common.{◌≡◌, ℕ, zero, suc, ◌+◌, ◌^◌, ◌<◌, ◌≤◌, List, [], ◌∷◌, ◌++◌, length, take, map, refl, sym, ◌∙◌, ap, subst, append_assoc, add-one, arith}
 use Rattle.std.proofs.Math.Pow.{pow_mono}
 use Rattle.std.specs.FinMap.{from_entries}
 use Rattle.std.specs.declared.cmp.Ordering.{Ordering}
 use Rattle.std.proofs.lemmas.Nat.{pow_pos}
-use Rattle.std.proofs.lemmas.List.{length-map, get_or-map, take_all}
-use Rattle.ck_model.specs.declared.history.Call.TheVariants.{Len}
-use Rattle.ck_model.specs.declared.history.Reply.TheVariants.{Count}
+use Rattle.std.proofs.lemmas.List.{length-map, get_or-map}
 use Rattle.ck_model.specs.Promise.{Name, named, ListsInOrder}
-use Rattle.ck_model.specs.Numbered.{IsIn, numbers}
 use Rattle.ck_model.specs.Contents.{layout, Stripes, Lawful, NamesApart, pairs_in, pairs_of, bindings, power_of}
-use Rattle.ck_model.specs.Sections.{HasAll, Section, IdentitySection}
+use Rattle.ck_model.specs.Sections.{IdentitySection}
 use Rattle.ck_model.specs.Doubling.{IsDoubledTo}
-use Rattle.ck_model.proofs.Numbered.{in_held}
-use Rattle.ck_model.proofs.Counted.{len-bindings}
 use Rattle.ck_model.proofs.Doubling.{pairs_apart}
 use Rattle.ck_stripe.specs.Stripe.{StripeState, HasNoSpare, IsReserved, reserved}
 use Rattle.ck_stripe.specs.Stripes.{no_stripe, stripe_at, contents_of, HaveNoSpare, shrunk_stripes, reserved_stripes, doubled, doubled_stripes}

@@ -7,13 +7,10 @@ use Rattle.std.proofs.Math.Pow.{pow_mono}
 use Rattle.std.proofs.lemmas.Nat.{pow_pos}
 use Rattle.ck_model.specs.Arithmetic.{partial_of, index_of, alternate_of, second_of}
 use Rattle.ck_model.specs.Promise.{Name}
-use Rattle.ck_model.specs.Numbered.{IsIn, numbers}
 use Rattle.ck_model.specs.Slots.{Slot}
 use Rattle.ck_model.specs.Contents.{Layout, layout, Stripes, Lawful, row_at, rows_of, power_of, bucket_in}
-use Rattle.ck_model.specs.Sections.{HasAll}
 use Rattle.ck_model.specs.Paths.{sketch_in, partial_in}
 use Rattle.ck_model.specs.Sketches.{Sketch, HasNoSketchPath}
-use Rattle.ck_model.proofs.Numbered.{in_held}
 use Rattle.ck_path.proofs.ShownPaths.{sketches_show_paths}
 use Rattle.ck_stripe.specs.Stripe.{StripeState}
 use Rattle.ck_stripe.specs.Stripes.{stripe_at, bucket_at, contents_of}

@@ -287,10 +287,7 @@ pub fn reserve_double<K: TableKey + Drop, V: Drop, H: Held<Stripe<K, V>>>(
 }
 
 /// Gives back the memory that stripe `i` reserved for a doubling.
-pub fn shrink_to_fit<K: TableKey + Drop, V: Drop, H: Held<Stripe<K, V>>>(
-    held: &mut H,
-    i: usize,
-)
+pub fn shrink_to_fit<K: TableKey + Drop, V: Drop, H: Held<Stripe<K, V>>>(held: &mut H, i: usize)
     requires inside { i < length (H.stripes held.old) }
     requires settled { (stripe_at (H.stripes held.old) i).settled ≡ true }
     ensures shrunk { H.stripes held.new ≡ slice_set (H.stripes held.old) i

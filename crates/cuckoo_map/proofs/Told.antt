@@ -1,9 +1,7 @@
 -- Which act a call was, by what it answered.
-use Rattle.std.proofs.Common.{inl, inr, ⊎_elim, Bool, true, false, Option, Some, None, Result, Ok, Err, refl, subst}
+use Rattle.std.proofs.Common.{inl, inr, ⊎_elim, Bool, true, false, Option, Some, None, Result, Ok, Err, subst}
 use Rattle.ck_model.specs.declared.history.Act.{Act}
-use Rattle.ck_model.specs.declared.history.Act.TheVariants.{Upsert, Erase}
 use Rattle.ck_model.specs.declared.history.Reply.{Reply}
-use Rattle.ck_model.specs.declared.history.Reply.TheVariants as replies
 use Rattle.ck_section.specs.declared.insertion.Uprased.{Uprased}
 use Rattle.ck_section.specs.declared.insertion.Uprased.TheVariants.{New, Changed, Erased}
 use Rattle.ck_section.specs.Acts.{IsAct, Finds, FindsBound, FindsBy, Inserts, InsertsBy, FindsOrInserts, Assigns, Upserts, Uprases, TriesUpsert}
