@@ -49,7 +49,10 @@ fn open_slots<K: TableKey + Drop, V: Drop>(
 impl<K: TableKey + Drop, V: Drop> Words<K, V> {
     /// A table of empty stripes, and its first pass. It has the number 0, and keeps the numbers of
     /// the other callers. It is refused only for want of memory.
-    pub fn open(alloc: Global, settings: Settings) -> Result<(Words<K, V>, Pass<K, V>), AllocError>
+    pub(crate) fn open(
+        alloc: Global,
+        settings: Settings,
+    ) -> Result<(Words<K, V>, Pass<K, V>), AllocError>
         requires { AreInRange settings }
         ensures settings { IfOk result (λ r. r.0.settings ≡ settings) }
         ensures pass { IfOk result (λ r. IsPassOf r.0 r.1) }
@@ -91,7 +94,7 @@ impl<K: TableKey + Drop, V: Drop> Words<K, V> {
     /// One more pass, with the first of the numbers that the pass `first` keeps. It has seen
     /// nothing, and was told the power that `first` was told. It is refused only for want of
     /// memory, and then `first` is unchanged.
-    pub fn deal(&self, first: &mut Pass<K, V>) -> Result<Pass<K, V>, AllocError>
+    pub(crate) fn deal(&self, first: &mut Pass<K, V>) -> Result<Pass<K, V>, AllocError>
         requires own { IsPassOf self.now first.old }
         requires kept { (m : ℕ) × (others : List (ℕ × List (Entry V)))
             × (first.old.view.others ≡ (m, []) ∷ others) }

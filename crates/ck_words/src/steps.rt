@@ -2,6 +2,9 @@
 //! one step of the core. Nothing else but a split or a join changes what a pass knows, and nothing
 //! else which stripes it holds. A stripe goes home with memory for its rows alone, and so a pass
 //! finds it there.
+//!
+//! The six are public, though calls lock and give back by sets: their contracts are what this crate
+//! promises of every atomic step.
 ghost use Rattle.std.specs.Prelude.{◌≡◌, ◌<◌, ◌^◌, Some, None, reverse};
 ghost use Rattle.ck_model.specs.Numbered.{numbers};
 ghost use Rattle.ck_model.specs.Contents.{layout_of, Lawful};
@@ -148,7 +151,7 @@ impl<K: TableKey + Drop, V: Drop> Words<K, V> {
     /// contains.
     ///
     /// It is a store of 0.
-    pub(crate) fn give_rest(&self, pass: &mut Pass<K, V>, t: usize)
+    pub fn give_rest(&self, pass: &mut Pass<K, V>, t: usize)
         requires holds { MayGive self.now t pass.old }
         requires unchanged { IsUnchanged pass.old }
         ensures own { IsPassOf self.now pass.new }
