@@ -23,7 +23,7 @@ const AUDITS: u64 = 20;
 type Teller<'t> = Caller<'t, NumKey, u64>;
 
 /// Opens the accounts.
-fn open(teller: &mut Teller<'_>) -> Result<()> {
+fn fund(teller: &mut Teller<'_>) -> Result<()> {
     for account in 0..ACCOUNTS {
         teller.insert(NumKey(account), FUND)?;
     }
@@ -96,15 +96,30 @@ fn run_all<'t>(
     Ok(back)
 }
 
-fn main(rt: HostRuntime) -> Result<()> {
-    let alloc = rt.alloc();
-    let settings = Settings::for_keys(ACCOUNTS, 5);
-    let (table, passes) = Table::<NumKey, u64>::open(alloc, settings)?;
-    let mut tellers = table.callers(alloc, passes)?;
-    open(tellers.first_mut().context("no caller")?)?;
-    let mut tellers = run_all(&rt, alloc, tellers)?;
+/// What each account has after all that the tellers do.
+fn balances(
+    rt: &(impl Threads + Sync),
+    alloc: Global,
+    mut tellers: Vec<Teller<'_>>,
+) -> Result<Vec<(NumKey, u64)>> {
+    fund(tellers.first_mut().context("no caller")?)?;
+    let mut tellers = run_all(rt, alloc, tellers)?;
     let auditor = tellers.pop().context("no caller")?;
     let (_, accounts) = auditor.drain(alloc).map_err(|(_, fault)| fault)?;
+    Ok(accounts)
+}
+
+/// Opens the bank, and hands its callers on at once: each way out of a function that owns a table
+/// costs the prover seconds.
+fn open_and_run(rt: &(impl Threads + Sync), alloc: Global) -> Result<Vec<(NumKey, u64)>> {
+    let settings = Settings::for_keys(ACCOUNTS, 5);
+    let (table, passes) = Table::<NumKey, u64>::open(alloc, settings)?;
+    let tellers = table.callers(alloc, passes)?;
+    balances(rt, alloc, tellers)
+}
+
+fn main(rt: HostRuntime) -> Result<()> {
+    let accounts = open_and_run(&rt, rt.alloc())?;
     let left = accounts
         .iter()
         .fold(0u64, |sum, account| sum.saturating_add(account.1));

@@ -18,16 +18,13 @@ fn count(alloc: Global, mut caller: Caller<'_, TextKey, u64>, words: &[&str]) ->
     Ok(())
 }
 
-/// All words with their counts. Four threads count, each a part.
-fn count_all(
+/// All words with their counts. The last caller takes out what the others count, each a part.
+fn count_by(
     rt: &(impl Threads + Sync),
     alloc: Global,
+    mut callers: Vec<Caller<'_, TextKey, u64>>,
     words: &[&str],
 ) -> Result<Vec<(TextKey, u64)>> {
-    // Room for ten thousand keys, and five callers.
-    let settings = Settings::for_keys(10_000, 5);
-    let (table, passes) = Table::<TextKey, u64>::open(alloc, settings)?;
-    let mut callers = table.callers(alloc, passes)?;
     let last = callers.pop().context("no caller")?;
     let parts = words.chunks(words.len() / 4 + 1);
     let jobs: Vec<_> = callers.into_iter().zip(parts).collect(alloc)?;
@@ -39,6 +36,20 @@ fn count_all(
     let counts = locked.drain(alloc);
     locked.unlock();
     Ok(counts?)
+}
+
+/// The same by four threads. What owns a table hands its callers on at once, since each way out of
+/// it costs the prover seconds.
+fn count_all(
+    rt: &(impl Threads + Sync),
+    alloc: Global,
+    words: &[&str],
+) -> Result<Vec<(TextKey, u64)>> {
+    // Room for ten thousand keys, and five callers.
+    let settings = Settings::for_keys(10_000, 5);
+    let (table, passes) = Table::<TextKey, u64>::open(alloc, settings)?;
+    let callers = table.callers(alloc, passes)?;
+    count_by(rt, alloc, callers, words)
 }
 
 fn main(rt: HostRuntime) -> Result<()> {

@@ -1,3 +1,2 @@
 pub mod PlainPairs
 pub mod PlainSteps
-pub mod PlainStripes

@@ -1,2 +1,1 @@
 pub mod PlainMap
-pub mod Plain

@@ -1,13 +1,17 @@
-//! A store of sessions: a struct as value, changed by closures, with an expiry and a limit on how
-//! many there are.
+//! A store of sessions: keys of its own, and a struct as value, changed by closures, with an expiry
+//! and a limit on how many there are.
 #![tactic(auto)]
 
+mod key;
+
 use anyhow::{Context, Result};
-use cuckoo_map::{Busy, Caller, LockedTable, NumKey, Settings, Table};
+use cuckoo_map::{Busy, Caller, LockedTable, Settings, Table};
+use key::SessionKey;
 use std::alloc::Global;
 use std::thread::{self, Threads};
 
-const THREADS: u32 = 4;
+/// Each device has a thread.
+const DEVICES: u32 = 4;
 
 /// A session ends when it wasn't used for so long.
 const LIFETIME: u64 = 50;
@@ -28,12 +32,12 @@ struct Session {
     hits: u32,
 }
 
-type Client<'t> = Caller<'t, NumKey, Session>;
+type Client<'t> = Caller<'t, SessionKey, Session>;
 
-type Store<'t> = LockedTable<'t, NumKey, Session>;
+type Store<'t> = LockedTable<'t, SessionKey, Session>;
 
 /// Opens the session where it isn't open, and else notes that it was used.
-fn touch(client: &mut Client<'_>, id: u64, now: u64) -> Result<()> {
+fn touch(client: &mut Client<'_>, key: SessionKey, now: u64) -> Result<()> {
     let fresh = Session {
         role: Role::Guest,
         seen: now,
@@ -44,13 +48,13 @@ fn touch(client: &mut Client<'_>, id: u64, now: u64) -> Result<()> {
         hits: session.hits.saturating_add(1),
         ..session
     };
-    client.upsert(NumKey(id), used, fresh)?;
+    client.upsert(key, used, fresh)?;
     Ok(())
 }
 
 /// Makes the session one of a member, where it is open and used often enough.
-fn log_in(client: &mut Client<'_>, id: u64) -> Result<()> {
-    client.replace_if(&NumKey(id), |session: &Session| {
+fn log_in(client: &mut Client<'_>, key: SessionKey) -> Result<()> {
+    client.replace_if(&key, |session: &Session| {
         if session.hits < 2 {
             return None;
         }
@@ -63,13 +67,16 @@ fn log_in(client: &mut Client<'_>, id: u64) -> Result<()> {
 }
 
 /// What a thread is asked for.
-fn serve(client: &mut Client<'_>, worker: u64) -> Result<()> {
-    for now in 0..100u64 {
-        for step in 0..8u64 {
-            let id = (now * 7 + step * 3) * 4 + worker % 4;
-            touch(client, id, now)?;
+fn serve(client: &mut Client<'_>, device: u32) -> Result<()> {
+    for now in 0..100u32 {
+        for step in 0..8u32 {
+            let key = SessionKey {
+                user: now * 7 + step * 3,
+                device,
+            };
+            touch(client, key, u64::from(now))?;
             if step == 0 {
-                log_in(client, id)?;
+                log_in(client, key)?;
             }
         }
     }
@@ -77,8 +84,8 @@ fn serve(client: &mut Client<'_>, worker: u64) -> Result<()> {
 }
 
 fn serve_all(rt: &(impl Threads + Sync), alloc: Global, clients: Vec<Client<'_>>) -> Result<()> {
-    let jobs: Vec<(Client<'_>, u64)> = clients.into_iter().zip(0..4u64).collect(alloc)?;
-    let work = |(mut client, worker): (Client<'_>, u64)| serve(&mut client, worker);
+    let jobs: Vec<(Client<'_>, u32)> = clients.into_iter().zip(0..DEVICES).collect(alloc)?;
+    let work = |(mut client, device): (Client<'_>, u32)| serve(&mut client, device);
     for done in thread::map_vec(rt, jobs, &work)? {
         done?;
     }
@@ -87,22 +94,29 @@ fn serve_all(rt: &(impl Threads + Sync), alloc: Global, clients: Vec<Client<'_>>
 
 /// Ends each session that wasn't used lately.
 fn sweep(store: &mut Store<'_>, now: u64) {
-    store.retain(|_id: &NumKey, session: &Session| session.seen.saturating_add(LIFETIME) >= now);
+    store.retain(|_key: &SessionKey, session: &Session| {
+        session.seen.saturating_add(LIFETIME) >= now
+    });
 }
 
 /// Ends the guests' sessions, where more are open than may be.
 fn trim(store: &mut Store<'_>) {
     if store.len() > LIMIT {
-        store.retain(|_id: &NumKey, session: &Session| session.role == Role::Member);
+        store.retain(|_key: &SessionKey, session: &Session| session.role == Role::Member);
     }
 }
 
-fn main(rt: HostRuntime) -> Result<()> {
-    let settings = Settings::for_keys(1000, THREADS + 1);
-    let (table, passes) = Table::<NumKey, Session>::open(rt.alloc(), settings)?;
-    let mut clients = table.callers(rt.alloc(), passes)?;
+/// How many sessions were open, used lately, and left.
+struct Counts {
+    all: u64,
+    fresh: u64,
+    left: u64,
+}
+
+/// All clients serve but the last, which then tidies the store.
+fn run(rt: &(impl Threads + Sync), alloc: Global, mut clients: Vec<Client<'_>>) -> Result<Counts> {
     let keeper = clients.pop().context("no caller")?;
-    serve_all(&rt, rt.alloc(), clients)?;
+    serve_all(rt, alloc, clients)?;
     let mut store = keeper.lock().map_err(Busy::from)?;
     let all = store.len();
     sweep(&mut store, 100);
@@ -110,6 +124,20 @@ fn main(rt: HostRuntime) -> Result<()> {
     trim(&mut store);
     let left = store.len();
     store.unlock();
+    Ok(Counts { all, fresh, left })
+}
+
+/// Opens the store, and hands its callers on at once: each way out of a function that owns a table
+/// costs the prover seconds.
+fn open_and_run(rt: &(impl Threads + Sync), alloc: Global) -> Result<Counts> {
+    let settings = Settings::for_keys(1000, DEVICES + 1);
+    let (table, passes) = Table::<SessionKey, Session>::open(alloc, settings)?;
+    let clients = table.callers(alloc, passes)?;
+    run(rt, alloc, clients)
+}
+
+fn main(rt: HostRuntime) -> Result<()> {
+    let Counts { all, fresh, left } = open_and_run(&rt, rt.alloc())?;
     println!(rt; "{all} sessions, {fresh} of them used lately, {left} left")?;
     Ok(())
 }

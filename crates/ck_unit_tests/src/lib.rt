@@ -1,12 +1,10 @@
-//! Tests that need no table: worked keys, stripes, searches, contents and histories.
+//! Tests that need no table: worked keys, stripes, searches and histories.
 #![tactic(auto)]
 
 #[cfg(test)]
 mod histories;
 #[cfg(test)]
 mod keys;
-#[cfg(test)]
-mod lawful;
 #[cfg(test)]
 mod searches;
 #[cfg(test)]

@@ -1,0 +1,2 @@
+pub mod SessionKeys
+pub mod SessionKeyLaws
