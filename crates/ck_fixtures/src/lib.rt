@@ -1,11 +1,11 @@
-//! What the tests of the table share: small tables and their passes.
+//! What the tests of the table share: callers of small tables.
 #![tactic(auto)]
 
-ghost use Rattle.std.specs.Prelude.{◌≡◌, Some, IfOk};
-ghost use Rattle.ck_words.specs.Closing.{IsCaller};
+ghost use Rattle.std.specs.Prelude.{◌≡◌, IfOk};
+ghost use Rattle.ck_words.specs.Closing.{AreAllPasses};
 ghost use Rattle.cuckoo_map.specs.Callers.{IsSameCaller};
 
-use ck_key::NumKey;
+use ck_key::{NumKey, TableKey};
 use cuckoo_map::{Caller, LockedTable, Pass, Settings, Table};
 use std::alloc::{AllocError, Global};
 use std::sync::atomic::{AtomicU64, Ordering};
@@ -85,9 +85,7 @@ pub const FOUR_BUCKETS: Shape = Shape {
 
 impl Shape {
     /// The settings of a table of this shape, for so many callers.
-    pub fn settings(self, callers: u32) -> Settings
-        ensures { result.callers ≡ callers }
-    {
+    pub fn settings(self, callers: u32) -> Settings {
         let Shape {
             s,
             power,
@@ -106,28 +104,39 @@ impl Shape {
     }
 }
 
-/// An empty table of this shape, and the passes of its three callers.
-pub fn open(alloc: Global, shape: Shape) -> Result<(NumTable, NumPass, NumPass, NumPass), Fail>
-    ensures callers { IfOk result (λ r. r.0.settings.callers ≡ 3) }
-    ensures first { IfOk result (λ r. IsCaller r.0 r.1 × (r.1.view.by ≡ Some 0)) }
-    ensures second { IfOk result (λ r. IsCaller r.0 r.2 × (r.2.view.by ≡ Some 1)) }
-    ensures third { IfOk result (λ r. IsCaller r.0 r.3 × (r.3.view.by ≡ Some 2)) }
-{
-    open_with(alloc, shape.settings(3))
-}
-
-/// An empty table for three callers, and their passes.
-pub fn open_with(
+/// Callers of an empty table, as many as the settings have. The table is never dropped, so a test
+/// has nothing but callers: to leave a function early that owns a table takes the prover seconds.
+pub fn callers_of<'t, K: TableKey + Drop + 't, V: Drop + 't>(
     alloc: Global,
     settings: Settings,
-) -> Result<(NumTable, NumPass, NumPass, NumPass), Fail>
-    requires { settings.callers ≡ 3 }
-    ensures callers { IfOk result (λ r. r.0.settings.callers ≡ 3) }
-    ensures first { IfOk result (λ r. IsCaller r.0 r.1 × (r.1.view.by ≡ Some 0)) }
-    ensures second { IfOk result (λ r. IsCaller r.0 r.2 × (r.2.view.by ≡ Some 1)) }
-    ensures third { IfOk result (λ r. IsCaller r.0 r.3 × (r.3.view.by ≡ Some 2)) }
+) -> Result<Vec<Caller<'t, K, V>>, Fail> {
+    let (table, passes) = Table::<K, V>::open(alloc, settings)?;
+    let table: &'t Table<K, V> = Box::leak(Box::new(alloc, table)?);
+    match table.callers(alloc, passes) {
+        Ok(callers) => Ok(callers),
+        Err(_) => Err(Fail::from("no memory for the callers")),
+    }
+}
+
+/// Three callers of one table.
+pub type Three<'t> = (NumCaller<'t>, NumCaller<'t>, NumCaller<'t>);
+
+/// The three callers of an empty table.
+pub fn three_callers<'t>(alloc: Global, settings: Settings) -> Result<Three<'t>, Fail>
+    ensures second { IfOk result (λ r. r.1.table ≡ r.0.table) }
+    ensures third { IfOk result (λ r. r.2.table ≡ r.0.table) }
 {
-    let (table, mut passes) = NumTable::open(alloc, settings)?;
+    let (table, passes) = NumTable::open(alloc, settings)?;
+    let table: &'t NumTable = Box::leak(Box::new(alloc, table)?);
+    three_of(table, passes)
+}
+
+fn three_of<'t>(table: &'t NumTable, passes: Vec<NumPass>) -> Result<Three<'t>, Fail>
+    requires { AreAllPasses table.now passes.items }
+    ensures second { IfOk result (λ r. r.1.table ≡ r.0.table) }
+    ensures third { IfOk result (λ r. r.2.table ≡ r.0.table) }
+{
+    let mut passes = passes;
     let Some(third) = passes.pop() else {
         return Err(Fail::from("no third pass"));
     };
@@ -137,28 +146,11 @@ pub fn open_with(
     let Some(first) = passes.pop() else {
         return Err(Fail::from("no first pass"));
     };
-    Ok((table, first, second, third))
-}
-
-/// Ends a table of three callers, none of which is in a call, so that it is refused only for want
-/// of memory.
-pub fn close(
-    alloc: Global,
-    table: NumTable,
-    first: NumPass,
-    second: NumPass,
-    third: NumPass,
-) -> Result<Vec<(NumKey, u64)>, Fail>
-    requires callers { table.settings.callers ≡ 3 }
-    requires first { IsCaller table first × (first.view.by ≡ Some 0) }
-    requires second { IsCaller table second × (second.view.by ≡ Some 1) }
-    requires third { IsCaller table third × (third.view.by ≡ Some 2) }
-{
-    let passes = Vec::from_array(alloc, [first, second, third])?;
-    match table.close(passes) {
-        Ok(pairs) => Ok(pairs),
-        Err(_) => Err(Fail::from("a table that was not closed")),
-    }
+    Ok((
+        table.caller(first),
+        table.caller(second),
+        table.caller(third),
+    ))
 }
 
 /// Binds these keys to these values, and says whether each was unbound before. It stops at one that

@@ -1,7 +1,5 @@
 //! A table that grows where it is asked to.
-ghost use Rattle.std.specs.Prelude.{◌≡◌};
-
-use ck_fixtures::{NumCaller, NumLocked, TWO_STRIPES, open_with};
+use ck_fixtures::{NumCaller, NumLocked, TWO_STRIPES, three_callers};
 use ck_key::NumKey;
 use cuckoo_map::{GrowFault, Settings};
 use std::process::Abort;
@@ -81,8 +79,7 @@ fn take_rows<F: FnMut(Size) -> Grown + Drop>(rt: &impl Abort, rows: &[Row], mut 
 
 #[test]
 fn powers_and_slots(rt: HostRuntime) -> Result<(), Fail> {
-    let (table, first, _, _) = open_with(rt.alloc(), TWO_STRIPES)?;
-    let mut first = table.caller(first);
+    let (mut first, _, _) = three_callers(rt.alloc(), TWO_STRIPES)?;
     take_rows(&rt, &ROWS, |size| grow_caller(&mut first, size));
     Ok(())
 }
@@ -93,8 +90,7 @@ fn the_greatest_powers(rt: HostRuntime) -> Result<(), Fail> {
         max: 26,
         ..TWO_STRIPES
     };
-    let (table, first, _, _) = open_with(rt.alloc(), settings)?;
-    let mut first = table.caller(first);
+    let (mut first, _, _) = three_callers(rt.alloc(), settings)?;
     take_rows(&rt, &LARGE_ROWS, |size| grow_caller(&mut first, size));
     Ok(())
 }
@@ -121,9 +117,7 @@ fn find_all(rt: &impl Abort, caller: &mut NumCaller<'_>) {
 /// All keys stay, also where more than one doubling is made at once.
 #[test]
 fn keys_stay(rt: HostRuntime) -> Result<(), Fail> {
-    let (table, first, second, _) = open_with(rt.alloc(), TWO_STRIPES)?;
-    let mut first = table.caller(first);
-    let mut second = table.caller(second);
+    let (mut first, mut second, _) = three_callers(rt.alloc(), TWO_STRIPES)?;
     bind_all(&rt, &mut first);
     for power in [3u32, 5, 9] {
         let grown = first.rehash(power);
@@ -150,10 +144,9 @@ fn refused_meanwhile(rt: &impl Abort, caller: &mut NumCaller<'_>) {
 
 #[test]
 fn while_locked(rt: HostRuntime) -> Result<(), Fail> {
-    let (table, first, second, _) = open_with(rt.alloc(), TWO_STRIPES)?;
-    let mut second = table.caller(second);
-    let Ok(locked) = table.caller(first).lock() else {
-        return Err(Fail::from("a table that was not locked"));
+    let (first, mut second, _) = three_callers(rt.alloc(), TWO_STRIPES)?;
+    let Ok(locked) = first.lock() else {
+        panic!(rt; "a table that was not locked");
     };
     refused_meanwhile(&rt, &mut second);
     locked.unlock();
@@ -165,11 +158,10 @@ fn while_locked(rt: HostRuntime) -> Result<(), Fail> {
 /// A locked table grows as another does.
 #[test]
 fn a_locked_table(rt: HostRuntime) -> Result<(), Fail> {
-    let (table, first, _, _) = open_with(rt.alloc(), TWO_STRIPES)?;
-    let mut first = table.caller(first);
+    let (mut first, _, _) = three_callers(rt.alloc(), TWO_STRIPES)?;
     bind_all(&rt, &mut first);
     let Ok(mut locked) = first.lock() else {
-        return Err(Fail::from("a table that was not locked"));
+        panic!(rt; "a table that was not locked");
     };
     take_rows(&rt, &ROWS, |size| grow_locked(&rt, &mut locked, size));
     find_all(&rt, &mut locked.unlock_caller());

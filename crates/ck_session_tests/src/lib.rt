@@ -1,10 +1,8 @@
-//! Tests of locked tables, of growth, and of the lock words below.
+//! Tests of locked tables and of growth.
 #![tactic(auto)]
 
 #[cfg(test)]
 mod growth_rows;
-#[cfg(test)]
-mod lock_words;
 #[cfg(test)]
 mod locked_calls;
 #[cfg(test)]

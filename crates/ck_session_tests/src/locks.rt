@@ -1,16 +1,12 @@
 //! A table under one caller, and the calls of others meanwhile.
-ghost use Rattle.std.specs.Prelude.{◌≡◌};
-
-use ck_fixtures::{NumCaller, SIXTEEN_BUCKETS, open_with};
+use ck_fixtures::{NumCaller, SIXTEEN_BUCKETS, three_callers};
 use ck_key::NumKey;
 use cuckoo_map::{Busy, Refused, Settings, Why};
 use std::process::Abort;
 use std::test::Fail;
 
 /// Four stripes for three callers, of which each tries once to take a held stripe.
-fn one_try() -> Settings
-    ensures { result.callers ≡ 3 }
-{
+fn one_try() -> Settings {
     Settings {
         turns: 1,
         ..SIXTEEN_BUCKETS.settings(3)
@@ -49,9 +45,8 @@ fn find_busy(rt: &impl Abort, caller: &mut Option<NumCaller<'_>>, t: u32) {
 /// While a call holds a stripe, calls that need all stripes find that one busy.
 #[test]
 fn a_held_stripe(rt: HostRuntime) -> Result<(), Fail> {
-    let (table, first, second, _) = open_with(rt.alloc(), one_try())?;
-    let mut first = table.caller(first);
-    let mut second = Some(table.caller(second));
+    let (mut first, second, _) = three_callers(rt.alloc(), one_try())?;
+    let mut second = Some(second);
     bind_alone(&rt, &mut first);
     for t in 0..4u32 {
         let around = |value: u64| {
@@ -69,12 +64,10 @@ fn a_held_stripe(rt: HostRuntime) -> Result<(), Fail> {
 /// While the table is locked, each call of another caller is refused.
 #[test]
 fn calls_meanwhile(rt: HostRuntime) -> Result<(), Fail> {
-    let (table, first, second, _) = open_with(rt.alloc(), one_try())?;
-    let mut first = table.caller(first);
-    let mut second = table.caller(second);
+    let (mut first, mut second, _) = three_callers(rt.alloc(), one_try())?;
     bind_alone(&rt, &mut first);
     let Ok(locked) = first.lock() else {
-        return Err(Fail::from("a table that was not locked"));
+        panic!(rt; "a table that was not locked");
     };
     refused_meanwhile(&rt, &mut second);
     locked.unlock();

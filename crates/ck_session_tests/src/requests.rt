@@ -2,9 +2,7 @@
 //!
 //! A test takes all memory that the allocator still gives, and gives back one block from call to
 //! call, which is as large as the next request of the call.
-ghost use Rattle.std.specs.Prelude.{◌≡◌};
-
-use ck_fixtures::{NumCaller, NumLocked, NumTable, TWO_STRIPES};
+use ck_fixtures::{NumCaller, NumLocked, TWO_STRIPES, three_callers};
 use ck_hoard::{hoard, take_all};
 use ck_key::NumKey;
 use cuckoo_map::{GrowFault, Refused, Settings, Why};
@@ -163,9 +161,7 @@ fn export(rt: &impl Abort, alloc: Global, locked: &NumLocked<'_>) -> bool {
 
 /// A session goes on, whatever was refused: each key has its value, and one is erased and bound
 /// again.
-fn go_on(rt: &impl Abort, locked: &mut NumLocked<'_>, bound: bool)
-    ensures { locked.new.caller ≡ locked.old.caller }
-{
+fn go_on(rt: &impl Abort, locked: &mut NumLocked<'_>, bound: bool) {
     for key in KEYS {
         assert!(rt; locked.find(&NumKey(key)) == Some(&(10 * key)));
     }
@@ -242,11 +238,7 @@ fn check_call<'t>(
 }
 
 fn check(rt: &impl Abort, alloc: Global, row: &Row) -> Result<(), Fail> {
-    let (table, passes) = NumTable::open(alloc, SETTINGS)?;
-    let mut callers = table.callers(alloc, passes)?;
-    let Some(mut caller) = callers.pop() else {
-        return Err(Fail::from("no caller"));
-    };
+    let (mut caller, _, _) = three_callers(alloc, SETTINGS)?;
     bind_all(rt, &mut caller);
     let mut between = Vec::new(alloc);
     let mut blocks = blocks_of(alloc, row.blocks, &mut between)?;

@@ -1,19 +1,12 @@
 //! Sessions: a table under one caller, which may bind more keys than the table has room for when it
 //! is locked.
-ghost use Rattle.std.specs.Prelude.{◌≡◌};
-ghost use Rattle.cuckoo_map.specs.Callers.{IsSameCaller};
-
 use ck_fixtures::{
-    APART, EIGHT_APART, FOUR_BUCKETS, GROWING, NumCaller, NumLocked, Shape, are_pairs, open,
+    APART, EIGHT_APART, FOUR_BUCKETS, GROWING, NumCaller, NumLocked, Shape, are_pairs,
+    three_callers,
 };
 use ck_key::NumKey;
-use ck_model::history::Name;
-use ck_oracle::map::PlainMap;
 use cuckoo_map::{Refused, Why};
-use rand_core::Rng;
-use rand_pcg::Lcg64Xsh32;
-use std::alloc::{AllocError, Global};
-use std::collections::LinkedList;
+use std::alloc::Global;
 use std::process::Abort;
 use std::test::Fail;
 
@@ -51,57 +44,43 @@ enum Reply {
     Back(u64, u64, Why),
 }
 
-fn insert(locked: &mut NumLocked<'_>, key: u64, value: u64) -> Reply
-    ensures { locked.new.caller ≡ locked.old.caller }
-{
+fn insert(locked: &mut NumLocked<'_>, key: u64, value: u64) -> Reply {
     match locked.insert(NumKey(key), value) {
         Ok(fresh) => Reply::Fresh(fresh),
         Err(Refused { key, value, why }) => Reply::Back(key.0, value, why),
     }
 }
 
-fn assign(locked: &mut NumLocked<'_>, key: u64, value: u64) -> Reply
-    ensures { locked.new.caller ≡ locked.old.caller }
-{
+fn assign(locked: &mut NumLocked<'_>, key: u64, value: u64) -> Reply {
     match locked.insert_or_assign(NumKey(key), value) {
         Ok(old) => Reply::Was(old),
         Err(Refused { key, value, why }) => Reply::Back(key.0, value, why),
     }
 }
 
-fn halve_or(locked: &mut NumLocked<'_>, key: u64, value: u64) -> Reply
-    ensures { locked.new.caller ≡ locked.old.caller }
-{
+fn halve_or(locked: &mut NumLocked<'_>, key: u64, value: u64) -> Reply {
     match locked.upsert(NumKey(key), |value| value / 2, value) {
         Ok(fresh) => Reply::Fresh(fresh),
         Err(Refused { key, value, why }) => Reply::Back(key.0, value, why),
     }
 }
 
-fn halve(locked: &mut NumLocked<'_>, key: u64) -> Reply
-    ensures { locked.new.caller ≡ locked.old.caller }
-{
+fn halve(locked: &mut NumLocked<'_>, key: u64) -> Reply {
     Reply::Is(locked.update_fn(&NumKey(key), |value| value / 2))
 }
 
-fn clear(locked: &mut NumLocked<'_>) -> Reply
-    ensures { locked.new.caller ≡ locked.old.caller }
-{
+fn clear(locked: &mut NumLocked<'_>) -> Reply {
     locked.clear();
     Reply::Count(locked.len())
 }
 
-fn retain_even(locked: &mut NumLocked<'_>) -> Reply
-    ensures { locked.new.caller ≡ locked.old.caller }
-{
+fn retain_even(locked: &mut NumLocked<'_>) -> Reply {
     locked.retain(|_key, value| value % 2 == 0);
     Reply::Count(locked.len())
 }
 
 /// Makes the call.
-fn answer(locked: &mut NumLocked<'_>, call: Call) -> Reply
-    ensures { locked.new.caller ≡ locked.old.caller }
-{
+fn answer(locked: &mut NumLocked<'_>, call: Call) -> Reply {
     match call {
         Call::Find(key) => Reply::Was(locked.find(&NumKey(key)).copied()),
         Call::Contains(key) => Reply::Is(locked.contains(&NumKey(key))),
@@ -279,46 +258,19 @@ static SESSIONS: [Session; 8] = [
 ];
 
 /// Binds these keys to these values. None of them is bound yet, and there is room for all.
-fn bind_all(rt: &impl Abort, locked: &mut NumLocked<'_>, pairs: &[(u64, u64)])
-    ensures { locked.new.caller ≡ locked.old.caller }
-{
+fn bind_all(rt: &impl Abort, locked: &mut NumLocked<'_>, pairs: &[(u64, u64)]) {
     for (key, value) in pairs {
         let fresh = locked.insert(NumKey(*key), *value);
         assert!(rt; matches!(fresh, Ok(true)), "key {key}");
     }
 }
 
-fn make_calls(rt: &impl Abort, locked: &mut NumLocked<'_>, session: &Session)
-    ensures { locked.new.caller ≡ locked.old.caller }
-{
+fn make_calls(rt: &impl Abort, locked: &mut NumLocked<'_>, session: &Session) {
     let what = session.what;
     for (number, (call, want)) in session.calls.iter().enumerate() {
         let reply = answer(locked, *call);
         assert!(rt; reply == *want, "{what}: call {number}");
     }
-}
-
-/// How many pairs a `for` comes to, and what their keys and values sum to.
-fn count_and_sum(locked: &NumLocked<'_>) -> (u64, u64) {
-    let mut count: u64 = 0;
-    let mut sum: u64 = 0;
-    for (key, value) in locked.iter() {
-        count = count.wrapping_add(1);
-        sum = sum.wrapping_add(key.0).wrapping_add(*value);
-    }
-    (count, sum)
-}
-
-/// The pairs that the session leaves are those that a `for` comes to.
-fn sums_all(rt: &impl Abort, locked: &NumLocked<'_>, session: &Session) {
-    let what = session.what;
-    let (count, sum) = count_and_sum(locked);
-    assert!(rt; count == locked.len(), "{what}: pairs of an iterator");
-    let mut want: u64 = 0;
-    for (key, value) in session.end {
-        want = want.wrapping_add(*key).wrapping_add(*value);
-    }
-    assert!(rt; sum == want, "{what}: sum of an iterator");
 }
 
 /// Makes the calls of the session, and gives the pairs that it leaves.
@@ -329,11 +281,10 @@ fn pairs_of(
     session: &Session,
 ) -> Result<Vec<(NumKey, u64)>, Fail> {
     let Ok(mut locked) = caller.lock() else {
-        return Err(Fail::from("a table that was not locked"));
+        panic!(rt; "a table that was not locked");
     };
     bind_all(rt, &mut locked, session.bound);
     make_calls(rt, &mut locked, session);
-    sums_all(rt, &locked, session);
     let pairs = locked.export(alloc);
     let _caller = locked.unlock_caller();
     Ok(pairs?)
@@ -342,14 +293,14 @@ fn pairs_of(
 /// After the session another caller finds what it left, at the power that it left.
 fn check(rt: &impl Abort, alloc: Global, session: &Session) -> Result<(), Fail> {
     let what = session.what;
-    let (table, first, second, _) = open(alloc, session.shape)?;
-    let pairs = pairs_of(rt, alloc, table.caller(first), session)?;
+    let (first, mut second, _) = three_callers(alloc, session.shape.settings(3))?;
+    let pairs = pairs_of(rt, alloc, first, session)?;
     assert!(rt; are_pairs(&pairs, session.end), "{what}");
-    let mut second = table.caller(second);
     let power = second.power();
     assert!(rt; power == Ok(session.power), "{what}");
     let capacity = second.capacity();
-    assert!(rt; capacity == power.map(|power| 4 << power), "{what}");
+    let slots = 4u64.checked_shl(session.power);
+    assert!(rt; capacity.ok() == slots, "{what}");
     let is_empty = second.is_empty();
     assert!(rt; is_empty == Ok(session.end.is_empty()), "{what}");
     finds_all(rt, &mut second, session);
@@ -379,371 +330,31 @@ const TO_TWELVE: Shape = Shape {
     rounds: 4,
 };
 
-const KEYS: u64 = 700;
+const KEYS: u64 = 5000;
 
-/// More than two buckets have room for.
-const CROWD: u64 = 12;
-
-/// A key below `KEYS`, or one time in eight one of those that all have the same two buckets.
-fn any_key(random: &mut Lcg64Xsh32) -> u64 {
-    let key = random.next_u64() % KEYS;
-    if random.next_u32() % 8 == 0 {
-        (key % CROWD).saturating_mul(APART)
-    } else {
-        key
-    }
-}
-
-/// Seldom a `Clear` or a `RetainEven`, so that the table fills in between.
-fn any_call(random: &mut Lcg64Xsh32) -> Call {
-    match random.next_u32() % 2048 {
-        0 => return Call::Clear,
-        1 => return Call::RetainEven,
-        _ => {}
-    }
-    let key = any_key(random);
-    match random.next_u32() % 16 {
-        0 => Call::Find(key),
-        1 => Call::Contains(key),
-        2 => Call::Update(key, random.next_u64()),
-        3 => Call::Halve(key),
-        4 | 5 => Call::Erase(key),
-        6 => Call::Len,
-        7 => Call::IsEmpty,
-        8 | 9 => Call::Assign(key, random.next_u64()),
-        10 | 11 => Call::HalveOr(key, random.next_u64()),
-        _ => Call::Insert(key, random.next_u64()),
-    }
-}
-
-/// Makes the call on the plain map.
-fn answer_plain(
-    alloc: Global,
-    plain: &mut PlainMap,
-    name: &Name,
-    call: Call,
-) -> Result<Reply, AllocError> {
-    let bound = plain.get(name);
-    match call {
-        Call::Find(_) => Ok(Reply::Was(bound)),
-        Call::Contains(_) => Ok(Reply::Is(bound.is_some())),
-        Call::Insert(_, value) => {
-            if bound.is_none() {
-                plain.insert(name, value)?;
-            }
-            Ok(Reply::Fresh(bound.is_none()))
-        }
-        Call::Assign(_, value) => {
-            plain.insert(name, value)?;
-            Ok(Reply::Was(bound))
-        }
-        Call::HalveOr(_, value) => {
-            plain.insert(name, bound.map_or(value, |value| value / 2))?;
-            Ok(Reply::Fresh(bound.is_none()))
-        }
-        Call::Update(_, value) => {
-            if bound.is_some() {
-                plain.insert(name, value)?;
-            }
-            Ok(Reply::Was(bound))
-        }
-        Call::Halve(_) => {
-            if let Some(value) = bound {
-                plain.insert(name, value / 2)?;
-            }
-            Ok(Reply::Is(bound.is_some()))
-        }
-        Call::Erase(_) => {
-            plain.remove(name);
-            Ok(Reply::Was(bound))
-        }
-        Call::Clear => {
-            *plain = PlainMap::new(alloc);
-            Ok(Reply::Count(plain.len() as u64))
-        }
-        Call::RetainEven => {
-            remove_odd(alloc, plain)?;
-            Ok(Reply::Count(plain.len() as u64))
-        }
-        Call::Len => Ok(Reply::Count(plain.len() as u64)),
-        Call::IsEmpty => Ok(Reply::Is(plain.len() == 0)),
-    }
-}
-
-/// The name of a number key.
-fn name_of(alloc: Global, key: u64) -> Result<Name, AllocError> {
-    let mut name = LinkedList::new(alloc);
-    name.push_back(key)?;
-    Ok(name)
-}
-
-/// Unbinds the names of odd values.
-fn remove_odd(alloc: Global, plain: &mut PlainMap) -> Result<(), AllocError> {
-    for number in 0..KEYS + CROWD {
-        let name = name_of(alloc, key_at(number))?;
-        if plain.get(&name).is_some_and(|value| value % 2 == 1) {
-            plain.remove(&name);
-        }
-    }
-    Ok(())
-}
-
-/// The keys that random calls are about, by their numbers.
-fn key_at(number: u64) -> u64 {
-    if number < KEYS {
-        number
-    } else {
-        (number - KEYS).saturating_mul(APART)
-    }
-}
-
-fn key_of(call: Call) -> u64 {
-    match call {
-        Call::Find(key)
-        | Call::Contains(key)
-        | Call::Insert(key, _)
-        | Call::Assign(key, _)
-        | Call::HalveOr(key, _)
-        | Call::Update(key, _)
-        | Call::Halve(key)
-        | Call::Erase(key) => key,
-        Call::Clear | Call::RetainEven | Call::Len | Call::IsEmpty => 0,
-    }
-}
-
-/// Whether these are key and value of an insertion.
-fn hands_back(call: Call, key: u64, value: u64) -> bool {
-    call == Call::Insert(key, value)
-        || call == Call::Assign(key, value)
-        || call == Call::HalveOr(key, value)
-}
-
-/// Makes the call on both, and says whether the replies are the same. Where there is no room for a
-/// key, it is unbound in the plain map too.
-fn agree(
-    alloc: Global,
-    locked: &mut NumLocked<'_>,
-    plain: &mut PlainMap,
-    call: Call,
-) -> Result<bool, AllocError>
-    ensures { locked.new.caller ≡ locked.old.caller }
-{
-    let reply = answer(locked, call);
-    let name = name_of(alloc, key_of(call))?;
-    match reply {
-        Reply::Back(key, value, Why::Full | Why::LoadTooLow) => {
-            Ok(hands_back(call, key, value) && plain.get(&name).is_none())
-        }
-        _ => Ok(reply == answer_plain(alloc, plain, &name, call)?),
-    }
-}
-
-/// Whether all pairs are those of the plain map.
-fn exports_same(
-    alloc: Global,
-    locked: &NumLocked<'_>,
-    plain: &PlainMap,
-) -> Result<bool, AllocError> {
-    let pairs = locked.export(alloc)?;
-    for (key, value) in &pairs {
-        if plain.get(&name_of(alloc, key.0)?) != Some(*value) {
-            return Ok(false);
-        }
-    }
-    Ok(pairs.len() == plain.len())
-}
-
-/// Whether a `for` comes to each pair of the plain map once.
-fn iterates_same(
-    alloc: Global,
-    locked: &NumLocked<'_>,
-    plain: &PlainMap,
-) -> Result<bool, AllocError> {
-    let mut seen = PlainMap::new(alloc);
-    let mut count: u64 = 0;
-    for (key, value) in locked {
-        let name = name_of(alloc, key.0)?;
-        if plain.get(&name) != Some(*value) {
-            return Ok(false);
-        }
-        seen.insert(&name, *value)?;
-        count = count.wrapping_add(1);
-    }
-    Ok(seen.len() == plain.len() && count == plain.len() as u64)
-}
-
-/// A thousand random calls on both, and then all pairs.
-fn make_random_calls(
-    rt: &impl Abort,
-    alloc: Global,
-    random: &mut Lcg64Xsh32,
-    locked: &mut NumLocked<'_>,
-    plain: &mut PlainMap,
-) -> Result<(), AllocError>
-    ensures { locked.new.caller ≡ locked.old.caller }
-{
-    for number in 0..1000u32 {
-        let same = agree(alloc, locked, plain, any_call(random))?;
-        assert!(rt; same, "call {number}");
-    }
-    let same = exports_same(alloc, locked, plain)?;
-    assert!(rt; same, "pairs");
-    let same = iterates_same(alloc, locked, plain)?;
-    assert!(rt; same, "pairs of an iterator");
-    Ok(())
-}
-
-/// A session of ten thousand random calls.
-fn random_session(
-    rt: &impl Abort,
-    alloc: Global,
-    random: &mut Lcg64Xsh32,
-    caller: NumCaller<'_>,
-    plain: &mut PlainMap,
-) -> Result<(), Fail> {
-    let Ok(mut locked) = caller.lock() else {
-        return Err(Fail::from("a table that was not locked"));
-    };
-    let mut made = Ok(());
-    for _ in 0..10 {
-        if made.is_ok() {
-            made = make_random_calls(rt, alloc, random, &mut locked, plain);
-        }
-    }
-    locked.unlock();
-    made?;
-    Ok(())
-}
-
-/// Whether the caller finds the key as the plain map has it.
-fn finds_same(
-    alloc: Global,
-    caller: &mut NumCaller<'_>,
-    plain: &PlainMap,
-    key: u64,
-) -> Result<bool, AllocError>
-    ensures { IsSameCaller caller.old caller.new }
-{
-    let want = plain.get(&name_of(alloc, key)?);
-    Ok(caller.find(&NumKey(key)) == Ok(want))
-}
-
-fn finds_all_same(
-    rt: &impl Abort,
-    alloc: Global,
-    caller: &mut NumCaller<'_>,
-    plain: &PlainMap,
-) -> Result<(), Fail> {
+/// Binds all keys to themselves, and unbinds the odd ones.
+fn bind_and_thin(rt: &impl Abort, locked: &mut NumLocked<'_>) {
     for key in 0..KEYS {
-        let same = finds_same(alloc, caller, plain, key)?;
-        assert!(rt; same, "key {key}");
+        let fresh = locked.insert(NumKey(key), key);
+        assert!(rt; matches!(fresh, Ok(true)), "key {key}");
     }
-    for b in 0..CROWD {
-        let same = finds_same(alloc, caller, plain, b.saturating_mul(APART))?;
-        assert!(rt; same, "key {b} of the crowd");
-    }
-    let count = caller.len();
-    assert!(rt; count == Ok(plain.len() as u64));
-    Ok(())
+    locked.retain(|_key, value| value % 2 == 0);
+    assert!(rt; locked.len() == KEYS / 2);
 }
 
-/// A caller has a session, and another finds what it left.
-fn check_random(
-    rt: &impl Abort,
-    alloc: Global,
-    random: &mut Lcg64Xsh32,
-    first: NumCaller<'_>,
-    second: &mut NumCaller<'_>,
-    plain: &mut PlainMap,
-) -> Result<(), Fail> {
-    random_session(rt, alloc, random, first, plain)?;
-    finds_all_same(rt, alloc, second, plain)?;
-    let power = second.power();
-    assert!(rt; power == Ok(12));
-    Ok(())
-}
-
-/// Two callers have a session each, and a third finds what they left.
-fn check_two(rt: &impl Abort, alloc: Global) -> Result<(), Fail> {
-    let mut random = Lcg64Xsh32::new(2026, 2);
-    let mut plain = PlainMap::new(alloc);
-    let (table, first, second, third) = open(alloc, TO_TWELVE)?;
-    let (first, second) = (table.caller(first), table.caller(second));
-    let mut third = table.caller(third);
-    for caller in [first, second] {
-        check_random(rt, alloc, &mut random, caller, &mut third, &mut plain)?;
-    }
-    Ok(())
-}
-
+/// A session binds far more keys than the table has room for, and another caller finds what is left.
 #[test]
-fn random_sessions(rt: HostRuntime) -> Result<(), Fail> {
-    check_two(&rt, rt.alloc())
-}
-
-/// Binds these keys, and drains the table, which is empty then and can be used.
-fn drain(
-    rt: &impl Abort,
-    alloc: Global,
-    locked: &mut NumLocked<'_>,
-    bound: &[(u64, u64)],
-) -> Result<Vec<(NumKey, u64)>, AllocError>
-    ensures { locked.new.caller ≡ locked.old.caller }
-{
-    bind_all(rt, locked, bound);
-    let pairs = locked.drain(alloc)?;
-    assert!(rt; locked.is_empty());
-    for (key, _) in bound {
-        assert!(rt; !locked.contains(&NumKey(*key)), "key {key}");
-    }
-    Ok(pairs)
-}
-
-/// Drains the table twice, and gives the pairs that came first.
-fn drain_twice(
-    rt: &impl Abort,
-    alloc: Global,
-    caller: NumCaller<'_>,
-    bound: &[(u64, u64)],
-) -> Result<Vec<(NumKey, u64)>, Fail> {
-    let Ok(mut locked) = caller.lock() else {
-        return Err(Fail::from("a table that was not locked"));
+fn a_table_that_grows_in_a_session(rt: HostRuntime) -> Result<(), Fail> {
+    let (first, mut second, _) = three_callers(rt.alloc(), TO_TWELVE.settings(3))?;
+    let Ok(mut locked) = first.lock() else {
+        panic!(rt; "a table that was not locked");
     };
-    let first = drain(rt, alloc, &mut locked, bound);
-    let second = drain(rt, alloc, &mut locked, bound);
-    let fresh = locked.insert(NumKey(5), 50);
-    assert!(rt; matches!(fresh, Ok(true)));
-    let _caller = locked.unlock_caller();
-    let (first, second) = (first?, second?);
-    assert!(rt; first == second);
-    Ok(first)
-}
-
-/// More keys than the table has slots when it is locked, in no order.
-static UNSORTED: [u64; 18] = [
-    9, 40, 3, 700, 0, 8, 1, 31, 2, 16, 25, 5, 64, 4, 90, 7, 12, 6,
-];
-
-/// What comes is sorted, and another caller finds what was bound afterwards. The table has grown
-/// once, and stays so.
-fn check_drained(rt: &impl Abort, alloc: Global) -> Result<(), Fail> {
-    let (table, first, second, _) = open(alloc, GROWING)?;
-    let bound = UNSORTED.map(|key| (key, 1000u64.saturating_sub(key)));
-    let pairs = drain_twice(rt, alloc, table.caller(first), &bound)?;
-    let mut sorted = Vec::from_array(alloc, bound)?;
-    sorted.sort_unstable();
-    assert!(rt; are_pairs(&pairs, &sorted));
-    let mut second = table.caller(second);
-    let found = second.find(&NumKey(5));
-    assert!(rt; found == Ok(Some(50)));
-    let count = second.len();
-    assert!(rt; count == Ok(1));
-    let power = second.power();
-    assert!(rt; power == Ok(3));
+    bind_and_thin(&rt, &mut locked);
+    locked.unlock();
+    for key in 0..KEYS {
+        let want = (key % 2 == 0).then_some(key);
+        let found = second.find(&NumKey(key));
+        assert!(rt; found == Ok(want), "key {key}");
+    }
     Ok(())
-}
-
-#[test]
-fn drained(rt: HostRuntime) -> Result<(), Fail> {
-    check_drained(&rt, rt.alloc())
 }

@@ -26,16 +26,6 @@ impl<'t, K: Key> Worker<'t, K> {
         }
     }
 
-    fn contains(&mut self, key: K, want: Option<u64>) {
-        let number = key.number();
-        match self.caller.contains(&key) {
-            Ok(got) => self
-                .notes
-                .check_bool("contains", number, got, want.is_some()),
-            Err(_) => self.notes.busy(),
-        }
-    }
-
     fn insert(&mut self, i: u64, key: K, value: u64, want: Option<u64>) {
         let number = key.number();
         match self.caller.insert(key, value) {
@@ -59,20 +49,6 @@ impl<'t, K: Key> Worker<'t, K> {
         }
     }
 
-    fn upsert(&mut self, i: u64, key: K, value: u64, want: Option<u64>) {
-        let number = key.number();
-        match self.caller.upsert(key, |old| old / 2, value) {
-            Ok(fresh) => {
-                self.notes
-                    .check_bool("upsert", number, fresh, want.is_none());
-                self.notes
-                    .model
-                    .set(i, Some(want.map_or(value, |old| old / 2)));
-            }
-            Err(refused) => self.notes.refused(refused, number, value),
-        }
-    }
-
     fn update(&mut self, i: u64, key: K, value: u64, want: Option<u64>) {
         let number = key.number();
         match self.caller.update(&key, value) {
@@ -88,39 +64,12 @@ impl<'t, K: Key> Worker<'t, K> {
         }
     }
 
-    fn update_fn(&mut self, i: u64, key: K, want: Option<u64>) {
-        let number = key.number();
-        match self.caller.update_fn(&key, |old| old / 3) {
-            Ok(bound) => {
-                self.notes
-                    .check_bool("update_fn", number, bound, want.is_some());
-                self.notes.model.set(i, want.map(|old| old / 3));
-            }
-            Err(_) => self.notes.busy(),
-        }
-    }
-
     fn erase(&mut self, i: u64, key: K, want: Option<u64>) {
         let number = key.number();
         match self.caller.erase(&key) {
             Ok(old) => {
                 self.notes.check("erase", number, old, want);
                 self.notes.model.set(i, None);
-            }
-            Err(_) => self.notes.busy(),
-        }
-    }
-
-    // Erases an even value.
-    fn erase_fn(&mut self, i: u64, key: K, want: Option<u64>) {
-        let number = key.number();
-        let even = want.map(|value| value % 2 == 0);
-        match self.caller.erase_fn(&key, |value| *value % 2 == 0) {
-            Ok(erased) => {
-                self.notes.check_if_bound("erase_fn", number, erased, even);
-                if even == Some(true) {
-                    self.notes.model.set(i, None);
-                }
             }
             Err(_) => self.notes.busy(),
         }
@@ -160,31 +109,6 @@ impl<'t, K: Key> Worker<'t, K> {
         }
     }
 
-    fn insert_with(&mut self, i: u64, key: K, value: u64, want: Option<u64>) {
-        let number = key.number();
-        match self.caller.insert_with(key, || value) {
-            Ok(fresh) => {
-                self.notes
-                    .check_bool("insert_with", number, fresh, want.is_none());
-                self.notes.model.set(i, want.or(Some(value)));
-            }
-            Err(refused) => self.notes.key_back(refused.key, refused.why, number),
-        }
-    }
-
-    fn get_or_insert_with(&mut self, i: u64, key: K, value: u64, want: Option<u64>) {
-        let number = key.number();
-        match self.caller.get_or_insert_with(key, || value) {
-            Ok(got) => {
-                let right = want.or(Some(value));
-                self.notes
-                    .check("get_or_insert_with", number, Some(got), right);
-                self.notes.model.set(i, right);
-            }
-            Err(refused) => self.notes.key_back(refused.key, refused.why, number),
-        }
-    }
-
     // A call on a key of the thread's own.
     fn call_own(&mut self, kind: u64) {
         let i = self.notes.model.below(OWN);
@@ -194,19 +118,13 @@ impl<'t, K: Key> Worker<'t, K> {
         };
         let want = self.notes.model.get(i);
         match kind {
-            0 => self.find(key, want),
-            1 => self.contains(key, want),
-            2 | 3 | 4 => self.insert(i, key, value, want),
-            5 => self.assign(i, key, value, want),
-            6 => self.upsert(i, key, value, want),
+            0 | 1 => self.find(key, want),
+            2 | 3 | 4 | 5 => self.insert(i, key, value, want),
+            6 => self.assign(i, key, value, want),
             7 => self.update(i, key, value, want),
-            8 => self.update_fn(i, key, want),
+            8 => self.replace_if(i, key, want),
             9 => self.erase(i, key, want),
-            10 => self.erase_fn(i, key, want),
-            16 => self.uprase(i, key, value, want),
-            17 => self.replace_if(i, key, want),
-            18 => self.insert_with(i, key, value, want),
-            _ => self.get_or_insert_with(i, key, value, want),
+            _ => self.uprase(i, key, value, want),
         }
     }
 
@@ -278,12 +196,11 @@ impl<'t, K: Key> Worker<'t, K> {
 
     /// Makes a call of any kind but a session.
     pub fn make_call(&mut self) {
-        let kind = self.notes.model.below(20);
+        let kind = self.notes.model.below(16);
         match kind {
-            11 | 12 => self.transfer(),
-            13 => self.raise(),
-            14 => self.raise_within(),
-            15 => self.call_own(2),
+            12 | 13 => self.transfer(),
+            14 => self.raise(),
+            15 => self.raise_within(),
             _ => self.call_own(kind),
         }
     }

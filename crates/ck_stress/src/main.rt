@@ -23,32 +23,35 @@ use std::{env, io};
 
 const USAGE: &str = "ck_stress SECONDS [THREADS [SEED]]: up to 86400 seconds and 64 threads";
 
+/// The number of a word, from 1 to the most; nothing where it isn't one.
+fn number_of(word: &str, most: u64) -> Option<u64> {
+    let number = word.parse().ok()?;
+    (1 <= number && number <= most).then_some(number)
+}
+
 /// What the words ask for; nothing where they are no such numbers.
 fn plan_of(words: &[String]) -> Option<(u64, Plan)> {
-    let mut numbers = [0, 4, 1];
-    if words.len() > numbers.len() {
-        return None;
-    }
-    for (number, word) in numbers.iter_mut().zip(words) {
-        *number = word.parse().ok()?;
-    }
-    let [seconds, threads, seed] = numbers;
-    if seconds > 86_400 || threads == 0 || threads > 64 || (seconds == 0 && !words.is_empty()) {
-        return None;
-    }
-    let stop = if words.is_empty() {
-        Stop::AfterCalls(2000)
-    } else {
-        Stop::AfterSecond
+    let short = Plan {
+        threads: 4,
+        seed: 1,
+        stop: Stop::AfterCalls(2000),
     };
-    Some((
-        seconds.max(1),
-        Plan {
-            threads: threads as u32,
-            seed,
-            stop,
-        },
-    ))
+    let [seconds, more @ ..] = words else {
+        return Some((1, short));
+    };
+    let seconds = number_of(seconds, 86_400)?;
+    let (threads, seed) = match more {
+        [] => (4, 1),
+        [threads] => (number_of(threads, 64)?, 1),
+        [threads, seed] => (number_of(threads, 64)?, seed.parse().ok()?),
+        _ => return None,
+    };
+    let plan = Plan {
+        threads: u32::try_from(threads).ok()?,
+        seed,
+        stop: Stop::AfterSecond,
+    };
+    Some((seconds, plan))
 }
 
 /// Makes the rounds, and says whether all answers were right.

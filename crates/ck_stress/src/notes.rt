@@ -3,6 +3,7 @@ use crate::key::Key;
 use crate::model::Model;
 use crate::tally::Tally;
 use cuckoo_map::{Refused, Why};
+use std::alloc::{AllocError, Global};
 use std::io;
 
 /// An answer that no legal history has.
@@ -40,6 +41,15 @@ pub struct Notes {
 }
 
 impl Notes {
+    /// Those of a thread that begins.
+    pub fn new(alloc: Global, seed: u64, thread: u32) -> Result<Notes, AllocError> {
+        Ok(Notes {
+            model: Model::new(alloc, seed, thread)?,
+            tally: Tally::none(),
+            wrong: None,
+        })
+    }
+
     /// Counts an answer, and notes the first that isn't as wanted.
     pub fn check(&mut self, what: &'static str, key: u64, got: Option<u64>, want: Option<u64>) {
         self.tally.calls = self.tally.calls.saturating_add(1);
@@ -83,14 +93,14 @@ impl Notes {
             Some(refused.value),
             Some(value),
         );
-        self.key_back(refused.key, refused.why, key);
-    }
-
-    /// Counts an insertion of this key that was refused for this reason. The key comes back.
-    pub fn key_back<K: Key>(&mut self, back: K, why: Why, key: u64) {
-        self.check("key that comes back", key, Some(back.number()), Some(key));
+        self.check(
+            "key that comes back",
+            key,
+            Some(refused.key.number()),
+            Some(key),
+        );
         let tally = &mut self.tally;
-        let count = match why {
+        let count = match refused.why {
             Why::Busy(_) => &mut tally.busy,
             Why::Memory => &mut tally.memory,
             Why::Full => &mut tally.full,

@@ -1,11 +1,10 @@
 //! A round: a new table, threads that call it, and a last look at what it has.
-ghost use Rattle.std.specs.Prelude.{IfOk};
 ghost use Rattle.cuckoo_map.specs.Closing.{AreAllPasses};
 
 use crate::audit::{audit, check_end};
 use crate::calls::{Caller, Worker};
 use crate::key::Key;
-use crate::model::{ACCOUNTS, FUND, Model, account};
+use crate::model::{ACCOUNTS, FUND, account};
 use crate::notes::{Notes, Wrong};
 use crate::tally::Tally;
 use ck_key::{NumKey, TextKey};
@@ -90,17 +89,17 @@ fn work<'t, K: Key>(rt: &impl Clock, shift: Shift, worker: Worker<'t, K>) -> Wor
     worker
 }
 
-/// Opens the accounts.
-fn fund<K: Key>(alloc: Global, caller: &mut Caller<'_, K>) -> io::Result<()> {
-    for i in 0..ACCOUNTS {
-        let Some(key) = K::of(alloc, account(i)) else {
-            return Err(io::ErrorKind::OutOfMemory.into());
-        };
-        if caller.insert(key, FUND).is_err() {
-            return Err(io::ErrorKind::ResourceBusy.into());
-        }
+/// Opens an account, and says whether it could.
+fn open_account<K: Key>(alloc: Global, caller: &mut Caller<'_, K>, i: u64) -> bool {
+    match K::of(alloc, account(i)) {
+        Some(key) => caller.insert(key, FUND).is_ok(),
+        None => false,
     }
-    Ok(())
+}
+
+/// Opens the accounts, and says whether it could.
+fn fund<K: Key>(alloc: Global, caller: &mut Caller<'_, K>) -> bool {
+    (0..ACCOUNTS).all(|i| open_account(alloc, caller, i))
 }
 
 /// A worker for each two callers.
@@ -116,12 +115,7 @@ fn hire<'t, K: Key>(
         match waiting.take() {
             None => waiting = Some(caller),
             Some(second) => {
-                let model = Model::new(alloc, seed, thread)?;
-                let notes = Notes {
-                    model,
-                    tally: Tally::none(),
-                    wrong: None,
-                };
+                let notes = Notes::new(alloc, seed, thread)?;
                 workers.push(Worker {
                     caller,
                     second,
@@ -138,6 +132,21 @@ fn hire<'t, K: Key>(
 /// What all did in a round, or what was wrong in it.
 pub type Outcome = io::Result<Result<Tally, Wrong>>;
 
+/// What all did, where nothing was wrong.
+fn sum_of<K: Key>(notes: &Notes, workers: &[Worker<'_, K>]) -> Result<Tally, Wrong> {
+    let mut tally = notes.tally;
+    for worker in workers {
+        if let Some(wrong) = worker.notes.wrong {
+            return Err(wrong);
+        }
+        tally.add(worker.notes.tally);
+    }
+    match notes.wrong {
+        Some(wrong) => Err(wrong),
+        None => Ok(tally),
+    }
+}
+
 /// The last look, when no thread is in a call: what all did, or what is wrong.
 fn look_at_end<K: Key>(
     alloc: Global,
@@ -145,37 +154,14 @@ fn look_at_end<K: Key>(
     workers: &[Worker<'_, K>],
 ) -> Outcome {
     let mut auditor = auditor;
-    let power = auditor.power().unwrap_or(0);
+    let mut notes = Notes::new(alloc, 0, u32::MAX)?;
+    notes.tally.power = auditor.power().unwrap_or(0);
     let Ok(locked) = auditor.lock() else {
         return Err(io::ErrorKind::ResourceBusy.into());
     };
-    let model = Model::new(alloc, 0, u32::MAX);
-    let checked = match model {
-        Ok(model) => {
-            let mut notes = Notes {
-                model,
-                tally: Tally::none(),
-                wrong: None,
-            };
-            check_end(alloc, &mut notes, &locked, workers);
-            Ok(notes)
-        }
-        Err(error) => Err(error),
-    };
+    check_end(alloc, &mut notes, &locked, workers);
     locked.unlock();
-    let notes = checked?;
-    let mut tally = notes.tally;
-    tally.power = power;
-    for worker in workers {
-        if let Some(wrong) = worker.notes.wrong {
-            return Ok(Err(wrong));
-        }
-        tally.add(worker.notes.tally);
-    }
-    match notes.wrong {
-        Some(wrong) => Ok(Err(wrong)),
-        None => Ok(Ok(tally)),
-    }
+    Ok(sum_of(&notes, workers))
 }
 
 /// Workers, and how long they work.
@@ -186,16 +172,6 @@ struct Crew<'t, K: Key> {
 
 /// The workers at the end, where there was memory for their list.
 type Worked<'t, K> = Result<Vec<Worker<'t, K>>, AllocError>;
-
-/// The table of a round, and the passes of all its callers.
-fn open<K: Key>(alloc: Global, plan: Plan) -> io::Result<(Table<K, u64>, Vec<Pass<K, u64>>)>
-    ensures { IfOk result (λ r. AreAllPasses r.0 r.1.items) }
-{
-    match Table::open(alloc, settings(plan)) {
-        Ok(opened) => Ok(opened),
-        Err(_) => Err(io::ErrorKind::OutOfMemory.into()),
-    }
-}
 
 /// Whoever looks last, and the workers, once the accounts are open.
 fn begin<'t, K: Key>(
@@ -213,7 +189,9 @@ fn begin<'t, K: Key>(
     let Some(mut auditor) = callers.pop() else {
         return Err(io::ErrorKind::InvalidInput.into());
     };
-    fund(alloc, &mut auditor)?;
+    if !fund(alloc, &mut auditor) {
+        return Err(io::ErrorKind::OutOfMemory.into());
+    }
     let workers = hire(alloc, plan.seed, callers)?;
     let shift = Shift {
         start: Instant::now(rt)?,
@@ -223,22 +201,6 @@ fn begin<'t, K: Key>(
 }
 
 // The threads start in a function for each type of keys: of one for all the prover has no proof.
-
-/// Makes a round with numbers as keys, each worker in a thread of its own.
-fn run_numbers<R: Threads + Clock + Sync>(rt: &R, alloc: Global, plan: Plan) -> Outcome {
-    let (table, passes) = open::<NumKey>(alloc, plan)?;
-    let (auditor, crew) = begin(rt, alloc, plan, &table, passes)?;
-    let workers = work_on_numbers(rt, crew)?;
-    look_at_end(alloc, auditor, &workers)
-}
-
-/// The same with texts as keys.
-fn run_texts<R: Threads + Clock + Sync>(rt: &R, alloc: Global, plan: Plan) -> Outcome {
-    let (table, passes) = open::<TextKey>(alloc, plan)?;
-    let (auditor, crew) = begin(rt, alloc, plan, &table, passes)?;
-    let workers = work_on_texts(rt, crew)?;
-    look_at_end(alloc, auditor, &workers)
-}
 
 fn work_on_numbers<'t, R>(rt: &R, crew: Crew<'t, NumKey>) -> Worked<'t, NumKey>
 where
@@ -256,11 +218,57 @@ where
     thread::map_vec(rt, workers, &|worker| work(rt, shift, worker))
 }
 
+/// Makes a round on this table, which is new, with numbers as keys.
+fn run_numbers<R: Threads + Clock + Sync>(
+    rt: &R,
+    alloc: Global,
+    plan: Plan,
+    table: &Table<NumKey, u64>,
+    passes: Vec<Pass<NumKey, u64>>,
+) -> Outcome
+    requires { AreAllPasses table.now passes.items }
+{
+    let (auditor, crew) = begin(rt, alloc, plan, table, passes)?;
+    let workers = work_on_numbers(rt, crew)?;
+    look_at_end(alloc, auditor, &workers)
+}
+
+/// The same with texts as keys.
+fn run_texts<R: Threads + Clock + Sync>(
+    rt: &R,
+    alloc: Global,
+    plan: Plan,
+    table: &Table<TextKey, u64>,
+    passes: Vec<Pass<TextKey, u64>>,
+) -> Outcome
+    requires { AreAllPasses table.now passes.items }
+{
+    let (auditor, crew) = begin(rt, alloc, plan, table, passes)?;
+    let workers = work_on_texts(rt, crew)?;
+    look_at_end(alloc, auditor, &workers)
+}
+
+// What owns a table hands it on at once: each way out of it costs the prover seconds.
+
+fn open_and_run_numbers<R: Threads + Clock + Sync>(rt: &R, alloc: Global, plan: Plan) -> Outcome {
+    match Table::open(alloc, settings(plan)) {
+        Ok((table, passes)) => run_numbers(rt, alloc, plan, &table, passes),
+        Err(_) => Err(io::ErrorKind::OutOfMemory.into()),
+    }
+}
+
+fn open_and_run_texts<R: Threads + Clock + Sync>(rt: &R, alloc: Global, plan: Plan) -> Outcome {
+    match Table::open(alloc, settings(plan)) {
+        Ok((table, passes)) => run_texts(rt, alloc, plan, &table, passes),
+        Err(_) => Err(io::ErrorKind::OutOfMemory.into()),
+    }
+}
+
 /// Makes a round, every third with texts as keys, and says what was done in it, or what was wrong.
 pub fn run_round<R: Threads + Clock + Sync>(rt: &R, alloc: Global, plan: Plan) -> Outcome {
     if plan.seed % 3 == 2 {
-        run_texts(rt, alloc, plan)
+        open_and_run_texts(rt, alloc, plan)
     } else {
-        run_numbers(rt, alloc, plan)
+        open_and_run_numbers(rt, alloc, plan)
     }
 }

@@ -5,8 +5,8 @@ ghost use Rattle.cuckoo_map.specs.Callers.{IsSameCaller};
 
 use crate::callers::{Call, Reply, answer};
 use ck_fixtures::{
-    APART, EIGHT_APART, GROWING, NumCaller, SIXTEEN_BUCKETS, Shape, are_pairs, bind_all, close,
-    open,
+    APART, EIGHT_APART, GROWING, NumCaller, SIXTEEN_BUCKETS, Shape, are_pairs, bind_all,
+    three_callers,
 };
 use ck_key::NumKey;
 use cuckoo_map::{Uprased, Why};
@@ -218,11 +218,12 @@ fn end_of(
     shape: Shape,
     run: &Run,
 ) -> Result<Vec<(NumKey, u64)>, Fail> {
-    let (table, first, second, third) = open(alloc, shape)?;
-    let (mut first, mut second) = (table.caller(first), table.caller(second));
+    let (mut first, mut second, _) = three_callers(alloc, shape.settings(3))?;
     take_steps(rt, &mut first, &mut second, run);
-    let (first, second) = (first.into_pass(), second.into_pass());
-    close(alloc, table, first, second, third)
+    match second.drain(alloc) {
+        Ok((_, pairs)) => Ok(pairs),
+        Err(_) => Err(Fail::from("the pairs were not taken out")),
+    }
 }
 
 fn check_runs(rt: &impl Abort, alloc: Global, shape: Shape, runs: &[Run]) -> Result<(), Fail> {

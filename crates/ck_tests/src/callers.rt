@@ -4,6 +4,7 @@ ghost use Rattle.cuckoo_map.specs.Callers.{IsSameCaller};
 use ck_fixtures::{NumCaller, count, read};
 use ck_key::NumKey;
 use cuckoo_map::{Busy, Refused, Uprased, Why};
+use std::process::Abort;
 use std::sync::atomic::AtomicU64;
 
 /// A call on a key.
@@ -287,5 +288,16 @@ pub fn answer(caller: &mut NumCaller<'_>, call: Call) -> Reply
         Call::TakeIf(key, count) => take_if(caller, key, count),
         Call::TryTake(key, count) => try_take(caller, key, count),
         Call::Transfer(from, to) => transfer(caller, from, to),
+    }
+}
+
+/// A call and its reply.
+pub type Row = (Call, Reply);
+
+/// Makes the calls of the rows, one after the other.
+pub fn check_rows(rt: &impl Abort, caller: &mut NumCaller<'_>, what: &str, rows: &[Row]) {
+    for (number, (call, want)) in rows.iter().enumerate() {
+        let as_wanted = answer(caller, *call) == *want;
+        assert!(rt; as_wanted, "{what}: call {number}");
     }
 }

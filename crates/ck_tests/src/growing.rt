@@ -2,7 +2,7 @@
 //! while others look for these keys.
 
 use crate::callers::{Call, Reply, answer};
-use ck_fixtures::{NumCaller, NumTable, Shape, count, counters, read, scattered};
+use ck_fixtures::{NumCaller, Shape, callers_of, count, counters, read, scattered};
 use cuckoo_map::{Settings, Why};
 use std::alloc::{AllocError, Global};
 use std::process::Abort;
@@ -183,8 +183,7 @@ fn check_bound(rt: &impl Abort, run: &Run, caller: &mut NumCaller<'_>) {
 /// The callers work on a table of their own.
 fn check<R: Threads + Abort + Sync>(rt: &R, alloc: Global, run: &Run) -> Result<(), Fail> {
     let notes = Notes::new(alloc, run)?;
-    let (table, passes) = NumTable::open(alloc, run.settings())?;
-    let mut callers = table.callers(alloc, passes)?;
+    let mut callers: Vec<NumCaller<'_>> = callers_of(alloc, run.settings())?;
     let working = |number: usize, caller: &mut NumCaller<'_>| {
         work(caller, number as u64, run, &notes);
     };

@@ -3,13 +3,13 @@
 //!
 //! A test first takes all memory that the allocator still gives, and gives back a small block of it
 //! for the call.
-ghost use Rattle.std.specs.Prelude.{◌≡◌, IfSome, IfOk};
+ghost use Rattle.std.specs.Prelude.{◌≡◌, IfSome};
 ghost use Rattle.ck_words.specs.Closing.{IsCaller, AreAllPasses};
 
-use ck_fixtures::{NumCaller, NumLocked, NumPass, NumTable, TWO_STRIPES};
+use crate::callers::{Call, Reply, Row, check_rows};
+use ck_fixtures::{NumCaller, NumLocked, NumPass, NumTable, TWO_STRIPES, callers_of};
 use ck_hoard::{End, Ends, ends_of, hoard};
 use ck_key::{KeyFault, NumKey, TextKey};
-use ck_words::Words;
 use cuckoo_map::{DrainFault, GrowFault, OpenFault, Pool, Settings};
 use std::alloc::Global;
 use std::process::Abort;
@@ -31,12 +31,10 @@ const SETTINGS: Settings = Settings {
 enum Subject {
     Key,
     Opening,
-    Callers,
     Pooling,
     LockedGrowth,
     Draining,
     Closing,
-    WordsClosing,
 }
 
 /// How a call ended that is refused only for want of memory, which is this fault.
@@ -45,20 +43,6 @@ fn end_of<T: Drop, F: PartialEq + Drop>(rt: &impl Abort, outcome: Result<T, F>, 
         Ok(_) => End::Done,
         Err(fault) => {
             assert!(rt; fault == memory);
-            End::Refused
-        }
-    }
-}
-
-/// How a call ended that gives so many when it is done, and so many back when it is refused.
-fn counted(rt: &impl Abort, outcome: Result<usize, usize>, given: usize, back: usize) -> End {
-    match outcome {
-        Ok(count) => {
-            assert!(rt; count == given);
-            End::Done
-        }
-        Err(count) => {
-            assert!(rt; count == back);
             End::Refused
         }
     }
@@ -73,25 +57,28 @@ fn open(rt: &impl Abort, alloc: Global) -> End {
     end_of(rt, NumTable::open(alloc, SETTINGS), OpenFault::Memory)
 }
 
-/// Where there is no memory for the list of callers, all passes come back.
-fn make_callers(rt: &impl Abort, alloc: Global) -> End {
-    let Ok((table, passes)) = NumTable::open(alloc, TWO_STRIPES) else {
-        return End::Unbegun;
-    };
-    let counts = table.callers(alloc, passes).map(|callers| callers.len());
-    counted(rt, counts.map_err(|back| back.passes.len()), 3, 3)
-}
-
 /// Where there is no memory for a pool, all callers come back.
 fn make_pool(rt: &impl Abort, alloc: Global) -> End {
     let Ok((table, passes)) = NumTable::open(alloc, TWO_STRIPES) else {
         return End::Unbegun;
     };
-    let Ok(callers) = table.callers(alloc, passes) else {
-        return End::Unbegun;
-    };
-    let counts = Pool::new(alloc, callers).map(|pool| pool.len());
-    counted(rt, counts.map_err(|back| back.callers.len()), 3, 3)
+    match table.callers(alloc, passes) {
+        Ok(callers) => pool_of(rt, alloc, callers),
+        Err(_) => End::Unbegun,
+    }
+}
+
+fn pool_of(rt: &impl Abort, alloc: Global, callers: Vec<NumCaller<'_>>) -> End {
+    match Pool::new(alloc, callers) {
+        Ok(pool) => {
+            assert!(rt; pool.len() == 3);
+            End::Done
+        }
+        Err(back) => {
+            assert!(rt; back.callers.len() == 3);
+            End::Refused
+        }
+    }
 }
 
 /// A locked table that is refused memory to grow keeps its size and its pair.
@@ -99,10 +86,14 @@ fn grow_locked(rt: &impl Abort, alloc: Global) -> End {
     let Ok((table, mut passes)) = NumTable::open(alloc, SETTINGS) else {
         return End::Unbegun;
     };
-    let mut caller = table.caller(passes.remove(0));
+    grow(rt, table.caller(passes.remove(0)))
+}
+
+fn grow(rt: &impl Abort, caller: NumCaller<'_>) -> End {
+    let mut caller = caller;
     assert!(rt; caller.insert(NumKey(3), 30).is_ok());
     let Ok(mut locked) = caller.lock() else {
-        return End::Unbegun;
+        panic!(rt; "an only caller was busy");
     };
     let grown = locked.rehash(3);
     let (power, found) = (locked.power(), locked.find(&NumKey(3)).copied());
@@ -115,41 +106,40 @@ fn grow_locked(rt: &impl Abort, alloc: Global) -> End {
 /// Eight keys, each four in the bucket that they share.
 const KEYS: [u64; 8] = [3, 7, 11, 15, 12, 8, 4, 0];
 
-/// Binds all keys, and says whether each was.
-fn fill(table: &NumTable, pass: &mut NumPass) -> bool
+/// Binds all keys, which needs no memory.
+fn fill(rt: &impl Abort, table: &NumTable, pass: &mut NumPass)
     requires { IsCaller table.now pass.old }
     ensures caller { IsCaller table.now pass.new }
     ensures by { pass.new.view.by ≡ pass.old.view.by }
 {
-    let mut bound = true;
     for key in KEYS {
-        bound &= table.insert(pass, NumKey(key), 10 * key).is_ok();
+        let bound = table.insert(pass, NumKey(key), 10 * key);
+        assert!(rt; bound.is_ok());
     }
-    bound
 }
 
 /// A table with eight keys, and the pass of its one caller. The list of the pairs takes more memory
 /// than is free again once the table is open.
-fn table_of(alloc: Global) -> Option<(NumTable, Vec<NumPass>)>
+fn table_of(rt: &impl Abort, alloc: Global) -> Option<(NumTable, Vec<NumPass>)>
     ensures { IfSome result (λ r. AreAllPasses r.0 r.1.items) }
 {
     let Ok((table, mut passes)) = NumTable::open(alloc, SETTINGS) else {
         return None;
     };
-    let pass = &mut passes[0];
-    if fill(&table, pass) {
-        Some((table, passes))
-    } else {
-        None
-    }
+    fill(rt, &table, &mut passes[0]);
+    Some((table, passes))
+}
+
+fn drain(rt: &impl Abort, alloc: Global) -> End {
+    let Some((table, mut passes)) = table_of(rt, alloc) else {
+        return End::Unbegun;
+    };
+    drain_by(rt, alloc, table.caller(passes.remove(0)))
 }
 
 /// A table that is refused the memory for the list of its pairs keeps them.
-fn drain(rt: &impl Abort, alloc: Global) -> End {
-    let Some((table, mut passes)) = table_of(alloc) else {
-        return End::Unbegun;
-    };
-    match table.caller(passes.remove(0)).drain(alloc) {
+fn drain_by(rt: &impl Abort, alloc: Global, caller: NumCaller<'_>) -> End {
+    match caller.drain(alloc) {
         Ok((_, pairs)) => {
             assert!(rt; pairs.len() == 8);
             End::Done
@@ -163,7 +153,7 @@ fn drain(rt: &impl Abort, alloc: Global) -> End {
 }
 
 fn close(rt: &impl Abort, alloc: Global) -> End {
-    let Some((table, passes)) = table_of(alloc) else {
+    let Some((table, passes)) = table_of(rt, alloc) else {
         return End::Unbegun;
     };
     match table.close(passes) {
@@ -173,15 +163,6 @@ fn close(rt: &impl Abort, alloc: Global) -> End {
         }
         Err(_) => End::Refused,
     }
-}
-
-/// Where closing is refused, it gives back all passes.
-fn close_words(rt: &impl Abort, alloc: Global) -> End {
-    let Ok((words, passes)) = Words::<NumKey, u64>::open_all(alloc, TWO_STRIPES) else {
-        return End::Unbegun;
-    };
-    let counts = words.close(passes).map(|pairs| pairs.len());
-    counted(rt, counts.map_err(|(_, passes)| passes.len()), 0, 3)
 }
 
 /// What `fill` binds.
@@ -200,38 +181,32 @@ fn call(rt: &impl Abort, alloc: Global, subject: Subject) -> End {
     match subject {
         Subject::Key => make_key(rt, alloc),
         Subject::Opening => open(rt, alloc),
-        Subject::Callers => make_callers(rt, alloc),
         Subject::Pooling => make_pool(rt, alloc),
         Subject::LockedGrowth => grow_locked(rt, alloc),
         Subject::Draining => drain(rt, alloc),
         Subject::Closing => close(rt, alloc),
-        Subject::WordsClosing => close_words(rt, alloc),
     }
 }
 
 /// What is called, how many steps it gets, and whether what has to come before it needs memory too.
-type Row = (&'static str, Subject, usize, bool);
+type Case = (&'static str, Subject, usize, bool);
 
-const TEXT_KEY: Row = ("a text key", Subject::Key, 20, false);
+const TEXT_KEY: Case = ("a text key", Subject::Key, 20, false);
 
-const OPENING: Row = ("opening a table", Subject::Opening, 120, false);
+const OPENING: Case = ("opening a table", Subject::Opening, 120, false);
 
-const CALLERS: Row = ("a list of callers", Subject::Callers, 200, true);
+const POOL: Case = ("a pool", Subject::Pooling, 300, true);
 
-const POOL: Row = ("a pool", Subject::Pooling, 300, true);
+const GROWTH: Case = ("growth of a locked table", Subject::LockedGrowth, 200, true);
 
-const GROWTH: Row = ("growth of a locked table", Subject::LockedGrowth, 200, true);
+const DRAINING: Case = ("draining a table", Subject::Draining, 120, true);
 
-const DRAINING: Row = ("draining a table", Subject::Draining, 120, true);
+const CLOSING: Case = ("closing a table", Subject::Closing, 120, true);
 
-const CLOSING: Row = ("closing a table", Subject::Closing, 120, true);
+/// Each finds the free blocks that those before it have left. So a test makes one list of pairs.
+static CASES: [Case; 5] = [TEXT_KEY, OPENING, POOL, GROWTH, CLOSING];
 
-const CLOSING_WORDS: Row = ("closing lock words", Subject::WordsClosing, 200, true);
-
-static ROWS: [Row; 6] = [TEXT_KEY, OPENING, CALLERS, GROWTH, CLOSING, CLOSING_WORDS];
-
-/// Each row finds the free blocks that those before it have left.
-static ROWS_OF_CALLERS: [Row; 6] = [TEXT_KEY, OPENING, CALLERS, POOL, GROWTH, DRAINING];
+static CASES_OF_DRAINING: [Case; 5] = [TEXT_KEY, OPENING, POOL, GROWTH, DRAINING];
 
 /// Each call is refused for want of memory, and then it is not.
 fn wanted(unbegun: bool) -> Ends {
@@ -242,8 +217,8 @@ fn wanted(unbegun: bool) -> Ends {
     }
 }
 
-fn check_rows(rt: &impl Abort, alloc: Global, rows: &[Row]) -> Result<(), Fail> {
-    for (what, subject, steps, unbegun) in rows {
+fn check_cases(rt: &impl Abort, alloc: Global, cases: &[Case]) -> Result<(), Fail> {
+    for (what, subject, steps, unbegun) in cases {
         let ends = ends_of(alloc, *steps, || call(rt, alloc, *subject))?;
         assert!(rt; ends == wanted(*unbegun), "{what}");
     }
@@ -252,65 +227,61 @@ fn check_rows(rt: &impl Abort, alloc: Global, rows: &[Row]) -> Result<(), Fail> 
 
 #[test]
 fn each_request_refused(rt: HostRuntime) -> Result<(), Fail> {
-    check_rows(&rt, rt.alloc(), &ROWS)
+    check_cases(&rt, rt.alloc(), &CASES)
 }
 
 #[test]
-fn each_request_of_callers_refused(rt: HostRuntime) -> Result<(), Fail> {
-    check_rows(&rt, rt.alloc(), &ROWS_OF_CALLERS)
+fn each_request_of_draining_refused(rt: HostRuntime) -> Result<(), Fail> {
+    check_cases(&rt, rt.alloc(), &CASES_OF_DRAINING)
 }
 
 /// A table that was not closed for want of memory, and its pass.
-fn refused_table(alloc: Global) -> Result<(NumTable, Vec<NumPass>), Fail>
-    ensures { IfOk result (λ r. AreAllPasses r.0 r.1.items) }
+fn refused_table(rt: &impl Abort, alloc: Global) -> (NumTable, Vec<NumPass>)
+    ensures { AreAllPasses result.0 result.1.items }
 {
-    let Some((table, passes)) = table_of(alloc) else {
-        return Err(Fail::from("no memory at the start"));
+    let (table, passes) = table_of(rt, alloc).expect(rt, "no memory at the start");
+    let hoard = hoard(alloc).expect(rt, "no memory for the list of blocks");
+    let Err(back) = table.close(passes) else {
+        panic!(rt; "closed without memory");
     };
-    let hoard = hoard(alloc)?;
-    match table.close(passes) {
-        Ok(_) => Err(Fail::from("closed without memory")),
-        Err(back) => {
-            drop(hoard);
-            Ok(back)
-        }
-    }
+    drop(hoard);
+    back
 }
 
 /// A table whose closing was refused is closed again with ample memory.
 #[test]
-fn closing_again(rt: HostRuntime) -> Result<(), Fail> {
-    let (table, passes) = refused_table(rt.alloc())?;
+fn closing_again(rt: HostRuntime) {
+    let (table, passes) = refused_table(&rt, rt.alloc());
     let Ok(pairs) = table.close(passes) else {
-        return Err(Fail::from("refused with ample memory"));
+        panic!(rt; "refused with ample memory");
     };
     assert!(rt; pairs.as_slice() == EIGHT_PAIRS.as_slice());
-    Ok(())
 }
 
 /// A block that is free while calls are made: what takes memory of it and keeps it shows.
 const SPARE: usize = 4000;
 
-/// Makes the calls that find or change what is bound to a key. What was bound is bound again.
-fn change_pairs(rt: &impl Abort, caller: &mut NumCaller<'_>) {
-    let key = NumKey(3);
-    assert!(rt; caller.find(&key) == Ok(Some(30)));
-    assert!(rt; caller.find_fn(&key, |value: &u64| *value / 2) == Ok(Some(15)));
-    assert!(rt; caller.contains(&NumKey(5)) == Ok(false));
-    assert!(rt; caller.update(&key, 31) == Ok(Some(30)));
-    assert!(rt; caller.update_fn(&key, |value: u64| value / 31) == Ok(true));
-    assert!(rt; caller.replace_if(&key, |_value: &u64| Some(30)) == Ok(Some(true)));
-    assert!(rt; caller.erase_fn(&key, |value: &u64| *value == 30) == Ok(Some(true)));
-    assert!(rt; matches!(caller.insert(NumKey(3), 30), Ok(true)));
-    assert!(rt; matches!(caller.upsert(NumKey(3), |value: u64| value, 0), Ok(false)));
-    assert!(rt; caller.erase(&key) == Ok(Some(30)));
-    assert!(rt; matches!(caller.insert_or_assign(NumKey(3), 30), Ok(None)));
-}
+/// Calls that find or change what is bound to a key, where `KEYS` are bound. What was bound is bound
+/// again.
+static CHANGES: [Row; 13] = [
+    (Call::Find(3), Reply::Was(Some(30))),
+    (Call::FindTenth(3), Reply::Was(Some(3))),
+    (Call::Contains(5), Reply::Bound(false)),
+    (Call::Update(3, 31), Reply::Was(Some(30))),
+    (Call::UpdateFn(3), Reply::Updated(true, true)),
+    (Call::TakeIf(3, 2), Reply::Replaced(Some(true))),
+    (Call::EraseWithin(3, 30, 30), Reply::Gone(Some(true))),
+    (Call::Insert(3, 29), Reply::Fresh(true)),
+    (Call::Upsert(3, 0), Reply::Fresh(false)),
+    (Call::Transfer(3, 7), Reply::Bound(true)),
+    (Call::Transfer(7, 3), Reply::Bound(true)),
+    (Call::Erase(3), Reply::Was(Some(30))),
+    (Call::InsertOrAssign(3, 30), Reply::Was(None)),
+];
 
-/// Makes the calls on two keys and on all stripes, as far as they need no memory.
-fn ask_all(rt: &impl Abort, caller: &mut NumCaller<'_>) {
-    let swap = |less: u64, more: u64| (less, more);
-    assert!(rt; caller.update_two(&NumKey(3), &NumKey(7), swap) == Ok(true));
+/// Makes all calls that take no memory.
+fn ask(rt: &impl Abort, caller: &mut NumCaller<'_>) {
+    check_rows(rt, caller, "no memory", &CHANGES);
     assert!(rt; caller.len() == Ok(8));
     assert!(rt; caller.power() == Ok(2));
     assert!(rt; caller.rehash(2) == Ok(false));
@@ -330,26 +301,31 @@ fn ask_locked(rt: &impl Abort, locked: &mut NumLocked<'_>) {
 
 /// Makes all calls that take no memory, where there is none, and again with a spare block, of which
 /// none of them keeps anything.
-#[test]
-fn calls_take_no_memory(rt: HostRuntime) -> Result<(), Fail> {
-    let Some((table, mut passes)) = table_of(rt.alloc()) else {
-        return Err(Fail::from("no memory at the start"));
-    };
-    let mut caller = table.caller(passes.remove(0));
-    let spare = Vec::<u8>::with_capacity(rt.alloc(), SPARE)?;
-    let hoard = hoard(rt.alloc())?;
-    change_pairs(&rt, &mut caller);
-    ask_all(&rt, &mut caller);
+fn ask_twice(rt: &impl Abort, alloc: Global, caller: NumCaller<'_>) {
+    let mut caller = caller;
+    let spare = Vec::<u8>::with_capacity(alloc, SPARE).expect(rt, "memory at the start");
+    let hoard = hoard(alloc).expect(rt, "memory for the list of blocks");
+    ask(rt, &mut caller);
     drop(spare);
-    change_pairs(&rt, &mut caller);
-    ask_all(&rt, &mut caller);
+    ask(rt, &mut caller);
     let Ok(mut locked) = caller.lock() else {
-        return Err(Fail::from("an only caller was busy"));
+        panic!(rt; "an only caller was busy");
     };
-    ask_locked(&rt, &mut locked);
+    ask_locked(rt, &mut locked);
     locked.unlock();
-    let again = Vec::<u8>::with_capacity(rt.alloc(), SPARE);
+    let again = Vec::<u8>::with_capacity(alloc, SPARE);
     drop(hoard);
     assert!(rt; again.is_ok());
+}
+
+#[test]
+fn calls_take_no_memory(rt: HostRuntime) -> Result<(), Fail> {
+    let mut callers: Vec<NumCaller<'_>> = callers_of(rt.alloc(), SETTINGS)?;
+    let mut caller = callers.pop().expect(&rt, "a caller");
+    for key in KEYS {
+        let bound = caller.insert(NumKey(key), 10 * key);
+        assert!(rt; bound.is_ok());
+    }
+    ask_twice(&rt, rt.alloc(), caller);
     Ok(())
 }

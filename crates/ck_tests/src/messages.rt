@@ -1,7 +1,7 @@
 //! What a caller told is heard by another one in a thread of its own.
 ghost use Rattle.std.specs.Prelude.{◌≡◌};
 
-use ck_fixtures::{FOUR_BUCKETS, NumCaller, open};
+use ck_fixtures::{FOUR_BUCKETS, NumCaller, three_callers};
 use ck_key::NumKey;
 use cuckoo_map::Message;
 use std::process::Abort;
@@ -33,8 +33,7 @@ fn hear_there<'t, R: Threads + Abort + Sync>(
 
 #[test]
 fn a_message_goes_to_a_thread(rt: HostRuntime) -> Result<(), Fail> {
-    let (table, teller, hearer, _) = open(rt.alloc(), FOUR_BUCKETS)?;
-    let mut teller = table.caller(teller);
-    hear_there(&rt, &mut teller, table.caller(hearer));
+    let (mut teller, hearer, _) = three_callers(rt.alloc(), FOUR_BUCKETS.settings(3))?;
+    hear_there(&rt, &mut teller, hearer);
     Ok(())
 }

@@ -5,20 +5,13 @@
 //! and 1, key 1 has stripes 1 and 3, key 2 has stripes 1 and 2, and key 258 has stripe 2 alone.
 ghost use Rattle.std.specs.Prelude.{◌≢◌};
 
-use crate::callers::{Call, Reply, answer};
-use ck_fixtures::{FOUR_BUCKETS, NumCaller, SIXTEEN_BUCKETS, Shape, bind_all, open};
+use crate::callers::{Call, Reply, Row, answer, check_rows};
+use ck_fixtures::{FOUR_BUCKETS, NumCaller, SIXTEEN_BUCKETS, Shape, bind_all, three_callers};
 use ck_key::NumKey;
 use cuckoo_map::Why;
 use std::alloc::Global;
 use std::process::Abort;
 use std::test::Fail;
-
-fn check_rows(rt: &impl Abort, caller: &mut NumCaller<'_>, what: &str, rows: &[Row]) {
-    for (number, (call, want)) in rows.iter().enumerate() {
-        let as_wanted = answer(caller, *call) == *want;
-        assert!(rt; as_wanted, "{what}: call {number}");
-    }
-}
 
 /// Binds a bound key, where a value is given, by a closure in which the other two make their calls.
 fn update_around(
@@ -79,9 +72,6 @@ impl<'a> Others<'a> {
         check_rows(rt, &mut self.third, "within, third", turn.thirds);
     }
 }
-
-/// A call and its reply.
-type Row = (Call, Reply);
 
 /// The call that the others' calls are made in.
 #[derive(Clone, Copy)]
@@ -311,12 +301,8 @@ fn play(rt: &impl Abort, first: &mut NumCaller<'_>, others: &mut Others, scene: 
 }
 
 fn check(rt: &impl Abort, alloc: Global, scene: &Scene) -> Result<(), Fail> {
-    let (table, first, second, third) = open(alloc, scene.shape)?;
-    let mut first = table.caller(first);
-    let mut others = Others {
-        second: table.caller(second),
-        third: table.caller(third),
-    };
+    let (mut first, second, third) = three_callers(alloc, scene.shape.settings(3))?;
+    let mut others = Others { second, third };
     play(rt, &mut first, &mut others, scene);
     Ok(())
 }
@@ -356,8 +342,7 @@ fn find_all_but(rt: &impl Abort, caller: &mut NumCaller<'_>, held: Option<u32>) 
 /// A call is refused for a stripe of its own key, and for no other.
 #[test]
 fn each_stripe_in_turn(rt: HostRuntime) -> Result<(), Fail> {
-    let (table, first, second, _) = open(rt.alloc(), SIXTEEN_BUCKETS)?;
-    let (mut first, mut second) = (table.caller(first), table.caller(second));
+    let (mut first, mut second, _) = three_callers(rt.alloc(), SIXTEEN_BUCKETS.settings(3))?;
     let fresh = bind_all(&mut first, &HELD.map(|(_, key, _, _)| (key, key)));
     assert!(rt; fresh);
     for (t, key, looked, inserted) in &HELD {

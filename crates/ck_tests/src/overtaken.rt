@@ -15,6 +15,7 @@ use cuckoo_map::{Caller, Settings, Table, TableKey};
 use std::process::Abort;
 use std::sync::atomic::{AtomicU64, Ordering};
 use std::test::Fail;
+use std::thread::Threads;
 use std::{cmp, hint, thread};
 
 /// How often a thread looks for the other at most.
@@ -160,6 +161,30 @@ fn fill<'m>(rt: &impl Abort, caller: &mut WaitingCaller<'_, 'm>, meeting: &'m Me
     }
 }
 
+/// The first caller doubles the table while the second inserts the key that waits.
+fn meet<'m, R: Threads + Abort + Sync>(
+    rt: &R,
+    meeting: &'m Meeting,
+    callers: Vec<WaitingCaller<'_, 'm>>,
+) {
+    let mut callers = callers;
+    let mut first = callers.pop().expect(rt, "two callers");
+    let second = callers.pop().expect(rt, "two callers");
+    fill(rt, &mut first, meeting);
+    let (inserted, doubled) = thread::join(
+        rt,
+        || insert_meanwhile(second, meeting),
+        || double_meanwhile(first, meeting),
+    );
+    assert!(rt;
+        inserted,
+        "the table has room for the key without all stripes"
+    );
+    assert!(rt; doubled, "nobody else holds a stripe meanwhile");
+    let gave_up = meeting.gave_up.load(Ordering::SeqCst);
+    assert!(rt; gave_up == 0, "the threads met");
+}
+
 #[test]
 fn a_doubling_overtakes_a_search(rt: HostRuntime) -> Result<(), Fail> {
     let meeting = Meeting::new();
@@ -173,26 +198,9 @@ fn a_doubling_overtakes_a_search(rt: HostRuntime) -> Result<(), Fail> {
         min_load: 5,
     };
     let (table, passes) = Table::<WaitingKey<'_>, u64>::open(rt.alloc(), settings)?;
-    let Ok(mut callers) = table.callers(rt.alloc(), passes) else {
-        return Err(Fail::from("no callers"));
+    let Ok(callers) = table.callers(rt.alloc(), passes) else {
+        panic!(rt; "no memory for the callers");
     };
-    let (Some(mut first), Some(second)) = (callers.pop(), callers.pop()) else {
-        return Err(Fail::from("fewer than two callers"));
-    };
-    fill(&rt, &mut first, &meeting);
-    let (inserted, doubled) = thread::join(
-        &rt,
-        || insert_meanwhile(second, &meeting),
-        || double_meanwhile(first, &meeting),
-    );
-    assert!(&rt;
-        inserted,
-        "the table has room for the key without all stripes"
-    );
-    assert!(&rt; doubled, "nobody else holds a stripe meanwhile");
-    assert!(&rt;
-        meeting.gave_up.load(Ordering::SeqCst) == 0,
-        "the threads met"
-    );
+    meet(&rt, &meeting, callers);
     Ok(())
 }

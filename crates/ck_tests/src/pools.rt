@@ -1,6 +1,6 @@
 //! Threads that borrow callers of a pool.
 
-use ck_fixtures::{NumCaller, NumTable, SIXTEEN_BUCKETS};
+use ck_fixtures::{NumCaller, SIXTEEN_BUCKETS, callers_of, three_callers};
 use ck_key::NumKey;
 use cuckoo_map::{AllLent, DrainFault, Pool, Settings};
 use std::alloc::Global;
@@ -81,12 +81,11 @@ fn run<R: Threads + Wait + Sync>(rt: &R, alloc: Global, pool: &NumPool<'_>) -> R
 #[test]
 fn more_threads_than_callers(rt: HostRuntime) -> Result<(), Fail> {
     let alloc = rt.alloc();
-    let (table, passes) = NumTable::open(alloc, settings(4))?;
-    let pool = Pool::new(alloc, table.callers(alloc, passes)?)?;
+    let pool: NumPool<'_> = Pool::new(alloc, callers_of(alloc, settings(4))?)?;
     let added = run(&rt, alloc, &pool)?;
     assert!(rt; added);
     let Ok(callers) = pool.into_callers(alloc) else {
-        return Err(Fail::from("no memory for the callers"));
+        panic!(rt; "no memory for the callers");
     };
     check_sums(&rt, alloc, callers);
     Ok(())
@@ -96,15 +95,14 @@ fn more_threads_than_callers(rt: HostRuntime) -> Result<(), Fail> {
 #[test]
 fn one_caller(rt: HostRuntime) -> Result<(), Fail> {
     let alloc = rt.alloc();
-    let (table, passes) = NumTable::open(alloc, settings(1))?;
-    let pool = Pool::new(alloc, table.callers(alloc, passes)?)?;
+    let pool: NumPool<'_> = Pool::new(alloc, callers_of(alloc, settings(1))?)?;
     assert!(rt; pool.len() == 1);
-    let mut first = pool.lend()?;
+    let mut first = pool.lend().expect(&rt, "a caller");
     assert!(rt; pool.lend().is_err());
     let fresh = first.insert(NumKey(5), 50);
     assert!(rt; fresh.is_ok());
     drop(first);
-    let mut second = pool.lend()?;
+    let mut second = pool.lend().expect(&rt, "the caller that came back");
     let found = second.find(&NumKey(5));
     assert!(rt; found == Ok(Some(50)));
     Ok(())
@@ -114,21 +112,20 @@ fn one_caller(rt: HostRuntime) -> Result<(), Fail> {
 #[test]
 fn drain_beside_a_lock(rt: HostRuntime) -> Result<(), Fail> {
     let alloc = rt.alloc();
-    let (table, mut passes) = NumTable::open(alloc, SIXTEEN_BUCKETS.settings(2))?;
-    let other = table.caller(passes.remove(1));
-    let Ok(mut locked) = other.lock() else {
-        return Err(Fail::from("the first call was busy"));
+    let (first, second, _) = three_callers(alloc, SIXTEEN_BUCKETS.settings(3))?;
+    let Ok(mut locked) = second.lock() else {
+        panic!(rt; "the first call was busy");
     };
     let bound = locked.insert(NumKey(5), 50);
-    let refused = table.caller(passes.remove(0)).drain(alloc);
+    let refused = first.drain(alloc);
     locked.unlock();
     assert!(rt; bound.is_ok());
     let Err((caller, fault)) = refused else {
-        return Err(Fail::from("drained a table that another caller has locked"));
+        panic!(rt; "drained a table that another caller has locked");
     };
     assert!(rt; matches!(fault, DrainFault::Busy(_)));
     let Ok((_, pairs)) = caller.drain(alloc) else {
-        return Err(Fail::from("refused once the table was unlocked"));
+        panic!(rt; "refused once the table was unlocked");
     };
     assert!(rt; pairs.as_slice() == [(NumKey(5), 50)].as_slice());
     Ok(())

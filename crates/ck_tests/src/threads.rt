@@ -1,7 +1,7 @@
 //! Threads that bind one key again and again, each time to another value, each with a caller of its
 //! own.
 
-use ck_fixtures::{NumCaller, NumTable, SIXTEEN_BUCKETS, count, counters, read};
+use ck_fixtures::{NumCaller, SIXTEEN_BUCKETS, callers_of, count, counters, read};
 use ck_key::NumKey;
 use cuckoo_map::Settings;
 use std::alloc::Global;
@@ -64,8 +64,7 @@ fn check<R: Threads + Abort + Sync>(rt: &R, alloc: Global, threads: u32) -> Resu
         turns: u32::MAX,
         ..SIXTEEN_BUCKETS.settings(threads)
     };
-    let (table, passes) = NumTable::open(alloc, settings)?;
-    let callers = table.callers(alloc, passes)?;
+    let callers = callers_of(alloc, settings)?;
     let mut jobs = Vec::new(alloc);
     for caller in callers {
         let thread = jobs.len();
