@@ -79,40 +79,42 @@ module _ {V : Type 0} where
     pub replies_inserting : (hash : Name → ℕ) (name : Name) (act : Act V) (reply : Reply V) → IsInserted hash w.settings name p q act reply → RepliesOn name c (caller_of w q) act reply × (IsSameCaller c (caller_of w q) × NotesFull hash name c (caller_of w q))
     replies_inserting hash name act reply a = (replied (On name act) a.2, (same_caller a.2.stays.by, (a.0, a.1, keeps_notes a.2.stays, grown_caller a.3)))
 
-    module _ (before : IsCaller w p) (after : IsCaller w q) where
+    -- the table that the call was made on, v, is the caller's
+    module _ (before : IsCaller w p) {v : WordsState} (at : v ≡ w) (after : IsCaller v q) where
       -- what holds of the passes holds of those of the callers
-      pub over : (P : WordsState → PassState V → PassState V → Type 0) → P w p q → P c.table (pass_of c) (pass_of (caller_of w q))
+      pub over : (P : WordsState → PassState V → PassState V → Type 0) → P v p q → P c.table (pass_of c) (pass_of (caller_of w q))
       over P h =
           subst (λ (x : CallerState V). P x.table (pass_of x) (pass_of (caller_of w q))) is
-          (subst (λ (x : PassState V × PassState V). P w x.0 x.1) (λ j. (sym (as_pass before) j, sym (as_pass after) j)) h)
+          (subst (λ (x : PassState V × PassState V). P w x.0 x.1) (λ j. (sym (as_pass before) j, sym (as_pass (subst (λ (x : WordsState). IsCaller x q) at after)) j)) (subst (λ (x : WordsState). P x p q) at h))
 
       pub query : {A E : Type 0} {T : A → Type 0} (P : WordsState → ℕ → Type 0) (stripe : E → ℕ) (r : Result A E) → IfOk r (λ a. T a × (IsSameCaller c (caller_of w q) × KeepsNotes c (caller_of w q)))
-          → IfErr r (λ e. IsBusyAmong (P w) w.settings (stripe e) p q) → FindsAmong (P w) p q → CallLeaves T P stripe r c (caller_of w q)
+          → IfErr r (λ e. IsBusyAmong (P v) v.settings (stripe e) p q) → FindsAmong (P v) p q → CallLeaves T P stripe r c (caller_of w q)
       query {A} {E} {T} P stripe r told busy found = record {
         same = by_result r told busy (λ a h. h.1.0) (λ e h. same_caller h.stays.by);
         answered = IfOk-weaker r _ _ (λ a h. h.0) told;
         notes = IfOk-weaker r _ _ (λ a h. h.1.1) told;
-        busy = over (λ v a b. IfErr r (λ e. IsBusyAmong (P v) v.settings (stripe e) a b)) busy;
-        found = over (λ v a b. FindsAmong (P v) a b) found;
+        busy = over (λ x a b. IfErr r (λ e. IsBusyAmong (P x) x.settings (stripe e) a b)) busy;
+        found = over (λ x a b. FindsAmong (P x) a b) found;
       }
 
       -- where it was a query of one name
       pub query_on : {A : Type 0} {answers : (Act V → Reply V → Type 0) → A → Type 0} (hash : Name → ℕ) (name : Name) (r : Result A Busy)
           → ((a : A) → answers (IsAnsweredOn name p q) a → answers (RepliesOn name c (caller_of w q)) a × (IsSameCaller c (caller_of w q) × KeepsNotes c (caller_of w q)))
-          → HasQueried answers hash w.settings name r p q → QueryLeaves answers hash name r c (caller_of w q)
+          → HasQueried answers hash v.settings name r p q → QueryLeaves answers hash name r c (caller_of w q)
       query_on {A} {answers} hash name r told did =
           let left = query {T = answers (RepliesOn name c (caller_of w q))} (OfName hash name) (λ busy. busy.0) r (IfOk-weaker r _ _ told did.answered) did.busy did.found in
           record { same = left.same; answered = left.answered; notes = left.notes; busy = left.busy; found = left.found }
 
       pub insertion : {A K X : Type 0} {answers : (Act V → Reply V → Type 0) → A → Type 0} (hash : Name → ℕ) (name : Name) (key : K) (x : X) (r : Result A (Refused K X))
           → ((a : A) → answers (IsInserted hash w.settings name p q) a → answers (RepliesOn name c (caller_of w q)) a × (IsSameCaller c (caller_of w q) × NotesFull hash name c (caller_of w q)))
-          → HasInserted answers hash w.settings name key x r p q → InsertionLeaves answers hash name key x r c (caller_of w q)
-      insertion {A} {K} {X} {answers} hash name key x r told did =
+          → HasInserted answers hash v.settings name key x r p q → InsertionLeaves answers hash name key x r c (caller_of w q)
+      insertion {A} {K} {X} {answers} hash name key x r told there =
+          let did = subst (λ (t : WordsState). HasInserted answers hash t.settings name key x r p q) at there in
           let said = IfOk-weaker r _ (λ a. answers (RepliesOn name c (caller_of w q)) a × (IsSameCaller c (caller_of w q) × NotesFull hash name c (caller_of w q))) told did.answered in
           record {
             same = by_result r said did.refused (λ a h. h.1.0) (λ e h. same_caller h.2.stays.by);
             answered = IfOk-weaker r _ _ (λ a h. h.0) said;
             notes = IfOk-weaker r _ _ (λ a h. h.1.1) said;
-            refused = over (λ v a b. IfErr r (HandsBack hash v.settings name key x a b)) did.refused;
-            found = over (λ v a b. FindsOwnUnlessFull hash v.settings name a b) did.found;
+            refused = over (λ t a b. IfErr r (HandsBack hash t.settings name key x a b)) there.refused;
+            found = over (λ t a b. FindsOwnUnlessFull hash t.settings name a b) there.found;
           }

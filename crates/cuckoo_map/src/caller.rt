@@ -1,38 +1,43 @@
-//! A caller: the table, and a pass of its own.
+//! A caller: how it has the table, and a pass of its own.
 ghost use Rattle.std.specs.Prelude.{◌≡◌, ◌≢◌, ◌*◌, ◌^◌, ◌≤◌, ℕ, All, map, OnOk, IfOk, IfErr, MatchResult, nat_eq};
 ghost use Rattle.std.specs.Fn.{FnOnceReturnsAt};
 ghost use Rattle.ck_model.specs.declared.history.Call.TheVariants.{ChangeTwo};
 ghost use Rattle.ck_words.specs.Closing.{IsCaller};
 
-use crate::locked::LockedTable;
-use crate::refusal::{Busy, DrainFault, GrowFault, NoCallers, Refused};
+use crate::locked::LockedOn;
+use crate::refusal::{Busy, DrainFault, GrowFault, NoCallers, NotDrained, NotLocked, Refused};
 use crate::table::Table;
+use crate::table_ref::TableRef;
 use ck_key::{Query, TableKey};
 use ck_section::Uprased;
 use ck_words::{Message, Pass};
 use std::alloc::Global;
 use std::marker::Model;
 
-/// A caller of a table: the table together with a pass of it, by which it makes its calls.
+/// A caller of a table: the table, as it has it, together with a pass of it, by which it makes its
+/// calls. A [`Caller`] borrows its table, and a [`Handle`](crate::Handle) shares it with the others.
 ///
 /// That the pass is one of this table, and in no call, is known by the type. A caller may go to
 /// another thread, and can't be cloned. Contracts see the table, what a client sees, and notes of
 /// what else the caller was told, found and said.
 #[derive(Drop)]
-pub struct Caller<'t, K: TableKey, V> {
-    table: &'t Table<K, V>,
-    pass: Pass<K, V>,
+pub struct CallerOn<T: TableRef<K, V>, K: TableKey, V> {
+    pub(crate) table: T,
+    pub(crate) pass: Pass<K, V>,
 }
 
-impl<'t, K: TableKey, V> Model for Caller<'t, K, V> {
+/// A caller that borrows its table.
+pub type Caller<'t, K, V> = CallerOn<&'t Table<K, V>, K, V>;
+
+impl<T: TableRef<K, V>, K: TableKey, V> Model for CallerOn<T, K, V> {
     ghost use Rattle.ck_words.specs.Closing.{IsCaller};
     ghost use Rattle.cuckoo_map.specs.Callers.{CallerState, caller_of};
 
     ghost Value = { CallerState V };
 
-    ghost view = { λ c. caller_of c.table.now c.pass };
+    ghost view = { λ c. caller_of (T.state c.table) c.pass };
 
-    ghost invariant = { λ c. IsCaller c.table.now c.pass };
+    ghost invariant = { λ c. IsCaller (T.state c.table) c.pass };
 }
 
 impl<K: TableKey + Drop, V: Drop> Table<K, V> {
@@ -43,7 +48,7 @@ impl<K: TableKey + Drop, V: Drop> Table<K, V> {
         requires { IsCaller self.now pass }
         ensures { result ≡ caller_of self.now pass }
     {
-        Caller { table: self, pass }
+        CallerOn { table: self, pass }
     }
 
     /// A caller for each pass, in their order. Where there is no memory for the list, the passes
@@ -69,6 +74,15 @@ impl<K: TableKey + Drop, V: Drop> Table<K, V> {
 }
 
 impl<'t, K: TableKey + Drop, V: Drop> Caller<'t, K, V> {
+    /// The table.
+    pub fn table(&self) -> &'t Table<K, V>
+        ensures { result.now ≡ self.now.table }
+    {
+        self.table
+    }
+}
+
+impl<T: TableRef<K, V> + Drop, K: TableKey + Drop, V: Drop> CallerOn<T, K, V> {
     ghost use Rattle.ck_section.specs.Acts.{Finds, FindsBound, FindsBy, Inserts, InsertsBy, FindsOrInserts};
     ghost use Rattle.ck_section.specs.Acts.{Assigns, Upserts, Uprases, TriesUpsert, Updates, Changes};
     ghost use Rattle.ck_section.specs.Acts.{ReplacesIf, TriesChange, Erases, ErasesBy, ChangesTwo};
@@ -78,19 +92,12 @@ impl<'t, K: TableKey + Drop, V: Drop> Caller<'t, K, V> {
     ghost use Rattle.cuckoo_map.specs.Callers.{FindsHeldOfTwo, FindsHeldAmong, FindsHeldOfAny};
     ghost use Rattle.cuckoo_map.specs.Locking.{HasLocked};
 
-    /// The table.
-    pub fn table(&self) -> &'t Table<K, V>
-        ensures { result.now ≡ self.now.table }
-    {
-        self.table
-    }
-
     /// The pass. With the passes of all other callers it ends the table.
     pub fn into_pass(self) -> Pass<K, V>
-        ensures caller { IsCaller self.entry.table result }
-        ensures pass { result ≡ pass_of self.entry }
+        ensures caller { IsCaller self.table result }
+        ensures pass { result ≡ pass_of self }
     {
-        let Caller { table: _, pass } = self;
+        let CallerOn { table: _, pass } = self;
         pass
     }
 
@@ -113,7 +120,7 @@ impl<'t, K: TableKey + Drop, V: Drop> Caller<'t, K, V> {
         V: Copy,
         ensures { QueryLeaves Finds K.hash (Q.name key) result self.old self.new }
     {
-        self.table.find(&mut self.pass, key)
+        self.table.table().find(&mut self.pass, key)
     }
 
     /// What the closure answers for the value of the key; `None` where the key is unbound. Refused
@@ -134,7 +141,7 @@ impl<'t, K: TableKey + Drop, V: Drop> Caller<'t, K, V> {
         ensures { QueryLeaves (FindsBy (FnOnceReturnsAt F.FnOnce f))
             K.hash (Q.name key) result self.old self.new }
     {
-        self.table.find_fn(&mut self.pass, key, f)
+        self.table.table().find_fn(&mut self.pass, key, f)
     }
 
     /// Whether the key is bound. Refused as busy, it changes nothing. It is `Table::contains`.
@@ -146,7 +153,7 @@ impl<'t, K: TableKey + Drop, V: Drop> Caller<'t, K, V> {
     pub fn contains<Q: Query<K>>(&mut self, key: Q) -> Result<bool, Busy>
         ensures { QueryLeaves FindsBound K.hash (Q.name key) result self.old self.new }
     {
-        self.table.contains(&mut self.pass, key)
+        self.table.table().contains(&mut self.pass, key)
     }
 
     /// Binds the key to the value where it is unbound, and says whether it was. The table may grow
@@ -163,7 +170,7 @@ impl<'t, K: TableKey + Drop, V: Drop> Caller<'t, K, V> {
         ensures { InsertionLeaves (Inserts value)
             K.hash (K.name key) key value result self.old self.new }
     {
-        self.table.insert(&mut self.pass, key, value)
+        self.table.table().insert(&mut self.pass, key, value)
     }
 
     /// Binds the key to the value, and gives the value that it had. The table may grow for it.
@@ -178,7 +185,9 @@ impl<'t, K: TableKey + Drop, V: Drop> Caller<'t, K, V> {
         ensures { InsertionLeaves (Assigns value)
             K.hash (K.name key) key value result self.old self.new }
     {
-        self.table.insert_or_assign(&mut self.pass, key, value)
+        self.table
+            .table()
+            .insert_or_assign(&mut self.pass, key, value)
     }
 
     /// Binds an unbound key to the value, and a bound one to what the closure makes of its value;
@@ -201,7 +210,7 @@ impl<'t, K: TableKey + Drop, V: Drop> Caller<'t, K, V> {
         ensures { InsertionLeaves (Upserts (F.post f) value)
             K.hash (K.name key) key value result self.old self.new }
     {
-        self.table.upsert(&mut self.pass, key, f, value)
+        self.table.table().upsert(&mut self.pass, key, f, value)
     }
 
     /// Binds an unbound key to the value, and answers `Ok(true)`. A bound one is bound to the value
@@ -235,7 +244,7 @@ impl<'t, K: TableKey + Drop, V: Drop> Caller<'t, K, V> {
         ensures { InsertionLeaves (TriesUpsert (F.post f) value)
             K.hash (K.name key) key value result self.old self.new }
     {
-        self.table.try_upsert(&mut self.pass, key, f, value)
+        self.table.table().try_upsert(&mut self.pass, key, f, value)
     }
 
     /// Binds an unbound key to what the closure makes, and says whether it was unbound. Where the
@@ -256,7 +265,7 @@ impl<'t, K: TableKey + Drop, V: Drop> Caller<'t, K, V> {
         ensures { InsertionLeaves (InsertsBy (F.post f))
             K.hash (K.name key) key f result self.old self.new }
     {
-        self.table.insert_with(&mut self.pass, key, f)
+        self.table.table().insert_with(&mut self.pass, key, f)
     }
 
     /// Binds an unbound key to the value. A bound one is bound to what the closure makes of its
@@ -283,7 +292,7 @@ impl<'t, K: TableKey + Drop, V: Drop> Caller<'t, K, V> {
         ensures { InsertionLeaves (Uprases (F.post f) value)
             K.hash (K.name key) key value result self.old self.new }
     {
-        self.table.uprase(&mut self.pass, key, f, value)
+        self.table.table().uprase(&mut self.pass, key, f, value)
     }
 
     /// The value of the key. An unbound one is bound to what the closure makes; for a bound one the
@@ -305,7 +314,9 @@ impl<'t, K: TableKey + Drop, V: Drop> Caller<'t, K, V> {
         ensures { InsertionLeaves (FindsOrInserts (F.post f))
             K.hash (K.name key) key f result self.old self.new }
     {
-        self.table.get_or_insert_with(&mut self.pass, key, f)
+        self.table
+            .table()
+            .get_or_insert_with(&mut self.pass, key, f)
     }
 
     /// Binds a bound key to another value, and gives the one that it had; `None` where the key is
@@ -327,7 +338,7 @@ impl<'t, K: TableKey + Drop, V: Drop> Caller<'t, K, V> {
             IsBusyOn K.hash (Q.name key) self.old self.new back.1) }
         ensures found { FindsHeldOwn K.hash (Q.name key) self.old self.new }
     {
-        self.table.update(&mut self.pass, key, value)
+        self.table.table().update(&mut self.pass, key, value)
     }
 
     /// Binds a bound key to what the closure makes of its value, and says whether the key is bound.
@@ -343,7 +354,7 @@ impl<'t, K: TableKey + Drop, V: Drop> Caller<'t, K, V> {
         requires call { F.IsAlwaysCallable f }
         ensures { QueryLeaves (Changes (F.post f)) K.hash (Q.name key) result self.old self.new }
     {
-        self.table.update_fn(&mut self.pass, key, f)
+        self.table.table().update_fn(&mut self.pass, key, f)
     }
 
     /// Binds two different bound keys to what the closure makes of their two values in one step,
@@ -375,7 +386,7 @@ impl<'t, K: TableKey + Drop, V: Drop> Caller<'t, K, V> {
             IsBusyOnTwo K.hash (Q.name a) (Q.name b) self.old self.new) }
         ensures found { FindsHeldOfTwo K.hash (Q.name a) (Q.name b) self.old self.new }
     {
-        self.table.update_two(&mut self.pass, a, b, f)
+        self.table.table().update_two(&mut self.pass, a, b, f)
     }
 
     /// Unbinds the key, and gives the value that it had; `None` where it is unbound. Refused as
@@ -388,7 +399,7 @@ impl<'t, K: TableKey + Drop, V: Drop> Caller<'t, K, V> {
     pub fn erase<Q: Query<K>>(&mut self, key: Q) -> Result<Option<V>, Busy>
         ensures { QueryLeaves Erases K.hash (Q.name key) result self.old self.new }
     {
-        self.table.erase(&mut self.pass, key)
+        self.table.table().erase(&mut self.pass, key)
     }
 
     /// Unbinds a bound key where the closure answers true for its value, and gives the closure's
@@ -410,7 +421,7 @@ impl<'t, K: TableKey + Drop, V: Drop> Caller<'t, K, V> {
         ensures { QueryLeaves (ErasesBy (FnOnceReturnsAt F.FnOnce f))
             K.hash (Q.name key) result self.old self.new }
     {
-        self.table.erase_fn(&mut self.pass, key, f)
+        self.table.table().erase_fn(&mut self.pass, key, f)
     }
 
     /// Binds a bound key to what the closure makes of its value, where it makes one, and says
@@ -433,7 +444,7 @@ impl<'t, K: TableKey + Drop, V: Drop> Caller<'t, K, V> {
         ensures { QueryLeaves (ReplacesIf (FnOnceReturnsAt F.FnOnce f))
             K.hash (Q.name key) result self.old self.new }
     {
-        self.table.replace_if(&mut self.pass, key, f)
+        self.table.table().replace_if(&mut self.pass, key, f)
     }
 
     /// Binds a bound key to the value that the closure gives back for its value, and gives the
@@ -466,7 +477,7 @@ impl<'t, K: TableKey + Drop, V: Drop> Caller<'t, K, V> {
         ensures { QueryLeaves (TriesChange (F.post f))
             K.hash (Q.name key) result self.old self.new }
     {
-        self.table.try_update(&mut self.pass, key, f)
+        self.table.table().try_update(&mut self.pass, key, f)
     }
 
     /// The power, of which the caller has then been told: the table has 2^power buckets of four
@@ -481,7 +492,7 @@ impl<'t, K: TableKey + Drop, V: Drop> Caller<'t, K, V> {
         ensures busy { IfErr result (IsBusyOnSome (λ t. t ≡ 0) self.old self.new) }
         ensures found { FindsHeldAmong (λ t. t ≡ 0) self.old self.new }
     {
-        self.table.power(&mut self.pass)
+        self.table.table().power(&mut self.pass)
     }
 
     /// How many slots the table has. Refused as busy, it changes nothing. It is `Table::capacity`.
@@ -496,7 +507,7 @@ impl<'t, K: TableKey + Drop, V: Drop> Caller<'t, K, V> {
         ensures busy { IfErr result (IsBusyOnSome (λ t. t ≡ 0) self.old self.new) }
         ensures found { FindsHeldAmong (λ t. t ≡ 0) self.old self.new }
     {
-        self.table.capacity(&mut self.pass)
+        self.table.table().capacity(&mut self.pass)
     }
 
     /// How many keys are bound. Refused as busy, it changes nothing. It is `Table::len`.
@@ -508,7 +519,7 @@ impl<'t, K: TableKey + Drop, V: Drop> Caller<'t, K, V> {
         ensures busy { IfErr result (IsBusyOnAny self.old self.new) }
         ensures found { FindsHeldOfAny self.old self.new }
     {
-        self.table.len(&mut self.pass)
+        self.table.table().len(&mut self.pass)
     }
 
     /// Whether no key is bound. Refused as busy, it changes nothing. It is `Table::is_empty`.
@@ -524,7 +535,7 @@ impl<'t, K: TableKey + Drop, V: Drop> Caller<'t, K, V> {
         ensures busy { IfErr result (IsBusyOnAny self.old self.new) }
         ensures found { FindsHeldOfAny self.old self.new }
     {
-        self.table.is_empty(&mut self.pass)
+        self.table.table().is_empty(&mut self.pass)
     }
 
     /// Doubles the table until it has 2^power buckets, and says whether it had fewer. Refused as
@@ -536,7 +547,7 @@ impl<'t, K: TableKey + Drop, V: Drop> Caller<'t, K, V> {
         ensures rehashed { GrowsTo power result self.old self.new }
         ensures found { FindsHeldOfAny self.old self.new }
     {
-        self.table.rehash(&mut self.pass, power)
+        self.table.table().rehash(&mut self.pass, power)
     }
 
     /// Doubles the table until it has `n` slots, and says whether it had fewer. It is refused as
@@ -555,26 +566,28 @@ impl<'t, K: TableKey + Drop, V: Drop> Caller<'t, K, V> {
         ensures reserved { GrowsFor n result self.old self.new }
         ensures found { FindsHeldOfAny self.old self.new }
     {
-        self.table.reserve(&mut self.pass, n)
+        self.table.table().reserve(&mut self.pass, n)
     }
 
-    /// Locks the table. Refused as busy, it changes nothing, and the caller comes back. It is
-    /// `Table::lock_table`, and `Table::caller` makes a caller again of the pass that
-    /// `LockedTable::unlock` gives.
+    /// Locks the table. Refused as busy, it changes nothing, and the caller comes back in the
+    /// refusal. `LockedOn::unlock_caller` gives the caller back.
     ///
     /// ```
-    /// let mut locked = caller.lock().map_err(Busy::from)?;
+    /// let mut locked = caller.lock()?;
     /// ```
-    pub fn lock(self) -> Result<LockedTable<'t, K, V>, (Caller<'t, K, V>, Busy)>
-        ensures locked { IfOk result (HasLocked self.entry.table (pass_of self.entry)) }
-        ensures same { IfErr result (λ back. IsSameCaller self.entry back.0) }
-        ensures busy { IfErr result (λ back. IsBusyOnAny self.entry back.0 back.1) }
-        ensures found { IfErr result (λ back. FindsHeldOfAny self.entry back.0) }
+    pub fn lock(self) -> Result<LockedOn<T, K, V>, NotLocked<CallerOn<T, K, V>>>
+        ensures locked { IfOk result (HasLocked self.table (pass_of self)) }
+        ensures same { IfErr result (λ back. IsSameCaller self back.caller) }
+        ensures busy { IfErr result (λ back. IsBusyOnAny self back.caller back.busy) }
+        ensures found { IfErr result (λ back. FindsHeldOfAny self back.caller) }
     {
-        let Caller { table, pass } = self;
-        match table.lock_table(pass) {
-            Ok(locked) => Ok(locked),
-            Err((pass, busy)) => Err((table.caller(pass), busy)),
+        let CallerOn { table, pass } = self;
+        match table.table().lock_whole(pass) {
+            Ok(whole) => Ok(LockedOn { table, whole }),
+            Err((pass, busy)) => {
+                let caller = CallerOn { table, pass };
+                Err(NotLocked { caller, busy })
+            }
         }
     }
 
@@ -589,7 +602,7 @@ impl<'t, K: TableKey + Drop, V: Drop> Caller<'t, K, V> {
         ensures left { self.new ≡ self.old }
         ensures told { result ≡ message_of_caller self.old }
     {
-        self.table.tell(&mut self.pass)
+        self.table.table().tell(&mut self.pass)
     }
 
     /// Hears what another caller of the table told: what that one had seen is then a beginning of
@@ -599,7 +612,7 @@ impl<'t, K: TableKey + Drop, V: Drop> Caller<'t, K, V> {
         ensures same { IsSameCaller self.old self.new }
         ensures heard { HearsMessage message self.old self.new }
     {
-        self.table.hear(&mut self.pass, message);
+        self.table.table().hear(&mut self.pass, message);
     }
 
     /// Tells the other caller of this table what this one has seen: that is then a beginning of
@@ -609,65 +622,54 @@ impl<'t, K: TableKey + Drop, V: Drop> Caller<'t, K, V> {
     /// first.meet(&mut second);
     /// ```
     #[inline(always)]
-    pub fn meet(&mut self, other: &mut Caller<'t, K, V>)
+    pub fn meet(&mut self, other: &mut CallerOn<T, K, V>)
         requires { self.old.table ≡ other.old.table }
         ensures left { self.new ≡ self.old }
         ensures same { IsSameCaller other.old other.new }
         ensures met { MeetsCaller self.old other.old other.new }
     {
-        self.table.meet(&mut self.pass, &mut other.pass);
+        self.table.table().meet(&mut self.pass, &mut other.pass);
     }
 
     /// Unbinds all keys, and gives them with their values, in rising order of the keys. It locks the
     /// table for that, and is one entry of the history. Refused as busy or for want of memory, it
-    /// changes no binding. The caller comes back in any case.
+    /// changes no binding, and the caller comes back in the refusal.
     ///
     /// ```
-    /// let (caller, pairs) = caller.drain(alloc).map_err(|(_, fault)| fault)?;
+    /// let (caller, pairs) = caller.drain(alloc)?;
     /// ```
     pub fn drain(
         self,
         alloc: Global,
-    ) -> Result<(Caller<'t, K, V>, Vec<(K, V)>), (Caller<'t, K, V>, DrainFault)>
+    ) -> Result<(CallerOn<T, K, V>, Vec<(K, V)>), NotDrained<CallerOn<T, K, V>>>
         ensures same { MatchResult result
-            (λ back. IsSameCaller self.entry back.0)
-            (λ back. IsSameCaller self.entry back.0) }
+            (λ back. IsSameCaller self back.0)
+            (λ back. IsSameCaller self back.caller) }
         ensures drained { IfOk result (λ back.
-            Drains K.name K.cmp self.entry back.0 back.1.items) }
-        ensures refused { IfErr result (λ back. IsNotDrained self.entry back.0 back.1) }
+            Drains K.name K.cmp self back.0 back.1.items) }
+        ensures refused { IfErr result (λ back. IsNotDrained self back.caller back.why) }
         ensures notes { MatchResult result
-            (λ back. KeepsNotes self.entry back.0)
-            (λ back. KeepsNotes self.entry back.0) }
+            (λ back. KeepsNotes self back.0)
+            (λ back. KeepsNotes self back.caller) }
         ensures found { MatchResult result
-            (λ back. FindsHeldOfAny self.entry back.0)
-            (λ back. FindsHeldOfAny self.entry back.0) }
+            (λ back. FindsHeldOfAny self back.0)
+            (λ back. FindsHeldOfAny self back.caller) }
     {
         let mut locked = match self.lock() {
             Ok(locked) => locked,
-            Err((caller, busy)) => return Err((caller, DrainFault::Busy(busy.0))),
+            Err(NotLocked { caller, busy }) => {
+                let why = DrainFault::Busy(busy.0);
+                return Err(NotDrained { caller, why });
+            }
         };
         let pairs = locked.drain(alloc);
         let caller = locked.unlock_caller();
         match pairs {
             Ok(pairs) => Ok((caller, pairs)),
-            Err(_) => Err((caller, DrainFault::Memory)),
+            Err(_) => {
+                let why = DrainFault::Memory;
+                Err(NotDrained { caller, why })
+            }
         }
-    }
-}
-
-/// Of a refused `Caller::lock` what it was busy with; the caller is dropped. So `?` hands it on
-/// where a function answers `Busy`, and `map_err` brings it to another error.
-///
-/// ```
-/// let locked = caller.lock().map_err(Busy::from)?;
-/// ```
-impl<'t, K: TableKey + Drop, V: Drop> From<(Caller<'t, K, V>, Busy)> for Busy {
-    ghost use Rattle.std.specs.Prelude.{◌≡◌};
-
-    ghost from_gives = { λ back busy. busy ≡ back.1 };
-
-    fn from(back: (Caller<'t, K, V>, Busy)) -> Busy {
-        let (_, busy) = back;
-        busy
     }
 }

@@ -34,9 +34,11 @@
 
 // The table, and who calls it.
 mod caller;
+mod handle;
 mod pool;
 mod refusal;
 mod table;
+mod table_ref;
 
 // How each call locks its stripes.
 mod locking;
@@ -55,12 +57,16 @@ mod room;
 // The table under one caller.
 mod locked;
 
-pub use caller::Caller;
+pub use caller::{Caller, CallerOn};
 pub use ck_key::{KeyFault, MixedKey, NumKey, Query, TableKey, TextKey};
 pub use ck_model::settings::{OutOfRange, Settings};
 pub use ck_section::{Iter, Uprased};
 pub use ck_words::{Message, Pass};
-pub use locked::LockedTable;
+pub use handle::{Handle, LockedHandle};
+pub use locked::{LockedOn, LockedTable};
 pub use pool::{AllLent, NoPool, Pool};
-pub use refusal::{Busy, DrainFault, GrowFault, NoCallers, OpenFault, Refused, Why};
+pub use refusal::{
+    Busy, DrainFault, GrowFault, NoCallers, NotDrained, NotLocked, OpenFault, Refused, Why,
+};
 pub use table::Table;
+pub use table_ref::TableRef;

@@ -4,6 +4,7 @@ ghost use Rattle.std.specs.Option.{option_copied};
 ghost use Rattle.std.specs.FinMap.{get, len};
 ghost use Rattle.ck_model.specs.declared.history.Reply.TheVariants.{Closed};
 ghost use Rattle.ck_model.specs.Promise.{Replied, ListsInOrder};
+ghost use Rattle.ck_model.specs.Ranges.{AreInRange};
 ghost use Rattle.ck_bucket.specs.Bucket.{ClonesAreEqual};
 ghost use Rattle.ck_section.specs.Places.{IsPlaceOf};
 ghost use Rattle.ck_core.specs.State.{client_of};
@@ -11,12 +12,14 @@ ghost use Rattle.ck_words.specs.Retries.{FindsAmong};
 ghost use Rattle.ck_words.specs.Closing.{IsCaller};
 ghost use Rattle.cuckoo_map.specs.Refusals.{IsStripeIn, IsBusyAmong};
 ghost use Rattle.cuckoo_map.specs.Callers.{caller_of, IsSameCaller};
-ghost use Rattle.cuckoo_map.specs.Locking.{map_of, session_call, EndsSession, EndsNotes, HasLocked, Lists};
+ghost use Rattle.cuckoo_map.specs.Locking.{map_of, locked_of, session_call, IsLocked, EndsSession, EndsNotes, HasLocked, Lists};
 
-use crate::caller::Caller;
+use crate::caller::CallerOn;
 use crate::refusal::Busy;
 use crate::table::Table;
+use crate::table_ref::TableRef;
 use ck_key::{Query, TableKey};
+use ck_model::settings::Settings;
 use ck_section::{Iter, KeyPlace, export, find_in_all, key_place_in_all};
 use ck_stripe::Stripe;
 use ck_words::{Pass, Whole, guard};
@@ -35,19 +38,22 @@ mod pairs;
 /// What is done to it is one entry of its caller, a session, from the map as it was when the table
 /// was locked to the map when it is unlocked. Contracts see the caller, what all stripes contained
 /// when it locked the table, and the stripes as they are.
-pub struct LockedTable<'t, K: TableKey, V> {
-    pub(crate) table: &'t Table<K, V>,
+pub struct LockedOn<T: TableRef<K, V>, K: TableKey, V> {
+    pub(crate) table: T,
     pub(crate) whole: Whole<K, V>,
 }
 
-impl<'t, K: TableKey, V> Model for LockedTable<'t, K, V> {
+/// A table under a caller that borrows it.
+pub type LockedTable<'t, K, V> = LockedOn<&'t Table<K, V>, K, V>;
+
+impl<T: TableRef<K, V>, K: TableKey, V> Model for LockedOn<T, K, V> {
     ghost use Rattle.cuckoo_map.specs.Locking.{LockedState, IsLocked, locked_of};
 
     ghost Value = { LockedState V };
 
-    ghost view = { λ l. locked_of l.table.now l.whole };
+    ghost view = { λ l. locked_of (T.state l.table) l.whole };
 
-    ghost invariant = { λ l. IsLocked K.hash l.table.now l.whole };
+    ghost invariant = { λ l. IsLocked K.hash (T.state l.table) l.whole };
 }
 
 impl<K: TableKey + Drop, V: Drop> Table<K, V> {
@@ -67,18 +73,30 @@ impl<K: TableKey + Drop, V: Drop> Table<K, V> {
         ensures found { IfErr result (λ back.
             FindsAmong (IsStripeIn self.now.settings) pass back.0) }
     {
+        let whole = self.lock_whole(pass)?;
+        Ok(LockedOn { table: self, whole })
+    }
+
+    // All stripes of the table, which the pass takes, out of their slots.
+    pub(crate) fn lock_whole(&self, pass: Pass<K, V>) -> Result<Whole<K, V>, (Pass<K, V>, Busy)>
+        requires { IsCaller self.now pass }
+        ensures locked { IfOk result (λ whole. IsLocked K.hash self.now whole
+            × HasLocked self.now pass (locked_of self.now whole)) }
+        ensures caller { IfErr result (λ back. IsCaller self.now back.0) }
+        ensures busy { IfErr result (λ back. IsBusyAmong (IsStripeIn self.now.settings)
+            self.now.settings back.1.0 pass back.0) }
+        ensures found { IfErr result (λ back.
+            FindsAmong (IsStripeIn self.now.settings) pass back.0) }
+    {
         let mut pass = pass;
         match self.lock_all(&mut pass) {
-            Ok(()) => Ok(LockedTable {
-                table: self,
-                whole: self.words.lift(pass),
-            }),
+            Ok(()) => Ok(self.words.lift(pass)),
             Err(busy) => Err((pass, busy)),
         }
     }
 }
 
-impl<'t, K: TableKey + Drop, V: Drop> LockedTable<'t, K, V> {
+impl<T: TableRef<K, V> + Drop, K: TableKey + Drop, V: Drop> LockedOn<T, K, V> {
     /// The value of the key; `None` where the key is unbound.
     pub fn find<Q: Query<K>>(&self, key: Q) -> Option<&V>
         ensures { option_copied result ≡ get (map_of self.now) (Q.name key) }
@@ -98,8 +116,15 @@ impl<'t, K: TableKey + Drop, V: Drop> LockedTable<'t, K, V> {
         ensures place { IsPlaceOf K.hash self.now.stripes (Q.name key) result }
         ensures s { result.s ≡ self.now.caller.table.settings.s }
     {
-        let table = self.table;
-        key_place_in_all(stripes_of(&self.whole), table.words.settings().s, key)
+        key_place_in_all(stripes_of(&self.whole), self.settings().s, key)
+    }
+
+    // The settings of the table.
+    pub(crate) fn settings(&self) -> Settings
+        ensures value { result ≡ self.now.caller.table.settings }
+        ensures range { AreInRange result }
+    {
+        self.table.table().words.settings()
     }
 
     /// How many keys are bound.
@@ -134,44 +159,43 @@ impl<'t, K: TableKey + Drop, V: Drop> LockedTable<'t, K, V> {
     /// Unlocks the table, by which all that was done to it becomes one entry of the history. No
     /// other stands between what was seen when the table was locked and this one.
     pub fn unlock(self) -> Pass<K, V>
-        ensures caller { IsCaller self.entry.caller.table result }
-        ensures same { IsSameCaller self.entry.caller (caller_of self.entry.caller.table result) }
-        ensures answered { Replied (session_call self.entry) Closed
-            self.entry.caller.client (client_of result.view) }
-        ensures follows { EndsSession self.entry (client_of result.view) }
-        ensures notes { EndsNotes self.entry (caller_of self.entry.caller.table result) }
-        ensures found { result.view.found ≡ self.entry.caller.notes.found }
+        ensures caller { IsCaller self.caller.table result }
+        ensures same { IsSameCaller self.caller (caller_of self.caller.table result) }
+        ensures answered { Replied (session_call self) Closed
+            self.caller.client (client_of result.view) }
+        ensures follows { EndsSession self (client_of result.view) }
+        ensures notes { EndsNotes self (caller_of self.caller.table result) }
+        ensures found { result.view.found ≡ self.caller.notes.found }
     {
-        let LockedTable { table, whole } = self;
-        let mut pass = table.words.lower(whole);
-        let mut guard = guard!(&table.words, &mut pass, table.words.all());
-        guard.commit_session();
-        pass
+        self.unlock_caller().into_pass()
     }
 
     /// Unlocks the table, as `unlock` does, and gives the caller. That its pass is one of this
     /// table is known by the type, also where functions had the locked table in between.
     ///
     /// ```
-    /// let Ok(mut locked) = caller.lock() else { return Err(io::ErrorKind::ResourceBusy.into()) };
+    /// let mut locked = caller.lock()?;
     /// sweep(&mut locked);
     /// let mut caller = locked.unlock_caller();
     /// ```
-    pub fn unlock_caller(self) -> Caller<'t, K, V>
-        ensures same { IsSameCaller self.entry.caller result }
-        ensures answered { Replied (session_call self.entry) Closed
-            self.entry.caller.client result.client }
-        ensures follows { EndsSession self.entry result.client }
-        ensures notes { EndsNotes self.entry result }
-        ensures found { result.notes.found ≡ self.entry.caller.notes.found }
+    pub fn unlock_caller(self) -> CallerOn<T, K, V>
+        ensures same { IsSameCaller self.caller result }
+        ensures answered { Replied (session_call self) Closed
+            self.caller.client result.client }
+        ensures follows { EndsSession self result.client }
+        ensures notes { EndsNotes self result }
+        ensures found { result.notes.found ≡ self.caller.notes.found }
     {
-        let table = self.table;
-        let pass = self.unlock();
-        table.caller(pass)
+        let LockedOn { table, whole } = self;
+        let words = &table.table().words;
+        let mut pass = words.lower(whole);
+        let mut guard = guard!(words, &mut pass, words.all());
+        guard.commit_session();
+        CallerOn { table, pass }
     }
 }
 
-impl<'t, K: TableKey + Clone + Drop, V: Clone + Drop> LockedTable<'t, K, V> {
+impl<T: TableRef<K, V> + Drop, K: TableKey + Clone + Drop, V: Clone + Drop> LockedOn<T, K, V> {
     /// Clones of all keys with their values, in rising order of the keys. Refused for want of
     /// memory, it leaves the table locked and as it was.
     pub fn export(&self, alloc: Global) -> Result<Vec<(K, V)>, AllocError>

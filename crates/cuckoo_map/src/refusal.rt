@@ -133,3 +133,50 @@ impl<K: TableKey, V> Debug for NoCallers<K, V> {
         f.debug_struct("NoCallers").finish_non_exhaustive()
     }
 }
+
+/// The table was not locked, and nothing was changed.
+#[derive(Drop, Error)]
+#[error("{busy}")]
+pub struct NotLocked<C> {
+    /// The caller that was to lock the table.
+    pub caller: C,
+    /// The stripe that it found held.
+    pub busy: Busy,
+}
+
+impl<C> Debug for NotLocked<C> {
+    fn fmt<W: fmt::Write>(&self, f: &mut Formatter<W>) -> fmt::Result {
+        f.debug_struct("NotLocked")
+            .field("busy", &self.busy)
+            .finish_non_exhaustive()
+    }
+}
+
+impl<C: Drop> From<NotLocked<C>> for Busy {
+    ghost use Rattle.std.specs.Prelude.{◌≡◌};
+
+    ghost from_gives = { λ back busy. busy ≡ back.busy };
+
+    fn from(back: NotLocked<C>) -> Busy {
+        let NotLocked { caller: _, busy } = back;
+        busy
+    }
+}
+
+/// The pairs of the table were not taken out, and no binding was changed.
+#[derive(Drop, Error)]
+#[error("{why}")]
+pub struct NotDrained<C> {
+    /// The caller that was to drain the table.
+    pub caller: C,
+    /// Why it did not.
+    pub why: DrainFault,
+}
+
+impl<C> Debug for NotDrained<C> {
+    fn fmt<W: fmt::Write>(&self, f: &mut Formatter<W>) -> fmt::Result {
+        f.debug_struct("NotDrained")
+            .field("why", &self.why)
+            .finish_non_exhaustive()
+    }
+}

@@ -3,11 +3,12 @@ ghost use Rattle.std.specs.Fn.{FnOnceReturnsAt};
 ghost use Rattle.ck_section.specs.Acts.{Updates, Changes, Erases, ReplacesIf, TriesChange};
 ghost use Rattle.cuckoo_map.specs.Locking.{HasChanged};
 
-use crate::locked::LockedTable;
+use crate::locked::LockedOn;
+use crate::table_ref::TableRef;
 use ck_key::{Query, TableKey};
 use ck_section::{erase, replace_if, try_update, update, update_fn};
 
-impl<'t, K: TableKey + Drop, V: Drop> LockedTable<'t, K, V> {
+impl<T: TableRef<K, V> + Drop, K: TableKey + Drop, V: Drop> LockedOn<T, K, V> {
     /// Binds a bound key to another value, and gives the one that it had; `None` where the key is
     /// unbound, and then it stays so and the value is dropped. The number of buckets stays.
     ///

@@ -6,15 +6,16 @@ ghost use Rattle.ck_stripe.specs.Tables.{AreAllHeld, power_in, KeepsBindings};
 ghost use Rattle.cuckoo_map.specs.Locking.{locked_power, map_of, RehashesLocked, ReservesLocked};
 
 use crate::growth::{double_to, least_power};
-use crate::locked::{LockedTable, stripes_of};
+use crate::locked::{LockedOn, stripes_of};
 use crate::refusal::GrowFault;
+use crate::table_ref::TableRef;
 use ck_key::TableKey;
 use ck_model::settings::Settings;
 use ck_stripe::settle_all;
 use ck_words::Whole;
 use std::alloc::AllocError;
 
-impl<'t, K: TableKey + Drop, V: Drop> LockedTable<'t, K, V> {
+impl<T: TableRef<K, V> + Drop, K: TableKey + Drop, V: Drop> LockedOn<T, K, V> {
     /// The power: the table has 2^power buckets of four slots.
     ///
     /// ```
@@ -36,8 +37,7 @@ impl<'t, K: TableKey + Drop, V: Drop> LockedTable<'t, K, V> {
     pub fn capacity(&self) -> u64
         ensures { result ≡ 4 * 2 ^ locked_power self.now }
     {
-        let table = self.table;
-        table.words.show_range();
+        let _ = self.settings();
         4 << self.power()
     }
 
@@ -68,8 +68,7 @@ impl<'t, K: TableKey + Drop, V: Drop> LockedTable<'t, K, V> {
     pub fn rehash(&mut self, power: u32) -> Result<bool, GrowFault>
         ensures { RehashesLocked power result self.old self.new }
     {
-        let table = self.table;
-        let Settings { s, max, .. } = table.words.settings();
+        let Settings { s, max, .. } = self.settings();
         if max < power {
             return Err(GrowFault::OverMax);
         }

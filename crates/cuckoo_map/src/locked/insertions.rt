@@ -12,8 +12,9 @@ ghost use Rattle.cuckoo_map.specs.Refusals.{why_of};
 ghost use Rattle.cuckoo_map.specs.Locking.{DoublesFor, LockedInsertionLeaves, KeepsMap, LacksRoom, SeeksRoom};
 ghost use Rattle.cuckoo_map.specs.Insertions.{TellsOf};
 
-use crate::locked::LockedTable;
+use crate::locked::LockedOn;
 use crate::refusal::{Refused, Why};
+use crate::table_ref::TableRef;
 use ck_key::{KeyHash, TableKey};
 use ck_model::lack::Lack;
 use ck_model::settings::Settings;
@@ -22,7 +23,7 @@ use ck_stripe::settle_all;
 use ck_words::Whole;
 use std::marker::PhantomData;
 
-impl<'t, K: TableKey + Drop, V: Drop> LockedTable<'t, K, V> {
+impl<T: TableRef<K, V> + Drop, K: TableKey + Drop, V: Drop> LockedOn<T, K, V> {
     /// Binds the key to the value where it is unbound, and says whether it was. A bound key keeps
     /// its value, and the one that was passed is dropped.
     ///
@@ -229,8 +230,8 @@ impl<'t, K: TableKey + Drop, V: Drop> LockedTable<'t, K, V> {
             LacksRoom K.hash (K.name key.now) (why_of lack) self.old self.new) }
         ensures grows { DoublesFor K.hash (K.name key.now) self.old self.new }
     {
-        let table = self.table;
-        make_room_in(&mut self.whole, table.words.settings(), key)
+        let settings = self.settings();
+        make_room_in(&mut self.whole, settings, key)
     }
 }
 

@@ -10,13 +10,14 @@ ghost use Rattle.ck_section.specs.Clearing.{ClearsBindings};
 ghost use Rattle.ck_section.specs.Retaining.{RetainsBindings};
 ghost use Rattle.cuckoo_map.specs.Locking.{map_of, Clears, Retains};
 
-use crate::locked::LockedTable;
+use crate::locked::LockedOn;
+use crate::table_ref::TableRef;
 use ck_key::TableKey;
 use ck_section::{clear_all, drain_all, retain_all};
 use ck_words::Whole;
 use std::alloc::{AllocError, Global};
 
-impl<'t, K: TableKey + Drop, V: Drop> LockedTable<'t, K, V> {
+impl<T: TableRef<K, V> + Drop, K: TableKey + Drop, V: Drop> LockedOn<T, K, V> {
     /// Unbinds all keys, and drops them with their values. The number of buckets stays.
     ///
     /// ```

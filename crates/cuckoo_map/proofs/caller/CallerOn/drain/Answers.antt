@@ -1,0 +1,19 @@
+use Rattle.std.proofs.Common.{ap}
+use Rattle.cuckoo_map.specs.Locking.{LockedState, map_of}
+use Rattle.cuckoo_map.proofs.Draining.{session_since, emptied_since}
+use Rattle.cuckoo_map.proofs.caller.CallerOn.drain.Goals as goal
+
+pub returns-in-Ok-pairs-clause-drained : goal.returns-in-Ok-pairs-clause-drained
+returns-in-Ok-pairs-clause-drained g c =
+    let drained = c.in-Ok-pairs.ensures.drained in (
+      map_of c.in-Ok.locked,
+      drained.0,
+      emptied_since c.unlock_caller-caller.result c.in-Ok.ensures.locked drained.1.session drained.1.none c.unlock_caller-caller.ensures.answered,
+    )
+
+pub returns-in-Err-pairs-clause-refused : goal.returns-in-Err-pairs-clause-refused
+returns-in-Err-pairs-clause-refused g c =
+    let same = c.in-Err-pairs.ensures.same in (
+      map_of c.in-Ok.locked,
+      session_since c.unlock_caller-caller.result c.in-Ok.ensures.locked (ap (λ (n : LockedState g.row.V.Denot). record n { stripes = c.drain-pairs.new.self.stripes }) same) (ap (λ (n : LockedState g.row.V.Denot). map_of n) same) c.unlock_caller-caller.ensures.answered,
+    )

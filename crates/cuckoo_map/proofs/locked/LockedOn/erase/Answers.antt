@@ -1,0 +1,18 @@
+use Rattle.ck_model.specs.declared.history.Act.TheVariants.{Erase}
+use Rattle.ck_model.specs.declared.history.Reply.TheVariants.{Was}
+use Rattle.cuckoo_map.proofs.Sessions.{only_stripes, place_held, acted_locked, has_changed}
+use Rattle.cuckoo_map.proofs.locked.LockedOn.erase.Goals as goal
+
+pub erase-requires : goal.erase-requires
+erase-requires g c = place_held c.self.inside.whole c.self.view_is (g.Q.Query.name c.args.key) c.key_place-place.result c.key_place-place.ensures.place
+
+pub invariant_of-self : goal.invariant_of-self
+invariant_of-self g c =
+    acted_locked c.self.invariant c.self.view_is c.key_place-place.result c.key_place-place.ensures.s (g.Q.Query.name c.args.key) c.erase.new.held
+    (only_stripes c.self.inside.whole c.erase.new.held c.erase.ensures.stays) Erase (Was c.erase.result) c.erase.ensures.rest c.erase.ensures.call
+
+pub returns : goal.returns
+returns g c =
+    let changed = has_changed c.self.invariant c.self.view_is c.key_place-place.result c.key_place-place.ensures.s (g.Q.Query.name c.args.key) c.erase.new.held
+    (only_stripes c.self.inside.whole c.erase.new.held c.erase.ensures.stays) in
+    changed Erase (Was c.erase.result) c.erase.ensures.rest c.erase.ensures.call

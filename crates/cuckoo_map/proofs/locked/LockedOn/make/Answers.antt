@@ -1,0 +1,38 @@
+use Rattle.std.proofs.Common.{rules, ◌∙◌, ap, subst}
+use Rattle.ck_model.specs.Promise.{Name}
+use Rattle.ck_words.specs.Passes.{PassState}
+use Rattle.cuckoo_map.specs.Locking.{LockedState, locked_of, DoublesFor}
+use Rattle.cuckoo_map.proofs.Sessions.{acted_locked, has_acted, keeps_power, grows_not}
+use Rattle.cuckoo_map.proofs.locked.LockedOn.make.Goals as goal
+
+pub invariant_of-self : goal.invariant_of-self
+invariant_of-self g c =
+    let call = c.in-Ok.ensures.call in
+    acted_locked c.self.invariant c.self.view_is c.key_place-place.result c.key_place-place.ensures.s (g.K.TableKey.name c.args.key) c.make_in.new.whole c.make_in.ensures.same
+    call.0 call.1 c.make_in.ensures.rest call.3
+
+pub returns-in-Ok : goal.returns-in-Ok
+returns-in-Ok g c =
+    let call = c.in-Ok.ensures.call in
+    record {
+      answered = (
+        call.0,
+        call.1,
+        call.2,
+        has_acted c.self.invariant c.self.view_is c.key_place-place.result c.key_place-place.ensures.s (g.K.TableKey.name c.args.key) c.make_in.new.whole c.make_in.ensures.same
+            call.0 call.1 call.3,
+      );
+      refused = tt;
+      grows = grows_not g.K.TableKey.hash (g.K.TableKey.name c.args.key) c.args.self.now (locked_of (g.T.TableRef.state c.self.inside.table) c.make_in.new.whole)
+          (keeps_power c.self.invariant c.make_in.new.whole c.make_in.ensures.same c.self.view_is c.make_in.ensures.rest);
+    }
+
+pub returns-in-Err : goal.returns-in-Err
+returns-in-Err g c =
+    let same = ap (λ (p : PassState g.row.V.Denot). locked_of (g.T.TableRef.state c.self.inside.table) p) c.in-Err.ensures.left ∙ c.self.view_is in
+    let name = ap (λ (k : g.row.K.Denot). g.K.TableKey.name k) c.in-Err.ensures.full.0 in
+    record {
+      answered = search rules;
+      refused = search rules;
+      grows = subst (λ (x : Name × LockedState g.row.V.Denot). DoublesFor g.K.TableKey.hash x.0 x.1 c.make_with_room.new.self) (λ j. (name j, same j)) c.make_with_room.ensures.grows;
+    }
