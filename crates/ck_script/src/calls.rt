@@ -167,7 +167,7 @@ fn list<'t, K: WrittenKey>(
             let answer = listed(alloc, &locked);
             (answer, locked.unlock_caller())
         }
-        Err((caller, _)) => (Answer::Busy, caller),
+        Err(refused) => (Answer::Busy, refused.caller),
     }
 }
 

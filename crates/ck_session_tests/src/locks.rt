@@ -1,7 +1,7 @@
 //! A table under one caller, and the calls of others meanwhile.
 use ck_fixtures::{NumCaller, SIXTEEN_BUCKETS, three_callers};
 use ck_key::NumKey;
-use cuckoo_map::{Busy, Refused, Settings, Why};
+use cuckoo_map::{Busy, NotLocked, Refused, Settings, Why};
 use std::process::Abort;
 use std::test::Fail;
 
@@ -35,7 +35,7 @@ fn find_busy(rt: &impl Abort, caller: &mut Option<NumCaller<'_>>, t: u32) {
             locked.unlock();
             panic!(rt; "locked");
         }
-        Err((back, busy)) => {
+        Err(NotLocked { caller: back, busy }) => {
             assert!(rt; busy == Busy(t));
             *caller = Some(back);
         }

@@ -68,9 +68,9 @@ pub fn audit<'t, K: Key>(worker: Worker<'t, K>) -> Worker<'t, K> {
             check_locked(alloc, &mut notes, &locked);
             locked.unlock_caller()
         }
-        Err((caller, _)) => {
+        Err(refused) => {
             notes.busy();
-            caller
+            refused.caller
         }
     };
     Worker {

@@ -10,7 +10,7 @@ use crate::callers::{Call, Reply, Row, check_rows};
 use ck_fixtures::{NumCaller, NumLocked, NumPass, NumTable, TWO_STRIPES, callers_of};
 use ck_hoard::{End, Ends, ends_of, hoard};
 use ck_key::{KeyFault, NumKey, TextKey};
-use cuckoo_map::{DrainFault, GrowFault, OpenFault, Pool, Settings};
+use cuckoo_map::{DrainFault, GrowFault, NotDrained, OpenFault, Pool, Settings};
 use std::alloc::Global;
 use std::process::Abort;
 use std::test::Fail;
@@ -144,8 +144,8 @@ fn drain_by(rt: &impl Abort, alloc: Global, caller: NumCaller<'_>) -> End {
             assert!(rt; pairs.len() == 8);
             End::Done
         }
-        Err((mut caller, fault)) => {
-            assert!(rt; fault == DrainFault::Memory);
+        Err(NotDrained { mut caller, why }) => {
+            assert!(rt; why == DrainFault::Memory);
             assert!(rt; caller.len() == Ok(8));
             End::Refused
         }

@@ -2,7 +2,7 @@
 
 use ck_fixtures::{NumCaller, SIXTEEN_BUCKETS, callers_of, three_callers};
 use ck_key::NumKey;
-use cuckoo_map::{AllLent, DrainFault, Pool, Settings};
+use cuckoo_map::{AllLent, DrainFault, NotDrained, Pool, Settings};
 use std::alloc::Global;
 use std::process::Abort;
 use std::sync::Wait;
@@ -120,10 +120,10 @@ fn drain_beside_a_lock(rt: HostRuntime) -> Result<(), Fail> {
     let refused = first.drain(alloc);
     locked.unlock();
     assert!(rt; bound.is_ok());
-    let Err((caller, fault)) = refused else {
+    let Err(NotDrained { caller, why }) = refused else {
         panic!(rt; "drained a table that another caller has locked");
     };
-    assert!(rt; matches!(fault, DrainFault::Busy(_)));
+    assert!(rt; matches!(why, DrainFault::Busy(_)));
     let Ok((_, pairs)) = caller.drain(alloc) else {
         panic!(rt; "refused once the table was unlocked");
     };

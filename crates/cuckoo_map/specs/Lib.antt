@@ -4,6 +4,7 @@ pub mod Refusals
 pub mod Queries
 pub mod Insertions
 pub mod Displacing
+pub mod Faults
 pub mod Growth
 pub mod Callers
 pub mod Locking

@@ -34,6 +34,7 @@
 
 // The table, and who calls it.
 mod caller;
+mod fault;
 mod handle;
 mod pool;
 mod refusal;
@@ -62,6 +63,7 @@ pub use ck_key::{KeyFault, MixedKey, NumKey, Query, TableKey, TextKey};
 pub use ck_model::settings::{OutOfRange, Settings};
 pub use ck_section::{Iter, Uprased};
 pub use ck_words::{Message, Pass};
+pub use fault::Fault;
 pub use handle::{Handle, LockedHandle};
 pub use locked::{LockedOn, LockedTable};
 pub use pool::{AllLent, NoPool, Pool};

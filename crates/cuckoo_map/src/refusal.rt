@@ -109,7 +109,7 @@ impl Why {
 }
 
 /// A key and a value that were refused, given back.
-#[derive(Debug, Drop, Error)]
+#[derive(Drop, Error)]
 #[error("{why}")]
 pub struct Refused<K, V> {
     /// The key that was to be bound.
@@ -118,6 +118,15 @@ pub struct Refused<K, V> {
     pub value: V,
     /// Why it was not.
     pub why: Why,
+}
+
+// What came back needn't be shown for the reason to be.
+impl<K, V> Debug for Refused<K, V> {
+    fn fmt<W: fmt::Write>(&self, f: &mut Formatter<W>) -> fmt::Result {
+        f.debug_struct("Refused")
+            .field("why", &self.why)
+            .finish_non_exhaustive()
+    }
 }
 
 /// There is no memory for a list of callers; their passes come back.

@@ -1,0 +1,41 @@
+-- The one fault that each refusal is.
+use Rattle.cuckoo_map.specs.declared.fault.Fault.{Fault}
+use Rattle.cuckoo_map.specs.declared.fault.Fault.TheVariants as faults
+use Rattle.cuckoo_map.specs.declared.refusal.OpenFault.{OpenFault}
+use Rattle.cuckoo_map.specs.declared.refusal.OpenFault.TheVariants as opens
+use Rattle.cuckoo_map.specs.declared.refusal.GrowFault.{GrowFault}
+use Rattle.cuckoo_map.specs.declared.refusal.GrowFault.TheVariants as grows
+use Rattle.cuckoo_map.specs.declared.refusal.DrainFault.{DrainFault}
+use Rattle.cuckoo_map.specs.declared.refusal.DrainFault.TheVariants as drains
+use Rattle.cuckoo_map.specs.declared.refusal.Why.{Why}
+use Rattle.cuckoo_map.specs.declared.refusal.Why.TheVariants as whys
+use Rattle.ck_key.specs.declared.text_key.KeyFault.{KeyFault}
+use Rattle.ck_key.specs.declared.text_key.KeyFault.TheVariants as keys
+
+-- of an opening
+abbrev pub fault_of_open : OpenFault → Fault
+fault_of_open (opens.Settings which) = faults.Settings which
+fault_of_open opens.Memory = faults.Memory
+
+-- of an insertion
+abbrev pub fault_of_why : Why → Fault
+fault_of_why (whys.Busy t) = faults.Busy t
+fault_of_why whys.Memory = faults.Memory
+fault_of_why whys.Full = faults.Full
+fault_of_why whys.LoadTooLow = faults.LoadTooLow
+
+-- of a growth
+abbrev pub fault_of_growth : GrowFault → Fault
+fault_of_growth (grows.Busy t) = faults.Busy t
+fault_of_growth grows.Memory = faults.Memory
+fault_of_growth grows.OverMax = faults.OverMax
+
+-- of a drain
+abbrev pub fault_of_drain : DrainFault → Fault
+fault_of_drain (drains.Busy t) = faults.Busy t
+fault_of_drain drains.Memory = faults.Memory
+
+-- of a text that was to be a key
+abbrev pub fault_of_key : KeyFault → Fault
+fault_of_key keys.TooLong = faults.TooLong
+fault_of_key keys.Memory = faults.Memory
