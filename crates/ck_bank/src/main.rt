@@ -3,7 +3,7 @@
 #![tactic(auto)]
 
 use anyhow::{Context, Result, ensure};
-use cuckoo_map::{Busy, Caller, LockedTable, NumKey, Settings, Table};
+use cuckoo_map::{Busy, Handle, LockedHandle, NumKey, Settings};
 use std::alloc::Global;
 use std::thread::{self, Threads};
 
@@ -20,10 +20,10 @@ const TRANSFERS: u64 = 1000;
 const AUDITS: u64 = 20;
 
 /// Who works on the accounts.
-type Teller<'t> = Caller<'t, NumKey, u64>;
+type Teller = Handle<NumKey, u64>;
 
 /// Opens the accounts.
-fn fund(teller: &mut Teller<'_>) -> Result<()> {
+fn fund(teller: &mut Teller) -> Result<()> {
     for account in 0..ACCOUNTS {
         teller.insert(NumKey(account), FUND)?;
     }
@@ -31,7 +31,7 @@ fn fund(teller: &mut Teller<'_>) -> Result<()> {
 }
 
 /// Moves the amount from one account to another, where the first has as much.
-fn transfer(teller: &mut Teller<'_>, from: u64, to: u64, amount: u64) -> Result<(), Busy> {
+fn transfer(teller: &mut Teller, from: u64, to: u64, amount: u64) -> Result<(), Busy> {
     if from == to {
         return Ok(());
     }
@@ -44,7 +44,7 @@ fn transfer(teller: &mut Teller<'_>, from: u64, to: u64, amount: u64) -> Result<
 }
 
 /// Makes the transfers of a thread, each between other accounts than the one before.
-fn work(mut teller: Teller<'_>) -> Result<Teller<'_>> {
+fn work(mut teller: Teller) -> Result<Teller> {
     for step in 0..TRANSFERS {
         let from = step % ACCOUNTS;
         let to = (step * step + 1) % ACCOUNTS;
@@ -54,7 +54,7 @@ fn work(mut teller: Teller<'_>) -> Result<Teller<'_>> {
 }
 
 /// The sum of all accounts of the locked table.
-fn total(bank: &LockedTable<'_, NumKey, u64>) -> u64 {
+fn total(bank: &LockedHandle<NumKey, u64>) -> u64 {
     let mut sum = 0u64;
     for (_, balance) in bank.iter() {
         sum = sum.saturating_add(*balance);
@@ -63,9 +63,9 @@ fn total(bank: &LockedTable<'_, NumKey, u64>) -> u64 {
 }
 
 /// Locks the table and adds up, again and again.
-fn audit(mut auditor: Teller<'_>) -> Result<Teller<'_>> {
+fn audit(mut auditor: Teller) -> Result<Teller> {
     for _ in 0..AUDITS {
-        let bank = auditor.lock().map_err(Busy::from)?;
+        let bank = auditor.lock()?;
         let sum = total(&bank);
         auditor = bank.unlock_caller();
         ensure!(sum == ACCOUNTS * FUND, "{sum} is left");
@@ -73,8 +73,8 @@ fn audit(mut auditor: Teller<'_>) -> Result<Teller<'_>> {
     Ok(auditor)
 }
 
-/// What the caller of this number does: the first one audits, and the others work.
-fn run(teller: Teller<'_>, number: usize) -> Result<Teller<'_>> {
+/// What the teller of this number does: the first one audits, and the others work.
+fn run(teller: Teller, number: usize) -> Result<Teller> {
     if number == 0 {
         audit(teller)
     } else {
@@ -83,12 +83,8 @@ fn run(teller: Teller<'_>, number: usize) -> Result<Teller<'_>> {
 }
 
 /// Lets each of them run in a thread of its own.
-fn run_all<'t>(
-    rt: &(impl Threads + Sync),
-    alloc: Global,
-    tellers: Vec<Teller<'t>>,
-) -> Result<Vec<Teller<'t>>> {
-    let jobs: Vec<(Teller<'t>, usize)> = tellers.into_iter().zip(0..5usize).collect(alloc)?;
+fn run_all(rt: &(impl Threads + Sync), alloc: Global, tellers: Vec<Teller>) -> Result<Vec<Teller>> {
+    let jobs: Vec<(Teller, usize)> = tellers.into_iter().zip(0..5usize).collect(alloc)?;
     let mut back = Vec::new(alloc);
     for done in thread::map_vec(rt, jobs, &|(teller, number)| run(teller, number))? {
         back.push(done?)?;
@@ -96,30 +92,18 @@ fn run_all<'t>(
     Ok(back)
 }
 
-/// What each account has after all that the tellers do.
-fn balances(
-    rt: &(impl Threads + Sync),
-    alloc: Global,
-    mut tellers: Vec<Teller<'_>>,
-) -> Result<Vec<(NumKey, u64)>> {
-    fund(tellers.first_mut().context("no caller")?)?;
+/// Opens the bank: what each account has after all that the tellers do.
+fn balances(rt: &(impl Threads + Sync), alloc: Global) -> Result<Vec<(NumKey, u64)>> {
+    let mut tellers = Handle::open(alloc, Settings::for_keys(ACCOUNTS, 5))?;
+    fund(tellers.first_mut().context("no teller")?)?;
     let mut tellers = run_all(rt, alloc, tellers)?;
-    let auditor = tellers.pop().context("no caller")?;
-    let (_, accounts) = auditor.drain(alloc).map_err(|(_, fault)| fault)?;
+    let auditor = tellers.pop().context("no teller")?;
+    let (_, accounts) = auditor.drain(alloc)?;
     Ok(accounts)
 }
 
-/// Opens the bank, and hands its callers on at once: each way out of a function that owns a table
-/// costs the prover seconds.
-fn open_and_run(rt: &(impl Threads + Sync), alloc: Global) -> Result<Vec<(NumKey, u64)>> {
-    let settings = Settings::for_keys(ACCOUNTS, 5);
-    let (table, passes) = Table::<NumKey, u64>::open(alloc, settings)?;
-    let tellers = table.callers(alloc, passes)?;
-    balances(rt, alloc, tellers)
-}
-
 fn main(rt: HostRuntime) -> Result<()> {
-    let accounts = open_and_run(&rt, rt.alloc())?;
+    let accounts = balances(&rt, rt.alloc())?;
     let left = accounts
         .iter()
         .fold(0u64, |sum, account| sum.saturating_add(account.1));

@@ -5,7 +5,7 @@
 mod key;
 
 use anyhow::{Context, Result};
-use cuckoo_map::{Busy, Caller, LockedTable, Settings, Table};
+use cuckoo_map::{Handle, LockedHandle, Settings};
 use key::SessionKey;
 use std::alloc::Global;
 use std::thread::{self, Threads};
@@ -32,12 +32,12 @@ struct Session {
     hits: u32,
 }
 
-type Client<'t> = Caller<'t, SessionKey, Session>;
+type Client = Handle<SessionKey, Session>;
 
-type Store<'t> = LockedTable<'t, SessionKey, Session>;
+type Store = LockedHandle<SessionKey, Session>;
 
 /// Opens the session where it isn't open, and else notes that it was used.
-fn touch(client: &mut Client<'_>, key: SessionKey, now: u64) -> Result<()> {
+fn touch(client: &mut Client, key: SessionKey, now: u64) -> Result<()> {
     let fresh = Session {
         role: Role::Guest,
         seen: now,
@@ -53,7 +53,7 @@ fn touch(client: &mut Client<'_>, key: SessionKey, now: u64) -> Result<()> {
 }
 
 /// Makes the session one of a member, where it is open and used often enough.
-fn log_in(client: &mut Client<'_>, key: SessionKey) -> Result<()> {
+fn log_in(client: &mut Client, key: SessionKey) -> Result<()> {
     client.replace_if(&key, |session: &Session| {
         if session.hits < 2 {
             return None;
@@ -67,7 +67,7 @@ fn log_in(client: &mut Client<'_>, key: SessionKey) -> Result<()> {
 }
 
 /// What a thread is asked for.
-fn serve(client: &mut Client<'_>, device: u32) -> Result<()> {
+fn serve(client: &mut Client, device: u32) -> Result<()> {
     for now in 0..100u32 {
         for step in 0..8u32 {
             let key = SessionKey {
@@ -83,9 +83,9 @@ fn serve(client: &mut Client<'_>, device: u32) -> Result<()> {
     Ok(())
 }
 
-fn serve_all(rt: &(impl Threads + Sync), alloc: Global, clients: Vec<Client<'_>>) -> Result<()> {
-    let jobs: Vec<(Client<'_>, u32)> = clients.into_iter().zip(0..DEVICES).collect(alloc)?;
-    let work = |(mut client, device): (Client<'_>, u32)| serve(&mut client, device);
+fn serve_all(rt: &(impl Threads + Sync), alloc: Global, clients: Vec<Client>) -> Result<()> {
+    let jobs: Vec<(Client, u32)> = clients.into_iter().zip(0..DEVICES).collect(alloc)?;
+    let work = |(mut client, device): (Client, u32)| serve(&mut client, device);
     for done in thread::map_vec(rt, jobs, &work)? {
         done?;
     }
@@ -93,14 +93,14 @@ fn serve_all(rt: &(impl Threads + Sync), alloc: Global, clients: Vec<Client<'_>>
 }
 
 /// Ends each session that wasn't used lately.
-fn sweep(store: &mut Store<'_>, now: u64) {
+fn sweep(store: &mut Store, now: u64) {
     store.retain(|_key: &SessionKey, session: &Session| {
         session.seen.saturating_add(LIFETIME) >= now
     });
 }
 
 /// Ends the guests' sessions, where more are open than may be.
-fn trim(store: &mut Store<'_>) {
+fn trim(store: &mut Store) {
     if store.len() > LIMIT {
         store.retain(|_key: &SessionKey, session: &Session| session.role == Role::Member);
     }
@@ -114,10 +114,11 @@ struct Counts {
 }
 
 /// All clients serve but the last, which then tidies the store.
-fn run(rt: &(impl Threads + Sync), alloc: Global, mut clients: Vec<Client<'_>>) -> Result<Counts> {
-    let keeper = clients.pop().context("no caller")?;
+fn run(rt: &(impl Threads + Sync), alloc: Global) -> Result<Counts> {
+    let mut clients = Handle::open(alloc, Settings::for_keys(1000, DEVICES + 1))?;
+    let keeper = clients.pop().context("no client")?;
     serve_all(rt, alloc, clients)?;
-    let mut store = keeper.lock().map_err(Busy::from)?;
+    let mut store = keeper.lock()?;
     let all = store.len();
     sweep(&mut store, 100);
     let fresh = store.len();
@@ -127,17 +128,8 @@ fn run(rt: &(impl Threads + Sync), alloc: Global, mut clients: Vec<Client<'_>>) 
     Ok(Counts { all, fresh, left })
 }
 
-/// Opens the store, and hands its callers on at once: each way out of a function that owns a table
-/// costs the prover seconds.
-fn open_and_run(rt: &(impl Threads + Sync), alloc: Global) -> Result<Counts> {
-    let settings = Settings::for_keys(1000, DEVICES + 1);
-    let (table, passes) = Table::<SessionKey, Session>::open(alloc, settings)?;
-    let clients = table.callers(alloc, passes)?;
-    run(rt, alloc, clients)
-}
-
 fn main(rt: HostRuntime) -> Result<()> {
-    let Counts { all, fresh, left } = open_and_run(&rt, rt.alloc())?;
+    let Counts { all, fresh, left } = run(&rt, rt.alloc())?;
     println!(rt; "{all} sessions, {fresh} of them used lately, {left} left")?;
     Ok(())
 }

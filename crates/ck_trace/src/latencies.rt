@@ -12,7 +12,7 @@ use std::time::Instant;
 pub fn time_each<K: Numbered>(
     rt: &impl Clock,
     alloc: Global,
-    worker: &mut Worker<'_, '_, K>,
+    worker: &mut Worker<'_, K>,
     calls: &[Call<K>],
 ) -> io::Result<(Vec<u64>, u64)> {
     let mut times = Vec::from_elem(alloc, 0u64, calls.len())?;

@@ -15,7 +15,7 @@ mod workers;
 
 use crate::keys::Numbered;
 use crate::trace::Call;
-use cuckoo_map::{Caller, NumKey, OpenFault, Settings, Table, TextKey};
+use cuckoo_map::{Handle, NumKey, OpenFault, Settings, TextKey};
 use std::alloc::Global;
 use std::process::ExitCode;
 use std::rt::Clock;
@@ -42,34 +42,20 @@ fn fault_error(fault: OpenFault) -> io::Error {
     }
 }
 
-/// Answers requests by these callers of a new table.
+/// Opens a table and answers requests on it.
 fn answer<K: Numbered + Send + Sync, R: Threads + Clock + Input + Print + Sync>(
-    rt: &R,
-    alloc: Global,
-    callers: Vec<Caller<'_, K, u64>>,
-    calls: &[Call<K>],
-) -> io::Result<()> {
-    let mut workers = workers::of(alloc, callers, calls)?;
-    println!(rt; "ready")?;
-    requests::answer_all(rt, alloc, &mut workers, calls)
-}
-
-/// Opens a table and answers requests on it. What owns the table hands its callers on at once: each
-/// way out of it costs the prover seconds.
-fn open_and_answer<K: Numbered + Send + Sync, R: Threads + Clock + Input + Print + Sync>(
     rt: &R,
     alloc: Global,
     calls: &[Call<K>],
     settings: Settings,
 ) -> io::Result<()> {
-    let (table, passes) = match Table::<K, u64>::open(alloc, settings) {
-        Ok(opened) => opened,
+    let handles = match Handle::open(alloc, settings) {
+        Ok(handles) => handles,
         Err(fault) => return Err(fault_error(fault)),
     };
-    match table.callers(alloc, passes) {
-        Ok(callers) => answer(rt, alloc, callers, calls),
-        Err(_) => Err(io::ErrorKind::OutOfMemory.into()),
-    }
+    let mut workers = workers::of(alloc, handles, calls)?;
+    println!(rt; "ready")?;
+    requests::answer_all(rt, alloc, &mut workers, calls)
 }
 
 /// Reads a trace, and answers requests. False where the trace can't be read.
@@ -83,7 +69,7 @@ fn serve<K: Numbered + Send + Sync, R: Threads + Clock + Input + Print + Sync>(
         return Ok(false);
     };
     drop(text);
-    open_and_answer(rt, alloc, &calls, settings)?;
+    answer(rt, alloc, &calls, settings)?;
     Ok(true)
 }
 

@@ -19,7 +19,7 @@ fn calls_of<'c, K>(calls: &'c [Call<K>], from: &str, to: &str) -> &'c [Call<K>] 
 /// Makes calls by so many threads, and prints the nanoseconds and the sum of the answers.
 fn answer_run<'c, R: Threads + Clock + Print + Sync, K: Numbered + Send + Sync>(
     rt: &R,
-    workers: &mut [Worker<'_, 'c, K>],
+    workers: &mut [Worker<'c, K>],
     calls: &'c [Call<K>],
     threads: &str,
 ) -> io::Result<()> {
@@ -33,7 +33,7 @@ fn answer_run<'c, R: Threads + Clock + Print + Sync, K: Numbered + Send + Sync>(
 fn answer_time<K: Numbered>(
     rt: &(impl Clock + Print),
     alloc: Global,
-    workers: &mut [Worker<'_, '_, K>],
+    workers: &mut [Worker<'_, K>],
     calls: &[Call<K>],
 ) -> io::Result<()> {
     let [worker, ..] = workers else {
@@ -58,7 +58,7 @@ fn answer_time<K: Numbered>(
 pub fn answer_all<'c, R: Threads + Clock + Input + Print + Sync, K: Numbered + Send + Sync>(
     rt: &R,
     alloc: Global,
-    workers: &mut [Worker<'_, 'c, K>],
+    workers: &mut [Worker<'c, K>],
     calls: &'c [Call<K>],
 ) -> io::Result<()> {
     for line in rt.lines(alloc) {

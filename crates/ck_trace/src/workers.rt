@@ -1,32 +1,32 @@
-//! Callers that make the calls of a trace, each a part of them.
+//! Handles that make the calls of a trace, each a part of them.
 use crate::keys::Numbered;
 use crate::trace::{Call, Kind};
-use cuckoo_map::Caller;
+use cuckoo_map::Handle;
 use std::alloc::{AllocError, Global};
 use std::rt::Clock;
 use std::thread::Threads;
 use std::time::Instant;
 use std::{io, thread};
 
-/// A caller, the calls that it is to make, and the sum of their answers: what shows that other
+/// A handle, the calls that it is to make, and the sum of their answers: what shows that other
 /// tables answered the same.
 #[derive(Drop)]
-pub struct Worker<'t, 'c, K: Numbered> {
-    caller: Caller<'t, K, u64>,
+pub struct Worker<'c, K: Numbered> {
+    handle: Handle<K, u64>,
     calls: &'c [Call<K>],
     sum: u64,
 }
 
-/// A worker for each caller.
-pub fn of<'t, 'c, K: Numbered>(
+/// A worker for each handle.
+pub fn of<'c, K: Numbered>(
     alloc: Global,
-    callers: Vec<Caller<'t, K, u64>>,
+    handles: Vec<Handle<K, u64>>,
     calls: &'c [Call<K>],
-) -> Result<Vec<Worker<'t, 'c, K>>, AllocError> {
+) -> Result<Vec<Worker<'c, K>>, AllocError> {
     let mut workers = Vec::new(alloc);
-    for caller in callers {
+    for handle in handles {
         workers.push(Worker {
-            caller,
+            handle,
             calls,
             sum: 0,
         })?;
@@ -34,30 +34,30 @@ pub fn of<'t, 'c, K: Numbered>(
     Ok(workers)
 }
 
-impl<'t, 'c, K: Numbered> Worker<'t, 'c, K> {
+impl<'c, K: Numbered> Worker<'c, K> {
     /// Makes a call, and gives a number of its answer: the value that is found, and otherwise
     /// whether the call changed what it is to change. A refused call gives 0.
     #[inline(always)]
     pub fn make(&mut self, call: &Call<K>) -> u64 {
-        let (caller, key, number) = (&mut self.caller, &call.key, call.number);
+        let (handle, key, number) = (&mut self.handle, &call.key, call.number);
         match call.kind {
-            Kind::Find => caller.find(key).unwrap_or(None).unwrap_or(0),
+            Kind::Find => handle.find(key).unwrap_or(None).unwrap_or(0),
             Kind::Insert => match key.clone() {
-                Ok(key) => u64::from(caller.insert(key, number).unwrap_or(false)),
+                Ok(key) => u64::from(handle.insert(key, number).unwrap_or(false)),
                 Err(_) => 0,
             },
             Kind::Update => {
-                let old = caller.update(key, number);
+                let old = handle.update(key, number);
                 u64::from(old.unwrap_or(None).is_some())
             }
             Kind::Add => match key.clone() {
                 Ok(key) => {
-                    let new = caller.upsert(key, |value| value.wrapping_add(1), 1);
+                    let new = handle.upsert(key, |value| value.wrapping_add(1), 1);
                     u64::from(new.unwrap_or(false))
                 }
                 Err(_) => 0,
             },
-            Kind::Erase => u64::from(caller.erase(key).unwrap_or(None).is_some()),
+            Kind::Erase => u64::from(handle.erase(key).unwrap_or(None).is_some()),
         }
     }
 
@@ -74,7 +74,7 @@ impl<'t, 'c, K: Numbered> Worker<'t, 'c, K> {
 }
 
 /// Gives each worker a part of the calls.
-fn share<'c, K: Numbered>(workers: &mut [Worker<'_, 'c, K>], calls: &'c [Call<K>]) {
+fn share<'c, K: Numbered>(workers: &mut [Worker<'c, K>], calls: &'c [Call<K>]) {
     let size = calls.len().div_ceil(workers.len().max(1)).max(1);
     for worker in workers.iter_mut() {
         worker.calls = &calls[..0];
@@ -89,13 +89,13 @@ fn share<'c, K: Numbered>(workers: &mut [Worker<'_, 'c, K>], calls: &'c [Call<K>
 /// start of the first one to the end of the last, and the sum of all answers.
 pub fn run<'c, R: Threads + Clock + Sync, K: Numbered + Send + Sync>(
     rt: &R,
-    workers: &mut [Worker<'_, 'c, K>],
+    workers: &mut [Worker<'c, K>],
     calls: &'c [Call<K>],
 ) -> io::Result<(u128, u64)> {
     share(workers, calls);
     let threads = workers.len().max(1);
     let start = Instant::now(rt)?;
-    let working = |_: usize, worker: &mut Worker<'_, '_, K>| worker.make_all();
+    let working = |_: usize, worker: &mut Worker<'_, K>| worker.make_all();
     thread::for_each_mut(rt, workers, threads, &working);
     let nanos = start.elapsed(rt)?.as_nanos();
     let mut sum = 0u64;
