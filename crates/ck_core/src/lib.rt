@@ -3,5 +3,6 @@
 
 pub mod core_laws;
 pub mod example;
+pub mod known;
 pub mod refusals;
 pub mod view;

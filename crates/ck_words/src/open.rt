@@ -12,7 +12,7 @@ ghost use Rattle.ck_words.specs.Closing.{dealt, AreAllPasses};
 use crate::pass::Pass;
 use crate::words::Words;
 use atomic_table::{Split, Table};
-use ck_core::view::View;
+use ck_core::known::Known;
 use ck_key::TableKey;
 use ck_model::settings::Settings;
 use ck_stripe::Stripe;
@@ -21,7 +21,7 @@ use std::alloc::{AllocError, Global};
 /// A caller begins, with a number that nobody has used.
 pub struct Open;
 
-impl<V> Split<View<V>> for Open {
+impl<V> Split<Known<V>> for Open {
     ghost use Rattle.ck_words.specs.Plays.{opened, begun};
 
     ghost left = { opened };

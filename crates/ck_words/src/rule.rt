@@ -1,7 +1,7 @@
 //! The invariant of the core as the rule of a table of words.
 
 use atomic_table::{Seat, Shared, TableRule};
-use ck_core::view::View;
+use ck_core::known::Known;
 use ck_key::TableKey;
 use ck_model::settings::Settings;
 use ck_stripe::Stripe;
@@ -9,7 +9,7 @@ use ck_stripe::Stripe;
 /// The invariant of the core.
 pub struct CoreRule;
 
-impl<K: TableKey, V> TableRule<Option<Stripe<K, V>>, View<V>, Settings> for CoreRule {
+impl<K: TableKey, V> TableRule<Option<Stripe<K, V>>, Known<V>, Settings> for CoreRule {
     ghost use Rattle.ck_words.specs.Rule.{RuleOf, first_view};
 
     ghost holds = { RuleOf K.hash };
@@ -17,6 +17,6 @@ impl<K: TableKey, V> TableRule<Option<Stripe<K, V>>, View<V>, Settings> for Core
     ghost first = { first_view };
 }
 
-pub(crate) type Board<K, V> = Shared<Option<Stripe<K, V>>, View<V>, Settings, CoreRule>;
+pub(crate) type Board<K, V> = Shared<Option<Stripe<K, V>>, Known<V>, Settings, CoreRule>;
 
-pub(crate) type StripeSeat<K, V> = Seat<Option<Stripe<K, V>>, View<V>>;
+pub(crate) type StripeSeat<K, V> = Seat<Option<Stripe<K, V>>, Known<V>>;

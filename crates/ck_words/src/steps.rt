@@ -16,7 +16,7 @@ ghost use Rattle.ck_words.specs.Passes.{MayTake, MayGive, IsPassOf, IsUnchanged,
 use crate::pass::Pass;
 use crate::words::Words;
 use atomic_table::Play;
-use ck_core::view::View;
+use ck_core::known::Known;
 use ck_key::TableKey;
 use ck_stripe::Stripe;
 use std::marker::{Brand, PhantomData};
@@ -24,7 +24,7 @@ use std::marker::{Brand, PhantomData};
 /// A swap for 1: the stripe is taken, or it was found held.
 pub struct Take;
 
-impl<K: TableKey, V> Play<Option<Stripe<K, V>>, View<V>> for Take {
+impl<K: TableKey, V> Play<Option<Stripe<K, V>>, Known<V>> for Take {
     ghost use Rattle.std.specs.Prelude.{◌/◌};
     ghost use Rattle.ck_words.specs.Plays.{SeatTries};
 
@@ -51,7 +51,7 @@ pub struct Give<J> {
     said: PhantomData<J>,
 }
 
-impl<K: TableKey, V, J: Refuses> Play<Option<Stripe<K, V>>, View<V>> for Give<J> {
+impl<K: TableKey, V, J: Refuses> Play<Option<Stripe<K, V>>, Known<V>> for Give<J> {
     ghost use Rattle.std.specs.Prelude.{◌/◌};
     ghost use Rattle.ck_core.specs.Steps.Label.{Give};
     ghost use Rattle.ck_words.specs.Plays.{SeatGives};
@@ -64,7 +64,7 @@ pub struct Renew<J> {
     said: PhantomData<J>,
 }
 
-impl<K: TableKey, V, J: Refuses> Play<Option<Stripe<K, V>>, View<V>> for Renew<J> {
+impl<K: TableKey, V, J: Refuses> Play<Option<Stripe<K, V>>, Known<V>> for Renew<J> {
     ghost use Rattle.std.specs.Prelude.{◌/◌};
     ghost use Rattle.ck_core.specs.Steps.Label.{Renew};
     ghost use Rattle.ck_words.specs.Plays.{SeatGives, contents_in};
@@ -92,7 +92,7 @@ pub struct Decide<J> {
     said: PhantomData<J>,
 }
 
-impl<K: TableKey, V, J: Says<V>> Play<Option<Stripe<K, V>>, View<V>> for Decide<J> {
+impl<K: TableKey, V, J: Says<V>> Play<Option<Stripe<K, V>>, Known<V>> for Decide<J> {
     ghost use Rattle.std.specs.Prelude.{◌/◌};
     ghost use Rattle.ck_core.specs.Steps.Label.{Decide};
     ghost use Rattle.ck_words.specs.Plays.{SeatGives, contents_in};
@@ -104,7 +104,7 @@ impl<K: TableKey, V, J: Says<V>> Play<Option<Stripe<K, V>>, View<V>> for Decide<
 /// A load: the history so far is seen.
 pub struct Look;
 
-impl<K: TableKey, V> Play<Option<Stripe<K, V>>, View<V>> for Look {
+impl<K: TableKey, V> Play<Option<Stripe<K, V>>, Known<V>> for Look {
     ghost use Rattle.std.specs.Prelude.{◌/◌};
     ghost use Rattle.ck_words.specs.Plays.{SeatLooks};
 

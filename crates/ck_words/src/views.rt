@@ -8,14 +8,14 @@ use crate::pass::Pass;
 use crate::rule::StripeSeat;
 use crate::words::Words;
 use atomic_table::{Join, Split};
-use ck_core::view::View;
+use ck_core::known::Known;
 use ck_key::TableKey;
 use std::marker::Model;
 
 /// What a caller has seen is split off, and joined to another caller's view.
 pub struct Tell;
 
-impl<V> Split<View<V>> for Tell {
+impl<V> Split<Known<V>> for Tell {
     ghost use Rattle.ck_core.specs.Steps.{message_of};
 
     ghost left = { λ v. v };
@@ -23,7 +23,7 @@ impl<V> Split<View<V>> for Tell {
     ghost right = { message_of };
 }
 
-impl<V> Join<View<V>> for Tell {
+impl<V> Join<Known<V>> for Tell {
     ghost use Rattle.ck_core.specs.Steps.{joining, spent};
 
     ghost both = { joining };

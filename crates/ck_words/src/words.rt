@@ -2,7 +2,7 @@
 use crate::rule::CoreRule;
 use crate::stripe_set::StripeSet;
 use atomic_table::Table;
-use ck_core::view::View;
+use ck_core::known::Known;
 use ck_key::TableKey;
 use ck_model::settings::Settings;
 use ck_stripe::Stripe;
@@ -12,7 +12,7 @@ use std::marker::Model;
 /// A lock word and a slot for each stripe. Contracts see which table it is, and its settings.
 #[derive(Drop)]
 pub struct Words<K: TableKey, V> {
-    pub(crate) table: Table<Option<Stripe<K, V>>, View<V>, Settings, CoreRule, Global>,
+    pub(crate) table: Table<Option<Stripe<K, V>>, Known<V>, Settings, CoreRule, Global>,
     pub(crate) settings: Settings,
 }
 
