@@ -22,6 +22,11 @@ abbrev pub mixed_hash : Name → ℕ
 mixed_hash [] = 0
 mixed_hash (n ∷ ns) = mixed_of n
 
+-- the name of two numbers is the list of them: the first is mixed, and the second, and both once more
+abbrev pub pair_hash : Name → ℕ
+pair_hash (n ∷ m ∷ []) = mixed_of (bit_xor (mixed_of n) m)
+pair_hash name = 0
+
 -- one byte more in the 64-bit FNV-1a
 abbrev pub fnv_step : ℕ → ℕ → ℕ
 fnv_step h b = bit_xor h b * 0x100000001b3 % 2 ^ 64
@@ -29,6 +34,11 @@ fnv_step h b = bit_xor h b * 0x100000001b3 % 2 ^ 64
 -- the 64-bit FNV-1a of the bytes
 abbrev pub text_hash : Name → ℕ
 text_hash bytes = fold fnv_step 0xcbf29ce484222325 bytes
+
+-- the name of a number and a text is the number before the bytes, and their hashes are mixed
+abbrev pub number_text_hash : Name → ℕ
+number_text_hash [] = 0
+number_text_hash (n ∷ bytes) = mixed_of (bit_xor (text_hash bytes) (mixed_of n))
 
 -- the hash of the name, and its partial
 pub record IsHashOf (hash : Name → ℕ) (q : Name) (h : KeyHash) : Type 0 where

@@ -1,18 +1,20 @@
 //! What a call names a key by.
-ghost use Rattle.std.specs.Prelude.{◌≡◌, ◌↔◌, true};
+ghost use Rattle.std.specs.Prelude.{◌≡◌, ◌↔◌, ◌∷◌, true};
 ghost use Rattle.ck_model.specs.Promise.{Name};
 
 use crate::key::TableKey;
+use crate::num_text_key::{NumTextKey, hash_of};
 use crate::text_key::{TextKey, fnv_of};
 
 /// What a call may name a key by: the key, or what has its name without being one, as the bytes of
 /// a text. It stands where Rust has `K: Borrow<Q>`, and is passed by value.
 ///
-/// A `&K` is a query for each type of keys. A `&str` and a `&[u8]` are queries for a [`TextKey`]; a
-/// text of more than 64 bytes is no key's name.
+/// A `&K` is a query for each type of keys. A `&str` and a `&[u8]` are queries for a [`TextKey`],
+/// and a number with either for a [`NumTextKey`]; a text of more than 64 bytes is no key's name.
 ///
 /// ```
 /// let count: Option<u64> = caller.find("word")?;
+/// let price: Option<u64> = caller.find((shop, "apples"))?;
 /// ```
 pub trait Query<K: TableKey>: Copy {
     // The name that is asked for.
@@ -62,5 +64,33 @@ impl Query<TextKey> for &str {
 
     fn is_name_of(&self, key: &TextKey) -> bool {
         key.as_bytes() == self.as_bytes()
+    }
+}
+
+impl Query<NumTextKey> for (u64, &[u8]) {
+    ghost name = { λ q. q.0 ∷ q.1.now };
+
+    fn hash64(&self) -> u64 {
+        let (number, bytes) = *self;
+        hash_of(number, bytes)
+    }
+
+    fn is_name_of(&self, key: &NumTextKey) -> bool {
+        let (number, bytes) = *self;
+        key.number() == number && key.as_bytes() == bytes
+    }
+}
+
+impl Query<NumTextKey> for (u64, &str) {
+    ghost name = { λ q. q.0 ∷ q.1.now };
+
+    fn hash64(&self) -> u64 {
+        let (number, text) = *self;
+        hash_of(number, text.as_bytes())
+    }
+
+    fn is_name_of(&self, key: &NumTextKey) -> bool {
+        let (number, text) = *self;
+        key.number() == number && key.as_bytes() == text.as_bytes()
     }
 }

@@ -57,8 +57,22 @@ pub enum OutOfRange {
     MinLoad,
 }
 
+impl Default for Settings {
+    ghost use Rattle.ck_model.specs.Ranges.{AreInRange};
+
+    ghost is_default = { AreInRange };
+
+    /// [`Settings::DEFAULT`].
+    fn default() -> Settings
+        ensures same { result ≡ Settings.DEFAULT }
+        ensures range { AreInRange result }
+    {
+        Settings::DEFAULT
+    }
+}
+
 impl Settings {
-    ghost use Rattle.ck_model.specs.Ranges.{AreInRange, IsOut};
+    ghost use Rattle.ck_model.specs.Ranges.{AreInRange, IsFirstOut};
 
     /// Settings of a table for one caller that opens with 1,024 buckets and as many stripes: what
     /// `for_keys` gives for up to 3,072 keys, from 1,537 on.
@@ -110,10 +124,11 @@ impl Settings {
         }
     }
 
-    /// The first setting that is not in its range; `None` where all are.
+    /// The first setting that is not in its range, in the order of [`OutOfRange`]; `None` where all
+    /// are.
     pub fn out_of_range(&self) -> Option<OutOfRange>
         ensures none { IfNone result (AreInRange self.now) }
-        ensures some { IfSome result (IsOut self.now) }
+        ensures some { IfSome result (IsFirstOut self.now) }
     {
         if self.s > 10 || self.s > self.power {
             Some(OutOfRange::Stripes)

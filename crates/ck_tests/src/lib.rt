@@ -6,6 +6,10 @@ mod call_rows;
 #[cfg(test)]
 mod callers;
 #[cfg(test)]
+mod defaults;
+#[cfg(test)]
+mod drops;
+#[cfg(test)]
 mod growing;
 #[cfg(test)]
 mod lists;
@@ -23,3 +27,5 @@ mod pools;
 mod texts;
 #[cfg(test)]
 mod threads;
+#[cfg(test)]
+mod two_part_keys;

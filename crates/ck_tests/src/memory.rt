@@ -57,7 +57,8 @@ fn open(rt: &impl Abort, alloc: Global) -> End {
     end_of(rt, NumTable::open(alloc, SETTINGS), OpenFault::Memory)
 }
 
-/// Where there is no memory for a pool, all callers come back.
+/// Where there is no memory for a pool, all callers come back, and where there is none for the list
+/// of them, the pool.
 fn make_pool(rt: &impl Abort, alloc: Global) -> End {
     let Ok((table, passes)) = NumTable::open(alloc, TWO_STRIPES) else {
         return End::Unbegun;
@@ -72,10 +73,23 @@ fn pool_of(rt: &impl Abort, alloc: Global, callers: Vec<NumCaller<'_>>) -> End {
     match Pool::new(alloc, callers) {
         Ok(pool) => {
             assert!(rt; pool.len() == 3);
+            list_of(rt, alloc, pool)
+        }
+        Err(back) => {
+            assert!(rt; back.items.len() == 3);
+            End::Refused
+        }
+    }
+}
+
+fn list_of(rt: &impl Abort, alloc: Global, pool: Pool<NumCaller<'_>>) -> End {
+    match pool.into_vec(alloc) {
+        Ok(callers) => {
+            assert!(rt; callers.len() == 3);
             End::Done
         }
         Err(back) => {
-            assert!(rt; back.callers.len() == 3);
+            assert!(rt; back.pool.len() == 3);
             End::Refused
         }
     }

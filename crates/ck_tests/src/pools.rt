@@ -10,7 +10,7 @@ use std::test::Fail;
 use std::thread;
 use std::thread::Threads;
 
-type NumPool<'t> = Pool<'t, NumKey, u64>;
+type NumPool<'t> = Pool<NumCaller<'t>>;
 
 /// How many threads borrow callers.
 const THREADS: u64 = 16;
@@ -84,7 +84,7 @@ fn more_threads_than_callers(rt: HostRuntime) -> Result<(), Fail> {
     let pool: NumPool<'_> = Pool::new(alloc, callers_of(alloc, settings(4))?)?;
     let added = run(&rt, alloc, &pool)?;
     assert!(rt; added);
-    let Ok(callers) = pool.into_callers(alloc) else {
+    let Ok(callers) = pool.into_vec(alloc) else {
         panic!(rt; "no memory for the callers");
     };
     check_sums(&rt, alloc, callers);
@@ -105,6 +105,16 @@ fn one_caller(rt: HostRuntime) -> Result<(), Fail> {
     let mut second = pool.lend().expect(&rt, "the caller that came back");
     let found = second.find(&NumKey(5));
     assert!(rt; found == Ok(Some(50)));
+    Ok(())
+}
+
+/// A pool of any type gives its items back in their order.
+#[test]
+fn items_in_their_order(rt: HostRuntime) -> Result<(), Fail> {
+    let alloc = rt.alloc();
+    let pool = Pool::new(alloc, vec![in alloc; 1u64, 2, 3]?)?;
+    let items = pool.into_vec(alloc)?;
+    assert!(rt; items.as_slice() == [1, 2, 3].as_slice());
     Ok(())
 }
 

@@ -2,7 +2,8 @@
 ghost use Rattle.std.specs.Prelude.{◌≤◌};
 
 use ck_key::{
-    KeyFault, MixedKey, NumKey, Query, TableKey, TextKey, alternate, index, partial, stripes_of,
+    KeyFault, MixedKey, NumKey, NumTextKey, PairKey, Query, TableKey, TextKey, alternate, index,
+    partial, stripes_of,
 };
 use std::alloc::Global;
 use std::process::Abort;
@@ -48,7 +49,7 @@ fn hash_of<K: TableKey>(key: &K) -> u64 {
 }
 
 /// The hash, by a query.
-fn hash_asked<Q: Query<TextKey>>(query: Q) -> u64 {
+fn hash_asked<K: TableKey, Q: Query<K>>(query: Q) -> u64 {
     query.hash64()
 }
 
@@ -90,6 +91,38 @@ fn mixed_keys(rt: HostRuntime) {
 }
 
 #[test]
+fn pair_keys(rt: HostRuntime) {
+    for (first, second, hash) in [
+        (1u64, 0u64, 0xbdf1_a1ba_6e11_6348u64),
+        (0, 1, 0x4c8b_acd9_c4be_f5b7),
+        (7, 20_000, 0x5da9_e722_f1bf_ee5e),
+        (20_000, 7, 0xd474_bf26_fb76_fc46),
+        (1 << 40, 1 << 20, 0xa601_c599_f999_9320),
+        (u64::MAX, u64::MAX, 0x6c33_b01e_5ff4_9557),
+    ] {
+        assert!(rt; hash_of(&PairKey(first, second)) == hash);
+    }
+    assert!(rt; PairKey(1, 9) < PairKey(2, 0));
+    assert!(rt; PairKey(1, 8) < PairKey(1, 9));
+}
+
+#[test]
+fn number_text_keys(rt: HostRuntime) -> Result<(), Fail> {
+    for (number, text, hash) in [
+        (1u64, "", 0x1598_49df_c130_8249u64),
+        (0, "a", 0xbd1d_ba3e_2c6c_7a65),
+        (7, "foobar", 0xa124_121f_8beb_e2eb),
+        (u64::MAX, "a", 0xe866_1799_75b0_a0d7),
+    ] {
+        let key = NumTextKey::new(rt.alloc(), number, text.as_bytes())?;
+        assert!(rt; hash_of(&key) == hash);
+        assert!(rt; hash_asked::<NumTextKey, _>((number, text)) == hash);
+        assert!(rt; hash_asked::<NumTextKey, _>((number, text.as_bytes())) == hash);
+    }
+    Ok(())
+}
+
+#[test]
 fn text_keys(rt: HostRuntime) -> Result<(), Fail> {
     for (text, row) in [
         (
@@ -107,9 +140,9 @@ fn text_keys(rt: HostRuntime) -> Result<(), Fail> {
     ] {
         let key = TextKey::new(rt.alloc(), text.as_bytes())?;
         check(&rt, hash_of(&key), &row);
-        assert!(rt; hash_asked(&key) == row.hash);
-        assert!(rt; hash_asked(text) == row.hash);
-        assert!(rt; hash_asked(text.as_bytes()) == row.hash);
+        assert!(rt; hash_asked::<TextKey, _>(&key) == row.hash);
+        assert!(rt; hash_asked::<TextKey, _>(text) == row.hash);
+        assert!(rt; hash_asked::<TextKey, _>(text.as_bytes()) == row.hash);
     }
     Ok(())
 }
@@ -147,6 +180,21 @@ fn check_longest(rt: &impl Abort, alloc: Global) -> Result<(), Fail> {
     let longest = TextKey::new(alloc, &long[..64])?;
     assert!(rt; longest.as_bytes().len() == 64);
     assert!(rt; longest.clone()? == longest);
+    Ok(())
+}
+
+/// The same with a number.
+#[test]
+fn longest_number_text_key(rt: HostRuntime) -> Result<(), Fail> {
+    let long = [b'x'; 65];
+    let fault = NumTextKey::new(rt.alloc(), 7, &long).err();
+    assert!(rt; fault == Some(KeyFault::TooLong));
+    let longest = NumTextKey::new(rt.alloc(), 7, &long[..64])?;
+    assert!(rt; longest.number() == 7);
+    assert!(rt; longest.as_bytes().len() == 64);
+    assert!(rt; longest.clone()? == longest);
+    assert!(rt; longest < NumTextKey::new(rt.alloc(), 8, b"")?);
+    assert!(rt; NumTextKey::new(rt.alloc(), 7, b"w")? < longest);
     Ok(())
 }
 

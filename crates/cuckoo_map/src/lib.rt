@@ -2,9 +2,10 @@
 //!
 //! A [`Table`] is opened with its [`Settings`] and comes with a [`Pass`] for each caller. Table and
 //! pass together are a [`Caller`], which makes the calls, and which may go to another thread. Keys
-//! are numbers ([`NumKey`], or [`MixedKey`] for numbers in steps) or short texts ([`TextKey`]), or a
-//! type with an `impl` of [`TableKey`]. A call that binds no new key takes a [`Query`] for it: `&key`,
-//! or for a text its bytes or a `&str`, so that no `TextKey` is made.
+//! are numbers ([`NumKey`], or [`MixedKey`] for numbers in steps), short texts ([`TextKey`]), two
+//! numbers ([`PairKey`]), a number with a text ([`NumTextKey`]), or a type with an `impl` of
+//! [`TableKey`]. A call that binds no new key takes a [`Query`] for it: `&key`, or for a text its bytes
+//! or a `&str`, so that no `TextKey` is made.
 //!
 //! ```
 //! let (table, passes) = Table::<NumKey, u64>::open(alloc, settings)?;
@@ -59,14 +60,14 @@ mod room;
 mod locked;
 
 pub use caller::{Caller, CallerOn};
-pub use ck_key::{KeyFault, MixedKey, NumKey, Query, TableKey, TextKey};
+pub use ck_key::{KeyFault, MixedKey, NumKey, NumTextKey, PairKey, Query, TableKey, TextKey};
 pub use ck_model::settings::{OutOfRange, Settings};
 pub use ck_section::{Iter, Uprased};
 pub use ck_words::{Message, Pass};
 pub use fault::Fault;
 pub use handle::{Handle, LockedHandle};
 pub use locked::{LockedOn, LockedTable};
-pub use pool::{AllLent, NoPool, Pool};
+pub use pool::{AllLent, NoList, NoPool, Pool};
 pub use refusal::{
     Busy, DrainFault, GrowFault, NoCallers, NotDrained, NotLocked, OpenFault, Refused, Why,
 };

@@ -1,11 +1,11 @@
 use Rattle.std.proofs.Common.{◌≡◌, ◌+◌, ◌≤◌, vec_len, vec_capacity}
 use Rattle.cuckoo_map.proofs.pool.Pool.new.Given as goal
 
-abbrev pub invariant-loop-caller : goal.invariant-loop-caller
-invariant-loop-caller g l = record {
+abbrev pub invariant-loop-item : goal.invariant-loop-item
+invariant-loop-item g l = record {
   all : vec_len l.places + vec_len l.list ≡ vec_len l.initial.list;
   room : vec_len l.initial.list ≤ vec_capacity l.places;
 }
 
-abbrev pub decreases-loop-caller : goal.decreases-loop-caller
-decreases-loop-caller g l = vec_len l.list
+abbrev pub decreases-loop-item : goal.decreases-loop-item
+decreases-loop-item g l = vec_len l.list
