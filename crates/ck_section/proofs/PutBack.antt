@@ -103,8 +103,14 @@ module _ {V : Type 0} (hash : Name → ℕ) (stripes : List (StripeState V)) (q 
       pub put_back : IsCallOn hash place.s stripes q act reply two
       put_back = subst (λ (l : List (StripeState V)). IsCallOn hash place.s stripes q act reply l) (sym from_two) section
 
--- what an upsert of a bound name has done, by what its closure made and how that ended
-pub tried_upsert : {V E : Type 0} (makes : V → Result V (V × E) → Type 0) (value : V) (P : Act V → Reply V → Type 0) (v w : V) (made : Result V (V × E)) (outcome : Result (Unit {0}) E) (answer : Result Bool E)
-    → MatchResult outcome (λ _. made ≡ Ok w) (λ e. made ≡ Err (w, e)) → MatchResult outcome (λ _. answer ≡ Ok false) (λ e. answer ≡ Err e) → makes v made → P (Upsert value) (Done v w) → TriesUpsert makes value P answer
-tried_upsert makes value P v w made (Ok done) answer is said so h = subst (TriesUpsert makes value P) (sym said) (v, w, subst (makes v) is so, h)
-tried_upsert makes value P v w made (Err e) answer is said so h = subst (TriesUpsert makes value P) (sym said) (v, w, subst (makes v) is so, h)
+-- what an upsert of a bound name has done, by how its closure ended
+pub tried_upsert : {V E : Type 0} (makes : V → Result V (V × E) → Type 0) (value : V) (P : Act V → Reply V → Type 0) (v w : V) (outcome : Result (Unit {0}) E) (answer : Result Bool E)
+    → MatchResult outcome (λ _. makes v (Ok w)) (λ e. makes v (Err (w, e))) → MatchResult outcome (λ _. answer ≡ Ok false) (λ e. answer ≡ Err e) → P (Upsert value) (Done v w) → TriesUpsert makes value P answer
+tried_upsert makes value P v w (Ok done) answer made said h = subst (TriesUpsert makes value P) (sym said) (v, w, made, h)
+tried_upsert makes value P v w (Err e) answer made said h = subst (TriesUpsert makes value P) (sym said) (v, w, made, h)
+
+-- the same of a change, which says besides that the name was bound
+pub tried_change : {V E : Type 0} (changes : V → Result V (V × E) → Type 0) (v w : V) (outcome : Result (Unit {0}) E) (answer : Result Bool E)
+    → MatchResult outcome (λ _. changes v (Ok w)) (λ e. changes v (Err (w, e))) → MatchResult outcome (λ _. answer ≡ Ok false) (λ e. answer ≡ Err e) → MatchResult answer (λ fresh. (fresh ≡ false) × changes v (Ok w)) (λ e. changes v (Err (w, e)))
+tried_change changes v w (Ok done) answer made said = rw said (refl, made)
+tried_change changes v w (Err e) answer made said = rw said made

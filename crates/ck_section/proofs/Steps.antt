@@ -29,6 +29,9 @@ module _ {V : Type 0} where
   pub unchanged : (old new : List (StripeState V)) → new ≡ old → ChangesContents old new
   unchanged old new same = subst (λ (l : List (StripeState V)). ChangesContents old l) (sym same) (changes_none old)
 
+  pub changes_since : (stripes cur new : List (StripeState V)) → cur ≡ stripes → ChangesContents cur new → ChangesContents stripes new
+  changes_since stripes cur new same = subst (λ (l : List (StripeState V)). ChangesContents l new) same
+
   -- Stripes that are as they were: what was in reach is, and a slot that had a name has it.
   module _ (stripes cur : List (StripeState V)) (same : cur ≡ stripes) where
     pub reach_still : (i b : ℕ) → IsInReach stripes i b → IsInReach cur i b
@@ -84,10 +87,21 @@ module _ {V : Type 0} where
           (sym (e ∙ ap (λ (l : List (StripeState V)). set_slot l at (Some (q, v)) ((stripe_at l at.index).content.ledger + 1)) same))
           (placed hash stripes q place of act reply at vacant.slot v vacant.nowhere vacant.next.0 answers)
 
+    -- where the name may be, among stripes that are as they were,
+    pub place_still : IsPlaceOf hash cur q place
+    place_still = subst (λ (l : List (StripeState V)). IsPlaceOf hash l q place) (sym same) of
+
+    -- and what a call then made of them
+    pub since : {act : Act V} {reply : Reply V} (new : List (StripeState V)) → IsCallOn hash place.s cur q act reply new → IsCallOn hash place.s stripes q act reply new
+    since {act} {reply} new = subst (λ (l : List (StripeState V)). IsCallOn hash place.s l q act reply new) same
+
     -- the name was found in the slot
     module _ (at : HeldSlot) (here : IsOccupied hash stripes q at) where
       pub found_in : slot_in cur at ≡ Some (q, here.found.0)
       found_in = ap (λ (l : List (StripeState V)). slot_in l at) same ∙ here.found.1
+
+      pub here_still : IsOccupied hash cur q at
+      here_still = subst (λ (l : List (StripeState V)). IsOccupied hash l q at) (sym same) here
 
       -- what is asked of a slot that is changed,
       pub ready : record { reach : IsInReach cur at.index at.bucket; below : at.slot < 4; full : IsSome (slot_in cur at) }

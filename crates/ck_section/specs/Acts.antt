@@ -33,9 +33,17 @@ module _ {V : Type 0} where
   abbrev pub InsertsBy : (V → Type 0) → (Act V → Reply V → Type 0) → Bool → Type 0
   InsertsBy makes P fresh = MatchBool fresh ((w : V) × makes w × P (Insert w) replies.New) ((v : V) × P Find (Was (Some v)))
 
+  -- the same, where a closure that was not called, since the key was bound, comes back
+  abbrev pub InsertsGivingBack : {F : Type 0} → F → (V → Type 0) → (Act V → Reply V → Type 0) → Option F → Type 0
+  InsertsGivingBack f makes P back = MatchOption back ((w : V) × makes w × P (Insert w) replies.New) (λ g. (g ≡ f) × (v : V) × P Find (Was (Some v)))
+
   -- the closure made this, to which the unbound key was bound, or it was bound to this before
   abbrev pub FindsOrInserts : (V → Type 0) → (Act V → Reply V → Type 0) → V → Type 0
   FindsOrInserts makes P v = (makes v × P (Insert v) replies.New) ⊎ P Find (Was (Some v))
+
+  -- the same, where a closure that was not called, since the key was bound, comes back
+  abbrev pub FindsGivingBack : {F : Type 0} → F → (V → Type 0) → (Act V → Reply V → Type 0) → V × Option F → Type 0
+  FindsGivingBack f makes P answer = MatchOption answer.1 (makes answer.0 × P (Insert answer.0) replies.New) (λ g. (g ≡ f) × P Find (Was (Some answer.0)))
 
   -- it was bound to the value, in place of this
   abbrev pub Assigns : V → (Act V → Reply V → Type 0) → Option V → Type 0
@@ -57,9 +65,26 @@ module _ {V : Type 0} where
   TriesUpsert makes value P (Ok false) = (v w : V) × makes v (Ok w) × P (Upsert value) (Done v w)
   TriesUpsert makes value P (Err e) = (v w : V) × makes v (Err (w, e)) × P (Upsert value) (Done v w)
 
+  -- Where the key was unbound, a value was made, and the key was bound to what the other closure made of it; else it was bound to what that made of its value. Where that failed with this error, an unbound key stayed so, and a bound one is bound to the value that it gave back.
+  abbrev pub TriesUpsertWith : {E : Type 0} → (V → Type 0) → (V → Result V (V × E) → Type 0) → (Act V → Reply V → Type 0) → Result Bool E → Type 0
+  TriesUpsertWith makes changes P (Ok true) = (v w : V) × makes v × changes v (Ok w) × P (Insert w) replies.New
+  TriesUpsertWith makes changes P (Ok false) = (v w : V) × changes v (Ok w) × P Change (Done v w)
+  TriesUpsertWith makes changes P (Err e) = ((v w : V) × makes v × changes v (Err (w, e)) × P Find (Was None)) ⊎ ((v w : V) × changes v (Err (w, e)) × P Change (Done v w))
+
+  -- the same, where a closure that makes a value and was not called, since the key was bound, comes back
+  abbrev pub TriesUpsertGivingBack : {E G : Type 0} → G → (V → Type 0) → (V → Result V (V × E) → Type 0) → (Act V → Reply V → Type 0) → Result Bool E × Option G → Type 0
+  TriesUpsertGivingBack make makes changes P answer =
+      MatchOption answer.1
+      ((v w : V) × makes v × MatchResult answer.0 (λ fresh. (fresh ≡ true) × changes v (Ok w) × P (Insert w) replies.New) (λ e. changes v (Err (w, e)) × P Find (Was None)))
+      (λ g. (g ≡ make) × (v w : V) × MatchResult answer.0 (λ fresh. (fresh ≡ false) × changes v (Ok w)) (λ e. changes v (Err (w, e))) × P Change (Done v w))
+
   -- it was bound to the value, in place of this, where it was bound
   abbrev pub Updates : V → (Act V → Reply V → Type 0) → Option V → Type 0
   Updates value P old = P (Update value) (Was old)
+
+  -- it was bound to what the closure made of its value, where it was bound, and the closure answered this of it
+  abbrev pub Modifies : {R : Type 0} → (V → V × R → Type 0) → (Act V → Reply V → Type 0) → Option R → Type 0
+  Modifies makes P answer = MatchOption answer (P Change Absent) (λ r. (v w : V) × makes v (w, r) × P Change (Done v w))
 
   -- it was bound to what the closure made of its value, where it was bound
   abbrev pub Changes : (V → V → Type 0) → (Act V → Reply V → Type 0) → Bool → Type 0

@@ -9,7 +9,7 @@ ghost use Rattle.ck_section.specs.Calls.{effect, IsCall, ChangesContents};
 ghost use Rattle.ck_model.specs.Commits.{call_of};
 
 use crate::entry::Entry;
-use crate::one_key::{fill, read_entry, value_and_outcome};
+use crate::one_key::{fill, modify_entry, read_entry, value_and_outcome};
 use crate::place::KeyPlace;
 use ck_key::TableKey;
 use ck_model::commit::Commit;
@@ -198,9 +198,8 @@ where
         match entry {
             Entry::Occupied(at) => {
                 let f = self.0;
-                let (own, old) = one_stripe::remove(held, at);
-                let (bound, outcome) = value_and_outcome(f(old));
-                one_stripe::place(held, at, place.partial, own, bound);
+                let change = |value: V| value_and_outcome(f, value);
+                let outcome = modify_entry(held, place, at, &key, change);
                 (answer_of_bound(outcome), commit)
             }
             Entry::Vacant(at) => {
@@ -211,8 +210,8 @@ where
     }
 }
 
-/// Binds an unbound key to what the closure makes, and says whether it was unbound. Where it was
-/// bound, the closure isn't called.
+/// Binds an unbound key to what the closure makes. Where it was bound, the closure isn't called, and
+/// is the answer.
 #[derive(Drop)]
 pub struct InsertWith<F>(pub PhantomData<F>);
 
@@ -220,13 +219,13 @@ impl<K: TableKey + Drop, V: Drop, F: FnOnce() -> V> Insertion<K, V> for InsertWi
 where
     F: Drop,
 {
-    ghost use Rattle.ck_section.specs.Acts.{InsertsBy, IsAct};
+    ghost use Rattle.ck_section.specs.Acts.{InsertsGivingBack, IsAct};
 
     type Value = F;
 
-    type Answer = bool;
+    type Answer = Option<F>;
 
-    ghost tells = { λ _ f fresh act reply. InsertsBy (F.post f) (IsAct act reply) fresh };
+    ghost tells = { λ _ f back act reply. InsertsGivingBack f (F.post f) (IsAct act reply) back };
 
     ghost can_make = { λ _ f. F.IsAlwaysCallable f };
 
@@ -238,17 +237,17 @@ where
         entry: Entry,
         key: K,
         value: F,
-    ) -> (bool, Commit<K, V>) {
+    ) -> (Option<F>, Commit<K, V>) {
         match entry {
             Entry::Occupied(at) => {
                 read_entry(held, place, at, &key, |_value: &V| ());
-                (false, Commit::Find(Snapshot::of(&key)))
+                (Some(value), Commit::Find(Snapshot::of(&key)))
             }
             Entry::Vacant(at) => {
                 let made = value();
                 let call = Commit::Insert(Snapshot::of(&key), Snapshot::of(&made));
                 fill(held, place, at, key, made);
-                (true, call)
+                (None, call)
             }
         }
     }
@@ -315,7 +314,8 @@ where
     }
 }
 
-/// Gives the value of the key. An unbound one is bound to what the closure makes.
+/// Gives the value of the key. An unbound one is bound to what the closure makes. For a bound one
+/// the closure isn't called, and is given as well.
 #[derive(Drop)]
 pub struct GetOrInsertWith<F>(pub PhantomData<F>);
 
@@ -323,13 +323,13 @@ impl<K: TableKey + Drop, V: Copy + Drop, F: FnOnce() -> V> Insertion<K, V> for G
 where
     F: Drop,
 {
-    ghost use Rattle.ck_section.specs.Acts.{FindsOrInserts, IsAct};
+    ghost use Rattle.ck_section.specs.Acts.{FindsGivingBack, IsAct};
 
     type Value = F;
 
-    type Answer = V;
+    type Answer = (V, Option<F>);
 
-    ghost tells = { λ _ f v act reply. FindsOrInserts (F.post f) (IsAct act reply) v };
+    ghost tells = { λ _ f answer act reply. FindsGivingBack f (F.post f) (IsAct act reply) answer };
 
     ghost can_make = { λ _ f. F.IsAlwaysCallable f };
 
@@ -341,18 +341,73 @@ where
         entry: Entry,
         key: K,
         value: F,
-    ) -> (V, Commit<K, V>) {
+    ) -> ((V, Option<F>), Commit<K, V>) {
         match entry {
             Entry::Occupied(at) => {
                 let found = read_entry(held, place, at, &key, |bound: &V| *bound);
-                (found, Commit::Find(Snapshot::of(&key)))
+                ((found, Some(value)), Commit::Find(Snapshot::of(&key)))
             }
             Entry::Vacant(at) => {
                 let made = value();
                 let said = Commit::Insert(Snapshot::of(&key), Snapshot::of(&made));
                 fill(held, place, at, key, made);
-                (made, said)
+                ((made, None), said)
             }
+        }
+    }
+}
+
+/// Binds an unbound key to what the second closure makes of the value that the first one makes, and
+/// a bound one to what the second makes of its value. Where the second fails, an unbound key stays
+/// so, and a bound one is bound to the value that it gives back. For a bound key the first isn't
+/// called, and is given as well.
+#[derive(Drop)]
+pub struct TryUpsertWith<G, F>(pub PhantomData<(G, F)>);
+
+impl<K: TableKey + Drop, V: Drop, E, G: FnOnce() -> V, F: FnOnce(V) -> Result<V, (V, E)>> Insertion<
+    K,
+    V,
+> for TryUpsertWith<G, F>
+where
+    G: Drop,
+    F: Drop,
+{
+    ghost use Rattle.ck_section.specs.Acts.{TriesUpsertGivingBack, IsAct};
+
+    type Value = (G, F);
+
+    type Answer = (Result<bool, E>, Option<G>);
+
+    ghost tells = { λ _ x answer act reply.
+        TriesUpsertGivingBack x.0 (G.post x.0) (F.post x.1) (IsAct act reply) answer };
+
+    ghost can_make = { λ _ x. G.IsAlwaysCallable x.0 × F.IsAlwaysCallable x.1 };
+
+    #[inline(always)]
+    fn make<H: Held<Stripe<K, V>>>(
+        self,
+        held: &mut H,
+        place: KeyPlace,
+        entry: Entry,
+        key: K,
+        value: (G, F),
+    ) -> ((Result<bool, E>, Option<G>), Commit<K, V>) {
+        let (make, f) = value;
+        match entry {
+            Entry::Occupied(at) => {
+                let change = |old: V| value_and_outcome(f, old);
+                let outcome = modify_entry(held, place, at, &key, change);
+                let answer = answer_of_bound(outcome);
+                ((answer, Some(make)), Commit::Change(Snapshot::of(&key)))
+            }
+            Entry::Vacant(at) => match f(make()) {
+                Ok(made) => {
+                    let said = Commit::Insert(Snapshot::of(&key), Snapshot::of(&made));
+                    fill(held, place, at, key, made);
+                    ((Ok(true), None), said)
+                }
+                Err((_, error)) => ((Err(error), None), Commit::Find(Snapshot::of(&key))),
+            },
         }
     }
 }

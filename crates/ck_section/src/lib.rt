@@ -36,7 +36,7 @@ pub use insertion::{Insertion, Uprased};
 pub use iter::Iter;
 pub use listing::export;
 pub use look::{key_place, sketch};
-pub use one_key::{erase, erase_fn, find, replace_if, try_update, update, update_fn};
+pub use one_key::{erase, erase_fn, find, modify, replace_if, try_update, update, update_fn};
 pub use place::{HeldBucket, KeyPlace};
 pub use retain::retain_all;
 pub use room::{make_room, settled_place};

@@ -18,29 +18,30 @@ use crate::place::KeyPlace;
 use ck_key::{Query, TableKey};
 use ck_stripe::{Held, HeldSlot, Stripe, one_stripe};
 
-/// What the closure answers for the value of the key; `None` where the key is unbound, and then the
-/// closure is not called.
+/// What the closure answers for the value of the key. Where the key is unbound, the closure is not
+/// called and comes back.
 pub fn find<K: TableKey + Drop, V: Drop, Q: Query<K>, H: Held<Stripe<K, V>>, R, F: FnOnce(&V) -> R>(
     held: &mut H,
     place: KeyPlace,
     key: Q,
     f: F,
-) -> Option<R>
-where
-    F: Drop,
+) -> (Option<R>, Option<F>)
     requires place { IsPlaceOf K.hash (H.stripes held.old) (Q.name key) place }
     requires call { F.IsAlwaysCallable f }
-    ensures bound { IfSome result (λ r. (v : V) × FnOnceReturnsAt F.FnOnce f v r
+    ensures bound { IfSome result.0 (λ r. (v : V) × FnOnceReturnsAt F.FnOnce f v r
         × IsCall (effect K.hash H.stripes place held.old held.new) (Q.name key)
         Find (Was (Some v))) }
-    ensures unbound { IfNone result
-        (IsCall (effect K.hash H.stripes place held.old held.new) (Q.name key)
+    ensures unbound { IfNone result.0 ((result.1 ≡ Some f)
+        × IsCall (effect K.hash H.stripes place held.old held.new) (Q.name key)
         Find (Was None)) }
     ensures same { H.stripes held.new ≡ H.stripes held.old }
     ensures stays { H.stays held.old held.new }
 {
-    let at = find_slot(held, place, key)?;
-    Some(one_stripe::read(held, at, f))
+    // A pair, since a `Result` would cost the look-up of a number some instructions.
+    match find_slot(held, place, key) {
+        Some(at) => (Some(one_stripe::read(held, at, f)), None),
+        None => (None, Some(f)),
+    }
 }
 
 /// Binds a bound key to another value, and gives the one that it had; `None` where the key is
@@ -178,6 +179,34 @@ pub fn replace_if<
     }
 }
 
+/// Binds a bound key to the value that the closure makes of its value, and gives what the closure
+/// answers. Where the key is unbound, the closure is not called and comes back.
+pub fn modify<
+    K: TableKey + Drop,
+    V: Drop,
+    Q: Query<K>,
+    H: Held<Stripe<K, V>>,
+    R,
+    F: FnOnce(V) -> (V, R),
+>(held: &mut H, place: KeyPlace, key: Q, f: F) -> Result<R, F>
+    requires place { IsPlaceOf K.hash (H.stripes held.old) (Q.name key) place }
+    requires call { F.IsAlwaysCallable f }
+    ensures bound { IfOk result (λ answer. (v w : V) × F.post f v (w, answer)
+        × IsCall (effect K.hash H.stripes place held.old held.new) (Q.name key)
+        Change (Done v w)) }
+    ensures unbound { IfErr result (λ back. (back ≡ f)
+        × IsCall (effect K.hash H.stripes place held.old held.new) (Q.name key)
+        Change Absent) }
+    ensures same { OnErr result (H.stripes held.new ≡ H.stripes held.old) }
+    ensures rest { ChangesContents (H.stripes held.old) (H.stripes held.new) }
+    ensures stays { H.stays held.old held.new }
+{
+    match find_slot(held, place, key) {
+        Some(at) => Ok(modify_entry(held, place, at, key, f)),
+        None => Err(f),
+    }
+}
+
 /// Binds a bound key to the value that the closure gives back for its value, whether it succeeds or
 /// fails, and gives the error of a failure. Where the key is unbound, the closure is not called and
 /// comes back.
@@ -202,14 +231,10 @@ pub fn try_update<
     ensures rest { ChangesContents (H.stripes held.old) (H.stripes held.new) }
     ensures stays { H.stays held.old held.new }
 {
-    let at = match find_slot(held, place, key) {
-        Some(at) => at,
-        None => return Err(f),
-    };
-    let (own, old) = one_stripe::remove(held, at);
-    let (value, outcome) = value_and_outcome(f(old));
-    one_stripe::place(held, at, place.partial, own, value);
-    Ok(outcome)
+    match find_slot(held, place, key) {
+        Some(at) => Ok(modify_entry(held, place, at, key, |value: V| value_and_outcome(f, value))),
+        None => Err(f),
+    }
 }
 
 // Puts an unbound key into the slot of its entry.
@@ -231,11 +256,43 @@ pub(crate) fn fill<K: TableKey + Drop, V: Drop, H: Held<Stripe<K, V>>>(
     one_stripe::place(held, at, partial, key, value);
 }
 
-// The value that a success or a failure gave back, and which of the two it was.
-pub(crate) fn value_and_outcome<V, E>(made: Result<V, (V, E)>) -> (V, Result<(), E>)
-    ensures { MatchResult result.1 (λ _. made ≡ Ok result.0) (λ e. made ≡ Err (result.0, e)) }
+// Takes the value of a bound key out of its slot, puts back what the closure makes of it, and gives
+// what the closure answers.
+#[inline(always)]
+pub(crate) fn modify_entry<
+    K: TableKey + Drop,
+    V: Drop,
+    Q: Query<K>,
+    H: Held<Stripe<K, V>>,
+    R,
+    F: FnOnce(V) -> (V, R),
+>(held: &mut H, place: KeyPlace, at: HeldSlot, _key: Q, f: F) -> R
+    requires place { IsPlaceOf K.hash (H.stripes held.old) (Q.name _key) place }
+    requires occupied { IsOccupied K.hash (H.stripes held.old) (Q.name _key) at }
+    requires call { F.IsAlwaysCallable f }
+    ensures bound { (v w : V) × F.post f v (w, result)
+        × ((act : Act V) (reply : Reply V) → Answers act (Some v) reply (Some w)
+        → IsCall (effect K.hash H.stripes place held.old held.new) (Q.name _key) act reply) }
+    ensures rest { ChangesContents (H.stripes held.old) (H.stripes held.new) }
+    ensures stays { H.stays held.old held.new }
 {
-    match made {
+    let (own, old) = one_stripe::remove(held, at);
+    let (value, answer) = f(old);
+    one_stripe::place(held, at, place.partial, own, value);
+    answer
+}
+
+// The value that the closure gives back for a value, and how it ends.
+#[inline(always)]
+pub(crate) fn value_and_outcome<V, E, F: FnOnce(V) -> Result<V, (V, E)>>(
+    f: F,
+    value: V,
+) -> (V, Result<(), E>)
+    requires { F.IsAlwaysCallable f }
+    ensures { MatchResult result.1 (λ _. F.post f value (Ok result.0))
+        (λ e. F.post f value (Err (result.0, e))) }
+{
+    match f(value) {
         Ok(value) => (value, Ok(())),
         Err((value, error)) => (value, Err(error)),
     }

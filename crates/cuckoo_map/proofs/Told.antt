@@ -1,11 +1,17 @@
 -- Which act a call was, by what it answered.
-use Rattle.std.proofs.Common.{inl, inr, ⊎_elim, Bool, true, false, Option, Some, None, Result, Ok, Err, subst}
+use Rattle.std.proofs.Common.{◌≡◌, inl, inr, ⊎_elim, Bool, true, false, not, Option, Some, None, is_some, Result, Ok, Err, ap, sym, subst}
 use Rattle.ck_model.specs.declared.history.Act.{Act}
 use Rattle.ck_model.specs.declared.history.Reply.{Reply}
 use Rattle.ck_section.specs.declared.insertion.Uprased.{Uprased}
 use Rattle.ck_section.specs.declared.insertion.Uprased.TheVariants.{New, Changed, Erased}
-use Rattle.ck_section.specs.Acts.{IsAct, Finds, FindsBound, FindsBy, Inserts, InsertsBy, FindsOrInserts, Assigns, Upserts, Uprases, TriesUpsert}
-use Rattle.ck_section.specs.Acts.{Updates, Changes, ReplacesIf, TriesChange, Erases, ErasesBy, ChangesTwo}
+use Rattle.ck_section.specs.Acts.{IsAct, Finds, FindsBound, FindsBy, Inserts, InsertsBy, FindsOrInserts, Assigns, Upserts, Uprases, TriesUpsert, TriesUpsertWith}
+use Rattle.ck_section.specs.Acts.{InsertsGivingBack, FindsGivingBack, TriesUpsertGivingBack}
+use Rattle.ck_section.specs.Acts.{Updates, Modifies, Changes, ReplacesIf, TriesChange, Erases, ErasesBy, ChangesTwo}
+
+-- whether a key was unbound, where a closure comes back that is not called for a bound one
+fresh_of : (back fresh : Bool) → back ≡ not fresh → fresh ≡ not back
+fresh_of back true is = sym (ap not is)
+fresh_of back false is = sym (ap not is)
 
 -- P gives Q of an act with its reply, and this besides
 module _ {V Z : Type 0} {P Q : Act V → Reply V → Type 0} (f : (act : Act V) (reply : Reply V) → P act reply → Q act reply × Z) where
@@ -48,8 +54,17 @@ module _ {V Z : Type 0} {P Q : Act V → Reply V → Type 0} (f : (act : Act V) 
   told_tried makes value (Ok false) h = let x = f _ _ h.3 in ((h.0, h.1, h.2, x.0), x.1)
   told_tried makes value (Err e) h = let x = f _ _ h.3 in ((h.0, h.1, h.2, x.0), x.1)
 
+  pub told_tried_with : {E : Type 0} (makes : V → Type 0) (changes : V → Result V (V × E) → Type 0) (answer : Result Bool E) → TriesUpsertWith makes changes P answer → TriesUpsertWith makes changes Q answer × Z
+  told_tried_with makes changes (Ok true) h = let x = f _ _ h.4 in ((h.0, h.1, h.2, h.3, x.0), x.1)
+  told_tried_with makes changes (Ok false) h = let x = f _ _ h.3 in ((h.0, h.1, h.2, x.0), x.1)
+  told_tried_with makes changes (Err e) h = ⊎_elim (λ new. let x = f _ _ new.4 in (inl (new.0, new.1, new.2, new.3, x.0), x.1)) (λ bound. let x = f _ _ bound.3 in (inr (bound.0, bound.1, bound.2, x.0), x.1)) h
+
   pub told_updated : (value : V) (old : Option V) → Updates value P old → Updates value Q old × Z
   told_updated value old h = f _ _ h
+
+  pub told_modified : {R : Type 0} (makes : V → V × R → Type 0) (answer : Option R) → Modifies makes P answer → Modifies makes Q answer × Z
+  told_modified makes None h = f _ _ h
+  told_modified makes (Some r) h = let x = f _ _ h.3 in ((h.0, h.1, h.2, x.0), x.1)
 
   pub told_changed : (makes : V → V → Type 0) (bound : Bool) → Changes makes P bound → Changes makes Q bound × Z
   told_changed makes true h = let x = f _ _ h.3 in ((h.0, h.1, h.2, x.0), x.1)
@@ -81,13 +96,18 @@ module _ {V : Type 0} (P : Act V → Reply V → Type 0) where
   by_act : {act : Act V} {reply : Reply V} → P act reply → (a : Act V) (r : Reply V) → IsAct act reply a r → P a r × Unit {0}
   by_act h a r is = (as_said is h, tt)
 
+  by_back : {F : Type 0} (f : F) (makes : V → Type 0) (back : Option F) (act : Act V) (reply : Reply V) → InsertsGivingBack f makes (IsAct act reply) back → P act reply → InsertsBy makes P (not (is_some back))
+  by_back f makes None act reply told h = (told.0, told.1, as_said told.2 h)
+  by_back f makes (Some g) act reply told h = (told.1, as_said told.2 h)
+
   -- an insertion of what the closure makes
-  pub as_inserted : (makes : V → Type 0) (fresh : Bool) (act : Act V) (reply : Reply V) → InsertsBy makes (IsAct act reply) fresh → P act reply → InsertsBy makes P fresh
-  as_inserted makes fresh act reply told h = (told_inserted_by (by_act h) makes fresh told).0
+  pub as_inserted : {F : Type 0} (f : F) (makes : V → Type 0) (back : Option F) (fresh : Bool) → is_some back ≡ not fresh → (act : Act V) (reply : Reply V) → InsertsGivingBack f makes (IsAct act reply) back → P act reply → InsertsBy makes P fresh
+  as_inserted f makes back fresh is act reply told h = subst (InsertsBy makes P) (sym (fresh_of (is_some back) fresh is)) (by_back f makes back act reply told h)
 
   -- a look-up that inserts what the closure makes
-  pub as_found : (makes : V → Type 0) (v : V) (act : Act V) (reply : Reply V) → FindsOrInserts makes (IsAct act reply) v → P act reply → FindsOrInserts makes P v
-  as_found makes v act reply told h = (told_found_or_inserted (by_act h) makes v told).0
+  pub as_found : {F : Type 0} (f : F) (makes : V → Type 0) (v : V) (back : Option F) (act : Act V) (reply : Reply V) → FindsGivingBack f makes (IsAct act reply) (v, back) → P act reply → FindsOrInserts makes P v
+  as_found f makes v None act reply told h = inl (told.0, as_said told.1 h)
+  as_found f makes v (Some g) act reply told h = inr (as_said told.1 h)
 
   -- an upsert
   module _ (makes : V → V → Type 0) (value : V) where
@@ -103,6 +123,14 @@ module _ {V : Type 0} (P : Act V → Reply V → Type 0) where
   module _ {E : Type 0} (makes : V → Result V (V × E) → Type 0) (value : V) where
     pub as_tried : (answer : Result Bool E) (act : Act V) (reply : Reply V) → TriesUpsert makes value (IsAct act reply) answer → P act reply → TriesUpsert makes value P answer
     as_tried answer act reply told h = (told_tried (by_act h) makes value answer told).0
+
+  -- an upsert whose value is made, and whose other closure may fail
+  module _ {E G : Type 0} (make : G) (makes : V → Type 0) (changes : V → Result V (V × E) → Type 0) where
+    pub as_tried_with : (answer : Result Bool E) (back : Option G) (act : Act V) (reply : Reply V) → TriesUpsertGivingBack make makes changes (IsAct act reply) (answer, back) → P act reply → TriesUpsertWith makes changes P answer
+    as_tried_with (Ok fresh) None act reply told h = subst (λ b. TriesUpsertWith makes changes P (Ok b)) (sym told.3.0) (told.0, told.1, told.2, told.3.1, as_said told.3.2 h)
+    as_tried_with (Ok fresh) (Some g) act reply told h = subst (λ b. TriesUpsertWith makes changes P (Ok b)) (sym told.3.0) (told.1, told.2, told.3.1, as_said told.4 h)
+    as_tried_with (Err e) None act reply told h = inl (told.0, told.1, told.2, told.3.0, as_said told.3.1 h)
+    as_tried_with (Err e) (Some g) act reply told h = inr (told.1, told.2, told.3, as_said told.4 h)
 
 -- the same of a change of two keys
 pub told_changed_two : {V Z : Type 0} {P Q : Reply V → Type 0} (f : (reply : Reply V) → P reply → Q reply × Z) (makes : V → V → V × V → Type 0) (bound : Bool) → ChangesTwo makes P bound → ChangesTwo makes Q bound × Z

@@ -4,7 +4,7 @@ ghost use Rattle.std.specs.Fn.{FnOnceReturnsAt};
 ghost use Rattle.std.specs.Result.{result_ok};
 ghost use Rattle.ck_model.specs.declared.history.Act.TheVariants.{Find};
 ghost use Rattle.ck_model.specs.declared.history.Call.TheVariants.{On};
-ghost use Rattle.ck_section.specs.Acts.{Updates, Changes, Erases, ErasesBy, ReplacesIf, TriesChange};
+ghost use Rattle.ck_section.specs.Acts.{Updates, Modifies, Changes, Erases, ErasesBy, ReplacesIf, TriesChange};
 ghost use Rattle.ck_words.specs.Answering.{IsAnsweredOn};
 ghost use Rattle.ck_words.specs.Closing.{IsCaller};
 ghost use Rattle.ck_model.specs.Commits.{call_of};
@@ -15,7 +15,7 @@ use crate::refusal::Busy;
 use crate::table::Table;
 use ck_key::{Query, TableKey};
 use ck_model::commit::Commit;
-use ck_section::{erase, erase_fn, replace_if, try_update, update, update_fn};
+use ck_section::{erase, erase_fn, modify, replace_if, try_update, update, update_fn};
 use ck_words::{Pass, guard};
 use std::snapshot::Snapshot;
 
@@ -72,6 +72,39 @@ impl<K: TableKey + Drop, V: Drop> Table<K, V> {
         let bound = update_fn(&mut guard, spot.place, key, f);
         guard.commit_query(Commit::Change(Snapshot::of(&key)));
         Ok(bound)
+    }
+
+    /// Binds a bound key to what the closure makes of its value, and gives what the closure answers
+    /// besides; `None` where the key is unbound, and then the closure is not called. The closure
+    /// runs while the key's stripes are held.
+    ///
+    /// Refused as busy, it changes nothing, and the closure is dropped.
+    ///
+    /// ```
+    /// // The next number of a counter that is bound.
+    /// let number: Option<u64> =
+    ///     table.modify(&mut pass, &NumKey(5), |next: u64| (next.wrapping_add(1), next))?;
+    /// ```
+    pub fn modify<Q: Query<K>, R, F: FnOnce(V) -> (V, R)>(
+        &self,
+        pass: &mut Pass<K, V>,
+        key: Q,
+        f: F,
+    ) -> Result<Option<R>, Busy>
+    where
+        F: Drop,
+        requires caller { IsCaller self.now pass.old }
+        requires call { F.IsAlwaysCallable f }
+        ensures caller { IsCaller self.now pass.new }
+        ensures queried { HasQueried (Modifies (F.post f))
+            K.hash self.now.settings (Q.name key) result pass.old pass.new }
+    {
+        let spot = self.lock_key(pass, key)?;
+        let mut guard = guard!(&self.words, pass, spot.stripes);
+        let answer = modify(&mut guard, spot.place, key, f);
+        guard.commit_query(Commit::Change(Snapshot::of(&key)));
+        // A closure that was not called is dropped only now, when no stripe is held.
+        Ok(answer.ok())
     }
 
     /// Unbinds the key, and gives the value that it had; `None` where it is unbound. Refused as

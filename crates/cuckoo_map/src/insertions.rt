@@ -1,6 +1,6 @@
 //! Calls that may bind an unbound key.
 ghost use Rattle.std.specs.Prelude.{◌≤◌};
-ghost use Rattle.ck_section.specs.Acts.{Inserts, InsertsBy, FindsOrInserts, Assigns, Upserts, Uprases, TriesUpsert};
+ghost use Rattle.ck_section.specs.Acts.{Inserts, InsertsBy, FindsOrInserts, Assigns, Upserts, Uprases, TriesUpsert, TriesUpsertWith};
 ghost use Rattle.ck_words.specs.Closing.{IsCaller};
 ghost use Rattle.ck_words.specs.Passes.{IsPassOf, IsUnchanged};
 ghost use Rattle.ck_words.specs.StripeNumbers.{own_numbers};
@@ -128,6 +128,54 @@ impl<K: TableKey + Drop, V: Drop> Table<K, V> {
         self.make(pass, key, value, insertion::TryUpsert(f))
     }
 
+    /// Binds an unbound key to what `f` makes of the value that `make` makes, and answers
+    /// `Ok(true)`. A bound one is bound to what `f` makes of its value, the answer is `Ok(false)`,
+    /// and `make` is not called and is dropped. Where `f` fails, the answer is its error: an unbound
+    /// key stays so, and the value that `f` gives back is dropped; a bound one is bound to that
+    /// value. The closures run while the key's stripes are held.
+    ///
+    /// Where both buckets of an unbound key are full, other entries are displaced to make room, and
+    /// where that is of no avail the table doubles, under all stripes; neither changes a binding.
+    ///
+    /// Refused, it changes no binding and hands the key and both closures back, which were not
+    /// called: as `Busy`, or where no displacement makes room and the table doesn't grow, as `Full`
+    /// at its greatest power, as `LoadTooLow` where too few slots are taken, or as `Memory`. The
+    /// table may have grown all the same.
+    ///
+    /// ```
+    /// // The values are of type `Vec<u64>`. The number is pushed to the list of the key, to a new
+    /// // one where it has none. Where there is no memory for it, a list stays as it was, none is
+    /// // bound, and the number comes back.
+    /// let push = |mut list: Vec<u64>| match list.push(51) {
+    ///     Ok(()) => Ok(list),
+    ///     Err(refused) => Err((list, refused.value)),
+    /// };
+    /// let pushed: Result<bool, u64> = table
+    ///     .try_upsert_with(&mut pass, NumKey(5), || Vec::new(alloc), push)
+    ///     .map_err(|refused| refused.why)?;
+    /// ```
+    pub fn try_upsert_with<E, G: FnOnce() -> V, F: FnOnce(V) -> Result<V, (V, E)>>(
+        &self,
+        pass: &mut Pass<K, V>,
+        key: K,
+        make: G,
+        f: F,
+    ) -> Result<Result<bool, E>, Refused<K, (G, F)>>
+    where
+        G: Drop,
+        F: Drop,
+        requires caller { IsCaller self.now pass.old }
+        requires call { G.IsAlwaysCallable make × F.IsAlwaysCallable f }
+        ensures caller { IsCaller self.now pass.new }
+        ensures inserted { HasInserted (TriesUpsertWith (G.post make) (F.post f))
+            K.hash self.now.settings (K.name key) key (make, f) result pass.old pass.new }
+    {
+        let insertion = insertion::TryUpsertWith(PhantomData);
+        // A closure that was not called is dropped only here, when no stripe is held.
+        let (answer, _) = self.make(pass, key, (make, f), insertion)?;
+        Ok(answer)
+    }
+
     /// Binds an unbound key to what the closure makes, and says whether it was unbound. A bound key
     /// keeps its value, and then the closure is not called and is dropped. It runs while the key's
     /// stripes are held.
@@ -159,7 +207,9 @@ impl<K: TableKey + Drop, V: Drop> Table<K, V> {
         ensures inserted { HasInserted (InsertsBy (F.post f))
             K.hash self.now.settings (K.name key) key f result pass.old pass.new }
     {
-        self.make(pass, key, f, insertion::InsertWith(PhantomData))
+        let back = self.make(pass, key, f, insertion::InsertWith(PhantomData))?;
+        // A closure that was not called is dropped only now, when no stripe is held.
+        Ok(back.is_none())
     }
 
     /// Binds an unbound key to the value. A bound one is bound to what the closure makes of its
@@ -227,7 +277,9 @@ impl<K: TableKey + Drop, V: Drop> Table<K, V> {
         ensures inserted { HasInserted (FindsOrInserts (F.post f))
             K.hash self.now.settings (K.name key) key f result pass.old pass.new }
     {
-        self.make(pass, key, f, insertion::GetOrInsertWith(PhantomData))
+        // A closure that was not called is dropped only here, when no stripe is held.
+        let (value, _) = self.make(pass, key, f, insertion::GetOrInsertWith(PhantomData))?;
+        Ok(value)
     }
 }
 

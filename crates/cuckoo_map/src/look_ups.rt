@@ -1,9 +1,15 @@
 //! Calls that change nothing.
+ghost use Rattle.std.specs.Prelude.{◌≡◌, Some, IfNone};
 ghost use Rattle.std.specs.Fn.{FnOnceReturnsAt};
 ghost use Rattle.ck_section.specs.Acts.{Finds, FindsBound, FindsBy};
+ghost use Rattle.ck_words.specs.Answering.{IsAnsweredOn};
 ghost use Rattle.ck_words.specs.Closing.{IsCaller};
+ghost use Rattle.ck_words.specs.Passes.{IsPassOf};
+ghost use Rattle.cuckoo_map.specs.Holding.{HasSpot};
 ghost use Rattle.cuckoo_map.specs.Queries.{HasQueried};
+ghost use Rattle.cuckoo_map.specs.Refusals.{FindsOwn};
 
+use crate::locking::Spot;
 use crate::refusal::Busy;
 use crate::table::Table;
 use ck_key::{Query, TableKey};
@@ -31,11 +37,40 @@ impl<K: TableKey + Drop, V: Drop> Table<K, V> {
         ensures queried { HasQueried (FindsBy (FnOnceReturnsAt F.FnOnce f))
             K.hash self.now.settings (Q.name key) result pass.old pass.new }
     {
+        let since = Snapshot::of(pass);
         let spot = self.lock_key(pass, key)?;
+        // A closure that was not called is dropped only here, when no stripe is held.
+        let (found, _) = self.find_in(pass, spot, key, f, since);
+        Ok(found)
+    }
+
+    // The same for a key whose stripes its pass holds, and they go home. Where the key is unbound,
+    // the closure comes back. `since` is the pass as the call began.
+    #[inline(always)]
+    fn find_in<Q: Query<K>, R, F: FnOnce(&V) -> R>(
+        &self,
+        pass: &mut Pass<K, V>,
+        spot: Spot,
+        key: Q,
+        f: F,
+        since: Snapshot<Pass<K, V>>,
+    ) -> (Option<R>, Option<F>)
+    where
+        requires since { IsCaller self.now since.value }
+        requires own { IsPassOf self.now pass.old }
+        requires spot { HasSpot K.hash self.now.settings (Q.name key) spot since.value pass.old }
+        requires found { FindsOwn K.hash self.now.settings (Q.name key) since.value pass.old }
+        requires call { F.IsAlwaysCallable f }
+        ensures caller { IsCaller self.now pass.new }
+        ensures answered { FindsBy (FnOnceReturnsAt F.FnOnce f)
+            (IsAnsweredOn (Q.name key) since.value pass.new) result.0 }
+        ensures back { IfNone result.0 (result.1 ≡ Some f) }
+        ensures found { FindsOwn K.hash self.now.settings (Q.name key) since.value pass.new }
+    {
         let mut guard = guard!(&self.words, pass, spot.stripes);
         let found = find(&mut guard, spot.place, key, f);
         guard.commit_query(Commit::Find(Snapshot::of(&key)));
-        Ok(found)
+        found
     }
 
     /// The value that is bound to the key; `None` where the key is unbound. Refused as busy, it

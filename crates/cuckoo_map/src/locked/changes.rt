@@ -1,12 +1,12 @@
 //! Calls on a locked table that change or unbind a bound key.
 ghost use Rattle.std.specs.Fn.{FnOnceReturnsAt};
-ghost use Rattle.ck_section.specs.Acts.{Updates, Changes, Erases, ReplacesIf, TriesChange};
+ghost use Rattle.ck_section.specs.Acts.{Updates, Modifies, Changes, Erases, ReplacesIf, TriesChange};
 ghost use Rattle.cuckoo_map.specs.Locking.{HasChanged};
 
 use crate::locked::LockedOn;
 use crate::table_ref::TableRef;
 use ck_key::{Query, TableKey};
-use ck_section::{erase, replace_if, try_update, update, update_fn};
+use ck_section::{erase, modify, replace_if, try_update, update, update_fn};
 
 impl<T: TableRef<K, V> + Drop, K: TableKey + Drop, V: Drop> LockedOn<T, K, V> {
     /// Binds a bound key to another value, and gives the one that it had; `None` where the key is
@@ -36,6 +36,24 @@ impl<T: TableRef<K, V> + Drop, K: TableKey + Drop, V: Drop> LockedOn<T, K, V> {
     {
         let place = self.key_place(key);
         update_fn(&mut self.whole, place, key, f)
+    }
+
+    /// Binds a bound key to what the closure makes of its value, and gives what the closure answers
+    /// besides; `None` where the key is unbound, and then the closure is not called. The number of
+    /// buckets stays.
+    ///
+    /// ```
+    /// let taken: Option<u64> = locked.modify(&NumKey(5), |left: u64| (left / 2, left - left / 2));
+    /// ```
+    pub fn modify<Q: Query<K>, R, F: FnOnce(V) -> (V, R)>(&mut self, key: Q, f: F) -> Option<R>
+    where
+        F: Drop,
+        requires call { F.IsAlwaysCallable f }
+        ensures { Modifies (F.post f) (HasChanged (Q.name key) self.old self.new) result }
+    {
+        let place = self.key_place(key);
+        let answer = modify(&mut self.whole, place, key, f);
+        answer.ok()
     }
 
     /// Unbinds the key, and gives the value that it had; `None` where it is unbound. The number of

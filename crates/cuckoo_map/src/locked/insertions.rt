@@ -5,7 +5,7 @@ ghost use Rattle.ck_model.specs.Paths.{HasNoRoom};
 ghost use Rattle.ck_model.specs.Ranges.{AreInRange};
 ghost use Rattle.ck_stripe.specs.Stripes.{contents_of};
 ghost use Rattle.ck_stripe.specs.Tables.{AreAllHeld};
-ghost use Rattle.ck_section.specs.Acts.{Inserts, Assigns, Upserts, InsertsBy, FindsOrInserts, Uprases, TriesUpsert};
+ghost use Rattle.ck_section.specs.Acts.{Inserts, Assigns, Upserts, InsertsBy, FindsOrInserts, Uprases, TriesUpsert, TriesUpsertWith};
 ghost use Rattle.ck_section.specs.Places.{IsPlaceOf};
 ghost use Rattle.ck_section.specs.Calls.{effect, IsCall, IsWithoutRoom, ChangesContents};
 ghost use Rattle.cuckoo_map.specs.Refusals.{why_of};
@@ -139,7 +139,8 @@ impl<T: TableRef<K, V> + Drop, K: TableKey + Drop, V: Drop> LockedOn<T, K, V> {
         ensures { LockedInsertionLeaves (InsertsBy (F.post f))
             K.hash (K.name key) key f result self.old self.new }
     {
-        self.make(key, f, insertion::InsertWith(PhantomData))
+        let back = self.make(key, f, insertion::InsertWith(PhantomData))?;
+        Ok(back.is_none())
     }
 
     /// The value of the key. An unbound one is bound to what the closure makes; for a bound one the
@@ -162,7 +163,8 @@ impl<T: TableRef<K, V> + Drop, K: TableKey + Drop, V: Drop> LockedOn<T, K, V> {
         ensures { LockedInsertionLeaves (FindsOrInserts (F.post f))
             K.hash (K.name key) key f result self.old self.new }
     {
-        self.make(key, f, insertion::GetOrInsertWith(PhantomData))
+        let (value, _) = self.make(key, f, insertion::GetOrInsertWith(PhantomData))?;
+        Ok(value)
     }
 
     /// Binds an unbound key to the value. A bound one is bound to what the closure makes of its
@@ -218,6 +220,44 @@ impl<T: TableRef<K, V> + Drop, K: TableKey + Drop, V: Drop> LockedOn<T, K, V> {
             K.hash (K.name key) key value result self.old self.new }
     {
         self.make(key, value, insertion::TryUpsert(f))
+    }
+
+    /// Binds an unbound key to what `f` makes of the value that `make` makes, and answers
+    /// `Ok(true)`. A bound one is bound to what `f` makes of its value, the answer is `Ok(false)`,
+    /// and `make` is not called and is dropped. Where `f` fails, the answer is its error: an unbound
+    /// key stays so, and the value that `f` gives back is dropped; a bound one is bound to that
+    /// value.
+    ///
+    /// Room for an unbound key is made as `insert` makes it. Refused, it changes no binding and
+    /// hands the key and both closures back, which were not called: as `Memory`, `Full` or
+    /// `LoadTooLow`, and never as `Busy`. The table stays locked.
+    ///
+    /// ```
+    /// // The values are of type `Vec<u64>`.
+    /// let push = |mut list: Vec<u64>| match list.push(51) {
+    ///     Ok(()) => Ok(list),
+    ///     Err(refused) => Err((list, refused.value)),
+    /// };
+    /// let pushed: Result<bool, u64> = locked
+    ///     .try_upsert_with(NumKey(5), || Vec::new(alloc), push)
+    ///     .map_err(|refused| refused.why)?;
+    /// ```
+    pub fn try_upsert_with<E, G: FnOnce() -> V, F: FnOnce(V) -> Result<V, (V, E)>>(
+        &mut self,
+        key: K,
+        make: G,
+        f: F,
+    ) -> Result<Result<bool, E>, Refused<K, (G, F)>>
+    where
+        G: Drop,
+        F: Drop,
+        requires call { G.IsAlwaysCallable make × F.IsAlwaysCallable f }
+        ensures { LockedInsertionLeaves (TriesUpsertWith (G.post make) (F.post f))
+            K.hash (K.name key) key (make, f) result self.old self.new }
+    {
+        let insertion = insertion::TryUpsertWith(PhantomData);
+        let (answer, _) = self.make(key, (make, f), insertion)?;
+        Ok(answer)
     }
 
     // Makes room for the key: entries are displaced, and the table doubles only where that is not

@@ -1,4 +1,4 @@
-use Rattle.std.proofs.Common.{rules, ◌≡◌, inl, inr, refl, Some, subst}
+use Rattle.std.proofs.Common.{rules, ◌≡◌, refl, Some, subst}
 use Rattle.ck_model.specs.declared.history.Act.TheVariants.{Find, Insert}
 use Rattle.ck_model.specs.declared.history.Call.TheVariants.{On}
 use Rattle.ck_model.specs.declared.history.Reply.TheVariants.{New, Was}
@@ -19,9 +19,9 @@ returns-in-Occupied-clause-answered g c =
     let read = c.read_entry-found.ensures.bound in
     let is : read.0 ≡ found = search rules in
     let call = subst (λ (v : g.row.V.Denot). IsCall (effect g.K.TableKey.hash g.H.Held.stripes c.args.place c.args.held.now c.read_entry-found.new.held) q Find (Was (Some v))) is read.2 in
-    (Find, Was (Some found), inr (refl, refl), λ i. On (g.K.TableKey.name (c.of.ensures i)) Find, call)
+    (Find, Was (Some found), (refl, (refl, refl)), λ i. On (g.K.TableKey.name (c.of.ensures i)) Find, call)
 
 pub returns-in-Vacant-clause-answered : goal.returns-in-Vacant-clause-answered
 returns-in-Vacant-clause-answered g c =
     let w = c.value-made.result in
-    (Insert w, New, inl (c.value-made.ensures, (refl, refl)), λ i. On (g.K.TableKey.name (c.of-in-Vacant.ensures i)) (Insert (c.of-in-Vacant-2.ensures i)), c.fill.ensures.call (Insert w) New (refl, refl))
+    (Insert w, New, (c.value-made.ensures, (refl, refl)), λ i. On (g.K.TableKey.name (c.of-in-Vacant.ensures i)) (Insert (c.of-in-Vacant-2.ensures i)), c.fill.ensures.call (Insert w) New (refl, refl))

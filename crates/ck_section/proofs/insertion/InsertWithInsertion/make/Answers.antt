@@ -14,7 +14,7 @@ fill-requires-clause-vacant g c = vacant_here _ _ _ _ c.args.entry c.in-Vacant.a
 pub returns-in-Occupied-clause-answered : goal.returns-in-Occupied-clause-answered
 returns-in-Occupied-clause-answered g c =
     let read = c.read_entry.ensures.bound in
-    (Find, Was (Some read.0), (read.0, (refl, refl)), λ i. On (g.K.TableKey.name (c.of.ensures i)) Find, read.2)
+    (Find, Was (Some read.0), (refl, read.0, (refl, refl)), λ i. On (g.K.TableKey.name (c.of.ensures i)) Find, read.2)
 
 pub returns-in-Vacant-clause-answered : goal.returns-in-Vacant-clause-answered
 returns-in-Vacant-clause-answered g c =
