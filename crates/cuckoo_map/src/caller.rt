@@ -84,7 +84,7 @@ impl<'t, K: TableKey + Drop, V: Drop> Caller<'t, K, V> {
 
 impl<T: TableRef<K, V> + Drop, K: TableKey + Drop, V: Drop> CallerOn<T, K, V> {
     ghost use Rattle.ck_section.specs.Acts.{Finds, FindsBound, FindsBy, Inserts, InsertsBy, FindsOrInserts};
-    ghost use Rattle.ck_section.specs.Acts.{Assigns, Upserts, Uprases, TriesUpsert, Updates, Changes};
+    ghost use Rattle.ck_section.specs.Acts.{Assigns, Upserts, Uprases, TriesUpsert, TriesUpsertWith, Updates, Modifies, Changes};
     ghost use Rattle.ck_section.specs.Acts.{ReplacesIf, TriesChange, Erases, ErasesBy, ChangesTwo};
     ghost use Rattle.cuckoo_map.specs.Callers.{pass_of, IsSameCaller, Replies, RepliesOn, KeepsNotes, StaysAsIs, StaysButDoublings, MeetsCaller, HearsMessage, message_of_caller, Drains, IsNotDrained, FindsHeldOfAny};
     ghost use Rattle.cuckoo_map.specs.Callers.{QueryLeaves, InsertionLeaves, Counts, GrowsTo, GrowsFor, IsBusyOn};
@@ -247,6 +247,44 @@ impl<T: TableRef<K, V> + Drop, K: TableKey + Drop, V: Drop> CallerOn<T, K, V> {
         self.table.table().try_upsert(&mut self.pass, key, f, value)
     }
 
+    /// Binds an unbound key to what `f` makes of the value that `make` makes, and answers
+    /// `Ok(true)`. A bound one is bound to what `f` makes of its value, and the answer is
+    /// `Ok(false)`; `make` is not called. Where `f` fails, the answer is its error: an unbound key
+    /// stays so, and a bound one is bound to the value that `f` gives back. The table may grow for
+    /// it. Refused, it changes no binding and hands key and closures back. It is
+    /// `Table::try_upsert_with`.
+    ///
+    /// ```
+    /// // The values are of type `Vec<u64>`. The number is pushed to the list of the key, to a new
+    /// // one where it has none. Where there is no memory for it, it comes back.
+    /// let push = |mut list: Vec<u64>| match list.push(51) {
+    ///     Ok(()) => Ok(list),
+    ///     Err(refused) => Err((list, refused.value)),
+    /// };
+    /// match caller.try_upsert_with(NumKey(5), || Vec::new(alloc), push)? {
+    ///     Ok(fresh) => println!(rt; "{}", if fresh { "a new list" } else { "pushed" })?,
+    ///     Err(number) => println!(rt; "no memory for {number}")?,
+    /// }
+    /// ```
+    #[inline(always)]
+    pub fn try_upsert_with<E, G: FnOnce() -> V, F: FnOnce(V) -> Result<V, (V, E)>>(
+        &mut self,
+        key: K,
+        make: G,
+        f: F,
+    ) -> Result<Result<bool, E>, Refused<K, (G, F)>>
+    where
+        G: Drop,
+        F: Drop,
+        requires call { G.IsAlwaysCallable make × F.IsAlwaysCallable f }
+        ensures { InsertionLeaves (TriesUpsertWith (G.post make) (F.post f))
+            K.hash (K.name key) key (make, f) result self.old self.new }
+    {
+        self.table
+            .table()
+            .try_upsert_with(&mut self.pass, key, make, f)
+    }
+
     /// Binds an unbound key to what the closure makes, and says whether it was unbound. Where the
     /// key is bound, the closure is not called. The table may grow for it. Refused, it changes no
     /// binding and hands key and closure back. It is `Table::insert_with`.
@@ -355,6 +393,29 @@ impl<T: TableRef<K, V> + Drop, K: TableKey + Drop, V: Drop> CallerOn<T, K, V> {
         ensures { QueryLeaves (Changes (F.post f)) K.hash (Q.name key) result self.old self.new }
     {
         self.table.table().update_fn(&mut self.pass, key, f)
+    }
+
+    /// Binds a bound key to what the closure makes of its value, and gives what the closure answers
+    /// besides; `None` where the key is unbound. Refused as busy, it changes nothing, and the
+    /// closure is dropped. It is `Table::modify`.
+    ///
+    /// ```
+    /// // The next number of a counter that is bound.
+    /// let number: Option<u64> =
+    ///     caller.modify(&NumKey(5), |next: u64| (next.wrapping_add(1), next))?;
+    /// ```
+    #[inline(always)]
+    pub fn modify<Q: Query<K>, R, F: FnOnce(V) -> (V, R)>(
+        &mut self,
+        key: Q,
+        f: F,
+    ) -> Result<Option<R>, Busy>
+    where
+        F: Drop,
+        requires call { F.IsAlwaysCallable f }
+        ensures { QueryLeaves (Modifies (F.post f)) K.hash (Q.name key) result self.old self.new }
+    {
+        self.table.table().modify(&mut self.pass, key, f)
     }
 
     /// Binds two different bound keys to what the closure makes of their two values in one step,

@@ -1,8 +1,10 @@
 //! One error for all refusals.
 ghost use Rattle.std.specs.Prelude.{◌≡◌};
 
-use crate::refusal::{Busy, DrainFault, GrowFault, NoCallers, NotDrained, NotLocked, OpenFault};
-use crate::refusal::{Refused, Why};
+use crate::pool::{AllLent, NoList, NoPool};
+use crate::refusal::{
+    Busy, DrainFault, GrowFault, NoCallers, NotDrained, NotLocked, OpenFault, Refused, Why,
+};
 use ck_key::{KeyFault, TableKey};
 use ck_model::settings::OutOfRange;
 use std::alloc::AllocError;
@@ -42,6 +44,9 @@ pub enum Fault {
     /// The text of a key has more than 64 bytes.
     #[error("the key has more than 64 bytes")]
     TooLong,
+    /// All items of the pool are lent.
+    #[error("all items of the pool are lent: try again, or make it of more")]
+    AllLent,
 }
 
 impl From<OpenFault> for Fault {
@@ -191,6 +196,39 @@ impl From<AllocError> for Fault {
     ghost from_gives = { λ _ fault. fault ≡ faults.Memory };
 
     fn from(_error: AllocError) -> Fault {
+        Fault::Memory
+    }
+}
+
+impl From<AllLent> for Fault {
+    ghost use Rattle.std.specs.Prelude.{◌≡◌};
+    ghost use Rattle.cuckoo_map.specs.declared.fault.Fault.TheVariants as faults;
+
+    ghost from_gives = { λ _ fault. fault ≡ faults.AllLent };
+
+    fn from(_refused: AllLent) -> Fault {
+        Fault::AllLent
+    }
+}
+
+impl<T: Drop> From<NoPool<T>> for Fault {
+    ghost use Rattle.std.specs.Prelude.{◌≡◌};
+    ghost use Rattle.cuckoo_map.specs.declared.fault.Fault.TheVariants as faults;
+
+    ghost from_gives = { λ _ fault. fault ≡ faults.Memory };
+
+    fn from(_back: NoPool<T>) -> Fault {
+        Fault::Memory
+    }
+}
+
+impl<T: Drop> From<NoList<T>> for Fault {
+    ghost use Rattle.std.specs.Prelude.{◌≡◌};
+    ghost use Rattle.cuckoo_map.specs.declared.fault.Fault.TheVariants as faults;
+
+    ghost from_gives = { λ _ fault. fault ≡ faults.Memory };
+
+    fn from(_back: NoList<T>) -> Fault {
         Fault::Memory
     }
 }

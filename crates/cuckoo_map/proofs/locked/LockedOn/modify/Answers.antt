@@ -2,7 +2,7 @@ use Rattle.ck_model.specs.declared.history.Act.TheVariants.{Change}
 use Rattle.ck_model.specs.declared.history.Reply.TheVariants.{Done, Absent}
 use Rattle.cuckoo_map.proofs.Calls.{by_result, map_answer}
 use Rattle.cuckoo_map.proofs.Sessions.{only_stripes, place_held, acted_locked, has_changed}
-use Rattle.cuckoo_map.proofs.locked.LockedTable.modify.Goals as goal
+use Rattle.cuckoo_map.proofs.locked.LockedOn.modify.Goals as goal
 
 pub modify-answer-requires-clause-place : goal.modify-answer-requires-clause-place
 modify-answer-requires-clause-place g c = place_held c.self.inside.whole c.self.view_is (g.Q.Query.name c.args.key) c.key_place-place.result c.key_place-place.ensures.place

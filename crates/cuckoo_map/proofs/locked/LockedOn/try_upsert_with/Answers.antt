@@ -1,7 +1,7 @@
 use Rattle.std.proofs.Common.{Result}
 use Rattle.cuckoo_map.specs.Locking.{HasActed}
 use Rattle.cuckoo_map.proofs.Told.{as_tried_with}
-use Rattle.cuckoo_map.proofs.locked.LockedTable.try_upsert_with.Goals as goal
+use Rattle.cuckoo_map.proofs.locked.LockedOn.try_upsert_with.Goals as goal
 
 pub returns : goal.returns
 returns g c =
