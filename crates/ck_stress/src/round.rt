@@ -1,5 +1,4 @@
 //! A round: a new table, threads that call it, and a last look at what it has.
-ghost use Rattle.cuckoo_map.specs.Closing.{AreAllPasses};
 
 use crate::audit::{audit, check_end};
 use crate::calls::{Caller, Worker};
@@ -8,7 +7,7 @@ use crate::model::{ACCOUNTS, FUND, account};
 use crate::notes::{Notes, Wrong};
 use crate::tally::Tally;
 use ck_key::{NumKey, TextKey};
-use cuckoo_map::{Pass, Settings, Table};
+use cuckoo_map::Settings;
 use std::alloc::{AllocError, Global};
 use std::io;
 use std::rt::Clock;
@@ -75,7 +74,7 @@ impl Shift {
 }
 
 /// Makes the calls of a thread.
-fn work<'t, K: Key>(rt: &impl Clock, shift: Shift, worker: Worker<'t, K>) -> Worker<'t, K> {
+fn work<K: Key>(rt: &impl Clock, shift: Shift, worker: Worker<K>) -> Worker<K> {
     let mut worker = worker;
     for block in 0..u64::MAX / CALLS {
         if worker.notes.wrong.is_some() || !shift.goes_on(rt, block * CALLS) {
@@ -90,7 +89,7 @@ fn work<'t, K: Key>(rt: &impl Clock, shift: Shift, worker: Worker<'t, K>) -> Wor
 }
 
 /// Opens an account, and says whether it could.
-fn open_account<K: Key>(alloc: Global, caller: &mut Caller<'_, K>, i: u64) -> bool {
+fn open_account<K: Key>(alloc: Global, caller: &mut Caller<K>, i: u64) -> bool {
     match K::of(alloc, account(i)) {
         Some(key) => caller.insert(key, FUND).is_ok(),
         None => false,
@@ -98,16 +97,12 @@ fn open_account<K: Key>(alloc: Global, caller: &mut Caller<'_, K>, i: u64) -> bo
 }
 
 /// Opens the accounts, and says whether it could.
-fn fund<K: Key>(alloc: Global, caller: &mut Caller<'_, K>) -> bool {
+fn fund<K: Key>(alloc: Global, caller: &mut Caller<K>) -> bool {
     (0..ACCOUNTS).all(|i| open_account(alloc, caller, i))
 }
 
 /// A worker for each two callers.
-fn hire<'t, K: Key>(
-    alloc: Global,
-    seed: u64,
-    callers: Vec<Caller<'t, K>>,
-) -> io::Result<Vec<Worker<'t, K>>> {
+fn hire<K: Key>(alloc: Global, seed: u64, callers: Vec<Caller<K>>) -> io::Result<Vec<Worker<K>>> {
     let mut workers = Vec::new(alloc);
     let mut waiting = None;
     let mut thread = 0u32;
@@ -133,7 +128,7 @@ fn hire<'t, K: Key>(
 pub type Outcome = io::Result<Result<Tally, Wrong>>;
 
 /// What all did, where nothing was wrong.
-fn sum_of<K: Key>(notes: &Notes, workers: &[Worker<'_, K>]) -> Result<Tally, Wrong> {
+fn sum_of<K: Key>(notes: &Notes, workers: &[Worker<K>]) -> Result<Tally, Wrong> {
     let mut tally = notes.tally;
     for worker in workers {
         if let Some(wrong) = worker.notes.wrong {
@@ -148,11 +143,7 @@ fn sum_of<K: Key>(notes: &Notes, workers: &[Worker<'_, K>]) -> Result<Tally, Wro
 }
 
 /// The last look, when no thread is in a call: what all did, or what is wrong.
-fn look_at_end<K: Key>(
-    alloc: Global,
-    auditor: Caller<'_, K>,
-    workers: &[Worker<'_, K>],
-) -> Outcome {
+fn look_at_end<K: Key>(alloc: Global, auditor: Caller<K>, workers: &[Worker<K>]) -> Outcome {
     let mut auditor = auditor;
     let mut notes = Notes::new(alloc, 0, u32::MAX)?;
     notes.tally.power = auditor.power().unwrap_or(0);
@@ -165,25 +156,17 @@ fn look_at_end<K: Key>(
 }
 
 /// Workers, and how long they work.
-struct Crew<'t, K: Key> {
+struct Crew<K: Key> {
     shift: Shift,
-    workers: Vec<Worker<'t, K>>,
+    workers: Vec<Worker<K>>,
 }
 
 /// The workers at the end, where there was memory for their list.
-type Worked<'t, K> = Result<Vec<Worker<'t, K>>, AllocError>;
+type Worked<K> = Result<Vec<Worker<K>>, AllocError>;
 
-/// Whoever looks last, and the workers, once the accounts are open.
-fn begin<'t, K: Key>(
-    rt: &impl Clock,
-    alloc: Global,
-    plan: Plan,
-    table: &'t Table<K, u64>,
-    passes: Vec<Pass<K, u64>>,
-) -> io::Result<(Caller<'t, K>, Crew<'t, K>)>
-    requires { AreAllPasses table.now passes.items }
-{
-    let Ok(mut callers) = table.callers(alloc, passes) else {
+/// Opens a table: whoever looks last, and the workers, once the accounts are open.
+fn begin<K: Key>(rt: &impl Clock, alloc: Global, plan: Plan) -> io::Result<(Caller<K>, Crew<K>)> {
+    let Ok(mut callers) = Caller::<K>::open(alloc, settings(plan)) else {
         return Err(io::ErrorKind::OutOfMemory.into());
     };
     let Some(mut auditor) = callers.pop() else {
@@ -202,7 +185,7 @@ fn begin<'t, K: Key>(
 
 // The threads start in a function for each type of keys: of one for all the prover has no proof.
 
-fn work_on_numbers<'t, R>(rt: &R, crew: Crew<'t, NumKey>) -> Worked<'t, NumKey>
+fn work_on_numbers<R>(rt: &R, crew: Crew<NumKey>) -> Worked<NumKey>
 where
     R: Clock + Threads + Sync,
 {
@@ -210,7 +193,7 @@ where
     thread::map_vec(rt, workers, &|worker| work(rt, shift, worker))
 }
 
-fn work_on_texts<'t, R>(rt: &R, crew: Crew<'t, TextKey>) -> Worked<'t, TextKey>
+fn work_on_texts<R>(rt: &R, crew: Crew<TextKey>) -> Worked<TextKey>
 where
     R: Clock + Threads + Sync,
 {
@@ -218,57 +201,25 @@ where
     thread::map_vec(rt, workers, &|worker| work(rt, shift, worker))
 }
 
-/// Makes a round on this table, which is new, with numbers as keys.
-fn run_numbers<R: Threads + Clock + Sync>(
-    rt: &R,
-    alloc: Global,
-    plan: Plan,
-    table: &Table<NumKey, u64>,
-    passes: Vec<Pass<NumKey, u64>>,
-) -> Outcome
-    requires { AreAllPasses table.now passes.items }
-{
-    let (auditor, crew) = begin(rt, alloc, plan, table, passes)?;
+/// Makes a round with numbers as keys.
+fn run_numbers<R: Threads + Clock + Sync>(rt: &R, alloc: Global, plan: Plan) -> Outcome {
+    let (auditor, crew) = begin(rt, alloc, plan)?;
     let workers = work_on_numbers(rt, crew)?;
     look_at_end(alloc, auditor, &workers)
 }
 
 /// The same with texts as keys.
-fn run_texts<R: Threads + Clock + Sync>(
-    rt: &R,
-    alloc: Global,
-    plan: Plan,
-    table: &Table<TextKey, u64>,
-    passes: Vec<Pass<TextKey, u64>>,
-) -> Outcome
-    requires { AreAllPasses table.now passes.items }
-{
-    let (auditor, crew) = begin(rt, alloc, plan, table, passes)?;
+fn run_texts<R: Threads + Clock + Sync>(rt: &R, alloc: Global, plan: Plan) -> Outcome {
+    let (auditor, crew) = begin(rt, alloc, plan)?;
     let workers = work_on_texts(rt, crew)?;
     look_at_end(alloc, auditor, &workers)
-}
-
-// What owns a table hands it on at once: each way out of it costs the prover seconds.
-
-fn open_and_run_numbers<R: Threads + Clock + Sync>(rt: &R, alloc: Global, plan: Plan) -> Outcome {
-    match Table::open(alloc, settings(plan)) {
-        Ok((table, passes)) => run_numbers(rt, alloc, plan, &table, passes),
-        Err(_) => Err(io::ErrorKind::OutOfMemory.into()),
-    }
-}
-
-fn open_and_run_texts<R: Threads + Clock + Sync>(rt: &R, alloc: Global, plan: Plan) -> Outcome {
-    match Table::open(alloc, settings(plan)) {
-        Ok((table, passes)) => run_texts(rt, alloc, plan, &table, passes),
-        Err(_) => Err(io::ErrorKind::OutOfMemory.into()),
-    }
 }
 
 /// Makes a round, every third with texts as keys, and says what was done in it, or what was wrong.
 pub fn run_round<R: Threads + Clock + Sync>(rt: &R, alloc: Global, plan: Plan) -> Outcome {
     if plan.seed % 3 == 2 {
-        open_and_run_texts(rt, alloc, plan)
+        run_texts(rt, alloc, plan)
     } else {
-        open_and_run_numbers(rt, alloc, plan)
+        run_numbers(rt, alloc, plan)
     }
 }
