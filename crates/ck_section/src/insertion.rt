@@ -9,7 +9,7 @@ ghost use Rattle.ck_section.specs.Calls.{effect, IsCall, ChangesContents};
 ghost use Rattle.ck_model.specs.Commits.{call_of};
 
 use crate::entry::Entry;
-use crate::one_key::{fill, modify_entry, read_entry, value_and_outcome};
+use crate::one_key::{fill, read_entry, try_modify_entry};
 use crate::place::KeyPlace;
 use ck_key::TableKey;
 use ck_model::commit::Commit;
@@ -197,9 +197,7 @@ where
         let commit = Commit::Upsert(Snapshot::of(&key), Snapshot::of(&value));
         match entry {
             Entry::Occupied(at) => {
-                let f = self.0;
-                let change = |value: V| value_and_outcome(f, value);
-                let outcome = modify_entry(held, place, at, &key, change);
+                let outcome = try_modify_entry(held, place, at, &key, self.0);
                 (answer_of_bound(outcome), commit)
             }
             Entry::Vacant(at) => {
@@ -395,8 +393,7 @@ where
         let (make, f) = value;
         match entry {
             Entry::Occupied(at) => {
-                let change = |old: V| value_and_outcome(f, old);
-                let outcome = modify_entry(held, place, at, &key, change);
+                let outcome = try_modify_entry(held, place, at, &key, f);
                 let answer = answer_of_bound(outcome);
                 ((answer, Some(make)), Commit::Change(Snapshot::of(&key)))
             }

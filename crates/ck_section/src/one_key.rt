@@ -38,10 +38,11 @@ pub fn find<K: TableKey + Drop, V: Drop, Q: Query<K>, H: Held<Stripe<K, V>>, R, 
     ensures stays { H.stays held.old held.new }
 {
     // A pair, since a `Result` would cost the look-up of a number some instructions.
-    match find_slot(held, place, key) {
-        Some(at) => (Some(one_stripe::read(held, at, f)), None),
-        None => (None, Some(f)),
-    }
+    let at = match find_slot(held, place, key) {
+        Some(at) => at,
+        None => return (None, Some(f)),
+    };
+    (Some(one_stripe::read(held, at, f)), None)
 }
 
 /// Binds a bound key to another value, and gives the one that it had; `None` where the key is
@@ -201,10 +202,11 @@ pub fn modify<
     ensures rest { ChangesContents (H.stripes held.old) (H.stripes held.new) }
     ensures stays { H.stays held.old held.new }
 {
-    match find_slot(held, place, key) {
-        Some(at) => Ok(modify_entry(held, place, at, key, f)),
-        None => Err(f),
-    }
+    let at = match find_slot(held, place, key) {
+        Some(at) => at,
+        None => return Err(f),
+    };
+    Ok(modify_entry(held, place, at, key, f))
 }
 
 /// Binds a bound key to the value that the closure gives back for its value, whether it succeeds or
@@ -231,10 +233,11 @@ pub fn try_update<
     ensures rest { ChangesContents (H.stripes held.old) (H.stripes held.new) }
     ensures stays { H.stays held.old held.new }
 {
-    match find_slot(held, place, key) {
-        Some(at) => Ok(modify_entry(held, place, at, key, |value: V| value_and_outcome(f, value))),
-        None => Err(f),
-    }
+    let at = match find_slot(held, place, key) {
+        Some(at) => at,
+        None => return Err(f),
+    };
+    Ok(try_modify_entry(held, place, at, key, f))
 }
 
 // Puts an unbound key into the slot of its entry.
@@ -282,12 +285,34 @@ pub(crate) fn modify_entry<
     answer
 }
 
+// The same with a closure that may fail: it puts back the value that the closure gives back, and
+// gives its error.
+#[inline(always)]
+pub(crate) fn try_modify_entry<
+    K: TableKey + Drop,
+    V: Drop,
+    Q: Query<K>,
+    H: Held<Stripe<K, V>>,
+    E,
+    F: FnOnce(V) -> Result<V, (V, E)>,
+>(held: &mut H, place: KeyPlace, at: HeldSlot, key: Q, f: F) -> Result<(), E>
+    requires place { IsPlaceOf K.hash (H.stripes held.old) (Q.name key) place }
+    requires occupied { IsOccupied K.hash (H.stripes held.old) (Q.name key) at }
+    requires call { F.IsAlwaysCallable f }
+    ensures bound { (v w : V)
+        × MatchResult result (λ _. F.post f v (Ok w)) (λ e. F.post f v (Err (w, e)))
+        × ((act : Act V) (reply : Reply V) → Answers act (Some v) reply (Some w)
+        → IsCall (effect K.hash H.stripes place held.old held.new) (Q.name key) act reply) }
+    ensures rest { ChangesContents (H.stripes held.old) (H.stripes held.new) }
+    ensures stays { H.stays held.old held.new }
+{
+    let change = |value: V| value_and_outcome(f, value);
+    modify_entry(held, place, at, key, change)
+}
+
 // The value that the closure gives back for a value, and how it ends.
 #[inline(always)]
-pub(crate) fn value_and_outcome<V, E, F: FnOnce(V) -> Result<V, (V, E)>>(
-    f: F,
-    value: V,
-) -> (V, Result<(), E>)
+fn value_and_outcome<V, E, F: FnOnce(V) -> Result<V, (V, E)>>(f: F, value: V) -> (V, Result<(), E>)
     requires { F.IsAlwaysCallable f }
     ensures { MatchResult result.1 (λ _. F.post f value (Ok result.0))
         (λ e. F.post f value (Err (result.0, e))) }

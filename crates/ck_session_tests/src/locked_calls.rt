@@ -1,4 +1,4 @@
-//! Insertions into a locked table by a closure, none of which is refused.
+//! Calls of a locked table by a closure, none of which is refused.
 use ck_fixtures::{NumLocked, SIXTEEN_BUCKETS, three_callers};
 use ck_key::NumKey;
 use cuckoo_map::Uprased;
@@ -40,6 +40,30 @@ fn try_away(rt: &impl Abort, locked: &mut NumLocked<'_>) {
     }
 }
 
+/// Key 9 is bound to what is left of 9, and then to 0.
+fn make_and_try(rt: &impl Abort, locked: &mut NumLocked<'_>) {
+    for want in [Ok(true), Err(5)] {
+        let tried = locked
+            .try_upsert_with(NumKey(9), || 9, |left| take_seven(left))
+            .ok();
+        assert!(rt; tried == Some(want));
+    }
+    // Nothing is bound where the closure fails on what was made.
+    let tried = locked
+        .try_upsert_with(NumKey(10), || 1, |left| take_seven(left))
+        .ok();
+    assert!(rt; tried == Some(Err(6)));
+    assert!(rt; !locked.contains(&NumKey(10)));
+}
+
+/// Key 5 is bound to 50, and key 7 is unbound.
+fn halve(rt: &impl Abort, locked: &mut NumLocked<'_>) {
+    for (key, want) in [(5, Some(50)), (5, Some(25)), (7, None)] {
+        let was = locked.modify(&NumKey(key), |value: u64| (value / 2, value));
+        assert!(rt; was == want);
+    }
+}
+
 #[test]
 fn closures_decide(rt: HostRuntime) -> Result<(), Fail> {
     let (first, _, _) = three_callers(rt.alloc(), SIXTEEN_BUCKETS.settings(3))?;
@@ -49,8 +73,10 @@ fn closures_decide(rt: HostRuntime) -> Result<(), Fail> {
     make_values(&rt, &mut locked);
     count_down(&rt, &mut locked);
     try_away(&rt, &mut locked);
-    let left = [5, 6, 8].map(|key| locked.find(&NumKey(key)).copied());
+    make_and_try(&rt, &mut locked);
+    halve(&rt, &mut locked);
+    let left = [5, 6, 8, 9].map(|key| locked.find(&NumKey(key)).copied());
     locked.unlock();
-    assert!(rt; left == [Some(50), Some(9), Some(0)]);
+    assert!(rt; left == [Some(12), Some(9), Some(0), Some(0)]);
     Ok(())
 }

@@ -6,6 +6,8 @@ mod call_rows;
 #[cfg(test)]
 mod callers;
 #[cfg(test)]
+mod closures;
+#[cfg(test)]
 mod defaults;
 #[cfg(test)]
 mod drops;

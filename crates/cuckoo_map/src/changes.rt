@@ -102,7 +102,8 @@ impl<K: TableKey + Drop, V: Drop> Table<K, V> {
         let spot = self.lock_key(pass, key)?;
         let mut guard = guard!(&self.words, pass, spot.stripes);
         let answer = modify(&mut guard, spot.place, key, f);
-        guard.commit_query(Commit::Change(Snapshot::of(&key)));
+        let commit = Commit::Change(Snapshot::of(&key));
+        guard.commit_query(commit);
         // A closure that was not called is dropped only now, when no stripe is held.
         Ok(answer.ok())
     }

@@ -13,11 +13,11 @@ returns-in-None-clause-unbound g c = (refl, lacked _ _ _ _ c.requires.place _ c.
 pub read-requires : goal.read-requires
 read-requires g c = ready_for _ _ _ _ c.requires.place _ c.find_slot.ensures.same c.in-Some.at c.in-Some.ensures.occupied c.requires.call
 
-pub returns-in-Some-clause-bound : goal.returns-in-Some-clause-bound
-returns-in-Some-clause-bound g c = read_kept _ _ _ _ c.requires.place _ c.find_slot.ensures.same c.in-Some.at c.in-Some.ensures.occupied _ c.read.ensures.read _ c.read.ensures.same
+pub returns-clause-bound : goal.returns-clause-bound
+returns-clause-bound g c = read_kept _ _ _ _ c.requires.place _ c.find_slot.ensures.same c.in-Some.at c.in-Some.ensures.occupied _ c.read.ensures.read _ c.read.ensures.same
 
-pub returns-in-Some-clause-same : goal.returns-in-Some-clause-same
-returns-in-Some-clause-same g c = c.read.ensures.same ∙ c.find_slot.ensures.same
+pub returns-clause-same : goal.returns-clause-same
+returns-clause-same g c = c.read.ensures.same ∙ c.find_slot.ensures.same
 
-pub returns-in-Some-clause-stays : goal.returns-in-Some-clause-stays
-returns-in-Some-clause-stays g c = g.met.H.Held.stays_on _ _ _ c.find_slot.ensures.stays c.read.ensures.stays
+pub returns-clause-stays : goal.returns-clause-stays
+returns-clause-stays g c = g.met.H.Held.stays_on _ _ _ c.find_slot.ensures.stays c.read.ensures.stays

@@ -20,13 +20,13 @@ modify_entry-requires g c = record {
   call = c.requires.call;
 }
 
-pub returns-in-Some-clause-bound : goal.returns-in-Some-clause-bound
-returns-in-Some-clause-bound g c =
+pub returns-clause-bound : goal.returns-clause-bound
+returns-clause-bound g c =
     let made = c.modify_entry.ensures.bound in
     (made.0, made.1, made.2, since _ _ _ _ c.requires.place _ c.find_slot.ensures.same _ (made.3 Change (Done made.0 made.1) (made.1, refl, refl)))
 
-pub returns-in-Some-clause-rest : goal.returns-in-Some-clause-rest
-returns-in-Some-clause-rest g c = changes_since _ _ _ c.find_slot.ensures.same c.modify_entry.ensures.rest
+pub returns-clause-rest : goal.returns-clause-rest
+returns-clause-rest g c = changes_since _ _ _ c.find_slot.ensures.same c.modify_entry.ensures.rest
 
-pub returns-in-Some-clause-stays : goal.returns-in-Some-clause-stays
-returns-in-Some-clause-stays g c = g.met.H.Held.stays_on _ _ _ c.find_slot.ensures.stays c.modify_entry.ensures.stays
+pub returns-clause-stays : goal.returns-clause-stays
+returns-clause-stays g c = g.met.H.Held.stays_on _ _ _ c.find_slot.ensures.stays c.modify_entry.ensures.stays

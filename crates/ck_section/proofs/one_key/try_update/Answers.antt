@@ -1,4 +1,4 @@
-use Rattle.std.proofs.Common.{rules, refl}
+use Rattle.std.proofs.Common.{refl}
 use Rattle.ck_model.specs.declared.history.Act.TheVariants.{Change}
 use Rattle.ck_model.specs.declared.history.Reply.TheVariants.{Done, Absent}
 use Rattle.ck_section.proofs.Steps.{lacked, unchanged, place_still, here_still, since, changes_since}
@@ -13,19 +13,19 @@ returns-in-None-clause-unbound g c = (refl, lacked _ _ _ _ c.requires.place _ c.
 pub returns-in-None-clause-rest : goal.returns-in-None-clause-rest
 returns-in-None-clause-rest g c = unchanged _ _ c.find_slot.ensures.same
 
-pub modify_entry-requires-clause-place : goal.modify_entry-requires-clause-place
-modify_entry-requires-clause-place g c = place_still _ _ _ _ c.requires.place _ c.find_slot.ensures.same
+pub try_modify_entry-requires-clause-place : goal.try_modify_entry-requires-clause-place
+try_modify_entry-requires-clause-place g c = place_still _ _ _ _ c.requires.place _ c.find_slot.ensures.same
 
-pub modify_entry-requires-clause-occupied : goal.modify_entry-requires-clause-occupied
-modify_entry-requires-clause-occupied g c = here_still _ _ _ _ c.requires.place _ c.find_slot.ensures.same c.in-Some.at c.in-Some.ensures.occupied
+pub try_modify_entry-requires-clause-occupied : goal.try_modify_entry-requires-clause-occupied
+try_modify_entry-requires-clause-occupied g c = here_still _ _ _ _ c.requires.place _ c.find_slot.ensures.same c.in-Some.at c.in-Some.ensures.occupied
 
-pub returns-in-Some-clause-rest : goal.returns-in-Some-clause-rest
-returns-in-Some-clause-rest g c = changes_since _ _ _ c.find_slot.ensures.same c.modify_entry.ensures.rest
+pub returns-clause-rest : goal.returns-clause-rest
+returns-clause-rest g c = changes_since _ _ _ c.find_slot.ensures.same c.try_modify_entry.ensures.rest
 
-pub returns-in-Some-clause-stays : goal.returns-in-Some-clause-stays
-returns-in-Some-clause-stays g c = g.met.H.Held.stays_on _ _ _ c.find_slot.ensures.stays c.modify_entry.ensures.stays
+pub returns-clause-stays : goal.returns-clause-stays
+returns-clause-stays g c = g.met.H.Held.stays_on _ _ _ c.find_slot.ensures.stays c.try_modify_entry.ensures.stays
 
-pub returns-in-Some-clause-bound : goal.returns-in-Some-clause-bound
-returns-in-Some-clause-bound g c =
-    let made = c.modify_entry.ensures.bound in
-    (made.0, made.1, search rules, since _ _ _ _ c.requires.place _ c.find_slot.ensures.same _ (made.3 Change (Done made.0 made.1) (made.1, refl, refl)))
+pub returns-clause-bound : goal.returns-clause-bound
+returns-clause-bound g c =
+    let made = c.try_modify_entry.ensures.bound in
+    (made.0, made.1, made.2, since _ _ _ _ c.requires.place _ c.find_slot.ensures.same _ (made.3 Change (Done made.0 made.1) (made.1, refl, refl)))

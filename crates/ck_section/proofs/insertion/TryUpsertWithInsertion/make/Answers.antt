@@ -1,4 +1,4 @@
-use Rattle.std.proofs.Common.{rules, refl, None}
+use Rattle.std.proofs.Common.{refl, None}
 use Rattle.ck_model.specs.declared.history.Act.TheVariants.{Find, Insert, Change}
 use Rattle.ck_model.specs.declared.history.Call.TheVariants.{On}
 use Rattle.ck_model.specs.declared.history.Reply.TheVariants.{New, Was, Done}
@@ -6,8 +6,8 @@ use Rattle.ck_section.proofs.Steps.{occupied_here, vacant_here, lacked}
 use Rattle.ck_section.proofs.PutBack.{tried_change}
 use Rattle.ck_section.proofs.insertion.TryUpsertWithInsertion.make.Goals as goal
 
-pub modify_entry-outcome-requires-clause-occupied : goal.modify_entry-outcome-requires-clause-occupied
-modify_entry-outcome-requires-clause-occupied g c = occupied_here _ _ _ _ c.args.entry c.in-Occupied.at c.in-Occupied.is c.requires.entry
+pub try_modify_entry-outcome-requires-clause-occupied : goal.try_modify_entry-outcome-requires-clause-occupied
+try_modify_entry-outcome-requires-clause-occupied g c = occupied_here _ _ _ _ c.args.entry c.in-Occupied.at c.in-Occupied.is c.requires.entry
 
 pub fill-requires-clause-vacant : goal.fill-requires-clause-vacant
 fill-requires-clause-vacant g c = vacant_here _ _ _ _ c.args.entry c.in-Vacant.at c.in-Vacant.is c.requires.entry
@@ -15,10 +15,10 @@ fill-requires-clause-vacant g c = vacant_here _ _ _ _ c.args.entry c.in-Vacant.a
 -- the key was bound
 pub returns-in-Occupied-clause-answered : goal.returns-in-Occupied-clause-answered
 returns-in-Occupied-clause-answered g c =
-    let made = c.modify_entry-outcome.ensures.bound in
+    let made = c.try_modify_entry-outcome.ensures.bound in
     let v = made.0 in
     let w = made.1 in
-    (Change, Done v w, (refl, v, w, tried_change (goal.F-post g c.args.value.1) v w c.modify_entry-outcome.result c.answer_of_bound-answer.result (search rules) c.answer_of_bound-answer.ensures, (refl, refl)), λ i. On (g.K.TableKey.name (c.of.ensures i)) Change, made.3 Change (Done v w) (w, refl, refl))
+    (Change, Done v w, (refl, v, w, tried_change (goal.F-post g c.args.value.1) v w c.try_modify_entry-outcome.result c.answer_of_bound-answer.result made.2 c.answer_of_bound-answer.ensures, (refl, refl)), λ i. On (g.K.TableKey.name (c.of.ensures i)) Change, made.3 Change (Done v w) (w, refl, refl))
 
 -- it was unbound, and the closure made this of the value that was made
 pub returns-in-Ok-clause-answered : goal.returns-in-Ok-clause-answered
