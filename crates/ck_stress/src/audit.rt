@@ -5,10 +5,10 @@ use crate::model::{ACCOUNTS, COUNTERS, FUND, OWN, counter, is_own, own};
 use crate::notes::Notes;
 use std::alloc::Global;
 
-pub type Locked<K> = cuckoo_map::LockedHandle<K, u64>;
+pub type Locked<'t, K> = cuckoo_map::LockedTable<'t, K, u64>;
 
 /// What all accounts have.
-fn total<K: Key>(locked: &Locked<K>) -> u64 {
+fn total<K: Key>(locked: &Locked<'_, K>) -> u64 {
     let mut sum = 0u64;
     for (key, value) in locked {
         if key.number() < ACCOUNTS {
@@ -24,7 +24,7 @@ fn is_swept(value: u64) -> bool {
 }
 
 /// Takes some of the thread's keys away, by `retain`.
-fn sweep<K: Key>(notes: &mut Notes, locked: &mut Locked<K>) {
+fn sweep<K: Key>(notes: &mut Notes, locked: &mut Locked<'_, K>) {
     let thread = notes.model.thread;
     locked.retain(|key: &K, value: &u64| !is_own(thread, key.number()) || !is_swept(*value));
     for i in 0..OWN {
@@ -34,13 +34,13 @@ fn sweep<K: Key>(notes: &mut Notes, locked: &mut Locked<K>) {
 }
 
 /// What the key of this number is bound to; nothing where there is no memory for the key.
-fn value_of<K: Key>(alloc: Global, locked: &Locked<K>, number: u64) -> Option<Option<u64>> {
+fn value_of<K: Key>(alloc: Global, locked: &Locked<'_, K>, number: u64) -> Option<Option<u64>> {
     let key = K::of(alloc, number)?;
     Some(locked.find(&key).copied())
 }
 
 /// Whether all keys of the thread are as it knows them, and no money is lost.
-fn check_locked<K: Key>(alloc: Global, notes: &mut Notes, locked: &Locked<K>) {
+fn check_locked<K: Key>(alloc: Global, notes: &mut Notes, locked: &Locked<'_, K>) {
     notes.tally.sessions = notes.tally.sessions.saturating_add(1);
     let sum = total(locked);
     notes.check("sum of all accounts", 0, Some(sum), Some(ACCOUNTS * FUND));
@@ -54,7 +54,7 @@ fn check_locked<K: Key>(alloc: Global, notes: &mut Notes, locked: &Locked<K>) {
 }
 
 /// Looks at all that the thread knows, with the table locked.
-pub fn audit<K: Key>(worker: Worker<K>) -> Worker<K> {
+pub fn audit<'t, K: Key>(worker: Worker<'t, K>) -> Worker<'t, K> {
     let Worker {
         caller,
         second,
@@ -83,7 +83,7 @@ pub fn audit<K: Key>(worker: Worker<K>) -> Worker<K> {
 
 /// How many keys are bound, as the threads know it: their own, the accounts, and each counter that
 /// was raised.
-fn bound<K: Key>(workers: &[Worker<K>]) -> u64 {
+fn bound<K: Key>(workers: &[Worker<'_, K>]) -> u64 {
     let mut bound = ACCOUNTS;
     for worker in workers {
         bound = bound.saturating_add(worker.notes.model.bound());
@@ -95,7 +95,7 @@ fn bound<K: Key>(workers: &[Worker<K>]) -> u64 {
 }
 
 /// How often all threads raised a counter.
-fn raised<K: Key>(workers: &[Worker<K>], i: u64) -> u64 {
+fn raised<K: Key>(workers: &[Worker<'_, K>], i: u64) -> u64 {
     let mut raised = 0u64;
     for worker in workers {
         raised = raised.saturating_add(worker.notes.model.raised(i));
@@ -107,8 +107,8 @@ fn raised<K: Key>(workers: &[Worker<K>], i: u64) -> u64 {
 pub fn check_end<K: Key>(
     alloc: Global,
     notes: &mut Notes,
-    locked: &Locked<K>,
-    workers: &[Worker<K>],
+    locked: &Locked<'_, K>,
+    workers: &[Worker<'_, K>],
 ) {
     notes.check(
         "number of keys",

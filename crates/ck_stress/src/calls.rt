@@ -5,19 +5,19 @@ use crate::notes::Notes;
 use cuckoo_map::Uprased;
 use std::alloc::Global;
 
-pub type Caller<K> = cuckoo_map::Handle<K, u64>;
+pub type Caller<'t, K> = cuckoo_map::Caller<'t, K, u64>;
 
 /// A thread's two callers, and its notes.
 #[derive(Drop)]
-pub struct Worker<K: Key> {
-    pub caller: Caller<K>,
+pub struct Worker<'t, K: Key> {
+    pub caller: Caller<'t, K>,
     /// It makes calls while the other is in one.
-    pub second: Caller<K>,
+    pub second: Caller<'t, K>,
     pub notes: Notes,
     pub alloc: Global,
 }
 
-impl<K: Key> Worker<K> {
+impl<'t, K: Key> Worker<'t, K> {
     fn find(&mut self, key: K, want: Option<u64>) {
         let number = key.number();
         match self.caller.find(&key) {

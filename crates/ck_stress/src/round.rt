@@ -1,4 +1,5 @@
 //! A round: a new table, threads that call it, and a last look at what it has.
+ghost use Rattle.cuckoo_map.specs.Closing.{AreAllPasses};
 
 use crate::audit::{audit, check_end};
 use crate::calls::{Caller, Worker};
@@ -7,7 +8,7 @@ use crate::model::{ACCOUNTS, FUND, account};
 use crate::notes::{Notes, Wrong};
 use crate::tally::Tally;
 use ck_key::{NumKey, TextKey};
-use cuckoo_map::Settings;
+use cuckoo_map::{Pass, Settings, Table};
 use std::alloc::{AllocError, Global};
 use std::io;
 use std::rt::Clock;
@@ -74,7 +75,7 @@ impl Shift {
 }
 
 /// Makes the calls of a thread.
-fn work<K: Key>(rt: &impl Clock, shift: Shift, worker: Worker<K>) -> Worker<K> {
+fn work<'t, K: Key>(rt: &impl Clock, shift: Shift, worker: Worker<'t, K>) -> Worker<'t, K> {
     let mut worker = worker;
     for block in 0..u64::MAX / CALLS {
         if worker.notes.wrong.is_some() || !shift.goes_on(rt, block * CALLS) {
@@ -89,7 +90,7 @@ fn work<K: Key>(rt: &impl Clock, shift: Shift, worker: Worker<K>) -> Worker<K> {
 }
 
 /// Opens an account, and says whether it could.
-fn open_account<K: Key>(alloc: Global, caller: &mut Caller<K>, i: u64) -> bool {
+fn open_account<K: Key>(alloc: Global, caller: &mut Caller<'_, K>, i: u64) -> bool {
     match K::of(alloc, account(i)) {
         Some(key) => caller.insert(key, FUND).is_ok(),
         None => false,
@@ -97,12 +98,16 @@ fn open_account<K: Key>(alloc: Global, caller: &mut Caller<K>, i: u64) -> bool {
 }
 
 /// Opens the accounts, and says whether it could.
-fn fund<K: Key>(alloc: Global, caller: &mut Caller<K>) -> bool {
+fn fund<K: Key>(alloc: Global, caller: &mut Caller<'_, K>) -> bool {
     (0..ACCOUNTS).all(|i| open_account(alloc, caller, i))
 }
 
 /// A worker for each two callers.
-fn hire<K: Key>(alloc: Global, seed: u64, callers: Vec<Caller<K>>) -> io::Result<Vec<Worker<K>>> {
+fn hire<'t, K: Key>(
+    alloc: Global,
+    seed: u64,
+    callers: Vec<Caller<'t, K>>,
+) -> io::Result<Vec<Worker<'t, K>>> {
     let mut workers = Vec::new(alloc);
     let mut waiting = None;
     let mut thread = 0u32;
@@ -128,7 +133,7 @@ fn hire<K: Key>(alloc: Global, seed: u64, callers: Vec<Caller<K>>) -> io::Result
 pub type Outcome = io::Result<Result<Tally, Wrong>>;
 
 /// What all did, where nothing was wrong.
-fn sum_of<K: Key>(notes: &Notes, workers: &[Worker<K>]) -> Result<Tally, Wrong> {
+fn sum_of<K: Key>(notes: &Notes, workers: &[Worker<'_, K>]) -> Result<Tally, Wrong> {
     let mut tally = notes.tally;
     for worker in workers {
         if let Some(wrong) = worker.notes.wrong {
@@ -143,7 +148,11 @@ fn sum_of<K: Key>(notes: &Notes, workers: &[Worker<K>]) -> Result<Tally, Wrong> 
 }
 
 /// The last look, when no thread is in a call: what all did, or what is wrong.
-fn look_at_end<K: Key>(alloc: Global, auditor: Caller<K>, workers: &[Worker<K>]) -> Outcome {
+fn look_at_end<K: Key>(
+    alloc: Global,
+    auditor: Caller<'_, K>,
+    workers: &[Worker<'_, K>],
+) -> Outcome {
     let mut auditor = auditor;
     let mut notes = Notes::new(alloc, 0, u32::MAX)?;
     notes.tally.power = auditor.power().unwrap_or(0);
@@ -156,17 +165,25 @@ fn look_at_end<K: Key>(alloc: Global, auditor: Caller<K>, workers: &[Worker<K>])
 }
 
 /// Workers, and how long they work.
-struct Crew<K: Key> {
+struct Crew<'t, K: Key> {
     shift: Shift,
-    workers: Vec<Worker<K>>,
+    workers: Vec<Worker<'t, K>>,
 }
 
 /// The workers at the end, where there was memory for their list.
-type Worked<K> = Result<Vec<Worker<K>>, AllocError>;
+type Worked<'t, K> = Result<Vec<Worker<'t, K>>, AllocError>;
 
-/// Opens a table: whoever looks last, and the workers, once the accounts are open.
-fn begin<K: Key>(rt: &impl Clock, alloc: Global, plan: Plan) -> io::Result<(Caller<K>, Crew<K>)> {
-    let Ok(mut callers) = Caller::<K>::open(alloc, settings(plan)) else {
+/// Whoever looks last, and the workers, once the accounts are open.
+fn begin<'t, K: Key>(
+    rt: &impl Clock,
+    alloc: Global,
+    plan: Plan,
+    table: &'t Table<K, u64>,
+    passes: Vec<Pass<K, u64>>,
+) -> io::Result<(Caller<'t, K>, Crew<'t, K>)>
+    requires { AreAllPasses table.now passes.items }
+{
+    let Ok(mut callers) = table.callers(alloc, passes) else {
         return Err(io::ErrorKind::OutOfMemory.into());
     };
     let Some(mut auditor) = callers.pop() else {
@@ -185,7 +202,7 @@ fn begin<K: Key>(rt: &impl Clock, alloc: Global, plan: Plan) -> io::Result<(Call
 
 // The threads start in a function for each type of keys: of one for all the prover has no proof.
 
-fn work_on_numbers<R>(rt: &R, crew: Crew<NumKey>) -> Worked<NumKey>
+fn work_on_numbers<'t, R>(rt: &R, crew: Crew<'t, NumKey>) -> Worked<'t, NumKey>
 where
     R: Clock + Threads + Sync,
 {
@@ -193,7 +210,7 @@ where
     thread::map_vec(rt, workers, &|worker| work(rt, shift, worker))
 }
 
-fn work_on_texts<R>(rt: &R, crew: Crew<TextKey>) -> Worked<TextKey>
+fn work_on_texts<'t, R>(rt: &R, crew: Crew<'t, TextKey>) -> Worked<'t, TextKey>
 where
     R: Clock + Threads + Sync,
 {
@@ -201,25 +218,57 @@ where
     thread::map_vec(rt, workers, &|worker| work(rt, shift, worker))
 }
 
-/// Makes a round with numbers as keys.
-fn run_numbers<R: Threads + Clock + Sync>(rt: &R, alloc: Global, plan: Plan) -> Outcome {
-    let (auditor, crew) = begin(rt, alloc, plan)?;
+/// Makes a round on this table, which is new, with numbers as keys.
+fn run_numbers<R: Threads + Clock + Sync>(
+    rt: &R,
+    alloc: Global,
+    plan: Plan,
+    table: &Table<NumKey, u64>,
+    passes: Vec<Pass<NumKey, u64>>,
+) -> Outcome
+    requires { AreAllPasses table.now passes.items }
+{
+    let (auditor, crew) = begin(rt, alloc, plan, table, passes)?;
     let workers = work_on_numbers(rt, crew)?;
     look_at_end(alloc, auditor, &workers)
 }
 
 /// The same with texts as keys.
-fn run_texts<R: Threads + Clock + Sync>(rt: &R, alloc: Global, plan: Plan) -> Outcome {
-    let (auditor, crew) = begin(rt, alloc, plan)?;
+fn run_texts<R: Threads + Clock + Sync>(
+    rt: &R,
+    alloc: Global,
+    plan: Plan,
+    table: &Table<TextKey, u64>,
+    passes: Vec<Pass<TextKey, u64>>,
+) -> Outcome
+    requires { AreAllPasses table.now passes.items }
+{
+    let (auditor, crew) = begin(rt, alloc, plan, table, passes)?;
     let workers = work_on_texts(rt, crew)?;
     look_at_end(alloc, auditor, &workers)
+}
+
+// What owns a table hands it on at once: each way out of it costs the prover seconds.
+
+fn open_and_run_numbers<R: Threads + Clock + Sync>(rt: &R, alloc: Global, plan: Plan) -> Outcome {
+    match Table::open(alloc, settings(plan)) {
+        Ok((table, passes)) => run_numbers(rt, alloc, plan, &table, passes),
+        Err(_) => Err(io::ErrorKind::OutOfMemory.into()),
+    }
+}
+
+fn open_and_run_texts<R: Threads + Clock + Sync>(rt: &R, alloc: Global, plan: Plan) -> Outcome {
+    match Table::open(alloc, settings(plan)) {
+        Ok((table, passes)) => run_texts(rt, alloc, plan, &table, passes),
+        Err(_) => Err(io::ErrorKind::OutOfMemory.into()),
+    }
 }
 
 /// Makes a round, every third with texts as keys, and says what was done in it, or what was wrong.
 pub fn run_round<R: Threads + Clock + Sync>(rt: &R, alloc: Global, plan: Plan) -> Outcome {
     if plan.seed % 3 == 2 {
-        run_texts(rt, alloc, plan)
+        open_and_run_texts(rt, alloc, plan)
     } else {
-        run_numbers(rt, alloc, plan)
+        open_and_run_numbers(rt, alloc, plan)
     }
 }

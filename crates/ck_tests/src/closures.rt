@@ -1,4 +1,4 @@
-//! Calls of a table, by a pass of it, whose closures answer besides or fail.
+//! Calls whose closures answer besides or fail.
 use ck_fixtures::{NumCaller, SIXTEEN_BUCKETS, callers_of, count, read};
 use ck_key::NumKey;
 use std::process::Abort;
@@ -53,10 +53,7 @@ static ROWS: [Row; 4] = [
 ];
 
 /// Makes the call, and says how often it made a value.
-fn try_upsert_with<'t>(
-    caller: NumCaller<'t>,
-    row: &Row,
-) -> (NumCaller<'t>, Option<Result<bool, u64>>, u64) {
+fn try_upsert_with(caller: &mut NumCaller<'_>, row: &Row) -> (Option<Result<bool, u64>>, u64) {
     let Row { made, taken, .. } = *row;
     let makes = AtomicU64::new(0);
     let make = || {
@@ -64,12 +61,8 @@ fn try_upsert_with<'t>(
         made
     };
     let take = |left: u64| left.checked_sub(taken).ok_or((100, taken));
-    let table = caller.table();
-    let mut pass = caller.into_pass();
-    let answer = table
-        .try_upsert_with(&mut pass, NumKey(row.key), make, take)
-        .ok();
-    (table.caller(pass), answer, read(&makes))
+    let answer = caller.try_upsert_with(NumKey(row.key), make, take).ok();
+    (answer, read(&makes))
 }
 
 #[test]
@@ -77,8 +70,7 @@ fn a_value_is_made_and_changed(rt: HostRuntime) -> Result<(), Fail> {
     for caller in callers_of(rt.alloc(), SIXTEEN_BUCKETS.settings(1))? {
         let mut caller = caller;
         for row in &ROWS {
-            let (back, answer, makes) = try_upsert_with(caller, row);
-            caller = back;
+            let (answer, makes) = try_upsert_with(&mut caller, row);
             assert!(rt; answer == Some(row.answer));
             assert!(rt; makes == row.makes);
             assert!(rt; caller.find(&NumKey(row.key)) == Ok(row.left));
@@ -88,15 +80,12 @@ fn a_value_is_made_and_changed(rt: HostRuntime) -> Result<(), Fail> {
 }
 
 /// Takes so much from the value of the key, or all where there is less, and says how much.
-fn take<'t>(caller: NumCaller<'t>, key: u64, most: u64) -> (NumCaller<'t>, Option<u64>) {
-    let table = caller.table();
-    let mut pass = caller.into_pass();
+fn take(caller: &mut NumCaller<'_>, key: u64, most: u64) -> Option<u64> {
     let take = |left: u64| {
         let taken = left.min(most);
         (left - taken, taken)
     };
-    let taken = table.modify(&mut pass, &NumKey(key), take);
-    (table.caller(pass), taken.unwrap_or(None))
+    caller.modify(&NumKey(key), take).unwrap_or(None)
 }
 
 #[test]
@@ -105,9 +94,7 @@ fn a_value_is_changed_and_told(rt: HostRuntime) -> Result<(), Fail> {
         let mut caller = caller;
         assert!(rt; caller.insert(NumKey(5), 9).is_ok());
         for (key, most, want) in [(5, 4, Some(4)), (5, 7, Some(5)), (6, 1, None)] {
-            let (back, taken) = take(caller, key, most);
-            caller = back;
-            assert!(rt; taken == want);
+            assert!(rt; take(&mut caller, key, most) == want);
         }
         assert!(rt; caller.find(&NumKey(5)) == Ok(Some(0)));
         assert!(rt; caller.find(&NumKey(6)) == Ok(None));

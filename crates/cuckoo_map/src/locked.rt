@@ -208,7 +208,8 @@ impl<T: TableRef<K, V> + Drop, K: TableKey + Clone + Drop, V: Clone + Drop> Lock
     }
 }
 
-impl<'a, 't, K: TableKey + Drop, V: Drop> IntoIterator for &'a LockedTable<'t, K, V> {
+impl<'a, T: TableRef<K, V> + Drop, K: TableKey + Drop, V: Drop> IntoIterator
+    for &'a LockedOn<T, K, V> {
     type Item = (&'a K, &'a V);
 
     type IntoIter = Iter<'a, K, V>;
