@@ -172,15 +172,17 @@ impl<'t, K: Key> Worker<'t, K> {
     fn raise_within(&mut self) {
         let at = account(self.notes.model.below(ACCOUNTS));
         let i = self.notes.model.below(COUNTERS);
-        let (Some(at_key), Some(key)) = (K::of(self.alloc, at), K::of(self.alloc, counter(i)))
-        else {
+        let Some(at_key) = K::of(self.alloc, at) else {
             return;
         };
-        let second = &mut self.second;
+        let (alloc, second) = (self.alloc, &mut self.second);
         let mut raised = false;
+        // The key is made in the closure: one that moves it in is not covered by the prover.
         let around = |value: u64| {
-            let fresh = second.upsert(key, |count| count.saturating_add(1), 1);
-            raised = fresh.is_ok();
+            if let Some(key) = K::of(alloc, counter(i)) {
+                let fresh = second.upsert(key, |count| count.saturating_add(1), 1);
+                raised = fresh.is_ok();
+            }
             value
         };
         match self.caller.update_fn(&at_key, around) {
