@@ -2,6 +2,8 @@
 ghost use Rattle.std.specs.Prelude.{◌≡◌, ℕ, ◌<◌, ◌^◌, ◌↔◌, IsTrue};
 ghost use Rattle.ck_model.specs.Promise.{Name};
 
+use std::{hint, thread};
+
 /// A key of the table. Two keys are equal exactly where they have one name, and the hash depends on
 /// the name alone.
 pub trait TableKey: Ord {
@@ -13,6 +15,16 @@ pub trait TableKey: Ord {
     /// The 64-bit hash of the key's name.
     fn hash64(&self) -> u64
         ensures { result ≡ hash (name self.now) };
+
+    /// Waits, after so many tries to take a stripe that another caller holds. After each 64 it lets
+    /// other threads run. A type of keys that is to wait otherwise has a `pause` of its own.
+    fn pause(tries: u32) {
+        if tries % 64 == 0 {
+            thread::yield_now();
+        } else {
+            hint::spin_loop();
+        }
+    }
 
     ghost equal_names: { (a b : Self) → IsTrue (Self.eq a b) ↔ (name a ≡ name b) };
 

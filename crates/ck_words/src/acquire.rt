@@ -14,18 +14,6 @@ use crate::pass::Pass;
 use crate::stripe_set::StripeSet;
 use crate::words::Words;
 use ck_key::TableKey;
-use std::{hint, thread};
-
-// Waits after so many tries, and after each 64 lets other threads run.
-#[cold]
-#[inline(never)]
-fn wait(tries: u32) {
-    if tries % 64 == 0 {
-        thread::yield_now();
-    } else {
-        hint::spin_loop();
-    }
-}
 
 impl<K: TableKey + Drop, V: Drop> Words<K, V> {
     /// Takes stripe `t`, which is above all that the pass holds, by at most `turns` swaps. False
@@ -58,7 +46,7 @@ impl<K: TableKey + Drop, V: Drop> Words<K, V> {
         ensures unchanged { IsUnchanged pass.new }
     {
         for tries in 1..self.settings().turns {
-            wait(tries);
+            K::pause(tries);
             if self.take(pass, t) {
                 return true;
             }
