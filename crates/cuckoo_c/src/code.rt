@@ -1,0 +1,87 @@
+//! What C is told of a call.
+ghost use Rattle.std.specs.Prelude.{◌≡◌};
+ghost use Rattle.cuckoo_c.specs.Codes.{number_of, code_of_why, code_of_fault};
+
+use cuckoo_map::{GrowFault, Why};
+
+/// What C is told of a call. An answer is at least 0 as a number, and a refusal below 0.
+#[derive(Clone, Copy, PartialEq, Eq)]
+pub enum Code {
+    /// It was done: the key was unbound where it was to be bound, and else bound.
+    Done,
+    /// The key is unbound.
+    Absent,
+    /// The key was bound before.
+    Present,
+    /// The key is bound to another value than the one that was asked for.
+    Different,
+    /// The table had so many slots before.
+    Enough,
+    /// A stripe was found held in all tries.
+    Busy,
+    /// There is no memory.
+    Memory,
+    /// No room, and the table may not grow beyond its greatest power.
+    Full,
+    /// No room, and too few slots are taken for the table to grow.
+    LoadTooLow,
+    /// The table may not have so many buckets.
+    OverMax,
+    /// A setting is not in its range.
+    Settings,
+    /// A text has more than 64 bytes.
+    TooLong,
+    /// The handle is closed.
+    Closed,
+    /// The handle is open already.
+    Open,
+}
+
+impl Code {
+    /// Its number, as the headers have it.
+    #[inline(always)]
+    pub fn number(self) -> i32
+        ensures { result ≡ number_of self }
+    {
+        match self {
+            Code::Done => 0,
+            Code::Absent => 1,
+            Code::Present => 2,
+            Code::Different => 3,
+            Code::Enough => 4,
+            Code::Busy => -1,
+            Code::Memory => -2,
+            Code::Full => -3,
+            Code::LoadTooLow => -4,
+            Code::OverMax => -5,
+            Code::Settings => -6,
+            Code::TooLong => -7,
+            Code::Closed => -8,
+            Code::Open => -9,
+        }
+    }
+
+    /// Why an insertion was refused.
+    #[inline(always)]
+    pub fn of_why(why: Why) -> Code
+        ensures { result ≡ code_of_why why }
+    {
+        match why {
+            Why::Busy(_) => Code::Busy,
+            Why::Memory => Code::Memory,
+            Why::Full => Code::Full,
+            Why::LoadTooLow => Code::LoadTooLow,
+        }
+    }
+
+    /// Why the table was not made to grow.
+    pub fn of_fault(fault: GrowFault) -> Code
+        ensures { result ≡ code_of_fault fault }
+    {
+        match fault {
+            GrowFault::Busy(_) => Code::Busy,
+            GrowFault::Memory => Code::Memory,
+            GrowFault::OverMax => Code::OverMax,
+        }
+    }
+}

@@ -1,0 +1,231 @@
+/* A concurrent hash map that cannot lose a key.
+ *
+ * The functions are a static library, libcuckoo_map.a, which is written in Rattle: what they do is
+ * proved of the code that runs. The headers, and what a program does with them, are not.
+ *
+ * A table is called through handles, one for each thread that makes calls at a time. `cuckoo_open`
+ * makes a table with its handles. The keys of a `cuckoo_handle` are numbers, and those of a
+ * `cuckoo_text_handle` texts of at most 64 bytes. The values are numbers; a program may keep a
+ * pointer in one, of which the table knows nothing.
+ *
+ *     cuckoo_handle handle = CUCKOO_CLOSED_HANDLE;
+ *     if (cuckoo_open(1000, 64, &handle, 1) != CUCKOO_OK) return 1;
+ *     cuckoo_insert(&handle, 5, 50);
+ *     uint64_t value;
+ *     if (cuckoo_find(&handle, 5, &value) == CUCKOO_OK) printf("%llu\n", (unsigned long long)value);
+ *     cuckoo_close(&handle);
+ *
+ * Each answered call of all handles takes effect once, at one moment, in one order in which a plain
+ * map gives the same answers. A refused call changes no binding. A call through a handle that is
+ * closed is refused as CUCKOO_CLOSED and changes nothing; so is every call through a handle that was
+ * never opened and began as CUCKOO_CLOSED_HANDLE.
+ *
+ * What is undefined: a handle that began as anything else; a copy of a handle, where both are used;
+ * a handle in two calls at a time; a handle that goes to another thread by nothing that orders the
+ * two (a lock, the start or end of a thread, a sequentially consistent atomic); a call from a signal
+ * handler, or in the child of a `fork` of a process with threads; pointers that are null, or lead to
+ * fewer bytes than the parameters say.
+ *
+ * The library calls malloc, realloc and free, which have to align blocks as C says, and needs a
+ * processor of x86-64-v2. It never yields: a caller that was refused as CUCKOO_BUSY lets other
+ * threads run, and calls again (`cuckoo_map.hpp` does that).
+ */
+#ifndef CUCKOO_MAP_H
+#define CUCKOO_MAP_H
+
+#include <stddef.h>
+#include <stdint.h>
+
+#ifdef __cplusplus
+extern "C" {
+#endif
+
+/* A handle of a table, or a closed one. It is 8 bytes, and its owner is the program. */
+typedef struct cuckoo_handle {
+    void *at;
+} cuckoo_handle;
+
+typedef struct cuckoo_text_handle {
+    void *at;
+} cuckoo_text_handle;
+
+/* The pairs of a table at one moment, or none. */
+typedef struct cuckoo_pairs {
+    void *at;
+} cuckoo_pairs;
+
+typedef struct cuckoo_text_pairs {
+    void *at;
+} cuckoo_text_pairs;
+
+/* What each of them begins as. */
+#define CUCKOO_CLOSED_HANDLE { NULL }
+#define CUCKOO_NO_PAIRS { NULL }
+
+/* What a call answers: at least 0, or below 0 where it was refused. */
+enum cuckoo_code {
+    CUCKOO_OK = 0,
+    /* The key is unbound; of pairs: there are no more. */
+    CUCKOO_ABSENT = 1,
+    /* The key was bound before. */
+    CUCKOO_PRESENT = 2,
+    /* The key is bound to another value than the one that was asked for. */
+    CUCKOO_DIFFERENT = 3,
+    /* The table had so many slots before. */
+    CUCKOO_ENOUGH = 4,
+    /* A stripe of the table was held by other threads in all tries. Let them run, and try again. */
+    CUCKOO_BUSY = -1,
+    /* There is no memory. */
+    CUCKOO_NO_MEMORY = -2,
+    /* There is no room for the key, and the table may not grow beyond its greatest size. */
+    CUCKOO_FULL = -3,
+    /* There is no room for the key, and too few slots are taken for the table to grow. */
+    CUCKOO_LOAD_TOO_LOW = -4,
+    /* The table may not have so many slots. */
+    CUCKOO_OVER_MAX = -5,
+    /* A setting is not in its range. */
+    CUCKOO_BAD_SETTINGS = -6,
+    /* A text has more than 64 bytes. */
+    CUCKOO_TOO_LONG = -7,
+    /* The handle is closed. */
+    CUCKOO_CLOSED = -8,
+    /* What was to be opened is open. */
+    CUCKOO_IS_OPEN = -9
+};
+
+/* What a table is opened with. */
+typedef struct cuckoo_settings {
+    uint32_t s;        /* 2^s stripes: 0 to 10, and at most `power`. 10, but for small tables. */
+    uint32_t power;    /* it opens with 2^power buckets of four slots: 1 to `max` */
+    uint32_t max;      /* it never has more than 2^max buckets: 1 to 26 */
+    uint32_t callers;  /* as many as handles: 1 to 1024 */
+    uint32_t turns;    /* tries to take a stripe before a call is refused as busy: 1 at least */
+    uint32_t rounds;   /* tries to displace entries without the whole table: 0 to 64 */
+    uint32_t min_load; /* it grows only where so many per cent of its slots are taken: 0 to 100 */
+} cuckoo_settings;
+
+/* Settings for about so many keys: the table opens with room for them, and grows where more come.
+ * `rounds` is 4 and `min_load` 5. */
+void cuckoo_settings_for(uint64_t keys, uint32_t callers, uint32_t turns, cuckoo_settings *settings);
+
+/* ---- keys that are numbers ---- */
+
+/* A new table for about so many keys, with a handle in each of the `count` places, which are closed
+ * before. Where there are more threads than processors, few turns are best, as 64.
+ * CUCKOO_OK; CUCKOO_NO_MEMORY; CUCKOO_BAD_SETTINGS (count is not 1 to 1024, or turns is 0);
+ * CUCKOO_IS_OPEN. Refused, it leaves all places as they were. */
+int32_t cuckoo_open(uint64_t keys, uint32_t turns, cuckoo_handle *handles, size_t count);
+
+/* The same with every setting; `callers` is `count`. */
+int32_t cuckoo_open_with(const cuckoo_settings *settings, cuckoo_handle *handles, size_t count);
+
+/* Closes a handle. The table ends with its last one. A closed one stays closed. */
+void cuckoo_close(cuckoo_handle *handle);
+
+/* The value of the key goes to `value`. CUCKOO_OK; CUCKOO_ABSENT; CUCKOO_BUSY; CUCKOO_CLOSED. In each
+ * case but the first, here and below, what the pointer leads to stays as it is. */
+int32_t cuckoo_find(cuckoo_handle *handle, uint64_t key, uint64_t *value);
+
+/* Whether the key is bound. CUCKOO_OK; CUCKOO_ABSENT; CUCKOO_BUSY; CUCKOO_CLOSED. */
+int32_t cuckoo_contains(cuckoo_handle *handle, uint64_t key);
+
+/* Binds an unbound key. CUCKOO_OK; CUCKOO_PRESENT: it keeps its value; CUCKOO_BUSY;
+ * CUCKOO_NO_MEMORY; CUCKOO_FULL; CUCKOO_LOAD_TOO_LOW; CUCKOO_CLOSED. */
+int32_t cuckoo_insert(cuckoo_handle *handle, uint64_t key, uint64_t value);
+
+/* Binds the key. CUCKOO_OK: it was unbound; CUCKOO_PRESENT: the value that it had goes to `old`;
+ * refused as cuckoo_insert is. */
+int32_t cuckoo_assign(cuckoo_handle *handle, uint64_t key, uint64_t value, uint64_t *old);
+
+/* Adds to the value of the key, but not beyond UINT64_MAX, and binds an unbound key to `more`.
+ * CUCKOO_OK: it was unbound; CUCKOO_PRESENT: added; refused as cuckoo_insert is. */
+int32_t cuckoo_add(cuckoo_handle *handle, uint64_t key, uint64_t more);
+
+/* Binds a bound key. CUCKOO_OK: the value that it had goes to `old`; CUCKOO_ABSENT; CUCKOO_BUSY;
+ * CUCKOO_CLOSED. */
+int32_t cuckoo_update(cuckoo_handle *handle, uint64_t key, uint64_t value, uint64_t *old);
+
+/* Compare and set: binds a key that is bound to `from` to `to`. CUCKOO_OK, or CUCKOO_DIFFERENT: the
+ * value that it had goes to `seen`; CUCKOO_ABSENT; CUCKOO_BUSY; CUCKOO_CLOSED. */
+int32_t cuckoo_swap_if(cuckoo_handle *handle, uint64_t key, uint64_t from, uint64_t to,
+                       uint64_t *seen);
+
+/* Unbinds the key. CUCKOO_OK: the value that it had goes to `value`; CUCKOO_ABSENT; CUCKOO_BUSY;
+ * CUCKOO_CLOSED. */
+int32_t cuckoo_erase(cuckoo_handle *handle, uint64_t key, uint64_t *value);
+
+/* Unbinds a key that is bound to this value. CUCKOO_OK; CUCKOO_DIFFERENT; CUCKOO_ABSENT;
+ * CUCKOO_BUSY; CUCKOO_CLOSED. */
+int32_t cuckoo_erase_if(cuckoo_handle *handle, uint64_t key, uint64_t value);
+
+/* How many keys are bound, counted under all locks. CUCKOO_OK; CUCKOO_BUSY; CUCKOO_CLOSED. */
+int32_t cuckoo_len(cuckoo_handle *handle, uint64_t *count);
+
+/* How many slots the table has. CUCKOO_OK; CUCKOO_BUSY; CUCKOO_CLOSED. */
+int32_t cuckoo_capacity(cuckoo_handle *handle, uint64_t *slots);
+
+/* Makes the table grow until it has so many slots. CUCKOO_OK; CUCKOO_ENOUGH; CUCKOO_OVER_MAX;
+ * CUCKOO_NO_MEMORY: it may have doubled before that; CUCKOO_BUSY; CUCKOO_CLOSED. */
+int32_t cuckoo_reserve(cuckoo_handle *handle, uint64_t slots);
+
+/* Unbinds all keys, at one moment. CUCKOO_OK; CUCKOO_BUSY; CUCKOO_NO_MEMORY, after which the handle
+ * is closed; CUCKOO_CLOSED. */
+int32_t cuckoo_clear(cuckoo_handle *handle);
+
+/* All pairs at one moment, in rising order of the keys: a copy, which other threads don't change.
+ * CUCKOO_OK; CUCKOO_BUSY; CUCKOO_NO_MEMORY; CUCKOO_CLOSED; CUCKOO_IS_OPEN: `pairs` has some. */
+int32_t cuckoo_export(cuckoo_handle *handle, cuckoo_pairs *pairs);
+
+/* The same, and unbinds all keys at that moment. */
+int32_t cuckoo_drain(cuckoo_handle *handle, cuckoo_pairs *pairs);
+
+/* The next pair. CUCKOO_OK; CUCKOO_ABSENT: there are no more. */
+int32_t cuckoo_pairs_next(cuckoo_pairs *pairs, uint64_t *key, uint64_t *value);
+
+/* Frees the pairs. */
+void cuckoo_pairs_close(cuckoo_pairs *pairs);
+
+/* ---- keys that are texts of at most 64 bytes ----
+ * The same calls, also refused as CUCKOO_TOO_LONG, and where a key is to be bound as
+ * CUCKOO_NO_MEMORY, since the key is copied. `key` may be any bytes; where `length` is 0, it is a
+ * pointer all the same that isn't null. */
+
+int32_t cuckoo_text_open(uint64_t keys, uint32_t turns, cuckoo_text_handle *handles, size_t count);
+int32_t cuckoo_text_open_with(const cuckoo_settings *settings, cuckoo_text_handle *handles,
+                              size_t count);
+void cuckoo_text_close(cuckoo_text_handle *handle);
+int32_t cuckoo_text_find(cuckoo_text_handle *handle, const uint8_t *key, size_t length,
+                         uint64_t *value);
+int32_t cuckoo_text_contains(cuckoo_text_handle *handle, const uint8_t *key, size_t length);
+int32_t cuckoo_text_insert(cuckoo_text_handle *handle, const uint8_t *key, size_t length,
+                           uint64_t value);
+int32_t cuckoo_text_assign(cuckoo_text_handle *handle, const uint8_t *key, size_t length,
+                           uint64_t value, uint64_t *old);
+int32_t cuckoo_text_add(cuckoo_text_handle *handle, const uint8_t *key, size_t length,
+                        uint64_t more);
+int32_t cuckoo_text_update(cuckoo_text_handle *handle, const uint8_t *key, size_t length,
+                           uint64_t value, uint64_t *old);
+int32_t cuckoo_text_swap_if(cuckoo_text_handle *handle, const uint8_t *key, size_t length,
+                            uint64_t from, uint64_t to, uint64_t *seen);
+int32_t cuckoo_text_erase(cuckoo_text_handle *handle, const uint8_t *key, size_t length,
+                          uint64_t *value);
+int32_t cuckoo_text_erase_if(cuckoo_text_handle *handle, const uint8_t *key, size_t length,
+                             uint64_t value);
+int32_t cuckoo_text_len(cuckoo_text_handle *handle, uint64_t *count);
+int32_t cuckoo_text_capacity(cuckoo_text_handle *handle, uint64_t *slots);
+int32_t cuckoo_text_reserve(cuckoo_text_handle *handle, uint64_t slots);
+int32_t cuckoo_text_clear(cuckoo_text_handle *handle);
+int32_t cuckoo_text_export(cuckoo_text_handle *handle, cuckoo_text_pairs *pairs);
+int32_t cuckoo_text_drain(cuckoo_text_handle *handle, cuckoo_text_pairs *pairs);
+
+/* The next pair. The bytes of its key go to `key`, which has room for 64, and their number to
+ * `length`. */
+int32_t cuckoo_text_pairs_next(cuckoo_text_pairs *pairs, uint8_t *key, size_t room, size_t *length,
+                               uint64_t *value);
+void cuckoo_text_pairs_close(cuckoo_text_pairs *pairs);
+
+#ifdef __cplusplus
+}
+#endif
+
+#endif
