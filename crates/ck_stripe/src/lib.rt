@@ -23,6 +23,6 @@ mod several;
 pub use held::{Held, Numbered, Visitor};
 pub use held_slot::HeldSlot;
 pub use iter::Iter;
-pub use several::{entries, len, pour_all, settle_all};
+pub use several::{entries, has_entries, len, pour_all, settle_all};
 pub use stripe::Stripe;
 pub use stripe_laws::law_of_doubling;
