@@ -6,6 +6,7 @@ pub mod Openings
 pub mod Statements
 pub mod Shown
 pub mod Sums
+pub mod Order
 pub mod ExampleRun
 pub mod Answered
 pub mod WrongSteps
