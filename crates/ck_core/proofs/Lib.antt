@@ -8,6 +8,7 @@ pub mod Shown
 pub mod Sums
 pub mod Order
 pub mod ExampleRun
+pub mod ExampleOrder
 pub mod Answered
 pub mod WrongSteps
 pub mod WrongResults
