@@ -128,7 +128,16 @@ module _ {V : Type 0} where
       let d4 = d log3 log4 s3 s4 during2 call2.runs ∙ ap (λ l. log3 ++ l) b.2 in
       let d5 = d log4 log5 s4 s5 after run5 in (
         (bindings (whole k i5.contents), i5.legal),
-        (log1 ++ a.0, a.1 ++ (decided between ++ b.0), b.1 ++ decided after, simp (d5, d4, d3, d2, append_assoc)),
+        record {
+          before = log1 ++ a.0;
+          between = a.1 ++ (decided between ++ b.0);
+          after = b.1 ++ decided after;
+          all = simp (d5, d4, d3, d2, append_assoc);
+          first_begins = (a.0, refl);
+          first_ends = (a.1, simp (d2, append_assoc));
+          second_begins = (b.0, simp (d3, d2, append_assoc));
+          second_ends = (b.1, simp (d4, d3, d2, append_assoc));
+        },
       )
 
   -- one view was set, and has seen no less than before

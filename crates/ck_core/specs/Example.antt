@@ -12,7 +12,7 @@ use Rattle.ck_model.specs.Contents.{Layout, Stripes}
 use Rattle.ck_core.specs.declared.view.View.{View}
 use Rattle.ck_core.specs.State.{Configuration}
 use Rattle.ck_core.specs.Steps.{Label, Opening, Execution, newcomer, initial_view, spent}
-use Rattle.ck_core.specs.Order.{IsCall, StandsBefore}
+use Rattle.ck_core.specs.Order.{IsCall, StandInTime}
 use Rattle.ck_core.specs.Steps.Label.{Take, FindHeld, Give, Decide, GiveRest, Renew, Look, Open, Tell, Join}
 
 -- the hash of a name is its first number, or 0
@@ -122,7 +122,7 @@ ExampleCalls = IsCall two_stripes 0 1 look_up (insertion ∷ []) decided (drop 4
     × IsCall two_stripes 0 0 second_look (insertion ∷ look_up ∷ []) finish more_steps all_entries looked
 
 abbrev pub ExampleOrder : Type 0
-ExampleOrder = IsLegal all_entries × StandsBefore all_entries look_up second_look
+ExampleOrder = IsLegal all_entries × StandInTime (insertion ∷ []) (insertion ∷ look_up ∷ []) (insertion ∷ look_up ∷ []) all_entries all_entries look_up second_look
 
 -- one caller, which keeps the number of the other
 abbrev pub alone : Configuration ℕ

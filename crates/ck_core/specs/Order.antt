@@ -49,9 +49,16 @@ module _ {V : Type 0} where
     pub ends : IsIdleCaller e.by id s2
     pub entry : subhistory e.by (decided ms) ≡ e ∷ []
 
-  -- the first entry stands before the second
-  abbrev pub StandsBefore : List (Entry V) → Entry V → Entry V → Type 0
-  StandsBefore log e f = (l : List (Entry V)) × (m : List (Entry V)) × (n : List (Entry V)) × (log ≡ l ++ e ∷ (m ++ f ∷ n))
+  -- Of two calls, the first from log1 to log2 and the second from log3 to log4, in a run that ends with log5: the entry of each stands behind what its call began with and in what it ended with, and so the first before the second.
+  pub record StandInTime (log1 log2 log3 log4 log5 : List (Entry V)) (e e2 : Entry V) : Type 0 where
+    pub before : List (Entry V)
+    pub between : List (Entry V)
+    pub after : List (Entry V)
+    pub all : log5 ≡ before ++ e ∷ (between ++ e2 ∷ after)
+    pub first_begins : StartsWith before log1
+    pub first_ends : StartsWith log2 (before ++ e ∷ [])
+    pub second_begins : StartsWith (before ++ e ∷ between) log3
+    pub second_ends : StartsWith log4 (before ++ e ∷ (between ++ e2 ∷ []))
 
   -- the step joins another view to its caller's
   abbrev pub IsJoining : Label V → Type 0
@@ -88,10 +95,10 @@ module _ (V : Type 0) where
   abbrev pub LawOfDecisions : Type 0
   LawOfDecisions = (k : Layout) (min_load : ℕ) (log log2 : List (Entry V)) (s s2 : Configuration V) (ms : List (ℕ × Label V)) → Execution k min_load log s ms log2 s2 → log2 ≡ log ++ decided ms
 
-  -- Linearizability (Herlihy and Wing 1990) of the protocol, in the order of its steps. In each run from an opening the history is legal, and where an answered call ends before another begins, its entry stands before the other's.
+  -- Linearizability (Herlihy and Wing 1990) of the protocol, in the order of its steps. In each run from an opening the history is legal, and has the entry of each answered call between the call's beginning and its end: where one call ends before another begins, its entry stands before the other's.
   abbrev pub LawOfRealTime : Type 0
   LawOfRealTime = (k : Layout) (min_load : ℕ) (set : Settings) (callers p id id2 : ℕ) (e e2 : Entry V)
       (before during between during2 after : List (ℕ × Label V)) (log1 log2 log3 log4 log5 : List (Entry V)) (s0 s1 s2 s3 s4 s5 : Configuration V)
       → Opening k set callers p s0 → Execution k min_load [] s0 before log1 s1 → IsCall k min_load id e log1 s1 during log2 s2
       → Execution k min_load log2 s2 between log3 s3 → IsCall k min_load id2 e2 log3 s3 during2 log4 s4 → Execution k min_load log4 s4 after log5 s5
-      → IsLegal log5 × StandsBefore log5 e e2
+      → IsLegal log5 × StandInTime log1 log2 log3 log4 log5 e e2

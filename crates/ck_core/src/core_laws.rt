@@ -104,8 +104,10 @@ pub fn law_of_one_history<V>()
 {}
 
 /// The history of a run is what its steps decide, in their order. In each run from an opening it is
-/// legal, and where one answered call ends before another begins, the entry of the first stands
-/// before that of the second.
+/// legal, and the entry of an answered call stands between what the history was when the call began
+/// and what it was when the call ended. So where one call ends before another begins, its entry
+/// stands before the other's: the protocol is linearizable in the order of its steps (Herlihy and
+/// Wing 1990).
 pub fn law_of_real_time<V>()
     ensures decisions { LawOfDecisions V }
     ensures order { LawOfRealTime V }

@@ -1,9 +1,9 @@
 -- Stripes that were taken and settled are held as calls need them.
-use Rattle.std.proofs.Common.{◌≡◌, ℕ, zero, suc, ◌<◌, true, List, [], ◌∷◌, length, get_or, sym, refl, ap, ◌∙◌, subst, arith}
+use Rattle.std.proofs.Common.{◌≡◌, ℕ, zero, suc, ◌<◌, ◌≤◌, true, List, [], ◌∷◌, length, get_or, sym, refl, ap, ◌∙◌, subst, arith}
 use Rattle.ck_model.specs.declared.settings.Settings.{Settings}
 use Rattle.ck_model.specs.Promise.{Name}
 use Rattle.ck_model.specs.Ranges.{AreInRange}
-use Rattle.ck_model.specs.Contents.{layout_of, Stripes, Lawful}
+use Rattle.ck_model.specs.Contents.{layout_of, Lawful}
 use Rattle.ck_stripe.specs.Stripe.{StripeState}
 use Rattle.ck_stripe.specs.Stripes.{stripe_at, contents_of, HaveNoSpare, settled_stripes}
 use Rattle.ck_stripe.specs.Tables.{AreHeld}

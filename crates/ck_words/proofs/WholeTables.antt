@@ -1,5 +1,6 @@
 -- All stripes of a table, taken, and settled since.
-use Rattle.std.proofs.Common.{◌≡◌, ℕ, ◌<◌, ◌^◌, List, length, get_or, sym, ap, ◌∙◌, subst, arith}
+use Rattle.std.proofs.Common.{◌≡◌, ℕ, ◌<◌, ◌^◌, List, length, get_or, Ok, Err, sym, ap, ◌∙◌, subst, arith}
+use Rattle.std.specs.Prelude.{Result, OnOk, IfErr}
 use Rattle.ck_model.specs.declared.settings.Settings.{Settings}
 use Rattle.ck_model.specs.Promise.{Name}
 use Rattle.ck_model.specs.Ranges.{AreInRange}
@@ -8,12 +9,14 @@ use Rattle.ck_stripe.specs.Stripes.{contents_of, settled_stripes}
 use Rattle.ck_stripe.specs.Tables.{IsTable, AreAllHeld}
 use Rattle.ck_model.specs.Counting.{counting}
 use Rattle.ck_words.specs.Words.{WordsState}
-use Rattle.ck_words.specs.Passes.{PassState, numbers_of}
+use Rattle.ck_model.specs.Numbered.{IsIn}
+use Rattle.ck_words.specs.Passes.{PassState, IsPassOf, numbers_of}
+use Rattle.ck_words.specs.Retries.{Stays, FindsAmong, IsBusy}
 use Rattle.ck_words.specs.declared.stripe_set.StripeSet.{StripeSet}
 use Rattle.ck_words.specs.StripeSets.{list_of}
-use Rattle.ck_words.specs.Holding.{HasTakenAll}
+use Rattle.ck_words.specs.Holding.{HasTakenAll, GivesUp}
 use Rattle.ck_words.specs.Closing.{IsWhole}
-use Rattle.ck_model.proofs.Counting.{length-counting, counting-at}
+use Rattle.ck_model.proofs.Counting.{length-counting, counting-at, counting_below}
 use Rattle.ck_stripe.proofs.Settled.{contents_settled, all_settled}
 use Rattle.ck_words.proofs.AreHeld.{lawful_taken, one_power_of, least_of, most_of, numbers_settled}
 use Rattle.ck_words.proofs.Lending.{each_at}
@@ -47,6 +50,46 @@ module _ {V : Type 0} where
           most = most_of hash w.settings range q.stripes all taken.numbered some lawful;
           no_spare = taken.no_spare;
         }
+
+  -- all were taken, or one was found held to the end
+  module _ (hash : Name → ℕ) (w : WordsState) (range : AreInRange w.settings) (p q : PassState V) (all : List ℕ) (are_all : all ≡ counting 0 (2 ^ w.settings.s)) (some : 0 < length all) where
+    abbrev Takes : {A : Type 0} → Result A ℕ → Type 0
+    Takes r = OnOk r (HasTakenAll hash w all p q)
+
+    abbrev Refuses : {A : Type 0} → Result A ℕ → Type 0
+    Refuses r = IfErr r (λ t. GivesUp w (λ u. IsIn u all) t p q)
+
+    -- each of them is a stripe of the table
+    inside : (t : ℕ) → IsIn t all → t < 2 ^ w.settings.s
+    inside t i = counting_below (2 ^ w.settings.s) t (subst (IsIn t) are_all i)
+
+    pub stays_either : {A : Type 0} (r : Result A ℕ) → Takes r → Refuses r → Stays p.view q.view
+    stays_either (Ok a) taken refused = taken.stays
+    stays_either (Err t) taken refused = refused.stays
+
+    pub found_either : {A : Type 0} (r : Result A ℕ) → Takes r → Refuses r → FindsAmong (λ t. t < 2 ^ w.settings.s) p q
+    found_either (Ok a) taken refused = let f = taken.found in (f.0, f.1, λ t i. inside t (f.2 t i))
+    found_either (Err t) taken refused = let f = refused.found in (f.0, f.1, λ u i. inside u (f.2 u i))
+
+    pub asked_either : {A : Type 0} (r : Result A ℕ) → Refuses r → IfErr r (λ t. t < 2 ^ w.settings.s)
+    asked_either (Ok a) refused = tt
+    asked_either (Err t) refused = inside t refused.asked
+
+    pub own_either : {A : Type 0} (r : Result A ℕ) → Takes r → Refuses r → IsPassOf w q
+    own_either (Ok a) taken refused = taken.own
+    own_either (Err t) taken refused = refused.own
+
+    pub busy_either : {A : Type 0} (r : Result A ℕ) → Refuses r → IfErr r (λ t. IsBusy w.settings t p q)
+    busy_either (Ok a) refused = tt
+    busy_either (Err t) refused = refused.busy
+
+    pub whole_either : {A : Type 0} (r : Result A ℕ) → Takes r → OnOk r (IsWhole hash w.settings q)
+    whole_either (Ok a) taken = is_whole hash w range p q all are_all some taken
+    whole_either (Err t) taken = tt
+
+    pub table_either : {A : Type 0} (r : Result A ℕ) → Takes r → OnOk r (IsTable w.settings.s q.stripes)
+    table_either (Ok a) taken = is_table hash w range p q all are_all some taken
+    table_either (Err t) taken = tt
 
   -- they were settled since
   module _ (p q : PassState V) (settled : q ≡ record p { stripes = settled_stripes p.stripes }) where

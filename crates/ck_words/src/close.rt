@@ -1,9 +1,10 @@
 //! The end of a table.
-ghost use Rattle.std.specs.Prelude.{◌≡◌, ℕ, ◌+◌, ◌^◌, ◌≤◌, [], true, All, IfNone, IfSome, IfOk, IfErr, length, map, vec_capacity};
+ghost use Rattle.std.specs.Prelude.{◌≡◌, ℕ, ◌+◌, ◌^◌, ◌≤◌, [], All, IfNone, IfSome, IfOk, IfErr, length, map, vec_capacity};
 ghost use Rattle.ck_model.specs.Promise.{named};
 ghost use Rattle.std.specs.FinMap.{from_entries};
 ghost use Rattle.ck_model.specs.Contents.{NamesApart, pairs_of};
-ghost use Rattle.ck_stripe.specs.Stripes.{stripe_at, contents_of};
+ghost use Rattle.ck_stripe.specs.Stripes.{contents_of};
+ghost use Rattle.ck_stripe.specs.Tables.{AreSettled};
 ghost use Rattle.ck_model.specs.Counting.{counting};
 ghost use Rattle.ck_words.specs.Passes.{IsPassOf, IsIdle, ShowsSeen, numbers_of};
 ghost use Rattle.ck_words.specs.Retries.{Stays};
