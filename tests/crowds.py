@@ -1,5 +1,5 @@
-"""Scripts that are made: those of `cuckoo make`, by docs/SCRIPTS.md, and those of many commands
-for several workers.
+"""Scripts that are made: those of `cuckoo make`, by crates/ck_cli/README.md, and those of many
+commands for several workers.
 """
 import random
 

@@ -96,7 +96,7 @@ module _ {V : Type 0} where
     mine = ap (λ (y : View V). y.mine) (sym b) ∙ (mine ∙ ap (λ (y : View V). y.mine) a);
   }
 
-  views_of : (s s2 : Configuration V) → s ≡ s2 → s.views ≡ s2.views
+  pub views_of : (s s2 : Configuration V) → s ≡ s2 → s.views ≡ s2.views
   views_of s s2 e = ap (λ (u : Configuration V). u.views) e
 
   pub law_of_other_steps : LawOfOtherSteps V

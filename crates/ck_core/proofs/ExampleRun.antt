@@ -145,17 +145,17 @@ opens = record {
     views (suc zero) v e = ([], sym (some-injective second v e), ((λ h. h), tt), alone 1 (omega arith))
     views (suc (suc j)) v e = absurd (some-ne-none v (sym e))
 
-nothing_above : (t u : ℕ) → IsIn u [] → u < t
+pub nothing_above : (t u : ℕ) → IsIn u [] → u < t
 nothing_above t u h = absurd h
 
-above_zero : (u : ℕ) → IsIn u (0 ∷ []) → u < 1
+pub above_zero : (u : ℕ) → IsIn u (0 ∷ []) → u < 1
 above_zero u h = ⊎_elim (λ e. omega arith) (λ z. absurd z) h
 
 one_not_in : ¬ (IsIn 1 (0 ∷ []))
 one_not_in h = ⊎_elim (λ e. omega arith) (λ z. z) h
 
 -- one run after another
-runs_append : {V : Type 0} (k : Layout) (min_load : ℕ) (ms ns : List (ℕ × Label V)) (log log1 log2 : List (Entry V)) (s s1 s2 : Configuration V)
+pub runs_append : {V : Type 0} (k : Layout) (min_load : ℕ) (ms ns : List (ℕ × Label V)) (log log1 log2 : List (Entry V)) (s s1 s2 : Configuration V)
     → Execution k min_load log s ms log1 s1 → Execution k min_load log1 s1 ns log2 s2 → Execution k min_load log s (ms ++ ns) log2 s2
 runs_append {V} k min_load [] ns log log1 log2 s s1 s2 a b = subst (λ (x : List (Entry V) × Configuration V). Execution k min_load x.0 x.1 ns log2 s2) (λ i. (sym a.0 i, sym a.1 i)) b
 runs_append k min_load (m ∷ ms) ns log log1 log2 s s1 s2 a b = (a.0, a.1, runs_append k min_load ms ns (grown log m.1) log1 log2 a.0 s1 s2 a.2 b)
@@ -177,7 +177,7 @@ from_one_held = (
 pub to_decided : Execution two_stripes 0 [] start (take 4 steps) (insertion ∷ []) decided
 to_decided = runs_append two_stripes 0 (take 1 steps) (take 3 (drop 1 steps)) [] [] (insertion ∷ []) start one_held decided to_one_held from_one_held
 
-from_decided : Execution two_stripes 0 (insertion ∷ []) decided (take 4 (drop 4 steps)) (insertion ∷ []) both_held
+pub from_decided : Execution two_stripes 0 (insertion ∷ []) decided (take 4 (drop 4 steps)) (insertion ∷ []) both_held
 from_decided = (
   _,
   (_, full_stripe, refl, omega arith, refl, nothing_above 0, refl, (1, refl), refl),
@@ -195,7 +195,7 @@ from_decided = (
 pub to_both_held : Execution two_stripes 0 [] start (take 8 steps) (insertion ∷ []) both_held
 to_both_held = runs_append two_stripes 0 (take 4 steps) (take 4 (drop 4 steps)) [] (insertion ∷ []) (insertion ∷ []) start decided both_held to_decided from_decided
 
-from_both_held : Execution two_stripes 0 (insertion ∷ []) both_held (drop 8 steps) (insertion ∷ look_up ∷ []) finish
+pub from_both_held : Execution two_stripes 0 (insertion ∷ []) both_held (drop 8 steps) (insertion ∷ look_up ∷ []) finish
 from_both_held = (
   _,
   (_, full_stripe, refl, refl, inr (inl (refl, refl)), found, refl),

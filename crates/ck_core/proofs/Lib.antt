@@ -6,7 +6,9 @@ pub mod Openings
 pub mod Statements
 pub mod Shown
 pub mod Sums
+pub mod Order
 pub mod ExampleRun
+pub mod ExampleOrder
 pub mod Answered
 pub mod WrongSteps
 pub mod WrongResults

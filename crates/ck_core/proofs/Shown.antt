@@ -22,11 +22,11 @@ use Rattle.ck_core.specs.Laws.{Shows}
 use Rattle.ck_core.proofs.Keeps.{agrees}
 use Rattle.ck_core.proofs.Callers.{own_held}
 
-no_items : {A : Type 0} (l : List A) → length l ≡ 0 → l ≡ []
+pub no_items : {A : Type 0} (l : List A) → length l ≡ 0 → l ≡ []
 no_items [] e = refl
 no_items (x ∷ xs) e = absurd (omega arith)
 
-no_second : {A : Type 0} (xs ys : List A) → xs ++ ys ≡ [] → ys ≡ []
+pub no_second : {A : Type 0} (xs ys : List A) → xs ++ ys ≡ [] → ys ≡ []
 no_second [] ys e = e
 no_second (x ∷ xs) ys e = let l = ap length e in absurd (omega arith)
 

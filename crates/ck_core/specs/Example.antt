@@ -1,17 +1,18 @@
 -- Two runs of two callers over two stripes: one inserts and the other finds; and one begins and meets the other.
-use Rattle.std.specs.Prelude.{ℕ, List, [], ◌∷◌, Some, None}
+use Rattle.std.specs.Prelude.{ℕ, List, [], ◌∷◌, drop, Some, None}
 use Rattle.ck_model.specs.declared.history.Act.TheVariants.{Find, Insert}
 use Rattle.ck_model.specs.declared.history.Call.TheVariants.{On}
 use Rattle.ck_model.specs.declared.history.Reply.TheVariants.{Was, New}
 use Rattle.ck_model.specs.declared.history.Entry.{Entry}
 use Rattle.ck_model.specs.declared.settings.Settings.{Settings}
 use Rattle.ck_model.specs.declared.contents.Content.{Content}
-use Rattle.ck_model.specs.Promise.{Name}
+use Rattle.ck_model.specs.Promise.{Name, IsLegal}
 use Rattle.ck_model.specs.Slots.{Slot}
 use Rattle.ck_model.specs.Contents.{Layout, Stripes}
 use Rattle.ck_core.specs.declared.view.View.{View}
 use Rattle.ck_core.specs.State.{Configuration}
 use Rattle.ck_core.specs.Steps.{Label, Opening, Execution, newcomer, initial_view, spent}
+use Rattle.ck_core.specs.Order.{IsCall, StandInTime}
 use Rattle.ck_core.specs.Steps.Label.{Take, FindHeld, Give, Decide, GiveRest, Renew, Look, Open, Tell, Join}
 
 -- the hash of a name is its first number, or 0
@@ -100,6 +101,28 @@ ExampleOpens = Opening two_stripes settings 2 1 start
 -- the steps lead from the opening to the end, with a history of the two entries
 abbrev pub ExampleRuns : Type 0
 ExampleRuns = Execution two_stripes 0 [] start steps (insertion ∷ look_up ∷ []) finish
+
+-- then the first caller looks, too
+abbrev pub second_look : Entry ℕ
+second_look = record { by = 0; call = On zero_name Find; reply = Was (Some 5) }
+
+abbrev pub all_entries : List (Entry ℕ)
+all_entries = insertion ∷ look_up ∷ second_look ∷ []
+
+abbrev pub more_steps : List (ℕ × Label ℕ)
+more_steps = (0, Take 0) ∷ (0, Take 1) ∷ (0, Decide 0 (both full_stripe) second_look) ∷ (0, GiveRest 1) ∷ []
+
+-- all stripes are at home again
+abbrev pub looked : Configuration ℕ
+looked = record finish { views = record first { seen = all_entries; mine = insertion ∷ second_look ∷ [] } ∷ record second { seen = insertion ∷ look_up ∷ []; mine = look_up ∷ []; found = 1 ∷ 0 ∷ [] } ∷ [] }
+
+-- the second caller's look-up, which begins when the insertion is decided, and then the first caller's are answered calls
+abbrev pub ExampleCalls : Type 0
+ExampleCalls = IsCall two_stripes 0 1 look_up (insertion ∷ []) decided (drop 4 steps) (insertion ∷ look_up ∷ []) finish
+    × IsCall two_stripes 0 0 second_look (insertion ∷ look_up ∷ []) finish more_steps all_entries looked
+
+abbrev pub ExampleOrder : Type 0
+ExampleOrder = IsLegal all_entries × StandInTime (insertion ∷ []) (insertion ∷ look_up ∷ []) (insertion ∷ look_up ∷ []) all_entries all_entries look_up second_look
 
 -- one caller, which keeps the number of the other
 abbrev pub alone : Configuration ℕ

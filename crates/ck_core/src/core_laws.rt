@@ -7,6 +7,7 @@ ghost use Rattle.ck_model.specs.Contents.{Stripes};
 ghost use Rattle.ck_core.specs.Steps.Label.{Take, FindHeld, Give, Decide, GiveRest, Renew, Look, Open, Tell, Join};
 ghost use Rattle.ck_core.specs.Laws.{LawOfRuns, Keeps, LawOfViews, LawOfReplies, LawOfFindings, LawOfOneCaller, LawOfAnswers, LawOfFollowing, LawOfOtherSteps};
 ghost use Rattle.ck_core.specs.Sums.{LawOfSums};
+ghost use Rattle.ck_core.specs.Order.{LawOfOneHistory, LawOfSeenHistory, LawOfGrowth, LawOfGrowingViews, LawOfDecisions, LawOfRealTime};
 
 /// A step by which a caller takes a stripe that is at home keeps the invariant.
 pub fn law_of_take<V>()
@@ -89,4 +90,25 @@ pub fn law_of_answers<V>()
 /// sum of that point.
 pub fn law_of_sums()
     ensures { LawOfSums }
+{}
+
+/// Where each caller has a view of its own, the state determines the history: it is empty, or it is
+/// what one of the callers has seen. If besides all that was seen in this state was seen in another,
+/// too, the other's history begins by this one's. By every step but a join, what was seen stays
+/// seen.
+pub fn law_of_one_history<V>()
+    ensures determined { LawOfOneHistory V }
+    ensures seen { LawOfSeenHistory V }
+    ensures grows { LawOfGrowth V }
+    ensures steps { LawOfGrowingViews V }
+{}
+
+/// The history of a run is what its steps decide, in their order. In each run from an opening it is
+/// legal, and the entry of an answered call stands between what the history was when the call began
+/// and what it was when the call ended. So where one call ends before another begins, its entry
+/// stands before the other's: the protocol is linearizable in the order of its steps (Herlihy and
+/// Wing 1990).
+pub fn law_of_real_time<V>()
+    ensures decisions { LawOfDecisions V }
+    ensures order { LawOfRealTime V }
 {}

@@ -1,6 +1,6 @@
 //! Two runs of two callers over two stripes: one inserts and the other finds; and one begins and
 //! meets the other.
-ghost use Rattle.ck_core.specs.Example.{ExampleOpens, ExampleRuns, MeetingOpens, MeetingRuns};
+ghost use Rattle.ck_core.specs.Example.{ExampleOpens, ExampleRuns, ExampleCalls, ExampleOrder, MeetingOpens, MeetingRuns};
 
 /// The steps allow this run from an empty opening of two callers over two stripes: the first caller
 /// takes stripe 0; the second finds it held; the first takes stripe 1 and decides `insert 0 5`, by
@@ -10,6 +10,14 @@ ghost use Rattle.ck_core.specs.Example.{ExampleOpens, ExampleRuns, MeetingOpens,
 pub fn example_run()
     ensures opening { ExampleOpens }
     ensures history { ExampleRuns }
+{}
+
+/// After the run of `example_run` the first caller takes both stripes, decides `find 0` and gives
+/// them back. This call begins after that of the second caller has ended, so its entry stands after
+/// the other's.
+pub fn example_order()
+    ensures calls { ExampleCalls }
+    ensures order { ExampleOrder }
 {}
 
 /// The steps allow this run from an empty opening of one caller, which keeps the number of another:

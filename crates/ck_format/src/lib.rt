@@ -1,5 +1,9 @@
 //! The format of scripts and of what a run of one writes: the grammar, the devices that give and
 //! take bytes, the reader, the maker, and the text of the answers.
+//!
+//! Proved: what is read is as a script spells it, and there is one script for a text. A fault is
+//! the first one, with its line, and `read failed` comes exactly where the source failed. A made
+//! script is the one that its numbers determine.
 #![tactic(auto)]
 
 mod answer;

@@ -2,6 +2,10 @@
 //! are full, by moving entries to their other buckets. It is breadth first, over sketches of the
 //! buckets, so that it needs no lock on what it has left behind (Li, Andersen, Kaminsky, Freedman
 //! 2014, "Algorithmic Improvements for Fast Concurrent Cuckoo Hashing").
+//!
+//! Proved: it gives a path exactly where one of at most four hops exists over the sketches that it
+//! was fed, and a shortest one. Where the sketches are those of a lawful whole, that is a path over
+//! its contents.
 #![tactic(auto)]
 
 mod node;

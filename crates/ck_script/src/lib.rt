@@ -1,4 +1,9 @@
 //! Runs scripts: each worker is a caller of one table, and works in a thread of its own.
+//!
+//! Proved: what is written belongs to the script. Each command is refused, or its answer is that of
+//! a plain map in one interleaving of the workers, and the pairs at the end are those of that map.
+//! A run that finds no memory has written nothing, and one whose sink failed a prefix of such a
+//! text.
 #![tactic(auto)]
 
 mod calls;

@@ -1,6 +1,11 @@
 //! Decisions on stripes that a call holds: the calls on one key and on two, and one hop of a
 //! displacement; and of all stripes of a table, their doubling and how room for a key is made. They
 //! are written once, over anything that is `Held`.
+//!
+//! Proved: each call is a step of the abstract map on what the stripes bind, and leaves them
+//! lawful; a hop and a doubling change no binding. Room for a key is made, or refused with the
+//! reason that holds of the table then; the table doubles only where no displacement makes room and
+//! its load is high enough. A closure that wasn't called comes back.
 #![tactic(auto)]
 
 // Where a key may be among held stripes, and its entry.

@@ -19,7 +19,7 @@ use crate::place::{HeldBucket, KeyPlace};
 use crate::whole_path::{find_path, follow_path};
 use ck_key::{KeyHash, TableKey};
 use ck_model::lack::Lack;
-use ck_stripe::{Held, Stripe, len, one_stripe, settle_all};
+use ck_stripe::{Held, Stripe, has_entries, one_stripe, settle_all};
 
 /// Makes room for the key, whose hash the caller has at hand, in a table of 2^s stripes: then the
 /// key is bound or one of its buckets has a free slot. No binding changes.
@@ -35,7 +35,7 @@ pub fn make_room<K: TableKey + Drop, V: Drop, H: Held<Stripe<K, V>>>(
     max: u32,
     min_load: u32,
 ) -> Result<(), Lack>
-    requires held { AreAllHeld s (H.stripes held.old) }
+    requires table { IsTable s (H.stripes held.old) }
     requires hash { IsHashOf K.hash (K.name key.now) hash }
     requires max { max ≤ 26 }
     requires min_load { min_load ≤ 100 }
@@ -227,5 +227,6 @@ fn is_too_empty<K: TableKey + Drop, V: Drop, H: Held<Stripe<K, V>>>(
     ensures stays { H.stays held.old held.new }
 {
     let slots = 4u64 << power;
-    100 * u128::from(len(held, s)) < u128::from(u64::from(min_load) * slots)
+    let least = (u64::from(min_load) * slots).div_ceil(100);
+    !has_entries(held, s, least)
 }

@@ -30,8 +30,8 @@ pub struct Plan {
     pub stop: Stop,
 }
 
-/// A table that grows from two buckets, in two to sixteen stripes, and whose calls are soon busy, or
-/// at the first try. Each thread has two callers, and the last look has one.
+/// A table that grows from two buckets on, in one to sixteen stripes, and whose calls are soon
+/// busy, or at the first try. Each thread has two callers, and the last look has one.
 fn settings(plan: Plan) -> Settings {
     let turns = match plan.seed % 4 {
         0 => 1,

@@ -1,3 +1,4 @@
+pub mod Settled
 pub mod Splits
 pub mod Doubled
 pub mod Stored

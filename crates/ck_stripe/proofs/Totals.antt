@@ -31,7 +31,7 @@ module _ {V : Type 0} where
   entries-next : (i : ℕ) (stripes : List (StripeState V)) → i < length stripes → entries_to (suc i) stripes ≡ entries_to i stripes + length (pairs_in (stripe_at stripes i).content)
   entries-next i stripes lt = ap length (pairs-next i stripes lt) ∙ length-append (pairs_of (contents_of (take i stripes))) (pairs_in (stripe_at stripes i).content)
 
-  entries-below : (i : ℕ) (stripes : List (StripeState V)) → entries_to i stripes ≤ length (pairs_of (contents_of stripes))
+  pub entries-below : (i : ℕ) (stripes : List (StripeState V)) → entries_to i stripes ≤ length (pairs_of (contents_of stripes))
   entries-below zero stripes = omega arith
   entries-below (suc i) [] = omega arith
   entries-below (suc i) (t ∷ ts) =

@@ -1,6 +1,6 @@
 //! Several stripes, one after another: their doublings that are left, how many entries they have,
 //! and their pairs.
-ghost use Rattle.std.specs.Prelude.{◌≡◌, ℕ, ◌+◌, ◌^◌, ◌≤◌, ◌++◌, length, map, vec_len, vec_capacity};
+ghost use Rattle.std.specs.Prelude.{◌≡◌, ◌⊎◌, ℕ, ◌+◌, ◌^◌, ◌<◌, ◌≤◌, ◌++◌, MatchBool, length, map, vec_len, vec_capacity};
 ghost use Rattle.ck_model.specs.declared.history.Call.TheVariants.{Len};
 ghost use Rattle.ck_model.specs.declared.history.Reply.TheVariants.{Count};
 ghost use Rattle.ck_model.specs.Contents.{layout, Lawful, pairs_of};
@@ -35,8 +35,45 @@ pub fn len<K: TableKey + Drop, V: Drop, H: Held<Stripe<K, V>>>(held: &mut H, s: 
     ensures same { H.stripes held.new ≡ H.stripes held.old }
     ensures stays { H.stays held.old held.new }
 {
+    count(held, s, u64::MAX)
+}
+
+/// Whether a table of 2^s stripes has at least so many entries. No more stripes are counted than it
+/// takes to know.
+pub fn has_entries<K: TableKey + Drop, V: Drop, H: Held<Stripe<K, V>>>(
+    held: &mut H,
+    s: u32,
+    least: u64,
+) -> bool
+    requires { IsTable s (H.stripes held.old) }
+    ensures value { MatchBool result
+        (least ≤ length (pairs_of (contents_of (H.stripes held.old))))
+        (length (pairs_of (contents_of (H.stripes held.old))) < least) }
+    ensures same { H.stripes held.new ≡ H.stripes held.old }
+    ensures stays { H.stays held.old held.new }
+{
+    least <= count(held, s, least)
+}
+
+// The number of entries of a table of 2^s stripes, or of so many of them that they are enough.
+fn count<K: TableKey + Drop, V: Drop, H: Held<Stripe<K, V>>>(
+    held: &mut H,
+    s: u32,
+    enough: u64,
+) -> u64
+    requires { IsTable s (H.stripes held.old) }
+    ensures value { (result ≡ length (pairs_of (contents_of (H.stripes held.old))))
+        ⊎ ((enough ≤ result)
+        × (result ≤ length (pairs_of (contents_of (H.stripes held.old))))) }
+    ensures few { result ≤ 2 ^ 38 }
+    ensures same { H.stripes held.new ≡ H.stripes held.old }
+    ensures stays { H.stays held.old held.new }
+{
     let mut entries = 0;
     for i in 0..1usize << s {
+        if enough <= entries {
+            return entries;
+        }
         entries += one_stripe::len(held, i);
     }
     entries

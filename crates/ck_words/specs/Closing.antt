@@ -1,5 +1,5 @@
 -- All stripes at once, and the end of a table.
-use Rattle.std.specs.Prelude.{◌≡◌, ℕ, ◌<◌, ◌≤◌, ◌^◌, true, List, [], ◌∷◌, ◌++◌, map, Some, All}
+use Rattle.std.specs.Prelude.{◌≡◌, ℕ, ◌<◌, ◌≤◌, ◌^◌, List, [], ◌∷◌, ◌++◌, map, Some, All}
 use Rattle.std.specs.List.{AllZip}
 use Rattle.std.specs.Option.{unwrap_or}
 use Rattle.atomic_table.specs.Seated.{TableId}
@@ -9,7 +9,6 @@ use Rattle.ck_model.specs.Promise.{Name, Map, After, StartsWith, IsInterleaving}
 use Rattle.ck_model.specs.Numbered.{IsIn, numbers}
 use Rattle.ck_model.specs.Contents.{layout_of, Stripes, Lawful, bindings, power_of}
 use Rattle.ck_model.specs.Sections.{HasAll}
-use Rattle.ck_stripe.specs.Stripes.{stripe_at}
 use Rattle.ck_core.specs.State.{owned}
 use Rattle.ck_core.specs.Steps.{newcomer}
 use Rattle.ck_model.specs.Counting.{counting}
@@ -18,11 +17,10 @@ use Rattle.ck_words.specs.Passes.{PassState, IsPassOf, IsIdle, IsUnchanged, Show
 use Rattle.ck_words.specs.Retries.{Stays}
 
 module _ {V : Type 0} where
-  -- The pass holds all stripes as it took them, and no doubling of them is left to carry out.
+  -- The pass holds all stripes as it took them.
   pub record IsWhole (hash : Name → ℕ) (set : Settings) (p : PassState V) : Type 0 where
     pub all : numbers_of p.stripes ≡ counting 0 (2 ^ set.s)
     pub unchanged : IsUnchanged p
-    pub settled : (i : ℕ) → (stripe_at p.stripes i).settled ≡ true
     pub shows : ShowsSeen hash set p
 
   -- the number of the caller, where it has one

@@ -2,12 +2,12 @@
 ghost use Rattle.std.specs.Prelude.{◌≡◌, ◌<◌, ◌≤◌, ◌-◌, ◌^◌, MatchBool, OnOk, IfErr, length, take};
 ghost use Rattle.ck_model.specs.Numbered.{numbers, IsIn};
 ghost use Rattle.ck_core.specs.Steps.{IsAbove};
-ghost use Rattle.ck_stripe.specs.Tables.{AreHeld, IsTable, AreSettled};
+ghost use Rattle.ck_stripe.specs.Tables.{AreHeld, IsTable};
 ghost use Rattle.ck_words.specs.Passes.{MayTake, IsPassOf, IsUnchanged, numbers_of, PassState, IsIdle, ShowsSeen};
 ghost use Rattle.ck_words.specs.StripeNumbers.{pair};
 ghost use Rattle.ck_words.specs.StripeSets.{list_of};
 ghost use Rattle.ck_words.specs.Retries.{TakesWithin, found_again, Stays, FindsAmong, IsBusy};
-ghost use Rattle.ck_words.specs.Holding.{MayLock, HasTaken, HasTakenAll, Misses, TakesRest};
+ghost use Rattle.ck_words.specs.Holding.{MayLock, HasTaken, HasTakenAll, GivesUp, Misses, TakesRest};
 ghost use Rattle.ck_words.specs.Closing.{IsWhole};
 
 use crate::pass::Pass;
@@ -70,12 +70,27 @@ impl<K: TableKey + Drop, V: Drop> Words<K, V> {
         ensures busy { IfErr result (λ t. IsBusy self.now.settings t pass.old pass.new) }
         ensures asked { IfErr result (λ t. IsIn t (list_of set)) }
     {
+        if let Err(t) = self.take_set(pass, set) {
+            return Err(t);
+        }
+        self.settle_taken(pass, set);
+        Ok(())
+    }
+
+    // Takes the stripes of a set so, with what is left of their doublings.
+    #[inline(always)]
+    fn take_set(&self, pass: &mut Pass<K, V>, set: StripeSet) -> Result<(), u32>
+        requires { MayLock self.now set pass.old }
+        ensures taken { OnOk result
+            (HasTakenAll K.hash self.now (list_of set) pass.old pass.new) }
+        ensures refused { IfErr result (λ t.
+            GivesUp self.now (λ u. IsIn u (list_of set)) t pass.old pass.new) }
+    {
         if let Err(i) = self.lock_now(pass, set) {
             if let Err(t) = self.lock_later(pass, set, i) {
                 return Err(t);
             }
         }
-        self.settle_taken(pass, set);
         Ok(())
     }
 
@@ -200,7 +215,7 @@ impl<K: TableKey + Drop, V: Drop> Words<K, V> {
         Ok(())
     }
 
-    /// Takes all stripes, and carries out the doublings that are left of them, as `lock` does.
+    /// Takes all stripes, as `lock` takes those of a set, with what is left of their doublings.
     pub fn lock_all(&self, pass: &mut Pass<K, V>) -> Result<(), u32>
         requires own { IsPassOf self.now pass.old }
         requires idle { IsIdle pass.old }
@@ -208,14 +223,11 @@ impl<K: TableKey + Drop, V: Drop> Words<K, V> {
         ensures stays { Stays pass.old.view pass.new.view }
         ensures whole { OnOk result (IsWhole K.hash self.now.settings pass.new) }
         ensures table { OnOk result (IsTable self.now.settings.s pass.new.stripes) }
-        ensures settled { OnOk result (AreSettled pass.new.stripes) }
         ensures found { FindsAmong (λ t. t < 2 ^ self.now.settings.s) pass.old pass.new }
         ensures busy { IfErr result (λ t. IsBusy self.now.settings t pass.old pass.new) }
         ensures asked { IfErr result (λ t. t < 2 ^ self.now.settings.s) }
     {
-        if let Err(t) = self.lock(pass, self.all()) {
-            return Err(t);
-        }
-        Ok(())
+        self.show_range();
+        self.take_set(pass, self.all())
     }
 }

@@ -1,9 +1,10 @@
 //! The end of a table.
-ghost use Rattle.std.specs.Prelude.{◌≡◌, ℕ, ◌+◌, ◌^◌, ◌≤◌, [], true, All, IfNone, IfSome, IfOk, IfErr, length, map, vec_capacity};
+ghost use Rattle.std.specs.Prelude.{◌≡◌, ℕ, ◌+◌, ◌^◌, ◌≤◌, [], All, IfNone, IfSome, IfOk, IfErr, length, map, vec_capacity};
 ghost use Rattle.ck_model.specs.Promise.{named};
 ghost use Rattle.std.specs.FinMap.{from_entries};
 ghost use Rattle.ck_model.specs.Contents.{NamesApart, pairs_of};
-ghost use Rattle.ck_stripe.specs.Stripes.{stripe_at, contents_of};
+ghost use Rattle.ck_stripe.specs.Stripes.{contents_of};
+ghost use Rattle.ck_stripe.specs.Tables.{AreSettled};
 ghost use Rattle.ck_model.specs.Counting.{counting};
 ghost use Rattle.ck_words.specs.Passes.{IsPassOf, IsIdle, ShowsSeen, numbers_of};
 ghost use Rattle.ck_words.specs.Retries.{Stays};
@@ -60,6 +61,7 @@ impl<K: TableKey + Drop, V: Drop> Words<K, V> {
         ensures stays { Stays pass.old.view pass.new.view }
         ensures idle { IfNone result (IsIdle pass.new) }
         ensures whole { IfSome result (λ _. IsWhole K.hash self.now.settings pass.new) }
+        ensures settled { IfSome result (λ _. AreSettled pass.new.stripes) }
         ensures empty { IfSome result (λ pairs. pairs.items ≡ []) }
         ensures room { IfSome result (λ pairs. length (pairs_of (contents_of pass.new.stripes)) + 4
             ≤ vec_capacity pairs) }
@@ -67,6 +69,7 @@ impl<K: TableKey + Drop, V: Drop> Words<K, V> {
         let Ok(()) = self.lock_all(pass) else {
             return None;
         };
+        self.settle_whole(pass);
         let s = self.settings().s;
         let mut guard = guard!(self, pass, self.all());
         // A bucket is poured where there is room for four more.
@@ -95,7 +98,7 @@ impl<K: TableKey + Drop, V: Drop> Words<K, V> {
     fn pour(&self, pass: Pass<K, V>, mut pairs: Vec<(K, V)>) -> Vec<(K, V)>
         requires own { IsPassOf self.now pass }
         requires numbered { numbers_of pass.stripes ≡ counting 0 (2 ^ self.now.settings.s) }
-        requires settled { (i : ℕ) → (stripe_at pass.stripes i).settled ≡ true }
+        requires settled { AreSettled pass.stripes }
         requires empty { pairs.items ≡ [] }
         requires room { length (pairs_of (contents_of pass.stripes)) + 4 ≤ vec_capacity pairs }
         ensures { map (named K.name) result.items ≡ pairs_of (contents_of pass.stripes) }

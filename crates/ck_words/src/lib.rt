@@ -1,5 +1,11 @@
 //! Lock words, the stripes in their slots, and the passes of callers, under the invariant of the
 //! core.
+//!
+//! Proved: every atomic step of every thread keeps the invariant, with some history. A committed
+//! call stands once in the history, after all that its caller had observed, and its pass holds
+//! nothing afterwards. Stripes are locked in ascending order, by a bounded number of attempts. An
+//! unlocked stripe owns exactly the memory of its buckets. A closed table gives the pairs that one
+//! legal history of all passes leaves.
 #![tactic(auto)]
 
 // The words and the slots, the passes, and the rule that they keep.

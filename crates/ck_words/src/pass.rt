@@ -4,9 +4,9 @@ use ck_key::TableKey;
 use ck_stripe::Stripe;
 use std::marker::Model;
 
-/// A caller's token. Contracts see what the caller knows, and the stripes that it holds. What says
-/// so has no bytes, so whoever holds stripes keeps their numbers; what has bytes is room for a list
-/// of all stripes, so that it takes no memory to lock the table.
+/// A caller's token. Contracts see what the caller knows, and the stripes that it holds. This
+/// ghost part takes no space, so whoever holds stripes keeps their numbers. The one real field
+/// reserves room for all stripes, so locking the table never allocates.
 ///
 /// It may go to another thread, and can't be cloned.
 #[derive(Drop)]

@@ -1,11 +1,12 @@
 //! Carrying out the doublings that are left of stripes that a pass holds.
 ghost use Rattle.std.specs.Prelude.{◌≡◌, ◌<◌, ◌≤◌, ◌^◌};
-ghost use Rattle.ck_stripe.specs.Tables.{AreHeld};
+ghost use Rattle.ck_stripe.specs.Tables.{AreHeld, IsTable, AreSettled};
 ghost use Rattle.ck_stripe.specs.Stripes.{settled_stripes};
 ghost use Rattle.ck_words.specs.Passes.{IsPassOf, IsUnchanged, numbers_of, PassState};
 ghost use Rattle.ck_words.specs.StripeNumbers.{pair};
 ghost use Rattle.ck_words.specs.StripeSets.{list_of};
 ghost use Rattle.ck_words.specs.Holding.{HoldsSet, HasTakenAll};
+ghost use Rattle.ck_words.specs.Closing.{IsWhole};
 
 use crate::guard;
 use crate::guard::Guard;
@@ -30,6 +31,21 @@ impl<K: TableKey + Drop, V: Drop> Words<K, V> {
     {
         self.show_range();
         self.settle(pass, set);
+    }
+
+    /// Carries out the doublings that are left of all stripes, which the pass holds as it took
+    /// them.
+    pub fn settle_whole(&self, pass: &mut Pass<K, V>)
+        requires own { IsPassOf self.now pass.old }
+        requires whole { IsWhole K.hash self.now.settings pass.old }
+        requires table { IsTable self.now.settings.s pass.old.stripes }
+        ensures own { IsPassOf self.now pass.new }
+        ensures view { pass.new.view ≡ pass.old.view }
+        ensures whole { IsWhole K.hash self.now.settings pass.new }
+        ensures table { IsTable self.now.settings.s pass.new.stripes }
+        ensures settled { AreSettled pass.new.stripes }
+    {
+        self.settle_each(pass, self.all());
     }
 
     // Carries out the doublings that are left of the stripes of a set. Mostly there is none.

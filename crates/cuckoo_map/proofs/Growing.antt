@@ -15,7 +15,7 @@ use Rattle.ck_stripe.specs.Stripes.{contents_of, settled_stripes}
 use Rattle.ck_stripe.specs.Tables.{AreAllHeld, AreSettled, IsTable, power_in, KeepsBindings}
 use Rattle.ck_section.specs.Doublings.{DoublesEach, Grows}
 use Rattle.ck_model.proofs.Identities.{identity_on}
-use Rattle.ck_section.proofs.Growing.{contents_settled, all_settled}
+use Rattle.ck_stripe.proofs.Settled.{contents_settled, all_settled}
 use Rattle.ck_section.proofs.Tables.{power_same}
 use Rattle.ck_core.specs.declared.view.View.{View}
 use Rattle.ck_words.specs.Words.{WordsState}

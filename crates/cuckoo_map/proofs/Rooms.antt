@@ -17,7 +17,7 @@ use Rattle.ck_section.specs.declared.entry.Entry.{Entry}
 use Rattle.ck_section.specs.Places.{IsPlaceOf}
 use Rattle.ck_section.specs.Entries.{IsEntryOf}
 use Rattle.ck_section.specs.Calls.{IsWithoutRoom}
-use Rattle.ck_stripe.specs.Tables.{AreAllHeld, AreSettled, IsTable, power_in, KeepsBindings}
+use Rattle.ck_stripe.specs.Tables.{IsTable, power_in, KeepsBindings}
 use Rattle.ck_section.specs.Room.{MakesRoom, GivesReason, GrowsForRoom}
 use Rattle.ck_core.specs.declared.view.View.{View}
 use Rattle.ck_words.specs.Words.{WordsState}
@@ -114,8 +114,8 @@ module _ {V : Type 0} where
     pub lawful_taken : Lawful k (contents_of p1.stripes)
     lawful_taken = subst (λ (x : Settings). Lawful (layout_of hash x) (contents_of p1.stripes)) (sym set_is) (lawful_held hash w.settings p1 whole)
 
-    pub all_there : AreSettled p1.stripes → IsTable w.settings.s p1.stripes → AreAllHeld set.s p1.stripes
-    all_there settled table = record { table = subst (λ (x : Settings). IsTable x.s p1.stripes) (sym set_is) table; settled = settled }
+    pub table_there : IsTable w.settings.s p1.stripes → IsTable set.s p1.stripes
+    table_there table = subst (λ (x : Settings). IsTable x.s p1.stripes) (sym set_is) table
 
     -- and are p2 since
     module _ (p2 : PassState V) (same : p2.view ≡ p1.view) (keeps : KeepsBindings k p1.stripes p2.stripes) where

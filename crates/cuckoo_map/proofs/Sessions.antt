@@ -34,7 +34,7 @@ use Rattle.ck_section.specs.Room.{MakesRoom, GivesReason, GrowsForRoom}
 use Rattle.ck_section.specs.Calls.{IsWithoutRoom, ChangesContents}
 use Rattle.ck_section.proofs.Decided.{IsCallOn}
 use Rattle.ck_stripe.proofs.Tables.{holds_at}
-use Rattle.ck_section.proofs.Growing.{all_settled, contents_settled}
+use Rattle.ck_stripe.proofs.Settled.{all_settled, contents_settled}
 use Rattle.ck_section.proofs.Kept.{table_after, settled_after, power_kept}
 use Rattle.ck_section.proofs.Tables.{power_shown, power_same}
 use Rattle.ck_section.specs.Clearing.{ClearsBindings}

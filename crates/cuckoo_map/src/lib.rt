@@ -1,31 +1,31 @@
 //! A concurrent cuckoo hash map: a map from keys to values that many threads call at once.
 //!
-//! A [`Table`] is opened with its [`Settings`] and comes with a [`Pass`] for each caller. Table and
-//! pass together are a [`Caller`], which makes the calls, and which may go to another thread. Keys
-//! are numbers ([`NumKey`], or [`MixedKey`] for numbers in steps), short texts ([`TextKey`]), two
-//! numbers ([`PairKey`]), a number with a text ([`NumTextKey`]), or a type with an `impl` of
-//! [`TableKey`]. A call that binds no new key takes a [`Query`] for it: `&key`, or for a text its bytes
-//! or a `&str`, so that no `TextKey` is made.
+//! [`Handle::open`] makes a table by its [`Settings`] and gives all its handles, one for each
+//! caller. A handle makes the calls, may go to another thread, and shares its table with the
+//! others. A [`Caller`] makes the same calls and borrows its [`Table`]. Keys are numbers
+//! ([`NumKey`], or [`MixedKey`] for numbers in steps), short texts ([`TextKey`]), two numbers
+//! ([`PairKey`]), a number with a text ([`NumTextKey`]), or a type with an `impl` of [`TableKey`].
+//! A call that binds no new key takes a [`Query`] for it: `&key`, or for a text its bytes or a
+//! `&str`, so that no `TextKey` is made.
 //!
 //! ```
-//! let (table, passes) = Table::<NumKey, u64>::open(alloc, settings)?;
-//! let mut callers = table.callers(alloc, passes)?;
-//! for caller in &mut callers {
-//!     caller.upsert(NumKey(7), |count| count.saturating_add(1), 1)?;
+//! let mut handles = Handle::<NumKey, u64>::open(alloc, Settings::for_keys(1_000, 4))?;
+//! for handle in &mut handles {
+//!     handle.upsert(NumKey(7), |count| count.saturating_add(1), 1)?;
 //! }
 //! ```
 //!
-//! Threads that aren't known when the table is opened borrow callers of a [`Pool`].
+//! Threads that aren't known when the table is opened borrow handles of a [`Pool`].
 //!
-//! Each answered call takes effect once, at one moment, in one legal sequential history of a plain
-//! map, with the reply that the map gives there. A call that finds a stripe held too often is
-//! refused as [`Busy`], and an insertion for which there is no room as [`Refused`]. Neither changes
-//! a binding. A refused insertion hands back the key with the value or the closure that was to make
-//! it, a refused update the value; any other closure is dropped.
+//! Each completed call stands once in one legal sequential history of a plain map, with the result
+//! that the map gives there, after all that its caller had observed. A call that finds a stripe
+//! held too often is refused as [`Busy`], and an insertion for which there is no free slot as
+//! [`Refused`]. Neither changes a binding. A refused insertion hands back the key with the value
+//! or the closure that was to make it, a refused update the value; any other closure is dropped.
 //!
-//! An entry is in one of the two buckets of its key (Pagh and Rodler 2004, "Cuckoo Hashing"), and a
-//! bucket has four slots (Dietzfelbinger and Weidling 2007). Striped locks guard the buckets (Li,
-//! Andersen, Kaminsky, Freedman 2014, "Algorithmic Improvements for Fast Concurrent Cuckoo
+//! An entry is in one of the two buckets of its key (Pagh and Rodler 2004, "Cuckoo Hashing"), and
+//! a bucket has four slots (Dietzfelbinger and Weidling 2007). Striped locks guard the buckets
+//! (Li, Andersen, Kaminsky, Freedman 2014, "Algorithmic Improvements for Fast Concurrent Cuckoo
 //! Hashing"), and entries are displaced under two of them at a time. Where that makes no room, the
 //! number of buckets doubles, under all locks.
 //!

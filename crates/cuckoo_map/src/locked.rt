@@ -90,7 +90,10 @@ impl<K: TableKey + Drop, V: Drop> Table<K, V> {
     {
         let mut pass = pass;
         match self.lock_all(&mut pass) {
-            Ok(()) => Ok(self.words.lift(pass)),
+            Ok(()) => {
+                self.words.settle_whole(&mut pass);
+                Ok(self.words.lift(pass))
+            }
             Err(busy) => Err((pass, busy)),
         }
     }

@@ -1,6 +1,6 @@
 //! Locking stripes: those of a key, of two keys, or all.
 ghost use Rattle.std.specs.Prelude.{◌≡◌, OnOk, OnErr, IfOk, IfErr};
-ghost use Rattle.ck_stripe.specs.Tables.{AreHeld, IsTable, AreSettled};
+ghost use Rattle.ck_stripe.specs.Tables.{AreHeld, IsTable};
 ghost use Rattle.ck_words.specs.Passes.{PassState, IsPassOf, IsIdle, numbers_of};
 ghost use Rattle.ck_words.specs.StripeSets.{list_of};
 ghost use Rattle.ck_words.specs.Holding.{HasTakenAll};
@@ -137,14 +137,13 @@ impl<K: TableKey + Drop, V: Drop> Table<K, V> {
         })
     }
 
-    // Takes all stripes, and carries out the doublings that are left of them.
+    // Takes all stripes, with what is left of their doublings.
     pub(crate) fn lock_all(&self, pass: &mut Pass<K, V>) -> Result<(), Busy>
         requires caller { IsCaller self.now pass.old }
         ensures own { IsPassOf self.now pass.new }
         ensures stays { Stays pass.old.view pass.new.view }
         ensures whole { OnOk result (IsWhole K.hash self.now.settings pass.new) }
         ensures table { OnOk result (IsTable self.now.settings.s pass.new.stripes) }
-        ensures settled { OnOk result (AreSettled pass.new.stripes) }
         ensures found { FindsAmong (IsStripeIn self.now.settings) pass.old pass.new }
         ensures idle { OnErr result (IsIdle pass.new) }
         ensures busy { IfErr result (λ busy. IsBusyAmong (IsStripeIn self.now.settings)

@@ -4,7 +4,7 @@ ghost use Rattle.ck_model.specs.Contents.{layout_of, Lawful};
 ghost use Rattle.ck_model.specs.Paths.{Grounds, reason_of_lack};
 ghost use Rattle.ck_model.specs.Counting.{counting};
 ghost use Rattle.ck_stripe.specs.Stripes.{contents_of, HaveNoSpare};
-ghost use Rattle.ck_stripe.specs.Tables.{IsTable, AreSettled};
+ghost use Rattle.ck_stripe.specs.Tables.{IsTable};
 ghost use Rattle.ck_words.specs.Passes.{IsPassOf, IsIdle, numbers_of};
 ghost use Rattle.ck_words.specs.Retries.{FindsAmong};
 ghost use Rattle.ck_words.specs.Renewing.{HasRenewed};
@@ -53,7 +53,6 @@ impl<K: TableKey + Drop, V: Drop> Table<K, V> {
         requires own { IsPassOf self.now pass.old }
         requires whole { IsWhole K.hash self.now.settings pass.old }
         requires table { IsTable self.now.settings.s pass.old.stripes }
-        requires settled { AreSettled pass.old.stripes }
         ensures own { IsPassOf self.now pass.new }
         ensures view { pass.new.view ≡ pass.old.view }
         ensures numbered { numbers_of pass.new.stripes ≡ counting 0 (2 ^ self.now.settings.s) }

@@ -14,7 +14,7 @@ use Rattle.ck_section.proofs.room.make_room.Goals as goal
 pub loop-hash-init : goal.loop-hash-init
 loop-hash-init g c =
     let old : List (StripeState g.row.V.Denot) = g.H.Held.stripes c.args.held.now in
-    let table = c.requires.held.table in
+    let table = c.requires.table in
     record {
       table = table;
       rising = omega arith;
@@ -43,7 +43,7 @@ loop-hash-preserved g c =
       table = c.in_ok-grow.ensures.table;
       rising = omega arith;
       grown = λ lawful.
-          grown_more hash s max c.args.min_load q old cur mid new c.requires.held.table known.table before lawful (known.grown lawful) stuck.same level c.in_ok-grow.ensures.may
+          grown_more hash s max c.args.min_load q old cur mid new c.requires.table known.table before lawful (known.grown lawful) stuck.same level c.in_ok-grow.ensures.may
           (stuck_in hash s max c.args.min_load q mid stuck.table stuck.no_room stuck.no_path) c.in_ok-grow.ensures.grown next;
       stays = on _ _ _ known.stays (on _ _ _ c.room_by_hops.ensures.stays c.grow.ensures.stays);
     }

@@ -5,7 +5,7 @@ use Rattle.ck_model.specs.Sections.{IdentitySection}
 use Rattle.ck_stripe.specs.Stripe.{StripeState}
 use Rattle.ck_stripe.specs.Stripes.{contents_of}
 use Rattle.ck_stripe.specs.Tables.{AreAllHeld}
-use Rattle.ck_section.proofs.Growing.{all_settled, contents_settled}
+use Rattle.ck_stripe.proofs.Settled.{all_settled, contents_settled}
 use Rattle.ck_section.proofs.Tables.{false_maps}
 use Rattle.ck_section.proofs.room.room_by_hops.Given.{Over}
 use Rattle.ck_section.proofs.room.room_by_hops.Goals as goal

@@ -7,7 +7,8 @@ use Rattle.ck_stripe.specs.Stripes.{contents_of}
 use Rattle.ck_section.specs.Places.{IsPlaceOf}
 use Rattle.ck_stripe.specs.Tables.{IsTable, power_in}
 use Rattle.ck_section.specs.Room.{settled_at}
-use Rattle.ck_section.proofs.Growing.{table_alike, alike_settled_at, both_table, both_contents, both_power, both_place}
+use Rattle.ck_stripe.proofs.Settled.{table_alike}
+use Rattle.ck_section.proofs.Growing.{alike_settled_at, both_table, both_contents, both_power, both_place}
 use Rattle.ck_section.proofs.Tables.{second_by, stripe_inside}
 use Rattle.ck_section.proofs.room.settled_place.Given.{Over}
 use Rattle.ck_section.proofs.room.settled_place.Goals as goal

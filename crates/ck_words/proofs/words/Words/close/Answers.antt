@@ -1,4 +1,4 @@
-use Rattle.std.proofs.Common.{sym, ap, ◌∙◌, subst, List, map, arith, All, Some, refl, length, ◌++◌, ◌∷◌, [], true, ◌≡◌, ◌+◌, ◌≤◌, vec_capacity}
+use Rattle.std.proofs.Common.{sym, ap, ◌∙◌, subst, List, map, arith, All, Some, refl, length, ◌++◌, ◌∷◌, [], ◌+◌, ◌≤◌, vec_capacity}
 use Rattle.std.proofs.lemmas.List.Elements.{All-pop}
 use Rattle.std.specs.FinMap.{from_entries}
 use Rattle.ck_model.specs.Promise.{named}
@@ -7,7 +7,8 @@ use Rattle.ck_words.specs.Words.{WordsState}
 use Rattle.ck_words.specs.Passes.{PassState, numbers_of}
 use Rattle.ck_words.specs.Closing.{IsCaller, AreAllPasses, EachStays, Closes}
 use Rattle.ck_words.proofs.Ending.{some_pass, all_back, each_stays, pairs_distinct, closes}
-use Rattle.ck_stripe.specs.Stripes.{stripe_at, contents_of}
+use Rattle.ck_stripe.specs.Stripes.{contents_of}
+use Rattle.ck_stripe.specs.Tables.{AreSettled}
 use Rattle.ck_model.specs.Contents.{pairs_of}
 use Rattle.ck_stripe.specs.Stripe.{StripeState}
 use Rattle.ck_words.proofs.words.Words.close.Goals as goal
@@ -72,7 +73,7 @@ pub pour-requires-clause-empty : goal.pour-requires-clause-empty
 pour-requires-clause-empty g c = c.in-Some-hold_with_room.ensures.empty
 
 pub pour-requires-clause-settled : goal.pour-requires-clause-settled
-pour-requires-clause-settled g c = subst (λ (l : List (StripeState g.row.V.Denot)). (i : _) → (stripe_at l i).settled ≡ true) (sym c.gather_all.ensures.stripes) c.in-Some-hold_with_room.ensures.whole.settled
+pour-requires-clause-settled g c = subst (λ (l : List (StripeState g.row.V.Denot)). AreSettled l) (sym c.gather_all.ensures.stripes) c.in-Some-hold_with_room.ensures.settled
 
 pub pour-requires-clause-room : goal.pour-requires-clause-room
 pour-requires-clause-room g c = subst (λ (l : List (StripeState g.row.V.Denot)). length (pairs_of (contents_of l)) + 4 ≤ vec_capacity c.in-Some-hold_with_room.pairs) (sym c.gather_all.ensures.stripes) c.in-Some-hold_with_room.ensures.room

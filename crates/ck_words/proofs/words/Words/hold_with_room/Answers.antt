@@ -1,4 +1,4 @@
-use Rattle.std.proofs.Common.{rules, ◌≡◌, sym, subst}
+use Rattle.std.proofs.Common.{rules, ◌≡◌, ◌∙◌, sym, subst}
 use Rattle.ck_core.specs.declared.view.View.{View}
 use Rattle.ck_words.specs.Passes.{PassState}
 use Rattle.ck_words.specs.Retries.{Stays}
@@ -10,20 +10,20 @@ pub returns-in_default-with_capacity-clause-stays : goal.returns-in_default-with
 returns-in_default-with_capacity-clause-stays g c =
     let h = c.lock_all.new.pass in
     let r = c.release.new.self.pass.now in
-    let view : c.len.new.held.pass.now.view ≡ h.view = c.len.ensures.stays.1 in
+    let view : c.len.new.held.pass.now.view ≡ h.view = c.len.ensures.stays.1 ∙ c.settle_whole.ensures.view in
     let there : r ≡ c.pass-in_default-with_capacity-1.given.0 = search rules in
     rw (← there) (stays_on c.args.pass.now.view h.view r.view c.lock_all.ensures.stays (subst (λ (v : View g.row.V.Denot). Stays v r.view) view c.release.ensures.released.stays))
 
 pub returns-clause-stays : goal.returns-clause-stays
 returns-clause-stays g c =
-    let view : c.len.new.held.pass.now.view ≡ c.lock_all.new.pass.view = c.len.ensures.stays.1 in
+    let view : c.len.new.held.pass.now.view ≡ c.lock_all.new.pass.view = c.len.ensures.stays.1 ∙ c.settle_whole.ensures.view in
     let there : c.len.new.held.pass.now ≡ c.in-Ok-with_capacity.pass-1-own.given.0 = search rules in
     rw (← there) (subst (λ (v : View g.row.V.Denot). Stays c.args.pass.now.view v) (sym view) c.lock_all.ensures.stays)
 
 pub returns-clause-whole : goal.returns-clause-whole
 returns-clause-whole g c =
-    let p : PassState g.row.V.Denot = c.lock_all.new.pass in
+    let p : PassState g.row.V.Denot = c.settle_whole.new.pass in
     let q : PassState g.row.V.Denot = c.len.new.held.pass.now in
     let same : p ≡ q = λ i. record { table = sym c.len.ensures.stays.2 i; view = sym c.len.ensures.stays.1 i; stripes = sym c.len.ensures.same i } in
     let there : q ≡ c.in-Ok-with_capacity.pass-1-own.given.0 = search rules in
-    rw (← there) (subst (λ (x : PassState g.row.V.Denot). IsWhole g.K.TableKey.hash c.args.self.now.settings x) same c.in-Ok.ensures.whole)
+    rw (← there) (subst (λ (x : PassState g.row.V.Denot). IsWhole g.K.TableKey.hash c.args.self.now.settings x) same c.settle_whole.ensures.whole)

@@ -1,6 +1,6 @@
 use Rattle.std.proofs.Common.{◌≡◌, ◌*◌, ◌^◌, ◌≤◌}
 use Rattle.ck_stripe.proofs.Totals.{entries_to}
-use Rattle.ck_stripe.proofs.several.len.Given as goal
+use Rattle.ck_stripe.proofs.several.count.Given as goal
 
 abbrev pub invariant-loop-i : goal.invariant-loop-i
 invariant-loop-i g l = record {
