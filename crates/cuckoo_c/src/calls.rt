@@ -10,28 +10,29 @@ ghost use Rattle.cuckoo_c.specs.Codes.{TellsBound, TellsValue, TellsFresh, Tells
 ghost use Rattle.cuckoo_c.specs.Handles.{Calls, AddsTo, Swaps, CountLeaves, CapacityLeaves, GrowthLeaves};
 
 use crate::code::Code;
-use crate::owned::Owned;
+use ck_owned::{Holds, put, take};
 use cuckoo_map::{Busy, Handle, Query, Refused, TableKey};
 use std::alloc::Global;
 
 /// The value of the key.
 #[inline(always)]
-pub fn find<K: TableKey + Drop, Q: Query<K>>(
+pub fn find<K: TableKey + Drop, P: Holds<Handle<K, u64>>, Q: Query<K>>(
     alloc: Global,
-    place: &mut Owned<Handle<K, u64>>,
+    place: &mut P,
     key: Q,
     value: &mut u64,
 ) -> Code
-    ensures { Calls (λ c d. (r : Result (Option ℕ) Busy)
+    ensures called { Calls (λ c d. (r : Result (Option ℕ) Busy)
         × QueryLeaves Finds K.hash (Q.name key) r c d × TellsValue r result value.old value.new)
-        place.old.held place.new.held result }
-    ensures closed { place.old.held ≡ None → value.new ≡ value.old }
+        (P.held place.old) (P.held place.new) result }
+    ensures same { P.held place.old ≡ None → value.new ≡ value.old }
 {
-    let Some(mut handle) = place.take(alloc) else {
+    let Some(handle) = take(place, alloc) else {
         return Code::Closed;
     };
+    let mut handle = handle;
     let found = handle.find(key);
-    *place = Owned::of(handle);
+    put(place, alloc, handle);
     told(found, value)
 }
 
@@ -52,20 +53,21 @@ fn told(found: Result<Option<u64>, Busy>, value: &mut u64) -> Code
 
 /// Whether the key is bound.
 #[inline(always)]
-pub fn contains<K: TableKey + Drop, Q: Query<K>>(
+pub fn contains<K: TableKey + Drop, P: Holds<Handle<K, u64>>, Q: Query<K>>(
     alloc: Global,
-    place: &mut Owned<Handle<K, u64>>,
+    place: &mut P,
     key: Q,
 ) -> Code
-    ensures { Calls (λ c d. (r : Result Bool Busy)
+    ensures called { Calls (λ c d. (r : Result Bool Busy)
         × QueryLeaves FindsBound K.hash (Q.name key) r c d × TellsBound r result)
-        place.old.held place.new.held result }
+        (P.held place.old) (P.held place.new) result }
 {
-    let Some(mut handle) = place.take(alloc) else {
+    let Some(handle) = take(place, alloc) else {
         return Code::Closed;
     };
+    let mut handle = handle;
     let bound = handle.contains(key);
-    *place = Owned::of(handle);
+    put(place, alloc, handle);
     match bound {
         Ok(true) => Code::Done,
         Ok(false) => Code::Absent,
@@ -75,22 +77,23 @@ pub fn contains<K: TableKey + Drop, Q: Query<K>>(
 
 /// Binds the key to the value where it is unbound.
 #[inline(always)]
-pub fn insert<K: TableKey + Drop>(
+pub fn insert<K: TableKey + Drop, P: Holds<Handle<K, u64>>>(
     alloc: Global,
-    place: &mut Owned<Handle<K, u64>>,
+    place: &mut P,
     key: K,
     value: u64,
 ) -> Code
-    ensures { Calls (λ c d. (r : Result Bool (Refused K ℕ))
+    ensures called { Calls (λ c d. (r : Result Bool (Refused K ℕ))
         × InsertionLeaves (Inserts value) K.hash (K.name key) key value r c d
         × TellsFresh r result)
-        place.old.held place.new.held result }
+        (P.held place.old) (P.held place.new) result }
 {
-    let Some(mut handle) = place.take(alloc) else {
+    let Some(handle) = take(place, alloc) else {
         return Code::Closed;
     };
+    let mut handle = handle;
     let fresh = handle.insert(key, value);
-    *place = Owned::of(handle);
+    put(place, alloc, handle);
     fresh_code(fresh)
 }
 
@@ -108,24 +111,25 @@ fn fresh_code<K: Drop>(fresh: Result<bool, Refused<K, u64>>) -> Code
 
 /// Binds the key to the value, and tells the value that it had.
 #[inline(always)]
-pub fn assign<K: TableKey + Drop>(
+pub fn assign<K: TableKey + Drop, P: Holds<Handle<K, u64>>>(
     alloc: Global,
-    place: &mut Owned<Handle<K, u64>>,
+    place: &mut P,
     key: K,
     value: u64,
     old: &mut u64,
 ) -> Code
-    ensures { Calls (λ c d. (r : Result (Option ℕ) (Refused K ℕ))
+    ensures called { Calls (λ c d. (r : Result (Option ℕ) (Refused K ℕ))
         × InsertionLeaves (Assigns value) K.hash (K.name key) key value r c d
         × TellsOld r result old.old old.new)
-        place.old.held place.new.held result }
-    ensures closed { place.old.held ≡ None → old.new ≡ old.old }
+        (P.held place.old) (P.held place.new) result }
+    ensures same { P.held place.old ≡ None → old.new ≡ old.old }
 {
-    let Some(mut handle) = place.take(alloc) else {
+    let Some(handle) = take(place, alloc) else {
         return Code::Closed;
     };
+    let mut handle = handle;
     let assigned = handle.insert_or_assign(key, value);
-    *place = Owned::of(handle);
+    put(place, alloc, handle);
     match assigned {
         Ok(None) => Code::Done,
         Ok(Some(v)) => {
@@ -139,45 +143,47 @@ pub fn assign<K: TableKey + Drop>(
 /// Adds to the value of the key, up to the greatest number; an unbound key is bound to what is
 /// added.
 #[inline(always)]
-pub fn add<K: TableKey + Drop>(
+pub fn add<K: TableKey + Drop, P: Holds<Handle<K, u64>>>(
     alloc: Global,
-    place: &mut Owned<Handle<K, u64>>,
+    place: &mut P,
     key: K,
     more: u64,
 ) -> Code
-    ensures { Calls (λ c d. (r : Result Bool (Refused K ℕ))
+    ensures called { Calls (λ c d. (r : Result Bool (Refused K ℕ))
         × InsertionLeaves (Upserts (AddsTo more) more) K.hash (K.name key) key more r c d
         × TellsFresh r result)
-        place.old.held place.new.held result }
+        (P.held place.old) (P.held place.new) result }
 {
-    let Some(mut handle) = place.take(alloc) else {
+    let Some(handle) = take(place, alloc) else {
         return Code::Closed;
     };
+    let mut handle = handle;
     let fresh = handle.upsert(key, |value: u64| value.saturating_add(more), more);
-    *place = Owned::of(handle);
+    put(place, alloc, handle);
     fresh_code(fresh)
 }
 
 /// Binds a bound key to the value, and tells the one that it had.
 #[inline(always)]
-pub fn update<K: TableKey + Drop, Q: Query<K>>(
+pub fn update<K: TableKey + Drop, P: Holds<Handle<K, u64>>, Q: Query<K>>(
     alloc: Global,
-    place: &mut Owned<Handle<K, u64>>,
+    place: &mut P,
     key: Q,
     value: u64,
     old: &mut u64,
 ) -> Code
-    ensures { Calls (λ c d. (r : Result (Option ℕ) Busy)
+    ensures called { Calls (λ c d. (r : Result (Option ℕ) Busy)
         × QueryLeaves (Updates value) K.hash (Q.name key) r c d
         × TellsValue r result old.old old.new)
-        place.old.held place.new.held result }
-    ensures closed { place.old.held ≡ None → old.new ≡ old.old }
+        (P.held place.old) (P.held place.new) result }
+    ensures same { P.held place.old ≡ None → old.new ≡ old.old }
 {
-    let Some(mut handle) = place.take(alloc) else {
+    let Some(handle) = take(place, alloc) else {
         return Code::Closed;
     };
+    let mut handle = handle;
     let updated = handle.update(key, value);
-    *place = Owned::of(handle);
+    put(place, alloc, handle);
     match updated {
         Ok(was) => told(Ok(was), old),
         Err((_, busy)) => told(Err(busy), old),
@@ -186,25 +192,26 @@ pub fn update<K: TableKey + Drop, Q: Query<K>>(
 
 /// Binds a key that is bound to `from` to `to` in its place, and tells the value that it had.
 #[inline(always)]
-pub fn swap_if<K: TableKey + Drop, Q: Query<K>>(
+pub fn swap_if<K: TableKey + Drop, P: Holds<Handle<K, u64>>, Q: Query<K>>(
     alloc: Global,
-    place: &mut Owned<Handle<K, u64>>,
+    place: &mut P,
     key: Q,
     from: u64,
     to: u64,
     seen: &mut u64,
 ) -> Code
-    ensures { Calls (λ c d. (r : Result (Option ℕ) Busy)
+    ensures called { Calls (λ c d. (r : Result (Option ℕ) Busy)
         × QueryLeaves (Modifies (Swaps from to)) K.hash (Q.name key) r c d
         × TellsSeen from r result seen.old seen.new)
-        place.old.held place.new.held result }
-    ensures closed { place.old.held ≡ None → seen.new ≡ seen.old }
+        (P.held place.old) (P.held place.new) result }
+    ensures same { P.held place.old ≡ None → seen.new ≡ seen.old }
 {
-    let Some(mut handle) = place.take(alloc) else {
+    let Some(handle) = take(place, alloc) else {
         return Code::Closed;
     };
+    let mut handle = handle;
     let had = handle.modify(key, |value: u64| (if value == from { to } else { value }, value));
-    *place = Owned::of(handle);
+    put(place, alloc, handle);
     match had {
         Ok(Some(value)) => {
             *seen = value;
@@ -221,44 +228,46 @@ pub fn swap_if<K: TableKey + Drop, Q: Query<K>>(
 
 /// Unbinds the key, and tells the value that it had.
 #[inline(always)]
-pub fn erase<K: TableKey + Drop, Q: Query<K>>(
+pub fn erase<K: TableKey + Drop, P: Holds<Handle<K, u64>>, Q: Query<K>>(
     alloc: Global,
-    place: &mut Owned<Handle<K, u64>>,
+    place: &mut P,
     key: Q,
     value: &mut u64,
 ) -> Code
-    ensures { Calls (λ c d. (r : Result (Option ℕ) Busy)
+    ensures called { Calls (λ c d. (r : Result (Option ℕ) Busy)
         × QueryLeaves Erases K.hash (Q.name key) r c d
         × TellsValue r result value.old value.new)
-        place.old.held place.new.held result }
-    ensures closed { place.old.held ≡ None → value.new ≡ value.old }
+        (P.held place.old) (P.held place.new) result }
+    ensures same { P.held place.old ≡ None → value.new ≡ value.old }
 {
-    let Some(mut handle) = place.take(alloc) else {
+    let Some(handle) = take(place, alloc) else {
         return Code::Closed;
     };
+    let mut handle = handle;
     let erased = handle.erase(key);
-    *place = Owned::of(handle);
+    put(place, alloc, handle);
     told(erased, value)
 }
 
 /// Unbinds a key that is bound to this value.
 #[inline(always)]
-pub fn erase_if<K: TableKey + Drop, Q: Query<K>>(
+pub fn erase_if<K: TableKey + Drop, P: Holds<Handle<K, u64>>, Q: Query<K>>(
     alloc: Global,
-    place: &mut Owned<Handle<K, u64>>,
+    place: &mut P,
     key: Q,
     value: u64,
 ) -> Code
-    ensures { Calls (λ c d. (r : Result (Option Bool) Busy)
+    ensures called { Calls (λ c d. (r : Result (Option Bool) Busy)
         × QueryLeaves (ErasesBy (λ v gone. gone ≡ nat_eq v value)) K.hash (Q.name key) r c d
         × TellsMatch r result)
-        place.old.held place.new.held result }
+        (P.held place.old) (P.held place.new) result }
 {
-    let Some(mut handle) = place.take(alloc) else {
+    let Some(handle) = take(place, alloc) else {
         return Code::Closed;
     };
+    let mut handle = handle;
     let erased = handle.erase_fn(key, |v: &u64| *v == value);
-    *place = Owned::of(handle);
+    put(place, alloc, handle);
     match erased {
         Ok(Some(true)) => Code::Done,
         Ok(Some(false)) => Code::Different,
@@ -268,21 +277,22 @@ pub fn erase_if<K: TableKey + Drop, Q: Query<K>>(
 }
 
 /// How many keys are bound.
-pub fn len<K: TableKey + Drop>(
+pub fn len<K: TableKey + Drop, P: Holds<Handle<K, u64>>>(
     alloc: Global,
-    place: &mut Owned<Handle<K, u64>>,
+    place: &mut P,
     count: &mut u64,
 ) -> Code
-    ensures { Calls (λ c d. (r : Result ℕ Busy) × CountLeaves r c d
+    ensures called { Calls (λ c d. (r : Result ℕ Busy) × CountLeaves r c d
         × TellsCount r result count.old count.new)
-        place.old.held place.new.held result }
-    ensures closed { place.old.held ≡ None → count.new ≡ count.old }
+        (P.held place.old) (P.held place.new) result }
+    ensures same { P.held place.old ≡ None → count.new ≡ count.old }
 {
-    let Some(mut handle) = place.take(alloc) else {
+    let Some(handle) = take(place, alloc) else {
         return Code::Closed;
     };
+    let mut handle = handle;
     let len = handle.len();
-    *place = Owned::of(handle);
+    put(place, alloc, handle);
     counted(len, count)
 }
 
@@ -300,39 +310,41 @@ fn counted(len: Result<u64, Busy>, count: &mut u64) -> Code
 }
 
 /// How many slots the table has.
-pub fn capacity<K: TableKey + Drop>(
+pub fn capacity<K: TableKey + Drop, P: Holds<Handle<K, u64>>>(
     alloc: Global,
-    place: &mut Owned<Handle<K, u64>>,
+    place: &mut P,
     slots: &mut u64,
 ) -> Code
-    ensures { Calls (λ c d. (r : Result ℕ Busy) × CapacityLeaves r c d
+    ensures called { Calls (λ c d. (r : Result ℕ Busy) × CapacityLeaves r c d
         × TellsCount r result slots.old slots.new)
-        place.old.held place.new.held result }
-    ensures closed { place.old.held ≡ None → slots.new ≡ slots.old }
+        (P.held place.old) (P.held place.new) result }
+    ensures same { P.held place.old ≡ None → slots.new ≡ slots.old }
 {
-    let Some(mut handle) = place.take(alloc) else {
+    let Some(handle) = take(place, alloc) else {
         return Code::Closed;
     };
+    let mut handle = handle;
     let capacity = handle.capacity();
-    *place = Owned::of(handle);
+    put(place, alloc, handle);
     counted(capacity, slots)
 }
 
 /// Doubles the table until it has so many slots.
-pub fn reserve<K: TableKey + Drop>(
+pub fn reserve<K: TableKey + Drop, P: Holds<Handle<K, u64>>>(
     alloc: Global,
-    place: &mut Owned<Handle<K, u64>>,
+    place: &mut P,
     slots: u64,
 ) -> Code
-    ensures { Calls (λ c d. (r : Result Bool GrowFault) × GrowthLeaves slots r c d
+    ensures called { Calls (λ c d. (r : Result Bool GrowFault) × GrowthLeaves slots r c d
         × TellsGrown r result)
-        place.old.held place.new.held result }
+        (P.held place.old) (P.held place.new) result }
 {
-    let Some(mut handle) = place.take(alloc) else {
+    let Some(handle) = take(place, alloc) else {
         return Code::Closed;
     };
+    let mut handle = handle;
     let grown = handle.reserve(slots);
-    *place = Owned::of(handle);
+    put(place, alloc, handle);
     match grown {
         Ok(true) => Code::Done,
         Ok(false) => Code::Enough,

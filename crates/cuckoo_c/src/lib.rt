@@ -9,15 +9,13 @@
 //! calls that were refused as busy.
 #![tactic(auto)]
 
-// The handle, and what C is told.
+// What C is told, and what it holds.
 mod code;
-mod owned;
-mod settings;
-mod spinning;
+mod handles;
+mod keys;
 
 // What each call does, once for all types of keys.
 mod calls;
 
 // The calls, for each type of keys.
 mod numbers;
-mod texts;

@@ -1,0 +1,76 @@
+//! A box, or none, as a pointer, and what C may hold of it.
+#![tactic(auto)]
+
+ghost use Rattle.std.specs.Prelude.{◌≡◌};
+ghost use Rattle.std.specs.Option.{MatchOption};
+ghost use Rattle.std.specs.Coded.{coded_option};
+ghost use Rattle.std.specs.declared.option.Option.{Option as Maybe};
+ghost use Rattle.std.specs.declared.option.Option.TheVariants.{None, Some};
+ghost use Rattle.ck_owned.specs.Place.{place_owns};
+
+use std::alloc::Global;
+use std::marker::Model;
+use std::ptr::null_mut;
+
+/// Null, or the place of a box.
+pub struct Owned<T> {
+    pub at: *mut T,
+    pub ghost held: { Maybe T } by { coded_option T.code },
+}
+
+impl<T> Model for Owned<T> {
+    ghost also_owns = { λ h. place_owns T.row h.at h.held };
+}
+
+impl<T> Owned<T> {
+    pub fn empty() -> Owned<T>
+        ensures { result.held ≡ None }
+    {
+        Owned { at: null_mut() }
+    }
+
+    pub fn of(value: Box<T, Global>) -> Owned<T>
+    where
+        T: Drop,
+        ensures { result.held ≡ Some value.value }
+    {
+        Owned {
+            at: Box::into_raw(value),
+        }
+    }
+
+    pub fn into_box(self, alloc: Global) -> Option<Box<T, Global>>
+        ensures { MatchOption result (self.held ≡ None) (λ b. self.held ≡ Some b.value) }
+    {
+        let Owned { at } = self;
+        if at.is_null() {
+            return None;
+        }
+        Some(unsafe { Box::from_raw(alloc, at) })
+    }
+}
+
+/// A handle: what C holds, which leads to a box or to none.
+pub trait Holds<T> {
+    ghost held: { Self → Maybe T };
+
+    /// Puts `new` in the place, and hands out what was there.
+    fn exchange(&mut self, new: Owned<T>) -> Owned<T>
+        ensures was { result.held ≡ held self.old }
+        ensures is { held self.new ≡ new.held };
+}
+
+/// Takes what is there.
+pub fn take<H: Holds<T>, T>(handle: &mut H, alloc: Global) -> Option<Box<T, Global>>
+    ensures taken { MatchOption result (H.held handle.old ≡ None) (λ b. H.held handle.old ≡ Some b.value) }
+    ensures left { H.held handle.new ≡ None }
+{
+    handle.exchange(Owned::empty()).into_box(alloc)
+}
+
+/// Puts a value there, and ends what was.
+pub fn put<H: Holds<T>, T: Drop>(handle: &mut H, alloc: Global, value: Box<T, Global>)
+    ensures { H.held handle.new ≡ Some value.value }
+{
+    drop(handle.exchange(Owned::of(value)).into_box(alloc));
+}
