@@ -1,1 +1,2 @@
 pub mod Payloads
+mod Through

@@ -15,6 +15,10 @@ Calls P None now code = (now ≡ None) × (code ≡ codes.Closed)
 abbrev pub AddsTo : ℕ → ℕ → ℕ → Type 0
 AddsTo more v w = w ≡ min (v + more) (2 ^ 64 - 1)
 
+-- the value becomes this, and the one that it was is told
+abbrev pub Replaces : ℕ → ℕ → ℕ × ℕ → Type 0
+Replaces value v answer = (answer.0 ≡ value) × (answer.1 ≡ v)
+
 -- the value becomes `to` where it is `from`, and it is told
 abbrev pub Swaps : ℕ → ℕ → ℕ → ℕ × ℕ → Type 0
 Swaps from to v answer = (answer.0 ≡ if nat_eq v from then to else v) × (answer.1 ≡ v)

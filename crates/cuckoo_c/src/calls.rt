@@ -1,17 +1,17 @@
 //! What each call does through a handle, once for all types of keys.
 ghost use Rattle.std.specs.Prelude.{◌≡◌, ℕ, Bool, Option, None, Result, nat_eq};
-ghost use Rattle.ck_section.specs.Acts.{Finds, FindsBound, Inserts, Assigns, Upserts, Updates, Modifies, ErasesBy, Erases};
+ghost use Rattle.ck_section.specs.Acts.{Finds, FindsBound, Inserts, Assigns, Upserts, Modifies, ErasesBy, Erases};
 ghost use Rattle.cuckoo_map.specs.declared.refusal.Busy.{Busy};
 ghost use Rattle.cuckoo_map.specs.declared.refusal.GrowFault.{GrowFault};
 ghost use Rattle.cuckoo_map.specs.declared.refusal.Refused.{Refused};
 ghost use Rattle.cuckoo_map.specs.Callers.{CallerState, QueryLeaves, InsertionLeaves};
 ghost use Rattle.cuckoo_c.specs.declared.code.Code.TheVariants as codes;
 ghost use Rattle.cuckoo_c.specs.Codes.{TellsBound, TellsValue, TellsFresh, TellsOld, TellsSeen, TellsMatch, TellsCount, TellsGrown};
-ghost use Rattle.cuckoo_c.specs.Handles.{Calls, AddsTo, Swaps, CountLeaves, CapacityLeaves, GrowthLeaves};
+ghost use Rattle.cuckoo_c.specs.Handles.{Calls, AddsTo, Replaces, Swaps, CountLeaves, CapacityLeaves, GrowthLeaves};
 
 use crate::code::Code;
 use ck_owned::{Holds, put, take};
-use cuckoo_map::{Busy, Handle, Query, Refused, TableKey};
+use cuckoo_map::{Busy, GrowFault, Handle, Query, Refused, TableKey};
 use std::alloc::Global;
 
 /// The value of the key.
@@ -160,7 +160,11 @@ pub fn add<K: TableKey + Drop, P: Holds<Handle<K, u64>>>(
     let mut handle = handle;
     let fresh = handle.upsert(key, |value: u64| value.saturating_add(more), more);
     put(place, alloc, handle);
-    fresh_code(fresh)
+    match fresh {
+        Ok(true) => Code::Done,
+        Ok(false) => Code::Present,
+        Err(refused) => Code::of_why(refused.why),
+    }
 }
 
 /// Binds a bound key to the value, and tells the one that it had.
@@ -173,7 +177,7 @@ pub fn update<K: TableKey + Drop, P: Holds<Handle<K, u64>>, Q: Query<K>>(
     old: &mut u64,
 ) -> Code
     ensures called { Calls (λ c d. (r : Result (Option ℕ) Busy)
-        × QueryLeaves (Updates value) K.hash (Q.name key) r c d
+        × QueryLeaves (Modifies (Replaces value)) K.hash (Q.name key) r c d
         × TellsValue r result old.old old.new)
         (P.held place.old) (P.held place.new) result }
     ensures same { P.held place.old ≡ None → old.new ≡ old.old }
@@ -182,11 +186,15 @@ pub fn update<K: TableKey + Drop, P: Holds<Handle<K, u64>>, Q: Query<K>>(
         return Code::Closed;
     };
     let mut handle = handle;
-    let updated = handle.update(key, value);
+    let was = handle.modify(key, |old: u64| (value, old));
     put(place, alloc, handle);
-    match updated {
-        Ok(was) => told(Ok(was), old),
-        Err((_, busy)) => told(Err(busy), old),
+    match was {
+        Ok(Some(v)) => {
+            *old = v;
+            Code::Done
+        }
+        Ok(None) => Code::Absent,
+        Err(_) => Code::Busy,
     }
 }
 
@@ -210,7 +218,10 @@ pub fn swap_if<K: TableKey + Drop, P: Holds<Handle<K, u64>>, Q: Query<K>>(
         return Code::Closed;
     };
     let mut handle = handle;
-    let had = handle.modify(key, |value: u64| (if value == from { to } else { value }, value));
+    let had = handle.modify(
+        key,
+        |value: u64| (if value == from { to } else { value }, value),
+    );
     put(place, alloc, handle);
     match had {
         Ok(Some(value)) => {
@@ -345,6 +356,13 @@ pub fn reserve<K: TableKey + Drop, P: Holds<Handle<K, u64>>>(
     let mut handle = handle;
     let grown = handle.reserve(slots);
     put(place, alloc, handle);
+    grown_code(grown)
+}
+
+// The code of growing.
+fn grown_code(grown: Result<bool, GrowFault>) -> Code
+    ensures { TellsGrown grown result }
+{
     match grown {
         Ok(true) => Code::Done,
         Ok(false) => Code::Enough,
