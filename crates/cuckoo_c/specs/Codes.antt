@@ -84,3 +84,7 @@ abbrev pub TellsGrown : Result Bool GrowFault → Code → Type 0
 TellsGrown (Ok true) code = code ≡ codes.Done
 TellsGrown (Ok false) code = code ≡ codes.Enough
 TellsGrown (Err e) code = code ≡ code_of_fault e
+
+-- C is told the number of a code that says so
+abbrev pub Numbered : ℤ → (Code → Type 0) → Type 0
+Numbered n P = (code : Code) × (n ≡ number_of code) × P code
