@@ -1,5 +1,5 @@
 -- What a call through a handle of C's leaves.
-use Rattle.std.specs.Prelude.{◌≡◌, ℕ, ◌+◌, ◌-◌, ◌*◌, ◌^◌, Bool, Option, Some, None, Result, IfOk, IfErr, OnOk, if◌then◌else◌, min, nat_eq}
+use Rattle.std.specs.Prelude.{◌≡◌, ◌⊎◌, ℕ, ◌+◌, ◌-◌, ◌*◌, ◌^◌, Bool, Option, Some, None, Result, IfOk, IfErr, OnOk, if◌then◌else◌, min, nat_eq}
 use Rattle.cuckoo_c.specs.declared.code.Code.{Code}
 use Rattle.cuckoo_c.specs.declared.code.Code.TheVariants as codes
 use Rattle.cuckoo_map.specs.declared.refusal.Busy.{Busy}
@@ -10,6 +10,10 @@ use Rattle.cuckoo_map.specs.Callers.{CallerState, IsSameCaller, Counts, KeepsNot
 abbrev pub Calls : (CallerState ℕ → CallerState ℕ → Type 0) → Option (CallerState ℕ) → Option (CallerState ℕ) → Code → Type 0
 Calls P (Some c) now code = (d : CallerState ℕ) × (now ≡ Some d) × P c d
 Calls P None now code = (now ≡ None) × (code ≡ codes.Closed)
+
+-- The same, or there was no memory for the key, and nothing changed.
+abbrev pub CallsWithMemory : (CallerState ℕ → CallerState ℕ → Type 0) → Option (CallerState ℕ) → Option (CallerState ℕ) → Code → Type 0
+CallsWithMemory P was now code = Calls P was now code ⊎ (now ≡ was) × (code ≡ codes.Memory)
 
 -- the sum, or the greatest number
 abbrev pub AddsTo : ℕ → ℕ → ℕ → Type 0

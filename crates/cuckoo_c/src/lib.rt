@@ -19,3 +19,4 @@ mod calls;
 
 // The calls, for each type of keys.
 mod numbers;
+mod texts;

@@ -1,4 +1,4 @@
-//! The calls on numbers.
+//! The calls on tables whose keys are numbers, as C makes them.
 ghost use Rattle.std.specs.Prelude.{◌≡◌, ◌∷◌, [], ℕ, Bool, Option, Result, nat_eq};
 ghost use Rattle.std.specs.declared.option.Option.TheVariants.{None};
 ghost use Rattle.ck_key.specs.Hashes.{mixed_hash};
@@ -56,4 +56,134 @@ pub extern "C" fn cuckoo_insert(
         handle.old.held handle.new.held code) }
 {
     calls::insert(alloc, handle, NumberKey(key), value).number()
+}
+
+/// Binds the key, and tells the value that it had.
+#[unsafe(no_mangle)]
+pub extern "C" fn cuckoo_assign(
+    alloc: Global,
+    handle: &mut CuckooHandle,
+    key: u64,
+    value: u64,
+    old: &mut u64,
+) -> i32
+    ensures called { Numbered result (λ code. Calls (λ c d. (r : Result (Option ℕ) (Refused NumberKey ℕ))
+        × InsertionLeaves (Assigns value) mixed_hash (key ∷ []) (record { 0 = key }) value r c d
+        × TellsOld r code old.old old.new)
+        handle.old.held handle.new.held code) }
+    ensures same { handle.old.held ≡ None → old.new ≡ old.old }
+{
+    calls::assign(alloc, handle, NumberKey(key), value, old).number()
+}
+
+/// Adds to the value of the key, up to the greatest number; an unbound key is bound to `more`.
+#[unsafe(no_mangle)]
+pub extern "C" fn cuckoo_add(alloc: Global, handle: &mut CuckooHandle, key: u64, more: u64) -> i32
+    ensures { Numbered result (λ code. Calls (λ c d. (r : Result Bool (Refused NumberKey ℕ))
+        × InsertionLeaves (Upserts (AddsTo more) more) mixed_hash (key ∷ []) (record { 0 = key }) more r c d
+        × TellsFresh r code)
+        handle.old.held handle.new.held code) }
+{
+    calls::add(alloc, handle, NumberKey(key), more).number()
+}
+
+/// Binds a bound key, and tells the value that it had.
+#[unsafe(no_mangle)]
+pub extern "C" fn cuckoo_update(
+    alloc: Global,
+    handle: &mut CuckooHandle,
+    key: u64,
+    value: u64,
+    old: &mut u64,
+) -> i32
+    ensures called { Numbered result (λ code. Calls (λ c d. (r : Result (Option ℕ) Busy)
+        × QueryLeaves (Modifies (Replaces value)) mixed_hash (key ∷ []) r c d
+        × TellsValue r code old.old old.new)
+        handle.old.held handle.new.held code) }
+    ensures same { handle.old.held ≡ None → old.new ≡ old.old }
+{
+    calls::update(alloc, handle, &NumberKey(key), value, old).number()
+}
+
+/// Compare and set: binds a key that is bound to `from` to `to`.
+#[unsafe(no_mangle)]
+pub extern "C" fn cuckoo_swap_if(
+    alloc: Global,
+    handle: &mut CuckooHandle,
+    key: u64,
+    from: u64,
+    to: u64,
+    seen: &mut u64,
+) -> i32
+    ensures called { Numbered result (λ code. Calls (λ c d. (r : Result (Option ℕ) Busy)
+        × QueryLeaves (Modifies (Swaps from to)) mixed_hash (key ∷ []) r c d
+        × TellsSeen from r code seen.old seen.new)
+        handle.old.held handle.new.held code) }
+    ensures same { handle.old.held ≡ None → seen.new ≡ seen.old }
+{
+    calls::swap_if(alloc, handle, &NumberKey(key), from, to, seen).number()
+}
+
+/// Unbinds the key, and tells the value that it had.
+#[unsafe(no_mangle)]
+pub extern "C" fn cuckoo_erase(
+    alloc: Global,
+    handle: &mut CuckooHandle,
+    key: u64,
+    value: &mut u64,
+) -> i32
+    ensures called { Numbered result (λ code. Calls (λ c d. (r : Result (Option ℕ) Busy)
+        × QueryLeaves Erases mixed_hash (key ∷ []) r c d × TellsValue r code value.old value.new)
+        handle.old.held handle.new.held code) }
+    ensures same { handle.old.held ≡ None → value.new ≡ value.old }
+{
+    calls::erase(alloc, handle, &NumberKey(key), value).number()
+}
+
+/// Unbinds a key that is bound to this value.
+#[unsafe(no_mangle)]
+pub extern "C" fn cuckoo_erase_if(
+    alloc: Global,
+    handle: &mut CuckooHandle,
+    key: u64,
+    value: u64,
+) -> i32
+    ensures { Numbered result (λ code. Calls (λ c d. (r : Result (Option Bool) Busy)
+        × QueryLeaves (ErasesBy (λ v gone. gone ≡ nat_eq v value)) mixed_hash (key ∷ []) r c d
+        × TellsMatch r code)
+        handle.old.held handle.new.held code) }
+{
+    calls::erase_if(alloc, handle, &NumberKey(key), value).number()
+}
+
+/// How many keys are bound.
+#[unsafe(no_mangle)]
+pub extern "C" fn cuckoo_len(alloc: Global, handle: &mut CuckooHandle, count: &mut u64) -> i32
+    ensures called { Numbered result (λ code. Calls (λ c d. (r : Result ℕ Busy) × CountLeaves r c d
+        × TellsCount r code count.old count.new)
+        handle.old.held handle.new.held code) }
+    ensures same { handle.old.held ≡ None → count.new ≡ count.old }
+{
+    calls::len(alloc, handle, count).number()
+}
+
+/// How many slots the table has.
+#[unsafe(no_mangle)]
+pub extern "C" fn cuckoo_capacity(alloc: Global, handle: &mut CuckooHandle, slots: &mut u64) -> i32
+    ensures called { Numbered result (λ code. Calls (λ c d. (r : Result ℕ Busy) × CapacityLeaves r c d
+        × TellsCount r code slots.old slots.new)
+        handle.old.held handle.new.held code) }
+    ensures same { handle.old.held ≡ None → slots.new ≡ slots.old }
+{
+    calls::capacity(alloc, handle, slots).number()
+}
+
+/// Makes the table grow until it has so many slots.
+#[unsafe(no_mangle)]
+pub extern "C" fn cuckoo_reserve(alloc: Global, handle: &mut CuckooHandle, slots: u64) -> i32
+    ensures { Numbered result (λ code. Calls (λ c d. (r : Result Bool GrowFault) × GrowthLeaves slots r c d
+        × TellsGrown r code)
+        handle.old.held handle.new.held code) }
+{
+    calls::reserve(alloc, handle, slots).number()
 }

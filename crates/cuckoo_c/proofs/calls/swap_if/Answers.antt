@@ -1,4 +1,4 @@
-use Rattle.std.proofs.Common.{rules, Some, None, true, false, Ok, Err}
+use Rattle.std.proofs.Common.{rules, Some, None, Ok, Err}
 use Rattle.cuckoo_c.proofs.Through.{through}
 use Rattle.cuckoo_c.proofs.calls.swap_if.Goals as goal
 

@@ -1,0 +1,274 @@
+//! The calls on tables whose keys are texts, as C makes them.
+ghost use Rattle.std.specs.Prelude.{◌≡◌, ◌≤◌, ◌<◌, ℕ, Bool, Option, Result, IfOk, IfErr, MatchBool, length, nat_eq, nat_lt};
+ghost use Rattle.std.specs.declared.option.Option.TheVariants.{None};
+ghost use Rattle.ck_key.specs.Hashes.{text_hash};
+ghost use Rattle.ck_section.specs.Acts.{Finds, FindsBound, Inserts, Assigns, Upserts, Modifies, ErasesBy, Erases};
+ghost use Rattle.cuckoo_map.specs.declared.refusal.Busy.{Busy};
+ghost use Rattle.cuckoo_map.specs.declared.refusal.GrowFault.{GrowFault};
+ghost use Rattle.cuckoo_map.specs.declared.refusal.Refused.{Refused};
+ghost use Rattle.cuckoo_map.specs.Callers.{QueryLeaves, InsertionLeaves};
+ghost use Rattle.cuckoo_c.specs.declared.keys.BytesKey.{BytesKey};
+ghost use Rattle.cuckoo_c.specs.declared.code.Code.TheVariants as codes;
+ghost use Rattle.cuckoo_c.specs.Codes.{number_of, Numbered, TellsBound, TellsValue, TellsFresh, TellsOld, TellsSeen, TellsMatch, TellsCount, TellsGrown};
+ghost use Rattle.cuckoo_c.specs.Handles.{Calls, CallsWithMemory, AddsTo, Replaces, Swaps, CountLeaves, CapacityLeaves, GrowthLeaves};
+
+use crate::calls;
+use crate::code::Code;
+use crate::handles::CuckooTextHandle;
+use crate::keys::{Bytes, BytesKey};
+use cuckoo_map::{KeyFault, TextKey};
+use std::alloc::Global;
+
+/// A key has at most so many bytes.
+const MOST: usize = 64;
+
+// The key of these bytes, or why there is none.
+fn key_of(alloc: Global, bytes: &[u8]) -> Result<BytesKey, Code>
+    ensures ok { IfOk result (λ key. (length bytes.now ≤ 64) × (key.0 ≡ bytes.now)) }
+    ensures fault { IfErr result (λ code. MatchBool (nat_lt 64 (length bytes.now))
+        (code ≡ codes.TooLong) (code ≡ codes.Memory)) }
+{
+    match TextKey::new(alloc, bytes) {
+        Ok(key) => Ok(BytesKey(key)),
+        Err(KeyFault::TooLong) => Err(Code::TooLong),
+        Err(KeyFault::Memory) => Err(Code::Memory),
+    }
+}
+
+/// The value of the key.
+#[unsafe(no_mangle)]
+pub extern "C" fn cuckoo_text_find(
+    alloc: Global,
+    handle: &mut CuckooTextHandle,
+    key: &[u8],
+    value: &mut u64,
+) -> i32
+    ensures called { length key.now ≤ 64 → Numbered result (λ code. Calls (λ c d. (r : Result (Option ℕ) Busy)
+        × QueryLeaves Finds text_hash key.now r c d × TellsValue r code value.old value.new)
+        handle.old.held handle.new.held code) }
+    ensures too_long { 64 < length key.now → (result ≡ number_of codes.TooLong)
+        × (handle.new.held ≡ handle.old.held) × (value.new ≡ value.old) }
+    ensures same { handle.old.held ≡ None → value.new ≡ value.old }
+{
+    if key.len() > MOST {
+        return Code::TooLong.number();
+    }
+    calls::find(alloc, handle, Bytes(key), value).number()
+}
+
+/// Whether the key is bound.
+#[unsafe(no_mangle)]
+pub extern "C" fn cuckoo_text_contains(
+    alloc: Global,
+    handle: &mut CuckooTextHandle,
+    key: &[u8],
+) -> i32
+    ensures called { length key.now ≤ 64 → Numbered result (λ code. Calls (λ c d. (r : Result Bool Busy)
+        × QueryLeaves FindsBound text_hash key.now r c d × TellsBound r code)
+        handle.old.held handle.new.held code) }
+    ensures too_long { 64 < length key.now → (result ≡ number_of codes.TooLong)
+        × (handle.new.held ≡ handle.old.held) }
+{
+    if key.len() > MOST {
+        return Code::TooLong.number();
+    }
+    calls::contains(alloc, handle, Bytes(key)).number()
+}
+
+/// Binds an unbound key.
+#[unsafe(no_mangle)]
+pub extern "C" fn cuckoo_text_insert(
+    alloc: Global,
+    handle: &mut CuckooTextHandle,
+    key: &[u8],
+    value: u64,
+) -> i32
+    ensures called { length key.now ≤ 64 → Numbered result (λ code. CallsWithMemory (λ c d. (r : Result Bool (Refused BytesKey ℕ))
+        × InsertionLeaves (Inserts value) text_hash key.now (record { 0 = key.now }) value r c d
+        × TellsFresh r code)
+        handle.old.held handle.new.held code) }
+    ensures too_long { 64 < length key.now → (result ≡ number_of codes.TooLong)
+        × (handle.new.held ≡ handle.old.held) }
+{
+    match key_of(alloc, key) {
+        Ok(key) => calls::insert(alloc, handle, key, value).number(),
+        Err(code) => code.number(),
+    }
+}
+
+/// Binds the key, and tells the value that it had.
+#[unsafe(no_mangle)]
+pub extern "C" fn cuckoo_text_assign(
+    alloc: Global,
+    handle: &mut CuckooTextHandle,
+    key: &[u8],
+    value: u64,
+    old: &mut u64,
+) -> i32
+    ensures called { length key.now ≤ 64 → Numbered result (λ code. CallsWithMemory (λ c d. (r : Result (Option ℕ) (Refused BytesKey ℕ))
+        × InsertionLeaves (Assigns value) text_hash key.now (record { 0 = key.now }) value r c d
+        × TellsOld r code old.old old.new)
+        handle.old.held handle.new.held code) }
+    ensures too_long { 64 < length key.now → (result ≡ number_of codes.TooLong)
+        × (handle.new.held ≡ handle.old.held) × (old.new ≡ old.old) }
+    ensures same { handle.old.held ≡ None → old.new ≡ old.old }
+{
+    match key_of(alloc, key) {
+        Ok(key) => calls::assign(alloc, handle, key, value, old).number(),
+        Err(code) => code.number(),
+    }
+}
+
+/// Adds to the value of the key, up to the greatest number; an unbound key is bound to `more`.
+#[unsafe(no_mangle)]
+pub extern "C" fn cuckoo_text_add(
+    alloc: Global,
+    handle: &mut CuckooTextHandle,
+    key: &[u8],
+    more: u64,
+) -> i32
+    ensures called { length key.now ≤ 64 → Numbered result (λ code. CallsWithMemory (λ c d. (r : Result Bool (Refused BytesKey ℕ))
+        × InsertionLeaves (Upserts (AddsTo more) more) text_hash key.now (record { 0 = key.now }) more r c d
+        × TellsFresh r code)
+        handle.old.held handle.new.held code) }
+    ensures too_long { 64 < length key.now → (result ≡ number_of codes.TooLong)
+        × (handle.new.held ≡ handle.old.held) }
+{
+    match key_of(alloc, key) {
+        Ok(key) => calls::add(alloc, handle, key, more).number(),
+        Err(code) => code.number(),
+    }
+}
+
+/// Binds a bound key, and tells the value that it had.
+#[unsafe(no_mangle)]
+pub extern "C" fn cuckoo_text_update(
+    alloc: Global,
+    handle: &mut CuckooTextHandle,
+    key: &[u8],
+    value: u64,
+    old: &mut u64,
+) -> i32
+    ensures called { length key.now ≤ 64 → Numbered result (λ code. Calls (λ c d. (r : Result (Option ℕ) Busy)
+        × QueryLeaves (Modifies (Replaces value)) text_hash key.now r c d
+        × TellsValue r code old.old old.new)
+        handle.old.held handle.new.held code) }
+    ensures too_long { 64 < length key.now → (result ≡ number_of codes.TooLong)
+        × (handle.new.held ≡ handle.old.held) × (old.new ≡ old.old) }
+    ensures same { handle.old.held ≡ None → old.new ≡ old.old }
+{
+    if key.len() > MOST {
+        return Code::TooLong.number();
+    }
+    calls::update(alloc, handle, Bytes(key), value, old).number()
+}
+
+/// Compare and set: binds a key that is bound to `from` to `to`.
+#[unsafe(no_mangle)]
+pub extern "C" fn cuckoo_text_swap_if(
+    alloc: Global,
+    handle: &mut CuckooTextHandle,
+    key: &[u8],
+    from: u64,
+    to: u64,
+    seen: &mut u64,
+) -> i32
+    ensures called { length key.now ≤ 64 → Numbered result (λ code. Calls (λ c d. (r : Result (Option ℕ) Busy)
+        × QueryLeaves (Modifies (Swaps from to)) text_hash key.now r c d
+        × TellsSeen from r code seen.old seen.new)
+        handle.old.held handle.new.held code) }
+    ensures too_long { 64 < length key.now → (result ≡ number_of codes.TooLong)
+        × (handle.new.held ≡ handle.old.held) × (seen.new ≡ seen.old) }
+    ensures same { handle.old.held ≡ None → seen.new ≡ seen.old }
+{
+    if key.len() > MOST {
+        return Code::TooLong.number();
+    }
+    calls::swap_if(alloc, handle, Bytes(key), from, to, seen).number()
+}
+
+/// Unbinds the key, and tells the value that it had.
+#[unsafe(no_mangle)]
+pub extern "C" fn cuckoo_text_erase(
+    alloc: Global,
+    handle: &mut CuckooTextHandle,
+    key: &[u8],
+    value: &mut u64,
+) -> i32
+    ensures called { length key.now ≤ 64 → Numbered result (λ code. Calls (λ c d. (r : Result (Option ℕ) Busy)
+        × QueryLeaves Erases text_hash key.now r c d × TellsValue r code value.old value.new)
+        handle.old.held handle.new.held code) }
+    ensures too_long { 64 < length key.now → (result ≡ number_of codes.TooLong)
+        × (handle.new.held ≡ handle.old.held) × (value.new ≡ value.old) }
+    ensures same { handle.old.held ≡ None → value.new ≡ value.old }
+{
+    if key.len() > MOST {
+        return Code::TooLong.number();
+    }
+    calls::erase(alloc, handle, Bytes(key), value).number()
+}
+
+/// Unbinds a key that is bound to this value.
+#[unsafe(no_mangle)]
+pub extern "C" fn cuckoo_text_erase_if(
+    alloc: Global,
+    handle: &mut CuckooTextHandle,
+    key: &[u8],
+    value: u64,
+) -> i32
+    ensures called { length key.now ≤ 64 → Numbered result (λ code. Calls (λ c d. (r : Result (Option Bool) Busy)
+        × QueryLeaves (ErasesBy (λ v gone. gone ≡ nat_eq v value)) text_hash key.now r c d
+        × TellsMatch r code)
+        handle.old.held handle.new.held code) }
+    ensures too_long { 64 < length key.now → (result ≡ number_of codes.TooLong)
+        × (handle.new.held ≡ handle.old.held) }
+{
+    if key.len() > MOST {
+        return Code::TooLong.number();
+    }
+    calls::erase_if(alloc, handle, Bytes(key), value).number()
+}
+
+/// How many keys are bound.
+#[unsafe(no_mangle)]
+pub extern "C" fn cuckoo_text_len(
+    alloc: Global,
+    handle: &mut CuckooTextHandle,
+    count: &mut u64,
+) -> i32
+    ensures called { Numbered result (λ code. Calls (λ c d. (r : Result ℕ Busy) × CountLeaves r c d
+        × TellsCount r code count.old count.new)
+        handle.old.held handle.new.held code) }
+    ensures same { handle.old.held ≡ None → count.new ≡ count.old }
+{
+    calls::len(alloc, handle, count).number()
+}
+
+/// How many slots the table has.
+#[unsafe(no_mangle)]
+pub extern "C" fn cuckoo_text_capacity(
+    alloc: Global,
+    handle: &mut CuckooTextHandle,
+    slots: &mut u64,
+) -> i32
+    ensures called { Numbered result (λ code. Calls (λ c d. (r : Result ℕ Busy) × CapacityLeaves r c d
+        × TellsCount r code slots.old slots.new)
+        handle.old.held handle.new.held code) }
+    ensures same { handle.old.held ≡ None → slots.new ≡ slots.old }
+{
+    calls::capacity(alloc, handle, slots).number()
+}
+
+/// Makes the table grow until it has so many slots.
+#[unsafe(no_mangle)]
+pub extern "C" fn cuckoo_text_reserve(
+    alloc: Global,
+    handle: &mut CuckooTextHandle,
+    slots: u64,
+) -> i32
+    ensures { Numbered result (λ code. Calls (λ c d. (r : Result Bool GrowFault) × GrowthLeaves slots r c d
+        × TellsGrown r code)
+        handle.old.held handle.new.held code) }
+{
+    calls::reserve(alloc, handle, slots).number()
+}
