@@ -19,7 +19,7 @@ namespace {
 
 using counts = cuckoo::map<std::string_view, std::uint64_t>;
 
-constexpr std::string_view blanks = " \t\r\n\f\v";
+constexpr std::string_view blanks = " \t\r\n\f";
 
 // Counts the words of a text.
 void count(std::string_view text, counts &words) {
