@@ -63,6 +63,7 @@ public:
 /// The map was moved from, or memory that was wanting closed its last handle.
 class closed : public std::logic_error {
 public:
+  /// A call of such a map.
   closed() : std::logic_error("cuckoo: the map has no handle") {}
 };
 
@@ -503,6 +504,7 @@ public:
     return *this;
   }
 
+  /// What wasn't read is freed.
   ~snapshot() { family::close_pairs(&reader_.pairs); }
 
   /// The next pair, or nothing after the last one.

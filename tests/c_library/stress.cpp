@@ -18,8 +18,8 @@
 namespace {
 
 constexpr std::uint64_t shared_keys = 16;
-constexpr std::uint64_t own_keys = 20'000;
-constexpr std::uint64_t drained_keys = 500;
+constexpr std::uint64_t own_keys = 5000;
+constexpr std::uint64_t drained_keys = 20;
 
 // The keys of numbers and texts.
 std::uint64_t number_key(std::uint64_t owner, std::uint64_t key) { return owner << 32 | key; }
@@ -108,12 +108,25 @@ void add(tables &all, std::uint64_t random, tally &mine) {
   mine.added += more;
 }
 
-// Adds to keys that other threads may drain, or drains them.
+// Adds to keys that other threads may take out, or takes out one of them or all.
 void add_or_drain(tables &all, std::uint64_t random, tally &mine) {
-  if (random % 1009 == 0) {
+  const std::uint64_t key = random % drained_keys;
+  const std::uint64_t which = random / drained_keys % 1000;
+  if (which == 0) {
     mine.drained += sum_of(all.drained.drain());
+  } else if (which % 4 == 0) {
+    // What the closure sees in its last run is what is taken out.
+    std::uint64_t taken = 0;
+    const auto take = [&taken](std::uint64_t &sum) {
+      taken = sum;
+      return true;
+    };
+    if (all.drained.erase_fn(key, take)) mine.drained += taken;
   } else {
-    all.drained.add(random % drained_keys, 1);
+    if (which % 2 == 0)
+      all.drained.add(key, 1);
+    else
+      all.drained.upsert(key, [](std::uint64_t &sum) { sum++; }, 1);
     mine.to_drain++;
   }
 }

@@ -1,6 +1,8 @@
 //! Handles that go to threads.
 use cuckoo_map::{Compared, Error, Handle, Settings, TextHandle};
+use std::sync::atomic::{AtomicBool, Ordering};
 use std::thread;
+use std::time::{Duration, Instant};
 
 const THREADS: u64 = 8;
 const ROUNDS: u64 = 20_000;
@@ -68,24 +70,29 @@ fn no_key_is_lost_where_the_table_grows() {
     }
 }
 
+/// Threads count until a call of one is refused as busy; a minute at most.
 #[test]
 fn a_busy_call_may_be_left_to_the_program() {
-    let mut handles = impatient(1000, 4).open().unwrap();
-    let busy: u64 = thread::scope(|scope| {
-        let counts: Vec<_> = handles
-            .iter_mut()
-            .map(|handle| {
-                scope.spawn(move || {
-                    handle.retry_busy(false);
-                    (0..ROUNDS)
-                        .filter(|_| handle.len() == Err(Error::Busy))
-                        .count() as u64
-                })
-            })
-            .collect();
-        counts.into_iter().map(|one| one.join().unwrap()).sum()
+    let was_busy = AtomicBool::new(false);
+    let end = Instant::now() + Duration::from_secs(60);
+    thread::scope(|scope| {
+        for mut handle in impatient(10_000, 4).open().unwrap() {
+            let was_busy = &was_busy;
+            handle.retry_busy(false);
+            scope.spawn(move || {
+                while !was_busy.load(Ordering::Relaxed) && Instant::now() < end {
+                    match handle.len() {
+                        Ok(0) => {}
+                        refused => {
+                            assert_eq!(refused, Err(Error::Busy));
+                            was_busy.store(true, Ordering::Relaxed);
+                        }
+                    }
+                }
+            });
+        }
     });
-    assert!(busy > 0);
+    assert!(was_busy.into_inner());
 }
 
 #[test]
