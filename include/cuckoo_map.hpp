@@ -60,7 +60,7 @@ public:
   std::int32_t code() const noexcept { return code_; }
 };
 
-/// The map was moved from, or memory that was wanting closed its last handle.
+/// The map was moved from, or its last handle was closed by a `clear` that found no memory.
 class closed : public std::logic_error {
 public:
   /// A call of such a map.
@@ -426,7 +426,7 @@ template <class Family> class table {
 
   // What follows on a refusal: another try, or an exception.
   [[gnu::noinline]] void after(std::int32_t code) const {
-    // The thread's handle was closed for want of memory: it gets another.
+    // The thread's handle was closed by a `clear` that found no memory: it gets another.
     if (code == CUCKOO_CLOSED && is_latest())
       loans::of_thread().forget(pool_.get());
     else

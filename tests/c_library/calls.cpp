@@ -8,18 +8,22 @@
 
 namespace {
 
-// The calls of a map from a key type, on two keys of it.
-template <class Key> void all_calls(const Key &one, const Key &two) {
-  cuckoo::map<Key, std::uint64_t> map(100);
+// Calls on a key that is unbound, and stays so.
+template <class Map, class Key> void calls_on_unbound(Map &map, const Key &key) {
   std::uint64_t value = 7;
   CHECK(map.empty() && map.capacity() >= 100);
-  CHECK(!map.find(one, value) && value == 7);
-  CHECK_THROWS(std::out_of_range, map.find(one));
-  CHECK(!map.get(one) && !map.contains(one));
-  CHECK(!map.find_fn(one, [](const std::uint64_t &) { CHECK(false); }));
-  CHECK(!map.update(one, 1u) && !map.update_fn(one, [](std::uint64_t &) { CHECK(false); }));
-  CHECK(!map.erase(one) && !map.erase_fn(one, [](std::uint64_t &) { return true; }));
+  CHECK(!map.find(key, value) && value == 7);
+  CHECK_THROWS(std::out_of_range, map.find(key));
+  CHECK(!map.get(key) && !map.contains(key));
+  CHECK(!map.find_fn(key, [](const std::uint64_t &) { CHECK(false); }));
+  CHECK(!map.update(key, 1u) && !map.update_fn(key, [](std::uint64_t &) { CHECK(false); }));
+  CHECK(!map.erase(key) && !map.erase_fn(key, [](std::uint64_t &) { return true; }));
+  CHECK(map.empty());
+}
 
+// Calls that bind two keys, and change their values: to 30 and 40 in the end.
+template <class Map, class Key> void calls_that_bind(Map &map, const Key &one, const Key &two) {
+  std::uint64_t value = 7;
   CHECK(map.insert(one, 10) && !map.insert(one, 11));
   CHECK(map.find(one) == 10 && map.find(one, value) && value == 10 && *map.get(one) == 10);
   CHECK(map.contains(one) && !map.contains(two) && map.size() == 1);
@@ -29,18 +33,26 @@ template <class Key> void all_calls(const Key &one, const Key &two) {
   CHECK(!map.insert_or_assign(one, 30) && map.insert_or_assign(two, 40));
   CHECK(map.find(one) == 30 && map.find(two) == 40 && map.size() == 2);
   CHECK(map.load_factor() == 2.0 / static_cast<double>(map.capacity()));
+}
 
-  CHECK(!map.upsert(one, [](std::uint64_t &seen) { seen++; }, 5) && map.find(one) == 31);
-  CHECK(map.erase(one) && !map.contains(one));
-  CHECK(map.upsert(one, [](std::uint64_t &seen) { seen++; }, 5) && map.find(one) == 5);
-  CHECK(map.erase_fn(one, [](std::uint64_t &seen) { return seen++ == 0; }) && map.find(one) == 6);
-  CHECK(map.erase_fn(one, [](std::uint64_t &seen) { return seen == 6; }) && !map.contains(one));
-  CHECK(map.uprase_fn(one, [](std::uint64_t &) { return true; }, 8) && map.find(one) == 8);
-  CHECK(!map.uprase_fn(one, [](std::uint64_t &) { return true; }, 8) && !map.contains(one));
-  CHECK(map.add(one, 3) && !map.add(one, 4) && map.find(one) == 7);
+// Calls that bind a key or change it, or unbind it.
+template <class Map, class Key> void calls_by_closures(Map &map, const Key &key) {
+  const auto next = [](std::uint64_t &seen) { seen++; };
+  const auto is_gone = [](std::uint64_t &) { return true; };
+  CHECK(!map.upsert(key, next, 5) && map.find(key) == 31);
+  CHECK(map.erase(key) && !map.contains(key));
+  CHECK(map.upsert(key, next, 5) && map.find(key) == 5);
+  CHECK(map.erase_fn(key, [](std::uint64_t &seen) { return seen++ == 0; }) && map.find(key) == 6);
+  CHECK(map.erase_fn(key, [](std::uint64_t &seen) { return seen == 6; }) && !map.contains(key));
+  CHECK(map.uprase_fn(key, is_gone, 8) && map.find(key) == 8);
+  CHECK(!map.uprase_fn(key, is_gone, 8) && !map.contains(key));
+}
+
+// Calls on all of the map, of which the second key has 40.
+template <class Map, class Key> void calls_on_all(Map &map, const Key &one, const Key &two) {
   constexpr auto greatest = std::numeric_limits<std::uint64_t>::max();
+  CHECK(map.add(one, 3) && !map.add(one, 4) && map.find(one) == 7);
   CHECK(!map.add(one, greatest) && map.find(one) == greatest);
-
   CHECK(map.reserve(10 * map.capacity()) && !map.reserve(1) && map.find(two) == 40);
   CHECK(map.pairs().size() == 2 && map.size() == 2);
   std::uint64_t sum = 0;
@@ -54,6 +66,15 @@ template <class Key> void all_calls(const Key &one, const Key &two) {
   CHECK(map.insert(one) && map.find(one) == 0);
   map.clear();
   CHECK(map.empty());
+}
+
+// The calls of a map from a type of keys, on two of them.
+template <class Key> void all_calls(const Key &one, const Key &two) {
+  cuckoo::map<Key, std::uint64_t> map(100);
+  calls_on_unbound(map, one);
+  calls_that_bind(map, one, two);
+  calls_by_closures(map, one);
+  calls_on_all(map, one, two);
 }
 
 enum class color : signed char { red = -2, green = 5 };
