@@ -1,4 +1,4 @@
-// What cuckoo_map.hpp refuses to compile: each case, with a pattern of what the compiler says. Case 0
+// What cuckoo_map.hpp doesn't compile: each case, with a pattern of what the compiler says. Case 0
 // is compiled.
 #include <cuckoo_map.hpp>
 

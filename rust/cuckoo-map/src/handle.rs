@@ -9,8 +9,8 @@ use std::thread;
 ///
 /// It is a [`Handle`] or a [`TextHandle`], by the table's keys.
 ///
-/// Each call may be refused as [`Error::Closed`], after a [`clear`](TableHandle::clear) that found no
-/// memory, and one with a text as [`Error::TooLong`].
+/// Each call may be refused as [`Error::Closed`], after a [`clear`](TableHandle::clear) that found
+/// no memory, and one with a text as [`Error::TooLong`].
 ///
 /// ```
 /// fn is_sent<T: Send>() {}
@@ -109,8 +109,8 @@ impl<K: Keys> TableHandle<K> {
         }
     }
 
-    /// Whether a call that is refused as busy is made again, after other threads were let run. It is
-    /// as a handle is opened; else the call gives [`Error::Busy`].
+    /// Whether a call that is refused as busy is made again, when other threads were let run: so it
+    /// is as a handle is opened. Else the call gives [`Error::Busy`].
     pub fn retry_busy(&mut self, retries: bool) {
         self.retries_busy = retries;
     }
@@ -127,8 +127,8 @@ impl<K: Keys> TableHandle<K> {
         Ok(self.call(|raw| unsafe { K::contains(raw, key.as_key()) })? == OK)
     }
 
-    /// Binds an unbound key, and gives whether it was unbound. As each call that binds a key, it may
-    /// be refused as [`Error::NoMemory`], [`Error::Full`] or [`Error::LoadTooLow`].
+    /// Binds an unbound key, and gives whether it was unbound. As each call that binds a key, it
+    /// may be refused as [`Error::NoMemory`], [`Error::Full`] or [`Error::LoadTooLow`].
     pub fn insert(&mut self, key: impl AsKey<K>, value: u64) -> Result<bool> {
         Ok(self.call(|raw| unsafe { K::insert(raw, key.as_key(), value) })? == OK)
     }

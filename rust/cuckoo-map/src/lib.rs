@@ -2,9 +2,9 @@
 //! library does is proved of the code that runs; this crate, which calls it, is not.
 //!
 //! A table is called through handles, one for each thread that makes calls at a time: opening a
-//! table gives all of them, and each goes to a thread. The table ends with its last handle. The keys
-//! of a [`Handle`] are numbers, and those of a [`TextHandle`] texts of at most 64 bytes, which are
-//! any bytes; the values are numbers.
+//! table gives all of them, and each goes to a thread. The table ends with its last handle. The
+//! keys of a [`Handle`] are numbers, and those of a [`TextHandle`] texts of at most 64 bytes, which
+//! are any bytes; the values are numbers.
 //!
 //! ```
 //! use cuckoo_map::Handle;

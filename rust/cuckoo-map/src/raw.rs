@@ -36,8 +36,8 @@ extern "C" {
 ///
 /// # Safety
 ///
-/// Handles and pairs are closed, or opened by the same implementation, and are in no other call; the
-/// other pointers lead to what the types say.
+/// Handles and pairs are closed, or opened by the same implementation, and are in no other call;
+/// the other pointers lead to what the types say.
 pub unsafe trait Calls {
     /// How a call takes a key.
     type Key<'a>: Copy;
@@ -90,7 +90,7 @@ macro_rules! call {
     };
 }
 
-// Implements `Calls` by these functions, for keys that go to the library in these parts.
+// Implements `Calls` by functions, in its order, for keys that go to the library in these parts.
 macro_rules! calls {
     ($keys:ty, type Key<$life:lifetime> = $key_type:ty; $key:ident as $parts:tt;
         $open:ident $close:ident $find:ident $contains:ident $insert:ident $assign:ident $add:ident
@@ -131,7 +131,8 @@ calls! {
 
 // A slice of no bytes has a pointer that isn't null, which is what the library wants.
 calls! {
-    Texts, type Key<'a> = &'a [u8]; key as [at: *const u8 = key.as_ptr(), length: usize = key.len()];
+    Texts, type Key<'a> = &'a [u8];
+    key as [at: *const u8 = key.as_ptr(), length: usize = key.len()];
     cuckoo_text_open_with cuckoo_text_close cuckoo_text_find cuckoo_text_contains cuckoo_text_insert
     cuckoo_text_assign cuckoo_text_add cuckoo_text_update cuckoo_text_swap_if cuckoo_text_erase
     cuckoo_text_erase_if cuckoo_text_len cuckoo_text_capacity cuckoo_text_reserve cuckoo_text_clear

@@ -32,9 +32,9 @@ pub struct Settings {
 }
 
 impl Settings {
-    /// Settings for about so many keys, and so many handles: the table opens with room for the keys,
-    /// and grows where more come. `turns` is 64, which is best where there are more threads than
-    /// processors.
+    /// Settings for about so many keys, and so many handles: the table opens with room for the
+    /// keys, and grows where more come. `turns` is 64, which is best where there are more threads
+    /// than processors.
     pub fn for_keys(keys: u64, callers: u32) -> Settings {
         let mut settings = Settings {
             s: 0,
