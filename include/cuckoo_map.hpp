@@ -1,0 +1,811 @@
+// A concurrent hash map that cannot lose a key, for C++17: cuckoo_map.h as a class.
+//
+// `cuckoo::map<Key, T>` has the names of libcuckoo's `cuckoohash_map`, with their meanings, so that
+// a program changes an include and a type:
+//
+//     cuckoo::map<std::uint64_t, int> ages(1000);
+//     ages.insert(5, 50);
+//     ages.upsert(5, [](int &age) { age++; }, 1);
+//     int age = ages.find(5);
+//
+// Any number of threads may make calls at a time. Each call takes effect once, at one moment; a
+// call that throws has changed no binding, unless its comment says so. The map has one handle of
+// the library's for each of the first `options::callers` threads, which keep it until they end, and
+// one more that all other threads share, a call at a time. A call that the library refuses as busy
+// lets other threads run, and is made again.
+//
+// A closure doesn't run in the library. What it is to change is read, given to it, and set where
+// the key is still bound to what was read; else the closure runs again, on what the key is bound to
+// by then. So a closure may run more than once, and what it sees in its last run is what it
+// replaces. No lock is held meanwhile: it may throw, take its time and make calls of its own.
+//
+// Calls have to be ordered before the end of the map, as by the end of their threads or by a lock.
+// The library is linked as C: what this header does is tested, and not proved.
+#ifndef CUCKOO_MAP_HPP
+#define CUCKOO_MAP_HPP
+
+#include "cuckoo_map.h"
+
+#include <cstddef>
+#include <cstdint>
+#include <cstring>
+#include <iterator>
+#include <memory>
+#include <mutex>
+#include <new>
+#include <optional>
+#include <stdexcept>
+#include <string>
+#include <string_view>
+#include <thread>
+#include <type_traits>
+#include <utility>
+#include <vector>
+
+namespace cuckoo {
+
+/// There is no room for the key, and the table may not grow.
+class full : public std::runtime_error {
+  std::int32_t code_;
+
+public:
+  /// A refusal by this code.
+  explicit full(std::int32_t code)
+      : std::runtime_error(code == CUCKOO_FULL
+                               ? "cuckoo: no room, and the table has its greatest size"
+                               : "cuckoo: no room, and too few slots are taken for it to grow"),
+        code_(code) {}
+
+  /// CUCKOO_FULL or CUCKOO_LOAD_TOO_LOW.
+  std::int32_t code() const noexcept { return code_; }
+};
+
+/// The map was moved from, or its last handle was closed by a `clear` that found no memory.
+class closed : public std::logic_error {
+public:
+  /// A call of such a map.
+  closed() : std::logic_error("cuckoo: the map has no handle") {}
+};
+
+/// What a map is opened with.
+struct options {
+  /// About so many keys have room before the table grows.
+  std::uint64_t keys = 1024;
+  /// So many threads have a handle of their own: 0 to 1023.
+  std::uint32_t callers = 64;
+  /// Tries to take a stripe before other threads are let run: 1 at least. Many are good only where
+  /// there are more processors than threads.
+  std::uint32_t turns = 64;
+};
+
+namespace detail {
+
+// Throws for a refusal. Where it was one as busy, it lets other threads run, and the call is to be
+// made again.
+inline void refuse(std::int32_t code) {
+  switch (code) {
+  case CUCKOO_BUSY: return std::this_thread::yield();
+  case CUCKOO_NO_MEMORY: throw std::bad_alloc();
+  case CUCKOO_FULL:
+  case CUCKOO_LOAD_TOO_LOW: throw full(code);
+  case CUCKOO_OVER_MAX: throw std::length_error("cuckoo: more slots than the greatest size has");
+  case CUCKOO_BAD_SETTINGS: throw std::invalid_argument("cuckoo: a setting is out of its range");
+  case CUCKOO_TOO_LONG: throw std::length_error("cuckoo: a key has more than 64 bytes");
+  case CUCKOO_CLOSED: throw closed();
+  default: throw std::logic_error("cuckoo: refused by code " + std::to_string(code));
+  }
+}
+
+// The calls on keys that are numbers.
+struct numbers {
+  using handle = cuckoo_handle;
+  static constexpr auto open = cuckoo_open_with;
+  static constexpr auto close = cuckoo_close;
+  static constexpr auto find = cuckoo_find;
+  static constexpr auto contains = cuckoo_contains;
+  static constexpr auto insert = cuckoo_insert;
+  static constexpr auto assign = cuckoo_assign;
+  static constexpr auto add = cuckoo_add;
+  static constexpr auto update = cuckoo_update;
+  static constexpr auto swap_if = cuckoo_swap_if;
+  static constexpr auto erase = cuckoo_erase;
+  static constexpr auto erase_if = cuckoo_erase_if;
+  static constexpr auto len = cuckoo_len;
+  static constexpr auto capacity = cuckoo_capacity;
+  static constexpr auto reserve = cuckoo_reserve;
+  static constexpr auto clear = cuckoo_clear;
+  static constexpr auto copy = cuckoo_export;
+  static constexpr auto drain = cuckoo_drain;
+  static constexpr auto close_pairs = cuckoo_pairs_close;
+
+  // Pairs, and the place that the next one is read to.
+  struct reader {
+    cuckoo_pairs pairs = CUCKOO_NO_PAIRS;
+    std::uint64_t key = 0;
+    std::uint64_t value = 0;
+
+    bool next() { return cuckoo_pairs_next(&pairs, &key, &value) == CUCKOO_OK; }
+    std::uint64_t known() const { return key; }
+  };
+};
+
+// The same on keys that are texts.
+struct texts {
+  using handle = cuckoo_text_handle;
+  static constexpr auto open = cuckoo_text_open_with;
+  static constexpr auto close = cuckoo_text_close;
+  static constexpr auto find = cuckoo_text_find;
+  static constexpr auto contains = cuckoo_text_contains;
+  static constexpr auto insert = cuckoo_text_insert;
+  static constexpr auto assign = cuckoo_text_assign;
+  static constexpr auto add = cuckoo_text_add;
+  static constexpr auto update = cuckoo_text_update;
+  static constexpr auto swap_if = cuckoo_text_swap_if;
+  static constexpr auto erase = cuckoo_text_erase;
+  static constexpr auto erase_if = cuckoo_text_erase_if;
+  static constexpr auto len = cuckoo_text_len;
+  static constexpr auto capacity = cuckoo_text_capacity;
+  static constexpr auto reserve = cuckoo_text_reserve;
+  static constexpr auto clear = cuckoo_text_clear;
+  static constexpr auto copy = cuckoo_text_export;
+  static constexpr auto drain = cuckoo_text_drain;
+  static constexpr auto close_pairs = cuckoo_text_pairs_close;
+
+  struct reader {
+    cuckoo_text_pairs pairs = CUCKOO_NO_PAIRS;
+    std::uint8_t key[64] = {};
+    std::size_t length = 0;
+    std::uint64_t value = 0;
+
+    bool next() {
+      return cuckoo_text_pairs_next(&pairs, key, sizeof key, &length, &value) == CUCKOO_OK;
+    }
+    std::string_view known() const { return {reinterpret_cast<const char *>(key), length}; }
+  };
+};
+
+// Makes a call on a key.
+template <class Function, class... Rest>
+std::int32_t on_key(Function call, cuckoo_handle *at, std::uint64_t key, Rest... rest) {
+  return call(at, key, rest...);
+}
+
+template <class Function, class... Rest>
+std::int32_t on_key(Function call, cuckoo_text_handle *at, std::string_view key, Rest... rest) {
+  // A view of nothing may be a null pointer, and the library wants another.
+  const char *bytes = key.empty() ? "" : key.data();
+  return call(at, reinterpret_cast<const std::uint8_t *>(bytes), key.size(), rest...);
+}
+
+template <class Key>
+constexpr bool is_text = std::is_same_v<Key, std::string_view> || std::is_same_v<Key, std::string>;
+
+template <class Key>
+constexpr bool is_number = (std::is_integral_v<Key> || std::is_enum_v<Key> ||
+                            std::is_pointer_v<Key>) && sizeof(Key) <= sizeof(std::uint64_t);
+
+// How keys go to the library and come back: `taken` is what calls take, and `kept` a copy.
+template <class Key, class = void> struct keys {
+  static_assert(is_text<Key> || is_number<Key>,
+                "keys are integers, enums or pointers of at most 8 bytes, or texts");
+};
+
+template <class Key> struct keys<Key, std::enable_if_t<is_text<Key>>> {
+  using family = texts;
+  using taken = std::string_view;
+  using kept = std::string;
+  static std::string_view to(std::string_view key) { return key; }
+  static std::string_view from(std::string_view key) { return key; }
+};
+
+template <class Key> struct keys<Key, std::enable_if_t<is_number<Key>>> {
+  using family = numbers;
+  using taken = Key;
+  using kept = Key;
+
+  static std::uint64_t to(Key key) {
+    if constexpr (std::is_pointer_v<Key>)
+      return reinterpret_cast<std::uintptr_t>(key);
+    else
+      return static_cast<std::uint64_t>(key);
+  }
+
+  static Key from(std::uint64_t number) {
+    if constexpr (std::is_pointer_v<Key>)
+      return reinterpret_cast<Key>(static_cast<std::uintptr_t>(number));
+    else if constexpr (std::is_enum_v<Key>)
+      return static_cast<Key>(static_cast<std::underlying_type_t<Key>>(number));
+    else
+      return static_cast<Key>(number);
+  }
+};
+
+// A value as the number that the library keeps.
+template <class T> std::uint64_t to_number(const T &value) {
+  std::uint64_t number = 0;
+  std::memcpy(&number, &value, sizeof value);
+  return number;
+}
+
+template <class T> T from_number(std::uint64_t number) {
+  T value;
+  std::memcpy(&value, &number, sizeof value);
+  return value;
+}
+
+// What lends handles to threads, seen from a thread.
+class lender {
+public:
+  virtual ~lender() = default;
+  // Takes a handle back from a thread that ends.
+  virtual void take_back(void *handle) noexcept = 0;
+  virtual bool is_open() noexcept = 0;
+};
+
+// The handle that this thread had last. It is not destroyed, so that threads and programs that are
+// ending may still look at it.
+struct latest_loan {
+  const void *of;
+  void *handle;
+  bool thread_ends;
+};
+
+inline constexpr char nobody = 0;
+inline thread_local latest_loan latest{&nobody, nullptr, false};
+
+inline void forget_latest() { latest.of = &nobody; }
+
+// The handles that this thread has, one of each map that it has called. They keep their lenders in
+// memory, so no new lender stands at the address of one that is in the list.
+class loans {
+  struct loan {
+    std::shared_ptr<lender> of;
+    void *handle;
+  };
+  std::vector<loan> all_;
+
+  void drop_closed() {
+    for (std::size_t i = 0; i < all_.size();)
+      if (all_[i].of->is_open())
+        i++;
+      else
+        drop(i);
+  }
+
+  void drop(std::size_t index) {
+    all_[index] = std::move(all_.back());
+    all_.pop_back();
+  }
+
+public:
+  loans() = default;
+  loans(const loans &) = delete;
+  loans &operator=(const loans &) = delete;
+
+  ~loans() {
+    forget_latest();
+    latest.thread_ends = true;
+    for (loan &one : all_) one.of->take_back(one.handle);
+  }
+
+  void *find(const lender *of) const {
+    for (const loan &one : all_)
+      if (one.of.get() == of) return one.handle;
+    return nullptr;
+  }
+
+  // Makes room for one more, and forgets maps that have ended.
+  void prepare() {
+    forget_latest();
+    drop_closed();
+    all_.reserve(all_.size() + 1);
+  }
+
+  void push(std::shared_ptr<lender> of, void *handle) { all_.push_back({std::move(of), handle}); }
+
+  // Forgets the handle that was lent by this one.
+  void forget(const lender *of) {
+    forget_latest();
+    for (std::size_t i = 0; i < all_.size(); i++)
+      if (all_[i].of.get() == of) return drop(i);
+  }
+
+  static loans &of_thread() {
+    static thread_local loans one;
+    return one;
+  }
+};
+
+// The handles of one table.
+template <class Family> class pool final : public lender {
+  using handle = typename Family::handle;
+
+  // Each is in a line of the cache of its own: every call writes it.
+  struct alignas(64) place {
+    handle at = CUCKOO_CLOSED_HANDLE;
+  };
+
+  std::mutex lock_;
+  std::vector<place> places_;
+  std::vector<handle *> idle_;
+  bool is_open_ = true;
+
+  std::mutex shared_lock_;
+  handle *shared_;
+
+public:
+  explicit pool(const cuckoo_settings &settings) {
+    const std::size_t count = settings.callers;
+    if (count < 1 || count > 1024) refuse(CUCKOO_BAD_SETTINGS);
+    places_.resize(count);
+    idle_.reserve(count);
+    std::vector<handle> handles(count, handle(CUCKOO_CLOSED_HANDLE));
+    if (const std::int32_t code = Family::open(&settings, handles.data(), count)) refuse(code);
+    for (std::size_t i = 0; i < count; i++) {
+      places_[i].at = handles[i];
+      if (i > 0) idle_.push_back(&places_[i].at);
+    }
+    shared_ = &places_[0].at;
+  }
+
+  // Ends the table; threads that still have a handle find it closed when they end.
+  void close() noexcept {
+    std::lock_guard<std::mutex> held(lock_);
+    is_open_ = false;
+    for (place &one : places_) Family::close(&one.at);
+    places_ = {};
+    idle_ = {};
+  }
+
+  // A handle for a thread, or null where all are lent.
+  handle *lend() {
+    std::lock_guard<std::mutex> held(lock_);
+    if (idle_.empty()) return nullptr;
+    handle *one = idle_.back();
+    idle_.pop_back();
+    return one;
+  }
+
+  void take_back(void *lent) noexcept override {
+    std::lock_guard<std::mutex> held(lock_);
+    if (is_open_) idle_.push_back(static_cast<handle *>(lent));
+  }
+
+  bool is_open() noexcept override {
+    std::lock_guard<std::mutex> held(lock_);
+    return is_open_;
+  }
+
+  // Makes a call through the handle that is shared. Where that is closed, another takes its place.
+  template <class Call> std::int32_t share(const Call &call) {
+    std::lock_guard<std::mutex> held(shared_lock_);
+    for (;;) {
+      const std::int32_t code = call(shared_);
+      if (code != CUCKOO_CLOSED) return code;
+      handle *other = lend();
+      if (!other) return code;
+      shared_ = other;
+    }
+  }
+};
+
+// A table, which ends with it.
+template <class Family> class table {
+  using handle = typename Family::handle;
+  std::shared_ptr<pool<Family>> pool_;
+
+  // Whether the latest handle is of this table. One that was moved from has none.
+  bool is_latest() const { return latest.of == pool_.get(); }
+
+  // A handle of this thread's, which becomes the latest; null where it can't have one.
+  handle *borrow() const {
+    if (latest.thread_ends) return nullptr;
+    loans &mine = loans::of_thread();
+    void *at = mine.find(pool_.get());
+    if (!at) {
+      mine.prepare();
+      at = pool_->lend();
+      if (!at) return nullptr;
+      mine.push(pool_, at);
+    }
+    latest.of = pool_.get();
+    latest.handle = at;
+    return static_cast<handle *>(at);
+  }
+
+  // Makes a call where the latest handle isn't of this table.
+  template <class Call> std::int32_t other_than_latest(const Call &call) const {
+    if (!pool_) return CUCKOO_CLOSED;
+    if (handle *at = borrow()) return call(at);
+    return pool_->share(call);
+  }
+
+  void close() noexcept {
+    if (pool_) pool_->close();
+  }
+
+  // What follows on a refusal: another try, or an exception.
+  [[gnu::noinline]] void after(std::int32_t code) const {
+    // The thread's handle was closed by a `clear` that found no memory: it gets another.
+    if (code == CUCKOO_CLOSED && is_latest())
+      loans::of_thread().forget(pool_.get());
+    else
+      refuse(code);
+  }
+
+  // Makes a call until it is answered, whichever handle is the latest.
+  template <class Call> [[gnu::noinline]] std::int32_t answer_slowly(const Call &call) const {
+    for (;;) {
+      const std::int32_t code = is_latest() ? call(static_cast<handle *>(latest.handle))
+                                            : other_than_latest(call);
+      if (code >= 0) return code;
+      after(code);
+    }
+  }
+
+public:
+  explicit table(const cuckoo_settings &settings)
+      : pool_(std::make_shared<pool<Family>>(settings)) {}
+  table(table &&) noexcept = default;
+  ~table() { close(); }
+
+  table &operator=(table &&other) noexcept {
+    if (this != &other) {
+      close();
+      pool_ = std::move(other.pool_);
+    }
+    return *this;
+  }
+
+  // Makes a call until it is answered. Else it throws.
+  template <class Call> std::int32_t answer(const Call &call) const {
+    if (is_latest()) {
+      const std::int32_t code = call(static_cast<handle *>(latest.handle));
+      if (code >= 0) return code;
+      after(code);
+    }
+    return answer_slowly(call);
+  }
+};
+
+inline cuckoo_settings settings_for(const options &wanted) {
+  cuckoo_settings settings;
+  cuckoo_settings_for(wanted.keys, wanted.callers + 1, wanted.turns, &settings);
+  return settings;
+}
+
+} // namespace detail
+
+/// The pairs of a map at one moment, which are read once, in the order of the keys as unsigned
+/// numbers or as bytes. Other threads don't change them. A text key that is read is good until the
+/// next one is, or the snapshot moves.
+///
+///     for (auto [key, value] : ages.snapshot()) std::cout << key << ' ' << value << '\n';
+template <class Key, class T> class snapshot {
+  using keys = detail::keys<Key>;
+  using family = typename keys::family;
+  typename family::reader reader_;
+
+public:
+  /// A key and its value.
+  using value_type = std::pair<typename keys::taken, T>;
+
+  /// No pairs.
+  snapshot() = default;
+
+  /// Leaves no pairs in the other one.
+  snapshot(snapshot &&other) noexcept : reader_(other.reader_) {
+    other.reader_.pairs = CUCKOO_NO_PAIRS;
+  }
+
+  /// Leaves in the other one what this one had.
+  snapshot &operator=(snapshot &&other) noexcept {
+    std::swap(reader_, other.reader_);
+    return *this;
+  }
+
+  /// What wasn't read is freed.
+  ~snapshot() { family::close_pairs(&reader_.pairs); }
+
+  /// The next pair, or nothing after the last one.
+  std::optional<value_type> next() {
+    if (!reader_.next()) return std::nullopt;
+    return value_type(keys::from(reader_.known()), detail::from_number<T>(reader_.value));
+  }
+
+  /// Reads the pairs on.
+  class iterator {
+  public:
+    /// It is passed over once.
+    using iterator_category = std::input_iterator_tag;
+    /// A key and its value.
+    using value_type = typename snapshot<Key, T>::value_type;
+    /// Of no use: iterators have no distance.
+    using difference_type = std::ptrdiff_t;
+    /// What `->` gives.
+    using pointer = const value_type *;
+    /// What `*` gives.
+    using reference = const value_type &;
+
+    /// Behind the last pair.
+    iterator() = default;
+    /// At the next pair.
+    explicit iterator(snapshot &of) : of_(&of), now_(of.next()) {}
+
+    /// The pair.
+    reference operator*() const { return *now_; }
+    /// The pair.
+    pointer operator->() const { return &*now_; }
+    /// Reads the next one.
+    iterator &operator++() {
+      now_ = of_->next();
+      return *this;
+    }
+    /// Reads the next one.
+    void operator++(int) { ++*this; }
+    /// Whether both are behind the last pair, or neither is.
+    bool operator==(const iterator &other) const {
+      return now_.has_value() == other.now_.has_value();
+    }
+    /// Whether just one is behind the last pair.
+    bool operator!=(const iterator &other) const { return !(*this == other); }
+
+  private:
+    snapshot *of_ = nullptr;
+    std::optional<value_type> now_;
+  };
+
+  /// At the next pair, which it reads.
+  iterator begin() { return iterator(*this); }
+  /// Behind the last pair.
+  iterator end() { return iterator(); }
+
+private:
+  template <class, class> friend class map;
+};
+
+/// A concurrent hash map. Keys are integers, enums or pointers of at most 8 bytes, or
+/// `std::string_view` or `std::string` of at most 64 bytes, of which the map keeps a copy: longer
+/// ones throw std::length_error. Values are trivially copyable, have at most 8 bytes and a default
+/// constructor; they are passed as copies. All calls may throw `closed`, where the map was moved
+/// from, and std::bad_alloc.
+template <class Key, class T> class map {
+  static_assert(std::is_trivially_copyable_v<T> && sizeof(T) <= sizeof(std::uint64_t),
+                "values are trivially copyable, and have at most 8 bytes");
+  static_assert(std::is_default_constructible_v<T>, "values have a default constructor");
+
+  using keys = detail::keys<Key>;
+  using family = typename keys::family;
+  detail::table<family> table_;
+
+public:
+  /// The type of the keys.
+  using key_type = Key;
+  /// The type of the values.
+  using mapped_type = T;
+  /// The type of counts.
+  using size_type = std::size_t;
+  /// How calls take a key.
+  using key_taken = typename keys::taken;
+  /// A pair whose key is a copy.
+  using value_type = std::pair<typename keys::kept, T>;
+
+  /// An empty map. Throws std::invalid_argument where an option is out of its range.
+  explicit map(const options &wanted = {}) : table_(detail::settings_for(wanted)) {}
+
+  /// An empty map with room for about so many keys, and the other options as they are by default.
+  explicit map(size_type keys_wanted) : map(with_keys(keys_wanted)) {}
+
+  /// An empty map with every setting of the library's. One of its callers is the handle that
+  /// threads share.
+  explicit map(const cuckoo_settings &settings) : table_(settings) {}
+
+  /// Moves the table; no other thread may make a call meanwhile. Calls of what is moved from throw
+  /// `closed`.
+  map(map &&) noexcept = default;
+  /// The same, and the table that was here ends.
+  map &operator=(map &&) noexcept = default;
+  /// The table ends. Threads that have called it may live on.
+  ~map() = default;
+
+  /// Copies the value of the key to `value`, and returns whether the key is bound.
+  bool find(const key_taken &key, T &value) const {
+    std::uint64_t number;
+    if (!find_number(key, number)) return false;
+    value = detail::from_number<T>(number);
+    return true;
+  }
+
+  /// The value of the key. Throws std::out_of_range where it is unbound.
+  T find(const key_taken &key) const {
+    std::uint64_t number;
+    if (!find_number(key, number)) throw std::out_of_range("cuckoo: the key is unbound");
+    return detail::from_number<T>(number);
+  }
+
+  /// The value of the key, or nothing where it is unbound.
+  std::optional<T> get(const key_taken &key) const {
+    std::uint64_t number;
+    if (!find_number(key, number)) return std::nullopt;
+    return detail::from_number<T>(number);
+  }
+
+  /// Calls `fn(const T &)` on a copy of the value, and returns whether the key is bound.
+  template <class F> bool find_fn(const key_taken &key, F fn) const {
+    std::uint64_t number;
+    if (!find_number(key, number)) return false;
+    fn(static_cast<const T &>(detail::from_number<T>(number)));
+    return true;
+  }
+
+  /// Whether the key is bound.
+  bool contains(const key_taken &key) const { return on<family::contains>(key) == CUCKOO_OK; }
+
+  /// Binds an unbound key to a value of these arguments, and returns whether it was unbound. Throws
+  /// `full`, as each call does that binds a key.
+  template <class... Args> bool insert(const key_taken &key, Args &&...args) {
+    return on<family::insert>(key, number_of(std::forward<Args>(args)...)) == CUCKOO_OK;
+  }
+
+  /// Binds the key, and returns whether it was unbound.
+  template <class V> bool insert_or_assign(const key_taken &key, V &&value) {
+    std::uint64_t old;
+    return on<family::assign>(key, number_of(std::forward<V>(value)), &old) == CUCKOO_OK;
+  }
+
+  /// Adds to the value of the key, but not beyond its greatest, and binds an unbound key to `more`;
+  /// returns whether it was unbound. It is one call of the library's, where `upsert` makes two at
+  /// least. Of values that are unsigned integers of 8 bytes.
+  template <class U = T> bool add(const key_taken &key, std::common_type_t<U> more) {
+    static_assert(std::is_unsigned_v<U> && sizeof(U) == sizeof(std::uint64_t),
+                  "only unsigned integers of 8 bytes are added to");
+    return on<family::add>(key, static_cast<std::uint64_t>(more)) == CUCKOO_OK;
+  }
+
+  /// Binds a bound key, and returns whether it was bound.
+  template <class V> bool update(const key_taken &key, V &&value) {
+    std::uint64_t old;
+    return on<family::update>(key, number_of(std::forward<V>(value)), &old) == CUCKOO_OK;
+  }
+
+  /// Changes the value of the key by `fn(T &)`, and returns whether the key is bound.
+  template <class F> bool update_fn(const key_taken &key, F fn) {
+    return erase_fn(key, and_keep(fn));
+  }
+
+  /// Changes the value of the key by `fn(T &)`, or binds an unbound key to a value of these
+  /// arguments; returns whether it was unbound.
+  template <class F, class... Args> bool upsert(const key_taken &key, F fn, Args &&...args) {
+    return uprase_fn(key, and_keep(fn), std::forward<Args>(args)...);
+  }
+
+  /// Changes the value of the key by `fn(T &)`, or unbinds the key where that is true; an unbound
+  /// key is bound to a value of these arguments. Returns whether it was unbound.
+  template <class F, class... Args> bool uprase_fn(const key_taken &key, F fn, Args &&...args) {
+    const std::uint64_t number = number_of(std::forward<Args>(args)...);
+    for (;;) {
+      if (change(key, fn)) return false;
+      if (on<family::insert>(key, number) == CUCKOO_OK) return true;
+    }
+  }
+
+  /// Unbinds the key, and returns whether it was bound.
+  bool erase(const key_taken &key) {
+    std::uint64_t old;
+    return on<family::erase>(key, &old) == CUCKOO_OK;
+  }
+
+  /// Changes the value of the key by `fn(T &)`, or unbinds the key where that is true. Returns
+  /// whether it was bound.
+  template <class F> bool erase_fn(const key_taken &key, F fn) { return change(key, fn); }
+
+  /// How many keys are bound, counted under all locks.
+  size_type size() const { return count<family::len>(); }
+
+  /// Whether no key is bound, by a count of all.
+  bool empty() const { return size() == 0; }
+
+  /// How many slots the table has.
+  size_type capacity() const { return count<family::capacity>(); }
+
+  /// The part of the slots that is taken. Between its two counts other threads may make calls.
+  double load_factor() const {
+    return static_cast<double>(size()) / static_cast<double>(capacity());
+  }
+
+  /// Makes the table grow until it has so many slots, and returns whether it had fewer. It never
+  /// shrinks. Throws std::length_error where it may not have so many. Where std::bad_alloc is
+  /// thrown, it may have doubled.
+  bool reserve(size_type slots) {
+    return call<family::reserve>(slots) == CUCKOO_OK;
+  }
+
+  /// Unbinds all keys, at one moment. Where std::bad_alloc is thrown, one handle of the map is
+  /// lost; with its last one the table ends, and calls throw `closed`.
+  void clear() { call<family::clear>(); }
+
+  /// All pairs at one moment.
+  cuckoo::snapshot<Key, T> snapshot() const { return read<family::copy>(); }
+
+  /// All pairs at one moment, as a vector.
+  std::vector<value_type> pairs() const {
+    std::vector<value_type> all;
+    for (auto &&[key, value] : snapshot()) all.emplace_back(key, value);
+    return all;
+  }
+
+  /// All pairs at one moment, and unbinds all keys at that moment. What isn't read of them is lost.
+  cuckoo::snapshot<Key, T> drain() { return read<family::drain>(); }
+
+private:
+  static options with_keys(size_type keys_wanted) {
+    options wanted;
+    wanted.keys = keys_wanted;
+    return wanted;
+  }
+
+  template <class V> static std::uint64_t number_of(V &&value) {
+    return detail::to_number<T>(static_cast<T>(std::forward<V>(value)));
+  }
+
+  template <class... Args> static std::uint64_t number_of(Args &&...args) {
+    return detail::to_number<T>(T(std::forward<Args>(args)...));
+  }
+
+  // A closure that doesn't unbind.
+  template <class F> static auto and_keep(F &fn) {
+    return [&fn](T &value) {
+      fn(value);
+      return false;
+    };
+  }
+
+  // Makes a call of the library's on the table.
+  template <auto function, class... Rest> std::int32_t call(Rest... rest) const {
+    return table_.answer([=](auto *at) { return function(at, rest...); });
+  }
+
+  // The same on a key.
+  template <auto function, class... Rest>
+  std::int32_t on(const key_taken &key, Rest... rest) const {
+    const auto known = keys::to(key);
+    return table_.answer([=](auto *at) { return detail::on_key(function, at, known, rest...); });
+  }
+
+  bool find_number(const key_taken &key, std::uint64_t &number) const {
+    return on<family::find>(key, &number) == CUCKOO_OK;
+  }
+
+  template <auto function> size_type count() const {
+    std::uint64_t number = 0;
+    call<function>(&number);
+    return static_cast<size_type>(number);
+  }
+
+  template <auto function> cuckoo::snapshot<Key, T> read() const {
+    cuckoo::snapshot<Key, T> result;
+    call<function>(&result.reader_.pairs);
+    return result;
+  }
+
+  // Changes a bound key by a closure, and returns whether it was bound: sets what the closure makes
+  // of the value that was seen, as long as the key has another by then.
+  template <class F> bool change(const key_taken &key, F &fn) {
+    std::uint64_t seen;
+    if (!find_number(key, seen)) return false;
+    for (;;) {
+      T value = detail::from_number<T>(seen);
+      const bool is_erased = fn(value);
+      const std::uint64_t next = detail::to_number(value);
+      if (!is_erased && next == seen) return true;
+      const std::int32_t code = is_erased ? on<family::erase_if>(key, seen)
+                                          : on<family::swap_if>(key, seen, next, &seen);
+      if (code != CUCKOO_DIFFERENT) return code == CUCKOO_OK;
+      if (is_erased && !find_number(key, seen)) return false;
+    }
+  }
+};
+
+} // namespace cuckoo
+
+#endif

@@ -1,0 +1,204 @@
+// Each call of cuckoo_map.hpp, by one thread.
+#include "check.hpp"
+#include <cuckoo_map.hpp>
+
+#include <limits>
+#include <string>
+#include <vector>
+
+namespace {
+
+// Calls on a key that is unbound, and stays so.
+template <class Map, class Key> void calls_on_unbound(Map &map, const Key &key) {
+  std::uint64_t value = 7;
+  CHECK(map.empty() && map.capacity() >= 100);
+  CHECK(!map.find(key, value) && value == 7);
+  CHECK_THROWS(std::out_of_range, map.find(key));
+  CHECK(!map.get(key) && !map.contains(key));
+  CHECK(!map.find_fn(key, [](const std::uint64_t &) { CHECK(false); }));
+  CHECK(!map.update(key, 1u) && !map.update_fn(key, [](std::uint64_t &) { CHECK(false); }));
+  CHECK(!map.erase(key) && !map.erase_fn(key, [](std::uint64_t &) { return true; }));
+  CHECK(map.empty());
+}
+
+// Calls that bind two keys, and change their values: to 30 and 40 in the end.
+template <class Map, class Key> void calls_that_bind(Map &map, const Key &one, const Key &two) {
+  std::uint64_t value = 7;
+  CHECK(map.insert(one, 10) && !map.insert(one, 11));
+  CHECK(map.find(one) == 10 && map.find(one, value) && value == 10 && *map.get(one) == 10);
+  CHECK(map.contains(one) && !map.contains(two) && map.size() == 1);
+  CHECK(map.find_fn(one, [&](const std::uint64_t &seen) { value = seen + 1; }) && value == 11);
+  CHECK(map.update(one, 20) && map.find(one) == 20);
+  CHECK(map.update_fn(one, [](std::uint64_t &seen) { seen += 2; }) && map.find(one) == 22);
+  CHECK(!map.insert_or_assign(one, 30) && map.insert_or_assign(two, 40));
+  CHECK(map.find(one) == 30 && map.find(two) == 40 && map.size() == 2);
+  CHECK(map.load_factor() == 2.0 / static_cast<double>(map.capacity()));
+}
+
+// Calls that bind a key or change it, or unbind it.
+template <class Map, class Key> void calls_by_closures(Map &map, const Key &key) {
+  const auto next = [](std::uint64_t &seen) { seen++; };
+  const auto is_gone = [](std::uint64_t &) { return true; };
+  CHECK(!map.upsert(key, next, 5) && map.find(key) == 31);
+  CHECK(map.erase(key) && !map.contains(key));
+  CHECK(map.upsert(key, next, 5) && map.find(key) == 5);
+  CHECK(map.erase_fn(key, [](std::uint64_t &seen) { return seen++ == 0; }) && map.find(key) == 6);
+  CHECK(map.erase_fn(key, [](std::uint64_t &seen) { return seen == 6; }) && !map.contains(key));
+  CHECK(map.uprase_fn(key, is_gone, 8) && map.find(key) == 8);
+  CHECK(!map.uprase_fn(key, is_gone, 8) && !map.contains(key));
+}
+
+// Calls on all of the map, of which the second key has 40.
+template <class Map, class Key> void calls_on_all(Map &map, const Key &one, const Key &two) {
+  constexpr auto greatest = std::numeric_limits<std::uint64_t>::max();
+  CHECK(map.add(one, 3) && !map.add(one, 4) && map.find(one) == 7);
+  CHECK(!map.add(one, greatest) && map.find(one) == greatest);
+  CHECK(map.reserve(10 * map.capacity()) && !map.reserve(1) && map.find(two) == 40);
+  CHECK(map.pairs().size() == 2 && map.size() == 2);
+  std::uint64_t sum = 0;
+  for (const auto &[key, number] : map.snapshot()) {
+    CHECK(key == one || key == two);
+    sum += number;
+  }
+  CHECK(sum == greatest + 40);
+  auto drained = map.drain();
+  CHECK(map.empty() && drained.next() && drained.next() && !drained.next() && !drained.next());
+  CHECK(map.insert(one) && map.find(one) == 0);
+  map.clear();
+  CHECK(map.empty());
+}
+
+// The calls of a map from a type of keys, on two of them.
+template <class Key> void all_calls(const Key &one, const Key &two) {
+  cuckoo::map<Key, std::uint64_t> map(100);
+  calls_on_unbound(map, one);
+  calls_that_bind(map, one, two);
+  calls_by_closures(map, one);
+  calls_on_all(map, one, two);
+}
+
+enum class color : signed char { red = -2, green = 5 };
+
+struct point {
+  std::int16_t x, y;
+  char mark;
+};
+
+void values() {
+  cuckoo::map<int, point> points(100);
+  CHECK(points.insert(-1, point{1, 2, 'a'}));
+  CHECK(points.update_fn(-1, [](point &seen) { seen.y = -3; }));
+  const point found = points.find(-1);
+  CHECK(found.x == 1 && found.y == -3 && found.mark == 'a');
+  CHECK(points.erase_fn(-1, [](point &seen) { return seen.y == -3; }) && points.empty());
+
+  int number = 4;
+  cuckoo::map<int *, int *> pointers(100);
+  CHECK(pointers.insert(&number, &number) && *pointers.find(&number) == 4);
+  for (auto [key, value] : pointers.pairs()) CHECK(key == &number && value == &number);
+
+  cuckoo::map<std::string, double> texts(100);
+  CHECK(texts.insert("half", .5) && texts.find(std::string("half")) == .5);
+  CHECK(texts.update_fn("half", [](double &seen) { seen *= 3; }) && texts.find("half") == 1.5);
+}
+
+void texts() {
+  cuckoo::map<std::string_view, int> map(100);
+  const std::string longest(64, 'x');
+  const std::string zeros("a\0b", 3);
+  CHECK(map.insert(longest, 1) && map.insert(zeros, 2) && map.insert(std::string_view(), 3));
+  CHECK(map.find(longest) == 1 && map.find(zeros) == 2 && map.find("") == 3);
+  CHECK(!map.contains("a") && map.size() == 3);
+  CHECK_THROWS(std::length_error, map.insert(longest + 'x', 1));
+  CHECK_THROWS(std::length_error, map.contains(longest + 'x'));
+  const auto pairs = map.pairs();
+  CHECK(pairs.size() == 3 && pairs[0].first.empty() && pairs[1].first == zeros);
+  CHECK(pairs[2].first == longest && pairs[2].second == 1);
+}
+
+// Exceptions of a closure pass, and leave the map as it was.
+void closures() {
+  cuckoo::map<int, int> map(100);
+  map.insert(1, 10);
+  CHECK_THROWS(int, map.update_fn(1, [](int &value) { throw value = 3; }));
+  CHECK_THROWS(int, map.upsert(1, [](int &value) { throw value = 3; }, 4));
+  CHECK_THROWS(int, map.erase_fn(1, [](int &value) -> bool { throw value = 3; }));
+  CHECK(map.find(1) == 10);
+  // A closure may call the map. Where its own key changes meanwhile, it runs again.
+  int runs = 0;
+  const auto next_of_another = [&](int &value) {
+    if (runs++ == 0) map.update(1, 20);
+    value++;
+  };
+  CHECK(map.update_fn(1, next_of_another) && runs == 2 && map.find(1) == 21);
+  runs = 0;
+  const auto erase_another = [&](int &value) {
+    if (runs++ == 0) map.update(1, 30);
+    CHECK(value == (runs == 1 ? 21 : 30));
+    return true;
+  };
+  CHECK(map.erase_fn(1, erase_another) && runs == 2 && !map.contains(1));
+  // Where the key is unbound meanwhile, it is bound as an unbound one.
+  map.insert(1, 10);
+  const auto next_of_none = [&](int &value) {
+    map.erase(1);
+    value++;
+  };
+  CHECK(map.upsert(1, next_of_none, 6) && map.find(1) == 6);
+  CHECK(map.update_fn(1, next_of_none) == false && map.empty());
+}
+
+void refusals() {
+  CHECK_THROWS(std::invalid_argument, cuckoo::map<int, int>(cuckoo::options{100, 1024, 64}));
+  CHECK_THROWS(std::invalid_argument, cuckoo::map<int, int>(cuckoo::options{100, 4, 0}));
+  CHECK_THROWS(std::invalid_argument, cuckoo::map<int, int>(cuckoo::options{100, ~0u, 64}));
+  cuckoo_settings settings{0, 1, 2, 1, 64, 4, 5};
+  cuckoo::map<int, int> small(settings);
+  int count = 0;
+  std::int32_t code = CUCKOO_OK;
+  while (code == CUCKOO_OK) try {
+      small.insert(count, count);
+      count++;
+    } catch (const cuckoo::full &refusal) {
+      code = refusal.code();
+    }
+  CHECK(code == CUCKOO_FULL && small.size() == static_cast<std::size_t>(count));
+  CHECK_THROWS(cuckoo::full, small.upsert(count, [](int &) {}, 1));
+  for (int key = 0; key < count; key++) CHECK(small.find(key) == key);
+  CHECK_THROWS(std::length_error, small.reserve(17));
+}
+
+void moves() {
+  cuckoo::map<int, int> one(100);
+  one.insert(1, 10);
+  cuckoo::map<int, int> two(std::move(one));
+  CHECK(two.find(1) == 10);
+  CHECK_THROWS(cuckoo::closed, one.find(1));
+  CHECK_THROWS(cuckoo::closed, one.size());
+  one = cuckoo::map<int, int>(100);
+  CHECK(one.empty() && one.insert(2, 20));
+  std::swap(one, two);
+  CHECK(one.find(1) == 10 && two.find(2) == 20);
+  two = std::move(one);
+  CHECK(two.find(1) == 10);
+  auto read = two.snapshot();
+  auto moved = std::move(read);
+  CHECK(!read.next() && moved.next() && !moved.next());
+}
+
+} // namespace
+
+int main() {
+  all_calls<std::uint64_t>(0, std::numeric_limits<std::uint64_t>::max());
+  all_calls<int>(-1, 1);
+  all_calls<color>(color::red, color::green);
+  all_calls<std::string>("one", "two");
+  all_calls<std::string_view>("", std::string_view("\0", 1));
+  all_calls<const char *>("one", nullptr);
+  values();
+  texts();
+  closures();
+  refusals();
+  moves();
+  return report();
+}
