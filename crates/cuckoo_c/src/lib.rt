@@ -13,9 +13,11 @@
 mod code;
 mod handles;
 mod keys;
+mod settings;
 
 // What each call does, once for all types of keys.
 mod calls;
+mod opening;
 
 // The calls, for each type of keys.
 mod numbers;

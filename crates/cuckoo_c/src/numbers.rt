@@ -1,5 +1,5 @@
 //! The calls on tables whose keys are numbers, as C makes them.
-ghost use Rattle.std.specs.Prelude.{◌≡◌, ◌∷◌, [], ℕ, Bool, Option, Result, nat_eq};
+ghost use Rattle.std.specs.Prelude.{◌≡◌, ◌∷◌, [], ℕ, Bool, Option, Result, length, map, nat_eq};
 ghost use Rattle.std.specs.declared.option.Option.TheVariants.{None};
 ghost use Rattle.ck_key.specs.Hashes.{mixed_hash};
 ghost use Rattle.ck_section.specs.Acts.{Finds, FindsBound, Inserts, Assigns, Upserts, Modifies, ErasesBy, Erases};
@@ -9,12 +9,53 @@ ghost use Rattle.cuckoo_map.specs.declared.refusal.Refused.{Refused};
 ghost use Rattle.cuckoo_map.specs.Callers.{QueryLeaves, InsertionLeaves};
 ghost use Rattle.cuckoo_c.specs.declared.keys.NumberKey.{NumberKey};
 ghost use Rattle.cuckoo_c.specs.Codes.{Numbered, TellsBound, TellsValue, TellsFresh, TellsOld, TellsSeen, TellsMatch, TellsCount, TellsGrown};
+ghost use Rattle.cuckoo_c.specs.Openings.{Opens, settings_of};
 ghost use Rattle.cuckoo_c.specs.Handles.{Calls, AddsTo, Replaces, Swaps, CountLeaves, CapacityLeaves, GrowthLeaves};
 
 use crate::calls;
 use crate::handles::CuckooHandle;
 use crate::keys::NumberKey;
+use crate::opening::{self, settings_for};
+use crate::settings::CuckooSettings;
 use std::alloc::Global;
+
+/// A new table for about so many keys, with a handle in each of the places, which are closed.
+#[unsafe(no_mangle)]
+pub extern "C" fn cuckoo_open(
+    alloc: Global,
+    keys: u64,
+    turns: u32,
+    handles: &mut [CuckooHandle],
+) -> i32
+    ensures length { length handles.new ≡ length handles.old }
+    ensures opens { Opens (λ set. set.turns ≡ turns)
+        (map (λ h. h.held) handles.old) (map (λ h. h.held) handles.new) result }
+{
+    let settings = settings_for(keys, handles.len(), turns);
+    opening::open(alloc, settings, handles).number()
+}
+
+/// The same with every setting.
+#[unsafe(no_mangle)]
+pub extern "C" fn cuckoo_open_with(
+    alloc: Global,
+    settings: &CuckooSettings,
+    handles: &mut [CuckooHandle],
+) -> i32
+    ensures length { length handles.new ≡ length handles.old }
+    ensures opens { Opens (λ set. set ≡ settings_of settings.now)
+        (map (λ h. h.held) handles.old) (map (λ h. h.held) handles.new) result }
+{
+    opening::open(alloc, settings.settings(), handles).number()
+}
+
+/// Closes a handle. The table ends with its last one.
+#[unsafe(no_mangle)]
+pub extern "C" fn cuckoo_close(alloc: Global, handle: &mut CuckooHandle)
+    ensures { handle.new.held ≡ None }
+{
+    opening::close(alloc, handle);
+}
 
 /// The value of the key.
 #[unsafe(no_mangle)]

@@ -1,5 +1,5 @@
 //! The calls on tables whose keys are texts, as C makes them.
-ghost use Rattle.std.specs.Prelude.{◌≡◌, ◌≤◌, ◌<◌, ℕ, Bool, Option, Result, IfOk, IfErr, MatchBool, length, nat_eq, nat_lt};
+ghost use Rattle.std.specs.Prelude.{◌≡◌, ◌≤◌, ◌<◌, ℕ, Bool, Option, Result, IfOk, IfErr, MatchBool, length, map, nat_eq, nat_lt};
 ghost use Rattle.std.specs.declared.option.Option.TheVariants.{None};
 ghost use Rattle.ck_key.specs.Hashes.{text_hash};
 ghost use Rattle.ck_section.specs.Acts.{Finds, FindsBound, Inserts, Assigns, Upserts, Modifies, ErasesBy, Erases};
@@ -10,12 +10,15 @@ ghost use Rattle.cuckoo_map.specs.Callers.{QueryLeaves, InsertionLeaves};
 ghost use Rattle.cuckoo_c.specs.declared.keys.BytesKey.{BytesKey};
 ghost use Rattle.cuckoo_c.specs.declared.code.Code.TheVariants as codes;
 ghost use Rattle.cuckoo_c.specs.Codes.{number_of, Numbered, TellsBound, TellsValue, TellsFresh, TellsOld, TellsSeen, TellsMatch, TellsCount, TellsGrown};
+ghost use Rattle.cuckoo_c.specs.Openings.{Opens, settings_of};
 ghost use Rattle.cuckoo_c.specs.Handles.{Calls, CallsWithMemory, AddsTo, Replaces, Swaps, CountLeaves, CapacityLeaves, GrowthLeaves};
 
 use crate::calls;
 use crate::code::Code;
 use crate::handles::CuckooTextHandle;
 use crate::keys::{Bytes, BytesKey};
+use crate::opening::{self, settings_for};
+use crate::settings::CuckooSettings;
 use cuckoo_map::{KeyFault, TextKey};
 use std::alloc::Global;
 
@@ -33,6 +36,44 @@ fn key_of(alloc: Global, bytes: &[u8]) -> Result<BytesKey, Code>
         Err(KeyFault::TooLong) => Err(Code::TooLong),
         Err(KeyFault::Memory) => Err(Code::Memory),
     }
+}
+
+/// A new table for about so many keys, with a handle in each of the places, which are closed.
+#[unsafe(no_mangle)]
+pub extern "C" fn cuckoo_text_open(
+    alloc: Global,
+    keys: u64,
+    turns: u32,
+    handles: &mut [CuckooTextHandle],
+) -> i32
+    ensures length { length handles.new ≡ length handles.old }
+    ensures opens { Opens (λ set. set.turns ≡ turns)
+        (map (λ h. h.held) handles.old) (map (λ h. h.held) handles.new) result }
+{
+    let settings = settings_for(keys, handles.len(), turns);
+    opening::open(alloc, settings, handles).number()
+}
+
+/// The same with every setting.
+#[unsafe(no_mangle)]
+pub extern "C" fn cuckoo_text_open_with(
+    alloc: Global,
+    settings: &CuckooSettings,
+    handles: &mut [CuckooTextHandle],
+) -> i32
+    ensures length { length handles.new ≡ length handles.old }
+    ensures opens { Opens (λ set. set ≡ settings_of settings.now)
+        (map (λ h. h.held) handles.old) (map (λ h. h.held) handles.new) result }
+{
+    opening::open(alloc, settings.settings(), handles).number()
+}
+
+/// Closes a handle. The table ends with its last one.
+#[unsafe(no_mangle)]
+pub extern "C" fn cuckoo_text_close(alloc: Global, handle: &mut CuckooTextHandle)
+    ensures { handle.new.held ≡ None }
+{
+    opening::close(alloc, handle);
 }
 
 /// The value of the key.
