@@ -17,5 +17,8 @@ mod keys;
 // What each call does, once for all types of keys.
 mod calls;
 
+// How handles come into their places, and how they go, once for all types of keys.
+mod opening;
+
 // The calls, for each type of keys.
 mod numbers;
