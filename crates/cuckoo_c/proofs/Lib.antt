@@ -1,2 +1,3 @@
-pub mod Payloads
 mod Through
+pub mod Payloads
+pub mod Placing

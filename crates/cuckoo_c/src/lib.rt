@@ -19,6 +19,9 @@ mod settings;
 mod calls;
 mod opening;
 
+// How handles come into their places, and how they go, once for all types of keys.
+mod opening;
+
 // The calls, for each type of keys.
 mod numbers;
 mod texts;
