@@ -1,5 +1,5 @@
 -- What an opening leaves.
-use Rattle.std.specs.Prelude.{◌≡◌, ◌≢◌, ℕ, ℤ, List, length, map, Some}
+use Rattle.std.specs.Prelude.{◌≡◌, ◌≢◌, ℕ, List, map, Some}
 use Rattle.std.specs.declared.option.Option.{Option}
 use Rattle.ck_model.specs.declared.settings.Settings.{Settings}
 use Rattle.ck_model.specs.Counting.{counting}
@@ -7,8 +7,8 @@ use Rattle.ck_words.specs.Words.{WordsState}
 use Rattle.ck_words.specs.Closing.{dealt}
 use Rattle.cuckoo_map.specs.Callers.{CallerState, callers_of}
 use Rattle.cuckoo_c.specs.declared.settings.CuckooSettings.{CuckooSettings}
+use Rattle.cuckoo_c.specs.declared.code.Code.{Code}
 use Rattle.cuckoo_c.specs.declared.code.Code.TheVariants as codes
-use Rattle.cuckoo_c.specs.Codes.{number_of}
 
 abbrev pub settings_of : CuckooSettings → Settings
 settings_of c = record { s = c.s; power = c.power; max = c.max; callers = c.callers; turns = c.turns; rounds = c.rounds; min_load = c.min_load }
@@ -18,5 +18,5 @@ abbrev pub HoldsNewTable : Settings → List (Option (CallerState ℕ)) → Type
 HoldsNewTable set now = (w : WordsState) × (w.settings ≡ set) × (now ≡ map Some (callers_of w (dealt w.table set (counting 0 set.callers))))
 
 -- A new table was opened, with such settings, or it was refused, and the places hold what they held.
-abbrev pub Opens : (Settings → Type 0) → List (Option (CallerState ℕ)) → List (Option (CallerState ℕ)) → ℤ → Type 0
-Opens P was now n = (n ≡ number_of codes.Done → (set : Settings) × P set × (set.callers ≡ length was) × HoldsNewTable set now) × (n ≢ number_of codes.Done → now ≡ was)
+abbrev pub Opens : (Settings → Type 0) → List (Option (CallerState ℕ)) → List (Option (CallerState ℕ)) → Code → Type 0
+Opens P was now code = (code ≡ codes.Done → (set : Settings) × P set × HoldsNewTable set now) × (code ≢ codes.Done → now ≡ was)

@@ -17,7 +17,6 @@ mod settings;
 
 // What each call does, once for all types of keys.
 mod calls;
-mod opening;
 
 // How handles come into their places, and how they go, once for all types of keys.
 mod opening;

@@ -28,8 +28,8 @@ pub extern "C" fn cuckoo_open(
     handles: &mut [CuckooHandle],
 ) -> i32
     ensures length { length handles.new ≡ length handles.old }
-    ensures opens { Opens (λ set. set.turns ≡ turns)
-        (map (λ h. h.held) handles.old) (map (λ h. h.held) handles.new) result }
+    ensures opens { Numbered result (Opens (λ set. set.turns ≡ turns)
+        (map (λ h. h.held) handles.old) (map (λ h. h.held) handles.new)) }
 {
     let settings = settings_for(keys, handles.len(), turns);
     opening::open(alloc, settings, handles).number()
@@ -43,8 +43,8 @@ pub extern "C" fn cuckoo_open_with(
     handles: &mut [CuckooHandle],
 ) -> i32
     ensures length { length handles.new ≡ length handles.old }
-    ensures opens { Opens (λ set. set ≡ settings_of settings.now)
-        (map (λ h. h.held) handles.old) (map (λ h. h.held) handles.new) result }
+    ensures opens { Numbered result (Opens (λ set. set ≡ settings_of settings.now)
+        (map (λ h. h.held) handles.old) (map (λ h. h.held) handles.new)) }
 {
     opening::open(alloc, settings.settings(), handles).number()
 }

@@ -12,6 +12,17 @@ use ck_owned::{Holds, put, take};
 use cuckoo_map::{Handle, OpenFault, Settings, TableKey};
 use std::alloc::{AllocError, Global};
 
+/// Settings for about so many keys, and for so many handles, of which there may be 1,024.
+pub fn settings_for(keys: u64, handles: usize, turns: u32) -> Settings
+    ensures { result.turns ≡ turns }
+{
+    let callers = if handles > 1024 { 0 } else { handles as u32 };
+    Settings {
+        turns,
+        ..Settings::for_keys(keys, callers)
+    }
+}
+
 /// Opens a table with as many handles as there are places, which are closed, and puts them there in
 /// their order.
 ///

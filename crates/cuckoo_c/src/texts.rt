@@ -47,8 +47,8 @@ pub extern "C" fn cuckoo_text_open(
     handles: &mut [CuckooTextHandle],
 ) -> i32
     ensures length { length handles.new ≡ length handles.old }
-    ensures opens { Opens (λ set. set.turns ≡ turns)
-        (map (λ h. h.held) handles.old) (map (λ h. h.held) handles.new) result }
+    ensures opens { Numbered result (Opens (λ set. set.turns ≡ turns)
+        (map (λ h. h.held) handles.old) (map (λ h. h.held) handles.new)) }
 {
     let settings = settings_for(keys, handles.len(), turns);
     opening::open(alloc, settings, handles).number()
@@ -62,8 +62,8 @@ pub extern "C" fn cuckoo_text_open_with(
     handles: &mut [CuckooTextHandle],
 ) -> i32
     ensures length { length handles.new ≡ length handles.old }
-    ensures opens { Opens (λ set. set ≡ settings_of settings.now)
-        (map (λ h. h.held) handles.old) (map (λ h. h.held) handles.new) result }
+    ensures opens { Numbered result (Opens (λ set. set ≡ settings_of settings.now)
+        (map (λ h. h.held) handles.old) (map (λ h. h.held) handles.new)) }
 {
     opening::open(alloc, settings.settings(), handles).number()
 }

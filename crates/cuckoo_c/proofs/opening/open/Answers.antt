@@ -1,4 +1,4 @@
-use Rattle.std.proofs.Common.{rules, ◌∙◌, ap, length, map, sym}
+use Rattle.std.proofs.Common.{rules, ◌∙◌, ap, length}
 use Rattle.std.proofs.lemmas.List.{length-map}
 use Rattle.ck_model.proofs.Counting.{length-counting}
 use Rattle.cuckoo_c.proofs.opening.open.Goals as goal
