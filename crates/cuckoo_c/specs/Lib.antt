@@ -1,4 +1,4 @@
 pub mod Codes
 pub mod Handles
-pub mod Openings
+pub mod NewTables
 pub mod Payloads

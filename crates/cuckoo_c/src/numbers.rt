@@ -9,7 +9,7 @@ ghost use Rattle.cuckoo_map.specs.declared.refusal.Refused.{Refused};
 ghost use Rattle.cuckoo_map.specs.Callers.{QueryLeaves, InsertionLeaves};
 ghost use Rattle.cuckoo_c.specs.declared.keys.NumberKey.{NumberKey};
 ghost use Rattle.cuckoo_c.specs.Codes.{Numbered, TellsBound, TellsValue, TellsFresh, TellsOld, TellsSeen, TellsMatch, TellsCount, TellsGrown};
-ghost use Rattle.cuckoo_c.specs.Openings.{Opens, settings_of};
+ghost use Rattle.cuckoo_c.specs.NewTables.{Opens, settings_of};
 ghost use Rattle.cuckoo_c.specs.Handles.{Calls, AddsTo, Replaces, Swaps, CountLeaves, CapacityLeaves, GrowthLeaves};
 
 use crate::calls;

@@ -1,6 +1,6 @@
 //! What C opens a table with.
 ghost use Rattle.std.specs.Prelude.{◌≡◌};
-ghost use Rattle.cuckoo_c.specs.Openings.{settings_of};
+ghost use Rattle.cuckoo_c.specs.NewTables.{settings_of};
 
 use cuckoo_map::Settings;
 

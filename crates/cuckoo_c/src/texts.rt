@@ -10,7 +10,7 @@ ghost use Rattle.cuckoo_map.specs.Callers.{QueryLeaves, InsertionLeaves};
 ghost use Rattle.cuckoo_c.specs.declared.keys.BytesKey.{BytesKey};
 ghost use Rattle.cuckoo_c.specs.declared.code.Code.TheVariants as codes;
 ghost use Rattle.cuckoo_c.specs.Codes.{number_of, Numbered, TellsBound, TellsValue, TellsFresh, TellsOld, TellsSeen, TellsMatch, TellsCount, TellsGrown};
-ghost use Rattle.cuckoo_c.specs.Openings.{Opens, settings_of};
+ghost use Rattle.cuckoo_c.specs.NewTables.{Opens, settings_of};
 ghost use Rattle.cuckoo_c.specs.Handles.{Calls, CallsWithMemory, AddsTo, Replaces, Swaps, CountLeaves, CapacityLeaves, GrowthLeaves};
 
 use crate::calls;
