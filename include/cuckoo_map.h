@@ -36,6 +36,8 @@
 #include <stddef.h>
 #include <stdint.h>
 
+#define CUCKOO_MAP_VERSION "0.1.0"
+
 #ifdef __cplusplus
 extern "C" {
 #endif
@@ -105,7 +107,7 @@ typedef struct cuckoo_settings {
 } cuckoo_settings;
 
 /* Settings for about so many keys: the table opens with room for them, and grows where more come.
- * `rounds` is 4 and `min_load` 5. */
+ * `rounds` is 4 and `min_load` 5. `callers` and `turns` are as they are given. */
 void cuckoo_settings_for(uint64_t keys, uint32_t callers, uint32_t turns, cuckoo_settings *settings);
 
 /* ---- keys that are numbers ---- */
@@ -116,7 +118,7 @@ void cuckoo_settings_for(uint64_t keys, uint32_t callers, uint32_t turns, cuckoo
  * CUCKOO_IS_OPEN. Refused, it leaves all places as they were. */
 int32_t cuckoo_open(uint64_t keys, uint32_t turns, cuckoo_handle *handles, size_t count);
 
-/* The same with every setting; `callers` is `count`. */
+/* The same with every setting. CUCKOO_BAD_SETTINGS also where `callers` isn't `count`. */
 int32_t cuckoo_open_with(const cuckoo_settings *settings, cuckoo_handle *handles, size_t count);
 
 /* Closes a handle. The table ends with its last one. A closed one stays closed. */
@@ -168,27 +170,30 @@ int32_t cuckoo_capacity(cuckoo_handle *handle, uint64_t *slots);
  * CUCKOO_NO_MEMORY: it may have doubled before that; CUCKOO_BUSY; CUCKOO_CLOSED. */
 int32_t cuckoo_reserve(cuckoo_handle *handle, uint64_t slots);
 
-/* Unbinds all keys, at one moment. CUCKOO_OK; CUCKOO_BUSY; CUCKOO_NO_MEMORY, after which the handle
- * is closed; CUCKOO_CLOSED. */
+/* Unbinds all keys, at one moment. CUCKOO_OK; CUCKOO_BUSY; CUCKOO_CLOSED; CUCKOO_NO_MEMORY: there is
+ * none to keep the handle, which is closed now, and the keys may be unbound. */
 int32_t cuckoo_clear(cuckoo_handle *handle);
 
 /* All pairs at one moment, in rising order of the keys: a copy, which other threads don't change.
- * CUCKOO_OK; CUCKOO_BUSY; CUCKOO_NO_MEMORY; CUCKOO_CLOSED; CUCKOO_IS_OPEN: `pairs` has some. */
+ * CUCKOO_OK; CUCKOO_BUSY; CUCKOO_CLOSED; CUCKOO_IS_OPEN: `pairs` is open; CUCKOO_NO_MEMORY: for the
+ * pairs, and nothing changed; or to keep the handle, which is closed now, and `pairs` has the pairs
+ * if it is open. */
 int32_t cuckoo_export(cuckoo_handle *handle, cuckoo_pairs *pairs);
 
-/* The same, and unbinds all keys at that moment. */
+/* The same, and unbinds all keys at that moment. No pair is lost: where it is refused for want of
+ * memory, the keys are bound still or `pairs` has them. */
 int32_t cuckoo_drain(cuckoo_handle *handle, cuckoo_pairs *pairs);
 
-/* The next pair. CUCKOO_OK; CUCKOO_ABSENT: there are no more. */
+/* The next pair. CUCKOO_OK; CUCKOO_ABSENT: there are no more, or `pairs` isn't open. */
 int32_t cuckoo_pairs_next(cuckoo_pairs *pairs, uint64_t *key, uint64_t *value);
 
 /* Frees the pairs. */
 void cuckoo_pairs_close(cuckoo_pairs *pairs);
 
 /* ---- keys that are texts of at most 64 bytes ----
- * The same calls, also refused as CUCKOO_TOO_LONG, and where a key is to be bound as
- * CUCKOO_NO_MEMORY, since the key is copied. `key` may be any bytes; where `length` is 0, it is a
- * pointer all the same that isn't null. */
+ * The same calls, also refused as CUCKOO_TOO_LONG, before anything else is looked at, and where a key
+ * is to be bound as CUCKOO_NO_MEMORY, since the key is copied. `key` may be any bytes; where `length`
+ * is 0, it is a pointer all the same that isn't null. Texts are ordered by their bytes. */
 
 int32_t cuckoo_text_open(uint64_t keys, uint32_t turns, cuckoo_text_handle *handles, size_t count);
 int32_t cuckoo_text_open_with(const cuckoo_settings *settings, cuckoo_text_handle *handles,
@@ -218,8 +223,8 @@ int32_t cuckoo_text_clear(cuckoo_text_handle *handle);
 int32_t cuckoo_text_export(cuckoo_text_handle *handle, cuckoo_text_pairs *pairs);
 int32_t cuckoo_text_drain(cuckoo_text_handle *handle, cuckoo_text_pairs *pairs);
 
-/* The next pair. The bytes of its key go to `key`, which has room for 64, and their number to
- * `length`. */
+/* The next pair. The bytes of its key go to `key`, and their number to `length`. CUCKOO_OK;
+ * CUCKOO_ABSENT; CUCKOO_TOO_LONG: `room` is less than 64, and nothing changed. */
 int32_t cuckoo_text_pairs_next(cuckoo_text_pairs *pairs, uint8_t *key, size_t room, size_t *length,
                                uint64_t *value);
 void cuckoo_text_pairs_close(cuckoo_text_pairs *pairs);
