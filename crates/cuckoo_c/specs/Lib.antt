@@ -1,3 +1,5 @@
 pub mod Codes
 pub mod Handles
+pub mod Openings
+pub mod Pairs
 pub mod Payloads
