@@ -13,6 +13,7 @@
 mod code;
 mod handles;
 mod keys;
+mod pair_places;
 mod pairs;
 
 // What each call does, once for all types of keys.
