@@ -12,7 +12,7 @@ loop-place-preserved g c =
           c.is_open.new.place (search rules);
       none = All-more (λ p. g.P.Holds.held p ≡ None) c.args.places.now c.loop-place.place-index c.place-item.result lt c.loop-place.invariant.none
           (held_at_first g.P.Holds.held c.loop-place.places c.args.places.now c.loop-place.place-index c.place-item.result c.place-item.is c.loop-place.invariant.kept
-           None (search rules) (search rules) lt);
+          None (search rules) (search rules) lt);
     }
 
 pub returns-then-is_open-clause-kept : goal.returns-then-is_open-clause-kept

@@ -8,10 +8,10 @@ pub returns-in-Ok-exported : goal.returns-in-Ok-exported
 returns-in-Ok-exported g c = record {
   same = search rules;
   listed = (
-      map_of c.in-Ok.locked,
-      subst (λ pairs. ListsInOrder g.K.TableKey.name g.K.Ord.cmp pairs (map_of c.in-Ok.locked)) (sym c.of.ensures) c.in-Ok-exported.ensures.pairs,
-      session_since c.unlock_caller-handle.result c.in-Ok.ensures.locked refl refl c.unlock_caller-handle.ensures.answered,
-    );
+    map_of c.in-Ok.locked,
+    subst (λ pairs. ListsInOrder g.K.TableKey.name g.K.Ord.cmp pairs (map_of c.in-Ok.locked)) (sym c.of.ensures) c.in-Ok-exported.ensures.pairs,
+    session_since c.unlock_caller-handle.result c.in-Ok.ensures.locked refl refl c.unlock_caller-handle.ensures.answered,
+  );
   refused = search rules;
   notes = search rules;
   found = search rules;
