@@ -1,7 +1,9 @@
--- What a call on the whole table leaves of the place of its handle.
+-- How a table is opened, and what a call on the whole table leaves of the place of its handle.
 use Rattle.std.specs.Prelude.{◌≡◌, ◌⊎◌, ℕ, List, [], Option, Some, None, Result, Ok, Err, OnOk, IfOk, IfErr}
 use Rattle.std.specs.FinMap.{entries}
 use Rattle.std.specs.declared.cmp.Ordering.{Ordering}
+use Rattle.ck_model.specs.declared.settings.Settings.{Settings}
+use Rattle.ck_model.specs.Ranges.{AreInRange}
 use Rattle.ck_model.specs.Promise.{Name, Map, ListsInOrder}
 use Rattle.ck_model.specs.declared.history.Call.TheVariants.{Session}
 use Rattle.ck_model.specs.declared.history.Reply.TheVariants.{Closed}
@@ -11,6 +13,19 @@ use Rattle.cuckoo_map.specs.declared.refusal.Busy.{Busy}
 use Rattle.cuckoo_map.specs.declared.refusal.DrainFault.{DrainFault}
 use Rattle.cuckoo_map.specs.declared.refusal.DrainFault.TheVariants as faults
 use Rattle.cuckoo_map.specs.Callers.{CallerState, IsSameCaller, KeepsNotes, Replies, IsBusyOnAny, FindsHeldOfAny, Drains, IsNotDrained}
+
+-- A table with these settings can be opened in so many places.
+pub record CanOpen (settings : Settings) (count : ℕ) : Type 0 where
+  pub callers : settings.callers ≡ count
+  pub range : AreInRange settings
+
+-- Whether a table was opened in so many places, which were closed or not, and why it was not.
+abbrev pub TellsOpening : Settings → ℕ → Type 0 → Code → Type 0
+TellsOpening settings count closed codes.Done = CanOpen settings count × closed
+TellsOpening settings count closed codes.Memory = CanOpen settings count × closed
+TellsOpening settings count closed codes.Open = CanOpen settings count × ¬ closed
+TellsOpening settings count closed codes.Settings = ¬ CanOpen settings count
+TellsOpening settings count closed code = ⊥
 
 -- The place holds this again, and the code is this one; or there was no memory for its box, and the place is closed.
 abbrev pub IsPutBack : {T : Type 0} → T → Code → Option T → Code → Type 0
