@@ -1,3 +1,4 @@
-mod Through
+pub mod PairRows
 pub mod Payloads
 pub mod Placing
+mod Through

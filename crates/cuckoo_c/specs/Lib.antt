@@ -1,4 +1,7 @@
 pub mod Codes
 pub mod Handles
 pub mod NewTables
+pub mod Openings
+pub mod PairRows
+pub mod Pairs
 pub mod Payloads

@@ -5,6 +5,7 @@ ghost use Rattle.ck_key.specs.Hashes.{mixed_hash, text_hash};
 ghost use Rattle.ck_key.specs.KeyLaws.{number_names, mixed_hash_below, text_names, text_hash_below};
 
 use cuckoo_map::{MixedKey, Query, TableKey, TextKey};
+use std::alloc::AllocError;
 use std::hint;
 
 /// A number, hashed as a `MixedKey` is: pointers and numbers in steps are good keys.
@@ -33,6 +34,15 @@ impl TableKey for NumberKey {
 /// A text of at most 64 bytes.
 #[derive(PartialEq, Eq, PartialOrd, Ord, Drop)]
 pub struct BytesKey(pub TextKey);
+
+impl Clone for BytesKey {
+    ghost is_clone = { λ k copy. copy ≡ k };
+
+    fn clone(&self) -> Result<BytesKey, AllocError> {
+        let text = self.0.clone()?;
+        Ok(BytesKey(text))
+    }
+}
 
 impl TableKey for BytesKey {
     ghost name = { λ k. k.0 };

@@ -14,12 +14,17 @@ mod code;
 mod handles;
 mod keys;
 mod settings;
+mod pair_places;
+mod pairs;
 
 // What each call does, once for all types of keys.
 mod calls;
 
 // How handles come into their places, and how they go, once for all types of keys.
 mod opening;
+
+// What is done to the whole table, once for all types of keys.
+mod sessions;
 
 // The calls, for each type of keys.
 mod numbers;

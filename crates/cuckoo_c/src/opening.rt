@@ -1,15 +1,16 @@
 //! How handles of a new table come into their places, and how they go.
-ghost use Rattle.std.specs.Prelude.{◌≡◌, ◌≢◌, ℕ, Bool, true, false, All, map, length, IfOk};
+ghost use Rattle.std.specs.Prelude.{◌≡◌, ◌≢◌, ◌⊎◌, true, false, All, map, length, IfOk};
 ghost use Rattle.std.specs.declared.option.Option.TheVariants.{None, Some};
 ghost use Rattle.ck_model.specs.Counting.{counting};
 ghost use Rattle.ck_words.specs.Words.{WordsState};
 ghost use Rattle.ck_words.specs.Closing.{dealt};
 ghost use Rattle.cuckoo_map.specs.Callers.{callers_of};
 ghost use Rattle.cuckoo_c.specs.declared.code.Code.TheVariants as codes;
+ghost use Rattle.cuckoo_c.specs.Openings.{TellsOpening};
 
 use crate::code::Code;
 use ck_owned::{Holds, put, take};
-use cuckoo_map::{Handle, OpenFault, Settings, TableKey};
+use cuckoo_map::{Handle, Settings, TableKey};
 use std::alloc::{AllocError, Global};
 
 /// Settings for about so many keys, and for so many handles, of which there may be 1,024.
@@ -38,10 +39,11 @@ pub fn open<K: TableKey + Drop, P: Holds<Handle<K, u64>>>(
     ensures opened { result ≡ codes.Done → (w : WordsState) × (w.settings ≡ settings)
         × (map P.held places.new
         ≡ map Some (callers_of w (dealt w.table settings (counting 0 settings.callers)))) }
-    ensures closed { result ≡ codes.Done → All (λ p. P.held p ≡ None) places.old }
+    ensures told { TellsOpening settings (length places.old)
+        (All (λ p. P.held p ≡ None) places.old) result }
     ensures refused { result ≢ codes.Done → map P.held places.new ≡ map P.held places.old }
 {
-    if settings.callers as usize != places.len() {
+    if settings.callers as usize != places.len() || !settings.are_in_range() {
         return Code::Settings;
     }
     if is_any_open(alloc, places) {
@@ -49,8 +51,7 @@ pub fn open<K: TableKey + Drop, P: Holds<Handle<K, u64>>>(
     }
     match Handle::<K, u64>::open(alloc, settings) {
         Ok(handles) => place_all(alloc, handles, places),
-        Err(OpenFault::Settings(_)) => Code::Settings,
-        Err(OpenFault::Memory) => Code::Memory,
+        Err(_) => Code::Memory,
     }
 }
 
@@ -58,6 +59,7 @@ pub fn open<K: TableKey + Drop, P: Holds<Handle<K, u64>>>(
 fn is_any_open<T: Drop, P: Holds<T>>(alloc: Global, places: &mut [P]) -> bool
     ensures kept { map P.held places.new ≡ map P.held places.old }
     ensures none { result ≡ false → All (λ p. P.held p ≡ None) places.old }
+    ensures some { result ≡ true → ¬ (All (λ p. P.held p ≡ None) places.old) }
 {
     for place in places.iter_mut() {
         if is_open(alloc, place) {
@@ -71,6 +73,7 @@ fn is_any_open<T: Drop, P: Holds<T>>(alloc: Global, places: &mut [P]) -> bool
 fn is_open<T: Drop, P: Holds<T>>(alloc: Global, place: &mut P) -> bool
     ensures kept { P.held place.new ≡ P.held place.old }
     ensures none { result ≡ false → P.held place.old ≡ None }
+    ensures some { result ≡ true → P.held place.old ≢ None }
 {
     match take(place, alloc) {
         Some(boxed) => {
@@ -87,6 +90,7 @@ fn place_all<T: Drop, P: Holds<T>>(alloc: Global, handles: Vec<T>, places: &mut 
     requires { length handles.items ≡ length places.old }
     ensures done { result ≡ codes.Done → map P.held places.new ≡ map Some handles.items }
     ensures refused { result ≢ codes.Done → places.new ≡ places.old }
+    ensures told { (result ≡ codes.Done) ⊎ (result ≡ codes.Memory) }
     ensures length { length places.new ≡ length places.old }
 {
     let Ok(boxes) = box_all(alloc, handles) else {

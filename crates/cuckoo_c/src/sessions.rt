@@ -1,0 +1,193 @@
+//! What is done to the whole table through a handle, once for all types of keys. The handle is taken
+//! out of its box for that, and boxed again: where there is no memory for the box, it is lost.
+ghost use Rattle.std.specs.Prelude.{◌≡◌, Result, Option, None, MatchResult};
+ghost use Rattle.cuckoo_map.specs.declared.refusal.Busy.{Busy};
+ghost use Rattle.cuckoo_map.specs.Callers.{Drains};
+ghost use Rattle.cuckoo_c.specs.Openings.{IsPutBack, CallsOrLoses, ClearLeaves, TellsCleared, Exports, ListLeaves, ListsAt, TellsList, TellsNoPlace};
+
+use crate::code::Code;
+use crate::pairs::Pairs;
+use ck_owned::{Holds, put, take};
+use cuckoo_map::{Busy, DrainFault, Handle, NotDrained, NotLocked, TableKey};
+use std::alloc::Global;
+
+/// Unbinds all keys.
+pub fn clear<K: TableKey + Drop, P: Holds<Handle<K, u64>>>(alloc: Global, place: &mut P) -> Code
+    ensures { CallsOrLoses (λ c d told. (r : Result (Unit {0}) Busy) × ClearLeaves r c d
+        × TellsCleared r told)
+        (P.held place.old) (P.held place.new) result }
+{
+    let Some(handle) = take(place, alloc) else {
+        return Code::Closed;
+    };
+    let (handle, cleared) = clear_by(Box::into_inner(handle));
+    put_back(alloc, place, handle, cleared_code(cleared))
+}
+
+// Unbinds all keys by this handle, in one session.
+fn clear_by<K: TableKey + Drop>(handle: Handle<K, u64>) -> (Handle<K, u64>, Result<(), Busy>)
+    ensures { ClearLeaves result.1 handle result.0 }
+{
+    match handle.lock() {
+        Ok(locked) => {
+            let mut locked = locked;
+            locked.clear();
+            (locked.unlock_caller(), Ok(()))
+        }
+        Err(NotLocked { caller, busy }) => (caller, Err(busy)),
+    }
+}
+
+// The code of a clearing.
+fn cleared_code(cleared: Result<(), Busy>) -> Code
+    ensures { TellsCleared cleared result }
+{
+    match cleared {
+        Ok(()) => Code::Done,
+        Err(_) => Code::Busy,
+    }
+}
+
+/// Gives all pairs, in rising order of the keys, to the place of a list, which has none.
+pub fn export<K: TableKey + Clone + Drop, P: Holds<Handle<K, u64>>, L: Holds<Pairs<K>>>(
+    alloc: Global,
+    place: &mut P,
+    list: &mut L,
+) -> Code
+    requires { (x y : K) → K.is_clone x y → y ≡ x }
+    ensures called { CallsOrLoses
+        (ListsAt (Exports K.name K.cmp) (L.held list.old) (L.held list.new))
+        (P.held place.old) (P.held place.new) result }
+    ensures same { P.held place.old ≡ None → L.held list.new ≡ L.held list.old }
+{
+    let Some(handle) = take(place, alloc) else {
+        return Code::Closed;
+    };
+    match room_for(alloc, list) {
+        Ok(room) => {
+            let (handle, exported) = export_by(alloc, Box::into_inner(handle));
+            let told = list_code(alloc, list, room, exported);
+            put_back(alloc, place, handle, told)
+        }
+        Err(code) => {
+            put(place, alloc, handle);
+            code
+        }
+    }
+}
+
+// The pairs by this handle, in one session.
+fn export_by<K: TableKey + Clone + Drop>(
+    alloc: Global,
+    handle: Handle<K, u64>,
+) -> (Handle<K, u64>, Result<Pairs<K>, DrainFault>)
+    requires { (x y : K) → K.is_clone x y → y ≡ x }
+    ensures { ListLeaves (Exports K.name K.cmp) result.1 handle result.0 }
+{
+    match handle.lock() {
+        Ok(locked) => {
+            let exported = locked.export(alloc);
+            let handle = locked.unlock_caller();
+            match exported {
+                Ok(pairs) => (handle, Ok(Pairs::of(pairs))),
+                Err(_) => (handle, Err(DrainFault::Memory)),
+            }
+        }
+        Err(NotLocked { caller, busy }) => (caller, Err(DrainFault::Busy(busy.0))),
+    }
+}
+
+/// Unbinds all keys, and gives all pairs, in rising order of the keys, to the place of a list, which
+/// has none.
+pub fn drain<K: TableKey + Drop, P: Holds<Handle<K, u64>>, L: Holds<Pairs<K>>>(
+    alloc: Global,
+    place: &mut P,
+    list: &mut L,
+) -> Code
+    ensures called { CallsOrLoses
+        (ListsAt (Drains K.name K.cmp) (L.held list.old) (L.held list.new))
+        (P.held place.old) (P.held place.new) result }
+    ensures same { P.held place.old ≡ None → L.held list.new ≡ L.held list.old }
+{
+    let Some(handle) = take(place, alloc) else {
+        return Code::Closed;
+    };
+    match room_for(alloc, list) {
+        Ok(room) => {
+            let (handle, drained) = drain_by(alloc, Box::into_inner(handle));
+            let told = list_code(alloc, list, room, drained);
+            put_back(alloc, place, handle, told)
+        }
+        Err(code) => {
+            put(place, alloc, handle);
+            code
+        }
+    }
+}
+
+// Unbinds all keys by this handle, in one session, and gives the pairs.
+fn drain_by<K: TableKey + Drop>(
+    alloc: Global,
+    handle: Handle<K, u64>,
+) -> (Handle<K, u64>, Result<Pairs<K>, DrainFault>)
+    ensures { ListLeaves (Drains K.name K.cmp) result.1 handle result.0 }
+{
+    match handle.drain(alloc) {
+        Ok((handle, pairs)) => (handle, Ok(Pairs::of(pairs))),
+        Err(NotDrained { caller, why }) => (caller, Err(why)),
+    }
+}
+
+// A box for a list that is to come to the place. It is had before the table is locked, so that no
+// pairs that were taken out are lost for want of memory.
+fn room_for<K: Drop, L: Holds<Pairs<K>>>(
+    alloc: Global,
+    list: &mut L,
+) -> Result<Box<Pairs<K>, Global>, Code>
+    ensures kept { L.held list.new ≡ L.held list.old }
+    ensures told { MatchResult result (λ _. L.held list.old ≡ None)
+        (TellsNoPlace (L.held list.old)) }
+{
+    if let Some(pairs) = take(list, alloc) {
+        put(list, alloc, pairs);
+        return Err(Code::Open);
+    }
+    match Box::new(alloc, Pairs::of(Vec::new(alloc))) {
+        Ok(room) => Ok(room),
+        Err(_) => Err(Code::Memory),
+    }
+}
+
+// The code of an export or a drain, whose pairs go to their place in this box.
+fn list_code<K: Drop, L: Holds<Pairs<K>>>(
+    alloc: Global,
+    list: &mut L,
+    room: Box<Pairs<K>, Global>,
+    pairs: Result<Pairs<K>, DrainFault>,
+) -> Code
+    ensures { TellsList pairs result (L.held list.old) (L.held list.new) }
+{
+    match pairs {
+        Ok(pairs) => {
+            let mut room = room;
+            *room = pairs;
+            put(list, alloc, room);
+            Code::Done
+        }
+        Err(DrainFault::Busy(_)) => Code::Busy,
+        Err(DrainFault::Memory) => Code::Memory,
+    }
+}
+
+// Boxes the handle, and puts it back in its place. The code is `told`, or `Memory` where there is no
+// memory for the box; then the handle is lost.
+fn put_back<T: Drop, P: Holds<T>>(alloc: Global, place: &mut P, handle: T, told: Code) -> Code
+    requires { P.held place.old ≡ None }
+    ensures { IsPutBack handle told (P.held place.new) result }
+{
+    let Ok(handle) = Box::new(alloc, handle) else {
+        return Code::Memory;
+    };
+    put(place, alloc, handle);
+    told
+}
