@@ -12,7 +12,7 @@ use Rattle.cuckoo_c.specs.declared.code.Code.TheVariants as codes
 use Rattle.cuckoo_map.specs.declared.refusal.Busy.{Busy}
 use Rattle.cuckoo_map.specs.declared.refusal.DrainFault.{DrainFault}
 use Rattle.cuckoo_map.specs.declared.refusal.DrainFault.TheVariants as faults
-use Rattle.cuckoo_map.specs.Callers.{CallerState, IsSameCaller, KeepsNotes, Replies, IsBusyOnAny, FindsHeldOfAny, Drains, IsNotDrained}
+use Rattle.cuckoo_map.specs.Callers.{CallerState, IsSameCaller, KeepsNotes, Replies, IsBusyOnAny, FindsHeldOfAny, IsNotDrained}
 
 -- A table with these settings can be opened in so many places.
 pub record CanOpen (settings : Settings) (count : ℕ) : Type 0 where

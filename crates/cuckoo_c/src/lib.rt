@@ -13,9 +13,9 @@
 mod code;
 mod handles;
 mod keys;
-mod settings;
 mod pair_places;
 mod pairs;
+mod settings;
 
 // What each call does, once for all types of keys.
 mod calls;

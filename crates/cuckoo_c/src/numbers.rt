@@ -6,17 +6,25 @@ ghost use Rattle.ck_section.specs.Acts.{Finds, FindsBound, Inserts, Assigns, Ups
 ghost use Rattle.cuckoo_map.specs.declared.refusal.Busy.{Busy};
 ghost use Rattle.cuckoo_map.specs.declared.refusal.GrowFault.{GrowFault};
 ghost use Rattle.cuckoo_map.specs.declared.refusal.Refused.{Refused};
-ghost use Rattle.cuckoo_map.specs.Callers.{QueryLeaves, InsertionLeaves};
+ghost use Rattle.cuckoo_map.specs.Callers.{QueryLeaves, InsertionLeaves, Drains};
 ghost use Rattle.cuckoo_c.specs.declared.keys.NumberKey.{NumberKey};
 ghost use Rattle.cuckoo_c.specs.Codes.{Numbered, TellsBound, TellsValue, TellsFresh, TellsOld, TellsSeen, TellsMatch, TellsCount, TellsGrown};
+ghost use Rattle.cuckoo_c.specs.contracts.keys.NumberKeyOrd.TheImpl.{ghosts as number_ord};
+ghost use Rattle.cuckoo_c.specs.contracts.keys.NumberKeyTableKey.TheImpl.{ghosts as number_key};
+ghost use Rattle.cuckoo_c.specs.Pairs.{TakesNextAt, TellsPair};
+ghost use Rattle.cuckoo_c.specs.Openings.{CallsOrLoses, ClearLeaves, TellsCleared, Exports, ListsAt};
 ghost use Rattle.cuckoo_c.specs.NewTables.{Opens, settings_of};
 ghost use Rattle.cuckoo_c.specs.Handles.{Calls, AddsTo, Replaces, Swaps, CountLeaves, CapacityLeaves, GrowthLeaves};
 
-use crate::calls;
+use crate::code::Code;
 use crate::handles::CuckooHandle;
 use crate::keys::NumberKey;
 use crate::opening::{self, settings_for};
+use crate::pair_places::CuckooPairs;
+use crate::pairs::take_next;
 use crate::settings::CuckooSettings;
+use crate::{calls, sessions};
+use ck_owned::take;
 use std::alloc::Global;
 
 /// A new table for about so many keys, with a handle in each of the places, which are closed.
@@ -227,4 +235,73 @@ pub extern "C" fn cuckoo_reserve(alloc: Global, handle: &mut CuckooHandle, slots
         handle.old.held handle.new.held code) }
 {
     calls::reserve(alloc, handle, slots).number()
+}
+
+/// Unbinds all keys, at one moment.
+#[unsafe(no_mangle)]
+pub extern "C" fn cuckoo_clear(alloc: Global, handle: &mut CuckooHandle) -> i32
+    ensures { Numbered result (CallsOrLoses (λ c d told. (r : Result (Unit {0}) Busy)
+        × ClearLeaves r c d × TellsCleared r told) handle.old.held handle.new.held) }
+{
+    sessions::clear(alloc, handle).number()
+}
+
+/// All pairs at one moment, in rising order of the keys.
+#[unsafe(no_mangle)]
+pub extern "C" fn cuckoo_export(
+    alloc: Global,
+    handle: &mut CuckooHandle,
+    pairs: &mut CuckooPairs,
+) -> i32
+    ensures called { Numbered result (CallsOrLoses
+        (ListsAt (Exports number_key.name number_ord.cmp) pairs.old.held pairs.new.held)
+        handle.old.held handle.new.held) }
+    ensures same { handle.old.held ≡ None → pairs.new.held ≡ pairs.old.held }
+{
+    sessions::export(alloc, handle, pairs).number()
+}
+
+/// The same, and unbinds all keys at that moment.
+#[unsafe(no_mangle)]
+pub extern "C" fn cuckoo_drain(
+    alloc: Global,
+    handle: &mut CuckooHandle,
+    pairs: &mut CuckooPairs,
+) -> i32
+    ensures called { Numbered result (CallsOrLoses
+        (ListsAt (Drains number_key.name number_ord.cmp) pairs.old.held pairs.new.held)
+        handle.old.held handle.new.held) }
+    ensures same { handle.old.held ≡ None → pairs.new.held ≡ pairs.old.held }
+{
+    sessions::drain(alloc, handle, pairs).number()
+}
+
+/// Frees the pairs.
+#[unsafe(no_mangle)]
+pub extern "C" fn cuckoo_pairs_close(alloc: Global, pairs: &mut CuckooPairs)
+    ensures { pairs.new.held ≡ None }
+{
+    drop(take(pairs, alloc));
+}
+
+/// The next pair.
+#[unsafe(no_mangle)]
+pub extern "C" fn cuckoo_pairs_next(
+    alloc: Global,
+    pairs: &mut CuckooPairs,
+    key: &mut u64,
+    value: &mut u64,
+) -> i32
+    ensures { Numbered result (λ code. (r : Option (NumberKey × ℕ))
+        × TakesNextAt r pairs.old.held pairs.new.held
+        × TellsPair r code key.old value.old key.new value.new) }
+{
+    match take_next(alloc, pairs) {
+        Some((number, bound)) => {
+            *key = number.0;
+            *value = bound;
+            Code::Done.number()
+        }
+        None => Code::Absent.number(),
+    }
 }

@@ -1,7 +1,8 @@
 //! The pairs of a table at one moment, as C reads them.
 ghost use Rattle.std.specs.Prelude.{◌≡◌};
-ghost use Rattle.cuckoo_c.specs.Pairs.{TakesNext};
+ghost use Rattle.cuckoo_c.specs.Pairs.{TakesNext, TakesNextAt};
 
+use ck_owned::{Holds, put, take};
 use std::alloc::Global;
 use std::marker::Model;
 use std::vec::IntoIter;
@@ -37,4 +38,17 @@ impl<K: Drop> Pairs<K> {
     {
         self.rest.next()
     }
+}
+
+/// The next pair of the list in this place, if there is one.
+pub fn take_next<K: Drop, P: Holds<Pairs<K>>>(alloc: Global, place: &mut P) -> Option<(K, u64)>
+    ensures { TakesNextAt result (P.held place.old) (P.held place.new) }
+{
+    let Some(list) = take(place, alloc) else {
+        return None;
+    };
+    let mut list = list;
+    let next = list.next();
+    put(place, alloc, list);
+    next
 }

@@ -6,19 +6,26 @@ ghost use Rattle.ck_section.specs.Acts.{Finds, FindsBound, Inserts, Assigns, Ups
 ghost use Rattle.cuckoo_map.specs.declared.refusal.Busy.{Busy};
 ghost use Rattle.cuckoo_map.specs.declared.refusal.GrowFault.{GrowFault};
 ghost use Rattle.cuckoo_map.specs.declared.refusal.Refused.{Refused};
-ghost use Rattle.cuckoo_map.specs.Callers.{QueryLeaves, InsertionLeaves};
+ghost use Rattle.cuckoo_map.specs.Callers.{QueryLeaves, InsertionLeaves, Drains};
 ghost use Rattle.cuckoo_c.specs.declared.keys.BytesKey.{BytesKey};
 ghost use Rattle.cuckoo_c.specs.declared.code.Code.TheVariants as codes;
 ghost use Rattle.cuckoo_c.specs.Codes.{number_of, Numbered, TellsBound, TellsValue, TellsFresh, TellsOld, TellsSeen, TellsMatch, TellsCount, TellsGrown};
+ghost use Rattle.cuckoo_c.specs.contracts.keys.BytesKeyOrd.TheImpl.{ghosts as text_ord};
+ghost use Rattle.cuckoo_c.specs.contracts.keys.BytesKeyTableKey.TheImpl.{ghosts as text_key};
+ghost use Rattle.cuckoo_c.specs.Pairs.{TakesNextAt, TellsTextPair};
+ghost use Rattle.cuckoo_c.specs.Openings.{CallsOrLoses, ClearLeaves, TellsCleared, Exports, ListsAt};
 ghost use Rattle.cuckoo_c.specs.NewTables.{Opens, settings_of};
 ghost use Rattle.cuckoo_c.specs.Handles.{Calls, CallsWithMemory, AddsTo, Replaces, Swaps, CountLeaves, CapacityLeaves, GrowthLeaves};
 
-use crate::calls;
 use crate::code::Code;
 use crate::handles::CuckooTextHandle;
 use crate::keys::{Bytes, BytesKey};
 use crate::opening::{self, settings_for};
+use crate::pair_places::CuckooTextPairs;
+use crate::pairs::take_next;
 use crate::settings::CuckooSettings;
+use crate::{calls, sessions};
+use ck_owned::take;
 use cuckoo_map::{KeyFault, TextKey};
 use std::alloc::Global;
 
@@ -312,4 +319,82 @@ pub extern "C" fn cuckoo_text_reserve(
         handle.old.held handle.new.held code) }
 {
     calls::reserve(alloc, handle, slots).number()
+}
+
+/// Unbinds all keys, at one moment.
+#[unsafe(no_mangle)]
+pub extern "C" fn cuckoo_text_clear(alloc: Global, handle: &mut CuckooTextHandle) -> i32
+    ensures { Numbered result (CallsOrLoses (λ c d told. (r : Result (Unit {0}) Busy)
+        × ClearLeaves r c d × TellsCleared r told) handle.old.held handle.new.held) }
+{
+    sessions::clear(alloc, handle).number()
+}
+
+/// All pairs at one moment, in rising order of the keys.
+#[unsafe(no_mangle)]
+pub extern "C" fn cuckoo_text_export(
+    alloc: Global,
+    handle: &mut CuckooTextHandle,
+    pairs: &mut CuckooTextPairs,
+) -> i32
+    ensures called { Numbered result (CallsOrLoses
+        (ListsAt (Exports text_key.name text_ord.cmp) pairs.old.held pairs.new.held)
+        handle.old.held handle.new.held) }
+    ensures same { handle.old.held ≡ None → pairs.new.held ≡ pairs.old.held }
+{
+    sessions::export(alloc, handle, pairs).number()
+}
+
+/// The same, and unbinds all keys at that moment.
+#[unsafe(no_mangle)]
+pub extern "C" fn cuckoo_text_drain(
+    alloc: Global,
+    handle: &mut CuckooTextHandle,
+    pairs: &mut CuckooTextPairs,
+) -> i32
+    ensures called { Numbered result (CallsOrLoses
+        (ListsAt (Drains text_key.name text_ord.cmp) pairs.old.held pairs.new.held)
+        handle.old.held handle.new.held) }
+    ensures same { handle.old.held ≡ None → pairs.new.held ≡ pairs.old.held }
+{
+    sessions::drain(alloc, handle, pairs).number()
+}
+
+/// Frees the pairs.
+#[unsafe(no_mangle)]
+pub extern "C" fn cuckoo_text_pairs_close(alloc: Global, pairs: &mut CuckooTextPairs)
+    ensures { pairs.new.held ≡ None }
+{
+    drop(take(pairs, alloc));
+}
+
+/// The next pair: the bytes of its key, and their number. `key` has room for 64.
+#[unsafe(no_mangle)]
+pub extern "C" fn cuckoo_text_pairs_next(
+    alloc: Global,
+    pairs: &mut CuckooTextPairs,
+    key: &mut [u8],
+    count: &mut usize,
+    value: &mut u64,
+) -> i32
+    ensures room { length key.new ≡ length key.old }
+    ensures small { length key.old < 64 → (result ≡ number_of codes.TooLong)
+        × (pairs.new.held ≡ pairs.old.held) }
+    ensures told { 64 ≤ length key.old → Numbered result (λ code. (r : Option (BytesKey × ℕ))
+        × TakesNextAt r pairs.old.held pairs.new.held
+        × TellsTextPair r code key.new count.new value.new) }
+{
+    if key.len() < MOST {
+        return Code::TooLong.number();
+    }
+    match take_next(alloc, pairs) {
+        Some((text, bound)) => {
+            let bytes = text.0.as_bytes();
+            key[..bytes.len()].copy_from_slice(bytes);
+            *count = bytes.len();
+            *value = bound;
+            Code::Done.number()
+        }
+        None => Code::Absent.number(),
+    }
 }
