@@ -1,7 +1,8 @@
 //! The pairs of a table at one moment, as C reads them.
 ghost use Rattle.std.specs.Prelude.{◌≡◌};
-ghost use Rattle.cuckoo_c.specs.Pairs.{TakesNext};
+ghost use Rattle.cuckoo_c.specs.Pairs.{TakesNext, ReadsNext};
 
+use ck_owned::{Holds, put, take};
 use std::alloc::Global;
 use std::marker::Model;
 use std::vec::IntoIter;
@@ -37,4 +38,15 @@ impl<K: Drop> Pairs<K> {
     {
         self.rest.next()
     }
+}
+
+/// The next pair of the list at the place.
+pub fn read_next<K: Drop, L: Holds<Pairs<K>>>(alloc: Global, list: &mut L) -> Option<(K, u64)>
+    ensures { ReadsNext result (L.held list.old) (L.held list.new) }
+{
+    let pairs = take(list, alloc)?;
+    let mut pairs = pairs;
+    let next = pairs.next();
+    put(list, alloc, pairs);
+    next
 }
