@@ -12,7 +12,7 @@ use Rattle.cuckoo_c.specs.declared.code.Code.TheVariants as codes
 use Rattle.cuckoo_map.specs.declared.refusal.Busy.{Busy}
 use Rattle.cuckoo_map.specs.declared.refusal.DrainFault.{DrainFault}
 use Rattle.cuckoo_map.specs.declared.refusal.DrainFault.TheVariants as faults
-use Rattle.cuckoo_map.specs.Callers.{CallerState, IsSameCaller, KeepsNotes, Replies, IsBusyOnAny, FindsHeldOfAny, Drains, IsNotDrained}
+use Rattle.cuckoo_map.specs.Callers.{CallerState, IsSameCaller, KeepsNotes, Replies, IsBusyOnAny, FindsHeldOfAny, IsNotDrained}
 
 -- A table with these settings can be opened in so many places.
 pub record CanOpen (settings : Settings) (count : ℕ) : Type 0 where
@@ -75,6 +75,11 @@ TellsList (Err faults.Memory) code was is = (code ≡ codes.Memory) × (is ≡ w
 abbrev pub TellsNoPlace : {K : Type 0} → Option (List (K × ℕ)) → Code → Type 0
 TellsNoPlace (Some pairs) code = code ≡ codes.Open
 TellsNoPlace None code = code ≡ codes.Memory
+
+-- why there was no session: the handle is closed, or no list can come to its place
+abbrev pub TellsNoSession : {T K : Type 0} → Option T → Option (List (K × ℕ)) → Code → Type 0
+TellsNoSession (Some handle) list code = TellsNoPlace list code
+TellsNoSession None list code = code ≡ codes.Closed
 
 -- The place of the list is as it was, as is the caller, since no list can come there; or the list was asked for, and that is what was left and told.
 abbrev pub ListsAt : {K : Type 0} → (CallerState ℕ → CallerState ℕ → List (K × ℕ) → Type 0) → Option (List (K × ℕ)) → Option (List (K × ℕ)) → CallerState ℕ → CallerState ℕ → Code → Type 0

@@ -1,4 +1,4 @@
-use Rattle.std.proofs.Common.{rules, ap, ◌≡◌, ◌∙◌, ◌<◌, length, sym, subst, All, None}
+use Rattle.std.proofs.Common.{rules, ap, ◌≡◌, ◌∙◌, sym, subst, All, None}
 use Rattle.std.proofs.lemmas.List.Elements.{All-more}
 use Rattle.std.proofs.lemmas.List.{take_all}
 use Rattle.cuckoo_c.proofs.Placing.{held_as_before, held_at_first}

@@ -1,4 +1,4 @@
-use Rattle.std.proofs.Common.{◌≡◌, All, map, take, length}
+use Rattle.std.proofs.Common.{◌≡◌, All, map, take}
 use Rattle.std.specs.declared.option.Option.TheVariants.{None}
 use Rattle.cuckoo_c.proofs.opening.is_any_open.Given as goal
 
