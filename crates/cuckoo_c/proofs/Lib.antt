@@ -1,3 +1,4 @@
+mod NoSession
 pub mod PairRows
 pub mod Payloads
 pub mod Placing

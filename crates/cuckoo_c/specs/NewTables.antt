@@ -7,6 +7,7 @@ use Rattle.ck_words.specs.Words.{WordsState}
 use Rattle.ck_words.specs.Closing.{dealt}
 use Rattle.cuckoo_map.specs.Callers.{CallerState, callers_of}
 use Rattle.cuckoo_c.specs.declared.settings.CuckooSettings.{CuckooSettings}
+use Rattle.cuckoo_c.specs.Openings.{TellsOpening}
 use Rattle.cuckoo_c.specs.declared.code.Code.{Code}
 use Rattle.cuckoo_c.specs.declared.code.Code.TheVariants as codes
 
@@ -17,6 +18,7 @@ settings_of c = record { s = c.s; power = c.power; max = c.max; callers = c.call
 abbrev pub HoldsNewTable : Settings → List (Option (CallerState ℕ)) → Type 0
 HoldsNewTable set now = (w : WordsState) × (w.settings ≡ set) × (now ≡ map Some (callers_of w (dealt w.table set (counting 0 set.callers))))
 
--- A new table was opened, with such settings, or it was refused, and the places hold what they held.
-abbrev pub Opens : (Settings → Type 0) → List (Option (CallerState ℕ)) → List (Option (CallerState ℕ)) → Code → Type 0
-Opens P was now code = (code ≡ codes.Done → (set : Settings) × P set × HoldsNewTable set now) × (code ≢ codes.Done → now ≡ was)
+-- With such settings a new table was opened in so many places, if they were closed, or it was refused, and the places hold what they held; the code says which and why.
+abbrev pub Opens : (Settings → Type 0) → ℕ → Type 0 → List (Option (CallerState ℕ)) → List (Option (CallerState ℕ)) → Code → Type 0
+Opens P count closed was now code =
+    (set : Settings) × P set × (code ≡ codes.Done → HoldsNewTable set now) × (code ≢ codes.Done → now ≡ was) × TellsOpening set count closed code

@@ -76,6 +76,11 @@ abbrev pub TellsNoPlace : {K : Type 0} → Option (List (K × ℕ)) → Code →
 TellsNoPlace (Some pairs) code = code ≡ codes.Open
 TellsNoPlace None code = code ≡ codes.Memory
 
+-- why there was no session: the handle is closed, or no list can come to its place
+abbrev pub TellsNoSession : {T K : Type 0} → Option T → Option (List (K × ℕ)) → Code → Type 0
+TellsNoSession (Some handle) list code = TellsNoPlace list code
+TellsNoSession None list code = code ≡ codes.Closed
+
 -- The place of the list is as it was, as is the caller, since no list can come there; or the list was asked for, and that is what was left and told.
 abbrev pub ListsAt : {K : Type 0} → (CallerState ℕ → CallerState ℕ → List (K × ℕ) → Type 0) → Option (List (K × ℕ)) → Option (List (K × ℕ)) → CallerState ℕ → CallerState ℕ → Code → Type 0
 ListsAt {K} lists was is c d told =

@@ -1,5 +1,5 @@
 //! The calls on tables whose keys are numbers, as C makes them.
-ghost use Rattle.std.specs.Prelude.{◌≡◌, ◌∷◌, [], ℕ, Bool, Option, Result, length, map, nat_eq};
+ghost use Rattle.std.specs.Prelude.{◌≡◌, ◌∷◌, [], ℕ, Bool, Option, Result, All, length, map, nat_eq};
 ghost use Rattle.std.specs.declared.option.Option.TheVariants.{None};
 ghost use Rattle.ck_key.specs.Hashes.{mixed_hash};
 ghost use Rattle.ck_section.specs.Acts.{Finds, FindsBound, Inserts, Assigns, Upserts, Modifies, ErasesBy, Erases};
@@ -37,6 +37,7 @@ pub extern "C" fn cuckoo_open(
 ) -> i32
     ensures length { length handles.new ≡ length handles.old }
     ensures opens { Numbered result (Opens (λ set. set.turns ≡ turns)
+        (length handles.old) (All (λ h. h.held ≡ None) handles.old)
         (map (λ h. h.held) handles.old) (map (λ h. h.held) handles.new)) }
 {
     let settings = settings_for(keys, handles.len(), turns);
@@ -52,6 +53,7 @@ pub extern "C" fn cuckoo_open_with(
 ) -> i32
     ensures length { length handles.new ≡ length handles.old }
     ensures opens { Numbered result (Opens (λ set. set ≡ settings_of settings.now)
+        (length handles.old) (All (λ h. h.held ≡ None) handles.old)
         (map (λ h. h.held) handles.old) (map (λ h. h.held) handles.new)) }
 {
     opening::open(alloc, settings.settings(), handles).number()

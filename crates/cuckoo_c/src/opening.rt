@@ -123,8 +123,8 @@ fn put_all<T: Drop, P: Holds<T>>(alloc: Global, boxes: Vec<Box<T, Global>>, plac
     }
 }
 
-/// Closes the place.
-pub fn close<K: TableKey + Drop, P: Holds<Handle<K, u64>>>(alloc: Global, place: &mut P)
+/// Closes the place of a handle, or of a list.
+pub fn close<T: Drop, P: Holds<T>>(alloc: Global, place: &mut P)
     ensures { P.held place.new ≡ None }
 {
     drop(take(place, alloc));

@@ -1,9 +1,9 @@
 //! What is done to the whole table through a handle, once for all types of keys. The handle is taken
 //! out of its box for that, and boxed again: where there is no memory for the box, it is lost.
-ghost use Rattle.std.specs.Prelude.{◌≡◌, Result, Option, None, MatchResult};
+ghost use Rattle.std.specs.Prelude.{◌≡◌, Result, Option, Some, None, MatchResult};
 ghost use Rattle.cuckoo_map.specs.declared.refusal.Busy.{Busy};
 ghost use Rattle.cuckoo_map.specs.Callers.{Drains};
-ghost use Rattle.cuckoo_c.specs.Openings.{IsPutBack, CallsOrLoses, ClearLeaves, TellsCleared, Exports, ListLeaves, ListsAt, TellsList, TellsNoPlace};
+ghost use Rattle.cuckoo_c.specs.Openings.{IsPutBack, CallsOrLoses, ClearLeaves, TellsCleared, Exports, ListLeaves, ListsAt, TellsList, TellsNoPlace, TellsNoSession};
 
 use crate::code::Code;
 use crate::pairs::Pairs;
@@ -60,19 +60,13 @@ pub fn export<K: TableKey + Clone + Drop, P: Holds<Handle<K, u64>>, L: Holds<Pai
         (P.held place.old) (P.held place.new) result }
     ensures same { P.held place.old ≡ None → L.held list.new ≡ L.held list.old }
 {
-    let Some(handle) = take(place, alloc) else {
-        return Code::Closed;
-    };
-    match room_for(alloc, list) {
-        Ok(room) => {
-            let (handle, exported) = export_by(alloc, Box::into_inner(handle));
+    match take_both(alloc, place, list) {
+        Ok((handle, room)) => {
+            let (handle, exported) = export_by(alloc, handle);
             let told = list_code(alloc, list, room, exported);
             put_back(alloc, place, handle, told)
         }
-        Err(code) => {
-            put(place, alloc, handle);
-            code
-        }
+        Err(code) => code,
     }
 }
 
@@ -109,19 +103,13 @@ pub fn drain<K: TableKey + Drop, P: Holds<Handle<K, u64>>, L: Holds<Pairs<K>>>(
         (P.held place.old) (P.held place.new) result }
     ensures same { P.held place.old ≡ None → L.held list.new ≡ L.held list.old }
 {
-    let Some(handle) = take(place, alloc) else {
-        return Code::Closed;
-    };
-    match room_for(alloc, list) {
-        Ok(room) => {
-            let (handle, drained) = drain_by(alloc, Box::into_inner(handle));
+    match take_both(alloc, place, list) {
+        Ok((handle, room)) => {
+            let (handle, drained) = drain_by(alloc, handle);
             let told = list_code(alloc, list, room, drained);
             put_back(alloc, place, handle, told)
         }
-        Err(code) => {
-            put(place, alloc, handle);
-            code
-        }
+        Err(code) => code,
     }
 }
 
@@ -135,6 +123,31 @@ fn drain_by<K: TableKey + Drop>(
     match handle.drain(alloc) {
         Ok((handle, pairs)) => (handle, Ok(Pairs::of(pairs))),
         Err(NotDrained { caller, why }) => (caller, Err(why)),
+    }
+}
+
+// The handle of the place, and a box for the list that is to come to its place.
+fn take_both<T: Drop, P: Holds<T>, K: Drop, L: Holds<Pairs<K>>>(
+    alloc: Global,
+    place: &mut P,
+    list: &mut L,
+) -> Result<(T, Box<Pairs<K>, Global>), Code>
+    ensures list { L.held list.new ≡ L.held list.old }
+    ensures taken { MatchResult result
+        (λ both. (P.held place.old ≡ Some both.0) × (P.held place.new ≡ None)
+        × (L.held list.old ≡ None))
+        (λ code. (P.held place.new ≡ P.held place.old)
+        × TellsNoSession (P.held place.old) (L.held list.old) code) }
+{
+    let Some(handle) = take(place, alloc) else {
+        return Err(Code::Closed);
+    };
+    match room_for(alloc, list) {
+        Ok(room) => Ok((Box::into_inner(handle), room)),
+        Err(code) => {
+            put(place, alloc, handle);
+            Err(code)
+        }
     }
 }
 

@@ -1,5 +1,5 @@
 //! The calls on tables whose keys are texts, as C makes them.
-ghost use Rattle.std.specs.Prelude.{◌≡◌, ◌≤◌, ◌<◌, ℕ, Bool, Option, Result, IfOk, IfErr, MatchBool, length, map, nat_eq, nat_lt};
+ghost use Rattle.std.specs.Prelude.{◌≡◌, ◌≤◌, ◌<◌, ℕ, Bool, Option, Result, IfOk, IfErr, MatchBool, All, length, map, nat_eq, nat_lt};
 ghost use Rattle.std.specs.declared.option.Option.TheVariants.{None};
 ghost use Rattle.ck_key.specs.Hashes.{text_hash};
 ghost use Rattle.ck_section.specs.Acts.{Finds, FindsBound, Inserts, Assigns, Upserts, Modifies, ErasesBy, Erases};
@@ -55,6 +55,7 @@ pub extern "C" fn cuckoo_text_open(
 ) -> i32
     ensures length { length handles.new ≡ length handles.old }
     ensures opens { Numbered result (Opens (λ set. set.turns ≡ turns)
+        (length handles.old) (All (λ h. h.held ≡ None) handles.old)
         (map (λ h. h.held) handles.old) (map (λ h. h.held) handles.new)) }
 {
     let settings = settings_for(keys, handles.len(), turns);
@@ -70,6 +71,7 @@ pub extern "C" fn cuckoo_text_open_with(
 ) -> i32
     ensures length { length handles.new ≡ length handles.old }
     ensures opens { Numbered result (Opens (λ set. set ≡ settings_of settings.now)
+        (length handles.old) (All (λ h. h.held ≡ None) handles.old)
         (map (λ h. h.held) handles.old) (map (λ h. h.held) handles.new)) }
 {
     opening::open(alloc, settings.settings(), handles).number()
