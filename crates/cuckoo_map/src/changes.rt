@@ -15,7 +15,7 @@ use crate::refusal::Busy;
 use crate::table::Table;
 use ck_key::{Query, TableKey};
 use ck_model::commit::Commit;
-use ck_section::{erase, erase_fn, modify, replace_if, try_update, update, update_fn};
+use ck_section::{erase, erase_fn, modify, replace_if, update, update_fn, value_and_outcome};
 use ck_words::{Pass, guard};
 use std::snapshot::Snapshot;
 
@@ -238,13 +238,7 @@ impl<K: TableKey + Drop, V: Drop> Table<K, V> {
         ensures queried { HasQueried (TriesChange (F.post f))
             K.hash self.now.settings (Q.name key) result pass.old pass.new }
     {
-        let spot = self.lock_key(pass, key)?;
-        let mut guard = guard!(&self.words, pass, spot.stripes);
-        let outcome = try_update(&mut guard, spot.place, key, f);
-        let said = Commit::Change(Snapshot::of(&key));
-        guard.commit_query(said);
-        // A closure that was not called is dropped only now, when no stripe is held.
-        Ok(outcome.ok())
+        self.modify(pass, key, |value: V| value_and_outcome(f(value)))
     }
 }
 

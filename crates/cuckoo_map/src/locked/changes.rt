@@ -6,7 +6,7 @@ ghost use Rattle.cuckoo_map.specs.Locking.{HasChanged};
 use crate::locked::LockedOn;
 use crate::table_ref::TableRef;
 use ck_key::{Query, TableKey};
-use ck_section::{erase, modify, replace_if, try_update, update, update_fn};
+use ck_section::{erase, modify, replace_if, update, update_fn, value_and_outcome};
 
 impl<T: TableRef<K, V> + Drop, K: TableKey + Drop, V: Drop> LockedOn<T, K, V> {
     /// Binds a bound key to another value, and gives the one that it had; `None` where the key is
@@ -112,8 +112,6 @@ impl<T: TableRef<K, V> + Drop, K: TableKey + Drop, V: Drop> LockedOn<T, K, V> {
         requires call { F.IsAlwaysCallable f }
         ensures { TriesChange (F.post f) (HasChanged (Q.name key) self.old self.new) result }
     {
-        let place = self.key_place(key);
-        let outcome = try_update(&mut self.whole, place, key, f);
-        outcome.ok()
+        self.modify(key, |value: V| value_and_outcome(f(value)))
     }
 }
