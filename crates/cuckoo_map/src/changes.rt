@@ -20,10 +20,7 @@ use ck_words::{Pass, guard};
 use std::snapshot::Snapshot;
 
 impl<K: TableKey + Drop, V: Drop> Table<K, V> {
-    /// Binds a bound key to another value, and gives the one that it had; `None` where the key is
-    /// unbound, and then it stays so and the value is dropped.
-    ///
-    /// Refused as busy, it changes nothing and hands the value back.
+    /// `Caller::update`, by a pass.
     pub fn update<Q: Query<K>>(
         &self,
         pass: &mut Pass<K, V>,
@@ -48,11 +45,7 @@ impl<K: TableKey + Drop, V: Drop> Table<K, V> {
         Ok(old)
     }
 
-    /// Binds a bound key to what the closure makes of its value, and says whether the key is bound;
-    /// where it is not, the closure is not called. The closure runs while the key's stripes are
-    /// held.
-    ///
-    /// Refused as busy, it changes nothing, and the closure is dropped.
+    /// `Caller::update_fn`, by a pass.
     pub fn update_fn<Q: Query<K>, F: FnOnce(V) -> V>(
         &self,
         pass: &mut Pass<K, V>,
@@ -74,17 +67,7 @@ impl<K: TableKey + Drop, V: Drop> Table<K, V> {
         Ok(bound)
     }
 
-    /// Binds a bound key to what the closure makes of its value, and gives what the closure answers
-    /// besides; `None` where the key is unbound, and then the closure is not called. The closure
-    /// runs while the key's stripes are held.
-    ///
-    /// Refused as busy, it changes nothing, and the closure is dropped.
-    ///
-    /// ```
-    /// // The next number of a counter that is bound.
-    /// let number: Option<u64> =
-    ///     table.modify(&mut pass, &NumKey(5), |next: u64| (next.wrapping_add(1), next))?;
-    /// ```
+    /// `Caller::modify`, by a pass.
     pub fn modify<Q: Query<K>, R, F: FnOnce(V) -> (V, R)>(
         &self,
         pass: &mut Pass<K, V>,
@@ -108,8 +91,7 @@ impl<K: TableKey + Drop, V: Drop> Table<K, V> {
         Ok(answer.ok())
     }
 
-    /// Unbinds the key, and gives the value that it had; `None` where it is unbound. Refused as
-    /// busy, it changes nothing.
+    /// `Caller::erase`, by a pass.
     pub fn erase<Q: Query<K>>(&self, pass: &mut Pass<K, V>, key: Q) -> Result<Option<V>, Busy>
         requires caller { IsCaller self.now pass.old }
         ensures caller { IsCaller self.now pass.new }
@@ -123,11 +105,7 @@ impl<K: TableKey + Drop, V: Drop> Table<K, V> {
         Ok(value)
     }
 
-    /// Unbinds a bound key where the closure answers true for its value, and gives the closure's
-    /// answer; `None` where the key is unbound, and then the closure is not called. The closure
-    /// runs while the key's stripes are held.
-    ///
-    /// Refused as busy, it changes nothing, and the closure is dropped.
+    /// `Caller::erase_fn`, by a pass.
     pub fn erase_fn<Q: Query<K>, F: FnOnce(&V) -> bool>(
         &self,
         pass: &mut Pass<K, V>,
@@ -170,12 +148,7 @@ impl<K: TableKey + Drop, V: Drop> Table<K, V> {
         Ok(gone)
     }
 
-    /// Binds a bound key to what the closure makes of its value, where it makes one, and says
-    /// whether it did: `Some(false)` where it made none, and then nothing changes; `None` where the
-    /// key is unbound, and then the closure is not called. The closure runs while the key's stripes
-    /// are held.
-    ///
-    /// Refused as busy, it changes nothing, and the closure is dropped.
+    /// `Caller::replace_if`, by a pass.
     pub fn replace_if<Q: Query<K>, F: FnOnce(&V) -> Option<V>>(
         &self,
         pass: &mut Pass<K, V>,
@@ -218,12 +191,7 @@ impl<K: TableKey + Drop, V: Drop> Table<K, V> {
         Ok(replaced)
     }
 
-    /// Binds a bound key to the value that the closure gives back for its value, and gives the
-    /// closure's error, if it fails; `None` where the key is unbound, and then the closure is not
-    /// called. A closure that fails by giving back the value that it got changes nothing. The
-    /// closure runs while the key's stripes are held.
-    ///
-    /// Refused as busy, it changes nothing, and the closure is dropped.
+    /// `Caller::try_update`, by a pass.
     pub fn try_update<Q: Query<K>, E, F: FnOnce(V) -> Result<V, (V, E)>>(
         &self,
         pass: &mut Pass<K, V>,
