@@ -145,13 +145,11 @@ impl<T: TableRef<K, V> + Drop, K: TableKey + Drop, V: Drop> CallerOn<T, K, V> {
     /// let half: Option<u64> = caller.find_fn(&NumKey(5), |value: &u64| *value / 2)?;
     /// ```
     #[inline(always)]
-    pub fn find_fn<Q: Query<K>, R, F: FnOnce(&V) -> R>(
+    pub fn find_fn<Q: Query<K>, R, F: FnOnce(&V) -> R + Drop>(
         &mut self,
         key: Q,
         f: F,
     ) -> Result<Option<R>, Busy>
-    where
-        F: Drop,
         requires call { F.IsAlwaysCallable f }
         ensures { QueryLeaves (FindsBy (FnOnceReturnsAt F.FnOnce f))
             K.hash (Q.name key) result self.old self.new }
@@ -210,14 +208,12 @@ impl<T: TableRef<K, V> + Drop, K: TableKey + Drop, V: Drop> CallerOn<T, K, V> {
     /// let fresh = caller.upsert(NumKey(word), |count| count.saturating_add(1), 1)?;
     /// ```
     #[inline(always)]
-    pub fn upsert<F: FnOnce(V) -> V>(
+    pub fn upsert<F: FnOnce(V) -> V + Drop>(
         &mut self,
         key: K,
         f: F,
         value: V,
     ) -> Result<bool, Refused<K, V>>
-    where
-        F: Drop,
         requires call { F.IsAlwaysCallable f }
         ensures { InsertionLeaves (Upserts (F.post f) value)
             K.hash (K.name key) key value result self.old self.new }
@@ -241,14 +237,12 @@ impl<T: TableRef<K, V> + Drop, K: TableKey + Drop, V: Drop> CallerOn<T, K, V> {
     /// let pushed: Result<bool, u64> = caller.try_upsert(NumKey(5), push, first)?;
     /// ```
     #[inline(always)]
-    pub fn try_upsert<E, F: FnOnce(V) -> Result<V, (V, E)>>(
+    pub fn try_upsert<E, F: FnOnce(V) -> Result<V, (V, E)> + Drop>(
         &mut self,
         key: K,
         f: F,
         value: V,
     ) -> Result<Result<bool, E>, Refused<K, V>>
-    where
-        F: Drop,
         requires call { F.IsAlwaysCallable f }
         ensures { InsertionLeaves (TriesUpsert (F.post f) value)
             K.hash (K.name key) key value result self.old self.new }
@@ -272,15 +266,12 @@ impl<T: TableRef<K, V> + Drop, K: TableKey + Drop, V: Drop> CallerOn<T, K, V> {
     ///     caller.try_upsert_with(NumKey(5), || Vec::new(alloc), push)?;
     /// ```
     #[inline(always)]
-    pub fn try_upsert_with<E, G: FnOnce() -> V, F: FnOnce(V) -> Result<V, (V, E)>>(
+    pub fn try_upsert_with<E, G: FnOnce() -> V + Drop, F: FnOnce(V) -> Result<V, (V, E)> + Drop>(
         &mut self,
         key: K,
         make: G,
         f: F,
     ) -> Result<Result<bool, E>, Refused<K, (G, F)>>
-    where
-        G: Drop,
-        F: Drop,
         requires call { G.IsAlwaysCallable make × F.IsAlwaysCallable f }
         ensures { InsertionLeaves (TriesUpsertWith (G.post make) (F.post f))
             K.hash (K.name key) key (make, f) result self.old self.new }
@@ -297,9 +288,11 @@ impl<T: TableRef<K, V> + Drop, K: TableKey + Drop, V: Drop> CallerOn<T, K, V> {
     /// let fresh: bool = caller.insert_with(NumKey(5), || 50)?;
     /// ```
     #[inline(always)]
-    pub fn insert_with<F: FnOnce() -> V>(&mut self, key: K, f: F) -> Result<bool, Refused<K, F>>
-    where
-        F: Drop,
+    pub fn insert_with<F: FnOnce() -> V + Drop>(
+        &mut self,
+        key: K,
+        f: F,
+    ) -> Result<bool, Refused<K, F>>
         requires call { F.IsAlwaysCallable f }
         ensures { InsertionLeaves (InsertsBy (F.post f))
             K.hash (K.name key) key f result self.old self.new }
@@ -318,14 +311,12 @@ impl<T: TableRef<K, V> + Drop, K: TableKey + Drop, V: Drop> CallerOn<T, K, V> {
     /// }
     /// ```
     #[inline(always)]
-    pub fn uprase<F: FnOnce(V) -> Option<V>>(
+    pub fn uprase<F: FnOnce(V) -> Option<V> + Drop>(
         &mut self,
         key: K,
         f: F,
         value: V,
     ) -> Result<Uprased, Refused<K, V>>
-    where
-        F: Drop,
         requires call { F.IsAlwaysCallable f }
         ensures { InsertionLeaves (Uprases (F.post f) value)
             K.hash (K.name key) key value result self.old self.new }
@@ -340,10 +331,13 @@ impl<T: TableRef<K, V> + Drop, K: TableKey + Drop, V: Drop> CallerOn<T, K, V> {
     /// let value: u64 = caller.get_or_insert_with(NumKey(5), || 50)?;
     /// ```
     #[inline(always)]
-    pub fn get_or_insert_with<F: FnOnce() -> V>(&mut self, key: K, f: F) -> Result<V, Refused<K, F>>
+    pub fn get_or_insert_with<F: FnOnce() -> V + Drop>(
+        &mut self,
+        key: K,
+        f: F,
+    ) -> Result<V, Refused<K, F>>
     where
         V: Copy,
-        F: Drop,
         requires call { F.IsAlwaysCallable f }
         ensures { InsertionLeaves (FindsOrInserts (F.post f))
             K.hash (K.name key) key f result self.old self.new }
@@ -380,9 +374,11 @@ impl<T: TableRef<K, V> + Drop, K: TableKey + Drop, V: Drop> CallerOn<T, K, V> {
     /// let bound = caller.update_fn(&NumKey(5), |value| value / 2)?;
     /// ```
     #[inline(always)]
-    pub fn update_fn<Q: Query<K>, F: FnOnce(V) -> V>(&mut self, key: Q, f: F) -> Result<bool, Busy>
-    where
-        F: Drop,
+    pub fn update_fn<Q: Query<K>, F: FnOnce(V) -> V + Drop>(
+        &mut self,
+        key: Q,
+        f: F,
+    ) -> Result<bool, Busy>
         requires call { F.IsAlwaysCallable f }
         ensures { QueryLeaves (Changes (F.post f)) K.hash (Q.name key) result self.old self.new }
     {
@@ -398,13 +394,11 @@ impl<T: TableRef<K, V> + Drop, K: TableKey + Drop, V: Drop> CallerOn<T, K, V> {
     ///     caller.modify(&NumKey(5), |next: u64| (next.wrapping_add(1), next))?;
     /// ```
     #[inline(always)]
-    pub fn modify<Q: Query<K>, R, F: FnOnce(V) -> (V, R)>(
+    pub fn modify<Q: Query<K>, R, F: FnOnce(V) -> (V, R) + Drop>(
         &mut self,
         key: Q,
         f: F,
     ) -> Result<Option<R>, Busy>
-    where
-        F: Drop,
         requires call { F.IsAlwaysCallable f }
         ensures { QueryLeaves (Modifies (F.post f)) K.hash (Q.name key) result self.old self.new }
     {
@@ -421,14 +415,12 @@ impl<T: TableRef<K, V> + Drop, K: TableKey + Drop, V: Drop> CallerOn<T, K, V> {
     /// })?;
     /// ```
     #[inline(always)]
-    pub fn update_two<Q: Query<K>, F: FnOnce(V, V) -> (V, V)>(
+    pub fn update_two<Q: Query<K>, F: FnOnce(V, V) -> (V, V) + Drop>(
         &mut self,
         a: Q,
         b: Q,
         f: F,
     ) -> Result<bool, Busy>
-    where
-        F: Drop,
         requires different { Q.name a ≢ Q.name b }
         requires call { F.IsAlwaysCallable f }
         ensures same { IsSameCaller self.old self.new }
@@ -462,13 +454,11 @@ impl<T: TableRef<K, V> + Drop, K: TableKey + Drop, V: Drop> CallerOn<T, K, V> {
     /// let gone: Option<bool> = caller.erase_fn(&NumKey(5), |value: &u64| *value == 0)?;
     /// ```
     #[inline(always)]
-    pub fn erase_fn<Q: Query<K>, F: FnOnce(&V) -> bool>(
+    pub fn erase_fn<Q: Query<K>, F: FnOnce(&V) -> bool + Drop>(
         &mut self,
         key: Q,
         f: F,
     ) -> Result<Option<bool>, Busy>
-    where
-        F: Drop,
         requires call { F.IsAlwaysCallable f }
         ensures { QueryLeaves (ErasesBy (FnOnceReturnsAt F.FnOnce f))
             K.hash (Q.name key) result self.old self.new }
@@ -484,13 +474,11 @@ impl<T: TableRef<K, V> + Drop, K: TableKey + Drop, V: Drop> CallerOn<T, K, V> {
     /// let taken: Option<bool> = caller.replace_if(&NumKey(5), |left: &u64| left.checked_sub(1))?;
     /// ```
     #[inline(always)]
-    pub fn replace_if<Q: Query<K>, F: FnOnce(&V) -> Option<V>>(
+    pub fn replace_if<Q: Query<K>, F: FnOnce(&V) -> Option<V> + Drop>(
         &mut self,
         key: Q,
         f: F,
     ) -> Result<Option<bool>, Busy>
-    where
-        F: Drop,
         requires call { F.IsAlwaysCallable f }
         ensures { QueryLeaves (ReplacesIf (FnOnceReturnsAt F.FnOnce f))
             K.hash (Q.name key) result self.old self.new }
@@ -512,13 +500,11 @@ impl<T: TableRef<K, V> + Drop, K: TableKey + Drop, V: Drop> CallerOn<T, K, V> {
     /// let pushed: Option<Result<(), u64>> = caller.try_update(&NumKey(5), push)?;
     /// ```
     #[inline(always)]
-    pub fn try_update<Q: Query<K>, E, F: FnOnce(V) -> Result<V, (V, E)>>(
+    pub fn try_update<Q: Query<K>, E, F: FnOnce(V) -> Result<V, (V, E)> + Drop>(
         &mut self,
         key: Q,
         f: F,
     ) -> Result<Option<Result<(), E>>, Busy>
-    where
-        F: Drop,
         requires call { F.IsAlwaysCallable f }
         ensures { QueryLeaves (TriesChange (F.post f))
             K.hash (Q.name key) result self.old self.new }

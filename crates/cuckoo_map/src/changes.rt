@@ -46,14 +46,12 @@ impl<K: TableKey + Drop, V: Drop> Table<K, V> {
     }
 
     /// `Caller::update_fn`, by a pass.
-    pub fn update_fn<Q: Query<K>, F: FnOnce(V) -> V>(
+    pub fn update_fn<Q: Query<K>, F: FnOnce(V) -> V + Drop>(
         &self,
         pass: &mut Pass<K, V>,
         key: Q,
         f: F,
     ) -> Result<bool, Busy>
-    where
-        F: Drop,
         requires caller { IsCaller self.now pass.old }
         requires call { F.IsAlwaysCallable f }
         ensures caller { IsCaller self.now pass.new }
@@ -68,14 +66,12 @@ impl<K: TableKey + Drop, V: Drop> Table<K, V> {
     }
 
     /// `Caller::modify`, by a pass.
-    pub fn modify<Q: Query<K>, R, F: FnOnce(V) -> (V, R)>(
+    pub fn modify<Q: Query<K>, R, F: FnOnce(V) -> (V, R) + Drop>(
         &self,
         pass: &mut Pass<K, V>,
         key: Q,
         f: F,
     ) -> Result<Option<R>, Busy>
-    where
-        F: Drop,
         requires caller { IsCaller self.now pass.old }
         requires call { F.IsAlwaysCallable f }
         ensures caller { IsCaller self.now pass.new }
@@ -106,14 +102,12 @@ impl<K: TableKey + Drop, V: Drop> Table<K, V> {
     }
 
     /// `Caller::erase_fn`, by a pass.
-    pub fn erase_fn<Q: Query<K>, F: FnOnce(&V) -> bool>(
+    pub fn erase_fn<Q: Query<K>, F: FnOnce(&V) -> bool + Drop>(
         &self,
         pass: &mut Pass<K, V>,
         key: Q,
         f: F,
     ) -> Result<Option<bool>, Busy>
-    where
-        F: Drop,
         requires caller { IsCaller self.now pass.old }
         requires call { F.IsAlwaysCallable f }
         ensures caller { IsCaller self.now pass.new }
@@ -149,14 +143,12 @@ impl<K: TableKey + Drop, V: Drop> Table<K, V> {
     }
 
     /// `Caller::replace_if`, by a pass.
-    pub fn replace_if<Q: Query<K>, F: FnOnce(&V) -> Option<V>>(
+    pub fn replace_if<Q: Query<K>, F: FnOnce(&V) -> Option<V> + Drop>(
         &self,
         pass: &mut Pass<K, V>,
         key: Q,
         f: F,
     ) -> Result<Option<bool>, Busy>
-    where
-        F: Drop,
         requires caller { IsCaller self.now pass.old }
         requires call { F.IsAlwaysCallable f }
         ensures caller { IsCaller self.now pass.new }
@@ -192,14 +184,12 @@ impl<K: TableKey + Drop, V: Drop> Table<K, V> {
     }
 
     /// `Caller::try_update`, by a pass.
-    pub fn try_update<Q: Query<K>, E, F: FnOnce(V) -> Result<V, (V, E)>>(
+    pub fn try_update<Q: Query<K>, E, F: FnOnce(V) -> Result<V, (V, E)> + Drop>(
         &self,
         pass: &mut Pass<K, V>,
         key: Q,
         f: F,
     ) -> Result<Option<Result<(), E>>, Busy>
-    where
-        F: Drop,
         requires caller { IsCaller self.now pass.old }
         requires call { F.IsAlwaysCallable f }
         ensures caller { IsCaller self.now pass.new }

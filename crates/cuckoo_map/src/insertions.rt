@@ -47,15 +47,13 @@ impl<K: TableKey + Drop, V: Drop> Table<K, V> {
     }
 
     /// `Caller::upsert`, by a pass.
-    pub fn upsert<F: FnOnce(V) -> V>(
+    pub fn upsert<F: FnOnce(V) -> V + Drop>(
         &self,
         pass: &mut Pass<K, V>,
         key: K,
         f: F,
         value: V,
     ) -> Result<bool, Refused<K, V>>
-    where
-        F: Drop,
         requires caller { IsCaller self.now pass.old }
         requires call { F.IsAlwaysCallable f }
         ensures caller { IsCaller self.now pass.new }
@@ -66,15 +64,13 @@ impl<K: TableKey + Drop, V: Drop> Table<K, V> {
     }
 
     /// `Caller::try_upsert`, by a pass.
-    pub fn try_upsert<E, F: FnOnce(V) -> Result<V, (V, E)>>(
+    pub fn try_upsert<E, F: FnOnce(V) -> Result<V, (V, E)> + Drop>(
         &self,
         pass: &mut Pass<K, V>,
         key: K,
         f: F,
         value: V,
     ) -> Result<Result<bool, E>, Refused<K, V>>
-    where
-        F: Drop,
         requires caller { IsCaller self.now pass.old }
         requires call { F.IsAlwaysCallable f }
         ensures caller { IsCaller self.now pass.new }
@@ -85,16 +81,13 @@ impl<K: TableKey + Drop, V: Drop> Table<K, V> {
     }
 
     /// `Caller::try_upsert_with`, by a pass.
-    pub fn try_upsert_with<E, G: FnOnce() -> V, F: FnOnce(V) -> Result<V, (V, E)>>(
+    pub fn try_upsert_with<E, G: FnOnce() -> V + Drop, F: FnOnce(V) -> Result<V, (V, E)> + Drop>(
         &self,
         pass: &mut Pass<K, V>,
         key: K,
         make: G,
         f: F,
     ) -> Result<Result<bool, E>, Refused<K, (G, F)>>
-    where
-        G: Drop,
-        F: Drop,
         requires caller { IsCaller self.now pass.old }
         requires call { G.IsAlwaysCallable make × F.IsAlwaysCallable f }
         ensures caller { IsCaller self.now pass.new }
@@ -108,14 +101,12 @@ impl<K: TableKey + Drop, V: Drop> Table<K, V> {
     }
 
     /// `Caller::insert_with`, by a pass.
-    pub fn insert_with<F: FnOnce() -> V>(
+    pub fn insert_with<F: FnOnce() -> V + Drop>(
         &self,
         pass: &mut Pass<K, V>,
         key: K,
         f: F,
     ) -> Result<bool, Refused<K, F>>
-    where
-        F: Drop,
         requires caller { IsCaller self.now pass.old }
         requires call { F.IsAlwaysCallable f }
         ensures caller { IsCaller self.now pass.new }
@@ -128,15 +119,13 @@ impl<K: TableKey + Drop, V: Drop> Table<K, V> {
     }
 
     /// `Caller::uprase`, by a pass.
-    pub fn uprase<F: FnOnce(V) -> Option<V>>(
+    pub fn uprase<F: FnOnce(V) -> Option<V> + Drop>(
         &self,
         pass: &mut Pass<K, V>,
         key: K,
         f: F,
         value: V,
     ) -> Result<Uprased, Refused<K, V>>
-    where
-        F: Drop,
         requires caller { IsCaller self.now pass.old }
         requires call { F.IsAlwaysCallable f }
         ensures caller { IsCaller self.now pass.new }
@@ -147,7 +136,7 @@ impl<K: TableKey + Drop, V: Drop> Table<K, V> {
     }
 
     /// `Caller::get_or_insert_with`, by a pass.
-    pub fn get_or_insert_with<F: FnOnce() -> V>(
+    pub fn get_or_insert_with<F: FnOnce() -> V + Drop>(
         &self,
         pass: &mut Pass<K, V>,
         key: K,
@@ -155,7 +144,6 @@ impl<K: TableKey + Drop, V: Drop> Table<K, V> {
     ) -> Result<V, Refused<K, F>>
     where
         V: Copy,
-        F: Drop,
         requires caller { IsCaller self.now pass.old }
         requires call { F.IsAlwaysCallable f }
         ensures caller { IsCaller self.now pass.new }

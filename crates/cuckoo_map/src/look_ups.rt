@@ -20,14 +20,12 @@ use std::snapshot::Snapshot;
 
 impl<K: TableKey + Drop, V: Drop> Table<K, V> {
     /// `Caller::find_fn`, by a pass.
-    pub fn find_fn<Q: Query<K>, R, F: FnOnce(&V) -> R>(
+    pub fn find_fn<Q: Query<K>, R, F: FnOnce(&V) -> R + Drop>(
         &self,
         pass: &mut Pass<K, V>,
         key: Q,
         f: F,
     ) -> Result<Option<R>, Busy>
-    where
-        F: Drop,
         requires caller { IsCaller self.now pass.old }
         requires call { F.IsAlwaysCallable f }
         ensures caller { IsCaller self.now pass.new }

@@ -18,9 +18,7 @@ impl<T: TableRef<K, V> + Drop, K: TableKey + Drop, V: Drop> LockedOn<T, K, V> {
     }
 
     /// `Caller::update_fn`.
-    pub fn update_fn<Q: Query<K>, F: FnOnce(V) -> V>(&mut self, key: Q, f: F) -> bool
-    where
-        F: Drop,
+    pub fn update_fn<Q: Query<K>, F: FnOnce(V) -> V + Drop>(&mut self, key: Q, f: F) -> bool
         requires call { F.IsAlwaysCallable f }
         ensures { Changes (F.post f) (HasChanged (Q.name key) self.old self.new) result }
     {
@@ -33,9 +31,11 @@ impl<T: TableRef<K, V> + Drop, K: TableKey + Drop, V: Drop> LockedOn<T, K, V> {
     /// ```
     /// let taken: Option<u64> = locked.modify(&NumKey(5), |left: u64| (left / 2, left - left / 2));
     /// ```
-    pub fn modify<Q: Query<K>, R, F: FnOnce(V) -> (V, R)>(&mut self, key: Q, f: F) -> Option<R>
-    where
-        F: Drop,
+    pub fn modify<Q: Query<K>, R, F: FnOnce(V) -> (V, R) + Drop>(
+        &mut self,
+        key: Q,
+        f: F,
+    ) -> Option<R>
         requires call { F.IsAlwaysCallable f }
         ensures { Modifies (F.post f) (HasChanged (Q.name key) self.old self.new) result }
     {
@@ -53,13 +53,11 @@ impl<T: TableRef<K, V> + Drop, K: TableKey + Drop, V: Drop> LockedOn<T, K, V> {
     }
 
     /// `Caller::replace_if`.
-    pub fn replace_if<Q: Query<K>, F: FnOnce(&V) -> Option<V>>(
+    pub fn replace_if<Q: Query<K>, F: FnOnce(&V) -> Option<V> + Drop>(
         &mut self,
         key: Q,
         f: F,
     ) -> Option<bool>
-    where
-        F: Drop,
         requires call { F.IsAlwaysCallable f }
         ensures { ReplacesIf (FnOnceReturnsAt F.FnOnce f)
             (HasChanged (Q.name key) self.old self.new) result }
@@ -70,13 +68,11 @@ impl<T: TableRef<K, V> + Drop, K: TableKey + Drop, V: Drop> LockedOn<T, K, V> {
     }
 
     /// `Caller::try_update`.
-    pub fn try_update<Q: Query<K>, E, F: FnOnce(V) -> Result<V, (V, E)>>(
+    pub fn try_update<Q: Query<K>, E, F: FnOnce(V) -> Result<V, (V, E)> + Drop>(
         &mut self,
         key: Q,
         f: F,
     ) -> Option<Result<(), E>>
-    where
-        F: Drop,
         requires call { F.IsAlwaysCallable f }
         ensures { TriesChange (F.post f) (HasChanged (Q.name key) self.old self.new) result }
     {

@@ -49,14 +49,12 @@ impl<T: TableRef<K, V> + Drop, K: TableKey + Drop, V: Drop> LockedOn<T, K, V> {
     /// ```
     /// let fresh: bool = locked.upsert(NumKey(5), |count| count.saturating_add(1), 1)?;
     /// ```
-    pub fn upsert<F: FnOnce(V) -> V>(
+    pub fn upsert<F: FnOnce(V) -> V + Drop>(
         &mut self,
         key: K,
         f: F,
         value: V,
     ) -> Result<bool, Refused<K, V>>
-    where
-        F: Drop,
         requires call { F.IsAlwaysCallable f }
         ensures { LockedInsertionLeaves (Upserts (F.post f) value)
             K.hash (K.name key) key value result self.old self.new }
@@ -107,9 +105,11 @@ impl<T: TableRef<K, V> + Drop, K: TableKey + Drop, V: Drop> LockedOn<T, K, V> {
     }
 
     /// `Caller::insert_with`.
-    pub fn insert_with<F: FnOnce() -> V>(&mut self, key: K, f: F) -> Result<bool, Refused<K, F>>
-    where
-        F: Drop,
+    pub fn insert_with<F: FnOnce() -> V + Drop>(
+        &mut self,
+        key: K,
+        f: F,
+    ) -> Result<bool, Refused<K, F>>
         requires call { F.IsAlwaysCallable f }
         ensures { LockedInsertionLeaves (InsertsBy (F.post f))
             K.hash (K.name key) key f result self.old self.new }
@@ -119,10 +119,13 @@ impl<T: TableRef<K, V> + Drop, K: TableKey + Drop, V: Drop> LockedOn<T, K, V> {
     }
 
     /// `Caller::get_or_insert_with`.
-    pub fn get_or_insert_with<F: FnOnce() -> V>(&mut self, key: K, f: F) -> Result<V, Refused<K, F>>
+    pub fn get_or_insert_with<F: FnOnce() -> V + Drop>(
+        &mut self,
+        key: K,
+        f: F,
+    ) -> Result<V, Refused<K, F>>
     where
         V: Copy,
-        F: Drop,
         requires call { F.IsAlwaysCallable f }
         ensures { LockedInsertionLeaves (FindsOrInserts (F.post f))
             K.hash (K.name key) key f result self.old self.new }
@@ -132,14 +135,12 @@ impl<T: TableRef<K, V> + Drop, K: TableKey + Drop, V: Drop> LockedOn<T, K, V> {
     }
 
     /// `Caller::uprase`.
-    pub fn uprase<F: FnOnce(V) -> Option<V>>(
+    pub fn uprase<F: FnOnce(V) -> Option<V> + Drop>(
         &mut self,
         key: K,
         f: F,
         value: V,
     ) -> Result<Uprased, Refused<K, V>>
-    where
-        F: Drop,
         requires call { F.IsAlwaysCallable f }
         ensures { LockedInsertionLeaves (Uprases (F.post f) value)
             K.hash (K.name key) key value result self.old self.new }
@@ -148,14 +149,12 @@ impl<T: TableRef<K, V> + Drop, K: TableKey + Drop, V: Drop> LockedOn<T, K, V> {
     }
 
     /// `Caller::try_upsert`.
-    pub fn try_upsert<E, F: FnOnce(V) -> Result<V, (V, E)>>(
+    pub fn try_upsert<E, F: FnOnce(V) -> Result<V, (V, E)> + Drop>(
         &mut self,
         key: K,
         f: F,
         value: V,
     ) -> Result<Result<bool, E>, Refused<K, V>>
-    where
-        F: Drop,
         requires call { F.IsAlwaysCallable f }
         ensures { LockedInsertionLeaves (TriesUpsert (F.post f) value)
             K.hash (K.name key) key value result self.old self.new }
@@ -164,15 +163,12 @@ impl<T: TableRef<K, V> + Drop, K: TableKey + Drop, V: Drop> LockedOn<T, K, V> {
     }
 
     /// `Caller::try_upsert_with`.
-    pub fn try_upsert_with<E, G: FnOnce() -> V, F: FnOnce(V) -> Result<V, (V, E)>>(
+    pub fn try_upsert_with<E, G: FnOnce() -> V + Drop, F: FnOnce(V) -> Result<V, (V, E)> + Drop>(
         &mut self,
         key: K,
         make: G,
         f: F,
     ) -> Result<Result<bool, E>, Refused<K, (G, F)>>
-    where
-        G: Drop,
-        F: Drop,
         requires call { G.IsAlwaysCallable make × F.IsAlwaysCallable f }
         ensures { LockedInsertionLeaves (TriesUpsertWith (G.post make) (F.post f))
             K.hash (K.name key) key (make, f) result self.old self.new }
