@@ -1,11 +1,11 @@
 -- What settles, displaces and doubles all stripes of a table, and what is known of room for a name then.
-use Rattle.std.proofs.Common.{◌≡◌, ⊎_elim, ℕ, zero, suc, ◌-◌, ◌%◌, ◌^◌, ◌<◌, ◌≤◌, Bool, true, false, ltb, MatchBool, List, [], ◌∷◌, Option, Some, None, IfSome, IfNone, is_some, length, refl, sym, ◌∙◌, ap, subst, arith}
+use Rattle.std.proofs.Common.{◌≡◌, ⊎_elim, ℕ, zero, suc, ◌%◌, ◌^◌, ◌<◌, Bool, true, false, ltb, MatchBool, List, [], ◌∷◌, Option, Some, None, IfSome, IfNone, is_some, length, refl, sym, ◌∙◌, ap, subst, arith}
 use mathlib.Core.Logic.{dite}
 use native.Mathlib.Decide.{ℕ_discrete}
 use Rattle.std.proofs.Math.Nat.{mod-lt}
 use Rattle.std.proofs.lemmas.Bool.{ltb-true, lt-ltb, false≢true}
 use Rattle.std.proofs.lemmas.Nat.{pow_pos}
-use Rattle.std.proofs.lemmas.List.{length-set, length-map, get_or-set_same, get_or-set_other}
+use Rattle.std.proofs.lemmas.List.{length-set, get_or-set_same, get_or-set_other}
 use Rattle.ck_key.specs.declared.key_hash.KeyHash.{KeyHash}
 use Rattle.ck_key.specs.Hashes.{IsHashOf}
 use Rattle.ck_model.specs.Arithmetic.{index_of, second_of}
@@ -14,9 +14,9 @@ use Rattle.ck_model.specs.Slots.{HasFree}
 use Rattle.ck_model.specs.Contents.{Stripes, IsBucketOf}
 use Rattle.ck_model.proofs.Buckets.{index_below, second_below}
 use Rattle.ck_stripe.specs.Stripe.{StripeState}
-use Rattle.ck_stripe.specs.Stripes.{no_stripe, stripe_at, bucket_at, contents_of, settled_stripes, IsInReach}
+use Rattle.ck_stripe.specs.Stripes.{no_stripe, stripe_at, bucket_at, contents_of, IsInReach}
 use Rattle.ck_section.specs.Places.{IsPlaceOf}
-use Rattle.ck_stripe.specs.Tables.{AreAllHeld, IsTable, power_in}
+use Rattle.ck_stripe.specs.Tables.{IsTable, power_in}
 use Rattle.ck_section.specs.Calls.{IsWithRoom}
 use Rattle.ck_section.specs.Room.{settled_at}
 use Rattle.ck_stripe.proofs.Settled.{form, AreAlike, table_alike}

@@ -41,7 +41,9 @@ pub use insertion::{Insertion, Uprased};
 pub use iter::Iter;
 pub use listing::export;
 pub use look::{key_place, sketch};
-pub use one_key::{erase, erase_fn, find, modify, replace_if, try_update, update, update_fn};
+pub use one_key::{
+    erase, erase_fn, find, modify, replace_if, update, update_fn, value_and_outcome,
+};
 pub use place::{HeldBucket, KeyPlace};
 pub use retain::retain_all;
 pub use room::{make_room, settled_place};

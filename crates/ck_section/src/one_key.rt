@@ -209,37 +209,6 @@ pub fn modify<
     Ok(modify_entry(held, place, at, key, f))
 }
 
-/// Binds a bound key to the value that the closure gives back for its value, whether it succeeds or
-/// fails, and gives the error of a failure. Where the key is unbound, the closure is not called and
-/// comes back.
-pub fn try_update<
-    K: TableKey + Drop,
-    V: Drop,
-    Q: Query<K>,
-    H: Held<Stripe<K, V>>,
-    E,
-    F: FnOnce(V) -> Result<V, (V, E)>,
->(held: &mut H, place: KeyPlace, key: Q, f: F) -> Result<Result<(), E>, F>
-    requires place { IsPlaceOf K.hash (H.stripes held.old) (Q.name key) place }
-    requires call { F.IsAlwaysCallable f }
-    ensures bound { IfOk result (λ outcome. (v w : V)
-        × MatchResult outcome (λ _. F.post f v (Ok w)) (λ e. F.post f v (Err (w, e)))
-        × IsCall (effect K.hash H.stripes place held.old held.new) (Q.name key)
-        Change (Done v w)) }
-    ensures unbound { IfErr result (λ back. (back ≡ f)
-        × IsCall (effect K.hash H.stripes place held.old held.new) (Q.name key)
-        Change Absent) }
-    ensures same { OnErr result (H.stripes held.new ≡ H.stripes held.old) }
-    ensures rest { ChangesContents (H.stripes held.old) (H.stripes held.new) }
-    ensures stays { H.stays held.old held.new }
-{
-    let at = match find_slot(held, place, key) {
-        Some(at) => at,
-        None => return Err(f),
-    };
-    Ok(try_modify_entry(held, place, at, key, f))
-}
-
 // Puts an unbound key into the slot of its entry.
 pub(crate) fn fill<K: TableKey + Drop, V: Drop, H: Held<Stripe<K, V>>>(
     held: &mut H,
@@ -306,18 +275,16 @@ pub(crate) fn try_modify_entry<
     ensures rest { ChangesContents (H.stripes held.old) (H.stripes held.new) }
     ensures stays { H.stays held.old held.new }
 {
-    let change = |value: V| value_and_outcome(f, value);
+    let change = |value: V| value_and_outcome(f(value));
     modify_entry(held, place, at, key, change)
 }
 
-// The value that the closure gives back for a value, and how it ends.
+/// The value that a closure gave back, whether it succeeded or failed, and the error of a failure.
 #[inline(always)]
-fn value_and_outcome<V, E, F: FnOnce(V) -> Result<V, (V, E)>>(f: F, value: V) -> (V, Result<(), E>)
-    requires { F.IsAlwaysCallable f }
-    ensures { MatchResult result.1 (λ _. F.post f value (Ok result.0))
-        (λ e. F.post f value (Err (result.0, e))) }
+pub fn value_and_outcome<V, E>(ended: Result<V, (V, E)>) -> (V, Result<(), E>)
+    ensures { MatchResult result.1 (λ _. ended ≡ Ok result.0) (λ e. ended ≡ Err (result.0, e)) }
 {
-    match f(value) {
+    match ended {
         Ok(value) => (value, Ok(())),
         Err((value, error)) => (value, Err(error)),
     }

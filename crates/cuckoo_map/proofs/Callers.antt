@@ -76,7 +76,7 @@ module _ {V : Type 0} where
     grown_caller {hash} {name} g =
         subst (λ (x : CallerState V). HasGrownFor hash x.table.settings name (pass_of x) (pass_of (caller_of w q))) is (grown_alike p q (pass_of (caller_of w p)) (pass_of (caller_of w q)) refl refl refl refl refl g)
 
-    pub replies_inserting : (hash : Name → ℕ) (name : Name) (act : Act V) (reply : Reply V) → IsInserted hash w.settings name p q act reply → RepliesOn name c (caller_of w q) act reply × (IsSameCaller c (caller_of w q) × NotesFull hash name c (caller_of w q))
+    replies_inserting : (hash : Name → ℕ) (name : Name) (act : Act V) (reply : Reply V) → IsInserted hash w.settings name p q act reply → RepliesOn name c (caller_of w q) act reply × (IsSameCaller c (caller_of w q) × NotesFull hash name c (caller_of w q))
     replies_inserting hash name act reply a = (replied (On name act) a.2, (same_caller a.2.stays.by, (a.0, a.1, keeps_notes a.2.stays, grown_caller a.3)))
 
     -- the table that the call was made on, v, is the caller's
@@ -99,18 +99,20 @@ module _ {V : Type 0} where
 
       -- where it was a query of one name
       pub query_on : {A : Type 0} {answers : (Act V → Reply V → Type 0) → A → Type 0} (hash : Name → ℕ) (name : Name) (r : Result A Busy)
-          → ((a : A) → answers (IsAnsweredOn name p q) a → answers (RepliesOn name c (caller_of w q)) a × (IsSameCaller c (caller_of w q) × KeepsNotes c (caller_of w q)))
+          → (((act : Act V) (reply : Reply V) → IsAnsweredOn name p q act reply → RepliesOn name c (caller_of w q) act reply × (IsSameCaller c (caller_of w q) × KeepsNotes c (caller_of w q)))
+          → (a : A) → answers (IsAnsweredOn name p q) a → answers (RepliesOn name c (caller_of w q)) a × (IsSameCaller c (caller_of w q) × KeepsNotes c (caller_of w q)))
           → HasQueried answers hash v.settings name r p q → QueryLeaves answers hash name r c (caller_of w q)
       query_on {A} {answers} hash name r told did =
-          let left = query {T = answers (RepliesOn name c (caller_of w q))} (OfName hash name) (λ busy. busy.0) r (IfOk-weaker r _ _ told did.answered) did.busy did.found in
+          let left = query {T = answers (RepliesOn name c (caller_of w q))} (OfName hash name) (λ busy. busy.0) r (IfOk-weaker r _ _ (told (replies_on name)) did.answered) did.busy did.found in
           record { same = left.same; answered = left.answered; notes = left.notes; busy = left.busy; found = left.found }
 
       pub insertion : {A K X : Type 0} {answers : (Act V → Reply V → Type 0) → A → Type 0} (hash : Name → ℕ) (name : Name) (key : K) (x : X) (r : Result A (Refused K X))
-          → ((a : A) → answers (IsInserted hash w.settings name p q) a → answers (RepliesOn name c (caller_of w q)) a × (IsSameCaller c (caller_of w q) × NotesFull hash name c (caller_of w q)))
+          → (((act : Act V) (reply : Reply V) → IsInserted hash w.settings name p q act reply → RepliesOn name c (caller_of w q) act reply × (IsSameCaller c (caller_of w q) × NotesFull hash name c (caller_of w q)))
+          → (a : A) → answers (IsInserted hash w.settings name p q) a → answers (RepliesOn name c (caller_of w q)) a × (IsSameCaller c (caller_of w q) × NotesFull hash name c (caller_of w q)))
           → HasInserted answers hash v.settings name key x r p q → InsertionLeaves answers hash name key x r c (caller_of w q)
       insertion {A} {K} {X} {answers} hash name key x r told there =
           let did = subst (λ (t : WordsState). HasInserted answers hash t.settings name key x r p q) at there in
-          let said = IfOk-weaker r _ (λ a. answers (RepliesOn name c (caller_of w q)) a × (IsSameCaller c (caller_of w q) × NotesFull hash name c (caller_of w q))) told did.answered in
+          let said = IfOk-weaker r _ (λ a. answers (RepliesOn name c (caller_of w q)) a × (IsSameCaller c (caller_of w q) × NotesFull hash name c (caller_of w q))) (told (replies_inserting hash name)) did.answered in
           record {
             same = by_result r said did.refused (λ a h. h.1.0) (λ e h. same_caller h.2.stays.by);
             answered = IfOk-weaker r _ _ (λ a h. h.0) said;

@@ -20,6 +20,23 @@ use std::marker::Model;
 /// That the pass is one of this table, and in no call, is known by the type. A caller may go to
 /// another thread, and can't be cloned. Contracts see the table, what a client sees, and notes of
 /// what else the caller was told, found and said.
+///
+/// A call that finds a stripe held in as many tries in a row as the settings allow is refused as
+/// [`Busy`], and but for an insertion it has changed nothing then. A closure runs while the stripes
+/// of its keys are held; one that is not called, as where a key to be changed is unbound, is
+/// dropped.
+///
+/// # Insertions
+///
+/// These are the calls that may bind an unbound key: from `insert` to `get_or_insert_with`. Where
+/// both buckets of such a key are full, other entries are displaced to make room, and where that is
+/// of no avail the table doubles, under all stripes. Neither changes a binding.
+///
+/// An insertion is refused as `Busy`, or where no displacement makes room and the table doesn't
+/// grow: as `Full` at its greatest power, as `LoadTooLow` where too few slots are taken, or as
+/// `Memory`. Refused, it changes no binding, though the table may have grown, and hands back the
+/// key with the value, or with the closures that were to make one, which were not called. Any other
+/// closure is dropped, and so is of a closure and a value the one that isn't used.
 #[derive(Drop)]
 pub struct CallerOn<T: TableRef<K, V>, K: TableKey, V> {
     pub(crate) table: T,
@@ -101,8 +118,7 @@ impl<T: TableRef<K, V> + Drop, K: TableKey + Drop, V: Drop> CallerOn<T, K, V> {
         pass
     }
 
-    /// The value that is bound to the key; `None` where the key is unbound. Refused as busy, it
-    /// changes nothing. It is `Table::find`.
+    /// The value that is bound to the key; `None` where the key is unbound.
     ///
     /// ```
     /// let value: Option<u64> = caller.find(&NumKey(5))?;
@@ -123,20 +139,17 @@ impl<T: TableRef<K, V> + Drop, K: TableKey + Drop, V: Drop> CallerOn<T, K, V> {
         self.table.table().find(&mut self.pass, key)
     }
 
-    /// What the closure answers for the value of the key; `None` where the key is unbound. Refused
-    /// as busy, it changes nothing, and the closure is dropped. It is `Table::find_fn`.
+    /// What the closure answers for the value of the key; `None` where the key is unbound.
     ///
     /// ```
     /// let half: Option<u64> = caller.find_fn(&NumKey(5), |value: &u64| *value / 2)?;
     /// ```
     #[inline(always)]
-    pub fn find_fn<Q: Query<K>, R, F: FnOnce(&V) -> R>(
+    pub fn find_fn<Q: Query<K>, R, F: FnOnce(&V) -> R + Drop>(
         &mut self,
         key: Q,
         f: F,
     ) -> Result<Option<R>, Busy>
-    where
-        F: Drop,
         requires call { F.IsAlwaysCallable f }
         ensures { QueryLeaves (FindsBy (FnOnceReturnsAt F.FnOnce f))
             K.hash (Q.name key) result self.old self.new }
@@ -144,7 +157,7 @@ impl<T: TableRef<K, V> + Drop, K: TableKey + Drop, V: Drop> CallerOn<T, K, V> {
         self.table.table().find_fn(&mut self.pass, key, f)
     }
 
-    /// Whether the key is bound. Refused as busy, it changes nothing. It is `Table::contains`.
+    /// Whether the key is bound.
     ///
     /// ```
     /// let bound: bool = caller.contains(&NumKey(5))?;
@@ -156,8 +169,8 @@ impl<T: TableRef<K, V> + Drop, K: TableKey + Drop, V: Drop> CallerOn<T, K, V> {
         self.table.table().contains(&mut self.pass, key)
     }
 
-    /// Binds the key to the value where it is unbound, and says whether it was. The table may grow
-    /// for it. Refused, it changes no binding and hands key and value back. It is `Table::insert`.
+    /// Binds the key to the value where it is unbound, and says whether it was. A bound key keeps
+    /// its value, and the one that was passed is dropped.
     ///
     /// ```
     /// match caller.insert(NumKey(5), 50) {
@@ -173,9 +186,7 @@ impl<T: TableRef<K, V> + Drop, K: TableKey + Drop, V: Drop> CallerOn<T, K, V> {
         self.table.table().insert(&mut self.pass, key, value)
     }
 
-    /// Binds the key to the value, and gives the value that it had. The table may grow for it.
-    /// Refused, it changes no binding and hands key and value back. It is
-    /// `Table::insert_or_assign`.
+    /// Binds the key to the value, and gives the value that it had; `None` where it was unbound.
     ///
     /// ```
     /// let old: Option<u64> = caller.insert_or_assign(NumKey(5), 51)?;
@@ -191,21 +202,18 @@ impl<T: TableRef<K, V> + Drop, K: TableKey + Drop, V: Drop> CallerOn<T, K, V> {
     }
 
     /// Binds an unbound key to the value, and a bound one to what the closure makes of its value;
-    /// says whether the key was unbound. The table may grow for it. Refused, it changes no binding,
-    /// drops the closure and hands key and value back. It is `Table::upsert`.
+    /// says whether the key was unbound.
     ///
     /// ```
     /// let fresh = caller.upsert(NumKey(word), |count| count.saturating_add(1), 1)?;
     /// ```
     #[inline(always)]
-    pub fn upsert<F: FnOnce(V) -> V>(
+    pub fn upsert<F: FnOnce(V) -> V + Drop>(
         &mut self,
         key: K,
         f: F,
         value: V,
     ) -> Result<bool, Refused<K, V>>
-    where
-        F: Drop,
         requires call { F.IsAlwaysCallable f }
         ensures { InsertionLeaves (Upserts (F.post f) value)
             K.hash (K.name key) key value result self.old self.new }
@@ -216,8 +224,7 @@ impl<T: TableRef<K, V> + Drop, K: TableKey + Drop, V: Drop> CallerOn<T, K, V> {
     /// Binds an unbound key to the value, and answers `Ok(true)`. A bound one is bound to the value
     /// that the closure gives back for its value: the answer is `Ok(false)` where it succeeds, and
     /// its error where it fails. It is for values that own memory: a closure that fails by giving
-    /// back the value that it got changes nothing. The table may grow for it. Refused, it changes
-    /// no binding, drops the closure and hands key and value back. It is `Table::try_upsert`.
+    /// back the value that it got changes nothing.
     ///
     /// ```
     /// // The values are of type `Vec<u64>`. Where there is no memory for one more number, the key
@@ -226,20 +233,16 @@ impl<T: TableRef<K, V> + Drop, K: TableKey + Drop, V: Drop> CallerOn<T, K, V> {
     ///     Ok(()) => Ok(list),
     ///     Err(refused) => Err((list, refused.value)),
     /// };
-    /// match caller.try_upsert(NumKey(5), push, vec![in alloc; 51]?)? {
-    ///     Ok(fresh) => println!(rt; "{}", if fresh { "a new list" } else { "pushed" })?,
-    ///     Err(number) => println!(rt; "no memory for {number}")?,
-    /// }
+    /// let first: Vec<u64> = vec![in alloc; 51]?;
+    /// let pushed: Result<bool, u64> = caller.try_upsert(NumKey(5), push, first)?;
     /// ```
     #[inline(always)]
-    pub fn try_upsert<E, F: FnOnce(V) -> Result<V, (V, E)>>(
+    pub fn try_upsert<E, F: FnOnce(V) -> Result<V, (V, E)> + Drop>(
         &mut self,
         key: K,
         f: F,
         value: V,
     ) -> Result<Result<bool, E>, Refused<K, V>>
-    where
-        F: Drop,
         requires call { F.IsAlwaysCallable f }
         ensures { InsertionLeaves (TriesUpsert (F.post f) value)
             K.hash (K.name key) key value result self.old self.new }
@@ -248,11 +251,9 @@ impl<T: TableRef<K, V> + Drop, K: TableKey + Drop, V: Drop> CallerOn<T, K, V> {
     }
 
     /// Binds an unbound key to what `f` makes of the value that `make` makes, and answers
-    /// `Ok(true)`. A bound one is bound to what `f` makes of its value, and the answer is
-    /// `Ok(false)`; `make` is not called. Where `f` fails, the answer is its error: an unbound key
-    /// stays so, and a bound one is bound to the value that `f` gives back. The table may grow for
-    /// it. Refused, it changes no binding and hands key and closures back. It is
-    /// `Table::try_upsert_with`.
+    /// `Ok(true)`. A bound one is bound to what `f` makes of its value, the answer is `Ok(false)`,
+    /// and `make` is not called. Where `f` fails, the answer is its error: an unbound key stays so,
+    /// and the value that `f` gives back is dropped; a bound one is bound to that value.
     ///
     /// ```
     /// // The values are of type `Vec<u64>`. The number is pushed to the list of the key, to a new
@@ -261,21 +262,16 @@ impl<T: TableRef<K, V> + Drop, K: TableKey + Drop, V: Drop> CallerOn<T, K, V> {
     ///     Ok(()) => Ok(list),
     ///     Err(refused) => Err((list, refused.value)),
     /// };
-    /// match caller.try_upsert_with(NumKey(5), || Vec::new(alloc), push)? {
-    ///     Ok(fresh) => println!(rt; "{}", if fresh { "a new list" } else { "pushed" })?,
-    ///     Err(number) => println!(rt; "no memory for {number}")?,
-    /// }
+    /// let pushed: Result<bool, u64> =
+    ///     caller.try_upsert_with(NumKey(5), || Vec::new(alloc), push)?;
     /// ```
     #[inline(always)]
-    pub fn try_upsert_with<E, G: FnOnce() -> V, F: FnOnce(V) -> Result<V, (V, E)>>(
+    pub fn try_upsert_with<E, G: FnOnce() -> V + Drop, F: FnOnce(V) -> Result<V, (V, E)> + Drop>(
         &mut self,
         key: K,
         make: G,
         f: F,
     ) -> Result<Result<bool, E>, Refused<K, (G, F)>>
-    where
-        G: Drop,
-        F: Drop,
         requires call { G.IsAlwaysCallable make × F.IsAlwaysCallable f }
         ensures { InsertionLeaves (TriesUpsertWith (G.post make) (F.post f))
             K.hash (K.name key) key (make, f) result self.old self.new }
@@ -285,20 +281,18 @@ impl<T: TableRef<K, V> + Drop, K: TableKey + Drop, V: Drop> CallerOn<T, K, V> {
             .try_upsert_with(&mut self.pass, key, make, f)
     }
 
-    /// Binds an unbound key to what the closure makes, and says whether it was unbound. Where the
-    /// key is bound, the closure is not called. The table may grow for it. Refused, it changes no
-    /// binding and hands key and closure back. It is `Table::insert_with`.
+    /// Binds an unbound key to what the closure makes, and says whether it was unbound. A bound key
+    /// keeps its value, and then the closure is not called.
     ///
     /// ```
-    /// match caller.insert_with(NumKey(5), || 50) {
-    ///     Ok(fresh) => println!(rt; "{}", if fresh { "new" } else { "old" })?,
-    ///     Err(refused) => println!(rt; "{}", refused.why)?,
-    /// }
+    /// let fresh: bool = caller.insert_with(NumKey(5), || 50)?;
     /// ```
     #[inline(always)]
-    pub fn insert_with<F: FnOnce() -> V>(&mut self, key: K, f: F) -> Result<bool, Refused<K, F>>
-    where
-        F: Drop,
+    pub fn insert_with<F: FnOnce() -> V + Drop>(
+        &mut self,
+        key: K,
+        f: F,
+    ) -> Result<bool, Refused<K, F>>
         requires call { F.IsAlwaysCallable f }
         ensures { InsertionLeaves (InsertsBy (F.post f))
             K.hash (K.name key) key f result self.old self.new }
@@ -307,8 +301,7 @@ impl<T: TableRef<K, V> + Drop, K: TableKey + Drop, V: Drop> CallerOn<T, K, V> {
     }
 
     /// Binds an unbound key to the value. A bound one is bound to what the closure makes of its
-    /// value, or unbound where the closure makes nothing. The table may grow for it. Refused, it
-    /// changes no binding, drops the closure and hands key and value back. It is `Table::uprase`.
+    /// value, or unbound where the closure makes nothing.
     ///
     /// ```
     /// match caller.uprase(NumKey(5), |left| left.checked_sub(1), 50)? {
@@ -318,14 +311,12 @@ impl<T: TableRef<K, V> + Drop, K: TableKey + Drop, V: Drop> CallerOn<T, K, V> {
     /// }
     /// ```
     #[inline(always)]
-    pub fn uprase<F: FnOnce(V) -> Option<V>>(
+    pub fn uprase<F: FnOnce(V) -> Option<V> + Drop>(
         &mut self,
         key: K,
         f: F,
         value: V,
     ) -> Result<Uprased, Refused<K, V>>
-    where
-        F: Drop,
         requires call { F.IsAlwaysCallable f }
         ensures { InsertionLeaves (Uprases (F.post f) value)
             K.hash (K.name key) key value result self.old self.new }
@@ -334,20 +325,19 @@ impl<T: TableRef<K, V> + Drop, K: TableKey + Drop, V: Drop> CallerOn<T, K, V> {
     }
 
     /// The value of the key. An unbound one is bound to what the closure makes; for a bound one the
-    /// closure is not called. The table may grow for it. Refused, it changes no binding and hands
-    /// key and closure back. It is `Table::get_or_insert_with`.
+    /// closure is not called.
     ///
     /// ```
-    /// match caller.get_or_insert_with(NumKey(5), || 50) {
-    ///     Ok(value) => println!(rt; "{value}")?,
-    ///     Err(refused) => println!(rt; "{}", refused.why)?,
-    /// }
+    /// let value: u64 = caller.get_or_insert_with(NumKey(5), || 50)?;
     /// ```
     #[inline(always)]
-    pub fn get_or_insert_with<F: FnOnce() -> V>(&mut self, key: K, f: F) -> Result<V, Refused<K, F>>
+    pub fn get_or_insert_with<F: FnOnce() -> V + Drop>(
+        &mut self,
+        key: K,
+        f: F,
+    ) -> Result<V, Refused<K, F>>
     where
         V: Copy,
-        F: Drop,
         requires call { F.IsAlwaysCallable f }
         ensures { InsertionLeaves (FindsOrInserts (F.post f))
             K.hash (K.name key) key f result self.old self.new }
@@ -358,8 +348,7 @@ impl<T: TableRef<K, V> + Drop, K: TableKey + Drop, V: Drop> CallerOn<T, K, V> {
     }
 
     /// Binds a bound key to another value, and gives the one that it had; `None` where the key is
-    /// unbound. Refused as busy, it changes nothing and hands the value back. It is
-    /// `Table::update`.
+    /// unbound, and then the value is dropped. Refused, it hands the value back.
     ///
     /// ```
     /// if let Err((value, busy)) = caller.update(&NumKey(5), 52) {
@@ -380,15 +369,16 @@ impl<T: TableRef<K, V> + Drop, K: TableKey + Drop, V: Drop> CallerOn<T, K, V> {
     }
 
     /// Binds a bound key to what the closure makes of its value, and says whether the key is bound.
-    /// Refused as busy, it changes nothing, and the closure is dropped. It is `Table::update_fn`.
     ///
     /// ```
     /// let bound = caller.update_fn(&NumKey(5), |value| value / 2)?;
     /// ```
     #[inline(always)]
-    pub fn update_fn<Q: Query<K>, F: FnOnce(V) -> V>(&mut self, key: Q, f: F) -> Result<bool, Busy>
-    where
-        F: Drop,
+    pub fn update_fn<Q: Query<K>, F: FnOnce(V) -> V + Drop>(
+        &mut self,
+        key: Q,
+        f: F,
+    ) -> Result<bool, Busy>
         requires call { F.IsAlwaysCallable f }
         ensures { QueryLeaves (Changes (F.post f)) K.hash (Q.name key) result self.old self.new }
     {
@@ -396,8 +386,7 @@ impl<T: TableRef<K, V> + Drop, K: TableKey + Drop, V: Drop> CallerOn<T, K, V> {
     }
 
     /// Binds a bound key to what the closure makes of its value, and gives what the closure answers
-    /// besides; `None` where the key is unbound. Refused as busy, it changes nothing, and the
-    /// closure is dropped. It is `Table::modify`.
+    /// besides; `None` where the key is unbound.
     ///
     /// ```
     /// // The next number of a counter that is bound.
@@ -405,22 +394,20 @@ impl<T: TableRef<K, V> + Drop, K: TableKey + Drop, V: Drop> CallerOn<T, K, V> {
     ///     caller.modify(&NumKey(5), |next: u64| (next.wrapping_add(1), next))?;
     /// ```
     #[inline(always)]
-    pub fn modify<Q: Query<K>, R, F: FnOnce(V) -> (V, R)>(
+    pub fn modify<Q: Query<K>, R, F: FnOnce(V) -> (V, R) + Drop>(
         &mut self,
         key: Q,
         f: F,
     ) -> Result<Option<R>, Busy>
-    where
-        F: Drop,
         requires call { F.IsAlwaysCallable f }
         ensures { QueryLeaves (Modifies (F.post f)) K.hash (Q.name key) result self.old self.new }
     {
         self.table.table().modify(&mut self.pass, key, f)
     }
 
-    /// Binds two different bound keys to what the closure makes of their two values in one step,
-    /// and says whether both are bound. Refused as busy, it changes nothing, and the closure is
-    /// dropped. It is `Table::update_two`.
+    /// Binds two different bound keys to what the closure makes of their two values, and says
+    /// whether both are bound; where one is not, nothing changes. It is one step of the map: nobody
+    /// sees the one key changed and the other not.
     ///
     /// ```
     /// let paid = caller.update_two(&payer, &payee, |a, b| {
@@ -428,14 +415,12 @@ impl<T: TableRef<K, V> + Drop, K: TableKey + Drop, V: Drop> CallerOn<T, K, V> {
     /// })?;
     /// ```
     #[inline(always)]
-    pub fn update_two<Q: Query<K>, F: FnOnce(V, V) -> (V, V)>(
+    pub fn update_two<Q: Query<K>, F: FnOnce(V, V) -> (V, V) + Drop>(
         &mut self,
         a: Q,
         b: Q,
         f: F,
     ) -> Result<bool, Busy>
-    where
-        F: Drop,
         requires different { Q.name a ≢ Q.name b }
         requires call { F.IsAlwaysCallable f }
         ensures same { IsSameCaller self.old self.new }
@@ -450,8 +435,7 @@ impl<T: TableRef<K, V> + Drop, K: TableKey + Drop, V: Drop> CallerOn<T, K, V> {
         self.table.table().update_two(&mut self.pass, a, b, f)
     }
 
-    /// Unbinds the key, and gives the value that it had; `None` where it is unbound. Refused as
-    /// busy, it changes nothing. It is `Table::erase`.
+    /// Unbinds the key, and gives the value that it had; `None` where it is unbound.
     ///
     /// ```
     /// let value: Option<u64> = caller.erase(&NumKey(5))?;
@@ -464,20 +448,17 @@ impl<T: TableRef<K, V> + Drop, K: TableKey + Drop, V: Drop> CallerOn<T, K, V> {
     }
 
     /// Unbinds a bound key where the closure answers true for its value, and gives the closure's
-    /// answer; `None` where the key is unbound. Refused as busy, it changes nothing, and the
-    /// closure is dropped. It is `Table::erase_fn`.
+    /// answer; `None` where the key is unbound.
     ///
     /// ```
     /// let gone: Option<bool> = caller.erase_fn(&NumKey(5), |value: &u64| *value == 0)?;
     /// ```
     #[inline(always)]
-    pub fn erase_fn<Q: Query<K>, F: FnOnce(&V) -> bool>(
+    pub fn erase_fn<Q: Query<K>, F: FnOnce(&V) -> bool + Drop>(
         &mut self,
         key: Q,
         f: F,
     ) -> Result<Option<bool>, Busy>
-    where
-        F: Drop,
         requires call { F.IsAlwaysCallable f }
         ensures { QueryLeaves (ErasesBy (FnOnceReturnsAt F.FnOnce f))
             K.hash (Q.name key) result self.old self.new }
@@ -486,21 +467,18 @@ impl<T: TableRef<K, V> + Drop, K: TableKey + Drop, V: Drop> CallerOn<T, K, V> {
     }
 
     /// Binds a bound key to what the closure makes of its value, where it makes one, and says
-    /// whether it did; `None` where the key is unbound. Where the closure makes none, nothing
-    /// changes. Refused as busy, it changes nothing, and the closure is dropped. It is
-    /// `Table::replace_if`.
+    /// whether it did: `Some(false)` where it made none, and then nothing changes; `None` where the
+    /// key is unbound.
     ///
     /// ```
     /// let taken: Option<bool> = caller.replace_if(&NumKey(5), |left: &u64| left.checked_sub(1))?;
     /// ```
     #[inline(always)]
-    pub fn replace_if<Q: Query<K>, F: FnOnce(&V) -> Option<V>>(
+    pub fn replace_if<Q: Query<K>, F: FnOnce(&V) -> Option<V> + Drop>(
         &mut self,
         key: Q,
         f: F,
     ) -> Result<Option<bool>, Busy>
-    where
-        F: Drop,
         requires call { F.IsAlwaysCallable f }
         ensures { QueryLeaves (ReplacesIf (FnOnceReturnsAt F.FnOnce f))
             K.hash (Q.name key) result self.old self.new }
@@ -510,30 +488,23 @@ impl<T: TableRef<K, V> + Drop, K: TableKey + Drop, V: Drop> CallerOn<T, K, V> {
 
     /// Binds a bound key to the value that the closure gives back for its value, and gives the
     /// closure's error, if it fails; `None` where the key is unbound. It is for values that own
-    /// memory: a closure that fails by giving back the value that it got changes nothing. Refused
-    /// as busy, it changes nothing, and the closure is dropped. It is `Table::try_update`.
+    /// memory: a closure that fails by giving back the value that it got changes nothing.
     ///
     /// ```
     /// // The values are of type `Vec<u64>`. Where there is no memory for one more number, the key
     /// // keeps its list, and the number comes back.
-    /// let pushed = caller.try_update(&NumKey(5), |mut list| match list.push(51) {
+    /// let push = |mut list: Vec<u64>| match list.push(51) {
     ///     Ok(()) => Ok(list),
     ///     Err(refused) => Err((list, refused.value)),
-    /// })?;
-    /// match pushed {
-    ///     Some(Ok(())) => println!(rt; "pushed")?,
-    ///     Some(Err(number)) => println!(rt; "no memory for {number}")?,
-    ///     None => println!(rt; "no list")?,
-    /// }
+    /// };
+    /// let pushed: Option<Result<(), u64>> = caller.try_update(&NumKey(5), push)?;
     /// ```
     #[inline(always)]
-    pub fn try_update<Q: Query<K>, E, F: FnOnce(V) -> Result<V, (V, E)>>(
+    pub fn try_update<Q: Query<K>, E, F: FnOnce(V) -> Result<V, (V, E)> + Drop>(
         &mut self,
         key: Q,
         f: F,
     ) -> Result<Option<Result<(), E>>, Busy>
-    where
-        F: Drop,
         requires call { F.IsAlwaysCallable f }
         ensures { QueryLeaves (TriesChange (F.post f))
             K.hash (Q.name key) result self.old self.new }
@@ -541,8 +512,8 @@ impl<T: TableRef<K, V> + Drop, K: TableKey + Drop, V: Drop> CallerOn<T, K, V> {
         self.table.table().try_update(&mut self.pass, key, f)
     }
 
-    /// The power, of which the caller has then been told: the table has 2^power buckets of four
-    /// slots, or more by now. Refused as busy, it changes nothing. It is `Table::power`.
+    /// The power, as stripe 0 has it while this call holds it, of which the caller has then been
+    /// told: the table has 2^power buckets of four slots, or more by now.
     #[inline(always)]
     pub fn power(&mut self) -> Result<u32, Busy>
         ensures same { IsSameCaller self.old self.new }
@@ -556,7 +527,8 @@ impl<T: TableRef<K, V> + Drop, K: TableKey + Drop, V: Drop> CallerOn<T, K, V> {
         self.table.table().power(&mut self.pass)
     }
 
-    /// How many slots the table has. Refused as busy, it changes nothing. It is `Table::capacity`.
+    /// How many slots the table has at the power that `power` gives, of which the caller has then
+    /// been told.
     ///
     /// ```
     /// let slots: u64 = caller.capacity()?;
@@ -571,7 +543,7 @@ impl<T: TableRef<K, V> + Drop, K: TableKey + Drop, V: Drop> CallerOn<T, K, V> {
         self.table.table().capacity(&mut self.pass)
     }
 
-    /// How many keys are bound. Refused as busy, it changes nothing. It is `Table::len`.
+    /// How many keys are bound. It counts while it holds all stripes.
     pub fn len(&mut self) -> Result<u64, Busy>
         ensures same { IsSameCaller self.old self.new }
         ensures answered { IfOk result (Counts self.old self.new) }
@@ -583,7 +555,7 @@ impl<T: TableRef<K, V> + Drop, K: TableKey + Drop, V: Drop> CallerOn<T, K, V> {
         self.table.table().len(&mut self.pass)
     }
 
-    /// Whether no key is bound. Refused as busy, it changes nothing. It is `Table::is_empty`.
+    /// Whether no key is bound. It counts as `len` does.
     ///
     /// ```
     /// let empty: bool = caller.is_empty()?;
@@ -599,9 +571,12 @@ impl<T: TableRef<K, V> + Drop, K: TableKey + Drop, V: Drop> CallerOn<T, K, V> {
         self.table.table().is_empty(&mut self.pass)
     }
 
-    /// Doubles the table until it has 2^power buckets, and says whether it had fewer. Refused as
-    /// busy or as `OverMax`, it changes nothing; refused for want of memory, it may have doubled
-    /// the table some times. It is `Table::rehash`.
+    /// Doubles the table until it has 2^power buckets, and says whether it had fewer. It holds all
+    /// stripes meanwhile, and changes no binding. The load doesn't matter.
+    ///
+    /// It is refused as `OverMax` exactly where `power` is above the greatest one that the table
+    /// was opened with, and then takes no stripe. Refused for want of memory, it may have doubled
+    /// the table some times.
     pub fn rehash(&mut self, power: u32) -> Result<bool, GrowFault>
         ensures same { IsSameCaller self.old self.new }
         ensures stays { StaysButDoublings self.old self.new }
@@ -611,8 +586,8 @@ impl<T: TableRef<K, V> + Drop, K: TableKey + Drop, V: Drop> CallerOn<T, K, V> {
         self.table.table().rehash(&mut self.pass, power)
     }
 
-    /// Doubles the table until it has `n` slots, and says whether it had fewer. It is refused as
-    /// `rehash` is. It is `Table::reserve`.
+    /// Doubles the table until it has `n` slots, four in each bucket, and says whether it had
+    /// fewer. It is `rehash` to the least power of at least 1 that is enough.
     ///
     /// ```
     /// match caller.reserve(1_000_000) {
@@ -630,8 +605,9 @@ impl<T: TableRef<K, V> + Drop, K: TableKey + Drop, V: Drop> CallerOn<T, K, V> {
         self.table.table().reserve(&mut self.pass, n)
     }
 
-    /// Locks the table. Refused as busy, it changes nothing, and the caller comes back in the
-    /// refusal. `LockedOn::unlock_caller` gives the caller back.
+    /// Locks the table: takes all stripes, and carries out the doublings that are left of them. It
+    /// takes no memory. Refused as busy, it gives the caller back, as `LockedOn::unlock_caller`
+    /// does later.
     ///
     /// ```
     /// let mut locked = caller.lock()?;
@@ -652,8 +628,8 @@ impl<T: TableRef<K, V> + Drop, K: TableKey + Drop, V: Drop> CallerOn<T, K, V> {
         }
     }
 
-    /// What this caller has seen, for another caller of the table to hear. It can go to another
-    /// thread, through a channel or as what a thread returns. It is `Table::tell`.
+    /// What this caller has seen and was told, for another caller of the table to hear. It can go
+    /// to another thread, through a channel or as what a thread returns.
     ///
     /// ```
     /// let message = teller.tell();
@@ -667,7 +643,7 @@ impl<T: TableRef<K, V> + Drop, K: TableKey + Drop, V: Drop> CallerOn<T, K, V> {
     }
 
     /// Hears what another caller of the table told: what that one had seen is then a beginning of
-    /// what this one has seen, and so is what this one had seen. It is `Table::hear`.
+    /// what this one has seen, and so is what this one had seen. This one was told no lower power.
     pub fn hear(&mut self, message: Message<K, V>)
         requires { message.table ≡ self.old.table.table }
         ensures same { IsSameCaller self.old self.new }
@@ -676,8 +652,7 @@ impl<T: TableRef<K, V> + Drop, K: TableKey + Drop, V: Drop> CallerOn<T, K, V> {
         self.table.table().hear(&mut self.pass, message);
     }
 
-    /// Tells the other caller of this table what this one has seen: that is then a beginning of
-    /// what the other has seen. It is `Table::meet`.
+    /// Tells the other caller of this table what this one has seen, which that one then hears.
     ///
     /// ```
     /// first.meet(&mut second);
@@ -692,9 +667,9 @@ impl<T: TableRef<K, V> + Drop, K: TableKey + Drop, V: Drop> CallerOn<T, K, V> {
         self.table.table().meet(&mut self.pass, &mut other.pass);
     }
 
-    /// Unbinds all keys, and gives them with their values, in rising order of the keys. It locks the
-    /// table for that, and is one entry of the history. Refused as busy or for want of memory, it
-    /// changes no binding, and the caller comes back in the refusal.
+    /// Unbinds all keys, and gives them with their values, in rising order of the keys. It locks
+    /// the table for that, and is one entry of the history. Refused as busy or for want of memory,
+    /// it changes no binding and gives the caller back.
     ///
     /// ```
     /// let (caller, pairs) = caller.drain(alloc)?;

@@ -15,15 +15,12 @@ use crate::refusal::Busy;
 use crate::table::Table;
 use ck_key::{Query, TableKey};
 use ck_model::commit::Commit;
-use ck_section::{erase, erase_fn, modify, replace_if, try_update, update, update_fn};
+use ck_section::{erase, erase_fn, modify, replace_if, update, update_fn, value_and_outcome};
 use ck_words::{Pass, guard};
 use std::snapshot::Snapshot;
 
 impl<K: TableKey + Drop, V: Drop> Table<K, V> {
-    /// Binds a bound key to another value, and gives the one that it had; `None` where the key is
-    /// unbound, and then it stays so and the value is dropped.
-    ///
-    /// Refused as busy, it changes nothing and hands the value back.
+    /// `Caller::update`, by a pass.
     pub fn update<Q: Query<K>>(
         &self,
         pass: &mut Pass<K, V>,
@@ -48,19 +45,13 @@ impl<K: TableKey + Drop, V: Drop> Table<K, V> {
         Ok(old)
     }
 
-    /// Binds a bound key to what the closure makes of its value, and says whether the key is bound;
-    /// where it is not, the closure is not called. The closure runs while the key's stripes are
-    /// held.
-    ///
-    /// Refused as busy, it changes nothing, and the closure is dropped.
-    pub fn update_fn<Q: Query<K>, F: FnOnce(V) -> V>(
+    /// `Caller::update_fn`, by a pass.
+    pub fn update_fn<Q: Query<K>, F: FnOnce(V) -> V + Drop>(
         &self,
         pass: &mut Pass<K, V>,
         key: Q,
         f: F,
     ) -> Result<bool, Busy>
-    where
-        F: Drop,
         requires caller { IsCaller self.now pass.old }
         requires call { F.IsAlwaysCallable f }
         ensures caller { IsCaller self.now pass.new }
@@ -74,25 +65,13 @@ impl<K: TableKey + Drop, V: Drop> Table<K, V> {
         Ok(bound)
     }
 
-    /// Binds a bound key to what the closure makes of its value, and gives what the closure answers
-    /// besides; `None` where the key is unbound, and then the closure is not called. The closure
-    /// runs while the key's stripes are held.
-    ///
-    /// Refused as busy, it changes nothing, and the closure is dropped.
-    ///
-    /// ```
-    /// // The next number of a counter that is bound.
-    /// let number: Option<u64> =
-    ///     table.modify(&mut pass, &NumKey(5), |next: u64| (next.wrapping_add(1), next))?;
-    /// ```
-    pub fn modify<Q: Query<K>, R, F: FnOnce(V) -> (V, R)>(
+    /// `Caller::modify`, by a pass.
+    pub fn modify<Q: Query<K>, R, F: FnOnce(V) -> (V, R) + Drop>(
         &self,
         pass: &mut Pass<K, V>,
         key: Q,
         f: F,
     ) -> Result<Option<R>, Busy>
-    where
-        F: Drop,
         requires caller { IsCaller self.now pass.old }
         requires call { F.IsAlwaysCallable f }
         ensures caller { IsCaller self.now pass.new }
@@ -108,8 +87,7 @@ impl<K: TableKey + Drop, V: Drop> Table<K, V> {
         Ok(answer.ok())
     }
 
-    /// Unbinds the key, and gives the value that it had; `None` where it is unbound. Refused as
-    /// busy, it changes nothing.
+    /// `Caller::erase`, by a pass.
     pub fn erase<Q: Query<K>>(&self, pass: &mut Pass<K, V>, key: Q) -> Result<Option<V>, Busy>
         requires caller { IsCaller self.now pass.old }
         ensures caller { IsCaller self.now pass.new }
@@ -123,19 +101,13 @@ impl<K: TableKey + Drop, V: Drop> Table<K, V> {
         Ok(value)
     }
 
-    /// Unbinds a bound key where the closure answers true for its value, and gives the closure's
-    /// answer; `None` where the key is unbound, and then the closure is not called. The closure
-    /// runs while the key's stripes are held.
-    ///
-    /// Refused as busy, it changes nothing, and the closure is dropped.
-    pub fn erase_fn<Q: Query<K>, F: FnOnce(&V) -> bool>(
+    /// `Caller::erase_fn`, by a pass.
+    pub fn erase_fn<Q: Query<K>, F: FnOnce(&V) -> bool + Drop>(
         &self,
         pass: &mut Pass<K, V>,
         key: Q,
         f: F,
     ) -> Result<Option<bool>, Busy>
-    where
-        F: Drop,
         requires caller { IsCaller self.now pass.old }
         requires call { F.IsAlwaysCallable f }
         ensures caller { IsCaller self.now pass.new }
@@ -170,20 +142,13 @@ impl<K: TableKey + Drop, V: Drop> Table<K, V> {
         Ok(gone)
     }
 
-    /// Binds a bound key to what the closure makes of its value, where it makes one, and says
-    /// whether it did: `Some(false)` where it made none, and then nothing changes; `None` where the
-    /// key is unbound, and then the closure is not called. The closure runs while the key's stripes
-    /// are held.
-    ///
-    /// Refused as busy, it changes nothing, and the closure is dropped.
-    pub fn replace_if<Q: Query<K>, F: FnOnce(&V) -> Option<V>>(
+    /// `Caller::replace_if`, by a pass.
+    pub fn replace_if<Q: Query<K>, F: FnOnce(&V) -> Option<V> + Drop>(
         &self,
         pass: &mut Pass<K, V>,
         key: Q,
         f: F,
     ) -> Result<Option<bool>, Busy>
-    where
-        F: Drop,
         requires caller { IsCaller self.now pass.old }
         requires call { F.IsAlwaysCallable f }
         ensures caller { IsCaller self.now pass.new }
@@ -218,33 +183,20 @@ impl<K: TableKey + Drop, V: Drop> Table<K, V> {
         Ok(replaced)
     }
 
-    /// Binds a bound key to the value that the closure gives back for its value, and gives the
-    /// closure's error, if it fails; `None` where the key is unbound, and then the closure is not
-    /// called. A closure that fails by giving back the value that it got changes nothing. The
-    /// closure runs while the key's stripes are held.
-    ///
-    /// Refused as busy, it changes nothing, and the closure is dropped.
-    pub fn try_update<Q: Query<K>, E, F: FnOnce(V) -> Result<V, (V, E)>>(
+    /// `Caller::try_update`, by a pass.
+    pub fn try_update<Q: Query<K>, E, F: FnOnce(V) -> Result<V, (V, E)> + Drop>(
         &self,
         pass: &mut Pass<K, V>,
         key: Q,
         f: F,
     ) -> Result<Option<Result<(), E>>, Busy>
-    where
-        F: Drop,
         requires caller { IsCaller self.now pass.old }
         requires call { F.IsAlwaysCallable f }
         ensures caller { IsCaller self.now pass.new }
         ensures queried { HasQueried (TriesChange (F.post f))
             K.hash self.now.settings (Q.name key) result pass.old pass.new }
     {
-        let spot = self.lock_key(pass, key)?;
-        let mut guard = guard!(&self.words, pass, spot.stripes);
-        let outcome = try_update(&mut guard, spot.place, key, f);
-        let said = Commit::Change(Snapshot::of(&key));
-        guard.commit_query(said);
-        // A closure that was not called is dropped only now, when no stripe is held.
-        Ok(outcome.ok())
+        self.modify(pass, key, |value: V| value_and_outcome(f(value)))
     }
 }
 

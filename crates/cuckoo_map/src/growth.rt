@@ -17,13 +17,8 @@ use ck_words::{Pass, guard};
 use std::alloc::AllocError;
 
 impl<K: TableKey + Drop, V: Drop> Table<K, V> {
-    /// Doubles the table until it has 2^power buckets, and says whether it had fewer. It holds all
-    /// stripes meanwhile, and changes no binding. The load doesn't matter.
-    ///
-    /// It is refused as `OverMax` exactly where `power` is above the greatest one that the table
-    /// was opened with, before it takes a stripe. Refused so or as busy, it changes nothing.
-    /// Refused for want of memory, it may have doubled the table some times, and the pass was told
-    /// of fewer buckets than the table was to have.
+    /// `Caller::rehash`, by a pass. Refused for want of memory, the pass was told of fewer buckets
+    /// than the table was to have.
     pub fn rehash(&self, pass: &mut Pass<K, V>, power: u32) -> Result<bool, GrowFault>
         requires caller { IsCaller self.now pass.old }
         ensures caller { IsCaller self.now pass.new }
@@ -46,8 +41,7 @@ impl<K: TableKey + Drop, V: Drop> Table<K, V> {
         }
     }
 
-    /// Doubles the table until it has `n` slots, four in each bucket, and says whether it had
-    /// fewer. It is `rehash` to the least power of at least 1 that is enough.
+    /// `Caller::reserve`, by a pass.
     pub fn reserve(&self, pass: &mut Pass<K, V>, n: u64) -> Result<bool, GrowFault>
         requires caller { IsCaller self.now pass.old }
         ensures caller { IsCaller self.now pass.new }

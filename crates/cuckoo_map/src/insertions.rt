@@ -21,16 +21,7 @@ use std::marker::PhantomData;
 use std::snapshot::Snapshot;
 
 impl<K: TableKey + Drop, V: Drop> Table<K, V> {
-    /// Binds the key to the value where it is unbound, and says whether it was. A bound key keeps
-    /// its value, and the one that was passed is dropped.
-    ///
-    /// Where both buckets of an unbound key are full, other entries are displaced to make room, and
-    /// where that is of no avail the table doubles, under all stripes; neither changes a binding.
-    ///
-    /// Refused, it changes no binding and hands key and value back: as `Busy`, or where no
-    /// displacement makes room and the table doesn't grow, as `Full` at its greatest power, as
-    /// `LoadTooLow` where too few slots are taken, or as `Memory`. The table may have grown all the
-    /// same.
+    /// `Caller::insert`, by a pass.
     pub fn insert(&self, pass: &mut Pass<K, V>, key: K, value: V) -> Result<bool, Refused<K, V>>
         requires caller { IsCaller self.now pass.old }
         ensures caller { IsCaller self.now pass.new }
@@ -40,15 +31,7 @@ impl<K: TableKey + Drop, V: Drop> Table<K, V> {
         self.make(pass, key, value, insertion::Insert)
     }
 
-    /// Binds the key to the value, and gives the value that it had.
-    ///
-    /// Where both buckets of an unbound key are full, other entries are displaced to make room, and
-    /// where that is of no avail the table doubles, under all stripes; neither changes a binding.
-    ///
-    /// Refused, it changes no binding and hands key and value back: as `Busy`, or where no
-    /// displacement makes room and the table doesn't grow, as `Full` at its greatest power, as
-    /// `LoadTooLow` where too few slots are taken, or as `Memory`. The table may have grown all the
-    /// same.
+    /// `Caller::insert_or_assign`, by a pass.
     pub fn insert_or_assign(
         &self,
         pass: &mut Pass<K, V>,
@@ -63,26 +46,14 @@ impl<K: TableKey + Drop, V: Drop> Table<K, V> {
         self.make(pass, key, value, insertion::Assign)
     }
 
-    /// Binds an unbound key to the value, and a bound one to what the closure makes of its value;
-    /// says whether the key was unbound. Of closure and value the one that isn't used is dropped.
-    /// The closure runs while the key's stripes are held.
-    ///
-    /// Where both buckets of an unbound key are full, other entries are displaced to make room, and
-    /// where that is of no avail the table doubles, under all stripes; neither changes a binding.
-    ///
-    /// Refused, it changes no binding, drops the closure and hands key and value back: as `Busy`,
-    /// or where no displacement makes room and the table doesn't grow, as `Full` at its greatest
-    /// power, as `LoadTooLow` where too few slots are taken, or as `Memory`. The table may have
-    /// grown all the same.
-    pub fn upsert<F: FnOnce(V) -> V>(
+    /// `Caller::upsert`, by a pass.
+    pub fn upsert<F: FnOnce(V) -> V + Drop>(
         &self,
         pass: &mut Pass<K, V>,
         key: K,
         f: F,
         value: V,
     ) -> Result<bool, Refused<K, V>>
-    where
-        F: Drop,
         requires caller { IsCaller self.now pass.old }
         requires call { F.IsAlwaysCallable f }
         ensures caller { IsCaller self.now pass.new }
@@ -92,33 +63,14 @@ impl<K: TableKey + Drop, V: Drop> Table<K, V> {
         self.make(pass, key, value, insertion::Upsert(f))
     }
 
-    /// Binds an unbound key to the value, and answers `Ok(true)`. A bound one is bound to the value
-    /// that the closure gives back for its value: the answer is `Ok(false)` where it succeeds, and
-    /// its error where it fails. A closure that fails by giving back the value that it got changes
-    /// nothing. Of closure and value the one that isn't used is dropped. The closure runs while the
-    /// key's stripes are held.
-    ///
-    /// Where both buckets of an unbound key are full, other entries are displaced to make room, and
-    /// where that is of no avail the table doubles, under all stripes; neither changes a binding.
-    ///
-    /// Refused, it changes no binding, drops the closure and hands key and value back: as `Busy`,
-    /// or where no displacement makes room and the table doesn't grow, as `Full` at its greatest
-    /// power, as `LoadTooLow` where too few slots are taken, or as `Memory`. The table may have
-    /// grown all the same.
-    ///
-    /// ```
-    /// let count_up = |count: u64| count.checked_add(1).ok_or((count, "too many"));
-    /// let counted = table.try_upsert(&mut pass, NumKey(5), count_up, 1)?;
-    /// ```
-    pub fn try_upsert<E, F: FnOnce(V) -> Result<V, (V, E)>>(
+    /// `Caller::try_upsert`, by a pass.
+    pub fn try_upsert<E, F: FnOnce(V) -> Result<V, (V, E)> + Drop>(
         &self,
         pass: &mut Pass<K, V>,
         key: K,
         f: F,
         value: V,
     ) -> Result<Result<bool, E>, Refused<K, V>>
-    where
-        F: Drop,
         requires caller { IsCaller self.now pass.old }
         requires call { F.IsAlwaysCallable f }
         ensures caller { IsCaller self.now pass.new }
@@ -128,42 +80,14 @@ impl<K: TableKey + Drop, V: Drop> Table<K, V> {
         self.make(pass, key, value, insertion::TryUpsert(f))
     }
 
-    /// Binds an unbound key to what `f` makes of the value that `make` makes, and answers
-    /// `Ok(true)`. A bound one is bound to what `f` makes of its value, the answer is `Ok(false)`,
-    /// and `make` is not called and is dropped. Where `f` fails, the answer is its error: an unbound
-    /// key stays so, and the value that `f` gives back is dropped; a bound one is bound to that
-    /// value. The closures run while the key's stripes are held.
-    ///
-    /// Where both buckets of an unbound key are full, other entries are displaced to make room, and
-    /// where that is of no avail the table doubles, under all stripes; neither changes a binding.
-    ///
-    /// Refused, it changes no binding and hands the key and both closures back, which were not
-    /// called: as `Busy`, or where no displacement makes room and the table doesn't grow, as `Full`
-    /// at its greatest power, as `LoadTooLow` where too few slots are taken, or as `Memory`. The
-    /// table may have grown all the same.
-    ///
-    /// ```
-    /// // The values are of type `Vec<u64>`. The number is pushed to the list of the key, to a new
-    /// // one where it has none. Where there is no memory for it, a list stays as it was, none is
-    /// // bound, and the number comes back.
-    /// let push = |mut list: Vec<u64>| match list.push(51) {
-    ///     Ok(()) => Ok(list),
-    ///     Err(refused) => Err((list, refused.value)),
-    /// };
-    /// let pushed: Result<bool, u64> = table
-    ///     .try_upsert_with(&mut pass, NumKey(5), || Vec::new(alloc), push)
-    ///     .map_err(|refused| refused.why)?;
-    /// ```
-    pub fn try_upsert_with<E, G: FnOnce() -> V, F: FnOnce(V) -> Result<V, (V, E)>>(
+    /// `Caller::try_upsert_with`, by a pass.
+    pub fn try_upsert_with<E, G: FnOnce() -> V + Drop, F: FnOnce(V) -> Result<V, (V, E)> + Drop>(
         &self,
         pass: &mut Pass<K, V>,
         key: K,
         make: G,
         f: F,
     ) -> Result<Result<bool, E>, Refused<K, (G, F)>>
-    where
-        G: Drop,
-        F: Drop,
         requires caller { IsCaller self.now pass.old }
         requires call { G.IsAlwaysCallable make × F.IsAlwaysCallable f }
         ensures caller { IsCaller self.now pass.new }
@@ -176,31 +100,13 @@ impl<K: TableKey + Drop, V: Drop> Table<K, V> {
         Ok(answer)
     }
 
-    /// Binds an unbound key to what the closure makes, and says whether it was unbound. A bound key
-    /// keeps its value, and then the closure is not called and is dropped. It runs while the key's
-    /// stripes are held.
-    ///
-    /// Where both buckets of an unbound key are full, other entries are displaced to make room, and
-    /// where that is of no avail the table doubles, under all stripes; neither changes a binding.
-    ///
-    /// Refused, it changes no binding and hands key and closure back, which was not called: as
-    /// `Busy`, or where no displacement makes room and the table doesn't grow, as `Full` at its
-    /// greatest power, as `LoadTooLow` where too few slots are taken, or as `Memory`. The table may
-    /// have grown all the same.
-    ///
-    /// ```
-    /// let fresh: bool = table
-    ///     .insert_with(&mut pass, NumKey(5), || 50)
-    ///     .map_err(|refused| refused.why)?;
-    /// ```
-    pub fn insert_with<F: FnOnce() -> V>(
+    /// `Caller::insert_with`, by a pass.
+    pub fn insert_with<F: FnOnce() -> V + Drop>(
         &self,
         pass: &mut Pass<K, V>,
         key: K,
         f: F,
     ) -> Result<bool, Refused<K, F>>
-    where
-        F: Drop,
         requires caller { IsCaller self.now pass.old }
         requires call { F.IsAlwaysCallable f }
         ensures caller { IsCaller self.now pass.new }
@@ -212,31 +118,14 @@ impl<K: TableKey + Drop, V: Drop> Table<K, V> {
         Ok(back.is_none())
     }
 
-    /// Binds an unbound key to the value. A bound one is bound to what the closure makes of its
-    /// value, or unbound where the closure makes nothing. Of closure and value the one that isn't
-    /// used is dropped. The closure runs while the key's stripes are held.
-    ///
-    /// Where both buckets of an unbound key are full, other entries are displaced to make room, and
-    /// where that is of no avail the table doubles, under all stripes; neither changes a binding.
-    ///
-    /// Refused, it changes no binding, drops the closure and hands key and value back: as `Busy`,
-    /// or where no displacement makes room and the table doesn't grow, as `Full` at its greatest
-    /// power, as `LoadTooLow` where too few slots are taken, or as `Memory`. The table may have
-    /// grown all the same.
-    ///
-    /// ```
-    /// let count_down = |left: u64| left.checked_sub(1);
-    /// let uprased = table.uprase(&mut pass, NumKey(5), count_down, 50)?;
-    /// ```
-    pub fn uprase<F: FnOnce(V) -> Option<V>>(
+    /// `Caller::uprase`, by a pass.
+    pub fn uprase<F: FnOnce(V) -> Option<V> + Drop>(
         &self,
         pass: &mut Pass<K, V>,
         key: K,
         f: F,
         value: V,
     ) -> Result<Uprased, Refused<K, V>>
-    where
-        F: Drop,
         requires caller { IsCaller self.now pass.old }
         requires call { F.IsAlwaysCallable f }
         ensures caller { IsCaller self.now pass.new }
@@ -246,23 +135,8 @@ impl<K: TableKey + Drop, V: Drop> Table<K, V> {
         self.make(pass, key, value, insertion::Uprase(f))
     }
 
-    /// The value of the key. An unbound one is bound to what the closure makes; for a bound one the
-    /// closure is not called and is dropped. It runs while the key's stripes are held.
-    ///
-    /// Where both buckets of an unbound key are full, other entries are displaced to make room, and
-    /// where that is of no avail the table doubles, under all stripes; neither changes a binding.
-    ///
-    /// Refused, it changes no binding and hands key and closure back, which was not called: as
-    /// `Busy`, or where no displacement makes room and the table doesn't grow, as `Full` at its
-    /// greatest power, as `LoadTooLow` where too few slots are taken, or as `Memory`. The table may
-    /// have grown all the same.
-    ///
-    /// ```
-    /// let value: u64 = table
-    ///     .get_or_insert_with(&mut pass, NumKey(5), || 50)
-    ///     .map_err(|refused| refused.why)?;
-    /// ```
-    pub fn get_or_insert_with<F: FnOnce() -> V>(
+    /// `Caller::get_or_insert_with`, by a pass.
+    pub fn get_or_insert_with<F: FnOnce() -> V + Drop>(
         &self,
         pass: &mut Pass<K, V>,
         key: K,
@@ -270,7 +144,6 @@ impl<K: TableKey + Drop, V: Drop> Table<K, V> {
     ) -> Result<V, Refused<K, F>>
     where
         V: Copy,
-        F: Drop,
         requires caller { IsCaller self.now pass.old }
         requires call { F.IsAlwaysCallable f }
         ensures caller { IsCaller self.now pass.new }

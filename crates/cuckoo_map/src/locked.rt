@@ -38,6 +38,11 @@ mod pairs;
 /// What is done to it is one entry of its caller, a session, from the map as it was when the table
 /// was locked to the map when it is unlocked. Contracts see the caller, what all stripes contained
 /// when it locked the table, and the stripes as they are.
+///
+/// Its calls are those of a [`Caller`](crate::Caller), and are never refused as busy. An insertion
+/// may be refused as `Memory`, `Full` or `LoadTooLow`, and doubles the table only where no
+/// displacement makes room; the table stays locked. Of the other calls only `rehash` and `reserve`
+/// change the number of buckets.
 pub struct LockedOn<T: TableRef<K, V>, K: TableKey, V> {
     pub(crate) table: T,
     pub(crate) whole: Whole<K, V>,
@@ -57,10 +62,7 @@ impl<T: TableRef<K, V>, K: TableKey, V> Model for LockedOn<T, K, V> {
 }
 
 impl<K: TableKey + Drop, V: Drop> Table<K, V> {
-    /// Locks the table: takes all stripes, in rising order of their numbers, and carries out the
-    /// doublings that are left of them. It takes no memory.
-    ///
-    /// Refused as busy, it changes nothing, and the pass comes back.
+    /// `Caller::lock`, by a pass, which comes back where it is refused.
     pub fn lock_table<'t>(
         &'t self,
         pass: Pass<K, V>,

@@ -19,18 +19,13 @@ use ck_words::{Pass, guard};
 use std::snapshot::Snapshot;
 
 impl<K: TableKey + Drop, V: Drop> Table<K, V> {
-    /// What the closure answers for the value of the key; `None` where the key is unbound, and then
-    /// the closure is not called. The closure runs while the key's stripes are held.
-    ///
-    /// Refused as busy, it changes nothing, and the closure is dropped.
-    pub fn find_fn<Q: Query<K>, R, F: FnOnce(&V) -> R>(
+    /// `Caller::find_fn`, by a pass.
+    pub fn find_fn<Q: Query<K>, R, F: FnOnce(&V) -> R + Drop>(
         &self,
         pass: &mut Pass<K, V>,
         key: Q,
         f: F,
     ) -> Result<Option<R>, Busy>
-    where
-        F: Drop,
         requires caller { IsCaller self.now pass.old }
         requires call { F.IsAlwaysCallable f }
         ensures caller { IsCaller self.now pass.new }
@@ -73,8 +68,7 @@ impl<K: TableKey + Drop, V: Drop> Table<K, V> {
         found
     }
 
-    /// The value that is bound to the key; `None` where the key is unbound. Refused as busy, it
-    /// changes nothing.
+    /// `Caller::find`, by a pass.
     pub fn find<Q: Query<K>>(&self, pass: &mut Pass<K, V>, key: Q) -> Result<Option<V>, Busy>
     where
         V: Copy,
@@ -86,7 +80,7 @@ impl<K: TableKey + Drop, V: Drop> Table<K, V> {
         self.find_fn(pass, key, |value: &V| *value)
     }
 
-    /// Whether the key is bound. Refused as busy, it changes nothing.
+    /// `Caller::contains`, by a pass.
     pub fn contains<Q: Query<K>>(&self, pass: &mut Pass<K, V>, key: Q) -> Result<bool, Busy>
         requires caller { IsCaller self.now pass.old }
         ensures caller { IsCaller self.now pass.new }

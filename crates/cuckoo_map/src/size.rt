@@ -15,10 +15,7 @@ use ck_stripe::len;
 use ck_words::{Pass, guard};
 
 impl<K: TableKey + Drop, V: Drop> Table<K, V> {
-    /// How many keys are bound: never more than the table has slots at its greatest power. It counts
-    /// while it holds all stripes.
-    ///
-    /// Refused as busy, it changes nothing.
+    /// `Caller::len`, by a pass. It is never more than the table has slots at its greatest power.
     pub fn len(&self, pass: &mut Pass<K, V>) -> Result<u64, Busy>
         requires caller { IsCaller self.now pass.old }
         ensures caller { IsCaller self.now pass.new }
@@ -36,7 +33,7 @@ impl<K: TableKey + Drop, V: Drop> Table<K, V> {
         Ok(count)
     }
 
-    /// Whether no key is bound. It counts as `len` does. Refused as busy, it changes nothing.
+    /// `Caller::is_empty`, by a pass.
     pub fn is_empty(&self, pass: &mut Pass<K, V>) -> Result<bool, Busy>
         requires caller { IsCaller self.now pass.old }
         ensures caller { IsCaller self.now pass.new }
@@ -50,8 +47,7 @@ impl<K: TableKey + Drop, V: Drop> Table<K, V> {
         Ok(count == 0)
     }
 
-    /// How many slots the table has at the power that `power` gives, and that the pass has then
-    /// been told of. Refused as busy, it changes nothing.
+    /// `Caller::capacity`, by a pass.
     pub fn capacity(&self, pass: &mut Pass<K, V>) -> Result<u64, Busy>
         requires caller { IsCaller self.now pass.old }
         ensures caller { IsCaller self.now pass.new }
@@ -66,9 +62,7 @@ impl<K: TableKey + Drop, V: Drop> Table<K, V> {
         Ok(4 << power)
     }
 
-    /// The power, as stripe 0 has it while this call holds it, of which the pass has then been
-    /// told: the table has 2^power buckets of four slots, or more by now. Refused as busy, it
-    /// changes nothing.
+    /// `Caller::power`, by a pass.
     pub fn power(&self, pass: &mut Pass<K, V>) -> Result<u32, Busy>
         requires caller { IsCaller self.now pass.old }
         ensures caller { IsCaller self.now pass.new }

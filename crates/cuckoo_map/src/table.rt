@@ -17,7 +17,9 @@ use std::marker::Model;
 /// A map from keys to values in 2^power buckets, for many callers. It doubles where an entry finds
 /// no room.
 ///
-/// A caller makes each call with its own pass. Contracts see which table it is, and its settings.
+/// Its calls are those of a [`Caller`](crate::Caller), which has the table and a pass. Here they get
+/// the pass, and want a proof that it is one of this table and in no call. Contracts see which table
+/// it is, and its settings.
 #[derive(Drop)]
 pub struct Table<K: TableKey, V> {
     pub(crate) words: Words<K, V>,
@@ -37,6 +39,11 @@ impl<K: TableKey + Drop, V: Drop> Table<K, V> {
     ///
     /// It is refused as `Settings` where a setting is not in its range, which it names, and
     /// otherwise only for want of memory.
+    ///
+    /// ```
+    /// let (table, passes) = Table::<NumKey, u64>::open(alloc, Settings::for_keys(1_000, 4))?;
+    /// let mut callers = table.callers(alloc, passes)?;
+    /// ```
     pub fn open(
         alloc: Global,
         settings: Settings,
@@ -63,6 +70,13 @@ impl<K: TableKey + Drop, V: Drop> Table<K, V> {
     ///
     /// Where a stripe is found held in as many tries as the settings allow, or there is no memory
     /// for the list, the table and the passes come back, with the same entries.
+    ///
+    /// ```
+    /// match table.close(passes) {
+    ///     Ok(pairs) => println!(rt; "{} keys were bound", pairs.len())?,
+    ///     Err((_table, passes)) => println!(rt; "not now; {} passes are back", passes.len())?,
+    /// }
+    /// ```
     pub fn close(self, passes: Vec<Pass<K, V>>) -> Result<Vec<(K, V)>, (Self, Vec<Pass<K, V>>)>
         requires { AreAllPasses self passes.items }
         ensures pairs { IfOk result (λ pairs. (m : Map V)
@@ -81,8 +95,7 @@ impl<K: TableKey + Drop, V: Drop> Table<K, V> {
         }
     }
 
-    /// What `a` has seen and was told, for another caller of the table to hear. It can go to another
-    /// thread, through a channel or as what a thread returns.
+    /// `Caller::tell`, by the pass `a`.
     pub fn tell(&self, a: &mut Pass<K, V>) -> Message<K, V>
         requires { IsCaller self.now a.old }
         ensures own { IsCaller self.now a.new }
@@ -92,9 +105,7 @@ impl<K: TableKey + Drop, V: Drop> Table<K, V> {
         self.words.tell(a)
     }
 
-    /// Lets `b` hear what another caller of the table told: what that one had seen is then a
-    /// beginning of what `b` has seen, and `b` was told no lower power. What `b` had seen is a
-    /// beginning too.
+    /// `Caller::hear`, by the pass `b`.
     pub fn hear(&self, b: &mut Pass<K, V>, message: Message<K, V>)
         requires own { IsCaller self.now b.old }
         requires of_table { message.table ≡ self.now.table }
@@ -104,8 +115,7 @@ impl<K: TableKey + Drop, V: Drop> Table<K, V> {
         self.words.hear(b, message);
     }
 
-    /// Tells `b` what `a` has seen: that is then a beginning of what `b` has seen, and `b` was told
-    /// no lower power. What `b` had seen is a beginning too.
+    /// `Caller::meet`, by the passes of both: `b` hears what `a` has seen.
     pub fn meet(&self, a: &mut Pass<K, V>, b: &mut Pass<K, V>)
         requires own { IsCaller self.now a.old × IsCaller self.now b.old }
         ensures own { IsCaller self.now a.new × IsCaller self.now b.new }

@@ -17,10 +17,6 @@ use std::alloc::AllocError;
 
 impl<T: TableRef<K, V> + Drop, K: TableKey + Drop, V: Drop> LockedOn<T, K, V> {
     /// The power: the table has 2^power buckets of four slots.
-    ///
-    /// ```
-    /// let power: u32 = locked.power();
-    /// ```
     pub fn power(&self) -> u32
         ensures value { result ≡ locked_power self.now }
         ensures within { (self.now.caller.table.settings.power ≤ result)
@@ -53,13 +49,8 @@ impl<T: TableRef<K, V> + Drop, K: TableKey + Drop, V: Drop> LockedOn<T, K, V> {
         100 * self.len() / self.capacity()
     }
 
-    /// Doubles the table until it has 2^power buckets, and says whether it had fewer. It changes no
-    /// binding. The load doesn't matter.
-    ///
-    /// It is refused as `OverMax` exactly where `power` is above the greatest one that the table
-    /// was opened with, and then nothing changes. Refused as `Memory`, it may have doubled the
-    /// table some times, and the table has fewer buckets than it was to have. It is never refused
-    /// as `Busy`, and the table stays locked.
+    /// `Caller::rehash`, which is never refused as `Busy`. Refused as `Memory`, the table has fewer
+    /// buckets than it was to have.
     ///
     /// ```
     /// let power: u32 = locked.power();
@@ -78,12 +69,7 @@ impl<T: TableRef<K, V> + Drop, K: TableKey + Drop, V: Drop> LockedOn<T, K, V> {
         }
     }
 
-    /// Doubles the table until it has `n` slots, four in each bucket, and says whether it had
-    /// fewer. It is `rehash` to the least power of at least 1 that is enough.
-    ///
-    /// ```
-    /// let grown: bool = locked.reserve(1_000_000)?;
-    /// ```
+    /// `Caller::reserve`, which is never refused as `Busy`.
     pub fn reserve(&mut self, n: u64) -> Result<bool, GrowFault>
         ensures { ReservesLocked n result self.old self.new }
     {

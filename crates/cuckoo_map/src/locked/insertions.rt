@@ -24,14 +24,7 @@ use ck_words::Whole;
 use std::marker::PhantomData;
 
 impl<T: TableRef<K, V> + Drop, K: TableKey + Drop, V: Drop> LockedOn<T, K, V> {
-    /// Binds the key to the value where it is unbound, and says whether it was. A bound key keeps
-    /// its value, and the one that was passed is dropped.
-    ///
-    /// Where both buckets of an unbound key are full, other entries are displaced to make room. The
-    /// table doubles only where no displacement makes room. Neither changes a binding.
-    ///
-    /// Refused, it changes no binding and hands key and value back: as `Memory`, `Full` or
-    /// `LoadTooLow`, and never as `Busy`. The table stays locked.
+    /// `Caller::insert`.
     pub fn insert(&mut self, key: K, value: V) -> Result<bool, Refused<K, V>>
         ensures { LockedInsertionLeaves (Inserts value)
             K.hash (K.name key) key value result self.old self.new }
@@ -39,11 +32,7 @@ impl<T: TableRef<K, V> + Drop, K: TableKey + Drop, V: Drop> LockedOn<T, K, V> {
         self.make(key, value, insertion::Insert)
     }
 
-    /// Binds the key to the value, and gives the value that it had; `None` where it was unbound.
-    ///
-    /// Room for an unbound key is made as `insert` makes it. Refused, it changes no binding and
-    /// hands key and value back: as `Memory`, `Full` or `LoadTooLow`, and never as `Busy`. The
-    /// table stays locked.
+    /// `Caller::insert_or_assign`.
     ///
     /// ```
     /// let old: Option<u64> = locked.insert_or_assign(NumKey(5), 53)?;
@@ -55,24 +44,17 @@ impl<T: TableRef<K, V> + Drop, K: TableKey + Drop, V: Drop> LockedOn<T, K, V> {
         self.make(key, value, insertion::Assign)
     }
 
-    /// Binds an unbound key to the value, and a bound one to what the closure makes of its value;
-    /// says whether the key was unbound. Of closure and value the one that isn't used is dropped.
-    ///
-    /// Room for an unbound key is made as `insert` makes it. Refused, it changes no binding, drops
-    /// the closure and hands key and value back: as `Memory`, `Full` or `LoadTooLow`, and never as
-    /// `Busy`. The table stays locked.
+    /// `Caller::upsert`.
     ///
     /// ```
     /// let fresh: bool = locked.upsert(NumKey(5), |count| count.saturating_add(1), 1)?;
     /// ```
-    pub fn upsert<F: FnOnce(V) -> V>(
+    pub fn upsert<F: FnOnce(V) -> V + Drop>(
         &mut self,
         key: K,
         f: F,
         value: V,
     ) -> Result<bool, Refused<K, V>>
-    where
-        F: Drop,
         requires call { F.IsAlwaysCallable f }
         ensures { LockedInsertionLeaves (Upserts (F.post f) value)
             K.hash (K.name key) key value result self.old self.new }
@@ -122,19 +104,12 @@ impl<T: TableRef<K, V> + Drop, K: TableKey + Drop, V: Drop> LockedOn<T, K, V> {
         }
     }
 
-    /// Binds an unbound key to what the closure makes, and says whether it was unbound. A bound key
-    /// keeps its value, and then the closure is not called and is dropped.
-    ///
-    /// Room for an unbound key is made as `insert` makes it. Refused, it changes no binding and
-    /// hands key and closure back, which was not called: as `Memory`, `Full` or `LoadTooLow`, and
-    /// never as `Busy`. The table stays locked.
-    ///
-    /// ```
-    /// let fresh: bool = locked.insert_with(NumKey(5), || 50).map_err(|refused| refused.why)?;
-    /// ```
-    pub fn insert_with<F: FnOnce() -> V>(&mut self, key: K, f: F) -> Result<bool, Refused<K, F>>
-    where
-        F: Drop,
+    /// `Caller::insert_with`.
+    pub fn insert_with<F: FnOnce() -> V + Drop>(
+        &mut self,
+        key: K,
+        f: F,
+    ) -> Result<bool, Refused<K, F>>
         requires call { F.IsAlwaysCallable f }
         ensures { LockedInsertionLeaves (InsertsBy (F.post f))
             K.hash (K.name key) key f result self.old self.new }
@@ -143,22 +118,14 @@ impl<T: TableRef<K, V> + Drop, K: TableKey + Drop, V: Drop> LockedOn<T, K, V> {
         Ok(back.is_none())
     }
 
-    /// The value of the key. An unbound one is bound to what the closure makes; for a bound one the
-    /// closure is not called and is dropped.
-    ///
-    /// Room for an unbound key is made as `insert` makes it. Refused, it changes no binding and
-    /// hands key and closure back, which was not called: as `Memory`, `Full` or `LoadTooLow`, and
-    /// never as `Busy`. The table stays locked.
-    ///
-    /// ```
-    /// let value: u64 = locked
-    ///     .get_or_insert_with(NumKey(5), || 50)
-    ///     .map_err(|refused| refused.why)?;
-    /// ```
-    pub fn get_or_insert_with<F: FnOnce() -> V>(&mut self, key: K, f: F) -> Result<V, Refused<K, F>>
+    /// `Caller::get_or_insert_with`.
+    pub fn get_or_insert_with<F: FnOnce() -> V + Drop>(
+        &mut self,
+        key: K,
+        f: F,
+    ) -> Result<V, Refused<K, F>>
     where
         V: Copy,
-        F: Drop,
         requires call { F.IsAlwaysCallable f }
         ensures { LockedInsertionLeaves (FindsOrInserts (F.post f))
             K.hash (K.name key) key f result self.old self.new }
@@ -167,26 +134,13 @@ impl<T: TableRef<K, V> + Drop, K: TableKey + Drop, V: Drop> LockedOn<T, K, V> {
         Ok(value)
     }
 
-    /// Binds an unbound key to the value. A bound one is bound to what the closure makes of its
-    /// value, or unbound where the closure makes nothing. Of closure and value the one that isn't
-    /// used is dropped.
-    ///
-    /// Room for an unbound key is made as `insert` makes it. Refused, it changes no binding, drops
-    /// the closure and hands key and value back: as `Memory`, `Full` or `LoadTooLow`, and never as
-    /// `Busy`. The table stays locked.
-    ///
-    /// ```
-    /// let count_down = |left: u64| left.checked_sub(1);
-    /// let uprased: Uprased = locked.uprase(NumKey(5), count_down, 50)?;
-    /// ```
-    pub fn uprase<F: FnOnce(V) -> Option<V>>(
+    /// `Caller::uprase`.
+    pub fn uprase<F: FnOnce(V) -> Option<V> + Drop>(
         &mut self,
         key: K,
         f: F,
         value: V,
     ) -> Result<Uprased, Refused<K, V>>
-    where
-        F: Drop,
         requires call { F.IsAlwaysCallable f }
         ensures { LockedInsertionLeaves (Uprases (F.post f) value)
             K.hash (K.name key) key value result self.old self.new }
@@ -194,27 +148,13 @@ impl<T: TableRef<K, V> + Drop, K: TableKey + Drop, V: Drop> LockedOn<T, K, V> {
         self.make(key, value, insertion::Uprase(f))
     }
 
-    /// Binds an unbound key to the value, and answers `Ok(true)`. A bound one is bound to the value
-    /// that the closure gives back for its value: the answer is `Ok(false)` where it succeeds, and
-    /// its error where it fails. A closure that fails by giving back the value that it got changes
-    /// nothing. Of closure and value the one that isn't used is dropped.
-    ///
-    /// Room for an unbound key is made as `insert` makes it. Refused, it changes no binding, drops
-    /// the closure and hands key and value back: as `Memory`, `Full` or `LoadTooLow`, and never as
-    /// `Busy`. The table stays locked.
-    ///
-    /// ```
-    /// let count_up = |count: u64| count.checked_add(1).ok_or((count, "too many"));
-    /// let counted: Result<bool, &str> = locked.try_upsert(NumKey(5), count_up, 1)?;
-    /// ```
-    pub fn try_upsert<E, F: FnOnce(V) -> Result<V, (V, E)>>(
+    /// `Caller::try_upsert`.
+    pub fn try_upsert<E, F: FnOnce(V) -> Result<V, (V, E)> + Drop>(
         &mut self,
         key: K,
         f: F,
         value: V,
     ) -> Result<Result<bool, E>, Refused<K, V>>
-    where
-        F: Drop,
         requires call { F.IsAlwaysCallable f }
         ensures { LockedInsertionLeaves (TriesUpsert (F.post f) value)
             K.hash (K.name key) key value result self.old self.new }
@@ -222,35 +162,13 @@ impl<T: TableRef<K, V> + Drop, K: TableKey + Drop, V: Drop> LockedOn<T, K, V> {
         self.make(key, value, insertion::TryUpsert(f))
     }
 
-    /// Binds an unbound key to what `f` makes of the value that `make` makes, and answers
-    /// `Ok(true)`. A bound one is bound to what `f` makes of its value, the answer is `Ok(false)`,
-    /// and `make` is not called and is dropped. Where `f` fails, the answer is its error: an unbound
-    /// key stays so, and the value that `f` gives back is dropped; a bound one is bound to that
-    /// value.
-    ///
-    /// Room for an unbound key is made as `insert` makes it. Refused, it changes no binding and
-    /// hands the key and both closures back, which were not called: as `Memory`, `Full` or
-    /// `LoadTooLow`, and never as `Busy`. The table stays locked.
-    ///
-    /// ```
-    /// // The values are of type `Vec<u64>`.
-    /// let push = |mut list: Vec<u64>| match list.push(51) {
-    ///     Ok(()) => Ok(list),
-    ///     Err(refused) => Err((list, refused.value)),
-    /// };
-    /// let pushed: Result<bool, u64> = locked
-    ///     .try_upsert_with(NumKey(5), || Vec::new(alloc), push)
-    ///     .map_err(|refused| refused.why)?;
-    /// ```
-    pub fn try_upsert_with<E, G: FnOnce() -> V, F: FnOnce(V) -> Result<V, (V, E)>>(
+    /// `Caller::try_upsert_with`.
+    pub fn try_upsert_with<E, G: FnOnce() -> V + Drop, F: FnOnce(V) -> Result<V, (V, E)> + Drop>(
         &mut self,
         key: K,
         make: G,
         f: F,
     ) -> Result<Result<bool, E>, Refused<K, (G, F)>>
-    where
-        G: Drop,
-        F: Drop,
         requires call { G.IsAlwaysCallable make × F.IsAlwaysCallable f }
         ensures { LockedInsertionLeaves (TriesUpsertWith (G.post make) (F.post f))
             K.hash (K.name key) key (make, f) result self.old self.new }

@@ -18,19 +18,15 @@ use ck_words::Whole;
 use std::alloc::{AllocError, Global};
 
 impl<T: TableRef<K, V> + Drop, K: TableKey + Drop, V: Drop> LockedOn<T, K, V> {
-    /// Unbinds all keys, and drops them with their values. The number of buckets stays.
-    ///
-    /// ```
-    /// locked.clear();
-    /// ```
+    /// Unbinds all keys, and drops them with their values.
     pub fn clear(&mut self)
         ensures { Clears self.old self.new }
     {
         clear_in(&mut self.whole);
     }
 
-    /// Unbinds all keys, and gives them with their values, in rising order of the keys. The number
-    /// of buckets stays. It makes one request for memory; refused, it leaves the table as it was.
+    /// Unbinds all keys, and gives them with their values, in rising order of the keys. It makes
+    /// one request for memory; refused, it leaves the table as it was.
     ///
     /// ```
     /// let pairs: Vec<(NumKey, u64)> = locked.drain(alloc)?;
@@ -44,8 +40,7 @@ impl<T: TableRef<K, V> + Drop, K: TableKey + Drop, V: Drop> LockedOn<T, K, V> {
     }
 
     /// Asks the closure about each key and its value once, in no order that is told, and unbinds
-    /// the keys for which it answers false. These are dropped with their values. The number of
-    /// buckets stays.
+    /// the keys for which it answers false. These are dropped with their values.
     ///
     /// ```
     /// locked.retain(|_key, count| *count > 1);

@@ -1,12 +1,7 @@
-use Rattle.cuckoo_map.proofs.Callers.{replies_on, query_on}
+use Rattle.cuckoo_map.proofs.Callers.{query_on}
 use Rattle.cuckoo_map.proofs.Told.{told_erased}
 use Rattle.cuckoo_map.proofs.caller.CallerOn.erase.Goals as goal
 
 pub returns : goal.returns
 returns g c =
-    let name = g.Q.Query.name c.args.key in
-    let p = c.self.inside.pass in
-    let q = c.erase.new.pass in
-    let is = c.self.view_is in
-    let did = c.erase.ensures in
-    query_on p q is c.self.invariant c.table.ensures did.caller g.K.TableKey.hash name c.erase.result (told_erased (replies_on p q is name)) did.queried
+    query_on c.self.inside.pass c.erase.new.pass c.self.view_is c.self.invariant c.table.ensures c.erase.ensures.caller g.K.TableKey.hash (g.Q.Query.name c.args.key) c.erase.result told_erased c.erase.ensures.queried

@@ -1,13 +1,8 @@
 use Rattle.std.proofs.Common.{Result}
-use Rattle.cuckoo_map.proofs.Callers.{replies_inserting, insertion}
+use Rattle.cuckoo_map.proofs.Callers.{insertion}
 use Rattle.cuckoo_map.proofs.Told.{told_tried}
 use Rattle.cuckoo_map.proofs.caller.CallerOn.try_upsert.Goals as goal
 
 pub returns : goal.returns
 returns g c =
-    let name = g.K.TableKey.name c.args.key in
-    let p = c.self.inside.pass in
-    let q = c.try_upsert.new.pass in
-    let is = c.self.view_is in
-    let did = c.try_upsert.ensures in
-    insertion p q is c.self.invariant c.table.ensures did.caller g.K.TableKey.hash name c.args.key c.args.value c.try_upsert.result (told_tried (replies_inserting p q is g.K.TableKey.hash name) (λ (v : g.row.V.Denot) (r : Result g.row.V.Denot (g.row.V.Denot × g.row.E.Denot)). g.F.FnOnce.post c.args.f (v, tt) r) c.args.value) did.inserted
+    insertion c.self.inside.pass c.try_upsert.new.pass c.self.view_is c.self.invariant c.table.ensures c.try_upsert.ensures.caller g.K.TableKey.hash (g.K.TableKey.name c.args.key) c.args.key c.args.value c.try_upsert.result (λ f. told_tried f (λ (v : g.row.V.Denot) (r : Result g.row.V.Denot (g.row.V.Denot × g.row.E.Denot)). g.F.FnOnce.post c.args.f (v, tt) r) c.args.value) c.try_upsert.ensures.inserted
