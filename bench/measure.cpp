@@ -8,9 +8,10 @@
 #include "proved.h"
 #include <malloc.h>
 #include <map>
+#include <sys/wait.h>
+#include <unistd.h>
 
 struct Plan {
-  std::string program, folder;
   uint64_t keys, grown;
   size_t slice, rounds;
 };
@@ -32,16 +33,10 @@ static void put_all(const char *measure, const std::string &table, const std::st
   put(measure, table, workload, threads, at(values, 0.5), at(values, 0.1), at(values, 0.9));
 }
 
-// The contestants; the proved one reads the trace from a file.
-static std::vector<Contestant> contestants(const Plan &plan, const Trace &trace, const char *kind) {
-  std::string program = plan.program,
-              file = plan.folder + "/" + std::to_string(trace.calls.size()) + kind;
-  trace.write(file);
-  bool texts = kind == std::string("texts");
-  std::vector<Contestant> all = texts ? peers<std::string>(trace) : peers<uint64_t>(trace);
-  all.insert(all.begin(), {"proved", [=](uint64_t keys, unsigned threads) {
-                             return std::make_unique<Proved>(program, kind, file, keys, threads);
-                           }});
+// The proved table and its peers.
+template <class Key> static std::vector<Contestant> contestants(const Trace &trace) {
+  std::vector<Contestant> all = peers<Key>(trace);
+  all.insert(all.begin(), own<Proved<Key>>("proved", keyed<Key>(trace)));
   return all;
 }
 
@@ -86,7 +81,8 @@ static void measure_calls(const Plan &plan, const char *kind) {
   bool texts = kind == std::string("texts");
   uint64_t keys = texts ? plan.keys / 4 : plan.keys;
   Trace trace = workloads(keys, !texts);
-  std::vector<Contestant> all = contestants(plan, trace, kind);
+  std::vector<Contestant> all =
+      texts ? contestants<std::string>(trace) : contestants<uint64_t>(trace);
   std::vector<std::unique_ptr<Table>> tables;
   for (const Contestant &one : all) {
     tables.push_back(one.open(keys, 4));
@@ -164,19 +160,15 @@ static void measure_memory(const Plan &plan, const Contestant &one) {
 }
 
 int main(int count, char **words) {
-  if (count != 7) {
-    fprintf(stderr, "measure PROGRAM FOLDER KEYS GROWN SLICE ROUNDS\n");
+  if (count != 5) {
+    fprintf(stderr, "measure KEYS GROWN SLICE ROUNDS\n");
     return 2;
   }
-  Plan plan{words[1],
-            words[2],
-            strtoull(words[3], 0, 10),
-            strtoull(words[4], 0, 10),
-            strtoull(words[5], 0, 10),
-            strtoull(words[6], 0, 10)};
+  Plan plan{strtoull(words[1], 0, 10), strtoull(words[2], 0, 10), strtoull(words[3], 0, 10),
+            strtoull(words[4], 0, 10)};
   puts("measure,table,workload,threads,value,low,high");
   Trace growth = insertions(plan.grown);
-  std::vector<Contestant> all = contestants(plan, growth, "numbers");
+  std::vector<Contestant> all = contestants<uint64_t>(growth);
   for (const Contestant &one : all) measure_memory(plan, one);
   measure_growth(plan, all);
   measure_calls(plan, "numbers");

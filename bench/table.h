@@ -45,7 +45,7 @@ inline long resident_of(const std::string &process) {
   return resident * 4096;
 }
 
-// A call with its key, which is a number or a text, as in crates/ck_trace.
+// A call with its key, which is a number or a text.
 template <class Key> struct KeyedCall {
   char letter;
   Key key;
@@ -76,7 +76,7 @@ template <class Key, class Map> class Own : public Table {
     return std::chrono::duration<double, std::nano>(time).count();
   }
 
-  // A number of the answer, as crates/ck_trace gives it.
+  // A number of the answer.
   uint64_t make(const KeyedCall<Key> &call) {
     switch (call.letter) {
     case 'f': {

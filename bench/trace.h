@@ -7,7 +7,7 @@
 #include <string>
 #include <vector>
 
-// As crates/ck_trace reads them: find, insert, update, add, erase, and what the key is made of.
+// Find, insert, update, add, erase, and what the key is made of.
 struct Call {
   char letter;
   uint64_t number;
@@ -57,15 +57,6 @@ public:
 struct Trace {
   std::vector<Call> calls;
   std::vector<Workload> workloads;
-
-  // A file of it for crates/ck_trace.
-  void write(const std::string &path) const {
-    FILE *file = fopen(path.c_str(), "w");
-    if (!file) perror(path.c_str()), exit(1);
-    for (const Call &call : calls)
-      fprintf(file, "%c %llu\n", call.letter, (unsigned long long)call.number);
-    if (fclose(file)) perror(path.c_str()), exit(1);
-  }
 };
 
 // The insertions of so many keys.
