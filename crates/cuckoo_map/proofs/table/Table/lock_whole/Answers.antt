@@ -19,8 +19,7 @@ returns-in-Ok-clause-locked g c =
     let whole = subst (λ (w : WordsState). IsWhole hash w.settings q) is e.whole in
     let own = subst (λ (w : WordsState). IsPassOf w q) is e.own in
     let table = subst (λ (w : WordsState). IsTable w.settings.s q.stripes) is e.table in
-    subst (λ (p : PassState g.row.V.Denot). IsLocked hash c.args.self.now p × HasLocked c.args.self.now c.args.pass (locked_of c.args.self.now p)) (sym c.lift.ensures)
-    (
+    subst (λ (p : PassState g.row.V.Denot). IsLocked hash c.args.self.now p × HasLocked c.args.self.now c.args.pass (locked_of c.args.self.now p)) (sym c.lift.ensures) (
       locked_by hash c.args.self.now c.args.pass q stays whole c.requires own table e.settled,
       has_locked hash c.args.self.now c.args.pass q c.requires stays whole (h.found.0, ap (λ v. v.found) e.view ∙ h.found.1, h.found.2),
     )
