@@ -10,15 +10,21 @@
  *
  *     cuckoo_handle handle = CUCKOO_CLOSED_HANDLE;
  *     if (cuckoo_open(1000, 64, &handle, 1) != CUCKOO_OK) return 1;
- *     cuckoo_insert(&handle, 5, 50);
+ *     int32_t code;
+ *     while ((code = cuckoo_add(&handle, 5, 50)) == CUCKOO_BUSY) sched_yield();
  *     uint64_t value;
- *     if (cuckoo_find(&handle, 5, &value) == CUCKOO_OK) printf("%llu\n", (unsigned long long)value);
+ *     while ((code = cuckoo_find(&handle, 5, &value)) == CUCKOO_BUSY) sched_yield();
+ *     if (code == CUCKOO_OK) printf("%llu\n", (unsigned long long)value);
  *     cuckoo_close(&handle);
+ *
+ * Where several threads make calls, any call may answer CUCKOO_BUSY: it has done nothing, and the
+ * program has to make it again, or the call is lost.
  *
  * Each answered call of all handles takes effect once, at one moment, in one order in which a plain
  * map gives the same answers. A refused call changes no binding. A call through a handle that is
  * closed is refused as CUCKOO_CLOSED and changes nothing; so is every call through a handle that was
- * never opened and began as CUCKOO_CLOSED_HANDLE.
+ * never opened and began as CUCKOO_CLOSED_HANDLE. What a thread wrote before it bound a key, a thread
+ * that finds that binding sees: calls lock by sequentially consistent atomics.
  *
  * What is undefined: a handle that began as anything else; a copy of a handle, where both are used;
  * a handle in two calls at a time; a handle that goes to another thread by nothing that orders the
@@ -113,7 +119,8 @@ void cuckoo_settings_for(uint64_t keys, uint32_t callers, uint32_t turns, cuckoo
 /* ---- keys that are numbers ---- */
 
 /* A new table for about so many keys, with a handle in each of the `count` places, which are closed
- * before. Where there are more threads than processors, few turns are best, as 64.
+ * before. A handle takes 56 bytes for each of up to 1,024 stripes. Where there are more threads than
+ * processors, few turns are best, as 64. For more than 2^28 keys it is a table of the greatest size.
  * CUCKOO_OK; CUCKOO_NO_MEMORY; CUCKOO_BAD_SETTINGS (count is not 1 to 1024, or turns is 0);
  * CUCKOO_IS_OPEN. Refused, it leaves all places as they were. */
 int32_t cuckoo_open(uint64_t keys, uint32_t turns, cuckoo_handle *handles, size_t count);
@@ -199,22 +206,22 @@ int32_t cuckoo_text_open(uint64_t keys, uint32_t turns, cuckoo_text_handle *hand
 int32_t cuckoo_text_open_with(const cuckoo_settings *settings, cuckoo_text_handle *handles,
                               size_t count);
 void cuckoo_text_close(cuckoo_text_handle *handle);
-int32_t cuckoo_text_find(cuckoo_text_handle *handle, const uint8_t *key, size_t length,
+int32_t cuckoo_text_find(cuckoo_text_handle *handle, const void *key, size_t length,
                          uint64_t *value);
-int32_t cuckoo_text_contains(cuckoo_text_handle *handle, const uint8_t *key, size_t length);
-int32_t cuckoo_text_insert(cuckoo_text_handle *handle, const uint8_t *key, size_t length,
+int32_t cuckoo_text_contains(cuckoo_text_handle *handle, const void *key, size_t length);
+int32_t cuckoo_text_insert(cuckoo_text_handle *handle, const void *key, size_t length,
                            uint64_t value);
-int32_t cuckoo_text_assign(cuckoo_text_handle *handle, const uint8_t *key, size_t length,
+int32_t cuckoo_text_assign(cuckoo_text_handle *handle, const void *key, size_t length,
                            uint64_t value, uint64_t *old);
-int32_t cuckoo_text_add(cuckoo_text_handle *handle, const uint8_t *key, size_t length,
+int32_t cuckoo_text_add(cuckoo_text_handle *handle, const void *key, size_t length,
                         uint64_t more);
-int32_t cuckoo_text_update(cuckoo_text_handle *handle, const uint8_t *key, size_t length,
+int32_t cuckoo_text_update(cuckoo_text_handle *handle, const void *key, size_t length,
                            uint64_t value, uint64_t *old);
-int32_t cuckoo_text_swap_if(cuckoo_text_handle *handle, const uint8_t *key, size_t length,
+int32_t cuckoo_text_swap_if(cuckoo_text_handle *handle, const void *key, size_t length,
                             uint64_t from, uint64_t to, uint64_t *seen);
-int32_t cuckoo_text_erase(cuckoo_text_handle *handle, const uint8_t *key, size_t length,
+int32_t cuckoo_text_erase(cuckoo_text_handle *handle, const void *key, size_t length,
                           uint64_t *value);
-int32_t cuckoo_text_erase_if(cuckoo_text_handle *handle, const uint8_t *key, size_t length,
+int32_t cuckoo_text_erase_if(cuckoo_text_handle *handle, const void *key, size_t length,
                              uint64_t value);
 int32_t cuckoo_text_len(cuckoo_text_handle *handle, uint64_t *count);
 int32_t cuckoo_text_capacity(cuckoo_text_handle *handle, uint64_t *slots);
@@ -225,7 +232,7 @@ int32_t cuckoo_text_drain(cuckoo_text_handle *handle, cuckoo_text_pairs *pairs);
 
 /* The next pair. The bytes of its key go to `key`, and their number to `length`. CUCKOO_OK;
  * CUCKOO_ABSENT; CUCKOO_TOO_LONG: `room` is less than 64, and nothing changed. */
-int32_t cuckoo_text_pairs_next(cuckoo_text_pairs *pairs, uint8_t *key, size_t room, size_t *length,
+int32_t cuckoo_text_pairs_next(cuckoo_text_pairs *pairs, void *key, size_t room, size_t *length,
                                uint64_t *value);
 void cuckoo_text_pairs_close(cuckoo_text_pairs *pairs);
 

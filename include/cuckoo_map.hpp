@@ -71,8 +71,8 @@ public:
 struct options {
   /// About so many keys have room before the table grows.
   std::uint64_t keys = 1024;
-  /// So many threads have a handle of their own: 0 to 1023.
-  std::uint32_t callers = 64;
+  /// So many threads have a handle of their own: 0 to 1023. Each takes up to 57 KB.
+  std::uint32_t callers = 16;
   /// Tries to take a stripe before other threads are let run: 1 at least. Many are good only where
   /// there are more processors than threads.
   std::uint32_t turns = 64;

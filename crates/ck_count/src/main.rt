@@ -2,7 +2,7 @@
 #![tactic(auto)]
 
 use anyhow::{Context, Result};
-use cuckoo_map::{Handle, Settings, TextKey};
+use cuckoo_map::{Handle, KeyFault, Settings, TextKey};
 use std::alloc::Global;
 use std::cmp::Reverse;
 use std::thread::{self, Threads};
@@ -11,9 +11,11 @@ use std::{env, fs};
 /// Counts the words; one of more than 64 bytes is left out.
 fn count(alloc: Global, mut handle: Handle<TextKey, u64>, words: &[&str]) -> Result<()> {
     for word in words {
-        if let Ok(key) = TextKey::new(alloc, word.as_bytes()) {
-            handle.upsert(key, |count| count.saturating_add(1), 1)?;
-        }
+        match TextKey::new(alloc, word.as_bytes()) {
+            Ok(key) => handle.upsert(key, |count| count.saturating_add(1), 1)?,
+            Err(KeyFault::TooLong) => continue,
+            Err(fault) => return Err(fault.into()),
+        };
     }
     Ok(())
 }
