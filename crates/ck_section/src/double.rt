@@ -5,14 +5,16 @@ ghost use Rattle.ck_stripe.specs.Tables.{AreSettled, IsTable};
 ghost use Rattle.ck_section.specs.Doublings.{AreReserved, DoublesEach, Grows};
 
 use ck_key::TableKey;
-use ck_stripe::{Held, Stripe, one_stripe};
+use ck_stripe::{Held, Spares, Stripe, one_stripe};
 use std::alloc::AllocError;
 
-/// Doubles a table of 2^s stripes. The memory for all is taken first, by one request a stripe, and
-/// where one is refused, what was taken is given back. So a refused request leaves all as it was.
+/// Doubles a table of 2^s stripes. The memory for all is taken first, from the spares as far as
+/// they go, else by one request a stripe. Where one is refused, what the stripes took is freed, so
+/// that a refused request leaves all as it was.
 pub fn double_all<K: TableKey + Drop, V: Drop, H: Held<Stripe<K, V>>>(
     held: &mut H,
     s: u32,
+    spares: &mut Option<Spares<K, V>>,
 ) -> Result<(), AllocError>
     requires table { IsTable s (H.stripes held.old) }
     requires settled { AreSettled (H.stripes held.old) }
@@ -24,7 +26,7 @@ pub fn double_all<K: TableKey + Drop, V: Drop, H: Held<Stripe<K, V>>>(
     ensures stays { H.stays held.old held.new }
 {
     let count = 1usize << s;
-    reserve_all(held, count)?;
+    reserve_all(held, count, spares)?;
     raise_all(held, count);
     Ok(())
 }
@@ -33,6 +35,7 @@ pub fn double_all<K: TableKey + Drop, V: Drop, H: Held<Stripe<K, V>>>(
 fn reserve_all<K: TableKey + Drop, V: Drop, H: Held<Stripe<K, V>>>(
     held: &mut H,
     count: usize,
+    spares: &mut Option<Spares<K, V>>,
 ) -> Result<(), AllocError>
     requires count { length (H.stripes held.old) ≡ count }
     requires settled { AreSettled (H.stripes held.old) }
@@ -43,7 +46,7 @@ fn reserve_all<K: TableKey + Drop, V: Drop, H: Held<Stripe<K, V>>>(
     ensures stays { H.stays held.old held.new }
 {
     for i in 0..count {
-        if let Err(refused) = one_stripe::reserve_double(held, i) {
+        if let Err(refused) = one_stripe::reserve_double(held, i, spares) {
             shrink_all(held);
             return Err(refused);
         }

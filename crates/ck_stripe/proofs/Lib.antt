@@ -1,6 +1,7 @@
 pub mod Settled
 pub mod Splits
 pub mod Doubled
+mod Spared
 pub mod Stored
 pub mod Writes
 mod Pouring

@@ -10,6 +10,7 @@
 // One stripe: the rows of its buckets, and what a doubling has left to be moved.
 mod crossings;
 mod next;
+mod spares;
 mod stripe;
 
 // All its pairs.
@@ -29,5 +30,6 @@ pub use held::{Held, Numbered, Visitor};
 pub use held_slot::HeldSlot;
 pub use iter::Iter;
 pub use several::{entries, has_entries, len, pour_all, settle_all};
+pub use spares::Spares;
 pub use stripe::Stripe;
 pub use stripe_laws::law_of_doubling;

@@ -15,6 +15,7 @@ ghost use Rattle.ck_stripe.specs.Stripe.{HasBucket, bucket_of, with_bucket, with
 
 use crate::iter::Iter;
 use crate::next::Next;
+use crate::spares::Spares;
 use ck_bucket::{BlankRows, Rows};
 use ck_key::{NumKey, Query, TableKey};
 use std::alloc::{AllocError, Global};
@@ -259,10 +260,10 @@ impl<K: TableKey + Drop, V: Drop> Stripe<K, V> {
         Iter::new(&self.rows, 4 * self.next.count(self.s, self.power))
     }
 
-    /// Takes the memory for a doubling, where the stripe has none yet. It is refused only for want
-    /// of memory, or where the stripe would have more than 2^26 buckets, and then the stripe stays
-    /// as it was.
-    pub fn reserve_double(&mut self) -> Result<(), AllocError>
+    /// Takes the memory for a doubling, where the stripe has none yet, from the spares if there is
+    /// some for it. It is refused only for want of memory, or where the stripe would have more than
+    /// 2^26 buckets, and then the stripe stays as it was.
+    pub fn reserve_double(&mut self, spares: &mut Option<Spares<K, V>>) -> Result<(), AllocError>
         requires settled { self.old.settled ≡ true }
         ensures room { self.old.room ≤ self.new.room }
         ensures ok { OnOk result (self.new ≡ reserved self.old) }
@@ -276,7 +277,10 @@ impl<K: TableKey + Drop, V: Drop> Stripe<K, V> {
         if count > MOST_ROWS {
             return Err(AllocError);
         }
-        let blank = BlankRows::open(self.heap, count)?;
+        let blank = match spare_for(spares, count) {
+            Some(blank) => blank,
+            None => BlankRows::open(self.heap, count)?,
+        };
         self.next.put(Next::Reserved(blank));
         Ok(())
     }
@@ -396,6 +400,16 @@ impl<K: TableKey + Clone, V: Clone> Stripe<K, V> {
         let count = self.next.count(self.s, self.power);
         clone_all(&self.rows, count, pairs)
     }
+}
+
+// A block for so many rows from the spares, if there is one.
+fn spare_for<K: TableKey, V>(
+    spares: &mut Option<Spares<K, V>>,
+    count: usize,
+) -> Option<BlankRows<K, V>>
+    ensures { IfSome result (λ blank. blank ≡ count) }
+{
+    spares.as_mut()?.take(count)
 }
 
 // Moves each row of stripe `number` to where it stands once a table of 2^p buckets has doubled, in

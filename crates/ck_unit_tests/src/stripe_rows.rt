@@ -35,7 +35,7 @@ fn place(rt: &impl Abort, stripe: &mut NumStripe, entry: Entry) {
 fn double(rt: &impl Abort, stripe: &mut NumStripe) -> Result<(), Fail> {
     assert!(rt; stripe.settled());
     assert!(rt; stripe.power() == 2);
-    stripe.reserve_double()?;
+    stripe.reserve_double(&mut None)?;
     stripe.double();
     assert!(rt; !stripe.settled());
     assert!(rt; stripe.len() == 5);

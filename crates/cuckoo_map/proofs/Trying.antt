@@ -53,6 +53,10 @@ module _ {V : Type 0} (q : Name) where
       back = back_then w h.more ((q, NoRoom) ∷ []) p r z h.back (record { own = own; idle = idle; stays = full; found = found });
     }
 
+    -- after a round, it looked again and found no room
+    pub tried_again : (p t d r z : PassState V) → HasTried w p t → IsBack w t d → r ≡ d → IsPassOf w z → IsIdle z → HasFoundNoRoom q r z → FindsAny r z → HasTried w p z
+    tried_again p t d r z h back same own idle full found = tried_full p r z (subst (HasTried w p) (sym same) (tried_on p t d h back)) own idle full found
+
     pub still_caller : (p z : PassState V) → IsCaller w p → HasTried w p z → IsCaller w z
     still_caller p z c h = record {
       own = h.back.own;

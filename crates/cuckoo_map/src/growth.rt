@@ -88,7 +88,7 @@ pub(crate) fn double_to<K: TableKey + Drop, V: Drop, H: Held<Stripe<K, V>>>(
     let before = one_stripe::power(held, 0);
     'doublings: for _ in before..power {
         settle_all(held);
-        double_all(held, s)?;
+        double_all(held, s, &mut None)?;
     }
     Ok(before < power)
 }

@@ -12,7 +12,7 @@ ghost use Rattle.cuckoo_map.specs.Refusals.{FindsOwn, FindsOwnUnlessFull};
 
 use crate::locking::Home;
 use crate::refusal::{Refused, Why};
-use crate::room::Room;
+use crate::room::{Preparation, Room};
 use crate::table::Table;
 use ck_key::TableKey;
 use ck_section::{Insertion, Uprased, insertion};
@@ -257,17 +257,20 @@ impl<K: TableKey + Drop, V: Drop> Table<K, V> {
         requires since { IsCaller self.now since.value }
         requires caller { IsCaller self.now pass.old }
         requires full { HasFoundNoRoom (K.name key) since.value pass.old }
-        requires power { power ≤ 26 }
+        requires power { (self.now.settings.s ≤ power) × (power ≤ 26) }
         requires found { FindsOwn K.hash self.now.settings (K.name key) since.value pass.old }
         requires call { I.can_make insertion value }
         ensures caller { IsCaller self.now pass.new }
         ensures inserted { HasInserted (TellsOf (I.tells insertion value))
             K.hash self.now.settings (K.name key) key value result since.value pass.new }
     {
-        match self.make_room(pass, &key, power) {
+        let mut preparation = Preparation::none();
+        let answer = match self.make_room(pass, &key, power, &mut preparation) {
             Ok(made) => Ok(self.make_in(pass, made, key, value, insertion, since)),
             Err(why) => Err(Refused { key, value, why }),
-        }
+        };
+        self.end_preparation(preparation);
+        answer
     }
 
     // The same for a key that has this entry among the stripes that its pass holds, which go home.

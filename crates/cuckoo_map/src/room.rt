@@ -17,7 +17,10 @@ use std::snapshot::Snapshot;
 
 mod all;
 mod displace;
+mod preparation;
 mod search;
+
+pub(crate) use preparation::{GrowthLock, Preparation};
 
 // Where a key may be among the stripes that its pass holds, those of the key or all of the table,
 // and its entry there.
@@ -52,7 +55,7 @@ impl<K: TableKey + Drop, V: Drop> Table<K, V> {
             pass.new }
         ensures idle { OnErr result (IsIdle pass.new) }
         ensures full { OnErr result (HasFoundNoRoom (K.name key.now) since.now.value pass.new) }
-        ensures power { IfErr result (λ power. power ≤ 26) }
+        ensures power { IfErr result (λ power. (self.now.settings.s ≤ power) × (power ≤ 26)) }
     {
         let mut guard = guard!(&self.words, pass, spot.stripes);
         if let Some(entry) = find_entry(&mut guard, spot.place, key) {

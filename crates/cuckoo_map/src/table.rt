@@ -8,6 +8,7 @@ ghost use Rattle.ck_model.specs.Counting.{counting};
 ghost use Rattle.ck_words.specs.Closing.{IsCaller, AreAllPasses, EachStays, Closes, dealt};
 
 use crate::refusal::OpenFault;
+use crate::room::GrowthLock;
 use ck_key::TableKey;
 use ck_model::settings::Settings;
 use ck_words::{Message, Pass, Words};
@@ -23,6 +24,8 @@ use std::marker::Model;
 #[derive(Drop)]
 pub struct Table<K: TableKey, V> {
     pub(crate) words: Words<K, V>,
+    pub(crate) growth: GrowthLock,
+    pub(crate) alloc: Global,
 }
 
 impl<K: TableKey, V> Model for Table<K, V> {
@@ -59,7 +62,17 @@ impl<K: TableKey + Drop, V: Drop> Table<K, V> {
             return Err(OpenFault::Settings(which));
         }
         match Words::open_all(alloc, settings) {
-            Ok((words, passes)) => Ok((Table { words }, passes)),
+            Ok((words, passes)) => {
+                let growth = GrowthLock::new();
+                Ok((
+                    Table {
+                        words,
+                        growth,
+                        alloc,
+                    },
+                    passes,
+                ))
+            }
             Err(_) => Err(OpenFault::Memory),
         }
     }
@@ -84,14 +97,25 @@ impl<K: TableKey + Drop, V: Drop> Table<K, V> {
         ensures back { IfErr result (λ back. (back.0 ≡ self)
             × AreAllPasses back.0 back.1.items × EachStays passes.items back.1.items) }
     {
-        let Table { words } = self;
+        let Table {
+            words,
+            growth,
+            alloc,
+        } = self;
         match words.close(passes) {
             Ok(pairs) => {
                 let mut pairs = pairs;
                 pairs.sort_unstable_by(|a, b| a.0.cmp(&b.0));
                 Ok(pairs)
             }
-            Err((words, passes)) => Err((Table { words }, passes)),
+            Err((words, passes)) => Err((
+                Table {
+                    words,
+                    growth,
+                    alloc,
+                },
+                passes,
+            )),
         }
     }
 

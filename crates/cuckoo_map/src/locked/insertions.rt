@@ -239,7 +239,7 @@ fn make_room_in<K: TableKey + Drop, V: Drop>(
         min_load,
         ..
     } = settings;
-    let made = make_room(whole, s, key, KeyHash::of(key), max, min_load);
+    let made = make_room(whole, s, key, KeyHash::of(key), max, min_load, &mut None);
     settle_all(whole);
     made
 }

@@ -15,7 +15,7 @@ ghost use Rattle.cuckoo_map.specs.Needed.{HoldsGrown};
 
 use crate::locking::Spot;
 use crate::refusal::Why;
-use crate::room::Room;
+use crate::room::{Preparation, Room};
 use crate::table::Table;
 use ck_key::{KeyHash, TableKey};
 use ck_model::lack::Lack;
@@ -24,10 +24,15 @@ use ck_section::{find_entry, make_room, settled_place};
 use ck_words::{Pass, guard};
 
 impl<K: TableKey + Drop, V: Drop> Table<K, V> {
-    // Takes all stripes and makes room for the key there, by a displacement or by growing. It keeps
-    // them, with the entry of the key. Where it can't make room, all have gone home with what they
-    // contain then, and the pass has told the reason.
-    pub(crate) fn make_room_in_all(&self, pass: &mut Pass<K, V>, key: &K) -> Result<Room, Why>
+    // Takes all stripes and makes room for the key there, by a displacement or by growing, in the
+    // memory that was prepared. It keeps them, with the entry of the key. Where it can't make room,
+    // all have gone home with what they contain then, and the pass has told the reason.
+    pub(crate) fn make_room_in_all(
+        &self,
+        pass: &mut Pass<K, V>,
+        key: &K,
+        preparation: &mut Preparation<K, V>,
+    ) -> Result<Room, Why>
         requires caller { IsCaller self.now pass.old }
         ensures own { IsPassOf self.now pass.new }
         ensures room { IfOk result (λ room.
@@ -38,7 +43,7 @@ impl<K: TableKey + Drop, V: Drop> Table<K, V> {
             IsRefused K.hash self.now.settings (K.name key.now) why pass.old pass.new) }
     {
         self.lock_all(pass)?;
-        match self.make_room_held(pass, key) {
+        match self.make_room_held(pass, key, preparation) {
             Ok(room) => Ok(room),
             Err(lack) => {
                 let mut guard = guard!(&self.words, pass, self.words.all());
@@ -49,7 +54,12 @@ impl<K: TableKey + Drop, V: Drop> Table<K, V> {
     }
 
     // Makes room for the key among all stripes, which the pass has just taken.
-    fn make_room_held(&self, pass: &mut Pass<K, V>, key: &K) -> Result<Room, Lack>
+    fn make_room_held(
+        &self,
+        pass: &mut Pass<K, V>,
+        key: &K,
+        preparation: &mut Preparation<K, V>,
+    ) -> Result<Room, Lack>
         requires own { IsPassOf self.now pass.old }
         requires whole { IsWhole K.hash self.now.settings pass.old }
         requires table { IsTable self.now.settings.s pass.old.stripes }
@@ -75,7 +85,15 @@ impl<K: TableKey + Drop, V: Drop> Table<K, V> {
         let hash = KeyHash::of(key);
         let stripes = self.words.all();
         let mut guard = guard!(&self.words, pass, stripes);
-        make_room(&mut guard, s, key, hash, max, min_load)?;
+        make_room(
+            &mut guard,
+            s,
+            key,
+            hash,
+            max,
+            min_load,
+            &mut preparation.spares,
+        )?;
         let place = settled_place(&mut guard, s, key, hash);
         let Some(entry) = find_entry(&mut guard, place, key) else {
             unreachable!()

@@ -9,8 +9,8 @@ ghost use Rattle.cuckoo_map.specs.Refusals.{FindsOwnUnlessFull, IsRefused};
 ghost use Rattle.cuckoo_map.specs.Displacing.{EndsBack, SinceFull};
 
 use crate::refusal::{Busy, Why};
-use crate::room::Room;
 use crate::room::search::Searched;
+use crate::room::{Preparation, Room};
 use crate::table::Table;
 use ck_key::{KeyHash, TableKey};
 use ck_path::Path;
@@ -21,12 +21,19 @@ use std::snapshot::Snapshot;
 impl<K: TableKey + Drop, V: Drop> Table<K, V> {
     // Makes room for an unbound key whose buckets were found full, in a table of 2^power buckets,
     // and takes its stripes. It displaces entries in at most `rounds` tries, the last of which is
-    // one that finds no path. Then it takes all stripes.
+    // one that finds no path. Then it prepares a doubling and takes all stripes, or looks again
+    // where another caller has prepared one.
     #[cold]
     #[inline(never)]
-    pub(crate) fn make_room(&self, pass: &mut Pass<K, V>, key: &K, power: u32) -> Result<Room, Why>
+    pub(crate) fn make_room(
+        &self,
+        pass: &mut Pass<K, V>,
+        key: &K,
+        power: u32,
+        preparation: &mut Preparation<K, V>,
+    ) -> Result<Room, Why>
         requires caller { IsCaller self.now pass.old }
-        requires power { power ≤ 26 }
+        requires power { (self.now.settings.s ≤ power) × (power ≤ 26) }
         ensures own { IsPassOf self.now pass.new }
         ensures room { IfOk result (λ room.
             SinceFull K.hash self.now.settings (K.name key.now) pass.old (λ p.
@@ -40,8 +47,9 @@ impl<K: TableKey + Drop, V: Drop> Table<K, V> {
     {
         let hash = KeyHash::of(key);
         let mut power = power;
-        'tries: for _ in 0..self.words.settings().rounds {
-            if !self.displace(pass, hash, power)? {
+        let rounds = self.words.settings().rounds;
+        'tries: for round in 0..=rounds {
+            if !self.displace_or_prepare(pass, hash, power, round < rounds, preparation)? {
                 break;
             }
             let since = Snapshot::of(pass);
@@ -51,10 +59,31 @@ impl<K: TableKey + Drop, V: Drop> Table<K, V> {
                 Err(seen) => power = seen,
             }
         }
-        self.make_room_in_all(pass, key)
+        self.make_room_in_all(pass, key, preparation)
     }
 
-    // One try to make room in a bucket of the hash: a search, and the hops of the path that it
+    // One try to make room in a bucket of the hash: a displacement, where there are tries left for
+    // one, or else the doubling that is due. False where the caller is to take all stripes for it.
+    fn displace_or_prepare(
+        &self,
+        pass: &mut Pass<K, V>,
+        hash: KeyHash,
+        power: u32,
+        displaces: bool,
+        preparation: &mut Preparation<K, V>,
+    ) -> Result<bool, Busy>
+        requires own { IsPassOf self.now pass.old }
+        requires idle { IsIdle pass.old }
+        requires power { (self.now.settings.s ≤ power) × (power ≤ 26) }
+        ensures { EndsBack self.now result pass.old pass.new }
+    {
+        if displaces && self.displace(pass, hash, power)? {
+            return Ok(true);
+        }
+        Ok(!self.prepare(preparation, power))
+    }
+
+    // One try to make room in a bucket of the hash by a displacement: a search, and the hops of the path that it
     // found. False where there was no path, so that another try is of no use.
     fn displace(&self, pass: &mut Pass<K, V>, hash: KeyHash, power: u32) -> Result<bool, Busy>
         requires own { IsPassOf self.now pass.old }

@@ -6,9 +6,9 @@ use Rattle.cuckoo_map.proofs.Refusing.{refused_among, refused_busy}
 use Rattle.cuckoo_map.proofs.Calls.{by_result}
 use Rattle.cuckoo_map.proofs.Counted.{loosely}
 use Rattle.cuckoo_map.proofs.Displacing.{any_among}
-use Rattle.cuckoo_map.proofs.Trying.{HasTried, tried_same, tried_on, tried_full, still_caller, found_since_full, room_after, refused_after}
+use Rattle.cuckoo_map.proofs.Trying.{HasTried, tried_same, tried_on, tried_again, still_caller, found_since_full, room_after, refused_after}
 use Rattle.cuckoo_map.proofs.table.Table.make_room.Given.{Over}
-use Rattle.cuckoo_map.proofs.table.Table.make_room.Goals.{else-tries-test, then-tries-test+in_ok-displace+then-not-branch}
+use Rattle.cuckoo_map.proofs.table.Table.make_room.Goals.{else-tries-test, then-tries-test+in_ok-displace_or_prepare+then-not-branch, then-tries-test+in_ok-displace_or_prepare+else-not-branch+in_ok-spot+in-Err+else-round-rounds}
 use Rattle.cuckoo_map.proofs.table.Table.make_room.Goals as goal
 
 pub tries-init : goal.tries-init
@@ -19,48 +19,48 @@ tries-init g c = record {
 }
 
 -- the search or a hop found a stripe held
-pub returns-in_err-displace-clause-found : goal.returns-in_err-displace-clause-found
-returns-in_err-displace-clause-found g c = λ p full own.
-    found_since_full (g.K.TableKey.name c.args.key.now) c.args.self.now g.K.TableKey.hash p c.args.pass.now c.tries.pass c.displace.new.pass full own c.tries.invariant.tried [] (loosely c.displace.ensures.back.stays) c.displace.ensures.back.found
+pub returns-in_err-displace_or_prepare-clause-found : goal.returns-in_err-displace_or_prepare-clause-found
+returns-in_err-displace_or_prepare-clause-found g c = λ p full own.
+    found_since_full (g.K.TableKey.name c.args.key.now) c.args.self.now g.K.TableKey.hash p c.args.pass.now c.tries.pass c.displace_or_prepare.new.pass full own c.tries.invariant.tried [] (loosely c.displace_or_prepare.ensures.back.stays) c.displace_or_prepare.ensures.back.found
 
-pub returns-in_err-displace-clause-refused : goal.returns-in_err-displace-clause-refused
-returns-in_err-displace-clause-refused g c =
+pub returns-in_err-displace_or_prepare-clause-refused : goal.returns-in_err-displace_or_prepare-clause-refused
+returns-in_err-displace_or_prepare-clause-refused g c =
     let q = g.K.TableKey.name c.args.key.now in
     let set = c.args.self.now.settings in
-    let t = c.in_err-displace.field-0.0.0 in
+    let t = c.in_err-displace_or_prepare.field-0.0.0 in
     let e = err_from_is_err_and c.from_residual.result c.from_residual.ensures.1 in
-    let busy = refused_among (λ (u : ℕ). u < 2 ^ set.s) g.K.TableKey.hash set (λ u l. l) q t c.tries.pass c.displace.new.pass c.in_err-displace.ensures.busy in
-    rw (e.1, e.2) (λ p full own. refused_after q c.args.self.now g.K.TableKey.hash p c.args.pass.now c.tries.pass c.displace.new.pass full own c.tries.invariant.tried (Busy t) busy)
+    let busy = refused_among (λ (u : ℕ). u < 2 ^ set.s) g.K.TableKey.hash set (λ u l. l) q t c.tries.pass c.displace_or_prepare.new.pass c.in_err-displace_or_prepare.ensures.busy in
+    rw (e.1, e.2) (λ p full own. refused_after q c.args.self.now g.K.TableKey.hash p c.args.pass.now c.tries.pass c.displace_or_prepare.new.pass full own c.tries.invariant.tried (Busy t) busy)
 
 -- a stripe of the key was found held
 pub returns-in_err-spot-clause-found : goal.returns-in_err-spot-clause-found
 returns-in_err-spot-clause-found g c = λ p full own.
     let q = g.K.TableKey.name c.args.key.now in
-    let tried = tried_on q c.args.self.now c.args.pass.now c.tries.pass c.displace.new.pass c.tries.invariant.tried c.displace.ensures.back in
-    found_since_full q c.args.self.now g.K.TableKey.hash p c.args.pass.now c.displace.new.pass c.lock_key.new.pass full own tried [] (loosely c.in_err-spot.ensures.busy.stays) (any_among _ c.displace.new.pass c.lock_key.new.pass c.lock_key.ensures.found)
+    let tried = tried_on q c.args.self.now c.args.pass.now c.tries.pass c.displace_or_prepare.new.pass c.tries.invariant.tried c.displace_or_prepare.ensures.back in
+    found_since_full q c.args.self.now g.K.TableKey.hash p c.args.pass.now c.displace_or_prepare.new.pass c.lock_key.new.pass full own tried [] (loosely c.in_err-spot.ensures.busy.stays) (any_among _ c.displace_or_prepare.new.pass c.lock_key.new.pass c.lock_key.ensures.found)
 
 pub returns-in_err-spot-clause-refused : goal.returns-in_err-spot-clause-refused
 returns-in_err-spot-clause-refused g c =
     let q = g.K.TableKey.name c.args.key.now in
     let t = c.in_err-spot.field-0.0.0 in
     let e = err_from_is_err_and c.from_residual-in_err-spot.result c.from_residual-in_err-spot.ensures.1 in
-    let tried = tried_on q c.args.self.now c.args.pass.now c.tries.pass c.displace.new.pass c.tries.invariant.tried c.displace.ensures.back in
-    let busy = refused_busy g.K.TableKey.hash c.args.self.now.settings q t c.displace.new.pass c.lock_key.new.pass c.in_err-spot.ensures.busy in
-    rw (e.1, e.2) (λ p full own. refused_after q c.args.self.now g.K.TableKey.hash p c.args.pass.now c.displace.new.pass c.lock_key.new.pass full own tried (Busy t) busy)
+    let tried = tried_on q c.args.self.now c.args.pass.now c.tries.pass c.displace_or_prepare.new.pass c.tries.invariant.tried c.displace_or_prepare.ensures.back in
+    let busy = refused_busy g.K.TableKey.hash c.args.self.now.settings q t c.displace_or_prepare.new.pass c.lock_key.new.pass c.in_err-spot.ensures.busy in
+    rw (e.1, e.2) (λ p full own. refused_after q c.args.self.now g.K.TableKey.hash p c.args.pass.now c.displace_or_prepare.new.pass c.lock_key.new.pass full own tried (Busy t) busy)
 
 -- the key has an entry
 pub returns-in-Ok-clause-room : goal.returns-in-Ok-clause-room
 returns-in-Ok-clause-room g c = λ p full own.
     let q = g.K.TableKey.name c.args.key.now in
     let r = c.of-since.result.value in
-    let tried = subst (HasTried q c.args.self.now c.args.pass.now) (sym c.of-since.ensures) (tried_on q c.args.self.now c.args.pass.now c.tries.pass c.displace.new.pass c.tries.invariant.tried c.displace.ensures.back) in
+    let tried = subst (HasTried q c.args.self.now c.args.pass.now) (sym c.of-since.ensures) (tried_on q c.args.self.now c.args.pass.now c.tries.pass c.displace_or_prepare.new.pass c.tries.invariant.tried c.displace_or_prepare.ensures.back) in
     room_after q c.args.self.now g.K.TableKey.hash p c.args.pass.now r c.find_room.new.pass full own tried c.in-Ok.ensures.room
 
 pub returns-in-Ok-clause-found : goal.returns-in-Ok-clause-found
 returns-in-Ok-clause-found g c = λ p full own.
     let q = g.K.TableKey.name c.args.key.now in
     let r = c.of-since.result.value in
-    let tried = subst (HasTried q c.args.self.now c.args.pass.now) (sym c.of-since.ensures) (tried_on q c.args.self.now c.args.pass.now c.tries.pass c.displace.new.pass c.tries.invariant.tried c.displace.ensures.back) in
+    let tried = subst (HasTried q c.args.self.now c.args.pass.now) (sym c.of-since.ensures) (tried_on q c.args.self.now c.args.pass.now c.tries.pass c.displace_or_prepare.new.pass c.tries.invariant.tried c.displace_or_prepare.ensures.back) in
     let room = c.in-Ok.ensures.room in
     found_since_full q c.args.self.now g.K.TableKey.hash p c.args.pass.now r c.find_room.new.pass full own tried room.more (loosely room.stays) (any_among _ r c.find_room.new.pass c.find_room.ensures.found)
 
@@ -72,8 +72,7 @@ tries-preserved g c =
     let p = c.args.pass.now in
     let r = c.of-since.result.value in
     let z = c.find_room.new.pass in
-    let back = subst (HasTried q w p) (sym c.of-since.ensures) (tried_on q w p c.tries.pass c.displace.new.pass c.tries.invariant.tried c.displace.ensures.back) in
-    let tried = tried_full q w p r z back c.find_room.ensures.own c.in-Err.ensures.idle c.in-Err.ensures.full (any_among _ r z c.find_room.ensures.found) in
+    let tried = tried_again q w p c.tries.pass c.displace_or_prepare.new.pass r z c.tries.invariant.tried c.displace_or_prepare.ensures.back c.of-since.ensures c.find_room.ensures.own c.in-Err.ensures.idle c.in-Err.ensures.full (any_among _ r z c.find_room.ensures.found) in
     record { caller = still_caller q w p z c.requires.caller tried; tried = tried; power = c.in-Err.ensures.power }
 
 -- all tries were made, and all stripes were taken
@@ -85,7 +84,11 @@ over g c =
     let Tried : PassState g.row.V.Denot → Type 0 = HasTried q w p in
     elim c.tries-test.branch [
       | else-tries-test x ↦ subst Tried (sym x.pass-is) c.tries.invariant.tried
-      | then-tries-test+in_ok-displace+then-not-branch x ↦ subst Tried (sym x.pass-is) (tried_on q w p c.tries.pass x.displace.new.pass c.tries.invariant.tried x.displace.ensures.back)
+      | then-tries-test+in_ok-displace_or_prepare+then-not-branch x ↦ subst Tried (sym x.pass-is) (tried_on q w p c.tries.pass x.displace_or_prepare.new.pass c.tries.invariant.tried x.displace_or_prepare.ensures.back)
+      | then-tries-test+in_ok-displace_or_prepare+else-not-branch+in_ok-spot+in-Err+else-round-rounds x ↦
+          subst Tried (sym x.pass-is)
+          (tried_again q w p c.tries.pass x.displace_or_prepare.new.pass x.of-since.result.value x.find_room.new.pass c.tries.invariant.tried x.displace_or_prepare.ensures.back x.of-since.ensures x.find_room.ensures.own x.in-Err.ensures.idle x.in-Err.ensures.full
+          (any_among _ x.of-since.result.value x.find_room.new.pass x.find_room.ensures.found))
     ]
 
 pub returns-clause-room : goal.returns-clause-room

@@ -7,5 +7,5 @@ abbrev pub invariant-tries : goal.invariant-tries
 invariant-tries g l = record {
   caller : IsCaller l.self l.pass;
   tried : HasTried (g.K.TableKey.name l.key) l.self l.initial.pass l.pass;
-  power : l.power ≤ 26;
+  power : (l.self.settings.s ≤ l.power) × (l.power ≤ 26);
 }

@@ -1,0 +1,90 @@
+//! The preparation of a doubling: one caller at a time requests its blocks, before it takes all
+//! stripes. The others wait until that one is done, and look again.
+//!
+//! What is missing is requested under the stripes, so no proof rests on who prepares.
+ghost use Rattle.std.specs.Prelude.{◌≤◌};
+
+use crate::table::Table;
+use ck_key::TableKey;
+use ck_model::settings::Settings;
+use ck_stripe::Spares;
+use std::sync::atomic::{AtomicBool, Ordering};
+
+// A lock for the caller that prepares a doubling.
+#[derive(Drop)]
+pub(crate) struct GrowthLock {
+    held: AtomicBool,
+}
+
+// What one insertion has prepared. It has to be ended, so that the lock is given back.
+pub(crate) struct Preparation<K: TableKey, V> {
+    pub(crate) spares: Option<Spares<K, V>>,
+    has_lock: bool,
+}
+
+impl GrowthLock {
+    pub(crate) fn new() -> Self {
+        GrowthLock {
+            held: AtomicBool::new(false),
+        }
+    }
+
+    fn try_lock(&self) -> bool {
+        !self.held.swap(true, Ordering::AcqRel)
+    }
+
+    fn unlock(&self) {
+        self.held.store(false, Ordering::Release);
+    }
+
+    // Waits until nobody has it, in at most so many tries, and says whether that is so.
+    fn wait<K: TableKey>(&self, turns: u32) -> bool {
+        for tries in 1..turns {
+            if !self.held.load(Ordering::Acquire) {
+                return true;
+            }
+            K::pause(tries);
+        }
+        false
+    }
+}
+
+impl<K: TableKey, V> Preparation<K, V> {
+    pub(crate) fn none() -> Self {
+        Preparation {
+            spares: None,
+            has_lock: false,
+        }
+    }
+}
+
+impl<K: TableKey + Drop, V: Drop> Table<K, V> {
+    // Prepares a doubling from 2^power buckets, if nobody else is about to, and says that all
+    // stripes are to be taken. Else it waits: false where the other caller is done by then, so that
+    // there may be room.
+    pub(crate) fn prepare(&self, preparation: &mut Preparation<K, V>, power: u32) -> bool
+        requires { self.now.settings.s ≤ power }
+    {
+        let Settings { s, max, turns, .. } = self.words.settings();
+        if power >= max {
+            return true;
+        }
+        if !self.growth.try_lock() {
+            return !self.growth.wait::<K>(turns);
+        }
+        preparation.has_lock = true;
+        preparation.spares = Spares::open(self.alloc, s, power).ok();
+        true
+    }
+
+    // Gives the lock back, once the stripes are, and frees what is left.
+    pub(crate) fn end_preparation(&self, preparation: Preparation<K, V>) {
+        let Preparation {
+            spares: _spares,
+            has_lock,
+        } = preparation;
+        if has_lock {
+            self.growth.unlock();
+        }
+    }
+}
