@@ -265,12 +265,17 @@ impl<K: TableKey + Drop, V: Drop> Table<K, V> {
             K.hash self.now.settings (K.name key) key value result since.value pass.new }
     {
         let mut preparation = Preparation::none();
-        let answer = match self.make_room(pass, &key, power, &mut preparation) {
-            Ok(made) => Ok(self.make_in(pass, made, key, value, insertion, since)),
-            Err(why) => Err(Refused { key, value, why }),
-        };
-        self.end_preparation(preparation);
-        answer
+        match self.make_room(pass, &key, power, &mut preparation) {
+            Ok(made) => {
+                let answer = self.make_in(pass, made, key, value, insertion, since);
+                self.end_preparation(preparation);
+                Ok(answer)
+            }
+            Err(why) => {
+                self.end_preparation(preparation);
+                Err(Refused { key, value, why })
+            }
+        }
     }
 
     // The same for a key that has this entry among the stripes that its pass holds, which go home.

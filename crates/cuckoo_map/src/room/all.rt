@@ -85,15 +85,8 @@ impl<K: TableKey + Drop, V: Drop> Table<K, V> {
         let hash = KeyHash::of(key);
         let stripes = self.words.all();
         let mut guard = guard!(&self.words, pass, stripes);
-        make_room(
-            &mut guard,
-            s,
-            key,
-            hash,
-            max,
-            min_load,
-            &mut preparation.spares,
-        )?;
+        let spares = &mut preparation.spares;
+        make_room(&mut guard, s, key, hash, max, min_load, spares)?;
         let place = settled_place(&mut guard, s, key, hash);
         let Some(entry) = find_entry(&mut guard, place, key) else {
             unreachable!()

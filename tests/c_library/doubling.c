@@ -1,0 +1,275 @@
+/* A doubling whose memory is refused, or is requested while other handles insert: what each call
+ * answers, how many requests it makes, and what stays. Between two requests the program's own
+ * malloc, which the linker puts in by --wrap=malloc, can refuse and can make other calls. */
+#include <cuckoo_map.h>
+#include <pthread.h>
+#include <semaphore.h>
+#include <stdint.h>
+#include <stdio.h>
+#include <stdlib.h>
+#include <time.h>
+
+/* The table has so many stripes, and opens with so many slots. */
+enum { STRIPES = 4, SLOTS = 32, HANDLES = 3, FOR_EVER = 1 << 30 };
+
+/* A doubling requests a list, and a block for each stripe. */
+enum { REQUESTS = 1 + STRIPES };
+
+/* What this thread's requests meet: they are counted, those from one on up to another are refused,
+ * and something is done before one of them. */
+typedef struct watch {
+    int counts;
+    int requests;
+    int from;
+    int until;
+    int before;
+    void (*action)(void);
+} watch;
+
+static _Thread_local watch watched;
+static int failed;
+
+void *__real_malloc(size_t size);
+void *__wrap_malloc(size_t size);
+
+void *__wrap_malloc(size_t size) {
+    int request;
+    if (!watched.counts) return __real_malloc(size);
+    request = watched.requests++;
+    if (watched.action != NULL && request == watched.before) {
+        watch mine = watched;
+        watched = (watch){0};
+        mine.action();
+        watched = mine;
+    }
+    return watched.from <= request && request < watched.until ? NULL : __real_malloc(size);
+}
+
+static void check(const char *what, int holds) {
+    if (holds) return;
+    fprintf(stderr, "doubling: wrong: %s\n", what);
+    failed = 1;
+}
+
+/* A table of handles, with as many keys as it takes until others have no room. */
+static cuckoo_handle handles[HANDLES];
+static uint64_t count;
+
+/* Two keys that have no room then. */
+static uint64_t first;
+static uint64_t second;
+
+static cuckoo_settings settings_of(uint32_t max, uint32_t turns) {
+    return (cuckoo_settings){.s = 2, .power = 3, .max = max, .callers = HANDLES, .turns = turns,
+                             .rounds = 4, .min_load = 5};
+}
+
+static void open_all(uint32_t max, uint32_t turns) {
+    cuckoo_settings settings = settings_of(max, turns);
+    for (int i = 0; i < HANDLES; i++) handles[i] = (cuckoo_handle)CUCKOO_CLOSED_HANDLE;
+    check("a table is opened", cuckoo_open_with(&settings, handles, HANDLES) == CUCKOO_OK);
+}
+
+static void close_all(void) {
+    for (int i = 0; i < HANDLES; i++) cuckoo_close(&handles[i]);
+}
+
+static void fill(void) {
+    for (uint64_t key = 0; key < count; key++)
+        check("a key has room", cuckoo_insert(&handles[0], key, key + 1) == CUCKOO_OK);
+}
+
+static void begin(uint32_t turns) {
+    open_all(5, turns);
+    fill();
+}
+
+static uint64_t capacity(void) {
+    uint64_t slots = 0;
+    check("the slots are told", cuckoo_capacity(&handles[2], &slots) == CUCKOO_OK);
+    return slots;
+}
+
+static int is_bound(uint64_t key) {
+    uint64_t value = 0;
+    int32_t code = cuckoo_find(&handles[2], key, &value);
+    check("a key is found, with its value", code == CUCKOO_ABSENT || value == key + 1);
+    return code == CUCKOO_OK;
+}
+
+/* The keys that were there are there, and of the two others those that are said. */
+static void check_table(int has_first, int has_second, uint64_t slots) {
+    uint64_t len = 0;
+    for (uint64_t key = 0; key < count; key++) check("a key is still bound", is_bound(key));
+    check("the first key", is_bound(first) == has_first);
+    check("the second key", is_bound(second) == has_second);
+    check("no other key is bound", cuckoo_len(&handles[2], &len) == CUCKOO_OK &&
+                                       len == count + has_first + has_second);
+    check("the table has so many slots", capacity() == slots);
+}
+
+/* Whether the key has no room in the table as it is filled. */
+static int has_no_room(uint64_t key) {
+    int32_t code;
+    open_all(3, 64);
+    fill();
+    code = cuckoo_insert(&handles[0], key, key + 1);
+    close_all();
+    return code == CUCKOO_FULL;
+}
+
+static void choose_keys(void) {
+    open_all(3, 64);
+    while (count < SLOTS && cuckoo_insert(&handles[0], count, count + 1) == CUCKOO_OK) count++;
+    close_all();
+    check("a table is full at last", count > SLOTS / 2 && count <= SLOTS);
+    for (first = 1000; !has_no_room(first) && first < 2000; first++) continue;
+    for (second = first + 1; !has_no_room(second) && second < 2000; second++) continue;
+    check("two keys have no room", second < 2000);
+}
+
+/* Inserts a key by a handle while its requests from one on up to another are refused. */
+static int32_t insert_refused(int handle, uint64_t key, int from, int until) {
+    int32_t code;
+    watched = (watch){.counts = 1, .from = from, .until = until};
+    code = cuckoo_insert(&handles[handle], key, key + 1);
+    watched.counts = 0;
+    return code;
+}
+
+/* The same, with an action before a request, of which none is refused. */
+static int32_t insert_amid(int handle, uint64_t key, int before, void (*action)(void)) {
+    int32_t code;
+    watched = (watch){.counts = 1, .before = before, .action = action};
+    code = cuckoo_insert(&handles[handle], key, key + 1);
+    watched.counts = 0;
+    return code;
+}
+
+static void find_amid(void) {
+    for (uint64_t key = 0; key < count; key++) check("no stripe is held", is_bound(key));
+}
+
+/* No stripe is held while one caller requests. */
+static void try_prepared(void) {
+    for (int before = 0; before < REQUESTS; before++) {
+        begin(1);
+        check("the key is inserted", insert_amid(0, first, before, find_amid) == CUCKOO_OK);
+        check("a request a stripe, and one", watched.requests == REQUESTS);
+        check_table(1, 0, 2 * SLOTS);
+        close_all();
+    }
+}
+
+/* Each request is refused, once or from then on. */
+static void try_each_refused(void) {
+    for (int request = 0; request < REQUESTS; request++) {
+        begin(1000);
+        check("there is no memory",
+              insert_refused(0, first, request, FOR_EVER) == CUCKOO_NO_MEMORY);
+        check_table(0, 0, SLOTS);
+        check("later there is", insert_refused(1, first, 0, 0) == CUCKOO_OK);
+        check("which is requested before the stripes are held", watched.requests == REQUESTS);
+        check_table(1, 0, 2 * SLOTS);
+        close_all();
+
+        begin(1000);
+        check("what was refused is requested again",
+              insert_refused(0, first, request, request + 1) == CUCKOO_OK);
+        check("for each stripe", watched.requests == request + 1 + STRIPES);
+        check_table(1, 0, 2 * SLOTS);
+        close_all();
+    }
+}
+
+static int32_t code_amid;
+
+static void insert_second_amid(void) { code_amid = insert_refused(1, second, 0, 0); }
+
+static void refuse_second_amid(void) { code_amid = insert_refused(1, second, 0, FOR_EVER); }
+
+/* While one caller requests, another doesn't wait for it, since its tries are over: it doubles the
+ * table itself, or is refused. */
+static void try_taken(void) {
+    for (int before = 0; before < REQUESTS; before++) {
+        begin(1);
+        check("the first key is inserted",
+              insert_amid(0, first, before, insert_second_amid) == CUCKOO_OK);
+        check("the second too", code_amid == CUCKOO_OK);
+        check_table(1, 1, 2 * SLOTS);
+        close_all();
+
+        begin(1);
+        check("the first key is inserted",
+              insert_amid(0, first, before, refuse_second_amid) == CUCKOO_OK);
+        check("the second is refused", code_amid == CUCKOO_NO_MEMORY);
+        check_table(1, 0, 2 * SLOTS);
+        close_all();
+    }
+}
+
+/* A thread that inserts the second key while the first one's memory is requested. */
+static sem_t may_begin;
+static int refused_amid;
+static int requests_amid;
+
+static void *insert_second(void *unused) {
+    (void)unused;
+    sem_wait(&may_begin);
+    code_amid = insert_refused(1, second, 0, refused_amid ? FOR_EVER : 0);
+    requests_amid = watched.requests;
+    return NULL;
+}
+
+static void let_it_wait(void) {
+    sem_post(&may_begin);
+    nanosleep(&(struct timespec){.tv_nsec = 20000000}, NULL);
+}
+
+static int32_t insert_beside(int first_is_refused, int second_is_refused) {
+    pthread_t other;
+    int32_t code;
+    begin(UINT32_MAX);
+    refused_amid = second_is_refused;
+    check("a semaphore", sem_init(&may_begin, 0, 0) == 0);
+    check("a thread begins", pthread_create(&other, NULL, insert_second, NULL) == 0);
+    watched = (watch){.counts = 1, .from = 1, .until = first_is_refused ? FOR_EVER : 0,
+                      .before = 1, .action = let_it_wait};
+    code = cuckoo_insert(&handles[0], first, first + 1);
+    watched.counts = 0;
+    pthread_join(other, NULL);
+    sem_destroy(&may_begin);
+    return code;
+}
+
+/* Another caller waits for the one that requests, and looks again. */
+static void try_waiting(void) {
+    check("the first key is inserted", insert_beside(0, 0) == CUCKOO_OK);
+    check("the second too", code_amid == CUCKOO_OK);
+    check("without a request", requests_amid == 0);
+    check_table(1, 1, 2 * SLOTS);
+    close_all();
+
+    check("the first key is refused", insert_beside(1, 0) == CUCKOO_NO_MEMORY);
+    check("the second is inserted", code_amid == CUCKOO_OK);
+    check("which makes the requests", requests_amid == REQUESTS);
+    check_table(0, 1, 2 * SLOTS);
+    close_all();
+
+    check("the first key is refused", insert_beside(1, 1) == CUCKOO_NO_MEMORY);
+    check("the second too", code_amid == CUCKOO_NO_MEMORY);
+    check_table(0, 0, SLOTS);
+    check("later it is inserted", insert_refused(0, second, 0, 0) == CUCKOO_OK);
+    check_table(0, 1, 2 * SLOTS);
+    close_all();
+}
+
+int main(void) {
+    choose_keys();
+    try_prepared();
+    try_each_refused();
+    try_taken();
+    try_waiting();
+    puts(failed ? "failed" : "passed");
+    return failed;
+}
