@@ -168,12 +168,24 @@ impl<K: TableKey, V> Rows<K, V> {
             ≡ slot_at (row_at self.now row) slot }
         ensures four { length (row_at self.now row) ≡ 4 }
     {
-        let head = self.heads.get(row);
-        if head.taken[slot] {
-            Some(self.pairs.get(row * 4 + slot))
+        if self.is_taken(row, slot) {
+            Some(self.pair(row, slot))
         } else {
             None
         }
+    }
+
+    /// The key and value in a slot of the row that is not free.
+    #[inline(always)]
+    pub fn pair(&self, row: usize, slot: usize) -> &(K, V)
+        requires row { row < length self.now }
+        requires below { slot < 4 }
+        requires full { IsSome (slot_at (row_at self.now row) slot) }
+        ensures value { slot_at (row_at self.now row) slot
+            ≡ Some (K.name result.now.0, result.now.1) }
+        ensures four { length (row_at self.now row) ≡ 4 }
+    {
+        self.pairs.get(row * 4 + slot)
     }
 
     /// Puts a key and its value into a free slot of the row. `partial` is that of the key.

@@ -94,10 +94,7 @@ fn value_in<'s, K: TableKey + Drop, V: Drop, Q: Query<K>>(
     ensures absent { IfNone result (LacksName (bucket_of stripe.now b) (Q.name key)) }
 {
     let slot = stripe.look(b, key, partial)?;
-    match stripe.get(b, slot) {
-        Some((_, value)) => Some(value),
-        None => unreachable!(),
-    }
+    Some(&stripe.pair(b, slot).1)
 }
 
 // The alternate bucket of the hash, whose partial this is, among 2^power.

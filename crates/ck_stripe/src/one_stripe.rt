@@ -347,8 +347,5 @@ fn read_in<K: TableKey + Drop, V: Drop, R, F: FnOnce(&V) -> R>(
     requires call { F.IsAlwaysCallable f }
     ensures { ReadsSlot F.FnOnce f (slot_at (bucket_of stripe.now b) slot) result }
 {
-    match stripe.get(b, slot) {
-        Some((_, value)) => f(value),
-        None => unreachable!(),
-    }
+    f(&stripe.pair(b, slot).1)
 }

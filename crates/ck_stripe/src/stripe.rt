@@ -143,6 +143,21 @@ impl<K: TableKey + Drop, V: Drop> Stripe<K, V> {
         self.rows.get(row, slot)
     }
 
+    /// The key and value in a slot of bucket `b` that is not free.
+    #[inline(always)]
+    pub fn pair(&self, b: u64, slot: usize) -> &(K, V)
+        requires settled { self.now.settled ≡ true }
+        requires own { HasBucket self.now b }
+        requires below { slot < 4 }
+        requires full { IsSome (slot_at (bucket_of self.now b) slot) }
+        ensures value { slot_at (bucket_of self.now b) slot
+            ≡ Some (K.name result.now.0, result.now.1) }
+        ensures formed { IsWellFormed self.now }
+    {
+        let row = self.row(b);
+        self.rows.pair(row, slot)
+    }
+
     /// Puts a key and its value into a free slot of bucket `b`. `partial` is that of the key.
     pub fn place(&mut self, b: u64, slot: usize, partial: u8, key: K, value: V)
         requires settled { self.old.settled ≡ true }
