@@ -20,9 +20,9 @@ use std::snapshot::Snapshot;
 
 impl<K: TableKey + Drop, V: Drop> Table<K, V> {
     // Makes room for an unbound key whose buckets were found full, in a table of 2^power buckets,
-    // and takes its stripes. It displaces entries in at most `rounds` tries, the last of which is
-    // one that finds no path. Then it prepares a doubling and takes all stripes, or looks again
-    // where another caller has prepared one.
+    // and takes its stripes. It displaces entries in at most `rounds` tries. Where a search finds
+    // no path it prepares a doubling and takes all stripes, or looks again where another caller has
+    // prepared one. After the last try it takes all stripes too.
     #[cold]
     #[inline(never)]
     pub(crate) fn make_room(
@@ -62,14 +62,15 @@ impl<K: TableKey + Drop, V: Drop> Table<K, V> {
         self.make_room_in_all(pass, key, preparation)
     }
 
-    // One try to make room in a bucket of the hash: a displacement, where there are tries left for
-    // one, or else the doubling that is due. False where the caller is to take all stripes for it.
+    // One try to make room in a bucket of the hash: a search, and the hops of the path that it
+    // found, unless it has to leave them to who takes all stripes. Where there was no path, another
+    // try is of no use, and a doubling is due. False where the caller is to take all stripes.
     fn displace_or_prepare(
         &self,
         pass: &mut Pass<K, V>,
         hash: KeyHash,
         power: u32,
-        displaces: bool,
+        may_displace: bool,
         preparation: &mut Preparation<K, V>,
     ) -> Result<bool, Busy>
         requires own { IsPassOf self.now pass.old }
@@ -77,24 +78,11 @@ impl<K: TableKey + Drop, V: Drop> Table<K, V> {
         requires power { (self.now.settings.s ≤ power) × (power ≤ 26) }
         ensures { EndsBack self.now result pass.old pass.new }
     {
-        if displaces && self.displace(pass, hash, power)? {
-            return Ok(true);
-        }
-        Ok(!self.prepare(preparation, power))
-    }
-
-    // One try to make room in a bucket of the hash by a displacement: a search, and the hops of the path that it
-    // found. False where there was no path, so that another try is of no use.
-    fn displace(&self, pass: &mut Pass<K, V>, hash: KeyHash, power: u32) -> Result<bool, Busy>
-        requires own { IsPassOf self.now pass.old }
-        requires idle { IsIdle pass.old }
-        requires power { power ≤ 26 }
-        ensures { EndsBack self.now result pass.old pass.new }
-    {
         match self.search_path(pass, hash, power)? {
-            Searched::Path(path) => self.follow(pass, &path)?,
+            Searched::Path(path) if may_displace => self.follow(pass, &path)?,
+            Searched::Path(_) => return Ok(false),
             Searched::OutOfDate => {}
-            Searched::Nothing => return Ok(false),
+            Searched::Nothing => return Ok(!self.prepare(preparation, power)),
         }
         Ok(true)
     }

@@ -1,20 +1,16 @@
-use Rattle.std.proofs.Common.{◌≡◌, sym, subst}
-use Rattle.ck_words.specs.Passes.{PassState}
-use Rattle.cuckoo_map.specs.Displacing.{IsBack}
-use Rattle.cuckoo_map.proofs.Displacing.{back_same}
-use Rattle.cuckoo_map.proofs.table.Table.displace_or_prepare.Goals.{else-displaces-via-then-displaces+in_ok-displace+else-branch, else-displaces-via-else-displaces}
+use Rattle.std.proofs.lemmas.Result.{err_from_is_err_and}
+use Rattle.cuckoo_map.proofs.Displacing.{back_on, busy_on}
 use Rattle.cuckoo_map.proofs.table.Table.displace_or_prepare.Goals as goal
 
--- no path was found, or none was looked for
-pub returns : goal.returns
-returns g c =
-    let w = c.args.self.now in
-    let p = c.args.pass.now in
-    let Back : PassState g.row.V.Denot → Type 0 = IsBack w p in
-    record {
-      back = elim c.else-displaces.branch [
-        | else-displaces-via-then-displaces+in_ok-displace+else-branch x ↦ subst Back (sym x.pass-is) x.displace.ensures.back
-        | else-displaces-via-else-displaces x ↦ subst Back (sym x.pass-is) (back_same w p c.requires.own c.requires.idle)
-      ];
-      busy = tt;
-    }
+pub returns-in_err-follow-in-Path : goal.returns-in_err-follow-in-Path
+returns-in_err-follow-in-Path g c = record {
+  back = back_on c.args.self.now c.args.pass.now c.search_path.new.pass c.follow.new.pass c.search_path.ensures.back c.follow.ensures.back;
+  busy = (let e = err_from_is_err_and c.from_residual-in_err-follow-in-Path.result c.from_residual-in_err-follow-in-Path.ensures.1 in
+      rw (e.1, e.2) (busy_on c.args.self.now _ c.args.pass.now c.search_path.new.pass c.follow.new.pass c.search_path.ensures.back c.in_err-follow-in-Path.ensures.busy));
+}
+
+pub returns-in_ok-follow-in-Path : goal.returns-in_ok-follow-in-Path
+returns-in_ok-follow-in-Path g c = record {
+  back = back_on c.args.self.now c.args.pass.now c.search_path.new.pass c.follow.new.pass c.search_path.ensures.back c.follow.ensures.back;
+  busy = tt;
+}
