@@ -3,6 +3,8 @@
 //   calls    millions of calls a second: the median of the slices, the lowest and the highest tenth
 //   ratio    the time by that of libcuckoo, or of the first peer, in the same turn
 //   latency  nanoseconds of an insertion while the table grows; the workload says which
+//   pause    milliseconds of the longest find, and insertion, while so many threads insert over a
+//            doubling and one more finds
 //   memory   bytes an entry while the table grows; the workload is the number of entries
 #include "peers.h"
 #include "proved.h"
@@ -25,7 +27,7 @@ static void put(const char *measure, const std::string &table, const std::string
 
 static double at(std::vector<double> values, double part) {
   std::sort(values.begin(), values.end());
-  return values[size_t(part * (values.size() - 1))];
+  return values[size_t(part * (values.size() - 1) + 0.5)];
 }
 
 static void put_all(const char *measure, const std::string &table, const std::string &workload,
@@ -97,7 +99,7 @@ static void measure_calls(const Plan &plan, const char *kind) {
 
 static void measure_growth(const Plan &plan, const std::vector<Contestant> &all) {
   std::map<std::string, std::vector<double>> found;
-  size_t rounds = std::max<size_t>(3, plan.rounds / 10);
+  size_t rounds = std::max<size_t>(5, plan.rounds / 12);
   for (size_t round = 0; round < rounds; round++)
     for (const Contestant &one : all) {
       malloc_trim(0);
@@ -117,7 +119,7 @@ static void measure_growth(const Plan &plan, const std::vector<Contestant> &all)
 // The insertions of keys by several threads into the smallest table.
 static void measure_growing(const Plan &plan, const std::vector<Contestant> &all,
                             unsigned threads) {
-  size_t rounds = std::max<size_t>(3, plan.rounds / 20), count = all.size();
+  size_t rounds = std::max<size_t>(5, plan.rounds / 12), count = all.size();
   std::vector<std::vector<double>> rates(count), ratios(count);
   for (size_t round = 0; round < rounds; round++) {
     std::vector<double> times(count);
@@ -134,6 +136,29 @@ static void measure_growing(const Plan &plan, const std::vector<Contestant> &all
   for (size_t i = 0; i < count; i++) {
     put_all("calls", all[i].name, "growing", threads, rates[i]);
     if (count > 1) put_all("ratio", all[i].name, "growing", threads, ratios[i]);
+  }
+}
+
+// The insertions of a fifth of the keys, of which one doubles the table, beside finds.
+static void measure_pauses(const Plan &plan, const std::vector<Contestant> &all,
+                           unsigned threads) {
+  size_t rounds = std::max<size_t>(5, plan.rounds / 12), count = all.size();
+  size_t from = plan.grown * 2 / 5, to = plan.grown * 3 / 5;
+  std::vector<std::vector<double>> finds(count), insertions(count);
+  for (size_t round = 0; round < rounds; round++)
+    for (size_t turn = 0; turn < count; turn++) {
+      size_t i = (turn + round) % count;
+      malloc_trim(0);
+      auto table = all[i].open(0, threads + 1);
+      table->run(0, from, 1);
+      Pauses pauses = table->pause(from, to, threads);
+      if (pauses.sum != to - from) differ(all[i].name, "pause");
+      finds[i].push_back(pauses.find / 1e6);
+      insertions[i].push_back(pauses.insertion / 1e6);
+    }
+  for (size_t i = 0; i < count; i++) {
+    put_all("pause", all[i].name, "find", threads, finds[i]);
+    put_all("pause", all[i].name, "insertion", threads, insertions[i]);
   }
 }
 
@@ -171,6 +196,7 @@ int main(int count, char **words) {
   std::vector<Contestant> all = contestants<uint64_t>(growth);
   for (const Contestant &one : all) measure_memory(plan, one);
   measure_growth(plan, all);
+  for (unsigned threads : {1, 2, 4}) measure_pauses(plan, all, threads);
   measure_calls(plan, "numbers");
   for (unsigned threads : {1, 2, 4}) measure_growing(plan, all, threads);
   measure_calls(plan, "texts");

@@ -1,6 +1,7 @@
 // What is measured of a table, and how a C++ table does it.
 #pragma once
 #include "trace.h"
+#include <atomic>
 #include <chrono>
 #include <functional>
 #include <memory>
@@ -18,6 +19,12 @@ struct Latencies {
   double mean, half, p99, p999, longest;
 };
 
+// Nanoseconds of the longest call.
+struct Pauses {
+  uint64_t sum;
+  double find, insertion;
+};
+
 class Table {
 public:
   virtual ~Table() = default;
@@ -25,6 +32,8 @@ public:
   virtual Timed run(size_t from, size_t to, unsigned threads) = 0;
   // Makes them by one thread, and times each.
   virtual Latencies time_each(size_t from, size_t to) = 0;
+  // Makes them by so many threads, while one thread more finds the keys of the first calls.
+  virtual Pauses pause(size_t from, size_t to, unsigned threads) = 0;
   // The memory that the table's process has.
   virtual long resident() const = 0;
 };
@@ -134,6 +143,37 @@ public:
       return times[std::min(times.size() - 1, times.size() * calls / 1000)];
     };
     return {sum, all / times.size(), within(500), within(990), within(999), times.back()};
+  }
+
+  Pauses pause(size_t from, size_t to, unsigned threads) override {
+    std::atomic<bool> over{false};
+    double longest_find = 0;
+    std::thread finder([&] {
+      uint64_t value = 0;
+      size_t i = 0;
+      for (auto last = Clock::now(); !over; i = (i + 1) % std::min<size_t>(from, 1000)) {
+        map.find((*calls)[i].key, value);
+        auto now = Clock::now();
+        longest_find = std::max(longest_find, nanos(now - last));
+        last = now;
+      }
+    });
+    std::vector<Latencies> found(threads);
+    size_t size = (to - from + threads - 1) / threads;
+    std::vector<std::thread> inserters;
+    for (unsigned i = 0; i < threads; i++)
+      inserters.emplace_back([&, i] {
+        found[i] = time_each(std::min(to, from + i * size), std::min(to, from + (i + 1) * size));
+      });
+    for (auto &inserter : inserters) inserter.join();
+    over = true;
+    finder.join();
+    Pauses pauses{0, longest_find, 0};
+    for (const Latencies &one : found) {
+      pauses.sum += one.sum;
+      pauses.insertion = std::max(pauses.insertion, one.longest);
+    }
+    return pauses;
   }
 
   long resident() const override { return resident_of("self"); }
