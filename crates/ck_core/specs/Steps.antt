@@ -22,7 +22,7 @@ pub data Label (V : Type 0) : Type 0 where
   Take : (t : ℕ) → Label V
   -- a swap(1) that brings back 1, by a caller
   FindHeld : (t : ℕ) → Label V
-  -- a store(0) by which the content goes home unchanged; noroom may rise
+  -- a store(0) by which the content goes home unchanged; no_slot may rise
   Give : (t : ℕ) → Option (Name × Reason) → Label V
   -- a store(0) that decides a call, with the new contents of a section
   Decide : (t : ℕ) → Stripes V → Entry V → Label V
@@ -64,7 +64,7 @@ module _ {V : Type 0} where
 
   -- the view v after the stripe t with the content c, of the held stripes hs, went home
   abbrev pub giving : View V → ℕ → Content V → Stripes V → Option (Name × Reason) → View V
-  giving v t c hs g = record v { held = without t hs; told = max v.told c.power; noroom = gaining v.noroom g }
+  giving v t c hs g = record v { held = without t hs; told = max v.told c.power; no_slot = gaining v.no_slot g }
 
   -- the same after the held stripes, which were v.held, became ks: the caller has made as many doublings as their power rose by
   abbrev pub renewing : View V → ℕ → Content V → Stripes V → Option (Name × Reason) → View V
@@ -76,15 +76,15 @@ module _ {V : Type 0} where
 
   -- a caller at the opening
   abbrev pub newcomer : Settings → ℕ → ℕ → View V
-  newcomer set j p = record { settings = set; by = Some j; held = []; seen = []; mine = []; told = p; doublings = 0; found = []; noroom = []; heard = []; heard_told = 0; others = [] }
+  newcomer set j p = record { settings = set; by = Some j; held = []; seen = []; mine = []; told = p; doublings = 0; found = []; no_slot = []; heard = []; heard_told = 0; others = [] }
 
   -- what v has seen and was told
   abbrev pub message_of : View V → View V
-  message_of v = record { settings = v.settings; by = None; held = []; seen = v.seen; mine = []; told = v.told; doublings = 0; found = []; noroom = []; heard = []; heard_told = 0; others = [] }
+  message_of v = record { settings = v.settings; by = None; held = []; seen = v.seen; mine = []; told = v.told; doublings = 0; found = []; no_slot = []; heard = []; heard_told = 0; others = [] }
 
   -- what a join leaves of the other view
   abbrev pub spent : View V
-  spent = record { settings = no_settings; by = None; held = []; seen = []; mine = []; told = 0; doublings = 0; found = []; noroom = []; heard = []; heard_told = 0; others = [] }
+  spent = record { settings = no_settings; by = None; held = []; seen = []; mine = []; told = 0; doublings = 0; found = []; no_slot = []; heard = []; heard_told = 0; others = [] }
 
   -- the view v has heard what w had seen, and keeps its numbers
   abbrev pub joining : View V → View V → View V
@@ -96,7 +96,7 @@ module _ {V : Type 0} where
   abbrev pub joined : Configuration V → ℕ → View V → ℕ → Configuration V
   joined s id both other = record s { views = set (set s.views id both) other spent }
 
-  -- noroom may rise where the stripes give grounds
+  -- no_slot may rise where the stripes give grounds
   abbrev pub HasGrounds : Layout → ℕ → Stripes V → Option (Name × Reason) → Type 0
   HasGrounds k min_load hs None = Unit {0}
   HasGrounds k min_load hs (Some (q, why)) = Grounds k min_load hs q why

@@ -23,7 +23,7 @@ pub struct View<V> {
     /// The stripes that were found held, once for each time.
     pub found: LinkedList<u64>,
     /// The names that found no room and why, once for each time.
-    pub noroom: LinkedList<(Name, Reason)>,
+    pub no_slot: LinkedList<(Name, Reason)>,
     /// What another caller had seen when it was last met.
     pub heard: LinkedList<Entry<V>>,
     /// The power that the other caller had been told.

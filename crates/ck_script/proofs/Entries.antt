@@ -104,9 +104,9 @@ has_others hash set q LoadTooLow p p2 r = tt
 -- a refusal that is printed is what the caller said
 prints_why : (hash : Name → ℕ) (set : Settings) (q : Name) (why : Why) (c d : CallerState ℕ) → IsRefused hash set q why (pass_of c) (pass_of d) → PrintsWhy q (printed why) c d
 prints_why hash set q (Busy t) c d r = tt
-prints_why hash set q Memory c d r = (r.more, r.stays.noroom, r.shown.0)
-prints_why hash set q Full c d r = (r.more, r.stays.noroom, r.shown.0)
-prints_why hash set q LoadTooLow c d r = (r.more, r.stays.noroom, r.shown.0)
+prints_why hash set q Memory c d r = (r.more, r.stays.no_slot, r.shown.0)
+prints_why hash set q Full c d r = (r.more, r.stays.no_slot, r.shown.0)
+prints_why hash set q LoadTooLow c d r = (r.more, r.stays.no_slot, r.shown.0)
 
 -- what gives grounds is what all stripes contained at the end of what the pass has seen
 was_stuck : (hash : Name → ℕ) (set : Settings) (q : Name) (why : Reason) (p : PassState ℕ) → GivesGrounds hash set q why p → WasStuck hash set p.view.seen q why

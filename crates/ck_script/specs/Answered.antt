@@ -37,7 +37,7 @@ printed LoadTooLow = answer.Load
 
 -- from p to q the caller has said for this reason that the name found no room
 abbrev pub HasSaid : Name → Reason → CallerState ℕ → CallerState ℕ → Type 0
-HasSaid k why p q = (more : List (Name × Reason)) × (q.notes.noroom ≡ more ++ p.notes.noroom) × Contains more (k, why)
+HasSaid k why p q = (more : List (Name × Reason)) × (q.notes.no_slot ≡ more ++ p.notes.no_slot) × Contains more (k, why)
 
 -- where the answer prints a want of room, the caller has said so of the name, for this reason
 abbrev pub PrintsWhy : Name → Answer Pairs → CallerState ℕ → CallerState ℕ → Type 0

@@ -56,7 +56,7 @@ module _ {V : Type 0} where
           others = refl;
           doublings = refl;
           found = refl;
-          noroom = refl;
+          no_slot = refl;
           held = refl;
           stripes = refl;
         })

@@ -26,7 +26,7 @@ module _ {V : Type 0} (hash : Name → ℕ) (w : WordsState) (p q : PassState V)
     -- also where more went home since, as it was
     stays_renewing : (r : View V) → r.doublings ≡ q.view.doublings → StaysBut (gaining [] why) (record p.view { doublings = r.doublings }) q.view
     stays_renewing r same = subst (λ (n : ℕ). StaysBut (gaining [] why) (record p.view { doublings = n }) q.view) (sym same) (subst (λ (v : View V). StaysBut (gaining [] why) (record p.view { doublings = v.doublings }) v) (sym renewed_view)
-        (record { settings = refl; by = refl; mine = refl; others = refl; heard = (refl, refl); noroom = gaining-append p.view.noroom why; seen = ([], sym (append-nil p.view.seen)); by_others = λ m e. refl; alone = λ _. refl; told = omega arith; doublings = refl }))
+        (record { settings = refl; by = refl; mine = refl; others = refl; heard = (refl, refl); no_slot = gaining-append p.view.no_slot why; seen = ([], sym (append-nil p.view.seen)); by_others = λ m e. refl; alone = λ _. refl; told = omega arith; doublings = refl }))
 
   pub released_renewed : Sends hash w (λ t ks. Renew t ks None) p q → (r : PassState V) → HasReleased w q r → HasReleased w (as_doubled p r) r
   released_renewed g r rest = record {
@@ -54,7 +54,7 @@ module _ {V : Type 0} (hash : Name → ℕ) (w : WordsState) (p q : PassState V)
 
     stays_telling : StaysBut ((name, why) ∷ []) p.view q.view
     stays_telling = subst (StaysBut ((name, why) ∷ []) p.view) (sym given_view)
-        (record { settings = refl; by = refl; mine = refl; others = refl; heard = (refl, refl); noroom = refl; seen = ([], sym (append-nil p.view.seen)); by_others = λ m e. refl; alone = λ _. refl; told = omega arith; doublings = refl })
+        (record { settings = refl; by = refl; mine = refl; others = refl; heard = (refl, refl); no_slot = refl; seen = ([], sym (append-nil p.view.seen)); by_others = λ m e. refl; alone = λ _. refl; told = omega arith; doublings = refl })
 
     pub refused_giving : (r : PassState V) → HasReleased w q r → HasRefused w name why p r
     refused_giving r rest = record {

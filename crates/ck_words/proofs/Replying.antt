@@ -151,7 +151,7 @@ module _ {V : Type 0} where
             mine = refl;
             others = s.others ∙ ap (λ (v : View V). v.others) row;
             heard = (s.heard.0 ∙ ap (λ (v : View V). v.heard) row, s.heard.1 ∙ ap (λ (v : View V). v.heard_told) row);
-            noroom = s.noroom ∙ ap (λ (v : View V). v.noroom) row;
+            no_slot = s.no_slot ∙ ap (λ (v : View V). v.no_slot) row;
             seen = ([], sym (append-nil q.view.seen));
             by_others = λ n e. refl;
             alone = λ _. refl;

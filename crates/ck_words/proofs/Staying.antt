@@ -31,7 +31,7 @@ module _ {V : Type 0} where
   starts_on a b c f g = (f.0 ++ g.0, g.1 ∙ (ap (λ l. l ++ g.0) f.1 ∙ append_assoc a f.0 g.0))
 
   pub stays_same : (v : View V) → Stays v v
-  stays_same v = record { settings = refl; by = refl; mine = refl; others = refl; heard = (refl, refl); noroom = refl; seen = ([], sym (append-nil v.seen)); by_others = λ m e. refl; alone = λ _. refl; told = omega arith; doublings = refl }
+  stays_same v = record { settings = refl; by = refl; mine = refl; others = refl; heard = (refl, refl); no_slot = refl; seen = ([], sym (append-nil v.seen)); by_others = λ m e. refl; alone = λ _. refl; told = omega arith; doublings = refl }
 
   pub stays_then : (xs ys : List (Name × Reason)) (u v w : View V) → StaysBut xs u v → StaysBut ys v w → StaysBut (ys ++ xs) u w
   unfolding starts_on
@@ -41,7 +41,7 @@ module _ {V : Type 0} where
     mine = g.mine ∙ f.mine;
     others = g.others ∙ f.others;
     heard = (g.heard.0 ∙ f.heard.0, g.heard.1 ∙ f.heard.1);
-    noroom = g.noroom ∙ (ap (λ l. ys ++ l) f.noroom ∙ sym (append_assoc ys xs u.noroom));
+    no_slot = g.no_slot ∙ (ap (λ l. ys ++ l) f.no_slot ∙ sym (append_assoc ys xs u.no_slot));
     seen = starts_on u.seen v.seen w.seen f.seen g.seen;
     by_others = λ m e. subhistory-append m f.seen.0 g.seen.0 ∙ λ j. f.by_others m e j ++ g.by_others m (f.by ∙ e) j;
     alone = λ one. g.alone (ap (λ (x : Settings). x.callers) f.settings ∙ one) ∙ f.alone one;
@@ -59,7 +59,7 @@ module _ {V : Type 0} where
 
     pub stays_giving : (u : View V) → Stays u p.view → Stays u q.view
     stays_giving u s = stays_on u p.view q.view s
-        (subst (Stays p.view) (sym rest_view) (record { settings = refl; by = refl; mine = refl; others = refl; heard = (refl, refl); noroom = refl; seen = ([], sym (append-nil p.view.seen)); by_others = λ m e. refl; alone = λ _. refl; told = omega arith; doublings = refl }))
+        (subst (Stays p.view) (sym rest_view) (record { settings = refl; by = refl; mine = refl; others = refl; heard = (refl, refl); no_slot = refl; seen = ([], sym (append-nil p.view.seen)); by_others = λ m e. refl; alone = λ _. refl; told = omega arith; doublings = refl }))
 
     pub found_giving : q.view.found ≡ p.view.found
     found_giving = ap (λ (v : View V). v.found) rest_view
@@ -73,7 +73,7 @@ module _ {V : Type 0} where
       let shows = shows_before hash set (Take t) p.view q.view k.3 in
       let number = take_number hash set p.view q.view t k.3 in
       subst (Stays p.view) (sym (take_row hash set p.view q.view t k.3))
-      (record { settings = refl; by = refl; mine = refl; others = refl; heard = (refl, refl); noroom = refl; seen = shows.seen; by_others = λ m e. shows.unseen m e shows.seen.0 shows.seen.1; alone = λ one. sym (shows.alone number.0 number.1 (ap (λ (x : Settings). x.callers) (sym same) ∙ one)); told = omega arith; doublings = refl })
+      (record { settings = refl; by = refl; mine = refl; others = refl; heard = (refl, refl); no_slot = refl; seen = shows.seen; by_others = λ m e. shows.unseen m e shows.seen.0 shows.seen.1; alone = λ one. sym (shows.alone number.0 number.1 (ap (λ (x : Settings). x.callers) (sym same) ∙ one)); told = omega arith; doublings = refl })
 
   -- the stripe was found held once more
   pub found_next : (hash : Name → ℕ) (w : WordsState) (n t : ℕ) (p q r : PassState V) → q ≡ found_again n t p → IsPassOf w q → IsPassOf w r → TriesStripe hash w t false q r → r ≡ found_again (n + 1) t p
@@ -82,7 +82,7 @@ module _ {V : Type 0} where
       once ∙ (ap (found_again 1 t) again ∙ ap (λ m. found_again m t p) (sym (add-one n)))
 
   pub stays_finding : (n t : ℕ) (p : PassState V) → Stays p.view (found_again n t p).view
-  stays_finding n t p = record { settings = refl; by = refl; mine = refl; others = refl; heard = (refl, refl); noroom = refl; seen = ([], sym (append-nil p.view.seen)); by_others = λ m e. refl; alone = λ _. refl; told = omega arith; doublings = refl }
+  stays_finding n t p = record { settings = refl; by = refl; mine = refl; others = refl; heard = (refl, refl); no_slot = refl; seen = ([], sym (append-nil p.view.seen)); by_others = λ m e. refl; alone = λ _. refl; told = omega arith; doublings = refl }
 
   module _ (hash : Name → ℕ) (set : Settings) (turns t : ℕ) (p q : PassState V) (k : TakesWithin hash set turns t p q) where
     within_view : q.view ≡ record (found_again k.0 t p).view { held = (t, k.2.3.does.1) ∷ p.view.held; seen = k.2.3.log }

@@ -24,7 +24,7 @@ module _ {V : Type 0} where
     pub mine : w.mine ≡ v.mine
     pub others : w.others ≡ v.others
     pub heard : (w.heard ≡ v.heard) × (w.heard_told ≡ v.heard_told)
-    pub noroom : w.noroom ≡ more ++ v.noroom
+    pub no_slot : w.no_slot ≡ more ++ v.no_slot
     pub seen : StartsWith w.seen v.seen
     pub by_others : (m : ℕ) → v.by ≡ Some m → subhistory m seen.0 ≡ []
     pub alone : v.settings.callers ≡ 1 → w.seen ≡ v.seen

@@ -80,7 +80,7 @@ module _ {V : Type 0} where
           mine = refl;
           others = rest.others ∙ s.others;
           heard = (rest.heard.0 ∙ s.heard.0, rest.heard.1 ∙ s.heard.1);
-          noroom = rest.noroom ∙ s.noroom;
+          no_slot = rest.no_slot ∙ s.no_slot;
           seen = ([], sym (append-nil z.view.seen));
           by_others = λ n e. refl;
           alone = λ _. refl;

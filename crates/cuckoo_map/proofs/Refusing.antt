@@ -56,5 +56,5 @@ module _ {V : Type 0} where
   found_own hash set q p p1 z f same = (f.0, same ∙ f.1, (λ t i. inl (f.2 t i)))
 
   -- and where the pass was answered since, with no other said to be without room
-  pub found_since : (hash : Name → ℕ) (set : Settings) (q : Name) (p p1 z : PassState V) → FindsOwnUnlessFull hash set q p p1 → z.view.found ≡ p1.view.found → z.view.noroom ≡ p1.view.noroom → FindsOwnUnlessFull hash set q p z
+  pub found_since : (hash : Name → ℕ) (set : Settings) (q : Name) (p p1 z : PassState V) → FindsOwnUnlessFull hash set q p p1 → z.view.found ≡ p1.view.found → z.view.no_slot ≡ p1.view.no_slot → FindsOwnUnlessFull hash set q p z
   found_since hash set q p p1 z f same said = (f.0, same ∙ f.1, (λ t i. ⊎_elim inl (λ x. inr (x.0, said ∙ x.1, x.2)) (f.2 t i)))

@@ -229,7 +229,7 @@ module _ {V : Type 0} where
       mine = stays.mine;
       others = sym caller.alone;
       heard = stays.heard;
-      noroom = stays.noroom;
+      no_slot = stays.no_slot;
       seen = stays.seen;
       by_others = stays.by_others;
       alone = stays.alone;

@@ -93,7 +93,7 @@ module _ {V : Type 0} (q : Name) where
       pub found_since_full : FindsAny r z → FindsOwnUnlessFull hash w.settings q p z
       found_since_full f =
           let all = any_on p r z any_since f in
-          (all.0, all.1, (λ t i. inr (said, stays_since.noroom, says_full)))
+          (all.0, all.1, (λ t i. inr (said, stays_since.no_slot, says_full)))
 
       pub room_since : {room : Room} → StaysBut more r.view z.view → AllOwn q more → HoldsRoom hash w.settings q room z → HasRoom hash w.settings q room p z
       room_since level a held = record { more = said; own = own_since a; stays = said_on p.view (stays_then (h.more ++ (q, NoRoom) ∷ []) more p.view r.view z.view stays_until level); held = held }

@@ -67,7 +67,7 @@ module _ {V : Type 0} where
     pub settings : d.client.settings ≡ c.client.settings
     pub told : c.notes.told ≤ d.notes.told
     pub heard : (d.notes.heard ≡ c.notes.heard) × (d.notes.heard_told ≡ c.notes.heard_told)
-    pub noroom : d.notes.noroom ≡ more ++ c.notes.noroom
+    pub no_slot : d.notes.no_slot ≡ more ++ c.notes.no_slot
 
   -- and it has said so of none more, and made no doubling
   abbrev pub KeepsNotes : CallerState V → CallerState V → Type 0

@@ -15,16 +15,16 @@ use Rattle.ck_words.specs.Passes.{PassState, IsUnchanged, numbers_of}
 use Rattle.ck_words.specs.StripeNumbers.{own_numbers}
 use Rattle.ck_words.specs.StripeSets.{list_of}
 use Rattle.ck_words.specs.Retries.{StaysBut}
-use Rattle.cuckoo_map.specs.declared.locking.Home.{Home}
+use Rattle.cuckoo_map.specs.declared.locking.KeyStripes.{KeyStripes}
 use Rattle.cuckoo_map.specs.declared.locking.Spot.{Spot}
 use Rattle.cuckoo_map.specs.Needed.{HaveOnePower}
 
 -- the hash of the name, and its stripes
-pub record IsHomeOf (hash : Name → ℕ) (set : Settings) (q : Name) (home : Home) : Type 0 where
-  pub s : home.stripes.s ≡ set.s
-  pub hashed : IsHashOf hash q home.hash
-  pub list : list_of home.stripes ≡ own_numbers set.s (hash q)
-  pub exact : (t : ℕ) → IsIn t (list_of home.stripes) ↔ IsStripeOf (layout_of hash set) q t
+pub record AreStripesOf (hash : Name → ℕ) (set : Settings) (q : Name) (own : KeyStripes) : Type 0 where
+  pub s : own.stripes.s ≡ set.s
+  pub hashed : IsHashOf hash q own.hash
+  pub list : list_of own.stripes ≡ own_numbers set.s (hash q)
+  pub exact : (t : ℕ) → IsIn t (list_of own.stripes) ↔ IsStripeOf (layout_of hash set) q t
 
 module _ {V : Type 0} where
   -- Since p the pass has taken the stripes of the name, and has settled them. The name may be at this place among them.

@@ -12,18 +12,18 @@ pub record Notes (V : Type 0) : Type 0 where
   pub told : ℕ
   pub doublings : ℕ
   pub found : List ℕ
-  pub noroom : List (Name × Reason)
+  pub no_slot : List (Name × Reason)
   pub heard : List (Entry V)
   pub heard_told : ℕ
 
 module _ {V : Type 0} where
   -- the notes of a view
   abbrev pub notes_of : View V → Notes V
-  notes_of v = record { told = v.told; doublings = v.doublings; found = v.found; noroom = v.noroom; heard = v.heard; heard_told = v.heard_told }
+  notes_of v = record { told = v.told; doublings = v.doublings; found = v.found; no_slot = v.no_slot; heard = v.heard; heard_told = v.heard_told }
 
   -- the view of a caller that holds no stripe and keeps no other's number
   abbrev pub view_of : Client V → Notes V → View V
-  view_of c n = record { settings = c.settings; by = c.by; held = []; seen = c.seen; mine = c.mine; told = n.told; doublings = n.doublings; found = n.found; noroom = n.noroom; heard = n.heard; heard_told = n.heard_told; others = [] }
+  view_of c n = record { settings = c.settings; by = c.by; held = []; seen = c.seen; mine = c.mine; told = n.told; doublings = n.doublings; found = n.found; no_slot = n.no_slot; heard = n.heard; heard_told = n.heard_told; others = [] }
 
   -- its pass
   abbrev pub idle_pass : TableId → Client V → Notes V → PassState V

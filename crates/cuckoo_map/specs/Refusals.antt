@@ -53,7 +53,7 @@ module _ {V : Type 0} where
 
   -- among what it has said of room since is that the name's buckets were full
   abbrev pub SaysNoRoom : Name → PassState V → PassState V → Type 0
-  SaysNoRoom q p p2 = (more : List (Name × history.Reason)) × (p2.view.noroom ≡ more ++ p.view.noroom) × Contains more (q, reason.NoRoom)
+  SaysNoRoom q p p2 = (more : List (Name × history.Reason)) × (p2.view.no_slot ≡ more ++ p.view.no_slot) × Contains more (q, reason.NoRoom)
 
   -- the pass found no stripe held but those of the name, or any once the name's buckets were full
   abbrev pub FindsOwnUnlessFull : (Name → ℕ) → Settings → Name → PassState V → PassState V → Type 0

@@ -6,11 +6,11 @@ ghost use Rattle.ck_words.specs.Passes.{IsPassOf, IsUnchanged};
 ghost use Rattle.ck_words.specs.StripeNumbers.{own_numbers};
 ghost use Rattle.ck_words.specs.StripeSets.{list_of};
 ghost use Rattle.ck_words.specs.Holding.{HasTakenAll, Misses};
-ghost use Rattle.cuckoo_map.specs.Holding.{IsHomeOf};
+ghost use Rattle.cuckoo_map.specs.Holding.{AreStripesOf};
 ghost use Rattle.cuckoo_map.specs.Insertions.{HasFoundNoRoom, HasRoom, HasInserted, IsInserted, TellsOf};
 ghost use Rattle.cuckoo_map.specs.Refusals.{FindsOwn, FindsOwnUnlessFull};
 
-use crate::locking::Home;
+use crate::locking::KeyStripes;
 use crate::refusal::{Refused, Why};
 use crate::room::{Preparation, Room};
 use crate::table::Table;
@@ -174,9 +174,9 @@ impl<K: TableKey + Drop, V: Drop> Table<K, V> {
             K.hash self.now.settings (K.name key) key value result pass.old pass.new }
     {
         let since = Snapshot::of(pass);
-        let home = self.home_of(&key);
-        match self.words.lock_now(pass, home.stripes) {
-            Ok(()) => self.make_locked(pass, home, key, value, insertion, since),
+        let own = self.stripes_of_key(&key);
+        match self.words.lock_now(pass, own.stripes) {
+            Ok(()) => self.make_locked(pass, own, key, value, insertion, since),
             Err(missed) => self.make_waiting(pass, missed, key, value, insertion, since),
         }
     }
@@ -205,9 +205,9 @@ impl<K: TableKey + Drop, V: Drop> Table<K, V> {
         ensures inserted { HasInserted (TellsOf (I.tells insertion value))
             K.hash self.now.settings (K.name key) key value result since.value pass.new }
     {
-        let home = self.home_of(&key);
-        match self.words.lock_later(pass, home.stripes, missed) {
-            Ok(()) => self.make_locked(pass, home, key, value, insertion, since),
+        let own = self.stripes_of_key(&key);
+        match self.words.lock_later(pass, own.stripes, missed) {
+            Ok(()) => self.make_locked(pass, own, key, value, insertion, since),
             Err(stripe) => {
                 let why = Why::Busy(stripe);
                 Err(Refused { key, value, why })
@@ -220,21 +220,21 @@ impl<K: TableKey + Drop, V: Drop> Table<K, V> {
     fn make_locked<I: Insertion<K, V>>(
         &self,
         pass: &mut Pass<K, V>,
-        home: Home,
+        own: KeyStripes,
         key: K,
         value: I::Value,
         insertion: I,
         since: Snapshot<Pass<K, V>>,
     ) -> Result<I::Answer, Refused<K, I::Value>>
         requires since { IsCaller self.now since.value }
-        requires home { IsHomeOf K.hash self.now.settings (K.name key) home }
-        requires taken { HasTakenAll K.hash self.now (list_of home.stripes) since.value pass.old }
+        requires key_stripes { AreStripesOf K.hash self.now.settings (K.name key) own }
+        requires taken { HasTakenAll K.hash self.now (list_of own.stripes) since.value pass.old }
         requires call { I.can_make insertion value }
         ensures caller { IsCaller self.now pass.new }
         ensures inserted { HasInserted (TellsOf (I.tells insertion value))
             K.hash self.now.settings (K.name key) key value result since.value pass.new }
     {
-        let spot = self.spot_in(pass, &key, home);
+        let spot = self.spot_in(pass, &key, own);
         match self.find_room(pass, &key, spot, &since) {
             Ok(room) => Ok(self.make_in(pass, room, key, value, insertion, since)),
             Err(power) => self.make_with_room(pass, power, key, value, insertion, since),
@@ -242,7 +242,7 @@ impl<K: TableKey + Drop, V: Drop> Table<K, V> {
     }
 
     // The same for a key whose buckets are full, in a table of 2^power buckets, and whose stripes
-    // have gone home: it makes room.
+    // were given back: it makes room.
     #[cold]
     #[inline(never)]
     fn make_with_room<I: Insertion<K, V>>(
@@ -278,7 +278,7 @@ impl<K: TableKey + Drop, V: Drop> Table<K, V> {
         }
     }
 
-    // The same for a key that has this entry among the stripes that its pass holds, which go home.
+    // The same for a key that has this entry among the stripes that its pass holds and gives back.
     #[inline(always)]
     fn make_in<I: Insertion<K, V>>(
         &self,

@@ -6,7 +6,7 @@ ghost use Rattle.ck_words.specs.StripeSets.{list_of};
 ghost use Rattle.ck_words.specs.Holding.{HasTakenAll};
 ghost use Rattle.ck_words.specs.Closing.{IsCaller, IsWhole};
 ghost use Rattle.ck_words.specs.Retries.{FindsAmong, Stays};
-ghost use Rattle.cuckoo_map.specs.Holding.{HasSpot, IsHomeOf, HoldsKey};
+ghost use Rattle.cuckoo_map.specs.Holding.{HasSpot, AreStripesOf, HoldsKey};
 ghost use Rattle.cuckoo_map.specs.Refusals.{FindsOwn, IsBusyAt, IsBusyAmong, IsStripeOfEither, IsStripeIn};
 
 use crate::refusal::Busy;
@@ -17,7 +17,7 @@ use ck_words::{Pass, StripeSet, guard};
 
 // The stripes of a key, and its hash.
 #[derive(Clone, Copy)]
-pub(crate) struct Home {
+pub(crate) struct KeyStripes {
     pub(crate) stripes: StripeSet,
     pub(crate) hash: KeyHash,
 }
@@ -51,43 +51,43 @@ impl<K: TableKey + Drop, V: Drop> Table<K, V> {
         ensures busy { IfErr result (λ busy.
             IsBusyAt K.hash self.now.settings (Q.name key) busy.0 pass.old pass.new) }
     {
-        let home = self.home_of(key);
+        let own = self.stripes_of_key(key);
         // What may wait is called right here: each function that it is inlined through would cost
         // one more test.
-        if let Err(i) = self.words.lock_now(pass, home.stripes) {
-            if let Err(stripe) = self.words.lock_later(pass, home.stripes, i) {
+        if let Err(i) = self.words.lock_now(pass, own.stripes) {
+            if let Err(stripe) = self.words.lock_later(pass, own.stripes, i) {
                 return Err(Busy(stripe));
             }
         }
-        Ok(self.spot_in(pass, key, home))
+        Ok(self.spot_in(pass, key, own))
     }
 
     // The stripes of the key, and its hash.
     #[inline(always)]
-    pub(crate) fn home_of<Q: Query<K>>(&self, key: Q) -> Home
-        ensures { IsHomeOf K.hash self.now.settings (Q.name key) result }
+    pub(crate) fn stripes_of_key<Q: Query<K>>(&self, key: Q) -> KeyStripes
+        ensures { AreStripesOf K.hash self.now.settings (Q.name key) result }
     {
         let hash = KeyHash::of::<K, Q>(key);
         let stripes = StripeSet::of_key(self.words.settings().s, hash);
-        Home { stripes, hash }
+        KeyStripes { stripes, hash }
     }
 
     // Carries out a doubling that is left of the key's stripes, which were just taken. Where the
     // key may be among them comes back.
     #[inline(always)]
-    pub(crate) fn spot_in<Q: Query<K>>(&self, pass: &mut Pass<K, V>, key: Q, home: Home) -> Spot
-        requires home { IsHomeOf K.hash self.now.settings (Q.name key) home }
+    pub(crate) fn spot_in<Q: Query<K>>(&self, pass: &mut Pass<K, V>, key: Q, own: KeyStripes) -> Spot
+        requires key_stripes { AreStripesOf K.hash self.now.settings (Q.name key) own }
         requires taken { (p : PassState V)
-            × HasTakenAll K.hash self.now (list_of home.stripes) p pass.old }
+            × HasTakenAll K.hash self.now (list_of own.stripes) p pass.old }
         ensures own { IsPassOf self.now pass.new }
         ensures spot { (p : PassState V)
-            → HasTakenAll K.hash self.now (list_of home.stripes) p pass.old
+            → HasTakenAll K.hash self.now (list_of own.stripes) p pass.old
             → HasSpot K.hash self.now.settings (Q.name key) result p pass.new }
         ensures found { (p : PassState V)
-            → HasTakenAll K.hash self.now (list_of home.stripes) p pass.old
+            → HasTakenAll K.hash self.now (list_of own.stripes) p pass.old
             → FindsOwn K.hash self.now.settings (Q.name key) p pass.new }
     {
-        let Home { stripes, hash } = home;
+        let KeyStripes { stripes, hash } = own;
         self.words.settle_taken(pass, stripes);
         let mut guard = guard!(&self.words, pass, stripes);
         let place = key_place(&mut guard, stripes.s, key, hash);

@@ -39,7 +39,7 @@ impl<K: TableKey + Drop, V: Drop> Table<K, V> {
         Ok(found)
     }
 
-    // The same for a key whose stripes its pass holds, and they go home. Where the key is unbound,
+    // The same for a key whose stripes its pass holds and gives back. Where the key is unbound,
     // the closure comes back. `since` is the pass as the call began.
     #[inline(always)]
     fn find_in<Q: Query<K>, R, F: FnOnce(&V) -> R>(

@@ -26,7 +26,7 @@ use ck_words::{Pass, guard};
 impl<K: TableKey + Drop, V: Drop> Table<K, V> {
     // Takes all stripes and makes room for the key there, by a displacement or by growing, in the
     // memory that was prepared. It keeps them, with the entry of the key. Where it can't make room,
-    // all have gone home with what they contain then, and the pass has told the reason.
+    // all are given back with what they contain then, and the pass has told the reason.
     pub(crate) fn make_room_in_all(
         &self,
         pass: &mut Pass<K, V>,

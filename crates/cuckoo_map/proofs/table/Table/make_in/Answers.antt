@@ -40,6 +40,6 @@ returns-clause-answered g c =
 pub returns-clause-found : goal.returns-clause-found
 returns-clause-found g c =
     let made = c.make-answer.ensures.answered in
-    let said = (says_there (c.make-answer.ensures.stays.5 ∙ c.self.view_is) c.requires.room c.make-answer.new.held.pass.now c.make-answer.ensures.stays.1 made.3 c.commit.ensures.committed.answered made.1 made.4).stays.noroom in
+    let said = (says_there (c.make-answer.ensures.stays.5 ∙ c.self.view_is) c.requires.room c.make-answer.new.held.pass.now c.make-answer.ensures.stays.1 made.3 c.commit.ensures.committed.answered made.1 made.4).stays.no_slot in
     let there : c.commit.new.self.pass.now ≡ c.pass-1.given.0 = search rules in
-    rw (← there) (found_since g.K.TableKey.hash c.args.self.now.settings (g.K.TableKey.name c.args.key) c.args.since.value c.args.pass.now c.commit.new.self.pass.now c.requires.found (search rules) (said ∙ sym c.requires.room.stays.noroom))
+    rw (← there) (found_since g.K.TableKey.hash c.args.self.now.settings (g.K.TableKey.name c.args.key) c.args.since.value c.args.pass.now c.commit.new.self.pass.now c.requires.found (search rules) (said ∙ sym c.requires.room.stays.no_slot))

@@ -13,18 +13,18 @@ use Rattle.cuckoo_map.proofs.table.Table.spot_in.Goals as goal
 
 pub key_place-place-requires-clause-owned : goal.key_place-place-requires-clause-owned
 key_place-place-requires-clause-owned g c =
-    let h = c.requires.home in
+    let h = c.requires.key_stripes in
     let q = g.Q.Query.name c.args.key in
     subst (λ (s : ℕ). HasBoth g.K.TableKey.hash s c.settle_taken.new.pass.stripes q) (sym h.s)
-    (has_both g.K.TableKey.hash c.args.self.now.settings q (list_of c.args.home.stripes) h.exact c.settle_taken.new.pass.stripes c.settle_taken.ensures.numbers)
+    (has_both g.K.TableKey.hash c.args.self.now.settings q (list_of c.args.own.stripes) h.exact c.settle_taken.new.pass.stripes c.settle_taken.ensures.numbers)
 
 pub returns-clause-spot : goal.returns-clause-spot
 returns-clause-spot g c = λ p taken.
-    let h = c.requires.home in
+    let h = c.requires.key_stripes in
     let k = c.key_place-place in
     let stripes = k.ensures.same in
     let there : k.new.held.pass.now ≡ c.pass-1.given.0 = search rules in
-    let both = has_both g.K.TableKey.hash c.args.self.now.settings (g.Q.Query.name c.args.key) (list_of c.args.home.stripes) h.exact c.settle_taken.new.pass.stripes c.settle_taken.ensures.numbers in
+    let both = has_both g.K.TableKey.hash c.args.self.now.settings (g.Q.Query.name c.args.key) (list_of c.args.own.stripes) h.exact c.settle_taken.new.pass.stripes c.settle_taken.ensures.numbers in
     rw (← there) (record {
       holds = holds_then p c.settle_taken.new.pass (subst (Stays p.view) (sym c.settle_taken.ensures.view) taken.stays) both c.settle_taken.ensures.unchanged (one_power_held _ c.settle_taken.new.pass.stripes c.settle_taken.ensures.held) k.ensures.place (k.ensures.s ∙ h.s)
           k.new.held.pass.now stripes k.ensures.stays.1;
@@ -35,6 +35,6 @@ returns-clause-spot g c = λ p taken.
 
 pub returns-clause-found : goal.returns-clause-found
 returns-clause-found g c = λ p taken.
-    let found = finds_such (list_of c.args.home.stripes) c.requires.home.exact p c.args.pass.now taken.found in
+    let found = finds_such (list_of c.args.own.stripes) c.requires.own.exact p c.args.pass.now taken.found in
     let there : c.key_place-place.new.held.pass.now ≡ c.pass-1.given.0 = search rules in
     rw (← there) (found.0, ap (λ v. v.found) (c.key_place-place.ensures.stays.1 ∙ c.settle_taken.ensures.view) ∙ found.1, found.2)

@@ -3,7 +3,7 @@ use Rattle.ck_words.specs.StripeNumbers.{own_numbers}
 use Rattle.ck_words.specs.StripeSets.{list_of}
 use Rattle.cuckoo_map.proofs.Calls.{s_of}
 use Rattle.cuckoo_map.proofs.Sets.{of_name}
-use Rattle.cuckoo_map.proofs.table.Table.home_of.Goals as goal
+use Rattle.cuckoo_map.proofs.table.Table.stripes_of_key.Goals as goal
 
 pub returns : goal.returns
 returns g c =
