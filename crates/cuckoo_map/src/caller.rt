@@ -14,29 +14,29 @@ use ck_words::{Message, Pass};
 use std::alloc::Global;
 use std::marker::Model;
 
-/// A caller of a table: the table, as it has it, together with a pass of it, by which it makes its
-/// calls. A [`Caller`] borrows its table, and a [`Handle`](crate::Handle) shares it with the others.
+/// A caller has a table, and a pass of it for its calls. A [`Caller`] borrows the table, and a
+/// [`Handle`](crate::Handle) shares it with others. The type tells that the pass is one of this
+/// table, and in no call. A caller may go to another thread, and can't be cloned. Contracts see the
+/// table, what a client sees, and notes of what else the caller was told, found and said.
 ///
-/// That the pass is one of this table, and in no call, is known by the type. A caller may go to
-/// another thread, and can't be cloned. Contracts see the table, what a client sees, and notes of
-/// what else the caller was told, found and said.
-///
-/// A call that finds a stripe held in as many tries in a row as the settings allow is refused as
-/// [`Busy`], and but for an insertion it has changed nothing then. A closure runs while the stripes
-/// of its keys are held; one that is not called, as where a key to be changed is unbound, is
-/// dropped.
+/// A call is refused as [`Busy`] where it finds a stripe held in as many tries in a row as the
+/// settings allow. It has then changed nothing, unless it is an insertion. An answer of `None` says
+/// that the key is unbound and nothing changed; from `insert_or_assign`, that the key was unbound.
+/// A closure runs while the stripes of its keys are held. A closure that is not called, and a value
+/// that is not used, are dropped, unless a refusal hands them back. Where keys are texts, a text is
+/// a query for its key in all calls that bind no new key.
 ///
 /// # Insertions
 ///
-/// These are the calls that may bind an unbound key: from `insert` to `get_or_insert_with`. Where
-/// both buckets of such a key are full, other entries are displaced to make room, and where that is
-/// of no avail the table doubles, under all stripes. Neither changes a binding.
+/// The calls from `insert` to `get_or_insert_with` may bind an unbound key. Where both buckets of
+/// the key are full, other entries are displaced to make room. Where that is of no avail, the table
+/// doubles, under all stripes. Neither changes a binding. A closure without a parameter makes the
+/// value of an unbound key; it is not called for a bound one.
 ///
 /// An insertion is refused as `Busy`, or where no displacement makes room and the table doesn't
 /// grow: as `Full` at its greatest power, as `LoadTooLow` where too few slots are taken, or as
-/// `Memory`. Refused, it changes no binding, though the table may have grown, and hands back the
-/// key with the value, or with the closures that were to make one, which were not called. Any other
-/// closure is dropped, and so is of a closure and a value the one that isn't used.
+/// `Memory`. It then changes no binding, though the table may have grown. It hands back the key
+/// with the value, or with the closures that were to make one, which were not called.
 #[derive(Drop)]
 pub struct CallerOn<T: TableRef<K, V>, K: TableKey, V> {
     pub(crate) table: T,
@@ -68,8 +68,7 @@ impl<K: TableKey + Drop, V: Drop> Table<K, V> {
         CallerOn { table: self, pass }
     }
 
-    /// A caller for each pass, in their order. Where there is no memory for the list, the passes
-    /// come back.
+    /// A caller for each pass, in their order. Without memory for the list, the passes come back.
     pub fn callers<'t>(
         &'t self,
         alloc: Global,
@@ -118,17 +117,10 @@ impl<T: TableRef<K, V> + Drop, K: TableKey + Drop, V: Drop> CallerOn<T, K, V> {
         pass
     }
 
-    /// The value that is bound to the key; `None` where the key is unbound.
+    /// The value of the key.
     ///
     /// ```
     /// let value: Option<u64> = caller.find(&NumKey(5))?;
-    /// ```
-    ///
-    /// Where keys are texts, a text is a query for its key, here and in all calls that bind no new
-    /// key.
-    ///
-    /// ```
-    /// let value: Option<u64> = caller.find("word")?;
     /// ```
     #[inline(always)]
     pub fn find<Q: Query<K>>(&mut self, key: Q) -> Result<Option<V>, Busy>
@@ -139,7 +131,7 @@ impl<T: TableRef<K, V> + Drop, K: TableKey + Drop, V: Drop> CallerOn<T, K, V> {
         self.table.table().find(&mut self.pass, key)
     }
 
-    /// What the closure answers for the value of the key; `None` where the key is unbound.
+    /// What the closure answers for the value of the key.
     ///
     /// ```
     /// let half: Option<u64> = caller.find_fn(&NumKey(5), |value: &u64| *value / 2)?;
@@ -160,7 +152,7 @@ impl<T: TableRef<K, V> + Drop, K: TableKey + Drop, V: Drop> CallerOn<T, K, V> {
     /// Whether the key is bound.
     ///
     /// ```
-    /// let bound: bool = caller.contains(&NumKey(5))?;
+    /// let bound: bool = caller.contains("word")?;
     /// ```
     #[inline(always)]
     pub fn contains<Q: Query<K>>(&mut self, key: Q) -> Result<bool, Busy>
@@ -169,8 +161,7 @@ impl<T: TableRef<K, V> + Drop, K: TableKey + Drop, V: Drop> CallerOn<T, K, V> {
         self.table.table().contains(&mut self.pass, key)
     }
 
-    /// Binds the key to the value where it is unbound, and says whether it was. A bound key keeps
-    /// its value, and the one that was passed is dropped.
+    /// Binds the key to the value only where it is unbound, and says whether it was.
     ///
     /// ```
     /// match caller.insert(NumKey(5), 50) {
@@ -186,7 +177,7 @@ impl<T: TableRef<K, V> + Drop, K: TableKey + Drop, V: Drop> CallerOn<T, K, V> {
         self.table.table().insert(&mut self.pass, key, value)
     }
 
-    /// Binds the key to the value, and gives the value that it had; `None` where it was unbound.
+    /// Binds the key to the value, and gives the value that it had.
     ///
     /// ```
     /// let old: Option<u64> = caller.insert_or_assign(NumKey(5), 51)?;
@@ -201,8 +192,8 @@ impl<T: TableRef<K, V> + Drop, K: TableKey + Drop, V: Drop> CallerOn<T, K, V> {
             .insert_or_assign(&mut self.pass, key, value)
     }
 
-    /// Binds an unbound key to the value, and a bound one to what the closure makes of its value;
-    /// says whether the key was unbound.
+    /// Binds an unbound key to the value, and a bound one to what the closure makes of its value.
+    /// It says whether the key was unbound.
     ///
     /// ```
     /// let fresh = caller.upsert(NumKey(word), |count| count.saturating_add(1), 1)?;
@@ -221,14 +212,12 @@ impl<T: TableRef<K, V> + Drop, K: TableKey + Drop, V: Drop> CallerOn<T, K, V> {
         self.table.table().upsert(&mut self.pass, key, f, value)
     }
 
-    /// Binds an unbound key to the value, and answers `Ok(true)`. A bound one is bound to the value
-    /// that the closure gives back for its value: the answer is `Ok(false)` where it succeeds, and
-    /// its error where it fails. It is for values that own memory: a closure that fails by giving
-    /// back the value that it got changes nothing.
+    /// Binds an unbound key to the value, and answers `Ok(true)`. A bound key is bound to what the
+    /// closure gives back for its value; the answer is `Ok(false)`, or the closure's error. It is
+    /// for values that own memory: a closure that fails and gives back what it got changes nothing.
     ///
     /// ```
-    /// // The values are of type `Vec<u64>`. Where there is no memory for one more number, the key
-    /// // keeps its list, and the number comes back.
+    /// // Where there is no memory for one more number, the key keeps its list.
     /// let push = |mut list: Vec<u64>| match list.push(51) {
     ///     Ok(()) => Ok(list),
     ///     Err(refused) => Err((list, refused.value)),
@@ -250,20 +239,12 @@ impl<T: TableRef<K, V> + Drop, K: TableKey + Drop, V: Drop> CallerOn<T, K, V> {
         self.table.table().try_upsert(&mut self.pass, key, f, value)
     }
 
-    /// Binds an unbound key to what `f` makes of the value that `make` makes, and answers
-    /// `Ok(true)`. A bound one is bound to what `f` makes of its value, the answer is `Ok(false)`,
-    /// and `make` is not called. Where `f` fails, the answer is its error: an unbound key stays so,
-    /// and the value that `f` gives back is dropped; a bound one is bound to that value.
+    /// Is `try_upsert`, but binds an unbound key to what `f` makes of the value that `make` makes.
+    /// Where `f` fails for it, the key stays unbound, and the value that `f` gives back is dropped.
     ///
     /// ```
-    /// // The values are of type `Vec<u64>`. The number is pushed to the list of the key, to a new
-    /// // one where it has none. Where there is no memory for it, it comes back.
-    /// let push = |mut list: Vec<u64>| match list.push(51) {
-    ///     Ok(()) => Ok(list),
-    ///     Err(refused) => Err((list, refused.value)),
-    /// };
-    /// let pushed: Result<bool, u64> =
-    ///     caller.try_upsert_with(NumKey(5), || Vec::new(alloc), push)?;
+    /// let take = |left: u64| if 0 < left { Ok(left - 1) } else { Err((left, left)) };
+    /// let taken: Result<bool, u64> = caller.try_upsert_with(NumKey(5), || 50, take)?;
     /// ```
     #[inline(always)]
     pub fn try_upsert_with<E, G: FnOnce() -> V + Drop, F: FnOnce(V) -> Result<V, (V, E)> + Drop>(
@@ -281,8 +262,7 @@ impl<T: TableRef<K, V> + Drop, K: TableKey + Drop, V: Drop> CallerOn<T, K, V> {
             .try_upsert_with(&mut self.pass, key, make, f)
     }
 
-    /// Binds an unbound key to what the closure makes, and says whether it was unbound. A bound key
-    /// keeps its value, and then the closure is not called.
+    /// Binds an unbound key to what the closure makes, and says whether it was unbound.
     ///
     /// ```
     /// let fresh: bool = caller.insert_with(NumKey(5), || 50)?;
@@ -300,8 +280,7 @@ impl<T: TableRef<K, V> + Drop, K: TableKey + Drop, V: Drop> CallerOn<T, K, V> {
         self.table.table().insert_with(&mut self.pass, key, f)
     }
 
-    /// Binds an unbound key to the value. A bound one is bound to what the closure makes of its
-    /// value, or unbound where the closure makes nothing.
+    /// Is `upsert`, but unbinds a bound key where the closure makes nothing of its value.
     ///
     /// ```
     /// match caller.uprase(NumKey(5), |left| left.checked_sub(1), 50)? {
@@ -324,8 +303,7 @@ impl<T: TableRef<K, V> + Drop, K: TableKey + Drop, V: Drop> CallerOn<T, K, V> {
         self.table.table().uprase(&mut self.pass, key, f, value)
     }
 
-    /// The value of the key. An unbound one is bound to what the closure makes; for a bound one the
-    /// closure is not called.
+    /// The value of the key. An unbound key is first bound to what the closure makes.
     ///
     /// ```
     /// let value: u64 = caller.get_or_insert_with(NumKey(5), || 50)?;
@@ -347,8 +325,7 @@ impl<T: TableRef<K, V> + Drop, K: TableKey + Drop, V: Drop> CallerOn<T, K, V> {
             .get_or_insert_with(&mut self.pass, key, f)
     }
 
-    /// Binds a bound key to another value, and gives the one that it had; `None` where the key is
-    /// unbound, and then the value is dropped. Refused, it hands the value back.
+    /// Binds a bound key to the value, and gives the one it had. Refused, it hands the value back.
     ///
     /// ```
     /// if let Err((value, busy)) = caller.update(&NumKey(5), 52) {
@@ -385,13 +362,11 @@ impl<T: TableRef<K, V> + Drop, K: TableKey + Drop, V: Drop> CallerOn<T, K, V> {
         self.table.table().update_fn(&mut self.pass, key, f)
     }
 
-    /// Binds a bound key to what the closure makes of its value, and gives what the closure answers
-    /// besides; `None` where the key is unbound.
+    /// Binds a bound key to what the closure makes of its value, and gives what it answers besides.
     ///
     /// ```
     /// // The next number of a counter that is bound.
-    /// let number: Option<u64> =
-    ///     caller.modify(&NumKey(5), |next: u64| (next.wrapping_add(1), next))?;
+    /// let number: Option<u64> = caller.modify(&NumKey(5), |n: u64| (n.wrapping_add(1), n))?;
     /// ```
     #[inline(always)]
     pub fn modify<Q: Query<K>, R, F: FnOnce(V) -> (V, R) + Drop>(
@@ -405,9 +380,9 @@ impl<T: TableRef<K, V> + Drop, K: TableKey + Drop, V: Drop> CallerOn<T, K, V> {
         self.table.table().modify(&mut self.pass, key, f)
     }
 
-    /// Binds two different bound keys to what the closure makes of their two values, and says
-    /// whether both are bound; where one is not, nothing changes. It is one step of the map: nobody
-    /// sees the one key changed and the other not.
+    /// Binds two different bound keys to what the closure makes of their values, and says whether
+    /// both are bound; where one is not, nothing changes. It is one step of the map: nobody sees
+    /// the one key changed and the other not.
     ///
     /// ```
     /// let paid = caller.update_two(&payer, &payee, |a, b| {
@@ -435,7 +410,7 @@ impl<T: TableRef<K, V> + Drop, K: TableKey + Drop, V: Drop> CallerOn<T, K, V> {
         self.table.table().update_two(&mut self.pass, a, b, f)
     }
 
-    /// Unbinds the key, and gives the value that it had; `None` where it is unbound.
+    /// Unbinds the key, and gives the value that it had.
     ///
     /// ```
     /// let value: Option<u64> = caller.erase(&NumKey(5))?;
@@ -447,8 +422,7 @@ impl<T: TableRef<K, V> + Drop, K: TableKey + Drop, V: Drop> CallerOn<T, K, V> {
         self.table.table().erase(&mut self.pass, key)
     }
 
-    /// Unbinds a bound key where the closure answers true for its value, and gives the closure's
-    /// answer; `None` where the key is unbound.
+    /// Unbinds the key where the closure answers true for its value; gives the closure's answer.
     ///
     /// ```
     /// let gone: Option<bool> = caller.erase_fn(&NumKey(5), |value: &u64| *value == 0)?;
@@ -466,9 +440,7 @@ impl<T: TableRef<K, V> + Drop, K: TableKey + Drop, V: Drop> CallerOn<T, K, V> {
         self.table.table().erase_fn(&mut self.pass, key, f)
     }
 
-    /// Binds a bound key to what the closure makes of its value, where it makes one, and says
-    /// whether it did: `Some(false)` where it made none, and then nothing changes; `None` where the
-    /// key is unbound.
+    /// Binds a bound key to what the closure makes of its value; `Some(false)` where it makes none.
     ///
     /// ```
     /// let taken: Option<bool> = caller.replace_if(&NumKey(5), |left: &u64| left.checked_sub(1))?;
@@ -486,18 +458,11 @@ impl<T: TableRef<K, V> + Drop, K: TableKey + Drop, V: Drop> CallerOn<T, K, V> {
         self.table.table().replace_if(&mut self.pass, key, f)
     }
 
-    /// Binds a bound key to the value that the closure gives back for its value, and gives the
-    /// closure's error, if it fails; `None` where the key is unbound. It is for values that own
-    /// memory: a closure that fails by giving back the value that it got changes nothing.
+    /// Changes a bound key as `try_upsert` does; the answer is the closure's error, if it fails.
     ///
     /// ```
-    /// // The values are of type `Vec<u64>`. Where there is no memory for one more number, the key
-    /// // keeps its list, and the number comes back.
-    /// let push = |mut list: Vec<u64>| match list.push(51) {
-    ///     Ok(()) => Ok(list),
-    ///     Err(refused) => Err((list, refused.value)),
-    /// };
-    /// let pushed: Option<Result<(), u64>> = caller.try_update(&NumKey(5), push)?;
+    /// let add = |n: u64| if n < 9 { Ok(n + 1) } else { Err((n, n)) };
+    /// let added: Option<Result<(), u64>> = caller.try_update(&NumKey(5), add)?;
     /// ```
     #[inline(always)]
     pub fn try_update<Q: Query<K>, E, F: FnOnce(V) -> Result<V, (V, E)> + Drop>(
@@ -512,8 +477,8 @@ impl<T: TableRef<K, V> + Drop, K: TableKey + Drop, V: Drop> CallerOn<T, K, V> {
         self.table.table().try_update(&mut self.pass, key, f)
     }
 
-    /// The power, as stripe 0 has it while this call holds it, of which the caller has then been
-    /// told: the table has 2^power buckets of four slots, or more by now.
+    /// The power, as stripe 0 has it while this call holds it; the caller is then told of it. The
+    /// table has 2^power buckets of four slots, or more by now.
     #[inline(always)]
     pub fn power(&mut self) -> Result<u32, Busy>
         ensures same { IsSameCaller self.old self.new }
@@ -527,8 +492,7 @@ impl<T: TableRef<K, V> + Drop, K: TableKey + Drop, V: Drop> CallerOn<T, K, V> {
         self.table.table().power(&mut self.pass)
     }
 
-    /// How many slots the table has at the power that `power` gives, of which the caller has then
-    /// been told.
+    /// How many slots the table has at the power that `power` gives; the caller is told of it too.
     ///
     /// ```
     /// let slots: u64 = caller.capacity()?;
@@ -571,12 +535,10 @@ impl<T: TableRef<K, V> + Drop, K: TableKey + Drop, V: Drop> CallerOn<T, K, V> {
         self.table.table().is_empty(&mut self.pass)
     }
 
-    /// Doubles the table until it has 2^power buckets, and says whether it had fewer. It holds all
-    /// stripes meanwhile, and changes no binding. The load doesn't matter.
-    ///
-    /// It is refused as `OverMax` exactly where `power` is above the greatest one that the table
-    /// was opened with, and then takes no stripe. Refused for want of memory, it may have doubled
-    /// the table some times.
+    /// Doubles the table, at any load, until it has 2^power buckets, and says whether it had fewer.
+    /// It holds all stripes meanwhile, and changes no binding. It is refused as `OverMax` exactly
+    /// where `power` is above the greatest one that the table was opened with, and takes no stripe
+    /// then. Refused for want of memory, it may have doubled the table some times.
     pub fn rehash(&mut self, power: u32) -> Result<bool, GrowFault>
         ensures same { IsSameCaller self.old self.new }
         ensures stays { StaysButDoublings self.old self.new }
@@ -605,9 +567,8 @@ impl<T: TableRef<K, V> + Drop, K: TableKey + Drop, V: Drop> CallerOn<T, K, V> {
         self.table.table().reserve(&mut self.pass, n)
     }
 
-    /// Locks the table: takes all stripes, and carries out the doublings that are left of them. It
-    /// takes no memory. Refused as busy, it gives the caller back, as `LockedOn::unlock_caller`
-    /// does later.
+    /// Locks the table: takes all stripes, and carries out the doublings left of them. It takes no
+    /// memory. Refused as busy, it gives the caller back, as `LockedOn::unlock_caller` does later.
     ///
     /// ```
     /// let mut locked = caller.lock()?;
@@ -628,8 +589,7 @@ impl<T: TableRef<K, V> + Drop, K: TableKey + Drop, V: Drop> CallerOn<T, K, V> {
         }
     }
 
-    /// What this caller has seen and was told, for another caller of the table to hear. It can go
-    /// to another thread, through a channel or as what a thread returns.
+    /// What this caller has seen and was told, for another caller, on any thread, to hear.
     ///
     /// ```
     /// let message = teller.tell();
@@ -642,8 +602,8 @@ impl<T: TableRef<K, V> + Drop, K: TableKey + Drop, V: Drop> CallerOn<T, K, V> {
         self.table.table().tell(&mut self.pass)
     }
 
-    /// Hears what another caller of the table told: what that one had seen is then a beginning of
-    /// what this one has seen, and so is what this one had seen. This one was told no lower power.
+    /// Hears what another caller of the table told: what each of the two had seen is then a
+    /// beginning of what this one has seen. This one was told no lower power.
     pub fn hear(&mut self, message: Message<K, V>)
         requires { message.table ≡ self.old.table.table }
         ensures same { IsSameCaller self.old self.new }
@@ -652,7 +612,7 @@ impl<T: TableRef<K, V> + Drop, K: TableKey + Drop, V: Drop> CallerOn<T, K, V> {
         self.table.table().hear(&mut self.pass, message);
     }
 
-    /// Tells the other caller of this table what this one has seen, which that one then hears.
+    /// Tells the other caller of this table what this one has seen, and that one hears it.
     ///
     /// ```
     /// first.meet(&mut second);

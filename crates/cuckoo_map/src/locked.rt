@@ -175,8 +175,8 @@ impl<T: TableRef<K, V> + Drop, K: TableKey + Drop, V: Drop> LockedOn<T, K, V> {
         self.unlock_caller().into_pass()
     }
 
-    /// Unlocks the table, as `unlock` does, and gives the caller. That its pass is one of this
-    /// table is known by the type, also where functions had the locked table in between.
+    /// Is `unlock`, and gives the caller. By the type, its pass is one of this table, also where
+    /// functions had the locked table in between.
     ///
     /// ```
     /// let mut locked = caller.lock()?;

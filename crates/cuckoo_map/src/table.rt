@@ -18,9 +18,9 @@ use std::marker::Model;
 /// A map from keys to values in 2^power buckets, for many callers. It doubles where an entry finds
 /// no room.
 ///
-/// Its calls are those of a [`Caller`](crate::Caller), which has the table and a pass. Here they get
-/// the pass, and want a proof that it is one of this table and in no call. Contracts see which table
-/// it is, and its settings.
+/// Its calls are those of a [`Caller`](crate::Caller), which has the table and a pass. Here they
+/// get the pass, and want a proof that it is one of this table and in no call. Contracts see which
+/// table it is, and its settings.
 #[derive(Drop)]
 pub struct Table<K: TableKey, V> {
     pub(crate) words: Words<K, V>,
@@ -37,11 +37,9 @@ impl<K: TableKey, V> Model for Table<K, V> {
 }
 
 impl<K: TableKey + Drop, V: Drop> Table<K, V> {
-    /// An empty table of 2^power buckets, and its passes, as many as the settings have callers,
-    /// numbered from 0.
-    ///
-    /// It is refused as `Settings` where a setting is not in its range, which it names, and
-    /// otherwise only for want of memory.
+    /// An empty table of 2^power buckets, and its passes, one for each caller of the settings,
+    /// numbered from 0. It is refused as `Settings`, which names a setting that is out of its
+    /// range, or for want of memory.
     ///
     /// ```
     /// let (table, passes) = Table::<NumKey, u64>::open(alloc, Settings::for_keys(1_000, 4))?;
@@ -77,12 +75,10 @@ impl<K: TableKey + Drop, V: Drop> Table<K, V> {
         }
     }
 
-    /// Ends the table: all keys with their values, in rising order of the keys. They are the map
-    /// after one legal history, which has the entries of all passes, of each in its order, and that
-    /// of what a table with these settings contains.
-    ///
-    /// Where a stripe is found held in as many tries as the settings allow, or there is no memory
-    /// for the list, the table and the passes come back, with the same entries.
+    /// Ends the table, and gives all keys with their values, in rising order of the keys. They are
+    /// the map after one legal history, which has the entries of all passes, of each in its order,
+    /// and that of what a table with these settings contains. Refused as busy, or for want of
+    /// memory for the list, it gives the table and the passes back, with the same entries.
     ///
     /// ```
     /// match table.close(passes) {

@@ -27,10 +27,6 @@ impl<T: TableRef<K, V> + Drop, K: TableKey + Drop, V: Drop> LockedOn<T, K, V> {
     }
 
     /// `Caller::modify`.
-    ///
-    /// ```
-    /// let taken: Option<u64> = locked.modify(&NumKey(5), |left: u64| (left / 2, left - left / 2));
-    /// ```
     pub fn modify<Q: Query<K>, R, F: FnOnce(V) -> (V, R) + Drop>(
         &mut self,
         key: Q,

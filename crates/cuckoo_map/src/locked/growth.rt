@@ -26,10 +26,6 @@ impl<T: TableRef<K, V> + Drop, K: TableKey + Drop, V: Drop> LockedOn<T, K, V> {
     }
 
     /// How many slots the table has, four in each bucket.
-    ///
-    /// ```
-    /// let free: u64 = locked.capacity() - locked.len();
-    /// ```
     pub fn capacity(&self) -> u64
         ensures { result ≡ 4 * 2 ^ locked_power self.now }
     {
@@ -49,8 +45,7 @@ impl<T: TableRef<K, V> + Drop, K: TableKey + Drop, V: Drop> LockedOn<T, K, V> {
         100 * self.len() / self.capacity()
     }
 
-    /// `Caller::rehash`, which is never refused as `Busy`. Refused as `Memory`, the table has fewer
-    /// buckets than it was to have.
+    /// `Caller::rehash`. Refused as `Memory`, the table has fewer buckets than it was to have.
     ///
     /// ```
     /// let power: u32 = locked.power();

@@ -33,10 +33,6 @@ impl<T: TableRef<K, V> + Drop, K: TableKey + Drop, V: Drop> LockedOn<T, K, V> {
     }
 
     /// `Caller::insert_or_assign`.
-    ///
-    /// ```
-    /// let old: Option<u64> = locked.insert_or_assign(NumKey(5), 53)?;
-    /// ```
     pub fn insert_or_assign(&mut self, key: K, value: V) -> Result<Option<V>, Refused<K, V>>
         ensures { LockedInsertionLeaves (Assigns value)
             K.hash (K.name key) key value result self.old self.new }
@@ -45,10 +41,6 @@ impl<T: TableRef<K, V> + Drop, K: TableKey + Drop, V: Drop> LockedOn<T, K, V> {
     }
 
     /// `Caller::upsert`.
-    ///
-    /// ```
-    /// let fresh: bool = locked.upsert(NumKey(5), |count| count.saturating_add(1), 1)?;
-    /// ```
     pub fn upsert<F: FnOnce(V) -> V + Drop>(
         &mut self,
         key: K,

@@ -27,10 +27,6 @@ impl<T: TableRef<K, V> + Drop, K: TableKey + Drop, V: Drop> LockedOn<T, K, V> {
 
     /// Unbinds all keys, and gives them with their values, in rising order of the keys. It makes
     /// one request for memory; refused, it leaves the table as it was.
-    ///
-    /// ```
-    /// let pairs: Vec<(NumKey, u64)> = locked.drain(alloc)?;
-    /// ```
     pub fn drain(&mut self, alloc: Global) -> Result<Vec<(K, V)>, AllocError>
         ensures drained { IfOk result (λ pairs.
             ListsInOrder K.name K.cmp pairs.items (map_of self.old) × Clears self.old self.new) }
