@@ -117,7 +117,7 @@ impl<T: TableRef<K, V> + Drop, K: TableKey + Drop, V: Drop> CallerOn<T, K, V> {
         pass
     }
 
-    /// The value of the key.
+    /// The value of the key; `None` where it is unbound.
     ///
     /// ```
     /// let value: Option<u64> = caller.find(&NumKey(5))?;
@@ -131,7 +131,7 @@ impl<T: TableRef<K, V> + Drop, K: TableKey + Drop, V: Drop> CallerOn<T, K, V> {
         self.table.table().find(&mut self.pass, key)
     }
 
-    /// What the closure answers for the value of the key.
+    /// What the closure answers for the value of the key; `None` where it is unbound.
     ///
     /// ```
     /// let half: Option<u64> = caller.find_fn(&NumKey(5), |value: &u64| *value / 2)?;
@@ -177,7 +177,7 @@ impl<T: TableRef<K, V> + Drop, K: TableKey + Drop, V: Drop> CallerOn<T, K, V> {
         self.table.table().insert(&mut self.pass, key, value)
     }
 
-    /// Binds the key to the value, and gives the value that it had.
+    /// Binds the key to the value, and gives the value that it had; `None` where it was unbound.
     ///
     /// ```
     /// let old: Option<u64> = caller.insert_or_assign(NumKey(5), 51)?;
@@ -410,7 +410,7 @@ impl<T: TableRef<K, V> + Drop, K: TableKey + Drop, V: Drop> CallerOn<T, K, V> {
         self.table.table().update_two(&mut self.pass, a, b, f)
     }
 
-    /// Unbinds the key, and gives the value that it had.
+    /// Unbinds the key, and gives the value that it had; `None` where it was unbound.
     ///
     /// ```
     /// let value: Option<u64> = caller.erase(&NumKey(5))?;

@@ -75,7 +75,12 @@ impl<K: TableKey + Drop, V: Drop> Table<K, V> {
     // Carries out a doubling that is left of the key's stripes, which were just taken. Where the
     // key may be among them comes back.
     #[inline(always)]
-    pub(crate) fn spot_in<Q: Query<K>>(&self, pass: &mut Pass<K, V>, key: Q, own: KeyStripes) -> Spot
+    pub(crate) fn spot_in<Q: Query<K>>(
+        &self,
+        pass: &mut Pass<K, V>,
+        key: Q,
+        own: KeyStripes,
+    ) -> Spot
         requires key_stripes { AreStripesOf K.hash self.now.settings (Q.name key) own }
         requires taken { (p : PassState V)
             × HasTakenAll K.hash self.now (list_of own.stripes) p pass.old }

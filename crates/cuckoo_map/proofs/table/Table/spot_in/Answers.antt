@@ -35,6 +35,6 @@ returns-clause-spot g c = λ p taken.
 
 pub returns-clause-found : goal.returns-clause-found
 returns-clause-found g c = λ p taken.
-    let found = finds_such (list_of c.args.own.stripes) c.requires.own.exact p c.args.pass.now taken.found in
+    let found = finds_such (list_of c.args.own.stripes) c.requires.key_stripes.exact p c.args.pass.now taken.found in
     let there : c.key_place-place.new.held.pass.now ≡ c.pass-1.given.0 = search rules in
     rw (← there) (found.0, ap (λ v. v.found) (c.key_place-place.ensures.stays.1 ∙ c.settle_taken.ensures.view) ∙ found.1, found.2)
