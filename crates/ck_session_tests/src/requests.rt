@@ -23,6 +23,9 @@ const KEYS: [u64; 8] = [15, 31, 47, 63, 12, 8, 4, 0];
 /// A key that has that bucket alone too.
 const NEXT: NumKey = NumKey(79);
 
+/// A list of what two stripes are to have for a doubling, of 24 bytes each.
+const FOR_TWO: usize = 48;
+
 /// Room for the sixteen buckets of a stripe at power 5, of 72 bytes each, and for no more than
 /// these.
 const AT_FIVE: usize = 1168;
@@ -38,9 +41,9 @@ const LIST: usize = 2048;
 enum Subject {
     /// Makes a table of 2^4 buckets one of 2^6.
     Rehash,
-    /// Binds a key for which the table must grow.
+    /// Binds a key for which the table must grow: first it requests a list of what it prepares.
     Insert,
-    /// The same in a session.
+    /// The same in a session, which prepares nothing.
     InsertLocked,
     /// Lists the pairs in a session.
     Export,
@@ -59,15 +62,6 @@ struct Row {
     done: u32,
 }
 
-/// An insertion for which two stripes double.
-const TWO_DOUBLINGS: Row = Row {
-    what: "an insertion for which two stripes double",
-    subject: Subject::Insert,
-    refused: &[4, 4],
-    blocks: &[AT_FIVE, AT_FIVE],
-    done: 5,
-};
-
 static ROWS: [Row; 5] = [
     Row {
         what: "two doublings of two stripes",
@@ -76,11 +70,19 @@ static ROWS: [Row; 5] = [
         blocks: &[AT_FIVE, AT_FIVE, AT_SIX, AT_SIX],
         done: 6,
     },
-    TWO_DOUBLINGS,
+    Row {
+        what: "an insertion for which two stripes double",
+        subject: Subject::Insert,
+        refused: &[4, 4, 4],
+        blocks: &[FOR_TWO, AT_FIVE, AT_FIVE],
+        done: 5,
+    },
     Row {
         what: "the same in a session",
         subject: Subject::InsertLocked,
-        ..TWO_DOUBLINGS
+        refused: &[4, 4],
+        blocks: &[AT_FIVE, AT_FIVE],
+        done: 5,
     },
     Row {
         what: "an insertion in a session, and again with ample memory",
