@@ -1,21 +1,22 @@
 -- A change of two that keeps the sum of their values keeps the sum of all.
-use Rattle.std.proofs.Common.{◌≡◌, ◌≢◌, ℕ, ◌+◌, cond, T, List, [], ◌∷◌, sym, refl, ap, ◌∙◌, subst, ⊎_elim, arith, Less, Equal, Greater, is_lt, is_eq, Option, Some, None}
+use Rattle.std.proofs.Common.{◌≡◌, ◌≢◌, ℕ, ◌+◌, cond, T, List, [], ◌∷◌, sym, refl, ap, ◌∙◌, subst, ⊎_elim, inl, inr, arith, Less, Equal, Greater, is_lt, is_eq, Option, Some, None}
 use mathlib.Core.Logic.{dite}
+use Rattle.std.specs.Option.{unwrap_or}
 use Rattle.std.specs.Cmp.Lexicographic.{nat_list_cmp_total}
-use Rattle.std.specs.FinMap.{find, get, empty, insert, entries, entries_sorted, entries-insert, get-insert, get-entries}
+use Rattle.std.specs.FinMap.{find, get, empty, insert, remove, entries, entries_sorted, entries-insert, get-insert, get-remove, get-entries}
 use Rattle.std.specs.FinMap.Entries.{put, below_all, is_sorted, by_order}
 use Rattle.ck_model.specs.declared.history.Act.TheVariants.{Find, Insert, Assign, Update, Change, Upsert, Erase}
 use Rattle.ck_model.specs.declared.history.Call.{Call}
-use Rattle.ck_model.specs.declared.history.Call.TheVariants.{On, ChangeTwo, Len, Session}
+use Rattle.ck_model.specs.declared.history.Call.TheVariants.{On, ChangeTwo, Len, SessionOn, Session}
 use Rattle.ck_model.specs.declared.history.Reply.{Reply}
 use Rattle.ck_model.specs.declared.history.Reply.TheVariants.{DoneTwo, Absent}
 use Rattle.ck_model.specs.declared.history.Entry.{Entry}
-use Rattle.ck_model.specs.Promise.{Name, name_cmp, Map, Answers, AnswersTwo, Step, Leads}
-use Rattle.ck_core.specs.Sums.{total, KeepsTotal, EachKeepsTotal, SessionShows, EachSessionShows, LawOfSums}
+use Rattle.ck_model.specs.Promise.{Name, name_cmp, Map, IsAmong, AreDifferent, bound_in, Answers, AnswersTwo, Step, Leads}
+use Rattle.ck_core.specs.Sums.{total, sum_of, KeepsTotal, EachKeepsTotal, SessionShows, EachSessionShows, LawOfSums}
 use Rattle.ck_model.proofs.Determined.{leads_one}
 use Rattle.ck_model.proofs.Entries.{first, second, is_less}
 use Rattle.ck_model.proofs.Histories.{leads_to}
-use Rattle.ck_model.proofs.Names.{dec_name, maps_alike, is_name, no_name}
+use Rattle.ck_model.proofs.Names.{dec_name, maps_alike, is_name, no_name, bound_alike}
 
 -- a name below all others isn't found
 less_none : (k y : Name) (es : List (Name × ℕ)) → name_cmp k y ≡ Less → T (below_all name_cmp y es) → find name_cmp k es ≡ None
@@ -62,6 +63,72 @@ two_inserts m m2 j k v2 w2 ne a b others = maps_alike m2 (insert (insert m j v2)
 sums : (s s1 s2 v w v2 w2 : ℕ) → s1 + v ≡ s + v2 → s2 + w ≡ s1 + w2 → v + w ≡ v2 + w2 → s2 ≡ s
 sums s s1 s2 v w v2 w2 a b c = omega arith
 
+fresh_head : (a v : ℕ) → Some a ≡ None → ⊥
+fresh_head a v e = cc
+
+total-fresh : (k : Name) (v : ℕ) (es : List (Name × ℕ)) → find name_cmp k es ≡ None → total (put name_cmp k v es) ≡ total es + v
+total-fresh k v [] e = omega arith
+total-fresh k v (x ∷ xs) e =
+    elim (name_cmp k x.0) as (λ r. cond (is_eq r) (Some x.1) (find name_cmp k xs) ≡ None
+    → total (by_order r ((k, v) ∷ x ∷ xs) ((x.0, v) ∷ xs) (x ∷ put name_cmp k v xs)) ≡ (x.1 + total xs) + v) [
+      | Less ↦ λ f. omega arith
+      | Equal ↦ λ f. absurd (fresh_head x.1 v f)
+      | Greater ↦ λ f. let t = total-fresh k v xs f in omega arith
+    ] e
+
+total-new : (m : Map ℕ) (k : Name) (v : ℕ) → get m k ≡ None → total (entries (insert m k v)) ≡ total (entries m) + v
+total-new m k v e = ap total (entries-insert nat_list_cmp_total m k v) ∙ total-fresh k v (entries m) (sym (get-entries m k) ∙ e)
+
+get_gone : (m : Map ℕ) (k : Name) → get (remove m k) k ≡ None
+get_gone m k = get-remove nat_list_cmp_total m k k ∙ ap (λ b. cond b None (get m k)) (is_name k k refl)
+
+get_left : (m : Map ℕ) (k q : Name) → q ≢ k → get (remove m k) q ≡ get m q
+get_left m k q ne = get-remove nat_list_cmp_total m k q ∙ ap (λ b. cond b None (get m q)) (no_name q k ne)
+
+-- the map, in which the name is bound so
+abbrev bind : Map ℕ → Name → Option ℕ → Map ℕ
+bind m k (Some v) = insert m k v
+bind m k None = remove m k
+
+get_bound : (m : Map ℕ) (k : Name) (o : Option ℕ) → get (bind m k o) k ≡ o
+get_bound m k (Some v) = get_new m k v
+get_bound m k None = get_gone m k
+
+get_other : (m : Map ℕ) (k q : Name) (o : Option ℕ) → q ≢ k → get (bind m k o) q ≡ get m q
+get_other m k q (Some v) ne = get_kept m k q v ne
+get_other m k q None ne = get_left m k q ne
+
+total_removed : (m : Map ℕ) (k : Name) (o : Option ℕ) → get m k ≡ o → total (entries (remove m k)) + unwrap_or o 0 ≡ total (entries m)
+total_removed m k None e =
+    let same = ap (λ (x : Map ℕ). total (entries x)) (maps_alike (remove m k) m (λ q. dite (dec_name q k) (λ f. ap (get (remove m k)) f ∙ (get_gone m k ∙ (sym e ∙ ap (get m) (sym f)))) (get_left m k q))) in
+    omega arith
+total_removed m k (Some v) e =
+    let again : m ≡ insert (remove m k) k v = maps_alike m (insert (remove m k) k v) (λ q. dite (dec_name q k)
+    (λ f. ap (get m) f ∙ (e ∙ (sym (get_new (remove m k) k v) ∙ ap (get (insert (remove m k) k v)) (sym f))))
+    (λ ne. sym (get_kept (remove m k) k q v ne ∙ get_left m k q ne))) in
+    sym (ap (λ (x : Map ℕ). total (entries x)) again ∙ total-new (remove m k) k v (get_gone m k))
+
+total_bound : (m : Map ℕ) (k : Name) (o : Option ℕ) → total (entries (bind m k o)) + unwrap_or (get m k) 0 ≡ total (entries m) + unwrap_or o 0
+total_bound m k None = let r = total_removed m k (get m k) refl in omega arith
+total_bound m k (Some v) = by (get m k) refl
+  where
+    by : (o : Option ℕ) → get m k ≡ o → total (entries (insert m k v)) + unwrap_or o 0 ≡ total (entries m) + v
+    by (Some old) e = total-insert m k v old e
+    by None e = let t = total-new m k v e in omega arith
+
+-- a change of these names alone changes the sum of all by what it changes that of theirs
+names_total : (qs : List Name) (m m2 : Map ℕ) → AreDifferent qs → ((q : Name) → ¬ (IsAmong q qs) → get m2 q ≡ get m q) → total (entries m2) + sum_of (bound_in m qs) ≡ total (entries m) + sum_of (bound_in m2 qs)
+names_total [] m m2 apart others = ap (λ (x : Map ℕ). total (entries x) + 0) (maps_alike m2 m (λ q. others q (λ h. h)))
+names_total (x ∷ xs) m m2 apart others =
+    let m1 = bind m x (get m2 x) in
+    let rest : (q : Name) → ¬ (IsAmong q xs) → get m2 q ≡ get m1 q = λ q out. dite (dec_name q x)
+    (λ e. ap (get m2) e ∙ (sym (get_bound m x (get m2 x)) ∙ ap (get m1) (sym e)))
+    (λ ne. others q (λ h. ⊎_elim ne out h) ∙ sym (get_other m x q (get m2 x) ne)) in
+    let same = ap sum_of (bound_alike m1 m xs (λ q i. get_other m x q (get m2 x) (λ e. apart.0 (subst (λ (z : Name). IsAmong z xs) e i)))) in
+    let one = total_bound m x (get m2 x) in
+    let more = names_total xs m1 m2 apart.1 rest in
+    omega arith
+
 find_same : (b : Option ℕ) (r : Reply ℕ) (o : Option ℕ) → Answers Find b r o → o ≡ b
 find_same (Some v) r o x = x.1
 find_same None r o x = x.1
@@ -99,6 +166,11 @@ step_total m m2 (On k (Upsert u)) r st h = absurd h
 step_total m m2 (On k Erase) r st h = absurd h
 step_total m m2 Len r st h = ap (λ (x : Map ℕ). total (entries x)) st.1
 step_total m m2 (Session a b) r st h = ap total (st.2 ∙ (sym h ∙ sym st.1))
+step_total m m2 (SessionOn qs a b) r st h =
+    let t = names_total qs m m2 st.1 st.4 in
+    let before = ap sum_of st.2 in
+    let after = ap sum_of st.3 in
+    omega arith
 step_total m m2 (ChangeTwo j k) r st h = ⊎_elim
     (λ e. let x = absent_same (get m j) (get m k) r (get m2 j) (get m2 k) st.1 e in
     ap (λ (x : Map ℕ). total (entries x)) (maps_alike m2 m (λ q. dite (dec_name q j) (λ f. ap (get m2) f ∙ (x.0 ∙ ap (get m) (sym f)))
@@ -115,6 +187,7 @@ session_shows : (m m2 : Map ℕ) (c : Call ℕ) (r : Reply ℕ) (n : ℕ) → to
 session_shows m m2 (On k a) r n e st = tt
 session_shows m m2 (ChangeTwo j k) r n e st = tt
 session_shows m m2 Len r n e st = tt
+session_shows m m2 (SessionOn qs a b) r n e st = tt
 session_shows m m2 (Session a b) r n e st = ap total (sym st.1) ∙ e
 
 sums_keep : (more : List (Entry ℕ)) (m m2 : Map ℕ) (n : ℕ) → total (entries m) ≡ n → Leads m more m2 → EachKeepsTotal more → EachSessionShows n more

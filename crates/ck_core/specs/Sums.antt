@@ -1,9 +1,10 @@
 -- Amounts that are moved between names.
-use Rattle.std.specs.Prelude.{◌≡◌, ◌⊎◌, ℕ, ◌+◌, List, [], ◌∷◌, ◌++◌}
+use Rattle.std.specs.Prelude.{◌≡◌, ◌⊎◌, ℕ, ◌+◌, List, [], ◌∷◌, ◌++◌, Option}
+use Rattle.std.specs.Option.{unwrap_or}
 use Rattle.std.specs.FinMap.{entries}
 use Rattle.ck_model.specs.declared.history.Act.TheVariants.{Find}
 use Rattle.ck_model.specs.declared.history.Call.{Call}
-use Rattle.ck_model.specs.declared.history.Call.TheVariants.{On, ChangeTwo, Len, Session}
+use Rattle.ck_model.specs.declared.history.Call.TheVariants.{On, ChangeTwo, Len, SessionOn, Session}
 use Rattle.ck_model.specs.declared.history.Reply.{Reply}
 use Rattle.ck_model.specs.declared.history.Reply.TheVariants.{DoneTwo, Absent}
 use Rattle.ck_model.specs.declared.history.Entry.{Entry}
@@ -14,11 +15,17 @@ abbrev pub total : List (Name × ℕ) → ℕ
 total [] = 0
 total (e ∷ es) = e.1 + total es
 
--- a find, a len, a session that changes nothing, or a change of two that keeps the sum of their values
+-- the sum of those that are there
+abbrev pub sum_of : List (Option ℕ) → ℕ
+sum_of [] = 0
+sum_of (o ∷ os) = unwrap_or o 0 + sum_of os
+
+-- a find, a len, a session that changes nothing, or a change of two or a session on some names that keeps the sum of their values
 abbrev pub KeepsTotal : Call ℕ → Reply ℕ → Type 0
 KeepsTotal (On k Find) r = Unit {0}
 KeepsTotal Len r = Unit {0}
 KeepsTotal (Session a b) r = a ≡ b
+KeepsTotal (SessionOn qs a b) r = sum_of a ≡ sum_of b
 KeepsTotal (ChangeTwo j k) r = (r ≡ Absent) ⊎ ((v : ℕ) × (w : ℕ) × (v2 : ℕ) × (w2 : ℕ) × (r ≡ DoneTwo v w v2 w2) × (v + w ≡ v2 + w2))
 KeepsTotal _ r = ⊥
 

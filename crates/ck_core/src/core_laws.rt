@@ -86,8 +86,8 @@ pub fn law_of_answers<V>()
 {}
 
 /// Where from some point of a legal history on each entry is a find, a len, a session that changes
-/// nothing, or a change of two that keeps the sum of their values, every later session shows the
-/// sum of that point.
+/// nothing, or a change of two or a session on some names that keeps the sum of their values, every
+/// later session on all names shows the sum of that point.
 pub fn law_of_sums()
     ensures { LawOfSums }
 {}

@@ -27,6 +27,10 @@ pub trait Query<K: TableKey>: Copy {
     /// Whether the key has this name.
     fn is_name_of(&self, key: &K) -> bool
         ensures { (result ≡ true) ↔ (K.name key.now ≡ name self.now) };
+
+    /// Whether both have one name.
+    fn is_same_name(&self, other: &Self) -> bool
+        ensures { (result ≡ true) ↔ (name self.now ≡ name other.now) };
 }
 
 impl<K: TableKey> Query<K> for &K {
@@ -41,6 +45,10 @@ impl<K: TableKey> Query<K> for &K {
     fn is_name_of(&self, key: &K) -> bool {
         *key == **self
     }
+
+    fn is_same_name(&self, other: &&K) -> bool {
+        **self == **other
+    }
 }
 
 impl Query<TextKey> for &[u8] {
@@ -53,6 +61,10 @@ impl Query<TextKey> for &[u8] {
     fn is_name_of(&self, key: &TextKey) -> bool {
         key.as_bytes() == *self
     }
+
+    fn is_same_name(&self, other: &&[u8]) -> bool {
+        *self == *other
+    }
 }
 
 impl Query<TextKey> for &str {
@@ -64,6 +76,10 @@ impl Query<TextKey> for &str {
 
     fn is_name_of(&self, key: &TextKey) -> bool {
         key.as_bytes() == self.as_bytes()
+    }
+
+    fn is_same_name(&self, other: &&str) -> bool {
+        self.as_bytes() == other.as_bytes()
     }
 }
 
@@ -79,6 +95,10 @@ impl Query<NumTextKey> for (u64, &[u8]) {
         let (number, bytes) = *self;
         key.number() == number && key.as_bytes() == bytes
     }
+
+    fn is_same_name(&self, other: &(u64, &[u8])) -> bool {
+        self.0 == other.0 && self.1 == other.1
+    }
 }
 
 impl Query<NumTextKey> for (u64, &str) {
@@ -92,5 +112,9 @@ impl Query<NumTextKey> for (u64, &str) {
     fn is_name_of(&self, key: &NumTextKey) -> bool {
         let (number, text) = *self;
         key.number() == number && key.as_bytes() == text.as_bytes()
+    }
+
+    fn is_same_name(&self, other: &(u64, &str)) -> bool {
+        self.0 == other.0 && self.1.as_bytes() == other.1.as_bytes()
     }
 }

@@ -1,17 +1,17 @@
 -- The plain map: call and reply determine what a step leaves.
-use Rattle.std.proofs.Common.{◌≡◌, inl, inr, List, [], ◌∷◌, sym, ap, ◌∙◌, subst, Option, Some, None}
+use Rattle.std.proofs.Common.{◌≡◌, inl, inr, List, [], ◌∷◌, refl, sym, ap, ◌∙◌, subst, Option, Some, None}
 use mathlib.Core.Logic.{dite}
 use Rattle.std.specs.FinMap.{get, same_entries_map}
 use Rattle.ck_model.specs.declared.history.Act.{Act}
 use Rattle.ck_model.specs.declared.history.Act.TheVariants.{Find, Insert, Assign, Update, Change, Upsert, Erase}
 use Rattle.ck_model.specs.declared.history.Call.{Call}
-use Rattle.ck_model.specs.declared.history.Call.TheVariants.{On, ChangeTwo, Len, Session}
+use Rattle.ck_model.specs.declared.history.Call.TheVariants.{On, ChangeTwo, Len, SessionOn, Session}
 use Rattle.ck_model.specs.declared.history.Reply.{Reply}
-use Rattle.ck_model.specs.declared.history.Reply.TheVariants.{Done, DoneTwo}
+use Rattle.ck_model.specs.declared.history.Reply.TheVariants.{Done, DoneTwo, Closed}
 use Rattle.ck_model.specs.declared.history.Entry.{Entry}
-use Rattle.ck_model.specs.Promise.{Name, Map, Answers, AnswersTwo, Step, Leads}
+use Rattle.ck_model.specs.Promise.{Name, Map, IsAmong, AreDifferent, bound_in, Answers, AnswersTwo, Step, Leads}
 use Rattle.ck_model.specs.Laws.{SpeaksOf}
-use Rattle.ck_model.proofs.Names.{dec_name, maps_alike}
+use Rattle.ck_model.proofs.Names.{dec_name, dec_among, maps_alike, alike_among}
 
 module _ {V : Type 0} where
   by_done : (r : Reply V) (v w w2 : V) (o p : Option V) → r ≡ Done v w → o ≡ Some w → r ≡ Done v w2 → p ≡ Some w2 → o ≡ p
@@ -51,6 +51,7 @@ module _ {V : Type 0} where
       maps_alike a b (λ q. dite (dec_name q j) (λ e. subst (λ (z : Name). get a z ≡ get b z) (sym e) t.0)
       (λ ne. dite (dec_name q k) (λ e. subst (λ (z : Name). get a z ≡ get b z) (sym e) t.1) (λ ne2. x.2 q ne ne2 ∙ sym (y.2 q ne ne2))))
   step_one m Len r a b x y = x.1 ∙ sym y.1
+  step_one m (SessionOn qs s t) r a b x y = maps_alike a b (λ q. dite (dec_among q qs) (λ i. alike_among a b qs (x.3 ∙ sym y.3) q i) (λ out. x.4 q out ∙ sym (y.4 q out)))
   step_one m (Session s t) r a b x y = same_entries_map a b (x.2 ∙ sym y.2)
 
   -- a step leaves the names of which the call doesn't speak
@@ -58,7 +59,13 @@ module _ {V : Type 0} where
   step_others m m2 (On k a) r st q h = st.1 q h
   step_others m m2 (ChangeTwo j k) r st q h = st.2 q (λ e. h (inl e)) (λ e. h (inr e))
   step_others m m2 Len r st q h = ap (λ (x : Map V). get x q) st.1
+  step_others m m2 (SessionOn qs a b) r st q h = st.4 q h
   step_others m m2 (Session a b) r st q h = absurd (h tt)
+
+  -- a step is a session on the names of which its call speaks
+  pub step_session : (m m2 : Map V) (c : Call V) (r : Reply V) → Step m c r m2 → (qs : List Name) → AreDifferent qs → ((q : Name) → SpeaksOf c q → IsAmong q qs)
+      → Step m (SessionOn qs (bound_in m qs) (bound_in m2 qs)) Closed m2
+  step_session m m2 c r st qs apart speaks = (refl, apart, refl, refl, λ q out. step_others m m2 c r st q (λ s. out (speaks q s)))
 
   -- a list of entries leads to one map
   pub leads_one : (m : Map V) (log : List (Entry V)) (a b : Map V) → Leads m log a → Leads m log b → a ≡ b

@@ -3,7 +3,7 @@ use Rattle.std.proofs.Common.{◌≡◌, ℕ, ◌^◌, ◌<◌, ◌≤◌, ◌�
 use mathlib.Core.Logic.{dite}
 use Rattle.std.specs.FinMap.{get}
 use Rattle.ck_model.specs.declared.history.Call.{Call}
-use Rattle.ck_model.specs.declared.history.Call.TheVariants.{On, ChangeTwo, Len, Session}
+use Rattle.ck_model.specs.declared.history.Call.TheVariants.{On, ChangeTwo, Len, SessionOn, Session}
 use Rattle.ck_model.specs.declared.history.Reply.{Reply}
 use Rattle.ck_model.specs.Promise.{Name, Map, Answers, AnswersTwo, Step}
 use Rattle.ck_model.specs.Numbered.{IsIn, AreDistinct, numbers, Holds, over}
@@ -12,7 +12,7 @@ use Rattle.ck_model.specs.Contents.{Layout, Stripes, Binds, bindings, Lawful, wh
 use Rattle.ck_model.specs.Sections.{Owns, HasAll, OwnsCall, Renewed, Section, IdentitySection}
 use Rattle.ck_model.specs.Laws.{ArePartOf}
 use Rattle.ck_model.proofs.Numbered.{same_option, dec_in, in_held, held_of_in, over_miss, over_hit, in_listed, listed_as, distinct_listed}
-use Rattle.ck_model.proofs.Names.{dec_name, maps_alike}
+use Rattle.ck_model.proofs.Names.{dec_name, dec_among, maps_alike, bound_alike}
 use Rattle.ck_model.proofs.Found.{Once, bound_where, bound_from, listed_once}
 use Rattle.ck_model.proofs.Belongs.{belongs, stripe_below}
 
@@ -143,6 +143,7 @@ module _ {V : Type 0} (k : Layout) where
   section_local hs ks (ChangeTwo p1 p2) reply owns step q =
       dite (dec_name q p1) (λ e. inr (subst (Owns k hs) (sym e) owns.0)) (λ ne. dite (dec_name q p2) (λ e. inr (subst (Owns k hs) (sym e) owns.1)) (λ no2. inl (step.2 q ne no2)))
   section_local hs ks Len reply owns step q = inr (λ t h. owns t (stripe_below k q t h))
+  section_local hs ks (SessionOn qs a b) reply owns step q = dite (dec_among q qs) (λ i. inr (owns q i)) (λ out. inl (step.4 q out))
   section_local hs ks (Session a b) reply owns step q = inr (λ t h. owns t (stripe_below k q t h))
 
   pub section_step : (w : ℕ → Content V) (hs ks : Stripes V) (lawful : Lawful k (whole k w)) (agrees : ArePartOf k w hs)
@@ -166,6 +167,14 @@ module _ {V : Type 0} (k : Layout) where
   section_step w hs ks lawful agrees Len reply r owns step =
       let local = section_local hs ks Len reply owns step in
       subst (λ (x : Map V × Map V). Step x.0 Len reply x.1) (λ i. (sym (whole_of_all w hs ks lawful agrees r local owns) i, sym (whole_of_all_after w hs ks lawful agrees r local owns) i)) step
+  section_step w hs ks lawful agrees (SessionOn qs a b) reply r owns step =
+      let local = section_local hs ks (SessionOn qs a b) reply owns step in (
+        step.0,
+        step.1,
+        bound_alike (bindings (whole k w)) (bindings hs) qs (λ q i. owned_before w hs ks lawful agrees r local q (owns q i)) ∙ step.2,
+        bound_alike (bindings (whole k (over ks w))) (bindings ks) qs (λ q i. owned_after w hs ks lawful agrees r local q (owns q i)) ∙ step.3,
+        λ q out. bound_same w hs ks lawful agrees r local q (step.4 q out),
+      )
   section_step w hs ks lawful agrees (Session a b) reply r owns step =
       let local = section_local hs ks (Session a b) reply owns step in
       subst (λ (x : Map V × Map V). Step x.0 (Session a b) reply x.1) (λ i. (sym (whole_of_all w hs ks lawful agrees r local owns) i, sym (whole_of_all_after w hs ks lawful agrees r local owns) i)) step

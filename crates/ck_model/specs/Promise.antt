@@ -1,5 +1,5 @@
 -- The promise of the map: the plain map, the histories that it can run through, and what an answered call adds to one.
-use Rattle.std.specs.Prelude.{◌≡◌, ◌≢◌, ℕ, ◌==◌, if◌then◌else◌, List, [], ◌∷◌, ◌++◌, Option, Some, None, length, map}
+use Rattle.std.specs.Prelude.{◌≡◌, ◌≢◌, ◌⊎◌, ℕ, ◌==◌, if◌then◌else◌, List, [], ◌∷◌, ◌++◌, Option, Some, None, length, map}
 use Rattle.std.specs.List.{AllAdjacentBelow}
 use Rattle.std.specs.declared.cmp.Ordering.{Ordering}
 use Rattle.std.specs.declared.cmp.Ordering.TheVariants.{Less}
@@ -9,7 +9,7 @@ use Rattle.std.specs.FinMap.{FinMap, empty, get, len, entries, from_entries}
 use Rattle.ck_model.specs.declared.history.Act.{Act}
 use Rattle.ck_model.specs.declared.history.Act.TheVariants.{Find, Insert, Assign, Update, Change, Upsert, Erase}
 use Rattle.ck_model.specs.declared.history.Call.{Call}
-use Rattle.ck_model.specs.declared.history.Call.TheVariants.{On, ChangeTwo, Len, Session}
+use Rattle.ck_model.specs.declared.history.Call.TheVariants.{On, ChangeTwo, Len, SessionOn, Session}
 use Rattle.ck_model.specs.declared.history.Reply.{Reply}
 use Rattle.ck_model.specs.declared.history.Reply.TheVariants.{Was, New, Old, Done, DoneTwo, Absent, Count, Closed}
 use Rattle.ck_model.specs.declared.history.Entry.{Entry}
@@ -27,6 +27,16 @@ name_cmp = slice_cmp nat_cmp
 -- a finite map from names to values
 abbrev pub Map : Type 0 → Type 0
 Map V = FinMap name_cmp V
+
+-- the name is one of these
+abbrev pub IsAmong : Name → List Name → Type 0
+IsAmong q [] = ⊥
+IsAmong q (x ∷ xs) = (q ≡ x) ⊎ IsAmong q xs
+
+-- no name stands twice
+abbrev pub AreDifferent : List Name → Type 0
+AreDifferent [] = Unit {0}
+AreDifferent (x ∷ xs) = ¬ (IsAmong x xs) × AreDifferent xs
 
 -- What contracts see of a client of the map: what its table was opened with, its number, the history that it has seen, and its own entries.
 pub record Client (V : Type 0) : Type 0 where
@@ -59,11 +69,16 @@ module _ {V : Type 0} where
   AnswersTwo (Some v) None r o p = (r ≡ Absent) × (o ≡ Some v) × (p ≡ None)
   AnswersTwo None b r o p = (r ≡ Absent) × (o ≡ None) × (p ≡ b)
 
+  -- what the names are bound to, in their order
+  abbrev pub bound_in : Map V → List Name → List (Option V)
+  bound_in m qs = map (get m) qs
+
   -- The plain map goes from m to m2 by a call that got this reply.
   abbrev pub Step : Map V → Call V → Reply V → Map V → Type 0
   Step m (On k a) r m2 = Answers a (get m k) r (get m2 k) × ((q : Name) → q ≢ k → get m2 q ≡ get m q)
   Step m (ChangeTwo j k) r m2 = (j ≢ k) × AnswersTwo (get m j) (get m k) r (get m2 j) (get m2 k) × ((q : Name) → q ≢ j → q ≢ k → get m2 q ≡ get m q)
   Step m Len r m2 = (r ≡ Count (len m)) × (m2 ≡ m)
+  Step m (SessionOn qs a b) r m2 = (r ≡ Closed) × AreDifferent qs × (bound_in m qs ≡ a) × (bound_in m2 qs ≡ b) × ((q : Name) → ¬ (IsAmong q qs) → get m2 q ≡ get m q)
   Step m (Session a b) r m2 = (r ≡ Closed) × (entries m ≡ a) × (entries m2 ≡ b)
 
   -- the entries lead from m to m2, each by a step

@@ -24,7 +24,10 @@ pub enum Call<V> {
     /// A change of the values of two different names at once.
     ChangeTwo(Name, Name),
     Len,
-    /// From these pairs, in rising order of their names, to those.
+    /// On these different names alone: from what they are bound to, in their order, to what they
+    /// are bound to afterwards.
+    SessionOn(LinkedList<Name>, LinkedList<Option<V>>, LinkedList<Option<V>>),
+    /// On all names: from these pairs, in rising order of their names, to those.
     Session(LinkedList<(Name, V)>, LinkedList<(Name, V)>),
 }
 

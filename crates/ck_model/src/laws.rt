@@ -1,11 +1,19 @@
 //! The laws of the definitions. The functions do nothing: their contracts are the laws.
-ghost use Rattle.ck_model.specs.Laws.{StepsAreDetermined, StepsLeaveOthers, BeginningsAreLegal, HistoriesLeadToOneMap, SectionsAreSteps, IdentitySectionsKeepBindings, DoublingsKeepBindings, DoublingsKeepLawful, AlternateTwice, AlternateAtNextPower, AlternateItself, StripesStay};
+ghost use Rattle.ck_model.specs.Laws.{StepsAreDetermined, StepsLeaveOthers, StepsAreSessions, SessionsAreOfAllNames, BeginningsAreLegal, HistoriesLeadToOneMap, SectionsAreSteps, IdentitySectionsKeepBindings, DoublingsKeepBindings, DoublingsKeepLawful, AlternateTwice, AlternateAtNextPower, AlternateItself, StripesStay};
 
 /// A call and its reply determine what a step of the plain map leaves, and the names of which the
 /// call doesn't speak stay bound as they were.
 pub fn law_of_steps<V>()
     ensures determined { StepsAreDetermined V }
     ensures others { StepsLeaveOthers V }
+{}
+
+/// A step is a session on the names of which its call speaks, and on any others with them: so are
+/// the call on one name and the change of two. A session on all names is one on those that were
+/// bound or are.
+pub fn law_of_sessions<V>()
+    ensures names { StepsAreSessions V }
+    ensures all { SessionsAreOfAllNames V }
 {}
 
 /// A beginning of a legal history is legal, and a legal history leads to one map.

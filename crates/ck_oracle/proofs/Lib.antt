@@ -1,2 +1,3 @@
+pub mod PlainNames
 pub mod PlainPairs
 pub mod PlainSteps

@@ -30,11 +30,11 @@ remove-here m k = get-remove nat_list_cmp_total m k k ∙ ap (λ b. cond b None 
 remove-else : (m : Map ℕ) (k q : Name) → q ≢ k → get (remove m k) q ≡ get m q
 remove-else m k q n = get-remove nat_list_cmp_total m k q ∙ ap (λ b. cond b None (get m q)) (no_name q k n)
 
-binding-here : (m : Map ℕ) (k : Name) (o : Option ℕ) → get (with_binding m k o) k ≡ o
+pub binding-here : (m : Map ℕ) (k : Name) (o : Option ℕ) → get (with_binding m k o) k ≡ o
 binding-here m k (Some v) = insert-here m k v
 binding-here m k None = remove-here m k
 
-binding-else : (m : Map ℕ) (k : Name) (o : Option ℕ) (q : Name) → q ≢ k → get (with_binding m k o) q ≡ get m q
+pub binding-else : (m : Map ℕ) (k : Name) (o : Option ℕ) (q : Name) → q ≢ k → get (with_binding m k o) q ≡ get m q
 binding-else m k (Some v) q n = insert-else m k v q n
 binding-else m k None q n = remove-else m k q n
 

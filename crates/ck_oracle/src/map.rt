@@ -1,7 +1,7 @@
 //! A plain map that follows a history, and so decides which histories are legal.
 ghost use Rattle.std.specs.Prelude.{◌≡◌, ◌↔◌, ℕ, true, false, ◌<◌, ◌≤◌, length, slice_get, IsTrue, IfOk, IfSome, IfNone, IfErr, IsSome, IsOk, MatchResult, OnOk, OnErr, OnSome, List, ◌∷◌, [], ◌++◌, is_ok};
 ghost use Rattle.std.specs.FinMap as map;
-ghost use Rattle.ck_model.specs.Promise.{Name, name_cmp, Map, After, IsLegal};
+ghost use Rattle.ck_model.specs.Promise.{Name, name_cmp, Map, IsAmong, AreDifferent, bound_in, After, IsLegal};
 ghost use Rattle.ck_oracle.specs.PlainMap.{place_of, with_binding, Stands, Rises, Follows};
 
 use crate::answers::{after_act, after_two};
@@ -9,6 +9,7 @@ use ck_model::history::{Act, Call, Entry, Name, Reply};
 use std::alloc::{AllocError, Global};
 use std::cmp::Ordering;
 use std::collections::LinkedList;
+use std::collections::linked_list::Iter;
 use std::marker::Model;
 
 /// A map from names to numbers: the list of its pairs, in rising order of the names.
@@ -32,6 +33,16 @@ impl Model for PlainMap {
     ghost invariant = { λ a. T (map.is_sorted name_cmp a.pairs.items) };
 }
 
+impl Clone for PlainMap {
+    ghost is_clone = { λ m n. n ≡ m };
+
+    fn clone(&self) -> Result<PlainMap, AllocError> {
+        Ok(PlainMap {
+            pairs: self.pairs.clone()?,
+        })
+    }
+}
+
 // Where the name stands, or else where it would go in.
 fn place(pairs: &[(Name, u64)], name: &Name) -> Result<usize, usize>
     ensures at { MatchResult result (λ i. i ≡ place_of name.now pairs.now) (λ i.
@@ -47,6 +58,31 @@ fn place(pairs: &[(Name, u64)], name: &Name) -> Result<usize, usize>
         }
     }
     Err(pairs.len())
+}
+
+// Whether the name is one of these.
+fn is_among(name: &Name, names: Iter<'_, Name>) -> bool
+    ensures { IsTrue result ↔ IsAmong name.now names.entry }
+{
+    for other in names {
+        if name == other {
+            return true;
+        }
+    }
+    false
+}
+
+// Whether no name stands twice.
+fn are_different(names: &LinkedList<Name>) -> bool
+    ensures { IsTrue result ↔ AreDifferent names.now }
+{
+    let mut rest = names.iter();
+    while let Some(name) = rest.next() {
+        if is_among(name, rest.clone().unwrap()) {
+            return false;
+        }
+    }
+    true
 }
 
 impl PlainMap {
@@ -207,7 +243,65 @@ impl PlainMap {
         }
     }
 
-    // A step of a session.
+    // Whether each name is bound as said.
+    fn is_bound(&self, names: &LinkedList<Name>, values: &LinkedList<Option<u64>>) -> bool
+        ensures { IsTrue result ↔ (bound_in self.now names.now ≡ values.now) }
+    {
+        if names.len() != values.len() {
+            return false;
+        }
+        for (name, value) in names.iter().zip(values) {
+            if self.get(name) != *value {
+                return false;
+            }
+        }
+        true
+    }
+
+    // Binds each name as said, and no other.
+    fn set_each(
+        &mut self,
+        names: &LinkedList<Name>,
+        values: &LinkedList<Option<u64>>,
+    ) -> Result<(), AllocError>
+        requires different { AreDifferent names.now }
+        requires as_many { length values.now ≡ length names.now }
+        ensures bound { OnOk result (bound_in self.new names.now ≡ values.now) }
+        ensures others { OnOk result ((q : Name) →
+            ¬ (IsAmong q names.now) → map.get self.new q ≡ map.get self.old q) }
+    {
+        for (name, value) in names.iter().zip(values) {
+            self.set(name, *value)?;
+        }
+        Ok(())
+    }
+
+    // A step of a session on some names.
+    fn follow_session_on(
+        &mut self,
+        names: &LinkedList<Name>,
+        before: &LinkedList<Option<u64>>,
+        after: &LinkedList<Option<u64>>,
+        reply: &Reply<u64>,
+    ) -> Result<bool, AllocError>
+        ensures follows { IfOk result
+            (Follows self.old (Call.SessionOn names.now before.now after.now) reply.now self.new) }
+        ensures err { OnErr result (self.new ≡ self.old) }
+    {
+        if !matches!(reply, Reply::Closed)
+            || !are_different(names)
+            || !self.is_bound(names, before)
+            || after.len() != names.len()
+        {
+            return Ok(false);
+        }
+        let mut new = self.clone()?;
+        new.set_each(names, after)?;
+        *self = new;
+        Ok(true)
+    }
+
+    // A step of a session on all names.
     fn follow_session(
         &mut self,
         before: &LinkedList<(Name, u64)>,
@@ -247,6 +341,9 @@ impl PlainMap {
             Call::On(name, act) => self.follow_on(name, act, reply),
             Call::ChangeTwo(first, second) => self.follow_two(first, second, reply),
             Call::Len => Ok(self.is_count(reply)),
+            Call::SessionOn(names, before, after) => {
+                self.follow_session_on(names, before, after, reply)
+            }
             Call::Session(before, after) => self.follow_session(before, after, reply),
         }
     }

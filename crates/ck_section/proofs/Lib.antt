@@ -1,6 +1,7 @@
 pub mod Found
 pub mod Decided
 pub mod Steps
+pub mod SeveralKeys
 pub mod Rebinding
 pub mod Hopped
 pub mod Rebound

@@ -13,9 +13,10 @@ mod entry;
 mod look;
 mod place;
 
-// Calls on one key, those that may bind it, and the call on two.
+// Calls on one key, those that may bind it, the call on two, and the one on several.
 pub mod insertion;
 mod one_key;
+mod several_keys;
 mod two_keys;
 
 // One hop of a displacement.
@@ -47,5 +48,6 @@ pub use one_key::{
 pub use place::{HeldBucket, KeyPlace};
 pub use retain::retain_all;
 pub use room::{make_room, settled_place};
+pub use several_keys::find_each;
 pub use two_keys::update_two;
 pub use whole::{clear_all, find_in_all, key_place_in_all};

@@ -18,6 +18,7 @@ enum Ask {
     Erase(u64),
     ChangeTwo(u64, u64),
     Len,
+    SessionOn(&'static [u64], &'static [Option<u64>], &'static [Option<u64>]),
     Session(&'static [(u64, u64)], &'static [(u64, u64)]),
 }
 
@@ -38,6 +39,22 @@ fn name(alloc: Global, number: u64) -> Result<Name, AllocError> {
     let mut name = LinkedList::new(alloc);
     name.push_back(number)?;
     Ok(name)
+}
+
+fn names(alloc: Global, of: &[u64]) -> Result<LinkedList<Name>, AllocError> {
+    let mut names = LinkedList::new(alloc);
+    for key in of {
+        names.push_back(name(alloc, *key)?)?;
+    }
+    Ok(names)
+}
+
+fn values(alloc: Global, of: &[Option<u64>]) -> Result<LinkedList<Option<u64>>, AllocError> {
+    let mut values = LinkedList::new(alloc);
+    for value in of {
+        values.push_back(*value)?;
+    }
+    Ok(values)
 }
 
 fn pairs(alloc: Global, of: &[(u64, u64)]) -> Result<LinkedList<(Name, u64)>, AllocError> {
@@ -61,6 +78,13 @@ fn call(alloc: Global, ask: Ask) -> Result<Call<u64>, AllocError> {
             return Ok(Call::ChangeTwo(name(alloc, first)?, name(alloc, second)?));
         }
         Ask::Len => return Ok(Call::Len),
+        Ask::SessionOn(of, before, after) => {
+            return Ok(Call::SessionOn(
+                names(alloc, of)?,
+                values(alloc, before)?,
+                values(alloc, after)?,
+            ));
+        }
         Ask::Session(before, after) => {
             return Ok(Call::Session(pairs(alloc, before)?, pairs(alloc, after)?));
         }
@@ -222,6 +246,107 @@ static ON_TWO: [Step; 9] = [
     (Ask::ChangeTwo(258, 258), Answer::Absent, None),
 ];
 
+// Some names.
+static ON_SOME: [Step; 17] = [
+    // Two values are swapped.
+    (
+        Ask::SessionOn(&[3, 0], &[Some(7), Some(5)], &[Some(5), Some(7)]),
+        Answer::Closed,
+        Some((Some(7), Some(5), None)),
+    ),
+    // 3 is renamed to 258.
+    (
+        Ask::SessionOn(&[3, 258], &[Some(7), None], &[None, Some(7)]),
+        Answer::Closed,
+        Some((Some(5), None, Some(7))),
+    ),
+    // One is bound, one unbound and one left.
+    (
+        Ask::SessionOn(
+            &[258, 0, 3],
+            &[None, Some(5), Some(7)],
+            &[Some(1), None, Some(7)],
+        ),
+        Answer::Closed,
+        Some((None, Some(7), Some(1))),
+    ),
+    // The names that aren't named stay.
+    (
+        Ask::SessionOn(&[3], &[Some(7)], &[Some(8)]),
+        Answer::Closed,
+        Some((Some(5), Some(8), None)),
+    ),
+    (
+        Ask::SessionOn(&[258], &[None], &[None]),
+        Answer::Closed,
+        Some((Some(5), Some(7), None)),
+    ),
+    (
+        Ask::SessionOn(&[], &[], &[]),
+        Answer::Closed,
+        Some((Some(5), Some(7), None)),
+    ),
+    // Another value was bound, or one was bound, or none.
+    (
+        Ask::SessionOn(&[3, 0], &[Some(5), Some(7)], &[Some(5), Some(7)]),
+        Answer::Closed,
+        None,
+    ),
+    (
+        Ask::SessionOn(&[0, 3], &[Some(5), None], &[Some(5), Some(7)]),
+        Answer::Closed,
+        None,
+    ),
+    (
+        Ask::SessionOn(&[0, 258], &[Some(5), Some(7)], &[None, None]),
+        Answer::Closed,
+        None,
+    ),
+    // A name stands twice.
+    (
+        Ask::SessionOn(&[3, 3], &[Some(7), Some(7)], &[Some(8), Some(8)]),
+        Answer::Closed,
+        None,
+    ),
+    (
+        Ask::SessionOn(
+            &[258, 3, 258],
+            &[None, Some(7), None],
+            &[None, Some(7), None],
+        ),
+        Answer::Closed,
+        None,
+    ),
+    // There are too few values, or too many.
+    (
+        Ask::SessionOn(&[0, 3], &[Some(5)], &[Some(1), Some(2)]),
+        Answer::Closed,
+        None,
+    ),
+    (
+        Ask::SessionOn(&[0], &[Some(5), Some(7)], &[Some(1)]),
+        Answer::Closed,
+        None,
+    ),
+    (
+        Ask::SessionOn(&[0, 3], &[Some(5), Some(7)], &[Some(1)]),
+        Answer::Closed,
+        None,
+    ),
+    (
+        Ask::SessionOn(&[0], &[Some(5)], &[Some(1), Some(2)]),
+        Answer::Closed,
+        None,
+    ),
+    // Another reply.
+    (
+        Ask::SessionOn(&[3], &[Some(7)], &[Some(8)]),
+        Answer::Done(7, 8),
+        None,
+    ),
+    (Ask::SessionOn(&[], &[], &[]), Answer::Absent, None),
+];
+
 // All names.
 static ON_ALL: [Step; 9] = [
     (Ask::Len, Answer::Count(2), Some((Some(5), Some(7), None))),
@@ -274,6 +399,7 @@ fn steps(rt: HostRuntime) -> Result<(), Fail> {
         ("a bound name", ON_BOUND.as_slice()),
         ("an unbound name", ON_UNBOUND.as_slice()),
         ("two names", ON_TWO.as_slice()),
+        ("some names", ON_SOME.as_slice()),
         ("all names", ON_ALL.as_slice()),
     ];
     for (what, steps) in tables {
@@ -296,7 +422,7 @@ fn bound(alloc: Global, map: &PlainMap) -> Result<Values, AllocError> {
 }
 
 // A history, and what 0, 3 and 258 are bound to after it, where it is legal.
-static HISTORIES: [(&[(Ask, Answer)], Option<Values>); 9] = [
+static HISTORIES: [(&[(Ask, Answer)], Option<Values>); 11] = [
     (&[], Some((None, None, None))),
     (
         &[
@@ -323,6 +449,20 @@ static HISTORIES: [(&[(Ask, Answer)], Option<Values>); 9] = [
             (Ask::Len, Answer::Count(2)),
         ],
         Some((Some(2), Some(4), None)),
+    ),
+    // A name's value goes to another name, and is found there.
+    (
+        &[
+            (Ask::Insert(0, 1), Answer::New),
+            (Ask::Insert(3, 5), Answer::New),
+            (
+                Ask::SessionOn(&[3, 258], &[Some(5), None], &[None, Some(5)]),
+                Answer::Closed,
+            ),
+            (Ask::Find(3), Answer::WasUnbound),
+            (Ask::Find(258), Answer::Was(5)),
+        ],
+        Some((Some(1), None, Some(5))),
     ),
     // What was never bound is found.
     (
@@ -354,6 +494,19 @@ static HISTORIES: [(&[(Ask, Answer)], Option<Values>); 9] = [
         &[
             (Ask::Insert(3, 5), Answer::Old),
             (Ask::Find(3), Answer::Was(5)),
+        ],
+        None,
+    ),
+    // A session on some names saw a value that was no longer bound.
+    (
+        &[
+            (Ask::Insert(0, 1), Answer::New),
+            (Ask::Insert(3, 2), Answer::New),
+            (Ask::Change(3), Answer::Done(2, 4)),
+            (
+                Ask::SessionOn(&[0, 3], &[Some(1), Some(2)], &[Some(2), Some(1)]),
+                Answer::Closed,
+            ),
         ],
         None,
     ),

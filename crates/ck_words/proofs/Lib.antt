@@ -30,3 +30,4 @@ pub mod Lifting
 pub mod Renewals
 pub mod Numbers
 pub mod Listed
+pub mod StripesOfKeys

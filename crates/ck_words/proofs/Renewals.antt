@@ -2,7 +2,7 @@
 use Rattle.std.proofs.Common.{◌≡◌, ◌⊎◌, ℕ, ◌≤◌, reverse, sym, ◌∙◌, subst, inl, inr, arith}
 use Rattle.ck_model.specs.declared.contents.Content.{Content}
 use Rattle.ck_model.specs.declared.history.Call.{Call}
-use Rattle.ck_model.specs.declared.history.Call.TheVariants.{On, ChangeTwo, Len, Session}
+use Rattle.ck_model.specs.declared.history.Call.TheVariants.{On, ChangeTwo, Len, SessionOn, Session}
 use Rattle.ck_model.specs.declared.history.Reply.{Reply}
 use Rattle.ck_model.specs.declared.settings.Settings.{Settings}
 use Rattle.ck_model.specs.Promise.{Name, Step}
@@ -48,6 +48,7 @@ module _ {V : Type 0} (k : Layout) (hs ms ks : Stripes V) where
   owns_on (On q a) same o = λ t h. subst (IsIn t) same (o t h)
   owns_on (ChangeTwo p q) same o = ((λ t h. subst (IsIn t) same (o.0 t h)), (λ t h. subst (IsIn t) same (o.1 t h)))
   owns_on Len same o = λ t h. subst (IsIn t) same (o t h)
+  owns_on (SessionOn qs a b) same o = λ q i t h. subst (IsIn t) same (o q i t h)
   owns_on (Session a b) same o = λ t h. subst (IsIn t) same (o t h)
 
   -- a call after no call is that call

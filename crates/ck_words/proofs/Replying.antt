@@ -5,7 +5,7 @@ use Rattle.std.specs.FinMap.{get, len}
 use Rattle.ck_model.specs.declared.history.Act.{Act}
 use Rattle.ck_model.specs.declared.history.Act.TheVariants.{Find, Insert, Assign, Update, Change, Upsert, Erase}
 use Rattle.ck_model.specs.declared.history.Call.{Call}
-use Rattle.ck_model.specs.declared.history.Call.TheVariants.{On, ChangeTwo, Len, Session}
+use Rattle.ck_model.specs.declared.history.Call.TheVariants.{On, ChangeTwo, Len, SessionOn, Session}
 use Rattle.ck_model.specs.declared.history.Reply.{Reply}
 use Rattle.ck_model.specs.declared.history.Reply.TheVariants.{Was, New, Old, Done, DoneTwo, Absent, Count, Closed}
 use Rattle.ck_model.specs.declared.history.Entry.{Entry}
@@ -85,12 +85,14 @@ module _ {V : Type 0} where
   reply_to (On q a) m m2 = reply_of a (get m q) (get m2 q)
   reply_to (ChangeTwo j k) m m2 = reply_of_two (get m j) (get m k) (get m2 j) (get m2 k)
   reply_to Len m m2 = Count (len m)
+  reply_to (SessionOn qs a b) m m2 = Closed
   reply_to (Session a b) m m2 = Closed
 
   reply_told : (m : Map V) (c : Call V) (r : Reply V) (m2 : Map V) → Step m c r m2 → r ≡ reply_to c m m2
   reply_told m (On q a) r m2 s = reply_is a (get m q) r (get m2 q) s.0
   reply_told m (ChangeTwo j k) r m2 s = two_is (get m j) (get m k) r (get m2 j) (get m2 k) s.1
   reply_told m Len r m2 s = s.0
+  reply_told m (SessionOn qs a b) r m2 s = s.0
   reply_told m (Session a b) r m2 s = s.0
 
   -- the entry of a call that the stripes of a pass did

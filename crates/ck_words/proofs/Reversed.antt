@@ -4,7 +4,7 @@ use Rattle.std.proofs.lemmas.Grind.{reverse_onto}
 use Rattle.std.proofs.lemmas.List.{reverse-reverse}
 use Rattle.std.specs.FinMap.{get}
 use Rattle.ck_model.specs.declared.history.Call.{Call}
-use Rattle.ck_model.specs.declared.history.Call.TheVariants.{On, ChangeTwo, Len, Session}
+use Rattle.ck_model.specs.declared.history.Call.TheVariants.{On, ChangeTwo, Len, SessionOn, Session}
 use Rattle.ck_model.specs.declared.history.Reply.{Reply}
 use Rattle.ck_model.specs.Promise.{Step}
 use Rattle.ck_model.specs.Numbered.{IsIn, AreDistinct, numbers, Holds}
@@ -79,6 +79,7 @@ module _ {V : Type 0} (k : Layout) where
   owns_reverse hs (On q a) o = λ t h. in_reverse hs t (o t h)
   owns_reverse hs (ChangeTwo p q) o = ((λ t h. in_reverse hs t (o.0 t h)), (λ t h. in_reverse hs t (o.1 t h)))
   owns_reverse hs Len o = λ t h. in_reverse hs t (o t h)
+  owns_reverse hs (SessionOn qs a b) o = λ q i t h. in_reverse hs t (o q i t h)
   owns_reverse hs (Session a b) o = λ t h. in_reverse hs t (o t h)
 
   section_reverse : (hs ks : Stripes V) (call : Call V) (reply : Reply V) → Lawful k hs → Section k hs call reply ks → Section k (reverse hs) call reply (reverse ks)

@@ -3,11 +3,11 @@ use Rattle.std.specs.Prelude.{◌≡◌, ℕ, List, [], Some, reverse}
 use Rattle.std.specs.FinMap.{entries}
 use Rattle.ck_model.specs.declared.history.Act.{Act}
 use Rattle.ck_model.specs.declared.history.Call.{Call}
-use Rattle.ck_model.specs.declared.history.Call.TheVariants.{On, Session}
+use Rattle.ck_model.specs.declared.history.Call.TheVariants.{On, SessionOn, Session}
 use Rattle.ck_model.specs.declared.history.Reply.{Reply}
 use Rattle.ck_model.specs.declared.history.Reason.{Reason}
 use Rattle.ck_model.specs.declared.settings.Settings.{Settings}
-use Rattle.ck_model.specs.Promise.{Name, Follows, Replied}
+use Rattle.ck_model.specs.Promise.{Name, bound_in, Follows, Replied}
 use Rattle.ck_model.specs.Contents.{layout_of, Lawful, bindings}
 use Rattle.ck_model.specs.Sections.{HasAll, Section}
 use Rattle.ck_stripe.specs.Stripes.{contents_of}
@@ -25,6 +25,10 @@ module _ {V : Type 0} where
   -- the session of a pass that holds all stripes: from the pairs that they contained when they were taken to those that they contain now
   abbrev pub session_of : PassState V → Call V
   session_of p = Session (entries (bindings (reverse p.view.held))) (entries (bindings (contents_of p.stripes)))
+
+  -- the session of a pass on these names: from what the held stripes bound them to when they were taken to what they bind them to now
+  abbrev pub session_on : List Name → PassState V → Call V
+  session_on qs p = SessionOn qs (bound_in (bindings (reverse p.view.held)) qs) (bound_in (bindings (contents_of p.stripes)) qs)
 
   -- the entry of this call stands right behind what the pass had seen
   abbrev pub FollowsSeen : Call V → Reply V → PassState V → PassState V → Type 0

@@ -5,4 +5,4 @@ use Rattle.ck_words.specs.StripeNumbers.{listed}
 
 -- their numbers, in rising order
 abbrev pub list_of : StripeSet → List ℕ
-list_of x = listed x.first x.second x.third x.fourth x.count
+list_of x = listed x.first x.second x.rest x.count

@@ -141,7 +141,7 @@ impl<K: TableKey + Drop, V: Drop> Words<K, V> {
             → Misses K.hash self.now (list_of set) i p pass.new) }
     {
         for i in 2..set.count() {
-            if !self.take(pass, set.at(i)) {
+            if !self.take(pass, set.number_at(i)) {
                 return Err(i);
             }
         }
@@ -200,13 +200,13 @@ impl<K: TableKey + Drop, V: Drop> Words<K, V> {
         ensures { TakesRest K.hash self.now (list_of set) i result pass.old pass.new }
     {
         self.show_range();
-        let missed = set.at(i);
+        let missed = set.number_at(i);
         if !self.try_again(pass, missed) {
             self.release_first(pass, set, i);
             return Err(missed as u32);
         }
         for j in i + 1..set.count() {
-            let t = set.at(j);
+            let t = set.number_at(j);
             if !self.try_take(pass, t) {
                 self.release_first(pass, set, j);
                 return Err(t as u32);

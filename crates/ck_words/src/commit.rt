@@ -1,5 +1,5 @@
 //! The store that decides a call.
-ghost use Rattle.std.specs.Prelude.{◌≡◌, Some, true, reverse};
+ghost use Rattle.std.specs.Prelude.{◌≡◌, Some, true, map, reverse};
 ghost use Rattle.ck_model.specs.declared.history.Reply.{Reply};
 ghost use Rattle.ck_model.specs.declared.history.Reply.TheVariants.{Closed};
 ghost use Rattle.ck_model.specs.Contents.{layout_of, Lawful};
@@ -9,7 +9,7 @@ ghost use Rattle.ck_stripe.specs.Stripes.{contents_of, HaveNoSpare};
 ghost use Rattle.ck_words.specs.Passes.{PassState, Sends};
 ghost use Rattle.ck_words.specs.Holding.{HasReleased};
 ghost use Rattle.ck_model.specs.Commits.{call_of};
-ghost use Rattle.ck_words.specs.Answering.{session_of, HasDone, HasCommitted};
+ghost use Rattle.ck_words.specs.Answering.{session_of, session_on, HasDone, HasCommitted};
 
 use crate::guard::Guard;
 use crate::steps::Says;
@@ -64,6 +64,22 @@ impl<K: TableKey + Drop, V: Drop> Guard<'_, K, V> {
             self.old.pass.now self.new.pass.now }
     {
         self.decide::<Brand, ()>(&());
+    }
+
+    /// Decides a session on the names of these queries with what the stripes contain now, as
+    /// `commit` does, and gives them back: from what these names were bound to when the stripes were
+    /// taken to what they are bound to.
+    pub fn commit_session_on<Q: Query<K>>(&mut self, keys: &[Q])
+        requires locked { self.old.is_locked ≡ true }
+        requires no_spare { HaveNoSpare self.old.pass.now.stripes }
+        requires done { HasDone K.hash self.old.words.now.settings
+            (session_on (map Q.name keys.now) self.old.pass.now) Closed self.old.pass.now }
+        ensures same { self.new.pass.ghost_name ≡ self.old.pass.ghost_name }
+        ensures committed { HasCommitted K.hash self.old.words.now
+            (session_on (map Q.name keys.now) self.old.pass.now)
+            self.old.pass.now self.new.pass.now }
+    {
+        self.decide::<Brand, &[Q]>(&keys);
     }
 
     // Decides the call of `J` with what the stripes contain now, and gives them back: the highest

@@ -61,20 +61,21 @@ impl<K: TableKey + Drop, V: Drop> Held<Stripe<K, V>> for Guard<'_, K, V> {
 
     #[inline(always)]
     fn number(&mut self, i: usize) -> u32 {
-        let (words, set) = (self.words, self.set);
+        let (words, set) = (self.words, &self.set);
         let pass = &*self.pass;
         // Their fields show that the number fits.
         let _ = &words.table;
         let _ = &pass.seat;
-        set.at(i) as u32
+        set.number_at(i) as u32
     }
 
     #[inline(always)]
     fn visit<W: Visitor<Stripe<K, V>>>(&mut self, i: usize, visitor: W) -> W::Answer {
-        let (words, set) = (self.words, self.set);
+        let (words, set) = (self.words, &self.set);
+        let t = set.number_at(i);
         let pass = &mut *self.pass;
         let shared = &words.table.shared;
-        visits::visit_at(shared, &mut pass.seat, set.count(), i, set.at(i), visitor)
+        visits::visit_at(shared, &mut pass.seat, set.count(), i, t, visitor)
     }
 
     // The number of the stripe is that of the bucket, so it needn't be chosen among those of the

@@ -138,7 +138,7 @@ impl<K: TableKey + Drop, V: Drop> Words<K, V> {
         ensures told { IsToldNoMore pass.old pass.new }
     {
         for i in (0..n).rev() {
-            self.give_rest(pass, set.at(i));
+            self.give_rest(pass, set.number_at(i));
         }
     }
 }

@@ -76,4 +76,8 @@ impl<'a> Query<BytesKey> for Bytes<'a> {
     fn is_name_of(&self, key: &BytesKey) -> bool {
         Query::<TextKey>::is_name_of(&self.0, &key.0)
     }
+
+    fn is_same_name(&self, other: &Bytes<'a>) -> bool {
+        self.0 == other.0
+    }
 }

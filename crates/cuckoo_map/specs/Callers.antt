@@ -1,10 +1,10 @@
 -- What contracts see of a caller, and what its calls leave of it.
-use Rattle.std.specs.Prelude.{◌≡◌, ℕ, ◌≤◌, List, [], ◌++◌, All, map, Result, Bool, IfOk, IfErr, OnOk}
+use Rattle.std.specs.Prelude.{◌≡◌, ℕ, ◌≤◌, List, [], ◌++◌, All, map, Option, Result, Bool, IfOk, IfErr, OnOk}
 use Rattle.std.specs.declared.cmp.Ordering.{Ordering}
 use Rattle.std.specs.FinMap.{entries}
 use Rattle.ck_model.specs.declared.history.Act.{Act}
 use Rattle.ck_model.specs.declared.history.Call.{Call}
-use Rattle.ck_model.specs.declared.history.Call.TheVariants.{On, Len, Session}
+use Rattle.ck_model.specs.declared.history.Call.TheVariants.{On, Len, SessionOn, Session}
 use Rattle.ck_model.specs.declared.history.Reply.{Reply}
 use Rattle.ck_model.specs.declared.history.Reply.TheVariants.{Count, Closed}
 use Rattle.ck_model.specs.declared.history.Reason.{Reason}
@@ -19,8 +19,10 @@ use Rattle.cuckoo_map.specs.declared.refusal.Busy.{Busy}
 use Rattle.cuckoo_map.specs.declared.refusal.DrainFault.{DrainFault}
 use Rattle.cuckoo_map.specs.declared.refusal.DrainFault.TheVariants as drain
 use Rattle.cuckoo_map.specs.declared.refusal.GrowFault.{GrowFault}
+use Rattle.cuckoo_map.specs.declared.refusal.KeysRefused.{KeysRefused}
 use Rattle.cuckoo_map.specs.declared.refusal.Refused.{Refused}
 use Rattle.cuckoo_map.specs.Refusals.{IsStripeIn, IsStripeOfEither, FindsOwn, FindsOwnUnlessFull, IsBusyAmong, IsBusyAt}
+use Rattle.cuckoo_map.specs.SeveralKeys.{IsStripeOfAny, RefusesNames}
 use Rattle.cuckoo_map.specs.Notes.{Notes, notes_of, idle_pass}
 use Rattle.cuckoo_map.specs.Needed.{HasGrownFor}
 use Rattle.cuckoo_map.specs.Insertions.{HandsBack}
@@ -172,3 +174,15 @@ module _ {V : Type 0} where
     pub notes : OnOk result (NotesFull hash q c d)
     pub refused : IfErr result (ComesBack hash q key x c d)
     pub found : FindsHeldUnlessFull hash q c d
+
+  -- the call on the names was refused for this
+  abbrev pub IsRefusedOn : (Name → ℕ) → List Name → CallerState V → CallerState V → KeysRefused → Type 0
+  IsRefusedOn hash qs c d refused = RefusesNames hash c.table.settings qs (pass_of c) (pass_of d) refused
+
+  -- What a look at these names leaves of its caller: it was answered with their values of one moment, or was refused.
+  pub record LookLeaves (hash : Name → ℕ) (qs : List Name) (result : Result (List (Option V)) KeysRefused) (c d : CallerState V) : Type 0 where
+    pub same : IsSameCaller c d
+    pub answered : IfOk result (λ values. Replies (SessionOn qs values values) c d Closed)
+    pub notes : OnOk result (KeepsNotes c d)
+    pub refused : IfErr result (IsRefusedOn hash qs c d)
+    pub found : FindsHeldAmong (IsStripeOfAny hash c.table.settings qs) c d

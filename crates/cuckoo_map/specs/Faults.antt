@@ -7,6 +7,8 @@ use Rattle.cuckoo_map.specs.declared.refusal.GrowFault.{GrowFault}
 use Rattle.cuckoo_map.specs.declared.refusal.GrowFault.TheVariants as grows
 use Rattle.cuckoo_map.specs.declared.refusal.DrainFault.{DrainFault}
 use Rattle.cuckoo_map.specs.declared.refusal.DrainFault.TheVariants as drains
+use Rattle.cuckoo_map.specs.declared.refusal.KeysRefused.{KeysRefused}
+use Rattle.cuckoo_map.specs.declared.refusal.KeysRefused.TheVariants as several
 use Rattle.cuckoo_map.specs.declared.refusal.Why.{Why}
 use Rattle.cuckoo_map.specs.declared.refusal.Why.TheVariants as whys
 use Rattle.ck_key.specs.declared.text_key.KeyFault.{KeyFault}
@@ -16,6 +18,11 @@ use Rattle.ck_key.specs.declared.text_key.KeyFault.TheVariants as keys
 abbrev pub fault_of_open : OpenFault → Fault
 fault_of_open (opens.Settings which) = faults.Settings which
 fault_of_open opens.Memory = faults.Memory
+
+-- of a call on several keys
+abbrev pub fault_of_keys : KeysRefused → Fault
+fault_of_keys (several.Busy t) = faults.Busy t
+fault_of_keys (several.Twice i) = faults.Twice i
 
 -- of an insertion
 abbrev pub fault_of_why : Why → Fault

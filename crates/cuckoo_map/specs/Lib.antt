@@ -1,6 +1,7 @@
 pub mod Notes
 pub mod Holding
 pub mod Refusals
+pub mod SeveralKeys
 pub mod Queries
 pub mod Insertions
 pub mod Displacing

@@ -1,11 +1,13 @@
 //! A caller: how it has the table, and a pass of its own.
-ghost use Rattle.std.specs.Prelude.{◌≡◌, ◌≢◌, ◌*◌, ◌^◌, ◌≤◌, ℕ, All, map, OnOk, IfOk, IfErr, MatchResult, nat_eq};
+ghost use Rattle.std.specs.Prelude.{◌≡◌, ◌≢◌, ◌*◌, ◌^◌, ◌<◌, ◌≤◌, ℕ, All, map, OnOk, IfOk, IfErr, MatchResult, nat_eq};
 ghost use Rattle.std.specs.Fn.{FnOnceReturnsAt};
 ghost use Rattle.ck_model.specs.declared.history.Call.TheVariants.{ChangeTwo};
 ghost use Rattle.ck_words.specs.Closing.{IsCaller};
 
 use crate::locked::LockedOn;
-use crate::refusal::{Busy, DrainFault, GrowFault, NoCallers, NotDrained, NotLocked, Refused};
+use crate::refusal::{
+    Busy, DrainFault, GrowFault, KeysRefused, NoCallers, NotDrained, NotLocked, Refused,
+};
 use crate::table::Table;
 use crate::table_ref::TableRef;
 use ck_key::{Query, TableKey};
@@ -103,7 +105,7 @@ impl<T: TableRef<K, V> + Drop, K: TableKey + Drop, V: Drop> CallerOn<T, K, V> {
     ghost use Rattle.ck_section.specs.Acts.{Assigns, Upserts, Uprases, TriesUpsert, TriesUpsertWith, Updates, Modifies, Changes};
     ghost use Rattle.ck_section.specs.Acts.{ReplacesIf, TriesChange, Erases, ErasesBy, ChangesTwo};
     ghost use Rattle.cuckoo_map.specs.Callers.{pass_of, IsSameCaller, Replies, RepliesOn, KeepsNotes, StaysAsIs, StaysButDoublings, MeetsCaller, HearsMessage, message_of_caller, Drains, IsNotDrained, FindsHeldOfAny};
-    ghost use Rattle.cuckoo_map.specs.Callers.{QueryLeaves, InsertionLeaves, Counts, GrowsTo, GrowsFor, IsBusyOn};
+    ghost use Rattle.cuckoo_map.specs.Callers.{QueryLeaves, InsertionLeaves, LookLeaves, Counts, GrowsTo, GrowsFor, IsBusyOn};
     ghost use Rattle.cuckoo_map.specs.Callers.{IsBusyOnSome, IsBusyOnAny, IsBusyOnTwo, FindsHeldOwn};
     ghost use Rattle.cuckoo_map.specs.Callers.{FindsHeldOfTwo, FindsHeldAmong, FindsHeldOfAny};
     ghost use Rattle.cuckoo_map.specs.Locking.{HasLocked};
@@ -408,6 +410,29 @@ impl<T: TableRef<K, V> + Drop, K: TableKey + Drop, V: Drop> CallerOn<T, K, V> {
         ensures found { FindsHeldOfTwo K.hash (Q.name a) (Q.name b) self.old self.new }
     {
         self.table.table().update_two(&mut self.pass, a, b, f)
+    }
+
+    /// The values of up to eight different keys, in their order, all of one moment; `None` where
+    /// one is unbound. It is one step of the map. A key that stands twice is refused as `Twice`.
+    ///
+    /// ```
+    /// let [left, right] = caller.find_all([&NumKey(1), &NumKey(2)])?;
+    /// ```
+    pub fn find_all<Q: Query<K>, const N: usize>(
+        &mut self,
+        keys: [Q; N],
+    ) -> Result<[Option<V>; N], KeysRefused>
+    where
+        V: Copy,
+        requires some { 0 < N }
+        requires few { N ≤ 8 }
+        ensures { LookLeaves K.hash (map Q.name keys) result self.old self.new }
+    {
+        let mut values = [None; N];
+        self.table
+            .table()
+            .find_all(&mut self.pass, &keys, &mut values)?;
+        Ok(values)
     }
 
     /// Unbinds the key, and gives the value that it had; `None` where it was unbound.

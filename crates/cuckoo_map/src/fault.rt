@@ -3,7 +3,8 @@ ghost use Rattle.std.specs.Prelude.{◌≡◌};
 
 use crate::pool::{AllLent, NoList, NoPool};
 use crate::refusal::{
-    Busy, DrainFault, GrowFault, NoCallers, NotDrained, NotLocked, OpenFault, Refused, Why,
+    Busy, DrainFault, GrowFault, KeysRefused, NoCallers, NotDrained, NotLocked, OpenFault, Refused,
+    Why,
 };
 use ck_key::{KeyFault, TableKey};
 use ck_model::settings::OutOfRange;
@@ -44,6 +45,9 @@ pub enum Fault {
     /// The text of a key has more than 64 bytes.
     #[error("the key has more than 64 bytes")]
     TooLong,
+    /// The key at this position of those of a call stands again behind it.
+    #[error("the key at position {0} is named twice")]
+    Twice(usize),
     /// All items of the pool are lent.
     #[error("all items of the pool are lent: try again, or make it of more")]
     AllLent,
@@ -94,6 +98,20 @@ impl<C: Drop> From<NotLocked<C>> for Fault {
 
     fn from(back: NotLocked<C>) -> Fault {
         Fault::Busy(back.busy.0)
+    }
+}
+
+impl From<KeysRefused> for Fault {
+    ghost use Rattle.std.specs.Prelude.{◌≡◌};
+    ghost use Rattle.cuckoo_map.specs.Faults.{fault_of_keys};
+
+    ghost from_gives = { λ refused fault. fault ≡ fault_of_keys refused };
+
+    fn from(refused: KeysRefused) -> Fault {
+        match refused {
+            KeysRefused::Busy(stripe) => Fault::Busy(stripe),
+            KeysRefused::Twice(position) => Fault::Twice(position),
+        }
     }
 }
 

@@ -45,12 +45,13 @@ mod table_ref;
 // How each call locks its stripes.
 mod locking;
 
-// Calls on a key, on two, and on none.
+// Calls on a key, on two, on several, and on none.
 mod changes;
 mod growth;
 mod insertions;
 mod key_pairs;
 mod look_ups;
+mod several_keys;
 mod size;
 
 // How an insertion comes to a slot for its key.
@@ -69,7 +70,8 @@ pub use handle::{Handle, LockedHandle};
 pub use locked::{LockedOn, LockedTable};
 pub use pool::{AllLent, NoList, NoPool, Pool};
 pub use refusal::{
-    Busy, DrainFault, GrowFault, NoCallers, NotDrained, NotLocked, OpenFault, Refused, Why,
+    Busy, DrainFault, GrowFault, KeysRefused, NoCallers, NotDrained, NotLocked, OpenFault, Refused,
+    Why,
 };
 pub use table::Table;
 pub use table_ref::TableRef;

@@ -27,6 +27,29 @@ pub enum OpenFault {
 #[error("stripe {0} was held in all tries: try again, or open with more turns")]
 pub struct Busy(pub u32);
 
+/// Why a call on several keys was refused. It changed nothing.
+#[derive(Debug, Clone, Copy, PartialEq, Eq, Error)]
+pub enum KeysRefused {
+    /// This stripe of one of the keys was found held in as many tries in a row as the settings
+    /// allow.
+    #[error("stripe {0} was held in all tries: try again, or open with more turns")]
+    Busy(u32),
+    /// The key at this position stands again behind it. No stripe was tried.
+    #[error("the key at position {0} is named twice")]
+    Twice(usize),
+}
+
+impl From<Busy> for KeysRefused {
+    ghost use Rattle.std.specs.Prelude.{◌≡◌};
+    ghost use Rattle.cuckoo_map.specs.declared.refusal.KeysRefused.TheVariants as refusals;
+
+    ghost from_gives = { λ busy refused. refused ≡ refusals.Busy busy.0 };
+
+    fn from(busy: Busy) -> KeysRefused {
+        KeysRefused::Busy(busy.0)
+    }
+}
+
 /// Why the table was not made to grow.
 #[derive(Debug, Clone, Copy, PartialEq, Eq, Error)]
 pub enum GrowFault {

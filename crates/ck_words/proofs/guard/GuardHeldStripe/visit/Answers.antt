@@ -14,7 +14,7 @@ pub invariant_of-self : goal.invariant_of-self
 invariant_of-self g c = let self = c.args.self.now in still_lent c.pass.inside.seat self.pass.now c.pass.view_is self.words.now self.own (if self.is_locked then list_of self.set else []) self.numbered c.visit_at.new.seat _ _ c.visit_at.ensures.2 self.of_table
 
 pub visit_at-requires : goal.visit_at-requires
-visit_at-requires g c = let self = c.args.self.now in may_visit (g.W.Visitor.may c.args.visitor) (g.W.Visitor.does c.args.visitor) (lends c.pass.inside.seat self.pass.now c.pass.view_is self.words.now self.own (list_of self.set) (numbers_with self.is_locked (list_of self.set) self.pass.now.stripes self.numbered c.args.i c.requires.inside) _ c.args.i _ _ c.words.view_is c.pass.invariant.seated c.requires.inside c.count.ensures c.at.ensures.value) c.pass.inside.seat self.pass.now c.pass.view_is c.args.i (c.requires.may no_stripe) (c.requires.keeps no_stripe)
+visit_at-requires g c = let self = c.args.self.now in may_visit (g.W.Visitor.may c.args.visitor) (g.W.Visitor.does c.args.visitor) (lends c.pass.inside.seat self.pass.now c.pass.view_is self.words.now self.own (list_of self.set) (numbers_with self.is_locked (list_of self.set) self.pass.now.stripes self.numbered c.args.i c.requires.inside) _ c.args.i _ _ c.words.view_is c.pass.invariant.seated c.requires.inside c.count.ensures c.number_at-t.ensures.value) c.pass.inside.seat self.pass.now c.pass.view_is c.args.i (c.requires.may no_stripe) (c.requires.keeps no_stripe)
 
 pub returns : goal.returns
 returns g c =

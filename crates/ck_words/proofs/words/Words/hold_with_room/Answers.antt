@@ -1,4 +1,6 @@
-use Rattle.std.proofs.Common.{rules, ◌≡◌, ◌∙◌, sym, subst}
+use Rattle.std.proofs.Common.{rules, ◌≡◌, ◌∙◌, List, sym, subst}
+use Rattle.ck_stripe.specs.Stripe.{StripeState}
+use Rattle.ck_stripe.specs.Tables.{AreSettled}
 use Rattle.ck_core.specs.declared.view.View.{View}
 use Rattle.ck_words.specs.Passes.{PassState}
 use Rattle.ck_words.specs.Retries.{Stays}
@@ -27,3 +29,8 @@ returns-clause-whole g c =
     let same : p ≡ q = λ i. record { table = sym c.len.ensures.stays.2 i; view = sym c.len.ensures.stays.1 i; stripes = sym c.len.ensures.same i } in
     let there : q ≡ c.in-Ok-with_capacity.pass-1-own.given.0 = search rules in
     rw (← there) (subst (λ (x : PassState g.row.V.Denot). IsWhole g.K.TableKey.hash c.args.self.now.settings x) same c.settle_whole.ensures.whole)
+
+pub returns-clause-settled : goal.returns-clause-settled
+returns-clause-settled g c =
+    let there : c.len.new.held.pass.now ≡ c.in-Ok-with_capacity.pass-1-own.given.0 = search rules in
+    rw (← there) (subst (λ (ss : List (StripeState g.row.V.Denot)). AreSettled ss) (sym c.len.ensures.same) c.settle_whole.ensures.settled)

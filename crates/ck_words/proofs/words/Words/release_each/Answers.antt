@@ -12,7 +12,7 @@ loop-i-init g c = record {
 }
 
 pub give_rest-requires-clause-holds : goal.give_rest-requires-clause-holds
-give_rest-requires-clause-holds g c = record { own = search rules; highest = (let ns = list_of c.args.set in let i = c.loop-i.i in (take (i - 1) ns, c.loop-i.invariant.leaves.numbered ∙ (last_taken ns i c.loop-i-test.true (omega arith) ∙ ap (λ u. take (i - 1) ns ++ u ∷ []) (sym c.at.ensures.value)))); no_spare = search rules }
+give_rest-requires-clause-holds g c = record { own = search rules; highest = (let ns = list_of c.args.set in let i = c.loop-i.i in (take (i - 1) ns, c.loop-i.invariant.leaves.numbered ∙ (last_taken ns i c.loop-i-test.true (omega arith) ∙ ap (λ u. take (i - 1) ns ++ u ∷ []) (sym c.number_at.ensures.value)))); no_spare = search rules }
 
 pub loop-i-preserved : goal.loop-i-preserved
 loop-i-preserved g c =

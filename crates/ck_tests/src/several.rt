@@ -1,0 +1,83 @@
+//! Values of several keys at one moment.
+use ck_fixtures::{NumCaller, SIXTEEN_BUCKETS, bind_all, callers_of, three_callers};
+use ck_key::{NumKey, TextKey};
+use cuckoo_map::{Caller, Fault, KeysRefused};
+use std::process::Abort;
+use std::test::Fail;
+
+/// The keys that the tests bind: key 3 has stripe 3 alone, key 0 has stripes 0 and 1, key 1 has
+/// stripes 1 and 3, and key 258 has stripe 2 alone, of four.
+const BOUND: &[(u64, u64)] = &[(3, 30), (0, 5), (1, 7), (258, 8)];
+
+#[test]
+fn each_key_has_its_value(rt: HostRuntime) -> Result<(), Fail> {
+    let (mut caller, _, _) = three_callers(rt.alloc(), SIXTEEN_BUCKETS.settings(3))?;
+    assert!(&rt; bind_all(&mut caller, BOUND));
+    assert!(rt; caller.find_all([&NumKey(0)]) == Ok([Some(5)]));
+    assert!(rt; caller.find_all([&NumKey(9)]) == Ok([None]));
+    let some = [&NumKey(258), &NumKey(9), &NumKey(3)];
+    assert!(rt; caller.find_all(some) == Ok([Some(8), None, Some(30)]));
+    let eight = [
+        &NumKey(1),
+        &NumKey(20),
+        &NumKey(3),
+        &NumKey(0),
+        &NumKey(21),
+        &NumKey(258),
+        &NumKey(22),
+        &NumKey(23),
+    ];
+    let values = [Some(7), None, Some(30), Some(5), None, Some(8), None, None];
+    assert!(rt; caller.find_all(eight) == Ok(values));
+    // Nothing changed.
+    assert!(rt; caller.len() == Ok(4));
+    Ok(())
+}
+
+#[test]
+fn a_key_that_stands_twice_is_refused(rt: HostRuntime) -> Result<(), Fail> {
+    let (mut caller, _, _) = three_callers(rt.alloc(), SIXTEEN_BUCKETS.settings(3))?;
+    assert!(&rt; bind_all(&mut caller, BOUND));
+    let twice = [&NumKey(3), &NumKey(3)];
+    assert!(rt; caller.find_all(twice) == Err(KeysRefused::Twice(0)));
+    let apart = [&NumKey(0), &NumKey(1), &NumKey(9), &NumKey(1)];
+    assert!(rt; caller.find_all(apart) == Err(KeysRefused::Twice(1)));
+    assert!(rt; Fault::from(KeysRefused::Twice(1)) == Fault::Twice(1));
+    assert!(rt; Fault::from(KeysRefused::Busy(3)) == Fault::Busy(3));
+    assert!(rt; caller.find_all([&NumKey(3)]) == Ok([Some(30)]));
+    Ok(())
+}
+
+/// Looks at keys of which one has the stripe 3, and at others.
+fn look_within(rt: &impl Abort, caller: &mut NumCaller<'_>) {
+    let held = [&NumKey(258), &NumKey(0), &NumKey(1)];
+    assert!(rt; caller.find_all(held) == Err(KeysRefused::Busy(3)));
+    let free = [&NumKey(258), &NumKey(0)];
+    assert!(rt; caller.find_all(free) == Ok([Some(8), Some(5)]));
+}
+
+#[test]
+fn a_held_stripe_is_busy(rt: HostRuntime) -> Result<(), Fail> {
+    let (mut first, mut second, _) = three_callers(rt.alloc(), SIXTEEN_BUCKETS.settings(3))?;
+    assert!(&rt; bind_all(&mut first, BOUND));
+    let bound = first.update_fn(&NumKey(3), |value: u64| {
+        look_within(&rt, &mut second);
+        value
+    });
+    assert!(rt; bound == Ok(true));
+    // The stripes that the refused look had taken before are free again.
+    assert!(rt; first.find_all([&NumKey(0), &NumKey(3)]) == Ok([Some(5), Some(30)]));
+    Ok(())
+}
+
+#[test]
+fn texts_are_looked_up_by_what_they_are(rt: HostRuntime) -> Result<(), Fail> {
+    let key = TextKey::new(rt.alloc(), b"left")?;
+    let settings = SIXTEEN_BUCKETS.settings(1);
+    let mut callers: Vec<Caller<'_, TextKey, u64>> = callers_of(rt.alloc(), settings)?;
+    let mut caller = callers.pop().expect(&rt, "a caller");
+    assert!(rt; caller.insert(key, 1).is_ok());
+    assert!(rt; caller.find_all(["right", "left"]) == Ok([None, Some(1)]));
+    assert!(rt; caller.find_all(["left", "left"]) == Err(KeysRefused::Twice(0)));
+    Ok(())
+}
