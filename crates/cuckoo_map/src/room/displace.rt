@@ -78,11 +78,13 @@ impl<K: TableKey + Drop, V: Drop> Table<K, V> {
         requires power { (self.now.settings.s ≤ power) × (power ≤ 26) }
         ensures { EndsBack self.now result pass.old pass.new }
     {
-        match self.search_path(pass, hash, power)? {
-            Searched::Path(path) if may_displace => self.follow(pass, &path)?,
-            Searched::Path(_) => return Ok(false),
-            Searched::OutOfDate => {}
-            Searched::Nothing => return Ok(!self.prepare(preparation, power)),
+        match self.search_path(pass, hash, power) {
+            Ok(Searched::Path(path)) if may_displace => self.follow(pass, &path)?,
+            Ok(Searched::OutOfDate) => {}
+            Ok(Searched::Nothing) => return Ok(!self.prepare(preparation, power)),
+            Err(busy) if may_displace => return Err(busy),
+            // All stripes are taken next, whether the last search saw all that it wanted or not.
+            Ok(Searched::Path(_)) | Err(_) => return Ok(false),
         }
         Ok(true)
     }
