@@ -109,10 +109,11 @@ const AFTER: &[Row] = &[
     (Call::Find(0), Reply::Was(Some(6))),
 ];
 
-/// Four stripes of one bucket each: bucket 2 has key 258, and buckets 0 and 1, those of key 16, are
-/// full. Bucket 3 has room for the keys of bucket 1.
+/// Four stripes of one bucket each: bucket 2 has key 258, bucket 3 has key 3, and buckets 0 and 1,
+/// those of key 16, are full. Bucket 3 has room for the keys of bucket 1.
 const TWO_FULL_BUCKETS: &[(u64, u64)] = &[
     (258, 258),
+    (3, 3),
     (0, 1),
     (4, 2),
     (8, 3),
@@ -268,8 +269,8 @@ static SCENES: [Scene; 6] = [
         seconds: &[(Call::Find(15), Reply::Was(Some(15)))],
         thirds: &[],
     },
-    // Displacement is tried as often as the settings say, and then under all stripes, of which one
-    // is held.
+    // Displacement is tried as often as the settings say, and then under all stripes. Two are held:
+    // the lower one is found first, whichever a search would find.
     Scene {
         what: "no try to make room but under all stripes",
         shape: Shape {
@@ -280,7 +281,7 @@ static SCENES: [Scene; 6] = [
         },
         bound: TWO_FULL_BUCKETS,
         turn: Turn {
-            around: Around::Update(258, None),
+            around: Around::Transfer(258, 3),
             seconds: &[
                 (Call::Insert(16, 9), Reply::BothBack(16, 9, Why::Busy(2))),
                 (Call::Find(16), Reply::Was(None)),
