@@ -16,6 +16,8 @@ mod growing;
 #[cfg(test)]
 mod lists;
 #[cfg(test)]
+mod locked_keys;
+#[cfg(test)]
 mod memory;
 #[cfg(test)]
 mod messages;

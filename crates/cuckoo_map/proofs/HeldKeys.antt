@@ -1,11 +1,13 @@
 -- Calls on several keys whose stripes are held.
-use Rattle.std.proofs.Common.{◌≡◌, ℕ, ◌<◌, ◌≤◌, List, [], Option, Ok, Err, Some, reverse, inl, refl, sym, ap, ◌∙◌, subst, map, arith}
+use Rattle.std.proofs.Common.{◌≡◌, ℕ, ◌<◌, ◌≤◌, List, [], length, Option, Some, None, reverse, inl, refl, sym, ap, ◌∙◌, subst, map, arith}
+use Rattle.std.specs.Prelude.{IfSome, IfNone, MatchOption}
 use Rattle.std.specs.FinMap.{get}
 use Rattle.ck_model.specs.declared.contents.Content.{Content}
 use Rattle.ck_model.specs.declared.history.Act.{Act}
+use Rattle.ck_model.specs.declared.history.Act.TheVariants.{Find}
 use Rattle.ck_model.specs.declared.history.Call.TheVariants.{On, SessionOn}
 use Rattle.ck_model.specs.declared.history.Reply.{Reply}
-use Rattle.ck_model.specs.declared.history.Reply.TheVariants.{Closed}
+use Rattle.ck_model.specs.declared.history.Reply.TheVariants.{Was, Closed}
 use Rattle.ck_model.specs.Promise.{Name, Step, IsAmong, AreDifferent, bound_in}
 use Rattle.ck_model.specs.Numbered.{IsIn, numbers, Holds}
 use Rattle.ck_model.specs.Contents.{Layout, layout, layout_of, Stripes, Lawful, bindings, power_of}
@@ -14,38 +16,52 @@ use Rattle.ck_stripe.specs.Stripe.{StripeState}
 use Rattle.ck_stripe.specs.Stripes.{stripe_at, contents_of}
 use Rattle.ck_stripe.specs.Tables.{AreHeld}
 use Rattle.ck_section.specs.Places.{HasBoth}
+use Rattle.ck_model.specs.Paths.{HasNoRoom}
+use Rattle.ck_section.specs.Calls.{IsWithoutRoom, ChangesContents}
+use Rattle.ck_section.proofs.Decided.{IsCallOn}
+use Rattle.ck_section.proofs.Kept.{no_spare_after, power_kept}
 use Rattle.ck_words.specs.declared.stripe_set.StripeSet.{StripeSet}
 use Rattle.ck_words.specs.Words.{WordsState}
 use Rattle.ck_words.specs.Passes.{PassState, IsPassOf, numbers_of}
-use Rattle.ck_words.specs.Retries.{as_doubled, FindsAmong}
+use Rattle.ck_words.specs.Retries.{as_doubled, Stays, FindsAmong}
 use Rattle.ck_words.specs.Holding.{IsDoubledBy}
 use Rattle.ck_words.specs.Answering.{HasDone, HasCommitted, IsAnswered, session_on}
 use Rattle.ck_words.specs.Closing.{IsCaller}
 use Rattle.ck_words.proofs.Reversed.{lawful_reverse, held_reverse}
 use Rattle.ck_words.proofs.Seating.{numbers-contents}
-use Rattle.cuckoo_map.specs.SeveralKeys.{IsStripeOfAny, HoldsNames, RefusesNames}
-use Rattle.cuckoo_map.specs.declared.refusal.KeysRefused.{KeysRefused}
-use Rattle.cuckoo_map.specs.declared.refusal.KeysRefused.TheVariants.{Busy, Twice}
-use Rattle.cuckoo_map.specs.Callers.{CallerState, caller_of, IsSameCaller, FindsHeldAmong, IsRefusedOn, LookLeaves}
-use Rattle.cuckoo_map.proofs.Callers.{same_caller, replies, over}
+use Rattle.cuckoo_map.specs.SeveralKeys.{IsStripeOfAny, HoldsNames}
+use Rattle.cuckoo_map.specs.Callers.{caller_of, pass_of}
+use Rattle.cuckoo_map.specs.Locking.{map_of}
+use Rattle.cuckoo_map.specs.LockedKeys.{KeysState, keys_of, value_of, ActsOn, HasLockedKeys, HoldsKeys}
+use Rattle.cuckoo_map.proofs.Callers.{as_pass}
+use Rattle.cuckoo_map.proofs.Sessions.{same_session, found_reply}
 use Rattle.cuckoo_map.proofs.Calls.{answered_since, answered_level}
 use Rattle.cuckoo_map.proofs.Counted.{one_of_lawful}
 
 module _ {V : Type 0} where
-  -- The pass of a caller holds these stripes, which are those of the names, settled. What they contain is lawful, with the power of when they were taken, and no other name is bound otherwise than then.
-  pub record HoldsKeys (hash : Name → ℕ) (w : WordsState) (stripes : StripeSet) (names : List Name) (p : PassState V) : Type 0 where
-    pub own : IsPassOf w p
-    pub alone : p.view.others ≡ []
-    pub number : (m : ℕ) × (p.view.by ≡ Some m) × (m < w.settings.callers)
-    pub different : AreDifferent names
-    pub owned : (q : Name) → IsAmong q names → HasBoth hash w.settings.s p.stripes q
-    pub same : numbers (contents_of p.stripes) ≡ numbers (reverse p.view.held)
-    pub lawful : Lawful (layout_of hash w.settings) (contents_of p.stripes)
-    pub level : (t : ℕ) (c : Content V) → Holds (reverse p.view.held) t c → c.power ≡ power_of (contents_of p.stripes)
-    pub others : (q : Name) → ¬ (IsAmong q names) → get (bindings (contents_of p.stripes)) q ≡ get (bindings (reverse p.view.held)) q
+  -- settled stripes stay so in a call
+  held_after : (s : ℕ) (old new : List (StripeState V)) → AreHeld s old → ChangesContents old new → AreHeld s new
+  held_after s old new h changes =
+      let inside : (i : ℕ) → i < length new → i < length old = λ i l. subst (λ n. i < n) changes.count l in
+      let first : (stripe_at new 0).content.power ≡ (stripe_at old 0).content.power = changes.power 0 h.some in
+      record {
+        some = subst (λ n. 0 < n) (sym changes.count) h.some;
+        many = h.many;
+        one_s = λ i l. ap (λ (t : StripeState V). t.s) (changes.each i (inside i l)) ∙ h.one_s i (inside i l);
+        settled = λ i l. ap (λ (t : StripeState V). t.settled) (changes.each i (inside i l)) ∙ h.settled i (inside i l);
+        one_power = λ i l. changes.power i (inside i l) ∙ h.one_power i (inside i l) ∙ sym first;
+        least = subst (λ n. s ≤ n) (sym first) h.least;
+        most = subst (λ n. n ≤ 26) (sym first) h.most;
+        no_spare = no_spare_after old new h.no_spare changes;
+        rising = λ i j lt l.
+            let low : (stripe_at new i).number ≡ (stripe_at old i).number = ap (λ (t : StripeState V). t.number) (changes.each i (inside i (omega arith))) in
+            let high : (stripe_at new j).number ≡ (stripe_at old j).number = ap (λ (t : StripeState V). t.number) (changes.each j (inside j l)) in
+            let before = h.rising i j lt (inside j l) in
+            omega arith;
+      }
 
   module _ {hash : Name → ℕ} {w : WordsState} {stripes : StripeSet} {names : List Name} where
-    -- keys whose stripes were just taken are locked
+    -- keys whose stripes were just taken are held
     pub holds_keys : (p p2 : PassState V) → IsCaller w p → IsPassOf w p2 → AreDifferent names → HoldsNames hash w.settings names stripes p p2 → HoldsKeys hash w stripes names p2
     holds_keys p p2 caller own different h =
         let lawful : Lawful (layout_of hash w.settings) (contents_of p2.stripes) = subst (Lawful (layout_of hash w.settings)) (sym h.unchanged) (lawful_reverse (layout_of hash w.settings) p2.view.held h.shows.lawful) in
@@ -55,11 +71,111 @@ module _ {V : Type 0} where
           number = (caller.number.0, h.stays.by ∙ caller.number.1, caller.number.2);
           different = different;
           owned = h.owned;
+          of_table = h.of_table;
+          numbered = h.numbered;
+          settled = h.settled;
           same = ap numbers h.unchanged;
           lawful = lawful;
           level = λ t c held. one_of_lawful (layout_of hash w.settings) (contents_of p2.stripes) lawful t c (subst (λ (hs : Stripes V). Holds hs t c) (sym h.unchanged) held);
           others = λ q out. ap (λ (hs : Stripes V). get (bindings hs) q) h.unchanged;
         }
+
+    -- and so their caller has locked them
+    pub has_locked_keys : (p p2 : PassState V) → IsCaller w p → AreDifferent names → HoldsNames hash w.settings names stripes p p2 → FindsAmong (IsStripeOfAny hash w.settings names) p p2 → HasLockedKeys hash names (caller_of w p) (keys_of w names p2)
+    has_locked_keys p p2 caller different h found = record {
+      names = refl;
+      different = different;
+      same = record { table = refl; by = h.stays.by };
+      stays = subst (λ (x : PassState V). Stays x.view (pass_of (caller_of w p2)).view) (sym (as_pass caller)) (record {
+        settings = h.stays.settings;
+        by = h.stays.by;
+        mine = h.stays.mine;
+        others = sym caller.alone;
+        heard = h.stays.heard;
+        no_slot = h.stays.no_slot;
+        seen = h.stays.seen;
+        by_others = h.stays.by_others;
+        alone = h.stays.alone;
+        told = h.stays.told;
+        doublings = h.stays.doublings;
+      });
+      found = subst (λ (x : PassState V). FindsAmong (IsStripeOfAny hash w.settings names) x (pass_of (caller_of w p2))) (sym (as_pass caller)) found;
+      unchanged = ap bindings h.unchanged;
+    }
+
+    -- a key of them has its stripes among these
+    pub owns_name : {p : PassState V} → HoldsKeys hash w stripes names p → {k : KeysState V} → keys_of w names p ≡ k → (q : Name) → IsAmong q k.names → HasBoth hash stripes.s p.stripes q
+    owns_name {p} l is q named = subst (λ (s : ℕ). HasBoth hash s p.stripes q) (sym l.of_table) (l.owned q (subst (λ (x : KeysState V). IsAmong q x.names) (sym is) named))
+
+    -- The stripes are held by the pass p, and are shown as k. A call on one of the names was made on those of m, which is p still, and left q.
+    module _ {p : PassState V} (l : HoldsKeys hash w stripes names p) {k : KeysState V} (is : keys_of w names p ≡ k) (name : Name) (named : IsAmong name k.names) {s : ℕ} (at : s ≡ stripes.s)
+        (m : PassState V) (view : m.view ≡ p.view) (table : m.table ≡ p.table) (as_is : m.stripes ≡ p.stripes) where
+      section : (act : Act V) (reply : Reply V) (new : List (StripeState V)) → IsCallOn hash s m.stripes name act reply new → Section (layout_of hash w.settings) (contents_of p.stripes) (On name act) reply (contents_of new)
+      section act reply new call =
+          let of : s ≡ w.settings.s = at ∙ l.of_table in
+          let done = subst (λ (ss : List (StripeState V)). IsCallOn hash s ss name act reply new) as_is call in
+          subst (λ n. Section (layout hash n w.settings.max) (contents_of p.stripes) (On name act) reply (contents_of new)) of
+          (done w.settings.max (subst (λ n. Lawful (layout hash n w.settings.max) (contents_of p.stripes)) (sym of) l.lawful))
+
+      -- a look-up tells what the name is bound to
+      pub value_found : (o : Option V) (new : List (StripeState V)) → IsCallOn hash s m.stripes name Find (Was o) new → value_of k name ≡ o
+      value_found o new call =
+          let before : Option V = get (bindings (contents_of p.stripes)) name in
+          sym (ap (λ (x : KeysState V). value_of x name) is) ∙ sym (found_reply before o _ (section Find (Was o) new call).step.0)
+
+      pub value_found_by : {R : Type 0} (Z : Type 0) (answers : V → R → Type 0) (new : List (StripeState V)) (r : Option R)
+          → IfSome r (λ a. (v : V) × answers v a × IsCallOn hash s m.stripes name Find (Was (Some v)) new) → IfNone r (Z × IsCallOn hash s m.stripes name Find (Was None) new)
+          → MatchOption r (value_of k name ≡ None) (λ a. (v : V) × (value_of k name ≡ Some v) × answers v a)
+      value_found_by Z answers new (Some a) bound unbound = (bound.0, value_found (Some bound.0) new bound.2, bound.1)
+      value_found_by Z answers new None bound unbound = value_found None new unbound.1
+
+      -- or that it has no slot
+      pub without_slot : IsWithoutRoom hash s m.stripes name → HasNoRoom (layout_of hash k.session.caller.table.settings) (contents_of k.session.stripes) name
+      without_slot none =
+          let of : s ≡ w.settings.s = at ∙ l.of_table in
+          let here = subst (λ (ss : List (StripeState V)). IsWithoutRoom hash s ss name) as_is none in
+          subst (λ (x : KeysState V). HasNoRoom (layout_of hash x.session.caller.table.settings) (contents_of x.session.stripes) name) is
+          (subst (λ n. HasNoRoom (layout hash n w.settings.max) (contents_of p.stripes) name) of
+          (here w.settings.max (subst (λ n. Lawful (layout hash n w.settings.max) (contents_of p.stripes)) (sym of) l.lawful)))
+
+      module _ (q : PassState V) (view_left : q.view ≡ m.view) (table_left : q.table ≡ m.table) where
+        kept : q ≡ record p { stripes = q.stripes }
+        kept = λ i. record { table = (table_left ∙ table) i; view = (view_left ∙ view) i; stripes = q.stripes }
+
+        -- they are held still, where nothing changed
+        pub held_as_is : q.stripes ≡ m.stripes → HoldsKeys hash w stripes names q
+        held_as_is same = subst (λ (x : PassState V). HoldsKeys hash w stripes names x) (λ i. record { table = sym (table_left ∙ table) i; view = sym (view_left ∙ view) i; stripes = sym (same ∙ as_is) i }) l
+
+        -- and are shown as before
+        pub shows_as_is : q.stripes ≡ m.stripes → keys_of w names q ≡ k
+        shows_as_is same = (λ i. keys_of w names (record { table = (table_left ∙ table) i; view = (view_left ∙ view) i; stripes = (same ∙ as_is) i })) ∙ is
+
+        -- and where a call was made, which is what was done to them
+        pub acted : ChangesContents m.stripes q.stripes → (act : Act V) (reply : Reply V) → IsCallOn hash s m.stripes name act reply q.stripes → ActsOn name k (keys_of w names q) act reply × HoldsKeys hash w stripes names q
+        acted changed act reply call =
+            let changes : ChangesContents p.stripes q.stripes = subst (λ (ss : List (StripeState V)). ChangesContents ss q.stripes) as_is changed in
+            let done = section act reply q.stripes call in
+            let renewed = done.renewed in
+            let among : IsAmong name names = subst (λ (x : KeysState V). IsAmong name x.names) (sym is) named in (
+              record {
+                session = same_session w p q kept k.session (ap (λ (x : KeysState V). x.session) is);
+                step = subst (λ (x : KeysState V). Step (map_of x.session) (On name act) reply (bindings (contents_of q.stripes))) is done.step;
+              },
+              subst (λ (x : PassState V). HoldsKeys hash w stripes names x) (sym kept) (record {
+                own = l.own;
+                alone = l.alone;
+                number = l.number;
+                different = l.different;
+                owned = λ r i max t of. subst (IsIn t) (sym renewed.same) (l.owned r i max t of);
+                of_table = l.of_table;
+                numbered = sym (numbers-contents q.stripes) ∙ (renewed.same ∙ (numbers-contents p.stripes ∙ l.numbered));
+                settled = held_after w.settings.s p.stripes q.stripes l.settled changes;
+                same = renewed.same ∙ l.same;
+                lawful = renewed.lawful;
+                level = λ t c h. l.level t c h ∙ sym (power_kept p.stripes q.stripes changes);
+                others = λ r out. done.step.1 r (λ e. out (subst (λ (z : Name). IsAmong z names) (sym e) among)) ∙ l.others r out;
+              }),
+            )
 
     -- what was done to them is a session on their names
     pub keys_done : (p : PassState V) → HoldsKeys hash w stripes names p → HasDone hash w.settings (session_on names p) Closed p
@@ -98,29 +214,3 @@ module _ {V : Type 0} where
         let level : IsAnswered (session_on names p2) Closed p z = answered_level p z (none_doubled p2 z l c.doubled ∙ h.stays.doublings) since in
         let before : bound_in (bindings (reverse p2.view.held)) names ≡ values = ap (λ (hs : Stripes V). bound_in (bindings hs) names) (sym h.unchanged) ∙ sym are in
         subst (λ (x : List (Option V) × List (Option V)). IsAnswered (SessionOn names x.0 x.1) Closed p z) (λ j. (before j, sym are j)) level
-
--- the call had the pass p of the caller c, and left q; the table that it was made on, v, is the caller's
-module _ {V : Type 0} (hash : Name → ℕ) {w : WordsState} {c : CallerState V} (p q : PassState V) (is : caller_of w p ≡ c) (before : IsCaller w p) {v : WordsState} (at : v ≡ w) (after : IsCaller v q) (names : List Name)
-    (found : FindsAmong (IsStripeOfAny hash v.settings names) p q) where
-  finds : FindsHeldAmong (IsStripeOfAny hash c.table.settings names) c (caller_of w q)
-  finds = over p q is before at after (λ (x : WordsState) (a b : PassState V). FindsAmong (IsStripeOfAny hash x.settings names) a b) found
-
-  -- it answered with the values of the names
-  pub look_answered : (values : List (Option V)) → IsAnswered (SessionOn names values values) Closed p q → LookLeaves hash names (Ok values) c (caller_of w q)
-  look_answered values a =
-      let told = replies p q is (SessionOn names values values) Closed a in
-      record { same = told.1.0; answered = told.0; notes = told.1.1; refused = tt; found = finds }
-
-  -- or was refused
-  refused_by : (refused : KeysRefused) → RefusesNames hash v.settings names p q refused → q.view.by ≡ p.view.by
-  refused_by (Busy t) r = r.stays.by
-  refused_by (Twice i) r = ap (λ (x : PassState V). x.view.by) r.1
-
-  pub refused_same : (refused : KeysRefused) → RefusesNames hash v.settings names p q refused → IsSameCaller c (caller_of w q)
-  refused_same refused r = same_caller p q is (refused_by refused r)
-
-  pub refused_on : (refused : KeysRefused) → RefusesNames hash v.settings names p q refused → IsRefusedOn hash names c (caller_of w q) refused
-  refused_on refused r = over p q is before at after (λ (x : WordsState) (a b : PassState V). RefusesNames hash x.settings names a b refused) r
-
-  pub look_refused : (refused : KeysRefused) → RefusesNames hash v.settings names p q refused → LookLeaves hash names (Err refused) c (caller_of w q)
-  look_refused refused r = record { same = refused_same refused r; answered = tt; notes = tt; refused = refused_on refused r; found = finds }

@@ -10,6 +10,7 @@ pub mod Growth
 pub mod Callers
 pub mod Locking
 pub mod Needed
+pub mod LockedKeys
 pub use Rattle.ck_model.specs.Promise
 pub use Rattle.ck_model.specs.Ranges
 pub use Rattle.ck_section.specs.Acts

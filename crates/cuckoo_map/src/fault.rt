@@ -3,8 +3,8 @@ ghost use Rattle.std.specs.Prelude.{◌≡◌};
 
 use crate::pool::{AllLent, NoList, NoPool};
 use crate::refusal::{
-    Busy, DrainFault, GrowFault, KeysRefused, NoCallers, NotDrained, NotLocked, OpenFault, Refused,
-    Why,
+    Busy, DrainFault, GrowFault, KeysNotLocked, KeysRefused, NoCallers, NoSlot, NotDrained,
+    NotLocked, OpenFault, Refused, Why,
 };
 use ck_key::{KeyFault, TableKey};
 use ck_model::settings::OutOfRange;
@@ -48,6 +48,9 @@ pub enum Fault {
     /// The key at this position of those of a call stands again behind it.
     #[error("the key at position {0} is named twice")]
     Twice(usize),
+    /// No slot was free for a key among locked keys.
+    #[error("no free slot for the key among its stripes: unlock the keys, and insert it")]
+    NoSlot,
     /// All items of the pool are lent.
     #[error("all items of the pool are lent: try again, or make it of more")]
     AllLent,
@@ -112,6 +115,28 @@ impl From<KeysRefused> for Fault {
             KeysRefused::Busy(stripe) => Fault::Busy(stripe),
             KeysRefused::Twice(position) => Fault::Twice(position),
         }
+    }
+}
+
+impl<C: Drop> From<KeysNotLocked<C>> for Fault {
+    ghost use Rattle.std.specs.Prelude.{◌≡◌};
+    ghost use Rattle.cuckoo_map.specs.Faults.{fault_of_keys};
+
+    ghost from_gives = { λ back fault. fault ≡ fault_of_keys back.why };
+
+    fn from(back: KeysNotLocked<C>) -> Fault {
+        Fault::from(back.why)
+    }
+}
+
+impl<K: Drop, V: Drop> From<NoSlot<K, V>> for Fault {
+    ghost use Rattle.std.specs.Prelude.{◌≡◌};
+    ghost use Rattle.cuckoo_map.specs.declared.fault.Fault.TheVariants as faults;
+
+    ghost from_gives = { λ _ fault. fault ≡ faults.NoSlot };
+
+    fn from(_back: NoSlot<K, V>) -> Fault {
+        Fault::NoSlot
     }
 }
 

@@ -57,8 +57,9 @@ mod size;
 // How an insertion comes to a slot for its key.
 mod room;
 
-// The table under one caller.
+// The table under one caller, and some keys.
 mod locked;
+mod locked_keys;
 
 pub use caller::{Caller, CallerOn};
 pub use ck_key::{KeyFault, MixedKey, NumKey, NumTextKey, PairKey, Query, TableKey, TextKey};
@@ -68,10 +69,11 @@ pub use ck_words::{Message, Pass};
 pub use fault::Fault;
 pub use handle::{Handle, LockedHandle};
 pub use locked::{LockedOn, LockedTable};
+pub use locked_keys::{LockedKeys, LockedKeysOn};
 pub use pool::{AllLent, NoList, NoPool, Pool};
 pub use refusal::{
-    Busy, DrainFault, GrowFault, KeysRefused, NoCallers, NotDrained, NotLocked, OpenFault, Refused,
-    Why,
+    Busy, DrainFault, GrowFault, KeysNotLocked, KeysRefused, NoCallers, NoSlot, NotDrained,
+    NotLocked, OpenFault, Refused, Why,
 };
 pub use table::Table;
 pub use table_ref::TableRef;

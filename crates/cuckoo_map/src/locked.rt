@@ -31,6 +31,8 @@ mod growth;
 mod insertions;
 mod pairs;
 
+pub(crate) use insertions::make_in;
+
 /// A table under one caller: its calls find every stripe free, and no other caller is in a call.
 /// Until it is unlocked, all others find the stripes held. It can't be dropped, so a program that
 /// doesn't unlock it doesn't compile.

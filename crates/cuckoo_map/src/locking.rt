@@ -101,7 +101,7 @@ impl<K: TableKey + Drop, V: Drop> Table<K, V> {
 
     // Takes the stripes of both keys, and carries out the doublings that are left to be. Where the
     // keys may be among them comes back.
-    pub(crate) fn lock_keys<Q: Query<K>>(
+    pub(crate) fn lock_two<Q: Query<K>>(
         &self,
         pass: &mut Pass<K, V>,
         a: Q,

@@ -212,3 +212,37 @@ impl<C> Debug for NotDrained<C> {
             .finish_non_exhaustive()
     }
 }
+
+/// The keys were not locked, and nothing was changed.
+#[derive(Drop, Error)]
+#[error("{why}")]
+pub struct KeysNotLocked<C> {
+    /// The caller that was to lock the keys.
+    pub caller: C,
+    /// Why it did not.
+    pub why: KeysRefused,
+}
+
+impl<C> Debug for KeysNotLocked<C> {
+    fn fmt<W: fmt::Write>(&self, f: &mut Formatter<W>) -> fmt::Result {
+        f.debug_struct("KeysNotLocked")
+            .field("why", &self.why)
+            .finish_non_exhaustive()
+    }
+}
+
+/// A key and a value for which no slot was free among locked keys, given back.
+#[derive(Drop, Error)]
+#[error("no free slot for the key among its stripes: unlock the keys, and insert it")]
+pub struct NoSlot<K, V> {
+    /// The key that was to be bound.
+    pub key: K,
+    /// The value that it was to be bound to.
+    pub value: V,
+}
+
+impl<K, V> Debug for NoSlot<K, V> {
+    fn fmt<W: fmt::Write>(&self, f: &mut Formatter<W>) -> fmt::Result {
+        f.debug_struct("NoSlot").finish_non_exhaustive()
+    }
+}

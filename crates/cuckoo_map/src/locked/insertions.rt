@@ -19,7 +19,7 @@ use ck_key::{KeyHash, TableKey};
 use ck_model::lack::Lack;
 use ck_model::settings::Settings;
 use ck_section::{Insertion, KeyPlace, Uprased, find_entry, insertion, make_room};
-use ck_stripe::settle_all;
+use ck_stripe::{Held, Stripe, settle_all};
 use ck_words::Whole;
 use std::marker::PhantomData;
 
@@ -187,26 +187,26 @@ impl<T: TableRef<K, V> + Drop, K: TableKey + Drop, V: Drop> LockedOn<T, K, V> {
 
 // Makes the insertion of the entry of the key, which may be at this place. Where both its buckets
 // are full, all that was passed comes back.
-fn make_in<K: TableKey + Drop, V: Drop, I: Insertion<K, V>>(
-    whole: &mut Whole<K, V>,
+pub(crate) fn make_in<K: TableKey + Drop, V: Drop, I: Insertion<K, V>, H: Held<Stripe<K, V>>>(
+    held: &mut H,
     place: KeyPlace,
     key: K,
     value: I::Value,
     insertion: I,
 ) -> Result<I::Answer, (K, I::Value, I)>
-    requires place { IsPlaceOf K.hash whole.old.stripes (K.name key) place }
+    requires place { IsPlaceOf K.hash (H.stripes held.old) (K.name key) place }
     requires call { I.can_make insertion value }
     ensures call { IfOk result (TellsOf (I.tells insertion value)
-        (IsCall (effect K.hash (λ p. p.stripes) place whole.old whole.new) (K.name key))) }
+        (IsCall (effect K.hash H.stripes place held.old held.new) (K.name key))) }
     ensures full { IfErr result (λ back. (back.0 ≡ key) × (back.1 ≡ value) × (back.2 ≡ insertion)
-        × IsWithoutRoom K.hash place.s whole.old.stripes (K.name key)) }
-    ensures left { OnErr result (whole.new ≡ whole.old) }
-    ensures rest { ChangesContents whole.old.stripes whole.new.stripes }
-    ensures same { whole.new ≡ record whole.old { stripes = whole.new.stripes } }
+        × IsWithoutRoom K.hash place.s (H.stripes held.old) (K.name key)) }
+    ensures left { OnErr result (H.stripes held.new ≡ H.stripes held.old) }
+    ensures rest { ChangesContents (H.stripes held.old) (H.stripes held.new) }
+    ensures stays { H.stays held.old held.new }
 {
-    match find_entry(whole, place, &key) {
+    match find_entry(held, place, &key) {
         Some(entry) => {
-            let (answer, _) = insertion.make(whole, place, entry, key, value);
+            let (answer, _) = insertion.make(held, place, entry, key, value);
             Ok(answer)
         }
         None => Err((key, value, insertion)),

@@ -1,6 +1,6 @@
 use Rattle.std.proofs.Common.{◌∙◌, sym, ap}
 use Rattle.cuckoo_map.specs.Locking.{LockedState, locked_of}
-use Rattle.cuckoo_map.proofs.Sessions.{acted_locked, has_acted, acted_since, not_without, keeps_power, grows_since}
+use Rattle.cuckoo_map.proofs.Sessions.{only_stripes, acted_locked, has_acted, acted_since, not_without, keeps_power, grows_since}
 use Rattle.cuckoo_map.proofs.locked.LockedOn.make_with_room.Goals as goal
 
 pub unreachable-requires : goal.unreachable-requires
@@ -12,7 +12,7 @@ unreachable-requires g c =
 pub invariant_of-self : goal.invariant_of-self
 invariant_of-self g c =
     let call = c.in-Ok.ensures.call in
-    acted_locked c.self.invariant c.self.view_is c.key_place-place.result c.key_place-place.ensures.s (g.K.TableKey.name c.args.key) c.make_in.new.whole c.make_in.ensures.same
+    acted_locked c.self.invariant c.self.view_is c.key_place-place.result c.key_place-place.ensures.s (g.K.TableKey.name c.args.key) c.make_in.new.held (only_stripes c.self.inside.whole c.make_in.new.held c.make_in.ensures.stays)
     call.0 call.1 c.make_in.ensures.rest call.3
 
 pub returns : goal.returns
@@ -25,9 +25,9 @@ returns g c =
         call.1,
         call.2,
         acted_since q call.0 call.1 c.args.self.now c.make_room.new.self _ c.make_room.ensures.kept
-            (has_acted c.self.invariant c.self.view_is c.key_place-place.result c.key_place-place.ensures.s q c.make_in.new.whole c.make_in.ensures.same call.0 call.1 call.3),
+            (has_acted c.self.invariant c.self.view_is c.key_place-place.result c.key_place-place.ensures.s q c.make_in.new.held (only_stripes c.self.inside.whole c.make_in.new.held c.make_in.ensures.stays) call.0 call.1 call.3),
       );
       refused = tt;
-      grows = grows_since g.K.TableKey.hash q c.args.self.now c.make_room.new.self (locked_of (g.T.TableRef.state c.self.inside.table) c.make_in.new.whole) c.make_room.ensures.grows
-          (keeps_power c.self.invariant c.make_in.new.whole c.make_in.ensures.same c.self.view_is c.make_in.ensures.rest);
+      grows = grows_since g.K.TableKey.hash q c.args.self.now c.make_room.new.self (locked_of (g.T.TableRef.state c.self.inside.table) c.make_in.new.held) c.make_room.ensures.grows
+          (keeps_power c.self.invariant c.make_in.new.held (only_stripes c.self.inside.whole c.make_in.new.held c.make_in.ensures.stays) c.self.view_is c.make_in.ensures.rest);
     }

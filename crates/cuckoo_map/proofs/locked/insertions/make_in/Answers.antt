@@ -9,6 +9,6 @@ returns-in-Some-clause-call g c =
       made.0,
       made.1,
       made.2,
-      subst (λ (ss : List (StripeState g.row.V.Denot)). IsCallOn g.K.TableKey.hash c.args.place.s ss (g.K.TableKey.name c.args.key) made.0 made.1 c.make-answer.new.held.stripes)
+      subst (λ (ss : List (StripeState g.row.V.Denot)). IsCallOn g.K.TableKey.hash c.args.place.s ss (g.K.TableKey.name c.args.key) made.0 made.1 (g.H.Held.stripes c.make-answer.new.held))
           c.find_entry.ensures.same made.4,
     )

@@ -1,0 +1,20 @@
+use Rattle.cuckoo_map.proofs.HeldKeys.{owns_name, acted}
+use Rattle.cuckoo_map.proofs.Told.{told_erased}
+use Rattle.cuckoo_map.proofs.locked_keys.LockedKeysOn.erase.Goals as goal
+
+pub key_place-place-requires-clause-owned : goal.key_place-place-requires-clause-owned
+key_place-place-requires-clause-owned g c = owns_name c.self.invariant c.self.view_is (g.P.Query.name c.args.key) c.requires.named
+
+pub invariant_of-self : goal.invariant_of-self
+invariant_of-self g c =
+    (told_erased (acted c.self.invariant c.self.view_is (g.P.Query.name c.args.key) c.requires.named c.key_place-place.ensures.s c.key_place-place.new.held.pass.now
+    c.key_place-place.ensures.stays.1 c.key_place-place.ensures.stays.2 c.key_place-place.ensures.same
+    c.erase.new.held.pass.now c.erase.ensures.stays.1 c.erase.ensures.stays.2 c.erase.ensures.rest)
+    c.erase.result c.erase.ensures.call).1
+
+pub returns-clause-answered : goal.returns-clause-answered
+returns-clause-answered g c =
+    (told_erased (acted c.self.invariant c.self.view_is (g.P.Query.name c.args.key) c.requires.named c.key_place-place.ensures.s c.key_place-place.new.held.pass.now
+    c.key_place-place.ensures.stays.1 c.key_place-place.ensures.stays.2 c.key_place-place.ensures.same
+    c.erase.new.held.pass.now c.erase.ensures.stays.1 c.erase.ensures.stays.2 c.erase.ensures.rest)
+    c.erase.result c.erase.ensures.call).0

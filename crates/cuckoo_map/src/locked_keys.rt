@@ -1,0 +1,279 @@
+//! Some keys under one caller.
+ghost use Rattle.std.specs.Prelude.{◌≡◌, ◌<◌, ◌≤◌, Some, None, IfOk, IfErr, MatchOption, map, is_some};
+ghost use Rattle.std.specs.Fn.{FnOnceReturnsAt};
+ghost use Rattle.ck_model.specs.declared.history.Reply.TheVariants.{Closed};
+ghost use Rattle.ck_model.specs.Promise.{IsAmong, Replied};
+ghost use Rattle.ck_section.specs.Acts.{Updates, Modifies, Changes, Erases, Inserts, Assigns, Upserts};
+ghost use Rattle.cuckoo_map.specs.Callers.{IsSameCaller, KeepsNotes, IsRefusedOn, FindsHeldAmong};
+ghost use Rattle.cuckoo_map.specs.Insertions.{TellsOf};
+ghost use Rattle.cuckoo_map.specs.SeveralKeys.{IsStripeOfAny};
+ghost use Rattle.cuckoo_map.specs.LockedKeys.{HasLockedKeys, ActsOn, value_of, keys_call, LacksSlot};
+
+use crate::caller::CallerOn;
+use crate::locked::make_in;
+use crate::refusal::{KeysNotLocked, NoSlot};
+use crate::table::Table;
+use crate::table_ref::TableRef;
+use ck_key::{KeyHash, Query, TableKey};
+use ck_section::{Insertion, erase, find, insertion, key_place, modify, update, update_fn};
+use ck_words::{Pass, StripeSet, guard};
+use std::marker::Model;
+
+/// Up to eight keys under one caller: its calls find their stripes free, and no other caller is in
+/// a call on one of these keys. Until they are unlocked, others find these stripes held. It can't be
+/// dropped, so a program that doesn't unlock the keys doesn't compile.
+///
+/// What is done to them is one entry of its caller, a session on these keys, from what they were
+/// bound to when they were locked to what they are bound to when they are unlocked. Contracts see
+/// the names of the keys, the caller, what the stripes contained when they were locked, and the
+/// stripes as they are.
+///
+/// Its calls are those of a [`Caller`](crate::Caller) on one of the keys, are never refused as busy,
+/// and take no memory. An insertion that finds no free slot is refused, and hands key and value
+/// back; a slot that was emptied before is free for it. No entry is displaced, and the table doesn't
+/// grow.
+pub struct LockedKeysOn<'k, T: TableRef<K, V>, K: TableKey, V, Q: Query<K>> {
+    table: T,
+    pass: Pass<K, V>,
+    stripes: StripeSet,
+    keys: &'k [Q],
+}
+
+/// Keys under a caller that borrows its table.
+pub type LockedKeys<'k, 't, K, V, Q> = LockedKeysOn<'k, &'t Table<K, V>, K, V, Q>;
+
+impl<'k, T: TableRef<K, V>, K: TableKey, V, Q: Query<K>> Model for LockedKeysOn<'k, T, K, V, Q> {
+    ghost use Rattle.std.specs.Prelude.{map};
+    ghost use Rattle.cuckoo_map.specs.LockedKeys.{KeysState, HoldsKeys, keys_of};
+
+    ghost Value = { KeysState V };
+
+    ghost view = { λ l. keys_of (T.state l.table) (map Q.name l.keys.now) l.pass };
+
+    ghost invariant = { λ l.
+        HoldsKeys K.hash (T.state l.table) l.stripes (map Q.name l.keys.now) l.pass };
+}
+
+impl<T: TableRef<K, V> + Drop, K: TableKey + Drop, V: Drop> CallerOn<T, K, V> {
+    /// Locks up to eight different keys: takes their stripes, and carries out the doublings left of
+    /// them. It takes no memory. Refused, it gives the caller back, as `LockedKeysOn::unlock` does
+    /// later: as `Twice` where a key stands twice, else as `Busy`.
+    ///
+    /// ```
+    /// let keys = [&NumKey(1), &NumKey(2)];
+    /// let mut locked = caller.lock_keys(&keys)?;
+    /// ```
+    pub fn lock_keys<Q: Query<K>, const N: usize>(
+        self,
+        keys: &[Q; N],
+    ) -> Result<LockedKeysOn<'_, T, K, V, Q>, KeysNotLocked<CallerOn<T, K, V>>>
+        requires some { 0 < N }
+        requires few { N ≤ 8 }
+        ensures locked { IfOk result (HasLockedKeys K.hash (map Q.name keys.now) self) }
+        ensures same { IfErr result (λ back. IsSameCaller self back.caller) }
+        ensures refused { IfErr result (λ back.
+            IsRefusedOn K.hash (map Q.name keys.now) self back.caller back.why) }
+        ensures found { IfErr result (λ back. FindsHeldAmong
+            (IsStripeOfAny K.hash self.table.settings (map Q.name keys.now)) self back.caller) }
+    {
+        let CallerOn { table, pass } = self;
+        let mut pass = pass;
+        match table.table().lock_different(&mut pass, keys) {
+            Ok(stripes) => Ok(LockedKeysOn {
+                table,
+                pass,
+                stripes,
+                keys,
+            }),
+            Err(why) => {
+                let caller = CallerOn { table, pass };
+                Err(KeysNotLocked { caller, why })
+            }
+        }
+    }
+}
+
+impl<T: TableRef<K, V> + Drop, K: TableKey + Drop, V: Drop, Q: Query<K>> LockedKeysOn<
+    '_,
+    T,
+    K,
+    V,
+    Q,
+> {
+    /// The value of the key; `None` where the key is unbound.
+    pub fn find<P: Query<K>>(&mut self, key: P) -> Option<V>
+    where
+        V: Copy,
+        requires named { IsAmong (P.name key) self.old.names }
+        ensures value { result ≡ value_of self.old (P.name key) }
+        ensures same { self.new ≡ self.old }
+    {
+        self.find_fn(key, |value: &V| *value)
+    }
+
+    /// Whether the key is bound.
+    pub fn contains<P: Query<K>>(&mut self, key: P) -> bool
+        requires named { IsAmong (P.name key) self.old.names }
+        ensures bound { result ≡ is_some (value_of self.old (P.name key)) }
+        ensures same { self.new ≡ self.old }
+    {
+        self.find_fn(key, |_value: &V| ()).is_some()
+    }
+
+    /// `Caller::find_fn`.
+    pub fn find_fn<P: Query<K>, R, F: FnOnce(&V) -> R + Drop>(&mut self, key: P, f: F) -> Option<R>
+        requires named { IsAmong (P.name key) self.old.names }
+        requires call { F.IsAlwaysCallable f }
+        ensures answered { MatchOption result
+            (value_of self.old (P.name key) ≡ None)
+            (λ r. (v : V) × (value_of self.old (P.name key) ≡ Some v)
+            × FnOnceReturnsAt F.FnOnce f v r) }
+        ensures same { self.new ≡ self.old }
+    {
+        let mut guard = guard!(&self.table.table().words, &mut self.pass, self.stripes);
+        let place = key_place(&mut guard, self.stripes.s, key, KeyHash::of::<K, P>(key));
+        let (found, _) = find(&mut guard, place, key, f);
+        found
+    }
+
+    /// `Caller::update`, which is never refused.
+    pub fn update<P: Query<K>>(&mut self, key: P, value: V) -> Option<V>
+        requires named { IsAmong (P.name key) self.old.names }
+        ensures names { self.new.names ≡ self.old.names }
+        ensures answered { Updates value (ActsOn (P.name key) self.old self.new) result }
+    {
+        let mut guard = guard!(&self.table.table().words, &mut self.pass, self.stripes);
+        let place = key_place(&mut guard, self.stripes.s, key, KeyHash::of::<K, P>(key));
+        update(&mut guard, place, key, value)
+    }
+
+    /// `Caller::update_fn`.
+    pub fn update_fn<P: Query<K>, F: FnOnce(V) -> V + Drop>(&mut self, key: P, f: F) -> bool
+        requires named { IsAmong (P.name key) self.old.names }
+        requires call { F.IsAlwaysCallable f }
+        ensures names { self.new.names ≡ self.old.names }
+        ensures answered { Changes (F.post f) (ActsOn (P.name key) self.old self.new) result }
+    {
+        let mut guard = guard!(&self.table.table().words, &mut self.pass, self.stripes);
+        let place = key_place(&mut guard, self.stripes.s, key, KeyHash::of::<K, P>(key));
+        update_fn(&mut guard, place, key, f)
+    }
+
+    /// `Caller::modify`.
+    pub fn modify<P: Query<K>, R, F: FnOnce(V) -> (V, R) + Drop>(
+        &mut self,
+        key: P,
+        f: F,
+    ) -> Option<R>
+        requires named { IsAmong (P.name key) self.old.names }
+        requires call { F.IsAlwaysCallable f }
+        ensures names { self.new.names ≡ self.old.names }
+        ensures answered { Modifies (F.post f) (ActsOn (P.name key) self.old self.new) result }
+    {
+        let mut guard = guard!(&self.table.table().words, &mut self.pass, self.stripes);
+        let place = key_place(&mut guard, self.stripes.s, key, KeyHash::of::<K, P>(key));
+        let answer = modify(&mut guard, place, key, f);
+        answer.ok()
+    }
+
+    /// `Caller::erase`.
+    pub fn erase<P: Query<K>>(&mut self, key: P) -> Option<V>
+        requires named { IsAmong (P.name key) self.old.names }
+        ensures names { self.new.names ≡ self.old.names }
+        ensures answered { Erases (ActsOn (P.name key) self.old self.new) result }
+    {
+        let mut guard = guard!(&self.table.table().words, &mut self.pass, self.stripes);
+        let place = key_place(&mut guard, self.stripes.s, key, KeyHash::of::<K, P>(key));
+        erase(&mut guard, place, key)
+    }
+
+    /// `Caller::insert`, which is refused where both buckets of the key are full.
+    pub fn insert(&mut self, key: K, value: V) -> Result<bool, NoSlot<K, V>>
+        requires named { IsAmong (K.name key) self.old.names }
+        ensures names { self.new.names ≡ self.old.names }
+        ensures answered { IfOk result (Inserts value (ActsOn (K.name key) self.old self.new)) }
+        ensures refused { IfErr result (LacksSlot K.hash (K.name key) key value self.old self.new) }
+    {
+        self.make(key, value, insertion::Insert)
+    }
+
+    /// `Caller::insert_or_assign`, which is refused as `insert` is.
+    pub fn insert_or_assign(&mut self, key: K, value: V) -> Result<Option<V>, NoSlot<K, V>>
+        requires named { IsAmong (K.name key) self.old.names }
+        ensures names { self.new.names ≡ self.old.names }
+        ensures answered { IfOk result (Assigns value (ActsOn (K.name key) self.old self.new)) }
+        ensures refused { IfErr result (LacksSlot K.hash (K.name key) key value self.old self.new) }
+    {
+        self.make(key, value, insertion::Assign)
+    }
+
+    /// `Caller::upsert`, which is refused as `insert` is.
+    pub fn upsert<F: FnOnce(V) -> V + Drop>(
+        &mut self,
+        key: K,
+        f: F,
+        value: V,
+    ) -> Result<bool, NoSlot<K, V>>
+        requires named { IsAmong (K.name key) self.old.names }
+        requires call { F.IsAlwaysCallable f }
+        ensures names { self.new.names ≡ self.old.names }
+        ensures answered { IfOk result (Upserts (F.post f) value
+            (ActsOn (K.name key) self.old self.new)) }
+        ensures refused { IfErr result (LacksSlot K.hash (K.name key) key value self.old self.new) }
+    {
+        self.make(key, value, insertion::Upsert(f))
+    }
+
+    // Makes the insertion of the entry of the key.
+    fn make<I: Insertion<K, V>>(
+        &mut self,
+        key: K,
+        value: I::Value,
+        insertion: I,
+    ) -> Result<I::Answer, NoSlot<K, I::Value>>
+        requires named { IsAmong (K.name key) self.old.names }
+        requires call { I.can_make insertion value }
+        ensures names { self.new.names ≡ self.old.names }
+        ensures answered { IfOk result (TellsOf (I.tells insertion value)
+            (ActsOn (K.name key) self.old self.new)) }
+        ensures refused { IfErr result (LacksSlot K.hash (K.name key) key value self.old self.new) }
+    {
+        let mut guard = guard!(&self.table.table().words, &mut self.pass, self.stripes);
+        let hash = KeyHash::of::<K, &K>(&key);
+        let place = key_place(&mut guard, self.stripes.s, &key, hash);
+        match make_in(&mut guard, place, key, value, insertion) {
+            Ok(answer) => Ok(answer),
+            Err((key, value, _)) => Err(NoSlot { key, value }),
+        }
+    }
+
+    /// Unlocks the keys, by which all that was done to them becomes one entry of the history.
+    ///
+    /// ```
+    /// let keys = [&NumKey(1), &NumKey(2)];
+    /// let mut locked = caller.lock_keys(&keys)?;
+    /// let taken: Option<u64> = locked.erase(&NumKey(1));
+    /// if let Some(value) = taken {
+    ///     locked.update(&NumKey(2), value);
+    /// }
+    /// let mut caller = locked.unlock();
+    /// ```
+    pub fn unlock(self) -> CallerOn<T, K, V>
+        ensures same { IsSameCaller self.entry.session.caller result }
+        ensures answered { Replied (keys_call self.entry) Closed
+            self.entry.session.caller.client result.client }
+        ensures notes { KeepsNotes self.entry.session.caller result }
+        ensures found { result.notes.found ≡ self.entry.session.caller.notes.found }
+    {
+        let LockedKeysOn {
+            table,
+            pass,
+            stripes,
+            keys,
+        } = self;
+        let mut pass = pass;
+        let mut guard = guard!(&table.table().words, &mut pass, stripes);
+        guard.commit_session_on(keys);
+        CallerOn { table, pass }
+    }
+}
