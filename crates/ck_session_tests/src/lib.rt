@@ -1,4 +1,4 @@
-//! Tests of locked tables and of growth.
+//! Tests of locked tables, of several keys at once, and of growth.
 #![tactic(auto)]
 
 #[cfg(test)]
@@ -6,8 +6,12 @@ mod growth_rows;
 #[cfg(test)]
 mod locked_calls;
 #[cfg(test)]
+mod locked_keys;
+#[cfg(test)]
 mod locks;
 #[cfg(test)]
 mod requests;
 #[cfg(test)]
 mod sessions;
+#[cfg(test)]
+mod several;

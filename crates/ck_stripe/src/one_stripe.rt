@@ -35,12 +35,13 @@ pub fn position<K: TableKey + Drop, V: Drop, H: Held<Stripe<K, V>>>(
     if held.count() <= 2 {
         return (held.number(0) != wanted) as usize;
     }
+    let mut found = 0;
     for i in 0..held.count() {
         if held.number(i) == wanted {
-            return i;
+            found = i;
         }
     }
-    unreachable!()
+    found
 }
 
 /// The power of stripe `i`.

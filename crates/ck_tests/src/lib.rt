@@ -16,8 +16,6 @@ mod growing;
 #[cfg(test)]
 mod lists;
 #[cfg(test)]
-mod locked_keys;
-#[cfg(test)]
 mod memory;
 #[cfg(test)]
 mod messages;
@@ -27,8 +25,6 @@ mod nested;
 mod overtaken;
 #[cfg(test)]
 mod pools;
-#[cfg(test)]
-mod several;
 #[cfg(test)]
 mod texts;
 #[cfg(test)]

@@ -1,11 +1,13 @@
 -- What a call of the table leaves of the caller whose pass it had.
-use Rattle.std.proofs.Common.{◌≡◌, ℕ, ◌≤◌, List, ◌++◌, Result, Ok, Err, IfOk, IfErr, OnOk, refl, sym, ap, ◌∙◌, subst}
+use Rattle.std.proofs.Common.{◌≡◌, ℕ, ◌≤◌, List, ◌++◌, Option, Result, Ok, Err, IfOk, IfErr, OnOk, refl, sym, ap, ◌∙◌, subst}
 use Rattle.std.proofs.lemmas.Result.{IfOk-weaker}
 use Rattle.ck_model.specs.declared.history.Act.{Act}
 use Rattle.ck_model.specs.declared.history.Call.{Call}
-use Rattle.ck_model.specs.declared.history.Call.TheVariants.{On}
+use Rattle.ck_model.specs.declared.history.Call.TheVariants.{On, SessionOn}
 use Rattle.ck_model.specs.declared.history.Reply.{Reply}
+use Rattle.ck_model.specs.declared.history.Reply.TheVariants.{Closed}
 use Rattle.ck_model.specs.declared.history.Reason.{Reason}
+use Rattle.ck_model.specs.declared.settings.Settings.{Settings}
 use Rattle.ck_model.specs.Promise.{Name, Replied}
 use Rattle.ck_model.specs.Contents.{layout_of, IsStripeOf}
 use Rattle.ck_words.specs.Words.{WordsState}
@@ -15,13 +17,16 @@ use Rattle.ck_words.specs.Answering.{IsAnswered, IsAnsweredBut, IsAnsweredOn}
 use Rattle.ck_words.specs.Closing.{IsCaller}
 use Rattle.ck_core.specs.State.{client_of}
 use Rattle.cuckoo_map.specs.declared.refusal.Busy.{Busy}
+use Rattle.cuckoo_map.specs.declared.refusal.KeysRefused.{KeysRefused}
+use Rattle.cuckoo_map.specs.declared.refusal.KeysRefused.TheVariants as refused
 use Rattle.cuckoo_map.specs.declared.refusal.Refused.{Refused}
 use Rattle.cuckoo_map.specs.Refusals.{IsBusyAmong, FindsOwnUnlessFull}
 use Rattle.cuckoo_map.specs.Needed.{HasGrownFor}
 use Rattle.cuckoo_map.specs.Queries.{HasQueried}
 use Rattle.cuckoo_map.specs.Insertions.{IsInserted, HasInserted, HandsBack}
 use Rattle.cuckoo_map.proofs.Counted.{grown_alike}
-use Rattle.cuckoo_map.specs.Callers.{CallerState, caller_of, pass_of, IsSameCaller, Replies, RepliesOn, KeepsNotesBut, KeepsNotes, NotesFull, QueryLeaves, InsertionLeaves}
+use Rattle.cuckoo_map.specs.Callers.{CallerState, caller_of, pass_of, IsSameCaller, Replies, RepliesOn, KeepsNotesBut, KeepsNotes, NotesFull, QueryLeaves, InsertionLeaves, KeysLeave}
+use Rattle.cuckoo_map.specs.SeveralKeys.{IsStripeOfAny, RefusesNames, HasQueriedAll}
 
 -- a stripe of the name
 abbrev pub OfName : (Name → ℕ) → Name → WordsState → ℕ → Type 0
@@ -52,6 +57,11 @@ module _ {V : Type 0} where
       table = ap (λ (x : CallerState V). x.table) is;
       by = by ∙ ap (λ (x : CallerState V). x.client.by) is;
     }
+
+    -- a refused call on several names keeps its caller's number
+    by_kept : (hash : Name → ℕ) (set : Settings) (names : List Name) (e : KeysRefused) → RefusesNames hash set names p q e → q.view.by ≡ p.view.by
+    by_kept hash set names (refused.Busy t) h = h.stays.by
+    by_kept hash set names (refused.Twice i) h = ap (λ (x : PassState V). x.view.by) h.1
 
     pub keeps_notes : {more : List (Name × Reason)} {n : ℕ} → StaysBut more (record p.view { seen = q.view.seen; mine = q.view.mine; doublings = n }) q.view → KeepsNotesBut more c (caller_of w q)
     keeps_notes {more} s = record {
@@ -105,6 +115,20 @@ module _ {V : Type 0} where
       query_on {A} {answers} hash name r told did =
           let left = query {T = answers (RepliesOn name c (caller_of w q))} (OfName hash name) (λ busy. busy.0) r (IfOk-weaker r _ _ (told (replies_on name)) did.answered) did.busy did.found in
           record { same = left.same; answered = left.answered; notes = left.notes; busy = left.busy; found = left.found }
+
+      -- where it was a call on several names
+      pub query_all : {A : Type 0} {P : A → List (Option V) → List (Option V) → Type 0} (hash : Name → ℕ) (names : List Name) (r : Result A KeysRefused)
+          → HasQueriedAll P hash v.settings names r p q → KeysLeave P hash names r c (caller_of w q)
+      query_all {A} {P} hash names r did =
+          let told : IfOk r (λ a. ((old new : List (Option V)) × P a old new × Replies (SessionOn names old new) c (caller_of w q) Closed) × (IsSameCaller c (caller_of w q) × KeepsNotes c (caller_of w q))) =
+          IfOk-weaker r _ _ (λ a h. let l = replies (SessionOn names h.0 h.1) Closed h.3 in ((h.0, h.1, h.2, l.0), l.1)) did.answered in
+          record {
+            same = by_result r told did.refused (λ a h. h.1.0) (λ e h. same_caller (by_kept hash v.settings names e h));
+            answered = IfOk-weaker r _ _ (λ a h. h.0) told;
+            notes = IfOk-weaker r _ _ (λ a h. h.1.1) told;
+            refused = over (λ x a b. IfErr r (RefusesNames hash x.settings names a b)) did.refused;
+            found = over (λ x a b. FindsAmong (IsStripeOfAny hash x.settings names) a b) did.found;
+          }
 
       pub insertion : {A K X : Type 0} {answers : (Act V → Reply V → Type 0) → A → Type 0} (hash : Name → ℕ) (name : Name) (key : K) (x : X) (r : Result A (Refused K X))
           → (((act : Act V) (reply : Reply V) → IsInserted hash w.settings name p q act reply → RepliesOn name c (caller_of w q) act reply × (IsSameCaller c (caller_of w q) × NotesFull hash name c (caller_of w q)))

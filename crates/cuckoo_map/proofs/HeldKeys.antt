@@ -2,6 +2,7 @@
 use Rattle.std.proofs.Common.{◌≡◌, ℕ, ◌<◌, ◌≤◌, List, [], length, Option, Some, None, reverse, inl, refl, sym, ap, ◌∙◌, subst, map, arith}
 use Rattle.std.specs.Prelude.{IfSome, IfNone, MatchOption}
 use Rattle.std.specs.FinMap.{get}
+use Rattle.ck_core.specs.declared.view.View.{View}
 use Rattle.ck_model.specs.declared.contents.Content.{Content}
 use Rattle.ck_model.specs.declared.history.Act.{Act}
 use Rattle.ck_model.specs.declared.history.Act.TheVariants.{Find}
@@ -29,7 +30,7 @@ use Rattle.ck_words.specs.Answering.{HasDone, HasCommitted, IsAnswered, session_
 use Rattle.ck_words.specs.Closing.{IsCaller}
 use Rattle.ck_words.proofs.Reversed.{lawful_reverse, held_reverse}
 use Rattle.ck_words.proofs.Seating.{numbers-contents}
-use Rattle.cuckoo_map.specs.SeveralKeys.{IsStripeOfAny, HoldsNames}
+use Rattle.cuckoo_map.specs.SeveralKeys.{IsStripeOfAny, HoldsNames, IsSameButStripes, bound_to}
 use Rattle.cuckoo_map.specs.Callers.{caller_of, pass_of}
 use Rattle.cuckoo_map.specs.Locking.{map_of}
 use Rattle.cuckoo_map.specs.LockedKeys.{KeysState, keys_of, value_of, ActsOn, HasLockedKeys, HoldsKeys}
@@ -60,7 +61,15 @@ module _ {V : Type 0} where
             omega arith;
       }
 
+  -- a pass with the same fields is the same
+  pub same_pass : (p q : PassState V) → q.view ≡ p.view → q.table ≡ p.table → q.stripes ≡ p.stripes → q ≡ p
+  same_pass p q view table stripes = λ i. record { table = table i; view = view i; stripes = stripes i }
+
   module _ {hash : Name → ℕ} {w : WordsState} {stripes : StripeSet} {names : List Name} where
+    -- what their stripes contain is lawful, in as many stripes as the set is of
+    pub lawful_at : {p : PassState V} → HoldsKeys hash w stripes names p → Lawful (layout hash stripes.s w.settings.max) (contents_of p.stripes)
+    lawful_at {p} l = subst (λ (s : ℕ). Lawful (layout hash s w.settings.max) (contents_of p.stripes)) (sym l.of_table) l.lawful
+
     -- keys whose stripes were just taken are held
     pub holds_keys : (p p2 : PassState V) → IsCaller w p → IsPassOf w p2 → AreDifferent names → HoldsNames hash w.settings names stripes p p2 → HoldsKeys hash w stripes names p2
     holds_keys p p2 caller own different h =
@@ -205,12 +214,13 @@ module _ {V : Type 0} where
     pub answered_keys : (p z : PassState V) (l : HoldsKeys hash w stripes names p) → HasCommitted hash w (session_on names p) p z → IsAnswered (session_on names p) Closed p z
     answered_keys p z l c = answered_level p z (none_doubled p z l c.doubled) (c.answered Closed (keys_done p l))
 
-    -- since its stripes were taken, where it changed nothing
-    pub looked_keys : (p p2 z : PassState V) (l : HoldsKeys hash w stripes names p2) → HoldsNames hash w.settings names stripes p p2 → HasCommitted hash w (session_on names p2) p2 z
-        → (values : List (Option V)) → values ≡ bound_in (bindings (contents_of p2.stripes)) names → IsAnswered (SessionOn names values values) Closed p z
-    looked_keys p p2 z l h c values are =
-        let there : IsAnswered (session_on names p2) Closed (as_doubled p2 z) z = c.answered Closed (keys_done p2 l) in
-        let since : IsAnswered (session_on names p2) Closed (as_doubled p z) z = answered_since [] p p2 p2 z h.stays refl (session_on names p2) Closed there in
-        let level : IsAnswered (session_on names p2) Closed p z = answered_level p z (none_doubled p2 z l c.doubled ∙ h.stays.doublings) since in
-        let before : bound_in (bindings (reverse p2.view.held)) names ≡ values = ap (λ (hs : Stripes V). bound_in (bindings hs) names) (sym h.unchanged) ∙ sym are in
-        subst (λ (x : List (Option V) × List (Option V)). IsAnswered (SessionOn names x.0 x.1) Closed p z) (λ j. (before j, sym are j)) level
+    -- since its stripes were taken, where nothing but what they contain may have changed between
+    pub queried_keys : (p p2 p3 z : PassState V) (l : HoldsKeys hash w stripes names p3) → HoldsNames hash w.settings names stripes p p2 → IsSameButStripes p2 p3 → HasCommitted hash w (session_on names p3) p3 z
+        → IsAnswered (SessionOn names (bound_to names p2) (bound_to names p3)) Closed p z
+    queried_keys p p2 p3 z l h same c =
+        let view : p3.view ≡ p2.view = ap (λ (x : PassState V). x.view) same in
+        let there : IsAnswered (session_on names p3) Closed (as_doubled p3 z) z = c.answered Closed (keys_done p3 l) in
+        let since : IsAnswered (session_on names p3) Closed (as_doubled p z) z = answered_since [] p p2 p3 z h.stays view (session_on names p3) Closed there in
+        let level : IsAnswered (session_on names p3) Closed p z = answered_level p z (none_doubled p3 z l c.doubled ∙ (ap (λ (v : View V). v.doublings) view ∙ h.stays.doublings)) since in
+        let before : bound_in (bindings (reverse p3.view.held)) names ≡ bound_to names p2 = ap (λ (v : View V). bound_in (bindings (reverse v.held)) names) view ∙ ap (λ (hs : Stripes V). bound_in (bindings hs) names) (sym h.unchanged) in
+        subst (λ (x : List (Option V)). IsAnswered (SessionOn names x (bound_to names p3)) Closed p z) before level

@@ -179,10 +179,10 @@ module _ {V : Type 0} where
   abbrev pub IsRefusedOn : (Name → ℕ) → List Name → CallerState V → CallerState V → KeysRefused → Type 0
   IsRefusedOn hash qs c d refused = RefusesNames hash c.table.settings qs (pass_of c) (pass_of d) refused
 
-  -- What a look at these names leaves of its caller: it was answered with their values of one moment, or was refused.
-  pub record LookLeaves (hash : Name → ℕ) (qs : List Name) (result : Result (List (Option V)) KeysRefused) (c d : CallerState V) : Type 0 where
+  -- What a call on these names leaves of its caller: it was answered at one moment, at which they went from these bindings to those, as `P` says of the answer; or it was refused.
+  pub record KeysLeave {A : Type 0} (P : A → List (Option V) → List (Option V) → Type 0) (hash : Name → ℕ) (qs : List Name) (result : Result A KeysRefused) (c d : CallerState V) : Type 0 where
     pub same : IsSameCaller c d
-    pub answered : IfOk result (λ values. Replies (SessionOn qs values values) c d Closed)
+    pub answered : IfOk result (λ answer. (before after : List (Option V)) × P answer before after × Replies (SessionOn qs before after) c d Closed)
     pub notes : OnOk result (KeepsNotes c d)
     pub refused : IfErr result (IsRefusedOn hash qs c d)
     pub found : FindsHeldAmong (IsStripeOfAny hash c.table.settings qs) c d

@@ -1,10 +1,13 @@
 -- Calls on several keys at once.
-use Rattle.std.specs.Prelude.{◌≡◌, ◌⊎◌, ℕ, zero, suc, ◌<◌, List, [], ◌∷◌, Option, Result, OnOk, IfErr}
-use Rattle.ck_model.specs.declared.history.Call.TheVariants.{SessionOn}
+use Rattle.std.specs.Prelude.{◌≡◌, ◌⊎◌, ℕ, zero, suc, ◌<◌, List, [], ◌∷◌, Option, Some, IsSome, All, Result, IfOk, IfErr, map}
+use Rattle.ck_model.specs.declared.history.Act.TheVariants.{Update}
+use Rattle.ck_model.specs.declared.history.Call.TheVariants.{On, SessionOn}
+use Rattle.ck_model.specs.declared.history.Reply.{Reply}
 use Rattle.ck_model.specs.declared.history.Reply.TheVariants.{Closed}
 use Rattle.ck_model.specs.declared.settings.Settings.{Settings}
-use Rattle.ck_model.specs.Promise.{Name, IsAmong}
-use Rattle.ck_model.specs.Contents.{layout_of, IsStripeOf}
+use Rattle.ck_model.specs.Promise.{Name, Step, IsAmong, bound_in}
+use Rattle.ck_model.specs.Contents.{layout_of, IsStripeOf, bindings}
+use Rattle.ck_stripe.specs.Stripes.{contents_of}
 use Rattle.ck_stripe.specs.Tables.{AreHeld}
 use Rattle.ck_section.specs.Places.{HasBoth}
 use Rattle.ck_words.specs.declared.stripe_set.StripeSet.{StripeSet}
@@ -43,8 +46,31 @@ module _ {V : Type 0} where
   RefusesNames hash set qs p p2 (Busy t) = IsBusyAmong (IsStripeOfAny hash set qs) set t p p2
   RefusesNames hash set qs p p2 (Twice i) = StandsAgain qs i × (p2 ≡ p)
 
-  -- The names were looked up at one moment, and had these values; or the look was refused.
-  pub record HasLooked (hash : Name → ℕ) (set : Settings) (qs : List Name) (result : Result (Unit {0}) KeysRefused) (values : List (Option V)) (p p2 : PassState V) : Type 0 where
-    pub answered : OnOk result (IsAnswered (SessionOn qs values values) Closed p p2)
+  -- what the names are bound to in the stripes that the pass holds
+  abbrev pub bound_to : List Name → PassState V → List (Option V)
+  bound_to qs p = bound_in (bindings (contents_of p.stripes)) qs
+
+  -- from p to p2 nothing but the stripes may have changed
+  abbrev pub IsSameButStripes : PassState V → PassState V → Type 0
+  IsSameButStripes p p2 = p2 ≡ record p { stripes = p2.stripes }
+
+  -- the name was bound to the value where it was bound, and nothing else was changed
+  abbrev pub IsUpdated : Name → V → PassState V → PassState V → Type 0
+  IsUpdated q v p p2 = (reply : Reply V) × Step (bindings (contents_of p.stripes)) (On q (Update v)) reply (bindings (contents_of p2.stripes))
+
+  -- these are the values of the names, and nothing changed
+  abbrev pub FindsAll : List (Option V) → List (Option V) → List (Option V) → Type 0
+  FindsAll values before after = (before ≡ values) × (after ≡ values)
+
+  -- These were the values of the names. All were bound, and are bound to what the closure made of their values; or one was unbound, and nothing changed.
+  abbrev pub ChangesAll : (List V → List V → Type 0) → List (Option V) → List (Option V) → List (Option V) → Type 0
+  ChangesAll makes answer before after =
+      (before ≡ answer)
+      × (((values made : List V) × (before ≡ map Some values) × makes values made × (after ≡ map Some made))
+      ⊎ (¬ (All IsSome before) × (after ≡ before)))
+
+  -- The call on the names was answered at one moment, at which they went from these bindings to those, as `P` says of the answer; or it was refused.
+  pub record HasQueriedAll {A : Type 0} (P : A → List (Option V) → List (Option V) → Type 0) (hash : Name → ℕ) (set : Settings) (qs : List Name) (result : Result A KeysRefused) (p p2 : PassState V) : Type 0 where
+    pub answered : IfOk result (λ answer. (before after : List (Option V)) × P answer before after × IsAnswered (SessionOn qs before after) Closed p p2)
     pub refused : IfErr result (RefusesNames hash set qs p p2)
     pub found : FindsAmong (IsStripeOfAny hash set qs) p p2

@@ -1,6 +1,6 @@
 //! A caller: how it has the table, and a pass of its own.
 ghost use Rattle.std.specs.Prelude.{◌≡◌, ◌≢◌, ◌*◌, ◌^◌, ◌<◌, ◌≤◌, ℕ, All, map, OnOk, IfOk, IfErr, MatchResult, nat_eq};
-ghost use Rattle.std.specs.Fn.{FnOnceReturnsAt};
+ghost use Rattle.std.specs.Fn.{FnOnceReturnsAt, FnOnceReturnsAtMut};
 ghost use Rattle.ck_model.specs.declared.history.Call.TheVariants.{ChangeTwo};
 ghost use Rattle.ck_words.specs.Closing.{IsCaller};
 
@@ -105,9 +105,10 @@ impl<T: TableRef<K, V> + Drop, K: TableKey + Drop, V: Drop> CallerOn<T, K, V> {
     ghost use Rattle.ck_section.specs.Acts.{Assigns, Upserts, Uprases, TriesUpsert, TriesUpsertWith, Updates, Modifies, Changes};
     ghost use Rattle.ck_section.specs.Acts.{ReplacesIf, TriesChange, Erases, ErasesBy, ChangesTwo};
     ghost use Rattle.cuckoo_map.specs.Callers.{pass_of, IsSameCaller, Replies, RepliesOn, KeepsNotes, StaysAsIs, StaysButDoublings, MeetsCaller, HearsMessage, message_of_caller, Drains, IsNotDrained, FindsHeldOfAny};
-    ghost use Rattle.cuckoo_map.specs.Callers.{QueryLeaves, InsertionLeaves, LookLeaves, Counts, GrowsTo, GrowsFor, IsBusyOn};
+    ghost use Rattle.cuckoo_map.specs.Callers.{QueryLeaves, InsertionLeaves, KeysLeave, Counts, GrowsTo, GrowsFor, IsBusyOn};
     ghost use Rattle.cuckoo_map.specs.Callers.{IsBusyOnSome, IsBusyOnAny, IsBusyOnTwo, FindsHeldOwn};
     ghost use Rattle.cuckoo_map.specs.Callers.{FindsHeldOfTwo, FindsHeldAmong, FindsHeldOfAny};
+    ghost use Rattle.cuckoo_map.specs.SeveralKeys.{FindsAll, ChangesAll};
     ghost use Rattle.cuckoo_map.specs.Locking.{HasLocked};
 
     /// The pass. With the passes of all other callers it ends the table.
@@ -426,13 +427,45 @@ impl<T: TableRef<K, V> + Drop, K: TableKey + Drop, V: Drop> CallerOn<T, K, V> {
         V: Copy,
         requires some { 0 < N }
         requires few { N ≤ 8 }
-        ensures { LookLeaves K.hash (map Q.name keys) result self.old self.new }
+        ensures { KeysLeave FindsAll K.hash (map Q.name keys) result self.old self.new }
     {
         let mut values = [None; N];
         self.table
             .table()
             .find_all(&mut self.pass, &keys, &mut values)?;
         Ok(values)
+    }
+
+    /// Gives the values of up to eight different keys, as `find_all` does, and where all are bound
+    /// lets the closure change them, in their order. It is one step of the map. A key that stands
+    /// twice is refused as `Twice`.
+    ///
+    /// ```
+    /// // Takes one each from two accounts, where they have it.
+    /// let keys = [&NumKey(1), &NumKey(2), &NumKey(3)];
+    /// let before: [Option<u64>; 3] = caller.update_all(keys, |values: &mut [u64]| match values {
+    ///     [a, b, c] if 0 < *a && 0 < *b && *c < u64::MAX - 1 => {
+    ///         *a -= 1;
+    ///         *b -= 1;
+    ///         *c += 2;
+    ///     }
+    ///     _ => (),
+    /// })?;
+    /// ```
+    pub fn update_all<Q: Query<K>, F: FnOnce(&mut [V]) + Drop, const N: usize>(
+        &mut self,
+        keys: [Q; N],
+        f: F,
+    ) -> Result<[Option<V>; N], KeysRefused>
+    where
+        V: Copy,
+        requires some { 0 < N }
+        requires few { N ≤ 8 }
+        requires call { F.IsAlwaysCallable f }
+        ensures { KeysLeave (ChangesAll (λ old. FnOnceReturnsAtMut F.FnOnce f old tt)) K.hash
+            (map Q.name keys) result self.old self.new }
+    {
+        self.table.table().update_all(&mut self.pass, &keys, f)
     }
 
     /// Unbinds the key, and gives the value that it had; `None` where it was unbound.

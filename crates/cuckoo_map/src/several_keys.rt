@@ -1,5 +1,6 @@
 //! Calls on several keys at once.
-ghost use Rattle.std.specs.Prelude.{◌≡◌, ◌<◌, ◌≤◌, ℕ, OnOk, OnErr, IfOk, IfErr, IfSome, IfNone, MatchBool, length, map, take, drop};
+ghost use Rattle.std.specs.Prelude.{◌≡◌, ◌<◌, ◌≤◌, ℕ, [], Some, All, IsSome, OnOk, OnErr, IfOk, IfErr, IfSome, IfNone, MatchBool, length, map, take, get_or};
+ghost use Rattle.std.specs.Fn.{FnOnceReturnsAtMut};
 ghost use Rattle.std.specs.List.{AllZip};
 ghost use Rattle.ck_key.specs.Hashes.{IsHashOf};
 ghost use Rattle.ck_model.specs.Promise.{IsAmong, AreDifferent};
@@ -7,12 +8,13 @@ ghost use Rattle.ck_words.specs.Passes.{IsPassOf, IsIdle};
 ghost use Rattle.ck_words.specs.Retries.{FindsAmong};
 ghost use Rattle.ck_words.specs.Closing.{IsCaller};
 ghost use Rattle.cuckoo_map.specs.Refusals.{IsBusyAmong};
-ghost use Rattle.cuckoo_map.specs.SeveralKeys.{IsStripeOfAny, HoldsNames, HasLooked, RefusesNames, StandsAgain};
+ghost use Rattle.cuckoo_map.specs.SeveralKeys.{IsStripeOfAny, HoldsNames, RefusesNames, StandsAgain, HasQueriedAll, FindsAll, ChangesAll, IsSameButStripes, IsUpdated, bound_to};
+ghost use Rattle.cuckoo_map.specs.LockedKeys.{HoldsKeys};
 
 use crate::refusal::{Busy, KeysRefused};
 use crate::table::Table;
 use ck_key::{KeyHash, Query, TableKey};
-use ck_section::find_each;
+use ck_section::{find_each, key_place, update};
 use ck_words::{Pass, StripeSet, guard};
 
 impl<K: TableKey + Drop, V: Drop> Table<K, V> {
@@ -30,14 +32,112 @@ impl<K: TableKey + Drop, V: Drop> Table<K, V> {
         requires few { length keys.now ≤ 8 }
         requires as_many { length values.old ≡ length keys.now }
         ensures caller { IsCaller self.now pass.new }
-        ensures looked { HasLooked K.hash self.now.settings (map Q.name keys.now) result values.new
-            pass.old pass.new }
+        ensures looked { HasQueriedAll (λ _. FindsAll values.new) K.hash self.now.settings
+            (map Q.name keys.now) result pass.old pass.new }
     {
         let stripes = self.lock_different(pass, keys)?;
         let mut guard = guard!(&self.words, pass, stripes);
         find_each(&mut guard, stripes.s, keys, values);
         guard.commit_session_on(keys);
         Ok(())
+    }
+
+    /// `Caller::update_all`, by a pass.
+    pub fn update_all<Q: Query<K>, F: FnOnce(&mut [V]) + Drop, const N: usize>(
+        &self,
+        pass: &mut Pass<K, V>,
+        keys: &[Q; N],
+        f: F,
+    ) -> Result<[Option<V>; N], KeysRefused>
+    where
+        V: Copy,
+        requires caller { IsCaller self.now pass.old }
+        requires some { 0 < N }
+        requires few { N ≤ 8 }
+        requires call { F.IsAlwaysCallable f }
+        ensures caller { IsCaller self.now pass.new }
+        ensures updated { HasQueriedAll (ChangesAll (λ old. FnOnceReturnsAtMut F.FnOnce f old tt))
+            K.hash self.now.settings (map Q.name keys.now) result pass.old pass.new }
+    {
+        let stripes = self.lock_different(pass, keys)?;
+        let (values, _not_called) = self.update_held(pass, stripes, keys, f);
+        guard!(&self.words, pass, stripes).commit_session_on(keys);
+        // A closure that was not called is dropped only now, when no stripe is held.
+        Ok(values)
+    }
+
+    // Binds the keys, whose stripes are held, to what the closure makes of their values, where each
+    // is bound, and gives the values that they had. Else the closure comes back.
+    fn update_held<Q: Query<K>, F: FnOnce(&mut [V]), const N: usize>(
+        &self,
+        pass: &mut Pass<K, V>,
+        stripes: StripeSet,
+        keys: &[Q; N],
+        f: F,
+    ) -> ([Option<V>; N], Option<F>)
+    where
+        V: Copy,
+        requires some { 0 < N }
+        requires few { N ≤ 8 }
+        requires held { HoldsKeys K.hash self.now stripes (map Q.name keys.now) pass.old }
+        requires call { F.IsAlwaysCallable f }
+        ensures held { HoldsKeys K.hash self.now stripes (map Q.name keys.now) pass.new }
+        ensures stays { IsSameButStripes pass.old pass.new }
+        ensures updated { ChangesAll (λ old. FnOnceReturnsAtMut F.FnOnce f old tt) result.0
+            (bound_to (map Q.name keys.now) pass.old) (bound_to (map Q.name keys.now) pass.new) }
+    {
+        let mut values = [None; N];
+        let mut guard = guard!(&self.words, pass, stripes);
+        find_each(&mut guard, stripes.s, keys, &mut values);
+        let Some(mut changed) = all_of(&values) else {
+            return (values, Some(f));
+        };
+        f(&mut changed);
+        self.update_each(pass, stripes, keys, &changed);
+        (values, None)
+    }
+
+    // Binds the keys, which are bound and whose stripes are held, to these values.
+    fn update_each<Q: Query<K>>(
+        &self,
+        pass: &mut Pass<K, V>,
+        stripes: StripeSet,
+        keys: &[Q],
+        values: &[V],
+    )
+    where
+        V: Copy,
+        requires held { HoldsKeys K.hash self.now stripes (map Q.name keys.now) pass.old }
+        requires as_many { length values.now ≡ length keys.now }
+        requires bound { All IsSome (bound_to (map Q.name keys.now) pass.old) }
+        ensures held { HoldsKeys K.hash self.now stripes (map Q.name keys.now) pass.new }
+        ensures stays { IsSameButStripes pass.old pass.new }
+        ensures bound { bound_to (map Q.name keys.now) pass.new ≡ map Some values.now }
+    {
+        for i in 0..keys.len() {
+            self.update_one(pass, stripes, keys, i, values[i]);
+        }
+    }
+
+    // Binds the key at this position to the value, where it is bound.
+    fn update_one<Q: Query<K>>(
+        &self,
+        pass: &mut Pass<K, V>,
+        stripes: StripeSet,
+        keys: &[Q],
+        i: usize,
+        value: V,
+    )
+        requires held { HoldsKeys K.hash self.now stripes (map Q.name keys.now) pass.old }
+        requires inside { i < length keys.now }
+        ensures held { HoldsKeys K.hash self.now stripes (map Q.name keys.now) pass.new }
+        ensures stays { IsSameButStripes pass.old pass.new }
+        ensures updated { IsUpdated (get_or (map Q.name keys.now) i []) value pass.old pass.new }
+    {
+        let key = keys[i];
+        let mut guard = guard!(&self.words, pass, stripes);
+        let place = key_place(&mut guard, stripes.s, key, KeyHash::of::<K, Q>(key));
+        let _old = update(&mut guard, place, key, value);
     }
 
     // Takes the stripes of these keys, where they are different, and carries out the doublings that
@@ -130,4 +230,17 @@ fn has_name<K: TableKey, Q: Query<K>>(keys: &[Q], key: Q) -> bool
         }
     }
     false
+}
+
+// The values, where there is one at each position.
+fn all_of<V: Copy, const N: usize>(values: &[Option<V>; N]) -> Option<[V; N]>
+    requires { 0 < N }
+    ensures all { IfSome result (λ all. values.now ≡ map Some all) }
+    ensures not_all { IfNone result (¬ (All IsSome values.now)) }
+{
+    let mut all = [values[0]?; N];
+    for i in 0..N {
+        all[i] = values[i]?;
+    }
+    Some(all)
 }

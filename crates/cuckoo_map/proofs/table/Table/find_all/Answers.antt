@@ -1,4 +1,4 @@
-use Rattle.std.proofs.Common.{rules, ◌≡◌, ◌∙◌, ℕ, List, map, sym, subst}
+use Rattle.std.proofs.Common.{rules, ◌≡◌, ◌∙◌, ℕ, List, map, refl, sym, subst}
 use Rattle.ck_model.specs.declared.history.Reply.TheVariants.{Closed}
 use Rattle.ck_model.specs.Promise.{bound_in}
 use Rattle.ck_model.specs.Contents.{layout, Lawful, bindings}
@@ -8,7 +8,8 @@ use Rattle.ck_section.specs.Places.{HasBoth}
 use Rattle.ck_words.specs.Words.{WordsState}
 use Rattle.ck_words.specs.Passes.{PassState}
 use Rattle.ck_words.specs.Answering.{HasDone, HasCommitted, session_on}
-use Rattle.cuckoo_map.proofs.HeldKeys.{holds_keys, keys_done, ends_keys, looked_keys}
+use Rattle.cuckoo_map.specs.SeveralKeys.{bound_to}
+use Rattle.cuckoo_map.proofs.HeldKeys.{same_pass, lawful_at, holds_keys, keys_done, ends_keys, queried_keys}
 use Rattle.cuckoo_map.proofs.table.Table.find_all.Goals as goal
 
 pub find_each-requires-clause-owned : goal.find_each-requires-clause-owned
@@ -25,7 +26,7 @@ commit_session_on-requires-clause-done g c =
     let p2 = c.lock_different.new.pass in
     let e = c.find_each.ensures in
     let held = holds_keys c.args.pass.now p2 c.requires.caller c.lock_different.ensures.own c.in_ok-stripes.ensures.different c.in_ok-stripes.ensures.held in
-    let same : c.find_each.new.held.pass.now ≡ p2 = λ i. record { table = e.stays.2 i; view = e.stays.1 i; stripes = e.same i } in
+    let same : c.find_each.new.held.pass.now ≡ p2 = same_pass p2 c.find_each.new.held.pass.now e.stays.1 e.stays.2 e.same in
     let table = e.stays.5 ∙ c.self.view_is in
     subst (λ (x : WordsState × PassState g.row.V.Denot). HasDone g.K.TableKey.hash x.0.settings (session_on names x.1) Closed x.1) (λ i. (sym table i, sym same i)) (keys_done p2 held)
 
@@ -37,7 +38,7 @@ returns-clause-caller g c =
     let z = c.commit_session_on.new.self.pass.now in
     let e = c.find_each.ensures in
     let held = holds_keys c.args.pass.now p2 c.requires.caller c.lock_different.ensures.own c.in_ok-stripes.ensures.different c.in_ok-stripes.ensures.held in
-    let same : c.find_each.new.held.pass.now ≡ p2 = λ i. record { table = e.stays.2 i; view = e.stays.1 i; stripes = e.same i } in
+    let same : c.find_each.new.held.pass.now ≡ p2 = same_pass p2 c.find_each.new.held.pass.now e.stays.1 e.stays.2 e.same in
     let table = e.stays.5 ∙ c.self.view_is in
     let committed = subst (λ (x : WordsState × PassState g.row.V.Denot). HasCommitted g.K.TableKey.hash x.0 (session_on names x.1) x.1 z) (λ i. (table i, same i)) c.commit_session_on.ensures.committed in
     rw (← there) (ends_keys p2 z held committed)
@@ -51,15 +52,13 @@ returns-clause-looked g c =
     let e = c.find_each.ensures in
     let h = c.in_ok-stripes.ensures.held in
     let held = holds_keys c.args.pass.now p2 c.requires.caller c.lock_different.ensures.own c.in_ok-stripes.ensures.different h in
-    let same : c.find_each.new.held.pass.now ≡ p2 = λ i. record { table = e.stays.2 i; view = e.stays.1 i; stripes = e.same i } in
+    let same : c.find_each.new.held.pass.now ≡ p2 = same_pass p2 c.find_each.new.held.pass.now e.stays.1 e.stays.2 e.same in
     let table = e.stays.5 ∙ c.self.view_is in
     let committed = subst (λ (x : WordsState × PassState g.row.V.Denot). HasCommitted g.K.TableKey.hash x.0 (session_on names x.1) x.1 z) (λ i. (table i, same i)) c.commit_session_on.ensures.committed in
-    let set = c.args.self.now.settings in
-    let lawful = subst (λ (s : ℕ). Lawful (layout g.K.TableKey.hash s set.max) (contents_of p2.stripes)) (sym h.of_table) held.lawful in
-    let values : c.find_each.new.values ≡ bound_in (bindings (contents_of p2.stripes)) names = e.values set.max lawful in
+    let values : c.find_each.new.values ≡ bound_in (bindings (contents_of p2.stripes)) names = e.values c.args.self.now.settings.max (lawful_at held) in
     let found = c.lock_different.ensures.found in
     rw (← there) (record {
-      answered = looked_keys c.args.pass.now p2 z held h committed c.find_each.new.values values;
+      answered = (bound_to names p2, bound_to names p2, (sym values, sym values), queried_keys c.args.pass.now p2 p2 z held h refl committed);
       refused = tt;
       found = (found.0, committed.found ∙ found.1, found.2);
     })

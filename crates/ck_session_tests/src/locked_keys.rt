@@ -1,9 +1,15 @@
 //! Sessions on some keys.
-use ck_fixtures::{FOUR_BUCKETS, NumCaller, SIXTEEN_BUCKETS, bind_all, three_callers};
+use ck_fixtures::{
+    FOUR_BUCKETS, NumCaller, SIXTEEN_BUCKETS, Shape, bind_all, callers_of, count, read,
+    three_callers,
+};
 use ck_key::NumKey;
-use cuckoo_map::{Busy, Fault, KeysRefused};
+use cuckoo_map::{Busy, Fault, KeysRefused, Settings};
+use std::alloc::Global;
 use std::process::Abort;
+use std::sync::atomic::AtomicU64;
 use std::test::Fail;
+use std::thread::{self, Threads};
 
 /// Key 3 has stripe 3 alone, key 0 has stripes 0 and 1, key 1 has stripes 1 and 3, and key 258 has
 /// stripe 2 alone, of four.
@@ -141,5 +147,71 @@ fn an_emptied_slot_is_free(rt: HostRuntime) -> Result<(), Fail> {
     let mut caller = locked.unlock();
     assert!(rt; caller.find_all(keys) == Ok([Some(9), None]));
     assert!(rt; caller.len() == Ok(8));
+    Ok(())
+}
+
+/// How many sessions a thread makes.
+const SESSIONS: u64 = 1000;
+
+/// Adds one to the first and the last of eight keys, in one session, and says whether they had the
+/// same value.
+fn add_one<'t>(caller: NumCaller<'t>, keys: [NumKey; 8]) -> Option<(NumCaller<'t>, bool)> {
+    let [a, b, c, d, e, f, g, h] = keys;
+    let keys = [&a, &b, &c, &d, &e, &f, &g, &h];
+    let mut locked = caller.lock_keys(&keys).ok()?;
+    let first = locked.modify(&a, |n: u64| (n.saturating_add(1), n));
+    let last = locked.modify(&h, |n: u64| (n.saturating_add(1), n));
+    Some((locked.unlock(), first == last))
+}
+
+/// Makes the sessions of a thread, and counts those that found two values.
+fn add<'t>(numbers: [u64; 8], caller: NumCaller<'t>, wrong: &AtomicU64) -> Option<NumCaller<'t>> {
+    let mut caller = caller;
+    for _ in 0..SESSIONS {
+        let (back, alike) = add_one(caller, numbers.map(NumKey))?;
+        if !alike {
+            count(wrong);
+        }
+        caller = back;
+    }
+    Some(caller)
+}
+
+/// Lets two threads make sessions on the same keys, one of them in the opposite order.
+fn check<R: Threads + Abort + Sync>(rt: &R, alloc: Global, shape: Shape) -> Result<(), Fail> {
+    let settings = Settings {
+        turns: u32::MAX,
+        ..shape.settings(2)
+    };
+    let orders = [[0, 1, 2, 3, 4, 5, 6, 7], [7, 6, 5, 4, 3, 2, 1, 0]];
+    let mut jobs = Vec::new(alloc);
+    for (mut caller, numbers) in callers_of(alloc, settings)?.into_iter().zip(orders) {
+        assert!(rt; caller.insert_or_assign(NumKey(0), 0).is_ok());
+        assert!(rt; caller.insert_or_assign(NumKey(7), 0).is_ok());
+        jobs.push((numbers, caller))?;
+    }
+    let wrong = AtomicU64::new(0);
+    let done = thread::map_vec(rt, jobs, &|(numbers, caller)| add(numbers, caller, &wrong))?;
+    assert!(rt; read(&wrong) == 0);
+    let all = Some(2 * SESSIONS);
+    for caller in done {
+        let mut caller = caller.expect(rt, "a session that was not refused");
+        assert!(rt; caller.find_all([&NumKey(0), &NumKey(7)]) == Ok([all, all]));
+    }
+    Ok(())
+}
+
+/// Whether the keys share four stripes, or have more.
+#[test]
+fn two_threads_lock_the_same_keys_in_opposite_order(rt: HostRuntime) -> Result<(), Fail> {
+    let many = Shape {
+        s: 6,
+        power: 6,
+        max: 20,
+        rounds: 4,
+    };
+    for shape in [SIXTEEN_BUCKETS, many] {
+        check(&rt, rt.alloc(), shape)?;
+    }
     Ok(())
 }

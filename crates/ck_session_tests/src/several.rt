@@ -1,8 +1,9 @@
-//! Values of several keys at one moment.
-use ck_fixtures::{NumCaller, SIXTEEN_BUCKETS, bind_all, callers_of, three_callers};
+//! Several keys in one call.
+use ck_fixtures::{NumCaller, SIXTEEN_BUCKETS, bind_all, callers_of, count, read, three_callers};
 use ck_key::{NumKey, TextKey};
 use cuckoo_map::{Caller, Fault, KeysRefused};
 use std::process::Abort;
+use std::sync::atomic::AtomicU64;
 use std::test::Fail;
 
 /// The keys that the tests bind: key 3 has stripe 3 alone, key 0 has stripes 0 and 1, key 1 has
@@ -79,5 +80,62 @@ fn texts_are_looked_up_by_what_they_are(rt: HostRuntime) -> Result<(), Fail> {
     assert!(rt; caller.insert(key, 1).is_ok());
     assert!(rt; caller.find_all(["right", "left"]) == Ok([None, Some(1)]));
     assert!(rt; caller.find_all(["left", "left"]) == Err(KeysRefused::Twice(0)));
+    Ok(())
+}
+
+/// Gives each key the value of the next one, and the last one that of the first.
+fn turn(values: &mut [u64]) {
+    if let [a, b, c] = values {
+        let first = *a;
+        *a = *b;
+        *b = *c;
+        *c = first;
+    }
+}
+
+#[test]
+fn several_values_change_at_once(rt: HostRuntime) -> Result<(), Fail> {
+    let (mut caller, _, _) = three_callers(rt.alloc(), SIXTEEN_BUCKETS.settings(3))?;
+    assert!(&rt; bind_all(&mut caller, BOUND));
+    let keys = [&NumKey(258), &NumKey(0), &NumKey(3)];
+    let before = caller.update_all(keys, |values: &mut [u64]| turn(values));
+    assert!(rt; before == Ok([Some(8), Some(5), Some(30)]));
+    assert!(rt; caller.find_all(keys) == Ok([Some(5), Some(30), Some(8)]));
+    assert!(rt; caller.find(&NumKey(1)) == Ok(Some(7)));
+    assert!(rt; caller.len() == Ok(4));
+    Ok(())
+}
+
+#[test]
+fn where_one_is_unbound_none_changes(rt: HostRuntime) -> Result<(), Fail> {
+    let (mut caller, _, _) = three_callers(rt.alloc(), SIXTEEN_BUCKETS.settings(3))?;
+    assert!(&rt; bind_all(&mut caller, BOUND));
+    let called = AtomicU64::new(0);
+    let keys = [&NumKey(3), &NumKey(9), &NumKey(1)];
+    let before = caller.update_all(keys, |_values: &mut [u64]| {
+        count(&called);
+    });
+    assert!(rt; before == Ok([Some(30), None, Some(7)]));
+    assert!(rt; read(&called) == 0);
+    assert!(rt; caller.find_all(keys) == Ok([Some(30), None, Some(7)]));
+    let twice = [&NumKey(3), &NumKey(1), &NumKey(1)];
+    let refused = caller.update_all(twice, |values: &mut [u64]| turn(values));
+    assert!(rt; refused == Err(KeysRefused::Twice(1)));
+    assert!(rt; caller.find_all(keys) == Ok([Some(30), None, Some(7)]));
+    Ok(())
+}
+
+#[test]
+fn a_change_of_several_finds_a_held_stripe_busy(rt: HostRuntime) -> Result<(), Fail> {
+    let (mut first, mut second, _) = three_callers(rt.alloc(), SIXTEEN_BUCKETS.settings(3))?;
+    assert!(&rt; bind_all(&mut first, BOUND));
+    let keys = [&NumKey(258), &NumKey(0), &NumKey(1)];
+    let bound = first.update_fn(&NumKey(3), |value: u64| {
+        let busy = second.update_all(keys, |values: &mut [u64]| turn(values));
+        assert!(rt; busy == Err(KeysRefused::Busy(3)));
+        value
+    });
+    assert!(rt; bound == Ok(true));
+    assert!(rt; first.find_all(keys) == Ok([Some(8), Some(5), Some(7)]));
     Ok(())
 }
