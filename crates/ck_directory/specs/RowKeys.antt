@@ -7,8 +7,8 @@ use Rattle.ck_directory.specs.declared.key.RowKey.TheVariants as row
 
 -- even for accounts, odd for names
 abbrev pub row_name : RowKey → Name
-row_name (row.Account number) = number * 2 ∷ []
-row_name (row.Name number) = number * 2 + 1 ∷ []
+row_name (row.Account number) = (number * 2) ∷ []
+row_name (row.Name number) = (number * 2 + 1) ∷ []
 
 -- the one number, mixed
 abbrev pub row_hash : Name → ℕ
