@@ -154,7 +154,10 @@ fn sum_of(accounts: [Option<Row>; 3], names: [Option<Row>; 5]) -> Option<u64> {
         }
         sum = sum.checked_add(balance)?;
     }
-    let indexed = names.iter().filter(|row: &&Option<Row>| row.is_some()).count();
+    let indexed = names
+        .iter()
+        .filter(|row: &&Option<Row>| row.is_some())
+        .count();
     (indexed == 3).then_some(sum)
 }
 

@@ -7,6 +7,6 @@ invariant-loop-i g l = record {
   stays : g.H.Held.stays l.fn.held l.held;
   same : g.H.Held.stripes l.held ≡ g.H.Held.stripes l.fn.held;
   found : (j : ℕ) → j < l.i → (stripe_at (g.H.Held.stripes l.fn.held) j).number ≡ l.wanted
-    → (l.found < length (g.H.Held.stripes l.fn.held))
-    × ((stripe_at (g.H.Held.stripes l.fn.held) l.found).number ≡ l.wanted);
+      → (l.found < length (g.H.Held.stripes l.fn.held))
+      × ((stripe_at (g.H.Held.stripes l.fn.held) l.found).number ≡ l.wanted);
 }
