@@ -1,7 +1,7 @@
 //! Sessions that see one moment of the whole table.
 use crate::calls::Worker;
 use crate::key::Key;
-use crate::model::{ACCOUNTS, COUNTERS, FUND, OWN, counter, is_own, own};
+use crate::model::{ACCOUNTS, COUNTERS, FUND, OWN, PURSES, counter, is_own, own};
 use crate::notes::Notes;
 use std::alloc::Global;
 
@@ -81,10 +81,10 @@ pub fn audit<'t, K: Key>(worker: Worker<'t, K>) -> Worker<'t, K> {
     }
 }
 
-/// How many keys are bound, as the threads know it: their own, the accounts, and each counter that
-/// was raised.
+/// How many keys are bound, as the threads know it: their own, the accounts, the purses, and each
+/// counter that was raised.
 fn bound<K: Key>(workers: &[Worker<'_, K>]) -> u64 {
-    let mut bound = ACCOUNTS;
+    let mut bound = ACCOUNTS + PURSES;
     for worker in workers {
         bound = bound.saturating_add(worker.notes.model.bound());
     }

@@ -198,11 +198,13 @@ impl<'t, K: Key> Worker<'t, K> {
 
     /// Makes a call of any kind but a session.
     pub fn make_call(&mut self) {
-        let kind = self.notes.model.below(16);
+        let kind = self.notes.model.below(18);
         match kind {
             12 | 13 => self.transfer(),
             14 => self.raise(),
             15 => self.raise_within(),
+            16 => self.look_at_purses(),
+            17 => self.collect(),
             _ => self.call_own(kind),
         }
     }

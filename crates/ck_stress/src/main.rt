@@ -11,6 +11,7 @@ mod key;
 mod model;
 mod notes;
 mod round;
+mod several;
 mod tally;
 
 use crate::round::{Plan, Stop, run_round};

@@ -14,6 +14,9 @@ pub const FUND: u64 = 1_000_000;
 /// How many counters all threads share.
 pub const COUNTERS: u64 = 5;
 
+/// How many purses all threads share, which are looked at together.
+pub const PURSES: u64 = 4;
+
 /// The key of account number `i`.
 pub fn account(i: u64) -> u64 {
     i % ACCOUNTS
@@ -22,6 +25,11 @@ pub fn account(i: u64) -> u64 {
 /// The key of counter number `i`.
 pub fn counter(i: u64) -> u64 {
     ACCOUNTS + i % COUNTERS
+}
+
+/// The key of purse number `i`.
+pub fn purse(i: u64) -> u64 {
+    ACCOUNTS + COUNTERS + i % PURSES
 }
 
 /// Key number `i` of a thread. Those of one thread lie among those of the others.

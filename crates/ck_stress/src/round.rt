@@ -4,8 +4,9 @@ ghost use Rattle.cuckoo_map.specs.Closing.{AreAllPasses};
 use crate::audit::{audit, check_end};
 use crate::calls::{Caller, Worker};
 use crate::key::Key;
-use crate::model::{ACCOUNTS, FUND, account};
+use crate::model::{ACCOUNTS, FUND, PURSES, account, purse};
 use crate::notes::{Notes, Wrong};
+use crate::several::exchange;
 use crate::tally::Tally;
 use ck_key::{NumKey, TextKey};
 use cuckoo_map::{Pass, Settings, Table};
@@ -74,6 +75,18 @@ impl Shift {
     }
 }
 
+/// Makes the calls of a block, and sessions on two keys among them.
+fn make_calls<'t, K: Key>(worker: Worker<'t, K>) -> Worker<'t, K> {
+    let mut worker = worker;
+    for call in 0..CALLS {
+        worker.make_call();
+        if call % 32 == 0 {
+            worker = exchange(worker);
+        }
+    }
+    worker
+}
+
 /// Makes the calls of a thread.
 fn work<'t, K: Key>(rt: &impl Clock, shift: Shift, worker: Worker<'t, K>) -> Worker<'t, K> {
     let mut worker = worker;
@@ -81,25 +94,23 @@ fn work<'t, K: Key>(rt: &impl Clock, shift: Shift, worker: Worker<'t, K>) -> Wor
         if worker.notes.wrong.is_some() || !shift.goes_on(rt, block * CALLS) {
             return worker;
         }
-        for _ in 0..CALLS {
-            worker.make_call();
-        }
-        worker = audit(worker);
+        worker = audit(make_calls(worker));
     }
     worker
 }
 
-/// Opens an account, and says whether it could.
-fn open_account<K: Key>(alloc: Global, caller: &mut Caller<'_, K>, i: u64) -> bool {
-    match K::of(alloc, account(i)) {
+/// Binds the key of this number to what accounts and purses begin with, and says whether it could.
+fn open<K: Key>(alloc: Global, caller: &mut Caller<'_, K>, number: u64) -> bool {
+    match K::of(alloc, number) {
         Some(key) => caller.insert(key, FUND).is_ok(),
         None => false,
     }
 }
 
-/// Opens the accounts, and says whether it could.
+/// Opens the accounts and the purses, and says whether it could.
 fn fund<K: Key>(alloc: Global, caller: &mut Caller<'_, K>) -> bool {
-    (0..ACCOUNTS).all(|i| open_account(alloc, caller, i))
+    (0..ACCOUNTS).all(|i| open(alloc, caller, account(i)))
+        && (0..PURSES).all(|i| open(alloc, caller, purse(i)))
 }
 
 /// A worker for each two callers.
