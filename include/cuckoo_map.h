@@ -83,6 +83,8 @@ enum cuckoo_code {
     CUCKOO_DIFFERENT = 3,
     /* The table had so many slots before. */
     CUCKOO_ENOUGH = 4,
+    /* A value is less than what was to be taken from it, or would be more than UINT64_MAX. */
+    CUCKOO_SHORT = 5,
     /* A stripe of the table was held by other threads in all tries. Let them run, and try again. */
     CUCKOO_BUSY = -1,
     /* There is no memory. */
@@ -100,7 +102,11 @@ enum cuckoo_code {
     /* The handle is closed. */
     CUCKOO_CLOSED = -8,
     /* What was to be opened is open. */
-    CUCKOO_IS_OPEN = -9
+    CUCKOO_IS_OPEN = -9,
+    /* One of the keys stands twice. */
+    CUCKOO_TWICE = -10,
+    /* The keys are none, or more than 8. */
+    CUCKOO_BAD_COUNT = -11
 };
 
 /* What a table is opened with. */
@@ -169,6 +175,43 @@ int32_t cuckoo_erase(cuckoo_handle *handle, uint64_t key, uint64_t *value);
  * CUCKOO_BUSY; CUCKOO_CLOSED. */
 int32_t cuckoo_erase_if(cuckoo_handle *handle, uint64_t key, uint64_t value);
 
+/* A key, and what was found of it. */
+typedef struct cuckoo_entry {
+    uint64_t key;
+    uint64_t value; /* where it is bound */
+    uint64_t bound; /* 1, or 0 where it is unbound */
+} cuckoo_entry;
+
+/* A key, the value that is expected of it, and its new one. */
+typedef struct cuckoo_change {
+    uint64_t key;
+    uint64_t from;
+    uint64_t to;
+} cuckoo_change;
+
+/* A key, what is taken from its value, and what is then added to it. */
+typedef struct cuckoo_part {
+    uint64_t key;
+    uint64_t take;
+    uint64_t put;
+} cuckoo_part;
+
+/* What follows is done to 1 to 8 different keys at one moment, and is refused as CUCKOO_BAD_COUNT,
+ * CUCKOO_TWICE, CUCKOO_BUSY or CUCKOO_CLOSED. */
+
+/* The values of the keys, which go to their entries: CUCKOO_OK. The `value` of an unbound key stays
+ * as it is. */
+int32_t cuckoo_find_all(cuckoo_handle *handle, cuckoo_entry *entries, size_t count);
+
+/* Compare and set: where each key is bound to its `from`, binds each to its `to`. CUCKOO_OK;
+ * CUCKOO_DIFFERENT: one is bound to another value; CUCKOO_ABSENT: one is unbound. Then none has
+ * changed. */
+int32_t cuckoo_set_if_all(cuckoo_handle *handle, const cuckoo_change *changes, size_t count);
+
+/* Takes from the values and adds to them: where each key is bound, and each can be taken from and
+ * added to so. CUCKOO_OK; CUCKOO_SHORT; CUCKOO_ABSENT: one is unbound. Then none has changed. */
+int32_t cuckoo_move(cuckoo_handle *handle, const cuckoo_part *parts, size_t count);
+
 /* How many keys are bound, counted under all locks. CUCKOO_OK; CUCKOO_BUSY; CUCKOO_CLOSED. */
 int32_t cuckoo_len(cuckoo_handle *handle, uint64_t *count);
 
@@ -200,7 +243,7 @@ int32_t cuckoo_pairs_next(cuckoo_pairs *pairs, uint64_t *key, uint64_t *value);
 void cuckoo_pairs_close(cuckoo_pairs *pairs);
 
 /* ---- keys that are texts of at most 64 bytes ----
- * The same calls, also refused as CUCKOO_TOO_LONG, before anything else is looked at, and where a key
+ * The same calls, but those on several keys, also refused as CUCKOO_TOO_LONG, before anything else is looked at, and where a key
  * is to be bound as CUCKOO_NO_MEMORY, since the key is copied. `key` may be any bytes; where `length`
  * is 0, it is a pointer all the same that isn't null. Texts are ordered by their bytes. */
 

@@ -26,6 +26,7 @@
 
 #include "cuckoo_map.h"
 
+#include <array>
 #include <cstddef>
 #include <cstdint>
 #include <cstring>
@@ -91,6 +92,7 @@ inline void refuse(std::int32_t code) {
   case CUCKOO_OVER_MAX: throw std::length_error("cuckoo: more slots than the greatest size has");
   case CUCKOO_BAD_SETTINGS: throw std::invalid_argument("cuckoo: a setting is out of its range");
   case CUCKOO_TOO_LONG: throw std::length_error("cuckoo: a key has more than 64 bytes");
+  case CUCKOO_TWICE: throw std::invalid_argument("cuckoo: a key stands twice");
   case CUCKOO_CLOSED: throw closed();
   default: throw std::logic_error("cuckoo: refused by code " + std::to_string(code));
   }
@@ -110,6 +112,9 @@ struct numbers {
   static constexpr auto swap_if = cuckoo_swap_if;
   static constexpr auto erase = cuckoo_erase;
   static constexpr auto erase_if = cuckoo_erase_if;
+  static constexpr auto find_all = cuckoo_find_all;
+  static constexpr auto set_if_all = cuckoo_set_if_all;
+  static constexpr auto move_all = cuckoo_move;
   static constexpr auto len = cuckoo_len;
   static constexpr auto capacity = cuckoo_capacity;
   static constexpr auto reserve = cuckoo_reserve;
@@ -699,6 +704,68 @@ public:
   /// whether it was bound.
   template <class F> bool erase_fn(const key_taken &key, F fn) { return change(key, fn); }
 
+  /// A key, the value that is expected of it, and its new one.
+  struct change_if {
+    /// The key.
+    Key key;
+    /// The value that is expected of it.
+    T from;
+    /// Its new value.
+    T to;
+  };
+
+  /// A key, what is taken from its value, and what is then added to it.
+  struct part {
+    /// The key.
+    Key key;
+    /// What is taken from its value.
+    T take;
+    /// What is then added to it.
+    T put;
+  };
+
+  /// The values of 1 to 8 different keys, in their order, all of one moment. This and the two below
+  /// are of maps whose keys are numbers, and throw std::invalid_argument where a key stands twice.
+  ///
+  ///     auto [left, right] = ages.get_all({5, 6});
+  template <std::size_t N>
+  std::array<std::optional<T>, N> get_all(const Key (&wanted)[N]) const {
+    cuckoo_entry entries[few<N>()];
+    for (std::size_t i = 0; i < N; i++) entries[i] = {keys::to(wanted[i]), 0, 0};
+    call<family::find_all>(&entries[0], N);
+    std::array<std::optional<T>, N> values;
+    for (std::size_t i = 0; i < N; i++)
+      if (entries[i].bound) values[i] = detail::from_number<T>(entries[i].value);
+    return values;
+  }
+
+  /// Compare and set: where each key is bound to the value that is expected of it, binds each to its
+  /// new one, all at one moment. Returns whether it did.
+  ///
+  ///     ages.set_if_all({{5, 50, 51}, {6, 60, 59}});
+  template <std::size_t N> bool set_if_all(const change_if (&wanted)[N]) {
+    cuckoo_change changes[few<N>()];
+    for (std::size_t i = 0; i < N; i++)
+      changes[i] = {keys::to(wanted[i].key), detail::to_number(wanted[i].from),
+                    detail::to_number(wanted[i].to)};
+    return call<family::set_if_all>(&changes[0], N) == CUCKOO_OK;
+  }
+
+  /// Takes from the values of the keys and adds to them, all at one moment, where each key is bound,
+  /// has as much, and gets no more than its greatest. Returns whether it did. Of values that are
+  /// unsigned integers of 8 bytes.
+  ///
+  ///     accounts.move_all({{1, 30, 0}, {2, 0, 20}, {3, 0, 10}});
+  template <std::size_t N> bool move_all(const part (&wanted)[N]) {
+    static_assert(std::is_unsigned_v<T> && sizeof(T) == sizeof(std::uint64_t),
+                  "only unsigned integers of 8 bytes are added to");
+    cuckoo_part parts[few<N>()];
+    for (std::size_t i = 0; i < N; i++)
+      parts[i] = {keys::to(wanted[i].key), static_cast<std::uint64_t>(wanted[i].take),
+                  static_cast<std::uint64_t>(wanted[i].put)};
+    return call<family::move_all>(&parts[0], N) == CUCKOO_OK;
+  }
+
   /// How many keys are bound, counted under all locks.
   size_type size() const { return count<family::len>(); }
 
@@ -738,6 +805,13 @@ public:
   cuckoo::snapshot<Key, T> drain() { return read<family::drain>(); }
 
 private:
+  // So many keys, of which calls on several take eight at most.
+  template <std::size_t N> static constexpr std::size_t few() {
+    static_assert(detail::is_number<Key>, "calls on several keys are for keys that are numbers");
+    static_assert(N <= 8, "calls on several keys are for 8 at most");
+    return N;
+  }
+
   static options with_keys(size_type keys_wanted) {
     options wanted;
     wanted.keys = keys_wanted;

@@ -48,6 +48,6 @@ pub use one_key::{
 pub use place::{HeldBucket, KeyPlace};
 pub use retain::retain_all;
 pub use room::{make_room, settled_place};
-pub use several_keys::find_each;
+pub use several_keys::{find_bound, find_each};
 pub use two_keys::update_two;
 pub use whole::{clear_all, find_in_all, key_place_in_all};

@@ -1,5 +1,6 @@
 //! Calls on several keys at once.
-ghost use Rattle.std.specs.Prelude.{◌≡◌, ℕ, length, map};
+ghost use Rattle.std.specs.Prelude.{◌≡◌, ℕ, Some, IsSome, All, length, map};
+ghost use Rattle.std.specs.Bool.{OnTrue, OnFalse};
 ghost use Rattle.std.specs.FinMap.{get};
 ghost use Rattle.ck_model.specs.Promise.{Name, IsAmong, bound_in};
 ghost use Rattle.ck_model.specs.Contents.{layout, Lawful, bindings};
@@ -36,6 +37,37 @@ pub fn find_each<K: TableKey + Drop, V: Copy + Drop, Q: Query<K>, H: Held<Stripe
     for i in 0..keys.len() {
         values[i] = find_one(held, s, keys[i]);
     }
+}
+
+/// Writes the value of each key so, and says whether each is bound. Where one is not, it stops.
+pub fn find_bound<K: TableKey + Drop, V: Copy + Drop, Q: Query<K>, H: Held<Stripe<K, V>>>(
+    held: &mut H,
+    s: u32,
+    keys: &[Q],
+    values: &mut [V],
+) -> bool
+    requires held { AreHeld s (H.stripes held.old) }
+    requires owned { (q : Name) → IsAmong q (map Q.name keys.now)
+        → HasBoth K.hash s (H.stripes held.old) q }
+    requires as_many { length values.old ≡ length keys.now }
+    ensures bound { OnTrue result ((max : ℕ)
+        → Lawful (layout K.hash s max) (contents_of (H.stripes held.old))
+        → bound_in (bindings (contents_of (H.stripes held.old))) (map Q.name keys.now)
+        ≡ map Some values.new) }
+    ensures unbound { OnFalse result ((max : ℕ)
+        → Lawful (layout K.hash s max) (contents_of (H.stripes held.old))
+        → ¬ (All IsSome
+        (bound_in (bindings (contents_of (H.stripes held.old))) (map Q.name keys.now)))) }
+    ensures same { H.stripes held.new ≡ H.stripes held.old }
+    ensures stays { H.stays held.old held.new }
+{
+    for i in 0..keys.len() {
+        let Some(value) = find_one(held, s, keys[i]) else {
+            return false;
+        };
+        values[i] = value;
+    }
+    true
 }
 
 // The value of the key.

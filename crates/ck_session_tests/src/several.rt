@@ -139,3 +139,69 @@ fn a_change_of_several_finds_a_held_stripe_busy(rt: HostRuntime) -> Result<(), F
     assert!(rt; first.find_all(keys) == Ok([Some(8), Some(5), Some(7)]));
     Ok(())
 }
+
+#[test]
+fn values_of_keys_in_a_slice(rt: HostRuntime) -> Result<(), Fail> {
+    let (mut caller, _, _) = three_callers(rt.alloc(), SIXTEEN_BUCKETS.settings(3))?;
+    assert!(&rt; bind_all(&mut caller, BOUND));
+    let keys = [&NumKey(258), &NumKey(9), &NumKey(3)];
+    let mut values = [Some(1), Some(1), Some(1), Some(1)];
+    assert!(rt; caller.find_all_into(&keys[..2], &mut values[1..3]) == Ok(()));
+    assert!(rt; values == [Some(1), Some(8), None, Some(1)]);
+    let twice = [&NumKey(3), &NumKey(3)];
+    let refused = caller.find_all_into(&twice, &mut values[..2]);
+    assert!(rt; refused == Err(KeysRefused::Twice(0)));
+    Ok(())
+}
+
+#[test]
+fn a_closure_answers_for_several_keys(rt: HostRuntime) -> Result<(), Fail> {
+    let (mut caller, _, _) = three_callers(rt.alloc(), SIXTEEN_BUCKETS.settings(3))?;
+    assert!(&rt; bind_all(&mut caller, BOUND));
+    let keys = [&NumKey(258), &NumKey(0), &NumKey(3)];
+    let mut values = [1, 2, 3];
+    let first = caller.modify_all(&keys, &mut values, |values: &mut [u64]| {
+        let first = values.first().copied();
+        turn(values);
+        first
+    });
+    assert!(rt; first == Ok(Some(Some(8))));
+    assert!(rt; values == [5, 30, 8]);
+    assert!(rt; caller.find_all(keys) == Ok([Some(5), Some(30), Some(8)]));
+    // Where one is unbound, the closure isn't called.
+    let called = AtomicU64::new(0);
+    let unbound = [&NumKey(258), &NumKey(9)];
+    let none = caller.modify_all(&unbound, &mut values[..2], |_values: &mut [u64]| {
+        count(&called);
+    });
+    assert!(rt; none == Ok(None));
+    assert!(rt; read(&called) == 0);
+    // Refused, it leaves the values.
+    let mut kept = [1, 2];
+    let twice = [&NumKey(3), &NumKey(3)];
+    let refused = caller.modify_all(&twice, &mut kept, |values: &mut [u64]| turn(values));
+    assert!(rt; refused == Err(KeysRefused::Twice(0)));
+    assert!(rt; kept == [1, 2]);
+    assert!(rt; caller.find_all(keys) == Ok([Some(5), Some(30), Some(8)]));
+    Ok(())
+}
+
+#[test]
+fn several_are_compared_and_set(rt: HostRuntime) -> Result<(), Fail> {
+    let (mut caller, _, _) = three_callers(rt.alloc(), SIXTEEN_BUCKETS.settings(3))?;
+    assert!(&rt; bind_all(&mut caller, BOUND));
+    let keys = [&NumKey(258), &NumKey(0), &NumKey(3)];
+    assert!(rt; caller.compare_and_set(keys, [8, 5, 30], [1, 2, 3]) == Ok(true));
+    assert!(rt; caller.find_all(keys) == Ok([Some(1), Some(2), Some(3)]));
+    // One is another, the last or the first.
+    assert!(rt; caller.compare_and_set(keys, [1, 2, 30], [7, 7, 7]) == Ok(false));
+    assert!(rt; caller.compare_and_set(keys, [8, 2, 3], [7, 7, 7]) == Ok(false));
+    // One is unbound.
+    let unbound = [&NumKey(258), &NumKey(9)];
+    assert!(rt; caller.compare_and_set(unbound, [1, 0], [7, 7]) == Ok(false));
+    assert!(rt; caller.find_all(keys) == Ok([Some(1), Some(2), Some(3)]));
+    let twice = [&NumKey(3), &NumKey(3)];
+    let refused = caller.compare_and_set(twice, [3, 3], [7, 7]);
+    assert!(rt; refused == Err(KeysRefused::Twice(0)));
+    Ok(())
+}

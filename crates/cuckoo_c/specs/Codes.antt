@@ -1,11 +1,13 @@
 -- The codes that C is told, and what they say of a call's result.
-use Rattle.std.specs.Prelude.{◌≡◌, ◌≢◌, ◌⊎◌, ℕ, ℤ, pos, negsuc, Bool, true, false, Option, Some, None, Result, Ok, Err}
+use Rattle.std.specs.Prelude.{◌≡◌, ◌≢◌, ◌⊎◌, ℕ, ℤ, pos, negsuc, Unit, Bool, true, false, Option, Some, None, Result, Ok, Err}
 use Rattle.cuckoo_c.specs.declared.code.Code.{Code}
 use Rattle.cuckoo_c.specs.declared.code.Code.TheVariants as codes
 use Rattle.cuckoo_map.specs.declared.refusal.Busy.{Busy}
 use Rattle.cuckoo_map.specs.declared.refusal.Why.{Why}
 use Rattle.cuckoo_map.specs.declared.refusal.Why.TheVariants as whys
 use Rattle.cuckoo_map.specs.declared.refusal.Refused.{Refused}
+use Rattle.cuckoo_map.specs.declared.refusal.KeysRefused.{KeysRefused}
+use Rattle.cuckoo_map.specs.declared.refusal.KeysRefused.TheVariants as keys
 use Rattle.cuckoo_map.specs.declared.refusal.GrowFault.{GrowFault}
 use Rattle.cuckoo_map.specs.declared.refusal.GrowFault.TheVariants as faults
 
@@ -16,6 +18,7 @@ number_of codes.Absent = pos 1
 number_of codes.Present = pos 2
 number_of codes.Different = pos 3
 number_of codes.Enough = pos 4
+number_of codes.Short = pos 5
 number_of codes.Busy = negsuc 0
 number_of codes.Memory = negsuc 1
 number_of codes.Full = negsuc 2
@@ -25,12 +28,18 @@ number_of codes.Settings = negsuc 5
 number_of codes.TooLong = negsuc 6
 number_of codes.Closed = negsuc 7
 number_of codes.Open = negsuc 8
+number_of codes.Twice = negsuc 9
+number_of codes.Count = negsuc 10
 
 abbrev pub code_of_why : Why → Code
 code_of_why (whys.Busy t) = codes.Busy
 code_of_why whys.Memory = codes.Memory
 code_of_why whys.Full = codes.Full
 code_of_why whys.LoadTooLow = codes.LoadTooLow
+
+abbrev pub code_of_keys : KeysRefused → Code
+code_of_keys (keys.Busy t) = codes.Busy
+code_of_keys (keys.Twice i) = codes.Twice
 
 abbrev pub code_of_fault : GrowFault → Code
 code_of_fault (faults.Busy t) = codes.Busy
@@ -84,6 +93,18 @@ abbrev pub TellsGrown : Result Bool GrowFault → Code → Type 0
 TellsGrown (Ok true) code = code ≡ codes.Done
 TellsGrown (Ok false) code = code ≡ codes.Enough
 TellsGrown (Err e) code = code ≡ code_of_fault e
+
+-- a call on several keys was done, or refused
+abbrev pub TellsDone : Result (Unit {0}) KeysRefused → Code → Type 0
+TellsDone (Ok x) code = code ≡ codes.Done
+TellsDone (Err e) code = code ≡ code_of_keys e
+
+-- it was done, or declined so, or a key was unbound, or it was refused
+abbrev pub TellsChange : Code → Result (Option Bool) KeysRefused → Code → Type 0
+TellsChange declined (Ok (Some true)) code = code ≡ codes.Done
+TellsChange declined (Ok (Some false)) code = code ≡ declined
+TellsChange declined (Ok None) code = code ≡ codes.Absent
+TellsChange declined (Err e) code = code ≡ code_of_keys e
 
 -- C is told the number of a code that says so
 abbrev pub Numbered : ℤ → (Code → Type 0) → Type 0

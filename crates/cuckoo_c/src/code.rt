@@ -1,8 +1,8 @@
 //! What C is told of a call.
 ghost use Rattle.std.specs.Prelude.{◌≡◌};
-ghost use Rattle.cuckoo_c.specs.Codes.{number_of, code_of_why, code_of_fault};
+ghost use Rattle.cuckoo_c.specs.Codes.{number_of, code_of_why, code_of_keys, code_of_fault};
 
-use cuckoo_map::{GrowFault, Why};
+use cuckoo_map::{GrowFault, KeysRefused, Why};
 
 /// What C is told of a call. An answer is at least 0 as a number, and a refusal below 0.
 #[derive(Clone, Copy, PartialEq, Eq)]
@@ -17,6 +17,8 @@ pub enum Code {
     Different,
     /// The table had so many slots before.
     Enough,
+    /// A value is less than what was to be taken from it, or would be too large.
+    Short,
     /// A stripe was found held in all tries.
     Busy,
     /// There is no memory.
@@ -35,6 +37,10 @@ pub enum Code {
     Closed,
     /// The handle is open already.
     Open,
+    /// A key stands twice.
+    Twice,
+    /// The keys are none, or more than eight.
+    Count,
 }
 
 impl Code {
@@ -49,6 +55,7 @@ impl Code {
             Code::Present => 2,
             Code::Different => 3,
             Code::Enough => 4,
+            Code::Short => 5,
             Code::Busy => -1,
             Code::Memory => -2,
             Code::Full => -3,
@@ -58,6 +65,8 @@ impl Code {
             Code::TooLong => -7,
             Code::Closed => -8,
             Code::Open => -9,
+            Code::Twice => -10,
+            Code::Count => -11,
         }
     }
 
@@ -71,6 +80,16 @@ impl Code {
             Why::Memory => Code::Memory,
             Why::Full => Code::Full,
             Why::LoadTooLow => Code::LoadTooLow,
+        }
+    }
+
+    /// Why a call on several keys was refused.
+    pub fn of_keys(why: KeysRefused) -> Code
+        ensures { result ≡ code_of_keys why }
+    {
+        match why {
+            KeysRefused::Busy(_) => Code::Busy,
+            KeysRefused::Twice(_) => Code::Twice,
         }
     }
 

@@ -19,6 +19,7 @@ mod settings;
 
 // What each call does, once for all types of keys.
 mod calls;
+mod several;
 
 // How handles come into their places, and how they go, once for all types of keys.
 mod opening;

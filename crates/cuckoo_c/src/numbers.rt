@@ -1,5 +1,5 @@
 //! The calls on tables whose keys are numbers, as C makes them.
-ghost use Rattle.std.specs.Prelude.{◌≡◌, ◌∷◌, [], ℕ, Bool, Option, Result, All, length, map, nat_eq};
+ghost use Rattle.std.specs.Prelude.{◌≡◌, ◌≢◌, ◌∷◌, [], ℕ, Bool, Option, Result, All, length, map, nat_eq};
 ghost use Rattle.std.specs.declared.option.Option.TheVariants.{None};
 ghost use Rattle.ck_key.specs.Hashes.{mixed_hash};
 ghost use Rattle.ck_section.specs.Acts.{Finds, FindsBound, Inserts, Assigns, Upserts, Modifies, ErasesBy, Erases};
@@ -8,6 +8,8 @@ ghost use Rattle.cuckoo_map.specs.declared.refusal.GrowFault.{GrowFault};
 ghost use Rattle.cuckoo_map.specs.declared.refusal.Refused.{Refused};
 ghost use Rattle.cuckoo_map.specs.Callers.{QueryLeaves, InsertionLeaves, Drains};
 ghost use Rattle.cuckoo_c.specs.declared.keys.NumberKey.{NumberKey};
+ghost use Rattle.cuckoo_c.specs.declared.code.Code.TheVariants as codes;
+ghost use Rattle.cuckoo_c.specs.Several.{CallsOnFew, FindsEntries, ChangesKeys, swapped, moved};
 ghost use Rattle.cuckoo_c.specs.Codes.{Numbered, TellsBound, TellsValue, TellsFresh, TellsOld, TellsSeen, TellsMatch, TellsCount, TellsGrown};
 ghost use Rattle.cuckoo_c.specs.contracts.keys.NumberKeyOrd.TheImpl.{ghosts as number_ord};
 ghost use Rattle.cuckoo_c.specs.contracts.keys.NumberKeyTableKey.TheImpl.{ghosts as number_key};
@@ -23,7 +25,8 @@ use crate::opening::{self, settings_for};
 use crate::pair_places::CuckooPairs;
 use crate::pairs::take_next;
 use crate::settings::CuckooSettings;
-use crate::{calls, sessions};
+use crate::several::{CuckooChange, CuckooEntry, CuckooPart};
+use crate::{calls, sessions, several};
 use ck_owned::take;
 use std::alloc::Global;
 
@@ -205,6 +208,47 @@ pub extern "C" fn cuckoo_erase_if(
         handle.old.held handle.new.held code) }
 {
     calls::erase_if(alloc, handle, &NumberKey(key), value).number()
+}
+
+/// The values of up to eight different keys, all at one moment.
+#[unsafe(no_mangle)]
+pub extern "C" fn cuckoo_find_all(
+    alloc: Global,
+    handle: &mut CuckooHandle,
+    entries: &mut [CuckooEntry],
+) -> i32
+    ensures length { length entries.new ≡ length entries.old }
+    ensures called { Numbered result (λ code. CallsOnFew (length entries.old)
+        (FindsEntries entries.old entries.new code) handle.old.held handle.new.held code
+        × (code ≢ codes.Done → entries.new ≡ entries.old)) }
+{
+    several::find_all(alloc, handle, entries).number()
+}
+
+/// Binds up to eight different keys to new values, all at one moment, where each is bound to the
+/// one that is expected.
+#[unsafe(no_mangle)]
+pub extern "C" fn cuckoo_set_if_all(
+    alloc: Global,
+    handle: &mut CuckooHandle,
+    changes: &[CuckooChange],
+) -> i32
+    ensures { Numbered result (λ code. CallsOnFew (length changes.now)
+        (ChangesKeys swapped (map (λ c. c.key ∷ []) changes.now) changes.now codes.Different code)
+        handle.old.held handle.new.held code) }
+{
+    several::change_all(alloc, handle, changes, Code::Different).number()
+}
+
+/// Takes from the values of up to eight different keys and adds to them, all at one moment, where
+/// there is enough of each.
+#[unsafe(no_mangle)]
+pub extern "C" fn cuckoo_move(alloc: Global, handle: &mut CuckooHandle, parts: &[CuckooPart]) -> i32
+    ensures { Numbered result (λ code. CallsOnFew (length parts.now)
+        (ChangesKeys moved (map (λ p. p.key ∷ []) parts.now) parts.now codes.Short code)
+        handle.old.held handle.new.held code) }
+{
+    several::change_all(alloc, handle, parts, Code::Short).number()
 }
 
 /// How many keys are bound.

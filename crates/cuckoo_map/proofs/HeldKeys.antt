@@ -1,5 +1,5 @@
 -- Calls on several keys whose stripes are held.
-use Rattle.std.proofs.Common.{◌≡◌, ℕ, ◌<◌, ◌≤◌, List, [], length, Option, Some, None, reverse, inl, refl, sym, ap, ◌∙◌, subst, map, arith}
+use Rattle.std.proofs.Common.{◌≡◌, ℕ, ◌<◌, ◌≤◌, List, [], length, Option, Some, None, Ok, reverse, inl, refl, sym, ap, ◌∙◌, subst, map, arith}
 use Rattle.std.specs.Prelude.{IfSome, IfNone, MatchOption}
 use Rattle.std.specs.FinMap.{get}
 use Rattle.ck_core.specs.declared.view.View.{View}
@@ -30,7 +30,7 @@ use Rattle.ck_words.specs.Answering.{HasDone, HasCommitted, IsAnswered, session_
 use Rattle.ck_words.specs.Closing.{IsCaller}
 use Rattle.ck_words.proofs.Reversed.{lawful_reverse, held_reverse}
 use Rattle.ck_words.proofs.Seating.{numbers-contents}
-use Rattle.cuckoo_map.specs.SeveralKeys.{IsStripeOfAny, HoldsNames, IsSameButStripes, bound_to}
+use Rattle.cuckoo_map.specs.SeveralKeys.{IsStripeOfAny, HoldsNames, IsSameButStripes, HasQueriedAll, bound_to}
 use Rattle.cuckoo_map.specs.Callers.{caller_of, pass_of}
 use Rattle.cuckoo_map.specs.Locking.{map_of}
 use Rattle.cuckoo_map.specs.LockedKeys.{KeysState, keys_of, value_of, ActsOn, HasLockedKeys, HoldsKeys}
@@ -64,6 +64,10 @@ module _ {V : Type 0} where
   -- a pass with the same fields is the same
   pub same_pass : (p q : PassState V) → q.view ≡ p.view → q.table ≡ p.table → q.stripes ≡ p.stripes → q ≡ p
   same_pass p q view table stripes = λ i. record { table = table i; view = view i; stripes = stripes i }
+
+  -- so is the one that it is from then on
+  pub kept_pass : (p q z : PassState V) → q.view ≡ p.view → q.table ≡ p.table → q.stripes ≡ p.stripes → q ≡ z → p ≡ z
+  kept_pass p q z view table stripes there = sym (same_pass p q view table stripes) ∙ there
 
   module _ {hash : Name → ℕ} {w : WordsState} {stripes : StripeSet} {names : List Name} where
     -- what their stripes contain is lawful, in as many stripes as the set is of
@@ -224,3 +228,12 @@ module _ {V : Type 0} where
         let level : IsAnswered (session_on names p3) Closed p z = answered_level p z (none_doubled p3 z l c.doubled ∙ (ap (λ (v : View V). v.doublings) view ∙ h.stays.doublings)) since in
         let before : bound_in (bindings (reverse p3.view.held)) names ≡ bound_to names p2 = ap (λ (v : View V). bound_in (bindings (reverse v.held)) names) view ∙ ap (λ (hs : Stripes V). bound_in (bindings hs) names) (sym h.unchanged) in
         subst (λ (x : List (Option V)). IsAnswered (SessionOn names x (bound_to names p3)) Closed p z) before level
+
+    -- so the call was answered, with what is so of what their names were bound to and are bound to
+    pub has_queried : {A : Type 0} {P : A → List (Option V) → List (Option V) → Type 0} (p p2 p3 z : PassState V) (l : HoldsKeys hash w stripes names p3) → HoldsNames hash w.settings names stripes p p2 → IsSameButStripes p2 p3
+        → FindsAmong (IsStripeOfAny hash w.settings names) p p2 → HasCommitted hash w (session_on names p3) p3 z → (a : A) → P a (bound_to names p2) (bound_to names p3) → HasQueriedAll P hash w.settings names (Ok a) p z
+    has_queried p p2 p3 z l h same found c a says = record {
+      answered = (bound_to names p2, bound_to names p3, says, queried_keys p p2 p3 z l h same c);
+      refused = tt;
+      found = (found.0, c.found ∙ (ap (λ (x : PassState V). x.view.found) same ∙ found.1), found.2);
+    }

@@ -1,5 +1,6 @@
 -- Calls on several keys at once.
-use Rattle.std.specs.Prelude.{◌≡◌, ◌⊎◌, ℕ, zero, suc, ◌<◌, List, [], ◌∷◌, Option, Some, IsSome, All, Result, IfOk, IfErr, map}
+use lib.Pointwise.{pointwise}
+use Rattle.std.specs.Prelude.{◌≡◌, ◌⊎◌, ℕ, zero, suc, ◌<◌, List, [], ◌∷◌, Bool, true, false, IsTrue, Option, Some, None, IsSome, All, Result, IfOk, IfErr, map}
 use Rattle.ck_model.specs.declared.history.Act.TheVariants.{Update}
 use Rattle.ck_model.specs.declared.history.Call.TheVariants.{On, SessionOn}
 use Rattle.ck_model.specs.declared.history.Reply.{Reply}
@@ -68,6 +69,16 @@ module _ {V : Type 0} where
       (before ≡ answer)
       × (((values made : List V) × (before ≡ map Some values) × makes values made × (after ≡ map Some made))
       ⊎ (¬ (All IsSome before) × (after ≡ before)))
+
+  -- All names were bound, to values for which the closure may answer this and leave these, and are bound to what it left; or one was unbound, and nothing changed.
+  abbrev pub ModifiesAll : {R : Type 0} → (List V → R → List V → Type 0) → List V → Option R → List (Option V) → List (Option V) → Type 0
+  ModifiesAll gives left (Some r) before after = (values : List V) × (before ≡ map Some values) × gives values r left × (after ≡ map Some left)
+  ModifiesAll gives left None before after = ¬ (All IsSome before) × (after ≡ before)
+
+  -- The names were bound to values that equal the expected ones, and are bound to the new ones; or to others, or one was unbound, and nothing changed.
+  abbrev pub SetsIf : (V → V → Bool) → List V → List V → Bool → List (Option V) → List (Option V) → Type 0
+  SetsIf equal expected new true before after = (values : List V) × (before ≡ map Some values) × IsTrue (pointwise equal values expected) × (after ≡ map Some new)
+  SetsIf equal expected new false before after = (((values : List V) × (before ≡ map Some values) × (pointwise equal values expected ≡ false)) ⊎ ¬ (All IsSome before)) × (after ≡ before)
 
   -- The call on the names was answered at one moment, at which they went from these bindings to those, as `P` says of the answer; or it was refused.
   pub record HasQueriedAll {A : Type 0} (P : A → List (Option V) → List (Option V) → Type 0) (hash : Name → ℕ) (set : Settings) (qs : List Name) (result : Result A KeysRefused) (p p2 : PassState V) : Type 0 where

@@ -1,5 +1,5 @@
 //! A caller: how it has the table, and a pass of its own.
-ghost use Rattle.std.specs.Prelude.{◌≡◌, ◌≢◌, ◌*◌, ◌^◌, ◌<◌, ◌≤◌, ℕ, All, map, OnOk, IfOk, IfErr, MatchResult, nat_eq};
+ghost use Rattle.std.specs.Prelude.{◌≡◌, ◌≢◌, ◌*◌, ◌^◌, ◌<◌, ◌≤◌, ℕ, All, length, map, OnOk, OnErr, IfOk, IfErr, MatchResult, nat_eq};
 ghost use Rattle.std.specs.Fn.{FnOnceReturnsAt, FnOnceReturnsAtMut};
 ghost use Rattle.ck_model.specs.declared.history.Call.TheVariants.{ChangeTwo};
 ghost use Rattle.ck_words.specs.Closing.{IsCaller};
@@ -108,7 +108,7 @@ impl<T: TableRef<K, V> + Drop, K: TableKey + Drop, V: Drop> CallerOn<T, K, V> {
     ghost use Rattle.cuckoo_map.specs.Callers.{QueryLeaves, InsertionLeaves, KeysLeave, Counts, GrowsTo, GrowsFor, IsBusyOn};
     ghost use Rattle.cuckoo_map.specs.Callers.{IsBusyOnSome, IsBusyOnAny, IsBusyOnTwo, FindsHeldOwn};
     ghost use Rattle.cuckoo_map.specs.Callers.{FindsHeldOfTwo, FindsHeldAmong, FindsHeldOfAny};
-    ghost use Rattle.cuckoo_map.specs.SeveralKeys.{FindsAll, ChangesAll};
+    ghost use Rattle.cuckoo_map.specs.SeveralKeys.{FindsAll, ChangesAll, ModifiesAll, SetsIf};
     ghost use Rattle.cuckoo_map.specs.Locking.{HasLocked};
 
     /// The pass. With the passes of all other callers it ends the table.
@@ -466,6 +466,92 @@ impl<T: TableRef<K, V> + Drop, K: TableKey + Drop, V: Drop> CallerOn<T, K, V> {
             (map Q.name keys) result self.old self.new }
     {
         self.table.table().update_all(&mut self.pass, &keys, f)
+    }
+
+    /// `find_all` of as many keys as the program knows when it runs: writes their values.
+    ///
+    /// ```
+    /// let mut values: [Option<u64>; 8] = [None; 8];
+    /// caller.find_all_into(&keys[..count], &mut values[..count])?;
+    /// ```
+    pub fn find_all_into<Q: Query<K>>(
+        &mut self,
+        keys: &[Q],
+        values: &mut [Option<V>],
+    ) -> Result<(), KeysRefused>
+    where
+        V: Copy,
+        requires some { 0 < length keys.now }
+        requires few { length keys.now ≤ 8 }
+        requires as_many { length values.old ≡ length keys.now }
+        ensures { KeysLeave (λ _. FindsAll values.new) K.hash
+            (map Q.name keys.now) result self.old self.new }
+    {
+        self.table.table().find_all(&mut self.pass, keys, values)
+    }
+
+    /// Where all of up to eight different keys are bound, lets the closure change their values, in
+    /// their order, and gives what it answers. What it leaves stands in `values` then. Where a key
+    /// is unbound, the closure is not called, and any values may stand there. It is one step of the
+    /// map. A key that stands twice is refused as `Twice`; refused, it leaves `values` as it was.
+    ///
+    /// ```
+    /// // Takes one from each of these accounts, or from none.
+    /// let mut values = [0; 3];
+    /// let taken: Option<bool> = caller.modify_all(&keys, &mut values, |values: &mut [u64]| {
+    ///     let enough = values.iter().all(|value: &u64| 0 < *value);
+    ///     if enough {
+    ///         for value in values.iter_mut() {
+    ///             *value -= 1;
+    ///         }
+    ///     }
+    ///     enough
+    /// })?;
+    /// ```
+    pub fn modify_all<Q: Query<K>, R, F: FnOnce(&mut [V]) -> R + Drop>(
+        &mut self,
+        keys: &[Q],
+        values: &mut [V],
+        f: F,
+    ) -> Result<Option<R>, KeysRefused>
+    where
+        V: Copy,
+        requires some { 0 < length keys.now }
+        requires few { length keys.now ≤ 8 }
+        requires as_many { length values.old ≡ length keys.now }
+        requires call { F.IsAlwaysCallable f }
+        ensures answered { KeysLeave (ModifiesAll (FnOnceReturnsAtMut F.FnOnce f) values.new)
+            K.hash (map Q.name keys.now) result self.old self.new }
+        ensures kept { OnErr result (values.new ≡ values.old) }
+    {
+        self.table
+            .table()
+            .modify_all(&mut self.pass, keys, values, f)
+    }
+
+    /// Binds up to eight different keys to new values where each is bound to the one that is
+    /// expected of it, and says whether it did. It is one step of the map. A key that stands twice
+    /// is refused as `Twice`.
+    ///
+    /// ```
+    /// let set: bool = caller.compare_and_set([&NumKey(1), &NumKey(2)], [10, 20], [11, 19])?;
+    /// ```
+    pub fn compare_and_set<Q: Query<K>, const N: usize>(
+        &mut self,
+        keys: [Q; N],
+        expected: [V; N],
+        new: [V; N],
+    ) -> Result<bool, KeysRefused>
+    where
+        V: Copy + PartialEq,
+        requires some { 0 < N }
+        requires few { N ≤ 8 }
+        ensures { KeysLeave (SetsIf V.eq expected new) K.hash
+            (map Q.name keys) result self.old self.new }
+    {
+        self.table
+            .table()
+            .compare_and_set(&mut self.pass, &keys, &expected, &new)
     }
 
     /// Unbinds the key, and gives the value that it had; `None` where it was unbound.

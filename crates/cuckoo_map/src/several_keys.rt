@@ -8,13 +8,13 @@ ghost use Rattle.ck_words.specs.Passes.{IsPassOf, IsIdle};
 ghost use Rattle.ck_words.specs.Retries.{FindsAmong};
 ghost use Rattle.ck_words.specs.Closing.{IsCaller};
 ghost use Rattle.cuckoo_map.specs.Refusals.{IsBusyAmong};
-ghost use Rattle.cuckoo_map.specs.SeveralKeys.{IsStripeOfAny, HoldsNames, RefusesNames, StandsAgain, HasQueriedAll, FindsAll, ChangesAll, IsSameButStripes, IsUpdated, bound_to};
+ghost use Rattle.cuckoo_map.specs.SeveralKeys.{IsStripeOfAny, HoldsNames, RefusesNames, StandsAgain, HasQueriedAll, FindsAll, ChangesAll, ModifiesAll, SetsIf, IsSameButStripes, IsUpdated, bound_to};
 ghost use Rattle.cuckoo_map.specs.LockedKeys.{HoldsKeys};
 
 use crate::refusal::{Busy, KeysRefused};
 use crate::table::Table;
 use ck_key::{KeyHash, Query, TableKey};
-use ck_section::{find_each, key_place, update};
+use ck_section::{find_bound, find_each, key_place, update};
 use ck_words::{Pass, StripeSet, guard};
 
 impl<K: TableKey + Drop, V: Drop> Table<K, V> {
@@ -92,9 +92,139 @@ impl<K: TableKey + Drop, V: Drop> Table<K, V> {
         let Some(mut changed) = all_of(&values) else {
             return (values, Some(f));
         };
-        f(&mut changed);
-        self.update_each(pass, stripes, keys, &changed);
+        self.change_each(pass, stripes, keys, &mut changed, f);
         (values, None)
+    }
+
+    /// `Caller::modify_all`, by a pass.
+    pub fn modify_all<Q: Query<K>, R, F: FnOnce(&mut [V]) -> R + Drop>(
+        &self,
+        pass: &mut Pass<K, V>,
+        keys: &[Q],
+        values: &mut [V],
+        f: F,
+    ) -> Result<Option<R>, KeysRefused>
+    where
+        V: Copy,
+        requires caller { IsCaller self.now pass.old }
+        requires some { 0 < length keys.now }
+        requires few { length keys.now ≤ 8 }
+        requires as_many { length values.old ≡ length keys.now }
+        requires call { F.IsAlwaysCallable f }
+        ensures caller { IsCaller self.now pass.new }
+        ensures modified { HasQueriedAll (ModifiesAll (FnOnceReturnsAtMut F.FnOnce f) values.new)
+            K.hash self.now.settings (map Q.name keys.now) result pass.old pass.new }
+        ensures kept { OnErr result (values.new ≡ values.old) }
+    {
+        let stripes = self.lock_different(pass, keys)?;
+        let (answer, _not_called) = self.modify_held(pass, stripes, keys, values, f);
+        guard!(&self.words, pass, stripes).commit_session_on(keys);
+        // A closure that was not called is dropped only now, when no stripe is held.
+        Ok(answer)
+    }
+
+    /// `Caller::compare_and_set`, by a pass.
+    pub fn compare_and_set<Q: Query<K>, const N: usize>(
+        &self,
+        pass: &mut Pass<K, V>,
+        keys: &[Q; N],
+        expected: &[V; N],
+        new: &[V; N],
+    ) -> Result<bool, KeysRefused>
+    where
+        V: Copy + PartialEq,
+        requires caller { IsCaller self.now pass.old }
+        requires some { 0 < N }
+        requires few { N ≤ 8 }
+        ensures caller { IsCaller self.now pass.new }
+        ensures set { HasQueriedAll (SetsIf V.eq expected.now new.now)
+            K.hash self.now.settings (map Q.name keys.now) result pass.old pass.new }
+    {
+        let stripes = self.lock_different(pass, keys)?;
+        let set = self.replace_held(pass, stripes, keys, expected, new);
+        guard!(&self.words, pass, stripes).commit_session_on(keys);
+        Ok(set)
+    }
+
+    // The same for keys whose stripes are held.
+    fn replace_held<Q: Query<K>, const N: usize>(
+        &self,
+        pass: &mut Pass<K, V>,
+        stripes: StripeSet,
+        keys: &[Q; N],
+        expected: &[V; N],
+        new: &[V; N],
+    ) -> bool
+    where
+        V: Copy + PartialEq,
+        requires held { HoldsKeys K.hash self.now stripes (map Q.name keys.now) pass.old }
+        ensures held { HoldsKeys K.hash self.now stripes (map Q.name keys.now) pass.new }
+        ensures stays { IsSameButStripes pass.old pass.new }
+        ensures set { SetsIf V.eq expected.now new.now result
+            (bound_to (map Q.name keys.now) pass.old) (bound_to (map Q.name keys.now) pass.new) }
+    {
+        let mut values = *expected;
+        let mut guard = guard!(&self.words, pass, stripes);
+        if !find_bound(&mut guard, stripes.s, keys, &mut values) {
+            return false;
+        }
+        if values != *expected {
+            return false;
+        }
+        self.update_each(pass, stripes, keys, new);
+        true
+    }
+
+    // `modify_all` for keys whose stripes are held. Where one is unbound, the closure comes back.
+    fn modify_held<Q: Query<K>, R, F: FnOnce(&mut [V]) -> R>(
+        &self,
+        pass: &mut Pass<K, V>,
+        stripes: StripeSet,
+        keys: &[Q],
+        values: &mut [V],
+        f: F,
+    ) -> (Option<R>, Option<F>)
+    where
+        V: Copy,
+        requires as_many { length values.old ≡ length keys.now }
+        requires held { HoldsKeys K.hash self.now stripes (map Q.name keys.now) pass.old }
+        requires call { F.IsAlwaysCallable f }
+        ensures held { HoldsKeys K.hash self.now stripes (map Q.name keys.now) pass.new }
+        ensures stays { IsSameButStripes pass.old pass.new }
+        ensures modified { ModifiesAll (FnOnceReturnsAtMut F.FnOnce f) values.new result.0
+            (bound_to (map Q.name keys.now) pass.old) (bound_to (map Q.name keys.now) pass.new) }
+    {
+        let mut guard = guard!(&self.words, pass, stripes);
+        if !find_bound(&mut guard, stripes.s, keys, values) {
+            return (None, Some(f));
+        }
+        let answer = self.change_each(pass, stripes, keys, values, f);
+        (Some(answer), None)
+    }
+
+    // Lets the closure change the values of the keys, which are bound to them and whose stripes are
+    // held, and binds the keys to what it leaves.
+    fn change_each<Q: Query<K>, R, F: FnOnce(&mut [V]) -> R>(
+        &self,
+        pass: &mut Pass<K, V>,
+        stripes: StripeSet,
+        keys: &[Q],
+        values: &mut [V],
+        f: F,
+    ) -> R
+    where
+        V: Copy,
+        requires held { HoldsKeys K.hash self.now stripes (map Q.name keys.now) pass.old }
+        requires bound { bound_to (map Q.name keys.now) pass.old ≡ map Some values.old }
+        requires call { F.IsAlwaysCallable f }
+        ensures held { HoldsKeys K.hash self.now stripes (map Q.name keys.now) pass.new }
+        ensures stays { IsSameButStripes pass.old pass.new }
+        ensures called { FnOnceReturnsAtMut F.FnOnce f values.old result values.new }
+        ensures bound { bound_to (map Q.name keys.now) pass.new ≡ map Some values.new }
+    {
+        let answer = f(values);
+        self.update_each(pass, stripes, keys, values);
+        answer
     }
 
     // Binds the keys, which are bound and whose stripes are held, to these values.

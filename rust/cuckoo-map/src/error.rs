@@ -1,4 +1,5 @@
-use crate::raw::{BAD_SETTINGS, BUSY, CLOSED, FULL, LOAD_TOO_LOW, NO_MEMORY, OVER_MAX, TOO_LONG};
+use crate::raw::{BAD_COUNT, BAD_SETTINGS, BUSY, CLOSED, FULL, LOAD_TOO_LOW, NO_MEMORY, OVER_MAX};
+use crate::raw::{TOO_LONG, TWICE};
 use std::fmt;
 
 /// Why a call was refused. It has changed no binding.
@@ -21,6 +22,10 @@ pub enum Error {
     TooLong,
     /// The handle is closed: a [`clear`](crate::TableHandle::clear) found no memory.
     Closed,
+    /// One of the keys stands twice.
+    Twice,
+    /// The keys are none, or more than eight.
+    BadCount,
     /// The library gave a code that this crate doesn't know.
     Other(i32),
 }
@@ -39,6 +44,8 @@ impl Error {
             BAD_SETTINGS => Error::BadSettings,
             TOO_LONG => Error::TooLong,
             CLOSED => Error::Closed,
+            TWICE => Error::Twice,
+            BAD_COUNT => Error::BadCount,
             other => Error::Other(other),
         }
     }
@@ -55,6 +62,8 @@ impl fmt::Display for Error {
             Error::BadSettings => "a setting is not in its range",
             Error::TooLong => "a text has more than 64 bytes",
             Error::Closed => "the handle is closed",
+            Error::Twice => "a key stands twice",
+            Error::BadCount => "the keys are none, or more than eight",
             Error::Other(code) => return write!(to, "the library gave code {code}"),
         })
     }

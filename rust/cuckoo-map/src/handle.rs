@@ -290,7 +290,7 @@ impl<K: Keys> TableHandle<K> {
 
     // Makes a call until it is answered.
     #[inline]
-    fn call(&mut self, mut made: impl FnMut(*mut Raw) -> i32) -> Result<i32> {
+    pub(crate) fn call(&mut self, mut made: impl FnMut(*mut Raw) -> i32) -> Result<i32> {
         loop {
             match made(&mut self.raw) {
                 BUSY if self.retries_busy => thread::yield_now(),

@@ -1,4 +1,5 @@
 //! The calls of the library, as `cuckoo_map.h` declares them.
+use crate::several::{Change, Part};
 use crate::{Numbers, Settings, Texts};
 use std::ffi::c_void;
 use std::ptr;
@@ -27,9 +28,23 @@ pub const OVER_MAX: i32 = -5;
 pub const BAD_SETTINGS: i32 = -6;
 pub const TOO_LONG: i32 = -7;
 pub const CLOSED: i32 = -8;
+pub const TWICE: i32 = -10;
+pub const BAD_COUNT: i32 = -11;
+
+/// A key, and what was found of it.
+#[repr(C)]
+#[derive(Clone, Copy)]
+pub struct Entry {
+    pub key: u64,
+    pub value: u64,
+    pub bound: u64,
+}
 
 extern "C" {
     pub fn cuckoo_settings_for(keys: u64, callers: u32, turns: u32, settings: *mut Settings);
+    pub fn cuckoo_find_all(handle: *mut Raw, entries: *mut Entry, count: usize) -> i32;
+    pub fn cuckoo_set_if_all(handle: *mut Raw, changes: *const Change, count: usize) -> i32;
+    pub fn cuckoo_move(handle: *mut Raw, parts: *const Part, count: usize) -> i32;
 }
 
 /// The calls on one type of keys.

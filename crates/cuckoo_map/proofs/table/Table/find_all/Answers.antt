@@ -8,8 +8,7 @@ use Rattle.ck_section.specs.Places.{HasBoth}
 use Rattle.ck_words.specs.Words.{WordsState}
 use Rattle.ck_words.specs.Passes.{PassState}
 use Rattle.ck_words.specs.Answering.{HasDone, HasCommitted, session_on}
-use Rattle.cuckoo_map.specs.SeveralKeys.{bound_to}
-use Rattle.cuckoo_map.proofs.HeldKeys.{same_pass, lawful_at, holds_keys, keys_done, ends_keys, queried_keys}
+use Rattle.cuckoo_map.proofs.HeldKeys.{same_pass, lawful_at, holds_keys, keys_done, ends_keys, has_queried}
 use Rattle.cuckoo_map.proofs.table.Table.find_all.Goals as goal
 
 pub find_each-requires-clause-owned : goal.find_each-requires-clause-owned
@@ -56,9 +55,4 @@ returns-clause-looked g c =
     let table = e.stays.5 ∙ c.self.view_is in
     let committed = subst (λ (x : WordsState × PassState g.row.V.Denot). HasCommitted g.K.TableKey.hash x.0 (session_on names x.1) x.1 z) (λ i. (table i, same i)) c.commit_session_on.ensures.committed in
     let values : c.find_each.new.values ≡ bound_in (bindings (contents_of p2.stripes)) names = e.values c.args.self.now.settings.max (lawful_at held) in
-    let found = c.lock_different.ensures.found in
-    rw (← there) (record {
-      answered = (bound_to names p2, bound_to names p2, (sym values, sym values), queried_keys c.args.pass.now p2 p2 z held h refl committed);
-      refused = tt;
-      found = (found.0, committed.found ∙ found.1, found.2);
-    })
+    rw (← there) (has_queried c.args.pass.now p2 p2 z held h refl c.lock_different.ensures.found committed tt (sym values, sym values))

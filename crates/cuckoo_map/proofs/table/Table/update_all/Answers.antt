@@ -1,10 +1,8 @@
-use Rattle.std.proofs.Common.{rules, ◌≡◌, ◌∙◌, ℕ, List, map, sym, ap, subst}
+use Rattle.std.proofs.Common.{rules, ◌≡◌, map, sym, subst}
 use Rattle.ck_model.specs.declared.history.Reply.TheVariants.{Closed}
 use Rattle.ck_words.specs.Words.{WordsState}
-use Rattle.ck_words.specs.Passes.{PassState}
 use Rattle.ck_words.specs.Answering.{HasDone, HasCommitted, session_on}
-use Rattle.cuckoo_map.specs.SeveralKeys.{bound_to}
-use Rattle.cuckoo_map.proofs.HeldKeys.{holds_keys, keys_done, ends_keys, queried_keys}
+use Rattle.cuckoo_map.proofs.HeldKeys.{holds_keys, keys_done, ends_keys, has_queried}
 use Rattle.cuckoo_map.proofs.table.Table.update_all.Goals as goal
 
 pub update_held-values-requires : goal.update_held-values-requires
@@ -36,9 +34,4 @@ returns-clause-updated g c =
     let z = c.commit_session_on.new.self.pass.now in
     let e = c.update_held-values.ensures in
     let committed = subst (λ (w : WordsState). HasCommitted g.K.TableKey.hash w (session_on names p3) p3 z) c.self.view_is c.commit_session_on.ensures.committed in
-    let found = c.lock_different.ensures.found in
-    rw (← there) (record {
-      answered = (bound_to names p2, bound_to names p3, e.updated, queried_keys c.args.pass.now p2 p3 z e.held c.in_ok-stripes.ensures.held e.stays committed);
-      refused = tt;
-      found = (found.0, committed.found ∙ (ap (λ (x : PassState g.row.V.Denot). x.view.found) e.stays ∙ found.1), found.2);
-    })
+    rw (← there) (has_queried c.args.pass.now p2 p3 z e.held c.in_ok-stripes.ensures.held e.stays c.lock_different.ensures.found committed c.update_held-values.result.0 e.updated)
