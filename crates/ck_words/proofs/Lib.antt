@@ -31,3 +31,4 @@ pub mod Renewals
 pub mod Numbers
 pub mod Listed
 pub mod StripesOfKeys
+pub mod Inserting

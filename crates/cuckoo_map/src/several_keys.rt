@@ -311,7 +311,11 @@ impl<K: TableKey + Drop, V: Drop> Table<K, V> {
             (IsStripeOfAny K.hash self.now.settings (map Q.name keys.now))
             self.now.settings busy.0 pass.old pass.new) }
     {
-        let hashes = hashes_of::<K, Q>(keys);
+        let mut hashes = [KeyHash {
+            hash: 0,
+            partial: 0,
+        }; 8];
+        write_hashes::<K, Q>(keys, &mut hashes);
         let stripes = StripeSet::of_keys(self.words.settings().s, &hashes[..keys.len()]);
         match self.words.lock(pass, stripes) {
             Ok(()) => Ok(stripes),
@@ -320,20 +324,15 @@ impl<K: TableKey + Drop, V: Drop> Table<K, V> {
     }
 }
 
-// The hashes of up to eight keys, in their order.
-fn hashes_of<K: TableKey, Q: Query<K>>(keys: &[Q]) -> [KeyHash; 8]
+// Writes the hashes of up to eight keys, in their order. An array that came back would be copied.
+fn write_hashes<K: TableKey, Q: Query<K>>(keys: &[Q], hashes: &mut [KeyHash; 8])
     requires { length keys.now ≤ 8 }
-    ensures { AllZip (IsHashOf K.hash) (map Q.name keys.now) (take (length keys.now) result) }
+    ensures { AllZip (IsHashOf K.hash) (map Q.name keys.now)
+        (take (length keys.now) hashes.new) }
 {
-    let none = KeyHash {
-        hash: 0,
-        partial: 0,
-    };
-    let mut hashes = [none; 8];
     for i in 0..keys.len() {
         hashes[i] = KeyHash::of::<K, Q>(keys[i]);
     }
-    hashes
 }
 
 // The position of a key that stands again behind it.

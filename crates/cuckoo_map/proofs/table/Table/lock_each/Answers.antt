@@ -10,12 +10,12 @@ use Rattle.cuckoo_map.proofs.SeveralKeys.{of_names, partials_of, stripe_of_any}
 use Rattle.cuckoo_map.proofs.table.Table.lock_each.Goals as goal
 
 pub of_keys-stripes-requires-clause-partials : goal.of_keys-stripes-requires-clause-partials
-of_keys-stripes-requires-clause-partials g c = partials_of g.K.TableKey.hash (map g.Q.Query.name c.args.keys.now) (take (length c.args.keys.now) c.hashes_of-hashes.result) c.hashes_of-hashes.ensures
+of_keys-stripes-requires-clause-partials g c = partials_of g.K.TableKey.hash (map g.Q.Query.name c.args.keys.now) (take (length c.args.keys.now) c.write_hashes.new.hashes) c.write_hashes.ensures
 
 pub returns-in-Ok-clause-held : goal.returns-in-Ok-clause-held
 returns-in-Ok-clause-held g c =
-    let exact = of_names g.K.TableKey.hash c.args.self.now.settings (s_of c.self.view_is c.settings.ensures.value) (list_of c.of_keys-stripes.result) (map g.Q.Query.name c.args.keys.now) (take (length c.args.keys.now) c.hashes_of-hashes.result)
-    c.hashes_of-hashes.ensures c.of_keys-stripes.ensures.exact in
+    let exact = of_names g.K.TableKey.hash c.args.self.now.settings (s_of c.self.view_is c.settings.ensures.value) (list_of c.of_keys-stripes.result) (map g.Q.Query.name c.args.keys.now) (take (length c.args.keys.now) c.write_hashes.new.hashes)
+    c.write_hashes.ensures c.of_keys-stripes.ensures.exact in
     let p2 = c.lock.new.pass in
     let is = c.self.view_is in
     let h = c.in-Ok.ensures in
@@ -31,20 +31,20 @@ returns-in-Ok-clause-held g c =
 
 pub returns-in-Ok-clause-found : goal.returns-in-Ok-clause-found
 returns-in-Ok-clause-found g c =
-    let exact = of_names g.K.TableKey.hash c.args.self.now.settings (s_of c.self.view_is c.settings.ensures.value) (list_of c.of_keys-stripes.result) (map g.Q.Query.name c.args.keys.now) (take (length c.args.keys.now) c.hashes_of-hashes.result)
-    c.hashes_of-hashes.ensures c.of_keys-stripes.ensures.exact in
+    let exact = of_names g.K.TableKey.hash c.args.self.now.settings (s_of c.self.view_is c.settings.ensures.value) (list_of c.of_keys-stripes.result) (map g.Q.Query.name c.args.keys.now) (take (length c.args.keys.now) c.write_hashes.new.hashes)
+    c.write_hashes.ensures c.of_keys-stripes.ensures.exact in
     finds_such (list_of c.of_keys-stripes.result) exact c.args.pass.now c.lock.new.pass c.lock.ensures.found
 
 pub returns-in-Err-clause-found : goal.returns-in-Err-clause-found
 returns-in-Err-clause-found g c =
-    let exact = of_names g.K.TableKey.hash c.args.self.now.settings (s_of c.self.view_is c.settings.ensures.value) (list_of c.of_keys-stripes.result) (map g.Q.Query.name c.args.keys.now) (take (length c.args.keys.now) c.hashes_of-hashes.result)
-    c.hashes_of-hashes.ensures c.of_keys-stripes.ensures.exact in
+    let exact = of_names g.K.TableKey.hash c.args.self.now.settings (s_of c.self.view_is c.settings.ensures.value) (list_of c.of_keys-stripes.result) (map g.Q.Query.name c.args.keys.now) (take (length c.args.keys.now) c.write_hashes.new.hashes)
+    c.write_hashes.ensures c.of_keys-stripes.ensures.exact in
     finds_such (list_of c.of_keys-stripes.result) exact c.args.pass.now c.lock.new.pass c.lock.ensures.found
 
 pub returns-in-Err-clause-busy : goal.returns-in-Err-clause-busy
 returns-in-Err-clause-busy g c =
-    let exact = of_names g.K.TableKey.hash c.args.self.now.settings (s_of c.self.view_is c.settings.ensures.value) (list_of c.of_keys-stripes.result) (map g.Q.Query.name c.args.keys.now) (take (length c.args.keys.now) c.hashes_of-hashes.result)
-    c.hashes_of-hashes.ensures c.of_keys-stripes.ensures.exact in
+    let exact = of_names g.K.TableKey.hash c.args.self.now.settings (s_of c.self.view_is c.settings.ensures.value) (list_of c.of_keys-stripes.result) (map g.Q.Query.name c.args.keys.now) (take (length c.args.keys.now) c.write_hashes.new.hashes)
+    c.write_hashes.ensures c.of_keys-stripes.ensures.exact in
     let p = c.args.pass.now in
     let p2 = c.lock.new.pass in
     let t = c.in-Err.stripe in

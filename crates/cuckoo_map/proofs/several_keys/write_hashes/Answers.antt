@@ -1,7 +1,7 @@
 use Rattle.std.proofs.Common.{◌∙◌, arith}
 use Rattle.std.proofs.lemmas.List.{length-set}
 use Rattle.cuckoo_map.proofs.SeveralKeys.{hashes_next}
-use Rattle.cuckoo_map.proofs.several_keys.hashes_of.Goals as goal
+use Rattle.cuckoo_map.proofs.several_keys.write_hashes.Goals as goal
 
 pub loop-i-preserved : goal.loop-i-preserved
 loop-i-preserved g c =
