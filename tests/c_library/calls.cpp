@@ -116,6 +116,27 @@ void texts() {
   CHECK(pairs[2].first == longest && pairs[2].second == 1);
 }
 
+// Calls on several keys at one moment.
+void several() {
+  cuckoo::map<int, std::uint64_t> map(100);
+  CHECK(map.insert(-1, 10) && map.insert(2, 20) && map.insert(3, 30));
+  const auto [one, none, three] = map.get_all({-1, 4, 3});
+  CHECK(one == 10 && !none && three == 30);
+  CHECK(map.set_if_all({{-1, 10, 11}, {2, 20, 21}}) && map.find(-1) == 11 && map.find(2) == 21);
+  CHECK(!map.set_if_all({{-1, 11, 12}, {2, 20, 22}}) && map.find(-1) == 11);
+  CHECK(!map.set_if_all({{-1, 11, 12}, {4, 0, 1}}) && map.find(-1) == 11);
+  CHECK(map.move_all({{-1, 11, 0}, {2, 0, 6}, {3, 0, 5}}));
+  CHECK(map.find(-1) == 0 && map.find(2) == 27 && map.find(3) == 35);
+  CHECK(!map.move_all({{2, 1, 0}, {-1, 1, 0}}) && map.find(2) == 27);
+  CHECK(!map.move_all({{2, 1, 0}, {4, 0, 1}}) && map.find(2) == 27);
+  CHECK_THROWS(std::invalid_argument, map.get_all({2, 2}));
+  CHECK_THROWS(std::invalid_argument, map.set_if_all({{2, 27, 1}, {2, 27, 1}}));
+  CHECK(map.find(2) == 27 && map.size() == 3);
+  cuckoo::map<color, double> colors(100);
+  CHECK(colors.insert(color::red, .5) && colors.set_if_all({{color::red, .5, 1.5}}));
+  CHECK(colors.get_all({color::red, color::green})[0] == 1.5);
+}
+
 // Exceptions of a closure pass, and leave the map as it was.
 void closures() {
   cuckoo::map<int, int> map(100);
@@ -197,6 +218,7 @@ int main() {
   all_calls<const char *>("one", nullptr);
   values();
   texts();
+  several();
   closures();
   refusals();
   moves();

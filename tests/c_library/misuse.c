@@ -24,10 +24,12 @@ static int failed;
 
 static const char *name_of(int32_t code) {
     static const char *const refusals[] = {"BUSY", "NO_MEMORY", "FULL", "LOAD_TOO_LOW", "OVER_MAX",
-                                           "BAD_SETTINGS", "TOO_LONG", "CLOSED", "IS_OPEN"};
-    static const char *const answers[] = {"OK", "ABSENT", "PRESENT", "DIFFERENT", "ENOUGH"};
-    if (code >= 0 && code <= CUCKOO_ENOUGH) return answers[code];
-    if (code < 0 && code >= CUCKOO_IS_OPEN) return refusals[-1 - code];
+                                           "BAD_SETTINGS", "TOO_LONG", "CLOSED", "IS_OPEN",
+                                           "TWICE", "BAD_COUNT"};
+    static const char *const answers[] = {"OK", "ABSENT", "PRESENT", "DIFFERENT", "ENOUGH",
+                                          "SHORT"};
+    if (code >= 0 && code <= CUCKOO_SHORT) return answers[code];
+    if (code < 0 && code >= CUCKOO_BAD_COUNT) return refusals[-1 - code];
     return "no code";
 }
 
@@ -59,9 +61,16 @@ static cuckoo_handle open_one(cuckoo_settings settings) {
 static void try_closed(const char *name, cuckoo_handle *handle) {
     uint64_t place = UNTOUCHED;
     cuckoo_pairs pairs = CUCKOO_NO_PAIRS;
+    cuckoo_entry entry = {1, UNTOUCHED, UNTOUCHED};
+    cuckoo_change change = {1, 2, 3};
+    cuckoo_part part = {1, 2, 3};
     printf("%s\n", name);
     expect("  find", cuckoo_find(handle, 1, &place), CUCKOO_CLOSED);
     expect("  contains", cuckoo_contains(handle, 1), CUCKOO_CLOSED);
+    expect("  find_all", cuckoo_find_all(handle, &entry, 1), CUCKOO_CLOSED);
+    expect("  set_if_all", cuckoo_set_if_all(handle, &change, 1), CUCKOO_CLOSED);
+    expect("  move", cuckoo_move(handle, &part, 1), CUCKOO_CLOSED);
+    check("a refused call leaves its entry", entry.value == UNTOUCHED && entry.bound == UNTOUCHED);
     expect("  insert", cuckoo_insert(handle, 1, 2), CUCKOO_CLOSED);
     expect("  assign", cuckoo_assign(handle, 1, 2, &place), CUCKOO_CLOSED);
     expect("  add", cuckoo_add(handle, 1, 2), CUCKOO_CLOSED);
@@ -242,6 +251,72 @@ static void try_answers(void) {
     cuckoo_close(&handle);
 }
 
+/* Whether both keys have these values at one moment. */
+static int have(cuckoo_handle *handle, uint64_t a, uint64_t of_a, uint64_t b, uint64_t of_b) {
+    cuckoo_entry entries[] = {{a, UNTOUCHED, UNTOUCHED}, {b, UNTOUCHED, UNTOUCHED}};
+    return cuckoo_find_all(handle, entries, 2) == CUCKOO_OK && entries[0].bound == 1 &&
+           entries[1].bound == 1 && entries[0].value == of_a && entries[1].value == of_b;
+}
+
+/* Calls on several keys: too many of them, none, one twice, and each answer. */
+static void try_several(void) {
+    cuckoo_handle handle = open_one(settings_of(4, 8, 1, 5));
+    cuckoo_entry entries[9];
+    cuckoo_change changes[9];
+    cuckoo_part parts[9];
+    for (uint64_t i = 0; i < 9; i++) {
+        entries[i] = (cuckoo_entry){i, UNTOUCHED, UNTOUCHED};
+        changes[i] = (cuckoo_change){i, 10 * i, 10 * i + 1};
+        parts[i] = (cuckoo_part){i, 1, 0};
+        check("a key is bound", i == 8 || cuckoo_insert(&handle, i, 10 * i) == CUCKOO_OK);
+    }
+    puts("several keys");
+    expect("  find_all of none", cuckoo_find_all(&handle, entries, 0), CUCKOO_BAD_COUNT);
+    expect("  find_all of nine", cuckoo_find_all(&handle, entries, 9), CUCKOO_BAD_COUNT);
+    expect("  set_if_all of none", cuckoo_set_if_all(&handle, changes, 0), CUCKOO_BAD_COUNT);
+    expect("  set_if_all of nine", cuckoo_set_if_all(&handle, changes, 9), CUCKOO_BAD_COUNT);
+    expect("  move of none", cuckoo_move(&handle, parts, 0), CUCKOO_BAD_COUNT);
+    expect("  move of nine", cuckoo_move(&handle, parts, 9), CUCKOO_BAD_COUNT);
+    entries[7].key = changes[7].key = parts[7].key = 3;
+    expect("  find_all of one twice", cuckoo_find_all(&handle, entries, 8), CUCKOO_TWICE);
+    expect("  set_if_all of one twice", cuckoo_set_if_all(&handle, changes, 8), CUCKOO_TWICE);
+    expect("  move of one twice", cuckoo_move(&handle, parts, 8), CUCKOO_TWICE);
+    for (int i = 0; i < 9; i++)
+        check("a refused call leaves its entries",
+              entries[i].value == UNTOUCHED && entries[i].bound == UNTOUCHED);
+    check("nothing changed", have(&handle, 3, 30, 7, 70));
+
+    entries[7].key = changes[7].key = parts[7].key = 8;
+    expect("  find_all where one is unbound", cuckoo_find_all(&handle, entries, 8), CUCKOO_OK);
+    for (uint64_t i = 0; i < 7; i++)
+        check("it tells each value", entries[i].bound == 1 && entries[i].value == 10 * i);
+    check("and which is unbound", entries[7].bound == 0 && entries[7].value == UNTOUCHED);
+    expect("  set_if_all", cuckoo_set_if_all(&handle, changes, 8), CUCKOO_ABSENT);
+    expect("  move", cuckoo_move(&handle, parts, 8), CUCKOO_ABSENT);
+    check("nothing changed", have(&handle, 1, 10, 6, 60));
+
+    expect("  set_if_all of bound keys", cuckoo_set_if_all(&handle, changes, 7), CUCKOO_OK);
+    check("all have changed", have(&handle, 0, 1, 6, 61));
+    expect("  and once more", cuckoo_set_if_all(&handle, changes, 7), CUCKOO_DIFFERENT);
+    check("nothing changed", have(&handle, 1, 11, 5, 51));
+    changes[0].from = 1, changes[1].from = 11;
+    expect("  where the last is another", cuckoo_set_if_all(&handle, changes, 3), CUCKOO_DIFFERENT);
+    check("nothing changed", have(&handle, 0, 1, 1, 11));
+
+    cuckoo_part some[] = {{4, 41, 0}, {5, 1, 30}, {6, 0, 12}};
+    expect("  move among three", cuckoo_move(&handle, some, 3), CUCKOO_OK);
+    check("the first has none", have(&handle, 4, 0, 5, 80));
+    check("the last has more", have(&handle, 4, 0, 6, 73));
+    expect("  where there is not so much", cuckoo_move(&handle, some, 3), CUCKOO_SHORT);
+    some[0] = (cuckoo_part){4, 0, 5}, some[2].put = UINT64_MAX - 72;
+    expect("  where it is too much", cuckoo_move(&handle, some, 3), CUCKOO_SHORT);
+    check("nothing changed", have(&handle, 4, 0, 5, 80) && have(&handle, 4, 0, 6, 73));
+    some[2].put--;
+    expect("  where it is just enough", cuckoo_move(&handle, some, 3), CUCKOO_OK);
+    check("it has the greatest number", have(&handle, 4, 5, 6, UINT64_MAX));
+    cuckoo_close(&handle);
+}
+
 /* Inserts keys up to one that is refused, and checks that all before are bound, and it isn't. */
 static void try_fill(const char *name, cuckoo_settings settings, int32_t wanted) {
     cuckoo_handle handle = open_one(settings);
@@ -329,6 +404,7 @@ int main(void) {
     try_bad_settings();
     try_long_texts();
     try_answers();
+    try_several();
     try_fill("full", settings_of(1, 1, 1, 5), CUCKOO_FULL);
     try_fill("full after growing", settings_of(1, 6, 1, 5), CUCKOO_FULL);
     try_fill("load too low", settings_of(8, 26, 1, 100), CUCKOO_LOAD_TOO_LOW);

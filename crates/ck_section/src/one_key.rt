@@ -20,6 +20,7 @@ use ck_stripe::{Held, HeldSlot, Stripe, one_stripe};
 
 /// What the closure answers for the value of the key. Where the key is unbound, the closure is not
 /// called and comes back.
+#[inline(always)]
 pub fn find<K: TableKey + Drop, V: Drop, Q: Query<K>, H: Held<Stripe<K, V>>, R, F: FnOnce(&V) -> R>(
     held: &mut H,
     place: KeyPlace,

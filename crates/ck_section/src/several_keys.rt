@@ -18,6 +18,7 @@ use ck_stripe::{Held, Stripe};
 
 /// Writes the value of each key, in their order, or `None` where it is unbound. The stripes of the
 /// keys are held, of a table of 2^s.
+#[inline(always)]
 pub fn find_each<K: TableKey + Drop, V: Copy + Drop, Q: Query<K>, H: Held<Stripe<K, V>>>(
     held: &mut H,
     s: u32,
@@ -40,6 +41,7 @@ pub fn find_each<K: TableKey + Drop, V: Copy + Drop, Q: Query<K>, H: Held<Stripe
 }
 
 /// Writes the value of each key so, and says whether each is bound. Where one is not, it stops.
+#[inline(always)]
 pub fn find_bound<K: TableKey + Drop, V: Copy + Drop, Q: Query<K>, H: Held<Stripe<K, V>>>(
     held: &mut H,
     s: u32,
@@ -71,6 +73,7 @@ pub fn find_bound<K: TableKey + Drop, V: Copy + Drop, Q: Query<K>, H: Held<Strip
 }
 
 // The value of the key.
+#[inline(always)]
 fn find_one<K: TableKey + Drop, V: Copy + Drop, Q: Query<K>, H: Held<Stripe<K, V>>>(
     held: &mut H,
     s: u32,
@@ -88,6 +91,7 @@ fn find_one<K: TableKey + Drop, V: Copy + Drop, Q: Query<K>, H: Held<Stripe<K, V
 }
 
 // The value of the key, which may be at this place.
+#[inline(always)]
 fn find_copy<K: TableKey + Drop, V: Copy + Drop, Q: Query<K>, H: Held<Stripe<K, V>>>(
     held: &mut H,
     place: KeyPlace,

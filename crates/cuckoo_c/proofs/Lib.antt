@@ -3,3 +3,4 @@ pub mod PairRows
 pub mod Payloads
 pub mod Placing
 mod Through
+pub mod FewKeys

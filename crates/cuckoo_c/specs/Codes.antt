@@ -1,5 +1,5 @@
 -- The codes that C is told, and what they say of a call's result.
-use Rattle.std.specs.Prelude.{◌≡◌, ◌≢◌, ◌⊎◌, ℕ, ℤ, pos, negsuc, Unit, Bool, true, false, Option, Some, None, Result, Ok, Err}
+use Rattle.std.specs.Prelude.{◌≡◌, ◌≢◌, ◌⊎◌, ℕ, ℤ, pos, negsuc, Bool, true, false, Option, Some, None, Result, Ok, Err}
 use Rattle.cuckoo_c.specs.declared.code.Code.{Code}
 use Rattle.cuckoo_c.specs.declared.code.Code.TheVariants as codes
 use Rattle.cuckoo_map.specs.declared.refusal.Busy.{Busy}

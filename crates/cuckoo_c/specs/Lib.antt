@@ -5,3 +5,4 @@ pub mod Openings
 pub mod PairRows
 pub mod Pairs
 pub mod Payloads
+pub mod Several

@@ -1,15 +1,14 @@
 //! What each call does through a handle, once for all types of keys.
-ghost use Rattle.std.specs.Prelude.{◌≡◌, ◌<◌, ◌≤◌, ℕ, Unit, Bool, Option, None, Result, nat_eq, length, map};
-ghost use Rattle.std.specs.Fn.{FnOnceReturnsAtMut};
+ghost use Rattle.std.specs.Prelude.{◌≡◌, ◌<◌, ◌≤◌, ℕ, Bool, Option, None, Result, nat_eq, length, map};
 ghost use Rattle.ck_section.specs.Acts.{Finds, FindsBound, Inserts, Assigns, Upserts, Modifies, ErasesBy, Erases};
 ghost use Rattle.cuckoo_map.specs.declared.refusal.Busy.{Busy};
 ghost use Rattle.cuckoo_map.specs.declared.refusal.GrowFault.{GrowFault};
 ghost use Rattle.cuckoo_map.specs.declared.refusal.KeysRefused.{KeysRefused};
 ghost use Rattle.cuckoo_map.specs.declared.refusal.Refused.{Refused};
 ghost use Rattle.cuckoo_map.specs.Callers.{CallerState, QueryLeaves, InsertionLeaves, KeysLeave};
-ghost use Rattle.cuckoo_map.specs.SeveralKeys.{FindsAll, ModifiesAll};
+ghost use Rattle.cuckoo_map.specs.SeveralKeys.{FindsAll};
 ghost use Rattle.cuckoo_c.specs.declared.code.Code.TheVariants as codes;
-ghost use Rattle.cuckoo_c.specs.Codes.{TellsBound, TellsValue, TellsFresh, TellsOld, TellsSeen, TellsMatch, TellsCount, TellsGrown, TellsDone, TellsChange};
+ghost use Rattle.cuckoo_c.specs.Codes.{TellsBound, TellsValue, TellsFresh, TellsOld, TellsSeen, TellsMatch, TellsCount, TellsGrown, TellsDone};
 ghost use Rattle.cuckoo_c.specs.Handles.{Calls, AddsTo, Replaces, Swaps, CountLeaves, CapacityLeaves, GrowthLeaves};
 
 use crate::code::Code;
@@ -396,38 +395,6 @@ pub fn find_all<K: TableKey + Drop, P: Holds<Handle<K, u64>>, Q: Query<K>>(
     put(place, alloc, handle);
     match found {
         Ok(()) => Code::Done,
-        Err(why) => Code::of_keys(why),
-    }
-}
-
-/// Lets the closure change the values of the keys, all at one moment. Where it answers false, the
-/// code is `declined`.
-pub fn modify_all<
-    K: TableKey + Drop,
-    P: Holds<Handle<K, u64>>,
-    Q: Query<K>,
-    F: FnOnce(&mut [u64]) -> bool + Drop,
->(alloc: Global, place: &mut P, keys: &[Q], values: &mut [u64], f: F, declined: Code) -> Code
-    requires some { 0 < length keys.now }
-    requires few { length keys.now ≤ 8 }
-    requires as_many { length values.old ≡ length keys.now }
-    requires call { F.IsAlwaysCallable f }
-    ensures called { Calls (λ c d. (r : Result (Option Bool) KeysRefused)
-        × KeysLeave (ModifiesAll (FnOnceReturnsAtMut F.FnOnce f) values.new)
-        K.hash (map Q.name keys.now) r c d
-        × TellsChange declined r result)
-        (P.held place.old) (P.held place.new) result }
-{
-    let Some(handle) = take(place, alloc) else {
-        return Code::Closed;
-    };
-    let mut handle = handle;
-    let changed = handle.modify_all(keys, values, f);
-    put(place, alloc, handle);
-    match changed {
-        Ok(Some(true)) => Code::Done,
-        Ok(Some(false)) => declined,
-        Ok(None) => Code::Absent,
         Err(why) => Code::of_keys(why),
     }
 }

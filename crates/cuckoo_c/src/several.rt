@@ -1,6 +1,12 @@
 //! Calls on several keys that are numbers, at one moment.
-ghost use Rattle.std.specs.Prelude.{◌≡◌, ◌≢◌, ◌∷◌, [], ℕ, ◌<◌, ◌≤◌, Option, IsSome, All, length, map};
+ghost use Rattle.std.specs.Prelude.{◌≡◌, ◌≢◌, ◌∷◌, [], ℕ, ◌<◌, ◌≤◌, Bool, Option, Result, IsSome, All, length, map};
 ghost use Rattle.std.specs.Bool.{OnTrue, OnFalse};
+ghost use Rattle.ck_key.specs.Hashes.{mixed_hash};
+ghost use Rattle.cuckoo_map.specs.declared.refusal.KeysRefused.{KeysRefused};
+ghost use Rattle.cuckoo_map.specs.Callers.{KeysLeave};
+ghost use Rattle.cuckoo_map.specs.SeveralKeys.{ModifiesAll};
+ghost use Rattle.cuckoo_c.specs.Codes.{TellsChange};
+ghost use Rattle.cuckoo_c.specs.Handles.{Calls};
 ghost use Rattle.cuckoo_c.specs.Several.{CallsOnFew, FindsEntries, ChangesKeys, ChangesEach, ShowsEach, showing, changed_by, swapped, moved};
 ghost use Rattle.cuckoo_c.specs.declared.code.Code.TheVariants as codes;
 
@@ -8,6 +14,7 @@ use crate::calls;
 use crate::code::Code;
 use crate::handles::CuckooHandle;
 use crate::keys::NumberKey;
+use ck_owned::{put, take};
 use cuckoo_map::{Query, TableKey};
 use std::alloc::Global;
 
@@ -180,9 +187,44 @@ pub fn change_all<C: Change>(
         return Code::Count;
     }
     let mut values = [0; 8];
-    let values = &mut values[..changes.len()];
+    change_values(
+        alloc,
+        handle,
+        changes,
+        &mut values[..changes.len()],
+        declined,
+    )
+}
+
+// The same for so few of them, whose values go through these places.
+fn change_values<C: Change>(
+    alloc: Global,
+    place: &mut CuckooHandle,
+    changes: &[C],
+    values: &mut [u64],
+    declined: Code,
+) -> Code
+    requires some { 0 < length changes.now }
+    requires few { length changes.now ≤ 8 }
+    requires as_many { length values.old ≡ length changes.now }
+    ensures { Calls (λ c d. (r : Result (Option Bool) KeysRefused)
+        × KeysLeave (ModifiesAll (ChangesEach C.made changes.now) values.new)
+        mixed_hash (map C.Query.name changes.now) r c d × TellsChange declined r result)
+        place.old.held place.new.held result }
+{
+    let Some(handle) = take(place, alloc) else {
+        return Code::Closed;
+    };
+    let mut handle = handle;
     let change = |values: &mut [u64]| change_each(values, changes);
-    calls::modify_all(alloc, handle, changes, values, change, declined)
+    let changed = handle.modify_all(changes, values, change);
+    put(place, alloc, handle);
+    match changed {
+        Ok(Some(true)) => Code::Done,
+        Ok(Some(false)) => declined,
+        Ok(None) => Code::Absent,
+        Err(why) => Code::of_keys(why),
+    }
 }
 
 // Changes each value, where each may be changed so, and says whether it did.

@@ -272,6 +272,7 @@ impl<K: TableKey + Drop, V: Drop> Table<K, V> {
 
     // Takes the stripes of these keys, where they are different, and carries out the doublings that
     // are left to be.
+    #[inline(always)]
     pub(crate) fn lock_different<Q: Query<K>>(
         &self,
         pass: &mut Pass<K, V>,
@@ -297,6 +298,7 @@ impl<K: TableKey + Drop, V: Drop> Table<K, V> {
     }
 
     // Takes the stripes of the keys so.
+    #[inline(always)]
     fn lock_each<Q: Query<K>>(&self, pass: &mut Pass<K, V>, keys: &[Q]) -> Result<StripeSet, Busy>
         requires caller { IsCaller self.now pass.old }
         requires some { 0 < length keys.now }
