@@ -471,8 +471,9 @@ impl<T: TableRef<K, V> + Drop, K: TableKey + Drop, V: Drop> CallerOn<T, K, V> {
     /// `find_all` of as many keys as the program knows when it runs: writes their values.
     ///
     /// ```
-    /// let mut values: [Option<u64>; 8] = [None; 8];
-    /// caller.find_all_into(&keys[..count], &mut values[..count])?;
+    /// let keys = [&NumKey(1), &NumKey(2), &NumKey(3)];
+    /// let mut values: [Option<u64>; 3] = [None; 3];
+    /// caller.find_all_into(&keys, &mut values)?;
     /// ```
     pub fn find_all_into<Q: Query<K>>(
         &mut self,
@@ -497,6 +498,7 @@ impl<T: TableRef<K, V> + Drop, K: TableKey + Drop, V: Drop> CallerOn<T, K, V> {
     ///
     /// ```
     /// // Takes one from each of these accounts, or from none.
+    /// let keys = [&NumKey(1), &NumKey(2), &NumKey(3)];
     /// let mut values = [0; 3];
     /// let taken: Option<bool> = caller.modify_all(&keys, &mut values, |values: &mut [u64]| {
     ///     let enough = values.iter().all(|value: &u64| 0 < *value);

@@ -37,12 +37,12 @@ mod handle;
 mod keys;
 mod pairs;
 mod raw;
-mod several;
 mod settings;
+mod several;
 
 pub use error::{Error, Result};
 pub use handle::{Compared, Handle, TableHandle, TextHandle};
 pub use keys::{AsKey, Keys, Numbers, Texts};
 pub use pairs::Pairs;
-pub use several::{Change, Part};
 pub use settings::Settings;
+pub use several::{Change, Part};
