@@ -7,6 +7,7 @@ pub mod Hopped
 pub mod Rebound
 pub mod PutBack
 pub mod Exchanged
+pub mod Renaming
 pub mod Kept
 pub mod AllStripes
 pub mod Doublings

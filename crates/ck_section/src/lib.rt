@@ -13,7 +13,7 @@ mod entry;
 mod look;
 mod place;
 
-// Calls on one key, those that may bind it, the call on two, and the one on several.
+// Calls on one key, those that may bind it, the calls on two, and those on several.
 pub mod insertion;
 mod one_key;
 mod several_keys;
@@ -49,5 +49,5 @@ pub use place::{HeldBucket, KeyPlace};
 pub use retain::retain_all;
 pub use room::{make_room, settled_place};
 pub use several_keys::{find_bound, find_each};
-pub use two_keys::update_two;
+pub use two_keys::{Renamed, rename, update_two};
 pub use whole::{clear_all, find_in_all, key_place_in_all};

@@ -82,6 +82,22 @@ impl<K: TableKey + Drop, V: Drop> Guard<'_, K, V> {
         self.decide::<Brand, &[Q]>(&keys);
     }
 
+    /// Decides a session on the names of these keys, as `commit_session_on` does, where a key has
+    /// gone into the table meanwhile.
+    pub fn commit_session_of(&mut self, keys: &[Snapshot<K>])
+        requires locked { self.old.is_locked ≡ true }
+        requires no_spare { HaveNoSpare self.old.pass.now.stripes }
+        requires done { HasDone K.hash self.old.words.now.settings
+            (session_on (map (λ key. K.name key.value) keys.now) self.old.pass.now)
+            Closed self.old.pass.now }
+        ensures same { self.new.pass.ghost_name ≡ self.old.pass.ghost_name }
+        ensures committed { HasCommitted K.hash self.old.words.now
+            (session_on (map (λ key. K.name key.value) keys.now) self.old.pass.now)
+            self.old.pass.now self.new.pass.now }
+    {
+        self.decide::<Brand, &[Snapshot<K>]>(&keys);
+    }
+
     // Decides the call of `J` with what the stripes contain now, and gives them back: the highest
     // by the store that decides, and then the others. `said` is for the pick of `J` alone.
     #[inline(always)]

@@ -1,5 +1,5 @@
 -- What a call of the table leaves of the caller whose pass it had.
-use Rattle.std.proofs.Common.{◌≡◌, ℕ, ◌≤◌, List, ◌++◌, Option, Result, Ok, Err, IfOk, IfErr, OnOk, refl, sym, ap, ◌∙◌, subst}
+use Rattle.std.proofs.Common.{◌≡◌, ◌⊎◌, ℕ, ◌≤◌, List, [], ◌∷◌, ◌++◌, All, Option, Result, Ok, Err, IfOk, IfErr, OnOk, refl, sym, ap, ◌∙◌, subst}
 use Rattle.std.proofs.lemmas.Result.{IfOk-weaker}
 use Rattle.ck_model.specs.declared.history.Act.{Act}
 use Rattle.ck_model.specs.declared.history.Call.{Call}
@@ -7,12 +7,14 @@ use Rattle.ck_model.specs.declared.history.Call.TheVariants.{On, SessionOn}
 use Rattle.ck_model.specs.declared.history.Reply.{Reply}
 use Rattle.ck_model.specs.declared.history.Reply.TheVariants.{Closed}
 use Rattle.ck_model.specs.declared.history.Reason.{Reason}
+use Rattle.ck_model.specs.declared.history.Reason.TheVariants.{NoRoom}
 use Rattle.ck_model.specs.declared.settings.Settings.{Settings}
 use Rattle.ck_model.specs.Promise.{Name, Replied}
 use Rattle.ck_model.specs.Contents.{layout_of, IsStripeOf}
 use Rattle.ck_words.specs.Words.{WordsState}
 use Rattle.ck_words.specs.Passes.{PassState}
-use Rattle.ck_words.specs.Retries.{StaysBut, FindsAmong}
+use Rattle.ck_section.specs.declared.two_keys.Renamed.{Renamed}
+use Rattle.ck_words.specs.Retries.{StaysBut, FindsAmong, as_doubled}
 use Rattle.ck_words.specs.Answering.{IsAnswered, IsAnsweredBut, IsAnsweredOn}
 use Rattle.ck_words.specs.Closing.{IsCaller}
 use Rattle.ck_core.specs.State.{client_of}
@@ -20,11 +22,17 @@ use Rattle.cuckoo_map.specs.declared.refusal.Busy.{Busy}
 use Rattle.cuckoo_map.specs.declared.refusal.KeysRefused.{KeysRefused}
 use Rattle.cuckoo_map.specs.declared.refusal.KeysRefused.TheVariants as refused
 use Rattle.cuckoo_map.specs.declared.refusal.Refused.{Refused}
-use Rattle.cuckoo_map.specs.Refusals.{IsBusyAmong, FindsOwnUnlessFull}
+use Rattle.cuckoo_map.specs.declared.refusal.Why.{Why}
+use Rattle.cuckoo_map.specs.declared.refusal.NotRenamed.{NotRenamed}
+use Rattle.cuckoo_map.specs.declared.refusal.RenameFault.{RenameFault}
+use Rattle.cuckoo_map.specs.declared.refusal.RenameFault.TheVariants as rename
+use Rattle.cuckoo_map.specs.Refusals.{IsBusyAmong, FindsOwnUnlessFull, SaysNoRoom, IsRefused}
 use Rattle.cuckoo_map.specs.Needed.{HasGrownFor}
 use Rattle.cuckoo_map.specs.Queries.{HasQueried}
-use Rattle.cuckoo_map.specs.Insertions.{IsInserted, HasInserted, HandsBack}
-use Rattle.cuckoo_map.proofs.Counted.{grown_alike}
+use Rattle.cuckoo_map.specs.Insertions.{IsInserted, HasInserted, HandsBack, HasSoughtRoom}
+use Rattle.cuckoo_map.specs.Renames.{Renames, IsNotRenamed, HasRenamed, RenameLeaves, RoomLeaves}
+use Rattle.cuckoo_map.proofs.Calls.{answered_since, replied_seen}
+use Rattle.cuckoo_map.proofs.Counted.{grown_alike, grown_until}
 use Rattle.cuckoo_map.specs.Callers.{CallerState, caller_of, pass_of, IsSameCaller, Replies, RepliesOn, KeepsNotesBut, KeepsNotes, NotesFull, QueryLeaves, InsertionLeaves, KeysLeave}
 use Rattle.cuckoo_map.specs.SeveralKeys.{IsStripeOfAny, RefusesNames, HasQueriedAll}
 
@@ -37,10 +45,36 @@ pub by_result : {A E Z : Type 0} {P : A → Type 0} {Q : E → Type 0} (r : Resu
 by_result (Ok a) p q f g = f a p
 by_result (Err e) p q f g = g e q
 
+-- a fact that holds of any success
+ok_anyway : {A E : Type 0} (r : Result A E) (P : Type 0) → OnOk r P → IfOk r (λ _. P)
+ok_anyway (Ok a) P p = p
+ok_anyway (Err e) P p = tt
+
 module _ {V : Type 0} where
   -- the pass of a caller is its own
   pub as_pass : {w : WordsState} {p : PassState V} → IsCaller w p → pass_of (caller_of w p) ≡ p
   as_pass {w} {p} caller = λ j. record p { table = sym caller.own.0 j; view = record p.view { held = sym caller.idle.1 j; others = sym caller.alone j }; stripes = sym caller.idle.0 j }
+
+  -- the call was answered, and may have sought room for the name
+  abbrev pub AnsweredFor : (Name → ℕ) → Settings → Name → Call V → Reply V → PassState V → PassState V → Type 0
+  AnsweredFor hash set q call reply p z = (more : List (Name × Reason)) × All (λ x. x ≡ (q, NoRoom)) more × IsAnsweredBut more call reply (as_doubled p z) z × HasGrownFor hash set q p z
+
+  answered_for : (hash : Name → ℕ) (set : Settings) (q : Name) (call : Call V) (reply : Reply V) (p m z : PassState V) → HasSoughtRoom hash set q p m → IsAnswered call reply m z → AnsweredFor hash set q call reply p z
+  answered_for hash set q call reply p m z sought a =
+      let there : IsAnswered call reply (as_doubled m z) z = subst (λ (n : ℕ). IsAnswered call reply (record m { view = record m.view { doublings = n } }) z) (sym a.stays.doublings) a in
+      let since : IsAnsweredBut sought.more call reply (as_doubled p z) z = answered_since sought.more (as_doubled p m) m m z sought.stays refl call reply there in
+      (sought.more, sought.own, since, grown_until p m z sought.grown a.stays.doublings (replied_seen a.replied))
+
+  -- a refused call on several names keeps its caller's number
+  by_kept : (hash : Name → ℕ) (set : Settings) (names : List Name) (p q : PassState V) (e : KeysRefused) → RefusesNames hash set names p q e → q.view.by ≡ p.view.by
+  by_kept hash set names p q (refused.Busy t) h = h.stays.by
+  by_kept hash set names p q (refused.Twice i) h = ap (λ (x : PassState V). x.view.by) h.1
+
+  -- and so does a refused rename
+  by_not_renamed : (hash : Name → ℕ) (set : Settings) (q r : Name) (p z : PassState V) (e : RenameFault) → IsNotRenamed hash set q r e p z → z.view.by ≡ p.view.by
+  by_not_renamed hash set q r p z (rename.Keys why) h = by_kept hash set (q ∷ r ∷ []) h.0 z why h.2 ∙ h.1.stays.by
+  by_not_renamed hash set q r p z (rename.Room why) h = h.stays.by
+  by_not_renamed hash set q r p z rename.NoSlot h = h.2.by ∙ h.1.stays.by
 
   -- What a call leaves of its caller that binds no new key: it was answered, or found a stripe of these busy.
   pub record CallLeaves {A E : Type 0} (T : A → Type 0) (P : WordsState → ℕ → Type 0) (stripe : E → ℕ) (r : Result A E) (c d : CallerState V) : Type 0 where
@@ -57,11 +91,6 @@ module _ {V : Type 0} where
       table = ap (λ (x : CallerState V). x.table) is;
       by = by ∙ ap (λ (x : CallerState V). x.client.by) is;
     }
-
-    -- a refused call on several names keeps its caller's number
-    by_kept : (hash : Name → ℕ) (set : Settings) (names : List Name) (e : KeysRefused) → RefusesNames hash set names p q e → q.view.by ≡ p.view.by
-    by_kept hash set names (refused.Busy t) h = h.stays.by
-    by_kept hash set names (refused.Twice i) h = ap (λ (x : PassState V). x.view.by) h.1
 
     pub keeps_notes : {more : List (Name × Reason)} {n : ℕ} → StaysBut more (record p.view { seen = q.view.seen; mine = q.view.mine; doublings = n }) q.view → KeepsNotesBut more c (caller_of w q)
     keeps_notes {more} s = record {
@@ -86,8 +115,11 @@ module _ {V : Type 0} where
     grown_caller {hash} {name} g =
         subst (λ (x : CallerState V). HasGrownFor hash x.table.settings name (pass_of x) (pass_of (caller_of w q))) is (grown_alike p q (pass_of (caller_of w p)) (pass_of (caller_of w q)) refl refl refl refl refl g)
 
+    replies_seeking : (hash : Name → ℕ) (name : Name) (call : Call V) (reply : Reply V) → AnsweredFor hash w.settings name call reply p q → Replies call c (caller_of w q) reply × (IsSameCaller c (caller_of w q) × NotesFull hash name c (caller_of w q))
+    replies_seeking hash name call reply a = (replied call a.2, (same_caller a.2.stays.by, (a.0, a.1, keeps_notes a.2.stays, grown_caller a.3)))
+
     replies_inserting : (hash : Name → ℕ) (name : Name) (act : Act V) (reply : Reply V) → IsInserted hash w.settings name p q act reply → RepliesOn name c (caller_of w q) act reply × (IsSameCaller c (caller_of w q) × NotesFull hash name c (caller_of w q))
-    replies_inserting hash name act reply a = (replied (On name act) a.2, (same_caller a.2.stays.by, (a.0, a.1, keeps_notes a.2.stays, grown_caller a.3)))
+    replies_inserting hash name act reply a = replies_seeking hash name (On name act) reply a
 
     -- the table that the call was made on, v, is the caller's
     module _ (before : IsCaller w p) {v : WordsState} (at : v ≡ w) (after : IsCaller v q) where
@@ -123,7 +155,7 @@ module _ {V : Type 0} where
           let told : IfOk r (λ a. ((old new : List (Option V)) × P a old new × Replies (SessionOn names old new) c (caller_of w q) Closed) × (IsSameCaller c (caller_of w q) × KeepsNotes c (caller_of w q))) =
           IfOk-weaker r _ _ (λ a h. let l = replies (SessionOn names h.0 h.1) Closed h.3 in ((h.0, h.1, h.2, l.0), l.1)) did.answered in
           record {
-            same = by_result r told did.refused (λ a h. h.1.0) (λ e h. same_caller (by_kept hash v.settings names e h));
+            same = by_result r told did.refused (λ a h. h.1.0) (λ e h. same_caller (by_kept hash v.settings names p q e h));
             answered = IfOk-weaker r _ _ (λ a h. h.0) told;
             notes = IfOk-weaker r _ _ (λ a h. h.1.1) told;
             refused = over (λ x a b. IfErr r (RefusesNames hash x.settings names a b)) did.refused;
@@ -144,3 +176,30 @@ module _ {V : Type 0} where
             refused = over (λ t a b. IfErr r (HandsBack hash t.settings name key x a b)) there.refused;
             found = over (λ t a b. FindsOwnUnlessFull hash t.settings name a b) there.found;
           }
+
+      -- where it was a rename
+      pub rename_left : {K : Type 0} (hash : Name → ℕ) (from to : Name) (key : K) (r : Result Renamed (NotRenamed K)) → HasRenamed hash v.settings from to key r p q → RenameLeaves hash from to key r c (caller_of w q)
+      rename_left {K} hash from to key r there =
+          let did = subst (λ (t : WordsState). HasRenamed hash t.settings from to key r p q) at there in
+          let told : IfOk r (λ came. ((old new : List (Option V)) × Renames came old new × Replies (SessionOn (from ∷ to ∷ []) old new) c (caller_of w q) Closed) × (IsSameCaller c (caller_of w q) × NotesFull hash to c (caller_of w q))) =
+          IfOk-weaker r _ _ (λ came h.
+          let at = h.2 in
+          let call = SessionOn (from ∷ to ∷ []) at.0 at.1 in
+          let l = replies_seeking hash to call Closed (answered_for hash w.settings to call Closed p h.0 q h.1 at.3) in
+          ((at.0, at.1, at.2, l.0), l.1)) did.answered in
+          record {
+            same = by_result r told did.refused (λ a h. h.1.0) (λ e h. same_caller (by_not_renamed hash w.settings from to p q e.why h.1));
+            answered = IfOk-weaker r _ _ (λ a h. h.0) told;
+            notes = IfOk-weaker r _ _ (λ a h. h.1.1) told;
+            refused = over (λ t a b. IfErr r (λ back. (back.key ≡ key) × IsNotRenamed hash t.settings from to back.why a b)) there.refused;
+            found = over (λ t a b. FindsAmong (λ n. IsStripeOfAny hash t.settings (from ∷ to ∷ []) n ⊎ SaysNoRoom to a b) a b) there.found;
+          }
+
+      -- where it made room for a name
+      pub room_left : (hash : Name → ℕ) (name : Name) (r : Result (Unit {0}) Why) → OnOk r (HasSoughtRoom hash v.settings name p q) → IfErr r (λ why. IsRefused hash v.settings name why p q) → FindsOwnUnlessFull hash v.settings name p q → RoomLeaves hash name r c (caller_of w q)
+      room_left hash name r sought refused found = record {
+        same = by_result r (ok_anyway r _ sought) refused (λ a h. same_caller h.stays.by) (λ e h. same_caller h.stays.by);
+        sought = over (λ t a b. OnOk r (HasSoughtRoom hash t.settings name a b)) sought;
+        refused = over (λ t a b. IfErr r (λ why. IsRefused hash t.settings name why a b)) refused;
+        found = over (λ t a b. FindsOwnUnlessFull hash t.settings name a b) found;
+      }

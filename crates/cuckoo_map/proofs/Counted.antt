@@ -141,6 +141,14 @@ module _ {V : Type 0} where
     needed = λ some. let n = grown.needed some in record { log = n.log; contents = n.contents; since = starts_on p.view.seen r.view.seen n.log stays.seen n.since; seen = n.seen; after = n.after; told = (let before = stays.told in let there = n.told in omega arith); each = n.each };
   }
 
+  -- none after them
+  pub grown_until : {hash : Name → ℕ} {set : Settings} {q : Name} (p r z : PassState V) → HasGrownFor hash set q p r → z.view.doublings ≡ r.view.doublings → StartsWith z.view.seen r.view.seen → HasGrownFor hash set q p z
+  grown_until p r z grown same seen = record {
+    doublings = grown.doublings;
+    made = same ∙ grown.made;
+    needed = λ some. let n = grown.needed some in record { log = n.log; contents = n.contents; since = n.since; seen = starts_on n.log r.view.seen z.view.seen n.seen seen; after = n.after; told = n.told; each = n.each };
+  }
+
   -- it counts what passes have seen, were told and made alone
   pub grown_alike : {hash : Name → ℕ} {set : Settings} {q : Name} (p z p2 z2 : PassState V) → p2.view.seen ≡ p.view.seen → p2.view.told ≡ p.view.told → p2.view.doublings ≡ p.view.doublings → z2.view.seen ≡ z.view.seen → z2.view.doublings ≡ z.view.doublings
       → HasGrownFor hash set q p z → HasGrownFor hash set q p2 z2

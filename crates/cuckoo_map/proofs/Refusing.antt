@@ -15,9 +15,11 @@ use Rattle.ck_section.specs.Calls.{IsWithoutRoom}
 use Rattle.ck_section.proofs.Owned.{own_below}
 use Rattle.ck_core.specs.declared.view.View.{View}
 use Rattle.ck_words.specs.Words.{WordsState}
-use Rattle.ck_words.specs.Passes.{PassState}
+use Rattle.ck_words.specs.Passes.{PassState, IsPassOf, IsIdle}
 use Rattle.ck_words.specs.Retries.{Stays, StaysBut}
+use Rattle.ck_words.specs.Closing.{IsCaller}
 use Rattle.ck_words.proofs.Staying.{stays_then}
+use Rattle.cuckoo_map.specs.declared.refusal.Why.{Why}
 use Rattle.cuckoo_map.specs.declared.refusal.Why.TheVariants.{Busy}
 use Rattle.cuckoo_map.specs.Holding.{HoldsKeyBut}
 use Rattle.cuckoo_map.specs.Refusals.{FindsOwn, FindsOwnUnlessFull, IsBusyAmong, IsBusyAt, IsRefused}
@@ -50,6 +52,15 @@ module _ {V : Type 0} where
 
   pub refused_busy : (hash : Name → ℕ) (set : Settings) (q : Name) (t : ℕ) (p z : PassState V) → IsBusyAt hash set q t p z → IsRefused hash set q (Busy t) p z
   refused_busy hash set q = refused_among (IsStripeOf (layout_of hash set) q) hash set (own_below hash set.s q) q
+
+  -- the pass of a refused insertion is a caller's still
+  pub refused_caller : {hash : Name → ℕ} {w : WordsState} {q : Name} {why : Why} (p z : PassState V) → IsCaller w p → IsPassOf w z → IsIdle z → IsRefused hash w.settings q why p z → IsCaller w z
+  refused_caller p z since own idle said = record {
+    own = own;
+    idle = idle;
+    alone = said.stays.others ∙ since.alone;
+    number = (since.number.0, said.stays.by ∙ since.number.1, since.number.2);
+  }
 
   -- what was found held is of the name, also where the pass has found no other since
   pub found_own : (hash : Name → ℕ) (set : Settings) (q : Name) (p p1 z : PassState V) → FindsOwn hash set q p p1 → z.view.found ≡ p1.view.found → FindsOwnUnlessFull hash set q p z

@@ -14,10 +14,10 @@ use Rattle.ck_words.proofs.Staying.{stays_then}
 use Rattle.cuckoo_map.specs.declared.room.Room.{Room}
 use Rattle.cuckoo_map.specs.declared.refusal.Why.{Why}
 use Rattle.cuckoo_map.specs.declared.refusal.Why.TheVariants.{Busy, Memory, Full, LoadTooLow}
-use Rattle.cuckoo_map.specs.Refusals.{reason_of, FindsOwn, FindsOwnUnlessFull, ShowsWhy, IsRefused}
+use Rattle.cuckoo_map.specs.Refusals.{reason_of, FindsOwnUnlessFull, SaysNoRoom, ShowsWhy, IsRefused}
 use Rattle.ck_core.specs.declared.view.View.{View}
 use Rattle.cuckoo_map.specs.Needed.{HasGrownFor}
-use Rattle.cuckoo_map.specs.Insertions.{HasFoundNoRoom, HoldsRoom, HasRoom}
+use Rattle.cuckoo_map.specs.Insertions.{HasFoundNoRoom, HoldsRoom, HasRoom, HasSoughtRoom}
 use Rattle.cuckoo_map.proofs.Counted.{loosely, stays_counting, grown_since}
 use Rattle.cuckoo_map.specs.Displacing.{FindsAny, IsBackBut, IsBack}
 use Rattle.cuckoo_map.proofs.Displacing.{any_on, back_same, back_then, found_before}
@@ -66,7 +66,7 @@ module _ {V : Type 0} (q : Name) where
     }
 
     -- since p the name's buckets were full, p1 tried to make room until r, and was then z
-    module _ (hash : Name → ℕ) (p p1 r z : PassState V) (full : HasFoundNoRoom q p p1) (own : FindsOwn hash w.settings q p p1) (h : HasTried w p1 r) (more : List (Name × Reason)) (stays : StaysBut more (as_doubled r z).view z.view) where
+    module _ (hash : Name → ℕ) (p p1 r z : PassState V) (full : HasFoundNoRoom q p p1) (any : FindsAny p p1) (h : HasTried w p1 r) (more : List (Name × Reason)) (stays : StaysBut more (as_doubled r z).view z.view) where
       abbrev said : List (Name × Reason)
       said = (more ++ h.more) ++ (q, NoRoom) ∷ []
 
@@ -87,7 +87,7 @@ module _ {V : Type 0} (q : Name) where
       says_full = Contains-push (more ++ h.more) (q, NoRoom)
 
       any_since : FindsAny p r
-      any_since = any_on p p1 r (own.0, own.1) h.back.found
+      any_since = any_on p p1 r any h.back.found
 
       -- any stripe may have been found held
       pub found_since_full : FindsAny r z → FindsOwnUnlessFull hash w.settings q p z
@@ -97,6 +97,14 @@ module _ {V : Type 0} (q : Name) where
 
       pub room_since : {room : Room} → StaysBut more r.view z.view → AllOwn q more → HoldsRoom hash w.settings q room z → HasRoom hash w.settings q room p z
       room_since level a held = record { more = said; own = own_since a; stays = said_on p.view (stays_then (h.more ++ (q, NoRoom) ∷ []) more p.view r.view z.view stays_until level); held = held }
+
+      -- room may have been sought for it
+      pub sought_since : AllOwn q more → HasGrownFor hash w.settings q r z → HasSoughtRoom hash w.settings q p z
+      sought_since a grown = record { more = said; own = own_since a; stays = stays_since; grown = grown_since p r z stays_until grown }
+
+      -- among what was said is that its buckets were full
+      pub says_no_room : SaysNoRoom q p z
+      says_no_room = (said, stays_since.no_slot, says_full)
 
       -- what was said of room since is said of it in all
       says_since : (why : Reason) → Contains more (q, why) → Contains said (q, why)
@@ -118,9 +126,9 @@ module _ {V : Type 0} (q : Name) where
           record { more = said; stays = stays_since; own = All-append Own (more ++ h.more) ((q, NoRoom) ∷ []) before (λ i d l. inl (one i d l)); shown = shows_since why shown; grown = grown_since p r z stays_until grown }
 
     -- the same of what was left since
-    module _ (hash : Name → ℕ) (p p1 r z : PassState V) (full : HasFoundNoRoom q p p1) (own : FindsOwn hash w.settings q p p1) (h : HasTried w p1 r) where
+    module _ (hash : Name → ℕ) (p p1 r z : PassState V) (full : HasFoundNoRoom q p p1) (any : FindsAny p p1) (h : HasTried w p1 r) where
       pub room_after : {room : Room} → HasRoom hash w.settings q room r z → HasRoom hash w.settings q room p z
-      room_after has = room_since hash p p1 r z full own h has.more (loosely has.stays) has.stays has.own has.held
+      room_after has = room_since hash p p1 r z full any h has.more (loosely has.stays) has.stays has.own has.held
 
       pub refused_after : (why : Why) → IsRefused hash w.settings q why r z → IsRefused hash w.settings q why p z
-      refused_after why said = refused_since hash p p1 r z full own h said.more said.stays why said.own said.shown said.grown
+      refused_after why said = refused_since hash p p1 r z full any h said.more said.stays why said.own said.shown said.grown

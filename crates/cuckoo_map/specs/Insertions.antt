@@ -52,6 +52,13 @@ module _ {V : Type 0} where
     pub stays : StaysBut more p.view p2.view
     pub held : HoldsRoom hash set q room p2
 
+  -- Since p the pass may have sought room for the name. It has said nothing of room but that the name's buckets were full, and has made no doubling that the name didn't need.
+  pub record HasSoughtRoom (hash : Name → ℕ) (set : Settings) (q : Name) (p p2 : PassState V) : Type 0 where
+    pub more : List (Name × history.Reason)
+    pub own : All (λ x. x ≡ (q, reason.NoRoom)) more
+    pub stays : StaysBut more (as_doubled p p2).view p2.view
+    pub grown : HasGrownFor hash set q p p2
+
   -- The insertion was refused for this reason, and the key came back with the value, or with what was to make one.
   abbrev pub HandsBack : {K X : Type 0} → (Name → ℕ) → Settings → Name → K → X → PassState V → PassState V → Refused K X → Type 0
   HandsBack hash set q key x p p2 e = (e.key ≡ key) × (e.value ≡ x) × IsRefused hash set q e.why p p2

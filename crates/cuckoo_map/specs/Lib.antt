@@ -11,6 +11,7 @@ pub mod Callers
 pub mod Locking
 pub mod Needed
 pub mod LockedKeys
+pub mod Renames
 pub use Rattle.ck_model.specs.Promise
 pub use Rattle.ck_model.specs.Ranges
 pub use Rattle.ck_section.specs.Acts

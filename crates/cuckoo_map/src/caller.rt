@@ -6,12 +6,13 @@ ghost use Rattle.ck_words.specs.Closing.{IsCaller};
 
 use crate::locked::LockedOn;
 use crate::refusal::{
-    Busy, DrainFault, GrowFault, KeysRefused, NoCallers, NotDrained, NotLocked, Refused,
+    Busy, DrainFault, GrowFault, KeysRefused, NoCallers, NotDrained, NotLocked, NotRenamed,
+    Refused, Why,
 };
 use crate::table::Table;
 use crate::table_ref::TableRef;
 use ck_key::{Query, TableKey};
-use ck_section::Uprased;
+use ck_section::{Renamed, Uprased};
 use ck_words::{Message, Pass};
 use std::alloc::Global;
 use std::marker::Model;
@@ -109,6 +110,7 @@ impl<T: TableRef<K, V> + Drop, K: TableKey + Drop, V: Drop> CallerOn<T, K, V> {
     ghost use Rattle.cuckoo_map.specs.Callers.{IsBusyOnSome, IsBusyOnAny, IsBusyOnTwo, FindsHeldOwn};
     ghost use Rattle.cuckoo_map.specs.Callers.{FindsHeldOfTwo, FindsHeldAmong, FindsHeldOfAny};
     ghost use Rattle.cuckoo_map.specs.SeveralKeys.{FindsAll, ChangesAll, ModifiesAll, SetsIf};
+    ghost use Rattle.cuckoo_map.specs.Renames.{RenameLeaves, RoomLeaves};
     ghost use Rattle.cuckoo_map.specs.Locking.{HasLocked};
 
     /// The pass. With the passes of all other callers it ends the table.
@@ -468,7 +470,34 @@ impl<T: TableRef<K, V> + Drop, K: TableKey + Drop, V: Drop> CallerOn<T, K, V> {
         self.table.table().update_all(&mut self.pass, &keys, f)
     }
 
-    /// `find_all` of as many keys as the program knows when it runs: writes their values.
+    /// Binds `to`, a different key that is unbound, to the value of `from`, and unbinds `from`, in
+    /// one step of the map: no other call finds both bound, or none. Where `from` is unbound or `to`
+    /// is bound, it says so, and nothing changes. Where `to` has no free slot, room is made as for
+    /// an insertion. Refused, it gives `to` back, and no binding has changed.
+    ///
+    /// ```
+    /// let renamed: Renamed = caller.rename(&NumKey(1), NumKey(2))?;
+    /// ```
+    pub fn rename(&mut self, from: &K, to: K) -> Result<Renamed, NotRenamed<K>>
+        ensures { RenameLeaves K.hash (K.name from.now) (K.name to) to result self.old self.new }
+    {
+        self.table.table().rename(&mut self.pass, from, to)
+    }
+
+    /// Makes room for a key that is about to be bound, among locked keys say, as an insertion does.
+    /// A bound key has it. No binding changes, and others may take it before.
+    ///
+    /// ```
+    /// caller.make_room(&NumKey(1))?;
+    /// ```
+    pub fn make_room(&mut self, key: &K) -> Result<(), Why>
+        ensures { RoomLeaves K.hash (K.name key.now) result self.old self.new }
+    {
+        self.table.table().make_room_ahead(&mut self.pass, key)
+    }
+
+    /// `find_all` of as many keys as the program knows when it runs: writes their values. Refused, it
+    /// leaves `values` as it was.
     ///
     /// ```
     /// let keys = [&NumKey(1), &NumKey(2), &NumKey(3)];
@@ -485,8 +514,9 @@ impl<T: TableRef<K, V> + Drop, K: TableKey + Drop, V: Drop> CallerOn<T, K, V> {
         requires some { 0 < length keys.now }
         requires few { length keys.now ≤ 8 }
         requires as_many { length values.old ≡ length keys.now }
-        ensures { KeysLeave (λ _. FindsAll values.new) K.hash
+        ensures answered { KeysLeave (λ _. FindsAll values.new) K.hash
             (map Q.name keys.now) result self.old self.new }
+        ensures kept { OnErr result (values.new ≡ values.old) }
     {
         self.table.table().find_all(&mut self.pass, keys, values)
     }

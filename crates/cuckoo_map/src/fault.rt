@@ -4,7 +4,7 @@ ghost use Rattle.std.specs.Prelude.{◌≡◌};
 use crate::pool::{AllLent, NoList, NoPool};
 use crate::refusal::{
     Busy, DrainFault, GrowFault, KeysNotLocked, KeysRefused, NoCallers, NoSlot, NotDrained,
-    NotLocked, OpenFault, Refused, Why,
+    NotLocked, NotRenamed, OpenFault, Refused, RenameFault, Why,
 };
 use ck_key::{KeyFault, TableKey};
 use ck_model::settings::OutOfRange;
@@ -48,8 +48,8 @@ pub enum Fault {
     /// The key at this position of those of a call stands again behind it.
     #[error("the key at position {0} is named twice")]
     Twice(usize),
-    /// No slot was free for a key among locked keys.
-    #[error("no free slot for the key among its stripes: unlock the keys, and insert it")]
+    /// No slot was free for a key among locked keys, or for one to which another was renamed.
+    #[error("no free slot for the key among its stripes: insert it unlocked, or try again")]
     NoSlot,
     /// All items of the pool are lent.
     #[error("all items of the pool are lent: try again, or make it of more")]
@@ -163,6 +163,32 @@ impl<K: Drop, V: Drop> From<Refused<K, V>> for Fault {
     ghost from_gives = { λ back fault. fault ≡ fault_of_why back.why };
 
     fn from(back: Refused<K, V>) -> Fault {
+        Fault::from(back.why)
+    }
+}
+
+impl From<RenameFault> for Fault {
+    ghost use Rattle.std.specs.Prelude.{◌≡◌};
+    ghost use Rattle.cuckoo_map.specs.Faults.{fault_of_rename};
+
+    ghost from_gives = { λ refused fault. fault ≡ fault_of_rename refused };
+
+    fn from(refused: RenameFault) -> Fault {
+        match refused {
+            RenameFault::Keys(why) => Fault::from(why),
+            RenameFault::Room(why) => Fault::from(why),
+            RenameFault::NoSlot => Fault::NoSlot,
+        }
+    }
+}
+
+impl<K: Drop> From<NotRenamed<K>> for Fault {
+    ghost use Rattle.std.specs.Prelude.{◌≡◌};
+    ghost use Rattle.cuckoo_map.specs.Faults.{fault_of_rename};
+
+    ghost from_gives = { λ back fault. fault ≡ fault_of_rename back.why };
+
+    fn from(back: NotRenamed<K>) -> Fault {
         Fault::from(back.why)
     }
 }

@@ -51,6 +51,7 @@ mod growth;
 mod insertions;
 mod key_pairs;
 mod look_ups;
+mod renames;
 mod several_keys;
 mod size;
 
@@ -64,7 +65,7 @@ mod locked_keys;
 pub use caller::{Caller, CallerOn};
 pub use ck_key::{KeyFault, MixedKey, NumKey, NumTextKey, PairKey, Query, TableKey, TextKey};
 pub use ck_model::settings::{OutOfRange, Settings};
-pub use ck_section::{Iter, Uprased};
+pub use ck_section::{Iter, Renamed, Uprased};
 pub use ck_words::{Message, Pass};
 pub use fault::Fault;
 pub use handle::{Handle, LockedHandle};
@@ -73,7 +74,7 @@ pub use locked_keys::{LockedKeys, LockedKeysOn};
 pub use pool::{AllLent, NoList, NoPool, Pool};
 pub use refusal::{
     Busy, DrainFault, GrowFault, KeysNotLocked, KeysRefused, NoCallers, NoSlot, NotDrained,
-    NotLocked, OpenFault, Refused, Why,
+    NotLocked, NotRenamed, OpenFault, Refused, RenameFault, Why,
 };
 pub use table::Table;
 pub use table_ref::TableRef;

@@ -246,3 +246,36 @@ impl<K, V> Debug for NoSlot<K, V> {
         f.debug_struct("NoSlot").finish_non_exhaustive()
     }
 }
+
+/// Why a key was not renamed. No binding was changed.
+#[derive(Debug, Clone, Copy, PartialEq, Eq, Error)]
+pub enum RenameFault {
+    /// The two keys are one, or a stripe of theirs was found held too often.
+    #[error("{0}")]
+    Keys(KeysRefused),
+    /// There is no room for the new key, and none could be made: as an insertion of it is refused.
+    /// The table may have grown all the same.
+    #[error("{0}")]
+    Room(Why),
+    /// Room was made for the new key, and others took it before.
+    #[error("the room that was made for the new key was taken by others: try again")]
+    NoSlot,
+}
+
+/// A key to which another was to be renamed, given back.
+#[derive(Drop, Error)]
+#[error("{why}")]
+pub struct NotRenamed<K> {
+    /// The key that was to be bound.
+    pub key: K,
+    /// Why it was not.
+    pub why: RenameFault,
+}
+
+impl<K> Debug for NotRenamed<K> {
+    fn fmt<W: fmt::Write>(&self, f: &mut Formatter<W>) -> fmt::Result {
+        f.debug_struct("NotRenamed")
+            .field("why", &self.why)
+            .finish_non_exhaustive()
+    }
+}

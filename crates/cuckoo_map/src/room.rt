@@ -15,6 +15,7 @@ use ck_stripe::{Held, one_stripe};
 use ck_words::{Pass, guard};
 use std::snapshot::Snapshot;
 
+mod ahead;
 mod all;
 mod displace;
 mod preparation;

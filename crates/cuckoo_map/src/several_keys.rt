@@ -34,6 +34,7 @@ impl<K: TableKey + Drop, V: Drop> Table<K, V> {
         ensures caller { IsCaller self.now pass.new }
         ensures looked { HasQueriedAll (λ _. FindsAll values.new) K.hash self.now.settings
             (map Q.name keys.now) result pass.old pass.new }
+        ensures kept { OnErr result (values.new ≡ values.old) }
     {
         let stripes = self.lock_different(pass, keys)?;
         let mut guard = guard!(&self.words, pass, stripes);
@@ -85,6 +86,7 @@ impl<K: TableKey + Drop, V: Drop> Table<K, V> {
         ensures stays { IsSameButStripes pass.old pass.new }
         ensures updated { ChangesAll (λ old. FnOnceReturnsAtMut F.FnOnce f old tt) result.0
             (bound_to (map Q.name keys.now) pass.old) (bound_to (map Q.name keys.now) pass.new) }
+        ensures back { ¬ (All IsSome result.0) → result.1 ≡ Some f }
     {
         let mut values = [None; N];
         let mut guard = guard!(&self.words, pass, stripes);
@@ -193,6 +195,7 @@ impl<K: TableKey + Drop, V: Drop> Table<K, V> {
         ensures stays { IsSameButStripes pass.old pass.new }
         ensures modified { ModifiesAll (FnOnceReturnsAtMut F.FnOnce f) values.new result.0
             (bound_to (map Q.name keys.now) pass.old) (bound_to (map Q.name keys.now) pass.new) }
+        ensures back { IfNone result.0 (result.1 ≡ Some f) }
     {
         let mut guard = guard!(&self.words, pass, stripes);
         if !find_bound(&mut guard, stripes.s, keys, values) {

@@ -21,7 +21,7 @@ tries-init g c = record {
 -- the search or a hop found a stripe held
 pub returns-in_err-displace_or_prepare-clause-found : goal.returns-in_err-displace_or_prepare-clause-found
 returns-in_err-displace_or_prepare-clause-found g c = λ p full own.
-    found_since_full (g.K.TableKey.name c.args.key.now) c.args.self.now g.K.TableKey.hash p c.args.pass.now c.tries.pass c.displace_or_prepare.new.pass full own c.tries.invariant.tried [] (loosely c.displace_or_prepare.ensures.back.stays) c.displace_or_prepare.ensures.back.found
+    found_since_full (g.K.TableKey.name c.args.key.now) c.args.self.now g.K.TableKey.hash p c.args.pass.now c.tries.pass c.displace_or_prepare.new.pass full (own.0, own.1) c.tries.invariant.tried [] (loosely c.displace_or_prepare.ensures.back.stays) c.displace_or_prepare.ensures.back.found
 
 pub returns-in_err-displace_or_prepare-clause-refused : goal.returns-in_err-displace_or_prepare-clause-refused
 returns-in_err-displace_or_prepare-clause-refused g c =
@@ -30,14 +30,14 @@ returns-in_err-displace_or_prepare-clause-refused g c =
     let t = c.in_err-displace_or_prepare.field-0.0.0 in
     let e = err_from_is_err_and c.from_residual.result c.from_residual.ensures.1 in
     let busy = refused_among (λ (u : ℕ). u < 2 ^ set.s) g.K.TableKey.hash set (λ u l. l) q t c.tries.pass c.displace_or_prepare.new.pass c.in_err-displace_or_prepare.ensures.busy in
-    rw (e.1, e.2) (λ p full own. refused_after q c.args.self.now g.K.TableKey.hash p c.args.pass.now c.tries.pass c.displace_or_prepare.new.pass full own c.tries.invariant.tried (Busy t) busy)
+    rw (e.1, e.2) (λ p full own. refused_after q c.args.self.now g.K.TableKey.hash p c.args.pass.now c.tries.pass c.displace_or_prepare.new.pass full (own.0, own.1) c.tries.invariant.tried (Busy t) busy)
 
 -- a stripe of the key was found held
 pub returns-in_err-spot-clause-found : goal.returns-in_err-spot-clause-found
 returns-in_err-spot-clause-found g c = λ p full own.
     let q = g.K.TableKey.name c.args.key.now in
     let tried = tried_on q c.args.self.now c.args.pass.now c.tries.pass c.displace_or_prepare.new.pass c.tries.invariant.tried c.displace_or_prepare.ensures.back in
-    found_since_full q c.args.self.now g.K.TableKey.hash p c.args.pass.now c.displace_or_prepare.new.pass c.lock_key.new.pass full own tried [] (loosely c.in_err-spot.ensures.busy.stays) (any_among _ c.displace_or_prepare.new.pass c.lock_key.new.pass c.lock_key.ensures.found)
+    found_since_full q c.args.self.now g.K.TableKey.hash p c.args.pass.now c.displace_or_prepare.new.pass c.lock_key.new.pass full (own.0, own.1) tried [] (loosely c.in_err-spot.ensures.busy.stays) (any_among _ c.displace_or_prepare.new.pass c.lock_key.new.pass c.lock_key.ensures.found)
 
 pub returns-in_err-spot-clause-refused : goal.returns-in_err-spot-clause-refused
 returns-in_err-spot-clause-refused g c =
@@ -46,7 +46,7 @@ returns-in_err-spot-clause-refused g c =
     let e = err_from_is_err_and c.from_residual-in_err-spot.result c.from_residual-in_err-spot.ensures.1 in
     let tried = tried_on q c.args.self.now c.args.pass.now c.tries.pass c.displace_or_prepare.new.pass c.tries.invariant.tried c.displace_or_prepare.ensures.back in
     let busy = refused_busy g.K.TableKey.hash c.args.self.now.settings q t c.displace_or_prepare.new.pass c.lock_key.new.pass c.in_err-spot.ensures.busy in
-    rw (e.1, e.2) (λ p full own. refused_after q c.args.self.now g.K.TableKey.hash p c.args.pass.now c.displace_or_prepare.new.pass c.lock_key.new.pass full own tried (Busy t) busy)
+    rw (e.1, e.2) (λ p full own. refused_after q c.args.self.now g.K.TableKey.hash p c.args.pass.now c.displace_or_prepare.new.pass c.lock_key.new.pass full (own.0, own.1) tried (Busy t) busy)
 
 -- the key has an entry
 pub returns-in-Ok-clause-room : goal.returns-in-Ok-clause-room
@@ -54,7 +54,7 @@ returns-in-Ok-clause-room g c = λ p full own.
     let q = g.K.TableKey.name c.args.key.now in
     let r = c.of-since.result.value in
     let tried = subst (HasTried q c.args.self.now c.args.pass.now) (sym c.of-since.ensures) (tried_on q c.args.self.now c.args.pass.now c.tries.pass c.displace_or_prepare.new.pass c.tries.invariant.tried c.displace_or_prepare.ensures.back) in
-    room_after q c.args.self.now g.K.TableKey.hash p c.args.pass.now r c.find_room.new.pass full own tried c.in-Ok.ensures.room
+    room_after q c.args.self.now g.K.TableKey.hash p c.args.pass.now r c.find_room.new.pass full (own.0, own.1) tried c.in-Ok.ensures.room
 
 pub returns-in-Ok-clause-found : goal.returns-in-Ok-clause-found
 returns-in-Ok-clause-found g c = λ p full own.
@@ -62,7 +62,7 @@ returns-in-Ok-clause-found g c = λ p full own.
     let r = c.of-since.result.value in
     let tried = subst (HasTried q c.args.self.now c.args.pass.now) (sym c.of-since.ensures) (tried_on q c.args.self.now c.args.pass.now c.tries.pass c.displace_or_prepare.new.pass c.tries.invariant.tried c.displace_or_prepare.ensures.back) in
     let room = c.in-Ok.ensures.room in
-    found_since_full q c.args.self.now g.K.TableKey.hash p c.args.pass.now r c.find_room.new.pass full own tried room.more (loosely room.stays) (any_among _ r c.find_room.new.pass c.find_room.ensures.found)
+    found_since_full q c.args.self.now g.K.TableKey.hash p c.args.pass.now r c.find_room.new.pass full (own.0, own.1) tried room.more (loosely room.stays) (any_among _ r c.find_room.new.pass c.find_room.ensures.found)
 
 -- its buckets were full again
 pub tries-preserved : goal.tries-preserved
@@ -94,7 +94,7 @@ over g c =
 pub returns-clause-room : goal.returns-clause-room
 returns-clause-room g c =
     IfOk-weaker c.make_room_in_all.result _ _
-    (λ room has p full own. room_after (g.K.TableKey.name c.args.key.now) c.args.self.now g.K.TableKey.hash p c.args.pass.now c.tries-test.pass c.make_room_in_all.new.pass full own (over g c) has)
+    (λ room has p full own. room_after (g.K.TableKey.name c.args.key.now) c.args.self.now g.K.TableKey.hash p c.args.pass.now c.tries-test.pass c.make_room_in_all.new.pass full (own.0, own.1) (over g c) has)
     c.make_room_in_all.ensures.room
 
 pub returns-clause-found : goal.returns-clause-found
@@ -104,11 +104,11 @@ returns-clause-found g c = λ p full own.
     let z = c.make_room_in_all.new.pass in
     let any = any_among _ r z c.make_room_in_all.ensures.found in
     by_result c.make_room_in_all.result _ _ _ c.make_room_in_all.ensures.room c.make_room_in_all.ensures.refused
-    (λ room has. found_since_full q c.args.self.now g.K.TableKey.hash p c.args.pass.now r z full own (over g c) has.more (loosely has.stays) any)
-    (λ why said. found_since_full q c.args.self.now g.K.TableKey.hash p c.args.pass.now r z full own (over g c) said.more said.stays any)
+    (λ room has. found_since_full q c.args.self.now g.K.TableKey.hash p c.args.pass.now r z full (own.0, own.1) (over g c) has.more (loosely has.stays) any)
+    (λ why said. found_since_full q c.args.self.now g.K.TableKey.hash p c.args.pass.now r z full (own.0, own.1) (over g c) said.more said.stays any)
 
 pub returns-clause-refused : goal.returns-clause-refused
 returns-clause-refused g c =
     IfErr-weaker c.make_room_in_all.result _ _
-    (λ why said p full own. refused_after (g.K.TableKey.name c.args.key.now) c.args.self.now g.K.TableKey.hash p c.args.pass.now c.tries-test.pass c.make_room_in_all.new.pass full own (over g c) why said)
+    (λ why said p full own. refused_after (g.K.TableKey.name c.args.key.now) c.args.self.now g.K.TableKey.hash p c.args.pass.now c.tries-test.pass c.make_room_in_all.new.pass full (own.0, own.1) (over g c) why said)
     c.make_room_in_all.ensures.refused

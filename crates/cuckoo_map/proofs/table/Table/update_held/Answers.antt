@@ -4,6 +4,7 @@ use Rattle.ck_words.specs.Passes.{PassState}
 use Rattle.cuckoo_map.specs.SeveralKeys.{bound_to}
 use Rattle.cuckoo_map.specs.LockedKeys.{HoldsKeys}
 use Rattle.cuckoo_map.proofs.HeldKeys.{kept_pass, lawful_at}
+use Rattle.cuckoo_map.proofs.UpdatedKeys.{all_some}
 use Rattle.cuckoo_map.proofs.table.Table.update_held.Goals as goal
 
 pub find_each-requires-clause-owned : goal.find_each-requires-clause-owned
@@ -42,3 +43,6 @@ pub returns-clause-updated : goal.returns-clause-updated
 returns-clause-updated g c =
     let values = c.find_each.ensures.values c.args.self.now.settings.max (lawful_at c.requires.held) in
     (sym values, inl (c.in-Some.changed, c.change_each.new.values, sym values ∙ c.in-Some.ensures.all, c.change_each.ensures.called, c.change_each.ensures.bound))
+
+pub returns-clause-back : goal.returns-clause-back
+returns-clause-back g c lacks = absurd (lacks (subst (All IsSome) (sym c.in-Some.ensures.all) (all_some c.in-Some.changed)))
