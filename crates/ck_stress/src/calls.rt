@@ -198,13 +198,14 @@ impl<'t, K: Key> Worker<'t, K> {
 
     /// Makes a call of any kind but a session.
     pub fn make_call(&mut self) {
-        let kind = self.notes.model.below(18);
+        let kind = self.notes.model.below(19);
         match kind {
             12 | 13 => self.transfer(),
             14 => self.raise(),
             15 => self.raise_within(),
             16 => self.look_at_purses(),
             17 => self.collect(),
+            18 => self.rename(),
             _ => self.call_own(kind),
         }
     }

@@ -2,7 +2,7 @@
 use crate::key::Key;
 use crate::model::Model;
 use crate::tally::Tally;
-use cuckoo_map::{Refused, Why};
+use cuckoo_map::{NotRenamed, Refused, RenameFault, Why};
 use std::alloc::{AllocError, Global};
 use std::io;
 
@@ -99,8 +99,23 @@ impl Notes {
             Some(refused.key.number()),
             Some(key),
         );
+        self.count(refused.why);
+    }
+
+    /// Counts a refused rename to this key, which comes back.
+    pub fn not_renamed<K: Key>(&mut self, back: NotRenamed<K>, key: u64) {
+        let back_key = Some(back.key.number());
+        self.check("new key that comes back", key, back_key, Some(key));
+        match back.why {
+            RenameFault::Room(why) => self.count(why),
+            RenameFault::Keys(_) | RenameFault::NoSlot => self.busy(),
+        }
+    }
+
+    // Counts an entry that was refused.
+    fn count(&mut self, why: Why) {
         let tally = &mut self.tally;
-        let count = match refused.why {
+        let count = match why {
             Why::Busy(_) => &mut tally.busy,
             Why::Memory => &mut tally.memory,
             Why::Full => &mut tally.full,

@@ -3,6 +3,7 @@ use crate::calls::{Caller, Worker};
 use crate::key::Key;
 use crate::model::{FUND, OWN, PURSES, own, purse};
 use crate::notes::Notes;
+use cuckoo_map::Renamed;
 
 /// Moves the amount from each of two purses to the third, where they have it.
 fn collect(purses: &mut [u64], amount: u64) {
@@ -115,6 +116,55 @@ fn exchange_keys<'t, K: Key>(
     locked.unlock()
 }
 
+// Two keys of the thread's own.
+fn two_own(notes: &mut Notes) -> Two {
+    let i = notes.model.below(OWN);
+    let other = notes.model.below(OWN - 1);
+    let j = i.wrapping_add(1).wrapping_add(other) % OWN;
+    Two { i, j }
+}
+
+// What a rename comes to where the keys had these values.
+fn renamed(left: Option<u64>, right: Option<u64>) -> Renamed {
+    match (left, right) {
+        (None, _) => Renamed::Unbound,
+        (Some(_), None) => Renamed::Done,
+        (Some(_), Some(_)) => Renamed::Occupied,
+    }
+}
+
+impl<'t, K: Key> Worker<'t, K> {
+    fn rename_own(&mut self, two: Two, from: &K, to: K) {
+        let Two { i, j } = two;
+        let (left, right) = (self.notes.model.get(i), self.notes.model.get(j));
+        let number = to.number();
+        match self.caller.rename(from, to) {
+            Ok(came) => {
+                let is_right = came == renamed(left, right);
+                self.notes.check_bool("rename", number, is_right, true);
+                if came == Renamed::Done {
+                    self.notes.model.set(i, None);
+                    self.notes.model.set(j, left);
+                }
+            }
+            Err(back) => self.notes.not_renamed(back, number),
+        }
+    }
+
+    /// Renames a key of the thread's own to another one.
+    pub fn rename(&mut self) {
+        let two = two_own(&mut self.notes);
+        let (alloc, thread) = (self.alloc, self.notes.model.thread);
+        let (Some(from), Some(to)) = (
+            K::of(alloc, own(thread, two.i)),
+            K::of(alloc, own(thread, two.j)),
+        ) else {
+            return;
+        };
+        self.rename_own(two, &from, to);
+    }
+}
+
 /// Exchanges the values of two keys of the thread's own, in a session on them.
 pub fn exchange<'t, K: Key>(worker: Worker<'t, K>) -> Worker<'t, K> {
     let Worker {
@@ -123,12 +173,11 @@ pub fn exchange<'t, K: Key>(worker: Worker<'t, K>) -> Worker<'t, K> {
         mut notes,
         alloc,
     } = worker;
-    let i = notes.model.below(OWN);
-    let other = notes.model.below(OWN - 1);
-    let j = i.wrapping_add(1).wrapping_add(other) % OWN;
+    let two = two_own(&mut notes);
     let thread = notes.model.thread;
-    let caller = match (K::of(alloc, own(thread, i)), K::of(alloc, own(thread, j))) {
-        (Some(a), Some(b)) => exchange_keys(caller, &mut notes, Two { i, j }, &a, &b),
+    let (i, j) = (own(thread, two.i), own(thread, two.j));
+    let caller = match (K::of(alloc, i), K::of(alloc, j)) {
+        (Some(a), Some(b)) => exchange_keys(caller, &mut notes, two, &a, &b),
         _ => caller,
     };
     Worker {

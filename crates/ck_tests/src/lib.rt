@@ -26,6 +26,8 @@ mod overtaken;
 #[cfg(test)]
 mod pools;
 #[cfg(test)]
+mod renames;
+#[cfg(test)]
 mod texts;
 #[cfg(test)]
 mod threads;

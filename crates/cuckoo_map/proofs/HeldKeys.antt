@@ -237,3 +237,19 @@ module _ {V : Type 0} where
       refused = tt;
       found = (found.0, c.found ∙ (ap (λ (x : PassState V). x.view.found) same ∙ found.1), found.2);
     }
+
+    -- The session on the names was committed, where v is the table: the pass that held the keys was p3 before, and z behind it.
+    module _ {v : WordsState} (is : v ≡ w) {p3 : PassState V} (l : HoldsKeys hash w stripes names p3) where
+      pub session_done : HasDone hash v.settings (session_on names p3) Closed p3
+      session_done = subst (λ (x : WordsState). HasDone hash x.settings (session_on names p3) Closed p3) (sym is) (keys_done p3 l)
+
+      module _ {z : PassState V} (c : HasCommitted hash v (session_on names p3) p3 z) where
+        committed : HasCommitted hash w (session_on names p3) p3 z
+        committed = subst (λ (x : WordsState). HasCommitted hash x (session_on names p3) p3 z) is c
+
+        pub session_ends : IsCaller w z
+        session_ends = ends_keys p3 z l committed
+
+        pub session_answered : {A : Type 0} {P : A → List (Option V) → List (Option V) → Type 0} (p p2 : PassState V) → HoldsNames hash w.settings names stripes p p2 → IsSameButStripes p2 p3 → FindsAmong (IsStripeOfAny hash w.settings names) p p2
+            → (a : A) → P a (bound_to names p2) (bound_to names p3) → HasQueriedAll P hash w.settings names (Ok a) p z
+        session_answered p p2 h same found a says = has_queried p p2 p3 z l h same found committed a says

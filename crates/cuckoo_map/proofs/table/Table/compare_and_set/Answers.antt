@@ -1,8 +1,5 @@
-use Rattle.std.proofs.Common.{rules, ◌≡◌, map, sym, subst}
-use Rattle.ck_model.specs.declared.history.Reply.TheVariants.{Closed}
-use Rattle.ck_words.specs.Words.{WordsState}
-use Rattle.ck_words.specs.Answering.{HasDone, HasCommitted, session_on}
-use Rattle.cuckoo_map.proofs.HeldKeys.{holds_keys, keys_done, ends_keys, has_queried}
+use Rattle.std.proofs.Common.{rules, ◌≡◌}
+use Rattle.cuckoo_map.proofs.HeldKeys.{holds_keys, session_done, session_ends, session_answered}
 use Rattle.cuckoo_map.proofs.table.Table.compare_and_set.Goals as goal
 
 pub replace_held-set-requires : goal.replace_held-set-requires
@@ -11,27 +8,15 @@ replace_held-set-requires g c =
     (search rules, (search rules, held))
 
 pub commit_session_on-requires-clause-done : goal.commit_session_on-requires-clause-done
-commit_session_on-requires-clause-done g c =
-    let names = map g.Q.Query.name c.args.keys.now in
-    let p = c.replace_held-set.new.pass in
-    subst (λ (w : WordsState). HasDone g.K.TableKey.hash w.settings (session_on names p) Closed p) (sym c.self.view_is) (keys_done p c.replace_held-set.ensures.held)
+commit_session_on-requires-clause-done g c = session_done c.self.view_is c.replace_held-set.ensures.held
 
 pub returns-clause-caller : goal.returns-clause-caller
 returns-clause-caller g c =
     let there : c.commit_session_on.new.self.pass.now ≡ c.pass-1.given.0 = search rules in
-    let names = map g.Q.Query.name c.args.keys.now in
-    let p = c.replace_held-set.new.pass in
-    let z = c.commit_session_on.new.self.pass.now in
-    let committed = subst (λ (w : WordsState). HasCommitted g.K.TableKey.hash w (session_on names p) p z) c.self.view_is c.commit_session_on.ensures.committed in
-    rw (← there) (ends_keys p z c.replace_held-set.ensures.held committed)
+    rw (← there) (session_ends c.self.view_is c.replace_held-set.ensures.held c.commit_session_on.ensures.committed)
 
 pub returns-clause-set : goal.returns-clause-set
 returns-clause-set g c =
     let there : c.commit_session_on.new.self.pass.now ≡ c.pass-1.given.0 = search rules in
-    let names = map g.Q.Query.name c.args.keys.now in
-    let p2 = c.lock_different.new.pass in
-    let p3 = c.replace_held-set.new.pass in
-    let z = c.commit_session_on.new.self.pass.now in
     let e = c.replace_held-set.ensures in
-    let committed = subst (λ (w : WordsState). HasCommitted g.K.TableKey.hash w (session_on names p3) p3 z) c.self.view_is c.commit_session_on.ensures.committed in
-    rw (← there) (has_queried c.args.pass.now p2 p3 z e.held c.in_ok-stripes.ensures.held e.stays c.lock_different.ensures.found committed c.replace_held-set.result e.set)
+    rw (← there) (session_answered c.self.view_is e.held c.commit_session_on.ensures.committed c.args.pass.now c.lock_different.new.pass c.in_ok-stripes.ensures.held e.stays c.lock_different.ensures.found c.replace_held-set.result e.set)

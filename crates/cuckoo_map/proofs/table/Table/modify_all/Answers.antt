@@ -1,35 +1,20 @@
-use Rattle.std.proofs.Common.{rules, ◌≡◌, map, sym, subst}
-use Rattle.ck_model.specs.declared.history.Reply.TheVariants.{Closed}
-use Rattle.ck_words.specs.Words.{WordsState}
-use Rattle.ck_words.specs.Answering.{HasDone, HasCommitted, session_on}
-use Rattle.cuckoo_map.proofs.HeldKeys.{holds_keys, keys_done, ends_keys, has_queried}
+use Rattle.std.proofs.Common.{rules, ◌≡◌}
+use Rattle.cuckoo_map.proofs.HeldKeys.{holds_keys, session_done, session_ends, session_answered}
 use Rattle.cuckoo_map.proofs.table.Table.modify_all.Goals as goal
 
 pub modify_held-answer-requires-clause-held : goal.modify_held-answer-requires-clause-held
 modify_held-answer-requires-clause-held g c = holds_keys c.args.pass.now c.lock_different.new.pass c.requires.caller c.lock_different.ensures.own c.in_ok-stripes.ensures.different c.in_ok-stripes.ensures.held
 
 pub commit_session_on-requires-clause-done : goal.commit_session_on-requires-clause-done
-commit_session_on-requires-clause-done g c =
-    let names = map g.Q.Query.name c.args.keys.now in
-    let p = c.modify_held-answer.new.pass in
-    subst (λ (w : WordsState). HasDone g.K.TableKey.hash w.settings (session_on names p) Closed p) (sym c.self.view_is) (keys_done p c.modify_held-answer.ensures.held)
+commit_session_on-requires-clause-done g c = session_done c.self.view_is c.modify_held-answer.ensures.held
 
 pub returns-clause-caller : goal.returns-clause-caller
 returns-clause-caller g c =
     let there : c.commit_session_on.new.self.pass.now ≡ c.pass-1.given.0 = search rules in
-    let names = map g.Q.Query.name c.args.keys.now in
-    let p = c.modify_held-answer.new.pass in
-    let z = c.commit_session_on.new.self.pass.now in
-    let committed = subst (λ (w : WordsState). HasCommitted g.K.TableKey.hash w (session_on names p) p z) c.self.view_is c.commit_session_on.ensures.committed in
-    rw (← there) (ends_keys p z c.modify_held-answer.ensures.held committed)
+    rw (← there) (session_ends c.self.view_is c.modify_held-answer.ensures.held c.commit_session_on.ensures.committed)
 
 pub returns-clause-modified : goal.returns-clause-modified
 returns-clause-modified g c =
     let there : c.commit_session_on.new.self.pass.now ≡ c.pass-1.given.0 = search rules in
-    let names = map g.Q.Query.name c.args.keys.now in
-    let p2 = c.lock_different.new.pass in
-    let p3 = c.modify_held-answer.new.pass in
-    let z = c.commit_session_on.new.self.pass.now in
     let e = c.modify_held-answer.ensures in
-    let committed = subst (λ (w : WordsState). HasCommitted g.K.TableKey.hash w (session_on names p3) p3 z) c.self.view_is c.commit_session_on.ensures.committed in
-    rw (← there) (has_queried c.args.pass.now p2 p3 z e.held c.in_ok-stripes.ensures.held e.stays c.lock_different.ensures.found committed c.modify_held-answer.result.0 e.modified)
+    rw (← there) (session_answered c.self.view_is e.held c.commit_session_on.ensures.committed c.args.pass.now c.lock_different.new.pass c.in_ok-stripes.ensures.held e.stays c.lock_different.ensures.found c.modify_held-answer.result.0 e.modified)
