@@ -208,6 +208,41 @@ static void try_taken(void) {
     }
 }
 
+/* A key among those that are bound whose slot is no room for the first key. */
+static uint64_t chosen_to_rename(void) {
+    uint64_t key = 0;
+    open_all(3, 64);
+    fill();
+    while (key < count && cuckoo_rename(&handles[0], key, first) == CUCKOO_OK) {
+        check("it is renamed back", cuckoo_rename(&handles[0], first, key) == CUCKOO_OK);
+        key++;
+    }
+    check("a key is chosen", key < count);
+    close_all();
+    return key;
+}
+
+/* A rename that needs room doubles the table, or is refused. */
+static void try_rename(void) {
+    uint64_t key = chosen_to_rename();
+    uint64_t value = 0;
+    begin(1000);
+    watched = (watch){.counts = 1, .until = FOR_EVER};
+    check("there is no memory", cuckoo_rename(&handles[0], key, first) == CUCKOO_NO_MEMORY);
+    watched.counts = 0;
+    check_table(0, 0, SLOTS);
+    watched = (watch){.counts = 1};
+    check("later there is", cuckoo_rename(&handles[1], key, first) == CUCKOO_OK);
+    watched.counts = 0;
+    check("a request a stripe, and one", watched.requests == REQUESTS);
+    check("the value went over",
+          cuckoo_find(&handles[2], first, &value) == CUCKOO_OK && value == key + 1);
+    check("the key is unbound", cuckoo_contains(&handles[2], key) == CUCKOO_ABSENT);
+    check("it is renamed back", cuckoo_rename(&handles[0], first, key) == CUCKOO_OK);
+    check_table(0, 0, 2 * SLOTS);
+    close_all();
+}
+
 /* A thread that inserts the second key while the first one's memory is requested. */
 static sem_t may_begin;
 static int refused_amid;
@@ -269,6 +304,7 @@ int main(void) {
     try_prepared();
     try_each_refused();
     try_taken();
+    try_rename();
     try_waiting();
     puts(failed ? "failed" : "passed");
     return failed;
