@@ -223,8 +223,9 @@ void renames_of_threads() {
       else std::this_thread::yield();
     }
   };
+  const int before = failures;
   std::thread forth(rename, 1, 2, std::ref(went)), back(rename, 2, 1, std::ref(came_back));
-  for (int seen = 0; failures == 0 && (seen < rounds || came_back < rounds); seen++) {
+  for (int seen = 0; failures == before && (seen < rounds || came_back < rounds); seen++) {
     const auto [one, two] = map.get_all({1, 2});
     CHECK(one.has_value() != two.has_value() && one.value_or(0) + two.value_or(0) == 10);
     std::this_thread::yield();

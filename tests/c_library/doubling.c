@@ -1,6 +1,7 @@
 /* A doubling whose memory is refused, or is requested while other handles insert: what each call
- * answers, how many requests it makes, and what stays. Between two requests the program's own
- * malloc, which the linker puts in by --wrap=malloc, can refuse and can make other calls. */
+ * answers, how many requests it makes, and what stays; and a rename of texts whose copies are
+ * refused. Between two requests the program's own malloc, which the linker puts in by
+ * --wrap=malloc, can refuse and can make other calls. */
 #include <cuckoo_map.h>
 #include <pthread.h>
 #include <semaphore.h>
@@ -299,6 +300,27 @@ static void try_waiting(void) {
     close_all();
 }
 
+/* A rename of texts copies both. Where either copy is refused, nothing changes. */
+static void try_text_rename(void) {
+    cuckoo_text_handle text = CUCKOO_CLOSED_HANDLE;
+    uint64_t value = 0;
+    check("a table is opened", cuckoo_text_open(100, 64, &text, 1) == CUCKOO_OK);
+    check("a key is bound", cuckoo_text_insert(&text, "from", 4, 10) == CUCKOO_OK);
+    for (int request = 0; request < 2; request++) {
+        watched = (watch){.counts = 1, .from = request, .until = request + 1};
+        check("there is no memory",
+              cuckoo_text_rename(&text, "from", 4, "to", 2) == CUCKOO_NO_MEMORY);
+        watched.counts = 0;
+        check("the second is unbound", cuckoo_text_contains(&text, "to", 2) == CUCKOO_ABSENT);
+        check("the first is bound",
+              cuckoo_text_find(&text, "from", 4, &value) == CUCKOO_OK && value == 10);
+    }
+    check("later there is", cuckoo_text_rename(&text, "from", 4, "to", 2) == CUCKOO_OK);
+    check("the value went over",
+          cuckoo_text_find(&text, "to", 2, &value) == CUCKOO_OK && value == 10);
+    cuckoo_text_close(&text);
+}
+
 int main(void) {
     choose_keys();
     try_prepared();
@@ -306,6 +328,7 @@ int main(void) {
     try_taken();
     try_rename();
     try_waiting();
+    try_text_rename();
     puts(failed ? "failed" : "passed");
     return failed;
 }
