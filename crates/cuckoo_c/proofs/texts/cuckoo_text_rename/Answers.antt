@@ -13,8 +13,7 @@ use Rattle.cuckoo_c.proofs.texts.cuckoo_text_rename.Goals as goal
 -- the keys have the names that were asked for
 pub returns-in-Ok-Ok-clause-called : goal.returns-in-Ok-Ok-clause-called
 returns-in-Ok-Ok-clause-called c = λ short_from short_to.
-    let called = subst (λ (q : Name). Calls (λ x y. (r : Result Renamed (NotRenamed BytesKey)) × RenameLeaves text_hash q c.in-Ok-Ok.to.0 c.in-Ok-Ok.to r x y × TellsRenamed r c.rename.result) c.args.handle.now.held c.rename.new.place.held c.rename.result) c.in-Ok-Ok.ensures.ok.1 c.rename.ensures.called in
-    (
+    let called = subst (λ (q : Name). Calls (λ x y. (r : Result Renamed (NotRenamed BytesKey)) × RenameLeaves text_hash q c.in-Ok-Ok.to.0 c.in-Ok-Ok.to r x y × TellsRenamed r c.rename.result) c.args.handle.now.held c.rename.new.place.held c.rename.result) c.in-Ok-Ok.ensures.ok.1 c.rename.ensures.called in (
       c.rename.result,
       search rules,
       inl (subst (λ (q : Name). Calls (λ x y. (r : Result Renamed (NotRenamed BytesKey)) × RenameLeaves text_hash c.args.from.now q (record { 0 = q }) r x y × TellsRenamed r c.rename.result) c.args.handle.now.held c.rename.new.place.held c.rename.result) c.in-Ok-Ok.ensures'.ok.1 called),
