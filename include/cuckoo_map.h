@@ -212,6 +212,13 @@ int32_t cuckoo_set_if_all(cuckoo_handle *handle, const cuckoo_change *changes, s
  * added to so. CUCKOO_OK; CUCKOO_SHORT; CUCKOO_ABSENT: one is unbound. Then none has changed. */
 int32_t cuckoo_move(cuckoo_handle *handle, const cuckoo_part *parts, size_t count);
 
+/* Gives the value of `from` to another key, `to`, and unbinds `from`, in one step of the map: no
+ * other call finds both bound, or none. CUCKOO_OK; CUCKOO_ABSENT: `from` is unbound;
+ * CUCKOO_PRESENT: both are bound. But for the first, nothing has changed. Refused as cuckoo_insert
+ * of `to` is, and as CUCKOO_TWICE where the two keys are one. It is CUCKOO_BUSY too where other
+ * threads took the room that was made for `to`. */
+int32_t cuckoo_rename(cuckoo_handle *handle, uint64_t from, uint64_t to);
+
 /* How many keys are bound, counted under all locks. CUCKOO_OK; CUCKOO_BUSY; CUCKOO_CLOSED. */
 int32_t cuckoo_len(cuckoo_handle *handle, uint64_t *count);
 
@@ -243,9 +250,10 @@ int32_t cuckoo_pairs_next(cuckoo_pairs *pairs, uint64_t *key, uint64_t *value);
 void cuckoo_pairs_close(cuckoo_pairs *pairs);
 
 /* ---- keys that are texts of at most 64 bytes ----
- * The same calls, but those on several keys, also refused as CUCKOO_TOO_LONG, before anything else is looked at, and where a key
- * is to be bound as CUCKOO_NO_MEMORY, since the key is copied. `key` may be any bytes; where `length`
- * is 0, it is a pointer all the same that isn't null. Texts are ordered by their bytes. */
+ * The same calls, but those on 1 to 8 keys, also refused as CUCKOO_TOO_LONG, before anything else
+ * is looked at, and where a key is to be bound as CUCKOO_NO_MEMORY, since the key is copied; a rename
+ * copies both. Keys may be any bytes; where a length is 0, the pointer beside it isn't null all the
+ * same. Texts are ordered by their bytes. */
 
 int32_t cuckoo_text_open(uint64_t keys, uint32_t turns, cuckoo_text_handle *handles, size_t count);
 int32_t cuckoo_text_open_with(const cuckoo_settings *settings, cuckoo_text_handle *handles,
@@ -268,6 +276,8 @@ int32_t cuckoo_text_erase(cuckoo_text_handle *handle, const void *key, size_t le
                           uint64_t *value);
 int32_t cuckoo_text_erase_if(cuckoo_text_handle *handle, const void *key, size_t length,
                              uint64_t value);
+int32_t cuckoo_text_rename(cuckoo_text_handle *handle, const void *from, size_t from_length,
+                           const void *to, size_t to_length);
 int32_t cuckoo_text_len(cuckoo_text_handle *handle, uint64_t *count);
 int32_t cuckoo_text_capacity(cuckoo_text_handle *handle, uint64_t *slots);
 int32_t cuckoo_text_reserve(cuckoo_text_handle *handle, uint64_t slots);

@@ -79,6 +79,16 @@ struct options {
   std::uint32_t turns = 64;
 };
 
+/// What a rename came to.
+enum class renamed {
+  /// The value went from the one key, which is unbound now, to the other.
+  done,
+  /// The key that was to be renamed is unbound. Nothing has changed.
+  unbound,
+  /// Both keys are bound. Nothing has changed.
+  occupied
+};
+
 namespace detail {
 
 // Throws for a refusal. Where it was one as busy, it lets other threads run, and the call is to be
@@ -112,6 +122,7 @@ struct numbers {
   static constexpr auto swap_if = cuckoo_swap_if;
   static constexpr auto erase = cuckoo_erase;
   static constexpr auto erase_if = cuckoo_erase_if;
+  static constexpr auto rename = cuckoo_rename;
   static constexpr auto find_all = cuckoo_find_all;
   static constexpr auto set_if_all = cuckoo_set_if_all;
   static constexpr auto move_all = cuckoo_move;
@@ -148,6 +159,7 @@ struct texts {
   static constexpr auto swap_if = cuckoo_text_swap_if;
   static constexpr auto erase = cuckoo_text_erase;
   static constexpr auto erase_if = cuckoo_text_erase_if;
+  static constexpr auto rename = cuckoo_text_rename;
   static constexpr auto len = cuckoo_text_len;
   static constexpr auto capacity = cuckoo_text_capacity;
   static constexpr auto reserve = cuckoo_text_reserve;
@@ -175,11 +187,24 @@ std::int32_t on_key(Function call, cuckoo_handle *at, std::uint64_t key, Rest...
   return call(at, key, rest...);
 }
 
+// A view of nothing may be a null pointer, and the library wants another.
+inline const void *bytes_of(std::string_view key) { return key.empty() ? "" : key.data(); }
+
 template <class Function, class... Rest>
 std::int32_t on_key(Function call, cuckoo_text_handle *at, std::string_view key, Rest... rest) {
-  // A view of nothing may be a null pointer, and the library wants another.
-  const char *bytes = key.empty() ? "" : key.data();
-  return call(at, reinterpret_cast<const std::uint8_t *>(bytes), key.size(), rest...);
+  return call(at, bytes_of(key), key.size(), rest...);
+}
+
+// Makes a call on two keys.
+template <class Function>
+std::int32_t on_two(Function call, cuckoo_handle *at, std::uint64_t one, std::uint64_t other) {
+  return call(at, one, other);
+}
+
+template <class Function>
+std::int32_t on_two(Function call, cuckoo_text_handle *at, std::string_view one,
+                    std::string_view other) {
+  return call(at, bytes_of(one), one.size(), bytes_of(other), other.size());
 }
 
 template <class Key>
@@ -703,6 +728,22 @@ public:
   /// Changes the value of the key by `fn(T &)`, or unbinds the key where that is true. Returns
   /// whether it was bound.
   template <class F> bool erase_fn(const key_taken &key, F fn) { return change(key, fn); }
+
+  /// Gives the value of `from` to another key, `to`, and unbinds `from`, in one step of the map: no
+  /// other call finds both bound, or none. Where `from` is unbound or both are bound, it says so,
+  /// and nothing has changed. Throws `full`, and std::invalid_argument where the two keys are one.
+  ///
+  ///     if (ages.rename(5, 7) == cuckoo::renamed::unbound) ages.insert(7, 50);
+  cuckoo::renamed rename(const key_taken &from, const key_taken &to) {
+    const auto one = keys::to(from);
+    const auto other = keys::to(to);
+    const auto ask = [=](auto *at) { return detail::on_two(family::rename, at, one, other); };
+    switch (table_.answer(ask)) {
+    case CUCKOO_ABSENT: return renamed::unbound;
+    case CUCKOO_PRESENT: return renamed::occupied;
+    default: return renamed::done;
+    }
+  }
 
   /// A key, the value that is expected of it, and its new one.
   struct change_if {

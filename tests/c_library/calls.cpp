@@ -1,12 +1,16 @@
-// Each call of cuckoo_map.hpp, by one thread.
+// Each call of cuckoo_map.hpp, by one thread; renames by more too.
 #include "check.hpp"
 #include <cuckoo_map.hpp>
 
+#include <functional>
 #include <limits>
 #include <string>
+#include <thread>
 #include <vector>
 
 namespace {
+
+using cuckoo::renamed;
 
 // Calls on a key that is unbound, and stays so.
 template <class Map, class Key> void calls_on_unbound(Map &map, const Key &key) {
@@ -48,6 +52,19 @@ template <class Map, class Key> void calls_by_closures(Map &map, const Key &key)
   CHECK(!map.uprase_fn(key, is_gone, 8) && !map.contains(key));
 }
 
+// Renames of two keys, of which the second has 40 and the first is unbound, before and after.
+template <class Map, class Key> void calls_that_rename(Map &map, const Key &one, const Key &two) {
+  CHECK(map.rename(one, two) == renamed::unbound && !map.contains(one) && map.find(two) == 40);
+  CHECK(map.rename(two, one) == renamed::done && map.find(one) == 40 && !map.contains(two));
+  CHECK(map.size() == 1 && map.rename(one, two) == renamed::done && map.find(two) == 40);
+  CHECK(map.insert(one, 9) && map.rename(one, two) == renamed::occupied);
+  CHECK(map.find(one) == 9 && map.find(two) == 40 && map.size() == 2);
+  CHECK(map.rename(two, one) == renamed::occupied && map.find(one) == 9 && map.erase(one));
+  CHECK_THROWS(std::invalid_argument, map.rename(two, two));
+  CHECK_THROWS(std::invalid_argument, map.rename(one, one));
+  CHECK(map.find(two) == 40 && map.size() == 1);
+}
+
 // Calls on all of the map, of which the second key has 40.
 template <class Map, class Key> void calls_on_all(Map &map, const Key &one, const Key &two) {
   constexpr auto greatest = std::numeric_limits<std::uint64_t>::max();
@@ -74,6 +91,7 @@ template <class Key> void all_calls(const Key &one, const Key &two) {
   calls_on_unbound(map, one);
   calls_that_bind(map, one, two);
   calls_by_closures(map, one);
+  calls_that_rename(map, one, two);
   calls_on_all(map, one, two);
 }
 
@@ -111,6 +129,8 @@ void texts() {
   CHECK(!map.contains("a") && map.size() == 3);
   CHECK_THROWS(std::length_error, map.insert(longest + 'x', 1));
   CHECK_THROWS(std::length_error, map.contains(longest + 'x'));
+  CHECK_THROWS(std::length_error, map.rename("", longest + 'x'));
+  CHECK_THROWS(std::length_error, map.rename(longest + 'x', "a"));
   const auto pairs = map.pairs();
   CHECK(pairs.size() == 3 && pairs[0].first.empty() && pairs[1].first == zeros);
   CHECK(pairs[2].first == longest && pairs[2].second == 1);
@@ -135,6 +155,85 @@ void several() {
   cuckoo::map<color, double> colors(100);
   CHECK(colors.insert(color::red, .5) && colors.set_if_all({{color::red, .5, 1.5}}));
   CHECK(colors.get_all({color::red, color::green})[0] == 1.5);
+}
+
+// Settings of a table that opens with 32 slots, and may have 4 * 2^max.
+cuckoo_settings settings_of_few_slots(std::uint32_t max) { return {0, 3, max, 1, 64, 4, 5}; }
+
+// Binds the keys from 0 on to themselves, up to one that has no room, and returns how many.
+int fill(cuckoo::map<int, int> &map) {
+  for (int key = 0;; key++) try {
+      map.insert(key, key);
+    } catch (const cuckoo::full &) {
+      return key;
+    }
+}
+
+// Whether a key is renamed to one that is unbound, and back: not where that has no room.
+bool renames_and_back(cuckoo::map<int, int> &map, int from, int to) {
+  try {
+    CHECK(map.rename(from, to) == renamed::done);
+  } catch (const cuckoo::full &) {
+    CHECK(map.find(from) == from && !map.contains(to));
+    return false;
+  }
+  CHECK(!map.contains(from) && map.find(to) == from);
+  CHECK(map.rename(to, from) == renamed::done && map.find(from) == from && !map.contains(to));
+  return true;
+}
+
+// In a full table a key has room where the other one leaves a slot of its two buckets, else none.
+void renames_in_full_table() {
+  cuckoo::map<int, int> map(settings_of_few_slots(3));
+  const int count = fill(map);
+  int done = 0;
+  for (int key = 0; key < count; key++) done += renames_and_back(map, key, count);
+  CHECK(0 < done && done < count && map.size() == static_cast<std::size_t>(count));
+  for (int key = 0; key < count; key++) CHECK(map.find(key) == key);
+}
+
+// Where the table may grow, a rename that needs room makes it grow.
+void renames_that_need_room() {
+  cuckoo::map<int, int> full(settings_of_few_slots(3)), map(settings_of_few_slots(8));
+  const int count = fill(full);
+  for (int key = 0; key < count; key++) CHECK(map.insert(key, key));
+  int names = count;
+  CHECK(map.capacity() == 32);
+  while (map.capacity() == 32 && names < 100000) {
+    CHECK(map.rename(names - count, names) == renamed::done);
+    names++;
+  }
+  CHECK(map.capacity() == 64 && map.size() == static_cast<std::size_t>(count));
+  for (int name = names - count; name < names; name++) CHECK(map.find(name) == name % count);
+  CHECK(!map.contains(names - count - 1) && !map.contains(names));
+}
+
+// Two threads rename a key back and forth, and another finds one of the two bound each time.
+void renames_of_threads() {
+  constexpr int rounds = 4000;
+  cuckoo::map<int, int> map(cuckoo::options{100, 3, 2});
+  map.insert(1, 10);
+  std::atomic<bool> is_over{false};
+  std::atomic<int> went{0}, came_back{0};
+  const auto rename = [&](int from, int to, std::atomic<int> &done) {
+    while (!is_over) {
+      const renamed came = map.rename(from, to);
+      CHECK(came != renamed::occupied);
+      if (came == renamed::done) done++;
+      else std::this_thread::yield();
+    }
+  };
+  const int before = failures;
+  std::thread forth(rename, 1, 2, std::ref(went)), back(rename, 2, 1, std::ref(came_back));
+  for (int seen = 0; failures == before && (seen < rounds || came_back < rounds); seen++) {
+    const auto [one, two] = map.get_all({1, 2});
+    CHECK(one.has_value() != two.has_value() && one.value_or(0) + two.value_or(0) == 10);
+    std::this_thread::yield();
+  }
+  is_over = true;
+  forth.join();
+  back.join();
+  CHECK(map.find(went > came_back ? 2 : 1) == 10 && map.size() == 1);
 }
 
 // Exceptions of a closure pass, and leave the map as it was.
@@ -219,6 +318,9 @@ int main() {
   values();
   texts();
   several();
+  renames_in_full_table();
+  renames_that_need_room();
+  renames_of_threads();
   closures();
   refusals();
   moves();

@@ -1,6 +1,7 @@
 /* A doubling whose memory is refused, or is requested while other handles insert: what each call
- * answers, how many requests it makes, and what stays. Between two requests the program's own
- * malloc, which the linker puts in by --wrap=malloc, can refuse and can make other calls. */
+ * answers, how many requests it makes, and what stays; and a rename of texts whose copies are
+ * refused. Between two requests the program's own malloc, which the linker puts in by
+ * --wrap=malloc, can refuse and can make other calls. */
 #include <cuckoo_map.h>
 #include <pthread.h>
 #include <semaphore.h>
@@ -208,6 +209,41 @@ static void try_taken(void) {
     }
 }
 
+/* A key among those that are bound whose slot is no room for the first key. */
+static uint64_t chosen_to_rename(void) {
+    uint64_t key = 0;
+    open_all(3, 64);
+    fill();
+    while (key < count && cuckoo_rename(&handles[0], key, first) == CUCKOO_OK) {
+        check("it is renamed back", cuckoo_rename(&handles[0], first, key) == CUCKOO_OK);
+        key++;
+    }
+    check("a key is chosen", key < count);
+    close_all();
+    return key;
+}
+
+/* A rename that needs room doubles the table, or is refused. */
+static void try_rename(void) {
+    uint64_t key = chosen_to_rename();
+    uint64_t value = 0;
+    begin(1000);
+    watched = (watch){.counts = 1, .until = FOR_EVER};
+    check("there is no memory", cuckoo_rename(&handles[0], key, first) == CUCKOO_NO_MEMORY);
+    watched.counts = 0;
+    check_table(0, 0, SLOTS);
+    watched = (watch){.counts = 1};
+    check("later there is", cuckoo_rename(&handles[1], key, first) == CUCKOO_OK);
+    watched.counts = 0;
+    check("a request a stripe, and one", watched.requests == REQUESTS);
+    check("the value went over",
+          cuckoo_find(&handles[2], first, &value) == CUCKOO_OK && value == key + 1);
+    check("the key is unbound", cuckoo_contains(&handles[2], key) == CUCKOO_ABSENT);
+    check("it is renamed back", cuckoo_rename(&handles[0], first, key) == CUCKOO_OK);
+    check_table(0, 0, 2 * SLOTS);
+    close_all();
+}
+
 /* A thread that inserts the second key while the first one's memory is requested. */
 static sem_t may_begin;
 static int refused_amid;
@@ -264,12 +300,35 @@ static void try_waiting(void) {
     close_all();
 }
 
+/* A rename of texts copies both. Where either copy is refused, nothing changes. */
+static void try_text_rename(void) {
+    cuckoo_text_handle text = CUCKOO_CLOSED_HANDLE;
+    uint64_t value = 0;
+    check("a table is opened", cuckoo_text_open(100, 64, &text, 1) == CUCKOO_OK);
+    check("a key is bound", cuckoo_text_insert(&text, "from", 4, 10) == CUCKOO_OK);
+    for (int request = 0; request < 2; request++) {
+        watched = (watch){.counts = 1, .from = request, .until = request + 1};
+        check("there is no memory",
+              cuckoo_text_rename(&text, "from", 4, "to", 2) == CUCKOO_NO_MEMORY);
+        watched.counts = 0;
+        check("the second is unbound", cuckoo_text_contains(&text, "to", 2) == CUCKOO_ABSENT);
+        check("the first is bound",
+              cuckoo_text_find(&text, "from", 4, &value) == CUCKOO_OK && value == 10);
+    }
+    check("later there is", cuckoo_text_rename(&text, "from", 4, "to", 2) == CUCKOO_OK);
+    check("the value went over",
+          cuckoo_text_find(&text, "to", 2, &value) == CUCKOO_OK && value == 10);
+    cuckoo_text_close(&text);
+}
+
 int main(void) {
     choose_keys();
     try_prepared();
     try_each_refused();
     try_taken();
+    try_rename();
     try_waiting();
+    try_text_rename();
     puts(failed ? "failed" : "passed");
     return failed;
 }

@@ -78,6 +78,8 @@ static void try_closed(const char *name, cuckoo_handle *handle) {
     expect("  swap_if", cuckoo_swap_if(handle, 1, 2, 3, &place), CUCKOO_CLOSED);
     expect("  erase", cuckoo_erase(handle, 1, &place), CUCKOO_CLOSED);
     expect("  erase_if", cuckoo_erase_if(handle, 1, 2), CUCKOO_CLOSED);
+    expect("  rename", cuckoo_rename(handle, 1, 2), CUCKOO_CLOSED);
+    expect("  rename a key to itself", cuckoo_rename(handle, 1, 1), CUCKOO_CLOSED);
     expect("  len", cuckoo_len(handle, &place), CUCKOO_CLOSED);
     expect("  capacity", cuckoo_capacity(handle, &place), CUCKOO_CLOSED);
     expect("  reserve", cuckoo_reserve(handle, 1000), CUCKOO_CLOSED);
@@ -107,6 +109,7 @@ static void try_closed_text(const char *name, cuckoo_text_handle *handle) {
     expect("  swap_if", cuckoo_text_swap_if(handle, key, 3, 2, 3, &place), CUCKOO_CLOSED);
     expect("  erase", cuckoo_text_erase(handle, key, 3, &place), CUCKOO_CLOSED);
     expect("  erase_if", cuckoo_text_erase_if(handle, key, 3, 2), CUCKOO_CLOSED);
+    expect("  rename", cuckoo_text_rename(handle, key, 3, key, 2), CUCKOO_CLOSED);
     expect("  len", cuckoo_text_len(handle, &place), CUCKOO_CLOSED);
     expect("  capacity", cuckoo_text_capacity(handle, &place), CUCKOO_CLOSED);
     expect("  reserve", cuckoo_text_reserve(handle, 1000), CUCKOO_CLOSED);
@@ -215,6 +218,9 @@ static void try_long_texts(void) {
     check("a refused call leaves its places", place == UNTOUCHED);
     expect("  one of 64 bytes", cuckoo_text_insert(handle, key, 64, 2), CUCKOO_OK);
     expect("  one of none", cuckoo_text_insert(handle, key, 0, 3), CUCKOO_OK);
+    expect("  rename it", cuckoo_text_rename(handle, key, 65, key, 1), CUCKOO_TOO_LONG);
+    expect("  rename to it", cuckoo_text_rename(handle, key, 64, key, 65), CUCKOO_TOO_LONG);
+    expect("  rename it to itself", cuckoo_text_rename(handle, key, 65, key, 65), CUCKOO_TOO_LONG);
     check("both are bound", cuckoo_text_len(handle, &place) == CUCKOO_OK && place == 2);
     cuckoo_text_close(handle);
 }
@@ -317,6 +323,68 @@ static void try_several(void) {
     cuckoo_close(&handle);
 }
 
+/* Whether a text of so many bytes has this value. */
+static int text_has(cuckoo_text_handle *handle, const char *key, size_t length, uint64_t value) {
+    uint64_t place = UNTOUCHED;
+    return cuckoo_text_find(handle, key, length, &place) == CUCKOO_OK && place == value;
+}
+
+/* Each answer of a rename, and a key that stands twice. */
+static void try_rename(void) {
+    cuckoo_handle handle = open_one(settings_of(4, 8, 1, 5));
+    check("a key is bound", cuckoo_insert(&handle, 1, 10) == CUCKOO_OK);
+    check("a key is bound", cuckoo_insert(&handle, 2, 20) == CUCKOO_OK);
+    puts("rename");
+    expect("  to a key that is bound", cuckoo_rename(&handle, 1, 2), CUCKOO_PRESENT);
+    expect("  of a key that is unbound", cuckoo_rename(&handle, 3, 4), CUCKOO_ABSENT);
+    expect("  of one that is unbound to one that is not", cuckoo_rename(&handle, 3, 1),
+           CUCKOO_ABSENT);
+    expect("  of a key to itself", cuckoo_rename(&handle, 1, 1), CUCKOO_TWICE);
+    expect("  of an unbound key to itself", cuckoo_rename(&handle, 3, 3), CUCKOO_TWICE);
+    check("nothing changed", have(&handle, 1, 10, 2, 20));
+    expect("  to a key that is unbound", cuckoo_rename(&handle, 1, 3), CUCKOO_OK);
+    check("the value went over", have(&handle, 3, 10, 2, 20));
+    expect("  what was renamed is unbound", cuckoo_contains(&handle, 1), CUCKOO_ABSENT);
+    expect("  and back", cuckoo_rename(&handle, 3, 1), CUCKOO_OK);
+    check("the value is back", have(&handle, 1, 10, 2, 20));
+    cuckoo_close(&handle);
+}
+
+/* The same on texts: the keys are the first bytes of one text, as many as stand beside them. */
+static void try_text_rename(void) {
+    const char *key = "key";
+    uint64_t count = 0;
+    cuckoo_text_handle text = CUCKOO_CLOSED_HANDLE;
+    cuckoo_text_handle *handle = &text;
+    check("a table is opened", cuckoo_text_open(100, 64, handle, 1) == CUCKOO_OK);
+    check("a key is bound", cuckoo_text_insert(handle, key, 3, 30) == CUCKOO_OK);
+    check("a key is bound", cuckoo_text_insert(handle, key, 2, 20) == CUCKOO_OK);
+    puts("rename of texts");
+    expect("  to a key that is bound", cuckoo_text_rename(handle, key, 3, key, 2), CUCKOO_PRESENT);
+    expect("  of a key that is unbound", cuckoo_text_rename(handle, key, 1, key, 0), CUCKOO_ABSENT);
+    expect("  of a key to itself", cuckoo_text_rename(handle, key, 3, key, 3), CUCKOO_TWICE);
+    check("nothing changed", text_has(handle, key, 3, 30) && text_has(handle, key, 2, 20));
+    expect("  to a key that is unbound", cuckoo_text_rename(handle, key, 3, key, 0), CUCKOO_OK);
+    check("the value went over", text_has(handle, key, 0, 30) && text_has(handle, key, 2, 20));
+    check("no other is bound", cuckoo_text_len(handle, &count) == CUCKOO_OK && count == 2);
+    cuckoo_text_close(handle);
+}
+
+/* Renames each of so many keys, which are bound, to the next one, which has no room, and back where
+ * the slot that it left was room. It gives the code of the last refusal. */
+static int32_t rename_each(cuckoo_handle *handle, uint64_t count) {
+    int32_t refusal = CUCKOO_OK;
+    for (uint64_t key = 0; key < count; key++) {
+        int32_t code = cuckoo_rename(handle, key, count);
+        if (code < 0)
+            refusal = code;
+        else
+            check("a key is renamed, and back",
+                  code == CUCKOO_OK && cuckoo_rename(handle, count, key) == CUCKOO_OK);
+    }
+    return refusal;
+}
+
 /* Inserts keys up to one that is refused, and checks that all before are bound, and it isn't. */
 static void try_fill(const char *name, cuckoo_settings settings, int32_t wanted) {
     cuckoo_handle handle = open_one(settings);
@@ -330,6 +398,7 @@ static void try_fill(const char *name, cuckoo_settings settings, int32_t wanted)
     expect(name, code, wanted);
     expect("  assign", cuckoo_assign(&handle, count, 1, &place), wanted);
     expect("  add", cuckoo_add(&handle, count, 1), wanted);
+    expect("  rename", rename_each(&handle, count), wanted);
     expect("  find what was refused", cuckoo_find(&handle, count, &place), CUCKOO_ABSENT);
     check("a refused call leaves its place", place == UNTOUCHED);
     for (uint64_t key = 0; key < count; key++)
@@ -362,23 +431,28 @@ static void try_no_memory(void) {
     cuckoo_close(&one);
 }
 
-/* Set when a call was refused as busy, or when it is time to stop. */
+/* Set when a count and a rename were refused as busy, and when it is time to stop. */
 static atomic_int is_over;
 static atomic_int was_busy;
+static atomic_int was_busy_rename;
 
 static void *make_busy(void *of) {
     cuckoo_handle *handle = of;
     uint64_t count;
     while (!is_over) {
         int32_t code = cuckoo_len(handle, &count);
-        if (code == CUCKOO_BUSY) was_busy = is_over = 1;
-        if (code == CUCKOO_OK) continue;
-        check("a count is answered, or refused as busy", code == CUCKOO_BUSY);
+        int32_t code_of_rename = cuckoo_rename(handle, 1, 2);
+        if (code == CUCKOO_BUSY) was_busy = 1;
+        if (code_of_rename == CUCKOO_BUSY) was_busy_rename = 1;
+        if (was_busy && was_busy_rename) is_over = 1;
+        check("a count is answered, or refused as busy",
+              code == CUCKOO_OK || code == CUCKOO_BUSY);
+        check("so is a rename", code_of_rename == CUCKOO_ABSENT || code_of_rename == CUCKOO_BUSY);
     }
     return NULL;
 }
 
-/* Four threads, with one try each, until one finds a stripe held; half a minute at most. */
+/* Four threads, with one try each, until each call finds a stripe held; half a minute at most. */
 static void try_busy(void) {
     enum { THREADS = 4 };
     cuckoo_handle handles[THREADS];
@@ -395,6 +469,7 @@ static void try_busy(void) {
     is_over = 1;
     for (int i = 0; i < THREADS; i++) pthread_join(threads[i], NULL);
     expect("a stripe that is held", was_busy ? CUCKOO_BUSY : CUCKOO_OK, CUCKOO_BUSY);
+    expect("  a rename", was_busy_rename ? CUCKOO_BUSY : CUCKOO_OK, CUCKOO_BUSY);
     for (int i = 0; i < THREADS; i++) cuckoo_close(&handles[i]);
 }
 
@@ -405,6 +480,8 @@ int main(void) {
     try_long_texts();
     try_answers();
     try_several();
+    try_rename();
+    try_text_rename();
     try_fill("full", settings_of(1, 1, 1, 5), CUCKOO_FULL);
     try_fill("full after growing", settings_of(1, 6, 1, 5), CUCKOO_FULL);
     try_fill("load too low", settings_of(8, 26, 1, 100), CUCKOO_LOAD_TOO_LOW);

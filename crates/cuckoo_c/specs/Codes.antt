@@ -1,5 +1,7 @@
 -- The codes that C is told, and what they say of a call's result.
 use Rattle.std.specs.Prelude.{◌≡◌, ◌≢◌, ◌⊎◌, ℕ, ℤ, pos, negsuc, Bool, true, false, Option, Some, None, Result, Ok, Err}
+use Rattle.ck_section.specs.declared.two_keys.Renamed.{Renamed}
+use Rattle.ck_section.specs.declared.two_keys.Renamed.TheVariants as renamed
 use Rattle.cuckoo_c.specs.declared.code.Code.{Code}
 use Rattle.cuckoo_c.specs.declared.code.Code.TheVariants as codes
 use Rattle.cuckoo_map.specs.declared.refusal.Busy.{Busy}
@@ -8,6 +10,9 @@ use Rattle.cuckoo_map.specs.declared.refusal.Why.TheVariants as whys
 use Rattle.cuckoo_map.specs.declared.refusal.Refused.{Refused}
 use Rattle.cuckoo_map.specs.declared.refusal.KeysRefused.{KeysRefused}
 use Rattle.cuckoo_map.specs.declared.refusal.KeysRefused.TheVariants as keys
+use Rattle.cuckoo_map.specs.declared.refusal.NotRenamed.{NotRenamed}
+use Rattle.cuckoo_map.specs.declared.refusal.RenameFault.{RenameFault}
+use Rattle.cuckoo_map.specs.declared.refusal.RenameFault.TheVariants as renames
 use Rattle.cuckoo_map.specs.declared.refusal.GrowFault.{GrowFault}
 use Rattle.cuckoo_map.specs.declared.refusal.GrowFault.TheVariants as faults
 
@@ -40,6 +45,12 @@ code_of_why whys.LoadTooLow = codes.LoadTooLow
 abbrev pub code_of_keys : KeysRefused → Code
 code_of_keys (keys.Busy t) = codes.Busy
 code_of_keys (keys.Twice i) = codes.Twice
+
+-- why a rename was refused; where others took the room that was made, that is told as busy
+abbrev pub code_of_rename : RenameFault → Code
+code_of_rename (renames.Keys why) = code_of_keys why
+code_of_rename (renames.Room why) = code_of_why why
+code_of_rename renames.NoSlot = codes.Busy
 
 abbrev pub code_of_fault : GrowFault → Code
 code_of_fault (faults.Busy t) = codes.Busy
@@ -105,6 +116,13 @@ TellsChange declined (Ok (Some true)) code = code ≡ codes.Done
 TellsChange declined (Ok (Some false)) code = code ≡ declined
 TellsChange declined (Ok None) code = code ≡ codes.Absent
 TellsChange declined (Err e) code = code ≡ code_of_keys e
+
+-- the second key has the value of the first, which is unbound; or the first was unbound, or both were bound; or it was refused
+abbrev pub TellsRenamed : {K : Type 0} → Result Renamed (NotRenamed K) → Code → Type 0
+TellsRenamed (Ok renamed.Done) code = code ≡ codes.Done
+TellsRenamed (Ok renamed.Unbound) code = code ≡ codes.Absent
+TellsRenamed (Ok renamed.Occupied) code = code ≡ codes.Present
+TellsRenamed (Err e) code = code ≡ code_of_rename e.why
 
 -- C is told the number of a code that says so
 abbrev pub Numbered : ℤ → (Code → Type 0) → Type 0

@@ -1,19 +1,22 @@
 //! What each call does through a handle, once for all types of keys.
 ghost use Rattle.std.specs.Prelude.{◌≡◌, ◌<◌, ◌≤◌, ℕ, Bool, Option, None, Result, nat_eq, length, map};
 ghost use Rattle.ck_section.specs.Acts.{Finds, FindsBound, Inserts, Assigns, Upserts, Modifies, ErasesBy, Erases};
+ghost use Rattle.ck_section.specs.declared.two_keys.Renamed.{Renamed};
 ghost use Rattle.cuckoo_map.specs.declared.refusal.Busy.{Busy};
 ghost use Rattle.cuckoo_map.specs.declared.refusal.GrowFault.{GrowFault};
 ghost use Rattle.cuckoo_map.specs.declared.refusal.KeysRefused.{KeysRefused};
+ghost use Rattle.cuckoo_map.specs.declared.refusal.NotRenamed.{NotRenamed};
 ghost use Rattle.cuckoo_map.specs.declared.refusal.Refused.{Refused};
 ghost use Rattle.cuckoo_map.specs.Callers.{CallerState, QueryLeaves, InsertionLeaves, KeysLeave};
+ghost use Rattle.cuckoo_map.specs.Renames.{RenameLeaves};
 ghost use Rattle.cuckoo_map.specs.SeveralKeys.{FindsAll};
 ghost use Rattle.cuckoo_c.specs.declared.code.Code.TheVariants as codes;
-ghost use Rattle.cuckoo_c.specs.Codes.{TellsBound, TellsValue, TellsFresh, TellsOld, TellsSeen, TellsMatch, TellsCount, TellsGrown, TellsDone};
+ghost use Rattle.cuckoo_c.specs.Codes.{TellsBound, TellsValue, TellsFresh, TellsOld, TellsSeen, TellsMatch, TellsCount, TellsGrown, TellsDone, TellsRenamed};
 ghost use Rattle.cuckoo_c.specs.Handles.{Calls, AddsTo, Replaces, Swaps, CountLeaves, CapacityLeaves, GrowthLeaves};
 
 use crate::code::Code;
 use ck_owned::{Holds, put, take};
-use cuckoo_map::{Busy, GrowFault, Handle, Query, Refused, TableKey};
+use cuckoo_map::{Busy, GrowFault, Handle, NotRenamed, Query, Refused, Renamed, TableKey};
 use std::alloc::Global;
 
 /// The value of the key.
@@ -286,6 +289,38 @@ pub fn erase_if<K: TableKey + Drop, P: Holds<Handle<K, u64>>, Q: Query<K>>(
         Ok(Some(false)) => Code::Different,
         Ok(None) => Code::Absent,
         Err(_) => Code::Busy,
+    }
+}
+
+/// Gives the value of a key to another one, which is unbound, and unbinds the first.
+pub fn rename<K: TableKey + Drop, P: Holds<Handle<K, u64>>>(
+    alloc: Global,
+    place: &mut P,
+    from: &K,
+    to: K,
+) -> Code
+    ensures called { Calls (λ c d. (r : Result Renamed (NotRenamed K))
+        × RenameLeaves K.hash (K.name from.now) (K.name to) to r c d × TellsRenamed r result)
+        (P.held place.old) (P.held place.new) result }
+{
+    let Some(handle) = take(place, alloc) else {
+        return Code::Closed;
+    };
+    let mut handle = handle;
+    let renamed = handle.rename(from, to);
+    put(place, alloc, handle);
+    renamed_code(renamed)
+}
+
+// The code of a rename.
+fn renamed_code<K: Drop>(renamed: Result<Renamed, NotRenamed<K>>) -> Code
+    ensures { TellsRenamed renamed result }
+{
+    match renamed {
+        Ok(Renamed::Done) => Code::Done,
+        Ok(Renamed::Unbound) => Code::Absent,
+        Ok(Renamed::Occupied) => Code::Present,
+        Err(back) => Code::of_rename(back.why),
     }
 }
 

@@ -3,14 +3,17 @@ ghost use Rattle.std.specs.Prelude.{◌≡◌, ◌≢◌, ◌∷◌, [], ℕ, Bo
 ghost use Rattle.std.specs.declared.option.Option.TheVariants.{None};
 ghost use Rattle.ck_key.specs.Hashes.{mixed_hash};
 ghost use Rattle.ck_section.specs.Acts.{Finds, FindsBound, Inserts, Assigns, Upserts, Modifies, ErasesBy, Erases};
+ghost use Rattle.ck_section.specs.declared.two_keys.Renamed.{Renamed};
 ghost use Rattle.cuckoo_map.specs.declared.refusal.Busy.{Busy};
 ghost use Rattle.cuckoo_map.specs.declared.refusal.GrowFault.{GrowFault};
+ghost use Rattle.cuckoo_map.specs.declared.refusal.NotRenamed.{NotRenamed};
 ghost use Rattle.cuckoo_map.specs.declared.refusal.Refused.{Refused};
 ghost use Rattle.cuckoo_map.specs.Callers.{QueryLeaves, InsertionLeaves, Drains};
+ghost use Rattle.cuckoo_map.specs.Renames.{RenameLeaves};
 ghost use Rattle.cuckoo_c.specs.declared.keys.NumberKey.{NumberKey};
 ghost use Rattle.cuckoo_c.specs.declared.code.Code.TheVariants as codes;
 ghost use Rattle.cuckoo_c.specs.Several.{CallsOnFew, FindsEntries, ChangesKeys, swapped, moved};
-ghost use Rattle.cuckoo_c.specs.Codes.{Numbered, TellsBound, TellsValue, TellsFresh, TellsOld, TellsSeen, TellsMatch, TellsCount, TellsGrown};
+ghost use Rattle.cuckoo_c.specs.Codes.{Numbered, TellsBound, TellsValue, TellsFresh, TellsOld, TellsSeen, TellsMatch, TellsCount, TellsGrown, TellsRenamed};
 ghost use Rattle.cuckoo_c.specs.contracts.keys.NumberKeyOrd.TheImpl.{ghosts as number_ord};
 ghost use Rattle.cuckoo_c.specs.contracts.keys.NumberKeyTableKey.TheImpl.{ghosts as number_key};
 ghost use Rattle.cuckoo_c.specs.Pairs.{TakesNextAt, TellsPair};
@@ -249,6 +252,17 @@ pub extern "C" fn cuckoo_move(alloc: Global, handle: &mut CuckooHandle, parts: &
         handle.old.held handle.new.held code) }
 {
     several::change_all(alloc, handle, parts, Code::Short).number()
+}
+
+/// Gives the value of a key to another one, which is unbound, and unbinds the first.
+#[unsafe(no_mangle)]
+pub extern "C" fn cuckoo_rename(alloc: Global, handle: &mut CuckooHandle, from: u64, to: u64) -> i32
+    ensures { Numbered result (λ code. Calls (λ c d. (r : Result Renamed (NotRenamed NumberKey))
+        × RenameLeaves mixed_hash (from ∷ []) (to ∷ []) (record { 0 = to }) r c d
+        × TellsRenamed r code)
+        handle.old.held handle.new.held code) }
+{
+    calls::rename(alloc, handle, &NumberKey(from), NumberKey(to)).number()
 }
 
 /// How many keys are bound.

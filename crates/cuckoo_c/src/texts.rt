@@ -1,15 +1,18 @@
 //! The calls on tables whose keys are texts, as C makes them.
-ghost use Rattle.std.specs.Prelude.{◌≡◌, ◌≤◌, ◌<◌, ℕ, Bool, Option, Result, IfOk, IfErr, MatchBool, All, length, map, nat_eq, nat_lt};
+ghost use Rattle.std.specs.Prelude.{◌≡◌, ◌⊎◌, ◌≤◌, ◌<◌, ℕ, Bool, Option, Result, IfOk, IfErr, MatchBool, All, length, map, nat_eq, nat_lt};
 ghost use Rattle.std.specs.declared.option.Option.TheVariants.{None};
 ghost use Rattle.ck_key.specs.Hashes.{text_hash};
 ghost use Rattle.ck_section.specs.Acts.{Finds, FindsBound, Inserts, Assigns, Upserts, Modifies, ErasesBy, Erases};
+ghost use Rattle.ck_section.specs.declared.two_keys.Renamed.{Renamed};
 ghost use Rattle.cuckoo_map.specs.declared.refusal.Busy.{Busy};
 ghost use Rattle.cuckoo_map.specs.declared.refusal.GrowFault.{GrowFault};
+ghost use Rattle.cuckoo_map.specs.declared.refusal.NotRenamed.{NotRenamed};
 ghost use Rattle.cuckoo_map.specs.declared.refusal.Refused.{Refused};
 ghost use Rattle.cuckoo_map.specs.Callers.{QueryLeaves, InsertionLeaves, Drains};
+ghost use Rattle.cuckoo_map.specs.Renames.{RenameLeaves};
 ghost use Rattle.cuckoo_c.specs.declared.keys.BytesKey.{BytesKey};
 ghost use Rattle.cuckoo_c.specs.declared.code.Code.TheVariants as codes;
-ghost use Rattle.cuckoo_c.specs.Codes.{number_of, Numbered, TellsBound, TellsValue, TellsFresh, TellsOld, TellsSeen, TellsMatch, TellsCount, TellsGrown};
+ghost use Rattle.cuckoo_c.specs.Codes.{number_of, Numbered, TellsBound, TellsValue, TellsFresh, TellsOld, TellsSeen, TellsMatch, TellsCount, TellsGrown, TellsRenamed};
 ghost use Rattle.cuckoo_c.specs.contracts.keys.BytesKeyOrd.TheImpl.{ghosts as text_ord};
 ghost use Rattle.cuckoo_c.specs.contracts.keys.BytesKeyTableKey.TheImpl.{ghosts as text_key};
 ghost use Rattle.cuckoo_c.specs.Pairs.{TakesNextAt, TellsTextPair};
@@ -277,6 +280,31 @@ pub extern "C" fn cuckoo_text_erase_if(
         return Code::TooLong.number();
     }
     calls::erase_if(alloc, handle, Bytes(key), value).number()
+}
+
+/// Gives the value of a key to another one, which is unbound, and unbinds the first.
+#[unsafe(no_mangle)]
+pub extern "C" fn cuckoo_text_rename(
+    alloc: Global,
+    handle: &mut CuckooTextHandle,
+    from: &[u8],
+    to: &[u8],
+) -> i32
+    ensures called { length from.now ≤ 64 → length to.now ≤ 64
+        → Numbered result (λ code. CallsWithMemory (λ c d. (r : Result Renamed (NotRenamed BytesKey))
+        × RenameLeaves text_hash from.now to.now (record { 0 = to.now }) r c d
+        × TellsRenamed r code)
+        handle.old.held handle.new.held code) }
+    ensures too_long { (64 < length from.now) ⊎ (64 < length to.now)
+        → (result ≡ number_of codes.TooLong) × (handle.new.held ≡ handle.old.held) }
+{
+    if from.len() > MOST || to.len() > MOST {
+        return Code::TooLong.number();
+    }
+    match (key_of(alloc, from), key_of(alloc, to)) {
+        (Ok(from), Ok(to)) => calls::rename(alloc, handle, &from, to).number(),
+        _ => Code::Memory.number(),
+    }
 }
 
 /// How many keys are bound.

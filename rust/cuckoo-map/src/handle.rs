@@ -1,4 +1,4 @@
-use crate::raw::{Raw, ABSENT, BAD_SETTINGS, BUSY, DIFFERENT, OK};
+use crate::raw::{Raw, ABSENT, BAD_SETTINGS, BUSY, DIFFERENT, OK, PRESENT};
 use crate::{AsKey, Error, Keys, Numbers, Pairs, Result, Settings, Texts};
 use std::fmt;
 use std::marker::PhantomData;
@@ -62,6 +62,17 @@ pub enum Compared<T> {
     Different(T),
     /// The key is unbound.
     Absent,
+}
+
+/// What a rename came to.
+#[derive(Clone, Copy, Debug, PartialEq, Eq)]
+pub enum Renamed {
+    /// The value went from the one key, which is unbound now, to the other.
+    Done,
+    /// The key that was to be renamed is unbound. Nothing has changed.
+    Unbound,
+    /// Both keys are bound. Nothing has changed.
+    Occupied,
 }
 
 // SAFETY: a handle may be used by one thread after the other; that it isn't by two at a time is
@@ -183,6 +194,34 @@ impl<K: Keys> TableHandle<K> {
     pub fn erase_if(&mut self, key: impl AsKey<K>, value: u64) -> Result<Compared<()>> {
         let code = self.call(|raw| unsafe { K::erase_if(raw, key.as_key(), value) })?;
         Ok(compared(code, ()))
+    }
+
+    /// Gives the value of `from` to another key, `to`, and unbinds `from`, in one step of the map: no
+    /// other call finds both bound, or none. Where `from` is unbound or both are bound, it says so,
+    /// and nothing has changed. It may be refused as an insertion of `to` is, and as
+    /// [`Error::Twice`] where the two keys are one; as [`Error::Busy`] too where other threads took
+    /// the room that was made for `to`.
+    ///
+    /// ```
+    /// use cuckoo_map::{Error, Handle, Renamed};
+    ///
+    /// let mut handle = Handle::open(100, 1)?.pop().unwrap();
+    /// handle.insert(5, 50)?;
+    /// assert_eq!(handle.rename(5, 6)?, Renamed::Done);
+    /// assert_eq!(handle.find_all([5, 6])?, [None, Some(50)]);
+    /// assert_eq!(handle.rename(5, 7)?, Renamed::Unbound);
+    /// handle.insert(7, 70)?;
+    /// assert_eq!(handle.rename(6, 7)?, Renamed::Occupied);
+    /// assert_eq!(handle.rename(6, 6), Err(Error::Twice));
+    /// # Ok::<(), Error>(())
+    /// ```
+    pub fn rename(&mut self, from: impl AsKey<K>, to: impl AsKey<K>) -> Result<Renamed> {
+        let code = self.call(|raw| unsafe { K::rename(raw, from.as_key(), to.as_key()) })?;
+        Ok(match code {
+            ABSENT => Renamed::Unbound,
+            PRESENT => Renamed::Occupied,
+            _ => Renamed::Done,
+        })
     }
 
     /// Changes the value of the key by a function, and gives the one that it was changed from. The

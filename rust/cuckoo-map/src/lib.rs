@@ -41,7 +41,7 @@ mod settings;
 mod several;
 
 pub use error::{Error, Result};
-pub use handle::{Compared, Handle, TableHandle, TextHandle};
+pub use handle::{Compared, Handle, Renamed, TableHandle, TextHandle};
 pub use keys::{AsKey, Keys, Numbers, Texts};
 pub use pairs::Pairs;
 pub use settings::Settings;

@@ -18,6 +18,7 @@ impl Raw {
 
 pub const OK: i32 = 0;
 pub const ABSENT: i32 = 1;
+pub const PRESENT: i32 = 2;
 pub const DIFFERENT: i32 = 3;
 
 pub const BUSY: i32 = -1;
@@ -74,6 +75,7 @@ pub unsafe trait Calls {
     ) -> i32;
     unsafe fn erase(handle: *mut Raw, key: Self::Key<'_>, value: *mut u64) -> i32;
     unsafe fn erase_if(handle: *mut Raw, key: Self::Key<'_>, value: u64) -> i32;
+    unsafe fn rename(handle: *mut Raw, from: Self::Key<'_>, to: Self::Key<'_>) -> i32;
     unsafe fn len(handle: *mut Raw, count: *mut u64) -> i32;
     unsafe fn capacity(handle: *mut Raw, slots: *mut u64) -> i32;
     unsafe fn reserve(handle: *mut Raw, slots: u64) -> i32;
@@ -103,14 +105,31 @@ macro_rules! call {
             unsafe { $function(handle, $($value,)* $($part),*) }
         }
     };
+    // Of two such keys.
+    ($name:ident = $function:ident of two $key:ident: $taken:ty as
+        [$($in_key:ident: $in_key_type:ty = $value:expr),*]) => {
+        unsafe fn $name(handle: *mut Raw, from: $taken, to: $taken) -> i32 {
+            extern "C" {
+                fn $function(handle: *mut Raw, $(_: $in_key_type,)* $(_: $in_key_type),*) -> i32;
+            }
+            unsafe {
+                $function(
+                    handle,
+                    $({ let $key = from; $value },)*
+                    $({ let $key = to; $value }),*
+                )
+            }
+        }
+    };
 }
 
 // Implements `Calls` by functions, in its order, for keys that go to the library in these parts.
 macro_rules! calls {
     ($keys:ty, type Key<$life:lifetime> = $key_type:ty; $key:ident as $parts:tt;
         $open:ident $close:ident $find:ident $contains:ident $insert:ident $assign:ident $add:ident
-        $update:ident $swap_if:ident $erase:ident $erase_if:ident $len:ident $capacity:ident
-        $reserve:ident $clear:ident $export:ident $drain:ident $close_pairs:ident) => {
+        $update:ident $swap_if:ident $erase:ident $erase_if:ident $rename:ident $len:ident
+        $capacity:ident $reserve:ident $clear:ident $export:ident $drain:ident
+        $close_pairs:ident) => {
         unsafe impl Calls for $keys {
             type Key<$life> = $key_type;
 
@@ -126,6 +145,7 @@ macro_rules! calls {
                 $parts(from: u64, to: u64, seen: *mut u64));
             call!(erase = $erase of $key: Self::Key<'_> as $parts(value: *mut u64));
             call!(erase_if = $erase_if of $key: Self::Key<'_> as $parts(value: u64));
+            call!(rename = $rename of two $key: Self::Key<'_> as $parts);
             call!(len = $len(handle: *mut Raw, count: *mut u64) -> i32);
             call!(capacity = $capacity(handle: *mut Raw, slots: *mut u64) -> i32);
             call!(reserve = $reserve(handle: *mut Raw, slots: u64) -> i32);
@@ -140,8 +160,8 @@ macro_rules! calls {
 calls! {
     Numbers, type Key<'a> = u64; key as [number: u64 = key];
     cuckoo_open_with cuckoo_close cuckoo_find cuckoo_contains cuckoo_insert cuckoo_assign cuckoo_add
-    cuckoo_update cuckoo_swap_if cuckoo_erase cuckoo_erase_if cuckoo_len cuckoo_capacity
-    cuckoo_reserve cuckoo_clear cuckoo_export cuckoo_drain cuckoo_pairs_close
+    cuckoo_update cuckoo_swap_if cuckoo_erase cuckoo_erase_if cuckoo_rename cuckoo_len
+    cuckoo_capacity cuckoo_reserve cuckoo_clear cuckoo_export cuckoo_drain cuckoo_pairs_close
 }
 
 // A slice of no bytes has a pointer that isn't null, which is what the library wants.
@@ -150,8 +170,9 @@ calls! {
     key as [at: *const u8 = key.as_ptr(), length: usize = key.len()];
     cuckoo_text_open_with cuckoo_text_close cuckoo_text_find cuckoo_text_contains cuckoo_text_insert
     cuckoo_text_assign cuckoo_text_add cuckoo_text_update cuckoo_text_swap_if cuckoo_text_erase
-    cuckoo_text_erase_if cuckoo_text_len cuckoo_text_capacity cuckoo_text_reserve cuckoo_text_clear
-    cuckoo_text_export cuckoo_text_drain cuckoo_text_pairs_close
+    cuckoo_text_erase_if cuckoo_text_rename cuckoo_text_len cuckoo_text_capacity
+    cuckoo_text_reserve cuckoo_text_clear cuckoo_text_export cuckoo_text_drain
+    cuckoo_text_pairs_close
 }
 
 extern "C" {

@@ -1,5 +1,5 @@
 //! Handles that go to threads.
-use cuckoo_map::{Compared, Error, Handle, Settings, TextHandle};
+use cuckoo_map::{Compared, Error, Handle, Renamed, Settings, TextHandle};
 use std::sync::atomic::{AtomicBool, Ordering};
 use std::thread;
 use std::time::{Duration, Instant};
@@ -117,6 +117,11 @@ fn each_call_answers_as_a_plain_map() {
     assert_eq!(handle.upsert("b", |value| value + 1, 9), Ok(true));
     assert_eq!(handle.erase_if("b", 9), Ok(Compared::Equal));
     assert_eq!(handle.contains(&vec![b'b']), Ok(false));
+    assert_eq!(handle.rename("b", "c"), Ok(Renamed::Unbound));
+    assert_eq!(handle.rename("a", ""), Ok(Renamed::Occupied));
+    assert_eq!(handle.rename("a", "b"), Ok(Renamed::Done));
+    assert_eq!(handle.find("a"), Ok(None));
+    assert_eq!(handle.rename(b"b", &String::from("a")), Ok(Renamed::Done));
     assert_eq!(handle.erase(&String::from("a")), Ok(Some(8)));
     assert_eq!(handle.pairs().unwrap().collect::<Vec<_>>(), [(vec![], 4)]);
     let slots = handle.capacity().unwrap();
@@ -140,5 +145,9 @@ fn refusals_have_names() {
     let mut texts = settings.open_texts().unwrap().pop().unwrap();
     assert_eq!(texts.insert(&[0; 65], 1), Err(Error::TooLong));
     assert_eq!(texts.insert(&[0; 64], 1), Ok(true));
+    assert_eq!(texts.rename(&[0; 64], &[0; 65]), Err(Error::TooLong));
+    assert_eq!(texts.rename(&[0; 65], &[0; 64]), Err(Error::TooLong));
+    assert_eq!(texts.rename(&[0; 64], &[0; 64]), Err(Error::Twice));
+    assert_eq!(texts.find(&[0; 64]), Ok(Some(1)));
     assert_eq!(Error::TooLong.to_string(), "a text has more than 64 bytes");
 }
