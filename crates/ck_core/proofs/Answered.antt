@@ -1,21 +1,23 @@
 -- What a step leaves its caller with.
-use Rattle.std.proofs.Common.{◌≡◌, ℕ, List, ◌++◌, [], ◌∷◌, set, sym, refl, ap, ◌∙◌, subst, ⊎_elim, arith}
+use Rattle.std.proofs.Common.{◌≡◌, ℕ, List, ◌++◌, [], ◌∷◌, set, sym, refl, ap, ◌∙◌, subst, ⊎_elim, arith, Some}
 use mathlib.Core.Option.{some, some-injective}
 use lib.ListN.{get_elem?}
 use Rattle.std.specs.FinMap.{empty}
 use Rattle.ck_model.specs.declared.history.Entry.{Entry}
 use Rattle.ck_model.specs.Promise.{StartsWith}
-use Rattle.ck_model.specs.Contents.{bindings, whole}
+use Rattle.ck_model.specs.Contents.{Stripes, bindings, whole}
 use Rattle.ck_model.specs.Numbered.{IsIn, numbers}
 use Rattle.ck_model.proofs.Histories.{starts_itself, leads_to, leads_snoc}
 use Rattle.ck_model.proofs.Numbered.{in_held}
 use Rattle.ck_core.proofs.Callers.{own_held}
 use Rattle.ck_core.specs.declared.view.View.{View}
 use Rattle.ck_core.specs.State.{Configuration, HasNumber, owned}
-use Rattle.ck_core.specs.Steps.{deciding, joining, spent}
+use Rattle.ck_core.specs.declared.trace.LockStep.TheVariants.{Gave}
+use Rattle.ck_core.specs.Steps.{traced, watching, deciding, joining, spent}
 use Rattle.ck_core.specs.Steps.Label.{Take, FindHeld, Give, Decide, GiveRest, Renew, Look, Open, Tell, Join}
 use Rattle.ck_core.specs.Laws.{Unanswered, LawOfReplies, LawOfFindings, LawOfOneCaller, LawOfAnswers, LawOfFollowing, LawOfOtherSteps}
 use Rattle.ck_core.proofs.Lists.{set_there, set_else, at_longer}
+use Rattle.ck_core.proofs.Traces.{one_number}
 use Rattle.ck_core.proofs.Keeps.{step_keeps}
 use Rattle.ck_core.proofs.Shown.{shows, answered}
 
@@ -29,11 +31,14 @@ module _ {V : Type 0} where
   split_view views after id v x y w at is there =
       some-injective x w (sym (at_longer (set views id x) (y ∷ []) id x (set_there views id v x at)) ∙ (ap (λ l. get_elem? l id) (sym is) ∙ there))
 
+  -- what a decision leaves of its caller's view
+  abbrev pub decided : Configuration V → ℕ → Stripes V → List (Entry V) → Entry V → View V → View V
+  decided s t ks log e v = watching (traced s (deciding v t ks log e) Gave t) (deciding v t ks log e)
+
   pub law_of_answers : LawOfAnswers V
   law_of_answers k min_load callers id t ks e log s s2 v w law d at there =
       let same : d.0 ≡ v = some-injective d.0 v (sym d.2 ∙ at) in
-      let x : View V = deciding v t ks log e in
-      let is : x ≡ w = ap (λ u. deciding u t ks log e) (sym same) ∙ set_view s.views s2.views id d.0 (deciding d.0 t ks log e) w d.2 (ap (λ (u : Configuration V). u.views) d.6) there in
+      let is : decided s t ks log e v ≡ w = ap (decided s t ks log e) (sym same) ∙ set_view s.views s2.views id d.0 (decided s t ks log e d.0) w d.2 (ap (λ (u : Configuration V). u.views) d.6) there in
       answered k callers log v w e (ap (λ (u : View V). u.by) (sym same) ∙ d.3) (shows k callers log s law id v at)
       (shows k callers (log ++ e ∷ []) s2 (step_keeps k min_load callers log id (Decide t ks e) s s2 law d) id w there)
       (ap (λ (u : View V). u.seen) (sym is)) (ap (λ (u : View V). u.mine) (sym is))
@@ -41,8 +46,7 @@ module _ {V : Type 0} where
   pub law_of_following : LawOfFollowing V
   law_of_following k min_load callers id t ks e log s s2 v w law d at there which =
       let same : d.0 ≡ v = some-injective d.0 v (sym d.2 ∙ at) in
-      let x : View V = deciding v t ks log e in
-      let is : x ≡ w = ap (λ u. deciding u t ks log e) (sym same) ∙ set_view s.views s2.views id d.0 (deciding d.0 t ks log e) w d.2 (ap (λ (u : Configuration V). u.views) d.6) there in
+      let is : decided s t ks log e v ≡ w = ap (decided s t ks log e) (sym same) ∙ set_view s.views s2.views id d.0 (decided s t ks log e d.0) w d.2 (ap (λ (u : Configuration V). u.views) d.6) there in
       let shown = shows k callers log s law id v at in
       let all : v.seen ≡ log = ⊎_elim (λ one. shown.alone e.by (ap (λ (u : View V). u.by) (sym same) ∙ d.3) one) (λ held. shown.all_seen held) which in
       ap (λ (u : View V). u.seen) (sym is) ∙ ap (λ l. l ++ e ∷ []) (sym all)
@@ -63,7 +67,7 @@ module _ {V : Type 0} where
         own_number = m.1;
         holder = (owner, z.0, z.1, held, n.1);
         apart = λ e.
-            let there : owner ≡ id = sym (law.callers_known.keeps owner z.0 z.1 n.0 its) ∙ (ap law.callers_known.keeper (sym e) ∙ law.callers_known.keeps id v at m.0 mine) in
+            let there = one_number callers log s.views owner id z.0 v law.callers_known z.1 at m.0 (n.1 ∙ ap Some (sym e)) m.1 in
             let one : z.0 ≡ d.0 = some-injective z.0 d.0 (sym z.1 ∙ (ap (get_elem? s.views) there ∙ d.1)) in
             d.4 (subst (λ (u : View V). IsIn t (numbers u.held)) one held);
         within = ((law.callers_known.knows id v at).within m.0 mine, (law.callers_known.knows owner z.0 z.1).within n.0 its);

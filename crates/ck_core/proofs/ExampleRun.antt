@@ -123,6 +123,7 @@ pub opens : ExampleOpens
 opens = record {
   contents = λ _. empty_stripe;
   words = refl;
+  no_step = refl;
   homes_sized = refl;
   homes = homes;
   lawful = both_lawful empty_stripe (empty_sound 0 (omega arith)) refl;

@@ -16,11 +16,14 @@ use Rattle.ck_model.specs.Laws.{ArePartOf}
 use Rattle.ck_model.proofs.Numbered.{Some-injective, in_held, held_of_in, held_either, held_first, held_second, in_either, in_first, in_second, distinct_between, distinct_cut, listed_at, over_miss, over_hit, in_without}
 use Rattle.ck_model.proofs.Sections.{section_of_whole, identity_of_whole, power_after}
 use Rattle.ck_model.proofs.Histories.{leads_snoc}
-use Rattle.ck_core.specs.State.{Configuration, HasNumber, IsPart, own, owned, Places, Knows, HistoryInvariant}
-use Rattle.ck_core.specs.Steps.{Label, taken, seen_as, sent_home, giving, renewing, deciding, newcomer, message_of, spent, joining, split_as, joined, Transition, grown, Execution}
+use Rattle.ck_core.specs.Trace.{misses}
+use Rattle.ck_core.specs.State.{Configuration, HasNumber, IsPart, own, owned, Places, Knows, Watches, Traces, HistoryInvariant}
+use Rattle.ck_core.specs.declared.trace.LockStep.TheVariants.{Took, Missed, Gave}
+use Rattle.ck_core.specs.Steps.{Label, number_of, traced, watching, taken, missed, seen_as, sent_home, giving, renewing, deciding, beginner, message_of, spent, joining, split_as, joined, Transition, grown, Execution}
 use Rattle.ck_core.specs.Steps.Label.{Take, FindHeld, Give, Decide, GiveRest, Renew, Look, Open, Tell, Join}
 use Rattle.ck_core.proofs.Lists.{at_within, each_set, each_snoc, set_else}
 use Rattle.ck_core.proofs.Places.{places_keep, places_take, places_back, places_split}
+use Rattle.ck_core.proofs.Traces.{traces_take, traces_miss, traces_back, traces_keep, traces_split, traces_join, watches_nothing, watches_as}
 use Rattle.ck_core.proofs.Callers.{knows_all, knows_same, callers_set, callers_add, callers_split, callers_join}
 
 -- a stripe that went home isn't held
@@ -39,6 +42,10 @@ module _ {V : Type 0} (k : Layout) (callers : ℕ) (log : List (Entry V)) (s : C
   abbrev HasSeen : List (Entry V) → ℕ → View V → Type 0
   HasSeen l _ u = HasAll k u.held → u.seen ≡ l
 
+  -- what was watched doesn't change, for a view with no number besides
+  watched_as : (w : View V) → w.watched ≡ v.watched → ((m : ℕ) → IsIn m (numbers (owned w)) → IsIn m (numbers (owned v))) → ((m : ℕ) → w.by ≡ Some m → misses m w.watched ≡ w.found) → Watches s.trace w
+  watched_as w = watches_as s.trace v w (law.traced.watched id v at)
+
   -- where no stripe is held, not all are
   not_all : (hs : Stripes V) → hs ≡ [] → ¬ (HasAll k hs)
   not_all hs none all = let one : 1 ≤ 2 ^ k.s = one-le-pow k.s 2 (omega arith) in subst (λ (l : Stripes V). IsIn 0 (numbers l)) none (all 0 (omega arith))
@@ -49,33 +56,47 @@ module _ {V : Type 0} (k : Layout) (callers : ℕ) (log : List (Entry V)) (s : C
   pub take_keeps : (t : ℕ) (c : Content V) → t < 2 ^ k.s → get_or s.words t 0 ≡ 0 → get_elem? s.homes t ≡ some (Some c) → HasNumber v → HistoryInvariant k callers log (taken s id v t c log)
   take_keeps t c l free there number =
       let e : law.contents t ≡ c = Some-injective (law.contents t) c (some-injective (Some (law.contents t)) (Some c) (sym (law.places.at_home t l free) ∙ there)) in
-      let w : View V = record v { held = (t, c) ∷ v.held; seen = log } in
+      let w : View V = watching (traced s v Took t) (record v { held = (t, c) ∷ v.held; seen = log }) in
       record {
         contents = law.contents;
-        places = places_take (2 ^ k.s) s law.contents law.places id v at t w l free (ap (λ (x : Content V). (t, x) ∷ v.held) (sym e));
+        places = places_take (2 ^ k.s) s law.contents law.places id v at t (traced s v Took t) w l free (ap (λ (x : Content V). (t, x) ∷ v.held) (sym e));
         holders = each_set IsHolder s.views id w (λ q d _. number) (λ j u _ a. law.holders j u a);
         all_seen = each_set (HasSeen log) s.views id w (λ _. refl) (λ j u _ a. law.all_seen j u a);
         lawful = law.lawful;
         told = each_set (Told law.contents) s.views id w (law.told id v at) (λ j u _ a. law.told j u a);
         callers_known = callers_set callers log s.views id v w law.callers_known at refl (knows_all callers log v w (law.callers_known.knows id v at) refl refl refl refl refl);
+        traced = traces_take (2 ^ k.s) callers log s law.contents law.places law.callers_known law.traced id v at number.0 number.1 t c log l free;
         legal = law.legal;
       }
 
   -- a step that changes what the view knows, and no word
-  pub seen_keeps : (w : View V) → w.held ≡ v.held → w.by ≡ v.by → (HasAll k v.held → w.seen ≡ log) → owned w ≡ owned v → Knows callers log w → Told law.contents id w → HistoryInvariant k callers log (seen_as s id w)
-  seen_keeps w held by seen same kn told = record {
+  pub seen_keeps : (w : View V) → w.held ≡ v.held → w.by ≡ v.by → (HasAll k v.held → w.seen ≡ log) → owned w ≡ owned v → Knows callers log w → Told law.contents id w → Watches s.trace w → HistoryInvariant k callers log (seen_as s id w)
+  seen_keeps w held by seen same kn told watches = record {
     contents = law.contents;
-    places = places_keep (2 ^ k.s) s law.contents law.places id v at w held;
+    places = places_keep (2 ^ k.s) s law.contents law.places id v at s.trace w held;
     holders = each_set IsHolder s.views id w (λ q d h. let m = law.holders id v at q d (subst (λ (hs : Stripes V). Holds hs q d) held h) in (m.0, by ∙ m.1)) (λ j u _ a. law.holders j u a);
     all_seen = each_set (HasSeen log) s.views id w (λ all. seen (subst (HasAll k) held all)) (λ j u _ a. law.all_seen j u a);
     lawful = law.lawful;
     told = each_set (Told law.contents) s.views id w told (λ j u _ a. law.told j u a);
     callers_known = callers_set callers log s.views id v w law.callers_known at same kn;
+    traced = traces_keep (2 ^ k.s) callers log s law.contents law.places law.callers_known law.traced id v at w held by watches;
     legal = law.legal;
   }
 
-  pub find_keeps : (t : ℕ) → HistoryInvariant k callers log (seen_as s id (record v { found = t ∷ v.found }))
-  find_keeps t = let w : View V = record v { found = t ∷ v.found } in seen_keeps w refl refl (law.all_seen id v at) refl (knows_same callers log v w (law.callers_known.knows id v at) refl refl refl refl refl) (law.told id v at)
+  pub find_keeps : (t : ℕ) → t < 2 ^ k.s → get_or s.words t 0 ≡ 1 → ¬ (IsIn t (numbers v.held)) → HasNumber v → HistoryInvariant k callers log (missed s id v t)
+  find_keeps t l one not_own number =
+      let w : View V = watching (traced s v Missed t) (record v { found = t ∷ v.found }) in
+      record {
+        contents = law.contents;
+        places = places_keep (2 ^ k.s) s law.contents law.places id v at (traced s v Missed t) w refl;
+        holders = each_set IsHolder s.views id w (law.holders id v at) (λ j u _ a. law.holders j u a);
+        all_seen = each_set (HasSeen log) s.views id w (law.all_seen id v at) (λ j u _ a. law.all_seen j u a);
+        lawful = law.lawful;
+        told = each_set (Told law.contents) s.views id w (law.told id v at) (λ j u _ a. law.told j u a);
+        callers_known = callers_set callers log s.views id v w law.callers_known at refl (knows_same callers log v w (law.callers_known.knows id v at) refl refl refl refl refl);
+        traced = traces_miss (2 ^ k.s) callers log s law.contents law.places law.callers_known law.traced id v at number.0 number.1 t l one not_own law.holders;
+        legal = law.legal;
+      }
 
   max_le : (a b c : ℕ) → a ≤ c → b ≤ c → max a b ≤ c
   max_le a b c h g = omega arith
@@ -107,23 +128,32 @@ module _ {V : Type 0} (k : Layout) (callers : ℕ) (log : List (Entry V)) (s : C
 
   pub look_keeps : (p : ℕ) → ((u : ℕ) (c : Content V) → IsPart s u c → p ≤ c.power) → HistoryInvariant k callers log (seen_as s id (record v { seen = log; told = p }))
   look_keeps p h = let w : View V = record v { seen = log; told = p } in
-      seen_keeps w refl refl (λ _. refl) refl (knows_all callers log v w (law.callers_known.knows id v at) refl refl refl refl refl) (λ t l. (h t (law.contents t) (whole_is_part t l), (law.told id v at t l).1))
+      seen_keeps w refl refl (λ _. refl) refl (knows_all callers log v w (law.callers_known.knows id v at) refl refl refl refl refl) (λ t l. (h t (law.contents t) (whole_is_part t l), (law.told id v at t l).1)) (watched_as w refl (λ m i. i) (law.traced.watched id v at).missed)
 
   same_power : (w : ℕ → Content V) → Lawful k (whole k w) → (t u : ℕ) (c : Content V) → t < 2 ^ k.s → u < 2 ^ k.s → w t ≡ c → c.power ≤ (w u).power
   same_power w lawful t u c l m e = le_of_eq (ap (λ (x : Content V). x.power) (sym e) ∙ lawful.one_power t u (w t) (w u) (listed_at (2 ^ k.s) w t l) (listed_at (2 ^ k.s) w u m))
 
+  -- a stripe goes home
+  back : (ks : Stripes V) (t : ℕ) (c : Content V) (w : View V) → numbers ks ≡ numbers v.held → Holds ks t c → w.held ≡ without t ks → w.by ≡ v.by → w.found ≡ v.found → Traces (2 ^ k.s) (sent_home s id t c w)
+  back ks t c w same here is by found =
+      let old = held_of_in v.held t (subst (IsIn t) same (in_held ks t c here)) in
+      let number = law.holders id v at t old.0 old.1 in
+      traces_back (2 ^ k.s) callers log s law.contents law.places law.callers_known law.traced id v at number.0 number.1 ks t c w same here is by found
+
   pub give_keeps : (t : ℕ) (c : Content V) (g : Option (Name × Reason)) → Holds v.held t c → HistoryInvariant k callers log (sent_home s id t c (giving v t c v.held g))
   give_keeps t c g h =
       let w : View V = giving v t c v.held g in
+      let now : View V = watching (traced s w Gave t) w in
       let f = law.places.holds id v at t c h in
       record {
         contents = law.contents;
         places = places_back (2 ^ k.s) s law.contents law.places id v at v.held t c w law.contents refl h refl (λ q _. refl) (λ q d x. (law.places.holds id v at q d x).3);
-        holders = each_set IsHolder s.views id w (λ q d _. law.holders id v at t c h) (λ j u _ a. law.holders j u a);
-        all_seen = each_set (HasSeen log) s.views id w (λ all. absurd (gone_home t v.held (all t f.0))) (λ j u _ a. law.all_seen j u a);
+        holders = each_set IsHolder s.views id now (λ q d _. law.holders id v at t c h) (λ j u _ a. law.holders j u a);
+        all_seen = each_set (HasSeen log) s.views id now (λ all. absurd (gone_home t v.held (all t f.0))) (λ j u _ a. law.all_seen j u a);
         lawful = law.lawful;
-        told = each_set (Told law.contents) s.views id w (λ u m. (max_le v.told (c.power) ((law.contents u).power) (law.told id v at u m).0 (same_power law.contents law.lawful t u c f.0 m f.3), (law.told id v at u m).1)) (λ j u _ a. law.told j u a);
-        callers_known = callers_set callers log s.views id v w law.callers_known at refl (knows_same callers log v w (law.callers_known.knows id v at) refl refl refl refl refl);
+        told = each_set (Told law.contents) s.views id now (λ u m. (max_le v.told (c.power) ((law.contents u).power) (law.told id v at u m).0 (same_power law.contents law.lawful t u c f.0 m f.3), (law.told id v at u m).1)) (λ j u _ a. law.told j u a);
+        callers_known = callers_set callers log s.views id v now law.callers_known at refl (knows_same callers log v now (law.callers_known.knows id v at) refl refl refl refl refl);
+        traced = back v.held t c w refl h refl refl refl;
         legal = law.legal;
       }
 
@@ -159,21 +189,24 @@ module _ {V : Type 0} (k : Layout) (callers : ℕ) (log : List (Entry V)) (s : C
     pub decide_keeps : (e : Entry V) → v.by ≡ Some e.by → Section k v.held e.call e.reply ks → HistoryInvariant k callers (log ++ e ∷ []) (sent_home s id t c (deciding v t ks log e))
     decide_keeps e by sec =
         let w : View V = deciding v t ks log e in
+        let now : View V = watching (traced s w Gave t) w in
         let z = section_of_whole k law.contents v.held ks law.lawful agrees e.call e.reply sec in
         record {
           contents = contents2;
           places = placed sec.renewed w refl;
-          holders = each_set IsHolder s.views id w (λ q d _. (e.by, by)) (λ j u _ a. law.holders j u a);
-          all_seen = each_set (HasSeen (log ++ e ∷ [])) s.views id w (λ all. absurd (gone_home t ks (all t (below sec.renewed)))) (λ j u other a all. absurd (others_lack sec.renewed j u other a all));
+          holders = each_set IsHolder s.views id now (λ q d _. (e.by, by)) (λ j u _ a. law.holders j u a);
+          all_seen = each_set (HasSeen (log ++ e ∷ [])) s.views id now (λ all. absurd (gone_home t ks (all t (below sec.renewed)))) (λ j u other a all. absurd (others_lack sec.renewed j u other a all));
           lawful = z.0;
-          told = each_set (Told contents2) s.views id w (others_told sec.renewed id v at) (λ j u _ a. others_told sec.renewed j u a);
-          callers_known = callers_add callers log s.views id v w e law.callers_known at by refl refl refl refl refl;
+          told = each_set (Told contents2) s.views id now (others_told sec.renewed id v at) (λ j u _ a. others_told sec.renewed j u a);
+          callers_known = callers_add callers log s.views id v now e law.callers_known at by refl refl refl refl refl;
+          traced = back ks t c w sec.renewed.same here refl refl refl;
           legal = leads_snoc _ (bindings (whole k law.contents)) (bindings (whole k contents2)) log e law.legal z.1;
         }
 
     pub renew_keeps : (g : Option (Name × Reason)) → IdentitySection k v.held ks → HistoryInvariant k callers log (sent_home s id t c (renewing v t c ks g))
     renew_keeps g sec =
         let w : View V = renewing v t c ks g in
+        let now : View V = watching (traced s w Gave t) w in
         let z = identity_of_whole k law.contents v.held ks law.lawful agrees sec in
         let p = placed sec.renewed w refl in
         let at_t : contents2 t ≡ c = over_hit ks law.contents (apart sec.renewed) t c here in
@@ -182,19 +215,20 @@ module _ {V : Type 0} (k : Layout) (callers : ℕ) (log : List (Entry V)) (s : C
         record {
           contents = contents2;
           places = p;
-          holders = each_set IsHolder s.views id w (λ q x _. law.holders id v at t d.0 d.1) (λ j u _ a. law.holders j u a);
-          all_seen = each_set (HasSeen log) s.views id w (λ all. absurd (gone_home t ks (all t l))) (λ j u _ a. law.all_seen j u a);
+          holders = each_set IsHolder s.views id now (λ q x _. law.holders id v at t d.0 d.1) (λ j u _ a. law.holders j u a);
+          all_seen = each_set (HasSeen log) s.views id now (λ all. absurd (gone_home t ks (all t l))) (λ j u _ a. law.all_seen j u a);
           lawful = z.0;
-          told = each_set (Told contents2) s.views id w (λ u m. (max_le v.told (c.power) ((contents2 u).power) (others_told sec.renewed id v at u m).0 (same_power contents2 z.0 t u c l m at_t), (others_told sec.renewed id v at u m).1)) (λ j u _ a. others_told sec.renewed j u a);
-          callers_known = callers_set callers log s.views id v w law.callers_known at refl (knows_same callers log v w (law.callers_known.knows id v at) refl refl refl refl refl);
+          told = each_set (Told contents2) s.views id now (λ u m. (max_le v.told (c.power) ((contents2 u).power) (others_told sec.renewed id v at u m).0 (same_power contents2 z.0 t u c l m at_t), (others_told sec.renewed id v at u m).1)) (λ j u _ a. others_told sec.renewed j u a);
+          callers_known = callers_set callers log s.views id v now law.callers_known at refl (knows_same callers log v now (law.callers_known.knows id v at) refl refl refl refl refl);
+          traced = back ks t c w sec.renewed.same here refl refl refl;
           legal = subst (After log) (sym z.1) law.legal;
         }
 
   -- splits and joins
   split_keeps : (left right : View V) → left.held ≡ v.held → left.by ≡ v.by → left.seen ≡ v.seen → right.held ≡ [] → Told law.contents id left → Told law.contents id right
       → ((m : ℕ) → IsIn m (numbers (owned left)) → IsIn m (numbers (owned v)) × ¬ (IsIn m (numbers (owned right)))) → ((m : ℕ) → IsIn m (numbers (owned right)) → IsIn m (numbers (owned v)))
-      → Knows callers log left → Knows callers log right → HistoryInvariant k callers log (split_as s id left right)
-  split_keeps left right same by seen none tl tr of_left of_right kl kr = record {
+      → Knows callers log left → Knows callers log right → Watches s.trace left → Watches s.trace right → HistoryInvariant k callers log (split_as s id left right)
+  split_keeps left right same by seen none tl tr of_left of_right kl kr wl wr = record {
     contents = law.contents;
     places = places_split (2 ^ k.s) s law.contents law.places id v at left right same none;
     holders = each_snoc IsHolder (set s.views id left) right
@@ -206,13 +240,14 @@ module _ {V : Type 0} (k : Layout) (callers : ℕ) (log : List (Entry V)) (s : C
     lawful = law.lawful;
     told = each_snoc (Told law.contents) (set s.views id left) right (each_set (Told law.contents) s.views id left tl (λ j u _ a. law.told j u a)) tr;
     callers_known = callers_split callers log s.views id v left right law.callers_known at of_left of_right kl kr;
+    traced = traces_split (2 ^ k.s) callers log s law.contents law.places law.callers_known law.traced id v at left right same by none wl wr;
     legal = law.legal;
   }
 
-  pub open_keeps : (m : ℕ) (rest : List (ℕ × List (Entry V))) → v.others ≡ (m, []) ∷ rest → HistoryInvariant k callers log (split_as s id (record v { others = rest }) (newcomer v.settings m v.told))
+  pub open_keeps : (m : ℕ) (rest : List (ℕ × List (Entry V))) → v.others ≡ (m, []) ∷ rest → HistoryInvariant k callers log (split_as s id (record v { others = rest }) (beginner v m))
   open_keeps m rest is =
       let left : View V = record v { others = rest } in
-      let right : View V = newcomer v.settings m v.told in
+      let right : View V = beginner v m in
       let kn = law.callers_known.knows id v at in
       let ow : owned v ≡ own v.by v.mine ++ ((m, []) ∷ rest) = ap (λ (o : List (ℕ × List (Entry V))). own v.by v.mine ++ o) is in
       let there : (x : ℕ) → IsIn x (numbers (owned left)) → IsIn x (numbers (owned v)) = λ x i. subst (λ (o : List (ℕ × List (Entry V))). IsIn x (numbers o)) (sym ow)
@@ -239,6 +274,8 @@ module _ {V : Type 0} (k : Layout) (callers : ℕ) (log : List (Entry V)) (s : C
         distinct = ((λ z. z), tt);
         within = λ x i. ⊎_elim (λ e. subst (λ y. y < callers) e (kn.within m (in_held (owned v) m [] m_there))) (λ z. absurd z) i;
       })
+      (watched_as left refl there (law.traced.watched id v at).missed)
+      (watched_as right refl (λ x i. ⊎_elim (λ e. subst (λ y. IsIn y (numbers (owned v))) e (in_held (owned v) m [] m_there)) (λ z. absurd z) i) (λ x e. ap (λ (o : Option ℕ). misses (number_of o) v.watched) (sym e)))
 
   knows_nothing : (w : View V) → owned w ≡ [] → w.by ≡ None → StartsWith log w.seen → w.heard ≡ [] → Knows callers log w
   knows_nothing w none nobody seen heard = record {
@@ -253,7 +290,7 @@ module _ {V : Type 0} (k : Layout) (callers : ℕ) (log : List (Entry V)) (s : C
   pub tell_keeps : HistoryInvariant k callers log (split_as s id v (message_of v))
   tell_keeps =
       let kn = law.callers_known.knows id v at in
-      split_keeps v (message_of v) refl refl refl refl (law.told id v at) (λ t l. ((law.told id v at t l).0, zero-le)) (λ m i. (i, λ h. h)) (λ m h. absurd h) kn (knows_nothing (message_of v) refl refl kn.seen refl)
+      split_keeps v (message_of v) refl refl refl refl (law.told id v at) (λ t l. ((law.told id v at t l).0, zero-le)) (λ m i. (i, λ h. h)) (λ m h. absurd h) kn (knows_nothing (message_of v) refl refl kn.seen refl) (law.traced.watched id v at) (watches_nothing s.trace (message_of v) refl refl refl)
 
   pub join_keeps : (other : ℕ) (w : View V) → get_elem? s.views other ≡ some w → ¬ (other ≡ id) → w.held ≡ [] → HistoryInvariant k callers log (joined s id (joining v w) other)
   join_keeps other w there apart empty_handed =
@@ -269,7 +306,7 @@ module _ {V : Type 0} (k : Layout) (callers : ℕ) (log : List (Entry V)) (s : C
       (in_either (own v.by v.mine) (owned w ++ v.others) m i) in
       record {
         contents = law.contents;
-        places = places_keep (2 ^ k.s) s1 law.contents (places_keep (2 ^ k.s) s law.contents law.places id v at both refl) other w there1 spent (sym empty_handed);
+        places = places_keep (2 ^ k.s) s1 law.contents (places_keep (2 ^ k.s) s law.contents law.places id v at s.trace both refl) other w there1 s.trace spent (sym empty_handed);
         holders = each_set IsHolder (set s.views id both) other spent (λ q d h. absurd h)
             (λ j u _ a. each_set IsHolder s.views id both (λ q d h. law.holders id v at q d h) (λ j u _ a. law.holders j u a) j u a);
         all_seen = each_set (HasSeen log) (set s.views id both) other spent (λ all. absurd (not_all [] refl all))
@@ -289,6 +326,7 @@ module _ {V : Type 0} (k : Layout) (callers : ℕ) (log : List (Entry V)) (s : C
               within = λ m i. ⊎_elim (kv.within m) (kw.within m) (of_both m i);
             })
             refl (knows_nothing spent refl refl (log, refl) refl);
+        traced = traces_join (2 ^ k.s) callers log s law.contents law.places law.callers_known law.traced id v at other w there of_both;
         legal = law.legal;
       }
 
@@ -296,7 +334,7 @@ module _ {V : Type 0} (k : Layout) (min_load callers : ℕ) where
   -- a step of any kind
   pub step_keeps : (log : List (Entry V)) (id : ℕ) (m : Label V) (s s2 : Configuration V) → HistoryInvariant k callers log s → Transition k min_load log id m s s2 → HistoryInvariant k callers (grown log m) s2
   step_keeps log id (Take t) s s2 law d = subst (HistoryInvariant k callers log) (sym d.8) (take_keeps k callers log s law id d.0 d.2 t d.1 d.3 d.4 d.6 d.7)
-  step_keeps log id (FindHeld t) s s2 law d = subst (HistoryInvariant k callers log) (sym d.6) (find_keeps k callers log s law id d.0 d.1 t)
+  step_keeps log id (FindHeld t) s s2 law d = subst (HistoryInvariant k callers log) (sym d.6) (find_keeps k callers log s law id d.0 d.1 t d.2 d.3 d.4 d.5)
   step_keeps log id (Give t g) s s2 law d = subst (HistoryInvariant k callers log) (sym d.5) (give_keeps k callers log s law id d.0 d.2 t d.1 g d.3)
   step_keeps log id (Decide t ks e) s s2 law d = subst (HistoryInvariant k callers (log ++ e ∷ [])) (sym d.6) (decide_keeps k callers log s law id d.0 d.2 ks t d.1 d.4 e d.3 d.5)
   step_keeps log id (GiveRest t) s s2 law d = subst (HistoryInvariant k callers log) (sym d.4) (give_keeps k callers log s law id d.0 d.2 t d.1 None d.3)

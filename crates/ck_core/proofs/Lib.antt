@@ -1,6 +1,8 @@
 pub mod Lists
+pub mod LegalTraces
 pub mod Places
 pub mod Callers
+pub mod Traces
 pub mod Keeps
 pub mod Openings
 pub mod Statements

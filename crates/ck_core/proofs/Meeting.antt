@@ -9,14 +9,15 @@ use Rattle.ck_model.specs.Contents.{Stripes, IsSound, Lawful}
 use Rattle.ck_model.specs.Sections.{IdentitySection}
 use Rattle.ck_core.specs.declared.view.View.{View}
 use Rattle.ck_core.specs.State.{Configuration, IsPart}
-use Rattle.ck_core.specs.Steps.{initial_view, message_of, spent}
-use Rattle.ck_core.specs.Example.{two_stripes, settings, empty_stripe, first, second, alone, MeetingOpens, MeetingRuns}
+use Rattle.ck_core.specs.Steps.{watching, initial_view, message_of, spent}
+use Rattle.ck_core.specs.Example.{two_stripes, settings, empty_stripe, first, second, short_trace, alone, MeetingOpens, MeetingRuns}
 use Rattle.ck_core.proofs.ExampleRun.{opens, empty_sound}
 
 pub meeting_opens : MeetingOpens
 meeting_opens = record {
   contents = opens.contents;
   words = refl;
+  no_step = refl;
   homes_sized = refl;
   homes = opens.homes;
   lawful = opens.lawful;
@@ -62,7 +63,7 @@ unchanged = record {
 
 -- the state in which the other caller looks
 abbrev joined_now : Configuration ℕ
-joined_now = record { words = 0 ∷ 0 ∷ []; homes = Some empty_stripe ∷ Some empty_stripe ∷ []; views = first ∷ record second { heard_told = 1 } ∷ spent ∷ [] }
+joined_now = record { words = 0 ∷ 0 ∷ []; homes = Some empty_stripe ∷ Some empty_stripe ∷ []; views = watching short_trace first ∷ record second { heard_told = 1 } ∷ spent ∷ []; trace = short_trace }
 
 no_less : (c : Content ℕ) → empty_stripe ≡ c → 1 ≤ c.power
 no_less c e = let f = ap (λ (x : Content ℕ). x.power) e in omega arith
@@ -77,7 +78,7 @@ holds_none : (u : ℕ) (c : Content ℕ) (v w : View ℕ) → v ≡ w → v.held
 holds_none u c v w e none h = subst (λ hs. Holds hs u c) none (subst (λ (x : View ℕ). Holds x.held u c) (sym e) h)
 
 no_holder : (u : ℕ) (c : Content ℕ) (j : ℕ) (v : View ℕ) → get_elem? joined_now.views j ≡ some v → ¬ (Holds v.held u c)
-no_holder u c zero v e = holds_none u c first v (some-injective first v e) refl
+no_holder u c zero v e = holds_none u c (watching short_trace first) v (some-injective (watching short_trace first) v e) refl
 no_holder u c (suc zero) v e = holds_none u c (record second { heard_told = 1 }) v (some-injective (record second { heard_told = 1 }) v e) refl
 no_holder u c (suc (suc zero)) v e = holds_none u c spent v (some-injective spent v e) refl
 no_holder u c (suc (suc (suc j))) v e = absurd (some-ne-none v (sym e))

@@ -9,8 +9,11 @@ use Rattle.ck_model.specs.Numbered.{IsIn, AreDistinct, numbers, Holds}
 use Rattle.ck_model.specs.declared.contents.Content.{Content}
 use Rattle.ck_model.specs.Contents.{Layout}
 use Rattle.ck_model.specs.Sections.{HasAll}
-use Rattle.ck_core.specs.State.{Configuration, HasNumber, owned, Knows, HistoryInvariant}
+use Rattle.ck_core.specs.declared.trace.LockEvent.{LockEvent}
+use Rattle.ck_core.specs.Trace.{IsLegalTrace, holder}
+use Rattle.ck_core.specs.State.{Configuration, HasNumber, owned, Knows, Watches, HistoryInvariant}
 use Rattle.ck_core.specs.Steps.{Label, Execution, initial_view, Opening}
+use Rattle.ck_core.proofs.LegalTraces.{legal_none}
 use Rattle.ck_core.proofs.Keeps.{run_keeps}
 
 module _ {V : Type 0} (k : Layout) (set : Settings) (callers p : ℕ) (s : Configuration V) (o : Opening k set callers p s) where
@@ -59,6 +62,12 @@ module _ {V : Type 0} (k : Layout) (set : Settings) (callers p : ℕ) (s : Confi
         within = λ m h. (f m (subst (IsIn m) (numbers_unused (j ∷ ms)) h)).0;
       });
       no_others = λ m _. refl;
+    };
+    traced = record {
+      legal = subst IsLegalTrace (sym o.no_step) legal_none;
+      free = λ t l _. ap (λ (es : List LockEvent). holder es t) o.no_step;
+      held = each_new (λ _ v. (t : ℕ) (c : Content V) → Holds v.held t c → holder s.trace t ≡ v.by) (λ j ms _ _ t c h. absurd h);
+      watched = each_new (λ _ v. Watches s.trace v) (λ j ms _ _. record { unseen = []; begins = o.no_step; by_others = λ _ _. tt; missed = λ _ _. refl });
     };
     legal = sym o.empty_whole;
   }

@@ -9,7 +9,9 @@ use Rattle.ck_model.specs.Numbered.{IsIn, AreDistinct, numbers, Holds, without}
 use Rattle.ck_model.specs.declared.contents.Content.{Content}
 use Rattle.ck_model.specs.Contents.{Stripes}
 use Rattle.ck_core.specs.State.{Configuration, Places}
-use Rattle.ck_core.specs.Steps.{seen_as, sent_home, split_as}
+use Rattle.ck_core.specs.declared.trace.LockStep.TheVariants.{Gave}
+use Rattle.ck_core.specs.declared.trace.LockEvent.{LockEvent}
+use Rattle.ck_core.specs.Steps.{traced, watching, sent_home, split_as}
 use Rattle.ck_core.proofs.Lists.{set_here, set_else, set_there, each_set, each_snoc, at_longer}
 use Rattle.ck_model.proofs.Numbered.{if_same, if_else, in_held, held_of_in, in_without, kept_without, distinct_without}
 
@@ -23,8 +25,8 @@ module _ {V : Type 0} where
       (λ other. (h.0, set_else views id o w other ∙ h.1, others other h.0 h.1 h.2))
 
   module _ (n : ℕ) (s : Configuration V) (whole : ℕ → Content V) (r : Places n s whole) (id : ℕ) (v : View V) (at : get_elem? s.views id ≡ some v) where
-    pub places_keep : (w : View V) → w.held ≡ v.held → Places n (seen_as s id w) whole
-    places_keep w same = record {
+    pub places_keep : (trace : List LockEvent) (w : View V) → w.held ≡ v.held → Places n (record s { views = set s.views id w; trace = trace }) whole
+    places_keep trace w same = record {
       owner = r.owner;
       words_sized = r.words_sized;
       homes_sized = r.homes_sized;
@@ -38,8 +40,8 @@ module _ {V : Type 0} where
     }
 
     -- a stripe that is at home is taken
-    pub places_take : (t : ℕ) (w : View V) → t < n → get_or s.words t 0 ≡ 0 → w.held ≡ (t, whole t) ∷ v.held → Places n (record { words = set s.words t 1; homes = set s.homes t None; views = set s.views id w }) whole
-    places_take t w l free is =
+    pub places_take : (t : ℕ) (trace : List LockEvent) (w : View V) → t < n → get_or s.words t 0 ≡ 0 → w.held ≡ (t, whole t) ∷ v.held → Places n (record { words = set s.words t 1; homes = set s.homes t None; views = set s.views id w; trace = trace }) whole
+    places_take t trace w l free is =
         let words = s.words in
         let words_sized = r.words_sized in
         let now : get_or (set words t 1) t 0 ≡ 1 = get_or-set_same words t 1 0 (omega arith) in
@@ -76,6 +78,7 @@ module _ {V : Type 0} where
         → ((q : ℕ) → ¬ (IsIn q (numbers ks)) → whole2 q ≡ whole q) → ((q : ℕ) (d : Content V) → Holds ks q d → whole2 q ≡ d)
         → Places n (sent_home s id t c w) whole2
     places_back ks t c w whole2 same here is miss hit =
+        let now : View V = watching (traced s w Gave t) w in
         let words = s.words in
         let words_sized = r.words_sized in
         let homes_sized = r.homes_sized in
@@ -97,18 +100,18 @@ module _ {V : Type 0} where
           is_held = λ q k one. dite (ℕ_discrete q t)
               (λ e. let z : get_or (set words t 0) q 0 ≡ 0 = ap (λ x. get_or (set words t 0) x 0) e ∙ zero_now in absurd (omega arith))
               (λ ne. let before = r.is_held q k (sym (get_or-set_other words t q 0 0 ne) ∙ one) in
-              still_owned (λ hs. Holds hs q (whole q)) (λ hs. Holds hs q (whole2 q)) s.views id v w at (r.owner q)
+              still_owned (λ hs. Holds hs q (whole q)) (λ hs. Holds hs q (whole2 q)) s.views id v now at (r.owner q)
               (λ h. let d = held_of_in ks q (subst (IsIn q) (sym same) (in_held v.held q (whole q) h)) in
               subst (λ (hs : Stripes V). Holds hs q (whole2 q)) (sym is) (subst (λ (x : Content V). Holds (without t ks) q x) (sym (hit q d.0 d.1)) (kept_without t ks q d.0 ne d.1)))
               (λ other u _ h. subst (λ (x : Content V). Holds u.held q x) (sym (not_mine q other)) h) before);
           is_out = λ q k one. dite (ℕ_discrete q t) (λ e. let z : get_or (set words t 0) q 0 ≡ 0 = ap (λ x. get_or (set words t 0) x 0) e ∙ zero_now in absurd (omega arith))
               (λ ne. set_else s.homes t q (Some c) ne ∙ r.is_out q k (sym (get_or-set_other words t q 0 0 ne) ∙ one));
-          holds = each_set (λ j u. (q : ℕ) (d : Content V) → Holds u.held q d → (q < n) × (get_or (set words t 0) q 0 ≡ 1) × (r.owner q ≡ j) × (whole2 q ≡ d)) s.views id w
+          holds = each_set (λ j u. (q : ℕ) (d : Content V) → Holds u.held q d → (q < n) × (get_or (set words t 0) q 0 ≡ 1) × (r.owner q ≡ j) × (whole2 q ≡ d)) s.views id now
               (λ q d h. let f = in_without t ks q d (subst (λ (hs : Stripes V). Holds hs q d) is h) in let g = mine q (in_held ks q d f.1) in (g.0, get_or-set_other words t q 0 0 f.0 ∙ g.1, g.2, hit q d f.1))
               (λ j u other e q d h. let f = r.holds j u e q d h in
               let ne : q ≢ t = λ e2. other (sym f.2 ∙ (ap r.owner e2 ∙ t_mine.2)) in
               (f.0, get_or-set_other words t q 0 0 ne ∙ f.1, f.2, not_mine q (λ e2. other (sym f.2 ∙ e2)) ∙ f.3));
-          distinct = each_set (λ j u. AreDistinct (numbers u.held)) s.views id w
+          distinct = each_set (λ j u. AreDistinct (numbers u.held)) s.views id now
               (subst (λ (hs : Stripes V). AreDistinct (numbers hs)) (sym is) (distinct_without t ks (subst AreDistinct (sym same) (r.distinct id v at))))
               (λ j u _ e. r.distinct j u e);
         }
@@ -116,7 +119,7 @@ module _ {V : Type 0} where
     -- a new view holds nothing
     pub places_split : (left right : View V) → left.held ≡ v.held → right.held ≡ [] → Places n (split_as s id left right) whole
     places_split left right same none =
-        let p = places_keep left same in
+        let p = places_keep s.trace left same in
         record {
           owner = p.owner;
           words_sized = p.words_sized;

@@ -20,6 +20,7 @@ use Rattle.ck_core.specs.declared.view.View.{View}
 use Rattle.ck_core.specs.State.{Configuration, HistoryInvariant, owned, client_of}
 use Rattle.ck_core.specs.Laws.{Shows}
 use Rattle.ck_core.proofs.Keeps.{agrees}
+use Rattle.ck_core.proofs.LegalTraces.{legal_start}
 use Rattle.ck_core.proofs.Callers.{own_held}
 
 pub no_items : {A : Type 0} (l : List A) → length l ≡ 0 → l ≡ []
@@ -85,6 +86,7 @@ module _ {V : Type 0} (k : Layout) (callers : ℕ) (log : List (Entry V)) (s : C
     own = λ m e. kn.calls m v.mine (own_held v m e);
     unseen = unseen_none;
     alone = all_of_one;
+    watched = let w = law.traced.watched j v at in record { legal = legal_start s.trace v.watched w.unseen w.begins law.traced.legal; missed = w.missed };
     lawful = record {
       distinct = law.places.distinct j v at;
       sound = λ t c h. law.lawful.sound t c (there t c h);

@@ -16,6 +16,7 @@ use Rattle.ck_core.specs.Steps.{Opening, deciding}
 use Rattle.ck_core.specs.Steps.Label.{Give, Decide, GiveRest, Look, Open}
 use Rattle.ck_core.specs.Example.{two_stripes, insertion, empty_stripe, full_stripe, both, first, second, start, one_held, both_held, alone}
 use Rattle.ck_core.specs.Refusals.{LeavesHome, LeavesView, one_number, one_kept}
+use Rattle.ck_core.proofs.Answered.{decided as after_deciding}
 use Rattle.ck_core.proofs.WrongSteps.{the_view}
 
 -- the view that a step left is the one that is there
@@ -59,12 +60,12 @@ two_of_three e a b more l h g = cc
 pub decide_two_entries : (t : ℕ) (ks : Stripes ℕ) (e a b : Entry ℕ) (more : List (Entry ℕ)) → LeavesView (insertion ∷ []) both_held 1 (Decide t ks e) 1 (λ w. ¬ (w.mine ≡ a ∷ b ∷ more))
 decide_two_entries t ks e a b more min_load s2 w d at two =
     let same = the_view both_held.views 1 _ d.0 refl d.2 in
-    let after = left _ s2 1 (deciding d.0 t ks (insertion ∷ []) e) w d.6 refl at in
+    let after = left _ s2 1 (after_deciding both_held t ks (insertion ∷ []) e d.0) w d.6 refl at in
     one_of_two e a b more w.mine (ap (λ (v : View ℕ). v.mine) after ∙ ap (λ (v : View ℕ). (deciding v t ks (insertion ∷ []) e).mine) same) two
 
 pub decide_two_seen : (t : ℕ) (ks : Stripes ℕ) (e a b : Entry ℕ) (more : List (Entry ℕ)) → LeavesView (insertion ∷ []) both_held 1 (Decide t ks e) 1 (λ w. ¬ (w.seen ≡ insertion ∷ a ∷ b ∷ more))
 decide_two_seen t ks e a b more min_load s2 w d at two =
-    let after = left _ s2 1 (deciding d.0 t ks (insertion ∷ []) e) w d.6 refl at in
+    let after = left _ s2 1 (after_deciding both_held t ks (insertion ∷ []) e d.0) w d.6 refl at in
     two_of_three e a b more w.seen (ap (λ (v : View ℕ). v.seen) after) two
 
 pub one_number_twice : (set : Settings) (callers p : ℕ) → ¬ (Opening two_stripes set callers p one_number)

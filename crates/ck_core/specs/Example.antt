@@ -1,5 +1,5 @@
 -- Two runs of two callers over two stripes: one inserts and the other finds; and one begins and meets the other.
-use Rattle.std.specs.Prelude.{ℕ, List, [], ◌∷◌, drop, Some, None}
+use Rattle.std.specs.Prelude.{ℕ, List, [], ◌∷◌, ◌++◌, take, drop, Some, None}
 use Rattle.ck_model.specs.declared.history.Act.TheVariants.{Find, Insert}
 use Rattle.ck_model.specs.declared.history.Call.TheVariants.{On}
 use Rattle.ck_model.specs.declared.history.Reply.TheVariants.{Was, New}
@@ -11,7 +11,10 @@ use Rattle.ck_model.specs.Slots.{Slot}
 use Rattle.ck_model.specs.Contents.{Layout, Stripes}
 use Rattle.ck_core.specs.declared.view.View.{View}
 use Rattle.ck_core.specs.State.{Configuration}
-use Rattle.ck_core.specs.Steps.{Label, Opening, Execution, newcomer, initial_view, spent}
+use Rattle.ck_core.specs.declared.trace.LockStep.{LockStep}
+use Rattle.ck_core.specs.declared.trace.LockStep.TheVariants.{Took, Missed, Gave}
+use Rattle.ck_core.specs.declared.trace.LockEvent.{LockEvent}
+use Rattle.ck_core.specs.Steps.{Label, event, watching, Opening, Execution, newcomer, initial_view, spent}
 use Rattle.ck_core.specs.Order.{IsCall, StandInTime}
 use Rattle.ck_core.specs.Steps.Label.{Take, FindHeld, Give, Decide, GiveRest, Renew, Look, Open, Tell, Join}
 
@@ -58,20 +61,36 @@ first = newcomer settings 0 1
 abbrev pub second : View ℕ
 second = newcomer settings 1 1
 
+-- the steps on the words
+abbrev pub by_first : LockStep → ℕ → LockEvent
+by_first step t = event (Some 0) step t
+
+abbrev pub by_second : LockStep → ℕ → LockEvent
+by_second step t = event (Some 1) step t
+
+abbrev pub trace : List LockEvent
+trace = by_first Took 0 ∷ by_second Missed 0 ∷ by_first Took 1 ∷ by_first Gave 0 ∷ by_second Took 0
+    ∷ by_second Missed 1 ∷ by_first Gave 1 ∷ by_second Took 1 ∷ by_second Gave 0 ∷ by_second Gave 1 ∷ []
+
+-- the view of one who watched the first n of them
+abbrev pub watched : ℕ → View ℕ → View ℕ
+watched n v = watching (take n trace) v
+
 -- the opening
 abbrev pub start : Configuration ℕ
-start = record { words = 0 ∷ 0 ∷ []; homes = Some empty_stripe ∷ Some empty_stripe ∷ []; views = first ∷ second ∷ [] }
+start = record { words = 0 ∷ 0 ∷ []; homes = Some empty_stripe ∷ Some empty_stripe ∷ []; views = first ∷ second ∷ []; trace = [] }
 
 -- the first caller has taken stripe 0
 abbrev pub one_held : Configuration ℕ
-one_held = record { words = 1 ∷ 0 ∷ []; homes = None ∷ Some empty_stripe ∷ []; views = record first { held = (0, empty_stripe) ∷ [] } ∷ second ∷ [] }
+one_held = record { words = 1 ∷ 0 ∷ []; homes = None ∷ Some empty_stripe ∷ []; views = watched 1 (record first { held = (0, empty_stripe) ∷ [] }) ∷ second ∷ []; trace = take 1 trace }
 
 -- the first caller has decided its call, and still holds stripe 1
 abbrev pub decided : Configuration ℕ
 decided = record {
   words = 0 ∷ 1 ∷ [];
   homes = Some full_stripe ∷ None ∷ [];
-  views = record first { held = (1, empty_stripe) ∷ []; seen = insertion ∷ []; mine = insertion ∷ [] } ∷ record second { found = 0 ∷ [] } ∷ [];
+  views = watched 4 (record first { held = (1, empty_stripe) ∷ []; seen = insertion ∷ []; mine = insertion ∷ [] }) ∷ watched 2 (record second { found = 0 ∷ [] }) ∷ [];
+  trace = take 4 trace;
 }
 
 -- the second caller holds both stripes
@@ -79,7 +98,8 @@ abbrev pub both_held : Configuration ℕ
 both_held = record {
   words = 1 ∷ 1 ∷ [];
   homes = None ∷ None ∷ [];
-  views = record first { seen = insertion ∷ []; mine = insertion ∷ [] } ∷ record second { held = both full_stripe; seen = insertion ∷ []; found = 1 ∷ 0 ∷ [] } ∷ [];
+  views = watched 7 (record first { seen = insertion ∷ []; mine = insertion ∷ [] }) ∷ watched 8 (record second { held = both full_stripe; seen = insertion ∷ []; found = 1 ∷ 0 ∷ [] }) ∷ [];
+  trace = take 8 trace;
 }
 
 -- all stripes are at home
@@ -87,7 +107,8 @@ abbrev pub finish : Configuration ℕ
 finish = record {
   words = 0 ∷ 0 ∷ [];
   homes = Some full_stripe ∷ Some empty_stripe ∷ [];
-  views = record first { seen = insertion ∷ []; mine = insertion ∷ [] } ∷ record second { seen = insertion ∷ look_up ∷ []; mine = look_up ∷ []; found = 1 ∷ 0 ∷ [] } ∷ [];
+  views = watched 7 (record first { seen = insertion ∷ []; mine = insertion ∷ [] }) ∷ watched 10 (record second { seen = insertion ∷ look_up ∷ []; mine = look_up ∷ []; found = 1 ∷ 0 ∷ [] }) ∷ [];
+  trace = trace;
 }
 
 abbrev pub steps : List (ℕ × Label ℕ)
@@ -112,9 +133,15 @@ all_entries = insertion ∷ look_up ∷ second_look ∷ []
 abbrev pub more_steps : List (ℕ × Label ℕ)
 more_steps = (0, Take 0) ∷ (0, Take 1) ∷ (0, Decide 0 (both full_stripe) second_look) ∷ (0, GiveRest 1) ∷ []
 
+abbrev pub longer_trace : List LockEvent
+longer_trace = trace ++ by_first Took 0 ∷ by_first Took 1 ∷ by_first Gave 0 ∷ by_first Gave 1 ∷ []
+
 -- all stripes are at home again
 abbrev pub looked : Configuration ℕ
-looked = record finish { views = record first { seen = all_entries; mine = insertion ∷ second_look ∷ [] } ∷ record second { seen = insertion ∷ look_up ∷ []; mine = look_up ∷ []; found = 1 ∷ 0 ∷ [] } ∷ [] }
+looked = record finish {
+  views = watching longer_trace (record first { seen = all_entries; mine = insertion ∷ second_look ∷ [] }) ∷ watched 10 (record second { seen = insertion ∷ look_up ∷ []; mine = look_up ∷ []; found = 1 ∷ 0 ∷ [] }) ∷ [];
+  trace = longer_trace;
+}
 
 -- the second caller's look-up, which begins when the insertion is decided, and then the first caller's are answered calls
 abbrev pub ExampleCalls : Type 0
@@ -126,11 +153,14 @@ ExampleOrder = IsLegal all_entries × StandInTime (insertion ∷ []) (insertion 
 
 -- one caller, which keeps the number of the other
 abbrev pub alone : Configuration ℕ
-alone = record { words = 0 ∷ 0 ∷ []; homes = Some empty_stripe ∷ Some empty_stripe ∷ []; views = initial_view settings 0 1 (1 ∷ []) ∷ [] }
+alone = record { words = 0 ∷ 0 ∷ []; homes = Some empty_stripe ∷ Some empty_stripe ∷ []; views = initial_view settings 0 1 (1 ∷ []) ∷ []; trace = [] }
+
+abbrev pub short_trace : List LockEvent
+short_trace = by_first Took 0 ∷ by_first Gave 0 ∷ by_first Took 1 ∷ by_first Gave 1 ∷ []
 
 -- the other caller has begun and met the first
 abbrev pub met : Configuration ℕ
-met = record { words = 0 ∷ 0 ∷ []; homes = Some empty_stripe ∷ Some empty_stripe ∷ []; views = first ∷ record second { heard_told = 1 } ∷ spent ∷ [] }
+met = record { words = 0 ∷ 0 ∷ []; homes = Some empty_stripe ∷ Some empty_stripe ∷ []; views = watching short_trace first ∷ record second { heard_told = 1 } ∷ spent ∷ []; trace = short_trace }
 
 abbrev pub meeting : List (ℕ × Label ℕ)
 meeting = (0, Open) ∷ (0, Take 0) ∷ (0, Renew 0 ((0, empty_stripe) ∷ []) None) ∷ (0, Take 1) ∷ (0, Give 1 None) ∷ (0, Tell) ∷ (1, Join 2) ∷ (1, Look 0 1) ∷ []

@@ -11,6 +11,7 @@ use Rattle.ck_model.specs.Contents.{Layout, Stripes, bindings, Lawful}
 use Rattle.ck_model.specs.Sections.{HasAll}
 use Rattle.ck_core.specs.declared.view.View.{View}
 use Rattle.ck_core.specs.State.{Configuration, HistoryInvariant, owned, client_of}
+use Rattle.ck_core.specs.Trace.{IsLegalTrace, misses}
 use Rattle.ck_core.specs.Steps.{Label, Transition, grown, Execution, Opening}
 use Rattle.ck_core.specs.Steps.Label.{Take, FindHeld, Give, Decide, GiveRest, Renew, Look, Open, Tell, Join}
 
@@ -38,6 +39,11 @@ module _ {V : Type 0} where
   IsDeciding Tell = ⊥
   IsDeciding (Join other) = ⊥
 
+  -- What was watched is a legal trace, in which the caller missed what it found held.
+  pub record HasWatched (v : View V) : Type 0 where
+    pub legal : IsLegalTrace v.watched
+    pub missed : (m : ℕ) → v.by ≡ Some m → misses m v.watched ≡ v.found
+
   -- what a caller's own stripes and numbers show
   pub record Shows (k : Layout) (callers : ℕ) (log : List (Entry V)) (v : View V) : Type 0 where
     pub seen : StartsWith log v.seen
@@ -48,6 +54,7 @@ module _ {V : Type 0} where
     pub unseen : (m : ℕ) → v.by ≡ Some m → (more : List (Entry V)) → log ≡ v.seen ++ more → subhistory m more ≡ []
     -- the only caller has seen all
     pub alone : (m : ℕ) → v.by ≡ Some m → callers ≡ 1 → v.seen ≡ log
+    pub watched : HasWatched v
     pub lawful : Lawful k v.held
     pub inside : (t : ℕ) → IsIn t (numbers v.held) → t < 2 ^ k.s
     -- it was told no power above that of a stripe that it holds

@@ -1,3 +1,4 @@
+pub mod Trace
 pub mod State
 pub mod Steps
 pub mod Laws

@@ -7,7 +7,7 @@ use Rattle.ck_model.specs.declared.contents.Content.{Content}
 use Rattle.ck_core.specs.declared.view.View.{View}
 use Rattle.ck_core.specs.State.{Configuration}
 use Rattle.ck_core.specs.Steps.{Label, Transition, Execution, initial_view, message_of}
-use Rattle.ck_core.specs.Example.{two_stripes, settings, empty_stripe, first, second, start, one_held}
+use Rattle.ck_core.specs.Example.{two_stripes, settings, empty_stripe, first, second, watched, start, one_held}
 
 -- the steps lead from the opening to s, with this history
 abbrev pub Reaches : List (ℕ × Label ℕ) → List (Entry ℕ) → Configuration ℕ → Type 0
@@ -31,7 +31,7 @@ one_told = record start { views = first ∷ second ∷ message_of first ∷ [] }
 
 -- and took stripe 0
 abbrev pub told_and_held : Configuration ℕ
-told_and_held = record one_held { views = record first { held = (0, empty_stripe) ∷ [] } ∷ second ∷ message_of first ∷ [] }
+told_and_held = record one_held { views = watched 1 (record first { held = (0, empty_stripe) ∷ [] }) ∷ second ∷ message_of first ∷ [] }
 
 -- the opening, but that both callers have the number 0
 abbrev pub one_number : Configuration ℕ

@@ -13,7 +13,11 @@ use Rattle.ck_model.specs.declared.contents.Content.{Content}
 use Rattle.ck_model.specs.Contents.{Layout, Stripes, bindings, Lawful, whole, power_of}
 use Rattle.ck_model.specs.Sections.{Owns, Section, IdentitySection}
 use Rattle.ck_model.specs.Paths.{HasNoRoom, Grounds}
+use Rattle.ck_core.specs.declared.trace.LockStep.{LockStep}
+use Rattle.ck_core.specs.declared.trace.LockStep.TheVariants.{Took, Missed, Gave}
+use Rattle.ck_core.specs.declared.trace.LockEvent.{LockEvent}
 use Rattle.ck_core.specs.declared.view.View.{View}
+use Rattle.ck_core.specs.Trace.{misses}
 use Rattle.ck_core.specs.State.{Configuration, HasNumber, IsPart, owned}
 
 -- One atomic operation on the word of a stripe.
@@ -51,16 +55,47 @@ abbrev pub gaining : List (Name × Reason) → Option (Name × Reason) → List 
 gaining l None = l
 gaining l (Some g) = g ∷ l
 
+-- the number, or 0 where there is none
+abbrev pub number_of : Option ℕ → ℕ
+number_of None = 0
+number_of (Some m) = m
+
+-- the caller, by its number, made this step on the word of stripe t
+abbrev pub event : Option ℕ → LockStep → ℕ → LockEvent
+event by step t = record { by = number_of by; stripe = t; step = step }
+
+-- the longer of two beginnings of one list
+abbrev pub longer : {A : Type 0} → List A → List A → List A
+longer [] ys = ys
+longer (x ∷ xs) [] = x ∷ xs
+longer (x ∷ xs) (y ∷ ys) = x ∷ longer xs ys
+
 module _ {V : Type 0} where
+  -- the trace after the caller of a view made this step on the word of stripe t
+  abbrev pub traced : Configuration V → View V → LockStep → ℕ → List LockEvent
+  traced s v step t = s.trace ++ event v.by step t ∷ []
+
+  -- the view with this trace watched
+  abbrev pub watching : List LockEvent → View V → View V
+  watching trace v = record v { watched = trace }
+
   -- What each step leaves.
   abbrev pub taken : Configuration V → ℕ → View V → ℕ → Content V → List (Entry V) → Configuration V
-  taken s id v t c log = record { words = set s.words t 1; homes = set s.homes t None; views = set s.views id (record v { held = (t, c) ∷ v.held; seen = log }) }
+  taken s id v t c log = record {
+    words = set s.words t 1;
+    homes = set s.homes t None;
+    views = set s.views id (watching (traced s v Took t) (record v { held = (t, c) ∷ v.held; seen = log }));
+    trace = traced s v Took t;
+  }
+
+  abbrev pub missed : Configuration V → ℕ → View V → ℕ → Configuration V
+  missed s id v t = record s { views = set s.views id (watching (traced s v Missed t) (record v { found = t ∷ v.found })); trace = traced s v Missed t }
 
   abbrev pub seen_as : Configuration V → ℕ → View V → Configuration V
   seen_as s id w = record s { views = set s.views id w }
 
   abbrev pub sent_home : Configuration V → ℕ → ℕ → Content V → View V → Configuration V
-  sent_home s id t c w = record { words = set s.words t 0; homes = set s.homes t (Some c); views = set s.views id w }
+  sent_home s id t c w = record { words = set s.words t 0; homes = set s.homes t (Some c); views = set s.views id (watching (traced s w Gave t) w); trace = traced s w Gave t }
 
   -- the view v after the stripe t with the content c, of the held stripes hs, went home
   abbrev pub giving : View V → ℕ → Content V → Stripes V → Option (Name × Reason) → View V
@@ -76,19 +111,23 @@ module _ {V : Type 0} where
 
   -- a caller at the opening
   abbrev pub newcomer : Settings → ℕ → ℕ → View V
-  newcomer set j p = record { settings = set; by = Some j; held = []; seen = []; mine = []; told = p; doublings = 0; found = []; no_slot = []; heard = []; heard_told = 0; others = [] }
+  newcomer set j p = record { settings = set; by = Some j; held = []; seen = []; mine = []; told = p; doublings = 0; found = []; watched = []; no_slot = []; heard = []; heard_told = 0; others = [] }
+
+  -- a caller that begins with the number m, which the view v has kept
+  abbrev pub beginner : View V → ℕ → View V
+  beginner v m = record (newcomer v.settings m v.told) { watched = v.watched; found = misses m v.watched }
 
   -- what v has seen and was told
   abbrev pub message_of : View V → View V
-  message_of v = record { settings = v.settings; by = None; held = []; seen = v.seen; mine = []; told = v.told; doublings = 0; found = []; no_slot = []; heard = []; heard_told = 0; others = [] }
+  message_of v = record { settings = v.settings; by = None; held = []; seen = v.seen; mine = []; told = v.told; doublings = 0; found = []; watched = []; no_slot = []; heard = []; heard_told = 0; others = [] }
 
   -- what a join leaves of the other view
   abbrev pub spent : View V
-  spent = record { settings = no_settings; by = None; held = []; seen = []; mine = []; told = 0; doublings = 0; found = []; no_slot = []; heard = []; heard_told = 0; others = [] }
+  spent = record { settings = no_settings; by = None; held = []; seen = []; mine = []; told = 0; doublings = 0; found = []; watched = []; no_slot = []; heard = []; heard_told = 0; others = [] }
 
   -- the view v has heard what w had seen, and keeps its numbers
   abbrev pub joining : View V → View V → View V
-  joining v w = record v { heard = w.seen; heard_told = w.told; others = owned w ++ v.others }
+  joining v w = record v { heard = w.seen; heard_told = w.told; others = owned w ++ v.others; watched = longer v.watched w.watched }
 
   abbrev pub split_as : Configuration V → ℕ → View V → View V → Configuration V
   split_as s id left right = record s { views = set s.views id left ++ right ∷ [] }
@@ -114,7 +153,7 @@ module _ {V : Type 0} where
   Transition k min_load log id (Take t) s s2 = (v : View V) × (c : Content V) × (get_elem? s.views id ≡ some v) × (t < 2 ^ k.s) × (slice_index s.words t ≡ 0) × IsAbove t (numbers v.held)
       × (get_elem? s.homes t ≡ some (Some c)) × HasNumber v × (s2 ≡ taken s id v t c log)
   Transition k min_load log id (FindHeld t) s s2 = (v : View V) × (get_elem? s.views id ≡ some v) × (t < 2 ^ k.s) × (slice_index s.words t ≡ 1) × ¬ (IsIn t (numbers v.held)) × HasNumber v
-      × (s2 ≡ seen_as s id (record v { found = t ∷ v.found }))
+      × (s2 ≡ missed s id v t)
   Transition k min_load log id (Give t g) s s2 = (v : View V) × (c : Content V) × (get_elem? s.views id ≡ some v) × Holds v.held t c × IsExcused k min_load v.held g
       × (s2 ≡ sent_home s id t c (giving v t c v.held g))
   Transition k min_load log id (Decide t ks e) s s2 = (v : View V) × (c : Content V) × (get_elem? s.views id ≡ some v) × (v.by ≡ Some e.by) × Holds ks t c × Section k v.held e.call e.reply ks
@@ -126,7 +165,7 @@ module _ {V : Type 0} where
   Transition k min_load log id (Look t p) s s2 = (v : View V) × (get_elem? s.views id ≡ some v) × (t < 2 ^ k.s) × (v.told ≤ p) × ((u : ℕ) (c : Content V) → IsPart s u c → p ≤ c.power)
       × (s2 ≡ seen_as s id (record v { seen = log; told = p }))
   Transition k min_load log id Open s s2 = (v : View V) × (m : ℕ) × (rest : List (ℕ × List (Entry V))) × (get_elem? s.views id ≡ some v) × (v.others ≡ (m, []) ∷ rest)
-      × (s2 ≡ split_as s id (record v { others = rest }) (newcomer v.settings m v.told))
+      × (s2 ≡ split_as s id (record v { others = rest }) (beginner v m))
   Transition k min_load log id Tell s s2 = (v : View V) × (get_elem? s.views id ≡ some v) × (s2 ≡ split_as s id v (message_of v))
   Transition k min_load log id (Join other) s s2 = (v : View V) × (w : View V) × (get_elem? s.views id ≡ some v) × (get_elem? s.views other ≡ some w) × ¬ (other ≡ id) × (w.held ≡ [])
       × (s2 ≡ joined s id (joining v w) other)
@@ -157,6 +196,7 @@ module _ {V : Type 0} where
   pub record Opening (k : Layout) (set : Settings) (callers p : ℕ) (s : Configuration V) : Type 0 where
     pub contents : ℕ → Content V
     pub words : s.words ≡ replicate (2 ^ k.s) 0
+    pub no_step : s.trace ≡ []
     pub homes_sized : length s.homes ≡ 2 ^ k.s
     pub homes : (t : ℕ) → t < 2 ^ k.s → get_elem? s.homes t ≡ some (Some (contents t))
     pub lawful : Lawful k (whole k contents)

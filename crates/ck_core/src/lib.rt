@@ -11,4 +11,5 @@ pub mod core_laws;
 pub mod example;
 pub mod known;
 pub mod refusals;
+pub mod trace;
 pub mod view;

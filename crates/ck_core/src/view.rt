@@ -1,4 +1,5 @@
 //! What a caller knows.
+use crate::trace::LockEvent;
 use ck_model::contents::Content;
 use ck_model::history::{Entry, Name, Reason};
 use ck_model::settings::Settings;
@@ -22,6 +23,8 @@ pub struct View<V> {
     pub doublings: u64,
     /// The stripes that were found held, once for each time.
     pub found: LinkedList<u64>,
+    /// The trace up to the caller's last step on a lock word.
+    pub watched: LinkedList<LockEvent>,
     /// The names that found no room and why, once for each time.
     pub no_slot: LinkedList<(Name, Reason)>,
     /// What another caller had seen when it was last met.

@@ -10,6 +10,7 @@ use Rattle.ck_model.specs.Numbered.{IsIn, numbers}
 use Rattle.ck_core.specs.declared.view.View.{View}
 use Rattle.ck_core.specs.Steps.{newcomer, initial_view}
 use Rattle.ck_model.specs.Counting.{counting}
+use Rattle.ck_core.proofs.LegalTraces.{legal_none}
 use Rattle.ck_words.specs.Plays.{opened, begun}
 use Rattle.ck_words.specs.Words.{WordsState}
 use Rattle.ck_words.specs.Passes.{PassState, IsPassOf, IsIdle}
@@ -72,7 +73,7 @@ module _ {V : Type 0} where
   dealt_callers : (w : WordsState) (n a : ℕ) → w.settings.power ≤ w.settings.max → a + n ≤ w.settings.callers → All (IsCaller {V = V} w) (dealt w.table w.settings (counting a n))
   dealt_callers w zero a most l = All-nil (IsCaller w)
   dealt_callers w (suc n) a most l = All-cons (IsCaller w) (record { table = w.table; view = newcomer w.settings a w.settings.power; stripes = [] }) (dealt w.table w.settings (counting (suc a) n))
-      (record { own = (refl, refl, (λ none. none-some a (sym none)), (λ _. refl), omega arith, most); idle = (refl, refl); alone = refl; number = (a, refl, omega arith) }) (dealt_callers w n (suc a) most (omega arith))
+      (record { own = (refl, refl, (λ none. none-some a (sym none)), (λ _. refl), omega arith, most, record { legal = legal_none; missed = λ _ _. refl }); idle = (refl, refl); alone = refl; number = (a, refl, omega arith) }) (dealt_callers w n (suc a) most (omega arith))
 
   pub dealt_all : (w : WordsState) (set : Settings) (ps : List (PassState V)) → set.power ≤ set.max → w.settings ≡ set → ps ≡ dealt w.table set (counting 0 set.callers) → AreAllPasses w ps
   dealt_all w set ps most same is =

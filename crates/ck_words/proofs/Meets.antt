@@ -1,10 +1,10 @@
 -- What a meeting and a joined pass leave, from what their steps tell.
-use Rattle.std.proofs.Common.{◌≡◌, ℕ, sym, ap, refl, subst}
+use Rattle.std.proofs.Common.{◌≡◌, ℕ, List, [], ◌∷◌, sym, ap, refl, subst}
 use Rattle.ck_model.specs.Promise.{Name}
 use Rattle.ck_model.specs.Contents.{layout_of}
 use Rattle.ck_core.specs.declared.view.View.{View}
 use Rattle.ck_core.specs.Laws.{Shows}
-use Rattle.ck_core.specs.Steps.{joining, message_of}
+use Rattle.ck_core.specs.Steps.{longer, joining, message_of}
 use Rattle.ck_core.specs.Steps.Label.{Look}
 use Rattle.ck_words.specs.Words.{WordsState}
 use Rattle.atomic_table.specs.Seated.{TableId}
@@ -13,6 +13,10 @@ use Rattle.ck_words.specs.Passes.{PassState, LooksUp}
 use Rattle.ck_words.specs.Meeting.{Hears, told_by}
 use Rattle.ck_words.specs.Closing.{Gathers}
 use Rattle.ck_words.proofs.Rows.{shows_before, shows_after, look_row, look_told}
+
+pub longer_none : {A : Type 0} (xs : List A) → longer xs [] ≡ xs
+longer_none [] = refl
+longer_none (x ∷ xs) = refl
 
 module _ {V : Type 0} where
   -- b heard what the view u had seen
@@ -56,6 +60,7 @@ module _ {V : Type 0} where
           others = refl;
           doublings = refl;
           found = refl;
+          watched = longer_none b.view.watched;
           no_slot = refl;
           held = refl;
           stripes = refl;

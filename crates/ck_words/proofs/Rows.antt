@@ -1,5 +1,5 @@
 -- What the rows of the core leave of a caller's view.
-use Rattle.std.proofs.Common.{◌≡◌, ◌≢◌, ℕ, ◌≤◌, ◌∷◌, sym, ap, ◌∙◌, subst, ⊎_elim, arith, Option, None}
+use Rattle.std.proofs.Common.{◌≡◌, ◌≢◌, ℕ, ◌≤◌, List, [], ◌∷◌, ◌++◌, append_assoc, sym, ap, ◌∙◌, subst, ⊎_elim, arith, Option, None}
 use Rattle.std.specs.Prelude.{slice_set}
 use mathlib.Core.Option.{some, some-injective}
 use lib.ListN.{get_elem?}
@@ -13,7 +13,9 @@ use Rattle.ck_model.specs.Contents.{layout_of, Stripes}
 use Rattle.ck_model.proofs.Numbered.{in_held}
 use Rattle.ck_core.specs.declared.view.View.{View}
 use Rattle.ck_core.specs.State.{Configuration, HasNumber, HistoryInvariant}
-use Rattle.ck_core.specs.Steps.{Label, IsAbove, giving, renewing, deciding, grown}
+use Rattle.ck_core.specs.declared.trace.LockStep.TheVariants.{Took, Missed, Gave}
+use Rattle.ck_core.specs.declared.trace.LockEvent.{LockEvent}
+use Rattle.ck_core.specs.Steps.{Label, IsAbove, traced, watching, giving, renewing, deciding, grown}
 use Rattle.ck_core.specs.Steps.Label.{Take, FindHeld, Give, Decide, GiveRest, Renew, Look}
 use Rattle.ck_core.specs.Laws.{Shows}
 use Rattle.ck_core.proofs.Answered.{law_of_one_caller}
@@ -22,6 +24,10 @@ use Rattle.ck_core.proofs.Keeps.{step_keeps}
 use Rattle.ck_core.proofs.Shown.{shows}
 use Rattle.ck_words.specs.Steps.{Steps}
 
+-- the view w, once the stripe t went home by it
+abbrev pub gave : {V : Type 0} → Configuration V → ℕ → View V → View V
+gave s t w = watching (traced s w Gave t) w
+
 module _ {V : Type 0} (hash : Name → ℕ) (set : Settings) where
   module _ (m : Label V) (v w : View V) (r : Steps hash set m v w) where
     pub shows_before : Shows (layout_of hash set) set.callers r.log v
@@ -29,6 +35,10 @@ module _ {V : Type 0} (hash : Name → ℕ) (set : Settings) where
 
     pub shows_after : Shows (layout_of hash set) set.callers (grown r.log m) w
     shows_after = shows (layout_of hash set) set.callers (grown r.log m) r.after (step_keeps (layout_of hash set) set.min_load set.callers r.log r.id m r.before r.after r.law r.does) r.id w r.is
+
+    -- what was watched begins the trace, which is watched with a step more
+    pub watched_more : (e : LockEvent) → (events : List LockEvent) × (r.before.trace ++ e ∷ [] ≡ v.watched ++ events)
+    watched_more e = let h = r.law.traced.watched r.id v r.was in (h.unseen ++ e ∷ [], ap (λ l. l ++ e ∷ []) h.begins ∙ append_assoc v.watched h.unseen (e ∷ []))
 
     -- there is one view of the caller before the step
     pub same_view : (u : View V) → get_elem? r.before.views r.id ≡ some u → u ≡ v
@@ -39,8 +49,8 @@ module _ {V : Type 0} (hash : Name → ℕ) (set : Settings) where
     new_view new u at after = some-injective w (new v) (sym r.is ∙ (ap (λ vs. get_elem? vs r.id) after ∙ (set_there r.before.views r.id u (new u) at ∙ ap (λ x. some (new x)) (same_view u at))))
 
   module _ (v w : View V) where
-    pub take_row : (t : ℕ) (r : Steps hash set (Take t) v w) → w ≡ record v { held = (t, r.does.1) ∷ v.held; seen = r.log }
-    take_row t r = new_view (Take t) v w r (λ u. record u { held = (t, r.does.1) ∷ u.held; seen = r.log }) r.does.0 r.does.2 (ap (λ (x : Configuration V). x.views) r.does.8)
+    pub take_row : (t : ℕ) (r : Steps hash set (Take t) v w) → w ≡ watching (traced r.before v Took t) (record v { held = (t, r.does.1) ∷ v.held; seen = r.log })
+    take_row t r = new_view (Take t) v w r (λ u. watching (traced r.before u Took t) (record u { held = (t, r.does.1) ∷ u.held; seen = r.log })) r.does.0 r.does.2 (ap (λ (x : Configuration V). x.views) r.does.8)
 
     pub take_number : (t : ℕ) → Steps hash set (Take t) v w → HasNumber v
     take_number t r = subst (λ (u : View V). HasNumber u) (same_view (Take t) v w r r.does.0 r.does.2) r.does.7
@@ -55,28 +65,28 @@ module _ {V : Type 0} (hash : Name → ℕ) (set : Settings) where
         let same : r.does.1 ≡ c = ⊎_elim (λ (e : (t ≡ t) × (r.does.1 ≡ c)). e.1) (λ i. let l = take_above t r t (in_held v.held t c i) in absurd (omega arith)) (subst (λ (hs : Stripes V). Holds hs t c) held h) in
         held ∙ λ i. (t, same i) ∷ v.held
 
-    pub find_row : (t : ℕ) → Steps hash set (FindHeld t) v w → w ≡ record v { found = t ∷ v.found }
-    find_row t r = new_view (FindHeld t) v w r (λ u. record u { found = t ∷ u.found }) r.does.0 r.does.1 (ap (λ (x : Configuration V). x.views) r.does.6)
+    pub find_row : (t : ℕ) (r : Steps hash set (FindHeld t) v w) → w ≡ watching (traced r.before v Missed t) (record v { found = t ∷ v.found })
+    find_row t r = new_view (FindHeld t) v w r (λ u. watching (traced r.before u Missed t) (record u { found = t ∷ u.found })) r.does.0 r.does.1 (ap (λ (x : Configuration V). x.views) r.does.6)
 
     -- and the caller isn't the only one
     pub find_by_two : (t : ℕ) → Steps hash set (FindHeld t) v w → set.callers ≢ 1
     find_by_two t r one = law_of_one_caller (layout_of hash set) set.min_load r.id t r.log r.before r.after (subst (λ n. HistoryInvariant (layout_of hash set) n r.log r.before) one r.law) r.does
 
-    pub give_row : (t : ℕ) (g : Option (Name × Reason)) (r : Steps hash set (Give t g) v w) → w ≡ giving v t r.does.1 v.held g
-    give_row t g r = new_view (Give t g) v w r (λ u. giving u t r.does.1 u.held g) r.does.0 r.does.2 (ap (λ (x : Configuration V). x.views) r.does.5)
+    pub give_row : (t : ℕ) (g : Option (Name × Reason)) (r : Steps hash set (Give t g) v w) → w ≡ gave r.before t (giving v t r.does.1 v.held g)
+    give_row t g r = new_view (Give t g) v w r (λ u. gave r.before t (giving u t r.does.1 u.held g)) r.does.0 r.does.2 (ap (λ (x : Configuration V). x.views) r.does.5)
 
     -- a give that tells nothing is a give of the rest
     pub give_rest : (t : ℕ) → Steps hash set (Give t None) v w → Steps hash set (GiveRest t) v w
     give_rest t r = record { log = r.log; id = r.id; before = r.before; after = r.after; law = r.law; does = (r.does.0, r.does.1, r.does.2, r.does.3, r.does.5); was = r.was; is = r.is }
 
-    pub rest_row : (t : ℕ) (r : Steps hash set (GiveRest t) v w) → w ≡ giving v t r.does.1 v.held None
-    rest_row t r = new_view (GiveRest t) v w r (λ u. giving u t r.does.1 u.held None) r.does.0 r.does.2 (ap (λ (x : Configuration V). x.views) r.does.4)
+    pub rest_row : (t : ℕ) (r : Steps hash set (GiveRest t) v w) → w ≡ gave r.before t (giving v t r.does.1 v.held None)
+    rest_row t r = new_view (GiveRest t) v w r (λ u. gave r.before t (giving u t r.does.1 u.held None)) r.does.0 r.does.2 (ap (λ (x : Configuration V). x.views) r.does.4)
 
-    pub decide_row : (t : ℕ) (ks : Stripes V) (e : Entry V) (r : Steps hash set (Decide t ks e) v w) → w ≡ deciding v t ks r.log e
-    decide_row t ks e r = new_view (Decide t ks e) v w r (λ u. deciding u t ks r.log e) r.does.0 r.does.2 (ap (λ (x : Configuration V). x.views) r.does.6)
+    pub decide_row : (t : ℕ) (ks : Stripes V) (e : Entry V) (r : Steps hash set (Decide t ks e) v w) → w ≡ gave r.before t (deciding v t ks r.log e)
+    decide_row t ks e r = new_view (Decide t ks e) v w r (λ u. gave r.before t (deciding u t ks r.log e)) r.does.0 r.does.2 (ap (λ (x : Configuration V). x.views) r.does.6)
 
-    pub renew_row : (t : ℕ) (ks : Stripes V) (g : Option (Name × Reason)) (r : Steps hash set (Renew t ks g) v w) → w ≡ renewing v t r.does.1 ks g
-    renew_row t ks g r = new_view (Renew t ks g) v w r (λ u. renewing u t r.does.1 ks g) r.does.0 r.does.2 (ap (λ (x : Configuration V). x.views) r.does.6)
+    pub renew_row : (t : ℕ) (ks : Stripes V) (g : Option (Name × Reason)) (r : Steps hash set (Renew t ks g) v w) → w ≡ gave r.before t (renewing v t r.does.1 ks g)
+    renew_row t ks g r = new_view (Renew t ks g) v w r (λ u. gave r.before t (renewing u t r.does.1 ks g)) r.does.0 r.does.2 (ap (λ (x : Configuration V). x.views) r.does.6)
 
     pub look_row : (t p : ℕ) (r : Steps hash set (Look t p) v w) → w ≡ record v { seen = r.log; told = p }
     look_row t p r = new_view (Look t p) v w r (λ u. record u { seen = r.log; told = p }) r.does.0 r.does.1 (ap (λ (x : Configuration V). x.views) r.does.5)

@@ -107,7 +107,7 @@ module _ (V : Type 0) (hash : Name → ℕ) (set : Settings) (range : AreInRange
   first_within m h = let some_caller = range.caller in (⊎_elim (λ e. omega arith) (λ r. let z = in_counting (pred set.callers) 1 m r in omega arith) h, refl)
 
   abbrev begun_world : List ℕ → Configuration V
-  begun_world ws = record { words = ws; homes = map lying (slots_of (2 ^ set.s)); views = first_view set ∷ [] }
+  begun_world ws = record { words = ws; homes = map lying (slots_of (2 ^ set.s)); views = first_view set ∷ []; trace = [] }
 
   views : (ws : List ℕ) (j : ℕ) (v : View V) → get_elem? (first_view set ∷ []) j ≡ some v → (ms : List ℕ) × (v ≡ initial_view set j set.power ms) × AreDistinct (j ∷ ms) × ((m : ℕ) → IsIn m (j ∷ ms) → (m < set.callers) × (0 ≡ j))
   views ws zero v e = (counting 1 (pred set.callers), sym (some-injective (first_view set) v e), first_apart, first_within)
@@ -117,6 +117,7 @@ module _ (V : Type 0) (hash : Name → ℕ) (set : Settings) (range : AreInRange
   begins = record {
     contents = λ _. nothing;
     words = refl;
+    no_step = refl;
     homes_sized = length-map (slots_of (2 ^ set.s)) ∙ length-slots_of (2 ^ set.s);
     homes = λ t l. at_map (slots_of (2 ^ set.s)) t (some (Some (fresh set t))) (slot_there (2 ^ set.s) t l);
     lawful = empty_lawful;
@@ -130,6 +131,7 @@ module _ (V : Type 0) (hash : Name → ℕ) (set : Settings) (range : AreInRange
   pub starts : (ws : List ℕ) (xs : List (StripeSlot V)) → ws ≡ replicate (2 ^ set.s * 8) 0 → xs ≡ fresh_slots set (2 ^ set.s) → RuleOf hash set (opening ws xs (first_view set))
   starts ws xs zeros is =
       let kept : IsKept k set.callers [] (opening (replicate (2 ^ set.s * 8) 0) (fresh_slots set (2 ^ set.s)) (first_view set)) = record {
+        trace = [];
         law = subst (λ l. HistoryInvariant k set.callers [] (begun_world l)) (sym (spaced-zeros (2 ^ set.s))) (opens k set set.callers set.power (begun_world (replicate (2 ^ set.s) 0)) begins);
         words_sized = length-replicate (2 ^ set.s * 8) 0;
         at_home = home_all (2 ^ set.s);

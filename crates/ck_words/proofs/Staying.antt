@@ -8,15 +8,17 @@ use Rattle.ck_model.specs.Numbered.{IsIn}
 use Rattle.ck_model.specs.Contents.{layout_of}
 use Rattle.ck_model.proofs.Histories.{subhistory-append}
 use Rattle.ck_core.specs.declared.view.View.{View}
-use Rattle.ck_core.specs.Steps.{giving}
-use Rattle.ck_core.specs.Steps.Label.{Take, GiveRest}
+use Rattle.ck_core.specs.declared.trace.LockStep.TheVariants.{Took, Missed, Gave}
+use Rattle.ck_core.specs.declared.trace.LockEvent.{LockEvent}
+use Rattle.ck_core.specs.Steps.{giving, event, traced, watching}
+use Rattle.ck_core.specs.Steps.Label.{Take, FindHeld, GiveRest}
 use Rattle.ck_core.specs.Laws.{Shows}
 use Rattle.ck_stripe.specs.Stripes.{contents_of}
 use Rattle.std.proofs.lemmas.List.{reverse-reverse}
 use Rattle.ck_words.specs.Passes.{PassState, IsPassOf, TakesStripe, TriesStripe, Sends, IsIdle, IsUnchanged, ShowsSeen}
 use Rattle.ck_words.specs.Words.{WordsState}
-use Rattle.ck_words.proofs.Rows.{shows_before, shows_after, take_row, take_number, find_row, rest_row}
-use Rattle.ck_words.specs.Retries.{Stays, StaysBut, FindsAmong, found_again, TakesWithin}
+use Rattle.ck_words.proofs.Rows.{shows_before, shows_after, watched_more, gave, take_row, take_number, find_row, rest_row}
+use Rattle.ck_words.specs.Retries.{Stays, StaysBut, FindsAmong, found_again, FindsAgain, TakesWithin}
 
 in_replicate : (n t u : ℕ) → IsIn u (replicate n t) → t ≡ u
 in_replicate zero t u z = absurd z
@@ -26,12 +28,20 @@ in_parts : (xs ys : List ℕ) (t : ℕ) → IsIn t (xs ++ ys) → IsIn t xs ⊎ 
 in_parts [] ys t i = inr i
 in_parts (x ∷ xs) ys t i = ⊎_elim (λ e. inl (inl e)) (λ r. ⊎_elim (λ a. inl (inr a)) (λ b. inr b) (in_parts xs ys t r)) i
 
+found_both : (m n t : ℕ) (l : List ℕ) → replicate m t ++ (replicate n t ++ l) ≡ replicate (m + n) t ++ l
+found_both zero n t l = ap (λ k. replicate k t ++ l) (let e : n ≡ 0 + n = omega arith in e)
+found_both (suc m) n t l = ap (λ x. t ∷ x) (found_both m n t l) ∙ ap (λ k. replicate k t ++ l) (let e : suc (m + n) ≡ suc m + n = omega arith in e)
+
 module _ {V : Type 0} where
+  -- the stripe was found held n times, and then m times
+  pub again_later : (m n t : ℕ) (first later : List LockEvent) (p : PassState V) → found_again m t later (found_again n t first p) ≡ found_again (m + n) t (first ++ later) p
+  again_later m n t first later p = λ i. record p { view = record p.view { found = found_both m n t p.view.found i; watched = append_assoc p.view.watched first later i } }
+
   pub starts_on : (a b c : List (Entry V)) → StartsWith b a → StartsWith c b → StartsWith c a
   starts_on a b c f g = (f.0 ++ g.0, g.1 ∙ (ap (λ l. l ++ g.0) f.1 ∙ append_assoc a f.0 g.0))
 
   pub stays_same : (v : View V) → Stays v v
-  stays_same v = record { settings = refl; by = refl; mine = refl; others = refl; heard = (refl, refl); no_slot = refl; seen = ([], sym (append-nil v.seen)); by_others = λ m e. refl; alone = λ _. refl; told = omega arith; doublings = refl }
+  stays_same v = record { settings = refl; by = refl; mine = refl; others = refl; heard = (refl, refl); no_slot = refl; seen = ([], sym (append-nil v.seen)); by_others = λ m e. refl; alone = λ _. refl; watched = ([], sym (append-nil v.watched)); told = omega arith; doublings = refl }
 
   pub stays_then : (xs ys : List (Name × Reason)) (u v w : View V) → StaysBut xs u v → StaysBut ys v w → StaysBut (ys ++ xs) u w
   unfolding starts_on
@@ -45,6 +55,7 @@ module _ {V : Type 0} where
     seen = starts_on u.seen v.seen w.seen f.seen g.seen;
     by_others = λ m e. subhistory-append m f.seen.0 g.seen.0 ∙ λ j. f.by_others m e j ++ g.by_others m (f.by ∙ e) j;
     alone = λ one. g.alone (ap (λ (x : Settings). x.callers) f.settings ∙ one) ∙ f.alone one;
+    watched = (f.watched.0 ++ g.watched.0, g.watched.1 ∙ (ap (λ l. l ++ g.watched.0) f.watched.1 ∙ append_assoc u.watched f.watched.0 g.watched.0));
     told = (let a = f.told in let b = g.told in omega arith);
     doublings = g.doublings ∙ f.doublings;
   }
@@ -54,12 +65,12 @@ module _ {V : Type 0} where
 
   -- the rest of a section went home
   module _ (hash : Name → ℕ) (w : WordsState) (p q : PassState V) (g : Sends hash w (λ t _. GiveRest t) p q) where
-    rest_view : q.view ≡ giving p.view g.0.number g.2.does.1 p.view.held None
+    rest_view : q.view ≡ gave g.2.before g.0.number (giving p.view g.0.number g.2.does.1 p.view.held None)
     rest_view = rest_row hash w.settings p.view q.view g.0.number g.2
 
     pub stays_giving : (u : View V) → Stays u p.view → Stays u q.view
     stays_giving u s = stays_on u p.view q.view s
-        (subst (Stays p.view) (sym rest_view) (record { settings = refl; by = refl; mine = refl; others = refl; heard = (refl, refl); no_slot = refl; seen = ([], sym (append-nil p.view.seen)); by_others = λ m e. refl; alone = λ _. refl; told = omega arith; doublings = refl }))
+        (subst (Stays p.view) (sym rest_view) (record { settings = refl; by = refl; mine = refl; others = refl; heard = (refl, refl); no_slot = refl; seen = ([], sym (append-nil p.view.seen)); by_others = λ m e. refl; alone = λ _. refl; watched = watched_more hash w.settings (GiveRest g.0.number) p.view q.view g.2 (event p.view.by Gave g.0.number); told = omega arith; doublings = refl }))
 
     pub found_giving : q.view.found ≡ p.view.found
     found_giving = ap (λ (v : View V). v.found) rest_view
@@ -73,29 +84,40 @@ module _ {V : Type 0} where
       let shows = shows_before hash set (Take t) p.view q.view k.3 in
       let number = take_number hash set p.view q.view t k.3 in
       subst (Stays p.view) (sym (take_row hash set p.view q.view t k.3))
-      (record { settings = refl; by = refl; mine = refl; others = refl; heard = (refl, refl); no_slot = refl; seen = shows.seen; by_others = λ m e. shows.unseen m e shows.seen.0 shows.seen.1; alone = λ one. sym (shows.alone number.0 number.1 (ap (λ (x : Settings). x.callers) (sym same) ∙ one)); told = omega arith; doublings = refl })
+      (record { settings = refl; by = refl; mine = refl; others = refl; heard = (refl, refl); no_slot = refl; seen = shows.seen; by_others = λ m e. shows.unseen m e shows.seen.0 shows.seen.1; alone = λ one. sym (shows.alone number.0 number.1 (ap (λ (x : Settings). x.callers) (sym same) ∙ one)); watched = watched_more hash set (Take t) p.view q.view k.3 (event p.view.by Took t); told = omega arith; doublings = refl })
+
+  pub not_found : (t : ℕ) (p : PassState V) → p ≡ found_again 0 t [] p
+  not_found t p = sym (λ i. record p { view = record p.view { watched = append-nil p.view.watched i } })
+
+  pub found_never : (t : ℕ) (p : PassState V) → FindsAgain 0 t p p
+  found_never t p = ([], not_found t p)
 
   -- the stripe was found held once more
-  pub found_next : (hash : Name → ℕ) (w : WordsState) (n t : ℕ) (p q r : PassState V) → q ≡ found_again n t p → IsPassOf w q → IsPassOf w r → TriesStripe hash w t false q r → r ≡ found_again (n + 1) t p
+  pub found_next : (hash : Name → ℕ) (w : WordsState) (n t : ℕ) (p q r : PassState V) → FindsAgain n t p q → IsPassOf w q → IsPassOf w r → TriesStripe hash w t false q r → FindsAgain (n + 1) t p r
   found_next hash w n t p q r again own own2 k =
-      let once : r ≡ found_again 1 t q = λ i. record { table = (own2.0 ∙ sym own.0) i; view = find_row hash w.settings q.view r.view t k.1 i; stripes = k.0 i } in
-      once ∙ (ap (found_again 1 t) again ∙ ap (λ m. found_again m t p) (sym (add-one n)))
+      let more = watched_more hash w.settings (FindHeld t) q.view r.view k.1 (event q.view.by Missed t) in
+      let row : r.view ≡ (found_again 1 t more.0 q).view = find_row hash w.settings q.view r.view t k.1 ∙ λ i. record q.view { found = t ∷ q.view.found; watched = more.1 i } in
+      let once : r ≡ found_again 1 t more.0 q = λ i. record { table = (own2.0 ∙ sym own.0) i; view = row i; stripes = k.0 i } in
+      (again.0 ++ more.0, once ∙ (ap (found_again 1 t more.0) again.1 ∙ (again_later 1 n t again.0 more.0 p ∙ ap (λ m. found_again m t (again.0 ++ more.0) p) (let e : 1 + n ≡ n + 1 = omega arith in e))))
 
-  pub stays_finding : (n t : ℕ) (p : PassState V) → Stays p.view (found_again n t p).view
-  stays_finding n t p = record { settings = refl; by = refl; mine = refl; others = refl; heard = (refl, refl); no_slot = refl; seen = ([], sym (append-nil p.view.seen)); by_others = λ m e. refl; alone = λ _. refl; told = omega arith; doublings = refl }
+  pub stays_finding : (n t : ℕ) (events : List LockEvent) (p : PassState V) → Stays p.view (found_again n t events p).view
+  stays_finding n t events p = record { settings = refl; by = refl; mine = refl; others = refl; heard = (refl, refl); no_slot = refl; seen = ([], sym (append-nil p.view.seen)); by_others = λ m e. refl; alone = λ _. refl; watched = (events, refl); told = omega arith; doublings = refl }
 
   module _ (hash : Name → ℕ) (set : Settings) (turns t : ℕ) (p q : PassState V) (k : TakesWithin hash set turns t p q) where
-    within_view : q.view ≡ record (found_again k.0 t p).view { held = (t, k.2.3.does.1) ∷ p.view.held; seen = k.2.3.log }
-    within_view = take_row hash set (found_again k.0 t p).view q.view t k.2.3
+    abbrev tried : PassState V
+    tried = found_again k.0 t k.2 p
+
+    within_view : q.view ≡ watching (traced k.3.3.before tried.view Took t) (record tried.view { held = (t, k.3.3.does.1) ∷ p.view.held; seen = k.3.3.log })
+    within_view = take_row hash set tried.view q.view t k.3.3
 
     pub stays_within : p.view.settings ≡ set → Stays p.view q.view
-    stays_within same = stays_on p.view (found_again k.0 t p).view q.view (stays_finding k.0 t p) (stays_taking hash set t (found_again k.0 t p) q same k.2)
+    stays_within same = stays_on p.view tried.view q.view (stays_finding k.0 t k.2 p) (stays_taking hash set t tried q same k.3)
 
     pub found_within : q.view.found ≡ replicate k.0 t ++ p.view.found
     found_within = ap (λ (v : View V). v.found) within_view
 
     pub shows_taken : ShowsSeen hash set q
-    shows_taken = subst (λ log. Shows (layout_of hash set) set.callers log q.view) (sym (ap (λ (v : View V). v.seen) within_view)) (shows_after hash set (Take t) (found_again k.0 t p).view q.view k.2.3)
+    shows_taken = subst (λ log. Shows (layout_of hash set) set.callers log q.view) (sym (ap (λ (v : View V). v.seen) within_view)) (shows_after hash set (Take t) tried.view q.view k.3.3)
 
   pub idle_of : (p : PassState V) → p.stripes ≡ [] → IsUnchanged p → IsIdle p
   idle_of p none u = (none, sym (reverse-reverse p.view.held) ∙ ap reverse (sym u ∙ ap contents_of none))
@@ -116,5 +138,5 @@ module _ {V : Type 0} where
   pub among_within : (P : ℕ → Type 0) (hash : Name → ℕ) (set : Settings) (turns t : ℕ) (p q : PassState V) → P t → TakesWithin hash set turns t p q → FindsAmong P p q
   among_within P hash set turns t p q h k = among_again P k.0 t p q h (found_within hash set turns t p q k)
 
-  pub among_held : (P : ℕ → Type 0) (n t : ℕ) (p q : PassState V) → P t → q ≡ found_again n t p → FindsAmong P p q
-  among_held P n t p q h k = among_again P n t p q h (ap (λ (x : PassState V). x.view.found) k)
+  pub among_held : (P : ℕ → Type 0) (n t : ℕ) (p q : PassState V) → P t → FindsAgain n t p q → FindsAmong P p q
+  among_held P n t p q h k = among_again P n t p q h (ap (λ (x : PassState V). x.view.found) k.1)

@@ -12,11 +12,12 @@ use Rattle.ck_core.specs.declared.view.View.{View}
 use Rattle.ck_core.specs.State.{HasNumber}
 use Rattle.ck_core.specs.Steps.{IsAbove}
 use Rattle.ck_core.specs.Steps.Label.{Take, FindHeld, Look}
+use Rattle.ck_core.specs.Laws.{HasWatched}
 use Rattle.ck_words.specs.Rule.{StripeSlot, Hand, RuleOf, IsAtHome}
 use Rattle.ck_words.specs.Steps.{Steps}
 use Rattle.ck_words.specs.Plays.{SeatTries, SeatLooks}
 use Rattle.ck_words.specs.Words.{WordsState, IsLaidOut}
-use Rattle.ck_words.specs.Passes.{PassState, IsSeated, IsPassOf, IsUnchanged, TakesStripe, TriesStripe, LooksUp, state_of, stripes_in, held_in}
+use Rattle.ck_words.specs.Passes.{PassState, IsSeated, IsPassIn, IsPassOf, IsUnchanged, TakesStripe, TriesStripe, LooksUp, state_of, stripes_in, held_in}
 use Rattle.ck_words.proofs.Allowed.{take_allowed, look_allowed}
 use Rattle.ck_words.proofs.Reversed.{map-append, reverse-cons}
 use Rattle.ck_words.proofs.Rows.{shows_after, take_row, take_held, find_row, find_by_two, look_row, look_told}
@@ -35,10 +36,13 @@ pub record Fits {V : Type 0} (w : WordsState) (p : PassState V) (tz : TableId) (
   pub words_are : ◌≡◌ {A = WordsState} (record { table = tz; settings = set }) w
   pub laid : IsLaidOut tz key set
   pub pass_is : state_of z me ≡ p
-  pub own : IsPassOf w p
+  pub own : IsPassIn w p
+
+pub fits_in : {V : Type 0} (w : WordsState) (p : PassState V) (tz : TableId) (key set : Settings) (z : TableId) (me : Hand V) → ◌≡◌ {A = WordsState} (record { table = tz; settings = set }) w → IsLaidOut tz key set → state_of z me ≡ p → IsPassIn w p → Fits w p tz key set z me
+fits_in w p tz key set z me words_are laid pass_is own = record { words_are = words_are; laid = laid; pass_is = pass_is; own = own }
 
 pub fits : {V : Type 0} (w : WordsState) (p : PassState V) (tz : TableId) (key set : Settings) (z : TableId) (me : Hand V) → ◌≡◌ {A = WordsState} (record { table = tz; settings = set }) w → IsLaidOut tz key set → state_of z me ≡ p → IsPassOf w p → Fits w p tz key set z me
-fits w p tz key set z me words_are laid pass_is own = record { words_are = words_are; laid = laid; pass_is = pass_is; own = own }
+fits w p tz key set z me words_are laid pass_is own = fits_in w p tz key set z me words_are laid pass_is (own.0, own.1, own.2, own.3, own.4, own.5)
 
 module _ {V : Type 0} (hash : Name → ℕ) (w : WordsState) (p : PassState V) (tz : TableId) (key set : Settings) (z : TableId) (me : Hand V) (f : Fits w p tz key set z me) where
   pub same_table : z ≡ tz
@@ -75,6 +79,7 @@ module _ {V : Type 0} (hash : Name → ℕ) (w : WordsState) (p : PassState V) (
     pub found : me2.0.found ≡ me.0.found
     pub told : me.0.told ≤ me2.0.told
     pub most : me2.0.told ≤ w.settings.max
+    pub watched : HasWatched me2.0
 
   told_before : (w.settings.power ≤ me.0.told) × (me.0.told ≤ w.settings.max)
   told_before = subst (λ (q : PassState V). (w.settings.power ≤ q.view.told) × (q.view.told ≤ w.settings.max)) (sym f.pass_is) (f.own.4, f.own.5)
@@ -87,6 +92,7 @@ module _ {V : Type 0} (hash : Name → ℕ) (w : WordsState) (p : PassState V) (
     λ one. k.found ∙ (ap (λ (q : PassState V). q.view.found) f.pass_is ∙ f.own.3 one),
     le_trans told_before.0 k.told,
     k.most,
+    k.watched,
   )
 
   -- what holds at the settings of the words' key, and at this word, holds at those of the hand
@@ -129,7 +135,7 @@ module _ {V : Type 0} (hash : Name → ℕ) (w : WordsState) (p : PassState V) (
           stripe = k.0;
           own_number = k.1;
           slots = k.2;
-          lasts = (let row = take_row hash w.settings me.0 me2.0 t k.4 in record { settings = ap (λ (v : View V). v.settings) row; by = ap (λ (v : View V). v.by) row; found = ap (λ (v : View V). v.found) row; told = le_of_eq (sym (ap (λ (v : View V). v.told) row)); most = (shows_after hash w.settings (Take t) me.0 me2.0 k.4).most });
+          lasts = (let row = take_row hash w.settings me.0 me2.0 t k.4 in record { settings = ap (λ (v : View V). v.settings) row; by = ap (λ (v : View V). v.by) row; found = ap (λ (v : View V). v.found) row; told = le_of_eq (sym (ap (λ (v : View V). v.told) row)); most = (shows_after hash w.settings (Take t) me.0 me2.0 k.4).most; watched = (shows_after hash w.settings (Take t) me.0 me2.0 k.4).watched });
           held = take_held hash w.settings me.0 me2.0 t k.0.content k.4 k.3;
           step = k.4;
         }
@@ -174,6 +180,7 @@ module _ {V : Type 0} (hash : Name → ℕ) (w : WordsState) (p : PassState V) (
       λ one. absurd (find_by_two hash w.settings me.0 me2.0 t k.step one),
       le_trans told_before.0 (le_of_eq (sym (ap (λ (v : View V). v.told) (find_row hash w.settings me.0 me2.0 t k.step)))),
       (shows_after hash w.settings (FindHeld t) me.0 me2.0 k.step).most,
+      (shows_after hash w.settings (FindHeld t) me.0 me2.0 k.step).watched,
     )
 
     pub finds : (z2 : TableId) (me2 : Hand V) → Found me2 → TriesStripe hash w t false p (state_of z2 me2)
@@ -203,7 +210,7 @@ module _ {V : Type 0} (hash : Name → ℕ) (w : WordsState) (p : PassState V) (
     look_view = look_row hash w.settings me.0 me2.0 0 looks.1.0 looks.1.2
 
     pub look_lasts : Lasts me2
-    look_lasts = record { settings = ap (λ (v : View V). v.settings) look_view; by = ap (λ (v : View V). v.by) look_view; found = ap (λ (v : View V). v.found) look_view; told = subst (λ n. me.0.told ≤ n) (sym (ap (λ (v : View V). v.told) look_view)) (look_told hash w.settings me.0 me2.0 0 looks.1.0 looks.1.2); most = (shows_after hash w.settings (Look 0 looks.1.0) me.0 me2.0 looks.1.2).most }
+    look_lasts = record { settings = ap (λ (v : View V). v.settings) look_view; by = ap (λ (v : View V). v.by) look_view; found = ap (λ (v : View V). v.found) look_view; told = subst (λ n. me.0.told ≤ n) (sym (ap (λ (v : View V). v.told) look_view)) (look_told hash w.settings me.0 me2.0 0 looks.1.0 looks.1.2); most = (shows_after hash w.settings (Look 0 looks.1.0) me.0 me2.0 looks.1.2).most; watched = (shows_after hash w.settings (Look 0 looks.1.0) me.0 me2.0 looks.1.2).watched }
 
     pub looked : (z2 : TableId) → LooksUp hash w p (state_of z2 me2)
     looked z2 = subst (λ (q : PassState V). LooksUp hash w q (state_of z2 me2)) f.pass_is (ap held_in looks.0, looks.1)

@@ -1,5 +1,5 @@
 -- Stripes are taken, one after another.
-use Rattle.std.proofs.Common.{◌≢◌, ◌≡◌, ℕ, zero, suc, ◌+◌, ◌-◌, ◌<◌, ◌≤◌, Bool, true, false, List, [], ◌∷◌, ◌++◌, take, length, get_or, replicate, append_assoc, refl, sym, ap, ◌∙◌, subst, ⊎_elim, inl, inr, arith}
+use Rattle.std.proofs.Common.{◌≢◌, ◌≡◌, ℕ, zero, suc, ◌+◌, ◌-◌, ◌<◌, ◌≤◌, Bool, true, false, List, [], ◌∷◌, ◌++◌, take, length, get_or, replicate, append_assoc, add-one, refl, sym, ap, ◌∙◌, subst, ⊎_elim, inl, inr, arith}
 use Rattle.std.proofs.Math.Nat.{eq-or-lt_of_le}
 use Rattle.std.proofs.lemmas.List.{take_more}
 use Rattle.std.specs.Prelude.{MatchBool}
@@ -11,12 +11,12 @@ use Rattle.ck_stripe.specs.Stripe.{StripeState}
 use Rattle.ck_core.specs.Steps.{IsAbove}
 use Rattle.ck_words.specs.Words.{WordsState}
 use Rattle.ck_words.specs.Passes.{PassState, EachOf, IsPassOf, IsIdle, IsUnchanged, TakesStripe, numbers_of}
-use Rattle.ck_words.specs.Retries.{Stays, TakesWithin, found_again}
+use Rattle.ck_words.specs.Retries.{Stays, TakesWithin, found_again, FindsAgain, HasMissed}
 use Rattle.ck_words.specs.Holding.{HasTaken, GivesUp, HasReleased}
 use Rattle.ck_words.proofs.Reversed.{map-append, in_reverse}
 use Rattle.ck_words.proofs.Seating.{each_append, numbers-contents}
 use Rattle.ck_words.proofs.Spare.{spare_none, spare_push}
-use Rattle.ck_words.proofs.Staying.{stays_same, stays_on, stays_within, stays_finding, shows_taken, unchanged_idle, among_none, among_on, among_within, among_held}
+use Rattle.ck_words.proofs.Staying.{again_later, stays_same, stays_on, stays_within, stays_finding, shows_taken, unchanged_idle, among_none, among_on, among_within, among_held}
 
 -- a number of the list stands in it
 pub in_list : (ts : List ℕ) (i : ℕ) → i < length ts → IsIn (get_or ts i 0) ts
@@ -45,30 +45,27 @@ above_first ts n up l u i = let x = in_first ts n u i in let r = rises ts up x.0
 pub next_first : (ts : List ℕ) (i t : ℕ) → i < length ts → t ≡ get_or ts i 0 → take i ts ++ t ∷ [] ≡ take (i + 1) ts
 next_first ts i t l e = ap (λ u. take i ts ++ u ∷ []) e ∙ sym (take_more ts i 0 l)
 
-found_more : (n t : ℕ) (l : List ℕ) → replicate n t ++ t ∷ l ≡ t ∷ (replicate n t ++ l)
-found_more zero t l = refl
-found_more (suc n) t l = ap (λ m. t ∷ m) (found_more n t l)
-
 module _ {V : Type 0} where
   -- what is held has the numbers of the stripes
   numbered_of_held : (p : PassState V) → IsUnchanged p → (t : ℕ) → IsIn t (numbers p.view.held) → IsIn t (numbers_of p.stripes)
   numbered_of_held p u t i = subst (IsIn t) (ap numbers (sym u) ∙ numbers-contents p.stripes) (in_reverse p.view.held t i)
 
   -- the stripe was found held once, and then n times
-  pub again_later : (n t : ℕ) (p : PassState V) → found_again n t (found_again 1 t p) ≡ found_again (suc n) t p
-  again_later n t p = λ i. record p { view = record p.view { found = found_more n t p.view.found i } }
+  found_then : (n t : ℕ) (p q r : PassState V) → FindsAgain 1 t p q → FindsAgain n t q r → FindsAgain (suc n) t p r
+  found_then n t p q r again more =
+      (again.0 ++ more.0, more.1 ∙ (ap (found_again n t more.0) again.1 ∙ (again_later n 1 t again.0 more.0 p ∙ ap (λ m. found_again m t (again.0 ++ more.0) p) (let e : n + 1 ≡ suc n = omega arith in e))))
 
-  pub takes_later : (hash : Name → ℕ) (set : Settings) (turns t : ℕ) (p q r : PassState V) → 1 ≤ turns → q ≡ found_again 1 t p → TakesWithin hash set (turns - 1) t q r → TakesWithin hash set turns t p r
+  pub takes_later : (hash : Name → ℕ) (set : Settings) (turns t : ℕ) (p q r : PassState V) → 1 ≤ turns → FindsAgain 1 t p q → TakesWithin hash set (turns - 1) t q r → TakesWithin hash set turns t p r
   takes_later hash set turns t p q r some again k =
       let l = k.1 in
-      (suc k.0, omega arith, subst (λ (x : PassState V). TakesStripe hash set t x r) (ap (found_again k.0 t) again ∙ again_later k.0 t p) k.2)
+      let all = found_then k.0 t p q (found_again k.0 t k.2 q) again (k.2, refl) in
+      (suc k.0, omega arith, all.0, subst (λ (x : PassState V). TakesStripe hash set t x r) all.1 k.3)
 
-  pub found_later : (turns t : ℕ) (p q r : PassState V) → 1 ≤ turns → q ≡ found_again 1 t p → r ≡ found_again (turns - 1) t q → r ≡ found_again turns t p
-  found_later turns t p q r some again more =
-      more ∙ (ap (found_again (turns - 1) t) again ∙ (again_later (turns - 1) t p ∙ ap (λ n. found_again n t p) (let e : suc (turns - 1) ≡ turns = omega arith in e)))
+  pub found_later : (turns t : ℕ) (p q r : PassState V) → 1 ≤ turns → FindsAgain 1 t p q → FindsAgain (turns - 1) t q r → FindsAgain turns t p r
+  found_later turns t p q r some again more = subst (λ n. FindsAgain n t p r) (let e : suc (turns - 1) ≡ turns = omega arith in e) (found_then (turns - 1) t p q r again more)
 
-  pub tries_later : (hash : Name → ℕ) (set : Settings) (turns t : ℕ) (p q r : PassState V) (taken : Bool) → 1 ≤ turns → q ≡ found_again 1 t p → MatchBool taken (TakesWithin hash set (turns - 1) t q r) (r ≡ found_again (turns - 1) t q)
-      → MatchBool taken (TakesWithin hash set turns t p r) (r ≡ found_again turns t p)
+  pub tries_later : (hash : Name → ℕ) (set : Settings) (turns t : ℕ) (p q r : PassState V) (taken : Bool) → 1 ≤ turns → FindsAgain 1 t p q → MatchBool taken (TakesWithin hash set (turns - 1) t q r) (FindsAgain (turns - 1) t q r)
+      → MatchBool taken (TakesWithin hash set turns t p r) (FindsAgain turns t p r)
   tries_later hash set turns t p q r true some again k = takes_later hash set turns t p q r some again k
   tries_later hash set turns t p q r false some again k = found_later turns t p q r some again k
 
@@ -76,6 +73,10 @@ module _ {V : Type 0} where
 pub found_by_two : {V : Type 0} (w : WordsState) (turns t : ℕ) (p : PassState V) (more : List ℕ) → 1 ≤ turns → IsPassOf w p → p.view.found ≡ replicate turns t ++ more → w.settings.callers ≢ 1
 found_by_two w zero t p more some own found one = omega arith
 found_by_two w (suc n) t p more some own found one = let l = ap length (sym found ∙ own.3 one) in omega arith
+
+-- and another held it each time
+pub has_missed : {V : Type 0} (w : WordsState) (turns t : ℕ) (q : PassState V) (more : List ℕ) → IsPassOf w q → q.view.found ≡ replicate turns t ++ more → HasMissed turns t q
+has_missed w turns t q more own found = record { legal = own.6.legal; missed = λ m by. (more, own.6.missed m by ∙ found) }
 
 module _ {V : Type 0} (hash : Name → ℕ) (w : WordsState) (P : ℕ → Type 0) where
   pub none_taken : (p : PassState V) → IsPassOf w p → IsIdle p → HasTaken hash w P [] p p
@@ -99,19 +100,19 @@ module _ {V : Type 0} (hash : Name → ℕ) (w : WordsState) (P : ℕ → Type 0
       own = own;
       unchanged = unchanged;
       stays = stays_on p.view q.view r.view h.stays (stays_within hash w.settings turns t q r k h.own.1);
-      numbered = ap (λ (l : List (StripeState V)). numbers_of l) k.2.2 ∙ (map-append (λ (x : StripeState V). x.number) q.stripes (k.2.0 ∷ []) ∙ λ i. h.numbered i ++ k.2.1.0 i ∷ []);
-      of_table = subst (λ (l : List (StripeState V)). EachOf w.settings.s l) (sym k.2.2) (each_append w.settings.s q.stripes k.2.0 h.of_table k.2.1.1);
-      no_spare = spare_push q.stripes r.stripes k.2.0 k.2.2 h.no_spare k.2.1.2;
+      numbered = ap (λ (l : List (StripeState V)). numbers_of l) k.3.2 ∙ (map-append (λ (x : StripeState V). x.number) q.stripes (k.3.0 ∷ []) ∙ λ i. h.numbered i ++ k.3.1.0 i ∷ []);
+      of_table = subst (λ (l : List (StripeState V)). EachOf w.settings.s l) (sym k.3.2) (each_append w.settings.s q.stripes k.3.0 h.of_table k.3.1.1);
+      no_spare = spare_push q.stripes r.stripes k.3.0 k.3.2 h.no_spare k.3.1.2;
       found = among_on P p q r h.found (among_within P hash w.settings turns t q r asked k);
       shows = λ _. shows_taken hash w.settings turns t q r k;
     }
 
     -- the stripe was found held to the end, and the others went home
-    pub given_up : (r s : PassState V) → 1 ≤ w.settings.turns → P t → r ≡ found_again w.settings.turns t q → HasReleased w r s → GivesUp w P t p s
+    pub given_up : (r s : PassState V) → 1 ≤ w.settings.turns → P t → FindsAgain w.settings.turns t q r → HasReleased w r s → GivesUp w P t p s
     given_up r s some asked again released =
         let turns = w.settings.turns in
-        let found : s.view.found ≡ replicate turns t ++ q.view.found = released.found ∙ ap (λ (x : PassState V). x.view.found) again in
-        let tried : Stays q.view r.view = subst (λ (x : PassState V). Stays q.view x.view) (sym again) (stays_finding turns t q) in
+        let found : s.view.found ≡ replicate turns t ++ q.view.found = released.found ∙ ap (λ (x : PassState V). x.view.found) again.1 in
+        let tried : Stays q.view r.view = subst (λ (x : PassState V). Stays q.view x.view) (sym again.1) (stays_finding turns t again.0 q) in
         record {
           own = released.own;
           stays = stays_on p.view r.view s.view (stays_on p.view q.view r.view h.stays tried) released.stays;
@@ -120,6 +121,7 @@ module _ {V : Type 0} (hash : Name → ℕ) (w : WordsState) (P : ℕ → Type 0
             released.idle,
             (h.found.0, found ∙ (ap (λ l. replicate turns t ++ l) h.found.1 ∙ sym (append_assoc (replicate turns t) h.found.0 p.view.found))),
             found_by_two w turns t s q.view.found some released.own found,
+            has_missed w turns t s q.view.found released.own found,
           );
           asked = asked;
         }

@@ -10,7 +10,7 @@ use Rattle.ck_words.specs.Words.{WordsState}
 use Rattle.ck_words.specs.Passes.{PassState, EachOf, IsPassOf, IsIdle, IsUnchanged, ShowsSeen, numbers_of}
 use Rattle.ck_words.specs.declared.stripe_set.StripeSet.{StripeSet}
 use Rattle.ck_words.specs.StripeSets.{list_of}
-use Rattle.ck_words.specs.Retries.{Stays, FindsAmong, IsBusy, found_again}
+use Rattle.ck_words.specs.Retries.{Stays, FindsAmong, IsBusy, FindsAgain}
 
 module _ {V : Type 0} where
   -- From p to q the stripes of these numbers were taken, in this order, with no memory to spare. The pass found none held but such ones.
@@ -39,7 +39,7 @@ module _ {V : Type 0} where
   -- From p to q the first i of these stripes were taken, and then one swap found the next held.
   abbrev pub Misses : (Name → ℕ) → WordsState → List ℕ → ℕ → PassState V → PassState V → Type 0
   Misses hash w ns i p q =
-      (i < length ns) × ((r : PassState V) × HasTaken hash w (λ t. IsIn t ns) (take i ns) p r × (q ≡ found_again 1 (slice_index ns i) r))
+      (i < length ns) × ((r : PassState V) × HasTaken hash w (λ t. IsIn t ns) (take i ns) p r × FindsAgain 1 (slice_index ns i) r q)
 
   -- From q to r, where the i-th of these stripes had been missed since some p: all were taken since p, or the last tries found one held, and what had been taken went home.
   pub record TakesRest {A : Type 0} (hash : Name → ℕ) (w : WordsState) (ns : List ℕ) (i : ℕ) (result : Result A ℕ) (q r : PassState V) : Type 0 where

@@ -37,6 +37,7 @@ module _ {V : Type 0} where
     pub others : new.view.others ≡ b.view.others
     pub doublings : new.view.doublings ≡ b.view.doublings
     pub found : new.view.found ≡ b.view.found
+    pub watched : new.view.watched ≡ b.view.watched
     pub no_slot : new.view.no_slot ≡ b.view.no_slot
     pub held : new.view.held ≡ b.view.held
     pub stripes : new.stripes ≡ b.stripes

@@ -11,7 +11,7 @@ use Rattle.ck_stripe.specs.Stripes.{contents_of, HaveNoSpare}
 use Rattle.ck_core.specs.declared.view.View.{View}
 use Rattle.ck_core.specs.Steps.{Label, IsAbove}
 use Rattle.ck_core.specs.Steps.Label.{Take, FindHeld, Look}
-use Rattle.ck_core.specs.Laws.{Shows}
+use Rattle.ck_core.specs.Laws.{Shows, HasWatched}
 use Rattle.ck_words.specs.Rule.{StripeSlot, Hand, IsAtHome}
 use Rattle.ck_words.specs.Steps.{Steps}
 use Rattle.ck_words.specs.Plays.{stripe_in}
@@ -76,8 +76,12 @@ module _ {V : Type 0} where
   state_of table me = record { table = table; view = me.0; stripes = held_in me.1 }
 
   -- A pass of this table, of a caller. The only caller has found no stripe held. It was told a power that the table may have.
+  abbrev pub IsPassIn : WordsState → PassState V → Type 0
+  IsPassIn w p = (p.table ≡ w.table) × (p.view.settings ≡ w.settings) × (p.view.by ≢ None) × (w.settings.callers ≡ 1 → p.view.found ≡ []) × (w.settings.power ≤ p.view.told) × (p.view.told ≤ w.settings.max)
+
+  -- and its caller has watched a legal trace, in which it missed what it found held
   abbrev pub IsPassOf : WordsState → PassState V → Type 0
-  IsPassOf w p = (p.table ≡ w.table) × (p.view.settings ≡ w.settings) × (p.view.by ≢ None) × (w.settings.callers ≡ 1 → p.view.found ≡ []) × (w.settings.power ≤ p.view.told) × (p.view.told ≤ w.settings.max)
+  IsPassOf w p = (p.table ≡ w.table) × (p.view.settings ≡ w.settings) × (p.view.by ≢ None) × (w.settings.callers ≡ 1 → p.view.found ≡ []) × (w.settings.power ≤ p.view.told) × (p.view.told ≤ w.settings.max) × HasWatched p.view
 
   -- the stripes contain what the view tells of them
   abbrev pub IsUnchanged : PassState V → Type 0

@@ -12,7 +12,7 @@ use Rattle.ck_model.specs.Contents.{Stripes}
 use Rattle.ck_stripe.specs.Stripe.{StripeState}
 use Rattle.ck_stripe.specs.Stripes.{no_stripe}
 use Rattle.ck_core.specs.declared.view.View.{View}
-use Rattle.ck_core.specs.Steps.{Label, newcomer}
+use Rattle.ck_core.specs.Steps.{Label, beginner}
 use Rattle.ck_core.specs.Steps.Label.{Take, FindHeld, Look}
 use Rattle.ck_words.specs.Rule.{StripeSlot, Hand, IsAtHome}
 use Rattle.ck_words.specs.Steps.{Steps}
@@ -57,4 +57,4 @@ module _ {V : Type 0} where
 
   -- a caller that begins with the first of the numbers that the view keeps
   abbrev pub begun : View V → View V
-  begun v = newcomer v.settings (first_kept v.others) v.told
+  begun v = beginner v (first_kept v.others)

@@ -4,17 +4,23 @@ use Rattle.ck_model.specs.declared.history.Reason.{Reason}
 use Rattle.ck_model.specs.declared.settings.Settings.{Settings}
 use Rattle.ck_model.specs.Promise.{Name, StartsWith, subhistory}
 use Rattle.ck_model.specs.Numbered.{IsIn}
+use Rattle.ck_core.specs.declared.trace.LockEvent.{LockEvent}
 use Rattle.ck_core.specs.declared.view.View.{View}
+use Rattle.ck_core.specs.Trace.{IsLegalTrace, misses}
 use Rattle.ck_words.specs.Passes.{PassState, TakesStripe, IsIdle}
 
 module _ {V : Type 0} where
-  -- the pass after it found the stripe t held n times more
-  abbrev pub found_again : ℕ → ℕ → PassState V → PassState V
-  found_again n t p = record p { view = record p.view { found = replicate n t ++ p.view.found } }
+  -- the pass after it found the stripe t held n times more, by which it watched these steps more
+  abbrev pub found_again : ℕ → ℕ → List LockEvent → PassState V → PassState V
+  found_again n t events p = record p { view = record p.view { found = replicate n t ++ p.view.found; watched = p.view.watched ++ events } }
+
+  -- q is p after that
+  abbrev pub FindsAgain : ℕ → ℕ → PassState V → PassState V → Type 0
+  FindsAgain n t p q = (events : List LockEvent) × (q ≡ found_again n t events p)
 
   -- the stripe t was taken within so many tries, after the others found it held
   abbrev pub TakesWithin : (Name → ℕ) → Settings → ℕ → ℕ → PassState V → PassState V → Type 0
-  TakesWithin hash set turns t p q = (n : ℕ) × (n < turns) × TakesStripe hash set t (found_again n t p) q
+  TakesWithin hash set turns t p q = (n : ℕ) × (n < turns) × (events : List LockEvent) × TakesStripe hash set t (found_again n t events p) q
 
   -- What no step changes but one that decides, doubles or meets: the caller's entries, its doublings and what it heard, and it has seen and was told no less. What it sees more is by others, so that the only caller sees nothing more.
   -- It has said of these names more that they found no room.
@@ -28,6 +34,7 @@ module _ {V : Type 0} where
     pub seen : StartsWith w.seen v.seen
     pub by_others : (m : ℕ) → v.by ≡ Some m → subhistory m seen.0 ≡ []
     pub alone : v.settings.callers ≡ 1 → w.seen ≡ v.seen
+    pub watched : (events : List LockEvent) × (w.watched ≡ v.watched ++ events)
     pub told : v.told ≤ w.told
     pub doublings : w.doublings ≡ v.doublings
 
@@ -47,6 +54,11 @@ module _ {V : Type 0} where
   abbrev pub FindsLast : ℕ → ℕ → PassState V → PassState V → Type 0
   FindsLast turns t p q = (before : List ℕ) × (q.view.found ≡ replicate turns t ++ before ++ p.view.found)
 
+  -- In the trace that the pass has watched, which is legal, the stripe that its caller missed at its last tries, so many, was t: at each of them another had taken t, and not given it back.
+  pub record HasMissed (turns t : ℕ) (q : PassState V) : Type 0 where
+    pub legal : IsLegalTrace q.view.watched
+    pub missed : (m : ℕ) → q.view.by ≡ Some m → (before : List ℕ) × (misses m q.view.watched ≡ replicate turns t ++ before)
+
   -- The pass holds no stripe. Its last tries all found the stripe t held, and its caller isn't the only one.
   abbrev pub IsBusy : Settings → ℕ → PassState V → PassState V → Type 0
-  IsBusy set t p q = IsIdle q × FindsLast set.turns t p q × (set.callers ≢ 1)
+  IsBusy set t p q = IsIdle q × FindsLast set.turns t p q × (set.callers ≢ 1) × HasMissed set.turns t q

@@ -11,6 +11,7 @@ use Rattle.ck_model.specs.Promise.{Name}
 use Rattle.ck_model.specs.Counting.{counting}
 use Rattle.ck_model.specs.Contents.{Layout, layout_of}
 use Rattle.ck_stripe.specs.Stripe.{StripeState, HasNoSpare}
+use Rattle.ck_core.specs.declared.trace.LockEvent.{LockEvent}
 use Rattle.ck_core.specs.declared.view.View.{View}
 use Rattle.ck_core.specs.State.{Configuration, HistoryInvariant}
 use Rattle.ck_core.specs.Steps.{initial_view}
@@ -39,16 +40,17 @@ module _ {V : Type 0} where
   lying (some None) = None
   lying (some (Some stripe)) = Some stripe.content
 
-  abbrev pub world : ℕ → State (StripeSlot V) (View V) → Configuration V
-  world n s = record { words = spaced n s.words; homes = map lying s.homes; views = s.views }
+  abbrev pub world : ℕ → List LockEvent → State (StripeSlot V) (View V) → Configuration V
+  world n trace s = record { words = spaced n s.words; homes = map lying s.homes; views = s.views; trace = trace }
 
   -- stripe t of 2^s as it lies in its slot: with memory for its rows, and for none besides
   abbrev pub IsAtHome : ℕ → ℕ → StripeState V → Type 0
   IsAtHome s t stripe = (stripe.number ≡ t) × (stripe.s ≡ s) × HasNoSpare stripe
 
-  -- The invariant of the core with this history; eight words for each stripe; and each slot has the stripe of its number, with no memory to spare.
+  -- The invariant of the core with this history and some trace; eight words for each stripe; and each slot has the stripe of its number, with no memory to spare.
   pub record IsKept (k : Layout) (callers : ℕ) (log : List (Entry V)) (s : State (StripeSlot V) (View V)) : Type 0 where
-    pub law : HistoryInvariant k callers log (world (2 ^ k.s) s)
+    pub trace : List LockEvent
+    pub law : HistoryInvariant k callers log (world (2 ^ k.s) trace s)
     pub words_sized : length s.words ≡ 2 ^ k.s * 8
     pub at_home : (t : ℕ) (stripe : StripeState V) → get_elem? s.homes t ≡ some (some (Some stripe)) → IsAtHome k.s t stripe
 

@@ -6,7 +6,7 @@ ghost use Rattle.ck_stripe.specs.Tables.{AreHeld, IsTable};
 ghost use Rattle.ck_words.specs.Passes.{MayTake, IsPassOf, IsUnchanged, numbers_of, PassState, IsIdle, ShowsSeen};
 ghost use Rattle.ck_words.specs.StripeNumbers.{pair};
 ghost use Rattle.ck_words.specs.StripeSets.{list_of};
-ghost use Rattle.ck_words.specs.Retries.{TakesWithin, found_again, Stays, FindsAmong, IsBusy};
+ghost use Rattle.ck_words.specs.Retries.{TakesWithin, FindsAgain, Stays, FindsAmong, IsBusy};
 ghost use Rattle.ck_words.specs.Holding.{MayLock, HasTaken, HasTakenAll, GivesUp, Misses, TakesRest};
 ghost use Rattle.ck_words.specs.Closing.{IsWhole};
 
@@ -24,7 +24,7 @@ impl<K: TableKey + Drop, V: Drop> Words<K, V> {
         ensures own { IsPassOf self.now pass.new }
         ensures tries { MatchBool result
             (TakesWithin K.hash self.now.settings self.now.settings.turns t pass.old pass.new)
-            (pass.new ≡ found_again self.now.settings.turns t pass.old) }
+            (FindsAgain self.now.settings.turns t pass.old pass.new) }
         ensures unchanged { IsUnchanged pass.new }
     {
         self.show_range();
@@ -42,7 +42,7 @@ impl<K: TableKey + Drop, V: Drop> Words<K, V> {
         ensures own { IsPassOf self.now pass.new }
         ensures tries { MatchBool result
             (TakesWithin K.hash self.now.settings (self.now.settings.turns - 1) t pass.old pass.new)
-            (pass.new ≡ found_again (self.now.settings.turns - 1) t pass.old) }
+            (FindsAgain (self.now.settings.turns - 1) t pass.old pass.new) }
         ensures unchanged { IsUnchanged pass.new }
     {
         for tries in 1..self.settings().turns {

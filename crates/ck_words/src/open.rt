@@ -91,13 +91,14 @@ impl<K: TableKey + Drop, V: Drop> Words<K, V> {
         Ok((words, passes))
     }
 
-    /// One more pass, with the first of the numbers that the pass `first` keeps. It has seen
-    /// nothing, and was told the power that `first` was told. It is refused only for want of
-    /// memory, and then `first` is unchanged.
+    /// One more pass, with the first of the numbers that the pass `first` keeps, which has tried to
+    /// take no stripe. It has seen nothing, and was told the power that `first` was told. It is
+    /// refused only for want of memory, and then `first` is unchanged.
     pub(crate) fn deal(&self, first: &mut Pass<K, V>) -> Result<Pass<K, V>, AllocError>
         requires own { IsPassOf self.now first.old }
         requires kept { (m : ℕ) × (others : List (ℕ × List (Entry V)))
             × (first.old.view.others ≡ (m, []) ∷ others) }
+        requires new { first.old.view.watched ≡ [] }
         ensures own { IsPassOf self.now first.new }
         ensures pass { IfOk result (IsPassOf self.now) }
         ensures idle { IfOk result IsIdle }

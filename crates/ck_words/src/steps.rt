@@ -11,7 +11,7 @@ ghost use Rattle.ck_model.specs.Contents.{layout_of, Lawful};
 ghost use Rattle.ck_model.specs.Sections.{Section, IdentitySection};
 ghost use Rattle.ck_core.specs.Steps.{Label, IsAbove, IsExcused, HasGrounds};
 ghost use Rattle.ck_stripe.specs.Stripes.{contents_of, HaveNoSpare};
-ghost use Rattle.ck_words.specs.Passes.{MayTake, MayGive, IsPassOf, IsUnchanged, TriesStripe, Sends, LooksUp};
+ghost use Rattle.ck_words.specs.Passes.{MayTake, MayGive, IsPassIn, IsPassOf, IsUnchanged, TriesStripe, Sends, LooksUp};
 
 use crate::pass::Pass;
 use crate::words::Words;
@@ -212,7 +212,7 @@ impl<K: TableKey + Drop, V: Drop> Words<K, V> {
     ///
     /// It is a load.
     pub fn look(&self, pass: &mut Pass<K, V>)
-        requires own { IsPassOf self.now pass.old }
+        requires own { IsPassIn self.now pass.old }
         ensures own { IsPassOf self.now pass.new }
         ensures step { LooksUp K.hash self.now pass.old pass.new }
     {

@@ -1,7 +1,7 @@
 //! What a pass knows, split off and joined to what another knows.
 ghost use Rattle.std.specs.Prelude.{◌≡◌};
 ghost use Rattle.ck_core.specs.Steps.{joining};
-ghost use Rattle.ck_words.specs.Passes.{IsPassOf, IsIdle};
+ghost use Rattle.ck_words.specs.Passes.{IsPassIn, IsPassOf, IsIdle};
 ghost use Rattle.ck_words.specs.Meeting.{message_from, Hears, Meets};
 
 use crate::pass::Pass;
@@ -88,7 +88,7 @@ impl<K: TableKey + Drop, V: Drop> Words<K, V> {
     pub(crate) fn join(&self, first: &mut Pass<K, V>, other: Pass<K, V>)
         requires own { IsPassOf self.now first.old × IsPassOf self.now other }
         requires idle { IsIdle other }
-        ensures own { IsPassOf self.now first.new }
+        ensures own { IsPassIn self.now first.new }
         ensures joined { first.new ≡ record first.old { view = joining first.old.view other.view } }
     {
         let Pass { seat, room: _ } = other;

@@ -97,6 +97,7 @@ module _ {V : Type 0} where
       settings = s.settings ∙ ap (λ (x : CallerState V). x.client.settings) is;
       told = subst (λ (x : CallerState V). x.notes.told ≤ q.view.told) is s.told;
       heard = (s.heard.0 ∙ ap (λ (x : CallerState V). x.notes.heard) is, s.heard.1 ∙ ap (λ (x : CallerState V). x.notes.heard_told) is);
+      watched = (s.watched.0, s.watched.1 ∙ ap (λ (x : CallerState V). x.notes.watched ++ s.watched.0) is);
       no_slot = s.no_slot ∙ ap (λ (x : CallerState V). more ++ x.notes.no_slot) is;
     }
 

@@ -84,6 +84,7 @@ module _ {V : Type 0} where
           seen = ([], sym (append-nil z.view.seen));
           by_others = λ n e. refl;
           alone = λ _. refl;
+          watched = (s.watched.0 ++ rest.watched.0, rest.watched.1 ∙ (ap (λ l. l ++ rest.watched.0) s.watched.1 ∙ append_assoc p.view.watched s.watched.0 rest.watched.0));
           told = (let a = s.told in let b = rest.told in omega arith);
           doublings = refl;
         };

@@ -63,11 +63,11 @@ module _ {V : Type 0} where
 
   -- what stays but for doublings
   pub loosely : {more : List (Name × Reason)} {v w : View V} → StaysBut more v w → StaysBut more (record v { doublings = w.doublings }) w
-  loosely s = record { settings = s.settings; by = s.by; mine = s.mine; others = s.others; heard = s.heard; no_slot = s.no_slot; seen = s.seen; by_others = s.by_others; alone = s.alone; told = s.told; doublings = refl }
+  loosely s = record { settings = s.settings; by = s.by; mine = s.mine; others = s.others; heard = s.heard; no_slot = s.no_slot; seen = s.seen; by_others = s.by_others; alone = s.alone; watched = s.watched; told = s.told; doublings = refl }
 
   -- also where both count others
   pub stays_counting : {more : List (Name × Reason)} {v w : View V} (n : ℕ) → StaysBut more v w → StaysBut more (record v { doublings = n }) (record w { doublings = n })
-  stays_counting n s = record { settings = s.settings; by = s.by; mine = s.mine; others = s.others; heard = s.heard; no_slot = s.no_slot; seen = s.seen; by_others = s.by_others; alone = s.alone; told = s.told; doublings = refl }
+  stays_counting n s = record { settings = s.settings; by = s.by; mine = s.mine; others = s.others; heard = s.heard; no_slot = s.no_slot; seen = s.seen; by_others = s.by_others; alone = s.alone; watched = s.watched; told = s.told; doublings = refl }
 
   -- where none was made
   pub released_alike : {w : WordsState} (p z : PassState V) → HasReleased w (as_doubled p z) z → z.view.doublings ≡ p.view.doublings → HasReleased w p z

@@ -45,6 +45,7 @@ module _ {V : Type 0} where
         busy.tried.1 ∙ (ap (λ l. (replicate w.settings.turns t ++ busy.tried.0) ++ l) f.found.1 ∙ found_before (replicate w.settings.turns t) busy.tried.0 f.found.0 p.view.found),
       );
       others = busy.others;
+      missed = busy.missed;
     }
 
   -- stripes were taken, and went home when the call had worked on them

@@ -46,7 +46,7 @@ module _ {V : Type 0} where
     more = [];
     stays = loosely busy.stays;
     own = All-nil _;
-    shown = (below t busy.stripe, busy.tried, busy.others, busy.stays.doublings);
+    shown = (below t busy.stripe, busy.tried, busy.others, busy.stays.doublings, busy.missed);
     grown = grown_none p z busy.stays.doublings;
   }
 

@@ -32,7 +32,7 @@ module _ {P : ℕ → Type 0} (ns : List ℕ) (exact : (t : ℕ) → IsIn t ns �
   finds_such p p2 f = (f.0, f.1, (λ t i. (exact t).0 (f.2 t i)))
 
   pub busy_such : {V : Type 0} (set : Settings) (p p2 : PassState V) (t : ℕ) → Stays p.view p2.view → IsBusy set t p p2 → IsIn t ns → IsBusyAmong P set t p p2
-  busy_such set p p2 t stays busy i = record { stays = stays; stripe = (exact t).0 i; tried = busy.1; others = busy.2 }
+  busy_such set p p2 t stays busy i = record { stays = stays; stripe = (exact t).0 i; tried = busy.1; others = busy.2; missed = busy.3 }
 
 -- they are those of a name, whose hash this is
 pub of_name : {hash : Name → ℕ} (set : Settings) {q : Name} {s : ℕ} {h : KeyHash} (ns : List ℕ) → s ≡ set.s → IsHashOf hash q h → ((t : ℕ) → IsIn t ns ↔ ((t ≡ index_of s h.hash) ⊎ (t ≡ second_of s h.hash)))

@@ -113,7 +113,7 @@ module _ {V : Type 0} (q : Name) where
       shows_since : (why : Why) → ShowsWhy hash w.settings q why more r z → ShowsWhy hash w.settings q why said p z
       shows_since (Busy t) s =
           let last : List ℕ = replicate w.settings.turns t in
-          (s.0, (s.1.0 ++ any_since.0, s.1.1 ∙ (ap (λ l. (last ++ s.1.0) ++ l) any_since.1 ∙ found_before last s.1.0 any_since.0 p.view.found)), s.2, s.3 ∙ stays_until.doublings)
+          (s.0, (s.1.0 ++ any_since.0, s.1.1 ∙ (ap (λ l. (last ++ s.1.0) ++ l) any_since.1 ∙ found_before last s.1.0 any_since.0 p.view.found)), s.2, s.3 ∙ stays_until.doublings, s.4)
       shows_since Memory s = (says_since reason.Memory s.0, s.1)
       shows_since Full s = (says_since reason.Full s.0, s.1)
       shows_since LoadTooLow s = (says_since reason.LoadTooLow s.0, s.1)

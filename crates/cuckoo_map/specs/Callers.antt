@@ -10,6 +10,7 @@ use Rattle.ck_model.specs.declared.history.Reply.TheVariants.{Count, Closed}
 use Rattle.ck_model.specs.declared.history.Reason.{Reason}
 use Rattle.ck_model.specs.declared.history.Reason.TheVariants.{NoRoom}
 use Rattle.ck_model.specs.Promise.{Name, Map, Client, Replied, ListsInOrder}
+use Rattle.ck_core.specs.declared.trace.LockEvent.{LockEvent}
 use Rattle.ck_core.specs.State.{client_of}
 use Rattle.ck_words.specs.Words.{WordsState}
 use Rattle.ck_words.specs.Passes.{PassState}
@@ -64,11 +65,12 @@ module _ {V : Type 0} where
   abbrev pub Counts : CallerState V → CallerState V → ℕ → Type 0
   Counts c d count = Replies Len c d (Count count)
 
-  -- From c to d it was told no lower power and met nobody. It has said of these names more that they found no room.
+  -- From c to d it was told no lower power, met nobody, and watched no less of the trace. It has said of these names more that they found no room.
   pub record KeepsNotesBut (more : List (Name × Reason)) (c d : CallerState V) : Type 0 where
     pub settings : d.client.settings ≡ c.client.settings
     pub told : c.notes.told ≤ d.notes.told
     pub heard : (d.notes.heard ≡ c.notes.heard) × (d.notes.heard_told ≡ c.notes.heard_told)
+    pub watched : (events : List LockEvent) × (d.notes.watched ≡ c.notes.watched ++ events)
     pub no_slot : d.notes.no_slot ≡ more ++ c.notes.no_slot
 
   -- and it has said so of none more, and made no doubling

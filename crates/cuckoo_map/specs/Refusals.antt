@@ -11,7 +11,7 @@ use Rattle.ck_model.specs.declared.lack.Lack.TheVariants as lack
 use Rattle.cuckoo_map.specs.declared.refusal.Why.{Why}
 use Rattle.cuckoo_map.specs.declared.refusal.Why.TheVariants.{Busy, Memory, Full, LoadTooLow}
 use Rattle.ck_words.specs.Passes.{PassState}
-use Rattle.ck_words.specs.Retries.{StaysBut, Stays, as_doubled, FindsAmong, FindsLast}
+use Rattle.ck_words.specs.Retries.{StaysBut, Stays, as_doubled, FindsAmong, FindsLast, HasMissed}
 use Rattle.cuckoo_map.specs.Needed.{HasGrownFor}
 
 -- a stripe of the table
@@ -40,11 +40,12 @@ module _ {V : Type 0} where
   abbrev pub FindsOwn : (Name → ℕ) → Settings → Name → PassState V → PassState V → Type 0
   FindsOwn hash set q p p2 = FindsAmong (IsStripeOf (layout_of hash set) q) p p2
 
-  -- The call has no entry, and its last tries all found this stripe held, which is such a one. Its caller isn't the only one.
+  -- The call has no entry, and its last tries all found this stripe held, which is such a one: at each of them another caller held it. So its caller isn't the only one.
   pub record IsBusyAmong (P : ℕ → Type 0) (set : Settings) (t : ℕ) (p p2 : PassState V) : Type 0 where
     pub stays : Stays p.view p2.view
     pub stripe : P t
     pub tried : FindsLast set.turns t p p2
+    pub missed : HasMissed set.turns t p2
     pub others : set.callers ≢ 1
 
   -- it was a stripe of the name
@@ -68,7 +69,7 @@ module _ {V : Type 0} where
 
   -- what was found, or said of room and why, where an insertion is refused for this reason; a busy one has made no doubling
   abbrev pub ShowsWhy : (Name → ℕ) → Settings → Name → Why → List (Name × history.Reason) → PassState V → PassState V → Type 0
-  ShowsWhy hash set q (Busy t) more p p2 = (t < 2 ^ set.s) × FindsLast set.turns t p p2 × (set.callers ≢ 1) × (p2.view.doublings ≡ p.view.doublings)
+  ShowsWhy hash set q (Busy t) more p p2 = (t < 2 ^ set.s) × FindsLast set.turns t p p2 × (set.callers ≢ 1) × (p2.view.doublings ≡ p.view.doublings) × HasMissed set.turns t p2
   ShowsWhy hash set q Memory more p p2 = Contains more (q, reason.Memory) × GivesGrounds hash set q reason.Memory p2
   ShowsWhy hash set q Full more p p2 = Contains more (q, reason.Full) × GivesGrounds hash set q reason.Full p2
   ShowsWhy hash set q LoadTooLow more p p2 = Contains more (q, reason.LoadTooLow) × GivesGrounds hash set q reason.LoadTooLow p2

@@ -1,6 +1,9 @@
-use Rattle.std.proofs.Common.{◌≡◌, ◌*◌, ◌^◌, ◌∙◌, ℕ, ap, replicate, length, rules, arith}
+use Rattle.std.proofs.Common.{◌≡◌, ◌*◌, ◌^◌, ◌∙◌, ℕ, ap, sym, subst, refl, replicate, length, rules, arith}
 use Rattle.atomic_table.specs.Seated.{TableId}
 use lib.ListN.{length-replicate}
+use Rattle.ck_core.specs.declared.view.View.{View}
+use Rattle.ck_core.specs.Laws.{HasWatched}
+use Rattle.ck_core.proofs.LegalTraces.{legal_none}
 use Rattle.ck_words.specs.Rule.{Hand}
 use Rattle.ck_words.proofs.Starting.{starts, length-fresh}
 use Rattle.ck_words.proofs.Seating.{seated_none}
@@ -29,3 +32,14 @@ invariant_of-result-2 g c =
       empty = c.in_ok-room.ensures.items;
       room = (let many = ap (λ (t : TableId). t.slots) z.2 ∙ z.1 in let room = c.in_ok-room.ensures.capacity in let len = c.in_ok-slots.slots.ok.0 in omega arith);
     }
+
+pub returns-clause-pass : goal.returns-clause-pass
+returns-clause-pass g c = (
+  search rules,
+  search rules,
+  search rules,
+  search rules,
+  search rules,
+  search rules,
+  subst (λ (v : View g.row.V.Denot). HasWatched v) (sym (ap (λ (m : Hand g.row.V.Denot). m.0) c.in-Ok.ensures.ok.4)) (record { legal = legal_none; missed = λ _ _. refl }),
+)

@@ -1,7 +1,7 @@
 use Rattle.std.proofs.Common.{◌≡◌, ◌≤◌, ◌∙◌, ◌++◌, ◌∷◌, [], ap, sym, subst, refl, set, arith}
 use Rattle.ck_model.specs.declared.settings.Settings.{Settings}
 use Rattle.ck_words.specs.Words.{WordsState}
-use Rattle.ck_words.specs.Passes.{IsPassOf}
+use Rattle.ck_words.specs.Passes.{PassState, IsPassOf}
 use Rattle.ck_words.specs.Closing.{AreAllPasses}
 use Rattle.ck_words.proofs.Dealt.{first_read, keeps_next, dealt_more, dealt_whole, dealt_all}
 use Rattle.ck_words.proofs.words.Words.open_all.Goals as goal
@@ -12,6 +12,9 @@ deal-requires-clause-kept g c =
     let same : w.settings ≡ c.args.settings = ap (λ (x : WordsState). x.settings) c.words.view_is ∙ c.in_ok-words.ensures.settings in
     let callers = ap (λ (x : Settings). x.callers) same in
     keeps_next w.table w.settings c.loop-i._i c.index_mut.result.now (omega arith) (first_read _ _ _ _ c.loop-i.invariant c.index_mut.ensures.value)
+
+pub deal-requires-clause-new : goal.deal-requires-clause-new
+deal-requires-clause-new g c = ap (λ (p : PassState g.row.V.Denot). p.view.watched) (first_read _ _ _ _ c.loop-i.invariant c.index_mut.ensures.value)
 
 pub loop-i-preserved : goal.loop-i-preserved
 loop-i-preserved g c =

@@ -2,14 +2,14 @@ use Rattle.std.proofs.Common.{◌≡◌, ◌∙◌, ◌++◌, [], ap, append-nil
 use Rattle.ck_words.specs.Passes.{PassState}
 use Rattle.ck_words.specs.Retries.{Stays}
 use Rattle.ck_words.proofs.Staying.{stays_finding, among_held}
-use Rattle.ck_words.proofs.Taking.{found_by_two}
+use Rattle.ck_words.proofs.Taking.{found_by_two, has_missed}
 use Rattle.ck_words.proofs.Telling.{stays_home, found_home, told_there}
 use Rattle.ck_words.proofs.words.Words.power.Goals as goal
 
 pub returns-then-not-try_take-clause-stays : goal.returns-then-not-try_take-clause-stays
 returns-then-not-try_take-clause-stays g c =
     let p = c.args.pass.now in let turns = c.args.self.now.settings.turns in
-    subst (λ (q : PassState g.row.V.Denot). Stays p.view q.view) (sym c.if-not-try_take.ensures.tries) (stays_finding turns 0 p)
+    subst (λ (q : PassState g.row.V.Denot). Stays p.view q.view) (sym c.if-not-try_take.ensures.tries.1) (stays_finding turns 0 c.if-not-try_take.ensures.tries.0 p)
 
 pub returns-then-not-try_take-clause-found : goal.returns-then-not-try_take-clause-found
 returns-then-not-try_take-clause-found g c =
@@ -22,12 +22,13 @@ returns-then-not-try_take-clause-busy g c =
     let z = c.try_take.new.pass in
     let turns = c.args.self.now.settings.turns in
     let again = c.if-not-try_take.ensures.tries in
-    let found = ap (λ (q : PassState g.row.V.Denot). q.view.found) again in (
+    let found = ap (λ (q : PassState g.row.V.Denot). q.view.found) again.1 in (
       refl,
       (
-        (ap (λ (q : PassState g.row.V.Denot). q.stripes) again ∙ c.requires.idle.0, ap (λ (q : PassState g.row.V.Denot). q.view.held) again ∙ c.requires.idle.1),
+        (ap (λ (q : PassState g.row.V.Denot). q.stripes) again.1 ∙ c.requires.idle.0, ap (λ (q : PassState g.row.V.Denot). q.view.held) again.1 ∙ c.requires.idle.1),
         ([], found ∙ ap (λ l. l ++ p.view.found) (sym (append-nil (replicate turns 0)))),
         found_by_two c.args.self.now turns 0 z p.view.found c.show_range.ensures.turns c.try_take.ensures.own found,
+        has_missed c.args.self.now turns 0 z p.view.found c.try_take.ensures.own found,
       ),
     )
 

@@ -2,7 +2,7 @@ use Rattle.std.proofs.Common.{rules, ◌≡◌, ◌+◌, ◌-◌, sym, subst, ap
 use Rattle.ck_model.specs.Numbered.{numbers}
 use Rattle.ck_core.specs.Steps.{IsAbove}
 use Rattle.ck_words.specs.Passes.{PassState}
-use Rattle.ck_words.specs.Retries.{found_again}
+use Rattle.ck_words.specs.Retries.{FindsAgain}
 use Rattle.ck_words.proofs.Staying.{found_next}
 use Rattle.ck_words.proofs.words.Words.try_again.Goals as goal
 
@@ -10,7 +10,7 @@ pub take-requires : goal.take-requires
 take-requires g c = record {
   own = search rules;
   inside = search rules;
-  above = subst (λ (q : PassState g.row.V.Denot). IsAbove c.args.t (numbers q.view.held)) (sym c.loop-tries.invariant.tried) c.requires.above;
+  above = subst (λ (q : PassState g.row.V.Denot). IsAbove c.args.t (numbers q.view.held)) (sym c.loop-tries.invariant.tried.1) c.requires.above;
   unchanged = search rules;
 }
 
@@ -20,5 +20,5 @@ loop-tries-preserved g c =
     record {
       own = c.take.ensures.own;
       unchanged = c.take.ensures.unchanged;
-      tried = found_next g.K.TableKey.hash c.args.self.now (n - 1) c.args.t c.args.pass.now c.loop-tries.pass c.take.new.pass i.tried i.own c.take.ensures.own c.if-take.ensures.step ∙ ap (λ m. found_again m c.args.t c.args.pass.now) (let e : n - 1 + 1 ≡ n + 1 - 1 = omega arith in e);
+      tried = subst (λ m. FindsAgain m c.args.t c.args.pass.now c.take.new.pass) (let e : n - 1 + 1 ≡ n + 1 - 1 = omega arith in e) (found_next g.K.TableKey.hash c.args.self.now (n - 1) c.args.t c.args.pass.now c.loop-tries.pass c.take.new.pass i.tried i.own c.take.ensures.own c.if-take.ensures.step);
     }

@@ -30,6 +30,7 @@ returns-in-Err g c = record {
     stripe = below_set c.of_buckets-stripes.result c.args.self.now.settings.s c.in-Err.stripe (c.of_buckets-stripes.ensures.s ∙ s_of c.self.view_is c.settings-s.ensures.value) c.in-Err.ensures.asked;
     tried = (let busy = subst (λ (w : WordsState). IsBusy w.settings c.in-Err.stripe c.args.pass.now c.lock.new.pass) c.self.view_is c.in-Err.ensures.busy in busy.1);
     others = (let busy = subst (λ (w : WordsState). IsBusy w.settings c.in-Err.stripe c.args.pass.now c.lock.new.pass) c.self.view_is c.in-Err.ensures.busy in busy.2);
+    missed = (let busy = subst (λ (w : WordsState). IsBusy w.settings c.in-Err.stripe c.args.pass.now c.lock.new.pass) c.self.view_is c.in-Err.ensures.busy in busy.3);
   };
 }
 

@@ -1,0 +1,118 @@
+-- Traces of steps on the lock words.
+use Rattle.std.proofs.Common.{◌≡◌, ◌≢◌, ◌⊎◌, ℕ, inl, inr, List, [], ◌∷◌, ◌++◌, append-nil, append_assoc, sym, refl, ap, ◌∙◌, subst, ⊎_elim, length, length-append, arith, Option, Some, None}
+use Rattle.ck_model.proofs.Numbered.{if_same, if_else}
+use Rattle.ck_core.specs.declared.trace.LockStep.{LockStep}
+use Rattle.ck_core.specs.declared.trace.LockStep.TheVariants.{Took, Missed, Gave}
+use Rattle.ck_core.specs.declared.trace.LockEvent.{LockEvent}
+use Rattle.ck_core.specs.Steps.{longer}
+use Rattle.ck_core.specs.Trace.{held_after, held_behind, held_from, holder, Fits, IsLegalTrace, missed_by, misses, NoneBy}
+
+module _ {A : Type 0} where
+  first_of : A → List A → A
+  first_of d [] = d
+  first_of d (x ∷ xs) = x
+
+  rest_of : List A → List A
+  rest_of [] = []
+  rest_of (x ∷ xs) = xs
+
+  -- Where a list with one element more is cut at an element, that is the last one, or the list is cut there.
+  cut_snoc : (xs : List A) (x : A) (before : List A) (y : A) (more : List A) → xs ++ x ∷ [] ≡ before ++ y ∷ more → ((xs ≡ before) × (x ≡ y)) ⊎ ((rest : List A) × (xs ≡ before ++ y ∷ rest))
+  unfolding first_of rest_of
+  cut_snoc [] x [] y more e = inl (refl, ap (first_of x) e)
+  cut_snoc [] x (b ∷ bs) y more e = absurd (let l = ap length e in let m = length-append bs (y ∷ more) in omega arith)
+  cut_snoc (z ∷ zs) x [] y more e = inr (zs, λ i. first_of z (e i) ∷ zs)
+  cut_snoc (z ∷ zs) x (b ∷ bs) y more e = ⊎_elim
+      (λ (h : (zs ≡ bs) × (x ≡ y)). inl ((λ i. first_of z (e i) ∷ h.0 i), h.1))
+      (λ (h : (rest : List A) × (zs ≡ bs ++ y ∷ rest)). inr (h.0, λ i. first_of z (e i) ∷ h.1 i))
+      (cut_snoc zs x bs y more (ap rest_of e))
+
+  -- what two beginnings of one list lack of the longer
+  pub longer_cut : (a b c d : List A) → a ++ b ≡ c ++ d → (x : List A) × (y : List A) × (rest : List A) × (longer a c ≡ a ++ x) × (b ≡ x ++ rest) × (d ≡ y ++ rest)
+  unfolding rest_of
+  longer_cut [] b c d e = (c, [], d, refl, e, refl)
+  longer_cut (z ∷ zs) b [] d e = ([], z ∷ zs, b, sym (append-nil (z ∷ zs)), refl, sym e)
+  longer_cut (z ∷ zs) b (w ∷ ws) d e =
+      let cut = longer_cut zs b ws d (ap rest_of e) in
+      (cut.0, cut.1, cut.2, ap {B = List A} (λ l. z ∷ l) cut.3, cut.4, cut.5)
+
+-- which step it is
+IsTaking : LockStep → Type 0
+IsTaking Took = Unit {0}
+IsTaking step = ⊥
+
+IsMissing : LockStep → Type 0
+IsMissing Missed = Unit {0}
+IsMissing step = ⊥
+
+IsGiving : LockStep → Type 0
+IsGiving Gave = Unit {0}
+IsGiving step = ⊥
+
+pub taking_fits : (m : ℕ) (h : Option ℕ) → h ≡ None → Fits Took m h
+unfolding IsTaking
+taking_fits m h is = ((λ _. is), (λ e. absurd (subst IsTaking e tt)), (λ e. absurd (subst IsTaking e tt)))
+
+pub missing_fits : (m : ℕ) (h : Option ℕ) → h ≢ None → h ≢ Some m → Fits Missed m h
+unfolding IsMissing
+missing_fits m h some other = ((λ e. absurd (subst IsMissing e tt)), (λ _. (some, other)), (λ e. absurd (subst IsMissing e tt)))
+
+pub giving_fits : (m : ℕ) (h : Option ℕ) → h ≡ Some m → Fits Gave m h
+unfolding IsGiving
+giving_fits m h is = ((λ e. absurd (subst IsGiving e tt)), (λ e. absurd (subst IsGiving e tt)), (λ _. is))
+
+held_from_snoc : (t : ℕ) (h : Option ℕ) (es : List LockEvent) (e : LockEvent) → held_from t h (es ++ e ∷ []) ≡ held_behind t (held_from t h es) e
+held_from_snoc t h [] e = refl
+held_from_snoc t h (x ∷ xs) e = held_from_snoc t (held_behind t h x) xs e
+
+-- who holds the stripe of the last step, and another one
+pub holder_here : (es : List LockEvent) (e : LockEvent) (t : ℕ) → e.stripe ≡ t → holder (es ++ e ∷ []) t ≡ held_after e.step e.by (holder es t)
+holder_here es e t is = held_from_snoc t None es e ∙ if_same e.stripe t (held_after e.step e.by (holder es t)) (holder es t) is
+
+pub holder_there : (es : List LockEvent) (e : LockEvent) (t : ℕ) → e.stripe ≢ t → holder (es ++ e ∷ []) t ≡ holder es t
+holder_there es e t apart = held_from_snoc t None es e ∙ if_else e.stripe t (held_after e.step e.by (holder es t)) (holder es t) apart
+
+-- a step that fits makes a legal trace longer
+pub legal_more : (es : List LockEvent) (e : LockEvent) → IsLegalTrace es → Fits e.step e.by (holder es e.stripe) → IsLegalTrace (es ++ e ∷ [])
+legal_more es e legal fits before x more is = ⊎_elim
+    (λ (h : (es ≡ before) × (e ≡ x)). subst (λ (y : List LockEvent × LockEvent). Fits y.1.step y.1.by (holder y.0 y.1.stripe)) (λ i. (h.0 i, h.1 i)) fits)
+    (λ (h : (rest : List LockEvent) × (es ≡ before ++ x ∷ rest)). legal before x h.0 h.1)
+    (cut_snoc es e before x more is)
+
+pub legal_none : IsLegalTrace []
+legal_none before e more is = absurd (let l = ap length is in let m = length-append before (e ∷ more) in omega arith)
+
+-- a beginning of a legal trace is legal
+pub legal_start : (es start more : List LockEvent) → es ≡ start ++ more → IsLegalTrace es → IsLegalTrace start
+legal_start es start more is legal before x rest e = legal before x (rest ++ more) (is ∙ (ap (λ l. l ++ more) e ∙ append_assoc before (x ∷ rest) more))
+
+misses_append : (m : ℕ) (xs ys : List LockEvent) → misses m (xs ++ ys) ≡ misses m ys ++ misses m xs
+misses_append m [] ys = sym (append-nil (misses m ys))
+misses_append m (x ∷ xs) ys = (λ i. misses_append m xs ys i ++ misses m (x ∷ [])) ∙ append_assoc (misses m ys) (misses m xs) (misses m (x ∷ []))
+
+-- one step more that is by another
+pub none_more : (m : ℕ) (es : List LockEvent) (e : LockEvent) → NoneBy m es → e.by ≢ m → NoneBy m (es ++ e ∷ [])
+none_more m [] e none other = (other, tt)
+none_more m (x ∷ xs) e none other = (none.0, none_more m xs e none.1 other)
+
+pub none_first : (m : ℕ) (xs ys : List LockEvent) → NoneBy m (xs ++ ys) → NoneBy m xs
+none_first m [] ys none = tt
+none_first m (x ∷ xs) ys none = (none.0, none_first m xs ys none.1)
+
+pub none_second : (m : ℕ) (xs ys : List LockEvent) → NoneBy m (xs ++ ys) → NoneBy m ys
+none_second m [] ys none = none
+none_second m (x ∷ xs) ys none = none_second m xs ys none.1
+
+-- steps of others miss nothing of the caller's
+misses_none : (m : ℕ) (es : List LockEvent) → NoneBy m es → misses m es ≡ []
+misses_none m [] others = refl
+misses_none m (e ∷ es) others = λ i. misses_none m es others.1 i ++ if_else e.by m (missed_by e.step e.stripe) [] others.0 i
+
+pub misses_same : (m : ℕ) (xs more : List LockEvent) → NoneBy m more → misses m (xs ++ more) ≡ misses m xs
+misses_same m xs more others = misses_append m xs more ∙ λ i. misses_none m more others i ++ misses m xs
+
+-- what the caller missed of a trace whose rest is by others, and one step more of its own
+pub misses_more : (m : ℕ) (trace watched unseen : List LockEvent) (e : LockEvent) → trace ≡ watched ++ unseen → NoneBy m unseen → e.by ≡ m → misses m (trace ++ e ∷ []) ≡ missed_by e.step e.stripe ++ misses m watched
+misses_more m trace watched unseen e is others own =
+    misses_append m trace (e ∷ [])
+    ∙ λ i. if_same e.by m (missed_by e.step e.stripe) [] own i ++ (ap (misses m) is ∙ misses_same m watched unseen others) i
