@@ -45,14 +45,14 @@ module _ {V : Type 0} where
               ∙ ((λ i. missed_by e.step e.stripe ++ mine.missed x (by ∙ ap Some (sym me)) i) ∙ sym found));
         })
         (λ j u other there.
-            let its = r.watched j u there in
-            record {
-              unseen = its.unseen ++ e ∷ [];
-              begins = ap (λ l. l ++ e ∷ []) its.begins ∙ append_assoc u.watched its.unseen (e ∷ []);
-              by_others = λ x i. none_more x its.unseen e (its.by_others x i)
-                  (λ is. other (sym (cs.keeps j u there x i) ∙ (ap cs.keeper (sym is ∙ own) ∙ cs.keeps id v at m (in_held (owned v) m v.mine (own_held v m by)))));
-              missed = its.missed;
-            })
+        let its = r.watched j u there in
+        record {
+          unseen = its.unseen ++ e ∷ [];
+          begins = ap (λ l. l ++ e ∷ []) its.begins ∙ append_assoc u.watched its.unseen (e ∷ []);
+          by_others = λ x i. none_more x its.unseen e (its.by_others x i)
+              (λ is. other (sym (cs.keeps j u there x i) ∙ (ap cs.keeper (sym is ∙ own) ∙ cs.keeps id v at m (in_held (owned v) m v.mine (own_held v m by)))));
+          missed = its.missed;
+        })
       where
         some_number : (a b : ℕ) → Some a ≡ Some b → a ≡ b
         some_number a b e = λ i. number_of (e i)

@@ -70,7 +70,8 @@ pub fn law_of_runs<V>()
 /// legal history, which has of its caller just the entries that are its own, all of them seen. The
 /// held stripes are lawful, their power is no less than what was told and heard, and where they are
 /// all stripes, the history leads to what they contain, and all of it was seen. Where a view keeps
-/// the numbers of all callers, the history is an interleaving of their entries.
+/// the numbers of all callers, the history is an interleaving of their entries. What was watched is
+/// a legal trace, in which the caller missed just the stripes that it found held.
 pub fn law_of_views<V>()
     ensures { LawOfViews V }
 {}
