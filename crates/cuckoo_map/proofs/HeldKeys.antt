@@ -109,6 +109,7 @@ module _ {V : Type 0} where
         seen = h.stays.seen;
         by_others = h.stays.by_others;
         alone = h.stays.alone;
+        watched = h.stays.watched;
         told = h.stays.told;
         doublings = h.stays.doublings;
       });

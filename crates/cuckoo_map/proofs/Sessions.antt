@@ -233,6 +233,7 @@ module _ {V : Type 0} where
       seen = stays.seen;
       by_others = stays.by_others;
       alone = stays.alone;
+      watched = stays.watched;
       told = stays.told;
       doublings = stays.doublings;
     };
