@@ -1,5 +1,5 @@
 -- A history without the sessions that changed nothing.
-use Rattle.std.proofs.Common.{◌≡◌, ◌≢◌, ◌⊎◌, ℕ, List, [], ◌∷◌, ◌++◌, ⊎_elim, inl, inr, refl, sym, ap, ◌∙◌, subst}
+use Rattle.std.proofs.Common.{◌≡◌, ◌≢◌, ℕ, Bool, true, false, List, [], ◌∷◌, ◌++◌, map, inl, inr, ⊎_elim, refl, sym, ap, ◌∙◌, subst}
 use Rattle.std.specs.Prelude.{if◌then◌else◌, ◌==◌}
 use Rattle.std.specs.FinMap.{same_entries_map}
 use mathlib.Core.Logic.{dite}
@@ -7,19 +7,37 @@ use native.Mathlib.Decide.{ℕ_discrete}
 use Rattle.ck_model.specs.declared.history.Call.{Call}
 use Rattle.ck_model.specs.declared.history.Entry.{Entry}
 use Rattle.ck_model.specs.Promise.{Map, Step, Leads, StartsWith, IsInterleaving, subhistory}
-use Rattle.ck_model.specs.Numbered.{IsIn, AreDistinct, numbers, Holds, over}
-use Rattle.ck_model.proofs.Numbered.{if_same, if_else, dec_in, over_miss, over_hit}
+use Rattle.ck_model.specs.Numbered.{IsIn, numbers, Holds}
+use Rattle.ck_model.proofs.Numbered.{if_same, if_else, dec_in, held_of_in}
 use Rattle.ck_script.specs.Answered.{IsIdleSession}
 
--- these entries are kept, and the others are sessions that changed nothing
-abbrev pub Drops : List (Entry ℕ) → List (Entry ℕ) → Type 0
-Drops [] kept = kept ≡ []
-Drops (e ∷ es) kept = ((more : List (Entry ℕ)) × (kept ≡ e ∷ more) × Drops es more) ⊎ (IsIdleSession e × Drops es kept)
+-- Whether the first entry is kept is said by the first flag, and behind the last flag all are.
+abbrev pub first : List Bool → Bool
+first [] = true
+first (flag ∷ flags) = flag
 
-idle_step : (m m2 : Map ℕ) (e : Entry ℕ) → IsIdleSession e → Step m e.call e.reply m2 → m2 ≡ m
-idle_step m m2 e idle step =
-    let ends = subst (λ (c : Call ℕ). Step m c e.reply m2) idle.call step in
-    same_entries_map m2 m (ends.2 ∙ sym ends.1)
+abbrev pub rest : List Bool → List Bool
+rest [] = []
+rest (flag ∷ flags) = flags
+
+-- the entry, where it is kept, and others behind it
+abbrev pub kept_before : Bool → Entry ℕ → List (Entry ℕ) → List (Entry ℕ)
+kept_before true e es = e ∷ es
+kept_before false e es = es
+
+-- what is kept of a caller's entries
+abbrev pub kept_of : List (Entry ℕ) → List Bool → List (Entry ℕ)
+kept_of [] flags = []
+kept_of (e ∷ es) flags = kept_before (first flags) e (kept_of es (rest flags))
+
+-- the callers' flags behind an entry
+abbrev pub behind : Entry ℕ → (ℕ → List Bool) → ℕ → List Bool
+behind e flags k = if e.by == k then rest (flags k) else flags k
+
+-- what is kept of a history, by the flags of each caller
+abbrev pub kept_in : (ℕ → List Bool) → List (Entry ℕ) → List (Entry ℕ)
+kept_in flags [] = []
+kept_in flags (e ∷ es) = kept_before (first (flags e.by)) e (kept_in (behind e flags) es)
 
 -- the first entry, of its caller and of another
 own_first : (e : Entry ℕ) (es : List (Entry ℕ)) (k : ℕ) → e.by ≡ k → subhistory k (e ∷ es) ≡ e ∷ subhistory k es
@@ -28,98 +46,98 @@ own_first e es k is = if_same e.by k (e ∷ subhistory k es) (subhistory k es) i
 other_first : (e : Entry ℕ) (es : List (Entry ℕ)) (k : ℕ) → e.by ≢ k → subhistory k (e ∷ es) ≡ subhistory k es
 other_first e es k apart = if_else e.by k (e ∷ subhistory k es) (subhistory k es) apart
 
--- what is kept behind the first entry, of which more is kept
-abbrev behind : Entry ℕ → List (Entry ℕ) → (ℕ → List (Entry ℕ)) → ℕ → List (Entry ℕ)
-behind e more kept k = if e.by == k then more else kept k
+-- the same where it may not be kept
+own_before : (flag : Bool) (e : Entry ℕ) (es : List (Entry ℕ)) (k : ℕ) → e.by ≡ k → subhistory k (kept_before flag e es) ≡ kept_before flag e (subhistory k es)
+own_before true e es k is = own_first e es k is
+own_before false e es k is = refl
 
-drops_behind : (e : Entry ℕ) (es more : List (Entry ℕ)) (kept : ℕ → List (Entry ℕ)) → Drops (subhistory e.by es) more → ((k : ℕ) → Drops (subhistory k (e ∷ es)) (kept k)) → (k : ℕ) → Drops (subhistory k es) (behind e more kept k)
-drops_behind e es more kept own drops k = dite (ℕ_discrete e.by k)
-    (λ is. subst (λ (l : List (Entry ℕ)). Drops (subhistory k es) l) (sym (if_same e.by k more (kept k) is)) (subst (λ (n : ℕ). Drops (subhistory n es) more) is own))
-    (λ apart. subst (λ (l : List (Entry ℕ)). Drops (subhistory k es) l) (sym (if_else e.by k more (kept k) apart)) (subst (λ (l : List (Entry ℕ)). Drops l (kept k)) (other_first e es k apart) (drops k)))
+other_before : (flag : Bool) (e : Entry ℕ) (es : List (Entry ℕ)) (k : ℕ) → e.by ≢ k → subhistory k (kept_before flag e es) ≡ subhistory k es
+other_before true e es k apart = other_first e es k apart
+other_before false e es k apart = refl
 
-kept_first : (e : Entry ℕ) (log more : List (Entry ℕ)) (kept : ℕ → List (Entry ℕ)) → kept e.by ≡ e ∷ more → ((k : ℕ) → subhistory k log ≡ behind e more kept k) → (k : ℕ) → subhistory k (e ∷ log) ≡ kept k
-kept_first e log more kept is each k = dite (ℕ_discrete e.by k)
-    (λ same. own_first e log k same ∙ ap (λ (l : List (Entry ℕ)). e ∷ l) (each k ∙ if_same e.by k more (kept k) same) ∙ sym is ∙ ap kept same)
-    (λ apart. other_first e log k apart ∙ each k ∙ if_else e.by k more (kept k) apart)
+-- of each caller is kept what its flags keep
+pub kept_each : (log : List (Entry ℕ)) (flags : ℕ → List Bool) (k : ℕ) → subhistory k (kept_in flags log) ≡ kept_of (subhistory k log) (flags k)
+kept_each [] flags k = refl
+kept_each (e ∷ es) flags k = dite (ℕ_discrete e.by k)
+    (λ is.
+    own_before (first (flags e.by)) e (kept_in (behind e flags) es) k is
+    ∙ ap (λ (l : List (Entry ℕ)). kept_before (first (flags e.by)) e l) (kept_each es (behind e flags) k ∙ ap (kept_of (subhistory k es)) (if_same e.by k (rest (flags k)) (flags k) is))
+    ∙ ap (λ (n : ℕ). kept_before (first (flags n)) e (kept_of (subhistory k es) (rest (flags k)))) is
+    ∙ sym (ap (λ (l : List (Entry ℕ)). kept_of l (flags k)) (own_first e es k is)))
+    (λ apart.
+    other_before (first (flags e.by)) e (kept_in (behind e flags) es) k apart
+    ∙ kept_each es (behind e flags) k
+    ∙ ap (kept_of (subhistory k es)) (if_else e.by k (rest (flags k)) (flags k) apart)
+    ∙ sym (ap (λ (l : List (Entry ℕ)). kept_of l (flags k)) (other_first e es k apart)))
 
-drops_other : (e : Entry ℕ) (es : List (Entry ℕ)) (kept : ℕ → List (Entry ℕ)) → Drops (subhistory e.by es) (kept e.by) → ((k : ℕ) → Drops (subhistory k (e ∷ es)) (kept k)) → (k : ℕ) → Drops (subhistory k es) (kept k)
-drops_other e es kept own drops k = dite (ℕ_discrete e.by k)
-    (λ is. subst (λ (n : ℕ). Drops (subhistory n es) (kept n)) is own)
-    (λ apart. subst (λ (l : List (Entry ℕ)). Drops l (kept k)) (other_first e es k apart) (drops k))
+starts_before : (flag : Bool) (e : Entry ℕ) (log start : List (Entry ℕ)) → StartsWith log start → StartsWith (kept_before flag e log) (kept_before flag e start)
+starts_before true e log start begins = (begins.0, ap (λ (l : List (Entry ℕ)). e ∷ l) begins.1)
+starts_before false e log start begins = begins
 
--- what is kept of each caller is kept of the history
-without_idle : (log : List (Entry ℕ)) (kept : ℕ → List (Entry ℕ)) → ((k : ℕ) → Drops (subhistory k log) (kept k)) → (l : List (Entry ℕ)) × Drops log l × ((k : ℕ) → subhistory k l ≡ kept k)
-without_idle [] kept drops = ([], refl, λ k. sym (drops k))
-without_idle (e ∷ es) kept drops =
-    let own = subst (λ (l : List (Entry ℕ)). Drops l (kept e.by)) (own_first e es e.by refl) (drops e.by) in
-    elim own [
-      | inl h ↦
-          let rest = without_idle es (behind e h.0 kept) (drops_behind e es h.0 kept h.2 drops) in
-          (e ∷ rest.0, inl (rest.0, refl, rest.1), kept_first e rest.0 h.0 kept h.1 rest.2)
-      | inr h ↦
-          let rest = without_idle es kept (drops_other e es kept h.1 drops) in
-          (rest.0, inr (h.0, rest.1), rest.2)
-    ]
+-- what is kept of a beginning is a beginning of what is kept
+pub kept_start : (start more : List (Entry ℕ)) (flags : ℕ → List Bool) → StartsWith (kept_in flags (start ++ more)) (kept_in flags start)
+kept_start [] more flags = (kept_in flags more, refl)
+kept_start (e ∷ es) more flags = starts_before (first (flags e.by)) e (kept_in (behind e flags) (es ++ more)) (kept_in (behind e flags) es) (kept_start es more (behind e flags))
+
+-- an entry that isn't kept is that of a session that changed nothing
+abbrev pub IsIdleUnless : Bool → Entry ℕ → Type 0
+IsIdleUnless true e = Unit {0}
+IsIdleUnless false e = IsIdleSession e
+
+-- the same of all entries of a caller
+abbrev pub AreIdle : List (Entry ℕ) → List Bool → Type 0
+AreIdle [] flags = Unit {0}
+AreIdle (e ∷ es) flags = IsIdleUnless (first flags) e × AreIdle es (rest flags)
+
+idle_behind : (e : Entry ℕ) (es : List (Entry ℕ)) (flags : ℕ → List Bool) → ((k : ℕ) → AreIdle (subhistory k (e ∷ es)) (flags k)) → (k : ℕ) → AreIdle (subhistory k es) (behind e flags k)
+idle_behind e es flags idle k = dite (ℕ_discrete e.by k)
+    (λ is.
+    let own : AreIdle (e ∷ subhistory k es) (flags k) = subst (λ (l : List (Entry ℕ)). AreIdle l (flags k)) (own_first e es k is) (idle k) in
+    subst (AreIdle (subhistory k es)) (sym (if_same e.by k (rest (flags k)) (flags k) is)) own.1)
+    (λ apart.
+    subst (AreIdle (subhistory k es)) (sym (if_else e.by k (rest (flags k)) (flags k) apart))
+    (subst (λ (l : List (Entry ℕ)). AreIdle l (flags k)) (other_first e es k apart) (idle k)))
+
+leads_before : (flag : Bool) (e : Entry ℕ) (es : List (Entry ℕ)) (m next m2 : Map ℕ) → IsIdleUnless flag e → Step m e.call e.reply next → Leads next es m2 → Leads m (kept_before flag e es) m2
+leads_before true e es m next m2 idle step leads = (next, step, leads)
+leads_before false e es m next m2 idle step leads =
+    let ends = subst (λ (c : Call ℕ). Step m c e.reply next) idle.call step in
+    subst (λ (x : Map ℕ). Leads x es m2) (same_entries_map next m (ends.2 ∙ sym ends.1)) leads
 
 -- it leaves the same map
-pub kept_leads : (log l : List (Entry ℕ)) (m m2 : Map ℕ) → Drops log l → Leads m log m2 → Leads m l m2
-kept_leads [] l m m2 drops leads = subst (λ (es : List (Entry ℕ)). Leads m es m2) (sym drops) leads
-kept_leads (e ∷ es) l m m2 drops leads =
-    elim drops [
-      | inl h ↦ subst (λ (es : List (Entry ℕ)). Leads m es m2) (sym h.1) (leads.0, leads.1, kept_leads es h.0 leads.0 m2 h.2 leads.2)
-      | inr h ↦ subst (λ (x : Map ℕ). Leads x l m2) (idle_step m leads.0 e h.0 leads.1) (kept_leads es l leads.0 m2 h.1 leads.2)
-    ]
+pub kept_leads : (start more : List (Entry ℕ)) (flags : ℕ → List Bool) (m m2 : Map ℕ) → ((k : ℕ) → AreIdle (subhistory k (start ++ more)) (flags k)) → Leads m start m2 → Leads m (kept_in flags start) m2
+kept_leads [] more flags m m2 idle leads = leads
+kept_leads (e ∷ es) more flags m m2 idle leads =
+    let own : AreIdle (e ∷ subhistory e.by (es ++ more)) (flags e.by) = subst (λ (l : List (Entry ℕ)). AreIdle l (flags e.by)) (own_first e (es ++ more) e.by refl) (idle e.by) in
+    leads_before (first (flags e.by)) e (kept_in (behind e flags) es) m leads.0 m2 own.0 leads.1
+    (kept_leads es more (behind e flags) leads.0 m2 (idle_behind e (es ++ more) flags idle) leads.2)
 
--- what is kept of a beginning is a beginning of it
-pub kept_start : (start more l : List (Entry ℕ)) → Drops (start ++ more) l → (s : List (Entry ℕ)) × StartsWith l s × Drops start s
-kept_start [] more l drops = ([], (l, refl), refl)
-kept_start (e ∷ es) more l drops =
-    elim drops [
-      | inl h ↦
-          let rest = kept_start es more h.0 h.2 in
-          (e ∷ rest.0, (rest.1.0, h.1 ∙ ap (λ (x : List (Entry ℕ)). e ∷ x) rest.1.1), inl (rest.0, refl, rest.2))
-      | inr h ↦
-          let rest = kept_start es more l h.1 in
-          (rest.0, rest.1, inr (h.0, rest.2))
-    ]
+-- what is kept of each caller's part
+abbrev pub kept_parts : (ℕ → List Bool) → List (ℕ × List (Entry ℕ)) → List (ℕ × List (Entry ℕ))
+kept_parts flags parts = map (λ (p : ℕ × List (Entry ℕ)). (p.0, kept_of p.1 (flags p.0))) parts
 
--- of each caller of the one list the other has what is kept
-abbrev pub DropsEach : List (ℕ × List (Entry ℕ)) → List (ℕ × List (Entry ℕ)) → Type 0
-DropsEach [] [] = Unit {0}
-DropsEach (p ∷ parts) (q ∷ kept) = (q.0 ≡ p.0) × Drops p.1 q.1 × DropsEach parts kept
-DropsEach parts kept = ⊥
+kept_there : (parts : List (ℕ × List (Entry ℕ))) (flags : ℕ → List Bool) (k : ℕ) (l : List (Entry ℕ)) → Holds (kept_parts flags parts) k l → (es : List (Entry ℕ)) × Holds parts k es × (kept_of es (flags k) ≡ l)
+kept_there [] flags k l held = absurd held
+kept_there (p ∷ parts) flags k l held = ⊎_elim
+    (λ (here : (p.0 ≡ k) × (kept_of p.1 (flags p.0) ≡ l)). (p.1, inl (here.0, refl), ap (λ (n : ℕ). kept_of p.1 (flags n)) (sym here.0) ∙ here.1))
+    (λ there. let rest = kept_there parts flags k l there in (rest.0, inr rest.1, rest.2))
+    held
 
-kept_there : (parts kept : List (ℕ × List (Entry ℕ))) (k : ℕ) → DropsEach parts kept → IsIn k (numbers parts) → (l : List (Entry ℕ)) × Holds parts k l × Drops l (over kept (λ n. []) k)
-kept_there [] [] k each inside = absurd inside
-kept_there [] (q ∷ kept) k each inside = absurd each
-kept_there (p ∷ parts) [] k each inside = absurd each
-kept_there (p ∷ parts) (q ∷ kept) k each inside = dite (ℕ_discrete q.0 k)
-    (λ is. (p.1, inl (sym each.0 ∙ is, refl), subst (λ (l : List (Entry ℕ)). Drops p.1 l) (sym (if_same q.0 k q.1 (over kept (λ n. []) k) is)) each.1))
-    (λ apart.
-    let rest = kept_there parts kept k each.2 (⊎_elim (λ here. absurd (apart (each.0 ∙ here))) (λ there. there) inside) in
-    (rest.0, inr rest.1, subst (λ (l : List (Entry ℕ)). Drops rest.0 l) (sym (if_else q.0 k q.1 (over kept (λ n. []) k) apart)) rest.2))
+same_numbers : (parts : List (ℕ × List (Entry ℕ))) (flags : ℕ → List Bool) → numbers (kept_parts flags parts) ≡ numbers parts
+same_numbers [] flags = refl
+same_numbers (p ∷ parts) flags = ap {B = List ℕ} (λ ns. p.0 ∷ ns) (same_numbers parts flags)
 
-same_numbers : (parts kept : List (ℕ × List (Entry ℕ))) → DropsEach parts kept → numbers kept ≡ numbers parts
-same_numbers [] [] each = refl
-same_numbers [] (q ∷ kept) each = absurd each
-same_numbers (p ∷ parts) [] each = absurd each
-same_numbers (p ∷ parts) (q ∷ kept) each = λ j. each.0 j ∷ same_numbers parts kept each.2 j
+module _ (log : List (Entry ℕ)) (parts : List (ℕ × List (Entry ℕ))) (flags : ℕ → List Bool) (interleaving : IsInterleaving log parts) where
+  -- it is an interleaving of what is kept of the parts
+  pub kept_interleaving : IsInterleaving (kept_in flags log) (kept_parts flags parts)
+  kept_interleaving = record {
+    each = λ k l held. let there = kept_there parts flags k l held in kept_each log flags k ∙ ap (λ (es : List (Entry ℕ)). kept_of es (flags k)) (interleaving.each k there.0 there.1) ∙ there.2;
+    no_others = λ k outside.
+        kept_each log flags k ∙ ap (λ (es : List (Entry ℕ)). kept_of es (flags k)) (interleaving.no_others k (λ inside. outside (subst (IsIn k) (sym (same_numbers parts flags)) inside)));
+  }
 
-drops_in : (log : List (Entry ℕ)) (parts kept : List (ℕ × List (Entry ℕ))) → IsInterleaving log parts → DropsEach parts kept → (k : ℕ) → Drops (subhistory k log) (over kept (λ n. []) k)
-drops_in log parts kept interleaving each k = dite (dec_in k (numbers parts))
-    (λ inside. let there = kept_there parts kept k each inside in subst (λ (l : List (Entry ℕ)). Drops l (over kept (λ n. []) k)) (sym (interleaving.each k there.0 there.1)) there.2)
-    (λ outside.
-    let none = over_miss kept (λ n. []) k (λ inside. outside (subst (IsIn k) (same_numbers parts kept each) inside)) in
-    subst (λ (l : List (Entry ℕ)). Drops l (over kept (λ n. []) k)) (sym (interleaving.no_others k outside)) none)
-
--- what is kept of each caller has an interleaving too
-pub kept_interleaving : (log : List (Entry ℕ)) (parts kept : List (ℕ × List (Entry ℕ))) → IsInterleaving log parts → DropsEach parts kept → AreDistinct (numbers kept) → (l : List (Entry ℕ)) × Drops log l × IsInterleaving l kept
-kept_interleaving log parts kept interleaving each distinct =
-    let all = without_idle log (over kept (λ n. [])) (drops_in log parts kept interleaving each) in (
-      all.0,
-      all.1,
-      record {
-        each = λ k l held. all.2 k ∙ over_hit kept (λ n. []) distinct k l held;
-        no_others = λ k outside. all.2 k ∙ over_miss kept (λ n. []) k outside;
-      },
-    )
+  -- what isn't kept of the parts isn't kept of the history
+  pub idle_in : ((k : ℕ) (es : List (Entry ℕ)) → Holds parts k es → AreIdle es (flags k)) → (k : ℕ) → AreIdle (subhistory k log) (flags k)
+  idle_in idle k = dite (dec_in k (numbers parts))
+      (λ inside. let there = held_of_in parts k inside in subst (λ (es : List (Entry ℕ)). AreIdle es (flags k)) (sym (interleaving.each k there.0 there.1)) (idle k there.0 there.1))
+      (λ outside. subst (λ (es : List (Entry ℕ)). AreIdle es (flags k)) (sym (interleaving.no_others k outside)) tt)

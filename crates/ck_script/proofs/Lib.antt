@@ -1,4 +1,5 @@
 pub mod Idle
+pub mod Seen
 pub mod Grounds
 pub mod Entries
 pub mod Lists

@@ -1,19 +1,18 @@
 -- A list is a session that changes nothing.
-use Rattle.std.proofs.Common.{◌≡◌, ℕ, List, [], ◌∷◌, ◌++◌, refl, sym, ap, ◌∙◌, subst, inl, inr}
+use Rattle.std.proofs.Common.{◌≡◌, ℕ, List, [], ◌∷◌, ◌++◌, Some, refl, sym, ap, ◌∙◌, subst, inl, inr}
 use Rattle.std.specs.FinMap.{entries}
 use Rattle.ck_model.specs.declared.history.Call.TheVariants.{Session}
 use Rattle.ck_model.specs.declared.history.Reply.TheVariants.{Closed}
 use Rattle.ck_model.specs.declared.history.Entry.{Entry}
 use Rattle.ck_model.specs.Promise.{Name, Map}
 use Rattle.ck_model.proofs.Numbered.{Some-injective}
-use Rattle.ck_words.proofs.Staying.{starts_on}
+use Rattle.cuckoo_map.proofs.Calls.{replied_since, replied_seen}
 use Rattle.cuckoo_map.specs.Callers.{CallerState, pass_of, IsSameCaller, Replies}
 use Rattle.cuckoo_map.specs.Locking.{LockedState, start_of, map_of, session_call, HasLocked}
 use Rattle.ck_format.specs.declared.script.Command.TheVariants as command
 use Rattle.ck_format.specs.declared.answer.Answer.{Answer}
 use Rattle.ck_format.specs.Text.{Pairs}
 use Rattle.ck_script.specs.Answered.{IsListOf, IsLeft, IsAnsweredBy}
-use Rattle.ck_script.proofs.Entries.{answered_saw}
 
 -- the entry of a session that changed nothing is that of a list, or of one that found no memory
 left_by_list : (n by : ℕ) (a : Answer Pairs) (start now : Map ℕ) → now ≡ start → IsListOf (entries now) a
@@ -30,17 +29,14 @@ left_by_list n by a start now same list =
 pub listed : (hash : Name → ℕ) (c back : CallerState ℕ) (l : LockedState ℕ) (a : Answer Pairs) → HasLocked c.table (pass_of c) l → IsListOf (entries (map_of l)) a
     → IsSameCaller l.caller back → Replies (session_call l) l.caller back Closed → IsAnsweredBy hash command.List a c back
 listed hash c back l a locked list same answered =
-    let entry : Entry ℕ = record { by = answered.by; call = session_call l; reply = Closed } in
+    let whole = replied_since locked.stays (session_call l) Closed back.client answered in
+    let entry : Entry ℕ = record { by = whole.by; call = session_call l; reply = Closed } in
+    let is_own : (by : ℕ) → c.client.by ≡ Some by → entry.by ≡ by = λ by number. Some-injective entry.by by (sym whole.number ∙ number) in
     record {
       same = record { table = same.table ∙ locked.table; by = same.by ∙ locked.stays.by };
-      saw = starts_on c.client.seen l.caller.client.seen back.client.seen locked.stays.seen (answered_saw entry.call Closed l.caller.client back.client answered);
-      grounds = tt;
       why = tt;
-      entries = λ by is.
-          inr (
-            entry,
-            Some-injective answered.by by (sym answered.number ∙ locked.stays.by ∙ is),
-            left_by_list c.table.settings.callers answered.by a (start_of l) (map_of l) locked.same list,
-            answered.answered.mine ∙ ap (λ (es : List (Entry ℕ)). es ++ entry ∷ []) locked.stays.mine,
-          );
+      saw = replied_seen whole;
+      own = λ by number. inr (whole.answered.others, entry, whole.answered.seen, whole.answered.by_others, is_own by number, whole.answered.mine);
+      grounds = λ by number own. tt;
+      entries = λ by number. inr (entry, is_own by number, left_by_list c.table.settings.callers entry.by a (start_of l) (map_of l) locked.same list, whole.answered.mine);
     }

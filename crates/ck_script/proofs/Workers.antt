@@ -1,21 +1,23 @@
 -- What the workers of a run leave is its output.
-use Rattle.std.proofs.Common.{◌≡◌, Result, Ok, Err, ℕ, zero, suc, ◌+◌, ◌<◌, ◌≤◌, List, [], ◌∷◌, ◌++◌, length, map, All, inl, inr, ⊎_elim, refl, sym, ap, ◌∙◌, subst, add-one, arith}
-use Rattle.std.specs.Prelude.{Option, unwrap_or, IfOk, vec_len}
+use Rattle.std.proofs.Common.{◌≡◌, Result, Ok, Err, ℕ, zero, suc, ◌+◌, ◌<◌, ◌≤◌, Bool, true, false, List, [], ◌∷◌, ◌++◌, length, map, All, inl, inr, ⊎_elim, refl, sym, ap, ◌∙◌, subst, add-one, append_assoc, append-nil, arith}
+use Rattle.std.specs.Prelude.{Option, unwrap_or, IfOk, vec_len, if◌then◌else◌, ◌==◌}
 use denote.Param.Members.{Shared}
 use Rattle.std.specs.Fn.{FnReturns}
 use Rattle.std.specs.Fork.{GivesJobs}
 use Rattle.std.specs.Global.{Vec}
 use Rattle.std.specs.List.{AllZip, zip, slice_index_or}
-use Rattle.std.specs.FinMap.{entries}
+use Rattle.std.specs.FinMap.{empty, entries}
 use Rattle.std.specs.declared.cmp.Ordering.{Ordering}
 use Rattle.std.proofs.lemmas.List.{length-map}
 use Rattle.std.proofs.lemmas.List.Elements.{All-append}
 use Rattle.std.proofs.lemmas.Slice.Zip.{all_zipped_more, length-zip, get_or-zip}
 use Rattle.ck_model.specs.declared.history.Entry.{Entry}
+use Rattle.ck_model.specs.declared.history.Reason.{Reason}
 use Rattle.ck_model.specs.declared.settings.Settings.{Settings}
-use Rattle.ck_model.specs.Promise.{Name, Map, named, name_cmp, ListsInOrder, After, IsInterleaving}
+use Rattle.ck_model.specs.Promise.{Name, Map, named, name_cmp, ListsInOrder, After, IsInterleaving, subhistory}
 use Rattle.ck_model.proofs.Entries.{entries_listed}
-use Rattle.ck_model.specs.Numbered.{IsIn, AreDistinct, numbers}
+use Rattle.ck_model.specs.Numbered.{IsIn, Holds, numbers}
+use Rattle.ck_model.proofs.Numbered.{if_same, if_else}
 use Rattle.ck_model.specs.Contents.{Stripes, bindings}
 use Rattle.ck_model.specs.Counting.{counting}
 use Rattle.ck_words.specs.Words.{WordsState}
@@ -31,96 +33,149 @@ use Rattle.ck_script.specs.declared.job.Job.{Job}
 use Rattle.ck_script.specs.declared.job.Done.{Done}
 use Rattle.ck_format.specs.Script.{Said, on_names, hash_of, said_in, workers_on_names}
 use Rattle.ck_format.specs.Text.{Pairs, output_text}
-use Rattle.ck_script.specs.Output.{AreEntriesOf, ArePartsOf, HaveGrounds, IsOutputOf}
+use Rattle.ck_script.specs.Output.{WasStuck, HasGrounds, AreEntriesOf, ArePartsOf, IsOutputOf}
 use Rattle.ck_format.specs.Answers.{answers_on_names, lists_on_names}
 use Rattle.ck_script.specs.Answered.{HaveLeft}
 use Rattle.ck_script.specs.Jobs.{IsNew, IsJob, HasWorked, IsTextAtEnd, answers_of, passes_of}
-use Rattle.ck_script.proofs.Idle.{Drops, DropsEach, kept_leads, kept_interleaving}
-use Rattle.ck_script.proofs.Grounds.{later_grounds, kept_grounds}
+use Rattle.ck_script.proofs.Idle.{AreIdle, kept_of, kept_in, kept_parts, kept_leads, kept_interleaving, idle_in}
+use Rattle.ck_script.proofs.Grounds.{grounds_over, later_left, kept_stuck}
 
--- the same of each worker, of which the first has the number by
-abbrev pub HaveParts : (n by : ℕ) → List (List (Command Name)) → List (List (Answer Pairs)) → List (ℕ × List (Entry ℕ)) → Type 0
-HaveParts n by [] [] parts = parts ≡ []
-HaveParts n by (cs ∷ workers) (answers ∷ more) (part ∷ parts) = (part.0 ≡ by) × HaveLeft n by cs answers part.1 × HaveParts n (by + 1) workers more parts
-HaveParts n by workers answers parts = ⊥
+module _ (hash : Name → ℕ) (set : Settings) (log : List (Entry ℕ)) where
+  -- what each worker left, of which the first has the number by
+  abbrev pub HaveParts : (n by : ℕ) → List (List (Command Name)) → List (List (Answer Pairs)) → List (ℕ × List (Entry ℕ)) → Type 0
+  HaveParts n by [] [] parts = parts ≡ []
+  HaveParts n by (cs ∷ workers) (answers ∷ more) (part ∷ parts) = (part.0 ≡ by) × HaveLeft hash set log n by [] cs answers part.1 × HaveParts n (by + 1) workers more parts
+  HaveParts n by workers answers parts = ⊥
 
--- the entries of a caller without those of refused lists
-strictly : (n by : ℕ) (cs : List (Command Name)) (answers : List (Answer Pairs)) (es : List (Entry ℕ)) → HaveLeft n by cs answers es → (kept : List (Entry ℕ)) × AreEntriesOf n by cs answers kept × Drops es kept
-strictly n by [] [] es h = ([], refl, subst (λ (l : List (Entry ℕ)). Drops l []) (sym h) refl)
-strictly n by [] (a ∷ answers) es h = absurd h
-strictly n by (c ∷ cs) [] es h = absurd h
-strictly n by (c ∷ cs) (a ∷ answers) es h =
-    elim h [
-      | inl h ↦ let rest = strictly n by cs answers es h.1 in (rest.0, inl (h.0, rest.1), rest.2)
-      | inr h ↦
-          let rest = strictly n by cs answers h.1 h.5 in
-          elim h.4 [
-            | inl entry ↦ (h.0 ∷ rest.0, inr (h.0, rest.0, refl, h.3, entry, rest.1), subst (λ (l : List (Entry ℕ)). Drops l (h.0 ∷ rest.0)) (sym h.2) (inl (rest.0, refl, rest.2)))
-            | inr idle ↦ (rest.0, inl (idle.0, rest.1), subst (λ (l : List (Entry ℕ)). Drops l rest.0) (sym h.2) (inr (idle.1, rest.2)))
-          ]
-    ]
+  -- what gives grounds in the history gives them in l, where of the worker's entries these flags keep some
+  abbrev IsKept : List (Entry ℕ) → ℕ → List Bool → Type 0
+  IsKept l by flags = (done : List (Entry ℕ)) (k : Name) (why : Reason) → WasStuck hash set log by done k why → WasStuck hash set l by (kept_of done flags) k why
 
-all_strictly : (n by : ℕ) (workers : List (List (Command Name))) (answers : List (List (Answer Pairs))) (parts : List (ℕ × List (Entry ℕ)))
-    → HaveParts n by workers answers parts → (kept : List (ℕ × List (Entry ℕ))) × ArePartsOf n by workers answers kept × DropsEach parts kept
-all_strictly n by [] [] parts h = ([], refl, subst (λ (l : List (ℕ × List (Entry ℕ))). DropsEach l []) (sym h) tt)
-all_strictly n by [] (a ∷ answers) parts h = absurd h
-all_strictly n by (cs ∷ workers) [] parts h = absurd h
-all_strictly n by (cs ∷ workers) (a ∷ answers) [] h = absurd h
-all_strictly n by (cs ∷ workers) (a ∷ answers) (part ∷ parts) h =
-    let first = strictly n by cs a part.1 h.1 in
-    let rest = all_strictly n (by + 1) workers answers parts h.2 in
-    ((by, first.0) ∷ rest.0, (refl, first.1, rest.1), (sym h.0, first.2, rest.2))
+  -- the grounds of a command, behind what is kept of the entries that are done
+  kept_grounds : (l : List (Entry ℕ)) (by : ℕ) (flags more : List Bool) (done kept : List (Entry ℕ)) (c : Command Name) (a : Answer Pairs) → IsKept l by flags
+      → ((xs : List (Entry ℕ)) → kept_of (done ++ xs) flags ≡ kept ++ kept_of xs more) → HasGrounds hash set log by done c a → HasGrounds hash set l by kept c a
+  kept_grounds l by flags more done kept c a over same =
+      let here : kept_of done flags ≡ kept = ap (λ (es : List (Entry ℕ)). kept_of es flags) (sym (append-nil done)) ∙ same [] ∙ append-nil kept in
+      grounds_over hash set log l by done kept (λ k why stuck. subst (λ (es : List (Entry ℕ)). WasStuck hash set l by es k why) here (over done k why stuck)) c a
 
-above : (a n m : ℕ) → IsIn m (counting a n) → a ≤ m
-above a zero m h = absurd h
-above a (suc n) m h = ⊎_elim (λ e. omega arith) (λ r. let z = above (suc a) n m r in omega arith) h
+  -- What a worker's commands left, without the sessions of refused lists, is their entries in a history of which is kept what was.
+  strictly : (n by : ℕ) (done : List (Entry ℕ)) (cs : List (Command Name)) (answers : List (Answer Pairs)) (es : List (Entry ℕ)) → HaveLeft hash set log n by done cs answers es
+      → (more : List Bool) × AreIdle es more
+      × ((l : List (Entry ℕ)) (flags : List Bool) (kept : List (Entry ℕ)) → IsKept l by flags → ((xs : List (Entry ℕ)) → kept_of (done ++ xs) flags ≡ kept ++ kept_of xs more)
+      → AreEntriesOf hash set l n by kept cs answers (kept_of es more))
+  strictly n by done [] [] es h = ([], subst (λ (l : List (Entry ℕ)). AreIdle l []) (sym h) tt, λ l flags kept over same. ap (λ (es : List (Entry ℕ)). kept_of es []) h)
+  strictly n by done [] (a ∷ answers) es h = absurd h
+  strictly n by done (c ∷ cs) [] es h = absurd h
+  strictly n by done (c ∷ cs) (a ∷ answers) es h =
+      elim h.1 [
+        | inl r ↦
+            let rest = strictly n by done cs answers es r.1 in
+            (rest.0, rest.1, λ l flags kept over same. inl (r.0, kept_grounds l by flags rest.0 done kept c a over same h.0, rest.2 l flags kept over same))
+        | inr r ↦
+            let rest = strictly n by (done ++ r.0 ∷ []) cs answers r.1 r.5 in
+            let behind = λ (flags : List Bool) (xs : List (Entry ℕ)). ap (λ (l : List (Entry ℕ)). kept_of l flags) (append_assoc done (r.0 ∷ []) xs) in
+            elim r.4 [
+              | inl entry ↦ (
+                true ∷ rest.0,
+                subst (λ (l : List (Entry ℕ)). AreIdle l (true ∷ rest.0)) (sym r.2) (tt, rest.1),
+                λ l flags kept over same.
+                    inr (
+                      r.0,
+                      kept_of r.1 rest.0,
+                      ap (λ (l : List (Entry ℕ)). kept_of l (true ∷ rest.0)) r.2,
+                      r.3,
+                      entry,
+                      rest.2 l flags (kept ++ r.0 ∷ []) over (λ xs. behind flags xs ∙ same (r.0 ∷ xs) ∙ sym (append_assoc kept (r.0 ∷ []) (kept_of xs rest.0))),
+                    ),
+              )
+              | inr idle ↦ (
+                false ∷ rest.0,
+                subst (λ (l : List (Entry ℕ)). AreIdle l (false ∷ rest.0)) (sym r.2) (idle.1, rest.1),
+                λ l flags kept over same.
+                    inl (
+                      idle.0,
+                      kept_grounds l by flags (false ∷ rest.0) done kept c a over same h.0,
+                      subst (AreEntriesOf hash set l n by kept cs answers) (sym (ap (λ (l : List (Entry ℕ)). kept_of l (false ∷ rest.0)) r.2))
+                          (rest.2 l flags kept over (λ xs. behind flags xs ∙ same (r.0 ∷ xs))),
+                    ),
+              )
+            ]
+      ]
 
-distinct_counting : (a n : ℕ) → AreDistinct (counting a n)
-distinct_counting a zero = tt
-distinct_counting a (suc n) = ((λ h. let z = above (suc a) n a h in absurd (omega arith)), distinct_counting (suc a) n)
-
-numbers_of_parts : (n by : ℕ) (workers : List (List (Command Name))) (answers : List (List (Answer Pairs))) (kept : List (ℕ × List (Entry ℕ)))
-    → ArePartsOf n by workers answers kept → numbers kept ≡ counting by (length workers)
-numbers_of_parts n by [] [] kept h = ap numbers h
-numbers_of_parts n by [] (a ∷ answers) kept h = absurd h
-numbers_of_parts n by (cs ∷ workers) [] kept h = absurd h
-numbers_of_parts n by (cs ∷ workers) (a ∷ answers) [] h = absurd h
-numbers_of_parts n by (cs ∷ workers) (a ∷ answers) (part ∷ kept) h =
-    let rest = numbers_of_parts n (by + 1) workers answers kept h.2 ∙ ap (λ m. counting m (length workers)) (add-one by) in
-    λ j. h.0 j ∷ rest j
+  -- the same of each worker, whose flags are those of its number
+  all_strictly : (n by : ℕ) (workers : List (List (Command Name))) (answers : List (List (Answer Pairs))) (parts : List (ℕ × List (Entry ℕ))) → HaveParts n by workers answers parts
+      → (own : ℕ → List Bool) × ((k : ℕ) (es : List (Entry ℕ)) → Holds parts k es → (by ≤ k) × AreIdle es (own k))
+      × ((l : List (Entry ℕ)) (flags : ℕ → List Bool) → ((k : ℕ) → by ≤ k → flags k ≡ own k) → ((k : ℕ) → IsKept l k (flags k)) → ArePartsOf hash set l n by workers answers (kept_parts flags parts))
+  all_strictly n by [] [] parts h = (
+    (λ k. []),
+    (λ k es held. absurd (subst (λ (ps : List (ℕ × List (Entry ℕ))). Holds ps k es) h held)),
+    λ l flags same over. ap (kept_parts flags) h,
+  )
+  all_strictly n by [] (a ∷ answers) parts h = absurd h
+  all_strictly n by (cs ∷ workers) [] parts h = absurd h
+  all_strictly n by (cs ∷ workers) (a ∷ answers) [] h = absurd h
+  all_strictly n by (cs ∷ workers) (a ∷ answers) (part ∷ parts) h =
+      let mine = strictly n by [] cs a part.1 h.1 in
+      let rest = all_strictly n (by + 1) workers answers parts h.2 in
+      let own : ℕ → List Bool = λ k. if by == k then mine.0 else rest.0 k in (
+        own,
+        (λ k es held. ⊎_elim
+            (λ (here : (part.0 ≡ k) × (part.1 ≡ es)).
+            let is = sym h.0 ∙ here.0 in
+            (omega arith, subst (λ (fs : List Bool). AreIdle es fs) (sym (if_same by k mine.0 (rest.0 k) is)) (subst (λ (l : List (Entry ℕ)). AreIdle l mine.0) here.1 mine.1)))
+            (λ there.
+            let inside = rest.1 k es there in
+            let above = inside.0 in
+            (omega arith, subst (λ (fs : List Bool). AreIdle es fs) (sym (if_else by k mine.0 (rest.0 k) (λ e. omega arith))) inside.1))
+            held),
+        λ l flags same over.
+            let is : flags part.0 ≡ mine.0 = ap flags h.0 ∙ same by (omega arith) ∙ if_same by by mine.0 (rest.0 by) refl in (
+              h.0,
+              subst (λ (fs : List Bool). AreEntriesOf hash set l n by [] cs a (kept_of part.1 fs)) (sym is)
+                  (mine.2 l (flags by) [] (over by) (λ xs. ap (kept_of xs) (sym (ap flags h.0) ∙ is))),
+              rest.2 l flags (λ k le. same k (omega arith) ∙ if_else by k mine.0 (rest.0 k) (λ e. omega arith)) over,
+            ),
+      )
 
 -- the text of the answers and of the pairs is an output
 pub output_of_parts : (said : Said) (answers : List (List (Answer Pairs))) (parts : List (ℕ × List (Entry ℕ))) (log : List (Entry ℕ)) (contents : Stripes ℕ) (out : List ℕ)
-    → HaveParts (length said.workers) 0 said.workers answers parts → IsInterleaving log parts → After log (bindings contents) → AreContentsOf (hash_of said.keys) said.settings contents
-    → AllZip (HaveGrounds (hash_of said.keys) said.settings log) said.workers answers → out ≡ output_text said.keys answers (entries (bindings contents)) → IsOutputOf said out
-output_of_parts said answers parts log contents out have interleaving after of_table grounds text =
-    let strict = all_strictly (length said.workers) 0 said.workers answers parts have in
-    let distinct = subst AreDistinct (sym (numbers_of_parts (length said.workers) 0 said.workers answers strict.0 strict.1)) (distinct_counting 0 (length said.workers)) in
-    let kept = kept_interleaving log parts strict.0 interleaving strict.2 distinct in
+    → HaveParts (hash_of said.keys) said.settings log (length said.workers) 0 said.workers answers parts → IsInterleaving log parts → After log (bindings contents) → AreContentsOf (hash_of said.keys) said.settings contents
+    → out ≡ output_text said.keys answers (entries (bindings contents)) → IsOutputOf said out
+output_of_parts said answers parts log contents out have interleaving after of_table text =
+    let hash = hash_of said.keys in
+    let strict = all_strictly hash said.settings log (length said.workers) 0 said.workers answers parts have in
+    let flags = strict.0 in
+    let idle = idle_in log parts flags interleaving (λ k es held. (strict.1 k es held).1) in
     record {
       answers = answers;
-      parts = strict.0;
-      log = kept.0;
+      parts = kept_parts flags parts;
+      log = kept_in flags log;
       contents = contents;
-      entries_of = strict.1;
-      interleaving = kept.2;
-      legal = kept_leads log kept.0 _ _ kept.1 after;
+      entries_of = strict.2 (kept_in flags log) flags (λ k le. refl) (kept_stuck hash said.settings log flags idle);
+      interleaving = kept_interleaving log parts flags interleaving;
+      legal = kept_leads log [] flags empty (bindings contents) (λ k. subst (λ (es : List (Entry ℕ)). AreIdle (subhistory k es) (flags k)) (sym (append-nil log)) (idle k)) after;
       of_table = of_table;
-      grounds = kept_grounds (hash_of said.keys) said.settings log kept.0 said.workers answers kept.1 grounds;
       text = text;
     }
 
-no_entries : (w : WordsState) (set : Settings) (ms : List ℕ) → All (λ (p : PassState ℕ). p.view.mine ≡ []) (dealt w.table set ms)
-no_entries w set [] k d lt = absurd (omega arith)
-no_entries w set (m ∷ ms) zero d lt = refl
-no_entries w set (m ∷ ms) (suc k) d lt = no_entries w set ms k d (omega arith)
+-- a pass that was dealt has made no call and seen none
+abbrev IsBlank : PassState ℕ → Type 0
+IsBlank p = (p.view.mine ≡ []) × (p.view.seen ≡ [])
 
--- passes that were dealt have made no call
+all_blank : (w : WordsState) (set : Settings) (ms : List ℕ) → All IsBlank (dealt w.table set ms)
+all_blank w set [] k d lt = absurd (omega arith)
+all_blank w set (m ∷ ms) zero d lt = (refl, refl)
+all_blank w set (m ∷ ms) (suc k) d lt = all_blank w set ms k d (omega arith)
+
+-- so the passes that were dealt are new
 pub dealt_new : (w : WordsState) (set : Settings) (ms : List ℕ) (passes : List (PassState ℕ)) → AreAllPasses w passes → passes ≡ dealt w.table set ms → All (IsNew w) passes
-dealt_new w set ms passes all is k d lt = record {
-  caller = all.callers k d lt;
-  no_entry = subst (All (λ (p : PassState ℕ). p.view.mine ≡ [])) (sym is) (no_entries w set ms) k d lt;
-}
+dealt_new w set ms passes all is k d lt =
+    let blank = subst (All IsBlank) (sym is) (all_blank w set ms) k d lt in
+    record {
+      caller = all.callers k d lt;
+      no_entry = blank.0;
+      unseen = blank.1;
+    }
 
 module _ {K : Type 0} (hash : Name → ℕ) (name : K → Name) (w : WordsState) (set : Settings) where
   abbrev pub Given : ℕ → List (Vec (Command K)) → List (Job K) → Type 0
@@ -129,34 +184,24 @@ module _ {K : Type 0} (hash : Name → ℕ) (name : K → Name) (w : WordsState)
   abbrev pub Worked : List (Job K) → List (Done K) → Type 0
   Worked jobs dones = AllZip (HasWorked hash name) jobs dones
 
-  -- what the workers left, by their numbers
-  pub done_parts : (a : ℕ) (workers : List (Vec (Command K))) (jobs : List (Job K)) (dones : List (Done K)) → Given a workers jobs → Worked jobs dones
-      → HaveParts w.settings.callers a (workers_on_names name workers) (lists_on_names name (answers_of dones)) (parts_of (passes_of dones))
-  done_parts a [] [] [] given worked = refl
-  done_parts a [] [] (d ∷ dones) given worked = absurd worked
-  done_parts a [] (j ∷ jobs) dones given worked = absurd given
-  done_parts a (cs ∷ workers) [] dones given worked = absurd given
-  done_parts a (cs ∷ workers) (j ∷ jobs) [] given worked = absurd worked
-  done_parts a (cs ∷ workers) (j ∷ jobs) (d ∷ dones) given worked =
-      let by = ap (λ (c : CallerState ℕ). c.client.by) given.0.caller in (
+  -- what the workers left, by their numbers, in a history that begins with what each has seen
+  pub done_parts : (log : List (Entry ℕ)) (a : ℕ) (workers : List (Vec (Command K))) (jobs : List (Job K)) (dones : List (Done K)) → EachSaw log (passes_of dones) → Given a workers jobs → Worked jobs dones
+      → HaveParts hash w.settings log w.settings.callers a (workers_on_names name workers) (lists_on_names name (answers_of dones)) (parts_of (passes_of dones))
+  done_parts log a [] [] [] saw given worked = refl
+  done_parts log a [] [] (d ∷ dones) saw given worked = absurd worked
+  done_parts log a [] (j ∷ jobs) dones saw given worked = absurd given
+  done_parts log a (cs ∷ workers) [] dones saw given worked = absurd given
+  done_parts log a (cs ∷ workers) (j ∷ jobs) [] saw given worked = absurd worked
+  done_parts log a (cs ∷ workers) (j ∷ jobs) (d ∷ dones) saw given worked =
+      let by = ap (λ (c : CallerState ℕ). c.client.by) given.0.caller in
+      let told = answers_on_names name d.answers.items in (
         ap (λ (o : Option ℕ). unwrap_or o 0) (worked.0.by ∙ by),
-        subst (λ (x : WordsState × Vec (Command K)). HaveLeft x.0.settings.callers a (map (on_names name) x.1.items) (answers_on_names name d.answers.items) d.pass.view.mine) (λ i. ((given.0.caller i).table, given.0.commands i)) (worked.0.entries a by),
-        subst (λ n. HaveParts w.settings.callers n (workers_on_names name workers) (lists_on_names name (answers_of dones)) (parts_of (passes_of dones))) (sym (add-one a)) (done_parts (suc a) workers jobs dones given.1 worked.1),
+        later_left hash w.settings d.pass.view.seen log w.settings.callers a [] (map (on_names name) cs.items) told d.pass.view.mine (saw 0 d.pass (omega arith))
+            (subst (λ (x : WordsState × Vec (Command K)). HaveLeft hash x.0.settings d.pass.view.seen x.0.settings.callers a [] (map (on_names name) x.1.items) told d.pass.view.mine) (λ i. ((given.0.caller i).table, given.0.commands i))
+            (worked.0.entries a by)),
+        subst (λ n. HaveParts hash w.settings log w.settings.callers n (workers_on_names name workers) (lists_on_names name (answers_of dones)) (parts_of (passes_of dones))) (sym (add-one a))
+            (done_parts log (suc a) workers jobs dones (λ k p lt. saw (suc k) p (omega arith)) given.1 worked.1),
       )
-
-  -- what was refused had grounds in a history that begins with what each has seen
-  pub done_grounds : (log : List (Entry ℕ)) (a : ℕ) (workers : List (Vec (Command K))) (jobs : List (Job K)) (dones : List (Done K)) → EachSaw log (passes_of dones) → Given a workers jobs → Worked jobs dones
-      → AllZip (HaveGrounds hash w.settings log) (workers_on_names name workers) (lists_on_names name (answers_of dones))
-  done_grounds log a [] [] [] saw given worked = tt
-  done_grounds log a [] [] (d ∷ dones) saw given worked = absurd worked
-  done_grounds log a [] (j ∷ jobs) dones saw given worked = absurd given
-  done_grounds log a (cs ∷ workers) [] dones saw given worked = absurd given
-  done_grounds log a (cs ∷ workers) (j ∷ jobs) [] saw given worked = absurd worked
-  done_grounds log a (cs ∷ workers) (j ∷ jobs) (d ∷ dones) saw given worked = (
-    subst (λ (x : WordsState × Vec (Command K)). HaveGrounds hash x.0.settings log (map (on_names name) x.1.items) (answers_on_names name d.answers.items)) (λ i. ((given.0.caller i).table, given.0.commands i))
-        (later_grounds hash j.caller.table.settings d.pass.view.seen log (map (on_names name) j.commands.items) (answers_on_names name d.answers.items) (saw 0 d.pass (omega arith)) worked.0.grounds),
-    done_grounds log (suc a) workers jobs dones (λ k p lt. saw (suc k) p (omega arith)) given.1 worked.1,
-  )
 
   done_callers : (a : ℕ) (workers : List (Vec (Command K))) (jobs : List (Job K)) (dones : List (Done K)) → Given a workers jobs → Worked jobs dones → All (IsCaller w) (passes_of dones)
   done_callers a [] [] [] given worked k d lt = absurd (omega arith)
@@ -259,9 +304,7 @@ module _ {K : Type 0} (hash : Name → ℕ) (name : K → Name) (w : WordsState)
       (subst (λ (lists : List (Vec (Answer (Vec (K × ℕ))))). IsTextAtEnd keys w.settings passes (lists_on_names name lists) text.items) same_answers at_end)) in
       let count : w.settings.callers ≡ length named_workers =
       ap (λ (s : Settings). s.callers) settings ∙ work.callers ∙ sym (length-map workers (λ (cs : Vec (Command K)). map (on_names name) cs.items)) in
-      let have : HaveParts (length named_workers) 0 named_workers told (parts_of (passes_of dones)) =
-      subst (λ n. HaveParts n 0 named_workers told (parts_of (passes_of dones))) count (done_parts hash name w set 0 workers jobs dones given worked) in
-      let grounds : AllZip (HaveGrounds (hash_of keys) work.settings end.log) named_workers told =
-      subst (λ (x : (Name → ℕ) × Settings). AllZip (HaveGrounds x.0 x.1 end.log) named_workers told) (λ i. (hashed i, settings i)) (done_grounds hash name w set end.log 0 workers jobs dones end.saw given worked) in
-      output_of_parts (said_in keys name work) told (parts_of (passes_of dones)) end.log end.contents text.items have end.interleaving end.legal end.of_table grounds end.text_is
+      let have : HaveParts (hash_of keys) work.settings end.log (length named_workers) 0 named_workers told (parts_of (passes_of dones)) =
+      subst (λ (x : (Name → ℕ) × Settings × ℕ). HaveParts x.0 x.1 end.log x.2 0 named_workers told (parts_of (passes_of dones))) (λ i. (hashed i, settings i, count i)) (done_parts hash name w set end.log 0 workers jobs dones end.saw given worked) in
+      output_of_parts (said_in keys name work) told (parts_of (passes_of dones)) end.log end.contents text.items have end.interleaving end.legal end.of_table end.text_is
   output_of_run keys work jobs dones passes answers (Err e) hashed settings given worked same_passes same_answers at_end = tt

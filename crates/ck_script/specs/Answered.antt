@@ -3,7 +3,8 @@ use Rattle.std.specs.Prelude.{◌≡◌, ◌≢◌, ◌⊎◌, ℕ, List, [], �
 use Rattle.ck_model.specs.declared.history.Call.TheVariants.{Session}
 use Rattle.ck_model.specs.declared.history.Reply.TheVariants.{Closed}
 use Rattle.ck_model.specs.declared.history.Entry.{Entry}
-use Rattle.ck_model.specs.Promise.{Name, StartsWith}
+use Rattle.ck_model.specs.declared.settings.Settings.{Settings}
+use Rattle.ck_model.specs.Promise.{Name, Client, StartsWith, subhistory}
 use Rattle.cuckoo_map.specs.Callers.{CallerState, IsSameCaller}
 use Rattle.cuckoo_map.specs.declared.refusal.Why.{Why}
 use Rattle.cuckoo_map.specs.declared.refusal.Why.TheVariants.{Busy, Full, LoadTooLow}
@@ -68,18 +69,27 @@ StaysOrGrows n by c a old new =
     (IsRefusal n c a × (new ≡ old))
     ⊎ ((e : Entry ℕ) × (e.by ≡ by) × IsLeft n c a e × (new ≡ old ++ e ∷ []))
 
--- the caller's command was answered by this answer
+-- what the client has seen more is of others, or of others and then its own one entry more
+abbrev pub SeesMore : ℕ → Client ℕ → Client ℕ → Type 0
+SeesMore by c d =
+    ((others : List (Entry ℕ)) × (d.seen ≡ c.seen ++ others) × (subhistory by others ≡ []) × (d.mine ≡ c.mine))
+    ⊎ ((others : List (Entry ℕ)) × (e : Entry ℕ) × (d.seen ≡ c.seen ++ others ++ e ∷ []) × (subhistory e.by others ≡ []) × (e.by ≡ by) × (d.mine ≡ c.mine ++ e ∷ []))
+
+-- The caller's command was answered by this answer. If the caller had seen all of its own entries, a refusal for want of room has grounds when just these are done.
 pub record IsAnsweredBy (hash : Name → ℕ) (c : Command Name) (a : Answer Pairs) (p q : CallerState ℕ) : Type 0 where
   pub same : IsSameCaller p q
   pub why : CommandPrintsWhy c a p q
   pub saw : StartsWith q.client.seen p.client.seen
-  pub grounds : HasGrounds hash p.table.settings q.client.seen c a
+  pub own : (by : ℕ) → p.client.by ≡ Some by → SeesMore by p.client q.client
+  pub grounds : (by : ℕ) → p.client.by ≡ Some by → subhistory by p.client.seen ≡ p.client.mine → HasGrounds hash p.table.settings q.client.seen by p.client.mine c a
   pub entries : (by : ℕ) → p.client.by ≡ Some by → StaysOrGrows p.table.settings.callers by c a p.client.mine q.client.mine
 
--- The entries that a caller's commands with their answers left, in order: one or none of a refused command, and one of each other.
-abbrev pub HaveLeft : (n by : ℕ) → List (Command Name) → List (Answer Pairs) → List (Entry ℕ) → Type 0
-HaveLeft n by [] [] es = es ≡ []
-HaveLeft n by (c ∷ cs) (a ∷ answers) es =
-    (IsRefusal n c a × HaveLeft n by cs answers es)
-    ⊎ ((e : Entry ℕ) × (more : List (Entry ℕ)) × (es ≡ e ∷ more) × (e.by ≡ by) × IsLeft n c a e × HaveLeft n by cs answers more)
-HaveLeft n by cs answers es = ⊥
+module _ (hash : Name → ℕ) (set : Settings) (log : List (Entry ℕ)) where
+  -- The entries that a caller's commands with their answers left, in order, behind those that are done: one or none of a refused command, and one of each other. What was refused for want of room had grounds then.
+  abbrev pub HaveLeft : (n by : ℕ) → List (Entry ℕ) → List (Command Name) → List (Answer Pairs) → List (Entry ℕ) → Type 0
+  HaveLeft n by done [] [] es = es ≡ []
+  HaveLeft n by done (c ∷ cs) (a ∷ answers) es =
+      HasGrounds hash set log by done c a
+      × ((IsRefusal n c a × HaveLeft n by done cs answers es)
+      ⊎ ((e : Entry ℕ) × (more : List (Entry ℕ)) × (es ≡ e ∷ more) × (e.by ≡ by) × IsLeft n c a e × HaveLeft n by (done ++ e ∷ []) cs answers more))
+  HaveLeft n by done cs answers es = ⊥

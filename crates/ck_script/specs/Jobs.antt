@@ -18,18 +18,19 @@ use Rattle.ck_script.specs.declared.job.Done.{Done}
 use Rattle.ck_format.specs.Script.{on_names, hash_of}
 use Rattle.ck_format.specs.Text.{Pairs, output_text}
 use Rattle.ck_format.specs.Answers.{answers_on_names}
-use Rattle.ck_script.specs.Output.{HaveGrounds}
 use Rattle.ck_script.specs.Answered.{HaveLeft}
 
--- The pass is one of this table's callers, and was in no call that left an entry.
+-- The pass is one of this table's callers, was in no call that left an entry, and has seen none.
 pub record IsNew (w : WordsState) (p : PassState ℕ) : Type 0 where
   pub caller : IsCaller w p
   pub no_entry : p.view.mine ≡ []
+  pub unseen : p.view.seen ≡ []
 
 module _ {K : Type 0} where
-  -- The worker has made no call, and has room for all of its answers.
+  -- The worker has made no call and seen none, and has room for all of its answers.
   pub record IsReadyJob (job : Job K) : Type 0 where
     pub fresh : job.caller.client.mine ≡ []
+    pub unseen : job.caller.client.seen ≡ []
     pub empty : job.answers.items ≡ []
     pub room : length job.commands.items ≤ vec_capacity job.answers
 
@@ -46,12 +47,12 @@ module _ {K : Type 0} where
   passes_of dones = map (λ (d : Done K). d.pass) dones
 
 module _ {K : Type 0} (hash : Name → ℕ) (name : K → Name) where
-  -- The worker made its calls on the same table under the same number. Its entries are what its commands left, and what was refused for want of room had grounds in what it has seen.
+  -- The worker made its calls on the same table under the same number. Its entries are what its commands left, and what was refused for want of room had grounds where it stands, in what it has seen.
   pub record HasWorked (job : Job K) (done : Done K) : Type 0 where
     pub caller : IsCaller job.caller.table done.pass
     pub by : done.pass.view.by ≡ job.caller.client.by
-    pub grounds : HaveGrounds hash job.caller.table.settings done.pass.view.seen (map (on_names name) job.commands.items) (answers_on_names name done.answers.items)
-    pub entries : (by : ℕ) → job.caller.client.by ≡ Some by → HaveLeft job.caller.table.settings.callers by (map (on_names name) job.commands.items) (answers_on_names name done.answers.items) done.pass.view.mine
+    pub entries : (by : ℕ) → job.caller.client.by ≡ Some by
+        → HaveLeft hash job.caller.table.settings done.pass.view.seen job.caller.table.settings.callers by [] (map (on_names name) job.commands.items) (answers_on_names name done.answers.items) done.pass.view.mine
 
 -- The text is that of these answers and of the map after a legal history, which is an interleaving of the entries of the passes, and begins with what each has seen.
 -- The map is what a table with these settings contains.

@@ -1,6 +1,5 @@
 -- What a run of a script may write.
-use Rattle.std.specs.Prelude.{◌≡◌, ◌≢◌, ◌⊎◌, ℕ, ◌+◌, ◌-◌, ◌^◌, min, List, [], ◌∷◌, length, Some, None}
-use Rattle.std.specs.List.{AllZip}
+use Rattle.std.specs.Prelude.{◌≡◌, ◌≢◌, ◌⊎◌, ℕ, ◌+◌, ◌-◌, ◌^◌, min, List, [], ◌∷◌, ◌++◌, length, Some, None}
 use Rattle.std.specs.FinMap.{entries}
 use Rattle.ck_model.specs.declared.history.Act.TheVariants as act
 use Rattle.ck_model.specs.declared.history.Call.{Call}
@@ -11,7 +10,7 @@ use Rattle.ck_model.specs.declared.history.Entry.{Entry}
 use Rattle.ck_model.specs.declared.history.Reason.{Reason}
 use Rattle.ck_model.specs.declared.history.Reason.TheVariants as reason
 use Rattle.ck_model.specs.declared.settings.Settings.{Settings}
-use Rattle.ck_model.specs.Promise.{Name, After, StartsWith, IsInterleaving}
+use Rattle.ck_model.specs.Promise.{Name, After, StartsWith, subhistory, IsInterleaving}
 use Rattle.ck_model.specs.Contents.{layout_of, Stripes, bindings}
 use Rattle.ck_model.specs.Paths.{Grounds}
 use Rattle.ck_words.specs.Closing.{AreContentsOf}
@@ -102,56 +101,53 @@ IsRefusal n c answer.Full = NeedsRoom c
 IsRefusal n c answer.Load = NeedsRoom c
 IsRefusal n c a = ⊥
 
--- the entries of the commands of one of n workers with their answers, in order: none of a refused command, and one of each other
-abbrev pub AreEntriesOf : (n by : ℕ) → List (Command Name) → List (Answer Pairs) → List (Entry ℕ) → Type 0
-AreEntriesOf n by [] [] es = es ≡ []
-AreEntriesOf n by (c ∷ cs) (a ∷ answers) es =
-    (IsRefusal n c a × AreEntriesOf n by cs answers es)
-    ⊎ ((e : Entry ℕ) × (more : List (Entry ℕ)) × (es ≡ e ∷ more) × (e.by ≡ by) × StandsFor c a e.call e.reply × AreEntriesOf n by cs answers more)
-AreEntriesOf n by cs answers es = ⊥
-
--- the same of each worker, of which the first has the number by
-abbrev pub ArePartsOf : (n by : ℕ) → List (List (Command Name)) → List (List (Answer Pairs)) → List (ℕ × List (Entry ℕ)) → Type 0
-ArePartsOf n by [] [] parts = parts ≡ []
-ArePartsOf n by (cs ∷ workers) (answers ∷ more) (part ∷ parts) = (part.0 ≡ by) × AreEntriesOf n by cs answers part.1 × ArePartsOf n (by + 1) workers more parts
-ArePartsOf n by workers answers parts = ⊥
-
--- At a beginning of the history all stripes of a table with these settings contained what gives this reason to refuse the name.
-pub record WasStuck (hash : Name → ℕ) (set : Settings) (log : List (Entry ℕ)) (k : Name) (why : Reason) : Type 0 where
+-- At a beginning of the history that has just these entries of the worker's, all stripes of a table with these settings contained what gives this reason to refuse the name.
+pub record WasStuck (hash : Name → ℕ) (set : Settings) (log : List (Entry ℕ)) (by : ℕ) (done : List (Entry ℕ)) (k : Name) (why : Reason) : Type 0 where
   pub start : List (Entry ℕ)
   pub begins : StartsWith log start
+  pub own : subhistory by start ≡ done
   pub contents : Stripes ℕ
   pub after : After start (bindings contents)
   pub grounds : Grounds (layout_of hash set) set.min_load contents k why
 
--- where the answer refuses the name for want of room, it was so
-abbrev pub HasGroundsFor : (Name → ℕ) → Settings → List (Entry ℕ) → Name → Answer Pairs → Type 0
-HasGroundsFor hash set log k answer.Memory = WasStuck hash set log k reason.Memory
-HasGroundsFor hash set log k answer.Full = WasStuck hash set log k reason.Full
-HasGroundsFor hash set log k answer.Load = WasStuck hash set log k reason.LoadTooLow
-HasGroundsFor hash set log k a = Unit {0}
+module _ (hash : Name → ℕ) (set : Settings) (log : List (Entry ℕ)) where
+  -- where the answer refuses the name for want of room, it was so when just these entries of the worker's were done
+  abbrev pub HasGroundsFor : ℕ → List (Entry ℕ) → Name → Answer Pairs → Type 0
+  HasGroundsFor by done k answer.Memory = WasStuck hash set log by done k reason.Memory
+  HasGroundsFor by done k answer.Full = WasStuck hash set log by done k reason.Full
+  HasGroundsFor by done k answer.Load = WasStuck hash set log by done k reason.LoadTooLow
+  HasGroundsFor by done k a = Unit {0}
 
--- the same of a command that may need room for its key
-abbrev pub HasGrounds : (Name → ℕ) → Settings → List (Entry ℕ) → Command Name → Answer Pairs → Type 0
-HasGrounds hash set log (command.Insert k n) a = HasGroundsFor hash set log k a
-HasGrounds hash set log (command.Assign k n) a = HasGroundsFor hash set log k a
-HasGrounds hash set log (command.Add k n) a = HasGroundsFor hash set log k a
-HasGrounds hash set log c a = Unit {0}
+  -- the same of a command that may need room for its key
+  abbrev pub HasGrounds : ℕ → List (Entry ℕ) → Command Name → Answer Pairs → Type 0
+  HasGrounds by done (command.Insert k n) a = HasGroundsFor by done k a
+  HasGrounds by done (command.Assign k n) a = HasGroundsFor by done k a
+  HasGrounds by done (command.Add k n) a = HasGroundsFor by done k a
+  HasGrounds by done c a = Unit {0}
 
--- each of these commands with its answer
-abbrev pub HaveGrounds : (Name → ℕ) → Settings → List (Entry ℕ) → List (Command Name) → List (Answer Pairs) → Type 0
-HaveGrounds hash set log cs answers = AllZip (HasGrounds hash set log) cs answers
+  -- The entries of the commands of one of n workers with their answers, in order, behind those that are done: none of a refused command, which had grounds then, and one of each other.
+  abbrev pub AreEntriesOf : (n by : ℕ) → List (Entry ℕ) → List (Command Name) → List (Answer Pairs) → List (Entry ℕ) → Type 0
+  AreEntriesOf n by done [] [] es = es ≡ []
+  AreEntriesOf n by done (c ∷ cs) (a ∷ answers) es =
+      (IsRefusal n c a × HasGrounds by done c a × AreEntriesOf n by done cs answers es)
+      ⊎ ((e : Entry ℕ) × (more : List (Entry ℕ)) × (es ≡ e ∷ more) × (e.by ≡ by) × StandsFor c a e.call e.reply × AreEntriesOf n by (done ++ e ∷ []) cs answers more)
+  AreEntriesOf n by done cs answers es = ⊥
+
+  -- the same of each worker, of which the first has the number by
+  abbrev pub ArePartsOf : (n by : ℕ) → List (List (Command Name)) → List (List (Answer Pairs)) → List (ℕ × List (Entry ℕ)) → Type 0
+  ArePartsOf n by [] [] parts = parts ≡ []
+  ArePartsOf n by (cs ∷ workers) (answers ∷ more) (part ∷ parts) = (part.0 ≡ by) × AreEntriesOf n by [] cs answers part.1 × ArePartsOf n (by + 1) workers more parts
+  ArePartsOf n by workers answers parts = ⊥
 
 -- The entries of the workers' commands have a legal interleaving, and the text is that of the answers and of the map after it. All is on a table with the script's settings:
--- the map is what such a table contains, and so is what refuses a command for want of room.
+-- the map is what such a table contains, and so is what refuses a command for want of room, at a moment between the worker's entries before it and those after it.
 pub record IsOutputOf (said : Said) (out : List ℕ) : Type 0 where
   pub answers : List (List (Answer Pairs))
   pub parts : List (ℕ × List (Entry ℕ))
   pub log : List (Entry ℕ)
   pub contents : Stripes ℕ
-  pub entries_of : ArePartsOf (length said.workers) 0 said.workers answers parts
+  pub entries_of : ArePartsOf (hash_of said.keys) said.settings log (length said.workers) 0 said.workers answers parts
   pub interleaving : IsInterleaving log parts
   pub legal : After log (bindings contents)
   pub of_table : AreContentsOf (hash_of said.keys) said.settings contents
-  pub grounds : AllZip (HaveGrounds (hash_of said.keys) said.settings log) said.workers answers
   pub text : out ≡ output_text said.keys answers (entries (bindings contents))

@@ -7,9 +7,10 @@ use Rattle.ck_words.specs.Passes.{PassState}
 use Rattle.ck_words.specs.Closing.{IsCaller}
 use Rattle.ck_format.specs.Script.{on_names}
 use Rattle.ck_format.specs.Answers.{answer_on_names, answers_on_names}
-use Rattle.ck_script.specs.Output.{HasGrounds, HaveGrounds}
+use Rattle.ck_script.specs.Output.{HasGrounds}
 use Rattle.ck_script.specs.Answered.{StaysOrGrows, HaveLeft}
-use Rattle.ck_script.proofs.Entries.{left_by_one, grounds_by_one, holds_of_all}
+use Rattle.ck_script.proofs.Seen.{sees_own}
+use Rattle.ck_script.proofs.Entries.{left_by_one, holds_of_all}
 use Rattle.ck_script.proofs.worker.work.Goals as goal
 
 pub loop-command-preserved : goal.loop-command-preserved
@@ -28,12 +29,12 @@ loop-command-preserved g c =
       same = record { table = now.same.table ∙ before.same.table; by = now.same.by ∙ before.same.by };
       count = c.push_reserved.ensures.len ∙ ap (λ n. n + 1) before.count ∙ sym one_more;
       room = omega (arith, before.room, c.push_reserved.ensures.capacity);
-      grounds =
-          grounds_by_one g.K.TableKey.hash first.settings name done command c.loop-command.answers.items c.push_reserved.new.self.items answer old.seen new.seen before.grounds now.saw
-          (subst (λ (w : WordsState). HasGrounds g.K.TableKey.hash w.settings new.seen (on_names name command) (answer_on_names name answer)) before.same.table now.grounds) c.push_reserved.ensures.items;
+      own = λ by is. sees_own by old new (now.own by (before.same.by ∙ is)) (before.own by is);
       entries = λ by is.
-          left_by_one name first.settings.callers by done command c.loop-command.answers.items c.push_reserved.new.self.items answer old.mine new.mine (before.entries by is)
-          (subst (λ (w : WordsState). StaysOrGrows w.settings.callers by (on_names name command) (answer_on_names name answer) old.mine new.mine) before.same.table (now.entries by (before.same.by ∙ is))) c.push_reserved.ensures.items;
+          let number = before.same.by ∙ is in
+          left_by_one g.K.TableKey.hash first.settings name first.settings.callers by done command c.loop-command.answers.items c.push_reserved.new.self.items answer old.seen new.seen old.mine new.mine (before.entries by is) now.saw
+          (subst (λ (w : WordsState). StaysOrGrows w.settings.callers by (on_names name command) (answer_on_names name answer) old.mine new.mine) before.same.table (now.entries by number))
+          (subst (λ (w : WordsState). HasGrounds g.K.TableKey.hash w.settings new.seen by old.mine (on_names name command) (answer_on_names name answer)) before.same.table (now.grounds by number (before.own by is))) c.push_reserved.ensures.items;
     }
 
 pub returns : goal.returns
@@ -46,10 +47,7 @@ returns g c =
     record {
       caller = subst (λ (w : WordsState). IsCaller w c.into_pass.result) before.same.table c.into_pass.ensures.caller;
       by = ap (λ (p : PassState ℕ). p.view.by) c.into_pass.ensures.pass ∙ before.same.by;
-      grounds =
-          holds_of_all g.K.TableKey.name (λ cs p. HaveGrounds g.K.TableKey.hash set p.view.seen cs told) c.loop-command.yielded c.args.job.commands.items c.loop-command.caller c.into_pass.result
-          before.grounds all c.into_pass.ensures.pass;
       entries = λ by is.
-          holds_of_all g.K.TableKey.name (λ cs p. HaveLeft set.callers by cs told p.view.mine) c.loop-command.yielded c.args.job.commands.items c.loop-command.caller c.into_pass.result
+          holds_of_all g.K.TableKey.name (λ cs p. HaveLeft g.K.TableKey.hash set p.view.seen set.callers by [] cs told p.view.mine) c.loop-command.yielded c.args.job.commands.items c.loop-command.caller c.into_pass.result
           (before.entries by is) all c.into_pass.ensures.pass;
     }
