@@ -75,7 +75,26 @@ tries-preserved g c =
     let tried = tried_again q w p c.tries.pass c.displace_or_prepare.new.pass r z c.tries.invariant.tried c.displace_or_prepare.ensures.back c.of-since.ensures c.find_room.ensures.own c.in-Err.ensures.idle c.in-Err.ensures.full (any_among _ r z c.find_room.ensures.found) in
     record { caller = still_caller q w p z c.requires.caller tried; tried = tried; power = c.in-Err.ensures.power }
 
--- all tries were made, and all stripes were taken
+-- all tries were made
+spent : (g : Over) (c : goal.After-make_room_in_all-arg-2-1 g) → HasTried (g.K.TableKey.name c.args.key.now) c.args.self.now c.args.pass.now c.tries-test.pass
+spent g c =
+    let q = g.K.TableKey.name c.args.key.now in
+    let w = c.args.self.now in
+    let p = c.args.pass.now in
+    let Tried : PassState g.row.V.Denot → Type 0 = HasTried q w p in
+    elim c.tries-test.branch [
+      | else-tries-test x ↦ subst Tried (sym x.pass-is) c.tries.invariant.tried
+      | then-tries-test+in_ok-displace_or_prepare+then-not-branch x ↦ subst Tried (sym x.pass-is) (tried_on q w p c.tries.pass x.displace_or_prepare.new.pass c.tries.invariant.tried x.displace_or_prepare.ensures.back)
+      | then-tries-test+in_ok-displace_or_prepare+else-not-branch+in_ok-spot+in-Err+else-round-rounds x ↦
+          subst Tried (sym x.pass-is)
+          (tried_again q w p c.tries.pass x.displace_or_prepare.new.pass x.of-since.result.value x.find_room.new.pass c.tries.invariant.tried x.displace_or_prepare.ensures.back x.of-since.ensures x.find_room.ensures.own x.in-Err.ensures.idle x.in-Err.ensures.full
+          (any_among _ x.of-since.result.value x.find_room.new.pass x.find_room.ensures.found))
+    ]
+
+pub make_room_in_all-requires : goal.make_room_in_all-requires
+make_room_in_all-requires g c = record { caller = still_caller (g.K.TableKey.name c.args.key.now) c.args.self.now c.args.pass.now c.tries-test.pass c.requires.caller (spent g c) }
+
+-- and all stripes were taken
 over : (g : Over) (c : goal.After-make_room_in_all g) → HasTried (g.K.TableKey.name c.args.key.now) c.args.self.now c.args.pass.now c.tries-test.pass
 over g c =
     let q = g.K.TableKey.name c.args.key.now in
