@@ -3,4 +3,5 @@ pub mod Seen
 pub mod Grounds
 pub mod Entries
 pub mod Lists
+pub mod Parts
 pub mod Workers

@@ -2,6 +2,7 @@ use Rattle.std.proofs.Common.{rules, refl, sym, subst}
 use Rattle.ck_model.specs.Promise.{ListsInOrder}
 use Rattle.cuckoo_map.specs.Locking.{map_of}
 use Rattle.cuckoo_map.proofs.Draining.{session_since}
+use Rattle.cuckoo_c.proofs.NotesKept.{notes_of_look}
 use Rattle.cuckoo_c.proofs.sessions.export_by.Goals as goal
 
 pub returns-in-Ok-exported : goal.returns-in-Ok-exported
@@ -13,7 +14,7 @@ returns-in-Ok-exported g c = record {
     session_since c.unlock_caller-handle.result c.in-Ok.ensures.locked refl refl c.unlock_caller-handle.ensures.answered,
   );
   refused = search rules;
-  notes = search rules;
+  notes = notes_of_look c.unlock_caller-handle.result c.in-Ok.ensures.locked c.unlock_caller-handle.ensures.notes;
   found = search rules;
 }
 
@@ -22,6 +23,6 @@ returns-in-Err-exported g c = record {
   same = search rules;
   listed = search rules;
   refused = (map_of c.in-Ok.locked, session_since c.unlock_caller-handle.result c.in-Ok.ensures.locked refl refl c.unlock_caller-handle.ensures.answered);
-  notes = search rules;
+  notes = notes_of_look c.unlock_caller-handle.result c.in-Ok.ensures.locked c.unlock_caller-handle.ensures.notes;
   found = search rules;
 }
