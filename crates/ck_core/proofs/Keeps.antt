@@ -16,14 +16,16 @@ use Rattle.ck_model.specs.Laws.{ArePartOf}
 use Rattle.ck_model.proofs.Numbered.{Some-injective, in_held, held_of_in, held_either, held_first, held_second, in_either, in_first, in_second, distinct_between, distinct_cut, listed_at, over_miss, over_hit, in_without}
 use Rattle.ck_model.proofs.Sections.{section_of_whole, identity_of_whole, power_after}
 use Rattle.ck_model.proofs.Histories.{leads_snoc}
-use Rattle.ck_core.specs.Trace.{misses}
+use Rattle.ck_core.specs.Trace.{BeginsWith, misses}
 use Rattle.ck_core.specs.State.{Configuration, HasNumber, IsPart, own, owned, Places, Knows, Watches, Traces, HistoryInvariant}
-use Rattle.ck_core.specs.declared.trace.LockStep.TheVariants.{Took, Missed, Gave}
-use Rattle.ck_core.specs.Steps.{Label, number_of, traced, watching, taken, missed, seen_as, sent_home, giving, renewing, deciding, beginner, message_of, spent, joining, split_as, joined, Transition, grown, Execution}
+use Rattle.ck_core.specs.declared.trace.LockStep.{LockStep}
+use Rattle.ck_core.specs.declared.trace.LockStep.TheVariants.{Took, Missed, Gave, Decided}
+use Rattle.ck_core.specs.Steps.{Label, number_of, event, traced, watching, taken, missed, seen_as, sent_home, giving, renewing, deciding, beginner, message_of, spent, joining, split_as, joined, Transition, grown, Execution}
 use Rattle.ck_core.specs.Steps.Label.{Take, FindHeld, Give, Decide, GiveRest, Renew, Look, Open, Tell, Join}
 use Rattle.ck_core.proofs.Lists.{at_within, each_set, each_snoc, set_else}
 use Rattle.ck_core.proofs.Places.{places_keep, places_take, places_back, places_split}
 use Rattle.ck_core.proofs.Traces.{traces_take, traces_miss, traces_back, traces_keep, traces_split, traces_join, watches_nothing, watches_as}
+use Rattle.ck_core.proofs.LegalTraces.{Returns, returns_gave, returns_decided, decided_same, decided_more}
 use Rattle.ck_core.proofs.Callers.{knows_all, knows_same, callers_set, callers_add, callers_split, callers_join}
 
 -- a stripe that went home isn't held
@@ -43,7 +45,7 @@ module _ {V : Type 0} (k : Layout) (callers : ℕ) (log : List (Entry V)) (s : C
   HasSeen l _ u = HasAll k u.held → u.seen ≡ l
 
   -- what was watched doesn't change, for a view with no number besides
-  watched_as : (w : View V) → w.watched ≡ v.watched → ((m : ℕ) → IsIn m (numbers (owned w)) → IsIn m (numbers (owned v))) → ((m : ℕ) → w.by ≡ Some m → misses m w.watched ≡ w.found) → Watches s.trace w
+  watched_as : (w : View V) → w.watched ≡ v.watched → ((m : ℕ) → IsIn m (numbers (owned w)) → IsIn m (numbers (owned v))) → ((m : ℕ) → w.by ≡ Some m → misses m w.watched ≡ w.found) → BeginsWith w.watched w.heard_watched → Watches s.trace w
   watched_as w = watches_as s.trace v w (law.traced.watched id v at)
 
   -- where no stripe is held, not all are
@@ -66,6 +68,7 @@ module _ {V : Type 0} (k : Layout) (callers : ℕ) (log : List (Entry V)) (s : C
         told = each_set (Told law.contents) s.views id w (law.told id v at) (λ j u _ a. law.told j u a);
         callers_known = callers_set callers log s.views id v w law.callers_known at refl (knows_all callers log v w (law.callers_known.knows id v at) refl refl refl refl refl);
         traced = traces_take (2 ^ k.s) callers log s law.contents law.places law.callers_known law.traced id v at number.0 number.1 t c log l free;
+        decided = decided_same log s.trace (event v.by Took t) law.decided refl;
         legal = law.legal;
       }
 
@@ -80,6 +83,7 @@ module _ {V : Type 0} (k : Layout) (callers : ℕ) (log : List (Entry V)) (s : C
     told = each_set (Told law.contents) s.views id w told (λ j u _ a. law.told j u a);
     callers_known = callers_set callers log s.views id v w law.callers_known at same kn;
     traced = traces_keep (2 ^ k.s) callers log s law.contents law.places law.callers_known law.traced id v at w held by watches;
+    decided = law.decided;
     legal = law.legal;
   }
 
@@ -95,6 +99,7 @@ module _ {V : Type 0} (k : Layout) (callers : ℕ) (log : List (Entry V)) (s : C
         told = each_set (Told law.contents) s.views id w (law.told id v at) (λ j u _ a. law.told j u a);
         callers_known = callers_set callers log s.views id v w law.callers_known at refl (knows_same callers log v w (law.callers_known.knows id v at) refl refl refl refl refl);
         traced = traces_miss (2 ^ k.s) callers log s law.contents law.places law.callers_known law.traced id v at number.0 number.1 t l one not_own law.holders;
+        decided = decided_same log s.trace (event v.by Missed t) law.decided refl;
         legal = law.legal;
       }
 
@@ -128,32 +133,33 @@ module _ {V : Type 0} (k : Layout) (callers : ℕ) (log : List (Entry V)) (s : C
 
   pub look_keeps : (p : ℕ) → ((u : ℕ) (c : Content V) → IsPart s u c → p ≤ c.power) → HistoryInvariant k callers log (seen_as s id (record v { seen = log; told = p }))
   look_keeps p h = let w : View V = record v { seen = log; told = p } in
-      seen_keeps w refl refl (λ _. refl) refl (knows_all callers log v w (law.callers_known.knows id v at) refl refl refl refl refl) (λ t l. (h t (law.contents t) (whole_is_part t l), (law.told id v at t l).1)) (watched_as w refl (λ m i. i) (law.traced.watched id v at).missed)
+      seen_keeps w refl refl (λ _. refl) refl (knows_all callers log v w (law.callers_known.knows id v at) refl refl refl refl refl) (λ t l. (h t (law.contents t) (whole_is_part t l), (law.told id v at t l).1)) (watched_as w refl (λ m i. i) (law.traced.watched id v at).missed (law.traced.watched id v at).heard)
 
   same_power : (w : ℕ → Content V) → Lawful k (whole k w) → (t u : ℕ) (c : Content V) → t < 2 ^ k.s → u < 2 ^ k.s → w t ≡ c → c.power ≤ (w u).power
   same_power w lawful t u c l m e = le_of_eq (ap (λ (x : Content V). x.power) (sym e) ∙ lawful.one_power t u (w t) (w u) (listed_at (2 ^ k.s) w t l) (listed_at (2 ^ k.s) w u m))
 
   -- a stripe goes home
-  back : (ks : Stripes V) (t : ℕ) (c : Content V) (w : View V) → numbers ks ≡ numbers v.held → Holds ks t c → w.held ≡ without t ks → w.by ≡ v.by → w.found ≡ v.found → Traces (2 ^ k.s) (sent_home s id t c w)
-  back ks t c w same here is by found =
+  back : (step : LockStep V) → ((m : ℕ) → v.by ≡ Some m → Returns m step) → (ks : Stripes V) (t : ℕ) (c : Content V) (w : View V) → numbers ks ≡ numbers v.held → Holds ks t c → w.held ≡ without t ks → w.by ≡ v.by → w.found ≡ v.found → w.heard_watched ≡ v.heard_watched → Traces (2 ^ k.s) callers (sent_home step s id t c w)
+  back step returns ks t c w same here is by found heard =
       let old = held_of_in v.held t (subst (IsIn t) same (in_held ks t c here)) in
       let number = law.holders id v at t old.0 old.1 in
-      traces_back (2 ^ k.s) callers log s law.contents law.places law.callers_known law.traced id v at number.0 number.1 ks t c w same here is by found
+      traces_back (2 ^ k.s) callers log s law.contents law.places law.callers_known law.traced id v at number.0 number.1 step (returns number.0 number.1) ks t c w same here is by found heard
 
-  pub give_keeps : (t : ℕ) (c : Content V) (g : Option (Name × Reason)) → Holds v.held t c → HistoryInvariant k callers log (sent_home s id t c (giving v t c v.held g))
+  pub give_keeps : (t : ℕ) (c : Content V) (g : Option (Name × Reason)) → Holds v.held t c → HistoryInvariant k callers log (sent_home Gave s id t c (giving v t c v.held g))
   give_keeps t c g h =
       let w : View V = giving v t c v.held g in
       let now : View V = watching (traced s w Gave t) w in
       let f = law.places.holds id v at t c h in
       record {
         contents = law.contents;
-        places = places_back (2 ^ k.s) s law.contents law.places id v at v.held t c w law.contents refl h refl (λ q _. refl) (λ q d x. (law.places.holds id v at q d x).3);
+        places = places_back (2 ^ k.s) s law.contents law.places id v at Gave v.held t c w law.contents refl h refl (λ q _. refl) (λ q d x. (law.places.holds id v at q d x).3);
         holders = each_set IsHolder s.views id now (λ q d _. law.holders id v at t c h) (λ j u _ a. law.holders j u a);
         all_seen = each_set (HasSeen log) s.views id now (λ all. absurd (gone_home t v.held (all t f.0))) (λ j u _ a. law.all_seen j u a);
         lawful = law.lawful;
         told = each_set (Told law.contents) s.views id now (λ u m. (max_le v.told (c.power) ((law.contents u).power) (law.told id v at u m).0 (same_power law.contents law.lawful t u c f.0 m f.3), (law.told id v at u m).1)) (λ j u _ a. law.told j u a);
         callers_known = callers_set callers log s.views id v now law.callers_known at refl (knows_same callers log v now (law.callers_known.knows id v at) refl refl refl refl refl);
-        traced = back v.held t c w refl h refl refl refl;
+        traced = back Gave (λ m _. returns_gave m) v.held t c w refl h refl refl refl refl;
+        decided = decided_same log s.trace (event w.by Gave t) law.decided refl;
         legal = law.legal;
       }
 
@@ -165,8 +171,8 @@ module _ {V : Type 0} (k : Layout) (callers : ℕ) (log : List (Entry V)) (s : C
       apart : AreDistinct (numbers ks)
       apart = subst AreDistinct (sym r.same) (law.places.distinct id v at)
 
-      placed : (w : View V) → w.held ≡ without t ks → Places (2 ^ k.s) (sent_home s id t c w) contents2
-      placed w is = places_back (2 ^ k.s) s law.contents law.places id v at ks t c w contents2 r.same here is (λ q out. over_miss ks law.contents q out) (λ q d x. over_hit ks law.contents apart q d x)
+      placed : (step : LockStep V) (w : View V) → w.held ≡ without t ks → Places (2 ^ k.s) (sent_home step s id t c w) contents2
+      placed step w is = places_back (2 ^ k.s) s law.contents law.places id v at step ks t c w contents2 r.same here is (λ q out. over_miss ks law.contents q out) (λ q d x. over_hit ks law.contents apart q d x)
 
       others_told : (j : ℕ) (u : View V) → get_elem? s.views j ≡ some u → Told contents2 j u
       others_told j u a q l =
@@ -186,29 +192,30 @@ module _ {V : Type 0} (k : Layout) (callers : ℕ) (log : List (Entry V)) (s : C
           let d = held_of_in u.held t (all t below) in
           other (sym (law.places.holds j u a t d.0 d.1).2 ∙ (law.places.holds id v at t was_held.0 was_held.1).2)
 
-    pub decide_keeps : (e : Entry V) → v.by ≡ Some e.by → Section k v.held e.call e.reply ks → HistoryInvariant k callers (log ++ e ∷ []) (sent_home s id t c (deciding v t ks log e))
+    pub decide_keeps : (e : Entry V) → v.by ≡ Some e.by → Section k v.held e.call e.reply ks → HistoryInvariant k callers (log ++ e ∷ []) (sent_home (Decided e) s id t c (deciding v t ks log e))
     decide_keeps e by sec =
         let w : View V = deciding v t ks log e in
-        let now : View V = watching (traced s w Gave t) w in
+        let now : View V = watching (traced s w (Decided e) t) w in
         let z = section_of_whole k law.contents v.held ks law.lawful agrees e.call e.reply sec in
         record {
           contents = contents2;
-          places = placed sec.renewed w refl;
+          places = placed sec.renewed (Decided e) w refl;
           holders = each_set IsHolder s.views id now (λ q d _. (e.by, by)) (λ j u _ a. law.holders j u a);
           all_seen = each_set (HasSeen (log ++ e ∷ [])) s.views id now (λ all. absurd (gone_home t ks (all t (below sec.renewed)))) (λ j u other a all. absurd (others_lack sec.renewed j u other a all));
           lawful = z.0;
           told = each_set (Told contents2) s.views id now (others_told sec.renewed id v at) (λ j u _ a. others_told sec.renewed j u a);
           callers_known = callers_add callers log s.views id v now e law.callers_known at by refl refl refl refl refl;
-          traced = back ks t c w sec.renewed.same here refl refl refl;
+          traced = back (Decided e) (λ m is. returns_decided m e (Some-injective e.by m (sym by ∙ is))) ks t c w sec.renewed.same here refl refl refl refl;
+          decided = decided_more log s.trace (event w.by (Decided e) t) e law.decided refl;
           legal = leads_snoc _ (bindings (whole k law.contents)) (bindings (whole k contents2)) log e law.legal z.1;
         }
 
-    pub renew_keeps : (g : Option (Name × Reason)) → IdentitySection k v.held ks → HistoryInvariant k callers log (sent_home s id t c (renewing v t c ks g))
+    pub renew_keeps : (g : Option (Name × Reason)) → IdentitySection k v.held ks → HistoryInvariant k callers log (sent_home Gave s id t c (renewing v t c ks g))
     renew_keeps g sec =
         let w : View V = renewing v t c ks g in
         let now : View V = watching (traced s w Gave t) w in
         let z = identity_of_whole k law.contents v.held ks law.lawful agrees sec in
-        let p = placed sec.renewed w refl in
+        let p = placed sec.renewed Gave w refl in
         let at_t : contents2 t ≡ c = over_hit ks law.contents (apart sec.renewed) t c here in
         let d = was_held sec.renewed in
         let l = below sec.renewed in
@@ -220,7 +227,8 @@ module _ {V : Type 0} (k : Layout) (callers : ℕ) (log : List (Entry V)) (s : C
           lawful = z.0;
           told = each_set (Told contents2) s.views id now (λ u m. (max_le v.told (c.power) ((contents2 u).power) (others_told sec.renewed id v at u m).0 (same_power contents2 z.0 t u c l m at_t), (others_told sec.renewed id v at u m).1)) (λ j u _ a. others_told sec.renewed j u a);
           callers_known = callers_set callers log s.views id v now law.callers_known at refl (knows_same callers log v now (law.callers_known.knows id v at) refl refl refl refl refl);
-          traced = back ks t c w sec.renewed.same here refl refl refl;
+          traced = back Gave (λ m _. returns_gave m) ks t c w sec.renewed.same here refl refl refl refl;
+          decided = decided_same log s.trace (event w.by Gave t) law.decided refl;
           legal = subst (After log) (sym z.1) law.legal;
         }
 
@@ -241,6 +249,7 @@ module _ {V : Type 0} (k : Layout) (callers : ℕ) (log : List (Entry V)) (s : C
     told = each_snoc (Told law.contents) (set s.views id left) right (each_set (Told law.contents) s.views id left tl (λ j u _ a. law.told j u a)) tr;
     callers_known = callers_split callers log s.views id v left right law.callers_known at of_left of_right kl kr;
     traced = traces_split (2 ^ k.s) callers log s law.contents law.places law.callers_known law.traced id v at left right same by none wl wr;
+    decided = law.decided;
     legal = law.legal;
   }
 
@@ -274,8 +283,8 @@ module _ {V : Type 0} (k : Layout) (callers : ℕ) (log : List (Entry V)) (s : C
         distinct = ((λ z. z), tt);
         within = λ x i. ⊎_elim (λ e. subst (λ y. y < callers) e (kn.within m (in_held (owned v) m [] m_there))) (λ z. absurd z) i;
       })
-      (watched_as left refl there (law.traced.watched id v at).missed)
-      (watched_as right refl (λ x i. ⊎_elim (λ e. subst (λ y. IsIn y (numbers (owned v))) e (in_held (owned v) m [] m_there)) (λ z. absurd z) i) (λ x e. ap (λ (o : Option ℕ). misses (number_of o) v.watched) (sym e)))
+      (watched_as left refl there (law.traced.watched id v at).missed (law.traced.watched id v at).heard)
+      (watched_as right refl (λ x i. ⊎_elim (λ e. subst (λ y. IsIn y (numbers (owned v))) e (in_held (owned v) m [] m_there)) (λ z. absurd z) i) (λ x e. ap (λ (o : Option ℕ). misses (number_of o) v.watched) (sym e)) (v.watched, refl))
 
   knows_nothing : (w : View V) → owned w ≡ [] → w.by ≡ None → StartsWith log w.seen → w.heard ≡ [] → Knows callers log w
   knows_nothing w none nobody seen heard = record {
@@ -290,7 +299,7 @@ module _ {V : Type 0} (k : Layout) (callers : ℕ) (log : List (Entry V)) (s : C
   pub tell_keeps : HistoryInvariant k callers log (split_as s id v (message_of v))
   tell_keeps =
       let kn = law.callers_known.knows id v at in
-      split_keeps v (message_of v) refl refl refl refl (law.told id v at) (λ t l. ((law.told id v at t l).0, zero-le)) (λ m i. (i, λ h. h)) (λ m h. absurd h) kn (knows_nothing (message_of v) refl refl kn.seen refl) (law.traced.watched id v at) (watches_nothing s.trace (message_of v) refl refl refl)
+      split_keeps v (message_of v) refl refl refl refl (law.told id v at) (λ t l. ((law.told id v at t l).0, zero-le)) (λ m i. (i, λ h. h)) (λ m h. absurd h) kn (knows_nothing (message_of v) refl refl kn.seen refl) (law.traced.watched id v at) (watched_as (message_of v) refl (λ m i. absurd i) (λ m e. absurd (none-some m e)) (v.watched, refl))
 
   pub join_keeps : (other : ℕ) (w : View V) → get_elem? s.views other ≡ some w → ¬ (other ≡ id) → w.held ≡ [] → HistoryInvariant k callers log (joined s id (joining v w) other)
   join_keeps other w there apart empty_handed =
@@ -327,6 +336,7 @@ module _ {V : Type 0} (k : Layout) (callers : ℕ) (log : List (Entry V)) (s : C
             })
             refl (knows_nothing spent refl refl (log, refl) refl);
         traced = traces_join (2 ^ k.s) callers log s law.contents law.places law.callers_known law.traced id v at other w there of_both;
+        decided = law.decided;
         legal = law.legal;
       }
 

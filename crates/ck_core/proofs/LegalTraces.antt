@@ -1,11 +1,14 @@
 -- Traces of steps on the lock words.
-use Rattle.std.proofs.Common.{◌≡◌, ◌≢◌, ◌⊎◌, ℕ, inl, inr, List, [], ◌∷◌, ◌++◌, append-nil, append_assoc, sym, refl, ap, ◌∙◌, subst, ⊎_elim, length, length-append, arith, Option, Some, None}
+use Rattle.std.proofs.Common.{◌≡◌, ◌≢◌, ◌⊎◌, ℕ, ◌<◌, inl, inr, List, [], ◌∷◌, ◌++◌, append-nil, append_assoc, sym, refl, ap, ◌∙◌, subst, ⊎_elim, length, length-append, arith, Option, Some, None}
+use Rattle.std.specs.Prelude.{All}
+use Rattle.std.proofs.lemmas.List.Elements.{All-head, All-tail}
+use Rattle.ck_model.specs.declared.history.Entry.{Entry}
 use Rattle.ck_model.proofs.Numbered.{if_same, if_else}
 use Rattle.ck_core.specs.declared.trace.LockStep.{LockStep}
-use Rattle.ck_core.specs.declared.trace.LockStep.TheVariants.{Took, Missed, Gave}
+use Rattle.ck_core.specs.declared.trace.LockStep.TheVariants.{Took, Missed, Gave, Decided}
 use Rattle.ck_core.specs.declared.trace.LockEvent.{LockEvent}
 use Rattle.ck_core.specs.Steps.{longer}
-use Rattle.ck_core.specs.Trace.{held_after, held_behind, held_from, holder, Fits, IsLegalTrace, missed_by, misses, NoneBy}
+use Rattle.ck_core.specs.Trace.{held_after, held_behind, held_from, holder, Fits, IsLegalTrace, decided_by, decided_in, missed_by, misses, NoneBy}
 
 module _ {A : Type 0} where
   first_of : A → List A → A
@@ -28,91 +31,138 @@ module _ {A : Type 0} where
       (cut_snoc zs x bs y more (ap rest_of e))
 
   -- what two beginnings of one list lack of the longer
-  pub longer_cut : (a b c d : List A) → a ++ b ≡ c ++ d → (x : List A) × (y : List A) × (rest : List A) × (longer a c ≡ a ++ x) × (b ≡ x ++ rest) × (d ≡ y ++ rest)
-  unfolding rest_of
-  longer_cut [] b c d e = (c, [], d, refl, e, refl)
-  longer_cut (z ∷ zs) b [] d e = ([], z ∷ zs, b, sym (append-nil (z ∷ zs)), refl, sym e)
+  pub longer_cut : (a b c d : List A) → a ++ b ≡ c ++ d → (x : List A) × (y : List A) × (rest : List A) × (longer a c ≡ a ++ x) × (b ≡ x ++ rest) × (d ≡ y ++ rest) × (longer a c ≡ c ++ y)
+  unfolding first_of rest_of
+  longer_cut [] b c d e = (c, [], d, refl, e, refl, sym (append-nil c))
+  longer_cut (z ∷ zs) b [] d e = ([], z ∷ zs, b, sym (append-nil (z ∷ zs)), refl, sym e, refl)
   longer_cut (z ∷ zs) b (w ∷ ws) d e =
       let cut = longer_cut zs b ws d (ap rest_of e) in
-      (cut.0, cut.1, cut.2, ap {B = List A} (λ l. z ∷ l) cut.3, cut.4, cut.5)
+      (cut.0, cut.1, cut.2, ap {B = List A} (λ l. z ∷ l) cut.3, cut.4, cut.5, λ i. first_of z (e i) ∷ cut.6 i)
 
 -- which step it is
-IsTaking : LockStep → Type 0
+IsTaking : {V : Type 0} → LockStep V → Type 0
 IsTaking Took = Unit {0}
 IsTaking step = ⊥
 
-IsMissing : LockStep → Type 0
+IsMissing : {V : Type 0} → LockStep V → Type 0
 IsMissing Missed = Unit {0}
 IsMissing step = ⊥
 
-IsGiving : LockStep → Type 0
+IsGiving : {V : Type 0} → LockStep V → Type 0
 IsGiving Gave = Unit {0}
 IsGiving step = ⊥
 
-pub taking_fits : (m : ℕ) (h : Option ℕ) → h ≡ None → Fits Took m h
-unfolding IsTaking
-taking_fits m h is = ((λ _. is), (λ e. absurd (subst IsTaking e tt)), (λ e. absurd (subst IsTaking e tt)))
+IsDeciding : {V : Type 0} → LockStep V → Type 0
+IsDeciding (Decided x) = Unit {0}
+IsDeciding step = ⊥
 
-pub missing_fits : (m : ℕ) (h : Option ℕ) → h ≢ None → h ≢ Some m → Fits Missed m h
-unfolding IsMissing
-missing_fits m h some other = ((λ e. absurd (subst IsMissing e tt)), (λ _. (some, other)), (λ e. absurd (subst IsMissing e tt)))
+entry_of : {V : Type 0} → Entry V → LockStep V → Entry V
+entry_of d (Decided x) = x
+entry_of d step = d
 
-pub giving_fits : (m : ℕ) (h : Option ℕ) → h ≡ Some m → Fits Gave m h
-unfolding IsGiving
-giving_fits m h is = ((λ e. absurd (subst IsGiving e tt)), (λ e. absurd (subst IsGiving e tt)), (λ _. is))
+module _ {V : Type 0} where
+  pub taking_fits : (m : ℕ) (h : Option ℕ) → h ≡ None → Fits {V = V} Took m h
+  unfolding IsTaking
+  taking_fits m h is = ((λ _. is), (λ e. absurd (subst IsTaking e tt)), (λ e. absurd (subst IsTaking e tt)), (λ x e. absurd (subst IsTaking e tt)))
 
-held_from_snoc : (t : ℕ) (h : Option ℕ) (es : List LockEvent) (e : LockEvent) → held_from t h (es ++ e ∷ []) ≡ held_behind t (held_from t h es) e
-held_from_snoc t h [] e = refl
-held_from_snoc t h (x ∷ xs) e = held_from_snoc t (held_behind t h x) xs e
+  pub missing_fits : (m : ℕ) (h : Option ℕ) → h ≢ None → h ≢ Some m → Fits {V = V} Missed m h
+  unfolding IsMissing
+  missing_fits m h some other = ((λ e. absurd (subst IsMissing e tt)), (λ _. (some, other)), (λ e. absurd (subst IsMissing e tt)), (λ x e. absurd (subst IsMissing e tt)))
 
--- who holds the stripe of the last step, and another one
-pub holder_here : (es : List LockEvent) (e : LockEvent) (t : ℕ) → e.stripe ≡ t → holder (es ++ e ∷ []) t ≡ held_after e.step e.by (holder es t)
-holder_here es e t is = held_from_snoc t None es e ∙ if_same e.stripe t (held_after e.step e.by (holder es t)) (holder es t) is
+  pub giving_fits : (m : ℕ) (h : Option ℕ) → h ≡ Some m → Fits {V = V} Gave m h
+  unfolding IsGiving
+  giving_fits m h is = ((λ e. absurd (subst IsGiving e tt)), (λ e. absurd (subst IsGiving e tt)), (λ _. is), (λ x e. absurd (subst IsGiving e tt)))
 
-pub holder_there : (es : List LockEvent) (e : LockEvent) (t : ℕ) → e.stripe ≢ t → holder (es ++ e ∷ []) t ≡ holder es t
-holder_there es e t apart = held_from_snoc t None es e ∙ if_else e.stripe t (held_after e.step e.by (holder es t)) (holder es t) apart
+  pub deciding_fits : (m : ℕ) (h : Option ℕ) (x : Entry V) → h ≡ Some m → x.by ≡ m → Fits (Decided x) m h
+  unfolding IsDeciding entry_of
+  deciding_fits m h x is own = (
+    λ e. absurd (subst IsDeciding e tt),
+    λ e. absurd (subst IsDeciding e tt),
+    λ e. absurd (subst IsDeciding e tt),
+    λ y e. (is, ap (λ (z : Entry V). z.by) (sym (ap (entry_of x) e)) ∙ own),
+  )
 
--- a step that fits makes a legal trace longer
-pub legal_more : (es : List LockEvent) (e : LockEvent) → IsLegalTrace es → Fits e.step e.by (holder es e.stripe) → IsLegalTrace (es ++ e ∷ [])
-legal_more es e legal fits before x more is = ⊎_elim
-    (λ (h : (es ≡ before) × (e ≡ x)). subst (λ (y : List LockEvent × LockEvent). Fits y.1.step y.1.by (holder y.0 y.1.stripe)) (λ i. (h.0 i, h.1 i)) fits)
-    (λ (h : (rest : List LockEvent) × (es ≡ before ++ x ∷ rest)). legal before x h.0 h.1)
-    (cut_snoc es e before x more is)
+  -- By the step the caller m gives a stripe back.
+  pub record Returns (m : ℕ) (step : LockStep V) : Type 0 where
+    pub fits : (h : Option ℕ) → h ≡ Some m → Fits step m h
+    pub misses_none : (t : ℕ) → missed_by step t ≡ []
+    pub lets_go : (h : Option ℕ) → held_after step m h ≡ None
 
-pub legal_none : IsLegalTrace []
-legal_none before e more is = absurd (let l = ap length is in let m = length-append before (e ∷ more) in omega arith)
+  pub returns_gave : (m : ℕ) → Returns m Gave
+  returns_gave m = record { fits = giving_fits m; misses_none = λ t. refl; lets_go = λ h. refl }
 
--- a beginning of a legal trace is legal
-pub legal_start : (es start more : List LockEvent) → es ≡ start ++ more → IsLegalTrace es → IsLegalTrace start
-legal_start es start more is legal before x rest e = legal before x (rest ++ more) (is ∙ (ap (λ l. l ++ more) e ∙ append_assoc before (x ∷ rest) more))
+  pub returns_decided : (m : ℕ) (x : Entry V) → x.by ≡ m → Returns m (Decided x)
+  returns_decided m x own = record { fits = λ h is. deciding_fits m h x is own; misses_none = λ t. refl; lets_go = λ h. refl }
 
-misses_append : (m : ℕ) (xs ys : List LockEvent) → misses m (xs ++ ys) ≡ misses m ys ++ misses m xs
-misses_append m [] ys = sym (append-nil (misses m ys))
-misses_append m (x ∷ xs) ys = (λ i. misses_append m xs ys i ++ misses m (x ∷ [])) ∙ append_assoc (misses m ys) (misses m xs) (misses m (x ∷ []))
+  held_from_snoc : (t : ℕ) (h : Option ℕ) (es : List (LockEvent V)) (e : LockEvent V) → held_from t h (es ++ e ∷ []) ≡ held_behind t (held_from t h es) e
+  held_from_snoc t h [] e = refl
+  held_from_snoc t h (x ∷ xs) e = held_from_snoc t (held_behind t h x) xs e
 
--- one step more that is by another
-pub none_more : (m : ℕ) (es : List LockEvent) (e : LockEvent) → NoneBy m es → e.by ≢ m → NoneBy m (es ++ e ∷ [])
-none_more m [] e none other = (other, tt)
-none_more m (x ∷ xs) e none other = (none.0, none_more m xs e none.1 other)
+  -- who holds the stripe of the last step, and another one
+  pub holder_here : (es : List (LockEvent V)) (e : LockEvent V) (t : ℕ) → e.stripe ≡ t → holder (es ++ e ∷ []) t ≡ held_after e.step e.by (holder es t)
+  holder_here es e t is = held_from_snoc t None es e ∙ if_same e.stripe t (held_after e.step e.by (holder es t)) (holder es t) is
 
-pub none_first : (m : ℕ) (xs ys : List LockEvent) → NoneBy m (xs ++ ys) → NoneBy m xs
-none_first m [] ys none = tt
-none_first m (x ∷ xs) ys none = (none.0, none_first m xs ys none.1)
+  pub holder_there : (es : List (LockEvent V)) (e : LockEvent V) (t : ℕ) → e.stripe ≢ t → holder (es ++ e ∷ []) t ≡ holder es t
+  holder_there es e t apart = held_from_snoc t None es e ∙ if_else e.stripe t (held_after e.step e.by (holder es t)) (holder es t) apart
 
-pub none_second : (m : ℕ) (xs ys : List LockEvent) → NoneBy m (xs ++ ys) → NoneBy m ys
-none_second m [] ys none = none
-none_second m (x ∷ xs) ys none = none_second m xs ys none.1
+  -- a step that fits makes a legal trace longer
+  pub legal_more : (es : List (LockEvent V)) (e : LockEvent V) → IsLegalTrace es → Fits e.step e.by (holder es e.stripe) → IsLegalTrace (es ++ e ∷ [])
+  legal_more es e legal fits before x more is = ⊎_elim
+      (λ (h : (es ≡ before) × (e ≡ x)). subst (λ (y : List (LockEvent V) × LockEvent V). Fits y.1.step y.1.by (holder y.0 y.1.stripe)) (λ i. (h.0 i, h.1 i)) fits)
+      (λ (h : (rest : List (LockEvent V)) × (es ≡ before ++ x ∷ rest)). legal before x h.0 h.1)
+      (cut_snoc es e before x more is)
 
--- steps of others miss nothing of the caller's
-misses_none : (m : ℕ) (es : List LockEvent) → NoneBy m es → misses m es ≡ []
-misses_none m [] others = refl
-misses_none m (e ∷ es) others = λ i. misses_none m es others.1 i ++ if_else e.by m (missed_by e.step e.stripe) [] others.0 i
+  pub legal_none : IsLegalTrace {V = V} []
+  legal_none before e more is = absurd (let l = ap length is in let m = length-append before (e ∷ more) in omega arith)
 
-pub misses_same : (m : ℕ) (xs more : List LockEvent) → NoneBy m more → misses m (xs ++ more) ≡ misses m xs
-misses_same m xs more others = misses_append m xs more ∙ λ i. misses_none m more others i ++ misses m xs
+  -- a beginning of a legal trace is legal
+  pub legal_start : (es start more : List (LockEvent V)) → es ≡ start ++ more → IsLegalTrace es → IsLegalTrace start
+  legal_start es start more is legal before x rest e = legal before x (rest ++ more) (is ∙ (ap (λ l. l ++ more) e ∙ append_assoc before (x ∷ rest) more))
 
--- what the caller missed of a trace whose rest is by others, and one step more of its own
-pub misses_more : (m : ℕ) (trace watched unseen : List LockEvent) (e : LockEvent) → trace ≡ watched ++ unseen → NoneBy m unseen → e.by ≡ m → misses m (trace ++ e ∷ []) ≡ missed_by e.step e.stripe ++ misses m watched
-misses_more m trace watched unseen e is others own =
-    misses_append m trace (e ∷ [])
-    ∙ λ i. if_same e.by m (missed_by e.step e.stripe) [] own i ++ (ap (misses m) is ∙ misses_same m watched unseen others) i
+  misses_append : (m : ℕ) (xs ys : List (LockEvent V)) → misses m (xs ++ ys) ≡ misses m ys ++ misses m xs
+  misses_append m [] ys = sym (append-nil (misses m ys))
+  misses_append m (x ∷ xs) ys = (λ i. misses_append m xs ys i ++ misses m (x ∷ [])) ∙ append_assoc (misses m ys) (misses m xs) (misses m (x ∷ []))
+
+  -- one step more that is by another
+  pub none_more : (m : ℕ) (es : List (LockEvent V)) (e : LockEvent V) → NoneBy m es → e.by ≢ m → NoneBy m (es ++ e ∷ [])
+  none_more m [] e none other = (other, tt)
+  none_more m (x ∷ xs) e none other = (none.0, none_more m xs e none.1 other)
+
+  pub none_first : (m : ℕ) (xs ys : List (LockEvent V)) → NoneBy m (xs ++ ys) → NoneBy m xs
+  none_first m [] ys none = tt
+  none_first m (x ∷ xs) ys none = (none.0, none_first m xs ys none.1)
+
+  pub none_second : (m : ℕ) (xs ys : List (LockEvent V)) → NoneBy m (xs ++ ys) → NoneBy m ys
+  none_second m [] ys none = none
+  none_second m (x ∷ xs) ys none = none_second m xs ys none.1
+
+  -- steps of others miss nothing of the caller's
+  misses_none : (m : ℕ) (es : List (LockEvent V)) → NoneBy m es → misses m es ≡ []
+  misses_none m [] others = refl
+  misses_none m (e ∷ es) others = λ i. misses_none m es others.1 i ++ if_else e.by m (missed_by e.step e.stripe) [] others.0 i
+
+  pub misses_same : (m : ℕ) (xs more : List (LockEvent V)) → NoneBy m more → misses m (xs ++ more) ≡ misses m xs
+  misses_same m xs more others = misses_append m xs more ∙ λ i. misses_none m more others i ++ misses m xs
+
+  -- what the caller missed of a trace whose rest is by others, and one step more of its own
+  pub misses_more : (m : ℕ) (trace watched unseen : List (LockEvent V)) (e : LockEvent V) → trace ≡ watched ++ unseen → NoneBy m unseen → e.by ≡ m → misses m (trace ++ e ∷ []) ≡ missed_by e.step e.stripe ++ misses m watched
+  misses_more m trace watched unseen e is others own =
+      misses_append m trace (e ∷ [])
+      ∙ λ i. if_same e.by m (missed_by e.step e.stripe) [] own i ++ (ap (misses m) is ∙ misses_same m watched unseen others) i
+
+  -- steps of callers, none of which is of any caller, are none
+  pub none_left : (callers : ℕ) (xs ys : List (LockEvent V)) → All (λ (e : LockEvent V). e.by < callers) (xs ++ ys) → ((m : ℕ) → m < callers → NoneBy m ys) → ys ≡ []
+  none_left callers [] [] below none = refl
+  none_left callers [] (e ∷ es) below none = absurd ((none e.by (All-head (λ (x : LockEvent V). x.by < callers) e es below)).0 refl)
+  none_left callers (x ∷ xs) ys below none = none_left callers xs ys (All-tail (λ (e : LockEvent V). e.by < callers) x (xs ++ ys) below) none
+
+  -- the history of more steps
+  pub decided_append : (xs ys : List (LockEvent V)) → decided_in (xs ++ ys) ≡ decided_in xs ++ decided_in ys
+  decided_append [] ys = refl
+  decided_append (x ∷ xs) ys = (λ i. decided_by x.step ++ decided_append xs ys i) ∙ sym (append_assoc (decided_by x.step) (decided_in xs) (decided_in ys))
+
+  pub decided_same : (log : List (Entry V)) (es : List (LockEvent V)) (e : LockEvent V) → decided_in es ≡ log → decided_by e.step ≡ [] → decided_in (es ++ e ∷ []) ≡ log
+  decided_same log es e is none = decided_append es (e ∷ []) ∙ ((λ i. is i ++ (none i ++ [])) ∙ append-nil log)
+
+  pub decided_more : (log : List (Entry V)) (es : List (LockEvent V)) (e : LockEvent V) (x : Entry V) → decided_in es ≡ log → decided_by e.step ≡ x ∷ [] → decided_in (es ++ e ∷ []) ≡ log ++ x ∷ []
+  decided_more log es e x is one = decided_append es (e ∷ []) ∙ λ i. is i ++ (one i ++ [])

@@ -63,7 +63,7 @@ unchanged = record {
 
 -- the state in which the other caller looks
 abbrev joined_now : Configuration ℕ
-joined_now = record { words = 0 ∷ 0 ∷ []; homes = Some empty_stripe ∷ Some empty_stripe ∷ []; views = watching short_trace first ∷ record second { heard_told = 1 } ∷ spent ∷ []; trace = short_trace }
+joined_now = record { words = 0 ∷ 0 ∷ []; homes = Some empty_stripe ∷ Some empty_stripe ∷ []; views = watching short_trace first ∷ record second { heard_told = 1; watched = short_trace; heard_watched = short_trace } ∷ spent ∷ []; trace = short_trace }
 
 no_less : (c : Content ℕ) → empty_stripe ≡ c → 1 ≤ c.power
 no_less c e = let f = ap (λ (x : Content ℕ). x.power) e in omega arith
@@ -79,7 +79,7 @@ holds_none u c v w e none h = subst (λ hs. Holds hs u c) none (subst (λ (x : V
 
 no_holder : (u : ℕ) (c : Content ℕ) (j : ℕ) (v : View ℕ) → get_elem? joined_now.views j ≡ some v → ¬ (Holds v.held u c)
 no_holder u c zero v e = holds_none u c (watching short_trace first) v (some-injective (watching short_trace first) v e) refl
-no_holder u c (suc zero) v e = holds_none u c (record second { heard_told = 1 }) v (some-injective (record second { heard_told = 1 }) v e) refl
+no_holder u c (suc zero) v e = holds_none u c (record second { heard_told = 1; watched = short_trace; heard_watched = short_trace }) v (some-injective (record second { heard_told = 1; watched = short_trace; heard_watched = short_trace }) v e) refl
 no_holder u c (suc (suc zero)) v e = holds_none u c spent v (some-injective spent v e) refl
 no_holder u c (suc (suc (suc j))) v e = absurd (some-ne-none v (sym e))
 
@@ -113,7 +113,7 @@ meeting_runs = (
             (_, refl, refl),
             (
               _,
-              (_, message_of first, refl, refl, two_not_one, refl, refl),
+              (_, message_of (watching short_trace first), refl, refl, two_not_one, refl, refl),
               (_, (_, refl, omega arith, omega arith, part_power, refl), (refl, refl)),
             ),
           ),

@@ -1,5 +1,7 @@
 -- The law holds at the opening.
 use Rattle.std.proofs.Common.{◌≡◌, ℕ, ◌^◌, ◌<◌, ◌≤◌, List, [], ◌∷◌, get_or, length, map, zero-le, sym, refl, ap, ◌∙◌, subst, ⊎_elim, arith, le_of_eq}
+use Rattle.std.specs.Prelude.{All}
+use Rattle.std.proofs.lemmas.List.Elements.{All-nil}
 use mathlib.Core.Option.{some}
 use lib.ListN.{get_elem?, length-replicate, get_or-replicate}
 use Rattle.ck_model.specs.declared.history.Entry.{Entry}
@@ -10,7 +12,7 @@ use Rattle.ck_model.specs.declared.contents.Content.{Content}
 use Rattle.ck_model.specs.Contents.{Layout}
 use Rattle.ck_model.specs.Sections.{HasAll}
 use Rattle.ck_core.specs.declared.trace.LockEvent.{LockEvent}
-use Rattle.ck_core.specs.Trace.{IsLegalTrace, holder}
+use Rattle.ck_core.specs.Trace.{IsLegalTrace, decided_in, holder}
 use Rattle.ck_core.specs.State.{Configuration, HasNumber, owned, Knows, Watches, HistoryInvariant}
 use Rattle.ck_core.specs.Steps.{Label, Execution, initial_view, Opening}
 use Rattle.ck_core.proofs.LegalTraces.{legal_none}
@@ -65,10 +67,12 @@ module _ {V : Type 0} (k : Layout) (set : Settings) (callers p : ℕ) (s : Confi
     };
     traced = record {
       legal = subst IsLegalTrace (sym o.no_step) legal_none;
-      free = λ t l _. ap (λ (es : List LockEvent). holder es t) o.no_step;
+      by_callers = subst (λ (es : List (LockEvent V)). All (λ (e : LockEvent V). e.by < callers) es) (sym o.no_step) (All-nil _);
+      free = λ t l _. ap (λ (es : List (LockEvent V)). holder es t) o.no_step;
       held = each_new (λ _ v. (t : ℕ) (c : Content V) → Holds v.held t c → holder s.trace t ≡ v.by) (λ j ms _ _ t c h. absurd h);
-      watched = each_new (λ _ v. Watches s.trace v) (λ j ms _ _. record { unseen = []; begins = o.no_step; by_others = λ _ _. tt; missed = λ _ _. refl });
+      watched = each_new (λ _ v. Watches s.trace v) (λ j ms _ _. record { unseen = []; begins = o.no_step; by_others = λ _ _. tt; heard = ([], refl); missed = λ _ _. refl });
     };
+    decided = ap decided_in o.no_step;
     legal = sym o.empty_whole;
   }
 

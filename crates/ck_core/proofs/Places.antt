@@ -9,7 +9,7 @@ use Rattle.ck_model.specs.Numbered.{IsIn, AreDistinct, numbers, Holds, without}
 use Rattle.ck_model.specs.declared.contents.Content.{Content}
 use Rattle.ck_model.specs.Contents.{Stripes}
 use Rattle.ck_core.specs.State.{Configuration, Places}
-use Rattle.ck_core.specs.declared.trace.LockStep.TheVariants.{Gave}
+use Rattle.ck_core.specs.declared.trace.LockStep.{LockStep}
 use Rattle.ck_core.specs.declared.trace.LockEvent.{LockEvent}
 use Rattle.ck_core.specs.Steps.{traced, watching, sent_home, split_as}
 use Rattle.ck_core.proofs.Lists.{set_here, set_else, set_there, each_set, each_snoc, at_longer}
@@ -25,7 +25,7 @@ module _ {V : Type 0} where
       (λ other. (h.0, set_else views id o w other ∙ h.1, others other h.0 h.1 h.2))
 
   module _ (n : ℕ) (s : Configuration V) (whole : ℕ → Content V) (r : Places n s whole) (id : ℕ) (v : View V) (at : get_elem? s.views id ≡ some v) where
-    pub places_keep : (trace : List LockEvent) (w : View V) → w.held ≡ v.held → Places n (record s { views = set s.views id w; trace = trace }) whole
+    pub places_keep : (trace : List (LockEvent V)) (w : View V) → w.held ≡ v.held → Places n (record s { views = set s.views id w; trace = trace }) whole
     places_keep trace w same = record {
       owner = r.owner;
       words_sized = r.words_sized;
@@ -40,7 +40,7 @@ module _ {V : Type 0} where
     }
 
     -- a stripe that is at home is taken
-    pub places_take : (t : ℕ) (trace : List LockEvent) (w : View V) → t < n → get_or s.words t 0 ≡ 0 → w.held ≡ (t, whole t) ∷ v.held → Places n (record { words = set s.words t 1; homes = set s.homes t None; views = set s.views id w; trace = trace }) whole
+    pub places_take : (t : ℕ) (trace : List (LockEvent V)) (w : View V) → t < n → get_or s.words t 0 ≡ 0 → w.held ≡ (t, whole t) ∷ v.held → Places n (record { words = set s.words t 1; homes = set s.homes t None; views = set s.views id w; trace = trace }) whole
     places_take t trace w l free is =
         let words = s.words in
         let words_sized = r.words_sized in
@@ -74,11 +74,11 @@ module _ {V : Type 0} where
         }
 
     -- a stripe that is held goes home, and the others that are held have new contents
-    pub places_back : (ks : Stripes V) (t : ℕ) (c : Content V) (w : View V) (whole2 : ℕ → Content V) → numbers ks ≡ numbers v.held → Holds ks t c → w.held ≡ without t ks
+    pub places_back : (step : LockStep V) (ks : Stripes V) (t : ℕ) (c : Content V) (w : View V) (whole2 : ℕ → Content V) → numbers ks ≡ numbers v.held → Holds ks t c → w.held ≡ without t ks
         → ((q : ℕ) → ¬ (IsIn q (numbers ks)) → whole2 q ≡ whole q) → ((q : ℕ) (d : Content V) → Holds ks q d → whole2 q ≡ d)
-        → Places n (sent_home s id t c w) whole2
-    places_back ks t c w whole2 same here is miss hit =
-        let now : View V = watching (traced s w Gave t) w in
+        → Places n (sent_home step s id t c w) whole2
+    places_back step ks t c w whole2 same here is miss hit =
+        let now : View V = watching (traced s w step t) w in
         let words = s.words in
         let words_sized = r.words_sized in
         let homes_sized = r.homes_sized in

@@ -16,11 +16,14 @@ use Rattle.ck_model.proofs.Names.{maps_alike}
 use Rattle.ck_model.proofs.Belongs.{stripe_below}
 use Rattle.ck_model.proofs.Sections.{owned_binding}
 use Rattle.ck_model.proofs.Histories.{subhistory-append}
+use Rattle.std.specs.Prelude.{All}
+use Rattle.ck_core.specs.declared.trace.LockEvent.{LockEvent}
 use Rattle.ck_core.specs.declared.view.View.{View}
-use Rattle.ck_core.specs.State.{Configuration, HistoryInvariant, owned, client_of}
+use Rattle.ck_core.specs.Trace.{decided_in}
+use Rattle.ck_core.specs.State.{Configuration, HistoryInvariant, Watches, owned, client_of}
 use Rattle.ck_core.specs.Laws.{Shows}
 use Rattle.ck_core.proofs.Keeps.{agrees}
-use Rattle.ck_core.proofs.LegalTraces.{legal_start}
+use Rattle.ck_core.proofs.LegalTraces.{legal_start, decided_append, none_left}
 use Rattle.ck_core.proofs.Callers.{own_held}
 
 pub no_items : {A : Type 0} (l : List A) → length l ≡ 0 → l ≡ []
@@ -78,6 +81,19 @@ module _ {V : Type 0} (k : Layout) (callers : ℕ) (log : List (Entry V)) (s : C
       (λ no_le. let l = lt_of_not-le no_le in let same : n ≡ m = omega arith in ap (λ x. subhistory x more) same ∙ unseen_none m e more kn.seen.1) in
       sym (kn.seen.1 ∙ (ap (λ l. v.seen ++ l) (no_entries more by_none) ∙ append-nil v.seen))
 
+  watched_on : Watches s.trace v
+  watched_on = law.traced.watched j v at
+
+  -- what was decided in what was watched begins the history
+  decided_watched : log ≡ decided_in v.watched ++ decided_in watched_on.unseen
+  decided_watched = sym law.decided ∙ (ap decided_in watched_on.begins ∙ decided_append v.watched watched_on.unseen)
+
+  -- whoever keeps all numbers has watched all
+  decided_whole : ((m : ℕ) → m < callers → IsIn m (numbers (owned v))) → decided_in v.watched ≡ log
+  decided_whole all =
+      let none : watched_on.unseen ≡ [] = none_left callers v.watched watched_on.unseen (subst (λ (es : List (LockEvent V)). All (λ (e : LockEvent V). e.by < callers) es) watched_on.begins law.traced.by_callers) (λ m low. watched_on.by_others m (all m low)) in
+      sym (decided_watched ∙ (ap (λ (es : List (LockEvent V)). decided_in v.watched ++ decided_in es) none ∙ append-nil (decided_in v.watched)))
+
   pub shows : Shows k callers log v
   shows = let kn = law.callers_known.knows j v at in record {
     seen = kn.seen;
@@ -87,6 +103,8 @@ module _ {V : Type 0} (k : Layout) (callers : ℕ) (log : List (Entry V)) (s : C
     unseen = unseen_none;
     alone = all_of_one;
     watched = let w = law.traced.watched j v at in record { legal = legal_start s.trace v.watched w.unseen w.begins law.traced.legal; missed = w.missed };
+    heard_watched = (law.traced.watched j v at).heard;
+    decided_first = (decided_in watched_on.unseen, decided_watched);
     lawful = record {
       distinct = law.places.distinct j v at;
       sound = λ t c h. law.lawful.sound t c (there t c h);
@@ -108,4 +126,5 @@ module _ {V : Type 0} (k : Layout) (callers : ℕ) (log : List (Entry V)) (s : C
       each = kn.calls;
       no_others = λ m out. law.callers_known.no_others m (beyond m all out);
     };
+    all_decided = decided_whole;
   }

@@ -1,9 +1,11 @@
 -- Each step leaves a legal trace, by which the holders of stripes are those that the places say.
 use Rattle.std.proofs.Common.{◌≡◌, ◌≢◌, ◌⊎◌, ℕ, ◌<◌, inl, inr, List, [], ◌∷◌, ◌++◌, append-nil, append_assoc, get_or, set, sym, refl, ap, ◌∙◌, subst, ⊎_elim, arith, get_or-set_same, get_or-set_other, Bool, true, false, cond, ltb, length, Option, Some, None}
+use Rattle.std.specs.Prelude.{All}
 use mathlib.Core.Option.{some, some-injective}
 use mathlib.Core.Logic.{dite}
 use native.Mathlib.Decide.{ℕ_discrete}
 use lib.ListN.{get_elem?}
+use Rattle.std.proofs.lemmas.List.Elements.{All-nil, All-cons, All-append}
 use Rattle.std.proofs.lemmas.Option.{none-some}
 use Rattle.ck_model.specs.declared.history.Entry.{Entry}
 use Rattle.ck_model.specs.Numbered.{IsIn, numbers, Holds, without}
@@ -16,10 +18,10 @@ use Rattle.ck_core.specs.declared.trace.LockEvent.{LockEvent}
 use Rattle.ck_core.specs.declared.view.View.{View}
 use Rattle.ck_core.specs.State.{Configuration, HasNumber, owned, Places, Callers, Watches, Traces}
 use Rattle.ck_core.specs.Steps.{number_of, event, longer, traced, watching, taken, missed, seen_as, sent_home, split_as, joined, joining, beginner, message_of, spent}
-use Rattle.ck_core.specs.Trace.{holder, missed_by, misses, NoneBy}
+use Rattle.ck_core.specs.Trace.{BeginsWith, Fits, held_after, holder, missed_by, misses, NoneBy}
 use Rattle.ck_core.proofs.Lists.{each_set, each_snoc}
 use Rattle.ck_core.proofs.Callers.{own_held}
-use Rattle.ck_core.proofs.LegalTraces.{longer_cut, holder_here, holder_there, legal_more, taking_fits, missing_fits, giving_fits, none_more, none_first, none_second, misses_same, misses_more}
+use Rattle.ck_core.proofs.LegalTraces.{longer_cut, holder_here, holder_there, legal_more, taking_fits, missing_fits, Returns, none_more, none_first, none_second, misses_same, misses_more}
 
 module _ {V : Type 0} where
   -- two views of one number are one
@@ -27,17 +29,22 @@ module _ {V : Type 0} where
   one_number callers log views i j v w cs at there m by same =
       sym (cs.keeps i v at m (in_held (owned v) m v.mine (own_held v m by))) ∙ cs.keeps j w there m (in_held (owned w) m w.mine (own_held w m same))
 
-  module _ (n callers : ℕ) (log : List (Entry V)) (s : Configuration V) (whole : ℕ → Content V) (places : Places n s whole) (cs : Callers callers log s.views) (r : Traces n s) (id : ℕ) (v : View V) (at : get_elem? s.views id ≡ some v) where
+  module _ (n callers : ℕ) (log : List (Entry V)) (s : Configuration V) (whole : ℕ → Content V) (places : Places n s whole) (cs : Callers callers log s.views) (r : Traces n callers s) (id : ℕ) (v : View V) (at : get_elem? s.views id ≡ some v) where
     -- what each view has watched, after a step of this caller
-    each_watches : (m : ℕ) → v.by ≡ Some m → (e : LockEvent) → e.by ≡ m → (w : View V) → w.watched ≡ s.trace ++ e ∷ [] → w.by ≡ v.by → w.found ≡ missed_by e.step e.stripe ++ v.found
+    each_watches : (m : ℕ) → v.by ≡ Some m → (e : LockEvent V) → e.by ≡ m → (w : View V) → w.watched ≡ s.trace ++ e ∷ [] → w.by ≡ v.by → w.found ≡ missed_by e.step e.stripe ++ v.found → w.heard_watched ≡ v.heard_watched
         → (j : ℕ) (u : View V) → get_elem? (set s.views id w) j ≡ some u → Watches (s.trace ++ e ∷ []) u
-    each_watches m by e own w watched same found =
+    each_watches m by e own w watched same found heard =
         let mine = r.watched id v at in
         each_set (λ _ u. Watches (s.trace ++ e ∷ []) u) s.views id w
         (record {
           unseen = [];
           begins = sym watched ∙ sym (append-nil w.watched);
           by_others = λ _ _. tt;
+          heard = (
+            mine.heard.0 ++ (mine.unseen ++ e ∷ []),
+            watched ∙ (ap (λ l. l ++ e ∷ []) mine.begins ∙ (append_assoc v.watched mine.unseen (e ∷ []) ∙ (ap (λ l. l ++ (mine.unseen ++ e ∷ [])) mine.heard.1
+            ∙ (append_assoc v.heard_watched mine.heard.0 (mine.unseen ++ e ∷ []) ∙ ap (λ l. l ++ (mine.heard.0 ++ (mine.unseen ++ e ∷ []))) (sym heard))))),
+          );
           missed = λ x is.
               let me : x ≡ m = some_number x m (sym is ∙ (same ∙ by)) in
               ap (misses x) watched
@@ -51,6 +58,7 @@ module _ {V : Type 0} where
           begins = ap (λ l. l ++ e ∷ []) its.begins ∙ append_assoc u.watched its.unseen (e ∷ []);
           by_others = λ x i. none_more x its.unseen e (its.by_others x i)
               (λ is. other (sym (cs.keeps j u there x i) ∙ (ap cs.keeper (sym is ∙ own) ∙ cs.keeps id v at m (in_held (owned v) m v.mine (own_held v m by)))));
+          heard = its.heard;
           missed = its.missed;
         })
       where
@@ -61,14 +69,22 @@ module _ {V : Type 0} where
       own : number_of v.by ≡ m
       own = ap number_of by
 
-      pub traces_take : (t : ℕ) (c : Content V) (l : List (Entry V)) → t < n → get_or s.words t 0 ≡ 0 → Traces n (taken s id v t c l)
+      -- this caller's step is a caller's
+      by_callers_on : (e : LockEvent V) → e.by ≡ m → All (λ (x : LockEvent V). x.by < callers) (s.trace ++ e ∷ [])
+      by_callers_on e is =
+          let within : m < callers = (cs.knows id v at).within m (in_held (owned v) m v.mine (own_held v m by)) in
+          let Below : LockEvent V → Type 0 = λ x. x.by < callers in
+          All-append Below s.trace (e ∷ []) r.by_callers (All-cons Below e [] (subst (λ x. x < callers) (sym is) within) (All-nil Below))
+
+      pub traces_take : (t : ℕ) (c : Content V) (l : List (Entry V)) → t < n → get_or s.words t 0 ≡ 0 → Traces n callers (taken s id v t c l)
       traces_take t c l inside free =
-          let e : LockEvent = event v.by Took t in
+          let e : LockEvent V = event v.by Took t in
           let w : View V = watching (traced s v Took t) (record v { held = (t, c) ∷ v.held; seen = l }) in
           let now : get_or (set s.words t 1) t 0 ≡ 1 = get_or-set_same s.words t 1 0 (let z = places.words_sized in omega arith) in
           let apart : (q : ℕ) → get_or s.words q 0 ≡ 1 → t ≢ q = λ q one is. let z : get_or s.words q 0 ≡ 0 = ap (λ x. get_or s.words x 0) (sym is) ∙ free in omega arith in
           record {
             legal = legal_more s.trace e r.legal (taking_fits (number_of v.by) (holder s.trace t) (r.free t inside free));
+            by_callers = by_callers_on e own;
             free = λ q k zero. dite (ℕ_discrete t q)
                 (λ is. let z : get_or (set s.words t 1) q 0 ≡ 1 = ap (λ x. get_or (set s.words t 1) x 0) (sym is) ∙ now in absurd (omega arith))
                 (λ ne. holder_there s.trace e q ne ∙ r.free q k (sym (get_or-set_other s.words t q 1 0 (λ is. ne (sym is))) ∙ zero));
@@ -76,12 +92,12 @@ module _ {V : Type 0} where
                 (λ q d h. ⊎_elim (λ (is : (t ≡ q) × (c ≡ d)). holder_here s.trace e q is.0 ∙ (ap Some own ∙ sym by))
                 (λ x. holder_there s.trace e q (apart q (places.holds id v at q d x).1) ∙ r.held id v at q d x) h)
                 (λ j u _ there q d h. holder_there s.trace e q (apart q (places.holds j u there q d h).1) ∙ r.held j u there q d h);
-            watched = each_watches m by e own w refl refl refl;
+            watched = each_watches m by e own w refl refl refl refl;
           }
 
-      pub traces_miss : (t : ℕ) → t < n → get_or s.words t 0 ≡ 1 → ¬ (IsIn t (numbers v.held)) → ((j : ℕ) (u : View V) → get_elem? s.views j ≡ some u → (q : ℕ) (d : Content V) → Holds u.held q d → HasNumber u) → Traces n (missed s id v t)
+      pub traces_miss : (t : ℕ) → t < n → get_or s.words t 0 ≡ 1 → ¬ (IsIn t (numbers v.held)) → ((j : ℕ) (u : View V) → get_elem? s.views j ≡ some u → (q : ℕ) (d : Content V) → Holds u.held q d → HasNumber u) → Traces n callers (missed s id v t)
       traces_miss t inside one not_own holders =
-          let e : LockEvent = event v.by Missed t in
+          let e : LockEvent V = event v.by Missed t in
           let w : View V = watching (traced s v Missed t) (record v { found = t ∷ v.found }) in
           let z = places.is_held t inside one in
           let its = holders (places.owner t) z.0 z.1 t (whole t) z.2 in
@@ -93,26 +109,28 @@ module _ {V : Type 0} where
           not_own (subst (λ (u : View V). IsIn t (numbers u.held)) same (in_held z.0.held t (whole t) z.2)) in
           record {
             legal = legal_more s.trace e r.legal (missing_fits (number_of v.by) (holder s.trace t) (λ none. none-some its.0 (sym none ∙ holds)) (λ own_one. another (ap number_of (sym holds ∙ own_one))));
+            by_callers = by_callers_on e own;
             free = λ q k zero. still q ∙ r.free q k zero;
             held = each_set (λ _ u. (q : ℕ) (d : Content V) → Holds u.held q d → holder (traced s v Missed t) q ≡ u.by) s.views id w
                 (λ q d h. still q ∙ r.held id v at q d h) (λ j u _ there q d h. still q ∙ r.held j u there q d h);
-            watched = each_watches m by e own w refl refl refl;
+            watched = each_watches m by e own w refl refl refl refl;
           }
 
       -- a stripe that is held goes home, and the others that are held may have new contents
-      pub traces_back : (ks : Stripes V) (t : ℕ) (c : Content V) (w : View V) → numbers ks ≡ numbers v.held → Holds ks t c → w.held ≡ without t ks → w.by ≡ v.by → w.found ≡ v.found → Traces n (sent_home s id t c w)
-      traces_back ks t c w same here is by_same found =
-          let e : LockEvent = event w.by Gave t in
+      pub traces_back : (step : LockStep V) → Returns m step → (ks : Stripes V) (t : ℕ) (c : Content V) (w : View V) → numbers ks ≡ numbers v.held → Holds ks t c → w.held ≡ without t ks → w.by ≡ v.by → w.found ≡ v.found → w.heard_watched ≡ v.heard_watched → Traces n callers (sent_home step s id t c w)
+      traces_back step returns ks t c w same here is by_same found heard =
+          let e : LockEvent V = event w.by step t in
           let mine : (q : ℕ) → IsIn q (numbers ks) → (d : Content V) × Holds v.held q d = λ q i. held_of_in v.held q (subst (IsIn q) same i) in
           let old = mine t (in_held ks t c here) in
           let at_t = places.holds id v at t old.0 old.1 in
           let own_now : number_of w.by ≡ m = ap number_of by_same ∙ own in
           let zero_now : get_or (set s.words t 0) t 0 ≡ 0 = get_or-set_same s.words t 0 0 (let z = places.words_sized in let l = at_t.0 in omega arith) in
           record {
-            legal = legal_more s.trace e r.legal (giving_fits (number_of w.by) (holder s.trace t) (r.held id v at t old.0 old.1 ∙ (by ∙ ap Some (sym own_now))));
-            free = λ q k zero. dite (ℕ_discrete t q) (λ it. holder_here s.trace e q it)
+            legal = legal_more s.trace e r.legal (subst (λ n. Fits step n (holder s.trace t)) (sym own_now) (returns.fits (holder s.trace t) (r.held id v at t old.0 old.1 ∙ by)));
+            by_callers = by_callers_on e own_now;
+            free = λ q k zero. dite (ℕ_discrete t q) (λ it. holder_here s.trace e q it ∙ (ap (λ n. held_after step n (holder s.trace q)) own_now ∙ returns.lets_go (holder s.trace q)))
                 (λ ne. holder_there s.trace e q ne ∙ r.free q k (sym (get_or-set_other s.words t q 0 0 (λ it. ne (sym it))) ∙ zero));
-            held = each_set (λ _ u. (q : ℕ) (d : Content V) → Holds u.held q d → holder (traced s w Gave t) q ≡ u.by) s.views id (watching (traced s w Gave t) w)
+            held = each_set (λ _ u. (q : ℕ) (d : Content V) → Holds u.held q d → holder (traced s w step t) q ≡ u.by) s.views id (watching (traced s w step t) w)
                 (λ q d h.
                 let f = in_without t ks q d (subst (λ (hs : Stripes V). Holds hs q d) is h) in
                 let g = mine q (in_held ks q d f.1) in
@@ -120,13 +138,14 @@ module _ {V : Type 0} where
                 (λ j u other there q d h.
                 let f = places.holds j u there q d h in
                 holder_there s.trace e q (λ it. other (sym f.2 ∙ (ap places.owner (sym it) ∙ at_t.2))) ∙ r.held j u there q d h);
-            watched = each_watches m by e own_now (watching (traced s w Gave t) w) refl by_same found;
+            watched = each_watches m by e own_now (watching (traced s w step t) w) refl by_same (found ∙ ap (λ l. l ++ v.found) (sym (returns.misses_none t))) heard;
           }
 
     -- a view changed that holds what it held
-    pub traces_keep : (w : View V) → w.held ≡ v.held → w.by ≡ v.by → Watches s.trace w → Traces n (seen_as s id w)
+    pub traces_keep : (w : View V) → w.held ≡ v.held → w.by ≡ v.by → Watches s.trace w → Traces n callers (seen_as s id w)
     traces_keep w held by watches = record {
       legal = r.legal;
+      by_callers = r.by_callers;
       free = r.free;
       held = each_set (λ _ u. (q : ℕ) (d : Content V) → Holds u.held q d → holder s.trace q ≡ u.by) s.views id w
           (λ q d h. r.held id v at q d (subst (λ (hs : Stripes V). Holds hs q d) held h) ∙ sym by) (λ j u _ there. r.held j u there);
@@ -134,36 +153,39 @@ module _ {V : Type 0} where
     }
 
     -- a new view holds nothing
-    pub traces_split : (left right : View V) → left.held ≡ v.held → left.by ≡ v.by → right.held ≡ [] → Watches s.trace left → Watches s.trace right → Traces n (split_as s id left right)
+    pub traces_split : (left right : View V) → left.held ≡ v.held → left.by ≡ v.by → right.held ≡ [] → Watches s.trace left → Watches s.trace right → Traces n callers (split_as s id left right)
     traces_split left right held by none of_left of_right =
         let kept = traces_keep left held by of_left in
         record {
           legal = r.legal;
+          by_callers = r.by_callers;
           free = r.free;
           held = each_snoc (λ _ u. (q : ℕ) (d : Content V) → Holds u.held q d → holder s.trace q ≡ u.by) (set s.views id left) right kept.held (λ q d h. absurd (subst (λ (hs : Stripes V). Holds hs q d) none h));
           watched = each_snoc (λ _ u. Watches s.trace u) (set s.views id left) right kept.watched of_right;
         }
 
   -- a view with no number has nothing to have watched
-  pub watches_nothing : (trace : List LockEvent) (w : View V) → owned w ≡ [] → w.by ≡ None → w.watched ≡ [] → Watches trace w
-  watches_nothing trace w none nobody nothing = record {
+  pub watches_nothing : (trace : List (LockEvent V)) (w : View V) → owned w ≡ [] → w.by ≡ None → w.watched ≡ [] → w.heard_watched ≡ [] → Watches trace w
+  watches_nothing trace w none nobody nothing silent = record {
     unseen = trace;
     begins = ap (λ l. l ++ trace) (sym nothing);
     by_others = λ m i. absurd (subst (λ (o : List (ℕ × List (Entry V))). IsIn m (numbers o)) none i);
+    heard = ([], nothing ∙ ap (λ l. l ++ []) (sym silent));
     missed = λ m e. absurd (none-some m (sym nobody ∙ e));
   }
 
   -- one that watched as much as another, has no number besides, and found what its caller missed
-  pub watches_as : (trace : List LockEvent) (v w : View V) → Watches trace v → w.watched ≡ v.watched → ((m : ℕ) → IsIn m (numbers (owned w)) → IsIn m (numbers (owned v))) → ((m : ℕ) → w.by ≡ Some m → misses m w.watched ≡ w.found) → Watches trace w
-  watches_as trace v w h same fewer found = record {
+  pub watches_as : (trace : List (LockEvent V)) (v w : View V) → Watches trace v → w.watched ≡ v.watched → ((m : ℕ) → IsIn m (numbers (owned w)) → IsIn m (numbers (owned v))) → ((m : ℕ) → w.by ≡ Some m → misses m w.watched ≡ w.found) → BeginsWith w.watched w.heard_watched → Watches trace w
+  watches_as trace v w h same fewer found heard = record {
     unseen = h.unseen;
     begins = h.begins ∙ ap (λ l. l ++ h.unseen) (sym same);
     by_others = λ m i. h.by_others m (fewer m i);
+    heard = heard;
     missed = found;
   }
 
   -- a view that takes in what another watched, and its numbers
-  pub watches_both : (trace : List LockEvent) (v w : View V) → Watches trace v → Watches trace w → ((m : ℕ) → IsIn m (numbers (owned (joining v w))) → IsIn m (numbers (owned v)) ⊎ IsIn m (numbers (owned w))) → Watches trace (joining v w)
+  pub watches_both : (trace : List (LockEvent V)) (v w : View V) → Watches trace v → Watches trace w → ((m : ℕ) → IsIn m (numbers (owned (joining v w))) → IsIn m (numbers (owned v)) ⊎ IsIn m (numbers (owned w))) → Watches trace (joining v w)
   watches_both trace v w h g of_both =
       let cut = longer_cut v.watched h.unseen w.watched g.unseen (sym h.begins ∙ g.begins) in
       let x = cut.0 in
@@ -172,19 +194,21 @@ module _ {V : Type 0} where
         unseen = rest;
         begins = h.begins ∙ (ap (λ l. v.watched ++ l) cut.4 ∙ (sym (append_assoc v.watched x rest) ∙ ap (λ l. l ++ rest) (sym cut.3)));
         by_others = λ m i. ⊎_elim (λ o. none_second m x rest (subst (NoneBy m) cut.4 (h.by_others m o))) (λ o. none_second m cut.1 rest (subst (NoneBy m) cut.5 (g.by_others m o))) (of_both m i);
+        heard = (cut.1, cut.6);
         missed = λ m by. ap (misses m) cut.3
             ∙ (misses_same m v.watched x (none_first m x rest (subst (NoneBy m) cut.4 (h.by_others m (in_held (owned v) m v.mine (own_held v m by))))) ∙ h.missed m by);
       }
 
-  module _ (n callers : ℕ) (log : List (Entry V)) (s : Configuration V) (whole : ℕ → Content V) (places : Places n s whole) (cs : Callers callers log s.views) (r : Traces n s) (id : ℕ) (v : View V) (at : get_elem? s.views id ≡ some v) where
+  module _ (n callers : ℕ) (log : List (Entry V)) (s : Configuration V) (whole : ℕ → Content V) (places : Places n s whole) (cs : Callers callers log s.views) (r : Traces n callers s) (id : ℕ) (v : View V) (at : get_elem? s.views id ≡ some v) where
     -- a view takes in another, which is left with nothing
-    pub traces_join : (other : ℕ) (w : View V) → get_elem? s.views other ≡ some w → ((m : ℕ) → IsIn m (numbers (owned (joining v w))) → IsIn m (numbers (owned v)) ⊎ IsIn m (numbers (owned w))) → Traces n (joined s id (joining v w) other)
+    pub traces_join : (other : ℕ) (w : View V) → get_elem? s.views other ≡ some w → ((m : ℕ) → IsIn m (numbers (owned (joining v w))) → IsIn m (numbers (owned v)) ⊎ IsIn m (numbers (owned w))) → Traces n callers (joined s id (joining v w) other)
     traces_join other w there of_both =
         let both : View V = joining v w in
         let kept = traces_keep n callers log s whole places cs r id v at both refl refl (watches_both s.trace v w (r.watched id v at) (r.watched other w there) of_both) in
         record {
           legal = r.legal;
+          by_callers = r.by_callers;
           free = r.free;
           held = each_set (λ _ u. (q : ℕ) (d : Content V) → Holds u.held q d → holder s.trace q ≡ u.by) (set s.views id both) other spent (λ q d h. absurd h) (λ j u _ a. kept.held j u a);
-          watched = each_set (λ _ u. Watches s.trace u) (set s.views id both) other spent (watches_nothing s.trace spent refl refl refl) (λ j u _ a. kept.watched j u a);
+          watched = each_set (λ _ u. Watches s.trace u) (set s.views id both) other spent (watches_nothing s.trace spent refl refl refl refl) (λ j u _ a. kept.watched j u a);
         }

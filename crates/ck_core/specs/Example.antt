@@ -12,7 +12,7 @@ use Rattle.ck_model.specs.Contents.{Layout, Stripes}
 use Rattle.ck_core.specs.declared.view.View.{View}
 use Rattle.ck_core.specs.State.{Configuration}
 use Rattle.ck_core.specs.declared.trace.LockStep.{LockStep}
-use Rattle.ck_core.specs.declared.trace.LockStep.TheVariants.{Took, Missed, Gave}
+use Rattle.ck_core.specs.declared.trace.LockStep.TheVariants.{Took, Missed, Gave, Decided}
 use Rattle.ck_core.specs.declared.trace.LockEvent.{LockEvent}
 use Rattle.ck_core.specs.Steps.{Label, event, watching, Opening, Execution, newcomer, initial_view, spent}
 use Rattle.ck_core.specs.Order.{IsCall, StandInTime}
@@ -62,15 +62,15 @@ abbrev pub second : View ℕ
 second = newcomer settings 1 1
 
 -- the steps on the words
-abbrev pub by_first : LockStep → ℕ → LockEvent
+abbrev pub by_first : LockStep ℕ → ℕ → LockEvent ℕ
 by_first step t = event (Some 0) step t
 
-abbrev pub by_second : LockStep → ℕ → LockEvent
+abbrev pub by_second : LockStep ℕ → ℕ → LockEvent ℕ
 by_second step t = event (Some 1) step t
 
-abbrev pub trace : List LockEvent
-trace = by_first Took 0 ∷ by_second Missed 0 ∷ by_first Took 1 ∷ by_first Gave 0 ∷ by_second Took 0
-    ∷ by_second Missed 1 ∷ by_first Gave 1 ∷ by_second Took 1 ∷ by_second Gave 0 ∷ by_second Gave 1 ∷ []
+abbrev pub trace : List (LockEvent ℕ)
+trace = by_first Took 0 ∷ by_second Missed 0 ∷ by_first Took 1 ∷ by_first (Decided insertion) 0 ∷ by_second Took 0
+    ∷ by_second Missed 1 ∷ by_first Gave 1 ∷ by_second Took 1 ∷ by_second (Decided look_up) 0 ∷ by_second Gave 1 ∷ []
 
 -- the view of one who watched the first n of them
 abbrev pub watched : ℕ → View ℕ → View ℕ
@@ -133,8 +133,8 @@ all_entries = insertion ∷ look_up ∷ second_look ∷ []
 abbrev pub more_steps : List (ℕ × Label ℕ)
 more_steps = (0, Take 0) ∷ (0, Take 1) ∷ (0, Decide 0 (both full_stripe) second_look) ∷ (0, GiveRest 1) ∷ []
 
-abbrev pub longer_trace : List LockEvent
-longer_trace = trace ++ by_first Took 0 ∷ by_first Took 1 ∷ by_first Gave 0 ∷ by_first Gave 1 ∷ []
+abbrev pub longer_trace : List (LockEvent ℕ)
+longer_trace = trace ++ by_first Took 0 ∷ by_first Took 1 ∷ by_first (Decided second_look) 0 ∷ by_first Gave 1 ∷ []
 
 -- all stripes are at home again
 abbrev pub looked : Configuration ℕ
@@ -155,12 +155,12 @@ ExampleOrder = IsLegal all_entries × StandInTime (insertion ∷ []) (insertion 
 abbrev pub alone : Configuration ℕ
 alone = record { words = 0 ∷ 0 ∷ []; homes = Some empty_stripe ∷ Some empty_stripe ∷ []; views = initial_view settings 0 1 (1 ∷ []) ∷ []; trace = [] }
 
-abbrev pub short_trace : List LockEvent
+abbrev pub short_trace : List (LockEvent ℕ)
 short_trace = by_first Took 0 ∷ by_first Gave 0 ∷ by_first Took 1 ∷ by_first Gave 1 ∷ []
 
 -- the other caller has begun and met the first
 abbrev pub met : Configuration ℕ
-met = record { words = 0 ∷ 0 ∷ []; homes = Some empty_stripe ∷ Some empty_stripe ∷ []; views = watching short_trace first ∷ record second { heard_told = 1 } ∷ spent ∷ []; trace = short_trace }
+met = record { words = 0 ∷ 0 ∷ []; homes = Some empty_stripe ∷ Some empty_stripe ∷ []; views = watching short_trace first ∷ record second { heard_told = 1; watched = short_trace; heard_watched = short_trace } ∷ spent ∷ []; trace = short_trace }
 
 abbrev pub meeting : List (ℕ × Label ℕ)
 meeting = (0, Open) ∷ (0, Take 0) ∷ (0, Renew 0 ((0, empty_stripe) ∷ []) None) ∷ (0, Take 1) ∷ (0, Give 1 None) ∷ (0, Tell) ∷ (1, Join 2) ∷ (1, Look 0 1) ∷ []

@@ -11,7 +11,7 @@ use Rattle.ck_model.specs.Contents.{Layout, Stripes, bindings, Lawful}
 use Rattle.ck_model.specs.Sections.{HasAll}
 use Rattle.ck_core.specs.declared.view.View.{View}
 use Rattle.ck_core.specs.State.{Configuration, HistoryInvariant, owned, client_of}
-use Rattle.ck_core.specs.Trace.{IsLegalTrace, misses}
+use Rattle.ck_core.specs.Trace.{BeginsWith, IsLegalTrace, decided_in, misses}
 use Rattle.ck_core.specs.Steps.{Label, Transition, grown, Execution, Opening}
 use Rattle.ck_core.specs.Steps.Label.{Take, FindHeld, Give, Decide, GiveRest, Renew, Look, Open, Tell, Join}
 
@@ -55,6 +55,10 @@ module _ {V : Type 0} where
     -- the only caller has seen all
     pub alone : (m : ℕ) → v.by ≡ Some m → callers ≡ 1 → v.seen ≡ log
     pub watched : HasWatched v
+    -- it begins with what a caller that was met had watched
+    pub heard_watched : BeginsWith v.watched v.heard_watched
+    -- what was decided in it begins the history
+    pub decided_first : StartsWith log (decided_in v.watched)
     pub lawful : Lawful k v.held
     pub inside : (t : ℕ) → IsIn t (numbers v.held) → t < 2 ^ k.s
     -- it was told no power above that of a stripe that it holds
@@ -66,6 +70,8 @@ module _ {V : Type 0} where
     pub all_seen : HasAll k v.held → v.seen ≡ log
     -- all numbers are kept: the history is an interleaving of their entries
     pub all_kept : ((m : ℕ) → m < callers → IsIn m (numbers (owned v))) → IsInterleaving log (owned v)
+    -- and what was decided in what was watched is the history
+    pub all_decided : ((m : ℕ) → m < callers → IsIn m (numbers (owned v))) → decided_in v.watched ≡ log
 
   -- The caller finds a stripe held: another holds it, of another number.
   pub record IsHeldByAnother (callers : ℕ) (s : Configuration V) (t : ℕ) (v : View V) : Type 0 where

@@ -1,5 +1,5 @@
 -- The state of the core, and the invariant that it keeps.
-use Rattle.std.specs.Prelude.{◌≡◌, ◌⊎◌, ℕ, ◌^◌, ◌<◌, ◌≤◌, List, [], ◌∷◌, ◌++◌, length, slice_index, Option, Some, None}
+use Rattle.std.specs.Prelude.{◌≡◌, ◌⊎◌, ℕ, ◌^◌, ◌<◌, ◌≤◌, List, [], ◌∷◌, ◌++◌, length, slice_index, Option, Some, None, All}
 use mathlib.Core.Option.{some}
 use lib.ListN.{get_elem?}
 use Rattle.ck_model.specs.declared.history.Entry.{Entry}
@@ -10,14 +10,14 @@ use Rattle.ck_model.specs.Contents.{Layout, bindings, Lawful, whole}
 use Rattle.ck_model.specs.Sections.{HasAll}
 use Rattle.ck_core.specs.declared.trace.LockEvent.{LockEvent}
 use Rattle.ck_core.specs.declared.view.View.{View}
-use Rattle.ck_core.specs.Trace.{holder, IsLegalTrace, NoneBy, misses}
+use Rattle.ck_core.specs.Trace.{BeginsWith, holder, IsLegalTrace, decided_in, NoneBy, misses}
 
 -- The words of the stripes, what lies in their places, the views, and the steps on the words. A place is empty while its stripe is held.
 pub record Configuration (V : Type 0) : Type 0 where
   pub words : List ℕ
   pub homes : List (Option (Content V))
   pub views : List (View V)
-  pub trace : List LockEvent
+  pub trace : List (LockEvent V)
 
 module _ {V : Type 0} where
   -- a number with its entries, where there is one
@@ -69,21 +69,23 @@ module _ {V : Type 0} where
     pub knows : (j : ℕ) (v : View V) → get_elem? views j ≡ some v → Knows callers log v
     pub no_others : (m : ℕ) → callers ≤ m → subhistory m log ≡ []
 
-  -- What was watched begins the trace, with all steps of the view's numbers, and the caller missed the stripes that it found held.
-  pub record Watches (trace : List LockEvent) (v : View V) : Type 0 where
-    pub unseen : List LockEvent
+  -- What was watched begins the trace, with all steps of the view's numbers, and begins with what a caller that was met had watched. The caller missed the stripes that it found held.
+  pub record Watches (trace : List (LockEvent V)) (v : View V) : Type 0 where
+    pub unseen : List (LockEvent V)
     pub begins : trace ≡ v.watched ++ unseen
     pub by_others : (m : ℕ) → IsIn m (numbers (owned v)) → NoneBy m unseen
+    pub heard : BeginsWith v.watched v.heard_watched
     pub missed : (m : ℕ) → v.by ≡ Some m → misses m v.watched ≡ v.found
 
-  -- The trace of n stripes is legal, and by it a stripe has no holder where it is at home, and else the caller that holds it.
-  pub record Traces (n : ℕ) (s : Configuration V) : Type 0 where
+  -- The trace of n stripes is legal, with steps of callers alone, and by it a stripe has no holder where it is at home, and else the caller that holds it.
+  pub record Traces (n callers : ℕ) (s : Configuration V) : Type 0 where
     pub legal : IsLegalTrace s.trace
+    pub by_callers : All (λ (e : LockEvent V). e.by < callers) s.trace
     pub free : (t : ℕ) → t < n → slice_index s.words t ≡ 0 → holder s.trace t ≡ None
     pub held : (j : ℕ) (v : View V) → get_elem? s.views j ≡ some v → (t : ℕ) (c : Content V) → Holds v.held t c → holder s.trace t ≡ v.by
     pub watched : (j : ℕ) (v : View V) → get_elem? s.views j ≡ some v → Watches s.trace v
 
-  -- The history invariant: each stripe is in its place or with one holder, a caller, who has seen the whole history where it holds all; the whole is lawful, no view was told a power above the table's, each view knows a beginning of the history, the trace is legal, and the history is legal and leads to the bindings of the whole.
+  -- The history invariant: each stripe is in its place or with one holder, a caller, who has seen the whole history where it holds all; the whole is lawful, no view was told a power above the table's, each view knows a beginning of the history, the trace is legal, the entries that were decided in it are the history, and that is legal and leads to the bindings of the whole.
   pub record HistoryInvariant (k : Layout) (callers : ℕ) (log : List (Entry V)) (s : Configuration V) : Type 0 where
     pub contents : ℕ → Content V
     pub places : Places (2 ^ k.s) s contents
@@ -92,5 +94,6 @@ module _ {V : Type 0} where
     pub lawful : Lawful k (whole k contents)
     pub told : (j : ℕ) (v : View V) → get_elem? s.views j ≡ some v → (t : ℕ) → t < 2 ^ k.s → (v.told ≤ (contents t).power) × (v.heard_told ≤ (contents t).power)
     pub callers_known : Callers callers log s.views
-    pub traced : Traces (2 ^ k.s) s
+    pub traced : Traces (2 ^ k.s) callers s
+    pub decided : decided_in s.trace ≡ log
     pub legal : After log (bindings (whole k contents))

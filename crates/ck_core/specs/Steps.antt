@@ -1,5 +1,5 @@
 -- The steps of the core, and their runs.
-use Rattle.std.specs.Prelude.{◌≡◌, ℕ, ◌+◌, ◌-◌, ◌^◌, ◌<◌, ◌≤◌, max, List, [], ◌∷◌, ◌++◌, set, map, replicate, length, slice_index, Option, Some, None}
+use Rattle.std.specs.Prelude.{◌≡◌, ℕ, zero, suc, ◌+◌, ◌-◌, ◌^◌, ◌<◌, ◌≤◌, max, List, [], ◌∷◌, ◌++◌, set, map, replicate, reverse, length, slice_index, Option, Some, None}
 use mathlib.Core.Option.{some}
 use lib.ListN.{get_elem?}
 use Rattle.std.specs.FinMap.{empty}
@@ -14,8 +14,9 @@ use Rattle.ck_model.specs.Contents.{Layout, Stripes, bindings, Lawful, whole, po
 use Rattle.ck_model.specs.Sections.{Owns, Section, IdentitySection}
 use Rattle.ck_model.specs.Paths.{HasNoRoom, Grounds}
 use Rattle.ck_core.specs.declared.trace.LockStep.{LockStep}
-use Rattle.ck_core.specs.declared.trace.LockStep.TheVariants.{Took, Missed, Gave}
+use Rattle.ck_core.specs.declared.trace.LockStep.TheVariants.{Took, Missed, Gave, Decided}
 use Rattle.ck_core.specs.declared.trace.LockEvent.{LockEvent}
+use Rattle.ck_core.specs.declared.view.NoSlot.{NoSlot}
 use Rattle.ck_core.specs.declared.view.View.{View}
 use Rattle.ck_core.specs.Trace.{misses}
 use Rattle.ck_core.specs.State.{Configuration, HasNumber, IsPart, owned}
@@ -38,7 +39,7 @@ pub data Label (V : Type 0) : Type 0 where
   Look : (t p : ℕ) → Label V
   -- a load by which a new caller gets a number that nobody has used
   Open : Label V
-  -- a load that splits off what the caller has seen and was told
+  -- a load that splits off what the caller has seen, was told and has watched
   Tell : Label V
   -- a load that joins another view, which holds no stripe, to the caller's
   Join : (other : ℕ) → Label V
@@ -51,17 +52,13 @@ IsAbove t ts = (u : ℕ) → IsIn u ts → u < t
 abbrev pub no_settings : Settings
 no_settings = record { s = 0; power = 0; max = 0; callers = 0; turns = 0; rounds = 0; min_load = 0 }
 
-abbrev pub gaining : List (Name × Reason) → Option (Name × Reason) → List (Name × Reason)
-gaining l None = l
-gaining l (Some g) = g ∷ l
-
 -- the number, or 0 where there is none
 abbrev pub number_of : Option ℕ → ℕ
 number_of None = 0
 number_of (Some m) = m
 
 -- the caller, by its number, made this step on the word of stripe t
-abbrev pub event : Option ℕ → LockStep → ℕ → LockEvent
+abbrev pub event : {V : Type 0} → Option ℕ → LockStep V → ℕ → LockEvent V
 event by step t = record { by = number_of by; stripe = t; step = step }
 
 -- the longer of two beginnings of one list
@@ -71,12 +68,26 @@ longer (x ∷ xs) [] = x ∷ xs
 longer (x ∷ xs) (y ∷ ys) = x ∷ longer xs ys
 
 module _ {V : Type 0} where
+  -- the name found no room in stripes that contained this
+  abbrev pub noted : Name → Reason → Stripes V → NoSlot V
+  noted q why hs = record { name = q; reason = why; held = hs }
+
+  -- the same of held stripes, of which the last taken stands first, where a name found none
+  abbrev pub gaining : List (NoSlot V) → Stripes V → Option (Name × Reason) → List (NoSlot V)
+  gaining l hs None = l
+  gaining l hs (Some (q, why)) = noted q why (reverse hs) ∷ l
+
+  -- what is noted of held stripes that doubled so many times
+  abbrev pub growing : List (Stripes V) → Stripes V → ℕ → List (Stripes V)
+  growing l hs zero = l
+  growing l hs (suc n) = reverse hs ∷ l
+
   -- the trace after the caller of a view made this step on the word of stripe t
-  abbrev pub traced : Configuration V → View V → LockStep → ℕ → List LockEvent
+  abbrev pub traced : Configuration V → View V → LockStep V → ℕ → List (LockEvent V)
   traced s v step t = s.trace ++ event v.by step t ∷ []
 
   -- the view with this trace watched
-  abbrev pub watching : List LockEvent → View V → View V
+  abbrev pub watching : List (LockEvent V) → View V → View V
   watching trace v = record v { watched = trace }
 
   -- What each step leaves.
@@ -94,40 +105,40 @@ module _ {V : Type 0} where
   abbrev pub seen_as : Configuration V → ℕ → View V → Configuration V
   seen_as s id w = record s { views = set s.views id w }
 
-  abbrev pub sent_home : Configuration V → ℕ → ℕ → Content V → View V → Configuration V
-  sent_home s id t c w = record { words = set s.words t 0; homes = set s.homes t (Some c); views = set s.views id (watching (traced s w Gave t) w); trace = traced s w Gave t }
+  abbrev pub sent_home : LockStep V → Configuration V → ℕ → ℕ → Content V → View V → Configuration V
+  sent_home step s id t c w = record { words = set s.words t 0; homes = set s.homes t (Some c); views = set s.views id (watching (traced s w step t) w); trace = traced s w step t }
 
   -- the view v after the stripe t with the content c, of the held stripes hs, went home
   abbrev pub giving : View V → ℕ → Content V → Stripes V → Option (Name × Reason) → View V
-  giving v t c hs g = record v { held = without t hs; told = max v.told c.power; no_slot = gaining v.no_slot g }
+  giving v t c hs g = record v { held = without t hs; told = max v.told c.power; no_slot = gaining v.no_slot hs g }
 
   -- the same after the held stripes, which were v.held, became ks: the caller has made as many doublings as their power rose by
   abbrev pub renewing : View V → ℕ → Content V → Stripes V → Option (Name × Reason) → View V
-  renewing v t c ks g = record (giving v t c ks g) { doublings = v.doublings + (power_of ks - power_of v.held) }
+  renewing v t c ks g = record (giving v t c ks g) { doublings = v.doublings + (power_of ks - power_of v.held); grown_from = growing v.grown_from v.held (power_of ks - power_of v.held) }
 
   -- the view v after the entry e was decided with the new contents ks, of which the stripe t went home
   abbrev pub deciding : View V → ℕ → Stripes V → List (Entry V) → Entry V → View V
-  deciding v t ks log e = record v { held = without t ks; seen = log ++ e ∷ []; mine = v.mine ++ e ∷ []; doublings = v.doublings + (power_of ks - power_of v.held) }
+  deciding v t ks log e = record v { held = without t ks; seen = log ++ e ∷ []; mine = v.mine ++ e ∷ []; doublings = v.doublings + (power_of ks - power_of v.held); grown_from = growing v.grown_from v.held (power_of ks - power_of v.held) }
 
   -- a caller at the opening
   abbrev pub newcomer : Settings → ℕ → ℕ → View V
-  newcomer set j p = record { settings = set; by = Some j; held = []; seen = []; mine = []; told = p; doublings = 0; found = []; watched = []; no_slot = []; heard = []; heard_told = 0; others = [] }
+  newcomer set j p = record { settings = set; by = Some j; held = []; seen = []; mine = []; told = p; doublings = 0; grown_from = []; found = []; watched = []; no_slot = []; heard = []; heard_told = 0; heard_watched = []; others = [] }
 
   -- a caller that begins with the number m, which the view v has kept
   abbrev pub beginner : View V → ℕ → View V
   beginner v m = record (newcomer v.settings m v.told) { watched = v.watched; found = misses m v.watched }
 
-  -- what v has seen and was told
+  -- what v has seen, was told and has watched
   abbrev pub message_of : View V → View V
-  message_of v = record { settings = v.settings; by = None; held = []; seen = v.seen; mine = []; told = v.told; doublings = 0; found = []; watched = []; no_slot = []; heard = []; heard_told = 0; others = [] }
+  message_of v = record { settings = v.settings; by = None; held = []; seen = v.seen; mine = []; told = v.told; doublings = 0; grown_from = []; found = []; watched = v.watched; no_slot = []; heard = []; heard_told = 0; heard_watched = []; others = [] }
 
   -- what a join leaves of the other view
   abbrev pub spent : View V
-  spent = record { settings = no_settings; by = None; held = []; seen = []; mine = []; told = 0; doublings = 0; found = []; watched = []; no_slot = []; heard = []; heard_told = 0; others = [] }
+  spent = record { settings = no_settings; by = None; held = []; seen = []; mine = []; told = 0; doublings = 0; grown_from = []; found = []; watched = []; no_slot = []; heard = []; heard_told = 0; heard_watched = []; others = [] }
 
   -- the view v has heard what w had seen, and keeps its numbers
   abbrev pub joining : View V → View V → View V
-  joining v w = record v { heard = w.seen; heard_told = w.told; others = owned w ++ v.others; watched = longer v.watched w.watched }
+  joining v w = record v { heard = w.seen; heard_told = w.told; heard_watched = w.watched; others = owned w ++ v.others; watched = longer v.watched w.watched }
 
   abbrev pub split_as : Configuration V → ℕ → View V → View V → Configuration V
   split_as s id left right = record s { views = set s.views id left ++ right ∷ [] }
@@ -155,13 +166,13 @@ module _ {V : Type 0} where
   Transition k min_load log id (FindHeld t) s s2 = (v : View V) × (get_elem? s.views id ≡ some v) × (t < 2 ^ k.s) × (slice_index s.words t ≡ 1) × ¬ (IsIn t (numbers v.held)) × HasNumber v
       × (s2 ≡ missed s id v t)
   Transition k min_load log id (Give t g) s s2 = (v : View V) × (c : Content V) × (get_elem? s.views id ≡ some v) × Holds v.held t c × IsExcused k min_load v.held g
-      × (s2 ≡ sent_home s id t c (giving v t c v.held g))
+      × (s2 ≡ sent_home Gave s id t c (giving v t c v.held g))
   Transition k min_load log id (Decide t ks e) s s2 = (v : View V) × (c : Content V) × (get_elem? s.views id ≡ some v) × (v.by ≡ Some e.by) × Holds ks t c × Section k v.held e.call e.reply ks
-      × (s2 ≡ sent_home s id t c (deciding v t ks log e))
+      × (s2 ≡ sent_home (Decided e) s id t c (deciding v t ks log e))
   Transition k min_load log id (GiveRest t) s s2 = (v : View V) × (c : Content V) × (get_elem? s.views id ≡ some v) × Holds v.held t c
-      × (s2 ≡ sent_home s id t c (giving v t c v.held None))
+      × (s2 ≡ sent_home Gave s id t c (giving v t c v.held None))
   Transition k min_load log id (Renew t ks g) s s2 = (v : View V) × (c : Content V) × (get_elem? s.views id ≡ some v) × Holds ks t c × IdentitySection k v.held ks × HasGrounds k min_load ks g
-      × (s2 ≡ sent_home s id t c (renewing v t c ks g))
+      × (s2 ≡ sent_home Gave s id t c (renewing v t c ks g))
   Transition k min_load log id (Look t p) s s2 = (v : View V) × (get_elem? s.views id ≡ some v) × (t < 2 ^ k.s) × (v.told ≤ p) × ((u : ℕ) (c : Content V) → IsPart s u c → p ≤ c.power)
       × (s2 ≡ seen_as s id (record v { seen = log; told = p }))
   Transition k min_load log id Open s s2 = (v : View V) × (m : ℕ) × (rest : List (ℕ × List (Entry V))) × (get_elem? s.views id ≡ some v) × (v.others ≡ (m, []) ∷ rest)

@@ -1,51 +1,72 @@
 -- The trace: the steps of all callers on the lock words, in their order.
 use Rattle.std.specs.Prelude.{◌≡◌, ◌≢◌, ℕ, List, [], ◌∷◌, ◌++◌, Option, Some, None, if◌then◌else◌, ◌==◌}
+use Rattle.ck_model.specs.declared.history.Entry.{Entry}
 use Rattle.ck_core.specs.declared.trace.LockStep.{LockStep}
-use Rattle.ck_core.specs.declared.trace.LockStep.TheVariants.{Took, Missed, Gave}
+use Rattle.ck_core.specs.declared.trace.LockStep.TheVariants.{Took, Missed, Gave, Decided}
 use Rattle.ck_core.specs.declared.trace.LockEvent.{LockEvent}
 
--- who holds a stripe after a step of the caller m on its word, where h did before it
-abbrev pub held_after : LockStep → ℕ → Option ℕ → Option ℕ
-held_after Took m h = Some m
-held_after Missed m h = h
-held_after Gave m h = None
+module _ {V : Type 0} where
+  -- the steps begin with these
+  abbrev pub BeginsWith : List (LockEvent V) → List (LockEvent V) → Type 0
+  BeginsWith es start = (more : List (LockEvent V)) × (es ≡ start ++ more)
 
--- the same of stripe t after a step on any word
-abbrev pub held_behind : ℕ → Option ℕ → LockEvent → Option ℕ
-held_behind t h e = if e.stripe == t then held_after e.step e.by h else h
+  -- who holds a stripe after a step of the caller m on its word, where h did before it
+  abbrev pub held_after : LockStep V → ℕ → Option ℕ → Option ℕ
+  held_after Took m h = Some m
+  held_after Missed m h = h
+  held_after Gave m h = None
+  held_after (Decided x) m h = None
 
--- who holds stripe t after these steps, where h did before them
-abbrev pub held_from : ℕ → Option ℕ → List LockEvent → Option ℕ
-held_from t h [] = h
-held_from t h (e ∷ es) = held_from t (held_behind t h e) es
+  -- the same of stripe t after a step on any word
+  abbrev pub held_behind : ℕ → Option ℕ → LockEvent V → Option ℕ
+  held_behind t h e = if e.stripe == t then held_after e.step e.by h else h
 
--- who holds stripe t after the trace
-abbrev pub holder : List LockEvent → ℕ → Option ℕ
-holder es t = held_from t None es
+  -- who holds stripe t after these steps, where h did before them
+  abbrev pub held_from : ℕ → Option ℕ → List (LockEvent V) → Option ℕ
+  held_from t h [] = h
+  held_from t h (e ∷ es) = held_from t (held_behind t h e) es
 
--- A stripe is taken while nobody holds it, missed while another than the caller m does, and given back by its holder.
-abbrev pub Fits : LockStep → ℕ → Option ℕ → Type 0
-Fits step m h =
-    (step ≡ Took → h ≡ None)
-    × (step ≡ Missed → (h ≢ None) × (h ≢ Some m))
-    × (step ≡ Gave → h ≡ Some m)
+  -- who holds stripe t after the trace
+  abbrev pub holder : List (LockEvent V) → ℕ → Option ℕ
+  holder es t = held_from t None es
 
--- each step fits what those before it left
-abbrev pub IsLegalTrace : List LockEvent → Type 0
-IsLegalTrace es = (before : List LockEvent) (e : LockEvent) (more : List LockEvent) → es ≡ before ++ e ∷ more → Fits e.step e.by (holder before e.stripe)
+  -- A stripe is taken while nobody holds it, missed while another than the caller m does, and given back by its holder, which decides only its own calls.
+  abbrev pub Fits : LockStep V → ℕ → Option ℕ → Type 0
+  Fits step m h =
+      (step ≡ Took → h ≡ None)
+      × (step ≡ Missed → (h ≢ None) × (h ≢ Some m))
+      × (step ≡ Gave → h ≡ Some m)
+      × ((x : Entry V) → step ≡ Decided x → (h ≡ Some m) × (x.by ≡ m))
 
--- the stripe that was missed by this step, if it was one
-abbrev pub missed_by : LockStep → ℕ → List ℕ
-missed_by Took t = []
-missed_by Missed t = t ∷ []
-missed_by Gave t = []
+  -- each step fits what those before it left
+  abbrev pub IsLegalTrace : List (LockEvent V) → Type 0
+  IsLegalTrace es = (before : List (LockEvent V)) (e : LockEvent V) (more : List (LockEvent V)) → es ≡ before ++ e ∷ more → Fits e.step e.by (holder before e.stripe)
 
--- the stripes that the caller m missed, the last first
-abbrev pub misses : ℕ → List LockEvent → List ℕ
-misses m [] = []
-misses m (e ∷ es) = misses m es ++ (if e.by == m then missed_by e.step e.stripe else [])
+  -- the entry that was decided by this step, if one was
+  abbrev pub decided_by : LockStep V → List (Entry V)
+  decided_by Took = []
+  decided_by Missed = []
+  decided_by Gave = []
+  decided_by (Decided x) = x ∷ []
 
--- no step is one of the caller m
-abbrev pub NoneBy : ℕ → List LockEvent → Type 0
-NoneBy m [] = Unit {0}
-NoneBy m (e ∷ es) = (e.by ≢ m) × NoneBy m es
+  -- the entries that were decided, in their order: the history
+  abbrev pub decided_in : List (LockEvent V) → List (Entry V)
+  decided_in [] = []
+  decided_in (e ∷ es) = decided_by e.step ++ decided_in es
+
+  -- the stripe that was missed by this step, if it was one
+  abbrev pub missed_by : LockStep V → ℕ → List ℕ
+  missed_by Took t = []
+  missed_by Missed t = t ∷ []
+  missed_by Gave t = []
+  missed_by (Decided x) t = []
+
+  -- the stripes that the caller m missed, the last first
+  abbrev pub misses : ℕ → List (LockEvent V) → List ℕ
+  misses m [] = []
+  misses m (e ∷ es) = misses m es ++ (if e.by == m then missed_by e.step e.stripe else [])
+
+  -- no step is one of the caller m
+  abbrev pub NoneBy : ℕ → List (LockEvent V) → Type 0
+  NoneBy m [] = Unit {0}
+  NoneBy m (e ∷ es) = (e.by ≢ m) × NoneBy m es

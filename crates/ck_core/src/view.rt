@@ -21,16 +21,29 @@ pub struct View<V> {
     pub told: u64,
     /// How many times the caller has made the table double.
     pub doublings: u64,
+    /// What the stripes contained each time that it did so, in rising order of their numbers. The
+    /// last time stands first.
+    pub grown_from: LinkedList<LinkedList<(u64, Content<V>)>>,
     /// The stripes that were found held, once for each time.
     pub found: LinkedList<u64>,
     /// The trace up to the caller's last step on a lock word.
-    pub watched: LinkedList<LockEvent>,
+    pub watched: LinkedList<LockEvent<V>>,
     /// The names that found no room and why, once for each time.
-    pub no_slot: LinkedList<(Name, Reason)>,
+    pub no_slot: LinkedList<NoSlot<V>>,
     /// What another caller had seen when it was last met.
     pub heard: LinkedList<Entry<V>>,
     /// The power that the other caller had been told.
     pub heard_told: u64,
+    /// What the other caller had watched of the trace.
+    pub heard_watched: LinkedList<LockEvent<V>>,
     /// The numbers of callers that have not begun or have ended, with their entries.
     pub others: LinkedList<(u64, LinkedList<Entry<V>>)>,
+}
+
+/// A name found no room. The table makes no value of this type: contracts speak of it.
+pub struct NoSlot<V> {
+    pub name: Name,
+    pub reason: Reason,
+    /// What the stripes contained that its caller held then, in rising order of their numbers.
+    pub held: LinkedList<(u64, Content<V>)>,
 }

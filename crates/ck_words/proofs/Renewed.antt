@@ -1,33 +1,40 @@
 -- The highest stripe goes home with what it contains now, and the rest after it.
+use Rattle.std.proofs.lemmas.List.{reverse-reverse}
 use Rattle.std.proofs.Common.{◌≡◌, ℕ, List, [], ◌∷◌, ◌++◌, reverse, append-nil, refl, sym, ap, ◌∙◌, subst, arith, Option, Some, None}
 use Rattle.ck_model.specs.declared.history.Reason.{Reason}
 use Rattle.ck_model.specs.Promise.{Name}
+use Rattle.ck_model.specs.Contents.{Stripes}
 use Rattle.ck_stripe.specs.Stripes.{contents_of}
+use Rattle.ck_core.specs.declared.view.NoSlot.{NoSlot}
 use Rattle.ck_core.specs.declared.view.View.{View}
 use Rattle.ck_core.specs.declared.trace.LockStep.TheVariants.{Gave}
-use Rattle.ck_core.specs.Steps.{giving, renewing, gaining, event}
+use Rattle.ck_core.specs.Steps.{giving, renewing, noted, gaining, event}
 use Rattle.ck_core.specs.Steps.Label.{Give, Renew}
 use Rattle.ck_words.specs.Words.{WordsState}
-use Rattle.ck_words.specs.Passes.{PassState, Sends}
+use Rattle.ck_words.specs.Passes.{PassState, Sends, IsUnchanged}
 use Rattle.ck_words.specs.Retries.{StaysBut, as_doubled}
 use Rattle.ck_words.specs.Holding.{HasReleased}
 use Rattle.ck_words.specs.Renewing.{HasRefused}
 use Rattle.ck_words.proofs.Rows.{gave, watched_more, give_row, renew_row}
 use Rattle.ck_words.proofs.Staying.{stays_on, stays_then}
 
-gaining-append : (l : List (Name × Reason)) (why : Option (Name × Reason)) → gaining l why ≡ gaining [] why ++ l
-gaining-append l None = refl
-gaining-append l (Some g) = refl
+gaining-append : {V : Type 0} (l : List (NoSlot V)) (hs : Stripes V) (why : Option (Name × Reason)) → gaining l hs why ≡ gaining [] hs why ++ l
+gaining-append l hs None = refl
+gaining-append l hs (Some g) = refl
 
 module _ {V : Type 0} (hash : Name → ℕ) (w : WordsState) (p q : PassState V) where
+  -- what the stripes contain now, the last taken first
+  abbrev now : Stripes V
+  now = reverse (contents_of p.stripes)
+
   module _ (why : Option (Name × Reason)) (g : Sends hash w (λ t ks. Renew t ks why) p q) where
-    renewed_view : q.view ≡ gave g.2.before g.0.number (renewing p.view g.0.number g.2.does.1 (reverse (contents_of p.stripes)) why)
-    renewed_view = renew_row hash w.settings p.view q.view g.0.number (reverse (contents_of p.stripes)) why g.2
+    renewed_view : q.view ≡ gave g.2.before g.0.number (renewing p.view g.0.number g.2.does.1 now why)
+    renewed_view = renew_row hash w.settings p.view q.view g.0.number now why g.2
 
     -- also where more went home since, as it was
-    stays_renewing : (r : View V) → r.doublings ≡ q.view.doublings → StaysBut (gaining [] why) (record p.view { doublings = r.doublings }) q.view
-    stays_renewing r same = subst (λ (n : ℕ). StaysBut (gaining [] why) (record p.view { doublings = n }) q.view) (sym same) (subst (λ (v : View V). StaysBut (gaining [] why) (record p.view { doublings = v.doublings }) v) (sym renewed_view)
-        (record { settings = refl; by = refl; mine = refl; others = refl; heard = (refl, refl); no_slot = gaining-append p.view.no_slot why; seen = ([], sym (append-nil p.view.seen)); by_others = λ m e. refl; alone = λ _. refl; watched = watched_more hash w.settings (Renew g.0.number (reverse (contents_of p.stripes)) why) p.view q.view g.2 (event p.view.by Gave g.0.number); told = omega arith; doublings = refl }))
+    stays_renewing : (r : View V) → r.doublings ≡ q.view.doublings → StaysBut (gaining [] now why) (record p.view { doublings = r.doublings }) q.view
+    stays_renewing r same = subst (λ (n : ℕ). StaysBut (gaining [] now why) (record p.view { doublings = n }) q.view) (sym same) (subst (λ (v : View V). StaysBut (gaining [] now why) (record p.view { doublings = v.doublings }) v) (sym renewed_view)
+        (record { settings = refl; by = refl; mine = refl; others = refl; heard = (refl, refl); no_slot = gaining-append p.view.no_slot now why; seen = ([], sym (append-nil p.view.seen)); by_others = λ m e. refl; alone = λ _. refl; watched = watched_more hash w.settings (Renew g.0.number now why) p.view q.view g.2 (event p.view.by Gave g.0.number); told = omega arith; doublings = refl }))
 
   pub released_renewed : Sends hash w (λ t ks. Renew t ks None) p q → (r : PassState V) → HasReleased w q r → HasReleased w (as_doubled p r) r
   released_renewed g r rest = record {
@@ -43,7 +50,8 @@ module _ {V : Type 0} (hash : Name → ℕ) (w : WordsState) (p q : PassState V)
   refused_on name why g r rest = record {
     own = rest.own;
     idle = rest.idle;
-    stays = stays_then ((name, why) ∷ []) [] (as_doubled p r).view q.view r.view (stays_renewing (Some (name, why)) g r.view rest.stays.doublings) rest.stays;
+    stays = subst (λ (hs : Stripes V). StaysBut (noted name why hs ∷ []) (as_doubled p r).view r.view) (reverse-reverse (contents_of p.stripes))
+        (stays_then (noted name why (reverse now) ∷ []) [] (as_doubled p r).view q.view r.view (stays_renewing (Some (name, why)) g r.view rest.stays.doublings) rest.stays);
     found = rest.found ∙ ap (λ (v : View V). v.found) (renewed_view (Some (name, why)) g);
     seen = rest.seen ∙ ap (λ (v : View V). v.seen) (renewed_view (Some (name, why)) g);
   }
@@ -53,15 +61,16 @@ module _ {V : Type 0} (hash : Name → ℕ) (w : WordsState) (p q : PassState V)
     given_view : q.view ≡ gave g.2.before g.0.number (giving p.view g.0.number g.2.does.1 p.view.held (Some (name, why)))
     given_view = give_row hash w.settings p.view q.view g.0.number (Some (name, why)) g.2
 
-    stays_telling : StaysBut ((name, why) ∷ []) p.view q.view
-    stays_telling = subst (StaysBut ((name, why) ∷ []) p.view) (sym given_view)
+    stays_telling : StaysBut (noted name why (reverse p.view.held) ∷ []) p.view q.view
+    stays_telling = subst (StaysBut (noted name why (reverse p.view.held) ∷ []) p.view) (sym given_view)
         (record { settings = refl; by = refl; mine = refl; others = refl; heard = (refl, refl); no_slot = refl; seen = ([], sym (append-nil p.view.seen)); by_others = λ m e. refl; alone = λ _. refl; watched = watched_more hash w.settings (Give g.0.number (Some (name, why))) p.view q.view g.2 (event p.view.by Gave g.0.number); told = omega arith; doublings = refl })
 
-    pub refused_giving : (r : PassState V) → HasReleased w q r → HasRefused w name why p r
-    refused_giving r rest = record {
+    pub refused_giving : IsUnchanged p → (r : PassState V) → HasReleased w q r → HasRefused w name why p r
+    refused_giving unchanged r rest = record {
       own = rest.own;
       idle = rest.idle;
-      stays = stays_then ((name, why) ∷ []) [] p.view q.view r.view stays_telling rest.stays;
+      stays = subst (λ (hs : Stripes V). StaysBut (noted name why hs ∷ []) p.view r.view) (sym unchanged)
+          (stays_then (noted name why (reverse p.view.held) ∷ []) [] p.view q.view r.view stays_telling rest.stays);
       found = rest.found ∙ ap (λ (v : View V). v.found) given_view;
       seen = rest.seen ∙ ap (λ (v : View V). v.seen) given_view;
     }

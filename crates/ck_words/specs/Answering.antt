@@ -5,12 +5,12 @@ use Rattle.ck_model.specs.declared.history.Act.{Act}
 use Rattle.ck_model.specs.declared.history.Call.{Call}
 use Rattle.ck_model.specs.declared.history.Call.TheVariants.{On, SessionOn, Session}
 use Rattle.ck_model.specs.declared.history.Reply.{Reply}
-use Rattle.ck_model.specs.declared.history.Reason.{Reason}
 use Rattle.ck_model.specs.declared.settings.Settings.{Settings}
 use Rattle.ck_model.specs.Promise.{Name, bound_in, Follows, Replied}
 use Rattle.ck_model.specs.Contents.{layout_of, Lawful, bindings}
 use Rattle.ck_model.specs.Sections.{HasAll, Section}
 use Rattle.ck_stripe.specs.Stripes.{contents_of}
+use Rattle.ck_core.specs.declared.view.NoSlot.{NoSlot}
 use Rattle.ck_core.specs.State.{client_of}
 use Rattle.ck_words.specs.Words.{WordsState}
 use Rattle.ck_words.specs.Passes.{PassState, IsPassOf, IsIdle}
@@ -34,12 +34,12 @@ module _ {V : Type 0} where
   abbrev pub FollowsSeen : Call V → Reply V → PassState V → PassState V → Type 0
   FollowsSeen call reply p q = (by : ℕ) × (p.view.by ≡ Some by) × Follows (client_of p.view) (record { by = by; call = call; reply = reply }) (client_of q.view)
 
-  -- The call was answered by this reply. The pass has said of these names that they found no room; the rest is as it was.
-  pub record IsAnsweredBut (more : List (Name × Reason)) (call : Call V) (reply : Reply V) (p q : PassState V) : Type 0 where
+  -- The call was answered by this reply. The pass has noted more that names found no room; the rest is as it was.
+  pub record IsAnsweredBut (more : List (NoSlot V)) (call : Call V) (reply : Reply V) (p q : PassState V) : Type 0 where
     pub replied : Replied call reply (client_of p.view) (client_of q.view)
     pub stays : StaysBut more (record p.view { seen = q.view.seen; mine = q.view.mine }) q.view
 
-  -- and it has said so of none
+  -- and it has noted so of none
   abbrev pub IsAnswered : Call V → Reply V → PassState V → PassState V → Type 0
   IsAnswered = IsAnsweredBut []
 

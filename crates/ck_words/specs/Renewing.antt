@@ -6,6 +6,7 @@ use Rattle.ck_model.specs.Promise.{Name}
 use Rattle.ck_model.specs.Contents.{layout_of, Lawful}
 use Rattle.ck_model.specs.Sections.{IdentitySection}
 use Rattle.ck_stripe.specs.Stripes.{contents_of}
+use Rattle.ck_core.specs.Steps.{noted}
 use Rattle.ck_words.specs.Words.{WordsState}
 use Rattle.ck_words.specs.Passes.{PassState, IsPassOf, IsIdle}
 use Rattle.ck_words.specs.Retries.{StaysBut}
@@ -14,10 +15,10 @@ use Rattle.ck_words.specs.Retries.{StaysBut}
 abbrev pub HasRenewed : {V : Type 0} → (Name → ℕ) → Settings → PassState V → Type 0
 HasRenewed hash set p = Lawful (layout_of hash set) (reverse p.view.held) → IdentitySection (layout_of hash set) (reverse p.view.held) (contents_of p.stripes)
 
--- From p to p2 all stripes went home, and the pass said that this name found no room, for this reason.
+-- From p to p2 all stripes went home, and the pass noted that this name found no room in them as they were then, for this reason.
 pub record HasRefused {V : Type 0} (w : WordsState) (q : Name) (why : Reason) (p p2 : PassState V) : Type 0 where
   pub own : IsPassOf w p2
   pub idle : IsIdle p2
-  pub stays : StaysBut ((q, why) ∷ []) p.view p2.view
+  pub stays : StaysBut (noted q why (contents_of p.stripes) ∷ []) p.view p2.view
   pub found : p2.view.found ≡ p.view.found
   pub seen : p2.view.seen ≡ p.view.seen

@@ -1,10 +1,10 @@
 -- What several tries to take stripes leave.
 use Rattle.std.specs.Prelude.{◌≡◌, ◌≢◌, ℕ, ◌<◌, ◌≤◌, List, [], ◌++◌, Some, replicate}
-use Rattle.ck_model.specs.declared.history.Reason.{Reason}
 use Rattle.ck_model.specs.declared.settings.Settings.{Settings}
 use Rattle.ck_model.specs.Promise.{Name, StartsWith, subhistory}
 use Rattle.ck_model.specs.Numbered.{IsIn}
 use Rattle.ck_core.specs.declared.trace.LockEvent.{LockEvent}
+use Rattle.ck_core.specs.declared.view.NoSlot.{NoSlot}
 use Rattle.ck_core.specs.declared.view.View.{View}
 use Rattle.ck_core.specs.Trace.{IsLegalTrace, misses}
 use Rattle.ck_words.specs.Passes.{PassState, TakesStripe, IsIdle}
@@ -23,8 +23,8 @@ module _ {V : Type 0} where
   TakesWithin hash set turns t p q = (n : ℕ) × (n < turns) × (events : List LockEvent) × TakesStripe hash set t (found_again n t events p) q
 
   -- What no step changes but one that decides, doubles or meets: the caller's entries, its doublings and what it heard, and it has seen and was told no less. What it sees more is by others, so that the only caller sees nothing more.
-  -- It has said of these names more that they found no room.
-  pub record StaysBut (more : List (Name × Reason)) (v w : View V) : Type 0 where
+  -- It has noted more that names found no room.
+  pub record StaysBut (more : List (NoSlot V)) (v w : View V) : Type 0 where
     pub settings : w.settings ≡ v.settings
     pub by : w.by ≡ v.by
     pub mine : w.mine ≡ v.mine

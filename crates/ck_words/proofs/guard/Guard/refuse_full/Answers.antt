@@ -22,4 +22,4 @@ release_first-requires g c = record {
 }
 
 pub returns-clause-refused : goal.returns-clause-refused
-returns-clause-refused g c = refused_giving g.K.TableKey.hash c.args.self.now.words.now c.args.self.now.pass.now c.give.new.pass (g.K.TableKey.name c.args.key.now) NoRoom c.give.ensures.step c.release_first.new.pass c.release_first.ensures.released
+returns-clause-refused g c = refused_giving g.K.TableKey.hash c.args.self.now.words.now c.args.self.now.pass.now c.give.new.pass (g.K.TableKey.name c.args.key.now) NoRoom c.give.ensures.step c.requires.unchanged c.release_first.new.pass c.release_first.ensures.released
