@@ -19,7 +19,8 @@ use Rattle.ck_model.proofs.Numbered.{Some-injective}
 use Rattle.ck_stripe.specs.Stripe.{StripeState}
 use Rattle.ck_core.specs.declared.view.View.{View}
 use Rattle.ck_core.specs.State.{Configuration, HasNumber, HistoryInvariant}
-use Rattle.ck_core.specs.declared.trace.LockStep.TheVariants.{Took, Missed, Gave}
+use Rattle.ck_core.specs.declared.trace.LockStep.{LockStep}
+use Rattle.ck_core.specs.declared.trace.LockStep.TheVariants.{Took, Missed, Gave, Decided}
 use Rattle.ck_core.specs.declared.trace.LockEvent.{LockEvent}
 use Rattle.ck_core.specs.Steps.{Label, Transition, IsAbove, IsExcused, HasGrounds, event, watching, taken, missed, seen_as, sent_home, giving, renewing, deciding, beginner, message_of, joining, spent}
 use Rattle.ck_core.specs.Steps.Label.{Take, FindHeld, Give, Decide, Renew, Look}
@@ -64,7 +65,7 @@ module _ {V : Type 0} where
 module _ {V : Type 0} (k : Layout) (callers : ℕ) where
   -- the word of stripe t became x, and its slot h
   kept_at : (log : List (Entry V)) (s : State (StripeSlot V) (View V)) (t x : ℕ) (h : maybe.Option (StripeSlot V)) (views : List (View V)) → t < 2 ^ k.s → length s.words ≡ 2 ^ k.s * 8
-      → (trace : List LockEvent) → HistoryInvariant k callers log (record { words = set (spaced (2 ^ k.s) s.words) t x; homes = set (map lying s.homes) t (lying h); views = views; trace = trace }) → AreAtHome k.s (set s.homes t h)
+      → (trace : List (LockEvent V)) → HistoryInvariant k callers log (record { words = set (spaced (2 ^ k.s) s.words) t x; homes = set (map lying s.homes) t (lying h); views = views; trace = trace }) → AreAtHome k.s (set s.homes t h)
       → IsKept k callers log (record { words = set s.words (t * 8) x; homes = set s.homes t h; views = views })
   kept_at log s t x h views l sized trace law own = record {
     trace = trace;
@@ -74,7 +75,7 @@ module _ {V : Type 0} (k : Layout) (callers : ℕ) where
   }
 
   -- a step that leaves words and slots as they were
-  unmoved : (log : List (Entry V)) (s : State (StripeSlot V) (View V)) (id t x : ℕ) (w : View V) (has : List (ℕ × StripeSlot V)) → x ≡ get_or s.words t 0 → IsKept k callers log s → (trace : List LockEvent) → HistoryInvariant k callers log (seen_as (world (2 ^ k.s) trace s) id w)
+  unmoved : (log : List (Entry V)) (s : State (StripeSlot V) (View V)) (id t x : ℕ) (w : View V) (has : List (ℕ × StripeSlot V)) → x ≡ get_or s.words t 0 → IsKept k callers log s → (trace : List (LockEvent V)) → HistoryInvariant k callers log (seen_as (world (2 ^ k.s) trace s) id w)
       → IsKept k callers log (stepped s t x id has w keeps)
   unmoved log s id t x w has e old trace law =
       let same : s.words ≡ set s.words t x = sym (set-get_or s.words t 0) ∙ ap (set s.words t) (sym e) in
@@ -86,15 +87,15 @@ module _ {V : Type 0} (k : Layout) (callers : ℕ) where
       }
 
   -- the view w, once the stripe t went home by it
-  abbrev given : List LockEvent → ℕ → View V → View V
-  given trace t w = watching (trace ++ event w.by Gave t ∷ []) w
+  abbrev given : LockStep V → List (LockEvent V) → ℕ → View V → View V
+  given step trace t w = watching (trace ++ event w.by step t ∷ []) w
 
   -- a seat gives back the slot that it has first
-  gave : (log log2 : List (Entry V)) (s : State (StripeSlot V) (View V)) (id t : ℕ) (stripe : StripeState V) (w : View V) (has out : List (ℕ × StripeSlot V)) → has ≡ (t, Some stripe) ∷ out → t < 2 ^ k.s → IsAtHome k.s t stripe → (old : IsKept k callers log s)
-      → HistoryInvariant k callers log2 (sent_home (world (2 ^ k.s) old.trace s) id t stripe.content w)
-      → IsKept k callers log2 (stepped s (t * 8) 0 id has (given old.trace t w) gives)
-  gave log log2 s id t stripe w has out is l own old law = subst (λ (xs : List (ℕ × StripeSlot V)). IsKept k callers log2 (stepped s (t * 8) 0 id xs (given old.trace t w) gives)) (sym is)
-      (kept_at log2 s t 0 (some (Some stripe)) (set s.views id (given old.trace t w)) l old.words_sized (old.trace ++ event w.by Gave t ∷ []) law (home_back k.s s.homes t stripe own old.at_home))
+  gave : (step : LockStep V) (log log2 : List (Entry V)) (s : State (StripeSlot V) (View V)) (id t : ℕ) (stripe : StripeState V) (w : View V) (has out : List (ℕ × StripeSlot V)) → has ≡ (t, Some stripe) ∷ out → t < 2 ^ k.s → IsAtHome k.s t stripe → (old : IsKept k callers log s)
+      → HistoryInvariant k callers log2 (sent_home step (world (2 ^ k.s) old.trace s) id t stripe.content w)
+      → IsKept k callers log2 (stepped s (t * 8) 0 id has (given step old.trace t w) gives)
+  gave step log log2 s id t stripe w has out is l own old law = subst (λ (xs : List (ℕ × StripeSlot V)). IsKept k callers log2 (stepped s (t * 8) 0 id xs (given step old.trace t w) gives)) (sym is)
+      (kept_at log2 s t 0 (some (Some stripe)) (set s.views id (given step old.trace t w)) l old.words_sized (old.trace ++ event w.by step t ∷ []) law (home_back k.s s.homes t stripe own old.at_home))
 
   module _ (id : ℕ) (v : View V) where
     pub open_allowed : (j : ℕ) (others : List (ℕ × List (Entry V))) → v.others ≡ (j, []) ∷ others → Splits (Rule k callers) id v (opened v) (begun v)
@@ -155,7 +156,7 @@ module _ (hash : Name → ℕ) (set : Settings) where
           let slot = lies_there s.homes t c there in
           let stripe : StripeState V = slot.0 in
           let there2 : get_elem? (map lying s.homes) t ≡ some (Some stripe.content) = there ∙ ap (λ (x : Content V). some (Some x)) (sym slot.2) in
-          let trace : List LockEvent = r.trace ++ event m.0.by Took t ∷ [] in
+          let trace : List (LockEvent V) = r.trace ++ event m.0.by Took t ∷ [] in
           let w : View V = watching trace (record m.0 { held = (t, stripe.content) ∷ m.0.held; seen = log }) in
           let after : Configuration V = taken (world (2 ^ k.s) r.trace s) id m.0 t stripe.content log in
           let kept : IsKept k set.callers log (stepped s (t * 8) 1 id m.1 w (takes t (Some stripe))) =
@@ -163,7 +164,7 @@ module _ (hash : Name → ℕ) (set : Settings) where
           let steps : Steps hash set (Take t) m.0 w = steps_from (Take t) log s id m.0 w after r at (m.0, stripe.content, at, l, free, above, there2, number, refl) refl in
           (w, takes t (Some stripe), slot.1, (log, kept), ((λ _. (stripe, r.at_home t stripe slot.1, refl, inl (refl, refl), steps)), (λ ne. absurd (ne e))))
       take_by t l above number s log r at (suc zero) e h =
-          let trace : List LockEvent = r.trace ++ event m.0.by Missed t ∷ [] in
+          let trace : List (LockEvent V) = r.trace ++ event m.0.by Missed t ∷ [] in
           let w : View V = watching trace (record m.0 { found = t ∷ m.0.found }) in
           let held : get_or (spaced (2 ^ k.s) s.words) t 0 ≡ 1 = spaced-at (2 ^ k.s) t s.words l ∙ e in
           let own : ¬ (IsIn t (numbers m.0.held)) = λ i. let z = above t i in omega arith in
@@ -179,8 +180,8 @@ module _ (hash : Name → ℕ) (set : Settings) where
         pub give_allowed : (g : Option (Name × Reason)) → Holds m.0.held t stripe.content → (Lawful k m.0.held → IsExcused k set.min_load m.0.held g) → Allows (RuleOf hash set) slots id m (t * 8) (λ _. 0) (λ _. SeatGives hash set (Give t g) m)
         give_allowed g h excused s r _ at _ =
             let w : View V = giving m.0 t stripe.content m.0.held g in
-            let kept = gave k set.callers r.0 r.0 s id t stripe w m.1 out is l own r.1 (give_keeps k set.callers r.0 (world (2 ^ k.s) r.1.trace s) r.1.law id m.0 at t stripe.content g h) in
-            (given k set.callers r.1.trace t w, gives, tt, (r.0, kept), (refl, steps_from (Give t g) r.0 s id m.0 (given k set.callers r.1.trace t w) (sent_home (world (2 ^ k.s) r.1.trace s) id t stripe.content w) r.1 at (m.0, stripe.content, at, h, excused (lawful_now r.0 s id m.0 r.1 at), refl) refl))
+            let kept = gave k set.callers Gave r.0 r.0 s id t stripe w m.1 out is l own r.1 (give_keeps k set.callers r.0 (world (2 ^ k.s) r.1.trace s) r.1.law id m.0 at t stripe.content g h) in
+            (given k set.callers Gave r.1.trace t w, gives, tt, (r.0, kept), (refl, steps_from (Give t g) r.0 s id m.0 (given k set.callers Gave r.1.trace t w) (sent_home Gave (world (2 ^ k.s) r.1.trace s) id t stripe.content w) r.1 at (m.0, stripe.content, at, h, excused (lawful_now r.0 s id m.0 r.1 at), refl) refl))
 
         module _ (h : Holds (contents_in m.1) t stripe.content) where
           pub renew_allowed : (g : Option (Name × Reason)) → (Lawful k m.0.held → IdentitySection k m.0.held (contents_in m.1)) → (Lawful k m.0.held → Lawful k (contents_in m.1) → HasGrounds k set.min_load (contents_in m.1) g)
@@ -189,16 +190,16 @@ module _ (hash : Name → ℕ) (set : Settings) where
               let w : View V = renewing m.0 t stripe.content (contents_in m.1) g in
               let lawful = lawful_now r.0 s id m.0 r.1 at in
               let sec = section lawful in
-              let kept = gave k set.callers r.0 r.0 s id t stripe w m.1 out is l own r.1 (renew_keeps k set.callers r.0 (world (2 ^ k.s) r.1.trace s) r.1.law id m.0 at (contents_in m.1) t stripe.content h g sec) in
-              (given k set.callers r.1.trace t w, gives, tt, (r.0, kept), (refl, steps_from (Renew t (contents_in m.1) g) r.0 s id m.0 (given k set.callers r.1.trace t w) (sent_home (world (2 ^ k.s) r.1.trace s) id t stripe.content w) r.1 at (m.0, stripe.content, at, h, sec, grounds lawful sec.renewed.lawful, refl) refl))
+              let kept = gave k set.callers Gave r.0 r.0 s id t stripe w m.1 out is l own r.1 (renew_keeps k set.callers r.0 (world (2 ^ k.s) r.1.trace s) r.1.law id m.0 at (contents_in m.1) t stripe.content h g sec) in
+              (given k set.callers Gave r.1.trace t w, gives, tt, (r.0, kept), (refl, steps_from (Renew t (contents_in m.1) g) r.0 s id m.0 (given k set.callers Gave r.1.trace t w) (sent_home Gave (world (2 ^ k.s) r.1.trace s) id t stripe.content w) r.1 at (m.0, stripe.content, at, h, sec, grounds lawful sec.renewed.lawful, refl) refl))
 
           pub decide_allowed : (e : Entry V) → m.0.by ≡ Some e.by → (Lawful k m.0.held → Section k m.0.held e.call e.reply (contents_in m.1))
               → Allows (RuleOf hash set) slots id m (t * 8) (λ _. 0) (λ _. SeatGives hash set (Decide t (contents_in m.1) e) m)
           decide_allowed e by section s r _ at _ =
               let w : View V = deciding m.0 t (contents_in m.1) r.0 e in
               let sec = section (lawful_now r.0 s id m.0 r.1 at) in
-              let kept = gave k set.callers r.0 (r.0 ++ e ∷ []) s id t stripe w m.1 out is l own r.1 (decide_keeps k set.callers r.0 (world (2 ^ k.s) r.1.trace s) r.1.law id m.0 at (contents_in m.1) t stripe.content h e by sec) in
-              (given k set.callers r.1.trace t w, gives, tt, (r.0 ++ e ∷ [], kept), (refl, steps_from (Decide t (contents_in m.1) e) r.0 s id m.0 (given k set.callers r.1.trace t w) (sent_home (world (2 ^ k.s) r.1.trace s) id t stripe.content w) r.1 at (m.0, stripe.content, at, by, h, sec, refl) refl))
+              let kept = gave k set.callers (Decided e) r.0 (r.0 ++ e ∷ []) s id t stripe w m.1 out is l own r.1 (decide_keeps k set.callers r.0 (world (2 ^ k.s) r.1.trace s) r.1.law id m.0 at (contents_in m.1) t stripe.content h e by sec) in
+              (given k set.callers (Decided e) r.1.trace t w, gives, tt, (r.0 ++ e ∷ [], kept), (refl, steps_from (Decide t (contents_in m.1) e) r.0 s id m.0 (given k set.callers (Decided e) r.1.trace t w) (sent_home (Decided e) (world (2 ^ k.s) r.1.trace s) id t stripe.content w) r.1 at (m.0, stripe.content, at, by, h, sec, refl) refl))
 
       pub look_allowed : (t : ℕ) → t < 2 ^ k.s → Allows (RuleOf hash set) slots id m (t * 8) (λ x. x) (λ _. SeatLooks hash set t m)
       look_allowed t l s r _ at _ =

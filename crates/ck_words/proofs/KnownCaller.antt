@@ -73,6 +73,10 @@ known_watched v t = record {
           λ own. ∥∥₁_elim t (λ a b. absurd a) (λ h. ((h.legal before e more is).1 s).1 own),
         ),
         λ s. known_option holds (Some e.by) (∥∥₁_elim t squash₁ (λ h. ∣ (h.legal before e more is).2 s ∣₁)),
+        λ x s. (
+          known_option holds (Some e.by) (∥∥₁_elim t squash₁ (λ h. ∣ ((h.legal before e more is).3 x s).0 ∣₁)),
+          known_equal x.by e.by (∥∥₁_elim t squash₁ (λ h. ∣ ((h.legal before e more is).3 x s).1 ∣₁)),
+        ),
       );
   missed = λ m by. known_list (misses m v.watched) v.found (∥∥₁_elim t squash₁ (λ h. ∣ h.missed m by ∣₁));
 }

@@ -1,8 +1,10 @@
 -- What a meeting and a joined pass leave, from what their steps tell.
-use Rattle.std.proofs.Common.{◌≡◌, ℕ, List, [], ◌∷◌, sym, ap, refl, subst}
+use Rattle.std.proofs.Common.{◌≡◌, ℕ, List, [], ◌∷◌, append-nil, sym, ap, refl, subst}
 use Rattle.ck_model.specs.Promise.{Name}
 use Rattle.ck_model.specs.Contents.{layout_of}
+use Rattle.ck_core.specs.declared.trace.LockEvent.{LockEvent}
 use Rattle.ck_core.specs.declared.view.View.{View}
+use Rattle.ck_core.specs.Trace.{BeginsWith}
 use Rattle.ck_core.specs.Laws.{Shows}
 use Rattle.ck_core.specs.Steps.{longer, joining, message_of}
 use Rattle.ck_core.specs.Steps.Label.{Look}
@@ -14,11 +16,13 @@ use Rattle.ck_words.specs.Meeting.{Hears, told_by}
 use Rattle.ck_words.specs.Closing.{Gathers}
 use Rattle.ck_words.proofs.Rows.{shows_before, shows_after, look_row, look_told}
 
-pub longer_none : {A : Type 0} (xs : List A) → longer xs [] ≡ xs
-longer_none [] = refl
-longer_none (x ∷ xs) = refl
-
 module _ {V : Type 0} where
+  -- the longer of two begins with the first
+  longer_first : (xs ys : List (LockEvent V)) → BeginsWith (longer xs ys) xs
+  longer_first [] ys = (ys, refl)
+  longer_first (x ∷ xs) [] = ([], sym (append-nil (x ∷ xs)))
+  longer_first (x ∷ xs) (y ∷ ys) = let rest = longer_first xs ys in (rest.0, ap {B = List (LockEvent V)} (λ l. x ∷ l) rest.1)
+
   -- b heard what the view u had seen
   abbrev pub heard : PassState V → View V → PassState V
   heard b u = record b { view = joining b.view u }
@@ -43,7 +47,7 @@ module _ {V : Type 0} where
         let k : LooksUp hash w (heard b o.view) q = subst (λ x. LooksUp hash w x q) is l in
         let early = before hash w b q o.view k in
         subst (Gathers hash w.settings b o) (sym (is_looked hash w b q o.view k))
-        (record { by = refl; mine = refl; others = refl; held = refl; stripes = refl; seen = early.seen; heard = early.heard; shows = after hash w b q o.view k })
+        (record { by = refl; mine = refl; others = refl; held = refl; stripes = refl; seen = early.seen; heard = early.heard; watched = longer_first b.view.watched o.view.watched; heard_watched = early.heard_watched; shows = after hash w b q o.view k })
 
     pub hears : (b : PassState V) (table : TableId) (me : Hand V) → p ≡ heard b (message_of me.0) → LooksUp hash w p q → Hears (told_by table me) b q
     hears b table me is l =
@@ -55,12 +59,14 @@ module _ {V : Type 0} where
           heard = early.heard;
           told = look_told hash w.settings (joining b.view u) q.view 0 k.1.0 k.1.2;
           heard_told = k.1.1;
+          watched = longer_first b.view.watched me.0.watched;
+          heard_watched = early.heard_watched;
           by = refl;
           mine = refl;
           others = refl;
           doublings = refl;
           found = refl;
-          watched = longer_none b.view.watched;
+          grown_from = refl;
           no_slot = refl;
           held = refl;
           stripes = refl;

@@ -32,15 +32,16 @@ module _ {V : Type 0} (hash : Name → ℕ) (w : WordsState) (p q : PassState V)
     renewed_view = renew_row hash w.settings p.view q.view g.0.number now why g.2
 
     -- also where more went home since, as it was
-    stays_renewing : (r : View V) → r.doublings ≡ q.view.doublings → StaysBut (gaining [] now why) (record p.view { doublings = r.doublings }) q.view
-    stays_renewing r same = subst (λ (n : ℕ). StaysBut (gaining [] now why) (record p.view { doublings = n }) q.view) (sym same) (subst (λ (v : View V). StaysBut (gaining [] now why) (record p.view { doublings = v.doublings }) v) (sym renewed_view)
-        (record { settings = refl; by = refl; mine = refl; others = refl; heard = (refl, refl); no_slot = gaining-append p.view.no_slot now why; seen = ([], sym (append-nil p.view.seen)); by_others = λ m e. refl; alone = λ _. refl; watched = watched_more hash w.settings (Renew g.0.number now why) p.view q.view g.2 (event p.view.by Gave g.0.number); told = omega arith; doublings = refl }))
+    stays_renewing : (r : View V) → r.doublings ≡ q.view.doublings → r.grown_from ≡ q.view.grown_from → StaysBut (gaining [] now why) (record p.view { doublings = r.doublings; grown_from = r.grown_from }) q.view
+    stays_renewing r same as_noted = subst (λ (x : ℕ × List (Stripes V)). StaysBut (gaining [] now why) (record p.view { doublings = x.0; grown_from = x.1 }) q.view) (λ i. (sym same i, sym as_noted i))
+        (subst (λ (v : View V). StaysBut (gaining [] now why) (record p.view { doublings = v.doublings; grown_from = v.grown_from }) v) (sym renewed_view)
+        (record { settings = refl; by = refl; mine = refl; others = refl; heard = (refl, refl, refl); no_slot = gaining-append p.view.no_slot now why; seen = ([], sym (append-nil p.view.seen)); by_others = λ m e. refl; alone = λ _. refl; watched = watched_more hash w.settings (Renew g.0.number now why) p.view q.view g.2 (event p.view.by Gave g.0.number); told = omega arith; doublings = refl; grown_from = refl }))
 
   pub released_renewed : Sends hash w (λ t ks. Renew t ks None) p q → (r : PassState V) → HasReleased w q r → HasReleased w (as_doubled p r) r
   released_renewed g r rest = record {
     own = rest.own;
     idle = rest.idle;
-    stays = stays_on (as_doubled p r).view q.view r.view (stays_renewing None g r.view rest.stays.doublings) rest.stays;
+    stays = stays_on (as_doubled p r).view q.view r.view (stays_renewing None g r.view rest.stays.doublings rest.stays.grown_from) rest.stays;
     found = rest.found ∙ ap (λ (v : View V). v.found) (renewed_view None g);
     seen = rest.seen ∙ ap (λ (v : View V). v.seen) (renewed_view None g);
   }
@@ -51,7 +52,7 @@ module _ {V : Type 0} (hash : Name → ℕ) (w : WordsState) (p q : PassState V)
     own = rest.own;
     idle = rest.idle;
     stays = subst (λ (hs : Stripes V). StaysBut (noted name why hs ∷ []) (as_doubled p r).view r.view) (reverse-reverse (contents_of p.stripes))
-        (stays_then (noted name why (reverse now) ∷ []) [] (as_doubled p r).view q.view r.view (stays_renewing (Some (name, why)) g r.view rest.stays.doublings) rest.stays);
+        (stays_then (noted name why (reverse now) ∷ []) [] (as_doubled p r).view q.view r.view (stays_renewing (Some (name, why)) g r.view rest.stays.doublings rest.stays.grown_from) rest.stays);
     found = rest.found ∙ ap (λ (v : View V). v.found) (renewed_view (Some (name, why)) g);
     seen = rest.seen ∙ ap (λ (v : View V). v.seen) (renewed_view (Some (name, why)) g);
   }
@@ -63,7 +64,7 @@ module _ {V : Type 0} (hash : Name → ℕ) (w : WordsState) (p q : PassState V)
 
     stays_telling : StaysBut (noted name why (reverse p.view.held) ∷ []) p.view q.view
     stays_telling = subst (StaysBut (noted name why (reverse p.view.held) ∷ []) p.view) (sym given_view)
-        (record { settings = refl; by = refl; mine = refl; others = refl; heard = (refl, refl); no_slot = refl; seen = ([], sym (append-nil p.view.seen)); by_others = λ m e. refl; alone = λ _. refl; watched = watched_more hash w.settings (Give g.0.number (Some (name, why))) p.view q.view g.2 (event p.view.by Gave g.0.number); told = omega arith; doublings = refl })
+        (record { settings = refl; by = refl; mine = refl; others = refl; heard = (refl, refl, refl); no_slot = refl; seen = ([], sym (append-nil p.view.seen)); by_others = λ m e. refl; alone = λ _. refl; watched = watched_more hash w.settings (Give g.0.number (Some (name, why))) p.view q.view g.2 (event p.view.by Gave g.0.number); told = omega arith; doublings = refl; grown_from = refl })
 
     pub refused_giving : IsUnchanged p → (r : PassState V) → HasReleased w q r → HasRefused w name why p r
     refused_giving unchanged r rest = record {

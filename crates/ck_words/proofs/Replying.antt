@@ -15,7 +15,7 @@ use Rattle.ck_model.specs.Contents.{layout_of, Stripes, Lawful, bindings}
 use Rattle.ck_model.specs.Sections.{HasAll}
 use Rattle.ck_stripe.specs.Stripes.{contents_of}
 use Rattle.ck_core.specs.declared.view.View.{View}
-use Rattle.ck_core.specs.declared.trace.LockStep.TheVariants.{Gave}
+use Rattle.ck_core.specs.declared.trace.LockStep.TheVariants.{Decided}
 use Rattle.ck_core.specs.Steps.{deciding, event}
 use Rattle.ck_core.specs.Steps.Label.{Decide}
 use Rattle.ck_core.specs.State.{client_of}
@@ -30,7 +30,7 @@ use Rattle.ck_words.specs.Answering.{HasDone, IsAnswered, HasCommitted}
 use Rattle.ck_words.specs.Holding.{HasReleased}
 use Rattle.ck_words.proofs.Reversed.{lawful_reverse}
 use Rattle.ck_words.proofs.Telling.{doubled_decided}
-use Rattle.ck_words.proofs.Rows.{gave, watched_more, shows_before, shows_after, decide_row}
+use Rattle.ck_words.proofs.Rows.{gave_by, watched_more, shows_before, shows_after, decide_row}
 
 -- a number that is there is the one that is read
 pub read_there : (o : Option ℕ) → o ≢ None → o ≡ Some (unwrap_or o 0)
@@ -126,7 +126,7 @@ module _ {V : Type 0} where
     pub is_answered : (m : ℕ) → p.view.by ≡ Some m → p.view.settings ≡ set → (t : ℕ) (ks : Stripes V) (q1 q : PassState V) → Steps hash set (Decide t ks (entry_for call p)) p.view q1.view → Stays q1.view q.view → q.view.seen ≡ q1.view.seen
         → (r : Reply V) → HasDone hash set call r p → IsAnswered call r (as_doubled p q) q
     is_answered m by of_table t ks q1 q d s seen r done =
-        let row : q1.view ≡ gave d.before t (deciding p.view t ks d.log (entry_for call p)) = decide_row hash set p.view q1.view t ks (entry_for call p) d in
+        let row : q1.view ≡ gave_by (Decided (entry_for call p)) d.before t (deciding p.view t ks d.log (entry_for call p)) = decide_row hash set p.view q1.view t ks (entry_for call p) d in
         let before = shows_before hash set (Decide t ks (entry_for call p)) p.view q1.view d in
         let after = shows_after hash set (Decide t ks (entry_for call p)) p.view q1.view d in
         let l = lawful_reverse (layout_of hash set) p.view.held before.lawful in
@@ -153,18 +153,19 @@ module _ {V : Type 0} where
             by = s.by ∙ ap (λ (v : View V). v.by) row;
             mine = refl;
             others = s.others ∙ ap (λ (v : View V). v.others) row;
-            heard = (s.heard.0 ∙ ap (λ (v : View V). v.heard) row, s.heard.1 ∙ ap (λ (v : View V). v.heard_told) row);
+            heard = (s.heard.0 ∙ ap (λ (v : View V). v.heard) row, s.heard.1 ∙ ap (λ (v : View V). v.heard_told) row, s.heard.2 ∙ ap (λ (v : View V). v.heard_watched) row);
             no_slot = s.no_slot ∙ ap (λ (v : View V). v.no_slot) row;
             seen = ([], sym (append-nil q.view.seen));
             by_others = λ n e. refl;
             alone = λ _. refl;
             watched = (
-                let more = watched_more hash set (Decide t ks (entry_for call p)) p.view q1.view d (event p.view.by Gave t) in
+                let more = watched_more hash set (Decide t ks (entry_for call p)) p.view q1.view d (event p.view.by (Decided (entry_for call p)) t) in
                 let its : q1.view.watched ≡ p.view.watched ++ more.0 = ap (λ (v : View V). v.watched) row ∙ more.1 in
                 (more.0 ++ s.watched.0, s.watched.1 ∙ (ap (λ l. l ++ s.watched.0) its ∙ append_assoc p.view.watched more.0 s.watched.0))
                 );
             told = (let a : q1.view.told ≡ p.view.told = ap (λ (v : View V). v.told) row in let b = s.told in omega arith);
             doublings = refl;
+            grown_from = refl;
           };
         }
 
@@ -181,7 +182,7 @@ module _ {V : Type 0} where
           by = r.stays.by ∙ ap (λ (v : View V). v.by) row;
           others = r.stays.others ∙ ap (λ (v : View V). v.others) row;
           found = r.found ∙ ap (λ (v : View V). v.found) row;
-          doubled = doubled_decided hash w (entry_for call p) p q1 q d r.stays.doublings;
+          doubled = doubled_decided hash w (entry_for call p) p q1 q d r.stays.doublings r.stays.grown_from;
         }
 
 -- the call of what was said of a commit

@@ -13,7 +13,8 @@ use Rattle.ck_model.specs.Contents.{layout_of, Stripes}
 use Rattle.ck_model.proofs.Numbered.{in_held}
 use Rattle.ck_core.specs.declared.view.View.{View}
 use Rattle.ck_core.specs.State.{Configuration, HasNumber, HistoryInvariant}
-use Rattle.ck_core.specs.declared.trace.LockStep.TheVariants.{Took, Missed, Gave}
+use Rattle.ck_core.specs.declared.trace.LockStep.{LockStep}
+use Rattle.ck_core.specs.declared.trace.LockStep.TheVariants.{Took, Missed, Gave, Decided}
 use Rattle.ck_core.specs.declared.trace.LockEvent.{LockEvent}
 use Rattle.ck_core.specs.Steps.{Label, IsAbove, traced, watching, giving, renewing, deciding, grown}
 use Rattle.ck_core.specs.Steps.Label.{Take, FindHeld, Give, Decide, GiveRest, Renew, Look}
@@ -25,8 +26,12 @@ use Rattle.ck_core.proofs.Shown.{shows}
 use Rattle.ck_words.specs.Steps.{Steps}
 
 -- the view w, once the stripe t went home by it
+abbrev pub gave_by : {V : Type 0} → LockStep V → Configuration V → ℕ → View V → View V
+gave_by step s t w = watching (traced s w step t) w
+
+-- and decided nothing
 abbrev pub gave : {V : Type 0} → Configuration V → ℕ → View V → View V
-gave s t w = watching (traced s w Gave t) w
+gave = gave_by Gave
 
 module _ {V : Type 0} (hash : Name → ℕ) (set : Settings) where
   module _ (m : Label V) (v w : View V) (r : Steps hash set m v w) where
@@ -37,7 +42,7 @@ module _ {V : Type 0} (hash : Name → ℕ) (set : Settings) where
     shows_after = shows (layout_of hash set) set.callers (grown r.log m) r.after (step_keeps (layout_of hash set) set.min_load set.callers r.log r.id m r.before r.after r.law r.does) r.id w r.is
 
     -- what was watched begins the trace, which is watched with a step more
-    pub watched_more : (e : LockEvent) → (events : List LockEvent) × (r.before.trace ++ e ∷ [] ≡ v.watched ++ events)
+    pub watched_more : (e : LockEvent V) → (events : List (LockEvent V)) × (r.before.trace ++ e ∷ [] ≡ v.watched ++ events)
     watched_more e = let h = r.law.traced.watched r.id v r.was in (h.unseen ++ e ∷ [], ap (λ l. l ++ e ∷ []) h.begins ∙ append_assoc v.watched h.unseen (e ∷ []))
 
     -- there is one view of the caller before the step
@@ -82,8 +87,8 @@ module _ {V : Type 0} (hash : Name → ℕ) (set : Settings) where
     pub rest_row : (t : ℕ) (r : Steps hash set (GiveRest t) v w) → w ≡ gave r.before t (giving v t r.does.1 v.held None)
     rest_row t r = new_view (GiveRest t) v w r (λ u. gave r.before t (giving u t r.does.1 u.held None)) r.does.0 r.does.2 (ap (λ (x : Configuration V). x.views) r.does.4)
 
-    pub decide_row : (t : ℕ) (ks : Stripes V) (e : Entry V) (r : Steps hash set (Decide t ks e) v w) → w ≡ gave r.before t (deciding v t ks r.log e)
-    decide_row t ks e r = new_view (Decide t ks e) v w r (λ u. gave r.before t (deciding u t ks r.log e)) r.does.0 r.does.2 (ap (λ (x : Configuration V). x.views) r.does.6)
+    pub decide_row : (t : ℕ) (ks : Stripes V) (e : Entry V) (r : Steps hash set (Decide t ks e) v w) → w ≡ gave_by (Decided e) r.before t (deciding v t ks r.log e)
+    decide_row t ks e r = new_view (Decide t ks e) v w r (λ u. gave_by (Decided e) r.before t (deciding u t ks r.log e)) r.does.0 r.does.2 (ap (λ (x : Configuration V). x.views) r.does.6)
 
     pub renew_row : (t : ℕ) (ks : Stripes V) (g : Option (Name × Reason)) (r : Steps hash set (Renew t ks g) v w) → w ≡ gave r.before t (renewing v t r.does.1 ks g)
     renew_row t ks g r = new_view (Renew t ks g) v w r (λ u. gave r.before t (renewing u t r.does.1 ks g)) r.does.0 r.does.2 (ap (λ (x : Configuration V). x.views) r.does.6)

@@ -32,16 +32,17 @@ found_both : (m n t : ℕ) (l : List ℕ) → replicate m t ++ (replicate n t ++
 found_both zero n t l = ap (λ k. replicate k t ++ l) (let e : n ≡ 0 + n = omega arith in e)
 found_both (suc m) n t l = ap (λ x. t ∷ x) (found_both m n t l) ∙ ap (λ k. replicate k t ++ l) (let e : suc (m + n) ≡ suc m + n = omega arith in e)
 
+-- a beginning of a beginning, of histories and of traces
+pub starts_on : {A : Type 0} (a b c : List A) → (more : List A) × (b ≡ a ++ more) → (more : List A) × (c ≡ b ++ more) → (more : List A) × (c ≡ a ++ more)
+starts_on a b c f g = (f.0 ++ g.0, g.1 ∙ (ap (λ l. l ++ g.0) f.1 ∙ append_assoc a f.0 g.0))
+
 module _ {V : Type 0} where
   -- the stripe was found held n times, and then m times
-  pub again_later : (m n t : ℕ) (first later : List LockEvent) (p : PassState V) → found_again m t later (found_again n t first p) ≡ found_again (m + n) t (first ++ later) p
+  pub again_later : (m n t : ℕ) (first later : List (LockEvent V)) (p : PassState V) → found_again m t later (found_again n t first p) ≡ found_again (m + n) t (first ++ later) p
   again_later m n t first later p = λ i. record p { view = record p.view { found = found_both m n t p.view.found i; watched = append_assoc p.view.watched first later i } }
 
-  pub starts_on : (a b c : List (Entry V)) → StartsWith b a → StartsWith c b → StartsWith c a
-  starts_on a b c f g = (f.0 ++ g.0, g.1 ∙ (ap (λ l. l ++ g.0) f.1 ∙ append_assoc a f.0 g.0))
-
   pub stays_same : (v : View V) → Stays v v
-  stays_same v = record { settings = refl; by = refl; mine = refl; others = refl; heard = (refl, refl); no_slot = refl; seen = ([], sym (append-nil v.seen)); by_others = λ m e. refl; alone = λ _. refl; watched = ([], sym (append-nil v.watched)); told = omega arith; doublings = refl }
+  stays_same v = record { settings = refl; by = refl; mine = refl; others = refl; heard = (refl, refl, refl); no_slot = refl; seen = ([], sym (append-nil v.seen)); by_others = λ m e. refl; alone = λ _. refl; watched = ([], sym (append-nil v.watched)); told = omega arith; doublings = refl; grown_from = refl }
 
   pub stays_then : (xs ys : List (NoSlot V)) (u v w : View V) → StaysBut xs u v → StaysBut ys v w → StaysBut (ys ++ xs) u w
   unfolding starts_on
@@ -50,7 +51,7 @@ module _ {V : Type 0} where
     by = g.by ∙ f.by;
     mine = g.mine ∙ f.mine;
     others = g.others ∙ f.others;
-    heard = (g.heard.0 ∙ f.heard.0, g.heard.1 ∙ f.heard.1);
+    heard = (g.heard.0 ∙ f.heard.0, g.heard.1 ∙ f.heard.1, g.heard.2 ∙ f.heard.2);
     no_slot = g.no_slot ∙ (ap (λ l. ys ++ l) f.no_slot ∙ sym (append_assoc ys xs u.no_slot));
     seen = starts_on u.seen v.seen w.seen f.seen g.seen;
     by_others = λ m e. subhistory-append m f.seen.0 g.seen.0 ∙ λ j. f.by_others m e j ++ g.by_others m (f.by ∙ e) j;
@@ -58,6 +59,7 @@ module _ {V : Type 0} where
     watched = (f.watched.0 ++ g.watched.0, g.watched.1 ∙ (ap (λ l. l ++ g.watched.0) f.watched.1 ∙ append_assoc u.watched f.watched.0 g.watched.0));
     told = (let a = f.told in let b = g.told in omega arith);
     doublings = g.doublings ∙ f.doublings;
+    grown_from = g.grown_from ∙ f.grown_from;
   }
 
   pub stays_on : (u v w : View V) → Stays u v → Stays v w → Stays u w
@@ -70,7 +72,7 @@ module _ {V : Type 0} where
 
     pub stays_giving : (u : View V) → Stays u p.view → Stays u q.view
     stays_giving u s = stays_on u p.view q.view s
-        (subst (Stays p.view) (sym rest_view) (record { settings = refl; by = refl; mine = refl; others = refl; heard = (refl, refl); no_slot = refl; seen = ([], sym (append-nil p.view.seen)); by_others = λ m e. refl; alone = λ _. refl; watched = watched_more hash w.settings (GiveRest g.0.number) p.view q.view g.2 (event p.view.by Gave g.0.number); told = omega arith; doublings = refl }))
+        (subst (Stays p.view) (sym rest_view) (record { settings = refl; by = refl; mine = refl; others = refl; heard = (refl, refl, refl); no_slot = refl; seen = ([], sym (append-nil p.view.seen)); by_others = λ m e. refl; alone = λ _. refl; watched = watched_more hash w.settings (GiveRest g.0.number) p.view q.view g.2 (event p.view.by Gave g.0.number); told = omega arith; doublings = refl; grown_from = refl }))
 
     pub found_giving : q.view.found ≡ p.view.found
     found_giving = ap (λ (v : View V). v.found) rest_view
@@ -84,7 +86,7 @@ module _ {V : Type 0} where
       let shows = shows_before hash set (Take t) p.view q.view k.3 in
       let number = take_number hash set p.view q.view t k.3 in
       subst (Stays p.view) (sym (take_row hash set p.view q.view t k.3))
-      (record { settings = refl; by = refl; mine = refl; others = refl; heard = (refl, refl); no_slot = refl; seen = shows.seen; by_others = λ m e. shows.unseen m e shows.seen.0 shows.seen.1; alone = λ one. sym (shows.alone number.0 number.1 (ap (λ (x : Settings). x.callers) (sym same) ∙ one)); watched = watched_more hash set (Take t) p.view q.view k.3 (event p.view.by Took t); told = omega arith; doublings = refl })
+      (record { settings = refl; by = refl; mine = refl; others = refl; heard = (refl, refl, refl); no_slot = refl; seen = shows.seen; by_others = λ m e. shows.unseen m e shows.seen.0 shows.seen.1; alone = λ one. sym (shows.alone number.0 number.1 (ap (λ (x : Settings). x.callers) (sym same) ∙ one)); watched = watched_more hash set (Take t) p.view q.view k.3 (event p.view.by Took t); told = omega arith; doublings = refl; grown_from = refl })
 
   pub not_found : (t : ℕ) (p : PassState V) → p ≡ found_again 0 t [] p
   not_found t p = sym (λ i. record p { view = record p.view { watched = append-nil p.view.watched i } })
@@ -100,8 +102,8 @@ module _ {V : Type 0} where
       let once : r ≡ found_again 1 t more.0 q = λ i. record { table = (own2.0 ∙ sym own.0) i; view = row i; stripes = k.0 i } in
       (again.0 ++ more.0, once ∙ (ap (found_again 1 t more.0) again.1 ∙ (again_later 1 n t again.0 more.0 p ∙ ap (λ m. found_again m t (again.0 ++ more.0) p) (let e : 1 + n ≡ n + 1 = omega arith in e))))
 
-  pub stays_finding : (n t : ℕ) (events : List LockEvent) (p : PassState V) → Stays p.view (found_again n t events p).view
-  stays_finding n t events p = record { settings = refl; by = refl; mine = refl; others = refl; heard = (refl, refl); no_slot = refl; seen = ([], sym (append-nil p.view.seen)); by_others = λ m e. refl; alone = λ _. refl; watched = (events, refl); told = omega arith; doublings = refl }
+  pub stays_finding : (n t : ℕ) (events : List (LockEvent V)) (p : PassState V) → Stays p.view (found_again n t events p).view
+  stays_finding n t events p = record { settings = refl; by = refl; mine = refl; others = refl; heard = (refl, refl, refl); no_slot = refl; seen = ([], sym (append-nil p.view.seen)); by_others = λ m e. refl; alone = λ _. refl; watched = (events, refl); told = omega arith; doublings = refl; grown_from = refl }
 
   module _ (hash : Name → ℕ) (set : Settings) (turns t : ℕ) (p q : PassState V) (k : TakesWithin hash set turns t p q) where
     abbrev tried : PassState V

@@ -12,6 +12,7 @@ use Rattle.ck_model.specs.Contents.{Layout, layout_of, Stripes, Lawful, power_of
 use Rattle.ck_model.proofs.Numbered.{held_first, in_held}
 use Rattle.ck_stripe.specs.Stripe.{StripeState}
 use Rattle.ck_model.specs.declared.history.Entry.{Entry}
+use Rattle.ck_core.specs.Steps.{growing}
 use Rattle.ck_core.specs.Steps.Label.{GiveRest, Renew, Decide}
 use Rattle.ck_stripe.specs.Stripes.{stripe_at, contents_of}
 use Rattle.ck_stripe.specs.Tables.{power_in}
@@ -122,23 +123,26 @@ module _ {V : Type 0} where
 
   -- What p holds went home from q on, as now, by which the caller's doublings were counted. It is r then.
   counted_home : (p q r : PassState V) (now : Stripes V) → now ≡ contents_of p.stripes → (t : ℕ) (c : Content V) → Holds (reverse now) t c → numbers (reverse now) ≡ numbers p.view.held
-      → q.view.doublings ≡ p.view.doublings + (power_of (reverse now) - power_of p.view.held) → r.view.doublings ≡ q.view.doublings → IsDoubledBy p r
-  counted_home p q r now is t c home same counted rest a b before after =
+      → q.view.doublings ≡ p.view.doublings + (power_of (reverse now) - power_of p.view.held) → q.view.grown_from ≡ growing p.view.grown_from p.view.held (power_of (reverse now) - power_of p.view.held)
+      → r.view.doublings ≡ q.view.doublings → r.view.grown_from ≡ q.view.grown_from → IsDoubledBy p r
+  counted_home p q r now is t c home same counted noted rest as_noted a b before after =
       let goes_home : IsIn t (numbers (reverse now)) = in_held (reverse now) t c home in
       let old : power_of p.view.held ≡ a = power_is p.view.held a t (subst (IsIn t) same goes_home) before in
       let new : power_of (reverse now) ≡ b = power_is (reverse now) b t goes_home (λ u d h. after u d (subst (λ (hs : Stripes V). Holds hs u d) is (of_reverse now u d h))) in
-      rest ∙ (counted ∙ λ i. p.view.doublings + (new i - old i))
+      (rest ∙ (counted ∙ λ i. p.view.doublings + (new i - old i)), as_noted ∙ (noted ∙ λ i. growing p.view.grown_from p.view.held (new i - old i)))
 
   -- the caller's doublings were counted, where they went home by no call
-  pub doubled_renewed : (hash : Name → ℕ) (w : WordsState) (why : Option (Name × Reason)) (p q r : PassState V) → Sends hash w (λ t ks. Renew t ks why) p q → r.view.doublings ≡ q.view.doublings → IsDoubledBy p r
-  doubled_renewed hash w why p q r g rest =
+  pub doubled_renewed : (hash : Name → ℕ) (w : WordsState) (why : Option (Name × Reason)) (p q r : PassState V) → Sends hash w (λ t ks. Renew t ks why) p q → r.view.doublings ≡ q.view.doublings → r.view.grown_from ≡ q.view.grown_from → IsDoubledBy p r
+  doubled_renewed hash w why p q r g rest as_noted =
       let now : Stripes V = contents_of p.stripes in
       let held : numbers g.2.does.0.held ≡ numbers p.view.held = ap (λ (v : View V). numbers v.held) (same_view hash w.settings (Renew g.0.number (reverse now) why) p.view q.view g.2 g.2.does.0 g.2.does.2) in
-      counted_home p q r now refl g.0.number g.2.does.1 g.2.does.3 (g.2.does.4.renewed.same ∙ held) (ap (λ (v : View V). v.doublings) (renew_row hash w.settings p.view q.view g.0.number (reverse now) why g.2)) rest
+      let row = renew_row hash w.settings p.view q.view g.0.number (reverse now) why g.2 in
+      counted_home p q r now refl g.0.number g.2.does.1 g.2.does.3 (g.2.does.4.renewed.same ∙ held) (ap (λ (v : View V). v.doublings) row) (ap (λ (v : View V). v.grown_from) row) rest as_noted
 
   -- and where they did by one
-  pub doubled_decided : (hash : Name → ℕ) (w : WordsState) (e : Entry V) (p q r : PassState V) → Sends hash w (λ t ks. Decide t ks e) p q → r.view.doublings ≡ q.view.doublings → IsDoubledBy p r
-  doubled_decided hash w e p q r g rest =
+  pub doubled_decided : (hash : Name → ℕ) (w : WordsState) (e : Entry V) (p q r : PassState V) → Sends hash w (λ t ks. Decide t ks e) p q → r.view.doublings ≡ q.view.doublings → r.view.grown_from ≡ q.view.grown_from → IsDoubledBy p r
+  doubled_decided hash w e p q r g rest as_noted =
       let now : Stripes V = contents_of p.stripes in
       let held : numbers g.2.does.0.held ≡ numbers p.view.held = ap (λ (v : View V). numbers v.held) (same_view hash w.settings (Decide g.0.number (reverse now) e) p.view q.view g.2 g.2.does.0 g.2.does.2) in
-      counted_home p q r now refl g.0.number g.2.does.1 g.2.does.4 (g.2.does.5.renewed.same ∙ held) (ap (λ (v : View V). v.doublings) (decide_row hash w.settings p.view q.view g.0.number (reverse now) e g.2)) rest
+      let row = decide_row hash w.settings p.view q.view g.0.number (reverse now) e g.2 in
+      counted_home p q r now refl g.0.number g.2.does.1 g.2.does.4 (g.2.does.5.renewed.same ∙ held) (ap (λ (v : View V). v.doublings) row) (ap (λ (v : View V). v.grown_from) row) rest as_noted

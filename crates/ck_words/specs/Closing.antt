@@ -9,6 +9,8 @@ use Rattle.ck_model.specs.Promise.{Name, Map, After, StartsWith, IsInterleaving}
 use Rattle.ck_model.specs.Numbered.{IsIn, numbers}
 use Rattle.ck_model.specs.Contents.{layout_of, Stripes, Lawful, bindings, power_of}
 use Rattle.ck_model.specs.Sections.{HasAll}
+use Rattle.ck_core.specs.declared.trace.LockEvent.{LockEvent}
+use Rattle.ck_core.specs.Trace.{BeginsWith, IsLegalTrace, decided_in}
 use Rattle.ck_core.specs.State.{owned}
 use Rattle.ck_core.specs.Steps.{newcomer}
 use Rattle.ck_model.specs.Counting.{counting}
@@ -55,6 +57,10 @@ module _ {V : Type 0} where
   abbrev pub EachSaw : List (Entry V) → List (PassState V) → Type 0
   EachSaw log ps = All (λ (p : PassState V). StartsWith log p.view.seen) ps
 
+  -- the trace begins with what each has watched
+  abbrev pub EachWatched : List (LockEvent V) → List (PassState V) → Type 0
+  EachWatched trace ps = All (λ (p : PassState V). BeginsWith trace p.view.watched) ps
+
   -- q is p with the numbers of o and their entries, after it saw the history.
   pub record Gathers (hash : Name → ℕ) (set : Settings) (p o q : PassState V) : Type 0 where
     pub by : q.view.by ≡ p.view.by
@@ -64,6 +70,8 @@ module _ {V : Type 0} where
     pub stripes : q.stripes ≡ p.stripes
     pub seen : StartsWith q.view.seen p.view.seen
     pub heard : StartsWith q.view.seen o.view.seen
+    pub watched : BeginsWith q.view.watched p.view.watched
+    pub heard_watched : BeginsWith q.view.watched o.view.watched
     pub shows : ShowsSeen hash set q
 
   -- the numbers of the passes os before these, those of the last first
@@ -81,6 +89,8 @@ module _ {V : Type 0} where
     pub stripes : q.stripes ≡ p.stripes
     pub seen : StartsWith q.view.seen p.view.seen
     pub saw : EachSaw q.view.seen os
+    pub watched : BeginsWith q.view.watched p.view.watched
+    pub each_watched : EachWatched q.view.watched os
     pub shows : ShowsSeen hash w.settings q
 
   -- What all stripes of a table with these settings may contain: a lawful whole, of a power that the table may have.
@@ -89,12 +99,16 @@ module _ {V : Type 0} where
     pub all : HasAll (layout_of hash set) hs
     pub power : set.power ≤ power_of hs
 
-  -- A history of the passes' entries, of each in its order. It begins with what each has seen, and leaves this map, which is that of all stripes of a table with these settings.
+  -- A history of the passes' entries, of each in its order, and a legal trace, in which just these were decided in this order. They begin with what each has seen and watched. The history leaves this map, which is that of all stripes of a table with these settings.
   pub record Closes (hash : Name → ℕ) (set : Settings) (ps : List (PassState V)) (m : Map V) : Type 0 where
     pub log : List (Entry V)
     pub contents : Stripes V
     pub interleaving : IsInterleaving log (parts_of ps)
     pub saw : EachSaw log ps
+    pub trace : List (LockEvent V)
+    pub legal : IsLegalTrace trace
+    pub decided : decided_in trace ≡ log
+    pub watched : EachWatched trace ps
     pub after : After log m
     pub of_table : AreContentsOf hash set contents
     pub binds : bindings contents ≡ m

@@ -6,6 +6,7 @@ use Rattle.ck_model.specs.declared.contents.Content.{Content}
 use Rattle.ck_stripe.specs.Stripe.{StripeState}
 use Rattle.ck_stripe.specs.Stripes.{contents_of, HaveNoSpare}
 use Rattle.ck_stripe.specs.Tables.{power_in}
+use Rattle.ck_core.specs.Steps.{growing}
 use Rattle.ck_words.specs.Words.{WordsState}
 use Rattle.ck_words.specs.Passes.{PassState, EachOf, IsPassOf, IsIdle, IsUnchanged, ShowsSeen, numbers_of}
 use Rattle.ck_words.specs.declared.stripe_set.StripeSet.{StripeSet}
@@ -86,6 +87,6 @@ module _ {V : Type 0} where
   abbrev pub IsToldPower : PassState V → PassState V → Type 0
   IsToldPower p q = q.view.told ≡ max p.view.told (power_in p.stripes)
 
-  -- From p to q all stripes went home, and the caller has made as many doublings more as their power rose by since they were taken.
+  -- From p to q all stripes went home, and the caller has made as many doublings more as their power rose by since they were taken, and noted what they contained then if it rose.
   abbrev pub IsDoubledBy : PassState V → PassState V → Type 0
-  IsDoubledBy p q = (a b : ℕ) → ((t : ℕ) (c : Content V) → Holds p.view.held t c → c.power ≡ a) → AreOfPower b p.stripes → q.view.doublings ≡ p.view.doublings + (b - a)
+  IsDoubledBy p q = (a b : ℕ) → ((t : ℕ) (c : Content V) → Holds p.view.held t c → c.power ≡ a) → AreOfPower b p.stripes → (q.view.doublings ≡ p.view.doublings + (b - a)) × (q.view.grown_from ≡ growing p.view.grown_from p.view.held (b - a))

@@ -3,20 +3,23 @@ use Rattle.std.specs.Prelude.{◌≡◌, ℕ, ◌≤◌, List, []}
 use Rattle.atomic_table.specs.Seated.{TableId}
 use Rattle.ck_model.specs.declared.history.Entry.{Entry}
 use Rattle.ck_model.specs.Promise.{StartsWith}
+use Rattle.ck_core.specs.declared.trace.LockEvent.{LockEvent}
+use Rattle.ck_core.specs.Trace.{BeginsWith}
 use Rattle.ck_core.specs.Steps.{message_of}
 use Rattle.ck_words.specs.Rule.{Hand}
 use Rattle.ck_words.specs.Passes.{PassState}
 
--- Of which table it is, and what its caller had seen and was told.
+-- Of which table it is, and what its caller had seen, was told and had watched.
 pub record MessageState (V : Type 0) : Type 0 where
   pub table : TableId
   pub seen : List (Entry V)
   pub told : ℕ
+  pub watched : List (LockEvent V)
 
 module _ {V : Type 0} where
   -- what a seat that holds no slot tells of its view
   abbrev pub told_by : TableId → Hand V → MessageState V
-  told_by table me = record { table = table; seen = me.0.seen; told = me.0.told }
+  told_by table me = record { table = table; seen = me.0.seen; told = me.0.told; watched = me.0.watched }
 
   -- the seat of a message
   abbrev pub IsMessage : Hand V → Type 0
@@ -24,7 +27,7 @@ module _ {V : Type 0} where
 
   -- what a pass tells
   abbrev pub message_from : PassState V → MessageState V
-  message_from a = record { table = a.table; seen = a.view.seen; told = a.view.told }
+  message_from a = record { table = a.table; seen = a.view.seen; told = a.view.told; watched = a.view.watched }
 
   -- b has heard the message
   pub record Hears (message : MessageState V) (b new : PassState V) : Type 0 where
@@ -32,12 +35,15 @@ module _ {V : Type 0} where
     pub heard : StartsWith new.view.seen message.seen
     pub told : b.view.told ≤ new.view.told
     pub heard_told : message.told ≤ new.view.told
+    -- both have watched beginnings of one trace
+    pub watched : BeginsWith new.view.watched b.view.watched
+    pub heard_watched : BeginsWith new.view.watched message.watched
     pub by : new.view.by ≡ b.view.by
     pub mine : new.view.mine ≡ b.view.mine
     pub others : new.view.others ≡ b.view.others
     pub doublings : new.view.doublings ≡ b.view.doublings
     pub found : new.view.found ≡ b.view.found
-    pub watched : new.view.watched ≡ b.view.watched
+    pub grown_from : new.view.grown_from ≡ b.view.grown_from
     pub no_slot : new.view.no_slot ≡ b.view.no_slot
     pub held : new.view.held ≡ b.view.held
     pub stripes : new.stripes ≡ b.stripes

@@ -11,16 +11,16 @@ use Rattle.ck_words.specs.Passes.{PassState, TakesStripe, IsIdle}
 
 module _ {V : Type 0} where
   -- the pass after it found the stripe t held n times more, by which it watched these steps more
-  abbrev pub found_again : ℕ → ℕ → List LockEvent → PassState V → PassState V
+  abbrev pub found_again : ℕ → ℕ → List (LockEvent V) → PassState V → PassState V
   found_again n t events p = record p { view = record p.view { found = replicate n t ++ p.view.found; watched = p.view.watched ++ events } }
 
   -- q is p after that
   abbrev pub FindsAgain : ℕ → ℕ → PassState V → PassState V → Type 0
-  FindsAgain n t p q = (events : List LockEvent) × (q ≡ found_again n t events p)
+  FindsAgain n t p q = (events : List (LockEvent V)) × (q ≡ found_again n t events p)
 
   -- the stripe t was taken within so many tries, after the others found it held
   abbrev pub TakesWithin : (Name → ℕ) → Settings → ℕ → ℕ → PassState V → PassState V → Type 0
-  TakesWithin hash set turns t p q = (n : ℕ) × (n < turns) × (events : List LockEvent) × TakesStripe hash set t (found_again n t events p) q
+  TakesWithin hash set turns t p q = (n : ℕ) × (n < turns) × (events : List (LockEvent V)) × TakesStripe hash set t (found_again n t events p) q
 
   -- What no step changes but one that decides, doubles or meets: the caller's entries, its doublings and what it heard, and it has seen and was told no less. What it sees more is by others, so that the only caller sees nothing more.
   -- It has noted more that names found no room.
@@ -29,14 +29,15 @@ module _ {V : Type 0} where
     pub by : w.by ≡ v.by
     pub mine : w.mine ≡ v.mine
     pub others : w.others ≡ v.others
-    pub heard : (w.heard ≡ v.heard) × (w.heard_told ≡ v.heard_told)
+    pub heard : (w.heard ≡ v.heard) × (w.heard_told ≡ v.heard_told) × (w.heard_watched ≡ v.heard_watched)
     pub no_slot : w.no_slot ≡ more ++ v.no_slot
     pub seen : StartsWith w.seen v.seen
     pub by_others : (m : ℕ) → v.by ≡ Some m → subhistory m seen.0 ≡ []
     pub alone : v.settings.callers ≡ 1 → w.seen ≡ v.seen
-    pub watched : (events : List LockEvent) × (w.watched ≡ v.watched ++ events)
+    pub watched : (events : List (LockEvent V)) × (w.watched ≡ v.watched ++ events)
     pub told : v.told ≤ w.told
     pub doublings : w.doublings ≡ v.doublings
+    pub grown_from : w.grown_from ≡ v.grown_from
 
   -- and it has said so of none more
   abbrev pub Stays : View V → View V → Type 0
@@ -44,7 +45,7 @@ module _ {V : Type 0} where
 
   -- the pass p, as if its caller had made as many doublings as that of q
   abbrev pub as_doubled : PassState V → PassState V → PassState V
-  as_doubled p q = record p { view = record p.view { doublings = q.view.doublings } }
+  as_doubled p q = record p { view = record p.view { doublings = q.view.doublings; grown_from = q.view.grown_from } }
 
   -- Of all stripes, the pass found such ones held.
   abbrev pub FindsAmong : (ℕ → Type 0) → PassState V → PassState V → Type 0

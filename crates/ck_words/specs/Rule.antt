@@ -40,7 +40,7 @@ module _ {V : Type 0} where
   lying (some None) = None
   lying (some (Some stripe)) = Some stripe.content
 
-  abbrev pub world : ℕ → List LockEvent → State (StripeSlot V) (View V) → Configuration V
+  abbrev pub world : ℕ → List (LockEvent V) → State (StripeSlot V) (View V) → Configuration V
   world n trace s = record { words = spaced n s.words; homes = map lying s.homes; views = s.views; trace = trace }
 
   -- stripe t of 2^s as it lies in its slot: with memory for its rows, and for none besides
@@ -49,7 +49,7 @@ module _ {V : Type 0} where
 
   -- The invariant of the core with this history and some trace; eight words for each stripe; and each slot has the stripe of its number, with no memory to spare.
   pub record IsKept (k : Layout) (callers : ℕ) (log : List (Entry V)) (s : State (StripeSlot V) (View V)) : Type 0 where
-    pub trace : List LockEvent
+    pub trace : List (LockEvent V)
     pub law : HistoryInvariant k callers log (world (2 ^ k.s) trace s)
     pub words_sized : length s.words ≡ 2 ^ k.s * 8
     pub at_home : (t : ℕ) (stripe : StripeState V) → get_elem? s.homes t ≡ some (some (Some stripe)) → IsAtHome k.s t stripe
