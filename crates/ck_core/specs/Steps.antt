@@ -16,7 +16,7 @@ use Rattle.ck_model.specs.Paths.{HasNoRoom, Grounds}
 use Rattle.ck_core.specs.declared.trace.LockStep.{LockStep}
 use Rattle.ck_core.specs.declared.trace.LockStep.TheVariants.{Took, Missed, Gave, Decided}
 use Rattle.ck_core.specs.declared.trace.LockEvent.{LockEvent}
-use Rattle.ck_core.specs.declared.view.NoSlot.{NoSlot}
+use Rattle.ck_core.specs.declared.view.RoomNote.{RoomNote}
 use Rattle.ck_core.specs.declared.view.View.{View}
 use Rattle.ck_core.specs.Trace.{misses}
 use Rattle.ck_core.specs.State.{Configuration, HasNumber, IsPart, owned}
@@ -69,18 +69,18 @@ longer (x ∷ xs) (y ∷ ys) = x ∷ longer xs ys
 
 module _ {V : Type 0} where
   -- the name found no room in stripes that contained this
-  abbrev pub noted : Name → Reason → Stripes V → NoSlot V
+  abbrev pub noted : Name → Reason → Stripes V → RoomNote V
   noted q why hs = record { name = q; reason = why; held = hs }
 
   -- the same of held stripes, of which the last taken stands first, where a name found none
-  abbrev pub gaining : List (NoSlot V) → Stripes V → Option (Name × Reason) → List (NoSlot V)
+  abbrev pub gaining : List (RoomNote V) → Stripes V → Option (Name × Reason) → List (RoomNote V)
   gaining l hs None = l
   gaining l hs (Some (q, why)) = noted q why (reverse hs) ∷ l
 
-  -- what is noted of held stripes that doubled so many times
+  -- what is noted of stripes that contained hs and doubled so many times
   abbrev pub growing : List (Stripes V) → Stripes V → ℕ → List (Stripes V)
   growing l hs zero = l
-  growing l hs (suc n) = reverse hs ∷ l
+  growing l hs (suc n) = hs ∷ l
 
   -- the trace after the caller of a view made this step on the word of stripe t
   abbrev pub traced : Configuration V → View V → LockStep V → ℕ → List (LockEvent V)
@@ -114,11 +114,11 @@ module _ {V : Type 0} where
 
   -- the same after the held stripes, which were v.held, became ks: the caller has made as many doublings as their power rose by
   abbrev pub renewing : View V → ℕ → Content V → Stripes V → Option (Name × Reason) → View V
-  renewing v t c ks g = record (giving v t c ks g) { doublings = v.doublings + (power_of ks - power_of v.held); grown_from = growing v.grown_from v.held (power_of ks - power_of v.held) }
+  renewing v t c ks g = record (giving v t c ks g) { doublings = v.doublings + (power_of ks - power_of v.held); grown_from = growing v.grown_from (reverse v.held) (power_of ks - power_of v.held) }
 
   -- the view v after the entry e was decided with the new contents ks, of which the stripe t went home
   abbrev pub deciding : View V → ℕ → Stripes V → List (Entry V) → Entry V → View V
-  deciding v t ks log e = record v { held = without t ks; seen = log ++ e ∷ []; mine = v.mine ++ e ∷ []; doublings = v.doublings + (power_of ks - power_of v.held); grown_from = growing v.grown_from v.held (power_of ks - power_of v.held) }
+  deciding v t ks log e = record v { held = without t ks; seen = log ++ e ∷ []; mine = v.mine ++ e ∷ []; doublings = v.doublings + (power_of ks - power_of v.held); grown_from = growing v.grown_from (reverse v.held) (power_of ks - power_of v.held) }
 
   -- a caller at the opening
   abbrev pub newcomer : Settings → ℕ → ℕ → View V

@@ -29,7 +29,7 @@ pub struct View<V> {
     /// The trace up to the caller's last step on a lock word.
     pub watched: LinkedList<LockEvent<V>>,
     /// The names that found no room and why, once for each time.
-    pub no_slot: LinkedList<NoSlot<V>>,
+    pub no_slot: LinkedList<RoomNote<V>>,
     /// What another caller had seen when it was last met.
     pub heard: LinkedList<Entry<V>>,
     /// The power that the other caller had been told.
@@ -41,7 +41,7 @@ pub struct View<V> {
 }
 
 /// A name found no room. The table makes no value of this type: contracts speak of it.
-pub struct NoSlot<V> {
+pub struct RoomNote<V> {
     pub name: Name,
     pub reason: Reason,
     /// What the stripes contained that its caller held then, in rising order of their numbers.

@@ -11,6 +11,7 @@ use Rattle.ck_model.proofs.Histories.{starts_itself}
 use Rattle.ck_words.specs.Passes.{PassState}
 use Rattle.cuckoo_map.specs.declared.refusal.Why.{Why}
 use Rattle.cuckoo_map.specs.declared.refusal.Why.TheVariants.{Busy, Memory, Full, LoadTooLow}
+use Rattle.ck_core.specs.declared.view.RoomNote.{RoomNote}
 use Rattle.cuckoo_map.specs.Refusals.{GivesGrounds, IsRefused}
 use Rattle.cuckoo_map.specs.Callers.{CallerState, pass_of, IsSameCaller}
 use Rattle.ck_format.specs.declared.script.Command.{Command}
@@ -91,13 +92,13 @@ has_others hash set q LoadTooLow p p2 r = tt
 -- a refusal that is printed is what the caller said
 prints_why : (hash : Name → ℕ) (set : Settings) (q : Name) (why : Why) (c d : CallerState ℕ) → IsRefused hash set q why (pass_of c) (pass_of d) → PrintsWhy q (printed why) c d
 prints_why hash set q (Busy t) c d r = tt
-prints_why hash set q Memory c d r = (r.more, r.stays.no_slot, r.shown.0)
-prints_why hash set q Full c d r = (r.more, r.stays.no_slot, r.shown.0)
-prints_why hash set q LoadTooLow c d r = (r.more, r.stays.no_slot, r.shown.0)
+prints_why hash set q Memory c d r = (r.more, r.shown.contents, r.stays.no_slot, r.shown.is_noted)
+prints_why hash set q Full c d r = (r.more, r.shown.contents, r.stays.no_slot, r.shown.is_noted)
+prints_why hash set q LoadTooLow c d r = (r.more, r.shown.contents, r.stays.no_slot, r.shown.is_noted)
 
 -- what gives grounds is what all stripes contained at the end of what the pass has seen
-was_stuck : (hash : Name → ℕ) (set : Settings) (by : ℕ) (done : List (Entry ℕ)) (q : Name) (why : Reason) (p : PassState ℕ) → subhistory by p.view.seen ≡ done → GivesGrounds hash set q why p → WasStuck hash set p.view.seen by done q why
-was_stuck hash set by done q why p own gives = record {
+was_stuck : (hash : Name → ℕ) (set : Settings) (by : ℕ) (done : List (Entry ℕ)) (q : Name) (why : Reason) (p : PassState ℕ) → subhistory by p.view.seen ≡ done → {more : List (RoomNote ℕ)} → GivesGrounds hash set q why more p → WasStuck hash set p.view.seen by done q why
+was_stuck hash set by done q why p own {more} gives = record {
   start = p.view.seen;
   begins = starts_itself p.view.seen;
   own = own;
@@ -108,9 +109,9 @@ was_stuck hash set by done q why p own gives = record {
 
 has_grounds : (hash : Name → ℕ) (set : Settings) (by : ℕ) (done : List (Entry ℕ)) (q : Name) (why : Why) (p p2 : PassState ℕ) → subhistory by p2.view.seen ≡ done → IsRefused hash set q why p p2 → HasGroundsFor hash set p2.view.seen by done q (printed why)
 has_grounds hash set by done q (Busy t) p p2 own r = tt
-has_grounds hash set by done q Memory p p2 own r = was_stuck hash set by done q reason.Memory p2 own r.shown.1
-has_grounds hash set by done q Full p p2 own r = was_stuck hash set by done q reason.Full p2 own r.shown.1
-has_grounds hash set by done q LoadTooLow p p2 own r = was_stuck hash set by done q reason.LoadTooLow p2 own r.shown.1
+has_grounds hash set by done q Memory p p2 own r = was_stuck hash set by done q reason.Memory p2 own r.shown
+has_grounds hash set by done q Full p p2 own r = was_stuck hash set by done q reason.Full p2 own r.shown
+has_grounds hash set by done q LoadTooLow p p2 own r = was_stuck hash set by done q reason.LoadTooLow p2 own r.shown
 
 -- what is printed for a reason refuses a command that may need room
 refuses : (n : ℕ) (c : Command Name) (why : Why) → NeedsRoom c → HasOthers n why → IsRefusal n c (printed why)

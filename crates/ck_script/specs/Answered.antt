@@ -9,6 +9,9 @@ use Rattle.cuckoo_map.specs.Callers.{CallerState, IsSameCaller}
 use Rattle.cuckoo_map.specs.declared.refusal.Why.{Why}
 use Rattle.cuckoo_map.specs.declared.refusal.Why.TheVariants.{Busy, Full, LoadTooLow}
 use Rattle.cuckoo_map.specs.declared.refusal.Why.TheVariants as why
+use Rattle.ck_model.specs.Contents.{Stripes}
+use Rattle.ck_core.specs.declared.view.RoomNote.{RoomNote}
+use Rattle.ck_core.specs.Steps.{noted}
 use Rattle.ck_model.specs.declared.history.Reason.{Reason}
 use Rattle.ck_model.specs.declared.history.Reason.TheVariants as reason
 use Rattle.ck_format.specs.declared.script.Command.TheVariants as command
@@ -36,11 +39,11 @@ printed why.Memory = answer.Memory
 printed Full = answer.Full
 printed LoadTooLow = answer.Load
 
--- from p to q the caller has said for this reason that the name found no room
+-- from p to q the caller has noted for this reason that the name found no room
 abbrev pub HasSaid : Name → Reason → CallerState ℕ → CallerState ℕ → Type 0
-HasSaid k why p q = (more : List (Name × Reason)) × (q.notes.no_slot ≡ more ++ p.notes.no_slot) × Contains more (k, why)
+HasSaid k why p q = (more : List (RoomNote ℕ)) × (hs : Stripes ℕ) × (q.notes.no_slot ≡ more ++ p.notes.no_slot) × Contains more (noted k why hs)
 
--- where the answer prints a want of room, the caller has said so of the name, for this reason
+-- where the answer prints a want of room, the caller has noted so of the name, for this reason
 abbrev pub PrintsWhy : Name → Answer Pairs → CallerState ℕ → CallerState ℕ → Type 0
 PrintsWhy k answer.Memory p q = HasSaid k reason.Memory p q
 PrintsWhy k answer.Full p q = HasSaid k reason.Full p q

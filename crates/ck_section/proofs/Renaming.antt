@@ -80,13 +80,18 @@ module _ {V : Type 0} where
 
     -- the first name is in slot x, in stripes that stay as they are while the second is looked for
     module _ (looked again : List (StripeState V)) (first : looked ≡ stripes) (second : again ≡ looked) (x : HeldSlot) (in_x : IsOccupied hash stripes a x) where
-      -- both were found
+      -- so it was found
+      pub finds_first : (v : V) × IsCallOn hash p2.s stripes a Find (Was (Some v)) again
+      finds_first =
+          let v : V = in_x.found.0 in
+          (v, of_table (λ s. IsCallOn hash s stripes a Find (Was (Some v)) again) (kept hash stripes a p1 of1 again (second ∙ first) x in_x Find (Was (Some v)) (refl, refl)))
+
+      -- both were
       pub finds_both : (y : HeldSlot) × IsOccupied hash looked b y → ((v : V) × IsCallOn hash p2.s stripes a Find (Was (Some v)) again) × ((w : V) × IsCallOn hash p2.s stripes b Find (Was (Some w)) again)
       finds_both found =
-          let v : V = in_x.found.0 in
           let in_y : IsOccupied hash stripes b found.0 = subst (λ (l : List (StripeState V)). IsOccupied hash l b found.0) first found.1 in
           let w : V = in_y.found.0 in (
-            (v, of_table (λ s. IsCallOn hash s stripes a Find (Was (Some v)) again) (kept hash stripes a p1 of1 again (second ∙ first) x in_x Find (Was (Some v)) (refl, refl))),
+            finds_first,
             (w, kept hash stripes b p2 of2 again (second ∙ first) found.0 in_y Find (Was (Some w)) (refl, refl)),
           )
 

@@ -33,8 +33,12 @@ module _ {V : Type 0} where
     pub first : ChangesContents e.old between
     pub last : ChangesContents between e.new
 
+  -- the name was found bound
+  abbrev pub FindsBound : Effect V → Name → Type 0
+  FindsBound e q = (v : V) × IsCall e q Find (Was (Some v))
+
   -- A rename of q to r came to this: it was done, or q was found unbound, or both were found bound.
   abbrev pub RenamesTo : Effect V → Name → Name → Renamed → Type 0
   RenamesTo e q r Done = RenamesThrough e q r
   RenamesTo e q r Unbound = IsCall e q Find (Was None)
-  RenamesTo e q r Occupied = ((v : V) × IsCall e q Find (Was (Some v))) × ((w : V) × IsCall e r Find (Was (Some w)))
+  RenamesTo e q r Occupied = FindsBound e q × FindsBound e r

@@ -6,7 +6,7 @@ ghost use Rattle.ck_stripe.specs.Stripes.{IsInReach};
 ghost use Rattle.ck_section.specs.Acts.{ChangesTwo};
 ghost use Rattle.ck_section.specs.Places.{IsPlaceOf, IsSlotOf, AreFull};
 ghost use Rattle.ck_section.specs.Calls.{effect, IsWithoutRoom, ChangesContents};
-ghost use Rattle.ck_section.specs.TwoNames.{IsChangeOfTwo, RenamesTo, OnUnchanged};
+ghost use Rattle.ck_section.specs.TwoNames.{IsChangeOfTwo, FindsBound, RenamesTo, OnUnchanged};
 
 use crate::look::{find_free, find_slot};
 use crate::place::KeyPlace;
@@ -77,6 +77,8 @@ pub fn rename<K: TableKey + Drop, V: Drop, Q: Query<K>, H: Held<Stripe<K, V>>>(
         (RenamesTo (effect K.hash H.stripes to_place held.old held.new) (Q.name from) (K.name to)) }
     ensures full { IfErr result (λ back. (back ≡ to)
         × IsWithoutRoom K.hash to_place.s (H.stripes held.old) (K.name to)) }
+    ensures bound { IfErr result (λ _. FindsBound
+        (effect K.hash H.stripes to_place held.old held.new) (Q.name from)) }
     ensures same { MatchResult result
         (λ renamed. OnUnchanged renamed (H.stripes held.new ≡ H.stripes held.old))
         (λ _. H.stripes held.new ≡ H.stripes held.old) }

@@ -5,7 +5,7 @@ use Rattle.ck_model.specs.declared.history.Reason.{Reason}
 use Rattle.ck_model.specs.Promise.{Name}
 use Rattle.ck_model.specs.Contents.{Stripes}
 use Rattle.ck_stripe.specs.Stripes.{contents_of}
-use Rattle.ck_core.specs.declared.view.NoSlot.{NoSlot}
+use Rattle.ck_core.specs.declared.view.RoomNote.{RoomNote}
 use Rattle.ck_core.specs.declared.view.View.{View}
 use Rattle.ck_core.specs.declared.trace.LockStep.TheVariants.{Gave}
 use Rattle.ck_core.specs.Steps.{giving, renewing, noted, gaining, event}
@@ -18,7 +18,7 @@ use Rattle.ck_words.specs.Renewing.{HasRefused}
 use Rattle.ck_words.proofs.Rows.{gave, watched_more, give_row, renew_row}
 use Rattle.ck_words.proofs.Staying.{stays_on, stays_then}
 
-gaining-append : {V : Type 0} (l : List (NoSlot V)) (hs : Stripes V) (why : Option (Name × Reason)) → gaining l hs why ≡ gaining [] hs why ++ l
+gaining-append : {V : Type 0} (l : List (RoomNote V)) (hs : Stripes V) (why : Option (Name × Reason)) → gaining l hs why ≡ gaining [] hs why ++ l
 gaining-append l hs None = refl
 gaining-append l hs (Some g) = refl
 

@@ -6,7 +6,7 @@ use Rattle.ck_model.specs.Promise.{Name, StartsWith}
 use Rattle.ck_model.specs.Numbered.{IsIn}
 use Rattle.ck_model.specs.Contents.{layout_of}
 use Rattle.ck_model.proofs.Histories.{subhistory-append}
-use Rattle.ck_core.specs.declared.view.NoSlot.{NoSlot}
+use Rattle.ck_core.specs.declared.view.RoomNote.{RoomNote}
 use Rattle.ck_core.specs.declared.view.View.{View}
 use Rattle.ck_core.specs.declared.trace.LockStep.TheVariants.{Took, Missed, Gave}
 use Rattle.ck_core.specs.declared.trace.LockEvent.{LockEvent}
@@ -44,7 +44,7 @@ module _ {V : Type 0} where
   pub stays_same : (v : View V) → Stays v v
   stays_same v = record { settings = refl; by = refl; mine = refl; others = refl; heard = (refl, refl, refl); no_slot = refl; seen = ([], sym (append-nil v.seen)); by_others = λ m e. refl; alone = λ _. refl; watched = ([], sym (append-nil v.watched)); told = omega arith; doublings = refl; grown_from = refl }
 
-  pub stays_then : (xs ys : List (NoSlot V)) (u v w : View V) → StaysBut xs u v → StaysBut ys v w → StaysBut (ys ++ xs) u w
+  pub stays_then : (xs ys : List (RoomNote V)) (u v w : View V) → StaysBut xs u v → StaysBut ys v w → StaysBut (ys ++ xs) u w
   unfolding starts_on
   stays_then xs ys u v w f g = record {
     settings = g.settings ∙ f.settings;

@@ -123,13 +123,13 @@ module _ {V : Type 0} where
 
   -- What p holds went home from q on, as now, by which the caller's doublings were counted. It is r then.
   counted_home : (p q r : PassState V) (now : Stripes V) → now ≡ contents_of p.stripes → (t : ℕ) (c : Content V) → Holds (reverse now) t c → numbers (reverse now) ≡ numbers p.view.held
-      → q.view.doublings ≡ p.view.doublings + (power_of (reverse now) - power_of p.view.held) → q.view.grown_from ≡ growing p.view.grown_from p.view.held (power_of (reverse now) - power_of p.view.held)
+      → q.view.doublings ≡ p.view.doublings + (power_of (reverse now) - power_of p.view.held) → q.view.grown_from ≡ growing p.view.grown_from (reverse p.view.held) (power_of (reverse now) - power_of p.view.held)
       → r.view.doublings ≡ q.view.doublings → r.view.grown_from ≡ q.view.grown_from → IsDoubledBy p r
   counted_home p q r now is t c home same counted noted rest as_noted a b before after =
       let goes_home : IsIn t (numbers (reverse now)) = in_held (reverse now) t c home in
       let old : power_of p.view.held ≡ a = power_is p.view.held a t (subst (IsIn t) same goes_home) before in
       let new : power_of (reverse now) ≡ b = power_is (reverse now) b t goes_home (λ u d h. after u d (subst (λ (hs : Stripes V). Holds hs u d) is (of_reverse now u d h))) in
-      (rest ∙ (counted ∙ λ i. p.view.doublings + (new i - old i)), as_noted ∙ (noted ∙ λ i. growing p.view.grown_from p.view.held (new i - old i)))
+      (rest ∙ (counted ∙ λ i. p.view.doublings + (new i - old i)), as_noted ∙ (noted ∙ λ i. growing p.view.grown_from (reverse p.view.held) (new i - old i)))
 
   -- the caller's doublings were counted, where they went home by no call
   pub doubled_renewed : (hash : Name → ℕ) (w : WordsState) (why : Option (Name × Reason)) (p q r : PassState V) → Sends hash w (λ t ks. Renew t ks why) p q → r.view.doublings ≡ q.view.doublings → r.view.grown_from ≡ q.view.grown_from → IsDoubledBy p r

@@ -10,7 +10,7 @@ use Rattle.ck_model.specs.Promise.{Name, bound_in, Follows, Replied}
 use Rattle.ck_model.specs.Contents.{layout_of, Lawful, bindings}
 use Rattle.ck_model.specs.Sections.{HasAll, Section}
 use Rattle.ck_stripe.specs.Stripes.{contents_of}
-use Rattle.ck_core.specs.declared.view.NoSlot.{NoSlot}
+use Rattle.ck_core.specs.declared.view.RoomNote.{RoomNote}
 use Rattle.ck_core.specs.State.{client_of}
 use Rattle.ck_words.specs.Words.{WordsState}
 use Rattle.ck_words.specs.Passes.{PassState, IsPassOf, IsIdle}
@@ -35,7 +35,7 @@ module _ {V : Type 0} where
   FollowsSeen call reply p q = (by : ℕ) × (p.view.by ≡ Some by) × Follows (client_of p.view) (record { by = by; call = call; reply = reply }) (client_of q.view)
 
   -- The call was answered by this reply. The pass has noted more that names found no room; the rest is as it was.
-  pub record IsAnsweredBut (more : List (NoSlot V)) (call : Call V) (reply : Reply V) (p q : PassState V) : Type 0 where
+  pub record IsAnsweredBut (more : List (RoomNote V)) (call : Call V) (reply : Reply V) (p q : PassState V) : Type 0 where
     pub replied : Replied call reply (client_of p.view) (client_of q.view)
     pub stays : StaysBut more (record p.view { seen = q.view.seen; mine = q.view.mine }) q.view
 

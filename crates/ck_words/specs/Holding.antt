@@ -1,5 +1,5 @@
 -- What it leaves to take several stripes, and to give them back.
-use Rattle.std.specs.Prelude.{◌≡◌, ℕ, ◌+◌, ◌-◌, ◌<◌, ◌≤◌, max, List, length, slice_index, take, Result, OnOk, IfErr}
+use Rattle.std.specs.Prelude.{◌≡◌, ℕ, ◌+◌, ◌-◌, ◌<◌, ◌≤◌, max, List, length, slice_index, take, reverse, Result, OnOk, IfErr}
 use Rattle.ck_model.specs.Promise.{Name}
 use Rattle.ck_model.specs.Numbered.{Holds, IsIn}
 use Rattle.ck_model.specs.declared.contents.Content.{Content}
@@ -89,4 +89,4 @@ module _ {V : Type 0} where
 
   -- From p to q all stripes went home, and the caller has made as many doublings more as their power rose by since they were taken, and noted what they contained then if it rose.
   abbrev pub IsDoubledBy : PassState V → PassState V → Type 0
-  IsDoubledBy p q = (a b : ℕ) → ((t : ℕ) (c : Content V) → Holds p.view.held t c → c.power ≡ a) → AreOfPower b p.stripes → (q.view.doublings ≡ p.view.doublings + (b - a)) × (q.view.grown_from ≡ growing p.view.grown_from p.view.held (b - a))
+  IsDoubledBy p q = (a b : ℕ) → ((t : ℕ) (c : Content V) → Holds p.view.held t c → c.power ≡ a) → AreOfPower b p.stripes → (q.view.doublings ≡ p.view.doublings + (b - a)) × (q.view.grown_from ≡ growing p.view.grown_from (reverse p.view.held) (b - a))

@@ -4,7 +4,7 @@ use Rattle.ck_model.specs.declared.settings.Settings.{Settings}
 use Rattle.ck_model.specs.Promise.{Name, StartsWith, subhistory}
 use Rattle.ck_model.specs.Numbered.{IsIn}
 use Rattle.ck_core.specs.declared.trace.LockEvent.{LockEvent}
-use Rattle.ck_core.specs.declared.view.NoSlot.{NoSlot}
+use Rattle.ck_core.specs.declared.view.RoomNote.{RoomNote}
 use Rattle.ck_core.specs.declared.view.View.{View}
 use Rattle.ck_core.specs.Trace.{IsLegalTrace, misses}
 use Rattle.ck_words.specs.Passes.{PassState, TakesStripe, IsIdle}
@@ -24,7 +24,7 @@ module _ {V : Type 0} where
 
   -- What no step changes but one that decides, doubles or meets: the caller's entries, its doublings and what it heard, and it has seen and was told no less. What it sees more is by others, so that the only caller sees nothing more.
   -- It has noted more that names found no room.
-  pub record StaysBut (more : List (NoSlot V)) (v w : View V) : Type 0 where
+  pub record StaysBut (more : List (RoomNote V)) (v w : View V) : Type 0 where
     pub settings : w.settings ≡ v.settings
     pub by : w.by ≡ v.by
     pub mine : w.mine ≡ v.mine

@@ -6,11 +6,10 @@ use Rattle.ck_model.specs.declared.history.Call.{Call}
 use Rattle.ck_model.specs.declared.history.Call.TheVariants.{On, SessionOn}
 use Rattle.ck_model.specs.declared.history.Reply.{Reply}
 use Rattle.ck_model.specs.declared.history.Reply.TheVariants.{Closed}
-use Rattle.ck_model.specs.declared.history.Reason.{Reason}
-use Rattle.ck_model.specs.declared.history.Reason.TheVariants.{NoRoom}
 use Rattle.ck_model.specs.declared.settings.Settings.{Settings}
 use Rattle.ck_model.specs.Promise.{Name, Replied}
-use Rattle.ck_model.specs.Contents.{layout_of, IsStripeOf}
+use Rattle.ck_model.specs.Contents.{layout_of, Stripes, IsStripeOf}
+use Rattle.ck_core.specs.declared.view.RoomNote.{RoomNote}
 use Rattle.ck_words.specs.Words.{WordsState}
 use Rattle.ck_words.specs.Passes.{PassState}
 use Rattle.ck_section.specs.declared.two_keys.Renamed.{Renamed}
@@ -29,10 +28,10 @@ use Rattle.cuckoo_map.specs.declared.refusal.RenameFault.TheVariants as rename
 use Rattle.cuckoo_map.specs.Refusals.{IsBusyAmong, FindsOwnUnlessFull, SaysNoRoom, IsRefused}
 use Rattle.cuckoo_map.specs.Needed.{HasGrownFor}
 use Rattle.cuckoo_map.specs.Queries.{HasQueried}
-use Rattle.cuckoo_map.specs.Insertions.{IsInserted, HasInserted, HandsBack, HasSoughtRoom}
-use Rattle.cuckoo_map.specs.Renames.{Renames, IsNotRenamed, HasRenamed, RenameLeaves, RoomLeaves}
+use Rattle.cuckoo_map.specs.Insertions.{SayFull, IsInserted, HasInserted, HandsBack, HasSoughtRoom}
+use Rattle.cuckoo_map.specs.Renames.{Renames, SeeksSlot, IsNotRenamed, HasRenamed, RenameLeaves, RoomLeaves}
 use Rattle.cuckoo_map.proofs.Calls.{answered_since, replied_seen}
-use Rattle.cuckoo_map.proofs.Counted.{grown_alike, grown_until}
+use Rattle.cuckoo_map.proofs.Counted.{counted_back, grown_alike, grown_until}
 use Rattle.cuckoo_map.specs.Callers.{CallerState, caller_of, pass_of, IsSameCaller, Replies, RepliesOn, KeepsNotesBut, KeepsNotes, NotesFull, QueryLeaves, InsertionLeaves, KeysLeave}
 use Rattle.cuckoo_map.specs.SeveralKeys.{IsStripeOfAny, RefusesNames, HasQueriedAll}
 
@@ -57,13 +56,13 @@ module _ {V : Type 0} where
 
   -- the call was answered, and may have sought room for the name
   abbrev pub AnsweredFor : (Name → ℕ) → Settings → Name → Call V → Reply V → PassState V → PassState V → Type 0
-  AnsweredFor hash set q call reply p z = (more : List (Name × Reason)) × All (λ x. x ≡ (q, NoRoom)) more × IsAnsweredBut more call reply (as_doubled p z) z × HasGrownFor hash set q p z
+  AnsweredFor hash set q call reply p z = (more : List (RoomNote V)) × SayFull q more × IsAnsweredBut more call reply (as_doubled p z) z × HasGrownFor hash set q p z
 
   answered_for : (hash : Name → ℕ) (set : Settings) (q : Name) (call : Call V) (reply : Reply V) (p m z : PassState V) → HasSoughtRoom hash set q p m → IsAnswered call reply m z → AnsweredFor hash set q call reply p z
   answered_for hash set q call reply p m z sought a =
-      let there : IsAnswered call reply (as_doubled m z) z = subst (λ (n : ℕ). IsAnswered call reply (record m { view = record m.view { doublings = n } }) z) (sym a.stays.doublings) a in
+      let there : IsAnswered call reply (as_doubled m z) z = counted_back (λ x. IsAnswered call reply x z) m z (a.stays.doublings, a.stays.grown_from) a in
       let since : IsAnsweredBut sought.more call reply (as_doubled p z) z = answered_since sought.more (as_doubled p m) m m z sought.stays refl call reply there in
-      (sought.more, sought.own, since, grown_until p m z sought.grown a.stays.doublings (replied_seen a.replied))
+      (sought.more, sought.own, since, grown_until p m z sought.grown (a.stays.doublings, a.stays.grown_from) (replied_seen a.replied))
 
   -- a refused call on several names keeps its caller's number
   by_kept : (hash : Name → ℕ) (set : Settings) (names : List Name) (p q : PassState V) (e : KeysRefused) → RefusesNames hash set names p q e → q.view.by ≡ p.view.by
@@ -74,7 +73,7 @@ module _ {V : Type 0} where
   by_not_renamed : (hash : Name → ℕ) (set : Settings) (q r : Name) (p z : PassState V) (e : RenameFault) → IsNotRenamed hash set q r e p z → z.view.by ≡ p.view.by
   by_not_renamed hash set q r p z (rename.Keys why) h = by_kept hash set (q ∷ r ∷ []) h.0 z why h.2 ∙ h.1.stays.by
   by_not_renamed hash set q r p z (rename.Room why) h = h.stays.by
-  by_not_renamed hash set q r p z rename.NoSlot h = h.2.by ∙ h.1.stays.by
+  by_not_renamed hash set q r p z rename.NoSlot h = h.2.1.by ∙ h.1.stays.by
 
   -- What a call leaves of its caller that binds no new key: it was answered, or found a stripe of these busy.
   pub record CallLeaves {A E : Type 0} (T : A → Type 0) (P : WordsState → ℕ → Type 0) (stripe : E → ℕ) (r : Result A E) (c d : CallerState V) : Type 0 where
@@ -92,21 +91,21 @@ module _ {V : Type 0} where
       by = by ∙ ap (λ (x : CallerState V). x.client.by) is;
     }
 
-    pub keeps_notes : {more : List (Name × Reason)} {n : ℕ} → StaysBut more (record p.view { seen = q.view.seen; mine = q.view.mine; doublings = n }) q.view → KeepsNotesBut more c (caller_of w q)
+    pub keeps_notes : {more : List (RoomNote V)} {n : ℕ} {hs : List (Stripes V)} → StaysBut more (record p.view { seen = q.view.seen; mine = q.view.mine; doublings = n; grown_from = hs }) q.view → KeepsNotesBut more c (caller_of w q)
     keeps_notes {more} s = record {
       settings = s.settings ∙ ap (λ (x : CallerState V). x.client.settings) is;
       told = subst (λ (x : CallerState V). x.notes.told ≤ q.view.told) is s.told;
-      heard = (s.heard.0 ∙ ap (λ (x : CallerState V). x.notes.heard) is, s.heard.1 ∙ ap (λ (x : CallerState V). x.notes.heard_told) is);
+      heard = (s.heard.0 ∙ ap (λ (x : CallerState V). x.notes.heard) is, s.heard.1 ∙ ap (λ (x : CallerState V). x.notes.heard_told) is, s.heard.2 ∙ ap (λ (x : CallerState V). x.notes.heard_watched) is);
       watched = (s.watched.0, s.watched.1 ∙ ap (λ (x : CallerState V). x.notes.watched ++ s.watched.0) is);
       no_slot = s.no_slot ∙ ap (λ (x : CallerState V). more ++ x.notes.no_slot) is;
     }
 
     -- it was answered
-    pub replied : (call : Call V) {more : List (Name × Reason)} {reply : Reply V} {n : ℕ} → IsAnsweredBut more call reply (record p { view = record p.view { doublings = n } }) q → Replied call reply c.client (client_of q.view)
-    replied call {more} {reply} {n} a = subst (λ (x : CallerState V). Replied call reply x.client (client_of q.view)) is a.replied
+    pub replied : (call : Call V) {more : List (RoomNote V)} {reply : Reply V} {n : ℕ} {hs : List (Stripes V)} → IsAnsweredBut more call reply (record p { view = record p.view { doublings = n; grown_from = hs } }) q → Replied call reply c.client (client_of q.view)
+    replied call {more} {reply} {n} {hs} a = subst (λ (x : CallerState V). Replied call reply x.client (client_of q.view)) is a.replied
 
     pub replies : (call : Call V) (reply : Reply V) → IsAnswered call reply p q → Replies call c (caller_of w q) reply × (IsSameCaller c (caller_of w q) × KeepsNotes c (caller_of w q))
-    replies call reply a = (replied call a, (same_caller a.stays.by, (keeps_notes a.stays, a.stays.doublings ∙ ap (λ (x : CallerState V). x.notes.doublings) is)))
+    replies call reply a = (replied call a, (same_caller a.stays.by, (keeps_notes a.stays, a.stays.doublings ∙ ap (λ (x : CallerState V). x.notes.doublings) is, a.stays.grown_from ∙ ap (λ (x : CallerState V). x.notes.grown_from) is)))
 
     pub replies_on : (name : Name) (act : Act V) (reply : Reply V) → IsAnsweredOn name p q act reply → RepliesOn name c (caller_of w q) act reply × (IsSameCaller c (caller_of w q) × KeepsNotes c (caller_of w q))
     replies_on name act reply a = replies (On name act) reply a
@@ -114,7 +113,7 @@ module _ {V : Type 0} where
     -- what was made of doublings is what the caller has made
     grown_caller : {hash : Name → ℕ} {name : Name} → HasGrownFor hash w.settings name p q → HasGrownFor hash c.table.settings name (pass_of c) (pass_of (caller_of w q))
     grown_caller {hash} {name} g =
-        subst (λ (x : CallerState V). HasGrownFor hash x.table.settings name (pass_of x) (pass_of (caller_of w q))) is (grown_alike p q (pass_of (caller_of w p)) (pass_of (caller_of w q)) refl refl refl refl refl g)
+        subst (λ (x : CallerState V). HasGrownFor hash x.table.settings name (pass_of x) (pass_of (caller_of w q))) is (grown_alike p q (pass_of (caller_of w p)) (pass_of (caller_of w q)) refl refl (refl, refl) refl (refl, refl) g)
 
     replies_seeking : (hash : Name → ℕ) (name : Name) (call : Call V) (reply : Reply V) → AnsweredFor hash w.settings name call reply p q → Replies call c (caller_of w q) reply × (IsSameCaller c (caller_of w q) × NotesFull hash name c (caller_of w q))
     replies_seeking hash name call reply a = (replied call a.2, (same_caller a.2.stays.by, (a.0, a.1, keeps_notes a.2.stays, grown_caller a.3)))
@@ -192,6 +191,7 @@ module _ {V : Type 0} where
             same = by_result r told did.refused (λ a h. h.1.0) (λ e h. same_caller (by_not_renamed hash w.settings from to p q e.why h.1));
             answered = IfOk-weaker r _ _ (λ a h. h.0) told;
             notes = IfOk-weaker r _ _ (λ a h. h.1.1) told;
+            sought = over (λ t a b. SeeksSlot from to a b) there.sought;
             refused = over (λ t a b. IfErr r (λ back. (back.key ≡ key) × IsNotRenamed hash t.settings from to back.why a b)) there.refused;
             found = over (λ t a b. FindsAmong (λ n. IsStripeOfAny hash t.settings (from ∷ to ∷ []) n ⊎ SaysNoRoom to a b) a b) there.found;
           }

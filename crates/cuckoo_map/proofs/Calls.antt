@@ -8,7 +8,6 @@ use Rattle.ck_model.specs.declared.history.Call.TheVariants.{On}
 use Rattle.ck_model.specs.declared.history.Entry.{Entry}
 use Rattle.ck_model.specs.declared.history.Reply.{Reply}
 use Rattle.ck_model.specs.declared.history.Reply.TheVariants.{Was, Done}
-use Rattle.ck_model.specs.declared.history.Reason.{Reason}
 use Rattle.ck_model.specs.declared.settings.Settings.{Settings}
 use Rattle.ck_model.specs.Promise.{Name, Client, StartsWith, Replied}
 use Rattle.ck_model.specs.Contents.{layout, layout_of, Lawful}
@@ -20,6 +19,7 @@ use Rattle.ck_section.specs.Acts.{ErasesBy, ReplacesIf}
 use Rattle.ck_stripe.specs.Stripes.{contents_of}
 use Rattle.ck_section.specs.Places.{HasBoth, IsPlaceOf}
 use Rattle.ck_section.specs.Calls.{ChangesContents}
+use Rattle.ck_core.specs.declared.view.RoomNote.{RoomNote}
 use Rattle.ck_core.specs.declared.view.View.{View}
 use Rattle.ck_core.specs.State.{client_of}
 use Rattle.ck_words.specs.Words.{WordsState}
@@ -32,8 +32,8 @@ use Rattle.ck_words.proofs.Renewals.{renewed_none, done_then}
 use Rattle.cuckoo_map.specs.declared.room.Room.{Room}
 use Rattle.cuckoo_map.specs.Holding.{HoldsKeyBut, HoldsKey}
 use Rattle.cuckoo_map.specs.Insertions.{HasRoom}
-use Rattle.cuckoo_map.specs.Needed.{HaveOnePower}
-use Rattle.cuckoo_map.proofs.Counted.{none_made}
+use Rattle.cuckoo_map.specs.Needed.{DoublesNothing, HaveOnePower}
+use Rattle.cuckoo_map.proofs.Counted.{counted_alike, none_made}
 
 joined_on : {A : Type 0} (a b c d x : List A) → x ≡ a ++ b → x ++ c ++ d ≡ a ++ (b ++ c) ++ d
 joined_on a b c d x e = ap (λ l. l ++ d) (ap (λ l. l ++ c) e ∙ append_assoc a b c)
@@ -51,7 +51,7 @@ module _ {V : Type 0} where
   replied_seen {call} {reply} {c} a = let e : Entry V = record { by = a.by; call = call; reply = reply } in (a.answered.others ++ e ∷ [], a.answered.seen ∙ append_assoc c.seen a.answered.others (e ∷ []))
 
   -- to what a caller had seen came entries of others, and then the call was answered
-  pub replied_since : {more : List (Name × Reason)} {v w : View V} → StaysBut more v w → (call : Call V) (reply : Reply V) (d : Client V) → Replied call reply (client_of w) d → Replied call reply (client_of v) d
+  pub replied_since : {more : List (RoomNote V)} {v w : View V} → StaysBut more v w → (call : Call V) (reply : Reply V) (d : Client V) → Replied call reply (client_of w) d → Replied call reply (client_of v) d
   replied_since {more} {v} {w} s call reply d a =
       let e : Entry V = record { by = a.by; call = call; reply = reply } in
       let by : v.by ≡ Some a.by = sym s.by ∙ a.number in
@@ -69,9 +69,10 @@ module _ {V : Type 0} where
       }
 
   -- the call was answered after the stripes were taken
-  pub answered_since : (more : List (Name × Reason)) (p p1 p2 z : PassState V) → StaysBut more p.view p1.view → p2.view ≡ p1.view → (call : Call V) (reply : Reply V) → IsAnswered call reply (as_doubled p2 z) z → IsAnsweredBut more call reply (as_doubled p z) z
+  pub answered_since : (more : List (RoomNote V)) (p p1 p2 z : PassState V) → StaysBut more p.view p1.view → p2.view ≡ p1.view → (call : Call V) (reply : Reply V) → IsAnswered call reply (as_doubled p2 z) z → IsAnsweredBut more call reply (as_doubled p z) z
   answered_since more p p1 p2 z s same call reply a =
-      let rest : StaysBut [] (record p1.view { seen = z.view.seen; mine = z.view.mine; doublings = z.view.doublings }) z.view = subst (λ (v : View V). StaysBut [] (record v { seen = z.view.seen; mine = z.view.mine; doublings = z.view.doublings }) z.view) same a.stays in
+      let later : View V → View V = λ v. record v { seen = z.view.seen; mine = z.view.mine; doublings = z.view.doublings; grown_from = z.view.grown_from } in
+      let rest : StaysBut [] (later p1.view) z.view = subst (λ (v : View V). StaysBut [] (later v) z.view) same a.stays in
       record {
         replied = replied_since s call reply (client_of z.view) (subst (λ (v : View V). Replied call reply (client_of v) (client_of z.view)) same a.replied);
         stays = record {
@@ -79,7 +80,7 @@ module _ {V : Type 0} where
           by = rest.by ∙ s.by;
           mine = refl;
           others = rest.others ∙ s.others;
-          heard = (rest.heard.0 ∙ s.heard.0, rest.heard.1 ∙ s.heard.1);
+          heard = (rest.heard.0 ∙ s.heard.0, rest.heard.1 ∙ s.heard.1, rest.heard.2 ∙ s.heard.2);
           no_slot = rest.no_slot ∙ s.no_slot;
           seen = ([], sym (append-nil z.view.seen));
           by_others = λ n e. refl;
@@ -87,12 +88,13 @@ module _ {V : Type 0} where
           watched = (s.watched.0 ++ rest.watched.0, rest.watched.1 ∙ (ap (λ l. l ++ rest.watched.0) s.watched.1 ∙ append_assoc p.view.watched s.watched.0 rest.watched.0));
           told = (let a = s.told in let b = rest.told in omega arith);
           doublings = refl;
+          grown_from = refl;
         };
       }
 
   -- and made no doubling
-  pub answered_level : {more : List (Name × Reason)} {call : Call V} {reply : Reply V} (p z : PassState V) → z.view.doublings ≡ p.view.doublings → IsAnsweredBut more call reply (as_doubled p z) z → IsAnsweredBut more call reply p z
-  answered_level {more} {call} {reply} p z same a = subst (λ (n : ℕ). IsAnsweredBut more call reply (record p { view = record p.view { doublings = n } }) z) same a
+  pub answered_level : {more : List (RoomNote V)} {call : Call V} {reply : Reply V} (p z : PassState V) → DoublesNothing p z → IsAnsweredBut more call reply (as_doubled p z) z → IsAnsweredBut more call reply p z
+  answered_level {more} {call} {reply} p z same a = counted_alike (λ x. IsAnsweredBut more call reply x z) p z same a
 
 -- how many stripes there are, where w and v are one table
 pub s_of : {w v : WordsState} {settings : Settings} → v ≡ w → settings ≡ v.settings → settings.s ≡ w.settings.s
@@ -111,7 +113,7 @@ holds_then {V} {hash} {set} {q} {place} p p1 stays both unchanged one at s p2 st
 }
 
 -- The pass held stripes as p1, which were renewed since they were taken, and was p2 after the call. w and v are one table.
-module _ {V : Type 0} {hash : Name → ℕ} {w v : WordsState} {s : ℕ} {more : List (Name × Reason)} (p p1 : PassState V)
+module _ {V : Type 0} {hash : Name → ℕ} {w v : WordsState} {s : ℕ} {more : List (RoomNote V)} (p p1 : PassState V)
     (is : v ≡ w) (stays : StaysBut more p.view p1.view) (of_table : s ≡ w.settings.s) (renewed : HasRenewed hash w.settings p1) (p2 : PassState V) (same : p2.view ≡ p1.view) {call call1 : Call V} (named : call1 ≡ call) where
   does_since : (reply : Reply V) → IsStep hash s p1.stripes p2.stripes call reply → HasDone hash v.settings call1 reply p2
   does_since reply step =
@@ -123,7 +125,7 @@ module _ {V : Type 0} {hash : Name → ℕ} {w v : WordsState} {s : ℕ} {more :
   says_since {z} told reply step = answered_since more p p1 p2 z stays same call reply (subst (λ (x : Call V). IsAnswered x reply (as_doubled p2 z) z) named (told reply (does_since reply step)))
 
 -- The pass held the stripes of a name.
-module _ {V : Type 0} {hash : Name → ℕ} {w v : WordsState} {q : Name} {place : KeyPlace} {more : List (Name × Reason)} {p p1 : PassState V}
+module _ {V : Type 0} {hash : Name → ℕ} {w v : WordsState} {q : Name} {place : KeyPlace} {more : List (RoomNote V)} {p p1 : PassState V}
     (is : v ≡ w) (held : HoldsKeyBut more hash w.settings q place p p1) (p2 : PassState V) (same : p2.view ≡ p1.view) {call call1 : Call V} (named : call1 ≡ call) where
   renewed : HasRenewed hash w.settings p1
   renewed = renewed_none hash w.settings p1 held.unchanged
@@ -136,8 +138,8 @@ module _ {V : Type 0} {hash : Name → ℕ} {w v : WordsState} {q : Name} {place
   pub says : {z : PassState V} → ChangesContents p1.stripes p2.stripes → IsDoubledBy p2 z → ((r : Reply V) → HasDone hash v.settings call1 r p2 → IsAnswered call1 r (as_doubled p2 z) z) → (reply : Reply V) → IsStep hash place.s p1.stripes p2.stripes call reply
       → IsAnsweredBut more call reply p z
   says {z} rest doubled told reply step =
-      let made : z.view.doublings ≡ p2.view.doublings = none_made p1 p2 z same rest doubled held.unchanged held.one_power in
-      answered_level p z (made ∙ (ap (λ (x : View V). x.doublings) same ∙ held.stays.doublings)) (says_since p p1 is held.stays held.s renewed p2 same named told reply step)
+      let made : DoublesNothing p2 z = none_made p1 p2 z same rest doubled held.unchanged held.one_power in
+      answered_level p z (made.0 ∙ (ap (λ (x : View V). x.doublings) same ∙ held.stays.doublings), made.1 ∙ (ap (λ (x : View V). x.grown_from) same ∙ held.stays.grown_from)) (says_since p p1 is held.stays held.s renewed p2 same named told reply step)
 
 -- The pass held stripes with room for a name. w and v are one table.
 module _ {V : Type 0} {hash : Name → ℕ} {w v : WordsState} {q : Name} {room : Room} {p p1 : PassState V} (is : v ≡ w) (has : HasRoom hash w.settings q room p p1)

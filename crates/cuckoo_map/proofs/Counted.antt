@@ -1,7 +1,6 @@
 -- The doublings that a call made, as they are counted when its stripes go home.
-use Rattle.std.proofs.Common.{◌≡◌, ℕ, suc, ◌+◌, ◌-◌, ◌<◌, ◌≤◌, List, [], ◌∷◌, length, reverse, inl, refl, sym, ap, ◌∙◌, subst, ⊎_elim, arith}
+use Rattle.std.proofs.Common.{◌≡◌, ℕ, zero, suc, ◌+◌, ◌-◌, ◌<◌, ◌≤◌, List, [], ◌∷◌, length, reverse, inl, refl, sym, ap, ◌∙◌, subst, ⊎_elim, arith}
 use Rattle.ck_model.specs.declared.contents.Content.{Content}
-use Rattle.ck_model.specs.declared.history.Reason.{Reason}
 use Rattle.ck_model.specs.declared.settings.Settings.{Settings}
 use Rattle.ck_model.specs.Promise.{Name, After, StartsWith}
 use Rattle.ck_model.specs.Numbered.{Holds}
@@ -12,7 +11,9 @@ use Rattle.ck_stripe.specs.Tables.{AreHeld, power_in}
 use Rattle.ck_section.specs.Calls.{ChangesContents}
 use Rattle.ck_stripe.proofs.Tables.{holds_at}
 use Rattle.ck_section.proofs.Tables.{power_shown}
+use Rattle.ck_core.specs.declared.view.RoomNote.{RoomNote}
 use Rattle.ck_core.specs.declared.view.View.{View}
+use Rattle.ck_core.specs.Steps.{growing}
 use Rattle.ck_words.specs.Words.{WordsState}
 use Rattle.ck_words.specs.Passes.{PassState, IsUnchanged}
 use Rattle.ck_words.specs.Retries.{StaysBut, as_doubled}
@@ -21,7 +22,7 @@ use Rattle.ck_words.specs.Closing.{IsWhole}
 use Rattle.ck_words.proofs.WholeTables.{lawful_held}
 use Rattle.ck_words.proofs.Reversed.{held_reverse, of_reverse}
 use Rattle.ck_words.proofs.Staying.{starts_on}
-use Rattle.cuckoo_map.specs.Needed.{NeedsToGrow, HasGrownFor, HaveOnePower, HoldsGrown}
+use Rattle.cuckoo_map.specs.Needed.{DoublesNothing, NeedsToGrow, HasGrownFor, HaveOnePower, HoldsGrown}
 
 module _ {V : Type 0} where
   -- each stripe has this power
@@ -61,40 +62,66 @@ module _ {V : Type 0} where
   pub changes_none : (old new : List (StripeState V)) → new ≡ old → ChangesContents old new
   changes_none old new same = subst (ChangesContents old) (sym same) (record { count = refl; each = λ i l. refl; power = λ i l. refl })
 
-  -- what stays but for doublings
-  pub loosely : {more : List (Name × Reason)} {v w : View V} → StaysBut more v w → StaysBut more (record v { doublings = w.doublings }) w
-  loosely s = record { settings = s.settings; by = s.by; mine = s.mine; others = s.others; heard = s.heard; no_slot = s.no_slot; seen = s.seen; by_others = s.by_others; alone = s.alone; watched = s.watched; told = s.told; doublings = refl }
+  -- the view v, as if its caller had made the doublings of another
+  abbrev pub counting_as : View V → View V → View V
+  counting_as z v = record v { doublings = z.doublings; grown_from = z.grown_from }
 
-  -- also where both count others
-  pub stays_counting : {more : List (Name × Reason)} {v w : View V} (n : ℕ) → StaysBut more v w → StaysBut more (record v { doublings = n }) (record w { doublings = n })
-  stays_counting n s = record { settings = s.settings; by = s.by; mine = s.mine; others = s.others; heard = s.heard; no_slot = s.no_slot; seen = s.seen; by_others = s.by_others; alone = s.alone; watched = s.watched; told = s.told; doublings = refl }
+  -- what stays where both views count the doublings of another
+  pub stays_counting : {more : List (RoomNote V)} {v w : View V} (z : View V) → StaysBut more v w → StaysBut more (counting_as z v) (counting_as z w)
+  stays_counting z s = record { settings = s.settings; by = s.by; mine = s.mine; others = s.others; heard = s.heard; no_slot = s.no_slot; seen = s.seen; by_others = s.by_others; alone = s.alone; watched = s.watched; told = s.told; doublings = refl; grown_from = refl }
+
+  -- what stays but for doublings
+  pub loosely : {more : List (RoomNote V)} {v w : View V} → StaysBut more v w → StaysBut more (counting_as w v) w
+  loosely {more} {v} {w} s = stays_counting w s
+
+  -- what holds of a pass as if its caller had made the doublings of another holds of it where it has made them
+  pub counted_alike : (P : PassState V → Type 0) (p z : PassState V) → DoublesNothing p z → P (as_doubled p z) → P p
+  counted_alike P p z same = subst (λ (x : ℕ × List (Stripes V)). P (record p { view = record p.view { doublings = x.0; grown_from = x.1 } })) (λ i. (same.0 i, same.1 i))
+
+  -- and the other way round
+  pub counted_back : (P : PassState V → Type 0) (p z : PassState V) → DoublesNothing p z → P p → P (as_doubled p z)
+  counted_back P p z same = subst (λ (x : ℕ × List (Stripes V)). P (record p { view = record p.view { doublings = x.0; grown_from = x.1 } })) (λ i. (sym same.0 i, sym same.1 i))
 
   -- where none was made
-  pub released_alike : {w : WordsState} (p z : PassState V) → HasReleased w (as_doubled p z) z → z.view.doublings ≡ p.view.doublings → HasReleased w p z
-  released_alike {w} p z home same = subst (λ (n : ℕ). HasReleased w (record p { view = record p.view { doublings = n } }) z) same home
+  pub released_alike : {w : WordsState} (p z : PassState V) → HasReleased w (as_doubled p z) z → DoublesNothing p z → HasReleased w p z
+  released_alike {w} p z home same = counted_alike (λ x. HasReleased w x z) p z same home
+
+  -- what is noted of doublings that are some
+  growing_some : (l : List (Stripes V)) (hs : Stripes V) (n : ℕ) → 0 < n → growing l hs n ≡ hs ∷ l
+  growing_some l hs zero some = absurd (omega arith)
+  growing_some l hs (suc n) some = refl
+
+  pub growing_none : (l : List (Stripes V)) (hs : Stripes V) (n : ℕ) → n ≡ 0 → growing l hs n ≡ l
+  growing_none l hs zero none = refl
+  growing_none l hs (suc n) none = absurd (omega arith)
 
   -- The pass held stripes as p1. It was p2 when a call had changed contents of theirs alone, and z when they had gone home.
   module _ (p1 p2 z : PassState V) (view : p2.view ≡ p1.view) (rest : ChangesContents p1.stripes p2.stripes) (doubled : IsDoubledBy p2 z) where
     -- none was made where they were as they were taken
-    pub none_made : IsUnchanged p1 → HaveOnePower p1.stripes → z.view.doublings ≡ p2.view.doublings
+    pub none_made : IsUnchanged p1 → HaveOnePower p1.stripes → DoublesNothing p2 z
     none_made unchanged one =
         let power : ℕ = power_of (contents_of p1.stripes) in
         let taken : (t : ℕ) (c : Content V) → Holds p2.view.held t c → c.power ≡ power = λ t c h.
         one t c (subst (λ (hs : Stripes V). Holds hs t c) (sym unchanged) (held_reverse p1.view.held t c (subst (λ (v : View V). Holds v.held t c) view h))) in
         let e = doubled power power taken (level_after power p1.stripes p2.stripes rest one) in
-        omega arith
+        let count = e.0 in
+        (omega arith, e.1 ∙ growing_none p2.view.grown_from (reverse p2.view.held) (power - power) (omega arith))
 
     -- those that were made had to be, where that was so
-    pub grown_by : {hash : Name → ℕ} {set : Settings} {q : Name} {more : List (Name × Reason)} (p : PassState V) → HoldsGrown hash set q p1 → StaysBut more p.view p1.view → StartsWith z.view.seen p2.view.seen → HasGrownFor hash set q p z
+    pub grown_by : {hash : Name → ℕ} {set : Settings} {q : Name} {more : List (RoomNote V)} (p : PassState V) → HoldsGrown hash set q p1 → StaysBut more p.view p1.view → StartsWith z.view.seen p2.view.seen → HasGrownFor hash set q p z
     grown_by {hash} {set} {q} p grown stays seen =
         let a : ℕ = power_of (reverse p1.view.held) in
         let b : ℕ = power_of (contents_of p1.stripes) in
         let taken : (t : ℕ) (c : Content V) → Holds p2.view.held t c → c.power ≡ a = λ t c h. grown.before t c (subst (λ (v : View V). Holds v.held t c) view h) in
         let same : p2.view.doublings ≡ p.view.doublings = ap (λ (v : View V). v.doublings) view ∙ stays.doublings in
+        let same_notes : p2.view.grown_from ≡ p.view.grown_from = ap (λ (v : View V). v.grown_from) view ∙ stays.grown_from in
+        let counted = doubled a b taken (level_after b p1.stripes p2.stripes rest grown.now) in
         record {
           doublings = b - a;
-          made = doubled a b taken (level_after b p1.stripes p2.stripes rest grown.now) ∙ ap (λ n. n + (b - a)) same;
+          made = counted.0 ∙ ap (λ n. n + (b - a)) same;
+          none = λ no. counted.1 ∙ (growing_none p2.view.grown_from (reverse p2.view.held) (b - a) no ∙ same_notes);
           needed = λ some. record {
+            noted = counted.1 ∙ (growing_some p2.view.grown_from (reverse p2.view.held) (b - a) some ∙ λ i. reverse (ap (λ (v : View V). v.held) view i) ∷ same_notes i);
             log = p1.view.seen;
             contents = reverse p1.view.held;
             since = stays.seen;
@@ -130,34 +157,38 @@ module _ {V : Type 0} where
       }
 
   -- no doubling was made
-  pub grown_none : {hash : Name → ℕ} {set : Settings} {q : Name} (p z : PassState V) → z.view.doublings ≡ p.view.doublings → HasGrownFor hash set q p z
-  grown_none p z same = record { doublings = 0; made = omega arith; needed = λ some. absurd (omega arith) }
+  pub grown_none : {hash : Name → ℕ} {set : Settings} {q : Name} (p z : PassState V) → DoublesNothing p z → HasGrownFor hash set q p z
+  grown_none p z same = let count = same.0 in record { doublings = 0; made = omega arith; none = λ _. same.1; needed = λ some. absurd (omega arith) }
 
   -- none before those that had to be made
-  pub grown_since : {hash : Name → ℕ} {set : Settings} {q : Name} {more : List (Name × Reason)} (p r z : PassState V) → StaysBut more p.view r.view → HasGrownFor hash set q r z → HasGrownFor hash set q p z
+  pub grown_since : {hash : Name → ℕ} {set : Settings} {q : Name} {more : List (RoomNote V)} (p r z : PassState V) → StaysBut more p.view r.view → HasGrownFor hash set q r z → HasGrownFor hash set q p z
   grown_since p r z stays grown = record {
     doublings = grown.doublings;
     made = grown.made ∙ ap (λ n. n + grown.doublings) stays.doublings;
-    needed = λ some. let n = grown.needed some in record { log = n.log; contents = n.contents; since = starts_on p.view.seen r.view.seen n.log stays.seen n.since; seen = n.seen; after = n.after; told = (let before = stays.told in let there = n.told in omega arith); each = n.each };
+    none = λ no. grown.none no ∙ stays.grown_from;
+    needed = λ some. let n = grown.needed some in record { log = n.log; contents = n.contents; noted = n.noted ∙ ap {B = List (Stripes V)} (λ l. n.contents ∷ l) stays.grown_from; since = starts_on p.view.seen r.view.seen n.log stays.seen n.since; seen = n.seen; after = n.after; told = (let before = stays.told in let there = n.told in omega arith); each = n.each };
   }
 
   -- none after them
-  pub grown_until : {hash : Name → ℕ} {set : Settings} {q : Name} (p r z : PassState V) → HasGrownFor hash set q p r → z.view.doublings ≡ r.view.doublings → StartsWith z.view.seen r.view.seen → HasGrownFor hash set q p z
+  pub grown_until : {hash : Name → ℕ} {set : Settings} {q : Name} (p r z : PassState V) → HasGrownFor hash set q p r → DoublesNothing r z → StartsWith z.view.seen r.view.seen → HasGrownFor hash set q p z
   grown_until p r z grown same seen = record {
     doublings = grown.doublings;
-    made = same ∙ grown.made;
-    needed = λ some. let n = grown.needed some in record { log = n.log; contents = n.contents; since = n.since; seen = starts_on n.log r.view.seen z.view.seen n.seen seen; after = n.after; told = n.told; each = n.each };
+    made = same.0 ∙ grown.made;
+    none = λ no. same.1 ∙ grown.none no;
+    needed = λ some. let n = grown.needed some in record { log = n.log; contents = n.contents; noted = same.1 ∙ n.noted; since = n.since; seen = starts_on n.log r.view.seen z.view.seen n.seen seen; after = n.after; told = n.told; each = n.each };
   }
 
   -- it counts what passes have seen, were told and made alone
-  pub grown_alike : {hash : Name → ℕ} {set : Settings} {q : Name} (p z p2 z2 : PassState V) → p2.view.seen ≡ p.view.seen → p2.view.told ≡ p.view.told → p2.view.doublings ≡ p.view.doublings → z2.view.seen ≡ z.view.seen → z2.view.doublings ≡ z.view.doublings
+  pub grown_alike : {hash : Name → ℕ} {set : Settings} {q : Name} (p z p2 z2 : PassState V) → p2.view.seen ≡ p.view.seen → p2.view.told ≡ p.view.told → DoublesNothing p p2 → z2.view.seen ≡ z.view.seen → DoublesNothing z z2
       → HasGrownFor hash set q p z → HasGrownFor hash set q p2 z2
   grown_alike p z p2 z2 seen told made seen2 made2 grown = record {
     doublings = grown.doublings;
-    made = made2 ∙ (grown.made ∙ ap (λ n. n + grown.doublings) (sym made));
+    made = made2.0 ∙ (grown.made ∙ ap (λ n. n + grown.doublings) (sym made.0));
+    none = λ no. made2.1 ∙ (grown.none no ∙ sym made.1);
     needed = λ some. let n = grown.needed some in record {
       log = n.log;
       contents = n.contents;
+      noted = made2.1 ∙ (n.noted ∙ ap {B = List (Stripes V)} (λ l. n.contents ∷ l) (sym made.1));
       since = subst (λ l. StartsWith n.log l) (sym seen) n.since;
       seen = subst (λ l. StartsWith l n.log) (sym seen2) n.seen;
       after = n.after;

@@ -1,11 +1,11 @@
 -- What a caller leaves of its pass while it displaces entries.
 use Rattle.std.proofs.Common.{◌≡◌, ℕ, List, [], ◌++◌, replicate, reverse, append_assoc, refl, sym, ap, ◌∙◌, subst}
-use Rattle.ck_model.specs.declared.history.Reason.{Reason}
 use Rattle.ck_model.specs.Promise.{Name}
 use Rattle.ck_model.specs.Contents.{layout, Stripes, Lawful}
 use Rattle.ck_model.specs.Sections.{IdentitySection}
 use Rattle.ck_stripe.specs.Stripes.{contents_of}
 use Rattle.ck_section.specs.Hops.{IsNoCall}
+use Rattle.ck_core.specs.declared.view.RoomNote.{RoomNote}
 use Rattle.ck_core.specs.declared.view.View.{View}
 use Rattle.ck_words.specs.Words.{WordsState}
 use Rattle.ck_words.specs.Passes.{PassState, IsPassOf, IsIdle, IsUnchanged}
@@ -30,7 +30,7 @@ module _ {V : Type 0} where
     pub back_same : (p : PassState V) → IsPassOf w p → IsIdle p → IsBack w p p
     back_same p own idle = record { own = own; idle = idle; stays = stays_same p.view; found = ([], refl) }
 
-    pub back_then : (xs ys : List (Name × Reason)) (p q r : PassState V) → IsBackBut w xs p q → IsBackBut w ys q r → IsBackBut w (ys ++ xs) p r
+    pub back_then : (xs ys : List (RoomNote V)) (p q r : PassState V) → IsBackBut w xs p q → IsBackBut w ys q r → IsBackBut w (ys ++ xs) p r
     back_then xs ys p q r f g = record { own = g.own; idle = g.idle; stays = stays_then xs ys p.view q.view r.view f.stays g.stays; found = any_on p q r f.found g.found }
 
     pub back_on : (p q r : PassState V) → IsBack w p q → IsBack w q r → IsBack w p r

@@ -14,6 +14,7 @@ use Rattle.ck_stripe.specs.Stripe.{StripeState}
 use Rattle.ck_stripe.specs.Stripes.{contents_of}
 use Rattle.ck_stripe.specs.Tables.{power_in}
 use Rattle.ck_core.specs.declared.view.View.{View}
+use Rattle.ck_core.specs.Steps.{noted}
 use Rattle.ck_words.specs.Words.{WordsState}
 use Rattle.ck_words.specs.Passes.{PassState}
 use Rattle.ck_words.specs.Retries.{Stays}
@@ -77,5 +78,5 @@ module _ {V : Type 0} (hash : Name → ℕ) (w : WordsState) (p p1 p2 z : PassSt
       let most : max p2.view.told (power_in p2.stripes) ≡ power_in p2.stripes = omega arith in
       told ∙ (most ∙ h.same)
 
-  pub gives_grounds : (q : Name) (why : Reason) → (Lawful k (reverse p2.view.held) → Grounds k w.settings.min_load (contents_of p2.stripes) q why) → z.view.seen ≡ p2.view.seen → IsToldPower p2 z → GivesGrounds hash w.settings q why z
-  gives_grounds q why grounds seen told = record { contents = contents_of p2.stripes; grounds = grounds lawful; after = leaves seen; power = told_power told }
+  pub gives_grounds : (q : Name) (why : Reason) → (Lawful k (reverse p2.view.held) → Grounds k w.settings.min_load (contents_of p2.stripes) q why) → z.view.seen ≡ p2.view.seen → IsToldPower p2 z → GivesGrounds hash w.settings q why (noted q why (contents_of p2.stripes) ∷ []) z
+  gives_grounds q why grounds seen told = record { contents = contents_of p2.stripes; is_noted = (0, omega arith, refl); grounds = grounds lawful; after = leaves seen; power = told_power told }

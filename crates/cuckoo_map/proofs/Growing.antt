@@ -29,7 +29,7 @@ use Rattle.ck_words.proofs.Staying.{stays_on}
 use Rattle.cuckoo_map.specs.declared.refusal.GrowFault.TheVariants.{Busy, Memory}
 use Rattle.cuckoo_map.specs.Refusals.{IsStripeIn, IsBusyAmong}
 use Rattle.cuckoo_map.specs.Growth.{Rehashes}
-use Rattle.cuckoo_map.proofs.Counted.{one_of_lawful, told_first, stays_counting}
+use Rattle.cuckoo_map.proofs.Counted.{one_of_lawful, told_first, counting_as, stays_counting}
 
 module _ {V : Type 0} (s : ℕ) where
   -- All stripes of a table were settled.
@@ -135,7 +135,7 @@ module _ {V : Type 0} {v w : WordsState} (is : v ≡ w) (p1 p2 : PassState V) (v
 
   pub stays_home : (p z : PassState V) → Stays p.view p1.view → HasReleased v (as_doubled p2 z) z → Stays (as_doubled p z).view z.view
   stays_home p z stays home =
-      stays_on (as_doubled p z).view (as_doubled p1 z).view z.view (stays_counting z.view.doublings stays) (subst (λ (u : View V). Stays (record u { doublings = z.view.doublings }) z.view) view home.stays)
+      stays_on (as_doubled p z).view (as_doubled p1 z).view z.view (stays_counting z.view stays) (subst (λ (u : View V). Stays (counting_as z.view u) z.view) view home.stays)
 
 -- stripes that are lawful have the power of the first
 one_of_power : {V : Type 0} (k : Layout) (ss : List (StripeState V)) → Lawful k (contents_of ss) → AreOfPower (power_in ss) ss
@@ -169,7 +169,7 @@ module _ {V : Type 0} {hash : Name → ℕ} {set : Settings} {power : ℕ} (insi
   counted_since : HasRenewed hash set p2 → p1.view.doublings ≡ p.view.doublings → IsDoubledBy p2 z → z.view.doublings ≡ p.view.doublings + (power_in p2.stripes - power_in p1.stripes)
   counted_since renewed before doubled =
       let same : p2.view.doublings ≡ p.view.doublings = ap (λ (u : View V). u.doublings) view ∙ before in
-      doubled (power_in p1.stripes) (power_in p2.stripes) power_taken (power_home renewed) ∙ ap (λ n. n + (power_in p2.stripes - power_in p1.stripes)) same
+      (doubled (power_in p1.stripes) (power_in p2.stripes) power_taken (power_home renewed)).0 ∙ ap (λ n. n + (power_in p2.stripes - power_in p1.stripes)) same
 
   few_since : HasRenewed hash set p2 → p1.view.doublings ≡ p.view.doublings → IsDoubledBy p2 z → z.view.doublings ≤ p.view.doublings + (z.view.told - p.view.told)
   few_since renewed before doubled =

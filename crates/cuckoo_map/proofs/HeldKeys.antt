@@ -1,5 +1,5 @@
 -- Calls on several keys whose stripes are held.
-use Rattle.std.proofs.Common.{◌≡◌, ℕ, ◌<◌, ◌≤◌, List, [], length, Option, Some, None, Ok, reverse, inl, refl, sym, ap, ◌∙◌, subst, map, arith}
+use Rattle.std.proofs.Common.{◌≡◌, ℕ, ◌-◌, ◌<◌, ◌≤◌, List, [], length, Option, Some, None, Ok, reverse, inl, refl, sym, ap, ◌∙◌, subst, map, arith}
 use Rattle.std.specs.Prelude.{IfSome, IfNone, MatchOption}
 use Rattle.std.specs.FinMap.{get}
 use Rattle.ck_core.specs.declared.view.View.{View}
@@ -37,7 +37,8 @@ use Rattle.cuckoo_map.specs.LockedKeys.{KeysState, keys_of, value_of, ActsOn, Ha
 use Rattle.cuckoo_map.proofs.Callers.{as_pass}
 use Rattle.cuckoo_map.proofs.Sessions.{same_session, found_reply}
 use Rattle.cuckoo_map.proofs.Calls.{answered_since, answered_level}
-use Rattle.cuckoo_map.proofs.Counted.{one_of_lawful}
+use Rattle.cuckoo_map.proofs.Counted.{one_of_lawful, growing_none}
+use Rattle.cuckoo_map.specs.Needed.{DoublesNothing}
 
 module _ {V : Type 0} where
   -- settled stripes stay so in a call
@@ -112,6 +113,7 @@ module _ {V : Type 0} where
         watched = h.stays.watched;
         told = h.stays.told;
         doublings = h.stays.doublings;
+        grown_from = h.stays.grown_from;
       });
       found = subst (λ (x : PassState V). FindsAmong (IsStripeOfAny hash w.settings names) x (pass_of (caller_of w p2))) (sym (as_pass caller)) found;
       unchanged = ap bindings h.unchanged;
@@ -200,11 +202,12 @@ module _ {V : Type 0} where
     }
 
     -- and has doubled nothing
-    pub none_doubled : (p z : PassState V) → HoldsKeys hash w stripes names p → IsDoubledBy p z → z.view.doublings ≡ p.view.doublings
+    pub none_doubled : (p z : PassState V) → HoldsKeys hash w stripes names p → IsDoubledBy p z → DoublesNothing p z
     none_doubled p z l doubled =
         let power : ℕ = power_of (contents_of p.stripes) in
         let e = doubled power power (λ t c h. l.level t c (held_reverse p.view.held t c h)) (λ t c h. one_of_lawful (layout_of hash w.settings) (contents_of p.stripes) l.lawful t c h) in
-        omega arith
+        let count = e.0 in
+        (omega arith, e.1 ∙ growing_none p.view.grown_from (reverse p.view.held) (power - power) (omega arith))
 
     -- they went home, and their caller has no stripe
     pub ends_keys : (p z : PassState V) → HoldsKeys hash w stripes names p → HasCommitted hash w (session_on names p) p z → IsCaller w z
@@ -226,7 +229,7 @@ module _ {V : Type 0} where
         let view : p3.view ≡ p2.view = ap (λ (x : PassState V). x.view) same in
         let there : IsAnswered (session_on names p3) Closed (as_doubled p3 z) z = c.answered Closed (keys_done p3 l) in
         let since : IsAnswered (session_on names p3) Closed (as_doubled p z) z = answered_since [] p p2 p3 z h.stays view (session_on names p3) Closed there in
-        let level : IsAnswered (session_on names p3) Closed p z = answered_level p z (none_doubled p3 z l c.doubled ∙ (ap (λ (v : View V). v.doublings) view ∙ h.stays.doublings)) since in
+        let level : IsAnswered (session_on names p3) Closed p z = answered_level p z (let made = none_doubled p3 z l c.doubled in (made.0 ∙ (ap (λ (v : View V). v.doublings) view ∙ h.stays.doublings), made.1 ∙ (ap (λ (v : View V). v.grown_from) view ∙ h.stays.grown_from))) since in
         let before : bound_in (bindings (reverse p3.view.held)) names ≡ bound_to names p2 = ap (λ (v : View V). bound_in (bindings (reverse v.held)) names) view ∙ ap (λ (hs : Stripes V). bound_in (bindings hs) names) (sym h.unchanged) in
         subst (λ (x : List (Option V)). IsAnswered (SessionOn names x (bound_to names p3)) Closed p z) before level
 

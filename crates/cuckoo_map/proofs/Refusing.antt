@@ -1,11 +1,10 @@
 -- What a refused insertion leaves of its pass.
 use Rattle.std.proofs.Common.{◌≡◌, ℕ, ◌<◌, ◌^◌, List, [], ◌∷◌, ⊎_elim, inl, inr, sym, ◌∙◌, subst}
 use Rattle.std.proofs.lemmas.List.Elements.{All-nil}
-use Rattle.ck_model.specs.declared.history.Reason.{Reason}
 use Rattle.ck_model.specs.declared.history.Reason.TheVariants.{NoRoom}
 use Rattle.ck_model.specs.declared.settings.Settings.{Settings}
 use Rattle.ck_model.specs.Promise.{Name}
-use Rattle.ck_model.specs.Contents.{layout_of, IsStripeOf, Lawful}
+use Rattle.ck_model.specs.Contents.{layout_of, Stripes, IsStripeOf, Lawful}
 use Rattle.ck_model.specs.Sections.{Owns}
 use Rattle.ck_model.specs.Paths.{HasNoRoom}
 use Rattle.ck_stripe.specs.Stripe.{StripeState}
@@ -13,7 +12,9 @@ use Rattle.ck_stripe.specs.Stripes.{contents_of}
 use Rattle.ck_section.specs.declared.place.KeyPlace.{KeyPlace}
 use Rattle.ck_section.specs.Calls.{IsWithoutRoom}
 use Rattle.ck_section.proofs.Owned.{own_below}
+use Rattle.ck_core.specs.declared.view.RoomNote.{RoomNote}
 use Rattle.ck_core.specs.declared.view.View.{View}
+use Rattle.ck_core.specs.Steps.{noted}
 use Rattle.ck_words.specs.Words.{WordsState}
 use Rattle.ck_words.specs.Passes.{PassState, IsPassOf, IsIdle}
 use Rattle.ck_words.specs.Retries.{Stays, StaysBut}
@@ -23,12 +24,12 @@ use Rattle.cuckoo_map.specs.declared.refusal.Why.{Why}
 use Rattle.cuckoo_map.specs.declared.refusal.Why.TheVariants.{Busy}
 use Rattle.cuckoo_map.specs.Holding.{HoldsKeyBut}
 use Rattle.cuckoo_map.specs.Refusals.{FindsOwn, FindsOwnUnlessFull, IsBusyAmong, IsBusyAt, IsRefused}
-use Rattle.cuckoo_map.specs.Insertions.{HasFoundNoRoom}
+use Rattle.cuckoo_map.specs.Insertions.{FindsFull}
 use Rattle.cuckoo_map.proofs.Counted.{loosely, grown_none}
 
 module _ {V : Type 0} where
   -- where the name has no room among the stripes that its pass holds, the pass may say so
-  pub excused : {hash : Name → ℕ} {w v : WordsState} {q : Name} {place : KeyPlace} {more : List (Name × Reason)} {p p1 : PassState V} → v ≡ w → HoldsKeyBut more hash w.settings q place p p1
+  pub excused : {hash : Name → ℕ} {w v : WordsState} {q : Name} {place : KeyPlace} {more : List (RoomNote V)} {p p1 : PassState V} → v ≡ w → HoldsKeyBut more hash w.settings q place p p1
       → (p2 : PassState V) → p2.stripes ≡ p1.stripes → IsWithoutRoom hash place.s p1.stripes q
       → Lawful (layout_of hash v.settings) (contents_of p2.stripes) → Owns (layout_of hash v.settings) (contents_of p2.stripes) q × HasNoRoom (layout_of hash v.settings) (contents_of p2.stripes) q
   excused {hash} {w} {v} {q} {place} {more} {p} {p1} is held p2 same room =
@@ -37,8 +38,8 @@ module _ {V : Type 0} where
       (λ j. (sym is j, sym same j)) (λ lawful. (held.both, none w.settings.max lawful))
 
   -- it was told after the stripes were taken
-  pub told_since : (q : Name) (p p1 p2 z : PassState V) → Stays p.view p1.view → p2.view ≡ p1.view → HasFoundNoRoom q p2 z → HasFoundNoRoom q p z
-  told_since q p p1 p2 z s same h = stays_then [] ((q, NoRoom) ∷ []) p.view p1.view z.view s (subst (λ (v : View V). StaysBut ((q, NoRoom) ∷ []) v z.view) same h)
+  pub told_since : (q : Name) (hs : Stripes V) (p p1 p2 z : PassState V) → Stays p.view p1.view → p2.view ≡ p1.view → FindsFull q hs p2 z → FindsFull q hs p z
+  told_since q hs p p1 p2 z s same h = let note : RoomNote V = noted q NoRoom hs in stays_then [] (note ∷ []) p.view p1.view z.view s (subst (λ (v : View V). StaysBut (note ∷ []) v z.view) same h)
 
   -- a stripe of the table was found held
   pub refused_among : (P : ℕ → Type 0) (hash : Name → ℕ) (set : Settings) → ((t : ℕ) → P t → t < 2 ^ set.s) → (q : Name) (t : ℕ) (p z : PassState V) → IsBusyAmong P set t p z → IsRefused hash set q (Busy t) p z
@@ -47,7 +48,7 @@ module _ {V : Type 0} where
     stays = loosely busy.stays;
     own = All-nil _;
     shown = (below t busy.stripe, busy.tried, busy.others, busy.stays.doublings, busy.missed);
-    grown = grown_none p z busy.stays.doublings;
+    grown = grown_none p z (busy.stays.doublings, busy.stays.grown_from);
   }
 
   pub refused_busy : (hash : Name → ℕ) (set : Settings) (q : Name) (t : ℕ) (p z : PassState V) → IsBusyAt hash set q t p z → IsRefused hash set q (Busy t) p z
@@ -68,4 +69,4 @@ module _ {V : Type 0} where
 
   -- and where the pass was answered since, with no other said to be without room
   pub found_since : (hash : Name → ℕ) (set : Settings) (q : Name) (p p1 z : PassState V) → FindsOwnUnlessFull hash set q p p1 → z.view.found ≡ p1.view.found → z.view.no_slot ≡ p1.view.no_slot → FindsOwnUnlessFull hash set q p z
-  found_since hash set q p p1 z f same said = (f.0, same ∙ f.1, (λ t i. ⊎_elim inl (λ x. inr (x.0, said ∙ x.1, x.2)) (f.2 t i)))
+  found_since hash set q p p1 z f same said = (f.0, same ∙ f.1, (λ t i. ⊎_elim inl (λ x. inr (x.0, x.1, said ∙ x.2, x.3)) (f.2 t i)))

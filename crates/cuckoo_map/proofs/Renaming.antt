@@ -1,11 +1,11 @@
 -- Renames of a key whose stripes are held, with those of its new name.
-use Rattle.std.proofs.Common.{◌≡◌, ◌≢◌, ◌⊎◌, ℕ, List, [], ◌∷◌, ◌++◌, append_assoc, Option, Some, None, Result, Ok, Err, IfOk, IfErr, inl, inr, refl, sym, ap, ◌∙◌}
+use Rattle.std.proofs.Common.{◌≡◌, ◌≢◌, ◌⊎◌, ℕ, List, [], ◌∷◌, ◌++◌, append_assoc, Option, Some, None, Result, Ok, Err, IfOk, IfErr, OnErr, inl, inr, refl, sym, ap, ◌∙◌}
+use Rattle.std.proofs.lemmas.Option.{none-some}
 use Rattle.std.proofs.lemmas.List.Elements.{All-nil, Contains-append_right}
 use Rattle.std.specs.Prelude.{MatchResult}
 use Rattle.std.specs.FinMap.{get}
 use Rattle.ck_model.specs.declared.history.Act.TheVariants.{Find, Insert, Erase}
 use Rattle.ck_model.specs.declared.history.Call.TheVariants.{On}
-use Rattle.ck_model.specs.declared.history.Reason.{Reason}
 use Rattle.ck_model.specs.declared.history.Reason.TheVariants.{NoRoom}
 use Rattle.ck_model.specs.declared.history.Reply.TheVariants.{Was, New}
 use Rattle.ck_model.specs.declared.settings.Settings.{Settings}
@@ -16,7 +16,9 @@ use Rattle.ck_stripe.specs.Stripes.{contents_of}
 use Rattle.ck_section.specs.declared.two_keys.Renamed.{Renamed}
 use Rattle.ck_section.specs.declared.two_keys.Renamed.TheVariants.{Done, Unbound, Occupied}
 use Rattle.ck_section.specs.Calls.{IsWithoutRoom}
-use Rattle.ck_section.specs.TwoNames.{RenamesTo, OnUnchanged}
+use Rattle.ck_section.specs.TwoNames.{FindsBound, RenamesTo, OnUnchanged}
+use Rattle.ck_core.specs.declared.view.RoomNote.{RoomNote}
+use Rattle.ck_core.specs.Steps.{noted}
 use Rattle.ck_words.specs.declared.stripe_set.StripeSet.{StripeSet}
 use Rattle.ck_words.specs.Words.{WordsState}
 use Rattle.ck_words.specs.Passes.{PassState}
@@ -30,10 +32,11 @@ use Rattle.cuckoo_map.specs.declared.refusal.RenameFault.TheVariants as fault
 use Rattle.cuckoo_map.specs.declared.refusal.Why.{Why}
 use Rattle.cuckoo_map.specs.Refusals.{FindsOwnUnlessFull, SaysNoRoom, IsRefused}
 use Rattle.cuckoo_map.specs.Insertions.{HasFoundNoRoom, HasSoughtRoom}
+use Rattle.cuckoo_map.specs.Needed.{DoublesNothing}
 use Rattle.cuckoo_map.specs.Displacing.{FindsAny}
 use Rattle.cuckoo_map.specs.SeveralKeys.{IsStripeOfAny, RefusesNames, bound_to}
 use Rattle.cuckoo_map.specs.LockedKeys.{HoldsKeys, keys_of}
-use Rattle.cuckoo_map.specs.Renames.{Renames, HasRenamedOnce, HasRenamed}
+use Rattle.cuckoo_map.specs.Renames.{Renames, LacksSlot, SeeksSlot, HasRenamedOnce, HasRenamed}
 use Rattle.cuckoo_map.proofs.Counted.{grown_none}
 use Rattle.cuckoo_map.proofs.Displacing.{any_on, any_among}
 use Rattle.cuckoo_map.proofs.Trying.{HasTried, tried_same, refused_after, sought_since, says_no_room}
@@ -103,6 +106,13 @@ module _ {V : Type 0} where
       refused_held key (Ok came) x same = tt
       refused_held key (Err back) x same = (x.0, left_as_is same, without_slot l refl r (inr (inl refl)) at m view table as_is x.1)
 
+      -- where the old one was bound
+      pub bound_held : {K : Type 0} (o : Result Renamed K) → IfErr o (λ _. FindsBound (record { hash = hash; s = s; old = m.stripes; new = z.stripes }) q) → OnErr o (get (bindings (contents_of p.stripes)) q ≢ None)
+      bound_held (Ok came) x = tt
+      bound_held (Err back) x =
+          let one : get (bindings (contents_of p.stripes)) q ≡ Some x.0 = value_found l refl q (inl refl) at m view table as_is (Some x.0) z.stripes x.1 in
+          λ none. none-some x.0 (sym none ∙ one)
+
 -- why a rename is refused that has made room and tried once more
 abbrev pub fault_again : Option KeysRefused → RenameFault
 fault_again None = fault.NoSlot
@@ -111,12 +121,12 @@ fault_again (Some why) = fault.Keys why
 module _ {V : Type 0} where
   -- no room has been sought
   pub sought_none : {hash : Name → ℕ} {set : Settings} {r : Name} (p : PassState V) → HasSoughtRoom hash set r p p
-  sought_none p = record { more = []; own = All-nil _; stays = stays_same p.view; grown = grown_none p p refl }
+  sought_none p = record { more = []; own = All-nil _; stays = stays_same p.view; grown = grown_none p p (refl, refl) }
 
-  -- a refused call on several names says nothing of room
-  says_nothing : (hash : Name → ℕ) (set : Settings) (names : List Name) (why : KeysRefused) (p z : PassState V) → RefusesNames hash set names p z why → z.view.no_slot ≡ p.view.no_slot
-  says_nothing hash set names (keys.Busy t) p z h = h.stays.no_slot
-  says_nothing hash set names (keys.Twice i) p z h = ap (λ (x : PassState V). x.view.no_slot) h.1
+  -- a refused call on several names notes nothing
+  notes_nothing : (hash : Name → ℕ) (set : Settings) (names : List Name) (why : KeysRefused) (p z : PassState V) → RefusesNames hash set names p z why → (z.view.no_slot ≡ p.view.no_slot) × DoublesNothing p z
+  notes_nothing hash set names (keys.Busy t) p z h = (h.stays.no_slot, (h.stays.doublings, h.stays.grown_from))
+  notes_nothing hash set names (keys.Twice i) p z h = (ap (λ (x : PassState V). x.view.no_slot) h.1, (ap (λ (x : PassState V). x.view.doublings) h.1, ap (λ (x : PassState V). x.view.grown_from) h.1))
 
   -- one try alone
   module _ {K : Type 0} (hash : Name → ℕ) (set : Settings) (q r : Name) (key : K) (p z : PassState V) where
@@ -124,14 +134,21 @@ module _ {V : Type 0} where
     found_once f = (f.0, f.1, λ t i. inl (f.2 t i))
 
     pub answered_once : (came : Renamed) → HasRenamedOnce hash set q r key (Ok came) p z → HasRenamed hash set q r key (Ok came) p z
-    answered_once came once = record { answered = (p, sought_none p, once.answered); refused = tt; found = found_once once.found }
+    answered_once came once = let stays = once.answered.3.stays in record { answered = (p, sought_none p, once.answered); refused = tt; sought = inl (stays.no_slot, (stays.doublings, stays.grown_from)); found = found_once once.found }
 
     pub refused_once : (back : K) (why : KeysRefused) → HasRenamedOnce hash set q r key (Err (back, Some why)) p z → HasRenamed hash set q r key (Err (record { key = back; why = fault.Keys why })) p z
-    refused_once back why once = record { answered = tt; refused = (once.refused.0, (p, sought_none p, once.refused.1)); found = found_once once.found }
+    refused_once back why once = record { answered = tt; refused = (once.refused.0, (p, sought_none p, once.refused.1)); sought = inl (notes_nothing hash set (q ∷ r ∷ []) why p z once.refused.1); found = found_once once.found }
 
   -- Since p the buckets of r were found full, as p1; p2 has tried to make room.
-  module _ {K : Type 0} (hash : Name → ℕ) (w : WordsState) (q r : Name) (key : K) (p p1 p2 : PassState V) (caller : IsCaller w p1) (full : HasFoundNoRoom r p p1) (before : FindsAmong (IsStripeOfAny hash w.settings (q ∷ r ∷ [])) p p1)
+  module _ {K : Type 0} (hash : Name → ℕ) (w : WordsState) (q r : Name) (key : K) (p p1 p2 : PassState V) (caller : IsCaller w p1) (lacks : LacksSlot q r p p1) (before : FindsAmong (IsStripeOfAny hash w.settings (q ∷ r ∷ [])) p p1)
       (found : FindsOwnUnlessFull hash w.settings r p1 p2) where
+    full : HasFoundNoRoom r p p1
+    full = (lacks.0, lacks.1)
+
+    -- what was noted since is behind that
+    sought_late : (z : PassState V) (more : List (RoomNote V)) → z.view.no_slot ≡ more ++ p1.view.no_slot → SeeksSlot q r p z
+    sought_late z more said = inr (lacks.0, more, said ∙ ap (λ l. more ++ l) lacks.1.no_slot, lacks.2)
+
     tried : HasTried r w p1 p1
     tried = tried_same r w p1 caller.own caller.idle
 
@@ -146,6 +163,7 @@ module _ {V : Type 0} where
     refused_room why said = record {
       answered = tt;
       refused = (refl, refused_after r w hash p p1 p1 p2 full any tried why said);
+      sought = sought_late p2 said.more said.stays.no_slot;
       found = (any_then.0, any_then.1, λ t i. inr (says_no_room r w hash p p1 p1 p2 full any tried said.more said.stays));
     }
 
@@ -154,27 +172,34 @@ module _ {V : Type 0} where
       sought : HasSoughtRoom hash w.settings r p p2
       sought = sought_since r w hash p p1 p1 p2 full any tried made.more made.stays made.own made.grown
 
-      found_again : (more : List (Name × Reason)) → z.view.no_slot ≡ more ++ p2.view.no_slot → FindsAmong (IsStripeOfAny hash w.settings (q ∷ r ∷ [])) p2 z → FindsAmong (λ t. IsStripeOfAny hash w.settings (q ∷ r ∷ []) t ⊎ SaysNoRoom r p z) p z
+      found_again : (more : List (RoomNote V)) → z.view.no_slot ≡ more ++ p2.view.no_slot → FindsAmong (IsStripeOfAny hash w.settings (q ∷ r ∷ [])) p2 z → FindsAmong (λ t. IsStripeOfAny hash w.settings (q ∷ r ∷ []) t ⊎ SaysNoRoom r p z) p z
       found_again more said f =
           let all = any_on p p2 z any_then (any_among _ p2 z f) in
           let says = says_no_room r w hash p p1 p1 p2 full any tried made.more made.stays in
-          (all.0, all.1, λ t i. inr (more ++ says.0, said ∙ (ap (λ l. more ++ l) says.1 ∙ sym (append_assoc more says.0 p.view.no_slot)), Contains-append_right more says.0 _ says.2))
+          (all.0, all.1, λ t i. inr (more ++ says.0, says.1, said ∙ (ap (λ l. more ++ l) says.2 ∙ sym (append_assoc more says.0 p.view.no_slot)), Contains-append_right more says.0 _ says.3))
+
+      -- with what was noted while room was sought
+      sought_again : (more : List (RoomNote V)) → z.view.no_slot ≡ more ++ p2.view.no_slot → SeeksSlot q r p z
+      sought_again more said = sought_late z (more ++ made.more) (said ∙ (ap (λ l. more ++ l) made.stays.no_slot ∙ sym (append_assoc more made.more p1.view.no_slot)))
 
       pub answered_again : (came : Renamed) → HasRenamedOnce hash w.settings q r key (Ok came) p2 z → HasRenamed hash w.settings q r key (Ok came) p z
       answered_again came once = record {
         answered = (p2, sought, once.answered);
         refused = tt;
+        sought = sought_again [] once.answered.3.stays.no_slot;
         found = found_again [] once.answered.3.stays.no_slot once.found;
       }
 
       pub refused_again : (back : K) (why : Option KeysRefused) → HasRenamedOnce hash w.settings q r key (Err (back, why)) p2 z → HasRenamed hash w.settings q r key (Err (record { key = back; why = fault_again why })) p z
       refused_again back None once = record {
         answered = tt;
-        refused = (once.refused.0, (p2, sought, once.refused.1));
-        found = found_again ((r, NoRoom) ∷ []) once.refused.1.no_slot once.found;
+        refused = (once.refused.0, (p2, sought, (once.refused.1.0, once.refused.1.1)));
+        sought = sought_again (noted r NoRoom once.refused.1.0 ∷ []) once.refused.1.1.no_slot;
+        found = found_again (noted r NoRoom once.refused.1.0 ∷ []) once.refused.1.1.no_slot once.found;
       }
       refused_again back (Some why) once = record {
         answered = tt;
         refused = (once.refused.0, (p2, sought, once.refused.1));
-        found = found_again [] (says_nothing hash w.settings (q ∷ r ∷ []) why p2 z once.refused.1) once.found;
+        sought = sought_again [] (notes_nothing hash w.settings (q ∷ r ∷ []) why p2 z once.refused.1).0;
+        found = found_again [] (notes_nothing hash w.settings (q ∷ r ∷ []) why p2 z once.refused.1).0 once.found;
       }

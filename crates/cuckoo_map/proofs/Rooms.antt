@@ -19,7 +19,9 @@ use Rattle.ck_section.specs.Entries.{IsEntryOf}
 use Rattle.ck_section.specs.Calls.{IsWithoutRoom}
 use Rattle.ck_stripe.specs.Tables.{IsTable, power_in, KeepsBindings}
 use Rattle.ck_section.specs.Room.{MakesRoom, GivesReason, GrowsForRoom}
+use Rattle.ck_core.specs.declared.view.RoomNote.{RoomNote}
 use Rattle.ck_core.specs.declared.view.View.{View}
+use Rattle.ck_core.specs.Steps.{noted}
 use Rattle.ck_words.specs.Words.{WordsState}
 use Rattle.ck_words.specs.Passes.{PassState, IsUnchanged, numbers_of}
 use Rattle.ck_words.specs.Retries.{Stays, as_doubled}
@@ -32,7 +34,7 @@ use Rattle.ck_words.proofs.Renewals.{renewed_none, renewed_then}
 use Rattle.cuckoo_map.specs.declared.locking.Spot.{Spot}
 use Rattle.cuckoo_map.specs.declared.room.Room.{Room}
 use Rattle.cuckoo_map.specs.Holding.{HasSpot}
-use Rattle.cuckoo_map.specs.Refusals.{reason_of, why_of, GivesGrounds, ShowsWhy, IsRefused}
+use Rattle.cuckoo_map.specs.Refusals.{SaysOf, reason_of, why_of, GivesGrounds, ShowsWhy, IsRefused}
 use Rattle.cuckoo_map.specs.Needed.{NeedsToGrow, HasGrownFor, HaveOnePower, HoldsGrown}
 use Rattle.cuckoo_map.specs.Insertions.{HoldsRoom, HasRoom}
 use Rattle.cuckoo_map.proofs.Counted.{one_of_lawful, told_first, stays_counting, holds_alike, grown_since}
@@ -53,10 +55,10 @@ module _ {V : Type 0} where
       let here : Without set.s (contents_of ss2) = subst (λ (x : ℕ × Stripes V). Without x.0 x.1) (λ i. (of_table i, kept i)) none in
       made lawful (here set.max (keeps lawful).renewed.lawful)
 
-  shows_lack : (hash : Name → ℕ) (set : Settings) (q : Name) (l : lack.Lack) (p z : PassState V) → GivesGrounds hash set q (reason_of_lack l) z → ShowsWhy hash set q (why_of l) ((q, reason_of_lack l) ∷ []) p z
-  shows_lack hash set q Memory p z g = ((0, omega arith, refl), g)
-  shows_lack hash set q Full p z g = ((0, omega arith, refl), g)
-  shows_lack hash set q LoadTooLow p z g = ((0, omega arith, refl), g)
+  shows_lack : (hash : Name → ℕ) (set : Settings) (q : Name) (l : lack.Lack) (more : List (RoomNote V)) (p z : PassState V) → GivesGrounds hash set q (reason_of_lack l) more z → ShowsWhy hash set q (why_of l) more p z
+  shows_lack hash set q Memory more p z g = g
+  shows_lack hash set q Full more p z g = g
+  shows_lack hash set q LoadTooLow more p z g = g
 
   -- The name has an entry among its stripes, which were taken as p1, and are as they were in z.
   pub room_as_taken : {hash : Name → ℕ} {set : Settings} {q : Name} {spot : Spot} (p p1 z : PassState V) → HasSpot hash set q spot p p1
@@ -91,15 +93,16 @@ module _ {V : Type 0} where
     room_there held = record { more = []; own = All-nil _; stays = stays_there; held = held }
 
     -- none could be made, and they went home
-    pub refused_there : (hash : Name → ℕ) (set : Settings) (q : Name) (w : WordsState) (l : lack.Lack) (z : PassState V) → HasRefused w q (reason_of_lack l) (as_doubled p2 z) z → GivesGrounds hash set q (reason_of_lack l) z → HasGrownFor hash set q p2 z → IsRefused hash set q (why_of l) p z
+    pub refused_there : (hash : Name → ℕ) (set : Settings) (q : Name) (w : WordsState) (l : lack.Lack) (z : PassState V) → HasRefused w q (reason_of_lack l) (as_doubled p2 z) z → GivesGrounds hash set q (reason_of_lack l) (noted q (reason_of_lack l) (contents_of p2.stripes) ∷ []) z → HasGrownFor hash set q p2 z → IsRefused hash set q (why_of l) p z
     refused_there hash set q w l z r grounds grown =
         let why : Reason = reason_of_lack l in
-        let Own : Name × Reason → Type 0 = λ x. (x ≡ (q, NoRoom)) ⊎ (x ≡ (q, reason_of (why_of l))) in
+        let note : RoomNote V = noted q why (contents_of p2.stripes) in
+        let Own : RoomNote V → Type 0 = λ x. SaysOf q NoRoom x ⊎ SaysOf q (reason_of (why_of l)) x in
         record {
-          more = (q, why) ∷ [];
-          stays = stays_then [] ((q, why) ∷ []) (as_doubled p z).view (as_doubled p2 z).view z.view (stays_counting z.view.doublings stays_there) r.stays;
-          own = All-cons Own (q, why) [] (inr (ap (λ (x : Reason). (q, x)) (sym (reason_same l)))) (All-nil Own);
-          shown = shows_lack hash set q l p z grounds;
+          more = note ∷ [];
+          stays = stays_then [] (note ∷ []) (as_doubled p z).view (as_doubled p2 z).view z.view (stays_counting z.view stays_there) r.stays;
+          own = All-cons Own note [] (inr (refl, sym (reason_same l))) (All-nil Own);
+          shown = shows_lack hash set q l (note ∷ []) p z grounds;
           grown = grown_since p p2 z stays_there grown;
         }
 

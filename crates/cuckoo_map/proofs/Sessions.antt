@@ -40,6 +40,7 @@ use Rattle.ck_section.proofs.Tables.{power_shown, power_same}
 use Rattle.ck_section.specs.Clearing.{ClearsBindings}
 use Rattle.ck_section.specs.Retaining.{RetainsMap, RetainsBindings}
 use Rattle.ck_model.specs.Counting.{counting}
+use Rattle.ck_core.specs.Steps.{growing}
 use Rattle.ck_words.specs.Words.{WordsState}
 use Rattle.ck_words.specs.Passes.{EachOf, PassState, IsPassOf, numbers_of}
 use Rattle.ck_words.specs.Retries.{Stays, FindsAmong}
@@ -214,7 +215,8 @@ module _ {V : Type 0} where
         (λ lawful. record { renewed = l.renewed; owns = had_all hash w p l; step = (refl, refl, refl) })
 
     -- the doublings that were made meanwhile
-    pub session_counted : (z : PassState V) → IsDoubledBy p z → z.view.doublings ≡ p.view.doublings + (power_of (contents_of p.stripes) - power_of (reverse p.view.held))
+    pub session_counted : (z : PassState V) → IsDoubledBy p z → (z.view.doublings ≡ p.view.doublings + (power_of (contents_of p.stripes) - power_of (reverse p.view.held)))
+        × (z.view.grown_from ≡ growing p.view.grown_from (reverse p.view.held) (power_of (contents_of p.stripes) - power_of (reverse p.view.held)))
     session_counted z doubled =
         let k : Layout = layout_of hash w.settings in
         doubled (power_of (reverse p.view.held)) (power_of (contents_of p.stripes))
@@ -236,6 +238,7 @@ module _ {V : Type 0} where
       watched = stays.watched;
       told = stays.told;
       doublings = stays.doublings;
+      grown_from = stays.grown_from;
     };
     found = found;
     after = after_all hash w p p1 stays whole;

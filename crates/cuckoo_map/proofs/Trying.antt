@@ -6,6 +6,9 @@ use Rattle.ck_model.specs.declared.history.Reason.{Reason}
 use Rattle.ck_model.specs.declared.history.Reason.TheVariants as reason
 use Rattle.ck_model.specs.declared.history.Reason.TheVariants.{NoRoom}
 use Rattle.ck_model.specs.Promise.{Name}
+use Rattle.ck_model.specs.Contents.{Stripes}
+use Rattle.ck_core.specs.declared.view.RoomNote.{RoomNote}
+use Rattle.ck_core.specs.Steps.{noted}
 use Rattle.ck_words.specs.Words.{WordsState}
 use Rattle.ck_words.specs.Passes.{PassState, IsPassOf, IsIdle}
 use Rattle.ck_words.specs.Retries.{StaysBut, as_doubled}
@@ -14,29 +17,30 @@ use Rattle.ck_words.proofs.Staying.{stays_then}
 use Rattle.cuckoo_map.specs.declared.room.Room.{Room}
 use Rattle.cuckoo_map.specs.declared.refusal.Why.{Why}
 use Rattle.cuckoo_map.specs.declared.refusal.Why.TheVariants.{Busy, Memory, Full, LoadTooLow}
-use Rattle.cuckoo_map.specs.Refusals.{reason_of, FindsOwnUnlessFull, SaysNoRoom, ShowsWhy, IsRefused}
+use Rattle.cuckoo_map.specs.Refusals.{reason_of, SaysOf, FindsOwnUnlessFull, SaysNoRoom, GivesGrounds, ShowsWhy, IsRefused}
 use Rattle.ck_core.specs.declared.view.View.{View}
 use Rattle.cuckoo_map.specs.Needed.{HasGrownFor}
-use Rattle.cuckoo_map.specs.Insertions.{HasFoundNoRoom, HoldsRoom, HasRoom, HasSoughtRoom}
+use Rattle.cuckoo_map.specs.Insertions.{HasFoundNoRoom, SayFull, HoldsRoom, HasRoom, HasSoughtRoom}
 use Rattle.cuckoo_map.proofs.Counted.{loosely, stays_counting, grown_since}
 use Rattle.cuckoo_map.specs.Displacing.{FindsAny, IsBackBut, IsBack}
 use Rattle.cuckoo_map.proofs.Displacing.{any_on, back_same, back_then, found_before}
 
-module _ (q : Name) where
-  abbrev pub AllOwn : List (Name × Reason) → Type 0
-  AllOwn more = All (λ (x : Name × Reason). x ≡ (q, NoRoom)) more
+module _ {V : Type 0} (q : Name) where
+  -- the note that the name's buckets were full in stripes that contained this
+  abbrev pub full_in : Stripes V → RoomNote V
+  full_in hs = noted q NoRoom hs
 
-  one_own : AllOwn ((q, NoRoom) ∷ [])
-  one_own = All-cons (λ (x : Name × Reason). x ≡ (q, NoRoom)) (q, NoRoom) [] refl (All-nil _)
+  one_own : (hs : Stripes V) → SayFull q (full_in hs ∷ [])
+  one_own hs = All-cons (SaysOf q NoRoom) (full_in hs) [] (refl, refl) (All-nil _)
 
-  own_append : (xs ys : List (Name × Reason)) → AllOwn xs → AllOwn ys → AllOwn (xs ++ ys)
-  own_append xs ys a b = All-append (λ (x : Name × Reason). x ≡ (q, NoRoom)) xs ys a b
+  own_append : (xs ys : List (RoomNote V)) → SayFull q xs → SayFull q ys → SayFull q (xs ++ ys)
+  own_append xs ys a b = All-append (SaysOf q NoRoom) xs ys a b
 
 module _ {V : Type 0} (q : Name) where
-  -- The pass is back, and has said nothing of room but that the name's buckets were full.
+  -- The pass is back, and has noted nothing of room but that the name's buckets were full.
   pub record HasTried (w : WordsState) (p p2 : PassState V) : Type 0 where
-    pub more : List (Name × Reason)
-    pub own : AllOwn q more
+    pub more : List (RoomNote V)
+    pub own : SayFull q more
     pub back : IsBackBut w more p p2
 
   module _ (w : WordsState) where
@@ -48,9 +52,9 @@ module _ {V : Type 0} (q : Name) where
 
     pub tried_full : (p r z : PassState V) → HasTried w p r → IsPassOf w z → IsIdle z → HasFoundNoRoom q r z → FindsAny r z → HasTried w p z
     tried_full p r z h own idle full found = record {
-      more = (q, NoRoom) ∷ h.more;
-      own = own_append q ((q, NoRoom) ∷ []) h.more (one_own q) h.own;
-      back = back_then w h.more ((q, NoRoom) ∷ []) p r z h.back (record { own = own; idle = idle; stays = full; found = found });
+      more = full_in q full.0 ∷ h.more;
+      own = own_append q (full_in q full.0 ∷ []) h.more (one_own q full.0) h.own;
+      back = back_then w h.more (full_in q full.0 ∷ []) p r z h.back (record { own = own; idle = idle; stays = full.1; found = found });
     }
 
     -- after a round, it looked again and found no room
@@ -66,25 +70,29 @@ module _ {V : Type 0} (q : Name) where
     }
 
     -- since p the name's buckets were full, p1 tried to make room until r, and was then z
-    module _ (hash : Name → ℕ) (p p1 r z : PassState V) (full : HasFoundNoRoom q p p1) (any : FindsAny p p1) (h : HasTried w p1 r) (more : List (Name × Reason)) (stays : StaysBut more (as_doubled r z).view z.view) where
-      abbrev said : List (Name × Reason)
-      said = (more ++ h.more) ++ (q, NoRoom) ∷ []
+    module _ (hash : Name → ℕ) (p p1 r z : PassState V) (full : HasFoundNoRoom q p p1) (any : FindsAny p p1) (h : HasTried w p1 r) (more : List (RoomNote V)) (stays : StaysBut more (as_doubled r z).view z.view) where
+      -- the first note
+      abbrev first : RoomNote V
+      first = full_in q full.0
+
+      abbrev said : List (RoomNote V)
+      said = (more ++ h.more) ++ first ∷ []
 
       -- until it had tried
-      stays_until : StaysBut (h.more ++ (q, NoRoom) ∷ []) p.view r.view
-      stays_until = stays_then ((q, NoRoom) ∷ []) h.more p.view p1.view r.view full h.back.stays
+      stays_until : StaysBut (h.more ++ first ∷ []) p.view r.view
+      stays_until = stays_then (first ∷ []) h.more p.view p1.view r.view full.1 h.back.stays
 
-      said_on : (v : View V) → StaysBut (more ++ (h.more ++ (q, NoRoom) ∷ [])) v z.view → StaysBut said v z.view
-      said_on v s = subst (λ (l : List (Name × Reason)). StaysBut l v z.view) (sym (append_assoc more h.more ((q, NoRoom) ∷ []))) s
+      said_on : (v : View V) → StaysBut (more ++ (h.more ++ first ∷ [])) v z.view → StaysBut said v z.view
+      said_on v s = subst (λ (l : List (RoomNote V)). StaysBut l v z.view) (sym (append_assoc more h.more (first ∷ []))) s
 
       stays_since : StaysBut said (as_doubled p z).view z.view
-      stays_since = said_on (as_doubled p z).view (stays_then (h.more ++ (q, NoRoom) ∷ []) more (as_doubled p z).view (as_doubled r z).view z.view (stays_counting z.view.doublings stays_until) stays)
+      stays_since = said_on (as_doubled p z).view (stays_then (h.more ++ first ∷ []) more (as_doubled p z).view (as_doubled r z).view z.view (stays_counting z.view stays_until) stays)
 
-      own_since : AllOwn q more → AllOwn q said
-      own_since a = own_append q (more ++ h.more) ((q, NoRoom) ∷ []) (own_append q more h.more a h.own) (one_own q)
+      own_since : SayFull q more → SayFull q said
+      own_since a = own_append q (more ++ h.more) (first ∷ []) (own_append q more h.more a h.own) (one_own q full.0)
 
-      says_full : Contains said (q, NoRoom)
-      says_full = Contains-push (more ++ h.more) (q, NoRoom)
+      says_full : Contains said first
+      says_full = Contains-push (more ++ h.more) first
 
       any_since : FindsAny p r
       any_since = any_on p p1 r any h.back.found
@@ -93,37 +101,43 @@ module _ {V : Type 0} (q : Name) where
       pub found_since_full : FindsAny r z → FindsOwnUnlessFull hash w.settings q p z
       found_since_full f =
           let all = any_on p r z any_since f in
-          (all.0, all.1, (λ t i. inr (said, stays_since.no_slot, says_full)))
+          (all.0, all.1, (λ t i. inr (said, full.0, stays_since.no_slot, says_full)))
 
-      pub room_since : {room : Room} → StaysBut more r.view z.view → AllOwn q more → HoldsRoom hash w.settings q room z → HasRoom hash w.settings q room p z
-      room_since level a held = record { more = said; own = own_since a; stays = said_on p.view (stays_then (h.more ++ (q, NoRoom) ∷ []) more p.view r.view z.view stays_until level); held = held }
+      pub room_since : {room : Room} → StaysBut more r.view z.view → SayFull q more → HoldsRoom hash w.settings q room z → HasRoom hash w.settings q room p z
+      room_since level a held = record { more = said; own = own_since a; stays = said_on p.view (stays_then (h.more ++ first ∷ []) more p.view r.view z.view stays_until level); held = held }
 
       -- room may have been sought for it
-      pub sought_since : AllOwn q more → HasGrownFor hash w.settings q r z → HasSoughtRoom hash w.settings q p z
+      pub sought_since : SayFull q more → HasGrownFor hash w.settings q r z → HasSoughtRoom hash w.settings q p z
       sought_since a grown = record { more = said; own = own_since a; stays = stays_since; grown = grown_since p r z stays_until grown }
 
       -- among what was said is that its buckets were full
       pub says_no_room : SaysNoRoom q p z
-      says_no_room = (said, stays_since.no_slot, says_full)
+      says_no_room = (said, full.0, stays_since.no_slot, says_full)
 
-      -- what was said of room since is said of it in all
-      says_since : (why : Reason) → Contains more (q, why) → Contains said (q, why)
-      says_since why c = Contains-append_left (more ++ h.more) ((q, NoRoom) ∷ []) (q, why) (Contains-append_left more h.more (q, why) c)
+      -- what was noted of room since is noted of it in all
+      grounds_since : (why : Reason) → GivesGrounds hash w.settings q why more z → GivesGrounds hash w.settings q why said z
+      grounds_since why g = record {
+        contents = g.contents;
+        is_noted = let x : RoomNote V = noted q why g.contents in Contains-append_left (more ++ h.more) (first ∷ []) x (Contains-append_left more h.more x g.is_noted);
+        grounds = g.grounds;
+        after = g.after;
+        power = g.power;
+      }
 
       shows_since : (why : Why) → ShowsWhy hash w.settings q why more r z → ShowsWhy hash w.settings q why said p z
       shows_since (Busy t) s =
           let last : List ℕ = replicate w.settings.turns t in
           (s.0, (s.1.0 ++ any_since.0, s.1.1 ∙ (ap (λ l. (last ++ s.1.0) ++ l) any_since.1 ∙ found_before last s.1.0 any_since.0 p.view.found)), s.2, s.3 ∙ stays_until.doublings, s.4)
-      shows_since Memory s = (says_since reason.Memory s.0, s.1)
-      shows_since Full s = (says_since reason.Full s.0, s.1)
-      shows_since LoadTooLow s = (says_since reason.LoadTooLow s.0, s.1)
+      shows_since Memory s = grounds_since reason.Memory s
+      shows_since Full s = grounds_since reason.Full s
+      shows_since LoadTooLow s = grounds_since reason.LoadTooLow s
 
-      pub refused_since : (why : Why) → All (λ (x : Name × Reason). (x ≡ (q, NoRoom)) ⊎ (x ≡ (q, reason_of why))) more → ShowsWhy hash w.settings q why more r z → HasGrownFor hash w.settings q r z → IsRefused hash w.settings q why p z
+      pub refused_since : (why : Why) → All (λ (x : RoomNote V). SaysOf q NoRoom x ⊎ SaysOf q (reason_of why) x) more → ShowsWhy hash w.settings q why more r z → HasGrownFor hash w.settings q r z → IsRefused hash w.settings q why p z
       refused_since why a shown grown =
-          let Own : Name × Reason → Type 0 = λ x. (x ≡ (q, NoRoom)) ⊎ (x ≡ (q, reason_of why)) in
-          let one : AllOwn q ((q, NoRoom) ∷ []) = one_own q in
+          let Own : RoomNote V → Type 0 = λ x. SaysOf q NoRoom x ⊎ SaysOf q (reason_of why) x in
+          let one : SayFull q (first ∷ []) = one_own q full.0 in
           let before : All Own (more ++ h.more) = All-append Own more h.more a (λ i d l. inl (h.own i d l)) in
-          record { more = said; stays = stays_since; own = All-append Own (more ++ h.more) ((q, NoRoom) ∷ []) before (λ i d l. inl (one i d l)); shown = shows_since why shown; grown = grown_since p r z stays_until grown }
+          record { more = said; stays = stays_since; own = All-append Own (more ++ h.more) (first ∷ []) before (λ i d l. inl (one i d l)); shown = shows_since why shown; grown = grown_since p r z stays_until grown }
 
     -- the same of what was left since
     module _ (hash : Name → ℕ) (p p1 r z : PassState V) (full : HasFoundNoRoom q p p1) (any : FindsAny p p1) (h : HasTried w p1 r) where

@@ -7,10 +7,9 @@ use Rattle.ck_model.specs.declared.history.Call.{Call}
 use Rattle.ck_model.specs.declared.history.Call.TheVariants.{On, Len, SessionOn, Session}
 use Rattle.ck_model.specs.declared.history.Reply.{Reply}
 use Rattle.ck_model.specs.declared.history.Reply.TheVariants.{Count, Closed}
-use Rattle.ck_model.specs.declared.history.Reason.{Reason}
-use Rattle.ck_model.specs.declared.history.Reason.TheVariants.{NoRoom}
 use Rattle.ck_model.specs.Promise.{Name, Map, Client, Replied, ListsInOrder}
 use Rattle.ck_core.specs.declared.trace.LockEvent.{LockEvent}
+use Rattle.ck_core.specs.declared.view.RoomNote.{RoomNote}
 use Rattle.ck_core.specs.State.{client_of}
 use Rattle.ck_words.specs.Words.{WordsState}
 use Rattle.ck_words.specs.Passes.{PassState}
@@ -26,7 +25,7 @@ use Rattle.cuckoo_map.specs.Refusals.{IsStripeIn, IsStripeOfEither, FindsOwn, Fi
 use Rattle.cuckoo_map.specs.SeveralKeys.{IsStripeOfAny, RefusesNames}
 use Rattle.cuckoo_map.specs.Notes.{Notes, notes_of, idle_pass}
 use Rattle.cuckoo_map.specs.Needed.{HasGrownFor}
-use Rattle.cuckoo_map.specs.Insertions.{HandsBack}
+use Rattle.cuckoo_map.specs.Insertions.{SayFull, HandsBack}
 use Rattle.cuckoo_map.specs.Growth.{Rehashes, Reserves}
 
 -- Its table, what its client sees, and what else it knows.
@@ -65,22 +64,22 @@ module _ {V : Type 0} where
   abbrev pub Counts : CallerState V → CallerState V → ℕ → Type 0
   Counts c d count = Replies Len c d (Count count)
 
-  -- From c to d it was told no lower power, met nobody, and watched no less of the trace. It has said of these names more that they found no room.
-  pub record KeepsNotesBut (more : List (Name × Reason)) (c d : CallerState V) : Type 0 where
+  -- From c to d it was told no lower power, met nobody, and watched no less of the trace. It has noted more that names found no room.
+  pub record KeepsNotesBut (more : List (RoomNote V)) (c d : CallerState V) : Type 0 where
     pub settings : d.client.settings ≡ c.client.settings
     pub told : c.notes.told ≤ d.notes.told
-    pub heard : (d.notes.heard ≡ c.notes.heard) × (d.notes.heard_told ≡ c.notes.heard_told)
-    pub watched : (events : List LockEvent) × (d.notes.watched ≡ c.notes.watched ++ events)
+    pub heard : (d.notes.heard ≡ c.notes.heard) × (d.notes.heard_told ≡ c.notes.heard_told) × (d.notes.heard_watched ≡ c.notes.heard_watched)
+    pub watched : (events : List (LockEvent V)) × (d.notes.watched ≡ c.notes.watched ++ events)
     pub no_slot : d.notes.no_slot ≡ more ++ c.notes.no_slot
 
-  -- and it has said so of none more, and made no doubling
+  -- and it has noted so of none more, and made no doubling
   abbrev pub KeepsNotes : CallerState V → CallerState V → Type 0
-  KeepsNotes c d = KeepsNotesBut [] c d × (d.notes.doublings ≡ c.notes.doublings)
+  KeepsNotes c d = KeepsNotesBut [] c d × (d.notes.doublings ≡ c.notes.doublings) × (d.notes.grown_from ≡ c.notes.grown_from)
 
-  -- and it has said nothing but that the buckets of this name were full, and made no doubling that the name didn't need
+  -- and it has noted nothing but that the buckets of this name were full, and made no doubling that the name didn't need
   abbrev pub NotesFull : (Name → ℕ) → Name → CallerState V → CallerState V → Type 0
   NotesFull hash q c d =
-      (more : List (Name × Reason)) × All (λ x. x ≡ (q, NoRoom)) more × KeepsNotesBut more c d × HasGrownFor hash c.table.settings q (pass_of c) (pass_of d)
+      (more : List (RoomNote V)) × SayFull q more × KeepsNotesBut more c d × HasGrownFor hash c.table.settings q (pass_of c) (pass_of d)
 
   -- nothing changed but what it was told, found and saw of others
   abbrev pub StaysAsIs : CallerState V → CallerState V → Type 0
@@ -92,7 +91,7 @@ module _ {V : Type 0} where
 
   -- what it tells others
   abbrev pub message_of_caller : CallerState V → MessageState V
-  message_of_caller c = record { table = c.table.table; seen = c.client.seen; told = c.notes.told }
+  message_of_caller c = record { table = c.table.table; seen = c.client.seen; told = c.notes.told; watched = c.notes.watched }
 
   -- d has heard the message
   abbrev pub HearsMessage : MessageState V → CallerState V → CallerState V → Type 0

@@ -1,8 +1,8 @@
 -- What an insertion leaves of its pass while it makes room for its key.
 use Rattle.std.specs.Prelude.{◌≡◌, ℕ, ◌^◌, ◌<◌, List, [], ◌++◌, Result, IfErr}
-use Rattle.ck_model.specs.declared.history.Reason.{Reason}
 use Rattle.ck_model.specs.declared.settings.Settings.{Settings}
 use Rattle.ck_model.specs.Promise.{Name}
+use Rattle.ck_core.specs.declared.view.RoomNote.{RoomNote}
 use Rattle.ck_words.specs.Words.{WordsState}
 use Rattle.ck_words.specs.Passes.{PassState, IsPassOf, IsIdle}
 use Rattle.ck_words.specs.Retries.{StaysBut}
@@ -16,14 +16,14 @@ module _ {V : Type 0} where
   FindsAny p p2 = (more : List ℕ) × (p2.view.found ≡ more ++ p.view.found)
 
   -- The pass holds no stripe and has no entry more. It may have found any stripe held.
-  -- It has said of these names more that they found no room.
-  pub record IsBackBut (w : WordsState) (more : List (Name × Reason)) (p p2 : PassState V) : Type 0 where
+  -- It has noted more that names found no room.
+  pub record IsBackBut (w : WordsState) (more : List (RoomNote V)) (p p2 : PassState V) : Type 0 where
     pub own : IsPassOf w p2
     pub idle : IsIdle p2
     pub stays : StaysBut more p.view p2.view
     pub found : FindsAny p p2
 
-  -- and it has said so of none more
+  -- and it has noted so of none more
   abbrev pub IsBack : WordsState → PassState V → PassState V → Type 0
   IsBack w = IsBackBut w []
 
@@ -36,6 +36,6 @@ module _ {V : Type 0} where
     pub back : IsBack w p p2
     pub busy : IfErr result (λ busy. IsBusyAnywhere w.settings busy.0 p p2)
 
-  -- It is so since each p after which no stripe was found held but those of the name, and it was said that the name's buckets were full.
+  -- It is so since each p after which no stripe was found held but those of the name, and it was noted that the name's buckets were full.
   abbrev pub SinceFull : (Name → ℕ) → Settings → Name → PassState V → (PassState V → Type 0) → Type 0
   SinceFull hash set q p1 P = (p : PassState V) → HasFoundNoRoom q p p1 → FindsOwn hash set q p p1 → P p

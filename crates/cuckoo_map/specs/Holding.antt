@@ -1,7 +1,6 @@
 -- A pass while a call holds the stripes of its key.
 use Rattle.std.specs.Prelude.{◌≡◌, ◌↔◌, ℕ, List, []}
 use Rattle.ck_key.specs.Hashes.{IsHashOf}
-use Rattle.ck_model.specs.declared.history.Reason.{Reason}
 use Rattle.ck_model.specs.declared.settings.Settings.{Settings}
 use Rattle.ck_model.specs.Promise.{Name}
 use Rattle.ck_model.specs.Numbered.{IsIn}
@@ -11,6 +10,7 @@ use Rattle.ck_section.specs.declared.place.KeyPlace.{KeyPlace}
 use Rattle.ck_stripe.specs.Stripes.{contents_of}
 use Rattle.ck_stripe.specs.Tables.{AreHeld}
 use Rattle.ck_section.specs.Places.{IsPlaceOf}
+use Rattle.ck_core.specs.declared.view.RoomNote.{RoomNote}
 use Rattle.ck_words.specs.Passes.{PassState, IsUnchanged, numbers_of}
 use Rattle.ck_words.specs.StripeNumbers.{own_numbers}
 use Rattle.ck_words.specs.StripeSets.{list_of}
@@ -28,8 +28,8 @@ pub record AreStripesOf (hash : Name → ℕ) (set : Settings) (q : Name) (own :
 
 module _ {V : Type 0} where
   -- Since p the pass has taken the stripes of the name, and has settled them. The name may be at this place among them.
-  -- It has said of these names more that they found no room.
-  pub record HoldsKeyBut (more : List (Name × Reason)) (hash : Name → ℕ) (set : Settings) (q : Name) (place : KeyPlace) (p p2 : PassState V) : Type 0 where
+  -- It has noted more that names found no room.
+  pub record HoldsKeyBut (more : List (RoomNote V)) (hash : Name → ℕ) (set : Settings) (q : Name) (place : KeyPlace) (p p2 : PassState V) : Type 0 where
     pub stays : StaysBut more p.view p2.view
     pub both : Owns (layout_of hash set) (contents_of p2.stripes) q
     pub at : IsPlaceOf hash p2.stripes q place
@@ -37,7 +37,7 @@ module _ {V : Type 0} where
     pub unchanged : IsUnchanged p2
     pub one_power : HaveOnePower p2.stripes
 
-  -- and it has said so of none more
+  -- and it has noted so of none more
   abbrev pub HoldsKey : (Name → ℕ) → Settings → Name → KeyPlace → PassState V → PassState V → Type 0
   HoldsKey = HoldsKeyBut []
 

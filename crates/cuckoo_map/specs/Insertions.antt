@@ -3,14 +3,16 @@ use Rattle.std.specs.Prelude.{◌≡◌, ℕ, List, [], ◌∷◌, All, Result, 
 use Rattle.ck_model.specs.declared.history.Act.{Act}
 use Rattle.ck_model.specs.declared.history.Call.TheVariants.{On}
 use Rattle.ck_model.specs.declared.history.Reply.{Reply}
-use Rattle.ck_model.specs.declared.history.Reason as history
 use Rattle.ck_model.specs.declared.history.Reason.TheVariants as reason
 use Rattle.ck_model.specs.declared.settings.Settings.{Settings}
 use Rattle.ck_model.specs.Promise.{Name}
+use Rattle.ck_model.specs.Contents.{Stripes}
 use Rattle.ck_stripe.specs.Stripes.{HaveNoSpare}
 use Rattle.ck_section.specs.Places.{IsPlaceOf}
 use Rattle.ck_section.specs.Entries.{IsEntryOf}
 use Rattle.cuckoo_map.specs.declared.room.Room.{Room}
+use Rattle.ck_core.specs.declared.view.RoomNote.{RoomNote}
+use Rattle.ck_core.specs.Steps.{noted}
 use Rattle.ck_words.specs.Passes.{PassState, numbers_of}
 use Rattle.ck_words.specs.StripeSets.{list_of}
 use Rattle.ck_words.specs.Retries.{StaysBut, as_doubled}
@@ -18,17 +20,25 @@ use Rattle.ck_words.specs.Answering.{IsAnsweredBut}
 use Rattle.ck_words.specs.Renewing.{HasRenewed}
 use Rattle.cuckoo_map.specs.declared.refusal.Refused.{Refused}
 use Rattle.cuckoo_map.specs.Needed.{HasGrownFor, HoldsGrown}
-use Rattle.cuckoo_map.specs.Refusals.{FindsOwnUnlessFull, IsRefused}
+use Rattle.cuckoo_map.specs.Refusals.{SaysOf, FindsOwnUnlessFull, IsRefused}
 
 module _ {V : Type 0} where
-  -- the pass has said that the name was unbound and its buckets were full
-  abbrev pub HasFoundNoRoom : Name → PassState V → PassState V → Type 0
-  HasFoundNoRoom q p p2 = StaysBut ((q, reason.NoRoom) ∷ []) p.view p2.view
+  -- the pass has noted that the name was unbound in these stripes and its buckets were full
+  abbrev pub FindsFull : Name → Stripes V → PassState V → PassState V → Type 0
+  FindsFull q hs p p2 = StaysBut (noted q reason.NoRoom hs ∷ []) p.view p2.view
 
-  -- The insertion is answered: it was this act on the name, with this reply. It has said nothing of room but that its name's buckets were full, and has made no doubling that its name didn't need.
+  -- in such as it held
+  abbrev pub HasFoundNoRoom : Name → PassState V → PassState V → Type 0
+  HasFoundNoRoom q p p2 = (hs : Stripes V) × FindsFull q hs p p2
+
+  -- each note says of the name that its buckets were full
+  abbrev pub SayFull : Name → List (RoomNote V) → Type 0
+  SayFull q more = All (SaysOf q reason.NoRoom) more
+
+  -- The insertion is answered: it was this act on the name, with this reply. It has noted nothing of room but that its name's buckets were full, and has made no doubling that its name didn't need.
   abbrev pub IsInserted : (Name → ℕ) → Settings → Name → PassState V → PassState V → Act V → Reply V → Type 0
   IsInserted hash set q p p2 act reply =
-      (more : List (Name × history.Reason)) × All (λ x. x ≡ (q, reason.NoRoom)) more × IsAnsweredBut more (On q act) reply (as_doubled p p2) p2 × HasGrownFor hash set q p p2
+      (more : List (RoomNote V)) × SayFull q more × IsAnsweredBut more (On q act) reply (as_doubled p p2) p2 × HasGrownFor hash set q p p2
 
   -- The answer tells of an act with a reply that was done.
   abbrev pub TellsOf : {A : Type 0} → (A → Act V → Reply V → Type 0) → (Act V → Reply V → Type 0) → A → Type 0
@@ -45,17 +55,17 @@ module _ {V : Type 0} where
     pub renewed : HasRenewed hash set p
     pub grown : HoldsGrown hash set q p
 
-  -- Since p the pass has taken stripes, with an entry of the name among them. It has said nothing of room but that its name's buckets were full.
+  -- Since p the pass has taken stripes, with an entry of the name among them. It has noted nothing of room but that its name's buckets were full.
   pub record HasRoom (hash : Name → ℕ) (set : Settings) (q : Name) (room : Room) (p p2 : PassState V) : Type 0 where
-    pub more : List (Name × history.Reason)
-    pub own : All (λ x. x ≡ (q, reason.NoRoom)) more
+    pub more : List (RoomNote V)
+    pub own : SayFull q more
     pub stays : StaysBut more p.view p2.view
     pub held : HoldsRoom hash set q room p2
 
-  -- Since p the pass may have sought room for the name. It has said nothing of room but that the name's buckets were full, and has made no doubling that the name didn't need.
+  -- Since p the pass may have sought room for the name. It has noted nothing of room but that the name's buckets were full, and has made no doubling that the name didn't need.
   pub record HasSoughtRoom (hash : Name → ℕ) (set : Settings) (q : Name) (p p2 : PassState V) : Type 0 where
-    pub more : List (Name × history.Reason)
-    pub own : All (λ x. x ≡ (q, reason.NoRoom)) more
+    pub more : List (RoomNote V)
+    pub own : SayFull q more
     pub stays : StaysBut more (as_doubled p p2).view p2.view
     pub grown : HasGrownFor hash set q p p2
 

@@ -19,6 +19,7 @@ use Rattle.ck_stripe.specs.Stripes.{contents_of}
 use Rattle.ck_stripe.specs.Tables.{AreAllHeld, AreSettled, IsTable, KeepsBindings}
 use Rattle.ck_section.specs.Retaining.{RetainsMap}
 use Rattle.ck_section.specs.Room.{MakesRoom, GivesReason, GrowsForRoom}
+use Rattle.ck_core.specs.Steps.{growing}
 use Rattle.ck_words.specs.Words.{WordsState}
 use Rattle.ck_words.specs.Passes.{PassState, IsPassOf, ShowsSeen}
 use Rattle.ck_words.specs.Retries.{Stays, FindsAmong}
@@ -62,9 +63,10 @@ module _ {V : Type 0} where
   abbrev pub EndsSession : LockedState V → Client V → Type 0
   EndsSession l d = (by : ℕ) × (l.caller.client.by ≡ Some by) × Follows l.caller.client (record { by = by; call = session_call l; reply = Closed }) d
 
-  -- it keeps its notes, and the doublings of the session are counted
+  -- it keeps its notes, and the doublings of the session are counted and noted
   abbrev pub EndsNotes : LockedState V → CallerState V → Type 0
   EndsNotes l d = KeepsNotesBut [] l.caller d × (d.notes.doublings ≡ l.caller.notes.doublings + (locked_power l - power_of l.before))
+      × (d.notes.grown_from ≡ growing l.caller.notes.grown_from l.before (locked_power l - power_of l.before))
 
   -- from l to m nothing but the stripes may have changed
   abbrev pub IsSameSession : LockedState V → LockedState V → Type 0

@@ -1,5 +1,5 @@
 -- A table grows for want of room for a name.
-use Rattle.std.specs.Prelude.{◌≡◌, ℕ, ◌+◌, ◌<◌, ◌≤◌, List, reverse}
+use Rattle.std.specs.Prelude.{◌≡◌, ℕ, ◌+◌, ◌<◌, ◌≤◌, List, ◌∷◌, reverse}
 use Rattle.ck_model.specs.declared.contents.Content.{Content}
 use Rattle.ck_model.specs.declared.history.Entry.{Entry}
 use Rattle.ck_model.specs.declared.history.Reason.TheVariants.{Memory}
@@ -15,11 +15,15 @@ use Rattle.ck_words.specs.Passes.{PassState}
 use Rattle.ck_words.specs.Holding.{AreOfPower}
 
 module _ {V : Type 0} where
+  -- From p to p2 the caller made no doubling.
+  abbrev pub DoublesNothing : PassState V → PassState V → Type 0
+  DoublesNothing p p2 = (p2.view.doublings ≡ p.view.doublings) × (p2.view.grown_from ≡ p.view.grown_from)
+
   -- What all stripes contained, doubled up to this power, lacks nothing but memory to make room for the name: no displacement makes it, the power isn't the greatest, and enough slots are taken.
   abbrev pub NeedsToGrow : (Name → ℕ) → Settings → Name → Stripes V → ℕ → Type 0
   NeedsToGrow hash set q hs power = (ks : Stripes V) × IsDoubledTo (layout_of hash set) power hs ks × Grounds (layout_of hash set) set.min_load ks q Memory
 
-  -- Contents of all stripes that bind what the history leaves at a moment since p, up to which p2 has seen it, at no lower power than p was told. From them on the table needed so many doublings to have room for the name.
+  -- What all stripes contained when the caller made the table double, which it noted then. It binds what the history leaves at a moment since p, up to which p2 has seen it, at no lower power than p was told. From there on the table needed so many doublings to have room for the name.
   pub record NeedsDoublings (hash : Name → ℕ) (set : Settings) (q : Name) (doublings : ℕ) (p p2 : PassState V) : Type 0 where
     pub log : List (Entry V)
     pub contents : Stripes V
@@ -27,12 +31,14 @@ module _ {V : Type 0} where
     pub seen : StartsWith p2.view.seen log
     pub after : After log (bindings contents)
     pub told : p.view.told ≤ power_of contents
+    pub noted : p2.view.grown_from ≡ contents ∷ p.view.grown_from
     pub each : (i : ℕ) → i < doublings → NeedsToGrow hash set q contents (power_of contents + i)
 
   -- From p to p2 the caller made the table double no more often than it had to for the name.
   pub record HasGrownFor (hash : Name → ℕ) (set : Settings) (q : Name) (p p2 : PassState V) : Type 0 where
     pub doublings : ℕ
     pub made : p2.view.doublings ≡ p.view.doublings + doublings
+    pub none : doublings ≡ 0 → p2.view.grown_from ≡ p.view.grown_from
     pub needed : 0 < doublings → NeedsDoublings hash set q doublings p p2
 
   -- the stripes have one power

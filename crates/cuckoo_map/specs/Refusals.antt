@@ -10,6 +10,8 @@ use Rattle.ck_model.specs.declared.lack.Lack.{Lack}
 use Rattle.ck_model.specs.declared.lack.Lack.TheVariants as lack
 use Rattle.cuckoo_map.specs.declared.refusal.Why.{Why}
 use Rattle.cuckoo_map.specs.declared.refusal.Why.TheVariants.{Busy, Memory, Full, LoadTooLow}
+use Rattle.ck_core.specs.declared.view.RoomNote.{RoomNote}
+use Rattle.ck_core.specs.Steps.{noted}
 use Rattle.ck_words.specs.Passes.{PassState}
 use Rattle.ck_words.specs.Retries.{StaysBut, Stays, as_doubled, FindsAmong, FindsLast, HasMissed}
 use Rattle.cuckoo_map.specs.Needed.{HasGrownFor}
@@ -52,32 +54,37 @@ module _ {V : Type 0} where
   abbrev pub IsBusyAt : (Name → ℕ) → Settings → Name → ℕ → PassState V → PassState V → Type 0
   IsBusyAt hash set q t p p2 = IsBusyAmong (IsStripeOf (layout_of hash set) q) set t p p2
 
-  -- among what it has said of room since is that the name's buckets were full
+  -- the note says of the name that it found no room for this reason
+  abbrev pub SaysOf : Name → history.Reason → RoomNote V → Type 0
+  SaysOf q why x = (x.name ≡ q) × (x.reason ≡ why)
+
+  -- among what it has noted since is that the name's buckets were full
   abbrev pub SaysNoRoom : Name → PassState V → PassState V → Type 0
-  SaysNoRoom q p p2 = (more : List (Name × history.Reason)) × (p2.view.no_slot ≡ more ++ p.view.no_slot) × Contains more (q, reason.NoRoom)
+  SaysNoRoom q p p2 = (more : List (RoomNote V)) × (hs : Stripes V) × (p2.view.no_slot ≡ more ++ p.view.no_slot) × Contains more (noted q reason.NoRoom hs)
 
   -- the pass found no stripe held but those of the name, or any once the name's buckets were full
   abbrev pub FindsOwnUnlessFull : (Name → ℕ) → Settings → Name → PassState V → PassState V → Type 0
   FindsOwnUnlessFull hash set q p p2 = FindsAmong (λ t. IsStripeOf (layout_of hash set) q t ⊎ SaysNoRoom q p p2) p p2
 
-  -- Contents of all stripes that give the reason to refuse the name. They bind what the history leaves, up to what the pass has seen, and the pass was told their power.
-  pub record GivesGrounds (hash : Name → ℕ) (set : Settings) (q : Name) (why : history.Reason) (p : PassState V) : Type 0 where
+  -- What all stripes contained when the pass noted it, which gives the reason to refuse the name. It binds what the history leaves, up to what the pass has seen, and the pass was told its power.
+  pub record GivesGrounds (hash : Name → ℕ) (set : Settings) (q : Name) (why : history.Reason) (more : List (RoomNote V)) (p : PassState V) : Type 0 where
     pub contents : Stripes V
+    pub is_noted : Contains more (noted q why contents)
     pub grounds : Grounds (layout_of hash set) set.min_load contents q why
     pub after : After p.view.seen (bindings contents)
     pub power : p.view.told ≡ power_of contents
 
-  -- what was found, or said of room and why, where an insertion is refused for this reason; a busy one has made no doubling
-  abbrev pub ShowsWhy : (Name → ℕ) → Settings → Name → Why → List (Name × history.Reason) → PassState V → PassState V → Type 0
+  -- what was found, or noted of room and why, where an insertion is refused for this reason; a busy one has made no doubling
+  abbrev pub ShowsWhy : (Name → ℕ) → Settings → Name → Why → List (RoomNote V) → PassState V → PassState V → Type 0
   ShowsWhy hash set q (Busy t) more p p2 = (t < 2 ^ set.s) × FindsLast set.turns t p p2 × (set.callers ≢ 1) × (p2.view.doublings ≡ p.view.doublings) × HasMissed set.turns t p2
-  ShowsWhy hash set q Memory more p p2 = Contains more (q, reason.Memory) × GivesGrounds hash set q reason.Memory p2
-  ShowsWhy hash set q Full more p p2 = Contains more (q, reason.Full) × GivesGrounds hash set q reason.Full p2
-  ShowsWhy hash set q LoadTooLow more p p2 = Contains more (q, reason.LoadTooLow) × GivesGrounds hash set q reason.LoadTooLow p2
+  ShowsWhy hash set q Memory more p p2 = GivesGrounds hash set q reason.Memory more p2
+  ShowsWhy hash set q Full more p p2 = GivesGrounds hash set q reason.Full more p2
+  ShowsWhy hash set q LoadTooLow more p p2 = GivesGrounds hash set q reason.LoadTooLow more p2
 
-  -- The insertion was refused for this reason, and has no entry. It has said nothing of room but that its name's buckets were full, and the reason.
+  -- The insertion was refused for this reason, and has no entry. It has noted nothing of room but that its name's buckets were full, and the reason.
   pub record IsRefused (hash : Name → ℕ) (set : Settings) (q : Name) (why : Why) (p p2 : PassState V) : Type 0 where
-    pub more : List (Name × history.Reason)
+    pub more : List (RoomNote V)
     pub stays : StaysBut more (as_doubled p p2).view p2.view
-    pub own : All (λ x. (x ≡ (q, reason.NoRoom)) ⊎ (x ≡ (q, reason_of why))) more
+    pub own : All (λ x. SaysOf q reason.NoRoom x ⊎ SaysOf q (reason_of why) x) more
     pub shown : ShowsWhy hash set q why more p p2
     pub grown : HasGrownFor hash set q p p2

@@ -1,11 +1,16 @@
 -- A rename: the value of a name goes to another one.
-use Rattle.std.specs.Prelude.{◌≡◌, ◌⊎◌, ℕ, List, [], ◌∷◌, Option, Some, None, Result, IfOk, IfErr, OnOk, MatchOption}
+use Rattle.std.specs.FinMap.{get}
+use Rattle.std.specs.Prelude.{◌≡◌, ◌≢◌, ◌⊎◌, ℕ, List, [], ◌∷◌, ◌++◌, Option, Some, None, Result, IfOk, IfErr, OnOk, MatchOption}
 use Rattle.ck_model.specs.declared.history.Call.TheVariants.{SessionOn}
 use Rattle.ck_model.specs.declared.history.Reply.TheVariants.{Closed}
 use Rattle.ck_model.specs.declared.settings.Settings.{Settings}
+use Rattle.ck_model.specs.declared.history.Reason.TheVariants.{NoRoom}
 use Rattle.ck_model.specs.Promise.{Name}
+use Rattle.ck_model.specs.Contents.{Stripes, bindings}
 use Rattle.ck_section.specs.declared.two_keys.Renamed.{Renamed}
 use Rattle.ck_section.specs.declared.two_keys.Renamed.TheVariants.{Done, Unbound, Occupied}
+use Rattle.ck_core.specs.declared.view.RoomNote.{RoomNote}
+use Rattle.ck_core.specs.Steps.{noted}
 use Rattle.ck_words.specs.Passes.{PassState}
 use Rattle.ck_words.specs.Retries.{FindsAmong}
 use Rattle.ck_words.specs.Answering.{IsAnswered}
@@ -15,7 +20,8 @@ use Rattle.cuckoo_map.specs.declared.refusal.RenameFault.{RenameFault}
 use Rattle.cuckoo_map.specs.declared.refusal.RenameFault.TheVariants.{Keys, Room, NoSlot}
 use Rattle.cuckoo_map.specs.declared.refusal.Why.{Why}
 use Rattle.cuckoo_map.specs.Refusals.{IsRefused, SaysNoRoom}
-use Rattle.cuckoo_map.specs.Insertions.{HasFoundNoRoom, HasSoughtRoom}
+use Rattle.cuckoo_map.specs.Insertions.{FindsFull, HasFoundNoRoom, HasSoughtRoom}
+use Rattle.cuckoo_map.specs.Needed.{DoublesNothing}
 use Rattle.cuckoo_map.specs.SeveralKeys.{IsStripeOfAny, RefusesNames}
 use Rattle.cuckoo_map.specs.Callers.{CallerState, pass_of, IsSameCaller, Replies, NotesFull, FindsHeldAmong, FindsHeldUnlessFull}
 
@@ -26,9 +32,18 @@ module _ {V : Type 0} where
   Renames Unbound before after = (o : Option V) × (before ≡ None ∷ o ∷ []) × (after ≡ before)
   Renames Occupied before after = (v w : V) × (before ≡ Some v ∷ Some w ∷ []) × (after ≡ before)
 
-  -- Why one try renamed nothing: as a call on the two names is refused, or the new name was unbound and its buckets were full.
+  -- the pass has noted that q was bound in stripes in which r was unbound and its buckets were full
+  abbrev pub LacksSlot : Name → Name → PassState V → PassState V → Type 0
+  LacksSlot q r p p2 = (hs : Stripes V) × FindsFull r hs p p2 × (get (bindings hs) q ≢ None)
+
+  -- Why one try renamed nothing: as a call on the two names is refused, or the old name was bound, the new one was not, and its buckets were full.
   abbrev pub RefusesOnce : (Name → ℕ) → Settings → Name → Name → Option KeysRefused → PassState V → PassState V → Type 0
-  RefusesOnce hash set q r why p p2 = MatchOption why (HasFoundNoRoom r p p2) (RefusesNames hash set (q ∷ r ∷ []) p p2)
+  RefusesOnce hash set q r why p p2 = MatchOption why (LacksSlot q r p p2) (RefusesNames hash set (q ∷ r ∷ []) p p2)
+
+  -- From p to p2 nothing was noted of room and no doubling made, or the first that was noted is that r had no slot in stripes in which q was bound.
+  abbrev pub SeeksSlot : Name → Name → PassState V → PassState V → Type 0
+  SeeksSlot q r p p2 = ((p2.view.no_slot ≡ p.view.no_slot) × DoublesNothing p p2)
+      ⊎ ((hs : Stripes V) × (more : List (RoomNote V)) × (p2.view.no_slot ≡ more ++ noted r NoRoom hs ∷ p.view.no_slot) × (get (bindings hs) q ≢ None))
 
   -- Why q was not renamed to r: as a call on the two names is refused, or as an insertion of r is, or since the buckets of r were full again when room had been made.
   abbrev pub IsNotRenamed : (Name → ℕ) → Settings → Name → Name → RenameFault → PassState V → PassState V → Type 0
@@ -47,6 +62,7 @@ module _ {V : Type 0} where
     pub answered : IfOk result (λ came. (m : PassState V) × HasSoughtRoom hash set r p m
         × ((before after : List (Option V)) × Renames came before after × IsAnswered (SessionOn (q ∷ r ∷ []) before after) Closed m p2))
     pub refused : IfErr result (λ back. (back.key ≡ key) × IsNotRenamed hash set q r back.why p p2)
+    pub sought : SeeksSlot q r p p2
     pub found : FindsAmong (λ t. IsStripeOfAny hash set (q ∷ r ∷ []) t ⊎ SaysNoRoom r p p2) p p2
 
   -- What a rename of q to r leaves of its caller: it was answered at one moment, at which they went from these bindings to those; or it was refused, and the key came back.
@@ -55,6 +71,7 @@ module _ {V : Type 0} where
     pub answered : IfOk result (λ came. (before after : List (Option V)) × Renames came before after × Replies (SessionOn (q ∷ r ∷ []) before after) c d Closed)
     pub notes : OnOk result (NotesFull hash r c d)
     pub refused : IfErr result (λ back. (back.key ≡ key) × IsNotRenamed hash c.table.settings q r back.why (pass_of c) (pass_of d))
+    pub sought : SeeksSlot q r (pass_of c) (pass_of d)
     pub found : FindsHeldAmong (λ t. IsStripeOfAny hash c.table.settings (q ∷ r ∷ []) t ⊎ SaysNoRoom r (pass_of c) (pass_of d)) c d
 
   -- What a call that makes room for a name leaves of its caller.

@@ -1,14 +1,14 @@
 //! The value of a key goes to another key.
-ghost use Rattle.std.specs.Prelude.{◌≡◌, [], ◌∷◌, IfOk, IfErr};
-ghost use Rattle.ck_model.specs.Contents.{layout_of};
+ghost use Rattle.std.specs.Prelude.{◌≡◌, ◌≢◌, [], ◌∷◌, None, IfOk, IfErr, OnErr};
+ghost use Rattle.std.specs.FinMap.{get};
+ghost use Rattle.ck_model.specs.Contents.{layout_of, bindings};
 ghost use Rattle.ck_model.specs.Paths.{HasNoRoom};
 ghost use Rattle.ck_stripe.specs.Stripes.{contents_of};
 ghost use Rattle.ck_words.specs.Closing.{IsCaller};
 ghost use Rattle.ck_words.specs.Retries.{FindsAmong};
-ghost use Rattle.cuckoo_map.specs.Insertions.{HasFoundNoRoom};
 ghost use Rattle.cuckoo_map.specs.SeveralKeys.{IsStripeOfAny, IsSameButStripes, bound_to};
 ghost use Rattle.cuckoo_map.specs.LockedKeys.{HoldsKeys};
-ghost use Rattle.cuckoo_map.specs.Renames.{Renames, HasRenamedOnce, HasRenamed};
+ghost use Rattle.cuckoo_map.specs.Renames.{Renames, LacksSlot, HasRenamedOnce, HasRenamed};
 
 use crate::refusal::{KeysRefused, NotRenamed, RenameFault};
 use crate::table::Table;
@@ -49,7 +49,7 @@ impl<K: TableKey + Drop, V: Drop> Table<K, V> {
         since: Snapshot<Pass<K, V>>,
     ) -> Result<Renamed, NotRenamed<K>>
         requires caller { IsCaller self.now pass.old }
-        requires full { HasFoundNoRoom (K.name to) since.value pass.old }
+        requires full { LacksSlot (K.name from.now) (K.name to) since.value pass.old }
         requires found { FindsAmong
             (IsStripeOfAny K.hash self.now.settings (K.name from.now ∷ K.name to ∷ []))
             since.value pass.old }
@@ -121,6 +121,8 @@ impl<K: TableKey + Drop, V: Drop> Table<K, V> {
         ensures full { IfErr result (λ back. (back ≡ to) × (pass.new ≡ pass.old)
             × HasNoRoom (layout_of K.hash self.now.settings) (contents_of pass.old.stripes)
             (K.name to)) }
+        ensures bound { OnErr result
+            (get (bindings (contents_of pass.old.stripes)) (K.name from.now) ≢ None) }
     {
         let mut guard = guard!(&self.words, pass, stripes);
         let from_place = key_place(&mut guard, stripes.s, from, KeyHash::of::<K, &K>(from));

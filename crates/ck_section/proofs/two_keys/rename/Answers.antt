@@ -1,5 +1,5 @@
-use Rattle.std.proofs.Common.{refl}
-use Rattle.ck_section.proofs.Renaming.{was_found, was_missed, finds_unbound, finds_both, finds_no_room, to_reach, to_free, renamed, renamed_contents}
+use Rattle.std.proofs.Common.{refl, ◌∙◌}
+use Rattle.ck_section.proofs.Renaming.{was_found, was_missed, finds_unbound, finds_first, finds_both, finds_no_room, to_reach, to_free, renamed, renamed_contents}
 use Rattle.ck_section.proofs.two_keys.rename.Goals as goal
 
 pub returns-in_default-clause-call : goal.returns-in_default-clause-call
@@ -17,6 +17,10 @@ returns-in_default-slot_for-clause-full g c = (
   finds_no_room _ _ _ _ _ _ c.requires.first c.requires.second c.requires.different _ _ c.find_slot.ensures.same c.find_slot-2.ensures.same c.in-Some.at c.in-Some.ensures.occupied
       (was_missed _ _ c.if-is_some.ensures c.find_slot-2.ensures.nowhere) c.in_default-slot_for.ensures.full,
 )
+
+pub returns-in_default-slot_for-clause-bound : goal.returns-in_default-slot_for-clause-bound
+returns-in_default-slot_for-clause-bound g c =
+    finds_first _ _ _ _ _ _ c.requires.first c.requires.second c.requires.different _ _ c.find_slot.ensures.same (c.slot_for.ensures.same ∙ c.find_slot-2.ensures.same) c.in-Some.at c.in-Some.ensures.occupied
 
 pub returns-in_default-slot_for-clause-stays : goal.returns-in_default-slot_for-clause-stays
 returns-in_default-slot_for-clause-stays g c =

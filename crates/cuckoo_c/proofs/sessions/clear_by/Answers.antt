@@ -1,7 +1,7 @@
 use Rattle.std.proofs.Common.{rules}
 use Rattle.cuckoo_map.specs.Locking.{map_of}
 use Rattle.cuckoo_map.proofs.Draining.{emptied_since}
-use Rattle.cuckoo_c.proofs.NotesKept.{notes_of_clear}
+use Rattle.cuckoo_map.proofs.Draining.{notes_of_clear}
 use Rattle.cuckoo_c.proofs.sessions.clear_by.Goals as goal
 
 pub returns-in-Ok : goal.returns-in-Ok

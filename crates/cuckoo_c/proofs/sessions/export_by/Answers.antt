@@ -2,7 +2,7 @@ use Rattle.std.proofs.Common.{rules, refl, sym, subst}
 use Rattle.ck_model.specs.Promise.{ListsInOrder}
 use Rattle.cuckoo_map.specs.Locking.{map_of}
 use Rattle.cuckoo_map.proofs.Draining.{session_since}
-use Rattle.cuckoo_c.proofs.NotesKept.{notes_of_look}
+use Rattle.cuckoo_map.proofs.Draining.{notes_of_look}
 use Rattle.cuckoo_c.proofs.sessions.export_by.Goals as goal
 
 pub returns-in-Ok-exported : goal.returns-in-Ok-exported

@@ -31,7 +31,7 @@ commit_session_on-requires-clause-done g c =
 
 pub returns-clause-caller : goal.returns-clause-caller
 returns-clause-caller g c =
-    let there : c.commit_session_on.new.self.pass.now ≡ c.pass-1.given.0 = search rules in
+    let there : c.commit_session_on.new.self.pass.now ≡ c.pass-1.given.0 = sym (c.pass-1.given.1 (search rules)) in
     let names = map g.Q.Query.name c.args.keys.now in
     let p2 = c.lock_different.new.pass in
     let z = c.commit_session_on.new.self.pass.now in
@@ -44,7 +44,7 @@ returns-clause-caller g c =
 
 pub returns-clause-looked : goal.returns-clause-looked
 returns-clause-looked g c =
-    let there : c.commit_session_on.new.self.pass.now ≡ c.pass-1.given.0 = search rules in
+    let there : c.commit_session_on.new.self.pass.now ≡ c.pass-1.given.0 = sym (c.pass-1.given.1 (search rules)) in
     let names = map g.Q.Query.name c.args.keys.now in
     let p2 = c.lock_different.new.pass in
     let z = c.commit_session_on.new.self.pass.now in

@@ -1,4 +1,5 @@
 use Rattle.std.proofs.Common.{rules, ◌≡◌, ◌∙◌, ap}
+use Rattle.ck_stripe.specs.Stripes.{contents_of}
 use Rattle.cuckoo_map.proofs.Refusing.{told_since, excused}
 use Rattle.cuckoo_map.proofs.Rooms.{room_as_taken}
 use Rattle.cuckoo_map.proofs.table.Table.find_room.Goals as goal
@@ -33,4 +34,5 @@ returns-clause-full g c =
     let lent = c.power-power.new.held.pass.now in
     let z = c.refuse_full.new.self.pass.now in
     let there : z ≡ c.pass-2-1.given.0 = search rules in
-    rw (← there) (told_since q c.args.since.now.value c.args.pass.now lent z c.requires.spot.holds.stays (c.power-power.ensures.stays.1 ∙ c.find_entry.ensures.stays.1) c.refuse_full.ensures.refused.stays)
+    let hs = contents_of lent.stripes in
+    rw (← there) (hs, told_since q hs c.args.since.now.value c.args.pass.now lent z c.requires.spot.holds.stays (c.power-power.ensures.stays.1 ∙ c.find_entry.ensures.stays.1) c.refuse_full.ensures.refused.stays)

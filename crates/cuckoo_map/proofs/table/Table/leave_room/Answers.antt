@@ -3,7 +3,7 @@ use Rattle.ck_words.specs.Words.{WordsState}
 use Rattle.ck_words.specs.Passes.{IsPassOf}
 use Rattle.ck_words.specs.Renewing.{HasRenewed}
 use Rattle.ck_words.proofs.Staying.{stays_then}
-use Rattle.cuckoo_map.proofs.Counted.{changes_none, grown_by, stays_counting}
+use Rattle.cuckoo_map.proofs.Counted.{changes_none, grown_by, counting_as, stays_counting}
 use Rattle.cuckoo_map.proofs.Refusing.{found_since}
 use Rattle.cuckoo_map.proofs.table.Table.leave_room.Goals as goal
 
@@ -35,7 +35,7 @@ returns-clause-made g c =
     rw (← there) (record {
       more = room.more;
       own = room.own;
-      stays = stays_then room.more [] (record p.view { doublings = z.view.doublings }) (record p1.view { doublings = z.view.doublings }) z.view (stays_counting z.view.doublings room.stays) home.stays;
+      stays = stays_then room.more [] (counting_as z.view p.view) (counting_as z.view p1.view) z.view (stays_counting z.view room.stays) home.stays;
       grown = grown_by p1 p1 z refl (changes_none _ _ refl) c.renew.ensures.doubled p room.held.grown room.stays ([], home.seen ∙ sym (append-nil p1.view.seen));
     })
 

@@ -20,7 +20,7 @@ returns-clause-answered g c =
     let z = c.commit.new.self.pass.now in
     let whole = c.in_ok-lock_all.ensures.whole in
     let made = none_made c.lock_all.new.pass n.new.held.pass.now z n.ensures.stays.1 (changes_none _ _ n.ensures.same) c.commit.ensures.committed.doubled whole.unchanged (one_power_table g.K.TableKey.hash c.args.self.now.settings c.lock_all.new.pass whole) in
-    rw (← there) (answered_level c.args.pass.now z (made ∙ (ap (λ (v : View g.row.V.Denot). v.doublings) n.ensures.stays.1 ∙ c.lock_all.ensures.stays.doublings))
+    rw (← there) (answered_level c.args.pass.now z (made.0 ∙ (ap (λ (v : View g.row.V.Denot). v.doublings) n.ensures.stays.1 ∙ c.lock_all.ensures.stays.doublings), made.1 ∙ (ap (λ (v : View g.row.V.Denot). v.grown_from) n.ensures.stays.1 ∙ c.lock_all.ensures.stays.grown_from))
     (answered_since [] c.args.pass.now c.lock_all.new.pass n.new.held.pass.now z c.lock_all.ensures.stays n.ensures.stays.1 Len (Count n.result)
     (c.commit.ensures.committed.answered (Count n.result) (counted (n.ensures.stays.5 ∙ c.self.view_is) same whole n.ensures.value))))
 

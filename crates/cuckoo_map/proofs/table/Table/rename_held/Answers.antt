@@ -6,7 +6,7 @@ use Rattle.cuckoo_map.specs.LockedKeys.{HoldsKeys}
 use Rattle.cuckoo_map.specs.SeveralKeys.{bound_to}
 use Rattle.cuckoo_map.specs.Renames.{Renames}
 use Rattle.cuckoo_map.proofs.HeldKeys.{owns_name}
-use Rattle.cuckoo_map.proofs.Renaming.{apart, left_as_is, renamed_held, refused_held}
+use Rattle.cuckoo_map.proofs.Renaming.{apart, left_as_is, renamed_held, refused_held, bound_held}
 use Rattle.cuckoo_map.proofs.table.Table.rename_held.Goals as goal
 
 pub key_place-from_place-requires-clause-owned : goal.key_place-from_place-requires-clause-owned
@@ -34,6 +34,14 @@ returns-clause-renamed g c =
     let e = c.rename.ensures in
     rw (← there) (renamed_held c.requires.held second.s c.key_place-to_place.new.held.pass.now (second.stays.1 ∙ first.stays.1) (second.stays.2 ∙ first.stays.2) (second.same ∙ first.same)
     c.rename.new.held.pass.now e.stays.1 e.stays.2 c.rename.result e.call e.same).0
+
+pub returns-clause-bound : goal.returns-clause-bound
+returns-clause-bound g c =
+    let first = c.key_place-from_place.ensures in
+    let second = c.key_place-to_place.ensures in
+    let e = c.rename.ensures in
+    bound_held c.requires.held second.s c.key_place-to_place.new.held.pass.now (second.stays.1 ∙ first.stays.1) (second.stays.2 ∙ first.stays.2) (second.same ∙ first.same)
+    c.rename.new.held.pass.now e.stays.1 e.stays.2 c.rename.result e.bound
 
 pub returns-clause-full : goal.returns-clause-full
 returns-clause-full g c =

@@ -1,15 +1,15 @@
-use Rattle.std.proofs.Common.{rules, ◌≡◌, ◌∙◌, List, [], ◌∷◌, None, inl, inr, refl, sym, ap, subst}
-use Rattle.ck_model.specs.declared.history.Reason.TheVariants.{NoRoom}
+use Rattle.std.proofs.Common.{rules, ◌≡◌, ◌≢◌, ◌∙◌, List, [], ◌∷◌, None, inl, inr, refl, sym, ap, subst}
+use Rattle.std.specs.FinMap.{get}
 use Rattle.ck_model.specs.declared.history.Reply.TheVariants.{Closed}
 use Rattle.ck_model.specs.Promise.{Name}
-use Rattle.ck_model.specs.Contents.{layout_of}
+use Rattle.ck_model.specs.Contents.{layout_of, bindings}
 use Rattle.ck_model.specs.Sections.{Owns}
 use Rattle.ck_model.specs.Paths.{HasNoRoom}
 use Rattle.ck_stripe.specs.Stripes.{contents_of}
 use Rattle.ck_words.specs.Words.{WordsState}
 use Rattle.ck_words.specs.Passes.{PassState}
-use Rattle.ck_words.specs.Retries.{StaysBut}
 use Rattle.ck_words.specs.Answering.{HasDone, HasCommitted, session_on}
+use Rattle.cuckoo_map.specs.Insertions.{FindsFull}
 use Rattle.cuckoo_map.specs.Renames.{Renames}
 use Rattle.cuckoo_map.proofs.HeldKeys.{holds_keys, keys_done, has_queried}
 use Rattle.cuckoo_map.proofs.Refusing.{told_since}
@@ -62,10 +62,12 @@ returns-clause-renamed g c =
     let full = c.in-Err-rename_held.ensures.full in
     let r = c.refuse_full.ensures.refused in
     let found = c.lock_different.ensures.found in
-    let told = subst (λ (q : Name). StaysBut ((q, NoRoom) ∷ []) p3.view z.view) (ap name full.0) r.stays in
+    let hs = contents_of p3.stripes in
+    let told = subst (λ (q : Name). FindsFull q hs p3 z) (ap name full.0) r.stays in
+    let bound : get (bindings hs) (name c.args.from.now) ≢ None = subst (λ (x : PassState g.row.V.Denot). get (bindings (contents_of x.stripes)) (name c.args.from.now) ≢ None) (sym full.1) c.in-Err-rename_held.ensures.bound in
     let view = ap (λ (x : PassState g.row.V.Denot). x.view) full.1 in
     rw (← there) (record {
       answered = tt;
-      refused = (full.0, told_since (name c.args.to) p p2 p3 z c.in-Ok.ensures.held.stays view told);
+      refused = (full.0, (hs, told_since (name c.args.to) hs p p2 p3 z c.in-Ok.ensures.held.stays view told, bound));
       found = (found.0, r.found ∙ (ap (λ (x : PassState g.row.V.Denot). x.view.found) full.1 ∙ found.1), found.2);
     })
