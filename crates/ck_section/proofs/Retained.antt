@@ -11,14 +11,13 @@ use Rattle.ck_model.specs.declared.contents.Content.{Content}
 use Rattle.ck_model.specs.Contents.{Layout, layout, row_at, pairs_in, pairs_of, bindings, Binds, NamesApart, IsBucketOf, IsShaped, IsSound, Lawful}
 use Rattle.ck_model.specs.Sections.{Renewed}
 use Rattle.ck_model.proofs.Doubling.{pairs_apart}
-use Rattle.ck_bucket.specs.Retaining.{EachInTurn, AsksAboutRows}
 use Rattle.ck_bucket.proofs.InTurn.{length-each}
 use Rattle.ck_bucket.proofs.Asked.{AsksAbout, retains_pairs, asks-none, asks-append, asks-rows, was_in_rows, absent_after, apart_after}
 use Rattle.ck_stripe.specs.Stripe.{StripeState}
 use Rattle.ck_stripe.specs.Stripes.{stripe_at, contents_of}
 use Rattle.ck_stripe.specs.Tables.{IsTable}
 use Rattle.ck_section.specs.Calls.{ChangesContents}
-use Rattle.ck_section.specs.Retaining.{RetainsBindings}
+use Rattle.ck_section.specs.Retaining.{AsksAboutStripe, AsksAboutStripes, RetainsBindings}
 
 module _ {V : Type 0} (k : Layout) where
   -- one content has entries of another where they stood
@@ -46,30 +45,19 @@ module _ {V : Type 0} (k : Layout) where
       go (Some w) is = (w, is)
 
 module _ {F K V : Type 0} (g : Mut F (Bor K × (Bor V × Unit {0})) Bool) (name : K → Name) where
-  -- f was asked about the pairs of one stripe
-  pub record AsksAboutStripe (f : F) (t u : StripeState V) (f' : F) : Type 0 where
-    pub asked : AsksAboutRows g name f t.content.rows u.content.rows f'
-    pub power : u.content.power ≡ t.content.power
-    pub rest : u ≡ record t { content = u.content }
-    pub shaped : IsShaped u.s u.content
-
-  -- and about those of each
-  abbrev pub AsksAboutStripes : F → List (StripeState V) → List (StripeState V) → F → Type 0
-  AsksAboutStripes = EachInTurn AsksAboutStripe
-
-  asked_at : (f : F) (old new : List (StripeState V)) (f' : F) → AsksAboutStripes f old new f' → (i : ℕ) → i < length old → (h : F) × (h' : F) × AsksAboutStripe h (stripe_at old i) (stripe_at new i) h'
+  asked_at : (f : F) (old new : List (StripeState V)) (f' : F) → AsksAboutStripes g name f old new f' → (i : ℕ) → i < length old → (h : F) × (h' : F) × AsksAboutStripe g name h (stripe_at old i) (stripe_at new i) h'
   asked_at f [] new f' a i lt = absurd (omega arith)
   asked_at f (t ∷ old) [] f' a i lt = absurd a
   asked_at f (t ∷ old) (u ∷ new) f' a zero lt = (f, a.0, a.1)
   asked_at f (t ∷ old) (u ∷ new) f' a (suc i) lt = asked_at a.0 old new f' a.2 i (omega arith)
 
-  numbers_asked : (f : F) (old new : List (StripeState V)) (f' : F) → AsksAboutStripes f old new f' → numbers (contents_of new) ≡ numbers (contents_of old)
+  numbers_asked : (f : F) (old new : List (StripeState V)) (f' : F) → AsksAboutStripes g name f old new f' → numbers (contents_of new) ≡ numbers (contents_of old)
   numbers_asked f [] [] f' a = refl
   numbers_asked f [] (u ∷ new) f' a = absurd a
   numbers_asked f (t ∷ old) [] f' a = absurd a
   numbers_asked f (t ∷ old) (u ∷ new) f' a = λ j. (a.1.rest j).number ∷ numbers_asked a.0 old new f' a.2 j
 
-  pairs_asked : (f : F) (old new : List (StripeState V)) (f' : F) → AsksAboutStripes f old new f' → AsksAbout g name f (pairs_of (contents_of old)) (pairs_of (contents_of new)) f'
+  pairs_asked : (f : F) (old new : List (StripeState V)) (f' : F) → AsksAboutStripes g name f old new f' → AsksAbout g name f (pairs_of (contents_of old)) (pairs_of (contents_of new)) f'
   pairs_asked f [] [] f' a = subst (AsksAbout g name f [] []) (sym a) (asks-none g name f)
   pairs_asked f [] (u ∷ new) f' a = absurd a
   pairs_asked f (t ∷ old) [] f' a = absurd a
@@ -78,7 +66,7 @@ module _ {F K V : Type 0} (g : Mut F (Bor K × (Bor V × Unit {0})) Bool) (name 
       (asks-rows g name f t.content.rows u.content.rows a.0 a.1.asked) (pairs_asked a.0 old new f' a.2)
 
   module _ (k : Layout) where
-    thinned : (f : F) (t u : StripeState V) (f' : F) → t.s ≡ k.s → AsksAboutStripe f t u f' → Thins k t.content u.content
+    thinned : (f : F) (t u : StripeState V) (f' : F) → t.s ≡ k.s → AsksAboutStripe g name f t u f' → Thins k t.content u.content
     thinned f t u f' of a =
         let asked = asks-rows g name f t.content.rows u.content.rows f' a.asked in
         let same : u.s ≡ k.s = ap (λ (x : StripeState V). x.s) a.rest ∙ of in
@@ -90,7 +78,7 @@ module _ {F K V : Type 0} (g : Mut F (Bor K × (Bor V × Unit {0})) Bool) (name 
           apart = apart_after g name f (pairs_in t.content) (pairs_in u.content) f' asked;
         }
 
-    held_before : (f : F) (old new : List (StripeState V)) (f' : F) → AsksAboutStripes f old new f' → ((i : ℕ) → i < length old → (stripe_at old i).s ≡ k.s)
+    held_before : (f : F) (old new : List (StripeState V)) (f' : F) → AsksAboutStripes g name f old new f' → ((i : ℕ) → i < length old → (stripe_at old i).s ≡ k.s)
         → (n : ℕ) (d : Content V) → Holds (contents_of new) n d → (c : Content V) × Holds (contents_of old) n c × Thins k c d
     held_before f old [] f' a of n d h = absurd h
     held_before f [] (u ∷ new) f' a of n d h = absurd a
@@ -103,10 +91,10 @@ module _ {F K V : Type 0} (g : Mut F (Bor K × (Bor V × Unit {0})) Bool) (name 
         (λ r. let z = before r in (z.0, inr z.1, z.2)) h
 
   -- The closure was asked about the pairs of all stripes.
-  module _ (f : F) (old new : List (StripeState V)) (f' : F) (asked : AsksAboutStripes f old new f') where
+  module _ (f : F) (old new : List (StripeState V)) (f' : F) (asked : AsksAboutStripes g name f old new f') where
     pub changes_retained : ChangesContents old new
     changes_retained = record {
-      count = length-each AsksAboutStripe f old new f' asked;
+      count = length-each (AsksAboutStripe g name) f old new f' asked;
       each = λ i l. (asked_at f old new f' asked i l).2.rest;
       power = λ i l. (asked_at f old new f' asked i l).2.power;
     }

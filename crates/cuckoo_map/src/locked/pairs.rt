@@ -7,7 +7,7 @@ ghost use Rattle.ck_stripe.specs.Stripes.{contents_of};
 ghost use Rattle.ck_stripe.specs.Tables.{IsTable, AreSettled, AreAllHeld};
 ghost use Rattle.ck_section.specs.Calls.{ChangesContents};
 ghost use Rattle.ck_section.specs.Clearing.{ClearsBindings};
-ghost use Rattle.ck_section.specs.Retaining.{RetainsBindings};
+ghost use Rattle.ck_section.specs.Retaining.{AsksAboutStripes, RetainsBindings};
 ghost use Rattle.cuckoo_map.specs.Locking.{map_of, Clears, Retains};
 
 use crate::locked::LockedOn;
@@ -41,11 +41,11 @@ impl<T: TableRef<K, V> + Drop, K: TableKey + Drop, V: Drop> LockedOn<T, K, V> {
     /// ```
     /// locked.retain(|_key, count| *count > 1);
     /// ```
-    pub fn retain<F: FnMut(&K, &V) -> bool>(&mut self, f: F)
+    pub fn retain<F: FnMut(&K, &V) -> bool>(&mut self, mut f: F)
         requires call { F.IsAlwaysCallable f }
         ensures { Retains F.FnMut K.name f self.old self.new }
     {
-        retain_in(&mut self.whole, f);
+        retain_in(&mut self.whole, &mut f);
     }
 }
 
@@ -69,11 +69,16 @@ fn drain_in<K: TableKey + Drop, V: Drop>(
 }
 
 // Asks the closure about each pair of all stripes, and drops those for which it answers false.
-fn retain_in<K: TableKey + Drop, V: Drop, F: FnMut(&K, &V) -> bool>(whole: &mut Whole<K, V>, f: F)
+fn retain_in<K: TableKey + Drop, V: Drop, F: FnMut(&K, &V) -> bool>(
+    whole: &mut Whole<K, V>,
+    f: &mut F,
+)
     requires settled { AreSettled whole.old.stripes }
-    requires call { F.IsAlwaysCallable f }
-    ensures retained { (s max : ℕ) → IsTable s whole.old.stripes → RetainsBindings F.FnMut K.name f
-        (layout K.hash s max) whole.old.stripes whole.new.stripes }
+    requires call { F.IsAlwaysCallable f.old }
+    ensures asked { AsksAboutStripes F.FnMut K.name f.old whole.old.stripes whole.new.stripes
+        f.new }
+    ensures retained { (s max : ℕ) → IsTable s whole.old.stripes → RetainsBindings F.FnMut K.name
+        f.old (layout K.hash s max) whole.old.stripes whole.new.stripes }
     ensures changes { ChangesContents whole.old.stripes whole.new.stripes }
     ensures same { whole.new ≡ record whole.old { stripes = whole.new.stripes } }
 {

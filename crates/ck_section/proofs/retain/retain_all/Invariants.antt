@@ -1,5 +1,5 @@
 use Rattle.ck_bucket.proofs.InTurn.{Begins}
-use Rattle.ck_section.proofs.Retained.{AsksAboutStripe}
+use Rattle.ck_section.specs.Retaining.{AsksAboutStripe}
 use Rattle.ck_section.proofs.retain.retain_all.Given as goal
 
 abbrev pub invariant-loop-i : goal.invariant-loop-i
