@@ -24,7 +24,7 @@ use Rattle.ck_core.specs.Steps.{Label, number_of, event, traced, watching, taken
 use Rattle.ck_core.specs.Steps.Label.{Take, FindHeld, Give, Decide, GiveRest, Renew, Look, Open, Tell, Join}
 use Rattle.ck_core.proofs.Lists.{at_within, each_set, each_snoc, set_else}
 use Rattle.ck_core.proofs.Places.{places_keep, places_take, places_back, places_split}
-use Rattle.ck_core.proofs.Traces.{traces_take, traces_miss, traces_back, traces_keep, traces_split, traces_join, watches_nothing, watches_as}
+use Rattle.ck_core.proofs.Traces.{traces_take, traces_miss, traces_back, traces_keep, traces_split, traces_join, watches_as}
 use Rattle.ck_core.proofs.LegalTraces.{Returns, returns_gave, returns_decided, decided_same, decided_more}
 use Rattle.ck_core.proofs.Callers.{knows_all, knows_same, callers_set, callers_add, callers_split, callers_join}
 

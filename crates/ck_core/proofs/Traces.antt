@@ -1,5 +1,5 @@
 -- Each step leaves a legal trace, by which the holders of stripes are those that the places say.
-use Rattle.std.proofs.Common.{◌≡◌, ◌≢◌, ◌⊎◌, ℕ, ◌<◌, inl, inr, List, [], ◌∷◌, ◌++◌, append-nil, append_assoc, get_or, set, sym, refl, ap, ◌∙◌, subst, ⊎_elim, arith, get_or-set_same, get_or-set_other, Bool, true, false, cond, ltb, length, Option, Some, None}
+use Rattle.std.proofs.Common.{◌≡◌, ◌≢◌, ◌⊎◌, ℕ, ◌<◌, List, [], ◌∷◌, ◌++◌, append-nil, append_assoc, get_or, set, sym, refl, ap, ◌∙◌, subst, ⊎_elim, arith, get_or-set_same, get_or-set_other, Some, None}
 use Rattle.std.specs.Prelude.{All}
 use mathlib.Core.Option.{some, some-injective}
 use mathlib.Core.Logic.{dite}
@@ -13,11 +13,11 @@ use Rattle.ck_model.specs.declared.contents.Content.{Content}
 use Rattle.ck_model.specs.Contents.{Stripes}
 use Rattle.ck_model.proofs.Numbered.{in_held, held_of_in, in_without}
 use Rattle.ck_core.specs.declared.trace.LockStep.{LockStep}
-use Rattle.ck_core.specs.declared.trace.LockStep.TheVariants.{Took, Missed, Gave}
+use Rattle.ck_core.specs.declared.trace.LockStep.TheVariants.{Took, Missed}
 use Rattle.ck_core.specs.declared.trace.LockEvent.{LockEvent}
 use Rattle.ck_core.specs.declared.view.View.{View}
 use Rattle.ck_core.specs.State.{Configuration, HasNumber, owned, Places, Callers, Watches, Traces}
-use Rattle.ck_core.specs.Steps.{number_of, event, longer, traced, watching, taken, missed, seen_as, sent_home, split_as, joined, joining, beginner, message_of, spent}
+use Rattle.ck_core.specs.Steps.{number_of, event, traced, watching, taken, missed, seen_as, sent_home, split_as, joined, joining, spent}
 use Rattle.ck_core.specs.Trace.{BeginsWith, Fits, held_after, holder, missed_by, misses, NoneBy}
 use Rattle.ck_core.proofs.Lists.{each_set, each_snoc}
 use Rattle.ck_core.proofs.Callers.{own_held}
@@ -43,7 +43,7 @@ module _ {V : Type 0} where
           heard = (
             mine.heard.0 ++ (mine.unseen ++ e ∷ []),
             watched ∙ (ap (λ l. l ++ e ∷ []) mine.begins ∙ (append_assoc v.watched mine.unseen (e ∷ []) ∙ (ap (λ l. l ++ (mine.unseen ++ e ∷ [])) mine.heard.1
-            ∙ (append_assoc v.heard_watched mine.heard.0 (mine.unseen ++ e ∷ []) ∙ ap (λ l. l ++ (mine.heard.0 ++ (mine.unseen ++ e ∷ []))) (sym heard))))),
+                ∙ (append_assoc v.heard_watched mine.heard.0 (mine.unseen ++ e ∷ []) ∙ ap (λ l. l ++ (mine.heard.0 ++ (mine.unseen ++ e ∷ []))) (sym heard))))),
           );
           missed = λ x is.
               let me : x ≡ m = some_number x m (sym is ∙ (same ∙ by)) in

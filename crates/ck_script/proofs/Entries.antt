@@ -6,13 +6,14 @@ use Rattle.ck_model.specs.declared.history.Entry.{Entry}
 use Rattle.ck_model.specs.declared.history.Reason.{Reason}
 use Rattle.ck_model.specs.declared.history.Reason.TheVariants as reason
 use Rattle.ck_model.specs.declared.settings.Settings.{Settings}
-use Rattle.ck_model.specs.Promise.{Name, StartsWith, subhistory}
+use Rattle.ck_model.specs.Promise.{Name, After, StartsWith, subhistory}
+use Rattle.ck_model.specs.Contents.{layout_of, Stripes, bindings}
+use Rattle.ck_model.specs.Paths.{Grounds}
 use Rattle.ck_model.proofs.Histories.{starts_itself}
 use Rattle.ck_words.specs.Passes.{PassState}
 use Rattle.cuckoo_map.specs.declared.refusal.Why.{Why}
 use Rattle.cuckoo_map.specs.declared.refusal.Why.TheVariants.{Busy, Memory, Full, LoadTooLow}
-use Rattle.ck_core.specs.declared.view.RoomNote.{RoomNote}
-use Rattle.cuckoo_map.specs.Refusals.{GivesGrounds, IsRefused}
+use Rattle.cuckoo_map.specs.Refusals.{IsRefused}
 use Rattle.cuckoo_map.specs.Callers.{CallerState, pass_of, IsSameCaller}
 use Rattle.ck_format.specs.declared.script.Command.{Command}
 use Rattle.ck_format.specs.declared.script.Command.TheVariants as command
@@ -97,21 +98,21 @@ prints_why hash set q Full c d r = (r.more, r.shown.contents, r.stays.no_slot, r
 prints_why hash set q LoadTooLow c d r = (r.more, r.shown.contents, r.stays.no_slot, r.shown.is_noted)
 
 -- what gives grounds is what all stripes contained at the end of what the pass has seen
-was_stuck : (hash : Name → ℕ) (set : Settings) (by : ℕ) (done : List (Entry ℕ)) (q : Name) (why : Reason) (p : PassState ℕ) → subhistory by p.view.seen ≡ done → {more : List (RoomNote ℕ)} → GivesGrounds hash set q why more p → WasStuck hash set p.view.seen by done q why
-was_stuck hash set by done q why p own {more} gives = record {
+was_stuck : (hash : Name → ℕ) (set : Settings) (by : ℕ) (done : List (Entry ℕ)) (q : Name) (why : Reason) (p : PassState ℕ) (hs : Stripes ℕ) → subhistory by p.view.seen ≡ done → After p.view.seen (bindings hs) → Grounds (layout_of hash set) set.min_load hs q why → WasStuck hash set p.view.seen by done q why
+was_stuck hash set by done q why p hs own after grounds = record {
   start = p.view.seen;
   begins = starts_itself p.view.seen;
   own = own;
-  contents = gives.contents;
-  after = gives.after;
-  grounds = gives.grounds;
+  contents = hs;
+  after = after;
+  grounds = grounds;
 }
 
 has_grounds : (hash : Name → ℕ) (set : Settings) (by : ℕ) (done : List (Entry ℕ)) (q : Name) (why : Why) (p p2 : PassState ℕ) → subhistory by p2.view.seen ≡ done → IsRefused hash set q why p p2 → HasGroundsFor hash set p2.view.seen by done q (printed why)
 has_grounds hash set by done q (Busy t) p p2 own r = tt
-has_grounds hash set by done q Memory p p2 own r = was_stuck hash set by done q reason.Memory p2 own r.shown
-has_grounds hash set by done q Full p p2 own r = was_stuck hash set by done q reason.Full p2 own r.shown
-has_grounds hash set by done q LoadTooLow p p2 own r = was_stuck hash set by done q reason.LoadTooLow p2 own r.shown
+has_grounds hash set by done q Memory p p2 own r = was_stuck hash set by done q reason.Memory p2 r.shown.contents own r.shown.after r.shown.grounds
+has_grounds hash set by done q Full p p2 own r = was_stuck hash set by done q reason.Full p2 r.shown.contents own r.shown.after r.shown.grounds
+has_grounds hash set by done q LoadTooLow p p2 own r = was_stuck hash set by done q reason.LoadTooLow p2 r.shown.contents own r.shown.after r.shown.grounds
 
 -- what is printed for a reason refuses a command that may need room
 refuses : (n : ℕ) (c : Command Name) (why : Why) → NeedsRoom c → HasOthers n why → IsRefusal n c (printed why)

@@ -5,13 +5,11 @@ use Rattle.ck_model.specs.declared.history.Reply.TheVariants.{Closed}
 use Rattle.ck_model.specs.declared.history.Entry.{Entry}
 use Rattle.ck_model.specs.declared.settings.Settings.{Settings}
 use Rattle.ck_model.specs.Promise.{Name, Client, StartsWith, subhistory}
-use Rattle.cuckoo_map.specs.Callers.{CallerState, IsSameCaller}
+use Rattle.cuckoo_map.specs.Callers.{CallerState, pass_of, IsSameCaller}
+use Rattle.cuckoo_map.specs.Refusals.{HasNoted}
 use Rattle.cuckoo_map.specs.declared.refusal.Why.{Why}
 use Rattle.cuckoo_map.specs.declared.refusal.Why.TheVariants.{Busy, Full, LoadTooLow}
 use Rattle.cuckoo_map.specs.declared.refusal.Why.TheVariants as why
-use Rattle.ck_model.specs.Contents.{Stripes}
-use Rattle.ck_core.specs.declared.view.RoomNote.{RoomNote}
-use Rattle.ck_core.specs.Steps.{noted}
 use Rattle.ck_model.specs.declared.history.Reason.{Reason}
 use Rattle.ck_model.specs.declared.history.Reason.TheVariants as reason
 use Rattle.ck_format.specs.declared.script.Command.TheVariants as command
@@ -41,7 +39,7 @@ printed LoadTooLow = answer.Load
 
 -- from p to q the caller has noted for this reason that the name found no room
 abbrev pub HasSaid : Name → Reason → CallerState ℕ → CallerState ℕ → Type 0
-HasSaid k why p q = (more : List (RoomNote ℕ)) × (hs : Stripes ℕ) × (q.notes.no_slot ≡ more ++ p.notes.no_slot) × Contains more (noted k why hs)
+HasSaid k why p q = HasNoted k why (pass_of p) (pass_of q)
 
 -- where the answer prints a want of room, the caller has noted so of the name, for this reason
 abbrev pub PrintsWhy : Name → Answer Pairs → CallerState ℕ → CallerState ℕ → Type 0

@@ -1,8 +1,7 @@
 -- What stays as it is over steps that decide nothing.
-use Rattle.std.proofs.Common.{◌≡◌, ℕ, List, [], ◌∷◌, ◌++◌, ◌⊎◌, ◌+◌, false, add-one, inl, inr, zero, suc, reverse, replicate, append-nil, append_assoc, sym, refl, ap, ◌∙◌, subst, ⊎_elim, arith, None}
-use Rattle.ck_model.specs.declared.history.Entry.{Entry}
+use Rattle.std.proofs.Common.{◌≡◌, ℕ, List, [], ◌∷◌, ◌++◌, ◌⊎◌, ◌+◌, false, inl, inr, zero, suc, reverse, replicate, append-nil, append_assoc, sym, refl, ap, ◌∙◌, subst, ⊎_elim, arith, None}
 use Rattle.ck_model.specs.declared.settings.Settings.{Settings}
-use Rattle.ck_model.specs.Promise.{Name, StartsWith}
+use Rattle.ck_model.specs.Promise.{Name}
 use Rattle.ck_model.specs.Numbered.{IsIn}
 use Rattle.ck_model.specs.Contents.{layout_of}
 use Rattle.ck_model.proofs.Histories.{subhistory-append}

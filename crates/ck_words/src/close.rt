@@ -21,7 +21,7 @@ use std::alloc::Global;
 impl<K: TableKey + Drop, V: Drop> Words<K, V> {
     /// Ends the table, given the passes of all callers, and gives its pairs. There is one history
     /// of all that the callers have done, and these pairs are what it leaves: what all stripes of a
-    /// table with these settings contain.
+    /// table with these settings contain. The history is what was decided in one legal trace.
     ///
     /// It is refused where a stripe was found held, and for want of memory. Then it gives words and
     /// passes back, and no entry has changed.

@@ -1,9 +1,8 @@
 -- Calls on several keys whose stripes are held.
-use Rattle.std.proofs.Common.{◌≡◌, ℕ, ◌-◌, ◌<◌, ◌≤◌, List, [], length, Option, Some, None, Ok, reverse, inl, refl, sym, ap, ◌∙◌, subst, map, arith}
+use Rattle.std.proofs.Common.{◌≡◌, ℕ, ◌-◌, ◌<◌, ◌≤◌, List, [], length, Option, Some, None, Ok, reverse, inl, refl, sym, ap, ◌∙◌, subst, arith}
 use Rattle.std.specs.Prelude.{IfSome, IfNone, MatchOption}
 use Rattle.std.specs.FinMap.{get}
 use Rattle.ck_core.specs.declared.view.View.{View}
-use Rattle.ck_model.specs.declared.contents.Content.{Content}
 use Rattle.ck_model.specs.declared.history.Act.{Act}
 use Rattle.ck_model.specs.declared.history.Act.TheVariants.{Find}
 use Rattle.ck_model.specs.declared.history.Call.TheVariants.{On, SessionOn}
@@ -11,7 +10,7 @@ use Rattle.ck_model.specs.declared.history.Reply.{Reply}
 use Rattle.ck_model.specs.declared.history.Reply.TheVariants.{Was, Closed}
 use Rattle.ck_model.specs.Promise.{Name, Step, IsAmong, AreDifferent, bound_in}
 use Rattle.ck_model.specs.Numbered.{IsIn, numbers, Holds}
-use Rattle.ck_model.specs.Contents.{Layout, layout, layout_of, Stripes, Lawful, bindings, power_of}
+use Rattle.ck_model.specs.Contents.{layout, layout_of, Stripes, Lawful, bindings, power_of}
 use Rattle.ck_model.specs.Sections.{Section}
 use Rattle.ck_stripe.specs.Stripe.{StripeState}
 use Rattle.ck_stripe.specs.Stripes.{stripe_at, contents_of}
@@ -23,7 +22,7 @@ use Rattle.ck_section.proofs.Decided.{IsCallOn}
 use Rattle.ck_section.proofs.Kept.{no_spare_after, power_kept}
 use Rattle.ck_words.specs.declared.stripe_set.StripeSet.{StripeSet}
 use Rattle.ck_words.specs.Words.{WordsState}
-use Rattle.ck_words.specs.Passes.{PassState, IsPassOf, numbers_of}
+use Rattle.ck_words.specs.Passes.{PassState, IsPassOf}
 use Rattle.ck_words.specs.Retries.{as_doubled, Stays, FindsAmong}
 use Rattle.ck_words.specs.Holding.{IsDoubledBy}
 use Rattle.ck_words.specs.Answering.{HasDone, HasCommitted, IsAnswered, session_on}

@@ -4,7 +4,7 @@ use Rattle.std.proofs.lemmas.Option.{none-some}
 use Rattle.std.proofs.lemmas.List.Elements.{All-nil, Contains-append_right}
 use Rattle.std.specs.Prelude.{MatchResult}
 use Rattle.std.specs.FinMap.{get}
-use Rattle.ck_model.specs.declared.history.Act.TheVariants.{Find, Insert, Erase}
+use Rattle.ck_model.specs.declared.history.Act.TheVariants.{Insert, Erase}
 use Rattle.ck_model.specs.declared.history.Call.TheVariants.{On}
 use Rattle.ck_model.specs.declared.history.Reason.TheVariants.{NoRoom}
 use Rattle.ck_model.specs.declared.history.Reply.TheVariants.{Was, New}
@@ -35,7 +35,7 @@ use Rattle.cuckoo_map.specs.Insertions.{HasFoundNoRoom, HasSoughtRoom}
 use Rattle.cuckoo_map.specs.Needed.{DoublesNothing}
 use Rattle.cuckoo_map.specs.Displacing.{FindsAny}
 use Rattle.cuckoo_map.specs.SeveralKeys.{IsStripeOfAny, RefusesNames, bound_to}
-use Rattle.cuckoo_map.specs.LockedKeys.{HoldsKeys, keys_of}
+use Rattle.cuckoo_map.specs.LockedKeys.{HoldsKeys}
 use Rattle.cuckoo_map.specs.Renames.{Renames, LacksSlot, SeeksSlot, HasRenamedOnce, HasRenamed}
 use Rattle.cuckoo_map.proofs.Counted.{grown_none}
 use Rattle.cuckoo_map.proofs.Displacing.{any_on, any_among}

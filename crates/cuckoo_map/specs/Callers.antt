@@ -1,5 +1,5 @@
 -- What contracts see of a caller, and what its calls leave of it.
-use Rattle.std.specs.Prelude.{◌≡◌, ℕ, ◌≤◌, List, [], ◌++◌, All, map, Option, Result, Bool, IfOk, IfErr, OnOk}
+use Rattle.std.specs.Prelude.{◌≡◌, ℕ, ◌≤◌, List, [], ◌++◌, map, Option, Result, Bool, IfOk, IfErr, OnOk}
 use Rattle.std.specs.declared.cmp.Ordering.{Ordering}
 use Rattle.std.specs.FinMap.{entries}
 use Rattle.ck_model.specs.declared.history.Act.{Act}

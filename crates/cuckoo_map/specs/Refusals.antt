@@ -58,9 +58,13 @@ module _ {V : Type 0} where
   abbrev pub SaysOf : Name → history.Reason → RoomNote V → Type 0
   SaysOf q why x = (x.name ≡ q) × (x.reason ≡ why)
 
-  -- among what it has noted since is that the name's buckets were full
+  -- among what it has noted since is that the name found no room for this reason
+  abbrev pub HasNoted : Name → history.Reason → PassState V → PassState V → Type 0
+  HasNoted q why p p2 = (more : List (RoomNote V)) × (hs : Stripes V) × (p2.view.no_slot ≡ more ++ p.view.no_slot) × Contains more (noted q why hs)
+
+  -- or that its buckets were full
   abbrev pub SaysNoRoom : Name → PassState V → PassState V → Type 0
-  SaysNoRoom q p p2 = (more : List (RoomNote V)) × (hs : Stripes V) × (p2.view.no_slot ≡ more ++ p.view.no_slot) × Contains more (noted q reason.NoRoom hs)
+  SaysNoRoom q = HasNoted q reason.NoRoom
 
   -- the pass found no stripe held but those of the name, or any once the name's buckets were full
   abbrev pub FindsOwnUnlessFull : (Name → ℕ) → Settings → Name → PassState V → PassState V → Type 0

@@ -779,7 +779,8 @@ impl<T: TableRef<K, V> + Drop, K: TableKey + Drop, V: Drop> CallerOn<T, K, V> {
     }
 
     /// Hears what another caller of the table told: what each of the two had seen is then a
-    /// beginning of what this one has seen. This one was told no lower power.
+    /// beginning of what this one has seen, and what each had watched of the trace a beginning of
+    /// what this one has watched. This one was told no lower power.
     pub fn hear(&mut self, message: Message<K, V>)
         requires { message.table ≡ self.old.table.table }
         ensures same { IsSameCaller self.old self.new }

@@ -77,8 +77,10 @@ impl<K: TableKey + Drop, V: Drop> Table<K, V> {
 
     /// Ends the table, and gives all keys with their values, in rising order of the keys. They are
     /// the map after one legal history, which has the entries of all passes, of each in its order,
-    /// and that of what a table with these settings contains. Refused as busy, or for want of
-    /// memory for the list, it gives the table and the passes back, with the same entries.
+    /// and that of what a table with these settings contains. The history is what was decided in
+    /// one legal trace of lock steps, in its order, which begins with what each pass has watched.
+    /// Refused as busy, or for want of memory for the list, it gives the table and the passes back,
+    /// with the same entries.
     ///
     /// ```
     /// match table.close(passes) {

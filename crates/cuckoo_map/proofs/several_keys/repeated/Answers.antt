@@ -1,6 +1,6 @@
 use Rattle.std.proofs.Common.{◌+◌, ◌-◌, map, subst, arith}
 use Rattle.ck_model.specs.Promise.{IsAmong}
-use Rattle.cuckoo_map.proofs.SeveralKeys.{behind, different_next, stands_again}
+use Rattle.cuckoo_map.proofs.SeveralKeys.{behind, stands_again}
 use Rattle.cuckoo_map.proofs.several_keys.repeated.Goals as goal
 
 pub returns-then-has_name-clause-again : goal.returns-then-has_name-clause-again

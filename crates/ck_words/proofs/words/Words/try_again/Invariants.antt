@@ -1,4 +1,4 @@
-use Rattle.std.proofs.Common.{◌≡◌, ◌-◌}
+use Rattle.std.proofs.Common.{◌-◌}
 use Rattle.ck_words.specs.Passes.{IsPassOf, IsUnchanged}
 use Rattle.ck_words.specs.Retries.{FindsAgain}
 use Rattle.ck_words.proofs.words.Words.try_again.Given as goal

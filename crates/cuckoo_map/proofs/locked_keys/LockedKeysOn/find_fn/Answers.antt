@@ -1,4 +1,3 @@
-use Rattle.std.proofs.Common.{◌∙◌}
 use Rattle.std.specs.Fn.{FnOnceReturnsAt}
 use Rattle.cuckoo_map.proofs.HeldKeys.{owns_name, value_found_by, held_as_is}
 use Rattle.cuckoo_map.proofs.locked_keys.LockedKeysOn.find_fn.Goals as goal

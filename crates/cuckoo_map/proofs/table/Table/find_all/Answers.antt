@@ -1,7 +1,7 @@
 use Rattle.std.proofs.Common.{rules, ◌≡◌, ◌∙◌, ℕ, List, map, refl, sym, subst}
 use Rattle.ck_model.specs.declared.history.Reply.TheVariants.{Closed}
 use Rattle.ck_model.specs.Promise.{bound_in}
-use Rattle.ck_model.specs.Contents.{layout, Lawful, bindings}
+use Rattle.ck_model.specs.Contents.{bindings}
 use Rattle.ck_stripe.specs.Stripe.{StripeState}
 use Rattle.ck_stripe.specs.Stripes.{contents_of, HaveNoSpare}
 use Rattle.ck_section.specs.Places.{HasBoth}

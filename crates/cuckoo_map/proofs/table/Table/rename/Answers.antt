@@ -1,5 +1,4 @@
 use Rattle.std.proofs.Common.{[], ◌∷◌, Option, Err, sym, subst}
-use Rattle.ck_model.specs.Promise.{Name}
 use Rattle.ck_words.specs.Passes.{PassState}
 use Rattle.ck_words.specs.Retries.{FindsAmong}
 use Rattle.cuckoo_map.specs.declared.refusal.KeysRefused.{KeysRefused}

@@ -1,12 +1,8 @@
-use Rattle.std.proofs.Common.{rules, ◌≡◌, ◌∙◌, ℕ, List, [], ◌∷◌, Ok, Err, IfOk, IfErr, inl, inr, refl, sym, subst}
+use Rattle.std.proofs.Common.{rules, ◌≡◌, ◌∙◌, List, inl, inr, refl, sym, subst}
 use Rattle.ck_stripe.specs.Stripe.{StripeState}
-use Rattle.ck_section.specs.Places.{HasBoth, IsPlaceOf}
-use Rattle.ck_words.specs.Passes.{PassState}
-use Rattle.cuckoo_map.specs.LockedKeys.{HoldsKeys}
-use Rattle.cuckoo_map.specs.SeveralKeys.{bound_to}
-use Rattle.cuckoo_map.specs.Renames.{Renames}
+use Rattle.ck_section.specs.Places.{HasBoth}
 use Rattle.cuckoo_map.proofs.HeldKeys.{owns_name}
-use Rattle.cuckoo_map.proofs.Renaming.{apart, left_as_is, renamed_held, refused_held, bound_held}
+use Rattle.cuckoo_map.proofs.Renaming.{renamed_held, refused_held, bound_held}
 use Rattle.cuckoo_map.proofs.table.Table.rename_held.Goals as goal
 
 pub key_place-from_place-requires-clause-owned : goal.key_place-from_place-requires-clause-owned

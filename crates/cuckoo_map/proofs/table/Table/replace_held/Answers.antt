@@ -1,4 +1,4 @@
-use Rattle.std.proofs.Common.{rules, ◌≡◌, ◌∙◌, ℕ, Some, IsSome, All, false, IsTrue, map, inl, inr, sym, ap, subst}
+use Rattle.std.proofs.Common.{rules, ◌≡◌, ◌∙◌, ℕ, IsSome, All, false, IsTrue, map, inl, inr, sym, ap, subst}
 use lib.Pointwise.{pointwise}
 use Rattle.ck_section.specs.Places.{HasBoth}
 use Rattle.ck_words.specs.Passes.{PassState}

@@ -1,7 +1,7 @@
 use Rattle.std.proofs.Common.{◌≡◌, ◌∙◌, ◌+◌, Some, IsSome, All, length, map, take, slice_set, ap, sym, subst, arith}
 use Rattle.std.proofs.lemmas.List.{length-map}
 use Rattle.std.specs.FinMap.{get}
-use Rattle.ck_model.specs.Promise.{Name, bound_in}
+use Rattle.ck_model.specs.Promise.{bound_in}
 use Rattle.ck_model.specs.Contents.{bindings}
 use Rattle.ck_stripe.specs.Stripes.{contents_of}
 use Rattle.ck_words.specs.Passes.{PassState}

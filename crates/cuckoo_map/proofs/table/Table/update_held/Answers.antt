@@ -1,4 +1,4 @@
-use Rattle.std.proofs.Common.{rules, ◌≡◌, ◌∙◌, ℕ, Some, IsSome, All, map, inl, inr, sym, ap, subst}
+use Rattle.std.proofs.Common.{rules, ◌≡◌, ◌∙◌, ℕ, IsSome, All, map, inl, inr, sym, ap, subst}
 use Rattle.ck_section.specs.Places.{HasBoth}
 use Rattle.ck_words.specs.Passes.{PassState}
 use Rattle.cuckoo_map.specs.SeveralKeys.{bound_to}

@@ -1,8 +1,8 @@
-use Rattle.std.proofs.Common.{rules, ◌≡◌, ℕ, [], map, get_or, refl, sym, subst, arith}
+use Rattle.std.proofs.Common.{rules, ◌≡◌, refl, subst}
 use Rattle.ck_model.specs.declared.history.Act.TheVariants.{Update}
 use Rattle.ck_model.specs.declared.history.Call.TheVariants.{On}
 use Rattle.ck_model.specs.declared.history.Reply.TheVariants.{Was}
-use Rattle.ck_model.specs.Promise.{Name, IsAmong, Step}
+use Rattle.ck_model.specs.Promise.{Name, Step}
 use Rattle.ck_model.specs.Contents.{bindings}
 use Rattle.ck_stripe.specs.Stripes.{contents_of}
 use Rattle.ck_section.proofs.SeveralKeys.{key_among}
