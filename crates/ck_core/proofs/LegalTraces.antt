@@ -1,14 +1,18 @@
 -- Traces of steps on the lock words.
 use Rattle.std.proofs.Common.{◌≡◌, ◌≢◌, ◌⊎◌, ℕ, ◌<◌, inl, inr, List, [], ◌∷◌, ◌++◌, append-nil, append_assoc, sym, refl, ap, ◌∙◌, subst, ⊎_elim, length, length-append, arith, Option, Some, None}
-use Rattle.std.specs.Prelude.{All}
+use Rattle.std.specs.Prelude.{All, if◌then◌else◌, ◌==◌}
+use mathlib.Core.Logic.{dite}
+use native.Mathlib.Decide.{ℕ_discrete}
 use Rattle.std.proofs.lemmas.List.Elements.{All-head, All-tail}
 use Rattle.ck_model.specs.declared.history.Entry.{Entry}
+use Rattle.ck_model.specs.Promise.{subhistory}
 use Rattle.ck_model.proofs.Numbered.{if_same, if_else}
+use Rattle.ck_model.proofs.Histories.{subhistory-append}
 use Rattle.ck_core.specs.declared.trace.LockStep.{LockStep}
 use Rattle.ck_core.specs.declared.trace.LockStep.TheVariants.{Took, Missed, Gave, Decided}
 use Rattle.ck_core.specs.declared.trace.LockEvent.{LockEvent}
 use Rattle.ck_core.specs.Steps.{longer}
-use Rattle.ck_core.specs.Trace.{held_after, held_behind, held_from, holder, Fits, IsLegalTrace, decided_by, decided_in, missed_by, misses, NoneBy}
+use Rattle.ck_core.specs.Trace.{held_after, held_behind, held_from, holder, Fits, IsLegalTrace, decided_by, decided_in, decides, missed_by, misses, NoneBy}
 
 module _ {A : Type 0} where
   first_of : A → List A → A
@@ -81,6 +85,12 @@ module _ {V : Type 0} where
     λ e. absurd (subst IsDeciding e tt),
     λ y e. (is, ap (λ (z : Entry V). z.by) (sym (ap (entry_of x) e)) ∙ own),
   )
+
+  abbrev nothing : List (Entry V)
+  nothing = []
+
+  if_none : (m by : ℕ) → (if by == m then [] else []) ≡ nothing
+  if_none m by = dite (ℕ_discrete by m) (λ is. if_same by m [] [] is) (λ other. if_else by m [] [] other)
 
   -- By the step the caller m gives a stripe back.
   pub record Returns (m : ℕ) (step : LockStep V) : Type 0 where
@@ -155,6 +165,28 @@ module _ {V : Type 0} where
   none_left callers [] [] below none = refl
   none_left callers [] (e ∷ es) below none = absurd ((none e.by (All-head (λ (x : LockEvent V). x.by < callers) e es below)).0 refl)
   none_left callers (x ∷ xs) ys below none = none_left callers xs ys (All-tail (λ (e : LockEvent V). e.by < callers) x (xs ++ ys) below) none
+
+  -- the entries of one's own steps
+  decided_own : (m by : ℕ) (step : LockStep V) → ((x : Entry V) → step ≡ Decided x → x.by ≡ by) → (if by == m then decided_by step else []) ≡ subhistory m (decided_by step)
+  decided_own m by Took own = if_none m by
+  decided_own m by Missed own = if_none m by
+  decided_own m by Gave own = if_none m by
+  decided_own m by (Decided x) own = ap (λ n. if n == m then x ∷ [] else []) (sym (own x refl))
+
+  pub decides_own : (m : ℕ) (before es : List (LockEvent V)) → IsLegalTrace (before ++ es) → decides m es ≡ subhistory m (decided_in es)
+  decides_own m before [] legal = refl
+  decides_own m before (e ∷ es) legal =
+      let rest = decides_own m (before ++ e ∷ []) es (subst IsLegalTrace (sym (append_assoc before (e ∷ []) es)) legal) in
+      (λ i. decided_own m e.by e.step (λ x is. ((legal before e es refl).3 x is).1) i ++ rest i) ∙ sym (subhistory-append m (decided_by e.step) (decided_in es))
+
+  pub decides_append : (m : ℕ) (xs ys : List (LockEvent V)) → decides m (xs ++ ys) ≡ decides m xs ++ decides m ys
+  decides_append m [] ys = refl
+  decides_append m (x ∷ xs) ys = (λ i. (if x.by == m then decided_by x.step else []) ++ decides_append m xs ys i) ∙ sym (append_assoc (if x.by == m then decided_by x.step else []) (decides m xs) (decides m ys))
+
+  -- steps of others decide nothing of the caller's
+  pub decides_none : (m : ℕ) (es : List (LockEvent V)) → NoneBy m es → decides m es ≡ []
+  decides_none m [] others = refl
+  decides_none m (e ∷ es) others = λ i. if_else e.by m (decided_by e.step) [] others.0 i ++ decides_none m es others.1 i
 
   -- the history of more steps
   pub decided_append : (xs ys : List (LockEvent V)) → decided_in (xs ++ ys) ≡ decided_in xs ++ decided_in ys

@@ -19,11 +19,11 @@ use Rattle.ck_model.proofs.Histories.{subhistory-append}
 use Rattle.std.specs.Prelude.{All}
 use Rattle.ck_core.specs.declared.trace.LockEvent.{LockEvent}
 use Rattle.ck_core.specs.declared.view.View.{View}
-use Rattle.ck_core.specs.Trace.{decided_in}
+use Rattle.ck_core.specs.Trace.{IsLegalTrace, decided_in, decides}
 use Rattle.ck_core.specs.State.{Configuration, HistoryInvariant, Watches, owned, client_of}
 use Rattle.ck_core.specs.Laws.{Shows}
 use Rattle.ck_core.proofs.Keeps.{agrees}
-use Rattle.ck_core.proofs.LegalTraces.{legal_start, decided_append, none_left}
+use Rattle.ck_core.proofs.LegalTraces.{legal_start, decides_own, decides_append, decides_none, decided_append, none_left}
 use Rattle.ck_core.proofs.Callers.{own_held}
 
 pub no_items : {A : Type 0} (l : List A) → length l ≡ 0 → l ≡ []
@@ -88,6 +88,15 @@ module _ {V : Type 0} (k : Layout) (callers : ℕ) (log : List (Entry V)) (s : C
   decided_watched : log ≡ decided_in v.watched ++ decided_in watched_on.unseen
   decided_watched = sym law.decided ∙ (ap decided_in watched_on.begins ∙ decided_append v.watched watched_on.unseen)
 
+  -- by its own steps the caller decided its entries
+  decided_mine : (m : ℕ) → v.by ≡ Some m → decides m v.watched ≡ v.mine
+  decided_mine m by =
+      let legal : IsLegalTrace (v.watched ++ watched_on.unseen) = subst IsLegalTrace watched_on.begins law.traced.legal in
+      let none : decides m watched_on.unseen ≡ [] = decides_none m watched_on.unseen (watched_on.by_others m (in_held (owned v) m v.mine (own_held v m by))) in
+      let whole : decides m (v.watched ++ watched_on.unseen) ≡ subhistory m (decided_in (v.watched ++ watched_on.unseen)) = decides_own m [] (v.watched ++ watched_on.unseen) legal in
+      sym (append-nil (decides m v.watched)) ∙ (ap (λ l. decides m v.watched ++ l) (sym none) ∙ (sym (decides_append m v.watched watched_on.unseen)
+      ∙ (whole ∙ (ap (λ (es : List (LockEvent V)). subhistory m (decided_in es)) (sym watched_on.begins) ∙ (ap (subhistory m) law.decided ∙ (law.callers_known.knows j v at).calls m v.mine (own_held v m by))))))
+
   -- whoever keeps all numbers has watched all
   decided_whole : ((m : ℕ) → m < callers → IsIn m (numbers (owned v))) → decided_in v.watched ≡ log
   decided_whole all =
@@ -102,7 +111,8 @@ module _ {V : Type 0} (k : Layout) (callers : ℕ) (log : List (Entry V)) (s : C
     own = λ m e. kn.calls m v.mine (own_held v m e);
     unseen = unseen_none;
     alone = all_of_one;
-    watched = let w = law.traced.watched j v at in record { legal = legal_start s.trace v.watched w.unseen w.begins law.traced.legal; missed = w.missed };
+    watched = let w = law.traced.watched j v at in record { legal = legal_start s.trace v.watched w.unseen w.begins law.traced.legal; missed = w.missed; as_many = λ m by. ap length (decided_mine m by) };
+    decided = decided_mine;
     heard_watched = (law.traced.watched j v at).heard;
     decided_first = (decided_in watched_on.unseen, decided_watched);
     lawful = record {

@@ -1,5 +1,5 @@
 -- What is proved of the core.
-use Rattle.std.specs.Prelude.{◌≡◌, ◌≢◌, ◌⊎◌, ℕ, ◌^◌, ◌<◌, ◌≤◌, List, [], ◌∷◌, ◌++◌, Some}
+use Rattle.std.specs.Prelude.{◌≡◌, ◌≢◌, ◌⊎◌, ℕ, ◌^◌, ◌<◌, ◌≤◌, List, [], ◌∷◌, ◌++◌, length, Some}
 use mathlib.Core.Option.{some}
 use lib.ListN.{get_elem?}
 use Rattle.ck_model.specs.declared.history.Entry.{Entry}
@@ -11,7 +11,7 @@ use Rattle.ck_model.specs.Contents.{Layout, Stripes, bindings, Lawful}
 use Rattle.ck_model.specs.Sections.{HasAll}
 use Rattle.ck_core.specs.declared.view.View.{View}
 use Rattle.ck_core.specs.State.{Configuration, HistoryInvariant, owned, client_of}
-use Rattle.ck_core.specs.Trace.{BeginsWith, IsLegalTrace, decided_in, misses}
+use Rattle.ck_core.specs.Trace.{BeginsWith, IsLegalTrace, decided_in, decides, misses}
 use Rattle.ck_core.specs.Steps.{Label, Transition, grown, Execution, Opening}
 use Rattle.ck_core.specs.Steps.Label.{Take, FindHeld, Give, Decide, GiveRest, Renew, Look, Open, Tell, Join}
 
@@ -39,10 +39,11 @@ module _ {V : Type 0} where
   IsDeciding Tell = ⊥
   IsDeciding (Join other) = ⊥
 
-  -- What was watched is a legal trace, in which the caller missed what it found held.
+  -- What was watched is a legal trace, in which the caller missed what it found held, and decided as many calls as it has entries.
   pub record HasWatched (v : View V) : Type 0 where
     pub legal : IsLegalTrace v.watched
     pub missed : (m : ℕ) → v.by ≡ Some m → misses m v.watched ≡ v.found
+    pub as_many : (m : ℕ) → v.by ≡ Some m → length (decides m v.watched) ≡ length v.mine
 
   -- what a caller's own stripes and numbers show
   pub record Shows (k : Layout) (callers : ℕ) (log : List (Entry V)) (v : View V) : Type 0 where
@@ -57,6 +58,8 @@ module _ {V : Type 0} where
     pub watched : HasWatched v
     -- it begins with what a caller that was met had watched
     pub heard_watched : BeginsWith v.watched v.heard_watched
+    -- by its own steps in it the caller decided its entries
+    pub decided : (m : ℕ) → v.by ≡ Some m → decides m v.watched ≡ v.mine
     -- what was decided in it begins the history
     pub decided_first : StartsWith log (decided_in v.watched)
     pub lawful : Lawful k v.held

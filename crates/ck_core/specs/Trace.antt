@@ -54,6 +54,11 @@ module _ {V : Type 0} where
   decided_in [] = []
   decided_in (e ∷ es) = decided_by e.step ++ decided_in es
 
+  -- the entries that the caller m decided by its own steps
+  abbrev pub decides : ℕ → List (LockEvent V) → List (Entry V)
+  decides m [] = []
+  decides m (e ∷ es) = (if e.by == m then decided_by e.step else []) ++ decides m es
+
   -- the stripe that was missed by this step, if it was one
   abbrev pub missed_by : LockStep V → ℕ → List ℕ
   missed_by Took t = []
