@@ -86,10 +86,10 @@ module _ {V : Type 0} where
     λ y e. (is, ap (λ (z : Entry V). z.by) (sym (ap (entry_of x) e)) ∙ own),
   )
 
-  abbrev nothing : List (Entry V)
+  abbrev pub nothing : List (Entry V)
   nothing = []
 
-  if_none : (m by : ℕ) → (if by == m then [] else []) ≡ nothing
+  pub if_none : (m by : ℕ) → (if by == m then [] else []) ≡ nothing
   if_none m by = dite (ℕ_discrete by m) (λ is. if_same by m [] [] is) (λ other. if_else by m [] [] other)
 
   -- By the step the caller m gives a stripe back.
@@ -187,6 +187,10 @@ module _ {V : Type 0} where
   pub decides_none : (m : ℕ) (es : List (LockEvent V)) → NoneBy m es → decides m es ≡ []
   decides_none m [] others = refl
   decides_none m (e ∷ es) others = λ i. if_else e.by m (decided_by e.step) [] others.0 i ++ decides_none m es others.1 i
+
+  -- of steps by others and one more, that one alone may
+  pub decides_last : (m : ℕ) (es : List (LockEvent V)) (e : LockEvent V) → NoneBy m es → decides m (es ++ e ∷ []) ≡ (if e.by == m then decided_by e.step else [])
+  decides_last m es e others = decides_append m es (e ∷ []) ∙ ((λ i. decides_none m es others i ++ ((if e.by == m then decided_by e.step else []) ++ [])) ∙ append-nil (if e.by == m then decided_by e.step else []))
 
   -- the history of more steps
   pub decided_append : (xs ys : List (LockEvent V)) → decided_in (xs ++ ys) ≡ decided_in xs ++ decided_in ys

@@ -111,7 +111,7 @@ module _ {V : Type 0} (k : Layout) (callers : ℕ) (log : List (Entry V)) (s : C
     own = λ m e. kn.calls m v.mine (own_held v m e);
     unseen = unseen_none;
     alone = all_of_one;
-    watched = let w = law.traced.watched j v at in record { legal = legal_start s.trace v.watched w.unseen w.begins law.traced.legal; missed = w.missed; as_many = λ m by. ap length (decided_mine m by) };
+    watched = let w = law.traced.watched j v at in record { legal = legal_start s.trace v.watched w.unseen w.begins law.traced.legal; missed = w.missed };
     decided = decided_mine;
     heard_watched = (law.traced.watched j v at).heard;
     decided_first = (decided_in watched_on.unseen, decided_watched);

@@ -1,5 +1,5 @@
 -- What is proved of the core.
-use Rattle.std.specs.Prelude.{◌≡◌, ◌≢◌, ◌⊎◌, ℕ, ◌^◌, ◌<◌, ◌≤◌, List, [], ◌∷◌, ◌++◌, length, Some}
+use Rattle.std.specs.Prelude.{◌≡◌, ◌≢◌, ◌⊎◌, ℕ, ◌^◌, ◌<◌, ◌≤◌, List, [], ◌∷◌, ◌++◌, Some}
 use mathlib.Core.Option.{some}
 use lib.ListN.{get_elem?}
 use Rattle.ck_model.specs.declared.history.Entry.{Entry}
@@ -39,11 +39,10 @@ module _ {V : Type 0} where
   IsDeciding Tell = ⊥
   IsDeciding (Join other) = ⊥
 
-  -- What was watched is a legal trace, in which the caller missed what it found held, and decided as many calls as it has entries.
+  -- What was watched is a legal trace, in which the caller missed what it found held.
   pub record HasWatched (v : View V) : Type 0 where
     pub legal : IsLegalTrace v.watched
     pub missed : (m : ℕ) → v.by ≡ Some m → misses m v.watched ≡ v.found
-    pub as_many : (m : ℕ) → v.by ≡ Some m → length (decides m v.watched) ≡ length v.mine
 
   -- what a caller's own stripes and numbers show
   pub record Shows (k : Layout) (callers : ℕ) (log : List (Entry V)) (v : View V) : Type 0 where

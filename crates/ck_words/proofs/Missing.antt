@@ -1,5 +1,5 @@
 -- A stripe of a set was found held, and is tried again.
-use Rattle.std.proofs.Common.{◌≡◌, ℕ, ◌+◌, ◌-◌, ◌^◌, ◌<◌, ◌≤◌, false, List, [], take, length, get_or, sym, ap, ◌∙◌, subst, arith}
+use Rattle.std.proofs.Common.{refl, ◌≡◌, ℕ, ◌+◌, ◌-◌, ◌^◌, ◌<◌, ◌≤◌, false, List, [], take, length, get_or, sym, ap, ◌∙◌, subst, arith}
 use Rattle.std.specs.List.Sorted.{IsStrictlyIncreasing}
 use Rattle.ck_model.specs.Promise.{Name}
 use Rattle.ck_model.specs.Numbered.{IsIn, numbers}
@@ -30,7 +30,7 @@ module _ {V : Type 0} (hash : Name → ℕ) (w : WordsState) (ns : List ℕ) (i 
 
     -- one swap took it,
     pub next_swapped : (r : PassState V) → TakesStripe hash w.settings t q r → IsPassOf w r → IsUnchanged r → HasTaken hash w (λ u. IsIn u ns) (take (i + 1) ns) p r
-    next_swapped r k own unchanged = next_taken 1 r (0, omega arith, [], subst (λ (x : PassState V). TakesStripe hash w.settings t x r) (not_found t q) k) own unchanged
+    next_swapped r k own unchanged = next_taken 1 r (0, omega arith, [], subst (λ (x : PassState V). TakesStripe hash w.settings t x r) (not_found t q) k, λ m by. refl) own unchanged
 
     -- or found it held
     pub next_missed : (r : PassState V) → TriesStripe hash w t false q r → IsPassOf w r → Misses hash w ns i p r

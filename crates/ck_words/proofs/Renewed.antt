@@ -15,7 +15,7 @@ use Rattle.ck_words.specs.Passes.{PassState, Sends, IsUnchanged}
 use Rattle.ck_words.specs.Retries.{StaysBut, as_doubled}
 use Rattle.ck_words.specs.Holding.{HasReleased}
 use Rattle.ck_words.specs.Renewing.{HasRefused}
-use Rattle.ck_words.proofs.Rows.{gave, watched_more, give_row, renew_row}
+use Rattle.ck_words.proofs.Rows.{gave, watched_quiet, give_row, renew_row}
 use Rattle.ck_words.proofs.Staying.{stays_on, stays_then}
 
 gaining-append : {V : Type 0} (l : List (RoomNote V)) (hs : Stripes V) (why : Option (Name × Reason)) → gaining l hs why ≡ gaining [] hs why ++ l
@@ -35,7 +35,7 @@ module _ {V : Type 0} (hash : Name → ℕ) (w : WordsState) (p q : PassState V)
     stays_renewing : (r : View V) → r.doublings ≡ q.view.doublings → r.grown_from ≡ q.view.grown_from → StaysBut (gaining [] now why) (record p.view { doublings = r.doublings; grown_from = r.grown_from }) q.view
     stays_renewing r same as_noted = subst (λ (x : ℕ × List (Stripes V)). StaysBut (gaining [] now why) (record p.view { doublings = x.0; grown_from = x.1 }) q.view) (λ i. (sym same i, sym as_noted i))
         (subst (λ (v : View V). StaysBut (gaining [] now why) (record p.view { doublings = v.doublings; grown_from = v.grown_from }) v) (sym renewed_view)
-        (record { settings = refl; by = refl; mine = refl; others = refl; heard = (refl, refl, refl); no_slot = gaining-append p.view.no_slot now why; seen = ([], sym (append-nil p.view.seen)); by_others = λ m e. refl; alone = λ _. refl; watched = watched_more hash w.settings (Renew g.0.number now why) p.view q.view g.2 (event p.view.by Gave g.0.number); told = omega arith; doublings = refl; grown_from = refl }))
+        (record { settings = refl; by = refl; mine = refl; others = refl; heard = (refl, refl, refl); no_slot = gaining-append p.view.no_slot now why; seen = ([], sym (append-nil p.view.seen)); by_others = λ m e. refl; alone = λ _. refl; watched = watched_quiet hash w.settings (Renew g.0.number now why) p.view q.view g.2 (event p.view.by Gave g.0.number) refl; told = omega arith; doublings = refl; grown_from = refl }))
 
   pub released_renewed : Sends hash w (λ t ks. Renew t ks None) p q → (r : PassState V) → HasReleased w q r → HasReleased w (as_doubled p r) r
   released_renewed g r rest = record {
@@ -64,7 +64,7 @@ module _ {V : Type 0} (hash : Name → ℕ) (w : WordsState) (p q : PassState V)
 
     stays_telling : StaysBut (noted name why (reverse p.view.held) ∷ []) p.view q.view
     stays_telling = subst (StaysBut (noted name why (reverse p.view.held) ∷ []) p.view) (sym given_view)
-        (record { settings = refl; by = refl; mine = refl; others = refl; heard = (refl, refl, refl); no_slot = refl; seen = ([], sym (append-nil p.view.seen)); by_others = λ m e. refl; alone = λ _. refl; watched = watched_more hash w.settings (Give g.0.number (Some (name, why))) p.view q.view g.2 (event p.view.by Gave g.0.number); told = omega arith; doublings = refl; grown_from = refl })
+        (record { settings = refl; by = refl; mine = refl; others = refl; heard = (refl, refl, refl); no_slot = refl; seen = ([], sym (append-nil p.view.seen)); by_others = λ m e. refl; alone = λ _. refl; watched = watched_quiet hash w.settings (Give g.0.number (Some (name, why))) p.view q.view g.2 (event p.view.by Gave g.0.number) refl; told = omega arith; doublings = refl; grown_from = refl })
 
     pub refused_giving : IsUnchanged p → (r : PassState V) → HasReleased w q r → HasRefused w name why p r
     refused_giving unchanged r rest = record {

@@ -16,21 +16,22 @@ use Rattle.ck_model.specs.Sections.{HasAll}
 use Rattle.ck_stripe.specs.Stripes.{contents_of}
 use Rattle.ck_core.specs.declared.view.View.{View}
 use Rattle.ck_core.specs.declared.trace.LockStep.TheVariants.{Decided}
-use Rattle.ck_core.specs.Steps.{deciding, event}
+use Rattle.ck_core.specs.Steps.{deciding}
 use Rattle.ck_core.specs.Steps.Label.{Decide}
 use Rattle.ck_core.specs.State.{client_of}
 use Rattle.ck_core.proofs.Shown.{answered}
 use Rattle.ck_model.specs.declared.commit.Commit.{Commit}
 use Rattle.ck_model.specs.Commits.{call_of}
 use Rattle.ck_words.specs.Steps.{Steps}
+use Rattle.ck_words.proofs.Staying.{watches_on}
 use Rattle.ck_words.specs.Words.{WordsState}
 use Rattle.ck_words.specs.Passes.{PassState, IsPassOf, Sends}
-use Rattle.ck_words.specs.Retries.{Stays, as_doubled}
+use Rattle.ck_words.specs.Retries.{WatchesMore, Stays, as_doubled}
 use Rattle.ck_words.specs.Answering.{HasDone, IsAnswered, HasCommitted}
 use Rattle.ck_words.specs.Holding.{HasReleased}
 use Rattle.ck_words.proofs.Reversed.{lawful_reverse}
 use Rattle.ck_words.proofs.Telling.{doubled_decided}
-use Rattle.ck_words.proofs.Rows.{gave_by, watched_more, shows_before, shows_after, decide_row}
+use Rattle.ck_words.proofs.Rows.{gave_by, watched_deciding, shows_before, shows_after, decide_row}
 
 -- a number that is there is the one that is read
 pub read_there : (o : Option ℕ) → o ≢ None → o ≡ Some (unwrap_or o 0)
@@ -148,6 +149,11 @@ module _ {V : Type 0} where
             });
             alone = λ one. follows m by t ks q1 q d seen r done (inl (ap (λ (x : Settings). x.callers) (sym of_table) ∙ one));
           };
+          watched = (
+              let more = watched_deciding hash set (Decide t ks e) p.view q1.view d e t (its_caller m by) in
+              let first : WatchesMore p.view q1.view = (more.0, ap (λ (v : View V). v.watched) row ∙ more.1, λ n is. ap (λ (v : View V). v.mine) row ∙ more.2 n is) in
+              watches_on p.view q1.view q.view (ap (λ (v : View V). v.by) row) first s.watched
+              );
           stays = record {
             settings = s.settings ∙ ap (λ (v : View V). v.settings) row;
             by = s.by ∙ ap (λ (v : View V). v.by) row;
@@ -158,11 +164,7 @@ module _ {V : Type 0} where
             seen = ([], sym (append-nil q.view.seen));
             by_others = λ n e. refl;
             alone = λ _. refl;
-            watched = (
-                let more = watched_more hash set (Decide t ks (entry_for call p)) p.view q1.view d (event p.view.by (Decided (entry_for call p)) t) in
-                let its : q1.view.watched ≡ p.view.watched ++ more.0 = ap (λ (v : View V). v.watched) row ∙ more.1 in
-                (more.0 ++ s.watched.0, s.watched.1 ∙ (ap (λ l. l ++ s.watched.0) its ∙ append_assoc p.view.watched more.0 s.watched.0))
-                );
+            watched = ([], sym (append-nil q.view.watched), λ n e. sym (append-nil q.view.mine));
             told = (let a : q1.view.told ≡ p.view.told = ap (λ (v : View V). v.told) row in let b = s.told in omega arith);
             doublings = refl;
             grown_from = refl;

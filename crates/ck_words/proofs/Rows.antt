@@ -1,6 +1,6 @@
 -- What the rows of the core leave of a caller's view.
-use Rattle.std.proofs.Common.{◌≡◌, ◌≢◌, ℕ, ◌≤◌, List, [], ◌∷◌, ◌++◌, append_assoc, sym, ap, ◌∙◌, subst, ⊎_elim, arith, Option, None}
-use Rattle.std.specs.Prelude.{slice_set}
+use Rattle.std.proofs.Common.{◌≡◌, ◌≢◌, ℕ, ◌≤◌, List, [], ◌∷◌, ◌++◌, append-nil, append_assoc, sym, ap, ◌∙◌, subst, ⊎_elim, arith, Option, Some, None}
+use Rattle.std.specs.Prelude.{slice_set, if◌then◌else◌, ◌==◌}
 use mathlib.Core.Option.{some, some-injective}
 use lib.ListN.{get_elem?}
 use Rattle.ck_model.specs.declared.history.Entry.{Entry}
@@ -10,20 +10,24 @@ use Rattle.ck_model.specs.declared.settings.Settings.{Settings}
 use Rattle.ck_model.specs.Promise.{Name}
 use Rattle.ck_model.specs.Numbered.{numbers, Holds}
 use Rattle.ck_model.specs.Contents.{layout_of, Stripes}
-use Rattle.ck_model.proofs.Numbered.{in_held}
+use Rattle.ck_model.proofs.Numbered.{if_same, in_held}
 use Rattle.ck_core.specs.declared.view.View.{View}
-use Rattle.ck_core.specs.State.{Configuration, HasNumber, HistoryInvariant}
+use Rattle.ck_core.specs.State.{Configuration, HasNumber, owned, HistoryInvariant}
 use Rattle.ck_core.specs.declared.trace.LockStep.{LockStep}
 use Rattle.ck_core.specs.declared.trace.LockStep.TheVariants.{Took, Missed, Gave, Decided}
 use Rattle.ck_core.specs.declared.trace.LockEvent.{LockEvent}
-use Rattle.ck_core.specs.Steps.{Label, IsAbove, traced, watching, giving, renewing, deciding, grown}
+use Rattle.ck_core.specs.Trace.{decided_by, decides}
+use Rattle.ck_core.specs.Steps.{Label, IsAbove, number_of, event, traced, watching, giving, renewing, deciding, grown}
 use Rattle.ck_core.specs.Steps.Label.{Take, FindHeld, Give, Decide, GiveRest, Renew, Look}
 use Rattle.ck_core.specs.Laws.{Shows}
 use Rattle.ck_core.proofs.Answered.{law_of_one_caller}
+use Rattle.ck_core.proofs.Callers.{own_held}
+use Rattle.ck_core.proofs.LegalTraces.{if_none, decides_last}
 use Rattle.ck_core.proofs.Lists.{set_there}
 use Rattle.ck_core.proofs.Keeps.{step_keeps}
 use Rattle.ck_core.proofs.Shown.{shows}
 use Rattle.ck_words.specs.Steps.{Steps}
+use Rattle.ck_words.specs.Retries.{DecidesNone}
 
 -- the view w, once the stripe t went home by it
 abbrev pub gave_by : {V : Type 0} → LockStep V → Configuration V → ℕ → View V → View V
@@ -44,6 +48,29 @@ module _ {V : Type 0} (hash : Name → ℕ) (set : Settings) where
     -- what was watched begins the trace, which is watched with a step more
     pub watched_more : (e : LockEvent V) → (events : List (LockEvent V)) × (r.before.trace ++ e ∷ [] ≡ v.watched ++ events)
     watched_more e = let h = r.law.traced.watched r.id v r.was in (h.unseen ++ e ∷ [], ap (λ l. l ++ e ∷ []) h.begins ∙ append_assoc v.watched h.unseen (e ∷ []))
+
+    -- and by it its caller decided this alone
+    own_more : (e : LockEvent V) (n : ℕ) → v.by ≡ Some n → decides n (watched_more e).0 ≡ (if e.by == n then decided_by e.step else [])
+    unfolding watched_more
+    own_more e n by = let h = r.law.traced.watched r.id v r.was in decides_last n h.unseen e (h.by_others n (in_held (owned v) n v.mine (own_held v n by)))
+
+    -- where it decided nothing
+    pub none_more : (e : LockEvent V) → decided_by e.step ≡ [] → DecidesNone v (watched_more e).0
+    none_more e none n by = own_more e n by ∙ (ap (λ l. if e.by == n then l else []) none ∙ if_none n e.by)
+
+    pub watched_quiet : (e : LockEvent V) → decided_by e.step ≡ [] → (events : List (LockEvent V)) × (r.before.trace ++ e ∷ [] ≡ v.watched ++ events) × ((n : ℕ) → v.by ≡ Some n → v.mine ≡ v.mine ++ decides n events)
+    watched_quiet e none = ((watched_more e).0, (watched_more e).1, λ n by. sym (ap (λ l. v.mine ++ l) (none_more e none n by) ∙ append-nil v.mine))
+
+    -- where it decided this entry of its own
+    pub watched_deciding : (x : Entry V) (t : ℕ) → v.by ≡ Some x.by → let e = event v.by (Decided x) t in
+        (events : List (LockEvent V)) × (r.before.trace ++ e ∷ [] ≡ v.watched ++ events) × ((n : ℕ) → v.by ≡ Some n → v.mine ++ x ∷ [] ≡ v.mine ++ decides n events)
+    watched_deciding x t by =
+        let e : LockEvent V = event v.by (Decided x) t in
+        (
+          (watched_more e).0,
+          (watched_more e).1,
+          λ n is. ap (λ l. v.mine ++ l) (sym (own_more e n is ∙ if_same e.by n (x ∷ []) [] (ap number_of is))),
+        )
 
     -- there is one view of the caller before the step
     pub same_view : (u : View V) → get_elem? r.before.views r.id ≡ some u → u ≡ v

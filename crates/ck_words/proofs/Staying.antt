@@ -12,12 +12,14 @@ use Rattle.ck_core.specs.declared.trace.LockEvent.{LockEvent}
 use Rattle.ck_core.specs.Steps.{giving, event, traced, watching}
 use Rattle.ck_core.specs.Steps.Label.{Take, FindHeld, GiveRest}
 use Rattle.ck_core.specs.Laws.{Shows}
+use Rattle.ck_core.specs.Trace.{decides}
+use Rattle.ck_core.proofs.LegalTraces.{decides_append}
 use Rattle.ck_stripe.specs.Stripes.{contents_of}
 use Rattle.std.proofs.lemmas.List.{reverse-reverse}
 use Rattle.ck_words.specs.Passes.{PassState, IsPassOf, TakesStripe, TriesStripe, Sends, IsIdle, IsUnchanged, ShowsSeen}
 use Rattle.ck_words.specs.Words.{WordsState}
-use Rattle.ck_words.proofs.Rows.{shows_before, shows_after, watched_more, gave, take_row, take_number, find_row, rest_row}
-use Rattle.ck_words.specs.Retries.{Stays, StaysBut, FindsAmong, found_again, FindsAgain, TakesWithin}
+use Rattle.ck_words.proofs.Rows.{shows_before, shows_after, watched_more, none_more, watched_quiet, gave, take_row, take_number, find_row, rest_row}
+use Rattle.ck_words.specs.Retries.{DecidesNone, WatchesMore, Stays, StaysBut, FindsAmong, found_again, FindsAgain, TakesWithin}
 
 in_replicate : (n t u : ℕ) → IsIn u (replicate n t) → t ≡ u
 in_replicate zero t u z = absurd z
@@ -40,8 +42,22 @@ module _ {V : Type 0} where
   pub again_later : (m n t : ℕ) (first later : List (LockEvent V)) (p : PassState V) → found_again m t later (found_again n t first p) ≡ found_again (m + n) t (first ++ later) p
   again_later m n t first later p = λ i. record p { view = record p.view { found = found_both m n t p.view.found i; watched = append_assoc p.view.watched first later i } }
 
+  pub watches_same : (v : View V) → WatchesMore v v
+  watches_same v = ([], sym (append-nil v.watched), λ m by. sym (append-nil v.mine))
+
+  pub watches_on : (u v w : View V) → v.by ≡ u.by → WatchesMore u v → WatchesMore v w → WatchesMore u w
+  watches_on u v w same f g = (
+    f.0 ++ g.0,
+    g.1 ∙ (ap (λ l. l ++ g.0) f.1 ∙ append_assoc u.watched f.0 g.0),
+    λ m by. g.2 m (same ∙ by) ∙ (ap (λ l. l ++ decides m g.0) (f.2 m by) ∙ (append_assoc u.mine (decides m f.0) (decides m g.0) ∙ ap (λ l. u.mine ++ l) (sym (decides_append m f.0 g.0)))),
+  )
+
+  -- steps that decided nothing, and more of them
+  pub none_on : (v : View V) (first later : List (LockEvent V)) → DecidesNone v first → DecidesNone v later → DecidesNone v (first ++ later)
+  none_on v first later a b m by = decides_append m first later ∙ λ i. a m by i ++ b m by i
+
   pub stays_same : (v : View V) → Stays v v
-  stays_same v = record { settings = refl; by = refl; mine = refl; others = refl; heard = (refl, refl, refl); no_slot = refl; seen = ([], sym (append-nil v.seen)); by_others = λ m e. refl; alone = λ _. refl; watched = ([], sym (append-nil v.watched)); told = omega arith; doublings = refl; grown_from = refl }
+  stays_same v = record { settings = refl; by = refl; mine = refl; others = refl; heard = (refl, refl, refl); no_slot = refl; seen = ([], sym (append-nil v.seen)); by_others = λ m e. refl; alone = λ _. refl; watched = watches_same v; told = omega arith; doublings = refl; grown_from = refl }
 
   pub stays_then : (xs ys : List (RoomNote V)) (u v w : View V) → StaysBut xs u v → StaysBut ys v w → StaysBut (ys ++ xs) u w
   unfolding starts_on
@@ -55,7 +71,7 @@ module _ {V : Type 0} where
     seen = starts_on u.seen v.seen w.seen f.seen g.seen;
     by_others = λ m e. subhistory-append m f.seen.0 g.seen.0 ∙ λ j. f.by_others m e j ++ g.by_others m (f.by ∙ e) j;
     alone = λ one. g.alone (ap (λ (x : Settings). x.callers) f.settings ∙ one) ∙ f.alone one;
-    watched = (f.watched.0 ++ g.watched.0, g.watched.1 ∙ (ap (λ l. l ++ g.watched.0) f.watched.1 ∙ append_assoc u.watched f.watched.0 g.watched.0));
+    watched = watches_on u v w f.by f.watched g.watched;
     told = (let a = f.told in let b = g.told in omega arith);
     doublings = g.doublings ∙ f.doublings;
     grown_from = g.grown_from ∙ f.grown_from;
@@ -71,7 +87,7 @@ module _ {V : Type 0} where
 
     pub stays_giving : (u : View V) → Stays u p.view → Stays u q.view
     stays_giving u s = stays_on u p.view q.view s
-        (subst (Stays p.view) (sym rest_view) (record { settings = refl; by = refl; mine = refl; others = refl; heard = (refl, refl, refl); no_slot = refl; seen = ([], sym (append-nil p.view.seen)); by_others = λ m e. refl; alone = λ _. refl; watched = watched_more hash w.settings (GiveRest g.0.number) p.view q.view g.2 (event p.view.by Gave g.0.number); told = omega arith; doublings = refl; grown_from = refl }))
+        (subst (Stays p.view) (sym rest_view) (record { settings = refl; by = refl; mine = refl; others = refl; heard = (refl, refl, refl); no_slot = refl; seen = ([], sym (append-nil p.view.seen)); by_others = λ m e. refl; alone = λ _. refl; watched = watched_quiet hash w.settings (GiveRest g.0.number) p.view q.view g.2 (event p.view.by Gave g.0.number) refl; told = omega arith; doublings = refl; grown_from = refl }))
 
     pub found_giving : q.view.found ≡ p.view.found
     found_giving = ap (λ (v : View V). v.found) rest_view
@@ -85,24 +101,25 @@ module _ {V : Type 0} where
       let shows = shows_before hash set (Take t) p.view q.view k.3 in
       let number = take_number hash set p.view q.view t k.3 in
       subst (Stays p.view) (sym (take_row hash set p.view q.view t k.3))
-      (record { settings = refl; by = refl; mine = refl; others = refl; heard = (refl, refl, refl); no_slot = refl; seen = shows.seen; by_others = λ m e. shows.unseen m e shows.seen.0 shows.seen.1; alone = λ one. sym (shows.alone number.0 number.1 (ap (λ (x : Settings). x.callers) (sym same) ∙ one)); watched = watched_more hash set (Take t) p.view q.view k.3 (event p.view.by Took t); told = omega arith; doublings = refl; grown_from = refl })
+      (record { settings = refl; by = refl; mine = refl; others = refl; heard = (refl, refl, refl); no_slot = refl; seen = shows.seen; by_others = λ m e. shows.unseen m e shows.seen.0 shows.seen.1; alone = λ one. sym (shows.alone number.0 number.1 (ap (λ (x : Settings). x.callers) (sym same) ∙ one)); watched = watched_quiet hash set (Take t) p.view q.view k.3 (event p.view.by Took t) refl; told = omega arith; doublings = refl; grown_from = refl })
 
   pub not_found : (t : ℕ) (p : PassState V) → p ≡ found_again 0 t [] p
   not_found t p = sym (λ i. record p { view = record p.view { watched = append-nil p.view.watched i } })
 
   pub found_never : (t : ℕ) (p : PassState V) → FindsAgain 0 t p p
-  found_never t p = ([], not_found t p)
+  found_never t p = ([], not_found t p, λ m by. refl)
 
   -- the stripe was found held once more
   pub found_next : (hash : Name → ℕ) (w : WordsState) (n t : ℕ) (p q r : PassState V) → FindsAgain n t p q → IsPassOf w q → IsPassOf w r → TriesStripe hash w t false q r → FindsAgain (n + 1) t p r
   found_next hash w n t p q r again own own2 k =
       let more = watched_more hash w.settings (FindHeld t) q.view r.view k.1 (event q.view.by Missed t) in
+      let none = none_more hash w.settings (FindHeld t) q.view r.view k.1 (event q.view.by Missed t) refl in
       let row : r.view ≡ (found_again 1 t more.0 q).view = find_row hash w.settings q.view r.view t k.1 ∙ λ i. record q.view { found = t ∷ q.view.found; watched = more.1 i } in
       let once : r ≡ found_again 1 t more.0 q = λ i. record { table = (own2.0 ∙ sym own.0) i; view = row i; stripes = k.0 i } in
-      (again.0 ++ more.0, once ∙ (ap (found_again 1 t more.0) again.1 ∙ (again_later 1 n t again.0 more.0 p ∙ ap (λ m. found_again m t (again.0 ++ more.0) p) (let e : 1 + n ≡ n + 1 = omega arith in e))))
+      (again.0 ++ more.0, once ∙ (ap (found_again 1 t more.0) again.1 ∙ (again_later 1 n t again.0 more.0 p ∙ ap (λ m. found_again m t (again.0 ++ more.0) p) (let e : 1 + n ≡ n + 1 = omega arith in e))), none_on p.view again.0 more.0 again.2 (λ m by. none m (ap (λ (x : PassState V). x.view.by) again.1 ∙ by)))
 
-  pub stays_finding : (n t : ℕ) (events : List (LockEvent V)) (p : PassState V) → Stays p.view (found_again n t events p).view
-  stays_finding n t events p = record { settings = refl; by = refl; mine = refl; others = refl; heard = (refl, refl, refl); no_slot = refl; seen = ([], sym (append-nil p.view.seen)); by_others = λ m e. refl; alone = λ _. refl; watched = (events, refl); told = omega arith; doublings = refl; grown_from = refl }
+  pub stays_finding : (n t : ℕ) (events : List (LockEvent V)) (p : PassState V) → DecidesNone p.view events → Stays p.view (found_again n t events p).view
+  stays_finding n t events p none = record { settings = refl; by = refl; mine = refl; others = refl; heard = (refl, refl, refl); no_slot = refl; seen = ([], sym (append-nil p.view.seen)); by_others = λ m e. refl; alone = λ _. refl; watched = (events, refl, λ m by. sym (ap (λ l. p.view.mine ++ l) (none m by) ∙ append-nil p.view.mine)); told = omega arith; doublings = refl; grown_from = refl }
 
   module _ (hash : Name → ℕ) (set : Settings) (turns t : ℕ) (p q : PassState V) (k : TakesWithin hash set turns t p q) where
     abbrev tried : PassState V
@@ -112,7 +129,7 @@ module _ {V : Type 0} where
     within_view = take_row hash set tried.view q.view t k.3.3
 
     pub stays_within : p.view.settings ≡ set → Stays p.view q.view
-    stays_within same = stays_on p.view tried.view q.view (stays_finding k.0 t k.2 p) (stays_taking hash set t tried q same k.3)
+    stays_within same = stays_on p.view tried.view q.view (stays_finding k.0 t k.2 p k.4) (stays_taking hash set t tried q same k.3)
 
     pub found_within : q.view.found ≡ replicate k.0 t ++ p.view.found
     found_within = ap (λ (v : View V). v.found) within_view

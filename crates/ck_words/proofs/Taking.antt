@@ -16,7 +16,7 @@ use Rattle.ck_words.specs.Holding.{HasTaken, GivesUp, HasReleased}
 use Rattle.ck_words.proofs.Reversed.{map-append, in_reverse}
 use Rattle.ck_words.proofs.Seating.{each_append, numbers-contents}
 use Rattle.ck_words.proofs.Spare.{spare_none, spare_push}
-use Rattle.ck_words.proofs.Staying.{again_later, stays_same, stays_on, stays_within, stays_finding, shows_taken, unchanged_idle, among_none, among_on, among_within, among_held}
+use Rattle.ck_words.proofs.Staying.{none_on, again_later, stays_same, stays_on, stays_within, stays_finding, shows_taken, unchanged_idle, among_none, among_on, among_within, among_held}
 
 -- a number of the list stands in it
 pub in_list : (ts : List ℕ) (i : ℕ) → i < length ts → IsIn (get_or ts i 0) ts
@@ -53,13 +53,13 @@ module _ {V : Type 0} where
   -- the stripe was found held once, and then n times
   found_then : (n t : ℕ) (p q r : PassState V) → FindsAgain 1 t p q → FindsAgain n t q r → FindsAgain (suc n) t p r
   found_then n t p q r again more =
-      (again.0 ++ more.0, more.1 ∙ (ap (found_again n t more.0) again.1 ∙ (again_later n 1 t again.0 more.0 p ∙ ap (λ m. found_again m t (again.0 ++ more.0) p) (let e : n + 1 ≡ suc n = omega arith in e))))
+      (again.0 ++ more.0, more.1 ∙ (ap (found_again n t more.0) again.1 ∙ (again_later n 1 t again.0 more.0 p ∙ ap (λ m. found_again m t (again.0 ++ more.0) p) (let e : n + 1 ≡ suc n = omega arith in e))), none_on p.view again.0 more.0 again.2 (λ m by. more.2 m (ap (λ (x : PassState V). x.view.by) again.1 ∙ by)))
 
   pub takes_later : (hash : Name → ℕ) (set : Settings) (turns t : ℕ) (p q r : PassState V) → 1 ≤ turns → FindsAgain 1 t p q → TakesWithin hash set (turns - 1) t q r → TakesWithin hash set turns t p r
   takes_later hash set turns t p q r some again k =
       let l = k.1 in
-      let all = found_then k.0 t p q (found_again k.0 t k.2 q) again (k.2, refl) in
-      (suc k.0, omega arith, all.0, subst (λ (x : PassState V). TakesStripe hash set t x r) all.1 k.3)
+      let all = found_then k.0 t p q (found_again k.0 t k.2 q) again (k.2, refl, k.4) in
+      (suc k.0, omega arith, all.0, subst (λ (x : PassState V). TakesStripe hash set t x r) all.1 k.3, all.2)
 
   pub found_later : (turns t : ℕ) (p q r : PassState V) → 1 ≤ turns → FindsAgain 1 t p q → FindsAgain (turns - 1) t q r → FindsAgain turns t p r
   found_later turns t p q r some again more = subst (λ n. FindsAgain n t p r) (let e : suc (turns - 1) ≡ turns = omega arith in e) (found_then (turns - 1) t p q r again more)
@@ -112,7 +112,7 @@ module _ {V : Type 0} (hash : Name → ℕ) (w : WordsState) (P : ℕ → Type 0
     given_up r s some asked again released =
         let turns = w.settings.turns in
         let found : s.view.found ≡ replicate turns t ++ q.view.found = released.found ∙ ap (λ (x : PassState V). x.view.found) again.1 in
-        let tried : Stays q.view r.view = subst (λ (x : PassState V). Stays q.view x.view) (sym again.1) (stays_finding turns t again.0 q) in
+        let tried : Stays q.view r.view = subst (λ (x : PassState V). Stays q.view x.view) (sym again.1) (stays_finding turns t again.0 q again.2) in
         record {
           own = released.own;
           stays = stays_on p.view r.view s.view (stays_on p.view q.view r.view h.stays tried) released.stays;

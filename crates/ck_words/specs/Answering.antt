@@ -14,7 +14,7 @@ use Rattle.ck_core.specs.declared.view.RoomNote.{RoomNote}
 use Rattle.ck_core.specs.State.{client_of}
 use Rattle.ck_words.specs.Words.{WordsState}
 use Rattle.ck_words.specs.Passes.{PassState, IsPassOf, IsIdle}
-use Rattle.ck_words.specs.Retries.{StaysBut, as_doubled}
+use Rattle.ck_words.specs.Retries.{WatchesMore, StaysBut, as_doubled}
 use Rattle.ck_words.specs.Holding.{IsDoubledBy}
 
 module _ {V : Type 0} where
@@ -37,7 +37,8 @@ module _ {V : Type 0} where
   -- The call was answered by this reply. The pass has noted more that names found no room; the rest is as it was.
   pub record IsAnsweredBut (more : List (RoomNote V)) (call : Call V) (reply : Reply V) (p q : PassState V) : Type 0 where
     pub replied : Replied call reply (client_of p.view) (client_of q.view)
-    pub stays : StaysBut more (record p.view { seen = q.view.seen; mine = q.view.mine }) q.view
+    pub watched : WatchesMore p.view q.view
+    pub stays : StaysBut more (record p.view { seen = q.view.seen; mine = q.view.mine; watched = q.view.watched }) q.view
 
   -- and it has noted so of none
   abbrev pub IsAnswered : Call V → Reply V → PassState V → PassState V → Type 0

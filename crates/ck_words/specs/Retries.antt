@@ -6,21 +6,29 @@ use Rattle.ck_model.specs.Numbered.{IsIn}
 use Rattle.ck_core.specs.declared.trace.LockEvent.{LockEvent}
 use Rattle.ck_core.specs.declared.view.RoomNote.{RoomNote}
 use Rattle.ck_core.specs.declared.view.View.{View}
-use Rattle.ck_core.specs.Trace.{IsLegalTrace, misses}
+use Rattle.ck_core.specs.Trace.{IsLegalTrace, decides, misses}
 use Rattle.ck_words.specs.Passes.{PassState, TakesStripe, IsIdle}
 
 module _ {V : Type 0} where
+  -- none of these steps decided a call of the view's caller
+  abbrev pub DecidesNone : View V → List (LockEvent V) → Type 0
+  DecidesNone v events = (m : ℕ) → v.by ≡ Some m → decides m events ≡ []
+
+  -- From v to w the caller watched these steps more. By its own steps among them it decided the entries that it has more.
+  abbrev pub WatchesMore : View V → View V → Type 0
+  WatchesMore v w = (events : List (LockEvent V)) × (w.watched ≡ v.watched ++ events) × ((m : ℕ) → v.by ≡ Some m → w.mine ≡ v.mine ++ decides m events)
+
   -- the pass after it found the stripe t held n times more, by which it watched these steps more
   abbrev pub found_again : ℕ → ℕ → List (LockEvent V) → PassState V → PassState V
   found_again n t events p = record p { view = record p.view { found = replicate n t ++ p.view.found; watched = p.view.watched ++ events } }
 
   -- q is p after that
   abbrev pub FindsAgain : ℕ → ℕ → PassState V → PassState V → Type 0
-  FindsAgain n t p q = (events : List (LockEvent V)) × (q ≡ found_again n t events p)
+  FindsAgain n t p q = (events : List (LockEvent V)) × (q ≡ found_again n t events p) × DecidesNone p.view events
 
   -- the stripe t was taken within so many tries, after the others found it held
   abbrev pub TakesWithin : (Name → ℕ) → Settings → ℕ → ℕ → PassState V → PassState V → Type 0
-  TakesWithin hash set turns t p q = (n : ℕ) × (n < turns) × (events : List (LockEvent V)) × TakesStripe hash set t (found_again n t events p) q
+  TakesWithin hash set turns t p q = (n : ℕ) × (n < turns) × (events : List (LockEvent V)) × TakesStripe hash set t (found_again n t events p) q × DecidesNone p.view events
 
   -- What no step changes but one that decides, doubles or meets: the caller's entries, its doublings and what it heard, and it has seen and was told no less. What it sees more is by others, so that the only caller sees nothing more.
   -- It has noted more that names found no room.
@@ -34,7 +42,7 @@ module _ {V : Type 0} where
     pub seen : StartsWith w.seen v.seen
     pub by_others : (m : ℕ) → v.by ≡ Some m → subhistory m seen.0 ≡ []
     pub alone : v.settings.callers ≡ 1 → w.seen ≡ v.seen
-    pub watched : (events : List (LockEvent V)) × (w.watched ≡ v.watched ++ events)
+    pub watched : WatchesMore v w
     pub told : v.told ≤ w.told
     pub doublings : w.doublings ≡ v.doublings
     pub grown_from : w.grown_from ≡ v.grown_from

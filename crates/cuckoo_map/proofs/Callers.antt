@@ -13,7 +13,7 @@ use Rattle.ck_core.specs.declared.view.RoomNote.{RoomNote}
 use Rattle.ck_words.specs.Words.{WordsState}
 use Rattle.ck_words.specs.Passes.{PassState}
 use Rattle.ck_section.specs.declared.two_keys.Renamed.{Renamed}
-use Rattle.ck_words.specs.Retries.{StaysBut, FindsAmong, as_doubled}
+use Rattle.ck_words.specs.Retries.{WatchesMore, StaysBut, FindsAmong, as_doubled}
 use Rattle.ck_words.specs.Answering.{IsAnswered, IsAnsweredBut, IsAnsweredOn}
 use Rattle.ck_words.specs.Closing.{IsCaller}
 use Rattle.ck_core.specs.State.{client_of}
@@ -91,12 +91,12 @@ module _ {V : Type 0} where
       by = by ∙ ap (λ (x : CallerState V). x.client.by) is;
     }
 
-    pub keeps_notes : {more : List (RoomNote V)} {n : ℕ} {hs : List (Stripes V)} → StaysBut more (record p.view { seen = q.view.seen; mine = q.view.mine; doublings = n; grown_from = hs }) q.view → KeepsNotesBut more c (caller_of w q)
-    keeps_notes {more} s = record {
+    pub keeps_notes : {more : List (RoomNote V)} {n : ℕ} {hs : List (Stripes V)} → StaysBut more (record p.view { seen = q.view.seen; mine = q.view.mine; watched = q.view.watched; doublings = n; grown_from = hs }) q.view → WatchesMore p.view q.view → KeepsNotesBut more c (caller_of w q)
+    keeps_notes {more} s watched = record {
       settings = s.settings ∙ ap (λ (x : CallerState V). x.client.settings) is;
       told = subst (λ (x : CallerState V). x.notes.told ≤ q.view.told) is s.told;
       heard = (s.heard.0 ∙ ap (λ (x : CallerState V). x.notes.heard) is, s.heard.1 ∙ ap (λ (x : CallerState V). x.notes.heard_told) is, s.heard.2 ∙ ap (λ (x : CallerState V). x.notes.heard_watched) is);
-      watched = (s.watched.0, s.watched.1 ∙ ap (λ (x : CallerState V). x.notes.watched ++ s.watched.0) is);
+      watched = subst (λ (x : CallerState V). WatchesMore (pass_of x).view (pass_of (caller_of w q)).view) is watched;
       no_slot = s.no_slot ∙ ap (λ (x : CallerState V). more ++ x.notes.no_slot) is;
     }
 
@@ -105,7 +105,7 @@ module _ {V : Type 0} where
     replied call {more} {reply} {n} {hs} a = subst (λ (x : CallerState V). Replied call reply x.client (client_of q.view)) is a.replied
 
     pub replies : (call : Call V) (reply : Reply V) → IsAnswered call reply p q → Replies call c (caller_of w q) reply × (IsSameCaller c (caller_of w q) × KeepsNotes c (caller_of w q))
-    replies call reply a = (replied call a, (same_caller a.stays.by, (keeps_notes a.stays, a.stays.doublings ∙ ap (λ (x : CallerState V). x.notes.doublings) is, a.stays.grown_from ∙ ap (λ (x : CallerState V). x.notes.grown_from) is)))
+    replies call reply a = (replied call a, (same_caller a.stays.by, (keeps_notes a.stays a.watched, a.stays.doublings ∙ ap (λ (x : CallerState V). x.notes.doublings) is, a.stays.grown_from ∙ ap (λ (x : CallerState V). x.notes.grown_from) is)))
 
     pub replies_on : (name : Name) (act : Act V) (reply : Reply V) → IsAnsweredOn name p q act reply → RepliesOn name c (caller_of w q) act reply × (IsSameCaller c (caller_of w q) × KeepsNotes c (caller_of w q))
     replies_on name act reply a = replies (On name act) reply a
@@ -116,7 +116,7 @@ module _ {V : Type 0} where
         subst (λ (x : CallerState V). HasGrownFor hash x.table.settings name (pass_of x) (pass_of (caller_of w q))) is (grown_alike p q (pass_of (caller_of w p)) (pass_of (caller_of w q)) refl refl (refl, refl) refl (refl, refl) g)
 
     replies_seeking : (hash : Name → ℕ) (name : Name) (call : Call V) (reply : Reply V) → AnsweredFor hash w.settings name call reply p q → Replies call c (caller_of w q) reply × (IsSameCaller c (caller_of w q) × NotesFull hash name c (caller_of w q))
-    replies_seeking hash name call reply a = (replied call a.2, (same_caller a.2.stays.by, (a.0, a.1, keeps_notes a.2.stays, grown_caller a.3)))
+    replies_seeking hash name call reply a = (replied call a.2, (same_caller a.2.stays.by, (a.0, a.1, keeps_notes a.2.stays a.2.watched, grown_caller a.3)))
 
     replies_inserting : (hash : Name → ℕ) (name : Name) (act : Act V) (reply : Reply V) → IsInserted hash w.settings name p q act reply → RepliesOn name c (caller_of w q) act reply × (IsSameCaller c (caller_of w q) × NotesFull hash name c (caller_of w q))
     replies_inserting hash name act reply a = replies_seeking hash name (On name act) reply a

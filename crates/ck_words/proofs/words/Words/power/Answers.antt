@@ -9,7 +9,7 @@ use Rattle.ck_words.proofs.words.Words.power.Goals as goal
 pub returns-then-not-try_take-clause-stays : goal.returns-then-not-try_take-clause-stays
 returns-then-not-try_take-clause-stays g c =
     let p = c.args.pass.now in let turns = c.args.self.now.settings.turns in
-    subst (λ (q : PassState g.row.V.Denot). Stays p.view q.view) (sym c.if-not-try_take.ensures.tries.1) (stays_finding turns 0 c.if-not-try_take.ensures.tries.0 p)
+    subst (λ (q : PassState g.row.V.Denot). Stays p.view q.view) (sym c.if-not-try_take.ensures.tries.1) (stays_finding turns 0 c.if-not-try_take.ensures.tries.0 p c.if-not-try_take.ensures.tries.2)
 
 pub returns-then-not-try_take-clause-found : goal.returns-then-not-try_take-clause-found
 returns-then-not-try_take-clause-found g c =

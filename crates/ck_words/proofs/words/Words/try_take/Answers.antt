@@ -1,4 +1,4 @@
-use Rattle.std.proofs.Common.{rules, [], sym, subst, arith}
+use Rattle.std.proofs.Common.{rules, [], refl, sym, subst, arith}
 use Rattle.ck_model.specs.Numbered.{numbers}
 use Rattle.ck_core.specs.Steps.{IsAbove}
 use Rattle.ck_words.specs.Passes.{PassState, TakesStripe}
@@ -17,7 +17,7 @@ try_again-requires g c = record {
 pub returns-then-take-clause-tries : goal.returns-then-take-clause-tries
 returns-then-take-clause-tries g c =
     let some = c.show_range.ensures.turns in
-    (0, omega arith, [], subst (λ (q : PassState g.row.V.Denot). TakesStripe g.K.TableKey.hash c.args.self.now.settings c.args.t q c.take.new.pass) (not_found c.args.t c.args.pass.now) c.if-take.ensures.step)
+    (0, omega arith, [], subst (λ (q : PassState g.row.V.Denot). TakesStripe g.K.TableKey.hash c.args.self.now.settings c.args.t q c.take.new.pass) (not_found c.args.t c.args.pass.now) c.if-take.ensures.step, λ m by. refl)
 
 pub returns-clause-tries : goal.returns-clause-tries
 returns-clause-tries g c =
