@@ -9,6 +9,7 @@ pub mod Statements
 pub mod Shown
 pub mod Sums
 pub mod Order
+pub mod TraceOrder
 pub mod ExampleRun
 pub mod ExampleOrder
 pub mod Answered

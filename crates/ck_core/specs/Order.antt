@@ -6,7 +6,9 @@ use Rattle.ck_model.specs.declared.history.Entry.{Entry}
 use Rattle.ck_model.specs.declared.settings.Settings.{Settings}
 use Rattle.ck_model.specs.Promise.{IsLegal, StartsWith, subhistory}
 use Rattle.ck_model.specs.Contents.{Layout}
+use Rattle.ck_core.specs.declared.trace.LockEvent.{LockEvent}
 use Rattle.ck_core.specs.declared.view.View.{View}
+use Rattle.ck_core.specs.Trace.{decided_in, decides}
 use Rattle.ck_core.specs.State.{Configuration, HistoryInvariant}
 use Rattle.ck_core.specs.Steps.{Label, Transition, Execution, Opening}
 use Rattle.ck_core.specs.Steps.Label.{Take, FindHeld, Give, Decide, GiveRest, Renew, Look, Open, Tell, Join}
@@ -73,6 +75,10 @@ module _ {V : Type 0} where
   IsJoining Open = ⊥
   IsJoining Tell = ⊥
 
+  -- the history has the one entry before the other
+  abbrev pub Precedes : Entry V → Entry V → List (Entry V) → Type 0
+  Precedes e e2 log = (first between last : List (Entry V)) × (log ≡ first ++ e ∷ (between ++ e2 ∷ last))
+
 module _ (V : Type 0) where
   -- where all callers stand, the history is determined: it is the longest that one of them has seen
   abbrev pub LawOfOneHistory : Type 0
@@ -102,3 +108,7 @@ module _ (V : Type 0) where
       → Opening k set callers p s0 → Execution k min_load [] s0 before log1 s1 → IsCall k min_load id e log1 s1 during log2 s2
       → Execution k min_load log2 s2 between log3 s3 → IsCall k min_load id2 e2 log3 s3 during2 log4 s4 → Execution k min_load log4 s4 after log5 s5
       → IsLegal log5 × StandInTime log1 log2 log3 log4 log5 e e2
+
+  -- Linearizability in the order of the trace. Where of two calls in it the first ends before the second begins, each of which decided its entry by its caller's own step, the first's stands before the second's in the history.
+  abbrev pub LawOfTraceOrder : Type 0
+  LawOfTraceOrder = (m n : ℕ) (e e2 : Entry V) (before during between during2 after : List (LockEvent V)) → decides m during ≡ e ∷ [] → decides n during2 ≡ e2 ∷ [] → Precedes e e2 (decided_in (before ++ (during ++ (between ++ (during2 ++ after)))))

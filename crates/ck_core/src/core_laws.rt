@@ -7,7 +7,7 @@ ghost use Rattle.ck_model.specs.Contents.{Stripes};
 ghost use Rattle.ck_core.specs.Steps.Label.{Take, FindHeld, Give, Decide, GiveRest, Renew, Look, Open, Tell, Join};
 ghost use Rattle.ck_core.specs.Laws.{LawOfRuns, Keeps, LawOfViews, LawOfReplies, LawOfFindings, LawOfOneCaller, LawOfAnswers, LawOfFollowing, LawOfOtherSteps};
 ghost use Rattle.ck_core.specs.Sums.{LawOfSums};
-ghost use Rattle.ck_core.specs.Order.{LawOfOneHistory, LawOfSeenHistory, LawOfGrowth, LawOfGrowingViews, LawOfDecisions, LawOfRealTime};
+ghost use Rattle.ck_core.specs.Order.{LawOfOneHistory, LawOfSeenHistory, LawOfGrowth, LawOfGrowingViews, LawOfDecisions, LawOfRealTime, LawOfTraceOrder};
 
 /// A step by which a caller takes a stripe that is at home keeps the invariant.
 pub fn law_of_take<V>()
@@ -102,6 +102,13 @@ pub fn law_of_one_history<V>()
     ensures seen { LawOfSeenHistory V }
     ensures grows { LawOfGrowth V }
     ensures steps { LawOfGrowingViews V }
+{}
+
+/// Linearizability (Herlihy and Wing 1990) in the order of the trace: where one completed call ends
+/// before another begins, its entry stands before the other's. A completed call decides its entry,
+/// and no other, by its caller's own steps among those that the caller watched during the call.
+pub fn law_of_trace_order<V>()
+    ensures { LawOfTraceOrder V }
 {}
 
 /// The history of a run is what its steps decide, in their order. In each run from an opening it is

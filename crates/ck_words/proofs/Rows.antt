@@ -65,8 +65,7 @@ module _ {V : Type 0} (hash : Name → ℕ) (set : Settings) where
     pub watched_deciding : (x : Entry V) (t : ℕ) → v.by ≡ Some x.by → let e = event v.by (Decided x) t in
         (events : List (LockEvent V)) × (r.before.trace ++ e ∷ [] ≡ v.watched ++ events) × ((n : ℕ) → v.by ≡ Some n → v.mine ++ x ∷ [] ≡ v.mine ++ decides n events)
     watched_deciding x t by =
-        let e : LockEvent V = event v.by (Decided x) t in
-        (
+        let e : LockEvent V = event v.by (Decided x) t in (
           (watched_more e).0,
           (watched_more e).1,
           λ n is. ap (λ l. v.mine ++ l) (sym (own_more e n is ∙ if_same e.by n (x ∷ []) [] (ap number_of is))),
