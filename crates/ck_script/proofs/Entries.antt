@@ -1,60 +1,99 @@
 -- The entries that a caller's commands left, and the grounds of those that were refused.
-use Rattle.std.proofs.Common.{◌≡◌, ℕ, List, [], ◌∷◌, ◌++◌, map, sym, refl, ap, subst, inl, inr, ◌∙◌, append_assoc, append-nil, Some}
+use Rattle.std.proofs.Common.{◌≡◌, ◌⊎◌, ℕ, List, [], ◌∷◌, ◌++◌, map, sym, refl, ap, subst, inl, inr, ◌∙◌, append_assoc, append-nil, Some}
 use Rattle.std.specs.Global.{Vec}
-use Rattle.std.proofs.lemmas.List.{map-append}
+use Rattle.std.proofs.lemmas.List.{map-append, append_cancel_left}
 use Rattle.ck_model.specs.declared.history.Entry.{Entry}
 use Rattle.ck_model.specs.declared.history.Reason.{Reason}
 use Rattle.ck_model.specs.declared.history.Reason.TheVariants as reason
 use Rattle.ck_model.specs.declared.settings.Settings.{Settings}
-use Rattle.ck_model.specs.Promise.{Name, After, StartsWith, subhistory}
+use Rattle.ck_model.specs.Promise.{Name, After, subhistory}
 use Rattle.ck_model.specs.Contents.{layout_of, Stripes, bindings}
 use Rattle.ck_model.specs.Paths.{Grounds}
 use Rattle.ck_model.proofs.Histories.{starts_itself}
+use Rattle.ck_core.specs.declared.trace.LockEvent.{LockEvent}
+use Rattle.ck_core.specs.Trace.{decides}
+use Rattle.ck_words.specs.Words.{WordsState}
 use Rattle.ck_words.specs.Passes.{PassState}
+use Rattle.ck_words.specs.Closing.{IsCaller}
 use Rattle.cuckoo_map.specs.declared.refusal.Why.{Why}
 use Rattle.cuckoo_map.specs.declared.refusal.Why.TheVariants.{Busy, Memory, Full, LoadTooLow}
 use Rattle.cuckoo_map.specs.Refusals.{IsRefused}
-use Rattle.cuckoo_map.specs.Callers.{CallerState, pass_of, IsSameCaller}
+use Rattle.cuckoo_map.specs.Callers.{CallerState, caller_of, pass_of, IsSameCaller}
 use Rattle.ck_format.specs.declared.script.Command.{Command}
 use Rattle.ck_format.specs.declared.script.Command.TheVariants as command
 use Rattle.ck_format.specs.declared.answer.Answer.{Answer}
 use Rattle.ck_format.specs.Script.{on_names}
 use Rattle.ck_format.specs.Text.{Pairs}
 use Rattle.ck_format.specs.Answers.{answer_on_names, answers_on_names}
-use Rattle.ck_script.specs.Output.{NeedsRoom, IsRefusal, WasStuck, HasGroundsFor, HasGrounds}
-use Rattle.ck_script.specs.Answered.{printed, PrintsWhy, CommandPrintsWhy, HasOthers, StaysOrGrows, SeesMore, HaveLeft, IsAnsweredBy}
+use Rattle.ck_script.specs.Output.{NeedsRoom, IsRefusal, MissesIfBusy, WasStuck, HasGroundsFor, HasGrounds}
+use Rattle.ck_script.specs.Answered.{printed, PrintsWhy, CommandPrintsWhy, HasOthers, IsLeft, StaysOrGrows, SeesMore, TriesIfBusy, HaveLeft, IsAnsweredBy}
+use Rattle.ck_script.specs.Jobs.{HasLeft}
 use Rattle.ck_script.proofs.Grounds.{later_left}
 use Rattle.ck_script.proofs.Seen.{sees_own}
+use Rattle.ck_script.proofs.Watched.{misses_if_busy}
+
+-- the command is refused and its caller's entries stay, or they grow by one, which these steps decide
+abbrev StaysOrDecides : (n by : ℕ) → Command Name → Answer Pairs → List (LockEvent ℕ) → List (Entry ℕ) → List (Entry ℕ) → Type 0
+StaysOrDecides n by c a steps old new =
+    (IsRefusal n c a × (new ≡ old))
+    ⊎ ((e : Entry ℕ) × (e.by ≡ by) × (decides by steps ≡ e ∷ []) × IsLeft n c a e × (new ≡ old ++ e ∷ []))
+
+-- where these steps decided what the caller has more
+decides_more : (n by : ℕ) (c : Command Name) (a : Answer Pairs) (steps : List (LockEvent ℕ)) (old new : List (Entry ℕ)) → StaysOrGrows n by c a old new → new ≡ old ++ decides by steps → StaysOrDecides n by c a steps old new
+decides_more n by c a steps old new grows decided =
+    elim grows [
+      | inl h ↦ inl h
+      | inr h ↦ inr (h.0, h.1, append_cancel_left old (decides by steps) (h.0 ∷ []) (sym decided ∙ h.3), h.2, h.3)
+    ]
 
 module _ (hash : Name → ℕ) (set : Settings) (log : List (Entry ℕ)) (n by : ℕ) where
   -- what the last command left
-  left_last : (done : List (Entry ℕ)) (c : Command Name) (a : Answer Pairs) (new : List (Entry ℕ)) → StaysOrGrows n by c a [] new → HasGrounds hash set log by done c a → HaveLeft hash set log n by done (c ∷ []) (a ∷ []) new
-  left_last done c a new grows grounds = (
+  left_last : (done : List (Entry ℕ)) (steps : List (LockEvent ℕ)) (c : Command Name) (a : Answer Pairs) (new : List (Entry ℕ)) → StaysOrDecides n by c a steps [] new → MissesIfBusy set.turns by c a steps
+      → HasGrounds hash set log by done c a → HaveLeft hash set log n by done steps (c ∷ []) (a ∷ []) new
+  left_last done steps c a new grows misses grounds = (
+    steps,
+    [],
+    sym (append-nil steps),
+    misses,
     grounds,
     elim grows [
-      | inl h ↦ inl h
-      | inr h ↦ inr (h.0, [], h.3, h.1, h.2, refl)
+      | inl h ↦ inl (h.0, (refl, h.1))
+      | inr h ↦ inr (h.0, [], h.4, h.1, h.2, h.3, (refl, refl))
     ],
   )
 
   -- one command more
-  left_more : (done : List (Entry ℕ)) (cs : List (Command Name)) (answers : List (Answer Pairs)) (old new : List (Entry ℕ)) (c : Command Name) (a : Answer Pairs)
-      → HaveLeft hash set log n by done cs answers old → StaysOrGrows n by c a old new → HasGrounds hash set log by (done ++ old) c a → HaveLeft hash set log n by done (cs ++ c ∷ []) (answers ++ a ∷ []) new
-  left_more done [] [] old new c a h grows grounds =
-      left_last done c a new (subst (λ (es : List (Entry ℕ)). StaysOrGrows n by c a es new) h grows)
-      (subst (λ (es : List (Entry ℕ)). HasGrounds hash set log by es c a) (ap (λ (es : List (Entry ℕ)). done ++ es) h ∙ append-nil done) grounds)
-  left_more done [] (x ∷ xs) old new c a h grows grounds = absurd h
-  left_more done (d ∷ cs) [] old new c a h grows grounds = absurd h
-  left_more done (d ∷ cs) (x ∷ xs) old new c a h grows grounds = (
+  left_more : (done : List (Entry ℕ)) (steps more : List (LockEvent ℕ)) (cs : List (Command Name)) (answers : List (Answer Pairs)) (old new : List (Entry ℕ)) (c : Command Name) (a : Answer Pairs)
+      → HaveLeft hash set log n by done steps cs answers old → StaysOrDecides n by c a more old new → MissesIfBusy set.turns by c a more → HasGrounds hash set log by (done ++ old) c a
+      → HaveLeft hash set log n by done (steps ++ more) (cs ++ c ∷ []) (answers ++ a ∷ []) new
+  left_more done steps more [] [] old new c a h grows misses grounds =
+      subst (λ (l : List (LockEvent ℕ)). HaveLeft hash set log n by done (l ++ more) (c ∷ []) (a ∷ []) new) (sym h.0)
+      (left_last done more c a new (subst (λ (es : List (Entry ℕ)). StaysOrDecides n by c a more es new) h.1 grows) misses
+      (subst (λ (es : List (Entry ℕ)). HasGrounds hash set log by es c a) (ap (λ (es : List (Entry ℕ)). done ++ es) h.1 ∙ append-nil done) grounds))
+  left_more done steps more [] (x ∷ xs) old new c a h grows misses grounds = absurd h
+  left_more done steps more (d ∷ cs) [] old new c a h grows misses grounds = absurd h
+  left_more done steps more (d ∷ cs) (x ∷ xs) old new c a h grows misses grounds = (
     h.0,
-    elim h.1 [
-      | inl r ↦ inl (r.0, left_more done cs xs old new c a r.1 grows grounds)
+    h.1 ++ more,
+    ap (λ l. l ++ more) h.2 ∙ append_assoc h.0 h.1 more,
+    h.3,
+    h.4,
+    elim h.5 [
+      | inl r ↦ inl (r.0, left_more done h.1 more cs xs old new c a r.1 grows misses grounds)
       | inr r ↦
           let there = subst (λ (es : List (Entry ℕ)). HasGrounds hash set log by es c a) (ap (λ (es : List (Entry ℕ)). done ++ es) r.2 ∙ sym (append_assoc done (r.0 ∷ []) r.1)) grounds in
           elim grows [
-            | inl g ↦ inr (r.0, r.1, g.1 ∙ r.2, r.3, r.4, left_more (done ++ r.0 ∷ []) cs xs r.1 r.1 c a r.5 (inl (g.0, refl)) there)
+            | inl g ↦ inr (r.0, r.1, g.1 ∙ r.2, r.3, r.4, r.5, left_more (done ++ r.0 ∷ []) h.1 more cs xs r.1 r.1 c a r.6 (inl (g.0, refl)) misses there)
             | inr g ↦
-                inr (r.0, r.1 ++ g.0 ∷ [], g.3 ∙ ap (λ (es : List (Entry ℕ)). es ++ g.0 ∷ []) r.2, r.3, r.4, left_more (done ++ r.0 ∷ []) cs xs r.1 (r.1 ++ g.0 ∷ []) c a r.5 (inr (g.0, g.1, g.2, refl)) there)
+                inr (
+                  r.0,
+                  r.1 ++ g.0 ∷ [],
+                  g.4 ∙ ap (λ (es : List (Entry ℕ)). es ++ g.0 ∷ []) r.2,
+                  r.3,
+                  r.4,
+                  r.5,
+                  left_more (done ++ r.0 ∷ []) h.1 more cs xs r.1 (r.1 ++ g.0 ∷ []) c a r.6 (inr (g.0, g.1, g.2, g.3, refl)) misses there,
+                )
           ]
     ],
   )
@@ -66,22 +105,33 @@ answered_as hash c d a b p q r h same_command same_answer same_caller =
     (subst (λ (x : Answer Pairs). IsAnsweredBy hash d x p q) (sym same_answer)
     (subst (λ (x : Command Name). IsAnsweredBy hash x a p q) (sym same_command) h))
 
+-- a caller that was made of one pass, and answered a command and gave another, did so as the callers of these passes
+pub answered_by_passes : (hash : Name → ℕ) (w : WordsState) (c : Command Name) (a : Answer Pairs) (p q : PassState ℕ) (before after : CallerState ℕ)
+    → before ≡ caller_of w p → IsAnsweredBy hash c a before after → IsCaller after.table q → q ≡ pass_of after → IsCaller w q × IsAnsweredBy hash c a (caller_of w p) (caller_of w q)
+answered_by_passes hash w c a p q before after is answered own same =
+    let table : after.table ≡ w = answered.same.table ∙ ap (λ (x : CallerState ℕ). x.table) is in
+    let there : after ≡ caller_of w q = λ i. caller_of (table i) (sym same i) in (
+      subst (λ (x : WordsState). IsCaller x q) table own,
+      subst (λ (x : CallerState ℕ). IsAnsweredBy hash c a (caller_of w p) x) there (subst (λ (x : CallerState ℕ). IsAnsweredBy hash c a x after) is answered),
+    )
+
 -- a worker's command more
-pub left_by_one : {K : Type 0} (hash : Name → ℕ) (set : Settings) (name : K → Name) (n by : ℕ) (commands : List (Command K)) (command : Command K) (answers items : List (Answer (Vec (K × ℕ)))) (answer : Answer (Vec (K × ℕ))) (saw log old new : List (Entry ℕ))
-    → HaveLeft hash set saw n by [] (map (on_names name) commands) (answers_on_names name answers) old → StartsWith log saw → StaysOrGrows n by (on_names name command) (answer_on_names name answer) old new
-    → HasGrounds hash set log by old (on_names name command) (answer_on_names name answer) → items ≡ answers ++ answer ∷ [] → HaveLeft hash set log n by [] (map (on_names name) (commands ++ command ∷ [])) (answers_on_names name items) new
-left_by_one hash set name n by commands command answers items answer saw log old new have begins grows grounds pushed =
+pub left_by_one : {K : Type 0} (hash : Name → ℕ) (name : K → Name) (w : WordsState) (by : ℕ) (commands : List (Command K)) (command : Command K) (answers items : List (Answer (Vec (K × ℕ)))) (answer : Answer (Vec (K × ℕ))) (p q : PassState ℕ)
+    → IsCaller w p → IsCaller w q → p.view.by ≡ Some by → subhistory by p.view.seen ≡ p.view.mine → IsAnsweredBy hash (on_names name command) (answer_on_names name answer) (caller_of w p) (caller_of w q)
+    → HasLeft hash name w by commands answers p → items ≡ answers ++ answer ∷ [] → HasLeft hash name w by (commands ++ command ∷ []) items q
+left_by_one {K} hash name w by commands command answers items answer p q before after number own now have pushed =
+    let set = w.settings in
+    let c = on_names name command in
+    let a = answer_on_names name answer in
     let cs = map (on_names name) commands in
     let told = answers_on_names name answers in
-    subst (λ (xs : List (Command Name)). HaveLeft hash set log n by [] xs (answers_on_names name items) new) (sym (map-append (on_names name) commands (command ∷ [])))
-    (subst (λ (xs : List (Answer Pairs)). HaveLeft hash set log n by [] (cs ++ on_names name command ∷ []) xs new) (sym (ap (answers_on_names name) pushed ∙ map-append (answer_on_names name) answers (answer ∷ [])))
-    (left_more hash set log n by [] cs told old new (on_names name command) (answer_on_names name answer) (later_left hash set saw log n by [] cs told old begins have) grows grounds))
-
--- what holds of all that was done so far, and of the caller then, holds of all commands
-pub holds_of_all : {K : Type 0} (name : K → Name) (P : List (Command Name) → PassState ℕ → Type 0) (so_far commands : List (Command K)) (c : CallerState ℕ) (q : PassState ℕ) → P (map (on_names name) so_far) (pass_of c) → so_far ≡ commands → q ≡ pass_of c → P (map (on_names name) commands) q
-holds_of_all {K} name P so_far commands c q holds all same =
-    subst (λ (x : PassState ℕ). P (map (on_names name) commands) x) (sym same)
-    (subst (λ (cs : List (Command K)). P (map (on_names name) cs) (pass_of c)) all holds)
+    let more = now.watched in
+    let grows = decides_more set.callers by c a more.0 p.view.mine q.view.mine (now.entries by number) (more.2 by number) in
+    let misses = misses_if_busy set.turns by c a (caller_of w p) (caller_of w q) more now.busy (before.own.6.missed by number) (after.own.6.missed by (now.same.by ∙ number)) in
+    subst (λ (l : List (LockEvent ℕ)). HaveLeft hash set q.view.seen set.callers by [] l (map (on_names name) (commands ++ command ∷ [])) (answers_on_names name items) q.view.mine) (sym more.1)
+    (subst (λ (xs : List (Command Name)). HaveLeft hash set q.view.seen set.callers by [] (p.view.watched ++ more.0) xs (answers_on_names name items) q.view.mine) (sym (map-append (on_names name) commands (command ∷ [])))
+    (subst (λ (xs : List (Answer Pairs)). HaveLeft hash set q.view.seen set.callers by [] (p.view.watched ++ more.0) (cs ++ c ∷ []) xs q.view.mine) (sym (ap (answers_on_names name) pushed ∙ map-append (answer_on_names name) answers (answer ∷ [])))
+    (left_more hash set q.view.seen set.callers by [] p.view.watched more.0 cs told p.view.mine q.view.mine c a (later_left hash set p.view.seen q.view.seen set.callers by [] p.view.watched cs told p.view.mine now.saw have) grows misses (now.grounds by number own))))
 
 -- what an insertion shows that was refused
 has_others : (hash : Name → ℕ) (set : Settings) (q : Name) (why : Why) (p p2 : PassState ℕ) → IsRefused hash set q why p p2 → HasOthers set.callers why
@@ -96,6 +146,13 @@ prints_why hash set q (Busy t) c d r = tt
 prints_why hash set q Memory c d r = (r.more, r.shown.contents, r.stays.no_slot, r.shown.is_noted)
 prints_why hash set q Full c d r = (r.more, r.shown.contents, r.stays.no_slot, r.shown.is_noted)
 prints_why hash set q LoadTooLow c d r = (r.more, r.shown.contents, r.stays.no_slot, r.shown.is_noted)
+
+-- a refusal that is printed as busy comes of tries that all found one stripe held
+tries_if_busy : (hash : Name → ℕ) (set : Settings) (q : Name) (x : Command Name) (why : Why) (c d : CallerState ℕ) → IsRefused hash set q why (pass_of c) (pass_of d) → TriesIfBusy set.turns x (printed why) c d
+tries_if_busy hash set q x (Busy t) c d r = inr (t, r.shown.1)
+tries_if_busy hash set q x Memory c d r = tt
+tries_if_busy hash set q x Full c d r = tt
+tries_if_busy hash set q x LoadTooLow c d r = tt
 
 -- what gives grounds is what all stripes contained at the end of what the pass has seen
 was_stuck : (hash : Name → ℕ) (set : Settings) (by : ℕ) (done : List (Entry ℕ)) (q : Name) (why : Reason) (p : PassState ℕ) (hs : Stripes ℕ) → subhistory by p.view.seen ≡ done → After p.view.seen (bindings hs) → Grounds (layout_of hash set) set.min_load hs q why → WasStuck hash set p.view.seen by done q why
@@ -136,6 +193,8 @@ uninserted hash c k a why p q needs says gives same is r =
     (record {
       same = same;
       why = says (printed why) (prints_why hash set k why p q r);
+      watched = r.stays.watched;
+      busy = tries_if_busy hash set k c why p q r;
       saw = r.stays.seen;
       own = own;
       grounds = λ by number saw. gives (printed why) by (has_grounds hash set by p.client.mine k why (pass_of p) (pass_of q) (sees_own by p.client q.client (own by number) saw ∙ r.stays.mine) r);

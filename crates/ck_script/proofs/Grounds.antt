@@ -7,6 +7,7 @@ use Rattle.ck_model.specs.declared.history.Reason.TheVariants as reason
 use Rattle.ck_model.specs.declared.settings.Settings.{Settings}
 use Rattle.ck_model.specs.Contents.{bindings}
 use Rattle.ck_model.specs.Promise.{Name, StartsWith, subhistory}
+use Rattle.ck_core.specs.declared.trace.LockEvent.{LockEvent}
 use Rattle.ck_words.proofs.Staying.{starts_on}
 use Rattle.ck_format.specs.declared.script.Command.{Command}
 use Rattle.ck_format.specs.declared.script.Command.TheVariants as command
@@ -44,16 +45,20 @@ module _ (hash : Name → ℕ) (set : Settings) (log l : List (Entry ℕ)) where
   }
 
   -- what a worker's commands left in a history they left in one that begins with it
-  pub later_left : (n by : ℕ) (done : List (Entry ℕ)) (cs : List (Command Name)) (answers : List (Answer Pairs)) (es : List (Entry ℕ)) → StartsWith l log
-      → HaveLeft hash set log n by done cs answers es → HaveLeft hash set l n by done cs answers es
-  later_left n by done [] [] es begins h = h
-  later_left n by done [] (a ∷ answers) es begins h = absurd h
-  later_left n by done (c ∷ cs) [] es begins h = absurd h
-  later_left n by done (c ∷ cs) (a ∷ answers) es begins h = (
-    grounds_over by done done (λ k why. later_stuck by done k why begins) c a h.0,
-    elim h.1 [
-      | inl r ↦ inl (r.0, later_left n by done cs answers es begins r.1)
-      | inr r ↦ inr (r.0, r.1, r.2, r.3, r.4, later_left n by (done ++ r.0 ∷ []) cs answers r.1 begins r.5)
+  pub later_left : (n by : ℕ) (done : List (Entry ℕ)) (steps : List (LockEvent ℕ)) (cs : List (Command Name)) (answers : List (Answer Pairs)) (es : List (Entry ℕ)) → StartsWith l log
+      → HaveLeft hash set log n by done steps cs answers es → HaveLeft hash set l n by done steps cs answers es
+  later_left n by done steps [] [] es begins h = h
+  later_left n by done steps [] (a ∷ answers) es begins h = absurd h
+  later_left n by done steps (c ∷ cs) [] es begins h = absurd h
+  later_left n by done steps (c ∷ cs) (a ∷ answers) es begins h = (
+    h.0,
+    h.1,
+    h.2,
+    h.3,
+    grounds_over by done done (λ k why. later_stuck by done k why begins) c a h.4,
+    elim h.5 [
+      | inl r ↦ inl (r.0, later_left n by done h.1 cs answers es begins r.1)
+      | inr r ↦ inr (r.0, r.1, r.2, r.3, r.4, r.5, later_left n by (done ++ r.0 ∷ []) h.1 cs answers r.1 begins r.6)
     ],
   )
 

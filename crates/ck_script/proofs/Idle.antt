@@ -9,6 +9,7 @@ use Rattle.ck_model.specs.declared.history.Entry.{Entry}
 use Rattle.ck_model.specs.Promise.{Map, Step, Leads, StartsWith, IsInterleaving, subhistory}
 use Rattle.ck_model.specs.Numbered.{IsIn, numbers, Holds}
 use Rattle.ck_model.proofs.Numbered.{if_same, if_else, dec_in, held_of_in}
+use Rattle.ck_script.specs.Output.{StandAmong}
 use Rattle.ck_script.specs.Answered.{IsIdleSession}
 
 -- Whether the first entry is kept is said by the first flag, and behind the last flag all are.
@@ -78,6 +79,19 @@ starts_before false e log start begins = begins
 pub kept_start : (start more : List (Entry ℕ)) (flags : ℕ → List Bool) → StartsWith (kept_in flags (start ++ more)) (kept_in flags start)
 kept_start [] more flags = (kept_in flags more, refl)
 kept_start (e ∷ es) more flags = starts_before (first (flags e.by)) e (kept_in (behind e flags) (es ++ more)) (kept_in (behind e flags) es) (kept_start es more (behind e flags))
+
+among_more : (es log : List (Entry ℕ)) (e : Entry ℕ) → StandAmong es log → StandAmong es (e ∷ log)
+among_more [] log e among = tt
+among_more (x ∷ es) log e among = inr among
+
+among_before : (flag : Bool) (e : Entry ℕ) (es log : List (Entry ℕ)) → StandAmong es log → StandAmong (kept_before flag e es) (e ∷ log)
+among_before true e es log among = inl (refl, among)
+among_before false e es log among = among_more es log e among
+
+-- what is kept of a history stands among it
+pub kept_among : (log : List (Entry ℕ)) (flags : ℕ → List Bool) → StandAmong (kept_in flags log) log
+kept_among [] flags = tt
+kept_among (e ∷ es) flags = among_before (first (flags e.by)) e (kept_in (behind e flags) es) es (kept_among es (behind e flags))
 
 -- an entry that isn't kept is that of a session that changed nothing
 abbrev pub IsIdleUnless : Bool → Entry ℕ → Type 0

@@ -1,5 +1,6 @@
 pub mod Idle
 pub mod Seen
+pub mod Watched
 pub mod Grounds
 pub mod Entries
 pub mod Lists

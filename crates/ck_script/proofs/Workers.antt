@@ -17,11 +17,11 @@ use Rattle.ck_model.specs.Promise.{Name, Map, named, name_cmp, ListsInOrder, Aft
 use Rattle.ck_model.proofs.Entries.{entries_listed}
 use Rattle.ck_model.specs.Numbered.{IsIn, numbers}
 use Rattle.ck_model.specs.Counting.{counting}
+use Rattle.ck_core.specs.declared.trace.LockEvent.{LockEvent}
 use Rattle.ck_words.specs.Words.{WordsState}
 use Rattle.ck_words.specs.Passes.{PassState}
-use Rattle.ck_words.specs.Closing.{IsCaller, AreAllPasses, EachSaw, AreContentsOf, Closes, dealt, parts_of}
+use Rattle.ck_words.specs.Closing.{IsCaller, AreAllPasses, EachSaw, EachWatched, AreContentsOf, Closes, dealt, parts_of}
 use Rattle.ck_model.proofs.Counting.{in_counting}
-use Rattle.cuckoo_map.specs.Callers.{CallerState}
 use Rattle.ck_format.specs.declared.script.Keys.{Keys}
 use Rattle.ck_format.specs.declared.script.Command.{Command}
 use Rattle.ck_format.specs.declared.script.Work.{Work}
@@ -32,18 +32,17 @@ use Rattle.ck_format.specs.Script.{on_names, hash_of, said_in, workers_on_names}
 use Rattle.ck_format.specs.Text.{Pairs, output_text}
 use Rattle.ck_script.specs.Output.{IsOutputOf}
 use Rattle.ck_format.specs.Answers.{answers_on_names, lists_on_names}
-use Rattle.ck_script.specs.Answered.{HaveLeft}
-use Rattle.ck_script.specs.Jobs.{IsNew, IsJob, HasWorked, IsTextAtEnd, answers_of, passes_of}
+use Rattle.ck_script.specs.Jobs.{IsNew, IsJob, HasLeft, HasWorked, IsTextAtEnd, answers_of, passes_of}
 use Rattle.ck_script.proofs.Grounds.{later_left}
 use Rattle.ck_script.proofs.Parts.{HaveParts, output_of_parts}
 
--- a pass that was dealt has made no call and seen none
+-- a pass that was dealt has made no call, and seen and watched none
 abbrev IsBlank : PassState ℕ → Type 0
-IsBlank p = (p.view.mine ≡ []) × (p.view.seen ≡ [])
+IsBlank p = (p.view.mine ≡ []) × (p.view.seen ≡ []) × (p.view.watched ≡ [])
 
 all_blank : (w : WordsState) (set : Settings) (ms : List ℕ) → All IsBlank (dealt w.table set ms)
 all_blank w set [] k d lt = absurd (omega arith)
-all_blank w set (m ∷ ms) zero d lt = (refl, refl)
+all_blank w set (m ∷ ms) zero d lt = (refl, refl, refl)
 all_blank w set (m ∷ ms) (suc k) d lt = all_blank w set ms k d (omega arith)
 
 -- so the passes that were dealt are new
@@ -54,6 +53,7 @@ dealt_new w set ms passes all is k d lt =
       caller = all.callers k d lt;
       no_entry = blank.0;
       unseen = blank.1;
+      unwatched = blank.2;
     }
 
 module _ {K : Type 0} (hash : Name → ℕ) (name : K → Name) (w : WordsState) (set : Settings) where
@@ -63,23 +63,27 @@ module _ {K : Type 0} (hash : Name → ℕ) (name : K → Name) (w : WordsState)
   abbrev pub Worked : List (Job K) → List (Done K) → Type 0
   Worked jobs dones = AllZip (HasWorked hash name) jobs dones
 
-  -- what the workers left, by their numbers, in a history that begins with what each has seen
-  pub done_parts : (log : List (Entry ℕ)) (a : ℕ) (workers : List (Vec (Command K))) (jobs : List (Job K)) (dones : List (Done K)) → EachSaw log (passes_of dones) → Given a workers jobs → Worked jobs dones
-      → HaveParts hash w.settings log w.settings.callers a (workers_on_names name workers) (lists_on_names name (answers_of dones)) (parts_of (passes_of dones))
-  done_parts log a [] [] [] saw given worked = refl
-  done_parts log a [] [] (d ∷ dones) saw given worked = absurd worked
-  done_parts log a [] (j ∷ jobs) dones saw given worked = absurd given
-  done_parts log a (cs ∷ workers) [] dones saw given worked = absurd given
-  done_parts log a (cs ∷ workers) (j ∷ jobs) [] saw given worked = absurd worked
-  done_parts log a (cs ∷ workers) (j ∷ jobs) (d ∷ dones) saw given worked =
-      let by = ap (λ (c : CallerState ℕ). c.client.by) given.0.caller in
-      let told = answers_on_names name d.answers.items in (
+  -- what the workers left, by their numbers, in a history and a trace that begin with what each has seen and watched
+  pub done_parts : (log : List (Entry ℕ)) (trace : List (LockEvent ℕ)) (a : ℕ) (workers : List (Vec (Command K))) (jobs : List (Job K)) (dones : List (Done K)) → EachSaw log (passes_of dones) → EachWatched trace (passes_of dones)
+      → Given a workers jobs → Worked jobs dones → HaveParts hash w.settings log w.settings.callers a trace (workers_on_names name workers) (lists_on_names name (answers_of dones)) (parts_of (passes_of dones))
+  done_parts log trace a [] [] [] saw watched given worked = refl
+  done_parts log trace a [] [] (d ∷ dones) saw watched given worked = absurd worked
+  done_parts log trace a [] (j ∷ jobs) dones saw watched given worked = absurd given
+  done_parts log trace a (cs ∷ workers) [] dones saw watched given worked = absurd given
+  done_parts log trace a (cs ∷ workers) (j ∷ jobs) [] saw watched given worked = absurd worked
+  done_parts log trace a (cs ∷ workers) (j ∷ jobs) (d ∷ dones) saw watched given worked =
+      let by = ap (λ (p : PassState ℕ). p.view.by) given.0.pass in
+      let told = d.answers.items in
+      let left : HasLeft hash name w a cs.items told d.pass =
+      subst (λ (x : WordsState × Vec (Command K)). HasLeft hash name x.0 a x.1.items told d.pass) (λ i. (given.0.table i, given.0.commands i)) (worked.0.left a by) in (
         ap (λ (o : Option ℕ). unwrap_or o 0) (worked.0.by ∙ by),
-        later_left hash w.settings d.pass.view.seen log w.settings.callers a [] (map (on_names name) cs.items) told d.pass.view.mine (saw 0 d.pass (omega arith))
-            (subst (λ (x : WordsState × Vec (Command K)). HaveLeft hash x.0.settings d.pass.view.seen x.0.settings.callers a [] (map (on_names name) x.1.items) told d.pass.view.mine) (λ i. ((given.0.caller i).table, given.0.commands i))
-            (worked.0.entries a by)),
-        subst (λ n. HaveParts hash w.settings log w.settings.callers n (workers_on_names name workers) (lists_on_names name (answers_of dones)) (parts_of (passes_of dones))) (sym (add-one a))
-            (done_parts log (suc a) workers jobs dones (λ k p lt. saw (suc k) p (omega arith)) given.1 worked.1),
+        (
+          d.pass.view.watched,
+          watched 0 d.pass (omega arith),
+          later_left hash w.settings d.pass.view.seen log w.settings.callers a [] d.pass.view.watched (map (on_names name) cs.items) (answers_on_names name told) d.pass.view.mine (saw 0 d.pass (omega arith)) left,
+        ),
+        subst (λ n. HaveParts hash w.settings log w.settings.callers n trace (workers_on_names name workers) (lists_on_names name (answers_of dones)) (parts_of (passes_of dones))) (sym (add-one a))
+            (done_parts log trace (suc a) workers jobs dones (λ k p lt. saw (suc k) p (omega arith)) (λ k p lt. watched (suc k) p (omega arith)) given.1 worked.1),
       )
 
   done_callers : (a : ℕ) (workers : List (Vec (Command K))) (jobs : List (Job K)) (dones : List (Done K)) → Given a workers jobs → Worked jobs dones → All (IsCaller w) (passes_of dones)
@@ -88,7 +92,7 @@ module _ {K : Type 0} (hash : Name → ℕ) (name : K → Name) (w : WordsState)
   done_callers a [] (j ∷ jobs) dones given worked k d lt = absurd given
   done_callers a (cs ∷ workers) [] dones given worked k d lt = absurd given
   done_callers a (cs ∷ workers) (j ∷ jobs) [] given worked k d lt = absurd worked
-  done_callers a (cs ∷ workers) (j ∷ jobs) (e ∷ dones) given worked zero d lt = subst (λ (x : CallerState ℕ). IsCaller x.table e.pass) given.0.caller worked.0.caller
+  done_callers a (cs ∷ workers) (j ∷ jobs) (e ∷ dones) given worked zero d lt = subst (λ (x : WordsState). IsCaller x e.pass) given.0.table worked.0.caller
   done_callers a (cs ∷ workers) (j ∷ jobs) (e ∷ dones) given worked (suc k) d lt = done_callers (suc a) workers jobs dones given.1 worked.1 k d (omega arith)
 
   done_numbers : (a : ℕ) (workers : List (Vec (Command K))) (jobs : List (Job K)) (dones : List (Done K)) → Given a workers jobs → Worked jobs dones
@@ -99,7 +103,7 @@ module _ {K : Type 0} (hash : Name → ℕ) (name : K → Name) (w : WordsState)
   done_numbers a (cs ∷ workers) [] dones given worked = absurd given
   done_numbers a (cs ∷ workers) (j ∷ jobs) [] given worked = absurd worked
   done_numbers a (cs ∷ workers) (j ∷ jobs) (d ∷ dones) given worked =
-      let first = ap (λ (o : Option ℕ). unwrap_or o 0) (worked.0.by ∙ ap (λ (c : CallerState ℕ). c.client.by) given.0.caller) in
+      let first = ap (λ (o : Option ℕ). unwrap_or o 0) (worked.0.by ∙ ap (λ (p : PassState ℕ). p.view.by) given.0.pass) in
       let rest = done_numbers (suc a) workers jobs dones given.1 worked.1 in
       λ i. first i ∷ rest i
 
@@ -156,6 +160,10 @@ text_at_end hash name cmp in_order keys hashed set passes answers pairs m (Ok te
   contents = closes.contents;
   interleaving = closes.interleaving;
   saw = closes.saw;
+  trace = closes.trace;
+  legal_trace = closes.legal;
+  decided = closes.decided;
+  watched = closes.watched;
   legal = subst (After closes.log) (sym closes.binds) closes.after;
   of_table = subst (λ (h : Name → ℕ). AreContentsOf h set closes.contents) hashed closes.of_table;
   text_is = is ∙ ap (output_text keys answers) (entries_listed name cmp in_order pairs m lists ∙ ap entries (sym closes.binds));
@@ -183,7 +191,7 @@ module _ {K : Type 0} (hash : Name → ℕ) (name : K → Name) (w : WordsState)
       (subst (λ (lists : List (Vec (Answer (Vec (K × ℕ))))). IsTextAtEnd keys w.settings passes (lists_on_names name lists) text.items) same_answers at_end)) in
       let count : w.settings.callers ≡ length named_workers =
       ap (λ (s : Settings). s.callers) settings ∙ work.callers ∙ sym (length-map workers (λ (cs : Vec (Command K)). map (on_names name) cs.items)) in
-      let have : HaveParts (hash_of keys) work.settings end.log (length named_workers) 0 named_workers told (parts_of (passes_of dones)) =
-      subst (λ (x : (Name → ℕ) × Settings × ℕ). HaveParts x.0 x.1 end.log x.2 0 named_workers told (parts_of (passes_of dones))) (λ i. (hashed i, settings i, count i)) (done_parts hash name w set end.log 0 workers jobs dones end.saw given worked) in
-      output_of_parts (said_in keys name work) told (parts_of (passes_of dones)) end.log end.contents text.items have end.interleaving end.legal end.of_table end.text_is
+      let have : HaveParts (hash_of keys) work.settings end.log (length named_workers) 0 end.trace named_workers told (parts_of (passes_of dones)) =
+      subst (λ (x : (Name → ℕ) × Settings × ℕ). HaveParts x.0 x.1 end.log x.2 0 end.trace named_workers told (parts_of (passes_of dones))) (λ i. (hashed i, settings i, count i)) (done_parts hash name w set end.log end.trace 0 workers jobs dones end.saw end.watched given worked) in
+      output_of_parts (said_in keys name work) told (parts_of (passes_of dones)) end.log end.trace end.contents text.items have end.interleaving end.legal_trace end.decided end.legal end.of_table end.text_is
   output_of_run keys work jobs dones passes answers (Err e) hashed settings given worked same_passes same_answers at_end = tt

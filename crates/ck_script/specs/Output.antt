@@ -1,5 +1,5 @@
 -- What a run of a script may write.
-use Rattle.std.specs.Prelude.{◌≡◌, ◌≢◌, ◌⊎◌, ℕ, ◌+◌, ◌-◌, ◌^◌, min, List, [], ◌∷◌, ◌++◌, length, Some, None}
+use Rattle.std.specs.Prelude.{◌≡◌, ◌≢◌, ◌⊎◌, ℕ, ◌+◌, ◌-◌, ◌^◌, min, List, [], ◌∷◌, ◌++◌, length, replicate, Some, None}
 use Rattle.std.specs.FinMap.{entries}
 use Rattle.ck_model.specs.declared.history.Act.TheVariants as act
 use Rattle.ck_model.specs.declared.history.Call.{Call}
@@ -13,6 +13,8 @@ use Rattle.ck_model.specs.declared.settings.Settings.{Settings}
 use Rattle.ck_model.specs.Promise.{Name, After, StartsWith, subhistory, IsInterleaving}
 use Rattle.ck_model.specs.Contents.{layout_of, Stripes, bindings}
 use Rattle.ck_model.specs.Paths.{Grounds}
+use Rattle.ck_core.specs.declared.trace.LockEvent.{LockEvent}
+use Rattle.ck_core.specs.Trace.{IsLegalTrace, decided_in, decides, misses}
 use Rattle.ck_words.specs.Closing.{AreContentsOf}
 use Rattle.ck_format.specs.declared.script.Command.{Command}
 use Rattle.ck_format.specs.declared.script.Command.TheVariants as command
@@ -101,6 +103,21 @@ IsRefusal n c answer.Full = NeedsRoom c
 IsRefusal n c answer.Load = NeedsRoom c
 IsRefusal n c a = ⊥
 
+-- these entries stand among those, in their order
+abbrev pub StandAmong : List (Entry ℕ) → List (Entry ℕ) → Type 0
+StandAmong [] l = Unit {0}
+StandAmong (e ∷ es) [] = ⊥
+StandAmong (e ∷ es) (x ∷ l) = ((e ≡ x) × StandAmong es l) ⊎ StandAmong (e ∷ es) l
+
+-- By these steps the caller missed stripes, and at its last tries, so many, always this one.
+abbrev pub MissesOne : (turns by : ℕ) → List (LockEvent ℕ) → Type 0
+MissesOne turns by steps = (t : ℕ) × (before : List ℕ) × (misses by steps ≡ replicate turns t ++ before)
+
+-- where the answer is busy, but for a move from a key to itself, the caller missed one stripe so often
+abbrev pub MissesIfBusy : (turns by : ℕ) → Command Name → Answer Pairs → List (LockEvent ℕ) → Type 0
+MissesIfBusy turns by c answer.Busy steps = MovesNothing c ⊎ MissesOne turns by steps
+MissesIfBusy turns by c a steps = Unit {0}
+
 -- At a beginning of the history that has just these entries of the worker's, all stripes of a table with these settings contained what gives this reason to refuse the name.
 pub record WasStuck (hash : Name → ℕ) (set : Settings) (log : List (Entry ℕ)) (by : ℕ) (done : List (Entry ℕ)) (k : Name) (why : Reason) : Type 0 where
   pub start : List (Entry ℕ)
@@ -125,29 +142,34 @@ module _ (hash : Name → ℕ) (set : Settings) (log : List (Entry ℕ)) where
   HasGrounds by done (command.Add k n) a = HasGroundsFor by done k a
   HasGrounds by done c a = Unit {0}
 
-  -- The entries of the commands of one of n workers with their answers, in order, behind those that are done: none of a refused command, which had grounds then, and one of each other.
-  abbrev pub AreEntriesOf : (n by : ℕ) → List (Entry ℕ) → List (Command Name) → List (Answer Pairs) → List (Entry ℕ) → Type 0
-  AreEntriesOf n by done [] [] es = es ≡ []
-  AreEntriesOf n by done (c ∷ cs) (a ∷ answers) es =
-      (IsRefusal n c a × HasGrounds by done c a × AreEntriesOf n by done cs answers es)
-      ⊎ ((e : Entry ℕ) × (more : List (Entry ℕ)) × (es ≡ e ∷ more) × (e.by ≡ by) × StandsFor c a e.call e.reply × AreEntriesOf n by (done ++ e ∷ []) cs answers more)
-  AreEntriesOf n by done cs answers es = ⊥
+  -- The entries of the commands of one of n workers with their answers, in order, behind those that are done. Each command has a stretch of the steps on lock words. A refused one has no entry; it had grounds then, and missed a stripe if it was busy. Each other one has one, which its worker decided in its stretch.
+  abbrev pub AreEntriesOf : (n by : ℕ) → (done : List (Entry ℕ)) → (steps : List (LockEvent ℕ)) → List (Command Name) → List (Answer Pairs) → List (Entry ℕ) → Type 0
+  AreEntriesOf n by done steps [] [] es = es ≡ []
+  AreEntriesOf n by done steps (c ∷ cs) (a ∷ answers) es =
+      (own : List (LockEvent ℕ)) × (rest : List (LockEvent ℕ)) × (steps ≡ own ++ rest)
+      × ((IsRefusal n c a × MissesIfBusy set.turns by c a own × HasGrounds by done c a × AreEntriesOf n by done rest cs answers es)
+      ⊎ ((e : Entry ℕ) × (more : List (Entry ℕ)) × (es ≡ e ∷ more) × (e.by ≡ by) × (decides by own ≡ e ∷ []) × StandsFor c a e.call e.reply × AreEntriesOf n by (done ++ e ∷ []) rest cs answers more))
+  AreEntriesOf n by done steps cs answers es = ⊥
 
   -- the same of each worker, of which the first has the number by
-  abbrev pub ArePartsOf : (n by : ℕ) → List (List (Command Name)) → List (List (Answer Pairs)) → List (ℕ × List (Entry ℕ)) → Type 0
-  ArePartsOf n by [] [] parts = parts ≡ []
-  ArePartsOf n by (cs ∷ workers) (answers ∷ more) (part ∷ parts) = (part.0 ≡ by) × AreEntriesOf n by [] cs answers part.1 × ArePartsOf n (by + 1) workers more parts
-  ArePartsOf n by workers answers parts = ⊥
+  abbrev pub ArePartsOf : (n by : ℕ) → (steps : List (LockEvent ℕ)) → List (List (Command Name)) → List (List (Answer Pairs)) → List (ℕ × List (Entry ℕ)) → Type 0
+  ArePartsOf n by steps [] [] parts = parts ≡ []
+  ArePartsOf n by steps (cs ∷ workers) (answers ∷ more) (part ∷ parts) = (part.0 ≡ by) × AreEntriesOf n by [] steps cs answers part.1 × ArePartsOf n (by + 1) steps workers more parts
+  ArePartsOf n by steps workers answers parts = ⊥
 
 -- The entries of the workers' commands have a legal interleaving, and the text is that of the answers and of the map after it. All is on a table with the script's settings:
 -- the map is what such a table contains, and so is what refuses a command for want of room, at a moment between the worker's entries before it and those after it.
+-- The steps on lock words have a legal trace. In it the entries were decided, in their order, and a worker whose command is busy missed a stripe that another held.
 pub record IsOutputOf (said : Said) (out : List ℕ) : Type 0 where
   pub answers : List (List (Answer Pairs))
   pub parts : List (ℕ × List (Entry ℕ))
   pub log : List (Entry ℕ)
   pub contents : Stripes ℕ
-  pub entries_of : ArePartsOf (hash_of said.keys) said.settings log (length said.workers) 0 said.workers answers parts
+  pub trace : List (LockEvent ℕ)
+  pub entries_of : ArePartsOf (hash_of said.keys) said.settings log (length said.workers) 0 trace said.workers answers parts
   pub interleaving : IsInterleaving log parts
+  pub legal_trace : IsLegalTrace trace
+  pub order : StandAmong log (decided_in trace)
   pub legal : After log (bindings contents)
   pub of_table : AreContentsOf (hash_of said.keys) said.settings contents
   pub text : out ≡ output_text said.keys answers (entries (bindings contents))

@@ -64,7 +64,8 @@ fn job_of<'t, K: WrittenKey>(
     let answers = Vec::with_capacity(alloc, commands.len())?;
     Ok(Job {
         worker,
-        caller: table.caller(pass),
+        table,
+        pass,
         commands,
         answers,
     })

@@ -10,29 +10,27 @@ use ck_format::WrittenKey;
 use std::alloc::{AllocError, Global};
 use std::thread::{Threads, map_vec};
 
-// Makes the calls of a worker, and notes their answers.
+// Makes the calls of a worker by its pass, and notes their answers.
 fn work<K: WrittenKey, G: Gate>(alloc: Global, gate: &G, job: Job<'_, K>) -> Done<K>
     requires { IsReadyJob job }
     ensures { HasWorked K.hash K.name job.entry result }
 {
     let Job {
         worker,
-        mut caller,
+        table,
+        mut pass,
         commands,
         mut answers,
     } = job;
     for command in commands {
         let line = answers.len() as u64 + 1;
         gate.before(worker, line);
-        let (answer, same) = answer_of(alloc, caller, command);
-        caller = same;
+        let (answer, caller) = answer_of(alloc, table.caller(pass), command);
+        pass = caller.into_pass();
         answers.push_reserved(answer);
         gate.after(worker, line);
     }
-    Done {
-        answers,
-        pass: caller.into_pass(),
-    }
+    Done { answers, pass }
 }
 
 /// Does all jobs, each in a thread of its own.
