@@ -109,7 +109,7 @@ StandAmong [] l = Unit {0}
 StandAmong (e ∷ es) [] = ⊥
 StandAmong (e ∷ es) (x ∷ l) = ((e ≡ x) × StandAmong es l) ⊎ StandAmong (e ∷ es) l
 
--- By these steps the caller missed stripes, and at its last tries, so many, always this one.
+-- By these steps the caller missed stripes, and its last misses, so many, were all of this one.
 abbrev pub MissesOne : (turns by : ℕ) → List (LockEvent ℕ) → Type 0
 MissesOne turns by steps = (t : ℕ) × (before : List ℕ) × (misses by steps ≡ replicate turns t ++ before)
 

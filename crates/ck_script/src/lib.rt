@@ -3,7 +3,7 @@
 //! Proved: what is written belongs to the script. Each command is refused, or its answer is that of
 //! a plain map in one interleaving of the workers, and the pairs at the end are those of that map.
 //! What is refused for want of room had grounds between what its worker did before it and after it.
-//! What is busy met, at each of its last tries, another worker that held the stripe. A run that
+//! What is busy met, at each of its last misses, another worker that held the stripe. A run that
 //! finds no memory has written nothing, and one whose sink failed a prefix of such a text.
 #![tactic(auto)]
 
