@@ -1,18 +1,20 @@
 //! A view, for a type to name.
-use crate::view::View;
-use std::marker::Model;
-use std::snapshot::Snapshot;
+ghost use base.Fml.{ftrue};
+ghost use Rattle.ck_core.specs.declared.view.View.{View};
 
-/// A view as contracts see it, for a type of the table to name: it has no bytes, so a program that
-/// drops a table drops nothing of it.
+use std::marker::{Model, PhantomData};
+
+/// A view as contracts see it, for a type of the table to name. It has no bytes and names no type of
+/// the view's parts, so a program that drops a table proves nothing of theirs.
 pub struct Known<V> {
-    seen: Snapshot<View<V>>,
+    values: PhantomData<V>,
+    ghost seen: { View V },
 }
 
 impl<V> Model for Known<V> {
-    ghost use Rattle.ck_core.specs.declared.view.View.{View};
-
     ghost Value = { View V };
 
-    ghost view = { λ k. k.seen.value };
+    ghost view = { λ k. k.seen };
+
+    ghost also_owns = { λ _. ftrue };
 }
