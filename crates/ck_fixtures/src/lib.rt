@@ -190,11 +190,3 @@ pub fn counters(alloc: Global, many: usize) -> Result<Vec<AtomicU64>, AllocError
     }
     Ok(all)
 }
-
-/// The key of an index. No two indices have the same, since each step can be undone.
-pub fn scattered(index: u64) -> u64 {
-    let x = index.wrapping_mul(0x9e37_79b9_7f4a_7c15);
-    let x = (x ^ (x >> 30)).wrapping_mul(0xbf58_476d_1ce4_e5b9);
-    let x = (x ^ (x >> 27)).wrapping_mul(0x94d0_49bb_1331_11eb);
-    x ^ (x >> 31)
-}

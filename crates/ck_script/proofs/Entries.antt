@@ -27,7 +27,7 @@ use Rattle.ck_format.specs.Text.{Pairs}
 use Rattle.ck_format.specs.Answers.{answer_on_names, answers_on_names}
 use Rattle.ck_script.specs.Output.{NeedsRoom, IsRefusal, MissesIfBusy, WasStuck, HasGroundsFor, HasGrounds}
 use Rattle.ck_script.specs.Answered.{printed, PrintsWhy, CommandPrintsWhy, HasOthers, IsLeft, StaysOrGrows, SeesMore, TriesIfBusy, HaveLeft, IsAnsweredBy}
-use Rattle.ck_script.specs.Jobs.{HasLeft}
+use Rattle.ck_script.specs.Jobs.{HasMade}
 use Rattle.ck_script.proofs.Grounds.{later_left}
 use Rattle.ck_script.proofs.Seen.{sees_own}
 use Rattle.ck_script.proofs.Watched.{misses_if_busy}
@@ -118,7 +118,7 @@ answered_by_passes hash w c a p q before after is answered own same =
 -- a worker's command more
 pub left_by_one : {K : Type 0} (hash : Name → ℕ) (name : K → Name) (w : WordsState) (by : ℕ) (commands : List (Command K)) (command : Command K) (answers items : List (Answer (Vec (K × ℕ)))) (answer : Answer (Vec (K × ℕ))) (p q : PassState ℕ)
     → IsCaller w p → IsCaller w q → p.view.by ≡ Some by → subhistory by p.view.seen ≡ p.view.mine → IsAnsweredBy hash (on_names name command) (answer_on_names name answer) (caller_of w p) (caller_of w q)
-    → HasLeft hash name w by commands answers p → items ≡ answers ++ answer ∷ [] → HasLeft hash name w by (commands ++ command ∷ []) items q
+    → HasMade hash name w by commands answers p → items ≡ answers ++ answer ∷ [] → HasMade hash name w by (commands ++ command ∷ []) items q
 left_by_one {K} hash name w by commands command answers items answer p q before after number own now have pushed =
     let set = w.settings in
     let c = on_names name command in

@@ -32,7 +32,7 @@ use Rattle.ck_format.specs.Script.{on_names, hash_of, said_in, workers_on_names}
 use Rattle.ck_format.specs.Text.{Pairs, output_text}
 use Rattle.ck_script.specs.Output.{IsOutputOf}
 use Rattle.ck_format.specs.Answers.{answers_on_names, lists_on_names}
-use Rattle.ck_script.specs.Jobs.{IsNew, IsJob, HasLeft, HasWorked, IsTextAtEnd, answers_of, passes_of}
+use Rattle.ck_script.specs.Jobs.{IsNew, IsJob, HasMade, HasWorked, IsTextAtEnd, answers_of, passes_of}
 use Rattle.ck_script.proofs.Grounds.{later_left}
 use Rattle.ck_script.proofs.Parts.{HaveParts, output_of_parts}
 
@@ -74,8 +74,8 @@ module _ {K : Type 0} (hash : Name → ℕ) (name : K → Name) (w : WordsState)
   done_parts log trace a (cs ∷ workers) (j ∷ jobs) (d ∷ dones) saw watched given worked =
       let by = ap (λ (p : PassState ℕ). p.view.by) given.0.pass in
       let told = d.answers.items in
-      let left : HasLeft hash name w a cs.items told d.pass =
-      subst (λ (x : WordsState × Vec (Command K)). HasLeft hash name x.0 a x.1.items told d.pass) (λ i. (given.0.table i, given.0.commands i)) (worked.0.left a by) in (
+      let left : HasMade hash name w a cs.items told d.pass =
+      subst (λ (x : WordsState × Vec (Command K)). HasMade hash name x.0 a x.1.items told d.pass) (λ i. (given.0.table i, given.0.commands i)) (worked.0.left a by) in (
         ap (λ (o : Option ℕ). unwrap_or o 0) (worked.0.by ∙ by),
         (
           d.pass.view.watched,

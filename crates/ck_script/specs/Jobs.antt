@@ -50,14 +50,14 @@ module _ {K : Type 0} where
 
 module _ {K : Type 0} (hash : Name → ℕ) (name : K → Name) where
   -- by this pass the caller with the number made calls on the table, and left what these commands with their answers leave: the entries, in the steps that it has watched, with grounds in what it has seen
-  abbrev pub HasLeft : WordsState → (by : ℕ) → List (Command K) → List (Answer (Vec (K × ℕ))) → PassState ℕ → Type 0
-  HasLeft w by commands answers p = HaveLeft hash w.settings p.view.seen w.settings.callers by [] p.view.watched (map (on_names name) commands) (answers_on_names name answers) p.view.mine
+  abbrev pub HasMade : WordsState → (by : ℕ) → List (Command K) → List (Answer (Vec (K × ℕ))) → PassState ℕ → Type 0
+  HasMade w by commands answers p = HaveLeft hash w.settings p.view.seen w.settings.callers by [] p.view.watched (map (on_names name) commands) (answers_on_names name answers) p.view.mine
 
   -- The worker made the calls of its job on the same table under the same number.
   pub record HasWorked (job : Job K) (done : Done K) : Type 0 where
     pub caller : IsCaller job.table.now done.pass
     pub by : done.pass.view.by ≡ job.pass.view.by
-    pub left : (by : ℕ) → job.pass.view.by ≡ Some by → HasLeft job.table.now by job.commands.items done.answers.items done.pass
+    pub left : (by : ℕ) → job.pass.view.by ≡ Some by → HasMade job.table.now by job.commands.items done.answers.items done.pass
 
 -- The text is that of these answers and of the map after a legal history, which is an interleaving of the entries of the passes, and begins with what each has seen.
 -- The history is what was decided in a legal trace, in its order, which begins with what each pass has watched. The map is what a table with these settings contains.

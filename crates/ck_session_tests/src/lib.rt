@@ -10,8 +10,6 @@ mod locked_keys;
 #[cfg(test)]
 mod locks;
 #[cfg(test)]
-mod requests;
-#[cfg(test)]
 mod sessions;
 #[cfg(test)]
 mod several;

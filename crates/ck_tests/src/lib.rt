@@ -12,8 +12,6 @@ mod defaults;
 #[cfg(test)]
 mod drops;
 #[cfg(test)]
-mod growing;
-#[cfg(test)]
 mod lists;
 #[cfg(test)]
 mod memory;

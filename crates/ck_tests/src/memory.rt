@@ -1,16 +1,15 @@
-//! Want of memory: a call gets a little more memory from step to step, so that each of its requests
-//! is refused in turn.
+//! Want of memory in calls that C doesn't have: a call gets a little more memory from step to step,
+//! so that each of its requests is refused in turn.
 //!
 //! A test first takes all memory that the allocator still gives, and gives back a small block of it
 //! for the call.
 ghost use Rattle.std.specs.Prelude.{◌≡◌, IfSome};
 ghost use Rattle.ck_words.specs.Closing.{IsCaller, AreAllPasses};
 
-use crate::callers::{Call, Reply, Row, check_rows};
 use ck_fixtures::{NumCaller, NumLocked, NumPass, NumTable, TWO_STRIPES, callers_of};
 use ck_hoard::{End, Ends, ends_of, hoard};
-use ck_key::{KeyFault, NumKey, TextKey};
-use cuckoo_map::{DrainFault, GrowFault, NotDrained, OpenFault, Pool, Settings};
+use ck_key::NumKey;
+use cuckoo_map::{Pool, Refused, Settings, Why};
 use std::alloc::Global;
 use std::process::Abort;
 use std::test::Fail;
@@ -29,32 +28,9 @@ const SETTINGS: Settings = Settings {
 /// What is called.
 #[derive(Clone, Copy)]
 enum Subject {
-    Key,
-    Opening,
     Pooling,
     LockedGrowth,
-    Draining,
     Closing,
-}
-
-/// How a call ended that is refused only for want of memory, which is this fault.
-fn end_of<T: Drop, F: PartialEq + Drop>(rt: &impl Abort, outcome: Result<T, F>, memory: F) -> End {
-    match outcome {
-        Ok(_) => End::Done,
-        Err(fault) => {
-            assert!(rt; fault == memory);
-            End::Refused
-        }
-    }
-}
-
-fn make_key(rt: &impl Abort, alloc: Global) -> End {
-    let text = b"0123456789012345678901234567890123456789012345678901234567891234";
-    end_of(rt, TextKey::new(alloc, text), KeyFault::Memory)
-}
-
-fn open(rt: &impl Abort, alloc: Global) -> End {
-    end_of(rt, NumTable::open(alloc, SETTINGS), OpenFault::Memory)
 }
 
 /// Where there is no memory for a pool, all callers come back, and where there is none for the list
@@ -95,29 +71,7 @@ fn list_of(rt: &impl Abort, alloc: Global, pool: Pool<NumCaller<'_>>) -> End {
     }
 }
 
-/// A locked table that is refused memory to grow keeps its size and its pair.
-fn grow_locked(rt: &impl Abort, alloc: Global) -> End {
-    let Ok((table, mut passes)) = NumTable::open(alloc, SETTINGS) else {
-        return End::Unbegun;
-    };
-    grow(rt, table.caller(passes.remove(0)))
-}
-
-fn grow(rt: &impl Abort, caller: NumCaller<'_>) -> End {
-    let mut caller = caller;
-    assert!(rt; caller.insert(NumKey(3), 30).is_ok());
-    let Ok(mut locked) = caller.lock() else {
-        panic!(rt; "an only caller was busy");
-    };
-    let grown = locked.rehash(3);
-    let (power, found) = (locked.power(), locked.find(&NumKey(3)).copied());
-    locked.unlock();
-    assert!(rt; found == Some(30));
-    assert!(rt; grown.is_ok() || power == 2);
-    end_of(rt, grown, GrowFault::Memory)
-}
-
-/// Eight keys, each four in the bucket that they share.
+/// Eight keys, each four in the bucket that they share, of which key 19 has the first alone.
 const KEYS: [u64; 8] = [3, 7, 11, 15, 12, 8, 4, 0];
 
 /// Binds all keys, which needs no memory.
@@ -144,23 +98,32 @@ fn table_of(rt: &impl Abort, alloc: Global) -> Option<(NumTable, Vec<NumPass>)>
     Some((table, passes))
 }
 
-fn drain(rt: &impl Abort, alloc: Global) -> End {
+fn grow_locked(rt: &impl Abort, alloc: Global) -> End {
     let Some((table, mut passes)) = table_of(rt, alloc) else {
         return End::Unbegun;
     };
-    drain_by(rt, alloc, table.caller(passes.remove(0)))
+    insert_ninth(rt, table.caller(passes.remove(0)))
 }
 
-/// A table that is refused the memory for the list of its pairs keeps them.
-fn drain_by(rt: &impl Abort, alloc: Global, caller: NumCaller<'_>) -> End {
-    match caller.drain(alloc) {
-        Ok((_, pairs)) => {
-            assert!(rt; pairs.len() == 8);
+/// A locked table that is refused memory to grow keeps its size and its keys, and gives key and
+/// value back.
+fn insert_ninth(rt: &impl Abort, caller: NumCaller<'_>) -> End {
+    let Ok(mut locked) = caller.lock() else {
+        panic!(rt; "an only caller was busy");
+    };
+    let inserted = locked.insert(NumKey(19), 190);
+    let left = (locked.power(), locked.len());
+    let found = KEYS.map(|key| locked.find(&NumKey(key)).copied());
+    locked.unlock();
+    assert!(rt; found == KEYS.map(|key| Some(10 * key)));
+    match inserted {
+        Ok(fresh) => {
+            assert!(rt; fresh && left == (3, 9));
             End::Done
         }
-        Err(NotDrained { mut caller, why }) => {
-            assert!(rt; why == DrainFault::Memory);
-            assert!(rt; caller.len() == Ok(8));
+        Err(Refused { key, value, why }) => {
+            assert!(rt; key == NumKey(19) && value == 190);
+            assert!(rt; why == Why::Memory && left == (2, 8));
             End::Refused
         }
     }
@@ -193,60 +156,36 @@ const EIGHT_PAIRS: [(NumKey, u64); 8] = [
 
 fn call(rt: &impl Abort, alloc: Global, subject: Subject) -> End {
     match subject {
-        Subject::Key => make_key(rt, alloc),
-        Subject::Opening => open(rt, alloc),
         Subject::Pooling => make_pool(rt, alloc),
         Subject::LockedGrowth => grow_locked(rt, alloc),
-        Subject::Draining => drain(rt, alloc),
         Subject::Closing => close(rt, alloc),
     }
 }
 
-/// What is called, how many steps it gets, and whether what has to come before it needs memory too.
-type Case = (&'static str, Subject, usize, bool);
+/// What is called, and how many steps it gets. What has to come before it needs memory too.
+type Case = (&'static str, Subject, usize);
 
-const TEXT_KEY: Case = ("a text key", Subject::Key, 20, false);
-
-const OPENING: Case = ("opening a table", Subject::Opening, 120, false);
-
-const POOL: Case = ("a pool", Subject::Pooling, 300, true);
-
-const GROWTH: Case = ("growth of a locked table", Subject::LockedGrowth, 200, true);
-
-const DRAINING: Case = ("draining a table", Subject::Draining, 120, true);
-
-const CLOSING: Case = ("closing a table", Subject::Closing, 120, true);
-
-/// Each finds the free blocks that those before it have left. So a test makes one list of pairs.
-static CASES: [Case; 5] = [TEXT_KEY, OPENING, POOL, GROWTH, CLOSING];
-
-static CASES_OF_DRAINING: [Case; 5] = [TEXT_KEY, OPENING, POOL, GROWTH, DRAINING];
+static CASES: [Case; 3] = [
+    ("a pool", Subject::Pooling, 300),
+    ("growth of a locked table", Subject::LockedGrowth, 200),
+    ("closing a table", Subject::Closing, 120),
+];
 
 /// Each call is refused for want of memory, and then it is not.
-fn wanted(unbegun: bool) -> Ends {
-    Ends {
-        unbegun,
-        refused: true,
-        done: true,
-    }
-}
-
-fn check_cases(rt: &impl Abort, alloc: Global, cases: &[Case]) -> Result<(), Fail> {
-    for (what, subject, steps, unbegun) in cases {
-        let ends = ends_of(alloc, *steps, || call(rt, alloc, *subject))?;
-        assert!(rt; ends == wanted(*unbegun), "{what}");
-    }
-    Ok(())
-}
+const WANTED: Ends = Ends {
+    unbegun: true,
+    refused: true,
+    done: true,
+};
 
 #[test]
 fn each_request_refused(rt: HostRuntime) -> Result<(), Fail> {
-    check_cases(&rt, rt.alloc(), &CASES)
-}
-
-#[test]
-fn each_request_of_draining_refused(rt: HostRuntime) -> Result<(), Fail> {
-    check_cases(&rt, rt.alloc(), &CASES_OF_DRAINING)
+    let alloc = rt.alloc();
+    for (what, subject, steps) in &CASES {
+        let ends = ends_of(alloc, *steps, || call(&rt, alloc, *subject))?;
+        assert!(rt; ends == WANTED, "{what}");
+    }
+    Ok(())
 }
 
 /// A table that was not closed for want of memory, and its pass.
@@ -275,34 +214,7 @@ fn closing_again(rt: HostRuntime) {
 /// A block that is free while calls are made: what takes memory of it and keeps it shows.
 const SPARE: usize = 4000;
 
-/// Calls that find or change what is bound to a key, where `KEYS` are bound. What was bound is bound
-/// again.
-static CHANGES: [Row; 13] = [
-    (Call::Find(3), Reply::Was(Some(30))),
-    (Call::FindTenth(3), Reply::Was(Some(3))),
-    (Call::Contains(5), Reply::Bound(false)),
-    (Call::Update(3, 31), Reply::Was(Some(30))),
-    (Call::UpdateFn(3), Reply::Updated(true, true)),
-    (Call::TakeIf(3, 2), Reply::Replaced(Some(true))),
-    (Call::EraseWithin(3, 30, 30), Reply::Gone(Some(true))),
-    (Call::Insert(3, 29), Reply::Fresh(true)),
-    (Call::Upsert(3, 0), Reply::Fresh(false)),
-    (Call::Transfer(3, 7), Reply::Bound(true)),
-    (Call::Transfer(7, 3), Reply::Bound(true)),
-    (Call::Erase(3), Reply::Was(Some(30))),
-    (Call::InsertOrAssign(3, 30), Reply::Was(None)),
-];
-
-/// Makes all calls that take no memory.
-fn ask(rt: &impl Abort, caller: &mut NumCaller<'_>) {
-    check_rows(rt, caller, "no memory", &CHANGES);
-    assert!(rt; caller.len() == Ok(8));
-    assert!(rt; caller.power() == Ok(2));
-    assert!(rt; caller.rehash(2) == Ok(false));
-    assert!(rt; caller.reserve(16) == Ok(false));
-}
-
-/// Makes those of a locked table.
+/// Makes the calls of a locked table that take no memory.
 fn ask_locked(rt: &impl Abort, locked: &mut NumLocked<'_>) {
     assert!(rt; locked.len() == 8);
     assert!(rt; locked.find(&NumKey(3)).copied() == Some(30));
@@ -313,18 +225,16 @@ fn ask_locked(rt: &impl Abort, locked: &mut NumLocked<'_>) {
     assert!(rt; locked.rehash(2) == Ok(false));
 }
 
-/// Makes all calls that take no memory, where there is none, and again with a spare block, of which
-/// none of them keeps anything.
+/// Locks the table with no memory, and makes the calls twice: the second time with a spare block, of
+/// which none of them keeps anything.
 fn ask_twice(rt: &impl Abort, alloc: Global, caller: NumCaller<'_>) {
-    let mut caller = caller;
     let spare = Vec::<u8>::with_capacity(alloc, SPARE).expect(rt, "memory at the start");
     let hoard = hoard(alloc).expect(rt, "memory for the list of blocks");
-    ask(rt, &mut caller);
-    drop(spare);
-    ask(rt, &mut caller);
     let Ok(mut locked) = caller.lock() else {
         panic!(rt; "an only caller was busy");
     };
+    ask_locked(rt, &mut locked);
+    drop(spare);
     ask_locked(rt, &mut locked);
     locked.unlock();
     let again = Vec::<u8>::with_capacity(alloc, SPARE);
@@ -333,7 +243,7 @@ fn ask_twice(rt: &impl Abort, alloc: Global, caller: NumCaller<'_>) {
 }
 
 #[test]
-fn calls_take_no_memory(rt: HostRuntime) -> Result<(), Fail> {
+fn a_locked_table_takes_no_memory(rt: HostRuntime) -> Result<(), Fail> {
     let mut callers: Vec<NumCaller<'_>> = callers_of(rt.alloc(), SETTINGS)?;
     let mut caller = callers.pop().expect(&rt, "a caller");
     for key in KEYS {

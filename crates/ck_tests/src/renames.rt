@@ -3,7 +3,6 @@ use ck_fixtures::{
     APART, EIGHT_APART, FOUR_BUCKETS, NumCaller, SIXTEEN_BUCKETS, TWO_STRIPES, bind_all,
     callers_of, count, read, three_callers,
 };
-use ck_hoard::hoard;
 use ck_key::{NumKey, TextKey};
 use cuckoo_map::{Caller, Fault, KeysRefused, NotRenamed, RenameFault, Renamed, Settings, Why};
 use std::alloc::Global;
@@ -166,30 +165,6 @@ fn room_is_made_ahead(rt: HostRuntime) -> Result<(), Fail> {
     assert!(rt; caller.power() == Ok(5));
     assert!(rt; caller.find(&FIFTH) == Ok(None));
     assert!(rt; caller.len() == Ok(5));
-    Ok(())
-}
-
-/// With no memory to grow, nothing changes, and the stripes are given back.
-fn rename_without_memory(
-    rt: &impl Abort,
-    alloc: Global,
-    caller: &mut NumCaller<'_>,
-) -> Result<(), Fail> {
-    let _blocks = hoard(alloc)?;
-    let none = RenameFault::Room(Why::Memory);
-    assert!(rt; why(rt, caller, 12, FIFTH) == Some(none));
-    assert!(rt; caller.make_room(&FIFTH) == Err(Why::Memory));
-    assert!(rt; caller.find_all([&NumKey(12), &FIFTH]) == Ok([Some(5), None]));
-    Ok(())
-}
-
-#[test]
-fn no_memory_for_a_new_name(rt: HostRuntime) -> Result<(), Fail> {
-    let (mut caller, _, _) = three_callers(rt.alloc(), SETTINGS)?;
-    assert!(&rt; bind_all(&mut caller, ONE_BUCKET));
-    rename_without_memory(&rt, rt.alloc(), &mut caller)?;
-    assert!(rt; caller.power() == Ok(4));
-    assert!(rt; caller.rename(&NumKey(12), FIFTH).ok() == Some(Renamed::Done));
     Ok(())
 }
 

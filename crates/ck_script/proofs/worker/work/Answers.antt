@@ -5,7 +5,7 @@ use Rattle.std.proofs.lemmas.Iterator.Adapters.{YieldsList-from_vec}
 use Rattle.ck_format.specs.Script.{on_names}
 use Rattle.ck_format.specs.Answers.{answer_on_names}
 use Rattle.cuckoo_map.specs.Callers.{caller_of}
-use Rattle.ck_script.specs.Jobs.{HasLeft}
+use Rattle.ck_script.specs.Jobs.{HasMade}
 use Rattle.ck_script.proofs.Seen.{sees_own}
 use Rattle.ck_script.proofs.Entries.{answered_by_passes, left_by_one}
 use Rattle.ck_script.proofs.worker.work.Goals as goal
@@ -45,5 +45,5 @@ returns g c =
     record {
       caller = before.caller;
       by = before.by;
-      left = λ by is. subst (λ commands. HasLeft g.K.TableKey.hash g.K.TableKey.name c.args.job.table.now by commands c.loop-command.answers.items c.loop-command.pass) all (before.left by (before.by ∙ is));
+      left = λ by is. subst (λ commands. HasMade g.K.TableKey.hash g.K.TableKey.name c.args.job.table.now by commands c.loop-command.answers.items c.loop-command.pass) all (before.left by (before.by ∙ is));
     }
