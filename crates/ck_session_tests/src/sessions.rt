@@ -112,39 +112,7 @@ struct Session {
 /// Keys that have one bucket of four alone, as many as it has room for.
 const FULL_BUCKET: &[(u64, u64)] = &[(3, 30), (7, 70), (11, 110), (15, 150)];
 
-static SESSIONS: [Session; 8] = [
-    Session {
-        what: "a bound key keeps its value",
-        shape: GROWING,
-        bound: &[],
-        calls: &[
-            (Call::Insert(1, 10), Reply::Fresh(true)),
-            (Call::Insert(1, 11), Reply::Fresh(false)),
-            (Call::Find(1), Reply::Was(Some(10))),
-            (Call::Len, Reply::Count(1)),
-            (Call::Insert(2, 20), Reply::Fresh(true)),
-            (Call::Len, Reply::Count(2)),
-            (Call::Erase(1), Reply::Was(Some(10))),
-            (Call::Erase(1), Reply::Was(None)),
-            (Call::Insert(1, 12), Reply::Fresh(true)),
-        ],
-        end: &[(1, 12), (2, 20)],
-        power: 2,
-    },
-    Session {
-        what: "a bound key is assigned another value",
-        shape: GROWING,
-        bound: &[],
-        calls: &[
-            (Call::Assign(1, 10), Reply::Was(None)),
-            (Call::Assign(1, 11), Reply::Was(Some(10))),
-            (Call::HalveOr(2, 20), Reply::Fresh(true)),
-            (Call::HalveOr(2, 21), Reply::Fresh(false)),
-            (Call::Len, Reply::Count(2)),
-        ],
-        end: &[(1, 11), (2, 10)],
-        power: 2,
-    },
+static SESSIONS: [Session; 5] = [
     Session {
         what: "only a bound key is updated",
         shape: GROWING,
@@ -236,23 +204,6 @@ static SESSIONS: [Session; 8] = [
             (Call::Insert(27, 270), Reply::Back(27, 270, Why::Full)),
         ],
         end: &[(7, 70), (11, 110), (19, 191), (23, 230)],
-        power: 2,
-    },
-    Session {
-        what: "each stripe keeps its even values, and a table of odd ones is empty",
-        shape: GROWING,
-        bound: &[(0, 1), (1, 2), (2, 4), (3, 3)],
-        calls: &[
-            (Call::RetainEven, Reply::Count(2)),
-            (Call::RetainEven, Reply::Count(2)),
-            (Call::Halve(1), Reply::Is(true)),
-            (Call::RetainEven, Reply::Count(1)),
-            (Call::Update(2, 5), Reply::Was(Some(4))),
-            (Call::RetainEven, Reply::Count(0)),
-            (Call::IsEmpty, Reply::Is(true)),
-            (Call::Insert(1, 6), Reply::Fresh(true)),
-        ],
-        end: &[(1, 6)],
         power: 2,
     },
 ];

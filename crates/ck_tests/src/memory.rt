@@ -105,6 +105,13 @@ fn grow_locked(rt: &impl Abort, alloc: Global) -> End {
     insert_ninth(rt, table.caller(passes.remove(0)))
 }
 
+/// Each key has its value.
+fn find_all(rt: &impl Abort, locked: &NumLocked<'_>) {
+    for key in KEYS {
+        assert!(rt; locked.find(&NumKey(key)) == Some(&(10 * key)));
+    }
+}
+
 /// A locked table that is refused memory to grow keeps its size and its keys, and gives key and
 /// value back.
 fn insert_ninth(rt: &impl Abort, caller: NumCaller<'_>) -> End {
@@ -113,9 +120,8 @@ fn insert_ninth(rt: &impl Abort, caller: NumCaller<'_>) -> End {
     };
     let inserted = locked.insert(NumKey(19), 190);
     let left = (locked.power(), locked.len());
-    let found = KEYS.map(|key| locked.find(&NumKey(key)).copied());
+    find_all(rt, &locked);
     locked.unlock();
-    assert!(rt; found == KEYS.map(|key| Some(10 * key)));
     match inserted {
         Ok(fresh) => {
             assert!(rt; fresh && left == (3, 9));
