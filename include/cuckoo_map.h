@@ -33,8 +33,10 @@
  * fewer bytes than the parameters say.
  *
  * The library calls malloc, realloc and free, which have to align blocks as C says, and needs a
- * processor of x86-64-v2. It never yields: a caller that was refused as CUCKOO_BUSY lets other
- * threads run, and calls again (`cuckoo_map.hpp` does that).
+ * processor of x86-64-v2. Memory is requested where a table is opened or is to grow, where a text is
+ * to be bound or renamed, and for `clear` and the pairs of a table; no other call requests any. The
+ * library never yields: a caller that was refused as CUCKOO_BUSY lets other threads run, and calls
+ * again (`cuckoo_map.hpp` does that).
  */
 #ifndef CUCKOO_MAP_H
 #define CUCKOO_MAP_H
