@@ -128,8 +128,11 @@ static uint64_t listed(void) {
     uint64_t key;
     uint64_t value;
     uint64_t count = 0;
+    watch(0);
     while (cuckoo_pairs_next(&pairs, &key, &value) == CUCKOO_OK)
         if (key == count && value == 10 * key) count++;
+    watches = 0;
+    check("pairs_next", "it requests none", requests == 0);
     return count;
 }
 
@@ -138,8 +141,11 @@ static uint64_t texts_listed(void) {
     size_t length;
     uint64_t value;
     uint64_t count = 0;
+    watch(0);
     while (cuckoo_text_pairs_next(&text_pairs, key, sizeof key, &length, &value) == CUCKOO_OK)
         if (length == 1 && key[0] == *text_of(count) && value == 10 * count) count++;
+    watches = 0;
+    check("text_pairs_next", "it requests none", requests == 0);
     return count;
 }
 
