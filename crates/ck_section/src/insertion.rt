@@ -6,6 +6,7 @@ ghost use Rattle.ck_model.specs.declared.history.Reply.{Reply};
 ghost use Rattle.ck_section.specs.Places.{IsPlaceOf};
 ghost use Rattle.ck_section.specs.Entries.{IsEntryOf};
 ghost use Rattle.ck_section.specs.Calls.{effect, IsCall, ChangesContents};
+ghost use Rattle.ck_section.specs.RoomForAll.{KeepsOthers};
 ghost use Rattle.ck_model.specs.Commits.{call_of};
 
 use crate::entry::Entry;
@@ -48,6 +49,7 @@ pub trait Insertion<K: TableKey, V>: Drop {
             × (call_of K.name result.1 ≡ On (K.name key) act)
             × IsCall (effect K.hash H.stripes place held.old held.new) (K.name key) act reply }
         ensures rest { ChangesContents (H.stripes held.old) (H.stripes held.new) }
+        ensures others { KeepsOthers (K.name key) (H.stripes held.old) (H.stripes held.new) }
         ensures stays { H.stays held.old held.new };
 }
 

@@ -16,6 +16,7 @@ mod place;
 // Calls on one key, those that may bind it, the calls on two, and those on several.
 pub mod insertion;
 mod one_key;
+mod room_for_all;
 mod several_keys;
 mod two_keys;
 
@@ -48,6 +49,7 @@ pub use one_key::{
 pub use place::{HeldBucket, KeyPlace};
 pub use retain::retain_all;
 pub use room::{make_room, settled_place};
+pub use room_for_all::has_room_for_all;
 pub use several_keys::{find_bound, find_each};
 pub use two_keys::{Renamed, rename, update_two};
 pub use whole::{clear_all, find_in_all, key_place_in_all};

@@ -12,6 +12,7 @@ ghost use Rattle.ck_section.specs.Places.{IsPlaceOf};
 ghost use Rattle.ck_section.specs.Entries.{IsOccupied, IsVacant};
 ghost use Rattle.ck_section.specs.Calls.{effect, IsCall, ChangesContents};
 ghost use Rattle.ck_section.specs.Acts.{Updates, Erases, Changes};
+ghost use Rattle.ck_section.specs.RoomForAll.{KeepsOthers};
 
 use crate::look::find_slot;
 use crate::place::KeyPlace;
@@ -59,6 +60,7 @@ pub fn update<K: TableKey + Drop, V: Drop, Q: Query<K>, H: Held<Stripe<K, V>>>(
         (IsCall (effect K.hash H.stripes place held.old held.new) (Q.name key)) result }
     ensures same { IfNone result (H.stripes held.new ≡ H.stripes held.old) }
     ensures rest { ChangesContents (H.stripes held.old) (H.stripes held.new) }
+    ensures others { KeepsOthers (Q.name key) (H.stripes held.old) (H.stripes held.new) }
     ensures stays { H.stays held.old held.new }
 {
     let at = find_slot(held, place, key)?;
@@ -76,6 +78,7 @@ pub fn erase<K: TableKey + Drop, V: Drop, Q: Query<K>, H: Held<Stripe<K, V>>>(
         (IsCall (effect K.hash H.stripes place held.old held.new) (Q.name key)) result }
     ensures same { IfNone result (H.stripes held.new ≡ H.stripes held.old) }
     ensures rest { ChangesContents (H.stripes held.old) (H.stripes held.new) }
+    ensures others { KeepsOthers (Q.name key) (H.stripes held.old) (H.stripes held.new) }
     ensures stays { H.stays held.old held.new }
 {
     let at = find_slot(held, place, key)?;
@@ -132,6 +135,7 @@ where
         (IsCall (effect K.hash H.stripes place held.old held.new) (Q.name key)) result }
     ensures same { OnFalse result (H.stripes held.new ≡ H.stripes held.old) }
     ensures rest { ChangesContents (H.stripes held.old) (H.stripes held.new) }
+    ensures others { KeepsOthers (Q.name key) (H.stripes held.old) (H.stripes held.new) }
     ensures stays { H.stays held.old held.new }
 {
     let Some(at) = find_slot(held, place, key) else {
@@ -201,6 +205,7 @@ pub fn modify<
         Change Absent) }
     ensures same { OnErr result (H.stripes held.new ≡ H.stripes held.old) }
     ensures rest { ChangesContents (H.stripes held.old) (H.stripes held.new) }
+    ensures others { KeepsOthers (Q.name key) (H.stripes held.old) (H.stripes held.new) }
     ensures stays { H.stays held.old held.new }
 {
     let at = match find_slot(held, place, key) {
@@ -223,6 +228,7 @@ pub(crate) fn fill<K: TableKey + Drop, V: Drop, H: Held<Stripe<K, V>>>(
     ensures call { (act : Act V) (reply : Reply V) → Answers act None reply (Some value)
         → IsCall (effect K.hash H.stripes place held.old held.new) (K.name key) act reply }
     ensures rest { ChangesContents (H.stripes held.old) (H.stripes held.new) }
+    ensures others { KeepsOthers (K.name key) (H.stripes held.old) (H.stripes held.new) }
     ensures stays { H.stays held.old held.new }
 {
     let partial = place.partial;
@@ -247,6 +253,7 @@ pub(crate) fn modify_entry<
         × ((act : Act V) (reply : Reply V) → Answers act (Some v) reply (Some w)
         → IsCall (effect K.hash H.stripes place held.old held.new) (Q.name _key) act reply) }
     ensures rest { ChangesContents (H.stripes held.old) (H.stripes held.new) }
+    ensures others { KeepsOthers (Q.name _key) (H.stripes held.old) (H.stripes held.new) }
     ensures stays { H.stays held.old held.new }
 {
     let (own, old) = one_stripe::remove(held, at);
@@ -274,6 +281,7 @@ pub(crate) fn try_modify_entry<
         × ((act : Act V) (reply : Reply V) → Answers act (Some v) reply (Some w)
         → IsCall (effect K.hash H.stripes place held.old held.new) (Q.name key) act reply) }
     ensures rest { ChangesContents (H.stripes held.old) (H.stripes held.new) }
+    ensures others { KeepsOthers (Q.name key) (H.stripes held.old) (H.stripes held.new) }
     ensures stays { H.stays held.old held.new }
 {
     let change = |value: V| value_and_outcome(f(value));

@@ -12,6 +12,7 @@ use Rattle.ck_model.specs.Contents.{layout_of, Lawful, bindings, power_of}
 use Rattle.ck_stripe.specs.Stripes.{contents_of}
 use Rattle.ck_stripe.specs.Tables.{AreHeld}
 use Rattle.ck_section.specs.Places.{HasBoth}
+use Rattle.ck_section.specs.RoomForAll.{HasRoomForAll}
 use Rattle.ck_words.specs.declared.stripe_set.StripeSet.{StripeSet}
 use Rattle.ck_words.specs.StripeSets.{list_of}
 use Rattle.ck_words.specs.Words.{WordsState}
@@ -51,6 +52,14 @@ module _ {V : Type 0} where
   -- from k to l a call on the name was made with this reply
   abbrev pub ActsOn : Name → KeysState V → KeysState V → Act V → Reply V → Type 0
   ActsOn q k l act reply = HasActed q k.session l.session act reply
+
+  -- One of the buckets of each name has a free slot for each of the names that may come there, so that no insertion of one is refused.
+  abbrev pub HasRoomForNames : (Name → ℕ) → KeysState V → Type 0
+  HasRoomForNames hash k = HasRoomForAll (layout_of hash k.session.caller.table.settings) (contents_of k.session.stripes) k.names
+
+  -- where there was room for all the names, there is
+  abbrev pub KeepsRoom : (Name → ℕ) → KeysState V → KeysState V → Type 0
+  KeepsRoom hash k l = HasRoomForNames hash k → HasRoomForNames hash l
 
   -- The key came back with the value: nothing changed, and its name, which is unbound, has no free slot.
   pub record LacksSlot {K X : Type 0} (hash : Name → ℕ) (q : Name) (key : K) (x : X) (k l : KeysState V) (back : NoSlot K X) : Type 0 where

@@ -1,5 +1,5 @@
 //! Some keys under one caller.
-ghost use Rattle.std.specs.Prelude.{◌≡◌, ◌<◌, ◌≤◌, Some, None, IfOk, IfErr, MatchOption, map, is_some};
+ghost use Rattle.std.specs.Prelude.{◌≡◌, ◌<◌, ◌≤◌, Some, None, IsOk, IfOk, IfErr, MatchOption, MatchBool, map, is_some};
 ghost use Rattle.std.specs.Fn.{FnOnceReturnsAt};
 ghost use Rattle.ck_model.specs.declared.history.Reply.TheVariants.{Closed};
 ghost use Rattle.ck_model.specs.Promise.{IsAmong, Replied};
@@ -7,7 +7,7 @@ ghost use Rattle.ck_section.specs.Acts.{Updates, Modifies, Changes, Erases, Inse
 ghost use Rattle.cuckoo_map.specs.Callers.{IsSameCaller, KeepsNotes, IsRefusedOn, FindsHeldAmong};
 ghost use Rattle.cuckoo_map.specs.Insertions.{TellsOf};
 ghost use Rattle.cuckoo_map.specs.SeveralKeys.{IsStripeOfAny};
-ghost use Rattle.cuckoo_map.specs.LockedKeys.{HasLockedKeys, ActsOn, value_of, keys_call, LacksSlot};
+ghost use Rattle.cuckoo_map.specs.LockedKeys.{HasLockedKeys, ActsOn, value_of, keys_call, LacksSlot, HasRoomForNames, KeepsRoom};
 
 use crate::caller::CallerOn;
 use crate::locked::make_in;
@@ -15,7 +15,9 @@ use crate::refusal::{KeysNotLocked, NoSlot};
 use crate::table::Table;
 use crate::table_ref::TableRef;
 use ck_key::{KeyHash, Query, TableKey};
-use ck_section::{Insertion, erase, find, insertion, key_place, modify, update, update_fn};
+use ck_section::{
+    Insertion, erase, find, has_room_for_all, insertion, key_place, modify, update, update_fn,
+};
 use ck_words::{Pass, StripeSet, guard};
 use std::marker::Model;
 
@@ -136,10 +138,22 @@ impl<T: TableRef<K, V> + Drop, K: TableKey + Drop, V: Drop, Q: Query<K>> LockedK
         found
     }
 
+    /// Whether each of the keys has room: one of its buckets has a free slot for each of the keys that
+    /// may come there. Then no insertion of one of them is refused until they are unlocked, whatever
+    /// is bound and unbound before.
+    pub fn has_room(&mut self) -> bool
+        ensures room { MatchBool result (HasRoomForNames K.hash self.old) (¬ (HasRoomForNames K.hash self.old)) }
+        ensures same { self.new ≡ self.old }
+    {
+        let mut guard = guard!(&self.table.table().words, &mut self.pass, self.stripes);
+        has_room_for_all(&mut guard, self.stripes.s, self.keys)
+    }
+
     /// `Caller::update`, which is never refused.
     pub fn update<P: Query<K>>(&mut self, key: P, value: V) -> Option<V>
         requires named { IsAmong (P.name key) self.old.names }
         ensures names { self.new.names ≡ self.old.names }
+        ensures room { KeepsRoom K.hash self.old self.new }
         ensures answered { Updates value (ActsOn (P.name key) self.old self.new) result }
     {
         let mut guard = guard!(&self.table.table().words, &mut self.pass, self.stripes);
@@ -152,6 +166,7 @@ impl<T: TableRef<K, V> + Drop, K: TableKey + Drop, V: Drop, Q: Query<K>> LockedK
         requires named { IsAmong (P.name key) self.old.names }
         requires call { F.IsAlwaysCallable f }
         ensures names { self.new.names ≡ self.old.names }
+        ensures room { KeepsRoom K.hash self.old self.new }
         ensures answered { Changes (F.post f) (ActsOn (P.name key) self.old self.new) result }
     {
         let mut guard = guard!(&self.table.table().words, &mut self.pass, self.stripes);
@@ -168,6 +183,7 @@ impl<T: TableRef<K, V> + Drop, K: TableKey + Drop, V: Drop, Q: Query<K>> LockedK
         requires named { IsAmong (P.name key) self.old.names }
         requires call { F.IsAlwaysCallable f }
         ensures names { self.new.names ≡ self.old.names }
+        ensures room { KeepsRoom K.hash self.old self.new }
         ensures answered { Modifies (F.post f) (ActsOn (P.name key) self.old self.new) result }
     {
         let mut guard = guard!(&self.table.table().words, &mut self.pass, self.stripes);
@@ -180,6 +196,7 @@ impl<T: TableRef<K, V> + Drop, K: TableKey + Drop, V: Drop, Q: Query<K>> LockedK
     pub fn erase<P: Query<K>>(&mut self, key: P) -> Option<V>
         requires named { IsAmong (P.name key) self.old.names }
         ensures names { self.new.names ≡ self.old.names }
+        ensures room { KeepsRoom K.hash self.old self.new }
         ensures answered { Erases (ActsOn (P.name key) self.old self.new) result }
     {
         let mut guard = guard!(&self.table.table().words, &mut self.pass, self.stripes);
@@ -191,8 +208,10 @@ impl<T: TableRef<K, V> + Drop, K: TableKey + Drop, V: Drop, Q: Query<K>> LockedK
     pub fn insert(&mut self, key: K, value: V) -> Result<bool, NoSlot<K, V>>
         requires named { IsAmong (K.name key) self.old.names }
         ensures names { self.new.names ≡ self.old.names }
+        ensures room { KeepsRoom K.hash self.old self.new }
         ensures answered { IfOk result (Inserts value (ActsOn (K.name key) self.old self.new)) }
         ensures refused { IfErr result (LacksSlot K.hash (K.name key) key value self.old self.new) }
+        ensures made { HasRoomForNames K.hash self.old → IsOk result }
     {
         self.make(key, value, insertion::Insert)
     }
@@ -201,8 +220,10 @@ impl<T: TableRef<K, V> + Drop, K: TableKey + Drop, V: Drop, Q: Query<K>> LockedK
     pub fn insert_or_assign(&mut self, key: K, value: V) -> Result<Option<V>, NoSlot<K, V>>
         requires named { IsAmong (K.name key) self.old.names }
         ensures names { self.new.names ≡ self.old.names }
+        ensures room { KeepsRoom K.hash self.old self.new }
         ensures answered { IfOk result (Assigns value (ActsOn (K.name key) self.old self.new)) }
         ensures refused { IfErr result (LacksSlot K.hash (K.name key) key value self.old self.new) }
+        ensures made { HasRoomForNames K.hash self.old → IsOk result }
     {
         self.make(key, value, insertion::Assign)
     }
@@ -217,9 +238,11 @@ impl<T: TableRef<K, V> + Drop, K: TableKey + Drop, V: Drop, Q: Query<K>> LockedK
         requires named { IsAmong (K.name key) self.old.names }
         requires call { F.IsAlwaysCallable f }
         ensures names { self.new.names ≡ self.old.names }
+        ensures room { KeepsRoom K.hash self.old self.new }
         ensures answered { IfOk result (Upserts (F.post f) value
             (ActsOn (K.name key) self.old self.new)) }
         ensures refused { IfErr result (LacksSlot K.hash (K.name key) key value self.old self.new) }
+        ensures made { HasRoomForNames K.hash self.old → IsOk result }
     {
         self.make(key, value, insertion::Upsert(f))
     }
@@ -234,9 +257,11 @@ impl<T: TableRef<K, V> + Drop, K: TableKey + Drop, V: Drop, Q: Query<K>> LockedK
         requires named { IsAmong (K.name key) self.old.names }
         requires call { I.can_make insertion value }
         ensures names { self.new.names ≡ self.old.names }
+        ensures room { KeepsRoom K.hash self.old self.new }
         ensures answered { IfOk result (TellsOf (I.tells insertion value)
             (ActsOn (K.name key) self.old self.new)) }
         ensures refused { IfErr result (LacksSlot K.hash (K.name key) key value self.old self.new) }
+        ensures made { HasRoomForNames K.hash self.old → IsOk result }
     {
         let mut guard = guard!(&self.table.table().words, &mut self.pass, self.stripes);
         let hash = KeyHash::of::<K, &K>(&key);

@@ -8,6 +8,7 @@ ghost use Rattle.ck_stripe.specs.Tables.{AreAllHeld};
 ghost use Rattle.ck_section.specs.Acts.{Inserts, Assigns, Upserts, InsertsBy, FindsOrInserts, Uprases, TriesUpsert, TriesUpsertWith};
 ghost use Rattle.ck_section.specs.Places.{IsPlaceOf};
 ghost use Rattle.ck_section.specs.Calls.{effect, IsCall, IsWithoutRoom, ChangesContents};
+ghost use Rattle.ck_section.specs.RoomForAll.{KeepsOthers};
 ghost use Rattle.cuckoo_map.specs.Refusals.{why_of};
 ghost use Rattle.cuckoo_map.specs.Locking.{DoublesFor, LockedInsertionLeaves, KeepsMap, LacksRoom, SeeksRoom};
 ghost use Rattle.cuckoo_map.specs.Insertions.{TellsOf};
@@ -202,6 +203,7 @@ pub(crate) fn make_in<K: TableKey + Drop, V: Drop, I: Insertion<K, V>, H: Held<S
         × IsWithoutRoom K.hash place.s (H.stripes held.old) (K.name key)) }
     ensures left { OnErr result (H.stripes held.new ≡ H.stripes held.old) }
     ensures rest { ChangesContents (H.stripes held.old) (H.stripes held.new) }
+    ensures others { KeepsOthers (K.name key) (H.stripes held.old) (H.stripes held.new) }
     ensures stays { H.stays held.old held.new }
 {
     match find_entry(held, place, &key) {
