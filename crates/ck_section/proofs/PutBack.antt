@@ -19,11 +19,13 @@ use Rattle.ck_stripe.specs.HeldSlots.{slot_in}
 use Rattle.ck_section.specs.Entries.{IsOccupied}
 use Rattle.ck_section.specs.Calls.{ChangesContents}
 use Rattle.ck_section.specs.Acts.{TriesUpsert}
+use Rattle.ck_section.specs.RoomForAll.{KeepsOthers}
 use Rattle.ck_section.proofs.Found.{owns, changes_on}
 use Rattle.ck_section.proofs.Decided.{IsCallOn, freed, s_at}
 use Rattle.ck_section.proofs.Rebinding.{Rebinding, keeps_s, keeps_reach, keeps_slot, removing, placing}
 use Rattle.ck_model.proofs.Identities.{power_on}
 use Rattle.ck_section.proofs.Rebound.{taken, given, changed_slot}
+use Rattle.ck_section.proofs.KeptOthers.{free_where, free_with, set_keeps, keeps_on}
 
 -- The slot has the name in stripes that stay as they are while it is looked for; then its entry is taken.
 module _ {V : Type 0} (hash : Name → ℕ) (stripes : List (StripeState V)) (q : Name) (place : KeyPlace) (of : IsPlaceOf hash stripes q place) (cur : List (StripeState V)) (same : cur ≡ stripes) (at : HeldSlot) (here : IsOccupied hash stripes q at)
@@ -71,6 +73,14 @@ module _ {V : Type 0} (hash : Name → ℕ) (stripes : List (StripeState V)) (q 
 
     pub put_back_changes : ChangesContents stripes two
     put_back_changes = subst (λ (l : List (StripeState V)). ChangesContents stripes l) (sym from_two) back_changes
+
+    back_keeps : KeepsOthers q stripes back
+    back_keeps = keeps_on q stripes (taken stripes at) back
+        (set_keeps q stripes at None _ here.slot.reach.inside (free_with q _ v entry_taken) tt)
+        (set_keeps q (taken stripes at) at (Some (q, w)) _ still_reach.inside (free_where q _ now_free) refl)
+
+    pub put_back_keeps : KeepsOthers q stripes two
+    put_back_keeps = subst (λ (l : List (StripeState V)). KeepsOthers q stripes l) (sym from_two) back_keeps
 
     module _ (act : Act V) (reply : Reply V) (answers : Answers act (Some v) reply (Some w)) where
       module _ (max : ℕ) (lawful : Lawful (layout hash place.s max) (contents_of stripes)) where

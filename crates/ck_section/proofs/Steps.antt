@@ -17,8 +17,10 @@ use Rattle.ck_section.specs.Places.{IsPlaceOf, IsNowhere, AreFull}
 use Rattle.ck_stripe.specs.HeldSlots.{slot_in, set_slot}
 use Rattle.ck_section.specs.Entries.{IsOccupied, IsVacant, IsEntryOf}
 use Rattle.ck_section.specs.Calls.{IsWithRoom, IsWithoutRoom, ChangesContents}
+use Rattle.ck_section.specs.RoomForAll.{KeepsOthers}
 use Rattle.ck_section.proofs.Found.{no_room, has_room, bound_room, set_changes, changes_none, changes_on}
 use Rattle.ck_section.proofs.Decided.{IsCallOn, s_at, keeps_unbound, keeps_bound, placed, removed, replaced}
+use Rattle.ck_section.proofs.KeptOthers.{free_where, free_with, slot_keeps}
 
 -- a fact that holds anyway
 pub none_anyway : {A : Type 0} (o : Option A) (P : Type 0) → P → IfNone o P
@@ -87,6 +89,9 @@ module _ {V : Type 0} where
           (sym (e ∙ ap (λ (l : List (StripeState V)). set_slot l at (Some (q, v)) ((stripe_at l at.index).content.ledger + 1)) same))
           (placed hash stripes q place of act reply at vacant.slot v vacant.nowhere vacant.next.0 answers)
 
+      pub put_keeps : (v : V) (n : ℕ) (new : List (StripeState V)) → new ≡ set_slot cur at (Some (q, v)) n → KeepsOthers q stripes new
+      put_keeps v n new = slot_keeps q stripes cur new at (Some (q, v)) n same vacant.slot.reach.inside (free_where q _ vacant.next.0) refl
+
     -- where the name may be, among stripes that are as they were,
     pub place_still : IsPlaceOf hash cur q place
     place_still = subst (λ (l : List (StripeState V)). IsPlaceOf hash l q place) (sym same) of
@@ -133,24 +138,32 @@ module _ {V : Type 0} where
           (sym (e ∙ ap (λ (l : List (StripeState V)). set_slot l at (Some (q, w)) (stripe_at l at.index).content.ledger) same))
           (replaced hash stripes q place of act reply at here.slot here.found.0 w here.found.1 answers)
 
+      -- the other entries stay where they are
+      pub wrote_keeps : (w : V) (n : ℕ) (new : List (StripeState V)) → new ≡ set_slot cur at (Some (q, w)) n → KeepsOthers q stripes new
+      wrote_keeps w n new = slot_keeps q stripes cur new at (Some (q, w)) n same here.slot.reach.inside (free_with q _ here.found.0 here.found.1) refl
+
+      pub took_keeps : (n : ℕ) (new : List (StripeState V)) → new ≡ set_slot cur at None n → KeepsOthers q stripes new
+      took_keeps n new = slot_keeps q stripes cur new at None n same here.slot.reach.inside (free_with q _ here.found.0 here.found.1) tt
+
       -- a call that puts a value in place of the old one, which it gives
       pub swapped : (act : Act V) (w r : V) (new : List (StripeState V)) → ((v : V) → Answers act (Some v) (Was (Some v)) (Some w))
           → ((n : Name) (v : V) → slot_in cur at ≡ Some (n, v) → (r ≡ v) × (new ≡ set_slot cur at (Some (n, w)) (len_at cur at.index)))
-          → IsCallOn hash place.s stripes q act (Was (Some r)) new × ChangesContents stripes new
+          → IsCallOn hash place.s stripes q act (Was (Some r)) new × ChangesContents stripes new × KeepsOthers q stripes new
       swapped act w r new answers content =
           let z = content q here.found.0 found_in in (
             wrote act (Was (Some r)) w new (subst (λ (v : V). Answers act (Some here.found.0) (Was (Some v)) (Some w)) (sym z.0) (answers here.found.0)) z.1,
             slot_changes stripes cur new at _ _ same here.slot.reach z.1,
+            wrote_keeps w _ new z.1,
           )
 
       -- a call that puts in place of the old value what a closure makes of it
       pub remade : (post : V → V → Type 0) (act : Act V) (new : List (StripeState V)) → ((v w : V) → Answers act (Some v) (Done v w) (Some w))
           → ((n : Name) (v : V) → slot_in cur at ≡ Some (n, v) → (w : V) × post v w × (new ≡ set_slot cur at (Some (n, w)) (len_at cur at.index)))
-          → ((v w : V) × post v w × IsCallOn hash place.s stripes q act (Done v w) new) × ChangesContents stripes new
+          → ((v w : V) × post v w × IsCallOn hash place.s stripes q act (Done v w) new) × ChangesContents stripes new × KeepsOthers q stripes new
       remade post act new answers content =
           let v = here.found.0 in
           let z = content q v found_in in
-          ((v, z.0, z.1, wrote act (Done v z.0) z.0 new (answers v z.0) z.2), slot_changes stripes cur new at _ _ same here.slot.reach z.2)
+          ((v, z.0, z.1, wrote act (Done v z.0) z.0 new (answers v z.0) z.2), slot_changes stripes cur new at _ _ same here.slot.reach z.2, wrote_keeps z.0 _ new z.2)
 
       pub took : (act : Act V) (reply : V → Reply V) (n : Name) (v : V) (new : List (StripeState V)) → ((w : V) → Answers act (Some w) (reply w) None)
           → slot_in cur at ≡ Some (n, v) → new ≡ set_slot cur at None ((stripe_at cur at.index).content.ledger - 1) → IsCallOn hash place.s stripes q act (reply v) new

@@ -1,7 +1,8 @@
 use Rattle.std.proofs.Common.{refl, None, Some}
 use Rattle.ck_model.specs.declared.history.Act.TheVariants.{Erase}
 use Rattle.ck_model.specs.declared.history.Reply.TheVariants.{Was}
-use Rattle.ck_section.proofs.Steps.{replied_none, lacked, took, unchanged, ready, slot_changes}
+use Rattle.ck_section.proofs.Steps.{replied_none, lacked, took, took_keeps, unchanged, ready, slot_changes}
+use Rattle.ck_section.proofs.KeptOthers.{keeps_same}
 use Rattle.ck_section.proofs.one_key.erase.Goals as goal
 
 pub find_slot-requires : goal.find_slot-requires
@@ -12,6 +13,9 @@ returns-in_err-at-clause-call g c = replied_none _ _ _ _ _ _ _ c.from_residual.e
 
 pub returns-in_err-at-clause-rest : goal.returns-in_err-at-clause-rest
 returns-in_err-at-clause-rest g c = unchanged _ _ c.find_slot.ensures.same
+
+pub returns-in_err-at-clause-others : goal.returns-in_err-at-clause-others
+returns-in_err-at-clause-others g c = keeps_same _ _ _ c.find_slot.ensures.same
 
 pub returns-in_err-at-clause-stays : goal.returns-in_err-at-clause-stays
 returns-in_err-at-clause-stays g c = c.find_slot.ensures.stays
@@ -25,6 +29,9 @@ returns-clause-call g c =
 
 pub returns-clause-rest : goal.returns-clause-rest
 returns-clause-rest g c = slot_changes _ _ _ c.in_ok-at.at _ _ c.find_slot.ensures.same c.in_ok-at.ensures.occupied.slot.reach c.remove-value.ensures.content
+
+pub returns-clause-others : goal.returns-clause-others
+returns-clause-others g c = took_keeps _ _ _ _ c.requires _ c.find_slot.ensures.same c.in_ok-at.at c.in_ok-at.ensures.occupied _ _ c.remove-value.ensures.content
 
 pub returns-clause-stays : goal.returns-clause-stays
 returns-clause-stays g c = g.met.H.Held.stays_on _ _ _ c.find_slot.ensures.stays c.remove-value.ensures.stays

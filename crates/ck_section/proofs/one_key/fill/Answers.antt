@@ -1,5 +1,5 @@
 use Rattle.std.proofs.Common.{refl}
-use Rattle.ck_section.proofs.Steps.{put, slot_changes}
+use Rattle.ck_section.proofs.Steps.{put, put_keeps, slot_changes}
 use Rattle.ck_section.proofs.one_key.fill.Goals as goal
 
 pub place-requires-clause-reach : goal.place-requires-clause-reach
@@ -20,3 +20,8 @@ pub returns-clause-rest : goal.returns-clause-rest
 returns-clause-rest g c =
     let stripes = g.H.Held.stripes c.args.held.now in
     slot_changes stripes stripes _ c.args.at _ _ refl c.requires.vacant.slot.reach c.place.ensures.content
+
+pub returns-clause-others : goal.returns-clause-others
+returns-clause-others g c =
+    let stripes = g.H.Held.stripes c.args.held.now in
+    put_keeps g.K.TableKey.hash stripes (g.K.TableKey.name c.args.key) c.args.place c.requires.place stripes refl c.args.at c.requires.vacant c.args.value _ _ c.place.ensures.content

@@ -1,6 +1,6 @@
 use Rattle.std.proofs.Common.{refl}
 use Rattle.ck_section.proofs.Steps.{ready}
-use Rattle.ck_section.proofs.PutBack.{ready_again, put_back, put_back_changes}
+use Rattle.ck_section.proofs.PutBack.{ready_again, put_back, put_back_changes, put_back_keeps}
 use Rattle.ck_section.proofs.one_key.modify_entry.Goals as goal
 
 pub remove-own-requires : goal.remove-own-requires
@@ -19,3 +19,6 @@ returns-clause-bound g c = (
 
 pub returns-clause-rest : goal.returns-clause-rest
 returns-clause-rest g c = put_back_changes _ _ _ _ c.requires.place _ refl c.args.at c.requires.occupied _ _ c.remove-own.result.1 c.remove-own.ensures.entry c.remove-own.ensures.content c.f-value.result.0 _ c.place.ensures.content
+
+pub returns-clause-others : goal.returns-clause-others
+returns-clause-others g c = put_back_keeps _ _ _ _ c.requires.place _ refl c.args.at c.requires.occupied _ _ c.remove-own.result.1 c.remove-own.ensures.entry c.remove-own.ensures.content c.f-value.result.0 _ c.place.ensures.content

@@ -11,6 +11,7 @@ returns-in-Occupied g c =
     record {
       answered = (Assign c.args.value, Was (Some c.replace.result), (refl, refl), λ i. On (g.K.TableKey.name (c.of.ensures i)) (Assign (c.of-2.ensures i)), made.0);
       rest = made.1;
+      others = made.2;
       stays = c.replace.ensures.stays;
     }
 

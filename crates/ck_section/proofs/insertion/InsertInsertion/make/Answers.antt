@@ -3,6 +3,7 @@ use Rattle.ck_model.specs.declared.history.Act.TheVariants.{Insert}
 use Rattle.ck_model.specs.declared.history.Call.TheVariants.{On}
 use Rattle.ck_model.specs.declared.history.Reply.TheVariants.{New, Old}
 use Rattle.ck_section.proofs.Steps.{occupied_here, vacant_here, kept, unchanged}
+use Rattle.ck_section.proofs.KeptOthers.{keeps_same}
 use Rattle.ck_section.proofs.insertion.InsertInsertion.make.Goals as goal
 
 pub returns-in-Occupied : goal.returns-in-Occupied
@@ -15,6 +16,7 @@ returns-in-Occupied g c = record {
     kept _ _ _ _ c.requires.place _ refl c.in-Occupied.field-0 (occupied_here _ _ _ _ c.args.entry c.in-Occupied.field-0 c.in-Occupied.is c.requires.entry) (Insert c.args.value) Old (refl, refl),
   );
   rest = unchanged _ _ refl;
+  others = keeps_same _ _ _ refl;
   stays = g.met.H.Held.stays_same _;
 }
 

@@ -17,6 +17,7 @@ returns-in-Occupied g c =
         made.0.3,
       );
       rest = made.1;
+      others = made.2;
       stays = c.change.ensures.stays;
     }
 
