@@ -22,3 +22,4 @@ pub mod Owned
 pub mod Cleared
 pub mod Listed
 pub mod Retained
+pub mod RoomForAll
