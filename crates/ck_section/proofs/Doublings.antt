@@ -2,20 +2,18 @@
 use Rattle.std.proofs.Common.{◌≡◌, ◌≢◌, ⊎_elim, ℕ, ◌/◌, ◌%◌, ◌^◌, ◌<◌, ◌≤◌, List, Some, refl, sym, ◌∙◌, ap, subst}
 use mathlib.Core.Logic.{dite}
 use native.Mathlib.Decide.{ℕ_discrete}
-use Rattle.std.proofs.Math.Nat.{mod-lt}
-use Rattle.std.proofs.lemmas.Nat.{pow_pos, div-add-mod'}
+use Rattle.std.proofs.lemmas.Nat.{div-add-mod'}
 use Rattle.std.proofs.lemmas.List.Sorted.{IsPermutation-refl, IsPermutation-trans}
 use Rattle.ck_model.specs.Arithmetic.{index_of, second_of}
 use Rattle.ck_model.specs.Promise.{Name}
 use Rattle.ck_model.specs.Numbered.{Holds}
 use Rattle.ck_model.specs.Slots.{Slot, slot_at}
 use Rattle.ck_model.specs.declared.contents.Content.{Content}
-use Rattle.ck_model.specs.Contents.{Layout, Stripes, Lawful, IsBucketOf, power_of, row_at, bucket_in}
-use Rattle.ck_model.specs.Sections.{HasAll}
+use Rattle.ck_model.specs.Contents.{Layout, Stripes, Lawful, IsBucketOf, power_of, row_at, rows_of, bucket_in}
 use Rattle.ck_model.specs.Doubling.{bucket_after, IsDoubledTo}
 use Rattle.ck_model.proofs.Buckets.{index_below, second_below, index_lower, second_lower}
-use Rattle.ck_model.proofs.Numbered.{if_same, if_else, held_of_in}
-use Rattle.ck_model.proofs.Rows.{rows_held, power_held}
+use Rattle.ck_model.proofs.Numbered.{if_same, if_else}
+use Rattle.ck_model.proofs.Rows.{held_there, power_held}
 
 module _ (hash : Name → ℕ) (q : Name) where
   after_first : (p p2 b : ℕ) → b ≡ index_of p (hash q) → bucket_after hash p p2 q b ≡ index_of p2 (hash q)
@@ -48,13 +46,13 @@ module _ (hash : Name → ℕ) (q : Name) where
       ∙ sym (after_second p p3 b ne))
 
 module _ {V : Type 0} (k : Layout) where
-  module _ (hs : Stripes V) (lawful : Lawful k hs) (all : HasAll k hs) where
-    -- an entry of a lawful whole stands in a bucket of its name
-    home : (b i : ℕ) (q : Name) (v : V) → slot_at (bucket_in k hs b) i ≡ Some (q, v) → IsBucketOf k.hash (power_of hs) q b
+  module _ (hs : Stripes V) (lawful : Lawful k hs) where
+    -- an entry of lawful stripes stands in a bucket of its name
+    pub home : (b i : ℕ) (q : Name) (v : V) → slot_at (bucket_in k hs b) i ≡ Some (q, v) → IsBucketOf k.hash (power_of hs) q b
     home b i q v is =
         let t : ℕ = b % 2 ^ k.s in
-        let held : (c : Content V) × Holds hs t c = held_of_in hs t (all t (mod-lt b (pow_pos k.s))) in
-        let in_rows : slot_at (row_at held.0.rows (b / 2 ^ k.s)) i ≡ Some (q, v) = subst (λ (rows : List (List (Slot V))). slot_at (row_at rows (b / 2 ^ k.s)) i ≡ Some (q, v)) (rows_held hs t held.0 lawful.distinct held.1) is in
+        let held : (c : Content V) × Holds hs t c × (rows_of hs t ≡ c.rows) = held_there hs t (b / 2 ^ k.s) i (q, v) is in
+        let in_rows : slot_at (row_at held.0.rows (b / 2 ^ k.s)) i ≡ Some (q, v) = subst (λ (rows : List (List (Slot V))). slot_at (row_at rows (b / 2 ^ k.s)) i ≡ Some (q, v)) held.2 is in
         subst (λ (x : ℕ × ℕ). IsBucketOf k.hash x.0 q x.1) (λ z. (sym (power_held k hs t held.0 lawful held.1) z, div-add-mod' b (2 ^ k.s) z))
         ((lawful.sound t held.0 held.1).placed (b / 2 ^ k.s) i q v in_rows)
 

@@ -33,7 +33,7 @@ module _ {V : Type 0} (hash : Name → ℕ) (s max min_load : ℕ) (q : Name) wh
   pub grown_none : (old : List (StripeState V)) → IsTable s old → Lawful (layout hash s max) (contents_of old) → Grown old old
   grown_none old table lawful = record {
     no_call = identity_of_none (layout hash s max) (contents_of old) lawful;
-    doubled = subst (λ p. IsDoubledTo (layout hash s max) p (contents_of old) (contents_of old)) (power_is s old table hash max lawful) (doubled_none (layout hash s max) (contents_of old) lawful (has_all hash s max old table));
+    doubled = subst (λ p. IsDoubledTo (layout hash s max) p (contents_of old) (contents_of old)) (power_is s old table hash max lawful) (doubled_none (layout hash s max) (contents_of old) lawful);
     each = λ p lo hi. absurd (omega arith);
   }
 
@@ -74,7 +74,7 @@ module _ {V : Type 0} (hash : Name → ℕ) (s max min_load : ℕ) (q : Name) wh
       let old_is : power_of (contents_of old) ≡ power_in old = power_is s old old_table hash max lawful in
       record {
         no_call = identity_on (layout hash s max) (contents_of old) (contents_of cur) (contents_of new) grown.no_call one;
-        doubled = doubled_on (layout hash s max) (contents_of old) lawful (has_all hash s max old old_table) (power_in cur) (power_in new) (contents_of cur) (contents_of new)
+        doubled = doubled_on (layout hash s max) (contents_of old) lawful (power_in cur) (power_in new) (contents_of cur) (contents_of new)
             (subst (λ n. n ≤ power_in cur) (sym old_is) rising) is grown.doubled twice;
         each = λ p lo hi. dite (ℕ_discrete p (power_in cur))
             (λ e. (
