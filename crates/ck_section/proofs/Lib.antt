@@ -23,3 +23,4 @@ pub mod Cleared
 pub mod Listed
 pub mod Retained
 pub mod RoomForAll
+pub mod RoomTested
