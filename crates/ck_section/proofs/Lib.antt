@@ -24,3 +24,4 @@ pub mod Listed
 pub mod Retained
 pub mod KeptOthers
 pub mod RoomForAll
+pub mod RoomTested

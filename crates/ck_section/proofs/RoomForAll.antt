@@ -3,7 +3,7 @@ use Rattle.std.proofs.Common.{◌≡◌, ◌≢◌, ◌⊎◌, inl, inr, ⊎_eli
 use Rattle.std.specs.Prelude.{◌==◌, flat_map}
 use Rattle.std.specs.Ordering.{eq_by_cmp}
 use Rattle.std.specs.FinMap.{find, get}
-use Rattle.std.proofs.lemmas.Bool.{eq-eqb, eqb-true, or_left, or_right, or_cases, and_from, false≢true}
+use Rattle.std.proofs.lemmas.Bool.{eq-eqb, or_left, or_right, and_from, false≢true}
 use Rattle.std.proofs.lemmas.Option.{none-some}
 use Rattle.ck_model.specs.Arithmetic.{index_of, second_of}
 use Rattle.ck_model.specs.Promise.{Name, name_cmp, IsAmong, AreDifferent}
@@ -18,7 +18,7 @@ use Rattle.ck_model.proofs.Belongs.{found_slot}
 use Rattle.ck_model.proofs.Rows.{held_there}
 use Rattle.ck_model.proofs.Writes.{stands}
 use Rattle.ck_stripe.specs.Stripe.{StripeState}
-use Rattle.ck_stripe.specs.Stripes.{stripe_at, bucket_at, contents_of}
+use Rattle.ck_stripe.specs.Stripes.{stripe_at, contents_of}
 use Rattle.ck_stripe.specs.Tables.{AreHeld}
 use Rattle.ck_section.specs.Calls.{ChangesContents}
 use Rattle.ck_section.specs.RoomForAll.{IsFreeFor, KeepsOthers, may_come, coming, HasSlots, HasRoomForAll}
@@ -32,15 +32,10 @@ one b = cond b 1 0
 abbrev pub is_bucket : Layout → ℕ → ℕ → Name → Bool
 is_bucket k p b q = (b == index_of p (k.hash q)) || (b == second_of p (k.hash q))
 
-pub is_bucket_of : (k : Layout) (p b : ℕ) (q : Name) → IsBucketOf k.hash p q b → is_bucket k p b q ≡ true
+is_bucket_of : (k : Layout) (p b : ℕ) (q : Name) → IsBucketOf k.hash p q b → is_bucket k p b q ≡ true
 is_bucket_of k p b q of = ⊎_elim
     (λ e. or_left (b == index_of p (k.hash q)) (b == second_of p (k.hash q)) (eq-eqb b (index_of p (k.hash q)) e))
     (λ e. or_right (b == index_of p (k.hash q)) (b == second_of p (k.hash q)) (eq-eqb b (second_of p (k.hash q)) e)) of
-
-pub bucket_of_is : (k : Layout) (p b : ℕ) (q : Name) → is_bucket k p b q ≡ true → IsBucketOf k.hash p q b
-bucket_of_is k p b q is = ⊎_elim
-    (λ e. inl (eqb-true b (index_of p (k.hash q)) e))
-    (λ e. inr (eqb-true b (second_of p (k.hash q)) e)) (or_cases (b == index_of p (k.hash q)) (b == second_of p (k.hash q)) is)
 
 module _ {V : Type 0} where
   -- what KeepsOthers says of a slot

@@ -17,6 +17,12 @@ key_among name [] i k l is = absurd (omega arith)
 key_among name (x ∷ xs) zero k l is = inl (ap name is)
 key_among name (x ∷ xs) (suc i) k l is = inr (key_among name xs i k (omega arith) is)
 
+-- the names of one key more
+pub names_more : {K : Type 0} (name : K → Name) (keys : List K) (i : ℕ) (k : K) → i < length keys → k ≡ get_or keys i k → map name (take (i + 1) keys) ≡ map name (take i keys) ++ name k ∷ []
+names_more name keys i k lk is =
+    let more : take (i + 1) keys ≡ take i keys ++ k ∷ [] = take_more keys i k lk ∙ λ j. take i keys ++ sym is j ∷ [] in
+    ap (map name) more ∙ map-append name (take i keys) (k ∷ [])
+
 module _ {V : Type 0} where
   -- a look-up replies with what the name is bound to
   pub found_reply : (o p o2 : Option V) → Answers Find o (Was p) o2 → p ≡ o
@@ -36,10 +42,7 @@ module _ {V : Type 0} where
   module _ {K : Type 0} (name : K → Name) where
     -- what one key more is bound to
     bound_more : (m : Map V) (keys : List K) (i : ℕ) (k : K) → i < length keys → k ≡ get_or keys i k → bound_in m (map name (take (i + 1) keys)) ≡ bound_in m (map name (take i keys)) ++ get m (name k) ∷ []
-    bound_more m keys i k lk is =
-        let more : take (i + 1) keys ≡ take i keys ++ k ∷ [] = take_more keys i k lk ∙ λ j. take i keys ++ sym is j ∷ [] in
-        let names : map name (take (i + 1) keys) ≡ map name (take i keys) ++ name k ∷ [] = ap (map name) more ∙ map-append name (take i keys) (k ∷ []) in
-        ap (map (get m)) names ∙ map-append (get m) (map name (take i keys)) (name k ∷ [])
+    bound_more m keys i k lk is = ap (map (get m)) (names_more name keys i k lk is) ∙ map-append (get m) (map name (take i keys)) (name k ∷ [])
 
     -- the value of one key more was written
     pub bound_next : (m : Map V) (keys : List K) (values : List (Option V)) (i : ℕ) (k : K) (o : Option V) → i < length keys → i < length values → k ≡ get_or keys i k

@@ -1,5 +1,5 @@
 //! Where a key may be among held stripes.
-ghost use Rattle.std.specs.Prelude.{◌≡◌};
+ghost use Rattle.std.specs.Prelude.{◌≡◌, ◌==◌, ◌||◌};
 
 use ck_stripe::HeldSlot;
 
@@ -33,5 +33,14 @@ impl HeldBucket {
             bucket: self.bucket,
             slot,
         }
+    }
+}
+
+impl KeyPlace {
+    // Whether the bucket is one of the two.
+    pub(crate) fn has_bucket(self, bucket: u64) -> bool
+        ensures { result ≡ ((bucket == self.first.bucket) || (bucket == self.alternate.bucket)) }
+    {
+        bucket == self.first.bucket || bucket == self.alternate.bucket
     }
 }
