@@ -14,8 +14,8 @@ use crate::place::HeldBucket;
 use ck_key::{KeyHash, Query, TableKey};
 use ck_stripe::{Held, Stripe, one_stripe};
 
-/// Whether one of the buckets of each key has a free slot for each of the keys that may come there.
-/// The stripes of the keys are held, of a table of 2^s.
+/// Whether one bucket of each key, or both together, have a free slot for each of the keys that may
+/// come there. The stripes of the keys are held, of a table of 2^s.
 pub fn has_room_for_all<K: TableKey + Drop, V: Drop, Q: Query<K>, H: Held<Stripe<K, V>>>(
     held: &mut H,
     s: u32,

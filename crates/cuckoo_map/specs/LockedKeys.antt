@@ -53,7 +53,7 @@ module _ {V : Type 0} where
   abbrev pub ActsOn : Name → KeysState V → KeysState V → Act V → Reply V → Type 0
   ActsOn q k l act reply = HasActed q k.session l.session act reply
 
-  -- One of the buckets of each name has a free slot for each of the names that may come there, so that no insertion of one is refused.
+  -- One bucket of each name, or both together, have a free slot for each of the names that may come there, so that no insertion of one is refused.
   abbrev pub HasRoomForNames : (Name → ℕ) → KeysState V → Type 0
   HasRoomForNames hash k = HasRoomForAll (layout_of hash k.session.caller.table.settings) (contents_of k.session.stripes) k.names
 

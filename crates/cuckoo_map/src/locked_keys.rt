@@ -138,8 +138,8 @@ impl<T: TableRef<K, V> + Drop, K: TableKey + Drop, V: Drop, Q: Query<K>> LockedK
         found
     }
 
-    /// Whether each of the keys has room: one of its buckets has a free slot for each of the keys that
-    /// may come there. Then no insertion of one of them is refused until they are unlocked, whatever
+    /// Whether each of the keys has room: one of its buckets, or both together, have a free slot for each
+    /// of the keys that may come there. Then no insertion of one of them is refused until they are unlocked, whatever
     /// is bound and unbound before.
     pub fn has_room(&mut self) -> bool
         ensures room { MatchBool result (HasRoomForNames K.hash self.old) (¬ (HasRoomForNames K.hash self.old)) }
