@@ -20,7 +20,7 @@ module _ {V : Type 0} where
 
   -- what is in the slots of these buckets
   abbrev pub pairs_at : Layout → Stripes V → List ℕ → List (Name × V)
-  pairs_at k hs bs = flat_map (λ b. taken_in (bucket_in k hs b)) bs
+  pairs_at k hs bs = flat_map (λ (b : ℕ). taken_in (bucket_in k hs b)) bs
 
   -- whether one of these buckets is one of the name's two
   abbrev pub has_bucket : Layout → Stripes V → List ℕ → Name → Bool
