@@ -11,8 +11,8 @@ use Rattle.cuckoo_map.specs.declared.refusal.Refused.{Refused}
 use Rattle.cuckoo_map.specs.declared.refusal.KeysRefused.{KeysRefused}
 use Rattle.cuckoo_map.specs.declared.refusal.KeysRefused.TheVariants as keys
 use Rattle.cuckoo_map.specs.declared.refusal.NotRenamed.{NotRenamed}
-use Rattle.cuckoo_map.specs.declared.refusal.RenameFault.{RenameFault}
-use Rattle.cuckoo_map.specs.declared.refusal.RenameFault.TheVariants as renames
+use Rattle.cuckoo_map.specs.declared.refusal.RoomFault.{RoomFault}
+use Rattle.cuckoo_map.specs.declared.refusal.RoomFault.TheVariants as renames
 use Rattle.cuckoo_map.specs.declared.refusal.GrowFault.{GrowFault}
 use Rattle.cuckoo_map.specs.declared.refusal.GrowFault.TheVariants as faults
 
@@ -47,7 +47,7 @@ code_of_keys (keys.Busy t) = codes.Busy
 code_of_keys (keys.Twice i) = codes.Twice
 
 -- why a rename was refused; where others took the room that was made, that is told as busy
-abbrev pub code_of_rename : RenameFault → Code
+abbrev pub code_of_rename : RoomFault → Code
 code_of_rename (renames.Keys why) = code_of_keys why
 code_of_rename (renames.Room why) = code_of_why why
 code_of_rename renames.NoSlot = codes.Busy

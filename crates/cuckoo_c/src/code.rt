@@ -2,7 +2,7 @@
 ghost use Rattle.std.specs.Prelude.{◌≡◌};
 ghost use Rattle.cuckoo_c.specs.Codes.{number_of, code_of_why, code_of_keys, code_of_rename, code_of_fault};
 
-use cuckoo_map::{GrowFault, KeysRefused, RenameFault, Why};
+use cuckoo_map::{GrowFault, KeysRefused, RoomFault, Why};
 
 /// What C is told of a call. An answer is at least 0 as a number, and a refusal below 0.
 #[derive(Clone, Copy, PartialEq, Eq)]
@@ -95,13 +95,13 @@ impl Code {
 
     /// Why a rename was refused. Where others took the room that was made for the key, another try
     /// may find some, as where they hold a stripe.
-    pub fn of_rename(why: RenameFault) -> Code
+    pub fn of_rename(why: RoomFault) -> Code
         ensures { result ≡ code_of_rename why }
     {
         match why {
-            RenameFault::Keys(why) => Code::of_keys(why),
-            RenameFault::Room(why) => Code::of_why(why),
-            RenameFault::NoSlot => Code::Busy,
+            RoomFault::Keys(why) => Code::of_keys(why),
+            RoomFault::Room(why) => Code::of_why(why),
+            RoomFault::NoSlot => Code::Busy,
         }
     }
 

@@ -23,8 +23,8 @@ use Rattle.cuckoo_map.specs.declared.refusal.KeysRefused.TheVariants as refused
 use Rattle.cuckoo_map.specs.declared.refusal.Refused.{Refused}
 use Rattle.cuckoo_map.specs.declared.refusal.Why.{Why}
 use Rattle.cuckoo_map.specs.declared.refusal.NotRenamed.{NotRenamed}
-use Rattle.cuckoo_map.specs.declared.refusal.RenameFault.{RenameFault}
-use Rattle.cuckoo_map.specs.declared.refusal.RenameFault.TheVariants as rename
+use Rattle.cuckoo_map.specs.declared.refusal.RoomFault.{RoomFault}
+use Rattle.cuckoo_map.specs.declared.refusal.RoomFault.TheVariants as rename
 use Rattle.cuckoo_map.specs.Refusals.{IsBusyAmong, FindsOwnUnlessFull, SaysNoRoom, IsRefused}
 use Rattle.cuckoo_map.specs.Needed.{HasGrownFor}
 use Rattle.cuckoo_map.specs.Queries.{HasQueried}
@@ -70,7 +70,7 @@ module _ {V : Type 0} where
   by_kept hash set names p q (refused.Twice i) h = ap (λ (x : PassState V). x.view.by) h.1
 
   -- and so does a refused rename
-  by_not_renamed : (hash : Name → ℕ) (set : Settings) (q r : Name) (p z : PassState V) (e : RenameFault) → IsNotRenamed hash set q r e p z → z.view.by ≡ p.view.by
+  by_not_renamed : (hash : Name → ℕ) (set : Settings) (q r : Name) (p z : PassState V) (e : RoomFault) → IsNotRenamed hash set q r e p z → z.view.by ≡ p.view.by
   by_not_renamed hash set q r p z (rename.Keys why) h = by_kept hash set (q ∷ r ∷ []) h.0 z why h.2 ∙ h.1.stays.by
   by_not_renamed hash set q r p z (rename.Room why) h = h.stays.by
   by_not_renamed hash set q r p z rename.NoSlot h = h.2.1.by ∙ h.1.stays.by

@@ -27,8 +27,8 @@ use Rattle.ck_words.specs.Closing.{IsCaller}
 use Rattle.ck_words.proofs.Staying.{stays_same}
 use Rattle.cuckoo_map.specs.declared.refusal.KeysRefused.{KeysRefused}
 use Rattle.cuckoo_map.specs.declared.refusal.KeysRefused.TheVariants as keys
-use Rattle.cuckoo_map.specs.declared.refusal.RenameFault.{RenameFault}
-use Rattle.cuckoo_map.specs.declared.refusal.RenameFault.TheVariants as fault
+use Rattle.cuckoo_map.specs.declared.refusal.RoomFault.{RoomFault}
+use Rattle.cuckoo_map.specs.declared.refusal.RoomFault.TheVariants as fault
 use Rattle.cuckoo_map.specs.declared.refusal.Why.{Why}
 use Rattle.cuckoo_map.specs.Refusals.{FindsOwnUnlessFull, SaysNoRoom, IsRefused}
 use Rattle.cuckoo_map.specs.Insertions.{HasFoundNoRoom, HasSoughtRoom}
@@ -114,7 +114,7 @@ module _ {V : Type 0} where
           λ none. none-some x.0 (sym none ∙ one)
 
 -- why a rename is refused that has made room and tried once more
-abbrev pub fault_again : Option KeysRefused → RenameFault
+abbrev pub fault_again : Option KeysRefused → RoomFault
 fault_again None = fault.NoSlot
 fault_again (Some why) = fault.Keys why
 

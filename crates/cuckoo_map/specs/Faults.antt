@@ -9,8 +9,8 @@ use Rattle.cuckoo_map.specs.declared.refusal.DrainFault.{DrainFault}
 use Rattle.cuckoo_map.specs.declared.refusal.DrainFault.TheVariants as drains
 use Rattle.cuckoo_map.specs.declared.refusal.KeysRefused.{KeysRefused}
 use Rattle.cuckoo_map.specs.declared.refusal.KeysRefused.TheVariants as several
-use Rattle.cuckoo_map.specs.declared.refusal.RenameFault.{RenameFault}
-use Rattle.cuckoo_map.specs.declared.refusal.RenameFault.TheVariants as renames
+use Rattle.cuckoo_map.specs.declared.refusal.RoomFault.{RoomFault}
+use Rattle.cuckoo_map.specs.declared.refusal.RoomFault.TheVariants as rooms
 use Rattle.cuckoo_map.specs.declared.refusal.Why.{Why}
 use Rattle.cuckoo_map.specs.declared.refusal.Why.TheVariants as whys
 use Rattle.ck_key.specs.declared.text_key.KeyFault.{KeyFault}
@@ -33,11 +33,11 @@ fault_of_why whys.Memory = faults.Memory
 fault_of_why whys.Full = faults.Full
 fault_of_why whys.LoadTooLow = faults.LoadTooLow
 
--- of a rename
-abbrev pub fault_of_rename : RenameFault → Fault
-fault_of_rename (renames.Keys why) = fault_of_keys why
-fault_of_rename (renames.Room why) = fault_of_why why
-fault_of_rename renames.NoSlot = faults.NoSlot
+-- of a call on several keys that makes room
+abbrev pub fault_of_room : RoomFault → Fault
+fault_of_room (rooms.Keys why) = fault_of_keys why
+fault_of_room (rooms.Room why) = fault_of_why why
+fault_of_room rooms.NoSlot = faults.NoSlot
 
 -- of a growth
 abbrev pub fault_of_growth : GrowFault → Fault

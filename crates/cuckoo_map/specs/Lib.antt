@@ -12,6 +12,7 @@ pub mod Locking
 pub mod Needed
 pub mod LockedKeys
 pub mod Renames
+pub mod RoomForKeys
 pub use Rattle.ck_model.specs.Promise
 pub use Rattle.ck_model.specs.Ranges
 pub use Rattle.ck_section.specs.Acts

@@ -16,8 +16,8 @@ use Rattle.ck_words.specs.Retries.{FindsAmong}
 use Rattle.ck_words.specs.Answering.{IsAnswered}
 use Rattle.cuckoo_map.specs.declared.refusal.KeysRefused.{KeysRefused}
 use Rattle.cuckoo_map.specs.declared.refusal.NotRenamed.{NotRenamed}
-use Rattle.cuckoo_map.specs.declared.refusal.RenameFault.{RenameFault}
-use Rattle.cuckoo_map.specs.declared.refusal.RenameFault.TheVariants.{Keys, Room, NoSlot}
+use Rattle.cuckoo_map.specs.declared.refusal.RoomFault.{RoomFault}
+use Rattle.cuckoo_map.specs.declared.refusal.RoomFault.TheVariants.{Keys, Room, NoSlot}
 use Rattle.cuckoo_map.specs.declared.refusal.Why.{Why}
 use Rattle.cuckoo_map.specs.Refusals.{IsRefused, SaysNoRoom}
 use Rattle.cuckoo_map.specs.Insertions.{FindsFull, HasFoundNoRoom, HasSoughtRoom}
@@ -46,7 +46,7 @@ module _ {V : Type 0} where
       ⊎ ((hs : Stripes V) × (more : List (RoomNote V)) × (p2.view.no_slot ≡ more ++ noted r NoRoom hs ∷ p.view.no_slot) × (get (bindings hs) q ≢ None))
 
   -- Why q was not renamed to r: as a call on the two names is refused, or as an insertion of r is, or since the buckets of r were full again when room had been made.
-  abbrev pub IsNotRenamed : (Name → ℕ) → Settings → Name → Name → RenameFault → PassState V → PassState V → Type 0
+  abbrev pub IsNotRenamed : (Name → ℕ) → Settings → Name → Name → RoomFault → PassState V → PassState V → Type 0
   IsNotRenamed hash set q r (Keys why) p p2 = (m : PassState V) × HasSoughtRoom hash set r p m × RefusesNames hash set (q ∷ r ∷ []) m p2 why
   IsNotRenamed hash set q r (Room why) p p2 = IsRefused hash set r why p p2
   IsNotRenamed hash set q r NoSlot p p2 = (m : PassState V) × HasSoughtRoom hash set r p m × HasFoundNoRoom r m p2

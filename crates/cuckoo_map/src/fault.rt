@@ -3,8 +3,8 @@ ghost use Rattle.std.specs.Prelude.{◌≡◌};
 
 use crate::pool::{AllLent, NoList, NoPool};
 use crate::refusal::{
-    Busy, DrainFault, GrowFault, KeysNotLocked, KeysRefused, NoCallers, NoSlot, NotDrained,
-    NotLocked, NotRenamed, OpenFault, Refused, RenameFault, Why,
+    Busy, DrainFault, GrowFault, KeysNotLocked, KeysRefused, KeysWithoutRoom, NoCallers, NoSlot, NotDrained,
+    NotLocked, NotRenamed, OpenFault, Refused, RoomFault, Why,
 };
 use ck_key::{KeyFault, TableKey};
 use ck_model::settings::OutOfRange;
@@ -167,28 +167,39 @@ impl<K: Drop, V: Drop> From<Refused<K, V>> for Fault {
     }
 }
 
-impl From<RenameFault> for Fault {
+impl From<RoomFault> for Fault {
     ghost use Rattle.std.specs.Prelude.{◌≡◌};
-    ghost use Rattle.cuckoo_map.specs.Faults.{fault_of_rename};
+    ghost use Rattle.cuckoo_map.specs.Faults.{fault_of_room};
 
-    ghost from_gives = { λ refused fault. fault ≡ fault_of_rename refused };
+    ghost from_gives = { λ refused fault. fault ≡ fault_of_room refused };
 
-    fn from(refused: RenameFault) -> Fault {
+    fn from(refused: RoomFault) -> Fault {
         match refused {
-            RenameFault::Keys(why) => Fault::from(why),
-            RenameFault::Room(why) => Fault::from(why),
-            RenameFault::NoSlot => Fault::NoSlot,
+            RoomFault::Keys(why) => Fault::from(why),
+            RoomFault::Room(why) => Fault::from(why),
+            RoomFault::NoSlot => Fault::NoSlot,
         }
     }
 }
 
 impl<K: Drop> From<NotRenamed<K>> for Fault {
     ghost use Rattle.std.specs.Prelude.{◌≡◌};
-    ghost use Rattle.cuckoo_map.specs.Faults.{fault_of_rename};
+    ghost use Rattle.cuckoo_map.specs.Faults.{fault_of_room};
 
-    ghost from_gives = { λ back fault. fault ≡ fault_of_rename back.why };
+    ghost from_gives = { λ back fault. fault ≡ fault_of_room back.why };
 
     fn from(back: NotRenamed<K>) -> Fault {
+        Fault::from(back.why)
+    }
+}
+
+impl<C: Drop> From<KeysWithoutRoom<C>> for Fault {
+    ghost use Rattle.std.specs.Prelude.{◌≡◌};
+    ghost use Rattle.cuckoo_map.specs.Faults.{fault_of_room};
+
+    ghost from_gives = { λ back fault. fault ≡ fault_of_room back.why };
+
+    fn from(back: KeysWithoutRoom<C>) -> Fault {
         Fault::from(back.why)
     }
 }

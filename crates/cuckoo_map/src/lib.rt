@@ -50,6 +50,7 @@ mod changes;
 mod growth;
 mod insertions;
 mod key_pairs;
+mod keys_with_room;
 mod look_ups;
 mod renames;
 mod several_keys;
@@ -73,8 +74,8 @@ pub use locked::{LockedOn, LockedTable};
 pub use locked_keys::{LockedKeys, LockedKeysOn};
 pub use pool::{AllLent, NoList, NoPool, Pool};
 pub use refusal::{
-    Busy, DrainFault, GrowFault, KeysNotLocked, KeysRefused, NoCallers, NoSlot, NotDrained,
-    NotLocked, NotRenamed, OpenFault, Refused, RenameFault, Why,
+    Busy, DrainFault, GrowFault, KeysNotLocked, KeysRefused, KeysWithoutRoom, NoCallers, NoSlot,
+    NotDrained, NotLocked, NotRenamed, OpenFault, Refused, RoomFault, Why,
 };
 pub use table::Table;
 pub use table_ref::TableRef;

@@ -4,14 +4,15 @@ ghost use Rattle.std.specs.Fn.{FnOnceReturnsAt};
 ghost use Rattle.ck_model.specs.declared.history.Reply.TheVariants.{Closed};
 ghost use Rattle.ck_model.specs.Promise.{IsAmong, Replied};
 ghost use Rattle.ck_section.specs.Acts.{Updates, Modifies, Changes, Erases, Inserts, Assigns, Upserts};
-ghost use Rattle.cuckoo_map.specs.Callers.{IsSameCaller, KeepsNotes, IsRefusedOn, FindsHeldAmong};
+ghost use Rattle.cuckoo_map.specs.Callers.{caller_of, pass_of, IsSameCaller, KeepsNotes, IsRefusedOn, FindsHeldAmong};
 ghost use Rattle.cuckoo_map.specs.Insertions.{TellsOf};
 ghost use Rattle.cuckoo_map.specs.SeveralKeys.{IsStripeOfAny};
 ghost use Rattle.cuckoo_map.specs.LockedKeys.{HasLockedKeys, ActsOn, value_of, keys_call, LacksSlot, HasRoomForNames, KeepsRoom};
+ghost use Rattle.cuckoo_map.specs.RoomForKeys.{MakesRoomForEach, RefusesRoom};
 
 use crate::caller::CallerOn;
 use crate::locked::make_in;
-use crate::refusal::{KeysNotLocked, NoSlot};
+use crate::refusal::{KeysNotLocked, KeysWithoutRoom, NoSlot};
 use crate::table::Table;
 use crate::table_ref::TableRef;
 use ck_key::{KeyHash, Query, TableKey};
@@ -90,6 +91,49 @@ impl<T: TableRef<K, V> + Drop, K: TableKey + Drop, V: Drop> CallerOn<T, K, V> {
             Err(why) => {
                 let caller = CallerOn { table, pass };
                 Err(KeysNotLocked { caller, why })
+            }
+        }
+    }
+}
+
+impl<T: TableRef<K, V> + Drop, K: TableKey + Drop, V: Drop> CallerOn<T, K, V> {
+    /// `lock_keys`, once there is room for each of the keys: no insertion of one of them is refused
+    /// until they are unlocked, whatever is bound and unbound before. If there is none, it is made for
+    /// each key in turn, as `make_room` does. Refused, it gives the caller back.
+    ///
+    /// ```
+    /// let keys = [&NumKey(1), &NumKey(2)];
+    /// let mut locked = caller.lock_keys_with_room(&keys)?;
+    /// locked.insert(NumKey(1), 10)?;
+    /// locked.insert(NumKey(2), 20)?;
+    /// let mut caller = locked.unlock();
+    /// ```
+    pub fn lock_keys_with_room<'k, const N: usize>(
+        self,
+        keys: &'k [&'k K; N],
+    ) -> Result<LockedKeysOn<'k, T, K, V, &'k K>, KeysWithoutRoom<CallerOn<T, K, V>>>
+        requires some { 0 < N }
+        requires few { N ≤ 8 }
+        ensures locked { IfOk result (λ locked. (m : _)
+            × MakesRoomForEach K.hash self.table.settings (map K.name keys.now) (pass_of self) m
+            × HasLockedKeys K.hash (map K.name keys.now) (caller_of self.table m) locked) }
+        ensures room { IfOk result (HasRoomForNames K.hash) }
+        ensures same { IfErr result (λ back. IsSameCaller self back.caller) }
+        ensures refused { IfErr result (λ back. RefusesRoom K.hash self.table.settings
+            (map K.name keys.now) (pass_of self) (pass_of back.caller) back.why) }
+    {
+        let CallerOn { table, pass } = self;
+        let mut pass = pass;
+        match table.table().lock_with_room(&mut pass, keys) {
+            Ok(stripes) => Ok(LockedKeysOn {
+                table,
+                pass,
+                stripes,
+                keys,
+            }),
+            Err(why) => {
+                let caller = CallerOn { table, pass };
+                Err(KeysWithoutRoom { caller, why })
             }
         }
     }

@@ -231,6 +231,24 @@ impl<C> Debug for KeysNotLocked<C> {
     }
 }
 
+/// The keys were not locked with room for each of them, and no binding was changed.
+#[derive(Drop, Error)]
+#[error("{why}")]
+pub struct KeysWithoutRoom<C> {
+    /// The caller that was to lock the keys.
+    pub caller: C,
+    /// Why it did not.
+    pub why: RoomFault,
+}
+
+impl<C> Debug for KeysWithoutRoom<C> {
+    fn fmt<W: fmt::Write>(&self, f: &mut Formatter<W>) -> fmt::Result {
+        f.debug_struct("KeysWithoutRoom")
+            .field("why", &self.why)
+            .finish_non_exhaustive()
+    }
+}
+
 /// A key and a value for which no slot was free among locked keys, given back.
 #[derive(Drop, Error)]
 #[error("no free slot for the key among its stripes: unlock the keys, and insert it")]
@@ -247,19 +265,32 @@ impl<K, V> Debug for NoSlot<K, V> {
     }
 }
 
-/// Why a key was not renamed. No binding was changed.
+/// Why a call on several keys, which makes room for those that it binds, was refused. No binding was
+/// changed.
 #[derive(Debug, Clone, Copy, PartialEq, Eq, Error)]
-pub enum RenameFault {
-    /// The two keys are one, or a stripe of theirs was found held too often.
+pub enum RoomFault {
+    /// A key stands twice, or a stripe of the keys was found held too often.
     #[error("{0}")]
     Keys(KeysRefused),
-    /// There is no room for the new key, and none could be made: as an insertion of it is refused.
-    /// The table may have grown all the same.
+    /// There is no room for a key, and none could be made: as an insertion of it is refused. The table
+    /// may have grown all the same.
     #[error("{0}")]
     Room(Why),
-    /// Room was made for the new key, and others took it before.
-    #[error("the room that was made for the new key was taken by others: try again")]
+    /// Room was made for each key, and there was too little again: others took it, or several of the
+    /// keys have the same buckets.
+    #[error("the room that was made was taken by others: try again")]
     NoSlot,
+}
+
+impl From<KeysRefused> for RoomFault {
+    ghost use Rattle.std.specs.Prelude.{◌≡◌};
+    ghost use Rattle.cuckoo_map.specs.declared.refusal.RoomFault.TheVariants.{Keys};
+
+    ghost from_gives = { λ refused fault. fault ≡ Keys refused };
+
+    fn from(refused: KeysRefused) -> RoomFault {
+        RoomFault::Keys(refused)
+    }
 }
 
 /// A key to which another was to be renamed, given back.
@@ -269,7 +300,7 @@ pub struct NotRenamed<K> {
     /// The key that was to be bound.
     pub key: K,
     /// Why it was not.
-    pub why: RenameFault,
+    pub why: RoomFault,
 }
 
 impl<K> Debug for NotRenamed<K> {

@@ -10,7 +10,7 @@ ghost use Rattle.cuckoo_map.specs.SeveralKeys.{IsStripeOfAny, IsSameButStripes, 
 ghost use Rattle.cuckoo_map.specs.LockedKeys.{HoldsKeys};
 ghost use Rattle.cuckoo_map.specs.Renames.{Renames, LacksSlot, HasRenamedOnce, HasRenamed};
 
-use crate::refusal::{KeysRefused, NotRenamed, RenameFault};
+use crate::refusal::{KeysRefused, NotRenamed, RoomFault};
 use crate::table::Table;
 use ck_key::{KeyHash, TableKey};
 use ck_section::{Renamed, key_place, rename};
@@ -30,7 +30,7 @@ impl<K: TableKey + Drop, V: Drop> Table<K, V> {
             Ok(renamed) => Ok(renamed),
             Err((key, why)) => match why {
                 Some(why) => {
-                    let why = RenameFault::Keys(why);
+                    let why = RoomFault::Keys(why);
                     Err(NotRenamed { key, why })
                 }
                 None => self.rename_with_room(pass, from, key, since),
@@ -58,15 +58,15 @@ impl<K: TableKey + Drop, V: Drop> Table<K, V> {
             result since.value pass.new }
     {
         if let Err(why) = self.make_room_ahead(pass, &to) {
-            let why = RenameFault::Room(why);
+            let why = RoomFault::Room(why);
             return Err(NotRenamed { key: to, why });
         }
         match self.rename_once(pass, from, to) {
             Ok(renamed) => Ok(renamed),
             Err((key, why)) => {
                 let why = match why {
-                    Some(why) => RenameFault::Keys(why),
-                    None => RenameFault::NoSlot,
+                    Some(why) => RoomFault::Keys(why),
+                    None => RoomFault::NoSlot,
                 };
                 Err(NotRenamed { key, why })
             }

@@ -2,7 +2,7 @@
 use crate::key::Key;
 use crate::model::Model;
 use crate::tally::Tally;
-use cuckoo_map::{NotRenamed, Refused, RenameFault, Why};
+use cuckoo_map::{NotRenamed, Refused, RoomFault, Why};
 use std::alloc::{AllocError, Global};
 use std::io;
 
@@ -107,8 +107,8 @@ impl Notes {
         let back_key = Some(back.key.number());
         self.check("new key that comes back", key, back_key, Some(key));
         match back.why {
-            RenameFault::Room(why) => self.count(why),
-            RenameFault::Keys(_) | RenameFault::NoSlot => self.busy(),
+            RoomFault::Room(why) => self.count(why),
+            RoomFault::Keys(_) | RoomFault::NoSlot => self.busy(),
         }
     }
 

@@ -4,7 +4,7 @@ use crate::fixtures::{
     callers_of, count, read, three_callers,
 };
 use ck_key::{NumKey, TextKey};
-use cuckoo_map::{Caller, Fault, KeysRefused, NotRenamed, RenameFault, Renamed, Settings, Why};
+use cuckoo_map::{Caller, Fault, KeysRefused, NotRenamed, RoomFault, Renamed, Settings, Why};
 use std::alloc::Global;
 use std::process::Abort;
 use std::sync::atomic::AtomicU64;
@@ -32,7 +32,7 @@ const ONE_BUCKET: &[(u64, u64)] = &[(15, 1), (31, 2), (47, 3), (63, 4), (12, 5)]
 const FIFTH: NumKey = NumKey(79);
 
 /// Why the first key was not renamed to the other, which came back.
-fn why(rt: &impl Abort, caller: &mut NumCaller<'_>, from: u64, to: NumKey) -> Option<RenameFault> {
+fn why(rt: &impl Abort, caller: &mut NumCaller<'_>, from: u64, to: NumKey) -> Option<RoomFault> {
     match caller.rename(&NumKey(from), to) {
         Ok(_) => None,
         Err(NotRenamed { key, why }) => {
@@ -87,11 +87,11 @@ fn texts_are_renamed(rt: HostRuntime) -> Result<(), Fail> {
 fn a_key_is_not_renamed_to_itself(rt: HostRuntime) -> Result<(), Fail> {
     let (mut caller, _, _) = three_callers(rt.alloc(), SIXTEEN_BUCKETS.settings(3))?;
     assert!(&rt; bind_all(&mut caller, BOUND));
-    let twice = RenameFault::Keys(KeysRefused::Twice(0));
+    let twice = RoomFault::Keys(KeysRefused::Twice(0));
     assert!(rt; why(&rt, &mut caller, 3, NumKey(3)) == Some(twice));
     assert!(rt; Fault::from(twice) == Fault::Twice(0));
-    assert!(rt; Fault::from(RenameFault::Room(Why::Full)) == Fault::Full);
-    assert!(rt; Fault::from(RenameFault::NoSlot) == Fault::NoSlot);
+    assert!(rt; Fault::from(RoomFault::Room(Why::Full)) == Fault::Full);
+    assert!(rt; Fault::from(RoomFault::NoSlot) == Fault::NoSlot);
     assert!(rt; caller.find(&NumKey(3)) == Ok(Some(30)));
     Ok(())
 }
@@ -101,7 +101,7 @@ fn a_held_stripe_of_either_key_is_busy(rt: HostRuntime) -> Result<(), Fail> {
     let (mut first, mut second, _) = three_callers(rt.alloc(), SIXTEEN_BUCKETS.settings(3))?;
     assert!(&rt; bind_all(&mut first, BOUND));
     let bound = first.update_fn(&NumKey(3), |value: u64| {
-        let busy = RenameFault::Keys(KeysRefused::Busy(3));
+        let busy = RoomFault::Keys(KeysRefused::Busy(3));
         assert!(rt; why(&rt, &mut second, 3, NumKey(20)) == Some(busy));
         assert!(rt; why(&rt, &mut second, 258, NumKey(3)) == Some(busy));
         assert!(rt; second.make_room(&NumKey(3)) == Err(Why::Busy(3)));
@@ -119,7 +119,7 @@ fn the_slot_that_is_left_is_free(rt: HostRuntime) -> Result<(), Fail> {
     assert!(&rt; bind_all(&mut caller, EIGHT_APART));
     assert!(&rt; bind_all(&mut caller, &[(1, 10)]));
     // Another key leaves a slot elsewhere.
-    let full = RenameFault::Room(Why::Full);
+    let full = RoomFault::Room(Why::Full);
     assert!(rt; why(&rt, &mut caller, 1, NINTH) == Some(full));
     assert!(rt; caller.find_all([&NumKey(1), &NINTH]) == Ok([Some(10), None]));
     assert!(rt; caller.make_room(&NINTH) == Err(Why::Full));

@@ -1,5 +1,5 @@
 use Rattle.std.proofs.Common.{◌≡◌, ◌∙◌, Err, ap, sym, subst}
-use Rattle.cuckoo_map.specs.declared.refusal.RenameFault.{RenameFault}
+use Rattle.cuckoo_map.specs.declared.refusal.RoomFault.{RoomFault}
 use Rattle.cuckoo_map.specs.Renames.{HasRenamed}
 use Rattle.cuckoo_map.proofs.Renaming.{fault_again, refused_room, answered_again, refused_again}
 use Rattle.cuckoo_map.proofs.table.Table.rename_with_room.Goals.{in-Some, in-None}
@@ -22,5 +22,5 @@ returns-clause-renamed g c =
       | in-Some w ↦ w.why-is ∙ sym (ap fault_again w.in-Some.is)
       | in-None w ↦ w.why-is ∙ sym (ap fault_again w.in-None.is)
     ] in
-    subst (λ (f : RenameFault). HasRenamed g.K.TableKey.hash set q r c.args.to (Err (record { key = c.in-Err-rename_once.key; why = f })) c.args.since.value c.rename_once.new.pass) (sym why)
+    subst (λ (f : RoomFault). HasRenamed g.K.TableKey.hash set q r c.args.to (Err (record { key = c.in-Err-rename_once.key; why = f })) c.args.since.value c.rename_once.new.pass) (sym why)
     (refused_again _ _ _ _ _ c.args.since.value c.args.pass.now c.make_room_ahead.new.pass c.requires.caller c.requires.full c.requires.found c.make_room_ahead.ensures.found c.in_default.ensures.made c.rename_once.new.pass c.in-Err-rename_once.key c.in-Err-rename_once.why c.in-Err-rename_once.ensures.renamed)

@@ -1,0 +1,95 @@
+//! Keys that are locked once there is room for each of them.
+ghost use Rattle.std.specs.Prelude.{◌≡◌, ◌<◌, ◌≤◌, OnOk, OnErr, IfOk, IfErr, MatchOption, length, map};
+ghost use Rattle.ck_model.specs.Promise.{AreDifferent};
+ghost use Rattle.ck_section.specs.RoomForAll.{HaveRoomForAll};
+ghost use Rattle.ck_words.specs.Passes.{IsPassOf};
+ghost use Rattle.ck_words.specs.Closing.{IsCaller};
+ghost use Rattle.cuckoo_map.specs.SeveralKeys.{HoldsNames, RefusesNames};
+ghost use Rattle.cuckoo_map.specs.RoomForKeys.{SeeksRoomForEach, LacksRoomForOne, LetsGo, MakesRoomForEach, RefusesRoom};
+
+use crate::refusal::{KeysRefused, RoomFault, Why};
+use crate::table::Table;
+use ck_key::TableKey;
+use ck_section::has_room_for_all;
+use ck_words::{Pass, StripeSet, guard};
+
+impl<K: TableKey + Drop, V: Drop> Table<K, V> {
+    // Takes the stripes of these keys once there is room for each: if there isn't, it makes room for
+    // each in turn, and tries once more.
+    pub(crate) fn lock_with_room(
+        &self,
+        pass: &mut Pass<K, V>,
+        keys: &[&K],
+    ) -> Result<StripeSet, RoomFault>
+        requires caller { IsCaller self.now pass.old }
+        requires some { 0 < length keys.now }
+        requires few { length keys.now ≤ 8 }
+        ensures own { IsPassOf self.now pass.new }
+        ensures different { OnOk result (AreDifferent (map K.name keys.now)) }
+        ensures held { IfOk result (λ stripes. (m : _) × IsCaller self.now m
+            × MakesRoomForEach K.hash self.now.settings (map K.name keys.now) pass.old m
+            × HoldsNames K.hash self.now.settings (map K.name keys.now) stripes m pass.new
+            × HaveRoomForAll K.hash self.now.settings.s pass.new.stripes
+            (map K.name keys.now)) }
+        ensures caller { OnErr result (IsCaller self.now pass.new) }
+        ensures refused { IfErr result (RefusesRoom K.hash self.now.settings
+            (map K.name keys.now) pass.old pass.new) }
+    {
+        if let Some(stripes) = self.lock_if_room(pass, keys)? {
+            return Ok(stripes);
+        }
+        if let Err(why) = self.make_room_for_each(pass, keys) {
+            return Err(RoomFault::Room(why));
+        }
+        match self.lock_if_room(pass, keys)? {
+            Some(stripes) => Ok(stripes),
+            None => Err(RoomFault::NoSlot),
+        }
+    }
+
+    // Takes the stripes of these keys, and gives them back where there isn't room for each.
+    fn lock_if_room(
+        &self,
+        pass: &mut Pass<K, V>,
+        keys: &[&K],
+    ) -> Result<Option<StripeSet>, KeysRefused>
+        requires caller { IsCaller self.now pass.old }
+        requires some { 0 < length keys.now }
+        requires few { length keys.now ≤ 8 }
+        ensures own { IsPassOf self.now pass.new }
+        ensures different { OnOk result (AreDifferent (map K.name keys.now)) }
+        ensures answered { IfOk result (λ taken. MatchOption taken
+            (IsCaller self.now pass.new
+            × LetsGo K.hash self.now.settings (map K.name keys.now) pass.old pass.new)
+            (λ stripes. HoldsNames K.hash self.now.settings (map K.name keys.now) stripes
+            pass.old pass.new
+            × HaveRoomForAll K.hash self.now.settings.s pass.new.stripes
+            (map K.name keys.now))) }
+        ensures caller { OnErr result (IsCaller self.now pass.new) }
+        ensures refused { IfErr result (RefusesNames K.hash self.now.settings
+            (map K.name keys.now) pass.old pass.new) }
+    {
+        let stripes = self.lock_different(pass, keys)?;
+        let mut guard = guard!(&self.words, pass, stripes);
+        if has_room_for_all(&mut guard, stripes.s, keys) {
+            return Ok(Some(stripes));
+        }
+        guard.renew();
+        Ok(None)
+    }
+
+    // Makes room for each of these keys in turn.
+    fn make_room_for_each(&self, pass: &mut Pass<K, V>, keys: &[&K]) -> Result<(), Why>
+        requires caller { IsCaller self.now pass.old }
+        ensures caller { IsCaller self.now pass.new }
+        ensures made { OnOk result (SeeksRoomForEach K.hash self.now.settings
+            (map K.name keys.now) pass.old pass.new) }
+        ensures refused { IfErr result (λ why. LacksRoomForOne K.hash self.now.settings
+            (map K.name keys.now) why pass.old pass.new) }
+    {
+        for key in keys {
+            self.make_room_ahead(pass, key)?;
+        }
+        Ok(())
+    }
+}
