@@ -25,15 +25,15 @@ impl<K: TableKey + Drop, V: Drop> Table<K, V> {
         requires some { 0 < length keys.now }
         requires few { length keys.now ≤ 8 }
         ensures own { IsPassOf self.now pass.new }
-        ensures different { OnOk result (AreDifferent (map K.name keys.now)) }
+        ensures different { OnOk result (AreDifferent (map (λ k. K.name k.now) keys.now)) }
         ensures held { IfOk result (λ stripes. (m : _) × IsCaller self.now m
-            × MakesRoomForEach K.hash self.now.settings (map K.name keys.now) pass.old m
-            × HoldsNames K.hash self.now.settings (map K.name keys.now) stripes m pass.new
+            × MakesRoomForEach K.hash self.now.settings (map (λ k. K.name k.now) keys.now) pass.old m
+            × HoldsNames K.hash self.now.settings (map (λ k. K.name k.now) keys.now) stripes m pass.new
             × HaveRoomForAll K.hash self.now.settings.s pass.new.stripes
-            (map K.name keys.now)) }
+            (map (λ k. K.name k.now) keys.now)) }
         ensures caller { OnErr result (IsCaller self.now pass.new) }
         ensures refused { IfErr result (RefusesRoom K.hash self.now.settings
-            (map K.name keys.now) pass.old pass.new) }
+            (map (λ k. K.name k.now) keys.now) pass.old pass.new) }
     {
         if let Some(stripes) = self.lock_if_room(pass, keys)? {
             return Ok(stripes);
@@ -57,17 +57,17 @@ impl<K: TableKey + Drop, V: Drop> Table<K, V> {
         requires some { 0 < length keys.now }
         requires few { length keys.now ≤ 8 }
         ensures own { IsPassOf self.now pass.new }
-        ensures different { OnOk result (AreDifferent (map K.name keys.now)) }
+        ensures different { OnOk result (AreDifferent (map (λ k. K.name k.now) keys.now)) }
         ensures answered { IfOk result (λ taken. MatchOption taken
             (IsCaller self.now pass.new
-            × LetsGo K.hash self.now.settings (map K.name keys.now) pass.old pass.new)
-            (λ stripes. HoldsNames K.hash self.now.settings (map K.name keys.now) stripes
+            × LetsGo K.hash self.now.settings (map (λ k. K.name k.now) keys.now) pass.old pass.new)
+            (λ stripes. HoldsNames K.hash self.now.settings (map (λ k. K.name k.now) keys.now) stripes
             pass.old pass.new
             × HaveRoomForAll K.hash self.now.settings.s pass.new.stripes
-            (map K.name keys.now))) }
+            (map (λ k. K.name k.now) keys.now))) }
         ensures caller { OnErr result (IsCaller self.now pass.new) }
         ensures refused { IfErr result (RefusesNames K.hash self.now.settings
-            (map K.name keys.now) pass.old pass.new) }
+            (map (λ k. K.name k.now) keys.now) pass.old pass.new) }
     {
         let stripes = self.lock_different(pass, keys)?;
         let mut guard = guard!(&self.words, pass, stripes);
@@ -83,9 +83,9 @@ impl<K: TableKey + Drop, V: Drop> Table<K, V> {
         requires caller { IsCaller self.now pass.old }
         ensures caller { IsCaller self.now pass.new }
         ensures made { OnOk result (SeeksRoomForEach K.hash self.now.settings
-            (map K.name keys.now) pass.old pass.new) }
+            (map (λ k. K.name k.now) keys.now) pass.old pass.new) }
         ensures refused { IfErr result (λ why. LacksRoomForOne K.hash self.now.settings
-            (map K.name keys.now) why pass.old pass.new) }
+            (map (λ k. K.name k.now) keys.now) why pass.old pass.new) }
     {
         for key in keys {
             self.make_room_ahead(pass, key)?;

@@ -104,8 +104,8 @@ impl<T: TableRef<K, V> + Drop, K: TableKey + Drop, V: Drop> CallerOn<T, K, V> {
     /// ```
     /// let keys = [&NumKey(1), &NumKey(2)];
     /// let mut locked = caller.lock_keys_with_room(&keys)?;
-    /// locked.insert(NumKey(1), 10)?;
-    /// locked.insert(NumKey(2), 20)?;
+    /// let _ = locked.insert(NumKey(1), 10);
+    /// let _ = locked.insert(NumKey(2), 20);
     /// let mut caller = locked.unlock();
     /// ```
     pub fn lock_keys_with_room<'k, const N: usize>(
@@ -115,12 +115,12 @@ impl<T: TableRef<K, V> + Drop, K: TableKey + Drop, V: Drop> CallerOn<T, K, V> {
         requires some { 0 < N }
         requires few { N ≤ 8 }
         ensures locked { IfOk result (λ locked. (m : _)
-            × MakesRoomForEach K.hash self.table.settings (map K.name keys.now) (pass_of self) m
-            × HasLockedKeys K.hash (map K.name keys.now) (caller_of self.table m) locked) }
+            × MakesRoomForEach K.hash self.table.settings (map (λ k. K.name k.now) keys.now) (pass_of self) m
+            × HasLockedKeys K.hash (map (λ k. K.name k.now) keys.now) (caller_of self.table m) locked) }
         ensures room { IfOk result (HasRoomForNames K.hash) }
         ensures same { IfErr result (λ back. IsSameCaller self back.caller) }
         ensures refused { IfErr result (λ back. RefusesRoom K.hash self.table.settings
-            (map K.name keys.now) (pass_of self) (pass_of back.caller) back.why) }
+            (map (λ k. K.name k.now) keys.now) (pass_of self) (pass_of back.caller) back.why) }
     {
         let CallerOn { table, pass } = self;
         let mut pass = pass;
