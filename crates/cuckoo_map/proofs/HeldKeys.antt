@@ -1,6 +1,7 @@
 -- Calls on several keys whose stripes are held.
-use Rattle.std.proofs.Common.{◌≡◌, ℕ, ◌-◌, ◌<◌, ◌≤◌, List, [], length, Option, Some, None, Ok, reverse, inl, refl, sym, ap, ◌∙◌, subst, arith}
-use Rattle.std.specs.Prelude.{IfSome, IfNone, MatchOption}
+use Rattle.std.proofs.Common.{◌≡◌, ℕ, ◌-◌, ◌<◌, ◌≤◌, List, [], length, Bool, true, false, Option, Some, None, Ok, reverse, inl, refl, sym, ap, ◌∙◌, subst, arith}
+use Rattle.std.specs.Prelude.{IfSome, IfNone, MatchOption, MatchBool}
+use Rattle.std.specs.Bool.{OnTrue, OnFalse}
 use Rattle.std.specs.FinMap.{get}
 use Rattle.ck_core.specs.declared.view.View.{View}
 use Rattle.ck_model.specs.declared.history.Act.{Act}
@@ -18,8 +19,10 @@ use Rattle.ck_stripe.specs.Tables.{AreHeld}
 use Rattle.ck_section.specs.Places.{HasBoth}
 use Rattle.ck_model.specs.Paths.{HasNoRoom}
 use Rattle.ck_section.specs.Calls.{IsWithoutRoom, ChangesContents}
+use Rattle.ck_section.specs.RoomForAll.{KeepsOthers, HasRoomForAll, HaveRoomForAll}
 use Rattle.ck_section.proofs.Decided.{IsCallOn}
 use Rattle.ck_section.proofs.Kept.{no_spare_after, power_kept}
+use Rattle.ck_section.proofs.RoomForAll.{room_kept, room_found}
 use Rattle.ck_words.specs.declared.stripe_set.StripeSet.{StripeSet}
 use Rattle.ck_words.specs.Words.{WordsState}
 use Rattle.ck_words.specs.Passes.{PassState, IsPassOf}
@@ -32,7 +35,7 @@ use Rattle.ck_words.proofs.Seating.{numbers-contents}
 use Rattle.cuckoo_map.specs.SeveralKeys.{IsStripeOfAny, HoldsNames, IsSameButStripes, HasQueriedAll, bound_to}
 use Rattle.cuckoo_map.specs.Callers.{caller_of, pass_of}
 use Rattle.cuckoo_map.specs.Locking.{map_of}
-use Rattle.cuckoo_map.specs.LockedKeys.{KeysState, keys_of, value_of, ActsOn, HasLockedKeys, HoldsKeys}
+use Rattle.cuckoo_map.specs.LockedKeys.{KeysState, keys_of, value_of, ActsOn, HasRoomForNames, KeepsRoom, HasLockedKeys, HoldsKeys}
 use Rattle.cuckoo_map.proofs.Callers.{as_pass}
 use Rattle.cuckoo_map.proofs.Sessions.{same_session, found_reply}
 use Rattle.cuckoo_map.proofs.Calls.{answered_since, answered_level}
@@ -68,6 +71,11 @@ module _ {V : Type 0} where
   -- so is the one that it is from then on
   pub kept_pass : (p q z : PassState V) → q.view ≡ p.view → q.table ≡ p.table → q.stripes ≡ p.stripes → q ≡ z → p ≡ z
   kept_pass p q z view table stripes there = sym (same_pass p q view table stripes) ∙ there
+
+  -- The keys are held by q, with room for all of them where there was in k.
+  pub record HoldsWithRoom (hash : Name → ℕ) (w : WordsState) (stripes : StripeSet) (names : List Name) (k : KeysState V) (q : PassState V) : Type 0 where
+    pub keys : HoldsKeys hash w stripes names q
+    pub room : KeepsRoom hash k (keys_of w names q)
 
   module _ {hash : Name → ℕ} {w : WordsState} {stripes : StripeSet} {names : List Name} where
     -- what their stripes contain is lawful, in as many stripes as the set is of
@@ -122,6 +130,28 @@ module _ {V : Type 0} where
     pub owns_name : {p : PassState V} → HoldsKeys hash w stripes names p → {k : KeysState V} → keys_of w names p ≡ k → (q : Name) → IsAmong q k.names → HasBoth hash stripes.s p.stripes q
     owns_name {p} l is q named = subst (λ (s : ℕ). HasBoth hash s p.stripes q) (sym l.of_table) (l.owned q (subst (λ (x : KeysState V). IsAmong q x.names) (sym is) named))
 
+    -- The stripes are held by the pass p, and are shown as k.
+    module _ {p : PassState V} (l : HoldsKeys hash w stripes names p) {k : KeysState V} (is : keys_of w names p ≡ k) where
+      lawful_shown : Lawful (layout_of hash k.session.caller.table.settings) (contents_of k.session.stripes)
+      lawful_shown = subst (λ (x : KeysState V). Lawful (layout_of hash x.session.caller.table.settings) (contents_of x.session.stripes)) is l.lawful
+
+      -- whether there is room for all of the names
+      pub has_room : (result : Bool) → OnTrue result (HaveRoomForAll hash stripes.s p.stripes names)
+          → OnFalse result ((max : ℕ) → Lawful (layout hash stripes.s max) (contents_of p.stripes) → ¬ (HasRoomForAll (layout hash stripes.s max) (contents_of p.stripes) names))
+          → MatchBool result (HasRoomForNames hash k) (¬ (HasRoomForNames hash k))
+      has_room true room lacks = subst (λ (x : KeysState V). HasRoomForNames hash x) is
+          (subst (λ n. HasRoomForAll (layout hash n w.settings.max) (contents_of p.stripes) names) l.of_table (room w.settings.max (lawful_at l)))
+      has_room false room lacks = subst (λ (x : KeysState V). ¬ (HasRoomForNames hash x)) is
+          (subst (λ n. ¬ (HasRoomForAll (layout hash n w.settings.max) (contents_of p.stripes) names)) l.of_table (lacks w.settings.max (lawful_at l)))
+
+      -- Another pass with the same fields holds them still, and shows them so.
+      module _ (q : PassState V) (view : q.view ≡ p.view) (table : q.table ≡ p.table) (as_is : q.stripes ≡ p.stripes) where
+        pub held_alike : HoldsKeys hash w stripes names q
+        held_alike = subst (λ (x : PassState V). HoldsKeys hash w stripes names x) (sym (same_pass p q view table as_is)) l
+
+        pub shows_alike : keys_of w names q ≡ k
+        shows_alike = ap (λ (x : PassState V). keys_of w names x) (same_pass p q view table as_is) ∙ is
+
     -- The stripes are held by the pass p, and are shown as k. A call on one of the names was made on those of m, which is p still, and left q.
     module _ {p : PassState V} (l : HoldsKeys hash w stripes names p) {k : KeysState V} (is : keys_of w names p ≡ k) (name : Name) (named : IsAmong name k.names) {s : ℕ} (at : s ≡ stripes.s)
         (m : PassState V) (view : m.view ≡ p.view) (table : m.table ≡ p.table) (as_is : m.stripes ≡ p.stripes) where
@@ -153,17 +183,21 @@ module _ {V : Type 0} where
           (subst (λ n. HasNoRoom (layout hash n w.settings.max) (contents_of p.stripes) name) of
           (here w.settings.max (subst (λ n. Lawful (layout hash n w.settings.max) (contents_of p.stripes)) (sym of) l.lawful)))
 
+      -- where there is room for all names, it has one
+      pub with_slot : HasRoomForNames hash k → ¬ (IsWithoutRoom hash s m.stripes name)
+      with_slot room none = room_found (layout_of hash k.session.caller.table.settings) (contents_of k.session.stripes) k.names name (lawful_shown l is) room named (without_slot none)
+
       module _ (q : PassState V) (view_left : q.view ≡ m.view) (table_left : q.table ≡ m.table) where
         kept : q ≡ record p { stripes = q.stripes }
         kept = λ i. record { table = (table_left ∙ table) i; view = (view_left ∙ view) i; stripes = q.stripes }
 
         -- they are held still, where nothing changed
         pub held_as_is : q.stripes ≡ m.stripes → HoldsKeys hash w stripes names q
-        held_as_is same = subst (λ (x : PassState V). HoldsKeys hash w stripes names x) (λ i. record { table = sym (table_left ∙ table) i; view = sym (view_left ∙ view) i; stripes = sym (same ∙ as_is) i }) l
+        held_as_is same = held_alike l is q (view_left ∙ view) (table_left ∙ table) (same ∙ as_is)
 
         -- and are shown as before
         pub shows_as_is : q.stripes ≡ m.stripes → keys_of w names q ≡ k
-        shows_as_is same = (λ i. keys_of w names (record { table = (table_left ∙ table) i; view = (view_left ∙ view) i; stripes = (same ∙ as_is) i })) ∙ is
+        shows_as_is same = shows_alike l is q (view_left ∙ view) (table_left ∙ table) (same ∙ as_is)
 
         -- and where a call was made, which is what was done to them
         pub acted : ChangesContents m.stripes q.stripes → (act : Act V) (reply : Reply V) → IsCallOn hash s m.stripes name act reply q.stripes → ActsOn name k (keys_of w names q) act reply × HoldsKeys hash w stripes names q
@@ -190,6 +224,21 @@ module _ {V : Type 0} where
                 level = λ t c h. l.level t c h ∙ sym (power_kept p.stripes q.stripes changes);
                 others = λ r out. done.step.1 r (λ e. out (subst (λ (z : Name). IsAmong z names) (sym e) among)) ∙ l.others r out;
               }),
+            )
+
+        -- Where the call left the other entries where they are, there is room for all names where there was.
+        pub acted_keeping : ChangesContents m.stripes q.stripes → KeepsOthers name m.stripes q.stripes → (act : Act V) (reply : Reply V) → IsCallOn hash s m.stripes name act reply q.stripes
+            → ActsOn name k (keys_of w names q) act reply × HoldsWithRoom hash w stripes names k q
+        acted_keeping changed keeps act reply call =
+            let told = acted changed act reply call in
+            let among : IsAmong name names = subst (λ (x : KeysState V). IsAmong name x.names) (sym is) named in (
+              told.0,
+              record {
+                keys = told.1;
+                room = subst (λ (x : KeysState V). KeepsRoom hash x (keys_of w names q)) is
+                    (room_kept hash w.settings.s w.settings.max p.stripes q.stripes name names l.settled (subst (λ (ss : List (StripeState V)). ChangesContents ss q.stripes) as_is changed)
+                    l.lawful told.1.lawful (subst (λ (ss : List (StripeState V)). KeepsOthers name ss q.stripes) as_is keeps) among l.different);
+              },
             )
 
     -- what was done to them is a session on their names

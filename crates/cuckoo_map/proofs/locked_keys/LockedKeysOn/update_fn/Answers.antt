@@ -1,4 +1,4 @@
-use Rattle.cuckoo_map.proofs.HeldKeys.{owns_name, acted}
+use Rattle.cuckoo_map.proofs.HeldKeys.{owns_name, acted_keeping}
 use Rattle.cuckoo_map.proofs.Told.{told_changed}
 use Rattle.cuckoo_map.proofs.locked_keys.LockedKeysOn.update_fn.Goals as goal
 
@@ -7,14 +7,21 @@ key_place-place-requires-clause-owned g c = owns_name c.self.invariant c.self.vi
 
 pub invariant_of-self : goal.invariant_of-self
 invariant_of-self g c =
-    (told_changed (acted c.self.invariant c.self.view_is (g.P.Query.name c.args.key) c.requires.named c.key_place-place.ensures.s c.key_place-place.new.held.pass.now
+    (told_changed (acted_keeping c.self.invariant c.self.view_is (g.P.Query.name c.args.key) c.requires.named c.key_place-place.ensures.s c.key_place-place.new.held.pass.now
     c.key_place-place.ensures.stays.1 c.key_place-place.ensures.stays.2 c.key_place-place.ensures.same
-    c.update_fn.new.held.pass.now c.update_fn.ensures.stays.1 c.update_fn.ensures.stays.2 c.update_fn.ensures.rest)
-    (λ v new. g.F.FnOnce.post c.args.f (v, tt) new) c.update_fn.result c.update_fn.ensures.call).1
+    c.update_fn.new.held.pass.now c.update_fn.ensures.stays.1 c.update_fn.ensures.stays.2 c.update_fn.ensures.rest c.update_fn.ensures.others)
+    (λ v new. g.F.FnOnce.post c.args.f (v, tt) new) c.update_fn.result c.update_fn.ensures.call).1.keys
+
+pub returns-clause-room : goal.returns-clause-room
+returns-clause-room g c =
+    (told_changed (acted_keeping c.self.invariant c.self.view_is (g.P.Query.name c.args.key) c.requires.named c.key_place-place.ensures.s c.key_place-place.new.held.pass.now
+    c.key_place-place.ensures.stays.1 c.key_place-place.ensures.stays.2 c.key_place-place.ensures.same
+    c.update_fn.new.held.pass.now c.update_fn.ensures.stays.1 c.update_fn.ensures.stays.2 c.update_fn.ensures.rest c.update_fn.ensures.others)
+    (λ v new. g.F.FnOnce.post c.args.f (v, tt) new) c.update_fn.result c.update_fn.ensures.call).1.room
 
 pub returns-clause-answered : goal.returns-clause-answered
 returns-clause-answered g c =
-    (told_changed (acted c.self.invariant c.self.view_is (g.P.Query.name c.args.key) c.requires.named c.key_place-place.ensures.s c.key_place-place.new.held.pass.now
+    (told_changed (acted_keeping c.self.invariant c.self.view_is (g.P.Query.name c.args.key) c.requires.named c.key_place-place.ensures.s c.key_place-place.new.held.pass.now
     c.key_place-place.ensures.stays.1 c.key_place-place.ensures.stays.2 c.key_place-place.ensures.same
-    c.update_fn.new.held.pass.now c.update_fn.ensures.stays.1 c.update_fn.ensures.stays.2 c.update_fn.ensures.rest)
+    c.update_fn.new.held.pass.now c.update_fn.ensures.stays.1 c.update_fn.ensures.stays.2 c.update_fn.ensures.rest c.update_fn.ensures.others)
     (λ v new. g.F.FnOnce.post c.args.f (v, tt) new) c.update_fn.result c.update_fn.ensures.call).0
