@@ -57,6 +57,8 @@ mod locked_keys;
 #[cfg(test)]
 mod locks;
 #[cfg(test)]
+mod room_for_keys;
+#[cfg(test)]
 mod sessions;
 #[cfg(test)]
 mod several;

@@ -4,7 +4,7 @@ use crate::fixtures::{
     callers_of, count, read, three_callers,
 };
 use ck_key::{NumKey, TextKey};
-use cuckoo_map::{Caller, Fault, KeysRefused, NotRenamed, RoomFault, Renamed, Settings, Why};
+use cuckoo_map::{Caller, Fault, KeysRefused, NotRenamed, Renamed, RoomFault, Settings, Why};
 use std::alloc::Global;
 use std::process::Abort;
 use std::sync::atomic::AtomicU64;
