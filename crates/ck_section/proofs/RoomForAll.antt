@@ -140,16 +140,12 @@ module _ {V : Type 0} where
       (λ e. ap (λ (slot : Slot V). find name_cmp p (taken_in (slot ∷ ys))) e ∙ same_first p x xs ys rest)
       (λ (f : IsFreeFor q x × IsFreeFor q y). skipped p q ne y ys f.1 ∙ rest ∙ sym (skipped p q ne x xs f.0)) (kept 0)
 
-  -- what is found in two lists is found in both together
-  find_both : (p : Name) (xs ys us vs : List (Name × V)) → find name_cmp p us ≡ find name_cmp p xs → find name_cmp p vs ≡ find name_cmp p ys → find name_cmp p (us ++ vs) ≡ find name_cmp p (xs ++ ys)
-  find_both p xs ys us vs first second = either us vs ∙ (λ i. option_or (first i) (second i)) ∙ sym (either xs ys)
-    where
-      either : (xs ys : List (Name × V)) → find name_cmp p (xs ++ ys) ≡ option_or (find name_cmp p xs) (find name_cmp p ys)
-      either [] ys = refl
-      either (x ∷ xs) ys = elim (eq_by_cmp name_cmp p x.0) as (λ b. cond b (Some x.1) (find name_cmp p (xs ++ ys)) ≡ option_or (cond b (Some x.1) (find name_cmp p xs)) (find name_cmp p ys)) [
-        | true ↦ refl
-        | false ↦ either xs ys
-      ]
+  pub find_either : (p : Name) (xs ys : List (Name × V)) → find name_cmp p (xs ++ ys) ≡ option_or (find name_cmp p xs) (find name_cmp p ys)
+  find_either p [] ys = refl
+  find_either p (x ∷ xs) ys = elim (eq_by_cmp name_cmp p x.0) as (λ b. cond b (Some x.1) (find name_cmp p (xs ++ ys)) ≡ option_or (cond b (Some x.1) (find name_cmp p xs)) (find name_cmp p ys)) [
+    | true ↦ refl
+    | false ↦ find_either p xs ys
+  ]
 
   -- of different names in rows those in one row are different
   absent_first : (q : Name) (xs ys : List (Name × V)) → find name_cmp q (xs ++ ys) ≡ None → find name_cmp q xs ≡ None
@@ -364,7 +360,9 @@ module _ {V : Type 0} where
     found_kept : (p : Name) → p ≢ q → (bs : List ℕ) → find name_cmp p (pairs_at k ks bs) ≡ find name_cmp p (pairs_at k hs bs)
     found_kept p ne [] = refl
     found_kept p ne (b ∷ bs) =
-        find_both p (taken_in (bucket_in k hs b)) (pairs_at k hs bs) (taken_in (bucket_in k ks b)) (pairs_at k ks bs) (find_kept p q ne (bucket_in k hs b) (bucket_in k ks b) (kept b)) (found_kept p ne bs)
+        find_either p (taken_in (bucket_in k ks b)) (pairs_at k ks bs)
+        ∙ (λ i. option_or (find_kept p q ne (bucket_in k hs b) (bucket_in k ks b) (kept b) i) (found_kept p ne bs i))
+        ∙ sym (find_either p (taken_in (bucket_in k hs b)) (pairs_at k hs bs))
 
     may_other : (bs : List ℕ) (p : Name) → p ≢ q → may_come k ks bs p ≡ may_come k hs bs p
     may_other bs p ne = λ i. own_kept bs p i && is_none (found_kept p ne bs i)
