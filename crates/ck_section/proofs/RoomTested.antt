@@ -7,13 +7,13 @@ use Rattle.std.specs.Ordering.{eq_by_cmp}
 use Rattle.std.specs.FinMap.{find}
 use Rattle.std.proofs.lemmas.Bool.{false≢true, leb-true, le-leb}
 use Rattle.std.proofs.lemmas.List.{length-append, length-map, take_more}
-use Rattle.std.proofs.lemmas.List.Elements.{filter_map-append, All-nil, All-cons, All-head, All-tail}
+use Rattle.std.proofs.lemmas.List.Elements.{filter_map-append, All-head, All-tail}
 use Rattle.std.proofs.lemmas.List.Concat.{flat_map-append}
 use Rattle.std.proofs.lemmas.Option.{none-some, some_pair_parts}
 use Rattle.ck_model.specs.Arithmetic.{index_of, second_of}
 use Rattle.ck_model.specs.Promise.{Name, name_cmp, IsAmong}
 use Rattle.ck_model.specs.Slots.{Slot, slot_at, taken_in}
-use Rattle.ck_model.specs.Contents.{Layout, layout, Stripes, IsBucketOf, Lawful, power_of, bucket_in}
+use Rattle.ck_model.specs.Contents.{Layout, layout, Stripes, Lawful, power_of, bucket_in}
 use Rattle.ck_model.specs.Paths.{partial_in}
 use Rattle.ck_model.proofs.Names.{is_name}
 use Rattle.ck_model.proofs.Belongs.{found_slot}
@@ -90,6 +90,13 @@ module _ {V : Type 0} where
   -- one bucket of the name, or both together, have a free slot for each of the names that may come there
   abbrev pub FindsSlots : Layout → List Name → Name → Stripes V → Type 0
   FindsSlots k qs q hs = (bs : List ℕ) × AreSomeOf k hs q bs × HasSlots k hs qs bs
+
+  -- the same of one of the place's buckets alone, and of both together
+  abbrev pub HasInOne : Layout → List Name → KeyPlace → Stripes V → Type 0
+  HasInOne k qs place hs = HasSlots k hs qs (place.first.bucket ∷ []) ⊎ HasSlots k hs qs (place.alternate.bucket ∷ [])
+
+  abbrev pub HasInBoth : Layout → List Name → KeyPlace → Stripes V → Type 0
+  HasInBoth k qs place hs = (place.first.bucket ≢ place.alternate.bucket) × HasSlots k hs qs (place.first.bucket ∷ place.alternate.bucket ∷ [])
 
   -- as many partials are seen as slots are taken
   pub taken_seen : (hash : Name → ℕ) (slots : List (Slot V)) → length (taken_in (map (partial_in hash) slots)) ≡ length (taken_in slots)
@@ -178,20 +185,12 @@ module _ {V : Type 0} where
         (λ z. own_is q place of b.bucket z || own_any q place of buckets z)
         ∙ or_three (b.bucket == index_of (power_of (contents_of stripes)) (hash q)) (b.bucket == second_of (power_of (contents_of stripes)) (hash q)) (has_bucket (layout hash s max) (contents_of stripes) (numbers_of buckets) q)
 
-    pub may_not : (q : Name) (place : KeyPlace) → IsPlaceOf hash stripes q place → (buckets : List HeldBucket) → list_any (is_of place) buckets ≡ false
-        → false ≡ may_come (layout hash s max) (contents_of stripes) (numbers_of buckets) q
-    may_not q place of buckets out = sym (
-        ap (λ h. h && is_none (find name_cmp q (pairs_at (layout hash s max) (contents_of stripes) (numbers_of buckets)))) (sym (own_any q place of buckets) ∙ out))
-
     -- one of the two buckets of the name has a property, or both together
-    pub some_buckets : (q : Name) (place : KeyPlace) → IsPlaceOf hash stripes q place → (P : List ℕ → Type 0)
-        → ((P (place.first.bucket ∷ []) ⊎ P (place.alternate.bucket ∷ [])) ⊎ ((place.first.bucket ≢ place.alternate.bucket) × P (place.first.bucket ∷ place.alternate.bucket ∷ [])))
-        ↔ ((bs : List ℕ) × AreSomeOf (layout hash s max) (contents_of stripes) q bs × P bs)
-    some_buckets q place of P =
+    some_buckets : (q : Name) (P : List ℕ → Type 0) → let first = index_of (power_of (contents_of stripes)) (hash q) in let second = second_of (power_of (contents_of stripes)) (hash q) in
+        ((P (first ∷ []) ⊎ P (second ∷ [])) ⊎ ((first ≢ second) × P (first ∷ second ∷ []))) ↔ ((bs : List ℕ) × AreSomeOf (layout hash s max) (contents_of stripes) q bs × P bs)
+    some_buckets q P =
         let first : ℕ = index_of (power_of (contents_of stripes)) (hash q) in
-        let second : ℕ = second_of (power_of (contents_of stripes)) (hash q) in
-        subst (λ (x : ℕ × ℕ). ((P (x.0 ∷ []) ⊎ P (x.1 ∷ [])) ⊎ ((x.0 ≢ x.1) × P (x.0 ∷ x.1 ∷ []))) ↔ ((bs : List ℕ) × AreSomeOf (layout hash s max) (contents_of stripes) q bs × P bs))
-        (λ z. (sym (first_is q place of) z, sym (second_is q place of) z)) (
+        let second : ℕ = second_of (power_of (contents_of stripes)) (hash q) in (
           λ has. ⊎_elim
               (λ l. ⊎_elim
               (λ p. (first ∷ [], inl refl, p))
@@ -203,6 +202,21 @@ module _ {V : Type 0} where
               (λ e. inl (inr (subst P e z.2)))
               (λ (p : (first ≢ second) × (z.0 ≡ first ∷ second ∷ [])). inr (p.0, subst P p.1 z.2)) r) z.1,
         )
+
+    pub may_not : (q : Name) (place : KeyPlace) → IsPlaceOf hash stripes q place → (buckets : List HeldBucket) → list_any (is_of place) buckets ≡ false
+        → false ≡ may_come (layout hash s max) (contents_of stripes) (numbers_of buckets) q
+    may_not q place of buckets out = sym (
+        ap (λ h. h && is_none (find name_cmp q (pairs_at (layout hash s max) (contents_of stripes) (numbers_of buckets)))) (sym (own_any q place of buckets) ∙ out))
+
+    -- The name finds slots where a test of its two buckets says yes.
+    pub finds : (q : Name) (place : KeyPlace) → IsPlaceOf hash stripes q place → (qs : List Name) (b : Bool)
+        → IsTrue b ↔ (HasInOne (layout hash s max) qs place (contents_of stripes) ⊎ HasInBoth (layout hash s max) qs place (contents_of stripes))
+        → IsTrue b ↔ FindsSlots (layout hash s max) qs q (contents_of stripes)
+    finds q place of qs b test =
+        let Has : List ℕ → Type 0 = HasSlots (layout hash s max) (contents_of stripes) qs in
+        let own = subst (λ (x : ℕ × ℕ). ((Has (x.0 ∷ []) ⊎ Has (x.1 ∷ [])) ⊎ ((x.0 ≢ x.1) × Has (x.0 ∷ x.1 ∷ []))) ↔ FindsSlots (layout hash s max) qs q (contents_of stripes))
+        (λ z. (sym (first_is q place of) z, sym (second_is q place of) z)) (some_buckets q Has) in
+        (λ is. own.0 (test.0 is), λ has. test.1 (own.1 has))
 
     module _ (one_s : (i : ℕ) → i < length stripes → (stripe_at stripes i).s ≡ s) where
       -- what is in the buckets as they are numbered in the table

@@ -1,4 +1,4 @@
-use Rattle.std.proofs.Common.{◌≡◌, Bool, List, ◌∙◌, sym, subst, not}
+use Rattle.std.proofs.Common.{◌≡◌, List, ◌∙◌, sym, subst}
 use Rattle.std.specs.List.{list_any}
 use Rattle.ck_stripe.specs.Stripe.{StripeState}
 use Rattle.ck_section.proofs.RoomTested.{has_name, may_not, may_by_look}

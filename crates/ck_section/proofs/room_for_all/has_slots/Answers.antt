@@ -1,11 +1,10 @@
-use Rattle.std.proofs.Common.{◌≢◌, ◌↔◌, ◌⊎◌, ℕ, List, [], ◌∷◌, ◌∙◌, map}
+use Rattle.std.proofs.Common.{◌↔◌, List, ◌∙◌, map}
 use Rattle.std.specs.Prelude.{IsTrue}
 use Rattle.ck_model.specs.Promise.{Name}
-use Rattle.ck_model.specs.Contents.{Layout, layout, Stripes}
+use Rattle.ck_model.specs.Contents.{Layout, layout}
 use Rattle.ck_stripe.specs.Stripe.{StripeState}
 use Rattle.ck_stripe.specs.Stripes.{contents_of}
-use Rattle.ck_section.specs.RoomForAll.{HasSlots}
-use Rattle.ck_section.proofs.RoomTested.{owned_still, lawful_still, some_buckets, yes_first, yes_second}
+use Rattle.ck_section.proofs.RoomTested.{owned_still, lawful_still, HasInOne, HasInBoth, finds, yes_first, yes_second}
 use Rattle.ck_section.proofs.room_for_all.has_slots.Goals as goal
 
 pub has_slots_in_one-requires-clause-owned : goal.has_slots_in_one-requires-clause-owned
@@ -19,29 +18,26 @@ has_slots_in_both-requires-clause-owned g c =
 pub returns-then-has_slots_in_one-clause-slots : goal.returns-then-has_slots_in_one-clause-slots
 returns-then-has_slots_in_one-clause-slots g c max lawful =
     let old : List (StripeState g.row.V.Denot) = g.H.Held.stripes c.args.held.now in
+    let k : Layout = layout g.K.TableKey.hash c.args.s max in
+    let names : List Name = map g.Q.Query.name c.args.keys.now in
     let place = c.key_place-place in
     let one = c.has_slots_in_one in
-    let Has : Stripes g.row.V.Denot → List ℕ → Type 0 = λ hs bs. HasSlots (layout g.K.TableKey.hash c.args.s max) hs (map g.Q.Query.name c.args.keys.now) bs in
-    let in_one : IsTrue one.result ↔ (Has (contents_of old) (place.result.first.bucket ∷ []) ⊎ Has (contents_of old) (place.result.alternate.bucket ∷ [])) =
-    lawful_still g.K.TableKey.hash c.args.s max old (g.H.Held.stripes place.new.held) place.ensures.same
-    (λ hs. IsTrue one.result ↔ (Has hs (place.result.first.bucket ∷ []) ⊎ Has hs (place.result.alternate.bucket ∷ []))) (one.ensures.slots max) lawful in
-    let some = some_buckets g.K.TableKey.hash c.args.s max old lawful (g.Q.Query.name c.args.key) place.result place.ensures.place (Has (contents_of old)) in
-    let yes = yes_first one.result _ ((place.result.first.bucket ≢ place.result.alternate.bucket) × Has (contents_of old) (place.result.first.bucket ∷ place.result.alternate.bucket ∷ [])) in_one c.if-has_slots_in_one.true in
-    (λ is. some.0 (yes.0 is), λ has. yes.1 (some.1 has))
+    let in_one : IsTrue one.result ↔ HasInOne k names place.result (contents_of old) =
+    lawful_still g.K.TableKey.hash c.args.s max old (g.H.Held.stripes place.new.held) place.ensures.same (λ hs. IsTrue one.result ↔ HasInOne k names place.result hs) (one.ensures.slots max) lawful in
+    finds g.K.TableKey.hash c.args.s max old lawful (g.Q.Query.name c.args.key) place.result place.ensures.place names one.result
+    (yes_first one.result _ (HasInBoth k names place.result (contents_of old)) in_one c.if-has_slots_in_one.true)
 
 pub returns-else-has_slots_in_one-clause-slots : goal.returns-else-has_slots_in_one-clause-slots
 returns-else-has_slots_in_one-clause-slots g c max lawful =
     let old : List (StripeState g.row.V.Denot) = g.H.Held.stripes c.args.held.now in
+    let k : Layout = layout g.K.TableKey.hash c.args.s max in
+    let names : List Name = map g.Q.Query.name c.args.keys.now in
     let place = c.key_place-place in
     let one = c.has_slots_in_one in
     let both = c.has_slots_in_both in
-    let Has : Stripes g.row.V.Denot → List ℕ → Type 0 = λ hs bs. HasSlots (layout g.K.TableKey.hash c.args.s max) hs (map g.Q.Query.name c.args.keys.now) bs in
-    let in_one : IsTrue one.result ↔ (Has (contents_of old) (place.result.first.bucket ∷ []) ⊎ Has (contents_of old) (place.result.alternate.bucket ∷ [])) =
-    lawful_still g.K.TableKey.hash c.args.s max old (g.H.Held.stripes place.new.held) place.ensures.same
-    (λ hs. IsTrue one.result ↔ (Has hs (place.result.first.bucket ∷ []) ⊎ Has hs (place.result.alternate.bucket ∷ []))) (one.ensures.slots max) lawful in
-    let in_both : IsTrue both.result ↔ ((place.result.first.bucket ≢ place.result.alternate.bucket) × Has (contents_of old) (place.result.first.bucket ∷ place.result.alternate.bucket ∷ [])) =
-    lawful_still g.K.TableKey.hash c.args.s max old (g.H.Held.stripes one.new.held) (one.ensures.same ∙ place.ensures.same)
-    (λ hs. IsTrue both.result ↔ ((place.result.first.bucket ≢ place.result.alternate.bucket) × Has hs (place.result.first.bucket ∷ place.result.alternate.bucket ∷ []))) (both.ensures.slots max) lawful in
-    let some = some_buckets g.K.TableKey.hash c.args.s max old lawful (g.Q.Query.name c.args.key) place.result place.ensures.place (Has (contents_of old)) in
-    let yes = yes_second one.result both.result _ _ in_one in_both c.if-has_slots_in_one.false in
-    (λ is. some.0 (yes.0 is), λ has. yes.1 (some.1 has))
+    let in_one : IsTrue one.result ↔ HasInOne k names place.result (contents_of old) =
+    lawful_still g.K.TableKey.hash c.args.s max old (g.H.Held.stripes place.new.held) place.ensures.same (λ hs. IsTrue one.result ↔ HasInOne k names place.result hs) (one.ensures.slots max) lawful in
+    let in_both : IsTrue both.result ↔ HasInBoth k names place.result (contents_of old) =
+    lawful_still g.K.TableKey.hash c.args.s max old (g.H.Held.stripes one.new.held) (one.ensures.same ∙ place.ensures.same) (λ hs. IsTrue both.result ↔ HasInBoth k names place.result hs) (both.ensures.slots max) lawful in
+    finds g.K.TableKey.hash c.args.s max old lawful (g.Q.Query.name c.args.key) place.result place.ensures.place names both.result
+    (yes_second one.result both.result _ _ in_one in_both c.if-has_slots_in_one.false)

@@ -1,9 +1,8 @@
-use Rattle.std.proofs.Common.{◌↔◌, List, [], ◌∷◌, ◌∙◌, map}
+use Rattle.std.proofs.Common.{◌↔◌, List, [], ◌∷◌, map}
 use Rattle.std.specs.Prelude.{IsTrue}
 use Rattle.ck_model.specs.Promise.{Name}
 use Rattle.ck_model.specs.Contents.{Layout, layout, Stripes}
 use Rattle.ck_stripe.specs.Stripe.{StripeState}
-use Rattle.ck_stripe.specs.Stripes.{contents_of}
 use Rattle.ck_section.specs.RoomForAll.{HasSlots}
 use Rattle.ck_section.proofs.RoomTested.{owned_still, lawful_still, yes_first, yes_second}
 use Rattle.ck_section.proofs.room_for_all.has_slots_in_one.Goals as goal
