@@ -28,7 +28,7 @@ use Rattle.ck_section.specs.Places.{HasBoth, IsPlaceOf}
 use Rattle.ck_section.specs.HeldBuckets.{numbers_of, AreInReach, pairs_there}
 use Rattle.ck_section.specs.RoomForAll.{pairs_at, has_bucket, may_come, coming, HasSlots, AreSomeOf}
 use Rattle.ck_section.proofs.Found.{slot_held}
-use Rattle.ck_section.proofs.RoomForAll.{one, is_bucket, find_either}
+use Rattle.ck_section.proofs.RoomForAll.{one, is_bucket, no_value, find_either}
 use Rattle.ck_section.proofs.SeveralKeys.{names_more}
 
 -- a name among some and one more
@@ -84,7 +84,8 @@ module _ {V : Type 0} where
   owned_still hash s old new same qs owned q among = subst (λ (ss : List (StripeState V)). HasBoth hash s ss q) (sym same) (owned q among)
 
   -- what holds of lawful stripes holds of them as they were
-  pub lawful_still : (hash : Name → ℕ) (s max : ℕ) (old new : List (StripeState V)) → new ≡ old → (P : Stripes V → Type 0) → (Lawful (layout hash s max) (contents_of new) → P (contents_of new)) → Lawful (layout hash s max) (contents_of old) → P (contents_of old)
+  pub lawful_still : (hash : Name → ℕ) (s max : ℕ) (old new : List (StripeState V)) → new ≡ old → (P : Stripes V → Type 0)
+      → (Lawful (layout hash s max) (contents_of new) → P (contents_of new)) → Lawful (layout hash s max) (contents_of old) → P (contents_of old)
   lawful_still hash s max old new same P = subst (λ (ss : List (StripeState V)). Lawful (layout hash s max) (contents_of ss) → P (contents_of ss)) same
 
   -- one bucket of the name, or both together, have a free slot for each of the names that may come there
@@ -138,11 +139,7 @@ module _ {V : Type 0} where
 
   -- a name that no slot has isn't found
   lacking : (q : Name) (slots : List (Slot V)) → LacksName slots q → is_some (find name_cmp q (taken_in slots)) ≡ false
-  lacking q slots lacks = go (find name_cmp q (taken_in slots)) refl
-    where
-      go : (o : Option V) → find name_cmp q (taken_in slots) ≡ o → is_some o ≡ false
-      go None e = refl
-      go (Some v) e = let z = found_slot q slots v e in absurd (lacks z.0 v z.1)
+  lacking q slots lacks = ap is_some (no_value (find name_cmp q (taken_in slots)) (λ v e. let z = found_slot q slots v e in lacks z.0 v z.1))
 
   -- what a slot has is found
   having : (q : Name) (v : V) (slots : List (Slot V)) (i : ℕ) → slot_at slots i ≡ Some (q, v) → is_some (find name_cmp q (taken_in slots)) ≡ true
@@ -160,14 +157,16 @@ module _ {V : Type 0} where
   looked q slots (Some i) found absent = having q found.0 slots i found.1
 
   -- what a look into a bucket says of the stripes as they were
-  pub name_seen : (old new : List (StripeState V)) → new ≡ old → (q : Name) (b : HeldBucket) (o : Option ℕ) → IfSome o (HasName (bucket_at new b.index b.bucket) q) → IfNone o (LacksName (bucket_at new b.index b.bucket) q) → has_name old q b ≡ is_some o
+  pub name_seen : (old new : List (StripeState V)) → new ≡ old → (q : Name) (b : HeldBucket) (o : Option ℕ)
+      → IfSome o (HasName (bucket_at new b.index b.bucket) q) → IfNone o (LacksName (bucket_at new b.index b.bucket) q) → has_name old q b ≡ is_some o
   name_seen old new same q b o found absent = ap (λ (ss : List (StripeState V)). has_name ss q b) (sym same) ∙ looked q (bucket_at new b.index b.bucket) o found absent
 
   module _ (hash : Name → ℕ) (s max : ℕ) (stripes : List (StripeState V)) (lawful : Lawful (layout hash s max) (contents_of stripes)) where
-    -- the two buckets of a place are those of the name
+    -- each stripe has the power that the contents show,
     power_at : (i : ℕ) → i < length stripes → (stripe_at stripes i).content.power ≡ power_of (contents_of stripes)
     power_at i lt = sym (power_held (layout hash s max) (contents_of stripes) (stripe_at stripes i).number (stripe_at stripes i).content lawful (holds_at stripes i lt))
 
+    -- and the two buckets of a place are those of the name
     first_is : (q : Name) (place : KeyPlace) → IsPlaceOf hash stripes q place → place.first.bucket ≡ index_of (power_of (contents_of stripes)) (hash q)
     first_is q place of = of.first ∙ ap (λ p. index_of p (hash q)) (power_at place.first.index of.first_reach.inside)
 
@@ -203,6 +202,7 @@ module _ {V : Type 0} where
               (λ (p : (first ≢ second) × (z.0 ≡ first ∷ second ∷ [])). inr (p.0, subst P p.1 z.2)) r) z.1,
         )
 
+    -- whether a name may come, where none of the buckets is one of its two, and where a look into them tells
     pub may_not : (q : Name) (place : KeyPlace) → IsPlaceOf hash stripes q place → (buckets : List HeldBucket) → list_any (is_of place) buckets ≡ false
         → false ≡ may_come (layout hash s max) (contents_of stripes) (numbers_of buckets) q
     may_not q place of buckets out = sym (
