@@ -5,7 +5,7 @@ use Rattle.std.specs.List.{AllByRecursion}
 use Rattle.std.specs.Option.{option_or}
 use Rattle.std.specs.Ordering.{eq_by_cmp}
 use Rattle.std.specs.FinMap.{find, get}
-use Rattle.std.proofs.lemmas.Bool.{eq-eqb, or_left, or_right, and_from, false≢true}
+use Rattle.std.proofs.lemmas.Bool.{eq-eqb, or_left, or_right, or_parts, and_from, false≢true}
 use Rattle.std.proofs.lemmas.Nat.{div-add-mod'}
 use Rattle.std.proofs.lemmas.List.{length-append}
 use Rattle.std.proofs.lemmas.Option.{none-some}
@@ -48,17 +48,10 @@ is_bucket_of k p b q of = ⊎_elim
     (λ e. or_left (b == index_of p (k.hash q)) (b == second_of p (k.hash q)) (eq-eqb b (index_of p (k.hash q)) e))
     (λ e. or_right (b == index_of p (k.hash q)) (b == second_of p (k.hash q)) (eq-eqb b (second_of p (k.hash q)) e)) of
 
--- of three choices with no yes, neither the first two nor the last has one
-none_of : (x y z : Bool) → (x || y || z) ≡ false → ((x || y) ≡ false) × (z ≡ false)
-none_of true y z e = absurd (false≢true (sym e))
-none_of false true z e = absurd (false≢true (sym e))
-none_of false false z e = (refl, e)
-
--- the first two of three choices
-first_two : (x y z : Bool) → (x || y) ≡ true → (x || y || z) ≡ true
-first_two true y z e = refl
-first_two false true z e = refl
-first_two false false z e = absurd (false≢true e)
+-- a choice of three, one by one
+pub or_three : (x y z : Bool) → ((x || y) || z) ≡ (x || y || z)
+or_three true y z = refl
+or_three false y z = refl
 
 -- what has no value
 pub no_value : {A : Type 0} (o : Option A) → ((x : A) → ¬ (o ≡ Some x)) → o ≡ None
@@ -276,7 +269,9 @@ module _ {V : Type 0} where
     not_among : (bs : List ℕ) (q : Name) → has_bucket k hs bs q ≡ false → find name_cmp q (pairs_at k hs bs) ≡ None
     not_among [] q out = refl
     not_among (b ∷ bs) q out =
-        let none = none_of (b == index_of (power_of hs) (k.hash q)) (b == second_of (power_of hs) (k.hash q)) (has_bucket k hs bs q) out in
+        let first : Bool = b == index_of (power_of hs) (k.hash q) in
+        let second : Bool = b == second_of (power_of hs) (k.hash q) in
+        let none = or_parts (first || second) (has_bucket k hs bs q) (or_three first second (has_bucket k hs bs q) ∙ out) in
         not_found q (taken_in (bucket_in k hs b)) (pairs_at k hs bs) (not_there b q none.0) (not_among bs q none.1)
 
     -- Whether the name may come to these buckets or stands there, it counts once where they have one of its own.
@@ -315,10 +310,11 @@ module _ {V : Type 0} where
     AreOwn q bs = AllByRecursion (IsBucketOf k.hash (power_of hs) q) bs × (has_bucket k hs bs q ≡ true)
 
     own_more : (q : Name) (b : ℕ) (bs : List ℕ) → IsBucketOf k.hash (power_of hs) q b → AllByRecursion (IsBucketOf k.hash (power_of hs) q) bs → AreOwn q (b ∷ bs)
-    own_more q b bs own rest = (
-      (own, rest),
-      first_two (b == index_of (power_of hs) (k.hash q)) (b == second_of (power_of hs) (k.hash q)) (has_bucket k hs bs q) (is_bucket_of k (power_of hs) b q own),
-    )
+    own_more q b bs own rest =
+        let first : Bool = b == index_of (power_of hs) (k.hash q) in
+        let second : Bool = b == second_of (power_of hs) (k.hash q) in
+        let some : ((first || second) || has_bucket k hs bs q) ≡ true = or_left (first || second) (has_bucket k hs bs q) (is_bucket_of k (power_of hs) b q own) in
+        ((own, rest), sym (or_three first second (has_bucket k hs bs q)) ∙ some)
 
     own_some : (q : Name) (bs : List ℕ) → AreSomeOf k hs q bs → AreOwn q bs
     own_some q bs some =

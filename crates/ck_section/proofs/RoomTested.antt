@@ -28,7 +28,7 @@ use Rattle.ck_section.specs.Places.{HasBoth, IsPlaceOf}
 use Rattle.ck_section.specs.HeldBuckets.{numbers_of, AreInReach, pairs_there}
 use Rattle.ck_section.specs.RoomForAll.{pairs_at, has_bucket, may_come, coming, HasSlots, AreSomeOf}
 use Rattle.ck_section.proofs.Found.{slot_held}
-use Rattle.ck_section.proofs.RoomForAll.{one, is_bucket, no_value, find_either}
+use Rattle.ck_section.proofs.RoomForAll.{one, is_bucket, or_three, no_value, find_either}
 use Rattle.ck_section.proofs.SeveralKeys.{names_more}
 
 -- a name among some and one more
@@ -45,11 +45,6 @@ taken_more {X} slots i lt =
     alone : (o : Option X) → length (taken_in (o ∷ [])) ≡ one (is_some o)
     alone None = refl
     alone (Some x) = refl
-
--- a choice of three, one by one
-or_three : (x y z : Bool) → ((x || y) || z) ≡ (x || y || z)
-or_three true y z = refl
-or_three false y z = refl
 
 none_not : {X : Type 0} (o : Option X) → is_none o ≡ not (is_some o)
 none_not None = refl

@@ -45,8 +45,8 @@ pub fn has_room_for_all<K: TableKey + Drop, V: Drop, Q: Query<K>, H: Held<Stripe
     true
 }
 
-// Whether one bucket of the key, or both together, have a free slot for each of the keys that may come
-// there.
+// Whether one bucket of the key, or both together, have a free slot for each of the keys that may
+// come there.
 fn has_slots<K: TableKey + Drop, V: Drop, Q: Query<K>, H: Held<Stripe<K, V>>>(
     held: &mut H,
     s: u32,
@@ -60,7 +60,8 @@ fn has_slots<K: TableKey + Drop, V: Drop, Q: Query<K>, H: Held<Stripe<K, V>>>(
     ensures slots { (max : ℕ) → Lawful (layout K.hash s max) (contents_of (H.stripes held.old))
         → (IsTrue result ↔ ((bs : List ℕ)
         × AreSomeOf (layout K.hash s max) (contents_of (H.stripes held.old)) (Q.name key) bs
-        × HasSlots (layout K.hash s max) (contents_of (H.stripes held.old)) (map Q.name keys.now) bs)) }
+        × HasSlots (layout K.hash s max) (contents_of (H.stripes held.old)) (map Q.name keys.now)
+        bs)) }
     ensures same { H.stripes held.new ≡ H.stripes held.old }
     ensures stays { H.stays held.old held.new }
 {
@@ -92,8 +93,8 @@ fn has_slots_in_one<K: TableKey + Drop, V: Drop, Q: Query<K>, H: Held<Stripe<K, 
     has_slots_in(held, s, keys, &[place.first]) || has_slots_in(held, s, keys, &[place.alternate])
 }
 
-// Whether the two buckets of a key are two, and have together a free slot for each of the keys that may
-// come there.
+// Whether the two buckets of a key are two, and have together a free slot for each of the keys that
+// may come there.
 fn has_slots_in_both<K: TableKey + Drop, V: Drop, Q: Query<K>, H: Held<Stripe<K, V>>>(
     held: &mut H,
     s: u32,
@@ -104,7 +105,8 @@ fn has_slots_in_both<K: TableKey + Drop, V: Drop, Q: Query<K>, H: Held<Stripe<K,
     requires owned { (q : Name) → IsAmong q (map Q.name keys.now)
         → HasBoth K.hash s (H.stripes held.old) q }
     requires first { IsInReach (H.stripes held.old) place.first.index place.first.bucket }
-    requires alternate { IsInReach (H.stripes held.old) place.alternate.index place.alternate.bucket }
+    requires alternate { IsInReach (H.stripes held.old) place.alternate.index
+        place.alternate.bucket }
     ensures slots { (max : ℕ) → Lawful (layout K.hash s max) (contents_of (H.stripes held.old))
         → (IsTrue result ↔ ((place.first.bucket ≢ place.alternate.bucket)
         × HasSlots (layout K.hash s max) (contents_of (H.stripes held.old)) (map Q.name keys.now)
@@ -203,8 +205,8 @@ fn count_coming<K: TableKey + Drop, V: Drop, Q: Query<K>, H: Held<Stripe<K, V>>>
     count
 }
 
-// Whether one of the buckets is one of the key's two and none of them has the key, so that it may come
-// there.
+// Whether one of the buckets is one of the key's two and none of them has the key, so that it may
+// come there.
 fn can_come<K: TableKey + Drop, V: Drop, Q: Query<K>, H: Held<Stripe<K, V>>>(
     held: &mut H,
     s: u32,
