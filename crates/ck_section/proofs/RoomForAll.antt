@@ -5,7 +5,7 @@ use Rattle.std.specs.List.{AllByRecursion}
 use Rattle.std.specs.Option.{option_or}
 use Rattle.std.specs.Ordering.{eq_by_cmp}
 use Rattle.std.specs.FinMap.{find, get}
-use Rattle.std.proofs.lemmas.Bool.{eq-eqb, or_left, or_right, and_from, false≢true}
+use Rattle.std.proofs.lemmas.Bool.{eq-eqb, or_left, or_right, or_parts, and_from, false≢true}
 use Rattle.std.proofs.lemmas.Nat.{div-add-mod'}
 use Rattle.std.proofs.lemmas.List.{length-append}
 use Rattle.std.proofs.lemmas.Option.{none-some}
@@ -48,17 +48,15 @@ is_bucket_of k p b q of = ⊎_elim
     (λ e. or_left (b == index_of p (k.hash q)) (b == second_of p (k.hash q)) (eq-eqb b (index_of p (k.hash q)) e))
     (λ e. or_right (b == index_of p (k.hash q)) (b == second_of p (k.hash q)) (eq-eqb b (second_of p (k.hash q)) e)) of
 
--- of three choices with no yes, neither the first two nor the last has one
-none_of : (x y z : Bool) → (x || y || z) ≡ false → ((x || y) ≡ false) × (z ≡ false)
-none_of true y z e = absurd (false≢true (sym e))
-none_of false true z e = absurd (false≢true (sym e))
-none_of false false z e = (refl, e)
+-- a choice of three, one by one
+pub or_three : (x y z : Bool) → ((x || y) || z) ≡ (x || y || z)
+or_three true y z = refl
+or_three false y z = refl
 
--- the first two of three choices
-first_two : (x y z : Bool) → (x || y) ≡ true → (x || y || z) ≡ true
-first_two true y z e = refl
-first_two false true z e = refl
-first_two false false z e = absurd (false≢true e)
+-- what has no value
+pub no_value : {A : Type 0} (o : Option A) → ((x : A) → ¬ (o ≡ Some x)) → o ≡ None
+no_value None none = refl
+no_value (Some x) none = absurd (none x refl)
 
 module _ {V : Type 0} where
   -- what KeepsOthers says of a slot
@@ -140,24 +138,15 @@ module _ {V : Type 0} where
       (λ e. ap (λ (slot : Slot V). find name_cmp p (taken_in (slot ∷ ys))) e ∙ same_first p x xs ys rest)
       (λ (f : IsFreeFor q x × IsFreeFor q y). skipped p q ne y ys f.1 ∙ rest ∙ sym (skipped p q ne x xs f.0)) (kept 0)
 
-  -- what is found in two lists is found in both together
-  find_both : (p : Name) (xs ys us vs : List (Name × V)) → find name_cmp p us ≡ find name_cmp p xs → find name_cmp p vs ≡ find name_cmp p ys → find name_cmp p (us ++ vs) ≡ find name_cmp p (xs ++ ys)
-  find_both p xs ys us vs first second = either us vs ∙ (λ i. option_or (first i) (second i)) ∙ sym (either xs ys)
-    where
-      either : (xs ys : List (Name × V)) → find name_cmp p (xs ++ ys) ≡ option_or (find name_cmp p xs) (find name_cmp p ys)
-      either [] ys = refl
-      either (x ∷ xs) ys = elim (eq_by_cmp name_cmp p x.0) as (λ b. cond b (Some x.1) (find name_cmp p (xs ++ ys)) ≡ option_or (cond b (Some x.1) (find name_cmp p xs)) (find name_cmp p ys)) [
-        | true ↦ refl
-        | false ↦ either xs ys
-      ]
+  pub find_either : (p : Name) (xs ys : List (Name × V)) → find name_cmp p (xs ++ ys) ≡ option_or (find name_cmp p xs) (find name_cmp p ys)
+  find_either p [] ys = refl
+  find_either p (x ∷ xs) ys = elim (eq_by_cmp name_cmp p x.0) as (λ b. cond b (Some x.1) (find name_cmp p (xs ++ ys)) ≡ option_or (cond b (Some x.1) (find name_cmp p xs)) (find name_cmp p ys)) [
+    | true ↦ refl
+    | false ↦ find_either p xs ys
+  ]
 
-  -- of different names in rows those in one row are different
   absent_first : (q : Name) (xs ys : List (Name × V)) → find name_cmp q (xs ++ ys) ≡ None → find name_cmp q xs ≡ None
-  absent_first q xs ys none = go (find name_cmp q xs) refl
-    where
-      go : (o : Option V) → find name_cmp q xs ≡ o → find name_cmp q xs ≡ None
-      go None e = e
-      go (Some v) e = absurd (none-some v (sym none ∙ found_first q v xs ys e))
+  absent_first q xs ys none = no_value (find name_cmp q xs) (λ v e. none-some v (sym none ∙ found_first q v xs ys e))
 
   absent_second : (q : Name) (xs ys : List (Name × V)) → find name_cmp q (xs ++ ys) ≡ None → find name_cmp q ys ≡ None
   absent_second q xs ys none = sym (find-append q xs ys (absent_first q xs ys none)) ∙ none
@@ -176,10 +165,12 @@ module _ {V : Type 0} where
   absent_row q (row ∷ rows) zero none = absent_first q (taken_in row) (flat_map taken_in rows) none
   absent_row q (row ∷ rows) (suc r) none = absent_row q rows r (absent_second q (taken_in row) (flat_map taken_in rows) none)
 
+  -- pairs of different names are so in each part,
   apart_split : (xs ys : List (Name × V)) → NamesApart (xs ++ ys) → NamesApart xs × NamesApart ys
   apart_split [] ys apart = (tt, apart)
   apart_split (x ∷ xs) ys apart = let rest = apart_split xs ys apart.1 in ((absent_first x.0 xs ys apart.0, rest.0), rest.1)
 
+  -- so in each row,
   apart_row : (rows : List (List (Slot V))) (r : ℕ) → NamesApart (flat_map taken_in rows) → NamesApart (taken_in (row_at rows r))
   apart_row [] r apart = tt
   apart_row (row ∷ rows) zero apart = (apart_split (taken_in row) (flat_map taken_in rows) apart).0
@@ -195,6 +186,7 @@ module _ {V : Type 0} where
       absurd (none-some v (sym (absent_row q rows r (apart_found q w (taken_in row) (flat_map taken_in rows) apart also)) ∙ is))
   one_row q v w (row ∷ rows) (suc r) (suc u) apart is also = ap suc (one_row q v w rows r u (apart_split (taken_in row) (flat_map taken_in rows) apart).1 is also)
 
+  -- and in each bucket of some stripes
   apart_in : (hs : Stripes V) (t r : ℕ) → ((u : ℕ) (c : Content V) → Holds hs u c → NamesApart (pairs_in c)) → NamesApart (taken_in (row_at (rows_of hs t) r))
   apart_in [] t r each = tt
   apart_in (h ∷ hs) t r each = elim (h.0 == t) as (λ b. NamesApart (taken_in (row_at (cond b h.1.rows (rows_of hs t)) r))) [
@@ -202,7 +194,7 @@ module _ {V : Type 0} where
     | false ↦ apart_in hs t r (λ u c g. each u c (inr g))
   ]
 
-  -- four slots that are full have four entries
+  -- n slots that are full have n entries
   full_many : (n : ℕ) (slots : List (Slot V)) → ((i : ℕ) → i < n → IsSome (slot_at slots i)) → n ≤ length (taken_in slots)
   full_many zero slots full = omega arith
   full_many (suc n) [] full = absurd (false≢true (full 0 (omega arith)))
@@ -226,13 +218,9 @@ module _ {V : Type 0} where
         )
 
     unbound_there : (q : Name) → get (bindings hs) q ≡ None → (b : ℕ) → find name_cmp q (taken_in (bucket_in k hs b)) ≡ None
-    unbound_there q none b = go (find name_cmp q (taken_in (bucket_in k hs b))) refl
-      where
-        go : (o : Option V) → find name_cmp q (taken_in (bucket_in k hs b)) ≡ o → find name_cmp q (taken_in (bucket_in k hs b)) ≡ None
-        go None e = e
-        go (Some v) e =
-            let by = bound_by b q v e in
-            absurd (none-some v (sym none ∙ bound_from hs lawful.once lawful.distinct (b % 2 ^ k.s) by.0 q v by.1 by.3))
+    unbound_there q none b = no_value (find name_cmp q (taken_in (bucket_in k hs b))) (λ v e.
+        let by = bound_by b q v e in
+        none-some v (sym none ∙ bound_from hs lawful.once lawful.distinct (b % 2 ^ k.s) by.0 q v by.1 by.3))
 
     -- a name stands in one bucket
     one_bucket : (b d : ℕ) (q : Name) (v w : V) → find name_cmp q (taken_in (bucket_in k hs b)) ≡ Some v → find name_cmp q (taken_in (bucket_in k hs d)) ≡ Some w → b ≡ d
@@ -253,13 +241,9 @@ module _ {V : Type 0} where
 
     apart_two : (b d : ℕ) → b ≢ d → NamesApart (pairs_at k hs (b ∷ d ∷ []))
     apart_two b d ne = apart-append (taken_in (bucket_in k hs b)) (pairs_at k hs (d ∷ [])) (apart_at b) (apart_one d)
-        (λ q w some found. some (go q w found (find name_cmp q (taken_in (bucket_in k hs b))) refl))
-      where
-        go : (q : Name) (w : V) → find name_cmp q (pairs_at k hs (d ∷ [])) ≡ Some w → (o : Option V) → find name_cmp q (taken_in (bucket_in k hs b)) ≡ o → find name_cmp q (taken_in (bucket_in k hs b)) ≡ None
-        go q w found None e = e
-        go q w found (Some v) e = ⊎_elim
-            (λ also. absurd (ne (one_bucket b d q v w e also)))
-            (λ also. absurd (none-some w also)) (found_either q w (taken_in (bucket_in k hs d)) [] found)
+        (λ q w some found. ⊎_elim
+        (λ also. some (no_value (find name_cmp q (taken_in (bucket_in k hs b))) (λ v is. ne (one_bucket b d q v w is also))))
+        (λ also. none-some w also) (found_either q w (taken_in (bucket_in k hs d)) [] found))
 
     apart_some : (q : Name) (bs : List ℕ) → AreSomeOf k hs q bs → NamesApart (pairs_at k hs bs)
     apart_some q bs some =
@@ -278,18 +262,16 @@ module _ {V : Type 0} where
 
     -- a name stands in no bucket but its own
     not_there : (b : ℕ) (q : Name) → is_bucket k (power_of hs) b q ≡ false → find name_cmp q (taken_in (bucket_in k hs b)) ≡ None
-    not_there b q out = go (find name_cmp q (taken_in (bucket_in k hs b))) refl
-      where
-        go : (o : Option V) → find name_cmp q (taken_in (bucket_in k hs b)) ≡ o → find name_cmp q (taken_in (bucket_in k hs b)) ≡ None
-        go None e = e
-        go (Some v) e =
-            let at : (i : ℕ) × (slot_at (bucket_in k hs b) i ≡ Some (q, v)) = found_slot q (bucket_in k hs b) v e in
-            absurd (false≢true (sym out ∙ is_bucket_of k (power_of hs) b q (home k hs lawful b at.0 q v at.1)))
+    not_there b q out = no_value (find name_cmp q (taken_in (bucket_in k hs b))) (λ v e.
+        let at : (i : ℕ) × (slot_at (bucket_in k hs b) i ≡ Some (q, v)) = found_slot q (bucket_in k hs b) v e in
+        false≢true (sym out ∙ is_bucket_of k (power_of hs) b q (home k hs lawful b at.0 q v at.1)))
 
     not_among : (bs : List ℕ) (q : Name) → has_bucket k hs bs q ≡ false → find name_cmp q (pairs_at k hs bs) ≡ None
     not_among [] q out = refl
     not_among (b ∷ bs) q out =
-        let none = none_of (b == index_of (power_of hs) (k.hash q)) (b == second_of (power_of hs) (k.hash q)) (has_bucket k hs bs q) out in
+        let first : Bool = b == index_of (power_of hs) (k.hash q) in
+        let second : Bool = b == second_of (power_of hs) (k.hash q) in
+        let none = or_parts (first || second) (has_bucket k hs bs q) (or_three first second (has_bucket k hs bs q) ∙ out) in
         not_found q (taken_in (bucket_in k hs b)) (pairs_at k hs bs) (not_there b q none.0) (not_among bs q none.1)
 
     -- Whether the name may come to these buckets or stands there, it counts once where they have one of its own.
@@ -328,10 +310,11 @@ module _ {V : Type 0} where
     AreOwn q bs = AllByRecursion (IsBucketOf k.hash (power_of hs) q) bs × (has_bucket k hs bs q ≡ true)
 
     own_more : (q : Name) (b : ℕ) (bs : List ℕ) → IsBucketOf k.hash (power_of hs) q b → AllByRecursion (IsBucketOf k.hash (power_of hs) q) bs → AreOwn q (b ∷ bs)
-    own_more q b bs own rest = (
-      (own, rest),
-      first_two (b == index_of (power_of hs) (k.hash q)) (b == second_of (power_of hs) (k.hash q)) (has_bucket k hs bs q) (is_bucket_of k (power_of hs) b q own),
-    )
+    own_more q b bs own rest =
+        let first : Bool = b == index_of (power_of hs) (k.hash q) in
+        let second : Bool = b == second_of (power_of hs) (k.hash q) in
+        let some : ((first || second) || has_bucket k hs bs q) ≡ true = or_left (first || second) (has_bucket k hs bs q) (is_bucket_of k (power_of hs) b q own) in
+        ((own, rest), sym (or_three first second (has_bucket k hs bs q)) ∙ some)
 
     own_some : (q : Name) (bs : List ℕ) → AreSomeOf k hs q bs → AreOwn q bs
     own_some q bs some =
@@ -364,7 +347,9 @@ module _ {V : Type 0} where
     found_kept : (p : Name) → p ≢ q → (bs : List ℕ) → find name_cmp p (pairs_at k ks bs) ≡ find name_cmp p (pairs_at k hs bs)
     found_kept p ne [] = refl
     found_kept p ne (b ∷ bs) =
-        find_both p (taken_in (bucket_in k hs b)) (pairs_at k hs bs) (taken_in (bucket_in k ks b)) (pairs_at k ks bs) (find_kept p q ne (bucket_in k hs b) (bucket_in k ks b) (kept b)) (found_kept p ne bs)
+        find_either p (taken_in (bucket_in k ks b)) (pairs_at k ks bs)
+        ∙ (λ i. option_or (find_kept p q ne (bucket_in k hs b) (bucket_in k ks b) (kept b) i) (found_kept p ne bs i))
+        ∙ sym (find_either p (taken_in (bucket_in k hs b)) (pairs_at k hs bs))
 
     may_other : (bs : List ℕ) (p : Name) → p ≢ q → may_come k ks bs p ≡ may_come k hs bs p
     may_other bs p ne = λ i. own_kept bs p i && is_none (found_kept p ne bs i)

@@ -1,5 +1,6 @@
 //! Where a key may be among held stripes.
 ghost use Rattle.std.specs.Prelude.{◌≡◌, ◌==◌, ◌||◌};
+ghost use Rattle.std.specs.List.{list_any};
 
 use ck_stripe::HeldSlot;
 
@@ -42,5 +43,18 @@ impl KeyPlace {
         ensures { result ≡ ((bucket == self.first.bucket) || (bucket == self.alternate.bucket)) }
     {
         bucket == self.first.bucket || bucket == self.alternate.bucket
+    }
+
+    // Whether one of the buckets is one of the two.
+    pub(crate) fn has_one_of(self, buckets: &[HeldBucket]) -> bool
+        ensures { result ≡ list_any (λ (b : HeldBucket). (b.bucket == self.first.bucket)
+            || (b.bucket == self.alternate.bucket)) buckets.now }
+    {
+        for i in 0..buckets.len() {
+            if self.has_bucket(buckets[i].bucket) {
+                return true;
+            }
+        }
+        false
     }
 }

@@ -3,6 +3,7 @@ use Rattle.std.proofs.lemmas.List.{take_all}
 use Rattle.ck_model.specs.Contents.{Layout, layout, Stripes}
 use Rattle.ck_stripe.specs.Stripe.{StripeState}
 use Rattle.ck_stripe.specs.Stripes.{contents_of}
+use Rattle.ck_section.specs.HeldBuckets.{numbers_of}
 use Rattle.ck_section.specs.RoomForAll.{coming, may_come}
 use Rattle.ck_section.proofs.SeveralKeys.{key_among}
 use Rattle.ck_section.proofs.RoomForAll.{one}
@@ -34,13 +35,13 @@ loop-i-preserved g c =
       ];
       so_far = λ max lawful.
           let k : Layout = layout g.K.TableKey.hash c.args.s max in
-          let may : c.can_come.result ≡ may_come k (contents_of old) c.args.at.bucket (g.Q.Query.name key.result) =
-          lawful_still g.K.TableKey.hash c.args.s max old (g.H.Held.stripes c.loop-i.held) l.same (λ (hs : Stripes g.row.V.Denot). c.can_come.result ≡ may_come k hs c.args.at.bucket (g.Q.Query.name key.result)) (c.can_come.ensures.may max) lawful in
+          let may : c.can_come.result ≡ may_come k (contents_of old) (numbers_of c.args.at.now) (g.Q.Query.name key.result) =
+          lawful_still g.K.TableKey.hash c.args.s max old (g.H.Held.stripes c.loop-i.held) l.same (λ (hs : Stripes g.row.V.Denot). c.can_come.result ≡ may_come k hs (numbers_of c.args.at.now) (g.Q.Query.name key.result)) (c.can_come.ensures.may max) lawful in
           counted ∙ (λ j. l.so_far max lawful j + one (may j))
-          ∙ sym (coming_next g.Q.Query.name k (contents_of old) c.args.at.bucket c.args.keys.now c.loop-i.i key.result (omega arith) key.is);
+          ∙ sym (coming_next g.Q.Query.name k (contents_of old) (numbers_of c.args.at.now) c.args.keys.now c.loop-i.i key.result (omega arith) key.is);
     }
 
 pub returns-clause-count : goal.returns-clause-count
 returns-clause-count g c max lawful =
     c.loop-i.invariant.so_far max lawful
-    ∙ ap (λ (keys : List g.row.Q.Denot). coming (layout g.K.TableKey.hash c.args.s max) (contents_of (g.H.Held.stripes c.args.held.now)) c.args.at.bucket (map g.Q.Query.name keys)) (take_all c.loop-i.i c.args.keys.now (omega arith))
+    ∙ ap (λ (keys : List g.row.Q.Denot). coming (layout g.K.TableKey.hash c.args.s max) (contents_of (g.H.Held.stripes c.args.held.now)) (numbers_of c.args.at.now) (map g.Q.Query.name keys)) (take_all c.loop-i.i c.args.keys.now (omega arith))

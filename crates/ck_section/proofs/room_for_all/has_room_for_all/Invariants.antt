@@ -1,8 +1,8 @@
 use Rattle.std.proofs.Common.{◌≡◌, ℕ, map, take}
 use Rattle.ck_model.specs.Promise.{Name, IsAmong}
-use Rattle.ck_model.specs.Contents.{layout, Lawful, IsBucketOf, power_of}
+use Rattle.ck_model.specs.Contents.{layout, Lawful}
 use Rattle.ck_stripe.specs.Stripes.{contents_of}
-use Rattle.ck_section.specs.RoomForAll.{HasSlots}
+use Rattle.ck_section.proofs.RoomTested.{FindsSlots}
 use Rattle.ck_section.proofs.room_for_all.has_room_for_all.Given as goal
 
 abbrev pub invariant-loop-i : goal.invariant-loop-i
@@ -11,6 +11,5 @@ invariant-loop-i g l = record {
   stays : g.H.Held.stays l.initial.held l.held;
   so_far : (max : ℕ) → Lawful (layout g.K.TableKey.hash l.s max) (contents_of (g.H.Held.stripes l.initial.held))
       → (q : Name) → IsAmong q (map g.Q.Query.name (take l.i l.keys))
-      → (b : ℕ) × IsBucketOf g.K.TableKey.hash (power_of (contents_of (g.H.Held.stripes l.initial.held))) q b
-      × HasSlots (layout g.K.TableKey.hash l.s max) (contents_of (g.H.Held.stripes l.initial.held)) (map g.Q.Query.name l.keys) b;
+      → FindsSlots (layout g.K.TableKey.hash l.s max) (map g.Q.Query.name l.keys) q (contents_of (g.H.Held.stripes l.initial.held));
 }
