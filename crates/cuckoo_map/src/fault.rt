@@ -3,8 +3,8 @@ ghost use Rattle.std.specs.Prelude.{◌≡◌};
 
 use crate::pool::{AllLent, NoList, NoPool};
 use crate::refusal::{
-    Busy, DrainFault, GrowFault, KeysNotLocked, KeysRefused, KeysWithoutRoom, NoCallers, NoSlot, NotDrained,
-    NotLocked, NotRenamed, OpenFault, Refused, RoomFault, Why,
+    Busy, DrainFault, GrowFault, KeysNotLocked, KeysRefused, KeysWithoutRoom, NoCallers, NoSlot,
+    NotDrained, NotLocked, NotRenamed, OpenFault, Refused, RoomFault, Why,
 };
 use ck_key::{KeyFault, TableKey};
 use ck_model::settings::OutOfRange;
