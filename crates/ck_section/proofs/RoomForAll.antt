@@ -37,6 +37,11 @@ is_bucket_of k p b q of = ⊎_elim
     (λ e. or_left (b == index_of p (k.hash q)) (b == second_of p (k.hash q)) (eq-eqb b (index_of p (k.hash q)) e))
     (λ e. or_right (b == index_of p (k.hash q)) (b == second_of p (k.hash q)) (eq-eqb b (second_of p (k.hash q)) e)) of
 
+-- what has no value
+pub no_value : {A : Type 0} (o : Option A) → ((x : A) → ¬ (o ≡ Some x)) → o ≡ None
+no_value None none = refl
+no_value (Some x) none = absurd (none x refl)
+
 module _ {V : Type 0} where
   -- what KeepsOthers says of a slot
   abbrev IsKept : Name → Slot V → Slot V → Type 0
@@ -110,23 +115,21 @@ module _ {V : Type 0} where
       (λ e. ap (λ (slot : Slot V). find name_cmp p (taken_in (slot ∷ ys))) e ∙ same_first p x xs ys rest)
       (λ (f : IsFreeFor q x × IsFreeFor q y). skipped p q ne y ys f.1 ∙ rest ∙ sym (skipped p q ne x xs f.0)) (kept 0)
 
-  -- of different names in rows those in one row are different
   absent_first : (q : Name) (xs ys : List (Name × V)) → find name_cmp q (xs ++ ys) ≡ None → find name_cmp q xs ≡ None
-  absent_first q xs ys none = go (find name_cmp q xs) refl
-    where
-      go : (o : Option V) → find name_cmp q xs ≡ o → find name_cmp q xs ≡ None
-      go None e = e
-      go (Some v) e = absurd (none-some v (sym none ∙ found_first q v xs ys e))
+  absent_first q xs ys none = no_value (find name_cmp q xs) (λ v e. none-some v (sym none ∙ found_first q v xs ys e))
 
+  -- pairs of different names are so in each part,
   apart_split : (xs ys : List (Name × V)) → NamesApart (xs ++ ys) → NamesApart xs × NamesApart ys
   apart_split [] ys apart = (tt, apart)
   apart_split (x ∷ xs) ys apart = let rest = apart_split xs ys apart.1 in ((absent_first x.0 xs ys apart.0, rest.0), rest.1)
 
+  -- so in each row,
   apart_row : (rows : List (List (Slot V))) (r : ℕ) → NamesApart (flat_map taken_in rows) → NamesApart (taken_in (row_at rows r))
   apart_row [] r apart = tt
   apart_row (row ∷ rows) zero apart = (apart_split (taken_in row) (flat_map taken_in rows) apart).0
   apart_row (row ∷ rows) (suc r) apart = apart_row rows r (apart_split (taken_in row) (flat_map taken_in rows) apart).1
 
+  -- and in each bucket of some stripes
   apart_in : (hs : Stripes V) (t r : ℕ) → ((u : ℕ) (c : Content V) → Holds hs u c → NamesApart (pairs_in c)) → NamesApart (taken_in (row_at (rows_of hs t) r))
   apart_in [] t r each = tt
   apart_in (h ∷ hs) t r each = elim (h.0 == t) as (λ b. NamesApart (taken_in (row_at (cond b h.1.rows (rows_of hs t)) r))) [
@@ -134,7 +137,7 @@ module _ {V : Type 0} where
     | false ↦ apart_in hs t r (λ u c g. each u c (inr g))
   ]
 
-  -- four slots that are full have four entries
+  -- n slots that are full have n entries
   full_many : (n : ℕ) (slots : List (Slot V)) → ((i : ℕ) → i < n → IsSome (slot_at slots i)) → n ≤ length (taken_in slots)
   full_many zero slots full = omega arith
   full_many (suc n) [] full = absurd (false≢true (full 0 (omega arith)))
@@ -155,21 +158,13 @@ module _ {V : Type 0} where
         (subst (λ (rows : List (List (Slot V))). slot_at (row_at rows (b / 2 ^ k.s)) at.0 ≡ Some (q, v)) held.2 at.1))
 
     unbound_there : (b : ℕ) (q : Name) → get (bindings hs) q ≡ None → find name_cmp q (taken_in (bucket_in k hs b)) ≡ None
-    unbound_there b q none = go (find name_cmp q (taken_in (bucket_in k hs b))) refl
-      where
-        go : (o : Option V) → find name_cmp q (taken_in (bucket_in k hs b)) ≡ o → find name_cmp q (taken_in (bucket_in k hs b)) ≡ None
-        go None e = e
-        go (Some v) e = absurd (none-some v (sym none ∙ bound_there b q v e))
+    unbound_there b q none = no_value (find name_cmp q (taken_in (bucket_in k hs b))) (λ v e. none-some v (sym none ∙ bound_there b q v e))
 
     -- a name stands in no bucket but its own
     not_there : (b : ℕ) (q : Name) → is_bucket k (power_of hs) b q ≡ false → find name_cmp q (taken_in (bucket_in k hs b)) ≡ None
-    not_there b q out = go (find name_cmp q (taken_in (bucket_in k hs b))) refl
-      where
-        go : (o : Option V) → find name_cmp q (taken_in (bucket_in k hs b)) ≡ o → find name_cmp q (taken_in (bucket_in k hs b)) ≡ None
-        go None e = e
-        go (Some v) e =
-            let at : (i : ℕ) × (slot_at (bucket_in k hs b) i ≡ Some (q, v)) = found_slot q (bucket_in k hs b) v e in
-            absurd (false≢true (sym out ∙ is_bucket_of k (power_of hs) b q (home k hs lawful b at.0 q v at.1)))
+    not_there b q out = no_value (find name_cmp q (taken_in (bucket_in k hs b))) (λ v e.
+        let at : (i : ℕ) × (slot_at (bucket_in k hs b) i ≡ Some (q, v)) = found_slot q (bucket_in k hs b) v e in
+        false≢true (sym out ∙ is_bucket_of k (power_of hs) b q (home k hs lawful b at.0 q v at.1)))
 
     -- Whether the name may come to a bucket or stands there, it counts once in its buckets.
     total : (b : ℕ) (q : Name) → one (may_come k hs b q) + length (taken_in (bucket_in k hs b)) ≡ others q (bucket_in k hs b) + one (is_bucket k (power_of hs) b q)

@@ -23,7 +23,7 @@ use Rattle.ck_section.specs.declared.place.KeyPlace.{KeyPlace}
 use Rattle.ck_section.specs.Places.{HasBoth, IsPlaceOf}
 use Rattle.ck_section.specs.RoomForAll.{may_come, coming, HasSlots}
 use Rattle.ck_section.proofs.Found.{slot_held}
-use Rattle.ck_section.proofs.RoomForAll.{one, is_bucket}
+use Rattle.ck_section.proofs.RoomForAll.{one, is_bucket, no_value}
 use Rattle.ck_section.proofs.SeveralKeys.{names_more}
 
 -- a name among some and one more
@@ -47,7 +47,8 @@ module _ {V : Type 0} where
   owned_still hash s old new same qs owned q among = subst (λ (ss : List (StripeState V)). HasBoth hash s ss q) (sym same) (owned q among)
 
   -- what holds of lawful stripes holds of them as they were
-  pub lawful_still : (hash : Name → ℕ) (s max : ℕ) (old new : List (StripeState V)) → new ≡ old → (P : Stripes V → Type 0) → (Lawful (layout hash s max) (contents_of new) → P (contents_of new)) → Lawful (layout hash s max) (contents_of old) → P (contents_of old)
+  pub lawful_still : (hash : Name → ℕ) (s max : ℕ) (old new : List (StripeState V)) → new ≡ old → (P : Stripes V → Type 0)
+      → (Lawful (layout hash s max) (contents_of new) → P (contents_of new)) → Lawful (layout hash s max) (contents_of old) → P (contents_of old)
   lawful_still hash s max old new same P = subst (λ (ss : List (StripeState V)). Lawful (layout hash s max) (contents_of ss) → P (contents_of ss)) same
 
   -- one of the name's buckets has a free slot for each of the names that may come there
@@ -71,11 +72,7 @@ module _ {V : Type 0} where
 
   -- a name that no slot has isn't found
   lacking : (q : Name) (slots : List (Slot V)) → LacksName slots q → is_none (find name_cmp q (taken_in slots)) ≡ true
-  lacking q slots lacks = go (find name_cmp q (taken_in slots)) refl
-    where
-      go : (o : Option V) → find name_cmp q (taken_in slots) ≡ o → is_none o ≡ true
-      go None e = refl
-      go (Some v) e = let z = found_slot q slots v e in absurd (lacks z.0 v z.1)
+  lacking q slots lacks = ap is_none (no_value (find name_cmp q (taken_in slots)) (λ v e. let z = found_slot q slots v e in lacks z.0 v z.1))
 
   -- what a slot has is found
   having : (q : Name) (v : V) (slots : List (Slot V)) (i : ℕ) → slot_at slots i ≡ Some (q, v) → is_none (find name_cmp q (taken_in slots)) ≡ false
@@ -96,10 +93,11 @@ module _ {V : Type 0} where
   looked q slots (Some i) false is found absent = having q found.0 slots i found.1
 
   module _ (hash : Name → ℕ) (s max : ℕ) (stripes : List (StripeState V)) (lawful : Lawful (layout hash s max) (contents_of stripes)) where
-    -- the two buckets of a place are those of the name
+    -- each stripe has the power that the contents show,
     power_at : (i : ℕ) → i < length stripes → (stripe_at stripes i).content.power ≡ power_of (contents_of stripes)
     power_at i lt = sym (power_held (layout hash s max) (contents_of stripes) (stripe_at stripes i).number (stripe_at stripes i).content lawful (holds_at stripes i lt))
 
+    -- and the two buckets of a place are those of the name
     first_is : (q : Name) (place : KeyPlace) → IsPlaceOf hash stripes q place → place.first.bucket ≡ index_of (power_of (contents_of stripes)) (hash q)
     first_is q place of = of.first ∙ ap (λ p. index_of p (hash q)) (power_at place.first.index of.first_reach.inside)
 
@@ -110,6 +108,7 @@ module _ {V : Type 0} where
         → ((b == place.first.bucket) || (b == place.alternate.bucket)) ≡ is_bucket (layout hash s max) (power_of (contents_of stripes)) b q
     own_is q place of b = λ z. (b == first_is q place of z) || (b == second_is q place of z)
 
+    -- whether a name may come, where the bucket is none of its two, and where a look into it tells
     pub may_not : (q : Name) (place : KeyPlace) → IsPlaceOf hash stripes q place → (b : ℕ) → ((b == place.first.bucket) || (b == place.alternate.bucket)) ≡ false
         → false ≡ may_come (layout hash s max) (contents_of stripes) b q
     may_not q place of b out = sym (
@@ -128,6 +127,7 @@ module _ {V : Type 0} where
     )
 
     module _ (i b : ℕ) (reach : IsInReach stripes i b) (one_s : (stripe_at stripes i).s ≡ s) where
+      -- the bucket is one of the contents
       here : bucket_in (layout hash s max) (contents_of stripes) b ≡ bucket_at stripes i b
       here = slot_held stripes i b 0 lawful.distinct reach.inside reach.own s one_s
 
