@@ -65,7 +65,7 @@ module _ {V : Type 0} where
       (sought.more, sought.own, since, grown_until p m z sought.grown (a.stays.doublings, a.stays.grown_from) (replied_seen a.replied))
 
   -- a refused call on several names keeps its caller's number
-  by_kept : (hash : Name → ℕ) (set : Settings) (names : List Name) (p q : PassState V) (e : KeysRefused) → RefusesNames hash set names p q e → q.view.by ≡ p.view.by
+  pub by_kept : (hash : Name → ℕ) (set : Settings) (names : List Name) (p q : PassState V) (e : KeysRefused) → RefusesNames hash set names p q e → q.view.by ≡ p.view.by
   by_kept hash set names p q (refused.Busy t) h = h.stays.by
   by_kept hash set names p q (refused.Twice i) h = ap (λ (x : PassState V). x.view.by) h.1
 

@@ -12,12 +12,15 @@ use Rattle.ck_words.specs.Renewing.{HasRenewed}
 use Rattle.ck_words.specs.Closing.{IsCaller}
 use Rattle.ck_words.proofs.Staying.{stays_on}
 use Rattle.ck_words.proofs.Renewals.{renewed_none}
+use Rattle.cuckoo_map.specs.declared.refusal.RoomFault.{RoomFault}
+use Rattle.cuckoo_map.specs.declared.refusal.RoomFault.TheVariants as fault
 use Rattle.cuckoo_map.specs.declared.refusal.Why.{Why}
 use Rattle.cuckoo_map.specs.Refusals.{IsRefused}
 use Rattle.cuckoo_map.specs.Insertions.{HasSoughtRoom}
 use Rattle.cuckoo_map.specs.SeveralKeys.{IsStripeOfAny, HoldsNames}
 use Rattle.cuckoo_map.specs.LockedKeys.{HoldsKeys}
-use Rattle.cuckoo_map.specs.RoomForKeys.{SeeksRoomForEach, LacksRoomForOne, LetsGo}
+use Rattle.cuckoo_map.specs.RoomForKeys.{SeeksRoomForEach, LacksRoomForOne, LetsGo, MakesRoomForEach, RefusesRoom}
+use Rattle.cuckoo_map.proofs.Callers.{by_kept}
 use Rattle.cuckoo_map.proofs.Counted.{released_alike}
 use Rattle.cuckoo_map.proofs.SeveralKeys.{names_next}
 use Rattle.cuckoo_map.proofs.HeldKeys.{same_pass, holds_keys, none_doubled}
@@ -73,3 +76,23 @@ module _ {V : Type 0} {hash : Name → ℕ} {w : WordsState} {stripes : StripeSe
 
     pub let_go : FindsAmong (IsStripeOfAny hash w.settings names) p p1 → LetsGo hash w.settings names p z
     let_go found = (stays_on p.view p1.view z.view h.stays home.stays, (found.0, home.found ∙ found.1, found.2))
+
+-- A call on the names keeps its caller's number.
+module _ {V : Type 0} (hash : Name → ℕ) (set : Settings) where
+  by_sought : (qs : List Name) (p z : PassState V) → SeeksRoomForEach hash set qs p z → z.view.by ≡ p.view.by
+  by_sought [] p z h = ap (λ (x : PassState V). x.view.by) h
+  by_sought (q ∷ qs) p z h = by_sought qs h.0 z h.2 ∙ h.1.stays.by
+
+  by_lacking : (qs : List Name) (why : Why) (p z : PassState V) → LacksRoomForOne hash set qs why p z → z.view.by ≡ p.view.by
+  by_lacking [] why p z h = absurd h
+  by_lacking (q ∷ qs) why p z (inl h) = h.stays.by
+  by_lacking (q ∷ qs) why p z (inr h) = by_lacking qs why h.0 z h.2 ∙ h.1.stays.by
+
+  by_made : (qs : List Name) (p z : PassState V) → MakesRoomForEach hash set qs p z → z.view.by ≡ p.view.by
+  by_made qs p z (inl h) = ap (λ (x : PassState V). x.view.by) h
+  by_made qs p z (inr h) = by_sought qs h.0 z h.2 ∙ h.1.0.by
+
+  pub by_without_room : (qs : List Name) (p z : PassState V) (e : RoomFault) → RefusesRoom hash set qs p z e → z.view.by ≡ p.view.by
+  by_without_room qs p z (fault.Keys why) h = by_kept hash set qs h.0 z why h.2 ∙ by_made qs p h.0 h.1
+  by_without_room qs p z (fault.Room why) h = by_lacking qs why h.0 z h.2 ∙ h.1.0.by
+  by_without_room qs p z fault.NoSlot h = h.4.0.by ∙ (by_sought qs h.0 h.1 h.3 ∙ h.2.0.by)

@@ -4,7 +4,8 @@ ghost use Rattle.ck_model.specs.Promise.{AreDifferent};
 ghost use Rattle.ck_section.specs.RoomForAll.{HaveRoomForAll};
 ghost use Rattle.ck_words.specs.Passes.{IsPassOf};
 ghost use Rattle.ck_words.specs.Closing.{IsCaller};
-ghost use Rattle.cuckoo_map.specs.SeveralKeys.{HoldsNames, RefusesNames};
+ghost use Rattle.ck_words.specs.Retries.{FindsAmong};
+ghost use Rattle.cuckoo_map.specs.SeveralKeys.{IsStripeOfAny, HoldsNames, RefusesNames};
 ghost use Rattle.cuckoo_map.specs.RoomForKeys.{SeeksRoomForEach, LacksRoomForOne, LetsGo, MakesRoomForEach, RefusesRoom};
 
 use crate::refusal::{KeysRefused, RoomFault, Why};
@@ -29,6 +30,8 @@ impl<K: TableKey + Drop, V: Drop> Table<K, V> {
         ensures held { IfOk result (λ stripes. (m : _) × IsCaller self.now m
             × MakesRoomForEach K.hash self.now.settings (map (λ k. K.name k.now) keys.now) pass.old m
             × HoldsNames K.hash self.now.settings (map (λ k. K.name k.now) keys.now) stripes m pass.new
+            × FindsAmong (IsStripeOfAny K.hash self.now.settings (map (λ k. K.name k.now) keys.now))
+            m pass.new
             × HaveRoomForAll K.hash self.now.settings.s pass.new.stripes
             (map (λ k. K.name k.now) keys.now)) }
         ensures caller { OnErr result (IsCaller self.now pass.new) }
@@ -65,6 +68,9 @@ impl<K: TableKey + Drop, V: Drop> Table<K, V> {
             pass.old pass.new
             × HaveRoomForAll K.hash self.now.settings.s pass.new.stripes
             (map (λ k. K.name k.now) keys.now))) }
+        ensures found { FindsAmong
+            (IsStripeOfAny K.hash self.now.settings (map (λ k. K.name k.now) keys.now))
+            pass.old pass.new }
         ensures caller { OnErr result (IsCaller self.now pass.new) }
         ensures refused { IfErr result (RefusesNames K.hash self.now.settings
             (map (λ k. K.name k.now) keys.now) pass.old pass.new) }

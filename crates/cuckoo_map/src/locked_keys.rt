@@ -1,5 +1,5 @@
 //! Some keys under one caller.
-ghost use Rattle.std.specs.Prelude.{◌≡◌, ◌<◌, ◌≤◌, Some, None, IsOk, IfOk, IfErr, MatchOption, MatchBool, map, is_some};
+ghost use Rattle.std.specs.Prelude.{◌≡◌, ◌<◌, ◌≤◌, Some, None, IsOk, IfOk, IfErr, MatchOption, MatchBool, length, map, is_some};
 ghost use Rattle.std.specs.Fn.{FnOnceReturnsAt};
 ghost use Rattle.ck_model.specs.declared.history.Reply.TheVariants.{Closed};
 ghost use Rattle.ck_model.specs.Promise.{IsAmong, Replied};
@@ -108,12 +108,12 @@ impl<T: TableRef<K, V> + Drop, K: TableKey + Drop, V: Drop> CallerOn<T, K, V> {
     /// let _ = locked.insert(NumKey(2), 20);
     /// let mut caller = locked.unlock();
     /// ```
-    pub fn lock_keys_with_room<'k, const N: usize>(
+    pub fn lock_keys_with_room<'k>(
         self,
-        keys: &'k [&'k K; N],
+        keys: &'k [&'k K],
     ) -> Result<LockedKeysOn<'k, T, K, V, &'k K>, KeysWithoutRoom<CallerOn<T, K, V>>>
-        requires some { 0 < N }
-        requires few { N ≤ 8 }
+        requires some { 0 < length keys.now }
+        requires few { length keys.now ≤ 8 }
         ensures locked { IfOk result (λ locked. (m : _)
             × MakesRoomForEach K.hash self.table.settings (map (λ k. K.name k.now) keys.now) (pass_of self) m
             × HasLockedKeys K.hash (map (λ k. K.name k.now) keys.now) (caller_of self.table m) locked) }

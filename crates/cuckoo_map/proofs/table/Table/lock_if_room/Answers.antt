@@ -1,6 +1,7 @@
-use Rattle.std.proofs.Common.{rules, ◌≡◌, ◌∙◌, ℕ, map, sym, subst}
+use Rattle.std.proofs.Common.{rules, ◌≡◌, ◌∙◌, ℕ, map, sym, ap, subst}
 use Rattle.ck_section.specs.Places.{HasBoth}
 use Rattle.ck_section.specs.RoomForAll.{HaveRoomForAll}
+use Rattle.ck_core.specs.declared.view.View.{View}
 use Rattle.ck_words.specs.Passes.{PassState}
 use Rattle.cuckoo_map.specs.SeveralKeys.{HoldsNames}
 use Rattle.cuckoo_map.proofs.HeldKeys.{same_pass}
@@ -49,3 +50,20 @@ returns-clause-answered g c =
       ends_home p p1 p2 c.requires.caller own different h e.stays.1 e.stays.2 e.same is z r.released r.doubled,
       let_go p p1 p2 c.requires.caller own different h e.stays.1 e.stays.2 e.same is z r.released r.doubled c.lock_different.ensures.found,
     )
+
+pub returns-clause-found : goal.returns-clause-found
+returns-clause-found g c =
+    let e = c.has_room_for_all.ensures in
+    let z = c.renew.new.self.pass.now in
+    let r = c.renew.ensures in
+    let there : z ≡ c.pass-2-1.given.0 = search rules in
+    let gone = let_go c.args.pass.now c.lock_different.new.pass c.has_room_for_all.new.held.pass.now c.requires.caller c.lock_different.ensures.own c.in_ok-stripes.ensures.different c.in_ok-stripes.ensures.held
+    e.stays.1 e.stays.2 e.same (e.stays.5 ∙ c.self.view_is) z r.released r.doubled c.lock_different.ensures.found in
+    rw (← there) gone.1
+
+pub returns-then-has_room_for_all-clause-found : goal.returns-then-has_room_for_all-clause-found
+returns-then-has_room_for_all-clause-found g c =
+    let z = c.has_room_for_all.new.held.pass.now in
+    let f = c.lock_different.ensures.found in
+    let there : z ≡ c.pass-1.given.0 = search rules in
+    rw (← there) (f.0, ap (λ (v : View g.row.V.Denot). v.found) c.has_room_for_all.ensures.stays.1 ∙ f.1, f.2)
