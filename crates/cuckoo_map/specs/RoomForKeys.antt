@@ -1,5 +1,6 @@
 -- Keys that are locked once there is room for each of them.
-use Rattle.std.specs.Prelude.{◌≡◌, ◌⊎◌, ℕ, List, [], ◌∷◌}
+use Rattle.std.specs.Prelude.{◌≡◌, ◌⊎◌, ℕ, List, [], ◌∷◌, map}
+use Rattle.std.specs.Borrow.{Bor}
 use Rattle.ck_model.specs.declared.settings.Settings.{Settings}
 use Rattle.ck_model.specs.Promise.{Name}
 use Rattle.ck_words.specs.Passes.{PassState}
@@ -10,6 +11,10 @@ use Rattle.cuckoo_map.specs.declared.refusal.Why.{Why}
 use Rattle.cuckoo_map.specs.Refusals.{IsRefused}
 use Rattle.cuckoo_map.specs.Insertions.{HasSoughtRoom}
 use Rattle.cuckoo_map.specs.SeveralKeys.{IsStripeOfAny, RefusesNames}
+
+-- the names of keys that are lent
+abbrev pub names_of : {K : Type 0} → (K → Name) → List (Bor K) → List Name
+names_of {K} name keys = map (λ (k : Bor K). name k.now) keys
 
 module _ {V : Type 0} where
   -- since p room was sought for each of the names in turn

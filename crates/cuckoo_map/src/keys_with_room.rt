@@ -1,12 +1,12 @@
 //! Keys that are locked once there is room for each of them.
-ghost use Rattle.std.specs.Prelude.{◌≡◌, ◌<◌, ◌≤◌, OnOk, OnErr, IfOk, IfErr, MatchOption, length, map};
+ghost use Rattle.std.specs.Prelude.{◌≡◌, ◌<◌, ◌≤◌, OnOk, OnErr, IfOk, IfErr, MatchOption, length};
 ghost use Rattle.ck_model.specs.Promise.{AreDifferent};
 ghost use Rattle.ck_section.specs.RoomForAll.{HaveRoomForAll};
 ghost use Rattle.ck_words.specs.Passes.{IsPassOf};
 ghost use Rattle.ck_words.specs.Closing.{IsCaller};
 ghost use Rattle.ck_words.specs.Retries.{FindsAmong};
 ghost use Rattle.cuckoo_map.specs.SeveralKeys.{IsStripeOfAny, HoldsNames, RefusesNames};
-ghost use Rattle.cuckoo_map.specs.RoomForKeys.{SeeksRoomForEach, LacksRoomForOne, LetsGo, MakesRoomForEach, RefusesRoom};
+ghost use Rattle.cuckoo_map.specs.RoomForKeys.{SeeksRoomForEach, LacksRoomForOne, LetsGo, MakesRoomForEach, RefusesRoom, names_of};
 
 use crate::refusal::{KeysRefused, RoomFault, Why};
 use crate::table::Table;
@@ -26,17 +26,17 @@ impl<K: TableKey + Drop, V: Drop> Table<K, V> {
         requires some { 0 < length keys.now }
         requires few { length keys.now ≤ 8 }
         ensures own { IsPassOf self.now pass.new }
-        ensures different { OnOk result (AreDifferent (map (λ k. K.name k.now) keys.now)) }
+        ensures different { OnOk result (AreDifferent (names_of K.name keys.now)) }
         ensures held { IfOk result (λ stripes. (m : _) × IsCaller self.now m
-            × MakesRoomForEach K.hash self.now.settings (map (λ k. K.name k.now) keys.now) pass.old m
-            × HoldsNames K.hash self.now.settings (map (λ k. K.name k.now) keys.now) stripes m pass.new
-            × FindsAmong (IsStripeOfAny K.hash self.now.settings (map (λ k. K.name k.now) keys.now))
+            × MakesRoomForEach K.hash self.now.settings (names_of K.name keys.now) pass.old m
+            × HoldsNames K.hash self.now.settings (names_of K.name keys.now) stripes m pass.new
+            × FindsAmong (IsStripeOfAny K.hash self.now.settings (names_of K.name keys.now))
             m pass.new
             × HaveRoomForAll K.hash self.now.settings.s pass.new.stripes
-            (map (λ k. K.name k.now) keys.now)) }
+            (names_of K.name keys.now)) }
         ensures caller { OnErr result (IsCaller self.now pass.new) }
         ensures refused { IfErr result (RefusesRoom K.hash self.now.settings
-            (map (λ k. K.name k.now) keys.now) pass.old pass.new) }
+            (names_of K.name keys.now) pass.old pass.new) }
     {
         if let Some(stripes) = self.lock_if_room(pass, keys)? {
             return Ok(stripes);
@@ -60,20 +60,20 @@ impl<K: TableKey + Drop, V: Drop> Table<K, V> {
         requires some { 0 < length keys.now }
         requires few { length keys.now ≤ 8 }
         ensures own { IsPassOf self.now pass.new }
-        ensures different { OnOk result (AreDifferent (map (λ k. K.name k.now) keys.now)) }
+        ensures different { OnOk result (AreDifferent (names_of K.name keys.now)) }
         ensures answered { IfOk result (λ taken. MatchOption taken
             (IsCaller self.now pass.new
-            × LetsGo K.hash self.now.settings (map (λ k. K.name k.now) keys.now) pass.old pass.new)
-            (λ stripes. HoldsNames K.hash self.now.settings (map (λ k. K.name k.now) keys.now) stripes
+            × LetsGo K.hash self.now.settings (names_of K.name keys.now) pass.old pass.new)
+            (λ stripes. HoldsNames K.hash self.now.settings (names_of K.name keys.now) stripes
             pass.old pass.new
             × HaveRoomForAll K.hash self.now.settings.s pass.new.stripes
-            (map (λ k. K.name k.now) keys.now))) }
+            (names_of K.name keys.now))) }
         ensures found { FindsAmong
-            (IsStripeOfAny K.hash self.now.settings (map (λ k. K.name k.now) keys.now))
+            (IsStripeOfAny K.hash self.now.settings (names_of K.name keys.now))
             pass.old pass.new }
         ensures caller { OnErr result (IsCaller self.now pass.new) }
         ensures refused { IfErr result (RefusesNames K.hash self.now.settings
-            (map (λ k. K.name k.now) keys.now) pass.old pass.new) }
+            (names_of K.name keys.now) pass.old pass.new) }
     {
         let stripes = self.lock_different(pass, keys)?;
         let mut guard = guard!(&self.words, pass, stripes);
@@ -89,9 +89,9 @@ impl<K: TableKey + Drop, V: Drop> Table<K, V> {
         requires caller { IsCaller self.now pass.old }
         ensures caller { IsCaller self.now pass.new }
         ensures made { OnOk result (SeeksRoomForEach K.hash self.now.settings
-            (map (λ k. K.name k.now) keys.now) pass.old pass.new) }
+            (names_of K.name keys.now) pass.old pass.new) }
         ensures refused { IfErr result (λ why. LacksRoomForOne K.hash self.now.settings
-            (map (λ k. K.name k.now) keys.now) why pass.old pass.new) }
+            (names_of K.name keys.now) why pass.old pass.new) }
     {
         for key in keys {
             self.make_room_ahead(pass, key)?;

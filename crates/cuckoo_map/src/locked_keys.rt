@@ -8,7 +8,7 @@ ghost use Rattle.cuckoo_map.specs.Callers.{caller_of, pass_of, IsSameCaller, Kee
 ghost use Rattle.cuckoo_map.specs.Insertions.{TellsOf};
 ghost use Rattle.cuckoo_map.specs.SeveralKeys.{IsStripeOfAny};
 ghost use Rattle.cuckoo_map.specs.LockedKeys.{HasLockedKeys, ActsOn, value_of, keys_call, LacksSlot, HasRoomForNames, KeepsRoom};
-ghost use Rattle.cuckoo_map.specs.RoomForKeys.{MakesRoomForEach, RefusesRoom};
+ghost use Rattle.cuckoo_map.specs.RoomForKeys.{MakesRoomForEach, RefusesRoom, names_of};
 
 use crate::caller::CallerOn;
 use crate::locked::make_in;
@@ -115,12 +115,13 @@ impl<T: TableRef<K, V> + Drop, K: TableKey + Drop, V: Drop> CallerOn<T, K, V> {
         requires some { 0 < length keys.now }
         requires few { length keys.now ≤ 8 }
         ensures locked { IfOk result (λ locked. (m : _)
-            × MakesRoomForEach K.hash self.table.settings (map (λ k. K.name k.now) keys.now) (pass_of self) m
-            × HasLockedKeys K.hash (map (λ k. K.name k.now) keys.now) (caller_of self.table m) locked) }
+            × MakesRoomForEach K.hash self.table.settings (names_of K.name keys.now)
+            (pass_of self) m
+            × HasLockedKeys K.hash (names_of K.name keys.now) (caller_of self.table m) locked) }
         ensures room { IfOk result (HasRoomForNames K.hash) }
         ensures same { IfErr result (λ back. IsSameCaller self back.caller) }
         ensures refused { IfErr result (λ back. RefusesRoom K.hash self.table.settings
-            (map (λ k. K.name k.now) keys.now) (pass_of self) (pass_of back.caller) back.why) }
+            (names_of K.name keys.now) (pass_of self) (pass_of back.caller) back.why) }
     {
         let CallerOn { table, pass } = self;
         let mut pass = pass;
@@ -182,11 +183,12 @@ impl<T: TableRef<K, V> + Drop, K: TableKey + Drop, V: Drop, Q: Query<K>> LockedK
         found
     }
 
-    /// Whether each of the keys has room: one of its buckets, or both together, have a free slot for each
-    /// of the keys that may come there. Then no insertion of one of them is refused until they are unlocked, whatever
-    /// is bound and unbound before.
+    /// Whether each of the keys has room: one of its buckets, or both together, have a free slot for
+    /// each of the keys that may come there. Then no insertion of one of them is refused until they
+    /// are unlocked, whatever is bound and unbound before.
     pub fn has_room(&mut self) -> bool
-        ensures room { MatchBool result (HasRoomForNames K.hash self.old) (¬ (HasRoomForNames K.hash self.old)) }
+        ensures room { MatchBool result (HasRoomForNames K.hash self.old)
+            (¬ (HasRoomForNames K.hash self.old)) }
         ensures same { self.new ≡ self.old }
     {
         let mut guard = guard!(&self.table.table().words, &mut self.pass, self.stripes);
