@@ -11,27 +11,23 @@ use Rattle.ck_stripe.specs.Stripe.{StripeState, bucket_of, with_slot}
 use Rattle.ck_stripe.specs.declared.held_slot.HeldSlot.{HeldSlot}
 use Rattle.ck_stripe.specs.Stripes.{no_stripe, stripe_at, bucket_at}
 use Rattle.ck_stripe.specs.HeldSlots.{slot_in, set_slot}
-use Rattle.ck_section.specs.RoomForAll.{IsFreeFor, KeepsOthers}
+use Rattle.ck_section.specs.RoomForAll.{IsFreeFor, IsKept, KeepsOthers}
 use Rattle.ck_section.proofs.Found.{set_here}
 
 module _ {V : Type 0} (q : Name) where
-  -- what a slot has, and what it had
-  abbrev pub IsKept : Slot V → Slot V → Type 0
-  IsKept old new = (new ≡ old) ⊎ (IsFreeFor q old × IsFreeFor q new)
-
   pub free_where : (slot : Slot V) → slot ≡ None → IsFreeFor q slot
   free_where slot is = subst (λ (x : Slot V). IsFreeFor q x) (sym is) tt
 
   pub free_with : (slot : Slot V) (v : V) → slot ≡ Some (q, v) → IsFreeFor q slot
   free_with slot v is = subst (λ (x : Slot V). IsFreeFor q x) (sym is) refl
 
-  kept_on : (a b c : Slot V) → IsKept a b → IsKept b c → IsKept a c
+  kept_on : (a b c : Slot V) → IsKept q a b → IsKept q b c → IsKept q a c
   kept_on a b c (inl e) (inl f) = inl (f ∙ e)
   kept_on a b c (inl e) (inr f) = inr (subst (λ (x : Slot V). IsFreeFor q x) e f.0, f.1)
   kept_on a b c (inr e) (inl f) = inr (e.0, subst (λ (x : Slot V). IsFreeFor q x) (sym f) e.1)
   kept_on a b c (inr e) (inr f) = inr (e.0, f.1)
 
-  in_slots : (slots : List (Slot V)) (i : ℕ) (x : Slot V) → IsFreeFor q (slot_at slots i) → IsFreeFor q x → (j : ℕ) → IsKept (slot_at slots j) (slot_at (slice_set slots i x) j)
+  in_slots : (slots : List (Slot V)) (i : ℕ) (x : Slot V) → IsFreeFor q (slot_at slots i) → IsFreeFor q x → (j : ℕ) → IsKept q (slot_at slots j) (slot_at (slice_set slots i x) j)
   in_slots [] i x old new j = inl refl
   in_slots (y ∷ ys) zero x old new zero = inr (old, new)
   in_slots (y ∷ ys) zero x old new (suc j) = inl refl
@@ -39,7 +35,7 @@ module _ {V : Type 0} (q : Name) where
   in_slots (y ∷ ys) (suc i) x old new (suc j) = in_slots ys i x old new j
 
   in_rows : (rows : List (List (Slot V))) (r i : ℕ) (x : Slot V) → IsFreeFor q (slot_at (row_at rows r) i) → IsFreeFor q x
-      → (p j : ℕ) → IsKept (slot_at (row_at rows p) j) (slot_at (row_at (slice_set rows r (slice_set (row_at rows r) i x)) p) j)
+      → (p j : ℕ) → IsKept q (slot_at (row_at rows p) j) (slot_at (row_at (slice_set rows r (slice_set (row_at rows r) i x)) p) j)
   in_rows [] r i x old new p j = inl refl
   in_rows (l ∷ ls) zero i x old new zero j = in_slots l i x old new j
   in_rows (l ∷ ls) zero i x old new (suc p) j = inl refl
@@ -52,9 +48,9 @@ module _ {V : Type 0} (q : Name) where
       let t : StripeState V = stripe_at stripes at.index in
       let c = with_slot t at.bucket at.slot x n in
       dite (ℕ_discrete i at.index)
-      (λ same. let Kept : ℕ → Type 0 = λ j. IsKept (slot_at (bucket_at stripes j b) slot) (slot_at (bucket_at (set_slot stripes at x n) j b) slot) in
+      (λ same. let Kept : ℕ → Type 0 = λ j. IsKept q (slot_at (bucket_at stripes j b) slot) (slot_at (bucket_at (set_slot stripes at x n) j b) slot) in
       subst Kept (sym same)
-      (subst (λ (u : StripeState V). IsKept (slot_at (bucket_of t b) slot) (slot_at (bucket_of u b) slot)) (sym (set_here stripes at.index c inside))
+      (subst (λ (u : StripeState V). IsKept q (slot_at (bucket_of t b) slot) (slot_at (bucket_of u b) slot)) (sym (set_here stripes at.index c inside))
       (in_rows t.content.rows (at.bucket / 2 ^ t.s) at.slot x old new (b / 2 ^ t.s) slot)))
       (λ ne. inl (ap (λ (u : StripeState V). slot_at (bucket_of u b) slot) (get_or-set_other stripes at.index i (record t { content = c }) no_stripe ne)))
 

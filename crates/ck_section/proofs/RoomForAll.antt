@@ -26,7 +26,7 @@ use Rattle.ck_stripe.specs.Stripe.{StripeState}
 use Rattle.ck_stripe.specs.Stripes.{stripe_at, contents_of}
 use Rattle.ck_stripe.specs.Tables.{AreHeld}
 use Rattle.ck_section.specs.Calls.{ChangesContents}
-use Rattle.ck_section.specs.RoomForAll.{IsFreeFor, KeepsOthers, pairs_at, has_bucket, may_come, coming, HasSlots, AreSomeOf, HasRoomForAll}
+use Rattle.ck_section.specs.RoomForAll.{IsFreeFor, IsKept, KeepsOthers, pairs_at, has_bucket, may_come, coming, HasSlots, AreSomeOf, HasRoomForAll}
 use Rattle.ck_section.proofs.Doublings.{home}
 use Rattle.ck_section.proofs.Kept.{power_kept}
 
@@ -59,10 +59,6 @@ no_value None none = refl
 no_value (Some x) none = absurd (none x refl)
 
 module _ {V : Type 0} where
-  -- what KeepsOthers says of a slot
-  abbrev IsKept : Name → Slot V → Slot V → Type 0
-  IsKept q old new = (new ≡ old) ⊎ (IsFreeFor q old × IsFreeFor q new)
-
   -- 1 where the slot has another name
   abbrev other : Name → Slot V → ℕ
   other q None = 0

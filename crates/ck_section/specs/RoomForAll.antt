@@ -13,10 +13,13 @@ module _ {V : Type 0} where
   abbrev pub IsFreeFor : Name → Slot V → Type 0
   IsFreeFor q slot = IfSome slot (λ e. e.0 ≡ q)
 
-  -- Each slot has what it had, or was free or had the name, and is so.
+  -- it has what it had, or was free or had the name, and is so
+  abbrev pub IsKept : Name → Slot V → Slot V → Type 0
+  IsKept q old new = (new ≡ old) ⊎ (IsFreeFor q old × IsFreeFor q new)
+
+  -- each slot is kept so
   abbrev pub KeepsOthers : Name → List (StripeState V) → List (StripeState V) → Type 0
-  KeepsOthers q old new = (i b slot : ℕ) → (slot_at (bucket_at new i b) slot ≡ slot_at (bucket_at old i b) slot)
-      ⊎ (IsFreeFor q (slot_at (bucket_at old i b) slot) × IsFreeFor q (slot_at (bucket_at new i b) slot))
+  KeepsOthers q old new = (i b slot : ℕ) → IsKept q (slot_at (bucket_at old i b) slot) (slot_at (bucket_at new i b) slot)
 
   -- what is in the slots of these buckets
   abbrev pub pairs_at : Layout → Stripes V → List ℕ → List (Name × V)
