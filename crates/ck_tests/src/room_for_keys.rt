@@ -142,3 +142,18 @@ fn keys_that_share_their_buckets(rt: HostRuntime) -> Result<(), Fail> {
     assert!(rt; caller.len() == Ok(7));
     Ok(())
 }
+
+/// A value goes from one position to another, and back to a bound key.
+fn positions_are_taken_and_put(rt: HostRuntime) -> Result<(), Fail> {
+    let (mut caller, _, _) = three_callers(rt.alloc(), SIXTEEN_BUCKETS.settings(3))?;
+    assert!(&rt; bind_all(&mut caller, ONE_BUCKET));
+    let keys = [&NumKey(3), &NumKey(4)];
+    let locked = caller.lock_keys_with_room(&keys);
+    let mut locked = locked.expect(&rt, "room for both");
+    assert!(rt; locked.take(0) == Some(30) && locked.take(0) == None);
+    assert!(rt; locked.put(1, 30).ok() == Some(None));
+    assert!(rt; locked.put(1, 31).ok() == Some(Some(30)));
+    let mut caller = locked.unlock();
+    assert!(rt; caller.find_all(keys) == Ok([None, Some(31)]));
+    Ok(())
+}

@@ -3,6 +3,9 @@ use Rattle.std.proofs.Common.{◌≡◌, ◌+◌, ◌<◌, ℕ, List, [], ◌∷
 use Rattle.std.proofs.lemmas.List.{map-append, take-append-drop}
 use Rattle.ck_model.specs.declared.settings.Settings.{Settings}
 use Rattle.ck_model.specs.Promise.{Name, AreDifferent}
+use Rattle.ck_model.specs.Contents.{layout, Lawful}
+use Rattle.ck_stripe.specs.Stripes.{contents_of}
+use Rattle.ck_section.specs.RoomForAll.{HasRoomForAll}
 use Rattle.ck_words.specs.declared.stripe_set.StripeSet.{StripeSet}
 use Rattle.ck_words.specs.Words.{WordsState}
 use Rattle.ck_words.specs.Passes.{PassState, IsPassOf}
@@ -19,11 +22,11 @@ use Rattle.cuckoo_map.specs.Refusals.{IsRefused}
 use Rattle.cuckoo_map.specs.Insertions.{HasSoughtRoom}
 use Rattle.cuckoo_map.specs.SeveralKeys.{IsStripeOfAny, HoldsNames}
 use Rattle.cuckoo_map.specs.LockedKeys.{HoldsKeys}
-use Rattle.cuckoo_map.specs.RoomForKeys.{SeeksRoomForEach, LacksRoomForOne, LetsGo, MakesRoomForEach, RefusesRoom}
+use Rattle.cuckoo_map.specs.RoomForKeys.{SeeksRoomForEach, LacksRoomForOne, LacksRoomForAll, LetsGo, MakesRoomForEach, RefusesRoom}
 use Rattle.cuckoo_map.proofs.Callers.{by_kept}
 use Rattle.cuckoo_map.proofs.Counted.{released_alike}
 use Rattle.cuckoo_map.proofs.SeveralKeys.{names_next}
-use Rattle.cuckoo_map.proofs.HeldKeys.{same_pass, holds_keys, none_doubled}
+use Rattle.cuckoo_map.proofs.HeldKeys.{same_pass, lawful_at, holds_keys, none_doubled}
 
 -- the names before a key, its own, and those behind it
 names_split : {K : Type 0} (name : K → Name) (keys : List K) (i : ℕ) (k : K) → i < length keys → k ≡ get_or keys i k → map name keys ≡ map name (take i keys) ++ name k ∷ map name (drop (i + 1) keys)
@@ -53,6 +56,9 @@ module _ {V : Type 0} (hash : Name → ℕ) (set : Settings) where
 -- The stripes of the names were taken from p to p1, and are held as p2.
 module _ {V : Type 0} {hash : Name → ℕ} {w : WordsState} {stripes : StripeSet} {names : List Name} (p p1 p2 : PassState V) (caller : IsCaller w p) (own : IsPassOf w p1) (different : AreDifferent names)
     (h : HoldsNames hash w.settings names stripes p p1) (view : p2.view ≡ p1.view) (table : p2.table ≡ p1.table) (same : p2.stripes ≡ p1.stripes) {v : WordsState} (is : v ≡ w) where
+  taken : HoldsKeys hash w stripes names p1
+  taken = holds_keys p p1 caller own different h
+
   as_taken : p2 ≡ p1
   as_taken = same_pass p1 p2 view table same
 
@@ -63,7 +69,7 @@ module _ {V : Type 0} {hash : Name → ℕ} {w : WordsState} {stripes : StripeSe
   module _ (z : PassState V) (released : HasReleased v (as_doubled p2 z) z) (doubled : IsDoubledBy p2 z) where
     home : HasReleased w p1 z
     home =
-        let held : HoldsKeys hash w stripes names p2 = subst (λ (x : PassState V). HoldsKeys hash w stripes names x) (sym as_taken) (holds_keys p p1 caller own different h) in
+        let held : HoldsKeys hash w stripes names p2 = subst (λ (x : PassState V). HoldsKeys hash w stripes names x) (sym as_taken) taken in
         subst (λ (x : WordsState × PassState V). HasReleased x.0 x.1 z) (λ i. (is i, as_taken i)) (released_alike p2 z released (none_doubled p2 z held doubled))
 
     pub ends_home : IsCaller w z
@@ -76,6 +82,11 @@ module _ {V : Type 0} {hash : Name → ℕ} {w : WordsState} {stripes : StripeSe
 
     pub let_go : FindsAmong (IsStripeOfAny hash w.settings names) p p1 → LetsGo hash w.settings names p z
     let_go found = (stays_on p.view p1.view z.view h.stays home.stays, (found.0, home.found ∙ found.1, found.2))
+
+    pub lacks_room : FindsAmong (IsStripeOfAny hash w.settings names) p p1
+        → ((max : ℕ) → Lawful (layout hash stripes.s max) (contents_of p1.stripes) → ¬ (HasRoomForAll (layout hash stripes.s max) (contents_of p1.stripes) names)) → LacksRoomForAll hash w.settings names p z
+    lacks_room found none =
+        ((p1, stripes, h, subst (λ n. ¬ (HasRoomForAll (layout hash n w.settings.max) (contents_of p1.stripes) names)) h.of_table (none w.settings.max (lawful_at taken))), let_go found)
 
 -- A call on the names keeps its caller's number.
 module _ {V : Type 0} (hash : Name → ℕ) (set : Settings) where
@@ -90,9 +101,9 @@ module _ {V : Type 0} (hash : Name → ℕ) (set : Settings) where
 
   by_made : (qs : List Name) (p z : PassState V) → MakesRoomForEach hash set qs p z → z.view.by ≡ p.view.by
   by_made qs p z (inl h) = ap (λ (x : PassState V). x.view.by) h
-  by_made qs p z (inr h) = by_sought qs h.0 z h.2 ∙ h.1.0.by
+  by_made qs p z (inr h) = by_sought qs h.0 z h.2 ∙ h.1.1.0.by
 
   pub by_without_room : (qs : List Name) (p z : PassState V) (e : RoomFault) → RefusesRoom hash set qs p z e → z.view.by ≡ p.view.by
   by_without_room qs p z (fault.Keys why) h = by_kept hash set qs h.0 z why h.2 ∙ by_made qs p h.0 h.1
-  by_without_room qs p z (fault.Room why) h = by_lacking qs why h.0 z h.2 ∙ h.1.0.by
-  by_without_room qs p z fault.NoSlot h = h.4.0.by ∙ (by_sought qs h.0 h.1 h.3 ∙ h.2.0.by)
+  by_without_room qs p z (fault.Room why) h = by_lacking qs why h.0 z h.2 ∙ h.1.1.0.by
+  by_without_room qs p z fault.NoSlot h = h.4.1.0.by ∙ (by_sought qs h.0 h.1 h.3 ∙ h.2.1.0.by)

@@ -1,12 +1,16 @@
 -- Several names that are bound to given values, one after the other.
 use Rattle.std.proofs.Common.{◌≡◌, ◌≢◌, ℕ, zero, suc, ◌<◌, ◌≤◌, ◌+◌, List, [], ◌∷◌, ◌++◌, Option, Some, None, IsSome, All, length, map, take, get_or, inl, inr, refl, sym, ◌∙◌, ap, subst, arith}
 use Rattle.std.specs.Prelude.{slice_set}
-use Rattle.std.proofs.lemmas.List.{take_all, take_more, take_more_set, map-append}
+use Rattle.std.proofs.lemmas.List.{take_all, take_more, take_more_set, map-append, length-map}
 use Rattle.std.specs.FinMap.{get}
 use Rattle.ck_model.specs.declared.history.Act.TheVariants.{Update}
 use Rattle.ck_model.specs.declared.history.Call.TheVariants.{On}
 use Rattle.ck_model.specs.declared.history.Reply.{Reply}
 use Rattle.ck_model.specs.Promise.{Name, Map, Answers, Step, IsAmong, AreDifferent, bound_in}
+use Rattle.ck_section.proofs.SeveralKeys.{key_among}
+use Rattle.ck_words.specs.Words.{WordsState}
+use Rattle.ck_words.specs.Passes.{PassState}
+use Rattle.cuckoo_map.specs.LockedKeys.{KeysState, keys_of}
 
 -- the name of the key at a position
 pub name_at : {K : Type 0} (name : K → Name) (keys : List K) (i : ℕ) (k : K) → i < length keys → k ≡ get_or keys i k → name k ≡ get_or (map name keys) i []
@@ -19,6 +23,13 @@ at_among : (names : List Name) (i : ℕ) → i < length names → IsAmong (get_o
 at_among [] i l = absurd (omega arith)
 at_among (x ∷ xs) zero l = inl refl
 at_among (x ∷ xs) (suc i) l = inr (at_among xs i (omega arith))
+
+-- a key at a position is one of the names that locked keys show, at that position
+pub shown_at : {K V : Type 0} (name : K → Name) (keys : List K) (w : WordsState) (p : PassState V) (k : KeysState V) → keys_of w (map name keys) p ≡ k → (i : ℕ) (key : K) → i < length k.names → key ≡ get_or keys i key → IsAmong (name key) k.names × (name key ≡ get_or k.names i [])
+shown_at {K} {V} name keys w p k is i key inside at =
+    let names : map name keys ≡ k.names = ap (λ (x : KeysState V). x.names) is in
+    let within : i < length keys = subst (λ (n : ℕ). i < n) (length-map keys name) (subst (λ (l : List Name). i < length l) (sym names) inside) in
+    subst (λ (l : List Name). IsAmong (name key) l × (name key ≡ get_or l i [])) names (key_among name keys i key within at, name_at name keys i key within at)
 
 module _ {V : Type 0} where
   -- a bound name is bound to what it is updated to

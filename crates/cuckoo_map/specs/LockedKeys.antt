@@ -1,5 +1,5 @@
 -- Some names under one caller.
-use Rattle.std.specs.Prelude.{◌≡◌, ◌<◌, ℕ, List, [], reverse, Option, Some}
+use Rattle.std.specs.Prelude.{◌≡◌, ◌<◌, ℕ, List, [], reverse, get_or, Option, Some}
 use Rattle.std.specs.FinMap.{get}
 use Rattle.ck_model.specs.declared.contents.Content.{Content}
 use Rattle.ck_model.specs.declared.history.Act.{Act}
@@ -44,6 +44,10 @@ module _ {V : Type 0} where
   -- the session so far
   abbrev pub keys_call : KeysState V → Call V
   keys_call k = SessionOn k.names (values_before k) (values_now k)
+
+  -- the name at this position
+  abbrev pub name_at : KeysState V → ℕ → Name
+  name_at k i = get_or k.names i []
 
   -- what the name is bound to
   abbrev pub value_of : KeysState V → Name → Option V

@@ -6,7 +6,7 @@ ghost use Rattle.ck_words.specs.Passes.{IsPassOf};
 ghost use Rattle.ck_words.specs.Closing.{IsCaller};
 ghost use Rattle.ck_words.specs.Retries.{FindsAmong};
 ghost use Rattle.cuckoo_map.specs.SeveralKeys.{IsStripeOfAny, HoldsNames, RefusesNames};
-ghost use Rattle.cuckoo_map.specs.RoomForKeys.{SeeksRoomForEach, LacksRoomForOne, LetsGo, MakesRoomForEach, RefusesRoom, names_of};
+ghost use Rattle.cuckoo_map.specs.RoomForKeys.{SeeksRoomForEach, LacksRoomForOne, LacksRoomForAll, MakesRoomForEach, RefusesRoom, names_of};
 
 use crate::refusal::{KeysRefused, RoomFault, Why};
 use crate::table::Table;
@@ -63,7 +63,8 @@ impl<K: TableKey + Drop, V: Drop> Table<K, V> {
         ensures different { OnOk result (AreDifferent (names_of K.name keys.now)) }
         ensures answered { IfOk result (λ taken. MatchOption taken
             (IsCaller self.now pass.new
-            × LetsGo K.hash self.now.settings (names_of K.name keys.now) pass.old pass.new)
+            × LacksRoomForAll K.hash self.now.settings (names_of K.name keys.now)
+            pass.old pass.new)
             (λ stripes. HoldsNames K.hash self.now.settings (names_of K.name keys.now) stripes
             pass.old pass.new
             × HaveRoomForAll K.hash self.now.settings.s pass.new.stripes

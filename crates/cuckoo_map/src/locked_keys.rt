@@ -7,7 +7,7 @@ ghost use Rattle.ck_section.specs.Acts.{Updates, Modifies, Changes, Erases, Inse
 ghost use Rattle.cuckoo_map.specs.Callers.{caller_of, pass_of, IsSameCaller, KeepsNotes, IsRefusedOn, FindsHeldAmong};
 ghost use Rattle.cuckoo_map.specs.Insertions.{TellsOf};
 ghost use Rattle.cuckoo_map.specs.SeveralKeys.{IsStripeOfAny};
-ghost use Rattle.cuckoo_map.specs.LockedKeys.{HasLockedKeys, ActsOn, value_of, keys_call, LacksSlot, HasRoomForNames, KeepsRoom};
+ghost use Rattle.cuckoo_map.specs.LockedKeys.{HasLockedKeys, ActsOn, value_of, keys_call, LacksSlot, HasRoomForNames, KeepsRoom, name_at};
 ghost use Rattle.cuckoo_map.specs.RoomForKeys.{MakesRoomForEach, RefusesRoom, names_of};
 
 use crate::caller::CallerOn;
@@ -293,6 +293,26 @@ impl<T: TableRef<K, V> + Drop, K: TableKey + Drop, V: Drop, Q: Query<K>> LockedK
         self.make(key, value, insertion::Upsert(f))
     }
 
+    /// `erase` of the key at this position.
+    ///
+    /// ```
+    /// let keys = [&NumKey(1), &NumKey(2)];
+    /// let mut locked = caller.lock_keys_with_room(&keys)?;
+    /// if let Some(value) = locked.take(0) {
+    ///     let _ = locked.put(1, value);
+    /// }
+    /// let mut caller = locked.unlock();
+    /// ```
+    pub fn take(&mut self, i: usize) -> Option<V>
+        requires inside { i < length self.old.names }
+        ensures names { self.new.names ≡ self.old.names }
+        ensures room { KeepsRoom K.hash self.old self.new }
+        ensures answered { Erases (ActsOn (name_at self.old i) self.old self.new) result }
+    {
+        let keys = self.keys;
+        self.erase(keys[i])
+    }
+
     // Makes the insertion of the entry of the key.
     fn make<I: Insertion<K, V>>(
         &mut self,
@@ -346,5 +366,22 @@ impl<T: TableRef<K, V> + Drop, K: TableKey + Drop, V: Drop, Q: Query<K>> LockedK
         let mut guard = guard!(&table.table().words, &mut pass, stripes);
         guard.commit_session_on(keys);
         CallerOn { table, pass }
+    }
+}
+
+impl<T: TableRef<K, V> + Drop, K: TableKey + Copy + Drop, V: Drop> LockedKeysOn<'_, T, K, V, &K> {
+    /// `insert_or_assign` of the key at this position.
+    pub fn put(&mut self, i: usize, value: V) -> Result<Option<V>, NoSlot<K, V>>
+        requires inside { i < length self.old.names }
+        ensures names { self.new.names ≡ self.old.names }
+        ensures room { KeepsRoom K.hash self.old self.new }
+        ensures answered { IfOk result (Assigns value
+            (ActsOn (name_at self.old i) self.old self.new)) }
+        ensures refused { IfErr result (λ back. (K.name back.key ≡ name_at self.old i)
+            × LacksSlot K.hash (name_at self.old i) back.key value self.old self.new back) }
+        ensures made { HasRoomForNames K.hash self.old → IsOk result }
+    {
+        let keys = self.keys;
+        self.insert_or_assign(*keys[i], value)
     }
 }

@@ -5,7 +5,7 @@ use Rattle.ck_core.specs.declared.view.View.{View}
 use Rattle.ck_words.specs.Passes.{PassState}
 use Rattle.cuckoo_map.specs.SeveralKeys.{HoldsNames}
 use Rattle.cuckoo_map.proofs.HeldKeys.{same_pass}
-use Rattle.cuckoo_map.proofs.RoomForKeys.{renewed_as_taken, ends_home, let_go}
+use Rattle.cuckoo_map.proofs.RoomForKeys.{renewed_as_taken, ends_home, let_go, lacks_room}
 use Rattle.cuckoo_map.proofs.table.Table.lock_if_room.Goals as goal
 
 pub has_room_for_all-requires-clause-owned : goal.has_room_for_all-requires-clause-owned
@@ -48,7 +48,7 @@ returns-clause-answered g c =
     let h = c.in_ok-stripes.ensures.held in
     rw (← there) (
       ends_home p p1 p2 c.requires.caller own different h e.stays.1 e.stays.2 e.same is z r.released r.doubled,
-      let_go p p1 p2 c.requires.caller own different h e.stays.1 e.stays.2 e.same is z r.released r.doubled c.lock_different.ensures.found,
+      lacks_room p p1 p2 c.requires.caller own different h e.stays.1 e.stays.2 e.same is z r.released r.doubled c.lock_different.ensures.found c.if-has_room_for_all.ensures.no_room,
     )
 
 pub returns-clause-found : goal.returns-clause-found

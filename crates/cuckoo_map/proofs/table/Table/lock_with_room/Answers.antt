@@ -1,6 +1,6 @@
 use Rattle.std.proofs.Common.{rules, map, inl, inr, refl}
 use Rattle.std.proofs.lemmas.Result.{err_from_is_err_and}
-use Rattle.cuckoo_map.specs.RoomForKeys.{LetsGo}
+use Rattle.cuckoo_map.specs.RoomForKeys.{LacksRoomForAll}
 use Rattle.cuckoo_map.proofs.table.Table.lock_with_room.Goals as goal
 
 -- nothing was done
@@ -14,5 +14,5 @@ pub returns-in_err-stripes-2-clause-refused : goal.returns-in_err-stripes-2-clau
 returns-in_err-stripes-2-clause-refused g c =
     let e = err_from_is_err_and c.from_residual-in_err-stripes-2.result c.from_residual-in_err-stripes-2.ensures.1 in
     let p1 = c.lock_if_room.new.pass in
-    let gone : LetsGo g.K.TableKey.hash c.args.self.now.settings (map (λ k. g.K.TableKey.name k.now) c.args.keys.now) c.args.pass.now p1 = search rules in
-    rw (e.1, e.2) (c.make_room_for_each.new.pass, inr (p1, gone, c.in_default-make_room_for_each.ensures.made), c.in_err-stripes-2.ensures.refused)
+    let lacking : LacksRoomForAll g.K.TableKey.hash c.args.self.now.settings (map (λ k. g.K.TableKey.name k.now) c.args.keys.now) c.args.pass.now p1 = search rules in
+    rw (e.1, e.2) (c.make_room_for_each.new.pass, inr (p1, lacking, c.in_default-make_room_for_each.ensures.made), c.in_err-stripes-2.ensures.refused)
