@@ -58,6 +58,7 @@ fn check(rt: &impl Abort, hash: u64, row: &Row) {
     assert!(rt; stripes_of(1, hash) == row.stripes);
 }
 
+#[test]
 fn number_keys(rt: HostRuntime) {
     for (number, row) in [
         (0u64, row_of(0, 0, (0, 1), (0, 5), (0, 1))),
@@ -72,6 +73,7 @@ fn number_keys(rt: HostRuntime) {
     }
 }
 
+#[test]
 fn mixed_keys(rt: HostRuntime) {
     for (number, hash) in [
         (0u64, 0u64),
@@ -85,6 +87,7 @@ fn mixed_keys(rt: HostRuntime) {
     }
 }
 
+#[test]
 fn pair_keys(rt: HostRuntime) {
     for (first, second, hash) in [
         (1u64, 0u64, 0xbdf1_a1ba_6e11_6348u64),
@@ -100,6 +103,7 @@ fn pair_keys(rt: HostRuntime) {
     assert!(rt; PairKey(1, 8) < PairKey(1, 9));
 }
 
+#[test]
 fn number_text_keys(rt: HostRuntime) -> Result<(), Fail> {
     for (number, text, hash) in [
         (1u64, "", 0x1598_49df_c130_8249u64),
@@ -115,6 +119,7 @@ fn number_text_keys(rt: HostRuntime) -> Result<(), Fail> {
     Ok(())
 }
 
+#[test]
 fn text_keys(rt: HostRuntime) -> Result<(), Fail> {
     for (text, row) in [
         (
@@ -156,6 +161,7 @@ const FACTORS: [(u32, u64); 12] = [
     (16, 59797),
 ];
 
+#[test]
 fn spread(rt: HostRuntime) {
     for (p, want) in FACTORS {
         assert!(rt; p <= 26);
@@ -175,6 +181,7 @@ fn check_longest(rt: &impl Abort, alloc: Global) -> Result<(), Fail> {
 }
 
 /// The same with a number.
+#[test]
 fn longest_number_text_key(rt: HostRuntime) -> Result<(), Fail> {
     let long = [b'x'; 65];
     let fault = NumTextKey::new(rt.alloc(), 7, &long).err();
@@ -214,6 +221,7 @@ fn are_in_order(keys: &[TextKey]) -> bool {
     }
 }
 
+#[test]
 fn texts(rt: HostRuntime) -> Result<(), Fail> {
     check_longest(&rt, rt.alloc())?;
     let mut keys = keys_of(rt.alloc(), [b"b", b"\xff", b"ab", b"", b"a"])?;

@@ -27,6 +27,7 @@ fn rename<'t>(caller: NumCaller<'t>, from: u64, to: u64) -> Option<(NumCaller<'t
     Some((locked.unlock(), renamed))
 }
 
+#[test]
 fn a_key_is_renamed(rt: HostRuntime) -> Result<(), Fail> {
     let (mut caller, _, _) = three_callers(rt.alloc(), SIXTEEN_BUCKETS.settings(3))?;
     assert!(&rt; bind_all(&mut caller, BOUND));
@@ -40,6 +41,7 @@ fn a_key_is_renamed(rt: HostRuntime) -> Result<(), Fail> {
     Ok(())
 }
 
+#[test]
 fn each_call_does_what_a_caller_does(rt: HostRuntime) -> Result<(), Fail> {
     let (mut caller, _, _) = three_callers(rt.alloc(), SIXTEEN_BUCKETS.settings(3))?;
     assert!(&rt; bind_all(&mut caller, BOUND));
@@ -84,6 +86,7 @@ fn refusal_of(caller: NumCaller<'_>, first: u64, second: u64) -> Option<KeysRefu
     }
 }
 
+#[test]
 fn only_their_stripes_are_held(rt: HostRuntime) -> Result<(), Fail> {
     let (mut first, mut second, third) = three_callers(rt.alloc(), SIXTEEN_BUCKETS.settings(3))?;
     assert!(&rt; bind_all(&mut first, BOUND));
@@ -98,6 +101,7 @@ fn only_their_stripes_are_held(rt: HostRuntime) -> Result<(), Fail> {
     Ok(())
 }
 
+#[test]
 fn a_key_that_stands_twice_is_refused(rt: HostRuntime) -> Result<(), Fail> {
     let (first, second, third) = three_callers(rt.alloc(), SIXTEEN_BUCKETS.settings(3))?;
     assert!(rt; refusal_of(first, 3, 3) == Some(KeysRefused::Twice(0)));
@@ -126,6 +130,7 @@ const FULL: &[(u64, u64)] = &[
 ];
 
 /// Inserts a key for which no slot is free, then again once one is.
+#[test]
 fn an_emptied_slot_is_free(rt: HostRuntime) -> Result<(), Fail> {
     let (mut caller, _, _) = three_callers(rt.alloc(), FOUR_BUCKETS.settings(3))?;
     assert!(&rt; bind_all(&mut caller, FULL));
@@ -197,6 +202,7 @@ fn check<R: Threads + Abort + Sync>(rt: &R, alloc: Global, shape: Shape) -> Resu
 }
 
 /// Whether the keys share four stripes, or have more.
+#[test]
 fn two_threads_lock_the_same_keys_in_opposite_order(rt: HostRuntime) -> Result<(), Fail> {
     let many = Shape {
         s: 6,

@@ -78,6 +78,7 @@ fn run<R: Threads + Wait + Sync>(rt: &R, alloc: Global, pool: &NumPool<'_>) -> R
 }
 
 /// More threads than callers add to a few keys, and no addition and no caller is lost.
+#[test]
 fn more_threads_than_callers(rt: HostRuntime) -> Result<(), Fail> {
     let alloc = rt.alloc();
     let pool: NumPool<'_> = Pool::new(alloc, callers_of(alloc, settings(4))?)?;
@@ -91,6 +92,7 @@ fn more_threads_than_callers(rt: HostRuntime) -> Result<(), Fail> {
 }
 
 /// While its only caller is lent, a pool lends none; then it lends it again.
+#[test]
 fn one_caller(rt: HostRuntime) -> Result<(), Fail> {
     let alloc = rt.alloc();
     let pool: NumPool<'_> = Pool::new(alloc, callers_of(alloc, settings(1))?)?;
@@ -107,6 +109,7 @@ fn one_caller(rt: HostRuntime) -> Result<(), Fail> {
 }
 
 /// A pool of any type gives its items back in their order.
+#[test]
 fn items_in_their_order(rt: HostRuntime) -> Result<(), Fail> {
     let alloc = rt.alloc();
     let pool = Pool::new(alloc, vec![in alloc; 1u64, 2, 3]?)?;
@@ -116,6 +119,7 @@ fn items_in_their_order(rt: HostRuntime) -> Result<(), Fail> {
 }
 
 /// While another caller has locked the table, it isn't drained; then it is.
+#[test]
 fn drain_beside_a_lock(rt: HostRuntime) -> Result<(), Fail> {
     let alloc = rt.alloc();
     let (first, second, _) = three_callers(alloc, SIXTEEN_BUCKETS.settings(3))?;

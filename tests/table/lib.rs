@@ -1,6 +1,5 @@
-//! Tests of the table, of what it is made of, and of scripts. Each function that takes the runtime
-//! alone is one. They are run with no proof, by `.ci/tests`, and have no attribute here, since
-//! `rt ci` would prove them.
+//! Tests of the table, of what it is made of, and of scripts, in Rattle. `.ci/tests` runs them with no
+//! proof; `rt ci` would prove each `.rt` file, so they have another name.
 #![tactic(auto)]
 
 // Small tables, and their callers.
@@ -71,6 +70,6 @@ mod scripts;
 
 // Threads that do all that they can to one table.
 #[cfg(test)]
-mod short_round;
-#[cfg(test)]
 mod stress;
+#[cfg(test)]
+mod stress_round;

@@ -65,6 +65,7 @@ fn try_upsert_with(caller: &mut NumCaller<'_>, row: &Row) -> (Option<Result<bool
     (answer, read(&makes))
 }
 
+#[test]
 fn a_value_is_made_and_changed(rt: HostRuntime) -> Result<(), Fail> {
     for caller in callers_of(rt.alloc(), SIXTEEN_BUCKETS.settings(1))? {
         let mut caller = caller;
@@ -87,6 +88,7 @@ fn take(caller: &mut NumCaller<'_>, key: u64, most: u64) -> Option<u64> {
     caller.modify(&NumKey(key), take).unwrap_or(None)
 }
 
+#[test]
 fn a_value_is_changed_and_told(rt: HostRuntime) -> Result<(), Fail> {
     for caller in callers_of(rt.alloc(), SIXTEEN_BUCKETS.settings(1))? {
         let mut caller = caller;

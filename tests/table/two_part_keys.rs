@@ -4,6 +4,7 @@ use ck_key::{NumTextKey, PairKey};
 use cuckoo_map::Caller;
 use std::test::Fail;
 
+#[test]
 fn pairs_differ_in_either_number(rt: HostRuntime) -> Result<(), Fail> {
     let mut callers: Vec<Caller<'_, PairKey, u64>> = callers_of(
         rt.alloc(),
@@ -18,6 +19,7 @@ fn pairs_differ_in_either_number(rt: HostRuntime) -> Result<(), Fail> {
     Ok(())
 }
 
+#[test]
 fn numbers_with_texts_are_found_by_both(rt: HostRuntime) -> Result<(), Fail> {
     let key = NumTextKey::new(rt.alloc(), 7, b"ab")?;
     let mut callers: Vec<Caller<'_, NumTextKey, u64>> = callers_of(

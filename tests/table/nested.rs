@@ -305,6 +305,7 @@ fn check(rt: &impl Abort, alloc: Global, scene: &Scene) -> Result<(), Fail> {
     Ok(())
 }
 
+#[test]
 fn scenes(rt: HostRuntime) -> Result<(), Fail> {
     for scene in &SCENES {
         check(&rt, rt.alloc(), scene)?;
@@ -337,6 +338,7 @@ fn find_all_but(rt: &impl Abort, caller: &mut NumCaller<'_>, held: Option<u32>) 
 }
 
 /// A call is refused for a stripe of its own key, and for no other.
+#[test]
 fn each_stripe_in_turn(rt: HostRuntime) -> Result<(), Fail> {
     let (mut first, mut second, _) = three_callers(rt.alloc(), SIXTEEN_BUCKETS.settings(3))?;
     let fresh = bind_all(&mut first, &HELD.map(|(_, key, _, _)| (key, key)));

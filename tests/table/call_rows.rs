@@ -229,10 +229,12 @@ fn check_runs(rt: &impl Abort, alloc: Global, shape: Shape, runs: &[Run]) -> Res
     Ok(())
 }
 
+#[test]
 fn runs(rt: HostRuntime) -> Result<(), Fail> {
     check_runs(&rt, rt.alloc(), SIXTEEN_BUCKETS, &RUNS)
 }
 
+#[test]
 fn runs_that_grow(rt: HostRuntime) -> Result<(), Fail> {
     check_runs(&rt, rt.alloc(), GROWING, &RUNS_THAT_GROW)
 }

@@ -30,6 +30,7 @@ fn come_and_go<'t>(caller: NumCaller<'t>, keys: [NumKey; 8]) -> Option<(NumCalle
 }
 
 /// In empty tables of four buckets, and of more.
+#[test]
 fn eight_keys_come_and_go(rt: HostRuntime) -> Result<(), Fail> {
     for shape in [FOUR_BUCKETS, SIXTEEN_BUCKETS, GROWING] {
         let (caller, _, _) = three_callers(rt.alloc(), shape.settings(3))?;
@@ -54,6 +55,7 @@ const FULL: &[(u64, u64)] = &[
 ];
 
 /// Where `lock_keys` finds no room, it is made, by a displacement or a doubling.
+#[test]
 fn room_is_made(rt: HostRuntime) -> Result<(), Fail> {
     for max in [2, 20] {
         let shape = Shape {
@@ -96,6 +98,7 @@ fn refusal_of<'t>(
 }
 
 /// A table that may not grow, one that is too empty to, a key that stands twice, and held stripes.
+#[test]
 fn refusals_have_their_reasons(rt: HostRuntime) -> Result<(), Fail> {
     let (mut caller, mut second, _) = three_callers(rt.alloc(), FOUR_BUCKETS.settings(3))?;
     assert!(&rt; bind_all(&mut caller, ONE_BUCKET));
@@ -116,6 +119,7 @@ fn refusals_have_their_reasons(rt: HostRuntime) -> Result<(), Fail> {
 }
 
 /// Nine keys of the same two buckets never have room, and the table is too empty to grow for it.
+#[test]
 fn a_table_that_is_too_empty(rt: HostRuntime) -> Result<(), Fail> {
     let (mut caller, _, _) = three_callers(rt.alloc(), GROWING.settings(3))?;
     assert!(&rt; bind_all(&mut caller, EIGHT_APART));
@@ -130,6 +134,7 @@ fn a_table_that_is_too_empty(rt: HostRuntime) -> Result<(), Fail> {
 
 /// Room is made for each of three keys, and there is none for all: they share two buckets, in which
 /// six keys stand.
+#[test]
 fn keys_that_share_their_buckets(rt: HostRuntime) -> Result<(), Fail> {
     let (mut caller, _, _) = three_callers(rt.alloc(), SIXTEEN_BUCKETS.settings(3))?;
     assert!(&rt; bind_all(&mut caller, &EIGHT_APART[..6]));
@@ -144,6 +149,7 @@ fn keys_that_share_their_buckets(rt: HostRuntime) -> Result<(), Fail> {
 }
 
 /// A value goes from one position to another, and back to a bound key.
+#[test]
 fn positions_are_taken_and_put(rt: HostRuntime) -> Result<(), Fail> {
     let (mut caller, _, _) = three_callers(rt.alloc(), SIXTEEN_BUCKETS.settings(3))?;
     assert!(&rt; bind_all(&mut caller, ONE_BUCKET));

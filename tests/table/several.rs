@@ -18,6 +18,7 @@ fn find(caller: &mut NumCaller<'_>, keys: [u64; 3]) -> Result<[Option<u64>; 3], 
     caller.find_all([&a, &b, &c])
 }
 
+#[test]
 fn eight_keys_have_their_values(rt: HostRuntime) -> Result<(), Fail> {
     let (mut caller, _, _) = three_callers(rt.alloc(), SIXTEEN_BUCKETS.settings(3))?;
     assert!(&rt; bind_all(&mut caller, BOUND));
@@ -28,6 +29,7 @@ fn eight_keys_have_their_values(rt: HostRuntime) -> Result<(), Fail> {
     Ok(())
 }
 
+#[test]
 fn a_key_that_stands_twice_is_refused(rt: HostRuntime) -> Result<(), Fail> {
     let (mut caller, _, _) = three_callers(rt.alloc(), SIXTEEN_BUCKETS.settings(3))?;
     assert!(rt; find(&mut caller, [3, 3, 0]) == Err(KeysRefused::Twice(0)));
@@ -47,6 +49,7 @@ fn call_within(rt: &impl Abort, caller: &mut NumCaller<'_>) {
 }
 
 /// The stripes that a refused call had taken before are free again.
+#[test]
 fn a_held_stripe_is_busy(rt: HostRuntime) -> Result<(), Fail> {
     let (mut first, mut second, _) = three_callers(rt.alloc(), SIXTEEN_BUCKETS.settings(3))?;
     assert!(&rt; bind_all(&mut first, BOUND));
@@ -59,6 +62,7 @@ fn a_held_stripe_is_busy(rt: HostRuntime) -> Result<(), Fail> {
     Ok(())
 }
 
+#[test]
 fn texts_are_looked_up_by_what_they_are(rt: HostRuntime) -> Result<(), Fail> {
     let key = TextKey::new(rt.alloc(), b"left")?;
     let settings = SIXTEEN_BUCKETS.settings(1);
@@ -79,6 +83,7 @@ fn turn(values: &mut [u64]) {
     }
 }
 
+#[test]
 fn several_values_change_at_once(rt: HostRuntime) -> Result<(), Fail> {
     let (mut caller, _, _) = three_callers(rt.alloc(), SIXTEEN_BUCKETS.settings(3))?;
     assert!(&rt; bind_all(&mut caller, BOUND));
@@ -100,6 +105,7 @@ fn several_values_change_at_once(rt: HostRuntime) -> Result<(), Fail> {
 }
 
 /// No closure is called where a key is unbound.
+#[test]
 fn where_one_is_unbound_none_changes(rt: HostRuntime) -> Result<(), Fail> {
     let (mut caller, _, _) = three_callers(rt.alloc(), SIXTEEN_BUCKETS.settings(3))?;
     assert!(&rt; bind_all(&mut caller, BOUND));
@@ -117,6 +123,7 @@ fn where_one_is_unbound_none_changes(rt: HostRuntime) -> Result<(), Fail> {
     Ok(())
 }
 
+#[test]
 fn several_are_compared_and_set(rt: HostRuntime) -> Result<(), Fail> {
     let (mut caller, _, _) = three_callers(rt.alloc(), SIXTEEN_BUCKETS.settings(3))?;
     assert!(&rt; bind_all(&mut caller, BOUND));

@@ -185,6 +185,7 @@ fn meet<'m, R: Threads + Abort + Sync>(
     assert!(rt; gave_up == 0, "the threads met");
 }
 
+#[test]
 fn a_doubling_overtakes_a_search(rt: HostRuntime) -> Result<(), Fail> {
     let meeting = Meeting::new();
     let settings = Settings {

@@ -4,6 +4,7 @@ use ck_key::NumKey;
 use cuckoo_map::Settings;
 use std::test::Fail;
 
+#[test]
 fn a_table_of_defaults(rt: HostRuntime) -> Result<(), Fail> {
     let settings = Settings::DEFAULT;
     assert!(rt; settings.are_in_range());

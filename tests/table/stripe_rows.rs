@@ -111,6 +111,7 @@ const ROWS: [Row; 2] = [
     },
 ];
 
+#[test]
 fn doubles(rt: HostRuntime) -> Result<(), Fail> {
     for row in &ROWS {
         check(&rt, rt.alloc(), row)?;

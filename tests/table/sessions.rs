@@ -258,6 +258,7 @@ fn check(rt: &impl Abort, alloc: Global, session: &Session) -> Result<(), Fail> 
     Ok(())
 }
 
+#[test]
 fn sessions(rt: HostRuntime) -> Result<(), Fail> {
     SESSIONS
         .iter()
@@ -293,6 +294,7 @@ fn bind_and_thin(rt: &impl Abort, locked: &mut NumLocked<'_>) {
 }
 
 /// A session binds far more keys than the table has room for, and another caller finds what is left.
+#[test]
 fn a_table_that_grows_in_a_session(rt: HostRuntime) -> Result<(), Fail> {
     let (first, mut second, _) = three_callers(rt.alloc(), TO_TWELVE.settings(3))?;
     let Ok(mut locked) = first.lock() else {

@@ -43,6 +43,7 @@ fn find_busy(rt: &impl Abort, caller: &mut Option<NumCaller<'_>>, t: u32) {
 }
 
 /// While a call holds a stripe, calls that need all stripes find that one busy.
+#[test]
 fn a_held_stripe(rt: HostRuntime) -> Result<(), Fail> {
     let (mut first, second, _) = three_callers(rt.alloc(), one_try())?;
     let mut second = Some(second);
@@ -61,6 +62,7 @@ fn a_held_stripe(rt: HostRuntime) -> Result<(), Fail> {
 }
 
 /// While the table is locked, each call of another caller is refused.
+#[test]
 fn calls_meanwhile(rt: HostRuntime) -> Result<(), Fail> {
     let (mut first, mut second, _) = three_callers(rt.alloc(), one_try())?;
     bind_alone(&rt, &mut first);

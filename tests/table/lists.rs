@@ -19,6 +19,7 @@ fn push(alloc: Global, caller: &mut ListCaller<'_>, key: u64, number: u64) -> Re
     Ok(pushed?)
 }
 
+#[test]
 fn a_list_is_pushed_to(rt: HostRuntime) -> Result<(), Fail> {
     let mut callers = callers_of(rt.alloc(), SIXTEEN_BUCKETS.settings(1))?;
     for caller in &mut callers {

@@ -82,6 +82,7 @@ fn check<R: Threads + Abort + Sync>(rt: &R, alloc: Global, threads: u32) -> Resu
     Ok(())
 }
 
+#[test]
 fn chains(rt: HostRuntime) -> Result<(), Fail> {
     for threads in [2u32, 4, 8] {
         check(&rt, rt.alloc(), threads)?;

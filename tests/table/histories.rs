@@ -393,6 +393,7 @@ fn take_steps(rt: &impl Abort, alloc: Global, what: &str, steps: &[Step]) -> Res
     Ok(())
 }
 
+#[test]
 fn steps(rt: HostRuntime) -> Result<(), Fail> {
     let tables = [
         ("a bound name", ON_BOUND.as_slice()),
@@ -536,6 +537,7 @@ fn end(alloc: Global, said: &[(Ask, Answer)]) -> Result<Option<Values>, AllocErr
     }
 }
 
+#[test]
 fn histories(rt: HostRuntime) -> Result<(), Fail> {
     for (at, (said, after)) in HISTORIES.iter().enumerate() {
         assert!(rt; end(rt.alloc(), *said)? == *after, "history {at}");

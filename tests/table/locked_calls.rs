@@ -88,6 +88,7 @@ fn ask_once(rt: &impl Abort, locked: &mut NumLocked<'_>) {
     assert!(rt; read(&asked) == 4 && locked.len() == 4);
 }
 
+#[test]
 fn closures_decide(rt: HostRuntime) -> Result<(), Fail> {
     let (first, _, _) = three_callers(rt.alloc(), SIXTEEN_BUCKETS.settings(3))?;
     let Ok(mut locked) = first.lock() else {

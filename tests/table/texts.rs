@@ -4,6 +4,7 @@ use ck_key::TextKey;
 use cuckoo_map::Caller;
 use std::test::Fail;
 
+#[test]
 fn texts_are_found_by_their_bytes(rt: HostRuntime) -> Result<(), Fail> {
     let key = TextKey::new(rt.alloc(), b"ab")?;
     let mut callers: Vec<Caller<'_, TextKey, u64>> = callers_of(

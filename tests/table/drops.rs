@@ -58,6 +58,7 @@ fn fill(rt: &impl Abort, caller: &mut CountedCaller<'_>, drops: &Drops) {
 }
 
 /// What a call takes out is dropped by whoever gets it, or by the call where nobody does.
+#[test]
 fn taken_out(rt: HostRuntime) -> Result<(), Fail> {
     let drops = Arc::new(rt.alloc(), AtomicU64::new(0))?;
     let mut caller = caller_of(&rt, rt.alloc(), &drops)?;
@@ -72,6 +73,7 @@ fn taken_out(rt: HostRuntime) -> Result<(), Fail> {
 }
 
 /// What is replaced comes back.
+#[test]
 fn replaced(rt: HostRuntime) -> Result<(), Fail> {
     let drops = Arc::new(rt.alloc(), AtomicU64::new(0))?;
     let mut caller = caller_of(&rt, rt.alloc(), &drops)?;
@@ -87,6 +89,7 @@ fn replaced(rt: HostRuntime) -> Result<(), Fail> {
 }
 
 /// A value or a closure that a call doesn't take for its key is dropped by the call.
+#[test]
 fn not_taken(rt: HostRuntime) -> Result<(), Fail> {
     let drops = Arc::new(rt.alloc(), AtomicU64::new(0))?;
     let mut caller = caller_of(&rt, rt.alloc(), &drops)?;
@@ -101,6 +104,7 @@ fn not_taken(rt: HostRuntime) -> Result<(), Fail> {
 }
 
 /// A refused insertion hands back its value or its closure.
+#[test]
 fn refused(rt: HostRuntime) -> Result<(), Fail> {
     let drops = Arc::new(rt.alloc(), AtomicU64::new(0))?;
     let mut caller = caller_of(&rt, rt.alloc(), &drops)?;
@@ -119,6 +123,7 @@ fn refused(rt: HostRuntime) -> Result<(), Fail> {
 }
 
 /// A locked table drops what it doesn't retain, and what it is cleared of.
+#[test]
 fn locked(rt: HostRuntime) -> Result<(), Fail> {
     let drops = Arc::new(rt.alloc(), AtomicU64::new(0))?;
     let mut caller = caller_of(&rt, rt.alloc(), &drops)?;
@@ -156,6 +161,7 @@ fn open_and_end(rt: &impl Abort, alloc: Global, drops: &Drops) {
 }
 
 /// A table that ends drops what it still binds.
+#[test]
 fn ended(rt: HostRuntime) -> Result<(), Fail> {
     let drops = Arc::new(rt.alloc(), AtomicU64::new(0))?;
     open_and_end(&rt, rt.alloc(), &drops);

@@ -26,6 +26,7 @@ fn hear_there<'t, R: Threads + Abort + Sync>(
     thread::join(rt, move || hear_and_find(rt, hearer, message), || ());
 }
 
+#[test]
 fn a_message_goes_to_a_thread(rt: HostRuntime) -> Result<(), Fail> {
     let (mut teller, hearer, _) = three_callers(rt.alloc(), FOUR_BUCKETS.settings(3))?;
     hear_there(&rt, &mut teller, hearer);

@@ -78,6 +78,7 @@ fn check(rt: &impl Abort, row: &Row) -> Result<(), Fail> {
     Ok(())
 }
 
+#[test]
 fn searches(rt: HostRuntime) -> Result<(), Fail> {
     let chain = CHAIN;
     for row in [

@@ -42,6 +42,7 @@ fn why(rt: &impl Abort, caller: &mut NumCaller<'_>, from: u64, to: NumKey) -> Op
     }
 }
 
+#[test]
 fn a_value_goes_to_another_key(rt: HostRuntime) -> Result<(), Fail> {
     let (mut caller, _, _) = three_callers(rt.alloc(), SIXTEEN_BUCKETS.settings(3))?;
     assert!(&rt; bind_all(&mut caller, BOUND));
@@ -68,6 +69,7 @@ fn a_value_goes_to_another_key(rt: HostRuntime) -> Result<(), Fail> {
     Ok(())
 }
 
+#[test]
 fn texts_are_renamed(rt: HostRuntime) -> Result<(), Fail> {
     let left = TextKey::new(rt.alloc(), b"left")?;
     let right = TextKey::new(rt.alloc(), b"right")?;
@@ -81,6 +83,7 @@ fn texts_are_renamed(rt: HostRuntime) -> Result<(), Fail> {
     Ok(())
 }
 
+#[test]
 fn a_key_is_not_renamed_to_itself(rt: HostRuntime) -> Result<(), Fail> {
     let (mut caller, _, _) = three_callers(rt.alloc(), SIXTEEN_BUCKETS.settings(3))?;
     assert!(&rt; bind_all(&mut caller, BOUND));
@@ -93,6 +96,7 @@ fn a_key_is_not_renamed_to_itself(rt: HostRuntime) -> Result<(), Fail> {
     Ok(())
 }
 
+#[test]
 fn a_held_stripe_of_either_key_is_busy(rt: HostRuntime) -> Result<(), Fail> {
     let (mut first, mut second, _) = three_callers(rt.alloc(), SIXTEEN_BUCKETS.settings(3))?;
     assert!(&rt; bind_all(&mut first, BOUND));
@@ -109,6 +113,7 @@ fn a_held_stripe_of_either_key_is_busy(rt: HostRuntime) -> Result<(), Fail> {
 }
 
 /// In a table whose two buckets for a key are full and which may not grow.
+#[test]
 fn the_slot_that_is_left_is_free(rt: HostRuntime) -> Result<(), Fail> {
     let (mut caller, _, _) = three_callers(rt.alloc(), FOUR_BUCKETS.settings(3))?;
     assert!(&rt; bind_all(&mut caller, EIGHT_APART));
@@ -137,6 +142,7 @@ fn the_slot_that_is_left_is_free(rt: HostRuntime) -> Result<(), Fail> {
     Ok(())
 }
 
+#[test]
 fn a_table_grows_for_a_new_name(rt: HostRuntime) -> Result<(), Fail> {
     let (mut caller, _, _) = three_callers(rt.alloc(), SETTINGS)?;
     assert!(&rt; bind_all(&mut caller, ONE_BUCKET));
@@ -149,6 +155,7 @@ fn a_table_grows_for_a_new_name(rt: HostRuntime) -> Result<(), Fail> {
     Ok(())
 }
 
+#[test]
 fn room_is_made_ahead(rt: HostRuntime) -> Result<(), Fail> {
     let (mut caller, _, _) = three_callers(rt.alloc(), SETTINGS)?;
     assert!(&rt; bind_all(&mut caller, ONE_BUCKET));
@@ -212,6 +219,7 @@ fn check<R: Threads + Abort + Sync>(rt: &R, alloc: Global) -> Result<(), Fail> {
     Ok(())
 }
 
+#[test]
 fn one_name_is_bound_at_each_moment(rt: HostRuntime) -> Result<(), Fail> {
     check(&rt, rt.alloc())
 }

@@ -75,12 +75,14 @@ fn take_rows<F: FnMut(Size) -> Grown + Drop>(rt: &impl Abort, rows: &[Row], mut 
     }
 }
 
+#[test]
 fn powers_and_slots(rt: HostRuntime) -> Result<(), Fail> {
     let (mut first, _, _) = three_callers(rt.alloc(), TWO_STRIPES)?;
     take_rows(&rt, &ROWS, |size| grow_caller(&mut first, size));
     Ok(())
 }
 
+#[test]
 fn the_greatest_powers(rt: HostRuntime) -> Result<(), Fail> {
     let settings = Settings {
         max: 26,
@@ -111,6 +113,7 @@ fn find_all(rt: &impl Abort, caller: &mut NumCaller<'_>) {
 }
 
 /// All keys stay, also where more than one doubling is made at once.
+#[test]
 fn keys_stay(rt: HostRuntime) -> Result<(), Fail> {
     let (mut first, mut second, _) = three_callers(rt.alloc(), TWO_STRIPES)?;
     bind_all(&rt, &mut first);
@@ -137,6 +140,7 @@ fn refused_meanwhile(rt: &impl Abort, caller: &mut NumCaller<'_>) {
     }
 }
 
+#[test]
 fn while_locked(rt: HostRuntime) -> Result<(), Fail> {
     let (first, mut second, _) = three_callers(rt.alloc(), TWO_STRIPES)?;
     let Ok(locked) = first.lock() else {
@@ -150,6 +154,7 @@ fn while_locked(rt: HostRuntime) -> Result<(), Fail> {
 }
 
 /// A locked table grows as another does.
+#[test]
 fn a_locked_table(rt: HostRuntime) -> Result<(), Fail> {
     let (mut first, _, _) = three_callers(rt.alloc(), TWO_STRIPES)?;
     bind_all(&rt, &mut first);
