@@ -1,0 +1,104 @@
+//! What calls are answered, and how it is printed.
+use crate::watch::Watch;
+use cuckoo_map::{Busy, GrowFault, NumKey, Refused, Uprased, Why};
+use std::io;
+
+/// What a call is answered.
+#[derive(Clone, Copy)]
+pub enum Answer {
+    /// A value; `None` where the key is unbound.
+    Value(Option<u64>),
+    Yes(bool),
+    /// Whether the key is bound anew.
+    New(bool),
+    Uprased(Uprased),
+    Count(u64),
+    /// A closure failed with this.
+    Failed(u64),
+    Busy(u32),
+    /// The value came back.
+    ValueBack(u64, u32),
+    /// Key and value came back.
+    Back(u64, u64, Why),
+    /// The key came back, and the closure that was to make a value.
+    KeyBack(u64, Why),
+    /// A growth is refused.
+    NotGrown(GrowFault),
+}
+
+/// The answer of a call that may be refused for a stripe alone.
+pub fn answered<T, F: FnOnce(T) -> Answer + Drop>(outcome: Result<T, Busy>, answer: F) -> Answer {
+    match outcome {
+        Ok(told) => answer(told),
+        Err(busy) => Answer::Busy(busy.0),
+    }
+}
+
+/// The answer of a call that may bind the key to this value.
+pub fn placed<T, F: FnOnce(T) -> Answer + Drop>(
+    outcome: Result<T, Refused<NumKey, u64>>,
+    answer: F,
+) -> Answer {
+    match outcome {
+        Ok(told) => answer(told),
+        Err(Refused { key, value, why }) => Answer::Back(key.0, value, why),
+    }
+}
+
+/// The answer of a call that may bind the key to what its closure makes.
+pub fn placed_with<T, V: Drop, F: FnOnce(T) -> Answer + Drop>(
+    outcome: Result<T, Refused<NumKey, V>>,
+    answer: F,
+) -> Answer {
+    match outcome {
+        Ok(told) => answer(told),
+        Err(Refused { key, why, .. }) => Answer::KeyBack(key.0, why),
+    }
+}
+
+/// Prints the answer of a call, and how often its closures were called, where they were.
+pub fn print(rt: &impl Print, answer: Answer, watch: &Watch) -> io::Result<()> {
+    match answer {
+        Answer::Value(Some(value)) => print!(rt; "{value}")?,
+        Answer::Value(None) => print!(rt; "unbound")?,
+        Answer::Yes(yes) => print!(rt; "{}", if yes { "yes" } else { "no" })?,
+        Answer::New(new) => print!(rt; "{}", if new { "new" } else { "bound" })?,
+        Answer::Uprased(uprased) => print!(rt; "{}", word_of(uprased))?,
+        Answer::Count(count) => print!(rt; "{count}")?,
+        Answer::Failed(with) => print!(rt; "failed {with}")?,
+        Answer::Busy(t) => print!(rt; "busy {t}")?,
+        Answer::ValueBack(value, t) => print!(rt; "busy {t}: {value} came back")?,
+        Answer::Back(key, value, why) => {
+            print_reason(rt, why)?;
+            print!(rt; ": {key} {value} came back")?;
+        }
+        Answer::KeyBack(key, why) => {
+            print_reason(rt, why)?;
+            print!(rt; ": {key} came back")?;
+        }
+        Answer::NotGrown(fault) => print!(rt; "refused: {fault}")?,
+    }
+    match watch.calls() {
+        0 => println!(rt; ""),
+        1 => println!(rt; ", called"),
+        many => println!(rt; ", called {many} times"),
+    }
+}
+
+fn word_of(uprased: Uprased) -> &'static str {
+    match uprased {
+        Uprased::New => "new",
+        Uprased::Changed => "changed",
+        Uprased::Erased => "erased",
+    }
+}
+
+/// Prints why an insertion is refused.
+fn print_reason(rt: &impl Print, why: Why) -> io::Result<()> {
+    match why {
+        Why::Busy(t) => print!(rt; "busy {t}"),
+        Why::Memory => print!(rt; "memory"),
+        Why::Full => print!(rt; "full"),
+        Why::LoadTooLow => print!(rt; "load"),
+    }
+}
