@@ -20,6 +20,7 @@ mod locked_keys_calls;
 // What lines are for, each for itself or in blocks.
 mod sessions;
 mod stage;
+mod threads;
 
 use anyhow::Result;
 use line::Line;

@@ -7,6 +7,7 @@ use crate::watch::Watch;
 use anyhow::{Context, Result, bail};
 use cuckoo_map::{Handle, NumKey, Settings};
 use std::alloc::Global;
+use std::thread::Threads;
 
 /// The handles of a table, where they aren't lent.
 #[derive(Drop)]
@@ -71,7 +72,7 @@ fn block<'l, 'a>(lines: &'l [Line<'a>]) -> &'l [Line<'a>] {
 }
 
 /// Plays all lines.
-pub fn play(rt: &impl Print, alloc: Global, lines: &[Line]) -> Result<()> {
+pub fn play<R: Print + Threads + Sync>(rt: &R, alloc: Global, lines: &[Line]) -> Result<()> {
     let mut stage = Stage::new(alloc);
     let mut next = 0;
     for (i, line) in lines.iter().enumerate() {
@@ -86,6 +87,11 @@ pub fn play(rt: &impl Print, alloc: Global, lines: &[Line]) -> Result<()> {
                 let inner = block(&lines[i + 1..]);
                 next = i + 1 + inner.len();
                 stage.lock(rt, line.who, inner)?;
+            }
+            "threads" => {
+                let inner = block(&lines[i + 1..]);
+                next = i + 1 + inner.len();
+                stage.play_in_threads(rt, alloc, line, inner)?;
             }
             _ => stage.call(rt, line)?,
         }
