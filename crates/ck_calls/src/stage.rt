@@ -71,6 +71,13 @@ fn block<'l, 'a>(lines: &'l [Line<'a>]) -> &'l [Line<'a>] {
     &lines[..end.unwrap_or(lines.len())]
 }
 
+fn print_all(rt: &impl Print, lines: &[Line]) -> Result<()> {
+    for line in lines {
+        println!(rt; "{}", line.text)?;
+    }
+    Ok(())
+}
+
 /// Plays all lines.
 pub fn play<R: Print + Threads + Sync>(rt: &R, alloc: Global, lines: &[Line]) -> Result<()> {
     let mut stage = Stage::new(alloc);
@@ -91,6 +98,7 @@ pub fn play<R: Print + Threads + Sync>(rt: &R, alloc: Global, lines: &[Line]) ->
             "threads" => {
                 let inner = block(&lines[i + 1..]);
                 next = i + 1 + inner.len();
+                print_all(rt, inner)?;
                 stage.play_in_threads(rt, alloc, line, inner)?;
             }
             _ => stage.call(rt, line)?,
