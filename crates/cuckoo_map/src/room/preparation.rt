@@ -10,6 +10,11 @@ use ck_model::settings::Settings;
 use ck_stripe::Spares;
 use std::sync::atomic::{AtomicBool, Ordering};
 
+// How often a caller looks whether another one has prepared a doubling. That takes milliseconds, so
+// it isn't `turns` that ends the wait: a caller of few would request all blocks again, under all
+// stripes.
+const MOST_LOOKS: u32 = 1024;
+
 // A lock for the caller that prepares a doubling.
 #[derive(Drop)]
 pub(crate) struct GrowthLock {
@@ -37,15 +42,22 @@ impl GrowthLock {
         self.held.store(false, Ordering::Release);
     }
 
-    // Waits until nobody has it, in at most so many tries, and says whether that is so.
-    fn wait<K: TableKey>(&self, turns: u32) -> bool {
-        for tries in 1..turns {
+    // Waits until nobody has it, and says whether that is so before it gives up.
+    fn wait<K: TableKey>(&self) -> bool {
+        for _ in 0..MOST_LOOKS {
             if !self.held.load(Ordering::Acquire) {
                 return true;
             }
-            K::pause(tries);
+            rest::<K>();
         }
         false
+    }
+}
+
+// What passes between two looks.
+fn rest<K: TableKey>() {
+    for tries in 1..=256 {
+        K::pause(tries);
     }
 }
 
@@ -65,12 +77,12 @@ impl<K: TableKey + Drop, V: Drop> Table<K, V> {
     pub(crate) fn prepare(&self, preparation: &mut Preparation<K, V>, power: u32) -> bool
         requires { self.now.settings.s ≤ power }
     {
-        let Settings { s, max, turns, .. } = self.words.settings();
+        let Settings { s, max, .. } = self.words.settings();
         if power >= max {
             return true;
         }
         if !self.growth.try_lock() {
-            return !self.growth.wait::<K>(turns);
+            return !self.growth.wait::<K>();
         }
         preparation.has_lock = true;
         preparation.spares = Spares::open(self.alloc, s, power).ok();
