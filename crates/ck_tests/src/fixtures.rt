@@ -1,8 +1,8 @@
 //! What the tests of the table share: callers of small tables.
 
 use ck_key::{NumKey, TableKey};
-use cuckoo_map::{Caller, LockedTable, Pass, Settings, Table};
-use std::alloc::{AllocError, Global};
+use cuckoo_map::{Caller, Pass, Settings, Table};
+use std::alloc::Global;
 use std::sync::atomic::{AtomicU64, Ordering};
 use std::test::Fail;
 
@@ -14,20 +14,6 @@ pub type NumPass = Pass<NumKey, u64>;
 
 /// A caller of such a table.
 pub type NumCaller<'t> = Caller<'t, NumKey, u64>;
-
-/// Such a table, locked.
-pub type NumLocked<'t> = LockedTable<'t, NumKey, u64>;
-
-/// Two stripes of two buckets each, for three callers.
-pub const TWO_STRIPES: Settings = Settings {
-    s: 1,
-    power: 2,
-    max: 20,
-    callers: 3,
-    turns: 3,
-    rounds: 4,
-    min_load: 5,
-};
 
 /// The stripes and buckets of a table, and how many tries an insertion makes to displace entries.
 #[derive(Clone, Copy)]
@@ -42,14 +28,6 @@ pub struct Shape {
 pub const SIXTEEN_BUCKETS: Shape = Shape {
     s: 2,
     power: 4,
-    max: 20,
-    rounds: 4,
-};
-
-/// Two stripes of two buckets each, which may grow.
-pub const GROWING: Shape = Shape {
-    s: 1,
-    power: 2,
     max: 20,
     rounds: 4,
 };
@@ -141,23 +119,6 @@ fn three_of<'t>(table: &'t NumTable, passes: Vec<NumPass>) -> Result<Three<'t>, 
     ))
 }
 
-/// Binds these keys to these values, and says whether each was unbound before. It stops at one that
-/// wasn't, or that was refused.
-pub fn bind_all(caller: &mut NumCaller<'_>, pairs: &[(u64, u64)]) -> bool {
-    for (key, value) in pairs {
-        if !matches!(caller.insert(NumKey(*key), *value), Ok(true)) {
-            return false;
-        }
-    }
-    true
-}
-
-/// Whether the pairs are these, each key by its number.
-pub fn are_pairs(pairs: &[(NumKey, u64)], wanted: &[(u64, u64)]) -> bool {
-    let numbers = pairs.iter().map(|(key, value)| (key.0, *value));
-    numbers.eq(wanted.iter().copied())
-}
-
 /// Adds one, and gives what there was before.
 pub fn count(counter: &AtomicU64) -> u64 {
     counter.fetch_add(1, Ordering::SeqCst)
@@ -166,13 +127,4 @@ pub fn count(counter: &AtomicU64) -> u64 {
 /// What a counter has come to.
 pub fn read(counter: &AtomicU64) -> u64 {
     counter.load(Ordering::SeqCst)
-}
-
-/// So many counters at 0.
-pub fn counters(alloc: Global, many: usize) -> Result<Vec<AtomicU64>, AllocError> {
-    let mut all = Vec::new(alloc);
-    for _ in 0..many {
-        all.push(AtomicU64::new(0))?;
-    }
-    Ok(all)
 }

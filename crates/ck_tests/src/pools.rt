@@ -1,8 +1,8 @@
 //! Threads that borrow callers of a pool.
 
-use crate::fixtures::{NumCaller, SIXTEEN_BUCKETS, callers_of, three_callers};
+use crate::fixtures::{NumCaller, SIXTEEN_BUCKETS, callers_of};
 use ck_key::NumKey;
-use cuckoo_map::{AllLent, DrainFault, NotDrained, Pool, Settings};
+use cuckoo_map::{AllLent, Pool, Settings};
 use std::alloc::Global;
 use std::process::Abort;
 use std::sync::Wait;
@@ -115,28 +115,5 @@ fn items_in_their_order(rt: HostRuntime) -> Result<(), Fail> {
     let pool = Pool::new(alloc, vec![in alloc; 1u64, 2, 3]?)?;
     let items = pool.into_vec(alloc)?;
     assert!(rt; items.as_slice() == [1, 2, 3].as_slice());
-    Ok(())
-}
-
-/// While another caller has locked the table, it isn't drained; then it is.
-#[test]
-fn drain_beside_a_lock(rt: HostRuntime) -> Result<(), Fail> {
-    let alloc = rt.alloc();
-    let (first, second, _) = three_callers(alloc, SIXTEEN_BUCKETS.settings(3))?;
-    let Ok(mut locked) = second.lock() else {
-        panic!(rt; "the first call was busy");
-    };
-    let bound = locked.insert(NumKey(5), 50);
-    let refused = first.drain(alloc);
-    locked.unlock();
-    assert!(rt; bound.is_ok());
-    let Err(NotDrained { caller, why }) = refused else {
-        panic!(rt; "drained a table that another caller has locked");
-    };
-    assert!(rt; matches!(why, DrainFault::Busy(_)));
-    let Ok((_, pairs)) = caller.drain(alloc) else {
-        panic!(rt; "refused once the table was unlocked");
-    };
-    assert!(rt; pairs.as_slice() == [(NumKey(5), 50)].as_slice());
     Ok(())
 }
