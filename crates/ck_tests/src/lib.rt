@@ -3,21 +3,19 @@
 //! written.
 #![tactic(auto)]
 
-// Small tables, and their callers.
+// What they share.
 #[cfg(test)]
 mod fixtures;
 
-// Keys, searches and histories.
+// Keys, queries, searches and histories.
 #[cfg(test)]
 mod histories;
 #[cfg(test)]
 mod keys;
 #[cfg(test)]
+mod queries;
+#[cfg(test)]
 mod searches;
-#[cfg(test)]
-mod texts;
-#[cfg(test)]
-mod two_part_keys;
 
 // What is dropped, and how often.
 #[cfg(test)]

@@ -1,8 +1,7 @@
-//! Threads that borrow callers of a pool.
+//! Threads that borrow handles of a pool.
 
-use crate::fixtures::{NumCaller, SIXTEEN_BUCKETS, callers_of};
-use ck_key::NumKey;
-use cuckoo_map::{AllLent, Pool, Settings};
+use crate::fixtures::sixteen_buckets;
+use cuckoo_map::{AllLent, Handle, NumKey, Pool};
 use std::alloc::Global;
 use std::process::Abort;
 use std::sync::Wait;
@@ -10,9 +9,11 @@ use std::test::Fail;
 use std::thread;
 use std::thread::Threads;
 
-type NumPool<'t> = Pool<NumCaller<'t>>;
+type NumHandle = Handle<NumKey, u64>;
 
-/// How many threads borrow callers.
+type NumPool = Pool<NumHandle>;
+
+/// How many threads borrow handles.
 const THREADS: u64 = 16;
 
 /// How many keys they have.
@@ -21,20 +22,12 @@ const KEYS: u64 = 5;
 /// How often each of them adds one.
 const CALLS: u64 = 300;
 
-/// Callers of an empty table, so many of them.
-fn settings(callers: u32) -> Settings {
-    Settings {
-        turns: u32::MAX,
-        ..SIXTEEN_BUCKETS.settings(callers)
-    }
-}
-
-/// Adds one to the key by whichever caller is free, once there is one.
-fn add<R: Wait>(rt: &R, pool: &NumPool<'_>, key: u64) -> bool {
+/// Adds one to the key by whichever handle is free, once there is one.
+fn add<R: Wait>(rt: &R, pool: &NumPool, key: u64) -> bool {
     for _ in rt.forever() {
         match pool.lend() {
-            Ok(mut caller) => {
-                let added = caller.upsert(NumKey(key), |count| count.saturating_add(1), 1);
+            Ok(mut handle) => {
+                let added = handle.upsert(NumKey(key), |count| count.saturating_add(1), 1);
                 return added.is_ok();
             }
             Err(AllLent) => thread::yield_now(),
@@ -44,7 +37,7 @@ fn add<R: Wait>(rt: &R, pool: &NumPool<'_>, key: u64) -> bool {
 }
 
 /// What a thread does.
-fn work<R: Wait>(rt: &R, pool: &NumPool<'_>, thread: u64) -> bool {
+fn work<R: Wait>(rt: &R, pool: &NumPool, thread: u64) -> bool {
     for _ in 0..CALLS {
         if !add(rt, pool, thread % KEYS) {
             return false;
@@ -53,13 +46,11 @@ fn work<R: Wait>(rt: &R, pool: &NumPool<'_>, thread: u64) -> bool {
     true
 }
 
-/// Finds all callers, and what was added to each key.
-fn check_sums(rt: &impl Abort, alloc: Global, mut callers: Vec<NumCaller<'_>>) {
-    assert!(rt; callers.len() == 4);
-    let Some(caller) = callers.pop() else {
-        panic!(rt; "no caller");
-    };
-    let Ok((_, pairs)) = caller.drain(alloc) else {
+/// Finds all handles, and what was added to each key.
+fn check_sums(rt: &impl Abort, alloc: Global, mut handles: Vec<NumHandle>) {
+    assert!(rt; handles.len() == 4);
+    let handle = handles.pop().expect(rt, "a handle");
+    let Ok((_, pairs)) = handle.drain(alloc) else {
         panic!(rt; "the pairs were not taken out");
     };
     // Four threads add to one key, and three to each other one.
@@ -71,38 +62,38 @@ fn check_sums(rt: &impl Abort, alloc: Global, mut callers: Vec<NumCaller<'_>>) {
 }
 
 /// Runs all threads over the pool.
-fn run<R: Threads + Wait + Sync>(rt: &R, alloc: Global, pool: &NumPool<'_>) -> Result<bool, Fail> {
+fn run<R: Threads + Wait + Sync>(rt: &R, alloc: Global, pool: &NumPool) -> Result<bool, Fail> {
     let jobs: Vec<u64> = (0..THREADS).collect(alloc)?;
     let done = thread::map_vec(rt, jobs, &|thread: u64| work(rt, pool, thread))?;
     Ok(done.iter().all(|added| *added))
 }
 
-/// More threads than callers add to a few keys, and no addition and no caller is lost.
+/// More threads than handles add to a few keys, and no addition and no handle is lost.
 #[test]
-fn more_threads_than_callers(rt: HostRuntime) -> Result<(), Fail> {
+fn more_threads_than_handles(rt: HostRuntime) -> Result<(), Fail> {
     let alloc = rt.alloc();
-    let pool: NumPool<'_> = Pool::new(alloc, callers_of(alloc, settings(4))?)?;
+    let pool = Pool::new(alloc, Handle::open(alloc, sixteen_buckets(4))?)?;
     let added = run(&rt, alloc, &pool)?;
     assert!(rt; added);
-    let Ok(callers) = pool.into_vec(alloc) else {
-        panic!(rt; "no memory for the callers");
+    let Ok(handles) = pool.into_vec(alloc) else {
+        panic!(rt; "no memory for the handles");
     };
-    check_sums(&rt, alloc, callers);
+    check_sums(&rt, alloc, handles);
     Ok(())
 }
 
-/// While its only caller is lent, a pool lends none; then it lends it again.
+/// While its only handle is lent, a pool lends none; then it lends it again.
 #[test]
-fn one_caller(rt: HostRuntime) -> Result<(), Fail> {
+fn one_handle(rt: HostRuntime) -> Result<(), Fail> {
     let alloc = rt.alloc();
-    let pool: NumPool<'_> = Pool::new(alloc, callers_of(alloc, settings(1))?)?;
+    let pool: NumPool = Pool::new(alloc, Handle::open(alloc, sixteen_buckets(1))?)?;
     assert!(rt; pool.len() == 1);
-    let mut first = pool.lend().expect(&rt, "a caller");
+    let mut first = pool.lend().expect(&rt, "a handle");
     assert!(rt; pool.lend().is_err());
     let fresh = first.insert(NumKey(5), 50);
     assert!(rt; fresh.is_ok());
     drop(first);
-    let mut second = pool.lend().expect(&rt, "the caller that came back");
+    let mut second = pool.lend().expect(&rt, "the handle that came back");
     let found = second.find(&NumKey(5));
     assert!(rt; found == Ok(Some(50)));
     Ok(())
