@@ -25,8 +25,6 @@ mod lists;
 
 // Threads.
 #[cfg(test)]
-mod messages;
-#[cfg(test)]
 mod overtaken;
 #[cfg(test)]
 mod pools;
