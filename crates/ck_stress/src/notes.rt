@@ -1,8 +1,7 @@
 //! What a thread knows, what it did, and the first answer that was wrong.
-use crate::stress::key::Key;
-use crate::stress::model::Model;
-use crate::stress::tally::Tally;
-use cuckoo_map::{NotRenamed, Refused, RoomFault, Why};
+use crate::model::Model;
+use crate::tally::Tally;
+use cuckoo_map::{NotRenamed, NumKey, Refused, RoomFault, Why};
 use std::alloc::{AllocError, Global};
 use std::io;
 
@@ -86,25 +85,20 @@ impl Notes {
     }
 
     /// Counts a refused insertion of this key and value. Both come back.
-    pub fn refused<K: Key>(&mut self, refused: Refused<K, u64>, key: u64, value: u64) {
+    pub fn refused(&mut self, refused: Refused<NumKey, u64>, key: u64, value: u64) {
         self.check(
             "value that comes back",
             key,
             Some(refused.value),
             Some(value),
         );
-        self.check(
-            "key that comes back",
-            key,
-            Some(refused.key.number()),
-            Some(key),
-        );
+        self.check("key that comes back", key, Some(refused.key.0), Some(key));
         self.count(refused.why);
     }
 
     /// Counts a refused rename to this key, which comes back.
-    pub fn not_renamed<K: Key>(&mut self, back: NotRenamed<K>, key: u64) {
-        let back_key = Some(back.key.number());
+    pub fn not_renamed(&mut self, back: NotRenamed<NumKey>, key: u64) {
+        let back_key = Some(back.key.0);
         self.check("new key that comes back", key, back_key, Some(key));
         match back.why {
             RoomFault::Room(why) => self.count(why),

@@ -11,7 +11,7 @@ ghost use Rattle.std.specs.Ordering.{nat_cmp};
 ghost use Rattle.ck_key.specs.Hashes.{number_hash};
 ghost use Rattle.ck_key.specs.KeyLaws.{number_names, number_hash_below};
 
-use cuckoo_map::{Caller, Settings, Table, TableKey};
+use cuckoo_map::{Handle, Settings, TableKey};
 use std::process::Abort;
 use std::sync::atomic::{AtomicU64, Ordering};
 use std::test::Fail;
@@ -122,24 +122,24 @@ impl TableKey for WaitingKey<'_> {
     ghost hash_below = { number_hash_below };
 }
 
-type WaitingCaller<'t, 'm> = Caller<'t, WaitingKey<'m>, u64>;
+type WaitingHandle<'m> = Handle<WaitingKey<'m>, u64>;
 
 /// Inserts the key that waits, and says whether it was bound anew.
-fn insert_meanwhile<'m>(mut caller: WaitingCaller<'_, 'm>, meeting: &'m Meeting) -> bool {
+fn insert_meanwhile<'m>(mut handle: WaitingHandle<'m>, meeting: &'m Meeting) -> bool {
     let key = WaitingKey {
         number: WAITING,
         meeting,
     };
-    let inserted = caller.insert(key, 9);
+    let inserted = handle.insert(key, 9);
     meeting.inserted.store(1, Ordering::SeqCst);
     inserted.is_ok_and(|fresh| fresh)
 }
 
 /// Doubles the table once the key is hashed for the second time, and then holds stripe 2 until the
 /// insertion has come back. Says whether it could.
-fn double_meanwhile<'m>(mut caller: WaitingCaller<'_, 'm>, meeting: &'m Meeting) -> bool {
+fn double_meanwhile<'m>(mut handle: WaitingHandle<'m>, meeting: &'m Meeting) -> bool {
     meeting.wait_for(&meeting.hashed, 2);
-    let grown = caller.rehash(3);
+    let grown = handle.rehash(3);
     let around = |value: u64| {
         meeting.doubled.store(1, Ordering::SeqCst);
         meeting.wait_for(&meeting.inserted, 1);
@@ -149,27 +149,27 @@ fn double_meanwhile<'m>(mut caller: WaitingCaller<'_, 'm>, meeting: &'m Meeting)
         number: 258,
         meeting,
     };
-    let held = caller.update_fn(&key, around);
+    let held = handle.update_fn(&key, around);
     grown == Ok(true) && held == Ok(true)
 }
 
 /// Binds keys until both buckets of the one that waits are full.
-fn fill<'m>(rt: &impl Abort, caller: &mut WaitingCaller<'_, 'm>, meeting: &'m Meeting) {
+fn fill<'m>(rt: &impl Abort, handle: &mut WaitingHandle<'m>, meeting: &'m Meeting) {
     for number in [258, 0, 4, 8, 12, 1, 5, 9, 13] {
-        let bound = caller.insert(WaitingKey { number, meeting }, 0);
+        let bound = handle.insert(WaitingKey { number, meeting }, 0);
         assert!(rt; bound.is_ok_and(|fresh| fresh), "key {number}");
     }
 }
 
-/// The first caller doubles the table while the second inserts the key that waits.
+/// The first handle doubles the table while the second inserts the key that waits.
 fn meet<'m, R: Threads + Abort + Sync>(
     rt: &R,
     meeting: &'m Meeting,
-    callers: Vec<WaitingCaller<'_, 'm>>,
+    handles: Vec<WaitingHandle<'m>>,
 ) {
-    let mut callers = callers;
-    let mut first = callers.pop().expect(rt, "two callers");
-    let second = callers.pop().expect(rt, "two callers");
+    let mut handles = handles;
+    let mut first = handles.pop().expect(rt, "two handles");
+    let second = handles.pop().expect(rt, "two handles");
     fill(rt, &mut first, meeting);
     let (inserted, doubled) = thread::join(
         rt,
@@ -197,10 +197,7 @@ fn a_doubling_overtakes_a_search(rt: HostRuntime) -> Result<(), Fail> {
         rounds: 4,
         min_load: 5,
     };
-    let (table, passes) = Table::<WaitingKey<'_>, u64>::open(rt.alloc(), settings)?;
-    let Ok(callers) = table.callers(rt.alloc(), passes) else {
-        panic!(rt; "no memory for the callers");
-    };
-    meet(&rt, &meeting, callers);
+    let handles = Handle::<WaitingKey<'_>, u64>::open(rt.alloc(), settings)?;
+    meet(&rt, &meeting, handles);
     Ok(())
 }

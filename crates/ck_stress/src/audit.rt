@@ -1,17 +1,16 @@
 //! Sessions that see one moment of the whole table.
-use crate::stress::calls::Worker;
-use crate::stress::key::Key;
-use crate::stress::model::{ACCOUNTS, COUNTERS, FUND, OWN, PURSES, counter, is_own, own};
-use crate::stress::notes::Notes;
-use std::alloc::Global;
+use crate::calls::Worker;
+use crate::model::{ACCOUNTS, COUNTERS, FUND, OWN, PURSES, counter, is_own, own};
+use crate::notes::Notes;
+use cuckoo_map::{LockedHandle, NumKey};
 
-pub type Locked<'t, K> = cuckoo_map::LockedTable<'t, K, u64>;
+pub type Locked = LockedHandle<NumKey, u64>;
 
 /// What all accounts have.
-fn total<K: Key>(locked: &Locked<'_, K>) -> u64 {
+fn total(locked: &Locked) -> u64 {
     let mut sum = 0u64;
     for (key, value) in locked {
-        if key.number() < ACCOUNTS {
+        if key.0 < ACCOUNTS {
             sum = sum.saturating_add(*value);
         }
     }
@@ -24,48 +23,44 @@ fn is_swept(value: u64) -> bool {
 }
 
 /// Takes some of the thread's keys away, by `retain`.
-fn sweep<K: Key>(notes: &mut Notes, locked: &mut Locked<'_, K>) {
+fn sweep(notes: &mut Notes, locked: &mut Locked) {
     let thread = notes.model.thread;
-    locked.retain(|key: &K, value: &u64| !is_own(thread, key.number()) || !is_swept(*value));
+    locked.retain(|key: &NumKey, value: &u64| !is_own(thread, key.0) || !is_swept(*value));
     for i in 0..OWN {
         let value = notes.model.get(i);
         notes.model.set(i, value.filter(|value| !is_swept(*value)));
     }
 }
 
-/// What the key of this number is bound to; nothing where there is no memory for the key.
-fn value_of<K: Key>(alloc: Global, locked: &Locked<'_, K>, number: u64) -> Option<Option<u64>> {
-    let key = K::of(alloc, number)?;
-    Some(locked.find(&key).copied())
+/// What the key of this number is bound to.
+fn value_of(locked: &Locked, number: u64) -> Option<u64> {
+    locked.find(&NumKey(number)).copied()
 }
 
 /// Whether all keys of the thread are as it knows them, and no money is lost.
-fn check_locked<K: Key>(alloc: Global, notes: &mut Notes, locked: &Locked<'_, K>) {
+fn check_locked(notes: &mut Notes, locked: &Locked) {
     notes.tally.sessions = notes.tally.sessions.saturating_add(1);
     let sum = total(locked);
     notes.check("sum of all accounts", 0, Some(sum), Some(ACCOUNTS * FUND));
     for i in 0..OWN {
         let number = own(notes.model.thread, i);
-        if let Some(got) = value_of(alloc, locked, number) {
-            let want = notes.model.get(i);
-            notes.check("key in a session", number, got, want);
-        }
+        let want = notes.model.get(i);
+        notes.check("key in a session", number, value_of(locked, number), want);
     }
 }
 
 /// Looks at all that the thread knows, with the table locked.
-pub fn audit<'t, K: Key>(worker: Worker<'t, K>) -> Worker<'t, K> {
+pub fn audit(worker: Worker) -> Worker {
     let Worker {
-        caller,
+        handle,
         second,
         mut notes,
-        alloc,
     } = worker;
-    let caller = match caller.lock() {
+    let handle = match handle.lock() {
         Ok(mut locked) => {
-            check_locked(alloc, &mut notes, &locked);
+            check_locked(&mut notes, &locked);
             sweep(&mut notes, &mut locked);
-            check_locked(alloc, &mut notes, &locked);
+            check_locked(&mut notes, &locked);
             locked.unlock_caller()
         }
         Err(refused) => {
@@ -74,16 +69,15 @@ pub fn audit<'t, K: Key>(worker: Worker<'t, K>) -> Worker<'t, K> {
         }
     };
     Worker {
-        caller,
+        handle,
         second,
         notes,
-        alloc,
     }
 }
 
 /// How many keys are bound, as the threads know it: their own, the accounts, the purses, and each
 /// counter that was raised.
-fn bound<K: Key>(workers: &[Worker<'_, K>]) -> u64 {
+fn bound(workers: &[Worker]) -> u64 {
     let mut bound = ACCOUNTS + PURSES;
     for worker in workers {
         bound = bound.saturating_add(worker.notes.model.bound());
@@ -95,7 +89,7 @@ fn bound<K: Key>(workers: &[Worker<'_, K>]) -> u64 {
 }
 
 /// How often all threads raised a counter.
-fn raised<K: Key>(workers: &[Worker<'_, K>], i: u64) -> u64 {
+fn raised(workers: &[Worker], i: u64) -> u64 {
     let mut raised = 0u64;
     for worker in workers {
         raised = raised.saturating_add(worker.notes.model.raised(i));
@@ -104,12 +98,7 @@ fn raised<K: Key>(workers: &[Worker<'_, K>], i: u64) -> u64 {
 }
 
 /// Whether the table has what all threads know together, and no more.
-pub fn check_end<K: Key>(
-    alloc: Global,
-    notes: &mut Notes,
-    locked: &Locked<'_, K>,
-    workers: &[Worker<'_, K>],
-) {
+pub fn check_end(notes: &mut Notes, locked: &Locked, workers: &[Worker]) {
     notes.check(
         "number of keys",
         0,
@@ -118,14 +107,8 @@ pub fn check_end<K: Key>(
     );
     for i in 0..COUNTERS {
         let number = counter(i);
-        if let Some(got) = value_of(alloc, locked, number) {
-            let want = raised(workers, i);
-            notes.check(
-                "sum of a counter",
-                number,
-                Some(got.unwrap_or(0)),
-                Some(want),
-            );
-        }
+        let got = value_of(locked, number).unwrap_or(0);
+        let want = raised(workers, i);
+        notes.check("sum of a counter", number, Some(got), Some(want));
     }
 }

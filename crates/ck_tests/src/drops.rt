@@ -1,7 +1,6 @@
 //! Each value and each closure is dropped once, whichever call takes it. No contract counts drops.
-use crate::fixtures::{APART, EIGHT_APART, FOUR_BUCKETS, callers_of, count, read};
-use ck_key::NumKey;
-use cuckoo_map::{Caller, Settings, Table};
+use crate::fixtures::{APART, count, read};
+use cuckoo_map::{Handle, NumKey, Settings};
 use std::alloc::Global;
 use std::process::Abort;
 use std::sync::Arc;
@@ -32,41 +31,41 @@ impl Counted {
     }
 }
 
-type CountedCaller<'t> = Caller<'t, NumKey, Counted>;
+type CountedHandle = Handle<NumKey, Counted>;
 
-/// A caller of a table that has room for eight keys in steps of `APART`, which are bound. The table
-/// never ends.
-fn caller_of<'t>(rt: &impl Abort, alloc: Global, drops: &Drops) -> Result<CountedCaller<'t>, Fail> {
-    let mut callers = callers_of(alloc, FOUR_BUCKETS.settings(1))?;
-    match callers.pop() {
-        Some(caller) => {
-            let mut caller = caller;
-            fill(rt, &mut caller, drops);
-            Ok(caller)
-        }
-        None => Err(Fail::from("no caller")),
-    }
-}
+/// A table of four buckets, which stays so, for one handle.
+const SETTINGS: Settings = Settings {
+    s: 2,
+    power: 2,
+    max: 2,
+    callers: 1,
+    turns: 1,
+    rounds: 4,
+    min_load: 5,
+};
 
-/// Binds all eight keys for which there is room.
-fn fill(rt: &impl Abort, caller: &mut CountedCaller<'_>, drops: &Drops) {
-    for (key, _) in EIGHT_APART {
-        let bound = caller.insert(NumKey(*key), Counted::new(rt, drops));
+/// A handle of a table that has room for eight keys in steps of `APART`, which are bound.
+fn handle_of(rt: &impl Abort, alloc: Global, drops: &Drops) -> Result<CountedHandle, Fail> {
+    let mut handles = Handle::open(alloc, SETTINGS)?;
+    let mut handle = handles.pop().expect(rt, "a handle");
+    for i in 1..=8u64 {
+        let bound = handle.insert(NumKey(i * APART), Counted::new(rt, drops));
         assert!(rt; bound.is_ok());
     }
     assert!(rt; read(drops) == 0);
+    Ok(handle)
 }
 
 /// What a call takes out is dropped by whoever gets it, or by the call where nobody does.
 #[test]
 fn taken_out(rt: HostRuntime) -> Result<(), Fail> {
     let drops = Arc::new(rt.alloc(), AtomicU64::new(0))?;
-    let mut caller = caller_of(&rt, rt.alloc(), &drops)?;
-    let erased = caller.erase(&NumKey(APART));
+    let mut handle = handle_of(&rt, rt.alloc(), &drops)?;
+    let erased = handle.erase(&NumKey(APART));
     assert!(rt; read(&drops) == 0);
     drop(erased);
     assert!(rt; read(&drops) == 1);
-    let gone = caller.erase_fn(&NumKey(2 * APART), |_value| true);
+    let gone = handle.erase_fn(&NumKey(2 * APART), |_value| true);
     assert!(rt; gone == Ok(Some(true)));
     assert!(rt; read(&drops) == 2);
     Ok(())
@@ -76,12 +75,12 @@ fn taken_out(rt: HostRuntime) -> Result<(), Fail> {
 #[test]
 fn replaced(rt: HostRuntime) -> Result<(), Fail> {
     let drops = Arc::new(rt.alloc(), AtomicU64::new(0))?;
-    let mut caller = caller_of(&rt, rt.alloc(), &drops)?;
-    let assigned = caller.insert_or_assign(NumKey(APART), Counted::new(&rt, &drops));
+    let mut handle = handle_of(&rt, rt.alloc(), &drops)?;
+    let assigned = handle.insert_or_assign(NumKey(APART), Counted::new(&rt, &drops));
     assert!(rt; read(&drops) == 0);
     drop(assigned);
     assert!(rt; read(&drops) == 1);
-    let updated = caller.update(&NumKey(APART), Counted::new(&rt, &drops));
+    let updated = handle.update(&NumKey(APART), Counted::new(&rt, &drops));
     assert!(rt; read(&drops) == 1);
     drop(updated);
     assert!(rt; read(&drops) == 2);
@@ -92,12 +91,12 @@ fn replaced(rt: HostRuntime) -> Result<(), Fail> {
 #[test]
 fn not_taken(rt: HostRuntime) -> Result<(), Fail> {
     let drops = Arc::new(rt.alloc(), AtomicU64::new(0))?;
-    let mut caller = caller_of(&rt, rt.alloc(), &drops)?;
-    let bound = caller.insert(NumKey(APART), Counted::new(&rt, &drops));
+    let mut handle = handle_of(&rt, rt.alloc(), &drops)?;
+    let bound = handle.insert(NumKey(APART), Counted::new(&rt, &drops));
     assert!(rt; matches!(bound, Ok(false)));
     assert!(rt; read(&drops) == 1);
     let value = Counted::new(&rt, &drops);
-    let bound = caller.insert_with(NumKey(APART), move || value);
+    let bound = handle.insert_with(NumKey(APART), move || value);
     assert!(rt; matches!(bound, Ok(false)));
     assert!(rt; read(&drops) == 2);
     Ok(())
@@ -107,14 +106,14 @@ fn not_taken(rt: HostRuntime) -> Result<(), Fail> {
 #[test]
 fn refused(rt: HostRuntime) -> Result<(), Fail> {
     let drops = Arc::new(rt.alloc(), AtomicU64::new(0))?;
-    let mut caller = caller_of(&rt, rt.alloc(), &drops)?;
-    let refused = caller.insert(NumKey(9 * APART), Counted::new(&rt, &drops));
+    let mut handle = handle_of(&rt, rt.alloc(), &drops)?;
+    let refused = handle.insert(NumKey(9 * APART), Counted::new(&rt, &drops));
     assert!(rt; refused.is_err());
     assert!(rt; read(&drops) == 0);
     drop(refused);
     assert!(rt; read(&drops) == 1);
     let value = Counted::new(&rt, &drops);
-    let refused = caller.insert_with(NumKey(9 * APART), move || value);
+    let refused = handle.insert_with(NumKey(9 * APART), move || value);
     assert!(rt; refused.is_err());
     assert!(rt; read(&drops) == 1);
     drop(refused);
@@ -126,9 +125,9 @@ fn refused(rt: HostRuntime) -> Result<(), Fail> {
 #[test]
 fn locked(rt: HostRuntime) -> Result<(), Fail> {
     let drops = Arc::new(rt.alloc(), AtomicU64::new(0))?;
-    let mut caller = caller_of(&rt, rt.alloc(), &drops)?;
-    let Ok(mut locked) = caller.lock() else {
-        panic!(rt; "an only caller was busy");
+    let handle = handle_of(&rt, rt.alloc(), &drops)?;
+    let Ok(mut locked) = handle.lock() else {
+        panic!(rt; "an only handle was busy");
     };
     locked.retain(|key, _value| key.0 > 3 * APART);
     let retained = read(&drops);
@@ -140,31 +139,12 @@ fn locked(rt: HostRuntime) -> Result<(), Fail> {
     Ok(())
 }
 
-/// For one caller.
-const SETTINGS: Settings = Settings {
-    s: 2,
-    power: 2,
-    max: 2,
-    callers: 1,
-    turns: 1,
-    rounds: 4,
-    min_load: 5,
-};
-
-/// Opens a table, fills it, and ends it.
-fn open_and_end(rt: &impl Abort, alloc: Global, drops: &Drops) {
-    let Ok((table, mut passes)) = Table::<NumKey, Counted>::open(alloc, SETTINGS) else {
-        panic!(rt; "no memory for a table");
-    };
-    let mut caller = table.caller(passes.remove(0));
-    fill(rt, &mut caller, drops);
-}
-
 /// A table that ends drops what it still binds.
 #[test]
 fn ended(rt: HostRuntime) -> Result<(), Fail> {
     let drops = Arc::new(rt.alloc(), AtomicU64::new(0))?;
-    open_and_end(&rt, rt.alloc(), &drops);
+    let handle = handle_of(&rt, rt.alloc(), &drops)?;
+    drop(handle);
     assert!(rt; read(&drops) == 8);
     Ok(())
 }

@@ -1,4 +1,5 @@
 //! Hashes, buckets and stripes that were worked out by hand, and what a text key may be.
+ghost use Rattle.std.specs.Prelude.{◌≤◌};
 
 use ck_key::{
     KeyFault, MixedKey, NumKey, NumTextKey, PairKey, Query, TableKey, TextKey, alternate, index,
@@ -35,7 +36,9 @@ fn row_of(
     }
 }
 
-fn buckets(p: u32, t: u8, h: u64) -> (u64, u64) {
+fn buckets(p: u32, t: u8, h: u64) -> (u64, u64)
+    requires { p ≤ 26 }
+{
     let first = index(p, h);
     (first, alternate(p, t, first))
 }

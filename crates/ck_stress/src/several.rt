@@ -1,9 +1,8 @@
 //! Calls on several keys at once.
-use crate::stress::calls::{Caller, Worker};
-use crate::stress::key::Key;
-use crate::stress::model::{FUND, OWN, PURSES, own, purse};
-use crate::stress::notes::Notes;
-use cuckoo_map::Renamed;
+use crate::calls::{NumHandle, Worker};
+use crate::model::{FUND, OWN, PURSES, own, purse};
+use crate::notes::Notes;
+use cuckoo_map::{NumKey, Renamed};
 
 /// Moves the amount from each of two purses to the third, where they have it.
 fn collect(purses: &mut [u64], amount: u64) {
@@ -19,10 +18,11 @@ fn collect(purses: &mut [u64], amount: u64) {
     }
 }
 
-impl<'t, K: Key> Worker<'t, K> {
-    // All purses at one moment: none of them is ever unbound, and nothing of their sum is lost.
-    fn look_at(&mut self, a: &K, b: &K, c: &K, d: &K) {
-        match self.caller.find_all([a, b, c, d]) {
+impl Worker {
+    /// All purses at one moment: none of them is ever unbound, and nothing of their sum is lost.
+    pub fn look_at_purses(&mut self) {
+        let [a, b, c, d] = [0, 1, 2, 3].map(|i: u64| NumKey(purse(i)));
+        match self.handle.find_all([&a, &b, &c, &d]) {
             Ok(values) => {
                 let sum = values.iter().fold(0u64, |sum: u64, value| {
                     sum.saturating_add(value.unwrap_or(u64::MAX))
@@ -34,43 +34,18 @@ impl<'t, K: Key> Worker<'t, K> {
         }
     }
 
-    // The purses are all bound.
-    fn collect_from(&mut self, from: &K, other: &K, to: &K, amount: u64) {
-        let moved = |purses: &mut [u64]| collect(purses, amount);
-        match self.caller.update_all([from, other, to], moved) {
-            Ok(before) => {
-                let bound = before.iter().all(|value: &Option<u64>| value.is_some());
-                self.notes
-                    .check_bool("update_all", from.number(), bound, true);
-            }
-            Err(_) => self.notes.busy(),
-        }
-    }
-
-    /// Looks at all purses.
-    pub fn look_at_purses(&mut self) {
-        let alloc = self.alloc;
-        let (Some(a), Some(b)) = (K::of(alloc, purse(0)), K::of(alloc, purse(1))) else {
-            return;
-        };
-        let (Some(c), Some(d)) = (K::of(alloc, purse(2)), K::of(alloc, purse(3))) else {
-            return;
-        };
-        self.look_at(&a, &b, &c, &d);
-    }
-
-    /// Moves money from two purses to a third.
+    /// Moves money from two purses to a third. All are bound.
     pub fn collect(&mut self) {
-        let alloc = self.alloc;
         let first = self.notes.model.below(PURSES);
         let amount = self.notes.model.below(50);
-        let (second, third) = (first.wrapping_add(1), first.wrapping_add(2));
-        let (Some(from), Some(other)) = (K::of(alloc, purse(first)), K::of(alloc, purse(second)))
-        else {
-            return;
-        };
-        if let Some(to) = K::of(alloc, purse(third)) {
-            self.collect_from(&from, &other, &to, amount);
+        let [from, other, to] = [0, 1, 2].map(|i: u64| NumKey(purse(first.wrapping_add(i))));
+        let moved = |purses: &mut [u64]| collect(purses, amount);
+        match self.handle.update_all([&from, &other, &to], moved) {
+            Ok(before) => {
+                let bound = before.iter().all(|value: &Option<u64>| value.is_some());
+                self.notes.check_bool("update_all", from.0, bound, true);
+            }
+            Err(_) => self.notes.busy(),
         }
     }
 }
@@ -83,15 +58,15 @@ struct Two {
 }
 
 // Locks two keys, and exchanges their values; where one alone is bound, it is unbound.
-fn exchange_keys<'t, K: Key>(
-    caller: Caller<'t, K>,
+fn exchange_keys(
+    handle: NumHandle,
     notes: &mut Notes,
     two: Two,
-    a: &K,
-    b: &K,
-) -> Caller<'t, K> {
+    a: &NumKey,
+    b: &NumKey,
+) -> NumHandle {
     let keys = [a, b];
-    let mut locked = match caller.lock_keys(&keys) {
+    let mut locked = match handle.lock_keys(&keys) {
         Ok(locked) => locked,
         Err(refused) => {
             notes.busy();
@@ -133,12 +108,12 @@ fn renamed(left: Option<u64>, right: Option<u64>) -> Renamed {
     }
 }
 
-impl<'t, K: Key> Worker<'t, K> {
-    fn rename_own(&mut self, two: Two, from: &K, to: K) {
+impl Worker {
+    fn rename_own(&mut self, two: Two, from: &NumKey, to: NumKey) {
         let Two { i, j } = two;
         let (left, right) = (self.notes.model.get(i), self.notes.model.get(j));
-        let number = to.number();
-        match self.caller.rename(from, to) {
+        let number = to.0;
+        match self.handle.rename(from, to) {
             Ok(came) => {
                 let is_right = came == renamed(left, right);
                 self.notes.check_bool("rename", number, is_right, true);
@@ -154,36 +129,26 @@ impl<'t, K: Key> Worker<'t, K> {
     /// Renames a key of the thread's own to another one.
     pub fn rename(&mut self) {
         let two = two_own(&mut self.notes);
-        let (alloc, thread) = (self.alloc, self.notes.model.thread);
-        let (Some(from), Some(to)) = (
-            K::of(alloc, own(thread, two.i)),
-            K::of(alloc, own(thread, two.j)),
-        ) else {
-            return;
-        };
+        let thread = self.notes.model.thread;
+        let (from, to) = (NumKey(own(thread, two.i)), NumKey(own(thread, two.j)));
         self.rename_own(two, &from, to);
     }
 }
 
 /// Exchanges the values of two keys of the thread's own, in a session on them.
-pub fn exchange<'t, K: Key>(worker: Worker<'t, K>) -> Worker<'t, K> {
+pub fn exchange(worker: Worker) -> Worker {
     let Worker {
-        caller,
+        handle,
         second,
         mut notes,
-        alloc,
     } = worker;
     let two = two_own(&mut notes);
     let thread = notes.model.thread;
-    let (i, j) = (own(thread, two.i), own(thread, two.j));
-    let caller = match (K::of(alloc, i), K::of(alloc, j)) {
-        (Some(a), Some(b)) => exchange_keys(caller, &mut notes, two, &a, &b),
-        _ => caller,
-    };
+    let (a, b) = (NumKey(own(thread, two.i)), NumKey(own(thread, two.j)));
+    let handle = exchange_keys(handle, &mut notes, two, &a, &b);
     Worker {
-        caller,
+        handle,
         second,
         notes,
-        alloc,
     }
 }

@@ -1,33 +1,27 @@
 //! Threads that do all that they can to one table at once, and a count of what it lost.
 //!
-//! `.ci/tests SECONDS [THREADS [SEED]]` makes a program of it, which makes a round a second, each
-//! with a table of its own that grows from a few buckets, and says after each what was done. The
-//! first wrong answer ends it, with status 1 and all that is needed to see it again. With no word it
-//! makes one short round, as a test does.
+//! `ck_stress SECONDS [THREADS [SEED]]` makes a round a second, each with a table of its own that
+//! grows from a few buckets, and says after each what was done. The first wrong answer ends it, with
+//! status 1 and all that is needed to see it again. With no word it makes one short round.
+#![tactic(auto)]
+
 mod audit;
 mod calls;
-mod key;
 mod model;
 mod notes;
 mod round;
 mod several;
 mod tally;
 
-use crate::stress::round::{Plan, Stop, run_round};
-use crate::stress::tally::Tally;
+use crate::round::{Plan, Stop, run_round};
+use crate::tally::Tally;
 use std::alloc::Global;
-use std::io;
+use std::process::ExitCode;
 use std::rt::Clock;
 use std::thread::Threads;
+use std::{env, io};
 
-const USAGE: &str = "SECONDS [THREADS [SEED]]: up to 86400 seconds and 64 threads";
-
-/// A round of the test.
-const SHORT: Plan = Plan {
-    threads: 4,
-    seed: 1,
-    stop: Stop::AfterCalls(2000),
-};
+const USAGE: &str = "ck_stress SECONDS [THREADS [SEED]]: up to 86400 seconds and 64 threads";
 
 /// The number of a word, from 1 to the most; nothing where it isn't one.
 fn number_of(word: &str, most: u64) -> Option<u64> {
@@ -37,8 +31,13 @@ fn number_of(word: &str, most: u64) -> Option<u64> {
 
 /// What the words ask for; nothing where they are no such numbers.
 fn plan_of(words: &[String]) -> Option<(u64, Plan)> {
+    let short = Plan {
+        threads: 4,
+        seed: 1,
+        stop: Stop::AfterCalls(2000),
+    };
     let [seconds, more @ ..] = words else {
-        return Some((1, SHORT));
+        return Some((1, short));
     };
     let seconds = number_of(seconds, 86_400)?;
     let (threads, seed) = match more {
@@ -53,11 +52,6 @@ fn plan_of(words: &[String]) -> Option<(u64, Plan)> {
         stop: Stop::AfterSecond,
     };
     Some((seconds, plan))
-}
-
-/// Makes a short round, and says whether all answers were right.
-pub fn run_short<R: Threads + Clock + Print + Sync>(rt: &R, alloc: Global) -> io::Result<bool> {
-    run(rt, alloc, 1, SHORT)
 }
 
 /// Makes the rounds, and says whether all answers were right.
@@ -93,17 +87,15 @@ fn run<R: Threads + Clock + Print + Sync>(
     Ok(true)
 }
 
-/// Makes the rounds that the words ask for, and says whether all answers were right.
-pub fn run_words<R: Threads + Clock + Print + Sync>(
-    rt: &R,
-    alloc: Global,
-    words: &[String],
-) -> io::Result<bool> {
-    match plan_of(words) {
-        Some((rounds, plan)) => run(rt, alloc, rounds, plan),
-        None => {
-            println!(rt; "{USAGE}")?;
-            Ok(false)
-        }
+fn main(rt: HostRuntime) -> io::Result<ExitCode> {
+    let words = env::args(&rt)?.skip(1).collect::<Vec<String>>(rt.alloc())?;
+    let Some((rounds, plan)) = plan_of(words.as_slice()) else {
+        eprintln!(rt; "{USAGE}")?;
+        return Ok(ExitCode::from(2));
+    };
+    if run(&rt, rt.alloc(), rounds, plan)? {
+        Ok(ExitCode::SUCCESS)
+    } else {
+        Ok(ExitCode::FAILURE)
     }
 }

@@ -1,34 +1,31 @@
 //! The calls of a thread, each compared with what the thread knows.
-use crate::stress::key::Key;
-use crate::stress::model::{ACCOUNTS, COUNTERS, OWN, account, counter, own};
-use crate::stress::notes::Notes;
-use cuckoo_map::Uprased;
-use std::alloc::Global;
+use crate::model::{ACCOUNTS, COUNTERS, OWN, account, counter, own};
+use crate::notes::Notes;
+use cuckoo_map::{Handle, NumKey, Uprased};
 
-pub type Caller<'t, K> = cuckoo_map::Caller<'t, K, u64>;
+pub type NumHandle = Handle<NumKey, u64>;
 
-/// A thread's two callers, and its notes.
+/// A thread's two handles, and its notes.
 #[derive(Drop)]
-pub struct Worker<'t, K: Key> {
-    pub caller: Caller<'t, K>,
+pub struct Worker {
+    pub handle: NumHandle,
     /// It makes calls while the other is in one.
-    pub second: Caller<'t, K>,
+    pub second: NumHandle,
     pub notes: Notes,
-    pub alloc: Global,
 }
 
-impl<'t, K: Key> Worker<'t, K> {
-    fn find(&mut self, key: K, want: Option<u64>) {
-        let number = key.number();
-        match self.caller.find(&key) {
+impl Worker {
+    fn find(&mut self, key: NumKey, want: Option<u64>) {
+        let number = key.0;
+        match self.handle.find(&key) {
             Ok(got) => self.notes.check("find", number, got, want),
             Err(_) => self.notes.busy(),
         }
     }
 
-    fn insert(&mut self, i: u64, key: K, value: u64, want: Option<u64>) {
-        let number = key.number();
-        match self.caller.insert(key, value) {
+    fn insert(&mut self, i: u64, key: NumKey, value: u64, want: Option<u64>) {
+        let number = key.0;
+        match self.handle.insert(key, value) {
             Ok(fresh) => {
                 self.notes
                     .check_bool("insert", number, fresh, want.is_none());
@@ -38,9 +35,9 @@ impl<'t, K: Key> Worker<'t, K> {
         }
     }
 
-    fn assign(&mut self, i: u64, key: K, value: u64, want: Option<u64>) {
-        let number = key.number();
-        match self.caller.insert_or_assign(key, value) {
+    fn assign(&mut self, i: u64, key: NumKey, value: u64, want: Option<u64>) {
+        let number = key.0;
+        match self.handle.insert_or_assign(key, value) {
             Ok(old) => {
                 self.notes.check("insert_or_assign", number, old, want);
                 self.notes.model.set(i, Some(value));
@@ -49,9 +46,9 @@ impl<'t, K: Key> Worker<'t, K> {
         }
     }
 
-    fn update(&mut self, i: u64, key: K, value: u64, want: Option<u64>) {
-        let number = key.number();
-        match self.caller.update(&key, value) {
+    fn update(&mut self, i: u64, key: NumKey, value: u64, want: Option<u64>) {
+        let number = key.0;
+        match self.handle.update(&key, value) {
             Ok(old) => {
                 self.notes.check("update", number, old, want);
                 self.notes.model.set(i, want.map(|_| value));
@@ -64,9 +61,9 @@ impl<'t, K: Key> Worker<'t, K> {
         }
     }
 
-    fn erase(&mut self, i: u64, key: K, want: Option<u64>) {
-        let number = key.number();
-        match self.caller.erase(&key) {
+    fn erase(&mut self, i: u64, key: NumKey, want: Option<u64>) {
+        let number = key.0;
+        match self.handle.erase(&key) {
             Ok(old) => {
                 self.notes.check("erase", number, old, want);
                 self.notes.model.set(i, None);
@@ -76,10 +73,10 @@ impl<'t, K: Key> Worker<'t, K> {
     }
 
     // Halves an even value, and erases an odd one.
-    fn uprase(&mut self, i: u64, key: K, value: u64, want: Option<u64>) {
-        let number = key.number();
+    fn uprase(&mut self, i: u64, key: NumKey, value: u64, want: Option<u64>) {
+        let number = key.0;
         let halved = |old: u64| if old % 2 == 0 { Some(old / 2) } else { None };
-        match self.caller.uprase(key, halved, value) {
+        match self.handle.uprase(key, halved, value) {
             Ok(did) => {
                 let right = match want.map(halved) {
                     None => Uprased::New,
@@ -94,11 +91,11 @@ impl<'t, K: Key> Worker<'t, K> {
     }
 
     // Halves an even value, and leaves an odd one.
-    fn replace_if(&mut self, i: u64, key: K, want: Option<u64>) {
-        let number = key.number();
+    fn replace_if(&mut self, i: u64, key: NumKey, want: Option<u64>) {
+        let number = key.0;
         let halved = |old: &u64| if *old % 2 == 0 { Some(*old / 2) } else { None };
         let right = want.map(|old| halved(&old).is_some());
-        match self.caller.replace_if(&key, halved) {
+        match self.handle.replace_if(&key, halved) {
             Ok(did) => {
                 self.notes.check_if_bound("replace_if", number, did, right);
                 if right == Some(true) {
@@ -113,9 +110,7 @@ impl<'t, K: Key> Worker<'t, K> {
     fn call_own(&mut self, kind: u64) {
         let i = self.notes.model.below(OWN);
         let value = self.notes.model.below(u64::MAX);
-        let Some(key) = K::of(self.alloc, own(self.notes.model.thread, i)) else {
-            return;
-        };
+        let key = NumKey(own(self.notes.model.thread, i));
         let want = self.notes.model.get(i);
         match kind {
             0 | 1 => self.find(key, want),
@@ -133,10 +128,7 @@ impl<'t, K: Key> Worker<'t, K> {
         let from = account(self.notes.model.below(ACCOUNTS));
         let to = account(self.notes.model.below(ACCOUNTS));
         let amount = self.notes.model.below(50);
-        let (Some(payer), Some(payee)) = (K::of(self.alloc, from), K::of(self.alloc, to)) else {
-            return;
-        };
-        if payer == payee {
+        if from == to {
             return;
         }
         let moved = |less: u64, more: u64| {
@@ -146,7 +138,7 @@ impl<'t, K: Key> Worker<'t, K> {
                 (less, more)
             }
         };
-        match self.caller.update_two(&payer, &payee, moved) {
+        match self.handle.update_two(&NumKey(from), &NumKey(to), moved) {
             Ok(both) => self.notes.check_bool("update_two", from, both, true),
             Err(_) => self.notes.busy(),
         }
@@ -156,10 +148,8 @@ impl<'t, K: Key> Worker<'t, K> {
     fn raise(&mut self) {
         let i = self.notes.model.below(COUNTERS);
         let number = counter(i);
-        let Some(key) = K::of(self.alloc, number) else {
-            return;
-        };
-        match self.caller.upsert(key, |count| count.saturating_add(1), 1) {
+        let add = |count: u64| count.saturating_add(1);
+        match self.handle.upsert(NumKey(number), add, 1) {
             Ok(_) => {
                 self.notes.check("counter", number, None, None);
                 self.notes.model.raise(i);
@@ -168,24 +158,18 @@ impl<'t, K: Key> Worker<'t, K> {
         }
     }
 
-    // The same by the second caller, while the first is in a call on an account.
+    // The same by the second handle, while the first is in a call on an account.
     fn raise_within(&mut self) {
         let at = account(self.notes.model.below(ACCOUNTS));
         let i = self.notes.model.below(COUNTERS);
-        let Some(at_key) = K::of(self.alloc, at) else {
-            return;
-        };
-        let (alloc, second) = (self.alloc, &mut self.second);
+        let second = &mut self.second;
         let mut raised = false;
-        // The key is made in the closure: one that moves it in is not covered by the prover.
         let around = |value: u64| {
-            if let Some(key) = K::of(alloc, counter(i)) {
-                let fresh = second.upsert(key, |count| count.saturating_add(1), 1);
-                raised = fresh.is_ok();
-            }
+            let fresh = second.upsert(NumKey(counter(i)), |count| count.saturating_add(1), 1);
+            raised = fresh.is_ok();
             value
         };
-        match self.caller.update_fn(&at_key, around) {
+        match self.handle.update_fn(&NumKey(at), around) {
             Ok(bound) => self
                 .notes
                 .check_bool("update_fn around a call", at, bound, true),
