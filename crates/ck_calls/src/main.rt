@@ -14,10 +14,17 @@ mod watch;
 
 // The calls, each once.
 mod calls;
+mod closures;
+mod several;
+mod size;
+
+// The same of locked tables and keys.
 mod locked_calls;
 mod locked_keys_calls;
 
 // What lines are for, each for itself or in blocks.
+mod around;
+mod drains;
 mod sessions;
 mod stage;
 

@@ -4,9 +4,10 @@ use crate::answer::print;
 use crate::calls::{self, NumHandle};
 use crate::line::Line;
 use crate::watch::Watch;
-use anyhow::{Context, Result, bail};
+use anyhow::{Context, Result};
 use cuckoo_map::{Handle, NumKey, Settings};
 use std::alloc::Global;
+use std::io;
 
 /// The handles of a table, where they aren't lent.
 #[derive(Drop)]
@@ -22,20 +23,15 @@ impl Stage {
     }
 
     /// Opens a table by the settings of the line.
-    fn open(&mut self, alloc: Global, line: &Line) -> Result<()> {
-        let settings = Settings {
-            s: line.numbers[0] as u32,
-            power: line.numbers[1] as u32,
-            max: line.numbers[2] as u32,
-            callers: line.numbers[3] as u32,
-            turns: line.numbers[4] as u32,
-            rounds: line.numbers[5] as u32,
-            min_load: line.numbers[6] as u32,
-        };
-        self.handles = Handle::<NumKey, u64>::open(alloc, settings)?
-            .into_iter()
-            .map(Some)
-            .collect(alloc)?;
+    fn open(&mut self, rt: &impl Print, alloc: Global, line: &Line) -> Result<()> {
+        let settings = settings_of(line);
+        if line.call != "table" {
+            print_settings(rt, settings)?;
+        }
+        match Handle::<NumKey, u64>::open(alloc, settings) {
+            Ok(handles) => self.handles = handles.into_iter().map(Some).collect(alloc)?,
+            Err(fault) => println!(rt; "refused: {fault}")?,
+        }
         Ok(())
     }
 
@@ -45,8 +41,21 @@ impl Stage {
         self.handles.get_mut(at).context("there is no such handle")
     }
 
+    /// The allocator of its lists.
+    pub fn alloc(&self) -> Global {
+        *self.handles.allocator()
+    }
+
+    /// Takes a handle out of its place.
+    pub fn lend(&mut self, who: usize) -> Result<NumHandle> {
+        self.place(who)?.take().context("that handle is lent")
+    }
+
     /// Makes the call of a handle.
     fn call(&mut self, rt: &impl Print, line: &Line) -> Result<()> {
+        if line.call == "drain" {
+            return self.drain(rt, line.who);
+        }
         let handle = self.place(line.who)?;
         let handle = handle.as_mut().context("that handle is lent")?;
         let watch = Watch::new();
@@ -62,6 +71,37 @@ impl Stage {
         }
         self.call(rt, line)
     }
+}
+
+/// The settings that the line names.
+fn settings_of(line: &Line) -> Settings {
+    match line.call {
+        "default" => Settings::DEFAULT,
+        "for_keys" => Settings::for_keys(line.numbers[0], line.small(1)),
+        _ => Settings {
+            s: line.small(0),
+            power: line.small(1),
+            max: line.small(2),
+            callers: line.small(3),
+            turns: line.small(4),
+            rounds: line.small(5),
+            min_load: line.small(6),
+        },
+    }
+}
+
+/// Prints settings as a line names them.
+fn print_settings(rt: &impl Print, settings: Settings) -> io::Result<()> {
+    let Settings {
+        s,
+        power,
+        max,
+        callers,
+        turns,
+        rounds,
+        min_load,
+    } = settings;
+    println!(rt; "{s} {power} {max} {callers} {turns} {rounds} {min_load}")
 }
 
 /// The lines before the one that ends a block.
@@ -81,11 +121,16 @@ pub fn play(rt: &impl Print, alloc: Global, lines: &[Line]) -> Result<()> {
         println!(rt; "{}", line.text)?;
         match line.call {
             "" | "end" => {}
-            "table" => stage.open(alloc, line)?,
+            "table" | "default" | "for_keys" => stage.open(rt, alloc, line)?,
             "lock" => {
                 let inner = block(&lines[i + 1..]);
                 next = i + 1 + inner.len();
                 stage.lock(rt, line.who, inner)?;
+            }
+            "around" | "around_two" => {
+                let inner = block(&lines[i + 1..]);
+                next = i + 2 + inner.len();
+                stage.around(rt, line, inner)?;
             }
             _ => stage.call(rt, line)?,
         }
