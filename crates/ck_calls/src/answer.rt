@@ -73,6 +73,22 @@ pub fn placed_with<T, V: Drop, F: FnOnce(T) -> Answer + Drop>(
     }
 }
 
+/// The answer of a call by a closure that may fail.
+pub fn ended(outcome: Result<bool, u64>) -> Answer {
+    match outcome {
+        Ok(new) => Answer::New(new),
+        Err(with) => Answer::Failed(with),
+    }
+}
+
+/// The answer of a call by which the table may grow.
+pub fn grown(outcome: Result<bool, GrowFault>) -> Answer {
+    match outcome {
+        Ok(grown) => Answer::Yes(grown),
+        Err(fault) => Answer::NotGrown(fault),
+    }
+}
+
 /// The answer of a call on several keys.
 pub fn answered_keys<T, F: FnOnce(T) -> Answer + Drop>(
     outcome: Result<T, KeysRefused>,

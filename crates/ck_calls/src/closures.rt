@@ -1,5 +1,5 @@
 //! The calls of a handle that have closures.
-use crate::answer::{Answer, answered, placed, placed_with};
+use crate::answer::{Answer, answered, ended, placed, placed_with};
 use crate::calls::NumHandle;
 use crate::line::Line;
 use crate::watch::Watch;
@@ -133,14 +133,6 @@ fn transfer(handle: &mut NumHandle, from: NumKey, to: NumKey, watch: &Watch) -> 
         watch.note((less.saturating_sub(moved), more.saturating_add(moved)))
     };
     answered(handle.update_two(&from, &to, move_one), Answer::Yes)
-}
-
-// Whether the key was unbound, or how the closure failed.
-fn ended(ended: Result<bool, u64>) -> Answer {
-    match ended {
-        Ok(new) => Answer::New(new),
-        Err(with) => Answer::Failed(with),
-    }
 }
 
 // What the closure answered for the value of the key.

@@ -1,8 +1,8 @@
 //! The calls of a handle on the size of its table, and on room in it.
-use crate::answer::{Answer, answered};
+use crate::answer::{Answer, answered, grown};
 use crate::calls::NumHandle;
 use crate::line::Line;
-use cuckoo_map::{GrowFault, NumKey};
+use cuckoo_map::NumKey;
 
 /// Makes the call of the line; `None` where there is none of that name.
 pub fn answer(handle: &mut NumHandle, line: &Line) -> Option<Answer> {
@@ -16,14 +16,6 @@ pub fn answer(handle: &mut NumHandle, line: &Line) -> Option<Answer> {
         "make_room" => make_room(handle, NumKey(line.numbers[0])),
         _ => return None,
     })
-}
-
-/// Whether the table grew, or why not.
-fn grown(outcome: Result<bool, GrowFault>) -> Answer {
-    match outcome {
-        Ok(grown) => Answer::Yes(grown),
-        Err(fault) => Answer::NotGrown(fault),
-    }
 }
 
 fn make_room(handle: &mut NumHandle, key: NumKey) -> Answer {

@@ -3,6 +3,7 @@
 use crate::answer::print;
 use crate::calls::{self, NumHandle};
 use crate::line::Line;
+use crate::messages;
 use crate::watch::Watch;
 use anyhow::{Context, Result};
 use cuckoo_map::{Handle, NumKey, Settings};
@@ -122,6 +123,7 @@ pub fn play(rt: &impl Print, alloc: Global, lines: &[Line]) -> Result<()> {
         match line.call {
             "" | "end" => {}
             "table" | "default" | "for_keys" => stage.open(rt, alloc, line)?,
+            "meet" => messages::meet(rt, alloc, line)?,
             "lock" => {
                 let inner = block(&lines[i + 1..]);
                 next = i + 1 + inner.len();
