@@ -44,7 +44,9 @@ pub const MOST_KEYS: usize = 8;
 pub type Values = [Option<u64>; MOST_KEYS];
 
 /// The answer of a call that may be refused for a stripe alone.
-pub fn answered<T, F: FnOnce(T) -> Answer + Drop>(outcome: Result<T, Busy>, answer: F) -> Answer {
+pub fn answered<T, F: FnOnce(T) -> Answer + Drop>(outcome: Result<T, Busy>, answer: F) -> Answer
+    requires { F.IsAlwaysCallable answer }
+{
     match outcome {
         Ok(told) => answer(told),
         Err(busy) => Answer::Busy(busy.0),
@@ -55,7 +57,9 @@ pub fn answered<T, F: FnOnce(T) -> Answer + Drop>(outcome: Result<T, Busy>, answ
 pub fn placed<T, F: FnOnce(T) -> Answer + Drop>(
     outcome: Result<T, Refused<NumKey, u64>>,
     answer: F,
-) -> Answer {
+) -> Answer
+    requires { F.IsAlwaysCallable answer }
+{
     match outcome {
         Ok(told) => answer(told),
         Err(Refused { key, value, why }) => Answer::Back(key.0, value, why),
@@ -66,7 +70,9 @@ pub fn placed<T, F: FnOnce(T) -> Answer + Drop>(
 pub fn placed_with<T, V: Drop, F: FnOnce(T) -> Answer + Drop>(
     outcome: Result<T, Refused<NumKey, V>>,
     answer: F,
-) -> Answer {
+) -> Answer
+    requires { F.IsAlwaysCallable answer }
+{
     match outcome {
         Ok(told) => answer(told),
         Err(Refused { key, why, .. }) => Answer::KeyBack(key.0, why),
@@ -93,7 +99,9 @@ pub fn grown(outcome: Result<bool, GrowFault>) -> Answer {
 pub fn answered_keys<T, F: FnOnce(T) -> Answer + Drop>(
     outcome: Result<T, KeysRefused>,
     answer: F,
-) -> Answer {
+) -> Answer
+    requires { F.IsAlwaysCallable answer }
+{
     match outcome {
         Ok(told) => answer(told),
         Err(KeysRefused::Busy(t)) => Answer::Busy(t),

@@ -100,8 +100,8 @@ fn turn(values: &mut [u64]) {
 // References to the keys, and to others behind them.
 fn refs_of(keys: &[NumKey]) -> [&NumKey; MOST_KEYS] {
     let mut refs = [&NumKey(0); MOST_KEYS];
-    for (place, key) in refs.iter_mut().zip(keys) {
-        *place = key;
+    for i in 0..keys.len().min(MOST_KEYS) {
+        refs[i] = &keys[i];
     }
     refs
 }
