@@ -56,6 +56,12 @@ impl<'a> Line<'a> {
     pub fn all(&self) -> &[u64] {
         &self.numbers[..self.count.min(MOST_NUMBERS)]
     }
+
+    /// The number at this position, or the greatest one that its type has.
+    pub fn small(&self, at: usize) -> u32 {
+        let number = self.numbers.get(at).copied().unwrap_or(0);
+        u32::try_from(number).unwrap_or(u32::MAX)
+    }
 }
 
 fn number(word: &str) -> Option<u64> {

@@ -5,7 +5,8 @@
 //! A line `> CALL NUMBERS` makes a call by the table under session, and `> HANDLE CALL NUMBERS` by
 //! a handle, which are numbered from 1. A line `# TEXT` and an empty one are printed as they are,
 //! and any other is an answer. `> table S POWER MAX CALLERS TURNS ROUNDS MIN_LOAD` opens a table;
-//! `lock`, `keys`, `room`, `around` and `around_two` begin a block, which the line `> end` ends.
+//! `default` and `for_keys KEYS CALLERS` open one by settings of the library, and print them. `lock`,
+//! `keys`, `room`, `around` and `around_two` begin a block, which the line `> end` ends.
 #![tactic(auto)]
 
 mod answer;
@@ -14,10 +15,18 @@ mod watch;
 
 // The calls, each once.
 mod calls;
+mod closures;
+mod several;
+mod size;
+
+// The same of locked tables and keys.
 mod locked_calls;
 mod locked_keys_calls;
 
 // What lines are for, each for itself or in blocks.
+mod around;
+mod drains;
+mod messages;
 mod sessions;
 mod stage;
 mod threads;

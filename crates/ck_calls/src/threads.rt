@@ -1,9 +1,9 @@
 //! Blocks of lines that handles play at once, each in a thread of its own.
 use crate::calls::{self, NumHandle};
 use crate::line::Line;
-use crate::stage::Stage;
+use crate::stage::{END, Stage};
 use crate::watch::Watch;
-use anyhow::{Context, Result};
+use anyhow::Result;
 use std::alloc::Global;
 use std::thread::{self, Threads};
 
@@ -25,20 +25,28 @@ fn play_often(number: usize, handle: NumHandle, lines: &[Line], times: u64) -> N
     handle
 }
 
+fn print_all(rt: &impl Print, lines: &[Line]) -> Result<()> {
+    for line in lines {
+        println!(rt; "{}", line.text)?;
+    }
+    println!(rt; "{END}")?;
+    Ok(())
+}
+
 impl Stage {
     /// Lets the first handles, as many as the line says, play the lines at once so often.
-    pub fn play_in_threads<R: Threads + Sync>(
+    pub fn play_in_threads<R: Print + Threads + Sync>(
         &mut self,
         rt: &R,
         alloc: Global,
         line: &Line,
         lines: &[Line],
     ) -> Result<()> {
+        print_all(rt, lines)?;
         let (many, times) = (line.numbers[0] as usize, line.numbers[1]);
         let mut jobs = Vec::new(alloc);
         for number in 1..=many {
-            let handle = self.place(number)?.take();
-            jobs.push((number, handle.context("that handle is lent")?))?;
+            jobs.push((number, self.lend(number)?))?;
         }
         let play = |(number, handle): (usize, NumHandle)| play_often(number, handle, lines, times);
         let back = thread::map_vec(rt, jobs, &play)?;
