@@ -1,6 +1,6 @@
 //! What calls are answered, and how it is printed.
 use crate::watch::Watch;
-use cuckoo_map::{Busy, GrowFault, NumKey, Refused, Uprased, Why};
+use cuckoo_map::{Busy, GrowFault, KeysRefused, NoSlot, NumKey, Refused, RoomFault, Uprased, Why};
 use std::io;
 
 /// What a call is answered.
@@ -24,6 +24,12 @@ pub enum Answer {
     KeyBack(u64, Why),
     /// A growth is refused.
     NotGrown(GrowFault),
+    /// Key and value came back for want of a free slot.
+    NoSlot(u64, u64),
+    /// The table or keys of it were locked.
+    Locked,
+    /// They were not.
+    NotLocked(RoomFault),
 }
 
 /// The answer of a call that may be refused for a stripe alone.
@@ -56,6 +62,33 @@ pub fn placed_with<T, V: Drop, F: FnOnce(T) -> Answer + Drop>(
     }
 }
 
+/// The answer of a call that may bind the key to this value where a slot is free.
+pub fn placed_in_slot<T, F: FnOnce(T) -> Answer + Drop>(
+    outcome: Result<T, NoSlot<NumKey, u64>>,
+    answer: F,
+) -> Answer {
+    match outcome {
+        Ok(told) => answer(told),
+        Err(NoSlot { key, value }) => Answer::NoSlot(key.0, value),
+    }
+}
+
+/// The answer of a call by a closure that may fail.
+pub fn ended(outcome: Result<bool, u64>) -> Answer {
+    match outcome {
+        Ok(new) => Answer::New(new),
+        Err(with) => Answer::Failed(with),
+    }
+}
+
+/// The answer of a call by which the table may grow.
+pub fn grown(outcome: Result<bool, GrowFault>) -> Answer {
+    match outcome {
+        Ok(grown) => Answer::Yes(grown),
+        Err(fault) => Answer::NotGrown(fault),
+    }
+}
+
 /// Prints the answer of a call, and how often its closures were called, where they were.
 pub fn print(rt: &impl Print, answer: Answer, watch: &Watch) -> io::Result<()> {
     match answer {
@@ -77,6 +110,9 @@ pub fn print(rt: &impl Print, answer: Answer, watch: &Watch) -> io::Result<()> {
             print!(rt; ": {key} came back")?;
         }
         Answer::NotGrown(fault) => print!(rt; "refused: {fault}")?,
+        Answer::NoSlot(key, value) => print!(rt; "no slot: {key} {value} came back")?,
+        Answer::Locked => print!(rt; "locked")?,
+        Answer::NotLocked(fault) => print_fault(rt, fault)?,
     }
     match watch.calls() {
         0 => println!(rt; ""),
@@ -100,5 +136,15 @@ fn print_reason(rt: &impl Print, why: Why) -> io::Result<()> {
         Why::Memory => print!(rt; "memory"),
         Why::Full => print!(rt; "full"),
         Why::LoadTooLow => print!(rt; "load"),
+    }
+}
+
+/// Prints why keys are not locked, with room for them or without.
+fn print_fault(rt: &impl Print, fault: RoomFault) -> io::Result<()> {
+    match fault {
+        RoomFault::Keys(KeysRefused::Busy(t)) => print!(rt; "busy {t}"),
+        RoomFault::Keys(KeysRefused::Twice(i)) => print!(rt; "twice {i}"),
+        RoomFault::Room(why) => print_reason(rt, why),
+        RoomFault::NoSlot => print!(rt; "no slot"),
     }
 }

@@ -10,6 +10,7 @@
 
 mod answer;
 mod line;
+mod lists;
 mod watch;
 
 // The calls, each once.

@@ -57,10 +57,11 @@ impl Stage {
 
     /// Plays a line by the handle that it names, in a block of another handle's.
     pub fn play_other(&mut self, rt: &impl Print, line: &Line) -> Result<()> {
-        if line.call.is_empty() {
-            return Ok(());
+        match line.call {
+            "" => Ok(()),
+            "lock" | "keys" | "room" => self.try_session(rt, line),
+            _ => self.call(rt, line),
         }
-        self.call(rt, line)
     }
 }
 
@@ -82,10 +83,10 @@ pub fn play(rt: &impl Print, alloc: Global, lines: &[Line]) -> Result<()> {
         match line.call {
             "" | "end" => {}
             "table" => stage.open(alloc, line)?,
-            "lock" => {
+            "lock" | "keys" | "room" => {
                 let inner = block(&lines[i + 1..]);
                 next = i + 1 + inner.len();
-                stage.lock(rt, line.who, inner)?;
+                stage.play_session(rt, alloc, line, inner)?;
             }
             _ => stage.call(rt, line)?,
         }

@@ -1,0 +1,41 @@
+//! The pairs of a locked table, and how they are printed.
+use crate::locked_calls::NumLocked;
+use anyhow::{Result, bail};
+use cuckoo_map::NumKey;
+use std::alloc::Global;
+use std::io;
+
+/// Whether a call of this name lists pairs.
+pub fn is_list(call: &str) -> bool {
+    matches!(call, "iter" | "export" | "drain")
+}
+
+/// The pairs that a call of this name lists, in its order.
+pub fn listed(alloc: Global, locked: &mut NumLocked, call: &str) -> Result<Vec<(NumKey, u64)>> {
+    match call {
+        "iter" => pairs_of(alloc, locked),
+        "export" => Ok(locked.export(alloc)?),
+        "drain" => Ok(locked.drain(alloc)?),
+        _ => bail!("no such list"),
+    }
+}
+
+fn pairs_of(alloc: Global, locked: &NumLocked) -> Result<Vec<(NumKey, u64)>> {
+    let mut pairs = Vec::new(alloc);
+    for (key, value) in locked.iter() {
+        pairs.push((*key, *value))?;
+    }
+    Ok(pairs)
+}
+
+/// Prints the pairs in one line.
+pub fn print_pairs(rt: &impl Print, pairs: &[(NumKey, u64)]) -> io::Result<()> {
+    if pairs.is_empty() {
+        print!(rt; "no pairs")?;
+    }
+    for (i, (key, value)) in pairs.iter().enumerate() {
+        let between = if i == 0 { "" } else { ", " };
+        print!(rt; "{between}{} {value}", key.0)?;
+    }
+    println!(rt; "")
+}
