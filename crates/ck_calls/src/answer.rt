@@ -139,11 +139,11 @@ fn print_reason(rt: &impl Print, why: Why) -> io::Result<()> {
     }
 }
 
-/// Prints why keys are not locked, with room for them or without.
+/// Prints why there is no room for several keys.
 fn print_fault(rt: &impl Print, fault: RoomFault) -> io::Result<()> {
     match fault {
         RoomFault::Keys(KeysRefused::Busy(t)) => print!(rt; "busy {t}"),
-        RoomFault::Keys(KeysRefused::Twice(i)) => print!(rt; "twice {i}"),
+        RoomFault::Keys(KeysRefused::Twice(position)) => print!(rt; "twice {position}"),
         RoomFault::Room(why) => print_reason(rt, why),
         RoomFault::NoSlot => print!(rt; "no slot"),
     }

@@ -28,14 +28,13 @@ fn pairs_of(alloc: Global, locked: &NumLocked) -> Result<Vec<(NumKey, u64)>> {
     Ok(pairs)
 }
 
-/// Prints the pairs in one line.
+/// Prints the pairs, each in a line.
 pub fn print_pairs(rt: &impl Print, pairs: &[(NumKey, u64)]) -> io::Result<()> {
     if pairs.is_empty() {
-        print!(rt; "no pairs")?;
+        println!(rt; "no pairs")?;
     }
-    for (i, (key, value)) in pairs.iter().enumerate() {
-        let between = if i == 0 { "" } else { ", " };
-        print!(rt; "{between}{} {value}", key.0)?;
+    for (key, value) in pairs {
+        println!(rt; "{} {value}", key.0)?;
     }
-    println!(rt; "")
+    Ok(())
 }
