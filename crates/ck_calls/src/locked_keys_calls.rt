@@ -1,4 +1,8 @@
 //! The calls of locked keys.
+ghost use Rattle.std.specs.Prelude.{◌≡◌, ◌∷◌, [], IfSome};
+ghost use Rattle.cuckoo_map.specs.Promise.{IsAmong};
+ghost use Rattle.cuckoo_map.specs.RoomForKeys.{names_of};
+
 use crate::answer::{Answer, placed_in_slot};
 use crate::line::Line;
 use crate::locked_calls::halve_and_tell;
@@ -16,10 +20,11 @@ pub type NumLockedKeys<'k> = LockedKeysOn<
     &'k NumKey,
 >;
 
-/// Such keys, and which they are.
+/// Such keys, and which they are: a call is made only on one of them.
 pub struct NamedKeys<'k> {
     pub locked: NumLockedKeys<'k>,
     pub keys: &'k [&'k NumKey],
+    ghost named: { locked.names ≡ names_of (λ k. k.0 ∷ []) keys.now },
 }
 
 impl NamedKeys<'_> {
@@ -73,7 +78,10 @@ fn insertion(
     key: NumKey,
     line: &Line,
     watch: &Watch,
-) -> Option<Answer> {
+) -> Option<Answer>
+    requires { IsAmong (key.0 ∷ []) locked.old.names }
+    ensures { locked.new.names ≡ locked.old.names }
+{
     let value = line.numbers[1];
     Some(match line.call {
         "insert" => placed_in_slot(locked.insert(key, value), Answer::New),
@@ -87,10 +95,14 @@ fn insertion(
 }
 
 // The key of this number, where it is one of these.
-fn key_among<'k>(keys: &[&'k NumKey], number: u64) -> Option<&'k NumKey> {
-    for key in keys {
-        if key.0 == number {
-            return Some(*key);
+#[tactic(auto, using(ck_section::proofs::SeveralKeys::key_among))]
+fn key_among<'k>(keys: &[&'k NumKey], number: u64) -> Option<&'k NumKey>
+    ensures { IfSome result (λ key.
+        IsAmong (key.now.0 ∷ []) (names_of (λ k. k.0 ∷ []) keys.now)) }
+{
+    for i in 0..keys.len() {
+        if keys[i].0 == number {
+            return Some(keys[i]);
         }
     }
     None

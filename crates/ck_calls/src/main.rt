@@ -19,6 +19,7 @@ mod locked_calls;
 mod locked_keys_calls;
 
 // What lines are for, each for itself or in blocks.
+mod session;
 mod sessions;
 mod stage;
 
