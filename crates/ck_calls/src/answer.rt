@@ -33,7 +33,9 @@ pub enum Answer {
 }
 
 /// The answer of a call that may be refused for a stripe alone.
-pub fn answered<T, F: FnOnce(T) -> Answer + Drop>(outcome: Result<T, Busy>, answer: F) -> Answer {
+pub fn answered<T, F: FnOnce(T) -> Answer + Drop>(outcome: Result<T, Busy>, answer: F) -> Answer
+    requires { F.IsAlwaysCallable answer }
+{
     match outcome {
         Ok(told) => answer(told),
         Err(busy) => Answer::Busy(busy.0),
@@ -44,7 +46,9 @@ pub fn answered<T, F: FnOnce(T) -> Answer + Drop>(outcome: Result<T, Busy>, answ
 pub fn placed<T, F: FnOnce(T) -> Answer + Drop>(
     outcome: Result<T, Refused<NumKey, u64>>,
     answer: F,
-) -> Answer {
+) -> Answer
+    requires { F.IsAlwaysCallable answer }
+{
     match outcome {
         Ok(told) => answer(told),
         Err(Refused { key, value, why }) => Answer::Back(key.0, value, why),
@@ -55,7 +59,9 @@ pub fn placed<T, F: FnOnce(T) -> Answer + Drop>(
 pub fn placed_with<T, V: Drop, F: FnOnce(T) -> Answer + Drop>(
     outcome: Result<T, Refused<NumKey, V>>,
     answer: F,
-) -> Answer {
+) -> Answer
+    requires { F.IsAlwaysCallable answer }
+{
     match outcome {
         Ok(told) => answer(told),
         Err(Refused { key, why, .. }) => Answer::KeyBack(key.0, why),
@@ -66,7 +72,9 @@ pub fn placed_with<T, V: Drop, F: FnOnce(T) -> Answer + Drop>(
 pub fn placed_in_slot<T, F: FnOnce(T) -> Answer + Drop>(
     outcome: Result<T, NoSlot<NumKey, u64>>,
     answer: F,
-) -> Answer {
+) -> Answer
+    requires { F.IsAlwaysCallable answer }
+{
     match outcome {
         Ok(told) => answer(told),
         Err(NoSlot { key, value }) => Answer::NoSlot(key.0, value),

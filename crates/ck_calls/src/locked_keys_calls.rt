@@ -1,5 +1,5 @@
 //! The calls of locked keys.
-ghost use Rattle.std.specs.Prelude.{◌≡◌, ◌∷◌, [], IfSome};
+ghost use Rattle.std.specs.Prelude.{◌≡◌, ◌∷◌, [], ◌<◌, length, IfSome};
 ghost use Rattle.cuckoo_map.specs.Promise.{IsAmong};
 ghost use Rattle.cuckoo_map.specs.RoomForKeys.{names_of};
 
@@ -50,9 +50,13 @@ impl NamedKeys<'_> {
         Some(placed_in_slot(self.locked.put(i, value), Answer::Value))
     }
 
-    fn position(&self, at: u64) -> Option<usize> {
-        let i = usize::try_from(at).ok()?;
-        (i < self.keys.len()).then_some(i)
+    fn position(&self, at: u64) -> Option<usize>
+        ensures { IfSome result (λ i. i < length self.now.locked.names) }
+    {
+        match usize::try_from(at) {
+            Ok(i) if i < self.keys.len() => Some(i),
+            _ => None,
+        }
     }
 
     // Makes a call on a key.
@@ -95,7 +99,6 @@ fn insertion(
 }
 
 // The key of this number, where it is one of these.
-#[tactic(auto, using(ck_section::proofs::SeveralKeys::key_among))]
 fn key_among<'k>(keys: &[&'k NumKey], number: u64) -> Option<&'k NumKey>
     ensures { IfSome result (λ key.
         IsAmong (key.now.0 ∷ []) (names_of (λ k. k.0 ∷ []) keys.now)) }

@@ -1,12 +1,13 @@
 //! What a handle has locked, the table or some keys, and its calls.
-ghost use Rattle.std.specs.Prelude.{◌<◌, ◌≤◌};
+ghost use Rattle.std.specs.Prelude.{◌≡◌, ◌∷◌, [], IfOk};
+ghost use Rattle.cuckoo_map.specs.RoomForKeys.{names_of};
 
 use crate::answer::print;
 use crate::calls::NumHandle;
 use crate::line::Line;
 use crate::lists::{is_list, listed, print_pairs};
 use crate::locked_calls::{self, NumLocked};
-use crate::locked_keys_calls::NamedKeys;
+use crate::locked_keys_calls::{NamedKeys, NumLockedKeys};
 use crate::watch::Watch;
 use anyhow::{Context, Result};
 use cuckoo_map::{KeysNotLocked, KeysRefused, KeysWithoutRoom, NumKey, RoomFault};
@@ -46,22 +47,25 @@ impl<'k> Session<'k> {
 
     fn of_keys(handle: NumHandle, keys: &'k [&'k NumKey]) -> Option<Begun<'k>> {
         if let Some(two) = keys.as_array::<2>() {
-            return Some(Session::of_array(handle, two));
+            return Some(Session::named(handle.lock_keys(two), two));
         }
         if let Some(three) = keys.as_array::<3>() {
-            return Some(Session::of_array(handle, three));
+            return Some(Session::named(handle.lock_keys(three), three));
         }
         match keys.as_array::<MOST_KEYS>() {
-            Some(all) => Some(Session::of_array(handle, all)),
+            Some(all) => Some(Session::named(handle.lock_keys(all), all)),
             None => None,
         }
     }
 
-    fn of_array<const N: usize>(handle: NumHandle, keys: &'k [&'k NumKey; N]) -> Begun<'k>
-        requires some { 0 < N }
-        requires few { N ≤ 8 }
+    // These keys, where they were locked.
+    fn named(
+        outcome: Result<NumLockedKeys<'k>, KeysNotLocked<NumHandle>>,
+        keys: &'k [&'k NumKey],
+    ) -> Begun<'k>
+        requires { IfOk outcome (λ locked. locked.names ≡ names_of (λ k. k.0 ∷ []) keys.now) }
     {
-        match handle.lock_keys(keys) {
+        match outcome {
             Ok(locked) => Ok(Session::Keys(NamedKeys { locked, keys })),
             Err(KeysNotLocked { caller, why }) => Err(KeysWithoutRoom {
                 caller,

@@ -5,7 +5,7 @@ use crate::line::Line;
 use crate::session::{Begun, MOST_KEYS, Session};
 use crate::stage::Stage;
 use crate::watch::Watch;
-use anyhow::{Context, Result};
+use anyhow::{Context, Result, bail, ensure};
 use cuckoo_map::{KeysWithoutRoom, NumKey};
 use std::alloc::Global;
 
@@ -54,10 +54,14 @@ impl Stage {
 
     // Takes the handle of the line out of its place, and locks what the line asks for.
     fn begin<'k>(&mut self, line: &Line, keys: &'k [&'k NumKey]) -> Result<Begun<'k>> {
-        let keys = keys.get(..line.count).context(SO_MANY)?;
+        ensure!(line.count <= MOST_KEYS, SO_MANY);
+        let keys = &keys[..line.count.min(keys.len())];
         let handle = self.place(line.who)?.take();
         let handle = handle.context("that handle is lent")?;
-        Session::begin(handle, line.call, keys).context(SO_MANY)
+        match Session::begin(handle, line.call, keys) {
+            Some(begun) => Ok(begun),
+            None => bail!(SO_MANY),
+        }
     }
 
     fn put_back(&mut self, who: usize, handle: NumHandle) {
