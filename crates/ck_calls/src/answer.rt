@@ -1,6 +1,9 @@
 //! What calls are answered, and how it is printed.
+use crate::line::MOST_KEYS;
 use crate::watch::Watch;
-use cuckoo_map::{Busy, GrowFault, KeysRefused, NumKey, Refused, Renamed, RoomFault, Uprased, Why};
+use cuckoo_map::{
+    Busy, GrowFault, KeysRefused, NoSlot, NumKey, Refused, Renamed, RoomFault, Uprased, Why,
+};
 use std::io;
 
 /// What a call is answered.
@@ -35,10 +38,13 @@ pub enum Answer {
     Twice(usize),
     /// A growth is refused.
     NotGrown(GrowFault),
+    /// Key and value came back for want of a free slot.
+    NoSlot(u64, u64),
+    /// The table or keys of it were locked.
+    Locked,
+    /// They were not.
+    NotLocked(RoomFault),
 }
-
-/// How many keys a call may have.
-pub const MOST_KEYS: usize = 8;
 
 /// The values of the keys of a call.
 pub type Values = [Option<u64>; MOST_KEYS];
@@ -76,6 +82,19 @@ pub fn placed_with<T, V: Drop, F: FnOnce(T) -> Answer + Drop>(
     match outcome {
         Ok(told) => answer(told),
         Err(Refused { key, why, .. }) => Answer::KeyBack(key.0, why),
+    }
+}
+
+/// The answer of a call that may bind the key to this value where a slot is free.
+pub fn placed_in_slot<T, F: FnOnce(T) -> Answer + Drop>(
+    outcome: Result<T, NoSlot<NumKey, u64>>,
+    answer: F,
+) -> Answer
+    requires { F.IsAlwaysCallable answer }
+{
+    match outcome {
+        Ok(told) => answer(told),
+        Err(NoSlot { key, value }) => Answer::NoSlot(key.0, value),
     }
 }
 
@@ -127,6 +146,7 @@ fn print_answer(rt: &impl Print, answer: Answer) -> io::Result<()> {
         Answer::Uprased(uprased) => print!(rt; "{}", word_of(uprased)),
         Answer::Renamed(renamed) => print!(rt; "{}", word_of_name(renamed)),
         Answer::Count(count) => print!(rt; "{count}"),
+        Answer::Locked => print!(rt; "locked"),
         Answer::Values(count, values) => print_values(rt, count, &values),
         Answer::Left(told, count, values) => {
             print_value(rt, told)?;
@@ -144,6 +164,7 @@ fn print_refusal(rt: &impl Print, refusal: Answer) -> io::Result<()> {
         Answer::Twice(position) => print!(rt; "twice {position}"),
         Answer::NoRoom(why) => print_reason(rt, why),
         Answer::NotGrown(fault) => print!(rt; "refused: {fault}"),
+        Answer::NotLocked(fault) => print_fault(rt, fault),
         back => print_back(rt, back),
     }
 }
@@ -164,6 +185,7 @@ fn print_back(rt: &impl Print, back: Answer) -> io::Result<()> {
             print_fault(rt, fault)?;
             print!(rt; ": {key} came back")
         }
+        Answer::NoSlot(key, value) => print!(rt; "no slot: {key} {value} came back"),
         _ => Ok(()),
     }
 }

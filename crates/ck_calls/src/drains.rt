@@ -1,7 +1,8 @@
 //! The pairs of a table are taken out and printed.
+use crate::lists::print_pairs;
 use crate::stage::Stage;
 use anyhow::Result;
-use cuckoo_map::{DrainFault, NotDrained, NumKey};
+use cuckoo_map::{DrainFault, NotDrained};
 use std::io;
 
 impl Stage {
@@ -20,16 +21,6 @@ impl Stage {
         }
         Ok(())
     }
-}
-
-fn print_pairs(rt: &impl Print, pairs: &[(NumKey, u64)]) -> io::Result<()> {
-    if pairs.is_empty() {
-        println!(rt; "no pairs")?;
-    }
-    for (key, value) in pairs {
-        println!(rt; "{} {value}", key.0)?;
-    }
-    Ok(())
 }
 
 fn print_why(rt: &impl Print, why: DrainFault) -> io::Result<()> {

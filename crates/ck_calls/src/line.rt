@@ -4,6 +4,9 @@
 /// each power up to 40, so they all have the same two buckets.
 const APART: u64 = 282_574_488_338_432;
 
+/// How many keys a call may have.
+pub const MOST_KEYS: usize = 8;
+
 /// How many numbers a line may have.
 pub const MOST_NUMBERS: usize = 17;
 

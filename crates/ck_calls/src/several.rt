@@ -1,7 +1,7 @@
 //! The calls of a handle on several keys.
-use crate::answer::{Answer, MOST_KEYS, answered_keys};
+use crate::answer::{Answer, answered_keys};
 use crate::calls::NumHandle;
-use crate::line::Line;
+use crate::line::{Line, MOST_KEYS};
 use crate::watch::Watch;
 use cuckoo_map::{NotRenamed, NumKey};
 
