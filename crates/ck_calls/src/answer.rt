@@ -49,6 +49,25 @@ pub enum Answer {
 /// The values of the keys of a call.
 pub type Values = [Option<u64>; MOST_KEYS];
 
+impl Answer {
+    /// Whether the call was refused.
+    pub fn is_refusal(self) -> bool {
+        !matches!(
+            self,
+            Answer::Value(_)
+                | Answer::Yes(_)
+                | Answer::New(_)
+                | Answer::Uprased(_)
+                | Answer::Renamed(_)
+                | Answer::Count(_)
+                | Answer::Values(..)
+                | Answer::Left(..)
+                | Answer::Failed(_)
+                | Answer::Locked
+        )
+    }
+}
+
 /// The answer of a call that may be refused for a stripe alone.
 pub fn answered<T, F: FnOnce(T) -> Answer + Drop>(outcome: Result<T, Busy>, answer: F) -> Answer
     requires { F.IsAlwaysCallable answer }

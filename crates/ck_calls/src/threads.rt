@@ -1,4 +1,5 @@
 //! Blocks of lines that handles play at once, each in a thread of its own.
+use crate::answer::{Answer, print};
 use crate::calls::{self, NumHandle};
 use crate::line::Line;
 use crate::stage::{END, Stage};
@@ -7,22 +8,32 @@ use anyhow::Result;
 use std::alloc::Global;
 use std::thread::{self, Threads};
 
-/// Makes the calls of the lines that name this handle or none; their answers aren't printed.
-fn play_once(handle: &mut NumHandle, number: usize, lines: &[Line]) {
-    for line in lines {
-        if line.who == 0 || line.who == number {
-            let _answer = calls::answer(handle, line, &Watch::new());
-        }
-    }
+/// A handle, and its first answer that was a refusal.
+#[derive(Drop)]
+struct Played {
+    handle: NumHandle,
+    refused: Option<Answer>,
 }
 
-/// Plays the lines so often, and gives the handle back.
-fn play_often(number: usize, handle: NumHandle, lines: &[Line], times: u64) -> NumHandle {
-    let mut handle = handle;
-    for _ in 0..times {
-        play_once(&mut handle, number, lines);
+/// Makes the calls of the lines that name this handle or none, and gives the first refusal.
+fn play_once(handle: &mut NumHandle, number: usize, lines: &[Line]) -> Option<Answer> {
+    let mut refused = None;
+    for line in lines {
+        if line.who == 0 || line.who == number {
+            let answer = calls::answer(handle, line, &Watch::new());
+            refused = refused.or(answer.filter(|answer| answer.is_refusal()));
+        }
     }
-    handle
+    refused
+}
+
+/// Plays the lines so often.
+fn play_often(number: usize, handle: NumHandle, lines: &[Line], times: u64) -> Played {
+    let (mut handle, mut refused) = (handle, None);
+    for _ in 0..times {
+        refused = refused.or(play_once(&mut handle, number, lines));
+    }
+    Played { handle, refused }
 }
 
 fn print_all(rt: &impl Print, lines: &[Line]) -> Result<()> {
@@ -34,7 +45,8 @@ fn print_all(rt: &impl Print, lines: &[Line]) -> Result<()> {
 }
 
 impl Stage {
-    /// Lets the first handles, as many as the line says, play the lines at once so often.
+    /// Lets the first handles, as many as the line says, play the lines at once so often. Of the
+    /// answers it prints each handle's first refusal.
     pub fn play_in_threads<R: Print + Threads + Sync>(
         &mut self,
         rt: &R,
@@ -50,8 +62,11 @@ impl Stage {
         }
         let play = |(number, handle): (usize, NumHandle)| play_often(number, handle, lines, times);
         let back = thread::map_vec(rt, jobs, &play)?;
-        for (i, handle) in back.into_iter().enumerate() {
-            *self.place(i + 1)? = Some(handle);
+        for (i, played) in back.into_iter().enumerate() {
+            *self.place(i + 1)? = Some(played.handle);
+            if let Some(refused) = played.refused {
+                print(rt, refused, &Watch::new())?;
+            }
         }
         Ok(())
     }

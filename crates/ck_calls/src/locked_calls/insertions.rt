@@ -23,12 +23,14 @@ pub fn answer(locked: &mut NumLocked, line: &Line, watch: &Watch) -> Option<Answ
     })
 }
 
-// Binds so many keys from the first on to themselves, and tells how many were unbound.
+// Binds so many keys from the first on to themselves, and tells how many were unbound, or the first
+// refusal.
 fn insert_range(locked: &mut NumLocked, first: u64, count: u64) -> Answer {
     let mut new: u64 = 0;
     for key in first..first.saturating_add(count) {
-        if let Ok(true) = locked.insert(NumKey(key), key) {
-            new = new.saturating_add(1);
+        match locked.insert(NumKey(key), key) {
+            Ok(is_new) => new = new.saturating_add(u64::from(is_new)),
+            Err(back) => return Answer::Back(back.key.0, back.value, back.why),
         }
     }
     Answer::Count(new)
