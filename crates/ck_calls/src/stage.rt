@@ -158,7 +158,8 @@ pub fn play<R: Print + Threads + Sync>(rt: &R, alloc: Global, lines: &[Line]) ->
     for (i, line) in lines.iter().enumerate() {
         if i >= next {
             println!(rt; "{}", line.text)?;
-            next = i + 1 + stage.play(rt, alloc, line, &lines[i + 1..])?;
+            let played = stage.play(rt, alloc, line, &lines[i + 1..])?;
+            next = i.saturating_add(1).saturating_add(played);
         }
     }
     Ok(())
