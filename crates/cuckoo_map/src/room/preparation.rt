@@ -10,9 +10,9 @@ use ck_model::settings::Settings;
 use ck_stripe::Spares;
 use std::sync::atomic::{AtomicBool, Ordering};
 
-// How often a caller looks at least whether another one has prepared a doubling. That takes
+// How often a caller tries at least until another one has prepared a doubling. That takes
 // milliseconds: a caller of few turns would else request all blocks again, under all stripes.
-const FEWEST_LOOKS: u32 = 1024;
+const FEWEST_TRIES: u32 = 1 << 18;
 
 // A lock for the caller that prepares a doubling.
 #[derive(Drop)]
@@ -41,22 +41,15 @@ impl GrowthLock {
         self.held.store(false, Ordering::Release);
     }
 
-    // Waits until nobody has it, at most for so many looks, and says whether that is so.
-    fn wait<K: TableKey>(&self, looks: u32) -> bool {
-        for _ in 0..looks {
+    // Waits until nobody has it, in at most so many tries, and says whether that is so.
+    fn wait<K: TableKey>(&self, most: u32) -> bool {
+        for tries in 1..most {
             if !self.held.load(Ordering::Acquire) {
                 return true;
             }
-            rest::<K>();
+            K::pause(tries);
         }
         false
-    }
-}
-
-// What passes between two looks.
-fn rest<K: TableKey>() {
-    for tries in 1..=256 {
-        K::pause(tries);
     }
 }
 
@@ -81,7 +74,7 @@ impl<K: TableKey + Drop, V: Drop> Table<K, V> {
             return true;
         }
         if !self.growth.try_lock() {
-            return !self.growth.wait::<K>(turns.max(FEWEST_LOOKS));
+            return !self.growth.wait::<K>(turns.max(FEWEST_TRIES));
         }
         preparation.has_lock = true;
         preparation.spares = Spares::open(self.alloc, s, power).ok();
