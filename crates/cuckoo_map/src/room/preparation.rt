@@ -10,10 +10,9 @@ use ck_model::settings::Settings;
 use ck_stripe::Spares;
 use std::sync::atomic::{AtomicBool, Ordering};
 
-// How often a caller looks whether another one has prepared a doubling. That takes milliseconds, so
-// it isn't `turns` that ends the wait: a caller of few would request all blocks again, under all
-// stripes.
-const MOST_LOOKS: u32 = 1024;
+// How often a caller tries at least until another one has prepared a doubling. That takes
+// milliseconds: a caller of few turns would else request all blocks again, under all stripes.
+const FEWEST_TRIES: u32 = 1 << 18;
 
 // A lock for the caller that prepares a doubling.
 #[derive(Drop)]
@@ -42,22 +41,15 @@ impl GrowthLock {
         self.held.store(false, Ordering::Release);
     }
 
-    // Waits until nobody has it, and says whether that is so before it gives up.
-    fn wait<K: TableKey>(&self) -> bool {
-        for _ in 0..MOST_LOOKS {
+    // Waits until nobody has it, in at most so many tries, and says whether that is so.
+    fn wait<K: TableKey>(&self, most: u32) -> bool {
+        for tries in 1..most {
             if !self.held.load(Ordering::Acquire) {
                 return true;
             }
-            rest::<K>();
+            K::pause(tries);
         }
         false
-    }
-}
-
-// What passes between two looks.
-fn rest<K: TableKey>() {
-    for tries in 1..=256 {
-        K::pause(tries);
     }
 }
 
@@ -77,12 +69,12 @@ impl<K: TableKey + Drop, V: Drop> Table<K, V> {
     pub(crate) fn prepare(&self, preparation: &mut Preparation<K, V>, power: u32) -> bool
         requires { self.now.settings.s ≤ power }
     {
-        let Settings { s, max, .. } = self.words.settings();
+        let Settings { s, max, turns, .. } = self.words.settings();
         if power >= max {
             return true;
         }
         if !self.growth.try_lock() {
-            return !self.growth.wait::<K>();
+            return !self.growth.wait::<K>(turns.max(FEWEST_TRIES));
         }
         preparation.has_lock = true;
         preparation.spares = Spares::open(self.alloc, s, power).ok();
