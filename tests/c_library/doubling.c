@@ -189,8 +189,8 @@ static void insert_second_amid(void) { code_amid = insert_refused(1, second, 0, 
 
 static void refuse_second_amid(void) { code_amid = insert_refused(1, second, 0, FOR_EVER); }
 
-/* While one caller requests, another doesn't wait for it, since its tries are over: it doubles the
- * table itself, or is refused. */
+/* While one caller requests, another waits for it some time, in vain: then it doubles the table
+ * itself, or is refused. */
 static void try_taken(void) {
     for (int before = 0; before < REQUESTS; before++) {
         begin(1);
@@ -246,6 +246,7 @@ static void try_rename(void) {
 
 /* A thread that inserts the second key while the first one's memory is requested. */
 static sem_t may_begin;
+static long nanoseconds_amid;
 static int refused_amid;
 static int requests_amid;
 
@@ -259,13 +260,13 @@ static void *insert_second(void *unused) {
 
 static void let_it_wait(void) {
     sem_post(&may_begin);
-    nanosleep(&(struct timespec){.tv_nsec = 20000000}, NULL);
+    nanosleep(&(struct timespec){.tv_nsec = nanoseconds_amid}, NULL);
 }
 
-static int32_t insert_beside(int first_is_refused, int second_is_refused) {
+static int32_t insert_beside(uint32_t turns, int first_is_refused, int second_is_refused) {
     pthread_t other;
     int32_t code;
-    begin(UINT32_MAX);
+    begin(turns);
     refused_amid = second_is_refused;
     check("a semaphore", sem_init(&may_begin, 0, 0) == 0);
     check("a thread begins", pthread_create(&other, NULL, insert_second, NULL) == 0);
@@ -280,24 +281,39 @@ static int32_t insert_beside(int first_is_refused, int second_is_refused) {
 
 /* Another caller waits for the one that requests, and looks again. */
 static void try_waiting(void) {
-    check("the first key is inserted", insert_beside(0, 0) == CUCKOO_OK);
+    nanoseconds_amid = 20000000;
+    check("the first key is inserted", insert_beside(UINT32_MAX, 0, 0) == CUCKOO_OK);
     check("the second too", code_amid == CUCKOO_OK);
     check("without a request", requests_amid == 0);
     check_table(1, 1, 2 * SLOTS);
     close_all();
 
-    check("the first key is refused", insert_beside(1, 0) == CUCKOO_NO_MEMORY);
+    check("the first key is refused", insert_beside(UINT32_MAX, 1, 0) == CUCKOO_NO_MEMORY);
     check("the second is inserted", code_amid == CUCKOO_OK);
     check("which makes the requests", requests_amid == REQUESTS);
     check_table(0, 1, 2 * SLOTS);
     close_all();
 
-    check("the first key is refused", insert_beside(1, 1) == CUCKOO_NO_MEMORY);
+    check("the first key is refused", insert_beside(UINT32_MAX, 1, 1) == CUCKOO_NO_MEMORY);
     check("the second too", code_amid == CUCKOO_NO_MEMORY);
     check_table(0, 0, SLOTS);
     check("later it is inserted", insert_refused(0, second, 0, 0) == CUCKOO_OK);
     check_table(0, 1, 2 * SLOTS);
     close_all();
+}
+
+/* One of few turns waits too, where that takes a millisecond. It is tried again, since a machine that
+ * does much besides may make more of it. */
+static void try_few_turns(void) {
+    int rounds = 0;
+    nanoseconds_amid = 1000000;
+    do {
+        check("the first key is inserted", insert_beside(64, 0, 0) == CUCKOO_OK);
+        check("the second too", code_amid == CUCKOO_OK);
+        check_table(1, 1, 2 * SLOTS);
+        close_all();
+    } while (requests_amid > 0 && ++rounds < 10);
+    check("without a request", requests_amid == 0);
 }
 
 /* A rename of texts copies both. Where either copy is refused, nothing changes. */
@@ -328,6 +344,7 @@ int main(void) {
     try_taken();
     try_rename();
     try_waiting();
+    try_few_turns();
     try_text_rename();
     puts(failed ? "failed" : "passed");
     return failed;
