@@ -25,6 +25,8 @@ mod lists;
 
 // Threads.
 #[cfg(test)]
+mod locked_keys;
+#[cfg(test)]
 mod overtaken;
 #[cfg(test)]
 mod pools;
