@@ -38,6 +38,15 @@ fn count_all(
     Ok(counts)
 }
 
+/// Prints the first ten.
+fn print_ten(rt: &impl Print, alloc: Global, counts: &[(TextKey, u64)]) -> Result<()> {
+    for (word, count) in counts.iter().take(10) {
+        let word = String::from_utf8_lossy(alloc, word.as_bytes())?;
+        println!(rt; "{count} {word}")?;
+    }
+    Ok(())
+}
+
 fn main(rt: HostRuntime) -> Result<()> {
     let alloc = rt.alloc();
     let path = env::args(&rt)?.nth(1).context("usage: ck_count FILE")?;
@@ -45,9 +54,5 @@ fn main(rt: HostRuntime) -> Result<()> {
     let words: Vec<&str> = text.split_ascii_whitespace().collect(alloc)?;
     let mut counts = count_all(&rt, alloc, &words)?;
     counts.sort_by_key(|word| Reverse(word.1))?;
-    for (word, count) in counts.iter().take(10) {
-        let word = String::from_utf8_lossy(alloc, word.as_bytes())?;
-        println!(rt; "{count} {word}")?;
-    }
-    Ok(())
+    print_ten(&rt, alloc, &counts)
 }

@@ -183,19 +183,24 @@ fn run(clerk: Clerk, number: u32) -> Result<Clerk> {
 /// Lets each of them run in a thread of its own, and gives one of them back.
 fn run_all(rt: &(impl Threads + Sync), alloc: Global, clerks: Vec<Clerk>) -> Result<Clerk> {
     let jobs: Vec<(Clerk, u32)> = clerks.into_iter().zip(0..5u32).collect(alloc)?;
-    let mut back = Vec::new(alloc);
+    let mut back = None;
     for done in thread::map_vec(rt, jobs, &|(clerk, number)| run(clerk, number))? {
-        back.push(done?)?;
+        back = Some(done?);
     }
-    back.pop().context("no clerk")
+    back.context("no clerk")
+}
+
+/// What is on the accounts after all that the clerks do.
+fn sum_at_end(rt: &(impl Threads + Sync), alloc: Global) -> Result<u64> {
+    let mut clerks = Handle::open(alloc, Settings::for_keys(100, 5))?;
+    open_accounts(clerks.first_mut().context("no clerk")?)?;
+    let mut clerk = run_all(rt, alloc, clerks)?;
+    let (accounts, names) = look(&mut clerk)?;
+    sum_of(accounts, names).context("the index is wrong")
 }
 
 fn main(rt: HostRuntime) -> Result<()> {
-    let mut clerks = Handle::open(rt.alloc(), Settings::for_keys(100, 5))?;
-    open_accounts(clerks.first_mut().context("no clerk")?)?;
-    let mut clerk = run_all(&rt, rt.alloc(), clerks)?;
-    let (accounts, names) = look(&mut clerk)?;
-    let sum = sum_of(accounts, names).context("the index is wrong")?;
+    let sum = sum_at_end(&rt, rt.alloc())?;
     println!(rt; "{AUDITS} snapshots were right; {sum} is on 3 accounts")?;
     Ok(())
 }
