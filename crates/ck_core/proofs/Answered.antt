@@ -9,7 +9,7 @@ use Rattle.ck_model.specs.Contents.{Stripes, bindings, whole}
 use Rattle.ck_model.specs.Numbered.{IsIn, numbers}
 use Rattle.ck_model.proofs.Histories.{starts_itself, leads_to, leads_snoc}
 use Rattle.ck_model.proofs.Numbered.{in_held}
-use Rattle.ck_core.proofs.Callers.{own_held}
+use Rattle.ck_core.proofs.Callers.{own_held, seen_starts}
 use Rattle.ck_core.specs.declared.view.View.{View}
 use Rattle.ck_core.specs.State.{Configuration, HasNumber, owned}
 use Rattle.ck_core.specs.declared.trace.LockStep.TheVariants.{Decided}
@@ -104,13 +104,13 @@ module _ {V : Type 0} where
   views_of s s2 e = ap (λ (u : Configuration V). u.views) e
 
   pub law_of_other_steps : LawOfOtherSteps V
-  law_of_other_steps k min_load callers id (Take t) log s s2 v w no_entry law d at there = all_seen log v d.0 _ w (some-injective d.0 v (sym d.2 ∙ at)) (set_view s.views s2.views id d.0 _ w d.2 (views_of s2 _ d.8) there) refl refl (law.callers_known.knows id v at).seen
+  law_of_other_steps k min_load callers id (Take t) log s s2 v w no_entry law d at there = all_seen log v d.0 _ w (some-injective d.0 v (sym d.2 ∙ at)) (set_view s.views s2.views id d.0 _ w d.2 (views_of s2 _ d.8) there) refl refl (seen_starts callers log v (law.callers_known.knows id v at))
   law_of_other_steps k min_load callers id (FindHeld t) log s s2 v w no_entry law d at there = same_seen v d.0 _ w (some-injective d.0 v (sym d.1 ∙ at)) (set_view s.views s2.views id d.0 _ w d.1 (views_of s2 _ d.6) there) refl refl
   law_of_other_steps k min_load callers id (Give t g) log s s2 v w no_entry law d at there = same_seen v d.0 _ w (some-injective d.0 v (sym d.2 ∙ at)) (set_view s.views s2.views id d.0 _ w d.2 (views_of s2 _ d.5) there) refl refl
   law_of_other_steps k min_load callers id (Decide t ks e) log s s2 v w no_entry law d at there = absurd (no_entry tt)
   law_of_other_steps k min_load callers id (GiveRest t) log s s2 v w no_entry law d at there = same_seen v d.0 _ w (some-injective d.0 v (sym d.2 ∙ at)) (set_view s.views s2.views id d.0 _ w d.2 (views_of s2 _ d.4) there) refl refl
   law_of_other_steps k min_load callers id (Renew t ks g) log s s2 v w no_entry law d at there = same_seen v d.0 _ w (some-injective d.0 v (sym d.2 ∙ at)) (set_view s.views s2.views id d.0 _ w d.2 (views_of s2 _ d.6) there) refl refl
-  law_of_other_steps k min_load callers id (Look t p) log s s2 v w no_entry law d at there = all_seen log v d.0 _ w (some-injective d.0 v (sym d.1 ∙ at)) (set_view s.views s2.views id d.0 _ w d.1 (views_of s2 _ d.5) there) refl refl (law.callers_known.knows id v at).seen
+  law_of_other_steps k min_load callers id (Look t p) log s s2 v w no_entry law d at there = all_seen log v d.0 _ w (some-injective d.0 v (sym d.1 ∙ at)) (set_view s.views s2.views id d.0 _ w d.1 (views_of s2 _ d.5) there) refl refl (seen_starts callers log v (law.callers_known.knows id v at))
   law_of_other_steps k min_load callers id Open log s s2 v w no_entry law d at there = same_seen v d.0 _ w (some-injective d.0 v (sym d.3 ∙ at)) (split_view s.views s2.views id d.0 _ _ w d.3 (views_of s2 _ d.5) there) refl refl
   law_of_other_steps k min_load callers id Tell log s s2 v w no_entry law d at there = same_seen v d.0 _ w (some-injective d.0 v (sym d.1 ∙ at)) (split_view s.views s2.views id d.0 _ _ w d.1 (views_of s2 _ d.2) there) refl refl
   law_of_other_steps k min_load callers id (Join other) log s s2 v w no_entry law d at there =

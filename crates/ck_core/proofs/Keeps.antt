@@ -17,7 +17,7 @@ use Rattle.ck_model.proofs.Numbered.{Some-injective, in_held, held_of_in, held_e
 use Rattle.ck_model.proofs.Sections.{section_of_whole, identity_of_whole, power_after}
 use Rattle.ck_model.proofs.Histories.{leads_snoc}
 use Rattle.ck_core.specs.Trace.{BeginsWith, misses}
-use Rattle.ck_core.specs.State.{Configuration, HasNumber, IsPart, own, owned, Places, Knows, Watches, Traces, HistoryInvariant}
+use Rattle.ck_core.specs.State.{Configuration, HasNumber, IsPart, author_of, own, owned, Places, Knows, Watches, Traces, HistoryInvariant}
 use Rattle.ck_core.specs.declared.trace.LockStep.{LockStep}
 use Rattle.ck_core.specs.declared.trace.LockStep.TheVariants.{Took, Missed, Gave, Decided}
 use Rattle.ck_core.specs.Steps.{Label, number_of, event, traced, watching, taken, missed, seen_as, sent_home, giving, renewing, deciding, beginner, message_of, spent, joining, split_as, joined, Transition, grown, Execution}
@@ -26,7 +26,8 @@ use Rattle.ck_core.proofs.Lists.{at_within, each_set, each_snoc, set_else}
 use Rattle.ck_core.proofs.Places.{places_keep, places_take, places_back, places_split}
 use Rattle.ck_core.proofs.Traces.{traces_take, traces_miss, traces_back, traces_keep, traces_split, traces_join, watches_as}
 use Rattle.ck_core.proofs.LegalTraces.{Returns, returns_gave, returns_decided, decided_same, decided_more}
-use Rattle.ck_core.proofs.Callers.{knows_all, knows_same, callers_set, callers_add, callers_split, callers_join}
+use Rattle.ck_core.proofs.Sees.{sees_none}
+use Rattle.ck_core.proofs.Callers.{none_subhistory, seen_starts, knows_all, knows_same, callers_set, callers_add, callers_split, callers_join}
 
 -- a stripe that went home isn't held
 gone_home : {A : Type 0} (t : ℕ) (hs : List (ℕ × A)) → ¬ (IsIn t (numbers (without t hs)))
@@ -267,19 +268,17 @@ module _ {V : Type 0} (k : Layout) (callers : ℕ) (log : List (Entry V)) (s : C
       split_keeps left right refl refl refl refl (law.told id v at) (λ t l. ((law.told id v at t l).0, zero-le)) (λ x i. (there x i, λ h. ⊎_elim (λ e. cut.1 (subst (λ y. IsIn y (numbers (owned left))) (sym e) i)) (λ z. absurd z) h))
       (λ x h. ⊎_elim (λ e. subst (λ y. IsIn y (numbers (owned v))) e (in_held (owned v) m [] m_there)) (λ z. absurd z) h)
       (record {
-        seen = kn.seen;
+        sees = kn.sees;
         heard = kn.heard;
         calls = λ x l h. kn.calls x l (subst (λ (o : List (ℕ × List (Entry V))). Holds o x l) (sym ow)
             (⊎_elim (λ y. held_first (own v.by v.mine) ((m, []) ∷ rest) x l y) (λ y. held_second (own v.by v.mine) ((m, []) ∷ rest) x l (inr y)) (held_either (own v.by v.mine) rest x l h)));
-        own_seen = kn.own_seen;
         distinct = cut.0;
         within = λ x i. kn.within x (there x i);
       })
       (record {
-        seen = (log, refl);
+        sees = record { unseen = log; begins = refl; by_others = λ x e. none_subhistory x log (kn.calls x [] (subst (λ (y : Option ℕ). Holds (owned v) (number_of y) []) e m_there)) };
         heard = (log, refl);
         calls = λ x l h. ⊎_elim (λ (e : (m ≡ x) × ([] ≡ l)). kn.calls x l (subst (λ (y : ℕ × List (Entry V)). Holds (owned v) y.0 y.1) (λ i. (e.0 i, e.1 i)) m_there)) (λ z. absurd z) h;
-        own_seen = λ x e. refl;
         distinct = ((λ z. z), tt);
         within = λ x i. ⊎_elim (λ e. subst (λ y. y < callers) e (kn.within m (in_held (owned v) m [] m_there))) (λ z. absurd z) i;
       })
@@ -288,10 +287,9 @@ module _ {V : Type 0} (k : Layout) (callers : ℕ) (log : List (Entry V)) (s : C
 
   knows_nothing : (w : View V) → owned w ≡ [] → w.by ≡ None → StartsWith log w.seen → w.heard ≡ [] → Knows callers log w
   knows_nothing w none nobody seen heard = record {
-    seen = seen;
+    sees = sees_none author_of (λ m. w.by ≡ Some m) log w.seen seen.0 seen.1 (λ m e. none-some m (sym nobody ∙ e));
     heard = subst (StartsWith log) (sym heard) (log, refl);
     calls = λ m l h. absurd (subst (λ (o : List (ℕ × List (Entry V))). Holds o m l) none h);
-    own_seen = λ m e. absurd (none-some m (sym nobody ∙ e));
     distinct = subst (λ (o : List (ℕ × List (Entry V))). AreDistinct (numbers o)) (sym none) tt;
     within = λ m i. absurd (subst (λ (o : List (ℕ × List (Entry V))). IsIn m (numbers o)) none i);
   }
@@ -299,7 +297,7 @@ module _ {V : Type 0} (k : Layout) (callers : ℕ) (log : List (Entry V)) (s : C
   pub tell_keeps : HistoryInvariant k callers log (split_as s id v (message_of v))
   tell_keeps =
       let kn = law.callers_known.knows id v at in
-      split_keeps v (message_of v) refl refl refl refl (law.told id v at) (λ t l. ((law.told id v at t l).0, zero-le)) (λ m i. (i, λ h. h)) (λ m h. absurd h) kn (knows_nothing (message_of v) refl refl kn.seen refl) (law.traced.watched id v at) (watched_as (message_of v) refl (λ m i. absurd i) (λ m e. absurd (none-some m e)) (v.watched, refl))
+      split_keeps v (message_of v) refl refl refl refl (law.told id v at) (λ t l. ((law.told id v at t l).0, zero-le)) (λ m i. (i, λ h. h)) (λ m h. absurd h) kn (knows_nothing (message_of v) refl refl (seen_starts callers log v kn) refl) (law.traced.watched id v at) (watched_as (message_of v) refl (λ m i. absurd i) (λ m e. absurd (none-some m e)) (v.watched, refl))
 
   pub join_keeps : (other : ℕ) (w : View V) → get_elem? s.views other ≡ some w → ¬ (other ≡ id) → w.held ≡ [] → HistoryInvariant k callers log (joined s id (joining v w) other)
   join_keeps other w there apart empty_handed =
@@ -325,12 +323,11 @@ module _ {V : Type 0} (k : Layout) (callers : ℕ) (log : List (Entry V)) (s : C
             (λ j u _ a. each_set (Told law.contents) s.views id both (λ t l. ((law.told id v at t l).0, (law.told other w there t l).0)) (λ j u _ a. law.told j u a) j u a);
         callers_known = callers_join callers log s.views id other v w both spent cs at there of_both
             (record {
-              seen = kv.seen;
-              heard = kw.seen;
+              sees = kv.sees;
+              heard = seen_starts callers log w kw;
               calls = λ m l h. ⊎_elim (λ y. kv.calls m l (held_first (own v.by v.mine) v.others m l y))
                   (λ r. ⊎_elim (λ y. kw.calls m l y) (λ y. kv.calls m l (held_second (own v.by v.mine) v.others m l y)) (held_either (owned w) v.others m l r))
                   (held_either (own v.by v.mine) (owned w ++ v.others) m l h);
-              own_seen = kv.own_seen;
               distinct = distinct_between (own v.by v.mine) (owned w) v.others kv.distinct kw.distinct (λ m i h. apart (sym (cs.keeps other w there m i) ∙ cs.keeps id v at m h));
               within = λ m i. ⊎_elim (kv.within m) (kw.within m) (of_both m i);
             })

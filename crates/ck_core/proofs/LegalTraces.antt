@@ -11,37 +11,8 @@ use Rattle.ck_model.proofs.Histories.{subhistory-append}
 use Rattle.ck_core.specs.declared.trace.LockStep.{LockStep}
 use Rattle.ck_core.specs.declared.trace.LockStep.TheVariants.{Took, Missed, Gave, Decided}
 use Rattle.ck_core.specs.declared.trace.LockEvent.{LockEvent}
-use Rattle.ck_core.specs.Steps.{longer}
-use Rattle.ck_core.specs.Trace.{held_after, held_behind, held_from, holder, Fits, IsLegalTrace, decided_by, decided_in, decides, missed_by, misses, NoneBy}
-
-module _ {A : Type 0} where
-  first_of : A → List A → A
-  first_of d [] = d
-  first_of d (x ∷ xs) = x
-
-  rest_of : List A → List A
-  rest_of [] = []
-  rest_of (x ∷ xs) = xs
-
-  -- Where a list with one element more is cut at an element, that is the last one, or the list is cut there.
-  cut_snoc : (xs : List A) (x : A) (before : List A) (y : A) (more : List A) → xs ++ x ∷ [] ≡ before ++ y ∷ more → ((xs ≡ before) × (x ≡ y)) ⊎ ((rest : List A) × (xs ≡ before ++ y ∷ rest))
-  unfolding first_of rest_of
-  cut_snoc [] x [] y more e = inl (refl, ap (first_of x) e)
-  cut_snoc [] x (b ∷ bs) y more e = absurd (let l = ap length e in let m = length-append bs (y ∷ more) in omega arith)
-  cut_snoc (z ∷ zs) x [] y more e = inr (zs, λ i. first_of z (e i) ∷ zs)
-  cut_snoc (z ∷ zs) x (b ∷ bs) y more e = ⊎_elim
-      (λ (h : (zs ≡ bs) × (x ≡ y)). inl ((λ i. first_of z (e i) ∷ h.0 i), h.1))
-      (λ (h : (rest : List A) × (zs ≡ bs ++ y ∷ rest)). inr (h.0, λ i. first_of z (e i) ∷ h.1 i))
-      (cut_snoc zs x bs y more (ap rest_of e))
-
-  -- what two beginnings of one list lack of the longer
-  pub longer_cut : (a b c d : List A) → a ++ b ≡ c ++ d → (x : List A) × (y : List A) × (rest : List A) × (longer a c ≡ a ++ x) × (b ≡ x ++ rest) × (d ≡ y ++ rest) × (longer a c ≡ c ++ y)
-  unfolding first_of rest_of
-  longer_cut [] b c d e = (c, [], d, refl, e, refl, sym (append-nil c))
-  longer_cut (z ∷ zs) b [] d e = ([], z ∷ zs, b, sym (append-nil (z ∷ zs)), refl, sym e, refl)
-  longer_cut (z ∷ zs) b (w ∷ ws) d e =
-      let cut = longer_cut zs b ws d (ap rest_of e) in
-      (cut.0, cut.1, cut.2, ap {B = List A} (λ l. z ∷ l) cut.3, cut.4, cut.5, λ i. first_of z (e i) ∷ cut.6 i)
+use Rattle.ck_core.specs.Trace.{held_after, held_behind, held_from, holder, Fits, IsLegalTrace, decided_by, decided_in, decides, missed_by, misses, NoneBy, by_of}
+use Rattle.ck_core.proofs.Lists.{cut_snoc}
 
 -- which step it is
 IsTaking : {V : Type 0} → LockStep V → Type 0
@@ -133,35 +104,22 @@ module _ {V : Type 0} where
   misses_append m [] ys = sym (append-nil (misses m ys))
   misses_append m (x ∷ xs) ys = (λ i. misses_append m xs ys i ++ misses m (x ∷ [])) ∙ append_assoc (misses m ys) (misses m xs) (misses m (x ∷ []))
 
-  -- one step more that is by another
-  pub none_more : (m : ℕ) (es : List (LockEvent V)) (e : LockEvent V) → NoneBy m es → e.by ≢ m → NoneBy m (es ++ e ∷ [])
-  none_more m [] e none other = (other, tt)
-  none_more m (x ∷ xs) e none other = (none.0, none_more m xs e none.1 other)
-
-  pub none_first : (m : ℕ) (xs ys : List (LockEvent V)) → NoneBy m (xs ++ ys) → NoneBy m xs
-  none_first m [] ys none = tt
-  none_first m (x ∷ xs) ys none = (none.0, none_first m xs ys none.1)
-
-  pub none_second : (m : ℕ) (xs ys : List (LockEvent V)) → NoneBy m (xs ++ ys) → NoneBy m ys
-  none_second m [] ys none = none
-  none_second m (x ∷ xs) ys none = none_second m xs ys none.1
-
   -- steps of others miss nothing of the caller's
-  misses_none : (m : ℕ) (es : List (LockEvent V)) → NoneBy m es → misses m es ≡ []
+  misses_none : (m : ℕ) (es : List (LockEvent V)) → NoneBy by_of m es → misses m es ≡ []
   misses_none m [] others = refl
   misses_none m (e ∷ es) others = λ i. misses_none m es others.1 i ++ if_else e.by m (missed_by e.step e.stripe) [] others.0 i
 
-  pub misses_same : (m : ℕ) (xs more : List (LockEvent V)) → NoneBy m more → misses m (xs ++ more) ≡ misses m xs
+  pub misses_same : (m : ℕ) (xs more : List (LockEvent V)) → NoneBy by_of m more → misses m (xs ++ more) ≡ misses m xs
   misses_same m xs more others = misses_append m xs more ∙ λ i. misses_none m more others i ++ misses m xs
 
   -- what the caller missed of a trace whose rest is by others, and one step more of its own
-  pub misses_more : (m : ℕ) (trace watched unseen : List (LockEvent V)) (e : LockEvent V) → trace ≡ watched ++ unseen → NoneBy m unseen → e.by ≡ m → misses m (trace ++ e ∷ []) ≡ missed_by e.step e.stripe ++ misses m watched
+  pub misses_more : (m : ℕ) (trace watched unseen : List (LockEvent V)) (e : LockEvent V) → trace ≡ watched ++ unseen → NoneBy by_of m unseen → e.by ≡ m → misses m (trace ++ e ∷ []) ≡ missed_by e.step e.stripe ++ misses m watched
   misses_more m trace watched unseen e is others own =
       misses_append m trace (e ∷ [])
       ∙ λ i. if_same e.by m (missed_by e.step e.stripe) [] own i ++ (ap (misses m) is ∙ misses_same m watched unseen others) i
 
   -- steps of callers, none of which is of any caller, are none
-  pub none_left : (callers : ℕ) (xs ys : List (LockEvent V)) → All (λ (e : LockEvent V). e.by < callers) (xs ++ ys) → ((m : ℕ) → m < callers → NoneBy m ys) → ys ≡ []
+  pub none_left : (callers : ℕ) (xs ys : List (LockEvent V)) → All (λ (e : LockEvent V). e.by < callers) (xs ++ ys) → ((m : ℕ) → m < callers → NoneBy by_of m ys) → ys ≡ []
   none_left callers [] [] below none = refl
   none_left callers [] (e ∷ es) below none = absurd ((none e.by (All-head (λ (x : LockEvent V). x.by < callers) e es below)).0 refl)
   none_left callers (x ∷ xs) ys below none = none_left callers xs ys (All-tail (λ (e : LockEvent V). e.by < callers) x (xs ++ ys) below) none
@@ -184,12 +142,12 @@ module _ {V : Type 0} where
   decides_append m (x ∷ xs) ys = (λ i. (if x.by == m then decided_by x.step else []) ++ decides_append m xs ys i) ∙ sym (append_assoc (if x.by == m then decided_by x.step else []) (decides m xs) (decides m ys))
 
   -- steps of others decide nothing of the caller's
-  pub decides_none : (m : ℕ) (es : List (LockEvent V)) → NoneBy m es → decides m es ≡ []
+  pub decides_none : (m : ℕ) (es : List (LockEvent V)) → NoneBy by_of m es → decides m es ≡ []
   decides_none m [] others = refl
   decides_none m (e ∷ es) others = λ i. if_else e.by m (decided_by e.step) [] others.0 i ++ decides_none m es others.1 i
 
   -- of steps by others and one more, that one alone may
-  pub decides_last : (m : ℕ) (es : List (LockEvent V)) (e : LockEvent V) → NoneBy m es → decides m (es ++ e ∷ []) ≡ (if e.by == m then decided_by e.step else [])
+  pub decides_last : (m : ℕ) (es : List (LockEvent V)) (e : LockEvent V) → NoneBy by_of m es → decides m (es ++ e ∷ []) ≡ (if e.by == m then decided_by e.step else [])
   decides_last m es e others = decides_append m es (e ∷ []) ∙ ((λ i. decides_none m es others i ++ ((if e.by == m then decided_by e.step else []) ++ [])) ∙ append-nil (if e.by == m then decided_by e.step else []))
 
   -- the history of more steps

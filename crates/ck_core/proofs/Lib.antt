@@ -1,4 +1,5 @@
 pub mod Lists
+pub mod Sees
 pub mod LegalTraces
 pub mod Places
 pub mod Callers

@@ -56,10 +56,9 @@ module _ {V : Type 0} (k : Layout) (set : Settings) (callers p : ℕ) (s : Confi
       keeper = o.keeper;
       keeps = each_new (λ j v. (m : ℕ) → IsIn m (numbers (owned v)) → o.keeper m ≡ j) (λ j ms _ f m h. (f m (subst (IsIn m) (numbers_unused (j ∷ ms)) h)).1);
       knows = each_new (λ _ v. Knows callers [] v) (λ j ms apart f. record {
-        seen = ([], refl);
+        sees = record { unseen = []; begins = refl; by_others = λ _ _. tt };
         heard = ([], refl);
         calls = λ m l h. unused (j ∷ ms) m l h;
-        own_seen = λ m e. refl;
         distinct = subst AreDistinct (sym (numbers_unused (j ∷ ms))) apart;
         within = λ m h. (f m (subst (IsIn m) (numbers_unused (j ∷ ms)) h)).0;
       });
@@ -70,7 +69,7 @@ module _ {V : Type 0} (k : Layout) (set : Settings) (callers p : ℕ) (s : Confi
       by_callers = subst (λ (es : List (LockEvent V)). All (λ (e : LockEvent V). e.by < callers) es) (sym o.no_step) (All-nil _);
       free = λ t l _. ap (λ (es : List (LockEvent V)). holder es t) o.no_step;
       held = each_new (λ _ v. (t : ℕ) (c : Content V) → Holds v.held t c → holder s.trace t ≡ v.by) (λ j ms _ _ t c h. absurd h);
-      watched = each_new (λ _ v. Watches s.trace v) (λ j ms _ _. record { unseen = []; begins = o.no_step; by_others = λ _ _. tt; heard = ([], refl); missed = λ _ _. refl });
+      watched = each_new (λ _ v. Watches s.trace v) (λ j ms _ _. record { sees = record { unseen = []; begins = o.no_step; by_others = λ _ _. tt }; heard = ([], refl); missed = λ _ _. refl });
     };
     decided = ap decided_in o.no_step;
     legal = sym o.empty_whole;

@@ -17,6 +17,7 @@ use Rattle.ck_core.specs.Order.{ViewsGrow, decision, decided, LawOfOneHistory, L
 use Rattle.ck_core.proofs.Lists.{set_there, set_else, at_longer}
 use Rattle.ck_core.proofs.Keeps.{run_keeps}
 use Rattle.ck_core.proofs.Openings.{runs_keep}
+use Rattle.ck_core.proofs.Callers.{seen_starts}
 use Rattle.ck_core.proofs.Answered.{views_of}
 use Rattle.ck_core.proofs.Shown.{no_items, no_second, shows}
 
@@ -75,7 +76,7 @@ module _ {V : Type 0} where
       (λ none. (log2, ap (λ l. l ++ log2) (sym none)))
       (λ (z : (j : ℕ) × (v : View V) × (get_elem? s.views j ≡ some v) × (v.seen ≡ log)).
       let it = grow z.0 z.1 z.2 in
-      let seen = (law2.callers_known.knows it.0 it.1 it.2).seen in
+      let seen = seen_starts callers _ it.1 (law2.callers_known.knows it.0 it.1 it.2) in
       (it.3.0 ++ seen.0, seen.1 ∙ (ap (λ l. l ++ seen.0) it.3.1 ∙ (append_assoc z.1.seen it.3.0 seen.0 ∙ ap (λ l. l ++ (it.3.0 ++ seen.0)) z.3))))
       (law_of_seen_history k callers log s law stand)
 
@@ -154,13 +155,13 @@ module _ {V : Type 0} where
       (z.0, z.1, ap (λ l. get_elem? l z.0) is ∙ at_longer (set s.views id x) (y ∷ []) z.0 z.1 z.2, z.3)
 
   pub law_of_growing_views : LawOfGrowingViews V
-  law_of_growing_views k min_load callers id (Take t) log s s2 not_joining law d = grow_set s s2 id d.0 _ d.2 (views_of s2 _ d.8) ((law.callers_known.knows id d.0 d.2).seen)
+  law_of_growing_views k min_load callers id (Take t) log s s2 not_joining law d = grow_set s s2 id d.0 _ d.2 (views_of s2 _ d.8) (seen_starts callers log d.0 (law.callers_known.knows id d.0 d.2))
   law_of_growing_views k min_load callers id (FindHeld t) log s s2 not_joining law d = grow_set s s2 id d.0 _ d.1 (views_of s2 _ d.6) (starts_itself d.0.seen)
   law_of_growing_views k min_load callers id (Give t g) log s s2 not_joining law d = grow_set s s2 id d.0 _ d.2 (views_of s2 _ d.5) (starts_itself d.0.seen)
-  law_of_growing_views k min_load callers id (Decide t ks e) log s s2 not_joining law d = grow_set s s2 id d.0 _ d.2 (views_of s2 _ d.6) (starts_more log d.0.seen e (law.callers_known.knows id d.0 d.2).seen)
+  law_of_growing_views k min_load callers id (Decide t ks e) log s s2 not_joining law d = grow_set s s2 id d.0 _ d.2 (views_of s2 _ d.6) (starts_more log d.0.seen e (seen_starts callers log d.0 (law.callers_known.knows id d.0 d.2)))
   law_of_growing_views k min_load callers id (GiveRest t) log s s2 not_joining law d = grow_set s s2 id d.0 _ d.2 (views_of s2 _ d.4) (starts_itself d.0.seen)
   law_of_growing_views k min_load callers id (Renew t ks g) log s s2 not_joining law d = grow_set s s2 id d.0 _ d.2 (views_of s2 _ d.6) (starts_itself d.0.seen)
-  law_of_growing_views k min_load callers id (Look t p) log s s2 not_joining law d = grow_set s s2 id d.0 _ d.1 (views_of s2 _ d.5) ((law.callers_known.knows id d.0 d.1).seen)
+  law_of_growing_views k min_load callers id (Look t p) log s s2 not_joining law d = grow_set s s2 id d.0 _ d.1 (views_of s2 _ d.5) (seen_starts callers log d.0 (law.callers_known.knows id d.0 d.1))
   law_of_growing_views k min_load callers id Open log s s2 not_joining law d = grow_split s s2 id d.0 _ _ d.3 (views_of s2 _ d.5) (starts_itself d.0.seen)
   law_of_growing_views k min_load callers id Tell log s s2 not_joining law d = grow_split s s2 id d.0 _ _ d.1 (views_of s2 _ d.2) (starts_itself d.0.seen)
   law_of_growing_views k min_load callers id (Join other) log s s2 not_joining law d = absurd (not_joining tt)

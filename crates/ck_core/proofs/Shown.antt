@@ -11,7 +11,7 @@ use Rattle.ck_model.specs.Numbered.{IsIn, numbers, Holds}
 use Rattle.ck_model.specs.Promise.{After, subhistory, Answered}
 use Rattle.ck_model.specs.Contents.{Layout, bindings, whole}
 use Rattle.ck_model.specs.Sections.{HasAll}
-use Rattle.ck_model.proofs.Numbered.{if_same, in_held, held_of_in, listed_as}
+use Rattle.ck_model.proofs.Numbered.{if_same, held_of_in, listed_as}
 use Rattle.ck_model.proofs.Names.{maps_alike}
 use Rattle.ck_model.proofs.Belongs.{stripe_below}
 use Rattle.ck_model.proofs.Sections.{owned_binding}
@@ -24,7 +24,7 @@ use Rattle.ck_core.specs.State.{Configuration, HistoryInvariant, Watches, owned,
 use Rattle.ck_core.specs.Laws.{Shows}
 use Rattle.ck_core.proofs.Keeps.{agrees}
 use Rattle.ck_core.proofs.LegalTraces.{legal_start, decides_own, decides_append, decides_none, decided_append, none_left}
-use Rattle.ck_core.proofs.Callers.{own_held}
+use Rattle.ck_core.proofs.Callers.{own_held, own_in, seen_starts, seen_own}
 
 pub no_items : {A : Type 0} (l : List A) → length l ≡ 0 → l ≡ []
 no_items [] e = refl
@@ -68,53 +68,53 @@ module _ {V : Type 0} (k : Layout) (callers : ℕ) (log : List (Entry V)) (s : C
   unseen_none m e more is =
       let kn = law.callers_known.knows j v at in
       none_after v.mine (subhistory m more)
-      (sym (ap (λ l. l ++ subhistory m more) (sym (kn.own_seen m e)) ∙ (sym (subhistory-append m v.seen more) ∙ (ap (subhistory m) (sym is) ∙ kn.calls m v.mine (own_held v m e)))))
+      (sym (ap (λ l. l ++ subhistory m more) (sym (seen_own callers log v kn m e)) ∙ (sym (subhistory-append m v.seen more) ∙ (ap (subhistory m) (sym is) ∙ kn.calls m v.mine (own_held v m e)))))
 
   -- the only caller has seen all
   all_of_one : (m : ℕ) → v.by ≡ Some m → callers ≡ 1 → v.seen ≡ log
   all_of_one m e one =
       let kn = law.callers_known.knows j v at in
-      let more = kn.seen.0 in
-      let low = kn.within m (in_held (owned v) m v.mine (own_held v m e)) in
+      let more = kn.sees.unseen in
+      let low = kn.within m (own_in v m e) in
       let by_none : (n : ℕ) → subhistory n more ≡ [] = λ n. dite (dec_le callers n)
-      (λ l. no_second (subhistory n v.seen) (subhistory n more) (sym (subhistory-append n v.seen more) ∙ (ap (subhistory n) (sym kn.seen.1) ∙ law.callers_known.no_others n l)))
-      (λ no_le. let l = lt_of_not-le no_le in let same : n ≡ m = omega arith in ap (λ x. subhistory x more) same ∙ unseen_none m e more kn.seen.1) in
-      sym (kn.seen.1 ∙ (ap (λ l. v.seen ++ l) (no_entries more by_none) ∙ append-nil v.seen))
+      (λ l. no_second (subhistory n v.seen) (subhistory n more) (sym (subhistory-append n v.seen more) ∙ (ap (subhistory n) (sym kn.sees.begins) ∙ law.callers_known.no_others n l)))
+      (λ no_le. let l = lt_of_not-le no_le in let same : n ≡ m = omega arith in ap (λ x. subhistory x more) same ∙ unseen_none m e more kn.sees.begins) in
+      sym (kn.sees.begins ∙ (ap (λ l. v.seen ++ l) (no_entries more by_none) ∙ append-nil v.seen))
 
   watched_on : Watches s.trace v
   watched_on = law.traced.watched j v at
 
   -- what was decided in what was watched begins the history
-  decided_watched : log ≡ decided_in v.watched ++ decided_in watched_on.unseen
-  decided_watched = sym law.decided ∙ (ap decided_in watched_on.begins ∙ decided_append v.watched watched_on.unseen)
+  decided_watched : log ≡ decided_in v.watched ++ decided_in watched_on.sees.unseen
+  decided_watched = sym law.decided ∙ (ap decided_in watched_on.sees.begins ∙ decided_append v.watched watched_on.sees.unseen)
 
   -- by its own steps the caller decided its entries
   decided_mine : (m : ℕ) → v.by ≡ Some m → decides m v.watched ≡ v.mine
   decided_mine m by =
-      let legal : IsLegalTrace (v.watched ++ watched_on.unseen) = subst IsLegalTrace watched_on.begins law.traced.legal in
-      let none : decides m watched_on.unseen ≡ [] = decides_none m watched_on.unseen (watched_on.by_others m (in_held (owned v) m v.mine (own_held v m by))) in
-      let whole : decides m (v.watched ++ watched_on.unseen) ≡ subhistory m (decided_in (v.watched ++ watched_on.unseen)) = decides_own m [] (v.watched ++ watched_on.unseen) legal in
-      sym (append-nil (decides m v.watched)) ∙ (ap (λ l. decides m v.watched ++ l) (sym none) ∙ (sym (decides_append m v.watched watched_on.unseen)
-      ∙ (whole ∙ (ap (λ (es : List (LockEvent V)). subhistory m (decided_in es)) (sym watched_on.begins) ∙ (ap (subhistory m) law.decided ∙ (law.callers_known.knows j v at).calls m v.mine (own_held v m by))))))
+      let legal : IsLegalTrace (v.watched ++ watched_on.sees.unseen) = subst IsLegalTrace watched_on.sees.begins law.traced.legal in
+      let none : decides m watched_on.sees.unseen ≡ [] = decides_none m watched_on.sees.unseen (watched_on.sees.by_others m (own_in v m by)) in
+      let whole : decides m (v.watched ++ watched_on.sees.unseen) ≡ subhistory m (decided_in (v.watched ++ watched_on.sees.unseen)) = decides_own m [] (v.watched ++ watched_on.sees.unseen) legal in
+      sym (append-nil (decides m v.watched)) ∙ (ap (λ l. decides m v.watched ++ l) (sym none) ∙ (sym (decides_append m v.watched watched_on.sees.unseen)
+      ∙ (whole ∙ (ap (λ (es : List (LockEvent V)). subhistory m (decided_in es)) (sym watched_on.sees.begins) ∙ (ap (subhistory m) law.decided ∙ (law.callers_known.knows j v at).calls m v.mine (own_held v m by))))))
 
   -- whoever keeps all numbers has watched all
   decided_whole : ((m : ℕ) → m < callers → IsIn m (numbers (owned v))) → decided_in v.watched ≡ log
   decided_whole all =
-      let none : watched_on.unseen ≡ [] = none_left callers v.watched watched_on.unseen (subst (λ (es : List (LockEvent V)). All (λ (e : LockEvent V). e.by < callers) es) watched_on.begins law.traced.by_callers) (λ m low. watched_on.by_others m (all m low)) in
+      let none : watched_on.sees.unseen ≡ [] = none_left callers v.watched watched_on.sees.unseen (subst (λ (es : List (LockEvent V)). All (λ (e : LockEvent V). e.by < callers) es) watched_on.sees.begins law.traced.by_callers) (λ m low. watched_on.sees.by_others m (all m low)) in
       sym (decided_watched ∙ (ap (λ (es : List (LockEvent V)). decided_in v.watched ++ decided_in es) none ∙ append-nil (decided_in v.watched)))
 
   pub shows : Shows k callers log v
   shows = let kn = law.callers_known.knows j v at in record {
-    seen = kn.seen;
+    seen = seen_starts callers log v kn;
     heard = kn.heard;
     legal = (bindings (whole k law.contents), law.legal);
     own = λ m e. kn.calls m v.mine (own_held v m e);
     unseen = unseen_none;
     alone = all_of_one;
-    watched = let w = law.traced.watched j v at in record { legal = legal_start s.trace v.watched w.unseen w.begins law.traced.legal; missed = w.missed };
+    watched = let w = law.traced.watched j v at in record { legal = legal_start s.trace v.watched w.sees.unseen w.sees.begins law.traced.legal; missed = w.missed };
     decided = decided_mine;
     heard_watched = (law.traced.watched j v at).heard;
-    decided_first = (decided_in watched_on.unseen, decided_watched);
+    decided_first = (decided_in watched_on.sees.unseen, decided_watched);
     lawful = record {
       distinct = law.places.distinct j v at;
       sound = λ t c h. law.lawful.sound t c (there t c h);

@@ -18,16 +18,17 @@ use Rattle.ck_core.specs.declared.trace.LockEvent.{LockEvent}
 use Rattle.ck_core.specs.declared.view.View.{View}
 use Rattle.ck_core.specs.State.{Configuration, HasNumber, owned, Places, Callers, Watches, Traces}
 use Rattle.ck_core.specs.Steps.{number_of, event, traced, watching, taken, missed, seen_as, sent_home, split_as, joined, joining, spent}
-use Rattle.ck_core.specs.Trace.{BeginsWith, Fits, held_after, holder, missed_by, misses, NoneBy}
+use Rattle.ck_core.specs.Trace.{BeginsWith, Fits, held_after, holder, missed_by, misses, by_of}
 use Rattle.ck_core.proofs.Lists.{each_set, each_snoc}
-use Rattle.ck_core.proofs.Callers.{own_held}
-use Rattle.ck_core.proofs.LegalTraces.{longer_cut, holder_here, holder_there, legal_more, taking_fits, missing_fits, Returns, none_more, none_first, none_second, misses_same, misses_more}
+use Rattle.ck_core.proofs.Sees.{sees_all, sees_none, sees_as, sees_more, sees_both}
+use Rattle.ck_core.proofs.Callers.{own_in}
+use Rattle.ck_core.proofs.LegalTraces.{holder_here, holder_there, legal_more, taking_fits, missing_fits, Returns, misses_same, misses_more}
 
 module _ {V : Type 0} where
   -- two views of one number are one
   pub one_number : (callers : ℕ) (log : List (Entry V)) (views : List (View V)) (i j : ℕ) (v w : View V) → Callers callers log views → get_elem? views i ≡ some v → get_elem? views j ≡ some w → (m : ℕ) → v.by ≡ Some m → w.by ≡ Some m → i ≡ j
   one_number callers log views i j v w cs at there m by same =
-      sym (cs.keeps i v at m (in_held (owned v) m v.mine (own_held v m by))) ∙ cs.keeps j w there m (in_held (owned w) m w.mine (own_held w m same))
+      sym (cs.keeps i v at m (own_in v m by)) ∙ cs.keeps j w there m (own_in w m same)
 
   module _ (n callers : ℕ) (log : List (Entry V)) (s : Configuration V) (whole : ℕ → Content V) (places : Places n s whole) (cs : Callers callers log s.views) (r : Traces n callers s) (id : ℕ) (v : View V) (at : get_elem? s.views id ≡ some v) where
     -- what each view has watched, after a step of this caller
@@ -37,27 +38,24 @@ module _ {V : Type 0} where
         let mine = r.watched id v at in
         each_set (λ _ u. Watches (s.trace ++ e ∷ []) u) s.views id w
         (record {
-          unseen = [];
-          begins = sym watched ∙ sym (append-nil w.watched);
-          by_others = λ _ _. tt;
+          sees = sees_all by_of (λ x. IsIn x (numbers (owned w))) (s.trace ++ e ∷ []) w.watched watched;
           heard = (
-            mine.heard.0 ++ (mine.unseen ++ e ∷ []),
-            watched ∙ (ap (λ l. l ++ e ∷ []) mine.begins ∙ (append_assoc v.watched mine.unseen (e ∷ []) ∙ (ap (λ l. l ++ (mine.unseen ++ e ∷ [])) mine.heard.1
-                ∙ (append_assoc v.heard_watched mine.heard.0 (mine.unseen ++ e ∷ []) ∙ ap (λ l. l ++ (mine.heard.0 ++ (mine.unseen ++ e ∷ []))) (sym heard))))),
+            mine.heard.0 ++ (mine.sees.unseen ++ e ∷ []),
+            watched ∙ (ap (λ l. l ++ e ∷ []) mine.sees.begins ∙ (append_assoc v.watched mine.sees.unseen (e ∷ []) ∙ (ap (λ l. l ++ (mine.sees.unseen ++ e ∷ [])) mine.heard.1
+                ∙ (append_assoc v.heard_watched mine.heard.0 (mine.sees.unseen ++ e ∷ []) ∙ ap (λ l. l ++ (mine.heard.0 ++ (mine.sees.unseen ++ e ∷ []))) (sym heard))))),
           );
           missed = λ x is.
               let me : x ≡ m = some_number x m (sym is ∙ (same ∙ by)) in
+              let own_number : v.by ≡ Some x = by ∙ ap Some (sym me) in
               ap (misses x) watched
-              ∙ (misses_more x s.trace v.watched mine.unseen e mine.begins (mine.by_others x (in_held (owned v) x v.mine (own_held v x (by ∙ ap Some (sym me))))) (own ∙ sym me)
-              ∙ ((λ i. missed_by e.step e.stripe ++ mine.missed x (by ∙ ap Some (sym me)) i) ∙ sym found));
+              ∙ (misses_more x s.trace v.watched mine.sees.unseen e mine.sees.begins (mine.sees.by_others x (own_in v x own_number)) (own ∙ sym me)
+              ∙ ((λ i. missed_by e.step e.stripe ++ mine.missed x own_number i) ∙ sym found));
         })
         (λ j u other there.
         let its = r.watched j u there in
         record {
-          unseen = its.unseen ++ e ∷ [];
-          begins = ap (λ l. l ++ e ∷ []) its.begins ∙ append_assoc u.watched its.unseen (e ∷ []);
-          by_others = λ x i. none_more x its.unseen e (its.by_others x i)
-              (λ is. other (sym (cs.keeps j u there x i) ∙ (ap cs.keeper (sym is ∙ own) ∙ cs.keeps id v at m (in_held (owned v) m v.mine (own_held v m by)))));
+          sees = sees_more by_of (λ x. IsIn x (numbers (owned u))) s.trace u.watched its.sees e
+              (λ x i is. other (sym (cs.keeps j u there x i) ∙ (ap cs.keeper (sym is ∙ own) ∙ cs.keeps id v at m (own_in v m by))));
           heard = its.heard;
           missed = its.missed;
         })
@@ -72,7 +70,7 @@ module _ {V : Type 0} where
       -- this caller's step is a caller's
       by_callers_on : (e : LockEvent V) → e.by ≡ m → All (λ (x : LockEvent V). x.by < callers) (s.trace ++ e ∷ [])
       by_callers_on e is =
-          let within : m < callers = (cs.knows id v at).within m (in_held (owned v) m v.mine (own_held v m by)) in
+          let within : m < callers = (cs.knows id v at).within m (own_in v m by) in
           let Below : LockEvent V → Type 0 = λ x. x.by < callers in
           All-append Below s.trace (e ∷ []) r.by_callers (All-cons Below e [] (subst (λ x. x < callers) (sym is) within) (All-nil Below))
 
@@ -167,9 +165,7 @@ module _ {V : Type 0} where
   -- a view with no number has nothing to have watched
   pub watches_nothing : (trace : List (LockEvent V)) (w : View V) → owned w ≡ [] → w.by ≡ None → w.watched ≡ [] → w.heard_watched ≡ [] → Watches trace w
   watches_nothing trace w none nobody nothing silent = record {
-    unseen = trace;
-    begins = ap (λ l. l ++ trace) (sym nothing);
-    by_others = λ m i. absurd (subst (λ (o : List (ℕ × List (Entry V))). IsIn m (numbers o)) none i);
+    sees = sees_none by_of (λ m. IsIn m (numbers (owned w))) trace w.watched trace (ap (λ l. l ++ trace) (sym nothing)) (λ m i. subst (λ (o : List (ℕ × List (Entry V))). IsIn m (numbers o)) none i);
     heard = ([], nothing ∙ ap (λ l. l ++ []) (sym silent));
     missed = λ m e. absurd (none-some m (sym nobody ∙ e));
   }
@@ -177,9 +173,7 @@ module _ {V : Type 0} where
   -- one that watched as much as another, has no number besides, and found what its caller missed
   pub watches_as : (trace : List (LockEvent V)) (v w : View V) → Watches trace v → w.watched ≡ v.watched → ((m : ℕ) → IsIn m (numbers (owned w)) → IsIn m (numbers (owned v))) → ((m : ℕ) → w.by ≡ Some m → misses m w.watched ≡ w.found) → BeginsWith w.watched w.heard_watched → Watches trace w
   watches_as trace v w h same fewer found heard = record {
-    unseen = h.unseen;
-    begins = h.begins ∙ ap (λ l. l ++ h.unseen) (sym same);
-    by_others = λ m i. h.by_others m (fewer m i);
+    sees = sees_as by_of (λ m. IsIn m (numbers (owned v))) trace v.watched h.sees (λ m. IsIn m (numbers (owned w))) w.watched same fewer;
     heard = heard;
     missed = found;
   }
@@ -187,16 +181,11 @@ module _ {V : Type 0} where
   -- a view that takes in what another watched, and its numbers
   pub watches_both : (trace : List (LockEvent V)) (v w : View V) → Watches trace v → Watches trace w → ((m : ℕ) → IsIn m (numbers (owned (joining v w))) → IsIn m (numbers (owned v)) ⊎ IsIn m (numbers (owned w))) → Watches trace (joining v w)
   watches_both trace v w h g of_both =
-      let cut = longer_cut v.watched h.unseen w.watched g.unseen (sym h.begins ∙ g.begins) in
-      let x = cut.0 in
-      let rest = cut.2 in
+      let both = sees_both by_of (λ m. IsIn m (numbers (owned v))) trace v.watched h.sees (λ m. IsIn m (numbers (owned w))) (λ m. IsIn m (numbers (owned (joining v w)))) w.watched g.sees of_both in
       record {
-        unseen = rest;
-        begins = h.begins ∙ (ap (λ l. v.watched ++ l) cut.4 ∙ (sym (append_assoc v.watched x rest) ∙ ap (λ l. l ++ rest) (sym cut.3)));
-        by_others = λ m i. ⊎_elim (λ o. none_second m x rest (subst (NoneBy m) cut.4 (h.by_others m o))) (λ o. none_second m cut.1 rest (subst (NoneBy m) cut.5 (g.by_others m o))) (of_both m i);
-        heard = (cut.1, cut.6);
-        missed = λ m by. ap (misses m) cut.3
-            ∙ (misses_same m v.watched x (none_first m x rest (subst (NoneBy m) cut.4 (h.by_others m (in_held (owned v) m v.mine (own_held v m by))))) ∙ h.missed m by);
+        sees = both.0;
+        heard = both.2;
+        missed = λ m by. ap (misses m) both.1.1 ∙ (misses_same m v.watched both.1.0 (both.1.2 m (own_in v m by)) ∙ h.missed m by);
       }
 
   module _ (n callers : ℕ) (log : List (Entry V)) (s : Configuration V) (whole : ℕ → Content V) (places : Places n s whole) (cs : Callers callers log s.views) (r : Traces n callers s) (id : ℕ) (v : View V) (at : get_elem? s.views id ≡ some v) where

@@ -10,7 +10,7 @@ use Rattle.ck_model.specs.Contents.{Layout, bindings, Lawful, whole}
 use Rattle.ck_model.specs.Sections.{HasAll}
 use Rattle.ck_core.specs.declared.trace.LockEvent.{LockEvent}
 use Rattle.ck_core.specs.declared.view.View.{View}
-use Rattle.ck_core.specs.Trace.{BeginsWith, holder, IsLegalTrace, decided_in, NoneBy, misses}
+use Rattle.ck_core.specs.Trace.{BeginsWith, holder, IsLegalTrace, decided_in, NoneBy, by_of, misses}
 
 -- The words of the stripes, what lies in their places, the views, and the steps on the words. A place is empty while its stripe is held.
 pub record Configuration (V : Type 0) : Type 0 where
@@ -19,7 +19,17 @@ pub record Configuration (V : Type 0) : Type 0 where
   pub views : List (View V)
   pub trace : List (LockEvent V)
 
+-- Of a list to which callers add, this was seen: it begins the list, and the rest is by none of such callers.
+pub record Sees {A : Type 0} (by : A → ℕ) (P : ℕ → Type 0) (all seen : List A) : Type 0 where
+  pub unseen : List A
+  pub begins : all ≡ seen ++ unseen
+  pub by_others : (m : ℕ) → P m → NoneBy by m unseen
+
 module _ {V : Type 0} where
+  -- who made an entry
+  abbrev pub author_of : Entry V → ℕ
+  author_of e = e.by
+
   -- a number with its entries, where there is one
   abbrev pub own : Option ℕ → List (Entry V) → List (ℕ × List (Entry V))
   own None l = []
@@ -53,12 +63,11 @@ module _ {V : Type 0} where
     pub holds : (j : ℕ) (v : View V) → get_elem? s.views j ≡ some v → (t : ℕ) (c : Content V) → Holds v.held t c → (t < n) × (slice_index s.words t ≡ 1) × (owner t ≡ j) × (w t ≡ c)
     pub distinct : (j : ℕ) (v : View V) → get_elem? s.views j ≡ some v → AreDistinct (numbers v.held)
 
-  -- What was seen and heard begins the history, the entries of the view's numbers are all that the history has of them, and its own were seen.
+  -- What was seen and heard begins the history, whose rest behind what was seen is by others. The entries of the view's numbers are all that the history has of them.
   pub record Knows (callers : ℕ) (log : List (Entry V)) (v : View V) : Type 0 where
-    pub seen : StartsWith log v.seen
+    pub sees : Sees author_of (λ m. v.by ≡ Some m) log v.seen
     pub heard : StartsWith log v.heard
     pub calls : (m : ℕ) (l : List (Entry V)) → Holds (owned v) m l → subhistory m log ≡ l
-    pub own_seen : (m : ℕ) → v.by ≡ Some m → subhistory m v.seen ≡ v.mine
     pub distinct : AreDistinct (numbers (owned v))
     pub within : (m : ℕ) → IsIn m (numbers (owned v)) → m < callers
 
@@ -69,11 +78,9 @@ module _ {V : Type 0} where
     pub knows : (j : ℕ) (v : View V) → get_elem? views j ≡ some v → Knows callers log v
     pub no_others : (m : ℕ) → callers ≤ m → subhistory m log ≡ []
 
-  -- What was watched begins the trace, with all steps of the view's numbers, and begins with what a caller that was met had watched. The caller missed the stripes that it found held.
+  -- What was watched begins the trace, whose rest is by none of the view's numbers, and begins with what a caller that was met had watched. The caller missed the stripes that it found held.
   pub record Watches (trace : List (LockEvent V)) (v : View V) : Type 0 where
-    pub unseen : List (LockEvent V)
-    pub begins : trace ≡ v.watched ++ unseen
-    pub by_others : (m : ℕ) → IsIn m (numbers (owned v)) → NoneBy m unseen
+    pub sees : Sees by_of (λ m. IsIn m (numbers (owned v))) trace v.watched
     pub heard : BeginsWith v.watched v.heard_watched
     pub missed : (m : ℕ) → v.by ≡ Some m → misses m v.watched ≡ v.found
 

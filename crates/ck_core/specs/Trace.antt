@@ -5,7 +5,16 @@ use Rattle.ck_core.specs.declared.trace.LockStep.{LockStep}
 use Rattle.ck_core.specs.declared.trace.LockStep.TheVariants.{Took, Missed, Gave, Decided}
 use Rattle.ck_core.specs.declared.trace.LockEvent.{LockEvent}
 
+-- what each caller adds to a list: nothing in this one is by the caller m
+abbrev pub NoneBy : {A : Type 0} → (A → ℕ) → ℕ → List A → Type 0
+NoneBy by m [] = Unit {0}
+NoneBy by m (x ∷ xs) = (by x ≢ m) × NoneBy by m xs
+
 module _ {V : Type 0} where
+  -- who made a step
+  abbrev pub by_of : LockEvent V → ℕ
+  by_of e = e.by
+
   -- the steps begin with these
   abbrev pub BeginsWith : List (LockEvent V) → List (LockEvent V) → Type 0
   BeginsWith es start = (more : List (LockEvent V)) × (es ≡ start ++ more)
@@ -70,8 +79,3 @@ module _ {V : Type 0} where
   abbrev pub misses : ℕ → List (LockEvent V) → List ℕ
   misses m [] = []
   misses m (e ∷ es) = misses m es ++ (if e.by == m then missed_by e.step e.stripe else [])
-
-  -- no step is one of the caller m
-  abbrev pub NoneBy : ℕ → List (LockEvent V) → Type 0
-  NoneBy m [] = Unit {0}
-  NoneBy m (e ∷ es) = (e.by ≢ m) × NoneBy m es
