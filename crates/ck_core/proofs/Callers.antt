@@ -89,7 +89,6 @@ module _ {V : Type 0} where
     keeper = cs.keeper;
     keeps = each_set (λ j u. (m : ℕ) → IsIn m (numbers (owned u)) → cs.keeper m ≡ j) views id w (λ m i. cs.keeps id v at m (subst (λ (o : List (ℕ × List (Entry V))). IsIn m (numbers o)) same i)) (λ j u _ e. cs.keeps j u e);
     knows = each_set (λ _ u. Knows callers log u) views id w kn (λ j u _ e. cs.knows j u e);
-    no_others = cs.no_others;
   }
 
   -- a caller adds an entry
@@ -124,7 +123,6 @@ module _ {V : Type 0} where
               distinct = ku.distinct;
               within = ku.within;
             });
-        no_others = λ m le. let l = kn.within e.by first in subhistory-other m log e (λ f. omega arith) ∙ cs.no_others m le;
       }
 
   -- a view is cut in two, each number going to one of them
@@ -141,7 +139,6 @@ module _ {V : Type 0} where
             (λ j u other a m i. pick_no (dec_in m (numbers (owned right))) (length views) (cs.keeper m) (λ r. other (sym (cs.keeps j u a m i) ∙ cs.keeps id v at m (of_right m r))) ∙ cs.keeps j u a m i))
             (λ m i. pick_yes (dec_in m (numbers (owned right))) (length views) (cs.keeper m) i ∙ sym (length-set views id left));
         knows = each_snoc (λ _ u. Knows callers log u) (set views id left) right (each_set (λ _ u. Knows callers log u) views id left kl (λ j u _ a. cs.knows j u a)) kr;
-        no_others = cs.no_others;
       }
 
   -- a view takes in the numbers of another, which is left with none
@@ -159,5 +156,4 @@ module _ {V : Type 0} where
             (λ j u _ a ne m i. pick_no (dec_in m (numbers (owned w))) id (cs.keeper m) (λ h. ne (sym (cs.keeps j u a m i) ∙ cs.keeps other w at_other m h)) ∙ cs.keeps j u a m i)
             j u a not_other);
         knows = each_set (λ _ u. Knows callers log u) (set views id both) other rest kr (λ j u _ a. each_set (λ _ u. Knows callers log u) views id both kb (λ j u _ a. cs.knows j u a) j u a);
-        no_others = cs.no_others;
       }

@@ -16,7 +16,7 @@ use Rattle.ck_model.specs.Laws.{ArePartOf}
 use Rattle.ck_model.proofs.Numbered.{Some-injective, in_held, held_of_in, held_either, held_first, held_second, in_either, in_first, in_second, distinct_between, distinct_cut, listed_at, over_miss, over_hit, in_without}
 use Rattle.ck_model.proofs.Sections.{section_of_whole, identity_of_whole, power_after}
 use Rattle.ck_model.proofs.Histories.{leads_snoc}
-use Rattle.ck_core.specs.Trace.{BeginsWith, misses}
+use Rattle.ck_core.specs.Trace.{misses}
 use Rattle.ck_core.specs.State.{Configuration, HasNumber, IsPart, author_of, own, owned, Places, Knows, Watches, Traces, HistoryInvariant}
 use Rattle.ck_core.specs.declared.trace.LockStep.{LockStep}
 use Rattle.ck_core.specs.declared.trace.LockStep.TheVariants.{Took, Missed, Gave, Decided}
@@ -46,7 +46,7 @@ module _ {V : Type 0} (k : Layout) (callers : ℕ) (log : List (Entry V)) (s : C
   HasSeen l _ u = HasAll k u.held → u.seen ≡ l
 
   -- what was watched doesn't change, for a view with no number besides
-  watched_as : (w : View V) → w.watched ≡ v.watched → ((m : ℕ) → IsIn m (numbers (owned w)) → IsIn m (numbers (owned v))) → ((m : ℕ) → w.by ≡ Some m → misses m w.watched ≡ w.found) → BeginsWith w.watched w.heard_watched → Watches s.trace w
+  watched_as : (w : View V) → w.watched ≡ v.watched → ((m : ℕ) → IsIn m (numbers (owned w)) → IsIn m (numbers (owned v))) → ((m : ℕ) → w.by ≡ Some m → misses m w.watched ≡ w.found) → StartsWith w.watched w.heard_watched → Watches s.trace w
   watched_as w = watches_as s.trace v w (law.traced.watched id v at)
 
   -- where no stripe is held, not all are

@@ -1,5 +1,5 @@
 -- Traces of steps on the lock words.
-use Rattle.std.proofs.Common.{◌≡◌, ◌≢◌, ◌⊎◌, ℕ, ◌<◌, inl, inr, List, [], ◌∷◌, ◌++◌, append-nil, append_assoc, sym, refl, ap, ◌∙◌, subst, ⊎_elim, length, length-append, arith, Option, Some, None}
+use Rattle.std.proofs.Common.{◌≡◌, ◌≢◌, ◌⊎◌, ℕ, ◌<◌, ◌≤◌, inl, inr, List, [], ◌∷◌, ◌++◌, append-nil, append_assoc, sym, refl, ap, ◌∙◌, subst, ⊎_elim, length, length-append, arith, Option, Some, None}
 use Rattle.std.specs.Prelude.{All, if◌then◌else◌, ◌==◌}
 use mathlib.Core.Logic.{dite}
 use native.Mathlib.Decide.{ℕ_discrete}
@@ -124,6 +124,11 @@ module _ {V : Type 0} where
   none_left callers [] (e ∷ es) below none = absurd ((none e.by (All-head (λ (x : LockEvent V). x.by < callers) e es below)).0 refl)
   none_left callers (x ∷ xs) ys below none = none_left callers xs ys (All-tail (λ (e : LockEvent V). e.by < callers) x (xs ++ ys) below) none
 
+  -- nor of one whose number is no caller's
+  none_beyond : (callers m : ℕ) (es : List (LockEvent V)) → callers ≤ m → All (λ (e : LockEvent V). e.by < callers) es → NoneBy by_of m es
+  none_beyond callers m [] le below = tt
+  none_beyond callers m (e ∷ es) le below = (λ is. let l = All-head (λ (x : LockEvent V). x.by < callers) e es below in omega arith, none_beyond callers m es le (All-tail (λ (x : LockEvent V). x.by < callers) e es below))
+
   -- the entries of one's own steps
   decided_own : (m by : ℕ) (step : LockStep V) → ((x : Entry V) → step ≡ Decided x → x.by ≡ by) → (if by == m then decided_by step else []) ≡ subhistory m (decided_by step)
   decided_own m by Took own = if_none m by
@@ -145,6 +150,10 @@ module _ {V : Type 0} where
   pub decides_none : (m : ℕ) (es : List (LockEvent V)) → NoneBy by_of m es → decides m es ≡ []
   decides_none m [] others = refl
   decides_none m (e ∷ es) others = λ i. if_else e.by m (decided_by e.step) [] others.0 i ++ decides_none m es others.1 i
+
+  -- a number that is no caller's has decided nothing in a legal trace of callers' steps
+  pub no_others : (callers m : ℕ) (es : List (LockEvent V)) → callers ≤ m → IsLegalTrace es → All (λ (e : LockEvent V). e.by < callers) es → subhistory m (decided_in es) ≡ []
+  no_others callers m es le legal below = sym (decides_own m [] es legal) ∙ decides_none m es (none_beyond callers m es le below)
 
   -- of steps by others and one more, that one alone may
   pub decides_last : (m : ℕ) (es : List (LockEvent V)) (e : LockEvent V) → NoneBy by_of m es → decides m (es ++ e ∷ []) ≡ (if e.by == m then decided_by e.step else [])

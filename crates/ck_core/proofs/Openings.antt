@@ -62,7 +62,6 @@ module _ {V : Type 0} (k : Layout) (set : Settings) (callers p : ℕ) (s : Confi
         distinct = subst AreDistinct (sym (numbers_unused (j ∷ ms))) apart;
         within = λ m h. (f m (subst (IsIn m) (numbers_unused (j ∷ ms)) h)).0;
       });
-      no_others = λ m _. refl;
     };
     traced = record {
       legal = subst IsLegalTrace (sym o.no_step) legal_none;

@@ -19,7 +19,7 @@ use Rattle.ck_core.proofs.Keeps.{run_keeps}
 use Rattle.ck_core.proofs.Openings.{runs_keep}
 use Rattle.ck_core.proofs.Callers.{seen_starts}
 use Rattle.ck_core.proofs.Answered.{views_of}
-use Rattle.ck_core.proofs.Shown.{no_items, no_second, shows}
+use Rattle.ck_core.proofs.Shown.{no_items, no_second, others_none, shows}
 
 module _ {A : Type 0} where
   -- a list is empty or has a last item
@@ -66,7 +66,7 @@ module _ {V : Type 0} where
       (λ (z : (start : List (Entry V)) × (e : Entry V) × (log ≡ start ++ e ∷ [])).
       let by = z.1.by in
       let own : subhistory by log ≡ subhistory by z.0 ++ z.1 ∷ [] = ap (subhistory by) z.2 ∙ subhistory-own by z.0 z.1 refl in
-      let below : by < callers = dite (dec_le callers by) (λ le. absurd (not_empty (subhistory by z.0) z.1 (sym own ∙ law.callers_known.no_others by le))) (λ no_le. lt_of_not-le no_le) in
+      let below : by < callers = dite (dec_le callers by) (λ le. absurd (not_empty (subhistory by z.0) z.1 (sym own ∙ others_none k callers log s law by le))) (λ no_le. lt_of_not-le no_le) in
       let it = stand by below in
       inr (it.0, it.1, it.2, seen_to_last k callers log s law z.0 z.1 z.2 it.0 it.1 it.2 it.3))
       (last_of log)

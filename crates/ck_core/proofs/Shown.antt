@@ -23,7 +23,7 @@ use Rattle.ck_core.specs.Trace.{IsLegalTrace, decided_in, decides}
 use Rattle.ck_core.specs.State.{Configuration, HistoryInvariant, Watches, owned, client_of}
 use Rattle.ck_core.specs.Laws.{Shows}
 use Rattle.ck_core.proofs.Keeps.{agrees}
-use Rattle.ck_core.proofs.LegalTraces.{legal_start, decides_own, decides_append, decides_none, decided_append, none_left}
+use Rattle.ck_core.proofs.LegalTraces.{legal_start, decides_own, decides_append, decides_none, decided_append, none_left, no_others}
 use Rattle.ck_core.proofs.Callers.{own_held, own_in, seen_starts, seen_own}
 
 pub no_items : {A : Type 0} (l : List A) → length l ≡ 0 → l ≡ []
@@ -53,6 +53,11 @@ module _ {V : Type 0} (k : Layout) (callers : ℕ) (log : List (Entry V)) (v w :
     mine = mine;
   }
 
+module _ {V : Type 0} (k : Layout) (callers : ℕ) (log : List (Entry V)) (s : Configuration V) (law : HistoryInvariant k callers log s) where
+  -- the history has no entry of a number that is no caller's
+  pub others_none : (m : ℕ) → callers ≤ m → subhistory m log ≡ []
+  others_none m le = ap (subhistory m) (sym law.decided) ∙ no_others callers m s.trace le law.traced.legal law.traced.by_callers
+
 module _ {V : Type 0} (k : Layout) (callers : ℕ) (log : List (Entry V)) (s : Configuration V) (law : HistoryInvariant k callers log s) (j : ℕ) (v : View V) (at : get_elem? s.views j ≡ some v) where
   there : (t : ℕ) (c : Content V) → Holds v.held t c → Holds (whole k law.contents) t c
   there t c h = let a = agrees k callers log s law j v at t c h in listed_as (2 ^ k.s) law.contents t c a.0 a.1
@@ -77,7 +82,7 @@ module _ {V : Type 0} (k : Layout) (callers : ℕ) (log : List (Entry V)) (s : C
       let more = kn.sees.unseen in
       let low = kn.within m (own_in v m e) in
       let by_none : (n : ℕ) → subhistory n more ≡ [] = λ n. dite (dec_le callers n)
-      (λ l. no_second (subhistory n v.seen) (subhistory n more) (sym (subhistory-append n v.seen more) ∙ (ap (subhistory n) (sym kn.sees.begins) ∙ law.callers_known.no_others n l)))
+      (λ l. no_second (subhistory n v.seen) (subhistory n more) (sym (subhistory-append n v.seen more) ∙ (ap (subhistory n) (sym kn.sees.begins) ∙ others_none k callers log s law n l)))
       (λ no_le. let l = lt_of_not-le no_le in let same : n ≡ m = omega arith in ap (λ x. subhistory x more) same ∙ unseen_none m e more kn.sees.begins) in
       sym (kn.sees.begins ∙ (ap (λ l. v.seen ++ l) (no_entries more by_none) ∙ append-nil v.seen))
 
@@ -134,7 +139,7 @@ module _ {V : Type 0} (k : Layout) (callers : ℕ) (log : List (Entry V)) (s : C
     all_held = λ all. subst (After log) (whole_held all) law.legal;
     all_kept = λ all. record {
       each = kn.calls;
-      no_others = λ m out. law.callers_known.no_others m (beyond m all out);
+      no_others = λ m out. others_none k callers log s law m (beyond m all out);
     };
     all_decided = decided_whole;
   }

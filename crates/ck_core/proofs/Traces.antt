@@ -12,13 +12,14 @@ use Rattle.ck_model.specs.Numbered.{IsIn, numbers, Holds, without}
 use Rattle.ck_model.specs.declared.contents.Content.{Content}
 use Rattle.ck_model.specs.Contents.{Stripes}
 use Rattle.ck_model.proofs.Numbered.{in_held, held_of_in, in_without}
+use Rattle.ck_model.specs.Promise.{StartsWith}
 use Rattle.ck_core.specs.declared.trace.LockStep.{LockStep}
 use Rattle.ck_core.specs.declared.trace.LockStep.TheVariants.{Took, Missed}
 use Rattle.ck_core.specs.declared.trace.LockEvent.{LockEvent}
 use Rattle.ck_core.specs.declared.view.View.{View}
 use Rattle.ck_core.specs.State.{Configuration, HasNumber, owned, Places, Callers, Watches, Traces}
 use Rattle.ck_core.specs.Steps.{number_of, event, traced, watching, taken, missed, seen_as, sent_home, split_as, joined, joining, spent}
-use Rattle.ck_core.specs.Trace.{BeginsWith, Fits, held_after, holder, missed_by, misses, by_of}
+use Rattle.ck_core.specs.Trace.{Fits, held_after, holder, missed_by, misses, by_of}
 use Rattle.ck_core.proofs.Lists.{each_set, each_snoc}
 use Rattle.ck_core.proofs.Sees.{sees_all, sees_none, sees_as, sees_more, sees_both}
 use Rattle.ck_core.proofs.Callers.{own_in}
@@ -171,7 +172,7 @@ module _ {V : Type 0} where
   }
 
   -- one that watched as much as another, has no number besides, and found what its caller missed
-  pub watches_as : (trace : List (LockEvent V)) (v w : View V) → Watches trace v → w.watched ≡ v.watched → ((m : ℕ) → IsIn m (numbers (owned w)) → IsIn m (numbers (owned v))) → ((m : ℕ) → w.by ≡ Some m → misses m w.watched ≡ w.found) → BeginsWith w.watched w.heard_watched → Watches trace w
+  pub watches_as : (trace : List (LockEvent V)) (v w : View V) → Watches trace v → w.watched ≡ v.watched → ((m : ℕ) → IsIn m (numbers (owned w)) → IsIn m (numbers (owned v))) → ((m : ℕ) → w.by ≡ Some m → misses m w.watched ≡ w.found) → StartsWith w.watched w.heard_watched → Watches trace w
   watches_as trace v w h same fewer found heard = record {
     sees = sees_as by_of (λ m. IsIn m (numbers (owned v))) trace v.watched h.sees (λ m. IsIn m (numbers (owned w))) w.watched same fewer;
     heard = heard;

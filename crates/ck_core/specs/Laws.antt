@@ -11,7 +11,7 @@ use Rattle.ck_model.specs.Contents.{Layout, Stripes, bindings, Lawful}
 use Rattle.ck_model.specs.Sections.{HasAll}
 use Rattle.ck_core.specs.declared.view.View.{View}
 use Rattle.ck_core.specs.State.{Configuration, HistoryInvariant, owned, client_of}
-use Rattle.ck_core.specs.Trace.{BeginsWith, IsLegalTrace, decided_in, decides, misses}
+use Rattle.ck_core.specs.Trace.{IsLegalTrace, decided_in, decides, misses}
 use Rattle.ck_core.specs.Steps.{Label, Transition, grown, Execution, Opening}
 use Rattle.ck_core.specs.Steps.Label.{Take, FindHeld, Give, Decide, GiveRest, Renew, Look, Open, Tell, Join}
 
@@ -56,7 +56,7 @@ module _ {V : Type 0} where
     pub alone : (m : ℕ) → v.by ≡ Some m → callers ≡ 1 → v.seen ≡ log
     pub watched : HasWatched v
     -- it begins with what a caller that was met had watched
-    pub heard_watched : BeginsWith v.watched v.heard_watched
+    pub heard_watched : StartsWith v.watched v.heard_watched
     -- by its own steps in it the caller decided its entries
     pub decided : (m : ℕ) → v.by ≡ Some m → decides m v.watched ≡ v.mine
     -- what was decided in it begins the history

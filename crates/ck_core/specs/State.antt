@@ -10,7 +10,7 @@ use Rattle.ck_model.specs.Contents.{Layout, bindings, Lawful, whole}
 use Rattle.ck_model.specs.Sections.{HasAll}
 use Rattle.ck_core.specs.declared.trace.LockEvent.{LockEvent}
 use Rattle.ck_core.specs.declared.view.View.{View}
-use Rattle.ck_core.specs.Trace.{BeginsWith, holder, IsLegalTrace, decided_in, NoneBy, by_of, misses}
+use Rattle.ck_core.specs.Trace.{holder, IsLegalTrace, decided_in, NoneBy, by_of, misses}
 
 -- The words of the stripes, what lies in their places, the views, and the steps on the words. A place is empty while its stripe is held.
 pub record Configuration (V : Type 0) : Type 0 where
@@ -71,17 +71,16 @@ module _ {V : Type 0} where
     pub distinct : AreDistinct (numbers (owned v))
     pub within : (m : ℕ) → IsIn m (numbers (owned v)) → m < callers
 
-  -- No two views have one number, and the history has no entry of a number that isn't below `callers`.
+  -- No two views have one number, and each knows the history.
   pub record Callers (callers : ℕ) (log : List (Entry V)) (views : List (View V)) : Type 0 where
     pub keeper : ℕ → ℕ
     pub keeps : (j : ℕ) (v : View V) → get_elem? views j ≡ some v → (m : ℕ) → IsIn m (numbers (owned v)) → keeper m ≡ j
     pub knows : (j : ℕ) (v : View V) → get_elem? views j ≡ some v → Knows callers log v
-    pub no_others : (m : ℕ) → callers ≤ m → subhistory m log ≡ []
 
   -- What was watched begins the trace, whose rest is by none of the view's numbers, and begins with what a caller that was met had watched. The caller missed the stripes that it found held.
   pub record Watches (trace : List (LockEvent V)) (v : View V) : Type 0 where
     pub sees : Sees by_of (λ m. IsIn m (numbers (owned v))) trace v.watched
-    pub heard : BeginsWith v.watched v.heard_watched
+    pub heard : StartsWith v.watched v.heard_watched
     pub missed : (m : ℕ) → v.by ≡ Some m → misses m v.watched ≡ v.found
 
   -- The trace of n stripes is legal, with steps of callers alone, and by it a stripe has no holder where it is at home, and else the caller that holds it.

@@ -15,10 +15,6 @@ module _ {V : Type 0} where
   abbrev pub by_of : LockEvent V → ℕ
   by_of e = e.by
 
-  -- the steps begin with these
-  abbrev pub BeginsWith : List (LockEvent V) → List (LockEvent V) → Type 0
-  BeginsWith es start = (more : List (LockEvent V)) × (es ≡ start ++ more)
-
   -- who holds a stripe after a step of the caller m on its word, where h did before it
   abbrev pub held_after : LockStep V → ℕ → Option ℕ → Option ℕ
   held_after Took m h = Some m

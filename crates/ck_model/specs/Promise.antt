@@ -45,6 +45,10 @@ pub record Client (V : Type 0) : Type 0 where
   pub seen : List (Entry V)
   pub mine : List (Entry V)
 
+-- the list begins with this one
+abbrev pub StartsWith : {A : Type 0} → List A → List A → Type 0
+StartsWith {A} log start = (more : List A) × (log ≡ start ++ more)
+
 module _ {V : Type 0} where
   -- A call on one name: what the name is bound to before it, the reply, and what the name is bound to after it.
   abbrev pub Answers : Act V → Option V → Reply V → Option V → Type 0
@@ -93,10 +97,6 @@ module _ {V : Type 0} where
   -- the plain map runs through the history from the empty map on
   abbrev pub IsLegal : List (Entry V) → Type 0
   IsLegal log = (m : Map V) × After log m
-
-  -- the history begins by this list
-  abbrev pub StartsWith : List (Entry V) → List (Entry V) → Type 0
-  StartsWith log start = (more : List (Entry V)) × (log ≡ start ++ more)
 
   -- the entries of one caller, in order
   abbrev pub subhistory : ℕ → List (Entry V) → List (Entry V)

@@ -5,12 +5,12 @@ use Rattle.std.specs.FinMap.{empty, entries}
 use Rattle.ck_model.specs.declared.history.Entry.{Entry}
 use Rattle.ck_model.specs.declared.history.Reason.{Reason}
 use Rattle.ck_model.specs.declared.settings.Settings.{Settings}
-use Rattle.ck_model.specs.Promise.{Name, After, IsInterleaving, subhistory}
+use Rattle.ck_model.specs.Promise.{Name, After, IsInterleaving, subhistory, StartsWith}
 use Rattle.ck_model.specs.Numbered.{Holds}
 use Rattle.ck_model.proofs.Numbered.{if_same, if_else}
 use Rattle.ck_model.specs.Contents.{Stripes, bindings}
 use Rattle.ck_core.specs.declared.trace.LockEvent.{LockEvent}
-use Rattle.ck_core.specs.Trace.{BeginsWith, IsLegalTrace, decided_in}
+use Rattle.ck_core.specs.Trace.{IsLegalTrace, decided_in}
 use Rattle.ck_words.specs.Closing.{AreContentsOf}
 use Rattle.ck_format.specs.declared.script.Command.{Command}
 use Rattle.ck_format.specs.declared.answer.Answer.{Answer}
@@ -26,7 +26,7 @@ module _ (hash : Name → ℕ) (set : Settings) (log : List (Entry ℕ)) where
   abbrev pub HaveParts : (n by : ℕ) → (trace : List (LockEvent ℕ)) → List (List (Command Name)) → List (List (Answer Pairs)) → List (ℕ × List (Entry ℕ)) → Type 0
   HaveParts n by trace [] [] parts = parts ≡ []
   HaveParts n by trace (cs ∷ workers) (answers ∷ more) (part ∷ parts) =
-      (part.0 ≡ by) × ((steps : List (LockEvent ℕ)) × BeginsWith trace steps × HaveLeft hash set log n by [] steps cs answers part.1) × HaveParts n (by + 1) trace workers more parts
+      (part.0 ≡ by) × ((steps : List (LockEvent ℕ)) × StartsWith trace steps × HaveLeft hash set log n by [] steps cs answers part.1) × HaveParts n (by + 1) trace workers more parts
   HaveParts n by trace workers answers parts = ⊥
 
   -- what gives grounds in the history gives them in l, where of the worker's entries these flags keep some
@@ -41,7 +41,7 @@ module _ (hash : Name → ℕ) (set : Settings) (log : List (Entry ℕ)) where
       grounds_over hash set log l by done kept (λ k why stuck. subst (λ (es : List (Entry ℕ)). WasStuck hash set l by es k why) here (over done k why stuck)) c a
 
   -- Flags leave out the sessions of refused lists. What they keep of what a worker's commands left is the commands' entries in any history that keeps just these of the worker's, and in a trace that begins with the worker's steps.
-  strictly : (n by : ℕ) (done : List (Entry ℕ)) (steps : List (LockEvent ℕ)) (cs : List (Command Name)) (answers : List (Answer Pairs)) (es : List (Entry ℕ)) (trace : List (LockEvent ℕ)) → BeginsWith trace steps → HaveLeft hash set log n by done steps cs answers es
+  strictly : (n by : ℕ) (done : List (Entry ℕ)) (steps : List (LockEvent ℕ)) (cs : List (Command Name)) (answers : List (Answer Pairs)) (es : List (Entry ℕ)) (trace : List (LockEvent ℕ)) → StartsWith trace steps → HaveLeft hash set log n by done steps cs answers es
       → (more : List Bool) × AreIdle es more
       × ((l : List (Entry ℕ)) (flags : List Bool) (kept : List (Entry ℕ)) → IsKept l by flags → ((xs : List (Entry ℕ)) → kept_of (done ++ xs) flags ≡ kept ++ kept_of xs more)
       → AreEntriesOf hash set l n by kept trace cs answers (kept_of es more))

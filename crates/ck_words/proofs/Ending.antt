@@ -11,7 +11,6 @@ use Rattle.ck_model.specs.Numbered.{IsIn, numbers, Holds}
 use Rattle.ck_model.specs.Contents.{Layout, layout_of, Stripes, Lawful, pairs_of, bindings, power_of, NamesApart}
 use Rattle.ck_model.proofs.Doubling.{pairs_apart}
 use Rattle.ck_stripe.specs.Stripes.{contents_of}
-use Rattle.ck_core.specs.Trace.{BeginsWith}
 use Rattle.ck_words.specs.Words.{WordsState}
 use Rattle.ck_words.specs.Passes.{PassState, IsPassOf, IsIdle}
 use Rattle.ck_words.specs.Retries.{Stays}
@@ -114,7 +113,7 @@ module _ {V : Type 0} (w : WordsState) (os : List (PassState V)) (p p1 : PassSta
           trace = q.view.watched;
           legal = g.shows.watched.legal;
           decided = g.shows.all_decided (λ m l. owned_numbers w os p all.callers q.view by mine others m (all.all m l));
-          watched = All-push (λ (x : PassState V). BeginsWith q.view.watched x.view.watched) os p g.each_watched (starts_on p.view.watched p1.view.watched q.view.watched (stays.watched.0, stays.watched.1) g.watched);
+          watched = All-push (λ (x : PassState V). StartsWith q.view.watched x.view.watched) os p g.each_watched (starts_on p.view.watched p1.view.watched q.view.watched (stays.watched.0, stays.watched.1) g.watched);
           saw = All-push (λ (x : PassState V). StartsWith q.view.seen x.view.seen) os p g.saw (starts_on p.view.seen p1.view.seen q.view.seen stays.seen g.seen);
           after = subst (λ (l : List (Name × V)). After q.view.seen (from_entries l)) (sym poured) leaves;
           contents = contents_of q.stripes;

@@ -9,7 +9,6 @@ use Rattle.ck_model.specs.Numbered.{IsIn, numbers, Holds}
 use Rattle.ck_model.proofs.Numbered.{held_either, held_first, held_second, in_either, in_first, in_second, in_held, held_of_in}
 use Rattle.ck_model.proofs.Histories.{starts_itself}
 use Rattle.ck_core.specs.declared.view.View.{View}
-use Rattle.ck_core.specs.Trace.{BeginsWith}
 use Rattle.ck_core.specs.State.{own, owned}
 use Rattle.ck_words.specs.Words.{WordsState}
 use Rattle.ck_words.specs.Passes.{PassState, IsPassOf, ShowsSeen}
@@ -23,7 +22,7 @@ module _ {V : Type 0} where
   gathered-more (x ∷ os) o l = gathered-more os o (owned x.view ++ l)
 
   pub gathered_none : (hash : Name → ℕ) (w : WordsState) (p : PassState V) → IsPassOf w p → ShowsSeen hash w.settings p → Gathered hash w p [] p
-  gathered_none hash w p own shows = record { own = own; by = refl; mine = refl; others = refl; held = refl; stripes = refl; seen = starts_itself p.view.seen; saw = All-nil (λ (o : PassState V). StartsWith p.view.seen o.view.seen); watched = ([], sym (append-nil p.view.watched)); each_watched = All-nil (λ (o : PassState V). BeginsWith p.view.watched o.view.watched); shows = shows }
+  gathered_none hash w p own shows = record { own = own; by = refl; mine = refl; others = refl; held = refl; stripes = refl; seen = starts_itself p.view.seen; saw = All-nil (λ (o : PassState V). StartsWith p.view.seen o.view.seen); watched = ([], sym (append-nil p.view.watched)); each_watched = All-nil (λ (o : PassState V). StartsWith p.view.watched o.view.watched); shows = shows }
 
   pub gathered_more : (hash : Name → ℕ) (w : WordsState) (p o q r : PassState V) (os : List (PassState V)) → Gathered hash w p os q → Gathers hash w.settings q o r → IsPassOf w r → Gathered hash w p (os ++ o ∷ []) r
   gathered_more hash w p o q r os g k own = record {
@@ -37,8 +36,8 @@ module _ {V : Type 0} where
     saw = All-push (λ (x : PassState V). StartsWith r.view.seen x.view.seen) os o
         (All-weaker (λ (x : PassState V). StartsWith q.view.seen x.view.seen) (λ (x : PassState V). StartsWith r.view.seen x.view.seen) (λ x s. starts_on x.view.seen q.view.seen r.view.seen s k.seen) os g.saw) k.heard;
     watched = starts_on p.view.watched q.view.watched r.view.watched g.watched k.watched;
-    each_watched = All-push (λ (x : PassState V). BeginsWith r.view.watched x.view.watched) os o
-        (All-weaker (λ (x : PassState V). BeginsWith q.view.watched x.view.watched) (λ (x : PassState V). BeginsWith r.view.watched x.view.watched) (λ x s. starts_on x.view.watched q.view.watched r.view.watched s k.watched) os g.each_watched) k.heard_watched;
+    each_watched = All-push (λ (x : PassState V). StartsWith r.view.watched x.view.watched) os o
+        (All-weaker (λ (x : PassState V). StartsWith q.view.watched x.view.watched) (λ (x : PassState V). StartsWith r.view.watched x.view.watched) (λ x s. starts_on x.view.watched q.view.watched r.view.watched s k.watched) os g.each_watched) k.heard_watched;
     shows = k.shows;
   }
 

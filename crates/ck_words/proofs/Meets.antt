@@ -1,10 +1,9 @@
 -- What a meeting and a joined pass leave, from what their steps tell.
 use Rattle.std.proofs.Common.{◌≡◌, ℕ, List, [], ◌∷◌, append-nil, sym, ap, refl, subst}
-use Rattle.ck_model.specs.Promise.{Name}
+use Rattle.ck_model.specs.Promise.{Name, StartsWith}
 use Rattle.ck_model.specs.Contents.{layout_of}
 use Rattle.ck_core.specs.declared.trace.LockEvent.{LockEvent}
 use Rattle.ck_core.specs.declared.view.View.{View}
-use Rattle.ck_core.specs.Trace.{BeginsWith}
 use Rattle.ck_core.specs.Laws.{Shows}
 use Rattle.ck_core.specs.Steps.{longer, joining, message_of}
 use Rattle.ck_core.specs.Steps.Label.{Look}
@@ -18,7 +17,7 @@ use Rattle.ck_words.proofs.Rows.{shows_before, shows_after, look_row, look_told}
 
 module _ {V : Type 0} where
   -- the longer of two begins with the first
-  longer_first : (xs ys : List (LockEvent V)) → BeginsWith (longer xs ys) xs
+  longer_first : (xs ys : List (LockEvent V)) → StartsWith (longer xs ys) xs
   longer_first [] ys = (ys, refl)
   longer_first (x ∷ xs) [] = ([], sym (append-nil (x ∷ xs)))
   longer_first (x ∷ xs) (y ∷ ys) = let rest = longer_first xs ys in (rest.0, ap {B = List (LockEvent V)} (λ l. x ∷ l) rest.1)

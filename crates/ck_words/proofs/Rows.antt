@@ -47,12 +47,12 @@ module _ {V : Type 0} (hash : Name → ℕ) (set : Settings) where
 
     -- what was watched begins the trace, which is watched with a step more
     pub watched_more : (e : LockEvent V) → (events : List (LockEvent V)) × (r.before.trace ++ e ∷ [] ≡ v.watched ++ events)
-    watched_more e = let h = r.law.traced.watched r.id v r.was in (h.unseen ++ e ∷ [], ap (λ l. l ++ e ∷ []) h.begins ∙ append_assoc v.watched h.unseen (e ∷ []))
+    watched_more e = let h = (r.law.traced.watched r.id v r.was).sees in (h.unseen ++ e ∷ [], ap (λ l. l ++ e ∷ []) h.begins ∙ append_assoc v.watched h.unseen (e ∷ []))
 
     -- and by it its caller decided this alone
     own_more : (e : LockEvent V) (n : ℕ) → v.by ≡ Some n → decides n (watched_more e).0 ≡ (if e.by == n then decided_by e.step else [])
     unfolding watched_more
-    own_more e n by = let h = r.law.traced.watched r.id v r.was in decides_last n h.unseen e (h.by_others n (in_held (owned v) n v.mine (own_held v n by)))
+    own_more e n by = let h = (r.law.traced.watched r.id v r.was).sees in decides_last n h.unseen e (h.by_others n (in_held (owned v) n v.mine (own_held v n by)))
 
     -- where it decided nothing
     pub none_more : (e : LockEvent V) → decided_by e.step ≡ [] → DecidesNone v (watched_more e).0

@@ -10,7 +10,7 @@ use Rattle.ck_model.specs.Numbered.{IsIn, numbers}
 use Rattle.ck_model.specs.Contents.{layout_of, Stripes, Lawful, bindings, power_of}
 use Rattle.ck_model.specs.Sections.{HasAll}
 use Rattle.ck_core.specs.declared.trace.LockEvent.{LockEvent}
-use Rattle.ck_core.specs.Trace.{BeginsWith, IsLegalTrace, decided_in}
+use Rattle.ck_core.specs.Trace.{IsLegalTrace, decided_in}
 use Rattle.ck_core.specs.State.{owned}
 use Rattle.ck_core.specs.Steps.{newcomer}
 use Rattle.ck_model.specs.Counting.{counting}
@@ -59,7 +59,7 @@ module _ {V : Type 0} where
 
   -- the trace begins with what each has watched
   abbrev pub EachWatched : List (LockEvent V) → List (PassState V) → Type 0
-  EachWatched trace ps = All (λ (p : PassState V). BeginsWith trace p.view.watched) ps
+  EachWatched trace ps = All (λ (p : PassState V). StartsWith trace p.view.watched) ps
 
   -- q is p with the numbers of o and their entries, after it saw the history.
   pub record Gathers (hash : Name → ℕ) (set : Settings) (p o q : PassState V) : Type 0 where
@@ -70,8 +70,8 @@ module _ {V : Type 0} where
     pub stripes : q.stripes ≡ p.stripes
     pub seen : StartsWith q.view.seen p.view.seen
     pub heard : StartsWith q.view.seen o.view.seen
-    pub watched : BeginsWith q.view.watched p.view.watched
-    pub heard_watched : BeginsWith q.view.watched o.view.watched
+    pub watched : StartsWith q.view.watched p.view.watched
+    pub heard_watched : StartsWith q.view.watched o.view.watched
     pub shows : ShowsSeen hash set q
 
   -- the numbers of the passes os before these, those of the last first
@@ -89,7 +89,7 @@ module _ {V : Type 0} where
     pub stripes : q.stripes ≡ p.stripes
     pub seen : StartsWith q.view.seen p.view.seen
     pub saw : EachSaw q.view.seen os
-    pub watched : BeginsWith q.view.watched p.view.watched
+    pub watched : StartsWith q.view.watched p.view.watched
     pub each_watched : EachWatched q.view.watched os
     pub shows : ShowsSeen hash w.settings q
 

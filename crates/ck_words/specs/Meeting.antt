@@ -4,7 +4,6 @@ use Rattle.atomic_table.specs.Seated.{TableId}
 use Rattle.ck_model.specs.declared.history.Entry.{Entry}
 use Rattle.ck_model.specs.Promise.{StartsWith}
 use Rattle.ck_core.specs.declared.trace.LockEvent.{LockEvent}
-use Rattle.ck_core.specs.Trace.{BeginsWith}
 use Rattle.ck_core.specs.Steps.{message_of}
 use Rattle.ck_words.specs.Rule.{Hand}
 use Rattle.ck_words.specs.Passes.{PassState}
@@ -36,8 +35,8 @@ module _ {V : Type 0} where
     pub told : b.view.told ≤ new.view.told
     pub heard_told : message.told ≤ new.view.told
     -- both have watched beginnings of one trace
-    pub watched : BeginsWith new.view.watched b.view.watched
-    pub heard_watched : BeginsWith new.view.watched message.watched
+    pub watched : StartsWith new.view.watched b.view.watched
+    pub heard_watched : StartsWith new.view.watched message.watched
     pub by : new.view.by ≡ b.view.by
     pub mine : new.view.mine ≡ b.view.mine
     pub others : new.view.others ≡ b.view.others
