@@ -1,5 +1,5 @@
 -- The stripes of keys, as a set of them, which a pass takes.
-use Rattle.std.proofs.Common.{◌≡◌, ◌⊎◌, ◌↔◌, ℕ, ◌<◌, ◌^◌, List, inl, inr, sym, subst, ◌∙◌}
+use Rattle.std.proofs.Common.{◌≡◌, ◌⊎◌, ◌↔◌, ℕ, ◌<◌, ◌^◌, List, sym, subst, ◌∙◌}
 use Rattle.ck_key.specs.declared.key_hash.KeyHash.{KeyHash}
 use Rattle.ck_key.specs.Hashes.{IsHashOf}
 use Rattle.ck_model.specs.Arithmetic.{index_of, second_of}
@@ -18,7 +18,7 @@ use Rattle.ck_words.specs.declared.stripe_set.StripeSet.{StripeSet}
 use Rattle.ck_words.specs.StripeSets.{list_of}
 use Rattle.ck_words.proofs.Numbers.{all_in}
 use Rattle.ck_words.proofs.Seating.{numbers-contents}
-use Rattle.cuckoo_map.specs.Refusals.{IsBusyAmong, IsStripeOfEither}
+use Rattle.cuckoo_map.specs.Refusals.{IsBusyAmong}
 
 -- the set has just the stripes that are so
 module _ {P : ℕ → Type 0} (ns : List ℕ) (exact : (t : ℕ) → IsIn t ns ↔ P t) where
@@ -39,23 +39,9 @@ pub of_name : {hash : Name → ℕ} (set : Settings) {q : Name} {s : ℕ} {h : K
     → (t : ℕ) → IsIn t ns ↔ IsStripeOf (layout_of hash set) q t
 of_name set ns same hashed are = subst (λ (n : ℕ × ℕ). (t : ℕ) → IsIn t ns ↔ ((t ≡ index_of n.0 n.1) ⊎ (t ≡ second_of n.0 n.1))) (λ j. (same j, hashed.value j)) are
 
--- or of two
-pub of_names : {hash : Name → ℕ} (set : Settings) {a b : Name} {s : ℕ} {x y : KeyHash} (ns : List ℕ) → s ≡ set.s → IsHashOf hash a x → IsHashOf hash b y
-    → ((t : ℕ) → IsIn t ns ↔ (((t ≡ index_of s x.hash) ⊎ (t ≡ second_of s x.hash)) ⊎ ((t ≡ index_of s y.hash) ⊎ (t ≡ second_of s y.hash))))
-    → (t : ℕ) → IsIn t ns ↔ IsStripeOfEither hash set a b t
-of_names set ns same first second are = subst
-    (λ (n : ℕ × ℕ × ℕ). (t : ℕ) → IsIn t ns ↔ (((t ≡ index_of n.0 n.1) ⊎ (t ≡ second_of n.0 n.1)) ⊎ ((t ≡ index_of n.0 n.2) ⊎ (t ≡ second_of n.0 n.2))))
-    (λ j. (same j, first.value j, second.value j)) are
-
 -- both stripes of the name are held
 pub has_both : {V : Type 0} (hash : Name → ℕ) (set : Settings) (q : Name) (ns : List ℕ) → ((t : ℕ) → IsIn t ns ↔ IsStripeOf (layout_of hash set) q t) → (ss : List (StripeState V)) → numbers_of ss ≡ ns → HasBoth hash set.s ss q
 has_both hash set q ns exact ss named max t of = holds_each ns exact ss named t of
-
-pub has_first : {V : Type 0} (hash : Name → ℕ) (set : Settings) (a b : Name) (ns : List ℕ) → ((t : ℕ) → IsIn t ns ↔ IsStripeOfEither hash set a b t) → (ss : List (StripeState V)) → numbers_of ss ≡ ns → HasBoth hash set.s ss a
-has_first hash set a b ns exact ss named max t of = holds_each ns exact ss named t (inl of)
-
-pub has_second : {V : Type 0} (hash : Name → ℕ) (set : Settings) (a b : Name) (ns : List ℕ) → ((t : ℕ) → IsIn t ns ↔ IsStripeOfEither hash set a b t) → (ss : List (StripeState V)) → numbers_of ss ≡ ns → HasBoth hash set.s ss b
-has_second hash set a b ns exact ss named max t of = holds_each ns exact ss named t (inr of)
 
 -- each stripe of a set is one of the table
 pub below_set : (x : StripeSet) (s t : ℕ) → x.s ≡ s → IsIn t (list_of x) → t < 2 ^ s

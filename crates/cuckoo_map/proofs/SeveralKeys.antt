@@ -1,5 +1,5 @@
 -- Calls on several keys at once.
-use Rattle.std.proofs.Common.{◌≡◌, ◌⊎◌, ◌↔◌, Bool, true, false, ℕ, zero, suc, add-one, ◌+◌, ◌-◌, ◌<◌, List, [], ◌∷◌, ◌++◌, length, map, take, drop, get_or, inl, inr, ⊎_elim, sym, ap, ◌∙◌, subst, arith}
+use Rattle.std.proofs.Common.{◌≡◌, ◌⊎◌, ◌↔◌, Bool, true, false, ℕ, zero, suc, add-one, ◌+◌, ◌-◌, ◌<◌, List, [], ◌∷◌, ◌++◌, length, map, take, drop, get_or, inl, inr, ⊎_elim, refl, sym, ap, ◌∙◌, subst, arith}
 use Rattle.std.specs.Prelude.{slice_set}
 use Rattle.std.specs.List.{All, AllZip}
 use Rattle.std.proofs.lemmas.List.{take_all, take_more, map-append, length-drop}
@@ -11,7 +11,14 @@ use Rattle.ck_model.specs.Numbered.{IsIn}
 use Rattle.ck_model.specs.Promise.{Name, IsAmong, AreDifferent}
 use Rattle.ck_model.specs.Contents.{layout_of, IsStripeOf}
 use Rattle.ck_words.specs.StripeNumbers.{IsStripeOfSome}
-use Rattle.cuckoo_map.specs.SeveralKeys.{IsStripeOfAny, StandsAgain}
+use Rattle.ck_section.specs.declared.place.KeyPlace.{KeyPlace}
+use Rattle.ck_section.specs.Places.{IsPlaceOf}
+use Rattle.ck_words.specs.declared.stripe_set.StripeSet.{StripeSet}
+use Rattle.ck_words.specs.Passes.{PassState}
+use Rattle.cuckoo_map.specs.Holding.{HoldsKey}
+use Rattle.cuckoo_map.specs.SeveralKeys.{IsStripeOfAny, StandsAgain, HoldsNames}
+use Rattle.cuckoo_map.proofs.Calls.{holds_then}
+use Rattle.cuckoo_map.proofs.Counted.{one_power_held}
 
 -- the names of one key more
 pub names_next : {K : Type 0} (name : K → Name) (keys : List K) (i : ℕ) (k : K) → i < length keys → k ≡ get_or keys i k → map name (take (i + 1) keys) ≡ map name (take i keys) ++ name k ∷ []
@@ -76,6 +83,11 @@ module _ (hash : Name → ℕ) (set : Settings) {s : ℕ} (same : s ≡ set.s) w
 pub stripe_of_any : (hash : Name → ℕ) (set : Settings) (qs : List Name) (q : Name) (t : ℕ) → IsAmong q qs → IsStripeOf (layout_of hash set) q t → IsStripeOfAny hash set qs t
 stripe_of_any hash set [] q t i of = absurd i
 stripe_of_any hash set (x ∷ xs) q t i of = ⊎_elim (λ (e : q ≡ x). inl (subst (λ (z : Name). IsStripeOf (layout_of hash set) z t) e of)) (λ r. inr (stripe_of_any hash set xs q t r of)) i
+
+-- The first of the names that the pass holds may be at its place.
+pub holds_first : {V : Type 0} {hash : Name → ℕ} {set : Settings} {q : Name} {qs : List Name} {stripes : StripeSet} {place : KeyPlace} (p p1 : PassState V) → HoldsNames hash set (q ∷ qs) stripes p p1 → IsPlaceOf hash p1.stripes q place → place.s ≡ stripes.s
+    → (p2 : PassState V) → p2.stripes ≡ p1.stripes → p2.view ≡ p1.view → HoldsKey hash set q place p p2
+holds_first {V} {hash} {set} {q} p p1 h at s p2 same view = holds_then p p1 h.stays (h.owned q (inl refl)) h.unchanged (one_power_held set.s p1.stripes h.settled) at (s ∙ h.of_table) p2 same view
 
 -- one hash more
 one_more : {K : Type 0} (hash : Name → ℕ) (name : K → Name) (keys : List K) (hs : List KeyHash) (i : ℕ) (k : K) (h : KeyHash) → i < length keys → i < length hs → k ≡ get_or keys i k → IsHashOf hash (name k) h

@@ -1,5 +1,5 @@
 -- What contracts see of a caller, and what its calls leave of it.
-use Rattle.std.specs.Prelude.{◌≡◌, ℕ, ◌≤◌, List, [], ◌++◌, map, Option, Result, Bool, IfOk, IfErr, OnOk}
+use Rattle.std.specs.Prelude.{◌≡◌, ℕ, ◌≤◌, List, [], ◌∷◌, ◌++◌, map, Option, Result, Bool, IfOk, IfErr, OnOk}
 use Rattle.std.specs.declared.cmp.Ordering.{Ordering}
 use Rattle.std.specs.FinMap.{entries}
 use Rattle.ck_model.specs.declared.history.Act.{Act}
@@ -20,7 +20,7 @@ use Rattle.cuckoo_map.specs.declared.refusal.DrainFault.TheVariants as drain
 use Rattle.cuckoo_map.specs.declared.refusal.GrowFault.{GrowFault}
 use Rattle.cuckoo_map.specs.declared.refusal.KeysRefused.{KeysRefused}
 use Rattle.cuckoo_map.specs.declared.refusal.Refused.{Refused}
-use Rattle.cuckoo_map.specs.Refusals.{IsStripeIn, IsStripeOfEither, FindsOwn, FindsOwnUnlessFull, IsBusyAmong, IsBusyAt}
+use Rattle.cuckoo_map.specs.Refusals.{IsStripeIn, FindsOwn, FindsOwnUnlessFull, IsBusyAmong, IsBusyAt}
 use Rattle.cuckoo_map.specs.SeveralKeys.{IsStripeOfAny, RefusesNames}
 use Rattle.cuckoo_map.specs.Notes.{Notes, notes_of, idle_pass}
 use Rattle.cuckoo_map.specs.Needed.{HasGrownFor}
@@ -118,7 +118,7 @@ module _ {V : Type 0} where
 
   -- no stripe was found held but those of the two names
   abbrev pub FindsHeldOfTwo : (Name → ℕ) → Name → Name → CallerState V → CallerState V → Type 0
-  FindsHeldOfTwo hash q r c d = FindsAmong (IsStripeOfEither hash c.table.settings q r) (pass_of c) (pass_of d)
+  FindsHeldOfTwo hash q r c d = FindsAmong (IsStripeOfAny hash c.table.settings (q ∷ r ∷ [])) (pass_of c) (pass_of d)
 
   -- no stripe was found held but those of the table
   abbrev pub FindsHeldOfAny : CallerState V → CallerState V → Type 0
@@ -131,7 +131,7 @@ module _ {V : Type 0} where
   -- the call on the two names was refused, since this stripe was busy
   abbrev pub IsBusyOnTwo : (Name → ℕ) → Name → Name → CallerState V → CallerState V → Busy → Type 0
   IsBusyOnTwo hash q r c d busy =
-      IsBusyAmong (IsStripeOfEither hash c.table.settings q r) c.table.settings busy.0 (pass_of c) (pass_of d)
+      IsBusyAmong (IsStripeOfAny hash c.table.settings (q ∷ r ∷ [])) c.table.settings busy.0 (pass_of c) (pass_of d)
 
   -- the call on all stripes was refused, since this one was busy
   abbrev pub IsBusyOnAny : CallerState V → CallerState V → Busy → Type 0

@@ -20,10 +20,6 @@ use Rattle.cuckoo_map.specs.Needed.{HasGrownFor}
 abbrev pub IsStripeIn : Settings → ℕ → Type 0
 IsStripeIn set t = t < 2 ^ set.s
 
--- a stripe of one of the two names
-abbrev pub IsStripeOfEither : (Name → ℕ) → Settings → Name → Name → ℕ → Type 0
-IsStripeOfEither hash set q r t = IsStripeOf (layout_of hash set) q t ⊎ IsStripeOf (layout_of hash set) r t
-
 -- why a key is refused where the table lacks this to make room for it
 abbrev pub why_of : Lack → Why
 why_of lack.Memory = Memory
@@ -81,9 +77,7 @@ module _ {V : Type 0} where
   -- what was found, or noted of room and why, where an insertion is refused for this reason; a busy one has made no doubling
   abbrev pub ShowsWhy : (Name → ℕ) → Settings → Name → Why → List (RoomNote V) → PassState V → PassState V → Type 0
   ShowsWhy hash set q (Busy t) more p p2 = (t < 2 ^ set.s) × FindsLast set.turns t p p2 × (set.callers ≢ 1) × (p2.view.doublings ≡ p.view.doublings) × HasMissed set.turns t p2
-  ShowsWhy hash set q Memory more p p2 = GivesGrounds hash set q reason.Memory more p2
-  ShowsWhy hash set q Full more p p2 = GivesGrounds hash set q reason.Full more p2
-  ShowsWhy hash set q LoadTooLow more p p2 = GivesGrounds hash set q reason.LoadTooLow more p2
+  ShowsWhy hash set q why more p p2 = GivesGrounds hash set q (reason_of why) more p2
 
   -- The insertion was refused for this reason, and has no entry. It has noted nothing of room but that its name's buckets were full, and the reason.
   pub record IsRefused (hash : Name → ℕ) (set : Settings) (q : Name) (why : Why) (p p2 : PassState V) : Type 0 where

@@ -1,13 +1,13 @@
-//! Locking stripes: those of a key, of two keys, or all.
+//! Locking stripes: those of a key, or all.
 ghost use Rattle.std.specs.Prelude.{◌≡◌, OnOk, OnErr, IfOk, IfErr};
-ghost use Rattle.ck_stripe.specs.Tables.{AreHeld, IsTable};
-ghost use Rattle.ck_words.specs.Passes.{PassState, IsPassOf, IsIdle, numbers_of};
+ghost use Rattle.ck_stripe.specs.Tables.{IsTable};
+ghost use Rattle.ck_words.specs.Passes.{PassState, IsPassOf, IsIdle};
 ghost use Rattle.ck_words.specs.StripeSets.{list_of};
 ghost use Rattle.ck_words.specs.Holding.{HasTakenAll};
 ghost use Rattle.ck_words.specs.Closing.{IsCaller, IsWhole};
 ghost use Rattle.ck_words.specs.Retries.{FindsAmong, Stays};
-ghost use Rattle.cuckoo_map.specs.Holding.{HasSpot, AreStripesOf, HoldsKey};
-ghost use Rattle.cuckoo_map.specs.Refusals.{FindsOwn, IsBusyAt, IsBusyAmong, IsStripeOfEither, IsStripeIn};
+ghost use Rattle.cuckoo_map.specs.Holding.{HasSpot, AreStripesOf};
+ghost use Rattle.cuckoo_map.specs.Refusals.{FindsOwn, IsBusyAt, IsBusyAmong, IsStripeIn};
 
 use crate::refusal::Busy;
 use crate::table::Table;
@@ -27,14 +27,6 @@ pub(crate) struct KeyStripes {
 pub(crate) struct Spot {
     pub(crate) stripes: StripeSet,
     pub(crate) place: KeyPlace,
-}
-
-// The stripes of two keys, which their pass holds, and where each key may be among them.
-#[derive(Clone, Copy)]
-pub(crate) struct Spots {
-    pub(crate) stripes: StripeSet,
-    pub(crate) first: KeyPlace,
-    pub(crate) second: KeyPlace,
 }
 
 impl<K: TableKey + Drop, V: Drop> Table<K, V> {
@@ -97,49 +89,6 @@ impl<K: TableKey + Drop, V: Drop> Table<K, V> {
         let mut guard = guard!(&self.words, pass, stripes);
         let place = key_place(&mut guard, stripes.s, key, hash);
         Spot { stripes, place }
-    }
-
-    // Takes the stripes of both keys, and carries out the doublings that are left to be. Where the
-    // keys may be among them comes back.
-    pub(crate) fn lock_two<Q: Query<K>>(
-        &self,
-        pass: &mut Pass<K, V>,
-        a: Q,
-        b: Q,
-    ) -> Result<Spots, Busy>
-        requires caller { IsCaller self.now pass.old }
-        ensures own { IsPassOf self.now pass.new }
-        ensures first { IfOk result (λ spots.
-            HoldsKey K.hash self.now.settings (Q.name a) spots.first pass.old pass.new) }
-        ensures second { IfOk result (λ spots.
-            HoldsKey K.hash self.now.settings (Q.name b) spots.second pass.old pass.new) }
-        ensures s { IfOk result (λ spots. spots.stripes.s ≡ self.now.settings.s) }
-        ensures numbered { IfOk result (λ spots.
-            numbers_of pass.new.stripes ≡ list_of spots.stripes) }
-        ensures settled { OnOk result (AreHeld self.now.settings.s pass.new.stripes) }
-        ensures found { FindsAmong
-            (IsStripeOfEither K.hash self.now.settings (Q.name a) (Q.name b))
-            pass.old pass.new }
-        ensures idle { OnErr result (IsIdle pass.new) }
-        ensures busy { IfErr result (λ busy. IsBusyAmong
-            (IsStripeOfEither K.hash self.now.settings (Q.name a) (Q.name b))
-            self.now.settings busy.0 pass.old pass.new) }
-    {
-        let s = self.words.settings().s;
-        let hash_a = KeyHash::of::<K, Q>(a);
-        let hash_b = KeyHash::of::<K, Q>(b);
-        let stripes = StripeSet::of_two_keys(s, hash_a, hash_b);
-        if let Err(stripe) = self.words.lock(pass, stripes) {
-            return Err(Busy(stripe));
-        }
-        let mut guard = guard!(&self.words, pass, stripes);
-        let first = key_place(&mut guard, stripes.s, a, hash_a);
-        let second = key_place(&mut guard, stripes.s, b, hash_b);
-        Ok(Spots {
-            stripes,
-            first,
-            second,
-        })
     }
 
     // Takes all stripes, with what is left of their doublings.

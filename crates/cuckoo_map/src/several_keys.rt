@@ -1,9 +1,10 @@
 //! Calls on several keys at once.
-ghost use Rattle.std.specs.Prelude.{◌≡◌, ◌<◌, ◌≤◌, ℕ, [], Some, All, IsSome, OnOk, OnErr, IfOk, IfErr, IfSome, IfNone, MatchBool, length, map, take, get_or};
+ghost use Rattle.std.specs.Prelude.{◌≡◌, ◌<◌, ◌≤◌, ℕ, List, [], ◌∷◌, Some, All, IsSome, OnOk, OnErr, IfOk, IfErr, IfSome, IfNone, MatchBool, length, map, take, get_or};
 ghost use Rattle.std.specs.Fn.{FnOnceReturnsAtMut};
 ghost use Rattle.std.specs.List.{AllZip};
 ghost use Rattle.ck_key.specs.Hashes.{IsHashOf};
-ghost use Rattle.ck_model.specs.Promise.{IsAmong, AreDifferent};
+ghost use Rattle.ck_model.specs.Arithmetic.{partial_of};
+ghost use Rattle.ck_model.specs.Promise.{Name, IsAmong, AreDifferent};
 ghost use Rattle.ck_words.specs.Passes.{IsPassOf, IsIdle};
 ghost use Rattle.ck_words.specs.Retries.{FindsAmong};
 ghost use Rattle.ck_words.specs.Closing.{IsCaller};
@@ -321,7 +322,58 @@ impl<K: TableKey + Drop, V: Drop> Table<K, V> {
             partial: 0,
         }; 8];
         write_hashes::<K, Q>(keys, &mut hashes);
-        let stripes = StripeSet::of_keys(self.words.settings().s, &hashes[..keys.len()]);
+        self.lock_hashed(pass, &hashes[..keys.len()])
+    }
+
+    // Takes the stripes of both keys so.
+    #[inline(always)]
+    pub(crate) fn lock_two<Q: Query<K>>(
+        &self,
+        pass: &mut Pass<K, V>,
+        a: Q,
+        b: Q,
+    ) -> Result<StripeSet, Busy>
+        requires caller { IsCaller self.now pass.old }
+        ensures own { IsPassOf self.now pass.new }
+        ensures held { IfOk result (λ stripes. HoldsNames K.hash self.now.settings
+            (Q.name a ∷ Q.name b ∷ []) stripes pass.old pass.new) }
+        ensures found { FindsAmong
+            (IsStripeOfAny K.hash self.now.settings (Q.name a ∷ Q.name b ∷ []))
+            pass.old pass.new }
+        ensures idle { OnErr result (IsIdle pass.new) }
+        ensures busy { IfErr result (λ busy. IsBusyAmong
+            (IsStripeOfAny K.hash self.now.settings (Q.name a ∷ Q.name b ∷ []))
+            self.now.settings busy.0 pass.old pass.new) }
+    {
+        let hashes = [KeyHash::of::<K, Q>(a), KeyHash::of::<K, Q>(b)];
+        self.lock_hashed(pass, &hashes)
+    }
+
+    // Takes the stripes of the keys of these hashes, and carries out the doublings that are left to
+    // be.
+    #[inline(always)]
+    fn lock_hashed(
+        &self,
+        pass: &mut Pass<K, V>,
+        hashes: &[KeyHash],
+    ) -> Result<StripeSet, Busy>
+        requires caller { IsCaller self.now pass.old }
+        requires some { 0 < length hashes.now }
+        requires few { length hashes.now ≤ 8 }
+        requires partials { All (λ h. h.partial ≡ partial_of h.hash) hashes.now }
+        ensures own { IsPassOf self.now pass.new }
+        ensures held { IfOk result (λ stripes. (qs : List Name)
+            → AllZip (IsHashOf K.hash) qs hashes.now
+            → HoldsNames K.hash self.now.settings qs stripes pass.old pass.new) }
+        ensures found { (qs : List Name) → AllZip (IsHashOf K.hash) qs hashes.now
+            → FindsAmong (IsStripeOfAny K.hash self.now.settings qs) pass.old pass.new }
+        ensures idle { OnErr result (IsIdle pass.new) }
+        ensures busy { IfErr result (λ busy. (qs : List Name)
+            → AllZip (IsHashOf K.hash) qs hashes.now
+            → IsBusyAmong (IsStripeOfAny K.hash self.now.settings qs) self.now.settings busy.0
+            pass.old pass.new) }
+    {
+        let stripes = StripeSet::of_keys(self.words.settings().s, hashes);
         match self.words.lock(pass, stripes) {
             Ok(()) => Ok(stripes),
             Err(stripe) => Err(Busy(stripe)),
