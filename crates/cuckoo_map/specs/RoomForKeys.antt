@@ -25,6 +25,11 @@ use Rattle.cuckoo_map.specs.SeveralKeys.{IsStripeOfAny, HoldsNames, RefusesNames
 abbrev pub names_of : {K : Type 0} → (K → Name) → List (Bor K) → List Name
 names_of {K} name keys = map (λ (k : Bor K). name k.now) keys
 
+-- the stripes of these names, or all
+abbrev pub IsStripeTried : (Name → ℕ) → Settings → List Name → Bool → ℕ → Type 0
+IsStripeTried hash set qs false = IsStripeOfAny hash set qs
+IsStripeTried hash set qs true = IsStripeIn set
+
 module _ {V : Type 0} where
   -- since p room was sought for each of the names in turn
   abbrev pub SeeksRoomForEach : (Name → ℕ) → Settings → List Name → PassState V → PassState V → Type 0
@@ -59,7 +64,7 @@ module _ {V : Type 0} where
     pub stays : Stays p.view p2.view
     pub whole : IsWhole hash set p2
     pub no_room : ¬ (HasRoomForAll (layout_of hash set) (contents_of p2.stripes) qs)
-    pub lack : IsLack set.max set.min_load p2.stripes lack
+    pub reason : IsLack set.max set.min_load p2.stripes lack
 
   -- Since p all stripes were taken so, where nothing but memory could be lacking, and the table doubled once. The caller noted what they had contained.
   pub record GrowsForAll (hash : Name → ℕ) (set : Settings) (qs : List Name) (p p2 : PassState V) : Type 0 where
@@ -74,11 +79,6 @@ module _ {V : Type 0} where
   abbrev pub GrowsTimes : (Name → ℕ) → Settings → List Name → ℕ → PassState V → PassState V → Type 0
   GrowsTimes hash set qs zero p p2 = p2 ≡ p
   GrowsTimes hash set qs (suc n) p p2 = (m m2 : PassState V) × GrowsTimes hash set qs n p m × LacksRoomStill hash set qs m m2 × GrowsForAll hash set qs m2 p2
-
-  -- the stripes of these names, or all
-  abbrev pub IsStripeTried : (Name → ℕ) → Settings → List Name → Bool → ℕ → Type 0
-  IsStripeTried hash set qs false = IsStripeOfAny hash set qs
-  IsStripeTried hash set qs true = IsStripeIn set
 
   -- Since p the table may have grown for the names, and room may have been sought for each. Then their stripes are tried, or all, where there was too little room for all still.
   abbrev pub SeeksRoom : (Name → ℕ) → Settings → List Name → Bool → PassState V → PassState V → Type 0

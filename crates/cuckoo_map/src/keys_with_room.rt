@@ -7,6 +7,7 @@ ghost use Rattle.ck_words.specs.Closing.{IsCaller};
 ghost use Rattle.ck_words.specs.Retries.{FindsAmong};
 ghost use Rattle.cuckoo_map.specs.SeveralKeys.{IsStripeOfAny, HoldsNames, RefusesNames};
 ghost use Rattle.cuckoo_map.specs.Refusals.{IsStripeIn};
+ghost use Rattle.cuckoo_map.specs.Displacing.{FindsAny};
 ghost use Rattle.cuckoo_map.specs.RoomForKeys.{SeeksRoomForEach, LacksRoomForOne, LacksRoomForAll, MakesRoomForEach, LacksRoomStill, GrowsForAll, IsStripeTried, SeeksRoom, IsNotGrown, RefusesRoomForEach, RefusesRoom, names_of};
 
 use crate::refusal::{KeysRefused, RoomFault, Why};
@@ -41,10 +42,12 @@ impl<K: TableKey + Drop, V: Drop> Table<K, V> {
             (IsStripeTried K.hash self.now.settings (names_of K.name keys.now) all) m pass.new
             × HaveRoomForAll K.hash self.now.settings.s pass.new.stripes
             (names_of K.name keys.now)) }
+        ensures found { FindsAny pass.old pass.new }
         ensures caller { OnErr result (IsCaller self.now pass.new) }
         ensures refused { IfErr result (RefusesRoom K.hash self.now.settings
             (names_of K.name keys.now) pass.old pass.new) }
     {
+        self.words.show_range();
         for _ in 0..MOST_TRIES {
             if let Some(stripes) = self.lock_with_room_for_each(pass, keys)? {
                 return Ok(stripes);
@@ -81,6 +84,7 @@ impl<K: TableKey + Drop, V: Drop> Table<K, V> {
             m pass.new
             × HaveRoomForAll K.hash self.now.settings.s pass.new.stripes
             (names_of K.name keys.now))) }
+        ensures found { FindsAny pass.old pass.new }
         ensures caller { OnErr result (IsCaller self.now pass.new) }
         ensures refused { IfErr result (RefusesRoomForEach K.hash self.now.settings
             (names_of K.name keys.now) pass.old pass.new) }
@@ -177,6 +181,7 @@ impl<K: TableKey + Drop, V: Drop> Table<K, V> {
         ensures caller { IsCaller self.now pass.new }
         ensures made { OnOk result (SeeksRoomForEach K.hash self.now.settings
             (names_of K.name keys.now) pass.old pass.new) }
+        ensures found { FindsAny pass.old pass.new }
         ensures refused { IfErr result (λ why. LacksRoomForOne K.hash self.now.settings
             (names_of K.name keys.now) why pass.old pass.new) }
     {
