@@ -258,6 +258,5 @@ fn print_fault(rt: &impl Print, fault: RoomFault) -> io::Result<()> {
         RoomFault::Keys(KeysRefused::Busy(t)) => print!(rt; "busy {t}"),
         RoomFault::Keys(KeysRefused::Twice(position)) => print!(rt; "twice {position}"),
         RoomFault::Room(why) => print_reason(rt, why),
-        RoomFault::NoSlot => print!(rt; "no slot"),
     }
 }

@@ -48,7 +48,7 @@ pub use one_key::{
 };
 pub use place::{HeldBucket, KeyPlace};
 pub use retain::retain_all;
-pub use room::{make_room, settled_place};
+pub use room::{grow, make_room, settled_place};
 pub use room_for_all::has_room_for_all;
 pub use several_keys::{find_bound, find_each};
 pub use two_keys::{Renamed, rename, update_two};

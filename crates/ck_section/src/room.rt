@@ -180,8 +180,9 @@ fn displace<K: TableKey + Drop, V: Drop, H: Held<Stripe<K, V>>>(
     }
 }
 
-// Doubles the table, if it may.
-fn grow<K: TableKey + Drop, V: Drop, H: Held<Stripe<K, V>>>(
+/// Doubles a table of 2^s stripes, if it has fewer than 2^max buckets and at least `min_load` per
+/// cent of its slots are taken. Refused, it stays as it was.
+pub fn grow<K: TableKey + Drop, V: Drop, H: Held<Stripe<K, V>>>(
     held: &mut H,
     s: u32,
     max: u32,

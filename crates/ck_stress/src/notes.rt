@@ -102,7 +102,7 @@ impl Notes {
         self.check("new key that comes back", key, back_key, Some(key));
         match back.why {
             RoomFault::Room(why) => self.count(why),
-            RoomFault::Keys(_) | RoomFault::NoSlot => self.busy(),
+            RoomFault::Keys(_) => self.busy(),
         }
     }
 

@@ -50,7 +50,6 @@ code_of_keys (keys.Twice i) = codes.Twice
 abbrev pub code_of_rename : RoomFault → Code
 code_of_rename (renames.Keys why) = code_of_keys why
 code_of_rename (renames.Room why) = code_of_why why
-code_of_rename renames.NoSlot = codes.Busy
 
 abbrev pub code_of_fault : GrowFault → Code
 code_of_fault (faults.Busy t) = codes.Busy

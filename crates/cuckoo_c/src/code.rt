@@ -101,7 +101,6 @@ impl Code {
         match why {
             RoomFault::Keys(why) => Code::of_keys(why),
             RoomFault::Room(why) => Code::of_why(why),
-            RoomFault::NoSlot => Code::Busy,
         }
     }
 

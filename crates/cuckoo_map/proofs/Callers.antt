@@ -12,7 +12,6 @@ use Rattle.ck_model.specs.Contents.{layout_of, Stripes, IsStripeOf}
 use Rattle.ck_core.specs.declared.view.RoomNote.{RoomNote}
 use Rattle.ck_words.specs.Words.{WordsState}
 use Rattle.ck_words.specs.Passes.{PassState}
-use Rattle.ck_section.specs.declared.two_keys.Renamed.{Renamed}
 use Rattle.ck_words.specs.Retries.{WatchesMore, StaysBut, FindsAmong, as_doubled}
 use Rattle.ck_words.specs.Answering.{IsAnswered, IsAnsweredBut, IsAnsweredOn}
 use Rattle.ck_words.specs.Closing.{IsCaller}
@@ -22,16 +21,12 @@ use Rattle.cuckoo_map.specs.declared.refusal.KeysRefused.{KeysRefused}
 use Rattle.cuckoo_map.specs.declared.refusal.KeysRefused.TheVariants as refused
 use Rattle.cuckoo_map.specs.declared.refusal.Refused.{Refused}
 use Rattle.cuckoo_map.specs.declared.refusal.Why.{Why}
-use Rattle.cuckoo_map.specs.declared.refusal.NotRenamed.{NotRenamed}
-use Rattle.cuckoo_map.specs.declared.refusal.RoomFault.{RoomFault}
-use Rattle.cuckoo_map.specs.declared.refusal.RoomFault.TheVariants as rename
-use Rattle.cuckoo_map.specs.Refusals.{IsBusyAmong, FindsOwnUnlessFull, SaysNoRoom, IsRefused}
+use Rattle.cuckoo_map.specs.Refusals.{IsBusyAmong, FindsOwnUnlessFull, IsRefused}
 use Rattle.cuckoo_map.specs.Needed.{HasGrownFor}
 use Rattle.cuckoo_map.specs.Queries.{HasQueried}
 use Rattle.cuckoo_map.specs.Insertions.{SayFull, IsInserted, HasInserted, HandsBack, HasSoughtRoom}
-use Rattle.cuckoo_map.specs.Renames.{Renames, SeeksSlot, IsNotRenamed, HasRenamed, RenameLeaves, RoomLeaves}
-use Rattle.cuckoo_map.proofs.Calls.{answered_since, replied_seen}
-use Rattle.cuckoo_map.proofs.Counted.{counted_back, grown_alike, grown_until}
+use Rattle.cuckoo_map.specs.Renames.{RoomLeaves}
+use Rattle.cuckoo_map.proofs.Counted.{grown_alike}
 use Rattle.cuckoo_map.specs.Callers.{CallerState, caller_of, pass_of, IsSameCaller, Replies, RepliesOn, KeepsNotesBut, KeepsNotes, NotesFull, QueryLeaves, InsertionLeaves, KeysLeave}
 use Rattle.cuckoo_map.specs.SeveralKeys.{IsStripeOfAny, RefusesNames, HasQueriedAll}
 
@@ -54,26 +49,10 @@ module _ {V : Type 0} where
   pub as_pass : {w : WordsState} {p : PassState V} → IsCaller w p → pass_of (caller_of w p) ≡ p
   as_pass {w} {p} caller = λ j. record p { table = sym caller.own.0 j; view = record p.view { held = sym caller.idle.1 j; others = sym caller.alone j }; stripes = sym caller.idle.0 j }
 
-  -- the call was answered, and may have sought room for the name
-  abbrev pub AnsweredFor : (Name → ℕ) → Settings → Name → Call V → Reply V → PassState V → PassState V → Type 0
-  AnsweredFor hash set q call reply p z = (more : List (RoomNote V)) × SayFull q more × IsAnsweredBut more call reply (as_doubled p z) z × HasGrownFor hash set q p z
-
-  answered_for : (hash : Name → ℕ) (set : Settings) (q : Name) (call : Call V) (reply : Reply V) (p m z : PassState V) → HasSoughtRoom hash set q p m → IsAnswered call reply m z → AnsweredFor hash set q call reply p z
-  answered_for hash set q call reply p m z sought a =
-      let there : IsAnswered call reply (as_doubled m z) z = counted_back (λ x. IsAnswered call reply x z) m z (a.stays.doublings, a.stays.grown_from) a in
-      let since : IsAnsweredBut sought.more call reply (as_doubled p z) z = answered_since sought.more (as_doubled p m) m m z sought.stays refl call reply there in
-      (sought.more, sought.own, since, grown_until p m z sought.grown (a.stays.doublings, a.stays.grown_from) (replied_seen a.replied))
-
   -- a refused call on several names keeps its caller's number
   pub by_kept : (hash : Name → ℕ) (set : Settings) (names : List Name) (p q : PassState V) (e : KeysRefused) → RefusesNames hash set names p q e → q.view.by ≡ p.view.by
   by_kept hash set names p q (refused.Busy t) h = h.stays.by
   by_kept hash set names p q (refused.Twice i) h = ap (λ (x : PassState V). x.view.by) h.1
-
-  -- and so does a refused rename
-  by_not_renamed : (hash : Name → ℕ) (set : Settings) (q r : Name) (p z : PassState V) (e : RoomFault) → IsNotRenamed hash set q r e p z → z.view.by ≡ p.view.by
-  by_not_renamed hash set q r p z (rename.Keys why) h = by_kept hash set (q ∷ r ∷ []) h.0 z why h.2 ∙ h.1.stays.by
-  by_not_renamed hash set q r p z (rename.Room why) h = h.stays.by
-  by_not_renamed hash set q r p z rename.NoSlot h = h.2.1.by ∙ h.1.stays.by
 
   -- What a call leaves of its caller that binds no new key: it was answered, or found a stripe of these busy.
   pub record CallLeaves {A E : Type 0} (T : A → Type 0) (P : WordsState → ℕ → Type 0) (stripe : E → ℕ) (r : Result A E) (c d : CallerState V) : Type 0 where
@@ -115,11 +94,8 @@ module _ {V : Type 0} where
     grown_caller {hash} {name} g =
         subst (λ (x : CallerState V). HasGrownFor hash x.table.settings name (pass_of x) (pass_of (caller_of w q))) is (grown_alike p q (pass_of (caller_of w p)) (pass_of (caller_of w q)) refl refl (refl, refl) refl (refl, refl) g)
 
-    replies_seeking : (hash : Name → ℕ) (name : Name) (call : Call V) (reply : Reply V) → AnsweredFor hash w.settings name call reply p q → Replies call c (caller_of w q) reply × (IsSameCaller c (caller_of w q) × NotesFull hash name c (caller_of w q))
-    replies_seeking hash name call reply a = (replied call a.2, (same_caller a.2.stays.by, (a.0, a.1, keeps_notes a.2.stays a.2.watched, grown_caller a.3)))
-
     replies_inserting : (hash : Name → ℕ) (name : Name) (act : Act V) (reply : Reply V) → IsInserted hash w.settings name p q act reply → RepliesOn name c (caller_of w q) act reply × (IsSameCaller c (caller_of w q) × NotesFull hash name c (caller_of w q))
-    replies_inserting hash name act reply a = replies_seeking hash name (On name act) reply a
+    replies_inserting hash name act reply a = (replied (On name act) a.2, (same_caller a.2.stays.by, (a.0, a.1, keeps_notes a.2.stays a.2.watched, grown_caller a.3)))
 
     -- the table that the call was made on, v, is the caller's
     module _ (before : IsCaller w p) {v : WordsState} (at : v ≡ w) (after : IsCaller v q) where
@@ -175,25 +151,6 @@ module _ {V : Type 0} where
             notes = IfOk-weaker r _ _ (λ a h. h.1.1) said;
             refused = over (λ t a b. IfErr r (HandsBack hash t.settings name key x a b)) there.refused;
             found = over (λ t a b. FindsOwnUnlessFull hash t.settings name a b) there.found;
-          }
-
-      -- where it was a rename
-      pub rename_left : {K : Type 0} (hash : Name → ℕ) (from to : Name) (key : K) (r : Result Renamed (NotRenamed K)) → HasRenamed hash v.settings from to key r p q → RenameLeaves hash from to key r c (caller_of w q)
-      rename_left {K} hash from to key r there =
-          let did = subst (λ (t : WordsState). HasRenamed hash t.settings from to key r p q) at there in
-          let told : IfOk r (λ came. ((old new : List (Option V)) × Renames came old new × Replies (SessionOn (from ∷ to ∷ []) old new) c (caller_of w q) Closed) × (IsSameCaller c (caller_of w q) × NotesFull hash to c (caller_of w q))) =
-          IfOk-weaker r _ _ (λ came h.
-          let at = h.2 in
-          let call = SessionOn (from ∷ to ∷ []) at.0 at.1 in
-          let l = replies_seeking hash to call Closed (answered_for hash w.settings to call Closed p h.0 q h.1 at.3) in
-          ((at.0, at.1, at.2, l.0), l.1)) did.answered in
-          record {
-            same = by_result r told did.refused (λ a h. h.1.0) (λ e h. same_caller (by_not_renamed hash w.settings from to p q e.why h.1));
-            answered = IfOk-weaker r _ _ (λ a h. h.0) told;
-            notes = IfOk-weaker r _ _ (λ a h. h.1.1) told;
-            sought = over (λ t a b. SeeksSlot from to a b) there.sought;
-            refused = over (λ t a b. IfErr r (λ back. (back.key ≡ key) × IsNotRenamed hash t.settings from to back.why a b)) there.refused;
-            found = over (λ t a b. FindsAmong (λ n. IsStripeOfAny hash t.settings (from ∷ to ∷ []) n ⊎ SaysNoRoom to a b) a b) there.found;
           }
 
       -- where it made room for a name

@@ -87,7 +87,7 @@ module _ {V : Type 0} where
   released_alike {w} p z home same = counted_alike (λ x. HasReleased w x z) p z same home
 
   -- what is noted of doublings that are some
-  growing_some : (l : List (Stripes V)) (hs : Stripes V) (n : ℕ) → 0 < n → growing l hs n ≡ hs ∷ l
+  pub growing_some : (l : List (Stripes V)) (hs : Stripes V) (n : ℕ) → 0 < n → growing l hs n ≡ hs ∷ l
   growing_some l hs zero some = absurd (omega arith)
   growing_some l hs (suc n) some = refl
 

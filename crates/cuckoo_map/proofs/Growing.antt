@@ -29,7 +29,7 @@ use Rattle.ck_words.proofs.Staying.{stays_on}
 use Rattle.cuckoo_map.specs.declared.refusal.GrowFault.TheVariants.{Busy, Memory}
 use Rattle.cuckoo_map.specs.Refusals.{IsStripeIn, IsBusyAmong}
 use Rattle.cuckoo_map.specs.Growth.{Rehashes}
-use Rattle.cuckoo_map.proofs.Counted.{one_of_lawful, told_first, counting_as, stays_counting}
+use Rattle.cuckoo_map.proofs.Counted.{one_of_lawful, told_first, counting_as, stays_counting, growing_some}
 
 module _ {V : Type 0} (s : ℕ) where
   -- All stripes of a table were settled.
@@ -143,10 +143,10 @@ one_of_power k [] lawful t c h = absurd h
 one_of_power k (s ∷ ss) lawful t c h = one_of_lawful k (contents_of (s ∷ ss)) lawful t c h
 
 -- It was p before it took them, and z when they had gone home.
-module _ {V : Type 0} {hash : Name → ℕ} {set : Settings} {power : ℕ} (inside : power ≤ set.max) (p p1 p2 z : PassState V) (stays : Stays p.view p1.view) (whole : IsWhole hash set p1) (table : IsTable set.s p1.stripes)
+module _ {V : Type 0} {hash : Name → ℕ} {set : Settings} (p p1 p2 z : PassState V) (stays : Stays p.view p1.view) (whole : IsWhole hash set p1) (table : IsTable set.s p1.stripes)
     (view : p2.view ≡ p1.view) (told : z.view.told ≡ max p2.view.told (power_in p2.stripes)) where
   -- it had been told no power above theirs
-  told_since : (p.view.told ≤ p1.view.told) × (p1.view.told ≤ power_in p1.stripes) × (z.view.told ≡ max p1.view.told (power_in p2.stripes))
+  pub told_since : (p.view.told ≤ p1.view.told) × (p1.view.told ≤ power_in p1.stripes) × (z.view.told ≡ max p1.view.told (power_in p2.stripes))
   told_since =
       let some : 0 < length p1.stripes = subst (λ n. 0 < n) (sym table.count) (pow_pos set.s) in
       (stays.told, told_first p1 whole some, told ∙ ap (λ (u : View V). max u.told (power_in p2.stripes)) view)
@@ -166,10 +166,18 @@ module _ {V : Type 0} {hash : Name → ℕ} {set : Settings} {power : ℕ} (insi
       one_of_power k p2.stripes (renewed taken).renewed.lawful
 
   -- the doublings that were counted
-  counted_since : HasRenewed hash set p2 → p1.view.doublings ≡ p.view.doublings → IsDoubledBy p2 z → z.view.doublings ≡ p.view.doublings + (power_in p2.stripes - power_in p1.stripes)
+  pub counted_since : HasRenewed hash set p2 → p1.view.doublings ≡ p.view.doublings → IsDoubledBy p2 z → z.view.doublings ≡ p.view.doublings + (power_in p2.stripes - power_in p1.stripes)
   counted_since renewed before doubled =
       let same : p2.view.doublings ≡ p.view.doublings = ap (λ (u : View V). u.doublings) view ∙ before in
       (doubled (power_in p1.stripes) (power_in p2.stripes) power_taken (power_home renewed)).0 ∙ ap (λ n. n + (power_in p2.stripes - power_in p1.stripes)) same
+
+  -- and what they doubled from
+  pub noted_since : HasRenewed hash set p2 → p1.view.grown_from ≡ p.view.grown_from → IsDoubledBy p2 z → power_in p1.stripes < power_in p2.stripes → z.view.grown_from ≡ contents_of p1.stripes ∷ p.view.grown_from
+  noted_since renewed before doubled more =
+      let noted = (doubled (power_in p1.stripes) (power_in p2.stripes) power_taken (power_home renewed)).1 in
+      let taken : reverse p2.view.held ≡ contents_of p1.stripes = ap (λ (u : View V). reverse u.held) view ∙ sym whole.unchanged in
+      let same : p2.view.grown_from ≡ p.view.grown_from = ap (λ (u : View V). u.grown_from) view ∙ before in
+      noted ∙ (growing_some p2.view.grown_from (reverse p2.view.held) (power_in p2.stripes - power_in p1.stripes) (omega arith) ∙ λ i. taken i ∷ same i)
 
   few_since : HasRenewed hash set p2 → p1.view.doublings ≡ p.view.doublings → IsDoubledBy p2 z → z.view.doublings ≤ p.view.doublings + (z.view.told - p.view.told)
   few_since renewed before doubled =
@@ -177,22 +185,23 @@ module _ {V : Type 0} {hash : Name → ℕ} {set : Settings} {power : ℕ} (insi
       let counted = counted_since renewed before doubled in
       omega arith
 
-  pub answered_home : HasRenewed hash set p2 → p1.view.doublings ≡ p.view.doublings → IsDoubledBy p2 z → (b : Bool) → MatchBool b ((power_in p1.stripes < power) × (power_in p2.stripes ≡ power)) ((power ≤ power_in p1.stripes) × (p2.stripes ≡ p1.stripes))
-      → Rehashes set power (Ok b) p z
-  answered_home renewed before doubled true m =
-      let since = told_since in
-      answered_by set power p z inside true (let low = m.0 in let reached = m.1 in omega arith)
-      (λ e. (
-        (let same : z.view.told ≡ power = omega (arith, m.0, m.1) in same),
-        (let fewer : p.view.told < power = omega (arith, m.0) in fewer),
-        (let counted = counted_since renewed before doubled in let more : p.view.doublings < z.view.doublings = omega (arith, m.0, m.1) in more),
-      ))
-      (λ e. absurd (false≢true (sym e)))
-      (few_since renewed before doubled)
-  answered_home renewed before doubled false m =
-      let since = told_since in
-      let level : power_in p2.stripes ≡ power_in p1.stripes = ap (λ (l : List (StripeState V)). power_in l) m.1 in
-      answered_by set power p z inside false (let high = m.0 in omega arith) (λ e. absurd (false≢true e)) (λ e. let counted = counted_since renewed before doubled in omega arith) (few_since renewed before doubled)
+  module _ {power : ℕ} (inside : power ≤ set.max) where
+    pub answered_home : HasRenewed hash set p2 → p1.view.doublings ≡ p.view.doublings → IsDoubledBy p2 z → (b : Bool) → MatchBool b ((power_in p1.stripes < power) × (power_in p2.stripes ≡ power)) ((power ≤ power_in p1.stripes) × (p2.stripes ≡ p1.stripes))
+        → Rehashes set power (Ok b) p z
+    answered_home renewed before doubled true m =
+        let since = told_since in
+        answered_by set power p z inside true (let low = m.0 in let reached = m.1 in omega arith)
+        (λ e. (
+          (let same : z.view.told ≡ power = omega (arith, m.0, m.1) in same),
+          (let fewer : p.view.told < power = omega (arith, m.0) in fewer),
+          (let counted = counted_since renewed before doubled in let more : p.view.doublings < z.view.doublings = omega (arith, m.0, m.1) in more),
+        ))
+        (λ e. absurd (false≢true (sym e)))
+        (few_since renewed before doubled)
+    answered_home renewed before doubled false m =
+        let since = told_since in
+        let level : power_in p2.stripes ≡ power_in p1.stripes = ap (λ (l : List (StripeState V)). power_in l) m.1 in
+        answered_by set power p z inside false (let high = m.0 in omega arith) (λ e. absurd (false≢true e)) (λ e. let counted = counted_since renewed before doubled in omega arith) (few_since renewed before doubled)
 
-  pub short_home : HasRenewed hash set p2 → p1.view.doublings ≡ p.view.doublings → IsDoubledBy p2 z → (power_in p1.stripes < power) × (power_in p2.stripes < power) → Rehashes set power (Err Memory) p z
-  short_home renewed before doubled m = let since = told_since in refused_short set power p z inside (let low = m.0 in let short = m.1 in omega arith) (few_since renewed before doubled)
+    pub short_home : HasRenewed hash set p2 → p1.view.doublings ≡ p.view.doublings → IsDoubledBy p2 z → (power_in p1.stripes < power) × (power_in p2.stripes < power) → Rehashes set power (Err Memory) p z
+    short_home renewed before doubled m = let since = told_since in refused_short set power p z inside (let low = m.0 in let short = m.1 in omega arith) (few_since renewed before doubled)

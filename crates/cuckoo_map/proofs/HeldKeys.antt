@@ -102,8 +102,8 @@ module _ {V : Type 0} where
         }
 
     -- and so their caller has locked them
-    pub has_locked_keys : (p p2 : PassState V) → IsCaller w p → AreDifferent names → HoldsNames hash w.settings names stripes p p2 → FindsAmong (IsStripeOfAny hash w.settings names) p p2 → HasLockedKeys hash names (caller_of w p) (keys_of w names p2)
-    has_locked_keys p p2 caller different h found = record {
+    pub has_locked_keys : (P : ℕ → Type 0) (p p2 : PassState V) → IsCaller w p → AreDifferent names → HoldsNames hash w.settings names stripes p p2 → FindsAmong P p p2 → HasLockedKeys P names (caller_of w p) (keys_of w names p2)
+    has_locked_keys P p p2 caller different h found = record {
       names = refl;
       different = different;
       same = record { table = refl; by = h.stays.by };
@@ -122,7 +122,7 @@ module _ {V : Type 0} where
         doublings = h.stays.doublings;
         grown_from = h.stays.grown_from;
       });
-      found = subst (λ (x : PassState V). FindsAmong (IsStripeOfAny hash w.settings names) x (pass_of (caller_of w p2))) (sym (as_pass caller)) found;
+      found = subst (λ (x : PassState V). FindsAmong P x (pass_of (caller_of w p2))) (sym (as_pass caller)) found;
       unchanged = ap bindings h.unchanged;
     }
 

@@ -1,13 +1,14 @@
 -- Renames of a key whose stripes are held, with those of its new name.
-use Rattle.std.proofs.Common.{◌≡◌, ◌≢◌, ◌⊎◌, ℕ, List, [], ◌∷◌, ◌++◌, append_assoc, Option, Some, None, Result, Ok, Err, IfOk, IfErr, OnErr, inl, inr, refl, sym, ap, ◌∙◌}
+use Rattle.std.proofs.Common.{◌≡◌, ◌≢◌, ◌⊎◌, ℕ, List, [], ◌∷◌, ◌++◌, append_assoc, Option, Some, None, Result, Ok, Err, IfOk, IfErr, OnErr, inl, inr, refl, sym, ap, ◌∙◌, subst, Bool}
 use Rattle.std.proofs.lemmas.Option.{none-some}
-use Rattle.std.proofs.lemmas.List.Elements.{All-nil, Contains-append_right}
+use Rattle.std.proofs.lemmas.List.Elements.{Contains-push}
+use Rattle.std.proofs.lemmas.Result.{IfOk-weaker}
 use Rattle.std.specs.Prelude.{MatchResult}
 use Rattle.std.specs.FinMap.{get}
 use Rattle.ck_model.specs.declared.history.Act.TheVariants.{Insert, Erase}
-use Rattle.ck_model.specs.declared.history.Call.TheVariants.{On}
+use Rattle.ck_model.specs.declared.history.Call.TheVariants.{On, SessionOn}
 use Rattle.ck_model.specs.declared.history.Reason.TheVariants.{NoRoom}
-use Rattle.ck_model.specs.declared.history.Reply.TheVariants.{Was, New}
+use Rattle.ck_model.specs.declared.history.Reply.TheVariants.{Was, New, Closed}
 use Rattle.ck_model.specs.declared.settings.Settings.{Settings}
 use Rattle.ck_model.specs.Promise.{Name, Map, Step, Answers}
 use Rattle.ck_model.specs.Contents.{layout_of, bindings}
@@ -22,24 +23,27 @@ use Rattle.ck_core.specs.Steps.{noted}
 use Rattle.ck_words.specs.declared.stripe_set.StripeSet.{StripeSet}
 use Rattle.ck_words.specs.Words.{WordsState}
 use Rattle.ck_words.specs.Passes.{PassState}
-use Rattle.ck_words.specs.Retries.{FindsAmong}
+use Rattle.ck_words.specs.Retries.{FindsAmong, as_doubled}
+use Rattle.ck_words.specs.Answering.{IsAnswered, IsAnsweredBut}
 use Rattle.ck_words.specs.Closing.{IsCaller}
-use Rattle.ck_words.proofs.Staying.{stays_same}
 use Rattle.cuckoo_map.specs.declared.refusal.KeysRefused.{KeysRefused}
 use Rattle.cuckoo_map.specs.declared.refusal.KeysRefused.TheVariants as keys
 use Rattle.cuckoo_map.specs.declared.refusal.RoomFault.{RoomFault}
 use Rattle.cuckoo_map.specs.declared.refusal.RoomFault.TheVariants as fault
-use Rattle.cuckoo_map.specs.declared.refusal.Why.{Why}
-use Rattle.cuckoo_map.specs.Refusals.{FindsOwnUnlessFull, SaysNoRoom, IsRefused}
-use Rattle.cuckoo_map.specs.Insertions.{HasFoundNoRoom, HasSoughtRoom}
+use Rattle.cuckoo_map.specs.declared.refusal.NotRenamed.{NotRenamed}
+use Rattle.cuckoo_map.specs.Refusals.{SaysNoRoom}
 use Rattle.cuckoo_map.specs.Needed.{DoublesNothing}
 use Rattle.cuckoo_map.specs.Displacing.{FindsAny}
 use Rattle.cuckoo_map.specs.SeveralKeys.{IsStripeOfAny, RefusesNames, bound_to}
 use Rattle.cuckoo_map.specs.LockedKeys.{HoldsKeys}
-use Rattle.cuckoo_map.specs.Renames.{Renames, LacksSlot, SeeksSlot, HasRenamedOnce, HasRenamed}
-use Rattle.cuckoo_map.proofs.Counted.{grown_none}
+use Rattle.cuckoo_map.specs.Renames.{Renames, LacksSlot, SeeksSlot, SeeksRoomToRename, IsNotRenamed, HasRenamedOnce, HasRenamed, RenameLeaves}
+use Rattle.cuckoo_map.specs.RoomForKeys.{SeeksRoom, RefusesRoom}
+use Rattle.cuckoo_map.specs.Callers.{CallerState, caller_of, pass_of, IsSameCaller, Replies, KeepsNotes}
+use Rattle.cuckoo_map.proofs.Callers.{by_result, as_pass, by_kept, same_caller, replied, replies, over}
+use Rattle.cuckoo_map.proofs.Calls.{answered_since}
+use Rattle.cuckoo_map.proofs.Counted.{counted_back}
 use Rattle.cuckoo_map.proofs.Displacing.{any_on, any_among}
-use Rattle.cuckoo_map.proofs.Trying.{HasTried, tried_same, refused_after, sought_since, says_no_room}
+use Rattle.cuckoo_map.proofs.RoomForKeys.{GoesOn, goes_same, goes_but, goes_then, goes_seeking_room, goes_without_room}
 use Rattle.cuckoo_map.proofs.HeldKeys.{value_found, without_slot, held_as_is, acted}
 
 module _ {V : Type 0} where
@@ -113,16 +117,7 @@ module _ {V : Type 0} where
           let one : get (bindings (contents_of p.stripes)) q ≡ Some x.0 = value_found l refl q (inl refl) at m view table as_is (Some x.0) z.stripes x.1 in
           λ none. none-some x.0 (sym none ∙ one)
 
--- why a rename is refused that has made room and tried once more
-abbrev pub fault_again : Option KeysRefused → RoomFault
-fault_again None = fault.NoSlot
-fault_again (Some why) = fault.Keys why
-
 module _ {V : Type 0} where
-  -- no room has been sought
-  pub sought_none : {hash : Name → ℕ} {set : Settings} {r : Name} (p : PassState V) → HasSoughtRoom hash set r p p
-  sought_none p = record { more = []; own = All-nil _; stays = stays_same p.view; grown = grown_none p p (refl, refl) }
-
   -- a refused call on several names notes nothing
   notes_nothing : (hash : Name → ℕ) (set : Settings) (names : List Name) (why : KeysRefused) (p z : PassState V) → RefusesNames hash set names p z why → (z.view.no_slot ≡ p.view.no_slot) × DoublesNothing p z
   notes_nothing hash set names (keys.Busy t) p z h = (h.stays.no_slot, (h.stays.doublings, h.stays.grown_from))
@@ -134,72 +129,87 @@ module _ {V : Type 0} where
     found_once f = (f.0, f.1, λ t i. inl (f.2 t i))
 
     pub answered_once : (came : Renamed) → HasRenamedOnce hash set q r key (Ok came) p z → HasRenamed hash set q r key (Ok came) p z
-    answered_once came once = let stays = once.answered.3.stays in record { answered = (p, sought_none p, once.answered); refused = tt; sought = inl (stays.no_slot, (stays.doublings, stays.grown_from)); found = found_once once.found }
+    answered_once came once = let stays = once.answered.3.stays in record { answered = (p, inl refl, once.answered); refused = tt; sought = inl (stays.no_slot, (stays.doublings, stays.grown_from)); found = found_once once.found }
 
     pub refused_once : (back : K) (why : KeysRefused) → HasRenamedOnce hash set q r key (Err (back, Some why)) p z → HasRenamed hash set q r key (Err (record { key = back; why = fault.Keys why })) p z
-    refused_once back why once = record { answered = tt; refused = (once.refused.0, (p, sought_none p, once.refused.1)); sought = inl (notes_nothing hash set (q ∷ r ∷ []) why p z once.refused.1); found = found_once once.found }
+    refused_once back why once = record { answered = tt; refused = (once.refused.0, inl once.refused.1); sought = inl (notes_nothing hash set (q ∷ r ∷ []) why p z once.refused.1); found = found_once once.found }
 
-  -- Since p the buckets of r were found full, as p1; p2 has tried to make room.
-  module _ {K : Type 0} (hash : Name → ℕ) (w : WordsState) (q r : Name) (key : K) (p p1 p2 : PassState V) (caller : IsCaller w p1) (lacks : LacksSlot q r p p1) (before : FindsAmong (IsStripeOfAny hash w.settings (q ∷ r ∷ [])) p p1)
-      (found : FindsOwnUnlessFull hash w.settings r p1 p2) where
-    full : HasFoundNoRoom r p p1
-    full = (lacks.0, lacks.1)
+  -- Since p the buckets of r were found full, as p1. It is z since room was sought for both names.
+  module _ {K : Type 0} (hash : Name → ℕ) (set : Settings) (q r : Name) (key : K) (p p1 z : PassState V) (lacks : LacksSlot q r p p1) (before : FindsAmong (IsStripeOfAny hash set (q ∷ r ∷ [])) p p1) (found : FindsAny p1 z) where
+    module _ (more : List (RoomNote V)) (said : z.view.no_slot ≡ more ++ p1.view.no_slot) where
+      -- the first note
+      abbrev first : RoomNote V
+      first = noted r NoRoom lacks.0
 
-    -- what was noted since is behind that
-    sought_late : (z : PassState V) (more : List (RoomNote V)) → z.view.no_slot ≡ more ++ p1.view.no_slot → SeeksSlot q r p z
-    sought_late z more said = inr (lacks.0, more, said ∙ ap (λ l. more ++ l) lacks.1.no_slot, lacks.2)
+      said_since : z.view.no_slot ≡ more ++ first ∷ p.view.no_slot
+      said_since = said ∙ ap (λ l. more ++ l) lacks.1.no_slot
 
-    tried : HasTried r w p1 p1
-    tried = tried_same r w p1 caller.own caller.idle
+      says_no_room : SaysNoRoom r p z
+      says_no_room = (more ++ first ∷ [], lacks.0, said_since ∙ sym (append_assoc more (first ∷ []) p.view.no_slot), Contains-push more first)
 
-    any : FindsAny p p1
-    any = any_among _ p p1 before
+      sought_late : SeeksSlot q r p z
+      sought_late = inr (lacks.0, more, said_since, lacks.2)
 
-    any_then : FindsAny p p2
-    any_then = any_on p p1 p2 any (any_among _ p1 p2 found)
+      found_late : FindsAmong (λ t. IsStripeOfAny hash set (q ∷ r ∷ []) t ⊎ SaysNoRoom r p z) p z
+      found_late =
+          let all = any_on p p1 z (any_among _ p p1 before) found in
+          (all.0, all.1, λ t i. inr says_no_room)
 
-    -- it made none
-    pub refused_room : (why : Why) → IsRefused hash w.settings r why p1 p2 → HasRenamed hash w.settings q r key (Err (record { key = key; why = fault.Room why })) p p2
-    refused_room why said = record {
-      answered = tt;
-      refused = (refl, refused_after r w hash p p1 p1 p2 full any tried why said);
-      sought = sought_late p2 said.more said.stays.no_slot;
-      found = (any_then.0, any_then.1, λ t i. inr (says_no_room r w hash p p1 p1 p2 full any tried said.more said.stays));
-    }
+    pub refused_room : (why : RoomFault) → RefusesRoom hash set (q ∷ r ∷ []) p1 z why → HasRenamed hash set q r key (Err (record { key = key; why = why })) p z
+    refused_room why refused =
+        let goes = goes_without_room hash set (q ∷ r ∷ []) why p1 z refused in
+        record { answered = tt; refused = (refl, inr (p1, lacks, refused)); sought = sought_late goes.0 goes.1.no_slot; found = found_late goes.0 goes.1.no_slot }
 
-    -- it has made some, and tried once more
-    module _ (made : HasSoughtRoom hash w.settings r p1 p2) (z : PassState V) where
-      sought : HasSoughtRoom hash w.settings r p p2
-      sought = sought_since r w hash p p1 p1 p2 full any tried made.more made.stays made.own made.grown
+    pub answered_room : (came : Renamed) (m : PassState V) (all : Bool) → SeeksRoom hash set (q ∷ r ∷ []) all p1 m → (before after : List (Option V)) → Renames came before after → IsAnswered (SessionOn (q ∷ r ∷ []) before after) Closed m z
+        → HasRenamed hash set q r key (Ok came) p z
+    answered_room came m all sought old new renames answered =
+        let goes = goes_seeking_room hash set (q ∷ r ∷ []) all p1 m sought in
+        let said : z.view.no_slot ≡ goes.0 ++ p1.view.no_slot = answered.stays.no_slot ∙ goes.1.no_slot in
+        record { answered = (m, inr (p1, all, lacks, sought), (old, new, renames, answered)); refused = tt; sought = sought_late goes.0 said; found = found_late goes.0 said }
 
-      found_again : (more : List (RoomNote V)) → z.view.no_slot ≡ more ++ p2.view.no_slot → FindsAmong (IsStripeOfAny hash w.settings (q ∷ r ∷ [])) p2 z → FindsAmong (λ t. IsStripeOfAny hash w.settings (q ∷ r ∷ []) t ⊎ SaysNoRoom r p z) p z
-      found_again more said f =
-          let all = any_on p p2 z any_then (any_among _ p2 z f) in
-          let says = says_no_room r w hash p p1 p1 p2 full any tried made.more made.stays in
-          (all.0, all.1, λ t i. inr (more ++ says.0, says.1, said ∙ (ap (λ l. more ++ l) says.2 ∙ sym (append_assoc more says.0 p.view.no_slot)), Contains-append_right more says.0 _ says.3))
+  -- a refused rename keeps its caller's number
+  by_not_renamed : (hash : Name → ℕ) (set : Settings) (q r : Name) (p z : PassState V) (e : RoomFault) → IsNotRenamed hash set q r e p z → z.view.by ≡ p.view.by
+  by_not_renamed hash set q r p z (fault.Keys why) (inl h) = by_kept hash set (q ∷ r ∷ []) p z why h
+  by_not_renamed hash set q r p z (fault.Room why) (inl h) = absurd h
+  by_not_renamed hash set q r p z e (inr h) = (goes_without_room hash set (q ∷ r ∷ []) e h.0 z h.2).1.by ∙ h.1.1.by
 
-      -- with what was noted while room was sought
-      sought_again : (more : List (RoomNote V)) → z.view.no_slot ≡ more ++ p2.view.no_slot → SeeksSlot q r p z
-      sought_again more said = sought_late z (more ++ made.more) (said ∙ (ap (λ l. more ++ l) made.stays.no_slot ∙ sym (append_assoc more made.more p1.view.no_slot)))
+  -- nor was anything answered while room was sought for both names
+  goes_to_rename : (hash : Name → ℕ) (set : Settings) (q r : Name) (p m : PassState V) → SeeksRoomToRename hash set q r p m → GoesOn p m
+  goes_to_rename hash set q r p m (inl h) = goes_same p m h
+  goes_to_rename hash set q r p m (inr h) = goes_then p h.0 m (goes_but p h.0 h.2.1) (goes_seeking_room hash set (q ∷ r ∷ []) h.1 h.0 m h.3)
 
-      pub answered_again : (came : Renamed) → HasRenamedOnce hash w.settings q r key (Ok came) p2 z → HasRenamed hash w.settings q r key (Ok came) p z
-      answered_again came once = record {
-        answered = (p2, sought, once.answered);
-        refused = tt;
-        sought = sought_again [] once.answered.3.stays.no_slot;
-        found = found_again [] once.answered.3.stays.no_slot once.found;
-      }
+  -- A rename had the pass p of the caller c, and left z. The table that it was made on, v, is the caller's.
+  module _ {w : WordsState} {c : CallerState V} (p z : PassState V) (is : caller_of w p ≡ c) (caller : IsCaller w p) {v : WordsState} (at : v ≡ w) (after : IsCaller v z) {K : Type 0} (hash : Name → ℕ) (q r : Name) (key : K) where
+    record Leaves (came : Renamed) : Type 0 where
+      same : IsSameCaller c (caller_of w z)
+      answered : (before after : List (Option V)) × Renames came before after × Replies (SessionOn (q ∷ r ∷ []) before after) c (caller_of w z) Closed
+      notes : (m : PassState V) × SeeksRoomToRename hash c.table.settings q r (pass_of c) m × KeepsNotes (caller_of c.table m) (caller_of w z)
 
-      pub refused_again : (back : K) (why : Option KeysRefused) → HasRenamedOnce hash w.settings q r key (Err (back, why)) p2 z → HasRenamed hash w.settings q r key (Err (record { key = back; why = fault_again why })) p z
-      refused_again back None once = record {
-        answered = tt;
-        refused = (once.refused.0, (p2, sought, (once.refused.1.0, once.refused.1.1)));
-        sought = sought_again (noted r NoRoom once.refused.1.0 ∷ []) once.refused.1.1.no_slot;
-        found = found_again (noted r NoRoom once.refused.1.0 ∷ []) once.refused.1.1.no_slot once.found;
-      }
-      refused_again back (Some why) once = record {
-        answered = tt;
-        refused = (once.refused.0, (p2, sought, once.refused.1));
-        sought = sought_again [] (notes_nothing hash w.settings (q ∷ r ∷ []) why p2 z once.refused.1).0;
-        found = found_again [] (notes_nothing hash w.settings (q ∷ r ∷ []) why p2 z once.refused.1).0 once.found;
-      }
+    leaves : (came : Renamed) (m : PassState V) → SeeksRoomToRename hash w.settings q r p m → (old new : List (Option V)) → Renames came old new → IsAnswered (SessionOn (q ∷ r ∷ []) old new) Closed m z → Leaves came
+    leaves came m sought old new renames a =
+        let call = SessionOn (q ∷ r ∷ []) old new in
+        let goes = goes_to_rename hash w.settings q r p m sought in
+        let there : IsAnswered call Closed (as_doubled m z) z = counted_back (λ x. IsAnswered call Closed x z) m z (a.stays.doublings, a.stays.grown_from) a in
+        let since : IsAnsweredBut goes.0 call Closed (as_doubled p z) z = answered_since goes.0 (as_doubled p m) m m z goes.1 refl call Closed there in
+        record {
+          same = same_caller p z is since.stays.by;
+          answered = (old, new, renames, replied p z is call since);
+          notes = (
+            m,
+            subst (λ (x : CallerState V). SeeksRoomToRename hash x.table.settings q r (pass_of x) m) is (subst (λ (x : PassState V). SeeksRoomToRename hash w.settings q r x m) (sym (as_pass caller)) sought),
+            (replies m z (ap (λ (x : CallerState V). caller_of x.table m) is) call Closed a).1.1,
+          );
+        }
+
+    pub rename_left : (o : Result Renamed (NotRenamed K)) → HasRenamed hash v.settings q r key o p z → RenameLeaves hash q r key o c (caller_of w z)
+    rename_left o there =
+        let did = subst (λ (t : WordsState). HasRenamed hash t.settings q r key o p z) at there in
+        let told : IfOk o Leaves = IfOk-weaker o _ _ (λ came h. leaves came h.0 h.1 h.2.0 h.2.1 h.2.2 h.2.3) did.answered in
+        record {
+          same = by_result o told did.refused (λ came h. h.same) (λ e h. same_caller p z is (by_not_renamed hash w.settings q r p z e.why h.1));
+          answered = IfOk-weaker o _ _ (λ came h. h.answered) told;
+          notes = IfOk-weaker o _ _ (λ came h. h.notes) told;
+          sought = over p z is caller at after (λ t a b. SeeksSlot q r a b) there.sought;
+          refused = over p z is caller at after (λ t a b. IfErr o (λ back. (back.key ≡ key) × IsNotRenamed hash t.settings q r back.why a b)) there.refused;
+          found = over p z is caller at after (λ t a b. FindsAmong (λ n. IsStripeOfAny hash t.settings (q ∷ r ∷ []) n ⊎ SaysNoRoom r a b) a b) there.found;
+        }

@@ -37,7 +37,6 @@ fault_of_why whys.LoadTooLow = faults.LoadTooLow
 abbrev pub fault_of_room : RoomFault → Fault
 fault_of_room (rooms.Keys why) = fault_of_keys why
 fault_of_room (rooms.Room why) = fault_of_why why
-fault_of_room rooms.NoSlot = faults.NoSlot
 
 -- of a growth
 abbrev pub fault_of_growth : GrowFault → Fault

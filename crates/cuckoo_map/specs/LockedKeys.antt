@@ -19,11 +19,10 @@ use Rattle.ck_words.specs.Words.{WordsState}
 use Rattle.ck_words.specs.Passes.{PassState, IsPassOf, numbers_of}
 use Rattle.ck_model.specs.Paths.{HasNoRoom}
 use Rattle.cuckoo_map.specs.declared.refusal.NoSlot.{NoSlot}
-use Rattle.cuckoo_map.specs.SeveralKeys.{IsStripeOfAny}
 use Rattle.cuckoo_map.specs.Callers.{CallerState, IsSameCaller, StaysAsIs, FindsHeldAmong}
 use Rattle.cuckoo_map.specs.Locking.{LockedState, locked_of, start_of, map_of, HasActed}
 
--- The names, and what a whole table shows that is locked: the caller, what the stripes contained when they were locked, and the stripes. They are those of the names alone.
+-- The names, and what a whole table shows that is locked: the caller, what the stripes contained when they were locked, and the stripes. They are those of the names, or all.
 pub record KeysState (V : Type 0) : Type 0 where
   pub names : List Name
   pub session : LockedState V
@@ -72,16 +71,16 @@ module _ {V : Type 0} where
     pub unchanged : l ≡ k
     pub full : HasNoRoom (layout_of hash k.session.caller.table.settings) (contents_of k.session.stripes) q
 
-  -- The caller has locked the names. They are different, and nothing has changed.
-  pub record HasLockedKeys (hash : Name → ℕ) (qs : List Name) (c : CallerState V) (k : KeysState V) : Type 0 where
+  -- The caller has locked the names. They are different, and nothing has changed. It found no stripe held but such ones.
+  pub record HasLockedKeys (P : ℕ → Type 0) (qs : List Name) (c : CallerState V) (k : KeysState V) : Type 0 where
     pub names : k.names ≡ qs
     pub different : AreDifferent qs
     pub same : IsSameCaller c k.session.caller
     pub stays : StaysAsIs c k.session.caller
-    pub found : FindsHeldAmong (IsStripeOfAny hash c.table.settings qs) c k.session.caller
+    pub found : FindsHeldAmong P c k.session.caller
     pub unchanged : map_of k.session ≡ start_of k.session
 
-  -- The pass of a caller holds these stripes, which are those of the names, settled. What they contain is lawful, with the power of when they were taken, and no other name is bound otherwise than then.
+  -- The pass of a caller holds these stripes, those of the names among them, settled. What they contain is lawful, with the power of when they were taken, and no other name is bound otherwise than then.
   pub record HoldsKeys (hash : Name → ℕ) (w : WordsState) (stripes : StripeSet) (names : List Name) (p : PassState V) : Type 0 where
     pub own : IsPassOf w p
     pub alone : p.view.others ≡ []

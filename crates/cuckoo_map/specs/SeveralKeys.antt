@@ -32,7 +32,7 @@ StandsAgain (q ∷ qs) zero = IsAmong q qs
 StandsAgain (q ∷ qs) (suc i) = StandsAgain qs i
 
 module _ {V : Type 0} where
-  -- Since p the pass has taken these stripes, which are those of the names, and has settled them.
+  -- Since p the pass has taken these stripes, those of the names among them, and has settled them.
   pub record HoldsNames (hash : Name → ℕ) (set : Settings) (qs : List Name) (stripes : StripeSet) (p p2 : PassState V) : Type 0 where
     pub stays : Stays p.view p2.view
     pub owned : (q : Name) → IsAmong q qs → HasBoth hash set.s p2.stripes q

@@ -177,7 +177,6 @@ impl From<RoomFault> for Fault {
         match refused {
             RoomFault::Keys(why) => Fault::from(why),
             RoomFault::Room(why) => Fault::from(why),
-            RoomFault::NoSlot => Fault::NoSlot,
         }
     }
 }

@@ -1,22 +1,30 @@
 //! Keys that are locked once there is room for each of them.
-ghost use Rattle.std.specs.Prelude.{◌≡◌, ◌<◌, ◌≤◌, OnOk, OnErr, IfOk, IfErr, MatchOption, length};
+ghost use Rattle.std.specs.Prelude.{◌≡◌, ◌<◌, ◌≤◌, Bool, OnOk, OnErr, IfOk, IfErr, MatchOption, length};
 ghost use Rattle.ck_model.specs.Promise.{AreDifferent};
 ghost use Rattle.ck_section.specs.RoomForAll.{HaveRoomForAll};
 ghost use Rattle.ck_words.specs.Passes.{IsPassOf};
 ghost use Rattle.ck_words.specs.Closing.{IsCaller};
 ghost use Rattle.ck_words.specs.Retries.{FindsAmong};
 ghost use Rattle.cuckoo_map.specs.SeveralKeys.{IsStripeOfAny, HoldsNames, RefusesNames};
-ghost use Rattle.cuckoo_map.specs.RoomForKeys.{SeeksRoomForEach, LacksRoomForOne, LacksRoomForAll, MakesRoomForEach, RefusesRoom, names_of};
+ghost use Rattle.cuckoo_map.specs.Refusals.{IsStripeIn};
+ghost use Rattle.cuckoo_map.specs.Displacing.{FindsAny};
+ghost use Rattle.cuckoo_map.specs.RoomForKeys.{SeeksRoomForEach, LacksRoomForOne, LacksRoomForAll, MakesRoomForEach, LacksRoomStill, GrowsForAll, IsStripeTried, SeeksRoom, IsNotGrown, RefusesRoomForEach, RefusesRoom, names_of};
 
 use crate::refusal::{KeysRefused, RoomFault, Why};
 use crate::table::Table;
 use ck_key::TableKey;
-use ck_section::has_room_for_all;
+use ck_model::settings::Settings;
+use ck_section::{grow, has_room_for_all};
+use ck_stripe::settle_all;
 use ck_words::{Pass, StripeSet, guard};
 
+// A doubling raises the power, which is at most 26. So among so many tries there is one at which the
+// table doesn't grow.
+const MOST_TRIES: u32 = 27;
+
 impl<K: TableKey + Drop, V: Drop> Table<K, V> {
-    // Takes the stripes of these keys once there is room for each: if there isn't, it makes room for
-    // each in turn, and tries once more.
+    // Takes the stripes of these keys once there is room for each. Where room for each in turn is too
+    // little for all at once, the table grows, and it tries again.
     pub(crate) fn lock_with_room(
         &self,
         pass: &mut Pass<K, V>,
@@ -27,26 +35,108 @@ impl<K: TableKey + Drop, V: Drop> Table<K, V> {
         requires few { length keys.now ≤ 8 }
         ensures own { IsPassOf self.now pass.new }
         ensures different { OnOk result (AreDifferent (names_of K.name keys.now)) }
-        ensures held { IfOk result (λ stripes. (m : _) × IsCaller self.now m
+        ensures held { IfOk result (λ stripes. (m : _) × (all : Bool) × IsCaller self.now m
+            × SeeksRoom K.hash self.now.settings (names_of K.name keys.now) all pass.old m
+            × HoldsNames K.hash self.now.settings (names_of K.name keys.now) stripes m pass.new
+            × FindsAmong
+            (IsStripeTried K.hash self.now.settings (names_of K.name keys.now) all) m pass.new
+            × HaveRoomForAll K.hash self.now.settings.s pass.new.stripes
+            (names_of K.name keys.now)) }
+        ensures found { FindsAny pass.old pass.new }
+        ensures caller { OnErr result (IsCaller self.now pass.new) }
+        ensures refused { IfErr result (RefusesRoom K.hash self.now.settings
+            (names_of K.name keys.now) pass.old pass.new) }
+    {
+        self.words.show_range();
+        for _ in 0..MOST_TRIES {
+            if let Some(stripes) = self.lock_with_room_for_each(pass, keys)? {
+                return Ok(stripes);
+            }
+            match self.lock_all_or_grow(pass, keys) {
+                Ok(None) => {}
+                Ok(Some(stripes)) => return Ok(stripes),
+                Err(why) => return Err(RoomFault::Room(why)),
+            }
+        }
+        unreachable!()
+    }
+
+    // Takes the stripes of these keys if there is room for each. If there isn't, it makes room for
+    // each in turn, and tries once more.
+    fn lock_with_room_for_each(
+        &self,
+        pass: &mut Pass<K, V>,
+        keys: &[&K],
+    ) -> Result<Option<StripeSet>, RoomFault>
+        requires caller { IsCaller self.now pass.old }
+        requires some { 0 < length keys.now }
+        requires few { length keys.now ≤ 8 }
+        ensures own { IsPassOf self.now pass.new }
+        ensures different { OnOk result (AreDifferent (names_of K.name keys.now)) }
+        ensures answered { IfOk result (λ taken. MatchOption taken
+            (IsCaller self.now pass.new
+            × LacksRoomStill K.hash self.now.settings (names_of K.name keys.now)
+            pass.old pass.new)
+            (λ stripes. (m : _) × IsCaller self.now m
             × MakesRoomForEach K.hash self.now.settings (names_of K.name keys.now) pass.old m
             × HoldsNames K.hash self.now.settings (names_of K.name keys.now) stripes m pass.new
             × FindsAmong (IsStripeOfAny K.hash self.now.settings (names_of K.name keys.now))
             m pass.new
             × HaveRoomForAll K.hash self.now.settings.s pass.new.stripes
-            (names_of K.name keys.now)) }
+            (names_of K.name keys.now))) }
+        ensures found { FindsAny pass.old pass.new }
         ensures caller { OnErr result (IsCaller self.now pass.new) }
-        ensures refused { IfErr result (RefusesRoom K.hash self.now.settings
+        ensures refused { IfErr result (RefusesRoomForEach K.hash self.now.settings
             (names_of K.name keys.now) pass.old pass.new) }
     {
         if let Some(stripes) = self.lock_if_room(pass, keys)? {
-            return Ok(stripes);
+            return Ok(Some(stripes));
         }
         if let Err(why) = self.make_room_for_each(pass, keys) {
             return Err(RoomFault::Room(why));
         }
-        match self.lock_if_room(pass, keys)? {
-            Some(stripes) => Ok(stripes),
-            None => Err(RoomFault::NoSlot),
+        Ok(self.lock_if_room(pass, keys)?)
+    }
+
+    // Takes all stripes, and keeps them if there is room for each of these keys. If there isn't, the
+    // table doubles, and they are given back.
+    fn lock_all_or_grow(
+        &self,
+        pass: &mut Pass<K, V>,
+        keys: &[&K],
+    ) -> Result<Option<StripeSet>, Why>
+        requires caller { IsCaller self.now pass.old }
+        ensures own { IsPassOf self.now pass.new }
+        ensures answered { IfOk result (λ taken. MatchOption taken
+            (IsCaller self.now pass.new
+            × GrowsForAll K.hash self.now.settings (names_of K.name keys.now) pass.old pass.new)
+            (λ stripes. HoldsNames K.hash self.now.settings (names_of K.name keys.now) stripes
+            pass.old pass.new
+            × HaveRoomForAll K.hash self.now.settings.s pass.new.stripes
+            (names_of K.name keys.now))) }
+        ensures found { FindsAmong (IsStripeIn self.now.settings) pass.old pass.new }
+        ensures caller { OnErr result (IsCaller self.now pass.new) }
+        ensures refused { IfErr result (λ why. IsNotGrown K.hash self.now.settings
+            (names_of K.name keys.now) why pass.old pass.new) }
+    {
+        let Settings {
+            s,
+            max,
+            min_load,
+            ..
+        } = self.words.settings();
+        self.lock_all(pass)?;
+        let all = self.words.all();
+        let mut guard = guard!(&self.words, pass, all);
+        settle_all(&mut guard);
+        if has_room_for_all(&mut guard, s, keys) {
+            return Ok(Some(all));
+        }
+        let grown = grow(&mut guard, s, max, min_load, &mut None);
+        guard.renew();
+        match grown {
+            Ok(()) => Ok(None),
+            Err(lack) => Err(Why::of(lack)),
         }
     }
 
@@ -91,6 +181,7 @@ impl<K: TableKey + Drop, V: Drop> Table<K, V> {
         ensures caller { IsCaller self.now pass.new }
         ensures made { OnOk result (SeeksRoomForEach K.hash self.now.settings
             (names_of K.name keys.now) pass.old pass.new) }
+        ensures found { FindsAny pass.old pass.new }
         ensures refused { IfErr result (λ why. LacksRoomForOne K.hash self.now.settings
             (names_of K.name keys.now) why pass.old pass.new) }
     {

@@ -1,5 +1,5 @@
 //! Some keys under one caller.
-ghost use Rattle.std.specs.Prelude.{◌≡◌, ◌<◌, ◌≤◌, Some, None, IsOk, IfOk, IfErr, MatchOption, MatchBool, length, map, is_some};
+ghost use Rattle.std.specs.Prelude.{◌≡◌, ◌<◌, ◌≤◌, Bool, Some, None, IsOk, IfOk, IfErr, MatchOption, MatchBool, length, map, is_some};
 ghost use Rattle.std.specs.Fn.{FnOnceReturnsAt};
 ghost use Rattle.ck_model.specs.declared.history.Reply.TheVariants.{Closed};
 ghost use Rattle.ck_model.specs.Promise.{IsAmong, Replied};
@@ -8,7 +8,7 @@ ghost use Rattle.cuckoo_map.specs.Callers.{caller_of, pass_of, IsSameCaller, Kee
 ghost use Rattle.cuckoo_map.specs.Insertions.{TellsOf};
 ghost use Rattle.cuckoo_map.specs.SeveralKeys.{IsStripeOfAny};
 ghost use Rattle.cuckoo_map.specs.LockedKeys.{HasLockedKeys, ActsOn, value_of, keys_call, LacksSlot, HasRoomForNames, KeepsRoom, name_at};
-ghost use Rattle.cuckoo_map.specs.RoomForKeys.{MakesRoomForEach, RefusesRoom, names_of};
+ghost use Rattle.cuckoo_map.specs.RoomForKeys.{IsStripeTried, SeeksRoom, RefusesRoom, names_of};
 
 use crate::caller::CallerOn;
 use crate::locked::make_in;
@@ -72,7 +72,9 @@ impl<T: TableRef<K, V> + Drop, K: TableKey + Drop, V: Drop> CallerOn<T, K, V> {
     ) -> Result<LockedKeysOn<'_, T, K, V, Q>, KeysNotLocked<CallerOn<T, K, V>>>
         requires some { 0 < N }
         requires few { N ≤ 8 }
-        ensures locked { IfOk result (HasLockedKeys K.hash (map Q.name keys.now) self) }
+        ensures locked { IfOk result (HasLockedKeys
+            (IsStripeOfAny K.hash self.table.settings (map Q.name keys.now)) (map Q.name keys.now)
+            self) }
         ensures same { IfErr result (λ back. IsSameCaller self back.caller) }
         ensures refused { IfErr result (λ back.
             IsRefusedOn K.hash (map Q.name keys.now) self back.caller back.why) }
@@ -99,7 +101,12 @@ impl<T: TableRef<K, V> + Drop, K: TableKey + Drop, V: Drop> CallerOn<T, K, V> {
 impl<T: TableRef<K, V> + Drop, K: TableKey + Drop, V: Drop> CallerOn<T, K, V> {
     /// `lock_keys`, once there is room for each of the keys: no insertion of one of them is refused
     /// until they are unlocked, whatever is bound and unbound before. If there is none, it is made for
-    /// each key in turn, as `make_room` does. Refused, it gives the caller back.
+    /// each key in turn, as `make_room` does. Where that is too little for all at once, since some of
+    /// the keys share buckets or others took it, the table doubles, as for an insertion, and it is
+    /// tried again. If there is room only now that all stripes are taken, all stay locked.
+    ///
+    /// Refused, it gives the caller back: as a call on these keys is, or as an insertion of one of
+    /// them.
     ///
     /// ```
     /// let keys = [&NumKey(1), &NumKey(2)];
@@ -114,10 +121,11 @@ impl<T: TableRef<K, V> + Drop, K: TableKey + Drop, V: Drop> CallerOn<T, K, V> {
     ) -> Result<LockedKeysOn<'k, T, K, V, &'k K>, KeysWithoutRoom<CallerOn<T, K, V>>>
         requires some { 0 < length keys.now }
         requires few { length keys.now ≤ 8 }
-        ensures locked { IfOk result (λ locked. (m : _)
-            × MakesRoomForEach K.hash self.table.settings (names_of K.name keys.now)
-            (pass_of self) m
-            × HasLockedKeys K.hash (names_of K.name keys.now) (caller_of self.table m) locked) }
+        ensures locked { IfOk result (λ locked. (m : _) × (all : Bool)
+            × SeeksRoom K.hash self.table.settings (names_of K.name keys.now) all (pass_of self) m
+            × HasLockedKeys
+            (IsStripeTried K.hash self.table.settings (names_of K.name keys.now) all)
+            (names_of K.name keys.now) (caller_of self.table m) locked) }
         ensures room { IfOk result (HasRoomForNames K.hash) }
         ensures same { IfErr result (λ back. IsSameCaller self back.caller) }
         ensures refused { IfErr result (λ back. RefusesRoom K.hash self.table.settings

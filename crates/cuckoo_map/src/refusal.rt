@@ -272,14 +272,10 @@ pub enum RoomFault {
     /// A key stands twice, or a stripe of the keys was found held too often.
     #[error("{0}")]
     Keys(KeysRefused),
-    /// There is no room for a key, and none could be made: as an insertion of it is refused. The table
-    /// may have grown all the same.
+    /// There is no room for a key, or too little for all at once, and none could be made: as an
+    /// insertion is refused. The table may have grown all the same.
     #[error("{0}")]
     Room(Why),
-    /// Room was made for each key, and there was too little again: others took it, or several of the
-    /// keys have the same buckets.
-    #[error("the room that was made was taken by others: try again")]
-    NoSlot,
 }
 
 impl From<KeysRefused> for RoomFault {

@@ -38,7 +38,7 @@ impl<K: TableKey + Drop, V: Drop> Table<K, V> {
         }
     }
 
-    // The same where the buckets of `to` were found full: it makes room, and tries once more.
+    // The same where the buckets of `to` were found full: it locks both keys once there is room.
     #[cold]
     #[inline(never)]
     fn rename_with_room(
@@ -57,20 +57,16 @@ impl<K: TableKey + Drop, V: Drop> Table<K, V> {
         ensures renamed { HasRenamed K.hash self.now.settings (K.name from.now) (K.name to) to
             result since.value pass.new }
     {
-        if let Err(why) = self.make_room_ahead(pass, &to) {
-            let why = RoomFault::Room(why);
-            return Err(NotRenamed { key: to, why });
-        }
-        match self.rename_once(pass, from, to) {
-            Ok(renamed) => Ok(renamed),
-            Err((key, why)) => {
-                let why = match why {
-                    Some(why) => RoomFault::Keys(why),
-                    None => RoomFault::NoSlot,
-                };
-                Err(NotRenamed { key, why })
-            }
-        }
+        let names = [Snapshot::of(from), Snapshot::of(&to)];
+        let stripes = match self.lock_with_room(pass, &[from, &to]) {
+            Ok(stripes) => stripes,
+            Err(why) => return Err(NotRenamed { key: to, why }),
+        };
+        let Ok(renamed) = self.rename_held(pass, stripes, from, to) else {
+            unreachable!()
+        };
+        guard!(&self.words, pass, stripes).commit_session_of(&names);
+        Ok(renamed)
     }
 
     // One try, which makes no room. Where that is the cause, it is refused for no other reason.

@@ -2,7 +2,7 @@ use Rattle.std.proofs.Common.{map, sym, subst}
 use Rattle.ck_words.specs.Words.{WordsState}
 use Rattle.ck_words.specs.Passes.{PassState}
 use Rattle.ck_words.specs.Closing.{IsCaller}
-use Rattle.cuckoo_map.specs.SeveralKeys.{RefusesNames}
+use Rattle.cuckoo_map.specs.SeveralKeys.{IsStripeOfAny, RefusesNames}
 use Rattle.cuckoo_map.specs.Callers.{CallerState, caller_of}
 use Rattle.cuckoo_map.specs.LockedKeys.{HoldsKeys, HasLockedKeys, keys_of}
 use Rattle.cuckoo_map.proofs.Callers.{over}
@@ -26,9 +26,9 @@ returns-in-Ok-clause-locked g c =
     let hash = g.K.TableKey.hash in
     let w = g.T.TableRef.state c.self.inside.table in
     let caller = subst (λ (v : WordsState). IsCaller v p) (sym c.table.ensures) c.self.invariant in
-    subst (λ (x : CallerState g.row.V.Denot). HasLockedKeys hash names x (keys_of w names p2)) c.self.view_is
-    (subst (λ (v : WordsState). HasLockedKeys hash names (caller_of v p) (keys_of v names p2)) c.table.ensures
-    (has_locked_keys p p2 caller c.in-Ok.ensures.different c.in-Ok.ensures.held c.in-Ok.ensures.found))
+    subst (λ (x : CallerState g.row.V.Denot). HasLockedKeys (IsStripeOfAny hash x.table.settings names) names x (keys_of w names p2)) c.self.view_is
+    (subst (λ (v : WordsState). HasLockedKeys (IsStripeOfAny hash v.settings names) names (caller_of v p) (keys_of v names p2)) c.table.ensures
+    (has_locked_keys _ p p2 caller c.in-Ok.ensures.different c.in-Ok.ensures.held c.in-Ok.ensures.found))
 
 pub returns-in-Err-clause-refused : goal.returns-in-Err-clause-refused
 returns-in-Err-clause-refused g c =

@@ -1,4 +1,4 @@
-use Rattle.cuckoo_map.proofs.Callers.{rename_left}
+use Rattle.cuckoo_map.proofs.Renaming.{rename_left}
 use Rattle.cuckoo_map.proofs.caller.CallerOn.rename.Goals as goal
 
 pub returns : goal.returns

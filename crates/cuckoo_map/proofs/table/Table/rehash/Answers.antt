@@ -29,8 +29,8 @@ returns-in-Err-clause-stays g c =
 pub returns-in-Ok-clause-rehashed : goal.returns-in-Ok-clause-rehashed
 returns-in-Ok-clause-rehashed g c =
     let there : c.renew.new.self.pass.now ≡ c.pass-1.given.0 = search rules in
-    rw (← there) (answered_home (below_max c.self.view_is c.settings-s.ensures.value c.if-max-power.false) c.args.pass.now c.lock_all.new.pass c.double_to-grown.new.held.pass.now c.renew.new.self.pass.now
-    c.lock_all.ensures.stays c.in_ok-lock_all.ensures.whole c.in_ok-lock_all.ensures.table c.double_to-grown.ensures.stays.1 c.renew.ensures.told
+    rw (← there) (answered_home c.args.pass.now c.lock_all.new.pass c.double_to-grown.new.held.pass.now c.renew.new.self.pass.now
+    c.lock_all.ensures.stays c.in_ok-lock_all.ensures.whole c.in_ok-lock_all.ensures.table c.double_to-grown.ensures.stays.1 c.renew.ensures.told (below_max c.self.view_is c.settings-s.ensures.value c.if-max-power.false)
     (renewed_there c.self.view_is c.lock_all.new.pass c.double_to-grown.new.held.pass.now c.double_to-grown.ensures.stays.1 (s_of c.self.view_is c.settings-s.ensures.value)
     (below_max c.self.view_is c.settings-s.ensures.value c.if-max-power.false) c.in_ok-lock_all.ensures.whole c.double_to-grown.ensures.no_call)
     c.lock_all.ensures.stays.doublings c.renew.ensures.doubled c.in-Ok.grown c.in-Ok.ensures.reached)
@@ -38,8 +38,8 @@ returns-in-Ok-clause-rehashed g c =
 pub returns-in-Err-clause-rehashed : goal.returns-in-Err-clause-rehashed
 returns-in-Err-clause-rehashed g c =
     let there : c.renew.new.self.pass.now ≡ c.pass-1.given.0 = search rules in
-    rw (← there) (short_home (below_max c.self.view_is c.settings-s.ensures.value c.if-max-power.false) c.args.pass.now c.lock_all.new.pass c.double_to-grown.new.held.pass.now c.renew.new.self.pass.now
-    c.lock_all.ensures.stays c.in_ok-lock_all.ensures.whole c.in_ok-lock_all.ensures.table c.double_to-grown.ensures.stays.1 c.renew.ensures.told
+    rw (← there) (short_home c.args.pass.now c.lock_all.new.pass c.double_to-grown.new.held.pass.now c.renew.new.self.pass.now
+    c.lock_all.ensures.stays c.in_ok-lock_all.ensures.whole c.in_ok-lock_all.ensures.table c.double_to-grown.ensures.stays.1 c.renew.ensures.told (below_max c.self.view_is c.settings-s.ensures.value c.if-max-power.false)
     (renewed_there c.self.view_is c.lock_all.new.pass c.double_to-grown.new.held.pass.now c.double_to-grown.ensures.stays.1 (s_of c.self.view_is c.settings-s.ensures.value)
     (below_max c.self.view_is c.settings-s.ensures.value c.if-max-power.false) c.in_ok-lock_all.ensures.whole c.double_to-grown.ensures.no_call)
     c.lock_all.ensures.stays.doublings c.renew.ensures.doubled c.in-Err.ensures.short)
