@@ -173,7 +173,7 @@ pub fn read<K: TableKey + Drop, V: Drop, H: Held<Stripe<K, V>>, R, F: FnOnce(&V)
 
 /// Puts a key and its value into a free slot. `partial` is that of the key.
 #[inline(always)]
-pub fn place<K: TableKey + Drop, V: Drop, H: Held<Stripe<K, V>>>(
+pub fn put<K: TableKey + Drop, V: Drop, H: Held<Stripe<K, V>>>(
     held: &mut H,
     at: HeldSlot,
     partial: u8,
@@ -191,7 +191,7 @@ pub fn place<K: TableKey + Drop, V: Drop, H: Held<Stripe<K, V>>>(
     held.visit_bucket(
         at.index,
         at.bucket,
-        |stripe: &mut Stripe<K, V>| stripe.place(at.bucket, at.slot, partial, key, value),
+        |stripe: &mut Stripe<K, V>| stripe.put(at.bucket, at.slot, partial, key, value),
     );
 }
 

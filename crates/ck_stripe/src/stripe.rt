@@ -159,7 +159,7 @@ impl<K: TableKey + Drop, V: Drop> Stripe<K, V> {
     }
 
     /// Puts a key and its value into a free slot of bucket `b`. `partial` is that of the key.
-    pub fn place(&mut self, b: u64, slot: usize, partial: u8, key: K, value: V)
+    pub fn put(&mut self, b: u64, slot: usize, partial: u8, key: K, value: V)
         requires settled { self.old.settled ≡ true }
         requires own { HasBucket self.old b }
         requires below { slot < 4 }
