@@ -6,7 +6,7 @@ ghost use Rattle.ck_bucket.specs.Rows.{no_entry};
 use crate::head::Head;
 use crate::rows::Rows;
 use ck_key::TableKey;
-use ck_room::{LeaseOfTwo, Places};
+use ck_room::{Deallocator, LeaseOfTwo, Places};
 use std::alloc::{AllocError, Global};
 use std::marker::Model;
 
@@ -16,7 +16,7 @@ pub struct BlankRows<K, V> {
     heads: Places<Head>,
     pairs: Places<(K, V)>,
     lease: LeaseOfTwo<(K, V), Head, Global>,
-    heap: Global,
+    dealloc: Deallocator<Global>,
 }
 
 impl<K, V> Model for BlankRows<K, V> {
@@ -29,7 +29,7 @@ impl<K, V> Model for BlankRows<K, V> {
     ghost view = { λ r. length (items_of r.heads) };
 
     ghost invariant = { λ r. AreBlank (items_of r.heads) (items_of r.pairs)
-        × IsLeaseOfTwo r.lease r.pairs r.heads r.heap };
+        × IsLeaseOfTwo r.lease r.pairs r.heads r.dealloc };
 }
 
 impl<K: TableKey, V> BlankRows<K, V> {
@@ -44,7 +44,7 @@ impl<K: TableKey, V> BlankRows<K, V> {
             heads,
             pairs,
             lease,
-            heap: alloc,
+            dealloc: Deallocator::of(alloc),
         })
     }
 
@@ -57,14 +57,14 @@ impl<K: TableKey, V> BlankRows<K, V> {
             mut heads,
             pairs,
             lease,
-            heap,
+            dealloc,
         } = self;
         fill(&mut heads, count);
         Rows {
             heads,
             pairs,
             lease,
-            heap,
+            dealloc,
         }
     }
 
@@ -76,9 +76,9 @@ impl<K: TableKey, V> BlankRows<K, V> {
             heads,
             pairs,
             lease,
-            heap,
+            dealloc,
         } = self;
-        ck_room::release_two(&heap, pairs, heads, lease, count * 4, count);
+        ck_room::release_two(&dealloc, pairs, heads, lease, count * 4, count);
     }
 }
 

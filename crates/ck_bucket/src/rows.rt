@@ -14,7 +14,7 @@ ghost use Rattle.ck_bucket.specs.Retaining.{AsksAboutSlot, AsksAboutRow};
 use crate::blank::BlankRows;
 use crate::head::Head;
 use ck_key::{Query, TableKey};
-use ck_room::{LeaseOfTwo, Places};
+use ck_room::{Deallocator, LeaseOfTwo, Places};
 use core::mem::replace_with;
 use std::alloc::{AllocError, Global};
 use std::marker::Model;
@@ -27,7 +27,7 @@ pub struct Rows<K: TableKey, V> {
     pub(crate) heads: Places<Head>,
     pub(crate) pairs: Places<(K, V)>,
     pub(crate) lease: LeaseOfTwo<(K, V), Head, Global>,
-    pub(crate) heap: Global,
+    pub(crate) dealloc: Deallocator<Global>,
 }
 
 impl<K: TableKey, V> Model for Rows<K, V> {
@@ -42,7 +42,7 @@ impl<K: TableKey, V> Model for Rows<K, V> {
     ghost view = { λ r. in_fours (seen_slots K.name (items_of r.pairs)) };
 
     ghost invariant = { λ r. KeepsHeads K.hash (items_of r.heads)
-        (seen_slots K.name (items_of r.pairs)) × IsLeaseOfTwo r.lease r.pairs r.heads r.heap };
+        (seen_slots K.name (items_of r.pairs)) × IsLeaseOfTwo r.lease r.pairs r.heads r.dealloc };
 }
 
 impl<K: TableKey, V> Rows<K, V> {
@@ -64,10 +64,10 @@ impl<K: TableKey, V> Rows<K, V> {
             mut heads,
             pairs,
             lease,
-            heap,
+            dealloc,
         } = self;
         drain(&mut heads, count);
-        ck_room::release_two(&heap, pairs, heads, lease, count * 4, count);
+        ck_room::release_two(&dealloc, pairs, heads, lease, count * 4, count);
     }
 
     /// The slot of the row with this key, whose partial the caller has at hand; `None` where no

@@ -15,9 +15,11 @@ use std::alloc::Allocator;
 use std::marker::{Model, PhantomData, Send, Sync};
 
 mod crossings;
+mod deallocator;
 mod two;
 mod values;
 
+pub use deallocator::Deallocator;
 pub use two::{open_two, release_two};
 
 /// A block of places, each empty or with a value. It doesn't know itself which are full: who uses

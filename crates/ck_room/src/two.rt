@@ -7,7 +7,7 @@ ghost use prog.Memory.{capped, up};
 ghost use Rattle.ck_room.specs.Memory.{pair_bytes, IsBlockSize};
 ghost use Rattle.ck_room.specs.Room.{items_of, IsLeaseOfTwo, AllNone};
 
-use crate::{LeaseOfTwo, Places};
+use crate::{Deallocator, LeaseOfTwo, Places};
 use std::alloc::{AllocError, Allocator};
 use std::marker::PhantomData;
 use std::mem::{align_of, size_of};
@@ -101,7 +101,7 @@ fn allocate_two<T, H, A: Allocator>(
 
 /// Frees a block whose places are all empty, of both kinds.
 pub fn release_two<T, H, A: Allocator>(
-    alloc: &A,
+    dealloc: &Deallocator<A>,
     places: Places<T>,
     heads: Places<H>,
     lease: LeaseOfTwo<T, H, A>,
@@ -110,12 +110,12 @@ pub fn release_two<T, H, A: Allocator>(
 )
     requires count { len ≡ length (items_of places) }
     requires heads_count { heads_len ≡ length (items_of heads) }
-    requires lease { IsLeaseOfTwo lease places heads alloc.now }
+    requires lease { IsLeaseOfTwo lease places heads dealloc.now }
     requires empty { AllNone (items_of places) }
     requires no_heads { AllNone (items_of heads) }
 {
     free_two(
-        alloc,
+        &dealloc.alloc,
         places,
         heads,
         lease,

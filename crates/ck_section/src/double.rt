@@ -5,16 +5,16 @@ ghost use Rattle.ck_stripe.specs.Tables.{AreSettled, IsTable};
 ghost use Rattle.ck_section.specs.Doublings.{AreReserved, DoublesEach, Grows};
 
 use ck_key::TableKey;
-use ck_stripe::{Held, Spares, Stripe, one_stripe};
+use ck_stripe::{Grower, Held, Stripe, one_stripe};
 use std::alloc::AllocError;
 
-/// Doubles a table of 2^s stripes. The memory for all is taken first, from the spares as far as
-/// they go, else by one request a stripe. Where one is refused, what the stripes took is freed, so
+/// Doubles a table of 2^s stripes. The memory for all is taken first, from what the grower has as
+/// far as that goes, else by one request a stripe. Where one is refused, what the stripes took is freed, so
 /// that a refused request leaves all as it was.
 pub fn double_all<K: TableKey + Drop, V: Drop, H: Held<Stripe<K, V>>>(
     held: &mut H,
     s: u32,
-    spares: &mut Option<Spares<K, V>>,
+    grower: &mut Grower<K, V>,
 ) -> Result<(), AllocError>
     requires table { IsTable s (H.stripes held.old) }
     requires settled { AreSettled (H.stripes held.old) }
@@ -26,7 +26,7 @@ pub fn double_all<K: TableKey + Drop, V: Drop, H: Held<Stripe<K, V>>>(
     ensures stays { H.stays held.old held.new }
 {
     let count = 1usize << s;
-    reserve_all(held, count, spares)?;
+    reserve_all(held, count, grower)?;
     raise_all(held, count);
     Ok(())
 }
@@ -35,7 +35,7 @@ pub fn double_all<K: TableKey + Drop, V: Drop, H: Held<Stripe<K, V>>>(
 fn reserve_all<K: TableKey + Drop, V: Drop, H: Held<Stripe<K, V>>>(
     held: &mut H,
     count: usize,
-    spares: &mut Option<Spares<K, V>>,
+    grower: &mut Grower<K, V>,
 ) -> Result<(), AllocError>
     requires count { length (H.stripes held.old) ≡ count }
     requires settled { AreSettled (H.stripes held.old) }
@@ -46,7 +46,7 @@ fn reserve_all<K: TableKey + Drop, V: Drop, H: Held<Stripe<K, V>>>(
     ensures stays { H.stays held.old held.new }
 {
     for i in 0..count {
-        if let Err(refused) = one_stripe::reserve_double(held, i, spares) {
+        if let Err(refused) = one_stripe::reserve_double(held, i, grower) {
             shrink_all(held);
             return Err(refused);
         }

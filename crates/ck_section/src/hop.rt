@@ -64,7 +64,7 @@ pub(crate) fn move_entry<K: TableKey + Drop, V: Drop, H: Held<Stripe<K, V>>>(
         slot,
     };
     let (key, value) = one_stripe::remove(held, source);
-    one_stripe::place(held, target, hop.partial, key, value);
+    one_stripe::put(held, target, hop.partial, key, value);
     true
 }
 

@@ -300,7 +300,7 @@ where
                 let (own, old) = one_stripe::remove(held, at);
                 match f(old) {
                     Some(new) => {
-                        one_stripe::place(held, at, place.partial, own, new);
+                        one_stripe::put(held, at, place.partial, own, new);
                         (Uprased::Changed, Commit::Upsert(said_key, said_value))
                     }
                     None => (Uprased::Erased, Commit::Erase(said_key)),

@@ -232,7 +232,7 @@ pub(crate) fn fill<K: TableKey + Drop, V: Drop, H: Held<Stripe<K, V>>>(
     ensures stays { H.stays held.old held.new }
 {
     let partial = place.partial;
-    one_stripe::place(held, at, partial, key, value);
+    one_stripe::put(held, at, partial, key, value);
 }
 
 // Takes the value of a bound key out of its slot, puts back what the closure makes of it, and gives
@@ -258,7 +258,7 @@ pub(crate) fn modify_entry<
 {
     let (own, old) = one_stripe::remove(held, at);
     let (value, answer) = f(old);
-    one_stripe::place(held, at, place.partial, own, value);
+    one_stripe::put(held, at, place.partial, own, value);
     answer
 }
 

@@ -19,14 +19,14 @@ use crate::place::{HeldBucket, KeyPlace};
 use crate::whole_path::{find_path, follow_path};
 use ck_key::{KeyHash, TableKey};
 use ck_model::lack::Lack;
-use ck_stripe::{Held, Spares, Stripe, has_entries, one_stripe, settle_all};
+use ck_stripe::{Grower, Held, Stripe, has_entries, one_stripe, settle_all};
 
 /// Makes room for the key, whose hash the caller has at hand, in a table of 2^s stripes: then the
 /// key is bound or one of its buckets has a free slot. No binding changes.
 ///
 /// Entries are displaced where that makes room. Else the table doubles, if it has fewer than 2^max
-/// buckets and at least `min_load` per cent of its slots are taken, in the memory of the spares if
-/// they are for that doubling, and it is tried again. A refused request for memory leaves the table
+/// buckets and at least `min_load` per cent of its slots are taken, in the memory that the grower has
+/// if it is for that doubling, and it is tried again. A refused request for memory leaves the table
 /// as it was.
 pub fn make_room<K: TableKey + Drop, V: Drop, H: Held<Stripe<K, V>>>(
     held: &mut H,
@@ -35,7 +35,7 @@ pub fn make_room<K: TableKey + Drop, V: Drop, H: Held<Stripe<K, V>>>(
     hash: KeyHash,
     max: u32,
     min_load: u32,
-    spares: &mut Option<Spares<K, V>>,
+    grower: &mut Grower<K, V>,
 ) -> Result<(), Lack>
     requires table { IsTable s (H.stripes held.old) }
     requires hash { IsHashOf K.hash (K.name key.now) hash }
@@ -53,7 +53,7 @@ pub fn make_room<K: TableKey + Drop, V: Drop, H: Held<Stripe<K, V>>>(
     ensures stays { H.stays held.old held.new }
 {
     while !room_by_hops(held, s, key, hash) {
-        grow(held, s, max, min_load, spares)?;
+        grow(held, s, max, min_load, grower)?;
     }
     Ok(())
 }
@@ -187,7 +187,7 @@ pub fn grow<K: TableKey + Drop, V: Drop, H: Held<Stripe<K, V>>>(
     s: u32,
     max: u32,
     min_load: u32,
-    spares: &mut Option<Spares<K, V>>,
+    grower: &mut Grower<K, V>,
 ) -> Result<(), Lack>
     requires table { IsTable s (H.stripes held.old) }
     requires settled { AreSettled (H.stripes held.old) }
@@ -209,7 +209,7 @@ pub fn grow<K: TableKey + Drop, V: Drop, H: Held<Stripe<K, V>>>(
     if is_too_empty(held, s, power, min_load) {
         return Err(Lack::LoadTooLow);
     }
-    match double_all(held, s, spares) {
+    match double_all(held, s, grower) {
         Ok(()) => Ok(()),
         Err(_) => Err(Lack::Memory),
     }

@@ -55,8 +55,8 @@ where
     let (key_a, value_a) = one_stripe::remove(held, at_a);
     let (key_b, value_b) = one_stripe::remove(held, at_b);
     let (value_a, value_b) = f(value_a, value_b);
-    one_stripe::place(held, at_a, place_a.partial, key_a, value_a);
-    one_stripe::place(held, at_b, place_b.partial, key_b, value_b);
+    one_stripe::put(held, at_a, place_a.partial, key_a, value_a);
+    one_stripe::put(held, at_b, place_b.partial, key_b, value_b);
     true
 }
 
@@ -95,7 +95,7 @@ pub fn rename<K: TableKey + Drop, V: Drop, Q: Query<K>, H: Held<Stripe<K, V>>>(
         return Err(to);
     };
     let (_, value) = one_stripe::remove(held, at);
-    one_stripe::place(held, free, to_place.partial, to, value);
+    one_stripe::put(held, free, to_place.partial, to, value);
     Ok(Renamed::Done)
 }
 

@@ -9,6 +9,7 @@
 
 // One stripe: the rows of its buckets, and what a doubling has left to be moved.
 mod crossings;
+mod grower;
 mod next;
 mod spares;
 mod stripe;
@@ -26,10 +27,10 @@ mod held_slot;
 pub mod one_stripe;
 mod several;
 
+pub use grower::Grower;
 pub use held::{Held, Numbered, Visitor};
 pub use held_slot::HeldSlot;
 pub use iter::Iter;
 pub use several::{entries, has_entries, len, pour_all, settle_all};
-pub use spares::Spares;
 pub use stripe::Stripe;
 pub use stripe_laws::law_of_doubling;

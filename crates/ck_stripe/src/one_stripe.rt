@@ -12,9 +12,9 @@ ghost use Rattle.ck_stripe.specs.Reading.{ReadsSlot};
 ghost use Rattle.ck_stripe.specs.Tables.{HasStripe};
 ghost use Rattle.ck_stripe.specs.HeldSlots.{at, slot_in, set_slot, IsLowest};
 
+use crate::grower::Grower;
 use crate::held::Held;
 use crate::held_slot::HeldSlot;
-use crate::spares::Spares;
 use crate::stripe::Stripe;
 use ck_key::{Query, TableKey};
 use std::alloc::AllocError;
@@ -173,7 +173,7 @@ pub fn read<K: TableKey + Drop, V: Drop, H: Held<Stripe<K, V>>, R, F: FnOnce(&V)
 
 /// Puts a key and its value into a free slot. `partial` is that of the key.
 #[inline(always)]
-pub fn place<K: TableKey + Drop, V: Drop, H: Held<Stripe<K, V>>>(
+pub fn put<K: TableKey + Drop, V: Drop, H: Held<Stripe<K, V>>>(
     held: &mut H,
     at: HeldSlot,
     partial: u8,
@@ -191,7 +191,7 @@ pub fn place<K: TableKey + Drop, V: Drop, H: Held<Stripe<K, V>>>(
     held.visit_bucket(
         at.index,
         at.bucket,
-        |stripe: &mut Stripe<K, V>| stripe.place(at.bucket, at.slot, partial, key, value),
+        |stripe: &mut Stripe<K, V>| stripe.put(at.bucket, at.slot, partial, key, value),
     );
 }
 
@@ -272,12 +272,12 @@ pub fn settle<K: TableKey + Drop, V: Drop, H: Held<Stripe<K, V>>>(held: &mut H, 
     held.visit(i, |stripe: &mut Stripe<K, V>| stripe.settle());
 }
 
-/// Takes the memory for a doubling of stripe `i`, from the spares if there is some for it, else by
-/// one request at most. A refused request leaves all as it was.
+/// Takes the memory for a doubling of stripe `i`, from what the grower has if there is some for it,
+/// else by one request at most. A refused request leaves all as it was.
 pub fn reserve_double<K: TableKey + Drop, V: Drop, H: Held<Stripe<K, V>>>(
     held: &mut H,
     i: usize,
-    spares: &mut Option<Spares<K, V>>,
+    grower: &mut Grower<K, V>,
 ) -> Result<(), AllocError>
     requires inside { i < length (H.stripes held.old) }
     requires settled { (stripe_at (H.stripes held.old) i).settled ≡ true }
@@ -286,7 +286,7 @@ pub fn reserve_double<K: TableKey + Drop, V: Drop, H: Held<Stripe<K, V>>>(
     ensures kept { OnErr result (H.stripes held.new ≡ H.stripes held.old) }
     ensures stays { H.stays held.old held.new }
 {
-    held.visit(i, |stripe: &mut Stripe<K, V>| stripe.reserve_double(spares))
+    held.visit(i, |stripe: &mut Stripe<K, V>| stripe.reserve_double(grower))
 }
 
 /// Gives back the memory that stripe `i` reserved for a doubling.

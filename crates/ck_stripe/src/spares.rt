@@ -10,7 +10,7 @@ use std::marker::Model;
 /// them from here, so that it requests nothing while it holds the stripes. What is left is freed.
 /// Contracts see for how many rows each of them is.
 #[derive(Drop)]
-pub struct Spares<K: TableKey, V> {
+pub(crate) struct Spares<K: TableKey, V> {
     blocks: Vec<Spare<K, V>>,
 }
 
@@ -42,7 +42,7 @@ impl<K: TableKey, V> Spares<K, V> {
     /// Memory for a table of 2^s stripes to double from 2^power buckets. It is taken by a request
     /// for each stripe, and one for the list of them. Where one is refused, what was taken is
     /// freed.
-    pub fn open(alloc: Global, s: u32, power: u32) -> Result<Self, AllocError>
+    pub(crate) fn open(alloc: Global, s: u32, power: u32) -> Result<Self, AllocError>
         requires s { s ≤ 10 }
         requires least { s ≤ power }
         requires most { power < 26 }

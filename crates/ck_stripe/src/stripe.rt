@@ -13,9 +13,9 @@ ghost use Rattle.ck_bucket.specs.Bucket.{HasName, LacksName, ReplacesValue, Chan
 ghost use Rattle.ck_stripe.specs.Doubling.{split_rows, doubled_content, SendsEach};
 ghost use Rattle.ck_stripe.specs.Stripe.{HasBucket, bucket_of, with_bucket, with_slot, empty_content, IsWellFormed, HasNoSpare, IsReserved, shrunk, reserved};
 
+use crate::grower::Grower;
 use crate::iter::Iter;
 use crate::next::Next;
-use crate::spares::Spares;
 use ck_bucket::{BlankRows, Rows};
 use ck_key::{NumKey, Query, TableKey};
 use std::alloc::{AllocError, Global};
@@ -36,7 +36,6 @@ pub struct Stripe<K: TableKey, V> {
     // Until a doubled stripe is settled, these are the buckets of the power below.
     pub(crate) rows: Rows<K, V>,
     pub(crate) next: Next<K, V>,
-    heap: Global,
 }
 
 const _: () = prove!(mem::size_of::<Stripe<NumKey, u64>>() == 56);
@@ -80,7 +79,6 @@ impl<K: TableKey + Drop, V: Drop> Stripe<K, V> {
             number,
             rows,
             next: Next::Absent,
-            heap: alloc,
         })
     }
 
@@ -159,7 +157,7 @@ impl<K: TableKey + Drop, V: Drop> Stripe<K, V> {
     }
 
     /// Puts a key and its value into a free slot of bucket `b`. `partial` is that of the key.
-    pub fn place(&mut self, b: u64, slot: usize, partial: u8, key: K, value: V)
+    pub fn put(&mut self, b: u64, slot: usize, partial: u8, key: K, value: V)
         requires settled { self.old.settled ≡ true }
         requires own { HasBucket self.old b }
         requires below { slot < 4 }
@@ -275,10 +273,10 @@ impl<K: TableKey + Drop, V: Drop> Stripe<K, V> {
         Iter::new(&self.rows, 4 * self.next.count(self.s, self.power))
     }
 
-    /// Takes the memory for a doubling, where the stripe has none yet, from the spares if there is
-    /// some for it. It is refused only for want of memory, or where the stripe would have more than
-    /// 2^26 buckets, and then the stripe stays as it was.
-    pub fn reserve_double(&mut self, spares: &mut Option<Spares<K, V>>) -> Result<(), AllocError>
+    /// Takes the memory for a doubling, where the stripe has none yet, from what the grower has if
+    /// there is some for it. It is refused only for want of memory, or where the stripe would have
+    /// more than 2^26 buckets, and then the stripe stays as it was.
+    pub fn reserve_double(&mut self, grower: &mut Grower<K, V>) -> Result<(), AllocError>
         requires settled { self.old.settled ≡ true }
         ensures room { self.old.room ≤ self.new.room }
         ensures ok { OnOk result (self.new ≡ reserved self.old) }
@@ -292,10 +290,7 @@ impl<K: TableKey + Drop, V: Drop> Stripe<K, V> {
         if count > MOST_ROWS {
             return Err(AllocError);
         }
-        let blank = match spare_for(spares, count) {
-            Some(blank) => blank,
-            None => BlankRows::open(self.heap, count)?,
-        };
+        let blank = grower.block(count)?;
         self.next.put(Next::Reserved(blank));
         Ok(())
     }
@@ -373,7 +368,6 @@ impl<K: TableKey + Drop, V: Drop> Stripe<K, V> {
             number: _,
             mut rows,
             next,
-            heap: _,
         } = self;
         let count = next.count(s, power);
         pour_all(&mut rows, count, pairs);
@@ -390,7 +384,6 @@ impl<K: TableKey + Drop, V: Drop> Drop for Stripe<K, V> {
             number: _,
             mut rows,
             next,
-            heap: _,
         } = self;
         let count = next.count(s, power);
         empty_all(&mut rows, count);
@@ -415,16 +408,6 @@ impl<K: TableKey + Clone, V: Clone> Stripe<K, V> {
         let count = self.next.count(self.s, self.power);
         clone_all(&self.rows, count, pairs)
     }
-}
-
-// A block for so many rows from the spares, if there is one.
-fn spare_for<K: TableKey, V>(
-    spares: &mut Option<Spares<K, V>>,
-    count: usize,
-) -> Option<BlankRows<K, V>>
-    ensures { IfSome result (λ blank. blank ≡ count) }
-{
-    spares.as_mut()?.take(count)
 }
 
 // Moves each row of stripe `number` to where it stands once a table of 2^p buckets has doubled, in

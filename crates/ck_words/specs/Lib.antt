@@ -7,6 +7,7 @@ pub mod Retries
 pub mod Holding
 pub mod Renewing
 pub mod Lifting
+pub mod Lists
 pub mod StripeNumbers
 pub mod StripeSets
 pub mod InPlace

@@ -13,9 +13,10 @@ ghost use Rattle.ck_words.specs.Closing.{IsWhole, IsCaller, AreAllPasses, EachSt
 use crate::guard;
 use crate::lift::Whole;
 use crate::pass::Pass;
+use crate::reserved_list::pour;
 use crate::words::Words;
 use ck_key::TableKey;
-use ck_stripe::{len, pour_all};
+use ck_stripe::len;
 use std::alloc::Global;
 
 impl<K: TableKey + Drop, V: Drop> Words<K, V> {
@@ -104,7 +105,7 @@ impl<K: TableKey + Drop, V: Drop> Words<K, V> {
         ensures { map (named K.name) result.items ≡ pairs_of (contents_of pass.stripes) }
     {
         let Whole { seat: _, stripes } = self.lift(pass);
-        pour_all(stripes, &mut pairs);
+        pour(stripes, &mut pairs);
         pairs
     }
 }

@@ -31,6 +31,7 @@ mod visits;
 // All of them in one list, and the power of one.
 mod lift;
 mod power;
+mod reserved_list;
 
 // The beginning and the end of a table.
 mod close;
@@ -39,6 +40,7 @@ mod open;
 pub use guard::Guard;
 pub use lift::Whole;
 pub use pass::Pass;
+pub use reserved_list::ReservedList;
 pub use stripe_set::StripeSet;
 pub use views::Message;
 pub use words::Words;

@@ -5,6 +5,7 @@ ghost use Rattle.ck_words.specs.Passes.{EachOf, IsPassOf, slot_of, stripes_in, h
 ghost use Rattle.ck_words.specs.Lifting.{emptied};
 
 use crate::pass::Pass;
+use crate::reserved_list::ReservedList;
 use crate::rule::{Board, StripeSeat};
 use crate::visits::turn_by;
 use crate::words::Words;
@@ -18,7 +19,7 @@ use std::marker::Model;
 pub struct Whole<K: TableKey, V> {
     pub(crate) seat: StripeSeat<K, V>,
     /// The stripes.
-    pub stripes: Vec<Stripe<K, V>>,
+    pub stripes: ReservedList<Stripe<K, V>>,
 }
 
 impl<K: TableKey, V> Model for Whole<K, V> {
@@ -30,7 +31,7 @@ impl<K: TableKey, V> Model for Whole<K, V> {
     ghost view = { λ w. record {
       table = w.seat.table_id;
       view = w.seat.me.0;
-      stripes = w.stripes.items;
+      stripes = w.stripes.list.items;
     } };
 
     ghost invariant = { λ w. IsEmptied w.seat.table_id w.seat.me };
@@ -44,15 +45,16 @@ impl<K: TableKey + Drop, V: Drop> Held<Stripe<K, V>> for Whole<K, V> {
     ghost stays = { λ w u. (u.table ≡ w.table) × (u.view ≡ w.view) };
 
     fn count(&self) -> usize {
-        self.stripes.len()
+        self.stripes.as_slice().len()
     }
 
     fn number(&mut self, i: usize) -> u32 {
-        self.stripes[i].number()
+        self.stripes.as_slice()[i].number()
     }
 
     fn visit<W: Visitor<Stripe<K, V>>>(&mut self, i: usize, visitor: W) -> W::Answer {
-        visitor.visit(&mut self.stripes[i])
+        let stripes = self.stripes.as_mut_slice();
+        visitor.visit(&mut stripes[i])
     }
 
     ghost use Rattle.std.proofs.Common.{refl, ◌∙◌};
@@ -105,17 +107,17 @@ fn take_out<K: TableKey + Drop, V: Drop>(
     shared: &Board<K, V>,
     seat: &mut StripeSeat<K, V>,
     count: usize,
-    list: &mut Vec<Stripe<K, V>>,
+    list: &mut ReservedList<Stripe<K, V>>,
 )
     requires own { seat.old.table_id ≡ shared.now.table_id }
     requires full { seat.old.me.1 ≡ map slot_of (stripes_in seat.old.me.1) }
     requires numbered { numbers_of (held_in seat.old.me.1) ≡ counting 0 count }
-    requires empty { list.old.items ≡ [] }
-    requires room { count ≤ vec_capacity list.old }
+    requires empty { list.old.list.items ≡ [] }
+    requires room { count ≤ vec_capacity list.old.list }
     ensures table { seat.new.table_id ≡ seat.old.table_id }
     ensures view { seat.new.me.0 ≡ seat.old.me.0 }
     ensures emptied { seat.new.me.1 ≡ emptied (reverse (counting 0 count)) }
-    ensures list { list.new.items ≡ held_in seat.old.me.1 }
+    ensures list { list.new.list.items ≡ held_in seat.old.me.1 }
 {
     for t in 0..count {
         // The slot of the lowest stripe that is left is the last.
@@ -132,16 +134,16 @@ fn put_back<K: TableKey + Drop, V: Drop>(
     shared: &Board<K, V>,
     seat: &mut StripeSeat<K, V>,
     count: usize,
-    list: &mut Vec<Stripe<K, V>>,
+    list: &mut ReservedList<Stripe<K, V>>,
 )
     requires own { seat.old.table_id ≡ shared.now.table_id }
     requires emptied { seat.old.me.1 ≡ emptied (reverse (counting 0 count)) }
-    requires numbered { numbers_of list.old.items ≡ counting 0 count }
+    requires numbered { numbers_of list.old.list.items ≡ counting 0 count }
     ensures table { seat.new.table_id ≡ seat.old.table_id }
     ensures view { seat.new.me.0 ≡ seat.old.me.0 }
-    ensures full { seat.new.me.1 ≡ map slot_of (reverse list.old.items) }
-    ensures empty { list.new.items ≡ [] }
-    ensures capacity { vec_capacity list.new ≡ vec_capacity list.old }
+    ensures full { seat.new.me.1 ≡ map slot_of (reverse list.old.list.items) }
+    ensures empty { list.new.list.items ≡ [] }
+    ensures capacity { vec_capacity list.new.list ≡ vec_capacity list.old.list }
 {
     for t in (0..count).rev() {
         let Some(stripe) = list.pop() else {

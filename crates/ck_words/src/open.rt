@@ -10,6 +10,7 @@ ghost use Rattle.ck_words.specs.Passes.{IsPassOf, IsIdle};
 ghost use Rattle.ck_words.specs.Closing.{dealt, AreAllPasses};
 
 use crate::pass::Pass;
+use crate::reserved_list::ReservedList;
 use crate::words::Words;
 use atomic_table::{Split, Table};
 use ck_core::known::Known;
@@ -62,7 +63,7 @@ impl<K: TableKey + Drop, V: Drop> Words<K, V> {
         let count = 1usize << settings.s;
         let words = Vec::from_elem(alloc, 0u64, count * 8)?;
         let slots = open_slots(alloc, settings)?;
-        let room = Vec::with_capacity(alloc, slots.len())?;
+        let room = ReservedList::with_capacity(alloc, slots.len())?;
         let Ok((table, seat)) = Table::new(alloc, words.as_slice(), slots, &settings) else {
             return Err(AllocError);
         };
@@ -85,7 +86,7 @@ impl<K: TableKey + Drop, V: Drop> Words<K, V> {
         let (words, first) = Words::open(alloc, settings)?;
         passes.push(first)?;
         for _i in 1..settings.callers {
-            let pass = words.deal(&mut passes[0])?;
+            let pass = words.deal(alloc, &mut passes[0])?;
             passes.push(pass)?;
         }
         Ok((words, passes))
@@ -94,7 +95,11 @@ impl<K: TableKey + Drop, V: Drop> Words<K, V> {
     /// One more pass, with the first of the numbers that the pass `first` keeps, which has tried to
     /// take no stripe. It has seen nothing, and was told the power that `first` was told. It is
     /// refused only for want of memory, and then `first` is unchanged.
-    pub(crate) fn deal(&self, first: &mut Pass<K, V>) -> Result<Pass<K, V>, AllocError>
+    pub(crate) fn deal(
+        &self,
+        alloc: Global,
+        first: &mut Pass<K, V>,
+    ) -> Result<Pass<K, V>, AllocError>
         requires own { IsPassOf self.now first.old }
         requires kept { (m : ℕ) × (others : List (ℕ × List (Entry V)))
             × (first.old.view.others ≡ (m, []) ∷ others) }
@@ -107,7 +112,7 @@ impl<K: TableKey + Drop, V: Drop> Words<K, V> {
             (first.new ≡ record first.old { view = opened first.old.view }) }
         ensures refused { OnErr result (first.new ≡ first.old) }
     {
-        let room = Vec::with_capacity(*first.room.allocator(), self.table.slot_count())?;
+        let room = ReservedList::with_capacity(alloc, self.table.slot_count())?;
         let seat = self.table.shared.split_seat::<Open>(&mut first.seat);
         Ok(Pass { seat, room })
     }

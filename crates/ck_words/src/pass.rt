@@ -1,4 +1,5 @@
 //! A caller's token.
+use crate::reserved_list::ReservedList;
 use crate::rule::StripeSeat;
 use ck_key::TableKey;
 use ck_stripe::Stripe;
@@ -12,7 +13,7 @@ use std::marker::Model;
 #[derive(Drop)]
 pub struct Pass<K: TableKey, V> {
     pub(crate) seat: StripeSeat<K, V>,
-    pub(crate) room: Vec<Stripe<K, V>>,
+    pub(crate) room: ReservedList<Stripe<K, V>>,
 }
 
 impl<K: TableKey, V> Model for Pass<K, V> {
@@ -23,5 +24,6 @@ impl<K: TableKey, V> Model for Pass<K, V> {
 
     ghost view = { λ p. state_of p.seat.table_id p.seat.me };
 
-    ghost invariant = { λ p. IsReady p.seat.table_id p.seat.me p.room.items (vec_capacity p.room) };
+    ghost invariant = { λ p. IsReady p.seat.table_id p.seat.me p.room.list.items
+        (vec_capacity p.room.list) };
 }

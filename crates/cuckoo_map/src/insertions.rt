@@ -12,7 +12,7 @@ ghost use Rattle.cuckoo_map.specs.Refusals.{FindsOwn, FindsOwnUnlessFull};
 
 use crate::locking::KeyStripes;
 use crate::refusal::{Refused, Why};
-use crate::room::{Preparation, Room};
+use crate::room::Room;
 use crate::table::Table;
 use ck_key::TableKey;
 use ck_section::{Insertion, Uprased, insertion};
@@ -264,7 +264,7 @@ impl<K: TableKey + Drop, V: Drop> Table<K, V> {
         ensures inserted { HasInserted (TellsOf (I.tells insertion value))
             K.hash self.now.settings (K.name key) key value result since.value pass.new }
     {
-        let mut preparation = Preparation::none();
+        let mut preparation = self.unprepared();
         match self.make_room(pass, &key, power, &mut preparation) {
             Ok(made) => {
                 let answer = self.make_in(pass, made, key, value, insertion, since);

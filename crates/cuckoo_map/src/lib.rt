@@ -47,7 +47,6 @@ mod locking;
 
 // Calls on a key, on two, on several, and on none.
 mod changes;
-mod growth;
 mod insertions;
 mod key_pairs;
 mod keys_with_room;

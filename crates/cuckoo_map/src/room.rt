@@ -18,10 +18,12 @@ use std::snapshot::Snapshot;
 mod ahead;
 mod all;
 mod displace;
+mod growth;
 mod preparation;
 mod search;
 
-pub(crate) use preparation::{GrowthLock, Preparation};
+pub(crate) use growth::least_power;
+pub(crate) use preparation::{Growth, Preparation};
 
 // Where a key may be among the stripes that its pass holds, those of the key or all of the table,
 // and its entry there.

@@ -8,7 +8,7 @@ ghost use Rattle.ck_model.specs.Counting.{counting};
 ghost use Rattle.ck_words.specs.Closing.{IsCaller, AreAllPasses, EachStays, Closes, dealt};
 
 use crate::refusal::OpenFault;
-use crate::room::GrowthLock;
+use crate::room::Growth;
 use ck_key::TableKey;
 use ck_model::settings::Settings;
 use ck_words::{Message, Pass, Words};
@@ -24,8 +24,7 @@ use std::marker::Model;
 #[derive(Drop)]
 pub struct Table<K: TableKey, V> {
     pub(crate) words: Words<K, V>,
-    pub(crate) growth: GrowthLock,
-    pub(crate) alloc: Global,
+    pub(crate) growth: Growth,
 }
 
 impl<K: TableKey, V> Model for Table<K, V> {
@@ -61,15 +60,8 @@ impl<K: TableKey + Drop, V: Drop> Table<K, V> {
         }
         match Words::open_all(alloc, settings) {
             Ok((words, passes)) => {
-                let growth = GrowthLock::new();
-                Ok((
-                    Table {
-                        words,
-                        growth,
-                        alloc,
-                    },
-                    passes,
-                ))
+                let growth = Growth::new(alloc);
+                Ok((Table { words, growth }, passes))
             }
             Err(_) => Err(OpenFault::Memory),
         }
@@ -95,25 +87,14 @@ impl<K: TableKey + Drop, V: Drop> Table<K, V> {
         ensures back { IfErr result (λ back. (back.0 ≡ self)
             × AreAllPasses back.0 back.1.items × EachStays passes.items back.1.items) }
     {
-        let Table {
-            words,
-            growth,
-            alloc,
-        } = self;
+        let Table { words, growth } = self;
         match words.close(passes) {
             Ok(pairs) => {
                 let mut pairs = pairs;
                 pairs.sort_unstable_by(|a, b| a.0.cmp(&b.0));
                 Ok(pairs)
             }
-            Err((words, passes)) => Err((
-                Table {
-                    words,
-                    growth,
-                    alloc,
-                },
-                passes,
-            )),
+            Err((words, passes)) => Err((Table { words, growth }, passes)),
         }
     }
 

@@ -1,19 +1,14 @@
 //! The size of a locked table, and how it grows.
-ghost use Rattle.std.specs.Prelude.{◌≡◌, ◌*◌, ◌/◌, ◌^◌, ◌<◌, ◌≤◌, ℕ, IfOk, OnErr, MatchBool};
+ghost use Rattle.std.specs.Prelude.{◌≡◌, ◌*◌, ◌/◌, ◌^◌, ◌≤◌};
 ghost use Rattle.std.specs.FinMap.{len};
-ghost use Rattle.ck_model.specs.Contents.{layout};
-ghost use Rattle.ck_stripe.specs.Tables.{AreAllHeld, power_in, KeepsBindings};
 ghost use Rattle.cuckoo_map.specs.Locking.{locked_power, map_of, RehashesLocked, ReservesLocked};
 
-use crate::growth::{double_to, least_power};
 use crate::locked::{LockedOn, stripes_of};
 use crate::refusal::GrowFault;
+use crate::room::least_power;
 use crate::table_ref::TableRef;
 use ck_key::TableKey;
 use ck_model::settings::Settings;
-use ck_stripe::settle_all;
-use ck_words::Whole;
-use std::alloc::AllocError;
 
 impl<T: TableRef<K, V> + Drop, K: TableKey + Drop, V: Drop> LockedOn<T, K, V> {
     /// The power: the table has 2^power buckets of four slots.
@@ -58,7 +53,8 @@ impl<T: TableRef<K, V> + Drop, K: TableKey + Drop, V: Drop> LockedOn<T, K, V> {
         if max < power {
             return Err(GrowFault::OverMax);
         }
-        match double_in(&mut self.whole, s, power) {
+        let table = self.table.table();
+        match table.double_in(&mut self.whole, s, power) {
             Ok(grown) => Ok(grown),
             Err(_) => Err(GrowFault::Memory),
         }
@@ -70,28 +66,4 @@ impl<T: TableRef<K, V> + Drop, K: TableKey + Drop, V: Drop> LockedOn<T, K, V> {
     {
         self.rehash(least_power(n))
     }
-}
-
-// Doubles a table of 2^s stripes until it has 2^power buckets, and says whether it had fewer. All
-// stripes are settled then.
-fn double_in<K: TableKey + Drop, V: Drop>(
-    whole: &mut Whole<K, V>,
-    s: u32,
-    power: u32,
-) -> Result<bool, AllocError>
-    requires held { AreAllHeld s whole.old.stripes }
-    requires power { power ≤ 26 }
-    ensures held { AreAllHeld s whole.new.stripes }
-    ensures no_call { (max : ℕ) → power ≤ max
-        → KeepsBindings (layout K.hash s max) whole.old.stripes whole.new.stripes }
-    ensures reached { IfOk result (λ grown. MatchBool grown
-        ((power_in whole.old.stripes < power) × (power_in whole.new.stripes ≡ power))
-        ((power ≤ power_in whole.old.stripes) × (whole.new.stripes ≡ whole.old.stripes))) }
-    ensures short { OnErr result ((power_in whole.old.stripes < power)
-        × (power_in whole.new.stripes < power)) }
-    ensures same { whole.new ≡ record whole.old { stripes = whole.new.stripes } }
-{
-    let grown = double_to(whole, s, power);
-    settle_all(whole);
-    grown
 }

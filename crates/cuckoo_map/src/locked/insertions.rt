@@ -2,26 +2,22 @@
 ghost use Rattle.std.specs.Prelude.{◌≡◌, OnOk, OnErr, IfOk, IfErr};
 ghost use Rattle.ck_model.specs.Contents.{layout_of};
 ghost use Rattle.ck_model.specs.Paths.{HasNoRoom};
-ghost use Rattle.ck_model.specs.Ranges.{AreInRange};
 ghost use Rattle.ck_stripe.specs.Stripes.{contents_of};
-ghost use Rattle.ck_stripe.specs.Tables.{AreAllHeld};
 ghost use Rattle.ck_section.specs.Acts.{Inserts, Assigns, Upserts, InsertsBy, FindsOrInserts, Uprases, TriesUpsert, TriesUpsertWith};
 ghost use Rattle.ck_section.specs.Places.{IsPlaceOf};
 ghost use Rattle.ck_section.specs.Calls.{effect, IsCall, IsWithoutRoom, ChangesContents};
 ghost use Rattle.ck_section.specs.RoomForAll.{KeepsOthers};
 ghost use Rattle.cuckoo_map.specs.Refusals.{why_of};
-ghost use Rattle.cuckoo_map.specs.Locking.{DoublesFor, LockedInsertionLeaves, KeepsMap, LacksRoom, SeeksRoom};
+ghost use Rattle.cuckoo_map.specs.Locking.{DoublesFor, LockedInsertionLeaves, KeepsMap, LacksRoom};
 ghost use Rattle.cuckoo_map.specs.Insertions.{TellsOf};
 
 use crate::locked::LockedOn;
 use crate::refusal::{Refused, Why};
 use crate::table_ref::TableRef;
-use ck_key::{KeyHash, TableKey};
+use ck_key::TableKey;
 use ck_model::lack::Lack;
-use ck_model::settings::Settings;
-use ck_section::{Insertion, KeyPlace, Uprased, find_entry, insertion, make_room};
-use ck_stripe::{Held, Stripe, settle_all};
-use ck_words::Whole;
+use ck_section::{Insertion, KeyPlace, Uprased, find_entry, insertion};
+use ck_stripe::{Held, Stripe};
 use std::marker::PhantomData;
 
 impl<T: TableRef<K, V> + Drop, K: TableKey + Drop, V: Drop> LockedOn<T, K, V> {
@@ -182,7 +178,9 @@ impl<T: TableRef<K, V> + Drop, K: TableKey + Drop, V: Drop> LockedOn<T, K, V> {
         ensures grows { DoublesFor K.hash (K.name key.now) self.old self.new }
     {
         let settings = self.settings();
-        make_room_in(&mut self.whole, settings, key)
+        self.table
+            .table()
+            .make_room_in(&mut self.whole, settings, key)
     }
 }
 
@@ -213,27 +211,4 @@ pub(crate) fn make_in<K: TableKey + Drop, V: Drop, I: Insertion<K, V>, H: Held<S
         }
         None => Err((key, value, insertion)),
     }
-}
-
-// Makes room for the key among all stripes, which are then settled.
-fn make_room_in<K: TableKey + Drop, V: Drop>(
-    whole: &mut Whole<K, V>,
-    settings: Settings,
-    key: &K,
-) -> Result<(), Lack>
-    requires held { AreAllHeld settings.s whole.old.stripes }
-    requires range { AreInRange settings }
-    ensures room { SeeksRoom K.hash settings (K.name key.now) result
-        whole.old.stripes whole.new.stripes }
-    ensures same { whole.new ≡ record whole.old { stripes = whole.new.stripes } }
-{
-    let Settings {
-        s,
-        max,
-        min_load,
-        ..
-    } = settings;
-    let made = make_room(whole, s, key, KeyHash::of(key), max, min_load, &mut None);
-    settle_all(whole);
-    made
 }

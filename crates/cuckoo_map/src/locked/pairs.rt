@@ -65,7 +65,7 @@ fn drain_in<K: TableKey + Drop, V: Drop>(
     ensures left { OnErr result (whole.new ≡ whole.old) }
     ensures same { whole.new ≡ record whole.old { stripes = whole.new.stripes } }
 {
-    drain_all(alloc, &mut whole.stripes)
+    drain_all(alloc, whole.stripes.as_mut_slice())
 }
 
 // Asks the closure about each pair of all stripes, and drops those for which it answers false.
@@ -82,7 +82,7 @@ fn retain_in<K: TableKey + Drop, V: Drop, F: FnMut(&K, &V) -> bool>(
     ensures changes { ChangesContents whole.old.stripes whole.new.stripes }
     ensures same { whole.new ≡ record whole.old { stripes = whole.new.stripes } }
 {
-    retain_all(&mut whole.stripes, f);
+    retain_all(whole.stripes.as_mut_slice(), f);
 }
 
 // Drops all entries of all stripes.
@@ -94,5 +94,5 @@ fn clear_in<K: TableKey + Drop, V: Drop>(whole: &mut Whole<K, V>)
     ensures changes { ChangesContents whole.old.stripes whole.new.stripes }
     ensures same { whole.new ≡ record whole.old { stripes = whole.new.stripes } }
 {
-    clear_all(&mut whole.stripes);
+    clear_all(whole.stripes.as_mut_slice());
 }

@@ -6,7 +6,7 @@ ghost use Rattle.cuckoo_map.specs.Insertions.{HasFoundNoRoom, HasRoom, HasSought
 ghost use Rattle.cuckoo_map.specs.Refusals.{FindsOwn, FindsOwnUnlessFull, IsRefused};
 
 use crate::refusal::Why;
-use crate::room::{Preparation, Room};
+use crate::room::Room;
 use crate::table::Table;
 use ck_key::TableKey;
 use ck_words::{Pass, guard};
@@ -57,7 +57,7 @@ impl<K: TableKey + Drop, V: Drop> Table<K, V> {
         ensures found { FindsOwnUnlessFull K.hash self.now.settings (K.name key.now)
             since.value pass.new }
     {
-        let mut preparation = Preparation::none();
+        let mut preparation = self.unprepared();
         match self.make_room(pass, key, power, &mut preparation) {
             Ok(room) => {
                 self.leave_room(pass, room, key, since);

@@ -3,8 +3,9 @@ ghost use Rattle.std.specs.Prelude.{◌≡◌, ◌^◌, OnErr, IfOk, IfErr, reve
 ghost use Rattle.ck_model.specs.Contents.{layout_of, Lawful};
 ghost use Rattle.ck_model.specs.Paths.{Grounds, reason_of_lack};
 ghost use Rattle.ck_model.specs.Counting.{counting};
+ghost use Rattle.ck_model.specs.Ranges.{AreInRange};
 ghost use Rattle.ck_stripe.specs.Stripes.{contents_of, HaveNoSpare};
-ghost use Rattle.ck_stripe.specs.Tables.{IsTable};
+ghost use Rattle.ck_stripe.specs.Tables.{AreAllHeld, IsTable};
 ghost use Rattle.ck_words.specs.Passes.{IsPassOf, IsIdle, numbers_of};
 ghost use Rattle.ck_words.specs.Retries.{FindsAmong};
 ghost use Rattle.ck_words.specs.Renewing.{HasRenewed};
@@ -12,6 +13,7 @@ ghost use Rattle.ck_words.specs.Closing.{IsCaller, IsWhole};
 ghost use Rattle.cuckoo_map.specs.Refusals.{IsStripeIn, IsRefused};
 ghost use Rattle.cuckoo_map.specs.Insertions.{HoldsRoom, HasRoom};
 ghost use Rattle.cuckoo_map.specs.Needed.{HoldsGrown};
+ghost use Rattle.cuckoo_map.specs.Locking.{SeeksRoom};
 
 use crate::locking::Spot;
 use crate::refusal::Why;
@@ -21,7 +23,8 @@ use ck_key::{KeyHash, TableKey};
 use ck_model::lack::Lack;
 use ck_model::settings::Settings;
 use ck_section::{find_entry, make_room, settled_place};
-use ck_words::{Pass, guard};
+use ck_stripe::settle_all;
+use ck_words::{Pass, Whole, guard};
 
 impl<K: TableKey + Drop, V: Drop> Table<K, V> {
     // Takes all stripes and makes room for the key there, by a displacement or by growing, in the
@@ -85,8 +88,8 @@ impl<K: TableKey + Drop, V: Drop> Table<K, V> {
         let hash = KeyHash::of(key);
         let stripes = self.words.all();
         let mut guard = guard!(&self.words, pass, stripes);
-        let spares = &mut preparation.spares;
-        make_room(&mut guard, s, key, hash, max, min_load, spares)?;
+        let grower = &mut preparation.grower;
+        make_room(&mut guard, s, key, hash, max, min_load, grower)?;
         let place = settled_place(&mut guard, s, key, hash);
         let Some(entry) = find_entry(&mut guard, place, key) else {
             unreachable!()
@@ -95,5 +98,31 @@ impl<K: TableKey + Drop, V: Drop> Table<K, V> {
             spot: Spot { stripes, place },
             entry,
         })
+    }
+    // Makes room for the key among all stripes, which one caller has in one list, and which are then
+    // settled.
+    pub(crate) fn make_room_in(
+        &self,
+        whole: &mut Whole<K, V>,
+        settings: Settings,
+        key: &K,
+    ) -> Result<(), Lack>
+        requires held { AreAllHeld settings.s whole.old.stripes }
+        requires range { AreInRange settings }
+        ensures room { SeeksRoom K.hash settings (K.name key.now) result
+            whole.old.stripes whole.new.stripes }
+        ensures same { whole.new ≡ record whole.old { stripes = whole.new.stripes } }
+    {
+        let Settings {
+            s,
+            max,
+            min_load,
+            ..
+        } = settings;
+        let mut grower = self.grower();
+        let hash = KeyHash::of(key);
+        let made = make_room(whole, s, key, hash, max, min_load, &mut grower);
+        settle_all(whole);
+        made
     }
 }

@@ -2,33 +2,39 @@
 //! stripes. The others wait until that one is done, and look again.
 //!
 //! What is missing is requested under the stripes, so no proof rests on who prepares.
+//!
+//! Of this crate only what makes room or grows can reach a table's allocator: it is private here,
+//! and only module `room` is given growers.
 ghost use Rattle.std.specs.Prelude.{◌≤◌};
 
 use crate::table::Table;
 use ck_key::TableKey;
 use ck_model::settings::Settings;
-use ck_stripe::Spares;
+use ck_stripe::Grower;
+use std::alloc::Global;
 use std::sync::atomic::{AtomicBool, Ordering};
 
 // How often a caller tries at least until another one has prepared a doubling. That takes
 // milliseconds: a caller of few turns would else request all blocks again, under all stripes.
 const FEWEST_TRIES: u32 = 1 << 18;
 
-// A lock for the caller that prepares a doubling.
+// What a table grows by: its allocator, and a lock for the caller that prepares a doubling.
 #[derive(Drop)]
-pub(crate) struct GrowthLock {
+pub(crate) struct Growth {
+    alloc: Global,
     held: AtomicBool,
 }
 
 // What one insertion has prepared. It has to be ended, so that the lock is given back.
 pub(crate) struct Preparation<K: TableKey, V> {
-    pub(crate) spares: Option<Spares<K, V>>,
+    pub(super) grower: Grower<K, V>,
     has_lock: bool,
 }
 
-impl GrowthLock {
-    pub(crate) fn new() -> Self {
-        GrowthLock {
+impl Growth {
+    pub(crate) fn new(alloc: Global) -> Self {
+        Growth {
+            alloc,
             held: AtomicBool::new(false),
         }
     }
@@ -53,20 +59,24 @@ impl GrowthLock {
     }
 }
 
-impl<K: TableKey, V> Preparation<K, V> {
-    pub(crate) fn none() -> Self {
+impl<K: TableKey + Drop, V: Drop> Table<K, V> {
+    // What requests memory for a doubling.
+    pub(super) fn grower(&self) -> Grower<K, V> {
+        Grower::new(self.growth.alloc)
+    }
+
+    // What an insertion has before it prepares anything.
+    pub(crate) fn unprepared(&self) -> Preparation<K, V> {
         Preparation {
-            spares: None,
+            grower: self.grower(),
             has_lock: false,
         }
     }
-}
 
-impl<K: TableKey + Drop, V: Drop> Table<K, V> {
     // Prepares a doubling from 2^power buckets, if nobody else is about to, and says that all
     // stripes are to be taken. Else it waits: false where the other caller is done by then, so that
     // there may be room.
-    pub(crate) fn prepare(&self, preparation: &mut Preparation<K, V>, power: u32) -> bool
+    pub(super) fn prepare(&self, preparation: &mut Preparation<K, V>, power: u32) -> bool
         requires { self.now.settings.s ≤ power }
     {
         let Settings { s, max, turns, .. } = self.words.settings();
@@ -77,14 +87,14 @@ impl<K: TableKey + Drop, V: Drop> Table<K, V> {
             return !self.growth.wait::<K>(turns.max(FEWEST_TRIES));
         }
         preparation.has_lock = true;
-        preparation.spares = Spares::open(self.alloc, s, power).ok();
+        preparation.grower.prepare(s, power);
         true
     }
 
     // Gives the lock back, once the stripes are, and frees what is left.
     pub(crate) fn end_preparation(&self, preparation: Preparation<K, V>) {
         let Preparation {
-            spares: _spares,
+            grower: _grower,
             has_lock,
         } = preparation;
         if has_lock {

@@ -58,14 +58,14 @@ found g c =
 left : (g : Over) (c : After-remove-key g) → g.H.Held.stripes c.remove-key.new.held ≡ lifted (g.H.Held.stripes c.args.held.now) c.args.from c.args.hop
 left g c = c.remove-key.ensures.content ∙ ap (λ (l : List (StripeState g.row.V.Denot)). lifted l c.args.from c.args.hop) (c.free.ensures.same ∙ c.has_partial.ensures.same ∙ c.power.ensures.same)
 
-pub place-requires : goal.place-requires
-place-requires g c =
-    let d = (goal.at.place-requires g c).After-remove-key in
+pub put-requires : goal.put-requires
+put-requires g c =
+    let d = (goal.at.put-requires g c).After-remove-key in
     ready_to g.K.TableKey.hash _ _ _ c.args.hop c.requires (sym c.power.ensures.value ∙ c.if-power-hop.false) _ _ _ (found g d) _ (left g d)
 
 pub returns : goal.returns
 returns g c =
     let on = g.met.H.Held.stays_on in
     let d = (goal.at.returns g c).After-remove-key in
-    hopped g.K.TableKey.hash _ _ _ c.args.hop c.requires (sym c.power.ensures.value ∙ c.if-power-hop.false) _ _ _ (found g d) _ (left g d) _ c.place.ensures.content
-    (on _ _ _ c.power.ensures.stays (on _ _ _ c.has_partial.ensures.stays (on _ _ _ c.free.ensures.stays (on _ _ _ c.remove-key.ensures.stays c.place.ensures.stays))))
+    hopped g.K.TableKey.hash _ _ _ c.args.hop c.requires (sym c.power.ensures.value ∙ c.if-power-hop.false) _ _ _ (found g d) _ (left g d) _ c.put.ensures.content
+    (on _ _ _ c.power.ensures.stays (on _ _ _ c.has_partial.ensures.stays (on _ _ _ c.free.ensures.stays (on _ _ _ c.remove-key.ensures.stays c.put.ensures.stays))))

@@ -27,14 +27,14 @@ returns-in_default-slot_for-clause-stays g c =
     let on = g.met.H.Held.stays_on in
     on _ _ _ c.find_slot.ensures.stays (on _ _ _ c.find_slot-2.ensures.stays c.slot_for.ensures.stays)
 
-pub place-requires-clause-reach : goal.place-requires-clause-reach
-place-requires-clause-reach g c =
+pub put-requires-clause-reach : goal.put-requires-clause-reach
+put-requires-clause-reach g c =
     let free = c.in-Some-slot_for.ensures in
     to_reach _ _ _ _ _ _ c.requires.first c.requires.second c.requires.different _ _ c.find_slot.ensures.same c.find_slot-2.ensures.same c.in-Some.at c.in-Some.ensures.occupied
     (was_missed _ _ c.if-is_some.ensures c.find_slot-2.ensures.nowhere) c.in-Some-slot_for.free free.slot free.free _ c.slot_for.ensures.same _ _ _ c.remove-value.ensures.entry c.remove-value.ensures.content
 
-pub place-requires-clause-free : goal.place-requires-clause-free
-place-requires-clause-free g c =
+pub put-requires-clause-free : goal.put-requires-clause-free
+put-requires-clause-free g c =
     let free = c.in-Some-slot_for.ensures in
     to_free _ _ _ _ _ _ c.requires.first c.requires.second c.requires.different _ _ c.find_slot.ensures.same c.find_slot-2.ensures.same c.in-Some.at c.in-Some.ensures.occupied
     (was_missed _ _ c.if-is_some.ensures c.find_slot-2.ensures.nowhere) c.in-Some-slot_for.free free.slot free.free _ c.slot_for.ensures.same _ _ _ c.remove-value.ensures.entry c.remove-value.ensures.content
@@ -43,15 +43,15 @@ pub returns-clause-call : goal.returns-clause-call
 returns-clause-call g c =
     let free = c.in-Some-slot_for.ensures in
     renamed _ _ _ _ _ _ c.requires.first c.requires.second c.requires.different _ _ c.find_slot.ensures.same c.find_slot-2.ensures.same c.in-Some.at c.in-Some.ensures.occupied
-    (was_missed _ _ c.if-is_some.ensures c.find_slot-2.ensures.nowhere) c.in-Some-slot_for.free free.slot free.free _ c.slot_for.ensures.same _ _ _ c.remove-value.ensures.entry c.remove-value.ensures.content _ c.place.ensures.content
+    (was_missed _ _ c.if-is_some.ensures c.find_slot-2.ensures.nowhere) c.in-Some-slot_for.free free.slot free.free _ c.slot_for.ensures.same _ _ _ c.remove-value.ensures.entry c.remove-value.ensures.content _ c.put.ensures.content
 
 pub returns-clause-rest : goal.returns-clause-rest
 returns-clause-rest g c =
     let free = c.in-Some-slot_for.ensures in
     renamed_contents _ _ _ _ _ _ c.requires.first c.requires.second c.requires.different _ _ c.find_slot.ensures.same c.find_slot-2.ensures.same c.in-Some.at c.in-Some.ensures.occupied
-    (was_missed _ _ c.if-is_some.ensures c.find_slot-2.ensures.nowhere) c.in-Some-slot_for.free free.slot free.free _ c.slot_for.ensures.same _ _ _ c.remove-value.ensures.entry c.remove-value.ensures.content _ c.place.ensures.content
+    (was_missed _ _ c.if-is_some.ensures c.find_slot-2.ensures.nowhere) c.in-Some-slot_for.free free.slot free.free _ c.slot_for.ensures.same _ _ _ c.remove-value.ensures.entry c.remove-value.ensures.content _ c.put.ensures.content
 
 pub returns-clause-stays : goal.returns-clause-stays
 returns-clause-stays g c =
     let on = g.met.H.Held.stays_on in
-    on _ _ _ c.find_slot.ensures.stays (on _ _ _ c.find_slot-2.ensures.stays (on _ _ _ c.slot_for.ensures.stays (on _ _ _ c.remove-value.ensures.stays c.place.ensures.stays)))
+    on _ _ _ c.find_slot.ensures.stays (on _ _ _ c.find_slot-2.ensures.stays (on _ _ _ c.slot_for.ensures.stays (on _ _ _ c.remove-value.ensures.stays c.put.ensures.stays)))

@@ -26,35 +26,35 @@ remove-key_b-requires-clause-full g c =
     second_full _ _ _ _ _ _ c.requires.first c.requires.second c.requires.different _ _ c.find_slot.ensures.same c.find_slot-2.ensures.same c.in-Some.at_a c.in-Some-find_slot.at_b c.in-Some.ensures.occupied c.in-Some-find_slot.ensures.occupied
     _ _ _ c.remove-key_a.ensures.entry c.remove-key_a.ensures.content
 
-pub place-requires-clause-partial : goal.place-requires-clause-partial
-place-requires-clause-partial g c =
+pub put-requires-clause-partial : goal.put-requires-clause-partial
+put-requires-clause-partial g c =
     partial_first _ _ _ _ _ _ c.requires.first c.requires.second c.requires.different _ _ c.find_slot.ensures.same c.find_slot-2.ensures.same c.in-Some.at_a c.in-Some-find_slot.at_b c.in-Some.ensures.occupied c.in-Some-find_slot.ensures.occupied
     _ _ _ c.remove-key_a.ensures.entry c.remove-key_a.ensures.content
 
-pub place-requires-clause-reach : goal.place-requires-clause-reach
-place-requires-clause-reach g c =
+pub put-requires-clause-reach : goal.put-requires-clause-reach
+put-requires-clause-reach g c =
     first_reach _ _ _ _ _ _ c.requires.first c.requires.second c.requires.different _ _ c.find_slot.ensures.same c.find_slot-2.ensures.same c.in-Some.at_a c.in-Some-find_slot.at_b c.in-Some.ensures.occupied c.in-Some-find_slot.ensures.occupied
     _ _ _ c.remove-key_a.ensures.entry c.remove-key_a.ensures.content _ _ _ c.remove-key_b.ensures.entry c.remove-key_b.ensures.content c.f-value_a.result.0 c.f-value_a.result.1
 
-pub place-requires-clause-free : goal.place-requires-clause-free
-place-requires-clause-free g c =
+pub put-requires-clause-free : goal.put-requires-clause-free
+put-requires-clause-free g c =
     first_free _ _ _ _ _ _ c.requires.first c.requires.second c.requires.different _ _ c.find_slot.ensures.same c.find_slot-2.ensures.same c.in-Some.at_a c.in-Some-find_slot.at_b c.in-Some.ensures.occupied c.in-Some-find_slot.ensures.occupied
     _ _ _ c.remove-key_a.ensures.entry c.remove-key_a.ensures.content _ _ _ c.remove-key_b.ensures.entry c.remove-key_b.ensures.content c.f-value_a.result.0 c.f-value_a.result.1
 
-pub place-requires-2-clause-partial : goal.place-requires-2-clause-partial
-place-requires-2-clause-partial g c =
+pub put-requires-2-clause-partial : goal.put-requires-2-clause-partial
+put-requires-2-clause-partial g c =
     partial_second _ _ _ _ _ _ c.requires.first c.requires.second c.requires.different _ _ c.find_slot.ensures.same c.find_slot-2.ensures.same c.in-Some.at_a c.in-Some-find_slot.at_b c.in-Some.ensures.occupied c.in-Some-find_slot.ensures.occupied
     _ _ _ c.remove-key_a.ensures.entry c.remove-key_a.ensures.content _ _ _ c.remove-key_b.ensures.entry c.remove-key_b.ensures.content c.f-value_a.result.0 c.f-value_a.result.1
 
-pub place-requires-2-clause-reach : goal.place-requires-2-clause-reach
-place-requires-2-clause-reach g c =
+pub put-requires-2-clause-reach : goal.put-requires-2-clause-reach
+put-requires-2-clause-reach g c =
     again_reach _ _ _ _ _ _ c.requires.first c.requires.second c.requires.different _ _ c.find_slot.ensures.same c.find_slot-2.ensures.same c.in-Some.at_a c.in-Some-find_slot.at_b c.in-Some.ensures.occupied c.in-Some-find_slot.ensures.occupied
-    _ _ _ c.remove-key_a.ensures.entry c.remove-key_a.ensures.content _ _ _ c.remove-key_b.ensures.entry c.remove-key_b.ensures.content c.f-value_a.result.0 c.f-value_a.result.1 _ c.place.ensures.content
+    _ _ _ c.remove-key_a.ensures.entry c.remove-key_a.ensures.content _ _ _ c.remove-key_b.ensures.entry c.remove-key_b.ensures.content c.f-value_a.result.0 c.f-value_a.result.1 _ c.put.ensures.content
 
-pub place-requires-2-clause-free : goal.place-requires-2-clause-free
-place-requires-2-clause-free g c =
+pub put-requires-2-clause-free : goal.put-requires-2-clause-free
+put-requires-2-clause-free g c =
     again_free _ _ _ _ _ _ c.requires.first c.requires.second c.requires.different _ _ c.find_slot.ensures.same c.find_slot-2.ensures.same c.in-Some.at_a c.in-Some-find_slot.at_b c.in-Some.ensures.occupied c.in-Some-find_slot.ensures.occupied
-    _ _ _ c.remove-key_a.ensures.entry c.remove-key_a.ensures.content _ _ _ c.remove-key_b.ensures.entry c.remove-key_b.ensures.content c.f-value_a.result.0 c.f-value_a.result.1 _ c.place.ensures.content
+    _ _ _ c.remove-key_a.ensures.entry c.remove-key_a.ensures.content _ _ _ c.remove-key_b.ensures.entry c.remove-key_b.ensures.content c.f-value_a.result.0 c.f-value_a.result.1 _ c.put.ensures.content
 
 pub returns-clause-call : goal.returns-clause-call
 returns-clause-call g c = (
@@ -64,18 +64,18 @@ returns-clause-call g c = (
   c.f-value_a.result.1,
   c.f-value_a.ensures,
   exchanged _ _ _ _ _ _ c.requires.first c.requires.second c.requires.different _ _ c.find_slot.ensures.same c.find_slot-2.ensures.same c.in-Some.at_a c.in-Some-find_slot.at_b c.in-Some.ensures.occupied c.in-Some-find_slot.ensures.occupied
-      _ _ _ c.remove-key_a.ensures.entry c.remove-key_a.ensures.content _ _ _ c.remove-key_b.ensures.entry c.remove-key_b.ensures.content c.f-value_a.result.0 c.f-value_a.result.1 _ c.place.ensures.content _ c.place-2.ensures.content,
+      _ _ _ c.remove-key_a.ensures.entry c.remove-key_a.ensures.content _ _ _ c.remove-key_b.ensures.entry c.remove-key_b.ensures.content c.f-value_a.result.0 c.f-value_a.result.1 _ c.put.ensures.content _ c.put-2.ensures.content,
 )
 
 pub returns-clause-rest : goal.returns-clause-rest
 returns-clause-rest g c =
     exchanged_contents _ _ _ _ _ _ c.requires.first c.requires.second c.requires.different _ _ c.find_slot.ensures.same c.find_slot-2.ensures.same c.in-Some.at_a c.in-Some-find_slot.at_b c.in-Some.ensures.occupied c.in-Some-find_slot.ensures.occupied
-    _ _ _ c.remove-key_a.ensures.entry c.remove-key_a.ensures.content _ _ _ c.remove-key_b.ensures.entry c.remove-key_b.ensures.content c.f-value_a.result.0 c.f-value_a.result.1 _ c.place.ensures.content _ c.place-2.ensures.content
+    _ _ _ c.remove-key_a.ensures.entry c.remove-key_a.ensures.content _ _ _ c.remove-key_b.ensures.entry c.remove-key_b.ensures.content c.f-value_a.result.0 c.f-value_a.result.1 _ c.put.ensures.content _ c.put-2.ensures.content
 
 pub returns-clause-stays : goal.returns-clause-stays
 returns-clause-stays g c =
     let on = g.met.H.Held.stays_on in
-    on _ _ _ c.find_slot.ensures.stays (on _ _ _ c.find_slot-2.ensures.stays (on _ _ _ c.remove-key_a.ensures.stays (on _ _ _ c.remove-key_b.ensures.stays (on _ _ _ c.place.ensures.stays c.place-2.ensures.stays))))
+    on _ _ _ c.find_slot.ensures.stays (on _ _ _ c.find_slot-2.ensures.stays (on _ _ _ c.remove-key_a.ensures.stays (on _ _ _ c.remove-key_b.ensures.stays (on _ _ _ c.put.ensures.stays c.put-2.ensures.stays))))
 
 pub find_slot-requires : goal.find_slot-requires
 find_slot-requires g c = c.requires.first
@@ -107,8 +107,8 @@ remove-key_a-requires-clause-full g c = full_still (g.H.Held.stripes c.args.held
 pub remove-key_b-requires-clause-below : goal.remove-key_b-requires-clause-below
 remove-key_b-requires-clause-below g c = c.in-Some-find_slot.ensures.occupied.slot.below
 
-pub place-requires-clause-below : goal.place-requires-clause-below
-place-requires-clause-below g c = c.in-Some.ensures.occupied.slot.below
+pub put-requires-clause-below : goal.put-requires-clause-below
+put-requires-clause-below g c = c.in-Some.ensures.occupied.slot.below
 
-pub place-requires-2-clause-below : goal.place-requires-2-clause-below
-place-requires-2-clause-below g c = c.in-Some-find_slot.ensures.occupied.slot.below
+pub put-requires-2-clause-below : goal.put-requires-2-clause-below
+put-requires-2-clause-below g c = c.in-Some-find_slot.ensures.occupied.slot.below

@@ -35,7 +35,7 @@ loop-t-preserved g c =
       table = c.exchange.ensures.0 ∙ (c.turn_by.ensures.table ∙ c.loop-t.invariant.table);
       view = ap (λ (m : Hand g.row.V.Denot). m.0) c.exchange.ensures.3 ∙ (ap (λ (m : Hand g.row.V.Denot). m.0) c.turn_by.ensures.turned ∙ c.loop-t.invariant.view);
       slots = lifted_more t rs (stripe_at rs t) c.turn_by.new.seat.me.1 c.exchange.new.seat.me.1 front (ap (λ (m : Hand g.row.V.Denot). m.1) c.exchange.ensures.3);
-      listed = listed_more t rs c.loop-t.list.items c.push_reserved.new.self.items c.in-Some.stripe (omega arith) c.loop-t.invariant.listed stripe c.push_reserved.ensures.items;
+      listed = listed_more t rs c.loop-t.list.list.items c.push_reserved.new.self.list.items c.in-Some.stripe (omega arith) c.loop-t.invariant.listed stripe c.push_reserved.ensures.items;
       room = c.push_reserved.ensures.capacity ∙ c.loop-t.invariant.room;
     }
 

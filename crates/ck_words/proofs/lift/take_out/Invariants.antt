@@ -9,6 +9,6 @@ invariant-loop-t g l = record {
   table : l.seat.table_id ≡ l.initial.seat.table_id;
   view : l.seat.me.0 ≡ l.initial.seat.me.0;
   slots : l.seat.me.1 ≡ lifted_to l.t (held_in l.initial.seat.me.1);
-  listed : l.list.items ≡ take l.t (held_in l.initial.seat.me.1);
-  room : vec_capacity l.list ≡ vec_capacity l.initial.list;
+  listed : l.list.list.items ≡ take l.t (held_in l.initial.seat.me.1);
+  room : vec_capacity l.list.list ≡ vec_capacity l.initial.list.list;
 }

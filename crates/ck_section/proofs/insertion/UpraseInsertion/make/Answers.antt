@@ -9,8 +9,8 @@ use Rattle.ck_section.proofs.insertion.UpraseInsertion.make.Goals as goal
 pub remove-own-requires : goal.remove-own-requires
 remove-own-requires g c = ready _ _ _ _ c.requires.place _ refl c.in-Occupied.at (occupied_here _ _ _ _ c.args.entry c.in-Occupied.at c.in-Occupied.is c.requires.entry)
 
-pub place-requires : goal.place-requires
-place-requires g c = ready_again _ _ _ _ c.requires.place _ refl c.in-Occupied.at (occupied_here _ _ _ _ c.args.entry c.in-Occupied.at c.in-Occupied.is c.requires.entry) _ _ c.remove-own.result.1 c.remove-own.ensures.entry c.remove-own.ensures.content
+pub put-requires : goal.put-requires
+put-requires g c = ready_again _ _ _ _ c.requires.place _ refl c.in-Occupied.at (occupied_here _ _ _ _ c.args.entry c.in-Occupied.at c.in-Occupied.is c.requires.entry) _ _ c.remove-own.result.1 c.remove-own.ensures.entry c.remove-own.ensures.content
 
 pub returns-in-Some-clause-answered : goal.returns-in-Some-clause-answered
 returns-in-Some-clause-answered g c =
@@ -20,14 +20,14 @@ returns-in-Some-clause-answered g c =
       Done v w,
       (v, w, c.in-Some.ensures, (refl, refl)),
       λ i. On (g.K.TableKey.name (c.of-said_key.ensures i)) (Upsert (c.of-said_value.ensures i)),
-      put_back _ _ _ _ c.requires.place _ refl c.in-Occupied.at (occupied_here _ _ _ _ c.args.entry c.in-Occupied.at c.in-Occupied.is c.requires.entry) _ _ c.remove-own.result.1 c.remove-own.ensures.entry c.remove-own.ensures.content w _ c.place.ensures.content (Upsert c.args.value) (Done v w) (w, refl, refl),
+      put_back _ _ _ _ c.requires.place _ refl c.in-Occupied.at (occupied_here _ _ _ _ c.args.entry c.in-Occupied.at c.in-Occupied.is c.requires.entry) _ _ c.remove-own.result.1 c.remove-own.ensures.entry c.remove-own.ensures.content w _ c.put.ensures.content (Upsert c.args.value) (Done v w) (w, refl, refl),
     )
 
 pub returns-in-Some-clause-rest : goal.returns-in-Some-clause-rest
-returns-in-Some-clause-rest g c = put_back_changes _ _ _ _ c.requires.place _ refl c.in-Occupied.at (occupied_here _ _ _ _ c.args.entry c.in-Occupied.at c.in-Occupied.is c.requires.entry) _ _ c.remove-own.result.1 c.remove-own.ensures.entry c.remove-own.ensures.content c.in-Some.new _ c.place.ensures.content
+returns-in-Some-clause-rest g c = put_back_changes _ _ _ _ c.requires.place _ refl c.in-Occupied.at (occupied_here _ _ _ _ c.args.entry c.in-Occupied.at c.in-Occupied.is c.requires.entry) _ _ c.remove-own.result.1 c.remove-own.ensures.entry c.remove-own.ensures.content c.in-Some.new _ c.put.ensures.content
 
 pub returns-in-Some-clause-others : goal.returns-in-Some-clause-others
-returns-in-Some-clause-others g c = put_back_keeps _ _ _ _ c.requires.place _ refl c.in-Occupied.at (occupied_here _ _ _ _ c.args.entry c.in-Occupied.at c.in-Occupied.is c.requires.entry) _ _ c.remove-own.result.1 c.remove-own.ensures.entry c.remove-own.ensures.content c.in-Some.new _ c.place.ensures.content
+returns-in-Some-clause-others g c = put_back_keeps _ _ _ _ c.requires.place _ refl c.in-Occupied.at (occupied_here _ _ _ _ c.args.entry c.in-Occupied.at c.in-Occupied.is c.requires.entry) _ _ c.remove-own.result.1 c.remove-own.ensures.entry c.remove-own.ensures.content c.in-Some.new _ c.put.ensures.content
 
 -- the closure made nothing
 pub returns-in-Occupied-clause-answered : goal.returns-in-Occupied-clause-answered

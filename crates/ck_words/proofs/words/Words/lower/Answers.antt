@@ -10,7 +10,7 @@ use Rattle.ck_words.proofs.words.Words.lower.Goals as goal
 
 pub invariant_of-result : goal.invariant_of-result
 invariant_of-result g c =
-    let rs : List (StripeState g.row.V.Denot) = c.whole.inside.stripes.items in
+    let rs : List (StripeState g.row.V.Denot) = c.whole.inside.stripes.list.items in
     let n = c.slot_count.result in
     let same = ap (λ (p : PassState g.row.V.Denot). p.table) c.whole.view_is ∙ (c.requires.own.0 ∙ sym (ap (λ (w : WordsState). w.table) c.self.view_is)) in
     let many : c.whole.inside.seat.table_id.slots ≡ n = ap (λ (t : TableId). t.slots) same ∙ sym c.slot_count.ensures in
@@ -22,10 +22,10 @@ invariant_of-result g c =
     record {
       seated = seated_again c.whole.inside.seat.table_id c.put_back.new.seat.table_id n c.whole.inside.seat.me c.put_back.new.seat.me rs c.whole.invariant many named each c.put_back.ensures.table c.put_back.ensures.view c.put_back.ensures.full;
       empty = c.put_back.ensures.empty;
-      room = (let count = count_of n rs named in let kept = c.put_back.ensures.capacity in let table = ap (λ (t : TableId). t.slots) c.put_back.ensures.table in let ok = c.whole.inside.stripes.ok in omega arith);
+      room = (let count = count_of n rs named in let kept = c.put_back.ensures.capacity in let table = ap (λ (t : TableId). t.slots) c.put_back.ensures.table in let ok = c.whole.inside.stripes.list.ok in omega arith);
     }
 
 pub returns : goal.returns
 returns g c =
-    let rs : List (StripeState g.row.V.Denot) = c.whole.inside.stripes.items in
+    let rs : List (StripeState g.row.V.Denot) = c.whole.inside.stripes.list.items in
     (λ j. record { table = c.put_back.ensures.table j; view = c.put_back.ensures.view j; stripes = held_again c.put_back.new.seat.me rs c.put_back.ensures.full j }) ∙ c.whole.view_is

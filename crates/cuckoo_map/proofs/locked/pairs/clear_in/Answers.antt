@@ -10,13 +10,13 @@ use Rattle.cuckoo_map.proofs.locked.pairs.clear_in.Goals as goal
 
 pub returns-clause-cleared : goal.returns-clause-cleared
 returns-clause-cleared g c = λ s max table.
-    let were = c.deref_mut.ensures.value ∙ ap (λ (p : PassState g.row.V.Denot). p.stripes) c.whole.view_is in
-    through_slice (λ (a b : List (StripeState g.row.V.Denot)). ClearsBindings (layout g.K.TableKey.hash s max) a b) c.deref_mut.result.now c.args.whole.now.stripes were
-    c.whole.inside.stripes.len c.whole.inside.stripes.items c.clear_all.new.stripes (omega arith)
+    let were = c.as_mut_slice.ensures.value ∙ ap (λ (p : PassState g.row.V.Denot). p.stripes) c.whole.view_is in
+    through_slice (λ (a b : List (StripeState g.row.V.Denot)). ClearsBindings (layout g.K.TableKey.hash s max) a b) c.as_mut_slice.result.now c.args.whole.now.stripes were
+    c.whole.inside.stripes.list.len c.whole.inside.stripes.list.items c.clear_all.new.stripes (omega arith)
     (c.clear_all.ensures.cleared s max (subst (λ (ss : List (StripeState g.row.V.Denot)). IsTable s ss) (sym were) table))
 
 pub returns-clause-changes : goal.returns-clause-changes
 returns-clause-changes g c =
-    let were = c.deref_mut.ensures.value ∙ ap (λ (p : PassState g.row.V.Denot). p.stripes) c.whole.view_is in
-    through_slice (λ (a b : List (StripeState g.row.V.Denot)). ChangesContents a b) c.deref_mut.result.now c.args.whole.now.stripes were
-    c.whole.inside.stripes.len c.whole.inside.stripes.items c.clear_all.new.stripes (omega arith) c.clear_all.ensures.changes
+    let were = c.as_mut_slice.ensures.value ∙ ap (λ (p : PassState g.row.V.Denot). p.stripes) c.whole.view_is in
+    through_slice (λ (a b : List (StripeState g.row.V.Denot)). ChangesContents a b) c.as_mut_slice.result.now c.args.whole.now.stripes were
+    c.whole.inside.stripes.list.len c.whole.inside.stripes.list.items c.clear_all.new.stripes (omega arith) c.clear_all.ensures.changes

@@ -10,19 +10,19 @@ use Rattle.cuckoo_map.proofs.locked.pairs.retain_in.Goals as goal
 
 pub returns-clause-asked : goal.returns-clause-asked
 returns-clause-asked g c =
-    let were = c.deref_mut.ensures.value ∙ ap (λ (p : PassState g.row.V.Denot). p.stripes) c.whole.view_is in
-    through_slice (λ (a b : List (StripeState g.row.V.Denot)). AsksAboutStripes g.F.FnMut g.K.TableKey.name c.args.f.now a b c.retain_all.new.f) c.deref_mut.result.now c.args.whole.now.stripes were
-    c.whole.inside.stripes.len c.whole.inside.stripes.items c.retain_all.new.stripes (omega arith) c.retain_all.ensures.asked
+    let were = c.as_mut_slice.ensures.value ∙ ap (λ (p : PassState g.row.V.Denot). p.stripes) c.whole.view_is in
+    through_slice (λ (a b : List (StripeState g.row.V.Denot)). AsksAboutStripes g.F.FnMut g.K.TableKey.name c.args.f.now a b c.retain_all.new.f) c.as_mut_slice.result.now c.args.whole.now.stripes were
+    c.whole.inside.stripes.list.len c.whole.inside.stripes.list.items c.retain_all.new.stripes (omega arith) c.retain_all.ensures.asked
 
 pub returns-clause-retained : goal.returns-clause-retained
 returns-clause-retained g c = λ s max table.
-    let were = c.deref_mut.ensures.value ∙ ap (λ (p : PassState g.row.V.Denot). p.stripes) c.whole.view_is in
-    through_slice (λ (a b : List (StripeState g.row.V.Denot)). RetainsBindings g.F.FnMut g.K.TableKey.name c.args.f.now (layout g.K.TableKey.hash s max) a b) c.deref_mut.result.now c.args.whole.now.stripes were
-    c.whole.inside.stripes.len c.whole.inside.stripes.items c.retain_all.new.stripes (omega arith)
+    let were = c.as_mut_slice.ensures.value ∙ ap (λ (p : PassState g.row.V.Denot). p.stripes) c.whole.view_is in
+    through_slice (λ (a b : List (StripeState g.row.V.Denot)). RetainsBindings g.F.FnMut g.K.TableKey.name c.args.f.now (layout g.K.TableKey.hash s max) a b) c.as_mut_slice.result.now c.args.whole.now.stripes were
+    c.whole.inside.stripes.list.len c.whole.inside.stripes.list.items c.retain_all.new.stripes (omega arith)
     (c.retain_all.ensures.retained s max (subst (λ (ss : List (StripeState g.row.V.Denot)). IsTable s ss) (sym were) table))
 
 pub returns-clause-changes : goal.returns-clause-changes
 returns-clause-changes g c =
-    let were = c.deref_mut.ensures.value ∙ ap (λ (p : PassState g.row.V.Denot). p.stripes) c.whole.view_is in
-    through_slice (λ (a b : List (StripeState g.row.V.Denot)). ChangesContents a b) c.deref_mut.result.now c.args.whole.now.stripes were
-    c.whole.inside.stripes.len c.whole.inside.stripes.items c.retain_all.new.stripes (omega arith) c.retain_all.ensures.changes
+    let were = c.as_mut_slice.ensures.value ∙ ap (λ (p : PassState g.row.V.Denot). p.stripes) c.whole.view_is in
+    through_slice (λ (a b : List (StripeState g.row.V.Denot)). ChangesContents a b) c.as_mut_slice.result.now c.args.whole.now.stripes were
+    c.whole.inside.stripes.list.len c.whole.inside.stripes.list.items c.retain_all.new.stripes (omega arith) c.retain_all.ensures.changes

@@ -21,8 +21,8 @@ returns-in-Ok-clause-stays g c =
     let there : c.renew.new.self.pass.now ≡ c.pass-1.given.0 = search rules in
     rw (← there) (stays_home (c.double_to-grown.ensures.stays.5 ∙ c.self.view_is) c.lock_all.new.pass c.double_to-grown.new.held.pass.now c.double_to-grown.ensures.stays.1 c.args.pass.now c.renew.new.self.pass.now c.lock_all.ensures.stays c.renew.ensures.released)
 
-pub returns-in-Err-clause-stays : goal.returns-in-Err-clause-stays
-returns-in-Err-clause-stays g c =
+pub returns-clause-stays : goal.returns-clause-stays
+returns-clause-stays g c =
     let there : c.renew.new.self.pass.now ≡ c.pass-1.given.0 = search rules in
     rw (← there) (stays_home (c.double_to-grown.ensures.stays.5 ∙ c.self.view_is) c.lock_all.new.pass c.double_to-grown.new.held.pass.now c.double_to-grown.ensures.stays.1 c.args.pass.now c.renew.new.self.pass.now c.lock_all.ensures.stays c.renew.ensures.released)
 
@@ -35,8 +35,8 @@ returns-in-Ok-clause-rehashed g c =
     (below_max c.self.view_is c.settings-s.ensures.value c.if-max-power.false) c.in_ok-lock_all.ensures.whole c.double_to-grown.ensures.no_call)
     c.lock_all.ensures.stays.doublings c.renew.ensures.doubled c.in-Ok.grown c.in-Ok.ensures.reached)
 
-pub returns-in-Err-clause-rehashed : goal.returns-in-Err-clause-rehashed
-returns-in-Err-clause-rehashed g c =
+pub returns-clause-rehashed : goal.returns-clause-rehashed
+returns-clause-rehashed g c =
     let there : c.renew.new.self.pass.now ≡ c.pass-1.given.0 = search rules in
     rw (← there) (short_home c.args.pass.now c.lock_all.new.pass c.double_to-grown.new.held.pass.now c.renew.new.self.pass.now
     c.lock_all.ensures.stays c.in_ok-lock_all.ensures.whole c.in_ok-lock_all.ensures.table c.double_to-grown.ensures.stays.1 c.renew.ensures.told (below_max c.self.view_is c.settings-s.ensures.value c.if-max-power.false)

@@ -1,7 +1,7 @@
 use Rattle.std.proofs.Common.{◌≡◌, ℕ, ◌*◌, ◌%◌, ◌^◌, ◌<◌, ◌≤◌, subst, below_more, arith}
 use Rattle.std.proofs.Math.Nat.{mod-eq_of_lt}
 use Rattle.std.proofs.Math.Pow.{pow_mono}
-use Rattle.cuckoo_map.proofs.growth.least_power.Goals as goal
+use Rattle.cuckoo_map.proofs.room.growth.least_power.Goals as goal
 
 -- so many slots are counted
 slots_fit : (p : ℕ) → p ≤ 61 → 4 * 2 ^ p % 18446744073709551616 ≡ 4 * 2 ^ p

@@ -1,7 +1,7 @@
 use Rattle.std.proofs.Common.{◌≡◌, ◌≤◌}
 use Rattle.ck_stripe.specs.Tables.{IsTable, power_in}
 use Rattle.cuckoo_map.proofs.Growing.{Keeps}
-use Rattle.cuckoo_map.proofs.growth.double_to.Given as goal
+use Rattle.cuckoo_map.proofs.room.growth.double_to.Given as goal
 
 abbrev pub invariant-doublings : goal.invariant-doublings
 invariant-doublings g l = record {

@@ -3,7 +3,7 @@ use Rattle.ck_stripe.specs.Stripe.{StripeState}
 use Rattle.ck_stripe.specs.Tables.{power_in}
 use Rattle.ck_stripe.specs.Stripes.{contents_of}
 use Rattle.cuckoo_map.proofs.Growing.{settles_table, power_next, keeps_contents, keeps_more, reached_by}
-use Rattle.cuckoo_map.proofs.growth.double_to.Goals as goal
+use Rattle.cuckoo_map.proofs.room.growth.double_to.Goals as goal
 
 pub double_all-requires-clause-table : goal.double_all-requires-clause-table
 double_all-requires-clause-table g c = (settles_table c.args.s _ _ c.doublings.invariant.table c.settle_all.ensures.settled).table

@@ -1,6 +1,6 @@
 use Rattle.cuckoo_map.proofs.Growing.{settles_table, keeps_contents}
 use Rattle.cuckoo_map.proofs.LockedGrowing.{all_held, reached_settled}
-use Rattle.cuckoo_map.proofs.locked.growth.double_in.Goals as goal
+use Rattle.cuckoo_map.proofs.table.Table.double_in.Goals as goal
 
 pub returns-clause-held : goal.returns-clause-held
 returns-clause-held g c = all_held c.args.s c.double_to-grown.new.held.stripes c.settle_all.new.held.stripes c.double_to-grown.ensures.table c.settle_all.ensures.settled

@@ -1,5 +1,5 @@
 use Rattle.cuckoo_map.proofs.Sessions.{seeks_room}
-use Rattle.cuckoo_map.proofs.locked.insertions.make_room_in.Goals as goal
+use Rattle.cuckoo_map.proofs.table.Table.make_room_in.Goals as goal
 
 pub returns-clause-room : goal.returns-clause-room
 returns-clause-room g c =
