@@ -49,7 +49,6 @@ mod locking;
 mod changes;
 mod insertions;
 mod key_pairs;
-mod keys_with_room;
 mod look_ups;
 mod renames;
 mod several_keys;

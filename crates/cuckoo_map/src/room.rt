@@ -19,6 +19,7 @@ mod ahead;
 mod all;
 mod displace;
 mod growth;
+mod keys;
 mod preparation;
 mod search;
 

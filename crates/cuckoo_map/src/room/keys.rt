@@ -127,12 +127,13 @@ impl<K: TableKey + Drop, V: Drop> Table<K, V> {
         } = self.words.settings();
         self.lock_all(pass)?;
         let all = self.words.all();
+        let mut grower = self.grower();
         let mut guard = guard!(&self.words, pass, all);
         settle_all(&mut guard);
         if has_room_for_all(&mut guard, s, keys) {
             return Ok(Some(all));
         }
-        let grown = grow(&mut guard, s, max, min_load, &mut None);
+        let grown = grow(&mut guard, s, max, min_load, &mut grower);
         guard.renew();
         match grown {
             Ok(()) => Ok(None),
