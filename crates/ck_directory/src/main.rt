@@ -68,38 +68,19 @@ fn rename(mut clerk: Clerk, account: u32, name: u32) -> Result<Clerk> {
     Ok(rows.unlock())
 }
 
-impl Row {
-    /// The row with so much more on the account.
-    fn plus(self, amount: u64) -> Option<Row> {
-        match self {
-            Row::Account { balance, name } => {
-                let balance = balance.checked_add(amount)?;
-                Some(Row::Account { balance, name })
-            }
-            Row::Index(_) => None,
-        }
-    }
-
-    /// The row with so much less on the account.
-    fn minus(self, amount: u64) -> Option<Row> {
-        match self {
-            Row::Account { balance, name } => {
-                let balance = balance.checked_sub(amount)?;
-                Some(Row::Account { balance, name })
-            }
-            Row::Index(_) => None,
-        }
-    }
-}
-
 /// One from each of two accounts to the third, where they have it.
 fn collect(rows: &mut [Row]) {
-    let [from, other, to] = rows else {
+    let [
+        Row::Account { balance: from, .. },
+        Row::Account { balance: other, .. },
+        Row::Account { balance: to, .. },
+    ] = rows
+    else {
         return;
     };
-    if let (Some(less), Some(fewer), Some(more)) = (from.minus(1), other.minus(1), to.plus(2)) {
-        *from = less;
-        *other = fewer;
+    if let (1.., 1.., Some(more)) = (*from, *other, to.checked_add(2)) {
+        *from -= 1;
+        *other -= 1;
         *to = more;
     }
 }
@@ -117,14 +98,14 @@ fn collect_to(clerk: &mut Clerk, to: u32) -> Result<(), KeysRefused> {
 }
 
 /// What a thread does.
-fn work(mut clerk: Clerk, number: u32) -> Result<Clerk> {
+fn work(mut clerk: Clerk, number: u32) -> Result<()> {
     for step in 0..STEPS {
         let account = step.wrapping_add(number) % 3;
         let name = step.wrapping_mul(3).wrapping_add(number) % NAMES;
         clerk = rename(clerk, account, name)?;
         collect_to(&mut clerk, step % 3)?;
     }
-    Ok(clerk)
+    Ok(())
 }
 
 /// The rows of all accounts and all names, of one moment.
@@ -162,17 +143,17 @@ fn sum_of(accounts: [Option<Row>; 3], names: [Option<Row>; 5]) -> Option<u64> {
 }
 
 /// Looks at all rows, again and again.
-fn audit(mut clerk: Clerk) -> Result<Clerk> {
+fn audit(mut clerk: Clerk) -> Result<()> {
     for _ in 0..AUDITS {
         let (accounts, names) = look(&mut clerk)?;
         let sum = sum_of(accounts, names).context("the index is wrong")?;
         ensure!(sum == 3 * FUND, "{sum} is left");
     }
-    Ok(clerk)
+    Ok(())
 }
 
 /// What the clerk of this number does: the first one audits, and the others work.
-fn run(clerk: Clerk, number: u32) -> Result<Clerk> {
+fn run(clerk: Clerk, number: u32) -> Result<()> {
     if number == 0 {
         audit(clerk)
     } else {
@@ -180,22 +161,22 @@ fn run(clerk: Clerk, number: u32) -> Result<Clerk> {
     }
 }
 
-/// Lets each of them run in a thread of its own, and gives one of them back.
-fn run_all(rt: &(impl Threads + Sync), alloc: Global, clerks: Vec<Clerk>) -> Result<Clerk> {
+/// Lets each of them run in a thread of its own.
+fn run_all(rt: &(impl Threads + Sync), alloc: Global, clerks: Vec<Clerk>) -> Result<()> {
     let jobs: Vec<(Clerk, u32)> = clerks.into_iter().zip(0..5u32).collect(alloc)?;
-    let mut back = None;
     for done in thread::map_vec(rt, jobs, &|(clerk, number)| run(clerk, number))? {
-        back = Some(done?);
+        done?;
     }
-    back.context("no clerk")
+    Ok(())
 }
 
 /// What is on the accounts after all that the clerks do.
 fn sum_at_end(rt: &(impl Threads + Sync), alloc: Global) -> Result<u64> {
-    let mut clerks = Handle::open(alloc, Settings::for_keys(100, 5))?;
-    open_accounts(clerks.first_mut().context("no clerk")?)?;
-    let mut clerk = run_all(rt, alloc, clerks)?;
-    let (accounts, names) = look(&mut clerk)?;
+    let mut clerks = Handle::open(alloc, Settings::for_keys(100, 6))?;
+    let mut last = clerks.pop().context("no clerk")?;
+    open_accounts(&mut last)?;
+    run_all(rt, alloc, clerks)?;
+    let (accounts, names) = look(&mut last)?;
     sum_of(accounts, names).context("the index is wrong")
 }
 
