@@ -1,7 +1,6 @@
 -- What was seen of a list to which callers add.
 use Rattle.std.proofs.Common.{◌≡◌, ◌≢◌, ◌⊎◌, ℕ, List, [], ◌∷◌, ◌++◌, append-nil, append_assoc, sym, ap, ◌∙◌, subst, ⊎_elim}
-use Rattle.ck_core.specs.Trace.{NoneBy}
-use Rattle.ck_core.specs.State.{Sees}
+use Rattle.ck_core.specs.State.{NoneBy, Sees}
 use Rattle.ck_core.specs.Steps.{longer}
 use Rattle.ck_core.proofs.Lists.{longer_cut}
 
