@@ -46,8 +46,7 @@ module _ {A : Type 0} (by : A → ℕ) where
       sees_both Q R theirs g either =
           let cut = longer_cut seen h.unseen theirs g.unseen (sym h.begins ∙ g.begins) in
           let x = cut.0 in
-          let rest = cut.2 in
-          (
+          let rest = cut.2 in (
             record {
               unseen = rest;
               begins = h.begins ∙ (ap (λ l. seen ++ l) cut.4 ∙ (sym (append_assoc seen x rest) ∙ ap (λ l. l ++ rest) (sym cut.3)));
