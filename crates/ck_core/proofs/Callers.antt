@@ -10,8 +10,7 @@ use Rattle.ck_model.specs.Promise.{StartsWith, subhistory}
 use Rattle.ck_model.proofs.Numbered.{if_same, if_else, in_held, dec_in}
 use Rattle.ck_model.proofs.Histories.{subhistory-append, subhistory-own, subhistory-other, starts_more}
 use Rattle.ck_core.specs.declared.view.View.{View}
-use Rattle.ck_core.specs.Trace.{NoneBy}
-use Rattle.ck_core.specs.State.{Sees, author_of, own, owned, Knows, Callers}
+use Rattle.ck_core.specs.State.{NoneBy, Sees, author_of, own, owned, Knows, Callers}
 use Rattle.ck_core.proofs.Lists.{each_set, each_snoc}
 use Rattle.ck_core.proofs.Sees.{sees_all, sees_as, sees_more}
 

@@ -11,7 +11,8 @@ use Rattle.ck_model.proofs.Histories.{subhistory-append}
 use Rattle.ck_core.specs.declared.trace.LockStep.{LockStep}
 use Rattle.ck_core.specs.declared.trace.LockStep.TheVariants.{Took, Missed, Gave, Decided}
 use Rattle.ck_core.specs.declared.trace.LockEvent.{LockEvent}
-use Rattle.ck_core.specs.Trace.{held_after, held_behind, held_from, holder, Fits, IsLegalTrace, decided_by, decided_in, decides, missed_by, misses, NoneBy, by_of}
+use Rattle.ck_core.specs.State.{NoneBy, by_of}
+use Rattle.ck_core.specs.Trace.{held_after, held_from, holder, Fits, IsLegalTrace, decided_by, decided_in, decides, missed_by, misses}
 use Rattle.ck_core.proofs.Lists.{cut_snoc}
 
 -- which step it is
@@ -75,9 +76,9 @@ module _ {V : Type 0} where
   pub returns_decided : (m : ℕ) (x : Entry V) → x.by ≡ m → Returns m (Decided x)
   returns_decided m x own = record { fits = λ h is. deciding_fits m h x is own; misses_none = λ t. refl; lets_go = λ h. refl }
 
-  held_from_snoc : (t : ℕ) (h : Option ℕ) (es : List (LockEvent V)) (e : LockEvent V) → held_from t h (es ++ e ∷ []) ≡ held_behind t (held_from t h es) e
+  held_from_snoc : (t : ℕ) (h : Option ℕ) (es : List (LockEvent V)) (e : LockEvent V) → held_from t h (es ++ e ∷ []) ≡ (if e.stripe == t then held_after e.step e.by (held_from t h es) else held_from t h es)
   held_from_snoc t h [] e = refl
-  held_from_snoc t h (x ∷ xs) e = held_from_snoc t (held_behind t h x) xs e
+  held_from_snoc t h (x ∷ xs) e = held_from_snoc t (if x.stripe == t then held_after x.step x.by h else h) xs e
 
   -- who holds the stripe of the last step, and another one
   pub holder_here : (es : List (LockEvent V)) (e : LockEvent V) (t : ℕ) → e.stripe ≡ t → holder (es ++ e ∷ []) t ≡ held_after e.step e.by (holder es t)

@@ -1,7 +1,6 @@
 -- What was seen of a list to which callers add.
 use Rattle.std.proofs.Common.{◌≡◌, ◌≢◌, ◌⊎◌, ℕ, List, [], ◌∷◌, ◌++◌, append-nil, append_assoc, sym, ap, ◌∙◌, subst, ⊎_elim}
-use Rattle.ck_core.specs.Trace.{NoneBy}
-use Rattle.ck_core.specs.State.{Sees}
+use Rattle.ck_core.specs.State.{NoneBy, Sees}
 use Rattle.ck_core.specs.Steps.{longer}
 use Rattle.ck_core.proofs.Lists.{longer_cut}
 
@@ -47,8 +46,7 @@ module _ {A : Type 0} (by : A → ℕ) where
       sees_both Q R theirs g either =
           let cut = longer_cut seen h.unseen theirs g.unseen (sym h.begins ∙ g.begins) in
           let x = cut.0 in
-          let rest = cut.2 in
-          (
+          let rest = cut.2 in (
             record {
               unseen = rest;
               begins = h.begins ∙ (ap (λ l. seen ++ l) cut.4 ∙ (sym (append_assoc seen x rest) ∙ ap (λ l. l ++ rest) (sym cut.3)));

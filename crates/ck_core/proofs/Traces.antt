@@ -17,9 +17,9 @@ use Rattle.ck_core.specs.declared.trace.LockStep.{LockStep}
 use Rattle.ck_core.specs.declared.trace.LockStep.TheVariants.{Took, Missed}
 use Rattle.ck_core.specs.declared.trace.LockEvent.{LockEvent}
 use Rattle.ck_core.specs.declared.view.View.{View}
-use Rattle.ck_core.specs.State.{Configuration, HasNumber, owned, Places, Callers, Watches, Traces}
+use Rattle.ck_core.specs.State.{by_of, Configuration, HasNumber, owned, Places, Callers, Watches, Traces}
 use Rattle.ck_core.specs.Steps.{number_of, event, traced, watching, taken, missed, seen_as, sent_home, split_as, joined, joining, spent}
-use Rattle.ck_core.specs.Trace.{Fits, held_after, holder, missed_by, misses, by_of}
+use Rattle.ck_core.specs.Trace.{Fits, held_after, holder, missed_by, misses}
 use Rattle.ck_core.proofs.Lists.{each_set, each_snoc}
 use Rattle.ck_core.proofs.Sees.{sees_all, sees_none, sees_as, sees_more, sees_both}
 use Rattle.ck_core.proofs.Callers.{own_in}

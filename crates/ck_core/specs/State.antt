@@ -1,5 +1,5 @@
 -- The state of the core, and the invariant that it keeps.
-use Rattle.std.specs.Prelude.{◌≡◌, ◌⊎◌, ℕ, ◌^◌, ◌<◌, ◌≤◌, List, [], ◌∷◌, ◌++◌, length, slice_index, Option, Some, None, All}
+use Rattle.std.specs.Prelude.{◌≡◌, ◌≢◌, ◌⊎◌, ℕ, ◌^◌, ◌<◌, ◌≤◌, List, [], ◌∷◌, ◌++◌, length, slice_index, Option, Some, None, All}
 use mathlib.Core.Option.{some}
 use lib.ListN.{get_elem?}
 use Rattle.ck_model.specs.declared.history.Entry.{Entry}
@@ -10,7 +10,7 @@ use Rattle.ck_model.specs.Contents.{Layout, bindings, Lawful, whole}
 use Rattle.ck_model.specs.Sections.{HasAll}
 use Rattle.ck_core.specs.declared.trace.LockEvent.{LockEvent}
 use Rattle.ck_core.specs.declared.view.View.{View}
-use Rattle.ck_core.specs.Trace.{holder, IsLegalTrace, decided_in, NoneBy, by_of, misses}
+use Rattle.ck_core.specs.Trace.{holder, IsLegalTrace, decided_in, misses}
 
 -- The words of the stripes, what lies in their places, the views, and the steps on the words. A place is empty while its stripe is held.
 pub record Configuration (V : Type 0) : Type 0 where
@@ -18,6 +18,11 @@ pub record Configuration (V : Type 0) : Type 0 where
   pub homes : List (Option (Content V))
   pub views : List (View V)
   pub trace : List (LockEvent V)
+
+-- nothing in the list is by the caller m, where `by` tells who made each
+abbrev pub NoneBy : {A : Type 0} → (A → ℕ) → ℕ → List A → Type 0
+NoneBy by m [] = Unit {0}
+NoneBy by m (x ∷ xs) = (by x ≢ m) × NoneBy by m xs
 
 -- Of a list to which callers add, this was seen: it begins the list, and the rest is by none of such callers.
 pub record Sees {A : Type 0} (by : A → ℕ) (P : ℕ → Type 0) (all seen : List A) : Type 0 where
@@ -29,6 +34,10 @@ module _ {V : Type 0} where
   -- who made an entry
   abbrev pub author_of : Entry V → ℕ
   author_of e = e.by
+
+  -- who made a step
+  abbrev pub by_of : LockEvent V → ℕ
+  by_of e = e.by
 
   -- a number with its entries, where there is one
   abbrev pub own : Option ℕ → List (Entry V) → List (ℕ × List (Entry V))

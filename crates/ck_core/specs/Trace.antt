@@ -5,31 +5,17 @@ use Rattle.ck_core.specs.declared.trace.LockStep.{LockStep}
 use Rattle.ck_core.specs.declared.trace.LockStep.TheVariants.{Took, Missed, Gave, Decided}
 use Rattle.ck_core.specs.declared.trace.LockEvent.{LockEvent}
 
--- what each caller adds to a list: nothing in this one is by the caller m
-abbrev pub NoneBy : {A : Type 0} → (A → ℕ) → ℕ → List A → Type 0
-NoneBy by m [] = Unit {0}
-NoneBy by m (x ∷ xs) = (by x ≢ m) × NoneBy by m xs
-
 module _ {V : Type 0} where
-  -- who made a step
-  abbrev pub by_of : LockEvent V → ℕ
-  by_of e = e.by
-
   -- who holds a stripe after a step of the caller m on its word, where h did before it
   abbrev pub held_after : LockStep V → ℕ → Option ℕ → Option ℕ
   held_after Took m h = Some m
   held_after Missed m h = h
-  held_after Gave m h = None
-  held_after (Decided x) m h = None
-
-  -- the same of stripe t after a step on any word
-  abbrev pub held_behind : ℕ → Option ℕ → LockEvent V → Option ℕ
-  held_behind t h e = if e.stripe == t then held_after e.step e.by h else h
+  held_after step m h = None
 
   -- who holds stripe t after these steps, where h did before them
   abbrev pub held_from : ℕ → Option ℕ → List (LockEvent V) → Option ℕ
   held_from t h [] = h
-  held_from t h (e ∷ es) = held_from t (held_behind t h e) es
+  held_from t h (e ∷ es) = held_from t (if e.stripe == t then held_after e.step e.by h else h) es
 
   -- who holds stripe t after the trace
   abbrev pub holder : List (LockEvent V) → ℕ → Option ℕ
@@ -49,10 +35,8 @@ module _ {V : Type 0} where
 
   -- the entry that was decided by this step, if one was
   abbrev pub decided_by : LockStep V → List (Entry V)
-  decided_by Took = []
-  decided_by Missed = []
-  decided_by Gave = []
   decided_by (Decided x) = x ∷ []
+  decided_by step = []
 
   -- the entries that were decided, in their order: the history
   abbrev pub decided_in : List (LockEvent V) → List (Entry V)
@@ -66,10 +50,8 @@ module _ {V : Type 0} where
 
   -- the stripe that was missed by this step, if it was one
   abbrev pub missed_by : LockStep V → ℕ → List ℕ
-  missed_by Took t = []
   missed_by Missed t = t ∷ []
-  missed_by Gave t = []
-  missed_by (Decided x) t = []
+  missed_by step t = []
 
   -- the stripes that the caller m missed, the last first
   abbrev pub misses : ℕ → List (LockEvent V) → List ℕ

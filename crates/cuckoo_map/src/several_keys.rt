@@ -352,11 +352,7 @@ impl<K: TableKey + Drop, V: Drop> Table<K, V> {
     // Takes the stripes of the keys of these hashes, and carries out the doublings that are left to
     // be.
     #[inline(always)]
-    fn lock_hashed(
-        &self,
-        pass: &mut Pass<K, V>,
-        hashes: &[KeyHash],
-    ) -> Result<StripeSet, Busy>
+    fn lock_hashed(&self, pass: &mut Pass<K, V>, hashes: &[KeyHash]) -> Result<StripeSet, Busy>
         requires caller { IsCaller self.now pass.old }
         requires some { 0 < length hashes.now }
         requires few { length hashes.now ≤ 8 }

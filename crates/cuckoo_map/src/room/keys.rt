@@ -100,11 +100,7 @@ impl<K: TableKey + Drop, V: Drop> Table<K, V> {
 
     // Takes all stripes, and keeps them if there is room for each of these keys. If there isn't, the
     // table doubles, and they are given back.
-    fn lock_all_or_grow(
-        &self,
-        pass: &mut Pass<K, V>,
-        keys: &[&K],
-    ) -> Result<Option<StripeSet>, Why>
+    fn lock_all_or_grow(&self, pass: &mut Pass<K, V>, keys: &[&K]) -> Result<Option<StripeSet>, Why>
         requires caller { IsCaller self.now pass.old }
         ensures own { IsPassOf self.now pass.new }
         ensures answered { IfOk result (λ taken. MatchOption taken
