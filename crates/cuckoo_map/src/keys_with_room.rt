@@ -100,11 +100,7 @@ impl<K: TableKey + Drop, V: Drop> Table<K, V> {
 
     // Takes all stripes, and keeps them if there is room for each of these keys. If there isn't, the
     // table doubles, and they are given back.
-    fn lock_all_or_grow(
-        &self,
-        pass: &mut Pass<K, V>,
-        keys: &[&K],
-    ) -> Result<Option<StripeSet>, Why>
+    fn lock_all_or_grow(&self, pass: &mut Pass<K, V>, keys: &[&K]) -> Result<Option<StripeSet>, Why>
         requires caller { IsCaller self.now pass.old }
         ensures own { IsPassOf self.now pass.new }
         ensures answered { IfOk result (λ taken. MatchOption taken
@@ -127,13 +123,13 @@ impl<K: TableKey + Drop, V: Drop> Table<K, V> {
         } = self.words.settings();
         self.lock_all(pass)?;
         let all = self.words.all();
-        let mut guard = guard!(&self.words, pass, all);
-        settle_all(&mut guard);
-        if has_room_for_all(&mut guard, s, keys) {
+        let mut held = guard!(&self.words, pass, all);
+        settle_all(&mut held);
+        if has_room_for_all(&mut held, s, keys) {
             return Ok(Some(all));
         }
-        let grown = grow(&mut guard, s, max, min_load, &mut None);
-        guard.renew();
+        let grown = grow(&mut held, s, max, min_load, &mut None);
+        held.renew();
         match grown {
             Ok(()) => Ok(None),
             Err(lack) => Err(Why::of(lack)),
