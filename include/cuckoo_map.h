@@ -217,8 +217,7 @@ int32_t cuckoo_move(cuckoo_handle *handle, const cuckoo_part *parts, size_t coun
 /* Gives the value of `from` to another key, `to`, and unbinds `from`, in one step of the map: no
  * other call finds both bound, or none. CUCKOO_OK; CUCKOO_ABSENT: `from` is unbound;
  * CUCKOO_PRESENT: both are bound. But for the first, nothing has changed. Refused as cuckoo_insert
- * of `to` is, and as CUCKOO_TWICE where the two keys are one. It is CUCKOO_BUSY too where other
- * threads took the room that was made for `to`. */
+ * of `to` is, and as CUCKOO_TWICE where the two keys are one. */
 int32_t cuckoo_rename(cuckoo_handle *handle, uint64_t from, uint64_t to);
 
 /* How many keys are bound, counted under all locks. CUCKOO_OK; CUCKOO_BUSY; CUCKOO_CLOSED. */

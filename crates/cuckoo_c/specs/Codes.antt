@@ -46,7 +46,7 @@ abbrev pub code_of_keys : KeysRefused → Code
 code_of_keys (keys.Busy t) = codes.Busy
 code_of_keys (keys.Twice i) = codes.Twice
 
--- why a rename was refused; where others took the room that was made, that is told as busy
+-- why a rename was refused
 abbrev pub code_of_rename : RoomFault → Code
 code_of_rename (renames.Keys why) = code_of_keys why
 code_of_rename (renames.Room why) = code_of_why why

@@ -93,8 +93,7 @@ impl Code {
         }
     }
 
-    /// Why a rename was refused. Where others took the room that was made for the key, another try
-    /// may find some, as where they hold a stripe.
+    /// Why a rename was refused.
     pub fn of_rename(why: RoomFault) -> Code
         ensures { result ≡ code_of_rename why }
     {

@@ -1,5 +1,5 @@
 -- What a call of the table leaves of the caller whose pass it had.
-use Rattle.std.proofs.Common.{◌≡◌, ◌⊎◌, ℕ, ◌≤◌, List, [], ◌∷◌, ◌++◌, Option, Result, Ok, Err, IfOk, IfErr, OnOk, refl, sym, ap, ◌∙◌, subst}
+use Rattle.std.proofs.Common.{◌≡◌, ℕ, ◌≤◌, List, ◌++◌, Option, Result, Ok, Err, IfOk, IfErr, OnOk, refl, sym, ap, ◌∙◌, subst}
 use Rattle.std.proofs.lemmas.Result.{IfOk-weaker}
 use Rattle.ck_model.specs.declared.history.Act.{Act}
 use Rattle.ck_model.specs.declared.history.Call.{Call}
@@ -12,7 +12,7 @@ use Rattle.ck_model.specs.Contents.{layout_of, Stripes, IsStripeOf}
 use Rattle.ck_core.specs.declared.view.RoomNote.{RoomNote}
 use Rattle.ck_words.specs.Words.{WordsState}
 use Rattle.ck_words.specs.Passes.{PassState}
-use Rattle.ck_words.specs.Retries.{WatchesMore, StaysBut, FindsAmong, as_doubled}
+use Rattle.ck_words.specs.Retries.{WatchesMore, StaysBut, FindsAmong}
 use Rattle.ck_words.specs.Answering.{IsAnswered, IsAnsweredBut, IsAnsweredOn}
 use Rattle.ck_words.specs.Closing.{IsCaller}
 use Rattle.ck_core.specs.State.{client_of}
@@ -24,7 +24,7 @@ use Rattle.cuckoo_map.specs.declared.refusal.Why.{Why}
 use Rattle.cuckoo_map.specs.Refusals.{IsBusyAmong, FindsOwnUnlessFull, IsRefused}
 use Rattle.cuckoo_map.specs.Needed.{HasGrownFor}
 use Rattle.cuckoo_map.specs.Queries.{HasQueried}
-use Rattle.cuckoo_map.specs.Insertions.{SayFull, IsInserted, HasInserted, HandsBack, HasSoughtRoom}
+use Rattle.cuckoo_map.specs.Insertions.{IsInserted, HasInserted, HandsBack, HasSoughtRoom}
 use Rattle.cuckoo_map.specs.Renames.{RoomLeaves}
 use Rattle.cuckoo_map.proofs.Counted.{grown_alike}
 use Rattle.cuckoo_map.specs.Callers.{CallerState, caller_of, pass_of, IsSameCaller, Replies, RepliesOn, KeepsNotesBut, KeepsNotes, NotesFull, QueryLeaves, InsertionLeaves, KeysLeave}

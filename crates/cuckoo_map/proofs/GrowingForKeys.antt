@@ -21,7 +21,7 @@ use Rattle.ck_words.specs.declared.stripe_set.StripeSet.{StripeSet}
 use Rattle.ck_words.specs.StripeSets.{list_of}
 use Rattle.ck_words.specs.Words.{WordsState}
 use Rattle.ck_words.specs.Passes.{PassState, IsPassOf, IsUnchanged, numbers_of}
-use Rattle.ck_words.specs.Retries.{Stays, as_doubled, FindsAmong}
+use Rattle.ck_words.specs.Retries.{Stays, as_doubled}
 use Rattle.ck_words.specs.Holding.{HasReleased, IsToldPower, IsDoubledBy}
 use Rattle.ck_words.specs.Renewing.{HasRenewed}
 use Rattle.ck_words.specs.Closing.{IsCaller, IsWhole}
@@ -31,71 +31,81 @@ use Rattle.ck_words.proofs.Staying.{stays_on}
 use Rattle.ck_words.proofs.WholeTables.{lawful_held}
 use Rattle.cuckoo_map.specs.Refusals.{why_of}
 use Rattle.cuckoo_map.specs.SeveralKeys.{HoldsNames}
-use Rattle.cuckoo_map.specs.RoomForKeys.{HoldsTooLittle, GrowsForAll, LacksToGrow, IsNotGrown}
+use Rattle.cuckoo_map.specs.RoomForKeys.{HoldsTooLittle, GrowsForAll, IsNotGrown}
 use Rattle.cuckoo_map.proofs.Counted.{changes_none, none_made, one_power_table, released_alike}
 use Rattle.cuckoo_map.proofs.Growing.{renewed_there, stays_home, told_since, counted_since, noted_since}
 
--- All stripes were taken from p to p1, and are held as p2, settled.
-module _ {V : Type 0} {hash : Name → ℕ} {set : Settings} (p p1 p2 : PassState V) (stays : Stays p.view p1.view) (whole : IsWhole hash set p1) (table : IsTable set.s p1.stripes)
-    (view : p2.view ≡ p1.view) (settled : p2.stripes ≡ settled_stripes p1.stripes) where
-  pub all_held : AreAllHeld set.s p2.stripes
-  all_held = subst (λ (ss : List (StripeState V)). AreAllHeld set.s ss) (sym settled) (all_settled set.s p1.stripes table)
+module _ {V : Type 0} where
+  -- Since p the pass has taken all stripes, and has settled them.
+  pub record HoldsAll (hash : Name → ℕ) (set : Settings) (p p2 : PassState V) : Type 0 where
+    pub stays : Stays p.view p2.view
+    pub whole : IsWhole hash set p2
+    pub all : AreAllHeld set.s p2.stripes
 
-  pub stays_held : Stays p.view p2.view
-  stays_held = subst (Stays p.view) (sym view) stays
-
-  pub whole_held : IsWhole hash set p2
-  whole_held = record {
-    all = ap (λ (ss : List (StripeState V)). numbers_of ss) settled ∙ (numbers_settled p1.stripes ∙ whole.all);
-    unchanged = ap (λ (ss : List (StripeState V)). contents_of ss) settled ∙ (contents_settled p1.stripes ∙ (whole.unchanged ∙ ap (λ (v : View V). reverse v.held) (sym view)));
-    shows = subst (λ (v : View V). Shows (layout_of hash set) set.callers v.seen v) (sym view) whole.shows;
+  -- they were taken as p1
+  pub taken_all : {hash : Name → ℕ} {set : Settings} (p p1 p2 : PassState V) → Stays p.view p1.view → IsWhole hash set p1 → IsTable set.s p1.stripes → p2.view ≡ p1.view → p2.stripes ≡ settled_stripes p1.stripes → HoldsAll hash set p p2
+  taken_all {hash} {set} p p1 p2 stays whole table view settled = record {
+    stays = subst (Stays p.view) (sym view) stays;
+    whole = record {
+      all = ap (λ (ss : List (StripeState V)). numbers_of ss) settled ∙ (numbers_settled p1.stripes ∙ whole.all);
+      unchanged = ap (λ (ss : List (StripeState V)). contents_of ss) settled ∙ (contents_settled p1.stripes ∙ (whole.unchanged ∙ ap (λ (v : View V). reverse v.held) (sym view)));
+      shows = subst (λ (v : View V). Shows (layout_of hash set) set.callers v.seen v) (sym view) whole.shows;
+    };
+    all = subst (λ (ss : List (StripeState V)). AreAllHeld set.s ss) (sym settled) (all_settled set.s p1.stripes table);
   }
 
-  -- those of some names are among them
-  pub holds_all : (qs : List Name) (stripes : StripeSet) → stripes.s ≡ set.s → list_of stripes ≡ counting 0 (2 ^ set.s) → HoldsNames hash set qs stripes p p2
-  holds_all qs stripes of all = record {
-    stays = stays_held;
-    owned = λ q i. has_both set.s p2.stripes all_held hash q;
-    of_table = of;
-    numbered = whole_held.all ∙ sym all;
-    settled = held_of set.s p2.stripes all_held;
-    unchanged = whole_held.unchanged;
-    shows = whole_held.shows;
+  -- they are the same since
+  pub holds_alike_all : {hash : Name → ℕ} {set : Settings} {p p2 : PassState V} (p3 : PassState V) → HoldsAll hash set p p2 → p3.view ≡ p2.view → p3.stripes ≡ p2.stripes → HoldsAll hash set p p3
+  holds_alike_all {hash} {set} {p} {p2} p3 h view same = record {
+    stays = subst (Stays p.view) (sym view) h.stays;
+    whole = record {
+      all = ap (λ (ss : List (StripeState V)). numbers_of ss) same ∙ h.whole.all;
+      unchanged = ap (λ (ss : List (StripeState V)). contents_of ss) same ∙ (h.whole.unchanged ∙ ap (λ (v : View V). reverse v.held) (sym view));
+      shows = subst (λ (v : View V). Shows (layout_of hash set) set.callers v.seen v) (sym view) h.whole.shows;
+    };
+    all = subst (λ (ss : List (StripeState V)). AreAllHeld set.s ss) (sym same) h.all;
   }
 
-  -- they have too little room for the names
-  pub too_little : (qs : List Name) {s : ℕ} → s ≡ set.s → ((max : ℕ) → Lawful (layout hash s max) (contents_of p2.stripes) → ¬ (HasRoomForAll (layout hash s max) (contents_of p2.stripes) qs))
-      → (lack : Lack) → IsLack set.max set.min_load p2.stripes lack → HoldsTooLittle hash set qs lack p p2
-  too_little qs of none lack is = record {
-    stays = stays_held;
-    whole = whole_held;
-    no_room = subst (λ n. (max : ℕ) → Lawful (layout hash n max) (contents_of p2.stripes) → ¬ (HasRoomForAll (layout hash n max) (contents_of p2.stripes) qs)) of none set.max (lawful_held hash set p2 whole_held);
-    reason = is;
-  }
+  module _ {hash : Name → ℕ} {set : Settings} {p p2 : PassState V} (h : HoldsAll hash set p p2) (qs : List Name) where
+    -- the stripes of some names are among them
+    pub holds_names : (stripes : StripeSet) → stripes.s ≡ set.s → list_of stripes ≡ counting 0 (2 ^ set.s) → HoldsNames hash set qs stripes p p2
+    holds_names stripes of all = record {
+      stays = h.stays;
+      owned = λ q i. has_both set.s p2.stripes h.all hash q;
+      of_table = of;
+      numbered = h.whole.all ∙ sym all;
+      settled = held_of set.s p2.stripes h.all;
+      unchanged = h.whole.unchanged;
+      shows = h.whole.shows;
+    }
+
+    -- they have too little room for the names
+    pub too_little : {s : ℕ} → s ≡ set.s → ((max : ℕ) → Lawful (layout hash s max) (contents_of p2.stripes) → ¬ (HasRoomForAll (layout hash s max) (contents_of p2.stripes) qs))
+        → (lack : Lack) → IsLack set.max set.min_load p2.stripes lack → HoldsTooLittle hash set qs lack p p2
+    too_little of none lack is = record {
+      stays = h.stays;
+      whole = h.whole;
+      no_room = subst (λ n. (max : ℕ) → Lawful (layout hash n max) (contents_of p2.stripes) → ¬ (HasRoomForAll (layout hash n max) (contents_of p2.stripes) qs)) of none set.max (lawful_held hash set p2 h.whole);
+      reason = is;
+    }
 
 -- All stripes were held as p1, and as p2 when they were to double. v and w are one table.
-module _ {V : Type 0} {hash : Name → ℕ} {v w : WordsState} (is : v ≡ w) (p p1 p2 : PassState V) (stays : Stays p.view p1.view) (whole : IsWhole hash w.settings p1) (view : p2.view ≡ p1.view) where
-  there : (P : Settings → Type 0) → P w.settings → P v.settings
-  there P h = subst (λ (x : WordsState). P x.settings) (sym is) h
+module _ {V : Type 0} {hash : Name → ℕ} {v w : WordsState} (is : v ≡ w) {p p1 : PassState V} (h : HoldsAll hash w.settings p p1) (p2 : PassState V) (view : p2.view ≡ p1.view) where
+  grown : Grows hash w.settings.s p1.stripes p2.stripes → power_in p1.stripes < w.settings.max → HasRenewed hash w.settings p2
+  grown grows below = renewed_there {v = w} {w = w} refl p1 p2 view {power = power_in p1.stripes + 1} refl (omega (arith, below)) h.whole (λ max le. grows.no_call max (omega (arith, le)))
 
-  -- they doubled
-  module _ (grows : Grows hash w.settings.s p1.stripes p2.stripes) (below : power_in p1.stripes < w.settings.max) where
-    grown : HasRenewed hash w.settings p2
-    grown = renewed_there {v = w} {w = w} refl p1 p2 view {power = power_in p1.stripes + 1} refl (omega (arith, below)) whole (λ max le. grows.no_call max (omega (arith, le)))
+  ungrown : p2.stripes ≡ p1.stripes → HasRenewed hash w.settings p2
+  ungrown same =
+      let unchanged : IsUnchanged p2 = ap (λ (ss : List (StripeState V)). contents_of ss) same ∙ (h.whole.unchanged ∙ ap (λ (u : View V). reverse u.held) (sym view)) in
+      renewed_none hash w.settings p2 unchanged
 
-    renewed_grown : HasRenewed hash v.settings p2
-    renewed_grown = there (λ set. HasRenewed hash set p2) grown
-
-  -- or are as they were
-  module _ (same : p2.stripes ≡ p1.stripes) where
-    renewed_ungrown : HasRenewed hash v.settings p2
-    renewed_ungrown =
-        let unchanged : IsUnchanged p2 = ap (λ (ss : List (StripeState V)). contents_of ss) same ∙ (whole.unchanged ∙ ap (λ (u : View V). reverse u.held) (sym view)) in
-        there (λ set. HasRenewed hash set p2) (renewed_none hash w.settings p2 unchanged)
-
+  -- they doubled or are as they were
   pub renewed_either : (o : Result (Unit {0}) Lack) → OnOk o (Grows hash w.settings.s p1.stripes p2.stripes) → OnOk o (IsLack w.settings.max w.settings.min_load p1.stripes Memory) → OnErr o (p2.stripes ≡ p1.stripes) → HasRenewed hash v.settings p2
-  renewed_either (Ok done) grows may same = renewed_grown grows may.0
-  renewed_either (Err lack) grows may same = renewed_ungrown same
+  renewed_either o grows may same = subst (λ (x : WordsState). HasRenewed hash x.settings p2) (sym is) (either o grows may same)
+    where
+      either : (o : Result (Unit {0}) Lack) → OnOk o (Grows hash w.settings.s p1.stripes p2.stripes) → OnOk o (IsLack w.settings.max w.settings.min_load p1.stripes Memory) → OnErr o (p2.stripes ≡ p1.stripes) → HasRenewed hash w.settings p2
+      either (Ok done) grows may same = grown grows may.0
+      either (Err lack) grows may same = ungrown same
 
   -- and it was z when they had gone home
   module _ (z : PassState V) (released : HasReleased v (as_doubled p2 z) z) where
@@ -103,25 +113,21 @@ module _ {V : Type 0} {hash : Name → ℕ} {v w : WordsState} (is : v ≡ w) (p
     caller_home caller = record {
       own = subst (λ (x : WordsState). IsPassOf x z) is released.own;
       idle = released.idle;
-      alone = released.stays.others ∙ (ap (λ (u : View V). u.others) view ∙ (stays.others ∙ caller.alone));
-      number = (caller.number.0, released.stays.by ∙ (ap (λ (u : View V). u.by) view ∙ (stays.by ∙ caller.number.1)), caller.number.2);
+      alone = released.stays.others ∙ (ap (λ (u : View V). u.others) view ∙ (h.stays.others ∙ caller.alone));
+      number = (caller.number.0, released.stays.by ∙ (ap (λ (u : View V). u.by) view ∙ (h.stays.by ∙ caller.number.1)), caller.number.2);
     }
 
-    pub found_home : {P : ℕ → Type 0} → FindsAmong P p p1 → FindsAmong P p z
-    found_home f = (f.0, released.found ∙ (ap (λ (u : View V). u.found) view ∙ f.1), f.2)
-
-    pub grows_for_all : (qs : List Name) → IsTable w.settings.s p1.stripes → HoldsTooLittle hash w.settings qs Memory p p1 → Grows hash w.settings.s p1.stripes p2.stripes → power_in p2.stripes ≡ power_in p1.stripes + 1 → IsToldPower p2 z → IsDoubledBy p2 z
-        → GrowsForAll hash w.settings qs p z
-    grows_for_all qs table little grows next told doubled =
+    pub grows_for_all : (qs : List Name) → HoldsTooLittle hash w.settings qs Memory p p1 → Grows hash w.settings.s p1.stripes p2.stripes → power_in p2.stripes ≡ power_in p1.stripes + 1 → IsToldPower p2 z → IsDoubledBy p2 z → GrowsForAll hash w.settings qs p z
+    grows_for_all qs little grows next told doubled =
         let renewed : HasRenewed hash w.settings p2 = grown grows little.reason.0 in
-        let since = told_since p p1 p2 z stays whole table view told in
-        let count = counted_since p p1 p2 z stays whole table view told renewed stays.doublings doubled in
+        let since = told_since p p1 p2 z h.stays h.whole h.all.table view told in
+        let count = counted_since p p1 p2 z h.stays h.whole h.all.table view told renewed h.stays.doublings doubled in
         record {
           held = p1;
           too_little = little;
-          stays = stays_home is p1 p2 view p z stays released;
+          stays = stays_home is p1 p2 view p z h.stays released;
           made = omega (arith, count, next);
-          noted = noted_since p p1 p2 z stays whole table view told renewed stays.grown_from doubled (omega (arith, next));
+          noted = noted_since p p1 p2 z h.stays h.whole h.all.table view told renewed h.stays.grown_from doubled (omega (arith, next));
           told = omega (arith, since.0, since.1, since.2, next);
         }
 
@@ -130,10 +136,10 @@ module _ {V : Type 0} {hash : Name → ℕ} {v w : WordsState} (is : v ≡ w) (p
       where
         stays_back : Stays p.view z.view
         stays_back =
-            let none = none_made p1 p2 z view (changes_none p1.stripes p2.stripes same) doubled whole.unchanged (one_power_table hash w.settings p1 whole) in
-            stays_on p.view p1.view z.view stays (subst (λ (u : View V). Stays u z.view) view (released_alike p2 z released none).stays)
+            let none = none_made p1 p2 z view (changes_none p1.stripes p2.stripes same) doubled h.whole.unchanged (one_power_table hash w.settings p1 h.whole) in
+            stays_on p.view p1.view z.view h.stays (subst (λ (u : View V). Stays u z.view) view (released_alike p2 z released none).stays)
 
         as_lack : (l : Lack) → (m : PassState V) × HoldsTooLittle hash w.settings qs l p m → IsNotGrown hash w.settings qs (why_of l) p z
-        as_lack Memory h = (h, stays_back)
-        as_lack Full h = (h, stays_back)
-        as_lack LoadTooLow h = (h, stays_back)
+        as_lack Memory m = (m, stays_back)
+        as_lack Full m = (m, stays_back)
+        as_lack LoadTooLow m = (m, stays_back)

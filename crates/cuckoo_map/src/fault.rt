@@ -48,8 +48,8 @@ pub enum Fault {
     /// The key at this position of those of a call stands again behind it.
     #[error("the key at position {0} is named twice")]
     Twice(usize),
-    /// No slot was free for a key among locked keys, or for one to which another was renamed.
-    #[error("no free slot for the key among its stripes: insert it unlocked, or try again")]
+    /// No slot was free for a key among locked keys.
+    #[error("no free slot for the key among its stripes: insert it unlocked, or lock it with room")]
     NoSlot,
     /// All items of the pool are lent.
     #[error("all items of the pool are lent: try again, or make it of more")]

@@ -57,7 +57,7 @@ impl<K: TableKey + Drop, V: Drop> Table<K, V> {
         ensures renamed { HasRenamed K.hash self.now.settings (K.name from.now) (K.name to) to
             result since.value pass.new }
     {
-        let names = [Snapshot::of(from), Snapshot::of(&to)];
+        let both = [Snapshot::of(from), Snapshot::of(&to)];
         let stripes = match self.lock_with_room(pass, &[from, &to]) {
             Ok(stripes) => stripes,
             Err(why) => return Err(NotRenamed { key: to, why }),
@@ -65,7 +65,7 @@ impl<K: TableKey + Drop, V: Drop> Table<K, V> {
         let Ok(renamed) = self.rename_held(pass, stripes, from, to) else {
             unreachable!()
         };
-        guard!(&self.words, pass, stripes).commit_session_of(&names);
+        guard!(&self.words, pass, stripes).commit_session_of(&both);
         Ok(renamed)
     }
 

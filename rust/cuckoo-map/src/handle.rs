@@ -199,8 +199,7 @@ impl<K: Keys> TableHandle<K> {
     /// Gives the value of `from` to another key, `to`, and unbinds `from`, in one step of the map: no
     /// other call finds both bound, or none. Where `from` is unbound or both are bound, it says so,
     /// and nothing has changed. It may be refused as an insertion of `to` is, and as
-    /// [`Error::Twice`] where the two keys are one; as [`Error::Busy`] too where other threads took
-    /// the room that was made for `to`.
+    /// [`Error::Twice`] where the two keys are one.
     ///
     /// ```
     /// use cuckoo_map::{Error, Handle, Renamed};

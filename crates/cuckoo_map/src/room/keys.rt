@@ -124,13 +124,13 @@ impl<K: TableKey + Drop, V: Drop> Table<K, V> {
         self.lock_all(pass)?;
         let all = self.words.all();
         let mut grower = self.grower();
-        let mut guard = guard!(&self.words, pass, all);
-        settle_all(&mut guard);
-        if has_room_for_all(&mut guard, s, keys) {
+        let mut held = guard!(&self.words, pass, all);
+        settle_all(&mut held);
+        if has_room_for_all(&mut held, s, keys) {
             return Ok(Some(all));
         }
-        let grown = grow(&mut guard, s, max, min_load, &mut grower);
-        guard.renew();
+        let grown = grow(&mut held, s, max, min_load, &mut grower);
+        held.renew();
         match grown {
             Ok(()) => Ok(None),
             Err(lack) => Err(Why::of(lack)),

@@ -1,4 +1,4 @@
-use Rattle.std.proofs.Common.{rules, Bool, true, false, map, inr, refl}
+use Rattle.std.proofs.Common.{rules, true, false, map, inr, refl}
 use Rattle.ck_words.specs.Closing.{IsCaller}
 use Rattle.cuckoo_map.specs.RoomForKeys.{LacksRoomStill}
 use Rattle.cuckoo_map.proofs.Displacing.{any_on, any_among}
