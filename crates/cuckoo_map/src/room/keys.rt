@@ -123,13 +123,12 @@ impl<K: TableKey + Drop, V: Drop> Table<K, V> {
         } = self.words.settings();
         self.lock_all(pass)?;
         let all = self.words.all();
-        let mut grower = self.grower();
         let mut held = guard!(&self.words, pass, all);
         settle_all(&mut held);
         if has_room_for_all(&mut held, s, keys) {
             return Ok(Some(all));
         }
-        let grown = grow(&mut held, s, max, min_load, &mut grower);
+        let grown = grow(&mut held, s, max, min_load, &mut self.grower());
         held.renew();
         match grown {
             Ok(()) => Ok(None),
