@@ -5,7 +5,7 @@ ghost use Rattle.ck_directory.specs.RowKeyLaws.{row_names, row_hash_below};
 use cuckoo_map::{MixedKey, TableKey};
 
 /// Which row: of an account, by its number, or of a name in the index.
-#[derive(Clone, Copy, Debug, PartialEq, Eq, PartialOrd, Ord)]
+#[derive(Clone, Copy, PartialEq, Eq, PartialOrd, Ord)]
 pub enum RowKey {
     Account(u32),
     Name(u32),

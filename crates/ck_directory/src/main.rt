@@ -6,7 +6,7 @@
 mod key;
 
 use anyhow::{Context, Result, ensure};
-use cuckoo_map::{Handle, KeysRefused, Settings};
+use cuckoo_map::{Busy, Handle, KeysRefused, Settings};
 use key::RowKey::{self, Account, Name};
 use std::alloc::Global;
 use std::thread::{self, Threads};
@@ -24,7 +24,7 @@ const STEPS: u32 = 1000;
 const AUDITS: u32 = 500;
 
 /// An account with its name, or the account that has a name.
-#[derive(Clone, Copy, Debug, PartialEq, Eq)]
+#[derive(Clone, Copy, PartialEq, Eq)]
 enum Row {
     Account { balance: u64, name: u32 },
     Index(u32),
@@ -46,16 +46,17 @@ fn open_accounts(clerk: &mut Clerk) -> Result<()> {
     Ok(())
 }
 
-/// Gives the account another name, where that is free: its row and both rows of the index are
-/// changed in one step.
-fn rename(mut clerk: Clerk, account: u32, name: u32) -> Result<Clerk> {
-    let row = clerk.find(&Account(account))?;
-    let Some(Row::Account { name: old, .. }) = row else {
-        return Ok(clerk);
-    };
-    if old == name {
-        return Ok(clerk);
-    }
+/// The name of an account.
+fn name_of(clerk: &mut Clerk, account: u32) -> Result<Option<u32>, Busy> {
+    Ok(match clerk.find(&Account(account))? {
+        Some(Row::Account { name, .. }) => Some(name),
+        _ => None,
+    })
+}
+
+/// Gives the account of this name another one, where that is free: its row and both rows of the
+/// index are changed in one step.
+fn rename(clerk: Clerk, account: u32, old: u32, name: u32) -> Result<Clerk> {
     let keys = [&Account(account), &Name(old), &Name(name)];
     let mut rows = clerk.lock_keys(&keys)?;
     if let Some(Row::Account { balance, name: now }) = rows.find(&Account(account)) {
@@ -68,19 +69,25 @@ fn rename(mut clerk: Clerk, account: u32, name: u32) -> Result<Clerk> {
     Ok(rows.unlock())
 }
 
+impl Row {
+    /// The row with so much more on the account, or less.
+    fn plus(self, amount: i64) -> Option<Row> {
+        let Row::Account { balance, name } = self else {
+            return None;
+        };
+        let balance = balance.checked_add_signed(amount)?;
+        Some(Row::Account { balance, name })
+    }
+}
+
 /// One from each of two accounts to the third, where they have it.
 fn collect(rows: &mut [Row]) {
-    let [
-        Row::Account { balance: from, .. },
-        Row::Account { balance: other, .. },
-        Row::Account { balance: to, .. },
-    ] = rows
-    else {
+    let [from, other, to] = rows else {
         return;
     };
-    if let (1.., 1.., Some(more)) = (*from, *other, to.checked_add(2)) {
-        *from -= 1;
-        *other -= 1;
+    if let (Some(less), Some(fewer), Some(more)) = (from.plus(-1), other.plus(-1), to.plus(2)) {
+        *from = less;
+        *other = fewer;
         *to = more;
     }
 }
@@ -102,7 +109,9 @@ fn work(mut clerk: Clerk, number: u32) -> Result<()> {
     for step in 0..STEPS {
         let account = step.wrapping_add(number) % 3;
         let name = step.wrapping_mul(3).wrapping_add(number) % NAMES;
-        clerk = rename(clerk, account, name)?;
+        if let Some(old) = name_of(&mut clerk, account)?.filter(|old| *old != name) {
+            clerk = rename(clerk, account, old, name)?;
+        }
         collect_to(&mut clerk, step % 3)?;
     }
     Ok(())
@@ -135,17 +144,13 @@ fn sum_of(accounts: [Option<Row>; 3], names: [Option<Row>; 5]) -> Option<u64> {
         }
         sum = sum.checked_add(balance)?;
     }
-    let indexed = names
-        .iter()
-        .filter(|row: &&Option<Row>| row.is_some())
-        .count();
-    (indexed == 3).then_some(sum)
+    (names.iter().flatten().count() == 3).then_some(sum)
 }
 
 /// Looks at all rows, again and again.
-fn audit(mut clerk: Clerk) -> Result<()> {
+fn audit(clerk: &mut Clerk) -> Result<()> {
     for _ in 0..AUDITS {
-        let (accounts, names) = look(&mut clerk)?;
+        let (accounts, names) = look(clerk)?;
         let sum = sum_of(accounts, names).context("the index is wrong")?;
         ensure!(sum == 3 * FUND, "{sum} is left");
     }
@@ -153,9 +158,9 @@ fn audit(mut clerk: Clerk) -> Result<()> {
 }
 
 /// What the clerk of this number does: the first one audits, and the others work.
-fn run(clerk: Clerk, number: u32) -> Result<()> {
+fn run(mut clerk: Clerk, number: u32) -> Result<()> {
     if number == 0 {
-        audit(clerk)
+        audit(&mut clerk)
     } else {
         work(clerk, number)
     }
