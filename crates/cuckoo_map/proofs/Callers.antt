@@ -90,7 +90,7 @@ module _ {V : Type 0} where
     replies_on name act reply a = replies (On name act) reply a
 
     -- what was made of doublings is what the caller has made
-    grown_caller : {hash : Name → ℕ} {name : Name} → HasGrownFor hash w.settings name p q → HasGrownFor hash c.table.settings name (pass_of c) (pass_of (caller_of w q))
+    pub grown_caller : {hash : Name → ℕ} {name : Name} → HasGrownFor hash w.settings name p q → HasGrownFor hash c.table.settings name (pass_of c) (pass_of (caller_of w q))
     grown_caller {hash} {name} g =
         subst (λ (x : CallerState V). HasGrownFor hash x.table.settings name (pass_of x) (pass_of (caller_of w q))) is (grown_alike p q (pass_of (caller_of w p)) (pass_of (caller_of w q)) refl refl (refl, refl) refl (refl, refl) g)
 

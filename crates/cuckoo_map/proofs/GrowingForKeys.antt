@@ -27,7 +27,6 @@ use Rattle.ck_words.specs.Renewing.{HasRenewed}
 use Rattle.ck_words.specs.Closing.{IsCaller, IsWhole}
 use Rattle.ck_words.proofs.AreHeld.{numbers_settled}
 use Rattle.ck_words.proofs.Renewals.{renewed_none}
-use Rattle.ck_words.proofs.Staying.{stays_on}
 use Rattle.ck_words.proofs.WholeTables.{lawful_held}
 use Rattle.cuckoo_map.specs.Refusals.{why_of}
 use Rattle.cuckoo_map.specs.SeveralKeys.{HoldsNames}
@@ -132,14 +131,14 @@ module _ {V : Type 0} {hash : Name → ℕ} {v w : WordsState} (is : v ≡ w) {p
         }
 
     pub not_grown : (qs : List Name) → p2.stripes ≡ p1.stripes → IsDoubledBy p2 z → (lack : Lack) → HoldsTooLittle hash w.settings qs lack p p1 → IsNotGrown hash w.settings qs (why_of lack) p z
-    not_grown qs same doubled lack little = as_lack lack (p1, little)
+    not_grown qs same doubled lack little = as_lack lack little
       where
-        stays_back : Stays p.view z.view
+        stays_back : Stays p1.view z.view
         stays_back =
             let none = none_made p1 p2 z view (changes_none p1.stripes p2.stripes same) doubled h.whole.unchanged (one_power_table hash w.settings p1 h.whole) in
-            stays_on p.view p1.view z.view h.stays (subst (λ (u : View V). Stays u z.view) view (released_alike p2 z released none).stays)
+            subst (λ (u : View V). Stays u z.view) view (released_alike p2 z released none).stays
 
-        as_lack : (l : Lack) → (m : PassState V) × HoldsTooLittle hash w.settings qs l p m → IsNotGrown hash w.settings qs (why_of l) p z
-        as_lack Memory m = (m, stays_back)
-        as_lack Full m = (m, stays_back)
-        as_lack LoadTooLow m = (m, stays_back)
+        as_lack : (l : Lack) → HoldsTooLittle hash w.settings qs l p p1 → IsNotGrown hash w.settings qs (why_of l) p z
+        as_lack Memory little = (p1, little, stays_back)
+        as_lack Full little = (p1, little, stays_back)
+        as_lack LoadTooLow little = (p1, little, stays_back)

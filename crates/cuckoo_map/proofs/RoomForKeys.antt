@@ -27,7 +27,7 @@ use Rattle.cuckoo_map.specs.Refusals.{IsRefused}
 use Rattle.cuckoo_map.specs.Insertions.{HasSoughtRoom}
 use Rattle.cuckoo_map.specs.SeveralKeys.{IsStripeOfAny, HoldsNames, RefusesNames}
 use Rattle.cuckoo_map.specs.LockedKeys.{HoldsKeys}
-use Rattle.cuckoo_map.specs.RoomForKeys.{SeeksRoomForEach, LacksRoomForOne, LacksRoomForAll, LetsGo, MakesRoomForEach, LacksRoomStill, GrowsForAll, GrowsTimes, SeeksRoom, IsNotGrown, RefusesRoomForEach, RefusesRoom}
+use Rattle.cuckoo_map.specs.RoomForKeys.{SeeksRoomForEach, LacksRoomForOne, LacksRoomForAll, MakesRoomForEach, LacksRoomStill, GrowsForAll, GrowsTimes, SeeksRoom, IsNotGrown, RefusesRoomForEach, RefusesRoom}
 use Rattle.cuckoo_map.proofs.Counted.{loosely, stays_counting, released_alike}
 use Rattle.cuckoo_map.proofs.SeveralKeys.{names_next}
 use Rattle.cuckoo_map.proofs.HeldKeys.{same_pass, lawful_at, holds_keys, none_doubled}
@@ -91,13 +91,13 @@ module _ {V : Type 0} {hash : Name → ℕ} {w : WordsState} {stripes : StripeSe
       number = (caller.number.0, home.stays.by ∙ (h.stays.by ∙ caller.number.1), caller.number.2);
     }
 
-    pub let_go : FindsAmong (IsStripeOfAny hash w.settings names) p p1 → LetsGo hash w.settings names p z
-    let_go found = (stays_on p.view p1.view z.view h.stays home.stays, (found.0, home.found ∙ found.1, found.2))
+    pub found_home : FindsAmong (IsStripeOfAny hash w.settings names) p p1 → FindsAmong (IsStripeOfAny hash w.settings names) p z
+    found_home found = (found.0, home.found ∙ found.1, found.2)
 
     pub lacks_room : FindsAmong (IsStripeOfAny hash w.settings names) p p1
         → ((max : ℕ) → Lawful (layout hash stripes.s max) (contents_of p1.stripes) → ¬ (HasRoomForAll (layout hash stripes.s max) (contents_of p1.stripes) names)) → LacksRoomForAll hash w.settings names p z
     lacks_room found none =
-        ((p1, stripes, h, subst (λ n. ¬ (HasRoomForAll (layout hash n w.settings.max) (contents_of p1.stripes) names)) h.of_table (none w.settings.max (lawful_at taken))), let_go found)
+        ((p1, stripes, h, subst (λ n. ¬ (HasRoomForAll (layout hash n w.settings.max) (contents_of p1.stripes) names)) h.of_table (none w.settings.max (lawful_at taken)), home.stays), found_home found)
 
 -- There was too little room for the names from p to p1, it was sought for each until p2, and they were tried again.
 pub tried_again : {V : Type 0} (hash : Name → ℕ) (w : WordsState) (qs : List Name) (p p1 p2 z : PassState V) → LacksRoomForAll hash w.settings qs p p1 → SeeksRoomForEach hash w.settings qs p1 p2 → IsCaller w p2 → FindsAmong (IsStripeOfAny hash w.settings qs) p2 z
@@ -141,7 +141,7 @@ module _ {V : Type 0} (hash : Name → ℕ) (set : Settings) where
 
   module _ (qs : List Name) where
     goes_full : (p z : PassState V) → LacksRoomForAll hash set qs p z → GoesOn p z
-    goes_full p z h = goes_but p z h.1.0
+    goes_full p z h = goes_then p h.0.0 z (goes_but p h.0.0 h.0.2.stays) (goes_but h.0.0 z h.0.4)
 
     goes_made : (p z : PassState V) → MakesRoomForEach hash set qs p z → GoesOn p z
     goes_made p z (inl h) = goes_same p z h
@@ -160,9 +160,9 @@ module _ {V : Type 0} (hash : Name → ℕ) (set : Settings) where
 
     goes_ungrown : (why : Why) (p z : PassState V) → IsNotGrown hash set qs why p z → GoesOn p z
     goes_ungrown (Busy t) p z h = goes_but p z h.stays
-    goes_ungrown Memory p z h = goes_but p z h.1
-    goes_ungrown Full p z h = goes_but p z h.1
-    goes_ungrown LoadTooLow p z h = goes_but p z h.1
+    goes_ungrown Memory p z h = goes_then p h.0 z (goes_but p h.0 h.1.stays) (goes_but h.0 z h.2)
+    goes_ungrown Full p z h = goes_then p h.0 z (goes_but p h.0 h.1.stays) (goes_but h.0 z h.2)
+    goes_ungrown LoadTooLow p z h = goes_then p h.0 z (goes_but p h.0 h.1.stays) (goes_but h.0 z h.2)
 
     goes_refusing : (e : RoomFault) (p z : PassState V) → RefusesRoomForEach hash set qs p z e → GoesOn p z
     goes_refusing (fault.Keys why) p z h = goes_then p h.0 z (goes_made p h.0 h.1) (goes_refused hash set qs why h.0 z h.2)

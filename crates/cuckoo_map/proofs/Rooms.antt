@@ -17,7 +17,7 @@ use Rattle.ck_section.specs.declared.entry.Entry.{Entry}
 use Rattle.ck_section.specs.Places.{IsPlaceOf}
 use Rattle.ck_section.specs.Entries.{IsEntryOf}
 use Rattle.ck_section.specs.Calls.{IsWithoutRoom}
-use Rattle.ck_stripe.specs.Tables.{IsTable, power_in, KeepsBindings}
+use Rattle.ck_stripe.specs.Tables.{AreAllHeld, IsTable, power_in, KeepsBindings}
 use Rattle.ck_section.specs.Room.{MakesRoom, GivesReason, GrowsForRoom}
 use Rattle.ck_core.specs.declared.view.RoomNote.{RoomNote}
 use Rattle.ck_core.specs.declared.view.View.{View}
@@ -31,12 +31,13 @@ use Rattle.ck_words.proofs.Staying.{stays_same, stays_then}
 use Rattle.ck_words.proofs.Reversed.{held_reverse}
 use Rattle.ck_words.proofs.WholeTables.{lawful_held}
 use Rattle.ck_words.proofs.Renewals.{renewed_none, renewed_then}
+use Rattle.ck_words.proofs.Seating.{numbers-contents}
 use Rattle.cuckoo_map.specs.declared.locking.Spot.{Spot}
 use Rattle.cuckoo_map.specs.declared.room.Room.{Room}
 use Rattle.cuckoo_map.specs.Holding.{HasSpot}
 use Rattle.cuckoo_map.specs.Refusals.{SaysOf, reason_of, why_of, GivesGrounds, ShowsWhy, IsRefused}
 use Rattle.cuckoo_map.specs.Needed.{NeedsToGrow, HasGrownFor, HaveOnePower, HoldsGrown}
-use Rattle.cuckoo_map.specs.Insertions.{HoldsRoom, HasRoom}
+use Rattle.cuckoo_map.specs.Insertions.{HoldsRoom, HasRoom, HasRoomInAll}
 use Rattle.cuckoo_map.proofs.Counted.{one_of_lawful, told_first, stays_counting, holds_alike, grown_since}
 use Rattle.cuckoo_map.proofs.Sessions.{after_all}
 
@@ -148,4 +149,18 @@ module _ {V : Type 0} where
             needed = λ power least below.
                 subst (λ (x : Settings × Stripes V). NeedsToGrow hash x.0 q x.1 power) (λ j. (set_is j, as_taken j))
                 (grows lawful_taken power (let l : power_in p1.stripes ≤ power = omega arith in l) (let l : power < power_in p2.stripes = omega arith in l));
+          }
+
+      -- there is room for the name among them, and they are settled
+      pub room_in_all : (p : PassState V) → Stays p.view p1.view → AreAllHeld set.s p2.stripes → MakesRoom k p1.stripes p2.stripes q → IsTable w.settings.s p1.stripes → GrowsForRoom k set.min_load p1.stripes p2.stripes q → HasRoomInAll hash w.settings q p p2
+      room_in_all p stays held makes table grows =
+          let there : AreAllHeld w.settings.s p2.stripes = subst (λ (x : Settings). AreAllHeld x.s p2.stripes) set_is held in
+          record {
+            stays = subst (Stays p.view) (sym same) stays;
+            numbered = sym (numbers-contents p2.stripes) ∙ ((keeps lawful_taken).renewed.same ∙ (numbers-contents p1.stripes ∙ whole.all));
+            all = there;
+            taken = subst (λ (x : Settings × Stripes V). Lawful (layout_of hash x.0) x.1) (λ j. (set_is j, (whole.unchanged ∙ ap (λ (v : View V). reverse v.held) (sym same)) j)) lawful_taken;
+            renewed = renewed_there;
+            grown = grown_there table held.table grows;
+            room = subst (λ (x : Settings). ¬ (HasNoRoom (layout_of hash x) (contents_of p2.stripes) q)) set_is (makes lawful_taken);
           }

@@ -1,13 +1,17 @@
 -- What an insertion leaves of its pass. Before it is answered it may find its name without room, and say so.
-use Rattle.std.specs.Prelude.{◌≡◌, ℕ, List, [], ◌∷◌, All, Result, IfOk, IfErr}
+use Rattle.std.specs.Prelude.{◌≡◌, ℕ, ◌^◌, List, [], ◌∷◌, All, Result, IfOk, IfErr, reverse}
 use Rattle.ck_model.specs.declared.history.Act.{Act}
+use Rattle.ck_model.specs.declared.history.Call.{Call}
 use Rattle.ck_model.specs.declared.history.Call.TheVariants.{On}
 use Rattle.ck_model.specs.declared.history.Reply.{Reply}
 use Rattle.ck_model.specs.declared.history.Reason.TheVariants as reason
 use Rattle.ck_model.specs.declared.settings.Settings.{Settings}
 use Rattle.ck_model.specs.Promise.{Name}
-use Rattle.ck_model.specs.Contents.{Stripes}
-use Rattle.ck_stripe.specs.Stripes.{HaveNoSpare}
+use Rattle.ck_model.specs.Counting.{counting}
+use Rattle.ck_model.specs.Contents.{Stripes, layout_of, Lawful}
+use Rattle.ck_model.specs.Paths.{HasNoRoom}
+use Rattle.ck_stripe.specs.Stripes.{contents_of, HaveNoSpare}
+use Rattle.ck_stripe.specs.Tables.{AreAllHeld}
 use Rattle.ck_section.specs.Places.{IsPlaceOf}
 use Rattle.ck_section.specs.Entries.{IsEntryOf}
 use Rattle.cuckoo_map.specs.declared.room.Room.{Room}
@@ -15,7 +19,7 @@ use Rattle.ck_core.specs.declared.view.RoomNote.{RoomNote}
 use Rattle.ck_core.specs.Steps.{noted}
 use Rattle.ck_words.specs.Passes.{PassState, numbers_of}
 use Rattle.ck_words.specs.StripeSets.{list_of}
-use Rattle.ck_words.specs.Retries.{StaysBut, as_doubled}
+use Rattle.ck_words.specs.Retries.{Stays, StaysBut, as_doubled}
 use Rattle.ck_words.specs.Answering.{IsAnsweredBut}
 use Rattle.ck_words.specs.Renewing.{HasRenewed}
 use Rattle.cuckoo_map.specs.declared.refusal.Refused.{Refused}
@@ -35,10 +39,14 @@ module _ {V : Type 0} where
   abbrev pub SayFull : Name → List (RoomNote V) → Type 0
   SayFull q more = All (SaysOf q reason.NoRoom) more
 
-  -- The insertion is answered: it was this act on the name, with this reply. It has noted nothing of room but that its name's buckets were full, and has made no doubling that its name didn't need.
+  -- The call was answered by this reply. The pass has noted nothing of room but that the name's buckets were full, and has made no doubling that the name didn't need.
+  abbrev pub IsAnsweredWithRoom : (Name → ℕ) → Settings → Name → Call V → Reply V → PassState V → PassState V → Type 0
+  IsAnsweredWithRoom hash set q call reply p p2 =
+      (more : List (RoomNote V)) × SayFull q more × IsAnsweredBut more call reply (as_doubled p p2) p2 × HasGrownFor hash set q p p2
+
+  -- the insertion is answered: it was this act on the name
   abbrev pub IsInserted : (Name → ℕ) → Settings → Name → PassState V → PassState V → Act V → Reply V → Type 0
-  IsInserted hash set q p p2 act reply =
-      (more : List (RoomNote V)) × SayFull q more × IsAnsweredBut more (On q act) reply (as_doubled p p2) p2 × HasGrownFor hash set q p p2
+  IsInserted hash set q p p2 act reply = IsAnsweredWithRoom hash set q (On q act) reply p p2
 
   -- The answer tells of an act with a reply that was done.
   abbrev pub TellsOf : {A : Type 0} → (A → Act V → Reply V → Type 0) → (Act V → Reply V → Type 0) → A → Type 0
@@ -61,6 +69,16 @@ module _ {V : Type 0} where
     pub own : SayFull q more
     pub stays : StaysBut more p.view p2.view
     pub held : HoldsRoom hash set q room p2
+
+  -- Since p the pass has taken all stripes, and has settled them, with room for the name among them: it is bound or one of its buckets has a free slot. They were renewed since they were taken.
+  pub record HasRoomInAll (hash : Name → ℕ) (set : Settings) (q : Name) (p p2 : PassState V) : Type 0 where
+    pub stays : Stays p.view p2.view
+    pub numbered : numbers_of p2.stripes ≡ counting 0 (2 ^ set.s)
+    pub all : AreAllHeld set.s p2.stripes
+    pub taken : Lawful (layout_of hash set) (reverse p2.view.held)
+    pub renewed : HasRenewed hash set p2
+    pub grown : HoldsGrown hash set q p2
+    pub room : ¬ (HasNoRoom (layout_of hash set) (contents_of p2.stripes) q)
 
   -- Since p the pass may have sought room for the name. It has noted nothing of room but that the name's buckets were full, and has made no doubling that the name didn't need.
   pub record HasSoughtRoom (hash : Name → ℕ) (set : Settings) (q : Name) (p p2 : PassState V) : Type 0 where

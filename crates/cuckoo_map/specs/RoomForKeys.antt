@@ -41,15 +41,11 @@ module _ {V : Type 0} where
   LacksRoomForOne hash set [] why p p2 = ⊥
   LacksRoomForOne hash set (q ∷ qs) why p p2 = IsRefused hash set q why p p2 ⊎ ((m : PassState V) × HasSoughtRoom hash set q p m × LacksRoomForOne hash set qs why m p2)
 
-  -- since p the stripes of the names were taken and given back, and nothing changed
-  abbrev pub LetsGo : (Name → ℕ) → Settings → List Name → PassState V → PassState V → Type 0
-  LetsGo hash set qs p p2 = Stays p.view p2.view × FindsAmong (IsStripeOfAny hash set qs) p p2
-
-  -- since p the stripes of the names were taken, which had too little room for all, and were given back
+  -- since p the stripes of the names were taken, which had too little room for all, and were given back as they were
   abbrev pub LacksRoomForAll : (Name → ℕ) → Settings → List Name → PassState V → PassState V → Type 0
   LacksRoomForAll hash set qs p p2 =
-      ((m : PassState V) × (stripes : StripeSet) × HoldsNames hash set qs stripes p m × ¬ (HasRoomForAll (layout_of hash set) (contents_of m.stripes) qs))
-      × LetsGo hash set qs p p2
+      ((m : PassState V) × (stripes : StripeSet) × HoldsNames hash set qs stripes p m × ¬ (HasRoomForAll (layout_of hash set) (contents_of m.stripes) qs) × Stays m.view p2.view)
+      × FindsAmong (IsStripeOfAny hash set qs) p p2
 
   -- since p nothing was done, or there was too little room for all names, and it was sought for each
   abbrev pub MakesRoomForEach : (Name → ℕ) → Settings → List Name → PassState V → PassState V → Type 0
@@ -85,9 +81,9 @@ module _ {V : Type 0} where
   SeeksRoom hash set qs false p p2 = (n : ℕ) × (m : PassState V) × GrowsTimes hash set qs n p m × MakesRoomForEach hash set qs m p2
   SeeksRoom hash set qs true p p2 = (n : ℕ) × (m : PassState V) × GrowsTimes hash set qs n p m × LacksRoomStill hash set qs m p2
 
-  -- since p all stripes were taken so, and given back, and nothing changed
+  -- since p all stripes were taken so, and given back as they were
   abbrev pub LacksToGrow : (Name → ℕ) → Settings → List Name → Lack → PassState V → PassState V → Type 0
-  LacksToGrow hash set qs lack p p2 = ((m : PassState V) × HoldsTooLittle hash set qs lack p m) × Stays p.view p2.view
+  LacksToGrow hash set qs lack p p2 = (m : PassState V) × HoldsTooLittle hash set qs lack p m × Stays m.view p2.view
 
   -- Why the table didn't grow for the names: a stripe was busy, or all stripes were taken, and this is why they didn't.
   abbrev pub IsNotGrown : (Name → ℕ) → Settings → List Name → Why → PassState V → PassState V → Type 0

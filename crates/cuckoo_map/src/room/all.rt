@@ -1,17 +1,17 @@
 //! Room for a key under all stripes: by a displacement there, or by growing.
-ghost use Rattle.std.specs.Prelude.{◌≡◌, ◌^◌, OnErr, IfOk, IfErr, reverse};
+ghost use Rattle.std.specs.Prelude.{◌≡◌, ◌^◌, OnOk, OnErr, IfOk, IfErr, reverse};
 ghost use Rattle.ck_model.specs.Contents.{layout_of, Lawful};
 ghost use Rattle.ck_model.specs.Paths.{Grounds, reason_of_lack};
 ghost use Rattle.ck_model.specs.Counting.{counting};
 ghost use Rattle.ck_model.specs.Ranges.{AreInRange};
 ghost use Rattle.ck_stripe.specs.Stripes.{contents_of, HaveNoSpare};
-ghost use Rattle.ck_stripe.specs.Tables.{AreAllHeld, IsTable};
+ghost use Rattle.ck_stripe.specs.Tables.{IsTable};
 ghost use Rattle.ck_words.specs.Passes.{IsPassOf, IsIdle, numbers_of};
 ghost use Rattle.ck_words.specs.Retries.{FindsAmong};
 ghost use Rattle.ck_words.specs.Renewing.{HasRenewed};
 ghost use Rattle.ck_words.specs.Closing.{IsCaller, IsWhole};
 ghost use Rattle.cuckoo_map.specs.Refusals.{IsStripeIn, IsRefused};
-ghost use Rattle.cuckoo_map.specs.Insertions.{HoldsRoom, HasRoom};
+ghost use Rattle.cuckoo_map.specs.Insertions.{HoldsRoom, HasRoom, HasRoomInAll};
 ghost use Rattle.cuckoo_map.specs.Needed.{HoldsGrown};
 ghost use Rattle.cuckoo_map.specs.Locking.{SeeksRoom};
 
@@ -23,8 +23,8 @@ use ck_key::{KeyHash, TableKey};
 use ck_model::lack::Lack;
 use ck_model::settings::Settings;
 use ck_section::{find_entry, make_room, settled_place};
-use ck_stripe::settle_all;
-use ck_words::{Pass, Whole, guard};
+use ck_stripe::{Held, Stripe, settle_all};
+use ck_words::{Pass, guard};
 
 impl<K: TableKey + Drop, V: Drop> Table<K, V> {
     // Takes all stripes and makes room for the key there, by a displacement or by growing, in the
@@ -99,19 +99,40 @@ impl<K: TableKey + Drop, V: Drop> Table<K, V> {
             entry,
         })
     }
-    // Makes room for the key among all stripes, which one caller has in one list, and which are then
-    // settled.
-    pub(crate) fn make_room_in(
+
+    // Takes all stripes, settled, with room for the key among them, by a displacement or by growing.
+    // Where none can be made, all are given back, and the pass has told the reason.
+    pub(crate) fn lock_all_with_room(&self, pass: &mut Pass<K, V>, key: &K) -> Result<(), Why>
+        requires caller { IsCaller self.now pass.old }
+        ensures own { IsPassOf self.now pass.new }
+        ensures held { OnOk result
+            (HasRoomInAll K.hash self.now.settings (K.name key.now) pass.old pass.new) }
+        ensures found { FindsAmong (IsStripeIn self.now.settings) pass.old pass.new }
+        ensures idle { OnErr result (IsIdle pass.new) }
+        ensures refused { IfErr result (λ why.
+            IsRefused K.hash self.now.settings (K.name key.now) why pass.old pass.new) }
+    {
+        self.lock_all(pass)?;
+        let mut guard = guard!(&self.words, pass, self.words.all());
+        if let Err(lack) = self.make_room_in(&mut guard, self.words.settings(), key) {
+            guard.refuse(key, lack);
+            return Err(Why::of(lack));
+        }
+        Ok(())
+    }
+
+    // Makes room for the key among all stripes, which one caller holds, and which are settled then.
+    pub(crate) fn make_room_in<H: Held<Stripe<K, V>>>(
         &self,
-        whole: &mut Whole<K, V>,
+        held: &mut H,
         settings: Settings,
         key: &K,
     ) -> Result<(), Lack>
-        requires held { AreAllHeld settings.s whole.old.stripes }
+        requires table { IsTable settings.s (H.stripes held.old) }
         requires range { AreInRange settings }
         ensures room { SeeksRoom K.hash settings (K.name key.now) result
-            whole.old.stripes whole.new.stripes }
-        ensures same { whole.new ≡ record whole.old { stripes = whole.new.stripes } }
+            (H.stripes held.old) (H.stripes held.new) }
+        ensures stays { H.stays held.old held.new }
     {
         let Settings {
             s,
@@ -121,8 +142,8 @@ impl<K: TableKey + Drop, V: Drop> Table<K, V> {
         } = settings;
         let mut grower = self.grower();
         let hash = KeyHash::of(key);
-        let made = make_room(whole, s, key, hash, max, min_load, &mut grower);
-        settle_all(whole);
+        let made = make_room(held, s, key, hash, max, min_load, &mut grower);
+        settle_all(held);
         made
     }
 }

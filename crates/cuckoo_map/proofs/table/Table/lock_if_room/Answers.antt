@@ -5,7 +5,7 @@ use Rattle.ck_core.specs.declared.view.View.{View}
 use Rattle.ck_words.specs.Passes.{PassState}
 use Rattle.cuckoo_map.specs.SeveralKeys.{HoldsNames}
 use Rattle.cuckoo_map.proofs.HeldKeys.{same_pass}
-use Rattle.cuckoo_map.proofs.RoomForKeys.{renewed_as_taken, ends_home, let_go, lacks_room}
+use Rattle.cuckoo_map.proofs.RoomForKeys.{renewed_as_taken, ends_home, found_home, lacks_room}
 use Rattle.cuckoo_map.proofs.table.Table.lock_if_room.Goals as goal
 
 pub has_room_for_all-requires-clause-owned : goal.has_room_for_all-requires-clause-owned
@@ -57,9 +57,9 @@ returns-clause-found g c =
     let z = c.renew.new.self.pass.now in
     let r = c.renew.ensures in
     let there : z ≡ c.pass-2-1.given.0 = search rules in
-    let gone = let_go c.args.pass.now c.lock_different.new.pass c.has_room_for_all.new.held.pass.now c.requires.caller c.lock_different.ensures.own c.in_ok-stripes.ensures.different c.in_ok-stripes.ensures.held
+    let found = found_home c.args.pass.now c.lock_different.new.pass c.has_room_for_all.new.held.pass.now c.requires.caller c.lock_different.ensures.own c.in_ok-stripes.ensures.different c.in_ok-stripes.ensures.held
     e.stays.1 e.stays.2 e.same (e.stays.5 ∙ c.self.view_is) z r.released r.doubled c.lock_different.ensures.found in
-    rw (← there) gone.1
+    rw (← there) found
 
 pub returns-then-has_room_for_all-clause-found : goal.returns-then-has_room_for_all-clause-found
 returns-then-has_room_for_all-clause-found g c =

@@ -37,7 +37,7 @@ returns-in-Ok-rename_held-clause-renamed g c =
     let committed = subst (λ (x : WordsState × List Name). HasCommitted g.K.TableKey.hash x.0 (session_on x.1 p3) p3 z)
     (λ i. (c.self.view_is i, name (c.of.ensures i) ∷ name (c.of-2.ensures i) ∷ [])) c.commit_session_of.ensures.committed in
     let did = has_queried {P = Renames} c.args.pass.now p2 p3 z e.held c.in-Ok.ensures.held e.stays c.lock_different.ensures.found committed c.in-Ok-rename_held.renamed e.renamed in
-    rw (← there) (record { answered = did.answered; refused = tt; found = did.found })
+    rw (← there) (record { tried = did.answered; refused = tt; found = did.found })
 
 -- the new name had no slot
 pub refuse_full-requires-clause-full : goal.refuse_full-requires-clause-full
@@ -67,7 +67,7 @@ returns-clause-renamed g c =
     let bound : get (bindings hs) (name c.args.from.now) ≢ None = subst (λ (x : PassState g.row.V.Denot). get (bindings (contents_of x.stripes)) (name c.args.from.now) ≢ None) (sym full.1) c.in-Err-rename_held.ensures.bound in
     let view = ap (λ (x : PassState g.row.V.Denot). x.view) full.1 in
     rw (← there) (record {
-      answered = tt;
-      refused = (full.0, (hs, told_since (name c.args.to) hs p p2 p3 z c.in-Ok.ensures.held.stays view told, bound));
+      tried = (full.0, (hs, told_since (name c.args.to) hs p p2 p3 z c.in-Ok.ensures.held.stays view told, bound));
+      refused = tt;
       found = (found.0, r.found ∙ (ap (λ (x : PassState g.row.V.Denot). x.view.found) full.1 ∙ found.1), found.2);
     })
