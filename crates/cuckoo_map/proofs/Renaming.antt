@@ -202,9 +202,12 @@ module _ {V : Type 0} (hash : Name → ℕ) (w : WordsState) (q r : Name) (apart
   answered_in_all z c =
       let a = c.answered Closed done_in_all in
       let told : IsAnswered (SessionOn names (bound_in (bindings (contents_of p1.stripes)) names) (bound_in (bindings (contents_of p2.stripes)) names)) Closed (as_doubled p2 z) z =
-      subst (λ (x : List (Option V)). IsAnswered (SessionOn names x (bound_in (bindings (contents_of p2.stripes)) names)) Closed (as_doubled p2 z) z) before a in
-      (bound_in (bindings (contents_of p1.stripes)) names, bound_in (bindings (contents_of p2.stripes)) names, did.renames,
-      ([], All-nil _, answered_since [] p p1 p2 z h.stays view _ Closed told, grown_by p1 p2 z view rest c.doubled p h.grown h.stays (replied_seen a.replied)))
+      subst (λ (x : List (Option V)). IsAnswered (SessionOn names x (bound_in (bindings (contents_of p2.stripes)) names)) Closed (as_doubled p2 z) z) before a in (
+        bound_in (bindings (contents_of p1.stripes)) names,
+        bound_in (bindings (contents_of p2.stripes)) names,
+        did.renames,
+        ([], All-nil _, answered_since [] p p1 p2 z h.stays view _ Closed told, grown_by p1 p2 z view rest c.doubled p h.grown h.stays (replied_seen a.replied)),
+      )
 
 module _ {V : Type 0} where
   -- no room has been sought
