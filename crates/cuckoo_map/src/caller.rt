@@ -472,9 +472,8 @@ impl<T: TableRef<K, V> + Drop, K: TableKey + Drop, V: Drop> CallerOn<T, K, V> {
 
     /// Binds `to`, a different key that is unbound, to the value of `from`, and unbinds `from`, in
     /// one step of the map: no other call finds both bound, or none. Where `from` is unbound or `to`
-    /// is bound, it says so, and nothing changes. Where `to` has no free slot, both are locked once
-    /// there is room, as by `lock_keys_with_room`. Refused, it gives `to` back, and no binding has
-    /// changed.
+    /// is bound, it says so, and nothing changes. Where `to` has no free slot, room is made for it, as
+    /// `insert` makes it. Refused, it gives `to` back, and no binding has changed.
     ///
     /// ```
     /// let renamed: Renamed = caller.rename(&NumKey(1), NumKey(2))?;
