@@ -19,6 +19,10 @@ public:
   explicit handles(std::size_t count) : all_(count, cuckoo_handle CUCKOO_CLOSED_HANDLE) {
     CHECK(cuckoo_open(100, 64, all_.data(), count) == CUCKOO_OK);
   }
+  handles(std::size_t count, const cuckoo_settings &settings)
+      : all_(count, cuckoo_handle CUCKOO_CLOSED_HANDLE) {
+    CHECK(cuckoo_open_with(&settings, all_.data(), count) == CUCKOO_OK);
+  }
   handles(const handles &) = delete;
   handles &operator=(const handles &) = delete;
   ~handles() {
@@ -146,6 +150,54 @@ void counters(std::size_t threads) {
   }
 }
 
+// Renames keys in turn to new ones, which are higher by the stride. One that has no room stays. Says
+// how often that was so.
+std::uint64_t rename_in_turn(cuckoo_handle *handle, std::vector<std::uint64_t> &keys,
+                             std::uint64_t stride) {
+  std::uint64_t full = 0;
+  for (std::uint64_t step = 0; step < 20000; step++) {
+    std::uint64_t &key = keys[step % keys.size()];
+    const std::uint64_t other = key + stride;
+    const int32_t code = patient([&] { return cuckoo_rename(handle, key, other); });
+    CHECK(code == CUCKOO_OK || code == CUCKOO_FULL);
+    if (code == CUCKOO_OK) key = other;
+    if (code == CUCKOO_FULL) full++;
+  }
+  return full;
+}
+
+// Threads rename keys of their own in a table that is nearly full and can't grow, so that others take
+// slots that were found or made for one: each value stays bound, to one key.
+void crowded_renames(std::size_t threads) {
+  constexpr std::uint64_t slots = 64;
+  const cuckoo_settings settings{2, 4, 4, static_cast<std::uint32_t>(threads), 64, 4, 5};
+  handles table(threads, settings);
+  const std::uint64_t each = slots * 15 / 16 / threads;
+  std::vector<std::vector<std::uint64_t>> keys(threads);
+  for (std::uint64_t thread = 0; thread < threads; thread++)
+    for (std::uint64_t i = 0; i < each; i++) {
+      const std::uint64_t key = i * threads + thread;
+      if (cuckoo_insert(table.at(0), key, key) == CUCKOO_OK)
+        keys[thread].push_back(key);
+    }
+  std::uint64_t count = 0;
+  for (const std::vector<std::uint64_t> &own : keys) count += own.size();
+  std::atomic<std::uint64_t> full{0};
+  table.run([&](cuckoo_handle *handle, std::uint64_t thread) {
+    full += rename_in_turn(handle, keys[thread], threads * each);
+  });
+  std::uint64_t len = 0;
+  CHECK(cuckoo_len(table.at(0), &len) == CUCKOO_OK && len == count);
+  for (const std::vector<std::uint64_t> &own : keys)
+    for (const std::uint64_t key : own) {
+      std::uint64_t found = 0;
+      CHECK(cuckoo_find(table.at(0), key, &found) == CUCKOO_OK);
+      CHECK(found == key % (threads * each));
+    }
+  std::printf("%zu threads: %llu renames found no room\n", threads,
+              static_cast<unsigned long long>(full));
+}
+
 } // namespace
 
 int main() {
@@ -153,6 +205,7 @@ int main() {
     chains(threads);
     transfers(threads);
     counters(threads);
+    crowded_renames(threads);
   }
   return report();
 }
