@@ -34,9 +34,9 @@
  *
  * The library calls malloc, realloc and free, which have to align blocks as C says, and needs a
  * processor of x86-64-v2. Memory is requested where a table is opened or is to grow, where a text is
- * to be bound or renamed, and for `clear` and the pairs of a table; no other call requests any. The
- * library never yields: a caller that was refused as CUCKOO_BUSY lets other threads run, and calls
- * again (`cuckoo_map.hpp` does that).
+ * to be bound or renamed, and for the pairs of a table; no other call requests any. A call that finds
+ * none loses no key, and leaves its handle as it was. The library never yields: a caller that was
+ * refused as CUCKOO_BUSY lets other threads run, and calls again (`cuckoo_map.hpp` does that).
  */
 #ifndef CUCKOO_MAP_H
 #define CUCKOO_MAP_H
@@ -230,18 +230,14 @@ int32_t cuckoo_capacity(cuckoo_handle *handle, uint64_t *slots);
  * CUCKOO_NO_MEMORY: it may have doubled before that; CUCKOO_BUSY; CUCKOO_CLOSED. */
 int32_t cuckoo_reserve(cuckoo_handle *handle, uint64_t slots);
 
-/* Unbinds all keys, at one moment. CUCKOO_OK; CUCKOO_BUSY; CUCKOO_CLOSED; CUCKOO_NO_MEMORY: there is
- * none to keep the handle, which is closed now, and the keys may be unbound. */
+/* Unbinds all keys, at one moment. CUCKOO_OK; CUCKOO_BUSY; CUCKOO_CLOSED. */
 int32_t cuckoo_clear(cuckoo_handle *handle);
 
 /* All pairs at one moment, in rising order of the keys: a copy, which other threads don't change.
- * CUCKOO_OK; CUCKOO_BUSY; CUCKOO_CLOSED; CUCKOO_IS_OPEN: `pairs` is open; CUCKOO_NO_MEMORY: for the
- * pairs, and nothing changed; or to keep the handle, which is closed now, and `pairs` has the pairs
- * if it is open. */
+ * CUCKOO_OK; CUCKOO_BUSY; CUCKOO_CLOSED; CUCKOO_IS_OPEN: `pairs` is open; CUCKOO_NO_MEMORY. */
 int32_t cuckoo_export(cuckoo_handle *handle, cuckoo_pairs *pairs);
 
-/* The same, and unbinds all keys at that moment. No pair is lost: where it is refused for want of
- * memory, the keys are bound still or `pairs` has them. */
+/* The same, and unbinds all keys at that moment. Where it is refused, they are bound still. */
 int32_t cuckoo_drain(cuckoo_handle *handle, cuckoo_pairs *pairs);
 
 /* The next pair. CUCKOO_OK; CUCKOO_ABSENT: there are no more, or `pairs` isn't open. */

@@ -61,11 +61,11 @@ public:
   std::int32_t code() const noexcept { return code_; }
 };
 
-/// The map was moved from, or its last handle was closed by a `clear` that found no memory.
+/// The map was moved from.
 class closed : public std::logic_error {
 public:
   /// A call of such a map.
-  closed() : std::logic_error("cuckoo: the map has no handle") {}
+  closed() : std::logic_error("cuckoo: the map was moved from") {}
 };
 
 /// What a map is opened with.
@@ -93,7 +93,7 @@ namespace detail {
 
 // Throws for a refusal. Where it was one as busy, it lets other threads run, and the call is to be
 // made again.
-inline void refuse(std::int32_t code) {
+[[gnu::noinline]] inline void refuse(std::int32_t code) {
   switch (code) {
   case CUCKOO_BUSY: return std::this_thread::yield();
   case CUCKOO_NO_MEMORY: throw std::bad_alloc();
@@ -333,13 +333,6 @@ public:
 
   void push(std::shared_ptr<lender> of, void *handle) { all_.push_back({std::move(of), handle}); }
 
-  // Forgets the handle that was lent by this one.
-  void forget(const lender *of) {
-    forget_latest();
-    for (std::size_t i = 0; i < all_.size(); i++)
-      if (all_[i].of.get() == of) return drop(i);
-  }
-
   static loans &of_thread() {
     static thread_local loans one;
     return one;
@@ -360,8 +353,8 @@ template <class Family> class pool final : public lender {
   std::vector<handle *> idle_;
   bool is_open_ = true;
 
+  // Guards the first handle, which all threads without one of their own share.
   std::mutex shared_lock_;
-  handle *shared_;
 
 public:
   explicit pool(const cuckoo_settings &settings) {
@@ -375,7 +368,6 @@ public:
       places_[i].at = handles[i];
       if (i > 0) idle_.push_back(&places_[i].at);
     }
-    shared_ = &places_[0].at;
   }
 
   // Ends the table; threads that still have a handle find it closed when they end.
@@ -406,16 +398,10 @@ public:
     return is_open_;
   }
 
-  // Makes a call through the handle that is shared. Where that is closed, another takes its place.
+  // Makes a call through the handle that is shared.
   template <class Call> std::int32_t share(const Call &call) {
     std::lock_guard<std::mutex> held(shared_lock_);
-    for (;;) {
-      const std::int32_t code = call(shared_);
-      if (code != CUCKOO_CLOSED) return code;
-      handle *other = lend();
-      if (!other) return code;
-      shared_ = other;
-    }
+    return call(&places_[0].at);
   }
 };
 
@@ -454,22 +440,13 @@ template <class Family> class table {
     if (pool_) pool_->close();
   }
 
-  // What follows on a refusal: another try, or an exception.
-  [[gnu::noinline]] void after(std::int32_t code) const {
-    // The thread's handle was closed by a `clear` that found no memory: it gets another.
-    if (code == CUCKOO_CLOSED && is_latest())
-      loans::of_thread().forget(pool_.get());
-    else
-      refuse(code);
-  }
-
   // Makes a call until it is answered, whichever handle is the latest.
   template <class Call> [[gnu::noinline]] std::int32_t answer_slowly(const Call &call) const {
     for (;;) {
       const std::int32_t code = is_latest() ? call(static_cast<handle *>(latest.handle))
                                             : other_than_latest(call);
       if (code >= 0) return code;
-      after(code);
+      refuse(code);
     }
   }
 
@@ -492,7 +469,7 @@ public:
     if (is_latest()) {
       const std::int32_t code = call(static_cast<handle *>(latest.handle));
       if (code >= 0) return code;
-      after(code);
+      refuse(code);
     }
     return answer_slowly(call);
   }
@@ -828,8 +805,7 @@ public:
     return call<family::reserve>(slots) == CUCKOO_OK;
   }
 
-  /// Unbinds all keys, at one moment. Where std::bad_alloc is thrown, one handle of the map is
-  /// lost; with its last one the table ends, and calls throw `closed`.
+  /// Unbinds all keys, at one moment.
   void clear() { call<family::clear>(); }
 
   /// All pairs at one moment.
@@ -843,6 +819,7 @@ public:
   }
 
   /// All pairs at one moment, and unbinds all keys at that moment. What isn't read of them is lost.
+  /// Where std::bad_alloc is thrown, all keys are bound still.
   cuckoo::snapshot<Key, T> drain() { return read<family::drain>(); }
 
 private:

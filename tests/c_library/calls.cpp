@@ -30,7 +30,7 @@ template <class Map, class Key> void calls_that_bind(Map &map, const Key &one, c
   std::uint64_t value = 7;
   CHECK(map.insert(one, 10) && !map.insert(one, 11));
   CHECK(map.find(one) == 10 && map.find(one, value) && value == 10 && *map.get(one) == 10);
-  CHECK(map.contains(one) && !map.contains(two) && map.size() == 1);
+  CHECK(map.contains(one) && !map.contains(two) && map.size() == 1 && !map.empty());
   CHECK(map.find_fn(one, [&](const std::uint64_t &seen) { value = seen + 1; }) && value == 11);
   CHECK(map.update(one, 20) && map.find(one) == 20);
   CHECK(map.update_fn(one, [](std::uint64_t &seen) { seen += 2; }) && map.find(one) == 22);
@@ -160,14 +160,18 @@ void several() {
 // Settings of a table that opens with 32 slots, and may have 4 * 2^max.
 cuckoo_settings settings_of_few_slots(std::uint32_t max) { return {0, 3, max, 1, 64, 4, 5}; }
 
-// Binds the keys from 0 on to themselves, up to one that has no room, and returns how many.
-int fill(cuckoo::map<int, int> &map) {
+// Binds the keys from 0 on to themselves, up to one that has no room, and returns it with its
+// refusal.
+std::pair<int, cuckoo::full> fill_up(cuckoo::map<int, int> &map) {
   for (int key = 0;; key++) try {
       map.insert(key, key);
-    } catch (const cuckoo::full &) {
-      return key;
+    } catch (const cuckoo::full &refusal) {
+      return {key, refusal};
     }
 }
+
+// The same, and returns how many.
+int fill(cuckoo::map<int, int> &map) { return fill_up(map).first; }
 
 // Whether a key is renamed to one that is unbound, and back: not where that has no room.
 bool renames_and_back(cuckoo::map<int, int> &map, int from, int to) {
@@ -274,18 +278,23 @@ void refusals() {
   CHECK_THROWS(std::invalid_argument, cuckoo::map<int, int>(cuckoo::options{100, ~0u, 64}));
   cuckoo_settings settings{0, 1, 2, 1, 64, 4, 5};
   cuckoo::map<int, int> small(settings);
-  int count = 0;
-  std::int32_t code = CUCKOO_OK;
-  while (code == CUCKOO_OK) try {
-      small.insert(count, count);
-      count++;
-    } catch (const cuckoo::full &refusal) {
-      code = refusal.code();
-    }
-  CHECK(code == CUCKOO_FULL && small.size() == static_cast<std::size_t>(count));
+  const auto [count, refusal] = fill_up(small);
+  CHECK(refusal.code() == CUCKOO_FULL && small.size() == static_cast<std::size_t>(count));
+  CHECK(std::string(refusal.what()) == "cuckoo: no room, and the table has its greatest size");
   CHECK_THROWS(cuckoo::full, small.upsert(count, [](int &) {}, 1));
   for (int key = 0; key < count; key++) CHECK(small.find(key) == key);
   CHECK_THROWS(std::length_error, small.reserve(17));
+}
+
+// A table that grows only where all its slots are taken.
+void refusals_of_few_keys() {
+  cuckoo::map<int, int> map(cuckoo_settings{0, 1, 20, 1, 64, 4, 100});
+  const auto [count, refusal] = fill_up(map);
+  CHECK(refusal.code() == CUCKOO_LOAD_TOO_LOW && map.size() == static_cast<std::size_t>(count));
+  CHECK(std::string(refusal.what()) ==
+        "cuckoo: no room, and too few slots are taken for it to grow");
+  CHECK(map.size() < map.capacity());
+  for (int key = 0; key < count; key++) CHECK(map.find(key) == key);
 }
 
 void moves() {
@@ -323,6 +332,7 @@ int main() {
   renames_of_threads();
   closures();
   refusals();
+  refusals_of_few_keys();
   moves();
   return report();
 }

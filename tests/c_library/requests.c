@@ -153,11 +153,9 @@ static uint64_t texts_listed(void) {
 static int32_t grow(void) { return cuckoo_reserve(&handles[0], 4 * SLOTS); }
 static int32_t export(void) { return cuckoo_export(&handles[0], &pairs); }
 static int32_t drain(void) { return cuckoo_drain(&handles[0], &pairs); }
-static int32_t clear(void) { return cuckoo_clear(&handles[0]); }
 static int32_t text_grow(void) { return cuckoo_text_reserve(&texts[0], 4 * SLOTS); }
 static int32_t text_export(void) { return cuckoo_text_export(&texts[0], &text_pairs); }
 static int32_t text_drain(void) { return cuckoo_text_drain(&texts[0], &text_pairs); }
-static int32_t text_clear(void) { return cuckoo_text_clear(&texts[0]); }
 static int32_t text_insert(void) { return cuckoo_text_insert(&texts[0], "new", 3, 5); }
 static int32_t text_add(void) { return cuckoo_text_add(&texts[0], "new", 3, 5); }
 static int32_t text_assign(void) {
@@ -179,26 +177,16 @@ static const subject subjects[] = {
     {"reserve", grow, 4, 0, 0, 0},
     {"export", export, 2, 0, 1, 0},
     {"drain", drain, 2, 1, 1, 0},
-    {"clear", clear, 1, 1, 0, 0},
 };
 
 static const subject text_subjects[] = {
     {"reserve texts", text_grow, 4, 0, 0, 0},
     {"export texts", text_export, 2 + KEYS, 0, 1, 0},
     {"drain texts", text_drain, 2, 1, 1, 0},
-    {"clear texts", text_clear, 1, 1, 0, 0},
     {"insert a text", text_insert, 1, 0, 0, 1},
     {"assign a text", text_assign, 1, 0, 0, 1},
     {"add to a text", text_add, 1, 0, 0, 1},
 };
-
-/* Where it is refused all keys are bound, or all pairs are listed; a clear may have unbound all. */
-static void check_refused(const subject *it, uint64_t bound, uint64_t list) {
-    int stays = bound == KEYS;
-    int is_listed = it->lists && list == KEYS;
-    int is_cleared = it->unbinds && !it->lists && bound == 0;
-    check(it->what, "no pair is lost where it is refused", stays || is_listed || is_cleared);
-}
 
 static void check_done(const subject *it, uint64_t bound, uint64_t list) {
     uint64_t wanted = it->unbinds ? 0 : KEYS + it->binds;
@@ -206,7 +194,8 @@ static void check_done(const subject *it, uint64_t bound, uint64_t list) {
     check(it->what, "the pairs that are listed", list == (it->lists ? KEYS : 0));
 }
 
-/* Makes the call with each of its requests, and all behind it, refused. */
+/* Makes the call with each of its requests, and all behind it, refused: then nothing has changed, and
+ * the same handle makes it where there is memory. */
 static void try_subject(const subject *it, uint64_t (*bound)(void), uint64_t (*list)(void)) {
     int32_t code = CUCKOO_NO_MEMORY;
     for (int request = 0; code == CUCKOO_NO_MEMORY && request < MOST; request++) {
@@ -215,7 +204,9 @@ static void try_subject(const subject *it, uint64_t (*bound)(void), uint64_t (*l
         code = it->call();
         watches = 0;
         if (code == CUCKOO_NO_MEMORY) {
-            check_refused(it, bound(), list());
+            check(it->what, "no key is lost where it is refused", bound() == KEYS && list() == 0);
+            check(it->what, "it is answered later", it->call() == CUCKOO_OK);
+            check_done(it, bound(), list());
         } else {
             check(it->what, "it is answered with memory", code == CUCKOO_OK);
             check(it->what, "each request was refused", requests == request);
@@ -277,6 +268,9 @@ static void ask_numbers(cuckoo_handle *handle) {
     NONE("capacity", cuckoo_capacity(handle, &value), CUCKOO_OK);
     NONE("reserve", cuckoo_reserve(handle, SLOTS), CUCKOO_ENOUGH);
     check("the calls", "no key is lost", numbers() == KEYS);
+    NONE("clear", cuckoo_clear(handle), CUCKOO_OK);
+    NONE("len of none", cuckoo_len(handle, &value), CUCKOO_OK);
+    check("clear", "no key is bound", value == 0);
 }
 
 static void ask_texts(cuckoo_text_handle *handle) {
@@ -291,6 +285,12 @@ static void ask_texts(cuckoo_text_handle *handle) {
     NONE("text_capacity", cuckoo_text_capacity(handle, &value), CUCKOO_OK);
     NONE("text_reserve", cuckoo_text_reserve(handle, SLOTS), CUCKOO_ENOUGH);
     check("the calls on texts", "no key is lost", letters() == KEYS);
+    watch(0);
+    check("text_clear", "it is answered without memory", cuckoo_text_clear(handle) == CUCKOO_OK);
+    watches = 0;
+    check("text_clear", "it requests none, and frees the keys", requests == 0 && blocks == -KEYS);
+    NONE("text_len of none", cuckoo_text_len(handle, &value), CUCKOO_OK);
+    check("text_clear", "no key is bound", value == 0);
 }
 
 int main(void) {

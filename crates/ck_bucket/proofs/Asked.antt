@@ -8,7 +8,8 @@ use Rattle.std.specs.Option.{option_to_list}
 use Rattle.std.specs.FinMap.{find}
 use Rattle.std.proofs.lemmas.List.{map-append}
 use Rattle.std.proofs.lemmas.Option.{none-some}
-use Rattle.ck_model.specs.Promise.{Name, name_cmp, named}
+use Rattle.ck_model.specs.Promise.{Name, name_cmp}
+use Rattle.ck_model.specs.Listing.{named}
 use Rattle.ck_model.specs.Slots.{Slot, slot_at, taken_in}
 use Rattle.ck_model.specs.Contents.{row_at, NamesApart}
 use Rattle.ck_bucket.specs.Retaining.{CalledAtPair, AsksAboutSlot, AsksAboutRow, AsksAboutRows}

@@ -4,7 +4,8 @@ use Rattle.std.proofs.lemmas.Bool.{cases_eq, cases_lt}
 use Rattle.std.proofs.lemmas.List.{get_or-set_same, get_or-set_other, length-set, length-map, length-replicate, get_or-replicate, get_or_past, set-get_or, get_or-map, map-set}
 use Rattle.std.proofs.lemmas.Option.{same_Some, none-some}
 use Rattle.ck_model.specs.Arithmetic.{partial_of}
-use Rattle.ck_model.specs.Promise.{Name, named}
+use Rattle.ck_model.specs.Promise.{Name}
+use Rattle.ck_model.specs.Listing.{named}
 use Rattle.ck_model.specs.Slots.{Slot, slot_at}
 use Rattle.ck_model.specs.Contents.{row_at}
 use Rattle.ck_model.specs.Paths.{partial_in}

@@ -1,7 +1,8 @@
 -- What a bucket's calls find and change in its slots.
 use Rattle.std.specs.Prelude.{◌≡◌, ◌≢◌, ℕ, Bool, not, if◌then◌else◌, List, Option, Some, None, length, map, slice_index, option_map, slice_set}
 use Rattle.ck_model.specs.Arithmetic.{partial_of}
-use Rattle.ck_model.specs.Promise.{Name, named}
+use Rattle.ck_model.specs.Promise.{Name}
+use Rattle.ck_model.specs.Listing.{named}
 use Rattle.ck_model.specs.Slots.{Slot, slot_at}
 use Rattle.ck_key.specs.Doubling.{rises_of}
 

@@ -2,7 +2,7 @@
 ghost use Rattle.std.specs.Prelude.{◌≡◌, ◌≢◌, ◌≤◌, ◌+◌, ◌*◌, ◌^◌, ◌<◌, ◌++◌, ℕ, vec_len, vec_capacity, is_some, IsSome, OnOk, IfSome, IfNone, IfOk, Some, None, slice_set, slice_index_or, replicate, length, map, option_map, option_copied};
 ghost use Rattle.std.specs.Option.{option_to_list};
 ghost use Rattle.ck_model.specs.Arithmetic.{partial_of};
-ghost use Rattle.ck_model.specs.Promise.{named};
+ghost use Rattle.ck_model.specs.Listing.{named};
 ghost use Rattle.ck_model.specs.Slots.{slot_at, taken_in, IsFull};
 ghost use Rattle.ck_model.specs.Contents.{row_at};
 ghost use Rattle.ck_model.specs.Paths.{partial_in};

@@ -1,7 +1,8 @@
 -- Answers on the names of the keys that they list.
 use Rattle.std.specs.Prelude.{ℕ, List, map}
 use Rattle.std.specs.Global.{Vec}
-use Rattle.ck_model.specs.Promise.{Name, named}
+use Rattle.ck_model.specs.Promise.{Name}
+use Rattle.ck_model.specs.Listing.{named}
 use Rattle.ck_format.specs.declared.answer.Answer.{Answer}
 use Rattle.ck_format.specs.declared.answer.Answer.TheVariants.{Value, Absent, Yes, No, New, Old, Set, Gone, Count, Listed, Busy, Memory, Full, Load}
 use Rattle.ck_format.specs.Text.{Pairs}

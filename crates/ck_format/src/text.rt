@@ -1,6 +1,6 @@
 //! The text of a run, as one list of bytes.
 ghost use Rattle.std.specs.Prelude.{◌≡◌, ◌++◌, codes, decimal, length, map, OnOk, IfOk};
-ghost use Rattle.ck_model.specs.Promise.{named};
+ghost use Rattle.ck_model.specs.Listing.{named};
 ghost use Rattle.ck_format.specs.Text.{answer_text, worker_text, workers_text, pairs_text};
 ghost use Rattle.ck_format.specs.Text.{output_text, pair_text};
 ghost use Rattle.ck_format.specs.Lines.{with_feed};

@@ -6,7 +6,8 @@ use Rattle.std.specs.Ordering.{nat_cmp, ordering_then}
 use Rattle.std.specs.Cmp.Lexicographic.{nat_list_cmp_total}
 use Rattle.std.specs.FinMap.{find, get, entries, entries_sorted, from_entries, get-from_entries, get-entries}
 use Rattle.std.specs.FinMap.Entries.{below_all, is_sorted}
-use Rattle.ck_model.specs.Promise.{Name, name_cmp, Map, named, ListsInOrder}
+use Rattle.ck_model.specs.Promise.{Name, name_cmp, Map}
+use Rattle.ck_model.specs.Listing.{named, ListsInOrder}
 use Rattle.ck_model.proofs.Names.{maps_alike}
 use Rattle.ck_model.proofs.Counted.{rising_entries}
 

@@ -2,6 +2,7 @@ pub mod Arithmetic
 pub mod Numbered
 pub mod Counting
 pub mod Promise
+pub mod Listing
 pub mod Slots
 pub mod Contents
 pub mod Sections

@@ -1,11 +1,9 @@
 -- The promise of the map: the plain map, the histories that it can run through, and what an answered call adds to one.
-use Rattle.std.specs.Prelude.{◌≡◌, ◌≢◌, ◌⊎◌, ℕ, ◌==◌, if◌then◌else◌, List, [], ◌∷◌, ◌++◌, Option, Some, None, length, map}
-use Rattle.std.specs.List.{AllAdjacentBelow}
+use Rattle.std.specs.Prelude.{◌≡◌, ◌≢◌, ◌⊎◌, ℕ, ◌==◌, if◌then◌else◌, List, [], ◌∷◌, ◌++◌, Option, Some, None, map}
 use Rattle.std.specs.declared.cmp.Ordering.{Ordering}
-use Rattle.std.specs.declared.cmp.Ordering.TheVariants.{Less}
 use Rattle.std.specs.Ordering.{nat_cmp}
 use Rattle.std.specs.Cmp.Lexicographic.{slice_cmp}
-use Rattle.std.specs.FinMap.{FinMap, empty, get, len, entries, from_entries}
+use Rattle.std.specs.FinMap.{FinMap, empty, get, len, entries}
 use Rattle.ck_model.specs.declared.history.Act.{Act}
 use Rattle.ck_model.specs.declared.history.Act.TheVariants.{Find, Insert, Assign, Update, Change, Upsert, Erase}
 use Rattle.ck_model.specs.declared.history.Call.{Call}
@@ -126,12 +124,3 @@ module _ {V : Type 0} where
   pub record IsInterleaving (log : List (Entry V)) (parts : List (ℕ × List (Entry V))) : Type 0 where
     pub each : (m : ℕ) (l : List (Entry V)) → Holds parts m l → subhistory m log ≡ l
     pub no_others : (m : ℕ) → ¬ (IsIn m (numbers parts)) → subhistory m log ≡ []
-
--- an entry by its name
-abbrev pub named : {K V : Type 0} → (K → Name) → K × V → Name × V
-named name e = (name e.0, e.1)
-
--- the pairs of the map, in strictly rising order of their keys
-pub record ListsInOrder {K V : Type 0} (name : K → Name) (cmp : K → K → Ordering) (pairs : List (K × V)) (m : Map V) : Type 0 where
-  pub rising : AllAdjacentBelow (λ (a b : K × V). cmp a.0 b.0 ≡ Less) pairs (length pairs)
-  pub same : from_entries (map (named name) pairs) ≡ m

@@ -13,7 +13,8 @@ use Rattle.std.proofs.lemmas.List.Elements.{All-append}
 use Rattle.std.proofs.lemmas.Slice.Zip.{all_zipped_more, length-zip, get_or-zip}
 use Rattle.ck_model.specs.declared.history.Entry.{Entry}
 use Rattle.ck_model.specs.declared.settings.Settings.{Settings}
-use Rattle.ck_model.specs.Promise.{Name, Map, named, name_cmp, ListsInOrder, After}
+use Rattle.ck_model.specs.Promise.{Name, Map, name_cmp, After}
+use Rattle.ck_model.specs.Listing.{named, ListsInOrder}
 use Rattle.ck_model.proofs.Entries.{entries_listed}
 use Rattle.ck_model.specs.Numbered.{IsIn, numbers}
 use Rattle.ck_model.specs.Counting.{counting}

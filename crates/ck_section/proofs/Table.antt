@@ -5,7 +5,8 @@ use Rattle.std.specs.FinMap.{from_entries}
 use Rattle.std.specs.declared.cmp.Ordering.{Ordering}
 use Rattle.std.proofs.lemmas.Nat.{pow_pos}
 use Rattle.std.proofs.lemmas.List.{length-map, get_or-map}
-use Rattle.ck_model.specs.Promise.{Name, named, ListsInOrder}
+use Rattle.ck_model.specs.Promise.{Name}
+use Rattle.ck_model.specs.Listing.{named, ListsInOrder}
 use Rattle.ck_model.specs.Contents.{layout, Stripes, Lawful, NamesApart, pairs_in, pairs_of, bindings, power_of}
 use Rattle.ck_model.specs.Sections.{IdentitySection}
 use Rattle.ck_model.specs.Doubling.{IsDoubledTo}

@@ -4,7 +4,8 @@ use Rattle.std.specs.Borrow.{Bor}
 use Rattle.std.specs.Fn.{Mut}
 use Rattle.std.specs.FinMap.{from_entries}
 use Rattle.std.specs.Map.Calls.{RetainsPairs}
-use Rattle.ck_model.specs.Promise.{Name, Map, named}
+use Rattle.ck_model.specs.Promise.{Name, Map}
+use Rattle.ck_model.specs.Listing.{named}
 use Rattle.ck_model.specs.Contents.{Layout, Lawful, NamesApart, bindings, IsShaped}
 use Rattle.ck_model.specs.Sections.{Renewed}
 use Rattle.ck_bucket.specs.Retaining.{EachInTurn, CalledAtPair, AsksAboutRows}

@@ -1,6 +1,6 @@
 //! The pairs of all stripes of a table, held as one slice, are taken out.
 ghost use Rattle.std.specs.Prelude.{◌≡◌, ℕ, ◌+◌, ◌≤◌, ◌++◌, OnOk, OnErr, IfOk, length, map, vec_len, vec_capacity};
-ghost use Rattle.ck_model.specs.Promise.{named, ListsInOrder};
+ghost use Rattle.ck_model.specs.Listing.{named, ListsInOrder};
 ghost use Rattle.ck_model.specs.Contents.{layout, Lawful, pairs_of, bindings};
 ghost use Rattle.ck_stripe.specs.Stripes.{contents_of};
 ghost use Rattle.ck_section.specs.Calls.{ChangesContents};

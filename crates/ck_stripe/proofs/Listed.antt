@@ -4,7 +4,8 @@ use Rattle.std.specs.Prelude.{flat_map, drop, All}
 use Rattle.std.specs.Option.{option_to_list}
 use Rattle.std.proofs.lemmas.List.{length-append, get_or_append_left, get_or-append_right, drop_more, drop_all}
 use Rattle.std.proofs.lemmas.List.Elements.{All-tail, filter_map-append}
-use Rattle.ck_model.specs.Promise.{Name, named}
+use Rattle.ck_model.specs.Promise.{Name}
+use Rattle.ck_model.specs.Listing.{named}
 use Rattle.ck_model.specs.Slots.{Slot, slot_at, taken_in}
 use Rattle.ck_model.specs.Contents.{row_at}
 use Rattle.ck_stripe.specs.Iter.{slots_of, pairs_from, HasSlots}

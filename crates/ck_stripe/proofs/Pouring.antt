@@ -4,7 +4,8 @@ use Rattle.std.specs.Prelude.{flat_map}
 use Rattle.std.specs.Global.{Vec}
 use Rattle.std.proofs.lemmas.List.{length-map, length-take-le, take_more, take_all, flat_map_more}
 use Rattle.std.proofs.lemmas.List.Folds.{length-flat_map-take}
-use Rattle.ck_model.specs.Promise.{Name, named}
+use Rattle.ck_model.specs.Promise.{Name}
+use Rattle.ck_model.specs.Listing.{named}
 use Rattle.ck_model.specs.Slots.{Slot, taken_in}
 
 module _ {K V : Type 0} where

@@ -4,7 +4,8 @@ use Rattle.std.specs.Prelude.{slice_index_or}
 use Rattle.std.proofs.lemmas.List.{length-map, take_all}
 use Rattle.ck_model.specs.declared.history.Call.TheVariants.{Len}
 use Rattle.ck_model.specs.declared.history.Reply.TheVariants.{Count}
-use Rattle.ck_model.specs.Promise.{Name, named}
+use Rattle.ck_model.specs.Promise.{Name}
+use Rattle.ck_model.specs.Listing.{named}
 use Rattle.ck_model.specs.Contents.{layout, Lawful, pairs_in, pairs_of}
 use Rattle.ck_model.specs.Sections.{Section}
 use Rattle.ck_model.proofs.Counted.{len-bindings}

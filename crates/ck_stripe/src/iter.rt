@@ -1,7 +1,7 @@
 //! An iterator over the pairs of one stripe.
 ghost use Rattle.std.specs.Prelude.{◌≡◌, ◌*◌, flat_map};
 ghost use Rattle.std.specs.Iterator.{YieldsFirstBy, item_count};
-ghost use Rattle.ck_model.specs.Promise.{named};
+ghost use Rattle.ck_model.specs.Listing.{named};
 ghost use Rattle.ck_model.specs.Slots.{taken_in};
 ghost use Rattle.ck_stripe.specs.Iter.{HasSlots};
 

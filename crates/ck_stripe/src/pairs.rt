@@ -1,6 +1,6 @@
 //! The pairs of a stripe: how they are taken out, and how those stay that a closure keeps.
 ghost use Rattle.std.specs.Prelude.{◌≡◌, ◌≤◌, ◌+◌, ◌^◌, true, ◌++◌, length, map, flat_map, vec_len, vec_capacity};
-ghost use Rattle.ck_model.specs.Promise.{named};
+ghost use Rattle.ck_model.specs.Listing.{named};
 ghost use Rattle.ck_model.specs.Slots.{taken_in};
 ghost use Rattle.ck_model.specs.Contents.{pairs_in};
 ghost use Rattle.ck_bucket.specs.Retaining.{AsksAboutRows};

@@ -4,7 +4,7 @@ ghost use Rattle.std.specs.Prelude.{◌≡◌, ◌⊎◌, ℕ, ◌+◌, ◌^◌,
 ghost use Rattle.ck_model.specs.declared.history.Call.TheVariants.{Len};
 ghost use Rattle.ck_model.specs.declared.history.Reply.TheVariants.{Count};
 ghost use Rattle.ck_model.specs.Contents.{layout, Lawful, pairs_of};
-ghost use Rattle.ck_model.specs.Promise.{named};
+ghost use Rattle.ck_model.specs.Listing.{named};
 ghost use Rattle.ck_model.specs.Sections.{Section};
 ghost use Rattle.ck_stripe.specs.Stripes.{contents_of, settled_stripes};
 ghost use Rattle.ck_stripe.specs.Tables.{AreSettled, IsTable};

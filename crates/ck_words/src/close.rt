@@ -1,6 +1,6 @@
 //! The end of a table.
 ghost use Rattle.std.specs.Prelude.{◌≡◌, ℕ, ◌+◌, ◌^◌, ◌≤◌, [], All, IfNone, IfSome, IfOk, IfErr, length, map, vec_capacity};
-ghost use Rattle.ck_model.specs.Promise.{named};
+ghost use Rattle.ck_model.specs.Listing.{named};
 ghost use Rattle.std.specs.FinMap.{from_entries};
 ghost use Rattle.ck_model.specs.Contents.{NamesApart, pairs_of};
 ghost use Rattle.ck_stripe.specs.Stripes.{contents_of};

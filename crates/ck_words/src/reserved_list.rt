@@ -3,7 +3,7 @@ ghost use Rattle.std.specs.Prelude.{◌≡◌, ◌≤◌, ◌<◌, ◌+◌, ◌+
 ghost use Rattle.std.specs.Option.{option_to_list};
 ghost use Rattle.std.specs.Borrow.{sem};
 ghost use Rattle.ck_model.specs.Contents.{pairs_of};
-ghost use Rattle.ck_model.specs.Promise.{named};
+ghost use Rattle.ck_model.specs.Listing.{named};
 ghost use Rattle.ck_stripe.specs.Stripes.{contents_of};
 ghost use Rattle.ck_stripe.specs.Tables.{AreSettled};
 ghost use Rattle.ck_words.specs.Lists.{LendsItems};

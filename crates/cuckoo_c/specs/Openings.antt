@@ -4,7 +4,8 @@ use Rattle.std.specs.FinMap.{entries}
 use Rattle.std.specs.declared.cmp.Ordering.{Ordering}
 use Rattle.ck_model.specs.declared.settings.Settings.{Settings}
 use Rattle.ck_model.specs.Ranges.{AreInRange}
-use Rattle.ck_model.specs.Promise.{Name, Map, ListsInOrder}
+use Rattle.ck_model.specs.Promise.{Name, Map}
+use Rattle.ck_model.specs.Listing.{ListsInOrder}
 use Rattle.ck_model.specs.declared.history.Call.TheVariants.{Session}
 use Rattle.ck_model.specs.declared.history.Reply.TheVariants.{Closed}
 use Rattle.cuckoo_c.specs.declared.code.Code.{Code}
@@ -26,15 +27,6 @@ TellsOpening settings count closed codes.Memory = CanOpen settings count × clos
 TellsOpening settings count closed codes.Open = CanOpen settings count × ¬ closed
 TellsOpening settings count closed codes.Settings = ¬ CanOpen settings count
 TellsOpening settings count closed code = ⊥
-
--- The place holds this again, and the code is this one; or there was no memory for its box, and the place is closed.
-abbrev pub IsPutBack : {T : Type 0} → T → Code → Option T → Code → Type 0
-IsPutBack handle told now code = (now ≡ Some handle) × (code ≡ told) ⊎ (now ≡ None) × (code ≡ codes.Memory)
-
--- The handle was open, and its caller c is d after the call, which left this and has this code; d is put back, or lost. Or it was closed, stays so, and C is told it.
-abbrev pub CallsOrLoses : (CallerState ℕ → CallerState ℕ → Code → Type 0) → Option (CallerState ℕ) → Option (CallerState ℕ) → Code → Type 0
-CallsOrLoses P (Some c) now code = (d : CallerState ℕ) × (told : Code) × P c d told × IsPutBack d told now code
-CallsOrLoses P None now code = (now ≡ None) × (code ≡ codes.Closed)
 
 -- all names were unbound in one session
 abbrev pub Empties : CallerState ℕ → CallerState ℕ → Type 0

@@ -17,7 +17,7 @@ ghost use Rattle.cuckoo_c.specs.Codes.{Numbered, TellsBound, TellsValue, TellsFr
 ghost use Rattle.cuckoo_c.specs.contracts.keys.NumberKeyOrd.TheImpl.{ghosts as number_ord};
 ghost use Rattle.cuckoo_c.specs.contracts.keys.NumberKeyTableKey.TheImpl.{ghosts as number_key};
 ghost use Rattle.cuckoo_c.specs.Pairs.{TakesNextAt, TellsPair};
-ghost use Rattle.cuckoo_c.specs.Openings.{CallsOrLoses, ClearLeaves, TellsCleared, Exports, ListsAt};
+ghost use Rattle.cuckoo_c.specs.Openings.{ClearLeaves, TellsCleared, Exports, ListsAt};
 ghost use Rattle.cuckoo_c.specs.NewTables.{Opens, settings_of};
 ghost use Rattle.cuckoo_c.specs.Handles.{Calls, AddsTo, Replaces, Swaps, CountLeaves, CapacityLeaves, GrowthLeaves};
 
@@ -300,8 +300,8 @@ pub extern "C" fn cuckoo_reserve(alloc: Global, handle: &mut CuckooHandle, slots
 /// Unbinds all keys, at one moment.
 #[unsafe(no_mangle)]
 pub extern "C" fn cuckoo_clear(alloc: Global, handle: &mut CuckooHandle) -> i32
-    ensures { Numbered result (CallsOrLoses (λ c d told. (r : Result (Unit {0}) Busy)
-        × ClearLeaves r c d × TellsCleared r told) handle.old.held handle.new.held) }
+    ensures { Numbered result (λ code. Calls (λ c d. (r : Result (Unit {0}) Busy)
+        × ClearLeaves r c d × TellsCleared r code) handle.old.held handle.new.held code) }
 {
     sessions::clear(alloc, handle).number()
 }
@@ -313,9 +313,9 @@ pub extern "C" fn cuckoo_export(
     handle: &mut CuckooHandle,
     pairs: &mut CuckooPairs,
 ) -> i32
-    ensures called { Numbered result (CallsOrLoses
-        (ListsAt (Exports number_key.name number_ord.cmp) pairs.old.held pairs.new.held)
-        handle.old.held handle.new.held) }
+    ensures called { Numbered result (λ code. Calls (λ c d. ListsAt
+        (Exports number_key.name number_ord.cmp) pairs.old.held pairs.new.held c d code)
+        handle.old.held handle.new.held code) }
     ensures same { handle.old.held ≡ None → pairs.new.held ≡ pairs.old.held }
 {
     sessions::export(alloc, handle, pairs).number()
@@ -328,9 +328,9 @@ pub extern "C" fn cuckoo_drain(
     handle: &mut CuckooHandle,
     pairs: &mut CuckooPairs,
 ) -> i32
-    ensures called { Numbered result (CallsOrLoses
-        (ListsAt (Drains number_key.name number_ord.cmp) pairs.old.held pairs.new.held)
-        handle.old.held handle.new.held) }
+    ensures called { Numbered result (λ code. Calls (λ c d. ListsAt
+        (Drains number_key.name number_ord.cmp) pairs.old.held pairs.new.held c d code)
+        handle.old.held handle.new.held code) }
     ensures same { handle.old.held ≡ None → pairs.new.held ≡ pairs.old.held }
 {
     sessions::drain(alloc, handle, pairs).number()

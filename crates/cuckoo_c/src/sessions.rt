@@ -1,31 +1,39 @@
-//! What is done to the whole table through a handle, once for all types of keys. The handle is taken
-//! out of its box for that, and boxed again: where there is no memory for the box, it is lost.
+//! What is done to the whole table through a handle, once for all types of keys. A lock takes the
+//! handle by value, so it leaves its box for that; the box is kept, so that no memory is needed to
+//! put the handle back.
 ghost use Rattle.std.specs.Prelude.{◌≡◌, Result, Option, Some, None, MatchResult};
 ghost use Rattle.cuckoo_map.specs.declared.refusal.Busy.{Busy};
 ghost use Rattle.cuckoo_map.specs.Callers.{Drains};
-ghost use Rattle.cuckoo_c.specs.Openings.{IsPutBack, CallsOrLoses, ClearLeaves, TellsCleared, Exports, ListLeaves, ListsAt, TellsList, TellsNoPlace, TellsNoSession};
+ghost use Rattle.cuckoo_c.specs.Handles.{Calls};
+ghost use Rattle.cuckoo_c.specs.Openings.{ClearLeaves, TellsCleared, Exports, ListLeaves, ListsAt, TellsList, TellsNoPlace, TellsNoSession};
 
 use crate::code::Code;
 use crate::pairs::Pairs;
 use ck_owned::{Holds, put, take};
+use core::mem::replace_with;
 use cuckoo_map::{Busy, DrainFault, Handle, NotDrained, NotLocked, TableKey};
 use std::alloc::Global;
 
 /// Unbinds all keys.
 pub fn clear<K: TableKey + Drop, P: Holds<Handle<K, u64>>>(alloc: Global, place: &mut P) -> Code
-    ensures { CallsOrLoses (λ c d told. (r : Result (Unit {0}) Busy) × ClearLeaves r c d
-        × TellsCleared r told)
+    ensures { Calls (λ c d. (r : Result (Unit {0}) Busy) × ClearLeaves r c d
+        × TellsCleared r result)
         (P.held place.old) (P.held place.new) result }
 {
     let Some(handle) = take(place, alloc) else {
         return Code::Closed;
     };
-    let (handle, cleared) = clear_by(Box::into_inner(handle));
-    put_back(alloc, place, handle, cleared_code(cleared))
+    let mut handle = handle;
+    let cleared = replace_with(&mut *handle, (), clear_by);
+    put(place, alloc, handle);
+    cleared_code(cleared)
 }
 
 // Unbinds all keys by this handle, in one session.
-fn clear_by<K: TableKey + Drop>(handle: Handle<K, u64>) -> (Handle<K, u64>, Result<(), Busy>)
+fn clear_by<K: TableKey + Drop>(
+    handle: Handle<K, u64>,
+    (): (),
+) -> (Handle<K, u64>, Result<(), Busy>)
     ensures { ClearLeaves result.1 handle result.0 }
 {
     match handle.lock() {
@@ -55,16 +63,17 @@ pub fn export<K: TableKey + Clone + Drop, P: Holds<Handle<K, u64>>, L: Holds<Pai
     list: &mut L,
 ) -> Code
     requires { (x y : K) → K.is_clone x y → y ≡ x }
-    ensures called { CallsOrLoses
-        (ListsAt (Exports K.name K.cmp) (L.held list.old) (L.held list.new))
+    ensures called { Calls (λ c d. ListsAt (Exports K.name K.cmp)
+        (L.held list.old) (L.held list.new) c d result)
         (P.held place.old) (P.held place.new) result }
     ensures same { P.held place.old ≡ None → L.held list.new ≡ L.held list.old }
 {
     match take_both(alloc, place, list) {
         Ok((handle, room)) => {
-            let (handle, exported) = export_by(alloc, handle);
-            let told = list_code(alloc, list, room, exported);
-            put_back(alloc, place, handle, told)
+            let mut handle = handle;
+            let exported = replace_with(&mut *handle, alloc, export_by);
+            put(place, alloc, handle);
+            list_code(alloc, list, room, exported)
         }
         Err(code) => code,
     }
@@ -72,8 +81,8 @@ pub fn export<K: TableKey + Clone + Drop, P: Holds<Handle<K, u64>>, L: Holds<Pai
 
 // The pairs by this handle, in one session.
 fn export_by<K: TableKey + Clone + Drop>(
-    alloc: Global,
     handle: Handle<K, u64>,
+    alloc: Global,
 ) -> (Handle<K, u64>, Result<Pairs<K>, DrainFault>)
     requires { (x y : K) → K.is_clone x y → y ≡ x }
     ensures { ListLeaves (Exports K.name K.cmp) result.1 handle result.0 }
@@ -98,16 +107,17 @@ pub fn drain<K: TableKey + Drop, P: Holds<Handle<K, u64>>, L: Holds<Pairs<K>>>(
     place: &mut P,
     list: &mut L,
 ) -> Code
-    ensures called { CallsOrLoses
-        (ListsAt (Drains K.name K.cmp) (L.held list.old) (L.held list.new))
+    ensures called { Calls (λ c d. ListsAt (Drains K.name K.cmp)
+        (L.held list.old) (L.held list.new) c d result)
         (P.held place.old) (P.held place.new) result }
     ensures same { P.held place.old ≡ None → L.held list.new ≡ L.held list.old }
 {
     match take_both(alloc, place, list) {
         Ok((handle, room)) => {
-            let (handle, drained) = drain_by(alloc, handle);
-            let told = list_code(alloc, list, room, drained);
-            put_back(alloc, place, handle, told)
+            let mut handle = handle;
+            let drained = replace_with(&mut *handle, alloc, drain_by);
+            put(place, alloc, handle);
+            list_code(alloc, list, room, drained)
         }
         Err(code) => code,
     }
@@ -115,8 +125,8 @@ pub fn drain<K: TableKey + Drop, P: Holds<Handle<K, u64>>, L: Holds<Pairs<K>>>(
 
 // Unbinds all keys by this handle, in one session, and gives the pairs.
 fn drain_by<K: TableKey + Drop>(
-    alloc: Global,
     handle: Handle<K, u64>,
+    alloc: Global,
 ) -> (Handle<K, u64>, Result<Pairs<K>, DrainFault>)
     ensures { ListLeaves (Drains K.name K.cmp) result.1 handle result.0 }
 {
@@ -131,10 +141,10 @@ fn take_both<T: Drop, P: Holds<T>, K: Drop, L: Holds<Pairs<K>>>(
     alloc: Global,
     place: &mut P,
     list: &mut L,
-) -> Result<(T, Box<Pairs<K>, Global>), Code>
+) -> Result<(Box<T, Global>, Box<Pairs<K>, Global>), Code>
     ensures list { L.held list.new ≡ L.held list.old }
     ensures taken { MatchResult result
-        (λ both. (P.held place.old ≡ Some both.0) × (P.held place.new ≡ None)
+        (λ both. (P.held place.old ≡ Some both.0.value) × (P.held place.new ≡ None)
         × (L.held list.old ≡ None))
         (λ code. (P.held place.new ≡ P.held place.old)
         × TellsNoSession (P.held place.old) (L.held list.old) code) }
@@ -143,7 +153,7 @@ fn take_both<T: Drop, P: Holds<T>, K: Drop, L: Holds<Pairs<K>>>(
         return Err(Code::Closed);
     };
     match room_for(alloc, list) {
-        Ok(room) => Ok((Box::into_inner(handle), room)),
+        Ok(room) => Ok((handle, room)),
         Err(code) => {
             put(place, alloc, handle);
             Err(code)
@@ -190,17 +200,4 @@ fn list_code<K: Drop, L: Holds<Pairs<K>>>(
         Err(DrainFault::Busy(_)) => Code::Busy,
         Err(DrainFault::Memory) => Code::Memory,
     }
-}
-
-// Boxes the handle, and puts it back in its place. The code is `told`, or `Memory` where there is no
-// memory for the box; then the handle is lost.
-fn put_back<T: Drop, P: Holds<T>>(alloc: Global, place: &mut P, handle: T, told: Code) -> Code
-    requires { P.held place.old ≡ None }
-    ensures { IsPutBack handle told (P.held place.new) result }
-{
-    let Ok(handle) = Box::new(alloc, handle) else {
-        return Code::Memory;
-    };
-    put(place, alloc, handle);
-    told
 }

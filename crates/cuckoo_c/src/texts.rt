@@ -16,7 +16,7 @@ ghost use Rattle.cuckoo_c.specs.Codes.{number_of, Numbered, TellsBound, TellsVal
 ghost use Rattle.cuckoo_c.specs.contracts.keys.BytesKeyOrd.TheImpl.{ghosts as text_ord};
 ghost use Rattle.cuckoo_c.specs.contracts.keys.BytesKeyTableKey.TheImpl.{ghosts as text_key};
 ghost use Rattle.cuckoo_c.specs.Pairs.{TakesNextAt, TellsTextPair};
-ghost use Rattle.cuckoo_c.specs.Openings.{CallsOrLoses, ClearLeaves, TellsCleared, Exports, ListsAt};
+ghost use Rattle.cuckoo_c.specs.Openings.{ClearLeaves, TellsCleared, Exports, ListsAt};
 ghost use Rattle.cuckoo_c.specs.NewTables.{Opens, settings_of};
 ghost use Rattle.cuckoo_c.specs.Handles.{Calls, CallsWithMemory, AddsTo, Replaces, Swaps, CountLeaves, CapacityLeaves, GrowthLeaves};
 
@@ -354,8 +354,8 @@ pub extern "C" fn cuckoo_text_reserve(
 /// Unbinds all keys, at one moment.
 #[unsafe(no_mangle)]
 pub extern "C" fn cuckoo_text_clear(alloc: Global, handle: &mut CuckooTextHandle) -> i32
-    ensures { Numbered result (CallsOrLoses (λ c d told. (r : Result (Unit {0}) Busy)
-        × ClearLeaves r c d × TellsCleared r told) handle.old.held handle.new.held) }
+    ensures { Numbered result (λ code. Calls (λ c d. (r : Result (Unit {0}) Busy)
+        × ClearLeaves r c d × TellsCleared r code) handle.old.held handle.new.held code) }
 {
     sessions::clear(alloc, handle).number()
 }
@@ -367,9 +367,9 @@ pub extern "C" fn cuckoo_text_export(
     handle: &mut CuckooTextHandle,
     pairs: &mut CuckooTextPairs,
 ) -> i32
-    ensures called { Numbered result (CallsOrLoses
-        (ListsAt (Exports text_key.name text_ord.cmp) pairs.old.held pairs.new.held)
-        handle.old.held handle.new.held) }
+    ensures called { Numbered result (λ code. Calls (λ c d. ListsAt
+        (Exports text_key.name text_ord.cmp) pairs.old.held pairs.new.held c d code)
+        handle.old.held handle.new.held code) }
     ensures same { handle.old.held ≡ None → pairs.new.held ≡ pairs.old.held }
 {
     sessions::export(alloc, handle, pairs).number()
@@ -382,9 +382,9 @@ pub extern "C" fn cuckoo_text_drain(
     handle: &mut CuckooTextHandle,
     pairs: &mut CuckooTextPairs,
 ) -> i32
-    ensures called { Numbered result (CallsOrLoses
-        (ListsAt (Drains text_key.name text_ord.cmp) pairs.old.held pairs.new.held)
-        handle.old.held handle.new.held) }
+    ensures called { Numbered result (λ code. Calls (λ c d. ListsAt
+        (Drains text_key.name text_ord.cmp) pairs.old.held pairs.new.held c d code)
+        handle.old.held handle.new.held code) }
     ensures same { handle.old.held ≡ None → pairs.new.held ≡ pairs.old.held }
 {
     sessions::drain(alloc, handle, pairs).number()

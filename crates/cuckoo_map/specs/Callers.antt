@@ -7,7 +7,8 @@ use Rattle.ck_model.specs.declared.history.Call.{Call}
 use Rattle.ck_model.specs.declared.history.Call.TheVariants.{On, Len, SessionOn, Session}
 use Rattle.ck_model.specs.declared.history.Reply.{Reply}
 use Rattle.ck_model.specs.declared.history.Reply.TheVariants.{Count, Closed}
-use Rattle.ck_model.specs.Promise.{Name, Map, Client, Replied, ListsInOrder}
+use Rattle.ck_model.specs.Promise.{Name, Map, Client, Replied}
+use Rattle.ck_model.specs.Listing.{ListsInOrder}
 use Rattle.ck_core.specs.declared.view.RoomNote.{RoomNote}
 use Rattle.ck_core.specs.State.{client_of}
 use Rattle.ck_words.specs.Words.{WordsState}

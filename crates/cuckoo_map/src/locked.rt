@@ -3,7 +3,8 @@ ghost use Rattle.std.specs.Prelude.{◌≡◌, ◌≤◌, ◌^◌, length, IfOk,
 ghost use Rattle.std.specs.Option.{option_copied};
 ghost use Rattle.std.specs.FinMap.{get, len};
 ghost use Rattle.ck_model.specs.declared.history.Reply.TheVariants.{Closed};
-ghost use Rattle.ck_model.specs.Promise.{Replied, ListsInOrder};
+ghost use Rattle.ck_model.specs.Promise.{Replied};
+ghost use Rattle.ck_model.specs.Listing.{ListsInOrder};
 ghost use Rattle.ck_model.specs.Ranges.{AreInRange};
 ghost use Rattle.ck_bucket.specs.Bucket.{ClonesAreEqual};
 ghost use Rattle.ck_section.specs.Places.{IsPlaceOf};

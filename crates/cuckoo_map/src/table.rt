@@ -1,6 +1,7 @@
 //! The table, and how it begins and ends.
 ghost use Rattle.std.specs.Prelude.{◌≡◌, IfOk, IfErr, Err};
-ghost use Rattle.ck_model.specs.Promise.{Map, ListsInOrder};
+ghost use Rattle.ck_model.specs.Promise.{Map};
+ghost use Rattle.ck_model.specs.Listing.{ListsInOrder};
 ghost use Rattle.ck_model.specs.declared.settings.OutOfRange.{OutOfRange};
 ghost use Rattle.ck_model.specs.Ranges.{AreInRange, IsOut};
 ghost use Rattle.ck_words.specs.Meeting.{message_from, Hears, Meets};

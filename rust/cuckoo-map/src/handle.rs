@@ -9,8 +9,7 @@ use std::thread;
 ///
 /// It is a [`Handle`] or a [`TextHandle`], by the table's keys.
 ///
-/// Each call may be refused as [`Error::Closed`], after a [`clear`](TableHandle::clear) that found
-/// no memory, and one with a text as [`Error::TooLong`].
+/// Each call with a text may be refused as [`Error::TooLong`].
 ///
 /// ```
 /// fn is_sent<T: Send>() {}
@@ -286,8 +285,7 @@ impl<K: Keys> TableHandle<K> {
         Ok(self.call(|raw| unsafe { K::reserve(raw, slots) })? == OK)
     }
 
-    /// Unbinds all keys, at one moment. Where it is refused as [`Error::NoMemory`], the handle is
-    /// closed.
+    /// Unbinds all keys, at one moment.
     pub fn clear(&mut self) -> Result<()> {
         self.call(|raw| unsafe { K::clear(raw) })?;
         Ok(())
@@ -300,7 +298,8 @@ impl<K: Keys> TableHandle<K> {
         Ok(pairs)
     }
 
-    /// All pairs at one moment, and unbinds all keys at that moment.
+    /// All pairs at one moment, and unbinds all keys at that moment. Where it is refused, they are
+    /// bound still.
     pub fn drain(&mut self) -> Result<Pairs<K>> {
         let mut pairs = Pairs::none();
         self.call(|raw| unsafe { K::drain(raw, pairs.place()) })?;

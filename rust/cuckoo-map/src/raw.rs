@@ -28,7 +28,6 @@ pub const LOAD_TOO_LOW: i32 = -4;
 pub const OVER_MAX: i32 = -5;
 pub const BAD_SETTINGS: i32 = -6;
 pub const TOO_LONG: i32 = -7;
-pub const CLOSED: i32 = -8;
 pub const TWICE: i32 = -10;
 pub const BAD_COUNT: i32 = -11;
 

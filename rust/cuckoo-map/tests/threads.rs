@@ -142,6 +142,15 @@ fn refusals_have_names() {
     };
     let mut handle = settings.open().unwrap().pop().unwrap();
     assert_eq!(handle.reserve(65), Err(Error::OverMax));
+    assert_eq!((0..).find_map(|key| handle.insert(key, 0).err()), Some(Error::Full));
+    let few = Settings {
+        s: 0,
+        power: 1,
+        min_load: 100,
+        ..Settings::for_keys(8, 1)
+    };
+    let mut sparse = few.open().unwrap().pop().unwrap();
+    assert_eq!((0..).find_map(|key| sparse.insert(key, 0).err()), Some(Error::LoadTooLow));
     let mut texts = settings.open_texts().unwrap().pop().unwrap();
     assert_eq!(texts.insert(&[0; 65], 1), Err(Error::TooLong));
     assert_eq!(texts.insert(&[0; 64], 1), Ok(true));

@@ -1,7 +1,7 @@
 //! All pairs of a locked table: how they are dropped or taken out, and how those stay that a closure
 //! keeps.
 ghost use Rattle.std.specs.Prelude.{◌≡◌, ℕ, OnOk, OnErr, IfOk};
-ghost use Rattle.ck_model.specs.Promise.{ListsInOrder};
+ghost use Rattle.ck_model.specs.Listing.{ListsInOrder};
 ghost use Rattle.ck_model.specs.Contents.{layout, Lawful, bindings};
 ghost use Rattle.ck_stripe.specs.Stripes.{contents_of};
 ghost use Rattle.ck_stripe.specs.Tables.{IsTable, AreSettled, AreAllHeld};

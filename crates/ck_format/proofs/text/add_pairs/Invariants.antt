@@ -1,5 +1,5 @@
 use Rattle.std.proofs.Common.{◌≡◌, ◌++◌, map, take}
-use Rattle.ck_model.specs.Promise.{named}
+use Rattle.ck_model.specs.Listing.{named}
 use Rattle.ck_format.specs.Text.{pairs_text}
 use Rattle.ck_format.proofs.text.add_pairs.Given as goal
 

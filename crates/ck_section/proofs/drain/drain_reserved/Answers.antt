@@ -2,7 +2,7 @@ use Rattle.std.proofs.Common.{◌≡◌, ◌+◌, ◌<◌, ◌≤◌, ◌++◌, 
 use Rattle.std.specs.Prelude.{slice_index_or, vec_capacity}
 use Rattle.std.proofs.lemmas.List.{get_or_default, take_all}
 use Rattle.ck_model.specs.declared.contents.Content.{Content}
-use Rattle.ck_model.specs.Promise.{named}
+use Rattle.ck_model.specs.Listing.{named}
 use Rattle.ck_model.specs.Contents.{pairs_in, pairs_of}
 use Rattle.ck_stripe.specs.Stripe.{StripeState}
 use Rattle.ck_stripe.specs.Stripes.{no_stripe, stripe_at, contents_of}

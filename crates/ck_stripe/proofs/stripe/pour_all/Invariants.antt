@@ -1,6 +1,6 @@
 use Rattle.std.proofs.Common.{◌≡◌, ◌++◌, flat_map, map, take}
 use Rattle.std.specs.Prelude.{vec_capacity}
-use Rattle.ck_model.specs.Promise.{named}
+use Rattle.ck_model.specs.Listing.{named}
 use Rattle.ck_model.specs.Slots.{taken_in}
 use Rattle.ck_stripe.proofs.Splits.{emptied_to}
 use Rattle.ck_stripe.proofs.stripe.pour_all.Given as goal

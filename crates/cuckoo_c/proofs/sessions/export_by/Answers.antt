@@ -1,5 +1,5 @@
 use Rattle.std.proofs.Common.{rules, refl, sym, subst}
-use Rattle.ck_model.specs.Promise.{ListsInOrder}
+use Rattle.ck_model.specs.Listing.{ListsInOrder}
 use Rattle.cuckoo_map.specs.Locking.{map_of}
 use Rattle.cuckoo_map.proofs.Draining.{session_since}
 use Rattle.cuckoo_map.proofs.Draining.{notes_of_look}

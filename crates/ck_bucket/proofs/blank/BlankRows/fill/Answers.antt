@@ -1,5 +1,5 @@
 use Rattle.std.proofs.Common.{◌*◌, ◌∙◌, sym, ap, length, arith}
-use Rattle.ck_model.specs.Promise.{named}
+use Rattle.ck_model.specs.Listing.{named}
 use Rattle.ck_room.specs.Room.{items_of}
 use Rattle.ck_bucket.specs.Bucket.{seen_slots}
 use Rattle.ck_bucket.specs.Rows.{in_fours}

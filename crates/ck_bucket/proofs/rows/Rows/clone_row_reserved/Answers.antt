@@ -1,6 +1,6 @@
 use Rattle.std.proofs.Common.{map}
 use Rattle.std.proofs.lemmas.Result.{on_ok_weaker}
-use Rattle.ck_model.specs.Promise.{named}
+use Rattle.ck_model.specs.Listing.{named}
 use Rattle.ck_model.specs.Contents.{row_at}
 use Rattle.ck_bucket.proofs.RowSlots.{four-of, row-pushed}
 use Rattle.ck_bucket.proofs.rows.Rows.clone_row_reserved.Goals as goal

@@ -2,7 +2,7 @@ use Rattle.std.proofs.Common.{◌≢◌, Some, None, is_some, refl, sym, ap, ◌
 use Rattle.std.proofs.lemmas.Bool.{cases_lt, false≢true}
 use Rattle.std.proofs.lemmas.Option.{some_pair_parts, none-some}
 use Rattle.std.proofs.lemmas.List.{get_or_past}
-use Rattle.ck_model.specs.Promise.{named}
+use Rattle.ck_model.specs.Listing.{named}
 use Rattle.ck_model.specs.Slots.{slot_at}
 use Rattle.ck_model.specs.Contents.{row_at}
 use Rattle.ck_bucket.proofs.SeenRows.{read_row, head-there, head-told, flag-at, row-four, slot-seen, slot-taken, place-full}

@@ -1,5 +1,5 @@
 use Rattle.std.proofs.Common.{◌∙◌, ap, option_map, arith}
-use Rattle.ck_model.specs.Promise.{named}
+use Rattle.ck_model.specs.Listing.{named}
 use Rattle.ck_bucket.proofs.SeenRows.{read_row, row-below, row-four, slot-seen, place-full}
 use Rattle.ck_bucket.proofs.rows.Rows.pair.Goals as goal
 

@@ -1,5 +1,5 @@
 use Rattle.std.proofs.Common.{map}
-use Rattle.ck_model.specs.Promise.{named}
+use Rattle.ck_model.specs.Listing.{named}
 use Rattle.ck_bucket.proofs.RowSlots.{Clears, rewrites, row-cleared, row-met, row-pushed}
 use Rattle.ck_bucket.proofs.rows.Rows.pour_row_reserved.Goals as goal
 

@@ -1,5 +1,5 @@
 use Rattle.std.proofs.Common.{None, sym, ◌∙◌, ap, option_map}
-use Rattle.ck_model.specs.Promise.{named}
+use Rattle.ck_model.specs.Listing.{named}
 use Rattle.ck_bucket.proofs.SeenRows.{read_row, head-there, head-told, head-clear, place-full, slot-seen, rows-set, heads-set}
 use Rattle.ck_bucket.proofs.rows.Rows.take.Goals as goal
 

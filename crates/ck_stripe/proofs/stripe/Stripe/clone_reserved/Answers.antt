@@ -1,6 +1,6 @@
 use Rattle.std.proofs.Common.{◌++◌, sym, ap, ◌∙◌, length, map, arith}
 use Rattle.std.proofs.lemmas.Result.{on_ok_weaker}
-use Rattle.ck_model.specs.Promise.{named}
+use Rattle.ck_model.specs.Listing.{named}
 use Rattle.ck_stripe.proofs.Stored.{pairs_stored}
 use Rattle.ck_stripe.proofs.stripe.Stripe.clone_reserved.Goals as goal
 

@@ -1,5 +1,5 @@
 use Rattle.std.proofs.Common.{◌++◌, sym, ap, ◌∙◌, length, map, arith}
-use Rattle.ck_model.specs.Promise.{named}
+use Rattle.ck_model.specs.Listing.{named}
 use Rattle.ck_stripe.proofs.Stored.{pairs_stored, kept_free, content_free}
 use Rattle.ck_stripe.proofs.stripe.Stripe.drain_reserved.Goals as goal
 

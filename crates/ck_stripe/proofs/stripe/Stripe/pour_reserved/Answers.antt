@@ -1,5 +1,5 @@
 use Rattle.std.proofs.Common.{◌++◌, sym, ap, subst, ◌∙◌, length, map, arith}
-use Rattle.ck_model.specs.Promise.{named}
+use Rattle.ck_model.specs.Listing.{named}
 use Rattle.ck_stripe.specs.Next.{IsTwice}
 use Rattle.ck_stripe.proofs.Stored.{few_stored, pairs_stored}
 use Rattle.ck_stripe.proofs.stripe.Stripe.pour_reserved.Goals as goal

@@ -1,6 +1,6 @@
 use Rattle.std.proofs.Common.{subst}
 use Rattle.std.proofs.lemmas.Result.{IfOk-weaker, on_ok_weaker}
-use Rattle.ck_model.specs.Promise.{ListsInOrder}
+use Rattle.ck_model.specs.Listing.{ListsInOrder}
 use Rattle.cuckoo_map.specs.Locking.{LockedState, map_of}
 use Rattle.cuckoo_map.proofs.Sessions.{drained_locked, drains_map}
 use Rattle.cuckoo_map.proofs.locked.LockedOn.drain.Goals as goal

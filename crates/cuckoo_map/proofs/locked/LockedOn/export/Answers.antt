@@ -1,7 +1,7 @@
 use Rattle.std.proofs.Common.{◌∙◌, List, sym, ap, subst}
 use Rattle.std.proofs.lemmas.Result.{IfOk-weaker}
 use Rattle.ck_model.specs.Contents.{layout_of, Lawful, bindings}
-use Rattle.ck_model.specs.Promise.{ListsInOrder}
+use Rattle.ck_model.specs.Listing.{ListsInOrder}
 use Rattle.ck_stripe.specs.Stripe.{StripeState}
 use Rattle.ck_stripe.specs.Stripes.{contents_of}
 use Rattle.ck_stripe.specs.Tables.{IsTable, AreSettled}

@@ -1,7 +1,7 @@
 use Rattle.std.proofs.Common.{◌∙◌, List, sym, ap, subst, arith}
 use Rattle.std.proofs.lemmas.Result.{IfOk-weaker, on_ok_weaker}
 use Rattle.ck_model.specs.Contents.{layout, Lawful, bindings}
-use Rattle.ck_model.specs.Promise.{ListsInOrder}
+use Rattle.ck_model.specs.Listing.{ListsInOrder}
 use Rattle.ck_stripe.specs.Stripe.{StripeState}
 use Rattle.ck_stripe.specs.Stripes.{contents_of}
 use Rattle.ck_section.specs.Calls.{ChangesContents}

@@ -2,7 +2,7 @@ use Rattle.std.proofs.Common.{rules, refl, ap, map, subst, ◌∙◌}
 use Rattle.std.specs.FinMap.{from_entries}
 use Rattle.std.specs.Ordering.{is_lt, is_eq}
 use Rattle.std.proofs.lemmas.List.Sorted.{ranks_by, answers_always}
-use Rattle.ck_model.specs.Promise.{named}
+use Rattle.ck_model.specs.Listing.{named}
 use Rattle.ck_model.proofs.Rising.{lists_in_order}
 use Rattle.ck_words.specs.Words.{WordsState}
 use Rattle.ck_words.specs.Closing.{Closes}

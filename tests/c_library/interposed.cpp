@@ -1,0 +1,176 @@
+// What the C++ header asks of the library: the linker puts in this program's own cuckoo_contains, which
+// notes the handle, and cuckoo_insert and cuckoo_erase_if, before and after which other calls can be
+// made, by --wrap.
+#include "check.hpp"
+#include <cuckoo_map.hpp>
+
+#include <condition_variable>
+#include <cstdint>
+#include <memory>
+#include <mutex>
+#include <set>
+#include <thread>
+#include <vector>
+
+static thread_local const void *noted;
+
+// The value that another call binds the next key to that is inserted; no call, if it is 0.
+static std::uint64_t other_value = 0;
+
+// Whether another call unbinds a key that has another value than the one that was to be erased.
+static bool is_erased_then = false;
+
+extern "C" {
+
+std::int32_t __real_cuckoo_contains(cuckoo_handle *handle, std::uint64_t key);
+std::int32_t __wrap_cuckoo_contains(cuckoo_handle *handle, std::uint64_t key);
+
+std::int32_t __wrap_cuckoo_contains(cuckoo_handle *handle, std::uint64_t key) {
+  noted = handle;
+  return __real_cuckoo_contains(handle, key);
+}
+
+std::int32_t __real_cuckoo_insert(cuckoo_handle *handle, std::uint64_t key, std::uint64_t value);
+std::int32_t __wrap_cuckoo_insert(cuckoo_handle *handle, std::uint64_t key, std::uint64_t value);
+
+std::int32_t __wrap_cuckoo_insert(cuckoo_handle *handle, std::uint64_t key, std::uint64_t value) {
+  if (other_value != 0) {
+    CHECK(__real_cuckoo_insert(handle, key, other_value) == CUCKOO_OK);
+    other_value = 0;
+  }
+  return __real_cuckoo_insert(handle, key, value);
+}
+
+std::int32_t __real_cuckoo_erase_if(cuckoo_handle *handle, std::uint64_t key, std::uint64_t value);
+std::int32_t __wrap_cuckoo_erase_if(cuckoo_handle *handle, std::uint64_t key, std::uint64_t value);
+
+std::int32_t __wrap_cuckoo_erase_if(cuckoo_handle *handle, std::uint64_t key, std::uint64_t value) {
+  const std::int32_t code = __real_cuckoo_erase_if(handle, key, value);
+  std::uint64_t old;
+  if (code == CUCKOO_DIFFERENT && is_erased_then) cuckoo_erase(handle, key, &old);
+  return code;
+}
+}
+
+namespace {
+
+using numbers = cuckoo::map<int, int>;
+
+// The handle that a call of this thread goes through.
+const void *handle_of(const numbers &map) {
+  CHECK(!map.contains(0));
+  return noted;
+}
+
+// Those of so many threads, which all live until each has made its calls.
+std::vector<const void *> handles_of(const numbers &map, int count) {
+  std::mutex lock;
+  std::condition_variable changed;
+  std::vector<const void *> handles;
+  std::vector<std::thread> threads;
+  for (int i = 0; i < count; i++)
+    threads.emplace_back([&] {
+      const void *mine = handle_of(map);
+      CHECK(mine == handle_of(map));
+      std::unique_lock<std::mutex> held(lock);
+      handles.push_back(mine);
+      changed.notify_all();
+      changed.wait(held, [&] { return handles.size() == static_cast<std::size_t>(count); });
+    });
+  for (std::thread &one : threads) one.join();
+  return handles;
+}
+
+// Threads have a handle each, as long as there are some, and each in a line of the cache of its own.
+// What they had is there for the threads that come after them.
+void each_has_its_own() {
+  numbers map(cuckoo::options{100, 4, 64});
+  std::set<const void *> before;
+  for (int round = 0; round < 3; round++) {
+    const std::vector<const void *> handles = handles_of(map, 4);
+    const std::set<const void *> different(handles.begin(), handles.end());
+    CHECK(different.size() == 4 && (round == 0 || different == before));
+    for (const void *one : different) CHECK(reinterpret_cast<std::uintptr_t>(one) % 64 == 0);
+    before = different;
+  }
+}
+
+// All others share one, which no thread has for itself.
+void others_share_one() {
+  numbers map(cuckoo::options{100, 2, 64});
+  std::vector<const void *> handles = handles_of(map, 6);
+  const std::set<const void *> different(handles.begin(), handles.end());
+  CHECK(different.size() == 3);
+  std::multiset<const void *> all(handles.begin(), handles.end());
+  int own = 0, shared = 0;
+  for (const void *one : different) (all.count(one) == 1 ? own : shared)++;
+  CHECK(own == 2 && shared == 1);
+}
+
+// Is destroyed when its thread ends, after what the header keeps for the thread.
+struct last_call {
+  const numbers *map = nullptr;
+  const void *own = nullptr;
+  ~last_call() {
+    if (map) CHECK(handle_of(*map) != own);
+  }
+};
+
+// A thread that has given its handle back as it ends shares that of the others.
+void one_that_ends_shares_too() {
+  numbers map(cuckoo::options{100, 1, 64});
+  std::thread([&] {
+    static thread_local last_call last;
+    last.map = &map;
+    last.own = handle_of(map);
+  }).join();
+}
+
+// The end of one of a thread's maps leaves it its handles of the others.
+void others_stay_when_a_map_ends() {
+  const cuckoo::options few{100, 1, 64};
+  auto first = std::make_unique<numbers>(few);
+  numbers second(few), third(few), last(few);
+  handle_of(*first);
+  const void *of_second = handle_of(second);
+  const void *of_third = handle_of(third);
+  first.reset();
+  handle_of(last);
+  CHECK(handle_of(second) == of_second && handle_of(third) == of_third);
+}
+
+// A key that was unbound when it was looked up, and is bound by another call before it is inserted, is
+// changed as a bound one.
+void upsert_of_a_key_that_was_bound_meanwhile() {
+  numbers map(100);
+  other_value = 7;
+  CHECK(!map.upsert(1, [](int &value) { value++; }, 5) && map.find(1) == 8);
+  other_value = 7;
+  CHECK(!map.uprase_fn(2, [](int &value) { return value == 7; }, 5) && !map.contains(2));
+  other_value = 7;
+  CHECK(!map.insert(3, 5) && map.find(3) == 7);
+}
+
+// A key that has another value than the one by which a closure unbinds it, and is unbound by another
+// call then, is told as unbound.
+void erasure_of_a_key_that_was_unbound_meanwhile() {
+  numbers map(100);
+  int runs = 0;
+  CHECK(map.insert(1, 10));
+  is_erased_then = true;
+  CHECK(!map.erase_fn(1, [&](int &value) { return runs++ == 0 && map.update(1, value + 1); }));
+  is_erased_then = false;
+  CHECK(runs == 1 && map.empty());
+}
+
+} // namespace
+
+int main() {
+  each_has_its_own();
+  others_share_one();
+  one_that_ends_shares_too();
+  others_stay_when_a_map_ends();
+  upsert_of_a_key_that_was_bound_meanwhile();
+  erasure_of_a_key_that_was_unbound_meanwhile();
+  return report();
+}
