@@ -13,7 +13,7 @@ use Rattle.ck_core.proofs.Callers.{own_held, seen_starts}
 use Rattle.ck_core.specs.declared.view.View.{View}
 use Rattle.ck_core.specs.State.{Configuration, HasNumber, owned}
 use Rattle.ck_core.specs.declared.trace.LockStep.TheVariants.{Decided}
-use Rattle.ck_core.specs.Steps.{traced, watching, deciding, joining, spent}
+use Rattle.ck_core.specs.Steps.{stepping, deciding, joining, spent}
 use Rattle.ck_core.specs.Steps.Label.{Take, FindHeld, Give, Decide, GiveRest, Renew, Look, Open, Tell, Join}
 use Rattle.ck_core.specs.Laws.{Unanswered, LawOfReplies, LawOfFindings, LawOfOneCaller, LawOfAnswers, LawOfFollowing, LawOfOtherSteps}
 use Rattle.ck_core.proofs.Lists.{set_there, set_else, at_longer}
@@ -33,7 +33,7 @@ module _ {V : Type 0} where
 
   -- what a decision leaves of its caller's view
   abbrev pub decided : Configuration V → ℕ → Stripes V → List (Entry V) → Entry V → View V → View V
-  decided s t ks log e v = watching (traced s (deciding v t ks log e) (Decided e) t) (deciding v t ks log e)
+  decided s t ks log e v = stepping s (Decided e) t (deciding v t ks log e)
 
   pub law_of_answers : LawOfAnswers V
   law_of_answers k min_load callers id t ks e log s s2 v w law d at there =

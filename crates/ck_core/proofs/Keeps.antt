@@ -16,11 +16,11 @@ use Rattle.ck_model.specs.Laws.{ArePartOf}
 use Rattle.ck_model.proofs.Numbered.{Some-injective, in_held, held_of_in, held_either, held_first, held_second, in_either, in_first, in_second, distinct_between, distinct_cut, listed_at, over_miss, over_hit, in_without}
 use Rattle.ck_model.proofs.Sections.{section_of_whole, identity_of_whole, power_after}
 use Rattle.ck_model.proofs.Histories.{leads_snoc}
-use Rattle.ck_core.specs.Trace.{misses}
+use Rattle.ck_core.specs.Trace.{steps_of}
 use Rattle.ck_core.specs.State.{Configuration, HasNumber, IsPart, author_of, own, owned, Places, Knows, Watches, Traces, HistoryInvariant}
 use Rattle.ck_core.specs.declared.trace.LockStep.{LockStep}
 use Rattle.ck_core.specs.declared.trace.LockStep.TheVariants.{Took, Missed, Gave, Decided}
-use Rattle.ck_core.specs.Steps.{Label, number_of, event, traced, watching, taken, missed, seen_as, sent_home, giving, renewing, deciding, beginner, message_of, spent, joining, split_as, joined, Transition, grown, Execution}
+use Rattle.ck_core.specs.Steps.{Label, number_of, event, traced, stepping, taken, missed, seen_as, sent_home, giving, renewing, deciding, beginner, message_of, spent, joining, split_as, joined, Transition, grown, Execution}
 use Rattle.ck_core.specs.Steps.Label.{Take, FindHeld, Give, Decide, GiveRest, Renew, Look, Open, Tell, Join}
 use Rattle.ck_core.proofs.Lists.{at_within, each_set, each_snoc, set_else}
 use Rattle.ck_core.proofs.Places.{places_keep, places_take, places_back, places_split}
@@ -46,7 +46,7 @@ module _ {V : Type 0} (k : Layout) (callers : ℕ) (log : List (Entry V)) (s : C
   HasSeen l _ u = HasAll k u.held → u.seen ≡ l
 
   -- what was watched doesn't change, for a view with no number besides
-  watched_as : (w : View V) → w.watched ≡ v.watched → ((m : ℕ) → IsIn m (numbers (owned w)) → IsIn m (numbers (owned v))) → ((m : ℕ) → w.by ≡ Some m → misses m w.watched ≡ w.found) → StartsWith w.watched w.heard_watched → Watches s.trace w
+  watched_as : (w : View V) → w.watched ≡ v.watched → ((m : ℕ) → IsIn m (numbers (owned w)) → IsIn m (numbers (owned v))) → ((m : ℕ) → w.by ≡ Some m → steps_of m w.watched ≡ w.steps) → StartsWith w.watched w.heard_watched → Watches s.trace w
   watched_as w = watches_as s.trace v w (law.traced.watched id v at)
 
   -- where no stripe is held, not all are
@@ -59,7 +59,7 @@ module _ {V : Type 0} (k : Layout) (callers : ℕ) (log : List (Entry V)) (s : C
   pub take_keeps : (t : ℕ) (c : Content V) → t < 2 ^ k.s → get_or s.words t 0 ≡ 0 → get_elem? s.homes t ≡ some (Some c) → HasNumber v → HistoryInvariant k callers log (taken s id v t c log)
   take_keeps t c l free there number =
       let e : law.contents t ≡ c = Some-injective (law.contents t) c (some-injective (Some (law.contents t)) (Some c) (sym (law.places.at_home t l free) ∙ there)) in
-      let w : View V = watching (traced s v Took t) (record v { held = (t, c) ∷ v.held; seen = log }) in
+      let w : View V = stepping s Took t (record v { held = (t, c) ∷ v.held; seen = log }) in
       record {
         contents = law.contents;
         places = places_take (2 ^ k.s) s law.contents law.places id v at t (traced s v Took t) w l free (ap (λ (x : Content V). (t, x) ∷ v.held) (sym e));
@@ -90,7 +90,7 @@ module _ {V : Type 0} (k : Layout) (callers : ℕ) (log : List (Entry V)) (s : C
 
   pub find_keeps : (t : ℕ) → t < 2 ^ k.s → get_or s.words t 0 ≡ 1 → ¬ (IsIn t (numbers v.held)) → HasNumber v → HistoryInvariant k callers log (missed s id v t)
   find_keeps t l one not_own number =
-      let w : View V = watching (traced s v Missed t) (record v { found = t ∷ v.found }) in
+      let w : View V = stepping s Missed t v in
       record {
         contents = law.contents;
         places = places_keep (2 ^ k.s) s law.contents law.places id v at (traced s v Missed t) w refl;
@@ -134,22 +134,22 @@ module _ {V : Type 0} (k : Layout) (callers : ℕ) (log : List (Entry V)) (s : C
 
   pub look_keeps : (p : ℕ) → ((u : ℕ) (c : Content V) → IsPart s u c → p ≤ c.power) → HistoryInvariant k callers log (seen_as s id (record v { seen = log; told = p }))
   look_keeps p h = let w : View V = record v { seen = log; told = p } in
-      seen_keeps w refl refl (λ _. refl) refl (knows_all callers log v w (law.callers_known.knows id v at) refl refl refl refl refl) (λ t l. (h t (law.contents t) (whole_is_part t l), (law.told id v at t l).1)) (watched_as w refl (λ m i. i) (law.traced.watched id v at).missed (law.traced.watched id v at).heard)
+      seen_keeps w refl refl (λ _. refl) refl (knows_all callers log v w (law.callers_known.knows id v at) refl refl refl refl refl) (λ t l. (h t (law.contents t) (whole_is_part t l), (law.told id v at t l).1)) (watched_as w refl (λ m i. i) (law.traced.watched id v at).own (law.traced.watched id v at).heard)
 
   same_power : (w : ℕ → Content V) → Lawful k (whole k w) → (t u : ℕ) (c : Content V) → t < 2 ^ k.s → u < 2 ^ k.s → w t ≡ c → c.power ≤ (w u).power
   same_power w lawful t u c l m e = le_of_eq (ap (λ (x : Content V). x.power) (sym e) ∙ lawful.one_power t u (w t) (w u) (listed_at (2 ^ k.s) w t l) (listed_at (2 ^ k.s) w u m))
 
   -- a stripe goes home
-  back : (step : LockStep V) → ((m : ℕ) → v.by ≡ Some m → Returns m step) → (ks : Stripes V) (t : ℕ) (c : Content V) (w : View V) → numbers ks ≡ numbers v.held → Holds ks t c → w.held ≡ without t ks → w.by ≡ v.by → w.found ≡ v.found → w.heard_watched ≡ v.heard_watched → Traces (2 ^ k.s) callers (sent_home step s id t c w)
-  back step returns ks t c w same here is by found heard =
+  back : (step : LockStep V) → ((m : ℕ) → v.by ≡ Some m → Returns m step) → (ks : Stripes V) (t : ℕ) (c : Content V) (w : View V) → numbers ks ≡ numbers v.held → Holds ks t c → w.held ≡ without t ks → w.by ≡ v.by → w.steps ≡ v.steps → w.heard_watched ≡ v.heard_watched → Traces (2 ^ k.s) callers (sent_home step s id t c w)
+  back step returns ks t c w same here is by steps heard =
       let old = held_of_in v.held t (subst (IsIn t) same (in_held ks t c here)) in
       let number = law.holders id v at t old.0 old.1 in
-      traces_back (2 ^ k.s) callers log s law.contents law.places law.callers_known law.traced id v at number.0 number.1 step (returns number.0 number.1) ks t c w same here is by found heard
+      traces_back (2 ^ k.s) callers log s law.contents law.places law.callers_known law.traced id v at number.0 number.1 step (returns number.0 number.1) ks t c w same here is by steps heard
 
   pub give_keeps : (t : ℕ) (c : Content V) (g : Option (Name × Reason)) → Holds v.held t c → HistoryInvariant k callers log (sent_home Gave s id t c (giving v t c v.held g))
   give_keeps t c g h =
       let w : View V = giving v t c v.held g in
-      let now : View V = watching (traced s w Gave t) w in
+      let now : View V = stepping s Gave t w in
       let f = law.places.holds id v at t c h in
       record {
         contents = law.contents;
@@ -196,7 +196,7 @@ module _ {V : Type 0} (k : Layout) (callers : ℕ) (log : List (Entry V)) (s : C
     pub decide_keeps : (e : Entry V) → v.by ≡ Some e.by → Section k v.held e.call e.reply ks → HistoryInvariant k callers (log ++ e ∷ []) (sent_home (Decided e) s id t c (deciding v t ks log e))
     decide_keeps e by sec =
         let w : View V = deciding v t ks log e in
-        let now : View V = watching (traced s w (Decided e) t) w in
+        let now : View V = stepping s (Decided e) t w in
         let z = section_of_whole k law.contents v.held ks law.lawful agrees e.call e.reply sec in
         record {
           contents = contents2;
@@ -214,7 +214,7 @@ module _ {V : Type 0} (k : Layout) (callers : ℕ) (log : List (Entry V)) (s : C
     pub renew_keeps : (g : Option (Name × Reason)) → IdentitySection k v.held ks → HistoryInvariant k callers log (sent_home Gave s id t c (renewing v t c ks g))
     renew_keeps g sec =
         let w : View V = renewing v t c ks g in
-        let now : View V = watching (traced s w Gave t) w in
+        let now : View V = stepping s Gave t w in
         let z = identity_of_whole k law.contents v.held ks law.lawful agrees sec in
         let p = placed sec.renewed Gave w refl in
         let at_t : contents2 t ≡ c = over_hit ks law.contents (apart sec.renewed) t c here in
@@ -282,8 +282,8 @@ module _ {V : Type 0} (k : Layout) (callers : ℕ) (log : List (Entry V)) (s : C
         distinct = ((λ z. z), tt);
         within = λ x i. ⊎_elim (λ e. subst (λ y. y < callers) e (kn.within m (in_held (owned v) m [] m_there))) (λ z. absurd z) i;
       })
-      (watched_as left refl there (law.traced.watched id v at).missed (law.traced.watched id v at).heard)
-      (watched_as right refl (λ x i. ⊎_elim (λ e. subst (λ y. IsIn y (numbers (owned v))) e (in_held (owned v) m [] m_there)) (λ z. absurd z) i) (λ x e. ap (λ (o : Option ℕ). misses (number_of o) v.watched) (sym e)) (v.watched, refl))
+      (watched_as left refl there (law.traced.watched id v at).own (law.traced.watched id v at).heard)
+      (watched_as right refl (λ x i. ⊎_elim (λ e. subst (λ y. IsIn y (numbers (owned v))) e (in_held (owned v) m [] m_there)) (λ z. absurd z) i) (λ x e. ap (λ (o : Option ℕ). steps_of (number_of o) v.watched) (sym e)) (v.watched, refl))
 
   knows_nothing : (w : View V) → owned w ≡ [] → w.by ≡ None → StartsWith log w.seen → w.heard ≡ [] → Knows callers log w
   knows_nothing w none nobody seen heard = record {

@@ -3,7 +3,7 @@ use Rattle.std.proofs.Common.{◌≡◌, ◌≢◌, ◌⊎◌, ℕ, ◌<◌, ◌
 use Rattle.std.specs.Prelude.{All, if◌then◌else◌, ◌==◌}
 use mathlib.Core.Logic.{dite}
 use native.Mathlib.Decide.{ℕ_discrete}
-use Rattle.std.proofs.lemmas.List.Elements.{All-head, All-tail}
+use Rattle.std.proofs.lemmas.List.Elements.{All-head, All-tail, filter-append}
 use Rattle.ck_model.specs.declared.history.Entry.{Entry}
 use Rattle.ck_model.specs.Promise.{subhistory}
 use Rattle.ck_model.proofs.Numbered.{if_same, if_else}
@@ -12,7 +12,7 @@ use Rattle.ck_core.specs.declared.trace.LockStep.{LockStep}
 use Rattle.ck_core.specs.declared.trace.LockStep.TheVariants.{Took, Missed, Gave, Decided}
 use Rattle.ck_core.specs.declared.trace.LockEvent.{LockEvent}
 use Rattle.ck_core.specs.State.{NoneBy, by_of}
-use Rattle.ck_core.specs.Trace.{held_after, held_from, holder, Fits, IsLegalTrace, decided_by, decided_in, decides, missed_by, misses}
+use Rattle.ck_core.specs.Trace.{held_after, held_from, holder, Fits, IsLegalTrace, decided_by, decided_in, steps_of, missed_by, missed_in}
 use Rattle.ck_core.proofs.Lists.{cut_snoc}
 
 -- which step it is
@@ -67,14 +67,13 @@ module _ {V : Type 0} where
   -- By the step the caller m gives a stripe back.
   pub record Returns (m : ℕ) (step : LockStep V) : Type 0 where
     pub fits : (h : Option ℕ) → h ≡ Some m → Fits step m h
-    pub misses_none : (t : ℕ) → missed_by step t ≡ []
     pub lets_go : (h : Option ℕ) → held_after step m h ≡ None
 
   pub returns_gave : (m : ℕ) → Returns m Gave
-  returns_gave m = record { fits = giving_fits m; misses_none = λ t. refl; lets_go = λ h. refl }
+  returns_gave m = record { fits = giving_fits m; lets_go = λ h. refl }
 
   pub returns_decided : (m : ℕ) (x : Entry V) → x.by ≡ m → Returns m (Decided x)
-  returns_decided m x own = record { fits = λ h is. deciding_fits m h x is own; misses_none = λ t. refl; lets_go = λ h. refl }
+  returns_decided m x own = record { fits = λ h is. deciding_fits m h x is own; lets_go = λ h. refl }
 
   held_from_snoc : (t : ℕ) (h : Option ℕ) (es : List (LockEvent V)) (e : LockEvent V) → held_from t h (es ++ e ∷ []) ≡ (if e.stripe == t then held_after e.step e.by (held_from t h es) else held_from t h es)
   held_from_snoc t h [] e = refl
@@ -101,23 +100,33 @@ module _ {V : Type 0} where
   pub legal_start : (es start more : List (LockEvent V)) → es ≡ start ++ more → IsLegalTrace es → IsLegalTrace start
   legal_start es start more is legal before x rest e = legal before x (rest ++ more) (is ∙ (ap (λ l. l ++ more) e ∙ append_assoc before (x ∷ rest) more))
 
-  misses_append : (m : ℕ) (xs ys : List (LockEvent V)) → misses m (xs ++ ys) ≡ misses m ys ++ misses m xs
-  misses_append m [] ys = sym (append-nil (misses m ys))
-  misses_append m (x ∷ xs) ys = (λ i. misses_append m xs ys i ++ misses m (x ∷ [])) ∙ append_assoc (misses m ys) (misses m xs) (misses m (x ∷ []))
+  -- the steps of one caller among more
+  pub steps_append : (m : ℕ) (xs ys : List (LockEvent V)) → steps_of m (xs ++ ys) ≡ steps_of m xs ++ steps_of m ys
+  steps_append m xs ys = filter-append (λ e. e.by == m) xs ys
 
-  -- steps of others miss nothing of the caller's
-  misses_none : (m : ℕ) (es : List (LockEvent V)) → NoneBy by_of m es → misses m es ≡ []
-  misses_none m [] others = refl
-  misses_none m (e ∷ es) others = λ i. misses_none m es others.1 i ++ if_else e.by m (missed_by e.step e.stripe) [] others.0 i
+  -- among those of others there are none
+  steps_none : (m : ℕ) (es : List (LockEvent V)) → NoneBy by_of m es → steps_of m es ≡ []
+  steps_none m [] others = refl
+  steps_none m (e ∷ es) others = if_else e.by m (e ∷ steps_of m es) (steps_of m es) others.0 ∙ steps_none m es others.1
 
-  pub misses_same : (m : ℕ) (xs more : List (LockEvent V)) → NoneBy by_of m more → misses m (xs ++ more) ≡ misses m xs
-  misses_same m xs more others = misses_append m xs more ∙ λ i. misses_none m more others i ++ misses m xs
+  pub steps_same : (m : ℕ) (xs more : List (LockEvent V)) → NoneBy by_of m more → steps_of m (xs ++ more) ≡ steps_of m xs
+  steps_same m xs more others = steps_append m xs more ∙ ((λ i. steps_of m xs ++ steps_none m more others i) ∙ append-nil (steps_of m xs))
 
-  -- what the caller missed of a trace whose rest is by others, and one step more of its own
-  pub misses_more : (m : ℕ) (trace watched unseen : List (LockEvent V)) (e : LockEvent V) → trace ≡ watched ++ unseen → NoneBy by_of m unseen → e.by ≡ m → misses m (trace ++ e ∷ []) ≡ missed_by e.step e.stripe ++ misses m watched
-  misses_more m trace watched unseen e is others own =
-      misses_append m trace (e ∷ [])
-      ∙ λ i. if_same e.by m (missed_by e.step e.stripe) [] own i ++ (ap (misses m) is ∙ misses_same m watched unseen others) i
+  step_own : (m : ℕ) (e : LockEvent V) → e.by ≡ m → steps_of m (e ∷ []) ≡ e ∷ []
+  step_own m e own = if_same e.by m (e ∷ []) [] own
+
+  -- among those of others and one of its own
+  pub steps_last : (m : ℕ) (es : List (LockEvent V)) (e : LockEvent V) → NoneBy by_of m es → e.by ≡ m → steps_of m (es ++ e ∷ []) ≡ e ∷ []
+  steps_last m es e others own = steps_append m es (e ∷ []) ∙ λ i. steps_none m es others i ++ step_own m e own i
+
+  -- in a trace whose rest is by others, and then one more of its own
+  pub steps_more : (m : ℕ) (trace watched unseen : List (LockEvent V)) (e : LockEvent V) → trace ≡ watched ++ unseen → NoneBy by_of m unseen → e.by ≡ m → steps_of m (trace ++ e ∷ []) ≡ steps_of m watched ++ e ∷ []
+  steps_more m trace watched unseen e is others own = steps_append m trace (e ∷ []) ∙ λ i. (ap (steps_of m) is ∙ steps_same m watched unseen others) i ++ step_own m e own i
+
+  -- what was missed by more steps
+  pub missed_append : (xs ys : List (LockEvent V)) → missed_in (xs ++ ys) ≡ missed_in ys ++ missed_in xs
+  missed_append [] ys = sym (append-nil (missed_in ys))
+  missed_append (x ∷ xs) ys = (λ i. missed_append xs ys i ++ missed_by x.step x.stripe) ∙ append_assoc (missed_in ys) (missed_in xs) (missed_by x.step x.stripe)
 
   -- steps of callers, none of which is of any caller, are none
   pub none_left : (callers : ℕ) (xs ys : List (LockEvent V)) → All (λ (e : LockEvent V). e.by < callers) (xs ++ ys) → ((m : ℕ) → m < callers → NoneBy by_of m ys) → ys ≡ []
@@ -137,28 +146,20 @@ module _ {V : Type 0} where
   decided_own m by Gave own = if_none m by
   decided_own m by (Decided x) own = ap (λ n. if n == m then x ∷ [] else []) (sym (own x refl))
 
-  pub decides_own : (m : ℕ) (before es : List (LockEvent V)) → IsLegalTrace (before ++ es) → decides m es ≡ subhistory m (decided_in es)
+  own_first : (m : ℕ) (e : LockEvent V) (es : List (LockEvent V)) → decided_in (steps_of m (e ∷ es)) ≡ (if e.by == m then decided_by e.step else []) ++ decided_in (steps_of m es)
+  own_first m e es = dite (ℕ_discrete e.by m)
+      (λ is. ap decided_in (if_same e.by m (e ∷ steps_of m es) (steps_of m es) is) ∙ ap (λ l. l ++ decided_in (steps_of m es)) (sym (if_same e.by m (decided_by e.step) [] is)))
+      (λ other. ap decided_in (if_else e.by m (e ∷ steps_of m es) (steps_of m es) other) ∙ ap (λ l. l ++ decided_in (steps_of m es)) (sym (if_else e.by m (decided_by e.step) [] other)))
+
+  pub decides_own : (m : ℕ) (before es : List (LockEvent V)) → IsLegalTrace (before ++ es) → decided_in (steps_of m es) ≡ subhistory m (decided_in es)
   decides_own m before [] legal = refl
   decides_own m before (e ∷ es) legal =
       let rest = decides_own m (before ++ e ∷ []) es (subst IsLegalTrace (sym (append_assoc before (e ∷ []) es)) legal) in
-      (λ i. decided_own m e.by e.step (λ x is. ((legal before e es refl).3 x is).1) i ++ rest i) ∙ sym (subhistory-append m (decided_by e.step) (decided_in es))
-
-  pub decides_append : (m : ℕ) (xs ys : List (LockEvent V)) → decides m (xs ++ ys) ≡ decides m xs ++ decides m ys
-  decides_append m [] ys = refl
-  decides_append m (x ∷ xs) ys = (λ i. (if x.by == m then decided_by x.step else []) ++ decides_append m xs ys i) ∙ sym (append_assoc (if x.by == m then decided_by x.step else []) (decides m xs) (decides m ys))
-
-  -- steps of others decide nothing of the caller's
-  pub decides_none : (m : ℕ) (es : List (LockEvent V)) → NoneBy by_of m es → decides m es ≡ []
-  decides_none m [] others = refl
-  decides_none m (e ∷ es) others = λ i. if_else e.by m (decided_by e.step) [] others.0 i ++ decides_none m es others.1 i
+      own_first m e es ∙ ((λ i. decided_own m e.by e.step (λ x is. ((legal before e es refl).3 x is).1) i ++ rest i) ∙ sym (subhistory-append m (decided_by e.step) (decided_in es)))
 
   -- a number that is no caller's has decided nothing in a legal trace of callers' steps
   pub no_others : (callers m : ℕ) (es : List (LockEvent V)) → callers ≤ m → IsLegalTrace es → All (λ (e : LockEvent V). e.by < callers) es → subhistory m (decided_in es) ≡ []
-  no_others callers m es le legal below = sym (decides_own m [] es legal) ∙ decides_none m es (none_beyond callers m es le below)
-
-  -- of steps by others and one more, that one alone may
-  pub decides_last : (m : ℕ) (es : List (LockEvent V)) (e : LockEvent V) → NoneBy by_of m es → decides m (es ++ e ∷ []) ≡ (if e.by == m then decided_by e.step else [])
-  decides_last m es e others = decides_append m es (e ∷ []) ∙ ((λ i. decides_none m es others i ++ ((if e.by == m then decided_by e.step else []) ++ [])) ∙ append-nil (if e.by == m then decided_by e.step else []))
+  no_others callers m es le legal below = sym (decides_own m [] es legal) ∙ ap decided_in (steps_none m es (none_beyond callers m es le below))
 
   -- the history of more steps
   pub decided_append : (xs ys : List (LockEvent V)) → decided_in (xs ++ ys) ≡ decided_in xs ++ decided_in ys

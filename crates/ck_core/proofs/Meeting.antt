@@ -9,8 +9,8 @@ use Rattle.ck_model.specs.Contents.{Stripes, IsSound, Lawful}
 use Rattle.ck_model.specs.Sections.{IdentitySection}
 use Rattle.ck_core.specs.declared.view.View.{View}
 use Rattle.ck_core.specs.State.{Configuration, IsPart}
-use Rattle.ck_core.specs.Steps.{watching, initial_view, message_of, spent}
-use Rattle.ck_core.specs.Example.{two_stripes, settings, empty_stripe, first, second, short_trace, alone, MeetingOpens, MeetingRuns}
+use Rattle.ck_core.specs.Steps.{initial_view, message_of, spent}
+use Rattle.ck_core.specs.Example.{two_stripes, settings, empty_stripe, first, second, watching, short_trace, alone, MeetingOpens, MeetingRuns}
 use Rattle.ck_core.proofs.ExampleRun.{opens, empty_sound}
 
 pub meeting_opens : MeetingOpens

@@ -68,7 +68,7 @@ module _ {V : Type 0} (k : Layout) (set : Settings) (callers p : ℕ) (s : Confi
       by_callers = subst (λ (es : List (LockEvent V)). All (λ (e : LockEvent V). e.by < callers) es) (sym o.no_step) (All-nil _);
       free = λ t l _. ap (λ (es : List (LockEvent V)). holder es t) o.no_step;
       held = each_new (λ _ v. (t : ℕ) (c : Content V) → Holds v.held t c → holder s.trace t ≡ v.by) (λ j ms _ _ t c h. absurd h);
-      watched = each_new (λ _ v. Watches s.trace v) (λ j ms _ _. record { sees = record { unseen = []; begins = o.no_step; by_others = λ _ _. tt }; heard = ([], refl); missed = λ _ _. refl });
+      watched = each_new (λ _ v. Watches s.trace v) (λ j ms _ _. record { sees = record { unseen = []; begins = o.no_step; by_others = λ _ _. tt }; heard = ([], refl); own = λ _ _. refl });
     };
     decided = ap decided_in o.no_step;
     legal = sym o.empty_whole;

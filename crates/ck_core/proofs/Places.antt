@@ -11,7 +11,7 @@ use Rattle.ck_model.specs.Contents.{Stripes}
 use Rattle.ck_core.specs.State.{Configuration, Places}
 use Rattle.ck_core.specs.declared.trace.LockStep.{LockStep}
 use Rattle.ck_core.specs.declared.trace.LockEvent.{LockEvent}
-use Rattle.ck_core.specs.Steps.{traced, watching, sent_home, split_as}
+use Rattle.ck_core.specs.Steps.{traced, stepping, sent_home, split_as}
 use Rattle.ck_core.proofs.Lists.{set_here, set_else, set_there, each_set, each_snoc, at_longer}
 use Rattle.ck_model.proofs.Numbered.{if_same, if_else, in_held, held_of_in, in_without, kept_without, distinct_without}
 
@@ -78,7 +78,7 @@ module _ {V : Type 0} where
         → ((q : ℕ) → ¬ (IsIn q (numbers ks)) → whole2 q ≡ whole q) → ((q : ℕ) (d : Content V) → Holds ks q d → whole2 q ≡ d)
         → Places n (sent_home step s id t c w) whole2
     places_back step ks t c w whole2 same here is miss hit =
-        let now : View V = watching (traced s w step t) w in
+        let now : View V = stepping s step t w in
         let words = s.words in
         let words_sized = r.words_sized in
         let homes_sized = r.homes_sized in

@@ -19,11 +19,11 @@ use Rattle.ck_model.proofs.Histories.{subhistory-append}
 use Rattle.std.specs.Prelude.{All}
 use Rattle.ck_core.specs.declared.trace.LockEvent.{LockEvent}
 use Rattle.ck_core.specs.declared.view.View.{View}
-use Rattle.ck_core.specs.Trace.{IsLegalTrace, decided_in, decides}
+use Rattle.ck_core.specs.Trace.{IsLegalTrace, decided_in, steps_of, missed_in}
 use Rattle.ck_core.specs.State.{Configuration, HistoryInvariant, Watches, owned, client_of}
 use Rattle.ck_core.specs.Laws.{Shows}
 use Rattle.ck_core.proofs.Keeps.{agrees}
-use Rattle.ck_core.proofs.LegalTraces.{legal_start, decides_own, decides_append, decides_none, decided_append, none_left, no_others}
+use Rattle.ck_core.proofs.LegalTraces.{legal_start, decides_own, steps_same, decided_append, none_left, no_others}
 use Rattle.ck_core.proofs.Callers.{own_held, own_in, seen_starts, seen_own}
 
 pub no_items : {A : Type 0} (l : List A) → length l ≡ 0 → l ≡ []
@@ -94,13 +94,13 @@ module _ {V : Type 0} (k : Layout) (callers : ℕ) (log : List (Entry V)) (s : C
   decided_watched = sym law.decided ∙ (ap decided_in watched_on.sees.begins ∙ decided_append v.watched watched_on.sees.unseen)
 
   -- by its own steps the caller decided its entries
-  decided_mine : (m : ℕ) → v.by ≡ Some m → decides m v.watched ≡ v.mine
+  decided_mine : (m : ℕ) → v.by ≡ Some m → decided_in v.steps ≡ v.mine
   decided_mine m by =
       let legal : IsLegalTrace (v.watched ++ watched_on.sees.unseen) = subst IsLegalTrace watched_on.sees.begins law.traced.legal in
-      let none : decides m watched_on.sees.unseen ≡ [] = decides_none m watched_on.sees.unseen (watched_on.sees.by_others m (own_in v m by)) in
-      let whole : decides m (v.watched ++ watched_on.sees.unseen) ≡ subhistory m (decided_in (v.watched ++ watched_on.sees.unseen)) = decides_own m [] (v.watched ++ watched_on.sees.unseen) legal in
-      sym (append-nil (decides m v.watched)) ∙ (ap (λ l. decides m v.watched ++ l) (sym none) ∙ (sym (decides_append m v.watched watched_on.sees.unseen)
-      ∙ (whole ∙ (ap (λ (es : List (LockEvent V)). subhistory m (decided_in es)) (sym watched_on.sees.begins) ∙ (ap (subhistory m) law.decided ∙ (law.callers_known.knows j v at).calls m v.mine (own_held v m by))))))
+      let same : steps_of m (v.watched ++ watched_on.sees.unseen) ≡ steps_of m v.watched = steps_same m v.watched watched_on.sees.unseen (watched_on.sees.by_others m (own_in v m by)) in
+      let whole : decided_in (steps_of m (v.watched ++ watched_on.sees.unseen)) ≡ subhistory m (decided_in (v.watched ++ watched_on.sees.unseen)) = decides_own m [] (v.watched ++ watched_on.sees.unseen) legal in
+      ap decided_in (sym (watched_on.own m by) ∙ sym same)
+      ∙ (whole ∙ (ap (λ (es : List (LockEvent V)). subhistory m (decided_in es)) (sym watched_on.sees.begins) ∙ (ap (subhistory m) law.decided ∙ (law.callers_known.knows j v at).calls m v.mine (own_held v m by))))
 
   -- whoever keeps all numbers has watched all
   decided_whole : ((m : ℕ) → m < callers → IsIn m (numbers (owned v))) → decided_in v.watched ≡ log
@@ -116,7 +116,8 @@ module _ {V : Type 0} (k : Layout) (callers : ℕ) (log : List (Entry V)) (s : C
     own = λ m e. kn.calls m v.mine (own_held v m e);
     unseen = unseen_none;
     alone = all_of_one;
-    watched = let w = law.traced.watched j v at in record { legal = legal_start s.trace v.watched w.sees.unseen w.sees.begins law.traced.legal; missed = w.missed };
+    watched = let w = law.traced.watched j v at in record { legal = legal_start s.trace v.watched w.sees.unseen w.sees.begins law.traced.legal; missed = λ m by. ap missed_in (w.own m by) };
+    steps = watched_on.own;
     decided = decided_mine;
     heard_watched = (law.traced.watched j v at).heard;
     decided_first = (decided_in watched_on.sees.unseen, decided_watched);

@@ -7,7 +7,7 @@ use Rattle.ck_model.proofs.Numbered.{if_same, if_else}
 use Rattle.ck_core.specs.declared.trace.LockStep.{LockStep}
 use Rattle.ck_core.specs.declared.trace.LockStep.TheVariants.{Took, Missed, Gave, Decided}
 use Rattle.ck_core.specs.declared.trace.LockEvent.{LockEvent}
-use Rattle.ck_core.specs.Trace.{decided_by, decided_in, decides}
+use Rattle.ck_core.specs.Trace.{decided_by, decided_in, steps_of}
 use Rattle.ck_core.specs.Order.{LawOfTraceOrder}
 use Rattle.ck_core.proofs.LegalTraces.{decided_append}
 
@@ -31,11 +31,11 @@ module _ {V : Type 0} where
   has_first e Gave rest own behind is = behind is
   has_first e (Decided x) rest own behind is = ([], rest, λ i. ap (first_of e) is i ∷ rest)
 
-  has_decided : (m : ℕ) (e : Entry V) (es : List (LockEvent V)) → decides m es ≡ e ∷ [] → Has e (decided_in es)
+  has_decided : (m : ℕ) (e : Entry V) (es : List (LockEvent V)) → decided_in (steps_of m es) ≡ e ∷ [] → Has e (decided_in es)
   has_decided m e [] is = absurd (let l = ap length is in omega arith)
   has_decided m e (x ∷ es) is = dite (ℕ_discrete x.by m)
-      (λ own. has_first e x.step (decided_in es) (decides m es) (has_decided m e es) (sym (ap (λ l. l ++ decides m es) (if_same x.by m (decided_by x.step) [] own)) ∙ is))
-      (λ other. has_behind e (decided_by x.step) (decided_in es) (has_decided m e es (sym (ap (λ l. l ++ decides m es) (if_else x.by m (decided_by x.step) [] other)) ∙ is)))
+      (λ own. has_first e x.step (decided_in es) (decided_in (steps_of m es)) (has_decided m e es) (sym (ap decided_in (if_same x.by m (x ∷ steps_of m es) (steps_of m es) own)) ∙ is))
+      (λ other. has_behind e (decided_by x.step) (decided_in es) (has_decided m e es (sym (ap decided_in (if_else x.by m (x ∷ steps_of m es) (steps_of m es) other)) ∙ is)))
 
 pub law_of_trace_order : (V : Type 0) → LawOfTraceOrder V
 law_of_trace_order V m n e e2 before during between during2 after first second =

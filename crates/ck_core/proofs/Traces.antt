@@ -18,12 +18,12 @@ use Rattle.ck_core.specs.declared.trace.LockStep.TheVariants.{Took, Missed}
 use Rattle.ck_core.specs.declared.trace.LockEvent.{LockEvent}
 use Rattle.ck_core.specs.declared.view.View.{View}
 use Rattle.ck_core.specs.State.{by_of, Configuration, HasNumber, owned, Places, Callers, Watches, Traces}
-use Rattle.ck_core.specs.Steps.{number_of, event, traced, watching, taken, missed, seen_as, sent_home, split_as, joined, joining, spent}
-use Rattle.ck_core.specs.Trace.{Fits, held_after, holder, missed_by, misses}
+use Rattle.ck_core.specs.Steps.{number_of, event, traced, stepping, taken, missed, seen_as, sent_home, split_as, joined, joining, spent}
+use Rattle.ck_core.specs.Trace.{Fits, held_after, holder, steps_of}
 use Rattle.ck_core.proofs.Lists.{each_set, each_snoc}
 use Rattle.ck_core.proofs.Sees.{sees_all, sees_none, sees_as, sees_more, sees_both}
 use Rattle.ck_core.proofs.Callers.{own_in}
-use Rattle.ck_core.proofs.LegalTraces.{holder_here, holder_there, legal_more, taking_fits, missing_fits, Returns, misses_same, misses_more}
+use Rattle.ck_core.proofs.LegalTraces.{holder_here, holder_there, legal_more, taking_fits, missing_fits, Returns, steps_same, steps_more}
 
 module _ {V : Type 0} where
   -- two views of one number are one
@@ -33,9 +33,9 @@ module _ {V : Type 0} where
 
   module _ (n callers : ℕ) (log : List (Entry V)) (s : Configuration V) (whole : ℕ → Content V) (places : Places n s whole) (cs : Callers callers log s.views) (r : Traces n callers s) (id : ℕ) (v : View V) (at : get_elem? s.views id ≡ some v) where
     -- what each view has watched, after a step of this caller
-    each_watches : (m : ℕ) → v.by ≡ Some m → (e : LockEvent V) → e.by ≡ m → (w : View V) → w.watched ≡ s.trace ++ e ∷ [] → w.by ≡ v.by → w.found ≡ missed_by e.step e.stripe ++ v.found → w.heard_watched ≡ v.heard_watched
+    each_watches : (m : ℕ) → v.by ≡ Some m → (e : LockEvent V) → e.by ≡ m → (w : View V) → w.watched ≡ s.trace ++ e ∷ [] → w.by ≡ v.by → w.steps ≡ v.steps ++ e ∷ [] → w.heard_watched ≡ v.heard_watched
         → (j : ℕ) (u : View V) → get_elem? (set s.views id w) j ≡ some u → Watches (s.trace ++ e ∷ []) u
-    each_watches m by e own w watched same found heard =
+    each_watches m by e own w watched same steps heard =
         let mine = r.watched id v at in
         each_set (λ _ u. Watches (s.trace ++ e ∷ []) u) s.views id w
         (record {
@@ -45,12 +45,12 @@ module _ {V : Type 0} where
             watched ∙ (ap (λ l. l ++ e ∷ []) mine.sees.begins ∙ (append_assoc v.watched mine.sees.unseen (e ∷ []) ∙ (ap (λ l. l ++ (mine.sees.unseen ++ e ∷ [])) mine.heard.1
                 ∙ (append_assoc v.heard_watched mine.heard.0 (mine.sees.unseen ++ e ∷ []) ∙ ap (λ l. l ++ (mine.heard.0 ++ (mine.sees.unseen ++ e ∷ []))) (sym heard))))),
           );
-          missed = λ x is.
+          own = λ x is.
               let me : x ≡ m = some_number x m (sym is ∙ (same ∙ by)) in
               let own_number : v.by ≡ Some x = by ∙ ap Some (sym me) in
-              ap (misses x) watched
-              ∙ (misses_more x s.trace v.watched mine.sees.unseen e mine.sees.begins (mine.sees.by_others x (own_in v x own_number)) (own ∙ sym me)
-              ∙ ((λ i. missed_by e.step e.stripe ++ mine.missed x own_number i) ∙ sym found));
+              ap (steps_of x) watched
+              ∙ (steps_more x s.trace v.watched mine.sees.unseen e mine.sees.begins (mine.sees.by_others x (own_in v x own_number)) (own ∙ sym me)
+              ∙ ((λ i. mine.own x own_number i ++ e ∷ []) ∙ sym steps));
         })
         (λ j u other there.
         let its = r.watched j u there in
@@ -58,7 +58,7 @@ module _ {V : Type 0} where
           sees = sees_more by_of (λ x. IsIn x (numbers (owned u))) s.trace u.watched its.sees e
               (λ x i is. other (sym (cs.keeps j u there x i) ∙ (ap cs.keeper (sym is ∙ own) ∙ cs.keeps id v at m (own_in v m by))));
           heard = its.heard;
-          missed = its.missed;
+          own = its.own;
         })
       where
         some_number : (a b : ℕ) → Some a ≡ Some b → a ≡ b
@@ -78,7 +78,7 @@ module _ {V : Type 0} where
       pub traces_take : (t : ℕ) (c : Content V) (l : List (Entry V)) → t < n → get_or s.words t 0 ≡ 0 → Traces n callers (taken s id v t c l)
       traces_take t c l inside free =
           let e : LockEvent V = event v.by Took t in
-          let w : View V = watching (traced s v Took t) (record v { held = (t, c) ∷ v.held; seen = l }) in
+          let w : View V = stepping s Took t (record v { held = (t, c) ∷ v.held; seen = l }) in
           let now : get_or (set s.words t 1) t 0 ≡ 1 = get_or-set_same s.words t 1 0 (let z = places.words_sized in omega arith) in
           let apart : (q : ℕ) → get_or s.words q 0 ≡ 1 → t ≢ q = λ q one is. let z : get_or s.words q 0 ≡ 0 = ap (λ x. get_or s.words x 0) (sym is) ∙ free in omega arith in
           record {
@@ -97,7 +97,7 @@ module _ {V : Type 0} where
       pub traces_miss : (t : ℕ) → t < n → get_or s.words t 0 ≡ 1 → ¬ (IsIn t (numbers v.held)) → ((j : ℕ) (u : View V) → get_elem? s.views j ≡ some u → (q : ℕ) (d : Content V) → Holds u.held q d → HasNumber u) → Traces n callers (missed s id v t)
       traces_miss t inside one not_own holders =
           let e : LockEvent V = event v.by Missed t in
-          let w : View V = watching (traced s v Missed t) (record v { found = t ∷ v.found }) in
+          let w : View V = stepping s Missed t v in
           let z = places.is_held t inside one in
           let its = holders (places.owner t) z.0 z.1 t (whole t) z.2 in
           let holds : holder s.trace t ≡ Some its.0 = r.held (places.owner t) z.0 z.1 t (whole t) z.2 ∙ its.1 in
@@ -116,8 +116,8 @@ module _ {V : Type 0} where
           }
 
       -- a stripe that is held goes home, and the others that are held may have new contents
-      pub traces_back : (step : LockStep V) → Returns m step → (ks : Stripes V) (t : ℕ) (c : Content V) (w : View V) → numbers ks ≡ numbers v.held → Holds ks t c → w.held ≡ without t ks → w.by ≡ v.by → w.found ≡ v.found → w.heard_watched ≡ v.heard_watched → Traces n callers (sent_home step s id t c w)
-      traces_back step returns ks t c w same here is by_same found heard =
+      pub traces_back : (step : LockStep V) → Returns m step → (ks : Stripes V) (t : ℕ) (c : Content V) (w : View V) → numbers ks ≡ numbers v.held → Holds ks t c → w.held ≡ without t ks → w.by ≡ v.by → w.steps ≡ v.steps → w.heard_watched ≡ v.heard_watched → Traces n callers (sent_home step s id t c w)
+      traces_back step returns ks t c w same here is by_same steps heard =
           let e : LockEvent V = event w.by step t in
           let mine : (q : ℕ) → IsIn q (numbers ks) → (d : Content V) × Holds v.held q d = λ q i. held_of_in v.held q (subst (IsIn q) same i) in
           let old = mine t (in_held ks t c here) in
@@ -129,7 +129,7 @@ module _ {V : Type 0} where
             by_callers = by_callers_on e own_now;
             free = λ q k zero. dite (ℕ_discrete t q) (λ it. holder_here s.trace e q it ∙ (ap (λ n. held_after step n (holder s.trace q)) own_now ∙ returns.lets_go (holder s.trace q)))
                 (λ ne. holder_there s.trace e q ne ∙ r.free q k (sym (get_or-set_other s.words t q 0 0 (λ it. ne (sym it))) ∙ zero));
-            held = each_set (λ _ u. (q : ℕ) (d : Content V) → Holds u.held q d → holder (traced s w step t) q ≡ u.by) s.views id (watching (traced s w step t) w)
+            held = each_set (λ _ u. (q : ℕ) (d : Content V) → Holds u.held q d → holder (traced s w step t) q ≡ u.by) s.views id (stepping s step t w)
                 (λ q d h.
                 let f = in_without t ks q d (subst (λ (hs : Stripes V). Holds hs q d) is h) in
                 let g = mine q (in_held ks q d f.1) in
@@ -137,7 +137,7 @@ module _ {V : Type 0} where
                 (λ j u other there q d h.
                 let f = places.holds j u there q d h in
                 holder_there s.trace e q (λ it. other (sym f.2 ∙ (ap places.owner (sym it) ∙ at_t.2))) ∙ r.held j u there q d h);
-            watched = each_watches m by e own_now (watching (traced s w step t) w) refl by_same (found ∙ ap (λ l. l ++ v.found) (sym (returns.misses_none t))) heard;
+            watched = each_watches m by e own_now (stepping s step t w) refl by_same (ap (λ l. l ++ e ∷ []) steps) heard;
           }
 
     -- a view changed that holds what it held
@@ -168,15 +168,15 @@ module _ {V : Type 0} where
   watches_nothing trace w none nobody nothing silent = record {
     sees = sees_none by_of (λ m. IsIn m (numbers (owned w))) trace w.watched trace (ap (λ l. l ++ trace) (sym nothing)) (λ m i. subst (λ (o : List (ℕ × List (Entry V))). IsIn m (numbers o)) none i);
     heard = ([], nothing ∙ ap (λ l. l ++ []) (sym silent));
-    missed = λ m e. absurd (none-some m (sym nobody ∙ e));
+    own = λ m e. absurd (none-some m (sym nobody ∙ e));
   }
 
-  -- one that watched as much as another, has no number besides, and found what its caller missed
-  pub watches_as : (trace : List (LockEvent V)) (v w : View V) → Watches trace v → w.watched ≡ v.watched → ((m : ℕ) → IsIn m (numbers (owned w)) → IsIn m (numbers (owned v))) → ((m : ℕ) → w.by ≡ Some m → misses m w.watched ≡ w.found) → StartsWith w.watched w.heard_watched → Watches trace w
-  watches_as trace v w h same fewer found heard = record {
+  -- one that watched as much as another, has no number besides, and has its caller's steps
+  pub watches_as : (trace : List (LockEvent V)) (v w : View V) → Watches trace v → w.watched ≡ v.watched → ((m : ℕ) → IsIn m (numbers (owned w)) → IsIn m (numbers (owned v))) → ((m : ℕ) → w.by ≡ Some m → steps_of m w.watched ≡ w.steps) → StartsWith w.watched w.heard_watched → Watches trace w
+  watches_as trace v w h same fewer own heard = record {
     sees = sees_as by_of (λ m. IsIn m (numbers (owned v))) trace v.watched h.sees (λ m. IsIn m (numbers (owned w))) w.watched same fewer;
     heard = heard;
-    missed = found;
+    own = own;
   }
 
   -- a view that takes in what another watched, and its numbers
@@ -186,7 +186,7 @@ module _ {V : Type 0} where
       record {
         sees = both.0;
         heard = both.2;
-        missed = λ m by. ap (misses m) both.1.1 ∙ (misses_same m v.watched both.1.0 (both.1.2 m (own_in v m by)) ∙ h.missed m by);
+        own = λ m by. ap (steps_of m) both.1.1 ∙ (steps_same m v.watched both.1.0 (both.1.2 m (own_in v m by)) ∙ h.own m by);
       }
 
   module _ (n callers : ℕ) (log : List (Entry V)) (s : Configuration V) (whole : ℕ → Content V) (places : Places n s whole) (cs : Callers callers log s.views) (r : Traces n callers s) (id : ℕ) (v : View V) (at : get_elem? s.views id ≡ some v) where

@@ -14,7 +14,8 @@ use Rattle.ck_core.specs.State.{Configuration}
 use Rattle.ck_core.specs.declared.trace.LockStep.{LockStep}
 use Rattle.ck_core.specs.declared.trace.LockStep.TheVariants.{Took, Missed, Gave, Decided}
 use Rattle.ck_core.specs.declared.trace.LockEvent.{LockEvent}
-use Rattle.ck_core.specs.Steps.{Label, event, watching, Opening, Execution, newcomer, initial_view, spent}
+use Rattle.ck_core.specs.Trace.{steps_of}
+use Rattle.ck_core.specs.Steps.{Label, number_of, event, Opening, Execution, newcomer, initial_view, spent}
 use Rattle.ck_core.specs.Order.{IsCall, StandInTime}
 use Rattle.ck_core.specs.Steps.Label.{Take, FindHeld, Give, Decide, GiveRest, Renew, Look, Open, Tell, Join}
 
@@ -72,7 +73,11 @@ abbrev pub trace : List (LockEvent ℕ)
 trace = by_first Took 0 ∷ by_second Missed 0 ∷ by_first Took 1 ∷ by_first (Decided insertion) 0 ∷ by_second Took 0
     ∷ by_second Missed 1 ∷ by_first Gave 1 ∷ by_second Took 1 ∷ by_second (Decided look_up) 0 ∷ by_second Gave 1 ∷ []
 
--- the view of one who watched the first n of them
+-- the view of one who watched this trace
+abbrev pub watching : List (LockEvent ℕ) → View ℕ → View ℕ
+watching events v = record v { watched = events; steps = steps_of (number_of v.by) events }
+
+-- the view of one who watched the first n of the steps
 abbrev pub watched : ℕ → View ℕ → View ℕ
 watched n v = watching (take n trace) v
 
@@ -89,7 +94,7 @@ abbrev pub decided : Configuration ℕ
 decided = record {
   words = 0 ∷ 1 ∷ [];
   homes = Some full_stripe ∷ None ∷ [];
-  views = watched 4 (record first { held = (1, empty_stripe) ∷ []; seen = insertion ∷ []; mine = insertion ∷ [] }) ∷ watched 2 (record second { found = 0 ∷ [] }) ∷ [];
+  views = watched 4 (record first { held = (1, empty_stripe) ∷ []; seen = insertion ∷ []; mine = insertion ∷ [] }) ∷ watched 2 second ∷ [];
   trace = take 4 trace;
 }
 
@@ -98,7 +103,7 @@ abbrev pub both_held : Configuration ℕ
 both_held = record {
   words = 1 ∷ 1 ∷ [];
   homes = None ∷ None ∷ [];
-  views = watched 7 (record first { seen = insertion ∷ []; mine = insertion ∷ [] }) ∷ watched 8 (record second { held = both full_stripe; seen = insertion ∷ []; found = 1 ∷ 0 ∷ [] }) ∷ [];
+  views = watched 7 (record first { seen = insertion ∷ []; mine = insertion ∷ [] }) ∷ watched 8 (record second { held = both full_stripe; seen = insertion ∷ [] }) ∷ [];
   trace = take 8 trace;
 }
 
@@ -107,7 +112,7 @@ abbrev pub finish : Configuration ℕ
 finish = record {
   words = 0 ∷ 0 ∷ [];
   homes = Some full_stripe ∷ Some empty_stripe ∷ [];
-  views = watched 7 (record first { seen = insertion ∷ []; mine = insertion ∷ [] }) ∷ watched 10 (record second { seen = insertion ∷ look_up ∷ []; mine = look_up ∷ []; found = 1 ∷ 0 ∷ [] }) ∷ [];
+  views = watched 7 (record first { seen = insertion ∷ []; mine = insertion ∷ [] }) ∷ watched 10 (record second { seen = insertion ∷ look_up ∷ []; mine = look_up ∷ [] }) ∷ [];
   trace = trace;
 }
 
@@ -139,7 +144,7 @@ longer_trace = trace ++ by_first Took 0 ∷ by_first Took 1 ∷ by_first (Decide
 -- all stripes are at home again
 abbrev pub looked : Configuration ℕ
 looked = record finish {
-  views = watching longer_trace (record first { seen = all_entries; mine = insertion ∷ second_look ∷ [] }) ∷ watched 10 (record second { seen = insertion ∷ look_up ∷ []; mine = look_up ∷ []; found = 1 ∷ 0 ∷ [] }) ∷ [];
+  views = watching longer_trace (record first { seen = all_entries; mine = insertion ∷ second_look ∷ [] }) ∷ watched 10 (record second { seen = insertion ∷ look_up ∷ []; mine = look_up ∷ [] }) ∷ [];
   trace = longer_trace;
 }
 

@@ -11,7 +11,7 @@ use Rattle.ck_model.specs.Contents.{Layout, Stripes, bindings, Lawful}
 use Rattle.ck_model.specs.Sections.{HasAll}
 use Rattle.ck_core.specs.declared.view.View.{View}
 use Rattle.ck_core.specs.State.{Configuration, HistoryInvariant, owned, client_of}
-use Rattle.ck_core.specs.Trace.{IsLegalTrace, decided_in, decides, misses}
+use Rattle.ck_core.specs.Trace.{IsLegalTrace, decided_in, steps_of, missed_in}
 use Rattle.ck_core.specs.Steps.{Label, Transition, grown, Execution, Opening}
 use Rattle.ck_core.specs.Steps.Label.{Take, FindHeld, Give, Decide, GiveRest, Renew, Look, Open, Tell, Join}
 
@@ -39,10 +39,10 @@ module _ {V : Type 0} where
   IsDeciding Tell = ⊥
   IsDeciding (Join other) = ⊥
 
-  -- What was watched is a legal trace, in which the caller missed what it found held.
+  -- What was watched is a legal trace, in which the caller missed what it missed by its own steps.
   pub record HasWatched (v : View V) : Type 0 where
     pub legal : IsLegalTrace v.watched
-    pub missed : (m : ℕ) → v.by ≡ Some m → misses m v.watched ≡ v.found
+    pub missed : (m : ℕ) → v.by ≡ Some m → missed_in (steps_of m v.watched) ≡ missed_in v.steps
 
   -- what a caller's own stripes and numbers show
   pub record Shows (k : Layout) (callers : ℕ) (log : List (Entry V)) (v : View V) : Type 0 where
@@ -57,8 +57,9 @@ module _ {V : Type 0} where
     pub watched : HasWatched v
     -- it begins with what a caller that was met had watched
     pub heard_watched : StartsWith v.watched v.heard_watched
-    -- by its own steps in it the caller decided its entries
-    pub decided : (m : ℕ) → v.by ≡ Some m → decides m v.watched ≡ v.mine
+    -- its own steps in it are the caller's, by which it decided its entries
+    pub steps : (m : ℕ) → v.by ≡ Some m → steps_of m v.watched ≡ v.steps
+    pub decided : (m : ℕ) → v.by ≡ Some m → decided_in v.steps ≡ v.mine
     -- what was decided in it begins the history
     pub decided_first : StartsWith log (decided_in v.watched)
     pub lawful : Lawful k v.held

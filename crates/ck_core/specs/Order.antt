@@ -8,7 +8,7 @@ use Rattle.ck_model.specs.Promise.{IsLegal, StartsWith, subhistory}
 use Rattle.ck_model.specs.Contents.{Layout}
 use Rattle.ck_core.specs.declared.trace.LockEvent.{LockEvent}
 use Rattle.ck_core.specs.declared.view.View.{View}
-use Rattle.ck_core.specs.Trace.{decided_in, decides}
+use Rattle.ck_core.specs.Trace.{decided_in, steps_of}
 use Rattle.ck_core.specs.State.{Configuration, HistoryInvariant}
 use Rattle.ck_core.specs.Steps.{Label, Transition, Execution, Opening}
 use Rattle.ck_core.specs.Steps.Label.{Take, FindHeld, Give, Decide, GiveRest, Renew, Look, Open, Tell, Join}
@@ -111,4 +111,4 @@ module _ (V : Type 0) where
 
   -- Linearizability in the order of the trace. Where of two calls in it the first ends before the second begins, each of which decided its entry by its caller's own step, the first's stands before the second's in the history.
   abbrev pub LawOfTraceOrder : Type 0
-  LawOfTraceOrder = (m n : ℕ) (e e2 : Entry V) (before during between during2 after : List (LockEvent V)) → decides m during ≡ e ∷ [] → decides n during2 ≡ e2 ∷ [] → Precedes e e2 (decided_in (before ++ (during ++ (between ++ (during2 ++ after)))))
+  LawOfTraceOrder = (m n : ℕ) (e e2 : Entry V) (before during between during2 after : List (LockEvent V)) → decided_in (steps_of m during) ≡ e ∷ [] → decided_in (steps_of n during2) ≡ e2 ∷ [] → Precedes e e2 (decided_in (before ++ (during ++ (between ++ (during2 ++ after)))))

@@ -10,7 +10,7 @@ use Rattle.ck_model.specs.Contents.{Layout, bindings, Lawful, whole}
 use Rattle.ck_model.specs.Sections.{HasAll}
 use Rattle.ck_core.specs.declared.trace.LockEvent.{LockEvent}
 use Rattle.ck_core.specs.declared.view.View.{View}
-use Rattle.ck_core.specs.Trace.{holder, IsLegalTrace, decided_in, misses}
+use Rattle.ck_core.specs.Trace.{holder, IsLegalTrace, decided_in, steps_of}
 
 -- The words of the stripes, what lies in their places, the views, and the steps on the words. A place is empty while its stripe is held.
 pub record Configuration (V : Type 0) : Type 0 where
@@ -86,11 +86,11 @@ module _ {V : Type 0} where
     pub keeps : (j : ℕ) (v : View V) → get_elem? views j ≡ some v → (m : ℕ) → IsIn m (numbers (owned v)) → keeper m ≡ j
     pub knows : (j : ℕ) (v : View V) → get_elem? views j ≡ some v → Knows callers log v
 
-  -- What was watched begins the trace, whose rest is by none of the view's numbers, and begins with what a caller that was met had watched. The caller missed the stripes that it found held.
+  -- What was watched begins the trace, whose rest is by none of the view's numbers, and begins with what a caller that was met had watched. The caller made its own steps in it.
   pub record Watches (trace : List (LockEvent V)) (v : View V) : Type 0 where
     pub sees : Sees by_of (λ m. IsIn m (numbers (owned v))) trace v.watched
     pub heard : StartsWith v.watched v.heard_watched
-    pub missed : (m : ℕ) → v.by ≡ Some m → misses m v.watched ≡ v.found
+    pub own : (m : ℕ) → v.by ≡ Some m → steps_of m v.watched ≡ v.steps
 
   -- The trace of n stripes is legal, with steps of callers alone, and by it a stripe has no holder where it is at home, and else the caller that holds it.
   pub record Traces (n callers : ℕ) (s : Configuration V) : Type 0 where

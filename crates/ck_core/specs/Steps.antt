@@ -18,7 +18,7 @@ use Rattle.ck_core.specs.declared.trace.LockStep.TheVariants.{Took, Missed, Gave
 use Rattle.ck_core.specs.declared.trace.LockEvent.{LockEvent}
 use Rattle.ck_core.specs.declared.view.RoomNote.{RoomNote}
 use Rattle.ck_core.specs.declared.view.View.{View}
-use Rattle.ck_core.specs.Trace.{misses}
+use Rattle.ck_core.specs.Trace.{steps_of}
 use Rattle.ck_core.specs.State.{Configuration, HasNumber, IsPart, owned}
 
 -- One atomic operation on the word of a stripe.
@@ -86,27 +86,27 @@ module _ {V : Type 0} where
   abbrev pub traced : Configuration V → View V → LockStep V → ℕ → List (LockEvent V)
   traced s v step t = s.trace ++ event v.by step t ∷ []
 
-  -- the view with this trace watched
-  abbrev pub watching : List (LockEvent V) → View V → View V
-  watching trace v = record v { watched = trace }
+  -- the view after its caller made this step on the word of stripe t, with the trace watched
+  abbrev pub stepping : Configuration V → LockStep V → ℕ → View V → View V
+  stepping s step t v = record v { watched = traced s v step t; steps = v.steps ++ event v.by step t ∷ [] }
 
   -- What each step leaves.
   abbrev pub taken : Configuration V → ℕ → View V → ℕ → Content V → List (Entry V) → Configuration V
   taken s id v t c log = record {
     words = set s.words t 1;
     homes = set s.homes t None;
-    views = set s.views id (watching (traced s v Took t) (record v { held = (t, c) ∷ v.held; seen = log }));
+    views = set s.views id (stepping s Took t (record v { held = (t, c) ∷ v.held; seen = log }));
     trace = traced s v Took t;
   }
 
   abbrev pub missed : Configuration V → ℕ → View V → ℕ → Configuration V
-  missed s id v t = record s { views = set s.views id (watching (traced s v Missed t) (record v { found = t ∷ v.found })); trace = traced s v Missed t }
+  missed s id v t = record s { views = set s.views id (stepping s Missed t v); trace = traced s v Missed t }
 
   abbrev pub seen_as : Configuration V → ℕ → View V → Configuration V
   seen_as s id w = record s { views = set s.views id w }
 
   abbrev pub sent_home : LockStep V → Configuration V → ℕ → ℕ → Content V → View V → Configuration V
-  sent_home step s id t c w = record { words = set s.words t 0; homes = set s.homes t (Some c); views = set s.views id (watching (traced s w step t) w); trace = traced s w step t }
+  sent_home step s id t c w = record { words = set s.words t 0; homes = set s.homes t (Some c); views = set s.views id (stepping s step t w); trace = traced s w step t }
 
   -- the view v after the stripe t with the content c, of the held stripes hs, went home
   abbrev pub giving : View V → ℕ → Content V → Stripes V → Option (Name × Reason) → View V
@@ -122,19 +122,19 @@ module _ {V : Type 0} where
 
   -- a caller at the opening
   abbrev pub newcomer : Settings → ℕ → ℕ → View V
-  newcomer set j p = record { settings = set; by = Some j; held = []; seen = []; mine = []; told = p; doublings = 0; grown_from = []; found = []; watched = []; no_slot = []; heard = []; heard_told = 0; heard_watched = []; others = [] }
+  newcomer set j p = record { settings = set; by = Some j; held = []; seen = []; mine = []; told = p; doublings = 0; grown_from = []; watched = []; steps = []; no_slot = []; heard = []; heard_told = 0; heard_watched = []; others = [] }
 
   -- a caller that begins with the number m, which the view v has kept
   abbrev pub beginner : View V → ℕ → View V
-  beginner v m = record (newcomer v.settings m v.told) { watched = v.watched; found = misses m v.watched }
+  beginner v m = record (newcomer v.settings m v.told) { watched = v.watched; steps = steps_of m v.watched }
 
   -- what v has seen, was told and has watched
   abbrev pub message_of : View V → View V
-  message_of v = record { settings = v.settings; by = None; held = []; seen = v.seen; mine = []; told = v.told; doublings = 0; grown_from = []; found = []; watched = v.watched; no_slot = []; heard = []; heard_told = 0; heard_watched = []; others = [] }
+  message_of v = record { settings = v.settings; by = None; held = []; seen = v.seen; mine = []; told = v.told; doublings = 0; grown_from = []; watched = v.watched; steps = []; no_slot = []; heard = []; heard_told = 0; heard_watched = []; others = [] }
 
   -- what a join leaves of the other view
   abbrev pub spent : View V
-  spent = record { settings = no_settings; by = None; held = []; seen = []; mine = []; told = 0; doublings = 0; grown_from = []; found = []; watched = []; no_slot = []; heard = []; heard_told = 0; heard_watched = []; others = [] }
+  spent = record { settings = no_settings; by = None; held = []; seen = []; mine = []; told = 0; doublings = 0; grown_from = []; watched = []; steps = []; no_slot = []; heard = []; heard_told = 0; heard_watched = []; others = [] }
 
   -- the view v has heard what w had seen, and keeps its numbers
   abbrev pub joining : View V → View V → View V

@@ -1,5 +1,5 @@
 -- The trace: the steps of all callers on the lock words, in their order.
-use Rattle.std.specs.Prelude.{◌≡◌, ◌≢◌, ℕ, List, [], ◌∷◌, ◌++◌, Option, Some, None, if◌then◌else◌, ◌==◌}
+use Rattle.std.specs.Prelude.{◌≡◌, ◌≢◌, ℕ, List, [], ◌∷◌, ◌++◌, Option, Some, None, if◌then◌else◌, ◌==◌, filter}
 use Rattle.ck_model.specs.declared.history.Entry.{Entry}
 use Rattle.ck_core.specs.declared.trace.LockStep.{LockStep}
 use Rattle.ck_core.specs.declared.trace.LockStep.TheVariants.{Took, Missed, Gave, Decided}
@@ -43,17 +43,16 @@ module _ {V : Type 0} where
   decided_in [] = []
   decided_in (e ∷ es) = decided_by e.step ++ decided_in es
 
-  -- the entries that the caller m decided by its own steps
-  abbrev pub decides : ℕ → List (LockEvent V) → List (Entry V)
-  decides m [] = []
-  decides m (e ∷ es) = (if e.by == m then decided_by e.step else []) ++ decides m es
+  -- the steps of the caller m, in their order
+  abbrev pub steps_of : ℕ → List (LockEvent V) → List (LockEvent V)
+  steps_of m es = filter (λ e. e.by == m) es
 
   -- the stripe that was missed by this step, if it was one
   abbrev pub missed_by : LockStep V → ℕ → List ℕ
   missed_by Missed t = t ∷ []
   missed_by step t = []
 
-  -- the stripes that the caller m missed, the last first
-  abbrev pub misses : ℕ → List (LockEvent V) → List ℕ
-  misses m [] = []
-  misses m (e ∷ es) = misses m es ++ (if e.by == m then missed_by e.step e.stripe else [])
+  -- the stripes that were missed by these steps, the last first
+  abbrev pub missed_in : List (LockEvent V) → List ℕ
+  missed_in [] = []
+  missed_in (e ∷ es) = missed_in es ++ missed_by e.step e.stripe

@@ -71,7 +71,7 @@ pub fn law_of_runs<V>()
 /// held stripes are lawful, their power is no less than what was told and heard, and where they are
 /// all stripes, the history leads to what they contain, and all of it was seen. Where a view keeps
 /// the numbers of all callers, the history is an interleaving of their entries. What was watched is
-/// a legal trace, in which the caller missed just the stripes that it found held.
+/// a legal trace, in which the caller's steps are its own, by which it decided its entries.
 pub fn law_of_views<V>()
     ensures { LawOfViews V }
 {}

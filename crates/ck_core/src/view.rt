@@ -24,10 +24,10 @@ pub struct View<V> {
     /// What the stripes contained each time that it did so, in rising order of their numbers. The
     /// last time stands first.
     pub grown_from: LinkedList<LinkedList<(u64, Content<V>)>>,
-    /// The stripes that were found held, once for each time.
-    pub found: LinkedList<u64>,
     /// The trace up to the caller's last step on a lock word.
     pub watched: LinkedList<LockEvent<V>>,
+    /// The caller's own steps on lock words.
+    pub steps: LinkedList<LockEvent<V>>,
     /// The names that found no room and why, once for each time.
     pub no_slot: LinkedList<RoomNote<V>>,
     /// What another caller had seen when it was last met.
