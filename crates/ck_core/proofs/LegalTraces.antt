@@ -166,6 +166,9 @@ module _ {V : Type 0} where
   decided_append [] ys = refl
   decided_append (x ∷ xs) ys = (λ i. decided_by x.step ++ decided_append xs ys i) ∙ sym (append_assoc (decided_by x.step) (decided_in xs) (decided_in ys))
 
+  pub own_append : (m : ℕ) (xs ys : List (LockEvent V)) → decided_in (steps_of m (xs ++ ys)) ≡ decided_in (steps_of m xs) ++ decided_in (steps_of m ys)
+  own_append m xs ys = ap decided_in (steps_append m xs ys) ∙ decided_append (steps_of m xs) (steps_of m ys)
+
   pub decided_same : (log : List (Entry V)) (es : List (LockEvent V)) (e : LockEvent V) → decided_in es ≡ log → decided_by e.step ≡ [] → decided_in (es ++ e ∷ []) ≡ log
   decided_same log es e is none = decided_append es (e ∷ []) ∙ ((λ i. is i ++ (none i ++ [])) ∙ append-nil log)
 

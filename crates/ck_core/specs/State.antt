@@ -10,7 +10,7 @@ use Rattle.ck_model.specs.Contents.{Layout, bindings, Lawful, whole}
 use Rattle.ck_model.specs.Sections.{HasAll}
 use Rattle.ck_core.specs.declared.trace.LockEvent.{LockEvent}
 use Rattle.ck_core.specs.declared.view.View.{View}
-use Rattle.ck_core.specs.Trace.{holder, IsLegalTrace, decided_in, steps_of}
+use Rattle.ck_core.specs.Trace.{holder, IsLegalTrace, decided_in, steps_of, missed_in}
 
 -- The words of the stripes, what lies in their places, the views, and the steps on the words. A place is empty while its stripe is held.
 pub record Configuration (V : Type 0) : Type 0 where
@@ -51,6 +51,10 @@ module _ {V : Type 0} where
   -- what its client sees of a view
   abbrev pub client_of : View V → Client V
   client_of v = record { settings = v.settings; by = v.by; seen = v.seen; mine = v.mine }
+
+  -- the stripes that a view's caller has found held, the last first
+  abbrev pub found_held : View V → List ℕ
+  found_held v = missed_in v.steps
 
   -- the view is a caller's
   abbrev pub HasNumber : View V → Type 0

@@ -22,7 +22,7 @@ use Rattle.ck_core.specs.State.{Configuration, HasNumber, HistoryInvariant}
 use Rattle.ck_core.specs.declared.trace.LockStep.{LockStep}
 use Rattle.ck_core.specs.declared.trace.LockStep.TheVariants.{Took, Missed, Gave, Decided}
 use Rattle.ck_core.specs.declared.trace.LockEvent.{LockEvent}
-use Rattle.ck_core.specs.Steps.{Label, Transition, IsAbove, IsExcused, HasGrounds, event, watching, taken, missed, seen_as, sent_home, giving, renewing, deciding, beginner, message_of, joining, spent}
+use Rattle.ck_core.specs.Steps.{Label, Transition, IsAbove, IsExcused, HasGrounds, event, taken, missed, seen_as, sent_home, giving, renewing, deciding, beginner, message_of, joining, spent}
 use Rattle.ck_core.specs.Steps.Label.{Take, FindHeld, Give, Decide, Renew, Look}
 use Rattle.ck_core.proofs.Lists.{at_set, set_else, set_there}
 use Rattle.ck_core.proofs.Shown.{shows}
@@ -88,7 +88,7 @@ module _ {V : Type 0} (k : Layout) (callers : ℕ) where
 
   -- the view w, once the stripe t went home by it
   abbrev given : LockStep V → List (LockEvent V) → ℕ → View V → View V
-  given step trace t w = watching (trace ++ event w.by step t ∷ []) w
+  given step trace t w = record w { watched = trace ++ event w.by step t ∷ []; steps = w.steps ++ event w.by step t ∷ [] }
 
   -- a seat gives back the slot that it has first
   gave : (step : LockStep V) (log log2 : List (Entry V)) (s : State (StripeSlot V) (View V)) (id t : ℕ) (stripe : StripeState V) (w : View V) (has out : List (ℕ × StripeSlot V)) → has ≡ (t, Some stripe) ∷ out → t < 2 ^ k.s → IsAtHome k.s t stripe → (old : IsKept k callers log s)
@@ -157,7 +157,7 @@ module _ (hash : Name → ℕ) (set : Settings) where
           let stripe : StripeState V = slot.0 in
           let there2 : get_elem? (map lying s.homes) t ≡ some (Some stripe.content) = there ∙ ap (λ (x : Content V). some (Some x)) (sym slot.2) in
           let trace : List (LockEvent V) = r.trace ++ event m.0.by Took t ∷ [] in
-          let w : View V = watching trace (record m.0 { held = (t, stripe.content) ∷ m.0.held; seen = log }) in
+          let w : View V = given k set.callers Took r.trace t (record m.0 { held = (t, stripe.content) ∷ m.0.held; seen = log }) in
           let after : Configuration V = taken (world (2 ^ k.s) r.trace s) id m.0 t stripe.content log in
           let kept : IsKept k set.callers log (stepped s (t * 8) 1 id m.1 w (takes t (Some stripe))) =
           kept_at k set.callers log s t 1 none (slice_set s.views id w) l r.words_sized trace (take_keeps k set.callers log (world (2 ^ k.s) r.trace s) r.law id m.0 at t stripe.content l free there2 number) (home_out k.s s.homes t r.at_home) in
@@ -165,7 +165,7 @@ module _ (hash : Name → ℕ) (set : Settings) where
           (w, takes t (Some stripe), slot.1, (log, kept), ((λ _. (stripe, r.at_home t stripe slot.1, refl, inl (refl, refl), steps)), (λ ne. absurd (ne e))))
       take_by t l above number s log r at (suc zero) e h =
           let trace : List (LockEvent V) = r.trace ++ event m.0.by Missed t ∷ [] in
-          let w : View V = watching trace (record m.0 { found = t ∷ m.0.found }) in
+          let w : View V = given k set.callers Missed r.trace t m.0 in
           let held : get_or (spaced (2 ^ k.s) s.words) t 0 ≡ 1 = spaced-at (2 ^ k.s) t s.words l ∙ e in
           let own : ¬ (IsIn t (numbers m.0.held)) = λ i. let z = above t i in omega arith in
           let kept = unmoved k set.callers log s id (t * 8) 1 w m.1 (sym e) r trace (find_keeps k set.callers log (world (2 ^ k.s) r.trace s) r.law id m.0 at t l held own number) in

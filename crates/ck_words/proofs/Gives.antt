@@ -14,7 +14,9 @@ use Rattle.ck_model.specs.Contents.{Layout, layout_of, Stripes, Lawful}
 use Rattle.ck_model.specs.Sections.{Section, IdentitySection}
 use Rattle.ck_stripe.specs.Stripes.{contents_of, HaveNoSpare}
 use Rattle.ck_core.specs.declared.view.View.{View}
-use Rattle.ck_core.specs.Steps.{Label, IsExcused, HasGrounds}
+use Rattle.ck_core.specs.declared.trace.LockStep.TheVariants.{Gave, Decided}
+use Rattle.ck_core.specs.State.{found_held}
+use Rattle.ck_core.specs.Steps.{Label, giving, renewing, deciding, IsExcused, HasGrounds}
 use Rattle.ck_core.specs.Steps.Label.{Give, Decide, Renew}
 use Rattle.ck_core.specs.Laws.{HasWatched}
 use Rattle.ck_words.specs.Rule.{StripeSlot, Hand, RuleOf, IsAtHome}
@@ -25,7 +27,7 @@ use Rattle.ck_words.specs.Passes.{PassState, IsSeated, IsPassOf, IsUnchanged, Se
 use Rattle.ck_words.proofs.Allowed.{give_allowed, renew_allowed, decide_allowed}
 use Rattle.ck_words.proofs.Reversed.{lawful_reverse, section_turned, identity_turned}
 use Rattle.ck_words.proofs.Excuses.{excused_reverse, has_grounds_reverse}
-use Rattle.ck_words.proofs.Rows.{shows_after, give_row, renew_row, decide_row}
+use Rattle.ck_words.proofs.Rows.{found_by, shows_after, give_row, renew_row, decide_row}
 use Rattle.ck_words.proofs.Seating.{Last, last}
 use Rattle.ck_words.proofs.Spare.{spare_last, spare_rest}
 use Rattle.ck_words.proofs.Takes.{Fits, Lasts, same_table, word_inside, same_settings, same_key, slots_are, own_after, below_key, settled, told}
@@ -75,8 +77,8 @@ module _ {V : Type 0} (hash : Name → ℕ) (w : WordsState) (p : PassState V) (
   abbrev pub now : Stripes V
   now = reverse (contents_of (held_in me.1))
 
-  lasts_by : (me2 : Hand V) {u : View V} → me2.0 ≡ u → u.settings ≡ me.0.settings → u.by ≡ me.0.by → u.found ≡ me.0.found → me.0.told ≤ u.told → me2.0.told ≤ w.settings.max → HasWatched me2.0 → Lasts hash w p tz key set z me f me2
-  lasts_by me2 row settings by found told most watched = record { settings = ap (λ (v : View V). v.settings) row ∙ settings; by = ap (λ (v : View V). v.by) row ∙ by; found = ap (λ (v : View V). v.found) row ∙ found; told = subst (λ n. me.0.told ≤ n) (sym (ap (λ (v : View V). v.told) row)) told; most = most; watched = watched }
+  lasts_by : (me2 : Hand V) {u : View V} → me2.0 ≡ u → u.settings ≡ me.0.settings → u.by ≡ me.0.by → found_held u ≡ found_held me.0 → me.0.told ≤ u.told → me2.0.told ≤ w.settings.max → HasWatched me2.0 → Lasts hash w p tz key set z me f me2
+  lasts_by me2 row settings by found told most watched = record { settings = ap (λ (v : View V). v.settings) row ∙ settings; by = ap (λ (v : View V). v.by) row ∙ by; found = ap found_held row ∙ found; told = subst (λ n. me.0.told ≤ n) (sym (ap (λ (v : View V). v.told) row)) told; most = most; watched = watched }
 
   -- the key's layout
   abbrev k : Layout
@@ -148,7 +150,7 @@ module _ {V : Type 0} (hash : Name → ℕ) (w : WordsState) (p : PassState V) (
     give_tells : (me2 : Hand V) → Gone give_move me2 → Tells give_move me2
     give_tells me2 gone =
         let row = give_row hash w.settings me.0 me2.0 t g gone.step in
-        record { lasts = lasts_by me2 row refl refl refl (omega arith) (shows_after hash w.settings (Give t g) me.0 me2.0 gone.step).most (shows_after hash w.settings (Give t g) me.0 me2.0 gone.step).watched; held = ap (λ (v : View V). v.held) row ∙ ap (without t) (held_now u) }
+        record { lasts = lasts_by me2 row refl refl (found_by Gave gone.step.before t (giving me.0 t gone.step.does.1 me.0.held g)) (omega arith) (shows_after hash w.settings (Give t g) me.0 me2.0 gone.step).most (shows_after hash w.settings (Give t g) me.0 me2.0 gone.step).watched; held = ap (λ (v : View V). v.held) row ∙ ap (without t) (held_now u) }
 
     pub give_went : (z2 : TableId) (me2 : Hand V) → z2 ≡ z → told_by give_move me.0.settings (t * 8 / 8) me2 → Went hash w give_move p z2 me2
     give_went z2 me2 same h = let g = gone give_move me2 h in went give_move z2 me2 same g (give_tells me2 g)
@@ -173,7 +175,7 @@ module _ {V : Type 0} (hash : Name → ℕ) (w : WordsState) (p : PassState V) (
         ready renew_move slots id (renew_allowed hash key slots id me t l.stripe l.out l.front inside_key own_key now_held g turned_sec turned_grounds)
 
     renew_tells : (me2 : Hand V) → Gone renew_move me2 → Tells renew_move me2
-    renew_tells me2 gone = let row = renew_row hash w.settings me.0 me2.0 t now g gone.step in record { lasts = lasts_by me2 row refl refl refl (omega arith) (shows_after hash w.settings (Renew t now g) me.0 me2.0 gone.step).most (shows_after hash w.settings (Renew t now g) me.0 me2.0 gone.step).watched; held = ap (λ (v : View V). v.held) row }
+    renew_tells me2 gone = let row = renew_row hash w.settings me.0 me2.0 t now g gone.step in record { lasts = lasts_by me2 row refl refl (found_by Gave gone.step.before t (renewing me.0 t gone.step.does.1 now g)) (omega arith) (shows_after hash w.settings (Renew t now g) me.0 me2.0 gone.step).most (shows_after hash w.settings (Renew t now g) me.0 me2.0 gone.step).watched; held = ap (λ (v : View V). v.held) row }
 
     pub renew_went : (z2 : TableId) (me2 : Hand V) → z2 ≡ z → told_by renew_move me.0.settings (t * 8 / 8) me2 → Went hash w renew_move p z2 me2
     renew_went z2 me2 same h = let g = gone renew_move me2 h in went renew_move z2 me2 same g (renew_tells me2 g)
@@ -192,7 +194,7 @@ module _ {V : Type 0} (hash : Name → ℕ) (w : WordsState) (p : PassState V) (
         ready decide_move slots id (decide_allowed hash key slots id me t l.stripe l.out l.front inside_key own_key now_held e (ap (λ (q : PassState V). q.view.by) f.pass_is ∙ by) turned_sec)
 
     decide_tells : (me2 : Hand V) → Gone decide_move me2 → Tells decide_move me2
-    decide_tells me2 gone = let row = decide_row hash w.settings me.0 me2.0 t now e gone.step in record { lasts = lasts_by me2 row refl refl refl (omega arith) (shows_after hash w.settings (Decide t now e) me.0 me2.0 gone.step).most (shows_after hash w.settings (Decide t now e) me.0 me2.0 gone.step).watched; held = ap (λ (v : View V). v.held) row }
+    decide_tells me2 gone = let row = decide_row hash w.settings me.0 me2.0 t now e gone.step in record { lasts = lasts_by me2 row refl refl (found_by (Decided e) gone.step.before t (deciding me.0 t now gone.step.log e)) (omega arith) (shows_after hash w.settings (Decide t now e) me.0 me2.0 gone.step).most (shows_after hash w.settings (Decide t now e) me.0 me2.0 gone.step).watched; held = ap (λ (v : View V). v.held) row }
 
     pub decide_went : (z2 : TableId) (me2 : Hand V) → z2 ≡ z → told_by decide_move me.0.settings (t * 8 / 8) me2 → Went hash w decide_move p z2 me2
     decide_went z2 me2 same h = let g = gone decide_move me2 h in went decide_move z2 me2 same g (decide_tells me2 g)

@@ -7,7 +7,8 @@ use Rattle.std.proofs.Math.Logic.{∥∥₁_elim}
 use Rattle.atomic_table.specs.Seated.{table_id_coded}
 use Rattle.ck_model.specs.declared.settings.Settings.{Settings}
 use Rattle.ck_core.specs.declared.view.View.{View}
-use Rattle.ck_core.specs.Trace.{holder, misses}
+use Rattle.ck_core.specs.Trace.{holder, steps_of, missed_in}
+use Rattle.ck_core.specs.State.{found_held}
 use Rattle.ck_core.specs.Laws.{HasWatched}
 use Rattle.ck_words.specs.Words.{WordsState}
 use Rattle.ck_words.specs.Passes.{PassState}
@@ -78,13 +79,13 @@ known_watched v t = record {
           known_equal x.by e.by (∥∥₁_elim t squash₁ (λ h. ∣ ((h.legal before e more is).3 x s).1 ∣₁)),
         ),
       );
-  missed = λ m by. known_list (misses m v.watched) v.found (∥∥₁_elim t squash₁ (λ h. ∣ h.missed m by ∣₁));
+  missed = λ m by. known_list (missed_in (steps_of m v.watched)) (missed_in v.steps) (∥∥₁_elim t squash₁ (λ h. ∣ h.missed m by ∣₁));
 }
 
 -- a caller's pass is known to be one
 pub known_caller : {V : Type 0} → (w : WordsState) (p : PassState V) → ∥ IsCaller w p ∥₁ → IsCaller w p
 known_caller w p t = let number = known_number w.settings.callers p.view.by (∥∥₁_elim t squash₁ (λ c. ∣ c.number ∣₁)) in record {
-  own = (∥∥₁_elim t (Coded-set table_id_coded p.table w.table) (λ c. c.own.0), known_settings p.view.settings w.settings (∥∥₁_elim t squash₁ (λ c. ∣ c.own.1 ∣₁)), (λ none. none-some number.0 (sym none ∙ number.1)), λ one. known_empty p.view.found (∥∥₁_elim t squash₁ (λ c. ∣ c.own.3 one ∣₁)), ∥∥₁_elim t le_prop (λ c. c.own.4), ∥∥₁_elim t le_prop (λ c. c.own.5), known_watched p.view (∥∥₁_elim t squash₁ (λ c. ∣ c.own.6 ∣₁)));
+  own = (∥∥₁_elim t (Coded-set table_id_coded p.table w.table) (λ c. c.own.0), known_settings p.view.settings w.settings (∥∥₁_elim t squash₁ (λ c. ∣ c.own.1 ∣₁)), (λ none. none-some number.0 (sym none ∙ number.1)), λ one. known_empty (found_held p.view) (∥∥₁_elim t squash₁ (λ c. ∣ c.own.3 one ∣₁)), ∥∥₁_elim t le_prop (λ c. c.own.4), ∥∥₁_elim t le_prop (λ c. c.own.5), known_watched p.view (∥∥₁_elim t squash₁ (λ c. ∣ c.own.6 ∣₁)));
   idle = (known_empty p.stripes (∥∥₁_elim t squash₁ (λ c. ∣ c.idle.0 ∣₁)), known_empty p.view.held (∥∥₁_elim t squash₁ (λ c. ∣ c.idle.1 ∣₁)));
   alone = known_empty p.view.others (∥∥₁_elim t squash₁ (λ c. ∣ c.alone ∣₁));
   number = number;

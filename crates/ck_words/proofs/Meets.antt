@@ -64,7 +64,7 @@ module _ {V : Type 0} where
           mine = refl;
           others = refl;
           doublings = refl;
-          found = refl;
+          steps = refl;
           grown_from = refl;
           no_slot = refl;
           held = refl;

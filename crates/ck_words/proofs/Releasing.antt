@@ -3,6 +3,7 @@ use Rattle.std.proofs.Common.{◌≡◌, ℕ, ◌+◌, ◌-◌, ◌<◌, ◌≤�
 use Rattle.std.proofs.lemmas.List.{reverse-append, reverse-reverse, take_all, take_more}
 use Rattle.ck_model.specs.Promise.{Name}
 use Rattle.ck_stripe.specs.Stripe.{StripeState}
+use Rattle.ck_core.specs.State.{found_held}
 use Rattle.ck_core.specs.Steps.Label.{GiveRest}
 use Rattle.ck_words.specs.Words.{WordsState}
 use Rattle.ck_words.specs.Passes.{PassState, IsPassOf, IsIdle, IsUnchanged, IsHighest, Sends, numbers_of}
@@ -55,7 +56,7 @@ module _ {V : Type 0} where
     pub unchanged : IsUnchanged q
     pub numbered : numbers_of q.stripes ≡ ns
     pub stays : Stays p.view q.view
-    pub found : q.view.found ≡ p.view.found
+    pub found : found_held q.view ≡ found_held p.view
     pub seen : q.view.seen ≡ p.view.seen
 
   module _ (w : WordsState) where

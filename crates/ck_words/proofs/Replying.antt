@@ -18,7 +18,7 @@ use Rattle.ck_core.specs.declared.view.View.{View}
 use Rattle.ck_core.specs.declared.trace.LockStep.TheVariants.{Decided}
 use Rattle.ck_core.specs.Steps.{deciding}
 use Rattle.ck_core.specs.Steps.Label.{Decide}
-use Rattle.ck_core.specs.State.{client_of}
+use Rattle.ck_core.specs.State.{client_of, found_held}
 use Rattle.ck_core.proofs.Shown.{answered}
 use Rattle.ck_model.specs.declared.commit.Commit.{Commit}
 use Rattle.ck_model.specs.Commits.{call_of}
@@ -31,7 +31,7 @@ use Rattle.ck_words.specs.Answering.{HasDone, IsAnswered, HasCommitted}
 use Rattle.ck_words.specs.Holding.{HasReleased}
 use Rattle.ck_words.proofs.Reversed.{lawful_reverse}
 use Rattle.ck_words.proofs.Telling.{doubled_decided}
-use Rattle.ck_words.proofs.Rows.{gave_by, watched_deciding, shows_before, shows_after, decide_row}
+use Rattle.ck_words.proofs.Rows.{found_by, gave_by, watched_step, shows_before, shows_after, decide_row}
 
 -- a number that is there is the one that is read
 pub read_there : (o : Option ℕ) → o ≢ None → o ≡ Some (unwrap_or o 0)
@@ -150,8 +150,8 @@ module _ {V : Type 0} where
             alone = λ one. follows m by t ks q1 q d seen r done (inl (ap (λ (x : Settings). x.callers) (sym of_table) ∙ one));
           };
           watched = (
-              let more = watched_deciding hash set (Decide t ks e) p.view q1.view d e t (its_caller m by) in
-              let first : WatchesMore p.view q1.view = (more.0, ap (λ (v : View V). v.watched) row ∙ more.1, λ n is. ap (λ (v : View V). v.mine) row ∙ more.2 n is) in
+              let more = watched_step hash set (Decide t ks e) p.view q1.view d (Decided e) t in
+              let first : WatchesMore p.view q1.view = (more.0, ap (λ (v : View V). v.watched) row ∙ more.1, λ n is. (ap (λ (v : View V). v.steps) row ∙ (more.2 n is).0, ap (λ (v : View V). v.mine) row ∙ (more.2 n is).1)) in
               watches_on p.view q1.view q.view (ap (λ (v : View V). v.by) row) first s.watched
               );
           stays = record {
@@ -164,7 +164,7 @@ module _ {V : Type 0} where
             seen = ([], sym (append-nil q.view.seen));
             by_others = λ n e. refl;
             alone = λ _. refl;
-            watched = ([], sym (append-nil q.view.watched), λ n e. sym (append-nil q.view.mine));
+            watched = ([], sym (append-nil q.view.watched), λ n e. (sym (append-nil q.view.steps), sym (append-nil q.view.mine)));
             told = (let a : q1.view.told ≡ p.view.told = ap (λ (v : View V). v.told) row in let b = s.told in omega arith);
             doublings = refl;
             grown_from = refl;
@@ -183,7 +183,7 @@ module _ {V : Type 0} where
           follows = λ reply done all. (m, by, follows m by d.0.number (reverse (contents_of p.stripes)) q1 q d.2 r.seen reply done (inr all));
           by = r.stays.by ∙ ap (λ (v : View V). v.by) row;
           others = r.stays.others ∙ ap (λ (v : View V). v.others) row;
-          found = r.found ∙ ap (λ (v : View V). v.found) row;
+          found = r.found ∙ (ap found_held row ∙ found_by (Decided (entry_for call p)) d.2.before d.0.number (deciding p.view d.0.number (reverse (contents_of p.stripes)) d.2.log (entry_for call p)));
           doubled = doubled_decided hash w (entry_for call p) p q1 q d r.stays.doublings r.stays.grown_from;
         }
 

@@ -1,6 +1,6 @@
 -- What the rows of the core leave of a caller's view.
 use Rattle.std.proofs.Common.{◌≡◌, ◌≢◌, ℕ, ◌≤◌, List, [], ◌∷◌, ◌++◌, append-nil, append_assoc, sym, ap, ◌∙◌, subst, ⊎_elim, arith, Option, Some, None}
-use Rattle.std.specs.Prelude.{slice_set, if◌then◌else◌, ◌==◌}
+use Rattle.std.specs.Prelude.{slice_set}
 use mathlib.Core.Option.{some, some-injective}
 use lib.ListN.{get_elem?}
 use Rattle.ck_model.specs.declared.history.Entry.{Entry}
@@ -10,32 +10,35 @@ use Rattle.ck_model.specs.declared.settings.Settings.{Settings}
 use Rattle.ck_model.specs.Promise.{Name}
 use Rattle.ck_model.specs.Numbered.{numbers, Holds}
 use Rattle.ck_model.specs.Contents.{layout_of, Stripes}
-use Rattle.ck_model.proofs.Numbered.{if_same, in_held}
+use Rattle.ck_model.proofs.Numbered.{in_held}
 use Rattle.ck_core.specs.declared.view.View.{View}
-use Rattle.ck_core.specs.State.{Configuration, HasNumber, owned, HistoryInvariant}
+use Rattle.ck_core.specs.State.{Configuration, HasNumber, owned, HistoryInvariant, found_held}
 use Rattle.ck_core.specs.declared.trace.LockStep.{LockStep}
 use Rattle.ck_core.specs.declared.trace.LockStep.TheVariants.{Took, Missed, Gave, Decided}
 use Rattle.ck_core.specs.declared.trace.LockEvent.{LockEvent}
-use Rattle.ck_core.specs.Trace.{decided_by, decides}
-use Rattle.ck_core.specs.Steps.{Label, IsAbove, number_of, event, traced, watching, giving, renewing, deciding, grown}
+use Rattle.ck_core.specs.Trace.{decided_by, decided_in, steps_of, missed_by}
+use Rattle.ck_core.specs.Steps.{Label, IsAbove, number_of, event, stepping, giving, renewing, deciding, grown}
 use Rattle.ck_core.specs.Steps.Label.{Take, FindHeld, Give, Decide, GiveRest, Renew, Look}
 use Rattle.ck_core.specs.Laws.{Shows}
 use Rattle.ck_core.proofs.Answered.{law_of_one_caller}
 use Rattle.ck_core.proofs.Callers.{own_held}
-use Rattle.ck_core.proofs.LegalTraces.{if_none, decides_last}
+use Rattle.ck_core.proofs.LegalTraces.{steps_last, missed_append}
 use Rattle.ck_core.proofs.Lists.{set_there}
 use Rattle.ck_core.proofs.Keeps.{step_keeps}
 use Rattle.ck_core.proofs.Shown.{shows}
 use Rattle.ck_words.specs.Steps.{Steps}
-use Rattle.ck_words.specs.Retries.{DecidesNone}
 
 -- the view w, once the stripe t went home by it
 abbrev pub gave_by : {V : Type 0} → LockStep V → Configuration V → ℕ → View V → View V
-gave_by step s t w = watching (traced s w step t) w
+gave_by step s t w = stepping s step t w
 
 -- and decided nothing
 abbrev pub gave : {V : Type 0} → Configuration V → ℕ → View V → View V
 gave = gave_by Gave
+
+-- what was found held once this step was made
+pub found_by : {V : Type 0} (step : LockStep V) (s : Configuration V) (t : ℕ) (w : View V) → found_held (stepping s step t w) ≡ missed_by step t ++ found_held w
+found_by step s t w = missed_append w.steps (event w.by step t ∷ [])
 
 module _ {V : Type 0} (hash : Name → ℕ) (set : Settings) where
   module _ (m : Label V) (v w : View V) (r : Steps hash set m v w) where
@@ -49,27 +52,26 @@ module _ {V : Type 0} (hash : Name → ℕ) (set : Settings) where
     pub watched_more : (e : LockEvent V) → (events : List (LockEvent V)) × (r.before.trace ++ e ∷ [] ≡ v.watched ++ events)
     watched_more e = let h = (r.law.traced.watched r.id v r.was).sees in (h.unseen ++ e ∷ [], ap (λ l. l ++ e ∷ []) h.begins ∙ append_assoc v.watched h.unseen (e ∷ []))
 
-    -- and by it its caller decided this alone
-    own_more : (e : LockEvent V) (n : ℕ) → v.by ≡ Some n → decides n (watched_more e).0 ≡ (if e.by == n then decided_by e.step else [])
+    -- and it is its caller's alone
+    pub own_more : (step : LockStep V) (t n : ℕ) → v.by ≡ Some n → steps_of n (watched_more (event v.by step t)).0 ≡ event v.by step t ∷ []
     unfolding watched_more
-    own_more e n by = let h = (r.law.traced.watched r.id v r.was).sees in decides_last n h.unseen e (h.by_others n (in_held (owned v) n v.mine (own_held v n by)))
+    own_more step t n by = let h = (r.law.traced.watched r.id v r.was).sees in steps_last n h.unseen (event v.by step t) (h.by_others n (in_held (owned v) n v.mine (own_held v n by))) (ap number_of by)
+
+    -- what it decided by it
+    pub watched_step : (step : LockStep V) (t : ℕ) → let e = event v.by step t in
+        (events : List (LockEvent V)) × (r.before.trace ++ e ∷ [] ≡ v.watched ++ events) × ((n : ℕ) → v.by ≡ Some n → (v.steps ++ e ∷ [] ≡ v.steps ++ steps_of n events) × (v.mine ++ decided_by step ≡ v.mine ++ decided_in (steps_of n events)))
+    watched_step step t = (
+      (watched_more (event v.by step t)).0,
+      (watched_more (event v.by step t)).1,
+      λ n by. (ap (λ l. v.steps ++ l) (sym (own_more step t n by)), ap (λ l. v.mine ++ l) (sym (ap decided_in (own_more step t n by) ∙ append-nil (decided_by step)))),
+    )
 
     -- where it decided nothing
-    pub none_more : (e : LockEvent V) → decided_by e.step ≡ [] → DecidesNone v (watched_more e).0
-    none_more e none n by = own_more e n by ∙ (ap (λ l. if e.by == n then l else []) none ∙ if_none n e.by)
-
-    pub watched_quiet : (e : LockEvent V) → decided_by e.step ≡ [] → (events : List (LockEvent V)) × (r.before.trace ++ e ∷ [] ≡ v.watched ++ events) × ((n : ℕ) → v.by ≡ Some n → v.mine ≡ v.mine ++ decides n events)
-    watched_quiet e none = ((watched_more e).0, (watched_more e).1, λ n by. sym (ap (λ l. v.mine ++ l) (none_more e none n by) ∙ append-nil v.mine))
-
-    -- where it decided this entry of its own
-    pub watched_deciding : (x : Entry V) (t : ℕ) → v.by ≡ Some x.by → let e = event v.by (Decided x) t in
-        (events : List (LockEvent V)) × (r.before.trace ++ e ∷ [] ≡ v.watched ++ events) × ((n : ℕ) → v.by ≡ Some n → v.mine ++ x ∷ [] ≡ v.mine ++ decides n events)
-    watched_deciding x t by =
-        let e : LockEvent V = event v.by (Decided x) t in (
-          (watched_more e).0,
-          (watched_more e).1,
-          λ n is. ap (λ l. v.mine ++ l) (sym (own_more e n is ∙ if_same e.by n (x ∷ []) [] (ap number_of is))),
-        )
+    pub watched_quiet : (step : LockStep V) (t : ℕ) → decided_by step ≡ [] → let e = event v.by step t in
+        (events : List (LockEvent V)) × (r.before.trace ++ e ∷ [] ≡ v.watched ++ events) × ((n : ℕ) → v.by ≡ Some n → (v.steps ++ e ∷ [] ≡ v.steps ++ steps_of n events) × (v.mine ≡ v.mine ++ decided_in (steps_of n events)))
+    watched_quiet step t none =
+        let more = watched_step step t in
+        (more.0, more.1, λ n by. ((more.2 n by).0, sym (append-nil v.mine) ∙ (ap (λ l. v.mine ++ l) (sym none) ∙ (more.2 n by).1)))
 
     -- there is one view of the caller before the step
     pub same_view : (u : View V) → get_elem? r.before.views r.id ≡ some u → u ≡ v
@@ -80,8 +82,8 @@ module _ {V : Type 0} (hash : Name → ℕ) (set : Settings) where
     new_view new u at after = some-injective w (new v) (sym r.is ∙ (ap (λ vs. get_elem? vs r.id) after ∙ (set_there r.before.views r.id u (new u) at ∙ ap (λ x. some (new x)) (same_view u at))))
 
   module _ (v w : View V) where
-    pub take_row : (t : ℕ) (r : Steps hash set (Take t) v w) → w ≡ watching (traced r.before v Took t) (record v { held = (t, r.does.1) ∷ v.held; seen = r.log })
-    take_row t r = new_view (Take t) v w r (λ u. watching (traced r.before u Took t) (record u { held = (t, r.does.1) ∷ u.held; seen = r.log })) r.does.0 r.does.2 (ap (λ (x : Configuration V). x.views) r.does.8)
+    pub take_row : (t : ℕ) (r : Steps hash set (Take t) v w) → w ≡ stepping r.before Took t (record v { held = (t, r.does.1) ∷ v.held; seen = r.log })
+    take_row t r = new_view (Take t) v w r (λ u. stepping r.before Took t (record u { held = (t, r.does.1) ∷ u.held; seen = r.log })) r.does.0 r.does.2 (ap (λ (x : Configuration V). x.views) r.does.8)
 
     pub take_number : (t : ℕ) → Steps hash set (Take t) v w → HasNumber v
     take_number t r = subst (λ (u : View V). HasNumber u) (same_view (Take t) v w r r.does.0 r.does.2) r.does.7
@@ -96,8 +98,8 @@ module _ {V : Type 0} (hash : Name → ℕ) (set : Settings) where
         let same : r.does.1 ≡ c = ⊎_elim (λ (e : (t ≡ t) × (r.does.1 ≡ c)). e.1) (λ i. let l = take_above t r t (in_held v.held t c i) in absurd (omega arith)) (subst (λ (hs : Stripes V). Holds hs t c) held h) in
         held ∙ λ i. (t, same i) ∷ v.held
 
-    pub find_row : (t : ℕ) (r : Steps hash set (FindHeld t) v w) → w ≡ watching (traced r.before v Missed t) (record v { found = t ∷ v.found })
-    find_row t r = new_view (FindHeld t) v w r (λ u. watching (traced r.before u Missed t) (record u { found = t ∷ u.found })) r.does.0 r.does.1 (ap (λ (x : Configuration V). x.views) r.does.6)
+    pub find_row : (t : ℕ) (r : Steps hash set (FindHeld t) v w) → w ≡ stepping r.before Missed t v
+    find_row t r = new_view (FindHeld t) v w r (λ u. stepping r.before Missed t u) r.does.0 r.does.1 (ap (λ (x : Configuration V). x.views) r.does.6)
 
     -- and the caller isn't the only one
     pub find_by_two : (t : ℕ) → Steps hash set (FindHeld t) v w → set.callers ≢ 1

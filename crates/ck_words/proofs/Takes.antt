@@ -9,7 +9,8 @@ use Rattle.ck_model.specs.Numbered.{numbers}
 use Rattle.ck_stripe.specs.Stripe.{StripeState}
 use Rattle.ck_stripe.specs.Stripes.{contents_of}
 use Rattle.ck_core.specs.declared.view.View.{View}
-use Rattle.ck_core.specs.State.{HasNumber}
+use Rattle.ck_core.specs.declared.trace.LockStep.TheVariants as step
+use Rattle.ck_core.specs.State.{HasNumber, found_held}
 use Rattle.ck_core.specs.Steps.{IsAbove}
 use Rattle.ck_core.specs.Steps.Label.{Take, FindHeld, Look}
 use Rattle.ck_core.specs.Laws.{HasWatched}
@@ -20,7 +21,7 @@ use Rattle.ck_words.specs.Words.{WordsState, IsLaidOut}
 use Rattle.ck_words.specs.Passes.{PassState, IsSeated, IsPassIn, IsPassOf, IsUnchanged, TakesStripe, TriesStripe, LooksUp, state_of, stripes_in, held_in}
 use Rattle.ck_words.proofs.Allowed.{take_allowed, look_allowed}
 use Rattle.ck_words.proofs.Reversed.{map-append, reverse-cons}
-use Rattle.ck_words.proofs.Rows.{shows_after, take_row, take_held, find_row, find_by_two, look_row, look_told}
+use Rattle.ck_words.proofs.Rows.{found_by, shows_after, take_row, take_held, find_row, find_by_two, look_row, look_told}
 use Rattle.ck_words.proofs.Seating.{seated_take, seated_view}
 
 -- the number of the stripe whose word it is
@@ -76,7 +77,7 @@ module _ {V : Type 0} (hash : Name → ℕ) (w : WordsState) (p : PassState V) (
   pub record Lasts (me2 : Hand V) : Type 0 where
     pub settings : me2.0.settings ≡ me.0.settings
     pub by : me2.0.by ≡ me.0.by
-    pub found : me2.0.found ≡ me.0.found
+    pub found : found_held me2.0 ≡ found_held me.0
     pub told : me.0.told ≤ me2.0.told
     pub most : me2.0.told ≤ w.settings.max
     pub watched : HasWatched me2.0
@@ -89,7 +90,7 @@ module _ {V : Type 0} (hash : Name → ℕ) (w : WordsState) (p : PassState V) (
     same ∙ (ap (λ (q : PassState V). q.table) f.pass_is ∙ f.own.0),
     k.settings ∙ same_settings,
     (λ none. has_number (sym k.by ∙ none)),
-    λ one. k.found ∙ (ap (λ (q : PassState V). q.view.found) f.pass_is ∙ f.own.3 one),
+    λ one. k.found ∙ (ap (λ (q : PassState V). found_held q.view) f.pass_is ∙ f.own.3 one),
     le_trans told_before.0 k.told,
     k.most,
     k.watched,
@@ -135,7 +136,7 @@ module _ {V : Type 0} (hash : Name → ℕ) (w : WordsState) (p : PassState V) (
           stripe = k.0;
           own_number = k.1;
           slots = k.2;
-          lasts = (let row = take_row hash w.settings me.0 me2.0 t k.4 in record { settings = ap (λ (v : View V). v.settings) row; by = ap (λ (v : View V). v.by) row; found = ap (λ (v : View V). v.found) row; told = le_of_eq (sym (ap (λ (v : View V). v.told) row)); most = (shows_after hash w.settings (Take t) me.0 me2.0 k.4).most; watched = (shows_after hash w.settings (Take t) me.0 me2.0 k.4).watched });
+          lasts = (let row = take_row hash w.settings me.0 me2.0 t k.4 in record { settings = ap (λ (v : View V). v.settings) row; by = ap (λ (v : View V). v.by) row; found = ap found_held row ∙ found_by step.Took k.4.before t (record me.0 { held = (t, k.4.does.1) ∷ me.0.held; seen = k.4.log }); told = le_of_eq (sym (ap (λ (v : View V). v.told) row)); most = (shows_after hash w.settings (Take t) me.0 me2.0 k.4).most; watched = (shows_after hash w.settings (Take t) me.0 me2.0 k.4).watched });
           held = take_held hash w.settings me.0 me2.0 t k.0.content k.4 k.3;
           step = k.4;
         }
@@ -210,7 +211,7 @@ module _ {V : Type 0} (hash : Name → ℕ) (w : WordsState) (p : PassState V) (
     look_view = look_row hash w.settings me.0 me2.0 0 looks.1.0 looks.1.2
 
     pub look_lasts : Lasts me2
-    look_lasts = record { settings = ap (λ (v : View V). v.settings) look_view; by = ap (λ (v : View V). v.by) look_view; found = ap (λ (v : View V). v.found) look_view; told = subst (λ n. me.0.told ≤ n) (sym (ap (λ (v : View V). v.told) look_view)) (look_told hash w.settings me.0 me2.0 0 looks.1.0 looks.1.2); most = (shows_after hash w.settings (Look 0 looks.1.0) me.0 me2.0 looks.1.2).most; watched = (shows_after hash w.settings (Look 0 looks.1.0) me.0 me2.0 looks.1.2).watched }
+    look_lasts = record { settings = ap (λ (v : View V). v.settings) look_view; by = ap (λ (v : View V). v.by) look_view; found = ap found_held look_view; told = subst (λ n. me.0.told ≤ n) (sym (ap (λ (v : View V). v.told) look_view)) (look_told hash w.settings me.0 me2.0 0 looks.1.0 looks.1.2); most = (shows_after hash w.settings (Look 0 looks.1.0) me.0 me2.0 looks.1.2).most; watched = (shows_after hash w.settings (Look 0 looks.1.0) me.0 me2.0 looks.1.2).watched }
 
     pub looked : (z2 : TableId) → LooksUp hash w p (state_of z2 me2)
     looked z2 = subst (λ (q : PassState V). LooksUp hash w q (state_of z2 me2)) f.pass_is (ap held_in looks.0, looks.1)

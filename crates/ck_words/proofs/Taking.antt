@@ -8,15 +8,17 @@ use Rattle.ck_model.specs.Promise.{Name}
 use Rattle.ck_model.specs.declared.settings.Settings.{Settings}
 use Rattle.ck_model.specs.Numbered.{IsIn, numbers}
 use Rattle.ck_stripe.specs.Stripe.{StripeState}
-use Rattle.ck_core.specs.Steps.{IsAbove}
+use Rattle.ck_core.specs.declared.trace.LockStep.TheVariants.{Missed}
+use Rattle.ck_core.specs.State.{found_held}
+use Rattle.ck_core.specs.Steps.{IsAbove, event}
 use Rattle.ck_words.specs.Words.{WordsState}
 use Rattle.ck_words.specs.Passes.{PassState, EachOf, IsPassOf, IsIdle, IsUnchanged, TakesStripe, numbers_of}
-use Rattle.ck_words.specs.Retries.{Stays, TakesWithin, found_again, FindsAgain, HasMissed}
+use Rattle.ck_words.specs.Retries.{Stays, TakesWithin, MissesAlone, found_again, FindsAgain, HasMissed}
 use Rattle.ck_words.specs.Holding.{HasTaken, GivesUp, HasReleased}
 use Rattle.ck_words.proofs.Reversed.{map-append, in_reverse}
 use Rattle.ck_words.proofs.Seating.{each_append, numbers-contents}
 use Rattle.ck_words.proofs.Spare.{spare_none, spare_push}
-use Rattle.ck_words.proofs.Staying.{none_on, again_later, stays_same, stays_on, stays_within, stays_finding, shows_taken, unchanged_idle, among_none, among_on, among_within, among_held}
+use Rattle.ck_words.proofs.Staying.{alone_on, found_times, again_later, stays_same, stays_on, stays_within, stays_finding, shows_taken, unchanged_idle, among_none, among_on, among_within, among_held}
 
 -- a number of the list stands in it
 pub in_list : (ts : List ℕ) (i : ℕ) → i < length ts → IsIn (get_or ts i 0) ts
@@ -53,7 +55,8 @@ module _ {V : Type 0} where
   -- the stripe was found held once, and then n times
   found_then : (n t : ℕ) (p q r : PassState V) → FindsAgain 1 t p q → FindsAgain n t q r → FindsAgain (suc n) t p r
   found_then n t p q r again more =
-      (again.0 ++ more.0, more.1 ∙ (ap (found_again n t more.0) again.1 ∙ (again_later n 1 t again.0 more.0 p ∙ ap (λ m. found_again m t (again.0 ++ more.0) p) (let e : n + 1 ≡ suc n = omega arith in e))), none_on p.view again.0 more.0 again.2 (λ m by. more.2 m (ap (λ (x : PassState V). x.view.by) again.1 ∙ by)))
+      let same : q.view.by ≡ p.view.by = ap (λ (x : PassState V). x.view.by) again.1 in
+      (again.0 ++ more.0, more.1 ∙ (ap (found_again n t more.0) again.1 ∙ (again_later n 1 t again.0 more.0 p ∙ ap (λ m. found_again m t (again.0 ++ more.0) p) (let e : n + 1 ≡ suc n = omega arith in e))), subst (λ m. MissesAlone m t p.view (again.0 ++ more.0)) (let e : n + 1 ≡ suc n = omega arith in e) (alone_on n 1 t p.view again.0 more.0 again.2 (λ m by. more.2 m (same ∙ by) ∙ ap (λ o. replicate n (event o Missed t)) same)))
 
   pub takes_later : (hash : Name → ℕ) (set : Settings) (turns t : ℕ) (p q r : PassState V) → 1 ≤ turns → FindsAgain 1 t p q → TakesWithin hash set (turns - 1) t q r → TakesWithin hash set turns t p r
   takes_later hash set turns t p q r some again k =
@@ -70,12 +73,12 @@ module _ {V : Type 0} where
   tries_later hash set turns t p q r false some again k = found_later turns t p q r some again k
 
 -- where a stripe was found held, the caller isn't the only one
-pub found_by_two : {V : Type 0} (w : WordsState) (turns t : ℕ) (p : PassState V) (more : List ℕ) → 1 ≤ turns → IsPassOf w p → p.view.found ≡ replicate turns t ++ more → w.settings.callers ≢ 1
+pub found_by_two : {V : Type 0} (w : WordsState) (turns t : ℕ) (p : PassState V) (more : List ℕ) → 1 ≤ turns → IsPassOf w p → found_held p.view ≡ replicate turns t ++ more → w.settings.callers ≢ 1
 found_by_two w zero t p more some own found one = omega arith
 found_by_two w (suc n) t p more some own found one = let l = ap length (sym found ∙ own.3 one) in omega arith
 
 -- and another held it each time
-pub has_missed : {V : Type 0} (w : WordsState) (turns t : ℕ) (q : PassState V) (more : List ℕ) → IsPassOf w q → q.view.found ≡ replicate turns t ++ more → HasMissed turns t q
+pub has_missed : {V : Type 0} (w : WordsState) (turns t : ℕ) (q : PassState V) (more : List ℕ) → IsPassOf w q → found_held q.view ≡ replicate turns t ++ more → HasMissed turns t q
 has_missed w turns t q more own found = record { legal = own.6.legal; missed = λ m by. (more, own.6.missed m by ∙ found) }
 
 module _ {V : Type 0} (hash : Name → ℕ) (w : WordsState) (P : ℕ → Type 0) where
@@ -111,7 +114,7 @@ module _ {V : Type 0} (hash : Name → ℕ) (w : WordsState) (P : ℕ → Type 0
     pub given_up : (r s : PassState V) → 1 ≤ w.settings.turns → P t → FindsAgain w.settings.turns t q r → HasReleased w r s → GivesUp w P t p s
     given_up r s some asked again released =
         let turns = w.settings.turns in
-        let found : s.view.found ≡ replicate turns t ++ q.view.found = released.found ∙ ap (λ (x : PassState V). x.view.found) again.1 in
+        let found : found_held s.view ≡ replicate turns t ++ found_held q.view = released.found ∙ (ap (λ (x : PassState V). found_held x.view) again.1 ∙ found_times turns t again.0 q) in
         let tried : Stays q.view r.view = subst (λ (x : PassState V). Stays q.view x.view) (sym again.1) (stays_finding turns t again.0 q again.2) in
         record {
           own = released.own;
@@ -119,9 +122,9 @@ module _ {V : Type 0} (hash : Name → ℕ) (w : WordsState) (P : ℕ → Type 0
           found = among_on P p r s (among_on P p q r h.found (among_held P turns t q r asked again)) (among_none P r s released.found);
           busy = (
             released.idle,
-            (h.found.0, found ∙ (ap (λ l. replicate turns t ++ l) h.found.1 ∙ sym (append_assoc (replicate turns t) h.found.0 p.view.found))),
-            found_by_two w turns t s q.view.found some released.own found,
-            has_missed w turns t s q.view.found released.own found,
+            (h.found.0, found ∙ (ap (λ l. replicate turns t ++ l) h.found.1 ∙ sym (append_assoc (replicate turns t) h.found.0 (found_held p.view)))),
+            found_by_two w turns t s (found_held q.view) some released.own found,
+            has_missed w turns t s (found_held q.view) released.own found,
           );
           asked = asked;
         }

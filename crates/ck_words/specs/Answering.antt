@@ -11,7 +11,7 @@ use Rattle.ck_model.specs.Contents.{layout_of, Lawful, bindings}
 use Rattle.ck_model.specs.Sections.{HasAll, Section}
 use Rattle.ck_stripe.specs.Stripes.{contents_of}
 use Rattle.ck_core.specs.declared.view.RoomNote.{RoomNote}
-use Rattle.ck_core.specs.State.{client_of}
+use Rattle.ck_core.specs.State.{client_of, found_held}
 use Rattle.ck_words.specs.Words.{WordsState}
 use Rattle.ck_words.specs.Passes.{PassState, IsPassOf, IsIdle}
 use Rattle.ck_words.specs.Retries.{WatchesMore, StaysBut, as_doubled}
@@ -38,7 +38,7 @@ module _ {V : Type 0} where
   pub record IsAnsweredBut (more : List (RoomNote V)) (call : Call V) (reply : Reply V) (p q : PassState V) : Type 0 where
     pub replied : Replied call reply (client_of p.view) (client_of q.view)
     pub watched : WatchesMore p.view q.view
-    pub stays : StaysBut more (record p.view { seen = q.view.seen; mine = q.view.mine; watched = q.view.watched }) q.view
+    pub stays : StaysBut more (record p.view { seen = q.view.seen; mine = q.view.mine; watched = q.view.watched; steps = q.view.steps }) q.view
 
   -- and it has noted so of none
   abbrev pub IsAnswered : Call V → Reply V → PassState V → PassState V → Type 0
@@ -56,5 +56,5 @@ module _ {V : Type 0} where
     pub follows : (reply : Reply V) → HasDone hash w.settings call reply p → HasAll (layout_of hash w.settings) p.view.held → FollowsSeen call reply p q
     pub by : q.view.by ≡ p.view.by
     pub others : q.view.others ≡ p.view.others
-    pub found : q.view.found ≡ p.view.found
+    pub found : found_held q.view ≡ found_held p.view
     pub doubled : IsDoubledBy p q

@@ -6,6 +6,7 @@ use Rattle.ck_model.specs.declared.contents.Content.{Content}
 use Rattle.ck_stripe.specs.Stripe.{StripeState}
 use Rattle.ck_stripe.specs.Stripes.{contents_of, HaveNoSpare}
 use Rattle.ck_stripe.specs.Tables.{power_in}
+use Rattle.ck_core.specs.State.{found_held}
 use Rattle.ck_core.specs.Steps.{growing}
 use Rattle.ck_words.specs.Words.{WordsState}
 use Rattle.ck_words.specs.Passes.{PassState, EachOf, IsPassOf, IsIdle, IsUnchanged, ShowsSeen, numbers_of}
@@ -72,7 +73,7 @@ module _ {V : Type 0} where
     pub own : IsPassOf w q
     pub idle : IsIdle q
     pub stays : Stays p.view q.view
-    pub found : q.view.found ≡ p.view.found
+    pub found : found_held q.view ≡ found_held p.view
     pub seen : q.view.seen ≡ p.view.seen
 
   -- each of the stripes has this power

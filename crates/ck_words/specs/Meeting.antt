@@ -41,7 +41,7 @@ module _ {V : Type 0} where
     pub mine : new.view.mine ≡ b.view.mine
     pub others : new.view.others ≡ b.view.others
     pub doublings : new.view.doublings ≡ b.view.doublings
-    pub found : new.view.found ≡ b.view.found
+    pub steps : new.view.steps ≡ b.view.steps
     pub grown_from : new.view.grown_from ≡ b.view.grown_from
     pub no_slot : new.view.no_slot ≡ b.view.no_slot
     pub held : new.view.held ≡ b.view.held

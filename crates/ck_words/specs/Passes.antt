@@ -9,6 +9,7 @@ use Rattle.ck_model.specs.Contents.{layout_of, Stripes}
 use Rattle.ck_stripe.specs.Stripe.{StripeState}
 use Rattle.ck_stripe.specs.Stripes.{contents_of, HaveNoSpare}
 use Rattle.ck_core.specs.declared.view.View.{View}
+use Rattle.ck_core.specs.State.{found_held}
 use Rattle.ck_core.specs.Steps.{Label, IsAbove}
 use Rattle.ck_core.specs.Steps.Label.{Take, FindHeld, Look}
 use Rattle.ck_core.specs.Laws.{Shows, HasWatched}
@@ -77,11 +78,11 @@ module _ {V : Type 0} where
 
   -- A pass of this table, of a caller. The only caller has found no stripe held. It was told a power that the table may have.
   abbrev pub IsPassIn : WordsState → PassState V → Type 0
-  IsPassIn w p = (p.table ≡ w.table) × (p.view.settings ≡ w.settings) × (p.view.by ≢ None) × (w.settings.callers ≡ 1 → p.view.found ≡ []) × (w.settings.power ≤ p.view.told) × (p.view.told ≤ w.settings.max)
+  IsPassIn w p = (p.table ≡ w.table) × (p.view.settings ≡ w.settings) × (p.view.by ≢ None) × (w.settings.callers ≡ 1 → found_held p.view ≡ []) × (w.settings.power ≤ p.view.told) × (p.view.told ≤ w.settings.max)
 
-  -- and its caller has watched a legal trace, in which it missed what it found held
+  -- and its caller has watched a legal trace, in which it missed what it found held by its own steps
   abbrev pub IsPassOf : WordsState → PassState V → Type 0
-  IsPassOf w p = (p.table ≡ w.table) × (p.view.settings ≡ w.settings) × (p.view.by ≢ None) × (w.settings.callers ≡ 1 → p.view.found ≡ []) × (w.settings.power ≤ p.view.told) × (p.view.told ≤ w.settings.max) × HasWatched p.view
+  IsPassOf w p = (p.table ≡ w.table) × (p.view.settings ≡ w.settings) × (p.view.by ≢ None) × (w.settings.callers ≡ 1 → found_held p.view ≡ []) × (w.settings.power ≤ p.view.told) × (p.view.told ≤ w.settings.max) × HasWatched p.view
 
   -- the stripes contain what the view tells of them
   abbrev pub IsUnchanged : PassState V → Type 0

@@ -6,6 +6,7 @@ use Rattle.ck_model.specs.Promise.{Name}
 use Rattle.ck_model.specs.Contents.{layout_of, Lawful}
 use Rattle.ck_model.specs.Sections.{IdentitySection}
 use Rattle.ck_stripe.specs.Stripes.{contents_of}
+use Rattle.ck_core.specs.State.{found_held}
 use Rattle.ck_core.specs.Steps.{noted}
 use Rattle.ck_words.specs.Words.{WordsState}
 use Rattle.ck_words.specs.Passes.{PassState, IsPassOf, IsIdle}
@@ -20,5 +21,5 @@ pub record HasRefused {V : Type 0} (w : WordsState) (q : Name) (why : Reason) (p
   pub own : IsPassOf w p2
   pub idle : IsIdle p2
   pub stays : StaysBut (noted q why (contents_of p.stripes) ∷ []) p.view p2.view
-  pub found : p2.view.found ≡ p.view.found
+  pub found : found_held p2.view ≡ found_held p.view
   pub seen : p2.view.seen ≡ p.view.seen

@@ -6,29 +6,37 @@ use Rattle.ck_model.specs.Numbered.{IsIn}
 use Rattle.ck_core.specs.declared.trace.LockEvent.{LockEvent}
 use Rattle.ck_core.specs.declared.view.RoomNote.{RoomNote}
 use Rattle.ck_core.specs.declared.view.View.{View}
-use Rattle.ck_core.specs.Trace.{IsLegalTrace, decides, misses}
+use Rattle.ck_core.specs.declared.trace.LockStep.TheVariants.{Missed}
+use Rattle.ck_core.specs.Trace.{IsLegalTrace, decided_in, steps_of, missed_in}
+use Rattle.ck_core.specs.State.{found_held}
+use Rattle.ck_core.specs.Steps.{event}
 use Rattle.ck_words.specs.Passes.{PassState, TakesStripe, IsIdle}
 
 module _ {V : Type 0} where
-  -- none of these steps decided a call of the view's caller
-  abbrev pub DecidesNone : View V → List (LockEvent V) → Type 0
-  DecidesNone v events = (m : ℕ) → v.by ≡ Some m → decides m events ≡ []
-
-  -- From v to w the caller watched these steps more. By its own steps among them it decided the entries that it has more.
+  -- From v to w the caller watched these steps more. Its own among them are those that it made, and by them it decided the entries that it has more.
   abbrev pub WatchesMore : View V → View V → Type 0
-  WatchesMore v w = (events : List (LockEvent V)) × (w.watched ≡ v.watched ++ events) × ((m : ℕ) → v.by ≡ Some m → w.mine ≡ v.mine ++ decides m events)
+  WatchesMore v w = (events : List (LockEvent V)) × (w.watched ≡ v.watched ++ events)
+      × ((m : ℕ) → v.by ≡ Some m → (w.steps ≡ v.steps ++ steps_of m events) × (w.mine ≡ v.mine ++ decided_in (steps_of m events)))
+
+  -- n misses of the stripe t by the view's caller
+  abbrev pub misses : ℕ → ℕ → View V → List (LockEvent V)
+  misses n t v = replicate n (event v.by Missed t)
+
+  -- these were its steps among the events
+  abbrev pub MissesAlone : ℕ → ℕ → View V → List (LockEvent V) → Type 0
+  MissesAlone n t v events = (m : ℕ) → v.by ≡ Some m → steps_of m events ≡ misses n t v
 
   -- the pass after it found the stripe t held n times more, by which it watched these steps more
   abbrev pub found_again : ℕ → ℕ → List (LockEvent V) → PassState V → PassState V
-  found_again n t events p = record p { view = record p.view { found = replicate n t ++ p.view.found; watched = p.view.watched ++ events } }
+  found_again n t events p = record p { view = record p.view { watched = p.view.watched ++ events; steps = p.view.steps ++ misses n t p.view } }
 
   -- q is p after that
   abbrev pub FindsAgain : ℕ → ℕ → PassState V → PassState V → Type 0
-  FindsAgain n t p q = (events : List (LockEvent V)) × (q ≡ found_again n t events p) × DecidesNone p.view events
+  FindsAgain n t p q = (events : List (LockEvent V)) × (q ≡ found_again n t events p) × MissesAlone n t p.view events
 
   -- the stripe t was taken within so many tries, after the others found it held
   abbrev pub TakesWithin : (Name → ℕ) → Settings → ℕ → ℕ → PassState V → PassState V → Type 0
-  TakesWithin hash set turns t p q = (n : ℕ) × (n < turns) × (events : List (LockEvent V)) × TakesStripe hash set t (found_again n t events p) q × DecidesNone p.view events
+  TakesWithin hash set turns t p q = (n : ℕ) × (n < turns) × (events : List (LockEvent V)) × TakesStripe hash set t (found_again n t events p) q × MissesAlone n t p.view events
 
   -- What no step changes but one that decides, doubles or meets: the caller's entries, its doublings and what it heard, and it has seen and was told no less. What it sees more is by others, so that the only caller sees nothing more.
   -- It has noted more that names found no room.
@@ -57,16 +65,16 @@ module _ {V : Type 0} where
 
   -- Of all stripes, the pass found such ones held.
   abbrev pub FindsAmong : (ℕ → Type 0) → PassState V → PassState V → Type 0
-  FindsAmong P p q = (more : List ℕ) × (q.view.found ≡ more ++ p.view.found) × ((t : ℕ) → IsIn t more → P t)
+  FindsAmong P p q = (more : List ℕ) × (found_held q.view ≡ more ++ found_held p.view) × ((t : ℕ) → IsIn t more → P t)
 
   -- Its last tries all found the stripe t held.
   abbrev pub FindsLast : ℕ → ℕ → PassState V → PassState V → Type 0
-  FindsLast turns t p q = (before : List ℕ) × (q.view.found ≡ replicate turns t ++ before ++ p.view.found)
+  FindsLast turns t p q = (before : List ℕ) × (found_held q.view ≡ replicate turns t ++ before ++ found_held p.view)
 
   -- In the trace that the pass has watched, which is legal, the stripe that its caller missed at its last tries, so many, was t: at each of them another had taken t, and not given it back.
   pub record HasMissed (turns t : ℕ) (q : PassState V) : Type 0 where
     pub legal : IsLegalTrace q.view.watched
-    pub missed : (m : ℕ) → q.view.by ≡ Some m → (before : List ℕ) × (misses m q.view.watched ≡ replicate turns t ++ before)
+    pub missed : (m : ℕ) → q.view.by ≡ Some m → (before : List ℕ) × (missed_in (steps_of m q.view.watched) ≡ replicate turns t ++ before)
 
   -- The pass holds no stripe. Its last tries all found the stripe t held, and its caller isn't the only one.
   abbrev pub IsBusy : Settings → ℕ → PassState V → PassState V → Type 0

@@ -2,6 +2,7 @@ use Rattle.std.proofs.Common.{ap, sym, subst, ◌∙◌}
 use Rattle.ck_model.specs.Contents.{layout_of}
 use Rattle.ck_core.specs.declared.view.View.{View}
 use Rattle.ck_core.specs.Laws.{Shows}
+use Rattle.ck_core.specs.State.{found_held}
 use Rattle.ck_words.specs.Retries.{Stays}
 use Rattle.ck_words.proofs.words.Words.lock.Goals as goal
 
@@ -22,4 +23,4 @@ returns-clause-shows g c =
     subst (λ (v : View g.row.V.Denot). Shows (layout_of g.K.TableKey.hash c.args.self.now.settings) c.args.self.now.settings.callers v.seen v) (sym c.settle_taken.ensures.view) (c.in_default.ensures.taken.shows c.args.set.some)
 
 pub returns-clause-found : goal.returns-clause-found
-returns-clause-found g c = let f = c.in_default.ensures.taken.found in (f.0, ap (λ v. v.found) c.settle_taken.ensures.view ∙ f.1, f.2)
+returns-clause-found g c = let f = c.in_default.ensures.taken.found in (f.0, ap found_held c.settle_taken.ensures.view ∙ f.1, f.2)

@@ -1,7 +1,8 @@
 use Rattle.std.proofs.Common.{◌≡◌, ◌∙◌, ◌++◌, [], ap, append-nil, replicate, sym, refl, subst}
 use Rattle.ck_words.specs.Passes.{PassState}
 use Rattle.ck_words.specs.Retries.{Stays}
-use Rattle.ck_words.proofs.Staying.{stays_finding, among_held}
+use Rattle.ck_core.specs.State.{found_held}
+use Rattle.ck_words.proofs.Staying.{stays_finding, found_times, among_held}
 use Rattle.ck_words.proofs.Taking.{found_by_two, has_missed}
 use Rattle.ck_words.proofs.Telling.{stays_home, found_home, told_there}
 use Rattle.ck_words.proofs.words.Words.power.Goals as goal
@@ -22,13 +23,13 @@ returns-then-not-try_take-clause-busy g c =
     let z = c.try_take.new.pass in
     let turns = c.args.self.now.settings.turns in
     let again = c.if-not-try_take.ensures.tries in
-    let found = ap (λ (q : PassState g.row.V.Denot). q.view.found) again.1 in (
+    let found = ap (λ (q : PassState g.row.V.Denot). found_held q.view) again.1 ∙ found_times turns 0 again.0 p in (
       refl,
       (
         (ap (λ (q : PassState g.row.V.Denot). q.stripes) again.1 ∙ c.requires.idle.0, ap (λ (q : PassState g.row.V.Denot). q.view.held) again.1 ∙ c.requires.idle.1),
-        ([], found ∙ ap (λ l. l ++ p.view.found) (sym (append-nil (replicate turns 0)))),
-        found_by_two c.args.self.now turns 0 z p.view.found c.show_range.ensures.turns c.try_take.ensures.own found,
-        has_missed c.args.self.now turns 0 z p.view.found c.try_take.ensures.own found,
+        ([], found ∙ ap (λ l. l ++ found_held p.view) (sym (append-nil (replicate turns 0)))),
+        found_by_two c.args.self.now turns 0 z (found_held p.view) c.show_range.ensures.turns c.try_take.ensures.own found,
+        has_missed c.args.self.now turns 0 z (found_held p.view) c.try_take.ensures.own found,
       ),
     )
 
