@@ -11,7 +11,7 @@ use Rattle.ck_model.specs.Contents.{Stripes}
 use Rattle.ck_core.specs.State.{Configuration, Places}
 use Rattle.ck_core.specs.declared.trace.LockStep.{LockStep}
 use Rattle.ck_core.specs.declared.trace.LockEvent.{LockEvent}
-use Rattle.ck_core.specs.Steps.{traced, stepping, sent_home, split_as}
+use Rattle.ck_core.specs.Steps.{stepping, sent_home, split_as}
 use Rattle.ck_core.proofs.Lists.{set_here, set_else, set_there, each_set, each_snoc, at_longer}
 use Rattle.ck_model.proofs.Numbered.{if_same, if_else, in_held, held_of_in, in_without, kept_without, distinct_without}
 

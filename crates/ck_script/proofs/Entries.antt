@@ -11,7 +11,7 @@ use Rattle.ck_model.specs.Contents.{layout_of, Stripes, bindings}
 use Rattle.ck_model.specs.Paths.{Grounds}
 use Rattle.ck_model.proofs.Histories.{starts_itself}
 use Rattle.ck_core.specs.declared.trace.LockEvent.{LockEvent}
-use Rattle.ck_core.specs.Trace.{decides}
+use Rattle.ck_core.specs.Trace.{decided_in, steps_of}
 use Rattle.ck_words.specs.Words.{WordsState}
 use Rattle.ck_words.specs.Passes.{PassState}
 use Rattle.ck_words.specs.Closing.{IsCaller}
@@ -36,14 +36,14 @@ use Rattle.ck_script.proofs.Watched.{misses_if_busy}
 abbrev StaysOrDecides : (n by : ℕ) → Command Name → Answer Pairs → List (LockEvent ℕ) → List (Entry ℕ) → List (Entry ℕ) → Type 0
 StaysOrDecides n by c a steps old new =
     (IsRefusal n c a × (new ≡ old))
-    ⊎ ((e : Entry ℕ) × (e.by ≡ by) × (decides by steps ≡ e ∷ []) × IsLeft n c a e × (new ≡ old ++ e ∷ []))
+    ⊎ ((e : Entry ℕ) × (e.by ≡ by) × (decided_in (steps_of by steps) ≡ e ∷ []) × IsLeft n c a e × (new ≡ old ++ e ∷ []))
 
 -- where these steps decided what the caller has more
-decides_more : (n by : ℕ) (c : Command Name) (a : Answer Pairs) (steps : List (LockEvent ℕ)) (old new : List (Entry ℕ)) → StaysOrGrows n by c a old new → new ≡ old ++ decides by steps → StaysOrDecides n by c a steps old new
+decides_more : (n by : ℕ) (c : Command Name) (a : Answer Pairs) (steps : List (LockEvent ℕ)) (old new : List (Entry ℕ)) → StaysOrGrows n by c a old new → new ≡ old ++ decided_in (steps_of by steps) → StaysOrDecides n by c a steps old new
 decides_more n by c a steps old new grows decided =
     elim grows [
       | inl h ↦ inl h
-      | inr h ↦ inr (h.0, h.1, append_cancel_left old (decides by steps) (h.0 ∷ []) (sym decided ∙ h.3), h.2, h.3)
+      | inr h ↦ inr (h.0, h.1, append_cancel_left old (decided_in (steps_of by steps)) (h.0 ∷ []) (sym decided ∙ h.3), h.2, h.3)
     ]
 
 module _ (hash : Name → ℕ) (set : Settings) (log : List (Entry ℕ)) (n by : ℕ) where
@@ -126,8 +126,8 @@ left_by_one {K} hash name w by commands command answers items answer p q before 
     let cs = map (on_names name) commands in
     let told = answers_on_names name answers in
     let more = now.watched in
-    let grows = decides_more set.callers by c a more.0 p.view.mine q.view.mine (now.entries by number) (more.2 by number) in
-    let misses = misses_if_busy set.turns by c a (caller_of w p) (caller_of w q) more now.busy (before.own.6.missed by number) (after.own.6.missed by (now.same.by ∙ number)) in
+    let grows = decides_more set.callers by c a more.0 p.view.mine q.view.mine (now.entries by number) (more.2 by number).1 in
+    let misses = misses_if_busy set.turns by c a (caller_of w p) (caller_of w q) more now.busy (more.2 by number).0 in
     subst (λ (l : List (LockEvent ℕ)). HaveLeft hash set q.view.seen set.callers by [] l (map (on_names name) (commands ++ command ∷ [])) (answers_on_names name items) q.view.mine) (sym more.1)
     (subst (λ (xs : List (Command Name)). HaveLeft hash set q.view.seen set.callers by [] (p.view.watched ++ more.0) xs (answers_on_names name items) q.view.mine) (sym (map-append (on_names name) commands (command ∷ [])))
     (subst (λ (xs : List (Answer Pairs)). HaveLeft hash set q.view.seen set.callers by [] (p.view.watched ++ more.0) (cs ++ c ∷ []) xs q.view.mine) (sym (ap (answers_on_names name) pushed ∙ map-append (answer_on_names name) answers (answer ∷ [])))

@@ -6,7 +6,7 @@ use Rattle.ck_model.specs.declared.history.Entry.{Entry}
 use Rattle.ck_model.specs.declared.settings.Settings.{Settings}
 use Rattle.ck_model.specs.Promise.{Name, Client, StartsWith, subhistory}
 use Rattle.ck_core.specs.declared.trace.LockEvent.{LockEvent}
-use Rattle.ck_core.specs.Trace.{decides}
+use Rattle.ck_core.specs.Trace.{decided_in, steps_of}
 use Rattle.ck_words.specs.Retries.{WatchesMore, FindsLast}
 use Rattle.cuckoo_map.specs.Callers.{CallerState, pass_of, IsSameCaller}
 use Rattle.cuckoo_map.specs.Refusals.{HasNoted}
@@ -102,5 +102,5 @@ module _ (hash : Name → ℕ) (set : Settings) (log : List (Entry ℕ)) where
   HaveLeft n by done steps (c ∷ cs) (a ∷ answers) es =
       (own : List (LockEvent ℕ)) × (rest : List (LockEvent ℕ)) × (steps ≡ own ++ rest) × MissesIfBusy set.turns by c a own × HasGrounds hash set log by done c a
       × ((IsRefusal n c a × HaveLeft n by done rest cs answers es)
-      ⊎ ((e : Entry ℕ) × (more : List (Entry ℕ)) × (es ≡ e ∷ more) × (e.by ≡ by) × (decides by own ≡ e ∷ []) × IsLeft n c a e × HaveLeft n by (done ++ e ∷ []) rest cs answers more))
+      ⊎ ((e : Entry ℕ) × (more : List (Entry ℕ)) × (es ≡ e ∷ more) × (e.by ≡ by) × (decided_in (steps_of by own) ≡ e ∷ []) × IsLeft n c a e × HaveLeft n by (done ++ e ∷ []) rest cs answers more))
   HaveLeft n by done steps cs answers es = ⊥

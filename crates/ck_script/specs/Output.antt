@@ -14,7 +14,7 @@ use Rattle.ck_model.specs.Promise.{Name, After, StartsWith, subhistory, IsInterl
 use Rattle.ck_model.specs.Contents.{layout_of, Stripes, bindings}
 use Rattle.ck_model.specs.Paths.{Grounds}
 use Rattle.ck_core.specs.declared.trace.LockEvent.{LockEvent}
-use Rattle.ck_core.specs.Trace.{IsLegalTrace, decided_in, decides, misses}
+use Rattle.ck_core.specs.Trace.{IsLegalTrace, decided_in, steps_of, missed_in}
 use Rattle.ck_words.specs.Closing.{AreContentsOf}
 use Rattle.ck_format.specs.declared.script.Command.{Command}
 use Rattle.ck_format.specs.declared.script.Command.TheVariants as command
@@ -111,7 +111,7 @@ StandAmong (e ∷ es) (x ∷ l) = ((e ≡ x) × StandAmong es l) ⊎ StandAmong 
 
 -- By these steps the caller missed stripes, and its last misses, so many, were all of this one.
 abbrev pub MissesOne : (turns by : ℕ) → List (LockEvent ℕ) → Type 0
-MissesOne turns by steps = (t : ℕ) × (before : List ℕ) × (misses by steps ≡ replicate turns t ++ before)
+MissesOne turns by steps = (t : ℕ) × (before : List ℕ) × (missed_in (steps_of by steps) ≡ replicate turns t ++ before)
 
 -- where the answer is busy, but for a move from a key to itself, the caller missed one stripe so often
 abbrev pub MissesIfBusy : (turns by : ℕ) → Command Name → Answer Pairs → List (LockEvent ℕ) → Type 0
@@ -148,7 +148,7 @@ module _ (hash : Name → ℕ) (set : Settings) (log : List (Entry ℕ)) where
   AreEntriesOf n by done steps (c ∷ cs) (a ∷ answers) es =
       (own : List (LockEvent ℕ)) × (rest : List (LockEvent ℕ)) × (steps ≡ own ++ rest)
       × ((IsRefusal n c a × MissesIfBusy set.turns by c a own × HasGrounds by done c a × AreEntriesOf n by done rest cs answers es)
-      ⊎ ((e : Entry ℕ) × (more : List (Entry ℕ)) × (es ≡ e ∷ more) × (e.by ≡ by) × (decides by own ≡ e ∷ []) × StandsFor c a e.call e.reply × AreEntriesOf n by (done ++ e ∷ []) rest cs answers more))
+      ⊎ ((e : Entry ℕ) × (more : List (Entry ℕ)) × (es ≡ e ∷ more) × (e.by ≡ by) × (decided_in (steps_of by own) ≡ e ∷ []) × StandsFor c a e.call e.reply × AreEntriesOf n by (done ++ e ∷ []) rest cs answers more))
   AreEntriesOf n by done steps cs answers es = ⊥
 
   -- the same of each worker, of which the first has the number by

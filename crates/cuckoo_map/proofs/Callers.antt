@@ -70,7 +70,7 @@ module _ {V : Type 0} where
       by = by ∙ ap (λ (x : CallerState V). x.client.by) is;
     }
 
-    pub keeps_notes : {more : List (RoomNote V)} {n : ℕ} {hs : List (Stripes V)} → StaysBut more (record p.view { seen = q.view.seen; mine = q.view.mine; watched = q.view.watched; doublings = n; grown_from = hs }) q.view → WatchesMore p.view q.view → KeepsNotesBut more c (caller_of w q)
+    pub keeps_notes : {more : List (RoomNote V)} {n : ℕ} {hs : List (Stripes V)} → StaysBut more (record p.view { seen = q.view.seen; mine = q.view.mine; watched = q.view.watched; steps = q.view.steps; doublings = n; grown_from = hs }) q.view → WatchesMore p.view q.view → KeepsNotesBut more c (caller_of w q)
     keeps_notes {more} s watched = record {
       settings = s.settings ∙ ap (λ (x : CallerState V). x.client.settings) is;
       told = subst (λ (x : CallerState V). x.notes.told ≤ q.view.told) is s.told;

@@ -72,7 +72,7 @@ module _ {V : Type 0} where
   -- the call was answered after the stripes were taken
   pub answered_since : (more : List (RoomNote V)) (p p1 p2 z : PassState V) → StaysBut more p.view p1.view → p2.view ≡ p1.view → (call : Call V) (reply : Reply V) → IsAnswered call reply (as_doubled p2 z) z → IsAnsweredBut more call reply (as_doubled p z) z
   answered_since more p p1 p2 z s same call reply a =
-      let later : View V → View V = λ v. record v { seen = z.view.seen; mine = z.view.mine; watched = z.view.watched; doublings = z.view.doublings; grown_from = z.view.grown_from } in
+      let later : View V → View V = λ v. record v { seen = z.view.seen; mine = z.view.mine; watched = z.view.watched; steps = z.view.steps; doublings = z.view.doublings; grown_from = z.view.grown_from } in
       let rest : StaysBut [] (later p1.view) z.view = subst (λ (v : View V). StaysBut [] (later v) z.view) same a.stays in
       record {
         replied = replied_since s call reply (client_of z.view) (subst (λ (v : View V). Replied call reply (client_of v) (client_of z.view)) same a.replied);
@@ -87,7 +87,7 @@ module _ {V : Type 0} where
           seen = ([], sym (append-nil z.view.seen));
           by_others = λ n e. refl;
           alone = λ _. refl;
-          watched = ([], sym (append-nil z.view.watched), λ n e. sym (append-nil z.view.mine));
+          watched = ([], sym (append-nil z.view.watched), λ n e. (sym (append-nil z.view.steps), sym (append-nil z.view.mine)));
           told = (let a = s.told in let b = rest.told in omega arith);
           doublings = refl;
           grown_from = refl;

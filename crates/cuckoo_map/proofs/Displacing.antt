@@ -7,6 +7,7 @@ use Rattle.ck_stripe.specs.Stripes.{contents_of}
 use Rattle.ck_section.specs.Hops.{IsNoCall}
 use Rattle.ck_core.specs.declared.view.RoomNote.{RoomNote}
 use Rattle.ck_core.specs.declared.view.View.{View}
+use Rattle.ck_core.specs.State.{found_held}
 use Rattle.ck_words.specs.Words.{WordsState}
 use Rattle.ck_words.specs.Passes.{PassState, IsPassOf, IsIdle, IsUnchanged}
 use Rattle.ck_words.specs.Retries.{Stays, FindsAmong}
@@ -21,7 +22,7 @@ found_before xs ys zs l = sym (append_assoc (xs ++ ys) zs l) ∙ ap (λ m. m ++ 
 
 module _ {V : Type 0} where
   pub any_on : (p q r : PassState V) → FindsAny p q → FindsAny q r → FindsAny p r
-  any_on p q r f g = (g.0 ++ f.0, g.1 ∙ (ap (λ l. g.0 ++ l) f.1 ∙ sym (append_assoc g.0 f.0 p.view.found)))
+  any_on p q r f g = (g.0 ++ f.0, g.1 ∙ (ap (λ l. g.0 ++ l) f.1 ∙ sym (append_assoc g.0 f.0 (found_held p.view))))
 
   pub any_among : (P : ℕ → Type 0) (p q : PassState V) → FindsAmong P p q → FindsAny p q
   any_among P p q f = (f.0, f.1)
@@ -42,7 +43,7 @@ module _ {V : Type 0} where
       stripe = busy.stripe;
       tried = (
         busy.tried.0 ++ f.found.0,
-        busy.tried.1 ∙ (ap (λ l. (replicate w.settings.turns t ++ busy.tried.0) ++ l) f.found.1 ∙ found_before (replicate w.settings.turns t) busy.tried.0 f.found.0 p.view.found),
+        busy.tried.1 ∙ (ap (λ l. (replicate w.settings.turns t ++ busy.tried.0) ++ l) f.found.1 ∙ found_before (replicate w.settings.turns t) busy.tried.0 f.found.0 (found_held p.view)),
       );
       others = busy.others;
       missed = busy.missed;
@@ -54,7 +55,7 @@ module _ {V : Type 0} where
     own = subst (λ (x : WordsState). IsPassOf x z) is home.own;
     idle = home.idle;
     stays = stays_on p.view p1.view z.view stays (subst (λ (u : View V). Stays u z.view) same home.stays);
-    found = (f.0, home.found ∙ (ap (λ (u : View V). u.found) same ∙ f.1));
+    found = (f.0, home.found ∙ (ap found_held same ∙ f.1));
   }
 
   -- what a hop made of the stripes that were taken

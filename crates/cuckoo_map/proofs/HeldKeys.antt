@@ -23,6 +23,7 @@ use Rattle.ck_section.specs.RoomForAll.{KeepsOthers, HasRoomForAll, HaveRoomForA
 use Rattle.ck_section.proofs.Decided.{IsCallOn}
 use Rattle.ck_section.proofs.Kept.{no_spare_after, power_kept}
 use Rattle.ck_section.proofs.RoomForAll.{room_kept, room_found}
+use Rattle.ck_core.specs.State.{found_held}
 use Rattle.ck_words.specs.declared.stripe_set.StripeSet.{StripeSet}
 use Rattle.ck_words.specs.Words.{WordsState}
 use Rattle.ck_words.specs.Passes.{PassState, IsPassOf}
@@ -287,7 +288,7 @@ module _ {V : Type 0} where
     has_queried p p2 p3 z l h same found c a says = record {
       answered = (bound_to names p2, bound_to names p3, says, queried_keys p p2 p3 z l h same c);
       refused = tt;
-      found = (found.0, c.found ∙ (ap (λ (x : PassState V). x.view.found) same ∙ found.1), found.2);
+      found = (found.0, c.found ∙ (ap (λ (x : PassState V). found_held x.view) same ∙ found.1), found.2);
     }
 
     -- The session on the names was committed, where v is the table: the pass that held the keys was p3 before, and z behind it.

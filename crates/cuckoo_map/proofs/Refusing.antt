@@ -15,6 +15,7 @@ use Rattle.ck_section.proofs.Owned.{own_below}
 use Rattle.ck_core.specs.declared.view.RoomNote.{RoomNote}
 use Rattle.ck_core.specs.declared.view.View.{View}
 use Rattle.ck_core.specs.Steps.{noted}
+use Rattle.ck_core.specs.State.{found_held}
 use Rattle.ck_words.specs.Words.{WordsState}
 use Rattle.ck_words.specs.Passes.{PassState, IsPassOf, IsIdle}
 use Rattle.ck_words.specs.Retries.{Stays, StaysBut}
@@ -64,9 +65,9 @@ module _ {V : Type 0} where
   }
 
   -- what was found held is of the name, also where the pass has found no other since
-  pub found_own : (hash : Name → ℕ) (set : Settings) (q : Name) (p p1 z : PassState V) → FindsOwn hash set q p p1 → z.view.found ≡ p1.view.found → FindsOwnUnlessFull hash set q p z
+  pub found_own : (hash : Name → ℕ) (set : Settings) (q : Name) (p p1 z : PassState V) → FindsOwn hash set q p p1 → found_held z.view ≡ found_held p1.view → FindsOwnUnlessFull hash set q p z
   found_own hash set q p p1 z f same = (f.0, same ∙ f.1, (λ t i. inl (f.2 t i)))
 
   -- and where the pass was answered since, with no other said to be without room
-  pub found_since : (hash : Name → ℕ) (set : Settings) (q : Name) (p p1 z : PassState V) → FindsOwnUnlessFull hash set q p p1 → z.view.found ≡ p1.view.found → z.view.no_slot ≡ p1.view.no_slot → FindsOwnUnlessFull hash set q p z
+  pub found_since : (hash : Name → ℕ) (set : Settings) (q : Name) (p p1 z : PassState V) → FindsOwnUnlessFull hash set q p p1 → found_held z.view ≡ found_held p1.view → z.view.no_slot ≡ p1.view.no_slot → FindsOwnUnlessFull hash set q p z
   found_since hash set q p p1 z f same said = (f.0, same ∙ f.1, (λ t i. ⊎_elim inl (λ x. inr (x.0, x.1, said ∙ x.2, x.3)) (f.2 t i)))

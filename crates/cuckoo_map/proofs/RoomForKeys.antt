@@ -14,7 +14,7 @@ use Rattle.ck_words.specs.Retries.{StaysBut, as_doubled, FindsAmong}
 use Rattle.ck_words.specs.Holding.{HasReleased, IsDoubledBy}
 use Rattle.ck_words.specs.Renewing.{HasRenewed}
 use Rattle.ck_words.specs.Closing.{IsCaller}
-use Rattle.ck_words.proofs.Staying.{stays_same, stays_then, stays_on}
+use Rattle.ck_words.proofs.Staying.{stays_same, stays_then}
 use Rattle.ck_words.proofs.Renewals.{renewed_none}
 use Rattle.ck_core.specs.declared.view.RoomNote.{RoomNote}
 use Rattle.cuckoo_map.specs.declared.refusal.KeysRefused.{KeysRefused}

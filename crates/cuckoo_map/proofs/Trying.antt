@@ -9,6 +9,7 @@ use Rattle.ck_model.specs.Promise.{Name}
 use Rattle.ck_model.specs.Contents.{Stripes}
 use Rattle.ck_core.specs.declared.view.RoomNote.{RoomNote}
 use Rattle.ck_core.specs.Steps.{noted}
+use Rattle.ck_core.specs.State.{found_held}
 use Rattle.ck_words.specs.Words.{WordsState}
 use Rattle.ck_words.specs.Passes.{PassState, IsPassOf, IsIdle}
 use Rattle.ck_words.specs.Retries.{StaysBut, as_doubled}
@@ -127,7 +128,7 @@ module _ {V : Type 0} (q : Name) where
       shows_since : (why : Why) → ShowsWhy hash w.settings q why more r z → ShowsWhy hash w.settings q why said p z
       shows_since (Busy t) s =
           let last : List ℕ = replicate w.settings.turns t in
-          (s.0, (s.1.0 ++ any_since.0, s.1.1 ∙ (ap (λ l. (last ++ s.1.0) ++ l) any_since.1 ∙ found_before last s.1.0 any_since.0 p.view.found)), s.2, s.3 ∙ stays_until.doublings, s.4)
+          (s.0, (s.1.0 ++ any_since.0, s.1.1 ∙ (ap (λ l. (last ++ s.1.0) ++ l) any_since.1 ∙ found_before last s.1.0 any_since.0 (found_held p.view))), s.2, s.3 ∙ stays_until.doublings, s.4)
       shows_since Memory s = grounds_since reason.Memory s
       shows_since Full s = grounds_since reason.Full s
       shows_since LoadTooLow s = grounds_since reason.LoadTooLow s

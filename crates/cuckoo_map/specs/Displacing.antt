@@ -3,6 +3,7 @@ use Rattle.std.specs.Prelude.{◌≡◌, ℕ, ◌^◌, ◌<◌, List, [], ◌++�
 use Rattle.ck_model.specs.declared.settings.Settings.{Settings}
 use Rattle.ck_model.specs.Promise.{Name}
 use Rattle.ck_core.specs.declared.view.RoomNote.{RoomNote}
+use Rattle.ck_core.specs.State.{found_held}
 use Rattle.ck_words.specs.Words.{WordsState}
 use Rattle.ck_words.specs.Passes.{PassState, IsPassOf, IsIdle}
 use Rattle.ck_words.specs.Retries.{StaysBut}
@@ -13,7 +14,7 @@ use Rattle.cuckoo_map.specs.Insertions.{HasFoundNoRoom}
 module _ {V : Type 0} where
   -- the pass may have found any stripe held
   abbrev pub FindsAny : PassState V → PassState V → Type 0
-  FindsAny p p2 = (more : List ℕ) × (p2.view.found ≡ more ++ p.view.found)
+  FindsAny p p2 = (more : List ℕ) × (found_held p2.view ≡ more ++ found_held p.view)
 
   -- The pass holds no stripe and has no entry more. It may have found any stripe held.
   -- It has noted more that names found no room.

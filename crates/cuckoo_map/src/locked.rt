@@ -8,7 +8,8 @@ ghost use Rattle.ck_model.specs.Listing.{ListsInOrder};
 ghost use Rattle.ck_model.specs.Ranges.{AreInRange};
 ghost use Rattle.ck_bucket.specs.Bucket.{ClonesAreEqual};
 ghost use Rattle.ck_section.specs.Places.{IsPlaceOf};
-ghost use Rattle.ck_core.specs.State.{client_of};
+ghost use Rattle.ck_core.specs.State.{client_of, found_held};
+ghost use Rattle.ck_core.specs.Trace.{missed_in};
 ghost use Rattle.ck_words.specs.Retries.{FindsAmong};
 ghost use Rattle.ck_words.specs.Closing.{IsCaller};
 ghost use Rattle.cuckoo_map.specs.Refusals.{IsStripeIn, IsBusyAmong};
@@ -173,7 +174,7 @@ impl<T: TableRef<K, V> + Drop, K: TableKey + Drop, V: Drop> LockedOn<T, K, V> {
             self.caller.client (client_of result.view) }
         ensures follows { EndsSession self (client_of result.view) }
         ensures notes { EndsNotes self (caller_of self.caller.table result) }
-        ensures found { result.view.found ≡ self.caller.notes.found }
+        ensures found { found_held result.view ≡ missed_in self.caller.notes.steps }
     {
         self.unlock_caller().into_pass()
     }
@@ -192,7 +193,7 @@ impl<T: TableRef<K, V> + Drop, K: TableKey + Drop, V: Drop> LockedOn<T, K, V> {
             self.caller.client result.client }
         ensures follows { EndsSession self result.client }
         ensures notes { EndsNotes self result }
-        ensures found { result.notes.found ≡ self.caller.notes.found }
+        ensures found { missed_in result.notes.steps ≡ missed_in self.caller.notes.steps }
     {
         let LockedOn { table, whole } = self;
         let words = &table.table().words;

@@ -3,6 +3,7 @@ ghost use Rattle.std.specs.Prelude.{◌≡◌, ◌<◌, ◌≤◌, Bool, Some, N
 ghost use Rattle.std.specs.Fn.{FnOnceReturnsAt};
 ghost use Rattle.ck_model.specs.declared.history.Reply.TheVariants.{Closed};
 ghost use Rattle.ck_model.specs.Promise.{IsAmong, Replied};
+ghost use Rattle.ck_core.specs.Trace.{missed_in};
 ghost use Rattle.ck_section.specs.Acts.{Updates, Modifies, Changes, Erases, Inserts, Assigns, Upserts};
 ghost use Rattle.cuckoo_map.specs.Callers.{caller_of, pass_of, IsSameCaller, KeepsNotes, IsRefusedOn, FindsHeldAmong};
 ghost use Rattle.cuckoo_map.specs.Insertions.{TellsOf};
@@ -362,7 +363,7 @@ impl<T: TableRef<K, V> + Drop, K: TableKey + Drop, V: Drop, Q: Query<K>> LockedK
         ensures answered { Replied (keys_call self.entry) Closed
             self.entry.session.caller.client result.client }
         ensures notes { KeepsNotes self.entry.session.caller result }
-        ensures found { result.notes.found ≡ self.entry.session.caller.notes.found }
+        ensures found { missed_in result.notes.steps ≡ missed_in self.entry.session.caller.notes.steps }
     {
         let LockedKeysOn {
             table,

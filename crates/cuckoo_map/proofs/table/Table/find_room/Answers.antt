@@ -1,5 +1,6 @@
 use Rattle.std.proofs.Common.{rules, ◌≡◌, ◌∙◌, ap}
 use Rattle.ck_stripe.specs.Stripes.{contents_of}
+use Rattle.ck_core.specs.State.{found_held}
 use Rattle.cuckoo_map.proofs.Refusing.{told_since, excused}
 use Rattle.cuckoo_map.proofs.Rooms.{room_as_taken}
 use Rattle.cuckoo_map.proofs.table.Table.find_room.Goals as goal
@@ -15,7 +16,7 @@ returns-in-Some-clause-found g c =
     let z = c.find_entry.new.held.pass.now in
     let f = c.requires.found in
     let there : z ≡ c.in-Some.pass-1-own.given.0 = search rules in
-    rw (← there) (f.0, ap (λ x. x.found) (c.find_entry.ensures.stays.1) ∙ f.1, f.2)
+    rw (← there) (f.0, ap found_held (c.find_entry.ensures.stays.1) ∙ f.1, f.2)
 
 pub refuse_full-requires-clause-full : goal.refuse_full-requires-clause-full
 refuse_full-requires-clause-full g c =
@@ -26,7 +27,7 @@ returns-clause-found g c =
     let z = c.refuse_full.new.self.pass.now in
     let f = c.requires.found in
     let there : z ≡ c.pass-2-1.given.0 = search rules in
-    rw (← there) (f.0, c.refuse_full.ensures.refused.found ∙ (ap (λ x. x.found) (c.power-power.ensures.stays.1 ∙ c.find_entry.ensures.stays.1) ∙ f.1), f.2)
+    rw (← there) (f.0, c.refuse_full.ensures.refused.found ∙ (ap found_held (c.power-power.ensures.stays.1 ∙ c.find_entry.ensures.stays.1) ∙ f.1), f.2)
 
 pub returns-clause-full : goal.returns-clause-full
 returns-clause-full g c =

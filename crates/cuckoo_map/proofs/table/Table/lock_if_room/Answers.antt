@@ -1,7 +1,7 @@
 use Rattle.std.proofs.Common.{rules, ◌≡◌, ◌∙◌, ℕ, map, sym, ap, subst}
 use Rattle.ck_section.specs.Places.{HasBoth}
 use Rattle.ck_section.specs.RoomForAll.{HaveRoomForAll}
-use Rattle.ck_core.specs.declared.view.View.{View}
+use Rattle.ck_core.specs.State.{found_held}
 use Rattle.ck_words.specs.Passes.{PassState}
 use Rattle.cuckoo_map.specs.SeveralKeys.{HoldsNames}
 use Rattle.cuckoo_map.proofs.HeldKeys.{same_pass}
@@ -66,4 +66,4 @@ returns-then-has_room_for_all-clause-found g c =
     let z = c.has_room_for_all.new.held.pass.now in
     let f = c.lock_different.ensures.found in
     let there : z ≡ c.pass-1.given.0 = search rules in
-    rw (← there) (f.0, ap (λ (v : View g.row.V.Denot). v.found) c.has_room_for_all.ensures.stays.1 ∙ f.1, f.2)
+    rw (← there) (f.0, ap found_held c.has_room_for_all.ensures.stays.1 ∙ f.1, f.2)

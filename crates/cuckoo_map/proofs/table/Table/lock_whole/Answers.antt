@@ -1,5 +1,6 @@
 use Rattle.std.proofs.Common.{ap, sym, subst, ◌∙◌}
 use Rattle.ck_stripe.specs.Tables.{IsTable}
+use Rattle.ck_core.specs.State.{found_held}
 use Rattle.ck_words.specs.Words.{WordsState}
 use Rattle.ck_words.specs.Passes.{PassState, IsPassOf}
 use Rattle.ck_words.specs.Retries.{Stays}
@@ -21,5 +22,5 @@ returns-in-Ok-clause-locked g c =
     let table = subst (λ (w : WordsState). IsTable w.settings.s q.stripes) is e.table in
     subst (λ (p : PassState g.row.V.Denot). IsLocked hash c.args.self.now p × HasLocked c.args.self.now c.args.pass (locked_of c.args.self.now p)) (sym c.lift.ensures) (
       locked_by hash c.args.self.now c.args.pass q stays whole c.requires own table e.settled,
-      has_locked hash c.args.self.now c.args.pass q c.requires stays whole (h.found.0, ap (λ v. v.found) e.view ∙ h.found.1, h.found.2),
+      has_locked hash c.args.self.now c.args.pass q c.requires stays whole (h.found.0, ap found_held e.view ∙ h.found.1, h.found.2),
     )

@@ -4,7 +4,7 @@ use Rattle.ck_model.specs.Promise.{Name}
 use Rattle.ck_section.specs.Calls.{IsWithoutRoom}
 use Rattle.ck_section.specs.Places.{HasBoth}
 use Rattle.ck_section.proofs.Kept.{has_both}
-use Rattle.ck_core.specs.declared.view.View.{View}
+use Rattle.ck_core.specs.State.{found_held}
 use Rattle.ck_words.specs.declared.stripe_set.StripeSet.{StripeSet}
 use Rattle.ck_words.specs.Words.{WordsState}
 use Rattle.ck_words.specs.Answering.{HasDone, HasCommitted, session_on}
@@ -64,5 +64,5 @@ returns-clause-renamed g c =
     rw (← there) (record {
       answered = answered_in_all g.K.TableKey.hash c.args.self.now (name c.args.from.now) (name c.args.to) c.requires.different c.args.pass.now c.lock_all_with_room.new.pass c.in_default.ensures.held p2 e.stays.1 e.rest of c.in-Ok.renamed c.in-Ok.ensures.call c.in-Ok.ensures.same z committed;
       refused = tt;
-      found = (found.0, committed.found ∙ (ap (λ (v : View g.row.V.Denot). v.found) e.stays.1 ∙ found.1), found.2);
+      found = (found.0, committed.found ∙ (ap found_held e.stays.1 ∙ found.1), found.2);
     })

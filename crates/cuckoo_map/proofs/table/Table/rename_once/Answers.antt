@@ -6,6 +6,7 @@ use Rattle.ck_model.specs.Contents.{layout_of, bindings}
 use Rattle.ck_model.specs.Sections.{Owns}
 use Rattle.ck_model.specs.Paths.{HasNoRoom}
 use Rattle.ck_stripe.specs.Stripes.{contents_of}
+use Rattle.ck_core.specs.State.{found_held}
 use Rattle.ck_words.specs.Words.{WordsState}
 use Rattle.ck_words.specs.Passes.{PassState}
 use Rattle.ck_words.specs.Answering.{HasDone, HasCommitted, session_on}
@@ -69,5 +70,5 @@ returns-clause-renamed g c =
     rw (← there) (record {
       tried = (full.0, (hs, told_since (name c.args.to) hs p p2 p3 z c.in-Ok.ensures.held.stays view told, bound));
       refused = tt;
-      found = (found.0, r.found ∙ (ap (λ (x : PassState g.row.V.Denot). x.view.found) full.1 ∙ found.1), found.2);
+      found = (found.0, r.found ∙ (ap (λ (x : PassState g.row.V.Denot). found_held x.view) full.1 ∙ found.1), found.2);
     })

@@ -1,4 +1,4 @@
-use Rattle.std.proofs.Common.{Result, Ok, Err, ap, subst}
+use Rattle.std.proofs.Common.{Result, Ok, ap, subst}
 use Rattle.std.proofs.lemmas.Result.{err_from_is_err_and}
 use Rattle.ck_model.specs.Promise.{Name}
 use Rattle.ck_section.specs.declared.two_keys.Renamed.{Renamed}

@@ -2,6 +2,7 @@ use Rattle.std.proofs.Common.{rules, ◌≡◌, ℕ, List, ◌∙◌, ap, sym, s
 use Rattle.ck_stripe.specs.Stripe.{StripeState}
 use Rattle.ck_stripe.specs.Tables.{AreHeld}
 use Rattle.ck_section.specs.Places.{HasBoth}
+use Rattle.ck_core.specs.State.{found_held}
 use Rattle.ck_words.specs.Passes.{numbers_of}
 use Rattle.ck_words.specs.Words.{WordsState}
 use Rattle.ck_words.specs.StripeSets.{list_of}
@@ -37,4 +38,4 @@ pub returns-clause-found : goal.returns-clause-found
 returns-clause-found g c = λ p taken.
     let found = finds_such (list_of c.args.own.stripes) c.requires.key_stripes.exact p c.args.pass.now taken.found in
     let there : c.key_place-place.new.held.pass.now ≡ c.pass-1.given.0 = search rules in
-    rw (← there) (found.0, ap (λ v. v.found) (c.key_place-place.ensures.stays.1 ∙ c.settle_taken.ensures.view) ∙ found.1, found.2)
+    rw (← there) (found.0, ap found_held (c.key_place-place.ensures.stays.1 ∙ c.settle_taken.ensures.view) ∙ found.1, found.2)
