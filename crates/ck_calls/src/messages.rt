@@ -34,7 +34,9 @@ fn tell(first: &mut NumHandle, second: &mut NumHandle, line: &Line) -> [Answer; 
     let key = NumKey(line.numbers[0]);
     let bound = placed(first.insert(key, line.numbers[1]), Answer::New);
     first.meet(second);
-    second.hear(first.tell());
+    let mut message = first.tell();
+    second.hear_copy(&mut message);
+    second.hear(message);
     let again = placed(second.insert(key, line.numbers[2]), Answer::New);
     [bound, again, answered(second.find(&key), Answer::Value)]
 }

@@ -24,7 +24,7 @@ use Rattle.ck_core.specs.Steps.{Label, number_of, event, traced, stepping, taken
 use Rattle.ck_core.specs.Steps.Label.{Take, FindHeld, Give, Decide, GiveRest, Renew, Look, Open, Tell, Join}
 use Rattle.ck_core.proofs.Lists.{at_within, each_set, each_snoc, set_else}
 use Rattle.ck_core.proofs.Places.{places_keep, places_take, places_back, places_split}
-use Rattle.ck_core.proofs.Traces.{traces_take, traces_miss, traces_back, traces_keep, traces_split, traces_join, watches_as}
+use Rattle.ck_core.proofs.Traces.{traces_take, traces_miss, traces_back, traces_keep, traces_split, traces_join, watches_as, watches_all}
 use Rattle.ck_core.proofs.LegalTraces.{Returns, returns_gave, returns_decided, decided_same, decided_more}
 use Rattle.ck_core.proofs.Sees.{sees_none}
 use Rattle.ck_core.proofs.Callers.{none_subhistory, seen_starts, knows_all, knows_same, callers_set, callers_add, callers_split, callers_join}
@@ -132,9 +132,9 @@ module _ {V : Type 0} (k : Layout) (callers : ℕ) (log : List (Entry V)) (s : C
       by (suc zero) e h = let z = law.places.is_held t l e in inr (law.places.owner t, z.0, z.1, z.2)
       by (suc (suc b)) e h = absurd (omega arith)
 
-  pub look_keeps : (p : ℕ) → ((u : ℕ) (c : Content V) → IsPart s u c → p ≤ c.power) → HistoryInvariant k callers log (seen_as s id (record v { seen = log; told = p }))
-  look_keeps p h = let w : View V = record v { seen = log; told = p } in
-      seen_keeps w refl refl (λ _. refl) refl (knows_all callers log v w (law.callers_known.knows id v at) refl refl refl refl refl) (λ t l. (h t (law.contents t) (whole_is_part t l), (law.told id v at t l).1)) (watched_as w refl (λ m i. i) (law.traced.watched id v at).own (law.traced.watched id v at).heard)
+  pub look_keeps : (p : ℕ) → ((u : ℕ) (c : Content V) → IsPart s u c → p ≤ c.power) → HistoryInvariant k callers log (seen_as s id (record v { seen = log; told = p; watched = s.trace }))
+  look_keeps p h = let w : View V = record v { seen = log; told = p; watched = s.trace } in
+      seen_keeps w refl refl (λ _. refl) refl (knows_all callers log v w (law.callers_known.knows id v at) refl refl refl refl refl) (λ t l. (h t (law.contents t) (whole_is_part t l), (law.told id v at t l).1)) (watches_all s.trace v w (law.traced.watched id v at) refl refl refl refl)
 
   same_power : (w : ℕ → Content V) → Lawful k (whole k w) → (t u : ℕ) (c : Content V) → t < 2 ^ k.s → u < 2 ^ k.s → w t ≡ c → c.power ≤ (w u).power
   same_power w lawful t u c l m e = le_of_eq (ap (λ (x : Content V). x.power) (sym e) ∙ lawful.one_power t u (w t) (w u) (listed_at (2 ^ k.s) w t l) (listed_at (2 ^ k.s) w u m))

@@ -179,6 +179,17 @@ module _ {V : Type 0} where
     own = own;
   }
 
+  -- one that has watched all, else as another
+  pub watches_all : (trace : List (LockEvent V)) (v w : View V) → Watches trace v → w.watched ≡ trace → w.by ≡ v.by → w.steps ≡ v.steps → w.heard_watched ≡ v.heard_watched → Watches trace w
+  watches_all trace v w h all same steps heard = record {
+    sees = sees_all by_of (λ m. IsIn m (numbers (owned w))) trace w.watched all;
+    heard = (
+      h.heard.0 ++ h.sees.unseen,
+      all ∙ (h.sees.begins ∙ (ap (λ l. l ++ h.sees.unseen) h.heard.1 ∙ (append_assoc v.heard_watched h.heard.0 h.sees.unseen ∙ ap (λ l. l ++ (h.heard.0 ++ h.sees.unseen)) (sym heard)))),
+    );
+    own = λ m by. ap (steps_of m) (all ∙ h.sees.begins) ∙ (steps_same m v.watched h.sees.unseen (h.sees.by_others m (own_in v m (sym same ∙ by))) ∙ (h.own m (sym same ∙ by) ∙ sym steps));
+  }
+
   -- a view that takes in what another watched, and its numbers
   pub watches_both : (trace : List (LockEvent V)) (v w : View V) → Watches trace v → Watches trace w → ((m : ℕ) → IsIn m (numbers (owned (joining v w))) → IsIn m (numbers (owned v)) ⊎ IsIn m (numbers (owned w))) → Watches trace (joining v w)
   watches_both trace v w h g of_both =

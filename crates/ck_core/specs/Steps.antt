@@ -35,7 +35,7 @@ pub data Label (V : Type 0) : Type 0 where
   GiveRest : (t : ℕ) → Label V
   -- a store(0) with the new contents of an identity section
   Renew : (t : ℕ) → Stripes V → Option (Name × Reason) → Label V
-  -- a load; told may rise to p
+  -- a load by which history and trace are seen; told may rise to p
   Look : (t p : ℕ) → Label V
   -- a load by which a new caller gets a number that nobody has used
   Open : Label V
@@ -174,7 +174,7 @@ module _ {V : Type 0} where
   Transition k min_load log id (Renew t ks g) s s2 = (v : View V) × (c : Content V) × (get_elem? s.views id ≡ some v) × Holds ks t c × IdentitySection k v.held ks × HasGrounds k min_load ks g
       × (s2 ≡ sent_home Gave s id t c (renewing v t c ks g))
   Transition k min_load log id (Look t p) s s2 = (v : View V) × (get_elem? s.views id ≡ some v) × (t < 2 ^ k.s) × (v.told ≤ p) × ((u : ℕ) (c : Content V) → IsPart s u c → p ≤ c.power)
-      × (s2 ≡ seen_as s id (record v { seen = log; told = p }))
+      × (s2 ≡ seen_as s id (record v { seen = log; told = p; watched = s.trace }))
   Transition k min_load log id Open s s2 = (v : View V) × (m : ℕ) × (rest : List (ℕ × List (Entry V))) × (get_elem? s.views id ≡ some v) × (v.others ≡ (m, []) ∷ rest)
       × (s2 ≡ split_as s id (record v { others = rest }) (beginner v m))
   Transition k min_load log id Tell s s2 = (v : View V) × (get_elem? s.views id ≡ some v) × (s2 ≡ split_as s id v (message_of v))

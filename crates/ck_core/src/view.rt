@@ -24,7 +24,7 @@ pub struct View<V> {
     /// What the stripes contained each time that it did so, in rising order of their numbers. The
     /// last time stands first.
     pub grown_from: LinkedList<LinkedList<(u64, Content<V>)>>,
-    /// The trace up to the caller's last step on a lock word.
+    /// The trace up to the last step by which the caller saw it.
     pub watched: LinkedList<LockEvent<V>>,
     /// The caller's own steps on lock words.
     pub steps: LinkedList<LockEvent<V>>,

@@ -204,7 +204,7 @@ module _ (hash : Name → ℕ) (set : Settings) where
       pub look_allowed : (t : ℕ) → t < 2 ^ k.s → Allows (RuleOf hash set) slots id m (t * 8) (λ x. x) (λ _. SeatLooks hash set t m)
       look_allowed t l s r _ at _ =
           let p : ℕ = max m.0.told m.0.heard_told in
-          let w : View V = record m.0 { seen = r.0; told = p } in
+          let w : View V = record m.0 { seen = r.0; told = p; watched = r.1.trace } in
           let below = told_below k set.callers r.0 (world (2 ^ k.s) r.1.trace s) r.1.law id m.0 at in
           let kept = unmoved k set.callers r.0 s id (t * 8) (get_or s.words (t * 8) 0) w m.1 refl r.1 r.1.trace (look_keeps k set.callers r.0 (world (2 ^ k.s) r.1.trace s) r.1.law id m.0 at p below) in
           (w, keeps, tt, (r.0, kept), (refl, (p, omega arith, steps_from (Look t p) r.0 s id m.0 w (seen_as (world (2 ^ k.s) r.1.trace s) id w) r.1 at (m.0, at, l, omega arith, below, refl) refl)))

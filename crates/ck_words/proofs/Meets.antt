@@ -14,6 +14,7 @@ use Rattle.ck_words.specs.Passes.{PassState, LooksUp}
 use Rattle.ck_words.specs.Meeting.{Hears, told_by}
 use Rattle.ck_words.specs.Closing.{Gathers}
 use Rattle.ck_words.proofs.Rows.{shows_before, shows_after, look_row, look_told}
+use Rattle.ck_words.proofs.Staying.{starts_on}
 
 module _ {V : Type 0} where
   -- the longer of two begins with the first
@@ -29,10 +30,14 @@ module _ {V : Type 0} where
   -- and then looked
   module _ (hash : Name → ℕ) (w : WordsState) (b q : PassState V) (u : View V) (k : LooksUp hash w (heard b u) q) where
     abbrev looked : PassState V
-    looked = record { table = q.table; view = record (joining b.view u) { seen = k.1.2.log; told = k.1.0 }; stripes = b.stripes }
+    looked = record { table = q.table; view = record (joining b.view u) { seen = k.1.2.log; told = k.1.0; watched = k.1.2.before.trace }; stripes = b.stripes }
 
     is_looked : q ≡ looked
     is_looked = λ i. record { table = q.table; view = look_row hash w.settings (joining b.view u) q.view 0 k.1.0 k.1.2 i; stripes = k.0 i }
+
+    -- the trace begins with what was watched by then
+    saw : StartsWith k.1.2.before.trace (joining b.view u).watched
+    saw = let h = (k.1.2.law.traced.watched k.1.2.id (joining b.view u) k.1.2.was).sees in (h.unseen, h.begins)
 
     before : Shows (layout_of hash w.settings) w.settings.callers k.1.2.log (joining b.view u)
     before = shows_before hash w.settings (Look 0 k.1.0) (joining b.view u) q.view k.1.2
@@ -45,21 +50,23 @@ module _ {V : Type 0} where
     gathers b o is l =
         let k : LooksUp hash w (heard b o.view) q = subst (λ x. LooksUp hash w x q) is l in
         let early = before hash w b q o.view k in
+        let both = longer b.view.watched o.view.watched in
         subst (Gathers hash w.settings b o) (sym (is_looked hash w b q o.view k))
-        (record { by = refl; mine = refl; others = refl; held = refl; stripes = refl; seen = early.seen; heard = early.heard; watched = longer_first b.view.watched o.view.watched; heard_watched = early.heard_watched; shows = after hash w b q o.view k })
+        (record { by = refl; mine = refl; others = refl; held = refl; stripes = refl; seen = early.seen; heard = early.heard; watched = starts_on b.view.watched both k.1.2.before.trace (longer_first b.view.watched o.view.watched) (saw hash w b q o.view k); heard_watched = starts_on o.view.watched both k.1.2.before.trace early.heard_watched (saw hash w b q o.view k); shows = after hash w b q o.view k })
 
     pub hears : (b : PassState V) (table : TableId) (me : Hand V) → p ≡ heard b (message_of me.0) → LooksUp hash w p q → Hears (told_by table me) b q
     hears b table me is l =
         let u : View V = message_of me.0 in
         let k : LooksUp hash w (heard b u) q = subst (λ x. LooksUp hash w x q) is l in
         let early = before hash w b q u k in
+        let both = longer b.view.watched me.0.watched in
         subst (Hears (told_by table me) b) (sym (is_looked hash w b q u k)) (record {
           seen = early.seen;
           heard = early.heard;
           told = look_told hash w.settings (joining b.view u) q.view 0 k.1.0 k.1.2;
           heard_told = k.1.1;
-          watched = longer_first b.view.watched me.0.watched;
-          heard_watched = early.heard_watched;
+          watched = starts_on b.view.watched both k.1.2.before.trace (longer_first b.view.watched me.0.watched) (saw hash w b q u k);
+          heard_watched = starts_on me.0.watched both k.1.2.before.trace early.heard_watched (saw hash w b q u k);
           by = refl;
           mine = refl;
           others = refl;

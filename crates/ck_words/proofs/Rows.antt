@@ -121,8 +121,8 @@ module _ {V : Type 0} (hash : Name → ℕ) (set : Settings) where
     pub renew_row : (t : ℕ) (ks : Stripes V) (g : Option (Name × Reason)) (r : Steps hash set (Renew t ks g) v w) → w ≡ gave r.before t (renewing v t r.does.1 ks g)
     renew_row t ks g r = new_view (Renew t ks g) v w r (λ u. gave r.before t (renewing u t r.does.1 ks g)) r.does.0 r.does.2 (ap (λ (x : Configuration V). x.views) r.does.6)
 
-    pub look_row : (t p : ℕ) (r : Steps hash set (Look t p) v w) → w ≡ record v { seen = r.log; told = p }
-    look_row t p r = new_view (Look t p) v w r (λ u. record u { seen = r.log; told = p }) r.does.0 r.does.1 (ap (λ (x : Configuration V). x.views) r.does.5)
+    pub look_row : (t p : ℕ) (r : Steps hash set (Look t p) v w) → w ≡ record v { seen = r.log; told = p; watched = r.before.trace }
+    look_row t p r = new_view (Look t p) v w r (λ u. record u { seen = r.log; told = p; watched = r.before.trace }) r.does.0 r.does.1 (ap (λ (x : Configuration V). x.views) r.does.5)
 
     pub look_told : (t p : ℕ) → Steps hash set (Look t p) v w → v.told ≤ p
     look_told t p r = subst (λ (u : View V). u.told ≤ p) (same_view (Look t p) v w r r.does.0 r.does.1) r.does.3

@@ -207,7 +207,7 @@ module _ {V : Type 0} (hash : Name → ℕ) (w : WordsState) (p : PassState V) (
     looks : SeatLooks hash w.settings 0 me me2
     looks = told (λ x n. SeatLooks hash x 0 me me2) 0 h
 
-    look_view : me2.0 ≡ record me.0 { seen = looks.1.2.log; told = looks.1.0 }
+    look_view : me2.0 ≡ record me.0 { seen = looks.1.2.log; told = looks.1.0; watched = looks.1.2.before.trace }
     look_view = look_row hash w.settings me.0 me2.0 0 looks.1.0 looks.1.2
 
     pub look_lasts : Lasts me2

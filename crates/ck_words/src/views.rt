@@ -72,6 +72,18 @@ impl<K: TableKey + Drop, V: Drop> Words<K, V> {
         self.look(b);
     }
 
+    /// The same of a message that stays, for others to hear.
+    pub fn hear_copy(&self, b: &mut Pass<K, V>, message: &mut Message<K, V>)
+        requires own { IsPassOf self.now b.old }
+        requires of_table { message.old.table ≡ self.now.table }
+        ensures own { IsPassOf self.now b.new }
+        ensures heard { Hears message.old b.old b.new }
+        ensures left { message.new ≡ message.old }
+    {
+        let seat = self.table.shared.split_seat::<Tell>(&mut message.seat);
+        self.hear(b, Message { seat });
+    }
+
     /// Tells `b` what `a` has seen: that is then a beginning of what `b` has seen, and `b` was told
     /// no lower power. What `b` had seen is a beginning too.
     pub fn meet(&self, a: &mut Pass<K, V>, b: &mut Pass<K, V>)

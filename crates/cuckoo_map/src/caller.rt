@@ -789,6 +789,22 @@ impl<T: TableRef<K, V> + Drop, K: TableKey + Drop, V: Drop> CallerOn<T, K, V> {
         self.table.table().hear(&mut self.pass, message);
     }
 
+    /// The same of a message that stays, for others to hear.
+    ///
+    /// ```
+    /// let mut message = teller.tell();
+    /// auditor.hear_copy(&mut message);
+    /// other.hear_copy(&mut message);
+    /// ```
+    pub fn hear_copy(&mut self, message: &mut Message<K, V>)
+        requires { message.old.table ≡ self.old.table.table }
+        ensures same { IsSameCaller self.old self.new }
+        ensures heard { HearsMessage message.old self.old self.new }
+        ensures left { message.new ≡ message.old }
+    {
+        self.table.table().hear_copy(&mut self.pass, message);
+    }
+
     /// Tells the other caller of this table what this one has seen, and that one hears it.
     ///
     /// ```

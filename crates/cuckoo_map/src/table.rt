@@ -119,6 +119,17 @@ impl<K: TableKey + Drop, V: Drop> Table<K, V> {
         self.words.hear(b, message);
     }
 
+    /// `Caller::hear_copy`, by the pass `b`.
+    pub fn hear_copy(&self, b: &mut Pass<K, V>, message: &mut Message<K, V>)
+        requires own { IsCaller self.now b.old }
+        requires of_table { message.old.table ≡ self.now.table }
+        ensures own { IsCaller self.now b.new }
+        ensures heard { Hears message.old b.old b.new }
+        ensures left { message.new ≡ message.old }
+    {
+        self.words.hear_copy(b, message);
+    }
+
     /// `Caller::meet`, by the passes of both: `b` hears what `a` has seen.
     pub fn meet(&self, a: &mut Pass<K, V>, b: &mut Pass<K, V>)
         requires own { IsCaller self.now a.old × IsCaller self.now b.old }
