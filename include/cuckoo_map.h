@@ -22,9 +22,10 @@
  *
  * Each answered call of all handles takes effect once, at one moment, in one order in which a plain
  * map gives the same answers. A refused call changes no binding. A call through a handle that is
- * closed is refused as CUCKOO_CLOSED and changes nothing; so is every call through a handle that was
- * never opened and began as CUCKOO_CLOSED_HANDLE. What a thread wrote before it bound a key, a thread
- * that finds that binding sees: calls lock by sequentially consistent atomics.
+ * closed, or was never opened and began as CUCKOO_CLOSED_HANDLE, changes nothing. It is refused as
+ * CUCKOO_CLOSED, if it is not for its keys: too long, too many, or texts with no memory for a copy.
+ * What a thread wrote before it bound a key, a thread that finds that binding sees: calls lock by
+ * sequentially consistent atomics.
  *
  * What is undefined: a handle that began as anything else; a copy of a handle, where both are used;
  * a handle in two calls at a time; a handle that goes to another thread by nothing that orders the

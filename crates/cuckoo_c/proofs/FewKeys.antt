@@ -3,7 +3,7 @@ use Rattle.std.proofs.Common.{◌≡◌, ◌≢◌, ℕ, zero, suc, ◌<◌, ◌
 use Rattle.std.specs.Prelude.{IsSome, All, IfOk}
 use Rattle.std.proofs.lemmas.List.{get_or_default, length-set, get_or-set_same, get_or-set_other}
 use mathlib.Core.Logic.{dite}
-use native.Mathlib.Decide.{dec_lt, ℕ_discrete}
+use native.Mathlib.Decide.{dec_lt}
 use Rattle.cuckoo_c.specs.declared.several.CuckooEntry.{CuckooEntry}
 use Rattle.ck_model.specs.declared.history.Call.TheVariants.{SessionOn}
 use Rattle.ck_model.specs.declared.history.Reply.TheVariants.{Closed}

@@ -21,6 +21,6 @@ TellsPair (Some x) code k v key value = (code ≡ codes.Done) × (key ≡ x.0.0)
 TellsPair None code k v key value = (code ≡ codes.Absent) × (key ≡ k) × (value ≡ v)
 
 -- the same, where the key is as many bytes of its place
-abbrev pub TellsTextPair : Option (BytesKey × ℕ) → Code → List ℕ → ℕ → ℕ → Type 0
-TellsTextPair (Some x) code key count value = (code ≡ codes.Done) × (count ≡ length x.0.0) × (take count key ≡ x.0.0) × (value ≡ x.1)
-TellsTextPair None code key count value = code ≡ codes.Absent
+abbrev pub TellsTextPair : Option (BytesKey × ℕ) → Code → List ℕ → ℕ → ℕ → List ℕ → ℕ → ℕ → Type 0
+TellsTextPair (Some x) code k n v key count value = (code ≡ codes.Done) × (count ≡ length x.0.0) × (take count key ≡ x.0.0) × (value ≡ x.1)
+TellsTextPair None code k n v key count value = (code ≡ codes.Absent) × (key ≡ k) × (count ≡ n) × (value ≡ v)

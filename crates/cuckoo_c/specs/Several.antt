@@ -1,5 +1,5 @@
 -- What a call on several keys leaves of a handle of C's.
-use Rattle.std.specs.Prelude.{◌≡◌, ◌≢◌, ◌⊎◌, ⊤, ℕ, ◌+◌, ◌-◌, ◌*◌, ◌^◌, ◌<◌, ◌≤◌, List, [], ◌∷◌, Bool, true, false, Option, Some, None, IsSome, All, Result, Ok, Err, if◌then◌else◌, nat_eq, nat_lt, length, map}
+use Rattle.std.specs.Prelude.{◌≡◌, ◌⊎◌, ⊤, ℕ, ◌+◌, ◌-◌, ◌^◌, ◌<◌, ◌≤◌, List, [], ◌∷◌, Bool, true, false, Option, Some, None, IsSome, All, Result, if◌then◌else◌, nat_eq, nat_lt, map}
 use Rattle.ck_model.specs.Promise.{Name}
 use Rattle.ck_key.specs.Hashes.{mixed_hash}
 use Rattle.cuckoo_map.specs.declared.refusal.KeysRefused.{KeysRefused}

@@ -18,7 +18,7 @@ ghost use Rattle.cuckoo_c.specs.contracts.keys.NumberKeyOrd.TheImpl.{ghosts as n
 ghost use Rattle.cuckoo_c.specs.contracts.keys.NumberKeyTableKey.TheImpl.{ghosts as number_key};
 ghost use Rattle.cuckoo_c.specs.Pairs.{TakesNextAt, TellsPair};
 ghost use Rattle.cuckoo_c.specs.Openings.{ClearLeaves, TellsCleared, Exports, ListsAt};
-ghost use Rattle.cuckoo_c.specs.NewTables.{Opens, settings_of};
+ghost use Rattle.cuckoo_c.specs.NewTables.{IsFor, Opens, settings_of};
 ghost use Rattle.cuckoo_c.specs.Handles.{Calls, AddsTo, Replaces, Swaps, CountLeaves, CapacityLeaves, GrowthLeaves};
 
 use crate::code::Code;
@@ -42,7 +42,7 @@ pub extern "C" fn cuckoo_open(
     handles: &mut [CuckooHandle],
 ) -> i32
     ensures length { length handles.new ≡ length handles.old }
-    ensures opens { Numbered result (Opens (λ set. set.turns ≡ turns)
+    ensures opens { Numbered result (Opens (λ set. (set.turns ≡ turns) × IsFor keys set)
         (length handles.old) (All (λ h. h.held ≡ None) handles.old)
         (map (λ h. h.held) handles.old) (map (λ h. h.held) handles.new)) }
 {

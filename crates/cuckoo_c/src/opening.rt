@@ -6,6 +6,7 @@ ghost use Rattle.ck_words.specs.Words.{WordsState};
 ghost use Rattle.ck_words.specs.Closing.{dealt};
 ghost use Rattle.cuckoo_map.specs.Callers.{callers_of};
 ghost use Rattle.cuckoo_c.specs.declared.code.Code.TheVariants as codes;
+ghost use Rattle.cuckoo_c.specs.NewTables.{IsFor};
 ghost use Rattle.cuckoo_c.specs.Openings.{TellsOpening};
 
 use crate::code::Code;
@@ -15,7 +16,8 @@ use std::alloc::{AllocError, Global};
 
 /// Settings for about so many keys, and for so many handles, of which there may be 1,024.
 pub fn settings_for(keys: u64, handles: usize, turns: u32) -> Settings
-    ensures { result.turns ≡ turns }
+    ensures turns { result.turns ≡ turns }
+    ensures keys { IsFor keys result }
 {
     let callers = if handles > 1024 { 0 } else { handles as u32 };
     Settings {

@@ -1,6 +1,6 @@
 //! What C opens a table with.
 ghost use Rattle.std.specs.Prelude.{◌≡◌};
-ghost use Rattle.cuckoo_c.specs.NewTables.{settings_of};
+ghost use Rattle.cuckoo_c.specs.NewTables.{settings_of, IsFor};
 
 use cuckoo_map::Settings;
 
@@ -53,6 +53,7 @@ pub extern "C" fn cuckoo_settings_for(
 )
     ensures callers { settings.new.callers ≡ callers }
     ensures turns { settings.new.turns ≡ turns }
+    ensures keys { IsFor keys (settings_of settings.new) }
 {
     let Settings {
         s,

@@ -17,7 +17,7 @@ ghost use Rattle.cuckoo_c.specs.contracts.keys.BytesKeyOrd.TheImpl.{ghosts as te
 ghost use Rattle.cuckoo_c.specs.contracts.keys.BytesKeyTableKey.TheImpl.{ghosts as text_key};
 ghost use Rattle.cuckoo_c.specs.Pairs.{TakesNextAt, TellsTextPair};
 ghost use Rattle.cuckoo_c.specs.Openings.{ClearLeaves, TellsCleared, Exports, ListsAt};
-ghost use Rattle.cuckoo_c.specs.NewTables.{Opens, settings_of};
+ghost use Rattle.cuckoo_c.specs.NewTables.{IsFor, Opens, settings_of};
 ghost use Rattle.cuckoo_c.specs.Handles.{Calls, CallsWithMemory, AddsTo, Replaces, Swaps, CountLeaves, CapacityLeaves, GrowthLeaves};
 
 use crate::code::Code;
@@ -57,7 +57,7 @@ pub extern "C" fn cuckoo_text_open(
     handles: &mut [CuckooTextHandle],
 ) -> i32
     ensures length { length handles.new ≡ length handles.old }
-    ensures opens { Numbered result (Opens (λ set. set.turns ≡ turns)
+    ensures opens { Numbered result (Opens (λ set. (set.turns ≡ turns) × IsFor keys set)
         (length handles.old) (All (λ h. h.held ≡ None) handles.old)
         (map (λ h. h.held) handles.old) (map (λ h. h.held) handles.new)) }
 {
@@ -409,10 +409,11 @@ pub extern "C" fn cuckoo_text_pairs_next(
 ) -> i32
     ensures room { length key.new ≡ length key.old }
     ensures small { length key.old < 64 → (result ≡ number_of codes.TooLong)
-        × (pairs.new.held ≡ pairs.old.held) }
+        × (pairs.new.held ≡ pairs.old.held) × (key.new ≡ key.old) × (count.new ≡ count.old)
+        × (value.new ≡ value.old) }
     ensures told { 64 ≤ length key.old → Numbered result (λ code. (r : Option (BytesKey × ℕ))
         × TakesNextAt r pairs.old.held pairs.new.held
-        × TellsTextPair r code key.new count.new value.new) }
+        × TellsTextPair r code key.old count.old value.old key.new count.new value.new) }
 {
     if key.len() < MOST {
         return Code::TooLong.number();

@@ -1,5 +1,5 @@
-use Rattle.std.proofs.Common.{rules, ◌≡◌, ℕ, Some, None, length, get_or, refl, sym, ◌∙◌, subst, arith}
-use Rattle.cuckoo_c.proofs.FewKeys.{HasChanged, same_long, changed_next, changed_all, one_refused}
+use Rattle.std.proofs.Common.{◌≡◌, get_or, refl, sym, ◌∙◌, arith}
+use Rattle.cuckoo_c.proofs.FewKeys.{same_long, changed_next, changed_all, one_refused}
 use Rattle.std.proofs.lemmas.List.{get_or_default}
 use Rattle.cuckoo_c.proofs.several.change_each.Goals as goal
 use Rattle.cuckoo_c.proofs.several.change_each.Goals.{in-Some, in_default}

@@ -1,4 +1,4 @@
-use Rattle.std.proofs.Common.{rules, ◌≡◌, ◌≢◌, ℕ, ◌∷◌, [], Result, inl, map}
+use Rattle.std.proofs.Common.{rules, ◌≢◌, ℕ, ◌∷◌, [], Result, inl, map}
 use Rattle.ck_key.specs.Hashes.{mixed_hash}
 use Rattle.cuckoo_map.specs.declared.refusal.KeysRefused.{KeysRefused}
 use Rattle.cuckoo_map.specs.Callers.{CallerState, KeysLeave}

@@ -23,4 +23,4 @@ returns-in-Some-clause-told c =
     )
 
 pub returns-in-None-clause-told : goal.returns-in-None-clause-told
-returns-in-None-clause-told c = λ room. (codes.Absent, search rules, (None, c.in-None.ensures, refl))
+returns-in-None-clause-told c = λ room. (codes.Absent, search rules, (None, c.in-None.ensures, (refl, refl, refl, refl)))
