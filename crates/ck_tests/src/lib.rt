@@ -34,3 +34,7 @@ mod pools;
 // Scripts: sources, sinks and gates.
 #[cfg(test)]
 mod scripts;
+
+// Texts of refusals.
+#[cfg(test)]
+mod texts;

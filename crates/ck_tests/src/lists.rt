@@ -1,7 +1,8 @@
-//! A table whose values own memory.
+//! A table whose values own memory, and one whose values are large.
 use crate::fixtures::sixteen_buckets;
 use cuckoo_map::{Handle, NumKey};
 use std::alloc::{AllocError, Global};
+use std::process::Abort;
 use std::test::Fail;
 
 type ListHandle = Handle<NumKey, Vec<u64>>;
@@ -25,6 +26,42 @@ fn a_list_is_pushed_to(rt: HostRuntime) -> Result<(), Fail> {
         assert!(rt; !push(rt.alloc(), handle, 5, 51)?);
         let is_wanted = |list: &Vec<u64>| list.as_slice() == [50, 51].as_slice();
         assert!(rt; handle.find_fn(&NumKey(5), is_wanted) == Ok(Some(true)));
+    }
+    Ok(())
+}
+
+/// A value of a kilobyte.
+type Page = [u64; 128];
+
+/// How many pages are bound. The table has 64 slots at first.
+const PAGES: u64 = 100;
+
+/// Binds a page of its number to each key.
+fn bind_pages(rt: &impl Abort, handle: &mut Handle<NumKey, Page>) {
+    for number in 0..PAGES {
+        let bound = handle.insert(NumKey(number), [number; 128]);
+        assert!(rt; bound.is_ok_and(|fresh| fresh), "page {number}");
+    }
+}
+
+/// Large values are bound, found where a doubling brought them, and erased.
+#[test]
+fn pages(rt: HostRuntime) -> Result<(), Fail> {
+    for handle in &mut Handle::open(rt.alloc(), sixteen_buckets(1))? {
+        bind_pages(&rt, handle);
+        assert!(rt; handle.power() == Ok(5));
+        for number in 0..PAGES {
+            let key = NumKey(number);
+            assert!(rt;
+                handle.find(&key) == Ok(Some([number; 128])),
+                "page {number}"
+            );
+            assert!(rt;
+                handle.erase(&key) == Ok(Some([number; 128])),
+                "page {number}"
+            );
+        }
+        assert!(rt; handle.is_empty() == Ok(true));
     }
     Ok(())
 }

@@ -108,3 +108,22 @@ fn items_in_their_order(rt: HostRuntime) -> Result<(), Fail> {
     assert!(rt; items.as_slice() == [1, 2, 3].as_slice());
     Ok(())
 }
+
+/// All items are lent at a time, each to one borrower, and then none; one that came back is lent
+/// again.
+#[test]
+fn all_items_at_a_time(rt: HostRuntime) -> Result<(), Fail> {
+    let alloc = rt.alloc();
+    let pool = Pool::new(alloc, vec![in alloc; 1u64, 2, 3]?)?;
+    let first = pool.lend().expect(&rt, "the first of three");
+    let second = pool.lend().expect(&rt, "the second of three");
+    let third = pool.lend().expect(&rt, "the third of three");
+    assert!(rt; *first != *second && *second != *third && *third != *first);
+    assert!(rt; pool.lend().is_err());
+    let number = *second;
+    drop(second);
+    let again = pool.lend().expect(&rt, "the item that came back");
+    assert!(rt; *again == number);
+    assert!(rt; pool.lend().is_err());
+    Ok(())
+}
