@@ -9,10 +9,10 @@
 //     int age = ages.find(5);
 //
 // Any number of threads may make calls at a time. Each call takes effect once, at one moment; a
-// call that throws has changed no binding, unless its comment says so. The map has one handle of
-// the library's for each of the first `options::callers` threads, which keep it until they end, and
-// one more that all other threads share, a call at a time. A call that the library refuses as busy
-// lets other threads run, and is made again.
+// call that throws has changed no binding, unless its comment says so. The map has
+// `options::callers` handles of the library's: a thread that calls takes one that is free, and keeps
+// it until it ends. Those that find none share one more, a call at a time. A call that the library
+// refuses as busy lets other threads run, and is made again.
 //
 // A closure doesn't run in the library. What it is to change is read, given to it, and set where
 // the key is still bound to what was read; else the closure runs again, on what the key is bound to

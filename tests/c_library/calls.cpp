@@ -297,24 +297,6 @@ void refusals_of_few_keys() {
   for (int key = 0; key < count; key++) CHECK(map.find(key) == key);
 }
 
-void moves() {
-  cuckoo::map<int, int> one(100);
-  one.insert(1, 10);
-  cuckoo::map<int, int> two(std::move(one));
-  CHECK(two.find(1) == 10);
-  CHECK_THROWS(cuckoo::closed, one.find(1));
-  CHECK_THROWS(cuckoo::closed, one.size());
-  one = cuckoo::map<int, int>(100);
-  CHECK(one.empty() && one.insert(2, 20));
-  std::swap(one, two);
-  CHECK(one.find(1) == 10 && two.find(2) == 20);
-  two = std::move(one);
-  CHECK(two.find(1) == 10);
-  auto read = two.snapshot();
-  auto moved = std::move(read);
-  CHECK(!read.next() && moved.next() && !moved.next());
-}
-
 } // namespace
 
 int main() {
@@ -333,6 +315,5 @@ int main() {
   closures();
   refusals();
   refusals_of_few_keys();
-  moves();
   return report();
 }

@@ -1,6 +1,6 @@
 // What the C++ header asks of the library: the linker puts in this program's own cuckoo_contains, which
-// notes the handle, and cuckoo_insert and cuckoo_erase_if, before and after which other calls can be
-// made, by --wrap.
+// notes the handle and can be refused as busy, cuckoo_insert and cuckoo_erase_if, before and after
+// which other calls can be made, and sched_yield, which is counted, by --wrap.
 #include "check.hpp"
 #include <cuckoo_map.hpp>
 
@@ -13,6 +13,10 @@
 #include <vector>
 
 static thread_local const void *noted;
+
+// So many of a thread's next lookups are refused as busy, and so often it has let others run.
+static thread_local int busy = 0;
+static thread_local int yields = 0;
 
 // The value that another call binds the next key to that is inserted; no call, if it is 0.
 static std::uint64_t other_value = 0;
@@ -27,7 +31,17 @@ std::int32_t __wrap_cuckoo_contains(cuckoo_handle *handle, std::uint64_t key);
 
 std::int32_t __wrap_cuckoo_contains(cuckoo_handle *handle, std::uint64_t key) {
   noted = handle;
-  return __real_cuckoo_contains(handle, key);
+  if (busy == 0) return __real_cuckoo_contains(handle, key);
+  busy--;
+  return CUCKOO_BUSY;
+}
+
+int __real_sched_yield();
+int __wrap_sched_yield();
+
+int __wrap_sched_yield() {
+  yields++;
+  return __real_sched_yield();
 }
 
 std::int32_t __real_cuckoo_insert(cuckoo_handle *handle, std::uint64_t key, std::uint64_t value);
@@ -139,6 +153,15 @@ void others_stay_when_a_map_ends() {
   CHECK(handle_of(second) == of_second && handle_of(third) == of_third);
 }
 
+// A call that is refused as busy lets other threads run each time, and is made again.
+void others_run_where_a_call_is_busy() {
+  numbers map(100);
+  CHECK(map.insert(1, 10));
+  busy = 3;
+  yields = 0;
+  CHECK(map.contains(1) && busy == 0 && yields == 3);
+}
+
 // A key that was unbound when it was looked up, and is bound by another call before it is inserted, is
 // changed as a bound one.
 void upsert_of_a_key_that_was_bound_meanwhile() {
@@ -170,6 +193,7 @@ int main() {
   others_share_one();
   one_that_ends_shares_too();
   others_stay_when_a_map_ends();
+  others_run_where_a_call_is_busy();
   upsert_of_a_key_that_was_bound_meanwhile();
   erasure_of_a_key_that_was_unbound_meanwhile();
   return report();

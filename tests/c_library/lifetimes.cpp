@@ -101,6 +101,18 @@ void a_map_ends_in_another_thread() {
   }
 }
 
+// A thread that finds no free handle has no latest one: a new map may stand where the ended one of its
+// latest call stood, and must not be taken for that.
+void no_free_handle_after_a_map_ended() {
+  numbers crowded(with_callers(0));
+  auto map = std::make_unique<numbers>(with_callers(1));
+  CHECK(map->insert(1, 1));
+  CHECK(cuckoo::detail::latest.of != &cuckoo::detail::nobody);
+  map.reset();
+  CHECK(crowded.insert(1, 2));
+  CHECK(cuckoo::detail::latest.of == &cuckoo::detail::nobody);
+}
+
 // More threads at a time than handles: all of them get on, also where none gives its handle back.
 void more_threads_than_handles(std::uint32_t callers) {
   constexpr int each = 2000;
@@ -173,6 +185,7 @@ int main() {
   maps_outlive_threads();
   many_maps_in_a_thread();
   a_map_ends_in_another_thread();
+  no_free_handle_after_a_map_ended();
   for (std::uint32_t callers : {0, 1, 3, 8}) more_threads_than_handles(callers);
   calls_of_a_thread_that_ends();
   both_end();

@@ -408,6 +408,26 @@ static void try_fill(const char *name, cuckoo_settings settings, int32_t wanted)
     cuckoo_close(&handle);
 }
 
+/* All buckets of a table may be in one stripe, also where they are many. */
+static void try_one_stripe(void) {
+    enum { POWER = 21, KEYS = 1000 };
+    cuckoo_handle handle = open_one(settings_of(4, POWER, 1, 0));
+    uint64_t slots = (uint64_t)4 << POWER;
+    uint64_t place = 0;
+    for (uint64_t key = 0; key < KEYS; key++)
+        check("a key is bound", cuckoo_insert(&handle, key, key + 1) == CUCKOO_OK);
+    puts("one stripe");
+    expect("  reserve", cuckoo_reserve(&handle, slots), CUCKOO_OK);
+    check("it has so many slots", cuckoo_capacity(&handle, &place) == CUCKOO_OK && place == slots);
+    expect("  reserve as many", cuckoo_reserve(&handle, slots), CUCKOO_ENOUGH);
+    expect("  reserve more", cuckoo_reserve(&handle, slots + 1), CUCKOO_OVER_MAX);
+    for (uint64_t key = 0; key < KEYS; key++)
+        check("a key is still bound",
+              cuckoo_find(&handle, key, &place) == CUCKOO_OK && place == key + 1);
+    check("no other key is bound", cuckoo_len(&handle, &place) == CUCKOO_OK && place == KEYS);
+    cuckoo_close(&handle);
+}
+
 /* Where the process may have no more memory. */
 static void try_no_memory(void) {
     struct rlimit before;
@@ -485,6 +505,7 @@ int main(void) {
     try_fill("full", settings_of(1, 1, 1, 5), CUCKOO_FULL);
     try_fill("full after growing", settings_of(1, 6, 1, 5), CUCKOO_FULL);
     try_fill("load too low", settings_of(8, 26, 1, 100), CUCKOO_LOAD_TOO_LOW);
+    try_one_stripe();
     try_no_memory();
     try_busy();
     puts(failed ? "failed" : "passed");

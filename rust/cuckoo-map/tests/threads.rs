@@ -1,5 +1,5 @@
 //! Handles that go to threads.
-use cuckoo_map::{Compared, Error, Handle, Renamed, Settings, TextHandle};
+use cuckoo_map::{Change, Compared, Error, Handle, Part, Renamed, Settings, TextHandle};
 use std::sync::atomic::{AtomicBool, Ordering};
 use std::thread;
 use std::time::{Duration, Instant};
@@ -159,4 +159,29 @@ fn refusals_have_names() {
     assert_eq!(texts.rename(&[0; 64], &[0; 64]), Err(Error::Twice));
     assert_eq!(texts.find(&[0; 64]), Ok(Some(1)));
     assert_eq!(Error::TooLong.to_string(), "a text has more than 64 bytes");
+}
+
+#[test]
+fn calls_take_one_to_eight_different_keys() {
+    let mut handle = Handle::open(100, 1).unwrap().pop().unwrap();
+    for key in 0..9 {
+        assert_eq!(handle.insert(key, 10 * key), Ok(true));
+    }
+    let changes: Vec<Change> = (0..9)
+        .map(|key| Change { key, from: 10 * key, to: 10 * key + 1 })
+        .collect();
+    let parts: Vec<Part> = (0..9).map(|key| Part { key, take: 1, put: 2 }).collect();
+    assert_eq!(handle.find_all([]), Err(Error::BadCount));
+    assert_eq!(handle.find_all([0, 1, 2, 3, 4, 5, 6, 7, 8]), Err(Error::BadCount));
+    for count in [0, 9] {
+        assert_eq!(handle.set_if_all(&changes[..count]), Err(Error::BadCount));
+        assert_eq!(handle.move_all(&parts[..count]), Err(Error::BadCount));
+    }
+    assert_eq!(handle.find_all([1, 1]), Err(Error::Twice));
+    assert_eq!(handle.set_if_all(&[changes[1]; 2]), Err(Error::Twice));
+    assert_eq!(handle.move_all(&[parts[1]; 2]), Err(Error::Twice));
+    assert_eq!(handle.find_all([8, 7, 6, 5, 4, 3, 2, 1]).unwrap()[..2], [Some(80), Some(70)]);
+    assert_eq!(handle.set_if_all(&changes[1..]), Ok(true));
+    assert_eq!(handle.move_all(&parts[1..]), Ok(true));
+    assert_eq!(handle.find_all([0, 1, 8]), Ok([Some(0), Some(12), Some(82)]));
 }
