@@ -120,7 +120,7 @@ typedef struct cuckoo_settings {
     uint32_t callers;  /* as many as handles: 1 to 1024 */
     uint32_t turns;    /* tries to take a stripe before a call is refused as busy: 1 at least */
     uint32_t rounds;   /* tries to displace entries without the whole table: 0 to 64 */
-    uint32_t min_load; /* it grows only where so many per cent of its slots are taken: 0 to 100 */
+    uint32_t min_load; /* an insertion grows it only where so many per cent of it are taken: 0 to 100 */
 } cuckoo_settings;
 
 /* Settings for about so many keys: the table opens with room for them, and grows where more come.

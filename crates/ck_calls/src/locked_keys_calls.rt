@@ -1,6 +1,6 @@
 //! The calls of locked keys.
 ghost use Rattle.std.specs.Prelude.{◌≡◌, ◌∷◌, [], ◌<◌, length, IfSome};
-ghost use Rattle.cuckoo_map.specs.Promise.{IsAmong};
+ghost use Rattle.cuckoo_map.specs.Numbered.{IsIn};
 ghost use Rattle.cuckoo_map.specs.RoomForKeys.{names_of};
 
 use crate::answer::{Answer, placed_in_slot};
@@ -83,7 +83,7 @@ fn insertion(
     line: &Line,
     watch: &Watch,
 ) -> Option<Answer>
-    requires { IsAmong (key.0 ∷ []) locked.old.names }
+    requires { IsIn (key.0 ∷ []) locked.old.names }
     ensures { locked.new.names ≡ locked.old.names }
 {
     let value = line.numbers[1];
@@ -101,7 +101,7 @@ fn insertion(
 // The key of this number, where it is one of these.
 fn key_among<'k>(keys: &[&'k NumKey], number: u64) -> Option<&'k NumKey>
     ensures { IfSome result (λ key.
-        IsAmong (key.now.0 ∷ []) (names_of (λ k. k.0 ∷ []) keys.now)) }
+        IsIn (key.now.0 ∷ []) (names_of (λ k. k.0 ∷ []) keys.now)) }
 {
     for i in 0..keys.len() {
         if keys[i].0 == number {

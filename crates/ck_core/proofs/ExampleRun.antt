@@ -152,7 +152,7 @@ nothing_above t u h = absurd h
 pub above_zero : (u : ℕ) → IsIn u (0 ∷ []) → u < 1
 above_zero u h = ⊎_elim (λ e. omega arith) (λ z. absurd z) h
 
-one_not_in : ¬ (IsIn 1 (0 ∷ []))
+one_not_in : ¬ (IsIn {A = ℕ} 1 (0 ∷ []))
 one_not_in h = ⊎_elim (λ e. omega arith) (λ z. z) h
 
 -- one run after another

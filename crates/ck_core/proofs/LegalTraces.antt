@@ -4,6 +4,8 @@ use Rattle.std.specs.Prelude.{All, if◌then◌else◌, ◌==◌}
 use mathlib.Core.Logic.{dite}
 use native.Mathlib.Decide.{ℕ_discrete}
 use Rattle.std.proofs.lemmas.List.Elements.{All-head, All-tail, filter-append}
+use Rattle.std.proofs.lemmas.List.Sums.{fold-append}
+use Rattle.std.proofs.lemmas.Grind.{flat_map-append}
 use Rattle.ck_model.specs.declared.history.Entry.{Entry}
 use Rattle.ck_model.specs.Promise.{subhistory}
 use Rattle.ck_model.proofs.Numbered.{if_same, if_else}
@@ -12,7 +14,7 @@ use Rattle.ck_core.specs.declared.trace.LockStep.{LockStep}
 use Rattle.ck_core.specs.declared.trace.LockStep.TheVariants.{Took, Missed, Gave, Decided}
 use Rattle.ck_core.specs.declared.trace.LockEvent.{LockEvent}
 use Rattle.ck_core.specs.State.{NoneBy, by_of}
-use Rattle.ck_core.specs.Trace.{held_after, held_from, holder, Fits, IsLegalTrace, decided_by, decided_in, steps_of, missed_by, missed_in}
+use Rattle.ck_core.specs.Trace.{held_after, holder, Fits, IsLegalTrace, decided_by, decided_in, steps_of, missed_by, missed_in}
 use Rattle.ck_core.proofs.Lists.{cut_snoc}
 
 -- which step it is
@@ -75,16 +77,16 @@ module _ {V : Type 0} where
   pub returns_decided : (m : ℕ) (x : Entry V) → x.by ≡ m → Returns m (Decided x)
   returns_decided m x own = record { fits = λ h is. deciding_fits m h x is own; lets_go = λ h. refl }
 
-  held_from_snoc : (t : ℕ) (h : Option ℕ) (es : List (LockEvent V)) (e : LockEvent V) → held_from t h (es ++ e ∷ []) ≡ (if e.stripe == t then held_after e.step e.by (held_from t h es) else held_from t h es)
-  held_from_snoc t h [] e = refl
-  held_from_snoc t h (x ∷ xs) e = held_from_snoc t (if x.stripe == t then held_after x.step x.by h else h) xs e
+  -- who holds a stripe after one step more
+  holder_more : (es : List (LockEvent V)) (e : LockEvent V) (t : ℕ) → holder (es ++ e ∷ []) t ≡ (if e.stripe == t then held_after e.step e.by (holder es t) else holder es t)
+  holder_more es e t = fold-append (λ (h : Option ℕ) (x : LockEvent V). if x.stripe == t then held_after x.step x.by h else h) None es (e ∷ [])
 
   -- who holds the stripe of the last step, and another one
   pub holder_here : (es : List (LockEvent V)) (e : LockEvent V) (t : ℕ) → e.stripe ≡ t → holder (es ++ e ∷ []) t ≡ held_after e.step e.by (holder es t)
-  holder_here es e t is = held_from_snoc t None es e ∙ if_same e.stripe t (held_after e.step e.by (holder es t)) (holder es t) is
+  holder_here es e t is = holder_more es e t ∙ if_same e.stripe t (held_after e.step e.by (holder es t)) (holder es t) is
 
   pub holder_there : (es : List (LockEvent V)) (e : LockEvent V) (t : ℕ) → e.stripe ≢ t → holder (es ++ e ∷ []) t ≡ holder es t
-  holder_there es e t apart = held_from_snoc t None es e ∙ if_else e.stripe t (held_after e.step e.by (holder es t)) (holder es t) apart
+  holder_there es e t apart = holder_more es e t ∙ if_else e.stripe t (held_after e.step e.by (holder es t)) (holder es t) apart
 
   -- a step that fits makes a legal trace longer
   pub legal_more : (es : List (LockEvent V)) (e : LockEvent V) → IsLegalTrace es → Fits e.step e.by (holder es e.stripe) → IsLegalTrace (es ++ e ∷ [])
@@ -163,8 +165,7 @@ module _ {V : Type 0} where
 
   -- the history of more steps
   pub decided_append : (xs ys : List (LockEvent V)) → decided_in (xs ++ ys) ≡ decided_in xs ++ decided_in ys
-  decided_append [] ys = refl
-  decided_append (x ∷ xs) ys = (λ i. decided_by x.step ++ decided_append xs ys i) ∙ sym (append_assoc (decided_by x.step) (decided_in xs) (decided_in ys))
+  decided_append xs ys = flat_map-append (λ (e : LockEvent V). decided_by e.step) xs ys
 
   pub own_append : (m : ℕ) (xs ys : List (LockEvent V)) → decided_in (steps_of m (xs ++ ys)) ≡ decided_in (steps_of m xs) ++ decided_in (steps_of m ys)
   own_append m xs ys = ap decided_in (steps_append m xs ys) ∙ decided_append (steps_of m xs) (steps_of m ys)

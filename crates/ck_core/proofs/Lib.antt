@@ -14,6 +14,7 @@ pub mod TraceOrder
 pub mod ExampleRun
 pub mod ExampleOrder
 pub mod Answered
+pub mod Notes
 pub mod WrongSteps
 pub mod WrongResults
 pub mod Meeting

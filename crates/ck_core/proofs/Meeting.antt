@@ -30,7 +30,7 @@ meeting_opens = record {
     below : (m : ℕ) → IsIn m (0 ∷ 1 ∷ []) → (m < 2) × (◌≡◌ {A = ℕ} 0 0)
     below m h = (⊎_elim (λ e. omega arith) (λ r. ⊎_elim (λ e. omega arith) (λ z. absurd z) r) h, refl)
 
-    apart : AreDistinct (0 ∷ 1 ∷ [])
+    apart : AreDistinct {A = ℕ} (0 ∷ 1 ∷ [])
     apart = ((λ h. ⊎_elim (λ e. omega arith) (λ z. z) h), ((λ h. h), tt))
 
     views : (j : ℕ) (v : View ℕ) → get_elem? alone.views j ≡ some v → (ms : List ℕ) × (v ≡ initial_view settings j 1 ms) × AreDistinct (j ∷ ms) × ((m : ℕ) → IsIn m (j ∷ ms) → (m < 2) × (0 ≡ j))

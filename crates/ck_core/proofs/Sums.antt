@@ -11,7 +11,8 @@ use Rattle.ck_model.specs.declared.history.Call.TheVariants.{On, ChangeTwo, Len,
 use Rattle.ck_model.specs.declared.history.Reply.{Reply}
 use Rattle.ck_model.specs.declared.history.Reply.TheVariants.{DoneTwo, Absent}
 use Rattle.ck_model.specs.declared.history.Entry.{Entry}
-use Rattle.ck_model.specs.Promise.{Name, name_cmp, Map, IsAmong, AreDifferent, bound_in, Answers, AnswersTwo, Step, Leads}
+use Rattle.ck_model.specs.Promise.{Name, name_cmp, Map, bound_in, Answers, AnswersTwo, Step, Leads}
+use Rattle.ck_model.specs.Numbered.{IsIn, AreDistinct}
 use Rattle.ck_core.specs.Sums.{total, sum_of, KeepsTotal, EachKeepsTotal, SessionShows, EachSessionShows, LawOfSums}
 use Rattle.ck_model.proofs.Determined.{leads_one}
 use Rattle.ck_model.proofs.Entries.{first, second, is_less}
@@ -117,14 +118,14 @@ total_bound m k (Some v) = by (get m k) refl
     by None e = let t = total-new m k v e in omega arith
 
 -- a change of these names alone changes the sum of all by what it changes that of theirs
-names_total : (qs : List Name) (m m2 : Map ℕ) → AreDifferent qs → ((q : Name) → ¬ (IsAmong q qs) → get m2 q ≡ get m q) → total (entries m2) + sum_of (bound_in m qs) ≡ total (entries m) + sum_of (bound_in m2 qs)
+names_total : (qs : List Name) (m m2 : Map ℕ) → AreDistinct qs → ((q : Name) → ¬ (IsIn q qs) → get m2 q ≡ get m q) → total (entries m2) + sum_of (bound_in m qs) ≡ total (entries m) + sum_of (bound_in m2 qs)
 names_total [] m m2 apart others = ap (λ (x : Map ℕ). total (entries x) + 0) (maps_alike m2 m (λ q. others q (λ h. h)))
 names_total (x ∷ xs) m m2 apart others =
     let m1 = bind m x (get m2 x) in
-    let rest : (q : Name) → ¬ (IsAmong q xs) → get m2 q ≡ get m1 q = λ q out. dite (dec_name q x)
-    (λ e. ap (get m2) e ∙ (sym (get_bound m x (get m2 x)) ∙ ap (get m1) (sym e)))
-    (λ ne. others q (λ h. ⊎_elim ne out h) ∙ sym (get_other m x q (get m2 x) ne)) in
-    let same = ap sum_of (bound_alike m1 m xs (λ q i. get_other m x q (get m2 x) (λ e. apart.0 (subst (λ (z : Name). IsAmong z xs) e i)))) in
+    let rest : (q : Name) → ¬ (IsIn q xs) → get m2 q ≡ get m1 q = λ q out. dite (dec_name x q)
+    (λ e. ap (get m2) (sym e) ∙ (sym (get_bound m x (get m2 x)) ∙ ap (get m1) e))
+    (λ ne. others q (λ h. ⊎_elim ne out h) ∙ sym (get_other m x q (get m2 x) (λ e. ne (sym e)))) in
+    let same = ap sum_of (bound_alike m1 m xs (λ q i. get_other m x q (get m2 x) (λ e. apart.0 (subst (λ (z : Name). IsIn z xs) e i)))) in
     let one = total_bound m x (get m2 x) in
     let more = names_total xs m1 m2 apart.1 rest in
     omega arith

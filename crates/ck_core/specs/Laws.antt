@@ -39,7 +39,7 @@ module _ {V : Type 0} where
   IsDeciding Tell = ⊥
   IsDeciding (Join other) = ⊥
 
-  -- What was watched is a legal trace, in which the caller missed what it missed by its own steps.
+  -- What was watched is a legal trace, in which the stripes that the caller missed are those that its own steps missed.
   pub record HasWatched (v : View V) : Type 0 where
     pub legal : IsLegalTrace v.watched
     pub missed : (m : ℕ) → v.by ≡ Some m → missed_in (steps_of m v.watched) ≡ missed_in v.steps

@@ -4,5 +4,6 @@ pub mod Steps
 pub mod Laws
 pub mod Sums
 pub mod Order
+pub mod Notes
 pub mod Example
 pub mod Refusals

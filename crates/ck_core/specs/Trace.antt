@@ -1,5 +1,5 @@
 -- The trace: the steps of all callers on the lock words, in their order.
-use Rattle.std.specs.Prelude.{◌≡◌, ◌≢◌, ℕ, List, [], ◌∷◌, ◌++◌, Option, Some, None, if◌then◌else◌, ◌==◌, filter}
+use Rattle.std.specs.Prelude.{◌≡◌, ◌≢◌, ℕ, List, [], ◌∷◌, ◌++◌, Option, Some, None, if◌then◌else◌, ◌==◌, filter, fold, flat_map}
 use Rattle.ck_model.specs.declared.history.Entry.{Entry}
 use Rattle.ck_core.specs.declared.trace.LockStep.{LockStep}
 use Rattle.ck_core.specs.declared.trace.LockStep.TheVariants.{Took, Missed, Gave, Decided}
@@ -12,14 +12,9 @@ module _ {V : Type 0} where
   held_after Missed m h = h
   held_after step m h = None
 
-  -- who holds stripe t after these steps, where h did before them
-  abbrev pub held_from : ℕ → Option ℕ → List (LockEvent V) → Option ℕ
-  held_from t h [] = h
-  held_from t h (e ∷ es) = held_from t (if e.stripe == t then held_after e.step e.by h else h) es
-
   -- who holds stripe t after the trace
   abbrev pub holder : List (LockEvent V) → ℕ → Option ℕ
-  holder es t = held_from t None es
+  holder es t = fold (λ h e. if e.stripe == t then held_after e.step e.by h else h) None es
 
   -- A stripe is taken while nobody holds it, missed while another than the caller m does, and given back by its holder, which decides only its own calls.
   abbrev pub Fits : LockStep V → ℕ → Option ℕ → Type 0
@@ -40,8 +35,7 @@ module _ {V : Type 0} where
 
   -- the entries that were decided, in their order: the history
   abbrev pub decided_in : List (LockEvent V) → List (Entry V)
-  decided_in [] = []
-  decided_in (e ∷ es) = decided_by e.step ++ decided_in es
+  decided_in es = flat_map (λ e. decided_by e.step) es
 
   -- the steps of the caller m, in their order
   abbrev pub steps_of : ℕ → List (LockEvent V) → List (LockEvent V)

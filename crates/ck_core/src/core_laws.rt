@@ -7,6 +7,7 @@ ghost use Rattle.ck_model.specs.Contents.{Stripes};
 ghost use Rattle.ck_core.specs.Steps.Label.{Take, FindHeld, Give, Decide, GiveRest, Renew, Look, Open, Tell, Join};
 ghost use Rattle.ck_core.specs.Laws.{LawOfRuns, Keeps, LawOfViews, LawOfReplies, LawOfFindings, LawOfOneCaller, LawOfAnswers, LawOfFollowing, LawOfOtherSteps};
 ghost use Rattle.ck_core.specs.Sums.{LawOfSums};
+ghost use Rattle.ck_core.specs.Notes.{LawOfRoomNotes, LawOfGrowths};
 ghost use Rattle.ck_core.specs.Order.{LawOfOneHistory, LawOfSeenHistory, LawOfGrowth, LawOfGrowingViews, LawOfDecisions, LawOfRealTime, LawOfTraceOrder};
 
 /// A step by which a caller takes a stripe that is at home keeps the invariant.
@@ -119,4 +120,13 @@ pub fn law_of_trace_order<V>()
 pub fn law_of_real_time<V>()
     ensures decisions { LawOfDecisions V }
     ensures order { LawOfRealTime V }
+{}
+
+/// In each run from an opening, what a caller noted of stripes is what they contained at a moment
+/// of the run, when it held them, also by the trace, of which the later one is a continuation.
+/// Where a name found no room, they gave the reason. Where the table doubled, they were all
+/// stripes, and bound what the history left.
+pub fn law_of_notes<V>()
+    ensures room { LawOfRoomNotes V }
+    ensures growths { LawOfGrowths V }
 {}

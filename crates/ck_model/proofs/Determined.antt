@@ -9,7 +9,8 @@ use Rattle.ck_model.specs.declared.history.Call.TheVariants.{On, ChangeTwo, Len,
 use Rattle.ck_model.specs.declared.history.Reply.{Reply}
 use Rattle.ck_model.specs.declared.history.Reply.TheVariants.{Done, DoneTwo, Closed}
 use Rattle.ck_model.specs.declared.history.Entry.{Entry}
-use Rattle.ck_model.specs.Promise.{Name, Map, IsAmong, AreDifferent, bound_in, Answers, AnswersTwo, Step, Leads}
+use Rattle.ck_model.specs.Promise.{Name, Map, bound_in, Answers, AnswersTwo, Step, Leads}
+use Rattle.ck_model.specs.Numbered.{IsIn, AreDistinct}
 use Rattle.ck_model.specs.Laws.{SpeaksOf}
 use Rattle.ck_model.proofs.Names.{dec_name, dec_among, maps_alike, alike_among}
 
@@ -63,7 +64,7 @@ module _ {V : Type 0} where
   step_others m m2 (Session a b) r st q h = absurd (h tt)
 
   -- a step is a session on the names of which its call speaks
-  pub step_session : (m m2 : Map V) (c : Call V) (r : Reply V) → Step m c r m2 → (qs : List Name) → AreDifferent qs → ((q : Name) → SpeaksOf c q → IsAmong q qs)
+  pub step_session : (m m2 : Map V) (c : Call V) (r : Reply V) → Step m c r m2 → (qs : List Name) → AreDistinct qs → ((q : Name) → SpeaksOf c q → IsIn q qs)
       → Step m (SessionOn qs (bound_in m qs) (bound_in m2 qs)) Closed m2
   step_session m m2 c r st qs apart speaks = (refl, apart, refl, refl, λ q out. step_others m m2 c r st q (λ s. out (speaks q s)))
 

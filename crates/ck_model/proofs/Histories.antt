@@ -1,7 +1,7 @@
 -- Histories grow and are cut, and so do their callers' parts.
 use Rattle.std.proofs.Common.{◌≡◌, ◌≢◌, ℕ, List, [], ◌∷◌, ◌++◌, sym, refl, ap, ◌∙◌, subst, append_assoc, append-nil}
-use mathlib.Core.Logic.{dite}
-use native.Mathlib.Decide.{ℕ_discrete}
+use Rattle.std.specs.Prelude.{◌==◌}
+use Rattle.std.proofs.lemmas.List.Elements.{filter-append}
 use Rattle.std.specs.FinMap.{empty}
 use Rattle.ck_model.specs.declared.history.Entry.{Entry}
 use Rattle.ck_model.specs.Promise.{Map, Step, Leads, IsLegal, StartsWith, subhistory}
@@ -22,12 +22,7 @@ module _ {V : Type 0} where
   legal_beginning log start l s = let z = leads_to empty l.0 start s.0 (subst (λ (x : List (Entry V)). Leads empty x l.0) s.1 l.1) in (z.0, z.1)
 
   pub subhistory-append : (m : ℕ) (xs ys : List (Entry V)) → subhistory m (xs ++ ys) ≡ subhistory m xs ++ subhistory m ys
-  subhistory-append m [] ys = refl
-  subhistory-append m (x ∷ xs) ys = dite (ℕ_discrete x.by m)
-      (λ e. if_same x.by m (x ∷ subhistory m (xs ++ ys)) (subhistory m (xs ++ ys)) e ∙ (ap {B = List (Entry V)} (λ l. x ∷ l) (subhistory-append m xs ys)
-      ∙ ap (λ l. l ++ subhistory m ys) (sym (if_same x.by m (x ∷ subhistory m xs) (subhistory m xs) e))))
-      (λ ne. if_else x.by m (x ∷ subhistory m (xs ++ ys)) (subhistory m (xs ++ ys)) ne ∙ (subhistory-append m xs ys
-      ∙ ap (λ l. l ++ subhistory m ys) (sym (if_else x.by m (x ∷ subhistory m xs) (subhistory m xs) ne))))
+  subhistory-append m xs ys = filter-append (λ (e : Entry V). e.by == m) xs ys
 
   pub subhistory-own : (m : ℕ) (log : List (Entry V)) (e : Entry V) → e.by ≡ m → subhistory m (log ++ e ∷ []) ≡ subhistory m log ++ e ∷ []
   subhistory-own m log e is = subhistory-append m log (e ∷ []) ∙ ap (λ l. subhistory m log ++ l) (if_same e.by m (e ∷ []) [] is)

@@ -7,7 +7,8 @@ use Rattle.std.specs.Ordering.{eq_by_cmp}
 use Rattle.std.specs.Cmp.{tied_itself}
 use Rattle.std.specs.Cmp.Lexicographic.{nat_list_cmp_total}
 use Rattle.std.specs.FinMap.{IsAntisymmetric, get, same_map, slice_cmp-IsAntisymmetric, nat_cmp-IsAntisymmetric}
-use Rattle.ck_model.specs.Promise.{Name, name_cmp, Map, IsAmong, bound_in}
+use Rattle.ck_model.specs.Promise.{Name, name_cmp, Map, bound_in}
+use Rattle.ck_model.specs.Numbered.{IsIn}
 
 pub dec_name : (p q : Name) → Dec (p ≡ q)
 dec_name = List-discrete ℕ_discrete
@@ -42,21 +43,21 @@ same_name p q = by (name_cmp p q) refl
 pub cases_name : (p q : Name) → ((eq_by_cmp name_cmp p q ≡ true) × (p ≡ q)) ⊎ ((eq_by_cmp name_cmp p q ≡ false) × (p ≢ q))
 cases_name p q = dite (dec_name p q) (λ e. inl (is_name p q e, e)) (λ ne. inr (no_name p q ne, ne))
 
-pub dec_among : (q : Name) (qs : List Name) → Dec (IsAmong q qs)
+pub dec_among : (q : Name) (qs : List Name) → Dec (IsIn q qs)
 dec_among q [] = no (λ h. h)
-dec_among q (x ∷ xs) = dite (dec_name q x) (λ e. yes (inl e)) (λ n. dite (dec_among q xs) (λ h. yes (inr h)) (λ m. no (λ h. ⊎_elim n m h)))
+dec_among q (x ∷ xs) = dite (dec_name x q) (λ e. yes (inl e)) (λ n. dite (dec_among q xs) (λ h. yes (inr h)) (λ m. no (λ h. ⊎_elim n m h)))
 
 module _ {V : Type 0} (m n : Map V) where
   -- two maps have the same of each of these names
-  pub bound_alike : (qs : List Name) → ((q : Name) → IsAmong q qs → get m q ≡ get n q) → bound_in m qs ≡ bound_in n qs
+  pub bound_alike : (qs : List Name) → ((q : Name) → IsIn q qs → get m q ≡ get n q) → bound_in m qs ≡ bound_in n qs
   bound_alike [] same = refl
   bound_alike (x ∷ xs) same = λ i. same x (inl refl) i ∷ bound_alike xs (λ q h. same q (inr h)) i
 
-  pub alike_among : (qs : List Name) → bound_in m qs ≡ bound_in n qs → (q : Name) → IsAmong q qs → get m q ≡ get n q
+  pub alike_among : (qs : List Name) → bound_in m qs ≡ bound_in n qs → (q : Name) → IsIn q qs → get m q ≡ get n q
   alike_among [] e q h = absurd h
   alike_among (x ∷ xs) e q h =
       let both = parts (get m x) (get n x) (bound_in m xs) (bound_in n xs) e in
-      ⊎_elim (λ (f : q ≡ x). subst (λ (z : Name). get m z ≡ get n z) (sym f) both.0) (λ i. alike_among xs both.1 q i) h
+      ⊎_elim (λ (f : x ≡ q). subst (λ (z : Name). get m z ≡ get n z) f both.0) (λ i. alike_among xs both.1 q i) h
     where
       parts : {A : Type 0} (a b : A) (xs ys : List A) → a ∷ xs ≡ b ∷ ys → (a ≡ b) × (xs ≡ ys)
       parts a b xs ys f = (cc, cc)

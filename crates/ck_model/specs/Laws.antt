@@ -7,8 +7,8 @@ use Rattle.ck_model.specs.declared.history.Reply.{Reply}
 use Rattle.ck_model.specs.declared.history.Reply.TheVariants.{Closed}
 use Rattle.ck_model.specs.declared.history.Entry.{Entry}
 use Rattle.ck_model.specs.Arithmetic.{index_of, second_of, alternate_of}
-use Rattle.ck_model.specs.Promise.{Name, Map, IsAmong, AreDifferent, bound_in, Step, After, IsLegal, StartsWith}
-use Rattle.ck_model.specs.Numbered.{Holds, over}
+use Rattle.ck_model.specs.Promise.{Name, Map, bound_in, Step, After, IsLegal, StartsWith}
+use Rattle.ck_model.specs.Numbered.{IsIn, AreDistinct, Holds, over}
 use Rattle.ck_model.specs.declared.contents.Content.{Content}
 use Rattle.ck_model.specs.Contents.{Layout, Stripes, bindings, IsShaped, Lawful, whole}
 use Rattle.ck_model.specs.Sections.{Section, IdentitySection}
@@ -19,7 +19,7 @@ abbrev pub SpeaksOf : {V : Type 0} → Call V → Name → Type 0
 SpeaksOf (On k a) q = q ≡ k
 SpeaksOf (ChangeTwo j k) q = (q ≡ j) ⊎ (q ≡ k)
 SpeaksOf Len q = ⊥
-SpeaksOf (SessionOn qs a b) q = IsAmong q qs
+SpeaksOf (SessionOn qs a b) q = IsIn q qs
 SpeaksOf (Session a b) q = Unit {0}
 
 -- the stripes are stripes of the whole
@@ -37,12 +37,12 @@ module _ (V : Type 0) where
 
   -- a step is a session on any different names that are all of which its call speaks
   abbrev pub StepsAreSessions : Type 0
-  StepsAreSessions = (m m2 : Map V) (call : Call V) (reply : Reply V) → Step m call reply m2 → (qs : List Name) → AreDifferent qs → ((q : Name) → SpeaksOf call q → IsAmong q qs)
+  StepsAreSessions = (m m2 : Map V) (call : Call V) (reply : Reply V) → Step m call reply m2 → (qs : List Name) → AreDistinct qs → ((q : Name) → SpeaksOf call q → IsIn q qs)
       → Step m (SessionOn qs (bound_in m qs) (bound_in m2 qs)) Closed m2
 
   -- a session on all names is one on any different names that are all that were bound or are
   abbrev pub SessionsAreOfAllNames : Type 0
-  SessionsAreOfAllNames = (m m2 : Map V) (a b : List (Name × V)) → Step m (Session a b) Closed m2 → (qs : List Name) → AreDifferent qs → ((q : Name) → ¬ (IsAmong q qs) → (get m q ≡ None) × (get m2 q ≡ None))
+  SessionsAreOfAllNames = (m m2 : Map V) (a b : List (Name × V)) → Step m (Session a b) Closed m2 → (qs : List Name) → AreDistinct qs → ((q : Name) → ¬ (IsIn q qs) → (get m q ≡ None) × (get m2 q ≡ None))
       → Step m (SessionOn qs (bound_in m qs) (bound_in m2 qs)) Closed m2
 
   -- a beginning of a legal history is legal

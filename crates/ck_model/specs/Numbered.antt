@@ -1,16 +1,17 @@
--- Lists of things with numbers: stripes with their contents, callers with their entries.
+-- What is in a list, and lists of things with numbers: stripes with their contents, callers with their entries.
 use Rattle.std.specs.Prelude.{◌≡◌, ◌⊎◌, ℕ, zero, suc, ◌==◌, if◌then◌else◌, List, [], ◌∷◌, map}
 
-abbrev pub IsIn : ℕ → List ℕ → Type 0
-IsIn t [] = ⊥
-IsIn t (x ∷ xs) = (x ≡ t) ⊎ IsIn t xs
-
--- no number stands twice
-abbrev pub AreDistinct : List ℕ → Type 0
-AreDistinct [] = Unit {0}
-AreDistinct (x ∷ xs) = ¬ (IsIn x xs) × AreDistinct xs
-
 module _ {A : Type 0} where
+  -- t is one of these
+  abbrev pub IsIn : A → List A → Type 0
+  IsIn t [] = ⊥
+  IsIn t (x ∷ xs) = (x ≡ t) ⊎ IsIn t xs
+
+  -- none stands twice
+  abbrev pub AreDistinct : List A → Type 0
+  AreDistinct [] = Unit {0}
+  AreDistinct (x ∷ xs) = ¬ (IsIn x xs) × AreDistinct xs
+
   abbrev pub numbers : List (ℕ × A) → List ℕ
   numbers hs = map (λ (h : ℕ × A). h.0) hs
 

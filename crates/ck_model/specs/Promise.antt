@@ -1,5 +1,5 @@
 -- The promise of the map: the plain map, the histories that it can run through, and what an answered call adds to one.
-use Rattle.std.specs.Prelude.{◌≡◌, ◌≢◌, ◌⊎◌, ℕ, ◌==◌, if◌then◌else◌, List, [], ◌∷◌, ◌++◌, Option, Some, None, map}
+use Rattle.std.specs.Prelude.{◌≡◌, ◌≢◌, ℕ, ◌==◌, List, [], ◌∷◌, ◌++◌, Option, Some, None, map, filter}
 use Rattle.std.specs.declared.cmp.Ordering.{Ordering}
 use Rattle.std.specs.Ordering.{nat_cmp}
 use Rattle.std.specs.Cmp.Lexicographic.{slice_cmp}
@@ -12,7 +12,7 @@ use Rattle.ck_model.specs.declared.history.Reply.{Reply}
 use Rattle.ck_model.specs.declared.history.Reply.TheVariants.{Was, New, Old, Done, DoneTwo, Absent, Count, Closed}
 use Rattle.ck_model.specs.declared.history.Entry.{Entry}
 use Rattle.ck_model.specs.declared.settings.Settings.{Settings}
-use Rattle.ck_model.specs.Numbered.{IsIn, numbers, Holds}
+use Rattle.ck_model.specs.Numbered.{IsIn, AreDistinct, numbers, Holds}
 
 -- what a key is to every definition
 abbrev pub Name : Type 0
@@ -25,16 +25,6 @@ name_cmp = slice_cmp nat_cmp
 -- a finite map from names to values
 abbrev pub Map : Type 0 → Type 0
 Map V = FinMap name_cmp V
-
--- the name is one of these
-abbrev pub IsAmong : Name → List Name → Type 0
-IsAmong q [] = ⊥
-IsAmong q (x ∷ xs) = (q ≡ x) ⊎ IsAmong q xs
-
--- no name stands twice
-abbrev pub AreDifferent : List Name → Type 0
-AreDifferent [] = Unit {0}
-AreDifferent (x ∷ xs) = ¬ (IsAmong x xs) × AreDifferent xs
 
 -- What contracts see of a client of the map: what its table was opened with, its number, the history that it has seen, and its own entries.
 pub record Client (V : Type 0) : Type 0 where
@@ -80,7 +70,7 @@ module _ {V : Type 0} where
   Step m (On k a) r m2 = Answers a (get m k) r (get m2 k) × ((q : Name) → q ≢ k → get m2 q ≡ get m q)
   Step m (ChangeTwo j k) r m2 = (j ≢ k) × AnswersTwo (get m j) (get m k) r (get m2 j) (get m2 k) × ((q : Name) → q ≢ j → q ≢ k → get m2 q ≡ get m q)
   Step m Len r m2 = (r ≡ Count (len m)) × (m2 ≡ m)
-  Step m (SessionOn qs a b) r m2 = (r ≡ Closed) × AreDifferent qs × (bound_in m qs ≡ a) × (bound_in m2 qs ≡ b) × ((q : Name) → ¬ (IsAmong q qs) → get m2 q ≡ get m q)
+  Step m (SessionOn qs a b) r m2 = (r ≡ Closed) × AreDistinct qs × (bound_in m qs ≡ a) × (bound_in m2 qs ≡ b) × ((q : Name) → ¬ (IsIn q qs) → get m2 q ≡ get m q)
   Step m (Session a b) r m2 = (r ≡ Closed) × (entries m ≡ a) × (entries m2 ≡ b)
 
   -- the entries lead from m to m2, each by a step
@@ -98,8 +88,7 @@ module _ {V : Type 0} where
 
   -- the entries of one caller, in order
   abbrev pub subhistory : ℕ → List (Entry V) → List (Entry V)
-  subhistory n [] = []
-  subhistory n (e ∷ es) = if e.by == n then e ∷ subhistory n es else subhistory n es
+  subhistory n es = filter (λ e. e.by == n) es
 
   -- The client has one entry more. To what it had seen come entries of others and then this one, and all of it is legal.
   pub record Answered (c : Client V) (e : Entry V) (d : Client V) : Type 0 where

@@ -3,7 +3,7 @@ use Rattle.std.specs.Prelude.{◌≡◌, ◌⊎◌, ℕ, ◌^◌, ◌<◌, ◌�
 use Rattle.ck_model.specs.declared.history.Call.{Call}
 use Rattle.ck_model.specs.declared.history.Call.TheVariants.{On, ChangeTwo, Len, SessionOn, Session}
 use Rattle.ck_model.specs.declared.history.Reply.{Reply}
-use Rattle.ck_model.specs.Promise.{Name, IsAmong, Step}
+use Rattle.ck_model.specs.Promise.{Name, Step}
 use Rattle.ck_model.specs.Numbered.{IsIn, numbers, Holds}
 use Rattle.ck_model.specs.declared.contents.Content.{Content}
 use Rattle.ck_model.specs.Contents.{Layout, Stripes, IsStripeOf, Lawful, bindings}
@@ -22,7 +22,7 @@ module _ {V : Type 0} where
   OwnsCall k hs (On q a) = Owns k hs q
   OwnsCall k hs (ChangeTwo p q) = Owns k hs p × Owns k hs q
   OwnsCall k hs Len = HasAll k hs
-  OwnsCall k hs (SessionOn qs a b) = (q : Name) → IsAmong q qs → Owns k hs q
+  OwnsCall k hs (SessionOn qs a b) = (q : Name) → IsIn q qs → Owns k hs q
   OwnsCall k hs (Session a b) = HasAll k hs
 
   -- New contents of the same stripes: lawful by themselves, with the old power, or with a power not below it where all stripes are held.

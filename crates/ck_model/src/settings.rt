@@ -25,9 +25,10 @@ pub struct Settings {
     /// How many tries an insertion makes to displace entries without the whole table: 0..=64. With
     /// none it takes the whole table for each displacement.
     pub rounds: u32,
-    /// The table grows only where this many per cent of its slots are taken: 0..=100. Else an entry
-    /// without room is refused as `LoadTooLow`, so that keys which share their buckets, as an
-    /// attacker may choose them, don't make it grow to `max`. Above 50 it refuses keys that are due.
+    /// An insertion makes the table grow only where this many per cent of its slots are taken:
+    /// 0..=100. Else an entry without room is refused as `LoadTooLow`, so that keys which share
+    /// their buckets, as an attacker may choose them, don't make it grow to `max`. Above 50 it
+    /// refuses keys that are due.
     pub min_load: u32,
 }
 

@@ -1,7 +1,8 @@
 //! A plain map that follows a history, and so decides which histories are legal.
 ghost use Rattle.std.specs.Prelude.{◌≡◌, ◌↔◌, ℕ, true, false, ◌<◌, ◌≤◌, length, slice_get, IsTrue, IfOk, IfSome, IfNone, IfErr, IsSome, IsOk, MatchResult, OnOk, OnErr, OnSome, List, ◌∷◌, [], ◌++◌, is_ok};
 ghost use Rattle.std.specs.FinMap as map;
-ghost use Rattle.ck_model.specs.Promise.{Name, name_cmp, Map, IsAmong, AreDifferent, bound_in, After, IsLegal};
+ghost use Rattle.ck_model.specs.Promise.{Name, name_cmp, Map, bound_in, After, IsLegal};
+ghost use Rattle.ck_model.specs.Numbered.{IsIn, AreDistinct};
 ghost use Rattle.ck_oracle.specs.PlainMap.{place_of, with_binding, Stands, Rises, Follows};
 
 use crate::answers::{after_act, after_two};
@@ -62,7 +63,7 @@ fn place(pairs: &[(Name, u64)], name: &Name) -> Result<usize, usize>
 
 // Whether the name is one of these.
 fn is_among(name: &Name, names: Iter<'_, Name>) -> bool
-    ensures { IsTrue result ↔ IsAmong name.now names.entry }
+    ensures { IsTrue result ↔ IsIn name.now names.entry }
 {
     for other in names {
         if name == other {
@@ -74,7 +75,7 @@ fn is_among(name: &Name, names: Iter<'_, Name>) -> bool
 
 // Whether no name stands twice.
 fn are_different(names: &LinkedList<Name>) -> bool
-    ensures { IsTrue result ↔ AreDifferent names.now }
+    ensures { IsTrue result ↔ AreDistinct names.now }
 {
     let mut rest = names.iter();
     while let Some(name) = rest.next() {
@@ -264,11 +265,11 @@ impl PlainMap {
         names: &LinkedList<Name>,
         values: &LinkedList<Option<u64>>,
     ) -> Result<(), AllocError>
-        requires different { AreDifferent names.now }
+        requires different { AreDistinct names.now }
         requires as_many { length values.now ≡ length names.now }
         ensures bound { OnOk result (bound_in self.new names.now ≡ values.now) }
         ensures others { OnOk result ((q : Name) →
-            ¬ (IsAmong q names.now) → map.get self.new q ≡ map.get self.old q) }
+            ¬ (IsIn q names.now) → map.get self.new q ≡ map.get self.old q) }
     {
         for (name, value) in names.iter().zip(values) {
             self.set(name, *value)?;

@@ -10,8 +10,8 @@ use Rattle.std.proofs.lemmas.Nat.{div-add-mod'}
 use Rattle.std.proofs.lemmas.List.{length-append}
 use Rattle.std.proofs.lemmas.Option.{none-some}
 use Rattle.ck_model.specs.Arithmetic.{index_of, second_of}
-use Rattle.ck_model.specs.Promise.{Name, name_cmp, IsAmong, AreDifferent}
-use Rattle.ck_model.specs.Numbered.{Holds}
+use Rattle.ck_model.specs.Promise.{Name, name_cmp}
+use Rattle.ck_model.specs.Numbered.{IsIn, AreDistinct, Holds}
 use Rattle.ck_model.specs.Slots.{Slot, slot_at, taken_in, IsFull}
 use Rattle.ck_model.specs.declared.contents.Content.{Content}
 use Rattle.ck_model.specs.Contents.{Layout, layout, Stripes, Binds, IsBucketOf, row_at, rows_of, pairs_in, bindings, NamesApart, Lawful, power_of, bucket_in}
@@ -286,10 +286,10 @@ module _ {V : Type 0} where
             let none : one (is_none (find name_cmp q pairs)) ≡ 1 = ap (λ (o : Option V). one (is_none o)) (not_among bs q is) in
             omega (arith, count, none)
 
-    coming_some : (bs : List ℕ) (q : Name) (qs : List Name) → IsAmong q qs → may_come k hs bs q ≡ true → 1 ≤ coming k hs bs qs
+    coming_some : (bs : List ℕ) (q : Name) (qs : List Name) → IsIn q qs → may_come k hs bs q ≡ true → 1 ≤ coming k hs bs qs
     coming_some bs q [] among may = absurd among
     coming_some bs q (x ∷ xs) among may = ⊎_elim
-        (λ (e : q ≡ x). let first : one (may_come k hs bs x) ≡ 1 = ap one (subst (λ (n : Name). may_come k hs bs n ≡ true) e may) in omega (arith, first))
+        (λ (e : x ≡ q). let first : one (may_come k hs bs x) ≡ 1 = ap one (subst (λ (n : Name). may_come k hs bs n ≡ true) (sym e) may) in omega (arith, first))
         (λ h. let rest : 1 ≤ coming k hs bs xs = coming_some bs q xs h may in omega (arith, rest)) among
 
     -- buckets that are full have four entries each
@@ -323,7 +323,7 @@ module _ {V : Type 0} where
         (λ (z : (first ≢ second) × (bs ≡ first ∷ second ∷ [])). subst (AreOwn q) (sym z.1) (own_more q first (second ∷ []) (inl refl) (inr refl, tt))) r) some
 
   -- Where there is room for all names, each is bound or finds a free slot.
-  pub room_found : (k : Layout) (hs : Stripes V) (qs : List Name) (q : Name) → Lawful k hs → HasRoomForAll k hs qs → IsAmong q qs → ¬ (HasNoRoom k hs q)
+  pub room_found : (k : Layout) (hs : Stripes V) (qs : List Name) (q : Name) → Lawful k hs → HasRoomForAll k hs qs → IsIn q qs → ¬ (HasNoRoom k hs q)
   room_found k hs qs q lawful room among lacks =
       let z : (bs : List ℕ) × AreSomeOf k hs q bs × HasSlots k hs qs bs = room q among in
       let own = own_some k hs lawful q z.0 z.1 in
@@ -366,25 +366,25 @@ module _ {V : Type 0} where
           total k ks after bs q (apart_some k ks after p bs (some_kept p bs some)) ∙ (λ i. all_others bs i + one (own_kept bs q i))
           ∙ sym (total k hs lawful bs q (apart_some k hs lawful p bs some))
 
-      coming_others : (qs : List Name) → ¬ (IsAmong q qs) → coming k ks bs qs ≡ coming k hs bs qs
+      coming_others : (qs : List Name) → ¬ (IsIn q qs) → coming k ks bs qs ≡ coming k hs bs qs
       coming_others [] out = refl
-      coming_others (x ∷ xs) out = λ i. one (may_other bs x (λ e. out (inl (sym e))) i) + coming_others xs (λ h. out (inr h)) i
+      coming_others (x ∷ xs) out = λ i. one (may_other bs x (λ e. out (inl e)) i) + coming_others xs (λ h. out (inr h)) i
 
-      sum_kept : (qs : List Name) → IsAmong q qs → AreDifferent qs
+      sum_kept : (qs : List Name) → IsIn q qs → AreDistinct qs
           → coming k ks bs qs + length (pairs_at k ks bs) ≡ coming k hs bs qs + length (pairs_at k hs bs)
       sum_kept [] among different = absurd among
       sum_kept (x ∷ xs) among different = ⊎_elim
-          (λ (e : q ≡ x).
-          let rest : coming k ks bs xs ≡ coming k hs bs xs = coming_others xs (λ h. different.0 (subst (λ (n : Name). IsAmong n xs) e h)) in
+          (λ (e : x ≡ q).
+          let rest : coming k ks bs xs ≡ coming k hs bs xs = coming_others xs (λ h. different.0 (subst (λ (n : Name). IsIn n xs) (sym e) h)) in
           let first : one (may_come k ks bs x) + length (pairs_at k ks bs) ≡ one (may_come k hs bs x) + length (pairs_at k hs bs) =
-          subst (λ (n : Name). one (may_come k ks bs n) + length (pairs_at k ks bs) ≡ one (may_come k hs bs n) + length (pairs_at k hs bs)) e total_kept in
+          subst (λ (n : Name). one (may_come k ks bs n) + length (pairs_at k ks bs) ≡ one (may_come k hs bs n) + length (pairs_at k hs bs)) (sym e) total_kept in
           omega (arith, rest, first))
           (λ h.
           let rest : coming k ks bs xs + length (pairs_at k ks bs) ≡ coming k hs bs xs + length (pairs_at k hs bs) = sum_kept xs h different.1 in
-          let first : one (may_come k ks bs x) ≡ one (may_come k hs bs x) = ap one (may_other bs x (λ f. different.0 (subst (λ (n : Name). IsAmong n xs) (sym f) h))) in
+          let first : one (may_come k ks bs x) ≡ one (may_come k hs bs x) = ap one (may_other bs x (λ f. different.0 (subst (λ (n : Name). IsIn n xs) (sym f) h))) in
           omega (arith, rest, first)) among
 
-    room_after : (qs : List Name) → IsAmong q qs → AreDifferent qs → HasRoomForAll k hs qs → HasRoomForAll k ks qs
+    room_after : (qs : List Name) → IsIn q qs → AreDistinct qs → HasRoomForAll k hs qs → HasRoomForAll k ks qs
     room_after qs among different room p h =
         let z : (bs : List ℕ) × AreSomeOf k hs p bs × HasSlots k hs qs bs = room p h in (
           z.0,
@@ -410,7 +410,7 @@ module _ {V : Type 0} where
 
   -- A call on one of the names, which keeps the slots of the others, keeps room for all.
   pub room_kept : (hash : Name → ℕ) (s max : ℕ) (old new : List (StripeState V)) (q : Name) (qs : List Name) → AreHeld s old → ChangesContents old new
-      → Lawful (layout hash s max) (contents_of old) → Lawful (layout hash s max) (contents_of new) → KeepsOthers q old new → IsAmong q qs → AreDifferent qs
+      → Lawful (layout hash s max) (contents_of old) → Lawful (layout hash s max) (contents_of new) → KeepsOthers q old new → IsIn q qs → AreDistinct qs
       → HasRoomForAll (layout hash s max) (contents_of old) qs → HasRoomForAll (layout hash s max) (contents_of new) qs
   room_kept hash s max old new q qs held changes lawful after keeps among different =
       let k : Layout = layout hash s max in

@@ -11,7 +11,8 @@ use Rattle.std.proofs.lemmas.List.Elements.{filter_map-append, All-head, All-tai
 use Rattle.std.proofs.lemmas.List.Concat.{flat_map-append}
 use Rattle.std.proofs.lemmas.Option.{none-some, some_pair_parts}
 use Rattle.ck_model.specs.Arithmetic.{index_of, second_of}
-use Rattle.ck_model.specs.Promise.{Name, name_cmp, IsAmong}
+use Rattle.ck_model.specs.Promise.{Name, name_cmp}
+use Rattle.ck_model.specs.Numbered.{IsIn}
 use Rattle.ck_model.specs.Slots.{Slot, slot_at, taken_in}
 use Rattle.ck_model.specs.Contents.{Layout, layout, Stripes, Lawful, power_of, bucket_in}
 use Rattle.ck_model.specs.Paths.{partial_in}
@@ -32,7 +33,7 @@ use Rattle.ck_section.proofs.RoomForAll.{one, is_bucket, or_three, no_value, fin
 use Rattle.ck_section.proofs.SeveralKeys.{names_more}
 
 -- a name among some and one more
-pub among_more : (q x : Name) (qs : List Name) → IsAmong q (qs ++ x ∷ []) → IsAmong q qs ⊎ (q ≡ x)
+pub among_more : (q x : Name) (qs : List Name) → IsIn q (qs ++ x ∷ []) → IsIn q qs ⊎ (x ≡ q)
 among_more q x [] among = ⊎_elim (λ e. inr e) (λ h. absurd h) among
 among_more q x (y ∷ ys) among = ⊎_elim (λ e. inl (inl e)) (λ h. ⊎_elim (λ a. inl (inr a)) (λ e. inr e) (among_more q x ys h)) among
 
@@ -75,7 +76,7 @@ yes_second a b A B first second is = (λ h. inr (second.0 h), λ h. ⊎_elim (λ
 
 module _ {V : Type 0} where
   -- stripes that were held are held still
-  pub owned_still : (hash : Name → ℕ) (s : ℕ) (old new : List (StripeState V)) → new ≡ old → (qs : List Name) → ((q : Name) → IsAmong q qs → HasBoth hash s old q) → (q : Name) → IsAmong q qs → HasBoth hash s new q
+  pub owned_still : (hash : Name → ℕ) (s : ℕ) (old new : List (StripeState V)) → new ≡ old → (qs : List Name) → ((q : Name) → IsIn q qs → HasBoth hash s old q) → (q : Name) → IsIn q qs → HasBoth hash s new q
   owned_still hash s old new same qs owned q among = subst (λ (ss : List (StripeState V)). HasBoth hash s ss q) (sym same) (owned q among)
 
   -- what holds of lawful stripes holds of them as they were

@@ -5,16 +5,17 @@ use Rattle.std.proofs.lemmas.List.{take_all, take_more, take_more_set, map-appen
 use Rattle.std.specs.FinMap.{get}
 use Rattle.ck_model.specs.declared.history.Act.TheVariants.{Find}
 use Rattle.ck_model.specs.declared.history.Reply.TheVariants.{Was}
-use Rattle.ck_model.specs.Promise.{Name, Map, Answers, IsAmong, bound_in}
+use Rattle.ck_model.specs.Promise.{Name, Map, Answers, bound_in}
+use Rattle.ck_model.specs.Numbered.{IsIn}
 use Rattle.ck_model.specs.Contents.{layout, Lawful, bindings}
 use Rattle.ck_stripe.specs.Stripe.{StripeState}
 use Rattle.ck_stripe.specs.Stripes.{contents_of}
 use Rattle.ck_section.proofs.Decided.{IsCallOn}
 
 -- a key of the list has one of its names
-pub key_among : {K : Type 0} (name : K → Name) (keys : List K) (i : ℕ) (k : K) → i < length keys → k ≡ get_or keys i k → IsAmong (name k) (map name keys)
+pub key_among : {K : Type 0} (name : K → Name) (keys : List K) (i : ℕ) (k : K) → i < length keys → k ≡ get_or keys i k → IsIn (name k) (map name keys)
 key_among name [] i k l is = absurd (omega arith)
-key_among name (x ∷ xs) zero k l is = inl (ap name is)
+key_among name (x ∷ xs) zero k l is = inl (ap name (sym is))
 key_among name (x ∷ xs) (suc i) k l is = inr (key_among name xs i k (omega arith) is)
 
 -- the names of one key more

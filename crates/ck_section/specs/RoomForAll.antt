@@ -2,7 +2,8 @@
 use Rattle.std.specs.Prelude.{◌≡◌, ◌≢◌, ◌⊎◌, ℕ, ◌+◌, ◌*◌, ◌≤◌, List, [], ◌∷◌, length, flat_map, Bool, false, ◌&&◌, ◌||◌, ◌==◌, is_none, if◌then◌else◌, IfSome}
 use Rattle.std.specs.FinMap.{find}
 use Rattle.ck_model.specs.Arithmetic.{index_of, second_of}
-use Rattle.ck_model.specs.Promise.{Name, name_cmp, IsAmong}
+use Rattle.ck_model.specs.Promise.{Name, name_cmp}
+use Rattle.ck_model.specs.Numbered.{IsIn}
 use Rattle.ck_model.specs.Slots.{Slot, slot_at, taken_in}
 use Rattle.ck_model.specs.Contents.{Layout, layout, Stripes, Lawful, power_of, bucket_in}
 use Rattle.ck_stripe.specs.Stripe.{StripeState}
@@ -52,7 +53,7 @@ module _ {V : Type 0} where
 
   -- One bucket of each name, or both together, have a free slot for each of the names that may come there. So each name finds a slot, however they are bound and unbound meanwhile.
   abbrev pub HasRoomForAll : Layout → Stripes V → List Name → Type 0
-  HasRoomForAll k hs qs = (q : Name) → IsAmong q qs → (bs : List ℕ) × AreSomeOf k hs q bs × HasSlots k hs qs bs
+  HasRoomForAll k hs qs = (q : Name) → IsIn q qs → (bs : List ℕ) × AreSomeOf k hs q bs × HasSlots k hs qs bs
 
   -- the same of lawful stripes that are held, whatever the greatest power is
   abbrev pub HaveRoomForAll : (Name → ℕ) → ℕ → List (StripeState V) → List Name → Type 0

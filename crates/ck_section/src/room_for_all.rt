@@ -4,7 +4,8 @@ ghost use Rattle.std.specs.Bool.{OnTrue, OnFalse};
 ghost use Rattle.std.specs.List.{list_any};
 ghost use Rattle.std.specs.FinMap.{find};
 ghost use Rattle.ck_model.specs.Arithmetic.{partial_of};
-ghost use Rattle.ck_model.specs.Promise.{Name, name_cmp, IsAmong};
+ghost use Rattle.ck_model.specs.Promise.{Name, name_cmp};
+ghost use Rattle.ck_model.specs.Numbered.{IsIn};
 ghost use Rattle.ck_model.specs.Slots.{taken_in};
 ghost use Rattle.ck_model.specs.Contents.{layout, Lawful};
 ghost use Rattle.ck_stripe.specs.Stripes.{bucket_at, contents_of, IsInReach};
@@ -26,7 +27,7 @@ pub fn has_room_for_all<K: TableKey + Drop, V: Drop, Q: Query<K>, H: Held<Stripe
     keys: &[Q],
 ) -> bool
     requires held { AreHeld s (H.stripes held.old) }
-    requires owned { (q : Name) → IsAmong q (map Q.name keys.now)
+    requires owned { (q : Name) → IsIn q (map Q.name keys.now)
         → HasBoth K.hash s (H.stripes held.old) q }
     ensures room { OnTrue result
         (HaveRoomForAll K.hash s (H.stripes held.old) (map Q.name keys.now)) }
@@ -54,7 +55,7 @@ fn has_slots<K: TableKey + Drop, V: Drop, Q: Query<K>, H: Held<Stripe<K, V>>>(
     key: Q,
 ) -> bool
     requires held { AreHeld s (H.stripes held.old) }
-    requires owned { (q : Name) → IsAmong q (map Q.name keys.now)
+    requires owned { (q : Name) → IsIn q (map Q.name keys.now)
         → HasBoth K.hash s (H.stripes held.old) q }
     requires own { HasBoth K.hash s (H.stripes held.old) (Q.name key) }
     ensures slots { (max : ℕ) → Lawful (layout K.hash s max) (contents_of (H.stripes held.old))
@@ -77,7 +78,7 @@ fn has_slots_in_one<K: TableKey + Drop, V: Drop, Q: Query<K>, H: Held<Stripe<K, 
     place: KeyPlace,
 ) -> bool
     requires held { AreHeld s (H.stripes held.old) }
-    requires owned { (q : Name) → IsAmong q (map Q.name keys.now)
+    requires owned { (q : Name) → IsIn q (map Q.name keys.now)
         → HasBoth K.hash s (H.stripes held.old) q }
     requires first { IsInReach (H.stripes held.old) place.first.index place.first.bucket }
     requires alternate { IsInReach (H.stripes held.old) place.alternate.index
@@ -102,7 +103,7 @@ fn has_slots_in_both<K: TableKey + Drop, V: Drop, Q: Query<K>, H: Held<Stripe<K,
     place: KeyPlace,
 ) -> bool
     requires held { AreHeld s (H.stripes held.old) }
-    requires owned { (q : Name) → IsAmong q (map Q.name keys.now)
+    requires owned { (q : Name) → IsIn q (map Q.name keys.now)
         → HasBoth K.hash s (H.stripes held.old) q }
     requires first { IsInReach (H.stripes held.old) place.first.index place.first.bucket }
     requires alternate { IsInReach (H.stripes held.old) place.alternate.index
@@ -126,7 +127,7 @@ fn has_slots_in<K: TableKey + Drop, V: Drop, Q: Query<K>, H: Held<Stripe<K, V>>>
     at: &[HeldBucket],
 ) -> bool
     requires held { AreHeld s (H.stripes held.old) }
-    requires owned { (q : Name) → IsAmong q (map Q.name keys.now)
+    requires owned { (q : Name) → IsIn q (map Q.name keys.now)
         → HasBoth K.hash s (H.stripes held.old) q }
     requires reach { AreInReach (H.stripes held.old) at.now }
     requires few { length at.now ≤ 2 }
@@ -187,7 +188,7 @@ fn count_coming<K: TableKey + Drop, V: Drop, Q: Query<K>, H: Held<Stripe<K, V>>>
     at: &[HeldBucket],
 ) -> usize
     requires held { AreHeld s (H.stripes held.old) }
-    requires owned { (q : Name) → IsAmong q (map Q.name keys.now)
+    requires owned { (q : Name) → IsIn q (map Q.name keys.now)
         → HasBoth K.hash s (H.stripes held.old) q }
     requires reach { AreInReach (H.stripes held.old) at.now }
     ensures count { (max : ℕ) → Lawful (layout K.hash s max) (contents_of (H.stripes held.old))

@@ -2,7 +2,8 @@
 ghost use Rattle.std.specs.Prelude.{◌≡◌, ℕ, Some, IsSome, All, length, map};
 ghost use Rattle.std.specs.Bool.{OnTrue, OnFalse};
 ghost use Rattle.std.specs.FinMap.{get};
-ghost use Rattle.ck_model.specs.Promise.{Name, IsAmong, bound_in};
+ghost use Rattle.ck_model.specs.Promise.{Name, bound_in};
+ghost use Rattle.ck_model.specs.Numbered.{IsIn};
 ghost use Rattle.ck_model.specs.Contents.{layout, Lawful, bindings};
 ghost use Rattle.ck_stripe.specs.Stripes.{contents_of};
 ghost use Rattle.ck_stripe.specs.Tables.{AreHeld};
@@ -26,7 +27,7 @@ pub fn find_each<K: TableKey + Drop, V: Copy + Drop, Q: Query<K>, H: Held<Stripe
     values: &mut [Option<V>],
 )
     requires held { AreHeld s (H.stripes held.old) }
-    requires owned { (q : Name) → IsAmong q (map Q.name keys.now)
+    requires owned { (q : Name) → IsIn q (map Q.name keys.now)
         → HasBoth K.hash s (H.stripes held.old) q }
     requires as_many { length values.old ≡ length keys.now }
     ensures values { (max : ℕ) → Lawful (layout K.hash s max) (contents_of (H.stripes held.old))
@@ -49,7 +50,7 @@ pub fn find_bound<K: TableKey + Drop, V: Copy + Drop, Q: Query<K>, H: Held<Strip
     values: &mut [V],
 ) -> bool
     requires held { AreHeld s (H.stripes held.old) }
-    requires owned { (q : Name) → IsAmong q (map Q.name keys.now)
+    requires owned { (q : Name) → IsIn q (map Q.name keys.now)
         → HasBoth K.hash s (H.stripes held.old) q }
     requires as_many { length values.old ≡ length keys.now }
     ensures bound { OnTrue result ((max : ℕ)

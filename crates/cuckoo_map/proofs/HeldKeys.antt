@@ -9,8 +9,8 @@ use Rattle.ck_model.specs.declared.history.Act.TheVariants.{Find}
 use Rattle.ck_model.specs.declared.history.Call.TheVariants.{On, SessionOn}
 use Rattle.ck_model.specs.declared.history.Reply.{Reply}
 use Rattle.ck_model.specs.declared.history.Reply.TheVariants.{Was, Closed}
-use Rattle.ck_model.specs.Promise.{Name, Step, IsAmong, AreDifferent, bound_in}
-use Rattle.ck_model.specs.Numbered.{IsIn, numbers, Holds}
+use Rattle.ck_model.specs.Promise.{Name, Step, bound_in}
+use Rattle.ck_model.specs.Numbered.{IsIn, AreDistinct, numbers, Holds}
 use Rattle.ck_model.specs.Contents.{layout, layout_of, Stripes, Lawful, bindings, power_of}
 use Rattle.ck_model.specs.Sections.{Section}
 use Rattle.ck_stripe.specs.Stripe.{StripeState}
@@ -84,7 +84,7 @@ module _ {V : Type 0} where
     lawful_at {p} l = subst (λ (s : ℕ). Lawful (layout hash s w.settings.max) (contents_of p.stripes)) (sym l.of_table) l.lawful
 
     -- keys whose stripes were just taken are held
-    pub holds_keys : (p p2 : PassState V) → IsCaller w p → IsPassOf w p2 → AreDifferent names → HoldsNames hash w.settings names stripes p p2 → HoldsKeys hash w stripes names p2
+    pub holds_keys : (p p2 : PassState V) → IsCaller w p → IsPassOf w p2 → AreDistinct names → HoldsNames hash w.settings names stripes p p2 → HoldsKeys hash w stripes names p2
     holds_keys p p2 caller own different h =
         let lawful : Lawful (layout_of hash w.settings) (contents_of p2.stripes) = subst (Lawful (layout_of hash w.settings)) (sym h.unchanged) (lawful_reverse (layout_of hash w.settings) p2.view.held h.shows.lawful) in
         record {
@@ -103,7 +103,7 @@ module _ {V : Type 0} where
         }
 
     -- and so their caller has locked them
-    pub has_locked_keys : (P : ℕ → Type 0) (p p2 : PassState V) → IsCaller w p → AreDifferent names → HoldsNames hash w.settings names stripes p p2 → FindsAmong P p p2 → HasLockedKeys P names (caller_of w p) (keys_of w names p2)
+    pub has_locked_keys : (P : ℕ → Type 0) (p p2 : PassState V) → IsCaller w p → AreDistinct names → HoldsNames hash w.settings names stripes p p2 → FindsAmong P p p2 → HasLockedKeys P names (caller_of w p) (keys_of w names p2)
     has_locked_keys P p p2 caller different h found = record {
       names = refl;
       different = different;
@@ -128,8 +128,8 @@ module _ {V : Type 0} where
     }
 
     -- a key of them has its stripes among these
-    pub owns_name : {p : PassState V} → HoldsKeys hash w stripes names p → {k : KeysState V} → keys_of w names p ≡ k → (q : Name) → IsAmong q k.names → HasBoth hash stripes.s p.stripes q
-    owns_name {p} l is q named = subst (λ (s : ℕ). HasBoth hash s p.stripes q) (sym l.of_table) (l.owned q (subst (λ (x : KeysState V). IsAmong q x.names) (sym is) named))
+    pub owns_name : {p : PassState V} → HoldsKeys hash w stripes names p → {k : KeysState V} → keys_of w names p ≡ k → (q : Name) → IsIn q k.names → HasBoth hash stripes.s p.stripes q
+    owns_name {p} l is q named = subst (λ (s : ℕ). HasBoth hash s p.stripes q) (sym l.of_table) (l.owned q (subst (λ (x : KeysState V). IsIn q x.names) (sym is) named))
 
     -- The stripes are held by the pass p, and are shown as k.
     module _ {p : PassState V} (l : HoldsKeys hash w stripes names p) {k : KeysState V} (is : keys_of w names p ≡ k) where
@@ -154,7 +154,7 @@ module _ {V : Type 0} where
         shows_alike = ap (λ (x : PassState V). keys_of w names x) (same_pass p q view table as_is) ∙ is
 
     -- The stripes are held by the pass p, and are shown as k. A call on one of the names was made on those of m, which is p still, and left q.
-    module _ {p : PassState V} (l : HoldsKeys hash w stripes names p) {k : KeysState V} (is : keys_of w names p ≡ k) (name : Name) (named : IsAmong name k.names) {s : ℕ} (at : s ≡ stripes.s)
+    module _ {p : PassState V} (l : HoldsKeys hash w stripes names p) {k : KeysState V} (is : keys_of w names p ≡ k) (name : Name) (named : IsIn name k.names) {s : ℕ} (at : s ≡ stripes.s)
         (m : PassState V) (view : m.view ≡ p.view) (table : m.table ≡ p.table) (as_is : m.stripes ≡ p.stripes) where
       section : (act : Act V) (reply : Reply V) (new : List (StripeState V)) → IsCallOn hash s m.stripes name act reply new → Section (layout_of hash w.settings) (contents_of p.stripes) (On name act) reply (contents_of new)
       section act reply new call =
@@ -206,7 +206,7 @@ module _ {V : Type 0} where
             let changes : ChangesContents p.stripes q.stripes = subst (λ (ss : List (StripeState V)). ChangesContents ss q.stripes) as_is changed in
             let done = section act reply q.stripes call in
             let renewed = done.renewed in
-            let among : IsAmong name names = subst (λ (x : KeysState V). IsAmong name x.names) (sym is) named in (
+            let among : IsIn name names = subst (λ (x : KeysState V). IsIn name x.names) (sym is) named in (
               record {
                 session = same_session w p q kept k.session (ap (λ (x : KeysState V). x.session) is);
                 step = subst (λ (x : KeysState V). Step (map_of x.session) (On name act) reply (bindings (contents_of q.stripes))) is done.step;
@@ -223,7 +223,7 @@ module _ {V : Type 0} where
                 same = renewed.same ∙ l.same;
                 lawful = renewed.lawful;
                 level = λ t c h. l.level t c h ∙ sym (power_kept p.stripes q.stripes changes);
-                others = λ r out. done.step.1 r (λ e. out (subst (λ (z : Name). IsAmong z names) (sym e) among)) ∙ l.others r out;
+                others = λ r out. done.step.1 r (λ e. out (subst (λ (z : Name). IsIn z names) (sym e) among)) ∙ l.others r out;
               }),
             )
 
@@ -232,7 +232,7 @@ module _ {V : Type 0} where
             → ActsOn name k (keys_of w names q) act reply × HoldsWithRoom hash w stripes names k q
         acted_keeping changed keeps act reply call =
             let told = acted changed act reply call in
-            let among : IsAmong name names = subst (λ (x : KeysState V). IsAmong name x.names) (sym is) named in (
+            let among : IsIn name names = subst (λ (x : KeysState V). IsIn name x.names) (sym is) named in (
               told.0,
               record {
                 keys = told.1;

@@ -10,8 +10,8 @@ use Rattle.ck_model.specs.declared.history.Call.TheVariants.{On, SessionOn}
 use Rattle.ck_model.specs.declared.history.Reason.TheVariants.{NoRoom}
 use Rattle.ck_model.specs.declared.history.Reply.TheVariants.{Was, New, Closed}
 use Rattle.ck_model.specs.declared.settings.Settings.{Settings}
-use Rattle.ck_model.specs.Promise.{Name, Map, Step, Answers, IsAmong, Replied, bound_in}
-use Rattle.ck_model.specs.Numbered.{numbers}
+use Rattle.ck_model.specs.Promise.{Name, Map, Step, Answers, Replied, bound_in}
+use Rattle.ck_model.specs.Numbered.{IsIn, numbers}
 use Rattle.ck_model.specs.Contents.{Layout, layout, layout_of, Lawful, bindings}
 use Rattle.ck_model.specs.Paths.{HasNoRoom}
 use Rattle.ck_model.specs.Sections.{IdentitySection}
@@ -138,7 +138,7 @@ module _ {V : Type 0} {hash : Name → ℕ} {s max : ℕ} {q r : Name} (apart : 
     pub renames : Renames came (bound_both old) (bound_both new)
     pub same : numbers (contents_of new) ≡ numbers (contents_of old)
     pub lawful : Lawful (layout hash s max) (contents_of new)
-    pub others : (x : Name) → ¬ (IsAmong x (q ∷ r ∷ [])) → get (bindings (contents_of new)) x ≡ get (bindings (contents_of old)) x
+    pub others : (x : Name) → ¬ (IsIn x (q ∷ r ∷ [])) → get (bindings (contents_of new)) x ≡ get (bindings (contents_of old)) x
 
   stays_put : (came : Renamed) → new ≡ old → Renames came (bound_both old) (bound_both old) → HasMoved came
   stays_put came same came_to = record {
@@ -160,7 +160,7 @@ module _ {V : Type 0} {hash : Name → ℕ} {s max : ℕ} {q r : Name} (apart : 
         renames = moved q r apart _ _ _ x.value first.step last.step;
         same = last.renewed.same ∙ first.renewed.same;
         lawful = last.renewed.lawful;
-        others = λ y out. last.step.1 y (λ e. out (inr (inl e))) ∙ first.step.1 y (λ e. out (inl e));
+        others = λ y out. last.step.1 y (λ e. out (inr (inl (sym e)))) ∙ first.step.1 y (λ e. out (inl (sym e)));
       }
   moved_names Unbound x same =
       let o : Option V = get (bindings (contents_of old)) r in

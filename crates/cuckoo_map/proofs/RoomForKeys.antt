@@ -3,7 +3,8 @@ use Rattle.std.proofs.Common.{◌≡◌, ◌+◌, ◌<◌, ◌≤◌, ℕ, zero,
 use Rattle.std.specs.Prelude.{MatchOption}
 use Rattle.std.proofs.lemmas.List.{map-append, take-append-drop}
 use Rattle.ck_model.specs.declared.settings.Settings.{Settings}
-use Rattle.ck_model.specs.Promise.{Name, AreDifferent}
+use Rattle.ck_model.specs.Promise.{Name}
+use Rattle.ck_model.specs.Numbered.{AreDistinct}
 use Rattle.ck_model.specs.Contents.{layout, Lawful}
 use Rattle.ck_stripe.specs.Stripes.{contents_of}
 use Rattle.ck_section.specs.RoomForAll.{HasRoomForAll, HaveRoomForAll}
@@ -65,7 +66,7 @@ module _ {V : Type 0} (hash : Name → ℕ) (set : Settings) where
     refused_next why refused = subst (λ qs. LacksRoomForOne hash set qs why p z) (sym (names_split name keys i k inside is)) (lacks_next (map name (take i keys)) (name k) (map name (drop (i + 1) keys)) why p m z seeks refused)
 
 -- The stripes of the names were taken from p to p1, and are held as p2.
-module _ {V : Type 0} {hash : Name → ℕ} {w : WordsState} {stripes : StripeSet} {names : List Name} (p p1 p2 : PassState V) (caller : IsCaller w p) (own : IsPassOf w p1) (different : AreDifferent names)
+module _ {V : Type 0} {hash : Name → ℕ} {w : WordsState} {stripes : StripeSet} {names : List Name} (p p1 p2 : PassState V) (caller : IsCaller w p) (own : IsPassOf w p1) (different : AreDistinct names)
     (h : HoldsNames hash w.settings names stripes p p1) (view : p2.view ≡ p1.view) (table : p2.table ≡ p1.table) (same : p2.stripes ≡ p1.stripes) {v : WordsState} (is : v ≡ w) where
   taken : HoldsKeys hash w stripes names p1
   taken = holds_keys p p1 caller own different h

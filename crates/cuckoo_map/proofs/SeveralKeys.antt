@@ -7,8 +7,8 @@ use Rattle.ck_key.specs.declared.key_hash.KeyHash.{KeyHash}
 use Rattle.ck_key.specs.Hashes.{IsHashOf}
 use Rattle.ck_model.specs.Arithmetic.{partial_of, index_of, second_of}
 use Rattle.ck_model.specs.declared.settings.Settings.{Settings}
-use Rattle.ck_model.specs.Numbered.{IsIn}
-use Rattle.ck_model.specs.Promise.{Name, IsAmong, AreDifferent}
+use Rattle.ck_model.specs.Numbered.{IsIn, AreDistinct}
+use Rattle.ck_model.specs.Promise.{Name}
 use Rattle.ck_model.specs.Contents.{layout_of, IsStripeOf}
 use Rattle.ck_words.specs.StripeNumbers.{IsStripeOfSome}
 use Rattle.ck_section.specs.declared.place.KeyPlace.{KeyPlace}
@@ -24,14 +24,14 @@ use Rattle.cuckoo_map.proofs.Counted.{one_power_held}
 pub names_next : {K : Type 0} (name : K → Name) (keys : List K) (i : ℕ) (k : K) → i < length keys → k ≡ get_or keys i k → map name (take (i + 1) keys) ≡ map name (take i keys) ++ name k ∷ []
 names_next name keys i k l is = ap (map name) (take_more keys i k l ∙ λ j. take i keys ++ sym is j ∷ []) ∙ map-append name (take i keys) (k ∷ [])
 
-among_parts : (q : Name) (xs ys : List Name) → IsAmong q (xs ++ ys) → IsAmong q xs ⊎ IsAmong q ys
+among_parts : (q : Name) (xs ys : List Name) → IsIn q (xs ++ ys) → IsIn q xs ⊎ IsIn q ys
 among_parts q [] ys h = inr h
-among_parts q (x ∷ xs) ys h = ⊎_elim (λ (e : q ≡ x). inl (inl e)) (λ r. ⊎_elim (λ i. inl (inr i)) (λ i. inr i) (among_parts q xs ys r)) h
+among_parts q (x ∷ xs) ys h = ⊎_elim (λ (e : x ≡ q). inl (inl e)) (λ r. ⊎_elim (λ i. inl (inr i)) (λ i. inr i) (among_parts q xs ys r)) h
 
 -- a name is none of one name more
-pub none_next : {K : Type 0} (name : K → Name) (q : Name) (keys : List K) (i : ℕ) (k : K) → i < length keys → k ≡ get_or keys i k → ¬ (IsAmong q (map name (take i keys))) → ¬ (q ≡ name k) → ¬ (IsAmong q (map name (take (i + 1) keys)))
+pub none_next : {K : Type 0} (name : K → Name) (q : Name) (keys : List K) (i : ℕ) (k : K) → i < length keys → k ≡ get_or keys i k → ¬ (IsIn q (map name (take i keys))) → ¬ (q ≡ name k) → ¬ (IsIn q (map name (take (i + 1) keys)))
 none_next name q keys i k l is none other h =
-    ⊎_elim none (λ (r : (q ≡ name k) ⊎ ⊥). ⊎_elim other (λ x. x) r) (among_parts q (map name (take i keys)) (name k ∷ []) (subst (IsAmong q) (names_next name keys i k l is) h))
+    ⊎_elim none (λ (r : (name k ≡ q) ⊎ ⊥). ⊎_elim (λ e. other (sym e)) (λ x. x) r) (among_parts q (map name (take i keys)) (name k ∷ []) (subst (IsIn q) (names_next name keys i k l is) h))
 
 -- the keys from one on
 from_key : {K : Type 0} (keys : List K) (i : ℕ) (k : K) → i < length keys → k ≡ get_or keys i k → drop i keys ≡ k ∷ drop (suc i) keys
@@ -43,21 +43,21 @@ from_key (x ∷ xs) (suc i) k l is = from_key xs i k (omega arith) is
 pub behind : {K : Type 0} (keys : List K) (n : ℕ) → take (length keys - n) (drop n keys) ≡ drop n keys
 behind keys n = let l = length-drop n keys in take_all (length keys - n) (drop n keys) (omega arith)
 
-pub different_next : {K : Type 0} (name : K → Name) (keys : List K) (i : ℕ) (k : K) → i < length keys → k ≡ get_or keys i k → ¬ (IsAmong (name k) (map name (drop (i + 1) keys))) → AreDifferent (map name (drop (i + 1) keys)) → AreDifferent (map name (drop i keys))
+pub different_next : {K : Type 0} (name : K → Name) (keys : List K) (i : ℕ) (k : K) → i < length keys → k ≡ get_or keys i k → ¬ (IsIn (name k) (map name (drop (i + 1) keys))) → AreDistinct (map name (drop (i + 1) keys)) → AreDistinct (map name (drop i keys))
 different_next name keys i k l is none rest =
     let next : drop (i + 1) keys ≡ drop (suc i) keys = ap (λ n. drop n keys) (add-one i) in
-    subst (λ ks. AreDifferent (map name ks)) (sym (from_key keys i k l is)) (
-      subst (λ ks. ¬ (IsAmong (name k) (map name ks))) next none,
-      subst (λ ks. AreDifferent (map name ks)) next rest,
+    subst (λ ks. AreDistinct (map name ks)) (sym (from_key keys i k l is)) (
+      subst (λ ks. ¬ (IsIn (name k) (map name ks))) next none,
+      subst (λ ks. AreDistinct (map name ks)) next rest,
     )
 
-again : {K : Type 0} (name : K → Name) (keys : List K) (i : ℕ) (k : K) → i < length keys → k ≡ get_or keys i k → IsAmong (name k) (map name (drop (suc i) keys)) → StandsAgain (map name keys) i
+again : {K : Type 0} (name : K → Name) (keys : List K) (i : ℕ) (k : K) → i < length keys → k ≡ get_or keys i k → IsIn (name k) (map name (drop (suc i) keys)) → StandsAgain (map name keys) i
 again name [] i k l is h = absurd (omega arith)
-again name (x ∷ xs) zero k l is h = subst (λ y. IsAmong (name y) (map name xs)) is h
+again name (x ∷ xs) zero k l is h = subst (λ y. IsIn (name y) (map name xs)) is h
 again name (x ∷ xs) (suc i) k l is h = again name xs i k (omega arith) is h
 
-pub stands_again : {K : Type 0} (name : K → Name) (keys : List K) (i : ℕ) (k : K) → i < length keys → k ≡ get_or keys i k → IsAmong (name k) (map name (drop (i + 1) keys)) → StandsAgain (map name keys) i
-stands_again name keys i k l is h = again name keys i k l is (subst (λ n. IsAmong (name k) (map name (drop n keys))) (add-one i) h)
+pub stands_again : {K : Type 0} (name : K → Name) (keys : List K) (i : ℕ) (k : K) → i < length keys → k ≡ get_or keys i k → IsIn (name k) (map name (drop (i + 1) keys)) → StandsAgain (map name keys) i
+stands_again name keys i k l is h = again name keys i k l is (subst (λ n. IsIn (name k) (map name (drop n keys))) (add-one i) h)
 
 -- the stripes of the hashes are those of the names
 module _ (hash : Name → ℕ) (set : Settings) {s : ℕ} (same : s ≡ set.s) where
@@ -80,9 +80,9 @@ module _ (hash : Name → ℕ) (set : Settings) {s : ℕ} (same : s ≡ set.s) w
   of_names ns qs hs z exact t = let of = exact t in let any = of_each qs hs z t in ((λ i. any.0 (of.0 i)), (λ a. of.1 (any.1 a)))
 
 -- a name's stripes are stripes of one of the names
-pub stripe_of_any : (hash : Name → ℕ) (set : Settings) (qs : List Name) (q : Name) (t : ℕ) → IsAmong q qs → IsStripeOf (layout_of hash set) q t → IsStripeOfAny hash set qs t
+pub stripe_of_any : (hash : Name → ℕ) (set : Settings) (qs : List Name) (q : Name) (t : ℕ) → IsIn q qs → IsStripeOf (layout_of hash set) q t → IsStripeOfAny hash set qs t
 stripe_of_any hash set [] q t i of = absurd i
-stripe_of_any hash set (x ∷ xs) q t i of = ⊎_elim (λ (e : q ≡ x). inl (subst (λ (z : Name). IsStripeOf (layout_of hash set) z t) e of)) (λ r. inr (stripe_of_any hash set xs q t r of)) i
+stripe_of_any hash set (x ∷ xs) q t i of = ⊎_elim (λ (e : x ≡ q). inl (subst (λ (z : Name). IsStripeOf (layout_of hash set) z t) (sym e) of)) (λ r. inr (stripe_of_any hash set xs q t r of)) i
 
 -- The first of the names that the pass holds may be at its place.
 pub holds_first : {V : Type 0} {hash : Name → ℕ} {set : Settings} {q : Name} {qs : List Name} {stripes : StripeSet} {place : KeyPlace} (p p1 : PassState V) → HoldsNames hash set (q ∷ qs) stripes p p1 → IsPlaceOf hash p1.stripes q place → place.s ≡ stripes.s

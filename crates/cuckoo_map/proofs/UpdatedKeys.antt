@@ -6,7 +6,8 @@ use Rattle.std.specs.FinMap.{get}
 use Rattle.ck_model.specs.declared.history.Act.TheVariants.{Update}
 use Rattle.ck_model.specs.declared.history.Call.TheVariants.{On}
 use Rattle.ck_model.specs.declared.history.Reply.{Reply}
-use Rattle.ck_model.specs.Promise.{Name, Map, Answers, Step, IsAmong, AreDifferent, bound_in}
+use Rattle.ck_model.specs.Promise.{Name, Map, Answers, Step, bound_in}
+use Rattle.ck_model.specs.Numbered.{IsIn, AreDistinct}
 use Rattle.ck_section.proofs.SeveralKeys.{key_among}
 use Rattle.ck_words.specs.Words.{WordsState}
 use Rattle.ck_words.specs.Passes.{PassState}
@@ -19,17 +20,17 @@ name_at name (x ∷ xs) zero k l is = ap name is
 name_at name (x ∷ xs) (suc i) k l is = name_at name xs i k (omega arith) is
 
 -- a name at a position is one of them
-at_among : (names : List Name) (i : ℕ) → i < length names → IsAmong (get_or names i []) names
+at_among : (names : List Name) (i : ℕ) → i < length names → IsIn (get_or names i []) names
 at_among [] i l = absurd (omega arith)
 at_among (x ∷ xs) zero l = inl refl
 at_among (x ∷ xs) (suc i) l = inr (at_among xs i (omega arith))
 
 -- a key at a position is one of the names that locked keys show, at that position
-pub shown_at : {K V : Type 0} (name : K → Name) (keys : List K) (w : WordsState) (p : PassState V) (k : KeysState V) → keys_of w (map name keys) p ≡ k → (i : ℕ) (key : K) → i < length k.names → key ≡ get_or keys i key → IsAmong (name key) k.names × (name key ≡ get_or k.names i [])
+pub shown_at : {K V : Type 0} (name : K → Name) (keys : List K) (w : WordsState) (p : PassState V) (k : KeysState V) → keys_of w (map name keys) p ≡ k → (i : ℕ) (key : K) → i < length k.names → key ≡ get_or keys i key → IsIn (name key) k.names × (name key ≡ get_or k.names i [])
 shown_at {K} {V} name keys w p k is i key inside at =
     let names : map name keys ≡ k.names = ap (λ (x : KeysState V). x.names) is in
     let within : i < length keys = subst (λ (n : ℕ). i < n) (length-map keys name) (subst (λ (l : List Name). i < length l) (sym names) inside) in
-    subst (λ (l : List Name). IsAmong (name key) l × (name key ≡ get_or l i [])) names (key_among name keys i key within at, name_at name keys i key within at)
+    subst (λ (l : List Name). IsIn (name key) l × (name key ≡ get_or l i [])) names (key_among name keys i key within at, name_at name keys i key within at)
 
 module _ {V : Type 0} where
   -- a bound name is bound to what it is updated to
@@ -38,16 +39,16 @@ module _ {V : Type 0} where
   updated_to None o2 v r a some = absurd (cc)
 
   -- names other than one that was updated keep their values
-  kept_by : (m m2 : Map V) (q : Name) → ((r : Name) → r ≢ q → get m2 r ≡ get m r) → (names : List Name) → ¬ (IsAmong q names) → bound_in m2 names ≡ bound_in m names
+  kept_by : (m m2 : Map V) (q : Name) → ((r : Name) → r ≢ q → get m2 r ≡ get m r) → (names : List Name) → ¬ (IsIn q names) → bound_in m2 names ≡ bound_in m names
   kept_by m m2 q others [] out = refl
-  kept_by m m2 q others (x ∷ xs) out = λ j. others x (λ e. out (inl (sym e))) j ∷ kept_by m m2 q others xs (λ i. out (inr i)) j
+  kept_by m m2 q others (x ∷ xs) out = λ j. others x (λ e. out (inl e)) j ∷ kept_by m m2 q others xs (λ i. out (inr i)) j
 
   -- of different names that are bound, the one at a position was bound to the value
-  pub set_bound : (m m2 : Map V) (v : V) (r : Reply V) (names : List Name) (i : ℕ) → i < length names → AreDifferent names → All IsSome (bound_in m names) → Step m (On (get_or names i []) (Update v)) r m2 → bound_in m2 names ≡ slice_set (bound_in m names) i (Some v)
+  pub set_bound : (m m2 : Map V) (v : V) (r : Reply V) (names : List Name) (i : ℕ) → i < length names → AreDistinct names → All IsSome (bound_in m names) → Step m (On (get_or names i []) (Update v)) r m2 → bound_in m2 names ≡ slice_set (bound_in m names) i (Some v)
   set_bound m m2 v r [] i l different some step = absurd (omega arith)
   set_bound m m2 v r (x ∷ xs) zero l different some step = λ j. updated_to (get m x) (get m2 x) v r step.0 (some 0 None (omega arith)) j ∷ kept_by m m2 x step.1 xs different.0 j
   set_bound m m2 v r (x ∷ xs) (suc i) l different some step =
-      let apart : x ≢ get_or xs i [] = λ e. different.0 (subst (λ (z : Name). IsAmong z xs) (sym e) (at_among xs i (omega arith))) in
+      let apart : x ≢ get_or xs i [] = λ e. different.0 (subst (λ (z : Name). IsIn z xs) (sym e) (at_among xs i (omega arith))) in
       λ j. step.1 x apart j ∷ set_bound m m2 v r xs i (omega arith) different.1 (λ k d l. some (suc k) d (omega arith)) step j
 
   -- by which all are bound still

@@ -14,6 +14,7 @@ pub mod LockedKeys
 pub mod Renames
 pub mod RoomForKeys
 pub use Rattle.ck_model.specs.Promise
+pub use Rattle.ck_model.specs.Numbered
 pub use Rattle.ck_model.specs.Ranges
 pub use Rattle.ck_section.specs.Acts
 pub use Rattle.ck_words.specs.Words

@@ -6,8 +6,8 @@ use Rattle.ck_model.specs.declared.history.Act.{Act}
 use Rattle.ck_model.specs.declared.history.Call.{Call}
 use Rattle.ck_model.specs.declared.history.Call.TheVariants.{SessionOn}
 use Rattle.ck_model.specs.declared.history.Reply.{Reply}
-use Rattle.ck_model.specs.Promise.{Name, IsAmong, AreDifferent, bound_in}
-use Rattle.ck_model.specs.Numbered.{numbers, Holds}
+use Rattle.ck_model.specs.Promise.{Name, bound_in}
+use Rattle.ck_model.specs.Numbered.{IsIn, AreDistinct, numbers, Holds}
 use Rattle.ck_model.specs.Contents.{layout_of, Lawful, bindings, power_of}
 use Rattle.ck_stripe.specs.Stripes.{contents_of}
 use Rattle.ck_stripe.specs.Tables.{AreHeld}
@@ -74,7 +74,7 @@ module _ {V : Type 0} where
   -- The caller has locked the names. They are different, and nothing has changed. It found no stripe held but such ones.
   pub record HasLockedKeys (P : ℕ → Type 0) (qs : List Name) (c : CallerState V) (k : KeysState V) : Type 0 where
     pub names : k.names ≡ qs
-    pub different : AreDifferent qs
+    pub different : AreDistinct qs
     pub same : IsSameCaller c k.session.caller
     pub stays : StaysAsIs c k.session.caller
     pub found : FindsHeldAmong P c k.session.caller
@@ -85,12 +85,12 @@ module _ {V : Type 0} where
     pub own : IsPassOf w p
     pub alone : p.view.others ≡ []
     pub number : (m : ℕ) × (p.view.by ≡ Some m) × (m < w.settings.callers)
-    pub different : AreDifferent names
-    pub owned : (q : Name) → IsAmong q names → HasBoth hash w.settings.s p.stripes q
+    pub different : AreDistinct names
+    pub owned : (q : Name) → IsIn q names → HasBoth hash w.settings.s p.stripes q
     pub of_table : stripes.s ≡ w.settings.s
     pub numbered : numbers_of p.stripes ≡ list_of stripes
     pub settled : AreHeld w.settings.s p.stripes
     pub same : numbers (contents_of p.stripes) ≡ numbers (reverse p.view.held)
     pub lawful : Lawful (layout_of hash w.settings) (contents_of p.stripes)
     pub level : (t : ℕ) (c : Content V) → Holds (reverse p.view.held) t c → c.power ≡ power_of (contents_of p.stripes)
-    pub others : (q : Name) → ¬ (IsAmong q names) → get (bindings (contents_of p.stripes)) q ≡ get (bindings (reverse p.view.held)) q
+    pub others : (q : Name) → ¬ (IsIn q names) → get (bindings (contents_of p.stripes)) q ≡ get (bindings (reverse p.view.held)) q

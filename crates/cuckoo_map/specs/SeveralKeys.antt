@@ -6,7 +6,8 @@ use Rattle.ck_model.specs.declared.history.Call.TheVariants.{On, SessionOn}
 use Rattle.ck_model.specs.declared.history.Reply.{Reply}
 use Rattle.ck_model.specs.declared.history.Reply.TheVariants.{Closed}
 use Rattle.ck_model.specs.declared.settings.Settings.{Settings}
-use Rattle.ck_model.specs.Promise.{Name, Step, IsAmong, bound_in}
+use Rattle.ck_model.specs.Promise.{Name, Step, bound_in}
+use Rattle.ck_model.specs.Numbered.{IsIn}
 use Rattle.ck_model.specs.Contents.{layout_of, IsStripeOf, bindings}
 use Rattle.ck_stripe.specs.Stripes.{contents_of}
 use Rattle.ck_stripe.specs.Tables.{AreHeld}
@@ -28,14 +29,14 @@ IsStripeOfAny hash set (q ∷ qs) t = IsStripeOf (layout_of hash set) q t ⊎ Is
 -- the name at this position stands again behind it
 abbrev pub StandsAgain : List Name → ℕ → Type 0
 StandsAgain [] i = ⊥
-StandsAgain (q ∷ qs) zero = IsAmong q qs
+StandsAgain (q ∷ qs) zero = IsIn q qs
 StandsAgain (q ∷ qs) (suc i) = StandsAgain qs i
 
 module _ {V : Type 0} where
   -- Since p the pass has taken these stripes, those of the names among them, and has settled them.
   pub record HoldsNames (hash : Name → ℕ) (set : Settings) (qs : List Name) (stripes : StripeSet) (p p2 : PassState V) : Type 0 where
     pub stays : Stays p.view p2.view
-    pub owned : (q : Name) → IsAmong q qs → HasBoth hash set.s p2.stripes q
+    pub owned : (q : Name) → IsIn q qs → HasBoth hash set.s p2.stripes q
     pub of_table : stripes.s ≡ set.s
     pub numbered : numbers_of p2.stripes ≡ list_of stripes
     pub settled : AreHeld set.s p2.stripes

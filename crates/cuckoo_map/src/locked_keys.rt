@@ -2,7 +2,8 @@
 ghost use Rattle.std.specs.Prelude.{◌≡◌, ◌<◌, ◌≤◌, Bool, Some, None, IsOk, IfOk, IfErr, MatchOption, MatchBool, length, map, is_some};
 ghost use Rattle.std.specs.Fn.{FnOnceReturnsAt};
 ghost use Rattle.ck_model.specs.declared.history.Reply.TheVariants.{Closed};
-ghost use Rattle.ck_model.specs.Promise.{IsAmong, Replied};
+ghost use Rattle.ck_model.specs.Promise.{Replied};
+ghost use Rattle.ck_model.specs.Numbered.{IsIn};
 ghost use Rattle.ck_core.specs.Trace.{missed_in};
 ghost use Rattle.ck_section.specs.Acts.{Updates, Modifies, Changes, Erases, Inserts, Assigns, Upserts};
 ghost use Rattle.cuckoo_map.specs.Callers.{caller_of, pass_of, IsSameCaller, KeepsNotes, IsRefusedOn, FindsHeldAmong};
@@ -160,7 +161,7 @@ impl<T: TableRef<K, V> + Drop, K: TableKey + Drop, V: Drop, Q: Query<K>> LockedK
     pub fn find<P: Query<K>>(&mut self, key: P) -> Option<V>
     where
         V: Copy,
-        requires named { IsAmong (P.name key) self.old.names }
+        requires named { IsIn (P.name key) self.old.names }
         ensures value { result ≡ value_of self.old (P.name key) }
         ensures same { self.new ≡ self.old }
     {
@@ -169,7 +170,7 @@ impl<T: TableRef<K, V> + Drop, K: TableKey + Drop, V: Drop, Q: Query<K>> LockedK
 
     /// Whether the key is bound.
     pub fn contains<P: Query<K>>(&mut self, key: P) -> bool
-        requires named { IsAmong (P.name key) self.old.names }
+        requires named { IsIn (P.name key) self.old.names }
         ensures bound { result ≡ is_some (value_of self.old (P.name key)) }
         ensures same { self.new ≡ self.old }
     {
@@ -178,7 +179,7 @@ impl<T: TableRef<K, V> + Drop, K: TableKey + Drop, V: Drop, Q: Query<K>> LockedK
 
     /// `Caller::find_fn`.
     pub fn find_fn<P: Query<K>, R, F: FnOnce(&V) -> R + Drop>(&mut self, key: P, f: F) -> Option<R>
-        requires named { IsAmong (P.name key) self.old.names }
+        requires named { IsIn (P.name key) self.old.names }
         requires call { F.IsAlwaysCallable f }
         ensures answered { MatchOption result
             (value_of self.old (P.name key) ≡ None)
@@ -206,7 +207,7 @@ impl<T: TableRef<K, V> + Drop, K: TableKey + Drop, V: Drop, Q: Query<K>> LockedK
 
     /// `Caller::update`, which is never refused.
     pub fn update<P: Query<K>>(&mut self, key: P, value: V) -> Option<V>
-        requires named { IsAmong (P.name key) self.old.names }
+        requires named { IsIn (P.name key) self.old.names }
         ensures names { self.new.names ≡ self.old.names }
         ensures room { KeepsRoom K.hash self.old self.new }
         ensures answered { Updates value (ActsOn (P.name key) self.old self.new) result }
@@ -218,7 +219,7 @@ impl<T: TableRef<K, V> + Drop, K: TableKey + Drop, V: Drop, Q: Query<K>> LockedK
 
     /// `Caller::update_fn`.
     pub fn update_fn<P: Query<K>, F: FnOnce(V) -> V + Drop>(&mut self, key: P, f: F) -> bool
-        requires named { IsAmong (P.name key) self.old.names }
+        requires named { IsIn (P.name key) self.old.names }
         requires call { F.IsAlwaysCallable f }
         ensures names { self.new.names ≡ self.old.names }
         ensures room { KeepsRoom K.hash self.old self.new }
@@ -235,7 +236,7 @@ impl<T: TableRef<K, V> + Drop, K: TableKey + Drop, V: Drop, Q: Query<K>> LockedK
         key: P,
         f: F,
     ) -> Option<R>
-        requires named { IsAmong (P.name key) self.old.names }
+        requires named { IsIn (P.name key) self.old.names }
         requires call { F.IsAlwaysCallable f }
         ensures names { self.new.names ≡ self.old.names }
         ensures room { KeepsRoom K.hash self.old self.new }
@@ -249,7 +250,7 @@ impl<T: TableRef<K, V> + Drop, K: TableKey + Drop, V: Drop, Q: Query<K>> LockedK
 
     /// `Caller::erase`.
     pub fn erase<P: Query<K>>(&mut self, key: P) -> Option<V>
-        requires named { IsAmong (P.name key) self.old.names }
+        requires named { IsIn (P.name key) self.old.names }
         ensures names { self.new.names ≡ self.old.names }
         ensures room { KeepsRoom K.hash self.old self.new }
         ensures answered { Erases (ActsOn (P.name key) self.old self.new) result }
@@ -261,7 +262,7 @@ impl<T: TableRef<K, V> + Drop, K: TableKey + Drop, V: Drop, Q: Query<K>> LockedK
 
     /// `Caller::insert`, which is refused where both buckets of the key are full.
     pub fn insert(&mut self, key: K, value: V) -> Result<bool, NoSlot<K, V>>
-        requires named { IsAmong (K.name key) self.old.names }
+        requires named { IsIn (K.name key) self.old.names }
         ensures names { self.new.names ≡ self.old.names }
         ensures room { KeepsRoom K.hash self.old self.new }
         ensures answered { IfOk result (Inserts value (ActsOn (K.name key) self.old self.new)) }
@@ -273,7 +274,7 @@ impl<T: TableRef<K, V> + Drop, K: TableKey + Drop, V: Drop, Q: Query<K>> LockedK
 
     /// `Caller::insert_or_assign`, which is refused as `insert` is.
     pub fn insert_or_assign(&mut self, key: K, value: V) -> Result<Option<V>, NoSlot<K, V>>
-        requires named { IsAmong (K.name key) self.old.names }
+        requires named { IsIn (K.name key) self.old.names }
         ensures names { self.new.names ≡ self.old.names }
         ensures room { KeepsRoom K.hash self.old self.new }
         ensures answered { IfOk result (Assigns value (ActsOn (K.name key) self.old self.new)) }
@@ -290,7 +291,7 @@ impl<T: TableRef<K, V> + Drop, K: TableKey + Drop, V: Drop, Q: Query<K>> LockedK
         f: F,
         value: V,
     ) -> Result<bool, NoSlot<K, V>>
-        requires named { IsAmong (K.name key) self.old.names }
+        requires named { IsIn (K.name key) self.old.names }
         requires call { F.IsAlwaysCallable f }
         ensures names { self.new.names ≡ self.old.names }
         ensures room { KeepsRoom K.hash self.old self.new }
@@ -329,7 +330,7 @@ impl<T: TableRef<K, V> + Drop, K: TableKey + Drop, V: Drop, Q: Query<K>> LockedK
         value: I::Value,
         insertion: I,
     ) -> Result<I::Answer, NoSlot<K, I::Value>>
-        requires named { IsAmong (K.name key) self.old.names }
+        requires named { IsIn (K.name key) self.old.names }
         requires call { I.can_make insertion value }
         ensures names { self.new.names ≡ self.old.names }
         ensures room { KeepsRoom K.hash self.old self.new }

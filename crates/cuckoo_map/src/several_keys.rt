@@ -4,7 +4,8 @@ ghost use Rattle.std.specs.Fn.{FnOnceReturnsAtMut};
 ghost use Rattle.std.specs.List.{AllZip};
 ghost use Rattle.ck_key.specs.Hashes.{IsHashOf};
 ghost use Rattle.ck_model.specs.Arithmetic.{partial_of};
-ghost use Rattle.ck_model.specs.Promise.{Name, IsAmong, AreDifferent};
+ghost use Rattle.ck_model.specs.Promise.{Name};
+ghost use Rattle.ck_model.specs.Numbered.{IsIn, AreDistinct};
 ghost use Rattle.ck_words.specs.Passes.{IsPassOf, IsIdle};
 ghost use Rattle.ck_words.specs.Retries.{FindsAmong};
 ghost use Rattle.ck_words.specs.Closing.{IsCaller};
@@ -286,7 +287,7 @@ impl<K: TableKey + Drop, V: Drop> Table<K, V> {
         requires some { 0 < length keys.now }
         requires few { length keys.now ≤ 8 }
         ensures own { IsPassOf self.now pass.new }
-        ensures different { OnOk result (AreDifferent (map Q.name keys.now)) }
+        ensures different { OnOk result (AreDistinct (map Q.name keys.now)) }
         ensures held { IfOk result (λ stripes. HoldsNames K.hash self.now.settings
             (map Q.name keys.now) stripes pass.old pass.new) }
         ensures found { FindsAmong
@@ -391,7 +392,7 @@ fn write_hashes<K: TableKey, Q: Query<K>>(keys: &[Q], hashes: &mut [KeyHash; 8])
 // The position of a key that stands again behind it.
 fn repeated<K: TableKey, Q: Query<K>>(keys: &[Q]) -> Option<usize>
     ensures again { IfSome result (StandsAgain (map Q.name keys.now)) }
-    ensures different { IfNone result (AreDifferent (map Q.name keys.now)) }
+    ensures different { IfNone result (AreDistinct (map Q.name keys.now)) }
 {
     for i in (0..keys.len()).rev() {
         if has_name::<K, Q>(&keys[i + 1..], keys[i]) {
@@ -403,8 +404,8 @@ fn repeated<K: TableKey, Q: Query<K>>(keys: &[Q]) -> Option<usize>
 
 // Whether one of the keys has the name of this one.
 fn has_name<K: TableKey, Q: Query<K>>(keys: &[Q], key: Q) -> bool
-    ensures { MatchBool result (IsAmong (Q.name key) (map Q.name keys.now))
-        (¬ (IsAmong (Q.name key) (map Q.name keys.now))) }
+    ensures { MatchBool result (IsIn (Q.name key) (map Q.name keys.now))
+        (¬ (IsIn (Q.name key) (map Q.name keys.now))) }
 {
     for other in keys {
         if key.is_same_name(other) {

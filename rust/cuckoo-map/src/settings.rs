@@ -27,7 +27,7 @@ pub struct Settings {
     pub turns: u32,
     /// Tries to displace entries without the whole table: 0 to 64.
     pub rounds: u32,
-    /// It grows only where so many per cent of its slots are taken: 0 to 100.
+    /// An insertion grows it only where so many per cent of its slots are taken: 0 to 100.
     pub min_load: u32,
 }
 

@@ -1,6 +1,6 @@
 //! Keys that are locked once there is room for each of them.
 ghost use Rattle.std.specs.Prelude.{◌≡◌, ◌<◌, ◌≤◌, Bool, OnOk, OnErr, IfOk, IfErr, MatchOption, length};
-ghost use Rattle.ck_model.specs.Promise.{AreDifferent};
+ghost use Rattle.ck_model.specs.Numbered.{AreDistinct};
 ghost use Rattle.ck_section.specs.RoomForAll.{HaveRoomForAll};
 ghost use Rattle.ck_words.specs.Passes.{IsPassOf};
 ghost use Rattle.ck_words.specs.Closing.{IsCaller};
@@ -34,7 +34,7 @@ impl<K: TableKey + Drop, V: Drop> Table<K, V> {
         requires some { 0 < length keys.now }
         requires few { length keys.now ≤ 8 }
         ensures own { IsPassOf self.now pass.new }
-        ensures different { OnOk result (AreDifferent (names_of K.name keys.now)) }
+        ensures different { OnOk result (AreDistinct (names_of K.name keys.now)) }
         ensures held { IfOk result (λ stripes. (m : _) × (all : Bool) × IsCaller self.now m
             × SeeksRoom K.hash self.now.settings (names_of K.name keys.now) all pass.old m
             × HoldsNames K.hash self.now.settings (names_of K.name keys.now) stripes m pass.new
@@ -72,7 +72,7 @@ impl<K: TableKey + Drop, V: Drop> Table<K, V> {
         requires some { 0 < length keys.now }
         requires few { length keys.now ≤ 8 }
         ensures own { IsPassOf self.now pass.new }
-        ensures different { OnOk result (AreDifferent (names_of K.name keys.now)) }
+        ensures different { OnOk result (AreDistinct (names_of K.name keys.now)) }
         ensures answered { IfOk result (λ taken. MatchOption taken
             (IsCaller self.now pass.new
             × LacksRoomStill K.hash self.now.settings (names_of K.name keys.now)
@@ -146,7 +146,7 @@ impl<K: TableKey + Drop, V: Drop> Table<K, V> {
         requires some { 0 < length keys.now }
         requires few { length keys.now ≤ 8 }
         ensures own { IsPassOf self.now pass.new }
-        ensures different { OnOk result (AreDifferent (names_of K.name keys.now)) }
+        ensures different { OnOk result (AreDistinct (names_of K.name keys.now)) }
         ensures answered { IfOk result (λ taken. MatchOption taken
             (IsCaller self.now pass.new
             × LacksRoomForAll K.hash self.now.settings (names_of K.name keys.now)

@@ -1,7 +1,8 @@
 use Rattle.std.proofs.Common.{◌↔◌, List, ◌∙◌, sym, subst, map, ⊎_elim, arith, take}
 use Rattle.std.specs.Prelude.{IsTrue}
 use Rattle.std.proofs.lemmas.Bool.{false≢true}
-use Rattle.ck_model.specs.Promise.{Name, IsAmong}
+use Rattle.ck_model.specs.Promise.{Name}
+use Rattle.ck_model.specs.Numbered.{IsIn}
 use Rattle.ck_model.specs.Contents.{Layout, layout, Stripes}
 use Rattle.ck_stripe.specs.Stripe.{StripeState}
 use Rattle.ck_stripe.specs.Stripes.{contents_of}
@@ -46,6 +47,6 @@ loop-i-preserved g c =
           lawful_still g.K.TableKey.hash c.args.s max old (g.H.Held.stripes c.loop-i.held) l.same (λ hs. IsTrue c.has_slots.result ↔ Finds k hs) (c.has_slots.ensures.slots max) lawful in
           ⊎_elim
           (λ h. l.so_far max lawful q h)
-          (λ e. subst (λ (n : Name). Finds n (contents_of old)) (sym e) (has.0 c.if-not-has_slots.false))
-          (among_more q k (map g.Q.Query.name (take c.loop-i.i c.args.keys.now)) (subst (λ (qs : List Name). IsAmong q qs) (names_more g.Q.Query.name c.args.keys.now c.loop-i.i key.result (omega arith) key.is) among));
+          (λ e. subst (λ (n : Name). Finds n (contents_of old)) e (has.0 c.if-not-has_slots.false))
+          (among_more q k (map g.Q.Query.name (take c.loop-i.i c.args.keys.now)) (subst (λ (qs : List Name). IsIn q qs) (names_more g.Q.Query.name c.args.keys.now c.loop-i.i key.result (omega arith) key.is) among));
     }

@@ -1,5 +1,5 @@
 use Rattle.std.proofs.Common.{map, sym, subst}
-use Rattle.ck_model.specs.Promise.{IsAmong}
+use Rattle.ck_model.specs.Numbered.{IsIn}
 use Rattle.ck_section.proofs.SeveralKeys.{key_among}
 use Rattle.cuckoo_map.proofs.SeveralKeys.{none_next, never}
 use Rattle.cuckoo_map.proofs.several_keys.has_name.Goals as goal
@@ -9,7 +9,7 @@ returns-then-is_same_name g c =
     let name = g.Q.Query.name in
     let keys = c.args.keys.now in
     let same = c.is_same_name.ensures.0 c.if-is_same_name.true in
-    subst (λ q. IsAmong q (map name keys)) (sym same) (key_among name keys c.loop-other.other-index c.other-item.result c.loop-other-test.true c.other-item.is)
+    subst (λ q. IsIn q (map name keys)) (sym same) (key_among name keys c.loop-other.other-index c.other-item.result c.loop-other-test.true c.other-item.is)
 
 pub loop-other-preserved : goal.loop-other-preserved
 loop-other-preserved g c = record {

@@ -1,5 +1,5 @@
 use Rattle.std.proofs.Common.{◌+◌, ◌-◌, map, subst, arith}
-use Rattle.ck_model.specs.Promise.{IsAmong}
+use Rattle.ck_model.specs.Numbered.{IsIn}
 use Rattle.cuckoo_map.proofs.SeveralKeys.{behind, stands_again}
 use Rattle.cuckoo_map.proofs.several_keys.repeated.Goals as goal
 
@@ -9,4 +9,4 @@ returns-then-has_name-clause-again g c =
     let name = g.Q.Query.name in
     let k = c.index-keys-i.result in
     let keys = c.args.keys.now in
-    stands_again name keys i k (omega arith) c.index-keys-i.is (subst (λ ks. IsAmong (name k) (map name ks)) (behind keys (i + 1)) c.if-has_name.ensures)
+    stands_again name keys i k (omega arith) c.index-keys-i.is (subst (λ ks. IsIn (name k) (map name ks)) (behind keys (i + 1)) c.if-has_name.ensures)
