@@ -5,7 +5,7 @@ use dashmap::DashMap;
 use std::hash::{BuildHasherDefault, Hasher};
 use std::slice;
 
-/// A text of C++, which stays until the call has returned. Only C++ and `of` make one.
+/// A text for the time of a call.
 #[repr(C)]
 pub struct Text {
     at: *const u8,
@@ -13,15 +13,9 @@ pub struct Text {
 }
 
 impl Text {
-    fn of(bytes: &[u8]) -> Text {
-        Text {
-            at: bytes.as_ptr(),
-            length: bytes.len(),
-        }
-    }
-
+    // Of one that C++ gives.
     fn bytes(&self) -> &[u8] {
-        // SAFETY: so many bytes are there, and nobody writes them during the call.
+        // SAFETY: C++ has so many bytes there, and nobody writes them during the call.
         unsafe { slice::from_raw_parts(self.at, self.length) }
     }
 }
@@ -36,8 +30,12 @@ pub struct Hash(u64);
 
 impl Hasher for Hash {
     fn write(&mut self, bytes: &[u8]) {
+        let text = Text {
+            at: bytes.as_ptr(),
+            length: bytes.len(),
+        };
         // SAFETY: it reads the text, and keeps nothing of it.
-        self.0 = unsafe { dash_hash(Text::of(bytes)) };
+        self.0 = unsafe { dash_hash(text) };
     }
 
     fn write_u64(&mut self, number: u64) {
@@ -52,7 +50,7 @@ impl Hasher for Hash {
     }
 }
 
-/// It has the shards that dashmap chooses: four for each processor, or up to the next power of two.
+/// It has as many shards as dashmap chooses: four for each processor, up to the next power of two.
 type Map<Key> = DashMap<Key, u64, BuildHasherDefault<Hash>>;
 
 // Defines the calls on maps that keep one type of keys. C++ gives a key as another type, and for the
