@@ -53,10 +53,10 @@ impl Hasher for Hash {
 /// It has as many shards as dashmap chooses: four for each processor, up to the next power of two.
 type Map<Key> = DashMap<Key, u64, BuildHasherDefault<Hash>>;
 
-// Defines the calls on maps that keep one type of keys. C++ gives a key as another type, and for the
-// call the map is lent it as the expression says.
+// Defines the calls on maps that keep one type of keys. C++ gives a key as another type, of which
+// the expression makes what the map looks for.
 macro_rules! calls {
-    ($kept:ty, $key:ident: $given:ty as $lent:expr;
+    ($kept:ty, $key:ident: $given:ty as $sought:expr;
         $open:ident $close:ident $find:ident $insert:ident $update:ident $add:ident
         $erase:ident) => {
         #[no_mangle]
@@ -69,13 +69,13 @@ macro_rules! calls {
 
         #[no_mangle]
         pub extern "C" fn $find(map: &Map<$kept>, $key: $given, value: &mut u64) -> bool {
-            let found = map.get($lent);
+            let found = map.get($sought);
             found.map(|found| *value = *found).is_some()
         }
 
         #[no_mangle]
         pub extern "C" fn $insert(map: &Map<$kept>, $key: $given, value: u64) -> bool {
-            match map.entry($lent.to_owned()) {
+            match map.entry($sought.to_owned()) {
                 Entry::Occupied(_) => false,
                 Entry::Vacant(entry) => {
                     entry.insert(value);
@@ -86,18 +86,18 @@ macro_rules! calls {
 
         #[no_mangle]
         pub extern "C" fn $update(map: &Map<$kept>, $key: $given, value: u64) -> bool {
-            let found = map.get_mut($lent);
+            let found = map.get_mut($sought);
             found.map(|mut found| *found = value).is_some()
         }
 
         // A key that is bound isn't copied, and one that is bound meanwhile is added to.
         #[no_mangle]
         pub extern "C" fn $add(map: &Map<$kept>, $key: $given) -> bool {
-            if let Some(mut found) = map.get_mut($lent) {
+            if let Some(mut found) = map.get_mut($sought) {
                 *found += 1;
                 return false;
             }
-            match map.entry($lent.to_owned()) {
+            match map.entry($sought.to_owned()) {
                 Entry::Occupied(mut entry) => {
                     *entry.get_mut() += 1;
                     false
@@ -111,7 +111,7 @@ macro_rules! calls {
 
         #[no_mangle]
         pub extern "C" fn $erase(map: &Map<$kept>, $key: $given) -> bool {
-            map.remove($lent).is_some()
+            map.remove($sought).is_some()
         }
     };
 }
