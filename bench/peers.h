@@ -1,4 +1,4 @@
-// The C++ tables, where the machine has them.
+// The other tables, where the machine has them.
 #pragma once
 #include "table.h"
 
@@ -119,6 +119,70 @@ public:
 };
 #endif
 
+#ifdef HAS_DASHMAP
+#include <string_view>
+// Rust's dashmap, by the calls of bench/dashmap. It has the shards that it chooses itself.
+struct DashNumbers;
+struct DashTexts;
+struct DashText {
+  const char *at;
+  size_t length;
+};
+extern "C" {
+DashNumbers *dash_open(size_t keys);
+void dash_close(DashNumbers *map);
+bool dash_find(const DashNumbers *map, uint64_t key, uint64_t *value);
+bool dash_insert(const DashNumbers *map, uint64_t key, uint64_t value);
+bool dash_update(const DashNumbers *map, uint64_t key, uint64_t value);
+bool dash_add(const DashNumbers *map, uint64_t key);
+bool dash_erase(const DashNumbers *map, uint64_t key);
+DashTexts *dash_text_open(size_t keys);
+void dash_text_close(DashTexts *map);
+bool dash_text_find(const DashTexts *map, DashText key, uint64_t *value);
+bool dash_text_insert(const DashTexts *map, DashText key, uint64_t value);
+bool dash_text_update(const DashTexts *map, DashText key, uint64_t value);
+bool dash_text_add(const DashTexts *map, DashText key);
+bool dash_text_erase(const DashTexts *map, DashText key);
+// dashmap asks for it, so that a text has the hash that it has in the other tables.
+uint64_t dash_hash(DashText text) { return std::hash<std::string_view>()({text.at, text.length}); }
+}
+
+template <class Key> class Dashmap;
+template <> class Dashmap<uint64_t> {
+  DashNumbers *map;
+
+public:
+  explicit Dashmap(uint64_t keys) : map(dash_open(keys ? keys : 4096)) {}
+  Dashmap(const Dashmap &) = delete;
+  ~Dashmap() { dash_close(map); }
+  bool find(uint64_t key, uint64_t &value) { return dash_find(map, key, &value); }
+  bool insert(uint64_t key, uint64_t value) { return dash_insert(map, key, value); }
+  bool update(uint64_t key, uint64_t value) { return dash_update(map, key, value); }
+  bool add(uint64_t key) { return dash_add(map, key); }
+  bool erase(uint64_t key) { return dash_erase(map, key); }
+};
+template <> class Dashmap<std::string> {
+  DashTexts *map;
+  static DashText of(const std::string &key) { return {key.data(), key.size()}; }
+
+public:
+  explicit Dashmap(uint64_t keys) : map(dash_text_open(keys ? keys : 4096)) {}
+  Dashmap(const Dashmap &) = delete;
+  ~Dashmap() { dash_text_close(map); }
+  bool find(const std::string &key, uint64_t &value) {
+    return dash_text_find(map, of(key), &value);
+  }
+  bool insert(const std::string &key, uint64_t value) {
+    return dash_text_insert(map, of(key), value);
+  }
+  bool update(const std::string &key, uint64_t value) {
+    return dash_text_update(map, of(key), value);
+  }
+  bool add(const std::string &key) { return dash_text_add(map, of(key)); }
+  bool erase(const std::string &key) { return dash_text_erase(map, of(key)); }
+};
+#endif
+
 template <class Key> std::vector<Contestant> peers(const Trace &trace) {
   Calls<Key> calls = keyed<Key>(trace);
   std::vector<Contestant> all;
@@ -130,6 +194,9 @@ template <class Key> std::vector<Contestant> peers(const Trace &trace) {
 #endif
 #ifdef HAS_ABSL
   all.push_back(own<ShardedAbsl<Key>>("sharded absl", calls));
+#endif
+#ifdef HAS_DASHMAP
+  all.push_back(own<Dashmap<Key>>("dashmap", calls));
 #endif
   return all;
 }

@@ -67,6 +67,14 @@ inline Trace insertions(uint64_t keys) {
   return trace;
 }
 
+// Each call on so many keys: on one that is unbound, and on one that is bound.
+inline Trace all_calls(uint64_t keys) {
+  Trace trace;
+  for (uint64_t i = 0; i < keys; i++)
+    for (char letter : std::string("eufaafifufeei")) trace.calls.push_back({letter, mix(i)});
+  return trace;
+}
+
 // The insertions, and then each workload, with as many calls as there are keys. The mixes are those
 // of YCSB.
 inline Trace workloads(uint64_t keys, bool mixes) {
