@@ -80,7 +80,7 @@ module _ {V : Type 0} where
       (m : PassState V) (view : m.view ≡ p.view) (table : m.table ≡ p.table) (as_is : m.stripes ≡ p.stripes) where
     -- the names are not one
     pub apart : q ≢ r
-    apart e = l.different.0 (inl e)
+    apart e = l.different.0 (inl (sym e))
 
     module _ (z : PassState V) (view_left : z.view ≡ m.view) (table_left : z.table ≡ m.table) where
       -- the pass is as it was
@@ -194,7 +194,7 @@ module _ {V : Type 0} (hash : Name → ℕ) (w : WordsState) (q r : Name) (apart
   done_in_all = done_then hash w.settings p1 p2 (ap (λ (v : View V). v.held) view) h.renewed (session_on names p2) Closed (λ lawful. record {
     renewed = record { same = did.same; lawful = did.lawful; power = inl (λ t u c d a b. one_of_lawful k (contents_of p2.stripes) did.lawful u d b ∙ (power_kept p1.stripes p2.stripes rest ∙ sym (one_of_lawful k (contents_of p1.stripes) was.renewed.lawful t c a))) };
     owns = λ x i. has_both w.settings.s p1.stripes h.all hash x w.settings.max;
-    step = (refl, ((λ e. ⊎_elim apart (λ none. none) e), ((λ none. none), tt)), sym before, refl, did.others);
+    step = (refl, ((λ e. ⊎_elim (λ same. apart (sym same)) (λ none. none) e), ((λ none. none), tt)), sym before, refl, did.others);
   })
 
   -- which was answered, with room for r

@@ -272,7 +272,7 @@ impl<K: TableKey + Drop, V: Drop> Table<K, V> {
                 Ok(answer)
             }
             Err(why) => {
-                self.end_preparation(preparation);
+                self.end_in_vain(preparation, why);
                 Err(Refused { key, value, why })
             }
         }

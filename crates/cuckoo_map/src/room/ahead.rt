@@ -65,7 +65,7 @@ impl<K: TableKey + Drop, V: Drop> Table<K, V> {
                 Ok(())
             }
             Err(why) => {
-                self.end_preparation(preparation);
+                self.end_in_vain(preparation, why);
                 Err(why)
             }
         }

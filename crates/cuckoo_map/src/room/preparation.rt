@@ -7,12 +7,13 @@
 //! and only module `room` is given growers.
 ghost use Rattle.std.specs.Prelude.{◌≤◌};
 
+use crate::refusal::Why;
 use crate::table::Table;
 use ck_key::TableKey;
 use ck_model::settings::Settings;
 use ck_stripe::Grower;
 use std::alloc::Global;
-use std::sync::atomic::{AtomicBool, Ordering};
+use std::sync::atomic::{AtomicBool, AtomicU32, Ordering};
 
 // How often a caller tries at least until another one has prepared a doubling. That takes
 // milliseconds: a caller of few turns would else request all blocks again, under all stripes.
@@ -23,11 +24,17 @@ const FEWEST_TRIES: u32 = 1 << 18;
 pub(crate) struct Growth {
     alloc: Global,
     held: AtomicBool,
+    // The last power at which a doubling was prepared for a table that was too empty to grow; 0 for
+    // none. There no more is prepared: else each of many keys that share their buckets would
+    // request the blocks of a doubling, only to be refused.
+    too_empty: AtomicU32,
 }
 
-// What one insertion has prepared. It has to be ended, so that the lock is given back.
+// What one insertion has prepared, and for which power. It has to be ended, so that the lock is
+// given back.
 pub(crate) struct Preparation<K: TableKey, V> {
     pub(super) grower: Grower<K, V>,
+    power: u32,
     has_lock: bool,
 }
 
@@ -36,6 +43,7 @@ impl Growth {
         Growth {
             alloc,
             held: AtomicBool::new(false),
+            too_empty: AtomicU32::new(0),
         }
     }
 
@@ -69,6 +77,7 @@ impl<K: TableKey + Drop, V: Drop> Table<K, V> {
     pub(crate) fn unprepared(&self) -> Preparation<K, V> {
         Preparation {
             grower: self.grower(),
+            power: 0,
             has_lock: false,
         }
     }
@@ -80,21 +89,35 @@ impl<K: TableKey + Drop, V: Drop> Table<K, V> {
         requires { self.now.settings.s ≤ power }
     {
         let Settings { s, max, turns, .. } = self.words.settings();
-        if power >= max {
+        if power >= max || self.growth.too_empty.load(Ordering::Relaxed) == power {
             return true;
         }
         if !self.growth.try_lock() {
             return !self.growth.wait::<K>(turns.max(FEWEST_TRIES));
         }
         preparation.has_lock = true;
+        preparation.power = power;
         preparation.grower.prepare(s, power);
         true
+    }
+
+    // The same where no room was made. If the table was too empty, it remembers that.
+    pub(crate) fn end_in_vain(&self, preparation: Preparation<K, V>, why: Why) {
+        if let Why::LoadTooLow = why
+            && preparation.has_lock
+        {
+            self.growth
+                .too_empty
+                .store(preparation.power, Ordering::Relaxed);
+        }
+        self.end_preparation(preparation);
     }
 
     // Gives the lock back, once the stripes are, and frees what is left.
     pub(crate) fn end_preparation(&self, preparation: Preparation<K, V>) {
         let Preparation {
             grower: _grower,
+            power: _power,
             has_lock,
         } = preparation;
         if has_lock {
