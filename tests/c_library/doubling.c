@@ -1,6 +1,6 @@
 /* A doubling whose memory is refused, or is requested while other handles insert: what each call
- * answers, how many requests it makes, and what stays; and a rename of texts whose copies are
- * refused. Between two requests the program's own malloc, which the linker puts in by
+ * answers, how many requests it makes, and what stays; tables that may not grow; and a rename of
+ * texts whose copies are refused. Between two requests the program's own malloc, which the linker puts in by
  * --wrap=malloc, can refuse and can make other calls. */
 #include <cuckoo_map.h>
 #include <pthread.h>
@@ -65,11 +65,12 @@ static cuckoo_settings settings_of(uint32_t max, uint32_t turns) {
                              .rounds = 4, .min_load = 5};
 }
 
-static void open_all(uint32_t max, uint32_t turns) {
-    cuckoo_settings settings = settings_of(max, turns);
+static void open_as(cuckoo_settings settings) {
     for (int i = 0; i < HANDLES; i++) handles[i] = (cuckoo_handle)CUCKOO_CLOSED_HANDLE;
     check("a table is opened", cuckoo_open_with(&settings, handles, HANDLES) == CUCKOO_OK);
 }
+
+static void open_all(uint32_t max, uint32_t turns) { open_as(settings_of(max, turns)); }
 
 static void close_all(void) {
     for (int i = 0; i < HANDLES; i++) cuckoo_close(&handles[i]);
@@ -136,6 +137,42 @@ static int32_t insert_refused(int handle, uint64_t key, int from, int until) {
     code = cuckoo_insert(&handles[handle], key, key + 1);
     watched.counts = 0;
     return code;
+}
+
+/* What displaces entries requests nothing, nor does what finds the table full. */
+static void try_full(void) {
+    open_all(3, 64);
+    watched = (watch){.counts = 1};
+    fill();
+    check("it is full", cuckoo_insert(&handles[0], first, 1) == CUCKOO_FULL);
+    watched.counts = 0;
+    check("without a request", watched.requests == 0);
+    close_all();
+}
+
+/* Keys that have the same two buckets in a table of eight. */
+static const uint64_t alike[] = {5, 27, 35, 38, 53, 64, 66, 121, 129, 143};
+
+/* Where they fill their buckets, the table is too empty to grow. One caller requests a doubling for
+ * that in vain; those after it request nothing. */
+static void try_too_empty(void) {
+    cuckoo_settings settings = settings_of(5, 64);
+    settings.min_load = 50;
+    open_as(settings);
+    for (int i = 0; i < 8; i++)
+        check("a key has room", cuckoo_insert(&handles[0], alike[i], alike[i] + 1) == CUCKOO_OK);
+    check("the table is too empty", insert_refused(0, alike[8], 0, 0) == CUCKOO_LOAD_TOO_LOW);
+    check("a doubling is requested", watched.requests == REQUESTS);
+    for (int handle = 0; handle < HANDLES; handle++)
+        for (int i = 8; i < 10; i++) {
+            check("it still is", insert_refused(handle, alike[i], 0, 0) == CUCKOO_LOAD_TOO_LOW);
+            check("nothing is requested", watched.requests == 0);
+        }
+    check("it has not grown", capacity() == SLOTS);
+    check("it is made to", cuckoo_reserve(&handles[0], 2 * SLOTS) == CUCKOO_OK);
+    check("then there is room", insert_refused(1, alike[8], 0, 0) == CUCKOO_OK);
+    for (int i = 0; i < 9; i++) check("a key is bound", is_bound(alike[i]));
+    close_all();
 }
 
 /* The same, with an action before a request, of which none is refused. */
@@ -339,6 +376,8 @@ static void try_text_rename(void) {
 
 int main(void) {
     choose_keys();
+    try_full();
+    try_too_empty();
     try_prepared();
     try_each_refused();
     try_taken();

@@ -178,6 +178,7 @@ static void try_settings(const char *name, cuckoo_settings settings, size_t coun
 /* Each setting out of its range. */
 static void try_bad_settings(void) {
     static cuckoo_handle many[1025];
+    static cuckoo_text_handle texts[1025];
     cuckoo_settings good = settings_of(4, 8, 1, 5);
     cuckoo_settings bad;
     puts("bad settings");
@@ -195,6 +196,15 @@ static void try_bad_settings(void) {
     expect("  no turns, for keys", cuckoo_open(100, 0, many, 1), CUCKOO_BAD_SETTINGS);
     expect("  no place", cuckoo_open(100, 64, many, 0), CUCKOO_BAD_SETTINGS);
     expect("  1025 places", cuckoo_open(100, 64, many, 1025), CUCKOO_BAD_SETTINGS);
+    expect("  of texts", cuckoo_text_open(100, 64, texts, 1025), CUCKOO_BAD_SETTINGS);
+    expect("  1024 places", cuckoo_open(100, 64, many, 1024), CUCKOO_OK);
+    expect("  of texts", cuckoo_text_open(100, 64, texts, 1024), CUCKOO_OK);
+    expect("  the last is open", cuckoo_contains(&many[1023], 1), CUCKOO_ABSENT);
+    expect("  of texts", cuckoo_text_contains(&texts[1023], "", 0), CUCKOO_ABSENT);
+    for (int i = 0; i < 1024; i++) {
+        cuckoo_close(&many[i]);
+        cuckoo_text_close(&texts[i]);
+    }
 }
 
 /* Texts of 65 bytes are refused, and of 64 and none are not. */

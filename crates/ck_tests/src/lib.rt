@@ -1,11 +1,13 @@
-//! Tests of what no contract says, and which no transcript can ask for: what is dropped, what
-//! threads do, keys and searches that were worked out by hand, and scripts that can't be read or
-//! written.
+//! Tests of what no contract says, and which no transcript can ask for: what is dropped and what is
+//! moved, what threads do, keys and searches that were worked out by hand, scripts that can't be
+//! read or written, and the texts of refusals.
 #![tactic(auto)]
 
 // What they share.
 #[cfg(test)]
 mod fixtures;
+#[cfg(test)]
+mod watched;
 
 // Keys, queries, searches and histories.
 #[cfg(test)]
@@ -17,11 +19,13 @@ mod queries;
 #[cfg(test)]
 mod searches;
 
-// What is dropped, and how often.
+// What is dropped and what is moved, and how often.
 #[cfg(test)]
 mod drops;
 #[cfg(test)]
 mod lists;
+#[cfg(test)]
+mod moves;
 
 // Threads.
 #[cfg(test)]

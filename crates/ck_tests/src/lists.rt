@@ -1,4 +1,4 @@
-//! A table whose values own memory, and one whose values are large.
+//! Tables whose values own memory, are large, and are none.
 use crate::fixtures::sixteen_buckets;
 use cuckoo_map::{Handle, NumKey};
 use std::alloc::{AllocError, Global};
@@ -62,6 +62,39 @@ fn pages(rt: HostRuntime) -> Result<(), Fail> {
             );
         }
         assert!(rt; handle.is_empty() == Ok(true));
+    }
+    Ok(())
+}
+
+/// A value of 64 kilobytes.
+type Book = [u64; 8192];
+
+/// Whether the last number of the book is this.
+fn ends_with(handle: &mut Handle<NumKey, Book>, key: u64, number: u64) -> bool {
+    let ends = |book: &Book| book[8191] == number;
+    handle.find_fn(&NumKey(key), ends) == Ok(Some(true))
+}
+
+#[test]
+fn books(rt: HostRuntime) -> Result<(), Fail> {
+    for handle in &mut Handle::open(rt.alloc(), sixteen_buckets(1))? {
+        assert!(rt; handle.insert(NumKey(1), [10; 8192]).is_ok_and(|fresh| fresh));
+        assert!(rt; handle.insert(NumKey(2), [20; 8192]).is_ok_and(|fresh| fresh));
+        assert!(rt; handle.rehash(5) == Ok(true));
+        assert!(rt; ends_with(handle, 1, 10) && ends_with(handle, 2, 20));
+    }
+    Ok(())
+}
+
+/// A table whose values are nothing is a set.
+#[test]
+fn a_set(rt: HostRuntime) -> Result<(), Fail> {
+    for handle in &mut Handle::<NumKey, ()>::open(rt.alloc(), sixteen_buckets(1))? {
+        assert!(rt; handle.insert(NumKey(1), ()).is_ok_and(|fresh| fresh));
+        assert!(rt; handle.insert(NumKey(1), ()).is_ok_and(|fresh| !fresh));
+        assert!(rt; handle.contains(&NumKey(1)) == Ok(true));
+        assert!(rt; handle.erase(&NumKey(1)) == Ok(Some(())));
+        assert!(rt; handle.contains(&NumKey(1)) == Ok(false));
     }
     Ok(())
 }

@@ -1,5 +1,5 @@
 //! The calls on tables whose keys are numbers, as C makes them.
-ghost use Rattle.std.specs.Prelude.{◌≡◌, ◌≢◌, ◌∷◌, [], ℕ, Bool, Option, Result, All, length, map, nat_eq};
+ghost use Rattle.std.specs.Prelude.{◌≡◌, ◌≢◌, ◌≤◌, ◌∷◌, [], ℕ, Bool, Option, Result, All, length, map, nat_eq};
 ghost use Rattle.std.specs.declared.option.Option.TheVariants.{None};
 ghost use Rattle.ck_key.specs.Hashes.{mixed_hash};
 ghost use Rattle.ck_section.specs.Acts.{Finds, FindsBound, Inserts, Assigns, Upserts, Modifies, ErasesBy, Erases};
@@ -42,7 +42,8 @@ pub extern "C" fn cuckoo_open(
     handles: &mut [CuckooHandle],
 ) -> i32
     ensures length { length handles.new ≡ length handles.old }
-    ensures opens { Numbered result (Opens (λ set. (set.turns ≡ turns) × IsFor keys set)
+    ensures opens { Numbered result (Opens (λ set. (length handles.old ≤ 1024 → set.callers ≡ length handles.old)
+        × (set.turns ≡ turns) × IsFor keys set)
         (length handles.old) (All (λ h. h.held ≡ None) handles.old)
         (map (λ h. h.held) handles.old) (map (λ h. h.held) handles.new)) }
 {

@@ -1,5 +1,5 @@
 //! How handles of a new table come into their places, and how they go.
-ghost use Rattle.std.specs.Prelude.{◌≡◌, ◌≢◌, ◌⊎◌, true, false, All, map, length, IfOk};
+ghost use Rattle.std.specs.Prelude.{◌≡◌, ◌≢◌, ◌⊎◌, ◌≤◌, true, false, All, map, length, IfOk};
 ghost use Rattle.std.specs.declared.option.Option.TheVariants.{None, Some};
 ghost use Rattle.ck_model.specs.Counting.{counting};
 ghost use Rattle.ck_words.specs.Words.{WordsState};
@@ -16,6 +16,7 @@ use std::alloc::{AllocError, Global};
 
 /// Settings for about so many keys, and for so many handles, of which there may be 1,024.
 pub fn settings_for(keys: u64, handles: usize, turns: u32) -> Settings
+    ensures callers { handles ≤ 1024 → result.callers ≡ handles }
     ensures turns { result.turns ≡ turns }
     ensures keys { IsFor keys result }
 {

@@ -57,7 +57,8 @@ pub extern "C" fn cuckoo_text_open(
     handles: &mut [CuckooTextHandle],
 ) -> i32
     ensures length { length handles.new ≡ length handles.old }
-    ensures opens { Numbered result (Opens (λ set. (set.turns ≡ turns) × IsFor keys set)
+    ensures opens { Numbered result (Opens (λ set. (length handles.old ≤ 1024 → set.callers ≡ length handles.old)
+        × (set.turns ≡ turns) × IsFor keys set)
         (length handles.old) (All (λ h. h.held ≡ None) handles.old)
         (map (λ h. h.held) handles.old) (map (λ h. h.held) handles.new)) }
 {
@@ -158,10 +159,11 @@ pub extern "C" fn cuckoo_text_assign(
     value: u64,
     old: &mut u64,
 ) -> i32
-    ensures called { length key.now ≤ 64 → Numbered result (λ code. CallsWithMemory (λ c d. (r : Result (Option ℕ) (Refused BytesKey ℕ))
+    ensures called { length key.now ≤ 64 → Numbered result (λ code. Calls (λ c d. (r : Result (Option ℕ) (Refused BytesKey ℕ))
         × InsertionLeaves (Assigns value) text_hash key.now (record { 0 = key.now }) value r c d
         × TellsOld r code old.old old.new)
-        handle.old.held handle.new.held code) }
+        handle.old.held handle.new.held code
+        ⊎ (handle.new.held ≡ handle.old.held) × (code ≡ codes.Memory) × (old.new ≡ old.old)) }
     ensures too_long { 64 < length key.now → (result ≡ number_of codes.TooLong)
         × (handle.new.held ≡ handle.old.held) × (old.new ≡ old.old) }
     ensures same { handle.old.held ≡ None → old.new ≡ old.old }

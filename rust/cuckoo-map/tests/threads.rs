@@ -185,3 +185,20 @@ fn calls_take_one_to_eight_different_keys() {
     assert_eq!(handle.move_all(&parts[1..]), Ok(true));
     assert_eq!(handle.find_all([0, 1, 8]), Ok([Some(0), Some(12), Some(82)]));
 }
+
+/// A call yields after so many turns, which other threads need where there are more than processors.
+#[test]
+fn settings_for_keys_have_few_turns() {
+    let settings = Settings::for_keys(100, 3);
+    assert_eq!((settings.turns, settings.callers), (64, 3));
+}
+
+/// As many handles as there may be are opened, and one more is refused.
+#[test]
+fn there_are_1024_handles_at_most() {
+    let mut handles = Settings::for_keys(100, 1024).open().unwrap();
+    assert_eq!(handles.len(), 1024);
+    assert_eq!(handles[1023].insert(1, 10), Ok(true));
+    assert_eq!(handles[0].find(1), Ok(Some(10)));
+    assert_eq!(Settings::for_keys(100, 1025).open().err(), Some(Error::BadSettings));
+}
