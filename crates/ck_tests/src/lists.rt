@@ -78,8 +78,16 @@ fn ends_with(handle: &mut Handle<NumKey, Book>, key: u64, number: u64) -> bool {
 #[test]
 fn books(rt: HostRuntime) -> Result<(), Fail> {
     for handle in &mut Handle::open(rt.alloc(), sixteen_buckets(1))? {
-        assert!(rt; handle.insert(NumKey(1), [10; 8192]).is_ok_and(|fresh| fresh));
-        assert!(rt; handle.insert(NumKey(2), [20; 8192]).is_ok_and(|fresh| fresh));
+        assert!(rt;
+            handle
+                .insert(NumKey(1), [10; 8192])
+                .is_ok_and(|fresh| fresh)
+        );
+        assert!(rt;
+            handle
+                .insert(NumKey(2), [20; 8192])
+                .is_ok_and(|fresh| fresh)
+        );
         assert!(rt; handle.rehash(5) == Ok(true));
         assert!(rt; ends_with(handle, 1, 10) && ends_with(handle, 2, 20));
     }

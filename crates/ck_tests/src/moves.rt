@@ -19,12 +19,7 @@ const SETTINGS: Settings = Settings {
 };
 
 /// Binds the key, and says how often keys were hashed for that.
-fn bind<'w>(
-    rt: &impl Abort,
-    handle: &mut WatchedHandle<'w>,
-    number: u64,
-    watch: &'w Watch,
-) -> u64 {
+fn bind<'w>(rt: &impl Abort, handle: &mut WatchedHandle<'w>, number: u64, watch: &'w Watch) -> u64 {
     let before = read(&watch.hashed);
     let bound = handle.insert(WatchedKey { number, watch }, 0);
     assert!(rt; bound.is_ok_and(|fresh| fresh), "key {number}");

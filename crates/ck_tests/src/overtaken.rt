@@ -36,10 +36,7 @@ fn double_meanwhile<'w>(mut handle: WatchedHandle<'w>, watch: &'w Watch) -> bool
         watch.wait_for(&watch.inserted, 1);
         value
     };
-    let key = WatchedKey {
-        number: 258,
-        watch,
-    };
+    let key = WatchedKey { number: 258, watch };
     let held = handle.update_fn(&key, around);
     grown == Ok(true) && held == Ok(true)
 }
@@ -53,11 +50,7 @@ fn fill<'w>(rt: &impl Abort, handle: &mut WatchedHandle<'w>, watch: &'w Watch) {
 }
 
 /// The first handle doubles the table while the second inserts the key that waits.
-fn meet<'w, R: Threads + Abort + Sync>(
-    rt: &R,
-    watch: &'w Watch,
-    handles: Vec<WatchedHandle<'w>>,
-) {
+fn meet<'w, R: Threads + Abort + Sync>(rt: &R, watch: &'w Watch, handles: Vec<WatchedHandle<'w>>) {
     let mut handles = handles;
     let mut first = handles.pop().expect(rt, "two handles");
     let second = handles.pop().expect(rt, "two handles");
