@@ -14,10 +14,22 @@
 // it until it ends. Those that find none share one more, a call at a time. A call that the library
 // refuses as busy lets other threads run, and is made again.
 //
-// A closure doesn't run in the library. What it is to change is read, given to it, and set where
-// the key is still bound to what was read; else the closure runs again, on what the key is bound to
-// by then. So a closure may run more than once, and what it sees in its last run is what it
-// replaces. No lock is held meanwhile: it may throw, take its time and make calls of its own.
+// CLOSURES DIFFER. libcuckoo's run once, under the key's lock; those of `update_fn`, `upsert`,
+// `uprase_fn` and `erase_fn` run with no lock held, on a copy of the value that was read, and what
+// they make of it is set where the key is still bound to what was read. Where it is bound to another
+// value by then, the closure runs again, on that. Where it is unbound by then, the closure has run
+// in vain, and the call goes on as for an unbound key: `update_fn` and `erase_fn` return false,
+// `upsert` and `uprase_fn` bind it, or begin anew where others have bound it meanwhile. So a closure
+// may run more than once, and may have run although the call tells that the key was unbound; where
+// it tells that the key was bound, its last run saw what it replaced. A closure must not free, send
+// or count anything, therefore, nor read what a pointer that it is given leads to, unless the program
+// keeps that alive. `take` takes a value out:
+//
+//     objects.erase_fn(1, [](object *&it) { delete it; return true; });  // here it may free twice
+//     if (auto it = objects.take(1)) delete *it;                         // frees once
+//
+// A closure may throw, take its time and make calls of its own. What one that throws has changed is
+// dropped; libcuckoo keeps it.
 //
 // Calls have to be ordered before the end of the map, as by the end of their threads or by a lock.
 // The library is linked as C: what this header does is tested, and not proved.
@@ -256,6 +268,11 @@ template <class T> std::uint64_t to_number(const T &value) {
   std::memcpy(&number, &value, sizeof value);
   return number;
 }
+
+// Whether equal values have equal bytes, but for 0.0 and -0.0: they have no padding.
+template <class T>
+constexpr bool is_its_bytes =
+    std::has_unique_object_representations_v<T> || std::is_floating_point_v<T>;
 
 template <class T> T from_number(std::uint64_t number) {
   T value;
@@ -669,6 +686,16 @@ public:
     return on<family::add>(key, static_cast<std::uint64_t>(more)) == CUCKOO_OK;
   }
 
+  /// Binds the key, and returns the value that it had, or nothing where it was unbound.
+  ///
+  ///     if (auto before = objects.exchange(5, object)) delete *before;
+  template <class V> std::optional<T> exchange(const key_taken &key, V &&value) {
+    std::uint64_t old;
+    if (on<family::assign>(key, number_of(std::forward<V>(value)), &old) == CUCKOO_OK)
+      return std::nullopt;
+    return detail::from_number<T>(old);
+  }
+
   /// Binds a bound key, and returns whether it was bound.
   template <class V> bool update(const key_taken &key, V &&value) {
     std::uint64_t old;
@@ -700,6 +727,17 @@ public:
   bool erase(const key_taken &key) {
     std::uint64_t old;
     return on<family::erase>(key, &old) == CUCKOO_OK;
+  }
+
+  /// Unbinds the key, and returns the value that it had, or nothing where it was unbound. No two
+  /// calls are given what was bound once, so what a pointer leads to may be freed by the one that
+  /// is, unless others still use what they found.
+  ///
+  ///     if (auto object = objects.take(5)) delete *object;
+  std::optional<T> take(const key_taken &key) {
+    std::uint64_t old;
+    if (on<family::erase>(key, &old) != CUCKOO_OK) return std::nullopt;
+    return detail::from_number<T>(old);
   }
 
   /// Changes the value of the key by `fn(T &)`, or unbinds the key where that is true. Returns
@@ -758,10 +796,13 @@ public:
   }
 
   /// Compare and set: where each key is bound to the value that is expected of it, binds each to its
-  /// new one, all at one moment. Returns whether it did.
+  /// new one, all at one moment. Returns whether it did. Values are compared by their bytes, so -0.0
+  /// is not 0.0.
   ///
   ///     ages.set_if_all({{5, 50, 51}, {6, 60, 59}});
   template <std::size_t N> bool set_if_all(const change_if (&wanted)[N]) {
+    static_assert(detail::is_its_bytes<T>,
+                  "values are compared by their bytes, and equal ones of this type may differ there");
     cuckoo_change changes[few<N>()];
     for (std::size_t i = 0; i < N; i++)
       changes[i] = {keys::to(wanted[i].key), detail::to_number(wanted[i].from),
@@ -836,11 +877,10 @@ private:
     return wanted;
   }
 
-  template <class V> static std::uint64_t number_of(V &&value) {
-    return detail::to_number<T>(static_cast<T>(std::forward<V>(value)));
-  }
-
+  // A value that is made as by `T value(args...)`, as libcuckoo's are: a cast alone would do more.
   template <class... Args> static std::uint64_t number_of(Args &&...args) {
+    static_assert(std::is_constructible_v<T, Args...>,
+                  "a value can't be constructed of these arguments");
     return detail::to_number<T>(T(std::forward<Args>(args)...));
   }
 
@@ -881,7 +921,9 @@ private:
   }
 
   // Changes a bound key by a closure, and returns whether it was bound: sets what the closure makes
-  // of the value that was seen, as long as the key has another by then.
+  // of the value that was seen, as long as the key has another by then. The library compares with
+  // the number that it gave, of which padding is a part like any other. What the closure leaves may
+  // have any bytes there, which nothing here depends on (valgrind tells that they are not set).
   template <class F> bool change(const key_taken &key, F &fn) {
     std::uint64_t seen;
     if (!find_number(key, seen)) return false;
@@ -889,7 +931,7 @@ private:
       T value = detail::from_number<T>(seen);
       const bool is_erased = fn(value);
       const std::uint64_t next = detail::to_number(value);
-      if (!is_erased && next == seen) return true;
+      if (detail::is_its_bytes<T> && !is_erased && next == seen) return true;
       const std::int32_t code = is_erased ? on<family::erase_if>(key, seen)
                                           : on<family::swap_if>(key, seen, next, &seen);
       if (code != CUCKOO_DIFFERENT) return code == CUCKOO_OK;

@@ -4,6 +4,7 @@
 
 #include <functional>
 #include <limits>
+#include <optional>
 #include <string>
 #include <thread>
 #include <vector>
@@ -22,6 +23,7 @@ template <class Map, class Key> void calls_on_unbound(Map &map, const Key &key) 
   CHECK(!map.find_fn(key, [](const std::uint64_t &) { CHECK(false); }));
   CHECK(!map.update(key, 1u) && !map.update_fn(key, [](std::uint64_t &) { CHECK(false); }));
   CHECK(!map.erase(key) && !map.erase_fn(key, [](std::uint64_t &) { return true; }));
+  CHECK(!map.take(key));
   CHECK(map.empty());
 }
 
@@ -34,6 +36,8 @@ template <class Map, class Key> void calls_that_bind(Map &map, const Key &one, c
   CHECK(map.find_fn(one, [&](const std::uint64_t &seen) { value = seen + 1; }) && value == 11);
   CHECK(map.update(one, 20) && map.find(one) == 20);
   CHECK(map.update_fn(one, [](std::uint64_t &seen) { seen += 2; }) && map.find(one) == 22);
+  CHECK(map.exchange(two, 39) == std::nullopt && map.exchange(two, 38) == 39);
+  CHECK(map.find(two) == 38 && map.take(two) == 38 && !map.contains(two) && !map.take(two));
   CHECK(!map.insert_or_assign(one, 30) && map.insert_or_assign(two, 40));
   CHECK(map.find(one) == 30 && map.find(two) == 40 && map.size() == 2);
   CHECK(map.load_factor() == 2.0 / static_cast<double>(map.capacity()));
@@ -114,6 +118,7 @@ void values() {
   cuckoo::map<int *, int *> pointers(100);
   CHECK(pointers.insert(&number, &number) && *pointers.find(&number) == 4);
   for (auto [key, value] : pointers.pairs()) CHECK(key == &number && value == &number);
+  CHECK(pointers.exchange(&number, nullptr) == &number && pointers.take(&number) == nullptr);
 
   cuckoo::map<std::string, double> texts(100);
   CHECK(texts.insert("half", .5) && texts.find(std::string("half")) == .5);
@@ -240,6 +245,29 @@ void renames_of_threads() {
   CHECK(map.find(went > came_back ? 2 : 1) == 10 && map.size() == 1);
 }
 
+// Threads bind a key to values and take them out: each is taken once. So it is of what one binds the
+// key to in place of another.
+void values_are_taken_once() {
+  constexpr int rounds = 20000;
+  cuckoo::map<int, int> map(cuckoo::options{100, 4, 2});
+  std::vector<std::atomic<int>> taken(rounds);
+  std::atomic<bool> is_over{false};
+  const auto note = [&](std::optional<int> value) {
+    if (value) taken[static_cast<std::size_t>(*value)]++;
+  };
+  const auto take = [&] {
+    while (!is_over) note(map.take(1));
+  };
+  std::thread one(take), other(take);
+  for (int value = 0; value < rounds; value++) note(map.exchange(1, value));
+  is_over = true;
+  one.join();
+  other.join();
+  note(map.take(1));
+  for (const std::atomic<int> &times : taken) CHECK(times == 1);
+  CHECK(map.empty());
+}
+
 // Exceptions of a closure pass, and leave the map as it was.
 void closures() {
   cuckoo::map<int, int> map(100);
@@ -312,6 +340,7 @@ int main() {
   renames_in_full_table();
   renames_that_need_room();
   renames_of_threads();
+  values_are_taken_once();
   closures();
   refusals();
   refusals_of_few_keys();
