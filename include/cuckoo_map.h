@@ -71,7 +71,7 @@ typedef struct cuckoo_text_pairs {
     void *at;
 } cuckoo_text_pairs;
 
-/* What each of them begins as. */
+/* What each of them begins as; an array of handles, as {CUCKOO_CLOSED_HANDLE}. */
 #define CUCKOO_CLOSED_HANDLE { NULL }
 #define CUCKOO_NO_PAIRS { NULL }
 

@@ -276,7 +276,7 @@ constexpr bool is_its_bytes =
 
 template <class T> T from_number(std::uint64_t number) {
   T value;
-  std::memcpy(&value, &number, sizeof value);
+  std::memcpy(static_cast<void *>(&value), &number, sizeof value);
   return value;
 }
 
@@ -551,6 +551,17 @@ public:
     /// What `*` gives.
     using reference = const value_type &;
 
+    /// A copy of a pair that was passed over.
+    class passed {
+      std::pair<typename keys::kept, T> pair_;
+
+    public:
+      /// Copies the pair.
+      explicit passed(const value_type &pair) : pair_(pair.first, pair.second) {}
+      /// The pair.
+      std::pair<typename keys::kept, T> operator*() const { return pair_; }
+    };
+
     /// Behind the last pair.
     iterator() = default;
     /// At the next pair.
@@ -565,8 +576,13 @@ public:
       now_ = of_->next();
       return *this;
     }
-    /// Reads the next one.
-    void operator++(int) { ++*this; }
+    /// Reads the next one, and gives a copy of the pair before it: a text that was read is good no
+    /// longer.
+    passed operator++(int) {
+      passed before(*now_);
+      ++*this;
+      return before;
+    }
     /// Whether both are behind the last pair, or neither is.
     bool operator==(const iterator &other) const {
       return now_.has_value() == other.now_.has_value();
@@ -614,8 +630,14 @@ public:
   /// A pair whose key is a copy.
   using value_type = std::pair<typename keys::kept, T>;
 
-  /// An empty map. Throws std::invalid_argument where an option is out of its range.
-  explicit map(const options &wanted = {}) : table_(detail::settings_for(wanted)) {}
+  /// An empty map, with the options as they are by default.
+  map() : map(options()) {}
+
+  /// An empty map. Throws std::invalid_argument where an option is out of its range. Options in
+  /// braces need their name, since those of a `cuckoo_settings` look the same.
+  ///
+  ///     cuckoo::map<std::uint64_t, int> ages(cuckoo::options{1000, 8});
+  explicit map(const options &wanted) : table_(detail::settings_for(wanted)) {}
 
   /// An empty map with room for about so many keys, and the other options as they are by default.
   explicit map(size_type keys_wanted) : map(with_keys(keys_wanted)) {}

@@ -2,7 +2,9 @@
 #include "check.hpp"
 #include <cuckoo_map.hpp>
 
+#include <array>
 #include <functional>
+#include <iterator>
 #include <limits>
 #include <optional>
 #include <string>
@@ -105,6 +107,50 @@ struct point {
   std::int16_t x, y;
   char mark;
 };
+
+// Has a constructor of its own, so compilers warn of bytes that are copied there.
+struct counter {
+  int count = 1;
+};
+
+// A map, by a return of nothing but braces.
+cuckoo::map<int, counter> counters() { return {}; }
+
+// Maps in an aggregate, which is initialized by braces.
+struct server {
+  cuckoo::map<int, counter> known;
+  int port = 0;
+};
+
+// A default constructor that isn't explicit.
+void braces() {
+  cuckoo::map<int, counter> one = {}, other = counters();
+  server with_map{};
+  std::array<cuckoo::map<int, counter>, 2> maps{};
+  CHECK(one.empty() && other.empty() && with_map.known.empty() && maps[1].empty());
+  CHECK(one.insert(1) && one.find(1).count == 1);
+  CHECK(one.update_fn(1, [](counter &seen) { seen.count++; }) && one.find(1).count == 2);
+}
+
+// What `*i++` gives is the pair before, whose key is a copy.
+void iterators() {
+  cuckoo::map<std::string, int> map(100);
+  CHECK(map.insert("one", 10) && map.insert("two", 20));
+  auto pairs = map.snapshot();
+  auto at = pairs.begin();
+  const auto first = *at++;
+  CHECK(first.first == "one" && first.second == 10 && at->first == "two");
+  CHECK((*at++).first == "two" && at == pairs.end());
+  cuckoo::map<int, int> numbers(100);
+  CHECK(numbers.insert(1, 10) && numbers.insert(2, 20));
+  auto rest = numbers.snapshot();
+  auto next = rest.begin();
+  std::pair<int, int> pair = *next++;
+  CHECK(pair == std::pair(1, 10) && *next == std::pair(2, 20));
+#if __cplusplus >= 202002L
+  static_assert(std::input_iterator<decltype(next)>);
+#endif
+}
 
 void values() {
   cuckoo::map<int, point> points(100);
@@ -335,6 +381,8 @@ int main() {
   all_calls<std::string_view>("", std::string_view("\0", 1));
   all_calls<const char *>("one", nullptr);
   values();
+  braces();
+  iterators();
   texts();
   several();
   renames_in_full_table();
