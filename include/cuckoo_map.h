@@ -47,6 +47,9 @@
 
 #define CUCKOO_MAP_VERSION "0.1.0"
 
+/* A text that is a key has so many bytes at most. */
+#define CUCKOO_TEXT_MAX 64
+
 #ifdef __cplusplus
 extern "C" {
 #endif
@@ -100,7 +103,7 @@ enum cuckoo_code {
     CUCKOO_OVER_MAX = -5,
     /* A setting is not in its range. */
     CUCKOO_BAD_SETTINGS = -6,
-    /* A text has more than 64 bytes. */
+    /* A text has more than CUCKOO_TEXT_MAX bytes. */
     CUCKOO_TOO_LONG = -7,
     /* The handle is closed. */
     CUCKOO_CLOSED = -8,
@@ -284,7 +287,8 @@ int32_t cuckoo_text_export(cuckoo_text_handle *handle, cuckoo_text_pairs *pairs)
 int32_t cuckoo_text_drain(cuckoo_text_handle *handle, cuckoo_text_pairs *pairs);
 
 /* The next pair. The bytes of its key go to `key`, and their number to `length`. CUCKOO_OK;
- * CUCKOO_ABSENT; CUCKOO_TOO_LONG: `room` is less than 64, and nothing changed. */
+ * CUCKOO_ABSENT; CUCKOO_TOO_LONG: `room` is less than CUCKOO_TEXT_MAX, and nothing
+ * changed. */
 int32_t cuckoo_text_pairs_next(cuckoo_text_pairs *pairs, void *key, size_t room, size_t *length,
                                uint64_t *value);
 void cuckoo_text_pairs_close(cuckoo_text_pairs *pairs);

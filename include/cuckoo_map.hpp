@@ -55,6 +55,19 @@
 #include <utility>
 #include <vector>
 
+#if defined(__SANITIZE_THREAD__)
+#define CUCKOO_MAP_TSAN
+#elif defined(__has_feature)
+#if __has_feature(thread_sanitizer)
+#define CUCKOO_MAP_TSAN
+#endif
+#endif
+#ifdef CUCKOO_MAP_TSAN
+#include <sanitizer/tsan_interface.h>
+extern "C" void __tsan_ignore_thread_begin();
+extern "C" void __tsan_ignore_thread_end();
+#endif
+
 namespace cuckoo {
 
 /// There is no room for the key, and the table may not grow.
@@ -182,7 +195,7 @@ struct texts {
 
   struct reader {
     cuckoo_text_pairs pairs = CUCKOO_NO_PAIRS;
-    std::uint8_t key[64] = {};
+    std::uint8_t key[CUCKOO_TEXT_MAX] = {};
     std::size_t length = 0;
     std::uint64_t value = 0;
 
@@ -236,6 +249,7 @@ template <class Key> struct keys<Key, std::enable_if_t<is_text<Key>>> {
   using family = texts;
   using taken = std::string_view;
   using kept = std::string;
+  static bool is_bindable(std::string_view key) { return key.size() <= CUCKOO_TEXT_MAX; }
   static std::string_view to(std::string_view key) { return key; }
   static std::string_view from(std::string_view key) { return key; }
 };
@@ -244,6 +258,8 @@ template <class Key> struct keys<Key, std::enable_if_t<is_number<Key>>> {
   using family = numbers;
   using taken = Key;
   using kept = Key;
+
+  static bool is_bindable(Key) { return true; }
 
   static std::uint64_t to(Key key) {
     if constexpr (std::is_pointer_v<Key>)
@@ -356,6 +372,24 @@ public:
   }
 };
 
+// Makes a call of a table. ThreadSanitizer sees neither the library's locks nor all of what they
+// guard, so it looks away meanwhile, and is told that what threads did before earlier calls of this
+// table comes before what follows this one. That is more order than calls of different keys make: it
+// may miss a race there.
+template <class Call, class Handle>
+std::int32_t make(const Call &call, Handle *at, [[maybe_unused]] void *table) {
+#ifdef CUCKOO_MAP_TSAN
+  __tsan_release(table);
+  __tsan_ignore_thread_begin();
+#endif
+  const std::int32_t code = call(at);
+#ifdef CUCKOO_MAP_TSAN
+  __tsan_ignore_thread_end();
+  __tsan_acquire(table);
+#endif
+  return code;
+}
+
 // The handles of one table.
 template <class Family> class pool final : public lender {
   using handle = typename Family::handle;
@@ -418,7 +452,7 @@ public:
   // Makes a call through the handle that is shared.
   template <class Call> std::int32_t share(const Call &call) {
     std::lock_guard<std::mutex> held(shared_lock_);
-    return call(&places_[0].at);
+    return make(call, &places_[0].at, this);
   }
 };
 
@@ -446,10 +480,15 @@ template <class Family> class table {
     return static_cast<handle *>(at);
   }
 
+  // Makes a call by the latest handle, which is of this table.
+  template <class Call> std::int32_t by_latest(const Call &call) const {
+    return make(call, static_cast<handle *>(latest.handle), pool_.get());
+  }
+
   // Makes a call where the latest handle isn't of this table.
   template <class Call> std::int32_t other_than_latest(const Call &call) const {
     if (!pool_) return CUCKOO_CLOSED;
-    if (handle *at = borrow()) return call(at);
+    if (handle *at = borrow()) return make(call, at, pool_.get());
     return pool_->share(call);
   }
 
@@ -460,8 +499,7 @@ template <class Family> class table {
   // Makes a call until it is answered, whichever handle is the latest.
   template <class Call> [[gnu::noinline]] std::int32_t answer_slowly(const Call &call) const {
     for (;;) {
-      const std::int32_t code = is_latest() ? call(static_cast<handle *>(latest.handle))
-                                            : other_than_latest(call);
+      const std::int32_t code = is_latest() ? by_latest(call) : other_than_latest(call);
       if (code >= 0) return code;
       refuse(code);
     }
@@ -484,7 +522,7 @@ public:
   // Makes a call until it is answered. Else it throws.
   template <class Call> std::int32_t answer(const Call &call) const {
     if (is_latest()) {
-      const std::int32_t code = call(static_cast<handle *>(latest.handle));
+      const std::int32_t code = by_latest(call);
       if (code >= 0) return code;
       refuse(code);
     }
@@ -605,10 +643,10 @@ private:
 };
 
 /// A concurrent hash map. Keys are integers, enums or pointers of at most 8 bytes, or
-/// `std::string_view` or `std::string` of at most 64 bytes, of which the map keeps a copy: longer
-/// ones throw std::length_error. Values are trivially copyable, have at most 8 bytes and a default
-/// constructor; they are passed as copies. All calls may throw `closed`, where the map was moved
-/// from, and std::bad_alloc.
+/// `std::string_view` or `std::string` of at most 64 bytes, of which the map keeps a copy: a longer
+/// one is never bound, and where a call is to bind it, std::length_error is thrown. Values are
+/// trivially copyable, have at most 8 bytes and a default constructor; they are passed as copies. All
+/// calls may throw `closed`, where the map was moved from, and std::bad_alloc.
 template <class Key, class T> class map {
   static_assert(std::is_trivially_copyable_v<T> && sizeof(T) <= sizeof(std::uint64_t),
                 "values are trivially copyable, and have at most 8 bytes");
@@ -685,7 +723,7 @@ public:
   }
 
   /// Whether the key is bound.
-  bool contains(const key_taken &key) const { return on<family::contains>(key) == CUCKOO_OK; }
+  bool contains(const key_taken &key) const { return seek<family::contains>(key) == CUCKOO_OK; }
 
   /// Binds an unbound key to a value of these arguments, and returns whether it was unbound. Throws
   /// `full`, as each call does that binds a key.
@@ -721,7 +759,7 @@ public:
   /// Binds a bound key, and returns whether it was bound.
   template <class V> bool update(const key_taken &key, V &&value) {
     std::uint64_t old;
-    return on<family::update>(key, number_of(std::forward<V>(value)), &old) == CUCKOO_OK;
+    return seek<family::update>(key, number_of(std::forward<V>(value)), &old) == CUCKOO_OK;
   }
 
   /// Changes the value of the key by `fn(T &)`, and returns whether the key is bound.
@@ -748,7 +786,7 @@ public:
   /// Unbinds the key, and returns whether it was bound.
   bool erase(const key_taken &key) {
     std::uint64_t old;
-    return on<family::erase>(key, &old) == CUCKOO_OK;
+    return seek<family::erase>(key, &old) == CUCKOO_OK;
   }
 
   /// Unbinds the key, and returns the value that it had, or nothing where it was unbound. No two
@@ -758,7 +796,7 @@ public:
   ///     if (auto object = objects.take(5)) delete *object;
   std::optional<T> take(const key_taken &key) {
     std::uint64_t old;
-    if (on<family::erase>(key, &old) != CUCKOO_OK) return std::nullopt;
+    if (seek<family::erase>(key, &old) != CUCKOO_OK) return std::nullopt;
     return detail::from_number<T>(old);
   }
 
@@ -774,7 +812,11 @@ public:
   cuckoo::renamed rename(const key_taken &from, const key_taken &to) {
     const auto one = keys::to(from);
     const auto other = keys::to(to);
-    const auto ask = [=](auto *at) { return detail::on_two(family::rename, at, one, other); };
+    const bool is_bindable = keys::is_bindable(to);
+    const auto ask = [=](auto *at) {
+      const std::int32_t code = detail::on_two(family::rename, at, one, other);
+      return is_bindable && code == CUCKOO_TOO_LONG ? CUCKOO_ABSENT : code;
+    };
     switch (table_.answer(ask)) {
     case CUCKOO_ABSENT: return renamed::unbound;
     case CUCKOO_PRESENT: return renamed::occupied;
@@ -926,8 +968,18 @@ private:
     return table_.answer([=](auto *at) { return detail::on_key(function, at, known, rest...); });
   }
 
+  // The same of a call that binds no unbound key, as one that is too long is.
+  template <auto function, class... Rest>
+  std::int32_t seek(const key_taken &key, Rest... rest) const {
+    const auto known = keys::to(key);
+    return table_.answer([=](auto *at) {
+      const std::int32_t code = detail::on_key(function, at, known, rest...);
+      return code == CUCKOO_TOO_LONG ? CUCKOO_ABSENT : code;
+    });
+  }
+
   bool find_number(const key_taken &key, std::uint64_t &number) const {
-    return on<family::find>(key, &number) == CUCKOO_OK;
+    return seek<family::find>(key, &number) == CUCKOO_OK;
   }
 
   template <auto function> size_type count() const {
@@ -954,8 +1006,8 @@ private:
       const bool is_erased = fn(value);
       const std::uint64_t next = detail::to_number(value);
       if (detail::is_its_bytes<T> && !is_erased && next == seen) return true;
-      const std::int32_t code = is_erased ? on<family::erase_if>(key, seen)
-                                          : on<family::swap_if>(key, seen, next, &seen);
+      const std::int32_t code = is_erased ? seek<family::erase_if>(key, seen)
+                                          : seek<family::swap_if>(key, seen, next, &seen);
       if (code != CUCKOO_DIFFERENT) return code == CUCKOO_OK;
       if (is_erased && !find_number(key, seen)) return false;
     }
@@ -963,5 +1015,7 @@ private:
 };
 
 } // namespace cuckoo
+
+#undef CUCKOO_MAP_TSAN
 
 #endif

@@ -171,17 +171,35 @@ void values() {
   CHECK(texts.update_fn("half", [](double &seen) { seen *= 3; }) && texts.find("half") == 1.5);
 }
 
+// A text that is too long is found nowhere, and not bound.
+void texts_too_long(cuckoo::map<std::string_view, int> &map, const std::string &key) {
+  const auto never = [](const int &) -> bool { throw "a closure runs"; };
+  int value = 7;
+  CHECK(!map.contains(key) && !map.get(key) && !map.find(key, value) && value == 7);
+  CHECK_THROWS(std::out_of_range, map.find(key));
+  CHECK(!map.find_fn(key, never) && !map.update(key, 1) && !map.update_fn(key, never));
+  CHECK(!map.erase(key) && !map.take(key) && !map.erase_fn(key, never));
+  CHECK(map.rename(key, "a") == renamed::unbound && !map.contains("a"));
+  CHECK_THROWS(std::length_error, map.insert(key, 1));
+  CHECK_THROWS(std::length_error, map.insert_or_assign(key, 1));
+  CHECK_THROWS(std::length_error, map.exchange(key, 1));
+  CHECK_THROWS(std::length_error, map.upsert(key, never, 1));
+  CHECK_THROWS(std::length_error, map.uprase_fn(key, never, 1));
+  CHECK_THROWS(std::length_error, map.rename("", key));
+  CHECK_THROWS(std::length_error, map.rename(key, key));
+  cuckoo::map<std::string_view, std::uint64_t> sums(100);
+  CHECK_THROWS(std::length_error, sums.add(key, 1));
+  CHECK(map.find("") == 3 && map.size() == 3 && sums.empty());
+}
+
 void texts() {
   cuckoo::map<std::string_view, int> map(100);
   const std::string longest(64, 'x');
   const std::string zeros("a\0b", 3);
   CHECK(map.insert(longest, 1) && map.insert(zeros, 2) && map.insert(std::string_view(), 3));
   CHECK(map.find(longest) == 1 && map.find(zeros) == 2 && map.find("") == 3);
-  CHECK(!map.contains("a") && map.size() == 3);
-  CHECK_THROWS(std::length_error, map.insert(longest + 'x', 1));
-  CHECK_THROWS(std::length_error, map.contains(longest + 'x'));
-  CHECK_THROWS(std::length_error, map.rename("", longest + 'x'));
-  CHECK_THROWS(std::length_error, map.rename(longest + 'x', "a"));
+  CHECK(!map.contains("a") && map.size() == 3 && longest.size() == CUCKOO_TEXT_MAX);
+  texts_too_long(map, longest + 'x');
   const auto pairs = map.pairs();
   CHECK(pairs.size() == 3 && pairs[0].first.empty() && pairs[1].first == zeros);
   CHECK(pairs[2].first == longest && pairs[2].second == 1);
