@@ -810,7 +810,7 @@ public:
   }
 
   /// Changes the value of the key by `fn(T &)`, or unbinds the key where that is true. Returns
-  /// whether it was bound.
+  /// whether it was bound. To free what the value leads to, see `take`.
   template <class F> bool erase_fn(const key_taken &key, F fn) { return change(key, fn); }
 
   /// Gives the value of `from` to another key, `to`, and unbinds `from`, in one step of the map: no
