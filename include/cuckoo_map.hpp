@@ -27,8 +27,8 @@
 // value by then, the closure runs again, on that. Where it is unbound by then, the closure has run
 // in vain, and the call goes on as for an unbound key: `update_fn` and `erase_fn` return false;
 // `upsert` and `uprase_fn` bind it, or begin anew where others have bound it meanwhile. So a closure
-// may run more than once, and may have run though the call tells that the key was unbound. Where it
-// tells that the key was bound, what the last run saw is what it replaced.
+// may run more than once, and may have run though the call tells that the key was unbound, or throws.
+// Where it tells that the key was bound, what the last run saw is what it replaced.
 //
 // Therefore a closure must not free, send or count anything, nor read what a pointer that it is given
 // leads to, unless the program keeps that alive. To take a value out there is `take`:

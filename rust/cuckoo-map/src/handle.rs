@@ -226,7 +226,7 @@ impl<K: Keys> TableHandle<K> {
     /// function is called with no lock held: what it makes of a value is set where the key still has
     /// that. Where the key has another value by then, it is called again, on that; where the key is
     /// unbound by then, it was called in vain, and this gives `None`. So it may be called more than
-    /// once, and also where this gives `None`.
+    /// once, and also where this gives `None` or an error.
     ///
     /// ```
     /// let mut handles = cuckoo_map::Handle::open(100, 2)?;
