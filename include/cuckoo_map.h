@@ -23,7 +23,8 @@
  * Each answered call of all handles takes effect once, at one moment, in one order in which a plain
  * map gives the same answers. A refused call changes no binding. A call through a handle that is
  * closed, or was never opened and began as CUCKOO_CLOSED_HANDLE, changes nothing. It is refused as
- * CUCKOO_CLOSED, if it is not for its keys: too long, too many, or texts with no memory for a copy.
+ * CUCKOO_CLOSED, if it is not for its keys: none, too many, too long, or texts with no memory for a
+ * copy.
  * What a thread wrote before it bound a key, a thread that finds that binding sees: calls lock by
  * sequentially consistent atomics.
  *
@@ -47,13 +48,17 @@
 
 #define CUCKOO_MAP_VERSION "0.1.0"
 
+/* A text that is a key has so many bytes at most. */
+#define CUCKOO_TEXT_MAX 64
+
 #ifdef __cplusplus
 extern "C" {
 #endif
 
 /* A handle of a table, or a closed one. It is 8 bytes, and its owner is the program. Each call writes
  * it, so handles of different threads are kept 64 bytes apart: in one line of the cache, calls of
- * four threads took twice as long. */
+ * four threads took twice as long. `cuckoo_open` wants places side by side; from there each handle
+ * is moved: copied to a place of its own, while the one that it was copied from isn't used again. */
 typedef struct cuckoo_handle {
     void *at;
 } cuckoo_handle;
@@ -71,7 +76,7 @@ typedef struct cuckoo_text_pairs {
     void *at;
 } cuckoo_text_pairs;
 
-/* What each of them begins as. */
+/* What each of them begins as; an array of handles, as {CUCKOO_CLOSED_HANDLE}. */
 #define CUCKOO_CLOSED_HANDLE { NULL }
 #define CUCKOO_NO_PAIRS { NULL }
 
@@ -100,7 +105,7 @@ enum cuckoo_code {
     CUCKOO_OVER_MAX = -5,
     /* A setting is not in its range. */
     CUCKOO_BAD_SETTINGS = -6,
-    /* A text has more than 64 bytes. */
+    /* A text has more than CUCKOO_TEXT_MAX bytes. */
     CUCKOO_TOO_LONG = -7,
     /* The handle is closed. */
     CUCKOO_CLOSED = -8,
@@ -142,8 +147,9 @@ int32_t cuckoo_open_with(const cuckoo_settings *settings, cuckoo_handle *handles
 /* Closes a handle. The table ends with its last one. A closed one stays closed. */
 void cuckoo_close(cuckoo_handle *handle);
 
-/* The value of the key goes to `value`. CUCKOO_OK; CUCKOO_ABSENT; CUCKOO_BUSY; CUCKOO_CLOSED. In each
- * case but the first, here and below, what the pointer leads to stays as it is. */
+/* The value of the key. CUCKOO_OK: it goes to `value`; CUCKOO_ABSENT; CUCKOO_BUSY; CUCKOO_CLOSED. Here
+ * and below, what a pointer leads to stays as it is but for the codes of which it is said what goes
+ * there. */
 int32_t cuckoo_find(cuckoo_handle *handle, uint64_t key, uint64_t *value);
 
 /* Whether the key is bound. CUCKOO_OK; CUCKOO_ABSENT; CUCKOO_BUSY; CUCKOO_CLOSED. */
@@ -165,8 +171,9 @@ int32_t cuckoo_add(cuckoo_handle *handle, uint64_t key, uint64_t more);
  * CUCKOO_CLOSED. */
 int32_t cuckoo_update(cuckoo_handle *handle, uint64_t key, uint64_t value, uint64_t *old);
 
-/* Compare and set: binds a key that is bound to `from` to `to`. CUCKOO_OK, or CUCKOO_DIFFERENT: the
- * value that it had goes to `seen`; CUCKOO_ABSENT; CUCKOO_BUSY; CUCKOO_CLOSED. */
+/* Compare and set: binds a key that is bound to `from` to `to`. CUCKOO_OK: `from`, which it had, goes
+ * to `seen`; CUCKOO_DIFFERENT: the value that it has goes to `seen`; CUCKOO_ABSENT; CUCKOO_BUSY;
+ * CUCKOO_CLOSED. */
 int32_t cuckoo_swap_if(cuckoo_handle *handle, uint64_t key, uint64_t from, uint64_t to,
                        uint64_t *seen);
 
@@ -202,17 +209,18 @@ typedef struct cuckoo_part {
 /* What follows is done to 1 to 8 different keys at one moment, and is refused as CUCKOO_BAD_COUNT,
  * CUCKOO_TWICE, CUCKOO_BUSY or CUCKOO_CLOSED. */
 
-/* The values of the keys, which go to their entries: CUCKOO_OK. The `value` of an unbound key stays
- * as it is. */
+/* The values of the keys. CUCKOO_OK: they go to their entries, as does whether the keys are bound; the
+ * `value` of an unbound key stays as it is. */
 int32_t cuckoo_find_all(cuckoo_handle *handle, cuckoo_entry *entries, size_t count);
 
 /* Compare and set: where each key is bound to its `from`, binds each to its `to`. CUCKOO_OK;
- * CUCKOO_DIFFERENT: one is bound to another value; CUCKOO_ABSENT: one is unbound. Then none has
- * changed. */
+ * CUCKOO_ABSENT: one is unbound, whatever the others have; CUCKOO_DIFFERENT: all are bound, and one
+ * to another value. But for the first, none has changed. */
 int32_t cuckoo_set_if_all(cuckoo_handle *handle, const cuckoo_change *changes, size_t count);
 
 /* Takes from the values and adds to them: where each key is bound, and each can be taken from and
- * added to so. CUCKOO_OK; CUCKOO_SHORT; CUCKOO_ABSENT: one is unbound. Then none has changed. */
+ * added to so. CUCKOO_OK; CUCKOO_ABSENT: one is unbound, whatever the others have; CUCKOO_SHORT: all
+ * are bound, and one can't be. But for the first, none has changed. */
 int32_t cuckoo_move(cuckoo_handle *handle, const cuckoo_part *parts, size_t count);
 
 /* Gives the value of `from` to another key, `to`, and unbinds `from`, in one step of the map: no
@@ -221,10 +229,11 @@ int32_t cuckoo_move(cuckoo_handle *handle, const cuckoo_part *parts, size_t coun
  * of `to` is, and as CUCKOO_TWICE where the two keys are one. */
 int32_t cuckoo_rename(cuckoo_handle *handle, uint64_t from, uint64_t to);
 
-/* How many keys are bound, counted under all locks. CUCKOO_OK; CUCKOO_BUSY; CUCKOO_CLOSED. */
+/* How many keys are bound, counted under all locks. CUCKOO_OK: it goes to `count`; CUCKOO_BUSY;
+ * CUCKOO_CLOSED. */
 int32_t cuckoo_len(cuckoo_handle *handle, uint64_t *count);
 
-/* How many slots the table has. CUCKOO_OK; CUCKOO_BUSY; CUCKOO_CLOSED. */
+/* How many slots the table has. CUCKOO_OK: it goes to `slots`; CUCKOO_BUSY; CUCKOO_CLOSED. */
 int32_t cuckoo_capacity(cuckoo_handle *handle, uint64_t *slots);
 
 /* Makes the table grow until it has so many slots. CUCKOO_OK; CUCKOO_ENOUGH; CUCKOO_OVER_MAX;
@@ -235,13 +244,15 @@ int32_t cuckoo_reserve(cuckoo_handle *handle, uint64_t slots);
 int32_t cuckoo_clear(cuckoo_handle *handle);
 
 /* All pairs at one moment, in rising order of the keys: a copy, which other threads don't change.
- * CUCKOO_OK; CUCKOO_BUSY; CUCKOO_CLOSED; CUCKOO_IS_OPEN: `pairs` is open; CUCKOO_NO_MEMORY. */
+ * CUCKOO_OK: it goes to `pairs`; CUCKOO_BUSY; CUCKOO_CLOSED; CUCKOO_IS_OPEN: `pairs` is open;
+ * CUCKOO_NO_MEMORY. */
 int32_t cuckoo_export(cuckoo_handle *handle, cuckoo_pairs *pairs);
 
 /* The same, and unbinds all keys at that moment. Where it is refused, they are bound still. */
 int32_t cuckoo_drain(cuckoo_handle *handle, cuckoo_pairs *pairs);
 
-/* The next pair. CUCKOO_OK; CUCKOO_ABSENT: there are no more, or `pairs` isn't open. */
+/* The next pair. CUCKOO_OK: it goes to `key` and `value`; CUCKOO_ABSENT: there are no more, or `pairs`
+ * isn't open. */
 int32_t cuckoo_pairs_next(cuckoo_pairs *pairs, uint64_t *key, uint64_t *value);
 
 /* Frees the pairs. */
@@ -283,8 +294,9 @@ int32_t cuckoo_text_clear(cuckoo_text_handle *handle);
 int32_t cuckoo_text_export(cuckoo_text_handle *handle, cuckoo_text_pairs *pairs);
 int32_t cuckoo_text_drain(cuckoo_text_handle *handle, cuckoo_text_pairs *pairs);
 
-/* The next pair. The bytes of its key go to `key`, and their number to `length`. CUCKOO_OK;
- * CUCKOO_ABSENT; CUCKOO_TOO_LONG: `room` is less than 64, and nothing changed. */
+/* The next pair. CUCKOO_OK: the bytes of its key go to `key`, their number to `length`, and the value
+ * to `value`; CUCKOO_ABSENT; CUCKOO_TOO_LONG: `room` is less than CUCKOO_TEXT_MAX, and nothing
+ * changed. */
 int32_t cuckoo_text_pairs_next(cuckoo_text_pairs *pairs, void *key, size_t room, size_t *length,
                                uint64_t *value);
 void cuckoo_text_pairs_close(cuckoo_text_pairs *pairs);

@@ -1,7 +1,12 @@
 // A concurrent hash map that cannot lose a key, for C++17: cuckoo_map.h as a class.
 //
-// `cuckoo::map<Key, T>` has the names of libcuckoo's `cuckoohash_map`, with their meanings, so that
-// a program changes an include and a type:
+// `cuckoo::map<Key, T>` has the calls on a key of libcuckoo's `cuckoohash_map`, by their names and
+// with their results; but CLOSURES DIFFER (below), and keys and values are small (see `map`). There
+// is no `lock_table`, of which `snapshot`, `drain` and the calls on several keys do a part; no copy,
+// member `swap` (`std::swap` does it), range or initializer list; no `rehash`, `hashpower`,
+// `bucket_count` or `max_num_worker_threads`, nor `minimum_load_factor` and `maximum_hashpower`, for
+// which a `cuckoo_settings` has `min_load` and `max`; and no hash, equality or allocator of the
+// program's. `reserve` never shrinks.
 //
 //     cuckoo::map<std::uint64_t, int> ages(1000);
 //     ages.insert(5, 50);
@@ -11,13 +16,28 @@
 // Any number of threads may make calls at a time. Each call takes effect once, at one moment; a
 // call that throws has changed no binding, unless its comment says so. The map has
 // `options::callers` handles of the library's: a thread that calls takes one that is free, and keeps
-// it until it ends. Those that find none share one more, a call at a time. A call that the library
-// refuses as busy lets other threads run, and is made again.
+// it until it ends. Those that find none share one more, a call at a time. A thread that calls another
+// map than before looks for its handle among those that it has of all maps, one by one: that took 40
+// ns a call with one map, and 300 to 1,000 with 1,000 maps in turn. A call that the library refuses as
+// busy lets other threads run, and is made again.
 //
-// A closure doesn't run in the library. What it is to change is read, given to it, and set where
-// the key is still bound to what was read; else the closure runs again, on what the key is bound to
-// by then. So a closure may run more than once, and what it sees in its last run is what it
-// replaces. No lock is held meanwhile: it may throw, take its time and make calls of its own.
+// CLOSURES DIFFER. libcuckoo's run once, under the key's lock. Those of `update_fn`, `upsert`,
+// `uprase_fn` and `erase_fn` run with no lock held, on a copy of the value that was read, and what
+// they make of it is set where the key is still bound to what was read. Where it is bound to another
+// value by then, the closure runs again, on that. Where it is unbound by then, the closure has run
+// in vain, and the call goes on as for an unbound key: `update_fn` and `erase_fn` return false;
+// `upsert` and `uprase_fn` bind it, or begin anew where others have bound it meanwhile. So a closure
+// may run more than once, and may have run though the call tells that the key was unbound, or throws.
+// Where it tells that the key was bound, what the last run saw is what it replaced.
+//
+// Therefore a closure must not free, send or count anything, nor read what a pointer that it is given
+// leads to, unless the program keeps that alive. To take a value out there is `take`:
+//
+//     objects.erase_fn(1, [](object *&it) { delete it; return true; });  // may free it twice
+//     if (auto it = objects.take(1)) delete *it;                         // frees it once
+//
+// A closure may throw, take its time and make calls of its own. What it changed before it threw is
+// dropped here, and kept by libcuckoo.
 //
 // Calls have to be ordered before the end of the map, as by the end of their threads or by a lock.
 // The library is linked as C: what this header does is tested, and not proved.
@@ -42,6 +62,19 @@
 #include <type_traits>
 #include <utility>
 #include <vector>
+
+#if defined(__SANITIZE_THREAD__)
+#define CUCKOO_MAP_TSAN
+#elif defined(__has_feature)
+#if __has_feature(thread_sanitizer)
+#define CUCKOO_MAP_TSAN
+#endif
+#endif
+#ifdef CUCKOO_MAP_TSAN
+#include <sanitizer/tsan_interface.h>
+extern "C" void __tsan_ignore_thread_begin();
+extern "C" void __tsan_ignore_thread_end();
+#endif
 
 namespace cuckoo {
 
@@ -170,7 +203,7 @@ struct texts {
 
   struct reader {
     cuckoo_text_pairs pairs = CUCKOO_NO_PAIRS;
-    std::uint8_t key[64] = {};
+    std::uint8_t key[CUCKOO_TEXT_MAX] = {};
     std::size_t length = 0;
     std::uint64_t value = 0;
 
@@ -224,6 +257,7 @@ template <class Key> struct keys<Key, std::enable_if_t<is_text<Key>>> {
   using family = texts;
   using taken = std::string_view;
   using kept = std::string;
+  static bool is_bindable(std::string_view key) { return key.size() <= CUCKOO_TEXT_MAX; }
   static std::string_view to(std::string_view key) { return key; }
   static std::string_view from(std::string_view key) { return key; }
 };
@@ -232,6 +266,8 @@ template <class Key> struct keys<Key, std::enable_if_t<is_number<Key>>> {
   using family = numbers;
   using taken = Key;
   using kept = Key;
+
+  static bool is_bindable(Key) { return true; }
 
   static std::uint64_t to(Key key) {
     if constexpr (std::is_pointer_v<Key>)
@@ -257,9 +293,14 @@ template <class T> std::uint64_t to_number(const T &value) {
   return number;
 }
 
+// Whether equal values have equal bytes, but for 0.0 and -0.0: they have no padding.
+template <class T>
+constexpr bool is_its_bytes =
+    std::has_unique_object_representations_v<T> || std::is_floating_point_v<T>;
+
 template <class T> T from_number(std::uint64_t number) {
   T value;
-  std::memcpy(&value, &number, sizeof value);
+  std::memcpy(static_cast<void *>(&value), &number, sizeof value);
   return value;
 }
 
@@ -339,6 +380,24 @@ public:
   }
 };
 
+// Makes a call of a table. ThreadSanitizer sees neither the library's locks nor all of what they
+// guard, so it looks away meanwhile, and is told that what threads did before earlier calls of this
+// table comes before what follows this one. That is more order than calls of different keys make: it
+// may miss a race there.
+template <class Call, class Handle>
+std::int32_t make(const Call &call, Handle *at, [[maybe_unused]] void *table) {
+#ifdef CUCKOO_MAP_TSAN
+  __tsan_release(table);
+  __tsan_ignore_thread_begin();
+#endif
+  const std::int32_t code = call(at);
+#ifdef CUCKOO_MAP_TSAN
+  __tsan_ignore_thread_end();
+  __tsan_acquire(table);
+#endif
+  return code;
+}
+
 // The handles of one table.
 template <class Family> class pool final : public lender {
   using handle = typename Family::handle;
@@ -401,7 +460,7 @@ public:
   // Makes a call through the handle that is shared.
   template <class Call> std::int32_t share(const Call &call) {
     std::lock_guard<std::mutex> held(shared_lock_);
-    return call(&places_[0].at);
+    return make(call, &places_[0].at, this);
   }
 };
 
@@ -429,10 +488,15 @@ template <class Family> class table {
     return static_cast<handle *>(at);
   }
 
+  // Makes a call by the latest handle, which is of this table.
+  template <class Call> std::int32_t by_latest(const Call &call) const {
+    return make(call, static_cast<handle *>(latest.handle), pool_.get());
+  }
+
   // Makes a call where the latest handle isn't of this table.
   template <class Call> std::int32_t other_than_latest(const Call &call) const {
     if (!pool_) return CUCKOO_CLOSED;
-    if (handle *at = borrow()) return call(at);
+    if (handle *at = borrow()) return make(call, at, pool_.get());
     return pool_->share(call);
   }
 
@@ -443,8 +507,7 @@ template <class Family> class table {
   // Makes a call until it is answered, whichever handle is the latest.
   template <class Call> [[gnu::noinline]] std::int32_t answer_slowly(const Call &call) const {
     for (;;) {
-      const std::int32_t code = is_latest() ? call(static_cast<handle *>(latest.handle))
-                                            : other_than_latest(call);
+      const std::int32_t code = is_latest() ? by_latest(call) : other_than_latest(call);
       if (code >= 0) return code;
       refuse(code);
     }
@@ -467,7 +530,7 @@ public:
   // Makes a call until it is answered. Else it throws.
   template <class Call> std::int32_t answer(const Call &call) const {
     if (is_latest()) {
-      const std::int32_t code = call(static_cast<handle *>(latest.handle));
+      const std::int32_t code = by_latest(call);
       if (code >= 0) return code;
       refuse(code);
     }
@@ -534,6 +597,17 @@ public:
     /// What `*` gives.
     using reference = const value_type &;
 
+    /// A copy of a pair that was passed over.
+    class passed {
+      std::pair<typename keys::kept, T> pair_;
+
+    public:
+      /// Copies the pair.
+      explicit passed(const value_type &pair) : pair_(pair.first, pair.second) {}
+      /// The pair.
+      std::pair<typename keys::kept, T> operator*() const { return pair_; }
+    };
+
     /// Behind the last pair.
     iterator() = default;
     /// At the next pair.
@@ -548,8 +622,13 @@ public:
       now_ = of_->next();
       return *this;
     }
-    /// Reads the next one.
-    void operator++(int) { ++*this; }
+    /// Reads the next one, and gives a copy of the pair before it: a text that was read is good no
+    /// longer.
+    passed operator++(int) {
+      passed before(*now_);
+      ++*this;
+      return before;
+    }
     /// Whether both are behind the last pair, or neither is.
     bool operator==(const iterator &other) const {
       return now_.has_value() == other.now_.has_value();
@@ -572,10 +651,11 @@ private:
 };
 
 /// A concurrent hash map. Keys are integers, enums or pointers of at most 8 bytes, or
-/// `std::string_view` or `std::string` of at most 64 bytes, of which the map keeps a copy: longer
-/// ones throw std::length_error. Values are trivially copyable, have at most 8 bytes and a default
-/// constructor; they are passed as copies. All calls may throw `closed`, where the map was moved
-/// from, and std::bad_alloc.
+/// `std::string_view` or `std::string` of at most 64 bytes, of which the map keeps a copy: a longer
+/// one is never bound, and where a call is to bind it, std::length_error is thrown. Pointers are
+/// compared as addresses, `const char *` too. Values are trivially copyable, have at most 8 bytes and
+/// a default constructor; they are passed as copies. All calls may throw `closed`, where the map was
+/// moved from, and std::bad_alloc.
 template <class Key, class T> class map {
   static_assert(std::is_trivially_copyable_v<T> && sizeof(T) <= sizeof(std::uint64_t),
                 "values are trivially copyable, and have at most 8 bytes");
@@ -597,8 +677,14 @@ public:
   /// A pair whose key is a copy.
   using value_type = std::pair<typename keys::kept, T>;
 
-  /// An empty map. Throws std::invalid_argument where an option is out of its range.
-  explicit map(const options &wanted = {}) : table_(detail::settings_for(wanted)) {}
+  /// An empty map, with the options as they are by default.
+  map() : map(options()) {}
+
+  /// An empty map. Throws std::invalid_argument where an option is out of its range. Options in
+  /// braces need their name, since those of a `cuckoo_settings` look the same.
+  ///
+  ///     cuckoo::map<std::uint64_t, int> ages(cuckoo::options{1000, 8});
+  explicit map(const options &wanted) : table_(detail::settings_for(wanted)) {}
 
   /// An empty map with room for about so many keys, and the other options as they are by default.
   explicit map(size_type keys_wanted) : map(with_keys(keys_wanted)) {}
@@ -646,7 +732,7 @@ public:
   }
 
   /// Whether the key is bound.
-  bool contains(const key_taken &key) const { return on<family::contains>(key) == CUCKOO_OK; }
+  bool contains(const key_taken &key) const { return seek<family::contains>(key) == CUCKOO_OK; }
 
   /// Binds an unbound key to a value of these arguments, and returns whether it was unbound. Throws
   /// `full`, as each call does that binds a key.
@@ -669,10 +755,20 @@ public:
     return on<family::add>(key, static_cast<std::uint64_t>(more)) == CUCKOO_OK;
   }
 
+  /// Binds the key, and returns the value that it had, or nothing where it was unbound.
+  ///
+  ///     if (auto before = objects.exchange(5, object)) delete *before;
+  template <class V> std::optional<T> exchange(const key_taken &key, V &&value) {
+    std::uint64_t old;
+    if (on<family::assign>(key, number_of(std::forward<V>(value)), &old) == CUCKOO_OK)
+      return std::nullopt;
+    return detail::from_number<T>(old);
+  }
+
   /// Binds a bound key, and returns whether it was bound.
   template <class V> bool update(const key_taken &key, V &&value) {
     std::uint64_t old;
-    return on<family::update>(key, number_of(std::forward<V>(value)), &old) == CUCKOO_OK;
+    return seek<family::update>(key, number_of(std::forward<V>(value)), &old) == CUCKOO_OK;
   }
 
   /// Changes the value of the key by `fn(T &)`, and returns whether the key is bound.
@@ -699,11 +795,22 @@ public:
   /// Unbinds the key, and returns whether it was bound.
   bool erase(const key_taken &key) {
     std::uint64_t old;
-    return on<family::erase>(key, &old) == CUCKOO_OK;
+    return seek<family::erase>(key, &old) == CUCKOO_OK;
+  }
+
+  /// Unbinds the key, and returns the value that it had, or nothing where it was unbound. No two
+  /// calls are given what was bound once, so what a pointer leads to may be freed by the one that
+  /// is, unless others still use what they found.
+  ///
+  ///     if (auto object = objects.take(5)) delete *object;
+  std::optional<T> take(const key_taken &key) {
+    std::uint64_t old;
+    if (seek<family::erase>(key, &old) != CUCKOO_OK) return std::nullopt;
+    return detail::from_number<T>(old);
   }
 
   /// Changes the value of the key by `fn(T &)`, or unbinds the key where that is true. Returns
-  /// whether it was bound.
+  /// whether it was bound. To free what the value leads to, see `take`.
   template <class F> bool erase_fn(const key_taken &key, F fn) { return change(key, fn); }
 
   /// Gives the value of `from` to another key, `to`, and unbinds `from`, in one step of the map: no
@@ -714,7 +821,11 @@ public:
   cuckoo::renamed rename(const key_taken &from, const key_taken &to) {
     const auto one = keys::to(from);
     const auto other = keys::to(to);
-    const auto ask = [=](auto *at) { return detail::on_two(family::rename, at, one, other); };
+    const bool is_bindable = keys::is_bindable(to);
+    const auto ask = [=](auto *at) {
+      const std::int32_t code = detail::on_two(family::rename, at, one, other);
+      return is_bindable && code == CUCKOO_TOO_LONG ? CUCKOO_ABSENT : code;
+    };
     switch (table_.answer(ask)) {
     case CUCKOO_ABSENT: return renamed::unbound;
     case CUCKOO_PRESENT: return renamed::occupied;
@@ -758,10 +869,13 @@ public:
   }
 
   /// Compare and set: where each key is bound to the value that is expected of it, binds each to its
-  /// new one, all at one moment. Returns whether it did.
+  /// new one, all at one moment. Returns whether it did. Values are compared by their bytes, so -0.0
+  /// is not 0.0.
   ///
   ///     ages.set_if_all({{5, 50, 51}, {6, 60, 59}});
   template <std::size_t N> bool set_if_all(const change_if (&wanted)[N]) {
+    static_assert(detail::is_its_bytes<T>,
+                  "values are compared by their bytes, and equal ones of this type may differ there");
     cuckoo_change changes[few<N>()];
     for (std::size_t i = 0; i < N; i++)
       changes[i] = {keys::to(wanted[i].key), detail::to_number(wanted[i].from),
@@ -784,7 +898,8 @@ public:
     return call<family::move_all>(&parts[0], N) == CUCKOO_OK;
   }
 
-  /// How many keys are bound, counted under all locks.
+  /// How many keys are bound, counted under all locks: about a millisecond at a million keys, in
+  /// which other calls wait. `empty` and `load_factor` count too.
   size_type size() const { return count<family::len>(); }
 
   /// Whether no key is bound, by a count of all.
@@ -836,11 +951,10 @@ private:
     return wanted;
   }
 
-  template <class V> static std::uint64_t number_of(V &&value) {
-    return detail::to_number<T>(static_cast<T>(std::forward<V>(value)));
-  }
-
+  // A value that is made as by `T value(args...)`, as libcuckoo's are: a cast alone would do more.
   template <class... Args> static std::uint64_t number_of(Args &&...args) {
+    static_assert(std::is_constructible_v<T, Args...>,
+                  "a value can't be constructed of these arguments");
     return detail::to_number<T>(T(std::forward<Args>(args)...));
   }
 
@@ -864,8 +978,18 @@ private:
     return table_.answer([=](auto *at) { return detail::on_key(function, at, known, rest...); });
   }
 
+  // The same of a call that binds no unbound key, as one that is too long is.
+  template <auto function, class... Rest>
+  std::int32_t seek(const key_taken &key, Rest... rest) const {
+    const auto known = keys::to(key);
+    return table_.answer([=](auto *at) {
+      const std::int32_t code = detail::on_key(function, at, known, rest...);
+      return code == CUCKOO_TOO_LONG ? CUCKOO_ABSENT : code;
+    });
+  }
+
   bool find_number(const key_taken &key, std::uint64_t &number) const {
-    return on<family::find>(key, &number) == CUCKOO_OK;
+    return seek<family::find>(key, &number) == CUCKOO_OK;
   }
 
   template <auto function> size_type count() const {
@@ -881,7 +1005,9 @@ private:
   }
 
   // Changes a bound key by a closure, and returns whether it was bound: sets what the closure makes
-  // of the value that was seen, as long as the key has another by then.
+  // of the value that was seen, as long as the key has another by then. The library compares with
+  // the number that it gave, of which padding is a part like any other. What the closure leaves may
+  // have any bytes there, which nothing here depends on (valgrind tells that they are not set).
   template <class F> bool change(const key_taken &key, F &fn) {
     std::uint64_t seen;
     if (!find_number(key, seen)) return false;
@@ -889,9 +1015,9 @@ private:
       T value = detail::from_number<T>(seen);
       const bool is_erased = fn(value);
       const std::uint64_t next = detail::to_number(value);
-      if (!is_erased && next == seen) return true;
-      const std::int32_t code = is_erased ? on<family::erase_if>(key, seen)
-                                          : on<family::swap_if>(key, seen, next, &seen);
+      if (detail::is_its_bytes<T> && !is_erased && next == seen) return true;
+      const std::int32_t code = is_erased ? seek<family::erase_if>(key, seen)
+                                          : seek<family::swap_if>(key, seen, next, &seen);
       if (code != CUCKOO_DIFFERENT) return code == CUCKOO_OK;
       if (is_erased && !find_number(key, seen)) return false;
     }
@@ -899,5 +1025,7 @@ private:
 };
 
 } // namespace cuckoo
+
+#undef CUCKOO_MAP_TSAN
 
 #endif

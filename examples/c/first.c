@@ -7,6 +7,11 @@
 
 enum { THREADS = 8, KEYS = 1000, ADDITIONS = 100000 };
 
+/* A handle in a line of the cache of its own, since calls write it. */
+struct place {
+    _Alignas(64) cuckoo_handle handle;
+};
+
 /* Adds 1 to the keys in turn. A call that is refused as busy is made again, when other threads have
  * run. */
 static void *count(void *of) {
@@ -20,14 +25,16 @@ static void *count(void *of) {
 }
 
 int main(void) {
-    /* A handle for each thread, and one for this function. */
-    cuckoo_handle handles[THREADS + 1];
-    for (int i = 0; i <= THREADS; i++) handles[i] = (cuckoo_handle)CUCKOO_CLOSED_HANDLE;
-    if (cuckoo_open(KEYS, 64, handles, THREADS + 1) != CUCKOO_OK) return 1;
+    /* A handle for each thread, and one for this function. Each is moved to its place: the one that
+     * it is copied from isn't used again. */
+    cuckoo_handle opened[THREADS + 1] = {CUCKOO_CLOSED_HANDLE};
+    if (cuckoo_open(KEYS, 64, opened, THREADS + 1) != CUCKOO_OK) return 1;
+    struct place places[THREADS + 1];
+    for (int i = 0; i <= THREADS; i++) places[i].handle = opened[i];
 
     pthread_t threads[THREADS];
     for (int i = 0; i < THREADS; i++)
-        if (pthread_create(&threads[i], NULL, count, &handles[i]) != 0) return 1;
+        if (pthread_create(&threads[i], NULL, count, &places[i].handle) != 0) return 1;
     for (int i = 0; i < THREADS; i++) {
         void *refused;
         pthread_join(threads[i], &refused);
@@ -35,7 +42,7 @@ int main(void) {
     }
 
     /* No other thread makes calls by now, so none of these is refused as busy. */
-    cuckoo_handle *mine = &handles[THREADS];
+    cuckoo_handle *mine = &places[THREADS].handle;
     uint64_t value = 0;
     uint64_t sum = 0;
     uint64_t key;
@@ -51,6 +58,6 @@ int main(void) {
     cuckoo_pairs_close(&pairs);
     printf("all: %" PRIu64 "\n", sum);
 
-    for (int i = 0; i <= THREADS; i++) cuckoo_close(&handles[i]);
+    for (int i = 0; i <= THREADS; i++) cuckoo_close(&places[i].handle);
     return 0;
 }

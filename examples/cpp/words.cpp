@@ -25,7 +25,7 @@ constexpr std::string_view blanks = " \t\r\n\f";
 void count(std::string_view text, counts &words) {
   for (std::size_t at = 0; (at = text.find_first_not_of(blanks, at)) != text.npos;) {
     const std::size_t end = std::min(text.find_first_of(blanks, at), text.size());
-    if (end - at <= 64) words.add(text.substr(at, end - at), 1);
+    if (end - at <= CUCKOO_TEXT_MAX) words.add(text.substr(at, end - at), 1);
     at = end;
   }
 }

@@ -2,8 +2,11 @@
 #include "check.hpp"
 #include <cuckoo_map.hpp>
 
+#include <array>
 #include <functional>
+#include <iterator>
 #include <limits>
+#include <optional>
 #include <string>
 #include <thread>
 #include <vector>
@@ -22,6 +25,7 @@ template <class Map, class Key> void calls_on_unbound(Map &map, const Key &key) 
   CHECK(!map.find_fn(key, [](const std::uint64_t &) { CHECK(false); }));
   CHECK(!map.update(key, 1u) && !map.update_fn(key, [](std::uint64_t &) { CHECK(false); }));
   CHECK(!map.erase(key) && !map.erase_fn(key, [](std::uint64_t &) { return true; }));
+  CHECK(!map.take(key));
   CHECK(map.empty());
 }
 
@@ -34,6 +38,8 @@ template <class Map, class Key> void calls_that_bind(Map &map, const Key &one, c
   CHECK(map.find_fn(one, [&](const std::uint64_t &seen) { value = seen + 1; }) && value == 11);
   CHECK(map.update(one, 20) && map.find(one) == 20);
   CHECK(map.update_fn(one, [](std::uint64_t &seen) { seen += 2; }) && map.find(one) == 22);
+  CHECK(map.exchange(two, 39) == std::nullopt && map.exchange(two, 38) == 39);
+  CHECK(map.find(two) == 38 && map.take(two) == 38 && !map.contains(two) && !map.take(two));
   CHECK(!map.insert_or_assign(one, 30) && map.insert_or_assign(two, 40));
   CHECK(map.find(one) == 30 && map.find(two) == 40 && map.size() == 2);
   CHECK(map.load_factor() == 2.0 / static_cast<double>(map.capacity()));
@@ -102,6 +108,50 @@ struct point {
   char mark;
 };
 
+// Has a constructor of its own, so compilers warn of bytes that are copied there.
+struct counter {
+  int count = 1;
+};
+
+// A map, by a return of nothing but braces.
+cuckoo::map<int, counter> counters() { return {}; }
+
+// Maps in an aggregate, which is initialized by braces.
+struct server {
+  cuckoo::map<int, counter> known;
+  int port = 0;
+};
+
+// A default constructor that isn't explicit.
+void braces() {
+  cuckoo::map<int, counter> one = {}, other = counters();
+  server with_map{};
+  std::array<cuckoo::map<int, counter>, 2> maps{};
+  CHECK(one.empty() && other.empty() && with_map.known.empty() && maps[1].empty());
+  CHECK(one.insert(1) && one.find(1).count == 1);
+  CHECK(one.update_fn(1, [](counter &seen) { seen.count++; }) && one.find(1).count == 2);
+}
+
+// What `*i++` gives is the pair before, whose key is a copy.
+void iterators() {
+  cuckoo::map<std::string, int> map(100);
+  CHECK(map.insert("one", 10) && map.insert("two", 20));
+  auto pairs = map.snapshot();
+  auto at = pairs.begin();
+  const auto first = *at++;
+  CHECK(first.first == "one" && first.second == 10 && at->first == "two");
+  CHECK((*at++).first == "two" && at == pairs.end());
+  cuckoo::map<int, int> numbers(100);
+  CHECK(numbers.insert(1, 10) && numbers.insert(2, 20));
+  auto rest = numbers.snapshot();
+  auto next = rest.begin();
+  std::pair<int, int> pair = *next++;
+  CHECK(pair == std::pair(1, 10) && *next == std::pair(2, 20));
+#if __cplusplus >= 202002L
+  static_assert(std::input_iterator<decltype(next)>);
+#endif
+}
+
 void values() {
   cuckoo::map<int, point> points(100);
   CHECK(points.insert(-1, point{1, 2, 'a'}));
@@ -114,10 +164,32 @@ void values() {
   cuckoo::map<int *, int *> pointers(100);
   CHECK(pointers.insert(&number, &number) && *pointers.find(&number) == 4);
   for (auto [key, value] : pointers.pairs()) CHECK(key == &number && value == &number);
+  CHECK(pointers.exchange(&number, nullptr) == &number && pointers.take(&number) == nullptr);
 
   cuckoo::map<std::string, double> texts(100);
   CHECK(texts.insert("half", .5) && texts.find(std::string("half")) == .5);
   CHECK(texts.update_fn("half", [](double &seen) { seen *= 3; }) && texts.find("half") == 1.5);
+}
+
+// A text that is too long is found nowhere, and not bound.
+void texts_too_long(cuckoo::map<std::string_view, int> &map, const std::string &key) {
+  const auto never = [](const int &) -> bool { throw "a closure runs"; };
+  int value = 7;
+  CHECK(!map.contains(key) && !map.get(key) && !map.find(key, value) && value == 7);
+  CHECK_THROWS(std::out_of_range, map.find(key));
+  CHECK(!map.find_fn(key, never) && !map.update(key, 1) && !map.update_fn(key, never));
+  CHECK(!map.erase(key) && !map.take(key) && !map.erase_fn(key, never));
+  CHECK(map.rename(key, "a") == renamed::unbound && !map.contains("a"));
+  CHECK_THROWS(std::length_error, map.insert(key, 1));
+  CHECK_THROWS(std::length_error, map.insert_or_assign(key, 1));
+  CHECK_THROWS(std::length_error, map.exchange(key, 1));
+  CHECK_THROWS(std::length_error, map.upsert(key, never, 1));
+  CHECK_THROWS(std::length_error, map.uprase_fn(key, never, 1));
+  CHECK_THROWS(std::length_error, map.rename("", key));
+  CHECK_THROWS(std::length_error, map.rename(key, key));
+  cuckoo::map<std::string_view, std::uint64_t> sums(100);
+  CHECK_THROWS(std::length_error, sums.add(key, 1));
+  CHECK(map.find("") == 3 && map.size() == 3 && sums.empty());
 }
 
 void texts() {
@@ -126,11 +198,8 @@ void texts() {
   const std::string zeros("a\0b", 3);
   CHECK(map.insert(longest, 1) && map.insert(zeros, 2) && map.insert(std::string_view(), 3));
   CHECK(map.find(longest) == 1 && map.find(zeros) == 2 && map.find("") == 3);
-  CHECK(!map.contains("a") && map.size() == 3);
-  CHECK_THROWS(std::length_error, map.insert(longest + 'x', 1));
-  CHECK_THROWS(std::length_error, map.contains(longest + 'x'));
-  CHECK_THROWS(std::length_error, map.rename("", longest + 'x'));
-  CHECK_THROWS(std::length_error, map.rename(longest + 'x', "a"));
+  CHECK(!map.contains("a") && map.size() == 3 && longest.size() == CUCKOO_TEXT_MAX);
+  texts_too_long(map, longest + 'x');
   const auto pairs = map.pairs();
   CHECK(pairs.size() == 3 && pairs[0].first.empty() && pairs[1].first == zeros);
   CHECK(pairs[2].first == longest && pairs[2].second == 1);
@@ -240,6 +309,29 @@ void renames_of_threads() {
   CHECK(map.find(went > came_back ? 2 : 1) == 10 && map.size() == 1);
 }
 
+// Threads bind a key to values and take them out: each is taken once. So it is of what one binds the
+// key to in place of another.
+void values_are_taken_once() {
+  constexpr int rounds = 20000;
+  cuckoo::map<int, int> map(cuckoo::options{100, 4, 2});
+  std::vector<std::atomic<int>> taken(rounds);
+  std::atomic<bool> is_over{false};
+  const auto note = [&](std::optional<int> value) {
+    if (value) taken[static_cast<std::size_t>(*value)]++;
+  };
+  const auto take = [&] {
+    while (!is_over) note(map.take(1));
+  };
+  std::thread one(take), other(take);
+  for (int value = 0; value < rounds; value++) note(map.exchange(1, value));
+  is_over = true;
+  one.join();
+  other.join();
+  note(map.take(1));
+  for (const std::atomic<int> &times : taken) CHECK(times == 1);
+  CHECK(map.empty());
+}
+
 // Exceptions of a closure pass, and leave the map as it was.
 void closures() {
   cuckoo::map<int, int> map(100);
@@ -307,11 +399,14 @@ int main() {
   all_calls<std::string_view>("", std::string_view("\0", 1));
   all_calls<const char *>("one", nullptr);
   values();
+  braces();
+  iterators();
   texts();
   several();
   renames_in_full_table();
   renames_that_need_room();
   renames_of_threads();
+  values_are_taken_once();
   closures();
   refusals();
   refusals_of_few_keys();

@@ -1,15 +1,17 @@
 // What the C++ header asks of the library: the linker puts in this program's own cuckoo_contains, which
-// notes the handle and can be refused as busy, cuckoo_insert and cuckoo_erase_if, before and after
-// which other calls can be made, and sched_yield, which is counted, by --wrap.
+// notes the handle and can be refused as busy, cuckoo_insert, cuckoo_swap_if and cuckoo_erase_if,
+// before and after which other calls can be made, and sched_yield, which is counted, by --wrap.
 #include "check.hpp"
 #include <cuckoo_map.hpp>
 
 #include <condition_variable>
 #include <cstdint>
+#include <cstring>
 #include <memory>
 #include <mutex>
 #include <set>
 #include <thread>
+#include <utility>
 #include <vector>
 
 static thread_local const void *noted;
@@ -23,6 +25,13 @@ static std::uint64_t other_value = 0;
 
 // Whether another call unbinds a key that has another value than the one that was to be erased.
 static bool is_erased_then = false;
+
+// Whether another call unbinds the next key whose value is to be changed, or that is to be erased if
+// it has one, before that.
+static bool is_erased_before = false;
+
+// The values that the next changes were to be made from and to.
+static std::vector<std::pair<std::uint64_t, std::uint64_t>> changes;
 
 extern "C" {
 
@@ -55,10 +64,29 @@ std::int32_t __wrap_cuckoo_insert(cuckoo_handle *handle, std::uint64_t key, std:
   return __real_cuckoo_insert(handle, key, value);
 }
 
+static void erase_before(cuckoo_handle *handle, std::uint64_t key) {
+  std::uint64_t old;
+  if (is_erased_before) CHECK(cuckoo_erase(handle, key, &old) == CUCKOO_OK);
+  is_erased_before = false;
+}
+
+std::int32_t __real_cuckoo_swap_if(cuckoo_handle *handle, std::uint64_t key, std::uint64_t from,
+                                   std::uint64_t to, std::uint64_t *seen);
+std::int32_t __wrap_cuckoo_swap_if(cuckoo_handle *handle, std::uint64_t key, std::uint64_t from,
+                                   std::uint64_t to, std::uint64_t *seen);
+
+std::int32_t __wrap_cuckoo_swap_if(cuckoo_handle *handle, std::uint64_t key, std::uint64_t from,
+                                   std::uint64_t to, std::uint64_t *seen) {
+  erase_before(handle, key);
+  changes.emplace_back(from, to);
+  return __real_cuckoo_swap_if(handle, key, from, to, seen);
+}
+
 std::int32_t __real_cuckoo_erase_if(cuckoo_handle *handle, std::uint64_t key, std::uint64_t value);
 std::int32_t __wrap_cuckoo_erase_if(cuckoo_handle *handle, std::uint64_t key, std::uint64_t value);
 
 std::int32_t __wrap_cuckoo_erase_if(cuckoo_handle *handle, std::uint64_t key, std::uint64_t value) {
+  erase_before(handle, key);
   const std::int32_t code = __real_cuckoo_erase_if(handle, key, value);
   std::uint64_t old;
   if (code == CUCKOO_DIFFERENT && is_erased_then) cuckoo_erase(handle, key, &old);
@@ -186,6 +214,72 @@ void erasure_of_a_key_that_was_unbound_meanwhile() {
   CHECK(runs == 1 && map.empty());
 }
 
+// Lets a call run a closure whose key another call unbinds before what it makes is set: the closure
+// has run once, in vain, and the call finds the key unbound.
+template <class Call> void runs_in_vain(numbers &map, const Call &call) {
+  int runs = 0;
+  map.insert_or_assign(1, 10);
+  is_erased_before = true;
+  call(runs);
+  CHECK(runs == 1 && !is_erased_before);
+}
+
+void closures_that_run_in_vain() {
+  numbers map(100);
+  const auto next = [](int &runs) {
+    return [&runs](int &value) { value += ++runs; };
+  };
+  const auto gone = [](int &runs) {
+    return [&runs](int &) { return ++runs > 0; };
+  };
+  runs_in_vain(map, [&](int &runs) { CHECK(!map.update_fn(1, next(runs)) && map.empty()); });
+  runs_in_vain(map, [&](int &runs) { CHECK(!map.erase_fn(1, gone(runs)) && map.empty()); });
+  runs_in_vain(map, [&](int &runs) { CHECK(map.upsert(1, next(runs), 5) && map.find(1) == 5); });
+  runs_in_vain(map, [&](int &runs) { CHECK(map.uprase_fn(1, gone(runs), 6) && map.find(1) == 6); });
+}
+
+// Where others have bound the key again before an upsert does, its closure runs again, on that.
+void a_closure_that_runs_in_vain_and_again() {
+  numbers map(100);
+  std::vector<int> seen;
+  CHECK(map.insert(1, 10));
+  is_erased_before = true;
+  other_value = 7;
+  const auto next = [&](int &value) { seen.push_back(value++); };
+  CHECK(!map.upsert(1, next, 5) && map.find(1) == 8 && seen == std::vector<int>{10, 7});
+}
+
+struct padded {
+  char mark;
+  int number;
+};
+
+// What a closure makes of a value with padding is set where the key has all bytes that were read.
+void padding_is_compared_as_it_was_read() {
+  cuckoo::map<int, padded> map(100);
+  padded value{};
+  std::memset(static_cast<void *>(&value), 0xff, sizeof value);
+  value.mark = 'a';
+  value.number = 1;
+  CHECK(map.insert(1, value));
+  std::uint64_t kept = 0;
+  std::memcpy(&kept, &value, sizeof value);
+  changes.clear();
+  CHECK(map.update_fn(1, [](padded &it) { it = padded{'b', it.number + 1}; }));
+  CHECK(changes.size() == 1 && changes[0].first == kept);
+  CHECK(map.find(1).mark == 'b' && map.find(1).number == 2);
+  CHECK(map.update_fn(1, [](padded &) {}) && changes.size() == 2);
+  CHECK(changes[1].first == changes[0].second && map.find(1).number == 2);
+}
+
+// Values that are their bytes aren't set where the closure leaves them as they were.
+void values_that_stay_are_not_set() {
+  numbers map(100);
+  CHECK(map.insert(1, 10));
+  changes.clear();
+  CHECK(map.update_fn(1, [](int &) {}) && changes.empty());
+}
+
 } // namespace
 
 int main() {
@@ -196,5 +290,9 @@ int main() {
   others_run_where_a_call_is_busy();
   upsert_of_a_key_that_was_bound_meanwhile();
   erasure_of_a_key_that_was_unbound_meanwhile();
+  closures_that_run_in_vain();
+  a_closure_that_runs_in_vain_and_again();
+  padding_is_compared_as_it_was_read();
+  values_that_stay_are_not_set();
   return report();
 }

@@ -70,6 +70,9 @@ static void try_closed(const char *name, cuckoo_handle *handle) {
     expect("  find_all", cuckoo_find_all(handle, &entry, 1), CUCKOO_CLOSED);
     expect("  set_if_all", cuckoo_set_if_all(handle, &change, 1), CUCKOO_CLOSED);
     expect("  move", cuckoo_move(handle, &part, 1), CUCKOO_CLOSED);
+    expect("  find_all of none", cuckoo_find_all(handle, &entry, 0), CUCKOO_BAD_COUNT);
+    expect("  set_if_all of none", cuckoo_set_if_all(handle, &change, 0), CUCKOO_BAD_COUNT);
+    expect("  move of none", cuckoo_move(handle, &part, 0), CUCKOO_BAD_COUNT);
     check("a refused call leaves its entry", entry.value == UNTOUCHED && entry.bound == UNTOUCHED);
     expect("  insert", cuckoo_insert(handle, 1, 2), CUCKOO_CLOSED);
     expect("  assign", cuckoo_assign(handle, 1, 2, &place), CUCKOO_CLOSED);
@@ -253,6 +256,9 @@ static void try_answers(void) {
     expect("  swap_if of another value", cuckoo_swap_if(&handle, 1, 9, 8, &place),
            CUCKOO_DIFFERENT);
     check("which is seen", place == 10);
+    place = UNTOUCHED;
+    expect("  swap_if of its value", cuckoo_swap_if(&handle, 1, 10, 10, &place), CUCKOO_OK);
+    check("which is seen too", place == 10);
     expect("  erase_if of another value", cuckoo_erase_if(&handle, 1, 9), CUCKOO_DIFFERENT);
     expect("  assign a bound key", cuckoo_assign(&handle, 1, UINT64_MAX - 1, &place),
            CUCKOO_PRESENT);
@@ -314,6 +320,7 @@ static void try_several(void) {
     expect("  set_if_all of bound keys", cuckoo_set_if_all(&handle, changes, 7), CUCKOO_OK);
     check("all have changed", have(&handle, 0, 1, 6, 61));
     expect("  and once more", cuckoo_set_if_all(&handle, changes, 7), CUCKOO_DIFFERENT);
+    expect("  where one is also unbound", cuckoo_set_if_all(&handle, changes, 8), CUCKOO_ABSENT);
     check("nothing changed", have(&handle, 1, 11, 5, 51));
     changes[0].from = 1, changes[1].from = 11;
     expect("  where the last is another", cuckoo_set_if_all(&handle, changes, 3), CUCKOO_DIFFERENT);

@@ -3,12 +3,25 @@
 #include "check.hpp"
 #include <cuckoo_map.hpp>
 
+#include <string>
 #include <string_view>
 #include <utility>
 
 namespace {
 
 using numbers = cuckoo::map<int, int>;
+
+// A map that was moved from has no calls, also of texts that are too long.
+void texts() {
+  cuckoo::map<std::string, int> one(100);
+  const std::string longer(CUCKOO_TEXT_MAX + 1, 'x');
+  auto two = std::move(one);
+  CHECK(!two.contains(longer));
+  CHECK_THROWS(cuckoo::closed, one.contains(longer));
+  CHECK_THROWS(cuckoo::closed, one.take(longer));
+  CHECK_THROWS(cuckoo::closed, one.exchange("one", 1));
+  CHECK_THROWS(cuckoo::closed, one.rename(longer, "one"));
+}
 
 void maps() {
   numbers one(100);
@@ -77,6 +90,7 @@ template <class Key> void unread_snapshots(const Key &one, const Key &two) {
 
 int main() {
   maps();
+  texts();
   a_map_onto_itself();
   snapshots<int>(-1, 1);
   snapshots<std::string_view>("one", "two");

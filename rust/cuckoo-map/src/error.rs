@@ -28,8 +28,24 @@ pub enum Error {
     Other(i32),
 }
 
-/// What a call gives.
-pub type Result<T> = std::result::Result<T, Error>;
+/// What a call gives. With another error it is std's, so that it may be imported in its place.
+///
+/// ```
+/// use cuckoo_map::{Handle, Result};
+///
+/// fn bound(handle: &mut Handle) -> Result<u64> {
+///     handle.len()
+/// }
+///
+/// fn parsed(text: &str) -> Result<u64, std::num::ParseIntError> {
+///     text.parse()
+/// }
+///
+/// assert_eq!(bound(&mut Handle::open(100, 1)?.pop().unwrap())?, 0);
+/// assert_eq!(parsed("5"), Ok(5));
+/// # Ok::<(), cuckoo_map::Error>(())
+/// ```
+pub type Result<T, E = Error> = std::result::Result<T, E>;
 
 impl Error {
     pub(crate) fn of(code: i32) -> Error {

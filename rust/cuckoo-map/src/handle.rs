@@ -223,14 +223,24 @@ impl<K: Keys> TableHandle<K> {
     }
 
     /// Changes the value of the key by a function, and gives the one that it was changed from. The
-    /// function may be called more than once: what it makes of a value is set where the key still
-    /// has that.
+    /// function is called with no lock held: what it makes of a value is set where the key still has
+    /// that. Where the key has another value by then, it is called again, on that; where the key is
+    /// unbound by then, it was called in vain, and this gives `None`. So it may be called more than
+    /// once, and also where this gives `None` or an error.
     ///
     /// ```
-    /// let mut handle = cuckoo_map::Handle::open(100, 1)?.pop().unwrap();
+    /// let mut handles = cuckoo_map::Handle::open(100, 2)?;
+    /// let (mut handle, mut other) = (handles.pop().unwrap(), handles.pop().unwrap());
     /// handle.insert(5, 50)?;
     /// assert_eq!(handle.update_by(5, |value| 2 * value)?, Some(50));
     /// assert_eq!(handle.find(5)?, Some(100));
+    /// let mut calls = 0;
+    /// let changed = handle.update_by(5, |value| {
+    ///     calls += 1;
+    ///     other.erase(5).unwrap();
+    ///     2 * value
+    /// })?;
+    /// assert_eq!((changed, calls), (None, 1));
     /// # Ok::<(), cuckoo_map::Error>(())
     /// ```
     pub fn update_by(
@@ -241,8 +251,25 @@ impl<K: Keys> TableHandle<K> {
         self.change(key.as_key(), &mut change)
     }
 
-    /// Changes the value of the key by a function, which may be called more than once, or binds an
-    /// unbound key; gives whether it was unbound.
+    /// Changes the value of the key by a function, as [`update_by`](TableHandle::update_by) does, or
+    /// binds an unbound key to `value`; gives whether it was unbound. Where the key is unbound by the
+    /// time that what the function made is to be set, the function was called in vain, and the key is
+    /// bound to `value`.
+    ///
+    /// ```
+    /// let mut handles = cuckoo_map::Handle::open(100, 2)?;
+    /// let (mut handle, mut other) = (handles.pop().unwrap(), handles.pop().unwrap());
+    /// assert!(handle.upsert(5, |value| value + 1, 50)?);
+    /// assert!(!handle.upsert(5, |value| value + 1, 60)?);
+    /// assert_eq!(handle.find(5)?, Some(51));
+    /// let erase_it = |value| {
+    ///     other.erase(5).unwrap();
+    ///     value + 1
+    /// };
+    /// assert!(handle.upsert(5, erase_it, 70)?);
+    /// assert_eq!(handle.find(5)?, Some(70));
+    /// # Ok::<(), cuckoo_map::Error>(())
+    /// ```
     pub fn upsert(
         &mut self,
         key: impl AsKey<K>,
