@@ -1,7 +1,7 @@
 // A concurrent hash map that cannot lose a key, for C++17: cuckoo_map.h as a class.
 //
 // `cuckoo::map<Key, T>` has the calls on a key of libcuckoo's `cuckoohash_map`, by their names and
-// with their results; but CLOSURES DIFFER (below), and keys and values are small (see `map`). There
+// with their results; but closures differ (below), and keys and values are small (see `map`). There
 // is no `lock_table`, of which `snapshot`, `drain` and the calls on several keys do a part; no copy,
 // member `swap` (`std::swap` does it), range or initializer list; no `rehash`, `hashpower`,
 // `bucket_count` or `max_num_worker_threads`, nor `minimum_load_factor` and `maximum_hashpower`, for
@@ -21,7 +21,7 @@
 // ns a call with one map, and 300 to 1,000 with 1,000 maps in turn. A call that the library refuses as
 // busy lets other threads run, and is made again.
 //
-// CLOSURES DIFFER. libcuckoo's run once, under the key's lock. Those of `update_fn`, `upsert`,
+// Closures differ. libcuckoo's run once, under the key's lock. Those of `update_fn`, `upsert`,
 // `uprase_fn` and `erase_fn` run with no lock held, on a copy of the value that was read, and what
 // they make of it is set where the key is still bound to what was read. Where it is bound to another
 // value by then, the closure runs again, on that. Where it is unbound by then, the closure has run
