@@ -26,18 +26,44 @@ fn bind<'w>(rt: &impl Abort, handle: &mut WatchedHandle<'w>, number: u64, watch:
     read(&watch.hashed).saturating_sub(before)
 }
 
+/// The handle of a table of one.
+fn only<'w>(rt: &impl Abort, handles: Vec<WatchedHandle<'w>>) -> WatchedHandle<'w> {
+    let mut handles = handles;
+    handles.pop().expect(rt, "one handle")
+}
+
+/// Binds 300 keys, each of which moves few.
+fn double<'w>(rt: &impl Abort, handle: WatchedHandle<'w>, watch: &'w Watch) {
+    let mut handle = handle;
+    for number in 100..400 {
+        let hashed = bind(rt, &mut handle, number, watch);
+        assert!(rt; hashed < 32, "key {number}: {hashed}");
+    }
+    assert!(rt; handle.power() == Ok(7));
+}
+
 /// A doubling moves the entries of the stripes of its key, and leaves those of the others.
 #[test]
 fn a_doubling_moves_few_entries(rt: HostRuntime) -> Result<(), Fail> {
     let watch = Watch::new();
-    for handle in &mut Handle::open(rt.alloc(), SETTINGS)? {
-        for number in 100..400 {
-            let hashed = bind(&rt, handle, number, &watch);
-            assert!(rt; hashed < 32, "key {number}: {hashed}");
-        }
-        assert!(rt; handle.power() == Ok(7));
-    }
+    let handles = Handle::<WatchedKey<'_>, u64>::open(rt.alloc(), SETTINGS)?;
+    double(&rt, only(&rt, handles), &watch);
     Ok(())
+}
+
+/// Binds 100 keys, and makes calls that move none.
+fn look<'w>(rt: &impl Abort, handle: WatchedHandle<'w>, watch: &'w Watch) {
+    let mut handle = handle;
+    for number in 100..200 {
+        bind(rt, &mut handle, number, watch);
+    }
+    let before = read(&watch.hashed);
+    assert!(rt; handle.rehash(7) == Ok(true));
+    assert!(rt; handle.len() == Ok(100));
+    assert!(rt; handle.is_empty() == Ok(false));
+    assert!(rt; handle.reserve(500) == Ok(false));
+    assert!(rt; handle.capacity() == Ok(512));
+    assert!(rt; read(&watch.hashed) == before);
 }
 
 /// A doubling moves nothing where the last one has nothing left to move, nor do calls that take all
@@ -45,17 +71,7 @@ fn a_doubling_moves_few_entries(rt: HostRuntime) -> Result<(), Fail> {
 #[test]
 fn calls_on_the_whole_table_move_nothing(rt: HostRuntime) -> Result<(), Fail> {
     let watch = Watch::new();
-    for handle in &mut Handle::open(rt.alloc(), SETTINGS)? {
-        for number in 100..200 {
-            bind(&rt, handle, number, &watch);
-        }
-        let before = read(&watch.hashed);
-        assert!(rt; handle.rehash(7) == Ok(true));
-        assert!(rt; handle.len() == Ok(100));
-        assert!(rt; handle.is_empty() == Ok(false));
-        assert!(rt; handle.reserve(500) == Ok(false));
-        assert!(rt; handle.capacity() == Ok(512));
-        assert!(rt; read(&watch.hashed) == before);
-    }
+    let handles = Handle::<WatchedKey<'_>, u64>::open(rt.alloc(), SETTINGS)?;
+    look(&rt, only(&rt, handles), &watch);
     Ok(())
 }
