@@ -7,10 +7,10 @@ use Rattle.ck_core.specs.State.{found_held}
 use Rattle.ck_core.specs.Steps.Label.{GiveRest}
 use Rattle.ck_words.specs.Words.{WordsState}
 use Rattle.ck_words.specs.Passes.{PassState, IsPassOf, IsIdle, IsUnchanged, IsHighest, Sends, numbers_of}
-use Rattle.ck_words.specs.Retries.{Stays}
+use Rattle.ck_words.specs.Retries.{GivesAlone, Stays}
 use Rattle.ck_words.specs.Holding.{HasReleased}
 use Rattle.ck_words.proofs.Reversed.{map-append}
-use Rattle.ck_words.proofs.Staying.{stays_same, stays_giving, found_giving, seen_giving, idle_of}
+use Rattle.ck_words.proofs.Staying.{gives_none, gives_on, stays_same, stays_giving, given_rest, found_giving, seen_giving, idle_of}
 
 front : (ns : List ℕ) (t : ℕ) → reverse (drop 1 (reverse (ns ++ t ∷ []))) ≡ ns
 front ns t = ap (λ (l : List ℕ). reverse (drop 1 l)) (reverse-append ns (t ∷ [])) ∙ reverse-reverse ns
@@ -58,10 +58,11 @@ module _ {V : Type 0} where
     pub stays : Stays p.view q.view
     pub found : found_held q.view ≡ found_held p.view
     pub seen : q.view.seen ≡ p.view.seen
+    pub given : GivesAlone p.view q.view
 
   module _ (w : WordsState) where
     pub leaves_all : (ns : List ℕ) (p : PassState V) → IsPassOf w p → IsUnchanged p → numbers_of p.stripes ≡ ns → Leaves w ns p p
-    leaves_all ns p own unchanged numbered = record { own = own; unchanged = unchanged; numbered = numbered; stays = stays_same p.view; found = refl; seen = refl }
+    leaves_all ns p own unchanged numbered = record { own = own; unchanged = unchanged; numbered = numbered; stays = stays_same p.view; found = refl; seen = refl; given = gives_none p.view }
 
     pub leaves_fewer : (hash : Name → ℕ) (ns : List ℕ) (t : ℕ) (p q r : PassState V) → Leaves w (ns ++ t ∷ []) p q → IsPassOf w r → IsUnchanged r → Sends hash w (λ t _. GiveRest t) q r → Leaves w ns p r
     leaves_fewer hash ns t p q r h own unchanged g = record {
@@ -71,13 +72,14 @@ module _ {V : Type 0} where
       stays = stays_giving hash w q r g p.view h.stays;
       found = found_giving hash w q r g ∙ h.found;
       seen = seen_giving hash w q r g ∙ h.seen;
+      given = gives_on p.view q.view r.view h.given (given_rest hash w q r g);
     }
 
     pub leaves_after : (hash : Name → ℕ) (ns : List ℕ) (t : ℕ) (p q : PassState V) → IsPassOf w p → IsUnchanged p → numbers_of p.stripes ≡ ns ++ t ∷ [] → IsPassOf w q → IsUnchanged q → Sends hash w (λ t _. GiveRest t) p q → Leaves w ns p q
     leaves_after hash ns t p q own unchanged numbered own2 unchanged2 g = leaves_fewer hash ns t p p q (leaves_all (ns ++ t ∷ []) p own unchanged numbered) own2 unchanged2 g
 
     pub leaves_none : (p q : PassState V) → Leaves w [] p q → HasReleased w p q
-    leaves_none p q h = record { own = h.own; idle = idle_of q (no_numbers q.stripes h.numbered) h.unchanged; stays = h.stays; found = h.found; seen = h.seen }
+    leaves_none p q h = record { own = h.own; idle = idle_of q (no_numbers q.stripes h.numbered) h.unchanged; stays = h.stays; found = h.found; seen = h.seen; given = h.given }
 
     pub released_idle : (p : PassState V) → IsPassOf w p → IsIdle p → HasReleased w p p
-    released_idle p own idle = record { own = own; idle = idle; stays = stays_same p.view; found = refl; seen = refl }
+    released_idle p own idle = record { own = own; idle = idle; stays = stays_same p.view; found = refl; seen = refl; given = gives_none p.view }

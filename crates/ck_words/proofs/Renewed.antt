@@ -17,7 +17,7 @@ use Rattle.ck_words.specs.Retries.{StaysBut, as_doubled}
 use Rattle.ck_words.specs.Holding.{HasReleased}
 use Rattle.ck_words.specs.Renewing.{HasRefused}
 use Rattle.ck_words.proofs.Rows.{found_by, gave, watched_quiet, give_row, renew_row}
-use Rattle.ck_words.proofs.Staying.{stays_on, stays_then}
+use Rattle.ck_words.proofs.Staying.{gives_one, gives_on, stays_on, stays_then}
 
 gaining-append : {V : Type 0} (l : List (RoomNote V)) (hs : Stripes V) (why : Option (Name × Reason)) → gaining l hs why ≡ gaining [] hs why ++ l
 gaining-append l hs None = refl
@@ -48,6 +48,7 @@ module _ {V : Type 0} (hash : Name → ℕ) (w : WordsState) (p q : PassState V)
     stays = stays_on (as_doubled p r).view q.view r.view (stays_renewing None g r.view rest.stays.doublings rest.stays.grown_from) rest.stays;
     found = rest.found ∙ found_renewed None g;
     seen = rest.seen ∙ ap (λ (v : View V). v.seen) (renewed_view None g);
+    given = gives_on p.view q.view r.view (gives_one p.view q.view g.0.number (ap (λ (v : View V). v.steps) (renewed_view None g))) rest.given;
   }
 
   -- it told that a name found no room

@@ -1,5 +1,5 @@
 -- The reply of a call is what the bindings before and after it tell.
-use Rattle.std.proofs.Common.{◌≡◌, ◌≢◌, ◌⊎◌, ℕ, [], ◌∷◌, ◌++◌, inl, inr, append-nil, reverse, sym, refl, ap, ◌∙◌, subst, ⊎_elim, arith, Option, Some, None}
+use Rattle.std.proofs.Common.{◌≡◌, ◌⊎◌, ℕ, [], ◌∷◌, ◌++◌, inl, inr, append-nil, append_assoc, reverse, sym, refl, ap, ◌∙◌, subst, ⊎_elim, arith, Option, Some, None}
 use Rattle.std.specs.Option.{unwrap_or}
 use Rattle.std.specs.FinMap.{get, len}
 use Rattle.ck_model.specs.declared.history.Act.{Act}
@@ -16,27 +16,22 @@ use Rattle.ck_model.specs.Sections.{HasAll}
 use Rattle.ck_stripe.specs.Stripes.{contents_of}
 use Rattle.ck_core.specs.declared.view.View.{View}
 use Rattle.ck_core.specs.declared.trace.LockStep.TheVariants.{Decided}
-use Rattle.ck_core.specs.Steps.{deciding}
+use Rattle.ck_core.specs.Steps.{deciding, event}
 use Rattle.ck_core.specs.Steps.Label.{Decide}
 use Rattle.ck_core.specs.State.{client_of, found_held}
 use Rattle.ck_core.proofs.Shown.{answered}
 use Rattle.ck_model.specs.declared.commit.Commit.{Commit}
 use Rattle.ck_model.specs.Commits.{call_of}
 use Rattle.ck_words.specs.Steps.{Steps}
-use Rattle.ck_words.proofs.Staying.{watches_on}
+use Rattle.ck_words.proofs.Staying.{read_there, watches_on}
 use Rattle.ck_words.specs.Words.{WordsState}
 use Rattle.ck_words.specs.Passes.{PassState, IsPassOf, Sends}
-use Rattle.ck_words.specs.Retries.{WatchesMore, Stays, as_doubled}
+use Rattle.ck_words.specs.Retries.{WatchesMore, GivesAlone, Stays, as_doubled}
 use Rattle.ck_words.specs.Answering.{HasDone, IsAnswered, HasCommitted}
 use Rattle.ck_words.specs.Holding.{HasReleased}
 use Rattle.ck_words.proofs.Reversed.{lawful_reverse}
 use Rattle.ck_words.proofs.Telling.{doubled_decided}
 use Rattle.ck_words.proofs.Rows.{found_by, gave_by, watched_step, shows_before, shows_after, decide_row}
-
--- a number that is there is the one that is read
-pub read_there : (o : Option ℕ) → o ≢ None → o ≡ Some (unwrap_or o 0)
-read_there None h = absurd (h refl)
-read_there (Some m) h = refl
 
 module _ {V : Type 0} where
   -- from what the name was bound to before, and after
@@ -124,9 +119,9 @@ module _ {V : Type 0} where
         seen ∙ (ap (λ (v : View V). v.seen) (decide_row hash set p.view q1.view t ks e d) ∙ λ j. sym all j ++ same j ∷ [])
 
     -- it was decided, and nothing else happened since
-    pub is_answered : (m : ℕ) → p.view.by ≡ Some m → p.view.settings ≡ set → (t : ℕ) (ks : Stripes V) (q1 q : PassState V) → Steps hash set (Decide t ks (entry_for call p)) p.view q1.view → Stays q1.view q.view → q.view.seen ≡ q1.view.seen
+    pub is_answered : (m : ℕ) → p.view.by ≡ Some m → p.view.settings ≡ set → (t : ℕ) (ks : Stripes V) (q1 q : PassState V) → Steps hash set (Decide t ks (entry_for call p)) p.view q1.view → Stays q1.view q.view → q.view.seen ≡ q1.view.seen → GivesAlone q1.view q.view
         → (r : Reply V) → HasDone hash set call r p → IsAnswered call r (as_doubled p q) q
-    is_answered m by of_table t ks q1 q d s seen r done =
+    is_answered m by of_table t ks q1 q d s seen given r done =
         let row : q1.view ≡ gave_by (Decided (entry_for call p)) d.before t (deciding p.view t ks d.log (entry_for call p)) = decide_row hash set p.view q1.view t ks (entry_for call p) d in
         let before = shows_before hash set (Decide t ks (entry_for call p)) p.view q1.view d in
         let after = shows_after hash set (Decide t ks (entry_for call p)) p.view q1.view d in
@@ -154,6 +149,12 @@ module _ {V : Type 0} where
               let first : WatchesMore p.view q1.view = (more.0, ap (λ (v : View V). v.watched) row ∙ more.1, λ n is. (ap (λ (v : View V). v.steps) row ∙ (more.2 n is).0, ap (λ (v : View V). v.mine) row ∙ (more.2 n is).1)) in
               watches_on p.view q1.view q.view (ap (λ (v : View V). v.by) row) first s.watched
               );
+          decided = (
+              let own = event p.view.by (Decided e) t in
+              let one : q1.view.steps ≡ p.view.steps ++ own ∷ [] = ap (λ (v : View V). v.steps) row in
+              let all : (p.view.steps ++ own ∷ []) ++ given.0 ≡ (p.view.steps ++ []) ++ own ∷ given.0 = append_assoc p.view.steps (own ∷ []) given.0 ∙ ap (λ l. l ++ own ∷ given.0) (sym (append-nil p.view.steps)) in
+              (m, t, by, e, [], given.0, given.1 ∙ (ap (λ l. l ++ given.0) one ∙ all), given.2)
+              );
           stays = record {
             settings = s.settings ∙ ap (λ (v : View V). v.settings) row;
             by = s.by ∙ ap (λ (v : View V). v.by) row;
@@ -179,12 +180,12 @@ module _ {V : Type 0} where
         record {
           own = r.own;
           idle = r.idle;
-          answered = is_answered m by own.1 d.0.number (reverse (contents_of p.stripes)) q1 q d.2 r.stays r.seen;
+          answered = is_answered m by own.1 d.0.number (reverse (contents_of p.stripes)) q1 q d.2 r.stays r.seen r.given;
           follows = λ reply done all. (m, by, follows m by d.0.number (reverse (contents_of p.stripes)) q1 q d.2 r.seen reply done (inr all));
           by = r.stays.by ∙ ap (λ (v : View V). v.by) row;
           others = r.stays.others ∙ ap (λ (v : View V). v.others) row;
           found = r.found ∙ (ap found_held row ∙ found_by (Decided (entry_for call p)) d.2.before d.0.number (deciding p.view d.0.number (reverse (contents_of p.stripes)) d.2.log (entry_for call p)));
-          doubled = doubled_decided hash w (entry_for call p) p q1 q d r.stays.doublings r.stays.grown_from;
+          doubled = doubled_decided hash w (entry_for call p) p q1 q own.1 d r.stays;
         }
 
 -- the call of what was said of a commit

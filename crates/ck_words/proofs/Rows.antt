@@ -1,5 +1,5 @@
 -- What the rows of the core leave of a caller's view.
-use Rattle.std.proofs.Common.{◌≡◌, ◌≢◌, ℕ, ◌≤◌, List, [], ◌∷◌, ◌++◌, append-nil, append_assoc, sym, ap, ◌∙◌, subst, ⊎_elim, arith, Option, Some, None}
+use Rattle.std.proofs.Common.{◌≡◌, ◌≢◌, ℕ, ◌^◌, ◌<◌, ◌≤◌, List, [], ◌∷◌, ◌++◌, append-nil, append_assoc, sym, ap, ◌∙◌, subst, ⊎_elim, arith, Option, Some, None}
 use Rattle.std.specs.Prelude.{slice_set}
 use mathlib.Core.Option.{some, some-injective}
 use lib.ListN.{get_elem?}
@@ -10,7 +10,8 @@ use Rattle.ck_model.specs.declared.settings.Settings.{Settings}
 use Rattle.ck_model.specs.Promise.{Name}
 use Rattle.ck_model.specs.Numbered.{numbers, Holds}
 use Rattle.ck_model.specs.Contents.{layout_of, Stripes}
-use Rattle.ck_model.proofs.Numbered.{in_held}
+use Rattle.ck_model.specs.Sections.{HasAll}
+use Rattle.ck_model.proofs.Numbered.{in_held, held_of_in}
 use Rattle.ck_core.specs.declared.view.View.{View}
 use Rattle.ck_core.specs.State.{Configuration, HasNumber, owned, HistoryInvariant, found_held}
 use Rattle.ck_core.specs.declared.trace.LockStep.{LockStep}
@@ -27,6 +28,7 @@ use Rattle.ck_core.proofs.Lists.{set_there}
 use Rattle.ck_core.proofs.Keeps.{step_keeps}
 use Rattle.ck_core.proofs.Shown.{shows}
 use Rattle.ck_words.specs.Steps.{Steps}
+use Rattle.ck_words.specs.Holding.{HasHeld}
 
 -- the view w, once the stripe t went home by it
 abbrev pub gave_by : {V : Type 0} → LockStep V → Configuration V → ℕ → View V → View V
@@ -72,6 +74,15 @@ module _ {V : Type 0} (hash : Name → ℕ) (set : Settings) where
     watched_quiet step t none =
         let more = watched_step step t in
         (more.0, more.1, λ n by. ((more.2 n by).0, sym (append-nil v.mine) ∙ (ap (λ l. v.mine ++ l) (sym none) ∙ (more.2 n by).1)))
+
+    -- Before the step its caller held what its view says. Where that is all, it had seen the history.
+    pub held_then : (e : LockEvent V) → w.watched ≡ r.before.trace ++ e ∷ [] → w.by ≡ v.by → HasAll (layout_of hash set) v.held → HasHeld (λ t. t < 2 ^ set.s) v.seen w
+    held_then e watched by all = (
+      r.before.trace,
+      (e ∷ [], watched),
+      (λ t l. let c = held_of_in v.held t (all t l) in r.law.traced.held r.id v r.was t c.0 c.1 ∙ sym by),
+      r.law.decided ∙ sym (r.law.all_seen r.id v r.was all),
+    )
 
     -- there is one view of the caller before the step
     pub same_view : (u : View V) → get_elem? r.before.views r.id ≡ some u → u ≡ v

@@ -1,26 +1,35 @@
 -- What stays as it is over steps that decide nothing.
-use Rattle.std.proofs.Common.{◌≡◌, ℕ, List, [], ◌∷◌, ◌++◌, ◌⊎◌, ◌+◌, false, inl, inr, zero, suc, reverse, replicate, append-nil, append_assoc, sym, refl, ap, ◌∙◌, subst, ⊎_elim, arith, None}
+use Rattle.std.proofs.Common.{◌≡◌, ◌≢◌, ℕ, List, [], ◌∷◌, ◌++◌, ◌⊎◌, ◌+◌, false, inl, inr, zero, suc, reverse, replicate, append-nil, append_assoc, sym, refl, ap, ◌∙◌, subst, ⊎_elim, arith, Option, Some, None, All}
+use Rattle.std.specs.Option.{unwrap_or}
+use Rattle.std.proofs.lemmas.List.Elements.{All-nil, All-cons, All-head, All-tail, All-append}
 use Rattle.ck_model.specs.declared.settings.Settings.{Settings}
 use Rattle.ck_model.specs.Promise.{Name}
 use Rattle.ck_model.specs.Numbered.{IsIn}
 use Rattle.ck_model.specs.Contents.{layout_of}
 use Rattle.ck_model.proofs.Histories.{subhistory-append}
+use Rattle.ck_model.specs.declared.history.Entry.{Entry}
 use Rattle.ck_core.specs.declared.view.RoomNote.{RoomNote}
 use Rattle.ck_core.specs.declared.view.View.{View}
-use Rattle.ck_core.specs.declared.trace.LockStep.TheVariants.{Took, Missed, Gave}
+use Rattle.ck_core.specs.declared.trace.LockStep.TheVariants.{Took, Missed, Gave, Decided}
 use Rattle.ck_core.specs.declared.trace.LockEvent.{LockEvent}
 use Rattle.ck_core.specs.State.{found_held}
 use Rattle.ck_core.specs.Steps.{giving, event, stepping}
 use Rattle.ck_core.specs.Steps.Label.{Take, FindHeld, GiveRest}
 use Rattle.ck_core.specs.Laws.{Shows}
-use Rattle.ck_core.specs.Trace.{decided_in, steps_of, missed_in}
+use Rattle.ck_core.specs.Trace.{decided_in, steps_of, missed_by, missed_in}
 use Rattle.ck_core.proofs.LegalTraces.{steps_append, own_append, missed_append}
 use Rattle.ck_stripe.specs.Stripes.{contents_of}
 use Rattle.std.proofs.lemmas.List.{reverse-reverse}
 use Rattle.ck_words.specs.Passes.{PassState, IsPassOf, TakesStripe, TriesStripe, Sends, IsIdle, IsUnchanged, ShowsSeen}
 use Rattle.ck_words.specs.Words.{WordsState}
 use Rattle.ck_words.proofs.Rows.{found_by, shows_before, shows_after, watched_more, own_more, watched_quiet, gave, take_row, take_number, find_row, rest_row}
-use Rattle.ck_words.specs.Retries.{misses, MissesAlone, WatchesMore, Stays, StaysBut, FindsAmong, found_again, FindsAgain, TakesWithin}
+use Rattle.ck_words.specs.Retries.{misses, MissesAlone, WatchesMore, IsGive, GivesAlone, DecidesThenGives, Stays, StaysBut, FindsAmong, FindsLast, found_again, FindsAgain, TakesWithin}
+use Rattle.ck_words.specs.Holding.{HasHeld}
+
+-- a number that is there is the one that is read
+pub read_there : (o : Option ℕ) → o ≢ None → o ≡ Some (unwrap_or o 0)
+read_there None h = absurd (h refl)
+read_there (Some m) h = refl
 
 in_replicate : (n t u : ℕ) → IsIn u (replicate n t) → t ≡ u
 in_replicate zero t u z = absurd z
@@ -70,6 +79,57 @@ module _ {V : Type 0} where
     ),
   )
 
+  -- steps that gave stripes back, and more of them
+  pub gives_none : (v : View V) → GivesAlone v v
+  gives_none v = ([], sym (append-nil v.steps), All-nil IsGive)
+
+  pub gives_one : (v w : View V) (t : ℕ) → w.steps ≡ v.steps ++ event v.by Gave t ∷ [] → GivesAlone v w
+  gives_one v w t one = let e = event v.by Gave t in (e ∷ [], one, All-cons IsGive e [] (let is : IsGive e = refl in is) (All-nil IsGive))
+
+  pub gives_on : (u v w : View V) → GivesAlone u v → GivesAlone v w → GivesAlone u w
+  gives_on u v w f g = (f.0 ++ g.0, g.1 ∙ (ap (λ l. l ++ g.0) f.1 ∙ append_assoc u.steps f.0 g.0), All-append IsGive f.0 g.0 f.2 g.2)
+
+  -- by which none was missed
+  missed_never : (es : List (LockEvent V)) → All IsGive es → missed_in es ≡ []
+  missed_never [] all = refl
+  missed_never (e ∷ es) all = λ i. missed_never es (All-tail IsGive e es all) i ++ missed_by ((All-head IsGive e es all) i) e.stripe
+
+  -- what was decided after other steps
+  pub decides_since : (u v w : View V) → v.by ≡ u.by → WatchesMore u v → DecidesThenGives v w → DecidesThenGives u w
+  decides_since u v w same f d =
+      let by : u.by ≡ Some d.0 = sym same ∙ d.2 in
+      let own = steps_of d.0 f.0 in
+      let before : v.steps ++ d.4 ≡ u.steps ++ (own ++ d.4) = ap (λ l. l ++ d.4) (f.2 d.0 by).0 ∙ append_assoc u.steps own d.4 in
+      (d.0, d.1, by, d.3, own ++ d.4, d.5, d.6 ∙ (λ i. before i ++ event (same i) (Decided d.3) d.1 ∷ d.5), d.7)
+
+  -- the same of the last tries
+  pub last_since : (turns t : ℕ) (p q r : PassState V) → q.view.by ≡ p.view.by → q.view.by ≢ None → WatchesMore p.view q.view → FindsLast turns t q r → FindsLast turns t p r
+  last_since turns t p q r same some f l =
+      let m = unwrap_or q.view.by 0 in
+      let own = steps_of m f.0 in
+      let before : q.view.steps ++ l.0 ≡ p.view.steps ++ (own ++ l.0) = ap (λ es. es ++ l.0) (f.2 m (sym same ∙ read_there q.view.by some)).0 ∙ append_assoc p.view.steps own l.0 in
+      (own ++ l.0, l.1, l.2 ∙ (λ i. (before i ++ replicate turns (event (same i) Missed t)) ++ l.1), l.3)
+
+  -- the last tries, behind which stripes went home
+  pub last_giving : (turns t : ℕ) (p q r : PassState V) → FindsAgain turns t p q → GivesAlone q.view r.view → FindsLast turns t p r
+  last_giving turns t p q r again g =
+      let tried : q.view.steps ≡ (p.view.steps ++ []) ++ misses turns t p.view = ap (λ (x : PassState V). x.view.steps) again.1 ∙ λ i. sym (append-nil p.view.steps) i ++ misses turns t p.view in
+      ([], g.0, g.1 ∙ ap (λ l. l ++ g.0) tried, g.2)
+
+  -- what was found held then
+  pub found_last : (turns t : ℕ) (p q : PassState V) → FindsLast turns t p q → (before : List ℕ) × (found_held q.view ≡ replicate turns t ++ before ++ found_held p.view)
+  found_last turns t p q l =
+      let first = p.view.steps ++ l.0 in
+      let tries = misses turns t p.view in
+      let all : missed_in ((first ++ tries) ++ l.1) ≡ missed_in (first ++ tries) = missed_append (first ++ tries) l.1 ∙ λ i. missed_never l.1 l.3 i ++ missed_in (first ++ tries) in
+      let some : missed_in (first ++ tries) ≡ replicate turns t ++ (missed_in l.0 ++ found_held p.view) = missed_append first tries ∙ λ i. missed_times turns t p.view i ++ missed_append p.view.steps l.0 i in
+      (missed_in l.0, ap missed_in l.2 ∙ (all ∙ (some ∙ sym (append_assoc (replicate turns t) (missed_in l.0) (found_held p.view)))))
+
+  -- a moment at which stripes were held was watched ever after
+  pub held_on : (P : ℕ → Type 0) (log : List (Entry V)) (v w : View V) → (more : List (LockEvent V)) × (w.watched ≡ v.watched ++ more) → w.by ≡ v.by → HasHeld P log v → HasHeld P log w
+  unfolding starts_on
+  held_on P log v w more by h = (h.0, starts_on h.0 v.watched w.watched h.1 more, (λ t x. h.2 t x ∙ sym by), h.3)
+
   -- misses alone, and more of them
   pub alone_on : (m n t : ℕ) (v : View V) (first later : List (LockEvent V)) → MissesAlone n t v first → MissesAlone m t v later → MissesAlone (m + n) t v (first ++ later)
   alone_on m n t v first later a b k by = steps_append k first later ∙ ((λ i. a k by i ++ b k by i) ∙ both_times m n (event v.by Missed t))
@@ -106,6 +166,9 @@ module _ {V : Type 0} where
     pub stays_giving : (u : View V) → Stays u p.view → Stays u q.view
     stays_giving u s = stays_on u p.view q.view s
         (subst (Stays p.view) (sym rest_view) (record { settings = refl; by = refl; mine = refl; others = refl; heard = (refl, refl, refl); no_slot = refl; seen = ([], sym (append-nil p.view.seen)); by_others = λ m e. refl; alone = λ _. refl; watched = watched_quiet hash w.settings (GiveRest g.0.number) p.view q.view g.2 Gave g.0.number refl; told = omega arith; doublings = refl; grown_from = refl }))
+
+    pub given_rest : GivesAlone p.view q.view
+    given_rest = gives_one p.view q.view g.0.number (ap (λ (v : View V). v.steps) rest_view)
 
     pub found_giving : found_held q.view ≡ found_held p.view
     found_giving = ap found_held rest_view ∙ found_by Gave g.2.before g.0.number (giving p.view g.0.number g.2.does.1 p.view.held None)

@@ -1,5 +1,5 @@
 -- What a caller is told of the power when its stripe goes home.
-use Rattle.std.proofs.Common.{◌≡◌, ℕ, ◌+◌, ◌-◌, ◌<◌, ◌≤◌, List, [], ◌∷◌, ◌++◌, length, length-append, reverse, inl, refl, sym, ap, ◌∙◌, subst, arith, Option}
+use Rattle.std.proofs.Common.{◌≡◌, ℕ, ◌+◌, ◌-◌, ◌^◌, ◌<◌, ◌≤◌, List, [], ◌∷◌, ◌++◌, length, length-append, reverse, inl, refl, sym, ap, ◌∙◌, subst, arith, Option}
 use Rattle.std.specs.Prelude.{max}
 use Rattle.std.proofs.lemmas.List.{reverse-reverse}
 use Rattle.ck_model.specs.declared.history.Reason.{Reason}
@@ -12,7 +12,9 @@ use Rattle.ck_model.specs.Contents.{Layout, layout_of, Stripes, Lawful, power_of
 use Rattle.ck_model.proofs.Numbered.{held_first, in_held}
 use Rattle.ck_stripe.specs.Stripe.{StripeState}
 use Rattle.ck_model.specs.declared.history.Entry.{Entry}
-use Rattle.ck_core.specs.Steps.{growing}
+use Rattle.ck_core.specs.declared.trace.LockStep.TheVariants.{Gave, Decided}
+use Rattle.ck_core.specs.declared.trace.LockEvent.{LockEvent}
+use Rattle.ck_core.specs.Steps.{Label, event, growing}
 use Rattle.ck_core.specs.Steps.Label.{GiveRest, Renew, Decide}
 use Rattle.ck_stripe.specs.Stripes.{stripe_at, contents_of}
 use Rattle.ck_stripe.specs.Tables.{power_in}
@@ -21,12 +23,12 @@ use Rattle.ck_words.specs.Steps.{Steps}
 use Rattle.ck_words.specs.Words.{WordsState}
 use Rattle.ck_words.specs.Passes.{PassState, IsPassOf, IsIdle, IsUnchanged, ShowsSeen, Sends}
 use Rattle.ck_words.specs.Retries.{Stays, FindsAmong, TakesWithin}
-use Rattle.ck_words.specs.Holding.{HasTaken, HasReleased, AreOfPower, IsToldNoMore, IsToldPower, IsDoubledBy}
+use Rattle.ck_words.specs.Holding.{HasTaken, HasReleased, HasHeld, AreOfPower, IsToldNoMore, IsToldPower, IsDoubledBy}
 use Rattle.ck_words.proofs.Seating.{length-numbers}
-use Rattle.ck_words.proofs.Staying.{stays_giving, found_giving, among_none, among_on}
+use Rattle.ck_words.proofs.Staying.{held_on, stays_giving, found_giving, among_none, among_on}
 use Rattle.ck_words.proofs.Taking.{none_taken, one_taken}
 use Rattle.ck_words.proofs.Reversed.{map-append, held_reverse, of_reverse, lawful_reverse}
-use Rattle.ck_words.proofs.Rows.{rest_row, renew_row, decide_row, same_view}
+use Rattle.ck_words.proofs.Rows.{rest_row, renew_row, decide_row, same_view, held_then}
 
 max_right : (a b : ℕ) → a ≤ b → max a b ≡ b
 max_right a b h = omega arith
@@ -122,27 +124,43 @@ module _ {V : Type 0} where
   power_is (h ∷ hs) power t i same = same h.0 h.1 (inl (refl, refl))
 
   -- What p holds went home from q on, as now, by which the caller's doublings were counted. It is r then.
-  counted_home : (p q r : PassState V) (now : Stripes V) → now ≡ contents_of p.stripes → (t : ℕ) (c : Content V) → Holds (reverse now) t c → numbers (reverse now) ≡ numbers p.view.held
-      → q.view.doublings ≡ p.view.doublings + (power_of (reverse now) - power_of p.view.held) → q.view.grown_from ≡ growing p.view.grown_from (reverse p.view.held) (power_of (reverse now) - power_of p.view.held)
-      → r.view.doublings ≡ q.view.doublings → r.view.grown_from ≡ q.view.grown_from → IsDoubledBy p r
-  counted_home p q r now is t c home same counted noted rest as_noted a b before after =
-      let goes_home : IsIn t (numbers (reverse now)) = in_held (reverse now) t c home in
-      let old : power_of p.view.held ≡ a = power_is p.view.held a t (subst (IsIn t) same goes_home) before in
-      let new : power_of (reverse now) ≡ b = power_is (reverse now) b t goes_home (λ u d h. after u d (subst (λ (hs : Stripes V). Holds hs u d) is (of_reverse now u d h))) in
-      (rest ∙ (counted ∙ λ i. p.view.doublings + (new i - old i)), as_noted ∙ (noted ∙ λ i. growing p.view.grown_from (reverse p.view.held) (new i - old i)))
+  module _ (p q r : PassState V) (s : Stays q.view r.view) where
+    counted_home : (now : Stripes V) → now ≡ contents_of p.stripes → (t : ℕ) (c : Content V) → Holds (reverse now) t c → numbers (reverse now) ≡ numbers p.view.held
+        → q.view.doublings ≡ p.view.doublings + (power_of (reverse now) - power_of p.view.held) → q.view.grown_from ≡ growing p.view.grown_from (reverse p.view.held) (power_of (reverse now) - power_of p.view.held)
+        → (a b : ℕ) → ((u : ℕ) (d : Content V) → Holds p.view.held u d → d.power ≡ a) → AreOfPower b p.stripes → (r.view.doublings ≡ p.view.doublings + (b - a)) × (r.view.grown_from ≡ growing p.view.grown_from (reverse p.view.held) (b - a))
+    counted_home now is t c home same counted noted a b before after =
+        let goes_home : IsIn t (numbers (reverse now)) = in_held (reverse now) t c home in
+        let old : power_of p.view.held ≡ a = power_is p.view.held a t (subst (IsIn t) same goes_home) before in
+        let new : power_of (reverse now) ≡ b = power_is (reverse now) b t goes_home (λ u d h. after u d (subst (λ (hs : Stripes V). Holds hs u d) is (of_reverse now u d h))) in
+        (s.doublings ∙ (counted ∙ λ i. p.view.doublings + (new i - old i)), s.grown_from ∙ (noted ∙ λ i. growing p.view.grown_from (reverse p.view.held) (new i - old i)))
+
+    -- it held them before, where they are all
+    held_home : (hash : Name → ℕ) (set : Settings) → p.view.settings ≡ set → (m : Label V) (g : Steps hash set m p.view q.view) (e : LockEvent V) → q.view.watched ≡ g.before.trace ++ e ∷ [] → q.view.by ≡ p.view.by
+        → ((t : ℕ) → t < 2 ^ p.view.settings.s → IsIn t (numbers p.view.held)) → HasHeld (λ t. t < 2 ^ p.view.settings.s) p.view.seen r.view
+    held_home hash set of m g e watched by =
+        subst (λ (x : Settings). ((t : ℕ) → t < 2 ^ x.s → IsIn t (numbers p.view.held)) → HasHeld (λ t. t < 2 ^ x.s) p.view.seen r.view) (sym of)
+        (λ all. held_on (λ t. t < 2 ^ set.s) p.view.seen q.view r.view (s.watched.0, s.watched.1) s.by (held_then hash set m p.view q.view g e watched by all))
 
   -- the caller's doublings were counted, where they went home by no call
-  pub doubled_renewed : (hash : Name → ℕ) (w : WordsState) (why : Option (Name × Reason)) (p q r : PassState V) → Sends hash w (λ t ks. Renew t ks why) p q → r.view.doublings ≡ q.view.doublings → r.view.grown_from ≡ q.view.grown_from → IsDoubledBy p r
-  doubled_renewed hash w why p q r g rest as_noted =
+  pub doubled_renewed : (hash : Name → ℕ) (w : WordsState) (why : Option (Name × Reason)) (p q r : PassState V) → p.view.settings ≡ w.settings → Sends hash w (λ t ks. Renew t ks why) p q → Stays q.view r.view → IsDoubledBy p r
+  doubled_renewed hash w why p q r of g rest =
       let now : Stripes V = contents_of p.stripes in
-      let held : numbers g.2.does.0.held ≡ numbers p.view.held = ap (λ (v : View V). numbers v.held) (same_view hash w.settings (Renew g.0.number (reverse now) why) p.view q.view g.2 g.2.does.0 g.2.does.2) in
+      let step : Label V = Renew g.0.number (reverse now) why in
+      let held : numbers g.2.does.0.held ≡ numbers p.view.held = ap (λ (v : View V). numbers v.held) (same_view hash w.settings step p.view q.view g.2 g.2.does.0 g.2.does.2) in
       let row = renew_row hash w.settings p.view q.view g.0.number (reverse now) why g.2 in
-      counted_home p q r now refl g.0.number g.2.does.1 g.2.does.3 (g.2.does.4.renewed.same ∙ held) (ap (λ (v : View V). v.doublings) row) (ap (λ (v : View V). v.grown_from) row) rest as_noted
+      record {
+        counted = counted_home p q r rest now refl g.0.number g.2.does.1 g.2.does.3 (g.2.does.4.renewed.same ∙ held) (ap (λ (v : View V). v.doublings) row) (ap (λ (v : View V). v.grown_from) row);
+        held = held_home p q r rest hash w.settings of step g.2 (event p.view.by Gave g.0.number) (ap (λ (v : View V). v.watched) row) (ap (λ (v : View V). v.by) row);
+      }
 
   -- and where they did by one
-  pub doubled_decided : (hash : Name → ℕ) (w : WordsState) (e : Entry V) (p q r : PassState V) → Sends hash w (λ t ks. Decide t ks e) p q → r.view.doublings ≡ q.view.doublings → r.view.grown_from ≡ q.view.grown_from → IsDoubledBy p r
-  doubled_decided hash w e p q r g rest as_noted =
+  pub doubled_decided : (hash : Name → ℕ) (w : WordsState) (e : Entry V) (p q r : PassState V) → p.view.settings ≡ w.settings → Sends hash w (λ t ks. Decide t ks e) p q → Stays q.view r.view → IsDoubledBy p r
+  doubled_decided hash w e p q r of g rest =
       let now : Stripes V = contents_of p.stripes in
-      let held : numbers g.2.does.0.held ≡ numbers p.view.held = ap (λ (v : View V). numbers v.held) (same_view hash w.settings (Decide g.0.number (reverse now) e) p.view q.view g.2 g.2.does.0 g.2.does.2) in
+      let step : Label V = Decide g.0.number (reverse now) e in
+      let held : numbers g.2.does.0.held ≡ numbers p.view.held = ap (λ (v : View V). numbers v.held) (same_view hash w.settings step p.view q.view g.2 g.2.does.0 g.2.does.2) in
       let row = decide_row hash w.settings p.view q.view g.0.number (reverse now) e g.2 in
-      counted_home p q r now refl g.0.number g.2.does.1 g.2.does.4 (g.2.does.5.renewed.same ∙ held) (ap (λ (v : View V). v.doublings) row) (ap (λ (v : View V). v.grown_from) row) rest as_noted
+      record {
+        counted = counted_home p q r rest now refl g.0.number g.2.does.1 g.2.does.4 (g.2.does.5.renewed.same ∙ held) (ap (λ (v : View V). v.doublings) row) (ap (λ (v : View V). v.grown_from) row);
+        held = held_home p q r rest hash w.settings of step g.2 (event p.view.by (Decided e) g.0.number) (ap (λ (v : View V). v.watched) row) (ap (λ (v : View V). v.by) row);
+      }

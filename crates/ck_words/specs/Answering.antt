@@ -14,7 +14,7 @@ use Rattle.ck_core.specs.declared.view.RoomNote.{RoomNote}
 use Rattle.ck_core.specs.State.{client_of, found_held}
 use Rattle.ck_words.specs.Words.{WordsState}
 use Rattle.ck_words.specs.Passes.{PassState, IsPassOf, IsIdle}
-use Rattle.ck_words.specs.Retries.{WatchesMore, StaysBut, as_doubled}
+use Rattle.ck_words.specs.Retries.{WatchesMore, DecidesThenGives, StaysBut, as_doubled}
 use Rattle.ck_words.specs.Holding.{IsDoubledBy}
 
 module _ {V : Type 0} where
@@ -38,6 +38,7 @@ module _ {V : Type 0} where
   pub record IsAnsweredBut (more : List (RoomNote V)) (call : Call V) (reply : Reply V) (p q : PassState V) : Type 0 where
     pub replied : Replied call reply (client_of p.view) (client_of q.view)
     pub watched : WatchesMore p.view q.view
+    pub decided : DecidesThenGives p.view q.view
     pub stays : StaysBut more (record p.view { seen = q.view.seen; mine = q.view.mine; watched = q.view.watched; steps = q.view.steps }) q.view
 
   -- and it has noted so of none

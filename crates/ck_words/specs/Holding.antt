@@ -1,18 +1,22 @@
 -- What it leaves to take several stripes, and to give them back.
-use Rattle.std.specs.Prelude.{◌≡◌, ℕ, ◌+◌, ◌-◌, ◌<◌, ◌≤◌, max, List, length, slice_index, take, reverse, Result, OnOk, IfErr}
-use Rattle.ck_model.specs.Promise.{Name}
-use Rattle.ck_model.specs.Numbered.{Holds, IsIn}
+use Rattle.std.specs.Prelude.{◌≡◌, ℕ, ◌+◌, ◌-◌, ◌^◌, ◌<◌, ◌≤◌, max, List, length, slice_index, take, reverse, Result, OnOk, IfErr}
+use Rattle.ck_model.specs.declared.history.Entry.{Entry}
+use Rattle.ck_model.specs.Promise.{Name, StartsWith}
+use Rattle.ck_model.specs.Numbered.{Holds, IsIn, numbers}
 use Rattle.ck_model.specs.declared.contents.Content.{Content}
 use Rattle.ck_stripe.specs.Stripe.{StripeState}
 use Rattle.ck_stripe.specs.Stripes.{contents_of, HaveNoSpare}
 use Rattle.ck_stripe.specs.Tables.{power_in}
+use Rattle.ck_core.specs.declared.trace.LockEvent.{LockEvent}
+use Rattle.ck_core.specs.declared.view.View.{View}
+use Rattle.ck_core.specs.Trace.{holder, decided_in}
 use Rattle.ck_core.specs.State.{found_held}
 use Rattle.ck_core.specs.Steps.{growing}
 use Rattle.ck_words.specs.Words.{WordsState}
 use Rattle.ck_words.specs.Passes.{PassState, EachOf, IsPassOf, IsIdle, IsUnchanged, ShowsSeen, numbers_of}
 use Rattle.ck_words.specs.declared.stripe_set.StripeSet.{StripeSet}
 use Rattle.ck_words.specs.StripeSets.{list_of}
-use Rattle.ck_words.specs.Retries.{Stays, FindsAmong, IsBusy, FindsAgain}
+use Rattle.ck_words.specs.Retries.{GivesAlone, Stays, FindsAmong, IsBusy, FindsAgain}
 
 module _ {V : Type 0} where
   -- From p to q the stripes of these numbers were taken, in this order, with no memory to spare. The pass found none held but such ones.
@@ -68,13 +72,18 @@ module _ {V : Type 0} where
     pub no_spare : HaveNoSpare p.stripes
     pub unchanged : IsUnchanged p
 
-  -- From p to q all stripes went home.
+  -- From p to q all stripes went home, by steps that gave them back and did nothing else.
   pub record HasReleased (w : WordsState) (p q : PassState V) : Type 0 where
     pub own : IsPassOf w q
     pub idle : IsIdle q
     pub stays : Stays p.view q.view
     pub found : found_held q.view ≡ found_held p.view
     pub seen : q.view.seen ≡ p.view.seen
+    pub given : GivesAlone p.view q.view
+
+  -- The view's caller has watched a moment of the trace at which it held each such stripe, and this was the history.
+  abbrev pub HasHeld : (ℕ → Type 0) → List (Entry V) → View V → Type 0
+  HasHeld P log v = (moment : List (LockEvent V)) × StartsWith v.watched moment × ((t : ℕ) → P t → holder moment t ≡ v.by) × (decided_in moment ≡ log)
 
   -- each of the stripes has this power
   abbrev pub AreOfPower : ℕ → List (StripeState V) → Type 0
@@ -88,6 +97,7 @@ module _ {V : Type 0} where
   abbrev pub IsToldPower : PassState V → PassState V → Type 0
   IsToldPower p q = q.view.told ≡ max p.view.told (power_in p.stripes)
 
-  -- From p to q all stripes went home, and the caller has made as many doublings more as their power rose by since they were taken, and noted what they contained then if it rose.
-  abbrev pub IsDoubledBy : PassState V → PassState V → Type 0
-  IsDoubledBy p q = (a b : ℕ) → ((t : ℕ) (c : Content V) → Holds p.view.held t c → c.power ≡ a) → AreOfPower b p.stripes → (q.view.doublings ≡ p.view.doublings + (b - a)) × (q.view.grown_from ≡ growing p.view.grown_from (reverse p.view.held) (b - a))
+  -- From p to q all stripes went home, and the caller has made as many doublings more as their power rose by since they were taken, and noted what they contained then if it rose. If they were all stripes, it held all at a moment at which it had seen the history.
+  pub record IsDoubledBy (p q : PassState V) : Type 0 where
+    pub counted : (a b : ℕ) → ((t : ℕ) (c : Content V) → Holds p.view.held t c → c.power ≡ a) → AreOfPower b p.stripes → (q.view.doublings ≡ p.view.doublings + (b - a)) × (q.view.grown_from ≡ growing p.view.grown_from (reverse p.view.held) (b - a))
+    pub held : ((t : ℕ) → t < 2 ^ p.view.settings.s → IsIn t (numbers p.view.held)) → HasHeld (λ t. t < 2 ^ p.view.settings.s) p.view.seen q.view

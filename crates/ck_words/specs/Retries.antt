@@ -1,12 +1,13 @@
 -- What several tries to take stripes leave.
-use Rattle.std.specs.Prelude.{◌≡◌, ◌≢◌, ℕ, ◌<◌, ◌≤◌, List, [], ◌++◌, Some, replicate}
+use Rattle.std.specs.Prelude.{◌≡◌, ◌≢◌, ℕ, ◌<◌, ◌≤◌, List, [], ◌∷◌, ◌++◌, Some, All, replicate}
+use Rattle.ck_model.specs.declared.history.Entry.{Entry}
 use Rattle.ck_model.specs.declared.settings.Settings.{Settings}
 use Rattle.ck_model.specs.Promise.{Name, StartsWith, subhistory}
 use Rattle.ck_model.specs.Numbered.{IsIn}
 use Rattle.ck_core.specs.declared.trace.LockEvent.{LockEvent}
 use Rattle.ck_core.specs.declared.view.RoomNote.{RoomNote}
 use Rattle.ck_core.specs.declared.view.View.{View}
-use Rattle.ck_core.specs.declared.trace.LockStep.TheVariants.{Missed}
+use Rattle.ck_core.specs.declared.trace.LockStep.TheVariants.{Missed, Gave, Decided}
 use Rattle.ck_core.specs.Trace.{IsLegalTrace, decided_in, steps_of, missed_in}
 use Rattle.ck_core.specs.State.{found_held}
 use Rattle.ck_core.specs.Steps.{event}
@@ -17,6 +18,18 @@ module _ {V : Type 0} where
   abbrev pub WatchesMore : View V → View V → Type 0
   WatchesMore v w = (events : List (LockEvent V)) × (w.watched ≡ v.watched ++ events)
       × ((m : ℕ) → v.by ≡ Some m → (w.steps ≡ v.steps ++ steps_of m events) × (w.mine ≡ v.mine ++ decided_in (steps_of m events)))
+
+  -- the step gave a stripe back
+  abbrev pub IsGive : LockEvent V → Type 0
+  IsGive e = e.step ≡ Gave
+
+  -- From v to w the caller's own steps gave stripes back, and did nothing else.
+  abbrev pub GivesAlone : View V → View V → Type 0
+  GivesAlone v w = (gives : List (LockEvent V)) × (w.steps ≡ v.steps ++ gives) × All IsGive gives
+
+  -- From v to w the caller m decided an entry by a step on the word of stripe t, and behind it its own steps gave stripes back, and did nothing else.
+  abbrev pub DecidesThenGives : View V → View V → Type 0
+  DecidesThenGives v w = (m t : ℕ) × (v.by ≡ Some m) × (e : Entry V) × (before gives : List (LockEvent V)) × (w.steps ≡ v.steps ++ before ++ event v.by (Decided e) t ∷ gives) × All IsGive gives
 
   -- n misses of the stripe t by the view's caller
   abbrev pub misses : ℕ → ℕ → View V → List (LockEvent V)
@@ -67,15 +80,15 @@ module _ {V : Type 0} where
   abbrev pub FindsAmong : (ℕ → Type 0) → PassState V → PassState V → Type 0
   FindsAmong P p q = (more : List ℕ) × (found_held q.view ≡ more ++ found_held p.view) × ((t : ℕ) → IsIn t more → P t)
 
-  -- Its last tries all found the stripe t held.
+  -- Its last tries all missed the stripe t, and behind them its own steps gave stripes back, and did nothing else.
   abbrev pub FindsLast : ℕ → ℕ → PassState V → PassState V → Type 0
-  FindsLast turns t p q = (before : List ℕ) × (found_held q.view ≡ replicate turns t ++ before ++ found_held p.view)
+  FindsLast turns t p q = (before gives : List (LockEvent V)) × (q.view.steps ≡ p.view.steps ++ before ++ misses turns t p.view ++ gives) × All IsGive gives
 
   -- In the trace that the pass has watched, which is legal, the stripe that its caller missed at its last tries, so many, was t: at each of them another had taken t, and not given it back.
   pub record HasMissed (turns t : ℕ) (q : PassState V) : Type 0 where
     pub legal : IsLegalTrace q.view.watched
     pub missed : (m : ℕ) → q.view.by ≡ Some m → (before : List ℕ) × (missed_in (steps_of m q.view.watched) ≡ replicate turns t ++ before)
 
-  -- The pass holds no stripe. Its last tries all found the stripe t held, and its caller isn't the only one.
+  -- The pass holds no stripe. Its last tries all missed the stripe t, and its caller isn't the only one.
   abbrev pub IsBusy : Settings → ℕ → PassState V → PassState V → Type 0
   IsBusy set t p q = IsIdle q × FindsLast set.turns t p q × (set.callers ≢ 1) × HasMissed set.turns t q

@@ -12,7 +12,7 @@ use Rattle.ck_model.specs.Contents.{layout_of, Stripes, IsStripeOf}
 use Rattle.ck_core.specs.declared.view.RoomNote.{RoomNote}
 use Rattle.ck_words.specs.Words.{WordsState}
 use Rattle.ck_words.specs.Passes.{PassState}
-use Rattle.ck_words.specs.Retries.{WatchesMore, StaysBut, FindsAmong}
+use Rattle.ck_words.specs.Retries.{WatchesMore, DecidesThenGives, StaysBut, FindsAmong}
 use Rattle.ck_words.specs.Answering.{IsAnswered, IsAnsweredBut, IsAnsweredOn}
 use Rattle.ck_words.specs.Closing.{IsCaller}
 use Rattle.ck_core.specs.State.{client_of}
@@ -70,12 +70,13 @@ module _ {V : Type 0} where
       by = by ∙ ap (λ (x : CallerState V). x.client.by) is;
     }
 
-    pub keeps_notes : {more : List (RoomNote V)} {n : ℕ} {hs : List (Stripes V)} → StaysBut more (record p.view { seen = q.view.seen; mine = q.view.mine; watched = q.view.watched; steps = q.view.steps; doublings = n; grown_from = hs }) q.view → WatchesMore p.view q.view → KeepsNotesBut more c (caller_of w q)
-    keeps_notes {more} s watched = record {
+    pub keeps_notes : {more : List (RoomNote V)} {n : ℕ} {hs : List (Stripes V)} → StaysBut more (record p.view { seen = q.view.seen; mine = q.view.mine; watched = q.view.watched; steps = q.view.steps; doublings = n; grown_from = hs }) q.view → WatchesMore p.view q.view → DecidesThenGives p.view q.view → KeepsNotesBut more c (caller_of w q)
+    keeps_notes {more} s watched decided = record {
       settings = s.settings ∙ ap (λ (x : CallerState V). x.client.settings) is;
       told = subst (λ (x : CallerState V). x.notes.told ≤ q.view.told) is s.told;
       heard = (s.heard.0 ∙ ap (λ (x : CallerState V). x.notes.heard) is, s.heard.1 ∙ ap (λ (x : CallerState V). x.notes.heard_told) is, s.heard.2 ∙ ap (λ (x : CallerState V). x.notes.heard_watched) is);
       watched = subst (λ (x : CallerState V). WatchesMore (pass_of x).view (pass_of (caller_of w q)).view) is watched;
+      decided = subst (λ (x : CallerState V). DecidesThenGives (pass_of x).view (pass_of (caller_of w q)).view) is decided;
       no_slot = s.no_slot ∙ ap (λ (x : CallerState V). more ++ x.notes.no_slot) is;
     }
 
@@ -84,7 +85,7 @@ module _ {V : Type 0} where
     replied call {more} {reply} {n} {hs} a = subst (λ (x : CallerState V). Replied call reply x.client (client_of q.view)) is a.replied
 
     pub replies : (call : Call V) (reply : Reply V) → IsAnswered call reply p q → Replies call c (caller_of w q) reply × (IsSameCaller c (caller_of w q) × KeepsNotes c (caller_of w q))
-    replies call reply a = (replied call a, (same_caller a.stays.by, (keeps_notes a.stays a.watched, a.stays.doublings ∙ ap (λ (x : CallerState V). x.notes.doublings) is, a.stays.grown_from ∙ ap (λ (x : CallerState V). x.notes.grown_from) is)))
+    replies call reply a = (replied call a, (same_caller a.stays.by, (keeps_notes a.stays a.watched a.decided, a.stays.doublings ∙ ap (λ (x : CallerState V). x.notes.doublings) is, a.stays.grown_from ∙ ap (λ (x : CallerState V). x.notes.grown_from) is)))
 
     pub replies_on : (name : Name) (act : Act V) (reply : Reply V) → IsAnsweredOn name p q act reply → RepliesOn name c (caller_of w q) act reply × (IsSameCaller c (caller_of w q) × KeepsNotes c (caller_of w q))
     replies_on name act reply a = replies (On name act) reply a
@@ -92,10 +93,10 @@ module _ {V : Type 0} where
     -- what was made of doublings is what the caller has made
     pub grown_caller : {hash : Name → ℕ} {name : Name} → HasGrownFor hash w.settings name p q → HasGrownFor hash c.table.settings name (pass_of c) (pass_of (caller_of w q))
     grown_caller {hash} {name} g =
-        subst (λ (x : CallerState V). HasGrownFor hash x.table.settings name (pass_of x) (pass_of (caller_of w q))) is (grown_alike p q (pass_of (caller_of w p)) (pass_of (caller_of w q)) refl refl (refl, refl) refl (refl, refl) g)
+        subst (λ (x : CallerState V). HasGrownFor hash x.table.settings name (pass_of x) (pass_of (caller_of w q))) is (grown_alike p q (pass_of (caller_of w p)) (pass_of (caller_of w q)) refl refl (refl, refl) refl (refl, refl) refl refl g)
 
     replies_inserting : (hash : Name → ℕ) (name : Name) (act : Act V) (reply : Reply V) → IsInserted hash w.settings name p q act reply → RepliesOn name c (caller_of w q) act reply × (IsSameCaller c (caller_of w q) × NotesFull hash name c (caller_of w q))
-    replies_inserting hash name act reply a = (replied (On name act) a.2, (same_caller a.2.stays.by, (a.0, a.1, keeps_notes a.2.stays a.2.watched, grown_caller a.3)))
+    replies_inserting hash name act reply a = (replied (On name act) a.2, (same_caller a.2.stays.by, (a.0, a.1, keeps_notes a.2.stays a.2.watched a.2.decided, grown_caller a.3)))
 
     -- the table that the call was made on, v, is the caller's
     module _ (before : IsCaller w p) {v : WordsState} (at : v ≡ w) (after : IsCaller v q) where

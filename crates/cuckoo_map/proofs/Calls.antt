@@ -25,7 +25,7 @@ use Rattle.ck_core.specs.State.{client_of}
 use Rattle.ck_words.specs.Words.{WordsState}
 use Rattle.ck_words.specs.Passes.{PassState, IsUnchanged}
 use Rattle.ck_words.specs.Retries.{WatchesMore, Stays, StaysBut, as_doubled}
-use Rattle.ck_words.proofs.Staying.{watches_on}
+use Rattle.ck_words.proofs.Staying.{watches_on, decides_since}
 use Rattle.ck_words.specs.Holding.{IsDoubledBy}
 use Rattle.ck_words.specs.Answering.{HasDone, IsAnswered, IsAnsweredBut}
 use Rattle.ck_words.specs.Renewing.{HasRenewed}
@@ -77,6 +77,7 @@ module _ {V : Type 0} where
       record {
         replied = replied_since s call reply (client_of z.view) (subst (λ (v : View V). Replied call reply (client_of v) (client_of z.view)) same a.replied);
         watched = watches_on p.view p2.view z.view (ap (λ (v : View V). v.by) same ∙ s.by) (subst (λ (v : View V). WatchesMore p.view v) (sym same) s.watched) a.watched;
+        decided = decides_since p.view p2.view z.view (ap (λ (v : View V). v.by) same ∙ s.by) (subst (λ (v : View V). WatchesMore p.view v) (sym same) s.watched) a.decided;
         stays = record {
           settings = rest.settings ∙ s.settings;
           by = rest.by ∙ s.by;

@@ -1,9 +1,9 @@
 -- The doublings that a call made, as they are counted when its stripes go home.
-use Rattle.std.proofs.Common.{◌≡◌, ℕ, zero, suc, ◌+◌, ◌-◌, ◌<◌, ◌≤◌, List, [], ◌∷◌, length, reverse, inl, refl, sym, ap, ◌∙◌, subst, ⊎_elim, arith}
+use Rattle.std.proofs.Common.{◌≡◌, ℕ, zero, suc, ◌+◌, ◌-◌, ◌^◌, ◌<◌, ◌≤◌, List, [], ◌∷◌, append-nil, length, reverse, inl, refl, sym, ap, ◌∙◌, subst, ⊎_elim, arith}
 use Rattle.ck_model.specs.declared.contents.Content.{Content}
 use Rattle.ck_model.specs.declared.settings.Settings.{Settings}
 use Rattle.ck_model.specs.Promise.{Name, After, StartsWith}
-use Rattle.ck_model.specs.Numbered.{Holds}
+use Rattle.ck_model.specs.Numbered.{IsIn, numbers, Holds}
 use Rattle.ck_model.specs.Contents.{Layout, layout_of, Stripes, Lawful, bindings, power_of}
 use Rattle.ck_stripe.specs.Stripe.{StripeState}
 use Rattle.ck_stripe.specs.Stripes.{stripe_at, contents_of}
@@ -16,12 +16,12 @@ use Rattle.ck_core.specs.declared.view.View.{View}
 use Rattle.ck_core.specs.Steps.{growing}
 use Rattle.ck_words.specs.Words.{WordsState}
 use Rattle.ck_words.specs.Passes.{PassState, IsUnchanged}
-use Rattle.ck_words.specs.Retries.{StaysBut, as_doubled}
-use Rattle.ck_words.specs.Holding.{AreOfPower, IsDoubledBy, HasReleased}
+use Rattle.ck_words.specs.Retries.{WatchesMore, StaysBut, as_doubled}
+use Rattle.ck_words.specs.Holding.{AreOfPower, HasHeld, IsDoubledBy, HasReleased}
 use Rattle.ck_words.specs.Closing.{IsWhole}
 use Rattle.ck_words.proofs.WholeTables.{lawful_held}
 use Rattle.ck_words.proofs.Reversed.{held_reverse, of_reverse}
-use Rattle.ck_words.proofs.Staying.{starts_on}
+use Rattle.ck_words.proofs.Staying.{starts_on, held_on}
 use Rattle.cuckoo_map.specs.Needed.{DoublesNothing, NeedsToGrow, HasGrownFor, HaveOnePower, HoldsGrown}
 
 module _ {V : Type 0} where
@@ -103,9 +103,15 @@ module _ {V : Type 0} where
         let power : ℕ = power_of (contents_of p1.stripes) in
         let taken : (t : ℕ) (c : Content V) → Holds p2.view.held t c → c.power ≡ power = λ t c h.
         one t c (subst (λ (hs : Stripes V). Holds hs t c) (sym unchanged) (held_reverse p1.view.held t c (subst (λ (v : View V). Holds v.held t c) view h))) in
-        let e = doubled power power taken (level_after power p1.stripes p2.stripes rest one) in
+        let e = doubled.counted power power taken (level_after power p1.stripes p2.stripes rest one) in
         let count = e.0 in
         (omega arith, e.1 ∙ growing_none p2.view.grown_from (reverse p2.view.held) (power - power) (omega arith))
+
+    -- the caller held all stripes, where they were those
+    held_all : {set : Settings} → (p1.view.settings ≡ set) × ((t : ℕ) → t < 2 ^ set.s → IsIn t (numbers p1.view.held)) → HasHeld (λ t. t < 2 ^ set.s) p1.view.seen z.view
+    held_all {set} all =
+        let Held : View V → Settings → Type 0 = λ v x. ((t : ℕ) → t < 2 ^ x.s → IsIn t (numbers v.held)) → HasHeld (λ t. t < 2 ^ x.s) v.seen z.view in
+        subst (Held p1.view) all.0 (subst (λ (v : View V). Held v v.settings) view doubled.held) all.1
 
     -- those that were made had to be, where that was so
     pub grown_by : {hash : Name → ℕ} {set : Settings} {q : Name} {more : List (RoomNote V)} (p : PassState V) → HoldsGrown hash set q p1 → StaysBut more p.view p1.view → StartsWith z.view.seen p2.view.seen → HasGrownFor hash set q p z
@@ -115,7 +121,7 @@ module _ {V : Type 0} where
         let taken : (t : ℕ) (c : Content V) → Holds p2.view.held t c → c.power ≡ a = λ t c h. grown.before t c (subst (λ (v : View V). Holds v.held t c) view h) in
         let same : p2.view.doublings ≡ p.view.doublings = ap (λ (v : View V). v.doublings) view ∙ stays.doublings in
         let same_notes : p2.view.grown_from ≡ p.view.grown_from = ap (λ (v : View V). v.grown_from) view ∙ stays.grown_from in
-        let counted = doubled a b taken (level_after b p1.stripes p2.stripes rest grown.now) in
+        let counted = doubled.counted a b taken (level_after b p1.stripes p2.stripes rest grown.now) in
         record {
           doublings = b - a;
           made = counted.0 ∙ ap (λ n. n + (b - a)) same;
@@ -127,6 +133,7 @@ module _ {V : Type 0} where
             since = stays.seen;
             seen = subst (λ (v : View V). StartsWith z.view.seen v.seen) view seen;
             after = grown.after (let l : a < b = omega arith in l);
+            held = held_all (grown.all (let l : a < b = omega arith in l));
             told = (let before = stays.told in let there = grown.told (let l : a < b = omega arith in l) in omega arith);
             each = λ i l. grown.needed (a + i) (omega arith) (let below : a + i < b = omega arith in below);
           };
@@ -140,6 +147,7 @@ module _ {V : Type 0} where
         before = λ t c h. one t c (subst (λ (hs : Stripes V). Holds hs t c) (sym unchanged) (held_reverse p.view.held t c h)) ∙ sym same;
         now = one;
         after = λ l. absurd (omega arith);
+        all = λ l. absurd (omega arith);
         told = λ l. absurd (omega arith);
         needed = λ power least below. absurd (omega arith);
       }
@@ -152,6 +160,7 @@ module _ {V : Type 0} where
         before = subst (λ (v : View V). (t : ℕ) (c : Content V) → Holds v.held t c → c.power ≡ power_of (reverse v.held)) (sym view) grown.before;
         now = one;
         after = subst (λ (x : View V × Stripes V). power_of (reverse x.0.held) < power_of x.1 → After x.0.seen (bindings (reverse x.0.held))) (λ j. (sym view j, sym same j)) grown.after;
+        all = subst (λ (x : View V × Stripes V). power_of (reverse x.0.held) < power_of x.1 → (x.0.settings ≡ set) × ((t : ℕ) → t < 2 ^ set.s → IsIn t (numbers x.0.held))) (λ j. (sym view j, sym same j)) grown.all;
         told = subst (λ (x : View V × Stripes V). power_of (reverse x.0.held) < power_of x.1 → x.0.told ≤ power_of (reverse x.0.held)) (λ j. (sym view j, sym same j)) grown.told;
         needed = subst (λ (x : View V × Stripes V). (power : ℕ) → power_of (reverse x.0.held) ≤ power → power < power_of x.1 → NeedsToGrow hash set q (reverse x.0.held) power) (λ j. (sym view j, sym same j)) grown.needed;
       }
@@ -166,22 +175,22 @@ module _ {V : Type 0} where
     doublings = grown.doublings;
     made = grown.made ∙ ap (λ n. n + grown.doublings) stays.doublings;
     none = λ no. grown.none no ∙ stays.grown_from;
-    needed = λ some. let n = grown.needed some in record { log = n.log; contents = n.contents; noted = n.noted ∙ ap {B = List (Stripes V)} (λ l. n.contents ∷ l) stays.grown_from; since = starts_on p.view.seen r.view.seen n.log stays.seen n.since; seen = n.seen; after = n.after; told = (let before = stays.told in let there = n.told in omega arith); each = n.each };
+    needed = λ some. let n = grown.needed some in record { log = n.log; contents = n.contents; noted = n.noted ∙ ap {B = List (Stripes V)} (λ l. n.contents ∷ l) stays.grown_from; since = starts_on p.view.seen r.view.seen n.log stays.seen n.since; seen = n.seen; after = n.after; held = n.held; told = (let before = stays.told in let there = n.told in omega arith); each = n.each };
   }
 
   -- none after them
-  pub grown_until : {hash : Name → ℕ} {set : Settings} {q : Name} (p r z : PassState V) → HasGrownFor hash set q p r → DoublesNothing r z → StartsWith z.view.seen r.view.seen → HasGrownFor hash set q p z
-  grown_until p r z grown same seen = record {
+  pub grown_until : {hash : Name → ℕ} {set : Settings} {q : Name} (p r z : PassState V) → HasGrownFor hash set q p r → DoublesNothing r z → StartsWith z.view.seen r.view.seen → WatchesMore r.view z.view → z.view.by ≡ r.view.by → HasGrownFor hash set q p z
+  grown_until {hash} {set} p r z grown same seen watched by = record {
     doublings = grown.doublings;
     made = same.0 ∙ grown.made;
     none = λ no. same.1 ∙ grown.none no;
-    needed = λ some. let n = grown.needed some in record { log = n.log; contents = n.contents; noted = same.1 ∙ n.noted; since = n.since; seen = starts_on n.log r.view.seen z.view.seen n.seen seen; after = n.after; told = n.told; each = n.each };
+    needed = λ some. let n = grown.needed some in record { log = n.log; contents = n.contents; noted = same.1 ∙ n.noted; since = n.since; seen = starts_on n.log r.view.seen z.view.seen n.seen seen; after = n.after; held = held_on (λ t. t < 2 ^ set.s) n.log r.view z.view (watched.0, watched.1) by n.held; told = n.told; each = n.each };
   }
 
   -- it counts what passes have seen, were told and made alone
-  pub grown_alike : {hash : Name → ℕ} {set : Settings} {q : Name} (p z p2 z2 : PassState V) → p2.view.seen ≡ p.view.seen → p2.view.told ≡ p.view.told → DoublesNothing p p2 → z2.view.seen ≡ z.view.seen → DoublesNothing z z2
+  pub grown_alike : {hash : Name → ℕ} {set : Settings} {q : Name} (p z p2 z2 : PassState V) → p2.view.seen ≡ p.view.seen → p2.view.told ≡ p.view.told → DoublesNothing p p2 → z2.view.seen ≡ z.view.seen → DoublesNothing z z2 → z2.view.watched ≡ z.view.watched → z2.view.by ≡ z.view.by
       → HasGrownFor hash set q p z → HasGrownFor hash set q p2 z2
-  grown_alike p z p2 z2 seen told made seen2 made2 grown = record {
+  grown_alike {hash} {set} p z p2 z2 seen told made seen2 made2 watched2 by2 grown = record {
     doublings = grown.doublings;
     made = made2.0 ∙ (grown.made ∙ ap (λ n. n + grown.doublings) (sym made.0));
     none = λ no. made2.1 ∙ (grown.none no ∙ sym made.1);
@@ -192,6 +201,7 @@ module _ {V : Type 0} where
       since = subst (λ l. StartsWith n.log l) (sym seen) n.since;
       seen = subst (λ l. StartsWith l n.log) (sym seen2) n.seen;
       after = n.after;
+      held = held_on (λ t. t < 2 ^ set.s) n.log z.view z2.view ([], watched2 ∙ sym (append-nil z.view.watched)) by2 n.held;
       told = subst (λ m. m ≤ power_of n.contents) (sym told) n.told;
       each = n.each;
     };

@@ -1,5 +1,5 @@
 -- What a caller leaves of its pass while it displaces entries.
-use Rattle.std.proofs.Common.{◌≡◌, ℕ, List, [], ◌++◌, replicate, reverse, append_assoc, refl, sym, ap, ◌∙◌, subst}
+use Rattle.std.proofs.Common.{◌≡◌, ℕ, List, [], ◌++◌, reverse, append_assoc, refl, sym, ap, ◌∙◌, subst}
 use Rattle.ck_model.specs.Promise.{Name}
 use Rattle.ck_model.specs.Contents.{layout, Stripes, Lawful}
 use Rattle.ck_model.specs.Sections.{IdentitySection}
@@ -13,12 +13,8 @@ use Rattle.ck_words.specs.Passes.{PassState, IsPassOf, IsIdle, IsUnchanged}
 use Rattle.ck_words.specs.Retries.{Stays, FindsAmong}
 use Rattle.ck_words.specs.Holding.{HasReleased}
 use Rattle.ck_words.specs.Renewing.{HasRenewed}
-use Rattle.ck_words.proofs.Staying.{stays_same, stays_then, stays_on}
+use Rattle.ck_words.proofs.Staying.{last_since, stays_same, stays_then, stays_on}
 use Rattle.cuckoo_map.specs.Displacing.{FindsAny, IsBackBut, IsBack, IsBusyAnywhere}
-
--- a run of finds, before others and before what was found earlier
-pub found_before : (xs ys zs l : List ℕ) → (xs ++ ys) ++ (zs ++ l) ≡ (xs ++ (ys ++ zs)) ++ l
-found_before xs ys zs l = sym (append_assoc (xs ++ ys) zs l) ∙ ap (λ m. m ++ l) (append_assoc xs ys zs)
 
 module _ {V : Type 0} where
   pub any_on : (p q r : PassState V) → FindsAny p q → FindsAny q r → FindsAny p r
@@ -41,10 +37,7 @@ module _ {V : Type 0} where
     busy_on t p q r f busy = record {
       stays = stays_on p.view q.view r.view f.stays busy.stays;
       stripe = busy.stripe;
-      tried = (
-        busy.tried.0 ++ f.found.0,
-        busy.tried.1 ∙ (ap (λ l. (replicate w.settings.turns t ++ busy.tried.0) ++ l) f.found.1 ∙ found_before (replicate w.settings.turns t) busy.tried.0 f.found.0 (found_held p.view)),
-      );
+      tried = last_since w.settings.turns t p q r f.stays.by f.own.2 f.stays.watched busy.tried;
       others = busy.others;
       missed = busy.missed;
     }

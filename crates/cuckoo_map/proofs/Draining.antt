@@ -7,7 +7,7 @@ use Rattle.ck_model.specs.Promise.{Name, Map, Replied, name_cmp}
 use Rattle.ck_model.specs.Contents.{power_of}
 use Rattle.ck_core.specs.Steps.{growing}
 use Rattle.ck_words.specs.Words.{WordsState}
-use Rattle.ck_words.proofs.Staying.{watches_on}
+use Rattle.ck_words.proofs.Staying.{watches_on, decides_since}
 use Rattle.cuckoo_map.specs.Callers.{CallerState, pass_of, Replies, KeepsNotesBut, KeepsNotes}
 use Rattle.cuckoo_map.specs.Locking.{LockedState, start_of, map_of, locked_power, session_call, IsSameSession, HasLocked, Clears, EndsNotes}
 use Rattle.cuckoo_map.proofs.Calls.{replied_since}
@@ -50,6 +50,7 @@ module _ {V : Type 0} where
           told = omega arith;
           heard = (e.heard.0 ∙ stays.heard.0, e.heard.1 ∙ stays.heard.1, e.heard.2 ∙ stays.heard.2);
           watched = watches_on (pass_of c).view (pass_of l.caller).view (pass_of d).view stays.by stays.watched e.watched;
+          decided = decides_since (pass_of c).view (pass_of l.caller).view (pass_of d).view stays.by stays.watched e.decided;
           no_slot = e.no_slot ∙ stays.no_slot;
         },
         omega arith,

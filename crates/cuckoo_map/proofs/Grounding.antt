@@ -1,9 +1,10 @@
 -- What all stripes of a table contain, where it gives the reason to refuse a name, is what the history leaves.
-use Rattle.std.proofs.Common.{◌≡◌, ℕ, ◌^◌, ◌≤◌, List, [], ◌∷◌, reverse, inl, refl, sym, ap, ◌∙◌, subst, arith}
+use Rattle.std.proofs.Common.{◌≡◌, ℕ, ◌^◌, ◌<◌, ◌≤◌, List, [], ◌∷◌, reverse, inl, refl, sym, ap, ◌∙◌, subst, arith}
 use Rattle.std.specs.Prelude.{max}
 use Rattle.std.proofs.Math.Nat.{one-le-pow}
 use Rattle.ck_model.specs.declared.contents.Content.{Content}
 use Rattle.ck_model.specs.declared.history.Reason.{Reason}
+use Rattle.ck_model.specs.declared.settings.Settings.{Settings}
 use Rattle.ck_model.specs.Promise.{Name, After}
 use Rattle.ck_model.specs.Numbered.{IsIn, numbers, Holds}
 use Rattle.ck_model.specs.Contents.{Layout, layout_of, Stripes, Lawful, bindings, power_of}
@@ -18,13 +19,13 @@ use Rattle.ck_core.specs.Steps.{noted}
 use Rattle.ck_words.specs.Words.{WordsState}
 use Rattle.ck_words.specs.Passes.{PassState}
 use Rattle.ck_words.specs.Retries.{Stays}
-use Rattle.ck_words.specs.Holding.{IsToldPower}
+use Rattle.ck_words.specs.Holding.{HasHeld, IsToldPower, IsDoubledBy}
 use Rattle.ck_words.specs.Renewing.{HasRenewed}
 use Rattle.ck_words.specs.Closing.{IsWhole}
 use Rattle.ck_words.proofs.Reversed.{of_reverse}
 use Rattle.ck_words.proofs.WholeTables.{lawful_held}
 use Rattle.cuckoo_map.specs.Refusals.{GivesGrounds}
-use Rattle.cuckoo_map.proofs.Sizes.{has_all}
+use Rattle.cuckoo_map.proofs.Sizes.{has_all, holds_each}
 use Rattle.cuckoo_map.proofs.Sessions.{not_below, after_all}
 
 -- a stripe that has the power of stripes that are some
@@ -78,5 +79,19 @@ module _ {V : Type 0} (hash : Name → ℕ) (w : WordsState) (p p1 p2 z : PassSt
       let most : max p2.view.told (power_in p2.stripes) ≡ power_in p2.stripes = omega arith in
       told ∙ (most ∙ h.same)
 
-  pub gives_grounds : (q : Name) (why : Reason) → (Lawful k (reverse p2.view.held) → Grounds k w.settings.min_load (contents_of p2.stripes) q why) → z.view.seen ≡ p2.view.seen → IsToldPower p2 z → GivesGrounds hash w.settings q why (noted q why (contents_of p2.stripes) ∷ []) z
-  gives_grounds q why grounds seen told = record { contents = contents_of p2.stripes; is_noted = (0, omega arith, refl); grounds = grounds lawful; after = leaves seen; power = told_power told }
+  -- the caller held them all
+  held_all : p1.view.settings ≡ w.settings → IsDoubledBy p2 z → HasHeld (λ t. t < 2 ^ w.settings.s) p2.view.seen z.view
+  held_all of doubled =
+      let settings : p2.view.settings ≡ w.settings = ap (λ (v : View V). v.settings) same ∙ of in
+      let all : (t : ℕ) → t < 2 ^ w.settings.s → IsIn t (numbers p2.view.held) = subst (λ (v : View V). (t : ℕ) → t < 2 ^ w.settings.s → IsIn t (numbers v.held)) (sym same) (holds_each hash w.settings p1 whole) in
+      subst (λ (x : Settings). ((t : ℕ) → t < 2 ^ x.s → IsIn t (numbers p2.view.held)) → HasHeld (λ t. t < 2 ^ x.s) p2.view.seen z.view) settings doubled.held all
+
+  pub gives_grounds : p1.view.settings ≡ w.settings → (q : Name) (why : Reason) → (Lawful k (reverse p2.view.held) → Grounds k w.settings.min_load (contents_of p2.stripes) q why) → z.view.seen ≡ p2.view.seen → IsToldPower p2 z → IsDoubledBy p2 z → GivesGrounds hash w.settings q why (noted q why (contents_of p2.stripes) ∷ []) z
+  gives_grounds of q why grounds seen told doubled = record {
+    contents = contents_of p2.stripes;
+    is_noted = (0, omega arith, refl);
+    grounds = grounds lawful;
+    after = leaves seen;
+    held = subst (λ log. HasHeld (λ t. t < 2 ^ w.settings.s) log z.view) (sym seen) (held_all of doubled);
+    power = told_power told;
+  }

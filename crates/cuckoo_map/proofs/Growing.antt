@@ -169,12 +169,12 @@ module _ {V : Type 0} {hash : Name → ℕ} {set : Settings} (p p1 p2 z : PassSt
   pub counted_since : HasRenewed hash set p2 → p1.view.doublings ≡ p.view.doublings → IsDoubledBy p2 z → z.view.doublings ≡ p.view.doublings + (power_in p2.stripes - power_in p1.stripes)
   counted_since renewed before doubled =
       let same : p2.view.doublings ≡ p.view.doublings = ap (λ (u : View V). u.doublings) view ∙ before in
-      (doubled (power_in p1.stripes) (power_in p2.stripes) power_taken (power_home renewed)).0 ∙ ap (λ n. n + (power_in p2.stripes - power_in p1.stripes)) same
+      (doubled.counted (power_in p1.stripes) (power_in p2.stripes) power_taken (power_home renewed)).0 ∙ ap (λ n. n + (power_in p2.stripes - power_in p1.stripes)) same
 
   -- and what they doubled from
   pub noted_since : HasRenewed hash set p2 → p1.view.grown_from ≡ p.view.grown_from → IsDoubledBy p2 z → power_in p1.stripes < power_in p2.stripes → z.view.grown_from ≡ contents_of p1.stripes ∷ p.view.grown_from
   noted_since renewed before doubled more =
-      let noted = (doubled (power_in p1.stripes) (power_in p2.stripes) power_taken (power_home renewed)).1 in
+      let noted = (doubled.counted (power_in p1.stripes) (power_in p2.stripes) power_taken (power_home renewed)).1 in
       let taken : reverse p2.view.held ≡ contents_of p1.stripes = ap (λ (u : View V). reverse u.held) view ∙ sym whole.unchanged in
       let same : p2.view.grown_from ≡ p.view.grown_from = ap (λ (u : View V). u.grown_from) view ∙ before in
       noted ∙ (growing_some p2.view.grown_from (reverse p2.view.held) (power_in p2.stripes - power_in p1.stripes) (omega arith) ∙ λ i. taken i ∷ same i)

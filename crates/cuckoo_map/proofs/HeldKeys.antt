@@ -254,7 +254,7 @@ module _ {V : Type 0} where
     pub none_doubled : (p z : PassState V) → HoldsKeys hash w stripes names p → IsDoubledBy p z → DoublesNothing p z
     none_doubled p z l doubled =
         let power : ℕ = power_of (contents_of p.stripes) in
-        let e = doubled power power (λ t c h. l.level t c (held_reverse p.view.held t c h)) (λ t c h. one_of_lawful (layout_of hash w.settings) (contents_of p.stripes) l.lawful t c h) in
+        let e = doubled.counted power power (λ t c h. l.level t c (held_reverse p.view.held t c h)) (λ t c h. one_of_lawful (layout_of hash w.settings) (contents_of p.stripes) l.lawful t c h) in
         let count = e.0 in
         (omega arith, e.1 ∙ growing_none p.view.grown_from (reverse p.view.held) (power - power) (omega arith))
 

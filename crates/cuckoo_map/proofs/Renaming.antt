@@ -249,7 +249,7 @@ module _ {V : Type 0} where
         more = note ++ sought.more;
         own = All-append (SaysOf r NoRoom) note sought.more (All-cons (SaysOf r NoRoom) (noted r NoRoom full.0) [] (refl, refl) (All-nil _)) sought.own;
         stays = loosely (stays_then sought.more note (as_doubled p m).view m.view z.view sought.stays full.1);
-        grown = grown_until p m z sought.grown (full.1.doublings, full.1.grown_from) full.1.seen;
+        grown = grown_until p m z sought.grown (full.1.doublings, full.1.grown_from) full.1.seen full.1.watched full.1.by;
       }
 
   -- Since p the buckets of r were found full, as p1; p2 has tried to make room.
@@ -352,7 +352,7 @@ module _ {V : Type 0} where
           notes = (
             m,
             subst (λ (x : CallerState V). HasSoughtRoom hash x.table.settings r (pass_of x) m) is (subst (λ (x : PassState V). HasSoughtRoom hash w.settings r x m) (sym (as_pass caller)) sought),
-            (a.3.0, a.3.1, keeps_notes m z (ap (λ (x : CallerState V). caller_of x.table m) is) but.stays but.watched, grown_caller m z (ap (λ (x : CallerState V). caller_of x.table m) is) a.3.3),
+            (a.3.0, a.3.1, keeps_notes m z (ap (λ (x : CallerState V). caller_of x.table m) is) but.stays but.watched but.decided, grown_caller m z (ap (λ (x : CallerState V). caller_of x.table m) is) a.3.3),
           );
         }
 

@@ -1,11 +1,12 @@
 -- Room for a name: which stripes are held with it, and what is left of a pass that made it among all of the table.
-use Rattle.std.proofs.Common.{◌≡◌, ◌⊎◌, ℕ, ◌<◌, ◌≤◌, List, [], ◌∷◌, length, reverse, refl, inr, sym, ap, ◌∙◌, subst, arith}
+use Rattle.std.proofs.Common.{◌≡◌, ◌⊎◌, ℕ, ◌^◌, ◌<◌, ◌≤◌, List, [], ◌∷◌, length, reverse, refl, inr, sym, ap, ◌∙◌, subst, arith}
 use Rattle.std.proofs.lemmas.List.Elements.{All-nil, All-cons}
 use Rattle.std.proofs.lemmas.Nat.{pow_pos}
 use Rattle.ck_model.specs.declared.history.Reason.{Reason}
 use Rattle.ck_model.specs.declared.history.Reason.TheVariants.{NoRoom}
 use Rattle.ck_model.specs.declared.settings.Settings.{Settings}
 use Rattle.ck_model.specs.Promise.{Name, After}
+use Rattle.ck_model.specs.Numbered.{IsIn, numbers}
 use Rattle.ck_model.specs.Contents.{Layout, layout, layout_of, Stripes, Lawful, bindings, power_of}
 use Rattle.ck_model.specs.Paths.{Grounds, HasNoRoom, reason_of_lack}
 use Rattle.ck_stripe.specs.Stripe.{StripeState}
@@ -39,6 +40,7 @@ use Rattle.cuckoo_map.specs.Refusals.{SaysOf, reason_of, why_of, GivesGrounds, S
 use Rattle.cuckoo_map.specs.Needed.{NeedsToGrow, HasGrownFor, HaveOnePower, HoldsGrown}
 use Rattle.cuckoo_map.specs.Insertions.{HoldsRoom, HasRoom, HasRoomInAll}
 use Rattle.cuckoo_map.proofs.Counted.{one_of_lawful, told_first, stays_counting, holds_alike, grown_since}
+use Rattle.cuckoo_map.proofs.Sizes.{holds_each}
 use Rattle.cuckoo_map.proofs.Sessions.{after_all}
 
 -- the reason of a refusal for a lack is that of the lack
@@ -133,8 +135,8 @@ module _ {V : Type 0} where
       grounds_there l refused held = subst (λ (x : Settings). Grounds (layout_of hash x) x.min_load (contents_of p2.stripes) q (reason_of_lack l)) set_is (refused lawful_taken)
 
       -- they doubled for want of room for the name alone
-      pub grown_there : IsTable w.settings.s p1.stripes → IsTable set.s p2.stripes → GrowsForRoom k set.min_load p1.stripes p2.stripes q → HoldsGrown hash w.settings q p2
-      grown_there table table2 grows =
+      pub grown_there : p1.view.settings ≡ w.settings → IsTable w.settings.s p1.stripes → IsTable set.s p2.stripes → GrowsForRoom k set.min_load p1.stripes p2.stripes q → HoldsGrown hash w.settings q p2
+      grown_there of table table2 grows =
           let as_taken : contents_of p1.stripes ≡ reverse p2.view.held = whole.unchanged ∙ ap (λ (v : View V). reverse v.held) (sym same) in
           let some : 0 < length p1.stripes = subst (λ n. 0 < n) (sym table.count) (pow_pos w.settings.s) in
           let first : power_of (contents_of p1.stripes) ≡ power_in p1.stripes = power_shown p1.stripes some in
@@ -145,6 +147,7 @@ module _ {V : Type 0} where
             before = λ t c h. one_of_lawful k (reverse p2.view.held) old t c (held_reverse p2.view.held t c h);
             now = one_of_lawful k (contents_of p2.stripes) (keeps lawful_taken).renewed.lawful;
             after = λ l. subst (λ (v : View V). After v.seen (bindings (reverse v.held))) (sym same) (after_all hash w p1 p1 (stays_same p1.view) whole);
+            all = λ l. subst (λ (v : View V). (v.settings ≡ w.settings) × ((t : ℕ) → t < 2 ^ w.settings.s → IsIn t (numbers v.held))) (sym same) (of, holds_each hash w.settings p1 whole);
             told = λ l. (let here = told_first p1 whole some in let same_told : p2.view.told ≡ p1.view.told = ap (λ (v : View V). v.told) same in omega arith);
             needed = λ power least below.
                 subst (λ (x : Settings × Stripes V). NeedsToGrow hash x.0 q x.1 power) (λ j. (set_is j, as_taken j))
@@ -152,8 +155,8 @@ module _ {V : Type 0} where
           }
 
       -- there is room for the name among them, and they are settled
-      pub room_in_all : (p : PassState V) → Stays p.view p1.view → AreAllHeld set.s p2.stripes → MakesRoom k p1.stripes p2.stripes q → IsTable w.settings.s p1.stripes → GrowsForRoom k set.min_load p1.stripes p2.stripes q → HasRoomInAll hash w.settings q p p2
-      room_in_all p stays held makes table grows =
+      pub room_in_all : (p : PassState V) → Stays p.view p1.view → AreAllHeld set.s p2.stripes → MakesRoom k p1.stripes p2.stripes q → p1.view.settings ≡ w.settings → IsTable w.settings.s p1.stripes → GrowsForRoom k set.min_load p1.stripes p2.stripes q → HasRoomInAll hash w.settings q p p2
+      room_in_all p stays held makes of table grows =
           let there : AreAllHeld w.settings.s p2.stripes = subst (λ (x : Settings). AreAllHeld x.s p2.stripes) set_is held in
           record {
             stays = subst (Stays p.view) (sym same) stays;
@@ -161,6 +164,6 @@ module _ {V : Type 0} where
             all = there;
             taken = subst (λ (x : Settings × Stripes V). Lawful (layout_of hash x.0) x.1) (λ j. (set_is j, (whole.unchanged ∙ ap (λ (v : View V). reverse v.held) (sym same)) j)) lawful_taken;
             renewed = renewed_there;
-            grown = grown_there table held.table grows;
+            grown = grown_there of table held.table grows;
             room = subst (λ (x : Settings). ¬ (HasNoRoom (layout_of hash x) (contents_of p2.stripes) q)) set_is (makes lawful_taken);
           }

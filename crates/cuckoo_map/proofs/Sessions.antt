@@ -219,7 +219,7 @@ module _ {V : Type 0} where
         × (z.view.grown_from ≡ growing p.view.grown_from (reverse p.view.held) (power_of (contents_of p.stripes) - power_of (reverse p.view.held)))
     session_counted z doubled =
         let k : Layout = layout_of hash w.settings in
-        doubled (power_of (reverse p.view.held)) (power_of (contents_of p.stripes))
+        doubled.counted (power_of (reverse p.view.held)) (power_of (contents_of p.stripes))
         (λ t c h. one_of_lawful k (reverse p.view.held) (lawful_reverse k p.view.held l.shows.lawful) t c (held_reverse p.view.held t c h)) (one_of_lawful k (contents_of p.stripes) l.renewed.lawful)
 
   pub has_locked : (hash : Name → ℕ) (w : WordsState) (p p1 : PassState V) → IsCaller w p → Stays p.view p1.view → IsWhole hash w.settings p1 → FindsAmong (IsStripeIn w.settings) p p1 → HasLocked w p (locked_of w p1)

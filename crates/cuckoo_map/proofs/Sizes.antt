@@ -7,7 +7,7 @@ use Rattle.ck_model.specs.declared.history.Call.TheVariants.{Len}
 use Rattle.ck_model.specs.declared.history.Reply.TheVariants.{Count}
 use Rattle.ck_model.specs.declared.settings.Settings.{Settings}
 use Rattle.ck_model.specs.Promise.{Name}
-use Rattle.ck_model.specs.Numbered.{IsIn, Holds}
+use Rattle.ck_model.specs.Numbered.{IsIn, numbers, Holds}
 use Rattle.ck_model.specs.Contents.{Layout, layout_of, Stripes, Lawful, pairs_in, pairs_of}
 use Rattle.ck_model.specs.Sections.{HasAll, Renewed, Section}
 use Rattle.ck_model.proofs.Counted.{len-bindings}
@@ -21,6 +21,7 @@ use Rattle.ck_model.proofs.Counting.{in_counting, length-counting}
 use Rattle.ck_stripe.proofs.Doubled.{all_buckets}
 use Rattle.ck_stripe.proofs.Writes.{few_pairs}
 use Rattle.ck_words.proofs.WholeTables.{lawful_held}
+use Rattle.ck_words.proofs.Reversed.{in_of_reverse}
 use Rattle.ck_words.proofs.Seating.{numbers-contents}
 
 module _ {V : Type 0} where
@@ -34,6 +35,10 @@ module _ {V : Type 0} where
 
   pub has_all : (hash : Name → ℕ) (set : Settings) (p : PassState V) → numbers_of p.stripes ≡ counting 0 (2 ^ set.s) → HasAll (layout_of hash set) (contents_of p.stripes)
   has_all hash set p all t l = subst (IsIn t) (sym (numbers-contents p.stripes ∙ all)) (in_counting (2 ^ set.s) t l)
+
+  -- a pass that has just taken all stripes holds each
+  pub holds_each : (hash : Name → ℕ) (set : Settings) (p : PassState V) → IsWhole hash set p → HasAll (layout_of hash set) p.view.held
+  holds_each hash set p whole t l = in_of_reverse p.view.held t (subst (λ (hs : Stripes V). IsIn t (numbers hs)) whole.unchanged (has_all hash set p whole.all t l))
 
   -- the number of pairs in all stripes is that of the names that they bind
   pub counts_all : (hash : Name → ℕ) (set : Settings) (p : PassState V) (n : ℕ) → IsWhole hash set p → n ≡ length (pairs_of (contents_of p.stripes)) → HasDone hash set Len (Count n) p

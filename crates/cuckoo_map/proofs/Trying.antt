@@ -1,5 +1,5 @@
 -- What an insertion leaves of its pass that found its name without room and has tried since to make some.
-use Rattle.std.proofs.Common.{◌≡◌, ◌⊎◌, ℕ, List, [], ◌∷◌, ◌++◌, replicate, append_assoc, inl, inr, refl, sym, ap, ◌∙◌, subst}
+use Rattle.std.proofs.Common.{◌≡◌, ◌⊎◌, ℕ, List, [], ◌∷◌, ◌++◌, append_assoc, inl, inr, refl, sym, ap, ◌∙◌, subst}
 use Rattle.std.specs.Prelude.{All, Contains}
 use Rattle.std.proofs.lemmas.List.Elements.{All-nil, All-cons, All-append, Contains-push, Contains-append_left}
 use Rattle.ck_model.specs.declared.history.Reason.{Reason}
@@ -9,12 +9,11 @@ use Rattle.ck_model.specs.Promise.{Name}
 use Rattle.ck_model.specs.Contents.{Stripes}
 use Rattle.ck_core.specs.declared.view.RoomNote.{RoomNote}
 use Rattle.ck_core.specs.Steps.{noted}
-use Rattle.ck_core.specs.State.{found_held}
 use Rattle.ck_words.specs.Words.{WordsState}
 use Rattle.ck_words.specs.Passes.{PassState, IsPassOf, IsIdle}
 use Rattle.ck_words.specs.Retries.{StaysBut, as_doubled}
 use Rattle.ck_words.specs.Closing.{IsCaller}
-use Rattle.ck_words.proofs.Staying.{stays_then}
+use Rattle.ck_words.proofs.Staying.{last_since, stays_then}
 use Rattle.cuckoo_map.specs.declared.room.Room.{Room}
 use Rattle.cuckoo_map.specs.declared.refusal.Why.{Why}
 use Rattle.cuckoo_map.specs.declared.refusal.Why.TheVariants.{Busy, Memory, Full, LoadTooLow}
@@ -24,7 +23,7 @@ use Rattle.cuckoo_map.specs.Needed.{HasGrownFor}
 use Rattle.cuckoo_map.specs.Insertions.{HasFoundNoRoom, SayFull, HoldsRoom, HasRoom, HasSoughtRoom}
 use Rattle.cuckoo_map.proofs.Counted.{loosely, stays_counting, grown_since}
 use Rattle.cuckoo_map.specs.Displacing.{FindsAny, IsBackBut, IsBack}
-use Rattle.cuckoo_map.proofs.Displacing.{any_on, back_same, back_then, found_before}
+use Rattle.cuckoo_map.proofs.Displacing.{any_on, back_same, back_then}
 
 module _ {V : Type 0} (q : Name) where
   -- the note that the name's buckets were full in stripes that contained this
@@ -122,13 +121,12 @@ module _ {V : Type 0} (q : Name) where
         is_noted = let x : RoomNote V = noted q why g.contents in Contains-append_left (more ++ h.more) (first ∷ []) x (Contains-append_left more h.more x g.is_noted);
         grounds = g.grounds;
         after = g.after;
+        held = g.held;
         power = g.power;
       }
 
       shows_since : (why : Why) → ShowsWhy hash w.settings q why more r z → ShowsWhy hash w.settings q why said p z
-      shows_since (Busy t) s =
-          let last : List ℕ = replicate w.settings.turns t in
-          (s.0, (s.1.0 ++ any_since.0, s.1.1 ∙ (ap (λ l. (last ++ s.1.0) ++ l) any_since.1 ∙ found_before last s.1.0 any_since.0 (found_held p.view))), s.2, s.3 ∙ stays_until.doublings, s.4)
+      shows_since (Busy t) s = (s.0, last_since w.settings.turns t p r z stays_until.by h.back.own.2 stays_until.watched s.1, s.2, s.3 ∙ stays_until.doublings, s.4)
       shows_since Memory s = grounds_since reason.Memory s
       shows_since Full s = grounds_since reason.Full s
       shows_since LoadTooLow s = grounds_since reason.LoadTooLow s

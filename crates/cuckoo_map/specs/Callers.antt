@@ -13,7 +13,7 @@ use Rattle.ck_core.specs.declared.view.RoomNote.{RoomNote}
 use Rattle.ck_core.specs.State.{client_of}
 use Rattle.ck_words.specs.Words.{WordsState}
 use Rattle.ck_words.specs.Passes.{PassState}
-use Rattle.ck_words.specs.Retries.{WatchesMore, Stays, as_doubled, FindsAmong}
+use Rattle.ck_words.specs.Retries.{WatchesMore, DecidesThenGives, Stays, as_doubled, FindsAmong}
 use Rattle.ck_words.specs.Meeting.{MessageState, Hears}
 use Rattle.cuckoo_map.specs.declared.refusal.Busy.{Busy}
 use Rattle.cuckoo_map.specs.declared.refusal.DrainFault.{DrainFault}
@@ -64,12 +64,13 @@ module _ {V : Type 0} where
   abbrev pub Counts : CallerState V → CallerState V → ℕ → Type 0
   Counts c d count = Replies Len c d (Count count)
 
-  -- From c to d it was told no lower power, met nobody, and watched more of the trace, where it decided its entries since by its own steps. It has noted more that names found no room.
+  -- From c to d it was told no lower power, met nobody, and watched more of the trace, where it decided its entries since by its own steps, behind which it gave stripes back alone. It has noted more that names found no room.
   pub record KeepsNotesBut (more : List (RoomNote V)) (c d : CallerState V) : Type 0 where
     pub settings : d.client.settings ≡ c.client.settings
     pub told : c.notes.told ≤ d.notes.told
     pub heard : (d.notes.heard ≡ c.notes.heard) × (d.notes.heard_told ≡ c.notes.heard_told) × (d.notes.heard_watched ≡ c.notes.heard_watched)
     pub watched : WatchesMore (pass_of c).view (pass_of d).view
+    pub decided : DecidesThenGives (pass_of c).view (pass_of d).view
     pub no_slot : d.notes.no_slot ≡ more ++ c.notes.no_slot
 
   -- and it has noted so of none more, and made no doubling

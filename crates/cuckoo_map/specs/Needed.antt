@@ -1,18 +1,18 @@
 -- A table grows for want of room for a name.
-use Rattle.std.specs.Prelude.{◌≡◌, ℕ, ◌+◌, ◌<◌, ◌≤◌, List, ◌∷◌, reverse}
+use Rattle.std.specs.Prelude.{◌≡◌, ℕ, ◌+◌, ◌^◌, ◌<◌, ◌≤◌, List, ◌∷◌, reverse}
 use Rattle.ck_model.specs.declared.contents.Content.{Content}
 use Rattle.ck_model.specs.declared.history.Entry.{Entry}
 use Rattle.ck_model.specs.declared.history.Reason.TheVariants.{Memory}
 use Rattle.ck_model.specs.declared.settings.Settings.{Settings}
 use Rattle.ck_model.specs.Promise.{Name, After, StartsWith}
-use Rattle.ck_model.specs.Numbered.{Holds}
+use Rattle.ck_model.specs.Numbered.{IsIn, numbers, Holds}
 use Rattle.ck_model.specs.Contents.{layout_of, Stripes, bindings, power_of}
 use Rattle.ck_model.specs.Doubling.{IsDoubledTo}
 use Rattle.ck_model.specs.Paths.{Grounds}
 use Rattle.ck_stripe.specs.Stripe.{StripeState}
 use Rattle.ck_stripe.specs.Stripes.{contents_of}
 use Rattle.ck_words.specs.Passes.{PassState}
-use Rattle.ck_words.specs.Holding.{AreOfPower}
+use Rattle.ck_words.specs.Holding.{AreOfPower, HasHeld}
 
 module _ {V : Type 0} where
   -- From p to p2 the caller made no doubling.
@@ -23,13 +23,14 @@ module _ {V : Type 0} where
   abbrev pub NeedsToGrow : (Name → ℕ) → Settings → Name → Stripes V → ℕ → Type 0
   NeedsToGrow hash set q hs power = (ks : Stripes V) × IsDoubledTo (layout_of hash set) power hs ks × Grounds (layout_of hash set) set.min_load ks q Memory
 
-  -- What all stripes contained when the caller made the table double, which it noted then. It binds what the history leaves at a moment since p, up to which p2 has seen it, at no lower power than p was told. From there on the table needed so many doublings to have room for the name.
+  -- What all stripes contained when the caller made the table double, which it noted then. It binds what the history leaves at a moment of the trace since p, at which the caller held them all, at no lower power than p was told. From there on the table needed so many doublings to have room for the name.
   pub record NeedsDoublings (hash : Name → ℕ) (set : Settings) (q : Name) (doublings : ℕ) (p p2 : PassState V) : Type 0 where
     pub log : List (Entry V)
     pub contents : Stripes V
     pub since : StartsWith log p.view.seen
     pub seen : StartsWith p2.view.seen log
     pub after : After log (bindings contents)
+    pub held : HasHeld (λ t. t < 2 ^ set.s) log p2.view
     pub told : p.view.told ≤ power_of contents
     pub noted : p2.view.grown_from ≡ contents ∷ p.view.grown_from
     pub each : (i : ℕ) → i < doublings → NeedsToGrow hash set q contents (power_of contents + i)
@@ -50,5 +51,6 @@ module _ {V : Type 0} where
     pub before : (t : ℕ) (c : Content V) → Holds p.view.held t c → c.power ≡ power_of (reverse p.view.held)
     pub now : HaveOnePower p.stripes
     pub after : power_of (reverse p.view.held) < power_of (contents_of p.stripes) → After p.view.seen (bindings (reverse p.view.held))
+    pub all : power_of (reverse p.view.held) < power_of (contents_of p.stripes) → (p.view.settings ≡ set) × ((t : ℕ) → t < 2 ^ set.s → IsIn t (numbers p.view.held))
     pub told : power_of (reverse p.view.held) < power_of (contents_of p.stripes) → p.view.told ≤ power_of (reverse p.view.held)
     pub needed : (power : ℕ) → power_of (reverse p.view.held) ≤ power → power < power_of (contents_of p.stripes) → NeedsToGrow hash set q (reverse p.view.held) power

@@ -14,6 +14,7 @@ use Rattle.ck_core.specs.declared.view.RoomNote.{RoomNote}
 use Rattle.ck_core.specs.Steps.{noted}
 use Rattle.ck_words.specs.Passes.{PassState}
 use Rattle.ck_words.specs.Retries.{StaysBut, Stays, as_doubled, FindsAmong, FindsLast, HasMissed}
+use Rattle.ck_words.specs.Holding.{HasHeld}
 use Rattle.cuckoo_map.specs.Needed.{HasGrownFor}
 
 -- a stripe of the table
@@ -66,12 +67,13 @@ module _ {V : Type 0} where
   abbrev pub FindsOwnUnlessFull : (Name → ℕ) → Settings → Name → PassState V → PassState V → Type 0
   FindsOwnUnlessFull hash set q p p2 = FindsAmong (λ t. IsStripeOf (layout_of hash set) q t ⊎ SaysNoRoom q p p2) p p2
 
-  -- What all stripes contained when the pass noted it, which gives the reason to refuse the name. It binds what the history leaves, up to what the pass has seen, and the pass was told its power.
+  -- What all stripes contained when the pass noted it, which gives the reason to refuse the name. It binds what the history leaves, up to what the pass has seen, which was the history at a moment of the trace at which its caller held them all. The pass was told its power.
   pub record GivesGrounds (hash : Name → ℕ) (set : Settings) (q : Name) (why : history.Reason) (more : List (RoomNote V)) (p : PassState V) : Type 0 where
     pub contents : Stripes V
     pub is_noted : Contains more (noted q why contents)
     pub grounds : Grounds (layout_of hash set) set.min_load contents q why
     pub after : After p.view.seen (bindings contents)
+    pub held : HasHeld (IsStripeIn set) p.view.seen p.view
     pub power : p.view.told ≡ power_of contents
 
   -- what was found, or noted of room and why, where an insertion is refused for this reason; a busy one has made no doubling

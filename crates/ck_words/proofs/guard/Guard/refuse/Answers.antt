@@ -33,4 +33,4 @@ returns-clause-told g c =
 
 pub returns-clause-doubled : goal.returns-clause-doubled
 returns-clause-doubled g c =
-    doubled_renewed g.K.TableKey.hash c.args.self.now.words.now (Some (g.K.TableKey.name c.of.result.value, reason_of_lack c.args.lack)) c.args.self.now.pass.now c.renew.new.pass c.release_first.new.pass c.renew.ensures.step c.release_first.ensures.released.stays.doublings c.release_first.ensures.released.stays.grown_from
+    doubled_renewed g.K.TableKey.hash c.args.self.now.words.now (Some (g.K.TableKey.name c.of.result.value, reason_of_lack c.args.lack)) c.args.self.now.pass.now c.renew.new.pass c.release_first.new.pass c.args.self.now.own.1 c.renew.ensures.step c.release_first.ensures.released.stays

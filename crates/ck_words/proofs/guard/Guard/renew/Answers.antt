@@ -27,4 +27,4 @@ returns-clause-told g c =
     told_renewed g.K.TableKey.hash c.args.self.now.words.now None c.args.self.now.pass.now c.renew.new.pass c.release_first.new.pass c.renew.ensures.step b.released b.told
 
 pub returns-clause-doubled : goal.returns-clause-doubled
-returns-clause-doubled g c = doubled_renewed g.K.TableKey.hash c.args.self.now.words.now None c.args.self.now.pass.now c.renew.new.pass c.release_first.new.pass c.renew.ensures.step c.release_first.ensures.released.stays.doublings c.release_first.ensures.released.stays.grown_from
+returns-clause-doubled g c = doubled_renewed g.K.TableKey.hash c.args.self.now.words.now None c.args.self.now.pass.now c.renew.new.pass c.release_first.new.pass c.args.self.now.own.1 c.renew.ensures.step c.release_first.ensures.released.stays

@@ -1,8 +1,8 @@
-use Rattle.std.proofs.Common.{◌≡◌, ◌∙◌, ◌++◌, [], ap, append-nil, replicate, sym, refl, subst}
+use Rattle.std.proofs.Common.{◌≡◌, ◌∙◌, ap, sym, refl, subst}
 use Rattle.ck_words.specs.Passes.{PassState}
 use Rattle.ck_words.specs.Retries.{Stays}
 use Rattle.ck_core.specs.State.{found_held}
-use Rattle.ck_words.proofs.Staying.{stays_finding, found_times, among_held}
+use Rattle.ck_words.proofs.Staying.{gives_none, last_giving, stays_finding, found_times, among_held}
 use Rattle.ck_words.proofs.Taking.{found_by_two, has_missed}
 use Rattle.ck_words.proofs.Telling.{stays_home, found_home, told_there}
 use Rattle.ck_words.proofs.words.Words.power.Goals as goal
@@ -27,7 +27,7 @@ returns-then-not-try_take-clause-busy g c =
       refl,
       (
         (ap (λ (q : PassState g.row.V.Denot). q.stripes) again.1 ∙ c.requires.idle.0, ap (λ (q : PassState g.row.V.Denot). q.view.held) again.1 ∙ c.requires.idle.1),
-        ([], found ∙ ap (λ l. l ++ found_held p.view) (sym (append-nil (replicate turns 0)))),
+        last_giving turns 0 p z z again (gives_none z.view),
         found_by_two c.args.self.now turns 0 z (found_held p.view) c.show_range.ensures.turns c.try_take.ensures.own found,
         has_missed c.args.self.now turns 0 z (found_held p.view) c.try_take.ensures.own found,
       ),

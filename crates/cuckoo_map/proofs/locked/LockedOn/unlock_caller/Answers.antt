@@ -66,4 +66,4 @@ returns-clause-notes g c =
     let doubled = subst (λ (p : PassState g.row.V.Denot). IsDoubledBy p new) c.lower-pass.ensures c.commit_session.ensures.committed.doubled in
     let there : c.commit_session.new.self.pass.now ≡ c.pass-2-1.given.0 = search rules in
     rw (← there) (subst (λ (x : LockedState g.row.V.Denot). EndsNotes x (caller_of (g.T.TableRef.state c.self.inside.table) new)) c.self.view_is
-    (let counted = session_counted g.K.TableKey.hash (g.T.TableRef.state c.self.inside.table) c.self.inside.whole c.self.invariant new doubled in (keeps_notes c.self.inside.whole new refl (answered g c).stays (answered g c).watched, counted.0, counted.1)))
+    (let counted = session_counted g.K.TableKey.hash (g.T.TableRef.state c.self.inside.table) c.self.inside.whole c.self.invariant new doubled in (keeps_notes c.self.inside.whole new refl (answered g c).stays (answered g c).watched (answered g c).decided, counted.0, counted.1)))

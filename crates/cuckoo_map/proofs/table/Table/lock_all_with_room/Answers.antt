@@ -26,8 +26,8 @@ returns-in-Err-clause-refused g c =
     let seeks = c.in-Err.ensures.room in
     let gone = c.refuse.ensures in
     let renewed = renewed_there is value q p1 whole p2 view seeks.no_call in
-    let grown = grown_there is value q p1 whole p2 view seeks.no_call c.in_ok-lock_all.ensures.table seeks.held.table seeks.grows in
-    let grounds = gives_grounds hash w p p1 p2 z c.lock_all.ensures.stays whole view renewed q (reason_of_lack lack) (grounds_there is value q p1 whole p2 view seeks.no_call lack seeks.refused) gone.refused.seen gone.told in
+    let grown = grown_there is value q p1 whole p2 view seeks.no_call c.lock_all.ensures.own.1 c.in_ok-lock_all.ensures.table seeks.held.table seeks.grows in
+    let grounds = gives_grounds hash w p p1 p2 z c.lock_all.ensures.stays whole view renewed c.lock_all.ensures.own.1 q (reason_of_lack lack) (grounds_there is value q p1 whole p2 view seeks.no_call lack seeks.refused) gone.refused.seen gone.told gone.doubled in
     let there : z ≡ c.pass-1.given.0 = search rules in
     rw (← there) (subst (λ (why : Why). IsRefused hash w.settings q why p z) (sym c.of.ensures)
     (refused_there p p1 p2 c.lock_all.ensures.stays view hash w.settings q _ lack z gone.refused grounds
@@ -42,4 +42,4 @@ returns-clause-held g c =
     let seeks = c.in_default.ensures.room in
     let t = c.in_ok-lock_all.ensures in
     let there : p2 ≡ c.pass-in_default-1.given.0 = search rules in
-    rw (← there) (room_in_all c.self.view_is c.settings.ensures.value q p1 t.whole p2 c.make_room_in.ensures.stays.1 seeks.no_call c.args.pass.now t.stays seeks.held seeks.room t.table seeks.grows)
+    rw (← there) (room_in_all c.self.view_is c.settings.ensures.value q p1 t.whole p2 c.make_room_in.ensures.stays.1 seeks.no_call c.args.pass.now t.stays seeks.held seeks.room t.own.1 t.table seeks.grows)

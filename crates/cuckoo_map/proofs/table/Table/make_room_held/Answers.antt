@@ -35,7 +35,7 @@ pub returns-in_err-make_room-clause-grown : goal.returns-in_err-make_room-clause
 returns-in_err-make_room-clause-grown g c =
     let z = c.make_room.new.held.pass.now in
     let there : z ≡ c.in_err-make_room.pass-1-own.given.0 = search rules in
-    rw (← there) (grown_there c.self.view_is c.settings-s.ensures.value (g.K.TableKey.name c.args.key.now) c.args.pass.now c.requires.whole z c.make_room.ensures.stays.1 c.make_room.ensures.no_call c.requires.table c.make_room.ensures.table c.make_room.ensures.doubled)
+    rw (← there) (grown_there c.self.view_is c.settings-s.ensures.value (g.K.TableKey.name c.args.key.now) c.args.pass.now c.requires.whole z c.make_room.ensures.stays.1 c.make_room.ensures.no_call c.requires.own.1 c.requires.table c.make_room.ensures.table c.make_room.ensures.doubled)
 
 -- where it was, and the place of the key was settled
 grown : (g : Over) (c : goal.In-Some g) → HoldsGrown {V = g.row.V.Denot} g.K.TableKey.hash c.args.self.now.settings (g.K.TableKey.name c.args.key.now) c.find_entry.new.held.pass.now
@@ -44,7 +44,7 @@ grown g c =
     let place = c.settled_place-place in
     let entry = c.find_entry in
     holds_settled made.new.held.pass.now entry.new.held.pass.now (entry.ensures.stays.1 ∙ place.ensures.stays.1) (ap (λ (ss : List (StripeState g.row.V.Denot)). contents_of ss) entry.ensures.same ∙ place.ensures.same)
-    (grown_there c.self.view_is c.settings-s.ensures.value (g.K.TableKey.name c.args.key.now) c.args.pass.now c.requires.whole made.new.held.pass.now made.ensures.stays.1 made.ensures.no_call c.requires.table made.ensures.table made.ensures.doubled)
+    (grown_there c.self.view_is c.settings-s.ensures.value (g.K.TableKey.name c.args.key.now) c.args.pass.now c.requires.whole made.new.held.pass.now made.ensures.stays.1 made.ensures.no_call c.requires.own.1 c.requires.table made.ensures.table made.ensures.doubled)
 
 pub returns-clause-grown : goal.returns-clause-grown
 returns-clause-grown g c =

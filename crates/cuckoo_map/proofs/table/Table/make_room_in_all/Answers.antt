@@ -30,7 +30,7 @@ returns-in-Err-clause-refused g c =
     let z = c.refuse.new.self.pass.now in
     let lack = c.in-Err.lack in
     let grounds = gives_grounds hash w p p1 p2 z c.lock_all.ensures.stays c.in_ok-lock_all.ensures.whole c.make_room_held.ensures.view c.make_room_held.ensures.renewed
-    q (reason_of_lack lack) c.in-Err.ensures.grounds c.refuse.ensures.refused.seen c.refuse.ensures.told in
+    c.lock_all.ensures.own.1 q (reason_of_lack lack) c.in-Err.ensures.grounds c.refuse.ensures.refused.seen c.refuse.ensures.told c.refuse.ensures.doubled in
     let there : z ≡ c.pass-1.given.0 = search rules in
     rw (← there) (subst (λ (why : Why). IsRefused hash set q why p z) (sym c.of.ensures)
     (refused_there p p1 p2 c.lock_all.ensures.stays c.make_room_held.ensures.view hash set q _ lack z c.refuse.ensures.refused grounds
