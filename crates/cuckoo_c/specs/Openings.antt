@@ -1,5 +1,5 @@
 -- How a table is opened, and what a call on the whole table leaves of the place of its handle.
-use Rattle.std.specs.Prelude.{◌≡◌, ◌⊎◌, ℕ, List, [], Option, Some, None, Result, Ok, Err, OnOk, IfOk, IfErr}
+use Rattle.std.specs.Prelude.{◌≡◌, ◌⊎◌, ℕ, List, [], Option, Some, None, Result, Ok, Err, OnOk, IfOk, IfErr, MatchResult}
 use Rattle.std.specs.FinMap.{entries}
 use Rattle.std.specs.declared.cmp.Ordering.{Ordering}
 use Rattle.ck_model.specs.declared.settings.Settings.{Settings}
@@ -54,7 +54,7 @@ pub record ListLeaves {K : Type 0} (lists : CallerState ℕ → CallerState ℕ 
   pub same : IsSameCaller c d
   pub listed : IfOk r (lists c d)
   pub refused : IfErr r (IsNotDrained c d)
-  pub notes : KeepsNotes c d
+  pub notes : MatchResult r (λ pairs. KeepsNotes c d) (λ why. why ≡ faults.Memory → KeepsNotes c d)
   pub found : FindsHeldOfAny c d
 
 -- the list is at its place, or a stripe was busy, or there was no memory for the list

@@ -839,7 +839,7 @@ impl<T: TableRef<K, V> + Drop, K: TableKey + Drop, V: Drop> CallerOn<T, K, V> {
         ensures refused { IfErr result (λ back. IsNotDrained self back.caller back.why) }
         ensures notes { MatchResult result
             (λ back. KeepsNotes self back.0)
-            (λ back. KeepsNotes self back.caller) }
+            (λ back. back.why ≡ DrainFault.Memory → KeepsNotes self back.caller) }
         ensures found { MatchResult result
             (λ back. FindsHeldOfAny self back.0)
             (λ back. FindsHeldOfAny self back.caller) }
