@@ -189,14 +189,34 @@ static void find_amid(void) {
 }
 
 /* No stripe is held while one caller requests. */
-static void try_prepared(void) {
-    for (int before = 0; before < REQUESTS; before++) {
-        begin(1);
+static void try_prepared(cuckoo_settings settings) {
+    int requests = 1 + (1 << settings.s);
+    for (int before = 0; before < requests; before++) {
+        open_as(settings);
+        fill();
         check("the key is inserted", insert_amid(0, first, before, find_amid) == CUCKOO_OK);
-        check("a request a stripe, and one", watched.requests == REQUESTS);
-        check_table(1, 0, 2 * SLOTS);
+        check("a request a stripe, and one", watched.requests == requests);
+        check_table(1, 0, (uint64_t)8 << settings.power);
         close_all();
     }
+}
+
+/* A table of many buckets in one stripe, so that it requests a large block. */
+static cuckoo_settings large_settings(uint32_t max) {
+    cuckoo_settings settings = settings_of(max, 1);
+    settings.s = 0;
+    settings.power = 10;
+    return settings;
+}
+
+/* The keys from 0 on that it takes until the next one has no room: the keys of such tables. */
+static void choose_large_keys(void) {
+    open_as(large_settings(10));
+    for (count = 0; cuckoo_insert(&handles[0], count, count + 1) == CUCKOO_OK;) count++;
+    close_all();
+    check("a large table is full at last", count > 2048 && count <= 4096);
+    first = count;
+    second = count + 1;
 }
 
 /* Each request is refused, once or from then on. */
@@ -382,13 +402,15 @@ int main(void) {
     choose_keys();
     try_full();
     try_too_empty();
-    try_prepared();
+    try_prepared(settings_of(5, 1));
     try_each_refused();
     try_taken();
     try_rename();
     try_waiting();
     try_few_turns();
     try_text_rename();
+    choose_large_keys();
+    try_prepared(large_settings(12));
     puts(failed ? "failed" : "passed");
     return failed;
 }

@@ -445,6 +445,28 @@ static void try_one_stripe(void) {
     cuckoo_close(&handle);
 }
 
+/* A table grows by itself as far as it may, while there is memory. */
+static void try_many_keys(void) {
+    enum { POWER = 21, KEYS = 4500000, STEP = 100 };
+    cuckoo_settings settings = settings_of(10, POWER, 1, 5);
+    cuckoo_handle handle;
+    uint64_t place = 0;
+    uint64_t found = 0;
+    int32_t code = CUCKOO_OK;
+    settings.s = 5;
+    handle = open_one(settings);
+    for (uint64_t key = 0; key < KEYS && code == CUCKOO_OK; key++)
+        code = cuckoo_insert(&handle, key, key + 1);
+    expect("many keys", code, CUCKOO_OK);
+    check("it has so many slots", cuckoo_capacity(&handle, &place) == CUCKOO_OK &&
+                                      place == (uint64_t)4 << POWER);
+    check("all are bound", cuckoo_len(&handle, &place) == CUCKOO_OK && place == KEYS);
+    for (uint64_t key = 0; key < KEYS; key += STEP)
+        found += cuckoo_find(&handle, key, &place) == CUCKOO_OK && place == key + 1;
+    check("each hundredth has its value", found == KEYS / STEP);
+    cuckoo_close(&handle);
+}
+
 /* Where the process may have no more memory. */
 static void try_no_memory(void) {
     struct rlimit before;
@@ -523,6 +545,7 @@ int main(void) {
     try_fill("full after growing", settings_of(1, 6, 1, 5), CUCKOO_FULL);
     try_fill("load too low", settings_of(8, 26, 1, 100), CUCKOO_LOAD_TOO_LOW);
     try_one_stripe();
+    try_many_keys();
     try_no_memory();
     try_busy();
     puts(failed ? "failed" : "passed");
