@@ -11,6 +11,7 @@ ghost use Rattle.ck_owned.specs.Place.{place_owns};
 use std::alloc::Global;
 use std::marker::Model;
 use std::ptr::null_mut;
+use std_alloc::room::Vacant;
 
 /// Null, or the place of a box.
 pub struct Owned<T> {
@@ -39,6 +40,18 @@ impl<T> Owned<T> {
         }
     }
 
+    /// The box of a value in a block that holds none. It needs no memory, so who has the block
+    /// beforehand can't be refused.
+    pub fn fill(room: Vacant<T, Global>, value: T) -> Owned<T>
+        ensures { result.held ≡ Some value }
+    {
+        let Vacant { ptr, alloc: _ } = room;
+        unsafe {
+            ptr.write(value);
+        }
+        Owned { at: ptr }
+    }
+
     pub fn into_box(self, alloc: Global) -> Option<Box<T, Global>>
         ensures { MatchOption result (self.held ≡ None) (λ b. self.held ≡ Some b.value) }
     {
@@ -47,6 +60,18 @@ impl<T> Owned<T> {
             return None;
         }
         Some(unsafe { Box::from_raw(alloc, at) })
+    }
+
+    /// The value, out of its block, which holds none then.
+    pub fn open(self, alloc: Global) -> Option<(T, Vacant<T, Global>)>
+        ensures { MatchOption result (self.held ≡ None) (λ both. self.held ≡ Some both.0) }
+    {
+        let Owned { at: ptr } = self;
+        if ptr.is_null() {
+            return None;
+        }
+        let value = unsafe { ptr.read() };
+        Some((value, Vacant { ptr, alloc }))
     }
 }
 
@@ -68,9 +93,31 @@ pub fn take<H: Holds<T>, T>(handle: &mut H, alloc: Global) -> Option<Box<T, Glob
     handle.exchange(Owned::empty()).into_box(alloc)
 }
 
+/// Takes the value that is there, and the block in which it was.
+pub fn take_out<H: Holds<T>, T>(handle: &mut H, alloc: Global) -> Option<(T, Vacant<T, Global>)>
+    ensures taken { MatchOption result (H.held handle.old ≡ None)
+        (λ both. H.held handle.old ≡ Some both.0) }
+    ensures left { H.held handle.new ≡ None }
+{
+    handle.exchange(Owned::empty()).open(alloc)
+}
+
 /// Puts a value there, and ends what was.
 pub fn put<H: Holds<T>, T: Drop>(handle: &mut H, alloc: Global, value: Box<T, Global>)
     ensures { H.held handle.new ≡ Some value.value }
 {
     drop(handle.exchange(Owned::of(value)).into_box(alloc));
+}
+
+/// Puts a value there, in a block that holds none, and ends what was. It needs no memory, so who has
+/// the block beforehand can't be refused.
+pub fn put_in<H: Holds<T>, T: Drop>(
+    handle: &mut H,
+    alloc: Global,
+    room: Vacant<T, Global>,
+    value: T,
+)
+    ensures { H.held handle.new ≡ Some value }
+{
+    drop(handle.exchange(Owned::fill(room, value)).into_box(alloc));
 }
