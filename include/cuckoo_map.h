@@ -82,6 +82,10 @@ typedef struct cuckoo_locked {
     void *at;
 } cuckoo_locked;
 
+typedef struct cuckoo_text_locked {
+    void *at;
+} cuckoo_text_locked;
+
 /* What each of them begins as; an array of handles, as {CUCKOO_CLOSED_HANDLE}. */
 #define CUCKOO_CLOSED_HANDLE { NULL }
 #define CUCKOO_NO_PAIRS { NULL }
@@ -357,6 +361,21 @@ int32_t cuckoo_text_drain(cuckoo_text_handle *handle, cuckoo_text_pairs *pairs);
 int32_t cuckoo_text_pairs_next(cuckoo_text_pairs *pairs, void *key, size_t room, size_t *length,
                                uint64_t *value);
 void cuckoo_text_pairs_close(cuckoo_text_pairs *pairs);
+
+int32_t cuckoo_text_lock(cuckoo_text_handle *handle, cuckoo_text_locked *locked);
+int32_t cuckoo_text_unlock(cuckoo_text_locked *locked, cuckoo_text_handle *handle);
+void cuckoo_text_locked_close(cuckoo_text_locked *locked);
+int32_t cuckoo_text_locked_find(cuckoo_text_locked *locked, const void *key, size_t length,
+                                uint64_t *value);
+int32_t cuckoo_text_locked_insert(cuckoo_text_locked *locked, const void *key, size_t length,
+                                  uint64_t value);
+int32_t cuckoo_text_locked_assign(cuckoo_text_locked *locked, const void *key, size_t length,
+                                  uint64_t value, uint64_t *old);
+int32_t cuckoo_text_locked_erase(cuckoo_text_locked *locked, const void *key, size_t length,
+                                 uint64_t *value);
+int32_t cuckoo_text_locked_len(cuckoo_text_locked *locked, uint64_t *count);
+int32_t cuckoo_text_locked_clear(cuckoo_text_locked *locked);
+int32_t cuckoo_text_locked_export(cuckoo_text_locked *locked, cuckoo_text_pairs *pairs);
 
 #ifdef __cplusplus
 }

@@ -1,13 +1,13 @@
 //! What is done to a locked table, once for all types of keys. Its handle is in it meanwhile, so the
 //! handle's place is closed. The block of the handle's box is kept, so that no memory is needed to
 //! put the handle back.
-ghost use Rattle.std.specs.Prelude.{◌≡◌, ◌⊎◌, ℕ, Option, Some, None, OnErr, IfOk};
+ghost use Rattle.std.specs.Prelude.{◌≡◌, Some, None, OnErr, IfOk};
 ghost use Rattle.std.specs.FinMap.{get, len};
-ghost use Rattle.ck_section.specs.Acts.{Inserts, Assigns, Erases};
-ghost use Rattle.ck_model.specs.Listing.{ListsInOrder};
-ghost use Rattle.cuckoo_map.specs.Callers.{CallerState, pass_of, IsSameCaller, Replies, IsBusyOnAny, FindsHeldOfAny};
-ghost use Rattle.cuckoo_map.specs.Locking.{map_of, session_call, HasChanged, HasLocked, EndsSession, EndsNotes, Clears, LockedInsertionLeaves};
 ghost use Rattle.ck_model.specs.declared.history.Reply.TheVariants.{Closed};
+ghost use Rattle.ck_model.specs.Listing.{ListsInOrder};
+ghost use Rattle.ck_section.specs.Acts.{Inserts, Assigns, Erases};
+ghost use Rattle.cuckoo_map.specs.Callers.{IsSameCaller, Replies};
+ghost use Rattle.cuckoo_map.specs.Locking.{map_of, session_call, HasChanged, EndsSession, EndsNotes, Clears, LockedInsertionLeaves};
 ghost use Rattle.cuckoo_c.specs.declared.code.Code.TheVariants as codes;
 ghost use Rattle.cuckoo_c.specs.Codes.{TellsOld};
 ghost use Rattle.cuckoo_c.specs.Sessions.{LocksAt, UnlocksAt, OnLocked, FindsLocked, InsertsLocked, AssignsLocked, ErasesLocked, CountsLocked, ClearsLocked, ListsLocked};
