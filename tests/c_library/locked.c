@@ -8,6 +8,7 @@
 #include <stdio.h>
 #include <stdlib.h>
 #include <string.h>
+#include <time.h>
 
 enum { HANDLES = 2, MOST = 100, KEYS = 8 };
 
@@ -138,7 +139,7 @@ static void try_held(void) {
     check("it stays locked", locked.at != NULL && place == UNTOUCHED);
     expect("find", cuckoo_locked_find(&locked, 1, &place), CUCKOO_OK);
     check("its value", place == 10);
-    NONE("unlock to another place", cuckoo_unlock(&locked, &handles[0]), CUCKOO_OK);
+    expect("unlock", cuckoo_unlock(&locked, &handles[0]), CUCKOO_OK);
     expect("unlock again", cuckoo_unlock(&locked, &handles[0]), CUCKOO_CLOSED);
     check("the handle is back", handles[0].at != NULL && locked.at == NULL);
     expect("the other's lock later", cuckoo_lock(&handles[1], &locked), CUCKOO_OK);
@@ -344,7 +345,7 @@ static void try_texts(void) {
 }
 
 /* One thread moves what keys have, one key after the other, while it has the table locked; another
- * counts all that they have, which is the same at each moment. */
+ * finds that all have moved, or none. */
 static atomic_int is_over;
 
 static int32_t patiently(int32_t code) {
@@ -354,7 +355,7 @@ static int32_t patiently(int32_t code) {
 
 static void *move_under_locks(void *of) {
     cuckoo_handle *handle = of;
-    for (int round = 0; round < 2000; round++) {
+    while (!is_over) {
         cuckoo_locked locked = CUCKOO_NOT_LOCKED;
         uint64_t value;
         uint64_t first = 0;
@@ -366,13 +367,16 @@ static void *move_under_locks(void *of) {
         }
         check("the last moves", cuckoo_locked_insert(&locked, KEYS - 1, first) == CUCKOO_OK);
         check("it is unlocked", cuckoo_unlock(&locked, handle) == CUCKOO_OK);
+        sched_yield();
     }
-    is_over = 1;
     return NULL;
 }
 
+/* Until they were seen to move so often; half a minute at most. */
 static void try_threads(void) {
+    enum { MOVES = 20 };
     pthread_t thread;
+    time_t begun = time(NULL);
     uint64_t moves = 0;
     uint64_t first = 0;
     open_all(4, 20);
@@ -380,7 +384,7 @@ static void try_threads(void) {
         expect("insert", cuckoo_insert(&handles[0], key, key), CUCKOO_OK);
     is_over = 0;
     check("a thread begins", pthread_create(&thread, NULL, move_under_locks, &handles[0]) == 0);
-    while (!is_over) {
+    while (moves < MOVES && time(NULL) < begun + 30) {
         cuckoo_entry entries[KEYS];
         for (uint64_t key = 0; key < KEYS; key++) entries[key] = (cuckoo_entry){key, 0, 0};
         if (patiently(cuckoo_find_all(&handles[1], entries, KEYS)) != CUCKOO_OK) continue;
@@ -390,8 +394,9 @@ static void try_threads(void) {
         moves += entries[0].value != first;
         first = entries[0].value;
     }
+    is_over = 1;
     pthread_join(thread, NULL);
-    check("they were seen to move", moves > 0);
+    check("they were seen to move", moves == MOVES);
     close_all();
 }
 
