@@ -10,7 +10,7 @@
 use Rattle.std.proofs.Common.{◌≡◌, ℕ, List, [], ◌∷◌, ◌++◌, refl, sym, ap, ◌∙◌, subst, true, false, lit<}
 use lib.Dec.{T}
 use seplogic.Ra.Ura.{Ura}
-use mir.Syntax.{Sym, ptr_eq, Dict, impl, dnil, ty_ptr, ty_struct, tcons, tnil}
+use mir.Syntax.{Sym, Ty, ptr_eq, Dict, impl, dnil, ty_ptr, ty_struct, tcons, tnil}
 use mir.Raw.{raw as bare}
 use mir.Val.{Val, vptr, vbool, vnull, vstruct, vcons, vnil, of_list, has_ty, WT, ptr_eq_ok, op2_val}
 use base.Fraction.{full_share}
@@ -28,7 +28,7 @@ use denote.Exit.{no}
 use denote.Param.{layout, arg}
 use denote.Param.Laws.{Laws, arg_laws}
 use denote.Param.Send.{IsSend}
-use denote.RawPtr.{Ptr, block_ptr, null_ptr, ptr_val, RawPtr, rawptr_pure, InBlock, Testable, tests_null, lies_in_block, in_a_block}
+use denote.RawPtr.{Ptr, block_ptr, null_ptr, ptr_val, RawPtr, rawptr_pure, InBlock, Testable, tests_null, lies_in_block, room_for, in_a_block}
 use denote.Steps.{owned, nothing}
 use denote.Struct.Struct.{Shape, Struct, Struct-Makes, within}
 use denote.Struct.Owning.{shape}
@@ -48,7 +48,7 @@ use Rattle.std_alloc.specs.contracts.room.vacant.Vacant as vacant
 use Rattle.std_alloc.proofs.ResultValues.{and_tt}
 use Rattle.std_alloc.specs.contracts.boxed.Box as box
 use Rattle.std_alloc.proofs.SendSync.{lies}
-use Rattle.ck_owned.specs.Place.{place_owns}
+use Rattle.ck_owned.specs.Place.{place_owns, frees as place_frees}
 use Rattle.ck_owned.proofs.Destruct++none.drop.Symbol.{symbol as no_drop}
 
 abbrev pub word : Ptr → Val
@@ -150,3 +150,11 @@ module _ {M : Type 1} {𝓤 : Ura M} {𝓛 : Logic 𝓤} {K : Type 0} {Γ : List
 pub place_keyless : (R : RattleType) → IsSend R → (p : Ptr) (held : Option R.Denot) → Keyless (place_owns R p held)
 place_keyless R s p None = λ _. tt
 place_keyless R s p (Some x) = (lies R s p x, λ heap. frees.frees heap (bare (lone R.mir)) p)
+
+room_keyless : (τ : Ty) (p : Ptr) → Keyless (room_for τ p)
+room_keyless τ (block_ptr b o) = tt
+room_keyless τ null_ptr = tt
+
+-- a block with no value may go to another thread
+pub space_keyless : (R : RattleType) (p : Ptr) → Keyless (owns_room place_frees R p)
+space_keyless R p = (room_keyless (bare (lone R.mir)) p, λ heap. frees.frees heap (bare (lone R.mir)) p)

@@ -6,12 +6,49 @@ ghost use Rattle.std.specs.Option.{MatchOption};
 ghost use Rattle.std.specs.Coded.{coded_option};
 ghost use Rattle.std.specs.declared.option.Option.{Option as Maybe};
 ghost use Rattle.std.specs.declared.option.Option.TheVariants.{None, Some};
-ghost use Rattle.ck_owned.specs.Place.{place_owns};
+ghost use Rattle.std_alloc.specs.Vacant.{vacant};
+ghost use Rattle.ck_owned.specs.Place.{frees, place_owns};
 
 use std::alloc::Global;
 use std::marker::Model;
 use std::ptr::null_mut;
 use std_alloc::room::Vacant;
+
+/// A block of the heap for a value, which it hasn't. It is freed by `free` alone.
+pub struct Space<T> {
+    at: *mut T,
+}
+
+impl<T> Model for Space<T> {
+    ghost also_owns = { λ s. vacant frees T.row s.at };
+}
+
+unsafe impl<T> Send for Space<T> {}
+
+impl<T> Space<T> {
+    /// A block, or none where there is no memory.
+    pub fn new(alloc: Global) -> Option<Space<T>> {
+        match Vacant::take(alloc) {
+            Ok(room) => Some(Space::of(room)),
+            Err(_) => None,
+        }
+    }
+
+    /// Frees the block.
+    pub fn free(self, alloc: Global) {
+        drop(self.into_room(alloc).free());
+    }
+
+    fn of(room: Vacant<T, Global>) -> Space<T> {
+        let Vacant { ptr, alloc: _ } = room;
+        Space { at: ptr }
+    }
+
+    fn into_room(self, alloc: Global) -> Vacant<T, Global> {
+        let Space { at: ptr } = self;
+        Vacant { ptr, alloc }
+    }
+}
 
 /// Null, or the place of a box.
 pub struct Owned<T> {
@@ -40,9 +77,8 @@ impl<T> Owned<T> {
         }
     }
 
-    /// The box of a value in a block that holds none. It needs no memory, so who has the block
-    /// beforehand can't be refused.
-    pub fn fill(room: Vacant<T, Global>, value: T) -> Owned<T>
+    // The box of a value in a block that holds none.
+    fn fill(room: Vacant<T, Global>, value: T) -> Owned<T>
         ensures { result.held ≡ Some value }
     {
         let Vacant { ptr, alloc: _ } = room;
@@ -62,8 +98,8 @@ impl<T> Owned<T> {
         Some(unsafe { Box::from_raw(alloc, at) })
     }
 
-    /// The value, out of its block, which holds none then.
-    pub fn open(self, alloc: Global) -> Option<(T, Vacant<T, Global>)>
+    // The value, out of its block, which holds none then.
+    fn open(self, alloc: Global) -> Option<(T, Vacant<T, Global>)>
         ensures { MatchOption result (self.held ≡ None) (λ both. self.held ≡ Some both.0) }
     {
         let Owned { at: ptr } = self;
@@ -94,12 +130,15 @@ pub fn take<H: Holds<T>, T>(handle: &mut H, alloc: Global) -> Option<Box<T, Glob
 }
 
 /// Takes the value that is there, and the block in which it was.
-pub fn take_out<H: Holds<T>, T>(handle: &mut H, alloc: Global) -> Option<(T, Vacant<T, Global>)>
+pub fn take_out<H: Holds<T>, T>(handle: &mut H, alloc: Global) -> Option<(T, Space<T>)>
     ensures taken { MatchOption result (H.held handle.old ≡ None)
         (λ both. H.held handle.old ≡ Some both.0) }
     ensures left { H.held handle.new ≡ None }
 {
-    handle.exchange(Owned::empty()).open(alloc)
+    match handle.exchange(Owned::empty()).open(alloc) {
+        Some((value, room)) => Some((value, Space::of(room))),
+        None => None,
+    }
 }
 
 /// Puts a value there, and ends what was.
@@ -111,13 +150,12 @@ pub fn put<H: Holds<T>, T: Drop>(handle: &mut H, alloc: Global, value: Box<T, Gl
 
 /// Puts a value there, in a block that holds none, and ends what was. It needs no memory, so who has
 /// the block beforehand can't be refused.
-pub fn put_in<H: Holds<T>, T: Drop>(
-    handle: &mut H,
-    alloc: Global,
-    room: Vacant<T, Global>,
-    value: T,
-)
+pub fn put_in<H: Holds<T>, T: Drop>(handle: &mut H, alloc: Global, space: Space<T>, value: T)
     ensures { H.held handle.new ≡ Some value }
 {
-    drop(handle.exchange(Owned::fill(room, value)).into_box(alloc));
+    drop(
+        handle
+            .exchange(Owned::fill(space.into_room(alloc), value))
+            .into_box(alloc),
+    );
 }

@@ -17,17 +17,17 @@ use crate::code::Code;
 use crate::opening::is_open;
 use crate::pairs::Pairs;
 use crate::sessions::room_for;
-use ck_owned::{Holds, put, put_in, take, take_out};
+use ck_owned::{Holds, Space, put, put_in, take, take_out};
 use cuckoo_map::{Handle, LockedHandle, NotLocked, Query, Refused, TableKey};
 use std::alloc::{AllocError, Global};
 use std::marker::Model;
-use std_alloc::room::Vacant;
 
 /// A locked table, with the block in which its handle was. Contracts see the table. Dropped, it
 /// unlocks the table, and the handle ends.
 pub struct Session<K: TableKey> {
     locked: LockedHandle<K, u64>,
-    home: Vacant<Handle<K, u64>, Global>,
+    home: Space<Handle<K, u64>>,
+    alloc: Global,
 }
 
 impl<K: TableKey> Model for Session<K> {
@@ -41,21 +41,29 @@ impl<K: TableKey> Model for Session<K> {
 
 impl<K: TableKey + Drop> Drop for Session<K> {
     fn drop(self) {
-        let Session { locked, home } = self;
+        let Session {
+            locked,
+            home,
+            alloc,
+        } = self;
         drop(locked.unlock_caller());
-        drop(home.free());
+        home.free(alloc);
     }
 }
 
 impl<K: TableKey + Drop> Session<K> {
     // Unlocks the table, and gives its handle with the block in which that was.
-    fn unlock(self) -> (Handle<K, u64>, Vacant<Handle<K, u64>, Global>)
+    fn unlock(self) -> (Handle<K, u64>, Space<Handle<K, u64>>)
         ensures same { IsSameCaller self.caller result.0 }
         ensures answered { Replies (session_call self) self.caller result.0 Closed }
         ensures follows { EndsSession self result.0.client }
         ensures notes { EndsNotes self result.0 }
     {
-        let Session { locked, home } = self;
+        let Session {
+            locked,
+            home,
+            alloc: _,
+        } = self;
         (locked.unlock_caller(), home)
     }
 
@@ -131,26 +139,23 @@ pub fn lock<K: TableKey + Drop, P: Holds<Handle<K, u64>>, L: Holds<Session<K>>>(
         put_in(place, alloc, home, handle);
         return Code::Open;
     }
-    let Ok(room) = Vacant::take(alloc) else {
+    let Some(room) = Space::new(alloc) else {
         put_in(place, alloc, home, handle);
         return Code::Memory;
     };
     match handle.lock() {
         Ok(table) => {
-            put_in(
-                locked,
+            let session = Session {
+                locked: table,
+                home,
                 alloc,
-                room,
-                Session {
-                    locked: table,
-                    home,
-                },
-            );
+            };
+            put_in(locked, alloc, room, session);
             Code::Done
         }
         Err(NotLocked { caller, .. }) => {
             put_in(place, alloc, home, caller);
-            drop(room.free());
+            room.free(alloc);
             Code::Busy
         }
     }
@@ -174,7 +179,7 @@ pub fn unlock<K: TableKey + Drop, P: Holds<Handle<K, u64>>, L: Holds<Session<K>>
     }
     let (handle, home) = session.unlock();
     put_in(place, alloc, home, handle);
-    drop(room.free());
+    room.free(alloc);
     Code::Done
 }
 

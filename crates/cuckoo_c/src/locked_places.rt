@@ -41,6 +41,8 @@ impl Holds<NumberSession> for CuckooLocked {
     }
 }
 
+unsafe impl Send for CuckooLocked {}
+
 /// A locked table whose keys are texts, or none.
 #[repr(C)]
 pub struct CuckooTextLocked {
@@ -65,3 +67,5 @@ impl Holds<TextSession> for CuckooTextLocked {
         Owned { at: was }
     }
 }
+
+unsafe impl Send for CuckooTextLocked {}
