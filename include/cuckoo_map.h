@@ -32,7 +32,7 @@
  * a handle in two calls at a time; a handle that goes to another thread by nothing that orders the
  * two (a lock, the start or end of a thread, a sequentially consistent atomic); a call from a signal
  * handler, or in the child of a `fork` of a process with threads; pointers that are null, or lead to
- * fewer bytes than the parameters say.
+ * fewer bytes than the parameters say. So it is of pairs and of locked tables.
  *
  * The library calls malloc, realloc and free, which have to align blocks as C says, and needs a
  * processor of x86-64-v2. Memory is requested where a table is opened, locked or is to grow, where a
@@ -269,14 +269,12 @@ int32_t cuckoo_pairs_next(cuckoo_pairs *pairs, uint64_t *key, uint64_t *value);
 /* Frees the pairs. */
 void cuckoo_pairs_close(cuckoo_pairs *pairs);
 
-/* Locks the table: what is done to `locked` until it is unlocked is done at one moment, as one call,
- * whatever it is and however long it takes. The handle goes into `locked`, so `handle` is closed, and
- * calls of it answer CUCKOO_CLOSED, those of the same thread too. All other handles find the table
- * held: each of their calls answers CUCKOO_BUSY, or spins until it does. So a thread waits for
- * nothing that another thread with a handle has to do, and whatever is locked is unlocked again: a
- * `locked` that is forgotten or lost holds the table for good, as a mutex does.
- * `locked` begins as CUCKOO_NOT_LOCKED. It is used as a handle is: by one thread at a time, and not
- * copied, but moved.
+/* Locks the table: all that is done to `locked` until it is unlocked is one call of the handle's, and
+ * takes effect at one moment, however long it takes. The handle is in `locked` meanwhile: `handle` is
+ * closed, and calls of it answer CUCKOO_CLOSED, those of this thread too. Calls of all other handles
+ * answer CUCKOO_BUSY. `locked`, which begins as CUCKOO_NOT_LOCKED, belongs to the program, and is used
+ * and moved as a handle is. One that is forgotten or lost holds the table for good, as a mutex that is
+ * never unlocked does.
  * CUCKOO_OK; CUCKOO_BUSY: another handle is in a call, or has locked the table; CUCKOO_NO_MEMORY;
  * CUCKOO_CLOSED; CUCKOO_IS_OPEN: `locked` has a table. But for the first, nothing has changed. */
 int32_t cuckoo_lock(cuckoo_handle *handle, cuckoo_locked *locked);

@@ -969,7 +969,7 @@ private:
 /// one is never bound, and where a call is to bind it, std::length_error is thrown. Pointers are
 /// compared as addresses, `const char *` too. Values are trivially copyable, have at most 8 bytes and
 /// a default constructor; they are passed as copies. All calls may throw `closed`, where the map was
-/// moved from, and std::bad_alloc.
+/// moved from, `locked_here`, where this thread has locked it, and std::bad_alloc.
 template <class Key, class T> class map {
   static_assert(std::is_trivially_copyable_v<T> && sizeof(T) <= sizeof(std::uint64_t),
                 "values are trivially copyable, and have at most 8 bytes");
