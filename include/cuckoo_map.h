@@ -32,13 +32,14 @@
  * a handle in two calls at a time; a handle that goes to another thread by nothing that orders the
  * two (a lock, the start or end of a thread, a sequentially consistent atomic); a call from a signal
  * handler, or in the child of a `fork` of a process with threads; pointers that are null, or lead to
- * fewer bytes than the parameters say.
+ * fewer bytes than the parameters say. So it is of pairs and of locked tables.
  *
  * The library calls malloc, realloc and free, which have to align blocks as C says, and needs a
- * processor of x86-64-v2. Memory is requested where a table is opened or is to grow, where a text is
- * to be bound or renamed, and for the pairs of a table; no other call requests any. A call that finds
- * none loses no key, and leaves its handle as it was. The library never yields: a caller that was
- * refused as CUCKOO_BUSY lets other threads run, and calls again (`cuckoo_map.hpp` does that).
+ * processor of x86-64-v2. Memory is requested where a table is opened, locked or is to grow, where a
+ * text is to be bound or renamed, and for the pairs of a table; no other call requests any. A call
+ * that finds none loses no key, and leaves its handle as it was. The library never yields: a caller
+ * that was refused as CUCKOO_BUSY lets other threads run, and calls again (`cuckoo_map.hpp` does
+ * that).
  */
 #ifndef CUCKOO_MAP_H
 #define CUCKOO_MAP_H
@@ -76,9 +77,19 @@ typedef struct cuckoo_text_pairs {
     void *at;
 } cuckoo_text_pairs;
 
+/* A locked table, or none. It has the handle that locked it. */
+typedef struct cuckoo_locked {
+    void *at;
+} cuckoo_locked;
+
+typedef struct cuckoo_text_locked {
+    void *at;
+} cuckoo_text_locked;
+
 /* What each of them begins as; an array of handles, as {CUCKOO_CLOSED_HANDLE}. */
 #define CUCKOO_CLOSED_HANDLE { NULL }
 #define CUCKOO_NO_PAIRS { NULL }
+#define CUCKOO_NOT_LOCKED { NULL }
 
 /* What a call answers: at least 0, or below 0 where it was refused. */
 enum cuckoo_code {
@@ -258,6 +269,54 @@ int32_t cuckoo_pairs_next(cuckoo_pairs *pairs, uint64_t *key, uint64_t *value);
 /* Frees the pairs. */
 void cuckoo_pairs_close(cuckoo_pairs *pairs);
 
+/* Locks the table: all that is done to `locked` until it is unlocked is one call of the handle's, and
+ * takes effect at one moment, however long it takes. The handle is in `locked` meanwhile: `handle` is
+ * closed, and calls of it answer CUCKOO_CLOSED, those of this thread too. Calls of all other handles
+ * answer CUCKOO_BUSY. `locked`, which begins as CUCKOO_NOT_LOCKED, belongs to the program, and is used
+ * and moved as a handle is. One that is forgotten or lost holds the table for good, as a mutex that is
+ * never unlocked does.
+ * CUCKOO_OK; CUCKOO_BUSY: another handle is in a call, or has locked the table; CUCKOO_NO_MEMORY;
+ * CUCKOO_CLOSED; CUCKOO_IS_OPEN: `locked` has a table. But for the first, nothing has changed. */
+int32_t cuckoo_lock(cuckoo_handle *handle, cuckoo_locked *locked);
+
+/* Unlocks the table: all that was done to it takes effect. The handle goes to `handle`, which is
+ * closed: the place that it was in, or another one. It needs no memory. CUCKOO_OK; CUCKOO_CLOSED:
+ * nothing is locked; CUCKOO_IS_OPEN: `handle` is open, and the table stays locked. */
+int32_t cuckoo_unlock(cuckoo_locked *locked, cuckoo_handle *handle);
+
+/* Unlocks the table as cuckoo_unlock does, and closes the handle. Where nothing is locked, it does
+ * nothing. */
+void cuckoo_locked_close(cuckoo_locked *locked);
+
+/* Calls on a locked table. They find no stripe held, so none answers CUCKOO_BUSY. Each answers
+ * CUCKOO_CLOSED where nothing is locked. */
+
+/* The value of the key. CUCKOO_OK: it goes to `value`; CUCKOO_ABSENT; CUCKOO_CLOSED. */
+int32_t cuckoo_locked_find(cuckoo_locked *locked, uint64_t key, uint64_t *value);
+
+/* Binds an unbound key. CUCKOO_OK; CUCKOO_PRESENT: it keeps its value; CUCKOO_NO_MEMORY;
+ * CUCKOO_FULL; CUCKOO_LOAD_TOO_LOW; CUCKOO_CLOSED. Refused, it leaves the table locked, and all that
+ * was done to it. */
+int32_t cuckoo_locked_insert(cuckoo_locked *locked, uint64_t key, uint64_t value);
+
+/* Binds the key. CUCKOO_OK: it was unbound; CUCKOO_PRESENT: the value that it had goes to `old`;
+ * refused as cuckoo_locked_insert is. */
+int32_t cuckoo_locked_assign(cuckoo_locked *locked, uint64_t key, uint64_t value, uint64_t *old);
+
+/* Unbinds the key. CUCKOO_OK: the value that it had goes to `value`; CUCKOO_ABSENT; CUCKOO_CLOSED. */
+int32_t cuckoo_locked_erase(cuckoo_locked *locked, uint64_t key, uint64_t *value);
+
+/* How many keys are bound. CUCKOO_OK: it goes to `count`; CUCKOO_CLOSED. */
+int32_t cuckoo_locked_len(cuckoo_locked *locked, uint64_t *count);
+
+/* Unbinds all keys. CUCKOO_OK; CUCKOO_CLOSED. */
+int32_t cuckoo_locked_clear(cuckoo_locked *locked);
+
+/* All pairs, in rising order of the keys: a copy, which later calls don't change. The table stays
+ * locked. CUCKOO_OK: it goes to `pairs`; CUCKOO_IS_OPEN: `pairs` is open; CUCKOO_NO_MEMORY;
+ * CUCKOO_CLOSED. */
+int32_t cuckoo_locked_export(cuckoo_locked *locked, cuckoo_pairs *pairs);
+
 /* ---- keys that are texts of at most 64 bytes ----
  * The same calls, but those on 1 to 8 keys, also refused as CUCKOO_TOO_LONG, before anything else
  * is looked at, and where a key is to be bound as CUCKOO_NO_MEMORY, since the key is copied; a rename
@@ -300,6 +359,21 @@ int32_t cuckoo_text_drain(cuckoo_text_handle *handle, cuckoo_text_pairs *pairs);
 int32_t cuckoo_text_pairs_next(cuckoo_text_pairs *pairs, void *key, size_t room, size_t *length,
                                uint64_t *value);
 void cuckoo_text_pairs_close(cuckoo_text_pairs *pairs);
+
+int32_t cuckoo_text_lock(cuckoo_text_handle *handle, cuckoo_text_locked *locked);
+int32_t cuckoo_text_unlock(cuckoo_text_locked *locked, cuckoo_text_handle *handle);
+void cuckoo_text_locked_close(cuckoo_text_locked *locked);
+int32_t cuckoo_text_locked_find(cuckoo_text_locked *locked, const void *key, size_t length,
+                                uint64_t *value);
+int32_t cuckoo_text_locked_insert(cuckoo_text_locked *locked, const void *key, size_t length,
+                                  uint64_t value);
+int32_t cuckoo_text_locked_assign(cuckoo_text_locked *locked, const void *key, size_t length,
+                                  uint64_t value, uint64_t *old);
+int32_t cuckoo_text_locked_erase(cuckoo_text_locked *locked, const void *key, size_t length,
+                                 uint64_t *value);
+int32_t cuckoo_text_locked_len(cuckoo_text_locked *locked, uint64_t *count);
+int32_t cuckoo_text_locked_clear(cuckoo_text_locked *locked);
+int32_t cuckoo_text_locked_export(cuckoo_text_locked *locked, cuckoo_text_pairs *pairs);
 
 #ifdef __cplusplus
 }

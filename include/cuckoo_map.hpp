@@ -1,9 +1,9 @@
 // A concurrent hash map that cannot lose a key, for C++17: cuckoo_map.h as a class.
 //
 // `cuckoo::map<Key, T>` has the calls on a key of libcuckoo's `cuckoohash_map`, by their names and
-// with their results; but closures differ (below), and keys and values are small (see `map`). There
-// is no `lock_table`, of which `snapshot`, `drain` and the calls on several keys do a part; no copy,
-// member `swap` (`std::swap` does it), range or initializer list; no `rehash`, `hashpower`,
+// with their results; but closures differ (below), and keys and values are small (see `map`). What
+// `lock_table` gives has iterators over copies of the pairs alone (see `locked_table`). There is no
+// copy, member `swap` (`std::swap` does it), range or initializer list; no `rehash`, `hashpower`,
 // `bucket_count` or `max_num_worker_threads`, nor `minimum_load_factor` and `maximum_hashpower`, for
 // which a `cuckoo_settings` has `min_load` and `max`; and no hash, equality or allocator of the
 // program's. `reserve` never shrinks.
@@ -47,6 +47,7 @@
 #include "cuckoo_map.h"
 
 #include <array>
+#include <atomic>
 #include <cstddef>
 #include <cstdint>
 #include <cstring>
@@ -101,6 +102,21 @@ public:
   closed() : std::logic_error("cuckoo: the map was moved from") {}
 };
 
+/// The thread that makes a call has locked the map by `lock_table`, and not unlocked it yet: other
+/// calls of the map than those of what `lock_table` gave would wait for themselves.
+class locked_here : public std::logic_error {
+public:
+  /// A call of such a thread.
+  locked_here() : std::logic_error("cuckoo: this thread has locked the map") {}
+};
+
+/// What `lock_table` gave was unlocked, or moved from.
+class not_locked : public std::logic_error {
+public:
+  /// A call of it.
+  not_locked() : std::logic_error("cuckoo: the map is not locked by this") {}
+};
+
 /// What a map is opened with.
 struct options {
   /// About so many keys have room before the table grows.
@@ -124,6 +140,9 @@ enum class renamed {
 
 namespace detail {
 
+// A handle was found closed that no other thread closes. It is no code of the library's.
+inline constexpr std::int32_t is_locked_here = INT32_MIN;
+
 // Throws for a refusal. Where it was one as busy, it lets other threads run, and the call is to be
 // made again.
 [[gnu::noinline]] inline void refuse(std::int32_t code) {
@@ -137,6 +156,7 @@ namespace detail {
   case CUCKOO_TOO_LONG: throw std::length_error("cuckoo: a key has more than 64 bytes");
   case CUCKOO_TWICE: throw std::invalid_argument("cuckoo: a key stands twice");
   case CUCKOO_CLOSED: throw closed();
+  case is_locked_here: throw locked_here();
   default: throw std::logic_error("cuckoo: refused by code " + std::to_string(code));
   }
 }
@@ -144,6 +164,7 @@ namespace detail {
 // The calls on keys that are numbers.
 struct numbers {
   using handle = cuckoo_handle;
+  using locked = cuckoo_locked;
   static constexpr auto open = cuckoo_open_with;
   static constexpr auto close = cuckoo_close;
   static constexpr auto find = cuckoo_find;
@@ -166,6 +187,16 @@ struct numbers {
   static constexpr auto copy = cuckoo_export;
   static constexpr auto drain = cuckoo_drain;
   static constexpr auto close_pairs = cuckoo_pairs_close;
+  static constexpr auto lock = cuckoo_lock;
+  static constexpr auto unlock = cuckoo_unlock;
+  static constexpr auto end_locked = cuckoo_locked_close;
+  static constexpr auto locked_find = cuckoo_locked_find;
+  static constexpr auto locked_insert = cuckoo_locked_insert;
+  static constexpr auto locked_assign = cuckoo_locked_assign;
+  static constexpr auto locked_erase = cuckoo_locked_erase;
+  static constexpr auto locked_len = cuckoo_locked_len;
+  static constexpr auto locked_clear = cuckoo_locked_clear;
+  static constexpr auto locked_copy = cuckoo_locked_export;
 
   // Pairs, and the place that the next one is read to.
   struct reader {
@@ -181,6 +212,7 @@ struct numbers {
 // The same on keys that are texts.
 struct texts {
   using handle = cuckoo_text_handle;
+  using locked = cuckoo_text_locked;
   static constexpr auto open = cuckoo_text_open_with;
   static constexpr auto close = cuckoo_text_close;
   static constexpr auto find = cuckoo_text_find;
@@ -200,6 +232,16 @@ struct texts {
   static constexpr auto copy = cuckoo_text_export;
   static constexpr auto drain = cuckoo_text_drain;
   static constexpr auto close_pairs = cuckoo_text_pairs_close;
+  static constexpr auto lock = cuckoo_text_lock;
+  static constexpr auto unlock = cuckoo_text_unlock;
+  static constexpr auto end_locked = cuckoo_text_locked_close;
+  static constexpr auto locked_find = cuckoo_text_locked_find;
+  static constexpr auto locked_insert = cuckoo_text_locked_insert;
+  static constexpr auto locked_assign = cuckoo_text_locked_assign;
+  static constexpr auto locked_erase = cuckoo_text_locked_erase;
+  static constexpr auto locked_len = cuckoo_text_locked_len;
+  static constexpr auto locked_clear = cuckoo_text_locked_clear;
+  static constexpr auto locked_copy = cuckoo_text_locked_export;
 
   struct reader {
     cuckoo_text_pairs pairs = CUCKOO_NO_PAIRS;
@@ -225,6 +267,16 @@ inline const void *bytes_of(std::string_view key) { return key.empty() ? "" : ke
 
 template <class Function, class... Rest>
 std::int32_t on_key(Function call, cuckoo_text_handle *at, std::string_view key, Rest... rest) {
+  return call(at, bytes_of(key), key.size(), rest...);
+}
+
+template <class Function, class... Rest>
+std::int32_t on_key(Function call, cuckoo_locked *at, std::uint64_t key, Rest... rest) {
+  return call(at, key, rest...);
+}
+
+template <class Function, class... Rest>
+std::int32_t on_key(Function call, cuckoo_text_locked *at, std::string_view key, Rest... rest) {
   return call(at, bytes_of(key), key.size(), rest...);
 }
 
@@ -291,6 +343,13 @@ template <class T> std::uint64_t to_number(const T &value) {
   std::uint64_t number = 0;
   std::memcpy(&number, &value, sizeof value);
   return number;
+}
+
+// A value that is made as by `T value(args...)`, as libcuckoo's are: a cast alone would do more.
+template <class T, class... Args> std::uint64_t number_of(Args &&...args) {
+  static_assert(std::is_constructible_v<T, Args...>,
+                "a value can't be constructed of these arguments");
+  return to_number<T>(T(std::forward<Args>(args)...));
 }
 
 // Whether equal values have equal bytes, but for 0.0 and -0.0: they have no padding.
@@ -398,9 +457,18 @@ std::int32_t make(const Call &call, Handle *at, [[maybe_unused]] void *table) {
   return code;
 }
 
+// The code of a call by a thread's own handle. It is closed only while it is in a locked table of
+// this thread's.
+inline std::int32_t by_own(std::int32_t code) {
+  return code == CUCKOO_CLOSED ? is_locked_here : code;
+}
+
+[[gnu::noinline]] inline void refuse_own(std::int32_t code) { refuse(by_own(code)); }
+
 // The handles of one table.
 template <class Family> class pool final : public lender {
   using handle = typename Family::handle;
+  using locked = typename Family::locked;
 
   // Each is in a line of the cache of its own: every call writes it.
   struct alignas(64) place {
@@ -414,6 +482,8 @@ template <class Family> class pool final : public lender {
 
   // Guards the first handle, which all threads without one of their own share.
   std::mutex shared_lock_;
+  // Which of them has locked the table by it.
+  std::atomic<std::thread::id> sharer_{std::thread::id()};
 
 public:
   explicit pool(const cuckoo_settings &settings) {
@@ -438,10 +508,11 @@ public:
     idle_ = {};
   }
 
-  // A handle for a thread, or null where all are lent.
+  // A handle for a thread, or null where all are lent. A thread that has locked the table would wait
+  // for itself by another one.
   handle *lend() {
     std::lock_guard<std::mutex> held(lock_);
-    if (idle_.empty()) return nullptr;
+    if (idle_.empty() || is_sharer()) return nullptr;
     handle *one = idle_.back();
     idle_.pop_back();
     return one;
@@ -460,7 +531,88 @@ public:
   // Makes a call through the handle that is shared.
   template <class Call> std::int32_t share(const Call &call) {
     std::lock_guard<std::mutex> held(shared_lock_);
-    return make(call, &places_[0].at, this);
+    return share_held(call);
+  }
+
+  // Locks the table by this handle, or by the one that is shared where it is null.
+  std::int32_t lock(handle *at, locked &to) {
+    const auto call = [&to](handle *by) { return Family::lock(by, &to); };
+    if (at) return by_own(make(call, at, this));
+    std::lock_guard<std::mutex> held(shared_lock_);
+    const std::int32_t code = share_held(call);
+    if (code == CUCKOO_OK) sharer_ = std::this_thread::get_id();
+    return code;
+  }
+
+  // Unlocks it, by which the handle is back. Where the table has ended, the handle ends too.
+  void unlock(locked &from, handle *at) noexcept {
+    if (at) return give_back(from, at);
+    std::lock_guard<std::mutex> held(shared_lock_);
+    sharer_ = std::thread::id();
+    give_back(from, nullptr);
+  }
+
+private:
+  bool is_sharer() const { return sharer_ == std::this_thread::get_id(); }
+
+  template <class Call> std::int32_t share_held(const Call &call) {
+    if (sharer_ == std::thread::id()) return make(call, &places_[0].at, this);
+    return is_sharer() ? is_locked_here : CUCKOO_BUSY;
+  }
+
+  void give_back(locked &from, handle *at) noexcept {
+    std::lock_guard<std::mutex> held(lock_);
+    make(
+        [this, at](locked *it) {
+          if (is_open_) return Family::unlock(it, at ? at : &places_[0].at);
+          Family::end_locked(it);
+          return std::int32_t{CUCKOO_OK};
+        },
+        &from, this);
+  }
+};
+
+// A locked table, with the place of the handle that is in it: null where that is the shared one.
+template <class Family> class session {
+  using handle = typename Family::handle;
+  using locked = typename Family::locked;
+  std::shared_ptr<pool<Family>> pool_;
+  handle *home_ = nullptr;
+  locked locked_ = CUCKOO_NOT_LOCKED;
+
+public:
+  session() = default;
+  session(std::shared_ptr<pool<Family>> of, handle *home, locked it)
+      : pool_(std::move(of)), home_(home), locked_(it) {}
+  session(session &&other) noexcept
+      : pool_(std::move(other.pool_)), home_(other.home_), locked_(other.locked_) {
+    other.locked_ = CUCKOO_NOT_LOCKED;
+  }
+  ~session() { unlock(); }
+
+  session &operator=(session &&other) noexcept {
+    if (this != &other) {
+      unlock();
+      pool_ = std::move(other.pool_);
+      home_ = other.home_;
+      locked_ = std::exchange(other.locked_, locked(CUCKOO_NOT_LOCKED));
+    }
+    return *this;
+  }
+
+  bool is_active() const noexcept { return pool_ != nullptr; }
+
+  void unlock() noexcept {
+    if (pool_) pool_->unlock(locked_, home_);
+    pool_ = nullptr;
+  }
+
+  // Makes a call of the locked table. Where it is refused, it throws.
+  template <class Call> std::int32_t answer(const Call &call) {
+    if (!pool_) throw not_locked();
+    const std::int32_t code = make(call, &locked_, pool_.get());
+    if (code < 0) refuse(code);
+    return code;
   }
 };
 
@@ -496,7 +648,7 @@ template <class Family> class table {
   // Makes a call where the latest handle isn't of this table.
   template <class Call> std::int32_t other_than_latest(const Call &call) const {
     if (!pool_) return CUCKOO_CLOSED;
-    if (handle *at = borrow()) return make(call, at, pool_.get());
+    if (handle *at = borrow()) return by_own(make(call, at, pool_.get()));
     return pool_->share(call);
   }
 
@@ -507,7 +659,7 @@ template <class Family> class table {
   // Makes a call until it is answered, whichever handle is the latest.
   template <class Call> [[gnu::noinline]] std::int32_t answer_slowly(const Call &call) const {
     for (;;) {
-      const std::int32_t code = is_latest() ? by_latest(call) : other_than_latest(call);
+      const std::int32_t code = is_latest() ? by_own(by_latest(call)) : other_than_latest(call);
       if (code >= 0) return code;
       refuse(code);
     }
@@ -532,9 +684,21 @@ public:
     if (is_latest()) {
       const std::int32_t code = by_latest(call);
       if (code >= 0) return code;
-      refuse(code);
+      refuse_own(code);
     }
     return answer_slowly(call);
+  }
+
+  // Locks the table, until that is done. Else it throws.
+  session<Family> lock() const {
+    for (;;) {
+      if (!pool_) refuse(CUCKOO_CLOSED);
+      handle *const at = is_latest() ? static_cast<handle *>(latest.handle) : borrow();
+      typename Family::locked to = CUCKOO_NOT_LOCKED;
+      const std::int32_t code = pool_->lock(at, to);
+      if (code == CUCKOO_OK) return session<Family>(pool_, at, to);
+      refuse(code);
+    }
   }
 };
 
@@ -648,6 +812,156 @@ public:
 
 private:
   template <class, class> friend class map;
+  template <class, class> friend class locked_table;
+};
+
+/// A map that the thread has locked: what it does by this is one call of the map's, whatever it is
+/// and however long it takes, and takes effect where it is unlocked. Until then the calls of all other
+/// threads wait, and the thread's own other calls of the map throw `locked_here`. It is moved, but not
+/// copied, and stays with its thread. Its end unlocks the map, also where an exception is thrown:
+/// what was done until then takes effect. Calls of one that is unlocked, or was moved from, throw
+/// `not_locked`.
+///
+///     auto locked = ages.lock_table();
+///     for (auto [name, age] : locked) locked.insert_or_assign(name, age + 1);
+///     locked.unlock();
+template <class Key, class T> class locked_table {
+  using keys = detail::keys<Key>;
+  using family = typename keys::family;
+  using key_taken = typename keys::taken;
+  detail::session<family> session_;
+  cuckoo::snapshot<Key, T> pairs_;
+
+public:
+  /// The type of keys.
+  using key_type = Key;
+  /// The type of values.
+  using mapped_type = T;
+  /// How many keys are bound.
+  using size_type = std::size_t;
+  /// Reads the pairs of one moment on.
+  using iterator = typename cuckoo::snapshot<Key, T>::iterator;
+
+  /// Leaves the other one unlocked. Iterators of the other one are of no use then.
+  locked_table(locked_table &&) noexcept = default;
+  /// The same; what this one has locked is unlocked.
+  locked_table &operator=(locked_table &&) noexcept = default;
+  /// Unlocks the map, where it is locked.
+  ~locked_table() = default;
+
+  /// Whether it is locked by this.
+  bool is_active() const noexcept { return session_.is_active(); }
+
+  /// Unlocks the map. It takes no memory.
+  void unlock() noexcept { session_.unlock(); }
+
+  /// Copies the value of the key to `value`, and returns whether the key is bound.
+  bool find(const key_taken &key, T &value) {
+    std::uint64_t number;
+    if (!find_number(key, number)) return false;
+    value = detail::from_number<T>(number);
+    return true;
+  }
+
+  /// The value of the key. Throws std::out_of_range where it is unbound.
+  T find(const key_taken &key) {
+    std::uint64_t number;
+    if (!find_number(key, number)) throw std::out_of_range("cuckoo: the key is unbound");
+    return detail::from_number<T>(number);
+  }
+
+  /// The value of the key, or nothing where it is unbound.
+  std::optional<T> get(const key_taken &key) {
+    std::uint64_t number;
+    if (!find_number(key, number)) return std::nullopt;
+    return detail::from_number<T>(number);
+  }
+
+  /// Whether the key is bound.
+  bool contains(const key_taken &key) {
+    std::uint64_t number;
+    return find_number(key, number);
+  }
+
+  /// Binds an unbound key to a value of these arguments, and returns whether it was unbound. This
+  /// and the next may throw `full` and std::bad_alloc; then the map stays locked, and all that was
+  /// done to it.
+  template <class... Args> bool insert(const key_taken &key, Args &&...args) {
+    const std::uint64_t number = detail::number_of<T>(std::forward<Args>(args)...);
+    return on<family::locked_insert>(key, number) == CUCKOO_OK;
+  }
+
+  /// Binds the key, and returns whether it was unbound.
+  template <class V> bool insert_or_assign(const key_taken &key, V &&value) {
+    std::uint64_t old;
+    const std::uint64_t number = detail::number_of<T>(std::forward<V>(value));
+    return on<family::locked_assign>(key, number, &old) == CUCKOO_OK;
+  }
+
+  /// Unbinds the key, and returns whether it was bound.
+  bool erase(const key_taken &key) { return take(key).has_value(); }
+
+  /// Unbinds the key, and returns the value that it had, or nothing where it was unbound.
+  std::optional<T> take(const key_taken &key) {
+    std::uint64_t old;
+    if (seek<family::locked_erase>(key, &old) != CUCKOO_OK) return std::nullopt;
+    return detail::from_number<T>(old);
+  }
+
+  /// How many keys are bound, by a count.
+  size_type size() {
+    std::uint64_t number = 0;
+    call<family::locked_len>(&number);
+    return static_cast<size_type>(number);
+  }
+
+  /// Whether no key is bound, by a count.
+  bool empty() { return size() == 0; }
+
+  /// Unbinds all keys.
+  void clear() { call<family::locked_clear>(); }
+
+  /// All pairs as they are now. Later calls don't change them.
+  cuckoo::snapshot<Key, T> snapshot() {
+    cuckoo::snapshot<Key, T> result;
+    call<family::locked_copy>(&result.reader_.pairs);
+    return result;
+  }
+
+  /// At the first pair of a new snapshot, which is kept until the next `begin`.
+  iterator begin() {
+    pairs_ = snapshot();
+    return pairs_.begin();
+  }
+  /// Behind the last pair.
+  iterator end() { return iterator(); }
+
+private:
+  template <class, class> friend class map;
+
+  explicit locked_table(detail::session<family> &&session) : session_(std::move(session)) {}
+
+  template <auto function, class... Rest> std::int32_t call(Rest... rest) {
+    return session_.answer([=](auto *at) { return function(at, rest...); });
+  }
+
+  template <auto function, class... Rest> std::int32_t on(const key_taken &key, Rest... rest) {
+    const auto known = keys::to(key);
+    return session_.answer([=](auto *at) { return detail::on_key(function, at, known, rest...); });
+  }
+
+  // The same of a call that binds no unbound key, as one that is too long is.
+  template <auto function, class... Rest> std::int32_t seek(const key_taken &key, Rest... rest) {
+    const auto known = keys::to(key);
+    return session_.answer([=](auto *at) {
+      const std::int32_t code = detail::on_key(function, at, known, rest...);
+      return code == CUCKOO_TOO_LONG ? CUCKOO_ABSENT : code;
+    });
+  }
+
+  bool find_number(const key_taken &key, std::uint64_t &number) {
+    return seek<family::locked_find>(key, &number) == CUCKOO_OK;
+  }
 };
 
 /// A concurrent hash map. Keys are integers, enums or pointers of at most 8 bytes, or
@@ -655,7 +969,7 @@ private:
 /// one is never bound, and where a call is to bind it, std::length_error is thrown. Pointers are
 /// compared as addresses, `const char *` too. Values are trivially copyable, have at most 8 bytes and
 /// a default constructor; they are passed as copies. All calls may throw `closed`, where the map was
-/// moved from, and std::bad_alloc.
+/// moved from, `locked_here`, where this thread has locked it, and std::bad_alloc.
 template <class Key, class T> class map {
   static_assert(std::is_trivially_copyable_v<T> && sizeof(T) <= sizeof(std::uint64_t),
                 "values are trivially copyable, and have at most 8 bytes");
@@ -923,6 +1237,12 @@ public:
   /// Unbinds all keys, at one moment.
   void clear() { call<family::clear>(); }
 
+  /// Locks the map for this thread, until what it gives is unlocked or ends. Other threads' calls
+  /// wait meanwhile; this thread's own throw `locked_here`, this one too.
+  cuckoo::locked_table<Key, T> lock_table() {
+    return cuckoo::locked_table<Key, T>(table_.lock());
+  }
+
   /// All pairs at one moment.
   cuckoo::snapshot<Key, T> snapshot() const { return read<family::copy>(); }
 
@@ -951,11 +1271,8 @@ private:
     return wanted;
   }
 
-  // A value that is made as by `T value(args...)`, as libcuckoo's are: a cast alone would do more.
   template <class... Args> static std::uint64_t number_of(Args &&...args) {
-    static_assert(std::is_constructible_v<T, Args...>,
-                  "a value can't be constructed of these arguments");
-    return detail::to_number<T>(T(std::forward<Args>(args)...));
+    return detail::number_of<T>(std::forward<Args>(args)...);
   }
 
   // A closure that doesn't unbind.

@@ -25,6 +25,10 @@ enum class color { red, green };
 
 #if CASE == 0
 void moved(numbers &map) { numbers other(std::move(map)); }
+void moved_locked(numbers &map) {
+  auto locked = map.lock_table();
+  auto other = std::move(locked);
+}
 void any_value(cuckoo::map<char, double> &map) { map.insert('a', .5); }
 void swapped(cuckoo::map<int, double> &map) { map.set_if_all({{1, .5, 1.5}}); }
 void bound(cuckoo::map<int, base *> &map, derived *value) {
@@ -58,5 +62,10 @@ void bound(cuckoo::map<int, derived *> &map, base *value) { map.exchange(1, valu
 #elif CASE == 12 // can't be constructed of these arguments
 void bound(cuckoo::map<int, derived *> &map, base *value) {
   map.upsert(1, [](derived *&) {}, value);
+}
+#elif CASE == 13 // (use of|call to) (deleted|implicitly-deleted)
+void copied(numbers &map) {
+  auto locked = map.lock_table();
+  auto other = locked;
 }
 #endif

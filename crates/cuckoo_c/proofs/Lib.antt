@@ -2,5 +2,6 @@ mod NoSession
 pub mod PairRows
 pub mod Payloads
 pub mod Placing
+pub mod SessionRows
 mod Through
 pub mod FewKeys

@@ -5,4 +5,6 @@ pub mod Openings
 pub mod PairRows
 pub mod Pairs
 pub mod Payloads
+pub mod SessionRows
+pub mod Sessions
 pub mod Several

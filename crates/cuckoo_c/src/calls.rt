@@ -41,9 +41,9 @@ pub fn find<K: TableKey + Drop, P: Holds<Handle<K, u64>>, Q: Query<K>>(
     told(found, value)
 }
 
-// The code of a look-up or an erasure, whose value goes to its place.
+/// The code of a look-up or an erasure, whose value goes to its place.
 #[inline(always)]
-fn told(found: Result<Option<u64>, Busy>, value: &mut u64) -> Code
+pub fn told(found: Result<Option<u64>, Busy>, value: &mut u64) -> Code
     ensures { TellsValue found result value.old value.new }
 {
     match found {
@@ -102,9 +102,9 @@ pub fn insert<K: TableKey + Drop, P: Holds<Handle<K, u64>>>(
     fresh_code(fresh)
 }
 
-// The code of an insertion that says whether the key was unbound.
+/// The code of an insertion that says whether the key was unbound.
 #[inline(always)]
-fn fresh_code<K: Drop>(fresh: Result<bool, Refused<K, u64>>) -> Code
+pub fn fresh_code<K: Drop>(fresh: Result<bool, Refused<K, u64>>) -> Code
     ensures { TellsFresh fresh result }
 {
     match fresh {

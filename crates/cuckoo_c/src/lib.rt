@@ -13,6 +13,7 @@
 mod code;
 mod handles;
 mod keys;
+mod locked_places;
 mod pair_places;
 mod pairs;
 mod settings;
@@ -24,7 +25,8 @@ mod several;
 // How handles come into their places, and how they go, once for all types of keys.
 mod opening;
 
-// What is done to the whole table, once for all types of keys.
+// What is done to the whole table, in one call or while it is locked, once for all types of keys.
+mod locked;
 mod sessions;
 
 // The calls, for each type of keys.

@@ -18,18 +18,20 @@ ghost use Rattle.cuckoo_c.specs.contracts.keys.NumberKeyOrd.TheImpl.{ghosts as n
 ghost use Rattle.cuckoo_c.specs.contracts.keys.NumberKeyTableKey.TheImpl.{ghosts as number_key};
 ghost use Rattle.cuckoo_c.specs.Pairs.{TakesNextAt, TellsPair};
 ghost use Rattle.cuckoo_c.specs.Openings.{ClearLeaves, TellsCleared, Exports, ListsAt};
+ghost use Rattle.cuckoo_c.specs.Sessions.{LocksAt, UnlocksAt, OnLocked, FindsLocked, InsertsLocked, AssignsLocked, ErasesLocked, CountsLocked, ClearsLocked, ListsLocked};
 ghost use Rattle.cuckoo_c.specs.NewTables.{IsFor, Opens, settings_of};
 ghost use Rattle.cuckoo_c.specs.Handles.{Calls, AddsTo, Replaces, Swaps, CountLeaves, CapacityLeaves, GrowthLeaves};
 
 use crate::code::Code;
 use crate::handles::CuckooHandle;
 use crate::keys::NumberKey;
+use crate::locked_places::CuckooLocked;
 use crate::opening::{self, settings_for};
 use crate::pair_places::CuckooPairs;
 use crate::pairs::take_next;
 use crate::settings::CuckooSettings;
 use crate::several::{CuckooChange, CuckooEntry, CuckooPart};
-use crate::{calls, sessions, several};
+use crate::{calls, locked, sessions, several};
 use ck_owned::take;
 use std::alloc::Global;
 
@@ -365,4 +367,139 @@ pub extern "C" fn cuckoo_pairs_next(
         }
         None => Code::Absent.number(),
     }
+}
+
+/// Locks the table by the handle, which is in the locked table until it is unlocked.
+#[unsafe(no_mangle)]
+pub extern "C" fn cuckoo_lock(
+    alloc: Global,
+    handle: &mut CuckooHandle,
+    locked: &mut CuckooLocked,
+) -> i32
+    ensures { Numbered result (LocksAt handle.old.held handle.new.held
+        locked.old.held locked.new.held) }
+{
+    locked::lock(alloc, handle, locked).number()
+}
+
+/// Unlocks the table. All that was done to it is one entry, and the handle comes to this place.
+#[unsafe(no_mangle)]
+pub extern "C" fn cuckoo_unlock(
+    alloc: Global,
+    locked: &mut CuckooLocked,
+    handle: &mut CuckooHandle,
+) -> i32
+    ensures { Numbered result (UnlocksAt locked.old.held locked.new.held
+        handle.old.held handle.new.held) }
+{
+    locked::unlock(alloc, locked, handle).number()
+}
+
+/// Unlocks the table, and closes the handle.
+#[unsafe(no_mangle)]
+pub extern "C" fn cuckoo_locked_close(alloc: Global, locked: &mut CuckooLocked)
+    ensures { locked.new.held ≡ None }
+{
+    opening::close(alloc, locked);
+}
+
+/// The value of the key in the locked table.
+#[unsafe(no_mangle)]
+pub extern "C" fn cuckoo_locked_find(
+    alloc: Global,
+    locked: &mut CuckooLocked,
+    key: u64,
+    value: &mut u64,
+) -> i32
+    ensures called { Numbered result (λ code. OnLocked
+        (FindsLocked (key ∷ []) code value.old value.new) locked.old.held locked.new.held code) }
+    ensures same { locked.old.held ≡ None → value.new ≡ value.old }
+{
+    locked::find(alloc, locked, &NumberKey(key), value).number()
+}
+
+/// Binds an unbound key in the locked table.
+#[unsafe(no_mangle)]
+pub extern "C" fn cuckoo_locked_insert(
+    alloc: Global,
+    locked: &mut CuckooLocked,
+    key: u64,
+    value: u64,
+) -> i32
+    ensures { Numbered result (λ code. OnLocked
+        (InsertsLocked {K = NumberKey} mixed_hash (key ∷ []) (record { 0 = key }) value code)
+        locked.old.held locked.new.held code) }
+{
+    locked::insert(alloc, locked, NumberKey(key), value).number()
+}
+
+/// Binds the key in the locked table, and tells the value that it had.
+#[unsafe(no_mangle)]
+pub extern "C" fn cuckoo_locked_assign(
+    alloc: Global,
+    locked: &mut CuckooLocked,
+    key: u64,
+    value: u64,
+    old: &mut u64,
+) -> i32
+    ensures called { Numbered result (λ code. OnLocked
+        (AssignsLocked {K = NumberKey} mixed_hash (key ∷ []) (record { 0 = key }) value code
+        old.old old.new)
+        locked.old.held locked.new.held code) }
+    ensures same { locked.old.held ≡ None → old.new ≡ old.old }
+{
+    locked::assign(alloc, locked, NumberKey(key), value, old).number()
+}
+
+/// Unbinds the key in the locked table, and tells the value that it had.
+#[unsafe(no_mangle)]
+pub extern "C" fn cuckoo_locked_erase(
+    alloc: Global,
+    locked: &mut CuckooLocked,
+    key: u64,
+    value: &mut u64,
+) -> i32
+    ensures called { Numbered result (λ code. OnLocked
+        (ErasesLocked (key ∷ []) code value.old value.new) locked.old.held locked.new.held code) }
+    ensures same { locked.old.held ≡ None → value.new ≡ value.old }
+{
+    locked::erase(alloc, locked, &NumberKey(key), value).number()
+}
+
+/// How many keys are bound in the locked table.
+#[unsafe(no_mangle)]
+pub extern "C" fn cuckoo_locked_len(
+    alloc: Global,
+    locked: &mut CuckooLocked,
+    count: &mut u64,
+) -> i32
+    ensures called { Numbered result (λ code. OnLocked (CountsLocked code count.new)
+        locked.old.held locked.new.held code) }
+    ensures same { locked.old.held ≡ None → count.new ≡ count.old }
+{
+    locked::len(alloc, locked, count).number()
+}
+
+/// Unbinds all keys of the locked table.
+#[unsafe(no_mangle)]
+pub extern "C" fn cuckoo_locked_clear(alloc: Global, locked: &mut CuckooLocked) -> i32
+    ensures { Numbered result (λ code. OnLocked (ClearsLocked code)
+        locked.old.held locked.new.held code) }
+{
+    locked::clear(alloc, locked).number()
+}
+
+/// All pairs of the locked table, in rising order of the keys.
+#[unsafe(no_mangle)]
+pub extern "C" fn cuckoo_locked_export(
+    alloc: Global,
+    locked: &mut CuckooLocked,
+    pairs: &mut CuckooPairs,
+) -> i32
+    ensures called { Numbered result (λ code. OnLocked
+        (ListsLocked number_key.name number_ord.cmp pairs.old.held pairs.new.held code)
+        locked.old.held locked.new.held code) }
+    ensures same { locked.old.held ≡ None → pairs.new.held ≡ pairs.old.held }
+{
+    locked::export(alloc, locked, pairs).number()
 }

@@ -72,8 +72,8 @@ fn is_any_open<T: Drop, P: Holds<T>>(alloc: Global, places: &mut [P]) -> bool
     false
 }
 
-// Whether the place is open. What it holds is taken out for that, and put back.
-fn is_open<T: Drop, P: Holds<T>>(alloc: Global, place: &mut P) -> bool
+/// Whether the place is open. What it holds is taken out for that, and put back.
+pub fn is_open<T: Drop, P: Holds<T>>(alloc: Global, place: &mut P) -> bool
     ensures kept { P.held place.new ≡ P.held place.old }
     ensures none { result ≡ false → P.held place.old ≡ None }
     ensures some { result ≡ true → P.held place.old ≢ None }

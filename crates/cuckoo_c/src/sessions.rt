@@ -161,9 +161,9 @@ fn take_both<T: Drop, P: Holds<T>, K: Drop, L: Holds<Pairs<K>>>(
     }
 }
 
-// A box for a list that is to come to the place. It is had before the table is locked, so that no
-// pairs that were taken out are lost for want of memory.
-fn room_for<K: Drop, L: Holds<Pairs<K>>>(
+/// A box for a list that is to come to the place. It is had before the table is locked, so that no
+/// pairs that were taken out are lost for want of memory.
+pub fn room_for<K: Drop, L: Holds<Pairs<K>>>(
     alloc: Global,
     list: &mut L,
 ) -> Result<Box<Pairs<K>, Global>, Code>

@@ -17,17 +17,19 @@ ghost use Rattle.cuckoo_c.specs.contracts.keys.BytesKeyOrd.TheImpl.{ghosts as te
 ghost use Rattle.cuckoo_c.specs.contracts.keys.BytesKeyTableKey.TheImpl.{ghosts as text_key};
 ghost use Rattle.cuckoo_c.specs.Pairs.{TakesNextAt, TellsTextPair};
 ghost use Rattle.cuckoo_c.specs.Openings.{ClearLeaves, TellsCleared, Exports, ListsAt};
+ghost use Rattle.cuckoo_c.specs.Sessions.{LocksAt, UnlocksAt, OnLocked, FindsLocked, InsertsLocked, AssignsLocked, ErasesLocked, CountsLocked, ClearsLocked, ListsLocked};
 ghost use Rattle.cuckoo_c.specs.NewTables.{IsFor, Opens, settings_of};
 ghost use Rattle.cuckoo_c.specs.Handles.{Calls, CallsWithMemory, AddsTo, Replaces, Swaps, CountLeaves, CapacityLeaves, GrowthLeaves};
 
 use crate::code::Code;
 use crate::handles::CuckooTextHandle;
 use crate::keys::{Bytes, BytesKey};
+use crate::locked_places::CuckooTextLocked;
 use crate::opening::{self, settings_for};
 use crate::pair_places::CuckooTextPairs;
 use crate::pairs::take_next;
 use crate::settings::CuckooSettings;
-use crate::{calls, sessions};
+use crate::{calls, locked, sessions};
 use ck_owned::take;
 use cuckoo_map::{KeyFault, TextKey};
 use std::alloc::Global;
@@ -430,4 +432,161 @@ pub extern "C" fn cuckoo_text_pairs_next(
         }
         None => Code::Absent.number(),
     }
+}
+
+/// Locks the table by the handle, which is in the locked table until it is unlocked.
+#[unsafe(no_mangle)]
+pub extern "C" fn cuckoo_text_lock(
+    alloc: Global,
+    handle: &mut CuckooTextHandle,
+    locked: &mut CuckooTextLocked,
+) -> i32
+    ensures { Numbered result (LocksAt handle.old.held handle.new.held
+        locked.old.held locked.new.held) }
+{
+    locked::lock(alloc, handle, locked).number()
+}
+
+/// Unlocks the table. All that was done to it is one entry, and the handle comes to this place.
+#[unsafe(no_mangle)]
+pub extern "C" fn cuckoo_text_unlock(
+    alloc: Global,
+    locked: &mut CuckooTextLocked,
+    handle: &mut CuckooTextHandle,
+) -> i32
+    ensures { Numbered result (UnlocksAt locked.old.held locked.new.held
+        handle.old.held handle.new.held) }
+{
+    locked::unlock(alloc, locked, handle).number()
+}
+
+/// Unlocks the table, and closes the handle.
+#[unsafe(no_mangle)]
+pub extern "C" fn cuckoo_text_locked_close(alloc: Global, locked: &mut CuckooTextLocked)
+    ensures { locked.new.held ≡ None }
+{
+    opening::close(alloc, locked);
+}
+
+/// The value of the key in the locked table.
+#[unsafe(no_mangle)]
+pub extern "C" fn cuckoo_text_locked_find(
+    alloc: Global,
+    locked: &mut CuckooTextLocked,
+    key: &[u8],
+    value: &mut u64,
+) -> i32
+    ensures called { length key.now ≤ 64 → Numbered result (λ code. OnLocked
+        (FindsLocked key.now code value.old value.new) locked.old.held locked.new.held code) }
+    ensures too_long { 64 < length key.now → (result ≡ number_of codes.TooLong)
+        × (locked.new.held ≡ locked.old.held) × (value.new ≡ value.old) }
+    ensures same { locked.old.held ≡ None → value.new ≡ value.old }
+{
+    if key.len() > MOST {
+        return Code::TooLong.number();
+    }
+    locked::find(alloc, locked, Bytes(key), value).number()
+}
+
+/// Binds an unbound key in the locked table.
+#[unsafe(no_mangle)]
+pub extern "C" fn cuckoo_text_locked_insert(
+    alloc: Global,
+    locked: &mut CuckooTextLocked,
+    key: &[u8],
+    value: u64,
+) -> i32
+    ensures called { length key.now ≤ 64 → Numbered result (λ code. OnLocked
+        (InsertsLocked {K = BytesKey} text_hash key.now (record { 0 = key.now }) value code)
+        locked.old.held locked.new.held code
+        ⊎ (locked.new.held ≡ locked.old.held) × (code ≡ codes.Memory)) }
+    ensures too_long { 64 < length key.now → (result ≡ number_of codes.TooLong)
+        × (locked.new.held ≡ locked.old.held) }
+{
+    match key_of(alloc, key) {
+        Ok(key) => locked::insert(alloc, locked, key, value).number(),
+        Err(code) => code.number(),
+    }
+}
+
+/// Binds the key in the locked table, and tells the value that it had.
+#[unsafe(no_mangle)]
+pub extern "C" fn cuckoo_text_locked_assign(
+    alloc: Global,
+    locked: &mut CuckooTextLocked,
+    key: &[u8],
+    value: u64,
+    old: &mut u64,
+) -> i32
+    ensures called { length key.now ≤ 64 → Numbered result (λ code. OnLocked
+        (AssignsLocked {K = BytesKey} text_hash key.now (record { 0 = key.now }) value code
+        old.old old.new)
+        locked.old.held locked.new.held code
+        ⊎ (locked.new.held ≡ locked.old.held) × (code ≡ codes.Memory) × (old.new ≡ old.old)) }
+    ensures too_long { 64 < length key.now → (result ≡ number_of codes.TooLong)
+        × (locked.new.held ≡ locked.old.held) × (old.new ≡ old.old) }
+    ensures same { locked.old.held ≡ None → old.new ≡ old.old }
+{
+    match key_of(alloc, key) {
+        Ok(key) => locked::assign(alloc, locked, key, value, old).number(),
+        Err(code) => code.number(),
+    }
+}
+
+/// Unbinds the key in the locked table, and tells the value that it had.
+#[unsafe(no_mangle)]
+pub extern "C" fn cuckoo_text_locked_erase(
+    alloc: Global,
+    locked: &mut CuckooTextLocked,
+    key: &[u8],
+    value: &mut u64,
+) -> i32
+    ensures called { length key.now ≤ 64 → Numbered result (λ code. OnLocked
+        (ErasesLocked key.now code value.old value.new) locked.old.held locked.new.held code) }
+    ensures too_long { 64 < length key.now → (result ≡ number_of codes.TooLong)
+        × (locked.new.held ≡ locked.old.held) × (value.new ≡ value.old) }
+    ensures same { locked.old.held ≡ None → value.new ≡ value.old }
+{
+    if key.len() > MOST {
+        return Code::TooLong.number();
+    }
+    locked::erase(alloc, locked, Bytes(key), value).number()
+}
+
+/// How many keys are bound in the locked table.
+#[unsafe(no_mangle)]
+pub extern "C" fn cuckoo_text_locked_len(
+    alloc: Global,
+    locked: &mut CuckooTextLocked,
+    count: &mut u64,
+) -> i32
+    ensures called { Numbered result (λ code. OnLocked (CountsLocked code count.new)
+        locked.old.held locked.new.held code) }
+    ensures same { locked.old.held ≡ None → count.new ≡ count.old }
+{
+    locked::len(alloc, locked, count).number()
+}
+
+/// Unbinds all keys of the locked table.
+#[unsafe(no_mangle)]
+pub extern "C" fn cuckoo_text_locked_clear(alloc: Global, locked: &mut CuckooTextLocked) -> i32
+    ensures { Numbered result (λ code. OnLocked (ClearsLocked code)
+        locked.old.held locked.new.held code) }
+{
+    locked::clear(alloc, locked).number()
+}
+
+/// All pairs of the locked table, in rising order of the keys.
+#[unsafe(no_mangle)]
+pub extern "C" fn cuckoo_text_locked_export(
+    alloc: Global,
+    locked: &mut CuckooTextLocked,
+    pairs: &mut CuckooTextPairs,
+) -> i32
+    ensures called { Numbered result (λ code. OnLocked
+        (ListsLocked text_key.name text_ord.cmp pairs.old.held pairs.new.held code)
+        locked.old.held locked.new.held code) }
+    ensures same { locked.old.held ≡ None → pairs.new.held ≡ pairs.old.held }
+{
+    locked::export(alloc, locked, pairs).number()
 }

@@ -1,4 +1,4 @@
-use crate::raw::{BAD_COUNT, BAD_SETTINGS, BUSY, FULL, LOAD_TOO_LOW, NO_MEMORY, OVER_MAX};
+use crate::raw::{BAD_COUNT, BAD_SETTINGS, BUSY, CLOSED, FULL, LOAD_TOO_LOW, NO_MEMORY, OVER_MAX};
 use crate::raw::{TOO_LONG, TWICE};
 use std::fmt;
 
@@ -20,6 +20,8 @@ pub enum Error {
     BadSettings,
     /// A text has more than 64 bytes.
     TooLong,
+    /// The handle is in a [`Locked`](crate::Locked) that was forgotten.
+    Closed,
     /// One of the keys stands twice.
     Twice,
     /// The keys are none, or more than eight.
@@ -57,6 +59,7 @@ impl Error {
             OVER_MAX => Error::OverMax,
             BAD_SETTINGS => Error::BadSettings,
             TOO_LONG => Error::TooLong,
+            CLOSED => Error::Closed,
             TWICE => Error::Twice,
             BAD_COUNT => Error::BadCount,
             other => Error::Other(other),
@@ -74,6 +77,7 @@ impl fmt::Display for Error {
             Error::OverMax => "the table may not have so many slots",
             Error::BadSettings => "a setting is not in its range",
             Error::TooLong => "a text has more than 64 bytes",
+            Error::Closed => "the handle is in a locked table that was forgotten",
             Error::Twice => "a key stands twice",
             Error::BadCount => "the keys are none, or more than eight",
             Error::Other(code) => return write!(to, "the library gave code {code}"),

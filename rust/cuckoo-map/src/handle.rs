@@ -1,5 +1,5 @@
 use crate::raw::{Raw, ABSENT, BAD_SETTINGS, BUSY, DIFFERENT, OK, PRESENT};
-use crate::{AsKey, Error, Keys, Numbers, Pairs, Result, Settings, Texts};
+use crate::{AsKey, Error, Keys, Locked, Numbers, Pairs, Result, Settings, Texts};
 use std::fmt;
 use std::marker::PhantomData;
 use std::thread;
@@ -26,7 +26,7 @@ use std::thread;
 /// is_copied::<cuckoo_map::Handle>();
 /// ```
 pub struct TableHandle<K: Keys> {
-    raw: Raw,
+    pub(crate) raw: Raw,
     retries_busy: bool,
     keys: PhantomData<K>,
 }
@@ -331,6 +331,29 @@ impl<K: Keys> TableHandle<K> {
         let mut pairs = Pairs::none();
         self.call(|raw| unsafe { K::drain(raw, pairs.place()) })?;
         Ok(pairs)
+    }
+
+    /// Locks the table until what it gives is dropped. It requests memory, and may be refused as
+    /// [`Error::NoMemory`].
+    ///
+    /// ```
+    /// let mut handles = cuckoo_map::Handle::open(100, 2)?;
+    /// let (mut handle, mut other) = (handles.pop().unwrap(), handles.pop().unwrap());
+    /// handle.insert(5, 50)?;
+    /// other.retry_busy(false);
+    /// let mut locked = handle.lock()?;
+    /// if let Some(value) = locked.erase(5)? {
+    ///     locked.insert(6, value)?;
+    /// }
+    /// assert_eq!(other.find(5), Err(cuckoo_map::Error::Busy));
+    /// drop(locked);
+    /// assert_eq!(other.find_all([5, 6])?, [None, Some(50)]);
+    /// # Ok::<(), cuckoo_map::Error>(())
+    /// ```
+    pub fn lock(&mut self) -> Result<Locked<'_, K>> {
+        let mut locked = Raw::CLOSED;
+        self.call(|raw| unsafe { K::lock(raw, &mut locked) })?;
+        Ok(Locked::of(locked, self))
     }
 
     // Sets what the function makes of the value that was seen, as long as the key has another by

@@ -35,6 +35,7 @@
 mod error;
 mod handle;
 mod keys;
+mod locked;
 mod pairs;
 mod raw;
 mod settings;
@@ -43,6 +44,7 @@ mod several;
 pub use error::{Error, Result};
 pub use handle::{Compared, Handle, Renamed, TableHandle, TextHandle};
 pub use keys::{AsKey, Keys, Numbers, Texts};
+pub use locked::Locked;
 pub use pairs::Pairs;
 pub use settings::Settings;
 pub use several::{Change, Part};

@@ -4,7 +4,7 @@ use crate::{Numbers, Settings, Texts};
 use std::ffi::c_void;
 use std::ptr;
 
-/// A handle or pairs: null where it is closed. It is the owner, and has no copies.
+/// A handle, pairs or a locked table: null where it is closed. It is the owner, and has no copies.
 #[repr(C)]
 pub struct Raw {
     at: *mut c_void,
@@ -28,6 +28,7 @@ pub const LOAD_TOO_LOW: i32 = -4;
 pub const OVER_MAX: i32 = -5;
 pub const BAD_SETTINGS: i32 = -6;
 pub const TOO_LONG: i32 = -7;
+pub const CLOSED: i32 = -8;
 pub const TWICE: i32 = -10;
 pub const BAD_COUNT: i32 = -11;
 
@@ -51,8 +52,8 @@ extern "C" {
 ///
 /// # Safety
 ///
-/// Handles and pairs are closed, or opened by the same implementation, and are in no other call;
-/// the other pointers lead to what the types say.
+/// Handles, pairs and locked tables are closed, or opened by the same implementation, and are in no
+/// other call; the other pointers lead to what the types say.
 pub unsafe trait Calls {
     /// How a call takes a key.
     type Key<'a>: Copy;
@@ -82,6 +83,16 @@ pub unsafe trait Calls {
     unsafe fn export(handle: *mut Raw, pairs: *mut Raw) -> i32;
     unsafe fn drain(handle: *mut Raw, pairs: *mut Raw) -> i32;
     unsafe fn close_pairs(pairs: *mut Raw);
+    unsafe fn lock(handle: *mut Raw, locked: *mut Raw) -> i32;
+    unsafe fn unlock(locked: *mut Raw, handle: *mut Raw) -> i32;
+    unsafe fn locked_find(locked: *mut Raw, key: Self::Key<'_>, value: *mut u64) -> i32;
+    unsafe fn locked_insert(locked: *mut Raw, key: Self::Key<'_>, value: u64) -> i32;
+    unsafe fn locked_assign(locked: *mut Raw, key: Self::Key<'_>, value: u64, old: *mut u64)
+        -> i32;
+    unsafe fn locked_erase(locked: *mut Raw, key: Self::Key<'_>, value: *mut u64) -> i32;
+    unsafe fn locked_len(locked: *mut Raw, count: *mut u64) -> i32;
+    unsafe fn locked_clear(locked: *mut Raw) -> i32;
+    unsafe fn locked_export(locked: *mut Raw, pairs: *mut Raw) -> i32;
 }
 
 // Declares a call, with the name that `Calls` has for it.
@@ -128,7 +139,9 @@ macro_rules! calls {
         $open:ident $close:ident $find:ident $contains:ident $insert:ident $assign:ident $add:ident
         $update:ident $swap_if:ident $erase:ident $erase_if:ident $rename:ident $len:ident
         $capacity:ident $reserve:ident $clear:ident $export:ident $drain:ident
-        $close_pairs:ident) => {
+        $close_pairs:ident $lock:ident $unlock:ident $locked_find:ident $locked_insert:ident
+        $locked_assign:ident $locked_erase:ident $locked_len:ident $locked_clear:ident
+        $locked_export:ident) => {
         unsafe impl Calls for $keys {
             type Key<$life> = $key_type;
 
@@ -152,6 +165,16 @@ macro_rules! calls {
             call!(export = $export(handle: *mut Raw, pairs: *mut Raw) -> i32);
             call!(drain = $drain(handle: *mut Raw, pairs: *mut Raw) -> i32);
             call!(close_pairs = $close_pairs(pairs: *mut Raw));
+            call!(lock = $lock(handle: *mut Raw, locked: *mut Raw) -> i32);
+            call!(unlock = $unlock(locked: *mut Raw, handle: *mut Raw) -> i32);
+            call!(locked_find = $locked_find of $key: Self::Key<'_> as $parts(value: *mut u64));
+            call!(locked_insert = $locked_insert of $key: Self::Key<'_> as $parts(value: u64));
+            call!(locked_assign = $locked_assign of $key: Self::Key<'_> as
+                $parts(value: u64, old: *mut u64));
+            call!(locked_erase = $locked_erase of $key: Self::Key<'_> as $parts(value: *mut u64));
+            call!(locked_len = $locked_len(locked: *mut Raw, count: *mut u64) -> i32);
+            call!(locked_clear = $locked_clear(locked: *mut Raw) -> i32);
+            call!(locked_export = $locked_export(locked: *mut Raw, pairs: *mut Raw) -> i32);
         }
     };
 }
@@ -161,6 +184,8 @@ calls! {
     cuckoo_open_with cuckoo_close cuckoo_find cuckoo_contains cuckoo_insert cuckoo_assign cuckoo_add
     cuckoo_update cuckoo_swap_if cuckoo_erase cuckoo_erase_if cuckoo_rename cuckoo_len
     cuckoo_capacity cuckoo_reserve cuckoo_clear cuckoo_export cuckoo_drain cuckoo_pairs_close
+    cuckoo_lock cuckoo_unlock cuckoo_locked_find cuckoo_locked_insert cuckoo_locked_assign
+    cuckoo_locked_erase cuckoo_locked_len cuckoo_locked_clear cuckoo_locked_export
 }
 
 // A slice of no bytes has a pointer that isn't null, which is what the library wants.
@@ -171,7 +196,9 @@ calls! {
     cuckoo_text_assign cuckoo_text_add cuckoo_text_update cuckoo_text_swap_if cuckoo_text_erase
     cuckoo_text_erase_if cuckoo_text_rename cuckoo_text_len cuckoo_text_capacity
     cuckoo_text_reserve cuckoo_text_clear cuckoo_text_export cuckoo_text_drain
-    cuckoo_text_pairs_close
+    cuckoo_text_pairs_close cuckoo_text_lock cuckoo_text_unlock cuckoo_text_locked_find
+    cuckoo_text_locked_insert cuckoo_text_locked_assign cuckoo_text_locked_erase
+    cuckoo_text_locked_len cuckoo_text_locked_clear cuckoo_text_locked_export
 }
 
 extern "C" {

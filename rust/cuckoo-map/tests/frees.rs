@@ -12,6 +12,8 @@ fn drop_all<K: Keys>(one: impl AsKey<K> + Copy, two: impl AsKey<K>) {
     assert!(last.pairs().unwrap().next().is_some());
     assert_eq!(last.drain().unwrap().count(), 2);
     assert_eq!(last.insert(one, 3), Ok(true));
+    drop(last.lock().unwrap());
+    assert_eq!(last.lock().unwrap().pairs().unwrap().count(), 1);
 }
 
 #[test]
