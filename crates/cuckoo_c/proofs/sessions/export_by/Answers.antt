@@ -23,6 +23,6 @@ returns-in-Err-exported g c = record {
   same = search rules;
   listed = search rules;
   refused = (map_of c.in-Ok.locked, session_since c.unlock_caller-handle.result c.in-Ok.ensures.locked refl refl c.unlock_caller-handle.ensures.answered);
-  notes = notes_of_look c.unlock_caller-handle.result c.in-Ok.ensures.locked c.unlock_caller-handle.ensures.notes;
+  notes = λ e. notes_of_look c.unlock_caller-handle.result c.in-Ok.ensures.locked c.unlock_caller-handle.ensures.notes;
   found = search rules;
 }
