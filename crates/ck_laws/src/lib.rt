@@ -4,7 +4,13 @@
 //! The contract of a call says which entry the history of the table has more (`Replied`). These
 //! laws say what that means for the plain map: a handle without others (`IsSole`) makes a call, and
 //! then the map that it had (`HasMap`) has gone by the call (`Maps`). A proof takes a law by its
-//! name in `proofs`: `Rattle.ck_laws.proofs.Alone.{found}` is that of `find`.
+//! name in `proofs`: `Rattle.ck_laws.proofs.Alone.{found}` is that of `find`. `ck_ledger` proves so
+//! what its `value_of` promises:
+//!
+//! ```text
+//! returns-clause-found c = found (c.args.account ∷ []) c.args.own.now c.find.new.self
+//!     c.in-Ok.value c.requires c.in-Ok.ensures.answered
+//! ```
 #![tactic(auto)]
 
 ghost use Rattle.ck_laws.specs.Laws.{RepliesAreSteps, RepliesFollowOthers};
