@@ -1,10 +1,10 @@
 -- A table that was locked, cleared and filled with two has these when it is unlocked.
-use Rattle.std.proofs.Common.{◌≡◌, ℕ, sym, refl, ap, ◌∙◌, subst, Option, Result, Ok, Err, IfOk, IsOk, OnErr, Bool, true, false}
+use Rattle.std.proofs.Common.{◌≡◌, ℕ, refl, ap, ◌∙◌, subst, Option, Result, Ok, Err, IfOk, IsOk, OnErr, Bool, true, false}
 use Rattle.std.specs.Bool.{OnTrue}
 use Rattle.std.specs.FinMap.{insert, empty}
 use Rattle.ck_model.specs.Promise.{Name, Client, After}
 use Rattle.cuckoo_map.specs.Acts.{Assigns}
-use Rattle.cuckoo_map.specs.Locking.{LockedState, start_of, map_of, EndsSession, HasLocked, Clears, HasActed, IsSameSession}
+use Rattle.cuckoo_map.specs.Locking.{LockedState, map_of, EndsSession, HasLocked, Clears, HasActed, IsSameSession}
 use Rattle.ck_laws.proofs.Acting.{assigning}
 use Rattle.ck_laws.proofs.Sessions.{session_leaves, session_began}
 
