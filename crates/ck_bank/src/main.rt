@@ -2,6 +2,10 @@
 //! again and again, and finds all of it each time.
 #![tactic(auto)]
 
+ghost use Rattle.std.specs.Prelude.{◌≡◌, ◌+◌, ℕ, List, ◌++◌};
+ghost use Rattle.ck_model.specs.declared.history.Entry.{Entry};
+ghost use Rattle.ck_core.specs.Sums.{EachKeepsTotal};
+
 use anyhow::{Context, Result, ensure};
 use cuckoo_map::{Busy, Handle, LockedHandle, NumKey, Settings};
 use std::alloc::Global;
@@ -30,16 +34,28 @@ fn fund(teller: &mut Teller) -> Result<()> {
     Ok(())
 }
 
-/// Moves the amount from one account to another, where the first has as much.
-fn transfer(teller: &mut Teller, from: u64, to: u64, amount: u64) -> Result<(), Busy> {
+/// What the two accounts have afterwards: the amount is moved where the first has as much.
+fn moved(amount: u64, less: u64, more: u64) -> (u64, u64)
+    ensures { result.0 + result.1 ≡ less + more }
+{
+    match (less.checked_sub(amount), more.checked_add(amount)) {
+        (Some(less), Some(more)) => (less, more),
+        _ => (less, more),
+    }
+}
+
+/// Moves the amount from one account to another. What that adds to the history keeps the sum of all
+/// accounts.
+fn transfer(teller: &mut Teller, from: u64, to: u64, amount: u64) -> Result<(), Busy>
+    ensures { (added : List (Entry ℕ)) × (teller.new.client.mine ≡ teller.old.client.mine ++ added)
+        × EachKeepsTotal added }
+{
     if from == to {
         return Ok(());
     }
-    let pay = |less: u64, more: u64| match (less.checked_sub(amount), more.checked_add(amount)) {
-        (Some(less), Some(more)) => (less, more),
-        _ => (less, more),
-    };
-    teller.update_two(&NumKey(from), &NumKey(to), pay)?;
+    teller.update_two(&NumKey(from), &NumKey(to), |less, more| {
+        moved(amount, less, more)
+    })?;
     Ok(())
 }
 

@@ -1,0 +1,5 @@
+pub mod Replying
+pub mod Acting
+pub mod Sessions
+pub mod Alone
+pub mod Interleavings

@@ -1,0 +1,2 @@
+pub mod Sole
+pub mod Laws
