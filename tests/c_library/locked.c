@@ -353,6 +353,10 @@ static int32_t patiently(int32_t code) {
     return code;
 }
 
+/* Where threads share a processor, as under valgrind, the one that runs would hardly let the other come
+ * to a call. */
+static void let_run(void) { nanosleep(&(struct timespec){.tv_nsec = 1000000}, NULL); }
+
 static void *move_under_locks(void *of) {
     cuckoo_handle *handle = of;
     while (!is_over) {
@@ -367,7 +371,7 @@ static void *move_under_locks(void *of) {
         }
         check("the last moves", cuckoo_locked_insert(&locked, KEYS - 1, first) == CUCKOO_OK);
         check("it is unlocked", cuckoo_unlock(&locked, handle) == CUCKOO_OK);
-        sched_yield();
+        let_run();
     }
     return NULL;
 }
@@ -393,6 +397,7 @@ static void try_threads(void) {
                   entries[key].bound == 1 && entries[key].value == (entries[0].value + key) % KEYS);
         moves += entries[0].value != first;
         first = entries[0].value;
+        let_run();
     }
     is_over = 1;
     pthread_join(thread, NULL);
