@@ -1,5 +1,5 @@
 -- What stripes contain, which plain map that is, and which contents are lawful.
-use Rattle.std.specs.Prelude.{◌≡◌, ◌⊎◌, ℕ, ◌+◌, ◌*◌, ◌-◌, ◌/◌, ◌%◌, ◌^◌, ◌<◌, ◌≤◌, ◌==◌, if◌then◌else◌, List, [], ◌∷◌, Some, None, length, slice_index_or, flat_map, All}
+use Rattle.std.specs.Prelude.{◌≡◌, ◌⊎◌, ℕ, ◌+◌, ◌*◌, ◌-◌, ◌/◌, ◌%◌, ◌^◌, ◌<◌, ◌≤◌, ◌==◌, if◌then◌else◌, List, [], ◌∷◌, Some, None, length, replicate, slice_index_or, flat_map, All}
 use Rattle.std.specs.FinMap.{find, from_entries}
 use Rattle.ck_model.specs.declared.contents.Content.{Content}
 use Rattle.ck_model.specs.declared.settings.Settings.{Settings}
@@ -36,6 +36,10 @@ IsBucketOf hash p q b = (b ≡ index_of p (hash q)) ⊎ (b ≡ second_of p (hash
 -- the stripe is one of the name's two
 abbrev pub IsStripeOf : Layout → Name → ℕ → Type 0
 IsStripeOf k q t = (t ≡ index_of k.s (k.hash q)) ⊎ (t ≡ second_of k.s (k.hash q))
+
+-- one of 2^s stripes of a table of this power, whose slots are free
+abbrev pub empty_content : {V : Type 0} → ℕ → ℕ → Content V
+empty_content s power = record { power = power; rows = replicate (2 ^ (power - s)) (replicate 4 None); ledger = 0 }
 
 module _ {V : Type 0} where
   -- the pairs in the slots of a stripe

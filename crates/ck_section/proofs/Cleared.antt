@@ -6,10 +6,10 @@ use Rattle.std.proofs.lemmas.List.{length-map, get_or-map}
 use Rattle.ck_model.specs.Promise.{Name, name_cmp}
 use Rattle.ck_model.specs.Numbered.{AreDistinct, numbers, Holds}
 use Rattle.ck_model.specs.declared.contents.Content.{Content}
-use Rattle.ck_model.specs.Contents.{Layout, layout, Stripes, pairs_of, bindings, Binds, IsSound, Lawful}
+use Rattle.ck_model.specs.Contents.{Layout, layout, Stripes, empty_content, pairs_of, bindings, Binds, IsSound, Lawful}
 use Rattle.ck_model.specs.Sections.{Renewed}
 use Rattle.ck_model.proofs.Fresh.{no_pairs, sound-fresh}
-use Rattle.ck_stripe.specs.Stripe.{StripeState, empty_content}
+use Rattle.ck_stripe.specs.Stripe.{StripeState}
 use Rattle.ck_stripe.specs.Stripes.{no_stripe, stripe_at, contents_of}
 use Rattle.ck_stripe.specs.Tables.{AreAllHeld, AreSettled, IsTable}
 use Rattle.ck_section.specs.Clearing.{ClearsBindings}

@@ -11,13 +11,13 @@ use Rattle.std.proofs.lemmas.List.Elements.{All-set, All-replicate}
 use Rattle.std.proofs.lemmas.List.Sorted.{length_permutation}
 use Rattle.ck_model.specs.Promise.{Name}
 use Rattle.ck_model.specs.Slots.{Slot, slot_at, taken_in}
-use Rattle.ck_model.specs.Contents.{row_at}
+use Rattle.ck_model.specs.Contents.{row_at, empty_content}
 use Rattle.ck_model.specs.declared.contents.Content.{Content}
 use Rattle.ck_stripe.specs.declared.next.Next.{Next}
 use Rattle.ck_stripe.specs.declared.next.Next.TheVariants.{Absent, Reserved, Doubled}
 use Rattle.ck_stripe.specs.declared.stripe.Stripe.TheInside.{Inside}
 use Rattle.ck_stripe.specs.Doubling.{split_rows, doubled_content}
-use Rattle.ck_stripe.specs.Stripe.{StripeState, IsWellFormed, bucket_of, with_bucket, with_slot, content_of, empty_content}
+use Rattle.ck_stripe.specs.Stripe.{StripeState, IsWellFormed, bucket_of, with_bucket, with_slot, content_of}
 use Rattle.ck_stripe.specs.Next.{is_settled, count_of, room_of, blank_of, IsTwice}
 use Rattle.ck_stripe.specs.Stored.{shown_rows, shown, IsConsistent}
 use Rattle.ck_stripe.proofs.Splits.{length-split, four-split, split_moved}

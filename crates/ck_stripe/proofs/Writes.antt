@@ -11,8 +11,8 @@ use Rattle.std.proofs.lemmas.List.Elements.{All-replicate}
 use Rattle.ck_model.specs.declared.contents.Content.{Content}
 use Rattle.ck_model.specs.Promise.{Name}
 use Rattle.ck_model.specs.Slots.{Slot, slot_at, taken_in}
-use Rattle.ck_model.specs.Contents.{Layout, row_at, NamesApart, IsShaped, IsSound}
-use Rattle.ck_stripe.specs.Stripe.{StripeState, HasBucket, empty_content}
+use Rattle.ck_model.specs.Contents.{Layout, row_at, empty_content, NamesApart, IsShaped, IsSound}
+use Rattle.ck_stripe.specs.Stripe.{StripeState, HasBucket}
 use Rattle.ck_stripe.proofs.Doubled.{all_buckets}
 
 -- the number of pairs, where one row is written

@@ -1,5 +1,5 @@
 -- What contracts see of a stripe.
-use Rattle.std.specs.Prelude.{◌≡◌, ℕ, Bool, ◌+◌, ◌-◌, ◌/◌, ◌%◌, ◌^◌, ◌<◌, ◌≤◌, List, None, length, flat_map, replicate, slice_set}
+use Rattle.std.specs.Prelude.{◌≡◌, ℕ, Bool, ◌+◌, ◌-◌, ◌/◌, ◌%◌, ◌^◌, ◌<◌, ◌≤◌, List, length, flat_map, slice_set}
 use Rattle.ck_model.specs.Slots.{Slot, taken_in}
 use Rattle.ck_model.specs.declared.contents.Content.{Content}
 use Rattle.ck_model.specs.Contents.{row_at, IsShaped}
@@ -18,10 +18,6 @@ pub record IsWellFormed {V : Type 0} (stripe : StripeState V) : Type 0 where
   pub number : stripe.number < 2 ^ stripe.s
   pub most : stripe.content.power ≤ 26
   pub shaped : IsShaped stripe.s stripe.content
-
--- rows of free slots
-abbrev pub empty_content : {V : Type 0} → ℕ → ℕ → Content V
-empty_content s power = record { power = power; rows = replicate (2 ^ (power - s)) (replicate 4 None); ledger = 0 }
 
 module _ {V : Type 0} where
   -- the bucket is one of the stripe's

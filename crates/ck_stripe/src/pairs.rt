@@ -2,9 +2,9 @@
 ghost use Rattle.std.specs.Prelude.{◌≡◌, ◌≤◌, ◌+◌, ◌^◌, true, ◌++◌, length, map, flat_map, vec_len, vec_capacity};
 ghost use Rattle.ck_model.specs.Listing.{named};
 ghost use Rattle.ck_model.specs.Slots.{taken_in};
-ghost use Rattle.ck_model.specs.Contents.{pairs_in};
+ghost use Rattle.ck_model.specs.Contents.{pairs_in, empty_content};
 ghost use Rattle.ck_bucket.specs.Retaining.{AsksAboutRows};
-ghost use Rattle.ck_stripe.specs.Stripe.{empty_content, IsWellFormed};
+ghost use Rattle.ck_stripe.specs.Stripe.{IsWellFormed};
 
 use crate::stripe::{Stripe, pour_all};
 use ck_bucket::Rows;

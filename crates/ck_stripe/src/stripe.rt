@@ -7,11 +7,11 @@ ghost use Rattle.std.specs.List.Sorted.{IsPermutation};
 ghost use Rattle.ck_model.specs.Arithmetic.{partial_of};
 ghost use Rattle.ck_model.specs.Listing.{named};
 ghost use Rattle.ck_model.specs.Slots.{slot_at, taken_in, IsFull};
-ghost use Rattle.ck_model.specs.Contents.{Layout, pairs_in, IsSound};
+ghost use Rattle.ck_model.specs.Contents.{Layout, pairs_in, empty_content, IsSound};
 ghost use Rattle.ck_model.specs.Paths.{partial_in};
 ghost use Rattle.ck_bucket.specs.Bucket.{HasName, LacksName, ReplacesValue, ChangesValue, ClonesAreEqual};
 ghost use Rattle.ck_stripe.specs.Doubling.{split_rows, doubled_content, SendsEach};
-ghost use Rattle.ck_stripe.specs.Stripe.{HasBucket, bucket_of, with_bucket, with_slot, empty_content, IsWellFormed, HasNoSpare, IsReserved, shrunk, reserved};
+ghost use Rattle.ck_stripe.specs.Stripe.{HasBucket, bucket_of, with_bucket, with_slot, IsWellFormed, HasNoSpare, IsReserved, shrunk, reserved};
 
 use crate::grower::Grower;
 use crate::iter::Iter;

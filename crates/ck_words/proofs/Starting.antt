@@ -15,12 +15,12 @@ use Rattle.ck_model.specs.declared.contents.Content.{Content}
 use Rattle.ck_model.specs.Promise.{Name, name_cmp}
 use Rattle.ck_model.specs.Ranges.{AreInRange}
 use Rattle.ck_model.specs.Numbered.{IsIn, AreDistinct, Holds}
-use Rattle.ck_model.specs.Contents.{Layout, layout_of, Binds, bindings, IsSound, Lawful, whole}
+use Rattle.ck_model.specs.Contents.{Layout, layout_of, empty_content, Binds, bindings, IsSound, Lawful, whole}
 use Rattle.ck_model.proofs.Numbered.{Some-injective, same_option, in_listed, distinct_listed}
 use Rattle.ck_model.proofs.Names.{maps_alike}
 use Rattle.ck_model.proofs.Found.{bound_where}
 use Rattle.ck_model.proofs.Fresh.{no_pairs}
-use Rattle.ck_stripe.specs.Stripe.{StripeState, empty_content}
+use Rattle.ck_stripe.specs.Stripe.{StripeState}
 use Rattle.ck_stripe.proofs.Writes.{sound_empty}
 use Rattle.ck_core.specs.declared.view.View.{View}
 use Rattle.ck_core.specs.State.{Configuration, HistoryInvariant}

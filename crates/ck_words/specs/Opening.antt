@@ -1,7 +1,8 @@
 -- A table as it is opened.
 use Rattle.std.specs.Prelude.{ℕ, zero, suc, ◌-◌, ◌^◌, true, List, [], ◌∷◌, ◌++◌, Some}
 use Rattle.ck_model.specs.declared.settings.Settings.{Settings}
-use Rattle.ck_stripe.specs.Stripe.{StripeState, empty_content}
+use Rattle.ck_model.specs.Contents.{empty_content}
+use Rattle.ck_stripe.specs.Stripe.{StripeState}
 use Rattle.ck_words.specs.Rule.{StripeSlot}
 
 module _ {V : Type 0} where
