@@ -33,7 +33,7 @@ module _ {V : Type 0} where
 
   -- what a decision leaves of its caller's view
   abbrev pub decided : Configuration V → ℕ → Stripes V → List (Entry V) → Entry V → View V → View V
-  decided s t ks log e v = stepping s (Decided e) t (deciding v t ks log e)
+  decided s t ks log e v = stepping s (Decided e ks) t (deciding v t ks log e)
 
   pub law_of_answers : LawOfAnswers V
   law_of_answers k min_load callers id t ks e log s s2 v w law d at there =

@@ -121,13 +121,11 @@ found = record {
 
 pub opens : ExampleOpens
 opens = record {
-  contents = λ _. empty_stripe;
   words = refl;
   no_step = refl;
   homes_sized = refl;
   homes = homes;
   lawful = both_lawful empty_stripe (empty_sound 0 (omega arith)) refl;
-  power = λ t l. refl;
   empty_whole = maps_alike (bindings (both empty_stripe)) empty (λ q. empty_at q ∙ sym (get-empty name_cmp q));
   keeper = λ m. m;
   views = views;

@@ -25,7 +25,7 @@ use Rattle.ck_core.specs.Steps.Label.{Take, FindHeld, Give, Decide, GiveRest, Re
 use Rattle.ck_core.proofs.Lists.{at_within, each_set, each_snoc, set_else}
 use Rattle.ck_core.proofs.Places.{places_keep, places_take, places_back, places_split}
 use Rattle.ck_core.proofs.Traces.{traces_take, traces_miss, traces_back, traces_keep, traces_split, traces_join, watches_as, watches_all}
-use Rattle.ck_core.proofs.LegalTraces.{Returns, returns_gave, returns_decided, decided_same, decided_more}
+use Rattle.ck_core.proofs.LegalTraces.{Returns, returns_gave, returns_decided, decided_same, decided_more, content_more}
 use Rattle.ck_core.proofs.Sees.{sees_none}
 use Rattle.ck_core.proofs.Callers.{none_subhistory, seen_starts, knows_all, knows_same, callers_set, callers_add, callers_split, callers_join}
 
@@ -69,6 +69,8 @@ module _ {V : Type 0} (k : Layout) (callers : ℕ) (log : List (Entry V)) (s : C
         told = each_set (Told law.contents) s.views id w (law.told id v at) (λ j u _ a. law.told j u a);
         callers_known = callers_set callers log s.views id v w law.callers_known at refl (knows_all callers log v w (law.callers_known.knows id v at) refl refl refl refl refl);
         traced = traces_take (2 ^ k.s) callers log s law.contents law.places law.callers_known law.traced id v at number.0 number.1 t c log l free;
+        opened = law.opened;
+        contained = λ q l. content_more k.s law.opened s.trace (event v.by Took t) q law.contents (law.contained q l);
         decided = decided_same log s.trace (event v.by Took t) law.decided refl;
         legal = law.legal;
       }
@@ -84,6 +86,8 @@ module _ {V : Type 0} (k : Layout) (callers : ℕ) (log : List (Entry V)) (s : C
     told = each_set (Told law.contents) s.views id w told (λ j u _ a. law.told j u a);
     callers_known = callers_set callers log s.views id v w law.callers_known at same kn;
     traced = traces_keep (2 ^ k.s) callers log s law.contents law.places law.callers_known law.traced id v at w held by watches;
+    opened = law.opened;
+    contained = law.contained;
     decided = law.decided;
     legal = law.legal;
   }
@@ -100,6 +104,8 @@ module _ {V : Type 0} (k : Layout) (callers : ℕ) (log : List (Entry V)) (s : C
         told = each_set (Told law.contents) s.views id w (law.told id v at) (λ j u _ a. law.told j u a);
         callers_known = callers_set callers log s.views id v w law.callers_known at refl (knows_same callers log v w (law.callers_known.knows id v at) refl refl refl refl refl);
         traced = traces_miss (2 ^ k.s) callers log s law.contents law.places law.callers_known law.traced id v at number.0 number.1 t l one not_own law.holders;
+        opened = law.opened;
+        contained = λ q l. content_more k.s law.opened s.trace (event v.by Missed t) q law.contents (law.contained q l);
         decided = decided_same log s.trace (event v.by Missed t) law.decided refl;
         legal = law.legal;
       }
@@ -146,21 +152,23 @@ module _ {V : Type 0} (k : Layout) (callers : ℕ) (log : List (Entry V)) (s : C
       let number = law.holders id v at t old.0 old.1 in
       traces_back (2 ^ k.s) callers log s law.contents law.places law.callers_known law.traced id v at number.0 number.1 step (returns number.0 number.1) ks t c w same here is by steps heard
 
-  pub give_keeps : (t : ℕ) (c : Content V) (g : Option (Name × Reason)) → Holds v.held t c → HistoryInvariant k callers log (sent_home Gave s id t c (giving v t c v.held g))
+  pub give_keeps : (t : ℕ) (c : Content V) (g : Option (Name × Reason)) → Holds v.held t c → HistoryInvariant k callers log (sent_home (Gave []) s id t c (giving v t c v.held g))
   give_keeps t c g h =
       let w : View V = giving v t c v.held g in
-      let now : View V = stepping s Gave t w in
+      let now : View V = stepping s (Gave []) t w in
       let f = law.places.holds id v at t c h in
       record {
         contents = law.contents;
-        places = places_back (2 ^ k.s) s law.contents law.places id v at Gave v.held t c w law.contents refl h refl (λ q _. refl) (λ q d x. (law.places.holds id v at q d x).3);
+        places = places_back (2 ^ k.s) s law.contents law.places id v at (Gave []) v.held t c w law.contents refl h refl (λ q _. refl) (λ q d x. (law.places.holds id v at q d x).3);
         holders = each_set IsHolder s.views id now (λ q d _. law.holders id v at t c h) (λ j u _ a. law.holders j u a);
         all_seen = each_set (HasSeen log) s.views id now (λ all. absurd (gone_home t v.held (all t f.0))) (λ j u _ a. law.all_seen j u a);
         lawful = law.lawful;
         told = each_set (Told law.contents) s.views id now (λ u m. (max_le v.told (c.power) ((law.contents u).power) (law.told id v at u m).0 (same_power law.contents law.lawful t u c f.0 m f.3), (law.told id v at u m).1)) (λ j u _ a. law.told j u a);
         callers_known = callers_set callers log s.views id v now law.callers_known at refl (knows_same callers log v now (law.callers_known.knows id v at) refl refl refl refl refl);
-        traced = back Gave (λ m _. returns_gave m) v.held t c w refl h refl refl refl refl;
-        decided = decided_same log s.trace (event w.by Gave t) law.decided refl;
+        traced = back (Gave []) (λ m _. returns_gave m []) v.held t c w refl h refl refl refl refl;
+        opened = law.opened;
+        contained = λ q l. content_more k.s law.opened s.trace (event w.by (Gave []) t) q law.contents (law.contained q l);
+        decided = decided_same log s.trace (event w.by (Gave []) t) law.decided refl;
         legal = law.legal;
       }
 
@@ -193,30 +201,32 @@ module _ {V : Type 0} (k : Layout) (callers : ℕ) (log : List (Entry V)) (s : C
           let d = held_of_in u.held t (all t below) in
           other (sym (law.places.holds j u a t d.0 d.1).2 ∙ (law.places.holds id v at t was_held.0 was_held.1).2)
 
-    pub decide_keeps : (e : Entry V) → v.by ≡ Some e.by → Section k v.held e.call e.reply ks → HistoryInvariant k callers (log ++ e ∷ []) (sent_home (Decided e) s id t c (deciding v t ks log e))
+    pub decide_keeps : (e : Entry V) → v.by ≡ Some e.by → Section k v.held e.call e.reply ks → HistoryInvariant k callers (log ++ e ∷ []) (sent_home (Decided e ks) s id t c (deciding v t ks log e))
     decide_keeps e by sec =
         let w : View V = deciding v t ks log e in
-        let now : View V = stepping s (Decided e) t w in
+        let now : View V = stepping s (Decided e ks) t w in
         let z = section_of_whole k law.contents v.held ks law.lawful agrees e.call e.reply sec in
         record {
           contents = contents2;
-          places = placed sec.renewed (Decided e) w refl;
+          places = placed sec.renewed (Decided e ks) w refl;
           holders = each_set IsHolder s.views id now (λ q d _. (e.by, by)) (λ j u _ a. law.holders j u a);
           all_seen = each_set (HasSeen (log ++ e ∷ [])) s.views id now (λ all. absurd (gone_home t ks (all t (below sec.renewed)))) (λ j u other a all. absurd (others_lack sec.renewed j u other a all));
           lawful = z.0;
           told = each_set (Told contents2) s.views id now (others_told sec.renewed id v at) (λ j u _ a. others_told sec.renewed j u a);
           callers_known = callers_add callers log s.views id v now e law.callers_known at by refl refl refl refl refl;
-          traced = back (Decided e) (λ m is. returns_decided m e (Some-injective e.by m (sym by ∙ is))) ks t c w sec.renewed.same here refl refl refl refl;
-          decided = decided_more log s.trace (event w.by (Decided e) t) e law.decided refl;
+          traced = back (Decided e ks) (λ m is. returns_decided m e ks (Some-injective e.by m (sym by ∙ is))) ks t c w sec.renewed.same here refl refl refl refl;
+          opened = law.opened;
+          contained = λ q l. content_more k.s law.opened s.trace (event w.by (Decided e ks) t) q law.contents (law.contained q l);
+          decided = decided_more log s.trace (event w.by (Decided e ks) t) e law.decided refl;
           legal = leads_snoc _ (bindings (whole k law.contents)) (bindings (whole k contents2)) log e law.legal z.1;
         }
 
-    pub renew_keeps : (g : Option (Name × Reason)) → IdentitySection k v.held ks → HistoryInvariant k callers log (sent_home Gave s id t c (renewing v t c ks g))
+    pub renew_keeps : (g : Option (Name × Reason)) → IdentitySection k v.held ks → HistoryInvariant k callers log (sent_home (Gave ks) s id t c (renewing v t c ks g))
     renew_keeps g sec =
         let w : View V = renewing v t c ks g in
-        let now : View V = stepping s Gave t w in
+        let now : View V = stepping s (Gave ks) t w in
         let z = identity_of_whole k law.contents v.held ks law.lawful agrees sec in
-        let p = placed sec.renewed Gave w refl in
+        let p = placed sec.renewed (Gave ks) w refl in
         let at_t : contents2 t ≡ c = over_hit ks law.contents (apart sec.renewed) t c here in
         let d = was_held sec.renewed in
         let l = below sec.renewed in
@@ -228,8 +238,10 @@ module _ {V : Type 0} (k : Layout) (callers : ℕ) (log : List (Entry V)) (s : C
           lawful = z.0;
           told = each_set (Told contents2) s.views id now (λ u m. (max_le v.told (c.power) ((contents2 u).power) (others_told sec.renewed id v at u m).0 (same_power contents2 z.0 t u c l m at_t), (others_told sec.renewed id v at u m).1)) (λ j u _ a. others_told sec.renewed j u a);
           callers_known = callers_set callers log s.views id v now law.callers_known at refl (knows_same callers log v now (law.callers_known.knows id v at) refl refl refl refl refl);
-          traced = back Gave (λ m _. returns_gave m) ks t c w sec.renewed.same here refl refl refl refl;
-          decided = decided_same log s.trace (event w.by Gave t) law.decided refl;
+          traced = back (Gave ks) (λ m _. returns_gave m ks) ks t c w sec.renewed.same here refl refl refl refl;
+          opened = law.opened;
+          contained = λ q l. content_more k.s law.opened s.trace (event w.by (Gave ks) t) q law.contents (law.contained q l);
+          decided = decided_same log s.trace (event w.by (Gave ks) t) law.decided refl;
           legal = subst (After log) (sym z.1) law.legal;
         }
 
@@ -250,6 +262,8 @@ module _ {V : Type 0} (k : Layout) (callers : ℕ) (log : List (Entry V)) (s : C
     told = each_snoc (Told law.contents) (set s.views id left) right (each_set (Told law.contents) s.views id left tl (λ j u _ a. law.told j u a)) tr;
     callers_known = callers_split callers log s.views id v left right law.callers_known at of_left of_right kl kr;
     traced = traces_split (2 ^ k.s) callers log s law.contents law.places law.callers_known law.traced id v at left right same by none wl wr;
+    opened = law.opened;
+    contained = law.contained;
     decided = law.decided;
     legal = law.legal;
   }
@@ -333,23 +347,30 @@ module _ {V : Type 0} (k : Layout) (callers : ℕ) (log : List (Entry V)) (s : C
             })
             refl (knows_nothing spent refl refl (log, refl) refl);
         traced = traces_join (2 ^ k.s) callers log s law.contents law.places law.callers_known law.traced id v at other w there of_both;
+        opened = law.opened;
+        contained = law.contained;
         decided = law.decided;
         legal = law.legal;
       }
 
 module _ {V : Type 0} (k : Layout) (min_load callers : ℕ) where
+  -- What a step of any kind leaves. Contents are those since the same opening.
+  pub step_tells : (log : List (Entry V)) (id : ℕ) (m : Label V) (s s2 : Configuration V) (law : HistoryInvariant k callers log s) → Transition k min_load log id m s s2 → (after : HistoryInvariant k callers (grown log m) s2) × (after.opened ≡ law.opened)
+  unfolding take_keeps find_keeps give_keeps decide_keeps renew_keeps seen_keeps look_keeps split_keeps open_keeps tell_keeps join_keeps
+  step_tells log id (Take t) s s2 law d = subst (λ (u : Configuration V). (after : HistoryInvariant k callers log u) × (after.opened ≡ law.opened)) (sym d.8) (take_keeps k callers log s law id d.0 d.2 t d.1 d.3 d.4 d.6 d.7, refl)
+  step_tells log id (FindHeld t) s s2 law d = subst (λ (u : Configuration V). (after : HistoryInvariant k callers log u) × (after.opened ≡ law.opened)) (sym d.6) (find_keeps k callers log s law id d.0 d.1 t d.2 d.3 d.4 d.5, refl)
+  step_tells log id (Give t g) s s2 law d = subst (λ (u : Configuration V). (after : HistoryInvariant k callers log u) × (after.opened ≡ law.opened)) (sym d.5) (give_keeps k callers log s law id d.0 d.2 t d.1 g d.3, refl)
+  step_tells log id (Decide t ks e) s s2 law d = subst (λ (u : Configuration V). (after : HistoryInvariant k callers (log ++ e ∷ []) u) × (after.opened ≡ law.opened)) (sym d.6) (decide_keeps k callers log s law id d.0 d.2 ks t d.1 d.4 e d.3 d.5, refl)
+  step_tells log id (GiveRest t) s s2 law d = subst (λ (u : Configuration V). (after : HistoryInvariant k callers log u) × (after.opened ≡ law.opened)) (sym d.4) (give_keeps k callers log s law id d.0 d.2 t d.1 None d.3, refl)
+  step_tells log id (Renew t ks g) s s2 law d = subst (λ (u : Configuration V). (after : HistoryInvariant k callers log u) × (after.opened ≡ law.opened)) (sym d.6) (renew_keeps k callers log s law id d.0 d.2 ks t d.1 d.3 g d.4, refl)
+  step_tells log id (Look t p) s s2 law d = subst (λ (u : Configuration V). (after : HistoryInvariant k callers log u) × (after.opened ≡ law.opened)) (sym d.5) (look_keeps k callers log s law id d.0 d.1 p d.4, refl)
+  step_tells log id Open s s2 law d = subst (λ (u : Configuration V). (after : HistoryInvariant k callers log u) × (after.opened ≡ law.opened)) (sym d.5) (open_keeps k callers log s law id d.0 d.3 d.1 d.2 d.4, refl)
+  step_tells log id Tell s s2 law d = subst (λ (u : Configuration V). (after : HistoryInvariant k callers log u) × (after.opened ≡ law.opened)) (sym d.2) (tell_keeps k callers log s law id d.0 d.1, refl)
+  step_tells log id (Join other) s s2 law d = subst (λ (u : Configuration V). (after : HistoryInvariant k callers log u) × (after.opened ≡ law.opened)) (sym d.6) (join_keeps k callers log s law id d.0 d.2 other d.1 d.3 d.4 d.5, refl)
+
   -- a step of any kind
   pub step_keeps : (log : List (Entry V)) (id : ℕ) (m : Label V) (s s2 : Configuration V) → HistoryInvariant k callers log s → Transition k min_load log id m s s2 → HistoryInvariant k callers (grown log m) s2
-  step_keeps log id (Take t) s s2 law d = subst (HistoryInvariant k callers log) (sym d.8) (take_keeps k callers log s law id d.0 d.2 t d.1 d.3 d.4 d.6 d.7)
-  step_keeps log id (FindHeld t) s s2 law d = subst (HistoryInvariant k callers log) (sym d.6) (find_keeps k callers log s law id d.0 d.1 t d.2 d.3 d.4 d.5)
-  step_keeps log id (Give t g) s s2 law d = subst (HistoryInvariant k callers log) (sym d.5) (give_keeps k callers log s law id d.0 d.2 t d.1 g d.3)
-  step_keeps log id (Decide t ks e) s s2 law d = subst (HistoryInvariant k callers (log ++ e ∷ [])) (sym d.6) (decide_keeps k callers log s law id d.0 d.2 ks t d.1 d.4 e d.3 d.5)
-  step_keeps log id (GiveRest t) s s2 law d = subst (HistoryInvariant k callers log) (sym d.4) (give_keeps k callers log s law id d.0 d.2 t d.1 None d.3)
-  step_keeps log id (Renew t ks g) s s2 law d = subst (HistoryInvariant k callers log) (sym d.6) (renew_keeps k callers log s law id d.0 d.2 ks t d.1 d.3 g d.4)
-  step_keeps log id (Look t p) s s2 law d = subst (HistoryInvariant k callers log) (sym d.5) (look_keeps k callers log s law id d.0 d.1 p d.4)
-  step_keeps log id Open s s2 law d = subst (HistoryInvariant k callers log) (sym d.5) (open_keeps k callers log s law id d.0 d.3 d.1 d.2 d.4)
-  step_keeps log id Tell s s2 law d = subst (HistoryInvariant k callers log) (sym d.2) (tell_keeps k callers log s law id d.0 d.1)
-  step_keeps log id (Join other) s s2 law d = subst (HistoryInvariant k callers log) (sym d.6) (join_keeps k callers log s law id d.0 d.2 other d.1 d.3 d.4 d.5)
+  step_keeps log id m s s2 law d = (step_tells log id m s s2 law d).0
 
   pub run_keeps : (ms : List (ℕ × Label V)) (log : List (Entry V)) (s : Configuration V) (log2 : List (Entry V)) (s2 : Configuration V) → HistoryInvariant k callers log s → Execution k min_load log s ms log2 s2 → HistoryInvariant k callers log2 s2
   run_keeps [] log s log2 s2 law r = subst (λ (x : List (Entry V) × Configuration V). HistoryInvariant k callers x.0 x.1) (λ i. (r.0 i, r.1 i)) law

@@ -8,6 +8,9 @@ use Rattle.std.proofs.lemmas.List.Sums.{fold-append}
 use Rattle.std.proofs.lemmas.Grind.{flat_map-append}
 use Rattle.ck_model.specs.declared.history.Entry.{Entry}
 use Rattle.ck_model.specs.Promise.{subhistory}
+use Rattle.ck_model.specs.Numbered.{over}
+use Rattle.ck_model.specs.declared.contents.Content.{Content}
+use Rattle.ck_model.specs.Contents.{Stripes, empty_content}
 use Rattle.ck_model.proofs.Numbered.{if_same, if_else}
 use Rattle.ck_model.proofs.Histories.{subhistory-append}
 use Rattle.ck_core.specs.declared.trace.LockStep.{LockStep}
@@ -15,6 +18,7 @@ use Rattle.ck_core.specs.declared.trace.LockStep.TheVariants.{Took, Missed, Gave
 use Rattle.ck_core.specs.declared.trace.LockEvent.{LockEvent}
 use Rattle.ck_core.specs.State.{NoneBy, by_of}
 use Rattle.ck_core.specs.Trace.{held_after, holder, Fits, IsLegalTrace, decided_by, decided_in, steps_of, missed_by, missed_in}
+use Rattle.ck_core.specs.Contained.{told_by, content_in}
 use Rattle.ck_core.proofs.Lists.{cut_snoc}
 
 -- which step it is
@@ -27,37 +31,37 @@ IsMissing Missed = Unit {0}
 IsMissing step = ⊥
 
 IsGiving : {V : Type 0} → LockStep V → Type 0
-IsGiving Gave = Unit {0}
+IsGiving (Gave ks) = Unit {0}
 IsGiving step = ⊥
 
 IsDeciding : {V : Type 0} → LockStep V → Type 0
-IsDeciding (Decided x) = Unit {0}
+IsDeciding (Decided x ks) = Unit {0}
 IsDeciding step = ⊥
 
 entry_of : {V : Type 0} → Entry V → LockStep V → Entry V
-entry_of d (Decided x) = x
+entry_of d (Decided x ks) = x
 entry_of d step = d
 
 module _ {V : Type 0} where
   pub taking_fits : (m : ℕ) (h : Option ℕ) → h ≡ None → Fits {V = V} Took m h
   unfolding IsTaking
-  taking_fits m h is = ((λ _. is), (λ e. absurd (subst IsTaking e tt)), (λ e. absurd (subst IsTaking e tt)), (λ x e. absurd (subst IsTaking e tt)))
+  taking_fits m h is = ((λ _. is), (λ e. absurd (subst IsTaking e tt)), (λ ks e. absurd (subst IsTaking e tt)), (λ x ks e. absurd (subst IsTaking e tt)))
 
   pub missing_fits : (m : ℕ) (h : Option ℕ) → h ≢ None → h ≢ Some m → Fits {V = V} Missed m h
   unfolding IsMissing
-  missing_fits m h some other = ((λ e. absurd (subst IsMissing e tt)), (λ _. (some, other)), (λ e. absurd (subst IsMissing e tt)), (λ x e. absurd (subst IsMissing e tt)))
+  missing_fits m h some other = ((λ e. absurd (subst IsMissing e tt)), (λ _. (some, other)), (λ ks e. absurd (subst IsMissing e tt)), (λ x ks e. absurd (subst IsMissing e tt)))
 
-  pub giving_fits : (m : ℕ) (h : Option ℕ) → h ≡ Some m → Fits {V = V} Gave m h
+  pub giving_fits : (m : ℕ) (h : Option ℕ) (ks : Stripes V) → h ≡ Some m → Fits (Gave ks) m h
   unfolding IsGiving
-  giving_fits m h is = ((λ e. absurd (subst IsGiving e tt)), (λ e. absurd (subst IsGiving e tt)), (λ _. is), (λ x e. absurd (subst IsGiving e tt)))
+  giving_fits m h ks is = ((λ e. absurd (subst IsGiving e tt)), (λ e. absurd (subst IsGiving e tt)), (λ _ _. is), (λ x ls e. absurd (subst IsGiving e tt)))
 
-  pub deciding_fits : (m : ℕ) (h : Option ℕ) (x : Entry V) → h ≡ Some m → x.by ≡ m → Fits (Decided x) m h
+  pub deciding_fits : (m : ℕ) (h : Option ℕ) (x : Entry V) (ks : Stripes V) → h ≡ Some m → x.by ≡ m → Fits (Decided x ks) m h
   unfolding IsDeciding entry_of
-  deciding_fits m h x is own = (
+  deciding_fits m h x ks is own = (
     λ e. absurd (subst IsDeciding e tt),
     λ e. absurd (subst IsDeciding e tt),
-    λ e. absurd (subst IsDeciding e tt),
-    λ y e. (is, ap (λ (z : Entry V). z.by) (sym (ap (entry_of x) e)) ∙ own),
+    λ ls e. absurd (subst IsDeciding e tt),
+    λ y ls e. (is, ap (λ (z : Entry V). z.by) (sym (ap (entry_of x) e)) ∙ own),
   )
 
   abbrev pub nothing : List (Entry V)
@@ -71,11 +75,11 @@ module _ {V : Type 0} where
     pub fits : (h : Option ℕ) → h ≡ Some m → Fits step m h
     pub lets_go : (h : Option ℕ) → held_after step m h ≡ None
 
-  pub returns_gave : (m : ℕ) → Returns m Gave
-  returns_gave m = record { fits = giving_fits m; lets_go = λ h. refl }
+  pub returns_gave : (m : ℕ) (ks : Stripes V) → Returns m (Gave ks)
+  returns_gave m ks = record { fits = λ h is. giving_fits m h ks is; lets_go = λ h. refl }
 
-  pub returns_decided : (m : ℕ) (x : Entry V) → x.by ≡ m → Returns m (Decided x)
-  returns_decided m x own = record { fits = λ h is. deciding_fits m h x is own; lets_go = λ h. refl }
+  pub returns_decided : (m : ℕ) (x : Entry V) (ks : Stripes V) → x.by ≡ m → Returns m (Decided x ks)
+  returns_decided m x ks own = record { fits = λ h is. deciding_fits m h x ks is own; lets_go = λ h. refl }
 
   -- who holds a stripe after one step more
   holder_more : (es : List (LockEvent V)) (e : LockEvent V) (t : ℕ) → holder (es ++ e ∷ []) t ≡ (if e.stripe == t then held_after e.step e.by (holder es t) else holder es t)
@@ -142,11 +146,11 @@ module _ {V : Type 0} where
   none_beyond callers m (e ∷ es) le below = (λ is. let l = All-head (λ (x : LockEvent V). x.by < callers) e es below in omega arith, none_beyond callers m es le (All-tail (λ (x : LockEvent V). x.by < callers) e es below))
 
   -- the entries of one's own steps
-  decided_own : (m by : ℕ) (step : LockStep V) → ((x : Entry V) → step ≡ Decided x → x.by ≡ by) → (if by == m then decided_by step else []) ≡ subhistory m (decided_by step)
+  decided_own : (m by : ℕ) (step : LockStep V) → ((x : Entry V) (ks : Stripes V) → step ≡ Decided x ks → x.by ≡ by) → (if by == m then decided_by step else []) ≡ subhistory m (decided_by step)
   decided_own m by Took own = if_none m by
   decided_own m by Missed own = if_none m by
-  decided_own m by Gave own = if_none m by
-  decided_own m by (Decided x) own = ap (λ n. if n == m then x ∷ [] else []) (sym (own x refl))
+  decided_own m by (Gave ks) own = if_none m by
+  decided_own m by (Decided x ks) own = ap (λ n. if n == m then x ∷ [] else []) (sym (own x ks refl))
 
   own_first : (m : ℕ) (e : LockEvent V) (es : List (LockEvent V)) → decided_in (steps_of m (e ∷ es)) ≡ (if e.by == m then decided_by e.step else []) ++ decided_in (steps_of m es)
   own_first m e es = dite (ℕ_discrete e.by m)
@@ -157,7 +161,7 @@ module _ {V : Type 0} where
   decides_own m before [] legal = refl
   decides_own m before (e ∷ es) legal =
       let rest = decides_own m (before ++ e ∷ []) es (subst IsLegalTrace (sym (append_assoc before (e ∷ []) es)) legal) in
-      own_first m e es ∙ ((λ i. decided_own m e.by e.step (λ x is. ((legal before e es refl).3 x is).1) i ++ rest i) ∙ sym (subhistory-append m (decided_by e.step) (decided_in es)))
+      own_first m e es ∙ ((λ i. decided_own m e.by e.step (λ x ks is. ((legal before e es refl).3 x ks is).1) i ++ rest i) ∙ sym (subhistory-append m (decided_by e.step) (decided_in es)))
 
   -- a number that is no caller's has decided nothing in a legal trace of callers' steps
   pub no_others : (callers m : ℕ) (es : List (LockEvent V)) → callers ≤ m → IsLegalTrace es → All (λ (e : LockEvent V). e.by < callers) es → subhistory m (decided_in es) ≡ []
@@ -175,3 +179,12 @@ module _ {V : Type 0} where
 
   pub decided_more : (log : List (Entry V)) (es : List (LockEvent V)) (e : LockEvent V) (x : Entry V) → decided_in es ≡ log → decided_by e.step ≡ x ∷ [] → decided_in (es ++ e ∷ []) ≡ log ++ x ∷ []
   decided_more log es e x is one = decided_append es (e ∷ []) ∙ λ i. is i ++ (one i ++ [])
+
+  -- but for the stripes of a list, two give the same where they are the same
+  over_same : (hs : Stripes V) (w v : ℕ → Content V) (t : ℕ) → w t ≡ v t → over hs w t ≡ over hs v t
+  over_same [] w v t is = is
+  over_same (h ∷ hs) w v t is = λ i. if h.0 == t then h.1 else over_same hs w v t is i
+
+  -- what a stripe contains after one step more
+  pub content_more : (s p : ℕ) (es : List (LockEvent V)) (e : LockEvent V) (t : ℕ) (w : ℕ → Content V) → content_in s p es t ≡ w t → content_in s p (es ++ e ∷ []) t ≡ over (told_by e.step) w t
+  content_more s p es e t w is = fold-append (λ (c : Content V) (x : LockEvent V). over (told_by x.step) (λ _. c) t) (empty_content s p) es (e ∷ []) ∙ over_same (told_by e.step) (λ _. content_in s p es t) w t is

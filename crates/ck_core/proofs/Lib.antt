@@ -15,6 +15,7 @@ pub mod ExampleRun
 pub mod ExampleOrder
 pub mod Answered
 pub mod Notes
+pub mod Moments
 pub mod WrongSteps
 pub mod WrongResults
 pub mod Meeting

@@ -15,13 +15,11 @@ use Rattle.ck_core.proofs.ExampleRun.{opens, empty_sound}
 
 pub meeting_opens : MeetingOpens
 meeting_opens = record {
-  contents = opens.contents;
   words = refl;
   no_step = refl;
   homes_sized = refl;
   homes = opens.homes;
   lawful = opens.lawful;
-  power = opens.power;
   empty_whole = opens.empty_whole;
   keeper = λ _. 0;
   views = views;

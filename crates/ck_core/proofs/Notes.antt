@@ -1,5 +1,5 @@
 -- What callers noted of stripes was there at a moment of the run.
-use Rattle.std.proofs.Common.{◌≡◌, ◌⊎◌, ℕ, ◌-◌, suc, zero, inl, inr, List, [], ◌∷◌, ◌++◌, length, set, reverse, sym, refl, ap, ◌∙◌, subst, ⊎_elim, arith, append_assoc, append-nil, Option, Some, None}
+use Rattle.std.proofs.Common.{◌≡◌, ◌⊎◌, ℕ, ◌-◌, ◌≤◌, suc, zero, inl, inr, List, [], ◌∷◌, ◌++◌, length, set, reverse, sym, refl, ap, ◌∙◌, subst, ⊎_elim, arith, append_assoc, append-nil, Option, Some, None}
 use mathlib.Core.Option.{some}
 use lib.ListN.{get_elem?}
 use Rattle.ck_model.specs.declared.history.Entry.{Entry}
@@ -140,19 +140,33 @@ module _ {V : Type 0} (k : Layout) (min_load callers : ℕ) (log : List (Entry V
 
 module _ {V : Type 0} (k : Layout) (min_load : ℕ) where
   -- a trace goes on
-  step_trace : (log : List (Entry V)) (id : ℕ) (m : Label V) (s s2 : Configuration V) → Transition k min_load log id m s s2 → StartsWith s2.trace s.trace
+  pub step_trace : (log : List (Entry V)) (id : ℕ) (m : Label V) (s s2 : Configuration V) → Transition k min_load log id m s s2 → StartsWith s2.trace s.trace
   step_trace log id (Take t) s s2 d = (event d.0.by Took t ∷ [], ap (λ (u : Configuration V). u.trace) d.8)
   step_trace log id (FindHeld t) s s2 d = (event d.0.by Missed t ∷ [], ap (λ (u : Configuration V). u.trace) d.6)
-  step_trace log id (Give t g) s s2 d = (event d.0.by Gave t ∷ [], ap (λ (u : Configuration V). u.trace) d.5)
-  step_trace log id (Decide t ks e) s s2 d = (event d.0.by (Decided e) t ∷ [], ap (λ (u : Configuration V). u.trace) d.6)
-  step_trace log id (GiveRest t) s s2 d = (event d.0.by Gave t ∷ [], ap (λ (u : Configuration V). u.trace) d.4)
-  step_trace log id (Renew t ks g) s s2 d = (event d.0.by Gave t ∷ [], ap (λ (u : Configuration V). u.trace) d.6)
+  step_trace log id (Give t g) s s2 d = (event d.0.by (Gave []) t ∷ [], ap (λ (u : Configuration V). u.trace) d.5)
+  step_trace log id (Decide t ks e) s s2 d = (event d.0.by (Decided e ks) t ∷ [], ap (λ (u : Configuration V). u.trace) d.6)
+  step_trace log id (GiveRest t) s s2 d = (event d.0.by (Gave []) t ∷ [], ap (λ (u : Configuration V). u.trace) d.4)
+  step_trace log id (Renew t ks g) s s2 d = (event d.0.by (Gave ks) t ∷ [], ap (λ (u : Configuration V). u.trace) d.6)
   step_trace log id (Look t p) s s2 d = ([], ap (λ (u : Configuration V). u.trace) d.5 ∙ sym (append-nil s.trace))
   step_trace log id Open s s2 d = ([], ap (λ (u : Configuration V). u.trace) d.5 ∙ sym (append-nil s.trace))
   step_trace log id Tell s s2 d = ([], ap (λ (u : Configuration V). u.trace) d.2 ∙ sym (append-nil s.trace))
   step_trace log id (Join other) s s2 d = ([], ap (λ (u : Configuration V). u.trace) d.6 ∙ sym (append-nil s.trace))
 
-  run_trace : (ms : List (ℕ × Label V)) (log : List (Entry V)) (s : Configuration V) (log2 : List (Entry V)) (s2 : Configuration V) → Execution k min_load log s ms log2 s2 → StartsWith s2.trace s.trace
+  -- a step on a word is one
+  pub one_step : (log : List (Entry V)) (id : ℕ) (m : Label V) (s s2 : Configuration V) (d : Transition k min_load log id m s s2) → length (step_trace log id m s s2 d).0 ≤ 1
+  unfolding step_trace
+  one_step log id (Take t) s s2 d = omega arith
+  one_step log id (FindHeld t) s s2 d = omega arith
+  one_step log id (Give t g) s s2 d = omega arith
+  one_step log id (Decide t ks e) s s2 d = omega arith
+  one_step log id (GiveRest t) s s2 d = omega arith
+  one_step log id (Renew t ks g) s s2 d = omega arith
+  one_step log id (Look t p) s s2 d = omega arith
+  one_step log id Open s s2 d = omega arith
+  one_step log id Tell s s2 d = omega arith
+  one_step log id (Join other) s s2 d = omega arith
+
+  pub run_trace : (ms : List (ℕ × Label V)) (log : List (Entry V)) (s : Configuration V) (log2 : List (Entry V)) (s2 : Configuration V) → Execution k min_load log s ms log2 s2 → StartsWith s2.trace s.trace
   run_trace [] log s log2 s2 r = ([], ap (λ (u : Configuration V). u.trace) (sym r.1) ∙ sym (append-nil s.trace))
   run_trace (m ∷ ms) log s log2 s2 r =
       let one = step_trace log m.0 m.1 s r.0 r.1 in

@@ -9,16 +9,20 @@ use Rattle.ck_model.specs.declared.settings.Settings.{Settings}
 use Rattle.ck_core.specs.declared.view.View.{View}
 use Rattle.ck_model.specs.Numbered.{IsIn, AreDistinct, numbers, Holds}
 use Rattle.ck_model.specs.declared.contents.Content.{Content}
-use Rattle.ck_model.specs.Contents.{Layout}
+use Rattle.ck_model.specs.Contents.{Layout, empty_content}
 use Rattle.ck_model.specs.Sections.{HasAll}
 use Rattle.ck_core.specs.declared.trace.LockEvent.{LockEvent}
 use Rattle.ck_core.specs.Trace.{IsLegalTrace, decided_in, holder}
+use Rattle.ck_core.specs.Contained.{content_in}
 use Rattle.ck_core.specs.State.{Configuration, HasNumber, owned, Knows, Watches, HistoryInvariant}
 use Rattle.ck_core.specs.Steps.{Label, Execution, initial_view, Opening}
 use Rattle.ck_core.proofs.LegalTraces.{legal_none}
 use Rattle.ck_core.proofs.Keeps.{run_keeps}
 
 module _ {V : Type 0} (k : Layout) (set : Settings) (callers p : ℕ) (s : Configuration V) (o : Opening k set callers p s) where
+  abbrev nothing : Content V
+  nothing = empty_content k.s p
+
   word_at : (t : ℕ) → t < 2 ^ k.s → get_or s.words t 0 ≡ 0
   word_at t l = ap (λ ws. get_or ws t 0) o.words ∙ get_or-replicate (2 ^ k.s) t 0 0 l
 
@@ -36,7 +40,7 @@ module _ {V : Type 0} (k : Layout) (set : Settings) (callers p : ℕ) (s : Confi
 
   pub opens : HistoryInvariant k callers [] s
   opens = record {
-    contents = o.contents;
+    contents = λ _. nothing;
     places = record {
       owner = λ _. 0;
       words_sized = ap length o.words ∙ length-replicate (2 ^ k.s) 0;
@@ -45,13 +49,13 @@ module _ {V : Type 0} (k : Layout) (set : Settings) (callers p : ℕ) (s : Confi
       at_home = λ t l _. o.homes t l;
       is_held = λ t l one. let e = word_at t l in absurd (omega arith);
       is_out = λ t l one. let e = word_at t l in absurd (omega arith);
-      holds = each_new (λ j v. (t : ℕ) (c : Content V) → Holds v.held t c → (t < 2 ^ k.s) × (get_or s.words t 0 ≡ 1) × (0 ≡ j) × (o.contents t ≡ c)) (λ j ms _ _ t c h. absurd h);
+      holds = each_new (λ j v. (t : ℕ) (c : Content V) → Holds v.held t c → (t < 2 ^ k.s) × (get_or s.words t 0 ≡ 1) × (0 ≡ j) × (nothing ≡ c)) (λ j ms _ _ t c h. absurd h);
       distinct = each_new (λ _ v. AreDistinct (numbers v.held)) (λ j ms _ _. tt);
     };
     holders = each_new (λ _ v. (t : ℕ) (c : Content V) → Holds v.held t c → HasNumber v) (λ j ms _ _ t c h. (j, refl));
     all_seen = each_new (λ _ v. HasAll k v.held → v.seen ≡ []) (λ j ms _ _ _. refl);
     lawful = o.lawful;
-    told = each_new (λ _ v. (t : ℕ) → t < 2 ^ k.s → (v.told ≤ (o.contents t).power) × (v.heard_told ≤ (o.contents t).power)) (λ j ms _ _ t l. (le_of_eq (sym (o.power t l)), zero-le));
+    told = each_new (λ _ v. (t : ℕ) → t < 2 ^ k.s → (v.told ≤ nothing.power) × (v.heard_told ≤ nothing.power)) (λ j ms _ _ t l. (le_of_eq refl, zero-le));
     callers_known = record {
       keeper = o.keeper;
       keeps = each_new (λ j v. (m : ℕ) → IsIn m (numbers (owned v)) → o.keeper m ≡ j) (λ j ms _ f m h. (f m (subst (IsIn m) (numbers_unused (j ∷ ms)) h)).1);
@@ -70,9 +74,15 @@ module _ {V : Type 0} (k : Layout) (set : Settings) (callers p : ℕ) (s : Confi
       held = each_new (λ _ v. (t : ℕ) (c : Content V) → Holds v.held t c → holder s.trace t ≡ v.by) (λ j ms _ _ t c h. absurd h);
       watched = each_new (λ _ v. Watches s.trace v) (λ j ms _ _. record { sees = record { unseen = []; begins = o.no_step; by_others = λ _ _. tt }; heard = ([], refl); own = λ _ _. refl });
     };
+    opened = p;
+    contained = λ t l. ap (λ (es : List (LockEvent V)). content_in k.s p es t) o.no_step;
     decided = ap decided_in o.no_step;
     legal = sym o.empty_whole;
   }
+
+  pub opens_with : opens.opened ≡ p
+  unfolding opens
+  opens_with = refl
 
   pub runs_keep : (min_load : ℕ) (ms : List (ℕ × Label V)) (log : List (Entry V)) (s2 : Configuration V) → Execution k min_load [] s ms log s2 → HistoryInvariant k callers log s2
   runs_keep min_load ms log s2 r = run_keeps k min_load callers ms [] s log s2 opens r

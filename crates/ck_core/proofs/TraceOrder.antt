@@ -28,8 +28,8 @@ module _ {V : Type 0} where
   unfolding first_of
   has_first e Took rest own behind is = behind is
   has_first e Missed rest own behind is = behind is
-  has_first e Gave rest own behind is = behind is
-  has_first e (Decided x) rest own behind is = ([], rest, λ i. ap (first_of e) is i ∷ rest)
+  has_first e (Gave ks) rest own behind is = behind is
+  has_first e (Decided x ks) rest own behind is = ([], rest, λ i. ap (first_of e) is i ∷ rest)
 
   has_decided : (m : ℕ) (e : Entry V) (es : List (LockEvent V)) → decided_in (steps_of m es) ≡ e ∷ [] → Has e (decided_in es)
   has_decided m e [] is = absurd (let l = ap length is in omega arith)

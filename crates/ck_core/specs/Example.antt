@@ -70,8 +70,8 @@ abbrev pub by_second : LockStep ℕ → ℕ → LockEvent ℕ
 by_second step t = event (Some 1) step t
 
 abbrev pub trace : List (LockEvent ℕ)
-trace = by_first Took 0 ∷ by_second Missed 0 ∷ by_first Took 1 ∷ by_first (Decided insertion) 0 ∷ by_second Took 0
-    ∷ by_second Missed 1 ∷ by_first Gave 1 ∷ by_second Took 1 ∷ by_second (Decided look_up) 0 ∷ by_second Gave 1 ∷ []
+trace = by_first Took 0 ∷ by_second Missed 0 ∷ by_first Took 1 ∷ by_first (Decided insertion (both full_stripe)) 0 ∷ by_second Took 0
+    ∷ by_second Missed 1 ∷ by_first (Gave []) 1 ∷ by_second Took 1 ∷ by_second (Decided look_up (both full_stripe)) 0 ∷ by_second (Gave []) 1 ∷ []
 
 -- the view of one who watched this trace
 abbrev pub watching : List (LockEvent ℕ) → View ℕ → View ℕ
@@ -139,7 +139,7 @@ abbrev pub more_steps : List (ℕ × Label ℕ)
 more_steps = (0, Take 0) ∷ (0, Take 1) ∷ (0, Decide 0 (both full_stripe) second_look) ∷ (0, GiveRest 1) ∷ []
 
 abbrev pub longer_trace : List (LockEvent ℕ)
-longer_trace = trace ++ by_first Took 0 ∷ by_first Took 1 ∷ by_first (Decided second_look) 0 ∷ by_first Gave 1 ∷ []
+longer_trace = trace ++ by_first Took 0 ∷ by_first Took 1 ∷ by_first (Decided second_look (both full_stripe)) 0 ∷ by_first (Gave []) 1 ∷ []
 
 -- all stripes are at home again
 abbrev pub looked : Configuration ℕ
@@ -161,7 +161,7 @@ abbrev pub alone : Configuration ℕ
 alone = record { words = 0 ∷ 0 ∷ []; homes = Some empty_stripe ∷ Some empty_stripe ∷ []; views = initial_view settings 0 1 (1 ∷ []) ∷ []; trace = [] }
 
 abbrev pub short_trace : List (LockEvent ℕ)
-short_trace = by_first Took 0 ∷ by_first Gave 0 ∷ by_first Took 1 ∷ by_first Gave 1 ∷ []
+short_trace = by_first Took 0 ∷ by_first (Gave ((0, empty_stripe) ∷ [])) 0 ∷ by_first Took 1 ∷ by_first (Gave []) 1 ∷ []
 
 -- the other caller has begun and met the first
 abbrev pub met : Configuration ℕ

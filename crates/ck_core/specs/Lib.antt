@@ -1,4 +1,5 @@
 pub mod Trace
+pub mod Contained
 pub mod State
 pub mod Steps
 pub mod Laws

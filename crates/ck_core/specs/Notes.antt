@@ -1,4 +1,4 @@
--- What callers noted of stripes, and when the stripes contained it.
+-- What stripes contained at each moment, and what callers noted of them then.
 use Rattle.std.specs.Prelude.{◌≡◌, ◌⊎◌, ℕ, List, [], ◌++◌, reverse, Some}
 use mathlib.Core.Option.{some}
 use lib.ListN.{get_elem?}
@@ -6,11 +6,13 @@ use Rattle.ck_model.specs.declared.history.Entry.{Entry}
 use Rattle.ck_model.specs.declared.settings.Settings.{Settings}
 use Rattle.ck_model.specs.Promise.{After, StartsWith}
 use Rattle.ck_model.specs.Numbered.{IsIn, numbers}
-use Rattle.ck_model.specs.Contents.{Layout, Stripes, bindings}
+use Rattle.ck_model.specs.Contents.{Layout, Stripes, bindings, Lawful, whole}
 use Rattle.ck_model.specs.Sections.{HasAll, IdentitySection}
 use Rattle.ck_core.specs.declared.view.RoomNote.{RoomNote}
 use Rattle.ck_core.specs.declared.view.View.{View}
-use Rattle.ck_core.specs.Trace.{holder}
+use Rattle.ck_core.specs.declared.trace.LockEvent.{LockEvent}
+use Rattle.ck_core.specs.Trace.{holder, decided_in}
+use Rattle.ck_core.specs.Contained.{content_in}
 use Rattle.ck_core.specs.State.{Configuration}
 use Rattle.ck_core.specs.Steps.{Label, IsExcused, Execution, Opening}
 
@@ -39,6 +41,12 @@ module _ {V : Type 0} where
     pub so : P held
 
 module _ (V : Type 0) where
+  -- In each run from an opening: at each moment of its trace the stripes contain, by the trace, a lawful whole, which binds what the entries leave that were decided until then.
+  abbrev pub LawOfContents : Type 0
+  LawOfContents = (k : Layout) (min_load : ℕ) (set : Settings) (callers p : ℕ) (s : Configuration V) (ms : List (ℕ × Label V)) (log : List (Entry V)) (s2 : Configuration V)
+      → Opening k set callers p s → Execution k min_load [] s ms log s2 → (moment : List (LockEvent V)) → StartsWith s2.trace moment
+      → Lawful k (whole k (content_in k.s p moment)) × After (decided_in moment) (bindings (whole k (content_in k.s p moment)))
+
   -- In each run from an opening, what a caller noted where a name found no room is what its stripes contained at a moment of the run, and it gave the reason.
   abbrev pub LawOfRoomNotes : Type 0
   LawOfRoomNotes = (k : Layout) (min_load : ℕ) (set : Settings) (callers p : ℕ) (s : Configuration V) (ms : List (ℕ × Label V)) (log : List (Entry V)) (s2 : Configuration V)

@@ -11,6 +11,7 @@ use Rattle.ck_model.specs.Sections.{HasAll}
 use Rattle.ck_core.specs.declared.trace.LockEvent.{LockEvent}
 use Rattle.ck_core.specs.declared.view.View.{View}
 use Rattle.ck_core.specs.Trace.{holder, IsLegalTrace, decided_in, steps_of, missed_in}
+use Rattle.ck_core.specs.Contained.{content_in}
 
 -- The words of the stripes, what lies in their places, the views, and the steps on the words. A place is empty while its stripe is held.
 pub record Configuration (V : Type 0) : Type 0 where
@@ -104,7 +105,7 @@ module _ {V : Type 0} where
     pub held : (j : ℕ) (v : View V) → get_elem? s.views j ≡ some v → (t : ℕ) (c : Content V) → Holds v.held t c → holder s.trace t ≡ v.by
     pub watched : (j : ℕ) (v : View V) → get_elem? s.views j ≡ some v → Watches s.trace v
 
-  -- The history invariant: each stripe is in its place or with one holder, a caller, who has seen the whole history where it holds all; the whole is lawful, no view was told a power above the table's, each view knows a beginning of the history, the trace is legal, the entries that were decided in it are the history, and that is legal and leads to the bindings of the whole.
+  -- The history invariant: each stripe is in its place or with one holder, a caller, who has seen the whole history where it holds all; the whole is lawful, no view was told a power above the table's, each view knows a beginning of the history, the trace is legal and tells what the stripes contain, the entries that were decided in it are the history, and that is legal and leads to the bindings of the whole.
   pub record HistoryInvariant (k : Layout) (callers : ℕ) (log : List (Entry V)) (s : Configuration V) : Type 0 where
     pub contents : ℕ → Content V
     pub places : Places (2 ^ k.s) s contents
@@ -114,5 +115,7 @@ module _ {V : Type 0} where
     pub told : (j : ℕ) (v : View V) → get_elem? s.views j ≡ some v → (t : ℕ) → t < 2 ^ k.s → (v.told ≤ (contents t).power) × (v.heard_told ≤ (contents t).power)
     pub callers_known : Callers callers log s.views
     pub traced : Traces (2 ^ k.s) callers s
+    pub opened : ℕ
+    pub contained : (t : ℕ) → t < 2 ^ k.s → content_in k.s opened s.trace t ≡ contents t
     pub decided : decided_in s.trace ≡ log
     pub legal : After log (bindings (whole k contents))

@@ -10,7 +10,7 @@ use Rattle.ck_model.specs.declared.settings.Settings.{Settings}
 use Rattle.ck_model.specs.Promise.{Name}
 use Rattle.ck_model.specs.Numbered.{IsIn, AreDistinct, numbers, Holds, without}
 use Rattle.ck_model.specs.declared.contents.Content.{Content}
-use Rattle.ck_model.specs.Contents.{Layout, Stripes, bindings, Lawful, whole, power_of}
+use Rattle.ck_model.specs.Contents.{Layout, Stripes, empty_content, bindings, Lawful, whole, power_of}
 use Rattle.ck_model.specs.Sections.{Owns, Section, IdentitySection}
 use Rattle.ck_model.specs.Paths.{HasNoRoom, Grounds}
 use Rattle.ck_core.specs.declared.trace.LockStep.{LockStep}
@@ -166,13 +166,13 @@ module _ {V : Type 0} where
   Transition k min_load log id (FindHeld t) s s2 = (v : View V) × (get_elem? s.views id ≡ some v) × (t < 2 ^ k.s) × (slice_index s.words t ≡ 1) × ¬ (IsIn t (numbers v.held)) × HasNumber v
       × (s2 ≡ missed s id v t)
   Transition k min_load log id (Give t g) s s2 = (v : View V) × (c : Content V) × (get_elem? s.views id ≡ some v) × Holds v.held t c × IsExcused k min_load v.held g
-      × (s2 ≡ sent_home Gave s id t c (giving v t c v.held g))
+      × (s2 ≡ sent_home (Gave []) s id t c (giving v t c v.held g))
   Transition k min_load log id (Decide t ks e) s s2 = (v : View V) × (c : Content V) × (get_elem? s.views id ≡ some v) × (v.by ≡ Some e.by) × Holds ks t c × Section k v.held e.call e.reply ks
-      × (s2 ≡ sent_home (Decided e) s id t c (deciding v t ks log e))
+      × (s2 ≡ sent_home (Decided e ks) s id t c (deciding v t ks log e))
   Transition k min_load log id (GiveRest t) s s2 = (v : View V) × (c : Content V) × (get_elem? s.views id ≡ some v) × Holds v.held t c
-      × (s2 ≡ sent_home Gave s id t c (giving v t c v.held None))
+      × (s2 ≡ sent_home (Gave []) s id t c (giving v t c v.held None))
   Transition k min_load log id (Renew t ks g) s s2 = (v : View V) × (c : Content V) × (get_elem? s.views id ≡ some v) × Holds ks t c × IdentitySection k v.held ks × HasGrounds k min_load ks g
-      × (s2 ≡ sent_home Gave s id t c (renewing v t c ks g))
+      × (s2 ≡ sent_home (Gave ks) s id t c (renewing v t c ks g))
   Transition k min_load log id (Look t p) s s2 = (v : View V) × (get_elem? s.views id ≡ some v) × (t < 2 ^ k.s) × (v.told ≤ p) × ((u : ℕ) (c : Content V) → IsPart s u c → p ≤ c.power)
       × (s2 ≡ seen_as s id (record v { seen = log; told = p; watched = s.trace }))
   Transition k min_load log id Open s s2 = (v : View V) × (m : ℕ) × (rest : List (ℕ × List (Entry V))) × (get_elem? s.views id ≡ some v) × (v.others ≡ (m, []) ∷ rest)
@@ -203,16 +203,14 @@ module _ {V : Type 0} where
   abbrev pub initial_view : Settings → ℕ → ℕ → List ℕ → View V
   initial_view set j p ms = record (newcomer set j p) { others = map (λ (m : ℕ). (m, [])) ms }
 
-  -- Words 0, an empty lawful whole of power p, and callers that know nothing, whose numbers are no other's.
+  -- Words 0, empty stripes of power p, which are a lawful whole, no step on a word, and callers that know nothing, whose numbers are no other's.
   pub record Opening (k : Layout) (set : Settings) (callers p : ℕ) (s : Configuration V) : Type 0 where
-    pub contents : ℕ → Content V
     pub words : s.words ≡ replicate (2 ^ k.s) 0
     pub no_step : s.trace ≡ []
     pub homes_sized : length s.homes ≡ 2 ^ k.s
-    pub homes : (t : ℕ) → t < 2 ^ k.s → get_elem? s.homes t ≡ some (Some (contents t))
-    pub lawful : Lawful k (whole k contents)
-    pub power : (t : ℕ) → t < 2 ^ k.s → (contents t).power ≡ p
-    pub empty_whole : bindings (whole k contents) ≡ empty
+    pub homes : (t : ℕ) → t < 2 ^ k.s → get_elem? s.homes t ≡ some (Some (empty_content k.s p))
+    pub lawful : Lawful k (whole {V = V} k (λ _. empty_content k.s p))
+    pub empty_whole : bindings (whole {V = V} k (λ _. empty_content k.s p)) ≡ empty
     pub keeper : ℕ → ℕ
     pub views : (j : ℕ) (v : View V) → get_elem? s.views j ≡ some v → (ms : List ℕ) × (v ≡ initial_view set j p ms) × AreDistinct (j ∷ ms)
         × ((m : ℕ) → IsIn m (j ∷ ms) → (m < callers) × (keeper m ≡ j))

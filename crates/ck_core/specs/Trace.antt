@@ -1,6 +1,7 @@
 -- The trace: the steps of all callers on the lock words, in their order.
 use Rattle.std.specs.Prelude.{◌≡◌, ◌≢◌, ℕ, List, [], ◌∷◌, ◌++◌, Option, Some, None, if◌then◌else◌, ◌==◌, filter, fold, flat_map}
 use Rattle.ck_model.specs.declared.history.Entry.{Entry}
+use Rattle.ck_model.specs.Contents.{Stripes}
 use Rattle.ck_core.specs.declared.trace.LockStep.{LockStep}
 use Rattle.ck_core.specs.declared.trace.LockStep.TheVariants.{Took, Missed, Gave, Decided}
 use Rattle.ck_core.specs.declared.trace.LockEvent.{LockEvent}
@@ -21,8 +22,8 @@ module _ {V : Type 0} where
   Fits step m h =
       (step ≡ Took → h ≡ None)
       × (step ≡ Missed → (h ≢ None) × (h ≢ Some m))
-      × (step ≡ Gave → h ≡ Some m)
-      × ((x : Entry V) → step ≡ Decided x → (h ≡ Some m) × (x.by ≡ m))
+      × ((ks : Stripes V) → step ≡ Gave ks → h ≡ Some m)
+      × ((x : Entry V) (ks : Stripes V) → step ≡ Decided x ks → (h ≡ Some m) × (x.by ≡ m))
 
   -- each step fits what those before it left
   abbrev pub IsLegalTrace : List (LockEvent V) → Type 0
@@ -30,7 +31,7 @@ module _ {V : Type 0} where
 
   -- the entry that was decided by this step, if one was
   abbrev pub decided_by : LockStep V → List (Entry V)
-  decided_by (Decided x) = x ∷ []
+  decided_by (Decided x ks) = x ∷ []
   decided_by step = []
 
   -- the entries that were decided, in their order: the history

@@ -7,7 +7,7 @@ ghost use Rattle.ck_model.specs.Contents.{Stripes};
 ghost use Rattle.ck_core.specs.Steps.Label.{Take, FindHeld, Give, Decide, GiveRest, Renew, Look, Open, Tell, Join};
 ghost use Rattle.ck_core.specs.Laws.{LawOfRuns, Keeps, LawOfViews, LawOfReplies, LawOfFindings, LawOfOneCaller, LawOfAnswers, LawOfFollowing, LawOfOtherSteps};
 ghost use Rattle.ck_core.specs.Sums.{LawOfSums};
-ghost use Rattle.ck_core.specs.Notes.{LawOfRoomNotes, LawOfGrowths};
+ghost use Rattle.ck_core.specs.Notes.{LawOfContents, LawOfRoomNotes, LawOfGrowths};
 ghost use Rattle.ck_core.specs.Order.{LawOfOneHistory, LawOfSeenHistory, LawOfGrowth, LawOfGrowingViews, LawOfDecisions, LawOfRealTime, LawOfTraceOrder};
 
 /// A step by which a caller takes a stripe that is at home keeps the invariant.
@@ -120,6 +120,12 @@ pub fn law_of_trace_order<V>()
 pub fn law_of_real_time<V>()
     ensures decisions { LawOfDecisions V }
     ensures order { LawOfRealTime V }
+{}
+
+/// In each run from an opening, at each moment of its trace, the stripes contain by the trace a
+/// lawful whole, of which the entries that were decided until then leave just the bindings.
+pub fn law_of_contents<V>()
+    ensures { LawOfContents V }
 {}
 
 /// In each run from an opening, what a caller noted of stripes is what they contained at a moment

@@ -180,8 +180,8 @@ module _ (hash : Name → ℕ) (set : Settings) where
         pub give_allowed : (g : Option (Name × Reason)) → Holds m.0.held t stripe.content → (Lawful k m.0.held → IsExcused k set.min_load m.0.held g) → Allows (RuleOf hash set) slots id m (t * 8) (λ _. 0) (λ _. SeatGives hash set (Give t g) m)
         give_allowed g h excused s r _ at _ =
             let w : View V = giving m.0 t stripe.content m.0.held g in
-            let kept = gave k set.callers Gave r.0 r.0 s id t stripe w m.1 out is l own r.1 (give_keeps k set.callers r.0 (world (2 ^ k.s) r.1.trace s) r.1.law id m.0 at t stripe.content g h) in
-            (given k set.callers Gave r.1.trace t w, gives, tt, (r.0, kept), (refl, steps_from (Give t g) r.0 s id m.0 (given k set.callers Gave r.1.trace t w) (sent_home Gave (world (2 ^ k.s) r.1.trace s) id t stripe.content w) r.1 at (m.0, stripe.content, at, h, excused (lawful_now r.0 s id m.0 r.1 at), refl) refl))
+            let kept = gave k set.callers (Gave []) r.0 r.0 s id t stripe w m.1 out is l own r.1 (give_keeps k set.callers r.0 (world (2 ^ k.s) r.1.trace s) r.1.law id m.0 at t stripe.content g h) in
+            (given k set.callers (Gave []) r.1.trace t w, gives, tt, (r.0, kept), (refl, steps_from (Give t g) r.0 s id m.0 (given k set.callers (Gave []) r.1.trace t w) (sent_home (Gave []) (world (2 ^ k.s) r.1.trace s) id t stripe.content w) r.1 at (m.0, stripe.content, at, h, excused (lawful_now r.0 s id m.0 r.1 at), refl) refl))
 
         module _ (h : Holds (contents_in m.1) t stripe.content) where
           pub renew_allowed : (g : Option (Name × Reason)) → (Lawful k m.0.held → IdentitySection k m.0.held (contents_in m.1)) → (Lawful k m.0.held → Lawful k (contents_in m.1) → HasGrounds k set.min_load (contents_in m.1) g)
@@ -190,16 +190,16 @@ module _ (hash : Name → ℕ) (set : Settings) where
               let w : View V = renewing m.0 t stripe.content (contents_in m.1) g in
               let lawful = lawful_now r.0 s id m.0 r.1 at in
               let sec = section lawful in
-              let kept = gave k set.callers Gave r.0 r.0 s id t stripe w m.1 out is l own r.1 (renew_keeps k set.callers r.0 (world (2 ^ k.s) r.1.trace s) r.1.law id m.0 at (contents_in m.1) t stripe.content h g sec) in
-              (given k set.callers Gave r.1.trace t w, gives, tt, (r.0, kept), (refl, steps_from (Renew t (contents_in m.1) g) r.0 s id m.0 (given k set.callers Gave r.1.trace t w) (sent_home Gave (world (2 ^ k.s) r.1.trace s) id t stripe.content w) r.1 at (m.0, stripe.content, at, h, sec, grounds lawful sec.renewed.lawful, refl) refl))
+              let kept = gave k set.callers (Gave (contents_in m.1)) r.0 r.0 s id t stripe w m.1 out is l own r.1 (renew_keeps k set.callers r.0 (world (2 ^ k.s) r.1.trace s) r.1.law id m.0 at (contents_in m.1) t stripe.content h g sec) in
+              (given k set.callers (Gave (contents_in m.1)) r.1.trace t w, gives, tt, (r.0, kept), (refl, steps_from (Renew t (contents_in m.1) g) r.0 s id m.0 (given k set.callers (Gave (contents_in m.1)) r.1.trace t w) (sent_home (Gave (contents_in m.1)) (world (2 ^ k.s) r.1.trace s) id t stripe.content w) r.1 at (m.0, stripe.content, at, h, sec, grounds lawful sec.renewed.lawful, refl) refl))
 
           pub decide_allowed : (e : Entry V) → m.0.by ≡ Some e.by → (Lawful k m.0.held → Section k m.0.held e.call e.reply (contents_in m.1))
               → Allows (RuleOf hash set) slots id m (t * 8) (λ _. 0) (λ _. SeatGives hash set (Decide t (contents_in m.1) e) m)
           decide_allowed e by section s r _ at _ =
               let w : View V = deciding m.0 t (contents_in m.1) r.0 e in
               let sec = section (lawful_now r.0 s id m.0 r.1 at) in
-              let kept = gave k set.callers (Decided e) r.0 (r.0 ++ e ∷ []) s id t stripe w m.1 out is l own r.1 (decide_keeps k set.callers r.0 (world (2 ^ k.s) r.1.trace s) r.1.law id m.0 at (contents_in m.1) t stripe.content h e by sec) in
-              (given k set.callers (Decided e) r.1.trace t w, gives, tt, (r.0 ++ e ∷ [], kept), (refl, steps_from (Decide t (contents_in m.1) e) r.0 s id m.0 (given k set.callers (Decided e) r.1.trace t w) (sent_home (Decided e) (world (2 ^ k.s) r.1.trace s) id t stripe.content w) r.1 at (m.0, stripe.content, at, by, h, sec, refl) refl))
+              let kept = gave k set.callers (Decided e (contents_in m.1)) r.0 (r.0 ++ e ∷ []) s id t stripe w m.1 out is l own r.1 (decide_keeps k set.callers r.0 (world (2 ^ k.s) r.1.trace s) r.1.law id m.0 at (contents_in m.1) t stripe.content h e by sec) in
+              (given k set.callers (Decided e (contents_in m.1)) r.1.trace t w, gives, tt, (r.0 ++ e ∷ [], kept), (refl, steps_from (Decide t (contents_in m.1) e) r.0 s id m.0 (given k set.callers (Decided e (contents_in m.1)) r.1.trace t w) (sent_home (Decided e (contents_in m.1)) (world (2 ^ k.s) r.1.trace s) id t stripe.content w) r.1 at (m.0, stripe.content, at, by, h, sec, refl) refl))
 
       pub look_allowed : (t : ℕ) → t < 2 ^ k.s → Allows (RuleOf hash set) slots id m (t * 8) (λ x. x) (λ _. SeatLooks hash set t m)
       look_allowed t l s r _ at _ =

@@ -150,7 +150,7 @@ module _ {V : Type 0} (hash : Name → ℕ) (w : WordsState) (p : PassState V) (
     give_tells : (me2 : Hand V) → Gone give_move me2 → Tells give_move me2
     give_tells me2 gone =
         let row = give_row hash w.settings me.0 me2.0 t g gone.step in
-        record { lasts = lasts_by me2 row refl refl (found_by Gave gone.step.before t (giving me.0 t gone.step.does.1 me.0.held g)) (omega arith) (shows_after hash w.settings (Give t g) me.0 me2.0 gone.step).most (shows_after hash w.settings (Give t g) me.0 me2.0 gone.step).watched; held = ap (λ (v : View V). v.held) row ∙ ap (without t) (held_now u) }
+        record { lasts = lasts_by me2 row refl refl (found_by (Gave []) gone.step.before t (giving me.0 t gone.step.does.1 me.0.held g)) (omega arith) (shows_after hash w.settings (Give t g) me.0 me2.0 gone.step).most (shows_after hash w.settings (Give t g) me.0 me2.0 gone.step).watched; held = ap (λ (v : View V). v.held) row ∙ ap (without t) (held_now u) }
 
     pub give_went : (z2 : TableId) (me2 : Hand V) → z2 ≡ z → told_by give_move me.0.settings (t * 8 / 8) me2 → Went hash w give_move p z2 me2
     give_went z2 me2 same h = let g = gone give_move me2 h in went give_move z2 me2 same g (give_tells me2 g)
@@ -175,7 +175,7 @@ module _ {V : Type 0} (hash : Name → ℕ) (w : WordsState) (p : PassState V) (
         ready renew_move slots id (renew_allowed hash key slots id me t l.stripe l.out l.front inside_key own_key now_held g turned_sec turned_grounds)
 
     renew_tells : (me2 : Hand V) → Gone renew_move me2 → Tells renew_move me2
-    renew_tells me2 gone = let row = renew_row hash w.settings me.0 me2.0 t now g gone.step in record { lasts = lasts_by me2 row refl refl (found_by Gave gone.step.before t (renewing me.0 t gone.step.does.1 now g)) (omega arith) (shows_after hash w.settings (Renew t now g) me.0 me2.0 gone.step).most (shows_after hash w.settings (Renew t now g) me.0 me2.0 gone.step).watched; held = ap (λ (v : View V). v.held) row }
+    renew_tells me2 gone = let row = renew_row hash w.settings me.0 me2.0 t now g gone.step in record { lasts = lasts_by me2 row refl refl (found_by (Gave now) gone.step.before t (renewing me.0 t gone.step.does.1 now g)) (omega arith) (shows_after hash w.settings (Renew t now g) me.0 me2.0 gone.step).most (shows_after hash w.settings (Renew t now g) me.0 me2.0 gone.step).watched; held = ap (λ (v : View V). v.held) row }
 
     pub renew_went : (z2 : TableId) (me2 : Hand V) → z2 ≡ z → told_by renew_move me.0.settings (t * 8 / 8) me2 → Went hash w renew_move p z2 me2
     renew_went z2 me2 same h = let g = gone renew_move me2 h in went renew_move z2 me2 same g (renew_tells me2 g)
@@ -194,7 +194,7 @@ module _ {V : Type 0} (hash : Name → ℕ) (w : WordsState) (p : PassState V) (
         ready decide_move slots id (decide_allowed hash key slots id me t l.stripe l.out l.front inside_key own_key now_held e (ap (λ (q : PassState V). q.view.by) f.pass_is ∙ by) turned_sec)
 
     decide_tells : (me2 : Hand V) → Gone decide_move me2 → Tells decide_move me2
-    decide_tells me2 gone = let row = decide_row hash w.settings me.0 me2.0 t now e gone.step in record { lasts = lasts_by me2 row refl refl (found_by (Decided e) gone.step.before t (deciding me.0 t now gone.step.log e)) (omega arith) (shows_after hash w.settings (Decide t now e) me.0 me2.0 gone.step).most (shows_after hash w.settings (Decide t now e) me.0 me2.0 gone.step).watched; held = ap (λ (v : View V). v.held) row }
+    decide_tells me2 gone = let row = decide_row hash w.settings me.0 me2.0 t now e gone.step in record { lasts = lasts_by me2 row refl refl (found_by (Decided e now) gone.step.before t (deciding me.0 t now gone.step.log e)) (omega arith) (shows_after hash w.settings (Decide t now e) me.0 me2.0 gone.step).most (shows_after hash w.settings (Decide t now e) me.0 me2.0 gone.step).watched; held = ap (λ (v : View V). v.held) row }
 
     pub decide_went : (z2 : TableId) (me2 : Hand V) → z2 ≡ z → told_by decide_move me.0.settings (t * 8 / 8) me2 → Went hash w decide_move p z2 me2
     decide_went z2 me2 same h = let g = gone decide_move me2 h in went decide_move z2 me2 same g (decide_tells me2 g)

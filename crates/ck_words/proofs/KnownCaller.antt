@@ -73,10 +73,10 @@ known_watched v t = record {
           λ none. ∥∥₁_elim t (λ a b. absurd a) (λ h. ((h.legal before e more is).1 s).0 none),
           λ own. ∥∥₁_elim t (λ a b. absurd a) (λ h. ((h.legal before e more is).1 s).1 own),
         ),
-        λ s. known_option holds (Some e.by) (∥∥₁_elim t squash₁ (λ h. ∣ (h.legal before e more is).2 s ∣₁)),
-        λ x s. (
-          known_option holds (Some e.by) (∥∥₁_elim t squash₁ (λ h. ∣ ((h.legal before e more is).3 x s).0 ∣₁)),
-          known_equal x.by e.by (∥∥₁_elim t squash₁ (λ h. ∣ ((h.legal before e more is).3 x s).1 ∣₁)),
+        λ ks s. known_option holds (Some e.by) (∥∥₁_elim t squash₁ (λ h. ∣ (h.legal before e more is).2 ks s ∣₁)),
+        λ x ks s. (
+          known_option holds (Some e.by) (∥∥₁_elim t squash₁ (λ h. ∣ ((h.legal before e more is).3 x ks s).0 ∣₁)),
+          known_equal x.by e.by (∥∥₁_elim t squash₁ (λ h. ∣ ((h.legal before e more is).3 x ks s).1 ∣₁)),
         ),
       );
   missed = λ m by. known_list (missed_in (steps_of m v.watched)) (missed_in v.steps) (∥∥₁_elim t squash₁ (λ h. ∣ h.missed m by ∣₁));

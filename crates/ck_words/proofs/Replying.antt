@@ -122,7 +122,7 @@ module _ {V : Type 0} where
     pub is_answered : (m : ℕ) → p.view.by ≡ Some m → p.view.settings ≡ set → (t : ℕ) (ks : Stripes V) (q1 q : PassState V) → Steps hash set (Decide t ks (entry_for call p)) p.view q1.view → Stays q1.view q.view → q.view.seen ≡ q1.view.seen → GivesAlone q1.view q.view
         → (r : Reply V) → HasDone hash set call r p → IsAnswered call r (as_doubled p q) q
     is_answered m by of_table t ks q1 q d s seen given r done =
-        let row : q1.view ≡ gave_by (Decided (entry_for call p)) d.before t (deciding p.view t ks d.log (entry_for call p)) = decide_row hash set p.view q1.view t ks (entry_for call p) d in
+        let row : q1.view ≡ gave_by (Decided (entry_for call p) ks) d.before t (deciding p.view t ks d.log (entry_for call p)) = decide_row hash set p.view q1.view t ks (entry_for call p) d in
         let before = shows_before hash set (Decide t ks (entry_for call p)) p.view q1.view d in
         let after = shows_after hash set (Decide t ks (entry_for call p)) p.view q1.view d in
         let l = lawful_reverse (layout_of hash set) p.view.held before.lawful in
@@ -145,15 +145,15 @@ module _ {V : Type 0} where
             alone = λ one. follows m by t ks q1 q d seen r done (inl (ap (λ (x : Settings). x.callers) (sym of_table) ∙ one));
           };
           watched = (
-              let more = watched_step hash set (Decide t ks e) p.view q1.view d (Decided e) t in
+              let more = watched_step hash set (Decide t ks e) p.view q1.view d (Decided e ks) t in
               let first : WatchesMore p.view q1.view = (more.0, ap (λ (v : View V). v.watched) row ∙ more.1, λ n is. (ap (λ (v : View V). v.steps) row ∙ (more.2 n is).0, ap (λ (v : View V). v.mine) row ∙ (more.2 n is).1)) in
               watches_on p.view q1.view q.view (ap (λ (v : View V). v.by) row) first s.watched
               );
           decided = (
-              let own = event p.view.by (Decided e) t in
+              let own = event p.view.by (Decided e ks) t in
               let one : q1.view.steps ≡ p.view.steps ++ own ∷ [] = ap (λ (v : View V). v.steps) row in
               let all : (p.view.steps ++ own ∷ []) ++ given.0 ≡ (p.view.steps ++ []) ++ own ∷ given.0 = append_assoc p.view.steps (own ∷ []) given.0 ∙ ap (λ l. l ++ own ∷ given.0) (sym (append-nil p.view.steps)) in
-              (m, t, by, e, [], given.0, given.1 ∙ (ap (λ l. l ++ given.0) one ∙ all), given.2)
+              (m, t, by, e, ks, [], given.0, given.1 ∙ (ap (λ l. l ++ given.0) one ∙ all), given.2)
               );
           stays = record {
             settings = s.settings ∙ ap (λ (v : View V). v.settings) row;
@@ -184,7 +184,7 @@ module _ {V : Type 0} where
           follows = λ reply done all. (m, by, follows m by d.0.number (reverse (contents_of p.stripes)) q1 q d.2 r.seen reply done (inr all));
           by = r.stays.by ∙ ap (λ (v : View V). v.by) row;
           others = r.stays.others ∙ ap (λ (v : View V). v.others) row;
-          found = r.found ∙ (ap found_held row ∙ found_by (Decided (entry_for call p)) d.2.before d.0.number (deciding p.view d.0.number (reverse (contents_of p.stripes)) d.2.log (entry_for call p)));
+          found = r.found ∙ (ap found_held row ∙ found_by (Decided (entry_for call p) (reverse (contents_of p.stripes))) d.2.before d.0.number (deciding p.view d.0.number (reverse (contents_of p.stripes)) d.2.log (entry_for call p)));
           doubled = doubled_decided hash w (entry_for call p) p q1 q own.1 d r.stays;
         }
 

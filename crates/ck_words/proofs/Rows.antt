@@ -1,6 +1,7 @@
 -- What the rows of the core leave of a caller's view.
-use Rattle.std.proofs.Common.{◌≡◌, ◌≢◌, ℕ, ◌^◌, ◌<◌, ◌≤◌, List, [], ◌∷◌, ◌++◌, append-nil, append_assoc, sym, ap, ◌∙◌, subst, ⊎_elim, arith, Option, Some, None}
+use Rattle.std.proofs.Common.{◌≡◌, ◌≢◌, ℕ, ◌^◌, ◌<◌, ◌≤◌, List, [], ◌∷◌, ◌++◌, append-nil, append_assoc, reverse, refl, sym, ap, ◌∙◌, subst, ⊎_elim, arith, Option, Some, None}
 use Rattle.std.specs.Prelude.{slice_set}
+use Rattle.std.proofs.Math.Nat.{one-le-pow}
 use mathlib.Core.Option.{some, some-injective}
 use lib.ListN.{get_elem?}
 use Rattle.ck_model.specs.declared.history.Entry.{Entry}
@@ -8,27 +9,29 @@ use Rattle.ck_model.specs.declared.history.Reason.{Reason}
 use Rattle.ck_model.specs.declared.contents.Content.{Content}
 use Rattle.ck_model.specs.declared.settings.Settings.{Settings}
 use Rattle.ck_model.specs.Promise.{Name}
-use Rattle.ck_model.specs.Numbered.{numbers, Holds}
+use Rattle.ck_model.specs.Numbered.{AreDistinct, numbers, Holds}
 use Rattle.ck_model.specs.Contents.{layout_of, Stripes}
 use Rattle.ck_model.specs.Sections.{HasAll}
-use Rattle.ck_model.proofs.Numbered.{in_held, held_of_in}
+use Rattle.ck_model.proofs.Numbered.{in_held, held_of_in, over_hit}
 use Rattle.ck_core.specs.declared.view.View.{View}
 use Rattle.ck_core.specs.State.{Configuration, HasNumber, owned, HistoryInvariant, found_held}
 use Rattle.ck_core.specs.declared.trace.LockStep.{LockStep}
 use Rattle.ck_core.specs.declared.trace.LockStep.TheVariants.{Took, Missed, Gave, Decided}
 use Rattle.ck_core.specs.declared.trace.LockEvent.{LockEvent}
 use Rattle.ck_core.specs.Trace.{decided_by, decided_in, steps_of, missed_by}
+use Rattle.ck_core.specs.Contained.{told_by, content_in}
 use Rattle.ck_core.specs.Steps.{Label, IsAbove, number_of, event, stepping, giving, renewing, deciding, grown}
 use Rattle.ck_core.specs.Steps.Label.{Take, FindHeld, Give, Decide, GiveRest, Renew, Look}
 use Rattle.ck_core.specs.Laws.{Shows}
 use Rattle.ck_core.proofs.Answered.{law_of_one_caller}
 use Rattle.ck_core.proofs.Callers.{own_held}
-use Rattle.ck_core.proofs.LegalTraces.{steps_last, missed_append}
+use Rattle.ck_core.proofs.LegalTraces.{steps_last, missed_append, content_more}
 use Rattle.ck_core.proofs.Lists.{set_there}
 use Rattle.ck_core.proofs.Keeps.{step_keeps}
 use Rattle.ck_core.proofs.Shown.{shows}
 use Rattle.ck_words.specs.Steps.{Steps}
 use Rattle.ck_words.specs.Holding.{HasHeld}
+use Rattle.ck_words.proofs.Reversed.{of_reverse}
 
 -- the view w, once the stripe t went home by it
 abbrev pub gave_by : {V : Type 0} → LockStep V → Configuration V → ℕ → View V → View V
@@ -36,7 +39,7 @@ gave_by step s t w = stepping s step t w
 
 -- and decided nothing
 abbrev pub gave : {V : Type 0} → Configuration V → ℕ → View V → View V
-gave = gave_by Gave
+gave = gave_by (Gave [])
 
 -- what was found held once this step was made
 pub found_by : {V : Type 0} (step : LockStep V) (s : Configuration V) (t : ℕ) (w : View V) → found_held (stepping s step t w) ≡ missed_by step t ++ found_held w
@@ -75,14 +78,26 @@ module _ {V : Type 0} (hash : Name → ℕ) (set : Settings) where
         let more = watched_step step t in
         (more.0, more.1, λ n by. ((more.2 n by).0, sym (append-nil v.mine) ∙ (ap (λ l. v.mine ++ l) (sym none) ∙ (more.2 n by).1)))
 
-    -- Before the step its caller held what its view says. Where that is all, it had seen the history.
-    pub held_then : (e : LockEvent V) → w.watched ≡ r.before.trace ++ e ∷ [] → w.by ≡ v.by → HasAll (layout_of hash set) v.held → HasHeld (λ t. t < 2 ^ set.s) v.seen w
-    held_then e watched by all = (
-      r.before.trace,
-      (e ∷ [], watched),
-      (λ t l. let c = held_of_in v.held t (all t l) in r.law.traced.held r.id v r.was t c.0 c.1 ∙ sym by),
-      r.law.decided ∙ sym (r.law.all_seen r.id v r.was all),
-    )
+    -- Before the step its caller held what its view says. Where that is all, it had seen the history, and the trace tells what they contained, and what they contain since the step.
+    pub held_then : (step : LockStep V) (t : ℕ) → AreDistinct (numbers (told_by step)) → w.watched ≡ r.before.trace ++ event v.by step t ∷ [] → w.by ≡ v.by → HasAll (layout_of hash set) v.held → HasHeld set.s v.watched v.seen (reverse v.held) (reverse (told_by step)) w
+    held_then step t apart watched by all =
+        let e : LockEvent V = event v.by step t in
+        let content : ℕ → Content V = λ q. content_in set.s r.law.opened r.before.trace q in
+        let saw = (r.law.traced.watched r.id v r.was).sees in
+        let one : 1 ≤ 2 ^ set.s = one-le-pow set.s 2 (omega arith) in
+        let first = held_of_in v.held 0 (all 0 (omega arith)) in
+        let number = r.law.holders r.id v r.was 0 first.0 first.1 in
+        record {
+          moment = r.before.trace;
+          step = e;
+          since = (saw.unseen, saw.begins);
+          watched = ([], watched ∙ sym (append-nil (r.before.trace ++ e ∷ [])));
+          own = by ∙ (number.1 ∙ ap Some (sym (ap number_of number.1)));
+          holders = λ q l. let c = held_of_in v.held q (all q l) in r.law.traced.held r.id v r.was q c.0 c.1 ∙ sym by;
+          history = r.law.decided ∙ sym (r.law.all_seen r.id v r.was all);
+          contained = (r.law.opened, λ q c h. let there = r.law.places.holds r.id v r.was q c (of_reverse v.held q c h) in r.law.contained q there.0 ∙ there.3);
+          contain = (r.law.opened, λ q c h. content_more set.s r.law.opened r.before.trace e q content refl ∙ over_hit (told_by step) content apart q c (of_reverse (told_by step) q c h));
+        }
 
     -- there is one view of the caller before the step
     pub same_view : (u : View V) → get_elem? r.before.views r.id ≡ some u → u ≡ v
@@ -126,11 +141,11 @@ module _ {V : Type 0} (hash : Name → ℕ) (set : Settings) where
     pub rest_row : (t : ℕ) (r : Steps hash set (GiveRest t) v w) → w ≡ gave r.before t (giving v t r.does.1 v.held None)
     rest_row t r = new_view (GiveRest t) v w r (λ u. gave r.before t (giving u t r.does.1 u.held None)) r.does.0 r.does.2 (ap (λ (x : Configuration V). x.views) r.does.4)
 
-    pub decide_row : (t : ℕ) (ks : Stripes V) (e : Entry V) (r : Steps hash set (Decide t ks e) v w) → w ≡ gave_by (Decided e) r.before t (deciding v t ks r.log e)
-    decide_row t ks e r = new_view (Decide t ks e) v w r (λ u. gave_by (Decided e) r.before t (deciding u t ks r.log e)) r.does.0 r.does.2 (ap (λ (x : Configuration V). x.views) r.does.6)
+    pub decide_row : (t : ℕ) (ks : Stripes V) (e : Entry V) (r : Steps hash set (Decide t ks e) v w) → w ≡ gave_by (Decided e ks) r.before t (deciding v t ks r.log e)
+    decide_row t ks e r = new_view (Decide t ks e) v w r (λ u. gave_by (Decided e ks) r.before t (deciding u t ks r.log e)) r.does.0 r.does.2 (ap (λ (x : Configuration V). x.views) r.does.6)
 
-    pub renew_row : (t : ℕ) (ks : Stripes V) (g : Option (Name × Reason)) (r : Steps hash set (Renew t ks g) v w) → w ≡ gave r.before t (renewing v t r.does.1 ks g)
-    renew_row t ks g r = new_view (Renew t ks g) v w r (λ u. gave r.before t (renewing u t r.does.1 ks g)) r.does.0 r.does.2 (ap (λ (x : Configuration V). x.views) r.does.6)
+    pub renew_row : (t : ℕ) (ks : Stripes V) (g : Option (Name × Reason)) (r : Steps hash set (Renew t ks g) v w) → w ≡ gave_by (Gave ks) r.before t (renewing v t r.does.1 ks g)
+    renew_row t ks g r = new_view (Renew t ks g) v w r (λ u. gave_by (Gave ks) r.before t (renewing u t r.does.1 ks g)) r.does.0 r.does.2 (ap (λ (x : Configuration V). x.views) r.does.6)
 
     pub look_row : (t p : ℕ) (r : Steps hash set (Look t p) v w) → w ≡ record v { seen = r.log; told = p; watched = r.before.trace }
     look_row t p r = new_view (Look t p) v w r (λ u. record u { seen = r.log; told = p; watched = r.before.trace }) r.does.0 r.does.1 (ap (λ (x : Configuration V). x.views) r.does.5)

@@ -115,13 +115,11 @@ module _ (V : Type 0) (hash : Name → ℕ) (set : Settings) (range : AreInRange
 
   begins : Opening k set set.callers set.power (begun_world (replicate (2 ^ set.s) 0))
   begins = record {
-    contents = λ _. nothing;
     words = refl;
     no_step = refl;
     homes_sized = length-map (slots_of (2 ^ set.s)) ∙ length-slots_of (2 ^ set.s);
     homes = λ t l. at_map (slots_of (2 ^ set.s)) t (some (Some (fresh set t))) (slot_there (2 ^ set.s) t l);
     lawful = empty_lawful;
-    power = λ t l. refl;
     empty_whole = binds_none;
     keeper = λ _. 0;
     views = views (replicate (2 ^ set.s) 0);

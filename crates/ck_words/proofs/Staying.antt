@@ -5,7 +5,7 @@ use Rattle.std.proofs.lemmas.List.Elements.{All-nil, All-cons, All-head, All-tai
 use Rattle.ck_model.specs.declared.settings.Settings.{Settings}
 use Rattle.ck_model.specs.Promise.{Name}
 use Rattle.ck_model.specs.Numbered.{IsIn}
-use Rattle.ck_model.specs.Contents.{layout_of}
+use Rattle.ck_model.specs.Contents.{layout_of, Stripes}
 use Rattle.ck_model.proofs.Histories.{subhistory-append}
 use Rattle.ck_model.specs.declared.history.Entry.{Entry}
 use Rattle.ck_core.specs.declared.view.RoomNote.{RoomNote}
@@ -83,8 +83,8 @@ module _ {V : Type 0} where
   pub gives_none : (v : View V) → GivesAlone v v
   gives_none v = ([], sym (append-nil v.steps), All-nil IsGive)
 
-  pub gives_one : (v w : View V) (t : ℕ) → w.steps ≡ v.steps ++ event v.by Gave t ∷ [] → GivesAlone v w
-  gives_one v w t one = let e = event v.by Gave t in (e ∷ [], one, All-cons IsGive e [] (let is : IsGive e = refl in is) (All-nil IsGive))
+  pub gives_one : (v w : View V) (t : ℕ) (ks : Stripes V) → w.steps ≡ v.steps ++ event v.by (Gave ks) t ∷ [] → GivesAlone v w
+  gives_one v w t ks one = let e = event v.by (Gave ks) t in (e ∷ [], one, All-cons IsGive e [] (let is : IsGive e = (ks, refl) in is) (All-nil IsGive))
 
   pub gives_on : (u v w : View V) → GivesAlone u v → GivesAlone v w → GivesAlone u w
   gives_on u v w f g = (f.0 ++ g.0, g.1 ∙ (ap (λ l. l ++ g.0) f.1 ∙ append_assoc u.steps f.0 g.0), All-append IsGive f.0 g.0 f.2 g.2)
@@ -92,15 +92,15 @@ module _ {V : Type 0} where
   -- by which none was missed
   missed_never : (es : List (LockEvent V)) → All IsGive es → missed_in es ≡ []
   missed_never [] all = refl
-  missed_never (e ∷ es) all = λ i. missed_never es (All-tail IsGive e es all) i ++ missed_by ((All-head IsGive e es all) i) e.stripe
+  missed_never (e ∷ es) all = λ i. missed_never es (All-tail IsGive e es all) i ++ missed_by ((All-head IsGive e es all).1 i) e.stripe
 
   -- what was decided after other steps
   pub decides_since : (u v w : View V) → v.by ≡ u.by → WatchesMore u v → DecidesThenGives v w → DecidesThenGives u w
   decides_since u v w same f d =
       let by : u.by ≡ Some d.0 = sym same ∙ d.2 in
       let own = steps_of d.0 f.0 in
-      let before : v.steps ++ d.4 ≡ u.steps ++ (own ++ d.4) = ap (λ l. l ++ d.4) (f.2 d.0 by).0 ∙ append_assoc u.steps own d.4 in
-      (d.0, d.1, by, d.3, own ++ d.4, d.5, d.6 ∙ (λ i. before i ++ event (same i) (Decided d.3) d.1 ∷ d.5), d.7)
+      let before : v.steps ++ d.5 ≡ u.steps ++ (own ++ d.5) = ap (λ l. l ++ d.5) (f.2 d.0 by).0 ∙ append_assoc u.steps own d.5 in
+      (d.0, d.1, by, d.3, d.4, own ++ d.5, d.6, d.7 ∙ (λ i. before i ++ event (same i) (Decided d.3 d.4) d.1 ∷ d.6), d.8)
 
   -- the same of the last tries
   pub last_since : (turns t : ℕ) (p q r : PassState V) → q.view.by ≡ p.view.by → q.view.by ≢ None → WatchesMore p.view q.view → FindsLast turns t q r → FindsLast turns t p r
@@ -126,9 +126,34 @@ module _ {V : Type 0} where
       (missed_in l.0, ap missed_in l.2 ∙ (all ∙ (some ∙ sym (append_assoc (replicate turns t) (missed_in l.0) (found_held p.view)))))
 
   -- a moment at which stripes were held was watched ever after
-  pub held_on : (P : ℕ → Type 0) (log : List (Entry V)) (v w : View V) → (more : List (LockEvent V)) × (w.watched ≡ v.watched ++ more) → w.by ≡ v.by → HasHeld P log v → HasHeld P log w
+  pub held_on : (s : ℕ) (start : List (LockEvent V)) (log : List (Entry V)) (before after : Stripes V) (v w : View V) → (more : List (LockEvent V)) × (w.watched ≡ v.watched ++ more) → w.by ≡ v.by → HasHeld s start log before after v → HasHeld s start log before after w
   unfolding starts_on
-  held_on P log v w more by h = (h.0, starts_on h.0 v.watched w.watched h.1 more, (λ t x. h.2 t x ∙ sym by), h.3)
+  held_on s start log before after v w more by h = record {
+    moment = h.moment;
+    step = h.step;
+    since = h.since;
+    watched = starts_on (h.moment ++ h.step ∷ []) v.watched w.watched h.watched more;
+    own = by ∙ h.own;
+    holders = λ t l. h.holders t l ∙ sym by;
+    history = h.history;
+    contained = h.contained;
+    contain = h.contain;
+  }
+
+  -- and begins with what had been watched before
+  pub held_since : (s : ℕ) (start first : List (LockEvent V)) (log : List (Entry V)) (before after : Stripes V) (v : View V) → (more : List (LockEvent V)) × (start ≡ first ++ more) → HasHeld s start log before after v → HasHeld s first log before after v
+  unfolding starts_on
+  held_since s start first log before after v more h = record {
+    moment = h.moment;
+    step = h.step;
+    since = starts_on first start h.moment more h.since;
+    watched = h.watched;
+    own = h.own;
+    holders = h.holders;
+    history = h.history;
+    contained = h.contained;
+    contain = h.contain;
+  }
 
   -- misses alone, and more of them
   pub alone_on : (m n t : ℕ) (v : View V) (first later : List (LockEvent V)) → MissesAlone n t v first → MissesAlone m t v later → MissesAlone (m + n) t v (first ++ later)
@@ -165,13 +190,13 @@ module _ {V : Type 0} where
 
     pub stays_giving : (u : View V) → Stays u p.view → Stays u q.view
     stays_giving u s = stays_on u p.view q.view s
-        (subst (Stays p.view) (sym rest_view) (record { settings = refl; by = refl; mine = refl; others = refl; heard = (refl, refl, refl); no_slot = refl; seen = ([], sym (append-nil p.view.seen)); by_others = λ m e. refl; alone = λ _. refl; watched = watched_quiet hash w.settings (GiveRest g.0.number) p.view q.view g.2 Gave g.0.number refl; told = omega arith; doublings = refl; grown_from = refl }))
+        (subst (Stays p.view) (sym rest_view) (record { settings = refl; by = refl; mine = refl; others = refl; heard = (refl, refl, refl); no_slot = refl; seen = ([], sym (append-nil p.view.seen)); by_others = λ m e. refl; alone = λ _. refl; watched = watched_quiet hash w.settings (GiveRest g.0.number) p.view q.view g.2 (Gave []) g.0.number refl; told = omega arith; doublings = refl; grown_from = refl }))
 
     pub given_rest : GivesAlone p.view q.view
-    given_rest = gives_one p.view q.view g.0.number (ap (λ (v : View V). v.steps) rest_view)
+    given_rest = gives_one p.view q.view g.0.number [] (ap (λ (v : View V). v.steps) rest_view)
 
     pub found_giving : found_held q.view ≡ found_held p.view
-    found_giving = ap found_held rest_view ∙ found_by Gave g.2.before g.0.number (giving p.view g.0.number g.2.does.1 p.view.held None)
+    found_giving = ap found_held rest_view ∙ found_by (Gave []) g.2.before g.0.number (giving p.view g.0.number g.2.does.1 p.view.held None)
 
     pub seen_giving : q.view.seen ≡ p.view.seen
     seen_giving = ap (λ (v : View V). v.seen) rest_view

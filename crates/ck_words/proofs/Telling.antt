@@ -4,7 +4,7 @@ use Rattle.std.specs.Prelude.{max}
 use Rattle.std.proofs.lemmas.List.{reverse-reverse}
 use Rattle.ck_model.specs.declared.history.Reason.{Reason}
 use Rattle.ck_model.specs.Promise.{Name}
-use Rattle.ck_model.specs.Numbered.{IsIn, numbers, Holds}
+use Rattle.ck_model.specs.Numbered.{IsIn, AreDistinct, numbers, Holds}
 use Rattle.ck_model.specs.declared.contents.Content.{Content}
 use Rattle.ck_model.specs.declared.settings.Settings.{Settings}
 use Rattle.ck_core.specs.declared.view.View.{View}
@@ -12,8 +12,9 @@ use Rattle.ck_model.specs.Contents.{Layout, layout_of, Stripes, Lawful, power_of
 use Rattle.ck_model.proofs.Numbered.{held_first, in_held}
 use Rattle.ck_stripe.specs.Stripe.{StripeState}
 use Rattle.ck_model.specs.declared.history.Entry.{Entry}
+use Rattle.ck_core.specs.declared.trace.LockStep.{LockStep}
 use Rattle.ck_core.specs.declared.trace.LockStep.TheVariants.{Gave, Decided}
-use Rattle.ck_core.specs.declared.trace.LockEvent.{LockEvent}
+use Rattle.ck_core.specs.Contained.{told_by}
 use Rattle.ck_core.specs.Steps.{Label, event, growing}
 use Rattle.ck_core.specs.Steps.Label.{GiveRest, Renew, Decide}
 use Rattle.ck_stripe.specs.Stripes.{stripe_at, contents_of}
@@ -135,11 +136,17 @@ module _ {V : Type 0} where
         (s.doublings ∙ (counted ∙ λ i. p.view.doublings + (new i - old i)), s.grown_from ∙ (noted ∙ λ i. growing p.view.grown_from (reverse p.view.held) (new i - old i)))
 
     -- it held them before, where they are all
-    held_home : (hash : Name → ℕ) (set : Settings) → p.view.settings ≡ set → (m : Label V) (g : Steps hash set m p.view q.view) (e : LockEvent V) → q.view.watched ≡ g.before.trace ++ e ∷ [] → q.view.by ≡ p.view.by
-        → ((t : ℕ) → t < 2 ^ p.view.settings.s → IsIn t (numbers p.view.held)) → HasHeld (λ t. t < 2 ^ p.view.settings.s) p.view.seen r.view
-    held_home hash set of m g e watched by =
-        subst (λ (x : Settings). ((t : ℕ) → t < 2 ^ x.s → IsIn t (numbers p.view.held)) → HasHeld (λ t. t < 2 ^ x.s) p.view.seen r.view) (sym of)
-        (λ all. held_on (λ t. t < 2 ^ set.s) p.view.seen q.view r.view (s.watched.0, s.watched.1) s.by (held_then hash set m p.view q.view g e watched by all))
+    held_home : (hash : Name → ℕ) (set : Settings) → p.view.settings ≡ set → (m : Label V) (g : Steps hash set m p.view q.view) (step : LockStep V) (t : ℕ) (now : Stripes V) → told_by step ≡ reverse now → AreDistinct (numbers (reverse now))
+        → q.view.watched ≡ g.before.trace ++ event p.view.by step t ∷ [] → q.view.by ≡ p.view.by
+        → ((u : ℕ) → u < 2 ^ p.view.settings.s → IsIn u (numbers p.view.held)) → HasHeld p.view.settings.s p.view.watched p.view.seen (reverse p.view.held) now r.view
+    held_home hash set of m g step t now told apart watched by =
+        let start = p.view.watched in
+        let log = p.view.seen in
+        let before = reverse p.view.held in
+        subst (λ (x : Settings). ((u : ℕ) → u < 2 ^ x.s → IsIn u (numbers p.view.held)) → HasHeld x.s start log before now r.view) (sym of)
+        (λ all. subst (λ (after : Stripes V). HasHeld set.s start log before after r.view) (ap reverse told ∙ reverse-reverse now)
+        (held_on set.s start log before (reverse (told_by step)) q.view r.view (s.watched.0, s.watched.1) s.by
+        (held_then hash set m p.view q.view g step t (subst (λ (hs : Stripes V). AreDistinct (numbers hs)) (sym told) apart) watched by all)))
 
   -- the caller's doublings were counted, where they went home by no call
   pub doubled_renewed : (hash : Name → ℕ) (w : WordsState) (why : Option (Name × Reason)) (p q r : PassState V) → p.view.settings ≡ w.settings → Sends hash w (λ t ks. Renew t ks why) p q → Stays q.view r.view → IsDoubledBy p r
@@ -150,7 +157,7 @@ module _ {V : Type 0} where
       let row = renew_row hash w.settings p.view q.view g.0.number (reverse now) why g.2 in
       record {
         counted = counted_home p q r rest now refl g.0.number g.2.does.1 g.2.does.3 (g.2.does.4.renewed.same ∙ held) (ap (λ (v : View V). v.doublings) row) (ap (λ (v : View V). v.grown_from) row);
-        held = held_home p q r rest hash w.settings of step g.2 (event p.view.by Gave g.0.number) (ap (λ (v : View V). v.watched) row) (ap (λ (v : View V). v.by) row);
+        held = held_home p q r rest hash w.settings of step g.2 (Gave (reverse now)) g.0.number now refl g.2.does.4.renewed.lawful.distinct (ap (λ (v : View V). v.watched) row) (ap (λ (v : View V). v.by) row);
       }
 
   -- and where they did by one
@@ -162,5 +169,5 @@ module _ {V : Type 0} where
       let row = decide_row hash w.settings p.view q.view g.0.number (reverse now) e g.2 in
       record {
         counted = counted_home p q r rest now refl g.0.number g.2.does.1 g.2.does.4 (g.2.does.5.renewed.same ∙ held) (ap (λ (v : View V). v.doublings) row) (ap (λ (v : View V). v.grown_from) row);
-        held = held_home p q r rest hash w.settings of step g.2 (event p.view.by (Decided e) g.0.number) (ap (λ (v : View V). v.watched) row) (ap (λ (v : View V). v.by) row);
+        held = held_home p q r rest hash w.settings of step g.2 (Decided e (reverse now)) g.0.number now refl g.2.does.5.renewed.lawful.distinct (ap (λ (v : View V). v.watched) row) (ap (λ (v : View V). v.by) row);
       }

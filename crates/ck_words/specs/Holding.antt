@@ -1,15 +1,17 @@
 -- What it leaves to take several stripes, and to give them back.
-use Rattle.std.specs.Prelude.{◌≡◌, ℕ, ◌+◌, ◌-◌, ◌^◌, ◌<◌, ◌≤◌, max, List, length, slice_index, take, reverse, Result, OnOk, IfErr}
+use Rattle.std.specs.Prelude.{◌≡◌, ℕ, ◌+◌, ◌-◌, ◌^◌, ◌<◌, ◌≤◌, max, List, [], ◌∷◌, ◌++◌, length, slice_index, take, reverse, Some, Result, OnOk, IfErr}
 use Rattle.ck_model.specs.declared.history.Entry.{Entry}
 use Rattle.ck_model.specs.Promise.{Name, StartsWith}
 use Rattle.ck_model.specs.Numbered.{Holds, IsIn, numbers}
 use Rattle.ck_model.specs.declared.contents.Content.{Content}
+use Rattle.ck_model.specs.Contents.{Stripes}
 use Rattle.ck_stripe.specs.Stripe.{StripeState}
 use Rattle.ck_stripe.specs.Stripes.{contents_of, HaveNoSpare}
 use Rattle.ck_stripe.specs.Tables.{power_in}
 use Rattle.ck_core.specs.declared.trace.LockEvent.{LockEvent}
 use Rattle.ck_core.specs.declared.view.View.{View}
 use Rattle.ck_core.specs.Trace.{holder, decided_in}
+use Rattle.ck_core.specs.Contained.{Contain}
 use Rattle.ck_core.specs.State.{found_held}
 use Rattle.ck_core.specs.Steps.{growing}
 use Rattle.ck_words.specs.Words.{WordsState}
@@ -81,9 +83,17 @@ module _ {V : Type 0} where
     pub seen : q.view.seen ≡ p.view.seen
     pub given : GivesAlone p.view q.view
 
-  -- The view's caller has watched a moment of the trace at which it held each such stripe, and this was the history.
-  abbrev pub HasHeld : (ℕ → Type 0) → List (Entry V) → View V → Type 0
-  HasHeld P log v = (moment : List (LockEvent V)) × StartsWith v.watched moment × ((t : ℕ) → P t → holder moment t ≡ v.by) × (decided_in moment ≡ log)
+  -- The view's caller has watched a moment of the trace, which begins with `start`, at which it held each of 2^s stripes and this was the history. By the trace they contained `before` then, and since its next step, which was its caller's, they contain `after`.
+  pub record HasHeld (s : ℕ) (start : List (LockEvent V)) (log : List (Entry V)) (before after : Stripes V) (v : View V) : Type 0 where
+    pub moment : List (LockEvent V)
+    pub step : LockEvent V
+    pub since : StartsWith moment start
+    pub watched : StartsWith v.watched (moment ++ step ∷ [])
+    pub own : v.by ≡ Some step.by
+    pub holders : (t : ℕ) → t < 2 ^ s → holder moment t ≡ v.by
+    pub history : decided_in moment ≡ log
+    pub contained : Contain s moment before
+    pub contain : Contain s (moment ++ step ∷ []) after
 
   -- each of the stripes has this power
   abbrev pub AreOfPower : ℕ → List (StripeState V) → Type 0
@@ -97,7 +107,7 @@ module _ {V : Type 0} where
   abbrev pub IsToldPower : PassState V → PassState V → Type 0
   IsToldPower p q = q.view.told ≡ max p.view.told (power_in p.stripes)
 
-  -- From p to q all stripes went home, and the caller has made as many doublings more as their power rose by since they were taken, and noted what they contained then if it rose. If they were all stripes, it held all at a moment at which it had seen the history.
+  -- From p to q all stripes went home, and the caller has made as many doublings more as their power rose by since they were taken, and noted what they contained then if it rose. If they were all stripes, it held all at a moment at which it had seen the history, when they contained what they did when they were taken; and from its next step on what they contain.
   pub record IsDoubledBy (p q : PassState V) : Type 0 where
     pub counted : (a b : ℕ) → ((t : ℕ) (c : Content V) → Holds p.view.held t c → c.power ≡ a) → AreOfPower b p.stripes → (q.view.doublings ≡ p.view.doublings + (b - a)) × (q.view.grown_from ≡ growing p.view.grown_from (reverse p.view.held) (b - a))
-    pub held : ((t : ℕ) → t < 2 ^ p.view.settings.s → IsIn t (numbers p.view.held)) → HasHeld (λ t. t < 2 ^ p.view.settings.s) p.view.seen q.view
+    pub held : ((t : ℕ) → t < 2 ^ p.view.settings.s → IsIn t (numbers p.view.held)) → HasHeld p.view.settings.s p.view.watched p.view.seen (reverse p.view.held) (contents_of p.stripes) q.view

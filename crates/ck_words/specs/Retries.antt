@@ -4,6 +4,7 @@ use Rattle.ck_model.specs.declared.history.Entry.{Entry}
 use Rattle.ck_model.specs.declared.settings.Settings.{Settings}
 use Rattle.ck_model.specs.Promise.{Name, StartsWith, subhistory}
 use Rattle.ck_model.specs.Numbered.{IsIn}
+use Rattle.ck_model.specs.Contents.{Stripes}
 use Rattle.ck_core.specs.declared.trace.LockEvent.{LockEvent}
 use Rattle.ck_core.specs.declared.view.RoomNote.{RoomNote}
 use Rattle.ck_core.specs.declared.view.View.{View}
@@ -21,7 +22,7 @@ module _ {V : Type 0} where
 
   -- the step gave a stripe back
   abbrev pub IsGive : LockEvent V → Type 0
-  IsGive e = e.step ≡ Gave
+  IsGive e = (ks : Stripes V) × (e.step ≡ Gave ks)
 
   -- From v to w the caller's own steps gave stripes back, and did nothing else.
   abbrev pub GivesAlone : View V → View V → Type 0
@@ -29,7 +30,7 @@ module _ {V : Type 0} where
 
   -- From v to w the caller m decided an entry by a step on the word of stripe t, and behind it its own steps gave stripes back, and did nothing else.
   abbrev pub DecidesThenGives : View V → View V → Type 0
-  DecidesThenGives v w = (m t : ℕ) × (v.by ≡ Some m) × (e : Entry V) × (before gives : List (LockEvent V)) × (w.steps ≡ v.steps ++ before ++ event v.by (Decided e) t ∷ gives) × All IsGive gives
+  DecidesThenGives v w = (m t : ℕ) × (v.by ≡ Some m) × (e : Entry V) × (ks : Stripes V) × (before gives : List (LockEvent V)) × (w.steps ≡ v.steps ++ before ++ event v.by (Decided e ks) t ∷ gives) × All IsGive gives
 
   -- n misses of the stripe t by the view's caller
   abbrev pub misses : ℕ → ℕ → View V → List (LockEvent V)

@@ -21,7 +21,7 @@ use Rattle.ck_words.specs.Holding.{AreOfPower, HasHeld, IsDoubledBy, HasReleased
 use Rattle.ck_words.specs.Closing.{IsWhole}
 use Rattle.ck_words.proofs.WholeTables.{lawful_held}
 use Rattle.ck_words.proofs.Reversed.{held_reverse, of_reverse}
-use Rattle.ck_words.proofs.Staying.{starts_on, held_on}
+use Rattle.ck_words.proofs.Staying.{starts_on, held_on, held_since}
 use Rattle.cuckoo_map.specs.Needed.{DoublesNothing, NeedsToGrow, HasGrownFor, HaveOnePower, HoldsGrown}
 
 module _ {V : Type 0} where
@@ -108,9 +108,9 @@ module _ {V : Type 0} where
         (omega arith, e.1 ∙ growing_none p2.view.grown_from (reverse p2.view.held) (power - power) (omega arith))
 
     -- the caller held all stripes, where they were those
-    held_all : {set : Settings} → (p1.view.settings ≡ set) × ((t : ℕ) → t < 2 ^ set.s → IsIn t (numbers p1.view.held)) → HasHeld (λ t. t < 2 ^ set.s) p1.view.seen z.view
+    held_all : {set : Settings} → (p1.view.settings ≡ set) × ((t : ℕ) → t < 2 ^ set.s → IsIn t (numbers p1.view.held)) → HasHeld set.s p1.view.watched p1.view.seen (reverse p1.view.held) (contents_of p2.stripes) z.view
     held_all {set} all =
-        let Held : View V → Settings → Type 0 = λ v x. ((t : ℕ) → t < 2 ^ x.s → IsIn t (numbers v.held)) → HasHeld (λ t. t < 2 ^ x.s) v.seen z.view in
+        let Held : View V → Settings → Type 0 = λ v x. ((t : ℕ) → t < 2 ^ x.s → IsIn t (numbers v.held)) → HasHeld x.s v.watched v.seen (reverse v.held) (contents_of p2.stripes) z.view in
         subst (Held p1.view) all.0 (subst (λ (v : View V). Held v v.settings) view doubled.held) all.1
 
     -- those that were made had to be, where that was so
@@ -133,9 +133,9 @@ module _ {V : Type 0} where
             since = stays.seen;
             seen = subst (λ (v : View V). StartsWith z.view.seen v.seen) view seen;
             after = grown.after (let l : a < b = omega arith in l);
-            held = held_all (grown.all (let l : a < b = omega arith in l));
+            held = (contents_of p2.stripes, held_since set.s p1.view.watched p.view.watched p1.view.seen (reverse p1.view.held) (contents_of p2.stripes) z.view (stays.watched.0, stays.watched.1) (held_all (grown.all (let l : a < b = omega arith in l))));
             told = (let before = stays.told in let there = grown.told (let l : a < b = omega arith in l) in omega arith);
-            each = λ i l. grown.needed (a + i) (omega arith) (let below : a + i < b = omega arith in below);
+            each = λ power low high. grown.needed power low (let below : power < b = omega arith in below);
           };
         }
 
@@ -171,11 +171,11 @@ module _ {V : Type 0} where
 
   -- none before those that had to be made
   pub grown_since : {hash : Name → ℕ} {set : Settings} {q : Name} {more : List (RoomNote V)} (p r z : PassState V) → StaysBut more p.view r.view → HasGrownFor hash set q r z → HasGrownFor hash set q p z
-  grown_since p r z stays grown = record {
+  grown_since {hash} {set} p r z stays grown = record {
     doublings = grown.doublings;
     made = grown.made ∙ ap (λ n. n + grown.doublings) stays.doublings;
     none = λ no. grown.none no ∙ stays.grown_from;
-    needed = λ some. let n = grown.needed some in record { log = n.log; contents = n.contents; noted = n.noted ∙ ap {B = List (Stripes V)} (λ l. n.contents ∷ l) stays.grown_from; since = starts_on p.view.seen r.view.seen n.log stays.seen n.since; seen = n.seen; after = n.after; held = n.held; told = (let before = stays.told in let there = n.told in omega arith); each = n.each };
+    needed = λ some. let n = grown.needed some in record { log = n.log; contents = n.contents; noted = n.noted ∙ ap {B = List (Stripes V)} (λ l. n.contents ∷ l) stays.grown_from; since = starts_on p.view.seen r.view.seen n.log stays.seen n.since; seen = n.seen; after = n.after; held = (n.held.0, held_since set.s r.view.watched p.view.watched n.log n.contents n.held.0 z.view (stays.watched.0, stays.watched.1) n.held.1); told = (let before = stays.told in let there = n.told in omega arith); each = n.each };
   }
 
   -- none after them
@@ -184,13 +184,13 @@ module _ {V : Type 0} where
     doublings = grown.doublings;
     made = same.0 ∙ grown.made;
     none = λ no. same.1 ∙ grown.none no;
-    needed = λ some. let n = grown.needed some in record { log = n.log; contents = n.contents; noted = same.1 ∙ n.noted; since = n.since; seen = starts_on n.log r.view.seen z.view.seen n.seen seen; after = n.after; held = held_on (λ t. t < 2 ^ set.s) n.log r.view z.view (watched.0, watched.1) by n.held; told = n.told; each = n.each };
+    needed = λ some. let n = grown.needed some in record { log = n.log; contents = n.contents; noted = same.1 ∙ n.noted; since = n.since; seen = starts_on n.log r.view.seen z.view.seen n.seen seen; after = n.after; held = (n.held.0, held_on set.s p.view.watched n.log n.contents n.held.0 r.view z.view (watched.0, watched.1) by n.held.1); told = n.told; each = n.each };
   }
 
   -- it counts what passes have seen, were told and made alone
-  pub grown_alike : {hash : Name → ℕ} {set : Settings} {q : Name} (p z p2 z2 : PassState V) → p2.view.seen ≡ p.view.seen → p2.view.told ≡ p.view.told → DoublesNothing p p2 → z2.view.seen ≡ z.view.seen → DoublesNothing z z2 → z2.view.watched ≡ z.view.watched → z2.view.by ≡ z.view.by
+  pub grown_alike : {hash : Name → ℕ} {set : Settings} {q : Name} (p z p2 z2 : PassState V) → p2.view.seen ≡ p.view.seen → p2.view.told ≡ p.view.told → p2.view.watched ≡ p.view.watched → DoublesNothing p p2 → z2.view.seen ≡ z.view.seen → DoublesNothing z z2 → z2.view.watched ≡ z.view.watched → z2.view.by ≡ z.view.by
       → HasGrownFor hash set q p z → HasGrownFor hash set q p2 z2
-  grown_alike {hash} {set} p z p2 z2 seen told made seen2 made2 watched2 by2 grown = record {
+  grown_alike {hash} {set} p z p2 z2 seen told watched made seen2 made2 watched2 by2 grown = record {
     doublings = grown.doublings;
     made = made2.0 ∙ (grown.made ∙ ap (λ n. n + grown.doublings) (sym made.0));
     none = λ no. made2.1 ∙ (grown.none no ∙ sym made.1);
@@ -201,7 +201,7 @@ module _ {V : Type 0} where
       since = subst (λ l. StartsWith n.log l) (sym seen) n.since;
       seen = subst (λ l. StartsWith l n.log) (sym seen2) n.seen;
       after = n.after;
-      held = held_on (λ t. t < 2 ^ set.s) n.log z.view z2.view ([], watched2 ∙ sym (append-nil z.view.watched)) by2 n.held;
+      held = (n.held.0, subst (λ start. HasHeld set.s start n.log n.contents n.held.0 z2.view) (sym watched) (held_on set.s p.view.watched n.log n.contents n.held.0 z.view z2.view ([], watched2 ∙ sym (append-nil z.view.watched)) by2 n.held.1));
       told = subst (λ m. m ≤ power_of n.contents) (sym told) n.told;
       each = n.each;
     };

@@ -23,6 +23,7 @@ use Rattle.ck_words.specs.Holding.{HasHeld, IsToldPower, IsDoubledBy}
 use Rattle.ck_words.specs.Renewing.{HasRenewed}
 use Rattle.ck_words.specs.Closing.{IsWhole}
 use Rattle.ck_words.proofs.Reversed.{of_reverse}
+use Rattle.ck_words.proofs.Staying.{held_since}
 use Rattle.ck_words.proofs.WholeTables.{lawful_held}
 use Rattle.cuckoo_map.specs.Refusals.{GivesGrounds}
 use Rattle.cuckoo_map.proofs.Sizes.{has_all, holds_each}
@@ -79,19 +80,20 @@ module _ {V : Type 0} (hash : Name → ℕ) (w : WordsState) (p p1 p2 z : PassSt
       let most : max p2.view.told (power_in p2.stripes) ≡ power_in p2.stripes = omega arith in
       told ∙ (most ∙ h.same)
 
-  -- the caller held them all
-  held_all : p1.view.settings ≡ w.settings → IsDoubledBy p2 z → HasHeld (λ t. t < 2 ^ w.settings.s) p2.view.seen z.view
+  -- the caller held them all, since p
+  held_all : p1.view.settings ≡ w.settings → IsDoubledBy p2 z → HasHeld w.settings.s p.view.watched p2.view.seen (reverse p2.view.held) (contents_of p2.stripes) z.view
   held_all of doubled =
       let settings : p2.view.settings ≡ w.settings = ap (λ (v : View V). v.settings) same ∙ of in
       let all : (t : ℕ) → t < 2 ^ w.settings.s → IsIn t (numbers p2.view.held) = subst (λ (v : View V). (t : ℕ) → t < 2 ^ w.settings.s → IsIn t (numbers v.held)) (sym same) (holds_each hash w.settings p1 whole) in
-      subst (λ (x : Settings). ((t : ℕ) → t < 2 ^ x.s → IsIn t (numbers p2.view.held)) → HasHeld (λ t. t < 2 ^ x.s) p2.view.seen z.view) settings doubled.held all
+      let held = subst (λ (x : Settings). ((t : ℕ) → t < 2 ^ x.s → IsIn t (numbers p2.view.held)) → HasHeld x.s p2.view.watched p2.view.seen (reverse p2.view.held) (contents_of p2.stripes) z.view) settings doubled.held all in
+      held_since w.settings.s p2.view.watched p.view.watched p2.view.seen (reverse p2.view.held) (contents_of p2.stripes) z.view (stays.watched.0, ap (λ (v : View V). v.watched) same ∙ stays.watched.1) held
 
-  pub gives_grounds : p1.view.settings ≡ w.settings → (q : Name) (why : Reason) → (Lawful k (reverse p2.view.held) → Grounds k w.settings.min_load (contents_of p2.stripes) q why) → z.view.seen ≡ p2.view.seen → IsToldPower p2 z → IsDoubledBy p2 z → GivesGrounds hash w.settings q why (noted q why (contents_of p2.stripes) ∷ []) z
+  pub gives_grounds : p1.view.settings ≡ w.settings → (q : Name) (why : Reason) → (Lawful k (reverse p2.view.held) → Grounds k w.settings.min_load (contents_of p2.stripes) q why) → z.view.seen ≡ p2.view.seen → IsToldPower p2 z → IsDoubledBy p2 z → GivesGrounds hash w.settings q why (noted q why (contents_of p2.stripes) ∷ []) p z
   gives_grounds of q why grounds seen told doubled = record {
     contents = contents_of p2.stripes;
     is_noted = (0, omega arith, refl);
     grounds = grounds lawful;
     after = leaves seen;
-    held = subst (λ log. HasHeld (λ t. t < 2 ^ w.settings.s) log z.view) (sym seen) (held_all of doubled);
+    held = (reverse p2.view.held, subst (λ log. HasHeld w.settings.s p.view.watched log (reverse p2.view.held) (contents_of p2.stripes) z.view) (sym seen) (held_all of doubled));
     power = told_power told;
   }

@@ -58,7 +58,7 @@ module _ {V : Type 0} where
       let here : Without set.s (contents_of ss2) = subst (λ (x : ℕ × Stripes V). Without x.0 x.1) (λ i. (of_table i, kept i)) none in
       made lawful (here set.max (keeps lawful).renewed.lawful)
 
-  shows_lack : (hash : Name → ℕ) (set : Settings) (q : Name) (l : lack.Lack) (more : List (RoomNote V)) (p z : PassState V) → GivesGrounds hash set q (reason_of_lack l) more z → ShowsWhy hash set q (why_of l) more p z
+  shows_lack : (hash : Name → ℕ) (set : Settings) (q : Name) (l : lack.Lack) (more : List (RoomNote V)) (p z : PassState V) → GivesGrounds hash set q (reason_of_lack l) more p z → ShowsWhy hash set q (why_of l) more p z
   shows_lack hash set q Memory more p z g = g
   shows_lack hash set q Full more p z g = g
   shows_lack hash set q LoadTooLow more p z g = g
@@ -96,7 +96,7 @@ module _ {V : Type 0} where
     room_there held = record { more = []; own = All-nil _; stays = stays_there; held = held }
 
     -- none could be made, and they went home
-    pub refused_there : (hash : Name → ℕ) (set : Settings) (q : Name) (w : WordsState) (l : lack.Lack) (z : PassState V) → HasRefused w q (reason_of_lack l) (as_doubled p2 z) z → GivesGrounds hash set q (reason_of_lack l) (noted q (reason_of_lack l) (contents_of p2.stripes) ∷ []) z → HasGrownFor hash set q p2 z → IsRefused hash set q (why_of l) p z
+    pub refused_there : (hash : Name → ℕ) (set : Settings) (q : Name) (w : WordsState) (l : lack.Lack) (z : PassState V) → HasRefused w q (reason_of_lack l) (as_doubled p2 z) z → GivesGrounds hash set q (reason_of_lack l) (noted q (reason_of_lack l) (contents_of p2.stripes) ∷ []) p z → HasGrownFor hash set q p2 z → IsRefused hash set q (why_of l) p z
     refused_there hash set q w l z r grounds grown =
         let why : Reason = reason_of_lack l in
         let note : RoomNote V = noted q why (contents_of p2.stripes) in

@@ -53,7 +53,7 @@ use Rattle.ck_words.proofs.Reversed.{in_of_reverse, bindings-reverse, lawful_rev
 use Rattle.ck_words.proofs.Seating.{length-numbers, number_at}
 use Rattle.ck_words.proofs.WholeTables.{lawful_held}
 use Rattle.cuckoo_map.specs.Refusals.{IsStripeIn, why_of}
-use Rattle.cuckoo_map.specs.Locking.{LockedState, locked_of, map_of, locked_power, IsSameSession, IsLocked, HasLocked, HasActed, HasChanged, DoublesFor, Clears, Lists, KeepsMap, LacksRoom, SeeksRoom, Retains}
+use Rattle.cuckoo_map.specs.Locking.{LockedState, locked_of, map_of, locked_power, IsSameSession, IsLocked, HasLocked, HasActed, HasChanged, HasDoubledFor, Clears, Lists, KeepsMap, LacksRoom, SeeksRoom, Retains}
 use Rattle.cuckoo_map.proofs.Sizes.{renewed_same, has_all, few_of_each}
 use Rattle.cuckoo_map.proofs.Counted.{one_of_lawful}
 
@@ -312,7 +312,7 @@ module _ {V : Type 0} where
     has_changed changes call = record { acted = has_acted call; power = keeps_power l q kept is changes }
 
   -- a locked table whose number of buckets stayed has not grown
-  pub grows_not : (hash : Name → ℕ) (q : Name) (l m : LockedState V) → locked_power m ≡ locked_power l → DoublesFor hash q l m
+  pub grows_not : (hash : Name → ℕ) (q : Name) (l m : LockedState V) → locked_power m ≡ locked_power l → HasDoubledFor hash q l m
   grows_not hash q l m same power from below = absurd (omega arith)
 
   -- room was made or not, and then all stripes were settled
@@ -357,11 +357,11 @@ module _ {V : Type 0} where
         }) seeks.refused
 
     -- and the table grew for want of it alone
-    pub grows_for : (s : LockedState V) → locked_of w p ≡ s → DoublesFor hash name s (locked_of w q)
+    pub grows_for : (s : LockedState V) → locked_of w p ≡ s → HasDoubledFor hash name s (locked_of w q)
     grows_for s is =
         let before : locked_power (locked_of w p) ≡ power_in p.stripes = power_shown p.stripes (some p.stripes l.table) in
         let after : locked_power (locked_of w q) ≡ power_in q.stripes = power_shown q.stripes (some q.stripes seeks.held.table) in
-        subst (λ (x : LockedState V). DoublesFor hash name x (locked_of w q)) is
+        subst (λ (x : LockedState V). HasDoubledFor hash name x (locked_of w q)) is
         (λ power from below. seeks.grows l.renewed.lawful power (subst (λ n. n ≤ power) before from) (subst (λ n. power < n) after below))
       where
         some : (ss : List (StripeState V)) → IsTable w.settings.s ss → 0 < length ss
@@ -375,5 +375,5 @@ module _ {V : Type 0} where
   }
 
   -- what it has grown once room was made, where the number of buckets then stayed
-  pub grows_since : (hash : Name → ℕ) (q : Name) (l m n : LockedState V) → DoublesFor hash q l m → locked_power n ≡ locked_power m → DoublesFor hash q l n
+  pub grows_since : (hash : Name → ℕ) (q : Name) (l m n : LockedState V) → HasDoubledFor hash q l m → locked_power n ≡ locked_power m → HasDoubledFor hash q l n
   grows_since hash q l m n grows same power from below = grows power from (subst (λ x. power < x) same below)

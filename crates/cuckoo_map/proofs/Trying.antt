@@ -13,7 +13,7 @@ use Rattle.ck_words.specs.Words.{WordsState}
 use Rattle.ck_words.specs.Passes.{PassState, IsPassOf, IsIdle}
 use Rattle.ck_words.specs.Retries.{StaysBut, as_doubled}
 use Rattle.ck_words.specs.Closing.{IsCaller}
-use Rattle.ck_words.proofs.Staying.{last_since, stays_then}
+use Rattle.ck_words.proofs.Staying.{last_since, held_since, stays_then}
 use Rattle.cuckoo_map.specs.declared.room.Room.{Room}
 use Rattle.cuckoo_map.specs.declared.refusal.Why.{Why}
 use Rattle.cuckoo_map.specs.declared.refusal.Why.TheVariants.{Busy, Memory, Full, LoadTooLow}
@@ -115,13 +115,13 @@ module _ {V : Type 0} (q : Name) where
       says_no_room = (said, full.0, stays_since.no_slot, says_full)
 
       -- what was noted of room since is noted of it in all
-      grounds_since : (why : Reason) → GivesGrounds hash w.settings q why more z → GivesGrounds hash w.settings q why said z
+      grounds_since : (why : Reason) → GivesGrounds hash w.settings q why more r z → GivesGrounds hash w.settings q why said p z
       grounds_since why g = record {
         contents = g.contents;
         is_noted = let x : RoomNote V = noted q why g.contents in Contains-append_left (more ++ h.more) (first ∷ []) x (Contains-append_left more h.more x g.is_noted);
         grounds = g.grounds;
         after = g.after;
-        held = g.held;
+        held = (g.held.0, held_since w.settings.s r.view.watched p.view.watched z.view.seen g.held.0 g.contents z.view (stays_until.watched.0, stays_until.watched.1) g.held.1);
         power = g.power;
       }
 

@@ -29,7 +29,7 @@ use Rattle.cuckoo_map.specs.declared.refusal.Why.{Why}
 use Rattle.cuckoo_map.specs.declared.refusal.Refused.{Refused}
 use Rattle.cuckoo_map.specs.Refusals.{IsStripeIn, why_of}
 use Rattle.cuckoo_map.specs.Growth.{IsLeastPower}
-use Rattle.cuckoo_map.specs.Needed.{NeedsToGrow}
+use Rattle.cuckoo_map.specs.Needed.{DoublesFor}
 use Rattle.cuckoo_map.specs.Callers.{CallerState, caller_of, pass_of, KeepsNotesBut}
 
 -- Its caller, what all stripes contained when it locked the table, and the stripes.
@@ -102,8 +102,8 @@ module _ {V : Type 0} where
     pub power : locked_power m ≡ locked_power l
 
   -- From l to m the table has doubled, if at all, for want of room for the name alone: at each power from that of l on, below that of m, no displacement made room for it, and enough slots were taken to grow.
-  abbrev pub DoublesFor : (Name → ℕ) → Name → LockedState V → LockedState V → Type 0
-  DoublesFor hash q l m = (power : ℕ) → locked_power l ≤ power → power < locked_power m → NeedsToGrow hash l.caller.table.settings q (contents_of l.stripes) power
+  abbrev pub HasDoubledFor : (Name → ℕ) → Name → LockedState V → LockedState V → Type 0
+  HasDoubledFor hash q l m = DoublesFor hash l.caller.table.settings q (contents_of l.stripes) (locked_power l) (locked_power m)
 
   -- From l to m all names were unbound. The number of buckets stayed.
   pub record Clears (l m : LockedState V) : Type 0 where
@@ -136,7 +136,7 @@ module _ {V : Type 0} where
   pub record LockedInsertionLeaves {A K X : Type 0} (answers : (Act V → Reply V → Type 0) → A → Type 0) (hash : Name → ℕ) (q : Name) (key : K) (x : X) (result : Result A (Refused K X)) (l m : LockedState V) : Type 0 where
     pub answered : IfOk result (answers (HasActed q l m))
     pub refused : IfErr result (GivesBack hash q key x l m)
-    pub grows : DoublesFor hash q l m
+    pub grows : HasDoubledFor hash q l m
 
   -- A locked table was to have 2^power buckets at least, and went from l to m. No binding changed. It says whether it had fewer: if so, it has just so many; if not, nothing changed.
   -- Refused for want of memory, it had fewer, and has fewer still.

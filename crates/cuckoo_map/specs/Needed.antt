@@ -23,17 +23,21 @@ module _ {V : Type 0} where
   abbrev pub NeedsToGrow : (Name → ℕ) → Settings → Name → Stripes V → ℕ → Type 0
   NeedsToGrow hash set q hs power = (ks : Stripes V) × IsDoubledTo (layout_of hash set) power hs ks × Grounds (layout_of hash set) set.min_load ks q Memory
 
-  -- What all stripes contained when the caller made the table double, which it noted then. It binds what the history leaves at a moment of the trace since p, at which the caller held them all, at no lower power than p was told. From there on the table needed so many doublings to have room for the name.
+  -- Each doubling from one power to another was needed for the name by what all stripes contained.
+  abbrev pub DoublesFor : (Name → ℕ) → Settings → Name → Stripes V → ℕ → ℕ → Type 0
+  DoublesFor hash set q hs low high = (power : ℕ) → low ≤ power → power < high → NeedsToGrow hash set q hs power
+
+  -- What all stripes contained when the caller made the table double, which it noted then. The trace tells it: they contained it at a moment since p at which the caller held them all. It binds what the history left then, at no lower power than p was told. From there on the table needed so many doublings to have room for the name.
   pub record NeedsDoublings (hash : Name → ℕ) (set : Settings) (q : Name) (doublings : ℕ) (p p2 : PassState V) : Type 0 where
     pub log : List (Entry V)
     pub contents : Stripes V
     pub since : StartsWith log p.view.seen
     pub seen : StartsWith p2.view.seen log
     pub after : After log (bindings contents)
-    pub held : HasHeld (λ t. t < 2 ^ set.s) log p2.view
+    pub held : (now : Stripes V) × HasHeld set.s p.view.watched log contents now p2.view
     pub told : p.view.told ≤ power_of contents
     pub noted : p2.view.grown_from ≡ contents ∷ p.view.grown_from
-    pub each : (i : ℕ) → i < doublings → NeedsToGrow hash set q contents (power_of contents + i)
+    pub each : DoublesFor hash set q contents (power_of contents) (power_of contents + doublings)
 
   -- From p to p2 the caller made the table double no more often than it had to for the name.
   pub record HasGrownFor (hash : Name → ℕ) (set : Settings) (q : Name) (p p2 : PassState V) : Type 0 where
@@ -53,4 +57,4 @@ module _ {V : Type 0} where
     pub after : power_of (reverse p.view.held) < power_of (contents_of p.stripes) → After p.view.seen (bindings (reverse p.view.held))
     pub all : power_of (reverse p.view.held) < power_of (contents_of p.stripes) → (p.view.settings ≡ set) × ((t : ℕ) → t < 2 ^ set.s → IsIn t (numbers p.view.held))
     pub told : power_of (reverse p.view.held) < power_of (contents_of p.stripes) → p.view.told ≤ power_of (reverse p.view.held)
-    pub needed : (power : ℕ) → power_of (reverse p.view.held) ≤ power → power < power_of (contents_of p.stripes) → NeedsToGrow hash set q (reverse p.view.held) power
+    pub needed : DoublesFor hash set q (reverse p.view.held) (power_of (reverse p.view.held)) (power_of (contents_of p.stripes))

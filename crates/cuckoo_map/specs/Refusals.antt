@@ -67,19 +67,19 @@ module _ {V : Type 0} where
   abbrev pub FindsOwnUnlessFull : (Name → ℕ) → Settings → Name → PassState V → PassState V → Type 0
   FindsOwnUnlessFull hash set q p p2 = FindsAmong (λ t. IsStripeOf (layout_of hash set) q t ⊎ SaysNoRoom q p p2) p p2
 
-  -- What all stripes contained when the pass noted it, which gives the reason to refuse the name. It binds what the history leaves, up to what the pass has seen, which was the history at a moment of the trace at which its caller held them all. The pass was told its power.
-  pub record GivesGrounds (hash : Name → ℕ) (set : Settings) (q : Name) (why : history.Reason) (more : List (RoomNote V)) (p : PassState V) : Type 0 where
+  -- What all stripes contained when the pass noted it, which gives the reason to refuse the name. The trace tells it: at a moment since p the caller held them all, and by its next step told that they contain this. It binds what the history left, which is all that the pass has seen. The pass was told its power.
+  pub record GivesGrounds (hash : Name → ℕ) (set : Settings) (q : Name) (why : history.Reason) (more : List (RoomNote V)) (p p2 : PassState V) : Type 0 where
     pub contents : Stripes V
     pub is_noted : Contains more (noted q why contents)
     pub grounds : Grounds (layout_of hash set) set.min_load contents q why
-    pub after : After p.view.seen (bindings contents)
-    pub held : HasHeld (IsStripeIn set) p.view.seen p.view
-    pub power : p.view.told ≡ power_of contents
+    pub after : After p2.view.seen (bindings contents)
+    pub held : (old : Stripes V) × HasHeld set.s p.view.watched p2.view.seen old contents p2.view
+    pub power : p2.view.told ≡ power_of contents
 
   -- what was found, or noted of room and why, where an insertion is refused for this reason; a busy one has made no doubling
   abbrev pub ShowsWhy : (Name → ℕ) → Settings → Name → Why → List (RoomNote V) → PassState V → PassState V → Type 0
   ShowsWhy hash set q (Busy t) more p p2 = (t < 2 ^ set.s) × FindsLast set.turns t p p2 × (set.callers ≢ 1) × (p2.view.doublings ≡ p.view.doublings) × HasMissed set.turns t p2
-  ShowsWhy hash set q why more p p2 = GivesGrounds hash set q (reason_of why) more p2
+  ShowsWhy hash set q why more p p2 = GivesGrounds hash set q (reason_of why) more p p2
 
   -- The insertion was refused for this reason, and has no entry. It has noted nothing of room but that its name's buckets were full, and the reason.
   pub record IsRefused (hash : Name → ℕ) (set : Settings) (q : Name) (why : Why) (p p2 : PassState V) : Type 0 where

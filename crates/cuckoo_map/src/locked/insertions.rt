@@ -8,7 +8,7 @@ ghost use Rattle.ck_section.specs.Places.{IsPlaceOf};
 ghost use Rattle.ck_section.specs.Calls.{effect, IsCall, IsWithoutRoom, ChangesContents};
 ghost use Rattle.ck_section.specs.RoomForAll.{KeepsOthers};
 ghost use Rattle.cuckoo_map.specs.Refusals.{why_of};
-ghost use Rattle.cuckoo_map.specs.Locking.{DoublesFor, LockedInsertionLeaves, KeepsMap, LacksRoom};
+ghost use Rattle.cuckoo_map.specs.Locking.{HasDoubledFor, LockedInsertionLeaves, KeepsMap, LacksRoom};
 ghost use Rattle.cuckoo_map.specs.Insertions.{TellsOf};
 
 use crate::locked::LockedOn;
@@ -175,7 +175,7 @@ impl<T: TableRef<K, V> + Drop, K: TableKey + Drop, V: Drop> LockedOn<T, K, V> {
             (contents_of self.new.stripes) (K.name key.now))) }
         ensures refused { IfErr result (λ lack.
             LacksRoom K.hash (K.name key.now) (why_of lack) self.old self.new) }
-        ensures grows { DoublesFor K.hash (K.name key.now) self.old self.new }
+        ensures grows { HasDoubledFor K.hash (K.name key.now) self.old self.new }
     {
         let settings = self.settings();
         self.table

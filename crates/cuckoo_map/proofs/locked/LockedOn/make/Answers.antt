@@ -1,7 +1,7 @@
 use Rattle.std.proofs.Common.{rules, ◌≡◌, ◌∙◌, ap, subst}
 use Rattle.ck_model.specs.Promise.{Name}
 use Rattle.ck_words.specs.Passes.{PassState}
-use Rattle.cuckoo_map.specs.Locking.{LockedState, locked_of, DoublesFor}
+use Rattle.cuckoo_map.specs.Locking.{LockedState, locked_of, HasDoubledFor}
 use Rattle.cuckoo_map.proofs.Sessions.{only_stripes, acted_locked, has_acted, keeps_power, grows_not}
 use Rattle.cuckoo_map.proofs.locked.LockedOn.make.Goals as goal
 
@@ -35,5 +35,5 @@ returns-in-Err g c =
     record {
       answered = search rules;
       refused = search rules;
-      grows = subst (λ (x : Name × LockedState g.row.V.Denot). DoublesFor g.K.TableKey.hash x.0 x.1 c.make_with_room.new.self) (λ j. (name j, same j)) c.make_with_room.ensures.grows;
+      grows = subst (λ (x : Name × LockedState g.row.V.Denot). HasDoubledFor g.K.TableKey.hash x.0 x.1 c.make_with_room.new.self) (λ j. (name j, same j)) c.make_with_room.ensures.grows;
     }
