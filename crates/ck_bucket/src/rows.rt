@@ -82,7 +82,9 @@ impl<K: TableKey, V> Rows<K, V> {
         ensures four { length (row_at self.now row) ≡ 4 }
     {
         let head = self.heads.get(row);
-        for i in 0..4 {
+        // The last slots are the ones that are free most, so they come first: where a processor
+        // guesses the key's slot, it fetches the pair of a first one before the head has come.
+        for i in (0..4).rev() {
             // Most slots without the key have another partial, and then no pair is read.
             if head.partials[i] == partial && head.taken[i] {
                 let (other, _) = self.pairs.get(row * 4 + i);

@@ -2,8 +2,8 @@
 //! uses the block keeps which of them are full. Of all crates only this one has `unsafe` code.
 //!
 //! Proved: a place is read, taken or written over only where the caller's proof says which of the
-//! two it is. A block is given back once, to the allocator that it came from, with all its places
-//! empty.
+//! two it is. A block is given back at most once, to the allocator that it came from, with all its
+//! places empty.
 #![tactic(auto)]
 
 ghost use Rattle.std.specs.Prelude.{◌≡◌, ℕ, List, Option, length};

@@ -43,8 +43,8 @@ pub(crate) use insertions::make_in;
 /// was locked to the map when it is unlocked. Contracts see the caller, what all stripes contained
 /// when it locked the table, and the stripes as they are.
 ///
-/// Its calls are those of a [`Caller`](crate::Caller), and are never refused as busy. An insertion
-/// may be refused as `Memory`, `Full` or `LoadTooLow`, and doubles the table only where no
+/// Its calls are as those of a [`Caller`](crate::Caller) are, and are never refused as busy. An
+/// insertion may be refused as `Memory`, `Full` or `LoadTooLow`, and doubles the table only where no
 /// displacement makes room; the table stays locked. Of the other calls only `rehash` and `reserve`
 /// change the number of buckets.
 pub struct LockedOn<T: TableRef<K, V>, K: TableKey, V> {

@@ -33,7 +33,7 @@ use std::marker::Model;
 /// the names of the keys, the caller, what the stripes contained when they were locked, and the
 /// stripes as they are.
 ///
-/// Its calls are those of a [`Caller`](crate::Caller) on one of the keys, are never refused as busy,
+/// Its calls are as some of a [`Caller`](crate::Caller) on one key are, are never refused as busy,
 /// and take no memory. An insertion that finds no free slot is refused, and hands key and value
 /// back; a slot that was emptied before is free for it. No entry is displaced, and the table doesn't
 /// grow.
