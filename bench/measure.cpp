@@ -4,7 +4,7 @@
 //   ratio    the time by that of libcuckoo, or of the first peer, in the same turn
 //   latency  nanoseconds of an insertion while the table grows; the workload says which
 //   pause    milliseconds of the longest find, and insertion, while so many threads insert over a
-//            doubling and one more finds
+//            doubling and one more finds; `next pause` is over the doubling behind that
 //   memory   bytes an entry while the table grows; the workload is the number of entries
 #include "peers.h"
 #include "proved.h"
@@ -154,11 +154,11 @@ static void measure_growing(const Plan &plan, const std::vector<Contestant> &all
   }
 }
 
-// The insertions of a fifth of the keys, of which one doubles the table, beside finds.
-static void measure_pauses(const Plan &plan, const std::vector<Contestant> &all,
-                           unsigned threads) {
-  size_t rounds = std::max<size_t>(5, plan.rounds / 12), count = all.size();
-  size_t from = plan.grown * 2 / 5, to = plan.grown * 3 / 5;
+// The insertions behind the first `from` up to half as many more, of which one doubles the table,
+// beside finds.
+static void measure_pauses(const Plan &plan, const std::vector<Contestant> &all, const char *name,
+                           size_t from, unsigned threads) {
+  size_t rounds = std::max<size_t>(5, plan.rounds / 12), count = all.size(), to = from + from / 2;
   std::vector<std::vector<double>> finds(count), insertions(count);
   for (size_t round = 0; round < rounds; round++)
     for (size_t turn = 0; turn < count; turn++) {
@@ -172,8 +172,8 @@ static void measure_pauses(const Plan &plan, const std::vector<Contestant> &all,
       insertions[i].push_back(pauses.insertion / 1e6);
     }
   for (size_t i = 0; i < count; i++) {
-    put_all("pause", all[i].name, "find", threads, finds[i]);
-    put_all("pause", all[i].name, "insertion", threads, insertions[i]);
+    put_all(name, all[i].name, "find", threads, finds[i]);
+    put_all(name, all[i].name, "insertion", threads, insertions[i]);
   }
 }
 
@@ -207,11 +207,13 @@ int main(int count, char **words) {
   Plan plan{strtoull(words[1], 0, 10), strtoull(words[2], 0, 10), strtoull(words[3], 0, 10),
             strtoull(words[4], 0, 10)};
   puts("measure,table,workload,threads,value,low,high");
-  Trace growth = insertions(plan.grown);
+  size_t from = plan.grown * 2 / 5;
+  Trace growth = insertions(from * 3);
   std::vector<Contestant> all = contestants<uint64_t>(growth);
   for (const Contestant &one : all) measure_memory(plan, one);
   measure_growth(plan, all);
-  for (unsigned threads : {1, 2, 4}) measure_pauses(plan, all, threads);
+  for (unsigned threads : {1, 2, 4}) measure_pauses(plan, all, "pause", from, threads);
+  for (unsigned threads : {1, 2, 4}) measure_pauses(plan, all, "next pause", from * 2, threads);
   compare_answers<uint64_t>();
   compare_answers<std::string>();
   measure_calls(plan, "numbers");

@@ -2,7 +2,7 @@
 #pragma once
 #include "table.h"
 
-// The numbers are random already, so their hash is the number itself, as in the proved table.
+// The numbers are random already, so the others hash a number to itself; the proved table mixes it.
 template <class Key> struct Hash : std::hash<Key> {};
 template <> struct Hash<uint64_t> {
   size_t operator()(uint64_t key) const { return key; }

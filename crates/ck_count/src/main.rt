@@ -8,14 +8,32 @@ use std::cmp::Reverse;
 use std::thread::{self, Threads};
 use std::{env, fs};
 
+type Counter = Handle<TextKey, u64>;
+
 /// Counts the words; one of more than 64 bytes is left out.
-fn count(alloc: Global, mut handle: Handle<TextKey, u64>, words: &[&str]) -> Result<()> {
+fn count(alloc: Global, counter: &mut Counter, words: &[&str]) -> Result<()> {
     for word in words {
         match TextKey::new(alloc, word.as_bytes()) {
-            Ok(key) => handle.upsert(key, |count| count.saturating_add(1), 1)?,
+            Ok(key) => counter.upsert(key, |count| count.saturating_add(1), 1)?,
             Err(KeyFault::TooLong) => continue,
             Err(fault) => return Err(fault.into()),
         };
+    }
+    Ok(())
+}
+
+/// Lets each of them count a part, in a thread of its own.
+fn count_parts(
+    rt: &(impl Threads + Sync),
+    alloc: Global,
+    counters: Vec<Counter>,
+    words: &[&str],
+) -> Result<()> {
+    let parts = words.chunks(words.len() / 4 + 1);
+    let jobs: Vec<(Counter, &[&str])> = counters.into_iter().zip(parts).collect(alloc)?;
+    let work = |(mut counter, part): (Counter, &[&str])| count(alloc, &mut counter, part);
+    for done in thread::map_vec(rt, jobs, &work)? {
+        done?;
     }
     Ok(())
 }
@@ -27,13 +45,9 @@ fn count_all(
     alloc: Global,
     words: &[&str],
 ) -> Result<Vec<(TextKey, u64)>> {
-    let mut handles = Handle::open(alloc, Settings::for_keys(10_000, 5))?;
-    let last = handles.pop().context("no handle")?;
-    let parts = words.chunks(words.len() / 4 + 1);
-    let jobs: Vec<_> = handles.into_iter().zip(parts).collect(alloc)?;
-    for done in thread::map_vec(rt, jobs, &|(handle, part)| count(alloc, handle, part))? {
-        done?;
-    }
+    let mut counters = Handle::open(alloc, Settings::for_keys(10_000, 5))?;
+    let last = counters.pop().context("no handle")?;
+    count_parts(rt, alloc, counters, words)?;
     let (_, counts) = last.drain(alloc)?;
     Ok(counts)
 }
