@@ -266,6 +266,18 @@ int32_t cuckoo_drain(cuckoo_handle *handle, cuckoo_pairs *pairs);
  * isn't open. */
 int32_t cuckoo_pairs_next(cuckoo_pairs *pairs, uint64_t *key, uint64_t *value);
 
+/* A pair. */
+typedef struct cuckoo_pair {
+    uint64_t key;
+    uint64_t value;
+} cuckoo_pair;
+
+/* The next pairs, up to `count` of them. CUCKOO_OK: they go to the first places of `into`, in their
+ * order, and their number to `taken`; the other places stay as they are. CUCKOO_ABSENT: there are no
+ * more, or `pairs` isn't open; `taken` is 0, and `into` as it was. Where `count` is 0 and `pairs` is
+ * open, it is CUCKOO_OK. */
+int32_t cuckoo_pairs_take(cuckoo_pairs *pairs, cuckoo_pair *into, size_t count, uint64_t *taken);
+
 /* Frees the pairs. */
 void cuckoo_pairs_close(cuckoo_pairs *pairs);
 
@@ -358,6 +370,17 @@ int32_t cuckoo_text_drain(cuckoo_text_handle *handle, cuckoo_text_pairs *pairs);
  * changed. */
 int32_t cuckoo_text_pairs_next(cuckoo_text_pairs *pairs, void *key, size_t room, size_t *length,
                                uint64_t *value);
+
+/* A pair. */
+typedef struct cuckoo_text_pair {
+    uint8_t key[CUCKOO_TEXT_MAX]; /* the bytes of its key, and zeros */
+    uint64_t length;              /* so many bytes are of its key */
+    uint64_t value;
+} cuckoo_text_pair;
+
+/* As cuckoo_pairs_take. */
+int32_t cuckoo_text_pairs_take(cuckoo_text_pairs *pairs, cuckoo_text_pair *into, size_t count,
+                               uint64_t *taken);
 void cuckoo_text_pairs_close(cuckoo_text_pairs *pairs);
 
 int32_t cuckoo_text_lock(cuckoo_text_handle *handle, cuckoo_text_locked *locked);

@@ -16,7 +16,7 @@ ghost use Rattle.cuckoo_c.specs.Several.{CallsOnFew, FindsEntries, ChangesKeys, 
 ghost use Rattle.cuckoo_c.specs.Codes.{Numbered, TellsBound, TellsValue, TellsFresh, TellsOld, TellsSeen, TellsMatch, TellsCount, TellsGrown, TellsRenamed};
 ghost use Rattle.cuckoo_c.specs.contracts.keys.NumberKeyOrd.TheImpl.{ghosts as number_ord};
 ghost use Rattle.cuckoo_c.specs.contracts.keys.NumberKeyTableKey.TheImpl.{ghosts as number_key};
-ghost use Rattle.cuckoo_c.specs.Pairs.{TakesNextAt, TellsPair};
+ghost use Rattle.cuckoo_c.specs.Pairs.{TakesNextAt, TakesSomeAt, TellsPair, shown_pair};
 ghost use Rattle.cuckoo_c.specs.Openings.{ClearLeaves, TellsCleared, Exports, ListsAt};
 ghost use Rattle.cuckoo_c.specs.Sessions.{LocksAt, UnlocksAt, OnLocked, FindsLocked, InsertsLocked, AssignsLocked, ErasesLocked, CountsLocked, ClearsLocked, ListsLocked};
 ghost use Rattle.cuckoo_c.specs.NewTables.{IsFor, Opens, settings_of};
@@ -28,7 +28,7 @@ use crate::keys::NumberKey;
 use crate::locked_places::CuckooLocked;
 use crate::opening::{self, settings_for};
 use crate::pair_places::CuckooPairs;
-use crate::pairs::take_next;
+use crate::pairs::{CuckooPair, take_next, take_some};
 use crate::settings::CuckooSettings;
 use crate::several::{CuckooChange, CuckooEntry, CuckooPart};
 use crate::{calls, locked, sessions, several};
@@ -367,6 +367,21 @@ pub extern "C" fn cuckoo_pairs_next(
         }
         None => Code::Absent.number(),
     }
+}
+
+/// The next pairs, as many as there are places for, in their order.
+#[unsafe(no_mangle)]
+pub extern "C" fn cuckoo_pairs_take(
+    alloc: Global,
+    pairs: &mut CuckooPairs,
+    into: &mut [CuckooPair],
+    taken: &mut u64,
+) -> i32
+    ensures length { length into.new ≡ length into.old }
+    ensures taken { Numbered result (TakesSomeAt shown_pair pairs.old.held pairs.new.held
+        into.old into.new taken.new) }
+{
+    take_some(alloc, pairs, into, taken).number()
 }
 
 /// Locks the table by the handle, which is in the locked table until it is unlocked.

@@ -15,7 +15,7 @@ ghost use Rattle.cuckoo_c.specs.declared.code.Code.TheVariants as codes;
 ghost use Rattle.cuckoo_c.specs.Codes.{number_of, Numbered, TellsBound, TellsValue, TellsFresh, TellsOld, TellsSeen, TellsMatch, TellsCount, TellsGrown, TellsRenamed};
 ghost use Rattle.cuckoo_c.specs.contracts.keys.BytesKeyOrd.TheImpl.{ghosts as text_ord};
 ghost use Rattle.cuckoo_c.specs.contracts.keys.BytesKeyTableKey.TheImpl.{ghosts as text_key};
-ghost use Rattle.cuckoo_c.specs.Pairs.{TakesNextAt, TellsTextPair};
+ghost use Rattle.cuckoo_c.specs.Pairs.{TakesNextAt, TakesSomeAt, TellsTextPair, shown_text_pair};
 ghost use Rattle.cuckoo_c.specs.Openings.{ClearLeaves, TellsCleared, Exports, ListsAt};
 ghost use Rattle.cuckoo_c.specs.Sessions.{LocksAt, UnlocksAt, OnLocked, FindsLocked, InsertsLocked, AssignsLocked, ErasesLocked, CountsLocked, ClearsLocked, ListsLocked};
 ghost use Rattle.cuckoo_c.specs.NewTables.{IsFor, Opens, settings_of};
@@ -27,7 +27,7 @@ use crate::keys::{Bytes, BytesKey};
 use crate::locked_places::CuckooTextLocked;
 use crate::opening::{self, settings_for};
 use crate::pair_places::CuckooTextPairs;
-use crate::pairs::take_next;
+use crate::pairs::{CuckooTextPair, take_next, take_some};
 use crate::settings::CuckooSettings;
 use crate::{calls, locked, sessions};
 use ck_owned::take;
@@ -432,6 +432,21 @@ pub extern "C" fn cuckoo_text_pairs_next(
         }
         None => Code::Absent.number(),
     }
+}
+
+/// The next pairs, as many as there are places for, in their order.
+#[unsafe(no_mangle)]
+pub extern "C" fn cuckoo_text_pairs_take(
+    alloc: Global,
+    pairs: &mut CuckooTextPairs,
+    into: &mut [CuckooTextPair],
+    taken: &mut u64,
+) -> i32
+    ensures length { length into.new ≡ length into.old }
+    ensures taken { Numbered result (TakesSomeAt shown_text_pair pairs.old.held pairs.new.held
+        into.old into.new taken.new) }
+{
+    take_some(alloc, pairs, into, taken).number()
 }
 
 /// Locks the table by the handle, which is in the locked table until it is unlocked.
