@@ -22,6 +22,20 @@ fn count(alloc: Global, counter: &mut Counter, words: &[&str]) -> Result<()> {
     Ok(())
 }
 
+/// All words with their counts. Four handles count a part each, in threads of their own, and the
+/// fifth takes out what they counted.
+fn count_all(
+    rt: &(impl Threads + Sync),
+    alloc: Global,
+    words: &[&str],
+) -> Result<Vec<(TextKey, u64)>> {
+    let mut counters = Handle::open(alloc, Settings::for_keys(10_000, 5))?;
+    let last = counters.pop().context("no handle")?;
+    count_parts(rt, alloc, counters, words)?;
+    let (_, counts) = last.drain(alloc)?;
+    Ok(counts)
+}
+
 /// Lets each of them count a part, in a thread of its own.
 fn count_parts(
     rt: &(impl Threads + Sync),
@@ -36,20 +50,6 @@ fn count_parts(
         done?;
     }
     Ok(())
-}
-
-/// All words with their counts. Four handles count a part each, and the fifth takes out what they
-/// counted.
-fn count_all(
-    rt: &(impl Threads + Sync),
-    alloc: Global,
-    words: &[&str],
-) -> Result<Vec<(TextKey, u64)>> {
-    let mut counters = Handle::open(alloc, Settings::for_keys(10_000, 5))?;
-    let last = counters.pop().context("no handle")?;
-    count_parts(rt, alloc, counters, words)?;
-    let (_, counts) = last.drain(alloc)?;
-    Ok(counts)
 }
 
 /// Prints the first ten.
