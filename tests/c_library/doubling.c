@@ -1,7 +1,7 @@
 /* A doubling whose memory is refused, or is requested while other handles insert: what each call
  * answers, how many requests it makes, and what stays; tables that may not grow; and a rename of
- * texts whose copies are refused. Between two requests the program's own malloc, which the linker puts in by
- * --wrap=malloc, can refuse and can make other calls. */
+ * texts whose copies are refused. Between two requests the program's own malloc and aligned_alloc, which
+ * the linker puts in by --wrap, can refuse and can make other calls. */
 #include <cuckoo_map.h>
 #include <pthread.h>
 #include <semaphore.h>
@@ -32,10 +32,13 @@ static int failed;
 
 void *__real_malloc(size_t size);
 void *__wrap_malloc(size_t size);
+void *__real_aligned_alloc(size_t alignment, size_t size);
+void *__wrap_aligned_alloc(size_t alignment, size_t size);
 
-void *__wrap_malloc(size_t size) {
+/* What a request meets: whether it is refused. */
+static int is_refused(void) {
     int request;
-    if (!watched.counts) return __real_malloc(size);
+    if (!watched.counts) return 0;
     request = watched.requests++;
     if (watched.action != NULL && request == watched.before) {
         watch mine = watched;
@@ -43,7 +46,13 @@ void *__wrap_malloc(size_t size) {
         mine.action();
         watched = mine;
     }
-    return watched.from <= request && request < watched.until ? NULL : __real_malloc(size);
+    return watched.from <= request && request < watched.until;
+}
+
+void *__wrap_malloc(size_t size) { return is_refused() ? NULL : __real_malloc(size); }
+
+void *__wrap_aligned_alloc(size_t alignment, size_t size) {
+    return is_refused() ? NULL : __real_aligned_alloc(alignment, size);
 }
 
 static void check(const char *what, int holds) {

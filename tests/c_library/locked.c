@@ -1,5 +1,6 @@
 /* A table that stays locked between calls: each answer, what other handles see, and each request for
- * memory refused in turn. The linker puts in the program's own malloc, realloc and free by --wrap. */
+ * memory refused in turn. The linker puts in the program's own malloc, aligned_alloc, realloc and free
+ * by --wrap. */
 #include <cuckoo_map.h>
 #include <pthread.h>
 #include <sched.h>
@@ -24,6 +25,8 @@ static int failed;
 
 void *__real_malloc(size_t size);
 void *__wrap_malloc(size_t size);
+void *__real_aligned_alloc(size_t alignment, size_t size);
+void *__wrap_aligned_alloc(size_t alignment, size_t size);
 void *__real_realloc(void *block, size_t size);
 void *__wrap_realloc(void *block, size_t size);
 void __real_free(void *block);
@@ -31,10 +34,15 @@ void __wrap_free(void *block);
 
 static int is_refused(void) { return watches && requests++ >= refused; }
 
-void *__wrap_malloc(size_t size) {
-    void *block = is_refused() ? NULL : __real_malloc(size);
+static void *counted(void *block) {
     if (watches && block != NULL) blocks++;
     return block;
+}
+
+void *__wrap_malloc(size_t size) { return is_refused() ? NULL : counted(__real_malloc(size)); }
+
+void *__wrap_aligned_alloc(size_t alignment, size_t size) {
+    return is_refused() ? NULL : counted(__real_aligned_alloc(alignment, size));
 }
 
 void *__wrap_realloc(void *block, size_t size) {

@@ -1,5 +1,6 @@
 // Want of memory, as a map in C++ tells it: each request of the library's refused in turn. The linker
-// puts in a malloc and a realloc of this program by --wrap, which the library alone calls.
+// puts in a malloc, an aligned_alloc and a realloc of this program by --wrap, which the library alone
+// calls.
 #include "check.hpp"
 #include <cuckoo_map.hpp>
 
@@ -22,10 +23,16 @@ extern "C" {
 
 void *__real_malloc(std::size_t size);
 void *__wrap_malloc(std::size_t size);
+void *__real_aligned_alloc(std::size_t alignment, std::size_t size);
+void *__wrap_aligned_alloc(std::size_t alignment, std::size_t size);
 void *__real_realloc(void *block, std::size_t size);
 void *__wrap_realloc(void *block, std::size_t size);
 
 void *__wrap_malloc(std::size_t size) { return is_refused() ? nullptr : __real_malloc(size); }
+
+void *__wrap_aligned_alloc(std::size_t alignment, std::size_t size) {
+  return is_refused() ? nullptr : __real_aligned_alloc(alignment, size);
+}
 
 void *__wrap_realloc(void *block, std::size_t size) {
   return is_refused() ? nullptr : __real_realloc(block, size);

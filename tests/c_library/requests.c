@@ -1,6 +1,6 @@
 /* Which calls request memory, and each of their requests refused in turn: the answer, what stays,
- * and that no block is kept. The linker puts in the program's own malloc, realloc and free by
- * --wrap. */
+ * and that no block is kept. The linker puts in the program's own malloc, aligned_alloc, realloc and
+ * free by --wrap. */
 #include <cuckoo_map.h>
 #include <stdint.h>
 #include <stdio.h>
@@ -8,16 +8,19 @@
 
 enum { KEYS = 8, SLOTS = 64, HANDLES = 2, MOST = 100 };
 
-/* While it watches: how many requests there were, from which on they are refused, and how many
- * blocks are there that were not there before. */
+/* While it watches: how many requests there were, and of these of a block that begins a cache line,
+ * from which on they are refused, and how many blocks are there that were not there before. */
 static int watches;
 static int requests;
+static int aligned;
 static int refused;
 static int blocks;
 static int failed;
 
 void *__real_malloc(size_t size);
 void *__wrap_malloc(size_t size);
+void *__real_aligned_alloc(size_t alignment, size_t size);
+void *__wrap_aligned_alloc(size_t alignment, size_t size);
 void *__real_realloc(void *block, size_t size);
 void *__wrap_realloc(void *block, size_t size);
 void __real_free(void *block);
@@ -25,10 +28,16 @@ void __wrap_free(void *block);
 
 static int is_refused(void) { return watches && requests++ >= refused; }
 
-void *__wrap_malloc(size_t size) {
-    void *block = is_refused() ? NULL : __real_malloc(size);
+static void *counted(void *block) {
     if (watches && block != NULL) blocks++;
     return block;
+}
+
+void *__wrap_malloc(size_t size) { return is_refused() ? NULL : counted(__real_malloc(size)); }
+
+void *__wrap_aligned_alloc(size_t alignment, size_t size) {
+    if (watches && alignment == 64 && size % alignment == 0) aligned++;
+    return is_refused() ? NULL : counted(__real_aligned_alloc(alignment, size));
 }
 
 void *__wrap_realloc(void *block, size_t size) {
@@ -42,6 +51,7 @@ void __wrap_free(void *block) {
 
 static void watch(int from) {
     requests = 0;
+    aligned = 0;
     refused = from;
     blocks = 0;
     watches = 1;
@@ -234,6 +244,17 @@ static void try_opening(const char *what, int32_t (*open)(void)) {
     check(what, "it is answered with memory", code == CUCKOO_OK);
 }
 
+/* The buckets of each stripe begin a cache line, in a table that isn't small. */
+static void try_large(void) {
+    cuckoo_settings set = settings();
+    set.power = 8;
+    watch(MOST);
+    check("open", "a larger table is opened", cuckoo_open_with(&set, handles, HANDLES) == CUCKOO_OK);
+    watches = 0;
+    check("open", "its stripes' blocks begin a cache line", aligned == 1 << set.s);
+    close_all();
+}
+
 /* A call that takes no memory is answered where there is none. */
 #define NONE(what, call, code)                                       \
     do {                                                             \
@@ -296,6 +317,7 @@ static void ask_texts(cuckoo_text_handle *handle) {
 int main(void) {
     try_opening("open", open_numbers);
     try_opening("open texts", open_texts);
+    try_large();
     for (size_t i = 0; i < sizeof subjects / sizeof subjects[0]; i++)
         try_subject(&subjects[i], numbers, listed);
     for (size_t i = 0; i < sizeof text_subjects / sizeof text_subjects[0]; i++)
