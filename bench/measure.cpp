@@ -161,15 +161,16 @@ static void measure_pauses(const Plan &plan, const std::vector<Contestant> &all,
   size_t rounds = std::max<size_t>(5, plan.rounds / 12), count = all.size(), to = from + from / 2;
   std::vector<std::vector<double>> finds(count), insertions(count);
   for (size_t round = 0; round < rounds; round++)
-    for (size_t turn = 0; turn < count; turn++) {
-      size_t i = (turn + round) % count;
+    for (size_t turn = 0; turn < 2 * count; turn++) {
+      size_t i = (turn / 2 + round) % count;
+      bool with_finds = turn % 2 == 0;
       malloc_trim(0);
       auto table = all[i].open(0, threads + 1);
       table->run(0, from, 1);
-      Pauses pauses = table->pause(from, to, threads);
+      Pauses pauses = table->pause(from, to, threads, with_finds);
       if (pauses.sum != to - from) differ(all[i].name, "pause");
-      finds[i].push_back(pauses.find / 1e6);
-      insertions[i].push_back(pauses.insertion / 1e6);
+      if (with_finds) finds[i].push_back(pauses.find / 1e6);
+      else insertions[i].push_back(pauses.insertion / 1e6);
     }
   for (size_t i = 0; i < count; i++) {
     put_all(name, all[i].name, "find", threads, finds[i]);

@@ -34,8 +34,9 @@ public:
   virtual Timed run(size_t from, size_t to, unsigned threads) = 0;
   // Makes them by one thread, and times each.
   virtual Latencies time_each(size_t from, size_t to) = 0;
-  // Makes them by so many threads, while one thread more finds the keys of the first calls.
-  virtual Pauses pause(size_t from, size_t to, unsigned threads) = 0;
+  // Makes them by so many threads, and where it `finds`, one thread more finds the keys of the first
+  // calls meanwhile.
+  virtual Pauses pause(size_t from, size_t to, unsigned threads, bool finds) = 0;
   // The memory that the table's process has.
   virtual long resident() const = 0;
 };
@@ -157,34 +158,41 @@ public:
     return {sum, all / times.size(), within(500), within(990), within(999), times.back()};
   }
 
-  // The finding thread has a processor of its own, and the others share the rest: so what it waits
-  // for is the table, and not another thread's turn on its processor.
-  Pauses pause(size_t from, size_t to, unsigned threads) override {
+  // The longest of finds of the keys of the first calls, until it is over.
+  double longest_find(size_t calls_made, const std::atomic<bool> &over) {
+    double longest = 0;
+    uint64_t value = 0;
+    size_t i = 0;
+    for (auto last = Clock::now(); !over; i = (i + 1) % std::min<size_t>(calls_made, 1000)) {
+      map.find((*calls)[i].key, value);
+      auto now = Clock::now();
+      longest = std::max(longest, nanos(now - last));
+      last = now;
+    }
+    return longest;
+  }
+
+  // A finding thread has a processor of its own, and the others share the rest: so what it waits for
+  // is the table, and not another thread's turn on its processor.
+  Pauses pause(size_t from, size_t to, unsigned threads, bool finds) override {
     std::atomic<bool> over{false};
-    double longest_find = 0;
+    Pauses pauses{0, 0, 0};
     std::thread finder([&] {
+      if (!finds) return;
       bind(true);
-      uint64_t value = 0;
-      size_t i = 0;
-      for (auto last = Clock::now(); !over; i = (i + 1) % std::min<size_t>(from, 1000)) {
-        map.find((*calls)[i].key, value);
-        auto now = Clock::now();
-        longest_find = std::max(longest_find, nanos(now - last));
-        last = now;
-      }
+      pauses.find = longest_find(from, over);
     });
     std::vector<Latencies> found(threads);
     size_t size = (to - from + threads - 1) / threads;
     std::vector<std::thread> inserters;
     for (unsigned i = 0; i < threads; i++)
       inserters.emplace_back([&, i] {
-        bind(false);
+        if (finds) bind(false);
         found[i] = time_each(std::min(to, from + i * size), std::min(to, from + (i + 1) * size));
       });
     for (auto &inserter : inserters) inserter.join();
     over = true;
     finder.join();
-    Pauses pauses{0, longest_find, 0};
     for (const Latencies &one : found) {
       pauses.sum += one.sum;
       pauses.insertion = std::max(pauses.insertion, one.longest);

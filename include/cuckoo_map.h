@@ -34,11 +34,11 @@
  * handler, or in the child of a `fork` of a process with threads; pointers that are null, or lead to
  * fewer bytes than the parameters say. So it is of pairs and of locked tables.
  *
- * The library calls malloc, realloc and free, which have to align blocks as C says, and needs a
- * processor of x86-64-v2. Memory is requested where a table is opened, locked or is to grow, where a
- * text is to be bound or renamed, and for the pairs of a table; no other call requests any. A call
- * that finds none loses no key, and leaves its handle as it was. The library never yields: a caller
- * that was refused as CUCKOO_BUSY lets other threads run, and calls again (`cuckoo_map.hpp` does
+ * The library calls malloc, aligned_alloc, realloc and free, which have to align blocks as C says, and
+ * needs a processor of x86-64-v2. Memory is requested where a table is opened, locked or is to grow,
+ * where a text is to be bound or renamed, and for the pairs of a table; no other call requests any. A
+ * call that finds none loses no key, and leaves its handle as it was. The library never yields: a
+ * caller that was refused as CUCKOO_BUSY lets other threads run, and calls again (`cuckoo_map.hpp` does
  * that).
  */
 #ifndef CUCKOO_MAP_H
