@@ -177,8 +177,34 @@ impl<K: TableKey + Drop, V: Drop> Table<K, V> {
         let own = self.stripes_of_key(&key);
         match self.words.lock_now(pass, own.stripes) {
             Ok(()) => self.make_locked(pass, own, key, value, insertion, since),
-            Err(missed) => self.make_waiting(pass, missed, key, value, insertion, since),
+            Err(missed) => self.make_missed(pass, missed, key, value, insertion, since),
         }
+    }
+
+    // The same where the stripe at position `missed` was found held. The answer of a call that isn't
+    // inlined lies in memory that each call of the function around it clears first: here only a
+    // call that comes so far does.
+    #[inline(always)]
+    fn make_missed<I: Insertion<K, V>>(
+        &self,
+        pass: &mut Pass<K, V>,
+        missed: usize,
+        key: K,
+        value: I::Value,
+        insertion: I,
+        since: Snapshot<Pass<K, V>>,
+    ) -> Result<I::Answer, Refused<K, I::Value>>
+        requires since { IsCaller self.now since.value }
+        requires own { IsPassOf self.now pass.old }
+        requires unchanged { IsUnchanged pass.old }
+        requires missed { Misses K.hash self.now
+            (own_numbers self.now.settings.s (K.hash (K.name key))) missed since.value pass.old }
+        requires call { I.can_make insertion value }
+        ensures caller { IsCaller self.now pass.new }
+        ensures inserted { HasInserted (TellsOf (I.tells insertion value))
+            K.hash self.now.settings (K.name key) key value result since.value pass.new }
+    {
+        self.make_waiting(pass, missed, key, value, insertion, since)
     }
 
     // The same where the stripe at position `missed` was found held, and those before it were
@@ -237,8 +263,32 @@ impl<K: TableKey + Drop, V: Drop> Table<K, V> {
         let spot = self.spot_in(pass, &key, own);
         match self.find_room(pass, &key, spot, &since) {
             Ok(room) => Ok(self.make_in(pass, room, key, value, insertion, since)),
-            Err(power) => self.make_with_room(pass, power, key, value, insertion, since),
+            Err(power) => self.make_full(pass, power, key, value, insertion, since),
         }
+    }
+
+    // The same for a key whose buckets are full; a function of its own for the same reason.
+    #[inline(always)]
+    fn make_full<I: Insertion<K, V>>(
+        &self,
+        pass: &mut Pass<K, V>,
+        power: u32,
+        key: K,
+        value: I::Value,
+        insertion: I,
+        since: Snapshot<Pass<K, V>>,
+    ) -> Result<I::Answer, Refused<K, I::Value>>
+        requires since { IsCaller self.now since.value }
+        requires caller { IsCaller self.now pass.old }
+        requires full { HasFoundNoRoom (K.name key) since.value pass.old }
+        requires power { (self.now.settings.s ≤ power) × (power ≤ 26) }
+        requires found { FindsOwn K.hash self.now.settings (K.name key) since.value pass.old }
+        requires call { I.can_make insertion value }
+        ensures caller { IsCaller self.now pass.new }
+        ensures inserted { HasInserted (TellsOf (I.tells insertion value))
+            K.hash self.now.settings (K.name key) key value result since.value pass.new }
+    {
+        self.make_with_room(pass, power, key, value, insertion, since)
     }
 
     // The same for a key whose buckets are full, in a table of 2^power buckets, and whose stripes

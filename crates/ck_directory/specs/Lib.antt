@@ -1,2 +1,0 @@
-pub mod RowKeys
-pub mod RowKeyLaws
