@@ -1,12 +1,17 @@
-//! A ledger that one handle keeps, proved to be a plain map, and accounts that many handles share.
+//! A ledger that one handle keeps, proved to be a plain map, and accounts that threads share: four
+//! threads pay, each payment proved to keep the sum, while an auditor locks the table again and
+//! again and finds all of it each time.
 #![tactic(auto)]
 
 mod ledger;
 mod shared;
+mod tellers;
 
 use anyhow::{Context, Result};
 use cuckoo_map::{Handle, Settings};
 use std::alloc::Global;
+use std::thread::Threads;
+use tellers::{ACCOUNTS, FUND};
 
 /// Two accounts of a ledger after a transfer, and one after it was begun anew.
 fn keep(alloc: Global) -> Result<[Option<u64>; 3]> {
@@ -20,21 +25,28 @@ fn keep(alloc: Global) -> Result<[Option<u64>; 3]> {
     Ok([first, second, ledger::value_of(&mut own, 2)])
 }
 
-/// What one handle finds on an account to which another has paid.
-fn share(alloc: Global) -> Result<u64> {
-    let mut handles = Handle::open(alloc, Settings::for_keys(100, 2))?;
-    let mut payer = handles.pop().context("no handle")?;
-    let mut payee = handles.pop().context("no handle")?;
-    shared::open_account(&mut payer, 1, 40)?;
-    shared::open_account(&mut payee, 2, 0)?;
-    shared::pay(&mut payer, 1, 2, 15)?;
-    Ok(shared::balance(&mut payee, 2)?)
+/// What is on the accounts after all that the tellers do.
+fn share(rt: &(impl Threads + Sync), alloc: Global) -> Result<u64> {
+    let mut handles = Handle::open(alloc, Settings::for_keys(ACCOUNTS, 6))?;
+    let mut own = handles.pop().context("no handle")?;
+    for account in 0..ACCOUNTS {
+        shared::open_account(&mut own, account, FUND)?;
+    }
+    tellers::run_all(rt, alloc, handles)?;
+    let mut sum = 0u64;
+    for account in 0..ACCOUNTS {
+        sum = sum.saturating_add(shared::balance(&mut own, account)?);
+    }
+    Ok(sum)
 }
 
 fn main(rt: HostRuntime) -> Result<()> {
     let [first, second, anew] = keep(rt.alloc())?;
     println!(rt; "the ledger: {first:?} {second:?}")?;
     println!(rt; "begun anew: {anew:?}")?;
-    println!(rt; "shared: {}", share(rt.alloc())?)?;
+    println!(rt;
+        "shared: {} on {ACCOUNTS} accounts",
+        share(&rt, rt.alloc())?
+    )?;
     Ok(())
 }
