@@ -1,5 +1,5 @@
 use Rattle.std.proofs.Common.{rules, refl, Some, None}
-use Rattle.cuckoo_c.specs.declared.code.Code.TheVariants as codes
+use Rattle.ck_foreign.specs.declared.code.Code.TheVariants as codes
 use Rattle.cuckoo_c.proofs.numbers.cuckoo_pairs_next.Goals as goal
 
 pub returns-in-Some : goal.returns-in-Some

@@ -5,9 +5,9 @@ use Rattle.ck_model.specs.Promise.{Name}
 use Rattle.ck_section.specs.Acts.{Upserts}
 use Rattle.cuckoo_map.specs.declared.refusal.Refused.{Refused}
 use Rattle.cuckoo_map.specs.Callers.{InsertionLeaves}
-use Rattle.cuckoo_c.specs.declared.keys.BytesKey.{BytesKey}
-use Rattle.cuckoo_c.specs.Codes.{TellsFresh}
-use Rattle.cuckoo_c.specs.Handles.{Calls, AddsTo}
+use Rattle.ck_foreign.specs.declared.keys.BytesKey.{BytesKey}
+use Rattle.ck_foreign.specs.Codes.{TellsFresh}
+use Rattle.ck_foreign.specs.Handles.{Calls, AddsTo}
 use Rattle.cuckoo_c.proofs.texts.cuckoo_text_add.Goals as goal
 
 -- the key has the name that was asked for

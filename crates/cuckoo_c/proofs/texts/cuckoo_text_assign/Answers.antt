@@ -5,9 +5,9 @@ use Rattle.ck_model.specs.Promise.{Name}
 use Rattle.ck_section.specs.Acts.{Assigns}
 use Rattle.cuckoo_map.specs.declared.refusal.Refused.{Refused}
 use Rattle.cuckoo_map.specs.Callers.{InsertionLeaves}
-use Rattle.cuckoo_c.specs.declared.keys.BytesKey.{BytesKey}
-use Rattle.cuckoo_c.specs.Codes.{TellsOld}
-use Rattle.cuckoo_c.specs.Handles.{Calls}
+use Rattle.ck_foreign.specs.declared.keys.BytesKey.{BytesKey}
+use Rattle.ck_foreign.specs.Codes.{TellsOld}
+use Rattle.ck_foreign.specs.Handles.{Calls}
 use Rattle.cuckoo_c.proofs.texts.cuckoo_text_assign.Goals as goal
 
 -- the key has the name that was asked for

@@ -1,8 +1,8 @@
 use Rattle.std.proofs.Common.{rules, inl, subst}
 use Rattle.ck_key.specs.Hashes.{text_hash}
 use Rattle.ck_model.specs.Promise.{Name}
-use Rattle.cuckoo_c.specs.declared.keys.BytesKey.{BytesKey}
-use Rattle.cuckoo_c.specs.Sessions.{OnLocked, AssignsLocked}
+use Rattle.ck_foreign.specs.declared.keys.BytesKey.{BytesKey}
+use Rattle.ck_foreign.specs.Sessions.{OnLocked, AssignsLocked}
 use Rattle.cuckoo_c.proofs.texts.cuckoo_text_locked_assign.Goals as goal
 
 -- the key has the name that was asked for

@@ -1,6 +1,6 @@
 use Rattle.std.proofs.Common.{rules, refl, ap, ◌∙◌, ◌++◌, ℕ, List, length, take, drop, Some, None}
 use Rattle.std.proofs.Math.Seq.{take-append_seam}
-use Rattle.cuckoo_c.specs.declared.code.Code.TheVariants as codes
+use Rattle.ck_foreign.specs.declared.code.Code.TheVariants as codes
 use Rattle.cuckoo_c.proofs.texts.cuckoo_text_pairs_next.Goals as goal
 
 pub returns-in-Some-clause-told : goal.returns-in-Some-clause-told

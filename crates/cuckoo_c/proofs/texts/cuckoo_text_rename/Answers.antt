@@ -5,9 +5,9 @@ use Rattle.ck_model.specs.Promise.{Name}
 use Rattle.ck_section.specs.declared.two_keys.Renamed.{Renamed}
 use Rattle.cuckoo_map.specs.declared.refusal.NotRenamed.{NotRenamed}
 use Rattle.cuckoo_map.specs.Renames.{RenameLeaves}
-use Rattle.cuckoo_c.specs.declared.keys.BytesKey.{BytesKey}
-use Rattle.cuckoo_c.specs.Codes.{TellsRenamed}
-use Rattle.cuckoo_c.specs.Handles.{Calls}
+use Rattle.ck_foreign.specs.declared.keys.BytesKey.{BytesKey}
+use Rattle.ck_foreign.specs.Codes.{TellsRenamed}
+use Rattle.ck_foreign.specs.Handles.{Calls}
 use Rattle.cuckoo_c.proofs.texts.cuckoo_text_rename.Goals as goal
 
 -- the keys have the names that were asked for

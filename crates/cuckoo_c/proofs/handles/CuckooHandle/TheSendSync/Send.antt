@@ -1,9 +1,0 @@
--- A handle may go to another thread, since what it leads to may.
-use denote.Param.Send.{IsSend}
-use Rattle.ck_owned.proofs.Places.{place_keyless}
-use Rattle.cuckoo_c.proofs.Payloads.{number_row_send}
-use Rattle.cuckoo_c.specs.Payloads.{number_row}
-use Rattle.cuckoo_c.specs.contracts.handles.CuckooHandle.{the_row}
-
-pub send : IsSend the_row
-send = record { owned = λ d vs. ((λ _. (tt, (tt, tt))), place_keyless number_row number_row_send d.at d.held); leaving = λ k d w. tt }

@@ -1,7 +1,0 @@
-use Rattle.cuckoo_c.proofs.NoSession.{no_session}
-use Rattle.cuckoo_c.proofs.sessions.export.Goals as goal
-
-pub returns-in-Err-clause-called : goal.returns-in-Err-clause-called
-returns-in-Err-clause-called g c =
-    let e = c.in-Err.ensures in
-    no_session _ _ _ _ _ c.in-Err.code e.list e.taken.0 e.taken.1
