@@ -56,12 +56,22 @@ impl Stage {
     ) -> Result<()> {
         print_all(rt, lines)?;
         let (many, times) = (line.numbers[0] as usize, line.numbers[1]);
+        let jobs = self.lend_first(alloc, many)?;
+        let play = |(number, handle): (usize, NumHandle)| play_often(number, handle, lines, times);
+        self.take_back(rt, thread::map_vec(rt, jobs, &play)?)
+    }
+
+    /// Takes so many handles out of their places, each with its number.
+    fn lend_first(&mut self, alloc: Global, many: usize) -> Result<Vec<(usize, NumHandle)>> {
         let mut jobs = Vec::new(alloc);
         for number in 1..=many {
             jobs.push((number, self.lend(number)?))?;
         }
-        let play = |(number, handle): (usize, NumHandle)| play_often(number, handle, lines, times);
-        let back = thread::map_vec(rt, jobs, &play)?;
+        Ok(jobs)
+    }
+
+    /// Puts the first handles back, and prints the first refusal of each.
+    fn take_back(&mut self, rt: &impl Print, back: Vec<Played>) -> Result<()> {
         for (i, played) in back.into_iter().enumerate() {
             *self.place(i + 1)? = Some(played.handle);
             if let Some(refused) = played.refused {
