@@ -6,4 +6,5 @@
 #![tactic(auto)]
 
 mod numbers;
+mod settings;
 mod texts;
