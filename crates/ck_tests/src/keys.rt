@@ -183,6 +183,11 @@ fn check_longest(rt: &impl Abort, alloc: Global) -> Result<(), Fail> {
     Ok(())
 }
 
+/// Whether this key of 64 bytes has what it was made of, and is as its copy.
+fn is_longest(key: &NumTextKey, copy: &NumTextKey) -> bool {
+    key.number() == 7 && key.as_bytes().len() == 64 && copy == key
+}
+
 /// The same with a number.
 #[test]
 fn longest_number_text_key(rt: HostRuntime) -> Result<(), Fail> {
@@ -190,11 +195,18 @@ fn longest_number_text_key(rt: HostRuntime) -> Result<(), Fail> {
     let fault = NumTextKey::new(rt.alloc(), 7, &long).err();
     assert!(rt; fault == Some(KeyFault::TooLong));
     let longest = NumTextKey::new(rt.alloc(), 7, &long[..64])?;
-    assert!(rt; longest.number() == 7);
-    assert!(rt; longest.as_bytes().len() == 64);
-    assert!(rt; longest.clone()? == longest);
-    assert!(rt; longest < NumTextKey::new(rt.alloc(), 8, b"")?);
-    assert!(rt; NumTextKey::new(rt.alloc(), 7, b"w")? < longest);
+    let copy = longest.clone()?;
+    assert!(rt; is_longest(&longest, &copy));
+    Ok(())
+}
+
+/// The number comes before the text.
+#[test]
+fn number_text_keys_in_order(rt: HostRuntime) -> Result<(), Fail> {
+    let first = NumTextKey::new(rt.alloc(), 7, b"w")?;
+    let second = NumTextKey::new(rt.alloc(), 7, b"x")?;
+    let third = NumTextKey::new(rt.alloc(), 8, b"")?;
+    assert!(rt; first < second && second < third);
     Ok(())
 }
 

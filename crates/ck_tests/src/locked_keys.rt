@@ -36,22 +36,36 @@ fn add(numbers: [u64; 8], handle: NumHandle, wrong: &AtomicU64) -> Option<NumHan
     Some(handle)
 }
 
+type Job = ([u64; 8], NumHandle);
+
+/// Binds the first key and the last to 0, and says whether it could.
+fn begin(handle: &mut NumHandle) -> bool {
+    handle.insert_or_assign(NumKey(0), 0).is_ok() && handle.insert_or_assign(NumKey(7), 0).is_ok()
+}
+
+/// Two handles of a new table, each with the order in which it locks the keys.
+fn hire(alloc: Global, settings: Settings) -> Result<Vec<Job>, Fail> {
+    let orders = [[0, 1, 2, 3, 4, 5, 6, 7], [7, 6, 5, 4, 3, 2, 1, 0]];
+    let handles = Handle::open(alloc, settings)?;
+    Ok(orders.into_iter().zip(handles).collect(alloc)?)
+}
+
+/// Whether the sessions of both threads were counted.
+fn has_all(handle: &mut NumHandle) -> bool {
+    let all = Some(2 * SESSIONS);
+    handle.find_all([&NumKey(0), &NumKey(7)]) == Ok([all, all])
+}
+
 /// Lets two threads make sessions on the same keys.
 fn check<R: Threads + Abort + Sync>(rt: &R, alloc: Global, settings: Settings) -> Result<(), Fail> {
-    let orders = [[0, 1, 2, 3, 4, 5, 6, 7], [7, 6, 5, 4, 3, 2, 1, 0]];
-    let mut jobs = Vec::new(alloc);
-    for (mut handle, numbers) in Handle::open(alloc, settings)?.into_iter().zip(orders) {
-        assert!(rt; handle.insert_or_assign(NumKey(0), 0).is_ok());
-        assert!(rt; handle.insert_or_assign(NumKey(7), 0).is_ok());
-        jobs.push((numbers, handle))?;
-    }
+    let mut jobs = hire(alloc, settings)?;
+    assert!(rt; jobs.iter_mut().all(|job: &mut Job| begin(&mut job.1)));
     let wrong = AtomicU64::new(0);
     let done = thread::map_vec(rt, jobs, &|(numbers, handle)| add(numbers, handle, &wrong))?;
     assert!(rt; read(&wrong) == 0);
-    let all = Some(2 * SESSIONS);
     for handle in done {
         let mut handle = handle.expect(rt, "a session that was not refused");
-        assert!(rt; handle.find_all([&NumKey(0), &NumKey(7)]) == Ok([all, all]));
+        assert!(rt; has_all(&mut handle));
     }
     Ok(())
 }
