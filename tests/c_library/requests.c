@@ -255,6 +255,24 @@ static void try_large(void) {
     close_all();
 }
 
+/* Calls that look into a doubled table free nothing, and what was there before goes once a key is put
+ * into each stripe. */
+static void try_emptied(void) {
+    int left;
+    open_all();
+    watch(MOST);
+    check("reserve", "the table doubles", grow() == CUCKOO_OK);
+    left = blocks;
+    check("reserve", "there are blocks from before", left > 0);
+    check("find", "no key is lost", numbers() == KEYS);
+    check("find", "it frees none", blocks == left);
+    for (uint64_t key = KEYS; key < SLOTS; key++)
+        check("insert", "there is room", cuckoo_insert(&handles[0], key, 10 * key) == CUCKOO_OK);
+    check("insert", "it frees the blocks from before", blocks == 0);
+    watches = 0;
+    close_all();
+}
+
 /* A call that takes no memory is answered where there is none. */
 #define NONE(what, call, code)                                       \
     do {                                                             \
@@ -318,6 +336,7 @@ int main(void) {
     try_opening("open", open_numbers);
     try_opening("open texts", open_texts);
     try_large();
+    try_emptied();
     for (size_t i = 0; i < sizeof subjects / sizeof subjects[0]; i++)
         try_subject(&subjects[i], numbers, listed);
     for (size_t i = 0; i < sizeof text_subjects / sizeof text_subjects[0]; i++)

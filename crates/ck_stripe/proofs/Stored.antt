@@ -1,5 +1,5 @@
 -- What is stored of a stripe, and what is shown of it.
-use Rattle.std.proofs.Common.{◌≡◌, ℕ, Bool, true, false, cond, refl, sym, ◌∙◌, ap, subst, ◌+◌, ◌-◌, ◌/◌, ◌^◌, ◌<◌, ◌≤◌, List, [], Some, None, IsSome, is_some, length, set, replicate, arith}
+use Rattle.std.proofs.Common.{◌≡◌, ℕ, Bool, true, false, cond, refl, sym, ◌∙◌, ap, subst, ◌+◌, ◌-◌, ◌*◌, ◌/◌, ◌^◌, ◌<◌, ◌≤◌, List, [], Some, None, IsSome, is_some, length, set, replicate, arith}
 use Rattle.std.specs.Prelude.{flat_map, All}
 use Rattle.std.specs.Option.{option_to_list}
 use Rattle.std.proofs.Math.Pow.{pow_mono}
@@ -14,11 +14,11 @@ use Rattle.ck_model.specs.Slots.{Slot, slot_at, taken_in}
 use Rattle.ck_model.specs.Contents.{row_at, empty_content}
 use Rattle.ck_model.specs.declared.contents.Content.{Content}
 use Rattle.ck_stripe.specs.declared.next.Next.{Next}
-use Rattle.ck_stripe.specs.declared.next.Next.TheVariants.{Absent, Reserved, Doubled}
+use Rattle.ck_stripe.specs.declared.next.Next.TheVariants.{Absent, Reserved, Doubled, Emptied}
 use Rattle.ck_stripe.specs.declared.stripe.Stripe.TheInside.{Inside}
 use Rattle.ck_stripe.specs.Doubling.{split_rows, doubled_content}
 use Rattle.ck_stripe.specs.Stripe.{StripeState, IsWellFormed, bucket_of, with_bucket, with_slot, content_of}
-use Rattle.ck_stripe.specs.Next.{is_settled, count_of, room_of, blank_of, IsTwice}
+use Rattle.ck_stripe.specs.Next.{is_settled, count_of, room_of, blank_of, IsFor, without_emptied}
 use Rattle.ck_stripe.specs.Stored.{shown_rows, shown, IsConsistent}
 use Rattle.ck_stripe.proofs.Splits.{length-split, four-split, split_moved}
 use Rattle.ck_stripe.proofs.Doubled.{twice_rows}
@@ -59,6 +59,7 @@ module _ {K V : Type 0} where
         go Absent is = absurd (omega (arith, is, more_room))
         go (Reserved blank) is = refl
         go (Doubled blank) is = refl
+        go (Emptied rows) is = absurd (omega (arith, is, more_room))
 
     pub room_rises : (after : Next K V) (blank : ℕ) → is_some (blank_of t.next) ≡ false → after ≡ Reserved blank → room_of t.s t.power t.next ≤ room_of t.s t.power after
     room_rises after blank none is = subst (λ next. room_of t.s t.power t.next ≤ room_of t.s t.power next) (sym is) (go t.next none)
@@ -67,6 +68,30 @@ module _ {K V : Type 0} where
         go Absent e = omega (arith, more_room)
         go (Reserved b) e = absurd (true≢false e)
         go (Doubled b) e = absurd (true≢false e)
+        go (Emptied rows) e = omega (arith, more_room)
+
+    -- what a settled stripe has is for so many rows
+    pub next_for : is_settled t.next ≡ true → IsFor (2 ^ (t.power - t.s)) t.next
+    next_for settled = subst (λ n. IsFor n t.next) (stored_count true settled) kept.next
+
+    -- without emptied rows
+    pub kept_freed : (after : Next K V) → after ≡ without_emptied t.next → IsConsistent (record t { next = after })
+    kept_freed after is = subst (λ next. IsConsistent (record t { next = next })) (sym is) (go t.next kept)
+      where
+        go : (next : Next K V) → IsConsistent (record t { next = next }) → IsConsistent (record t { next = without_emptied next })
+        go Absent k = k
+        go (Reserved blank) k = k
+        go (Doubled blank) k = k
+        go (Emptied rows) k = record { many = k.many; number = k.number; least = k.least; late = k.late; most = k.most; count = k.count; four = k.four; next = tt }
+
+    pub shown_freed : (hash : Name → ℕ) (after : Next K V) → after ≡ without_emptied t.next → shown hash (record t { next = after }) ≡ shown hash t
+    shown_freed hash after is = ap (λ next. shown hash (record t { next = next })) is ∙ go t.next
+      where
+        go : (next : Next K V) → shown hash (record t { next = without_emptied next }) ≡ shown hash (record t { next = next })
+        go Absent = refl
+        go (Reserved blank) = refl
+        go (Doubled blank) = refl
+        go (Emptied rows) = refl
 
     -- as many other rows of four slots
     pub kept_rows : (rows : List (List (Slot V))) → length rows ≡ length t.rows → All IsFour rows → IsConsistent (with_rows t rows)
@@ -78,7 +103,7 @@ module _ {K V : Type 0} where
       most = kept.most;
       count = long ∙ kept.count;
       four = four;
-      twice = subst (λ n. IsTwice n t.next) (sym long) kept.twice;
+      next = subst (λ n. IsFor n t.next) (sym long) kept.next;
     }
 
     -- and as many free ones
@@ -96,8 +121,10 @@ module _ {K V : Type 0} where
         ∙ twice_rows t.s (t.power - 1) (length t.rows) (omega arith) (stored_count t kept false late)
         ∙ ap (λ n. 2 ^ (n - t.s)) back
 
-    pub kept_split : (rows : List (List (Slot V))) (after : Next K V) → is_settled t.next ≡ false → rows ≡ split_rows hash t.s t.number (t.power - 1) t.rows → after ≡ Absent → IsConsistent (record t { rows = rows; next = after })
-    kept_split rows after late is none = subst (λ next. IsConsistent (record t { rows = rows; next = next })) (sym none) (record {
+    pub kept_split :
+        (rows old : List (List (Slot V))) (after : Next K V) → is_settled t.next ≡ false → rows ≡ split_rows hash t.s t.number (t.power - 1) t.rows
+        → old ≡ replicate (length t.rows) (replicate 4 None) → after ≡ Emptied old → IsConsistent (record t { rows = rows; next = after })
+    kept_split rows old after late is free left = subst (λ next. IsConsistent (record t { rows = rows; next = next })) (sym left) (record {
       many = kept.many;
       number = kept.number;
       least = kept.least;
@@ -105,7 +132,9 @@ module _ {K V : Type 0} where
       most = kept.most;
       count = ap length is ∙ split_count late;
       four = subst (All IsFour) (sym is) (four-split hash t.s t.number (t.power - 1) t.rows kept.four);
-      twice = tt;
+      next =
+          let long = ap length free ∙ length-replicate (length t.rows) (replicate 4 None) in
+          (ap length is ∙ length-split hash t.s t.number (t.power - 1) t.rows ∙ ap (λ n. 2 * n) (sym long), free ∙ ap (λ n. replicate n (replicate 4 None)) (sym long));
     })
 
     pub formed : IsWellFormed (shown hash t)
@@ -210,6 +239,7 @@ module _ {K V : Type 0} where
             go Absent some e = absurd (none-some _ some)
             go (Reserved blank) some e = ap Reserved (same_Some blank more some)
             go (Doubled blank) some e = absurd (true≢false (sym e))
+            go (Emptied rows) some e = absurd (none-some _ some)
 
         twice : room_of t.s t.power t.next ≡ 2 ^ (t.power + 1 - t.s)
         twice = ap (room_of t.s t.power) reserved
@@ -237,5 +267,5 @@ module _ {K V : Type 0} where
           most = omega arith;
           count = stored_count t kept true stored_settled ∙ (let back : t.power ≡ t.power + 1 - 1 = omega arith in ap (λ n. 2 ^ (n - t.s)) back);
           four = kept.four;
-          twice = subst (IsTwice (length t.rows)) reserved kept.twice;
+          next = subst (IsFor (length t.rows)) reserved kept.next;
         })

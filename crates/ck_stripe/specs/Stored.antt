@@ -4,7 +4,7 @@ use Rattle.ck_model.specs.Promise.{Name}
 use Rattle.ck_model.specs.Slots.{Slot}
 use Rattle.ck_stripe.specs.Doubling.{split_rows}
 use Rattle.ck_stripe.specs.Stripe.{StripeState, content_of}
-use Rattle.ck_stripe.specs.Next.{is_settled, count_of, room_of, IsTwice}
+use Rattle.ck_stripe.specs.Next.{is_settled, count_of, room_of, IsFor}
 use Rattle.ck_stripe.specs.declared.stripe.Stripe.TheInside.{Inside}
 
 module _ {K V : Type 0} where
@@ -25,4 +25,4 @@ module _ {K V : Type 0} where
     pub most : t.power ≤ 26
     pub count : length t.rows ≡ count_of t.s t.power t.next
     pub four : All (λ (row : List (Slot V)). length row ≡ 4) t.rows
-    pub twice : IsTwice (length t.rows) t.next
+    pub next : IsFor (length t.rows) t.next

@@ -1,19 +1,22 @@
-//! What a stripe has for its next doubling.
-ghost use Rattle.std.specs.Prelude.{◌≡◌, ◌≤◌, ◌<◌, ◌*◌, ◌-◌, ◌^◌, Some, false, is_some, IsSome};
+//! What a stripe has for its next doubling, or from its last one.
+ghost use Rattle.std.specs.Prelude.{◌≡◌, ◌≤◌, ◌<◌, ◌*◌, ◌-◌, ◌^◌, Some, true, false, is_some, IsSome};
 ghost use Rattle.ck_stripe.specs.declared.next.Next.TheVariants.{Absent};
-ghost use Rattle.ck_stripe.specs.Next.{is_settled, count_of, blank_of, IsTwice};
+ghost use Rattle.ck_stripe.specs.Next.{is_settled, count_of, blank_of, is_emptied, IsFor, without_emptied};
 
-use ck_bucket::BlankRows;
+use ck_bucket::{BlankRows, Rows};
 use ck_key::TableKey;
 use std::mem;
 
 /// Memory for twice the buckets. Nothing is written there before `settle` needs it, since it is
-/// requested while all stripes are held.
+/// requested while all stripes are held. Or the rows that `settle` has emptied.
 pub(crate) enum Next<K: TableKey, V> {
     Absent,
     Reserved(BlankRows<K, V>),
     // The power was raised, and `settle` has to move the entries there.
     Doubled(BlankRows<K, V>),
+    // The entries were moved away from these rows. A call that only looks is spared their freeing,
+    // which takes a while where an allocator gives memory back to the system.
+    Emptied(Rows<K, V>),
 }
 
 impl<K: TableKey, V> Next<K, V> {
@@ -23,16 +26,16 @@ impl<K: TableKey, V> Next<K, V> {
     {
         match self {
             Next::Doubled(_) => false,
-            Next::Absent | Next::Reserved(_) => true,
+            Next::Absent | Next::Reserved(_) | Next::Emptied(_) => true,
         }
     }
 
-    // Whether it has memory.
+    // Whether it has memory for twice the buckets.
     pub(crate) fn is_reserved(&self) -> bool
         ensures { result ≡ is_some (blank_of self.now) }
     {
         match self {
-            Next::Absent => false,
+            Next::Absent | Next::Emptied(_) => false,
             Next::Reserved(_) | Next::Doubled(_) => true,
         }
     }
@@ -47,7 +50,7 @@ impl<K: TableKey, V> Next<K, V> {
     {
         match self {
             Next::Doubled(_) => 1 << (power - 1 - s),
-            Next::Absent | Next::Reserved(_) => 1 << (power - s),
+            Next::Absent | Next::Reserved(_) | Next::Emptied(_) => 1 << (power - s),
         }
     }
 
@@ -58,6 +61,7 @@ impl<K: TableKey, V> Next<K, V> {
         match mem::replace(self, next) {
             Next::Absent => {}
             Next::Reserved(_blank) | Next::Doubled(_blank) => unreachable!(),
+            Next::Emptied(_rows) => unreachable!(),
         }
     }
 
@@ -68,17 +72,56 @@ impl<K: TableKey, V> Next<K, V> {
     {
         match mem::replace(self, Next::Absent) {
             Next::Reserved(blank) | Next::Doubled(blank) => blank,
+            Next::Emptied(_rows) => unreachable!(),
             Next::Absent => unreachable!(),
+        }
+    }
+
+    // Frees the rows that `settle` has emptied, in one of 2^s stripes of a table of 2^power buckets.
+    // Mostly there are none.
+    #[inline(always)]
+    pub(crate) fn free_emptied(&mut self, s: u32, power: u32)
+        requires least { s ≤ power }
+        requires most { power ≤ 26 }
+        requires all { IsFor (2 ^ (power - s)) self.old }
+        ensures { self.new ≡ without_emptied self.old }
+    {
+        if self.is_emptied() {
+            self.close_emptied(s, power);
+        }
+    }
+
+    #[cold]
+    #[inline(never)]
+    fn close_emptied(&mut self, s: u32, power: u32)
+        requires emptied { is_emptied self.old ≡ true }
+        requires least { s ≤ power }
+        requires most { power ≤ 26 }
+        requires all { IsFor (2 ^ (power - s)) self.old }
+        ensures { self.new ≡ Absent }
+    {
+        mem::replace(self, Next::Absent).close(1 << (power - s));
+    }
+
+    // Whether it has rows that `settle` has emptied.
+    #[inline(always)]
+    fn is_emptied(&self) -> bool
+        ensures { result ≡ is_emptied self.now }
+    {
+        match self {
+            Next::Emptied(_) => true,
+            Next::Absent | Next::Reserved(_) | Next::Doubled(_) => false,
         }
     }
 
     // Frees what it has for a stripe of so many rows.
     pub(crate) fn close(self, count: usize)
         requires few { count ≤ 2 ^ 26 }
-        requires twice { IsTwice count self }
+        requires all { IsFor count self }
     {
         match self {
             Next::Reserved(blank) | Next::Doubled(blank) => blank.close(2 * count),
+            Next::Emptied(rows) => rows.close(count / 2),
             Next::Absent => {}
         }
     }

@@ -169,6 +169,7 @@ impl<K: TableKey + Drop, V: Drop> Stripe<K, V> {
     {
         let row = self.row(b);
         self.rows.put(row, slot, partial, key, value);
+        self.next.free_emptied(self.s, self.power);
     }
 
     /// Frees a slot of bucket `b`, and gives what was in it.
@@ -291,11 +292,12 @@ impl<K: TableKey + Drop, V: Drop> Stripe<K, V> {
             return Err(AllocError);
         }
         let blank = grower.block(count)?;
+        self.next.free_emptied(self.s, self.power);
         self.next.put(Next::Reserved(blank));
         Ok(())
     }
 
-    /// Gives back the memory that was reserved for a doubling.
+    /// Gives back the memory that was reserved for a doubling, or is left of one.
     pub fn shrink_to_fit(&mut self)
         requires settled { self.old.settled ≡ true }
         ensures { self.new ≡ shrunk self.old }
@@ -332,13 +334,14 @@ impl<K: TableKey + Drop, V: Drop> Stripe<K, V> {
     }
 
     /// Carries out a doubling, in the memory that was reserved for it; a settled stripe stays as it
-    /// is.
+    /// is. It frees nothing: who puts a key into the stripe next does.
     pub fn settle(&mut self)
         ensures { self.new ≡ record self.old { settled = true } }
     {
         if !self.next.is_settled() {
             let blank = self.next.take();
-            split_all(&mut self.rows, blank, self.s, self.number, self.power - 1);
+            let emptied = split_all(&mut self.rows, blank, self.s, self.number, self.power - 1);
+            self.next.put(Next::Emptied(emptied));
         }
     }
 
@@ -411,8 +414,8 @@ impl<K: TableKey + Clone, V: Clone> Stripe<K, V> {
 }
 
 // Moves each row of stripe `number` to where it stands once a table of 2^p buckets has doubled, in
-// the memory for twice the rows, and frees that of the old rows. Few calls find a doubling: the
-// others don't make room for it.
+// the memory for twice the rows, and gives the old rows, which are free then. Few calls find a
+// doubling: the others don't make room for it.
 #[cold]
 #[inline(never)]
 fn split_all<K: TableKey, V>(
@@ -421,14 +424,15 @@ fn split_all<K: TableKey, V>(
     s: u32,
     number: u32,
     p: u32,
-)
+) -> Rows<K, V>
     requires s { s ≤ 10 }
     requires number { number < 2 ^ s }
     requires least { s ≤ p }
     requires power { p < 26 }
     requires count { length rows.old ≡ 2 ^ (p - s) }
     requires twice { blank ≡ 2 * length rows.old }
-    ensures { rows.new ≡ split_rows K.hash s number p rows.old }
+    ensures split { rows.new ≡ split_rows K.hash s number p rows.old }
+    ensures emptied { result ≡ replicate (length rows.old) (replicate 4 None) }
 {
     let count = 1usize << (p - s);
     let mut doubled = blank.fill(2 * count);
@@ -437,7 +441,7 @@ fn split_all<K: TableKey, V>(
         rows.split_row(&mut doubled, r, r, count + r, p, b);
         b += 1 << s;
     }
-    mem::replace(rows, doubled).close(count);
+    mem::replace(rows, doubled)
 }
 
 // The number of entries in so many rows.

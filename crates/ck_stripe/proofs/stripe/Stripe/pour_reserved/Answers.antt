@@ -1,6 +1,6 @@
 use Rattle.std.proofs.Common.{◌++◌, sym, ap, subst, ◌∙◌, length, map, arith}
 use Rattle.ck_model.specs.Listing.{named}
-use Rattle.ck_stripe.specs.Next.{IsTwice}
+use Rattle.ck_stripe.specs.Next.{IsFor}
 use Rattle.ck_stripe.proofs.Stored.{few_stored, pairs_stored}
 use Rattle.ck_stripe.proofs.stripe.Stripe.pour_reserved.Goals as goal
 
@@ -13,8 +13,8 @@ pour_all-requires-clause-room g c = omega (arith, ap length (pairs_stored g.K.Ta
 pub close-requires-2-clause-few : goal.close-requires-2-clause-few
 close-requires-2-clause-few g c = omega (arith, c.count-count.ensures, few_stored c.self.inside c.self.invariant)
 
-pub close-requires-2-clause-twice : goal.close-requires-2-clause-twice
-close-requires-2-clause-twice g c = subst (λ n. IsTwice n c.self.inside.next) (c.self.invariant.count ∙ sym c.count-count.ensures) c.self.invariant.twice
+pub close-requires-2-clause-all : goal.close-requires-2-clause-all
+close-requires-2-clause-all g c = subst (λ n. IsFor n c.self.inside.next) (c.self.invariant.count ∙ sym c.count-count.ensures) c.self.invariant.next
 
 pub returns-clause-pairs : goal.returns-clause-pairs
 returns-clause-pairs g c =
