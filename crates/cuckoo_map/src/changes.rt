@@ -94,7 +94,14 @@ impl<K: TableKey + Drop, V: Drop> Table<K, V> {
         ensures queried { HasQueried Erases
             K.hash self.now.settings (Q.name key) result pass.old pass.new }
     {
-        let spot = self.lock_key(pass, key)?;
+        let since = Snapshot::of(pass);
+        // As `lock_key` does. Behind a call of a function that may wait there is a test, so it is one
+        // less where the stripes are taken at once.
+        let own = self.stripes_of_key(key);
+        if let Err(missed) = self.words.lock_now(pass, own.stripes) {
+            self.lock_key_later(pass, key, own, missed, &since)?;
+        }
+        let spot = self.spot_in(pass, key, own, &since);
         let mut guard = guard!(&self.words, pass, spot.stripes);
         let value = erase(&mut guard, spot.place, key);
         guard.commit_query(Commit::Erase(Snapshot::of(&key)));

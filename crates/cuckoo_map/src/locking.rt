@@ -1,9 +1,9 @@
 //! Locking stripes: those of a key, or all.
 ghost use Rattle.std.specs.Prelude.{◌≡◌, OnOk, OnErr, IfOk, IfErr};
 ghost use Rattle.ck_stripe.specs.Tables.{IsTable};
-ghost use Rattle.ck_words.specs.Passes.{PassState, IsPassOf, IsIdle};
+ghost use Rattle.ck_words.specs.Passes.{PassState, IsPassOf, IsIdle, IsUnchanged};
 ghost use Rattle.ck_words.specs.StripeSets.{list_of};
-ghost use Rattle.ck_words.specs.Holding.{HasTakenAll};
+ghost use Rattle.ck_words.specs.Holding.{HasTakenAll, Misses};
 ghost use Rattle.ck_words.specs.Closing.{IsCaller, IsWhole};
 ghost use Rattle.ck_words.specs.Retries.{FindsAmong, Stays};
 ghost use Rattle.cuckoo_map.specs.Holding.{HasSpot, AreStripesOf};
@@ -14,6 +14,7 @@ use crate::table::Table;
 use ck_key::{KeyHash, Query, TableKey};
 use ck_section::{KeyPlace, key_place};
 use ck_words::{Pass, StripeSet, guard};
+use std::snapshot::Snapshot;
 
 // The stripes of a key, and its hash.
 #[derive(Clone, Copy)]
@@ -43,15 +44,43 @@ impl<K: TableKey + Drop, V: Drop> Table<K, V> {
         ensures busy { IfErr result (λ busy.
             IsBusyAt K.hash self.now.settings (Q.name key) busy.0 pass.old pass.new) }
     {
+        let since = Snapshot::of(pass);
         let own = self.stripes_of_key(key);
-        // What may wait is called right here: each function that it is inlined through would cost
-        // one more test.
-        if let Err(i) = self.words.lock_now(pass, own.stripes) {
-            if let Err(stripe) = self.words.lock_later(pass, own.stripes, i) {
-                return Err(Busy(stripe));
-            }
+        if let Err(missed) = self.words.lock_now(pass, own.stripes) {
+            self.lock_key_later(pass, key, own, missed, &since)?;
         }
-        Ok(self.spot_in(pass, key, own))
+        Ok(self.spot_in(pass, key, own, &since))
+    }
+
+    // Goes on where `lock_now` missed the stripe at position `missed` of the key's. `since` is the
+    // pass as the call began.
+    #[inline(always)]
+    pub(crate) fn lock_key_later<Q: Query<K>>(
+        &self,
+        pass: &mut Pass<K, V>,
+        key: Q,
+        own: KeyStripes,
+        missed: usize,
+        since: &Snapshot<Pass<K, V>>,
+    ) -> Result<(), Busy>
+        requires own { IsPassOf self.now pass.old }
+        requires unchanged { IsUnchanged pass.old }
+        requires key_stripes { AreStripesOf K.hash self.now.settings (Q.name key) own }
+        requires missed { Misses K.hash self.now (list_of own.stripes) missed
+            since.now.value pass.old }
+        ensures own { IsPassOf self.now pass.new }
+        ensures taken { OnOk result
+            (HasTakenAll K.hash self.now (list_of own.stripes) since.now.value pass.new) }
+        ensures idle { OnErr result (IsIdle pass.new) }
+        ensures found { OnErr result
+            (FindsOwn K.hash self.now.settings (Q.name key) since.now.value pass.new) }
+        ensures busy { IfErr result (λ busy.
+            IsBusyAt K.hash self.now.settings (Q.name key) busy.0 since.now.value pass.new) }
+    {
+        match self.words.lock_later(pass, own.stripes, missed) {
+            Ok(()) => Ok(()),
+            Err(held) => Err(Busy(held)),
+        }
     }
 
     // The stripes of the key, and its hash.
@@ -65,24 +94,22 @@ impl<K: TableKey + Drop, V: Drop> Table<K, V> {
     }
 
     // Carries out a doubling that is left of the key's stripes, which were just taken. Where the
-    // key may be among them comes back.
+    // key may be among them comes back. `since` is the pass before it took them.
     #[inline(always)]
     pub(crate) fn spot_in<Q: Query<K>>(
         &self,
         pass: &mut Pass<K, V>,
         key: Q,
         own: KeyStripes,
+        since: &Snapshot<Pass<K, V>>,
     ) -> Spot
         requires key_stripes { AreStripesOf K.hash self.now.settings (Q.name key) own }
-        requires taken { (p : PassState V)
-            × HasTakenAll K.hash self.now (list_of own.stripes) p pass.old }
+        requires taken { HasTakenAll K.hash self.now (list_of own.stripes)
+            since.now.value pass.old }
         ensures own { IsPassOf self.now pass.new }
-        ensures spot { (p : PassState V)
-            → HasTakenAll K.hash self.now (list_of own.stripes) p pass.old
-            → HasSpot K.hash self.now.settings (Q.name key) result p pass.new }
-        ensures found { (p : PassState V)
-            → HasTakenAll K.hash self.now (list_of own.stripes) p pass.old
-            → FindsOwn K.hash self.now.settings (Q.name key) p pass.new }
+        ensures spot { HasSpot K.hash self.now.settings (Q.name key) result
+            since.now.value pass.new }
+        ensures found { FindsOwn K.hash self.now.settings (Q.name key) since.now.value pass.new }
     {
         let KeyStripes { stripes, hash } = own;
         self.words.settle_taken(pass, stripes);

@@ -33,7 +33,13 @@ impl<K: TableKey + Drop, V: Drop> Table<K, V> {
             K.hash self.now.settings (Q.name key) result pass.old pass.new }
     {
         let since = Snapshot::of(pass);
-        let spot = self.lock_key(pass, key)?;
+        // As `lock_key` does. Behind a call of a function that may wait there is a test, so it is one
+        // less where the stripes are taken at once.
+        let own = self.stripes_of_key(key);
+        if let Err(missed) = self.words.lock_now(pass, own.stripes) {
+            self.lock_key_later(pass, key, own, missed, &since)?;
+        }
+        let spot = self.spot_in(pass, key, own, &since);
         // A closure that was not called is dropped only here, when no stripe is held.
         let (found, _) = self.find_in(pass, spot, key, f, since);
         Ok(found)

@@ -20,7 +20,9 @@ key_place-place-requires-clause-owned g c =
     (has_both g.K.TableKey.hash c.args.self.now.settings q (list_of c.args.own.stripes) h.exact c.settle_taken.new.pass.stripes c.settle_taken.ensures.numbers)
 
 pub returns-clause-spot : goal.returns-clause-spot
-returns-clause-spot g c = λ p taken.
+returns-clause-spot g c =
+    let p = c.args.since.now.value in
+    let taken = c.requires.taken in
     let h = c.requires.key_stripes in
     let k = c.key_place-place in
     let stripes = k.ensures.same in
@@ -35,7 +37,7 @@ returns-clause-spot g c = λ p taken.
     })
 
 pub returns-clause-found : goal.returns-clause-found
-returns-clause-found g c = λ p taken.
-    let found = finds_such (list_of c.args.own.stripes) c.requires.key_stripes.exact p c.args.pass.now taken.found in
+returns-clause-found g c =
+    let found = finds_such (list_of c.args.own.stripes) c.requires.key_stripes.exact c.args.since.now.value c.args.pass.now c.requires.taken.found in
     let there : c.key_place-place.new.held.pass.now ≡ c.pass-1.given.0 = search rules in
     rw (← there) (found.0, ap found_held (c.key_place-place.ensures.stays.1 ∙ c.settle_taken.ensures.view) ∙ found.1, found.2)
