@@ -581,7 +581,6 @@ template <class Family> class session {
   locked locked_ = CUCKOO_NOT_LOCKED;
 
 public:
-  session() = default;
   session(std::shared_ptr<pool<Family>> of, handle *home, locked it)
       : pool_(std::move(of)), home_(home), locked_(it) {}
   session(session &&other) noexcept

@@ -200,6 +200,7 @@ void texts() {
   CHECK(map.find(longest) == 1 && map.find(zeros) == 2 && map.find("") == 3);
   CHECK(!map.contains("a") && map.size() == 3 && longest.size() == CUCKOO_TEXT_MAX);
   texts_too_long(map, longest + 'x');
+  CHECK(map.rename(longest + 'x', std::string(64, 'y')) == renamed::unbound);
   const auto pairs = map.pairs();
   CHECK(pairs.size() == 3 && pairs[0].first.empty() && pairs[1].first == zeros);
   CHECK(pairs[2].first == longest && pairs[2].second == 1);
@@ -364,10 +365,19 @@ void closures() {
   CHECK(map.update_fn(1, next_of_none) == false && map.empty());
 }
 
+// A map has room for as many keys as it is opened for.
+void capacities() {
+  const std::size_t keys = 100000;
+  CHECK(cuckoo::map<int, int>(keys).capacity() >= keys);
+  CHECK(cuckoo::map<int, int>(cuckoo::options{keys, 4, 64}).capacity() >= keys);
+  CHECK(cuckoo::map<int, int>().capacity() >= 1024 && cuckoo::map<int, int>().capacity() < keys);
+}
+
 void refusals() {
   CHECK_THROWS(std::invalid_argument, cuckoo::map<int, int>(cuckoo::options{100, 1024, 64}));
   CHECK_THROWS(std::invalid_argument, cuckoo::map<int, int>(cuckoo::options{100, 4, 0}));
   CHECK_THROWS(std::invalid_argument, cuckoo::map<int, int>(cuckoo::options{100, ~0u, 64}));
+  CHECK_THROWS(std::invalid_argument, cuckoo::map<int, int>(cuckoo::options{100, ~0u / 2, 64}));
   cuckoo_settings settings{0, 1, 2, 1, 64, 4, 5};
   cuckoo::map<int, int> small(settings);
   const auto [count, refusal] = fill_up(small);
@@ -408,6 +418,7 @@ int main() {
   renames_of_threads();
   values_are_taken_once();
   closures();
+  capacities();
   refusals();
   refusals_of_few_keys();
   return report();

@@ -1,14 +1,17 @@
 // What the C++ header asks of the library: the linker puts in this program's own cuckoo_contains, which
 // notes the handle and can be refused as busy, cuckoo_insert, cuckoo_swap_if and cuckoo_erase_if,
-// before and after which other calls can be made, and sched_yield, which is counted, by --wrap.
+// before and after which other calls can be made, and sched_yield, which is counted, by --wrap. Its
+// `new` can be refused.
 #include "check.hpp"
 #include <cuckoo_map.hpp>
 
 #include <condition_variable>
 #include <cstdint>
+#include <cstdlib>
 #include <cstring>
 #include <memory>
 #include <mutex>
+#include <new>
 #include <set>
 #include <thread>
 #include <utility>
@@ -19,6 +22,29 @@ static thread_local const void *noted;
 // So many of a thread's next lookups are refused as busy, and so often it has let others run.
 static thread_local int busy = 0;
 static thread_local int yields = 0;
+
+// So many of a thread's next requests by `new` are answered; all, if it is less than 0.
+static thread_local int answered = -1;
+
+// What this thread has by `new`, less what it has freed.
+static thread_local int blocks = 0;
+
+void *operator new(std::size_t size) {
+  if (answered == 0) throw std::bad_alloc();
+  if (answered > 0) answered--;
+  void *block = std::malloc(size);
+  if (!block) throw std::bad_alloc();
+  blocks++;
+  return block;
+}
+
+// Not inlined, since gcc would warn of a free behind a `new`.
+[[gnu::noinline]] void operator delete(void *block) noexcept {
+  if (block) blocks--;
+  std::free(block);
+}
+
+[[gnu::noinline]] void operator delete(void *block, std::size_t) noexcept { operator delete(block); }
 
 // The value that another call binds the next key to that is inserted; no call, if it is 0.
 static std::uint64_t other_value = 0;
@@ -168,6 +194,25 @@ void one_that_ends_shares_too() {
   }).join();
 }
 
+// A thread that had no memory to note that it has a handle gets it later.
+void no_handle_is_lost_without_memory() {
+  numbers map(cuckoo::options{100, 1, 64});
+  int refused = 0;
+  for (int requests = 0; requests < 3; requests++)
+    std::thread([&] {
+      answered = requests;
+      try {
+        handle_of(map);
+      } catch (const std::bad_alloc &) {
+        refused++;
+      }
+      answered = -1;
+      const void *own = handle_of(map);
+      std::thread([&] { CHECK(handle_of(map) != own); }).join();
+    }).join();
+  CHECK(refused > 0);
+}
+
 // The end of one of a thread's maps leaves it its handles of the others.
 void others_stay_when_a_map_ends() {
   const cuckoo::options few{100, 1, 64};
@@ -179,6 +224,29 @@ void others_stay_when_a_map_ends() {
   first.reset();
   handle_of(last);
   CHECK(handle_of(second) == of_second && handle_of(third) == of_third);
+}
+
+// A thread keeps no more of several maps that have ended than of one.
+template <class Use> void keeps_no_more(const Use &use) {
+  std::vector<int> kept(4);
+  std::thread([&] {
+    for (int &count : kept) {
+      use();
+      count = blocks;
+    }
+  }).join();
+  CHECK(kept == std::vector<int>(4, kept[0]));
+}
+
+void maps_that_ended_are_forgotten() {
+  const cuckoo::options few{100, 1, 64};
+  keeps_no_more([&] { handle_of(numbers(few)); });
+  keeps_no_more([&] {
+    numbers map(few);
+    handle_of(map);
+    map = numbers(few);
+    handle_of(map);
+  });
 }
 
 // A call that is refused as busy lets other threads run each time, and is made again.
@@ -286,7 +354,9 @@ int main() {
   each_has_its_own();
   others_share_one();
   one_that_ends_shares_too();
+  no_handle_is_lost_without_memory();
   others_stay_when_a_map_ends();
+  maps_that_ended_are_forgotten();
   others_run_where_a_call_is_busy();
   upsert_of_a_key_that_was_bound_meanwhile();
   erasure_of_a_key_that_was_unbound_meanwhile();

@@ -3,11 +3,13 @@
 #include <cuckoo_map.hpp>
 
 #include <atomic>
+#include <chrono>
 #include <new>
 #include <optional>
 #include <stdexcept>
 #include <string>
 #include <thread>
+#include <type_traits>
 #include <utility>
 #include <vector>
 
@@ -15,6 +17,16 @@ namespace {
 
 using numbers = cuckoo::map<std::uint64_t, std::uint64_t>;
 using texts = cuckoo::map<std::string, std::uint64_t>;
+
+// Both can be moved where nothing may be thrown.
+template <class Moved>
+constexpr bool is_moved_quietly =
+    std::is_nothrow_move_constructible_v<Moved> && std::is_nothrow_move_assignable_v<Moved>;
+static_assert(is_moved_quietly<numbers>);
+using locked_numbers = decltype(std::declval<numbers &>().lock_table());
+static_assert(is_moved_quietly<locked_numbers>);
+static_assert(noexcept(std::declval<locked_numbers &>().unlock()));
+static_assert(noexcept(std::declval<locked_numbers &>().is_active()));
 
 cuckoo::options with_callers(std::uint32_t callers) { return {100, callers, 64}; }
 
@@ -68,6 +80,23 @@ void pairs() {
   auto all = locked.snapshot();
   locked.unlock();
   CHECK(all.next()->first == "a" && all.next()->second == 0 && map.find("c") == 2);
+}
+
+// What one of another map is moved to unlocks its own map first, and gives each map its handle back.
+void moves_between_maps() {
+  numbers first(100), second(100);
+  auto locked = first.lock_table();
+  locked = second.lock_table();
+  CHECK(first.insert(1, 10) && locked.insert(2, 20));
+  locked.unlock();
+  CHECK(second.find(2) == 20 && second.insert(3, 30) && first.find(1) == 10);
+}
+
+// A map that was moved from can't be locked.
+void no_lock_of_a_moved_map() {
+  numbers map(100), other(std::move(map));
+  CHECK_THROWS(cuckoo::closed, map.lock_table());
+  CHECK(other.lock_table().empty());
 }
 
 // It is moved, and unlocked where it ends.
@@ -132,6 +161,21 @@ void no_other_handle() {
   CHECK(map.find(1) == 10);
 }
 
+// A thread that shares a handle waits where another thread has locked the map.
+void waits_for_another() {
+  numbers map(with_callers(1));
+  auto locked = map.lock_table();
+  std::thread other([&] {
+    auto later = map.lock_table();
+    CHECK(later.find(1) == 10 && later.insert(2, 20));
+  });
+  std::this_thread::sleep_for(std::chrono::milliseconds(20));
+  CHECK(locked.insert(1, 10));
+  locked.unlock();
+  other.join();
+  CHECK(map.find(2) == 20);
+}
+
 // Other threads see all that was done, or none of it. More threads than handles.
 void other_threads() {
   constexpr std::uint64_t keys = 8;
@@ -159,6 +203,28 @@ void other_threads() {
   for (std::uint64_t key = 0; key < keys; key++) CHECK(map.find(key) == 600);
 }
 
+// Threads that share a handle lock the map in turn, beside calls by it.
+void sharers_lock_in_turn() {
+  numbers map(with_callers(0));
+  map.insert(1, 0);
+  std::vector<std::thread> lockers;
+  for (int i = 0; i < 2; i++)
+    lockers.emplace_back([&] {
+      for (int round = 0; round < 2000; round++) {
+        auto locked = map.lock_table();
+        locked.insert_or_assign(1, locked.find(1) + 1);
+      }
+    });
+  std::atomic<bool> over{false};
+  std::thread finder([&] {
+    while (!over) CHECK(map.contains(1));
+  });
+  for (std::thread &locker : lockers) locker.join();
+  over = true;
+  finder.join();
+  CHECK(map.find(1) == 4000);
+}
+
 // A map that ends while it is locked takes its handles with it.
 void outlives_its_map() {
   std::optional<numbers> map(std::in_place, 100);
@@ -166,6 +232,19 @@ void outlives_its_map() {
   auto locked = map->lock_table();
   map.reset();
   CHECK(locked.find(1) == 10);
+}
+
+// It may end, too, while another thread unlocks it.
+void ends_beside_an_unlock() {
+  for (std::uint32_t callers : {0u, 1u})
+    for (int round = 0; round < 50; round++) {
+      std::optional<numbers> map(std::in_place, with_callers(callers));
+      auto locked = map->lock_table();
+      std::thread other([&] { locked.unlock(); });
+      map.reset();
+      other.join();
+      CHECK(!locked.is_active());
+    }
 }
 
 } // namespace
@@ -177,10 +256,15 @@ int main() {
   calls(names, std::string("one"), std::string("two"));
   long_texts();
   pairs();
+  moves_between_maps();
+  no_lock_of_a_moved_map();
   moves();
   own_calls();
   no_other_handle();
+  waits_for_another();
   other_threads();
+  sharers_lock_in_turn();
   outlives_its_map();
+  ends_beside_an_unlock();
   return report();
 }

@@ -68,4 +68,8 @@ void copied(numbers &map) {
   auto locked = map.lock_table();
   auto other = locked;
 }
+#elif CASE == 14 // only unsigned integers of 8 bytes
+bool moved(numbers &map) { return map.move_all({{1, 2, 0}, {3, 0, 2}}); }
+#elif CASE == 15 // only unsigned integers of 8 bytes
+bool moved(cuckoo::map<int, std::int64_t> &map) { return map.move_all({{1, 2, 0}, {3, 0, 2}}); }
 #endif

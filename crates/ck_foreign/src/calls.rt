@@ -165,11 +165,7 @@ pub fn add<K: TableKey + Drop, P: Holds<Handle<K, u64>>>(
     let mut handle = handle;
     let fresh = handle.upsert(key, |value: u64| value.saturating_add(more), more);
     put(place, alloc, handle);
-    match fresh {
-        Ok(true) => Code::Done,
-        Ok(false) => Code::Present,
-        Err(refused) => Code::of_why(refused.why),
-    }
+    fresh_code(fresh)
 }
 
 /// Binds a bound key to the value, and tells the one that it had.

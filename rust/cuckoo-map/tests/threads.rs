@@ -104,6 +104,8 @@ fn each_call_answers_as_a_plain_map() {
     assert_eq!(handle.assign("a", 3), Ok(Some(1)));
     assert_eq!(handle.assign("", 4), Ok(None));
     assert_eq!(handle.add("a", u64::MAX), Ok(false));
+    assert_eq!(handle.add("c", 5), Ok(true));
+    assert_eq!(handle.erase("c"), Ok(Some(5)));
     assert_eq!(handle.find(b"a"), Ok(Some(u64::MAX)));
     assert_eq!(handle.update("a", 5), Ok(Some(u64::MAX)));
     assert_eq!(handle.update("b", 5), Ok(None));
