@@ -5,6 +5,8 @@
 #include "check.hpp"
 #include <cuckoo_map.hpp>
 
+#include <atomic>
+#include <chrono>
 #include <condition_variable>
 #include <cstdint>
 #include <cstdlib>
@@ -22,6 +24,9 @@ static thread_local const void *noted;
 // So many of a thread's next lookups are refused as busy, and so often it has let others run.
 static thread_local int busy = 0;
 static thread_local int yields = 0;
+
+// The same of all threads.
+static std::atomic<int> all_yields{0};
 
 // So many of a thread's next requests by `new` are answered; all, if it is less than 0.
 static thread_local int answered = -1;
@@ -76,6 +81,7 @@ int __wrap_sched_yield();
 
 int __wrap_sched_yield() {
   yields++;
+  all_yields++;
   return __real_sched_yield();
 }
 
@@ -258,6 +264,24 @@ void others_run_where_a_call_is_busy() {
   CHECK(map.contains(1) && busy == 0 && yields == 3);
 }
 
+// A thread that shares a handle lets others run where another thread has locked the map, until it is
+// unlocked.
+void a_lock_waits_for_another() {
+  numbers map(cuckoo::options{100, 1, 64});
+  auto locked = map.lock_table();
+  all_yields = 0;
+  std::thread other([&] {
+    auto later = map.lock_table();
+    CHECK(later.find(1) == 10 && later.insert(2, 20));
+  });
+  for (int looks = 0; all_yields == 0 && looks < 10000; looks++)
+    std::this_thread::sleep_for(std::chrono::milliseconds(1));
+  CHECK(all_yields > 0 && locked.insert(1, 10));
+  locked.unlock();
+  other.join();
+  CHECK(map.find(2) == 20);
+}
+
 // A key that was unbound when it was looked up, and is bound by another call before it is inserted, is
 // changed as a bound one.
 void upsert_of_a_key_that_was_bound_meanwhile() {
@@ -358,6 +382,7 @@ int main() {
   others_stay_when_a_map_ends();
   maps_that_ended_are_forgotten();
   others_run_where_a_call_is_busy();
+  a_lock_waits_for_another();
   upsert_of_a_key_that_was_bound_meanwhile();
   erasure_of_a_key_that_was_unbound_meanwhile();
   closures_that_run_in_vain();
