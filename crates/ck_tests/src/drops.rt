@@ -1,5 +1,5 @@
 //! Each value and each closure is dropped once, whichever call takes it. No contract counts drops.
-use crate::fixtures::{APART, count, read};
+use crate::fixtures::{APART, count, only, read};
 use cuckoo_map::{Handle, NumKey, Settings};
 use std::alloc::Global;
 use std::process::Abort;
@@ -44,105 +44,137 @@ const SETTINGS: Settings = Settings {
     min_load: 5,
 };
 
-/// A handle of a table that has room for eight keys in steps of `APART`, which are bound.
-fn handle_of(rt: &impl Abort, alloc: Global, drops: &Drops) -> Result<CountedHandle, Fail> {
-    let mut handles = Handle::open(alloc, SETTINGS)?;
-    let mut handle = handles.pop().expect(rt, "a handle");
-    for i in 1..=8u64 {
+/// Binds eight keys in steps of `APART`, and says whether that could be done.
+fn bind_eight(rt: &impl Abort, handle: &mut CountedHandle, drops: &Drops) -> bool {
+    (1..=8u64).all(|i| {
         let bound = handle.insert(NumKey(i * APART), Counted::new(rt, drops));
-        assert!(rt; bound.is_ok());
-    }
-    assert!(rt; read(drops) == 0);
+        bound.is_ok()
+    })
+}
+
+/// A handle of a table that has room for these eight keys, and has bound them.
+fn handle_of(rt: &impl Abort, alloc: Global, drops: &Drops) -> Result<CountedHandle, Fail> {
+    let mut handle = only(rt, Handle::open(alloc, SETTINGS)?);
+    let is_full = bind_eight(rt, &mut handle, drops);
+    assert!(rt; is_full);
     Ok(handle)
+}
+
+/// A counter of drops.
+fn no_drops(alloc: Global) -> Result<Drops, Fail> {
+    Ok(Arc::new(alloc, AtomicU64::new(0))?)
+}
+
+/// Erases two keys. Counts the drops before and after what the first call gave is dropped, and after
+/// the second one.
+fn erase_two(rt: &impl Abort, handle: &mut CountedHandle, drops: &Drops) -> [u64; 3] {
+    let erased = handle.erase(&NumKey(APART));
+    let before = read(drops);
+    drop(erased);
+    let after = read(drops);
+    let gone = handle.erase_fn(&NumKey(2 * APART), |_value| true);
+    assert!(rt; gone == Ok(Some(true)));
+    [before, after, read(drops)]
 }
 
 /// What a call takes out is dropped by whoever gets it, or by the call where nobody does.
 #[test]
 fn taken_out(rt: HostRuntime) -> Result<(), Fail> {
-    let drops = Arc::new(rt.alloc(), AtomicU64::new(0))?;
+    let drops = no_drops(rt.alloc())?;
     let mut handle = handle_of(&rt, rt.alloc(), &drops)?;
-    let erased = handle.erase(&NumKey(APART));
-    assert!(rt; read(&drops) == 0);
-    drop(erased);
-    assert!(rt; read(&drops) == 1);
-    let gone = handle.erase_fn(&NumKey(2 * APART), |_value| true);
-    assert!(rt; gone == Ok(Some(true)));
-    assert!(rt; read(&drops) == 2);
+    assert!(rt; erase_two(&rt, &mut handle, &drops) == [0, 1, 2]);
     Ok(())
+}
+
+/// Replaces the value of a key twice. Counts the drops before and after what each call gave is
+/// dropped.
+fn replace_two(rt: &impl Abort, handle: &mut CountedHandle, drops: &Drops) -> [u64; 4] {
+    let assigned = handle.insert_or_assign(NumKey(APART), Counted::new(rt, drops));
+    let before = read(drops);
+    drop(assigned);
+    let after = read(drops);
+    let updated = handle.update(&NumKey(APART), Counted::new(rt, drops));
+    let before_second = read(drops);
+    drop(updated);
+    [before, after, before_second, read(drops)]
 }
 
 /// What is replaced comes back.
 #[test]
 fn replaced(rt: HostRuntime) -> Result<(), Fail> {
-    let drops = Arc::new(rt.alloc(), AtomicU64::new(0))?;
+    let drops = no_drops(rt.alloc())?;
     let mut handle = handle_of(&rt, rt.alloc(), &drops)?;
-    let assigned = handle.insert_or_assign(NumKey(APART), Counted::new(&rt, &drops));
-    assert!(rt; read(&drops) == 0);
-    drop(assigned);
-    assert!(rt; read(&drops) == 1);
-    let updated = handle.update(&NumKey(APART), Counted::new(&rt, &drops));
-    assert!(rt; read(&drops) == 1);
-    drop(updated);
-    assert!(rt; read(&drops) == 2);
+    assert!(rt; replace_two(&rt, &mut handle, &drops) == [0, 1, 1, 2]);
     Ok(())
+}
+
+/// Inserts a value and what a closure owns for a key that is bound. Counts the drops after each.
+fn insert_in_vain(rt: &impl Abort, handle: &mut CountedHandle, drops: &Drops) -> [u64; 2] {
+    let bound = handle.insert(NumKey(APART), Counted::new(rt, drops));
+    let after = read(drops);
+    let value = Counted::new(rt, drops);
+    let bound_by = handle.insert_with(NumKey(APART), move || value);
+    let all = read(drops);
+    assert!(rt; matches!(bound, Ok(false)) && matches!(bound_by, Ok(false)));
+    [after, all]
 }
 
 /// A value or a closure that a call doesn't take for its key is dropped by the call.
 #[test]
 fn not_taken(rt: HostRuntime) -> Result<(), Fail> {
-    let drops = Arc::new(rt.alloc(), AtomicU64::new(0))?;
+    let drops = no_drops(rt.alloc())?;
     let mut handle = handle_of(&rt, rt.alloc(), &drops)?;
-    let bound = handle.insert(NumKey(APART), Counted::new(&rt, &drops));
-    assert!(rt; matches!(bound, Ok(false)));
-    assert!(rt; read(&drops) == 1);
-    let value = Counted::new(&rt, &drops);
-    let bound = handle.insert_with(NumKey(APART), move || value);
-    assert!(rt; matches!(bound, Ok(false)));
-    assert!(rt; read(&drops) == 2);
+    assert!(rt; insert_in_vain(&rt, &mut handle, &drops) == [1, 2]);
     Ok(())
+}
+
+/// Inserts a value and what a closure owns for a key that has no room. Counts the drops before and
+/// after what each call gave is dropped.
+fn insert_without_room(rt: &impl Abort, handle: &mut CountedHandle, drops: &Drops) -> [u64; 4] {
+    let refused = handle.insert(NumKey(9 * APART), Counted::new(rt, drops));
+    let before = read(drops);
+    drop(refused);
+    let after = read(drops);
+    let value = Counted::new(rt, drops);
+    let refused = handle.insert_with(NumKey(9 * APART), move || value);
+    let before_second = read(drops);
+    drop(refused);
+    [before, after, before_second, read(drops)]
 }
 
 /// A refused insertion hands back its value or its closure.
 #[test]
 fn refused(rt: HostRuntime) -> Result<(), Fail> {
-    let drops = Arc::new(rt.alloc(), AtomicU64::new(0))?;
+    let drops = no_drops(rt.alloc())?;
     let mut handle = handle_of(&rt, rt.alloc(), &drops)?;
-    let refused = handle.insert(NumKey(9 * APART), Counted::new(&rt, &drops));
-    assert!(rt; refused.is_err());
-    assert!(rt; read(&drops) == 0);
-    drop(refused);
-    assert!(rt; read(&drops) == 1);
-    let value = Counted::new(&rt, &drops);
-    let refused = handle.insert_with(NumKey(9 * APART), move || value);
-    assert!(rt; refused.is_err());
-    assert!(rt; read(&drops) == 1);
-    drop(refused);
-    assert!(rt; read(&drops) == 2);
+    assert!(rt; insert_without_room(&rt, &mut handle, &drops) == [0, 1, 1, 2]);
     Ok(())
+}
+
+/// Counts the drops after a locked table has retained five of eight keys, and after it was cleared.
+fn retain_and_clear(handle: CountedHandle, drops: &Drops) -> Option<[u64; 2]> {
+    let mut locked = handle.lock().ok()?;
+    locked.retain(|key, _value| key.0 > 3 * APART);
+    let retained = read(drops);
+    locked.clear();
+    let cleared = read(drops);
+    locked.unlock();
+    Some([retained, cleared])
 }
 
 /// A locked table drops what it doesn't retain, and what it is cleared of.
 #[test]
 fn locked(rt: HostRuntime) -> Result<(), Fail> {
-    let drops = Arc::new(rt.alloc(), AtomicU64::new(0))?;
+    let drops = no_drops(rt.alloc())?;
     let handle = handle_of(&rt, rt.alloc(), &drops)?;
-    let Ok(mut locked) = handle.lock() else {
-        panic!(rt; "an only handle was busy");
-    };
-    locked.retain(|key, _value| key.0 > 3 * APART);
-    let retained = read(&drops);
-    locked.clear();
-    let cleared = read(&drops);
-    locked.unlock();
-    assert!(rt; retained == 3);
-    assert!(rt; cleared == 8);
+    assert!(rt; retain_and_clear(handle, &drops) == Some([3, 8]));
     Ok(())
 }
 
 /// A table that ends drops what it still binds.
 #[test]
 fn ended(rt: HostRuntime) -> Result<(), Fail> {
-    let drops = Arc::new(rt.alloc(), AtomicU64::new(0))?;
+    let drops = no_drops(rt.alloc())?;
     let handle = handle_of(&rt, rt.alloc(), &drops)?;
     drop(handle);
     assert!(rt; read(&drops) == 8);

@@ -1,5 +1,6 @@
 //! What the tests share.
 use cuckoo_map::Settings;
+use std::process::Abort;
 use std::sync::atomic::{AtomicU64, Ordering};
 
 /// Keys `b` times this have partial 0 and the bucket 0 at each power up to 40, so they all have the
@@ -17,6 +18,19 @@ pub fn sixteen_buckets(callers: u32) -> Settings {
         rounds: 4,
         min_load: 5,
     }
+}
+
+/// The handle of a table of one.
+pub fn only<T: Drop>(rt: &impl Abort, handles: Vec<T>) -> T {
+    let mut handles = handles;
+    handles.pop().expect(rt, "one handle")
+}
+
+/// The handles of a table of two.
+pub fn two<T: Drop>(rt: &impl Abort, handles: Vec<T>) -> (T, T) {
+    let mut handles = handles;
+    let first = handles.pop().expect(rt, "two handles");
+    (first, only(rt, handles))
 }
 
 /// Adds one, and gives what there was before.

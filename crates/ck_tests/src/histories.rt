@@ -372,12 +372,20 @@ static ON_ALL: [Step; 9] = [
     ),
 ];
 
+fn bind(alloc: Global, map: &mut PlainMap, key: u64, value: u64) -> Result<(), AllocError> {
+    map.insert(&name(alloc, key)?, value)
+}
+
+fn follow(alloc: Global, map: &mut PlainMap, said: (Ask, Answer)) -> Result<bool, AllocError> {
+    map.follow(&entry(alloc, said)?)
+}
+
 // What 0, 3 and 258 are bound to after the answer, where the map takes its step.
 fn step(alloc: Global, said: (Ask, Answer)) -> Result<(bool, Values), AllocError> {
     let mut map = PlainMap::new(alloc);
-    map.insert(&name(alloc, 3)?, 7)?;
-    map.insert(&name(alloc, 0)?, 5)?;
-    let is_taken = map.follow(&entry(alloc, said)?)?;
+    bind(alloc, &mut map, 3, 7)?;
+    bind(alloc, &mut map, 0, 5)?;
+    let is_taken = follow(alloc, &mut map, said)?;
     Ok((is_taken, bound(alloc, &map)?))
 }
 
@@ -395,16 +403,12 @@ fn take_steps(rt: &impl Abort, alloc: Global, what: &str, steps: &[Step]) -> Res
 
 #[test]
 fn steps(rt: HostRuntime) -> Result<(), Fail> {
-    let tables = [
-        ("a bound name", ON_BOUND.as_slice()),
-        ("an unbound name", ON_UNBOUND.as_slice()),
-        ("two names", ON_TWO.as_slice()),
-        ("some names", ON_SOME.as_slice()),
-        ("all names", ON_ALL.as_slice()),
-    ];
-    for (what, steps) in tables {
-        take_steps(&rt, rt.alloc(), what, steps)?;
-    }
+    let alloc = rt.alloc();
+    take_steps(&rt, alloc, "a bound name", &ON_BOUND)?;
+    take_steps(&rt, alloc, "an unbound name", &ON_UNBOUND)?;
+    take_steps(&rt, alloc, "two names", &ON_TWO)?;
+    take_steps(&rt, alloc, "some names", &ON_SOME)?;
+    take_steps(&rt, alloc, "all names", &ON_ALL)?;
     Ok(())
 }
 

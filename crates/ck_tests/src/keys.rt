@@ -10,7 +10,7 @@ use std::process::Abort;
 use std::test::Fail;
 
 /// What a key must give: its buckets are the first and the alternate one.
-#[derive(Clone, Copy)]
+#[derive(Clone, Copy, PartialEq)]
 struct Row {
     hash: u64,
     partial: u8,
@@ -53,12 +53,20 @@ fn hash_asked<K: TableKey, Q: Query<K>>(query: Q) -> u64 {
     query.hash64()
 }
 
+/// What the key of this hash gives.
+fn found(hash: u64) -> Row {
+    let partial = partial(hash);
+    Row {
+        hash,
+        partial,
+        at_power_two: buckets(2, partial, hash),
+        at_power_three: buckets(3, partial, hash),
+        stripes: stripes_of(1, hash),
+    }
+}
+
 fn check(rt: &impl Abort, hash: u64, row: &Row) {
-    assert!(rt; hash == row.hash);
-    assert!(rt; partial(hash) == row.partial);
-    assert!(rt; buckets(2, row.partial, hash) == row.at_power_two);
-    assert!(rt; buckets(3, row.partial, hash) == row.at_power_three);
-    assert!(rt; stripes_of(1, hash) == row.stripes);
+    assert!(rt; found(hash) == *row);
 }
 
 #[test]
@@ -106,18 +114,27 @@ fn pair_keys(rt: HostRuntime) {
     assert!(rt; PairKey(1, 8) < PairKey(1, 9));
 }
 
+static NUMBER_TEXTS: [(u64, &str, u64); 4] = [
+    (1, "", 0x1598_49df_c130_8249),
+    (0, "a", 0xbd1d_ba3e_2c6c_7a65),
+    (7, "foobar", 0xa124_121f_8beb_e2eb),
+    (u64::MAX, "a", 0xe866_1799_75b0_a0d7),
+];
+
+/// The hash of the key, by itself and by each query.
+fn hashes(alloc: Global, number: u64, text: &str) -> Result<[u64; 3], KeyFault> {
+    let key = NumTextKey::new(alloc, number, text.as_bytes())?;
+    Ok([
+        hash_of(&key),
+        hash_asked::<NumTextKey, _>((number, text)),
+        hash_asked::<NumTextKey, _>((number, text.as_bytes())),
+    ])
+}
+
 #[test]
 fn number_text_keys(rt: HostRuntime) -> Result<(), Fail> {
-    for (number, text, hash) in [
-        (1u64, "", 0x1598_49df_c130_8249u64),
-        (0, "a", 0xbd1d_ba3e_2c6c_7a65),
-        (7, "foobar", 0xa124_121f_8beb_e2eb),
-        (u64::MAX, "a", 0xe866_1799_75b0_a0d7),
-    ] {
-        let key = NumTextKey::new(rt.alloc(), number, text.as_bytes())?;
-        assert!(rt; hash_of(&key) == hash);
-        assert!(rt; hash_asked::<NumTextKey, _>((number, text)) == hash);
-        assert!(rt; hash_asked::<NumTextKey, _>((number, text.as_bytes())) == hash);
+    for (number, text, hash) in &NUMBER_TEXTS {
+        assert!(rt; hashes(rt.alloc(), *number, *text)? == [*hash; 3]);
     }
     Ok(())
 }
@@ -172,48 +189,63 @@ fn spread(rt: HostRuntime) {
     }
 }
 
-/// A text of 65 bytes is no key, and one of 64 is.
-fn check_longest(rt: &impl Abort, alloc: Global) -> Result<(), Fail> {
-    let long = [b'x'; 65];
-    let fault = TextKey::new(alloc, &long).err();
-    assert!(rt; fault == Some(KeyFault::TooLong));
-    let longest = TextKey::new(alloc, &long[..64])?;
-    assert!(rt; longest.as_bytes().len() == 64);
-    assert!(rt; longest.clone()? == longest);
-    Ok(())
+static LONG: [u8; 65] = [b'x'; 65];
+
+/// Whether the key of 64 bytes has them, and is as its copy.
+fn is_longest_kept(alloc: Global) -> Result<bool, Fail> {
+    let longest = TextKey::new(alloc, &LONG[..64])?;
+    let copy = longest.clone()?;
+    Ok(longest.as_bytes() == &LONG[..64] && copy == longest)
 }
 
-/// Whether this key of 64 bytes has what it was made of, and is as its copy.
-fn is_longest(key: &NumTextKey, copy: &NumTextKey) -> bool {
-    key.number() == 7 && key.as_bytes().len() == 64 && copy == key
+/// A text of 65 bytes is no key, and one of 64 is.
+#[test]
+fn longest_text_key(rt: HostRuntime) -> Result<(), Fail> {
+    let fault = TextKey::new(rt.alloc(), &LONG).err();
+    assert!(rt; fault == Some(KeyFault::TooLong));
+    assert!(rt; is_longest_kept(rt.alloc())?);
+    Ok(())
 }
 
 /// The same with a number.
+fn is_longest_kept_with(alloc: Global, number: u64) -> Result<bool, Fail> {
+    let longest = NumTextKey::new(alloc, number, &LONG[..64])?;
+    let copy = longest.clone()?;
+    let is_kept = longest.number() == number && longest.as_bytes() == &LONG[..64];
+    Ok(is_kept && copy == longest)
+}
+
 #[test]
 fn longest_number_text_key(rt: HostRuntime) -> Result<(), Fail> {
-    let long = [b'x'; 65];
-    let fault = NumTextKey::new(rt.alloc(), 7, &long).err();
+    let fault = NumTextKey::new(rt.alloc(), 7, &LONG).err();
     assert!(rt; fault == Some(KeyFault::TooLong));
-    let longest = NumTextKey::new(rt.alloc(), 7, &long[..64])?;
-    let copy = longest.clone()?;
-    assert!(rt; is_longest(&longest, &copy));
+    assert!(rt; is_longest_kept_with(rt.alloc(), 7)?);
     Ok(())
+}
+
+/// Whether the first key comes before the second.
+fn is_before(alloc: Global, first: (u64, &str), second: (u64, &str)) -> Result<bool, KeyFault> {
+    let first = NumTextKey::new(alloc, first.0, first.1.as_bytes())?;
+    let second = NumTextKey::new(alloc, second.0, second.1.as_bytes())?;
+    Ok(first < second)
 }
 
 /// The number comes before the text.
 #[test]
 fn number_text_keys_in_order(rt: HostRuntime) -> Result<(), Fail> {
-    let first = NumTextKey::new(rt.alloc(), 7, b"w")?;
-    let second = NumTextKey::new(rt.alloc(), 7, b"x")?;
-    let third = NumTextKey::new(rt.alloc(), 8, b"")?;
-    assert!(rt; first < second && second < third);
+    assert!(rt; is_before(rt.alloc(), (7, "w"), (7, "x"))?);
+    assert!(rt; is_before(rt.alloc(), (7, "x"), (8, ""))?);
     Ok(())
 }
 
-fn keys_of(alloc: Global, texts: [&[u8]; 5]) -> Result<Vec<TextKey>, Fail> {
+static TEXTS: [&[u8]; 5] = [b"b", b"\xff", b"ab", b"", b"a"];
+
+static IN_ORDER: [&[u8]; 5] = [b"", b"a", b"ab", b"b", b"\xff"];
+
+fn keys_of(alloc: Global, texts: &[&[u8]]) -> Result<Vec<TextKey>, Fail> {
     let mut keys = Vec::new(alloc);
     for text in texts {
-        keys.push(TextKey::new(alloc, text)?)?;
+        keys.push(TextKey::new(alloc, *text)?)?;
     }
     Ok(keys)
 }
@@ -222,25 +254,16 @@ fn sort(keys: &mut Vec<TextKey>) {
     keys.sort_unstable();
 }
 
-/// Whether these are the five keys, in their order.
-fn are_in_order(keys: &[TextKey]) -> bool {
-    match keys {
-        [first, second, third, fourth, fifth] => {
-            first.as_bytes() == b"".as_slice()
-                && second.as_bytes() == b"a".as_slice()
-                && third.as_bytes() == b"ab".as_slice()
-                && fourth.as_bytes() == b"b".as_slice()
-                && fifth.as_bytes() == b"\xff".as_slice()
-        }
-        _ => false,
-    }
+/// Whether these are the keys of the texts, in their order.
+fn are(keys: &[TextKey], texts: &[&[u8]]) -> bool {
+    keys.len() == texts.len()
+        && (0..texts.len()).all(|i| keys.get(i).map(|key| key.as_bytes()) == texts.get(i).copied())
 }
 
 #[test]
 fn texts(rt: HostRuntime) -> Result<(), Fail> {
-    check_longest(&rt, rt.alloc())?;
-    let mut keys = keys_of(rt.alloc(), [b"b", b"\xff", b"ab", b"", b"a"])?;
+    let mut keys = keys_of(rt.alloc(), &TEXTS)?;
     sort(&mut keys);
-    assert!(rt; are_in_order(&keys));
+    assert!(rt; are(&keys, &IN_ORDER));
     Ok(())
 }

@@ -1,5 +1,5 @@
 //! Tables whose values own memory, are large, and are none.
-use crate::fixtures::sixteen_buckets;
+use crate::fixtures::{only, sixteen_buckets};
 use cuckoo_map::{Handle, NumKey};
 use std::alloc::{AllocError, Global};
 use std::process::Abort;
@@ -19,14 +19,22 @@ fn push(alloc: Global, handle: &mut ListHandle, key: u64, number: u64) -> Result
     Ok(pushed?)
 }
 
+/// Whether the list of the key has these numbers.
+fn has(handle: &mut ListHandle, key: u64, numbers: &[u64]) -> bool {
+    handle.find_fn(&NumKey(key), |list: &Vec<u64>| list.as_slice() == numbers) == Ok(Some(true))
+}
+
+/// Whether the first push makes a list, and the second one pushes to it.
+fn is_pushed_to(alloc: Global, handle: &mut ListHandle) -> Result<bool, Fail> {
+    let is_fresh = push(alloc, handle, 5, 50)?;
+    let is_fresh_again = push(alloc, handle, 5, 51)?;
+    Ok(is_fresh && !is_fresh_again && has(handle, 5, &[50, 51]))
+}
+
 #[test]
 fn a_list_is_pushed_to(rt: HostRuntime) -> Result<(), Fail> {
-    for handle in &mut Handle::open(rt.alloc(), sixteen_buckets(1))? {
-        assert!(rt; push(rt.alloc(), handle, 5, 50)?);
-        assert!(rt; !push(rt.alloc(), handle, 5, 51)?);
-        let is_wanted = |list: &Vec<u64>| list.as_slice() == [50, 51].as_slice();
-        assert!(rt; handle.find_fn(&NumKey(5), is_wanted) == Ok(Some(true)));
-    }
+    let mut handle = only(&rt, Handle::open(rt.alloc(), sixteen_buckets(1))?);
+    assert!(rt; is_pushed_to(rt.alloc(), &mut handle)?);
     Ok(())
 }
 
@@ -44,25 +52,25 @@ fn bind_pages(rt: &impl Abort, handle: &mut Handle<NumKey, Page>) {
     }
 }
 
+/// Finds each page, and erases it.
+fn take_pages(rt: &impl Abort, handle: &mut Handle<NumKey, Page>) {
+    for number in 0..PAGES {
+        let key = NumKey(number);
+        let page = Ok(Some([number; 128]));
+        assert!(rt; handle.find(&key) == page, "page {number}");
+        assert!(rt; handle.erase(&key) == page, "page {number}");
+    }
+}
+
 /// Large values are bound, found where a doubling brought them, and erased.
 #[test]
 fn pages(rt: HostRuntime) -> Result<(), Fail> {
-    for handle in &mut Handle::open(rt.alloc(), sixteen_buckets(1))? {
-        bind_pages(&rt, handle);
-        assert!(rt; handle.power() == Ok(5));
-        for number in 0..PAGES {
-            let key = NumKey(number);
-            assert!(rt;
-                handle.find(&key) == Ok(Some([number; 128])),
-                "page {number}"
-            );
-            assert!(rt;
-                handle.erase(&key) == Ok(Some([number; 128])),
-                "page {number}"
-            );
-        }
-        assert!(rt; handle.is_empty() == Ok(true));
-    }
+    let mut handle = only(&rt, Handle::open(rt.alloc(), sixteen_buckets(1))?);
+    bind_pages(&rt, &mut handle);
+    let power = handle.power();
+    take_pages(&rt, &mut handle);
+    let is_empty = handle.is_empty();
+    assert!(rt; power == Ok(5) && is_empty == Ok(true));
     Ok(())
 }
 
@@ -75,34 +83,40 @@ fn ends_with(handle: &mut Handle<NumKey, Book>, key: u64, number: u64) -> bool {
     handle.find_fn(&NumKey(key), ends) == Ok(Some(true))
 }
 
+fn bind_book(handle: &mut Handle<NumKey, Book>, key: u64, number: u64) -> bool {
+    let bound = handle.insert(NumKey(key), [number; 8192]);
+    bound.is_ok_and(|fresh| fresh)
+}
+
+/// Whether two books are bound, and found after a doubling.
+fn keeps_books(handle: &mut Handle<NumKey, Book>) -> bool {
+    bind_book(handle, 1, 10)
+        && bind_book(handle, 2, 20)
+        && handle.rehash(5) == Ok(true)
+        && ends_with(handle, 1, 10)
+        && ends_with(handle, 2, 20)
+}
+
 #[test]
 fn books(rt: HostRuntime) -> Result<(), Fail> {
-    for handle in &mut Handle::open(rt.alloc(), sixteen_buckets(1))? {
-        assert!(rt;
-            handle
-                .insert(NumKey(1), [10; 8192])
-                .is_ok_and(|fresh| fresh)
-        );
-        assert!(rt;
-            handle
-                .insert(NumKey(2), [20; 8192])
-                .is_ok_and(|fresh| fresh)
-        );
-        assert!(rt; handle.rehash(5) == Ok(true));
-        assert!(rt; ends_with(handle, 1, 10) && ends_with(handle, 2, 20));
-    }
+    let mut handle = only(&rt, Handle::open(rt.alloc(), sixteen_buckets(1))?);
+    assert!(rt; keeps_books(&mut handle));
     Ok(())
+}
+
+/// Whether a key is bound once, found, and erased.
+fn is_set(handle: &mut Handle<NumKey, ()>) -> bool {
+    handle.insert(NumKey(1), ()).is_ok_and(|fresh| fresh)
+        && handle.insert(NumKey(1), ()).is_ok_and(|fresh| !fresh)
+        && handle.contains(&NumKey(1)) == Ok(true)
+        && handle.erase(&NumKey(1)) == Ok(Some(()))
+        && handle.contains(&NumKey(1)) == Ok(false)
 }
 
 /// A table whose values are nothing is a set.
 #[test]
 fn a_set(rt: HostRuntime) -> Result<(), Fail> {
-    for handle in &mut Handle::<NumKey, ()>::open(rt.alloc(), sixteen_buckets(1))? {
-        assert!(rt; handle.insert(NumKey(1), ()).is_ok_and(|fresh| fresh));
-        assert!(rt; handle.insert(NumKey(1), ()).is_ok_and(|fresh| !fresh));
-        assert!(rt; handle.contains(&NumKey(1)) == Ok(true));
-        assert!(rt; handle.erase(&NumKey(1)) == Ok(Some(())));
-        assert!(rt; handle.contains(&NumKey(1)) == Ok(false));
-    }
+    let mut handle = only(&rt, Handle::open(rt.alloc(), sixteen_buckets(1))?);
+    assert!(rt; is_set(&mut handle));
     Ok(())
 }

@@ -1,5 +1,5 @@
 //! Two threads lock the same keys again and again, one of them in the opposite order.
-use crate::fixtures::{count, read, sixteen_buckets};
+use crate::fixtures::{count, read, sixteen_buckets, two};
 use cuckoo_map::{Handle, NumKey, Settings};
 use std::alloc::Global;
 use std::process::Abort;
@@ -23,9 +23,17 @@ fn add_one(handle: NumHandle, keys: [NumKey; 8]) -> Option<(NumHandle, bool)> {
     Some((locked.unlock(), first == last))
 }
 
+/// Binds the first key and the last to 0, where they are unbound, and says whether it could.
+fn begin(handle: &mut NumHandle) -> bool {
+    handle.insert(NumKey(0), 0).is_ok() && handle.insert(NumKey(7), 0).is_ok()
+}
+
 /// Makes the sessions of a thread, and counts those that found two values.
 fn add(numbers: [u64; 8], handle: NumHandle, wrong: &AtomicU64) -> Option<NumHandle> {
     let mut handle = handle;
+    if !begin(&mut handle) {
+        return None;
+    }
     for _ in 0..SESSIONS {
         let (back, alike) = add_one(handle, numbers.map(NumKey))?;
         if !alike {
@@ -36,37 +44,35 @@ fn add(numbers: [u64; 8], handle: NumHandle, wrong: &AtomicU64) -> Option<NumHan
     Some(handle)
 }
 
-type Job = ([u64; 8], NumHandle);
-
-/// Binds the first key and the last to 0, and says whether it could.
-fn begin(handle: &mut NumHandle) -> bool {
-    handle.insert_or_assign(NumKey(0), 0).is_ok() && handle.insert_or_assign(NumKey(7), 0).is_ok()
-}
-
-/// Two handles of a new table, each with the order in which it locks the keys.
-fn hire(alloc: Global, settings: Settings) -> Result<Vec<Job>, Fail> {
-    let orders = [[0, 1, 2, 3, 4, 5, 6, 7], [7, 6, 5, 4, 3, 2, 1, 0]];
-    let handles = Handle::open(alloc, settings)?;
-    Ok(orders.into_iter().zip(handles).collect(alloc)?)
-}
-
 /// Whether the sessions of both threads were counted.
 fn has_all(handle: &mut NumHandle) -> bool {
     let all = Some(2 * SESSIONS);
     handle.find_all([&NumKey(0), &NumKey(7)]) == Ok([all, all])
 }
 
-/// Lets two threads make sessions on the same keys.
-fn check<R: Threads + Abort + Sync>(rt: &R, alloc: Global, settings: Settings) -> Result<(), Fail> {
-    let mut jobs = hire(alloc, settings)?;
-    assert!(rt; jobs.iter_mut().all(|job: &mut Job| begin(&mut job.1)));
-    let wrong = AtomicU64::new(0);
-    let done = thread::map_vec(rt, jobs, &|(numbers, handle)| add(numbers, handle, &wrong))?;
-    assert!(rt; read(&wrong) == 0);
-    for handle in done {
-        let mut handle = handle.expect(rt, "a session that was not refused");
-        assert!(rt; has_all(&mut handle));
+/// Lets two threads make sessions on the same keys, and says whether all were counted.
+fn add_twice<R: Threads + Sync>(
+    rt: &R,
+    first: NumHandle,
+    second: NumHandle,
+    wrong: &AtomicU64,
+) -> bool {
+    let (one, other) = thread::join(
+        rt,
+        || add([0, 1, 2, 3, 4, 5, 6, 7], first, wrong),
+        || add([7, 6, 5, 4, 3, 2, 1, 0], second, wrong),
+    );
+    match one {
+        Some(mut handle) => other.is_some() && has_all(&mut handle),
+        None => false,
     }
+}
+
+/// No session is refused, lost, or amid another one.
+fn check<R: Threads + Abort + Sync>(rt: &R, alloc: Global, settings: Settings) -> Result<(), Fail> {
+    let (first, second) = two(rt, Handle::open(alloc, settings)?);
+    let wrong = AtomicU64::new(0);
+    assert!(rt; add_twice(rt, first, second, &wrong) && read(&wrong) == 0);
     Ok(())
 }
 
@@ -79,8 +85,6 @@ fn two_threads_lock_the_same_keys_in_opposite_order(rt: HostRuntime) -> Result<(
         power: 6,
         ..few
     };
-    for settings in [few, many] {
-        check(&rt, rt.alloc(), settings)?;
-    }
-    Ok(())
+    check(&rt, rt.alloc(), few)?;
+    check(&rt, rt.alloc(), many)
 }

@@ -1,5 +1,5 @@
 //! What moves entries. A move hashes their keys.
-use crate::fixtures::read;
+use crate::fixtures::{only, read};
 use crate::watched::{Watch, WatchedKey};
 use cuckoo_map::{Handle, Settings};
 use std::process::Abort;
@@ -26,17 +26,10 @@ fn bind<'w>(rt: &impl Abort, handle: &mut WatchedHandle<'w>, number: u64, watch:
     read(&watch.hashed).saturating_sub(before)
 }
 
-/// The handle of a table of one.
-fn only<'w>(rt: &impl Abort, handles: Vec<WatchedHandle<'w>>) -> WatchedHandle<'w> {
-    let mut handles = handles;
-    handles.pop().expect(rt, "one handle")
-}
-
 /// Binds 300 keys, each of which moves few.
-fn double<'w>(rt: &impl Abort, handle: WatchedHandle<'w>, watch: &'w Watch) {
-    let mut handle = handle;
+fn double<'w>(rt: &impl Abort, handle: &mut WatchedHandle<'w>, watch: &'w Watch) {
     for number in 100..400 {
-        let hashed = bind(rt, &mut handle, number, watch);
+        let hashed = bind(rt, handle, number, watch);
         assert!(rt; hashed < 32, "key {number}: {hashed}");
     }
     assert!(rt; handle.power() == Ok(7));
@@ -47,15 +40,14 @@ fn double<'w>(rt: &impl Abort, handle: WatchedHandle<'w>, watch: &'w Watch) {
 fn a_doubling_moves_few_entries(rt: HostRuntime) -> Result<(), Fail> {
     let watch = Watch::new();
     let handles = Handle::<WatchedKey<'_>, u64>::open(rt.alloc(), SETTINGS)?;
-    double(&rt, only(&rt, handles), &watch);
+    double(&rt, &mut only(&rt, handles), &watch);
     Ok(())
 }
 
 /// Binds 100 keys, and makes calls that move none.
-fn look<'w>(rt: &impl Abort, handle: WatchedHandle<'w>, watch: &'w Watch) {
-    let mut handle = handle;
+fn look<'w>(rt: &impl Abort, handle: &mut WatchedHandle<'w>, watch: &'w Watch) {
     for number in 100..200 {
-        bind(rt, &mut handle, number, watch);
+        bind(rt, handle, number, watch);
     }
     let before = read(&watch.hashed);
     assert!(rt; handle.rehash(7) == Ok(true));
@@ -72,6 +64,6 @@ fn look<'w>(rt: &impl Abort, handle: WatchedHandle<'w>, watch: &'w Watch) {
 fn calls_on_the_whole_table_move_nothing(rt: HostRuntime) -> Result<(), Fail> {
     let watch = Watch::new();
     let handles = Handle::<WatchedKey<'_>, u64>::open(rt.alloc(), SETTINGS)?;
-    look(&rt, only(&rt, handles), &watch);
+    look(&rt, &mut only(&rt, handles), &watch);
     Ok(())
 }

@@ -5,6 +5,7 @@
 //! 16 are full at power 2, and have room at power 3. Its insertion hashes it as it begins, and again
 //! as it begins to make room, when it holds no stripe. There it waits until another thread has
 //! doubled the table and holds stripe 2, so that it can't take all.
+use crate::fixtures::two;
 use crate::watched::{WAITING, Watch, WatchedKey};
 use cuckoo_map::{Handle, Settings};
 use std::process::Abort;
@@ -51,9 +52,7 @@ fn fill<'w>(rt: &impl Abort, handle: &mut WatchedHandle<'w>, watch: &'w Watch) {
 
 /// The first handle doubles the table while the second inserts the key that waits.
 fn meet<'w, R: Threads + Abort + Sync>(rt: &R, watch: &'w Watch, handles: Vec<WatchedHandle<'w>>) {
-    let mut handles = handles;
-    let mut first = handles.pop().expect(rt, "two handles");
-    let second = handles.pop().expect(rt, "two handles");
+    let (mut first, second) = two(rt, handles);
     fill(rt, &mut first, watch);
     let (inserted, doubled) = thread::join(
         rt,

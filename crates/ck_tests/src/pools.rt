@@ -46,18 +46,19 @@ fn work<R: Wait>(rt: &R, pool: &NumPool, thread: u64) -> bool {
     true
 }
 
-/// Finds all handles, and what was added to each key.
-fn check_sums(rt: &impl Abort, alloc: Global, mut handles: Vec<NumHandle>) {
-    assert!(rt; handles.len() == 4);
-    let handle = handles.pop().expect(rt, "a handle");
-    let Ok((_, pairs)) = handle.drain(alloc) else {
-        panic!(rt; "the pairs were not taken out");
-    };
-    // Four threads add to one key, and three to each other one.
-    let sums = [1200, 900, 900, 900, 900];
-    assert!(rt; pairs.len() == 5);
-    for ((key, sum), wanted) in pairs.iter().zip(sums) {
-        assert!(rt; *sum == wanted, "{sum} of {}", key.0);
+/// The sums of five keys, where there are just five.
+fn sums_of(pairs: &[(NumKey, u64)]) -> Option<[u64; 5]> {
+    match pairs {
+        [a, b, c, d, e] => Some([a.1, b.1, c.1, d.1, e.1]),
+        _ => None,
+    }
+}
+
+/// What was added to each key, where the handle could drain them.
+fn drained(alloc: Global, handle: NumHandle) -> Option<[u64; 5]> {
+    match handle.drain(alloc) {
+        Ok((_, pairs)) => sums_of(&pairs),
+        Err(_) => None,
     }
 }
 
@@ -74,12 +75,23 @@ fn more_threads_than_handles(rt: HostRuntime) -> Result<(), Fail> {
     let alloc = rt.alloc();
     let pool = Pool::new(alloc, Handle::open(alloc, sixteen_buckets(4))?)?;
     let added = run(&rt, alloc, &pool)?;
-    assert!(rt; added);
-    let Ok(handles) = pool.into_vec(alloc) else {
-        panic!(rt; "no memory for the handles");
-    };
-    check_sums(&rt, alloc, handles);
+    let mut handles = pool.into_vec(alloc)?;
+    let count = handles.len();
+    let handle = handles.pop().expect(&rt, "a handle");
+    // Four threads add to one key, and three to each other one.
+    let sums = Some([1200, 900, 900, 900, 900]);
+    assert!(rt; added && count == 4 && drained(alloc, handle) == sums);
     Ok(())
+}
+
+/// Whether the only handle is lent to one at a time, with what the one before did by it.
+fn is_lent_in_turn(rt: &impl Abort, pool: &NumPool) -> bool {
+    let mut first = pool.lend().expect(rt, "a handle");
+    let is_lent = pool.lend().is_err();
+    let is_bound = first.insert(NumKey(5), 50).is_ok();
+    drop(first);
+    let mut second = pool.lend().expect(rt, "the handle that came back");
+    is_lent && is_bound && second.find(&NumKey(5)) == Ok(Some(50))
 }
 
 /// While its only handle is lent, a pool lends none; then it lends it again.
@@ -87,15 +99,7 @@ fn more_threads_than_handles(rt: HostRuntime) -> Result<(), Fail> {
 fn one_handle(rt: HostRuntime) -> Result<(), Fail> {
     let alloc = rt.alloc();
     let pool: NumPool = Pool::new(alloc, Handle::open(alloc, sixteen_buckets(1))?)?;
-    assert!(rt; pool.len() == 1);
-    let mut first = pool.lend().expect(&rt, "a handle");
-    assert!(rt; pool.lend().is_err());
-    let fresh = first.insert(NumKey(5), 50);
-    assert!(rt; fresh.is_ok());
-    drop(first);
-    let mut second = pool.lend().expect(&rt, "the handle that came back");
-    let found = second.find(&NumKey(5));
-    assert!(rt; found == Ok(Some(50)));
+    assert!(rt; pool.len() == 1 && is_lent_in_turn(&rt, &pool));
     Ok(())
 }
 
@@ -109,21 +113,26 @@ fn items_in_their_order(rt: HostRuntime) -> Result<(), Fail> {
     Ok(())
 }
 
+/// Lends three items, and the second again, once it came back. Gives their numbers, and whether there
+/// was no other to lend each time.
+fn lend_all(rt: &impl Abort, pool: &Pool<u64>) -> ([u64; 4], bool) {
+    let first = pool.lend().expect(rt, "the first of three");
+    let second = pool.lend().expect(rt, "the second of three");
+    let third = pool.lend().expect(rt, "the third of three");
+    let is_empty = pool.lend().is_err();
+    let (a, b, c) = (*first, *second, *third);
+    drop(second);
+    let again = pool.lend().expect(rt, "the item that came back");
+    ([a, b, c, *again], is_empty && pool.lend().is_err())
+}
+
 /// All items are lent at a time, each to one borrower, and then none; one that came back is lent
 /// again.
 #[test]
 fn all_items_at_a_time(rt: HostRuntime) -> Result<(), Fail> {
     let alloc = rt.alloc();
     let pool = Pool::new(alloc, vec![in alloc; 1u64, 2, 3]?)?;
-    let first = pool.lend().expect(&rt, "the first of three");
-    let second = pool.lend().expect(&rt, "the second of three");
-    let third = pool.lend().expect(&rt, "the third of three");
-    assert!(rt; *first != *second && *second != *third && *third != *first);
-    assert!(rt; pool.lend().is_err());
-    let number = *second;
-    drop(second);
-    let again = pool.lend().expect(&rt, "the item that came back");
-    assert!(rt; *again == number);
-    assert!(rt; pool.lend().is_err());
+    let ([a, b, c, again], is_empty) = lend_all(&rt, &pool);
+    assert!(rt; a != b && b != c && c != a && again == b && is_empty);
     Ok(())
 }
